@@ -1,0 +1,15 @@
+//! The tests of `ansi_str` through its public calls, and what they stand on.
+#![tactic(auto)]
+
+pub mod refusing;
+
+pub use refusing::Refusing;
+
+#[cfg(test)]
+mod memory;
+#[cfg(test)]
+mod plain;
+#[cfg(test)]
+mod scanner;
+#[cfg(test)]
+mod strip;

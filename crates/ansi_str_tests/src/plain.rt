@@ -1,0 +1,141 @@
+//! The definitions, computed slowly and plainly: a model to compare with.
+//!
+//! A sequence is found by trying each front of a text, as the definition of a lone escape has it.
+use ansi_str::ansitok::{Item, Kind, Scanner};
+use ansi_str::slice::{AnsiStr, strip_in};
+use std::alloc::{AllocError, Global};
+use std::test::Fail;
+
+const ESC: u8 = 0x1B;
+
+const BEL: u8 = 0x07;
+
+fn is_parameter_byte(b: &u8) -> bool {
+    (0x30..=0x3F).contains(b)
+}
+
+fn is_intermediate_byte(b: &u8) -> bool {
+    (0x20..=0x2F).contains(b)
+}
+
+/// Whether the bytes are parameter bytes, and then intermediate bytes.
+fn are_control_bytes(bytes: &[u8]) -> bool {
+    bytes
+        .iter()
+        .skip_while(|b| is_parameter_byte(b))
+        .all(is_intermediate_byte)
+}
+
+/// Whether the bytes are a whole sequence, no more and no less.
+fn is_sequence(bytes: &[u8]) -> bool {
+    match bytes {
+        [ESC, b'[', inner @ .., 0x40..=0x7E] => are_control_bytes(inner),
+        [ESC, b']', body @ .., BEL] => !body.contains(&ESC) && !body.contains(&BEL),
+        [ESC, b']', body @ .., ESC, b'\\'] => !body.contains(&ESC) && !body.contains(&BEL),
+        [ESC, b'P' | b'X' | b'^' | b'_', body @ .., ESC, b'\\'] => !body.contains(&ESC),
+        [ESC, b'[' | b']' | b'P' | b'X' | b'^' | b'_'] => false,
+        [ESC, inner @ .., 0x30..=0x7E] => inner.iter().all(is_intermediate_byte),
+        _ => false,
+    }
+}
+
+/// Whether a whole sequence is select graphic rendition.
+fn is_sgr(bytes: &[u8]) -> bool {
+    match bytes {
+        [ESC, b'[', inner @ .., b'm'] => inner.iter().all(is_parameter_byte),
+        _ => false,
+    }
+}
+
+/// The kind and the length of the first item.
+fn first_item(bytes: &[u8]) -> (Kind, usize) {
+    if bytes.first() != Some(&ESC) {
+        let escape = bytes.iter().position(|b| *b == ESC);
+        return (Kind::Text, escape.unwrap_or(bytes.len()));
+    }
+    for len in 0..bytes.len() {
+        let front = &bytes[..len + 1];
+        if is_sequence(front) {
+            let kind = if is_sgr(front) {
+                Kind::Sgr
+            } else {
+                Kind::Other
+            };
+            return (kind, front.len());
+        }
+    }
+    (Kind::Lone, 1)
+}
+
+/// The items of a text.
+fn items(alloc: Global, text: &str) -> Result<Vec<Item>, AllocError> {
+    let mut items = Vec::new(alloc);
+    let mut start = 0;
+    for _ in 0..text.len() {
+        let (kind, len) = match text.as_bytes().get(start..) {
+            None | Some([]) => break,
+            Some(rest) => first_item(rest),
+        };
+        let end = start.saturating_add(len);
+        items.push(Item { kind, start, end })?;
+        start = end;
+    }
+    Ok(items)
+}
+
+/// The bytes of the items that are texts.
+fn plain(alloc: Global, text: &str, items: &[Item]) -> Result<Vec<u8>, AllocError> {
+    let mut plain = Vec::new(alloc);
+    for item in items {
+        if item.kind == Kind::Text
+            && let Some(bytes) = text.as_bytes().get(item.start..item.end)
+        {
+            plain.extend_from_slice(bytes)?;
+        }
+    }
+    Ok(plain)
+}
+
+/// The characters that the texts are made of: at least one of each class.
+const CHARACTERS: [char; 12] = [
+    '\x1b', '[', ']', 'P', '\\', '\x07', '0', '!', 'm', 'G', '\x7f', 'é',
+];
+
+/// The text of `len` characters whose places among all such texts is `number`.
+fn text_at(alloc: Global, number: usize, len: usize) -> Result<String, AllocError> {
+    let mut text = String::new(alloc);
+    let mut left = number;
+    for _ in 0..len {
+        text.push(CHARACTERS[left % CHARACTERS.len()])?;
+        left /= CHARACTERS.len();
+    }
+    Ok(text)
+}
+
+#[test]
+fn short_texts_are_read_as_defined(rt: HostRuntime) -> Result<(), Fail> {
+    for (len, count) in [
+        (0, 1),
+        (1, 12),
+        (2, 144),
+        (3, 1_728),
+        (4, 20_736),
+        (5, 248_832),
+    ] {
+        for number in 0..count {
+            let text = text_at(rt.alloc(), number, len)?;
+            let want = items(rt.alloc(), text.as_str())?;
+            let got: Vec<Item> = Scanner::new(text.as_str()).collect(rt.alloc())?;
+            assert_eq!(rt; got, want, "items of {text:?}");
+            let want = plain(rt.alloc(), text.as_str(), want.as_slice())?;
+            let got = text.ansi_strip(rt.alloc())?;
+            assert_eq!(rt; got.as_bytes(), want.as_slice(), "plain text of {text:?}");
+            assert_eq!(rt;
+                text.ansi_has_any(),
+                text.as_bytes().contains(&ESC),
+                "ESC in {text:?}"
+            );
+        }
+    }
+    Ok(())
+}

@@ -1,0 +1,50 @@
+//! What a scanner gives for worked texts.
+use ansi_str::ansitok::Kind::{Lone, Other, Sgr, Text};
+use ansi_str::ansitok::{Item, Kind, Scanner};
+use std::test::Fail;
+
+/// A text, and the kinds and ends of its items.
+type Row = (&'static str, &'static [(Kind, usize)]);
+
+const ROWS: [Row; 6] = [
+    // All four kinds in one text.
+    (
+        "a\x1b[31mb\x1b(B\x1b\x1b[1 m\x1b",
+        &[
+            (Text, 1),
+            (Sgr, 6),
+            (Text, 7),
+            (Other, 10),
+            (Lone, 11),
+            (Other, 16),
+            (Lone, 17),
+        ],
+    ),
+    // A lone escape before a character of several bytes.
+    ("\x1b\u{e9}[m", &[(Lone, 1), (Text, 5)]),
+    // Control sequences that end in `m`: with a private parameter byte, with a colon, with none.
+    ("\x1b[>4;2mx", &[(Sgr, 7), (Text, 8)]),
+    ("\x1b[:1mx", &[(Sgr, 5), (Text, 6)]),
+    ("\x1b[mx", &[(Sgr, 3), (Text, 4)]),
+    ("", &[]),
+];
+
+#[test]
+fn items_come_in_order(rt: HostRuntime) -> Result<(), Fail> {
+    for (text, want) in ROWS {
+        let mut scanner = Scanner::new(text);
+        let mut start = 0;
+        for (kind, end) in want {
+            let item = Item {
+                kind: *kind,
+                start,
+                end: *end,
+            };
+            assert_eq!(rt; scanner.next(), Some(item), "in {text:?}");
+            start = *end;
+        }
+        assert_eq!(rt; scanner.next(), None, "behind {text:?}");
+        assert_eq!(rt; scanner.next(), None, "once more behind {text:?}");
+    }
+    Ok(())
+}

@@ -1,0 +1,98 @@
+//! The plain texts of worked texts.
+use ansi_str::AnsiStr;
+use std::alloc::Global;
+use std::borrow::CowStr;
+use std::process::Abort;
+use std::test::Fail;
+
+/// A text, its plain text, and whether that is a borrow.
+type Row = (&'static str, &'static str, bool);
+
+const ROWS: [Row; 13] = [
+    // Texts without ESC.
+    ("abc", "abc", true),
+    ("", "", true),
+    ("\u{9b}31m", "\u{9b}31m", true),
+    // Whole sequences.
+    ("\x1b[31m", "", false),
+    ("\x1bP\x07a\x1b\\x", "x", false),
+    ("\x1b(Ba\x1b7b", "ab", false),
+    ("\x1b\\", "", false),
+    // Lone escapes.
+    ("\x1b]a\x1bb", "]a", false),
+    ("\x1b(", "(", false),
+    ("\x1b]0;title\x1b[31mx", "]0;titlex", false),
+    ("\x1b[31", "[31", false),
+    ("\x1b\x1b[1mx", "x", false),
+    ("\x1b[1\x7fm", "[1\x7fm", false),
+];
+
+fn expect_plain(
+    rt: &impl Abort,
+    got: CowStr<'_, Global>,
+    plain: &str,
+    is_borrow: bool,
+    text: &str,
+) {
+    assert_eq!(rt; got.as_str(), plain, "plain text of {text:?}");
+    let got_borrow = matches!(&got, CowStr::Borrowed(_));
+    assert_eq!(rt; got_borrow, is_borrow, "borrow of {text:?}");
+}
+
+fn expect_row(
+    rt: &impl Abort,
+    alloc: Global,
+    text: &str,
+    plain: &str,
+    is_borrow: bool,
+) -> Result<(), Fail> {
+    expect_plain(rt, text.ansi_strip(alloc)?, plain, is_borrow, text);
+    assert_eq!(rt; text.ansi_has_any(), !is_borrow, "ESC in {text:?}");
+    let owned = String::from_str(alloc, text)?;
+    expect_plain(rt, owned.ansi_strip(alloc)?, plain, is_borrow, text);
+    assert_eq!(rt;
+        owned.ansi_has_any(),
+        !is_borrow,
+        "ESC in the String {text:?}"
+    );
+    assert_eq!(rt; owned.as_str(), text, "the caller's text");
+    Ok(())
+}
+
+#[test]
+fn plain_texts_are_given(rt: HostRuntime) -> Result<(), Fail> {
+    for (text, plain, is_borrow) in ROWS {
+        expect_row(&rt, rt.alloc(), text, plain, is_borrow)?;
+    }
+    Ok(())
+}
+
+/// A front, a text that stands behind it so often, and the plain text of both together.
+type LongRow = (&'static str, &'static str, usize, &'static str);
+
+const LONG_ROWS: [LongRow; 3] = [
+    ("", "\x1b", 1_000, ""),
+    ("\x1b[", "1;", 100_000, "["),
+    ("\x1b]0;", "a", 100_000, "]0;"),
+];
+
+#[test]
+fn long_unfinished_sequences_are_text(rt: HostRuntime) -> Result<(), Fail> {
+    for (front, piece, count, plain_front) in LONG_ROWS {
+        let mut text = String::from_str(rt.alloc(), front)?;
+        let mut plain = String::from_str(rt.alloc(), plain_front)?;
+        for _ in 0..count {
+            text.push_str(piece)?;
+            if piece != "\x1b" {
+                plain.push_str(piece)?;
+            }
+        }
+        let got = text.ansi_strip(rt.alloc())?;
+        assert_eq!(rt; got.len(), plain.len(), "length behind {front:?}");
+        assert!(rt;
+            got.as_str() == plain.as_str(),
+            "plain text behind {front:?}"
+        );
+    }
+    Ok(())
+}
