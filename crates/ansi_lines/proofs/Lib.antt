@@ -1,0 +1,5 @@
+mod Examples
+pub mod Known
+pub mod LineLemmas
+pub mod PageLemmas
+pub mod Written

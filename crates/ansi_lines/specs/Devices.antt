@@ -1,0 +1,24 @@
+-- What a read does to what a source tells.
+use Rattle.std.specs.Prelude.{◌≡◌, ◌<◌, ℕ, List, length, take, ⊤, Bool, true, false, Option, Result, Ok, Err}
+use Rattle.std.specs.Io.KnownBytes.{prepend_known, IsAtEnd}
+use Rattle.ansi_lines.specs.declared.devices.ReadFault.{ReadFault}
+use Rattle.ansi_lines.specs.declared.devices.ReadFault.TheVariants.{Interrupted, Failed}
+
+-- an answer tells whether the read was interrupted
+abbrev pub was_interrupted : Result ℕ ReadFault → Bool
+was_interrupted (Ok count) = false
+was_interrupted (Err Interrupted) = true
+was_interrupted (Err Failed) = false
+
+-- an answer tells whether the read failed
+abbrev pub was_failed : Result ℕ ReadFault → Bool
+was_failed (Ok count) = false
+was_failed (Err Interrupted) = false
+was_failed (Err Failed) = true
+
+-- a read takes the bytes that it gives, and answers 0 only at the end or without room; an interrupted one takes none
+abbrev pub Reads : Option (List ℕ) → Option (List ℕ) → Result ℕ ReadFault → List ℕ → Type 0
+Reads old new (Ok count) room =
+    (old ≡ prepend_known (take count room) new) × (count ≡ 0 → 0 < length room → IsAtEnd new)
+Reads old new (Err Interrupted) room = new ≡ old
+Reads old new (Err Failed) room = ⊤

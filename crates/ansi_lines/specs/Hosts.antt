@@ -1,0 +1,23 @@
+-- What the devices over std's readers and writers stand over.
+use Rattle.std.specs.Prelude.{◌≡◌, false}
+use Rattle.ansi_lines.specs.declared.host.HostIn.{HostIn}
+use Rattle.ansi_lines.specs.declared.host.HostOut.{HostOut}
+
+-- the reader that a source stands over
+abbrev pub reader_of : {R : Type 0} → HostIn R → R
+reader_of device = device.reader
+
+-- the writer that a sink stands over
+abbrev pub writer_of : {W : Type 0} → HostOut W → W
+writer_of device = device.writer
+
+-- a fresh source stands over its reader, and no read of it was interrupted or has failed
+pub record IsFreshSource {R : Type 0} (reader : R) (device : HostIn R) : Type 0 where
+  pub same_reader : reader_of device ≡ reader
+  pub uninterrupted : device.interrupted ≡ false
+  pub unfailed : device.failed ≡ false
+
+-- a fresh sink stands over its writer, and no write of it has failed
+pub record IsFreshSink {W : Type 0} (writer : W) (device : HostOut W) : Type 0 where
+  pub same_writer : writer_of device ≡ writer
+  pub unfailed : device.failed ≡ false

@@ -1,0 +1,67 @@
+//! What the program reads from and writes to.
+ghost use Rattle.std.specs.Prelude.{◌≡◌, ◌≤◌, ◌||◌, Bool, ℕ, List, Option, length, is_err, IfOk, OnOk};
+ghost use Rattle.std.specs.Io.KnownBytes.{append_known};
+ghost use Rattle.ansi_lines.specs.Devices.{Reads, was_interrupted, was_failed};
+
+/// Why a read gave nothing.
+#[derive(Clone, Copy, Debug, PartialEq, Eq)]
+pub enum ReadFault {
+    /// It may be made again.
+    Interrupted,
+    /// The device failed.
+    Failed,
+}
+
+/// Why a write or a flush wasn't done.
+#[derive(Clone, Copy, Debug, PartialEq, Eq)]
+pub enum WriteFault {
+    /// The device failed.
+    Failed,
+}
+
+/// Bytes to be read.
+pub trait Source {
+    /// The bytes that it has left, where it tells them.
+    ghost left: { Self → Option (List ℕ) };
+
+    /// Whether a read has been interrupted.
+    ghost interrupted: { Self → Bool };
+
+    /// Whether a read has failed.
+    ghost failed: { Self → Bool };
+
+    /// Puts the next bytes into the front of the room, and answers their number.
+    ///
+    /// 0 comes only at the end, or where the room is empty. An interrupted read takes no bytes; how
+    /// many a failed one takes isn't said.
+    fn read(&mut self, room: &mut [u8]) -> Result<usize, ReadFault>
+        ensures within { IfOk result (λ count. count ≤ length room.new) }
+        ensures bytes { Reads (left self.old) (left self.new) result room.new }
+        ensures interrupted { interrupted self.new ≡ (interrupted self.old || was_interrupted result) }
+        ensures failed { failed self.new ≡ (failed self.old || was_failed result) };
+}
+
+/// What takes bytes, and passes them on.
+pub trait Sink {
+    /// The bytes that it has taken, where it tells them.
+    ghost taken: { Self → Option (List ℕ) };
+
+    /// The bytes that it has passed on, where it tells them.
+    ghost passed: { Self → Option (List ℕ) };
+
+    /// Whether a write or a flush has failed.
+    ghost failed: { Self → Bool };
+
+    /// Takes all of the bytes. It may pass them on or keep them.
+    ///
+    /// How many a failed write takes isn't said.
+    fn write(&mut self, bytes: &[u8]) -> Result<(), WriteFault>
+        ensures taken { OnOk result (taken self.new ≡ append_known (taken self.old) bytes.now) }
+        ensures failed { failed self.new ≡ (failed self.old || is_err result) };
+
+    /// Passes on all that it has taken.
+    fn flush(&mut self) -> Result<(), WriteFault>
+        ensures taken { OnOk result (taken self.new ≡ taken self.old) }
+        ensures passed { OnOk result (passed self.new ≡ taken self.new) }
+        ensures failed { failed self.new ≡ (failed self.old || is_err result) };
+}

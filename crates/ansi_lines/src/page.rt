@@ -1,0 +1,229 @@
+//! A device over memory, whose calls come out as a schedule says.
+ghost use Rattle.std.specs.Prelude.{◌≡◌, ◌≤◌, ◌+◌, ◌||◌, [], ◌++◌, IfOk, OnOk, Some, length, drop, take, is_err, vec_len};
+ghost use Rattle.std.specs.Io.KnownBytes.{append_known};
+ghost use Rattle.ansi_lines.specs.Devices.{Reads, was_interrupted, was_failed};
+ghost use Rattle.ansi_lines.specs.Pages.{fresh_page, next_outcome, bytes_left, count_given, read_comes_to, write_comes_to, flush_comes_to, page_after_read, page_after_write, page_after_flush};
+
+use crate::devices::{ReadFault, Sink, Source, WriteFault};
+use std::alloc::{AllocError, Global};
+use std::collections::VecDeque;
+use std::marker::Model;
+
+/// How a call comes out.
+#[derive(Clone, Copy, Debug, PartialEq, Eq)]
+pub enum Outcome {
+    /// It does what it is asked for.
+    Works,
+    /// A read is interrupted. A write or a flush fails.
+    Interrupted,
+    /// It fails.
+    Failed,
+}
+
+/// Bytes in memory: they are read from their start, and what is written goes behind them.
+///
+/// Each call, of any kind, takes the first outcome off the schedule and comes out so. Behind the
+/// schedule's end every call works. The memory is taken when the page is made: a write takes none,
+/// and fails where the room is too small.
+///
+/// ```
+/// let mut page = Page::with_room(alloc, 3)?.with_schedule(vec![in alloc; Outcome::Failed; 1]?);
+/// assert!(page.write(b"abc").is_err());
+/// assert!(page.write(b"abc").is_ok());
+/// assert!(page.write(b"d").is_err());
+/// ```
+#[derive(Drop)]
+pub struct Page {
+    bytes: Vec<u8>,
+    read: usize,
+    passed: usize,
+    room: usize,
+    chunk: usize,
+    schedule: VecDeque<Outcome>,
+    interrupted: bool,
+    failed: bool,
+}
+
+impl Model for Page {
+    ghost use Rattle.std.specs.Prelude.{vec_len, vec_capacity};
+    ghost use Rattle.ansi_lines.specs.PageStates.{PageState, IsWithinRoom};
+
+    ghost Value = { PageState };
+
+    ghost view = { λ page. record {
+      bytes = page.bytes.items;
+      read = page.read;
+      passed = page.passed;
+      room = page.room;
+      chunk = page.chunk;
+      schedule = page.schedule.items;
+      interrupted = page.interrupted;
+      failed = page.failed;
+    } };
+
+    ghost invariant = { λ page. IsWithinRoom page.read (vec_len page.bytes) page.room (vec_capacity page.bytes) };
+}
+
+impl Page {
+    /// A page with bytes to be read and no room for more. Takes no memory.
+    pub fn of(alloc: Global, bytes: Vec<u8>) -> Self
+        ensures { result ≡ fresh_page bytes.items (vec_len bytes) }
+    {
+        let room = bytes.len();
+        Page {
+            bytes,
+            read: 0,
+            passed: 0,
+            room,
+            chunk: room,
+            schedule: VecDeque::new(alloc),
+            interrupted: false,
+            failed: false,
+        }
+    }
+
+    /// An empty page, with room for so many bytes. An `Err` is want of memory for them.
+    pub fn with_room(alloc: Global, room: usize) -> Result<Self, AllocError>
+        ensures { IfOk result (λ page. page ≡ fresh_page [] room) }
+    {
+        Ok(Page {
+            bytes: Vec::with_capacity(alloc, room)?,
+            read: 0,
+            passed: 0,
+            room,
+            chunk: room,
+            schedule: VecDeque::new(alloc),
+            interrupted: false,
+            failed: false,
+        })
+    }
+
+    /// The page, with these outcomes of the calls to come.
+    pub fn with_schedule(mut self, schedule: Vec<Outcome>) -> Self
+        ensures { result ≡ record self { schedule = schedule.items } }
+    {
+        self.schedule = VecDeque::from_vec(schedule);
+        self
+    }
+
+    /// The page, giving at most so many bytes at a read, and at least one.
+    pub fn in_chunks(mut self, chunk: usize) -> Self
+        ensures { result ≡ record self { chunk = chunk } }
+    {
+        self.chunk = chunk;
+        self
+    }
+
+    /// All its bytes, those that are read already too.
+    pub fn bytes(&self) -> &[u8]
+        ensures { result.now ≡ self.now.bytes }
+    {
+        self.bytes.as_slice()
+    }
+
+    /// How many of its bytes are passed on.
+    pub fn passed(&self) -> usize
+        ensures { result ≡ self.now.passed }
+    {
+        self.passed
+    }
+
+    /// How many outcomes of the schedule no call has taken yet.
+    pub fn outcomes_left(&self) -> usize
+        ensures { result ≡ length self.now.schedule }
+    {
+        self.schedule.len()
+    }
+
+    // Takes the outcome of a call off the schedule.
+    fn take_outcome(&mut self) -> Outcome
+        ensures outcome { result ≡ next_outcome self.old }
+        ensures page { self.new ≡ record self.old { schedule = drop 1 self.old.schedule } }
+    {
+        self.schedule.pop_front().unwrap_or(Outcome::Works)
+    }
+
+    // Puts the next bytes into the front of the room.
+    fn give(&mut self, room: &mut [u8]) -> usize
+        ensures count { result ≡ count_given self.old (length room.old) }
+        ensures bytes { room.new ≡ take result (bytes_left self.old) ++ drop result room.old }
+        ensures page { self.new ≡ record self.old { read = self.old.read + result } }
+    {
+        let left = &self.bytes[self.read..];
+        let count = left.len().min(room.len()).min(self.chunk.max(1));
+        room[..count].copy_from_slice(&left[..count]);
+        self.read += count;
+        count
+    }
+}
+
+impl Source for Page {
+    ghost use Rattle.ansi_lines.specs.Pages.{bytes_left};
+
+    ghost left = { λ page. Some (bytes_left page) };
+
+    ghost interrupted = { λ page. page.interrupted };
+
+    ghost failed = { λ page. page.failed };
+
+    fn read(&mut self, room: &mut [u8]) -> Result<usize, ReadFault>
+        ensures within { IfOk result (λ count. count ≤ length room.new) }
+        ensures bytes { Reads (Some (bytes_left self.old)) (Some (bytes_left self.new)) result room.new }
+        ensures interrupted { self.new.interrupted ≡ (self.old.interrupted || was_interrupted result) }
+        ensures failed { self.new.failed ≡ (self.old.failed || was_failed result) }
+        ensures outcome { result ≡ read_comes_to (next_outcome self.old) (count_given self.old (length room.old)) }
+        ensures page { self.new ≡ page_after_read self.old result }
+    {
+        match self.take_outcome() {
+            Outcome::Works => Ok(self.give(room)),
+            Outcome::Interrupted => {
+                self.interrupted = true;
+                Err(ReadFault::Interrupted)
+            }
+            Outcome::Failed => {
+                self.failed = true;
+                Err(ReadFault::Failed)
+            }
+        }
+    }
+}
+
+impl Sink for Page {
+    ghost use Rattle.std.specs.Prelude.{take};
+
+    ghost taken = { λ page. Some page.bytes };
+
+    ghost passed = { λ page. Some (take page.passed page.bytes) };
+
+    ghost failed = { λ page. page.failed };
+
+    fn write(&mut self, bytes: &[u8]) -> Result<(), WriteFault>
+        ensures taken { OnOk result (Some self.new.bytes ≡ append_known (Some self.old.bytes) bytes.now) }
+        ensures failed { self.new.failed ≡ (self.old.failed || is_err result) }
+        ensures outcome { result ≡ write_comes_to (next_outcome self.old) (length self.old.bytes + length bytes.now) self.old.room }
+        ensures page { self.new ≡ page_after_write self.old bytes.now result }
+    {
+        let outcome = self.take_outcome();
+        let has_room = bytes.len() <= self.room - self.bytes.len();
+        if outcome == Outcome::Works && has_room && self.bytes.extend_from_slice(bytes).is_ok() {
+            return Ok(());
+        }
+        self.failed = true;
+        Err(WriteFault::Failed)
+    }
+
+    fn flush(&mut self) -> Result<(), WriteFault>
+        ensures taken { OnOk result (Some self.new.bytes ≡ Some self.old.bytes) }
+        ensures passed { OnOk result (Some (take self.new.passed self.new.bytes) ≡ Some self.new.bytes) }
+        ensures failed { self.new.failed ≡ (self.old.failed || is_err result) }
+        ensures outcome { result ≡ flush_comes_to (next_outcome self.old) }
+        ensures page { self.new ≡ page_after_flush self.old result }
+    {
+        if self.take_outcome() == Outcome::Works {
+            self.passed = self.bytes.len();
+            return Ok(());
+        }
+        self.failed = true;
+        Err(WriteFault::Failed)
+    }
+}

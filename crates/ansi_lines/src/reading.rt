@@ -1,0 +1,73 @@
+//! Reads the whole input.
+ghost use Rattle.std.specs.Prelude.{◌≡◌, ◌≤◌, ◌<◌, ◌⊎◌, true, length, take, OnOk, IfOk, IfNone, IfSome, IfErr, string_bytes, string_len, vec_len};
+ghost use Rattle.std.specs.Io.KnownBytes.{prepend_known, IsAtEnd};
+ghost use Rattle.ansi_lines.specs.Reading.{StopsReading};
+
+use crate::devices::{ReadFault, Source};
+use crate::stop::Stop;
+use std::alloc::Allocator;
+
+/// The most bytes that an input may have.
+pub const MAX_BYTES: usize = 1_048_576;
+
+/// The most reads that are made, twice `MAX_BYTES` + 1: for each byte, and for the end, one that is
+/// interrupted and one that isn't.
+pub const MAX_READS: usize = 2_097_154;
+
+// How many bytes a read may give at most.
+const ROOM: usize = 4096;
+
+/// Reads all that is left, which has to be a text of no more than `MAX_BYTES` bytes.
+///
+/// An interrupted read is made again, but no more than `MAX_READS` reads are made in all. It stops
+/// for a bad input, or for want of memory.
+pub fn read_text<A: Allocator, S: Source>(alloc: A, input: &mut S) -> Result<String<A>, Stop>
+    ensures all { IfOk result (λ text. IfSome (S.left input.old) (λ bytes. string_bytes text ≡ bytes)) }
+    ensures short { IfOk result (λ text. string_len text ≤ MAX_BYTES) }
+    ensures unfailed { OnOk result (S.failed input.new ≡ S.failed input.old) }
+    ensures stopped { IfErr result (StopsReading (S.left input.old) (S.interrupted input.new) (S.failed input.new)) }
+{
+    let bytes = read_bytes(alloc, input)?;
+    String::from_utf8(bytes).map_err(|_| Stop::BadInput)
+}
+
+// Reads all that is left, if it isn't too long.
+fn read_bytes<A: Allocator, S: Source>(alloc: A, input: &mut S) -> Result<Vec<u8, A>, Stop>
+    ensures all { IfOk result (λ read. IfSome (S.left input.old) (λ bytes. read.items ≡ bytes)) }
+    ensures short { IfOk result (λ read. vec_len read ≤ MAX_BYTES) }
+    ensures unfailed { OnOk result (S.failed input.new ≡ S.failed input.old) }
+    ensures stopped { IfErr result (StopsReading (S.left input.old) (S.interrupted input.new) (S.failed input.new)) }
+{
+    let mut read = Vec::new(alloc);
+    let mut room = [0u8; ROOM];
+    for _turn in 0..MAX_READS {
+        let Some(count) = read_once(input, &mut room)? else {
+            return Ok(read);
+        };
+        read.extend_from_slice(&room[..count])?;
+        if read.len() > MAX_BYTES {
+            return Err(Stop::BadInput);
+        }
+    }
+    Err(Stop::BadInput)
+}
+
+// How many bytes a read gives: none where it is interrupted, and `None` at the end.
+fn read_once<S: Source>(input: &mut S, room: &mut [u8]) -> Result<Option<usize>, Stop>
+    requires { 0 < length room.old }
+    ensures end { IfOk result (λ given. IfNone given (IsAtEnd (S.left input.old))) }
+    ensures within { IfOk result (λ given. IfSome given (λ count. count ≤ length room.new)) }
+    ensures bytes { IfOk result (λ given. IfSome given (λ count.
+        S.left input.old ≡ prepend_known (take count room.new) (S.left input.new))) }
+    ensures progress { IfOk result (λ given. IfSome given (λ count. (0 < count) ⊎ (S.interrupted input.new ≡ true))) }
+    ensures interrupted { S.interrupted input.old ≡ true → S.interrupted input.new ≡ true }
+    ensures unfailed { OnOk result (S.failed input.new ≡ S.failed input.old) }
+    ensures failed { IfErr result (λ stop. (stop ≡ Stop.BadInput) × (S.failed input.new ≡ true)) }
+{
+    match input.read(room) {
+        Ok(0) => Ok(None),
+        Ok(count) => Ok(Some(count)),
+        Err(ReadFault::Interrupted) => Ok(Some(0)),
+        Err(ReadFault::Failed) => Err(Stop::BadInput),
+    }
+}
