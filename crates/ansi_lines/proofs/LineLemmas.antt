@@ -1,9 +1,10 @@
 -- The first line of a text, and the rest.
-use Rattle.std.proofs.Common.{◌≡◌, ◌<◌, ℕ, List, [], ◌∷◌, ◌++◌, length, true, false, refl, ap, ◌∙◌, arith, append-nil}
-use Rattle.std.specs.List.{slice_split, flat_map, position_or_len, before_first, after_first, All}
+use Rattle.std.proofs.Common.{◌≡◌, ◌<◌, ◌+◌, ℕ, List, [], ◌∷◌, ◌++◌, length, Bool, true, false, Option, None, Some, refl, ap, ◌∙◌, arith, not, cond, is_none, unwrap_or, if◌then◌else◌}
+use Rattle.std.specs.Io.KnownBytes.{append_known}
+use Rattle.std.specs.List.{slice_split, flat_map, position_or_len, before_first, after_first, position_from, All}
 use Rattle.std.proofs.lemmas.List.Splits.{slice_split_first, slice_split_none, length-slice_split}
-use Rattle.std.proofs.lemmas.List.Sums.{fails_before_first}
-use Rattle.ansi_lines.specs.Lines.{line_feed, is_line_feed, lines, lines_of_pieces, answer_of, answer_to, answers}
+use Rattle.std.proofs.lemmas.List.Sums.{fails_before_first, take_while-cons}
+use Rattle.ansi_lines.specs.Lines.{Line, line_feed, is_line_feed, lines, lines_of_pieces, answer_of, answer_to, answers, is_refused, first_refused, WritesAnswer}
 use Rattle.ansi_lines.specs.declared.words.Job.{Job}
 
 -- a piece with a piece behind it is ended
@@ -12,30 +13,77 @@ lines_of_pieces-cons piece [] some = absurd (omega arith)
 lines_of_pieces-cons piece (next ∷ more) some = refl
 
 -- a text with a line feed has a first line, and the others
-lines-first : (text : List ℕ) → position_or_len is_line_feed text < length text
-    → lines text ≡ record { text = before_first is_line_feed text; ended = true } ∷ lines (after_first is_line_feed text)
-lines-first text within =
+pub lines-first : (text line more : List ℕ)
+    → (line ≡ before_first is_line_feed text) × (more ≡ after_first is_line_feed text) × (position_or_len is_line_feed text < length text)
+    → lines text ≡ record { text = line; ended = true } ∷ lines more
+lines-first text line more (is_line, is_more, within) = rw (is_line, is_more) (
     ap lines_of_pieces (slice_split_first is_line_feed text 0 within)
     ∙ lines_of_pieces-cons (before_first is_line_feed text) (slice_split is_line_feed (after_first is_line_feed text))
-    (omega (arith, length-slice_split is_line_feed (after_first is_line_feed text)))
-
--- the answer to a first line that is ended, and to the others
-pub answers-first : (job : Job) (text : List ℕ) → position_or_len is_line_feed text < length text
-    → answers job text ≡ (answer_of job (before_first is_line_feed text) ++ line_feed ∷ []) ++ answers job (after_first is_line_feed text)
-unfolding answers
-answers-first job text within = ap (flat_map (answer_to job)) (lines-first text within)
+    (omega (arith, length-slice_split is_line_feed (after_first is_line_feed text))))
 
 -- a text without a line feed is one line, if it isn't empty
-pub answers-last : (job : Job) (text : List ℕ) → position_or_len is_line_feed text ≡ length text → 0 < length text → answers job text ≡ answer_of job text
-unfolding answers
-answers-last job [] whole some = absurd (omega arith)
-answers-last job (b ∷ text) whole some =
+pub lines-last : (text : List ℕ) → position_or_len is_line_feed text ≡ length text → 0 < length text → lines text ≡ record { text = text; ended = false } ∷ lines []
+lines-last [] whole some = absurd (omega arith)
+lines-last (b ∷ text) whole some =
     let none : All (λ x. is_line_feed x ≡ false) (b ∷ text) = λ k d below. fails_before_first is_line_feed (b ∷ text) k d (omega arith) in
-    let split : lines (b ∷ text) ≡ record { text = b ∷ text; ended = false } ∷ [] = ap lines_of_pieces (slice_split_none is_line_feed (b ∷ text) none) in
-    ap (flat_map (answer_to job)) split ∙ append-nil _ ∙ append-nil _
+    ap lines_of_pieces (slice_split_none is_line_feed (b ∷ text) none)
 
--- an empty text has no answers
-pub answers-empty : (job : Job) (text : List ℕ) → length text ≡ 0 → answers job text ≡ []
-unfolding answers
-answers-empty job [] empty = refl
-answers-empty job (b ∷ text) empty = absurd (omega arith)
+-- what stands before the first that passes, where the first of all doesn't
+before_first-fails : {X : Type 0} (p : X → Bool) (x : X) (xs : List X) → p x ≡ false → before_first p (x ∷ xs) ≡ x ∷ before_first p xs
+before_first-fails p x xs fails = take_while-cons (λ x. not (p x)) x xs ∙ ap (λ b. cond (not b) (x ∷ before_first p xs) []) fails
+
+-- what stands before the first that passes, where that is the first of all
+before_first-passes : {X : Type 0} (p : X → Bool) (x : X) (xs : List X) → p x ≡ true → before_first p (x ∷ xs) ≡ []
+before_first-passes p x xs passes = take_while-cons (λ x. not (p x)) x xs ∙ ap (λ b. cond (not b) (x ∷ before_first p xs) []) passes
+
+-- what was written has an answer
+was_answered : {answered : Bool} (old new o : Option (List ℕ)) → answered ≡ true → WritesAnswer o answered old new
+    → (answer : List ℕ) × (o ≡ Some answer) × (new ≡ append_known old answer)
+was_answered old new None is wrote = let no = wrote.0 in cc
+was_answered old new (Some answer) is wrote = (answer, refl, wrote.1)
+
+-- where nothing was written there is no answer
+was_refused : {answered : Bool} (old new o : Option (List ℕ)) → answered ≡ false → WritesAnswer o answered old new
+    → (o ≡ None) × (new ≡ old)
+was_refused old new None is wrote = (refl, wrote.1)
+was_refused old new (Some answer) is wrote = let yes = wrote.0 in cc
+
+-- a text whose first line is answered, and what is written for that line
+pub line-answered : {answered : Bool} (old new : Option (List ℕ)) (job : Job) (number : ℕ) (text : List ℕ) (line : Line) (more : List ℕ)
+    → lines text ≡ line ∷ lines more → answered ≡ true → WritesAnswer (answer_of job line.text) answered old new
+    → (answer : List ℕ) × (new ≡ append_known old answer)
+    × (answers job text ≡ (answer ++ (if line.ended then line_feed ∷ [] else [])) ++ answers job more)
+    × (first_refused number job text ≡ first_refused (number + 1) job more)
+unfolding answers first_refused
+line-answered old new job number text line more split is wrote =
+    let (answer, has, taken) = was_answered old new (answer_of job line.text) is wrote in
+    let passes : is_refused job line ≡ false = ap is_none has in (
+      answer,
+      taken,
+      ap (λ ls. flat_map (answer_to job) (before_first (is_refused job) ls)) split
+          ∙ ap (flat_map (answer_to job)) (before_first-fails (is_refused job) line (lines more) passes)
+          ∙ ap (λ o. (unwrap_or o [] ++ (if line.ended then line_feed ∷ [] else [])) ++ answers job more) has,
+      ap (position_from (is_refused job) number) split
+          ∙ ap (λ b. cond b (Some number) (position_from (is_refused job) (number + 1) (lines more))) passes,
+    )
+
+-- a text whose first line is refused
+pub line-refused : {answered : Bool} (old new : Option (List ℕ)) (job : Job) (number : ℕ) (text : List ℕ) (line : Line) (more : List ℕ)
+    → lines text ≡ line ∷ lines more → answered ≡ false → WritesAnswer (answer_of job line.text) answered old new
+    → (new ≡ old) × (answers job text ≡ []) × (first_refused number job text ≡ Some number)
+unfolding answers first_refused
+line-refused old new job number text line more split is wrote =
+    let (has, kept) = was_refused old new (answer_of job line.text) is wrote in
+    let refused : is_refused job line ≡ true = ap is_none has in (
+      kept,
+      ap (λ ls. flat_map (answer_to job) (before_first (is_refused job) ls)) split
+          ∙ ap (flat_map (answer_to job)) (before_first-passes (is_refused job) line (lines more) refused),
+      ap (position_from (is_refused job) number) split
+          ∙ ap (λ b. cond b (Some number) (position_from (is_refused job) (number + 1) (lines more))) refused,
+    )
+
+-- an empty text has no answers, and none is refused
+pub answers-empty : (job : Job) (number : ℕ) (text : List ℕ) → length text ≡ 0 → (answers job text ≡ []) × (first_refused number job text ≡ None)
+unfolding answers first_refused
+answers-empty job number [] empty = (refl, refl)
+answers-empty job number (b ∷ text) empty = absurd (omega arith)

@@ -24,8 +24,9 @@ HasWritten-more {old} {now} {all} {rest} new front next so_far wrote splits = re
 }
 
 -- nothing is to come
-pub HasWritten-all : {old new : Option (List ℕ)} {all : List ℕ} → HasWritten old new all [] → new ≡ append_known old all
-HasWritten-all {old} so_far = so_far.taken ∙ ap (λ xs. append_known old xs) (sym (append-nil so_far.part) ∙ sym so_far.whole)
+pub HasWritten-all : {old now new : Option (List ℕ)} {all rest : List ℕ} → HasWritten old now all rest → new ≡ now → rest ≡ [] → new ≡ append_known old all
+HasWritten-all {old} so_far same none =
+    same ∙ so_far.taken ∙ ap (λ xs. append_known old xs) (sym (so_far.whole ∙ ap (λ xs. so_far.part ++ xs) none ∙ append-nil so_far.part))
 
 -- what is written on the way is a beginning of all
 pub HasWritten-beginning : {old new : Option (List ℕ)} {all rest : List ℕ} → HasWritten old new all rest → WritesBeginning old new all

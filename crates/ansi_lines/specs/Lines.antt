@@ -1,12 +1,14 @@
 -- The lines of a text, and what is written for them.
-use Rattle.std.specs.Prelude.{◌≡◌, ◌==◌, ℕ, List, [], ◌∷◌, ◌++◌, Bool, true, false, Option, if◌then◌else◌}
-use Rattle.std.specs.List.{slice_split, flat_map}
+use Rattle.std.specs.Prelude.{◌≡◌, ◌==◌, ℕ, List, [], ◌∷◌, ◌++◌, Bool, true, false, Option, None, Some, is_none, unwrap_or, if◌then◌else◌}
+use Rattle.std.specs.List.{slice_split, flat_map, before_first, position_from}
 use Rattle.std.specs.Io.KnownBytes.{append_known}
 use Rattle.ansi_str.specs.Plain.{plain}
+use Rattle.ansi_str.specs.Positions.{is_good_range}
+use Rattle.ansi_str.specs.Cut.{cut}
 use Rattle.ansi_lines.specs.declared.stop.Stop.{Stop}
-use Rattle.ansi_lines.specs.declared.stop.Stop.TheVariants.{BadInput, OutOfMemory, BadWords, WriteFailed}
+use Rattle.ansi_lines.specs.declared.stop.Stop.TheVariants.{Refused, BadInput, OutOfMemory, BadWords, WriteFailed}
 use Rattle.ansi_lines.specs.declared.words.Job.{Job}
-use Rattle.ansi_lines.specs.declared.words.Job.TheVariants.{Strip}
+use Rattle.ansi_lines.specs.declared.words.Job.TheVariants.{Strip, Cut}
 
 -- the byte that ends a line is the line feed of ASCII
 abbrev pub line_feed : ℕ
@@ -36,17 +38,31 @@ lines_of_pieces (piece ∷ next ∷ more) = record { text = piece; ended = true 
 abbrev pub lines : List ℕ → List Line
 lines text = lines_of_pieces (slice_split is_line_feed text)
 
--- a line's text is stripped to its plain text
-abbrev pub answer_of : Job → List ℕ → List ℕ
-answer_of Strip text = plain text
+-- a line's text is stripped to its plain text, or cut where the range is good, and else it has no answer
+abbrev pub answer_of : Job → List ℕ → Option (List ℕ)
+answer_of Strip text = Some (plain text)
+answer_of (Cut start end) text = if is_good_range (plain text) start end then Some (cut text start end) else None
+
+-- a line is refused where its text has no answer
+abbrev pub is_refused : Job → Line → Bool
+is_refused job line = is_none (answer_of job line.text)
 
 -- an ended line's answer is ended too
 abbrev pub answer_to : Job → Line → List ℕ
-answer_to job line = answer_of job line.text ++ (if line.ended then line_feed ∷ [] else [])
+answer_to job line = unwrap_or (answer_of job line.text) [] ++ (if line.ended then line_feed ∷ [] else [])
 
--- a text is answered line by line, in order
+-- a text is answered line by line, in order, up to the first line that is refused
 unfoldable pub answers : Job → List ℕ → List ℕ
-answers job text = flat_map (answer_to job) (lines text)
+answers job text = flat_map (answer_to job) (before_first (is_refused job) (lines text))
+
+-- the first line that is refused, of a text whose lines are counted from this number
+unfoldable pub first_refused : ℕ → Job → List ℕ → Option ℕ
+first_refused number job text = position_from (is_refused job) number (lines text)
+
+-- a text that has an answer is answered with that, and for one that has none nothing is written
+abbrev pub WritesAnswer : Option (List ℕ) → Bool → Option (List ℕ) → Option (List ℕ) → Type 0
+WritesAnswer None answered old new = (answered ≡ false) × (new ≡ old)
+WritesAnswer (Some answer) answered old new = (answered ≡ true) × (new ≡ append_known old answer)
 
 -- what a sink has taken since is a beginning of these bytes
 pub record WritesBeginning (old new : Option (List ℕ)) (all : List ℕ) : Type 0 where
@@ -61,3 +77,4 @@ StopsWriting failed_before failed_after so_far WriteFailed = failed_after ≡ tr
 StopsWriting failed_before failed_after so_far OutOfMemory = so_far × (failed_after ≡ failed_before)
 StopsWriting failed_before failed_after so_far BadInput = ⊥
 StopsWriting failed_before failed_after so_far BadWords = ⊥
+StopsWriting failed_before failed_after so_far (Refused line) = ⊥

@@ -2,7 +2,7 @@
 use Rattle.std.specs.Prelude.{◌≡◌, ◌<◌, ◌⊎◌, ℕ, List, length, Bool, true, Option, None, Some, IfSome, ⊤}
 use Rattle.std.specs.Str.{IsUtf8}
 use Rattle.ansi_lines.specs.declared.stop.Stop.{Stop}
-use Rattle.ansi_lines.specs.declared.stop.Stop.TheVariants.{BadInput, OutOfMemory, BadWords, WriteFailed}
+use Rattle.ansi_lines.specs.declared.stop.Stop.TheVariants.{Refused, BadInput, OutOfMemory, BadWords, WriteFailed}
 use Rattle.ansi_lines.specs.declared.reading.TheConstants.{MAX_BYTES}
 
 -- an unfit input is too long, or isn't a text
@@ -29,3 +29,4 @@ StopsReading left interrupted failed OutOfMemory = ⊤
 StopsReading left interrupted failed BadInput = IsBadInput left interrupted failed
 StopsReading left interrupted failed BadWords = ⊥
 StopsReading left interrupted failed WriteFailed = ⊥
+StopsReading left interrupted failed (Refused line) = ⊥

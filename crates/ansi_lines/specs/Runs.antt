@@ -1,9 +1,9 @@
 -- What a run writes and tells.
-use Rattle.std.specs.Prelude.{◌≡◌, ◌==◌, ◌⊎◌, ℕ, List, [], String, map, string_bytes, codes, if◌then◌else◌, IsNone, IsSome, ⊤}
-use Rattle.std.specs.Option.{option_map_or}
+use Rattle.std.specs.Prelude.{◌==◌, ℕ, List, [], Option, None, Some, Result, Ok, Err, String, map, string_bytes, codes, if◌then◌else◌, IsNone, IsSome, ⊤}
+use Rattle.std.specs.Option.{option_and_then, option_map_or}
 use Rattle.ansi_lines.specs.declared.stop.Stop.{Stop}
-use Rattle.ansi_lines.specs.declared.stop.Stop.TheVariants.{BadWords, BadInput, WriteFailed, OutOfMemory}
-use Rattle.ansi_lines.specs.Lines.{answers}
+use Rattle.ansi_lines.specs.declared.stop.Stop.TheVariants.{Refused, BadWords, BadInput, WriteFailed, OutOfMemory}
+use Rattle.ansi_lines.specs.Lines.{answers, first_refused}
 use Rattle.ansi_lines.specs.Words.{job_of}
 
 -- the bytes of each word
@@ -21,6 +21,7 @@ AreBadWords words = IsNone (job_of words)
 -- a run ends for bad words where they are bad, and else for another reason
 abbrev pub MatchesWords : Stop → List (List ℕ) → Type 0
 MatchesWords BadWords words = AreBadWords words
+MatchesWords (Refused line) words = AreGoodWords words
 MatchesWords BadInput words = AreGoodWords words
 MatchesWords WriteFailed words = AreGoodWords words
 MatchesWords OutOfMemory words = AreGoodWords words
@@ -29,6 +30,7 @@ MatchesWords OutOfMemory words = AreGoodWords words
 abbrev pub BeforeWriting : Stop → Type 0 → Type 0
 BeforeWriting BadWords fact = fact
 BeforeWriting BadInput fact = fact
+BeforeWriting (Refused line) fact = ⊤
 BeforeWriting WriteFailed fact = ⊤
 BeforeWriting OutOfMemory fact = ⊤
 
@@ -36,11 +38,20 @@ BeforeWriting OutOfMemory fact = ⊤
 abbrev pub output_of : List (List ℕ) → List ℕ → List ℕ
 output_of words input = option_map_or (λ job. answers job input) (job_of words) []
 
--- a run is done, or it ends for bad words, a bad input, a failed write or want of memory
-abbrev pub IsStatus : ℕ → Type 0
-IsStatus status = (status ≡ 0) ⊎ (status ≡ 2) ⊎ (status ≡ 3) ⊎ (status ≡ 4) ⊎ (status ≡ 5)
+-- the first line that the words refuse of an input, counted from 1
+abbrev pub refused_line : List (List ℕ) → List ℕ → Option ℕ
+refused_line words input = option_and_then (λ job. first_refused 1 job input) (job_of words)
 
--- each status but 0 has a text of its own
+-- this is so of the refused line, if there is one, where a run ends with all that the words make of the input
+abbrev pub IfAnswered : Result (Unit {0}) Stop → (Option ℕ → Type 0) → Type 0
+IfAnswered (Ok done) Fact = Fact None
+IfAnswered (Err (Refused line)) Fact = Fact (Some line)
+IfAnswered (Err BadWords) Fact = ⊤
+IfAnswered (Err BadInput) Fact = ⊤
+IfAnswered (Err WriteFailed) Fact = ⊤
+IfAnswered (Err OutOfMemory) Fact = ⊤
+
+-- each status but 0 and 1 has a text of its own
 abbrev pub told : ℕ → List ℕ
 told status =
     if status == 2 then codes "bad words\n"

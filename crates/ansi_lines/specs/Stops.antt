@@ -1,17 +1,23 @@
 -- What a run that ends early answers and tells.
-use Rattle.std.specs.Prelude.{ℕ, List, codes}
+use Rattle.std.specs.Prelude.{◌++◌, ℕ, List, codes, decimal}
 use Rattle.ansi_lines.specs.declared.stop.Stop.{Stop}
-use Rattle.ansi_lines.specs.declared.stop.Stop.TheVariants.{BadWords, BadInput, WriteFailed, OutOfMemory}
+use Rattle.ansi_lines.specs.declared.stop.Stop.TheVariants.{Refused, BadWords, BadInput, WriteFailed, OutOfMemory}
 
 -- each reason to end early has a status of its own
 abbrev pub status_of : Stop → ℕ
+status_of (Refused line) = 1
 status_of BadWords = 2
 status_of BadInput = 3
 status_of WriteFailed = 4
 status_of OutOfMemory = 5
 
+-- a refused line is told of by its number
+abbrev pub refusal : ℕ → List ℕ
+refusal line = codes "line " ++ decimal line ++ codes ": refused\n"
+
 -- each reason to end early is told in a line of its own
 abbrev pub text_of : Stop → List ℕ
+text_of (Refused line) = refusal line
 text_of BadWords = codes "bad words\n"
 text_of BadInput = codes "bad input\n"
 text_of WriteFailed = codes "write failed\n"

@@ -1,14 +1,18 @@
 //! Answers a text line by line.
-ghost use Rattle.std.specs.Prelude.{◌≡◌, OnOk, IfErr};
+ghost use Rattle.std.specs.Prelude.{◌≡◌, IfErr, IfOk, OnOk};
+ghost use Rattle.std.specs.Option.{option_map};
+ghost use Rattle.std.specs.Cow.{cow_str_bytes};
 ghost use Rattle.std.specs.Io.KnownBytes.{append_known};
-ghost use Rattle.ansi_lines.specs.Lines.{answer_of, answers, WritesBeginning, StopsWriting};
+ghost use Rattle.ansi_lines.specs.Lines.{answer_of, answers, first_refused, StopsWriting, WritesAnswer, WritesBeginning};
 
 use crate::devices::Sink;
 use crate::stop::Stop;
 use crate::words::Job;
-use std::alloc::Allocator;
+use std::alloc::{AllocError, Allocator};
+use std::borrow::CowStr;
 
-/// Writes the answer to each line, in order, and a line feed behind each that had one.
+/// Writes the answer to each line, in order, and a line feed behind each that had one. It ends
+/// before the first line that is refused, and answers that line's number, counted from 1.
 ///
 /// The memory that one line's answer takes is given back before the next.
 pub fn write_lines<A: Allocator, W: Sink>(
@@ -16,41 +20,63 @@ pub fn write_lines<A: Allocator, W: Sink>(
     job: Job,
     text: &str,
     output: &mut W,
-) -> Result<(), Stop>
+) -> Result<Option<usize>, Stop>
     ensures done { OnOk result (W.taken output.new ≡ append_known (W.taken output.old) (answers job text.now)) }
+    ensures refused { IfOk result (λ line. line ≡ first_refused 1 job text.now) }
     ensures unfailed { OnOk result (W.failed output.new ≡ W.failed output.old) }
     ensures stopped { IfErr result (StopsWriting (W.failed output.old) (W.failed output.new)
         (WritesBeginning (W.taken output.old) (W.taken output.new) (answers job text.now))) }
 {
     let mut rest = text;
+    let mut number = 1;
     while let Some((line, more)) = rest.split_once('\n') {
-        write_answer(alloc, job, line, output)?;
+        if !write_answer(alloc, job, line, output)? {
+            return Ok(Some(number));
+        }
         output.write(b"\n")?;
         rest = more;
+        number += 1;
     }
-    if !rest.is_empty() {
-        write_answer(alloc, job, rest, output)?;
+    if rest.is_empty() {
+        return Ok(None);
     }
-    Ok(())
+    if write_answer(alloc, job, rest, output)? {
+        Ok(None)
+    } else {
+        Ok(Some(number))
+    }
 }
 
-// Writes the answer to a line's text, all of it or, for want of memory, nothing.
+// Writes the answer to a line's text, all of it or, for want of memory, nothing. It is false where
+// the line is refused, and then nothing is written.
 fn write_answer<A: Allocator, W: Sink>(
     alloc: &A,
     job: Job,
     line: &str,
     output: &mut W,
-) -> Result<(), Stop>
-    ensures done { OnOk result (W.taken output.new ≡ append_known (W.taken output.old) (answer_of job line.now)) }
+) -> Result<bool, Stop>
+    ensures done { IfOk result (λ answered. WritesAnswer (answer_of job line.now) answered (W.taken output.old) (W.taken output.new)) }
     ensures unfailed { OnOk result (W.failed output.new ≡ W.failed output.old) }
     ensures stopped { IfErr result (StopsWriting (W.failed output.old) (W.failed output.new)
         (W.taken output.new ≡ W.taken output.old)) }
 {
+    let Some(answer) = answer(alloc, job, line)? else {
+        return Ok(false);
+    };
+    output.write(answer.as_bytes())?;
+    Ok(true)
+}
+
+// What the job makes of a line's text, or `None` where the line is refused.
+fn answer<'t, A: Allocator>(
+    alloc: A,
+    job: Job,
+    line: &'t str,
+) -> Result<Option<CowStr<'t, A>>, AllocError>
+    ensures { IfOk result (λ found. option_map cow_str_bytes found ≡ answer_of job line.now) }
+{
     match job {
-        Job::Strip => {
-            let stripped = ansi_str::slice::strip_in(alloc, line)?;
-            output.write(stripped.as_bytes())?;
-        }
+        Job::Strip => Ok(Some(ansi_str::slice::strip_in(alloc, line)?)),
+        Job::Cut { start, end } => ansi_str::slice::get_in(alloc, line, start, end),
     }
-    Ok(())
 }

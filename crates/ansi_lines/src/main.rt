@@ -1,17 +1,19 @@
-//! Reads text and writes it without its sequences, line by line.
+//! Reads text and writes each line without its sequences, or a part of it in its style.
 #![tactic(auto)]
 
-ghost use Rattle.std.specs.Prelude.{◌≡◌, ◌≢◌, ◌⊎◌, false, true, IfErr, IfSome, IsErrOf, OnOk};
+ghost use Rattle.std.specs.Prelude.{◌≡◌, ◌≤◌, ◌⊎◌, false, true, IfSome, IsNone, IsSome};
 ghost use Rattle.std.specs.Io.KnownBytes.{append_known};
 ghost use Rattle.ansi_lines.specs.Lines.{WritesBeginning};
-ghost use Rattle.ansi_lines.specs.Reading.{IsBadInput, IsRead, IsUnfit};
-ghost use Rattle.ansi_lines.specs.Runs.{AreBadWords, MatchesWords, BeforeWriting, AreGoodWords, IsStatus, output_of, told, words_of};
+ghost use Rattle.ansi_lines.specs.Reading.{IsBadInput, IsUnfit};
+ghost use Rattle.ansi_lines.specs.Runs.{AreBadWords, AreGoodWords, output_of, refused_line, told, words_of};
+ghost use Rattle.ansi_lines.specs.Stops.{refusal};
 
 pub mod devices;
 pub mod host;
 pub mod lines;
 pub mod page;
 pub mod reading;
+mod runs;
 pub mod stop;
 #[cfg(test)]
 mod tests;
@@ -19,23 +21,24 @@ pub mod words;
 
 use devices::{Sink, Source};
 use host::{HostIn, HostOut};
-use lines::write_lines;
-use reading::read_text;
-use std::alloc::{Allocator, Global};
+use runs::run_in;
+use std::alloc::Global;
 use std::env;
 use std::io::BufWriter;
 use std::process::ExitCode;
 use stop::Stop;
-use words::parse;
 
 /// Does what the words ask for with each line of the input, and answers the status.
 ///
 /// The whole input is read first. Then each line is handled by itself, in order; a line feed ends
-/// it, isn't part of it, and is written after its answer. The output is flushed once, at the end.
+/// it, isn't part of it, and is written after its answer. A line that is refused ends the run: the
+/// lines before it are written, and nothing of it or after it. The output is flushed once: at the
+/// end, or before a refused line is told of.
 ///
 /// | status | when | text on the fault writer |
 /// |---|---|---|
 /// | 0 | done | none |
+/// | 1 | line N, counted from 1, is refused | `line N: refused\n` |
 /// | 2 | bad words; nothing is read | `bad words\n` |
 /// | 3 | the input is longer than `MAX_BYTES`, isn't UTF-8, or failed; nothing is written | `bad input\n` |
 /// | 4 | a write or a flush of the output failed | `write failed\n` |
@@ -58,12 +61,21 @@ pub fn run<S: Source, W: Sink, V: Sink>(
     output: &mut W,
     faults: &mut V,
 ) -> u8
-    ensures statuses { IsStatus result }
+    ensures statuses { result ≤ 5 }
 
     // All that the words make of the input is written and passed on.
     ensures done { result ≡ 0 → IfSome (S.left input.old) (λ bytes.
         W.taken output.new ≡ append_known (W.taken output.old) (output_of (words_of words.now) bytes)) }
     ensures passed { result ≡ 0 → W.passed output.new ≡ W.taken output.new }
+    ensures none_refused { result ≡ 0 → IfSome (S.left input.old) (λ bytes.
+        IsNone (refused_line (words_of words.now) bytes)) }
+
+    // Before a refused line is told of, all that comes of the lines before it is written and passed on.
+    ensures refused { result ≡ 1 → IfSome (S.left input.old) (λ bytes.
+        IsSome (refused_line (words_of words.now) bytes)) }
+    ensures done_before { result ≡ 1 → IfSome (S.left input.old) (λ bytes.
+        W.taken output.new ≡ append_known (W.taken output.old) (output_of (words_of words.now) bytes)) }
+    ensures passed_before { result ≡ 1 → W.passed output.new ≡ W.taken output.new }
 
     // Bad words are told of before anything is read or written.
     ensures bad_words { result ≡ 2 → AreBadWords (words_of words.now) }
@@ -90,97 +102,13 @@ pub fn run<S: Source, W: Sink, V: Sink>(
 
     // What ends a run early is told of, and nothing else.
     ensures quiet { result ≡ 0 → faults.new ≡ faults.old }
-    ensures told { result ≢ 0 → V.failed faults.new ≡ false →
+    ensures told { 2 ≤ result → V.failed faults.new ≡ false →
         V.taken faults.new ≡ append_known (V.taken faults.old) (told result) }
+    ensures told_line { result ≡ 1 → V.failed faults.new ≡ false → IfSome (S.left input.old) (λ bytes.
+        IfSome (refused_line (words_of words.now) bytes) (λ line.
+        V.taken faults.new ≡ append_known (V.taken faults.old) (refusal line))) }
 {
     run_in(alloc, words, input, output, faults)
-}
-
-/// The same in the memory of any allocator.
-pub(crate) fn run_in<A: Allocator, S: Source, W: Sink, V: Sink>(
-    alloc: A,
-    words: &[String],
-    input: &mut S,
-    output: &mut W,
-    faults: &mut V,
-) -> u8
-    ensures statuses { IsStatus result }
-
-    // All that the words make of the input is written and passed on.
-    ensures done { result ≡ 0 → IfSome (S.left input.old) (λ bytes.
-        W.taken output.new ≡ append_known (W.taken output.old) (output_of (words_of words.now) bytes)) }
-    ensures passed { result ≡ 0 → W.passed output.new ≡ W.taken output.new }
-
-    // Bad words are told of before anything is read or written.
-    ensures bad_words { result ≡ 2 → AreBadWords (words_of words.now) }
-    ensures only_bad_words { AreBadWords (words_of words.now) → (result ≡ 2) ⊎ (result ≡ 5) }
-    ensures nothing_read { AreBadWords (words_of words.now) → input.new ≡ input.old }
-    ensures nothing_written { AreBadWords (words_of words.now) → output.new ≡ output.old }
-
-    // A bad input is told of before anything is written.
-    ensures bad_input { result ≡ 3 → IsBadInput (S.left input.old) (S.interrupted input.new) (S.failed input.new) }
-    ensures good_words { result ≡ 3 → AreGoodWords (words_of words.now) }
-    ensures unwritten { result ≡ 3 → output.new ≡ output.old }
-    ensures unfit { AreGoodWords (words_of words.now) → IfSome (S.left input.old) (λ bytes.
-        IsUnfit bytes → (result ≡ 3) ⊎ (result ≡ 5)) }
-    ensures unread { AreGoodWords (words_of words.now) → S.failed input.old ≡ false →
-        S.failed input.new ≡ true → (result ≡ 3) ⊎ (result ≡ 5) }
-
-    // A failed write or flush is told of.
-    ensures write_failed { result ≡ 4 → W.failed output.new ≡ true }
-    ensures only_write_failed { W.failed output.old ≡ false → W.failed output.new ≡ true → result ≡ 4 }
-
-    // For want of memory a beginning is written.
-    ensures out_of_memory { result ≡ 5 → IfSome (S.left input.old) (λ bytes.
-        WritesBeginning (W.taken output.old) (W.taken output.new) (output_of (words_of words.now) bytes)) }
-
-    // What ends a run early is told of, and nothing else.
-    ensures quiet { result ≡ 0 → faults.new ≡ faults.old }
-    ensures told { result ≢ 0 → V.failed faults.new ≡ false →
-        V.taken faults.new ≡ append_known (V.taken faults.old) (told result) }
-{
-    match perform(&alloc, words, input, output) {
-        Ok(()) => 0,
-        Err(stop) => stop.tell(faults),
-    }
-}
-
-// Does what the words ask for, and tells nothing.
-fn perform<A: Allocator, S: Source, W: Sink>(
-    alloc: &A,
-    words: &[String],
-    input: &mut S,
-    output: &mut W,
-) -> Result<(), Stop>
-    ensures done { OnOk result (IfSome (S.left input.old) (λ bytes.
-        W.taken output.new ≡ append_known (W.taken output.old) (output_of (words_of words.now) bytes))) }
-    ensures passed { OnOk result (W.passed output.new ≡ W.taken output.new) }
-
-    // Bad words.
-    ensures good_words { OnOk result (AreGoodWords (words_of words.now)) }
-    ensures words { IfErr result (λ stop. MatchesWords stop (words_of words.now)) }
-    ensures nothing_read { IsErrOf result Stop.BadWords → input.new ≡ input.old }
-    ensures nothing_written { IfErr result (λ stop. BeforeWriting stop (output.new ≡ output.old)) }
-
-    // The input.
-    ensures read { OnOk result (IsRead (S.left input.old) (S.failed input.old) (S.failed input.new)) }
-    ensures read_before_writing { IsErrOf result Stop.WriteFailed →
-        IsRead (S.left input.old) (S.failed input.old) (S.failed input.new) }
-    ensures bad_input { IsErrOf result Stop.BadInput →
-        IsBadInput (S.left input.old) (S.interrupted input.new) (S.failed input.new) }
-
-    // The output.
-    ensures unfailed { OnOk result (W.failed output.new ≡ W.failed output.old) }
-    ensures write_failed { IsErrOf result Stop.WriteFailed → W.failed output.new ≡ true }
-    ensures out_of_memory { IsErrOf result Stop.OutOfMemory → IfSome (S.left input.old) (λ bytes.
-        WritesBeginning (W.taken output.old) (W.taken output.new) (output_of (words_of words.now) bytes)) }
-    ensures unfailed_without_memory { IsErrOf result Stop.OutOfMemory → W.failed output.new ≡ W.failed output.old }
-{
-    let job = parse(words).ok_or(Stop::BadWords)?;
-    let text = read_text(alloc, input)?;
-    write_lines(alloc, job, text.as_str(), output)?;
-    output.flush()?;
-    Ok(())
 }
 
 fn main(rt: HostRuntime) -> ExitCode {

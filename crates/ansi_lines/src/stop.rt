@@ -1,23 +1,26 @@
 //! Why a run ends early.
-ghost use Rattle.std.specs.Prelude.{◌≡◌, ◌||◌, false};
+ghost use Rattle.std.specs.Prelude.{◌≡◌, ◌||◌, true, false, OnErr, OnOk};
 ghost use Rattle.std.specs.Io.KnownBytes.{append_known};
 ghost use Rattle.ansi_lines.specs.declared.stop.Stop.TheVariants.{OutOfMemory, WriteFailed};
 ghost use Rattle.ansi_lines.specs.Stops.{status_of, text_of};
 
 use crate::devices::{Sink, WriteFault};
+use itoa::Buffer;
 use std::alloc::AllocError;
 
-/// What ends a run before it is done, with its status.
+/// What ends a run before it is done.
 #[derive(Clone, Copy, Debug, PartialEq, Eq)]
 pub enum Stop {
+    /// The line of this number, counted from 1, is refused.
+    Refused(usize),
     /// The words ask for nothing that can be done.
-    BadWords = 2,
+    BadWords,
     /// The input is too long or no text, or a read of it failed.
-    BadInput = 3,
+    BadInput,
     /// A write or a flush of the output failed.
-    WriteFailed = 4,
+    WriteFailed,
     /// Memory is wanting.
-    OutOfMemory = 5,
+    OutOfMemory,
 }
 
 impl Stop {
@@ -25,18 +28,12 @@ impl Stop {
     pub fn status(self) -> u8
         ensures { result ≡ status_of self }
     {
-        self as u8
-    }
-
-    /// The line that is told of it.
-    pub fn text(self) -> &'static str
-        ensures { result.now ≡ text_of self }
-    {
         match self {
-            Stop::BadWords => "bad words\n",
-            Stop::BadInput => "bad input\n",
-            Stop::WriteFailed => "write failed\n",
-            Stop::OutOfMemory => "out of memory\n",
+            Stop::Refused(_) => 1,
+            Stop::BadWords => 2,
+            Stop::BadInput => 3,
+            Stop::WriteFailed => 4,
+            Stop::OutOfMemory => 5,
         }
     }
 
@@ -46,8 +43,26 @@ impl Stop {
         ensures told { V.failed faults.new ≡ false →
             V.taken faults.new ≡ append_known (V.taken faults.old) (text_of self) }
     {
-        let _ = faults.write(self.text().as_bytes());
+        let _ = self.write_line(faults);
         self.status()
+    }
+
+    // Writes the line that is told of it.
+    fn write_line<V: Sink>(self, faults: &mut V) -> Result<(), WriteFault>
+        ensures told { OnOk result (V.taken faults.new ≡ append_known (V.taken faults.old) (text_of self)) }
+        ensures failed { OnErr result (V.failed faults.new ≡ true) }
+    {
+        match self {
+            Stop::Refused(line) => {
+                faults.write(b"line ")?;
+                faults.write(Buffer::new().format(line).as_bytes())?;
+                faults.write(b": refused\n")
+            }
+            Stop::BadWords => faults.write(b"bad words\n"),
+            Stop::BadInput => faults.write(b"bad input\n"),
+            Stop::WriteFailed => faults.write(b"write failed\n"),
+            Stop::OutOfMemory => faults.write(b"out of memory\n"),
+        }
     }
 }
 

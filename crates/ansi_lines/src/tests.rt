@@ -1,4 +1,5 @@
 //! Runs over pages: what a run writes, tells and answers, whatever its devices do.
+mod cuts;
 mod memory;
 
 use crate::page::{Outcome, Page};
@@ -120,16 +121,33 @@ fn each_line_is_stripped(rt: HostRuntime) -> Result<(), Fail> {
 
 #[test]
 fn bad_words_read_nothing(rt: HostRuntime) -> Result<(), Fail> {
-    let cases: [&[&str]; 9] = [
-        &["strip", "trim"],
+    let cases: [&[&str]; 26] = [
         &[],
-        &["cut:x:"],
-        &["cut:1:3"],
+        &["strip", "trim"],
         &["strip", "strip"],
+        &["strip", "cut:0:1"],
+        &["cut:0:1", "cut:0:1"],
         &["Strip"],
         &["strip "],
+        &["strip:"],
         &["--strip"],
         &[""],
+        &["cut"],
+        &["cut:1"],
+        &["cut::3"],
+        &["cut::"],
+        &["cut:x:"],
+        &["cut:1:x"],
+        &["cut:+1:"],
+        &["cut:1:+3"],
+        &["cut:-1:"],
+        &["cut:1:2:3"],
+        &["cut:1:2:"],
+        &["cut:1: 2"],
+        &[" cut:0:1"],
+        &["Cut:0:1"],
+        &["cut:18446744073709551616:"],
+        &["cut:0:18446744073709551616"],
     ];
     for words in cases {
         let planned = at_call(rt.alloc(), 0, Outcome::Failed)?;

@@ -1,5 +1,5 @@
 -- A text without ESC is its own plain text, and a plain text is one.
-use Rattle.std.proofs.Common.{◌≡◌, ◌≢◌, ℕ, true, false, List, [], ◌∷◌, refl, sym, ◌∙◌, ap, append-nil}
+use Rattle.std.proofs.Common.{◌≡◌, ◌≢◌, ℕ, ◌≤◌, true, false, List, [], ◌∷◌, length, refl, sym, ◌∙◌, ap, arith, append-nil, length-append}
 use Rattle.std.proofs.lemmas.Bool.{and_from, and_parts, or_parts, or_from, not-true, not_from_false}
 use Rattle.std.proofs.lemmas.List.Folds.{list_all-append}
 use Rattle.std.specs.Prelude.{◌==◌}
@@ -66,3 +66,15 @@ plain-plain t = plain-bare (plain t) (has_escape-plain t)
 
 pub is_whole-plain : (t : List ℕ) → is_whole (plain t) ≡ true
 is_whole-plain t = ap are_whole (pieces_of-bare (plain t) (has_escape-plain t)) ∙ are_whole-one_text (plain t)
+
+-- A plain text is no longer than its text.
+
+length-plain_of : (t : List ℕ) (ps : List Piece) → ArePieces t ps → length (plain_of ps) ≤ length t
+length-plain_of t [] are = omega arith
+length-plain_of t (Text w ∷ ps) are =
+    omega (arith, length-append w (plain_of ps), ap length are.1, length-append w are.0, length-plain_of are.0 ps are.3)
+length-plain_of t (Sequence w ∷ ps) are = omega (arith, ap length are.1, length-append w are.0, length-plain_of are.0 ps are.3)
+length-plain_of t (LoneEscape ∷ ps) are = omega (arith, ap length are.1, length-plain_of are.0 ps are.3)
+
+pub length-plain : (t : List ℕ) → length (plain t) ≤ length t
+length-plain t = length-plain_of t (pieces_of t) (pieces_are t)

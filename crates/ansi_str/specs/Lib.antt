@@ -2,5 +2,13 @@ pub mod Bytes
 pub mod Sequences
 pub mod Pieces
 pub mod Plain
+pub mod Rendition
+pub mod Sgr
+pub mod Written
+pub mod Styled
+pub mod Positions
+pub mod Ranges
+pub mod Cut
 pub mod Fronts
 pub mod Scans
+pub mod States

@@ -1,5 +1,5 @@
 -- The plain text of a text, its sequences at their places, and whole texts.
-use Rattle.std.specs.Prelude.{ℕ, ◌+◌, Bool, true, false, not, List, [], ◌∷◌, length, map, flat_map, filter_map, ◌==◌, Option, Some, None}
+use Rattle.std.specs.Prelude.{ℕ, ◌+◌, Bool, true, false, not, List, [], ◌∷◌, length, map, flat_map, filter, filter_map, nat_le, ◌==◌, Option, Some, None}
 use Rattle.std.specs.List.{list_all, list_any}
 use Rattle.ansi_str.specs.Bytes.{escape}
 use Rattle.ansi_str.specs.Pieces.{Piece, Text, Sequence, LoneEscape, pieces_of}
@@ -50,6 +50,14 @@ marks_of ps = filter_map (λ p. mark_of p.place p.piece) (places ps)
 -- the marks of t
 abbrev pub marks : List ℕ → List Mark
 marks t = marks_of (pieces_of t)
+
+-- the marks at places up to i
+abbrev pub up_to : ℕ → List Mark → List Mark
+up_to i ms = filter (λ m. nat_le m.place i) ms
+
+-- the bytes of marks in a row
+abbrev pub joined : List Mark → List ℕ
+joined ms = flat_map (λ m. m.bytes) ms
 
 -- the piece is a lone escape
 abbrev pub is_lone : Piece → Bool

@@ -5,6 +5,18 @@ pub(crate) use grammar::ESC;
 use grammar::first_front;
 use std::marker::Model;
 
+/// A color, as SGR codes write it.
+#[derive(Debug, Clone, Copy, PartialEq, Eq, PartialOrd, Ord, Hash)]
+pub enum AnsiColor {
+    /// One of sixteen colors, by the code that sets it: 30 to 37 or 90 to 97 for a foreground, 40 to
+    /// 47 or 100 to 107 for a background.
+    Bit4(u8),
+    /// One of 256 colors.
+    Bit8(u8),
+    /// A color by its red, green and blue.
+    Bit24 { r: u8, g: u8, b: u8 },
+}
+
 /// What an item is.
 #[derive(Debug, Clone, Copy, PartialEq, Eq)]
 pub enum Kind {

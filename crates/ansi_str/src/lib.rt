@@ -5,6 +5,8 @@
 
 pub mod ansitok;
 pub mod laws;
+mod search;
 pub mod slice;
+mod state;
 
-pub use slice::AnsiStr;
+pub use slice::{AnsiRange, AnsiStr};

@@ -6,6 +6,12 @@ pub mod refusing;
 pub use refusing::Refusing;
 
 #[cfg(test)]
+mod any_range;
+#[cfg(test)]
+mod cut;
+#[cfg(test)]
+mod get;
+#[cfg(test)]
 mod memory;
 #[cfg(test)]
 mod plain;

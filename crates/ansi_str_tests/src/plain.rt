@@ -1,8 +1,11 @@
 //! The definitions, computed slowly and plainly: a model to compare with.
 //!
 //! A sequence is found by trying each front of a text, as the definition of a lone escape has it.
+mod cut;
+mod style;
+
+use ansi_str::AnsiStr;
 use ansi_str::ansitok::{Item, Kind, Scanner};
-use ansi_str::slice::{AnsiStr, strip_in};
 use std::alloc::{AllocError, Global};
 use std::test::Fail;
 
@@ -83,31 +86,40 @@ fn items(alloc: Global, text: &str) -> Result<Vec<Item>, AllocError> {
     Ok(items)
 }
 
-/// The bytes of the items that are texts.
-fn plain(alloc: Global, text: &str, items: &[Item]) -> Result<Vec<u8>, AllocError> {
-    let mut plain = Vec::new(alloc);
+/// The bytes of an item.
+fn spelling<'t>(text: &'t str, item: &Item) -> &'t str {
+    text.get(item.start..item.end).unwrap_or("")
+}
+
+/// The items that are texts, joined.
+fn plain(alloc: Global, text: &str, items: &[Item]) -> Result<String, AllocError> {
+    let mut plain = String::new(alloc);
     for item in items {
-        if item.kind == Kind::Text
-            && let Some(bytes) = text.as_bytes().get(item.start..item.end)
-        {
-            plain.extend_from_slice(bytes)?;
+        if item.kind == Kind::Text {
+            plain.push_str(spelling(text, item))?;
         }
     }
     Ok(plain)
 }
 
 /// The characters that the texts are made of: at least one of each class.
-const CHARACTERS: [char; 12] = [
-    '\x1b', '[', ']', 'P', '\\', '\x07', '0', '!', 'm', 'G', '\x7f', 'é',
+const CHARACTERS: [&str; 12] = [
+    "\x1b", "[", "]", "P", "\\", "\x07", "0", "!", "m", "G", "\x7f", "é",
 ];
 
-/// The text of `len` characters whose places among all such texts is `number`.
-fn text_at(alloc: Global, number: usize, len: usize) -> Result<String, AllocError> {
+/// The text of `len` pieces whose place among all such texts is `number`.
+fn text_at(
+    alloc: Global,
+    pieces: &[&str],
+    number: usize,
+    len: usize,
+) -> Result<String, AllocError> {
     let mut text = String::new(alloc);
     let mut left = number;
     for _ in 0..len {
-        text.push(CHARACTERS[left % CHARACTERS.len()])?;
-        left /= CHARACTERS.len();
+        let piece = left.checked_rem(pieces.len()).and_then(|n| pieces.get(n));
+        text.push_str(piece.copied().unwrap_or(""))?;
+        left /= pieces.len().max(1);
     }
     Ok(text)
 }
@@ -123,13 +135,13 @@ fn short_texts_are_read_as_defined(rt: HostRuntime) -> Result<(), Fail> {
         (5, 248_832),
     ] {
         for number in 0..count {
-            let text = text_at(rt.alloc(), number, len)?;
+            let text = text_at(rt.alloc(), &CHARACTERS, number, len)?;
             let want = items(rt.alloc(), text.as_str())?;
             let got: Vec<Item> = Scanner::new(text.as_str()).collect(rt.alloc())?;
             assert_eq!(rt; got, want, "items of {text:?}");
             let want = plain(rt.alloc(), text.as_str(), want.as_slice())?;
             let got = text.ansi_strip(rt.alloc())?;
-            assert_eq!(rt; got.as_bytes(), want.as_slice(), "plain text of {text:?}");
+            assert_eq!(rt; got.as_str(), want.as_str(), "plain text of {text:?}");
             assert_eq!(rt;
                 text.ansi_has_any(),
                 text.as_bytes().contains(&ESC),

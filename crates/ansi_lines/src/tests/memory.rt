@@ -1,23 +1,33 @@
 //! Each request for memory that a run makes, refused in turn.
 use super::{STRIPPED, TEXT, page_of};
 use crate::page::Page;
-use crate::run_in;
+use crate::runs::run_in;
 use ansi_str_tests::Refusing;
+use std::alloc::{AllocError, Global};
+use std::process::Abort;
 use std::test::Fail;
 
 // More requests than a run makes.
 const MOST_REQUESTS: u64 = 100;
 
-#[test]
-fn each_refused_growth_is_told_of(rt: HostRuntime) -> Result<(), Fail> {
-    let mut words = Vec::new(rt.alloc());
-    words.push(String::from_str(rt.alloc(), "strip")?)?;
+// Refuses each request of a run in turn, until a run meets no refusal and ends as told.
+fn refuse_each(
+    rt: &impl Abort,
+    alloc: Global,
+    word: &str,
+    text: &str,
+    status: u8,
+    written: &str,
+    told: &str,
+) -> Result<(), AllocError> {
+    let mut words = Vec::new(alloc);
+    words.push(String::from_str(alloc, word)?)?;
     for granted in 0..MOST_REQUESTS {
-        let heap = Refusing::new(rt.alloc(), granted);
-        let mut input = page_of(rt.alloc(), TEXT.as_bytes())?;
-        let mut output = Page::with_room(rt.alloc(), 100)?;
-        let mut faults = Page::with_room(rt.alloc(), 100)?;
-        let status = run_in(
+        let heap = Refusing::new(alloc, granted);
+        let mut input = page_of(alloc, text.as_bytes())?;
+        let mut output = Page::with_room(alloc, 100)?;
+        let mut faults = Page::with_room(alloc, 100)?;
+        let ended = run_in(
             &heap,
             words.as_slice(),
             &mut input,
@@ -25,20 +35,24 @@ fn each_refused_growth_is_told_of(rt: HostRuntime) -> Result<(), Fail> {
             &mut faults,
         );
         if !heap.has_refused() {
-            assert_eq!(rt; status, 0, "5 in vain, with {granted} requests granted");
+            assert_eq!(rt; ended, status, "5 in vain, with {granted} requests granted");
             assert_eq!(rt;
                 output.bytes(),
-                STRIPPED.as_bytes(),
+                written.as_bytes(),
                 "output with no request refused"
             );
-            assert_eq!(rt; faults.bytes().len(), 0, "faults with no request refused");
+            assert_eq!(rt;
+                faults.bytes(),
+                told.as_bytes(),
+                "faults with no request refused"
+            );
             assert!(rt; 0 < granted, "a run takes memory");
             return Ok(());
         }
         assert_eq!(rt;
-            status,
+            ended,
             5,
-            "0 past a refusal, with {granted} requests granted"
+            "{ended} past a refusal, with {granted} requests granted"
         );
         assert_eq!(rt;
             faults.bytes(),
@@ -46,10 +60,34 @@ fn each_refused_growth_is_told_of(rt: HostRuntime) -> Result<(), Fail> {
             "faults with {granted} requests granted"
         );
         assert!(rt;
-            STRIPPED.as_bytes().starts_with(output.bytes()),
+            written.as_bytes().starts_with(output.bytes()),
             "no beginning is written with {granted} requests granted"
         );
     }
     assert!(rt; false, "every run met a refusal");
+    Ok(())
+}
+
+#[test]
+fn each_refused_growth_is_told_of(rt: HostRuntime) -> Result<(), Fail> {
+    for (word, text, status, written, told) in [
+        ("strip", TEXT, 0, STRIPPED, ""),
+        (
+            "cut:1:3",
+            "\x1b[30mTEXT\x1b[39m\n\x1b[30mTEXT\x1b[39m\n",
+            0,
+            "\x1b[30mEX\x1b[39m\n\x1b[30mEX\x1b[39m\n",
+            "",
+        ),
+        (
+            "cut:1:3",
+            "\x1b[30mTEXT\x1b[39m\né\n",
+            1,
+            "\x1b[30mEX\x1b[39m\n",
+            "line 2: refused\n",
+        ),
+    ] {
+        refuse_each(&rt, rt.alloc(), word, text, status, written, told)?;
+    }
     Ok(())
 }

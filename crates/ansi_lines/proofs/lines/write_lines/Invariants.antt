@@ -1,17 +1,19 @@
-use Rattle.std.proofs.Common.{◌≡◌, length}
+use Rattle.std.proofs.Common.{◌≡◌, ◌≤◌, ◌+◌, length}
 use denote.Text.{Utf8}
 use denote.Shadow.{shadow}
-use Rattle.ansi_lines.specs.Lines.{answers}
+use Rattle.ansi_lines.specs.Lines.{answers, first_refused}
 use Rattle.ansi_lines.proofs.Written.{HasWritten}
 use Rattle.ansi_lines.proofs.lines.write_lines.Given as goal
 
--- the answers so far are written, and those to the rest are to come
+-- the answers so far are written, those to the rest are to come, and no line so far is refused
 abbrev pub invariant-loop-line : goal.invariant-loop-line
 invariant-loop-line g l =
     let taken = g.W.Sink.taken in
     record {
       text : shadow (Utf8 l.rest);
       written : HasWritten (taken l.fn.output) (taken l.output) (answers l.job l.text) (answers l.job l.rest);
+      none_refused : first_refused 1 l.job l.text ≡ first_refused l.number l.job l.rest;
+      counted : l.number + length l.rest ≤ 1 + length l.text;
       unfailed : g.W.Sink.failed l.output ≡ g.W.Sink.failed l.fn.output;
     }
 

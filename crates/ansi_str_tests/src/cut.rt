@@ -1,0 +1,198 @@
+//! The cuts of worked texts.
+use crate::any_range::AnyRange::{
+    self, Range, RangeFrom, RangeFull, RangeInclusive, RangeTo, RangeToInclusive,
+};
+use ansi_str::AnsiStr;
+use std::alloc::Global;
+use std::borrow::CowStr;
+use std::process::Abort;
+use std::test::Fail;
+
+/// A text, a range, the cut, and whether that is a borrow.
+type Row = (&'static str, AnyRange, &'static str, bool);
+
+const ROWS: [Row; 28] = [
+    // Texts without ESC.
+    ("", RangeFull, "", true),
+    ("😀😃😄", RangeTo(4), "😀", true),
+    ("😀😃😄", Range(4, 12), "😃😄", true),
+    ("TEXT", RangeTo(50), "TEXT", true),
+    ("TEXT", Range(10, 50), "", true),
+    ("something", RangeInclusive(3, 5), "eth", true),
+    // One color.
+    (
+        "\x1b[30mTEXT\x1b[39m",
+        Range(1, 3),
+        "\x1b[30mEX\x1b[39m",
+        false,
+    ),
+    (
+        "\x1b[40mTEXT\x1b[49m",
+        Range(3, 3),
+        "\x1b[40m\x1b[49m",
+        false,
+    ),
+    ("\x1b[31m", RangeFull, "\x1b[31m\x1b[39m", false),
+    // Several sequences.
+    (
+        "\x1b[31;40mTEXT\x1b[0m",
+        Range(0, 0),
+        "\x1b[31;40m\x1b[39m\x1b[49m",
+        false,
+    ),
+    (
+        "\x1b[41m\x1b[30msomething\x1b[39m \x1b[34m123123\x1b[39m\x1b[49m",
+        Range(9, 12),
+        "\x1b[41m\x1b[30m\x1b[39m \x1b[34m12\x1b[39m\x1b[49m",
+        false,
+    ),
+    (
+        "zxc_\x1b[31;40mTEXT\x1b[0m_qwe",
+        RangeFrom(12),
+        "\x1b[31;40m\x1b[0m",
+        false,
+    ),
+    (
+        "zxc_\x1b[31;40mTEXT\x1b[0m_qwe",
+        Range(5, 10),
+        "\x1b[31;40mEXT\x1b[0m_q",
+        false,
+    ),
+    (
+        "zxc_\x1b[31;40mTEXT\x1b[0m_qwe",
+        RangeTo(5),
+        "zxc_\x1b[31;40mT\x1b[39m\x1b[49m",
+        false,
+    ),
+    (
+        "\x1b[30mTEXT\x1b[39m \x1b[31mTEXT\x1b[39m",
+        RangeFrom(2),
+        "\x1b[30mXT\x1b[39m \x1b[31mTEXT\x1b[39m",
+        false,
+    ),
+    (
+        "\x1b[30mTEXT\x1b[39m \x1b[31mTEXT\x1b[39m",
+        Range(2, 6),
+        "\x1b[30mXT\x1b[39m \x1b[31mT\x1b[39m",
+        false,
+    ),
+    (
+        "\x1b[31;40m🗻 on the 🌏\x1b[0m",
+        Range(0, 4),
+        "\x1b[31;40m🗻\x1b[39m\x1b[49m",
+        false,
+    ),
+    (
+        "\x1b[31;40m🗻 on the 🌏\x1b[0m",
+        RangeFrom(8),
+        "\x1b[31;40mthe 🌏\x1b[0m",
+        false,
+    ),
+    // The attributes `reset` and `unknown`.
+    ("\x1b[99ma,b", Range(0, 1), "\x1b[99ma\x1b[0m", false),
+    ("\x1b[0mab", Range(0, 1), "\x1b[0ma", false),
+    ("\x1b[mab", Range(0, 1), "\x1b[ma\x1b[0m", false),
+    // The longest close, of 88 bytes.
+    (
+        "\x1b[0;99;11;1;3;4;5;7;8;9;31;41;26;51;53;60;58;5;1;73mx",
+        Range(0, 0),
+        "\x1b[0;99;11;1;3;4;5;7;8;9;31;41;26;51;53;60;58;5;1;73m\x1b[0m\x1b[10m\x1b[22m\x1b[23m\x1b[24m\x1b[25m\x1b[27m\x1b[28m\x1b[29m\x1b[39m\x1b[49m\x1b[50m\x1b[54m\x1b[55m\x1b[65m\x1b[59m\x1b[75m\x1b[0m",
+        false,
+    ),
+    (
+        "\x1b[0;99;11;1;3;4;5;7;8;9;31;41;26;51;53;60;58;5;1;73mx",
+        RangeFull,
+        "\x1b[0;99;11;1;3;4;5;7;8;9;31;41;26;51;53;60;58;5;1;73mx\x1b[0m\x1b[10m\x1b[22m\x1b[23m\x1b[24m\x1b[25m\x1b[27m\x1b[28m\x1b[29m\x1b[39m\x1b[49m\x1b[50m\x1b[54m\x1b[55m\x1b[65m\x1b[59m\x1b[75m\x1b[0m",
+        false,
+    ),
+    // Italic and fraktur end alike.
+    (
+        "\x1b[20mab\x1b[23mc",
+        Range(0, 3),
+        "\x1b[20mab\x1b[23mc",
+        false,
+    ),
+    // An SGR with a private parameter byte.
+    (
+        "\x1b[>4;2mx",
+        RangeFull,
+        "\x1b[>4;2mx\x1b[22m\x1b[0m",
+        false,
+    ),
+    // Behind a lone escape.
+    ("\x1bé[m", RangeFrom(2), "\x1b[m", false),
+    // To a last position.
+    (
+        "\x1b[30mTEXT\x1b[39m",
+        RangeToInclusive(1),
+        "\x1b[30mTE\x1b[39m",
+        false,
+    ),
+    ("TEXT", RangeToInclusive(usize::MAX), "TEXT", true),
+];
+
+fn expect_cut(rt: &impl Abort, got: CowStr<'_>, row: &Row) {
+    let (text, range, cut, is_borrow) = row;
+    assert_eq!(rt; got.as_str(), *cut, "cut {range:?} of {text:?}");
+    let got_borrow = matches!(&got, CowStr::Borrowed(_));
+    assert_eq!(rt;
+        got_borrow,
+        *is_borrow,
+        "borrow of cut {range:?} of {text:?}"
+    );
+}
+
+fn expect_row(rt: &impl Abort, alloc: Global, row: &Row) -> Result<(), Fail> {
+    let (text, range, ..) = row;
+    expect_cut(rt, range.cut(rt, alloc, text)?, row);
+    let owned = String::from_str(alloc, text)?;
+    expect_cut(rt, range.cut(rt, alloc, &owned)?, row);
+    assert_eq!(rt; owned.as_str(), *text, "the caller's text");
+    Ok(())
+}
+
+#[test]
+fn cuts_are_given(rt: HostRuntime) -> Result<(), Fail> {
+    for row in &ROWS {
+        expect_row(&rt, rt.alloc(), row)?;
+    }
+    Ok(())
+}
+
+/// A text, a range, and the plain text of the cut.
+type StrippedRow = (&'static str, AnyRange, &'static str);
+
+const STRIPPED_ROWS: [StrippedRow; 2] = [
+    ("\x1b[31;40m🗻 on the 🌏\x1b[0m", Range(0, 4), "🗻"),
+    ("\x1b[31;40m🗻 on the 🌏\x1b[0m", RangeFrom(8), "the 🌏"),
+];
+
+#[test]
+fn cuts_are_stripped(rt: HostRuntime) -> Result<(), Fail> {
+    for (text, range, plain) in STRIPPED_ROWS {
+        let answer = range.cut(&rt, rt.alloc(), &text)?;
+        let cut = answer.as_str();
+        let got = cut.ansi_strip(rt.alloc())?;
+        assert_eq!(rt;
+            got.as_str(),
+            plain,
+            "plain text of cut {range:?} of {text:?}"
+        );
+    }
+    Ok(())
+}
+
+#[test]
+fn many_fields_are_read(rt: HostRuntime) -> Result<(), Fail> {
+    let mut sgr = String::from_str(rt.alloc(), "\x1b[")?;
+    for _ in 0..100_000 {
+        sgr.push_str("1;")?;
+    }
+    sgr.push_str("mx")?;
+    let mut want = sgr.clone()?;
+    // The last field is empty, an unknown code.
+    want.push_str("\x1b[22m\x1b[0m")?;
+    let got = Range(0, 1).cut(&rt, rt.alloc(), &sgr)?;
+    assert!(rt; got.as_str() == want.as_str(), "cut behind 100,000 fields");
+    Ok(())
+}

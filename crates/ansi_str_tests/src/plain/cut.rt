@@ -1,0 +1,224 @@
+//! Cuts, byte by byte of a text, compared with those of the library.
+use super::style::NamedStyle;
+use super::{items, plain, spelling, text_at};
+use crate::any_range::AnyRange;
+use ansi_str::ansitok::{Item, Kind};
+use std::alloc::{AllocError, Global};
+use std::process::Abort;
+use std::test::Fail;
+
+/// Whether a plain text may be cut at the position.
+fn is_good_position(plain: &str, position: usize) -> bool {
+    position >= plain.len() || plain.is_char_boundary(position)
+}
+
+/// Whether a plain text may be cut at both ends of a range.
+fn is_good_range(plain: &str, start: usize, end: usize) -> bool {
+    start <= end && is_good_position(plain, start) && is_good_position(plain, end)
+}
+
+/// The items of a text up to an end: its texts, and the sequences placed at or before the end.
+fn kept_items(alloc: Global, items: &[Item], end: usize) -> Result<Vec<Item>, AllocError> {
+    let mut kept = Vec::new(alloc);
+    let mut place = 0usize;
+    for item in items {
+        if item.kind == Kind::Text {
+            place = place.saturating_add(item.end.saturating_sub(item.start));
+            kept.push(*item)?;
+        } else if place <= end {
+            kept.push(*item)?;
+        }
+    }
+    Ok(kept)
+}
+
+/// The bytes of the sequences among the items, and the plain bytes between two positions.
+fn kept_bytes(
+    alloc: Global,
+    text: &str,
+    items: &[Item],
+    start: usize,
+    end: usize,
+) -> Result<Vec<u8>, AllocError> {
+    let mut kept = Vec::with_capacity(alloc, text.len())?;
+    let mut position = 0usize;
+    for item in items {
+        for byte in spelling(text, item).as_bytes() {
+            if item.kind != Kind::Text {
+                kept.push(*byte)?;
+                continue;
+            }
+            if start <= position && position < end {
+                kept.push(*byte)?;
+            }
+            position = position.saturating_add(1);
+        }
+    }
+    Ok(kept)
+}
+
+/// The close of the style after the SGRs among the items.
+fn close_after(alloc: Global, text: &str, items: &[Item]) -> Result<String, AllocError> {
+    let mut style = NamedStyle::new(alloc);
+    for item in items {
+        if item.kind == Kind::Sgr {
+            let sgr = spelling(text, item);
+            style.apply(alloc, sgr.trim_start_matches("\x1b[").trim_end_matches("m"))?;
+        }
+    }
+    style.close(alloc)
+}
+
+const STARTS: [usize; 6] = [0, 1, 2, 3, 4, usize::MAX];
+
+const ENDS: [Option<usize>; 7] = [
+    Some(0),
+    Some(1),
+    Some(2),
+    Some(3),
+    Some(4),
+    Some(usize::MAX),
+    None,
+];
+
+/// Compares the ranges of a text that have this end.
+fn expect_cuts_to(
+    rt: &impl Abort,
+    alloc: Global,
+    text: &str,
+    items: &[Item],
+    plain: &str,
+    end: Option<usize>,
+) -> Result<(), Fail> {
+    let last = end.unwrap_or(usize::MAX);
+    let kept = kept_items(alloc, items, last)?;
+    let close = close_after(alloc, text, kept.as_slice())?;
+    for start in STARTS {
+        let range = match end {
+            Some(end) => AnyRange::Range(start, end),
+            None => AnyRange::RangeFrom(start),
+        };
+        let got = range.get(alloc, &text)?;
+        if is_good_range(plain, start, last) {
+            let mut want = kept_bytes(alloc, text, kept.as_slice(), start, last)?;
+            want.extend_from_slice(close.as_bytes())?;
+            let got = got.as_ref().map(|cut| cut.as_bytes());
+            assert_eq!(rt; got, Some(want.as_slice()), "{range:?} of {text:?}");
+        } else {
+            assert!(rt; got.is_none(), "{range:?} of {text:?}");
+        }
+    }
+    Ok(())
+}
+
+/// Compares the ranges of a text.
+fn expect_cuts(rt: &impl Abort, alloc: Global, text: &str) -> Result<(), Fail> {
+    let items = items(alloc, text)?;
+    let plain = plain(alloc, text, items.as_slice())?;
+    for end in ENDS {
+        expect_cuts_to(rt, alloc, text, items.as_slice(), plain.as_str(), end)?;
+    }
+    Ok(())
+}
+
+/// The pieces that the texts are made of.
+const PIECES: [&str; 21] = [
+    "\x1b[1m",
+    "\x1b[22m",
+    "\x1b[31m",
+    "\x1b[0m",
+    "\x1b[99m",
+    "\x1b[m",
+    "\x1b[38;5;3m",
+    "\x1b[38;2;1;2;300m",
+    "\x1b[48;7;1m",
+    "\x1b[58;5;1;4m",
+    "\x1b[11m",
+    "\x1b[20m",
+    "\x1b[23m",
+    "\x1b[0;99m",
+    "\x1b(B",
+    "\x1b]0;t\x07",
+    "\x1b",
+    "a",
+    "bc",
+    "é",
+    " ",
+];
+
+/// Compares the ranges of each text of so many pieces.
+fn expect_cuts_of_pieces(
+    rt: &impl Abort,
+    alloc: Global,
+    len: usize,
+    count: usize,
+) -> Result<(), Fail> {
+    for number in 0..count {
+        let text = text_at(alloc, &PIECES, number, len)?;
+        expect_cuts(rt, alloc, text.as_str())?;
+    }
+    Ok(())
+}
+
+#[test]
+fn short_texts_are_cut_as_defined(rt: HostRuntime) -> Result<(), Fail> {
+    for (len, count) in [(0, 1), (1, 21), (2, 441), (3, 9_261)] {
+        expect_cuts_of_pieces(&rt, rt.alloc(), len, count)?;
+    }
+    Ok(())
+}
+
+#[test]
+fn texts_of_four_pieces_are_cut_as_defined(rt: HostRuntime) -> Result<(), Fail> {
+    expect_cuts_of_pieces(&rt, rt.alloc(), 4, 194_481)
+}
+
+/// Compares the whole of a text of sequences.
+fn expect_closed(rt: &impl Abort, alloc: Global, text: &str) -> Result<(), Fail> {
+    let items = items(alloc, text)?;
+    let close = close_after(alloc, text, items.as_slice())?;
+    let got = AnyRange::RangeFull.get(alloc, &text)?;
+    let got = got.as_ref().and_then(|cut| cut.as_str().strip_prefix(text));
+    assert_eq!(rt; got, Some(close.as_str()), "close of {text:?}");
+    Ok(())
+}
+
+#[test]
+fn codes_are_closed_as_defined(rt: HostRuntime) -> Result<(), Fail> {
+    for first in 0..=110 {
+        let text = format!(in rt.alloc(); "\x1b[{first}m")?;
+        expect_closed(&rt, rt.alloc(), text.as_str())?;
+        for second in 0..=110 {
+            let text = format!(in rt.alloc(); "\x1b[{first};{second}m")?;
+            expect_closed(&rt, rt.alloc(), text.as_str())?;
+        }
+    }
+    Ok(())
+}
+
+/// Fields that are no code, though they resemble one.
+const ODD_FIELDS: [&str; 10] = [
+    "",
+    "00",
+    "01",
+    "022",
+    "256",
+    "257",
+    "65537",
+    "18446744073709551617",
+    "38:5:1",
+    "?1",
+];
+
+#[test]
+fn odd_fields_are_read_as_defined(rt: HostRuntime) -> Result<(), Fail> {
+    for field in ODD_FIELDS {
+        for front in ["", "1;", "0;", "38;", "48;2;", "58;5;", "38;2;1;2;"] {
+            let text = format!(in rt.alloc(); "\x1b[{front}{field};4;5;3m")?;
+            expect_closed(&rt, rt.alloc(), text.as_str())?;
+            let text = format!(in rt.alloc(); "\x1b[{front}{field}m")?;
+            expect_closed(&rt, rt.alloc(), text.as_str())?;
+        }
+    }
+    Ok(())
+}
