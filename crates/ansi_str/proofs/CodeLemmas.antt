@@ -9,12 +9,12 @@ use Rattle.ansi_str.specs.declared.ansitok.AnsiColor.TheVariants.{Bit4}
 use Rattle.ansi_str.specs.Sgr.{Changes, Rows, table, effect_of_code, unknown_code}
 
 -- P holds of count numbers from first on
-abbrev HoldsFrom : (ℕ → Type 0) → ℕ → ℕ → Type 0
+abbrev pub HoldsFrom : (ℕ → Type 0) → ℕ → ℕ → Type 0
 HoldsFrom P first zero = Unit {0}
 HoldsFrom P first (suc count) = P first × HoldsFrom P (suc first) count
 
 -- so it holds of each of them
-holds_in_range : (P : ℕ → Type 0) (count first n : ℕ) → HoldsFrom P first count → first ≤ n → n < first + count → P n
+pub holds_in_range : (P : ℕ → Type 0) (count first n : ℕ) → HoldsFrom P first count → first ≤ n → n < first + count → P n
 holds_in_range P zero first n all low high = absurd (omega arith)
 holds_in_range P (suc count) first n all low high = elim (cases_eq n first) [
   | inl same ↦ subst P (sym same) all.0

@@ -6,12 +6,13 @@ use Rattle.ansi_str.specs.Bytes.{escape}
 use Rattle.ansi_str.specs.Pieces.{Piece, Text, Sequence, LoneEscape, pieces_of}
 use Rattle.ansi_str.specs.Plain.{plain_of, plain, Mark, marks_of, up_to, has_escape}
 use Rattle.ansi_str.specs.Rendition.{Rendition, plain_style}
-use Rattle.ansi_str.specs.Sgr.{apply, apply_all}
+use Rattle.ansi_str.specs.Sgr.{apply}
 use Rattle.ansi_str.specs.Written.{close}
+use Rattle.ansi_str.specs.Reading.{after_marks}
 use Rattle.ansi_str.specs.Cut.{show, cut_up_to, cut}
 use Rattle.ansi_str.proofs.SliceLemmas.{slice_range-none, slice_range-past}
 use Rattle.ansi_str.proofs.PlainLemmas.{one_text, pieces_of-bare, plain-bare, length-plain}
-use Rattle.ansi_str.proofs.MarkLemmas.{further, marks_of-text, marks_of-sequence, marks_of-lone, up_to-none, up_to-further, up_to-here}
+use Rattle.ansi_str.proofs.MarkLemmas.{further, marks_of-text, marks_of-sequence, marks_of-lone, up_to-none, up_to-further, up_to-here, after_marks-further}
 use Rattle.ansi_str.proofs.ShowLemmas.{show-nil, show-bare, show-text, show-mark}
 
 -- The cut of the pieces that are left, where `style` has been reached: s plain bytes are still to be passed over, and the end is e plain bytes away. It is over where a text goes on past the end.
@@ -32,19 +33,9 @@ cut_from-text style s e w ps within =
 
 -- The definition of a cut, of any pieces and from any style.
 
-abbrev style_after : Rendition → List Mark → Rendition
-style_after style ms = apply_all style (map (λ (m : Mark). m.bytes) ms)
-
-style_after-further : (style : Rendition) (n : ℕ) (ms : List Mark) → style_after style (map (further n) ms) ≡ style_after style ms
-style_after-further style n ms = ap (apply_all style) (bytes-further ms)
-  where
-    bytes-further : (ms : List Mark) → map (λ (m : Mark). m.bytes) (map (further n) ms) ≡ map (λ (m : Mark). m.bytes) ms
-    bytes-further [] = refl
-    bytes-further (m ∷ ms) = ap (λ ws. m.bytes ∷ ws) (bytes-further ms)
-
 -- what is shown of the plain text x with these marks, and the close of the style behind them
 abbrev closed : Rendition → List ℕ → ℕ → ℕ → List Mark → List ℕ
-closed style x s e ms = show x s e ms ++ close (style_after style ms)
+closed style x s e ms = show x s e ms ++ close (after_marks style ms)
 
 closed-last : (style : Rendition) (w x : List ℕ) (s e : ℕ) → e < length w → closed style (w ++ x) s e [] ≡ slice_range w s e ++ close style
 closed-last style w x s e last =
@@ -53,13 +44,13 @@ closed-last style w x s e last =
 
 closed-text : (style : Rendition) (w x : List ℕ) (s e : ℕ) (ms : List Mark) → closed style (w ++ x) s e (map (further (length w)) ms) ≡ slice_range w s e ++ closed style x (s - length w) (e - length w) ms
 closed-text style w x s e ms =
-    ap₂ (λ u r. u ++ close r) (show-text w x s e ms) (style_after-further style (length w) ms)
-    ∙ append_assoc (slice_range w s e) (show x (s - length w) (e - length w) ms) (close (style_after style ms))
+    ap₂ (λ u r. u ++ close r) (show-text w x s e ms) (after_marks-further style (length w) ms)
+    ∙ append_assoc (slice_range w s e) (show x (s - length w) (e - length w) ms) (close (after_marks style ms))
 
 closed-mark : (style : Rendition) (w x : List ℕ) (s e : ℕ) (ms : List Mark) → closed style x s e (record { place = 0; bytes = w } ∷ ms) ≡ w ++ closed (apply style w) x s e ms
 closed-mark style w x s e ms =
-    ap (λ u. u ++ close (style_after (apply style w) ms)) (show-mark w x s e ms)
-    ∙ append_assoc w (show x s e ms) (close (style_after (apply style w) ms))
+    ap (λ u. u ++ close (after_marks (apply style w) ms)) (show-mark w x s e ms)
+    ∙ append_assoc w (show x s e ms) (close (after_marks (apply style w) ms))
 
 closed-walk : (ps : List Piece) (style : Rendition) (s e : ℕ) → closed style (plain_of ps) s e (up_to e (marks_of ps)) ≡ cut_from style s e ps
 closed-walk [] style s e = ap (λ v. v ++ close style) (show-nil s e)

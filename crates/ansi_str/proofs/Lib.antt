@@ -14,6 +14,25 @@ pub mod ShowLemmas
 pub mod PositionLemmas
 pub mod CutLemmas
 pub mod CutWalkLemmas
+pub mod WalkLemmas
+pub mod SideLemmas
+pub mod SideWalkLemmas
+pub mod SgrLemmas
+pub mod StyleLemmas
+pub mod JoinLemmas
+pub mod StyledLemmas
+pub mod SpelledLemmas
+pub mod ColorLemmas
+pub mod ReadBackLemmas
+pub mod StartLemmas
+pub mod CloseLemmas
+pub mod ShownLemmas
+pub mod CutSliceLemmas
+pub mod SideSliceLemmas
+pub mod ChangeLemmas
+pub mod LengthLemmas
 mod Examples
 mod StyleExamples
 mod CutExamples
+mod SideExamples
+mod LawExamples

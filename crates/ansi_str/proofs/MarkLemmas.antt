@@ -4,7 +4,10 @@ use Rattle.std.proofs.lemmas.Bool.{le-leb, lt-leb}
 use Rattle.std.proofs.lemmas.Bool.Decides.{nat_tests}
 use Rattle.ansi_str.specs.Bytes.{escape}
 use Rattle.ansi_str.specs.Pieces.{Piece, Text, Sequence, LoneEscape}
-use Rattle.ansi_str.specs.Plain.{Placed, moved, places, Mark, mark_of, marks_of, up_to}
+use Rattle.ansi_str.specs.Plain.{Mark, Placed, mark_of, moved, marks_of, places, up_to}
+use Rattle.ansi_str.specs.Rendition.{Rendition}
+use Rattle.ansi_str.specs.Sgr.{apply_all, apply}
+use Rattle.ansi_str.specs.Reading.{after_marks}
 
 -- n plain bytes more stand before the mark
 abbrev pub further : ℕ → Mark → Mark
@@ -62,3 +65,38 @@ pub up_to-here : (e : ℕ) (w : List ℕ) (ms : List Mark) → up_to e (record {
 up_to-here e w ms =
     let here : nat_le 0 e ≡ true = le-leb 0 e (omega arith) in
     ap (λ b. if b then record { place = 0; bytes = w } ∷ up_to e ms else up_to e ms) here
+
+-- The style after marks, wherever they stand.
+
+bytes-further : (n : ℕ) (ms : List Mark) → map (λ (m : Mark). m.bytes) (map (further n) ms) ≡ map (λ (m : Mark). m.bytes) ms
+bytes-further n [] = refl
+bytes-further n (m ∷ ms) = ap (λ ws. m.bytes ∷ ws) (bytes-further n ms)
+
+pub after_marks-further : (s : Rendition) (n : ℕ) (ms : List Mark) → after_marks s (map (further n) ms) ≡ after_marks s ms
+after_marks-further s n ms = ap (apply_all s) (bytes-further n ms)
+
+-- The style at a place, by the marks of pieces.
+
+abbrev pub style_by_marks : Rendition → List Piece → ℕ → Rendition
+style_by_marks s ps i = after_marks s (up_to i (marks_of ps))
+
+pub style_by_marks-before : (s : Rendition) (w : List ℕ) (ps : List Piece) (i : ℕ) → i < length w → style_by_marks s (Text w ∷ ps) i ≡ s
+style_by_marks-before s w ps i below =
+    ap (λ ms. after_marks s (up_to i ms)) (marks_of-text w ps) ∙ ap (after_marks s) (up_to-none i (length w) (marks_of ps) below)
+
+pub style_by_marks-text : (s : Rendition) (w : List ℕ) (ps : List Piece) (i : ℕ) → style_by_marks s (Text w ∷ ps) (length w + i) ≡ style_by_marks s ps i
+style_by_marks-text s w ps i =
+    let n = length w in
+    let left : n + i - n ≡ i = omega arith in
+    ap (λ ms. after_marks s (up_to (n + i) ms)) (marks_of-text w ps)
+    ∙ ap (after_marks s) (up_to-further (n + i) n (marks_of ps) (omega arith))
+    ∙ after_marks-further s n (up_to (n + i - n) (marks_of ps))
+    ∙ ap (style_by_marks s ps) left
+
+pub style_by_marks-sequence : (s : Rendition) (w : List ℕ) (ps : List Piece) (i : ℕ) → style_by_marks s (Sequence w ∷ ps) i ≡ style_by_marks (apply s w) ps i
+style_by_marks-sequence s w ps i =
+    ap (λ ms. after_marks s (up_to i ms)) (marks_of-sequence w ps) ∙ ap (after_marks s) (up_to-here i w (marks_of ps))
+
+pub style_by_marks-lone : (s : Rendition) (ps : List Piece) (i : ℕ) → style_by_marks s (LoneEscape ∷ ps) i ≡ style_by_marks s ps i
+style_by_marks-lone s ps i =
+    ap (λ ms. after_marks s (up_to i ms)) (marks_of-lone ps) ∙ ap (after_marks s) (up_to-here i (escape ∷ []) (marks_of ps))

@@ -6,9 +6,12 @@ pub mod Rendition
 pub mod Sgr
 pub mod Written
 pub mod Styled
+pub mod Reading
 pub mod Positions
 pub mod Ranges
 pub mod Cut
+pub mod Sides
+pub mod Changes
 pub mod Fronts
 pub mod Scans
 pub mod States

@@ -59,6 +59,12 @@ up_to i ms = filter (λ m. nat_le m.place i) ms
 abbrev pub joined : List Mark → List ℕ
 joined ms = flat_map (λ m. m.bytes) ms
 
+-- the piece is a text
+abbrev pub is_text : Piece → Bool
+is_text (Text w) = true
+is_text (Sequence w) = false
+is_text LoneEscape = false
+
 -- the piece is a lone escape
 abbrev pub is_lone : Piece → Bool
 is_lone (Text w) = false

@@ -4,9 +4,11 @@
 #![tactic(auto)]
 
 pub mod ansitok;
+mod edits;
 pub mod laws;
 mod search;
 pub mod slice;
 mod state;
 
+pub use edits::ansi_is_whole;
 pub use slice::{AnsiRange, AnsiStr};

@@ -2,15 +2,18 @@
 ghost use Rattle.std.specs.Prelude.{◌≡◌, ◌↔◌, ◌⊎◌, ℕ, List, IsTrue, IsFalse, IsNone, IsOk, IfOk, IfSome, string_bytes};
 ghost use Rattle.std.specs.Cow.{cow_str_bytes, IsBorrowedStr};
 ghost use Rattle.ansi_str.specs.Plain.{plain, has_escape};
-ghost use Rattle.ansi_str.specs.Positions.{is_good_range};
+ghost use Rattle.ansi_str.specs.Positions.{is_good_position, is_good_range};
 ghost use Rattle.ansi_str.specs.Cut.{cut};
+ghost use Rattle.ansi_str.specs.Sides.{left_side, right_side};
 
 mod cuts;
 mod range;
+mod sides;
 
 use crate::ansitok::{ESC, Kind, Scanner};
 pub use cuts::{cut_in, get_in};
 pub use range::AnsiRange;
+pub use sides::split_at_in;
 use std::alloc::{AllocError, Allocator, Global};
 use std::borrow::CowStr;
 
@@ -62,6 +65,33 @@ pub trait AnsiStr {
         ensures borrowed { IfOk result (λ c. IsBorrowedStr c ↔ IsFalse (has_escape (text self.now))) }
         ensures takes_no_memory { IsFalse (has_escape (text self.now)) → IsOk result };
 
+    /// The text before a position and the text from there on, each character in its style.
+    ///
+    /// On each side every run of text stands between the start of its style and the close, so the
+    /// SGRs themselves aren't copied and nothing is left open. Any other sequence, and a lone
+    /// escape, goes left where it stands at or before the position, else right. The position counts
+    /// bytes of the plain text. It has to be a character boundary of it, or lie past its end, which
+    /// counts as the end.
+    ///
+    /// Both sides are borrows where no ESC stands in the text, and then no memory is taken. Else
+    /// both are owned, an empty one too. `Err` means that memory is wanting. (The Rust crate.)
+    ///
+    /// ```
+    /// let (left, right) = "\x1b[30mTEXT\x1b[39m".ansi_split_at(alloc, 2)?;
+    /// assert_eq!((left, right), ("\x1b[30mTE\x1b[39m", "\x1b[30mXT\x1b[39m"));
+    /// ```
+    fn ansi_split_at(
+        &self,
+        alloc: Global,
+        mid: usize,
+    ) -> Result<(CowStr<'_>, CowStr<'_>), AllocError>
+        requires { IsTrue (is_good_position (plain (text self.now)) mid) }
+        ensures left { IfOk result (λ c. cow_str_bytes c.0 ≡ left_side (text self.now) mid) }
+        ensures right { IfOk result (λ c. cow_str_bytes c.1 ≡ right_side (text self.now) mid) }
+        ensures borrowed { IfOk result (λ c. (IsBorrowedStr c.0 ↔ IsFalse (has_escape (text self.now)))
+            × (IsBorrowedStr c.1 ↔ IsFalse (has_escape (text self.now)))) }
+        ensures takes_no_memory { IsFalse (has_escape (text self.now)) → IsOk result };
+
     /// The plain text: the text without its sequences and lone escapes.
     ///
     /// It is a borrow of the whole text where no ESC stands in that, and then no memory is taken.
@@ -100,6 +130,14 @@ impl AnsiStr for &str {
         cut_in(alloc, self, range.start(), range.end())
     }
 
+    fn ansi_split_at(
+        &self,
+        alloc: Global,
+        mid: usize,
+    ) -> Result<(CowStr<'_>, CowStr<'_>), AllocError> {
+        split_at_in(alloc, self, mid)
+    }
+
     fn ansi_strip(&self, alloc: Global) -> Result<CowStr<'_>, AllocError> {
         strip_in(alloc, self)
     }
@@ -122,6 +160,14 @@ impl AnsiStr for String {
 
     fn ansi_cut<R: AnsiRange>(&self, alloc: Global, range: R) -> Result<CowStr<'_>, AllocError> {
         cut_in(alloc, self.as_str(), range.start(), range.end())
+    }
+
+    fn ansi_split_at(
+        &self,
+        alloc: Global,
+        mid: usize,
+    ) -> Result<(CowStr<'_>, CowStr<'_>), AllocError> {
+        split_at_in(alloc, self.as_str(), mid)
     }
 
     fn ansi_strip(&self, alloc: Global) -> Result<CowStr<'_>, AllocError> {

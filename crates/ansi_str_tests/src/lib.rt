@@ -18,4 +18,8 @@ mod plain;
 #[cfg(test)]
 mod scanner;
 #[cfg(test)]
+mod split_at;
+#[cfg(test)]
 mod strip;
+#[cfg(test)]
+mod whole;

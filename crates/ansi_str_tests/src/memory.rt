@@ -1,6 +1,7 @@
 //! Each request for memory of a call refused in turn.
 use crate::Refusing;
-use ansi_str::slice::{cut_in, get_in, strip_in};
+use crate::split_at::is_good;
+use ansi_str::slice::{cut_in, get_in, split_at_in, strip_in};
 use std::alloc::{AllocError, Global};
 use std::borrow::CowStr;
 use std::process::Abort;
@@ -104,36 +105,86 @@ fn is_err(rt: &impl Abort, alloc: Global, heap: &Refusing<Global>, text: &str, r
     }
 }
 
-/// Grants a call more and more requests, till it meets no refusal.
-fn expect_each_refusal(rt: &impl Abort, alloc: Global, row: &Row) -> Result<(), Fail> {
-    let (text, call, _, takes_memory) = row;
-    let owned = String::from_str(alloc, text)?;
+/// Grants a call more and more requests, till it meets no refusal. `is_err` makes the call, and
+/// tells whether it answered an `Err`.
+fn expect_each_refusal<IsErr: Fn(&Refusing<Global>) -> bool>(
+    rt: &impl Abort,
+    alloc: Global,
+    takes_memory: bool,
+    is_err: IsErr,
+)
+    requires { IsErr.IsAlwaysCallable is_err }
+{
     for granted in 0..100u64 {
         let heap = Refusing::new(alloc, granted);
-        let is_refused = is_err(rt, alloc, &heap, owned.as_str(), row);
-        assert_eq!(rt;
-            is_refused,
-            heap.has_refused(),
-            "{granted} granted to {call:?} of {text:?}"
-        );
-        assert_eq!(rt; owned.as_str(), *text, "the caller's text");
+        let is_refused = is_err(&heap);
+        assert_eq!(rt; is_refused, heap.has_refused(), "{granted} granted");
         if !is_refused {
-            assert_eq!(rt;
-                granted > 0,
-                *takes_memory,
-                "memory of {call:?} of {text:?}"
-            );
-            return Ok(());
+            assert_eq!(rt; granted > 0, takes_memory, "whether memory is taken");
+            return;
         }
     }
-    assert!(rt; false, "each run of {call:?} of {text:?} was refused");
-    Ok(())
+    assert!(rt; false, "each run was refused");
 }
 
 #[test]
 fn calls_meet_each_refusal(rt: HostRuntime) -> Result<(), Fail> {
     for row in &ROWS {
-        expect_each_refusal(&rt, rt.alloc(), row)?;
+        let (text, _, _, takes_memory) = row;
+        let owned = String::from_str(rt.alloc(), text)?;
+        expect_each_refusal(&rt, rt.alloc(), *takes_memory, |heap| {
+            is_err(&rt, rt.alloc(), heap, owned.as_str(), row)
+        });
+        assert_eq!(rt; owned.as_str(), *text, "the caller's text");
+    }
+    Ok(())
+}
+
+/// A text, a position, the two sides there, and whether they take memory.
+type SplitRow = (&'static str, usize, &'static str, &'static str, bool);
+
+const SPLIT_ROWS: [SplitRow; 4] = [
+    ("no sequence", 3, "no ", "sequence", false),
+    ("\x1b[31m", 0, "", "", false),
+    ("a\x1b]0;t\x07b", 1, "a\x1b]0;t\x07", "b", true),
+    (
+        "\x1b[48;2;023;011;100m\x1b[31mHello\x1b[39m\x1b[49m \x1b[32;43mWorld\x1b[0m",
+        6,
+        "\x1b[31m\x1b[48;2;23;11;100mHello\x1b[39m\x1b[49m ",
+        "\x1b[32m\x1b[43mWorld\x1b[39m\x1b[49m",
+        true,
+    ),
+];
+
+/// Whether the call answers an `Err`; where it doesn't, the answer has to be the two sides.
+fn split_at_is_err(
+    rt: &impl Abort,
+    alloc: Global,
+    heap: &Refusing<Global>,
+    text: &str,
+    row: SplitRow,
+) -> bool {
+    let (_, mid, left, right, _) = row;
+    assert!(rt; is_good(alloc, &text, mid), "{mid} is good in {text:?}");
+    match split_at_in(heap, text, mid) {
+        Err(_) => true,
+        Ok((got_left, got_right)) => {
+            assert_eq!(rt; got_left.as_str(), left, "left side");
+            assert_eq!(rt; got_right.as_str(), right, "right side");
+            false
+        }
+    }
+}
+
+#[test]
+fn split_at_meets_each_refusal(rt: HostRuntime) -> Result<(), Fail> {
+    for row in SPLIT_ROWS {
+        let (text, _, _, _, takes_memory) = row;
+        let owned = String::from_str(rt.alloc(), text)?;
+        expect_each_refusal(&rt, rt.alloc(), takes_memory, |heap| {
+            split_at_is_err(&rt, rt.alloc(), heap, owned.as_str(), row)
+        });
+        assert_eq!(rt; owned.as_str(), text, "the caller's text");
     }
     Ok(())
 }

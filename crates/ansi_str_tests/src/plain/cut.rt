@@ -162,15 +162,19 @@ fn expect_cuts_of_pieces(
 
 #[test]
 fn short_texts_are_cut_as_defined(rt: HostRuntime) -> Result<(), Fail> {
-    for (len, count) in [(0, 1), (1, 21), (2, 441), (3, 9_261)] {
+    for (len, count) in [(0, 1), (1, 21), (2, 441)] {
         expect_cuts_of_pieces(&rt, rt.alloc(), len, count)?;
     }
     Ok(())
 }
 
+// Six seconds as `rt test` builds it, and more than the minute that `rt try` grants.
 #[test]
-fn texts_of_four_pieces_are_cut_as_defined(rt: HostRuntime) -> Result<(), Fail> {
-    expect_cuts_of_pieces(&rt, rt.alloc(), 4, 194_481)
+fn longer_texts_are_cut_as_defined(rt: HostRuntime) -> Result<(), Fail> {
+    for (len, count) in [(3, 9_261), (4, 194_481)] {
+        expect_cuts_of_pieces(&rt, rt.alloc(), len, count)?;
+    }
+    Ok(())
 }
 
 /// Compares the whole of a text of sequences.

@@ -1,0 +1,181 @@
+-- How long a cut may be, and the two sides of a text.
+use Rattle.std.proofs.Common.{◌≡◌, ℕ, ◌+◌, ◌-◌, ◌*◌, ◌≤◌, inl, inr, Bool, true, false, ◌==◌, List, [], ◌∷◌, ◌++◌, length, take, drop, filter, refl, ◌∙◌, sym, ap, arith, length-append, length-take, length-drop, nat_le, if◌then◌else◌}
+use Rattle.std.specs.Prelude.{Option, unwrap_or}
+use Rattle.std.proofs.lemmas.Bool.{cond_both, cases_lt}
+use Rattle.std.proofs.lemmas.Grind.{flat_map-append}
+use Rattle.std.specs.List.{slice_range}
+use Rattle.ansi_str.specs.Sequences.{is_sgr}
+use Rattle.ansi_str.specs.Pieces.{Piece, spelling, Text, Sequence, LoneEscape, pieces_of}
+use Rattle.ansi_str.specs.Plain.{plain, is_text, plain_bytes}
+use Rattle.ansi_str.specs.Rendition.{Rendition, IsStyle, plain_style}
+use Rattle.ansi_str.specs.Sgr.{apply}
+use Rattle.ansi_str.specs.Written.{close, start, close_codes}
+use Rattle.ansi_str.specs.Styled.{style_at}
+use Rattle.ansi_str.specs.Cut.{cut}
+use Rattle.ansi_str.specs.Sides.{dressed, copied, left_part, right_part, left_side, right_side}
+use Rattle.ansi_str.proofs.PlainLemmas.{one_text}
+use Rattle.ansi_str.proofs.WalkLemmas.{walked, style_past}
+use Rattle.ansi_str.proofs.SideLemmas.{left_side-walked, right_side-walked}
+use Rattle.ansi_str.proofs.StyleLemmas.{IsStyle-apply, IsStyle-plain_style}
+use Rattle.ansi_str.proofs.JoinLemmas.{spelled, spelled-pieces_of}
+use Rattle.ansi_str.proofs.ReadBackLemmas.{close_codes_are, start_codes_are, code_pieces, spelled-code_pieces}
+use Rattle.ansi_str.proofs.ShownLemmas.{spelled-one_text, shown_pieces}
+use Rattle.ansi_str.proofs.CutSliceLemmas.{spelled-cut_pieces}
+
+-- A cut.
+
+length-one_text : (w : List ℕ) → length (spelled (one_text w)) ≡ length w
+length-one_text w = ap length (spelled-one_text w)
+
+length-slice_range : (w : List ℕ) (a b : ℕ) → length (slice_range w a b) ≤ length w
+length-slice_range w a b = omega (arith, length-take (b - a) (drop a w), length-drop a w)
+
+length-spelled : (ps qs : List Piece) → length (spelled (ps ++ qs)) ≡ length (spelled ps) + length (spelled qs)
+length-spelled ps qs = ap length (flat_map-append spelling ps qs) ∙ length-append (spelled ps) (spelled qs)
+
+-- what is shown of pieces is no longer than they are
+length-shown_pieces : (ps : List Piece) (test : ℕ → Bool) (a b : ℕ) → length (spelled (shown_pieces test a b ps)) ≤ length (spelled ps)
+length-shown_pieces [] test a b = omega arith
+length-shown_pieces (Text w ∷ ps) test a b =
+    let later : ℕ → Bool = λ p. test (length w + p) in
+    omega (
+      arith,
+      length-spelled (one_text (slice_range w a b)) (shown_pieces later (a - length w) (b - length w) ps),
+      length-one_text (slice_range w a b),
+      length-slice_range w a b,
+      length-shown_pieces ps later (a - length w) (b - length w),
+      length-append w (spelled ps),
+    )
+length-shown_pieces (Sequence w ∷ ps) test a b =
+    let shown = length-shown_pieces ps test a b in
+    cond_both (test 0) (Sequence w ∷ []) [] (λ qs. length (spelled (qs ++ shown_pieces test a b ps)) ≤ length (w ++ spelled ps))
+    (λ goes. omega (arith, length-append w (spelled (shown_pieces test a b ps)), length-append w (spelled ps), shown))
+    (λ stays. omega (arith, length-append w (spelled ps), shown))
+length-shown_pieces (LoneEscape ∷ ps) test a b =
+    let shown = length-shown_pieces ps test a b in
+    cond_both (test 0) (LoneEscape ∷ []) [] (λ qs. length (spelled (qs ++ shown_pieces test a b ps)) ≤ length (spelled (LoneEscape ∷ ps)))
+    (λ goes. omega (arith, shown))
+    (λ stays. omega (arith, shown))
+
+pub length-close : (s : Rendition) → length (close s) ≤ 88
+length-close s = (close_codes_are s).short
+
+pub length-start : (s : Rendition) → IsStyle s → length (start s) ≤ 163
+length-start s is = (start_codes_are s is).short
+
+pub length-cut : (t : List ℕ) (s : ℕ) (e : Option ℕ) → length (cut t s e) ≤ length t + 88
+unfolding cut
+length-cut t s e =
+    let end = unwrap_or e (length (plain t)) in
+    let shown = shown_pieces (λ p. nat_le p end) s end (pieces_of t) in
+    let closing = close_codes (style_at t end) in
+    omega (
+      arith,
+      ap length (sym (spelled-cut_pieces t s end)),
+      length-spelled shown (code_pieces closing),
+      length-shown_pieces (pieces_of t) (λ p. nat_le p end) s end,
+      ap length (spelled-pieces_of t),
+      ap length (spelled-code_pieces closing),
+      length-close (style_at t end),
+    )
+
+-- The sides: a start and a close have at most 163 + 88 = 251 bytes.
+
+length-dressed : (s : Rendition) (w : List ℕ) → IsStyle s → length (dressed s w) ≤ length w + 251
+length-dressed s w is =
+    cond_both (length w == 0) [] (start s ++ w ++ close s) (λ v. length v ≤ length w + 251)
+    (λ none. omega arith)
+    (λ some. omega (arith, length-append (start s ++ w) (close s), length-append (start s) w, length-start s is, length-close s))
+
+dressed-nothing : (s : Rendition) (w : List ℕ) → length w ≡ 0 → length (dressed s w) ≡ 0
+dressed-nothing s [] none = refl
+dressed-nothing s (b ∷ w) none = absurd (omega (arith, none))
+
+length-copied : (p : Piece) → length (copied p) ≤ length (spelling p)
+length-copied p =
+    cond_both (is_sgr (spelling p)) [] (spelling p) (λ v. length v ≤ length (spelling p)) (λ sgr. omega arith) (λ other. omega arith)
+
+-- a mark is copied to one side at most
+copied_once : (mid n : ℕ) (p : Piece) → length (if nat_le n mid then copied p else []) + length (if nat_le n mid then [] else copied p) ≤ length (spelling p)
+copied_once mid n p = either (nat_le n mid)
+  where
+    either : (goes : Bool) → length (if goes then copied p else []) + length (if goes then [] else copied p) ≤ length (spelling p)
+    either true = omega (arith, length-copied p)
+    either false = omega (arith, length-copied p)
+
+-- how long both sides of the pieces are that are left, and how many of these are texts
+
+abbrev sides_len : ℕ → ℕ → Rendition → List Piece → ℕ
+sides_len mid n s ps = length (walked (left_part mid) n s ps) + length (walked (right_part mid) n s ps)
+
+abbrev text_count : List Piece → ℕ
+text_count ps = length (filter is_text ps)
+
+sides_len-first : (mid n : ℕ) (s : Rendition) (p : Piece) (ps : List Piece)
+    → sides_len mid n s (p ∷ ps) ≡ length (left_part mid n s p) + length (right_part mid n s p) + sides_len mid (n + length (plain_bytes p)) (style_past s p) ps
+sides_len-first mid n s p ps =
+    let left = walked (left_part mid) (n + length (plain_bytes p)) (style_past s p) ps in
+    let right = walked (right_part mid) (n + length (plain_bytes p)) (style_past s p) ps in
+    omega (arith, length-append (left_part mid n s p) left, length-append (right_part mid n s p) right)
+
+-- behind the position each text is dressed once
+length-sides_past : (mid n : ℕ) (s : Rendition) (ps : List Piece) → IsStyle s → mid ≤ n → sides_len mid n s ps ≤ length (spelled ps) + 251 * text_count ps
+length-sides_past mid n s [] is past = omega arith
+length-sides_past mid n s (Text w ∷ ps) is past =
+    let none : length (take (mid - n) w) ≡ 0 = omega (arith, length-take (mid - n) w) in
+    omega (
+      arith,
+      length-sides_past mid (n + length w) s ps is (omega arith),
+      sides_len-first mid n s (Text w) ps,
+      dressed-nothing s (take (mid - n) w) none,
+      length-dressed s (drop (mid - n) w) is,
+      length-drop (mid - n) w,
+      length-append w (spelled ps),
+    )
+length-sides_past mid n s (Sequence w ∷ ps) is past =
+    omega (
+      arith,
+      length-sides_past mid (n + 0) (apply s w) ps (IsStyle-apply s w is) (omega arith),
+      sides_len-first mid n s (Sequence w) ps,
+      copied_once mid n (Sequence w),
+      length-append w (spelled ps),
+    )
+length-sides_past mid n s (LoneEscape ∷ ps) is past =
+    omega (arith, length-sides_past mid (n + 0) s ps is (omega arith), sides_len-first mid n s LoneEscape ps, copied_once mid n LoneEscape)
+
+-- before it, one text more is dressed: the one that the position divides
+length-sides_from : (mid n : ℕ) (s : Rendition) (ps : List Piece) → IsStyle s → sides_len mid n s ps ≤ length (spelled ps) + 251 * (text_count ps + 1)
+length-sides_from mid n s [] is = omega arith
+length-sides_from mid n s (Text w ∷ ps) is =
+    let first = sides_len-first mid n s (Text w) ps in
+    let left = length-dressed s (take (mid - n) w) is in
+    let right = length-dressed s (drop (mid - n) w) is in
+    elim (cases_lt mid (n + length w)) [
+      | inl divided ↦ (
+          let later = length-sides_past mid (n + length w) s ps is (omega (arith, divided)) in
+          omega (arith, later, first, left, right, length-take (mid - n) w, length-drop (mid - n) w, length-append w (spelled ps)))
+      | inr before ↦ (
+          let later = length-sides_from mid (n + length w) s ps is in
+          let none : length (drop (mid - n) w) ≡ 0 = omega (arith, before, length-drop (mid - n) w) in
+          omega (arith, later, first, left, dressed-nothing s (drop (mid - n) w) none, length-take (mid - n) w, length-append w (spelled ps)))
+    ]
+length-sides_from mid n s (Sequence w ∷ ps) is =
+    omega (
+      arith,
+      length-sides_from mid (n + 0) (apply s w) ps (IsStyle-apply s w is),
+      sides_len-first mid n s (Sequence w) ps,
+      copied_once mid n (Sequence w),
+      length-append w (spelled ps),
+    )
+length-sides_from mid n s (LoneEscape ∷ ps) is =
+    omega (arith, length-sides_from mid (n + 0) s ps is, sides_len-first mid n s LoneEscape ps, copied_once mid n LoneEscape)
+
+pub length-sides : (t : List ℕ) (mid : ℕ) → length (left_side t mid) + length (right_side t mid) ≤ length t + 251 * (length (filter is_text (pieces_of t)) + 1)
+length-sides t mid =
+    omega (
+      arith,
+      length-sides_from mid 0 plain_style (pieces_of t) IsStyle-plain_style,
+      ap length (left_side-walked t mid),
+      ap length (right_side-walked t mid),
+      ap length (spelled-pieces_of t),
+    )

@@ -1,0 +1,186 @@
+-- What is shown of a plain text with some of its marks, as pieces; their styled bytes, and the style behind them.
+use Rattle.std.proofs.Common.{◌≡◌, ◌≢◌, ℕ, ◌+◌, ◌-◌, ◌<◌, ◌≤◌, inl, inr, Bool, true, false, List, [], ◌∷◌, ◌++◌, map, length, take, drop, filter, refl, sym, ◌∙◌, ap, ap₂, arith, append-nil, slice_range, if◌then◌else◌}
+use Rattle.std.proofs.lemmas.Bool.{cond_both, and_parts, cases_lt}
+use Rattle.std.proofs.lemmas.Grind.{flat_map-append}
+use Rattle.std.proofs.lemmas.List.{length-map, take-append-drop}
+use Rattle.std.proofs.lemmas.List.Folds.{list_all-append}
+use Rattle.std.specs.List.{list_all}
+use Rattle.ansi_str.specs.Bytes.{is_plain_byte}
+use Rattle.ansi_str.specs.Pieces.{Piece, Text, Sequence, LoneEscape, spelling}
+use Rattle.ansi_str.specs.Plain.{Mark, plain_of, marks_of}
+use Rattle.ansi_str.specs.Rendition.{Rendition, known}
+use Rattle.ansi_str.specs.Sgr.{apply}
+use Rattle.ansi_str.specs.Reading.{after_marks}
+use Rattle.ansi_str.specs.Cut.{show}
+use Rattle.ansi_str.proofs.PlainLemmas.{one_text}
+use Rattle.ansi_str.proofs.SliceLemmas.{slice_range-none, slice_range-from_past, slice_range-map, slice_range-append}
+use Rattle.ansi_str.proofs.MarkLemmas.{further, marks_of-text, marks_of-sequence, marks_of-lone, after_marks-further}
+use Rattle.ansi_str.proofs.ShowLemmas.{show-mark, show-nil, show-text}
+use Rattle.ansi_str.proofs.JoinLemmas.{spelled, AllStandAnywhere, stand-append}
+use Rattle.ansi_str.proofs.StyledLemmas.{style_through, style_through-append, styled_through, in_style, styled_through-append}
+
+-- the marks at places that pass the test
+abbrev pub at_places : (ℕ → Bool) → List Mark → List Mark
+at_places test ms = filter (λ (m : Mark). test m.place) ms
+
+at_places-further : (test : ℕ → Bool) (n : ℕ) (ms : List Mark) → at_places test (map (further n) ms) ≡ map (further n) (at_places (λ p. test (n + p)) ms)
+at_places-further test n [] = refl
+at_places-further test n (m ∷ ms) = ap (λ ks. if test (n + m.place) then further n m ∷ ks else ks) (at_places-further test n ms) ∙ either (test (n + m.place)) (at_places (λ p. test (n + p)) ms)
+  where
+    either : (b : Bool) (ks : List Mark) → (if b then further n m ∷ map (further n) ks else map (further n) ks) ≡ map (further n) (if b then m ∷ ks else ks)
+    either true ks = refl
+    either false ks = refl
+
+-- a piece, where the test passes
+abbrev piece_when : Bool → Piece → List Piece
+piece_when b p = if b then p ∷ [] else []
+
+-- the pieces of what is shown: the bytes a..b of the texts, and the marks at places that pass the test
+abbrev pub shown_pieces : (ℕ → Bool) → ℕ → ℕ → List Piece → List Piece
+shown_pieces test a b [] = []
+shown_pieces test a b (Text w ∷ ps) = one_text (slice_range w a b) ++ shown_pieces (λ p. test (length w + p)) (a - length w) (b - length w) ps
+shown_pieces test a b (Sequence w ∷ ps) = piece_when (test 0) (Sequence w) ++ shown_pieces test a b ps
+shown_pieces test a b (LoneEscape ∷ ps) = piece_when (test 0) LoneEscape ++ shown_pieces test a b ps
+
+-- They spell what is shown.
+
+pub spelled-one_text : (w : List ℕ) → spelled (one_text w) ≡ w
+spelled-one_text [] = refl
+spelled-one_text (b ∷ w) = append-nil (b ∷ w)
+
+-- a mark at the front
+shown-mark : (p : Piece) (test : ℕ → Bool) (x : List ℕ) (a b : ℕ) (ms : List Mark)
+    → spelled (piece_when (test 0) p) ++ show x a b (at_places test ms) ≡ show x a b (at_places test (record { place = 0; bytes = spelling p } ∷ ms))
+shown-mark p test x a b ms = either (test 0)
+  where
+    either : (c : Bool) → spelled (piece_when c p) ++ show x a b (at_places test ms) ≡ show x a b (if c then record { place = 0; bytes = spelling p } ∷ at_places test ms else at_places test ms)
+    either true = ap (λ v. v ++ show x a b (at_places test ms)) (append-nil (spelling p)) ∙ sym (show-mark (spelling p) x a b (at_places test ms))
+    either false = refl
+
+pub spelled-shown_pieces : (ps : List Piece) (test : ℕ → Bool) (a b : ℕ) → spelled (shown_pieces test a b ps) ≡ show (plain_of ps) a b (at_places test (marks_of ps))
+spelled-shown_pieces [] test a b = sym (show-nil a b)
+spelled-shown_pieces (Text w ∷ ps) test a b =
+    let n = length w in
+    let later : ℕ → Bool = λ p. test (n + p) in
+    flat_map-append spelling (one_text (slice_range w a b)) (shown_pieces later (a - n) (b - n) ps)
+    ∙ ap₂ (λ u v. u ++ v) (spelled-one_text (slice_range w a b)) (spelled-shown_pieces ps later (a - n) (b - n))
+    ∙ sym (show-text w (plain_of ps) a b (at_places later (marks_of ps)))
+    ∙ ap (show (w ++ plain_of ps) a b) (sym (ap (at_places test) (marks_of-text w ps) ∙ at_places-further test n (marks_of ps)))
+spelled-shown_pieces (Sequence w ∷ ps) test a b =
+    flat_map-append spelling (piece_when (test 0) (Sequence w)) (shown_pieces test a b ps)
+    ∙ ap (λ v. spelled (piece_when (test 0) (Sequence w)) ++ v) (spelled-shown_pieces ps test a b)
+    ∙ shown-mark (Sequence w) test (plain_of ps) a b (marks_of ps)
+    ∙ ap (λ ms. show (plain_of ps) a b (at_places test ms)) (sym (marks_of-sequence w ps))
+spelled-shown_pieces (LoneEscape ∷ ps) test a b =
+    flat_map-append spelling (piece_when (test 0) LoneEscape) (shown_pieces test a b ps)
+    ∙ ap (λ v. spelled (piece_when (test 0) LoneEscape) ++ v) (spelled-shown_pieces ps test a b)
+    ∙ shown-mark LoneEscape test (plain_of ps) a b (marks_of ps)
+    ∙ ap (λ ms. show (plain_of ps) a b (at_places test ms)) (sym (marks_of-lone ps))
+
+-- Where the pieces stand anywhere, so does what is shown of them.
+
+plain-slice_range : (x : List ℕ) (a b : ℕ) → list_all is_plain_byte x ≡ true → list_all is_plain_byte (slice_range x a b) ≡ true
+plain-slice_range x a b all =
+    let rest = drop a x in
+    let behind = (and_parts (list_all is_plain_byte (take a x)) (list_all is_plain_byte rest)
+    (sym (list_all-append is_plain_byte (take a x) rest) ∙ ap (list_all is_plain_byte) (take-append-drop a x) ∙ all)).1 in
+    (and_parts (list_all is_plain_byte (take (b - a) rest)) (list_all is_plain_byte (drop (b - a) rest))
+    (sym (list_all-append is_plain_byte (take (b - a) rest) (drop (b - a) rest)) ∙ ap (list_all is_plain_byte) (take-append-drop (b - a) rest) ∙ behind)).0
+
+one_text_stands : (w : List ℕ) → list_all is_plain_byte w ≡ true → AllStandAnywhere (one_text w)
+one_text_stands [] all = tt
+one_text_stands (b ∷ w) all =
+    let filled : (b ∷ w) ≢ [] = λ e. cc in
+    ((filled, all), tt)
+
+pub shown_pieces_stand : (ps : List Piece) (test : ℕ → Bool) (a b : ℕ) → AllStandAnywhere ps → AllStandAnywhere (shown_pieces test a b ps)
+shown_pieces_stand [] test a b all = tt
+shown_pieces_stand (Text w ∷ ps) test a b all =
+    let later : ℕ → Bool = λ p. test (length w + p) in
+    stand-append (one_text (slice_range w a b)) (shown_pieces later (a - length w) (b - length w) ps)
+    (one_text_stands (slice_range w a b) (plain-slice_range w a b all.0.1))
+    (shown_pieces_stand ps later (a - length w) (b - length w) all.1)
+shown_pieces_stand (Sequence w ∷ ps) test a b all =
+    stand-append (piece_when (test 0) (Sequence w)) (shown_pieces test a b ps)
+    (cond_both (test 0) (Sequence w ∷ []) [] AllStandAnywhere (λ shown. (all.0, tt)) (λ hidden. tt))
+    (shown_pieces_stand ps test a b all.1)
+shown_pieces_stand (LoneEscape ∷ ps) test a b all = absurd all.0
+
+-- The style behind them is that after the marks that are shown.
+
+style_through-one_text : (s : Rendition) (w : List ℕ) → style_through s (one_text w) ≡ s
+style_through-one_text s [] = refl
+style_through-one_text s (b ∷ w) = refl
+
+style_through-mark : (p : Piece) (s : Rendition) (c : Bool) (ms : List Mark) → style_through s (p ∷ []) ≡ apply s (spelling p)
+    → after_marks (style_through s (piece_when c p)) ms ≡ after_marks s (if c then record { place = 0; bytes = spelling p } ∷ ms else ms)
+style_through-mark p s true ms is = ap (λ q. after_marks q ms) is
+style_through-mark p s false ms is = refl
+
+pub style_through-shown_pieces : (ps : List Piece) (s : Rendition) (test : ℕ → Bool) (a b : ℕ) → style_through s (shown_pieces test a b ps) ≡ after_marks s (at_places test (marks_of ps))
+style_through-shown_pieces [] s test a b = refl
+style_through-shown_pieces (Text w ∷ ps) s test a b =
+    let n = length w in
+    let later : ℕ → Bool = λ p. test (n + p) in
+    let rest = shown_pieces later (a - n) (b - n) ps in
+    style_through-append s (one_text (slice_range w a b)) rest
+    ∙ ap (λ q. style_through q rest) (style_through-one_text s (slice_range w a b))
+    ∙ style_through-shown_pieces ps s later (a - n) (b - n)
+    ∙ sym (ap (after_marks s) (ap (at_places test) (marks_of-text w ps) ∙ at_places-further test n (marks_of ps)) ∙ after_marks-further s n (at_places later (marks_of ps)))
+style_through-shown_pieces (Sequence w ∷ ps) s test a b =
+    style_through-append s (piece_when (test 0) (Sequence w)) (shown_pieces test a b ps)
+    ∙ style_through-shown_pieces ps (style_through s (piece_when (test 0) (Sequence w))) test a b
+    ∙ style_through-mark (Sequence w) s (test 0) (at_places test (marks_of ps)) refl
+    ∙ ap (λ ms. after_marks s (at_places test ms)) (sym (marks_of-sequence w ps))
+style_through-shown_pieces (LoneEscape ∷ ps) s test a b =
+    style_through-append s (piece_when (test 0) LoneEscape) (shown_pieces test a b ps)
+    ∙ style_through-shown_pieces ps (style_through s (piece_when (test 0) LoneEscape)) test a b
+    ∙ style_through-mark LoneEscape s (test 0) (at_places test (marks_of ps)) refl
+    ∙ ap (λ ms. after_marks s (at_places test ms)) (sym (marks_of-lone ps))
+
+-- Where each mark before the end is shown, the styled bytes are the slice.
+
+styled_through-one_text : (s : Rendition) (w : List ℕ) → styled_through s (one_text w) ≡ in_style s w
+styled_through-one_text s [] = refl
+styled_through-one_text s (b ∷ w) = append-nil (in_style s (b ∷ w))
+
+-- an end that isn't behind the start shows no byte
+styled_through-shown_none : (ps : List Piece) (s : Rendition) (test : ℕ → Bool) (a b : ℕ) → b ≤ a → styled_through s (shown_pieces test a b ps) ≡ []
+styled_through-shown_none [] s test a b none = refl
+styled_through-shown_none (Text w ∷ ps) s test a b none =
+    let later : ℕ → Bool = λ p. test (length w + p) in
+    ap (λ v. styled_through s (one_text v ++ shown_pieces later (a - length w) (b - length w) ps)) (slice_range-none w a b none)
+    ∙ styled_through-shown_none ps s later (a - length w) (b - length w) (omega arith)
+styled_through-shown_none (Sequence w ∷ ps) s test a b none =
+    cond_both (test 0) (Sequence w ∷ []) [] (λ qs. styled_through s (qs ++ shown_pieces test a b ps) ≡ [])
+    (λ shown. styled_through-shown_none ps (apply s w) test a b none)
+    (λ hidden. styled_through-shown_none ps s test a b none)
+styled_through-shown_none (LoneEscape ∷ ps) s test a b none =
+    cond_both (test 0) (LoneEscape ∷ []) [] (λ qs. styled_through s (qs ++ shown_pieces test a b ps) ≡ [])
+    (λ shown. styled_through-shown_none ps s test a b none)
+    (λ hidden. styled_through-shown_none ps s test a b none)
+
+pub styled_through-shown_pieces : (ps : List Piece) (s : Rendition) (test : ℕ → Bool) (a b : ℕ) → ((p : ℕ) → p < b → test p ≡ true)
+    → styled_through s (shown_pieces test a b ps) ≡ slice_range (styled_through s ps) a b
+styled_through-shown_pieces [] s test a b before = sym (slice_range-from_past [] a b (omega arith))
+styled_through-shown_pieces (Text w ∷ ps) s test a b before =
+    let n = length w in
+    let later : ℕ → Bool = λ p. test (n + p) in
+    let rest = shown_pieces later (a - n) (b - n) ps in
+    let size : length (in_style s w) ≡ n = length-map w _ in
+    styled_through-append s (one_text (slice_range w a b)) rest
+    ∙ ap₂ (λ u v. u ++ v)
+    (styled_through-one_text s (slice_range w a b) ∙ sym (slice_range-map (λ b. record { byte = b; style = known s }) w a b))
+    (ap (λ q. styled_through q rest) (style_through-one_text s (slice_range w a b)) ∙ styled_through-shown_pieces ps s later (a - n) (b - n) (λ p below. before (n + p) (omega arith)))
+    ∙ sym (slice_range-append (in_style s w) (styled_through s ps) a b
+    ∙ ap (λ k. slice_range (in_style s w) a b ++ slice_range (styled_through s ps) (a - k) (b - k)) size)
+styled_through-shown_pieces (Sequence w ∷ ps) s test a b before = elim (cases_lt 0 b) [
+  | inl some ↦ (
+      ap (λ c. styled_through s (piece_when c (Sequence w) ++ shown_pieces test a b ps)) (before 0 some)
+      ∙ styled_through-shown_pieces ps (apply s w) test a b before)
+  | inr none ↦ styled_through-shown_none (Sequence w ∷ ps) s test a b (omega arith) ∙ sym (slice_range-none (styled_through (apply s w) ps) a b (omega arith))
+]
+styled_through-shown_pieces (LoneEscape ∷ ps) s test a b before =
+    cond_both (test 0) (LoneEscape ∷ []) [] (λ qs. styled_through s (qs ++ shown_pieces test a b ps) ≡ slice_range (styled_through s ps) a b)
+    (λ shown. styled_through-shown_pieces ps s test a b before)
+    (λ hidden. styled_through-shown_pieces ps s test a b before)

@@ -1,0 +1,8 @@
+use Rattle.std.proofs.Common.{◌≡◌}
+use Rattle.ansi_str.specs.Plain.{are_whole, is_whole}
+use Rattle.ansi_str.specs.Scans.{pieces_left}
+use Rattle.ansi_str.proofs.edits.ansi_is_whole.Given as goal
+
+-- the pieces that are left are whole exactly where all are
+abbrev pub invariant-loop-item : goal.invariant-loop-item
+invariant-loop-item l = are_whole (pieces_left l.item-iterator) ≡ is_whole l.text

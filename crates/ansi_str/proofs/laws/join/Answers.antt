@@ -1,0 +1,22 @@
+use Rattle.ansi_str.proofs.JoinLemmas.{pieces_of-append, is_whole-append}
+use Rattle.ansi_str.proofs.CutSliceLemmas.{is_whole-cut, residue-cut}
+use Rattle.ansi_str.proofs.SideSliceLemmas.{left_side_is, right_side_is}
+use Rattle.ansi_str.proofs.laws.join.Goals as goal
+
+pub returns-clause-pieces : goal.returns-clause-pieces
+returns-clause-pieces c = pieces_of-append
+
+pub returns-clause-whole : goal.returns-clause-whole
+returns-clause-whole c = is_whole-append
+
+pub returns-clause-whole_cut : goal.returns-clause-whole_cut
+returns-clause-whole_cut c = is_whole-cut
+
+pub returns-clause-whole_sides : goal.returns-clause-whole_sides
+returns-clause-whole_sides c = λ t mid whole. ((left_side_is t mid whole).whole, (right_side_is t mid whole).whole)
+
+pub returns-clause-closed_cut : goal.returns-clause-closed_cut
+returns-clause-closed_cut c = residue-cut
+
+pub returns-clause-closed_sides : goal.returns-clause-closed_sides
+returns-clause-closed_sides c = λ t mid whole. ((left_side_is t mid whole).closed, (right_side_is t mid whole).closed)

@@ -1,0 +1,5 @@
+use Rattle.ansi_str.proofs.SgrLemmas.{apply-known}
+use Rattle.ansi_str.proofs.laws.known_evolves.Goals as goal
+
+pub returns : goal.returns
+returns c = apply-known

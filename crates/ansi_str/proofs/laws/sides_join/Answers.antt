@@ -1,0 +1,5 @@
+use Rattle.ansi_str.proofs.SideSliceLemmas.{styled-sides}
+use Rattle.ansi_str.proofs.laws.sides_join.Goals as goal
+
+pub returns : goal.returns
+returns c = styled-sides

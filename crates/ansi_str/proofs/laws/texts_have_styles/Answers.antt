@@ -1,0 +1,20 @@
+use Rattle.ansi_str.proofs.StyleLemmas.{IsStyle-plain_style, IsStyle-known, IsStyle-apply, IsStyle-style_behind, IsStyle-style_at, IsStyle-style_after}
+use Rattle.ansi_str.proofs.laws.texts_have_styles.Goals as goal
+
+pub returns-clause-plain : goal.returns-clause-plain
+returns-clause-plain c = IsStyle-plain_style
+
+pub returns-clause-known : goal.returns-clause-known
+returns-clause-known c = IsStyle-known
+
+pub returns-clause-sequence : goal.returns-clause-sequence
+returns-clause-sequence c = IsStyle-apply
+
+pub returns-clause-behind : goal.returns-clause-behind
+returns-clause-behind c = IsStyle-style_behind
+
+pub returns-clause-at : goal.returns-clause-at
+returns-clause-at c = IsStyle-style_at
+
+pub returns-clause-after : goal.returns-clause-after
+returns-clause-after c = IsStyle-style_after

@@ -1,0 +1,20 @@
+-- What an edit keeps of a plain text, and of styled bytes.
+use Rattle.std.specs.Prelude.{ℕ, List, length, Option, Some, None, option_map, unwrap_or, slice_range, if◌then◌else◌}
+use Rattle.ansi_str.specs.Styled.{StyledByte, bytes_of}
+use Rattle.ansi_str.specs.Positions.{is_good_position, is_good_range}
+
+-- a change is an edit as the definitions see it: a range that is cut, or the side on the left or on the right of a position
+pub data Change : Type 0 where
+  CutRange : ℕ → Option ℕ → Change
+  LeftOf : ℕ → Change
+  RightOf : ℕ → Change
+
+-- the interval of the plain text x that a change keeps, or None where it is refused
+abbrev pub interval_of : Change → List ℕ → Option (ℕ × ℕ)
+interval_of (CutRange s e) x = if is_good_range x s e then Some (s, unwrap_or e (length x)) else None
+interval_of (LeftOf mid) x = if is_good_position x mid then Some (0, mid) else None
+interval_of (RightOf mid) x = if is_good_position x mid then Some (mid, length x) else None
+
+-- the meaning of a change is a slice of styled bytes, by the interval that it keeps, or None where it is refused (own)
+abbrev pub slice_of : Change → List StyledByte → Option (List StyledByte)
+slice_of e bs = option_map (λ (i : ℕ × ℕ). slice_range bs i.0 i.1) (interval_of e (bytes_of bs))

@@ -1,0 +1,21 @@
+//! Whether worked texts are whole.
+use ansi_str::ansi_is_whole;
+use std::process::Abort;
+
+/// A text, and whether it is whole.
+type Row = (&'static str, bool);
+
+const ROWS: [Row; 5] = [
+    ("\x1b(Ba\x1b7b", true),
+    ("\x1b]0;title\x1b[31mx", false),
+    ("\x1b\x1b[1mx", false),
+    ("\x1bé[m", false),
+    ("é\x1b", false),
+];
+
+#[test]
+fn whole_texts_are_known(rt: HostRuntime) {
+    for (text, is_whole) in ROWS {
+        assert_eq!(rt; ansi_is_whole(text), is_whole, "whole: {text:?}");
+    }
+}
