@@ -5,7 +5,7 @@ use Rattle.std.specs.List.{slice_split, flat_map, position_or_len, before_first,
 use Rattle.std.proofs.lemmas.List.Splits.{slice_split_first, slice_split_none, length-slice_split}
 use Rattle.std.proofs.lemmas.List.Sums.{fails_before_first, take_while-cons}
 use Rattle.ansi_lines.specs.Lines.{Line, line_feed, is_line_feed, lines, lines_of_pieces, answer_of, answer_to, answers, is_refused, first_refused, WritesAnswer}
-use Rattle.ansi_lines.specs.declared.words.Job.{Job}
+use Rattle.ansi_lines.specs.Words.{Work}
 
 -- a piece with a piece behind it is ended
 lines_of_pieces-cons : (piece : List ℕ) (pieces : List (List ℕ)) → 0 < length pieces → lines_of_pieces (piece ∷ pieces) ≡ record { text = piece; ended = true } ∷ lines_of_pieces pieces
@@ -49,41 +49,41 @@ was_refused old new None is wrote = (refl, wrote.1)
 was_refused old new (Some answer) is wrote = let yes = wrote.0 in cc
 
 -- a text whose first line is answered, and what is written for that line
-pub line-answered : {answered : Bool} (old new : Option (List ℕ)) (job : Job) (number : ℕ) (text : List ℕ) (line : Line) (more : List ℕ)
-    → lines text ≡ line ∷ lines more → answered ≡ true → WritesAnswer (answer_of job line.text) answered old new
+pub line-answered : {answered : Bool} (old new : Option (List ℕ)) (work : Work) (number : ℕ) (text : List ℕ) (line : Line) (more : List ℕ)
+    → lines text ≡ line ∷ lines more → answered ≡ true → WritesAnswer (answer_of work line.text) answered old new
     → (answer : List ℕ) × (new ≡ append_known old answer)
-    × (answers job text ≡ (answer ++ (if line.ended then line_feed ∷ [] else [])) ++ answers job more)
-    × (first_refused number job text ≡ first_refused (number + 1) job more)
+    × (answers work text ≡ (answer ++ (if line.ended then line_feed ∷ [] else [])) ++ answers work more)
+    × (first_refused number work text ≡ first_refused (number + 1) work more)
 unfolding answers first_refused
-line-answered old new job number text line more split is wrote =
-    let (answer, has, taken) = was_answered old new (answer_of job line.text) is wrote in
-    let passes : is_refused job line ≡ false = ap is_none has in (
+line-answered old new work number text line more split is wrote =
+    let (answer, has, taken) = was_answered old new (answer_of work line.text) is wrote in
+    let passes : is_refused work line ≡ false = ap is_none has in (
       answer,
       taken,
-      ap (λ ls. flat_map (answer_to job) (before_first (is_refused job) ls)) split
-          ∙ ap (flat_map (answer_to job)) (before_first-fails (is_refused job) line (lines more) passes)
-          ∙ ap (λ o. (unwrap_or o [] ++ (if line.ended then line_feed ∷ [] else [])) ++ answers job more) has,
-      ap (position_from (is_refused job) number) split
-          ∙ ap (λ b. cond b (Some number) (position_from (is_refused job) (number + 1) (lines more))) passes,
+      ap (λ ls. flat_map (answer_to work) (before_first (is_refused work) ls)) split
+          ∙ ap (flat_map (answer_to work)) (before_first-fails (is_refused work) line (lines more) passes)
+          ∙ ap (λ o. (unwrap_or o [] ++ (if line.ended then line_feed ∷ [] else [])) ++ answers work more) has,
+      ap (position_from (is_refused work) number) split
+          ∙ ap (λ b. cond b (Some number) (position_from (is_refused work) (number + 1) (lines more))) passes,
     )
 
 -- a text whose first line is refused
-pub line-refused : {answered : Bool} (old new : Option (List ℕ)) (job : Job) (number : ℕ) (text : List ℕ) (line : Line) (more : List ℕ)
-    → lines text ≡ line ∷ lines more → answered ≡ false → WritesAnswer (answer_of job line.text) answered old new
-    → (new ≡ old) × (answers job text ≡ []) × (first_refused number job text ≡ Some number)
+pub line-refused : {answered : Bool} (old new : Option (List ℕ)) (work : Work) (number : ℕ) (text : List ℕ) (line : Line) (more : List ℕ)
+    → lines text ≡ line ∷ lines more → answered ≡ false → WritesAnswer (answer_of work line.text) answered old new
+    → (new ≡ old) × (answers work text ≡ []) × (first_refused number work text ≡ Some number)
 unfolding answers first_refused
-line-refused old new job number text line more split is wrote =
-    let (has, kept) = was_refused old new (answer_of job line.text) is wrote in
-    let refused : is_refused job line ≡ true = ap is_none has in (
+line-refused old new work number text line more split is wrote =
+    let (has, kept) = was_refused old new (answer_of work line.text) is wrote in
+    let refused : is_refused work line ≡ true = ap is_none has in (
       kept,
-      ap (λ ls. flat_map (answer_to job) (before_first (is_refused job) ls)) split
-          ∙ ap (flat_map (answer_to job)) (before_first-passes (is_refused job) line (lines more) refused),
-      ap (position_from (is_refused job) number) split
-          ∙ ap (λ b. cond b (Some number) (position_from (is_refused job) (number + 1) (lines more))) refused,
+      ap (λ ls. flat_map (answer_to work) (before_first (is_refused work) ls)) split
+          ∙ ap (flat_map (answer_to work)) (before_first-passes (is_refused work) line (lines more) refused),
+      ap (position_from (is_refused work) number) split
+          ∙ ap (λ b. cond b (Some number) (position_from (is_refused work) (number + 1) (lines more))) refused,
     )
 
 -- an empty text has no answers, and none is refused
-pub answers-empty : (job : Job) (number : ℕ) (text : List ℕ) → length text ≡ 0 → (answers job text ≡ []) × (first_refused number job text ≡ None)
+pub answers-empty : (work : Work) (number : ℕ) (text : List ℕ) → length text ≡ 0 → (answers work text ≡ []) × (first_refused number work text ≡ None)
 unfolding answers first_refused
-answers-empty job number [] empty = (refl, refl)
-answers-empty job number (b ∷ text) empty = absurd (omega arith)
+answers-empty work number [] empty = (refl, refl)
+answers-empty work number (b ∷ text) empty = absurd (omega arith)

@@ -1,5 +1,6 @@
 pub mod Devices
 pub mod Hosts
+pub mod Jobs
 pub mod Lines
 pub mod PageStates
 pub mod Pages

@@ -3,12 +3,10 @@ use Rattle.std.specs.Prelude.{◌≡◌, ◌==◌, ℕ, List, [], ◌∷◌, ◌
 use Rattle.std.specs.List.{slice_split, flat_map, before_first, position_from}
 use Rattle.std.specs.Io.KnownBytes.{append_known}
 use Rattle.ansi_str.specs.Plain.{plain}
-use Rattle.ansi_str.specs.Positions.{is_good_range}
-use Rattle.ansi_str.specs.Cut.{cut}
+use Rattle.ansi_str.specs.Edited.{edited}
+use Rattle.ansi_lines.specs.Words.{Work, Stripped, Changed}
 use Rattle.ansi_lines.specs.declared.stop.Stop.{Stop}
 use Rattle.ansi_lines.specs.declared.stop.Stop.TheVariants.{Refused, BadInput, OutOfMemory, BadWords, WriteFailed}
-use Rattle.ansi_lines.specs.declared.words.Job.{Job}
-use Rattle.ansi_lines.specs.declared.words.Job.TheVariants.{Strip, Cut}
 
 -- the byte that ends a line is the line feed of ASCII
 abbrev pub line_feed : ℕ
@@ -38,26 +36,26 @@ lines_of_pieces (piece ∷ next ∷ more) = record { text = piece; ended = true 
 abbrev pub lines : List ℕ → List Line
 lines text = lines_of_pieces (slice_split is_line_feed text)
 
--- a line's text is stripped to its plain text, or cut where the range is good, and else it has no answer
-abbrev pub answer_of : Job → List ℕ → Option (List ℕ)
-answer_of Strip text = Some (plain text)
-answer_of (Cut start end) text = if is_good_range (plain text) start end then Some (cut text start end) else None
+-- a line's text is answered by its plain text, or by what the changes in turn make of it, if none is refused
+abbrev pub answer_of : Work → List ℕ → Option (List ℕ)
+answer_of Stripped text = Some (plain text)
+answer_of (Changed changes) text = edited changes text
 
 -- a line is refused where its text has no answer
-abbrev pub is_refused : Job → Line → Bool
-is_refused job line = is_none (answer_of job line.text)
+abbrev pub is_refused : Work → Line → Bool
+is_refused work line = is_none (answer_of work line.text)
 
 -- an ended line's answer is ended too
-abbrev pub answer_to : Job → Line → List ℕ
-answer_to job line = unwrap_or (answer_of job line.text) [] ++ (if line.ended then line_feed ∷ [] else [])
+abbrev pub answer_to : Work → Line → List ℕ
+answer_to work line = unwrap_or (answer_of work line.text) [] ++ (if line.ended then line_feed ∷ [] else [])
 
 -- a text is answered line by line, in order, up to the first line that is refused
-unfoldable pub answers : Job → List ℕ → List ℕ
-answers job text = flat_map (answer_to job) (before_first (is_refused job) (lines text))
+unfoldable pub answers : Work → List ℕ → List ℕ
+answers work text = flat_map (answer_to work) (before_first (is_refused work) (lines text))
 
 -- the first line that is refused, of a text whose lines are counted from this number
-unfoldable pub first_refused : ℕ → Job → List ℕ → Option ℕ
-first_refused number job text = position_from (is_refused job) number (lines text)
+unfoldable pub first_refused : ℕ → Work → List ℕ → Option ℕ
+first_refused number work text = position_from (is_refused work) number (lines text)
 
 -- a text that has an answer is answered with that, and for one that has none nothing is written
 abbrev pub WritesAnswer : Option (List ℕ) → Bool → Option (List ℕ) → Option (List ℕ) → Type 0

@@ -4,7 +4,7 @@ use Rattle.std.specs.Option.{option_and_then, option_map_or}
 use Rattle.ansi_lines.specs.declared.stop.Stop.{Stop}
 use Rattle.ansi_lines.specs.declared.stop.Stop.TheVariants.{Refused, BadWords, BadInput, WriteFailed, OutOfMemory}
 use Rattle.ansi_lines.specs.Lines.{answers, first_refused}
-use Rattle.ansi_lines.specs.Words.{job_of}
+use Rattle.ansi_lines.specs.Words.{work_asked}
 
 -- the bytes of each word
 abbrev pub words_of : {Y : Type 0} → List (String Y) → List (List ℕ)
@@ -12,35 +12,27 @@ words_of words = map string_bytes words
 
 -- good words ask for something
 abbrev pub AreGoodWords : List (List ℕ) → Type 0
-AreGoodWords words = IsSome (job_of words)
+AreGoodWords words = IsSome (work_asked words)
 
 -- bad words ask for nothing that can be done
 abbrev pub AreBadWords : List (List ℕ) → Type 0
-AreBadWords words = IsNone (job_of words)
+AreBadWords words = IsNone (work_asked words)
 
--- a run ends for bad words where they are bad, and else for another reason
+-- a run ends for bad words where they are bad, and for another reason where they are good; want of memory may end it with either
 abbrev pub MatchesWords : Stop → List (List ℕ) → Type 0
 MatchesWords BadWords words = AreBadWords words
 MatchesWords (Refused line) words = AreGoodWords words
 MatchesWords BadInput words = AreGoodWords words
 MatchesWords WriteFailed words = AreGoodWords words
-MatchesWords OutOfMemory words = AreGoodWords words
-
--- a run that ends for its words or its input ends before it writes
-abbrev pub BeforeWriting : Stop → Type 0 → Type 0
-BeforeWriting BadWords fact = fact
-BeforeWriting BadInput fact = fact
-BeforeWriting (Refused line) fact = ⊤
-BeforeWriting WriteFailed fact = ⊤
-BeforeWriting OutOfMemory fact = ⊤
+MatchesWords OutOfMemory words = ⊤
 
 -- what the words make of an input, which is nothing where they are bad
 abbrev pub output_of : List (List ℕ) → List ℕ → List ℕ
-output_of words input = option_map_or (λ job. answers job input) (job_of words) []
+output_of words input = option_map_or (λ work. answers work input) (work_asked words) []
 
 -- the first line that the words refuse of an input, counted from 1
 abbrev pub refused_line : List (List ℕ) → List ℕ → Option ℕ
-refused_line words input = option_and_then (λ job. first_refused 1 job input) (job_of words)
+refused_line words input = option_and_then (λ work. first_refused 1 work input) (work_asked words)
 
 -- this is so of the refused line, if there is one, where a run ends with all that the words make of the input
 abbrev pub IfAnswered : Result (Unit {0}) Stop → (Option ℕ → Type 0) → Type 0

@@ -1,19 +1,23 @@
 -- What the program's words mean.
-use Rattle.std.specs.Prelude.{◌&&◌, ◌==◌, ◌^◌, ℕ, Bool, List, [], ◌∷◌, Option, None, Some, codes, length, nat_lt, if◌then◌else◌}
+use Rattle.std.specs.Prelude.{◌&&◌, ◌==◌, ◌+◌, ◌^◌, ℕ, Bool, List, [], ◌∷◌, Option, None, Some, codes, length, take, drop, is_some, nat_lt, if◌then◌else◌}
 use Rattle.std.specs.Option.{option_map, option_and_then}
-use Rattle.std.specs.List.{slice_split}
+use Rattle.std.specs.List.{position, list_all, filter_map}
 use Rattle.std.specs.Str.{byte, bytes_eq, all_ascii_digits}
 use Rattle.std.specs.Str.Parse.{digits_value}
-use Rattle.ansi_lines.specs.declared.words.Job.{Job}
-use Rattle.ansi_lines.specs.declared.words.Job.TheVariants.{Strip, Cut}
+use Rattle.ansi_str.specs.Changes.{Change, CutRange, LeftOf, RightOf, PartOf, WithoutPrefix, WithoutSuffix, Trimmed}
 
--- a colon stands before each field of a word
+-- the words ask for the plain text of each line, or for changes of it in turn
+pub data Work : Type 0 where
+  Stripped : Work
+  Changed : List Change → Work
+
+-- a colon ends a word's name, and parts its fields
 abbrev pub is_colon : ℕ → Bool
 is_colon b = b == byte ":"
 
--- the parts of a word stand between its colons: its name, and then its fields
-abbrev pub parts_of : List ℕ → List (List ℕ)
-parts_of word = slice_split is_colon word
+-- what stands before and behind the first colon, if there is one
+abbrev pub at_colon : List ℕ → Option (List ℕ × List ℕ)
+at_colon text = option_map (λ i. (take i text, drop (i + 1) text)) (position is_colon text)
 
 -- a field is a number where it is one or more digits, leading zeros allowed, of a value that fits usize
 abbrev pub number_of : List ℕ → Option ℕ
@@ -26,28 +30,39 @@ abbrev pub end_of : List ℕ → Option (Option ℕ)
 end_of [] = Some None
 end_of (digit ∷ more) = option_map Some (number_of (digit ∷ more))
 
--- a strip has no fields
-abbrev pub strip_of : List (List ℕ) → Option Job
-strip_of [] = Some Strip
-strip_of (field ∷ more) = None
+-- a cut has a start and an end, with a colon between them
+abbrev pub cut_of : List ℕ → Option Change
+cut_of fields = option_and_then (λ (f : List ℕ × List ℕ). option_and_then (λ start. option_map (CutRange start) (end_of f.1)) (number_of f.0)) (at_colon fields)
 
--- a cut has two fields, its start and its end
-abbrev pub cut_of : List (List ℕ) → Option Job
-cut_of [] = None
-cut_of (start ∷ []) = None
-cut_of (start ∷ end ∷ []) = option_and_then (λ s. option_map (Cut s) (end_of end)) (number_of start)
-cut_of (start ∷ end ∷ field ∷ more) = None
+-- a part has an index and, behind a colon, any pattern
+abbrev pub part_of : List ℕ → Option Change
+part_of fields = option_and_then (λ (f : List ℕ × List ℕ). option_map (PartOf f.1) (number_of f.0)) (at_colon fields)
 
--- a word asks for what its name is, with its fields
-abbrev pub job_of_parts : List (List ℕ) → Option Job
-job_of_parts [] = None
-job_of_parts (name ∷ fields) =
-    if bytes_eq name (codes "cut") then cut_of fields
-    else if bytes_eq name (codes "strip") then strip_of fields
+-- what a name asks for, with what stands behind its colon
+abbrev pub change_named : List ℕ → List ℕ → Option Change
+change_named name field =
+    if bytes_eq name (codes "cut") then cut_of field
+    else if bytes_eq name (codes "left") then option_map LeftOf (number_of field)
+    else if bytes_eq name (codes "right") then option_map RightOf (number_of field)
+    else if bytes_eq name (codes "part") then part_of field
+    else if bytes_eq name (codes "prefix") then Some (WithoutPrefix field)
+    else if bytes_eq name (codes "suffix") then Some (WithoutSuffix field)
     else None
 
--- a single word asks for its job, and no words or more than one are bad
-unfoldable pub job_of : List (List ℕ) → Option Job
-job_of [] = None
-job_of (word ∷ []) = job_of_parts (parts_of word)
-job_of (word ∷ next ∷ more) = None
+-- `trim` asks for a change by itself, and any other word by its name, a colon and what stands behind that
+abbrev pub change_asked : List ℕ → Option Change
+change_asked word =
+    if bytes_eq word (codes "trim") then Some Trimmed
+    else option_and_then (λ (f : List ℕ × List ℕ). change_named f.0 f.1) (at_colon word)
+
+-- words ask for changes in turn where each of them asks for one
+unfoldable pub changes_asked : List (List ℕ) → Option (List Change)
+changes_asked words =
+    if list_all (λ word. is_some (change_asked word)) words then Some (filter_map change_asked words) else None
+
+-- `strip` alone asks for plain text, one or more other words for changes, and no words for nothing
+unfoldable pub work_asked : List (List ℕ) → Option Work
+work_asked [] = None
+work_asked (word ∷ more) =
+    if bytes_eq word (codes "strip") && length more == 0 then Some Stripped
+    else option_map Changed (changes_asked (word ∷ more))

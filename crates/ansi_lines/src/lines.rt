@@ -3,6 +3,7 @@ ghost use Rattle.std.specs.Prelude.{◌≡◌, IfErr, IfOk, OnOk};
 ghost use Rattle.std.specs.Option.{option_map};
 ghost use Rattle.std.specs.Cow.{cow_str_bytes};
 ghost use Rattle.std.specs.Io.KnownBytes.{append_known};
+ghost use Rattle.ansi_lines.specs.Jobs.{work_of};
 ghost use Rattle.ansi_lines.specs.Lines.{answer_of, answers, first_refused, StopsWriting, WritesAnswer, WritesBeginning};
 
 use crate::devices::Sink;
@@ -15,17 +16,17 @@ use std::borrow::CowStr;
 /// before the first line that is refused, and answers that line's number, counted from 1.
 ///
 /// The memory that one line's answer takes is given back before the next.
-pub fn write_lines<A: Allocator, W: Sink>(
-    alloc: &A,
-    job: Job,
+pub fn write_lines<A: Allocator + Copy, W: Sink>(
+    alloc: A,
+    job: &Job<'_, A>,
     text: &str,
     output: &mut W,
 ) -> Result<Option<usize>, Stop>
-    ensures done { OnOk result (W.taken output.new ≡ append_known (W.taken output.old) (answers job text.now)) }
-    ensures refused { IfOk result (λ line. line ≡ first_refused 1 job text.now) }
+    ensures done { OnOk result (W.taken output.new ≡ append_known (W.taken output.old) (answers (work_of job.now) text.now)) }
+    ensures refused { IfOk result (λ line. line ≡ first_refused 1 (work_of job.now) text.now) }
     ensures unfailed { OnOk result (W.failed output.new ≡ W.failed output.old) }
     ensures stopped { IfErr result (StopsWriting (W.failed output.old) (W.failed output.new)
-        (WritesBeginning (W.taken output.old) (W.taken output.new) (answers job text.now))) }
+        (WritesBeginning (W.taken output.old) (W.taken output.new) (answers (work_of job.now) text.now))) }
 {
     let mut rest = text;
     let mut number = 1;
@@ -49,13 +50,13 @@ pub fn write_lines<A: Allocator, W: Sink>(
 
 // Writes the answer to a line's text, all of it or, for want of memory, nothing. It is false where
 // the line is refused, and then nothing is written.
-fn write_answer<A: Allocator, W: Sink>(
-    alloc: &A,
-    job: Job,
+fn write_answer<A: Allocator + Copy, W: Sink>(
+    alloc: A,
+    job: &Job<'_, A>,
     line: &str,
     output: &mut W,
 ) -> Result<bool, Stop>
-    ensures done { IfOk result (λ answered. WritesAnswer (answer_of job line.now) answered (W.taken output.old) (W.taken output.new)) }
+    ensures done { IfOk result (λ answered. WritesAnswer (answer_of (work_of job.now) line.now) answered (W.taken output.old) (W.taken output.new)) }
     ensures unfailed { OnOk result (W.failed output.new ≡ W.failed output.old) }
     ensures stopped { IfErr result (StopsWriting (W.failed output.old) (W.failed output.new)
         (W.taken output.new ≡ W.taken output.old)) }
@@ -68,15 +69,15 @@ fn write_answer<A: Allocator, W: Sink>(
 }
 
 // What the job makes of a line's text, or `None` where the line is refused.
-fn answer<'t, A: Allocator>(
+fn answer<'t, A: Allocator + Copy>(
     alloc: A,
-    job: Job,
+    job: &Job<'_, A>,
     line: &'t str,
 ) -> Result<Option<CowStr<'t, A>>, AllocError>
-    ensures { IfOk result (λ found. option_map cow_str_bytes found ≡ answer_of job line.now) }
+    ensures { IfOk result (λ found. option_map cow_str_bytes found ≡ answer_of (work_of job.now) line.now) }
 {
     match job {
         Job::Strip => Ok(Some(ansi_str::slice::strip_in(alloc, line)?)),
-        Job::Cut { start, end } => ansi_str::slice::get_in(alloc, line, start, end),
+        Job::Edits(edits) => ansi_str::edit_in(alloc, line, edits.as_slice()),
     }
 }

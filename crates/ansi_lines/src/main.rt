@@ -1,4 +1,4 @@
-//! Reads text and writes each line without its sequences, or a part of it in its style.
+//! Reads text and writes each line without its sequences, or edited as if they weren't there.
 #![tactic(auto)]
 
 ghost use Rattle.std.specs.Prelude.{◌≡◌, ◌≤◌, ◌⊎◌, false, true, IfSome, IsNone, IsSome};

@@ -3,7 +3,7 @@ ghost use Rattle.std.specs.Prelude.{◌≡◌, ◌≤◌, ◌⊎◌, false, true
 ghost use Rattle.std.specs.Io.KnownBytes.{append_known};
 ghost use Rattle.ansi_lines.specs.Lines.{WritesBeginning};
 ghost use Rattle.ansi_lines.specs.Reading.{IsBadInput, IsRead, IsUnfit};
-ghost use Rattle.ansi_lines.specs.Runs.{AreBadWords, AreGoodWords, BeforeWriting, IfAnswered, MatchesWords, output_of, refused_line, told, words_of};
+ghost use Rattle.ansi_lines.specs.Runs.{AreBadWords, AreGoodWords, IfAnswered, MatchesWords, output_of, refused_line, told, words_of};
 ghost use Rattle.ansi_lines.specs.Stops.{refusal};
 
 use crate::devices::{Sink, Source};
@@ -91,8 +91,8 @@ fn perform<A: Allocator, S: Source, W: Sink>(
     // Bad words.
     ensures good_words { OnOk result (AreGoodWords (words_of words.now)) }
     ensures words { IfErr result (λ stop. MatchesWords stop (words_of words.now)) }
-    ensures nothing_read { IsErrOf result Stop.BadWords → input.new ≡ input.old }
-    ensures nothing_written { IfErr result (λ stop. BeforeWriting stop (output.new ≡ output.old)) }
+    ensures nothing_read { AreBadWords (words_of words.now) → input.new ≡ input.old }
+    ensures nothing_written { AreBadWords (words_of words.now) → output.new ≡ output.old }
 
     // The input.
     ensures read { IfAnswered result (λ _. IsRead (S.left input.old) (S.failed input.old) (S.failed input.new)) }
@@ -100,6 +100,7 @@ fn perform<A: Allocator, S: Source, W: Sink>(
         IsRead (S.left input.old) (S.failed input.old) (S.failed input.new) }
     ensures bad_input { IsErrOf result Stop.BadInput →
         IsBadInput (S.left input.old) (S.interrupted input.new) (S.failed input.new) }
+    ensures unwritten { IsErrOf result Stop.BadInput → output.new ≡ output.old }
 
     // The output.
     ensures unfailed { IfAnswered result (λ _. W.failed output.new ≡ W.failed output.old) }
@@ -108,9 +109,9 @@ fn perform<A: Allocator, S: Source, W: Sink>(
         WritesBeginning (W.taken output.old) (W.taken output.new) (output_of (words_of words.now) bytes)) }
     ensures unfailed_without_memory { IsErrOf result Stop.OutOfMemory → W.failed output.new ≡ W.failed output.old }
 {
-    let job = parse(words).ok_or(Stop::BadWords)?;
+    let job = parse(alloc, words)?.ok_or(Stop::BadWords)?;
     let text = read_text(alloc, input)?;
-    let refused = write_lines(alloc, job, text.as_str(), output)?;
+    let refused = write_lines(alloc, &job, text.as_str(), output)?;
     output.flush()?;
     match refused {
         Some(line) => Err(Stop::Refused(line)),

@@ -1,23 +1,16 @@
 //! Runs over pages: what a run writes, tells and answers, whatever its devices do.
-mod cuts;
+mod devices;
 mod memory;
 
 use crate::page::{Outcome, Page};
-use crate::reading::{MAX_BYTES, MAX_READS};
+use crate::reading::MAX_BYTES;
 use crate::run;
 use std::alloc::{AllocError, Global};
 use std::process::Abort;
 use std::test::Fail;
 
-const TEXT: &str = "\x1b[31mred\x1b[39m and plain\n\nlast \x1b";
-
-const STRIPPED: &str = "red and plain\n\nlast ";
-
-// How many bytes a read gives, so that `TEXT` takes several.
+// How many bytes a read gives, so that most inputs take several.
 const CHUNK: usize = 7;
-
-// The calls that write `STRIPPED`: a line feed by itself, and the flush.
-const OUTPUT_CALLS: usize = 6;
 
 // A run's status, and its pages.
 #[derive(Drop)]
@@ -54,15 +47,10 @@ fn run_over(
     })
 }
 
-// Runs the word `strip`, over a fault writer that works.
-fn strip_over(alloc: Global, input: Page, output: Page) -> Result<Ran, AllocError> {
-    run_over(
-        alloc,
-        &["strip"],
-        input,
-        output,
-        Page::with_room(alloc, 100)?,
-    )
+// Runs over an output and a fault writer that work.
+fn run_on(alloc: Global, words: &[&str], input: Page) -> Result<Ran, AllocError> {
+    let output = Page::with_room(alloc, 100)?;
+    run_over(alloc, words, input, output, Page::with_room(alloc, 100)?)
 }
 
 fn page_of(alloc: Global, bytes: &[u8]) -> Result<Page, AllocError> {
@@ -76,80 +64,207 @@ fn at_call(alloc: Global, call: usize, outcome: Outcome) -> Result<Vec<Outcome>,
     Ok(schedule)
 }
 
-// So many calls that work, each after one that is interrupted.
-fn interrupted_each_once(alloc: Global, calls: usize) -> Result<Vec<Outcome>, AllocError> {
-    let mut schedule = Vec::new(alloc);
-    for _ in 0..calls {
-        schedule.push(Outcome::Interrupted)?;
-        schedule.push(Outcome::Works)?;
-    }
-    Ok(schedule)
-}
-
 fn expect(rt: &impl Abort, ran: &Ran, status: u8, output: &str, faults: &str, what: &str) {
     assert_eq!(rt; ran.status, status, "status of {what}");
     assert_eq!(rt; ran.output.bytes(), output.as_bytes(), "output of {what}");
     assert_eq!(rt; ran.faults.bytes(), faults.as_bytes(), "faults of {what}");
 }
 
+// What the words make of an input, all of which is passed on.
+type Row = (&'static [&'static str], &'static str, &'static str);
+
+const ANSWERED: [Row; 31] = [
+    (
+        &["strip"],
+        "\x1b[31mred\x1b[39m and plain\n",
+        "red and plain\n",
+    ),
+    (&["strip"], "a\x1b]0;t\n\x07b\n", "a]0;t\n\x07b\n"),
+    (&["strip"], "a\x1b]0;t\x07b\n", "ab\n"),
+    (&["strip"], "", ""),
+    (&["strip"], "\n", "\n"),
+    (&["strip"], "\n\n\n", "\n\n\n"),
+    (&["strip"], "a", "a"),
+    (&["strip"], "a\n\nb", "a\n\nb"),
+    (&["strip"], "\x1b[m", ""),
+    (&["strip"], "é\r\n\x1b", "é\r\n"),
+    (
+        &["cut:1:3"],
+        "\x1b[30mTEXT\x1b[39m\nabcd",
+        "\x1b[30mEX\x1b[39m\nbc",
+    ),
+    (&["cut:3:1"], "", ""),
+    (&["cut:0:"], "a\n\nb", "a\n\nb"),
+    (&["cut:2:"], "é\nabc\n", "\nc\n"),
+    (&["cut:0:0"], "ab\ncd", "\n"),
+    (&["cut:5:7"], "ab\n", "\n"),
+    (&["cut:00:18446744073709551615"], "a\nb\n", "a\nb\n"),
+    (&["cut:18446744073709551615:"], "ab\n", "\n"),
+    (
+        &["cut:1:3", "trim"],
+        "\x1b[30mTEXT\x1b[39m\n a \n",
+        "\x1b[30mEX\x1b[39m\na\n",
+    ),
+    (&["part:1:"], "ab", "a"),
+    (&["prefix:a:b", "cut:00:"], "a:bc\n", "c\n"),
+    (&["cut:0:1", "cut:0:1"], "abc\n", "a\n"),
+    (&["right:4", "cut:0:2"], "abc def", "de"),
+    (&["right:1", "prefix:b"], "abc", "c"),
+    (&["right:18446744073709551615"], "x", ""),
+    (&["part:3:"], "ab", ""),
+    (
+        &["part:2:X", "cut:1:3", "trim"],
+        "\x1b[31mlionXXtiger\x1b[0m",
+        "\x1b[31mig\x1b[39m",
+    ),
+    (&["left:1", "suffix:a"], "a\x1b]0;t\x07b", "\x1b]0;t\x07"),
+    (
+        &["cut:0:2", "trim"],
+        "\x1b[31m a \x1b[39m",
+        "\x1b[31ma\x1b[39m",
+    ),
+    (&["suffix:", "part:0:,"], "a,\x1b[1mb", "a"),
+    (&["part:1::"], "a:b:c\n", "b\n"),
+];
+
 #[test]
-fn each_line_is_stripped(rt: HostRuntime) -> Result<(), Fail> {
-    for (text, stripped) in [
-        ("\x1b[31mred\x1b[39m and plain\n", "red and plain\n"),
-        ("a\x1b]0;t\n\x07b\n", "a]0;t\n\x07b\n"),
-        ("a\x1b]0;t\x07b\n", "ab\n"),
-        ("", ""),
-        ("\n", "\n"),
-        ("\n\n\n", "\n\n\n"),
-        ("a", "a"),
-        ("a\n\nb", "a\n\nb"),
-        ("\x1b[m", ""),
-        ("é\r\n\x1b", "é\r\n"),
-        (TEXT, STRIPPED),
-    ] {
-        let input = page_of(rt.alloc(), text.as_bytes())?;
-        let ran = strip_over(rt.alloc(), input, Page::with_room(rt.alloc(), 100)?)?;
-        expect(&rt, &ran, 0, stripped, "", text);
+fn each_line_is_answered(rt: HostRuntime) -> Result<(), Fail> {
+    for (words, text, answer) in ANSWERED {
+        let ran = run_on(rt.alloc(), words, page_of(rt.alloc(), text.as_bytes())?)?;
+        expect(&rt, &ran, 0, answer, "", text);
         assert_eq!(rt;
             ran.output.passed(),
-            stripped.len(),
+            answer.len(),
             "what is passed on of {text:?}"
         );
     }
     Ok(())
 }
 
+// What is written and told where a line is refused.
+type Refusal = (
+    &'static [&'static str],
+    &'static str,
+    &'static str,
+    &'static str,
+);
+
+const REFUSED: [Refusal; 14] = [
+    (&["cut:1:"], "ab\né\n", "b\n", "line 2: refused\n"),
+    (&["cut:1:"], "é", "", "line 1: refused\n"),
+    (&["cut:1:"], "é\né\nab\n", "", "line 1: refused\n"),
+    (&["cut:0:1"], "ab\n\né\nab", "a\n\n", "line 3: refused\n"),
+    (&["cut:3:1"], "\n", "", "line 1: refused\n"),
+    (
+        &["cut:0:1"],
+        "\n\n\n\n\n\n\n\n\né",
+        "\n\n\n\n\n\n\n\n\n",
+        "line 10: refused\n",
+    ),
+    (&["prefix:ab"], "abc\nxbc\nabd", "c\n", "line 2: refused\n"),
+    (&["left:1"], "é\n", "", "line 1: refused\n"),
+    (
+        &["left:13"],
+        "\x1b[31;40mPer Martin-Löf\x1b[0m",
+        "",
+        "line 1: refused\n",
+    ),
+    (&["part:4:"], "ab", "", "line 1: refused\n"),
+    (
+        &["part:3:X"],
+        "\x1b[31mlionXXtiger\x1b[0m",
+        "",
+        "line 1: refused\n",
+    ),
+    (
+        &["part:18446744073709551615:"],
+        "ab",
+        "",
+        "line 1: refused\n",
+    ),
+    (
+        &["left:1", "prefix:x"],
+        "\x1b[31mab\x1b[39m",
+        "",
+        "line 1: refused\n",
+    ),
+    (
+        &["suffix:", "part:0:,", "prefix:x"],
+        "a,\x1b[1mb",
+        "",
+        "line 1: refused\n",
+    ),
+];
+
+#[test]
+fn a_refused_line_ends_the_run(rt: HostRuntime) -> Result<(), Fail> {
+    for (words, text, before, refused) in REFUSED {
+        let ran = run_on(rt.alloc(), words, page_of(rt.alloc(), text.as_bytes())?)?;
+        expect(&rt, &ran, 1, before, refused, text);
+        assert_eq!(rt;
+            ran.output.passed(),
+            before.len(),
+            "what is passed on of {text:?}"
+        );
+    }
+    Ok(())
+}
+
+const BAD_WORDS: [&[&str]; 49] = [
+    &[],
+    &["strip", "trim"],
+    &["strip", "strip"],
+    &["strip", "cut:0:1"],
+    &["Strip"],
+    &["strip "],
+    &["strip:"],
+    &["--strip"],
+    &[""],
+    &["cut"],
+    &["cut:1"],
+    &["cut::3"],
+    &["cut::"],
+    &["cut:x:"],
+    &["cut:1:x"],
+    &["cut:+1:"],
+    &["cut:1:+3"],
+    &["cut:-1:"],
+    &["cut:1:2:3"],
+    &["cut:1:2:"],
+    &["cut:1: 2"],
+    &[" cut:0:1"],
+    &["Cut:0:1"],
+    &["cut:18446744073709551616:"],
+    &["cut:0:18446744073709551616"],
+    &["strip", "x"],
+    &["trim", "strip"],
+    &["trim", ""],
+    &["trim", "cut:0:1", "x"],
+    &["trim:"],
+    &["Trim"],
+    &["left"],
+    &["left:"],
+    &["left:1:"],
+    &["left:+1"],
+    &["left: 1"],
+    &["left:18446744073709551616"],
+    &["right:"],
+    &["right:-1"],
+    &["right:x"],
+    &["part"],
+    &["part:"],
+    &["part:1"],
+    &["part::a"],
+    &["part:a:1"],
+    &["part:+1:"],
+    &["prefix"],
+    &["suffix"],
+    &["prefix "],
+];
+
 #[test]
 fn bad_words_read_nothing(rt: HostRuntime) -> Result<(), Fail> {
-    let cases: [&[&str]; 26] = [
-        &[],
-        &["strip", "trim"],
-        &["strip", "strip"],
-        &["strip", "cut:0:1"],
-        &["cut:0:1", "cut:0:1"],
-        &["Strip"],
-        &["strip "],
-        &["strip:"],
-        &["--strip"],
-        &[""],
-        &["cut"],
-        &["cut:1"],
-        &["cut::3"],
-        &["cut::"],
-        &["cut:x:"],
-        &["cut:1:x"],
-        &["cut:+1:"],
-        &["cut:1:+3"],
-        &["cut:-1:"],
-        &["cut:1:2:3"],
-        &["cut:1:2:"],
-        &["cut:1: 2"],
-        &[" cut:0:1"],
-        &["Cut:0:1"],
-        &["cut:18446744073709551616:"],
-        &["cut:0:18446744073709551616"],
-    ];
-    for words in cases {
+    for words in BAD_WORDS {
         let planned = at_call(rt.alloc(), 0, Outcome::Failed)?;
         let input = page_of(rt.alloc(), b"abc\n")?.with_schedule(planned.clone()?);
         let output = Page::with_room(rt.alloc(), 100)?.with_schedule(planned);
@@ -169,22 +284,21 @@ fn bad_words_read_nothing(rt: HostRuntime) -> Result<(), Fail> {
 
 #[test]
 fn an_input_at_the_limit_is_taken_and_one_beyond_refused(rt: HostRuntime) -> Result<(), Fail> {
-    let longest = vec![in rt.alloc(); b'a'; MAX_BYTES]?;
-    let input = Page::of(rt.alloc(), longest.clone()?);
-    let ran = strip_over(rt.alloc(), input, Page::with_room(rt.alloc(), MAX_BYTES)?)?;
-    assert_eq!(rt; ran.status, 0, "status of the longest input");
-    assert!(rt;
-        ran.output.bytes() == longest.as_slice(),
-        "output of the longest input"
-    );
-    let longer = vec![in rt.alloc(); b'a'; MAX_BYTES + 1]?;
-    let input = Page::of(rt.alloc(), longer);
-    let ran = strip_over(
-        rt.alloc(),
-        input,
-        Page::with_room(rt.alloc(), MAX_BYTES + 1)?,
-    )?;
-    expect(&rt, &ran, 3, "", "bad input\n", "an input that is too long");
+    for word in ["strip", "trim"] {
+        let longest = vec![in rt.alloc(); b'a'; MAX_BYTES]?;
+        let input = Page::of(rt.alloc(), longest.clone()?);
+        let output = Page::with_room(rt.alloc(), MAX_BYTES)?;
+        let faults = Page::with_room(rt.alloc(), 100)?;
+        let ran = run_over(rt.alloc(), &[word], input, output, faults)?;
+        assert_eq!(rt; ran.status, 0, "status of {word} on the longest input");
+        assert!(rt;
+            ran.output.bytes() == longest.as_slice(),
+            "output of {word} on the longest input"
+        );
+        let longer = vec![in rt.alloc(); b'a'; MAX_BYTES + 1]?;
+        let ran = run_on(rt.alloc(), &[word], Page::of(rt.alloc(), longer))?;
+        expect(&rt, &ran, 3, "", "bad input\n", "an input that is too long");
+    }
     Ok(())
 }
 
@@ -192,138 +306,8 @@ fn an_input_at_the_limit_is_taken_and_one_beyond_refused(rt: HostRuntime) -> Res
 fn an_input_that_is_no_text_is_refused(rt: HostRuntime) -> Result<(), Fail> {
     let cases: [&[u8]; 3] = [b"\xff", b"abc\n\xc3", b"\xed\xa0\x80\n"];
     for bytes in cases {
-        let input = page_of(rt.alloc(), bytes)?;
-        let ran = strip_over(rt.alloc(), input, Page::with_room(rt.alloc(), 100)?)?;
+        let ran = run_on(rt.alloc(), &["strip"], page_of(rt.alloc(), bytes)?)?;
         expect(&rt, &ran, 3, "", "bad input\n", "bytes that are no text");
-    }
-    Ok(())
-}
-
-#[test]
-fn each_failing_read_is_told_of(rt: HostRuntime) -> Result<(), Fail> {
-    let reads = TEXT.len().div_ceil(CHUNK) + 1;
-    for call in 0..reads + 1 {
-        let planned = at_call(rt.alloc(), call, Outcome::Failed)?;
-        let input = page_of(rt.alloc(), TEXT.as_bytes())?.with_schedule(planned);
-        let ran = strip_over(rt.alloc(), input, Page::with_room(rt.alloc(), 100)?)?;
-        if call == reads {
-            expect(&rt, &ran, 0, STRIPPED, "", "a failing read that isn't made");
-        } else {
-            expect(&rt, &ran, 3, "", "bad input\n", "a failing read");
-            assert_eq!(rt;
-                ran.input.outcomes_left(),
-                0,
-                "reads before the failing one, {call}"
-            );
-        }
-    }
-    Ok(())
-}
-
-#[test]
-fn interrupted_reads_are_made_again(rt: HostRuntime) -> Result<(), Fail> {
-    let planned = interrupted_each_once(rt.alloc(), 10)?;
-    let input = page_of(rt.alloc(), TEXT.as_bytes())?.with_schedule(planned);
-    let ran = strip_over(rt.alloc(), input, Page::with_room(rt.alloc(), 100)?)?;
-    expect(
-        &rt,
-        &ran,
-        0,
-        STRIPPED,
-        "",
-        "reads that are interrupted once",
-    );
-
-    let longest = vec![in rt.alloc(); b'a'; MAX_BYTES]?;
-    let planned = interrupted_each_once(rt.alloc(), MAX_BYTES + 1)?;
-    let input = Page::of(rt.alloc(), longest)
-        .in_chunks(1)
-        .with_schedule(planned);
-    let ran = strip_over(rt.alloc(), input, Page::with_room(rt.alloc(), MAX_BYTES)?)?;
-    assert_eq!(rt; ran.status, 0, "status of the longest input, a byte a read");
-    assert_eq!(rt; ran.output.bytes().len(), MAX_BYTES, "output of it");
-    assert_eq!(rt; ran.input.outcomes_left(), 0, "reads of it");
-
-    let planned = vec![in rt.alloc(); Outcome::Interrupted; MAX_READS + 1]?;
-    let input = page_of(rt.alloc(), b"a")?.with_schedule(planned);
-    let ran = strip_over(rt.alloc(), input, Page::with_room(rt.alloc(), 100)?)?;
-    expect(
-        &rt,
-        &ran,
-        3,
-        "",
-        "bad input\n",
-        "reads that are interrupted for ever",
-    );
-    assert!(rt;
-        0 < ran.input.outcomes_left(),
-        "no more reads than there may be"
-    );
-    Ok(())
-}
-
-#[test]
-fn each_failing_write_and_flush_is_told_of(rt: HostRuntime) -> Result<(), Fail> {
-    for outcome in [Outcome::Failed, Outcome::Interrupted] {
-        for call in 0..OUTPUT_CALLS + 1 {
-            let planned = at_call(rt.alloc(), call, outcome)?;
-            let input = page_of(rt.alloc(), TEXT.as_bytes())?;
-            let output = Page::with_room(rt.alloc(), 100)?.with_schedule(planned);
-            let ran = strip_over(rt.alloc(), input, output)?;
-            if call == OUTPUT_CALLS {
-                expect(&rt, &ran, 0, STRIPPED, "", "a failing call that isn't made");
-            } else {
-                assert_eq!(rt;
-                    ran.status,
-                    4,
-                    "status with call {call} of the output failing"
-                );
-                assert_eq!(rt;
-                    ran.faults.bytes(),
-                    b"write failed\n".as_slice(),
-                    "faults with call {call} failing"
-                );
-                assert_eq!(rt;
-                    ran.output.outcomes_left(),
-                    0,
-                    "calls before the failing one, {call}"
-                );
-                assert_eq!(rt;
-                    ran.output.passed(),
-                    0,
-                    "nothing is passed on with call {call} failing"
-                );
-            }
-        }
-    }
-    Ok(())
-}
-
-#[test]
-fn a_full_page_takes_no_more(rt: HostRuntime) -> Result<(), Fail> {
-    let input = page_of(rt.alloc(), b"abc\n")?;
-    let ran = strip_over(rt.alloc(), input, Page::with_room(rt.alloc(), 3)?)?;
-    expect(
-        &rt,
-        &ran,
-        4,
-        "abc",
-        "write failed\n",
-        "a page with no room for the line feed",
-    );
-    Ok(())
-}
-
-#[test]
-fn a_fault_of_the_fault_writer_is_passed_over(rt: HostRuntime) -> Result<(), Fail> {
-    let cases: [(&str, &[u8], u8); 2] = [("trim", b"abc\n", 2), ("strip", b"\xff", 3)];
-    for (word, bytes, status) in cases {
-        let input = page_of(rt.alloc(), bytes)?;
-        let output = Page::with_room(rt.alloc(), 100)?;
-        let planned = at_call(rt.alloc(), 0, Outcome::Failed)?;
-        let faults = Page::with_room(rt.alloc(), 100)?.with_schedule(planned);
-        let ran = run_over(rt.alloc(), &[word], input, output, faults)?;
-        expect(&rt, &ran, status, "", "", "a run whose fault writer fails");
     }
     Ok(())
 }

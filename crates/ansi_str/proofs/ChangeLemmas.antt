@@ -1,36 +1,125 @@
--- A cut and the sides of a whole text are the slices of its styled bytes that the changes name.
-use Rattle.std.proofs.Common.{◌≡◌, ℕ, ◌-◌, List, length, take, sym, ◌∙◌, ap, arith, IsTrue, slice_range, Option, Some, None}
-use Rattle.std.specs.Prelude.{unwrap_or, option_map}
+-- What one change makes of a whole text is the slice of its styled bytes that it names, whole, and closed where the change closes.
+use Rattle.std.proofs.Common.{◌≡◌, ℕ, ◌-◌, Bool, true, false, List, length, take, Option, Some, None, option_map, is_some, refl, sym, ◌∙◌, ap, subst, arith, IsTrue, slice_range, if◌then◌else◌, nat_eq}
+use Rattle.std.specs.Prelude.{IfSome, unwrap_or}
+use Rattle.std.specs.List.{starts_with, ends_with}
 use Rattle.std.proofs.lemmas.Bool.{cond-true}
 use Rattle.std.proofs.lemmas.List.{length-map}
+use Rattle.std.proofs.lemmas.Option.{cond_some}
 use Rattle.ansi_str.specs.Plain.{plain, is_whole}
-use Rattle.ansi_str.specs.Styled.{styled}
-use Rattle.ansi_str.specs.Positions.{is_good_range, is_good_position}
+use Rattle.ansi_str.specs.Rendition.{plain_style}
+use Rattle.ansi_str.specs.Styled.{StyledByte, styled, bytes_of, residue}
+use Rattle.ansi_str.specs.Positions.{is_good_position, is_good_range}
 use Rattle.ansi_str.specs.Cut.{cut}
 use Rattle.ansi_str.specs.Sides.{left_side, right_side}
-use Rattle.ansi_str.specs.Changes.{Change, interval_of, slice_of, CutRange, LeftOf, RightOf}
-use Rattle.ansi_str.proofs.SliceLemmas.{slice_range-past}
+use Rattle.ansi_str.specs.Kept.{kept, without_prefix, without_suffix, trim_interval, trimmed}
+use Rattle.ansi_str.specs.Changes.{Change, CutRange, LeftOf, RightOf, PartOf, WithoutPrefix, WithoutSuffix, Trimmed, interval_of, slice_of}
+use Rattle.ansi_str.specs.Edited.{text_of, edited_by, closes}
+use Rattle.ansi_str.proofs.SliceLemmas.{slice_range-past, slice_range-map}
 use Rattle.ansi_str.proofs.StyledLemmas.{bytes_of-styled}
-use Rattle.ansi_str.proofs.CutSliceLemmas.{styled-cut}
+use Rattle.ansi_str.proofs.CutSliceLemmas.{styled-cut, is_whole-cut, residue-cut}
 use Rattle.ansi_str.proofs.SideSliceLemmas.{left_side_is, right_side_is}
+use Rattle.ansi_str.proofs.KeptLemmas.{styled-kept, is_whole-kept, residue-kept}
+use Rattle.ansi_str.proofs.PartSliceLemmas.{text_of-part_is}
 
--- a text u with the styled bytes of the interval that a change keeps of t
-slice_of-interval : (e : Change) (t u : List ℕ) (a b : ℕ) → interval_of e (plain t) ≡ Some (a, b) → styled u ≡ slice_range (styled t) a b → slice_of e (styled t) ≡ Some (styled u)
-slice_of-interval e t u a b keeps is =
-    ap (option_map (λ (i : ℕ × ℕ). slice_range (styled t) i.0 i.1)) (ap (interval_of e) (bytes_of-styled t) ∙ keeps) ∙ ap Some (sym is)
+-- u is what a change makes of t that keeps the interval i; it closes, or leaves open what t does
+record IsSlice (closing : Bool) (t : List ℕ) (i : ℕ × ℕ) (u : List ℕ) : Type 0 where
+  styled_bytes : styled u ≡ slice_range (styled t) i.0 i.1
+  whole : IsTrue (is_whole u)
+  left_open : residue u ≡ (if closing then plain_style else residue t)
+
+kept_is : (t : List ℕ) (a b : ℕ) → IsTrue (is_whole t) → IsSlice false t (a, b) (kept t a b)
+kept_is t a b whole = record { styled_bytes = styled-kept t a b whole; whole = is_whole-kept t a b whole; left_open = residue-kept t a b whole }
+
+left_is : (t : List ℕ) (mid : ℕ) → IsTrue (is_whole t) → IsSlice true t (0, mid) (text_of (LeftOf mid) t)
+left_is t mid whole =
+    let side = left_side_is t mid whole in
+    let all : mid ≡ mid - 0 = omega arith in
+    record { styled_bytes = side.styled_bytes ∙ ap (λ n. take n (styled t)) all; whole = side.whole; left_open = side.closed }
+
+right_is : (t : List ℕ) (mid : ℕ) → IsTrue (is_whole t) → IsSlice true t (mid, length (plain t)) (text_of (RightOf mid) t)
+right_is t mid whole =
+    let side = right_side_is t mid whole in
+    let size : length (styled t) ≡ length (plain t) = sym (length-map (styled t) _) ∙ ap length (bytes_of-styled t) in
+    record { styled_bytes = side.styled_bytes ∙ sym (slice_range-past (styled t) mid (length (plain t)) (omega (arith, size))); whole = side.whole; left_open = side.closed }
+
+-- A change that isn't refused.
+
+-- where a test lets the interval j through, it is the one that is found
+through : (closing test : Bool) (t u : List ℕ) (i j : ℕ × ℕ) → (if test then Some j else None) ≡ Some i → IsSlice closing t j u → IsSlice closing t i u
+through closing test t u i j found is = subst (λ k. IsSlice closing t k u) (cond_some test j i found).1 is
+
+text_of_is : (e : Change) (t : List ℕ) (i : ℕ × ℕ) → IsTrue (is_whole t) → interval_of e (plain t) ≡ Some i → IsSlice (closes e) t i (text_of e t)
+text_of_is (CutRange s e) t i whole found =
+    through true (is_good_range (plain t) s e) t (cut t s e) i (s, unwrap_or e (length (plain t))) found
+    (record { styled_bytes = styled-cut t s e whole; whole = is_whole-cut t s e whole; left_open = residue-cut t s e whole })
+text_of_is (LeftOf mid) t i whole found = through true (is_good_position (plain t) mid) t (text_of (LeftOf mid) t) i (0, mid) found (left_is t mid whole)
+text_of_is (RightOf mid) t i whole found = through true (is_good_position (plain t) mid) t (text_of (RightOf mid) t) i (mid, length (plain t)) found (right_is t mid whole)
+text_of_is (PartOf p k) t i whole found =
+    let is = text_of-part_is t p k i whole found in
+    record { styled_bytes = is.styled_bytes; whole = is.whole; left_open = is.closed }
+text_of_is (WithoutPrefix p) t i whole found =
+    let end = length (plain t) in
+    through false (starts_with nat_eq (plain t) p) t (text_of (WithoutPrefix p) t) i (length p, end) found (kept_is t (length p) end whole)
+text_of_is (WithoutSuffix p) t i whole found =
+    let end = length (plain t) - length p in
+    through false (ends_with nat_eq (plain t) p) t (text_of (WithoutSuffix p) t) i (0, end) found (kept_is t 0 end whole)
+text_of_is Trimmed t i whole found =
+    let j = trim_interval (plain t) in
+    through false true t (text_of Trimmed t) i j found (kept_is t j.0 j.1 whole)
+
+-- The answer to a change, or to changes in turn, of which one closes or none.
+
+abbrev pub IsAnswer : Bool → List ℕ → Option (List StyledByte) → Option (List ℕ) → Type 0
+IsAnswer closing t slice answer = (slice ≡ option_map styled answer)
+    × IfSome answer (λ u. IsTrue (is_whole u) × (residue u ≡ (if closing then plain_style else residue t)))
+
+pub edited_by_answers : (e : Change) (t : List ℕ) → IsTrue (is_whole t) → IsAnswer (closes e) t (slice_of e (styled t)) (edited_by e t)
+edited_by_answers e t whole =
+    subst (λ x. IsAnswer (closes e) t (option_map (λ (i : ℕ × ℕ). slice_range (styled t) i.0 i.1) (interval_of e x)) (edited_by e t)) (sym (bytes_of-styled t))
+    (by_interval (interval_of e (plain t)) (λ i found. text_of_is e t i whole found))
+  where
+    by_interval : (o : Option (ℕ × ℕ)) → ((i : ℕ × ℕ) → o ≡ Some i → IsSlice (closes e) t i (text_of e t))
+        → IsAnswer (closes e) t (option_map (λ (i : ℕ × ℕ). slice_range (styled t) i.0 i.1) o) (if is_some o then Some (text_of e t) else None)
+    by_interval None is = (refl, tt)
+    by_interval (Some i) is = (let slice = is i refl in (ap Some (sym slice.styled_bytes), (slice.whole, slice.left_open)))
+
+-- of one change, refused or not
+pub slice_of-styled : (e : Change) (t : List ℕ) → IsTrue (is_whole t) → slice_of e (styled t) ≡ option_map styled (edited_by e t)
+slice_of-styled e t whole = (edited_by_answers e t whole).0
+
+-- Of each change that isn't refused.
+
+accepted : (e : Change) (t : List ℕ) → IsTrue (is_whole t) → is_some (interval_of e (plain t)) ≡ true → slice_of e (styled t) ≡ Some (styled (text_of e t))
+accepted e t whole keeps = slice_of-styled e t whole ∙ ap (option_map styled) (cond-true (is_some (interval_of e (plain t))) (Some (text_of e t)) None keeps)
 
 pub slice_of-cut : (t : List ℕ) (s : ℕ) (e : Option ℕ) → IsTrue (is_whole t) → IsTrue (is_good_range (plain t) s e) → slice_of (CutRange s e) (styled t) ≡ Some (styled (cut t s e))
-slice_of-cut t s e whole good =
-    slice_of-interval (CutRange s e) t (cut t s e) s (unwrap_or e (length (plain t))) (cond-true (is_good_range (plain t) s e) _ None good) (styled-cut t s e whole)
+slice_of-cut t s e whole good = accepted (CutRange s e) t whole (ap is_some (cond-true (is_good_range (plain t) s e) _ None good))
 
 pub slice_of-left_side : (t : List ℕ) (mid : ℕ) → IsTrue (is_whole t) → IsTrue (is_good_position (plain t) mid) → slice_of (LeftOf mid) (styled t) ≡ Some (styled (left_side t mid))
-slice_of-left_side t mid whole good =
-    let first : mid ≡ mid - 0 = omega arith in
-    slice_of-interval (LeftOf mid) t (left_side t mid) 0 mid (cond-true (is_good_position (plain t) mid) _ None good)
-    ((left_side_is t mid whole).styled_bytes ∙ ap (λ n. take n (styled t)) first)
+slice_of-left_side t mid whole good = accepted (LeftOf mid) t whole (ap is_some (cond-true (is_good_position (plain t) mid) _ None good))
 
 pub slice_of-right_side : (t : List ℕ) (mid : ℕ) → IsTrue (is_whole t) → IsTrue (is_good_position (plain t) mid) → slice_of (RightOf mid) (styled t) ≡ Some (styled (right_side t mid))
-slice_of-right_side t mid whole good =
-    let size : length (styled t) ≡ length (plain t) = sym (length-map (styled t) _) ∙ ap length (bytes_of-styled t) in
-    slice_of-interval (RightOf mid) t (right_side t mid) mid (length (plain t)) (cond-true (is_good_position (plain t) mid) _ None good)
-    ((right_side_is t mid whole).styled_bytes ∙ sym (slice_range-past (styled t) mid (length (plain t)) (omega (arith, size))))
+slice_of-right_side t mid whole good = accepted (RightOf mid) t whole (ap is_some (cond-true (is_good_position (plain t) mid) _ None good))
+
+pub slice_of-without_prefix : (t p : List ℕ) → IsTrue (is_whole t) → IsTrue (starts_with nat_eq (plain t) p) → slice_of (WithoutPrefix p) (styled t) ≡ Some (styled (without_prefix t p))
+slice_of-without_prefix t p whole begins = accepted (WithoutPrefix p) t whole (ap is_some (cond-true (starts_with nat_eq (plain t) p) _ None begins))
+
+pub slice_of-without_suffix : (t p : List ℕ) → IsTrue (is_whole t) → IsTrue (ends_with nat_eq (plain t) p) → slice_of (WithoutSuffix p) (styled t) ≡ Some (styled (without_suffix t p))
+slice_of-without_suffix t p whole ends = accepted (WithoutSuffix p) t whole (ap is_some (cond-true (ends_with nat_eq (plain t) p) _ None ends))
+
+pub slice_of-trimmed : (t : List ℕ) → IsTrue (is_whole t) → slice_of Trimmed (styled t) ≡ Some (styled (trimmed t))
+slice_of-trimmed t whole = accepted Trimmed t whole refl
+
+-- The plain text of what a change makes is the slice of the plain text.
+
+option_map-map : {X Y Z : Type 0} (f : Y → Z) (g : X → Y) (h : X → Z) → ((x : X) → f (g x) ≡ h x) → (o : Option X) → option_map f (option_map g o) ≡ option_map h o
+option_map-map f g h same None = refl
+option_map-map f g h same (Some x) = ap Some (same x)
+
+pub plain-edited_by : (e : Change) (t : List ℕ) → IsTrue (is_whole t) → option_map plain (edited_by e t) ≡ option_map (λ (i : ℕ × ℕ). slice_range (plain t) i.0 i.1) (interval_of e (plain t))
+plain-edited_by e t whole =
+    let slice : ℕ × ℕ → List ℕ = λ i. slice_range (bytes_of (styled t)) i.0 i.1 in
+    sym (option_map-map bytes_of styled plain bytes_of-styled (edited_by e t))
+    ∙ ap (option_map bytes_of) (sym (slice_of-styled e t whole))
+    ∙ option_map-map bytes_of (λ (i : ℕ × ℕ). slice_range (styled t) i.0 i.1) slice (λ i. sym (slice_range-map (λ (b : StyledByte). b.byte) (styled t) i.0 i.1)) (interval_of e (bytes_of (styled t)))
+    ∙ ap (λ x. option_map (λ (i : ℕ × ℕ). slice_range x i.0 i.1) (interval_of e x)) (bytes_of-styled t)

@@ -40,7 +40,7 @@ close_resets s both =
 
 -- Else each code ends what it is written for.
 
-none_from : {A : Type 0} (o : Option A) → is_some o ≡ false → o ≡ None
+pub none_from : {A : Type 0} (o : Option A) → is_some o ≡ false → o ≡ None
 none_from None none = refl
 none_from (Some x) none = absurd (true≢false none)
 

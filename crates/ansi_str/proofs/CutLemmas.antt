@@ -11,8 +11,8 @@ use Rattle.ansi_str.specs.Written.{close}
 use Rattle.ansi_str.specs.Reading.{after_marks}
 use Rattle.ansi_str.specs.Cut.{show, cut_up_to, cut}
 use Rattle.ansi_str.proofs.SliceLemmas.{slice_range-none, slice_range-past}
-use Rattle.ansi_str.proofs.PlainLemmas.{one_text, pieces_of-bare, plain-bare, length-plain}
-use Rattle.ansi_str.proofs.MarkLemmas.{further, marks_of-text, marks_of-sequence, marks_of-lone, up_to-none, up_to-further, up_to-here, after_marks-further}
+use Rattle.ansi_str.proofs.PlainLemmas.{plain-bare, length-plain}
+use Rattle.ansi_str.proofs.MarkLemmas.{further, marks-bare, marks_of-text, marks_of-sequence, marks_of-lone, up_to-none, up_to-further, up_to-here, after_marks-further}
 use Rattle.ansi_str.proofs.ShowLemmas.{show-nil, show-bare, show-text, show-mark}
 
 -- The cut of the pieces that are left, where `style` has been reached: s plain bytes are still to be passed over, and the end is e plain bytes away. It is over where a text goes on past the end.
@@ -101,9 +101,5 @@ cut_up_to-unwrap_or t s (Some e) top past = refl
 
 pub cut_up_to-bare : (t : List ℕ) (s e : ℕ) → IsFalse (has_escape t) → cut_up_to t s e ≡ slice_range t s e
 cut_up_to-bare t s e none =
-    ap₂ (λ x ms. closed plain_style x s e (up_to e ms)) (plain-bare t none) (ap marks_of (pieces_of-bare t none) ∙ no_marks t)
+    ap₂ (λ x ms. closed plain_style x s e (up_to e ms)) (plain-bare t none) (marks-bare t none)
     ∙ append-nil (show t s e []) ∙ show-bare t s e
-  where
-    no_marks : (x : List ℕ) → marks_of (one_text x) ≡ []
-    no_marks [] = refl
-    no_marks (b ∷ bs) = refl

@@ -32,7 +32,7 @@ pub so_far-range : {whole written : List ℕ} {style : Rendition} {s e : ℕ} {w
     → IsUtf8 w → IsTrue (is_good_range w s (Some e))
 so_far-range {whole} {written} {style} {s} {e} {w} {left} {ps} so_far is utf8 =
     let first = subst (IsCutSoFar whole written style s e) is so_far in
-    good_range_in_front w (plain_of ps) s e utf8 first.ordered first.start_is_good first.end_is_good
+    good_range_in_front w (plain_of ps) s e utf8 first.ordered first.start_is_good (λ _. first.end_is_good)
 
 -- over a text that ends at or before the end of the cut
 pub so_far-text : {whole old new : List ℕ} {style : Rendition} {s e from to : ℕ} {w part : List ℕ} {left ps : List Piece} → IsCutSoFar whole old style s e left → left ≡ Text w ∷ ps

@@ -33,7 +33,7 @@ append_filled : (w v : List ℕ) → w ≢ [] → (w ++ v) ≢ []
 append_filled [] v filled = absurd (filled refl)
 append_filled (b ∷ w) v filled = λ e. cc
 
-after_text_are : (w rest : List ℕ) (ps : List Piece) → w ≢ [] → list_all is_plain_byte w ≡ true → ArePieces rest ps → ArePieces (w ++ rest) (after_text w ps)
+pub after_text_are : (w rest : List ℕ) (ps : List Piece) → w ≢ [] → list_all is_plain_byte w ≡ true → ArePieces rest ps → ArePieces (w ++ rest) (after_text w ps)
 after_text_are w rest [] filled all are = (rest, refl, (filled, all, λ some. absurd (some are)), are)
 after_text_are w rest (Text v ∷ ps) filled all are =
     let both : list_all is_plain_byte (w ++ v) ≡ true = list_all-append is_plain_byte w v ∙ and_from _ _ all are.2.1 in

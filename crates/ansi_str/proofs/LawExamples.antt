@@ -1,16 +1,22 @@
 -- Worked examples of the laws, each by computation: what they say of small texts, and where they need their premises.
-use Rattle.std.proofs.Common.{◌≡◌, refl, codes, List, [], ◌∷◌, ◌++◌, ℕ, true, Some}
+use Rattle.std.proofs.Common.{◌≡◌, refl, codes, List, [], ◌∷◌, ◌++◌, ℕ, ◌+◌, true, Some, None, length}
+use Rattle.std.specs.Prelude.{option_map, encode_utf8_all}
+use Rattle.std.specs.Char.{encode_utf8}
 use Rattle.std.specs.Fmt.{digits}
-use Rattle.std.specs.Str.{byte}
+use Rattle.std.specs.Str.{byte, chars, trim_start, trim_end, trim}
 use Rattle.ansi_str.specs.declared.ansitok.AnsiColor.TheVariants.{Bit4}
 use Rattle.ansi_str.specs.Pieces.{pieces_of, Sequence, Text, merged, LoneEscape}
+use Rattle.ansi_str.specs.Plain.{plain}
 use Rattle.ansi_str.specs.Rendition.{Rendition, plain_style, known}
 use Rattle.ansi_str.specs.Written.{start, close}
-use Rattle.ansi_str.specs.Styled.{styled}
+use Rattle.ansi_str.specs.Styled.{styled, bytes_of, residue}
 use Rattle.ansi_str.specs.Reading.{style_behind}
 use Rattle.ansi_str.specs.Cut.{cut}
 use Rattle.ansi_str.specs.Sides.{right_side, left_side}
-use Rattle.ansi_str.specs.Changes.{slice_of, CutRange}
+use Rattle.ansi_str.specs.Kept.{kept, without_prefix, trimmed}
+use Rattle.ansi_str.specs.Parts.{parts, part_over, part, all_parts}
+use Rattle.ansi_str.specs.Changes.{slice_of, CutRange, LeftOf, RightOf, PartOf, WithoutPrefix, Trimmed}
+use Rattle.ansi_str.specs.Edited.{meaning}
 
 abbrev bold_style : Rendition
 bold_style = record plain_style { bold = true }
@@ -75,3 +81,133 @@ sides_of_two_styles = refl
 sides_of_two_styles_join : styled (left_side two_styles 1 ++ right_side two_styles 1) ≡ styled two_styles
 unfolding left_side right_side
 sides_of_two_styles_join = refl
+
+-- What is kept of a text is a slice of the styled bytes, and every mark: what a text leaves open stays open.
+
+abbrev bold_between_blanks : List ℕ
+bold_between_blanks = codes " \u{1b}[1m a \u{1b}[3m"
+
+trimmed_bold_between_blanks : trimmed bold_between_blanks ≡ codes "\u{1b}[1ma\u{1b}[3m"
+unfolding chars trim_start trim_end encode_utf8 kept
+trimmed_bold_between_blanks = refl
+
+slice_of_bold_between_blanks : slice_of Trimmed (styled bold_between_blanks) ≡ Some (record { byte = byte "a"; style = bold_style } ∷ [])
+unfolding chars trim_start trim_end encode_utf8
+slice_of_bold_between_blanks = refl
+
+bold_between_blanks_leaves_open : residue (trimmed bold_between_blanks) ≡ record bold_style { italic = true }
+unfolding chars trim_start trim_end encode_utf8 kept
+bold_between_blanks_leaves_open = refl
+
+prefix_of_two_styles : styled (without_prefix two_styles (codes "ab")) ≡ record { byte = byte "c"; style = plain_style } ∷ []
+unfolding kept
+prefix_of_two_styles = refl
+
+slice_without_a_prefix_of_two_styles : slice_of (WithoutPrefix (codes "ab")) (styled two_styles) ≡ Some (record { byte = byte "c"; style = plain_style } ∷ [])
+slice_without_a_prefix_of_two_styles = refl
+
+slice_without_another_prefix : slice_of (WithoutPrefix (codes "b")) (styled two_styles) ≡ None
+slice_without_another_prefix = refl
+
+-- behind a lone escape, what is left may be read as a sequence, so only of whole texts is it the slice
+
+abbrev lone_before_white_space : List ℕ
+lone_before_white_space = codes "\u{1b}\n[1m"
+
+trimmed_behind_a_lone_escape : trimmed lone_before_white_space ≡ codes "\u{1b}[1m"
+unfolding chars trim_start trim_end encode_utf8 kept
+trimmed_behind_a_lone_escape = refl
+
+plain_of_trimmed_behind_a_lone_escape : plain (trimmed lone_before_white_space) ≡ []
+unfolding chars trim_start trim_end encode_utf8 kept
+plain_of_trimmed_behind_a_lone_escape = refl
+
+trim_of_plain_behind_a_lone_escape : trim (plain lone_before_white_space) ≡ codes "[1m"
+unfolding chars trim_start trim_end encode_utf8
+trim_of_plain_behind_a_lone_escape = refl
+
+-- A part is a slice of the styled bytes too, whole, and leaves nothing known open.
+
+abbrev list_in_two_styles : List ℕ
+list_in_two_styles = codes "a,\u{1b}[1mb,c\u{1b}[0md,"
+
+parts_of_a_list : all_parts list_in_two_styles (codes ",") ≡ codes "a" ∷ codes "\u{1b}[1mb\u{1b}[22m" ∷ codes "\u{1b}[1mc\u{1b}[0md" ∷ [] ∷ []
+unfolding digits part_over
+parts_of_a_list = refl
+
+part_of_a_list : option_map styled (part list_in_two_styles (codes ",") 2) ≡ Some (record { byte = byte "c"; style = bold_style } ∷ record { byte = byte "d"; style = plain_style } ∷ [])
+unfolding digits part_over
+part_of_a_list = refl
+
+slice_of_a_list : slice_of (PartOf (codes ",") 2) (styled list_in_two_styles) ≡ Some (record { byte = byte "c"; style = bold_style } ∷ record { byte = byte "d"; style = plain_style } ∷ [])
+slice_of_a_list = refl
+
+part_that_ends_in_bold_leaves_nothing_open : option_map residue (part list_in_two_styles (codes ",") 1) ≡ Some plain_style
+unfolding digits part_over
+part_that_ends_in_bold_leaves_nothing_open = refl
+
+slice_past_the_last_part : slice_of (PartOf (codes ",") 4) (styled list_in_two_styles) ≡ None
+slice_past_the_last_part = refl
+
+-- where nothing is set that a reader could see, a part is neither started nor closed
+
+parts_behind_an_unknown_code : all_parts (codes "\u{1b}[99ma,b") (codes ",") ≡ codes "\u{1b}[99ma" ∷ codes "b" ∷ []
+unfolding part_over
+parts_behind_an_unknown_code = refl
+
+-- a title at the end of a part is the part's, and one within a match belongs to the part behind
+
+title_at_the_end_of_a_part : all_parts (codes "a\u{1b}]0;t\u{7},b") (codes ",") ≡ codes "a\u{1b}]0;t\u{7}" ∷ codes "b" ∷ []
+unfolding part_over
+title_at_the_end_of_a_part = refl
+
+title_within_a_match : all_parts (codes "a:\u{1b}]0;t\u{7}:b") (codes "::") ≡ codes "a" ∷ codes "\u{1b}]0;t\u{7}b" ∷ []
+unfolding part_over
+title_within_a_match = refl
+
+-- a lone escape within a match may begin a sequence with what follows the match, so only of whole texts is a part the slice
+
+abbrev lone_within_a_match : List ℕ
+lone_within_a_match = codes "a\n\u{1b}\n[1m"
+
+part_behind_a_lone_escape : part lone_within_a_match (codes "\n\n") 1 ≡ Some (codes "\u{1b}[1m")
+unfolding digits part_over
+part_behind_a_lone_escape = refl
+
+slice_behind_a_lone_escape : option_map bytes_of (slice_of (PartOf (codes "\n\n") 1) (styled lone_within_a_match)) ≡ Some (codes "[1m")
+slice_behind_a_lone_escape = refl
+
+-- The intervals of the parts lie between the first matches: one that begins within another isn't taken, and what is behind the last match is a part, though it may be empty.
+
+parts_between_pairs : parts (codes "aaa") (codes "aa") ≡ (0, 0) ∷ (2, 3) ∷ []
+parts_between_pairs = refl
+
+parts_before_and_behind_a_match : parts (codes "aa") (codes "aa") ≡ (0, 0) ∷ (2, 2) ∷ []
+parts_before_and_behind_a_match = refl
+
+-- at the empty pattern they are the characters between two empty texts, so there may be two more of them than bytes
+
+parts_at_the_empty_pattern : all_parts (codes "\u{1b}[1ma" ++ encode_utf8_all (codes "é") ++ codes "\u{1b}[0m") [] ≡
+    codes "\u{1b}[1m\u{1b}[22m" ∷ codes "\u{1b}[1ma\u{1b}[22m" ∷ (codes "\u{1b}[1m" ++ encode_utf8_all (codes "é") ++ codes "\u{1b}[0m") ∷ [] ∷ []
+unfolding digits part_over encode_utf8
+parts_at_the_empty_pattern = refl
+
+most_parts : length (parts (codes "ab") []) ≡ 4
+most_parts = refl
+
+-- a part of one byte in the style with the longest start, 163 bytes, and the longest close, 88
+
+longest_part_of_a_byte : option_map length (part (codes "\u{1b}[0;99;1;2;3;4;5;6;7;8;9;11;20;21;26;38;2;255;255;255;48;2;255;255;255;58;2;255;255;255;51;52;53;60;61;62;63;64;73;74ma,b") (codes ",") 1) ≡ Some (1 + 251)
+unfolding digits part_over
+longest_part_of_a_byte = refl
+
+-- Changes in turn: each is judged by what the one before has left.
+
+side_of_a_cut : meaning (CutRange 1 None ∷ LeftOf 1 ∷ []) (styled two_styles) ≡ Some (record { byte = byte "b"; style = bold_style } ∷ [])
+side_of_a_cut = refl
+
+prefix_of_a_side : meaning (RightOf 1 ∷ WithoutPrefix (codes "b") ∷ []) (styled two_styles) ≡ Some (record { byte = byte "c"; style = plain_style } ∷ [])
+prefix_of_a_side = refl
+
+prefix_that_a_side_lost : meaning (RightOf 1 ∷ WithoutPrefix (codes "ab") ∷ []) (styled two_styles) ≡ None
+prefix_that_a_side_lost = refl

@@ -1,13 +1,14 @@
 -- The marks of pieces, one piece at a time, and those up to a place.
-use Rattle.std.proofs.Common.{◌≡◌, ℕ, suc, ◌+◌, ◌-◌, ◌<◌, ◌≤◌, Bool, true, false, List, [], ◌∷◌, length, map, filter_map, Option, refl, ◌∙◌, ap, ap₂, arith, nat_le, if◌then◌else◌}
+use Rattle.std.proofs.Common.{◌≡◌, ℕ, suc, ◌+◌, ◌-◌, ◌<◌, ◌≤◌, Bool, true, false, List, [], ◌∷◌, length, map, filter_map, Option, refl, ◌∙◌, ap, ap₂, arith, nat_le, if◌then◌else◌, IsFalse}
 use Rattle.std.proofs.lemmas.Bool.{le-leb, lt-leb}
 use Rattle.std.proofs.lemmas.Bool.Decides.{nat_tests}
 use Rattle.ansi_str.specs.Bytes.{escape}
 use Rattle.ansi_str.specs.Pieces.{Piece, Text, Sequence, LoneEscape}
-use Rattle.ansi_str.specs.Plain.{Mark, Placed, mark_of, moved, marks_of, places, up_to}
+use Rattle.ansi_str.specs.Plain.{Mark, Placed, mark_of, moved, marks_of, marks, places, up_to, has_escape}
 use Rattle.ansi_str.specs.Rendition.{Rendition}
 use Rattle.ansi_str.specs.Sgr.{apply_all, apply}
 use Rattle.ansi_str.specs.Reading.{after_marks}
+use Rattle.ansi_str.proofs.PlainLemmas.{one_text, pieces_of-bare}
 
 -- n plain bytes more stand before the mark
 abbrev pub further : ℕ → Mark → Mark
@@ -44,6 +45,14 @@ marks_of-sequence w ps = ap (λ ms. record { place = 0; bytes = w } ∷ ms) (mar
 pub marks_of-lone : (ps : List Piece) → marks_of (LoneEscape ∷ ps) ≡ record { place = 0; bytes = escape ∷ [] } ∷ marks_of ps
 marks_of-lone ps = ap (λ ms. record { place = 0; bytes = escape ∷ [] } ∷ ms) (marks-moved 0 (places ps) ∙ map-further-0 (marks_of ps))
 
+-- a text without ESC has no marks
+pub marks-bare : (t : List ℕ) → IsFalse (has_escape t) → marks t ≡ []
+marks-bare t none = ap marks_of (pieces_of-bare t none) ∙ of_one t
+  where
+    of_one : (x : List ℕ) → marks_of (one_text x) ≡ []
+    of_one [] = refl
+    of_one (b ∷ x) = refl
+
 -- of marks that stand further on than e none is up to e
 pub up_to-none : (e n : ℕ) (ms : List Mark) → e < n → up_to e (map (further n) ms) ≡ []
 up_to-none e n [] below = refl
@@ -68,7 +77,7 @@ up_to-here e w ms =
 
 -- The style after marks, wherever they stand.
 
-bytes-further : (n : ℕ) (ms : List Mark) → map (λ (m : Mark). m.bytes) (map (further n) ms) ≡ map (λ (m : Mark). m.bytes) ms
+pub bytes-further : (n : ℕ) (ms : List Mark) → map (λ (m : Mark). m.bytes) (map (further n) ms) ≡ map (λ (m : Mark). m.bytes) ms
 bytes-further n [] = refl
 bytes-further n (m ∷ ms) = ap (λ ws. m.bytes ∷ ws) (bytes-further n ms)
 

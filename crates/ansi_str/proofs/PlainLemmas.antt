@@ -11,13 +11,13 @@ use Rattle.ansi_str.proofs.PieceLemmas.{pieces_are, pieces_of-unique}
 
 -- No ESC stands in a list of plain bytes alone.
 
-all_plain_bytes : (t : List ℕ) → has_escape t ≡ false → list_all is_plain_byte t ≡ true
+pub all_plain_bytes : (t : List ℕ) → has_escape t ≡ false → list_all is_plain_byte t ≡ true
 all_plain_bytes [] none = refl
 all_plain_bytes (b ∷ t) none =
     let parts = or_parts (b == escape) (has_escape t) none in
     and_from _ _ (not_from_false (b == escape) parts.0) (all_plain_bytes t parts.1)
 
-no_escape : (t : List ℕ) → list_all is_plain_byte t ≡ true → has_escape t ≡ false
+pub no_escape : (t : List ℕ) → list_all is_plain_byte t ≡ true → has_escape t ≡ false
 no_escape [] all = refl
 no_escape (b ∷ t) all =
     let parts = and_parts (is_plain_byte b) (list_all is_plain_byte t) all in
@@ -29,7 +29,7 @@ abbrev pub one_text : List ℕ → List Piece
 one_text [] = []
 one_text (b ∷ bs) = Text (b ∷ bs) ∷ []
 
-one_text_are : (x : List ℕ) → list_all is_plain_byte x ≡ true → ArePieces x (one_text x)
+pub one_text_are : (x : List ℕ) → list_all is_plain_byte x ≡ true → ArePieces x (one_text x)
 one_text_are [] all = refl
 one_text_are (b ∷ bs) all =
     let filled : (b ∷ bs) ≢ [] = λ e. cc in
@@ -38,7 +38,7 @@ one_text_are (b ∷ bs) all =
 pub pieces_of-bare : (x : List ℕ) → has_escape x ≡ false → pieces_of x ≡ one_text x
 pieces_of-bare x none = sym (pieces_of-unique x (one_text x) (one_text_are x (all_plain_bytes x none)))
 
-plain_of-one_text : (x : List ℕ) → plain_of (one_text x) ≡ x
+pub plain_of-one_text : (x : List ℕ) → plain_of (one_text x) ≡ x
 plain_of-one_text [] = refl
 plain_of-one_text (b ∷ bs) = append-nil (b ∷ bs)
 

@@ -1,11 +1,12 @@
 -- Good positions, in a text at the front and behind it, and as std's character boundaries.
-use Rattle.std.proofs.Common.{◌≡◌, ℕ, ◌-◌, ◌<◌, ◌≤◌, inl, inr, not, true, List, ◌++◌, length, IsTrue, Some, None, Option, ◌&&◌, refl, sym, ◌∙◌, ap, subst, arith, min, nat_le, slice_index}
+use Rattle.std.proofs.Common.{◌≡◌, ℕ, ◌-◌, ◌<◌, ◌≤◌, inl, inr, not, true, List, ◌++◌, length, IsTrue, Some, None, Option, ◌&&◌, refl, sym, ◌∙◌, ap, ap₂, subst, arith, ◌+◌, ◌↔◌, Bool, min, nat_le, slice_index}
 use Rattle.std.proofs.lemmas.Bool.{leb-true, leb-false, le-leb, and_parts, and_from, lt-leb, cases_lt, not-true, not_from_false, and_left, and_right, and_cases}
-use Rattle.std.proofs.lemmas.List.{get_or_append_left, get_or_past, get_or-append_right}
+use Rattle.std.proofs.lemmas.List.{get_or_append_left, get_or_past, get_or-append_right, length-append}
+use Rattle.std.specs.Cmp.{both_ways}
 use Rattle.std.proofs.lemmas.Str.{IsCharBoundary-start, IsCharBoundary-end}
 use Rattle.std.specs.Prelude.{unwrap_or}
 use Rattle.std.specs.Str.{IsUtf8, IsCharBoundary}
-use Rattle.ansi_str.specs.Positions.{is_continuation_byte, is_good_position, is_good_range}
+use Rattle.ansi_str.specs.Positions.{is_continuation_byte, is_good_position, is_char_boundary, is_good_range}
 
 pub is_good_position-past : (x : List ℕ) (n : ℕ) → length x ≤ n → is_good_position x n ≡ true
 is_good_position-past x n past = ap (λ b. not (is_continuation_byte b)) (get_or_past x n 0 past)
@@ -52,6 +53,40 @@ boundary_inside x n good = elim (cases_lt n (length x)) [
   | inr past ↦ (let end : length x ≡ min n (length x) = omega arith in subst (IsCharBoundary x) end (IsCharBoundary-end x))
 ]
 
+pub is_char_boundary-from : (x : List ℕ) (n : ℕ) → IsCharBoundary x n → is_char_boundary x n ≡ true
+is_char_boundary-from x n boundary = and_from _ _ (le-leb n (length x) boundary.0) (boundary_is_good x n boundary)
+
+pub is_char_boundary-is : (x : List ℕ) (n : ℕ) → is_char_boundary x n ≡ true → IsCharBoundary x n
+is_char_boundary-is x n h =
+    let both = and_parts (nat_le n (length x)) (is_good_position x n) h in
+    good_is_boundary x n (leb-true n (length x) both.0) both.1
+
+pub is_char_boundary-decides : (x : List ℕ) (n : ℕ) (b : Bool) → b ≡ is_char_boundary x n → IsTrue b ↔ IsCharBoundary x n
+is_char_boundary-decides x n b is = (λ yes. is_char_boundary-is x n (sym is ∙ yes), λ boundary. is ∙ is_char_boundary-from x n boundary)
+
+-- behind a text at the front, the boundaries are those of what follows it
+pub is_char_boundary-behind : (w y : List ℕ) (n : ℕ) → length w ≤ n → is_char_boundary (w ++ y) n ≡ is_char_boundary y (n - length w)
+is_char_boundary-behind w y n past =
+    let all : length (w ++ y) ≡ length w + length y = length-append w y in
+    let inside : nat_le n (length (w ++ y)) ≡ nat_le (n - length w) (length y)
+    = both_ways _ _
+    (λ h. le-leb (n - length w) (length y) (omega (arith, leb-true n (length (w ++ y)) h, all)))
+    (λ h. le-leb n (length (w ++ y)) (omega (arith, leb-true (n - length w) (length y) h, all, past))) in
+    ap₂ (λ s t. s && t) inside (is_good_position-behind w y n past)
+
+pub char_boundary_is : (x : List ℕ) (n : ℕ) → IsTrue (is_char_boundary x n) ↔ IsCharBoundary x n
+char_boundary_is x n = (is_char_boundary-is x n, is_char_boundary-from x n)
+
+-- a position past the end counts as the end
+pub good_position_is : (x : List ℕ) (n : ℕ) → IsTrue (is_good_position x n) ↔ IsCharBoundary x (min n (length x))
+good_position_is x n = (
+  boundary_inside x n,
+  λ boundary. elim (cases_lt n (length x)) [
+    | inl within ↦ (let here : min n (length x) ≡ n = omega arith in boundary_is_good x n (subst (IsCharBoundary x) here boundary))
+    | inr past ↦ is_good_position-past x n past
+  ],
+)
+
 -- Good ranges.
 
 pub good_range_parts : (x : List ℕ) (s e : ℕ) → IsTrue (is_good_range x s (Some e)) → (s ≤ e) × IsTrue (is_good_position x s) × IsTrue (is_good_position x e)
@@ -60,15 +95,28 @@ good_range_parts x s e good =
     let ends = and_parts (is_good_position x s) (is_good_position x e) both.1 in
     (leb-true s e both.0, ends.0, ends.1)
 
+pub good_range_from : (x : List ℕ) (s e : ℕ) → s ≤ e → IsCharBoundary x s → IsCharBoundary x e → is_good_range x s (Some e) ≡ true
+good_range_from x s e ordered from to = and_from _ _ (le-leb s e ordered) (and_from _ _ (boundary_is_good x s from) (boundary_is_good x e to))
+
 -- a range without an end is as good as one up to a position past the end
 pub is_good_range-top : (x : List ℕ) (s : ℕ) (end : Option ℕ) (top : ℕ) → IsTrue (is_good_range x s end) → s ≤ top → length x ≤ top → IsTrue (is_good_range x s (Some (unwrap_or end top)))
 is_good_range-top x s None top good below past = and_from _ _ (le-leb s top below) (and_from _ _ good (is_good_position-past x top past))
 is_good_range-top x s (Some e) top good below past = good
 
+-- a position that is not yet passed is good in the text at the front, and so is 0
+good_or_front : (w y : List ℕ) (n : ℕ) → IsUtf8 w → (0 < n → IsTrue (is_good_position (w ++ y) n)) → IsTrue (is_good_position w n)
+good_or_front w y n utf8 good = elim (cases_lt 0 n) [
+  | inl some ↦ good_in_front w y n (good some)
+  | inr none ↦ (let front : 0 ≡ n = omega arith in subst (λ k. IsTrue (is_good_position w k)) front (boundary_is_good w 0 (IsCharBoundary-start w utf8)))
+]
+
 -- the range of what is left of two good positions, in a text at the front
-pub good_range_in_front : (w y : List ℕ) (s e : ℕ) → IsUtf8 w → s ≤ e → (0 < s → IsTrue (is_good_position (w ++ y) s)) → IsTrue (is_good_position (w ++ y) e) → IsTrue (is_good_range w s (Some e))
-good_range_in_front w y s e utf8 ordered start end =
-    and_from _ _ (le-leb s e ordered) (and_from _ _ (elim (cases_lt 0 s) [
-      | inl some ↦ good_in_front w y s (start some)
-      | inr none ↦ (let front : 0 ≡ s = omega arith in subst (λ n. IsTrue (is_good_position w n)) front (boundary_is_good w 0 (IsCharBoundary-start w utf8)))
-    ]) (good_in_front w y e end))
+pub good_range_in_front : (w y : List ℕ) (s e : ℕ) → IsUtf8 w → s ≤ e → (0 < s → IsTrue (is_good_position (w ++ y) s)) → (0 < e → IsTrue (is_good_position (w ++ y) e)) → IsTrue (is_good_range w s (Some e))
+good_range_in_front w y s e utf8 ordered start end = and_from _ _ (le-leb s e ordered) (and_from _ _ (good_or_front w y s utf8 start) (good_or_front w y e utf8 end))
+
+-- a range is good where its ends are, in order
+pub good_range_is : (x : List ℕ) (s e : ℕ) → IsTrue (is_good_range x s (Some e)) ↔ ((s ≤ e) × IsCharBoundary x (min s (length x)) × IsCharBoundary x (min e (length x)))
+good_range_is x s e = (
+  λ good. (let parts = good_range_parts x s e good in (parts.0, boundary_inside x s parts.1, boundary_inside x e parts.2)),
+  λ ends. and_from _ _ (le-leb s e ends.0) (and_from _ _ ((good_position_is x s).1 ends.1) ((good_position_is x e).1 ends.2)),
+)

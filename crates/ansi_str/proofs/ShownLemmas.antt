@@ -23,7 +23,7 @@ use Rattle.ansi_str.proofs.StyledLemmas.{style_through, style_through-append, st
 abbrev pub at_places : (ℕ → Bool) → List Mark → List Mark
 at_places test ms = filter (λ (m : Mark). test m.place) ms
 
-at_places-further : (test : ℕ → Bool) (n : ℕ) (ms : List Mark) → at_places test (map (further n) ms) ≡ map (further n) (at_places (λ p. test (n + p)) ms)
+pub at_places-further : (test : ℕ → Bool) (n : ℕ) (ms : List Mark) → at_places test (map (further n) ms) ≡ map (further n) (at_places (λ p. test (n + p)) ms)
 at_places-further test n [] = refl
 at_places-further test n (m ∷ ms) = ap (λ ks. if test (n + m.place) then further n m ∷ ks else ks) (at_places-further test n ms) ∙ either (test (n + m.place)) (at_places (λ p. test (n + p)) ms)
   where
@@ -32,7 +32,7 @@ at_places-further test n (m ∷ ms) = ap (λ ks. if test (n + m.place) then furt
     either false ks = refl
 
 -- a piece, where the test passes
-abbrev piece_when : Bool → Piece → List Piece
+abbrev pub piece_when : Bool → Piece → List Piece
 piece_when b p = if b then p ∷ [] else []
 
 -- the pieces of what is shown: the bytes a..b of the texts, and the marks at places that pass the test

@@ -1,5 +1,5 @@
 -- A side of a whole text is whole, has the slice of its styled bytes, and leaves nothing known open.
-use Rattle.std.proofs.Common.{◌≡◌, ℕ, ◌+◌, ◌-◌, Bool, true, false, not, ◌==◌, List, [], ◌∷◌, ◌++◌, length, take, drop, nat_le, refl, sym, ◌∙◌, ap, ap₂, subst, arith, IsTrue, append-nil, append_assoc, if◌then◌else◌}
+use Rattle.std.proofs.Common.{◌≡◌, ℕ, ◌+◌, ◌-◌, Bool, true, false, not, ◌==◌, List, [], ◌∷◌, ◌++◌, length, take, drop, nat_le, refl, sym, ◌∙◌, ap, ap₂, subst, arith, IsTrue, append-nil, if◌then◌else◌}
 use Rattle.std.proofs.lemmas.Bool.{cond_both, cond-false, and_parts, ne_eqb, eqb-false}
 use Rattle.std.proofs.lemmas.Grind.{flat_map-append}
 use Rattle.std.proofs.Math.Seq.{take-nil, drop-nil}
@@ -12,76 +12,46 @@ use Rattle.ansi_str.specs.Pieces.{Piece, Text, spelling, Sequence, LoneEscape, p
 use Rattle.ansi_str.specs.Plain.{plain, plain_bytes, is_whole}
 use Rattle.ansi_str.specs.Rendition.{Rendition, known, plain_style, IsStyle}
 use Rattle.ansi_str.specs.Sgr.{apply}
-use Rattle.ansi_str.specs.Written.{start_codes, close_codes, start, close}
-use Rattle.ansi_str.specs.Styled.{StyledByte, styled, residue}
+use Rattle.ansi_str.specs.Written.{close_codes, start, close}
+use Rattle.ansi_str.specs.Styled.{StyledByte, styled}
 use Rattle.ansi_str.specs.Sides.{dressed, left_part, copied, right_part, left_side, right_side}
 use Rattle.ansi_str.proofs.SliceLemmas.{take-append, drop-append}
 use Rattle.ansi_str.proofs.CutWalkLemmas.{apply-no_sgr}
 use Rattle.ansi_str.proofs.WalkLemmas.{walked, style_past}
 use Rattle.ansi_str.proofs.SideLemmas.{left_side-walked, right_side-walked}
 use Rattle.ansi_str.proofs.StyleLemmas.{IsStyle-apply, IsStyle-plain_style}
-use Rattle.ansi_str.proofs.JoinLemmas.{spelled, AllStandAnywhere, stand-append, pieces_stand, is_whole-spelled}
-use Rattle.ansi_str.proofs.StyledLemmas.{styled_through, style_through, styled_through-append, style_through-append, in_style, styled_through-alike, styled-pieces}
-use Rattle.ansi_str.proofs.SpelledLemmas.{styled-spelled, residue-spelled, styled-append}
-use Rattle.ansi_str.proofs.ReadBackLemmas.{code_pieces, spelled-code_pieces, style_through-codes, styled_through-codes, code_pieces_stand, start_codes_are, close_codes_are}
-use Rattle.ansi_str.proofs.StartLemmas.{start_codes_set}
+use Rattle.ansi_str.proofs.JoinLemmas.{spelled, AllStandAnywhere, stand-append, pieces_stand}
+use Rattle.ansi_str.proofs.StyledLemmas.{styled_through, in_style, styled-pieces}
+use Rattle.ansi_str.proofs.SpelledLemmas.{styled-append}
+use Rattle.ansi_str.proofs.ReadBackLemmas.{close_codes_are}
+use Rattle.ansi_str.proofs.DressedLemmas.{GiveAlone, give-nothing, give-append, IsClosed, closed-spelled, dressed_pieces, spelled-dressed_pieces, dressed_pieces_stand, dressed_pieces_give}
 use Rattle.ansi_str.proofs.CloseLemmas.{close_codes_clear}
-
--- Pieces that, read where nothing is known, give these styled bytes and leave nothing known.
-
-record GiveAlone (ps : List Piece) (bs : List StyledByte) : Type 0 where
-  given : (p : Rendition) → known p ≡ plain_style → styled_through p ps ≡ bs
-  cleared : (p : Rendition) → known p ≡ plain_style → known (style_through p ps) ≡ plain_style
-
-give-nothing : GiveAlone [] []
-give-nothing = record { given = λ p none. refl; cleared = λ p none. none }
-
-give-append : (ps qs : List Piece) (bs cs : List StyledByte) → GiveAlone ps bs → GiveAlone qs cs → GiveAlone (ps ++ qs) (bs ++ cs)
-give-append ps qs bs cs first second = record {
-  given = λ p none. styled_through-append p ps qs ∙ ap₂ (λ u v. u ++ v) (first.given p none) (second.given (style_through p ps) (first.cleared p none));
-  cleared = λ p none. ap known (style_through-append p ps qs) ∙ second.cleared (style_through p ps) (first.cleared p none);
-}
 
 -- A text between the start and the close of a style.
 
-abbrev dressed_pieces : Rendition → List ℕ → List Piece
-dressed_pieces s w = if length w == 0 then [] else code_pieces (start_codes s) ++ (Text w ∷ code_pieces (close_codes s))
+abbrev dressed_text : Rendition → List ℕ → List Piece
+dressed_text s w = if length w == 0 then [] else dressed_pieces s (Text w ∷ []) (close_codes s)
 
-spelled-dressed_pieces : (s : Rendition) (w : List ℕ) → spelled (dressed_pieces s w) ≡ dressed s w
-spelled-dressed_pieces s w = either (length w == 0)
+spelled-dressed_text : (s : Rendition) (w : List ℕ) → spelled (dressed_text s w) ≡ dressed s w
+spelled-dressed_text s w = either (length w == 0)
   where
-    either : (none : Bool) → spelled (if none then [] else code_pieces (start_codes s) ++ (Text w ∷ code_pieces (close_codes s))) ≡ (if none then [] else start s ++ w ++ close s)
+    either : (none : Bool) → spelled (if none then [] else dressed_pieces s (Text w ∷ []) (close_codes s)) ≡ (if none then [] else start s ++ w ++ close s)
     either true = refl
-    either false =
-        flat_map-append spelling (code_pieces (start_codes s)) (Text w ∷ code_pieces (close_codes s))
-        ∙ ap₂ (λ u v. u ++ (w ++ v)) (spelled-code_pieces (start_codes s)) (spelled-code_pieces (close_codes s))
-        ∙ sym (append_assoc (start s) w (close s))
+    either false = spelled-dressed_pieces s (Text w ∷ []) (close_codes s) ∙ ap (λ v. start s ++ v ++ close s) (append-nil w)
 
-dressed_pieces_give : (s : Rendition) (w : List ℕ) → IsStyle s → GiveAlone (dressed_pieces s w) (in_style s w)
-dressed_pieces_give s [] is = give-nothing
-dressed_pieces_give s (b ∷ w) is =
-    let before = code_pieces (start_codes s) in
-    let behind = code_pieces (close_codes s) in
-    let own = Text (b ∷ w) ∷ behind in
+dressed_text_gives : (s : Rendition) (w : List ℕ) → IsStyle s → GiveAlone (dressed_text s w) (in_style s w)
+dressed_text_gives s [] is = give-nothing
+dressed_text_gives s (b ∷ w) is =
+    let ps = dressed_pieces s (Text (b ∷ w) ∷ []) (close_codes s) in
     let some : (length (b ∷ w) == 0) ≡ false = ne_eqb (length (b ∷ w)) 0 (λ none. omega (arith, none)) in
-    let set : (p : Rendition) → known p ≡ plain_style → known (style_through p before) ≡ known s
-    = λ p none. ap known (style_through-codes p (start_codes s)) ∙ start_codes_set p s is none in
-    let give : GiveAlone (before ++ own) (in_style s (b ∷ w)) = record {
-      given = λ p none. styled_through-append p before own
-          ∙ ap₂ (λ u v. u ++ v) (styled_through-codes p (start_codes s)) (styled_through-alike (style_through p before) s own (set p none))
-          ∙ ap (λ v. in_style s (b ∷ w) ++ v) (styled_through-codes s (close_codes s)) ∙ append-nil (in_style s (b ∷ w));
-      cleared = λ p none. ap known (style_through-append p before own ∙ style_through-codes (style_through p before) (close_codes s))
-          ∙ close_codes_clear (style_through p before) s (set p none);
-    } in
-    subst (λ ps. GiveAlone ps (in_style s (b ∷ w))) (sym (cond-false (length (b ∷ w) == 0) [] (before ++ own) some)) give
+    let give = dressed_pieces_give s s (Text (b ∷ w) ∷ []) (close_codes s) is refl (λ p same. close_codes_clear p s same) in
+    subst (λ qs. GiveAlone qs (in_style s (b ∷ w))) (sym (cond-false (length (b ∷ w) == 0) [] ps some)) (subst (GiveAlone ps) (append-nil (in_style s (b ∷ w))) give)
 
-dressed_pieces_stand : (s : Rendition) (w : List ℕ) → IsStyle s → list_all is_plain_byte w ≡ true → AllStandAnywhere (dressed_pieces s w)
-dressed_pieces_stand s w is plain =
-    cond_both (length w == 0) [] (code_pieces (start_codes s) ++ (Text w ∷ code_pieces (close_codes s))) AllStandAnywhere
+dressed_text_stands : (s : Rendition) (w : List ℕ) → IsStyle s → list_all is_plain_byte w ≡ true → AllStandAnywhere (dressed_text s w)
+dressed_text_stands s w is plain =
+    cond_both (length w == 0) [] (dressed_pieces s (Text w ∷ []) (close_codes s)) AllStandAnywhere
     (λ none. tt)
-    (λ some. stand-append (code_pieces (start_codes s)) (Text w ∷ code_pieces (close_codes s))
-    (code_pieces_stand (start_codes s) (start_codes_are s is))
-    (((λ e. eqb-false (length w) 0 some (ap length e)), plain), code_pieces_stand (close_codes s) (close_codes_are s)))
+    (λ some. dressed_pieces_stand s (Text w ∷ []) (close_codes s) is (((λ e. eqb-false (length w) 0 some (ap length e)), plain), tt) (close_codes_are s))
 
 -- A side takes of each text the bytes that `pick` takes, and the sequences at places that pass the test.
 
@@ -94,7 +64,7 @@ record Picks (pick : ℕ → List ℕ → List ℕ) (among : ℕ → List Styled
 
 -- the pieces that a piece gives to a side
 abbrev side_pieces : (ℕ → List ℕ → List ℕ) → (ℕ → Bool) → ℕ → ℕ → Rendition → Piece → List Piece
-side_pieces pick test mid place s (Text w) = dressed_pieces s (pick (mid - place) w)
+side_pieces pick test mid place s (Text w) = dressed_text s (pick (mid - place) w)
 side_pieces pick test mid place s (Sequence w) = if test place then (if is_sgr w then [] else Sequence w ∷ []) else []
 side_pieces pick test mid place s LoneEscape = if test place then LoneEscape ∷ [] else []
 
@@ -110,12 +80,12 @@ side_pieces_give : (pick : ℕ → List ℕ → List ℕ) (among : ℕ → List 
 side_pieces_give pick among picks test mid [] n s is = subst (GiveAlone []) (sym (picks.of_nothing (mid - n))) give-nothing
 side_pieces_give pick among picks test mid (Text w ∷ ps) n s is =
     let later = side_pieces_give pick among picks test mid ps (n + length w) s is in
-    let own = dressed_pieces s (pick (mid - n) w) in
+    let own = dressed_text s (pick (mid - n) w) in
     let size : length (in_style s w) ≡ length w = length-map w _ in
     let left : mid - (n + length w) ≡ mid - n - length (in_style s w) = omega (arith, size) in
     subst (GiveAlone (own ++ walked (side_pieces pick test mid) (n + length w) s ps))
     (ap₂ (λ u k. u ++ among k (styled_through s ps)) (picks.as_styled (mid - n) s w) left ∙ sym (picks.of_both (mid - n) (in_style s w) (styled_through s ps)))
-    (give-append own (walked (side_pieces pick test mid) (n + length w) s ps) (in_style s (pick (mid - n) w)) (among (mid - (n + length w)) (styled_through s ps)) (dressed_pieces_give s (pick (mid - n) w) is) later)
+    (give-append own (walked (side_pieces pick test mid) (n + length w) s ps) (in_style s (pick (mid - n) w)) (among (mid - (n + length w)) (styled_through s ps)) (dressed_text_gives s (pick (mid - n) w) is) later)
 side_pieces_give pick among picks test mid (Sequence w ∷ ps) n s is =
     let later = side_pieces_give pick among picks test mid ps (n + 0) (apply s w) (IsStyle-apply s w is) in
     let rest = walked (side_pieces pick test mid) (n + 0) (apply s w) ps in
@@ -134,8 +104,8 @@ side_pieces_stand : (pick : ℕ → List ℕ → List ℕ) (among : ℕ → List
     → AllStandAnywhere ps → AllStandAnywhere (walked (side_pieces pick test mid) n s ps)
 side_pieces_stand pick among picks test mid [] n s is all = tt
 side_pieces_stand pick among picks test mid (Text w ∷ ps) n s is all =
-    stand-append (dressed_pieces s (pick (mid - n) w)) (walked (side_pieces pick test mid) (n + length w) s ps)
-    (dressed_pieces_stand s (pick (mid - n) w) is (picks.stays_plain (mid - n) w all.0.1))
+    stand-append (dressed_text s (pick (mid - n) w)) (walked (side_pieces pick test mid) (n + length w) s ps)
+    (dressed_text_stands s (pick (mid - n) w) is (picks.stays_plain (mid - n) w all.0.1))
     (side_pieces_stand pick among picks test mid ps (n + length w) s is all.1)
 side_pieces_stand pick among picks test mid (Sequence w ∷ ps) n s is all =
     stand-append (side_pieces pick test mid n s (Sequence w)) (walked (side_pieces pick test mid) (n + 0) (apply s w) ps)
@@ -152,25 +122,16 @@ spelled-walked pieces bytes same (p ∷ ps) n s =
     flat_map-append spelling (pieces n s p) (walked pieces (n + length (plain_bytes p)) (style_past s p) ps)
     ∙ ap₂ (λ u v. u ++ v) (same n s p) (spelled-walked pieces bytes same ps (n + length (plain_bytes p)) (style_past s p))
 
--- what is so of a side u that takes these styled bytes
-pub record IsSide (bs : List StyledByte) (u : List ℕ) : Type 0 where
-  pub styled_bytes : styled u ≡ bs
-  pub whole : IsTrue (is_whole u)
-  pub closed : residue u ≡ plain_style
-
 is_side : (pick : ℕ → List ℕ → List ℕ) (among : ℕ → List StyledByte → List StyledByte) → Picks pick among → (test : ℕ → Bool) (part : ℕ → Rendition → Piece → List ℕ) (t : List ℕ) (mid : ℕ)
     → ((n : ℕ) (s : Rendition) (p : Piece) → spelled (side_pieces pick test mid n s p) ≡ part n s p) → IsTrue (is_whole t)
-    → IsSide (among mid (styled t)) (walked part 0 plain_style (pieces_of t))
+    → IsClosed (among mid (styled t)) (walked part 0 plain_style (pieces_of t))
 is_side pick among picks test part t mid spells whole =
     let qs = walked (side_pieces pick test mid) 0 plain_style (pieces_of t) in
     let give = side_pieces_give pick among picks test mid (pieces_of t) 0 plain_style IsStyle-plain_style in
     let stand = side_pieces_stand pick among picks test mid (pieces_of t) 0 plain_style IsStyle-plain_style (pieces_stand t whole) in
     let all : mid - 0 ≡ mid = omega arith in
-    subst (IsSide (among mid (styled t))) (spelled-walked (side_pieces pick test mid) part spells (pieces_of t) 0 plain_style) (record {
-      styled_bytes = styled-spelled qs stand ∙ give.given plain_style refl ∙ ap₂ among all (sym (styled-pieces t));
-      whole = is_whole-spelled qs stand;
-      closed = residue-spelled qs stand ∙ give.cleared plain_style refl;
-    })
+    subst (IsClosed (among mid (styled t))) (spelled-walked (side_pieces pick test mid) part spells (pieces_of t) 0 plain_style)
+    (closed-spelled qs (among mid (styled t)) stand (subst (GiveAlone qs) (ap₂ among all (sym (styled-pieces t))) give))
 
 -- The left side takes the first bytes, and the right side the others.
 
@@ -196,7 +157,7 @@ drop_picks = record {
 }
 
 spelled-left : (mid n : ℕ) (s : Rendition) (p : Piece) → spelled (side_pieces (λ k w. take k w) (λ n. nat_le n mid) mid n s p) ≡ left_part mid n s p
-spelled-left mid n s (Text w) = spelled-dressed_pieces s (take (mid - n) w)
+spelled-left mid n s (Text w) = spelled-dressed_text s (take (mid - n) w)
 spelled-left mid n s (Sequence w) = either (nat_le n mid) (is_sgr w)
   where
     either : (goes sgr : Bool) → spelled (if goes then (if sgr then [] else Sequence w ∷ []) else []) ≡ (if goes then (if sgr then [] else w) else [])
@@ -210,7 +171,7 @@ spelled-left mid n s LoneEscape = either (nat_le n mid)
     either false = refl
 
 spelled-right : (mid n : ℕ) (s : Rendition) (p : Piece) → spelled (side_pieces (λ k w. drop k w) (λ n. not (nat_le n mid)) mid n s p) ≡ right_part mid n s p
-spelled-right mid n s (Text w) = spelled-dressed_pieces s (drop (mid - n) w)
+spelled-right mid n s (Text w) = spelled-dressed_text s (drop (mid - n) w)
 spelled-right mid n s (Sequence w) = either (nat_le n mid) (is_sgr w)
   where
     either : (stays sgr : Bool) → spelled (if not stays then (if sgr then [] else Sequence w ∷ []) else []) ≡ (if stays then [] else (if sgr then [] else w))
@@ -224,14 +185,14 @@ spelled-right mid n s LoneEscape = either (nat_le n mid)
     either false = refl
 
 -- at every position, whether it is good or not
-pub left_side_is : (t : List ℕ) (mid : ℕ) → IsTrue (is_whole t) → IsSide (take mid (styled t)) (left_side t mid)
+pub left_side_is : (t : List ℕ) (mid : ℕ) → IsTrue (is_whole t) → IsClosed (take mid (styled t)) (left_side t mid)
 left_side_is t mid whole =
-    subst (IsSide (take mid (styled t))) (sym (left_side-walked t mid))
+    subst (IsClosed (take mid (styled t))) (sym (left_side-walked t mid))
     (is_side (λ n w. take n w) (λ n bs. take n bs) take_picks (λ n. nat_le n mid) (left_part mid) t mid (spelled-left mid) whole)
 
-pub right_side_is : (t : List ℕ) (mid : ℕ) → IsTrue (is_whole t) → IsSide (drop mid (styled t)) (right_side t mid)
+pub right_side_is : (t : List ℕ) (mid : ℕ) → IsTrue (is_whole t) → IsClosed (drop mid (styled t)) (right_side t mid)
 right_side_is t mid whole =
-    subst (IsSide (drop mid (styled t))) (sym (right_side-walked t mid))
+    subst (IsClosed (drop mid (styled t))) (sym (right_side-walked t mid))
     (is_side (λ n w. drop n w) (λ n bs. drop n bs) drop_picks (λ n. not (nat_le n mid)) (right_part mid) t mid (spelled-right mid) whole)
 
 -- joined, the sides have the styled bytes of the text

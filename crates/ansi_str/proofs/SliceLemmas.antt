@@ -2,7 +2,7 @@
 use Rattle.std.proofs.Common.{◌≡◌, ℕ, zero, suc, ◌-◌, ◌≤◌, min, inl, inr, List, [], ◌∷◌, ◌++◌, map, length, take, drop, sym, ◌∙◌, ap, ap₂, arith}
 use Rattle.std.proofs.lemmas.Bool.{cases_lt}
 use Rattle.std.proofs.Math.Seq.{take-nil, drop-nil}
-use Rattle.std.proofs.lemmas.List.{length-drop, drop_all, take_all, take-map, drop-map}
+use Rattle.std.proofs.lemmas.List.{length-drop, length-take-le, drop_all, take_all, take-map, drop-map}
 use Rattle.std.specs.List.{slice_range}
 
 pub slice_range-none : {X : Type 0} (x : List X) (a b : ℕ) → b ≤ a → slice_range x a b ≡ []
@@ -15,6 +15,9 @@ slice_range-from_past x a b past =
 
 pub slice_range-past : {X : Type 0} (x : List X) (a b : ℕ) → length x ≤ b → slice_range x a b ≡ drop a x
 slice_range-past x a b past = take_all (b - a) (drop a x) (omega (arith, length-drop a x))
+
+pub length-slice_range : {X : Type 0} (x : List X) (a b : ℕ) → a ≤ b → b ≤ length x → length (slice_range x a b) ≡ b - a
+length-slice_range x a b ordered within = length-take-le (b - a) (drop a x) (omega (arith, length-drop a x))
 
 -- the ends may be brought to the end of the list
 pub slice_range-min : {X : Type 0} (x : List X) (a b : ℕ) → slice_range x (min a (length x)) (min b (length x)) ≡ slice_range x a b
@@ -30,6 +33,12 @@ slice_range-min x a b =
       ]
       | inr from_past ↦ slice_range-from_past x (min a n) (min b n) (omega arith) ∙ sym (slice_range-from_past x a b from_past)
     ]
+
+-- what is left of a list behind so many of its elements, or behind all
+pub slice_range-rest : {X : Type 0} (x : List X) (n k : ℕ) → k ≡ min n (length x) → slice_range x k (length x) ≡ drop n x
+slice_range-rest x n k is =
+    let all : length x ≡ min (length x) (length x) = omega arith in
+    ap₂ (slice_range x) is all ∙ slice_range-min x n (length x) ∙ slice_range-past x n (length x) (omega arith)
 
 -- Two lists in a row.
 

@@ -1,5 +1,5 @@
 -- A step of a scanner: over a text, or over a mark, which is a sequence or a lone escape.
-use Rattle.std.proofs.Common.{rules, ◌≡◌, ◌≢◌, ℕ, Bool, true, false, List, ◌∷◌, refl, sym, ◌∙◌, ap, subst, is_some, if◌then◌else◌}
+use Rattle.std.proofs.Common.{rules, ◌≡◌, ◌≢◌, ℕ, Bool, true, false, List, ◌∷◌, drop, refl, sym, ◌∙◌, ap, ap₂, subst, is_some, if◌then◌else◌}
 use denote.Enum.Bare.{sameb, same_true}
 use Rattle.std.specs.List.{slice_range}
 use Rattle.ansi_str.specs.contracts.ansitok.Kind.{the_type}
@@ -7,7 +7,7 @@ use Rattle.ansi_str.specs.declared.ansitok.Item.{Item}
 use Rattle.ansi_str.specs.declared.ansitok.Kind.{Kind}
 use Rattle.ansi_str.specs.declared.ansitok.Kind.TheVariants.{Text as TextKind, Sgr, Other, Lone}
 use Rattle.ansi_str.specs.Sequences.{is_sgr}
-use Rattle.ansi_str.specs.Pieces.{Piece, Text, Sequence, LoneEscape, spelling}
+use Rattle.ansi_str.specs.Pieces.{Piece, Text, Sequence, LoneEscape, spelling, pieces_of}
 use Rattle.ansi_str.specs.Plain.{plain_of, mark_of}
 use Rattle.ansi_str.specs.Scans.{Scan, Gives, pieces_left, kind_of, piece_of_kind}
 
@@ -42,6 +42,11 @@ pub gives_text : {old new : Scan} {item : Item} {text w : List ℕ} → Gives ol
     → item.kind ≡ TextKind → pieces_left old ≡ Text w ∷ pieces_left new
 gives_text {old} {new} {item} {text} {w} gives same is kind =
     subst (λ k. pieces_left old ≡ piece_of_kind k w ∷ pieces_left new) kind (first old new item text w gives same is).0
+
+-- what stands behind the item has the pieces that are left
+pub gives_rest : {old new : Scan} {item : Item} {text v : List ℕ} → Gives old item new → old.text ≡ text → v ≡ drop item.end text → pieces_of v ≡ pieces_left new
+gives_rest {old} {new} {item} {text} {v} gives same is =
+    ap pieces_of is ∙ ap₂ (λ n t. pieces_of (drop n t)) gives.end (sym (gives.text ∙ same))
 
 pub gives_mark : {old new : Scan} {item : Item} {text w : List ℕ} → Gives old item new → old.text ≡ text → w ≡ slice_range text item.start item.end
     → item.kind ≢ TextKind → BeginsWithMark item.kind w (pieces_left old) (pieces_left new)

@@ -1,8 +1,9 @@
 -- The plain text of a text, its sequences at their places, and whole texts.
-use Rattle.std.specs.Prelude.{ℕ, ◌+◌, Bool, true, false, not, List, [], ◌∷◌, length, map, flat_map, filter, filter_map, nat_le, ◌==◌, Option, Some, None}
+use Rattle.std.specs.Prelude.{ℕ, ◌+◌, Bool, true, false, not, ◌&&◌, List, [], ◌∷◌, length, map, flat_map, filter, filter_map, nat_le, ◌==◌, Option, Some, None}
 use Rattle.std.specs.List.{list_all, list_any}
 use Rattle.ansi_str.specs.Bytes.{escape}
-use Rattle.ansi_str.specs.Pieces.{Piece, Text, Sequence, LoneEscape, pieces_of}
+use Rattle.ansi_str.specs.Sequences.{is_sgr}
+use Rattle.ansi_str.specs.Pieces.{Piece, Text, Sequence, LoneEscape, spelling, pieces_of}
 
 -- the plain bytes of a piece are those of a text
 abbrev pub plain_bytes : Piece → List ℕ
@@ -82,3 +83,11 @@ is_whole t = are_whole (pieces_of t)
 -- an ESC stands in t
 abbrev pub has_escape : List ℕ → Bool
 has_escape t = list_any (λ b. b == escape) t
+
+-- the piece is a sequence that is no SGR, or a lone escape
+abbrev pub is_other : Piece → Bool
+is_other p = not (is_text p) && not (is_sgr (spelling p))
+
+-- the sequences of t that are no SGR, and its lone escapes, in order
+abbrev pub other_sequences : List ℕ → List Piece
+other_sequences t = filter is_other (pieces_of t)

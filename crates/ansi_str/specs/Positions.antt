@@ -1,5 +1,5 @@
 -- Positions of a plain text at which it may be cut.
-use Rattle.std.specs.Prelude.{ℕ, Bool, ◌&&◌, not, List, nat_le, Option, Some, None, slice_index}
+use Rattle.std.specs.Prelude.{ℕ, Bool, ◌&&◌, not, List, length, nat_le, Option, Some, None, slice_index}
 use Rattle.std.specs.Int.{is_in_range}
 
 -- a continuation byte goes on with the character before it (UTF-8)
@@ -9,6 +9,10 @@ is_continuation_byte b = is_in_range 0x80 0xBF b
 -- a position is good at the end of the plain text x, past it, and where a character begins (std's boundaries; past the end, the Rust crate)
 abbrev pub is_good_position : List ℕ → ℕ → Bool
 is_good_position x n = not (is_continuation_byte (slice_index x n))
+
+-- a character boundary of x is a good position up to its end (std)
+abbrev pub is_char_boundary : List ℕ → ℕ → Bool
+is_char_boundary x n = nat_le n (length x) && is_good_position x n
 
 -- a range is good where its ends are, and no end lies below the start (std)
 abbrev pub is_good_range : List ℕ → ℕ → Option ℕ → Bool

@@ -1,40 +1,11 @@
 -- A style as the definitions see it: a rendition, what the SGRs before a byte have selected.
-use Rattle.std.specs.Prelude.{ℕ, Bool, false, ◌&&◌, ◌||◌, [], ◌∷◌, Option, None, is_some, nat_lt, IfSome, IsTrue}
+use Rattle.std.specs.Prelude.{Bool, false, ◌&&◌, ◌||◌, [], ◌∷◌, None, is_some, nat_lt, IfSome, IsTrue}
 use Rattle.std.specs.Int.{is_in_range}
 use Rattle.std.specs.List.{list_any}
 use Rattle.ansi_str.specs.declared.ansitok.AnsiColor.{AnsiColor}
 use Rattle.ansi_str.specs.declared.ansitok.AnsiColor.TheVariants.{Bit4, Bit8, Bit24}
-
--- a rendition is three colors, a font and 24 attributes, in the order in which styles are compared (the Rust crate)
-pub record Rendition : Type 0 where
-  pub foreground : Option AnsiColor
-  pub background : Option AnsiColor
-  pub underline_color : Option AnsiColor
-  pub bold : Bool
-  pub faint : Bool
-  pub italic : Bool
-  pub underline : Bool
-  pub double_underline : Bool
-  pub slow_blink : Bool
-  pub rapid_blink : Bool
-  pub inverse : Bool
-  pub hide : Bool
-  pub crossed_out : Bool
-  pub reset : Bool
-  pub framed : Bool
-  pub encircled : Bool
-  pub font : Option ℕ
-  pub fraktur : Bool
-  pub proportional_spacing : Bool
-  pub overlined : Bool
-  pub ideogram_underline : Bool
-  pub ideogram_double_underline : Bool
-  pub ideogram_overline : Bool
-  pub ideogram_double_overline : Bool
-  pub ideogram_stress_marking : Bool
-  pub superscript : Bool
-  pub subscript : Bool
-  pub unknown : Bool
+-- a rendition is three colors, a font and 24 attributes, in the order in which styles are compared (the Rust crate); it is declared in the code, where its order and its hash are derived
+pub use Rattle.ansi_str.specs.declared.state.rendition.Rendition.{Rendition}
 
 -- the plain style has nothing set
 abbrev pub plain_style : Rendition

@@ -2,7 +2,7 @@
 use Rattle.std.specs.Prelude.{ℕ, Bool, ◌&&◌, ◌||◌, List, [], ◌∷◌, ◌++◌, Option, Some, None, is_some, if◌then◌else◌, codes, decimal, flat_map}
 use Rattle.ansi_str.specs.declared.ansitok.AnsiColor.{AnsiColor}
 use Rattle.ansi_str.specs.declared.ansitok.AnsiColor.TheVariants.{Bit4, Bit8, Bit24}
-use Rattle.ansi_str.specs.Rendition.{Rendition, has_ideogram_attribute}
+use Rattle.ansi_str.specs.Rendition.{Rendition, has_any, has_ideogram_attribute}
 
 -- each code is written in an SGR of its own (the Rust crate)
 abbrev pub written : List ℕ → List ℕ
@@ -91,3 +91,7 @@ start s = written_all (start_codes s)
 -- the close of a style: the bytes that end it
 abbrev pub close : Rendition → List ℕ
 close s = written_all (close_codes s)
+
+-- the close of a style in which anything is set that a reader could see, else nothing (the Rust crate)
+abbrev pub close_if_any : Rendition → List ℕ
+close_if_any s = if has_any s then close s else []

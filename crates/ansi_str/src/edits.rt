@@ -1,8 +1,18 @@
 //! Edits of a text.
-ghost use Rattle.std.specs.Prelude.{◌≡◌};
+ghost use Rattle.std.specs.Prelude.{◌≡◌, ◌↔◌, IsTrue, IsNone, IsOk, IfOk, IfSome, option_map};
+ghost use Rattle.std.specs.Cow.{cow_str_bytes, IsBorrowedStr};
 ghost use Rattle.ansi_str.specs.Plain.{is_whole};
+ghost use Rattle.ansi_str.specs.Edited.{edited, stay_borrowed, IsSliceNamed};
+ghost use Rattle.ansi_str.specs.Edits.{changes_of};
+
+mod kinds;
+mod steps;
 
 use crate::ansitok::{Kind, Scanner};
+pub use kinds::Edit;
+use std::alloc::{AllocError, Allocator, Global};
+use std::borrow::CowStr;
+use steps::edit_given;
 
 /// Whether the text is whole: whether it has no lone escape, an ESC that begins no whole sequence.
 ///
@@ -22,4 +32,60 @@ pub fn ansi_is_whole(text: &str) -> bool
         }
     }
     true
+}
+
+/// What edits make of a text, each done on what the one before gave.
+///
+/// It is `None` exactly where an edit is refused at its turn: where it has bad positions, where the
+/// prefix or suffix is absent, or where there is no such part. Each is tested at its turn, on the
+/// text that the edits before it left, and before it takes memory.
+///
+/// For a whole text the answer is whole, its plain bytes with their known styles are the slice of
+/// the text's that the edits name, and after a cut, a side or a part no known style is open at its
+/// end. On every text, whole or not, the bytes are those that the edits make in turn.
+///
+/// It is a borrow of the text until an edit gives an owned text, and owned from then on. Where it
+/// stays a borrow no memory is taken and there is no `Err`: for no edits, on a text without ESC, and
+/// where the first edit is refused. Else `Err` means that memory is wanting. (The Rust crate lacks
+/// it.)
+///
+/// ```
+/// let edits = [Edit::Prefix("> "), Edit::Cut { start: 0, end: Some(2) }];
+/// assert_eq!(edit(alloc, "> \x1b[31mred", &edits)?, Some("\x1b[31mre\x1b[39m"));
+/// assert_eq!(edit(alloc, "red", &edits)?, None);
+/// ```
+pub fn edit<'t>(
+    alloc: Global,
+    text: &'t str,
+    edits: &[Edit<'_>],
+) -> Result<Option<CowStr<'t>>, AllocError>
+    ensures headline { IsTrue (is_whole text.now) → IfOk result (λ o. IsSliceNamed (changes_of edits.now) text.now (option_map cow_str_bytes o)) }
+    ensures none { IfOk result (λ o. IsNone o ↔ IsNone (edited (changes_of edits.now) text.now)) }
+    ensures bytes { IfOk result (λ o. option_map cow_str_bytes o ≡ edited (changes_of edits.now) text.now) }
+    ensures borrowed { IfOk result (λ o. IfSome o (λ c. IsBorrowedStr c ↔ IsTrue (stay_borrowed (changes_of edits.now) text.now))) }
+    ensures takes_no_memory { IsTrue (stay_borrowed (changes_of edits.now) text.now) → IsOk result }
+{
+    edit_in(alloc, text, edits)
+}
+
+/// As [`edit`], with its memory taken from any allocator.
+pub fn edit_in<'t, A: Allocator + Copy>(
+    alloc: A,
+    text: &'t str,
+    edits: &[Edit<'_>],
+) -> Result<Option<CowStr<'t, A>>, AllocError>
+    ensures headline { IsTrue (is_whole text.now) → IfOk result (λ o. IsSliceNamed (changes_of edits.now) text.now (option_map cow_str_bytes o)) }
+    ensures none { IfOk result (λ o. IsNone o ↔ IsNone (edited (changes_of edits.now) text.now)) }
+    ensures bytes { IfOk result (λ o. option_map cow_str_bytes o ≡ edited (changes_of edits.now) text.now) }
+    ensures borrowed { IfOk result (λ o. IfSome o (λ c. IsBorrowedStr c ↔ IsTrue (stay_borrowed (changes_of edits.now) text.now))) }
+    ensures takes_no_memory { IsTrue (stay_borrowed (changes_of edits.now) text.now) → IsOk result }
+{
+    let mut edited = CowStr::Borrowed(text);
+    for edit in edits {
+        match edit_given(alloc, edited, *edit)? {
+            Some(next) => edited = next,
+            None => return Ok(None),
+        }
+    }
+    Ok(Some(edited))
 }

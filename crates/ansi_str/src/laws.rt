@@ -1,19 +1,27 @@
 //! Laws of the definitions that the contracts cite.
 //!
 //! Each function carries one law as its contract, does nothing and answers nothing.
-ghost use Rattle.std.specs.Prelude.{◌≡◌, ◌↔◌, ◌≤◌, ◌+◌, ◌*◌, ◌++◌, ℕ, List, [], length, filter, take, drop, slice_range, Option, Some, unwrap_or, IsTrue, IsFalse};
+ghost use Rattle.std.specs.Prelude.{◌≡◌, ◌↔◌, ◌≤◌, ◌+◌, ◌*◌, ◌++◌, ℕ, List, [], length, filter, take, drop, slice_range, nat_eq, min, slice_get, Option, Some, None, option_map, unwrap_or, if◌then◌else◌, IsTrue, IsFalse, ◌≢◌, ◌∷◌, map, flat_map};
+ghost use Rattle.std.specs.List.{list_any, starts_with, ends_with};
+ghost use Rattle.std.specs.Str.{IsUtf8, IsCharBoundary, trim, chars};
+ghost use Rattle.std.specs.Char.{encode_utf8};
+ghost use Rattle.std.specs.Str.Pattern.{FindsTextPrefix, FindsTextSuffix, StripsPrefix, StripsSuffix};
 ghost use Rattle.ansi_str.specs.Sequences.{IsSequence};
 ghost use Rattle.ansi_str.specs.Pieces.{Piece, ArePieces, pieces_of, merged};
-ghost use Rattle.ansi_str.specs.Plain.{plain, is_text, is_whole, has_escape};
-ghost use Rattle.ansi_str.specs.Rendition.{Rendition, IsStyle, plain_style, known};
+ghost use Rattle.ansi_str.specs.Plain.{plain, marks, up_to, joined, is_text, is_whole, other_sequences, has_escape};
+ghost use Rattle.ansi_str.specs.Rendition.{Rendition, IsStyle, plain_style, known, has_any};
 ghost use Rattle.ansi_str.specs.Sgr.{apply};
-ghost use Rattle.ansi_str.specs.Styled.{style_at, style_after, styled, residue};
+ghost use Rattle.ansi_str.specs.Styled.{style_at, style_after, styled, bytes_of, residue};
 ghost use Rattle.ansi_str.specs.Reading.{style_behind, styled_from};
-ghost use Rattle.ansi_str.specs.Written.{start, close};
-ghost use Rattle.ansi_str.specs.Positions.{is_good_position, is_good_range};
+ghost use Rattle.ansi_str.specs.Written.{start, close, close_if_any};
+ghost use Rattle.ansi_str.specs.Positions.{is_good_position, is_char_boundary, is_good_range};
 ghost use Rattle.ansi_str.specs.Cut.{cut};
 ghost use Rattle.ansi_str.specs.Sides.{left_side, right_side};
-ghost use Rattle.ansi_str.specs.Changes.{CutRange, LeftOf, RightOf, slice_of};
+ghost use Rattle.ansi_str.specs.Kept.{kept, IsKept, without_prefix, without_suffix, trim_interval, trimmed};
+ghost use Rattle.ansi_str.specs.Parts.{parts, part, past, part_over, all_parts};
+ghost use Rattle.ansi_str.specs.Changes.{Change, CutRange, LeftOf, RightOf, PartOf, WithoutPrefix, WithoutSuffix, Trimmed, interval_of, slice_of};
+ghost use Rattle.ansi_str.specs.Edited.{meaning, edited_by, edited, closes, stay_borrowed, IsSliceNamed};
+ghost use Rattle.ansi_str.specs.StdSplit.{AreSplit, AreBetween, AreInTurn, slices_over};
 
 /// A text is read in one way: no whole sequence is a proper beginning of another, and each text has
 /// one list of pieces.
@@ -22,11 +30,12 @@ pub fn one_reading()
     ensures pieces { (t : List ℕ) (ps : List Piece) → ArePieces t ps ↔ (ps ≡ pieces_of t) }
 {}
 
-/// A plain text has no ESC, is its own plain text, and is whole.
+/// A plain text has no ESC, is its own plain text, is whole, and is UTF-8 as its text is.
 pub fn plain_is_plain()
     ensures no_escape { (t : List ℕ) → IsFalse (has_escape (plain t)) }
     ensures same { (t : List ℕ) → plain (plain t) ≡ plain t }
     ensures whole { (t : List ℕ) → IsTrue (is_whole (plain t)) }
+    ensures utf8 { (t : List ℕ) → IsUtf8 t → IsUtf8 (plain t) }
 {}
 
 /// What is known of a style after a sequence depends on the sequence, and on what was known before.
@@ -59,15 +68,29 @@ pub fn close_clears()
     ensures from_known { (p s : Rendition) → known p ≡ known s → known (style_behind p (close s)) ≡ plain_style }
 {}
 
-/// Two whole texts in a row have the pieces of both, with texts that touch joined, and are whole. A cut
-/// and the two sides of a whole text are whole, and leave no known style open.
+/// Of a style in which nothing is set that a reader could see nothing is known, and its start is empty.
+/// To close only where something is set clears all the same.
+pub fn unset_styles_need_nothing()
+    ensures known { (s : Rendition) → IsFalse (has_any s) → known s ≡ plain_style }
+    ensures start { (s : Rendition) → IsFalse (has_any s) → start s ≡ [] }
+    ensures close { (s : Rendition) → IsFalse (has_any s) → close_if_any s ≡ [] }
+    ensures cleared { (p s : Rendition) → known p ≡ known s → known (style_behind p (close_if_any s)) ≡ plain_style }
+{}
+
+/// Two whole texts in a row have the pieces of both, with texts that touch joined, and are whole. A cut,
+/// the two sides and each part of a whole text are whole, and leave no known style open. What is kept of
+/// it without a prefix, a suffix or the white space at its ends is whole, and leaves open what it does.
 pub fn join()
     ensures pieces { (u v : List ℕ) → IsTrue (is_whole u) → IsTrue (is_whole v) → pieces_of (u ++ v) ≡ merged (pieces_of u ++ pieces_of v) }
     ensures whole { (u v : List ℕ) → IsTrue (is_whole u) → IsTrue (is_whole v) → IsTrue (is_whole (u ++ v)) }
     ensures whole_cut { (t : List ℕ) (s : ℕ) (e : Option ℕ) → IsTrue (is_whole t) → IsTrue (is_whole (cut t s e)) }
     ensures whole_sides { (t : List ℕ) (mid : ℕ) → IsTrue (is_whole t) → IsTrue (is_whole (left_side t mid)) × IsTrue (is_whole (right_side t mid)) }
+    ensures whole_part { (t p : List ℕ) (k : ℕ) (u : List ℕ) → IsTrue (is_whole t) → part t p k ≡ Some u → IsTrue (is_whole u) }
+    ensures whole_kept { (t : List ℕ) (a b : ℕ) → IsTrue (is_whole t) → IsTrue (is_whole (kept t a b)) }
     ensures closed_cut { (t : List ℕ) (s : ℕ) (e : Option ℕ) → IsTrue (is_whole t) → residue (cut t s e) ≡ plain_style }
     ensures closed_sides { (t : List ℕ) (mid : ℕ) → IsTrue (is_whole t) → (residue (left_side t mid) ≡ plain_style) × (residue (right_side t mid) ≡ plain_style) }
+    ensures closed_part { (t p : List ℕ) (k : ℕ) (u : List ℕ) → IsTrue (is_whole t) → part t p k ≡ Some u → residue u ≡ plain_style }
+    ensures residue_kept { (t : List ℕ) (a b : ℕ) → IsTrue (is_whole t) → residue (kept t a b) ≡ residue t }
 {}
 
 /// Of two whole texts in a row the second is read in the style behind the first. What is read depends
@@ -79,15 +102,23 @@ pub fn read_in_turn()
     ensures behind_alike { (p q : Rendition) (t : List ℕ) → known p ≡ known q → known (style_behind p t) ≡ known (style_behind q t) }
 {}
 
-/// A cut of a whole text has the slice of its styled bytes that the range names, and each side the one
-/// that the position names. Where these aren't good, so that nothing is named, the slice is the same.
+/// A cut of a whole text has the slice of its styled bytes that the range names, each side the one that
+/// the position names, and the part of an index the one between the matches of the pattern, or there is
+/// neither. Where a range or a position isn't good, so that nothing is named, the slice is the same.
+/// What is kept without a prefix or a suffix that is there, or without the white space at the ends, has
+/// the slice that this change names, and what is kept over any interval the slice over it.
 pub fn slices()
     ensures cut { (t : List ℕ) (s : ℕ) (e : Option ℕ) → IsTrue (is_whole t) → IsTrue (is_good_range (plain t) s e) → slice_of (CutRange s e) (styled t) ≡ Some (styled (cut t s e)) }
     ensures left { (t : List ℕ) (mid : ℕ) → IsTrue (is_whole t) → IsTrue (is_good_position (plain t) mid) → slice_of (LeftOf mid) (styled t) ≡ Some (styled (left_side t mid)) }
     ensures right { (t : List ℕ) (mid : ℕ) → IsTrue (is_whole t) → IsTrue (is_good_position (plain t) mid) → slice_of (RightOf mid) (styled t) ≡ Some (styled (right_side t mid)) }
+    ensures part { (t p : List ℕ) (k : ℕ) → IsTrue (is_whole t) → slice_of (PartOf p k) (styled t) ≡ option_map styled (part t p k) }
+    ensures prefix { (t p : List ℕ) → IsTrue (is_whole t) → IsTrue (starts_with nat_eq (plain t) p) → slice_of (WithoutPrefix p) (styled t) ≡ Some (styled (without_prefix t p)) }
+    ensures suffix { (t p : List ℕ) → IsTrue (is_whole t) → IsTrue (ends_with nat_eq (plain t) p) → slice_of (WithoutSuffix p) (styled t) ≡ Some (styled (without_suffix t p)) }
+    ensures trim { (t : List ℕ) → IsTrue (is_whole t) → slice_of Trimmed (styled t) ≡ Some (styled (trimmed t)) }
     ensures any_cut { (t : List ℕ) (s : ℕ) (e : Option ℕ) → IsTrue (is_whole t) → styled (cut t s e) ≡ slice_range (styled t) s (unwrap_or e (length (plain t))) }
     ensures any_left { (t : List ℕ) (mid : ℕ) → IsTrue (is_whole t) → styled (left_side t mid) ≡ take mid (styled t) }
     ensures any_right { (t : List ℕ) (mid : ℕ) → IsTrue (is_whole t) → styled (right_side t mid) ≡ drop mid (styled t) }
+    ensures any_kept { (t : List ℕ) (a b : ℕ) → IsTrue (is_whole t) → styled (kept t a b) ≡ slice_range (styled t) a b }
 {}
 
 /// The two sides of a whole text, joined, have its styled bytes.
@@ -95,12 +126,96 @@ pub fn sides_join()
     ensures { (t : List ℕ) (mid : ℕ) → IsTrue (is_whole t) → styled (left_side t mid ++ right_side t mid) ≡ styled t }
 {}
 
-/// A start has at most 163 bytes, a close 88, and a cut no more than its text and a close. The two sides
-/// have no more than their text and a start and a close, 251 bytes, for each text piece and for the one
-/// that is divided.
+/// What changes in turn make of a whole text, each of what the one before gave, is None exactly where one
+/// of them is refused at its turn. Else it is a whole text, its styled bytes are the slice of the text's
+/// that the changes name, and after a cut, a side or a part no known style is open at its end. Without
+/// any of these it leaves open what the text does.
+pub fn edits_are_slices()
+    ensures one { (e : Change) (t : List ℕ) → IsTrue (is_whole t) → slice_of e (styled t) ≡ option_map styled (edited_by e t) }
+    ensures plain { (e : Change) (t : List ℕ) → IsTrue (is_whole t) → option_map plain (edited_by e t) ≡ option_map (λ (i : ℕ × ℕ). slice_range (plain t) i.0 i.1) (interval_of e (plain t)) }
+    ensures in_turn { (es : List Change) (t : List ℕ) → IsTrue (is_whole t) → IsSliceNamed es t (edited es t) }
+    ensures residue { (es : List Change) (t u : List ℕ) → IsTrue (is_whole t) → edited es t ≡ Some u → residue u ≡ (if list_any closes es then plain_style else residue t) }
+{}
+
+/// Trimming is std's `trim` on the plain text, and taking off a prefix or a suffix is std's
+/// `strip_prefix` or `strip_suffix`. The interval of a trim is what std's `trim` leaves, between two
+/// character boundaries. What is kept of a text keeps every sequence and lone escape of it.
+pub fn trim_is_std()
+    ensures trim { (t : List ℕ) → IsUtf8 t → IsTrue (is_whole t) → plain (trimmed t) ≡ trim (plain t) }
+    ensures prefix { (t p : List ℕ) → IsUtf8 t → IsUtf8 p → IsTrue (is_whole t) → IsTrue (starts_with nat_eq (plain t) p) → StripsPrefix (FindsTextPrefix p) (plain t) (plain (without_prefix t p)) }
+    ensures suffix { (t p : List ℕ) → IsUtf8 p → IsTrue (is_whole t) → IsTrue (ends_with nat_eq (plain t) p) → StripsSuffix (FindsTextSuffix p) (plain t) (plain (without_suffix t p)) }
+    ensures interval { (x : List ℕ) → IsUtf8 x → slice_range x (trim_interval x).0 (trim_interval x).1 ≡ trim x }
+    ensures boundaries { (x : List ℕ) → IsUtf8 x → IsCharBoundary x (trim_interval x).0 × IsCharBoundary x (trim_interval x).1 }
+    ensures kept { (t : List ℕ) (a b : ℕ) → IsKept t a b (kept t a b) }
+{}
+
+/// The intervals of the parts lie between the first matches of the pattern, in std's words, and stand in
+/// the text one after the other, from one of std's character boundaries to another. What stands in them is
+/// what std's `split` gives. At the empty pattern, of which std's clause says nothing, it is the
+/// characters between two empty texts.
+pub fn parts_lie_between_matches()
+    ensures between { (x p : List ℕ) → IsUtf8 x → IsUtf8 p → p ≢ [] → AreBetween x p 0 (parts x p) }
+    ensures in_turn { (x p : List ℕ) → IsUtf8 x → IsUtf8 p → AreInTurn x 0 (parts x p) }
+    ensures split { (x p : List ℕ) → IsUtf8 x → IsUtf8 p → p ≢ [] → AreSplit p x (slices_over x (parts x p)) }
+    ensures characters { (x : List ℕ) → IsUtf8 x → slices_over x (parts x []) ≡ [] ∷ (map encode_utf8 (chars x) ++ [] ∷ []) }
+    ensures few { (x p : List ℕ) → length (parts x p) ≤ length x + 2 }
+{}
+
+/// Each sequence of a whole text that is no SGR stands in one of its parts, and they stay in order.
+pub fn parts_keep_sequences()
+    ensures { (t p : List ℕ) → IsTrue (is_whole t) → flat_map other_sequences (all_parts t p) ≡ other_sequences t }
+{}
+
+/// The plain texts of the parts of a whole text are what std's `split` gives of its plain text, and that
+/// is one list of texts. At the empty pattern they are the characters between two empty texts. There are
+/// at most two more parts than plain bytes.
+pub fn parts_are_std()
+    ensures split { (t p : List ℕ) → IsUtf8 t → IsUtf8 p → IsTrue (is_whole t) → p ≢ [] → AreSplit p (plain t) (map plain (all_parts t p)) }
+    ensures one { (p x : List ℕ) (ys zs : List (List ℕ)) → p ≢ [] → AreSplit p x ys → AreSplit p x zs → ys ≡ zs }
+    ensures characters { (t : List ℕ) → IsUtf8 t → IsTrue (is_whole t) → map plain (all_parts t []) ≡ [] ∷ (map encode_utf8 (chars (plain t)) ++ [] ∷ []) }
+    ensures slices { (t p : List ℕ) → IsTrue (is_whole t) → map plain (all_parts t p) ≡ slices_over (plain t) (parts (plain t) p) }
+    ensures few { (t p : List ℕ) → length (all_parts t p) ≤ length (plain t) + 2 }
+{}
+
+/// A start has at most 163 bytes, a close 88, and a cut no more than its text and a close. A text without
+/// a prefix, a suffix or the white space at its ends is no longer than it was. A part has no more than
+/// the text of its interval, its sequences, and a start and a close, 251 bytes. The two sides have no more
+/// than their text and 251 bytes for each text piece and for the one that is divided.
 pub fn written_texts_are_short()
     ensures start { (s : Rendition) → IsStyle s → length (start s) ≤ 163 }
     ensures close { (s : Rendition) → length (close s) ≤ 88 }
     ensures cut { (t : List ℕ) (s : ℕ) (e : Option ℕ) → length (cut t s e) ≤ length t + 88 }
+    ensures kept { (t : List ℕ) (a b : ℕ) → length (kept t a b) ≤ length t }
+    ensures part_over { (t : List ℕ) (before : Option ℕ) (i : ℕ × ℕ) → length (part_over t before i) ≤ length (slice_range (plain t) i.0 i.1) + length (joined (past before (up_to i.1 (marks t)))) + 251 }
+    ensures part { (t p : List ℕ) (k : ℕ) (u : List ℕ) → part t p k ≡ Some u → length u ≤ length t + 251 }
     ensures sides { (t : List ℕ) (mid : ℕ) → length (left_side t mid) + length (right_side t mid) ≤ length t + 251 * (length (filter is_text (pieces_of t)) + 1) }
+{}
+
+/// Character boundaries are std's. A good position is one, or lies past the end, which counts as the end;
+/// a range is good where its ends are, and they are in order.
+pub fn positions_are_std()
+    ensures boundary { (x : List ℕ) (n : ℕ) → IsTrue (is_char_boundary x n) ↔ IsCharBoundary x n }
+    ensures position { (x : List ℕ) (n : ℕ) → IsTrue (is_good_position x n) ↔ IsCharBoundary x (min n (length x)) }
+    ensures range { (x : List ℕ) (s e : ℕ) → IsTrue (is_good_range x s (Some e)) ↔ ((s ≤ e) × IsCharBoundary x (min s (length x)) × IsCharBoundary x (min e (length x))) }
+    ensures open_range { (x : List ℕ) (s : ℕ) → IsTrue (is_good_range x s None) ↔ IsCharBoundary x (min s (length x)) }
+{}
+
+/// Of a text without ESC each answer that std has too is std's, where a position past the end counts as
+/// the end. Each change of it gives the slice that it keeps, or is refused, and all answers are borrows.
+pub fn bare_texts_are_std()
+    ensures strip { (t : List ℕ) → IsFalse (has_escape t) → plain t ≡ t }
+    ensures whole { (t : List ℕ) → IsFalse (has_escape t) → IsTrue (is_whole t) }
+    ensures cut { (t : List ℕ) (s : ℕ) (e : Option ℕ) → IsFalse (has_escape t) → cut t s e ≡ slice_range t (min s (length t)) (min (unwrap_or e (length t)) (length t)) }
+    ensures left { (t : List ℕ) (mid : ℕ) → IsFalse (has_escape t) → left_side t mid ≡ take (min mid (length t)) t }
+    ensures right { (t : List ℕ) (mid : ℕ) → IsFalse (has_escape t) → right_side t mid ≡ drop (min mid (length t)) t }
+    ensures part { (t p : List ℕ) (k : ℕ) → IsFalse (has_escape t) → part t p k ≡ option_map (λ (i : ℕ × ℕ). slice_range t i.0 i.1) (slice_get (parts t p) k) }
+    ensures parts { (t p : List ℕ) → IsFalse (has_escape t) → all_parts t p ≡ slices_over t (parts t p) }
+    ensures split { (t p : List ℕ) → IsUtf8 t → IsUtf8 p → IsFalse (has_escape t) → p ≢ [] → AreSplit p t (all_parts t p) }
+    ensures characters { (t : List ℕ) → IsUtf8 t → IsFalse (has_escape t) → all_parts t [] ≡ [] ∷ (map encode_utf8 (chars t) ++ [] ∷ []) }
+    ensures prefix { (t p : List ℕ) → IsUtf8 t → IsUtf8 p → IsFalse (has_escape t) → IsTrue (starts_with nat_eq t p) → StripsPrefix (FindsTextPrefix p) t (without_prefix t p) }
+    ensures suffix { (t p : List ℕ) → IsUtf8 p → IsFalse (has_escape t) → IsTrue (ends_with nat_eq t p) → StripsSuffix (FindsTextSuffix p) t (without_suffix t p) }
+    ensures trim { (t : List ℕ) → IsUtf8 t → IsFalse (has_escape t) → trimmed t ≡ trim t }
+    ensures change { (e : Change) (t : List ℕ) → IsFalse (has_escape t) → edited_by e t ≡ option_map (λ (i : ℕ × ℕ). slice_range t i.0 i.1) (interval_of e t) }
+    ensures in_turn { (es : List Change) (t : List ℕ) → IsFalse (has_escape t) → edited es t ≡ option_map bytes_of (meaning es (styled t)) }
+    ensures borrowed { (es : List Change) (t : List ℕ) → IsFalse (has_escape t) → IsTrue (stay_borrowed es t) }
 {}

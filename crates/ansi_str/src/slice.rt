@@ -1,17 +1,27 @@
 //! The calls on a text that take it as if its sequences weren't there.
-ghost use Rattle.std.specs.Prelude.{◌≡◌, ◌↔◌, ◌⊎◌, ℕ, List, IsTrue, IsFalse, IsNone, IsOk, IfOk, IfSome, string_bytes};
+ghost use Rattle.std.specs.Prelude.{◌≡◌, ◌↔◌, ◌⊎◌, ℕ, List, [], IsTrue, IsFalse, IsNone, IsOk, IfOk, IfSome, nat_eq, string_bytes, ◌+◌, ◌<◌, ◌^◌, length, None, Some, MatchOption, ◌≤◌, map};
+ghost use Rattle.std.specs.List.{list_all, range_with_len};
 ghost use Rattle.std.specs.Cow.{cow_str_bytes, IsBorrowedStr};
+ghost use Rattle.std.specs.List.{starts_with, ends_with};
+ghost use Rattle.std.specs.Str.{IsCharBoundary};
+ghost use Rattle.std.specs.Str.Pattern.{FindsText, MatchBeginsAt};
 ghost use Rattle.ansi_str.specs.Plain.{plain, has_escape};
-ghost use Rattle.ansi_str.specs.Positions.{is_good_position, is_good_range};
+ghost use Rattle.ansi_str.specs.Positions.{is_good_position, is_char_boundary, is_good_range};
 ghost use Rattle.ansi_str.specs.Cut.{cut};
 ghost use Rattle.ansi_str.specs.Sides.{left_side, right_side};
+ghost use Rattle.ansi_str.specs.Kept.{without_prefix, without_suffix, trimmed};
+ghost use Rattle.ansi_str.specs.Parts.{all_parts, is_part_borrowed};
 
 mod cuts;
+mod kept;
 mod range;
 mod sides;
 
 use crate::ansitok::{ESC, Kind, Scanner};
+use crate::search;
+use crate::split::{AnsiSplit, split_in};
 pub use cuts::{cut_in, get_in};
+pub use kept::{strip_prefix_in, strip_suffix_in, trim_in};
 pub use range::AnsiRange;
 pub use sides::split_at_in;
 use std::alloc::{AllocError, Allocator, Global};
@@ -65,6 +75,115 @@ pub trait AnsiStr {
         ensures borrowed { IfOk result (λ c. IsBorrowedStr c ↔ IsFalse (has_escape (text self.now))) }
         ensures takes_no_memory { IsFalse (has_escape (text self.now)) → IsOk result };
 
+    /// Whether a character of the plain text begins at the index, or the plain text ends there. (std,
+    /// on the plain text.)
+    ///
+    /// The index counts bytes of the plain text. It is false past the end. A text can be cut and
+    /// split wherever it is true: the index is a good position then. Takes no memory.
+    ///
+    /// ```
+    /// assert!("\x1b[1mé\x1b[0m".ansi_is_char_boundary(2));
+    /// assert!(!"\x1b[1mé\x1b[0m".ansi_is_char_boundary(1));
+    /// ```
+    fn ansi_is_char_boundary(&self, index: usize) -> bool
+        ensures value { result ≡ is_char_boundary (plain (text self.now)) index }
+        ensures boundary { IsTrue result ↔ IsCharBoundary (plain (text self.now)) index };
+
+    /// Where the pattern first stands in the plain text, in bytes from its start. (std's `find`, on
+    /// the plain text.)
+    ///
+    /// A match may run across sequences. It is `None` where the pattern stands nowhere. An empty
+    /// pattern stands at 0, and a pattern with an ESC nowhere. The place and the one past the match
+    /// are good positions, so the text can be cut and split there. Takes no memory.
+    ///
+    /// ```
+    /// assert_eq!("a\x1b[1mb\x1b[0mc".ansi_find("bc"), Some(1));
+    /// assert_eq!("a\x1b[1mb\x1b[0mc".ansi_find("cb"), None);
+    /// ```
+    fn ansi_find(&self, pat: &str) -> Option<usize>
+        ensures first { MatchOption result (FindsText pat.now (plain (text self.now)) None) (MatchBeginsAt (FindsText pat.now) (plain (text self.now))) }
+        ensures good { IfSome result (λ i. IsTrue (is_good_range (plain (text self.now)) i (Some (i + length pat.now)))) }
+        ensures fits { IfSome result (λ i. i + length pat.now < 2 ^ 64) };
+
+    /// The text without a prefix of its plain text, or `None` where the plain text doesn't begin with
+    /// it.
+    ///
+    /// The prefix is met across sequences, and every sequence stays, at its place: also one that
+    /// stands before the prefix or inside it. No style is opened or closed. An empty prefix takes
+    /// nothing off, and a prefix with an ESC is never there. (std's `strip_prefix`, on the plain
+    /// text; the sequences, the Rust crate.)
+    ///
+    /// It is a borrow where no ESC stands in the text, and a borrow of all of it where the prefix is
+    /// empty. Then no memory is taken, and none for a `None`. Else it is owned. `Err` means that
+    /// memory is wanting.
+    ///
+    /// ```
+    /// assert_eq!("\x1b[31mred\x1b[39m and plain".ansi_strip_prefix(alloc, "red ")?, Some("\x1b[31m\x1b[39mand plain"));
+    /// assert_eq!("\x1b[31mred\x1b[39m".ansi_strip_prefix(alloc, "red and")?, None);
+    /// ```
+    fn ansi_strip_prefix(
+        &self,
+        alloc: Global,
+        prefix: &str,
+    ) -> Result<Option<CowStr<'_>>, AllocError>
+        ensures none { IfOk result (λ o. IsNone o ↔ IsFalse (starts_with nat_eq (plain (text self.now)) prefix.now)) }
+        ensures bytes { IfOk result (λ o. IfSome o (λ c. cow_str_bytes c ≡ without_prefix (text self.now) prefix.now)) }
+        ensures borrowed { IfOk result (λ o. IfSome o (λ c. IsBorrowedStr c ↔ (IsFalse (has_escape (text self.now)) ⊎ (prefix.now ≡ [])))) }
+        ensures takes_no_memory { IsFalse (has_escape (text self.now)) ⊎ (prefix.now ≡ [])
+            ⊎ IsFalse (starts_with nat_eq (plain (text self.now)) prefix.now) → IsOk result };
+
+    /// The text without a suffix of its plain text, or `None` where the plain text doesn't end with
+    /// it.
+    ///
+    /// The suffix is met across sequences, and every sequence stays, at its place: also one that
+    /// stands inside the suffix or behind it. No style is opened or closed. An empty suffix takes
+    /// nothing off, and a suffix with an ESC is never there. (std's `strip_suffix`, on the plain
+    /// text; the sequences, the Rust crate.)
+    ///
+    /// It is a borrow where no ESC stands in the text, and a borrow of all of it where the suffix is
+    /// empty. Then no memory is taken, and none for a `None`. Else it is owned. `Err` means that
+    /// memory is wanting.
+    ///
+    /// ```
+    /// assert_eq!("plain and \x1b[31mred\x1b[39m".ansi_strip_suffix(alloc, " red")?, Some("plain and\x1b[31m\x1b[39m"));
+    /// ```
+    fn ansi_strip_suffix(
+        &self,
+        alloc: Global,
+        suffix: &str,
+    ) -> Result<Option<CowStr<'_>>, AllocError>
+        ensures none { IfOk result (λ o. IsNone o ↔ IsFalse (ends_with nat_eq (plain (text self.now)) suffix.now)) }
+        ensures bytes { IfOk result (λ o. IfSome o (λ c. cow_str_bytes c ≡ without_suffix (text self.now) suffix.now)) }
+        ensures borrowed { IfOk result (λ o. IfSome o (λ c. IsBorrowedStr c ↔ (IsFalse (has_escape (text self.now)) ⊎ (suffix.now ≡ [])))) }
+        ensures takes_no_memory { IsFalse (has_escape (text self.now)) ⊎ (suffix.now ≡ [])
+            ⊎ IsFalse (ends_with nat_eq (plain (text self.now)) suffix.now) → IsOk result };
+    /// The parts of the text between the matches of a pattern, each with its sequences and in its
+    /// style: an iterator, which takes no memory to make.
+    ///
+    /// The parts are those of std's `split` of the plain text. So an empty pattern stands at every
+    /// character boundary, and at both ends it leaves an empty part; a pattern with an ESC stands
+    /// nowhere. A sequence belongs to the first part whose end isn't before its place. A part begins
+    /// with the start of the style that the parts before it leave open, and ends with the close of
+    /// its own, where these have anything; a part without text and sequences stays empty.
+    ///
+    /// The iterator has at most two parts more than the plain text has bytes. A part with no
+    /// sequence is a borrow where no style is carried into it or it is empty, so on a text without
+    /// ESC every part is one; a borrow takes no memory. Any other part is owned, and in its place
+    /// comes an `Err` where memory is wanting. Behind that there is nothing but `None`. (std; the
+    /// Rust crate splits the text with its sequences; where a sequence goes, own.)
+    ///
+    /// ```
+    /// let mut parts = "\x1b[31mlion::tiger\x1b[0m".ansi_split(alloc, "::");
+    /// assert_eq!(parts.next(), Some(Ok("\x1b[31mlion\x1b[39m")));
+    /// assert_eq!(parts.next(), Some(Ok("\x1b[31mtiger\x1b[0m")));
+    /// assert_eq!(parts.next(), None);
+    /// ```
+    fn ansi_split<'a>(&'a self, alloc: Global, pat: &'a str) -> AnsiSplit<'a>
+        ensures bytes { map (λ p. p.bytes) result ≡ all_parts (text self.now) pat.now }
+        ensures borrowed { map (λ p. p.borrowed) result ≡ map (is_part_borrowed (text self.now) pat.now) (range_with_len 0 (length result)) }
+        ensures len { length result ≤ length (plain (text self.now)) + 2 }
+        ensures takes_no_memory { IsFalse (has_escape (text self.now)) → IsTrue (list_all (λ p. p.borrowed) result) };
+
     /// The text before a position and the text from there on, each character in its style.
     ///
     /// On each side every run of text stands between the start of its style and the close, so the
@@ -90,6 +209,45 @@ pub trait AnsiStr {
         ensures right { IfOk result (λ c. cow_str_bytes c.1 ≡ right_side (text self.now) mid) }
         ensures borrowed { IfOk result (λ c. (IsBorrowedStr c.0 ↔ IsFalse (has_escape (text self.now)))
             × (IsBorrowedStr c.1 ↔ IsFalse (has_escape (text self.now)))) }
+        ensures takes_no_memory { IsFalse (has_escape (text self.now)) → IsOk result };
+
+    /// Whether the plain text begins with the pattern.
+    ///
+    /// The pattern is met across sequences. Every plain text begins with an empty one, and none with
+    /// one that has an ESC. Takes no memory. (std, on the plain text.)
+    ///
+    /// ```
+    /// assert!("\x1b[31mred\x1b[39m and plain".ansi_starts_with("red and"));
+    /// ```
+    fn ansi_starts_with(&self, pat: &str) -> bool
+        ensures { result ≡ starts_with nat_eq (plain (text self.now)) pat.now };
+
+    /// Whether the plain text ends with the pattern.
+    ///
+    /// The pattern is met across sequences. Every plain text ends with an empty one, and none with
+    /// one that has an ESC. Takes no memory. (std, on the plain text.)
+    ///
+    /// ```
+    /// assert!("plain and \x1b[31mred\x1b[39m".ansi_ends_with("and red"));
+    /// ```
+    fn ansi_ends_with(&self, pat: &str) -> bool
+        ensures { result ≡ ends_with nat_eq (plain (text self.now)) pat.now };
+
+    /// The text without the white space at the ends of its plain text.
+    ///
+    /// White space is what `char::is_whitespace` tells of, and it is met across sequences. Every
+    /// sequence stays, at its place: also one that stands among the white space. No style is opened or
+    /// closed. (std's `trim`, on the plain text; the sequences, the Rust crate.)
+    ///
+    /// It is a borrow where no ESC stands in the text, and then no memory is taken. Else it is owned.
+    /// `Err` means that memory is wanting.
+    ///
+    /// ```
+    /// assert_eq!(" \x1b[31m red \x1b[39m ".ansi_trim(alloc)?, "\x1b[31mred\x1b[39m");
+    /// ```
+    fn ansi_trim(&self, alloc: Global) -> Result<CowStr<'_>, AllocError>
+        ensures bytes { IfOk result (λ c. cow_str_bytes c ≡ trimmed (text self.now)) }
+        ensures borrowed { IfOk result (λ c. IsBorrowedStr c ↔ IsFalse (has_escape (text self.now))) }
         ensures takes_no_memory { IsFalse (has_escape (text self.now)) → IsOk result };
 
     /// The plain text: the text without its sequences and lone escapes.
@@ -130,12 +288,52 @@ impl AnsiStr for &str {
         cut_in(alloc, self, range.start(), range.end())
     }
 
+    fn ansi_is_char_boundary(&self, index: usize) -> bool {
+        search::is_char_boundary(self, index)
+    }
+
+    fn ansi_find(&self, pat: &str) -> Option<usize> {
+        search::find(self, pat)
+    }
+
+    fn ansi_strip_prefix(
+        &self,
+        alloc: Global,
+        prefix: &str,
+    ) -> Result<Option<CowStr<'_>>, AllocError> {
+        strip_prefix_in(alloc, self, prefix)
+    }
+
+    fn ansi_strip_suffix(
+        &self,
+        alloc: Global,
+        suffix: &str,
+    ) -> Result<Option<CowStr<'_>>, AllocError> {
+        strip_suffix_in(alloc, self, suffix)
+    }
+
+    fn ansi_split<'a>(&'a self, alloc: Global, pat: &'a str) -> AnsiSplit<'a> {
+        split_in(alloc, self, pat)
+    }
+
     fn ansi_split_at(
         &self,
         alloc: Global,
         mid: usize,
     ) -> Result<(CowStr<'_>, CowStr<'_>), AllocError> {
         split_at_in(alloc, self, mid)
+    }
+
+    fn ansi_starts_with(&self, pat: &str) -> bool {
+        search::starts_with(self, pat)
+    }
+
+    fn ansi_ends_with(&self, pat: &str) -> bool {
+        search::ends_with(self, pat)
+    }
+
+    fn ansi_trim(&self, alloc: Global) -> Result<CowStr<'_>, AllocError> {
+        trim_in(alloc, self)
     }
 
     fn ansi_strip(&self, alloc: Global) -> Result<CowStr<'_>, AllocError> {
@@ -162,12 +360,52 @@ impl AnsiStr for String {
         cut_in(alloc, self.as_str(), range.start(), range.end())
     }
 
+    fn ansi_is_char_boundary(&self, index: usize) -> bool {
+        search::is_char_boundary(self.as_str(), index)
+    }
+
+    fn ansi_find(&self, pat: &str) -> Option<usize> {
+        search::find(self.as_str(), pat)
+    }
+
+    fn ansi_strip_prefix(
+        &self,
+        alloc: Global,
+        prefix: &str,
+    ) -> Result<Option<CowStr<'_>>, AllocError> {
+        strip_prefix_in(alloc, self.as_str(), prefix)
+    }
+
+    fn ansi_strip_suffix(
+        &self,
+        alloc: Global,
+        suffix: &str,
+    ) -> Result<Option<CowStr<'_>>, AllocError> {
+        strip_suffix_in(alloc, self.as_str(), suffix)
+    }
+
+    fn ansi_split<'a>(&'a self, alloc: Global, pat: &'a str) -> AnsiSplit<'a> {
+        split_in(alloc, self.as_str(), pat)
+    }
+
     fn ansi_split_at(
         &self,
         alloc: Global,
         mid: usize,
     ) -> Result<(CowStr<'_>, CowStr<'_>), AllocError> {
         split_at_in(alloc, self.as_str(), mid)
+    }
+
+    fn ansi_starts_with(&self, pat: &str) -> bool {
+        search::starts_with(self.as_str(), pat)
+    }
+
+    fn ansi_ends_with(&self, pat: &str) -> bool {
+        search::ends_with(self.as_str(), pat)
+    }
+
+    fn ansi_trim(&self, alloc: Global) -> Result<CowStr<'_>, AllocError> {
+        trim_in(alloc, self.as_str())
     }
 
     fn ansi_strip(&self, alloc: Global) -> Result<CowStr<'_>, AllocError> {

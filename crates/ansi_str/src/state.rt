@@ -1,5 +1,7 @@
 //! The style: what SGRs do to it, and the sequences that set and end it.
+mod compare;
 mod fields;
+mod rendition;
 mod table;
 mod written;
 
@@ -8,56 +10,36 @@ ghost use Rattle.std.specs.Option.{ForSome};
 ghost use Rattle.std.specs.Int.{is_in_range};
 ghost use Rattle.ansi_str.specs.Rendition.{is_foreground, is_background, is_extended_color};
 
-use crate::ansitok::AnsiColor;
+use crate::ansitok::{Kind, Scanner};
 use crate::state::fields::{Fields, code, parameters};
-use crate::state::written::{Close, Start};
+pub(crate) use crate::state::rendition::Rendition;
+use crate::state::written::Close;
+pub use crate::state::written::{AnsiSequenceEnd, AnsiSequenceStart};
 use std::alloc::{AllocError, Allocator};
 use std::fmt::Write;
 
-/// A style: three colors, a font and 24 attributes, in the order in which styles are compared.
+/// A style: what the SGRs before a character of a text have selected (ECMA-48, section 8.3.117).
+///
+/// It has three colors, a font and 24 attributes. Styles compare by these, part by part, in the order
+/// of the fields of `Rendition`. A block has one, see [`get_blocks`](crate::get_blocks). (The Rust
+/// crate.)
 ///
 /// Its colors and its font are such as SGR codes select, which the ghost fields say. Contracts see
 /// it as a `Rendition`, by `rendition_of`.
-#[derive(Debug, Clone, Copy, PartialEq, Eq)]
-pub(crate) struct AnsiState {
-    foreground: Option<AnsiColor>,
-    background: Option<AnsiColor>,
-    underline_color: Option<AnsiColor>,
-    bold: bool,
-    faint: bool,
-    italic: bool,
-    underline: bool,
-    double_underline: bool,
-    slow_blink: bool,
-    rapid_blink: bool,
-    inverse: bool,
-    hide: bool,
-    crossed_out: bool,
-    reset: bool,
-    framed: bool,
-    encircled: bool,
-    font: Option<u8>,
-    fraktur: bool,
-    proportional_spacing: bool,
-    overlined: bool,
-    ideogram_underline: bool,
-    ideogram_double_underline: bool,
-    ideogram_overline: bool,
-    ideogram_double_overline: bool,
-    ideogram_stress_marking: bool,
-    superscript: bool,
-    subscript: bool,
-    unknown: bool,
-    ghost foreground_in_range: { ForSome foreground (λ c. IsTrue (is_foreground c)) },
-    ghost background_in_range: { ForSome background (λ c. IsTrue (is_background c)) },
-    ghost underline_color_in_range: { ForSome underline_color (λ c. IsTrue (is_extended_color c)) },
-    ghost font_in_range: { ForSome font (λ n. IsTrue (is_in_range 11 19 n)) },
+#[derive(Debug, Clone, Copy)]
+pub struct Style {
+    rendition: Rendition,
+    ghost foreground_in_range: { ForSome rendition.foreground (λ c. IsTrue (is_foreground c)) },
+    ghost background_in_range: { ForSome rendition.background (λ c. IsTrue (is_background c)) },
+    ghost underline_color_in_range: { ForSome rendition.underline_color (λ c. IsTrue (is_extended_color c)) },
+    ghost font_in_range: { ForSome rendition.font (λ n. IsTrue (is_in_range 11 19 n)) },
 }
 
-impl AnsiState {
+impl Style {
     ghost use Rattle.std.specs.Prelude.{◌≡◌, ◌∷◌, ◌++◌, OnOk, string_bytes};
     ghost use Rattle.ansi_str.specs.Sequences.{is_sgr};
-    ghost use Rattle.ansi_str.specs.Rendition.{plain_style};
+    ghost use Rattle.ansi_str.specs.Rendition.{plain_style, has_any};
+    ghost use Rattle.ansi_str.specs.Reading.{style_behind};
     ghost use Rattle.ansi_str.specs.Sgr.{step, apply};
     ghost use Rattle.ansi_str.specs.Written.{start, close};
     ghost use Rattle.ansi_str.specs.States.{rendition_of};
@@ -66,35 +48,37 @@ impl AnsiState {
     pub(crate) fn new() -> Self
         ensures { rendition_of result ≡ plain_style }
     {
-        AnsiState {
-            foreground: None,
-            background: None,
-            underline_color: None,
-            bold: false,
-            faint: false,
-            italic: false,
-            underline: false,
-            double_underline: false,
-            slow_blink: false,
-            rapid_blink: false,
-            inverse: false,
-            hide: false,
-            crossed_out: false,
-            reset: false,
-            framed: false,
-            encircled: false,
-            font: None,
-            fraktur: false,
-            proportional_spacing: false,
-            overlined: false,
-            ideogram_underline: false,
-            ideogram_double_underline: false,
-            ideogram_overline: false,
-            ideogram_double_overline: false,
-            ideogram_stress_marking: false,
-            superscript: false,
-            subscript: false,
-            unknown: false,
+        Style {
+            rendition: Rendition {
+                foreground: None,
+                background: None,
+                underline_color: None,
+                bold: false,
+                faint: false,
+                italic: false,
+                underline: false,
+                double_underline: false,
+                slow_blink: false,
+                rapid_blink: false,
+                inverse: false,
+                hide: false,
+                crossed_out: false,
+                reset: false,
+                framed: false,
+                encircled: false,
+                font: None,
+                fraktur: false,
+                proportional_spacing: false,
+                overlined: false,
+                ideogram_underline: false,
+                ideogram_double_underline: false,
+                ideogram_overline: false,
+                ideogram_double_overline: false,
+                ideogram_stress_marking: false,
+                superscript: false,
+                subscript: false,
+                unknown: false,
+            },
         }
     }
 
@@ -109,28 +93,64 @@ impl AnsiState {
         }
     }
 
+    /// Does what the SGRs of a text ask for, one after another.
+    pub(crate) fn apply_all(&mut self, text: &str)
+        ensures { rendition_of self.new ≡ style_behind (rendition_of self.old) text.now }
+    {
+        for item in Scanner::new(text) {
+            if item.kind == Kind::Sgr {
+                self.apply(&text[item.start..item.end]);
+            }
+        }
+    }
+
     /// Does what a field asks for as a code. A code that reads a color takes fields off those left.
     fn step(&mut self, field: &str, left: &mut Fields<'_>)
         ensures { (rendition_of self.new, left.new) ≡ step (rendition_of self.old) (field.now ∷ left.old) }
     {
         match code(field) {
             Some(code) => self.perform(code, left),
-            None => self.unknown = true,
+            None => self.rendition.unknown = true,
         }
     }
 
-    /// The start of the style, to be printed.
-    pub(crate) fn start(&self) -> Start<'_>
-        ensures { rendition_of result.0.now ≡ rendition_of self.now }
+    /// What the style shows.
+    pub(crate) fn rendition(&self) -> Rendition
+        ensures { result ≡ rendition_of self.now }
     {
-        Start(self)
+        self.rendition
     }
 
-    /// The close of the style, to be printed.
-    pub(crate) fn close(&self) -> Close<'_>
-        ensures { rendition_of result.0.now ≡ rendition_of self.now }
+    /// Whether the style has something to end: a known attribute, a color or a font is set, or `reset`
+    /// and `unknown` both are.
+    pub(crate) fn has_any(&self) -> bool
+        ensures { result ≡ has_any (rendition_of self.now) }
     {
-        Close(self)
+        self.rendition.has_any()
+    }
+
+    /// The start of the style, to be printed: the sequences that set it. Takes no memory. (The Rust
+    /// crate.)
+    ///
+    /// ```
+    /// write!(out, "{}{word}{}", style.start(), style.end())?;
+    /// ```
+    pub fn start(&self) -> AnsiSequenceStart<'_>
+        ensures { result ≡ rendition_of self.now }
+    {
+        AnsiSequenceStart(self)
+    }
+
+    /// The end of the style, to be printed: the sequences that end it, or nothing where the style has
+    /// nothing to end. Takes no memory. (The Rust crate.)
+    ///
+    /// ```
+    /// write!(out, "{}{word}{}", style.start(), style.end())?;
+    /// ```
+    pub fn end(&self) -> AnsiSequenceEnd<'_>
+        ensures { result ≡ rendition_of self.now }
+    {
+        AnsiSequenceEnd(self)
     }
 
     /// Appends the start of the style. An `Err` means that memory is wanting; what was appended up to
@@ -146,7 +166,7 @@ impl AnsiState {
     pub(crate) fn write_close<A: Allocator>(&self, out: &mut String<A>) -> Result<(), AllocError>
         ensures { OnOk result (string_bytes out.new ≡ string_bytes out.old ++ close (rendition_of self.now)) }
     {
-        write!(out, "{}", self.close())
+        write!(out, "{}", Close(self))
     }
 }
 

@@ -1,6 +1,7 @@
 //! The tests of `ansi_str` through its public calls, and what they stand on.
 #![tactic(auto)]
 
+pub mod callers;
 pub mod refusing;
 
 pub use refusing::Refusing;
@@ -8,7 +9,21 @@ pub use refusing::Refusing;
 #[cfg(test)]
 mod any_range;
 #[cfg(test)]
+mod blocks;
+#[cfg(test)]
+mod boundary;
+#[cfg(test)]
+mod colors;
+#[cfg(test)]
 mod cut;
+#[cfg(test)]
+mod edits;
+#[cfg(test)]
+mod ends;
+#[cfg(test)]
+mod examples;
+#[cfg(test)]
+mod find;
 #[cfg(test)]
 mod get;
 #[cfg(test)]
@@ -16,10 +31,18 @@ mod memory;
 #[cfg(test)]
 mod plain;
 #[cfg(test)]
+mod prefix;
+#[cfg(test)]
 mod scanner;
+#[cfg(test)]
+mod split;
 #[cfg(test)]
 mod split_at;
 #[cfg(test)]
 mod strip;
+#[cfg(test)]
+mod styles;
+#[cfg(test)]
+mod trim;
 #[cfg(test)]
 mod whole;

@@ -1,7 +1,9 @@
 //! Each request for memory of a call refused in turn.
 use crate::Refusing;
 use crate::split_at::is_good;
-use ansi_str::slice::{cut_in, get_in, split_at_in, strip_in};
+use ansi_str::slice::{
+    cut_in, get_in, split_at_in, strip_in, strip_prefix_in, strip_suffix_in, trim_in,
+};
 use std::alloc::{AllocError, Global};
 use std::borrow::CowStr;
 use std::process::Abort;
@@ -13,11 +15,15 @@ enum Call {
     Strip,
     Cut(usize, Option<usize>),
     Get(usize, Option<usize>),
+    StripPrefix(&'static str),
+    StripSuffix(&'static str),
+    Trim,
 }
 
-use Call::{Cut, Get, Strip};
+use Call::{Cut, Get, Strip, StripPrefix, StripSuffix, Trim};
 
-/// A text, a call, its answer, and whether that takes memory. A `None` is a bad range.
+/// A text, a call, its answer, and whether that takes memory. A `None` is a bad range, or a prefix
+/// or a suffix that isn't there.
 type Row = (&'static str, Call, Option<&'static str>, bool);
 
 const BARE: &str = "no sequence, so no memory";
@@ -25,7 +31,7 @@ const BARE: &str = "no sequence, so no memory";
 const MANY_RUNS: &str =
     "\x1b[1mmany\x1b[0m \x1b[2mruns,\x1b[0m \x1b[3mso that\x1b[0m \x1b[4mthe answer\x1b[0m grows";
 
-const ROWS: [Row; 18] = [
+const ROWS: [Row; 33] = [
     (BARE, Strip, Some(BARE), false),
     ("\x1b[31m", Strip, Some(""), false),
     ("\x1b]0;title\x1b[31mx", Strip, Some("]0;titlex"), true),
@@ -71,6 +77,46 @@ const ROWS: [Row; 18] = [
         Some("\x1b[31m\x1b[39m"),
         true,
     ),
+    (
+        BARE,
+        StripPrefix("no "),
+        Some("sequence, so no memory"),
+        false,
+    ),
+    (MANY_RUNS, StripPrefix(""), Some(MANY_RUNS), false),
+    (MANY_RUNS, StripPrefix("many runs, but"), None, false),
+    (
+        MANY_RUNS,
+        StripPrefix("many runs"),
+        Some("\x1b[1m\x1b[0m\x1b[2m,\x1b[0m \x1b[3mso that\x1b[0m \x1b[4mthe answer\x1b[0m grows"),
+        true,
+    ),
+    ("\x1b[31mx", StripPrefix("x"), Some("\x1b[31m"), true),
+    (
+        BARE,
+        StripSuffix(" memory"),
+        Some("no sequence, so no"),
+        false,
+    ),
+    (MANY_RUNS, StripSuffix(""), Some(MANY_RUNS), false),
+    (MANY_RUNS, StripSuffix("shrinks"), None, false),
+    (
+        MANY_RUNS,
+        StripSuffix("answer grows"),
+        Some("\x1b[1mmany\x1b[0m \x1b[2mruns,\x1b[0m \x1b[3mso that\x1b[0m \x1b[4mthe \x1b[0m"),
+        true,
+    ),
+    ("\x1b[31mx", StripSuffix("x"), Some("\x1b[31m"), true),
+    ("\t no sequence ", Trim, Some("no sequence"), false),
+    (" ", Trim, Some(""), false),
+    ("\x1b[31m", Trim, Some("\x1b[31m"), true),
+    (" \x1b[1m ", Trim, Some("\x1b[1m"), true),
+    (
+        "\x1b[41;30m  TEXT\x1b[39m \x1b[34m123  \x1b[39;49m",
+        Trim,
+        Some("\x1b[41;30mTEXT\x1b[39m \x1b[34m123\x1b[39;49m"),
+        true,
+    ),
 ];
 
 /// The answer of a call. A range to cut at has to be good, which a call with ample memory tells.
@@ -89,6 +135,9 @@ fn answer<'h, 't>(
             Ok(Some(cut_in(heap, text, start, end)?))
         }
         Get(start, end) => get_in(heap, text, start, end),
+        StripPrefix(prefix) => strip_prefix_in(heap, text, prefix),
+        StripSuffix(suffix) => strip_suffix_in(heap, text, suffix),
+        Trim => Ok(Some(trim_in(heap, text)?)),
     }
 }
 
@@ -107,7 +156,7 @@ fn is_err(rt: &impl Abort, alloc: Global, heap: &Refusing<Global>, text: &str, r
 
 /// Grants a call more and more requests, till it meets no refusal. `is_err` makes the call, and
 /// tells whether it answered an `Err`.
-fn expect_each_refusal<IsErr: Fn(&Refusing<Global>) -> bool>(
+pub fn expect_each_refusal<IsErr: Fn(&Refusing<Global>) -> bool>(
     rt: &impl Abort,
     alloc: Global,
     takes_memory: bool,
@@ -127,15 +176,20 @@ fn expect_each_refusal<IsErr: Fn(&Refusing<Global>) -> bool>(
     assert!(rt; false, "each run was refused");
 }
 
+fn expect_row(rt: &impl Abort, alloc: Global, row: &Row) -> Result<(), Fail> {
+    let (text, _, _, takes_memory) = row;
+    let owned = String::from_str(alloc, text)?;
+    expect_each_refusal(rt, alloc, *takes_memory, |heap| {
+        is_err(rt, alloc, heap, owned.as_str(), row)
+    });
+    assert_eq!(rt; owned.as_str(), *text, "the caller's text");
+    Ok(())
+}
+
 #[test]
 fn calls_meet_each_refusal(rt: HostRuntime) -> Result<(), Fail> {
     for row in &ROWS {
-        let (text, _, _, takes_memory) = row;
-        let owned = String::from_str(rt.alloc(), text)?;
-        expect_each_refusal(&rt, rt.alloc(), *takes_memory, |heap| {
-            is_err(&rt, rt.alloc(), heap, owned.as_str(), row)
-        });
-        assert_eq!(rt; owned.as_str(), *text, "the caller's text");
+        expect_row(&rt, rt.alloc(), row)?;
     }
     Ok(())
 }

@@ -2,6 +2,10 @@
 //!
 //! A sequence is found by trying each front of a text, as the definition of a lone escape has it.
 mod cut;
+mod edits;
+mod find;
+mod kept;
+mod split;
 mod style;
 
 use ansi_str::AnsiStr;

@@ -1,5 +1,5 @@
 //! Each request for memory that a run makes, refused in turn.
-use super::{STRIPPED, TEXT, page_of};
+use super::page_of;
 use crate::page::Page;
 use crate::runs::run_in;
 use ansi_str_tests::Refusing;
@@ -14,14 +14,16 @@ const MOST_REQUESTS: u64 = 100;
 fn refuse_each(
     rt: &impl Abort,
     alloc: Global,
-    word: &str,
+    words: &[&str],
     text: &str,
     status: u8,
     written: &str,
     told: &str,
 ) -> Result<(), AllocError> {
-    let mut words = Vec::new(alloc);
-    words.push(String::from_str(alloc, word)?)?;
+    let mut given = Vec::new(alloc);
+    for word in words {
+        given.push(String::from_str(alloc, word)?)?;
+    }
     for granted in 0..MOST_REQUESTS {
         let heap = Refusing::new(alloc, granted);
         let mut input = page_of(alloc, text.as_bytes())?;
@@ -29,7 +31,7 @@ fn refuse_each(
         let mut faults = Page::with_room(alloc, 100)?;
         let ended = run_in(
             &heap,
-            words.as_slice(),
+            given.as_slice(),
             &mut input,
             &mut output,
             &mut faults,
@@ -70,24 +72,46 @@ fn refuse_each(
 
 #[test]
 fn each_refused_growth_is_told_of(rt: HostRuntime) -> Result<(), Fail> {
-    for (word, text, status, written, told) in [
-        ("strip", TEXT, 0, STRIPPED, ""),
+    let cases: [(&[&str], &str, u8, &str, &str); 6] = [
         (
-            "cut:1:3",
-            "\x1b[30mTEXT\x1b[39m\n\x1b[30mTEXT\x1b[39m\n",
+            &["strip"],
+            "\x1b[31mred\x1b[39m and plain\n\nlast \x1b",
             0,
-            "\x1b[30mEX\x1b[39m\n\x1b[30mEX\x1b[39m\n",
+            "red and plain\n\nlast ",
             "",
         ),
         (
-            "cut:1:3",
+            &["cut:1:3"],
+            "\x1b[30mTEXT\x1b[39m\nabcd",
+            0,
+            "\x1b[30mEX\x1b[39m\nbc",
+            "",
+        ),
+        (
+            &["cut:1:3", "trim"],
+            "\x1b[30mTEXT\x1b[39m\n a \n",
+            0,
+            "\x1b[30mEX\x1b[39m\na\n",
+            "",
+        ),
+        (
+            &["cut:1:3"],
             "\x1b[30mTEXT\x1b[39m\né\n",
             1,
             "\x1b[30mEX\x1b[39m\n",
             "line 2: refused\n",
         ),
-    ] {
-        refuse_each(&rt, rt.alloc(), word, text, status, written, told)?;
+        (
+            &["left:1", "prefix:x"],
+            "\x1b[31mab\x1b[39m\n",
+            1,
+            "",
+            "line 1: refused\n",
+        ),
+        (&["trim", "x"], "abc\n", 2, "", "bad words\n"),
+    ];
+    for (words, text, status, written, told) in cases {
+        refuse_each(&rt, rt.alloc(), words, text, status, written, told)?;
     }
     Ok(())
 }

@@ -8,7 +8,7 @@ ghost use Rattle.ansi_str.specs.Cut.{cut, cut_up_to};
 use crate::ansitok::{Kind, Scanner};
 use crate::search;
 use crate::slice::has_any;
-use crate::state::AnsiState;
+use crate::state::Style;
 use std::alloc::{AllocError, Allocator};
 use std::borrow::CowStr;
 
@@ -55,7 +55,7 @@ fn cut_up_to<A: Allocator>(
     // At least so many bytes are written: those of the range or, where it goes on past the end of the
     // plain text, all of the text but its first `start` plain bytes.
     let mut cut = String::with_capacity(alloc, end.min(text.len()).saturating_sub(start))?;
-    let mut state = AnsiState::new();
+    let mut state = Style::new();
     let mut from = start;
     let mut to = end;
     for item in Scanner::new(text) {

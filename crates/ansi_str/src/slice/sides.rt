@@ -8,7 +8,7 @@ ghost use Rattle.ansi_str.specs.States.{rendition_of};
 
 use crate::ansitok::{Kind, Scanner};
 use crate::slice::has_any;
-use crate::state::AnsiState;
+use crate::state::Style;
 use std::alloc::{AllocError, Allocator};
 use std::borrow::CowStr;
 
@@ -55,7 +55,7 @@ fn write_sides<A: Allocator + Copy>(
 {
     let mut left = String::new(alloc);
     let mut right = String::new(alloc);
-    let mut state = AnsiState::new();
+    let mut state = Style::new();
     let mut place = 0;
     for item in Scanner::new(text) {
         let piece = &text[item.start..item.end];
@@ -78,7 +78,7 @@ fn write_sides<A: Allocator + Copy>(
 /// piece. An `Err` means that memory is wanting; what was appended up to there stands.
 fn write_dressed<A: Allocator>(
     out: &mut String<A>,
-    style: &AnsiState,
+    style: &Style,
     piece: &str,
 ) -> Result<(), AllocError>
     ensures { OnOk result (string_bytes out.new ≡ string_bytes out.old ++ dressed (rendition_of style.now) piece.now) }

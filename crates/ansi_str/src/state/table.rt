@@ -5,102 +5,102 @@ ghost use Rattle.ansi_str.specs.Sgr.{effect_of_code, perform, read_color, color_
 ghost use Rattle.ansi_str.specs.States.{rendition_of};
 
 use crate::ansitok::AnsiColor;
-use crate::state::AnsiState;
+use crate::state::Style;
 use crate::state::fields::{Fields, code, color_number};
 
-impl AnsiState {
+impl Style {
     /// Does what the code asks for; where that is a color, it is read from the fields.
     pub(super) fn perform(&mut self, code: u8, fields: &mut Fields<'_>)
         ensures { (rendition_of self.new, fields.new) ≡ perform (effect_of_code code) (rendition_of self.old) fields.old }
     {
         match code {
             0 => {
-                *self = AnsiState::new();
-                self.reset = true;
+                *self = Style::new();
+                self.rendition.reset = true;
             }
-            1 => self.bold = true,
-            2 => self.faint = true,
-            3 => self.italic = true,
-            4 => self.underline = true,
-            5 => self.slow_blink = true,
-            6 => self.rapid_blink = true,
-            7 => self.inverse = true,
-            8 => self.hide = true,
-            9 => self.crossed_out = true,
-            10 => self.font = None,
-            11..=19 => self.font = Some(code),
-            20 => self.fraktur = true,
-            21 => self.double_underline = true,
+            1 => self.rendition.bold = true,
+            2 => self.rendition.faint = true,
+            3 => self.rendition.italic = true,
+            4 => self.rendition.underline = true,
+            5 => self.rendition.slow_blink = true,
+            6 => self.rendition.rapid_blink = true,
+            7 => self.rendition.inverse = true,
+            8 => self.rendition.hide = true,
+            9 => self.rendition.crossed_out = true,
+            10 => self.rendition.font = None,
+            11..=19 => self.rendition.font = Some(code),
+            20 => self.rendition.fraktur = true,
+            21 => self.rendition.double_underline = true,
             22 => {
-                self.bold = false;
-                self.faint = false;
+                self.rendition.bold = false;
+                self.rendition.faint = false;
             }
             23 => {
-                self.italic = false;
-                self.fraktur = false;
+                self.rendition.italic = false;
+                self.rendition.fraktur = false;
             }
             24 => {
-                self.underline = false;
-                self.double_underline = false;
+                self.rendition.underline = false;
+                self.rendition.double_underline = false;
             }
             25 => {
-                self.slow_blink = false;
-                self.rapid_blink = false;
+                self.rendition.slow_blink = false;
+                self.rendition.rapid_blink = false;
             }
-            26 => self.proportional_spacing = true,
-            27 => self.inverse = false,
-            28 => self.hide = false,
-            29 => self.crossed_out = false,
-            30..=37 => self.foreground = Some(AnsiColor::Bit4(code)),
+            26 => self.rendition.proportional_spacing = true,
+            27 => self.rendition.inverse = false,
+            28 => self.rendition.hide = false,
+            29 => self.rendition.crossed_out = false,
+            30..=37 => self.rendition.foreground = Some(AnsiColor::Bit4(code)),
             38 => {
                 if let Some(color) = read_color(fields) {
-                    self.foreground = Some(color);
+                    self.rendition.foreground = Some(color);
                 }
             }
-            39 => self.foreground = None,
-            40..=47 => self.background = Some(AnsiColor::Bit4(code)),
+            39 => self.rendition.foreground = None,
+            40..=47 => self.rendition.background = Some(AnsiColor::Bit4(code)),
             48 => {
                 if let Some(color) = read_color(fields) {
-                    self.background = Some(color);
+                    self.rendition.background = Some(color);
                 }
             }
-            49 => self.background = None,
-            50 => self.proportional_spacing = false,
-            51 => self.framed = true,
-            52 => self.encircled = true,
-            53 => self.overlined = true,
+            49 => self.rendition.background = None,
+            50 => self.rendition.proportional_spacing = false,
+            51 => self.rendition.framed = true,
+            52 => self.rendition.encircled = true,
+            53 => self.rendition.overlined = true,
             54 => {
-                self.framed = false;
-                self.encircled = false;
+                self.rendition.framed = false;
+                self.rendition.encircled = false;
             }
-            55 => self.overlined = false,
+            55 => self.rendition.overlined = false,
             58 => {
                 if let Some(color) = read_color(fields) {
-                    self.underline_color = Some(color);
+                    self.rendition.underline_color = Some(color);
                 }
             }
-            59 => self.underline_color = None,
-            60 => self.ideogram_underline = true,
-            61 => self.ideogram_double_underline = true,
-            62 => self.ideogram_overline = true,
-            63 => self.ideogram_double_overline = true,
-            64 => self.ideogram_stress_marking = true,
+            59 => self.rendition.underline_color = None,
+            60 => self.rendition.ideogram_underline = true,
+            61 => self.rendition.ideogram_double_underline = true,
+            62 => self.rendition.ideogram_overline = true,
+            63 => self.rendition.ideogram_double_overline = true,
+            64 => self.rendition.ideogram_stress_marking = true,
             65 => {
-                self.ideogram_underline = false;
-                self.ideogram_double_underline = false;
-                self.ideogram_overline = false;
-                self.ideogram_double_overline = false;
-                self.ideogram_stress_marking = false;
+                self.rendition.ideogram_underline = false;
+                self.rendition.ideogram_double_underline = false;
+                self.rendition.ideogram_overline = false;
+                self.rendition.ideogram_double_overline = false;
+                self.rendition.ideogram_stress_marking = false;
             }
-            73 => self.superscript = true,
-            74 => self.subscript = true,
+            73 => self.rendition.superscript = true,
+            74 => self.rendition.subscript = true,
             75 => {
-                self.superscript = false;
-                self.subscript = false;
+                self.rendition.superscript = false;
+                self.rendition.subscript = false;
             }
-            90..=97 => self.foreground = Some(AnsiColor::Bit4(code)),
-            100..=107 => self.background = Some(AnsiColor::Bit4(code)),
-            _ => self.unknown = true,
+            90..=97 => self.rendition.foreground = Some(AnsiColor::Bit4(code)),
+            100..=107 => self.rendition.background = Some(AnsiColor::Bit4(code)),
+            _ => self.rendition.unknown = true,
         }
     }
 }

@@ -1,11 +1,11 @@
 //! What SGRs do to a style, and what is printed of one.
 use crate::ansitok::{AnsiColor, Kind, Scanner};
-use crate::state::AnsiState;
+use crate::state::Style;
 use std::test::Fail;
 
 /// The style after the SGRs of a text.
-fn style_after(text: &str) -> AnsiState {
-    let mut style = AnsiState::new();
+fn style_after(text: &str) -> Style {
+    let mut style = Style::new();
     for item in Scanner::new(text) {
         if item.kind == Kind::Sgr {
             style.apply(&text[item.start..item.end]);
@@ -16,25 +16,25 @@ fn style_after(text: &str) -> AnsiState {
 
 #[test]
 fn parameters(rt: HostRuntime) -> Result<(), Fail> {
-    let plain = AnsiState::new();
+    let plain = Style::new();
     let mut bold = plain;
-    bold.bold = true;
+    bold.rendition.bold = true;
     let mut black = plain;
-    black.foreground = Some(AnsiColor::Bit8(0));
+    black.rendition.foreground = Some(AnsiColor::Bit8(0));
     let mut bold_black = black;
-    bold_black.bold = true;
+    bold_black.rendition.bold = true;
     let mut on_blue = plain;
-    on_blue.background = Some(AnsiColor::Bit24 {
+    on_blue.rendition.background = Some(AnsiColor::Bit24 {
         r: 23,
         g: 11,
         b: 100,
     });
     let mut reset = plain;
-    reset.reset = true;
+    reset.rendition.reset = true;
     let mut unknown = plain;
-    unknown.unknown = true;
+    unknown.rendition.unknown = true;
     let mut reset_and_unknown = reset;
-    reset_and_unknown.unknown = true;
+    reset_and_unknown.rendition.unknown = true;
     let rows = [
         ("38;7;1", bold),
         ("38;5", plain),

@@ -1,111 +1,170 @@
 //! The start and the close of a style, as they are printed: each code in a sequence of its own.
 ghost use Rattle.std.specs.Prelude.{◌≡◌, ◌++◌, Some, codes, flat_map};
 ghost use Rattle.std.specs.Fmt.{WritesOnOk};
-ghost use Rattle.ansi_str.specs.Rendition.{has_ideogram_attribute};
-ghost use Rattle.ansi_str.specs.Written.{written_all, when, color_codes, font_codes, start, close};
-ghost use Rattle.ansi_str.specs.States.{rendition_of};
+ghost use Rattle.ansi_str.specs.Written.{written_all, when, color_codes, font_codes, start, close, close_if_any};
 
 use crate::ansitok::AnsiColor;
-use crate::state::AnsiState;
+use crate::state::{Rendition, Style};
 use std::fmt;
+use std::marker::Model;
 
-/// The start of a style: prints the sequences that set it.
+/// Prints the start of a style: the sequences that set it, each code in one of its own. What is
+/// printed has 163 bytes at most. (The Rust crate.)
+///
+/// ```
+/// assert_eq!(style.start().to_string(alloc)?, "\x1b[1m\x1b[31m");
+/// ```
 #[derive(Drop)]
-pub(crate) struct Start<'a>(pub(super) &'a AnsiState);
+pub struct AnsiSequenceStart<'a>(pub(super) &'a Style);
 
-/// The close of a style: prints the sequences that end it.
+/// Prints the close of a style, the sequences that end it, where the style has something to end, and
+/// else nothing. What is printed has 88 bytes at most. (The Rust crate, the font counted.)
+///
+/// ```
+/// assert_eq!(style.end().to_string(alloc)?, "\x1b[22m\x1b[39m");
+/// ```
 #[derive(Drop)]
-pub(crate) struct Close<'a>(pub(super) &'a AnsiState);
+pub struct AnsiSequenceEnd<'a>(pub(super) &'a Style);
 
-impl fmt::Display for Start<'_> {
-    ghost output = { λ s. Some (start (rendition_of s.0.now)) };
+/// Prints the close of a style, whatever the style.
+#[derive(Drop)]
+pub(super) struct Close<'a>(pub(super) &'a Style);
+
+impl<'a> Model for AnsiSequenceStart<'a> {
+    ghost use Rattle.ansi_str.specs.Rendition.{Rendition};
+    ghost use Rattle.ansi_str.specs.States.{rendition_of};
+
+    ghost Value = { Rendition };
+
+    ghost view = { λ s. rendition_of s.0.now };
+}
+
+impl<'a> Model for AnsiSequenceEnd<'a> {
+    ghost use Rattle.ansi_str.specs.Rendition.{Rendition};
+    ghost use Rattle.ansi_str.specs.States.{rendition_of};
+
+    ghost Value = { Rendition };
+
+    ghost view = { λ s. rendition_of s.0.now };
+}
+
+impl<'a> Model for Close<'a> {
+    ghost use Rattle.ansi_str.specs.Rendition.{Rendition};
+    ghost use Rattle.ansi_str.specs.States.{rendition_of};
+
+    ghost Value = { Rendition };
+
+    ghost view = { λ s. rendition_of s.0.now };
+}
+
+impl AnsiSequenceEnd<'_> {
+    /// The sequence that ends every style. (The Rust crate.)
+    ///
+    /// ```
+    /// assert_eq!(AnsiSequenceEnd::RESET_ALL, "\x1b[0m");
+    /// ```
+    pub const RESET_ALL: &'static str = "\u{1b}[0m";
+}
+
+impl fmt::Display for AnsiSequenceStart<'_> {
+    ghost output = { λ s. Some (start s) };
 
     fn fmt<W: fmt::Write>(&self, f: &mut fmt::Formatter<W>) -> fmt::Result {
-        let state = self.0;
-        write_codes(
-            f,
-            &[
-                (state.bold, "1"),
-                (state.faint, "2"),
-                (state.italic, "3"),
-                (state.underline, "4"),
-                (state.slow_blink, "5"),
-                (state.rapid_blink, "6"),
-                (state.inverse, "7"),
-                (state.hide, "8"),
-                (state.crossed_out, "9"),
-            ],
-        )?;
-        write_font(f, state.font)?;
-        write_codes(
-            f,
-            &[
-                (state.fraktur, "20"),
-                (state.double_underline, "21"),
-                (state.proportional_spacing, "26"),
-            ],
-        )?;
-        write_colors(f, state)?;
-        write_codes(
-            f,
-            &[
-                (state.framed, "51"),
-                (state.encircled, "52"),
-                (state.overlined, "53"),
-                (state.ideogram_underline, "60"),
-                (state.ideogram_double_underline, "61"),
-                (state.ideogram_overline, "62"),
-                (state.ideogram_double_overline, "63"),
-                (state.ideogram_stress_marking, "64"),
-                (state.superscript, "73"),
-                (state.subscript, "74"),
-            ],
-        )
+        write_start(f, &self.0.rendition())
     }
 }
 
 impl fmt::Display for Close<'_> {
-    ghost output = { λ s. Some (close (rendition_of s.0.now)) };
+    ghost output = { λ s. Some (close s) };
 
     fn fmt<W: fmt::Write>(&self, f: &mut fmt::Formatter<W>) -> fmt::Result {
-        let state = self.0;
-        write_codes(
-            f,
-            &[
-                (state.unknown && state.reset, "0"),
-                (state.font.is_some(), "10"),
-                (state.bold || state.faint, "22"),
-                (state.italic || state.fraktur, "23"),
-                (state.underline || state.double_underline, "24"),
-                (state.slow_blink || state.rapid_blink, "25"),
-                (state.inverse, "27"),
-                (state.hide, "28"),
-                (state.crossed_out, "29"),
-                (state.foreground.is_some(), "39"),
-                (state.background.is_some(), "49"),
-                (state.proportional_spacing, "50"),
-                (state.framed || state.encircled, "54"),
-                (state.overlined, "55"),
-                (state.has_ideogram_attribute(), "65"),
-                (state.underline_color.is_some(), "59"),
-                (state.superscript || state.subscript, "75"),
-                (state.unknown, "0"),
-            ],
-        )
+        write_close(f, &self.0.rendition())
     }
 }
 
-impl AnsiState {
-    /// Whether one of the five ideogram attributes is set.
-    fn has_ideogram_attribute(&self) -> bool
-        ensures { result ≡ has_ideogram_attribute (rendition_of self.now) }
-    {
-        self.ideogram_underline
-            || self.ideogram_double_underline
-            || self.ideogram_overline
-            || self.ideogram_double_overline
-            || self.ideogram_stress_marking
+impl fmt::Display for AnsiSequenceEnd<'_> {
+    ghost output = { λ s. Some (close_if_any s) };
+
+    fn fmt<W: fmt::Write>(&self, f: &mut fmt::Formatter<W>) -> fmt::Result {
+        if self.0.has_any() {
+            Close(self.0).fmt(f)?;
+        }
+        Ok(())
     }
+}
+
+/// Writes the start of a style.
+fn write_start<W: fmt::Write>(f: &mut fmt::Formatter<W>, style: &Rendition) -> fmt::Result
+    ensures { WritesOnOk W.write_str_gives f.old result (start style.now) f.new }
+{
+    write_codes(
+        f,
+        &[
+            (style.bold, "1"),
+            (style.faint, "2"),
+            (style.italic, "3"),
+            (style.underline, "4"),
+            (style.slow_blink, "5"),
+            (style.rapid_blink, "6"),
+            (style.inverse, "7"),
+            (style.hide, "8"),
+            (style.crossed_out, "9"),
+        ],
+    )?;
+    write_font(f, style.font)?;
+    write_codes(
+        f,
+        &[
+            (style.fraktur, "20"),
+            (style.double_underline, "21"),
+            (style.proportional_spacing, "26"),
+        ],
+    )?;
+    write_colors(f, style)?;
+    write_codes(
+        f,
+        &[
+            (style.framed, "51"),
+            (style.encircled, "52"),
+            (style.overlined, "53"),
+            (style.ideogram_underline, "60"),
+            (style.ideogram_double_underline, "61"),
+            (style.ideogram_overline, "62"),
+            (style.ideogram_double_overline, "63"),
+            (style.ideogram_stress_marking, "64"),
+            (style.superscript, "73"),
+            (style.subscript, "74"),
+        ],
+    )
+}
+
+/// Writes the close of a style.
+fn write_close<W: fmt::Write>(f: &mut fmt::Formatter<W>, style: &Rendition) -> fmt::Result
+    ensures { WritesOnOk W.write_str_gives f.old result (close style.now) f.new }
+{
+    write_codes(
+        f,
+        &[
+            (style.unknown && style.reset, "0"),
+            (style.font.is_some(), "10"),
+            (style.bold || style.faint, "22"),
+            (style.italic || style.fraktur, "23"),
+            (style.underline || style.double_underline, "24"),
+            (style.slow_blink || style.rapid_blink, "25"),
+            (style.inverse, "27"),
+            (style.hide, "28"),
+            (style.crossed_out, "29"),
+            (style.foreground.is_some(), "39"),
+            (style.background.is_some(), "49"),
+            (style.proportional_spacing, "50"),
+            (style.framed || style.encircled, "54"),
+            (style.overlined, "55"),
+            (style.has_ideogram_attribute(), "65"),
+            (style.underline_color.is_some(), "59"),
+            (style.superscript || style.subscript, "75"),
+            (style.unknown, "0"),
+        ],
+    )
 }
 
 /// Writes those of the codes that are called for.
@@ -122,14 +181,13 @@ fn write_codes<W: fmt::Write>(f: &mut fmt::Formatter<W>, codes: &[(bool, &str)])
 }
 
 /// Writes the codes of the colors that there are.
-fn write_colors<W: fmt::Write>(f: &mut fmt::Formatter<W>, state: &AnsiState) -> fmt::Result
-    ensures { let s = rendition_of state.now in
-        WritesOnOk W.write_str_gives f.old result (written_all (color_codes (codes "38") s.foreground
-        ++ color_codes (codes "48") s.background ++ color_codes (codes "58") s.underline_color)) f.new }
+fn write_colors<W: fmt::Write>(f: &mut fmt::Formatter<W>, style: &Rendition) -> fmt::Result
+    ensures { WritesOnOk W.write_str_gives f.old result (written_all (color_codes (codes "38") style.now.foreground
+        ++ color_codes (codes "48") style.now.background ++ color_codes (codes "58") style.now.underline_color)) f.new }
 {
-    write_color(f, "38", state.foreground)?;
-    write_color(f, "48", state.background)?;
-    write_color(f, "58", state.underline_color)
+    write_color(f, "38", style.foreground)?;
+    write_color(f, "48", style.background)?;
+    write_color(f, "58", style.underline_color)
 }
 
 /// Writes the number of a font, where there is one.

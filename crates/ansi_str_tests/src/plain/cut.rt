@@ -33,7 +33,7 @@ fn kept_items(alloc: Global, items: &[Item], end: usize) -> Result<Vec<Item>, Al
 }
 
 /// The bytes of the sequences among the items, and the plain bytes between two positions.
-fn kept_bytes(
+pub(super) fn kept_bytes(
     alloc: Global,
     text: &str,
     items: &[Item],

@@ -144,6 +144,24 @@ impl NamedStyle {
         }
     }
 
+    /// Whether there is something to end.
+    pub fn has_any(&self) -> bool {
+        !self.names.is_empty() || (self.is_reset && self.is_unknown)
+    }
+
+    /// The sequences that set the style, where these names and codes are all that a text sets.
+    pub fn start(&self, alloc: Global, codes: &[(&str, &str)]) -> Result<String, AllocError> {
+        let mut start = String::new(alloc);
+        for (name, code) in codes {
+            if self.names.iter().any(|(set, _)| set == name) {
+                start.push_str("\x1b[")?;
+                start.push_str(code)?;
+                start.push_str("m")?;
+            }
+        }
+        Ok(start)
+    }
+
     /// The sequences that end the style.
     pub fn close(&self, alloc: Global) -> Result<String, AllocError> {
         let mut close = String::new(alloc);

@@ -1,6 +1,7 @@
 use Rattle.std.proofs.Common.{◌≡◌, ◌≤◌, ◌+◌, length}
 use denote.Text.{Utf8}
 use denote.Shadow.{shadow}
+use Rattle.ansi_lines.specs.Jobs.{work_of}
 use Rattle.ansi_lines.specs.Lines.{answers, first_refused}
 use Rattle.ansi_lines.proofs.Written.{HasWritten}
 use Rattle.ansi_lines.proofs.lines.write_lines.Given as goal
@@ -9,10 +10,11 @@ use Rattle.ansi_lines.proofs.lines.write_lines.Given as goal
 abbrev pub invariant-loop-line : goal.invariant-loop-line
 invariant-loop-line g l =
     let taken = g.W.Sink.taken in
+    let work = work_of l.job in
     record {
       text : shadow (Utf8 l.rest);
-      written : HasWritten (taken l.fn.output) (taken l.output) (answers l.job l.text) (answers l.job l.rest);
-      none_refused : first_refused 1 l.job l.text ≡ first_refused l.number l.job l.rest;
+      written : HasWritten (taken l.fn.output) (taken l.output) (answers work l.text) (answers work l.rest);
+      none_refused : first_refused 1 work l.text ≡ first_refused l.number work l.rest;
       counted : l.number + length l.rest ≤ 1 + length l.text;
       unfailed : g.W.Sink.failed l.output ≡ g.W.Sink.failed l.fn.output;
     }

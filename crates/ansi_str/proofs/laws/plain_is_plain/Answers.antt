@@ -1,4 +1,5 @@
 use Rattle.ansi_str.proofs.PlainLemmas.{has_escape-plain, plain-plain, is_whole-plain}
+use Rattle.ansi_str.proofs.Utf8Lemmas.{IsUtf8-plain}
 use Rattle.ansi_str.proofs.laws.plain_is_plain.Goals as goal
 
 pub returns-clause-no_escape : goal.returns-clause-no_escape
@@ -9,3 +10,6 @@ returns-clause-same c = plain-plain
 
 pub returns-clause-whole : goal.returns-clause-whole
 returns-clause-whole c = is_whole-plain
+
+pub returns-clause-utf8 : goal.returns-clause-utf8
+returns-clause-utf8 c = IsUtf8-plain

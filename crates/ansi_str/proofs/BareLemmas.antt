@@ -1,0 +1,216 @@
+-- Of a text without ESC each answer is the slice, as std has it.
+use Rattle.std.proofs.Common.{◌≡◌, ◌≢◌, ℕ, ◌-◌, min, Bool, true, false, not, ◌&&◌, ◌||◌, ◌==◌, List, [], ◌∷◌, ◌++◌, map, take, drop, length, Option, Some, None, option_map, is_some, refl, sym, ◌∙◌, ap, ap₂, subst, arith, IsTrue, IsFalse, slice_range, slice_get, nat_eq, append-nil, if◌then◌else◌}
+use Rattle.std.specs.Prelude.{IfSome, option_and_then, unwrap_or}
+use Rattle.std.specs.List.{starts_with, ends_with}
+use Rattle.std.specs.Char.{encode_utf8}
+use Rattle.std.specs.Str.{IsUtf8, chars, trim}
+use Rattle.std.specs.Str.Pattern.{FindsTextPrefix, FindsTextSuffix, StripsPrefix, StripsSuffix}
+use Rattle.std.specs.Option.{option_map_or}
+use Rattle.std.proofs.lemmas.List.{map-id, take_min, drop_min}
+use Rattle.std.proofs.lemmas.Bool.{cond_both, and_parts, and_from, eqb-true}
+use Rattle.ansi_str.specs.Plain.{Mark, plain, up_to, has_escape, is_whole}
+use Rattle.ansi_str.specs.Rendition.{Rendition, plain_style}
+use Rattle.ansi_str.specs.Written.{start, close_if_any}
+use Rattle.ansi_str.specs.Styled.{styled, bytes_of, style_of, style_at}
+use Rattle.ansi_str.specs.Positions.{is_good_position, is_good_range}
+use Rattle.ansi_str.specs.Cut.{show, cut}
+use Rattle.ansi_str.specs.Sides.{left_side, right_side}
+use Rattle.ansi_str.specs.Kept.{kept, without_prefix, without_suffix, trim_interval, trimmed}
+use Rattle.ansi_str.specs.Parts.{parts, past, carried, part_over, end_before, part, all_parts, is_part_borrowed}
+use Rattle.ansi_str.specs.StdSplit.{AreSplit, slices_over}
+use Rattle.ansi_str.specs.Changes.{Change, CutRange, LeftOf, RightOf, PartOf, WithoutPrefix, WithoutSuffix, Trimmed, interval_of}
+use Rattle.ansi_str.specs.Edited.{meaning, text_of, edited_by, edited, gives_borrow, stay_borrowed}
+use Rattle.ansi_str.proofs.PlainLemmas.{plain-bare, has_escape-plain, is_whole-plain}
+use Rattle.ansi_str.proofs.SliceLemmas.{slice_range-none, slice_range-past, slice_range-min}
+use Rattle.ansi_str.proofs.MarkLemmas.{marks-bare}
+use Rattle.ansi_str.proofs.ShowLemmas.{show-bare}
+use Rattle.ansi_str.proofs.CutLemmas.{cut_up_to-bare}
+use Rattle.ansi_str.proofs.SideLemmas.{left_side-bare, right_side-bare}
+use Rattle.ansi_str.proofs.StyledLemmas.{bytes_of-styled}
+use Rattle.ansi_str.proofs.TrimLemmas.{slice_range-trim_interval}
+use Rattle.ansi_str.proofs.KeptWalkLemmas.{kept-bare}
+use Rattle.ansi_str.proofs.KeptLemmas.{plain-kept}
+use Rattle.ansi_str.proofs.KeptAsStdLemmas.{plain-without_prefix, plain-without_suffix}
+use Rattle.ansi_str.proofs.StdSplitLemmas.{parts_are_split}
+use Rattle.ansi_str.proofs.CharacterLemmas.{slices_over-parts-empty}
+use Rattle.ansi_str.proofs.PartTextLemmas.{map-all_parts}
+use Rattle.ansi_str.proofs.EditLemmas.{edited_is_slice}
+
+pub is_whole-bare : (t : List ℕ) → IsFalse (has_escape t) → IsTrue (is_whole t)
+is_whole-bare t none = ap is_whole (sym (plain-bare t none)) ∙ is_whole-plain t
+
+-- a slice of it has no ESC either, for it is a plain text
+has_escape-slice_range : (t : List ℕ) (a b : ℕ) → IsFalse (has_escape t) → IsFalse (has_escape (slice_range t a b))
+has_escape-slice_range t a b none =
+    ap has_escape (ap (λ x. slice_range x a b) (sym (plain-bare t none)) ∙ sym (plain-kept t a b (is_whole-bare t none))) ∙ has_escape-plain (kept t a b)
+
+-- each style of it is the plain style
+style_at-bare : (t : List ℕ) (i : ℕ) → IsFalse (has_escape t) → style_at t i ≡ plain_style
+style_at-bare t i none = ap (λ ms. style_of (up_to i ms)) (marks-bare t none)
+
+-- Cuts and sides.
+
+pub cut-bare : (t : List ℕ) (s : ℕ) (e : Option ℕ) → IsFalse (has_escape t) → cut t s e ≡ slice_range t s (unwrap_or e (length t))
+unfolding cut
+cut-bare t s e none =
+    cut_up_to-bare t s (unwrap_or e (length (plain t))) none ∙ ap (λ x. slice_range t s (unwrap_or e (length x))) (plain-bare t none)
+
+-- the same where a position past the end counts as the end
+
+pub cut_inside-bare : (t : List ℕ) (s : ℕ) (e : Option ℕ) → IsFalse (has_escape t) → cut t s e ≡ slice_range t (min s (length t)) (min (unwrap_or e (length t)) (length t))
+cut_inside-bare t s e none = cut-bare t s e none ∙ sym (slice_range-min t s (unwrap_or e (length t)))
+
+pub left_inside-bare : (t : List ℕ) (mid : ℕ) → IsFalse (has_escape t) → left_side t mid ≡ take (min mid (length t)) t
+left_inside-bare t mid none = left_side-bare t mid none ∙ sym (take_min mid t)
+
+pub right_inside-bare : (t : List ℕ) (mid : ℕ) → IsFalse (has_escape t) → right_side t mid ≡ drop (min mid (length t)) t
+right_inside-bare t mid none = right_side-bare t mid none ∙ sym (drop_min mid t)
+
+-- What is kept.
+
+trimmed-slice : (t : List ℕ) → IsFalse (has_escape t) → trimmed t ≡ slice_range t (trim_interval t).0 (trim_interval t).1
+trimmed-slice t none =
+    let i = trim_interval (plain t) in
+    kept-bare t i.0 i.1 none ∙ ap (λ x. slice_range t (trim_interval x).0 (trim_interval x).1) (plain-bare t none)
+
+pub trimmed-bare : (t : List ℕ) → IsUtf8 t → IsFalse (has_escape t) → trimmed t ≡ trim t
+trimmed-bare t utf8 none = trimmed-slice t none ∙ slice_range-trim_interval t utf8
+
+plain-kept_bare : (t : List ℕ) (a b : ℕ) → IsFalse (has_escape t) → plain (kept t a b) ≡ kept t a b
+plain-kept_bare t a b none = plain-bare (kept t a b) (ap has_escape (kept-bare t a b none) ∙ has_escape-slice_range t a b none)
+
+pub without_prefix-bare : (t p : List ℕ) → IsUtf8 t → IsUtf8 p → IsFalse (has_escape t) → IsTrue (starts_with nat_eq t p) → StripsPrefix (FindsTextPrefix p) t (without_prefix t p)
+without_prefix-bare t p utf8_t utf8_p none begins =
+    let x = plain t in
+    let is = plain-bare t none in
+    let strips = plain-without_prefix t p utf8_t utf8_p (is_whole-bare t none) (subst (λ x. IsTrue (starts_with nat_eq x p)) (sym is) begins) in
+    subst (λ u. StripsPrefix (FindsTextPrefix p) t u) (plain-kept_bare t (length p) (length x) none)
+    (subst (λ x. StripsPrefix (FindsTextPrefix p) x (plain (without_prefix t p))) is strips)
+
+pub without_suffix-bare : (t p : List ℕ) → IsUtf8 p → IsFalse (has_escape t) → IsTrue (ends_with nat_eq t p) → StripsSuffix (FindsTextSuffix p) t (without_suffix t p)
+without_suffix-bare t p utf8_p none ends =
+    let x = plain t in
+    let is = plain-bare t none in
+    let strips = plain-without_suffix t p utf8_p (is_whole-bare t none) (subst (λ x. IsTrue (ends_with nat_eq x p)) (sym is) ends) in
+    subst (λ u. StripsSuffix (FindsTextSuffix p) t u) (plain-kept_bare t 0 (length x - length p) none)
+    (subst (λ x. StripsSuffix (FindsTextSuffix p) x (plain (without_suffix t p))) is strips)
+
+-- Parts.
+
+pub carried-bare : (t : List ℕ) (before : Option ℕ) → IsFalse (has_escape t) → carried t before ≡ plain_style
+carried-bare t None none = refl
+carried-bare t (Some e) none = style_at-bare t e none
+
+part_over-bare : (t : List ℕ) (before : Option ℕ) (i : ℕ × ℕ) → IsFalse (has_escape t) → part_over t before i ≡ slice_range t i.0 i.1
+unfolding part_over
+part_over-bare t before i none =
+    let over : List ℕ → List Mark → Rendition → Rendition → List ℕ
+    = λ x ms s q. (let own = past before (up_to i.1 ms) in if i.0 == i.1 && length own == 0 then [] else start s ++ show x i.0 i.1 own ++ close_if_any q) in
+    ap₂ (λ x ms. over x ms (carried t before) (style_at t i.1)) (plain-bare t none) (marks-bare t none)
+    ∙ ap₂ (over t []) (carried-bare t before none) (style_at-bare t i.1 none)
+    ∙ cond_both (i.0 == i.1 && true) [] (show t i.0 i.1 [] ++ []) (λ w. w ≡ slice_range t i.0 i.1)
+    (λ empty. sym (slice_range-none t i.0 i.1 (omega (arith, eqb-true i.0 i.1 (and_parts (i.0 == i.1) true empty).0))))
+    (λ some. append-nil (show t i.0 i.1 []) ∙ show-bare t i.0 i.1)
+
+pub part-bare : (t p : List ℕ) (k : ℕ) → IsFalse (has_escape t) → part t p k ≡ option_map (λ (i : ℕ × ℕ). slice_range t i.0 i.1) (slice_get (parts t p) k)
+part-bare t p k none =
+    ap (λ x. option_map (part_over t (end_before (parts x p) k)) (slice_get (parts x p) k)) (plain-bare t none) ∙ over (slice_get (parts t p) k)
+  where
+    over : (o : Option (ℕ × ℕ)) → option_map (part_over t (end_before (parts t p) k)) o ≡ option_map (λ (i : ℕ × ℕ). slice_range t i.0 i.1) o
+    over None = refl
+    over (Some i) = ap Some (part_over-bare t (end_before (parts t p) k) i none)
+
+pub all_parts-bare : (t p : List ℕ) → IsFalse (has_escape t) → all_parts t p ≡ slices_over t (parts t p)
+all_parts-bare t p none =
+    sym (map-id (all_parts t p))
+    ∙ map-all_parts t p (λ u. u) (λ i. slice_range t i.0 i.1) (λ k i found. part_over-bare t (end_before (parts (plain t) p) k) i none)
+    ∙ ap (λ x. slices_over t (parts x p)) (plain-bare t none)
+
+pub all_parts_are_split-bare : (t p : List ℕ) → IsUtf8 t → IsUtf8 p → IsFalse (has_escape t) → p ≢ [] → AreSplit p t (all_parts t p)
+all_parts_are_split-bare t p utf8_t utf8_p none some = subst (AreSplit p t) (sym (all_parts-bare t p none)) (parts_are_split t p utf8_t utf8_p some)
+
+pub all_parts-empty-bare : (t : List ℕ) → IsUtf8 t → IsFalse (has_escape t) → all_parts t [] ≡ [] ∷ (map encode_utf8 (chars t) ++ [] ∷ [])
+all_parts-empty-bare t utf8 none = all_parts-bare t [] none ∙ slices_over-parts-empty t utf8
+
+-- Changes: each gives the slice over the interval that it keeps.
+
+-- where a test lets a change through, its text is the slice
+through : (test : Bool) (t u : List ℕ) (i : ℕ × ℕ) → u ≡ slice_range t i.0 i.1
+    → (if is_some (if test then Some i else None) then Some u else None) ≡ option_map (λ (i : ℕ × ℕ). slice_range t i.0 i.1) (if test then Some i else None)
+through true t u i is = ap Some is
+through false t u i is = refl
+
+-- the change of t, where x is taken for its plain text
+abbrev edited_on : Change → List ℕ → List ℕ → Option (List ℕ)
+edited_on e t x = if is_some (interval_of e x) then Some (text_of e t) else None
+
+edited_on-bare : (e : Change) (t : List ℕ) → IsFalse (has_escape t) → edited_on e t t ≡ option_map (λ (i : ℕ × ℕ). slice_range t i.0 i.1) (interval_of e t)
+edited_on-bare (CutRange s e) t none = through (is_good_range t s e) t (cut t s e) (s, unwrap_or e (length t)) (cut-bare t s e none)
+edited_on-bare (LeftOf mid) t none =
+    let all : mid ≡ mid - 0 = omega arith in
+    through (is_good_position t mid) t (left_side t mid) (0, mid) (left_side-bare t mid none ∙ ap (λ n. take n t) all)
+edited_on-bare (RightOf mid) t none =
+    through (is_good_position t mid) t (right_side t mid) (mid, length t) (right_side-bare t mid none ∙ sym (slice_range-past t mid (length t) (omega arith)))
+edited_on-bare (PartOf p k) t none = ap (λ o. if is_some (slice_get (parts t p) k) then Some (unwrap_or o []) else None) (part-bare t p k none) ∙ found (slice_get (parts t p) k)
+  where
+    found : (o : Option (ℕ × ℕ)) → (if is_some o then Some (unwrap_or (option_map (λ (i : ℕ × ℕ). slice_range t i.0 i.1) o) []) else None) ≡ option_map (λ (i : ℕ × ℕ). slice_range t i.0 i.1) o
+    found None = refl
+    found (Some i) = refl
+edited_on-bare (WithoutPrefix p) t none =
+    through (starts_with nat_eq t p) t (without_prefix t p) (length p, length t)
+    (kept-bare t (length p) (length (plain t)) none ∙ ap (λ x. slice_range t (length p) (length x)) (plain-bare t none))
+edited_on-bare (WithoutSuffix p) t none =
+    through (ends_with nat_eq t p) t (without_suffix t p) (0, length t - length p)
+    (kept-bare t 0 (length (plain t) - length p) none ∙ ap (λ x. slice_range t 0 (length x - length p)) (plain-bare t none))
+edited_on-bare Trimmed t none = ap Some (trimmed-slice t none)
+
+pub edited_by-bare : (e : Change) (t : List ℕ) → IsFalse (has_escape t) → edited_by e t ≡ option_map (λ (i : ℕ × ℕ). slice_range t i.0 i.1) (interval_of e t)
+edited_by-bare e t none = ap (edited_on e t) (plain-bare t none) ∙ edited_on-bare e t none
+
+-- Changes in turn: each is of a text without ESC again.
+
+edited_by_has_no_escape : (e : Change) (t : List ℕ) → IsFalse (has_escape t) → IfSome (edited_by e t) (λ u. IsFalse (has_escape u))
+edited_by_has_no_escape e t none =
+    subst (λ o. IfSome o (λ u. IsFalse (has_escape u))) (sym (edited_by-bare e t none)) (over (interval_of e t))
+  where
+    over : (o : Option (ℕ × ℕ)) → IfSome (option_map (λ (i : ℕ × ℕ). slice_range t i.0 i.1) o) (λ u. IsFalse (has_escape u))
+    over None = tt
+    over (Some i) = has_escape-slice_range t i.0 i.1 none
+
+edited_has_no_escape : (es : List Change) (t : List ℕ) → IsFalse (has_escape t) → IfSome (edited es t) (λ u. IsFalse (has_escape u))
+edited_has_no_escape [] t none = none
+edited_has_no_escape (e ∷ es) t none = next (edited_by e t) (edited_by_has_no_escape e t none) (λ u bare. edited_has_no_escape es u bare)
+  where
+    next : (o : Option (List ℕ)) → IfSome o (λ u. IsFalse (has_escape u)) → ((u : List ℕ) → IsFalse (has_escape u) → IfSome (edited es u) (λ v. IsFalse (has_escape v)))
+        → IfSome (option_and_then (edited es) o) (λ v. IsFalse (has_escape v))
+    next None first others = tt
+    next (Some u) first others = others u first
+
+-- the bytes of the slice that they name
+pub edited-bare : (es : List Change) (t : List ℕ) → IsFalse (has_escape t) → edited es t ≡ option_map bytes_of (meaning es (styled t))
+edited-bare es t none =
+    sym (ap (option_map bytes_of) (edited_is_slice es t (is_whole-bare t none)).0 ∙ over (edited es t) (edited_has_no_escape es t none))
+  where
+    over : (o : Option (List ℕ)) → IfSome o (λ u. IsFalse (has_escape u)) → option_map bytes_of (option_map styled o) ≡ o
+    over None is = refl
+    over (Some u) is = ap Some (bytes_of-styled u ∙ plain-bare u is)
+
+gives_borrow-bare : (e : Change) (t : List ℕ) → IsFalse (has_escape t) → gives_borrow e t ≡ true
+gives_borrow-bare (CutRange s e) t none = ap not none
+gives_borrow-bare (LeftOf mid) t none = ap not none
+gives_borrow-bare (RightOf mid) t none = ap not none
+gives_borrow-bare (PartOf p k) t none = ap (λ b. not b || is_part_borrowed t p k) none
+gives_borrow-bare (WithoutPrefix []) t none = refl
+gives_borrow-bare (WithoutPrefix (b ∷ p)) t none = ap not none
+gives_borrow-bare (WithoutSuffix []) t none = refl
+gives_borrow-bare (WithoutSuffix (b ∷ p)) t none = ap not none
+gives_borrow-bare Trimmed t none = ap not none
+
+pub stay_borrowed-bare : (es : List Change) (t : List ℕ) → IsFalse (has_escape t) → stay_borrowed es t ≡ true
+stay_borrowed-bare [] t none = refl
+stay_borrowed-bare (e ∷ es) t none = next (edited_by e t) (edited_by_has_no_escape e t none) (λ u bare. stay_borrowed-bare es u bare)
+  where
+    next : (o : Option (List ℕ)) → IfSome o (λ u. IsFalse (has_escape u)) → ((u : List ℕ) → IsFalse (has_escape u) → stay_borrowed es u ≡ true)
+        → option_map_or (λ u. gives_borrow e t && stay_borrowed es u) o true ≡ true
+    next None first others = refl
+    next (Some u) first others = and_from _ _ (gives_borrow-bare e t none) (others u first)

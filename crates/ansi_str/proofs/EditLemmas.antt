@@ -1,0 +1,55 @@
+-- What changes in turn make of a whole text is the slice of its styled bytes that they name, whole, and closed where one of them closes.
+use Rattle.std.proofs.Common.{◌≡◌, Bool, true, false, ◌||◌, List, [], ◌∷◌, ℕ, Option, Some, None, refl, sym, ◌∙◌, ap, subst, IsTrue, if◌then◌else◌}
+use Rattle.std.specs.Prelude.{IfSome, option_and_then}
+use Rattle.std.specs.List.{list_any}
+use Rattle.std.proofs.lemmas.Bool.{cond-true}
+use Rattle.ansi_str.specs.Plain.{is_whole}
+use Rattle.ansi_str.specs.Rendition.{plain_style}
+use Rattle.ansi_str.specs.Styled.{StyledByte, styled, residue}
+use Rattle.ansi_str.specs.Changes.{Change, slice_of}
+use Rattle.ansi_str.specs.Edited.{meaning, edited_by, edited, closes, IsSliceNamed}
+use Rattle.ansi_str.proofs.ChangeLemmas.{IsAnswer, edited_by_answers}
+
+-- a change, and then others of what it gave
+in_turn : (closing more : Bool) (t : List ℕ) (slice : Option (List StyledByte)) (answer : Option (List ℕ)) (later : List StyledByte → Option (List StyledByte)) (next : List ℕ → Option (List ℕ))
+    → IsAnswer closing t slice answer → ((u : List ℕ) → IsTrue (is_whole u) → IsAnswer more u (later (styled u)) (next u))
+    → IsAnswer (closing || more) t (option_and_then later slice) (option_and_then next answer)
+in_turn closing more t slice None later next first others = (ap (option_and_then later) first.0, tt)
+in_turn closing more t slice (Some u) later next first others =
+    let second = others u first.1.0 in
+    (ap (option_and_then later) first.0 ∙ second.0, left_open (next u) second.1)
+  where
+    either : (a b : Bool) → (if b then plain_style else if a then plain_style else residue t) ≡ (if a || b then plain_style else residue t)
+    either true true = refl
+    either true false = refl
+    either false b = refl
+
+    left_open : (o : Option (List ℕ)) → IfSome o (λ v. IsTrue (is_whole v) × (residue v ≡ (if more then plain_style else residue u)))
+        → IfSome o (λ v. IsTrue (is_whole v) × (residue v ≡ (if closing || more then plain_style else residue t)))
+    left_open None is = tt
+    left_open (Some v) is = (is.0, is.1 ∙ ap (λ s. if more then plain_style else s) first.1.1 ∙ either closing more)
+
+edited_answers : (es : List Change) (t : List ℕ) → IsTrue (is_whole t) → IsAnswer (list_any closes es) t (meaning es (styled t)) (edited es t)
+edited_answers [] t whole = (refl, (whole, refl))
+edited_answers (e ∷ es) t whole =
+    in_turn (closes e) (list_any closes es) t (slice_of e (styled t)) (edited_by e t) (meaning es) (edited es) (edited_by_answers e t whole)
+    (λ u whole_u. edited_answers es u whole_u)
+
+-- Of changes in turn.
+
+pub edited_is_slice : (es : List Change) (t : List ℕ) → IsTrue (is_whole t) → IsSliceNamed es t (edited es t)
+edited_is_slice es t whole = (let answers = edited_answers es t whole in (answers.0, closed (edited es t) answers.1))
+  where
+    closed : (o : Option (List ℕ)) → IfSome o (λ u. IsTrue (is_whole u) × (residue u ≡ (if list_any closes es then plain_style else residue t)))
+        → IfSome o (λ u. IsTrue (is_whole u) × (IsTrue (list_any closes es) → residue u ≡ plain_style))
+    closed None is = tt
+    closed (Some u) is = (is.0, λ any. is.1 ∙ cond-true (list_any closes es) plain_style (residue t) any)
+
+-- what is known at the end: nothing where one of them closes, else what the text leaves open
+pub residue-edited : (es : List Change) (t u : List ℕ) → IsTrue (is_whole t) → edited es t ≡ Some u → residue u ≡ (if list_any closes es then plain_style else residue t)
+residue-edited es t u whole found =
+    (subst (λ o. IfSome o (λ v. IsTrue (is_whole v) × (residue v ≡ (if list_any closes es then plain_style else residue t)))) found (edited_answers es t whole).1).1
+
+-- an answer with these bytes is the slice that the changes name
+pub is_slice_named : (es : List Change) (t : List ℕ) (answer : Option (List ℕ)) → IsTrue (is_whole t) → answer ≡ edited es t → IsSliceNamed es t answer
+is_slice_named es t answer whole is = subst (IsSliceNamed es t) (sym is) (edited_is_slice es t whole)

@@ -1,0 +1,85 @@
+-- Each part begins and ends at or behind the end of the part before it.
+use Rattle.std.proofs.Common.{◌≡◌, ℕ, zero, suc, ◌+◌, ◌≤◌, Bool, true, false, List, [], ◌∷◌, ◌++◌, map, length, filter, zip, nat_le, Option, Some, None, option_map, refl, sym, subst, arith, slice_get, if◌then◌else◌}
+use Rattle.std.proofs.lemmas.Bool.{cond_both, leb-true}
+use Rattle.std.proofs.lemmas.Option.{cond_some, none-some}
+use Rattle.std.specs.List.{range_with_len, AllByRecursion}
+use Rattle.ansi_str.specs.Parts.{is_match, match_places, apart, parts, end_before}
+
+-- the interval begins and ends at or behind the end of the one before, if there is one
+abbrev pub ComesBehind : Option ℕ → ℕ × ℕ → Type 0
+ComesBehind None i = Unit {0}
+ComesBehind (Some e) i = (e ≤ i.0) × (e ≤ i.1)
+
+-- Matches that are taken rise, up to the end.
+
+abbrev IsRising : ℕ → ℕ → List ℕ → Type 0
+IsRising first last [] = first ≤ last
+IsRising first last (m ∷ ms) = (first ≤ m) × IsRising m last ms
+
+abbrev AreAtMost : ℕ → List ℕ → Type 0
+AreAtMost last ms = AllByRecursion (λ m. m ≤ last) ms
+
+apart_rises : (n first end last : ℕ) (ms : List ℕ) → first ≤ end → first ≤ last → AreAtMost last ms → IsRising first last (apart n end ms)
+apart_rises n first end last [] before fits within = fits
+apart_rises n first end last (m ∷ ms) before fits within =
+    by_test (nat_le end m) refl (apart_rises n m (m + n) last ms (omega arith) within.0 within.1) (apart_rises n first end last ms before fits within.1)
+  where
+    by_test : (b : Bool) → nat_le end m ≡ b → IsRising m last (apart n (m + n) ms) → IsRising first last (apart n end ms)
+        → IsRising first last (let more = apart n (if b then m + n else end) ms in if b then m ∷ more else more)
+    by_test true is taken other = (let le = leb-true end m is in omega (arith, le), taken)
+    by_test false is taken other = other
+
+range_at_most : (first n last : ℕ) → first + n ≤ last + 1 → AreAtMost last (range_with_len first n)
+range_at_most first zero last fits = tt
+range_at_most first (suc n) last fits = (omega arith, range_at_most (first + 1) n last (omega arith))
+
+filter_at_most : (test : ℕ → Bool) (last : ℕ) (ms : List ℕ) → AreAtMost last ms → AreAtMost last (filter test ms)
+filter_at_most test last [] within = tt
+filter_at_most test last (m ∷ ms) within =
+    cond_both (test m) (m ∷ filter test ms) (filter test ms) (AreAtMost last)
+    (λ passes. (within.0, filter_at_most test last ms within.1))
+    (λ fails. filter_at_most test last ms within.1)
+
+-- So each interval comes behind the one before it.
+
+-- each comes behind the one before it, and the first behind `before`
+abbrev pub ComeBehind : Option ℕ → List (ℕ × ℕ) → Type 0
+ComeBehind before [] = Unit {0}
+ComeBehind before (i ∷ is) = ComesBehind before i × ComeBehind (Some i.1) is
+
+intervals_come_behind : (end n first last : ℕ) (taken : List ℕ) → end ≤ first → IsRising end last taken → ComeBehind (Some end) (zip (first ∷ map (λ m. m + n) taken) (taken ++ last ∷ []))
+intervals_come_behind end n first last [] before rising = ((before, rising), tt)
+intervals_come_behind end n first last (m ∷ ms) before rising = ((before, rising.0), intervals_come_behind m n (m + n) last ms (omega arith) rising.1)
+
+none_before : (end : ℕ) (is : List (ℕ × ℕ)) → ComeBehind (Some end) is → ComeBehind None is
+none_before end [] behind = tt
+none_before end (i ∷ is) behind = (tt, behind.1)
+
+pub all_parts_come_behind : (x p : List ℕ) → ComeBehind None (parts x p)
+all_parts_come_behind x p =
+    let taken = apart (length p) 0 (match_places x p) in
+    let places_fit = filter_at_most (is_match x p) (length x) (range_with_len 0 (length x + 1)) (range_at_most 0 (length x + 1) (length x) (omega arith)) in
+    let rising = apart_rises (length p) 0 0 (length x) (match_places x p) (omega arith) (omega arith) places_fit in
+    none_before 0 (parts x p) (intervals_come_behind 0 (length p) 0 (length x) taken (omega arith) rising)
+
+-- where the interval before that of index k ends, if there is one, else `before`
+abbrev pub end_behind : Option ℕ → List (ℕ × ℕ) → ℕ → Option ℕ
+end_behind before is zero = before
+end_behind before is (suc k) = option_map (λ (i : ℕ × ℕ). i.1) (slice_get is k)
+
+pub end_behind-suc : (before : Option ℕ) (i : ℕ × ℕ) (is : List (ℕ × ℕ)) (k : ℕ) → end_behind before (i ∷ is) (suc k) ≡ end_behind (Some i.1) is k
+end_behind-suc before i is zero = refl
+end_behind-suc before i is (suc k) = refl
+
+pub end_behind-none : (is : List (ℕ × ℕ)) (k : ℕ) → end_behind None is k ≡ end_before is k
+end_behind-none is zero = refl
+end_behind-none is (suc k) = refl
+
+comes_behind : (before : Option ℕ) (is : List (ℕ × ℕ)) (k : ℕ) (i : ℕ × ℕ) → ComeBehind before is → slice_get is k ≡ Some i → ComesBehind (end_behind before is k) i
+comes_behind before [] k i behind found = absurd (none-some i found)
+comes_behind before (j ∷ is) zero i behind found = subst (ComesBehind before) (cond_some true j i found).1 behind.0
+comes_behind before (j ∷ is) (suc k) i behind found = subst (λ b. ComesBehind b i) (sym (end_behind-suc before j is k)) (comes_behind (Some j.1) is k i behind.1 found)
+
+pub parts_come_behind : (x p : List ℕ) (k : ℕ) (i : ℕ × ℕ) → slice_get (parts x p) k ≡ Some i → ComesBehind (end_before (parts x p) k) i
+parts_come_behind x p k i found =
+    subst (λ b. ComesBehind b i) (end_behind-none (parts x p) k) (comes_behind None (parts x p) k i (all_parts_come_behind x p) found)

@@ -1,0 +1,106 @@
+-- What is kept of a text: all its marks, and of a whole text the slice of its styled bytes; it is whole, and leaves open what the text does.
+use Rattle.std.proofs.Common.{◌≡◌, ℕ, ◌-◌, true, List, [], ◌∷◌, ◌++◌, map, length, refl, sym, ◌∙◌, ap, arith, slice_range, IsTrue}
+use Rattle.ansi_str.specs.Bytes.{escape}
+use Rattle.ansi_str.specs.Pieces.{Piece, Text, Sequence, LoneEscape, pieces_of}
+use Rattle.ansi_str.specs.Plain.{plain_of, plain, Mark, marks_of, marks, is_whole}
+use Rattle.ansi_str.specs.Rendition.{plain_style, known}
+use Rattle.ansi_str.specs.Styled.{StyledByte, styled, bytes_of, style_of, residue}
+use Rattle.ansi_str.specs.Cut.{show}
+use Rattle.ansi_str.specs.Kept.{kept, IsKept}
+use Rattle.ansi_str.proofs.PlainLemmas.{one_text}
+use Rattle.ansi_str.proofs.SliceLemmas.{slice_range-from_past, slice_range-map, slice_range-append}
+use Rattle.ansi_str.proofs.MarkLemmas.{bytes-further, marks_of-text, marks_of-sequence, marks_of-lone}
+use Rattle.ansi_str.proofs.JoinLemmas.{spelled, pieces_stand, is_whole-spelled}
+use Rattle.ansi_str.proofs.StyledLemmas.{styled-pieces, bytes_of-styled}
+use Rattle.ansi_str.proofs.SpelledLemmas.{styled-spelled, residue-spelled}
+use Rattle.ansi_str.proofs.ShownLemmas.{at_places, shown_pieces, spelled-shown_pieces, shown_pieces_stand, styled_through-shown_pieces, style_through-shown_pieces}
+
+-- the pieces of what is kept
+abbrev pub kept_pieces : ℕ → ℕ → List Piece → List Piece
+kept_pieces a b ps = shown_pieces (λ p. true) a b ps
+
+at_places-all : (ms : List Mark) → at_places (λ p. true) ms ≡ ms
+at_places-all [] = refl
+at_places-all (m ∷ ms) = ap (λ ks. m ∷ ks) (at_places-all ms)
+
+pub spelled-kept_pieces : (t : List ℕ) (a b : ℕ) → spelled (kept_pieces a b (pieces_of t)) ≡ kept t a b
+unfolding kept
+spelled-kept_pieces t a b = spelled-shown_pieces (pieces_of t) (λ p. true) a b ∙ ap (show (plain t) a b) (at_places-all (marks t))
+
+-- Their plain bytes are the slice, and their marks are all marks.
+
+plain_of-one_text : (w : List ℕ) (ps : List Piece) → plain_of (one_text w ++ ps) ≡ w ++ plain_of ps
+plain_of-one_text [] ps = refl
+plain_of-one_text (b ∷ w) ps = refl
+
+plain_of-kept_pieces : (ps : List Piece) (a b : ℕ) → plain_of (kept_pieces a b ps) ≡ slice_range (plain_of ps) a b
+plain_of-kept_pieces [] a b = sym (slice_range-from_past [] a b (omega arith))
+plain_of-kept_pieces (Text w ∷ ps) a b =
+    let rest = kept_pieces (a - length w) (b - length w) ps in
+    plain_of-one_text (slice_range w a b) rest
+    ∙ ap (λ v. slice_range w a b ++ v) (plain_of-kept_pieces ps (a - length w) (b - length w))
+    ∙ sym (slice_range-append w (plain_of ps) a b)
+plain_of-kept_pieces (Sequence w ∷ ps) a b = plain_of-kept_pieces ps a b
+plain_of-kept_pieces (LoneEscape ∷ ps) a b = plain_of-kept_pieces ps a b
+
+abbrev bytes_of_marks : List Piece → List (List ℕ)
+bytes_of_marks ps = map (λ (m : Mark). m.bytes) (marks_of ps)
+
+bytes_of_marks-text : (w : List ℕ) (ps : List Piece) → bytes_of_marks (Text w ∷ ps) ≡ bytes_of_marks ps
+bytes_of_marks-text w ps = ap (map (λ (m : Mark). m.bytes)) (marks_of-text w ps) ∙ bytes-further (length w) (marks_of ps)
+
+bytes_of_marks-one_text : (w : List ℕ) (ps : List Piece) → bytes_of_marks (one_text w ++ ps) ≡ bytes_of_marks ps
+bytes_of_marks-one_text [] ps = refl
+bytes_of_marks-one_text (b ∷ w) ps = bytes_of_marks-text (b ∷ w) ps
+
+bytes_of_marks-kept_pieces : (ps : List Piece) (a b : ℕ) → bytes_of_marks (kept_pieces a b ps) ≡ bytes_of_marks ps
+bytes_of_marks-kept_pieces [] a b = refl
+bytes_of_marks-kept_pieces (Text w ∷ ps) a b =
+    bytes_of_marks-one_text (slice_range w a b) (kept_pieces (a - length w) (b - length w) ps)
+    ∙ bytes_of_marks-kept_pieces ps (a - length w) (b - length w)
+    ∙ sym (bytes_of_marks-text w ps)
+bytes_of_marks-kept_pieces (Sequence w ∷ ps) a b =
+    ap (map (λ (m : Mark). m.bytes)) (marks_of-sequence w (kept_pieces a b ps))
+    ∙ ap (λ ws. w ∷ ws) (bytes_of_marks-kept_pieces ps a b)
+    ∙ sym (ap (map (λ (m : Mark). m.bytes)) (marks_of-sequence w ps))
+bytes_of_marks-kept_pieces (LoneEscape ∷ ps) a b =
+    ap (map (λ (m : Mark). m.bytes)) (marks_of-lone (kept_pieces a b ps))
+    ∙ ap (λ ws. (escape ∷ []) ∷ ws) (bytes_of_marks-kept_pieces ps a b)
+    ∙ sym (ap (map (λ (m : Mark). m.bytes)) (marks_of-lone ps))
+
+-- of every text, whole or not
+pub is_kept : (t : List ℕ) (a b : ℕ) → IsKept t a b (kept t a b)
+is_kept t a b = record {
+  pieces = kept_pieces a b (pieces_of t);
+  spelled = sym (spelled-kept_pieces t a b);
+  plain_bytes = plain_of-kept_pieces (pieces_of t) a b;
+  marks_stay = bytes_of_marks-kept_pieces (pieces_of t) a b;
+}
+
+-- Of a whole text.
+
+pub styled-kept : (t : List ℕ) (a b : ℕ) → IsTrue (is_whole t) → styled (kept t a b) ≡ slice_range (styled t) a b
+styled-kept t a b whole =
+    let shown = kept_pieces a b (pieces_of t) in
+    ap styled (sym (spelled-kept_pieces t a b))
+    ∙ styled-spelled shown (shown_pieces_stand (pieces_of t) (λ p. true) a b (pieces_stand t whole))
+    ∙ styled_through-shown_pieces (pieces_of t) plain_style (λ p. true) a b (λ p below. refl)
+    ∙ ap (λ bs. slice_range bs a b) (sym (styled-pieces t))
+
+pub residue-kept : (t : List ℕ) (a b : ℕ) → IsTrue (is_whole t) → residue (kept t a b) ≡ residue t
+residue-kept t a b whole =
+    let shown = kept_pieces a b (pieces_of t) in
+    ap residue (sym (spelled-kept_pieces t a b))
+    ∙ residue-spelled shown (shown_pieces_stand (pieces_of t) (λ p. true) a b (pieces_stand t whole))
+    ∙ ap known (style_through-shown_pieces (pieces_of t) plain_style (λ p. true) a b)
+    ∙ ap (λ ms. known (style_of ms)) (at_places-all (marks t))
+
+pub is_whole-kept : (t : List ℕ) (a b : ℕ) → IsTrue (is_whole t) → IsTrue (is_whole (kept t a b))
+is_whole-kept t a b whole =
+    ap is_whole (sym (spelled-kept_pieces t a b))
+    ∙ is_whole-spelled (kept_pieces a b (pieces_of t)) (shown_pieces_stand (pieces_of t) (λ p. true) a b (pieces_stand t whole))
+
+pub plain-kept : (t : List ℕ) (a b : ℕ) → IsTrue (is_whole t) → plain (kept t a b) ≡ slice_range (plain t) a b
+plain-kept t a b whole =
+    sym (bytes_of-styled (kept t a b)) ∙ ap bytes_of (styled-kept t a b whole)
+    ∙ sym (slice_range-map (λ (s : StyledByte). s.byte) (styled t) a b) ∙ ap (λ x. slice_range x a b) (bytes_of-styled t)

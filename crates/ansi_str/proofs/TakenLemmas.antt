@@ -1,0 +1,187 @@
+-- The matches of a pattern behind one of them, and the intervals between them.
+use Rattle.std.proofs.Common.{◌≡◌, ℕ, zero, suc, ◌+◌, ◌<◌, ◌≤◌, max, inl, inr, Bool, true, false, List, [], ◌∷◌, ◌++◌, length, map, filter, zip, drop, Some, None, refl, sym, ◌∙◌, ap, ap₂, subst, arith, if◌then◌else◌, nat_le, slice_get}
+use Rattle.std.proofs.lemmas.Bool.{cases_lt, le-leb, lt-leb}
+use Rattle.std.proofs.lemmas.Option.{none-some, same_Some}
+use Rattle.std.proofs.lemmas.List.{length-drop}
+use Rattle.std.specs.List.{range_with_len}
+use Rattle.ansi_str.specs.Parts.{is_match, match_places, first_match_from, apart}
+use Rattle.ansi_str.proofs.MatchLemmas.{is_match-drop}
+
+-- The matches behind the first m bytes are those of the text.
+
+matches-drop : (x p : List ℕ) (m i n : ℕ) → m ≤ length x → filter (is_match x p) (range_with_len (m + i) n) ≡ map (λ k. m + k) (filter (is_match (drop m x) p) (range_with_len i n))
+matches-drop x p m i zero within = refl
+matches-drop x p m i (suc n) within =
+    let later : filter (is_match x p) (range_with_len (m + i + 1) n) ≡ map (λ k. m + k) (filter (is_match (drop m x) p) (range_with_len (i + 1) n))
+    = (let next : m + i + 1 ≡ m + (i + 1) = omega arith in ap (λ k. filter (is_match x p) (range_with_len k n)) next ∙ matches-drop x p m (i + 1) n within) in
+    ap₂ (λ b ks. if b then (m + i) ∷ ks else ks) (is_match-drop x p m i within) later
+    ∙ either (is_match (drop m x) p i) (filter (is_match (drop m x) p) (range_with_len (i + 1) n))
+  where
+    either : (b : Bool) (ks : List ℕ) → (if b then (m + i) ∷ map (λ k. m + k) ks else map (λ k. m + k) ks) ≡ map (λ k. m + k) (if b then i ∷ ks else ks)
+    either true ks = refl
+    either false ks = refl
+
+-- Which matches are taken.
+
+apart-taken : (n e m : ℕ) (ms : List ℕ) → e ≤ m → apart n e (m ∷ ms) ≡ m ∷ apart n (m + n) ms
+apart-taken n e m ms from = ap (λ b. if b then m ∷ apart n (if b then m + n else e) ms else apart n (if b then m + n else e) ms) (le-leb e m from)
+
+apart-passed : (n e m : ℕ) (ms : List ℕ) → m < e → apart n e (m ∷ ms) ≡ apart n e ms
+apart-passed n e m ms before = ap (λ b. if b then m ∷ apart n (if b then m + n else e) ms else apart n (if b then m + n else e) ms) (lt-leb e m before)
+
+-- those before the end don't count
+apart-before : (q : ℕ → Bool) (n e i k j : ℕ) → i + k ≤ e → apart n e (filter q (range_with_len i (k + j))) ≡ apart n e (filter q (range_with_len (i + k) j))
+apart-before q n e i zero j before =
+    let here : i + 0 ≡ i = omega arith in
+    let all : 0 + j ≡ j = omega arith in
+    ap₂ (λ a b. apart n e (filter q (range_with_len a b))) (sym here) all
+apart-before q n e i (suc k) j before =
+    let here : i + 1 + k ≡ i + suc k = omega arith in
+    let size : suc k + j ≡ suc (k + j) = omega arith in
+    ap (λ a. apart n e (filter q (range_with_len i a))) size
+    ∙ either (q i) (filter q (range_with_len (i + 1) (k + j)))
+    ∙ apart-before q n e (i + 1) k j (omega arith) ∙ ap (λ a. apart n e (filter q (range_with_len a j))) here
+  where
+    either : (b : Bool) (ms : List ℕ) → apart n e (if b then i ∷ ms else ms) ≡ apart n e ms
+    either true ms = apart-passed n e i ms (omega arith)
+    either false ms = refl
+
+-- ends that no match lies between count alike
+apart-alike : (q : ℕ → Bool) (n d e i k : ℕ) → d ≤ i → e ≤ i → apart n d (filter q (range_with_len i k)) ≡ apart n e (filter q (range_with_len i k))
+apart-alike q n d e i zero d_before e_before = refl
+apart-alike q n d e i (suc k) d_before e_before = either (q i) (apart-alike q n d e (i + 1) k (omega arith) (omega arith))
+  where
+    either : (b : Bool) → apart n d (filter q (range_with_len (i + 1) k)) ≡ apart n e (filter q (range_with_len (i + 1) k))
+        → apart n d (if b then i ∷ filter q (range_with_len (i + 1) k) else filter q (range_with_len (i + 1) k)) ≡ apart n e (if b then i ∷ filter q (range_with_len (i + 1) k) else filter q (range_with_len (i + 1) k))
+    either true later = apart-taken n d i _ d_before ∙ sym (apart-taken n e i _ e_before)
+    either false later = later
+
+apart-moved : (n e m : ℕ) (ms : List ℕ) → apart n (m + e) (map (λ k. m + k) ms) ≡ map (λ k. m + k) (apart n e ms)
+apart-moved n e m [] = refl
+apart-moved n e m (k ∷ ms) = elim (cases_lt k e) [
+  | inl before ↦
+      apart-passed n (m + e) (m + k) (map (λ k. m + k) ms) (omega arith) ∙ apart-moved n e m ms
+      ∙ ap (map (λ k. m + k)) (sym (apart-passed n e k ms before))
+  | inr from ↦ (
+      let end : m + k + n ≡ m + (k + n) = omega arith in
+      apart-taken n (m + e) (m + k) (map (λ k. m + k) ms) (omega arith)
+      ∙ ap (λ ks. (m + k) ∷ ks) (ap (λ a. apart n a (map (λ k. m + k) ms)) end ∙ apart-moved n (k + n) m ms)
+      ∙ ap (map (λ k. m + k)) (sym (apart-taken n e k ms from)))
+]
+
+-- The first match that is taken, and those behind it.
+
+pub apart-none : (n from : ℕ) (ms : List ℕ) → slice_get (filter (nat_le from) ms) 0 ≡ None → apart n from ms ≡ []
+apart-none n from [] none = refl
+apart-none n from (m ∷ ms) none = elim (cases_lt m from) [
+  | inl before ↦
+      apart-passed n from m ms before
+      ∙ apart-none n from ms (subst (λ b. slice_get (if b then m ∷ filter (nat_le from) ms else filter (nat_le from) ms) 0 ≡ None) (lt-leb from m before) none)
+  | inr at ↦ absurd (none-some m (sym (subst (λ b. slice_get (if b then m ∷ filter (nat_le from) ms else filter (nat_le from) ms) 0 ≡ None) (le-leb from m at) none)))
+]
+
+-- the least number of a range that passes a test, at or past `from`
+pub record IsTaken (q : ℕ → Bool) (n from i k m : ℕ) : Type 0 where
+  pub taken : apart n from (filter q (range_with_len i k)) ≡ m ∷ apart n (m + max n 1) (filter q (range_with_len i k))
+  pub at : from ≤ m
+  pub fits : m < i + k
+  pub passes : q m ≡ true
+
+-- a number in front of others, where it passes
+abbrev in_front : ℕ → List ℕ → Bool → List ℕ
+in_front i ks b = if b then i ∷ ks else ks
+
+-- the first is not taken
+taken_later : (q : ℕ → Bool) (n from i k m : ℕ) (b : Bool) → q i ≡ b → (b ≡ true → i < from) → IsTaken q n from (i + 1) k m → IsTaken q n from i (suc k) m
+taken_later q n from i k m b is before later =
+    let ks = filter q (range_with_len (i + 1) k) in
+    record {
+      taken =
+          ap (λ b. apart n from (in_front i ks b)) is ∙ drops from b before ∙ later.taken
+          ∙ ap (λ ks. m ∷ ks) (sym (ap (λ b. apart n (m + max n 1) (in_front i ks b)) is ∙ drops (m + max n 1) b (λ t. (let below = before t in omega (arith, below, later.at)))));
+      at = later.at;
+      fits = omega (arith, later.fits);
+      passes = later.passes;
+    }
+  where
+    drops : (e : ℕ) (b : Bool) → (b ≡ true → i < e) → apart n e (in_front i (filter q (range_with_len (i + 1) k)) b) ≡ apart n e (filter q (range_with_len (i + 1) k))
+    drops e true below = apart-passed n e i (filter q (range_with_len (i + 1) k)) (below refl)
+    drops e false below = refl
+
+-- the first is taken
+taken_here : (q : ℕ → Bool) (n from i k : ℕ) → q i ≡ true → from ≤ i → IsTaken q n from i (suc k) i
+taken_here q n from i k is at =
+    let ks = filter q (range_with_len (i + 1) k) in
+    record {
+      taken =
+          ap (λ b. apart n from (in_front i ks b)) is ∙ apart-taken n from i ks at
+          ∙ ap (λ ks. i ∷ ks) (alike (filter q (range_with_len (i + 1) k)) refl)
+          ∙ ap (λ ks. i ∷ ks) (sym (ap (λ b. apart n (i + max n 1) (in_front i ks b)) is ∙ apart-passed n (i + max n 1) i ks (omega arith)));
+      at = at;
+      fits = omega arith;
+      passes = is;
+    }
+  where
+    alike : (ks : List ℕ) → ks ≡ filter q (range_with_len (i + 1) k) → apart n (i + n) ks ≡ apart n (i + max n 1) ks
+    alike ks are = elim (cases_lt 0 n) [
+      | inl some ↦ (let same : i + n ≡ i + max n 1 = omega arith in ap (λ e. apart n e ks) same)
+      | inr none ↦ subst (λ v. apart n (i + n) v ≡ apart n (i + max n 1) v) (sym are) (apart-alike q n (i + n) (i + max n 1) (i + 1) k (omega arith) (omega arith))
+    ]
+
+is_taken : (q : ℕ → Bool) (n from i k m : ℕ) → slice_get (filter (nat_le from) (filter q (range_with_len i k))) 0 ≡ Some m → IsTaken q n from i k m
+is_taken q n from i zero m found = absurd (none-some m found)
+is_taken q n from i (suc k) m found = by_test (is_taken q n from (i + 1) k m) (q i) refl found
+  where
+    by_test : (slice_get (filter (nat_le from) (filter q (range_with_len (i + 1) k))) 0 ≡ Some m → IsTaken q n from (i + 1) k m) → (b : Bool) → q i ≡ b → slice_get (filter (nat_le from) (in_front i (filter q (range_with_len (i + 1) k)) b)) 0 ≡ Some m → IsTaken q n from i (suc k) m
+    by_test later false is found = taken_later q n from i k m false is (λ t. absurd (cc t)) (later found)
+    by_test later true is found =
+        let ks = filter (nat_le from) (filter q (range_with_len (i + 1) k)) in
+        elim (cases_lt i from) [
+          | inl before ↦
+              taken_later q n from i k m true is (λ _. before)
+              (later (subst (λ b. slice_get (in_front i ks b) 0 ≡ Some m) (lt-leb from i before) found))
+          | inr at ↦
+              subst (IsTaken q n from i (suc k)) (same_Some i m (subst (λ b. slice_get (in_front i ks b) 0 ≡ Some m) (le-leb from i at) found)) (taken_here q n from i k is at)
+        ]
+
+-- The first match of a text at or past `from`, and those behind it, which are those of what stands behind its first byte.
+pub record IsFirstTaken (x p : List ℕ) (from m : ℕ) : Type 0 where
+  pub taken : apart (length p) from (match_places x p) ≡ m ∷ map (λ k. m + k) (apart (length p) (max (length p) 1) (match_places (drop m x) p))
+  pub at : from ≤ m
+  pub inside : m ≤ length x
+  pub matches : is_match x p m ≡ true
+
+pub is_first_taken : (x p : List ℕ) (from m : ℕ) → first_match_from x p from ≡ Some m → IsFirstTaken x p from m
+is_first_taken x p from m found =
+    let n = length p in
+    let first = is_taken (is_match x p) n from 0 (length x + 1) m found in
+    let inside : m ≤ length x = omega (arith, first.fits) in
+    let size : length x + 1 ≡ m + (length (drop m x) + 1) = omega (arith, length-drop m x) in
+    let from_zero : 0 + m ≡ m + 0 = omega arith in
+    record {
+      taken =
+          first.taken ∙ ap (λ ks. m ∷ ks) (
+          ap (λ k. apart n (m + max n 1) (filter (is_match x p) (range_with_len 0 k))) size
+          ∙ apart-before (is_match x p) n (m + max n 1) 0 m (length (drop m x) + 1) (omega arith)
+          ∙ ap (λ a. apart n (m + max n 1) (filter (is_match x p) (range_with_len a (length (drop m x) + 1)))) from_zero
+          ∙ ap (apart n (m + max n 1)) (matches-drop x p m 0 (length (drop m x) + 1) inside)
+          ∙ apart-moved n (max n 1) m (match_places (drop m x) p));
+      at = first.at;
+      inside = inside;
+      matches = first.passes;
+    }
+
+-- The intervals between matches that stand m further on are further on.
+
+abbrev pub moved_on : ℕ → ℕ × ℕ → ℕ × ℕ
+moved_on m i = (m + i.0, m + i.1)
+
+-- the intervals before, between and behind the places that are taken, from a on, of a text of the length e
+abbrev pub between : ℕ → ℕ → ℕ → List ℕ → List (ℕ × ℕ)
+between n a e taken = zip (a ∷ map (λ m. m + n) taken) (taken ++ e ∷ [])
+
+pub between-moved : (n a e m : ℕ) (taken : List ℕ) → between n (m + a) (m + e) (map (λ k. m + k) taken) ≡ map (moved_on m) (between n a e taken)
+between-moved n a e m [] = refl
+between-moved n a e m (k ∷ taken) =
+    let next : m + k + n ≡ m + (k + n) = omega arith in
+    ap (λ is. (m + a, m + k) ∷ is) (ap (λ b. between n b (m + e) (map (λ k. m + k) taken)) next ∙ between-moved n (k + n) e m taken)

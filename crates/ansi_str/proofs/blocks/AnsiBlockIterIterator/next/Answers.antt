@@ -1,0 +1,21 @@
+use Rattle.std.proofs.Common.{length, ap, arith}
+use Rattle.ansi_str.specs.States.{rendition_of}
+use Rattle.ansi_str.proofs.BlockLemmas.{blocks_from-nil}
+use Rattle.ansi_str.proofs.BlockWalkLemmas.{not_borrowed}
+use Rattle.ansi_str.proofs.blocks.AnsiBlockIterIterator.next.Goals as goal
+
+-- where no run is found no block is left, and an empty text has none
+pub returns-in_err-run-clause-steps : goal.returns-in_err-run-clause-steps
+returns-in_err-run-clause-steps g c = rw (c.from_residual.ensures, ← c.self.view_is) (c.in_err-run.ensures.none, blocks_from-nil (rendition_of c.self.inside.style))
+
+-- where memory is wanting the first block that was left is no borrow
+pub returns-in-Err-clause-steps : goal.returns-in-Err-clause-steps
+returns-in-Err-clause-steps g c =
+    rw (← c.self.view_is) ((_, _, c.in_ok-run.ensures.first, not_borrowed _ _ c.in_ok-run.ensures.awaited c.in-Err.ensures.takes_no_memory), blocks_from-nil (rendition_of c.self.inside.style))
+
+-- nothing is left behind an error
+pub returns-in-Err-clause-goes : goal.returns-in-Err-clause-goes
+returns-in-Err-clause-goes g c =
+    let some = ap length c.in_ok-run.ensures.first in
+    let none = ap length (blocks_from-nil (rendition_of c.self.inside.style)) in
+    rw (← c.self.view_is) (record { on = λ _. (tt, tt, omega arith); keeps = tt; rests = λ _. tt })

@@ -1,0 +1,22 @@
+use Rattle.ansi_str.proofs.KeptLemmas.{is_kept}
+use Rattle.ansi_str.proofs.TrimLemmas.{slice_range-trim_interval, trim_interval_boundaries}
+use Rattle.ansi_str.proofs.KeptAsStdLemmas.{plain-trimmed, plain-without_prefix, plain-without_suffix}
+use Rattle.ansi_str.proofs.laws.trim_is_std.Goals as goal
+
+pub returns-clause-trim : goal.returns-clause-trim
+returns-clause-trim c = plain-trimmed
+
+pub returns-clause-prefix : goal.returns-clause-prefix
+returns-clause-prefix c = plain-without_prefix
+
+pub returns-clause-suffix : goal.returns-clause-suffix
+returns-clause-suffix c = plain-without_suffix
+
+pub returns-clause-interval : goal.returns-clause-interval
+returns-clause-interval c = slice_range-trim_interval
+
+pub returns-clause-boundaries : goal.returns-clause-boundaries
+returns-clause-boundaries c = trim_interval_boundaries
+
+pub returns-clause-kept : goal.returns-clause-kept
+returns-clause-kept c = is_kept

@@ -1,0 +1,66 @@
+use Rattle.std.proofs.Common.{◌≡◌, inl, inr, Some, option_map, refl, sym, ◌∙◌, ap, slice_get, is_some, true≢false}
+use Rattle.std.proofs.lemmas.Iterator.Consumers.{nth_from_yields_List, YieldsList-from_first}
+use Rattle.ansi_str.specs.declared.split.spans.Span.{Span}
+use Rattle.ansi_str.specs.Rendition.{plain_style}
+use Rattle.ansi_str.specs.States.{rendition_of}
+use Rattle.ansi_str.specs.Splits.{SplitPart}
+use Rattle.ansi_str.specs.Spans.{whole_part, parts_left}
+use Rattle.ansi_str.proofs.SplitLemmas.{IsPartAt, part_at, no_part_at}
+use Rattle.ansi_str.proofs.split.part_in.Goals as goal
+
+-- the part that a span is written as
+abbrev written_as : Span → SplitPart
+written_as s = whole_part (rendition_of s.carried) s.text.now s.skip
+
+-- a part that is a borrow is never an `Err`
+pub returns-in_err-write-in-Some-clause-takes_no_memory : goal.returns-in_err-write-in-Some-clause-takes_no_memory
+returns-in_err-write-in-Some-clause-takes_no_memory g c =
+    let t = c.args.text.now in
+    let p = c.args.pat.now in
+    let at : option_map written_as c.nth.result ≡ slice_get (parts_left plain_style t p 0 0) c.args.index
+    = nth_from_yields_List c.nth.result _ c.args.index c.nth.ensures.ran (YieldsList-from_first written_as (λ s. s) (parts_left plain_style t p 0 0) c.new.ensures) in
+    let part : IsPartAt t p c.args.index (written_as c.in-Some.span) = part_at t p c.args.index (written_as c.in-Some.span) (sym at ∙ ap (option_map written_as) c.in-Some.is) in
+    λ any. absurd (true≢false (sym (c.in_err-write-in-Some.ensures.takes_no_memory (elim any [
+      | inl none ↦ part.bare none
+      | inr (inl borrowed) ↦ sym part.borrowed ∙ borrowed
+      | inr (inr nothing) ↦ absurd (true≢false (sym (ap is_some part.found) ∙ nothing))
+    ]))))
+
+pub returns-in_ok-write-in-Some-clause-none : goal.returns-in_ok-write-in-Some-clause-none
+returns-in_ok-write-in-Some-clause-none g c =
+    let t = c.args.text.now in
+    let p = c.args.pat.now in
+    let at : option_map written_as c.nth.result ≡ slice_get (parts_left plain_style t p 0 0) c.args.index
+    = nth_from_yields_List c.nth.result _ c.args.index c.nth.ensures.ran (YieldsList-from_first written_as (λ s. s) (parts_left plain_style t p 0 0) c.new.ensures) in
+    let part : IsPartAt t p c.args.index (written_as c.in-Some.span) = part_at t p c.args.index (written_as c.in-Some.span) (sym at ∙ ap (option_map written_as) c.in-Some.is) in
+    (λ e. absurd (true≢false e), λ nothing. sym (ap is_some part.found) ∙ nothing)
+
+pub returns-in_ok-write-in-Some-clause-bytes : goal.returns-in_ok-write-in-Some-clause-bytes
+returns-in_ok-write-in-Some-clause-bytes g c =
+    let t = c.args.text.now in
+    let p = c.args.pat.now in
+    let at : option_map written_as c.nth.result ≡ slice_get (parts_left plain_style t p 0 0) c.args.index
+    = nth_from_yields_List c.nth.result _ c.args.index c.nth.ensures.ran (YieldsList-from_first written_as (λ s. s) (parts_left plain_style t p 0 0) c.new.ensures) in
+    let part : IsPartAt t p c.args.index (written_as c.in-Some.span) = part_at t p c.args.index (written_as c.in-Some.span) (sym at ∙ ap (option_map written_as) c.in-Some.is) in
+    part.bytes ∙ ap Some (sym c.in_ok-write-in-Some.ensures.bytes)
+
+pub returns-in_ok-write-in-Some-clause-borrowed : goal.returns-in_ok-write-in-Some-clause-borrowed
+returns-in_ok-write-in-Some-clause-borrowed g c =
+    let t = c.args.text.now in
+    let p = c.args.pat.now in
+    let at : option_map written_as c.nth.result ≡ slice_get (parts_left plain_style t p 0 0) c.args.index
+    = nth_from_yields_List c.nth.result _ c.args.index c.nth.ensures.ran (YieldsList-from_first written_as (λ s. s) (parts_left plain_style t p 0 0) c.new.ensures) in
+    let part : IsPartAt t p c.args.index (written_as c.in-Some.span) = part_at t p c.args.index (written_as c.in-Some.span) (sym at ∙ ap (option_map written_as) c.in-Some.is) in
+    let written = c.in_ok-write-in-Some.ensures.borrowed in (
+      λ borrowed. inr (part.borrowed ∙ written.0 borrowed),
+      λ any. written.1 (elim any [ inl none ↦ part.bare none | inr borrowed ↦ sym part.borrowed ∙ borrowed ]),
+    )
+
+pub returns-in-None-clause-none : goal.returns-in-None-clause-none
+returns-in-None-clause-none g c =
+    let t = c.args.text.now in
+    let p = c.args.pat.now in
+    let at : option_map written_as c.nth.result ≡ slice_get (parts_left plain_style t p 0 0) c.args.index
+    = nth_from_yields_List c.nth.result _ c.args.index c.nth.ensures.ran (YieldsList-from_first written_as (λ s. s) (parts_left plain_style t p 0 0) c.new.ensures) in
+    let none = no_part_at t p c.args.index (sym at ∙ ap (option_map written_as) c.in-None.is) in
+    (λ e. ap is_some none, λ e. refl)

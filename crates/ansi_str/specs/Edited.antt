@@ -1,0 +1,63 @@
+-- Lists of edits in turn: the texts that they make, what they name of styled bytes, and where they leave a borrow.
+use Rattle.std.specs.Prelude.{◌≡◌, IfSome, IsTrue, ℕ, Bool, true, false, not, ◌&&◌, ◌||◌, List, [], ◌∷◌, Option, Some, None, option_map, option_and_then, unwrap_or, is_some, if◌then◌else◌}
+use Rattle.std.specs.List.{list_any}
+use Rattle.std.specs.Option.{option_map_or}
+use Rattle.ansi_str.specs.Plain.{plain, has_escape, is_whole}
+use Rattle.ansi_str.specs.Rendition.{plain_style}
+use Rattle.ansi_str.specs.Styled.{StyledByte, styled, residue}
+use Rattle.ansi_str.specs.Cut.{cut}
+use Rattle.ansi_str.specs.Sides.{left_side, right_side}
+use Rattle.ansi_str.specs.Parts.{part, is_part_borrowed}
+use Rattle.ansi_str.specs.Kept.{without_prefix, without_suffix, trimmed}
+use Rattle.ansi_str.specs.Changes.{Change, CutRange, LeftOf, RightOf, PartOf, WithoutPrefix, WithoutSuffix, Trimmed, interval_of, slice_of}
+
+-- the meaning of changes in turn, each a slice of what the one before gave, or None where one is refused (own)
+abbrev pub meaning : List Change → List StyledByte → Option (List StyledByte)
+meaning [] bs = Some bs
+meaning (e ∷ es) bs = option_and_then (meaning es) (slice_of e bs)
+
+-- the text that a change makes of t, where it isn't refused
+abbrev pub text_of : Change → List ℕ → List ℕ
+text_of (CutRange s e) t = cut t s e
+text_of (LeftOf mid) t = left_side t mid
+text_of (RightOf mid) t = right_side t mid
+text_of (PartOf p k) t = unwrap_or (part t p k) []
+text_of (WithoutPrefix p) t = without_prefix t p
+text_of (WithoutSuffix p) t = without_suffix t p
+text_of Trimmed t = trimmed t
+
+-- a change of t is refused where it keeps no interval of the plain text
+abbrev pub edited_by : Change → List ℕ → Option (List ℕ)
+edited_by e t = if is_some (interval_of e (plain t)) then Some (text_of e t) else None
+
+-- the text that changes in turn make, each of what the one before gave, or None where one is refused (own)
+abbrev pub edited : List Change → List ℕ → Option (List ℕ)
+edited [] t = Some t
+edited (e ∷ es) t = option_and_then (edited es) (edited_by e t)
+
+-- a cut, a side and a part leave no known style open
+abbrev pub closes : Change → Bool
+closes (CutRange s e) = true
+closes (LeftOf mid) = true
+closes (RightOf mid) = true
+closes (PartOf p k) = true
+closes (WithoutPrefix p) = false
+closes (WithoutSuffix p) = false
+closes Trimmed = false
+
+-- the change of t is a borrow of it: no ESC stands in t, nothing is taken off, or a part stands in it as it is
+abbrev pub gives_borrow : Change → List ℕ → Bool
+gives_borrow (WithoutPrefix []) t = true
+gives_borrow (WithoutSuffix []) t = true
+gives_borrow (PartOf p k) t = not (has_escape t) || is_part_borrowed t p k
+gives_borrow _ t = not (has_escape t)
+
+-- changes in turn give borrows, up to the last or to the first that is refused
+abbrev pub stay_borrowed : List Change → List ℕ → Bool
+stay_borrowed [] t = true
+stay_borrowed (e ∷ es) t = option_map_or (λ u. gives_borrow e t && stay_borrowed es u) (edited_by e t) true
+
+-- the headline: the answer is None exactly where the changes are refused; else it is a whole text, its styled bytes are the slice that the changes name, and after a cut, a side or a part no known style is open at its end (own)
+abbrev pub IsSliceNamed : List Change → List ℕ → Option (List ℕ) → Type 0
+IsSliceNamed es t answer = (meaning es (styled t) ≡ option_map styled answer)
+    × IfSome answer (λ u. IsTrue (is_whole u) × (IsTrue (list_any closes es) → residue u ≡ plain_style))

@@ -1,0 +1,4 @@
+//! Callers of the library, proved by its contracts alone: what can be concluded of the calls' answers.
+pub mod blocks;
+pub mod parts;
+pub mod searches;

@@ -1,0 +1,56 @@
+//! Callers of the searches: what can be concluded of their answers alone.
+ghost use Rattle.std.specs.Prelude.{◌≡◌, ◌↔◌, ◌+◌, ◌≤◌, ℕ, length, Some, IsNone, IfOk, IfSome, true};
+ghost use Rattle.std.specs.Cow.{cow_str_bytes};
+ghost use Rattle.std.specs.Str.{IsCharBoundary};
+ghost use Rattle.std.specs.Str.Pattern.{HasTextAt, LacksTextAt};
+ghost use Rattle.ansi_str.specs.Plain.{plain};
+ghost use Rattle.ansi_str.specs.Cut.{cut};
+ghost use Rattle.ansi_str.specs.Sides.{left_side, right_side};
+
+use ansi_str::AnsiStr;
+use std::alloc::{AllocError, Global};
+use std::borrow::CowStr;
+
+/// The text between the ends of the first match of the pattern, or `None` where it stands nowhere.
+pub fn cut_match<'t, T: AnsiStr>(
+    alloc: Global,
+    text: &'t T,
+    pat: &str,
+) -> Result<Option<CowStr<'t>>, AllocError>
+    ensures none { IfOk result (λ o. IsNone o → (i : ℕ) → i ≤ length (plain (T.text text.now)) → LacksTextAt pat.now (plain (T.text text.now)) i) }
+    ensures bytes { IfOk result (λ o. IfSome o (λ c. (i : ℕ) × HasTextAt pat.now (plain (T.text text.now)) i (i + length pat.now)
+        × (cow_str_bytes c ≡ cut (T.text text.now) i (Some (i + length pat.now))))) }
+{
+    match text.ansi_find(pat) {
+        Some(start) => Ok(Some(text.ansi_cut(alloc, start..start + pat.len())?)),
+        None => Ok(None),
+    }
+}
+
+/// The two sides of the text at the index, or `None` where that is no character boundary of the
+/// plain text.
+pub fn split_at_boundary<'t, T: AnsiStr>(
+    alloc: Global,
+    text: &'t T,
+    index: usize,
+) -> Result<Option<(CowStr<'t>, CowStr<'t>)>, AllocError>
+    ensures none { IfOk result (λ o. IsNone o ↔ (¬ (IsCharBoundary (plain (T.text text.now)) index))) }
+    ensures left { IfOk result (λ o. IfSome o (λ c. cow_str_bytes c.0 ≡ left_side (T.text text.now) index)) }
+    ensures right { IfOk result (λ o. IfSome o (λ c. cow_str_bytes c.1 ≡ right_side (T.text text.now) index)) }
+{
+    if !text.ansi_is_char_boundary(index) {
+        return Ok(None);
+    }
+    Ok(Some(text.ansi_split_at(alloc, index)?))
+}
+
+/// Whether the searches agree: a plain text begins with a pattern exactly where this is first found at
+/// 0, and a pattern that it ends with is found.
+#[tactic(auto, using(ansi_str::proofs::FindLemmas::finds_at_front, ansi_str::proofs::EndLemmas::finds_at_end))]
+pub fn searches_agree<T: AnsiStr>(text: &T, pat: &str) -> bool
+    ensures { result ≡ true }
+{
+    let found = text.ansi_find(pat);
+    text.ansi_starts_with(pat) == (found == Some(0))
+        && (!text.ansi_ends_with(pat) || found.is_some())
+}

@@ -1,0 +1,199 @@
+//! The answers of `edit` for worked texts and lists of edits.
+use crate::Refusing;
+use crate::memory::expect_each_refusal;
+use ansi_str::Edit::{self, Cut, Left, Part, Prefix, Right, Suffix, Trim};
+use ansi_str::{edit, edit_in};
+use std::alloc::Global;
+use std::borrow::CowStr;
+use std::process::Abort;
+use std::test::Fail;
+
+/// A text, edits, the answer, whether that is a borrow, and whether the edits take memory.
+type Row = (
+    &'static str,
+    &'static [Edit<'static>],
+    Option<&'static str>,
+    bool,
+    bool,
+);
+
+const ROWS: [Row; 22] = [
+    // No edits.
+    ("a", &[], Some("a"), true, false),
+    ("\x1b[1mx", &[], Some("\x1b[1mx"), true, false),
+    // Texts without ESC.
+    (
+        "abc def",
+        &[
+            Right(4),
+            Cut {
+                start: 0,
+                end: Some(2),
+            },
+        ],
+        Some("de"),
+        true,
+        false,
+    ),
+    ("abc", &[Right(1), Prefix("b")], Some("c"), true, false),
+    ("x", &[Right(usize::MAX)], Some(""), true, false),
+    ("ab", &[Part { pat: "", index: 3 }], Some(""), true, false),
+    ("ab", &[Part { pat: "", index: 4 }], None, false, false),
+    (
+        "ab",
+        &[Part {
+            pat: "",
+            index: usize::MAX,
+        }],
+        None,
+        false,
+        false,
+    ),
+    // Texts with sequences.
+    (
+        "\x1b[31mlionXXtiger\x1b[0m",
+        &[
+            Part { pat: "X", index: 2 },
+            Cut {
+                start: 1,
+                end: Some(3),
+            },
+            Trim,
+        ],
+        Some("\x1b[31mig\x1b[39m"),
+        false,
+        true,
+    ),
+    (
+        "a\x1b]0;t\x07b",
+        &[Left(1), Suffix("a")],
+        Some("\x1b]0;t\x07"),
+        false,
+        true,
+    ),
+    (
+        "\x1b[31m a \x1b[39m",
+        &[
+            Cut {
+                start: 0,
+                end: Some(2),
+            },
+            Trim,
+        ],
+        Some("\x1b[31ma\x1b[39m"),
+        false,
+        true,
+    ),
+    (
+        "a,\x1b[1mb",
+        &[Suffix(""), Part { pat: ",", index: 0 }],
+        Some("a"),
+        true,
+        false,
+    ),
+    // Refusals.
+    (
+        "TEXT",
+        &[Cut {
+            start: 3,
+            end: Some(1),
+        }],
+        None,
+        false,
+        false,
+    ),
+    (
+        "\x1b[31ma",
+        &[Cut {
+            start: 3,
+            end: Some(1),
+        }],
+        None,
+        false,
+        false,
+    ),
+    ("TEXT", &[Prefix("x")], None, false, false),
+    ("é", &[Left(1)], None, false, false),
+    ("😀", &[Left(1)], None, false, false),
+    (
+        "\x1b[31;40mPer Martin-Löf\x1b[0m",
+        &[Left(13)],
+        None,
+        false,
+        false,
+    ),
+    (
+        "\x1b[31mlionXXtiger\x1b[0m",
+        &[Part { pat: "X", index: 3 }],
+        None,
+        false,
+        false,
+    ),
+    (
+        "\x1b[31mab\x1b[39m",
+        &[Left(1), Prefix("x")],
+        None,
+        false,
+        true,
+    ),
+    (
+        "a,\x1b[1mb",
+        &[Suffix(""), Part { pat: ",", index: 0 }, Prefix("x")],
+        None,
+        false,
+        false,
+    ),
+    (
+        "\x1b[1ma",
+        &[Part {
+            pat: "\x1b",
+            index: 1,
+        }],
+        None,
+        false,
+        false,
+    ),
+];
+
+#[test]
+fn texts_are_edited(rt: HostRuntime) -> Result<(), Fail> {
+    for (text, edits, want, is_borrow, _) in ROWS {
+        let got = edit(rt.alloc(), text, edits)?;
+        let answer = got.as_ref().map(|edited| edited.as_str());
+        assert_eq!(rt; answer, want, "{edits:?} of {text:?}");
+        let got_borrow = matches!(&got, Some(CowStr::Borrowed(_)));
+        assert_eq!(rt; got_borrow, is_borrow, "borrow of {edits:?} of {text:?}");
+    }
+    Ok(())
+}
+
+/// Whether the edits of the row of this number answer an `Err`; where they don't, the answer has to be
+/// the row's.
+fn is_err(rt: &impl Abort, heap: &Refusing<Global>, number: usize) -> bool {
+    let Some((text, edits, want, _, _)) = ROWS.get(number) else {
+        return false;
+    };
+    match edit_in(heap, text, edits) {
+        Err(_) => true,
+        Ok(got) => {
+            let answer = got.as_ref().map(|edited| edited.as_str());
+            assert_eq!(rt; answer, *want, "{edits:?} of {text:?}");
+            false
+        }
+    }
+}
+
+// An `Err` of an earlier edit comes before the refusal of a later one.
+#[test]
+fn edits_meet_each_refusal(rt: HostRuntime) {
+    let mut number = 0usize;
+    for (_, _, _, _, takes_memory) in ROWS {
+        expect_each_refusal(
+            &rt,
+            rt.alloc(),
+            takes_memory,
+            |heap| is_err(&rt, heap, number),
+        );
+        number = number.saturating_add(1);
+    }
+}

@@ -1,0 +1,98 @@
+//! The answers of `ansi_find` for worked texts, and what is cut there.
+use crate::callers::searches::cut_match;
+use ansi_str::AnsiStr;
+use std::alloc::Global;
+use std::process::Abort;
+use std::test::Fail;
+
+/// A text, a pattern, and where that first stands.
+type Row = (&'static str, &'static str, Option<usize>);
+
+const ROWS: [Row; 20] = [
+    // Across sequences.
+    ("a\x1b[1mb\x1b[0mc", "abc", Some(0)),
+    ("a\x1b[1mb\x1b[0mc", "bc", Some(1)),
+    ("a\x1b[1mb\x1b[0mc", "cb", None),
+    ("a\x1b[1mb\x1b[0mc", "", Some(0)),
+    ("aa\x1b[1mab", "aab", Some(1)),
+    ("ab\x1b[1mab\x1b[0mabc", "ababc", Some(2)),
+    (
+        "\x1b[41;30mqwe:TEXT\x1b[39m \x1b[34mQWE\x1b[39;49m",
+        "QWE",
+        Some(9),
+    ),
+    // In one run.
+    ("\x1b[31;40mLöwe 老虎 Léopard Gepardi\x1b[0m", "L", Some(0)),
+    ("\x1b[31;40mLöwe 老虎 Léopard Gepardi\x1b[0m", "é", Some(14)),
+    (
+        "\x1b[31;40mLöwe 老虎 Léopard Gepardi\x1b[0m",
+        "pard",
+        Some(17),
+    ),
+    // Edges.
+    ("", "", Some(0)),
+    ("\x1b[1ma", "\x1b[1m", None),
+    ("\x1b[1m\x1b[0m", "", Some(0)),
+    ("", "a", None),
+    ("a\x1b[1mb", "abc", None),
+    // A match that ends with the run, or begins with the last one.
+    ("ab\x1b[1mc", "ab", Some(0)),
+    ("ab\x1b[1mc", "c", Some(2)),
+    // Past lone escapes and titles.
+    ("a\x1b\x1b[1mé\x1b]0;a\x07b", "éb", Some(1)),
+    ("a\x1b]0;ab\x07c", "ab", None),
+    ("é\x1bé", "éé", Some(0)),
+];
+
+fn expect_place(rt: &impl Abort, alloc: Global, row: Row) -> Result<(), Fail> {
+    let (text, pat, want) = row;
+    assert_eq!(rt; text.ansi_find(pat), want, "{pat:?} in {text:?}");
+    let owned = String::from_str(alloc, text)?;
+    assert_eq!(rt; owned.ansi_find(pat), want, "{pat:?} in {text:?}, owned");
+    Ok(())
+}
+
+#[test]
+fn patterns_are_found(rt: HostRuntime) -> Result<(), Fail> {
+    for row in ROWS {
+        expect_place(&rt, rt.alloc(), row)?;
+    }
+    Ok(())
+}
+
+#[test]
+fn matches_are_cut(rt: HostRuntime) -> Result<(), Fail> {
+    let cut = cut_match(rt.alloc(), &"a\x1b[1mb\x1b[0mc", "bc")?;
+    let cut = cut.as_ref().map(|cut| cut.as_str());
+    assert_eq!(rt; cut, Some("\x1b[1mb\x1b[0mc"));
+    let absent = cut_match(rt.alloc(), &"a\x1b[1mb\x1b[0mc", "cb")?;
+    assert!(rt; absent.is_none(), "an absent pattern");
+    Ok(())
+}
+
+// In texts of 100,000 sequences an ordinary search ends soon: no run is compared with all that
+// follows it.
+#[test]
+fn many_sequences_are_passed_over(rt: HostRuntime) -> Result<(), Fail> {
+    let mut runs = String::new(rt.alloc());
+    let mut apart = String::from_str(rt.alloc(), "xxa")?;
+    for _ in 0..100_000 {
+        runs.push_str("xa\x1b[1m")?;
+        apart.push_str("\x1b[1m")?;
+    }
+    runs.push_str("b")?;
+    apart.push_str("b")?;
+    assert_eq!(rt;
+        runs.ansi_find("ab"),
+        Some(199_999),
+        "the last of many runs"
+    );
+    assert_eq!(rt; runs.ansi_find("ac"), None, "none of many runs");
+    assert_eq!(rt;
+        apart.ansi_find("xab"),
+        Some(1),
+        "both sides of many sequences"
+    );
+    assert_eq!(rt; apart.ansi_find("bx"), None, "behind many sequences");
+    Ok(())
+}

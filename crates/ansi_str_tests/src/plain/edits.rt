@@ -1,0 +1,112 @@
+//! Lists of edits, by std on the plain text, compared with the library's.
+use super::{items, plain, text_at};
+use ansi_str::Edit::{self, Cut, Left, Part, Prefix, Right, Suffix, Trim};
+use ansi_str::{AnsiStr, ansi_is_whole, edit};
+use std::alloc::Global;
+use std::process::Abort;
+use std::test::Fail;
+
+/// The plain text between two positions, of which one past the end counts as the end.
+fn between(plain: &str, start: usize, end: usize) -> Option<&str> {
+    if end < start {
+        return None;
+    }
+    plain.get(start.min(plain.len())..end.min(plain.len()))
+}
+
+/// What is left of a plain text by an edit, or `None` where that is refused.
+fn edited<'t>(plain: &'t str, edit: &Edit<'_>) -> Option<&'t str> {
+    match edit {
+        Cut { start, end } => between(plain, *start, end.unwrap_or(usize::MAX)),
+        Left(mid) => between(plain, 0, *mid),
+        Right(mid) => between(plain, *mid, usize::MAX),
+        Part { pat, index } => plain.split(*pat).nth(*index),
+        Prefix(prefix) => plain.strip_prefix(*prefix),
+        Suffix(suffix) => plain.strip_suffix(*suffix),
+        Trim => Some(plain.trim()),
+    }
+}
+
+const PIECES: [&str; 8] = [
+    "\x1b[1m",
+    "\x1b[0;31m",
+    "\x1b]0;t\x07",
+    "a",
+    "ba",
+    " ",
+    "é",
+    "\x1b[m",
+];
+
+const EDITS: [Edit<'static>; 13] = [
+    Cut {
+        start: 1,
+        end: Some(3),
+    },
+    Cut {
+        start: 0,
+        end: None,
+    },
+    Cut {
+        start: 2,
+        end: Some(1),
+    },
+    Left(1),
+    Right(2),
+    Part { pat: "a", index: 1 },
+    Part { pat: "", index: 2 },
+    Part { pat: " ", index: 0 },
+    Prefix("a"),
+    Prefix(""),
+    Suffix("ba"),
+    Suffix("é"),
+    Trim,
+];
+
+/// Compares the plain text of what two edits in turn make of a whole text.
+fn expect_edited(
+    rt: &impl Abort,
+    alloc: Global,
+    text: &str,
+    plain: &str,
+    edits: &[Edit<'_>],
+) -> Result<(), Fail> {
+    let mut want = Some(plain);
+    for one in edits {
+        want = match want {
+            Some(plain) => edited(plain, one),
+            None => None,
+        };
+    }
+    match (edit(alloc, text, edits)?, want) {
+        (Some(got), Some(want)) => {
+            let got = got.as_str();
+            let stripped = got.ansi_strip(alloc)?;
+            assert_eq!(rt; stripped.as_str(), want, "{edits:?} of {text:?}");
+            assert!(rt; ansi_is_whole(got), "{edits:?} of {text:?} is whole");
+        }
+        (got, want) => {
+            assert_eq!(rt; got.is_some(), want.is_some(), "{edits:?} of {text:?}");
+        }
+    }
+    Ok(())
+}
+
+#[test]
+fn whole_texts_are_edited_as_their_plain_texts(rt: HostRuntime) -> Result<(), Fail> {
+    let alloc = rt.alloc();
+    for (len, count) in [(0, 1), (1, 8), (2, 64), (3, 512), (4, 4_096)] {
+        for number in 0..count {
+            let text = text_at(alloc, &PIECES, number, len)?;
+            let items = items(alloc, text.as_str())?;
+            let plain = plain(alloc, text.as_str(), items.as_slice())?;
+            for first in EDITS {
+                for second in EDITS {
+                    let edits = [first, second];
+                    expect_edited(&rt, alloc, text.as_str(), plain.as_str(), &edits)?;
+                }
+            }
+        }
+    }
+    Ok(())
+}

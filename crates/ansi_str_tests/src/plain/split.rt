@@ -1,0 +1,206 @@
+//! Parts, item by item of a text, compared with those of the library.
+use super::style::NamedStyle;
+use super::{items, plain, spelling, text_at};
+use ansi_str::AnsiStr;
+use ansi_str::ansitok::{Item, Kind};
+use std::alloc::{AllocError, Global};
+use std::borrow::CowStr;
+use std::process::Abort;
+use std::test::Fail;
+
+/// The parts of a plain text, by the ends of each.
+fn intervals(alloc: Global, plain: &str, pat: &str) -> Result<Vec<(usize, usize)>, AllocError> {
+    let mut intervals = Vec::new(alloc);
+    let mut start = 0usize;
+    for part in plain.split(pat) {
+        let end = start.saturating_add(part.len());
+        intervals.push((start, end))?;
+        start = end.saturating_add(pat.len());
+    }
+    Ok(intervals)
+}
+
+/// A part while it is made.
+#[derive(Drop)]
+struct Draft {
+    /// The style before it, and the style at its end.
+    carried: NamedStyle,
+    last: NamedStyle,
+    content: String,
+    has_sequence: bool,
+}
+
+impl Draft {
+    fn new(alloc: Global) -> Self {
+        Draft {
+            carried: NamedStyle::new(alloc),
+            last: NamedStyle::new(alloc),
+            content: String::new(alloc),
+            has_sequence: false,
+        }
+    }
+
+    /// Takes in a sequence that stands at or before the end of the part.
+    fn take_sequence(
+        &mut self,
+        alloc: Global,
+        sequence: &str,
+        kind: Kind,
+        is_own: bool,
+    ) -> Result<(), AllocError> {
+        if is_own {
+            self.content.push_str(sequence)?;
+            self.has_sequence = true;
+        }
+        if kind == Kind::Sgr {
+            let parameters = sequence.trim_start_matches("\x1b[").trim_end_matches("m");
+            self.last.apply(alloc, parameters)?;
+            if !is_own {
+                self.carried.apply(alloc, parameters)?;
+            }
+        }
+        Ok(())
+    }
+
+    /// The bytes of the part, and whether it is a borrow.
+    fn finish(&self, alloc: Global) -> Result<(String, bool), AllocError> {
+        let is_empty = self.content.is_empty();
+        let is_borrow = !self.has_sequence && (is_empty || !self.carried.has_any());
+        let mut bytes = String::new(alloc);
+        if is_empty {
+            return Ok((bytes, is_borrow));
+        }
+        bytes.push_str(self.carried.start(alloc, &STARTS)?.as_str())?;
+        bytes.push_str(self.content.as_str())?;
+        if self.last.has_any() {
+            bytes.push_str(self.last.close(alloc)?.as_str())?;
+        }
+        Ok((bytes, is_borrow))
+    }
+}
+
+/// The part between two ends of the plain text, behind one that ends at `before`.
+fn part(
+    alloc: Global,
+    text: &str,
+    items: &[Item],
+    before: Option<usize>,
+    (start, end): (usize, usize),
+) -> Result<(String, bool), AllocError> {
+    let mut part = Draft::new(alloc);
+    let mut place = 0usize;
+    for item in items {
+        let spelled = spelling(text, item);
+        if item.kind == Kind::Text {
+            let from = start.saturating_sub(place).min(spelled.len());
+            let to = end.saturating_sub(place).min(spelled.len());
+            part.content.push_str(spelled.get(from..to).unwrap_or(""))?;
+            place = place.saturating_add(spelled.len());
+        } else if place <= end {
+            let is_own = before.is_none_or(|before| before < place);
+            part.take_sequence(alloc, spelled, item.kind, is_own)?;
+        }
+    }
+    part.finish(alloc)
+}
+
+/// Compares the parts of a text by a pattern.
+fn expect_parts<'t>(
+    rt: &impl Abort,
+    alloc: Global,
+    text: &'t str,
+    items: &[Item],
+    plain: &str,
+    pat: &'t str,
+) -> Result<(), Fail> {
+    let mut parts = text.ansi_split(alloc, pat);
+    let mut before = None;
+    for interval in intervals(alloc, plain, pat)? {
+        let (want, is_borrow) = part(alloc, text, items, before, interval)?;
+        let got = match parts.next() {
+            Some(got) => got?,
+            None => CowStr::Borrowed("no such part"),
+        };
+        assert_eq!(rt;
+            got.as_str(),
+            want.as_str(),
+            "{interval:?} of {text:?} by {pat:?}"
+        );
+        let got_borrow = matches!(&got, CowStr::Borrowed(_));
+        assert_eq!(rt;
+            got_borrow,
+            is_borrow,
+            "borrow of {interval:?} of {text:?} by {pat:?}"
+        );
+        before = Some(interval.1);
+    }
+    assert!(rt;
+        parts.next().is_none(),
+        "a part too many of {text:?} by {pat:?}"
+    );
+    Ok(())
+}
+
+/// The pieces that the texts are made of.
+const PIECES: [&str; 13] = [
+    "\x1b[1m",
+    "\x1b[22m",
+    "\x1b[31m",
+    "\x1b[12m",
+    "\x1b[0m",
+    "\x1b[99m",
+    "\x1b]0;a\x07",
+    "\x1b",
+    "a",
+    "b",
+    "ab",
+    "é",
+    "[",
+];
+
+/// The codes of the pieces that set what a start writes, in its order.
+const STARTS: [(&str, &str); 3] = [("bold", "1"), ("font", "12"), ("foreground", "31")];
+
+const PATTERNS: [&str; 9] = ["", "a", "b", "ab", "aa", "aba", "é", "m", "\x1b"];
+
+/// Compares the parts of each text of so many pieces.
+fn expect_parts_of_pieces(
+    rt: &impl Abort,
+    alloc: Global,
+    len: usize,
+    count: usize,
+) -> Result<(), Fail> {
+    for number in 0..count {
+        let text = text_at(alloc, &PIECES, number, len)?;
+        let items = items(alloc, text.as_str())?;
+        let plain = plain(alloc, text.as_str(), items.as_slice())?;
+        for pat in PATTERNS {
+            expect_parts(
+                rt,
+                alloc,
+                text.as_str(),
+                items.as_slice(),
+                plain.as_str(),
+                pat,
+            )?;
+        }
+    }
+    Ok(())
+}
+
+#[test]
+fn short_texts_are_split_as_defined(rt: HostRuntime) -> Result<(), Fail> {
+    for (len, count) in [(0, 1), (1, 13), (2, 169)] {
+        expect_parts_of_pieces(&rt, rt.alloc(), len, count)?;
+    }
+    Ok(())
+}
+
+// More than the minute that `rt try` grants.
+#[test]
+fn longer_texts_are_split_as_defined(rt: HostRuntime) -> Result<(), Fail> {
+    for (len, count) in [(3, 2_197), (4, 28_561)] {
+        expect_parts_of_pieces(&rt, rt.alloc(), len, count)?;
+    }
+    Ok(())
+}

@@ -1,0 +1,139 @@
+//! Worked texts without a prefix, and without a suffix.
+use ansi_str::AnsiStr;
+use std::alloc::Global;
+use std::borrow::CowStr;
+use std::process::Abort;
+use std::test::Fail;
+
+/// A text, a prefix or a suffix, the answer, and whether that is a borrow.
+type Row = (&'static str, &'static str, Option<&'static str>, bool);
+
+const PREFIXES: [Row; 14] = [
+    // Texts without ESC.
+    ("TEXT", "TE", Some("XT"), true),
+    ("TEXT", "", Some("TEXT"), true),
+    ("TEXT", "X", None, false),
+    ("", "", Some(""), true),
+    // Texts with sequences.
+    (
+        "ab\x1b[31mcd\x1b[39m",
+        "abc",
+        Some("\x1b[31md\x1b[39m"),
+        false,
+    ),
+    (
+        "ab\x1b[31mcd\x1b[39m",
+        "abcd",
+        Some("\x1b[31m\x1b[39m"),
+        false,
+    ),
+    (
+        "\x1b[31mfoo:bar\x1b[0m",
+        "foo",
+        Some("\x1b[31m:bar\x1b[0m"),
+        false,
+    ),
+    (
+        "\x1b[41m\x1b[30mqwe:TEXT\x1b[39m \x1b[34mQWE\x1b[39m\x1b[49m",
+        "qwe:TEXT QW",
+        Some("\x1b[41m\x1b[30m\x1b[39m\x1b[34mE\x1b[39m\x1b[49m"),
+        false,
+    ),
+    ("\x1b[1mx", "", Some("\x1b[1mx"), true),
+    ("\x1b[30mTEXT\x1b[39m", "TEXT+", None, false),
+    ("ab\x1b[31mcd\x1b[39m", "abd", None, false),
+    ("\x1b[31mfoo:bar\x1b[0m", "bar", None, false),
+    ("\x1b[1ma", "\x1b", None, false),
+    ("\x1b[1ma", "\x1b[1ma", None, false),
+];
+
+const SUFFIXES: [Row; 12] = [
+    // Texts without ESC.
+    ("TEXT", "XT", Some("TE"), true),
+    ("TEXT", "", Some("TEXT"), true),
+    ("TEXT", "E", None, false),
+    ("", "", Some(""), true),
+    // Texts with sequences.
+    (
+        "ab\x1b[31mcd\x1b[39mef",
+        "bcdef",
+        Some("a\x1b[31m\x1b[39m"),
+        false,
+    ),
+    ("a\x1b[1mb\x1b[0mab", "bab", Some("a\x1b[1m\x1b[0m"), false),
+    (
+        "\x1b[31mfoo:bar\x1b[0m",
+        "bar",
+        Some("\x1b[31mfoo:\x1b[0m"),
+        false,
+    ),
+    (
+        "\x1b[41;30mqwe:TEXT\x1b[39m \x1b[34m123\x1b[39;49m",
+        "T 123",
+        Some("\x1b[41;30mqwe:TEX\x1b[39m\x1b[34m\x1b[39;49m"),
+        false,
+    ),
+    ("\x1b[1mx", "", Some("\x1b[1mx"), true),
+    ("\x1b[31mfoo:bar\x1b[0m", "foo", None, false),
+    (
+        "\x1b[31mfoo:bar\x1b[0m",
+        "\x1b[31mfoo:bar\x1b[0m",
+        None,
+        false,
+    ),
+    ("\x1b[30mTEXT\x1b[39m", "+TEXT", None, false),
+];
+
+fn expect_answer(rt: &impl Abort, got: Option<CowStr<'_>>, row: Row) {
+    let (text, pat, want, is_borrow) = row;
+    let answer = got.as_ref().map(|kept| kept.as_str());
+    assert_eq!(rt; answer, want, "{text:?} without {pat:?}");
+    let got_borrow = matches!(&got, Some(CowStr::Borrowed(_)));
+    assert_eq!(rt; got_borrow, is_borrow, "borrow of {text:?} without {pat:?}");
+}
+
+fn expect_prefix<T: AnsiStr>(
+    rt: &impl Abort,
+    alloc: Global,
+    text: &T,
+    row: Row,
+) -> Result<(), Fail> {
+    let (_, prefix, ..) = row;
+    expect_answer(rt, text.ansi_strip_prefix(alloc, prefix)?, row);
+    Ok(())
+}
+
+fn expect_suffix<T: AnsiStr>(
+    rt: &impl Abort,
+    alloc: Global,
+    text: &T,
+    row: Row,
+) -> Result<(), Fail> {
+    let (_, suffix, ..) = row;
+    expect_answer(rt, text.ansi_strip_suffix(alloc, suffix)?, row);
+    Ok(())
+}
+
+#[test]
+fn prefixes_are_taken_off(rt: HostRuntime) -> Result<(), Fail> {
+    for row in PREFIXES {
+        let (text, ..) = row;
+        expect_prefix(&rt, rt.alloc(), &text, row)?;
+        let owned = String::from_str(rt.alloc(), text)?;
+        expect_prefix(&rt, rt.alloc(), &owned, row)?;
+        assert_eq!(rt; owned.as_str(), text, "the caller's text");
+    }
+    Ok(())
+}
+
+#[test]
+fn suffixes_are_taken_off(rt: HostRuntime) -> Result<(), Fail> {
+    for row in SUFFIXES {
+        let (text, ..) = row;
+        expect_suffix(&rt, rt.alloc(), &text, row)?;
+        let owned = String::from_str(rt.alloc(), text)?;
+        expect_suffix(&rt, rt.alloc(), &owned, row)?;
+        assert_eq!(rt; owned.as_str(), text, "the caller's text");
+    }
+    Ok(())
+}

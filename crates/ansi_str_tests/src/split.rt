@@ -1,0 +1,354 @@
+//! The parts of worked texts.
+use crate::Refusing;
+use crate::memory::expect_each_refusal;
+use ansi_str::AnsiStr;
+use ansi_str::split::{AnsiSplit, part_in, split_in};
+use std::alloc::{Allocator, Global};
+use std::borrow::CowStr;
+use std::process::Abort;
+use std::test::Fail;
+
+/// A text, a pattern, and its parts with whether each is a borrow.
+type Row = (&'static str, &'static str, &'static [(&'static str, bool)]);
+
+const ROWS: [Row; 21] = [
+    // Texts without ESC.
+    ("", "X", &[("", true)]),
+    ("", "", &[("", true), ("", true)]),
+    (
+        "213",
+        "",
+        &[
+            ("", true),
+            ("2", true),
+            ("1", true),
+            ("3", true),
+            ("", true),
+        ],
+    ),
+    (
+        ":123:456:",
+        ":",
+        &[("", true), ("123", true), ("456", true), ("", true)],
+    ),
+    // One color is carried.
+    (
+        "\x1b[30m123:456\x1b[39m",
+        "456",
+        &[("\x1b[30m123:\x1b[39m", false), ("\x1b[30m\x1b[39m", false)],
+    ),
+    (
+        "\x1b[31m21\x1b[39m",
+        "",
+        &[
+            ("\x1b[31m\x1b[39m", false),
+            ("\x1b[31m2\x1b[39m", false),
+            ("\x1b[31m1\x1b[39m", false),
+            ("", true),
+        ],
+    ),
+    (
+        "\x1b[31mlionXXtigerXleopard\x1b[0m",
+        "X",
+        &[
+            ("\x1b[31mlion\x1b[39m", false),
+            ("", true),
+            ("\x1b[31mtiger\x1b[39m", false),
+            ("\x1b[31mleopard\x1b[0m", false),
+        ],
+    ),
+    (
+        "\x1b[31mam\x1b[39m",
+        "m",
+        &[("\x1b[31ma\x1b[39m", false), ("\x1b[31m\x1b[39m", false)],
+    ),
+    ("\x1b[31ma", "\x1b[31m", &[("\x1b[31ma\x1b[39m", false)]),
+    (
+        "\x1b[31mMary had a\x1b[0m",
+        " ",
+        &[
+            ("\x1b[31mMary\x1b[39m", false),
+            ("\x1b[31mhad\x1b[39m", false),
+            ("\x1b[31ma\x1b[0m", false),
+        ],
+    ),
+    (
+        "\x1b[31mlion::tiger\x1b[0m",
+        "::",
+        &[
+            ("\x1b[31mlion\x1b[39m", false),
+            ("\x1b[31mtiger\x1b[0m", false),
+        ],
+    ),
+    (
+        "a:\x1b[31m:b",
+        "::",
+        &[("a", true), ("\x1b[31mb\x1b[39m", false)],
+    ),
+    // Several attributes are carried.
+    (
+        "\x1b[12ma,b",
+        ",",
+        &[("\x1b[12ma\x1b[10m", false), ("\x1b[12mb\x1b[10m", false)],
+    ),
+    (
+        "\x1b[41;30mqwe:TEXT\x1b[39m \x1b[34mQWE\x1b[39;49m",
+        ":",
+        &[
+            ("\x1b[41;30mqwe\x1b[39m\x1b[49m", false),
+            ("\x1b[30m\x1b[41mTEXT\x1b[39m \x1b[34mQWE\x1b[39;49m", false),
+        ],
+    ),
+    (
+        "\x1b[2;48;5;10m\x1b[38;5;20mDar\nren\x1b[0m",
+        "\n",
+        &[
+            (
+                "\x1b[2;48;5;10m\x1b[38;5;20mDar\x1b[22m\x1b[39m\x1b[49m",
+                false,
+            ),
+            ("\x1b[2m\x1b[38;5;20m\x1b[48;5;10mren\x1b[0m", false),
+        ],
+    ),
+    (
+        "\x1b[37mCreate bytes from the \x1b[0m\x1b[7;34marg\x1b[0m\x1b[37muments.\x1b[0m",
+        "g",
+        &[
+            (
+                "\x1b[37mCreate bytes from the \x1b[0m\x1b[7;34mar\x1b[27m\x1b[39m",
+                false,
+            ),
+            ("\x1b[7m\x1b[34m\x1b[0m\x1b[37muments.\x1b[0m", false),
+        ],
+    ),
+    // The longest start and the longest close, of 163 and of 88 bytes.
+    (
+        "\x1b[0;99;1;2;3;4;5;6;7;8;9;19;20;21;26;38;2;255;255;255;48;2;255;255;255;58;2;255;255;255;51;52;53;60;61;62;63;64;73;74ma,b",
+        ",",
+        &[
+            (
+                "\x1b[0;99;1;2;3;4;5;6;7;8;9;19;20;21;26;38;2;255;255;255;48;2;255;255;255;58;2;255;255;255;51;52;53;60;61;62;63;64;73;74ma\x1b[0m\x1b[10m\x1b[22m\x1b[23m\x1b[24m\x1b[25m\x1b[27m\x1b[28m\x1b[29m\x1b[39m\x1b[49m\x1b[50m\x1b[54m\x1b[55m\x1b[65m\x1b[59m\x1b[75m\x1b[0m",
+                false,
+            ),
+            (
+                "\x1b[1m\x1b[2m\x1b[3m\x1b[4m\x1b[5m\x1b[6m\x1b[7m\x1b[8m\x1b[9m\x1b[19m\x1b[20m\x1b[21m\x1b[26m\x1b[38;2;255;255;255m\x1b[48;2;255;255;255m\x1b[58;2;255;255;255m\x1b[51m\x1b[52m\x1b[53m\x1b[60m\x1b[61m\x1b[62m\x1b[63m\x1b[64m\x1b[73m\x1b[74mb\x1b[0m\x1b[10m\x1b[22m\x1b[23m\x1b[24m\x1b[25m\x1b[27m\x1b[28m\x1b[29m\x1b[39m\x1b[49m\x1b[50m\x1b[54m\x1b[55m\x1b[65m\x1b[59m\x1b[75m\x1b[0m",
+                false,
+            ),
+        ],
+    ),
+    // The attributes `reset` and `unknown`.
+    ("\x1b[99ma,b", ",", &[("\x1b[99ma", false), ("b", true)]),
+    (
+        "\x1b[1ma\x1b[mb,c",
+        ",",
+        &[
+            ("\x1b[1ma\x1b[mb\x1b[22m\x1b[0m", false),
+            ("\x1b[1mc\x1b[22m\x1b[0m", false),
+        ],
+    ),
+    // Other sequences, and an SGR with a private parameter byte.
+    (
+        "a\x1b]0;t\x07,b",
+        ",",
+        &[("a\x1b]0;t\x07", false), ("b", true)],
+    ),
+    (
+        "\x1b[>4;2ma,b",
+        ",",
+        &[
+            ("\x1b[>4;2ma\x1b[22m\x1b[0m", false),
+            ("\x1b[2mb\x1b[22m\x1b[0m", false),
+        ],
+    ),
+];
+
+fn expect_part<A: Allocator>(rt: &impl Abort, got: &CowStr<'_, A>, want: &(&str, bool), row: &Row) {
+    let (text, pat, _) = row;
+    let (part, is_borrow) = want;
+    assert_eq!(rt; got.as_str(), *part, "part of {text:?} by {pat:?}");
+    let got_borrow = matches!(got, CowStr::Borrowed(_));
+    assert_eq!(rt;
+        got_borrow,
+        *is_borrow,
+        "borrow of a part of {text:?} by {pat:?}"
+    );
+}
+
+/// The iterator has nothing left, and stays so.
+fn expect_ended<A: Allocator + Copy>(rt: &impl Abort, parts: &mut AnsiSplit<'_, A>) {
+    for _ in 0..3 {
+        assert!(rt; parts.next().is_none(), "None for good");
+    }
+}
+
+fn expect_split<T: AnsiStr>(
+    rt: &impl Abort,
+    alloc: Global,
+    text: &T,
+    row: &Row,
+) -> Result<(), Fail> {
+    let (name, pat, want) = row;
+    let mut parts = text.ansi_split(alloc, pat);
+    for part in *want {
+        match parts.next() {
+            Some(got) => expect_part(rt, &got?, part, row),
+            None => assert!(rt; false, "too few parts of {name:?} by {pat:?}"),
+        }
+    }
+    expect_ended(rt, &mut parts);
+    Ok(())
+}
+
+#[test]
+fn parts_are_given(rt: HostRuntime) -> Result<(), Fail> {
+    for row in &ROWS {
+        let (text, ..) = row;
+        expect_split(&rt, rt.alloc(), text, row)?;
+        let owned = String::from_str(rt.alloc(), text)?;
+        expect_split(&rt, rt.alloc(), &owned, row)?;
+        assert_eq!(rt; owned.as_str(), *text, "the caller's text");
+    }
+    Ok(())
+}
+
+#[test]
+fn parts_are_given_by_index(rt: HostRuntime) -> Result<(), Fail> {
+    for row in &ROWS {
+        let (text, pat, want) = row;
+        for (index, part) in want.iter().enumerate() {
+            match part_in(rt.alloc(), text, pat, index)? {
+                Some(got) => expect_part(&rt, &got, part, row),
+                None => assert!(rt; false, "part {index} of {text:?} by {pat:?}"),
+            }
+        }
+        for index in [want.len(), usize::MAX] {
+            let got = part_in(rt.alloc(), text, pat, index)?;
+            assert!(rt; got.is_none(), "part {index} of {text:?} by {pat:?}");
+        }
+    }
+    Ok(())
+}
+
+#[test]
+fn escapes_alone_are_one_part(rt: HostRuntime) -> Result<(), Fail> {
+    let mut text = String::new(rt.alloc());
+    for _ in 0..1_000 {
+        text.push('\x1b')?;
+    }
+    let mut parts = text.ansi_split(rt.alloc(), "a");
+    match parts.next() {
+        Some(got) => assert!(rt; got?.as_str() == text.as_str(), "1,000 escapes"),
+        None => assert!(rt; false, "no part of 1,000 escapes"),
+    }
+    expect_ended(&rt, &mut parts);
+    Ok(())
+}
+
+#[test]
+fn many_parts_are_given(rt: HostRuntime) -> Result<(), Fail> {
+    let mut text = String::from_str(rt.alloc(), "\x1b[1m")?;
+    for _ in 0..10_000 {
+        text.push_str("a\x1b[4m,")?;
+    }
+    let mut count = 0usize;
+    for part in text.ansi_split(rt.alloc(), ",") {
+        let part = part?;
+        let want = match count {
+            0 => "\x1b[1ma\x1b[4m\x1b[22m\x1b[24m",
+            10_000 => "",
+            _ => "\x1b[1m\x1b[4ma\x1b[4m\x1b[22m\x1b[24m",
+        };
+        assert_eq!(rt; part.as_str(), want, "part {count}");
+        count = count.saturating_add(1);
+    }
+    assert_eq!(rt; count, 10_001, "parts");
+    Ok(())
+}
+
+#[test]
+fn a_long_run_is_split(rt: HostRuntime) -> Result<(), Fail> {
+    let mut text = String::new(rt.alloc());
+    for _ in 0..50_000 {
+        text.push_str("a,")?;
+    }
+    for (pat, want) in [(",", 50_001usize), ("", 100_002), ("b", 1)] {
+        let mut count = 0usize;
+        for part in text.ansi_split(rt.alloc(), pat) {
+            assert!(rt;
+                matches!(&part?, CowStr::Borrowed(_)),
+                "part {count} by {pat:?}"
+            );
+            count = count.saturating_add(1);
+        }
+        assert_eq!(rt; count, want, "parts by {pat:?}");
+    }
+    Ok(())
+}
+
+/// Whether the split of a row answers an `Err`, behind which there is nothing. The parts before have
+/// to be the row's.
+fn split_is_err(rt: &impl Abort, heap: &Refusing<Global>, text: &str, number: usize) -> bool {
+    let Some(row) = ROWS.get(number) else {
+        return false;
+    };
+    let (_, pat, want) = row;
+    let mut parts = split_in(heap, text, pat);
+    for part in *want {
+        match parts.next() {
+            Some(Ok(got)) => expect_part(rt, &got, part, row),
+            Some(Err(_)) => {
+                expect_ended(rt, &mut parts);
+                return true;
+            }
+            None => assert!(rt; false, "too few parts of {text:?} by {pat:?}"),
+        }
+    }
+    expect_ended(rt, &mut parts);
+    false
+}
+
+#[test]
+fn split_meets_each_refusal(rt: HostRuntime) -> Result<(), Fail> {
+    for (number, (text, _, want)) in ROWS.iter().enumerate() {
+        let takes_memory = want.iter().any(|(_, is_borrow)| !is_borrow);
+        let owned = String::from_str(rt.alloc(), text)?;
+        expect_each_refusal(&rt, rt.alloc(), takes_memory, |heap| {
+            split_is_err(&rt, heap, owned.as_str(), number)
+        });
+        assert_eq!(rt; owned.as_str(), *text, "the caller's text");
+    }
+    Ok(())
+}
+
+/// Whether the part of an index of a row is an `Err`; where it isn't, it has to be the row's.
+fn part_is_err(rt: &impl Abort, heap: &Refusing<Global>, number: usize, index: usize) -> bool {
+    let Some(row) = ROWS.get(number) else {
+        return false;
+    };
+    let (text, pat, want) = row;
+    match (part_in(heap, text, pat, index), want.get(index)) {
+        (Err(_), _) => true,
+        (Ok(Some(got)), Some(part)) => {
+            expect_part(rt, &got, part, row);
+            false
+        }
+        (Ok(got), part) => {
+            let are_none = got.is_none() && part.is_none();
+            assert!(rt; are_none, "part {index} of {text:?} by {pat:?}");
+            false
+        }
+    }
+}
+
+#[test]
+fn part_meets_each_refusal(rt: HostRuntime) -> Result<(), Fail> {
+    for (number, (_, _, want)) in ROWS.iter().enumerate() {
+        for index in 0..=want.len() {
+            let takes_memory = want.get(index).is_some_and(|(_, is_borrow)| !is_borrow);
+            expect_each_refusal(&rt, rt.alloc(), takes_memory, |heap| {
+                part_is_err(&rt, heap, number, index)
+            });
+        }
+    }
+    Ok(())
+}
