@@ -149,17 +149,7 @@ part_that_ends_in_bold_leaves_nothing_open = refl
 slice_past_the_last_part : slice_of (PartOf (codes ",") 4) (styled list_in_two_styles) ≡ None
 slice_past_the_last_part = refl
 
--- where nothing is set that a reader could see, a part is neither started nor closed
-
-parts_behind_an_unknown_code : all_parts (codes "\u{1b}[99ma,b") (codes ",") ≡ codes "\u{1b}[99ma" ∷ codes "b" ∷ []
-unfolding part_over
-parts_behind_an_unknown_code = refl
-
--- a title at the end of a part is the part's, and one within a match belongs to the part behind
-
-title_at_the_end_of_a_part : all_parts (codes "a\u{1b}]0;t\u{7},b") (codes ",") ≡ codes "a\u{1b}]0;t\u{7}" ∷ codes "b" ∷ []
-unfolding part_over
-title_at_the_end_of_a_part = refl
+-- a title within a match belongs to the part behind
 
 title_within_a_match : all_parts (codes "a:\u{1b}]0;t\u{7}:b") (codes "::") ≡ codes "a" ∷ codes "\u{1b}]0;t\u{7}b" ∷ []
 unfolding part_over

@@ -1,5 +1,5 @@
 -- Worked examples of the two sides of a text, and of whole texts, each by computation.
-use Rattle.std.proofs.Common.{◌≡◌, refl, codes, [], List, ℕ, true, false}
+use Rattle.std.proofs.Common.{◌≡◌, refl, codes, [], List, ℕ, false}
 use Rattle.std.specs.Prelude.{encode_utf8_all}
 use Rattle.std.specs.Char.{encode_utf8}
 use Prim.Native.String.{String}
@@ -132,15 +132,6 @@ unfolding digits encode_utf8 right_side
 right_at_a_lone_escape = refl
 
 -- Whole texts.
-
-escape_sequences_are_whole : is_whole (codes "\u{1b}(Ba\u{1b}7b") ≡ true
-escape_sequences_are_whole = refl
-
-a_title_broken_by_a_color_is_not_whole : is_whole (codes "\u{1b}]0;title\u{1b}[31mx") ≡ false
-a_title_broken_by_a_color_is_not_whole = refl
-
-an_escape_before_a_sequence_is_not_whole : is_whole (codes "\u{1b}\u{1b}[1mx") ≡ false
-an_escape_before_a_sequence_is_not_whole = refl
 
 an_escape_before_a_wide_character_is_not_whole : is_whole (utf8 "\u{1b}é[m") ≡ false
 unfolding encode_utf8
