@@ -21,7 +21,7 @@ lines-empty = refl
 pub lines-two : lines (codes "ab\nc") ≡ record { text = codes "ab"; ended = true } ∷ record { text = codes "c"; ended = false } ∷ []
 lines-two = refl
 
--- a last line feed has no line behind it
+-- a last line feed has no line after it
 pub lines-ended : lines (codes "a\n\n") ≡ record { text = codes "a"; ended = true } ∷ record { text = []; ended = true } ∷ []
 lines-ended = refl
 
@@ -96,7 +96,7 @@ pub cell-cut : output_of (codes "cut:0:8" ∷ []) (codes "\u{1b}[32mready for wo
 unfolding answers work_asked changes_asked cut
 cell-cut = refl
 
--- what a line of a log says behind its kind, in the color that it had there
+-- what a line of a log says after its kind, in the color that it had there
 pub log-part : output_of (codes "prefix:error" ∷ codes "part:1:: " ∷ []) (codes "\u{1b}[31merror: disk full\u{1b}[39m\n") ≡ codes "\u{1b}[31mdisk full\u{1b}[39m\n"
 unfolding answers work_asked changes_asked kept part_over digits
 log-part = refl

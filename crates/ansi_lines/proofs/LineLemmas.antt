@@ -7,7 +7,7 @@ use Rattle.std.proofs.lemmas.List.Sums.{fails_before_first, take_while-cons}
 use Rattle.ansi_lines.specs.Lines.{Line, line_feed, is_line_feed, lines, lines_of_pieces, answer_of, answer_to, answers, is_refused, first_refused, WritesAnswer}
 use Rattle.ansi_lines.specs.Words.{Work}
 
--- a piece with a piece behind it is ended
+-- a piece with a piece after it is ended
 lines_of_pieces-cons : (piece : List ℕ) (pieces : List (List ℕ)) → 0 < length pieces → lines_of_pieces (piece ∷ pieces) ≡ record { text = piece; ended = true } ∷ lines_of_pieces pieces
 lines_of_pieces-cons piece [] some = absurd (omega arith)
 lines_of_pieces-cons piece (next ∷ more) some = refl

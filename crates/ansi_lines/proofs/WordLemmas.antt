@@ -40,7 +40,7 @@ pub changes_asked-none : (word : List ℕ) (more : List (List ℕ)) → None ≡
 unfolding changes_asked
 changes_asked-none word more none = rw (← none) refl
 
--- a word that asks for a change, and the words behind it
+-- a word that asks for a change, and the words after it
 pub changes_asked-some : (word : List ℕ) (more : List (List ℕ)) (change : Change) → Some change ≡ change_asked word
     → changes_asked (word ∷ more) ≡ option_map (λ changes. change ∷ changes) (changes_asked more)
 unfolding changes_asked
@@ -49,7 +49,7 @@ changes_asked-some word more change some = rw (← some) (elim (cases_Bool (list
   | inr isnt ↦ rw isnt refl
 ])
 
--- the bytes of the word of this index, and the words behind it
+-- the bytes of the word of this index, and the words after it
 pub words_of-next : {Y : Type 0} (words : List (String Y)) (k : ℕ) (word : String Y) (bytes : List ℕ)
     → k < length words → word ≡ slice_index_or words k word → bytes ≡ string_bytes word → words_of (drop k words) ≡ bytes ∷ words_of (drop (k + 1) words)
 words_of-next words k word bytes below is value =

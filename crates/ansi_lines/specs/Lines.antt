@@ -21,7 +21,7 @@ pub record Line : Type 0 where
   pub text : List ℕ
   pub ended : Bool
 
--- what stands behind the last line feed is a line, if it isn't empty
+-- what stands after the last line feed is a line, if it isn't empty
 abbrev pub last_line : List ℕ → List Line
 last_line [] = []
 last_line (byte ∷ text) = record { text = byte ∷ text; ended = false } ∷ []

@@ -27,7 +27,7 @@ fresh_page bytes room = record {
 abbrev pub bytes_left : PageState → List ℕ
 bytes_left page = drop page.read page.bytes
 
--- the first of these outcomes is the next call's, and behind the last one every call works
+-- the first of these outcomes is the next call's, and after the last one every call works
 abbrev pub first_outcome : List Outcome → Outcome
 first_outcome [] = Works
 first_outcome (outcome ∷ more) = outcome
@@ -65,7 +65,7 @@ page_after_read page result = record page {
   failed = page.failed || was_failed result;
 }
 
--- a write that is done puts its bytes behind the page's
+-- a write that is done puts its bytes after the page's
 abbrev pub page_after_write : PageState → List ℕ → Result (Unit {0}) WriteFault → PageState
 page_after_write page more result = record page {
   bytes = if is_ok result then page.bytes ++ more else page.bytes;

@@ -15,7 +15,7 @@ pub data Work : Type 0 where
 abbrev pub is_colon : ℕ → Bool
 is_colon b = b == byte ":"
 
--- what stands before and behind the first colon, if there is one
+-- what stands before and after the first colon, if there is one
 abbrev pub at_colon : List ℕ → Option (List ℕ × List ℕ)
 at_colon text = option_map (λ i. (take i text, drop (i + 1) text)) (position is_colon text)
 
@@ -34,11 +34,11 @@ end_of (digit ∷ more) = option_map Some (number_of (digit ∷ more))
 abbrev pub cut_of : List ℕ → Option Change
 cut_of fields = option_and_then (λ (f : List ℕ × List ℕ). option_and_then (λ start. option_map (CutRange start) (end_of f.1)) (number_of f.0)) (at_colon fields)
 
--- a part has an index and, behind a colon, any pattern
+-- a part has an index and, after a colon, any pattern
 abbrev pub part_of : List ℕ → Option Change
 part_of fields = option_and_then (λ (f : List ℕ × List ℕ). option_map (PartOf f.1) (number_of f.0)) (at_colon fields)
 
--- what a name asks for, with what stands behind its colon
+-- what a name asks for, with what stands after its colon
 abbrev pub change_named : List ℕ → List ℕ → Option Change
 change_named name field =
     if bytes_eq name (codes "cut") then cut_of field
@@ -49,7 +49,7 @@ change_named name field =
     else if bytes_eq name (codes "suffix") then Some (WithoutSuffix field)
     else None
 
--- `trim` asks for a change by itself, and any other word by its name, a colon and what stands behind that
+-- `trim` asks for a change by itself, and any other word by its name, a colon and what follows that
 abbrev pub change_asked : List ℕ → Option Change
 change_asked word =
     if bytes_eq word (codes "trim") then Some Trimmed

@@ -12,7 +12,7 @@ use crate::words::Job;
 use std::alloc::{AllocError, Allocator};
 use std::borrow::CowStr;
 
-/// Writes the answer to each line, in order, and a line feed behind each that had one. It ends
+/// Writes the answer to each line, in order, and a line feed after each that had one. It ends
 /// before the first line that is refused, and answers that line's number, counted from 1.
 ///
 /// The memory that one line's answer takes is given back before the next.

@@ -20,9 +20,9 @@ pub enum Outcome {
     Failed,
 }
 
-/// Bytes in memory: they are read from their start, and what is written goes behind them.
+/// Bytes in memory: they are read from their start, and what is written goes after them.
 ///
-/// Each call, of any kind, takes the first outcome off the schedule and comes out so. Behind the
+/// Each call, of any kind, takes the first outcome off the schedule and comes out so. After the
 /// schedule's end every call works. The memory is taken when the page is made: a write takes none,
 /// and fails where the room is too small.
 ///

@@ -67,7 +67,7 @@ fn parse_edit(word: &str) -> Option<Edit<'_>>
     parse_named(name, field)
 }
 
-// The edit of this name, with what stands behind the name's colon.
+// The edit of this name, with what stands after the name's colon.
 fn parse_named<'w>(name: &str, field: &'w str) -> Option<Edit<'w>>
     ensures { option_map change_of result ≡ change_named name.now field.now }
 {

@@ -8,27 +8,28 @@ use Rattle.std.specs.Str.Pattern.{FindsTextPrefix, FindsTextSuffix, StripsPrefix
 use Rattle.std.specs.Option.{option_map_or}
 use Rattle.std.proofs.lemmas.List.{map-id, take_min, drop_min}
 use Rattle.std.proofs.lemmas.Bool.{cond_both, and_parts, and_from, eqb-true}
-use Rattle.ansi_str.specs.Plain.{Mark, plain, up_to, has_escape, is_whole}
-use Rattle.ansi_str.specs.Rendition.{Rendition, plain_style}
-use Rattle.ansi_str.specs.Written.{start, close_if_any}
-use Rattle.ansi_str.specs.Styled.{styled, bytes_of, style_of, style_at}
-use Rattle.ansi_str.specs.Positions.{is_good_position, is_good_range}
-use Rattle.ansi_str.specs.Cut.{show, cut}
-use Rattle.ansi_str.specs.Sides.{left_side, right_side}
-use Rattle.ansi_str.specs.Kept.{kept, without_prefix, without_suffix, trim_interval, trimmed}
-use Rattle.ansi_str.specs.Parts.{parts, past, carried, part_over, end_before, part, all_parts, is_part_borrowed}
+use Rattle.ansi_items.specs.Plain.{Mark, plain, up_to, has_escape, is_whole}
+use Rattle.ansi_style.specs.declared.state.rendition.Rendition.{Rendition}
+use Rattle.ansi_style.specs.Rendition.{plain_style}
+use Rattle.ansi_style.specs.Written.{start, close_if_any}
+use Rattle.ansi_style.specs.Styled.{styled, bytes_of, style_of, style_at}
+use Rattle.ansi_slice.specs.Positions.{is_good_position, is_good_range}
+use Rattle.ansi_slice.specs.Cut.{show, cut}
+use Rattle.ansi_slice.specs.Sides.{left_side, right_side}
+use Rattle.ansi_slice.specs.Kept.{kept, without_prefix, without_suffix, trim_interval, trimmed}
+use Rattle.ansi_slice.specs.Parts.{parts, past, carried, part_over, end_before, part, all_parts, is_part_borrowed}
 use Rattle.ansi_str.specs.StdSplit.{AreSplit, slices_over}
 use Rattle.ansi_str.specs.Changes.{Change, CutRange, LeftOf, RightOf, PartOf, WithoutPrefix, WithoutSuffix, Trimmed, interval_of}
 use Rattle.ansi_str.specs.Edited.{meaning, text_of, edited_by, edited, gives_borrow, stay_borrowed}
-use Rattle.ansi_str.proofs.PlainLemmas.{plain-bare, has_escape-plain, is_whole-plain}
-use Rattle.ansi_str.proofs.SliceLemmas.{slice_range-none, slice_range-past, slice_range-min}
-use Rattle.ansi_str.proofs.MarkLemmas.{marks-bare}
-use Rattle.ansi_str.proofs.ShowLemmas.{show-bare}
-use Rattle.ansi_str.proofs.CutLemmas.{cut_up_to-bare}
-use Rattle.ansi_str.proofs.SideLemmas.{left_side-bare, right_side-bare}
-use Rattle.ansi_str.proofs.StyledLemmas.{bytes_of-styled}
-use Rattle.ansi_str.proofs.TrimLemmas.{slice_range-trim_interval}
-use Rattle.ansi_str.proofs.KeptWalkLemmas.{kept-bare}
+use Rattle.ansi_items.proofs.PlainLemmas.{plain-bare, has_escape-plain, is_whole-plain}
+use Rattle.ansi_slice.proofs.SliceLemmas.{slice_range-none, slice_range-past, slice_range-min}
+use Rattle.ansi_style.proofs.MarkLemmas.{marks-bare}
+use Rattle.ansi_slice.proofs.ShowLemmas.{show-bare}
+use Rattle.ansi_slice.proofs.CutLemmas.{cut_up_to-bare}
+use Rattle.ansi_slice.proofs.SideLemmas.{left_side-bare, right_side-bare}
+use Rattle.ansi_style.proofs.StyledLemmas.{bytes_of-styled}
+use Rattle.ansi_slice.proofs.TrimLemmas.{slice_range-trim_interval}
+use Rattle.ansi_slice.proofs.KeptWalkLemmas.{kept-bare}
 use Rattle.ansi_str.proofs.KeptLemmas.{plain-kept}
 use Rattle.ansi_str.proofs.KeptAsStdLemmas.{plain-without_prefix, plain-without_suffix}
 use Rattle.ansi_str.proofs.StdSplitLemmas.{parts_are_split}

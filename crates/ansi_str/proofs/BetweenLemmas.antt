@@ -5,10 +5,10 @@ use Rattle.std.proofs.lemmas.Str.{IsCharBoundary-start, IsCharBoundary-end}
 use Rattle.std.specs.List.{range_with_len}
 use Rattle.std.specs.Str.{IsUtf8, IsCharBoundary}
 use Rattle.std.specs.Str.Pattern.{LacksTextAt, HasTextAt}
-use Rattle.ansi_str.specs.Parts.{is_match, apart, parts}
+use Rattle.ansi_slice.specs.Parts.{is_match, apart, parts}
 use Rattle.ansi_str.specs.StdSplit.{AreBetween, AreInTurn}
-use Rattle.ansi_str.proofs.MatchLemmas.{boundary_at}
-use Rattle.ansi_str.proofs.FindLemmas.{match_stands, no_match_lacks}
+use Rattle.ansi_slice.proofs.MatchLemmas.{boundary_at}
+use Rattle.ansi_slice.proofs.FindLemmas.{match_stands, no_match_lacks}
 
 pub filled : (p : List ℕ) → p ≢ [] → 0 < length p
 filled [] some = absurd (some refl)
@@ -24,7 +24,7 @@ between_more : (x p : List ℕ) (e k : ℕ) (is : List (ℕ × ℕ)) → e ≤ k
 between_more x p e k [] from stands none more = absurd more
 between_more x p e k (j ∷ is) from stands none more = (refl, from, stands, none, more)
 
--- what is taken of a match m and those behind it, where b says whether m is taken
+-- what is taken of a match m and those after it, where b says whether m is taken
 abbrev pub taken_with : ℕ → ℕ → ℕ → List ℕ → Bool → List ℕ
 taken_with n e m ms b = (let more = apart n (if b then m + n else e) ms in if b then m ∷ more else more)
 

@@ -1,10 +1,11 @@
 -- Worked examples of blocks, of names of colors and of printed ends, each by computation.
 use Rattle.std.proofs.Common.{◌≡◌, refl, codes, [], ◌∷◌, Some, List, ℕ, Bool, true, false}
-use Rattle.ansi_str.specs.declared.ansitok.AnsiColor.TheVariants.{Bit4, Bit8, Bit24}
-use Rattle.ansi_str.specs.declared.style.color.Color.TheVariants.{Magenta, BrightBlack, BrightWhite, Fixed, Rgb}
-use Rattle.ansi_str.specs.Rendition.{Rendition, plain_style}
-use Rattle.ansi_str.specs.Colors.{color_of}
-use Rattle.ansi_str.specs.Written.{close_if_any}
+use Rattle.ansi_items.specs.declared.ansitok.AnsiColor.TheVariants.{Bit4, Bit8, Bit24}
+use Rattle.ansi_style.specs.declared.style.color.Color.TheVariants.{Magenta, BrightBlack, BrightWhite, Fixed, Rgb}
+use Rattle.ansi_style.specs.declared.state.rendition.Rendition.{Rendition}
+use Rattle.ansi_style.specs.Rendition.{plain_style}
+use Rattle.ansi_style.specs.Colors.{color_of}
+use Rattle.ansi_style.specs.Written.{close_if_any}
 use Rattle.ansi_str.specs.Blocks.{Block, blocks, blocks_from}
 
 abbrev block : List ℕ → Rendition → Bool → Block
@@ -20,9 +21,9 @@ bare_text : blocks (codes "213\n456") ≡ block (codes "213\n456") plain_style t
 unfolding blocks_from
 bare_text = refl
 
-bold_behind_a_color_that_is_none : blocks (codes "\u{1b}[38;7;1mx") ≡ block (codes "x") (record plain_style { bold = true }) true ∷ []
+bold_after_a_color_that_is_none : blocks (codes "\u{1b}[38;7;1mx") ≡ block (codes "x") (record plain_style { bold = true }) true ∷ []
 unfolding blocks_from
-bold_behind_a_color_that_is_none = refl
+bold_after_a_color_that_is_none = refl
 
 empty_field : blocks (codes "\u{1b}[mx") ≡ block (codes "x") (record plain_style { unknown = true }) true ∷ []
 unfolding blocks_from
@@ -44,7 +45,7 @@ reset_between : blocks (codes "\u{1b}[41;30m Hello \u{1b}[0m \t \u{1b}[43;32m Wo
 unfolding blocks_from
 reset_between = refl
 
--- Other sequences wait for the next run, and behind the last one they are dropped.
+-- Other sequences wait for the next run, and after the last one they are dropped.
 
 sequence_waits : blocks (codes "\u{1b}[1 mx") ≡ block (codes "\u{1b}[1 mx") plain_style false ∷ []
 unfolding blocks_from
@@ -59,9 +60,9 @@ waits_across_a_color : blocks (codes "a\u{1b}[1 m\u{1b}[31m\u{1b}[2 mb")
 unfolding blocks_from
 waits_across_a_color = refl
 
-title_behind_the_last_run : blocks (codes "a\u{1b}]0;t\u{7}") ≡ block (codes "a") plain_style true ∷ []
+title_after_the_last_run : blocks (codes "a\u{1b}]0;t\u{7}") ≡ block (codes "a") plain_style true ∷ []
 unfolding blocks_from
-title_behind_the_last_run = refl
+title_after_the_last_run = refl
 
 lone_escape_waits : blocks (codes "\u{1b}]\u{1b}]")
     ≡ block (codes "\u{1b}]") plain_style false ∷ block (codes "\u{1b}]") plain_style false ∷ []

@@ -1,23 +1,23 @@
 -- The blocks of a text, by one walk over its pieces with what waits for the next run, and a running style.
 use Rattle.std.proofs.Common.{◌≡◌, ℕ, zero, suc, ◌≤◌, ◌+◌, ◌<◌, Bool, true, false, not, ◌==◌, List, [], ◌∷◌, ◌++◌, map, filter, filter_map, length, refl, sym, ◌∙◌, ap, ap₂, arith, if◌then◌else◌, append_assoc, append-nil}
 use Rattle.std.proofs.lemmas.Bool.Decides.{nat_tests}
-use Rattle.ansi_str.specs.Bytes.{escape}
-use Rattle.ansi_str.specs.Sequences.{is_sgr}
-use Rattle.ansi_str.specs.Pieces.{Piece, Text, Sequence, LoneEscape, ArePieces, first_piece, first_pieces, pieces_of}
-use Rattle.ansi_str.specs.Plain.{Mark, Placed, moved, places, marks_of, joined}
-use Rattle.ansi_str.specs.Rendition.{Rendition}
-use Rattle.ansi_str.specs.Sgr.{apply}
-use Rattle.ansi_str.specs.Cut.{at_place}
-use Rattle.ansi_str.specs.Sides.{copied}
-use Rattle.ansi_str.specs.Reading.{style_within}
-use Rattle.ansi_str.specs.Blocks.{Block, waiting, block_behind, block_of, blocks_from}
-use Rattle.ansi_str.proofs.PieceLemmas.{pieces_are}
-use Rattle.ansi_str.proofs.MarkLemmas.{further, marks_of-text, marks_of-sequence, marks_of-lone, style_by_marks, style_by_marks-before, style_by_marks-text, style_by_marks-sequence, style_by_marks-lone}
+use Rattle.ansi_items.specs.Bytes.{escape}
+use Rattle.ansi_items.specs.Sequences.{is_sgr}
+use Rattle.ansi_items.specs.Pieces.{Piece, Text, Sequence, LoneEscape, ArePieces, first_piece, first_pieces, pieces_of}
+use Rattle.ansi_items.specs.Plain.{Mark, Placed, moved, places, marks_of, joined}
+use Rattle.ansi_style.specs.declared.state.rendition.Rendition.{Rendition}
+use Rattle.ansi_style.specs.Sgr.{apply}
+use Rattle.ansi_slice.specs.Cut.{at_place}
+use Rattle.ansi_slice.specs.Sides.{copied}
+use Rattle.ansi_style.specs.Reading.{style_within}
+use Rattle.ansi_str.specs.Blocks.{Block, waiting, block_after, block_of, blocks_from}
+use Rattle.ansi_items.proofs.PieceLemmas.{pieces_are}
+use Rattle.ansi_style.proofs.MarkLemmas.{further, marks_of-text, marks_of-sequence, marks_of-lone, style_by_marks, style_by_marks-before, style_by_marks-text, style_by_marks-sequence, style_by_marks-lone}
 
 -- the blocks of pieces, where these sequences wait for the first run, and s is the style before the pieces
 abbrev pub blocks_through : Rendition → List ℕ → List Piece → List Block
 blocks_through s held [] = []
-blocks_through s held (Text w ∷ ps) = block_behind held w s ∷ blocks_through s [] ps
+blocks_through s held (Text w ∷ ps) = block_after held w s ∷ blocks_through s [] ps
 blocks_through s held (Sequence w ∷ ps) = blocks_through (apply s w) (held ++ copied (Sequence w)) ps
 blocks_through s held (LoneEscape ∷ ps) = blocks_through s (held ++ copied LoneEscape) ps
 
@@ -69,8 +69,8 @@ others-here v ms = by_kind (is_sgr v)
     by_kind true = refl
     by_kind false = refl
 
-others-behind : (v : List ℕ) (ms : List Mark) (i : ℕ) → 0 < i → others (at_place i (record { place = 0; bytes = v } ∷ ms)) ≡ others (at_place i ms)
-others-behind v ms i some =
+others-after : (v : List ℕ) (ms : List Mark) (i : ℕ) → 0 < i → others (at_place i (record { place = 0; bytes = v } ∷ ms)) ≡ others (at_place i ms)
+others-after v ms i some =
     let apart : (0 == i) ≡ false = grind (arith, nat_tests) in
     ap (λ b. others (if b then record { place = 0; bytes = v } ∷ at_place i ms else at_place i ms)) apart
 
@@ -86,7 +86,7 @@ by_places-moved wait style n (q ∷ qs) = by_piece q.piece (by_places-moved wait
   where
     by_piece : (p : Piece) → by_places wait style (map (moved n) qs) ≡ by_places (λ i. wait (n + i)) (λ i. style (n + i)) qs
         → by_places wait style (map (moved n) (record q { piece = p } ∷ qs)) ≡ by_places (λ i. wait (n + i)) (λ i. style (n + i)) (record q { piece = p } ∷ qs)
-    by_piece (Text w) later = ap (λ bs. block_behind (wait (n + q.place)) w (style (n + q.place)) ∷ bs) later
+    by_piece (Text w) later = ap (λ bs. block_after (wait (n + q.place)) w (style (n + q.place)) ∷ bs) later
     by_piece (Sequence w) later = later
     by_piece LoneEscape later = later
 
@@ -106,7 +106,7 @@ walk (Text (c ∷ w) ∷ ps) t are wait style held s follows =
     let beyond : (i : ℕ) → wait (n + i) ≡ waiting_at ps i = λ i.
     follows.later (n + i) (omega arith) ∙ ap (λ ms. others (at_place (n + i) ms)) (marks_of-text (c ∷ w) ps) ∙ others-further n i (marks_of ps) in
     ap₂ (λ b bs. b ∷ bs)
-    (ap₂ (λ v r. block_behind v (c ∷ w) r) (follows.first ∙ ap (λ v. held ++ v) none ∙ append-nil held) (follows.styles 0 ∙ style_by_marks-before s (c ∷ w) ps 0 (omega arith)))
+    (ap₂ (λ v r. block_after v (c ∷ w) r) (follows.first ∙ ap (λ v. held ++ v) none ∙ append-nil held) (follows.styles 0 ∙ style_by_marks-before s (c ∷ w) ps 0 (omega arith)))
     (by_places-moved wait style n (places ps)
     ∙ walk ps are.0 are.3 (λ i. wait (n + i)) (λ i. style (n + i)) [] s (record {
       first = beyond 0;
@@ -119,7 +119,7 @@ walk (Sequence w ∷ ps) t are wait style held s follows =
       first = ap wait (omega arith) ∙ follows.first
           ∙ ap (λ v. held ++ v) (ap (λ ms. others (at_place 0 ms)) (marks_of-sequence w ps) ∙ others-here w (marks_of ps))
           ∙ sym (append_assoc held (copied (Sequence w)) (waiting_at ps 0));
-      later = λ i some. ap wait (omega arith) ∙ follows.later i some ∙ ap (λ ms. others (at_place i ms)) (marks_of-sequence w ps) ∙ others-behind w (marks_of ps) i some;
+      later = λ i some. ap wait (omega arith) ∙ follows.later i some ∙ ap (λ ms. others (at_place i ms)) (marks_of-sequence w ps) ∙ others-after w (marks_of ps) i some;
       styles = λ i. ap style (omega arith) ∙ follows.styles i ∙ style_by_marks-sequence s w ps i;
     })
 walk (LoneEscape ∷ ps) t are wait style held s follows =
@@ -128,7 +128,7 @@ walk (LoneEscape ∷ ps) t are wait style held s follows =
       first = ap wait (omega arith) ∙ follows.first
           ∙ ap (λ v. held ++ v) (ap (λ ms. others (at_place 0 ms)) (marks_of-lone ps) ∙ others-here (escape ∷ []) (marks_of ps))
           ∙ sym (append_assoc held (copied LoneEscape) (waiting_at ps 0));
-      later = λ i some. ap wait (omega arith) ∙ follows.later i some ∙ ap (λ ms. others (at_place i ms)) (marks_of-lone ps) ∙ others-behind (escape ∷ []) (marks_of ps) i some;
+      later = λ i some. ap wait (omega arith) ∙ follows.later i some ∙ ap (λ ms. others (at_place i ms)) (marks_of-lone ps) ∙ others-after (escape ∷ []) (marks_of ps) i some;
       styles = λ i. ap style (omega arith) ∙ follows.styles i ∙ style_by_marks-lone s ps i;
     })
 

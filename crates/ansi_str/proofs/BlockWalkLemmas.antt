@@ -1,16 +1,17 @@
 -- How far the walk to the first run of a text has come, and what a step of it is.
 use Rattle.std.proofs.Common.{◌≡◌, ◌≢◌, ℕ, Bool, true, false, not, ◌==◌, List, [], ◌∷◌, ◌++◌, length, refl, sym, ◌∙◌, ap, ap₂, subst, arith, if◌then◌else◌, append_assoc, append-nil}
 use Rattle.std.proofs.lemmas.Bool.{ne_eqb}
-use Rattle.ansi_str.specs.declared.ansitok.Kind.{Kind}
-use Rattle.ansi_str.specs.declared.ansitok.Kind.TheVariants.{Sgr}
-use Rattle.ansi_str.specs.Sequences.{is_sgr}
-use Rattle.ansi_str.specs.Pieces.{Piece, Text, Sequence, LoneEscape, spelling, pieces_of}
-use Rattle.ansi_str.specs.Rendition.{Rendition, plain_style}
-use Rattle.ansi_str.specs.Sgr.{apply}
-use Rattle.ansi_str.specs.Sides.{copied}
-use Rattle.ansi_str.specs.Blocks.{waiting, block_behind, blocks_from}
-use Rattle.ansi_str.proofs.StepLemmas.{is_mark, BeginsWithMark}
-use Rattle.ansi_str.proofs.CutWalkLemmas.{apply-no_sgr}
+use Rattle.ansi_items.specs.declared.ansitok.Kind.{Kind}
+use Rattle.ansi_items.specs.declared.ansitok.Kind.TheVariants.{Sgr}
+use Rattle.ansi_items.specs.Sequences.{is_sgr}
+use Rattle.ansi_items.specs.Pieces.{Piece, Text, Sequence, LoneEscape, spelling, pieces_of}
+use Rattle.ansi_style.specs.declared.state.rendition.Rendition.{Rendition}
+use Rattle.ansi_style.specs.Rendition.{plain_style}
+use Rattle.ansi_style.specs.Sgr.{apply}
+use Rattle.ansi_slice.specs.Sides.{copied}
+use Rattle.ansi_str.specs.Blocks.{waiting, block_after, blocks_from}
+use Rattle.ansi_items.proofs.StepLemmas.{is_mark, BeginsWithMark}
+use Rattle.ansi_slice.proofs.CutWalkLemmas.{apply-no_sgr}
 use Rattle.ansi_str.proofs.BlockLemmas.{blocks_through, waiting_before, blocks_from-walked, waiting-front}
 
 -- a mark that is an SGR sets the style
@@ -65,21 +66,21 @@ run-other {from} {s} {t} {waits} {kind} {w} {pieces} {ps} so_far begins other fi
       held = first.held ++ w;
       blocks = first.blocks ∙ step.0;
       front = first.front ∙ ap (λ u. first.held ++ u) step.1 ∙ sym (append_assoc first.held w (waiting_before ps));
-      some = filled_behind first.held w filled;
+      some = filled_after first.held w filled;
     }
   where
-    filled_behind : (u v : List ℕ) → v ≢ [] → true ≡ not (length (u ++ v) == 0)
-    filled_behind u [] filled = absurd (filled refl)
-    filled_behind [] (b ∷ v) filled = ap not (sym (ne_eqb (length (b ∷ v)) 0 (λ e. omega (arith, e))))
-    filled_behind (a ∷ u) (b ∷ v) filled = ap not (sym (ne_eqb (length ((a ∷ u) ++ b ∷ v)) 0 (λ e. omega (arith, e))))
+    filled_after : (u v : List ℕ) → v ≢ [] → true ≡ not (length (u ++ v) == 0)
+    filled_after u [] filled = absurd (filled refl)
+    filled_after [] (b ∷ v) filled = ap not (sym (ne_eqb (length (b ∷ v)) 0 (λ e. omega (arith, e))))
+    filled_after (a ∷ u) (b ∷ v) filled = ap not (sym (ne_eqb (length ((a ∷ u) ++ b ∷ v)) 0 (λ e. omega (arith, e))))
 
 -- at the run
-pub run-text : {from s : Rendition} {t : List ℕ} {waits : Bool} {w : List ℕ} {pieces : List Piece} (behind : List ℕ) → IsRunSoFar from t s waits pieces → pieces ≡ Text w ∷ pieces_of behind
-    → (blocks_from from t ≡ block_behind (waiting t 0) w s ∷ blocks_from s behind) × (waits ≡ not (length (waiting t 0) == 0))
-run-text {from} {s} {t} {waits} {w} {pieces} behind so_far is =
+pub run-text : {from s : Rendition} {t : List ℕ} {waits : Bool} {w : List ℕ} {pieces : List Piece} (after : List ℕ) → IsRunSoFar from t s waits pieces → pieces ≡ Text w ∷ pieces_of after
+    → (blocks_from from t ≡ block_after (waiting t 0) w s ∷ blocks_from s after) × (waits ≡ not (length (waiting t 0) == 0))
+run-text {from} {s} {t} {waits} {w} {pieces} after so_far is =
     let first = subst (IsRunSoFar from t s waits) is so_far in
     let held : waiting t 0 ≡ first.held = first.front ∙ append-nil first.held in
-    (first.blocks ∙ ap₂ (λ u bs. block_behind u w s ∷ bs) (sym held) (sym (blocks_from-walked s behind)), first.some ∙ ap (λ u. not (length u == 0)) (sym held))
+    (first.blocks ∙ ap₂ (λ u bs. block_after u w s ∷ bs) (sym held) (sym (blocks_from-walked s after)), first.some ∙ ap (λ u. not (length u == 0)) (sym held))
 
 -- a block that takes memory is no borrow
 pub not_borrowed : (waits none : Bool) → waits ≡ not none → (waits ≡ false → false ≡ true) → none ≡ false

@@ -5,17 +5,17 @@ use Rattle.std.specs.List.{starts_with, ends_with}
 use Rattle.std.proofs.lemmas.Bool.{cond-true}
 use Rattle.std.proofs.lemmas.List.{length-map}
 use Rattle.std.proofs.lemmas.Option.{cond_some}
-use Rattle.ansi_str.specs.Plain.{plain, is_whole}
-use Rattle.ansi_str.specs.Rendition.{plain_style}
-use Rattle.ansi_str.specs.Styled.{StyledByte, styled, bytes_of, residue}
-use Rattle.ansi_str.specs.Positions.{is_good_position, is_good_range}
-use Rattle.ansi_str.specs.Cut.{cut}
-use Rattle.ansi_str.specs.Sides.{left_side, right_side}
-use Rattle.ansi_str.specs.Kept.{kept, without_prefix, without_suffix, trim_interval, trimmed}
+use Rattle.ansi_items.specs.Plain.{plain, is_whole}
+use Rattle.ansi_style.specs.Rendition.{plain_style}
+use Rattle.ansi_style.specs.Styled.{StyledByte, styled, bytes_of, residue}
+use Rattle.ansi_slice.specs.Positions.{is_good_position, is_good_range}
+use Rattle.ansi_slice.specs.Cut.{cut}
+use Rattle.ansi_slice.specs.Sides.{left_side, right_side}
+use Rattle.ansi_slice.specs.Kept.{kept, without_prefix, without_suffix, trim_interval, trimmed}
 use Rattle.ansi_str.specs.Changes.{Change, CutRange, LeftOf, RightOf, PartOf, WithoutPrefix, WithoutSuffix, Trimmed, interval_of, slice_of}
 use Rattle.ansi_str.specs.Edited.{text_of, edited_by, closes}
-use Rattle.ansi_str.proofs.SliceLemmas.{slice_range-past, slice_range-map}
-use Rattle.ansi_str.proofs.StyledLemmas.{bytes_of-styled}
+use Rattle.ansi_slice.proofs.SliceLemmas.{slice_range-past, slice_range-map}
+use Rattle.ansi_style.proofs.StyledLemmas.{bytes_of-styled}
 use Rattle.ansi_str.proofs.CutSliceLemmas.{styled-cut, is_whole-cut, residue-cut}
 use Rattle.ansi_str.proofs.SideSliceLemmas.{left_side_is, right_side_is}
 use Rattle.ansi_str.proofs.KeptLemmas.{styled-kept, is_whole-kept, residue-kept}

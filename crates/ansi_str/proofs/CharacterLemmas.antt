@@ -8,13 +8,13 @@ use Rattle.std.proofs.Math.Seq.{take-append_seam, drop-append_seam}
 use Rattle.std.specs.Char.{encode_utf8}
 use Rattle.std.specs.List.{range_with_len, list_all}
 use Rattle.std.specs.Str.{IsUtf8, IsCharBoundary, chars, encode_utf8_all, all_scalars}
-use Rattle.ansi_str.specs.Positions.{is_char_boundary, is_continuation_byte, is_good_position}
-use Rattle.ansi_str.specs.Parts.{is_match, apart, parts}
+use Rattle.ansi_slice.specs.Positions.{is_char_boundary, is_continuation_byte, is_good_position}
+use Rattle.ansi_slice.specs.Parts.{is_match, apart, parts}
 use Rattle.ansi_str.specs.StdSplit.{AreInTurn, slices_over}
-use Rattle.ansi_str.proofs.PositionLemmas.{char_boundary_is}
+use Rattle.ansi_slice.proofs.PositionLemmas.{char_boundary_is}
 use Rattle.ansi_str.proofs.BetweenLemmas.{taken_with, filled_parts_in_turn}
 
--- the bytes of a character behind the first go on with it
+-- the bytes of a character after the first go on with it
 record IsCharBytes (w : List ℕ) : Type 0 where
   first : ℕ
   more : List ℕ
@@ -86,13 +86,13 @@ boundaries_from x (c ∷ cs) k scalars at end =
     let spelled : drop k x ≡ bytes.first ∷ (bytes.more ++ later) = at ∙ ap (λ w. w ++ later) bytes.spelled in
     let next : drop (k + 1) x ≡ bytes.more ++ later = sym (drop-drop 1 k x) ∙ ap (drop 1) spelled in
     let place : k + 1 + m ≡ k + length (encode_utf8 c) = omega (arith, size) in
-    let behind : drop (k + length (encode_utf8 c)) x ≡ later = sym (drop-drop (length (encode_utf8 c)) k x) ∙ ap (drop (length (encode_utf8 c))) at ∙ drop-append_seam (encode_utf8 c) later in
+    let after : drop (k + length (encode_utf8 c)) x ≡ later = sym (drop-drop (length (encode_utf8 c)) k x) ∙ ap (drop (length (encode_utf8 c))) at ∙ drop-append_seam (encode_utf8 c) later in
     ap (λ j. filter test (range_with_len k j)) count
     ∙ cond-true (test k) _ _ boundary
     ∙ ap (λ js. k ∷ js)
     (ap (filter test) (range-append (k + 1) m n) ∙ filter-append test (range_with_len (k + 1) m) (range_with_len (k + 1 + m) n)
     ∙ ap₂ (λ xs ys. xs ++ ys) (no_boundaries x bytes.more later (k + 1) next bytes.go_on)
-    (ap (λ j. filter test (range_with_len j n)) place ∙ boundaries_from x cs (k + length (encode_utf8 c)) both.1 behind (omega (arith, end, total))))
+    (ap (λ j. filter test (range_with_len j n)) place ∙ boundaries_from x cs (k + length (encode_utf8 c)) both.1 after (omega (arith, end, total))))
 
 -- The empty pattern stands at every boundary, and each is taken.
 
@@ -112,7 +112,7 @@ all_taken f (suc n) k e from =
     (λ passes. ap (taken_with 0 e k ms) (le-leb e k from) ∙ ap (λ js. k ∷ js) (all_taken f n (k + 1) (k + 0) (omega arith)))
     (λ fails. all_taken f n (k + 1) e (omega (arith, from)))
 
--- the intervals before, between and behind these places
+-- the intervals before, between and after these places
 abbrev intervals : List ℕ → ℕ → List ℕ → List (ℕ × ℕ)
 intervals x e ks = zip (e ∷ map (λ m. m + 0) ks) (ks ++ length x ∷ [])
 
@@ -136,12 +136,12 @@ slices_over-starts x (c ∷ cs) k e at end =
     let later = encode_utf8_all cs in
     let n = length (encode_utf8 c) in
     let total : length (encode_utf8 c ++ later) ≡ n + length later = length-append (encode_utf8 c) later in
-    let behind : drop (k + n) x ≡ later = sym (drop-drop n k x) ∙ ap (drop n) at ∙ drop-append_seam (encode_utf8 c) later in
+    let after : drop (k + n) x ≡ later = sym (drop-drop n k x) ∙ ap (drop n) at ∙ drop-append_seam (encode_utf8 c) later in
     let from : k + 0 ≡ k = omega arith in
     let size : k + n - (k + 0) ≡ n = omega arith in
     let char : slice_range x (k + 0) (k + n) ≡ encode_utf8 c = ap₂ take size (ap (λ n. drop n x) from ∙ at) ∙ take-append_seam (encode_utf8 c) later in
     ap (λ ys. slice_range x e k ∷ ys)
-    (slices_over-starts x cs (k + n) (k + 0) behind (omega (arith, end, total)) ∙ ap (λ y. y ∷ (map encode_utf8 cs ++ [] ∷ [])) char)
+    (slices_over-starts x cs (k + n) (k + 0) after (omega (arith, end, total)) ∙ ap (λ y. y ∷ (map encode_utf8 cs ++ [] ∷ [])) char)
 
 pub slices_over-parts-empty : (x : List ℕ) → IsUtf8 x → slices_over x (parts x []) ≡ [] ∷ (map encode_utf8 (chars x) ++ [] ∷ [])
 slices_over-parts-empty x utf8 =
@@ -160,14 +160,14 @@ starts_in_turn x (c ∷ cs) k d e scalars at end before from boundary =
     let later = encode_utf8_all cs in
     let n = length (encode_utf8 c) in
     let total : length (encode_utf8 c ++ later) ≡ n + length later = length-append (encode_utf8 c) later in
-    let behind : drop (k + n) x ≡ later = sym (drop-drop n k x) ∙ ap (drop n) at ∙ drop-append_seam (encode_utf8 c) later in
+    let after : drop (k + n) x ≡ later = sym (drop-drop n k x) ∙ ap (drop n) at ∙ drop-append_seam (encode_utf8 c) later in
     let here : IsCharBoundary x k = IsCharBoundary-from_drop x k (omega (arith, end)) (c ∷ cs, (scalars, sym at)) in
     let same : k ≡ k + 0 = omega arith in (
       before,
       from,
       boundary,
       here,
-      starts_in_turn x cs (k + n) k (k + 0) (and_parts _ (all_scalars cs) scalars).1 behind (omega (arith, end, total)) (omega arith) (omega arith) (subst (IsCharBoundary x) same here),
+      starts_in_turn x cs (k + n) k (k + 0) (and_parts _ (all_scalars cs) scalars).1 after (omega (arith, end, total)) (omega arith) (omega arith) (subst (IsCharBoundary x) same here),
     )
 
 empty_parts_in_turn : (x : List ℕ) → IsUtf8 x → AreInTurn x 0 (parts x [])

@@ -5,10 +5,10 @@ use Rattle.std.specs.Char.{encode_utf8}
 use Rattle.std.specs.Fmt.{digits}
 use Rattle.std.specs.Str.{chars, trim_start, trim_end}
 use Prim.Native.String.{String}
-use Rattle.ansi_str.specs.Cut.{cut}
-use Rattle.ansi_str.specs.Sides.{left_side, right_side}
-use Rattle.ansi_str.specs.Kept.{kept}
-use Rattle.ansi_str.specs.Parts.{part_over, is_borrowed_over}
+use Rattle.ansi_slice.specs.Cut.{cut}
+use Rattle.ansi_slice.specs.Sides.{left_side, right_side}
+use Rattle.ansi_slice.specs.Kept.{kept}
+use Rattle.ansi_slice.specs.Parts.{part_over, is_borrowed_over}
 use Rattle.ansi_str.specs.Changes.{CutRange, LeftOf, RightOf, PartOf, WithoutPrefix, WithoutSuffix, Trimmed}
 use Rattle.ansi_str.specs.Edited.{edited, stay_borrowed}
 

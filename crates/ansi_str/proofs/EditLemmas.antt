@@ -3,9 +3,9 @@ use Rattle.std.proofs.Common.{◌≡◌, Bool, true, false, ◌||◌, List, [], 
 use Rattle.std.specs.Prelude.{IfSome, option_and_then}
 use Rattle.std.specs.List.{list_any}
 use Rattle.std.proofs.lemmas.Bool.{cond-true}
-use Rattle.ansi_str.specs.Plain.{is_whole}
-use Rattle.ansi_str.specs.Rendition.{plain_style}
-use Rattle.ansi_str.specs.Styled.{StyledByte, styled, residue}
+use Rattle.ansi_items.specs.Plain.{is_whole}
+use Rattle.ansi_style.specs.Rendition.{plain_style}
+use Rattle.ansi_style.specs.Styled.{StyledByte, styled, residue}
 use Rattle.ansi_str.specs.Changes.{Change, slice_of}
 use Rattle.ansi_str.specs.Edited.{meaning, edited_by, edited, closes, IsSliceNamed}
 use Rattle.ansi_str.proofs.ChangeLemmas.{IsAnswer, edited_by_answers}

@@ -1,14 +1,14 @@
--- Each part begins and ends at or behind the end of the part before it.
+-- Each part begins and ends at or after the end of the part before it.
 use Rattle.std.proofs.Common.{◌≡◌, ℕ, zero, suc, ◌+◌, ◌≤◌, Bool, true, false, List, [], ◌∷◌, ◌++◌, map, length, filter, zip, nat_le, Option, Some, None, option_map, refl, sym, subst, arith, slice_get, if◌then◌else◌}
 use Rattle.std.proofs.lemmas.Bool.{cond_both, leb-true}
 use Rattle.std.proofs.lemmas.Option.{cond_some, none-some}
 use Rattle.std.specs.List.{range_with_len, AllByRecursion}
-use Rattle.ansi_str.specs.Parts.{is_match, match_places, apart, parts, end_before}
+use Rattle.ansi_slice.specs.Parts.{is_match, match_places, apart, parts, end_before}
 
--- the interval begins and ends at or behind the end of the one before, if there is one
-abbrev pub ComesBehind : Option ℕ → ℕ × ℕ → Type 0
-ComesBehind None i = Unit {0}
-ComesBehind (Some e) i = (e ≤ i.0) × (e ≤ i.1)
+-- the interval begins and ends at or after the end of the one before, if there is one
+abbrev pub ComesAfter : Option ℕ → ℕ × ℕ → Type 0
+ComesAfter None i = Unit {0}
+ComesAfter (Some e) i = (e ≤ i.0) × (e ≤ i.1)
 
 -- Matches that are taken rise, up to the end.
 
@@ -40,46 +40,46 @@ filter_at_most test last (m ∷ ms) within =
     (λ passes. (within.0, filter_at_most test last ms within.1))
     (λ fails. filter_at_most test last ms within.1)
 
--- So each interval comes behind the one before it.
+-- So each interval comes after the one before it.
 
--- each comes behind the one before it, and the first behind `before`
-abbrev pub ComeBehind : Option ℕ → List (ℕ × ℕ) → Type 0
-ComeBehind before [] = Unit {0}
-ComeBehind before (i ∷ is) = ComesBehind before i × ComeBehind (Some i.1) is
+-- each comes after the one before it, and the first after `before`
+abbrev pub ComeAfter : Option ℕ → List (ℕ × ℕ) → Type 0
+ComeAfter before [] = Unit {0}
+ComeAfter before (i ∷ is) = ComesAfter before i × ComeAfter (Some i.1) is
 
-intervals_come_behind : (end n first last : ℕ) (taken : List ℕ) → end ≤ first → IsRising end last taken → ComeBehind (Some end) (zip (first ∷ map (λ m. m + n) taken) (taken ++ last ∷ []))
-intervals_come_behind end n first last [] before rising = ((before, rising), tt)
-intervals_come_behind end n first last (m ∷ ms) before rising = ((before, rising.0), intervals_come_behind m n (m + n) last ms (omega arith) rising.1)
+intervals_come_after : (end n first last : ℕ) (taken : List ℕ) → end ≤ first → IsRising end last taken → ComeAfter (Some end) (zip (first ∷ map (λ m. m + n) taken) (taken ++ last ∷ []))
+intervals_come_after end n first last [] before rising = ((before, rising), tt)
+intervals_come_after end n first last (m ∷ ms) before rising = ((before, rising.0), intervals_come_after m n (m + n) last ms (omega arith) rising.1)
 
-none_before : (end : ℕ) (is : List (ℕ × ℕ)) → ComeBehind (Some end) is → ComeBehind None is
-none_before end [] behind = tt
-none_before end (i ∷ is) behind = (tt, behind.1)
+none_before : (end : ℕ) (is : List (ℕ × ℕ)) → ComeAfter (Some end) is → ComeAfter None is
+none_before end [] after = tt
+none_before end (i ∷ is) after = (tt, after.1)
 
-pub all_parts_come_behind : (x p : List ℕ) → ComeBehind None (parts x p)
-all_parts_come_behind x p =
+pub all_parts_come_after : (x p : List ℕ) → ComeAfter None (parts x p)
+all_parts_come_after x p =
     let taken = apart (length p) 0 (match_places x p) in
     let places_fit = filter_at_most (is_match x p) (length x) (range_with_len 0 (length x + 1)) (range_at_most 0 (length x + 1) (length x) (omega arith)) in
     let rising = apart_rises (length p) 0 0 (length x) (match_places x p) (omega arith) (omega arith) places_fit in
-    none_before 0 (parts x p) (intervals_come_behind 0 (length p) 0 (length x) taken (omega arith) rising)
+    none_before 0 (parts x p) (intervals_come_after 0 (length p) 0 (length x) taken (omega arith) rising)
 
 -- where the interval before that of index k ends, if there is one, else `before`
-abbrev pub end_behind : Option ℕ → List (ℕ × ℕ) → ℕ → Option ℕ
-end_behind before is zero = before
-end_behind before is (suc k) = option_map (λ (i : ℕ × ℕ). i.1) (slice_get is k)
+abbrev pub end_after : Option ℕ → List (ℕ × ℕ) → ℕ → Option ℕ
+end_after before is zero = before
+end_after before is (suc k) = option_map (λ (i : ℕ × ℕ). i.1) (slice_get is k)
 
-pub end_behind-suc : (before : Option ℕ) (i : ℕ × ℕ) (is : List (ℕ × ℕ)) (k : ℕ) → end_behind before (i ∷ is) (suc k) ≡ end_behind (Some i.1) is k
-end_behind-suc before i is zero = refl
-end_behind-suc before i is (suc k) = refl
+pub end_after-suc : (before : Option ℕ) (i : ℕ × ℕ) (is : List (ℕ × ℕ)) (k : ℕ) → end_after before (i ∷ is) (suc k) ≡ end_after (Some i.1) is k
+end_after-suc before i is zero = refl
+end_after-suc before i is (suc k) = refl
 
-pub end_behind-none : (is : List (ℕ × ℕ)) (k : ℕ) → end_behind None is k ≡ end_before is k
-end_behind-none is zero = refl
-end_behind-none is (suc k) = refl
+pub end_after-none : (is : List (ℕ × ℕ)) (k : ℕ) → end_after None is k ≡ end_before is k
+end_after-none is zero = refl
+end_after-none is (suc k) = refl
 
-comes_behind : (before : Option ℕ) (is : List (ℕ × ℕ)) (k : ℕ) (i : ℕ × ℕ) → ComeBehind before is → slice_get is k ≡ Some i → ComesBehind (end_behind before is k) i
-comes_behind before [] k i behind found = absurd (none-some i found)
-comes_behind before (j ∷ is) zero i behind found = subst (ComesBehind before) (cond_some true j i found).1 behind.0
-comes_behind before (j ∷ is) (suc k) i behind found = subst (λ b. ComesBehind b i) (sym (end_behind-suc before j is k)) (comes_behind (Some j.1) is k i behind.1 found)
+comes_after : (before : Option ℕ) (is : List (ℕ × ℕ)) (k : ℕ) (i : ℕ × ℕ) → ComeAfter before is → slice_get is k ≡ Some i → ComesAfter (end_after before is k) i
+comes_after before [] k i after found = absurd (none-some i found)
+comes_after before (j ∷ is) zero i after found = subst (ComesAfter before) (cond_some true j i found).1 after.0
+comes_after before (j ∷ is) (suc k) i after found = subst (λ b. ComesAfter b i) (sym (end_after-suc before j is k)) (comes_after (Some j.1) is k i after.1 found)
 
-pub parts_come_behind : (x p : List ℕ) (k : ℕ) (i : ℕ × ℕ) → slice_get (parts x p) k ≡ Some i → ComesBehind (end_before (parts x p) k) i
-parts_come_behind x p k i found =
-    subst (λ b. ComesBehind b i) (end_behind-none (parts x p) k) (comes_behind None (parts x p) k i (all_parts_come_behind x p) found)
+pub parts_come_after : (x p : List ℕ) (k : ℕ) (i : ℕ × ℕ) → slice_get (parts x p) k ≡ Some i → ComesAfter (end_before (parts x p) k) i
+parts_come_after x p k i found =
+    subst (λ b. ComesAfter b i) (end_after-none (parts x p) k) (comes_after None (parts x p) k i (all_parts_come_after x p) found)

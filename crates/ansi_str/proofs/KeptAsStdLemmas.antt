@@ -7,12 +7,12 @@ use Rattle.std.proofs.Math.Seq.{take-append_seam, drop-append_seam}
 use Rattle.std.specs.List.{starts_with, ends_with}
 use Rattle.std.specs.Str.{IsUtf8, IsCharBoundary, trim}
 use Rattle.std.specs.Str.Pattern.{FindsTextPrefix, FindsTextSuffix, StripsPrefix, StripsSuffix}
-use Rattle.ansi_str.specs.Plain.{plain, is_whole}
-use Rattle.ansi_str.specs.Kept.{without_prefix, without_suffix, trim_interval, trimmed}
-use Rattle.ansi_str.proofs.SliceLemmas.{slice_range-past}
-use Rattle.ansi_str.proofs.Utf8Lemmas.{IsUtf8-plain}
-use Rattle.ansi_str.proofs.TrimLemmas.{slice_range-trim_interval}
-use Rattle.ansi_str.proofs.MatchLemmas.{starts_with-splits}
+use Rattle.ansi_items.specs.Plain.{plain, is_whole}
+use Rattle.ansi_slice.specs.Kept.{without_prefix, without_suffix, trim_interval, trimmed}
+use Rattle.ansi_slice.proofs.SliceLemmas.{slice_range-past}
+use Rattle.ansi_items.proofs.Utf8Lemmas.{IsUtf8-plain}
+use Rattle.ansi_slice.proofs.TrimLemmas.{slice_range-trim_interval}
+use Rattle.ansi_slice.proofs.MatchLemmas.{starts_with-splits}
 use Rattle.ansi_str.proofs.KeptLemmas.{plain-kept}
 
 pub ends_in : (x p : List ℕ) → IsTrue (ends_with nat_eq x p) → x ≡ take (length x - length p) x ++ p
@@ -20,8 +20,8 @@ ends_in x p ends = (ends_is Decides-eqb x p (ends_with nat_eq x p) refl).0 ends
 
 -- A prefix or suffix that is a text ends, or begins, at a character.
 
-pub behind_prefix : (x p : List ℕ) → IsUtf8 x → IsUtf8 p → x ≡ p ++ drop (length p) x → IsCharBoundary x (length p)
-behind_prefix x p utf8_x utf8_p split =
+pub after_prefix : (x p : List ℕ) → IsUtf8 x → IsUtf8 p → x ≡ p ++ drop (length p) x → IsCharBoundary x (length p)
+after_prefix x p utf8_x utf8_p split =
     let front : take (length p) x ≡ p = ap (take (length p)) split ∙ take-append_seam p (drop (length p) x) in
     IsCharBoundary-from_take x (length p) utf8_x (omega (arith, ap length split, length-append p (drop (length p) x))) (subst IsUtf8 (sym front) utf8_p)
 
@@ -47,7 +47,7 @@ plain-without_prefix t p utf8_t utf8_p whole begins =
     let n = length p in
     let split = starts_with-splits x p begins in
     let left : plain (without_prefix t p) ≡ drop n x = plain-kept t n (length x) whole ∙ slice_range-past x n (length x) (omega arith) in
-    (n, (refl, split, behind_prefix x p (IsUtf8-plain t utf8_t) utf8_p split), left, omega (arith, ap length left, ap length split, length-append p (drop n x)))
+    (n, (refl, split, after_prefix x p (IsUtf8-plain t utf8_t) utf8_p split), left, omega (arith, ap length left, ap length split, length-append p (drop n x)))
 
 pub plain-without_suffix : (t p : List ℕ) → IsUtf8 p → IsTrue (is_whole t) → IsTrue (ends_with nat_eq (plain t) p)
     → StripsSuffix (FindsTextSuffix p) (plain t) (plain (without_suffix t p))

@@ -4,17 +4,18 @@ use Rattle.std.specs.Prelude.{option_map, encode_utf8_all}
 use Rattle.std.specs.Char.{encode_utf8}
 use Rattle.std.specs.Fmt.{digits}
 use Rattle.std.specs.Str.{byte, chars, trim_start, trim_end, trim}
-use Rattle.ansi_str.specs.declared.ansitok.AnsiColor.TheVariants.{Bit4}
-use Rattle.ansi_str.specs.Pieces.{pieces_of, Sequence, Text, merged, LoneEscape}
-use Rattle.ansi_str.specs.Plain.{plain}
-use Rattle.ansi_str.specs.Rendition.{Rendition, plain_style, known}
-use Rattle.ansi_str.specs.Written.{start, close}
-use Rattle.ansi_str.specs.Styled.{styled, bytes_of, residue}
-use Rattle.ansi_str.specs.Reading.{style_behind}
-use Rattle.ansi_str.specs.Cut.{cut}
-use Rattle.ansi_str.specs.Sides.{right_side, left_side}
-use Rattle.ansi_str.specs.Kept.{kept, without_prefix, trimmed}
-use Rattle.ansi_str.specs.Parts.{parts, part_over, part, all_parts}
+use Rattle.ansi_items.specs.declared.ansitok.AnsiColor.TheVariants.{Bit4}
+use Rattle.ansi_items.specs.Pieces.{pieces_of, Sequence, Text, merged, LoneEscape}
+use Rattle.ansi_items.specs.Plain.{plain}
+use Rattle.ansi_style.specs.declared.state.rendition.Rendition.{Rendition}
+use Rattle.ansi_style.specs.Rendition.{plain_style, known}
+use Rattle.ansi_style.specs.Written.{start, close}
+use Rattle.ansi_style.specs.Styled.{styled, bytes_of, residue}
+use Rattle.ansi_style.specs.Reading.{style_after_from}
+use Rattle.ansi_slice.specs.Cut.{cut}
+use Rattle.ansi_slice.specs.Sides.{right_side, left_side}
+use Rattle.ansi_slice.specs.Kept.{kept, without_prefix, trimmed}
+use Rattle.ansi_slice.specs.Parts.{parts, part_over, part, all_parts}
 use Rattle.ansi_str.specs.Changes.{slice_of, CutRange, LeftOf, RightOf, PartOf, WithoutPrefix, Trimmed}
 use Rattle.ansi_str.specs.Edited.{meaning}
 
@@ -35,18 +36,18 @@ the_pieces_of_both_are_others = refl
 
 -- A start sets what is known of its style.
 
-start_of_a_style_with_unread_attributes : style_behind plain_style (start (record bold_style { foreground = Some (Bit4 31); unknown = true })) ≡ record bold_style { foreground = Some (Bit4 31) }
+start_of_a_style_with_unread_attributes : style_after_from plain_style (start (record bold_style { foreground = Some (Bit4 31); unknown = true })) ≡ record bold_style { foreground = Some (Bit4 31) }
 unfolding digits
 start_of_a_style_with_unread_attributes = refl
 
 -- a color that no code selects isn't set: its start is the code 0
-start_of_a_color_out_of_range : known (style_behind plain_style (start (record plain_style { foreground = Some (Bit4 0) }))) ≡ plain_style
+start_of_a_color_out_of_range : known (style_after_from plain_style (start (record plain_style { foreground = Some (Bit4 0) }))) ≡ plain_style
 unfolding digits
 start_of_a_color_out_of_range = refl
 
--- A close clears, but may leave `reset` behind.
+-- A close clears, but may leave `reset` after.
 
-close_of_an_unknown_code : style_behind (record bold_style { unknown = true }) (close (record bold_style { unknown = true })) ≡ record plain_style { reset = true }
+close_of_an_unknown_code : style_after_from (record bold_style { unknown = true }) (close (record bold_style { unknown = true })) ≡ record plain_style { reset = true }
 close_of_an_unknown_code = refl
 
 -- A cut and the sides are slices of the styled bytes.
@@ -109,22 +110,22 @@ slice_without_a_prefix_of_two_styles = refl
 slice_without_another_prefix : slice_of (WithoutPrefix (codes "b")) (styled two_styles) ≡ None
 slice_without_another_prefix = refl
 
--- behind a lone escape, what is left may be read as a sequence, so only of whole texts is it the slice
+-- after a lone escape, what is left may be read as a sequence, so only of whole texts is it the slice
 
 abbrev lone_before_white_space : List ℕ
 lone_before_white_space = codes "\u{1b}\n[1m"
 
-trimmed_behind_a_lone_escape : trimmed lone_before_white_space ≡ codes "\u{1b}[1m"
+trimmed_after_a_lone_escape : trimmed lone_before_white_space ≡ codes "\u{1b}[1m"
 unfolding chars trim_start trim_end encode_utf8 kept
-trimmed_behind_a_lone_escape = refl
+trimmed_after_a_lone_escape = refl
 
-plain_of_trimmed_behind_a_lone_escape : plain (trimmed lone_before_white_space) ≡ []
+plain_of_trimmed_after_a_lone_escape : plain (trimmed lone_before_white_space) ≡ []
 unfolding chars trim_start trim_end encode_utf8 kept
-plain_of_trimmed_behind_a_lone_escape = refl
+plain_of_trimmed_after_a_lone_escape = refl
 
-trim_of_plain_behind_a_lone_escape : trim (plain lone_before_white_space) ≡ codes "[1m"
+trim_of_plain_after_a_lone_escape : trim (plain lone_before_white_space) ≡ codes "[1m"
 unfolding chars trim_start trim_end encode_utf8
-trim_of_plain_behind_a_lone_escape = refl
+trim_of_plain_after_a_lone_escape = refl
 
 -- A part is a slice of the styled bytes too, whole, and leaves nothing known open.
 
@@ -149,7 +150,7 @@ part_that_ends_in_bold_leaves_nothing_open = refl
 slice_past_the_last_part : slice_of (PartOf (codes ",") 4) (styled list_in_two_styles) ≡ None
 slice_past_the_last_part = refl
 
--- a title within a match belongs to the part behind
+-- a title within a match belongs to the part after
 
 title_within_a_match : all_parts (codes "a:\u{1b}]0;t\u{7}:b") (codes "::") ≡ codes "a" ∷ codes "\u{1b}]0;t\u{7}b" ∷ []
 unfolding part_over
@@ -160,20 +161,20 @@ title_within_a_match = refl
 abbrev lone_within_a_match : List ℕ
 lone_within_a_match = codes "a\n\u{1b}\n[1m"
 
-part_behind_a_lone_escape : part lone_within_a_match (codes "\n\n") 1 ≡ Some (codes "\u{1b}[1m")
+part_after_a_lone_escape : part lone_within_a_match (codes "\n\n") 1 ≡ Some (codes "\u{1b}[1m")
 unfolding digits part_over
-part_behind_a_lone_escape = refl
+part_after_a_lone_escape = refl
 
-slice_behind_a_lone_escape : option_map bytes_of (slice_of (PartOf (codes "\n\n") 1) (styled lone_within_a_match)) ≡ Some (codes "[1m")
-slice_behind_a_lone_escape = refl
+slice_after_a_lone_escape : option_map bytes_of (slice_of (PartOf (codes "\n\n") 1) (styled lone_within_a_match)) ≡ Some (codes "[1m")
+slice_after_a_lone_escape = refl
 
--- The intervals of the parts lie between the first matches: one that begins within another isn't taken, and what is behind the last match is a part, though it may be empty.
+-- The intervals of the parts lie between the first matches: one that begins within another isn't taken, and what is after the last match is a part, though it may be empty.
 
 parts_between_pairs : parts (codes "aaa") (codes "aa") ≡ (0, 0) ∷ (2, 3) ∷ []
 parts_between_pairs = refl
 
-parts_before_and_behind_a_match : parts (codes "aa") (codes "aa") ≡ (0, 0) ∷ (2, 2) ∷ []
-parts_before_and_behind_a_match = refl
+parts_before_and_after_a_match : parts (codes "aa") (codes "aa") ≡ (0, 0) ∷ (2, 2) ∷ []
+parts_before_and_after_a_match = refl
 
 -- at the empty pattern they are the characters between two empty texts, so there may be two more of them than bytes
 

@@ -4,25 +4,26 @@ use Rattle.std.specs.Prelude.{Option, Some, None, IfSome, option_map, unwrap_or,
 use Rattle.std.proofs.lemmas.Bool.{cond_both, cases_lt}
 use Rattle.std.proofs.lemmas.Grind.{flat_map-append}
 use Rattle.std.specs.List.{slice_range}
-use Rattle.ansi_str.specs.Sequences.{is_sgr}
-use Rattle.ansi_str.specs.Pieces.{Piece, spelling, Text, Sequence, LoneEscape, pieces_of}
-use Rattle.ansi_str.specs.Plain.{Mark, plain, is_text, plain_bytes, plain_of, marks, marks_of, up_to, joined}
-use Rattle.ansi_str.specs.Rendition.{Rendition, IsStyle, plain_style, has_any}
-use Rattle.ansi_str.specs.Sgr.{apply}
-use Rattle.ansi_str.specs.Written.{close, start, close_codes, close_if_any}
-use Rattle.ansi_str.specs.Styled.{style_at}
-use Rattle.ansi_str.specs.Cut.{show, cut}
-use Rattle.ansi_str.specs.Kept.{kept}
-use Rattle.ansi_str.specs.Parts.{parts, end_before, past, carried, part_over, part}
-use Rattle.ansi_str.specs.Sides.{dressed, copied, left_part, right_part, left_side, right_side}
-use Rattle.ansi_str.proofs.PlainLemmas.{one_text}
-use Rattle.ansi_str.proofs.SliceLemmas.{slice_range-append}
-use Rattle.ansi_str.proofs.MarkLemmas.{further, marks_of-text, marks_of-sequence, marks_of-lone}
-use Rattle.ansi_str.proofs.WalkLemmas.{walked, style_past}
-use Rattle.ansi_str.proofs.SideLemmas.{left_side-walked, right_side-walked}
-use Rattle.ansi_str.proofs.StyleLemmas.{IsStyle-apply, IsStyle-plain_style}
-use Rattle.ansi_str.proofs.JoinLemmas.{spelled, spelled-pieces_of}
-use Rattle.ansi_str.proofs.ReadBackLemmas.{close_codes_are, start_codes_are, code_pieces, spelled-code_pieces}
+use Rattle.ansi_items.specs.Sequences.{is_sgr}
+use Rattle.ansi_items.specs.Pieces.{Piece, spelling, Text, Sequence, LoneEscape, pieces_of}
+use Rattle.ansi_items.specs.Plain.{Mark, plain, is_text, plain_bytes, plain_of, marks, marks_of, up_to, joined}
+use Rattle.ansi_style.specs.declared.state.rendition.Rendition.{Rendition}
+use Rattle.ansi_style.specs.Rendition.{IsStyle, plain_style, has_any}
+use Rattle.ansi_style.specs.Sgr.{apply}
+use Rattle.ansi_style.specs.Written.{close, start, close_codes, close_if_any}
+use Rattle.ansi_style.specs.Styled.{style_at}
+use Rattle.ansi_slice.specs.Cut.{show, cut}
+use Rattle.ansi_slice.specs.Kept.{kept}
+use Rattle.ansi_slice.specs.Parts.{parts, end_before, past, carried, part_over, part}
+use Rattle.ansi_slice.specs.Sides.{dressed, copied, left_part, right_part, left_side, right_side}
+use Rattle.ansi_items.proofs.PlainLemmas.{one_text}
+use Rattle.ansi_slice.proofs.SliceLemmas.{slice_range-append}
+use Rattle.ansi_style.proofs.MarkLemmas.{further, marks_of-text, marks_of-sequence, marks_of-lone}
+use Rattle.ansi_slice.proofs.WalkLemmas.{walked, style_past}
+use Rattle.ansi_slice.proofs.SideLemmas.{left_side-walked, right_side-walked}
+use Rattle.ansi_style.proofs.StyleLemmas.{IsStyle-apply, IsStyle-plain_style}
+use Rattle.ansi_items.proofs.JoinLemmas.{spelled, spelled-pieces_of}
+use Rattle.ansi_style.proofs.ReadBackLemmas.{close_codes_are, start_codes_are, code_pieces, spelled-code_pieces}
 use Rattle.ansi_str.proofs.ShownLemmas.{spelled-one_text, shown_pieces, piece_when, at_places, at_places-further}
 use Rattle.ansi_str.proofs.CutSliceLemmas.{spelled-cut_pieces}
 use Rattle.ansi_str.proofs.KeptLemmas.{spelled-kept_pieces}
@@ -212,7 +213,7 @@ sides_len-first mid n s p ps =
     let right = walked (right_part mid) (n + length (plain_bytes p)) (style_past s p) ps in
     omega (arith, length-append (left_part mid n s p) left, length-append (right_part mid n s p) right)
 
--- behind the position each text is dressed once
+-- after the position each text is dressed once
 length-sides_past : (mid n : ℕ) (s : Rendition) (ps : List Piece) → IsStyle s → mid ≤ n → sides_len mid n s ps ≤ length (spelled ps) + 251 * text_count ps
 length-sides_past mid n s [] is past = omega arith
 length-sides_past mid n s (Text w ∷ ps) is past =

@@ -3,24 +3,25 @@ use Rattle.std.proofs.Common.{◌≡◌, ℕ, ◌+◌, ◌-◌, ◌≤◌, Bool,
 use Rattle.std.proofs.lemmas.Bool.{cond_both, cond-false, and_parts, eqb-true, le-leb}
 use Rattle.std.proofs.lemmas.List.Elements.{filter-append}
 use Rattle.std.specs.List.{list_all}
-use Rattle.ansi_str.specs.Bytes.{is_parameter_byte}
-use Rattle.ansi_str.specs.Sequences.{is_sgr}
-use Rattle.ansi_str.specs.Pieces.{Piece, Text, Sequence, LoneEscape, after_text, merged, pieces_of}
-use Rattle.ansi_str.specs.Plain.{Mark, plain_of, plain, marks, up_to, is_whole, is_other, other_sequences}
-use Rattle.ansi_str.specs.Rendition.{Rendition, IsStyle}
-use Rattle.ansi_str.specs.Written.{written, start_codes, start, close_if_any}
-use Rattle.ansi_str.specs.Styled.{style_at}
-use Rattle.ansi_str.specs.Cut.{show}
-use Rattle.ansi_str.specs.Parts.{match_places, apart, parts, past, carried, part_over, all_parts}
-use Rattle.ansi_str.proofs.PlainLemmas.{one_text}
-use Rattle.ansi_str.proofs.SliceLemmas.{slice_range-none}
-use Rattle.ansi_str.proofs.ShowLemmas.{show-bare}
-use Rattle.ansi_str.proofs.JoinLemmas.{spelled, AllStandAnywhere, pieces_of-spelled}
-use Rattle.ansi_str.proofs.ColorLemmas.{sgr_parameters-written}
-use Rattle.ansi_str.proofs.ReadBackLemmas.{AreCodes, code_pieces, start_codes_are}
-use Rattle.ansi_str.proofs.DressedLemmas.{dressed_pieces}
+use Rattle.ansi_items.specs.Bytes.{is_parameter_byte}
+use Rattle.ansi_items.specs.Sequences.{is_sgr}
+use Rattle.ansi_items.specs.Pieces.{Piece, Text, Sequence, LoneEscape, after_text, merged, pieces_of}
+use Rattle.ansi_items.specs.Plain.{Mark, plain_of, plain, marks, up_to, is_whole, is_other, other_sequences}
+use Rattle.ansi_style.specs.declared.state.rendition.Rendition.{Rendition}
+use Rattle.ansi_style.specs.Rendition.{IsStyle}
+use Rattle.ansi_style.specs.Written.{written, start_codes, start, close_if_any}
+use Rattle.ansi_style.specs.Styled.{style_at}
+use Rattle.ansi_slice.specs.Cut.{show}
+use Rattle.ansi_slice.specs.Parts.{match_places, apart, parts, past, carried, part_over, all_parts}
+use Rattle.ansi_items.proofs.PlainLemmas.{one_text}
+use Rattle.ansi_slice.proofs.SliceLemmas.{slice_range-none}
+use Rattle.ansi_slice.proofs.ShowLemmas.{show-bare}
+use Rattle.ansi_items.proofs.JoinLemmas.{spelled, AllStandAnywhere, pieces_of-spelled}
+use Rattle.ansi_style.proofs.ColorLemmas.{sgr_parameters-written}
+use Rattle.ansi_style.proofs.ReadBackLemmas.{AreCodes, code_pieces, start_codes_are}
+use Rattle.ansi_style.proofs.DressedLemmas.{dressed_pieces}
 use Rattle.ansi_str.proofs.ShownLemmas.{shown_pieces, piece_when}
-use Rattle.ansi_str.proofs.IntervalLemmas.{ComesBehind, ComeBehind, all_parts_come_behind}
+use Rattle.ansi_str.proofs.IntervalLemmas.{ComesAfter, ComeAfter, all_parts_come_after}
 use Rattle.ansi_str.proofs.PartSliceLemmas.{shown_pieces-nothing, earlier_places, own_pieces, spelled-own_pieces, own_pieces_stand, all_pieces, closing_codes, closing_codes_are, IsStyle-carried, part_pieces, spelled-part_pieces, part_pieces_stand}
 use Rattle.ansi_str.proofs.PartTextLemmas.{parts_over, all_parts-over}
 
@@ -123,29 +124,29 @@ other_sequences-part_over t before i whole =
     ∙ other_sequences-spelled (part_pieces t before i) (part_pieces_stand t before i whole)
     ∙ others-dressed_pieces (carried t before) (own_pieces t before i) (closing_codes q) (IsStyle-carried t before) (closing_codes_are q))
 
--- So in the parts in turn, behind those of the parts before, they are those up to the end of the last.
+-- So in the parts in turn, after those of the parts before, they are those up to the end of the last.
 
 abbrev others_up_to : List ℕ → Option ℕ → List Piece
 others_up_to t end = others (shown_pieces (earlier_places end) 0 0 (pieces_of t))
 
-others-next : (t : List ℕ) (before : Option ℕ) (i : ℕ × ℕ) → ComesBehind before i → others_up_to t before ++ others (own_pieces t before i) ≡ others_up_to t (Some i.1)
-others-next t before i behind =
+others-next : (t : List ℕ) (before : Option ℕ) (i : ℕ × ℕ) → ComesAfter before i → others_up_to t before ++ others (own_pieces t before i) ≡ others_up_to t (Some i.1)
+others-next t before i after =
     sym (filter-append is_other (shown_pieces (earlier_places before) 0 0 (pieces_of t)) (own_pieces t before i))
-    ∙ ap others (all_pieces t before i behind) ∙ others-shown_pieces (pieces_of t) (λ p. nat_le p i.1) i.0 i.1 0 0
+    ∙ ap others (all_pieces t before i after) ∙ others-shown_pieces (pieces_of t) (λ p. nat_le p i.1) i.0 i.1 0 0
 
 -- where the last of the intervals ends, or else those before
 abbrev last_end : Option ℕ → List (ℕ × ℕ) → Option ℕ
 last_end before [] = before
 last_end before (i ∷ is) = last_end (Some i.1) is
 
-others-parts_over : (t : List ℕ) (before : Option ℕ) (is : List (ℕ × ℕ)) → IsTrue (is_whole t) → ComeBehind before is
+others-parts_over : (t : List ℕ) (before : Option ℕ) (is : List (ℕ × ℕ)) → IsTrue (is_whole t) → ComeAfter before is
     → others_up_to t before ++ flat_map other_sequences (parts_over t before is) ≡ others_up_to t (last_end before is)
-others-parts_over t before [] whole behind = append-nil (others_up_to t before)
-others-parts_over t before (i ∷ is) whole behind =
+others-parts_over t before [] whole after = append-nil (others_up_to t before)
+others-parts_over t before (i ∷ is) whole after =
     let rest = flat_map other_sequences (parts_over t (Some i.1) is) in
     sym (append_assoc (others_up_to t before) (other_sequences (part_over t before i)) rest)
-    ∙ ap (λ v. v ++ rest) (ap (λ v. others_up_to t before ++ v) (other_sequences-part_over t before i whole) ∙ others-next t before i behind.0)
-    ∙ others-parts_over t (Some i.1) is whole behind.1
+    ∙ ap (λ v. v ++ rest) (ap (λ v. others_up_to t before ++ v) (other_sequences-part_over t before i whole) ∙ others-next t before i after.0)
+    ∙ others-parts_over t (Some i.1) is whole after.1
 
 last_end-intervals : (before : Option ℕ) (n first last : ℕ) (taken : List ℕ) → last_end before (zip (first ∷ map (λ m. m + n) taken) (taken ++ last ∷ [])) ≡ Some last
 last_end-intervals before n first last [] = refl
@@ -158,6 +159,6 @@ other_sequences-all_parts t p whole =
     let given = flat_map other_sequences (parts_over t None is) in
     ap (flat_map other_sequences) (all_parts-over t p)
     ∙ ap (λ qs. others qs ++ given) (sym (shown_pieces-nothing (earlier_places None) 0 0 (pieces_of t) (λ p. refl) (omega arith)))
-    ∙ others-parts_over t None is whole (all_parts_come_behind x p)
+    ∙ others-parts_over t None is whole (all_parts_come_after x p)
     ∙ ap (others_up_to t) (last_end-intervals None (length p) 0 (length x) (apart (length p) 0 (match_places x p)))
     ∙ others-shown_all (pieces_of t) (λ p. nat_le p (length x)) (λ p within. le-leb p (length x) within)

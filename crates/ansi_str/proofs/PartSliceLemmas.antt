@@ -4,27 +4,28 @@ use Rattle.std.specs.Prelude.{option_map, unwrap_or}
 use Rattle.std.specs.Option.{option_map_or}
 use Rattle.std.proofs.lemmas.Bool.{cond_both, and_parts, eqb-true, cases_lt, le-leb}
 use Rattle.std.proofs.lemmas.Bool.Decides.{nat_tests}
-use Rattle.ansi_str.specs.Pieces.{Piece, Text, Sequence, LoneEscape, pieces_of}
-use Rattle.ansi_str.specs.Plain.{Mark, plain, marks, up_to, is_whole}
-use Rattle.ansi_str.specs.Rendition.{Rendition, IsStyle, plain_style, known, has_any}
-use Rattle.ansi_str.specs.Written.{written_all, start, close_codes, close, close_if_any}
-use Rattle.ansi_str.specs.Styled.{style_at, styled, bytes_of, residue}
-use Rattle.ansi_str.specs.Reading.{after_marks}
-use Rattle.ansi_str.specs.Cut.{show}
-use Rattle.ansi_str.specs.Parts.{parts, end_before, past, carried, part_over, part}
+use Rattle.ansi_items.specs.Pieces.{Piece, Text, Sequence, LoneEscape, pieces_of}
+use Rattle.ansi_items.specs.Plain.{Mark, plain, marks, up_to, is_whole}
+use Rattle.ansi_style.specs.declared.state.rendition.Rendition.{Rendition}
+use Rattle.ansi_style.specs.Rendition.{IsStyle, plain_style, known, has_any}
+use Rattle.ansi_style.specs.Written.{written_all, start, close_codes, close, close_if_any}
+use Rattle.ansi_style.specs.Styled.{style_at, styled, bytes_of, residue}
+use Rattle.ansi_style.specs.Reading.{after_marks}
+use Rattle.ansi_slice.specs.Cut.{show}
+use Rattle.ansi_slice.specs.Parts.{parts, end_before, past, carried, part_over, part}
 use Rattle.ansi_str.specs.Changes.{PartOf, interval_of, slice_of}
 use Rattle.ansi_str.specs.Edited.{text_of}
-use Rattle.ansi_str.proofs.PlainLemmas.{one_text}
-use Rattle.ansi_str.proofs.SliceLemmas.{slice_range-none, slice_range-from_past}
-use Rattle.ansi_str.proofs.StyleLemmas.{IsStyle-plain_style, IsStyle-style_at}
-use Rattle.ansi_str.proofs.JoinLemmas.{spelled, AllStandAnywhere, pieces_stand}
-use Rattle.ansi_str.proofs.StyledLemmas.{styled_through, style_through, styled_through-append, style_through-append, styled-pieces, bytes_of-styled}
-use Rattle.ansi_str.proofs.ReadBackLemmas.{AreCodes, close_codes_are}
-use Rattle.ansi_str.proofs.CloseLemmas.{close_codes_clear}
-use Rattle.ansi_str.proofs.UnsetLemmas.{known-unset}
-use Rattle.ansi_str.proofs.DressedLemmas.{GiveAlone, IsClosed, closed-spelled, Clears, dressed_pieces, spelled-dressed_pieces, dressed_pieces_stand, dressed_pieces_give}
+use Rattle.ansi_items.proofs.PlainLemmas.{one_text}
+use Rattle.ansi_slice.proofs.SliceLemmas.{slice_range-none, slice_range-from_past}
+use Rattle.ansi_style.proofs.StyleLemmas.{IsStyle-plain_style, IsStyle-style_at}
+use Rattle.ansi_items.proofs.JoinLemmas.{spelled, AllStandAnywhere, pieces_stand}
+use Rattle.ansi_style.proofs.StyledLemmas.{styled_through, style_through, styled_through-append, style_through-append, styled-pieces, bytes_of-styled}
+use Rattle.ansi_style.proofs.ReadBackLemmas.{AreCodes, close_codes_are}
+use Rattle.ansi_style.proofs.CloseLemmas.{close_codes_clear}
+use Rattle.ansi_style.proofs.UnsetLemmas.{known-unset}
+use Rattle.ansi_style.proofs.DressedLemmas.{GiveAlone, IsClosed, closed-spelled, Clears, dressed_pieces, spelled-dressed_pieces, dressed_pieces_stand, dressed_pieces_give}
 use Rattle.ansi_str.proofs.ShownLemmas.{at_places, piece_when, shown_pieces, spelled-shown_pieces, shown_pieces_stand, style_through-shown_pieces, styled_through-shown_pieces}
-use Rattle.ansi_str.proofs.IntervalLemmas.{ComesBehind, parts_come_behind}
+use Rattle.ansi_str.proofs.IntervalLemmas.{ComesAfter, parts_come_after}
 
 -- The marks of the parts before, and then what a part shows, are what is shown with the marks of all.
 
@@ -69,8 +70,8 @@ mark-divided p k early late both es ls bs divides nothing later = elim (cases_lt
 
 shown_pieces-divided : (ps : List Piece) (k : ℕ) (early late both : ℕ → Bool) (c a b : ℕ) → Divides k early late both → k ≤ a + 1
     → shown_pieces early c c ps ++ shown_pieces late a b ps ≡ shown_pieces both a b ps
-shown_pieces-divided [] k early late both c a b divides behind = refl
-shown_pieces-divided (Text w ∷ ps) k early late both c a b divides behind =
+shown_pieces-divided [] k early late both c a b divides after = refl
+shown_pieces-divided (Text w ∷ ps) k early late both c a b divides after =
     let n = length w in
     let es = shown_pieces (λ p. early (n + p)) (c - n) (c - n) ps in
     let ls = shown_pieces (λ p. late (n + p)) (a - n) (b - n) ps in
@@ -87,14 +88,14 @@ shown_pieces-divided (Text w ∷ ps) k early late both c a b divides behind =
           ap (λ qs. qs ++ (one_text (slice_range w a b) ++ ls)) none
           ∙ ap (λ qs. one_text (slice_range w a b) ++ qs) (ap (λ qs. qs ++ ls) (sym none) ∙ later))
     ]
-shown_pieces-divided (Sequence w ∷ ps) k early late both c a b divides behind =
+shown_pieces-divided (Sequence w ∷ ps) k early late both c a b divides after =
     mark-divided (Sequence w) k early late both (shown_pieces early c c ps) (shown_pieces late a b ps) (shown_pieces both a b ps) divides
     (λ from. shown_pieces-nothing early c c ps (λ p. divides.early_from p (omega arith)) (omega arith))
-    (shown_pieces-divided ps k early late both c a b divides behind)
-shown_pieces-divided (LoneEscape ∷ ps) k early late both c a b divides behind =
+    (shown_pieces-divided ps k early late both c a b divides after)
+shown_pieces-divided (LoneEscape ∷ ps) k early late both c a b divides after =
     mark-divided LoneEscape k early late both (shown_pieces early c c ps) (shown_pieces late a b ps) (shown_pieces both a b ps) divides
     (λ from. shown_pieces-nothing early c c ps (λ p. divides.early_from p (omega arith)) (omega arith))
-    (shown_pieces-divided ps k early late both c a b divides behind)
+    (shown_pieces-divided ps k early late both c a b divides after)
 
 -- The marks that a part shows, those that the parts before have shown, and the marks of both.
 
@@ -132,16 +133,16 @@ carried-places t (Some e) = refl
 abbrev own_from : Option ℕ → ℕ
 own_from before = option_map_or (λ e. e + 1) before 0
 
-part_divides : (before : Option ℕ) (i : ℕ × ℕ) → ComesBehind before i → Divides (own_from before) (earlier_places before) (own_places before i.1) (λ p. nat_le p i.1)
-part_divides None i behind = record {
+part_divides : (before : Option ℕ) (i : ℕ × ℕ) → ComesAfter before i → Divides (own_from before) (earlier_places before) (own_places before i.1) (λ p. nat_le p i.1)
+part_divides None i after = record {
   early_before = λ p none. absurd (omega (arith, none));
   early_from = λ p from. refl;
   late_before = λ p none. absurd (omega (arith, none));
   late_from = λ p from. grind (arith, nat_tests);
   both_before = λ p none. absurd (omega (arith, none));
 }
-part_divides (Some e) i behind =
-    let below : e ≤ i.1 = behind.1 in
+part_divides (Some e) i after =
+    let below : e ≤ i.1 = after.1 in
     record {
       early_before = λ p before. grind (arith, nat_tests);
       early_from = λ p from. grind (arith, nat_tests);
@@ -150,7 +151,7 @@ part_divides (Some e) i behind =
       both_before = λ p before. grind (arith, nat_tests);
     }
 
--- What a part shows, behind the style that is carried.
+-- What a part shows, after the style that is carried.
 
 abbrev pub own_pieces : List ℕ → Option ℕ → ℕ × ℕ → List Piece
 own_pieces t before i = shown_pieces (own_places before i.1) i.0 i.1 (pieces_of t)
@@ -166,29 +167,29 @@ earlier_pieces t before = shown_pieces (earlier_places before) 0 0 (pieces_of t)
 style_through-earlier_pieces : (t : List ℕ) (before : Option ℕ) → style_through plain_style (earlier_pieces t before) ≡ carried t before
 style_through-earlier_pieces t before = style_through-shown_pieces (pieces_of t) plain_style (earlier_places before) 0 0 ∙ sym (carried-places t before)
 
-pub all_pieces : (t : List ℕ) (before : Option ℕ) (i : ℕ × ℕ) → ComesBehind before i → earlier_pieces t before ++ own_pieces t before i ≡ shown_pieces (λ p. nat_le p i.1) i.0 i.1 (pieces_of t)
-all_pieces t before i behind =
-    shown_pieces-divided (pieces_of t) (own_from before) (earlier_places before) (own_places before i.1) (λ p. nat_le p i.1) 0 i.0 i.1 (part_divides before i behind) (own_from_behind before i behind)
+pub all_pieces : (t : List ℕ) (before : Option ℕ) (i : ℕ × ℕ) → ComesAfter before i → earlier_pieces t before ++ own_pieces t before i ≡ shown_pieces (λ p. nat_le p i.1) i.0 i.1 (pieces_of t)
+all_pieces t before i after =
+    shown_pieces-divided (pieces_of t) (own_from before) (earlier_places before) (own_places before i.1) (λ p. nat_le p i.1) 0 i.0 i.1 (part_divides before i after) (own_from_after before i after)
   where
-    own_from_behind : (before : Option ℕ) (i : ℕ × ℕ) → ComesBehind before i → own_from before ≤ i.0 + 1
-    own_from_behind None i behind = omega arith
-    own_from_behind (Some e) i behind = omega (arith, behind.0)
+    own_from_after : (before : Option ℕ) (i : ℕ × ℕ) → ComesAfter before i → own_from before ≤ i.0 + 1
+    own_from_after None i after = omega arith
+    own_from_after (Some e) i after = omega (arith, after.0)
 
-styled_through-own_pieces : (t : List ℕ) (before : Option ℕ) (i : ℕ × ℕ) → ComesBehind before i → styled_through (carried t before) (own_pieces t before i) ≡ slice_range (styled t) i.0 i.1
-styled_through-own_pieces t before i behind =
+styled_through-own_pieces : (t : List ℕ) (before : Option ℕ) (i : ℕ × ℕ) → ComesAfter before i → styled_through (carried t before) (own_pieces t before i) ≡ slice_range (styled t) i.0 i.1
+styled_through-own_pieces t before i after =
     ap₂ (λ u v. u ++ v)
     (sym (styled_through-shown_pieces (pieces_of t) plain_style (earlier_places before) 0 0 (λ p none. absurd (omega (arith, none))) ∙ slice_range-none (styled_through plain_style (pieces_of t)) 0 0 (omega arith)))
     (ap (λ s. styled_through s (own_pieces t before i)) (sym (style_through-earlier_pieces t before)))
     ∙ sym (styled_through-append plain_style (earlier_pieces t before) (own_pieces t before i))
-    ∙ ap (styled_through plain_style) (all_pieces t before i behind)
+    ∙ ap (styled_through plain_style) (all_pieces t before i after)
     ∙ styled_through-shown_pieces (pieces_of t) plain_style (λ p. nat_le p i.1) i.0 i.1 (λ p below. le-leb p i.1 (omega arith))
     ∙ ap (λ bs. slice_range bs i.0 i.1) (sym (styled-pieces t))
 
-style_through-own_pieces : (t : List ℕ) (before : Option ℕ) (i : ℕ × ℕ) → ComesBehind before i → style_through (carried t before) (own_pieces t before i) ≡ style_at t i.1
-style_through-own_pieces t before i behind =
+style_through-own_pieces : (t : List ℕ) (before : Option ℕ) (i : ℕ × ℕ) → ComesAfter before i → style_through (carried t before) (own_pieces t before i) ≡ style_at t i.1
+style_through-own_pieces t before i after =
     ap (λ s. style_through s (own_pieces t before i)) (sym (style_through-earlier_pieces t before))
     ∙ sym (style_through-append plain_style (earlier_pieces t before) (own_pieces t before i))
-    ∙ ap (style_through plain_style) (all_pieces t before i behind)
+    ∙ ap (style_through plain_style) (all_pieces t before i after)
     ∙ style_through-shown_pieces (pieces_of t) plain_style (λ p. nat_le p i.1) i.0 i.1
 
 -- The codes that close a style, where anything is set that a reader could see.
@@ -237,34 +238,34 @@ part_pieces_stand t before i whole =
     let q = style_at t i.1 in
     dressed_pieces_stand (carried t before) (own_pieces t before i) (closing_codes q) (IsStyle-carried t before) (own_pieces_stand t before i whole) (closing_codes_are q)
 
-some_part_is : (t : List ℕ) (before : Option ℕ) (i : ℕ × ℕ) → IsTrue (is_whole t) → ComesBehind before i
+some_part_is : (t : List ℕ) (before : Option ℕ) (i : ℕ × ℕ) → IsTrue (is_whole t) → ComesAfter before i
     → IsClosed (slice_range (styled t) i.0 i.1) (start (carried t before) ++ show (plain t) i.0 i.1 (past before (up_to i.1 (marks t))) ++ close_if_any (style_at t i.1))
-some_part_is t before i whole behind =
+some_part_is t before i whole after =
     let s = carried t before in
     let q = style_at t i.1 in
     let ps = part_pieces t before i in
-    let give = dressed_pieces_give s q (own_pieces t before i) (closing_codes q) (IsStyle-carried t before) (ap known (style_through-own_pieces t before i behind)) (closing_codes_clear q) in
+    let give = dressed_pieces_give s q (own_pieces t before i) (closing_codes q) (IsStyle-carried t before) (ap known (style_through-own_pieces t before i after)) (closing_codes_clear q) in
     subst (IsClosed (slice_range (styled t) i.0 i.1)) (spelled-part_pieces t before i)
-    (closed-spelled ps (slice_range (styled t) i.0 i.1) (part_pieces_stand t before i whole) (subst (GiveAlone ps) (styled_through-own_pieces t before i behind) give))
+    (closed-spelled ps (slice_range (styled t) i.0 i.1) (part_pieces_stand t before i whole) (subst (GiveAlone ps) (styled_through-own_pieces t before i after) give))
 
 no_part_is : (t : List ℕ) (a b : ℕ) → a ≡ b → IsClosed (slice_range (styled t) a b) []
 no_part_is t a b same = record { styled_bytes = sym (slice_range-none (styled t) a b (omega (arith, same))); whole = refl; closed = refl }
 
--- the part over any interval that comes behind the part before
-pub part_over_is : (t : List ℕ) (before : Option ℕ) (i : ℕ × ℕ) → IsTrue (is_whole t) → ComesBehind before i → IsClosed (slice_range (styled t) i.0 i.1) (part_over t before i)
+-- the part over any interval that comes after the part before
+pub part_over_is : (t : List ℕ) (before : Option ℕ) (i : ℕ × ℕ) → IsTrue (is_whole t) → ComesAfter before i → IsClosed (slice_range (styled t) i.0 i.1) (part_over t before i)
 unfolding part_over
-part_over_is t before i whole behind =
+part_over_is t before i whole after =
     let own = past before (up_to i.1 (marks t)) in
     cond_both (i.0 == i.1 && length own == 0) [] (start (carried t before) ++ show (plain t) i.0 i.1 own ++ close_if_any (style_at t i.1)) (IsClosed (slice_range (styled t) i.0 i.1))
     (λ none. no_part_is t i.0 i.1 (eqb-true i.0 i.1 (and_parts (i.0 == i.1) (length own == 0) none).0))
-    (λ some. some_part_is t before i whole behind)
+    (λ some. some_part_is t before i whole after)
 
 -- the part of an index, as the text that its change makes
 pub text_of-part_is : (t p : List ℕ) (k : ℕ) (i : ℕ × ℕ) → IsTrue (is_whole t) → interval_of (PartOf p k) (plain t) ≡ Some i → IsClosed (slice_range (styled t) i.0 i.1) (text_of (PartOf p k) t)
 text_of-part_is t p k i whole found =
     let before = end_before (parts (plain t) p) k in
     subst (IsClosed (slice_range (styled t) i.0 i.1)) (sym (ap (λ o. unwrap_or (option_map (part_over t before) o) []) found))
-    (part_over_is t before i whole (parts_come_behind (plain t) p k i found))
+    (part_over_is t before i whole (parts_come_after (plain t) p k i found))
 
 -- the answer is the slice over the interval, whole and closed, or None where there is no interval
 abbrev IsSliceOver : List ℕ → Option (ℕ × ℕ) → Option (List ℕ) → Type 0
@@ -272,13 +273,13 @@ IsSliceOver t o answer = (option_map (λ (i : ℕ × ℕ). slice_range (styled t
 
 part_is_slice : (t p : List ℕ) (k : ℕ) → IsTrue (is_whole t) → IsSliceOver t (interval_of (PartOf p k) (bytes_of (styled t))) (part t p k)
 part_is_slice t p k whole =
-    subst (λ x. IsSliceOver t (slice_get (parts x p) k) (part t p k)) (sym (bytes_of-styled t)) (by_interval (slice_get (parts (plain t) p) k) (λ i found. parts_come_behind (plain t) p k i found))
+    subst (λ x. IsSliceOver t (slice_get (parts x p) k) (part t p k)) (sym (bytes_of-styled t)) (by_interval (slice_get (parts (plain t) p) k) (λ i found. parts_come_after (plain t) p k i found))
   where
-    by_interval : (o : Option (ℕ × ℕ)) → ((i : ℕ × ℕ) → o ≡ Some i → ComesBehind (end_before (parts (plain t) p) k) i)
+    by_interval : (o : Option (ℕ × ℕ)) → ((i : ℕ × ℕ) → o ≡ Some i → ComesAfter (end_before (parts (plain t) p) k) i)
         → IsSliceOver t o (option_map (part_over t (end_before (parts (plain t) p) k)) o)
-    by_interval None behind = (refl, tt)
-    by_interval (Some i) behind =
-        let is = part_over_is t (end_before (parts (plain t) p) k) i whole (behind i refl) in
+    by_interval None after = (refl, tt)
+    by_interval (Some i) after =
+        let is = part_over_is t (end_before (parts (plain t) p) k) i whole (after i refl) in
         (ap Some (sym is.styled_bytes), (is.whole, is.closed))
 
 pub slice_of-part : (t p : List ℕ) (k : ℕ) → IsTrue (is_whole t) → slice_of (PartOf p k) (styled t) ≡ option_map styled (part t p k)

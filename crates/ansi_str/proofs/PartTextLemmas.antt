@@ -8,15 +8,15 @@ use Rattle.std.proofs.lemmas.List.Sums.{length-filter, count_by-le-length}
 use Rattle.std.proofs.lemmas.Slice.Zip.{length-zip}
 use Rattle.std.specs.Char.{encode_utf8}
 use Rattle.std.specs.Str.{IsUtf8, chars}
-use Rattle.ansi_str.specs.Plain.{plain, is_whole}
-use Rattle.ansi_str.specs.Styled.{StyledByte, styled, bytes_of}
-use Rattle.ansi_str.specs.Parts.{is_match, match_places, apart, parts, end_before, part_over, part, all_parts}
+use Rattle.ansi_items.specs.Plain.{plain, is_whole}
+use Rattle.ansi_style.specs.Styled.{StyledByte, styled, bytes_of}
+use Rattle.ansi_slice.specs.Parts.{is_match, match_places, apart, parts, end_before, part_over, part, all_parts}
 use Rattle.ansi_str.specs.StdSplit.{AreSplit, slices_over}
-use Rattle.ansi_str.proofs.SliceLemmas.{slice_range-map}
-use Rattle.ansi_str.proofs.StyledLemmas.{bytes_of-styled}
-use Rattle.ansi_str.proofs.IntervalLemmas.{ComesBehind, parts_come_behind, end_behind, end_behind-suc, end_behind-none}
+use Rattle.ansi_slice.proofs.SliceLemmas.{slice_range-map}
+use Rattle.ansi_style.proofs.StyledLemmas.{bytes_of-styled}
+use Rattle.ansi_str.proofs.IntervalLemmas.{ComesAfter, parts_come_after, end_after, end_after-suc, end_after-none}
 use Rattle.ansi_str.proofs.PartSliceLemmas.{part_over_is}
-use Rattle.ansi_str.proofs.Utf8Lemmas.{IsUtf8-plain}
+use Rattle.ansi_items.proofs.Utf8Lemmas.{IsUtf8-plain}
 use Rattle.ansi_str.proofs.StdSplitLemmas.{parts_are_split}
 use Rattle.ansi_str.proofs.CharacterLemmas.{slices_over-parts-empty}
 
@@ -45,9 +45,9 @@ length-parts x p =
 
 -- The plain text of a part.
 
-pub plain-part_over : (t : List ℕ) (before : Option ℕ) (i : ℕ × ℕ) → IsTrue (is_whole t) → ComesBehind before i → plain (part_over t before i) ≡ slice_range (plain t) i.0 i.1
-plain-part_over t before i whole behind =
-    sym (bytes_of-styled (part_over t before i)) ∙ ap bytes_of (part_over_is t before i whole behind).styled_bytes
+pub plain-part_over : (t : List ℕ) (before : Option ℕ) (i : ℕ × ℕ) → IsTrue (is_whole t) → ComesAfter before i → plain (part_over t before i) ≡ slice_range (plain t) i.0 i.1
+plain-part_over t before i whole after =
+    sym (bytes_of-styled (part_over t before i)) ∙ ap bytes_of (part_over_is t before i whole after).styled_bytes
     ∙ sym (slice_range-map (λ (b : StyledByte). b.byte) (styled t) i.0 i.1) ∙ ap (λ x. slice_range x i.0 i.1) (bytes_of-styled t)
 
 -- The parts of all indices are those over the intervals, in turn.
@@ -58,21 +58,21 @@ parts_over t before (i ∷ is) = part_over t before i ∷ parts_over t (Some i.1
 
 -- where h gives the part of each index, from a on
 filter_map-parts : (t : List ℕ) (h : ℕ → Option (List ℕ)) (before : Option ℕ) (is : List (ℕ × ℕ)) (a : ℕ)
-    → ((j : ℕ) → h (a + j) ≡ option_map (part_over t (end_behind before is j)) (slice_get is j)) → filter_map h (range_with_len a (length is)) ≡ parts_over t before is
+    → ((j : ℕ) → h (a + j) ≡ option_map (part_over t (end_after before is j)) (slice_get is j)) → filter_map h (range_with_len a (length is)) ≡ parts_over t before is
 filter_map-parts t h before [] a gives = refl
 filter_map-parts t h before (i ∷ is) a gives =
     let same : a ≡ a + 0 = omega arith in
     let next : (j : ℕ) → a + 1 + j ≡ a + suc j = λ j. omega arith in
     ap₂ (λ o us. cons_option o us) (ap h same ∙ gives 0)
     (filter_map-parts t h (Some i.1) is (a + 1)
-    (λ j. ap h (next j) ∙ gives (suc j) ∙ ap (λ b. option_map (part_over t b) (slice_get is j)) (end_behind-suc before i is j)))
+    (λ j. ap h (next j) ∙ gives (suc j) ∙ ap (λ b. option_map (part_over t b) (slice_get is j)) (end_after-suc before i is j)))
 
 pub all_parts-over : (t p : List ℕ) → all_parts t p ≡ parts_over t None (parts (plain t) p)
 all_parts-over t p =
     let is = parts (plain t) p in
     let first : (j : ℕ) → 0 + j ≡ j = λ j. omega arith in
     filter_map-parts t (part t p) None is 0
-    (λ j. ap (part t p) (first j) ∙ ap (λ b. option_map (part_over t b) (slice_get is j)) (sym (end_behind-none is j)))
+    (λ j. ap (part t p) (first j) ∙ ap (λ b. option_map (part_over t b) (slice_get is j)) (sym (end_after-none is j)))
 
 length-parts_over : (t : List ℕ) (before : Option ℕ) (is : List (ℕ × ℕ)) → length (parts_over t before is) ≡ length is
 length-parts_over t before [] = refl
@@ -84,11 +84,11 @@ length-all_parts t p = ap length (all_parts-over t p) ∙ length-parts_over t No
 -- where g reads each part as v does its interval
 
 map-parts_over : {Z : Type 0} (t : List ℕ) (g : List ℕ → Z) (v : ℕ × ℕ → Z) (before : Option ℕ) (is : List (ℕ × ℕ))
-    → ((k : ℕ) (i : ℕ × ℕ) → slice_get is k ≡ Some i → g (part_over t (end_behind before is k) i) ≡ v i) → map g (parts_over t before is) ≡ map v is
+    → ((k : ℕ) (i : ℕ × ℕ) → slice_get is k ≡ Some i → g (part_over t (end_after before is k) i) ≡ v i) → map g (parts_over t before is) ≡ map v is
 map-parts_over t g v before [] reads = refl
 map-parts_over t g v before (i ∷ is) reads =
     ap₂ (λ y ys. y ∷ ys) (reads 0 i refl)
-    (map-parts_over t g v (Some i.1) is (λ k j found. ap (λ b. g (part_over t b j)) (sym (end_behind-suc before i is k)) ∙ reads (suc k) j found))
+    (map-parts_over t g v (Some i.1) is (λ k j found. ap (λ b. g (part_over t b j)) (sym (end_after-suc before i is k)) ∙ reads (suc k) j found))
 
 pub map-all_parts : {Z : Type 0} (t p : List ℕ) (g : List ℕ → Z) (v : ℕ × ℕ → Z)
     → ((k : ℕ) (i : ℕ × ℕ) → slice_get (parts (plain t) p) k ≡ Some i → g (part_over t (end_before (parts (plain t) p) k) i) ≡ v i)
@@ -96,12 +96,12 @@ pub map-all_parts : {Z : Type 0} (t p : List ℕ) (g : List ℕ → Z) (v : ℕ 
 map-all_parts t p g v reads =
     let is = parts (plain t) p in
     ap (map g) (all_parts-over t p)
-    ∙ map-parts_over t g v None is (λ k i found. ap (λ b. g (part_over t b i)) (end_behind-none is k) ∙ reads k i found)
+    ∙ map-parts_over t g v None is (λ k i found. ap (λ b. g (part_over t b i)) (end_after-none is k) ∙ reads k i found)
 
 pub plain-all_parts : (t p : List ℕ) → IsTrue (is_whole t) → map plain (all_parts t p) ≡ slices_over (plain t) (parts (plain t) p)
 plain-all_parts t p whole =
     map-all_parts t p plain (λ i. slice_range (plain t) i.0 i.1)
-    (λ k i found. plain-part_over t (end_before (parts (plain t) p) k) i whole (parts_come_behind (plain t) p k i found))
+    (λ k i found. plain-part_over t (end_before (parts (plain t) p) k) i whole (parts_come_after (plain t) p k i found))
 
 -- So they are what std's `split` gives, and at the empty pattern the characters.
 

@@ -5,20 +5,20 @@ use Rattle.std.proofs.lemmas.List.{take-append-drop, length-drop, get_or-drop}
 use Rattle.std.proofs.lemmas.List.Folds.{list_any-append}
 use Rattle.std.specs.Str.{IsUtf8, IsCharBoundary}
 use Rattle.memchr.specs.Find.{IsFirst}
-use Rattle.ansi_str.specs.Bytes.{escape}
-use Rattle.ansi_str.specs.Pieces.{Piece, Text, Sequence, LoneEscape, after_text, pieces_of, ArePieces}
-use Rattle.ansi_str.specs.Plain.{plain_of, plain, has_escape}
-use Rattle.ansi_str.specs.Parts.{first_match_from}
+use Rattle.ansi_items.specs.Bytes.{escape}
+use Rattle.ansi_items.specs.Pieces.{Piece, Text, Sequence, LoneEscape, after_text, pieces_of, ArePieces}
+use Rattle.ansi_items.specs.Plain.{plain_of, plain, has_escape}
+use Rattle.ansi_slice.specs.Parts.{first_match_from}
 use Rattle.ansi_str.specs.Spans.{IsCutAtMatch}
 use Rattle.std.specs.Prelude.{◌==◌}
-use Rattle.ansi_str.proofs.PieceLemmas.{pieces_are, pieces_of-unique}
-use Rattle.ansi_str.proofs.PlainLemmas.{all_plain_bytes, no_escape}
-use Rattle.ansi_str.proofs.JoinLemmas.{after_text_are}
-use Rattle.ansi_str.proofs.MatchLemmas.{IsMatch, first_match_in}
-use Rattle.ansi_str.proofs.BehindLemmas.{drop-take, front_len, front_len-last, is_cut_behind}
+use Rattle.ansi_items.proofs.PieceLemmas.{pieces_are, pieces_of-unique}
+use Rattle.ansi_items.proofs.PlainLemmas.{all_plain_bytes, no_escape}
+use Rattle.ansi_items.proofs.JoinLemmas.{after_text_are}
+use Rattle.ansi_slice.proofs.MatchLemmas.{IsMatch, first_match_in}
+use Rattle.ansi_str.proofs.AfterLemmas.{drop-take, front_len, front_len-last, is_cut_after}
 use Rattle.ansi_str.proofs.SpanLemmas.{is_cut_at_match}
 
--- A run at the front joins the text behind it.
+-- A run at the front joins the text after it.
 
 pieces_of-run : (w rest : List ℕ) → w ≢ [] → IsFalse (has_escape w) → pieces_of (w ++ rest) ≡ after_text w (pieces_of rest)
 pieces_of-run w rest filled none = sym (pieces_of-unique (w ++ rest) (after_text w (pieces_of rest)) (after_text_are w rest (pieces_of rest) filled (all_plain_bytes w none) (pieces_are rest)))
@@ -56,14 +56,14 @@ match_in_run t w rest p from place utf8 utf8_p spelled none first =
     (subst (λ k. IsFirst (IsMatch (w ++ plain rest) p) k (length w) (Some place)) here first))
     ∙ ap Some at_place in
     is_cut_at_match t p from place (take place t) (drop place t) utf8 utf8_p found
-    (is_cut_behind t place place (sym (ap (front_len place) pieces ∙ front_len-after_text place w (pieces_of rest) inside)))
+    (is_cut_after t place place (sym (ap (front_len place) pieces ∙ front_len-after_text place w (pieces_of rest) inside)))
 
 pub matches_in_run : (t w rest p : List ℕ) (from : ℕ) (r : Option ℕ) → IsUtf8 t → IsUtf8 p → t ≡ w ++ rest → IsFalse (has_escape w) → IsFirst (IsMatch (w ++ plain rest) p) from (length w) r
     → IfSome r (λ place. IsCutAtMatch t p from (take place t) (drop place t))
 matches_in_run t w rest p from None utf8 utf8_p spelled none first = tt
 matches_in_run t w rest p from (Some place) utf8 utf8_p spelled none first = match_in_run t w rest p from place utf8 utf8_p spelled none first
 
--- What is left of the run behind a place in it.
+-- What is left of the run after a place in it.
 
 pub boundary-drop : (t : List ℕ) (place run : ℕ) → place ≤ run → IsCharBoundary t run → IsCharBoundary (drop place t) (run - place)
 boundary-drop t place run before boundary =

@@ -1,23 +1,24 @@
--- What is shown of a plain text with some of its marks, as pieces; their styled bytes, and the style behind them.
+-- What is shown of a plain text with some of its marks, as pieces; their styled bytes, and the style after them.
 use Rattle.std.proofs.Common.{◌≡◌, ◌≢◌, ℕ, ◌+◌, ◌-◌, ◌<◌, ◌≤◌, inl, inr, Bool, true, false, List, [], ◌∷◌, ◌++◌, map, length, take, drop, filter, refl, sym, ◌∙◌, ap, ap₂, arith, append-nil, slice_range, if◌then◌else◌}
 use Rattle.std.proofs.lemmas.Bool.{cond_both, and_parts, cases_lt}
 use Rattle.std.proofs.lemmas.Grind.{flat_map-append}
 use Rattle.std.proofs.lemmas.List.{length-map, take-append-drop}
 use Rattle.std.proofs.lemmas.List.Folds.{list_all-append}
 use Rattle.std.specs.List.{list_all}
-use Rattle.ansi_str.specs.Bytes.{is_plain_byte}
-use Rattle.ansi_str.specs.Pieces.{Piece, Text, Sequence, LoneEscape, spelling}
-use Rattle.ansi_str.specs.Plain.{Mark, plain_of, marks_of}
-use Rattle.ansi_str.specs.Rendition.{Rendition, known}
-use Rattle.ansi_str.specs.Sgr.{apply}
-use Rattle.ansi_str.specs.Reading.{after_marks}
-use Rattle.ansi_str.specs.Cut.{show}
-use Rattle.ansi_str.proofs.PlainLemmas.{one_text}
-use Rattle.ansi_str.proofs.SliceLemmas.{slice_range-none, slice_range-from_past, slice_range-map, slice_range-append}
-use Rattle.ansi_str.proofs.MarkLemmas.{further, marks_of-text, marks_of-sequence, marks_of-lone, after_marks-further}
-use Rattle.ansi_str.proofs.ShowLemmas.{show-mark, show-nil, show-text}
-use Rattle.ansi_str.proofs.JoinLemmas.{spelled, AllStandAnywhere, stand-append}
-use Rattle.ansi_str.proofs.StyledLemmas.{style_through, style_through-append, styled_through, in_style, styled_through-append}
+use Rattle.ansi_items.specs.Bytes.{is_plain_byte}
+use Rattle.ansi_items.specs.Pieces.{Piece, Text, Sequence, LoneEscape, spelling}
+use Rattle.ansi_items.specs.Plain.{Mark, plain_of, marks_of}
+use Rattle.ansi_style.specs.declared.state.rendition.Rendition.{Rendition}
+use Rattle.ansi_style.specs.Rendition.{known}
+use Rattle.ansi_style.specs.Sgr.{apply}
+use Rattle.ansi_style.specs.Reading.{after_marks}
+use Rattle.ansi_slice.specs.Cut.{show}
+use Rattle.ansi_items.proofs.PlainLemmas.{one_text}
+use Rattle.ansi_slice.proofs.SliceLemmas.{slice_range-none, slice_range-from_past, slice_range-map, slice_range-append}
+use Rattle.ansi_style.proofs.MarkLemmas.{further, marks_of-text, marks_of-sequence, marks_of-lone, after_marks-further}
+use Rattle.ansi_slice.proofs.ShowLemmas.{show-mark, show-nil, show-text}
+use Rattle.ansi_items.proofs.JoinLemmas.{spelled, AllStandAnywhere, stand-append}
+use Rattle.ansi_style.proofs.StyledLemmas.{style_through, style_through-append, styled_through, in_style, styled_through-append}
 
 -- the marks at places that pass the test
 abbrev pub at_places : (ℕ → Bool) → List Mark → List Mark
@@ -82,10 +83,10 @@ spelled-shown_pieces (LoneEscape ∷ ps) test a b =
 plain-slice_range : (x : List ℕ) (a b : ℕ) → list_all is_plain_byte x ≡ true → list_all is_plain_byte (slice_range x a b) ≡ true
 plain-slice_range x a b all =
     let rest = drop a x in
-    let behind = (and_parts (list_all is_plain_byte (take a x)) (list_all is_plain_byte rest)
+    let after = (and_parts (list_all is_plain_byte (take a x)) (list_all is_plain_byte rest)
     (sym (list_all-append is_plain_byte (take a x) rest) ∙ ap (list_all is_plain_byte) (take-append-drop a x) ∙ all)).1 in
     (and_parts (list_all is_plain_byte (take (b - a) rest)) (list_all is_plain_byte (drop (b - a) rest))
-    (sym (list_all-append is_plain_byte (take (b - a) rest) (drop (b - a) rest)) ∙ ap (list_all is_plain_byte) (take-append-drop (b - a) rest) ∙ behind)).0
+    (sym (list_all-append is_plain_byte (take (b - a) rest) (drop (b - a) rest)) ∙ ap (list_all is_plain_byte) (take-append-drop (b - a) rest) ∙ after)).0
 
 one_text_stands : (w : List ℕ) → list_all is_plain_byte w ≡ true → AllStandAnywhere (one_text w)
 one_text_stands [] all = tt
@@ -106,7 +107,7 @@ shown_pieces_stand (Sequence w ∷ ps) test a b all =
     (shown_pieces_stand ps test a b all.1)
 shown_pieces_stand (LoneEscape ∷ ps) test a b all = absurd all.0
 
--- The style behind them is that after the marks that are shown.
+-- The style after them is that after the marks that are shown.
 
 style_through-one_text : (s : Rendition) (w : List ℕ) → style_through s (one_text w) ≡ s
 style_through-one_text s [] = refl
@@ -144,7 +145,7 @@ styled_through-one_text : (s : Rendition) (w : List ℕ) → styled_through s (o
 styled_through-one_text s [] = refl
 styled_through-one_text s (b ∷ w) = append-nil (in_style s (b ∷ w))
 
--- an end that isn't behind the start shows no byte
+-- an end that isn't after the start shows no byte
 styled_through-shown_none : (ps : List Piece) (s : Rendition) (test : ℕ → Bool) (a b : ℕ) → b ≤ a → styled_through s (shown_pieces test a b ps) ≡ []
 styled_through-shown_none [] s test a b none = refl
 styled_through-shown_none (Text w ∷ ps) s test a b none =

@@ -6,26 +6,27 @@ use Rattle.std.proofs.Math.Seq.{take-nil, drop-nil}
 use Rattle.std.proofs.lemmas.List.{length-map, take-append-drop, take-map, drop-map}
 use Rattle.std.proofs.lemmas.List.Folds.{list_all-append}
 use Rattle.std.specs.List.{list_all}
-use Rattle.ansi_str.specs.Bytes.{is_plain_byte}
-use Rattle.ansi_str.specs.Sequences.{is_sgr}
-use Rattle.ansi_str.specs.Pieces.{Piece, Text, spelling, Sequence, LoneEscape, pieces_of}
-use Rattle.ansi_str.specs.Plain.{plain, plain_bytes, is_whole}
-use Rattle.ansi_str.specs.Rendition.{Rendition, known, plain_style, IsStyle}
-use Rattle.ansi_str.specs.Sgr.{apply}
-use Rattle.ansi_str.specs.Written.{close_codes, start, close}
-use Rattle.ansi_str.specs.Styled.{StyledByte, styled}
-use Rattle.ansi_str.specs.Sides.{dressed, left_part, copied, right_part, left_side, right_side}
-use Rattle.ansi_str.proofs.SliceLemmas.{take-append, drop-append}
-use Rattle.ansi_str.proofs.CutWalkLemmas.{apply-no_sgr}
-use Rattle.ansi_str.proofs.WalkLemmas.{walked, style_past}
-use Rattle.ansi_str.proofs.SideLemmas.{left_side-walked, right_side-walked}
-use Rattle.ansi_str.proofs.StyleLemmas.{IsStyle-apply, IsStyle-plain_style}
-use Rattle.ansi_str.proofs.JoinLemmas.{spelled, AllStandAnywhere, stand-append, pieces_stand}
-use Rattle.ansi_str.proofs.StyledLemmas.{styled_through, in_style, styled-pieces}
-use Rattle.ansi_str.proofs.SpelledLemmas.{styled-append}
-use Rattle.ansi_str.proofs.ReadBackLemmas.{close_codes_are}
-use Rattle.ansi_str.proofs.DressedLemmas.{GiveAlone, give-nothing, give-append, IsClosed, closed-spelled, dressed_pieces, spelled-dressed_pieces, dressed_pieces_stand, dressed_pieces_give}
-use Rattle.ansi_str.proofs.CloseLemmas.{close_codes_clear}
+use Rattle.ansi_items.specs.Bytes.{is_plain_byte}
+use Rattle.ansi_items.specs.Sequences.{is_sgr}
+use Rattle.ansi_items.specs.Pieces.{Piece, Text, spelling, Sequence, LoneEscape, pieces_of}
+use Rattle.ansi_items.specs.Plain.{plain, plain_bytes, is_whole}
+use Rattle.ansi_style.specs.declared.state.rendition.Rendition.{Rendition}
+use Rattle.ansi_style.specs.Rendition.{known, plain_style, IsStyle}
+use Rattle.ansi_style.specs.Sgr.{apply}
+use Rattle.ansi_style.specs.Written.{close_codes, start, close}
+use Rattle.ansi_style.specs.Styled.{StyledByte, styled}
+use Rattle.ansi_slice.specs.Sides.{dressed, left_part, copied, right_part, left_side, right_side}
+use Rattle.ansi_slice.proofs.SliceLemmas.{take-append, drop-append}
+use Rattle.ansi_slice.proofs.CutWalkLemmas.{apply-no_sgr}
+use Rattle.ansi_slice.proofs.WalkLemmas.{walked, style_past}
+use Rattle.ansi_slice.proofs.SideLemmas.{left_side-walked, right_side-walked}
+use Rattle.ansi_style.proofs.StyleLemmas.{IsStyle-apply, IsStyle-plain_style}
+use Rattle.ansi_items.proofs.JoinLemmas.{spelled, AllStandAnywhere, stand-append, pieces_stand}
+use Rattle.ansi_style.proofs.StyledLemmas.{styled_through, in_style, styled-pieces}
+use Rattle.ansi_style.proofs.SpelledLemmas.{styled-append}
+use Rattle.ansi_style.proofs.ReadBackLemmas.{close_codes_are}
+use Rattle.ansi_style.proofs.DressedLemmas.{GiveAlone, give-nothing, give-append, IsClosed, closed-spelled, dressed_pieces, spelled-dressed_pieces, dressed_pieces_stand, dressed_pieces_give}
+use Rattle.ansi_style.proofs.CloseLemmas.{close_codes_clear}
 
 -- A text between the start and the close of a style.
 

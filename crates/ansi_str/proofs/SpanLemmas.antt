@@ -1,4 +1,4 @@
--- The parts that are left of a text: the first one, which is written from what stands up to its end, and those of what stands behind.
+-- The parts that are left of a text: the first one, which is written from what stands up to its end, and those of what follows.
 use Rattle.std.proofs.Common.{◌≡◌, ℕ, ◌+◌, ◌-◌, ◌≤◌, max, inl, inr, Bool, not, ◌&&◌, ◌||◌, ◌==◌, List, [], ◌∷◌, ◌++◌, length, map, take, drop, Option, Some, None, refl, sym, ◌∙◌, ap, ap₂, subst, arith, IsTrue, if◌then◌else◌, nat_eq, nat_lt, nat_le, length-append}
 use Rattle.std.proofs.lemmas.Bool.{cases_lt, and_parts, and_from, le-leb}
 use Rattle.std.proofs.lemmas.Bool.Decides.{nat_tests}
@@ -7,25 +7,26 @@ use Rattle.std.proofs.lemmas.List.Elements.{filter_agree}
 use Rattle.std.proofs.lemmas.Str.{IsUtf8-drop, IsCharBoundary-from_take, IsCharBoundary-start}
 use Rattle.std.specs.List.{starts_with}
 use Rattle.std.specs.Str.{IsUtf8}
-use Rattle.ansi_str.specs.Bytes.{escape}
-use Rattle.ansi_str.specs.Pieces.{Piece, Text, Sequence, LoneEscape, pieces_of}
-use Rattle.ansi_str.specs.Plain.{Mark, plain_of, plain, marks_of, marks, up_to}
-use Rattle.ansi_str.specs.Positions.{is_good_position, is_char_boundary}
-use Rattle.ansi_str.specs.Rendition.{Rendition, has_any}
-use Rattle.ansi_str.specs.Written.{start, close_if_any}
-use Rattle.ansi_str.specs.Reading.{after_marks, style_behind, style_within}
-use Rattle.ansi_str.specs.Cut.{show}
-use Rattle.ansi_str.specs.Parts.{match_places, first_match_from, apart, past}
+use Rattle.ansi_items.specs.Bytes.{escape}
+use Rattle.ansi_items.specs.Pieces.{Piece, Text, Sequence, LoneEscape, pieces_of}
+use Rattle.ansi_items.specs.Plain.{Mark, plain_of, plain, marks_of, marks, up_to}
+use Rattle.ansi_slice.specs.Positions.{is_good_position, is_char_boundary}
+use Rattle.ansi_style.specs.declared.state.rendition.Rendition.{Rendition}
+use Rattle.ansi_style.specs.Rendition.{has_any}
+use Rattle.ansi_style.specs.Written.{start, close_if_any}
+use Rattle.ansi_style.specs.Reading.{after_marks, style_after_from, style_within}
+use Rattle.ansi_slice.specs.Cut.{show}
+use Rattle.ansi_slice.specs.Parts.{match_places, first_match_from, apart, past}
 use Rattle.ansi_str.specs.Splits.{SplitPart}
-use Rattle.ansi_str.specs.Spans.{further_on, IsCutBehind, IsCutAtMatch, carried_from, part_from, parts_from, parts_left, whole_part}
-use Rattle.ansi_str.proofs.SliceLemmas.{slice_range-from_past}
-use Rattle.ansi_str.proofs.ShowLemmas.{show-text}
-use Rattle.ansi_str.proofs.MarkLemmas.{further, marks_of-text, marks_of-sequence, marks_of-lone, up_to-further, up_to-here}
-use Rattle.ansi_str.proofs.Utf8Lemmas.{IsUtf8-plain}
+use Rattle.ansi_str.specs.Spans.{further_on, IsCutAfter, IsCutAtMatch, carried_from, part_from, parts_from, parts_left, span_part}
+use Rattle.ansi_slice.proofs.SliceLemmas.{slice_range-from_past}
+use Rattle.ansi_slice.proofs.ShowLemmas.{show-text}
+use Rattle.ansi_style.proofs.MarkLemmas.{further, marks_of-text, marks_of-sequence, marks_of-lone, up_to-further, up_to-here}
+use Rattle.ansi_items.proofs.Utf8Lemmas.{IsUtf8-plain}
 use Rattle.ansi_str.proofs.ShownLemmas.{at_places, at_places-further}
 use Rattle.ansi_str.proofs.PartSliceLemmas.{own_places, past-places, at_places-at_places}
-use Rattle.ansi_str.proofs.PositionLemmas.{good_is_boundary, is_good_position-past, is_char_boundary-from}
-use Rattle.ansi_str.proofs.MatchLemmas.{starts_with-splits}
+use Rattle.ansi_slice.proofs.PositionLemmas.{good_is_boundary, is_good_position-past, is_char_boundary-from}
+use Rattle.ansi_slice.proofs.MatchLemmas.{starts_with-splits}
 use Rattle.ansi_str.proofs.TakenLemmas.{is_first_taken, apart-none, between, between-moved, moved_on}
 
 -- The marks of a part.
@@ -50,15 +51,15 @@ past-none (m ∷ ms) = ap (λ ks. m ∷ ks) (past-none ms)
 pub own-whole : (t : List ℕ) → past None (up_to (length (plain t)) (marks t)) ≡ marks t
 own-whole t = past-none (up_to (length (plain t)) (marks t)) ∙ up_to-past (length (plain t)) (pieces_of t) (omega arith)
 
--- marks behind m that pass a test
-own-behind : (m : ℕ) (f : ℕ → Bool) (ms ks : List Mark) → past (Some m) ms ≡ further_on m ks → at_places (λ p. nat_lt m p && f p) ms ≡ further_on m (at_places (λ p. f (m + p)) ks)
-own-behind m f ms ks is = sym (at_places-at_places f (λ p. nat_lt m p) ms) ∙ ap (at_places f) is ∙ at_places-further f m ks
+-- marks after m that pass a test
+own-after : (m : ℕ) (f : ℕ → Bool) (ms ks : List Mark) → past (Some m) ms ≡ further_on m ks → at_places (λ p. nat_lt m p && f p) ms ≡ further_on m (at_places (λ p. f (m + p)) ks)
+own-after m f ms ks is = sym (at_places-at_places f (λ p. nat_lt m p) ms) ∙ ap (at_places f) is ∙ at_places-further f m ks
 
 own-next : (m b : ℕ) (ms ks : List Mark) → past (Some m) ms ≡ further_on m ks → past (Some m) (up_to (m + b) ms) ≡ further_on m (past None (up_to b ks))
 own-next m b ms ks is =
     past-places (Some m) (m + b) ms
     ∙ filter_agree (λ (k : Mark). own_places (Some m) (m + b) k.place) (λ (k : Mark). nat_lt m k.place && nat_le k.place (m + b)) (λ k. grind (arith, nat_tests)) ms
-    ∙ own-behind m (λ p. nat_le p (m + b)) ms ks is
+    ∙ own-after m (λ p. nat_le p (m + b)) ms ks is
     ∙ ap (further_on m) (filter_agree (λ (k : Mark). nat_le (m + k.place) (m + b)) (λ (k : Mark). own_places None b k.place) (λ k. grind (arith, nat_tests)) ks
     ∙ sym (past-places None b ks))
 
@@ -66,7 +67,7 @@ own-later : (m e b : ℕ) (ms ks : List Mark) → past (Some m) ms ≡ further_o
 own-later m e b ms ks is =
     past-places (Some (m + e)) (m + b) ms
     ∙ filter_agree (λ (k : Mark). own_places (Some (m + e)) (m + b) k.place) (λ (k : Mark). nat_lt m k.place && own_places (Some (m + e)) (m + b) k.place) (λ k. grind (arith, nat_tests)) ms
-    ∙ own-behind m (own_places (Some (m + e)) (m + b)) ms ks is
+    ∙ own-after m (own_places (Some (m + e)) (m + b)) ms ks is
     ∙ ap (further_on m) (filter_agree (λ (k : Mark). own_places (Some (m + e)) (m + b) (m + k.place)) (λ (k : Mark). own_places (Some e) b k.place) (λ k. grind (arith, nat_tests)) ks
     ∙ sym (past-places (Some e) b ks))
 
@@ -90,8 +91,8 @@ part_from-made c t before i = refl
 
 -- The part up to m, by the front of the text that is cut there.
 
-pub part-front : (c : Rendition) (t : List ℕ) (skip m : ℕ) (front behind : List ℕ) → m ≤ length (plain t) → IsCutBehind t m front behind → part_from c t None (skip, m) ≡ whole_part c front skip
-part-front c t skip m front behind inside cut =
+pub part-front : (c : Rendition) (t : List ℕ) (skip m : ℕ) (front after : List ℕ) → m ≤ length (plain t) → IsCutAfter t m front after → part_from c t None (skip, m) ≡ span_part c front skip
+part-front c t skip m front after inside cut =
     let size : m ≡ length (plain front) = sym (ap length cut.plain_front ∙ length-take-le m (plain t) inside) in
     let own : past None (up_to m (marks t)) ≡ past None (up_to (length (plain front)) (marks front)) = past-none (up_to m (marks t)) ∙ sym cut.marks_front ∙ sym (own-whole front) in
     let shown : show (plain t) skip m (past None (up_to m (marks t))) ≡ show (plain front) skip (length (plain front)) (past None (up_to (length (plain front)) (marks front)))
@@ -103,10 +104,10 @@ part-front c t skip m front behind inside cut =
     ∙ made_of-alike {style = c} (ap (λ e. skip == e) size) (ap length own) refl shown last
     ∙ sym (part_from-made c front None (skip, length (plain front)))
 
--- The parts behind m, by the text behind the cut.
+-- The parts after m, by the text after the cut.
 
-show-behind : (x : List ℕ) (m a b : ℕ) (ms : List Mark) → m ≤ length x → show x (m + a) (m + b) (further_on m ms) ≡ show (drop m x) a b ms
-show-behind x m a b ms inside =
+show-after : (x : List ℕ) (m a b : ℕ) (ms : List Mark) → m ≤ length x → show x (m + a) (m + b) (further_on m ms) ≡ show (drop m x) a b ms
+show-after x m a b ms inside =
     let w = take m x in
     let size : length w ≡ m = length-take-le m x inside in
     let from : m + a - length w ≡ a = omega (arith, size) in
@@ -116,48 +117,48 @@ show-behind x m a b ms inside =
     ∙ ap (λ u. u ++ show (drop m x) (m + a - length w) (m + b - length w) ms) (slice_range-from_past w (m + a) (m + b) (omega (arith, size)))
     ∙ ap₂ (λ i j. show (drop m x) i j ms) from to
 
-part-behind : (c : Rendition) (t : List ℕ) (m : ℕ) (front behind : List ℕ) (before later : Option ℕ) (i : ℕ × ℕ) → m ≤ length (plain t) → IsCutBehind t m front behind
-    → past before (up_to (m + i.1) (marks t)) ≡ further_on m (past later (up_to i.1 (marks behind)))
-    → carried_from c t before ≡ carried_from (style_within c t m) behind later
-    → part_from c t before (moved_on m i) ≡ part_from (style_within c t m) behind later i
-part-behind c t m front behind before later i inside cut own carried =
+part-after : (c : Rendition) (t : List ℕ) (m : ℕ) (front after : List ℕ) (before later : Option ℕ) (i : ℕ × ℕ) → m ≤ length (plain t) → IsCutAfter t m front after
+    → past before (up_to (m + i.1) (marks t)) ≡ further_on m (past later (up_to i.1 (marks after)))
+    → carried_from c t before ≡ carried_from (style_within c t m) after later
+    → part_from c t before (moved_on m i) ≡ part_from (style_within c t m) after later i
+part-after c t m front after before later i inside cut own carried =
     let d = style_within c t m in
     let same : (m + i.0 == m + i.1) ≡ (i.0 == i.1) = grind (arith, nat_tests) in
-    let ks = past later (up_to i.1 (marks behind)) in
-    let shown : show (plain t) (m + i.0) (m + i.1) (past before (up_to (m + i.1) (marks t))) ≡ show (plain behind) i.0 i.1 ks
-    = ap (show (plain t) (m + i.0) (m + i.1)) own ∙ show-behind (plain t) m i.0 i.1 ks inside ∙ ap (λ x. show x i.0 i.1 ks) (sym cut.plain_behind) in
+    let ks = past later (up_to i.1 (marks after)) in
+    let shown : show (plain t) (m + i.0) (m + i.1) (past before (up_to (m + i.1) (marks t))) ≡ show (plain after) i.0 i.1 ks
+    = ap (show (plain t) (m + i.0) (m + i.1)) own ∙ show-after (plain t) m i.0 i.1 ks inside ∙ ap (λ x. show x i.0 i.1 ks) (sym cut.plain_after) in
     part_from-made c t before (moved_on m i)
-    ∙ made_of-alike same (ap length own ∙ length-map ks _) carried shown (cut.styles_behind c i.1)
-    ∙ sym (part_from-made d behind later i)
+    ∙ made_of-alike same (ap length own ∙ length-map ks _) carried shown (cut.styles_after_from c i.1)
+    ∙ sym (part_from-made d after later i)
 
-parts-later : (c : Rendition) (t : List ℕ) (m : ℕ) (front behind : List ℕ) (e : ℕ) (is : List (ℕ × ℕ)) → m ≤ length (plain t) → IsCutBehind t m front behind
-    → parts_from c t (Some (m + e)) (map (moved_on m) is) ≡ parts_from (style_within c t m) behind (Some e) is
-parts-later c t m front behind e [] inside cut = refl
-parts-later c t m front behind e (i ∷ is) inside cut =
+parts-later : (c : Rendition) (t : List ℕ) (m : ℕ) (front after : List ℕ) (e : ℕ) (is : List (ℕ × ℕ)) → m ≤ length (plain t) → IsCutAfter t m front after
+    → parts_from c t (Some (m + e)) (map (moved_on m) is) ≡ parts_from (style_within c t m) after (Some e) is
+parts-later c t m front after e [] inside cut = refl
+parts-later c t m front after e (i ∷ is) inside cut =
     ap₂ (λ p ps. p ∷ ps)
-    (part-behind c t m front behind (Some (m + e)) (Some e) i inside cut (own-later m e i.1 (marks t) (marks behind) cut.marks_behind) (cut.styles_behind c e))
-    (parts-later c t m front behind i.1 is inside cut)
+    (part-after c t m front after (Some (m + e)) (Some e) i inside cut (own-later m e i.1 (marks t) (marks after) cut.marks_after) (cut.styles_after_from c e))
+    (parts-later c t m front after i.1 is inside cut)
 
-pub parts-behind : (c : Rendition) (t : List ℕ) (m : ℕ) (front behind : List ℕ) (is : List (ℕ × ℕ)) → m ≤ length (plain t) → IsCutBehind t m front behind
-    → parts_from c t (Some m) (map (moved_on m) is) ≡ parts_from (style_within c t m) behind None is
-parts-behind c t m front behind [] inside cut = refl
-parts-behind c t m front behind (i ∷ is) inside cut =
+pub parts-after : (c : Rendition) (t : List ℕ) (m : ℕ) (front after : List ℕ) (is : List (ℕ × ℕ)) → m ≤ length (plain t) → IsCutAfter t m front after
+    → parts_from c t (Some m) (map (moved_on m) is) ≡ parts_from (style_within c t m) after None is
+parts-after c t m front after [] inside cut = refl
+parts-after c t m front after (i ∷ is) inside cut =
     ap₂ (λ p ps. p ∷ ps)
-    (part-behind c t m front behind (Some m) None i inside cut (own-next m i.1 (marks t) (marks behind) cut.marks_behind) refl)
-    (parts-later c t m front behind i.1 is inside cut)
+    (part-after c t m front after (Some m) None i inside cut (own-next m i.1 (marks t) (marks after) cut.marks_after) refl)
+    (parts-later c t m front after i.1 is inside cut)
 
 -- The parts that are left: with no match left, what is left is the last one.
 
-pub parts_left-last : (c : Rendition) (t p : List ℕ) (skip from : ℕ) → first_match_from (plain t) p from ≡ None → parts_left c t p skip from ≡ whole_part c t skip ∷ []
+pub parts_left-last : (c : Rendition) (t p : List ℕ) (skip from : ℕ) → first_match_from (plain t) p from ≡ None → parts_left c t p skip from ≡ span_part c t skip ∷ []
 unfolding parts_left
 parts_left-last c t p skip from none =
     ap (λ taken. parts_from c t None (between (length p) skip (length (plain t)) taken)) (apart-none (length p) from (match_places (plain t) p) none)
 
 -- and with one at m, the first is what stands before it.
-pub parts_left-first : (c : Rendition) (t p : List ℕ) (skip from : ℕ) (front behind : List ℕ) → IsCutAtMatch t p from front behind
-    → parts_left c t p skip from ≡ whole_part c front skip ∷ parts_left (style_behind c front) behind p (length p) (max (length p) 1)
+pub parts_left-first : (c : Rendition) (t p : List ℕ) (skip from : ℕ) (front after : List ℕ) → IsCutAtMatch t p from front after
+    → parts_left c t p skip from ≡ span_part c front skip ∷ parts_left (style_after_from c front) after p (length p) (max (length p) 1)
 unfolding parts_left
-parts_left-first c t p skip from front behind at_match =
+parts_left-first c t p skip from front after at_match =
     let m = at_match.place in
     let found = at_match.first in
     let cut = at_match.cut in
@@ -168,20 +169,20 @@ parts_left-first c t p skip from front behind at_match =
     let size : length x ≡ m + length (drop m x) = omega (arith, first.inside, length-drop m x) in
     let moved : between n (m + n) (length x) (map (λ k. m + k) ms) ≡ map (moved_on m) (between n n (length (drop m x)) ms)
     = ap (λ e. between n (m + n) e (map (λ k. m + k) ms)) size ∙ between-moved n n (length (drop m x)) m ms in
-    let style : style_within c t m ≡ style_behind c front = ap (after_marks c) (sym cut.marks_front) in
+    let style : style_within c t m ≡ style_after_from c front = ap (after_marks c) (sym cut.marks_front) in
     ap (λ taken. parts_from c t None (between n skip (length x) taken)) first.taken
     ∙ ap₂ (λ p ps. p ∷ ps)
-    (part-front c t skip m front behind first.inside cut)
-    (ap (parts_from c t (Some m)) moved ∙ parts-behind c t m front behind (between n n (length (drop m x)) ms) first.inside cut
-    ∙ ap₂ (λ s y. parts_from s behind None (between n n (length y) (apart n (max n 1) (match_places y p)))) style (sym cut.plain_behind))
+    (part-front c t skip m front after first.inside cut)
+    (ap (parts_from c t (Some m)) moved ∙ parts-after c t m front after (between n n (length (drop m x)) ms) first.inside cut
+    ∙ ap₂ (λ s y. parts_from s after None (between n n (length y) (apart n (max n 1) (match_places y p)))) style (sym cut.plain_after))
 
 -- Where the plain bytes that are left out end, a character does.
 
 pub skip_at_front : (t : List ℕ) → IsUtf8 t → IsTrue (is_char_boundary (plain t) 0)
 skip_at_front t utf8 = is_char_boundary-from (plain t) 0 (IsCharBoundary-start (plain t) (IsUtf8-plain t utf8))
 
-pub skip_in_front : (t p : List ℕ) (skip from : ℕ) (front behind : List ℕ) → IsCutAtMatch t p from front behind → skip ≤ from → IsTrue (is_char_boundary (plain t) skip) → IsTrue (is_char_boundary (plain front) skip)
-skip_in_front t p skip from front behind at_match before boundary =
+pub skip_in_front : (t p : List ℕ) (skip from : ℕ) (front after : List ℕ) → IsCutAtMatch t p from front after → skip ≤ from → IsTrue (is_char_boundary (plain t) skip) → IsTrue (is_char_boundary (plain front) skip)
+skip_in_front t p skip from front after at_match before boundary =
     let m = at_match.place in
     let found = at_match.first in
     let cut = at_match.cut in
@@ -195,9 +196,9 @@ skip_in_front t p skip from front behind at_match before boundary =
       | inr end ↦ is_good_position-past (take m x) skip (omega (arith, size, end))
     ])
 
-match_ends : (t p : List ℕ) (from m : ℕ) (front behind : List ℕ) → IsUtf8 t → IsUtf8 p → first_match_from (plain t) p from ≡ Some m → IsCutBehind t m front behind
-    → IsTrue (is_char_boundary (plain behind) (length p))
-match_ends t p from m front behind utf8 utf8_p found cut =
+match_ends : (t p : List ℕ) (from m : ℕ) (front after : List ℕ) → IsUtf8 t → IsUtf8 p → first_match_from (plain t) p from ≡ Some m → IsCutAfter t m front after
+    → IsTrue (is_char_boundary (plain after) (length p))
+match_ends t p from m front after utf8 utf8_p found cut =
     let x = plain t in
     let first = is_first_taken x p from m found in
     let both = and_parts (is_char_boundary x m) (starts_with nat_eq (drop m x) p) first.matches in
@@ -206,12 +207,12 @@ match_ends t p from m front behind utf8 utf8_p found cut =
     let stands : y ≡ p ++ drop (length p) y = starts_with-splits y p both.1 in
     let part : take (length p) y ≡ p = ap (take (length p)) stands ∙ take_at p (drop (length p) y) (length p) refl in
     let fits : length p ≤ length y = omega (arith, ap length stands, length-append p (drop (length p) y)) in
-    ap (λ u. is_char_boundary u (length p)) cut.plain_behind
+    ap (λ u. is_char_boundary u (length p)) cut.plain_after
     ∙ is_char_boundary-from y (length p) (IsCharBoundary-from_take y (length p) (IsUtf8-drop x m (IsUtf8-plain t utf8) at) fits (subst IsUtf8 (sym part) utf8_p))
 
-pub is_cut_at_match : (t p : List ℕ) (from m : ℕ) (front behind : List ℕ) → IsUtf8 t → IsUtf8 p → first_match_from (plain t) p from ≡ Some m → IsCutBehind t m front behind
-    → IsCutAtMatch t p from front behind
-is_cut_at_match t p from m front behind utf8 utf8_p found cut = record { place = m; first = found; cut = cut; match_end = match_ends t p from m front behind utf8 utf8_p found cut }
+pub is_cut_at_match : (t p : List ℕ) (from m : ℕ) (front after : List ℕ) → IsUtf8 t → IsUtf8 p → first_match_from (plain t) p from ≡ Some m → IsCutAfter t m front after
+    → IsCutAtMatch t p from front after
+is_cut_at_match t p from m front after utf8 utf8_p found cut = record { place = m; first = found; cut = cut; match_end = match_ends t p from m front after utf8 utf8_p found cut }
 
 -- a match stands at a good position
 pub match_is_good : (x p : List ℕ) (from m : ℕ) → first_match_from x p from ≡ Some m → IsTrue (is_good_position x m)

@@ -5,28 +5,29 @@ use Rattle.std.proofs.lemmas.List.{drop_all}
 use Rattle.std.proofs.lemmas.Str.{IsCharBoundary-start}
 use Rattle.std.specs.List.{slice_range}
 use Rattle.std.specs.Str.{IsUtf8, IsCharBoundary}
-use Rattle.ansi_str.specs.declared.ansitok.Kind.{Kind}
-use Rattle.ansi_str.specs.declared.ansitok.Kind.TheVariants.{Text as TextKind, Sgr, Other, Lone}
-use Rattle.ansi_str.specs.declared.ansitok.Item.{Item}
-use Rattle.ansi_str.specs.Bytes.{escape}
-use Rattle.ansi_str.specs.Pieces.{Piece, Text, Sequence, LoneEscape, spelling, pieces_of}
-use Rattle.ansi_str.specs.Plain.{plain_of, plain, marks_of, marks}
-use Rattle.ansi_str.specs.Positions.{is_good_position}
-use Rattle.ansi_str.specs.Rendition.{Rendition, has_any}
-use Rattle.ansi_str.specs.Sgr.{apply}
-use Rattle.ansi_str.specs.Written.{start, close, close_if_any}
-use Rattle.ansi_str.specs.Reading.{after_marks}
-use Rattle.ansi_str.specs.Cut.{show}
-use Rattle.ansi_str.specs.Scans.{Scan, Gives, pieces_left}
-use Rattle.ansi_str.specs.Spans.{whole_text}
-use Rattle.ansi_str.proofs.SliceLemmas.{slice_range-past}
-use Rattle.ansi_str.proofs.StepLemmas.{is_mark, BeginsWithMark, gives_text, gives_mark, plain_of-mark}
-use Rattle.ansi_str.proofs.MarkLemmas.{marks_of-text, marks_of-sequence, marks_of-lone, after_marks-further}
-use Rattle.ansi_str.proofs.ShowLemmas.{show-nil, show-text, show-mark}
-use Rattle.ansi_str.proofs.PositionLemmas.{is_good_position-behind, good_in_front, boundary_inside}
-use Rattle.ansi_str.proofs.CutWalkLemmas.{apply-no_sgr}
+use Rattle.ansi_items.specs.declared.ansitok.Kind.{Kind}
+use Rattle.ansi_items.specs.declared.ansitok.Kind.TheVariants.{Text as TextKind, Sgr, Other, Lone}
+use Rattle.ansi_items.specs.declared.ansitok.Item.{Item}
+use Rattle.ansi_items.specs.Bytes.{escape}
+use Rattle.ansi_items.specs.Pieces.{Piece, Text, Sequence, LoneEscape, spelling, pieces_of}
+use Rattle.ansi_items.specs.Plain.{plain_of, plain, marks_of, marks}
+use Rattle.ansi_slice.specs.Positions.{is_good_position}
+use Rattle.ansi_style.specs.declared.state.rendition.Rendition.{Rendition}
+use Rattle.ansi_style.specs.Rendition.{has_any}
+use Rattle.ansi_style.specs.Sgr.{apply}
+use Rattle.ansi_style.specs.Written.{start, close, close_if_any}
+use Rattle.ansi_style.specs.Reading.{after_marks}
+use Rattle.ansi_slice.specs.Cut.{show}
+use Rattle.ansi_items.specs.Scans.{Scan, Gives, pieces_left}
+use Rattle.ansi_str.specs.Spans.{span_text}
+use Rattle.ansi_slice.proofs.SliceLemmas.{slice_range-past}
+use Rattle.ansi_items.proofs.StepLemmas.{is_mark, BeginsWithMark, gives_text, gives_mark, plain_of-mark}
+use Rattle.ansi_style.proofs.MarkLemmas.{marks_of-text, marks_of-sequence, marks_of-lone, after_marks-further}
+use Rattle.ansi_slice.proofs.ShowLemmas.{show-nil, show-text, show-mark}
+use Rattle.ansi_slice.proofs.PositionLemmas.{is_good_position-after, good_in_front, boundary_inside}
+use Rattle.ansi_slice.proofs.CutWalkLemmas.{apply-no_sgr}
 
--- The style behind pieces.
+-- The style after pieces.
 
 pub after_marks-text : (s : Rendition) (w : List ℕ) (ps : List Piece) → after_marks s (marks_of (Text w ∷ ps)) ≡ after_marks s (marks_of ps)
 after_marks-text s w ps = ap (after_marks s) (marks_of-text w ps) ∙ after_marks-further s (length w) (marks_of ps)
@@ -61,17 +62,17 @@ after_marks-same {old} {new} {item} {text} s gives same other = by_kind item.kin
     by_kind Other is = marked (λ e. (let f : Other ≡ TextKind = sym is ∙ e in cc))
     by_kind Lone is = marked (λ e. (let f : Lone ≡ TextKind = sym is ∙ e in cc))
 
--- What is written, and what is left with the close behind it, are the whole part. Plain bytes that are still to be left out end at a character of what is left.
+-- What is written, and what is left with the close after it, are the whole part. Plain bytes that are still to be left out end at a character of what is left.
 pub record IsShownSoFar (whole written : List ℕ) (style : Rendition) (skip : ℕ) (left : List Piece) : Type 0 where
   pub shown : written ++ (show (plain_of left) skip (length (plain_of left)) (marks_of left) ++ close_if_any (after_marks style (marks_of left))) ≡ whole
   pub good : 0 < skip → IsTrue (is_good_position (plain_of left) skip)
 
-whole_text-is : (c : Rendition) (t : List ℕ) (skip : ℕ) → start c ++ (show (plain t) skip (length (plain t)) (marks t) ++ close_if_any (after_marks c (marks t))) ≡ whole_text c t skip
-unfolding whole_text
-whole_text-is c t skip = sym (append_assoc (start c) (show (plain t) skip (length (plain t)) (marks t)) (close_if_any (after_marks c (marks t))))
+span_text-is : (c : Rendition) (t : List ℕ) (skip : ℕ) → start c ++ (show (plain t) skip (length (plain t)) (marks t) ++ close_if_any (after_marks c (marks t))) ≡ span_text c t skip
+unfolding span_text
+span_text-is c t skip = sym (append_assoc (start c) (show (plain t) skip (length (plain t)) (marks t)) (close_if_any (after_marks c (marks t))))
 
-pub shown-begin : (c : Rendition) (t : List ℕ) (skip : ℕ) → IsTrue (is_good_position (plain t) skip) → IsShownSoFar (whole_text c t skip) (start c) c skip (pieces_of t)
-shown-begin c t skip good = record { shown = whole_text-is c t skip; good = λ _. good }
+pub shown-begin : (c : Rendition) (t : List ℕ) (skip : ℕ) → IsTrue (is_good_position (plain t) skip) → IsShownSoFar (span_text c t skip) (start c) c skip (pieces_of t)
+shown-begin c t skip good = record { shown = span_text-is c t skip; good = λ _. good }
 
 -- what is left of the plain bytes that are left out ends at a boundary of a text that comes next
 pub shown-boundary : {whole written : List ℕ} {style : Rendition} {skip : ℕ} {w : List ℕ} {left ps : List Piece} → IsShownSoFar whole written style skip left → left ≡ Text w ∷ ps → IsUtf8 w
@@ -112,7 +113,7 @@ shown-text {whole} {old} {new} {style} {skip} {later} {w} {part} {left} {ps} so_
     let step : IsShownSoFar whole (old ++ cut) style (skip - length w) ps = record {
       shown = appended old cut rest end
           ∙ ap₂ (λ u r. old ++ (u ++ close_if_any r)) (sym (show-front w ps skip)) (sym (after_marks-text style w ps)) ∙ first.shown;
-      good = λ some. sym (is_good_position-behind w (plain_of ps) skip (omega arith)) ∙ first.good (omega arith);
+      good = λ some. sym (is_good_position-after w (plain_of ps) skip (omega arith)) ∙ first.good (omega arith);
     } in
     rw (more, part_is, later_is) step
 

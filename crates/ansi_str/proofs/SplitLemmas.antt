@@ -6,23 +6,24 @@ use Rattle.std.proofs.lemmas.List.{drop_all}
 use Rattle.std.proofs.lemmas.List.Folds.{list_any-append}
 use Rattle.std.specs.List.{range_with_len, list_all}
 use Rattle.std.specs.Option.{option_map_or}
-use Rattle.ansi_str.specs.Bytes.{escape}
-use Rattle.ansi_str.specs.Pieces.{Piece, Text, Sequence, LoneEscape, ArePieces, pieces_of}
-use Rattle.ansi_str.specs.Plain.{Mark, plain, marks_of, marks, up_to, has_escape}
-use Rattle.ansi_str.specs.Rendition.{Rendition, plain_style, has_any}
-use Rattle.ansi_str.specs.Written.{start, close_if_any}
-use Rattle.ansi_str.specs.Reading.{after_marks, style_within}
-use Rattle.ansi_str.specs.Cut.{show}
-use Rattle.ansi_str.specs.Parts.{parts, end_before, past, part_over, part, all_parts, is_borrowed_over, is_part_borrowed}
+use Rattle.ansi_items.specs.Bytes.{escape}
+use Rattle.ansi_items.specs.Pieces.{Piece, Text, Sequence, LoneEscape, ArePieces, pieces_of}
+use Rattle.ansi_items.specs.Plain.{Mark, plain, marks_of, marks, up_to, has_escape}
+use Rattle.ansi_style.specs.declared.state.rendition.Rendition.{Rendition}
+use Rattle.ansi_style.specs.Rendition.{plain_style, has_any}
+use Rattle.ansi_style.specs.Written.{start, close_if_any}
+use Rattle.ansi_style.specs.Reading.{after_marks, style_within}
+use Rattle.ansi_slice.specs.Cut.{show}
+use Rattle.ansi_slice.specs.Parts.{parts, end_before, past, part_over, part, all_parts, is_borrowed_over, is_part_borrowed}
 use Rattle.ansi_str.specs.Splits.{SplitPart}
-use Rattle.ansi_str.specs.Spans.{part_from, parts_from, parts_left, whole_part, whole_text}
-use Rattle.ansi_str.proofs.PieceLemmas.{pieces_are}
-use Rattle.ansi_str.proofs.PlainLemmas.{no_escape, plain-bare}
-use Rattle.ansi_str.proofs.SliceLemmas.{slice_range-past}
-use Rattle.ansi_str.proofs.MarkLemmas.{further, marks-bare, marks_of-text, marks_of-sequence, marks_of-lone}
-use Rattle.ansi_str.proofs.ShowLemmas.{show-bare}
-use Rattle.ansi_str.proofs.UnsetLemmas.{start-unset, close_if_any-unset}
-use Rattle.ansi_str.proofs.IntervalLemmas.{end_behind, end_behind-suc, end_behind-none}
+use Rattle.ansi_str.specs.Spans.{part_from, parts_from, parts_left, span_part, span_text}
+use Rattle.ansi_items.proofs.PieceLemmas.{pieces_are}
+use Rattle.ansi_items.proofs.PlainLemmas.{no_escape, plain-bare}
+use Rattle.ansi_slice.proofs.SliceLemmas.{slice_range-past}
+use Rattle.ansi_style.proofs.MarkLemmas.{further, marks-bare, marks_of-text, marks_of-sequence, marks_of-lone}
+use Rattle.ansi_slice.proofs.ShowLemmas.{show-bare}
+use Rattle.ansi_style.proofs.UnsetLemmas.{start-unset, close_if_any-unset}
+use Rattle.ansi_str.proofs.IntervalLemmas.{end_after, end_after-suc, end_after-none}
 use Rattle.ansi_str.proofs.PartTextLemmas.{length-parts, parts_over, all_parts-over}
 use Rattle.ansi_str.proofs.BareLemmas.{carried-bare}
 use Rattle.ansi_str.proofs.SpanLemmas.{own-whole, up_to-past}
@@ -57,18 +58,18 @@ length-parts_left t p = omega (arith, ap length (parts_left-begin t p) ∙ lengt
 
 -- By index.
 
-slice_get-parts_from : (c : Rendition) (t : List ℕ) (before : Option ℕ) (is : List (ℕ × ℕ)) (k : ℕ) → slice_get (parts_from c t before is) k ≡ option_map (part_from c t (end_behind before is k)) (slice_get is k)
+slice_get-parts_from : (c : Rendition) (t : List ℕ) (before : Option ℕ) (is : List (ℕ × ℕ)) (k : ℕ) → slice_get (parts_from c t before is) k ≡ option_map (part_from c t (end_after before is k)) (slice_get is k)
 slice_get-parts_from c t before [] k = refl
 slice_get-parts_from c t before (i ∷ is) zero = refl
 slice_get-parts_from c t before (i ∷ is) (suc k) =
-    slice_get-parts_from c t (Some i.1) is k ∙ ap (λ b. option_map (part_from c t b) (slice_get is k)) (sym (end_behind-suc before i is k))
+    slice_get-parts_from c t (Some i.1) is k ∙ ap (λ b. option_map (part_from c t b) (slice_get is k)) (sym (end_after-suc before i is k))
 
 pub slice_get-parts_left : (t p : List ℕ) (k : ℕ)
     → slice_get (parts_left plain_style t p 0 0) k ≡ option_map (part_from plain_style t (end_before (parts (plain t) p) k)) (slice_get (parts (plain t) p) k)
 slice_get-parts_left t p k =
     let is = parts (plain t) p in
     ap (λ qs. slice_get qs k) (parts_left-begin t p) ∙ slice_get-parts_from plain_style t None is k
-    ∙ ap (λ b. option_map (part_from plain_style t b) (slice_get is k)) (end_behind-none is k)
+    ∙ ap (λ b. option_map (part_from plain_style t b) (slice_get is k)) (end_after-none is k)
 
 pub part-parts_left : (t p : List ℕ) (k : ℕ) → part t p k ≡ option_map (λ (q : SplitPart). q.bytes) (slice_get (parts_left plain_style t p 0 0) k)
 part-parts_left t p k =
@@ -128,20 +129,20 @@ is_part_borrowed-bare t p k i none found =
 
 -- A text without marks has no ESC.
 
-no_escape_behind : (t : List ℕ) (ps : List Piece) → ArePieces t ps → marks_of ps ≡ [] → has_escape t ≡ false
-no_escape_behind t [] are none = ap has_escape are
-no_escape_behind t (Text w ∷ ps) are none =
+no_escape_after : (t : List ℕ) (ps : List Piece) → ArePieces t ps → marks_of ps ≡ [] → has_escape t ≡ false
+no_escape_after t [] are none = ap has_escape are
+no_escape_after t (Text w ∷ ps) are none =
     ap has_escape are.1 ∙ list_any-append (λ b. b == escape) w are.0
-    ∙ or_from _ _ (no_escape w are.2.1) (no_escape_behind are.0 ps are.3 (no_marks (marks_of ps) (sym (marks_of-text w ps) ∙ none)))
+    ∙ or_from _ _ (no_escape w are.2.1) (no_escape_after are.0 ps are.3 (no_marks (marks_of ps) (sym (marks_of-text w ps) ∙ none)))
   where
     no_marks : (ms : List Mark) → map (further (length w)) ms ≡ [] → ms ≡ []
     no_marks [] none = refl
     no_marks (m ∷ ms) none = absurd (cc none)
-no_escape_behind t (Sequence w ∷ ps) are none = (let mark = sym (marks_of-sequence w ps) ∙ none in absurd (cc mark))
-no_escape_behind t (LoneEscape ∷ ps) are none = (let mark = sym (marks_of-lone ps) ∙ none in absurd (cc mark))
+no_escape_after t (Sequence w ∷ ps) are none = (let mark = sym (marks_of-sequence w ps) ∙ none in absurd (cc mark))
+no_escape_after t (LoneEscape ∷ ps) are none = (let mark = sym (marks_of-lone ps) ∙ none in absurd (cc mark))
 
 escape_is_marked : (t : List ℕ) → has_escape t ≡ true → (length (marks t) == 0) ≡ false
-escape_is_marked t some = by_marks (marks t) (λ none. no_escape_behind t (pieces_of t) (pieces_are t) none)
+escape_is_marked t some = by_marks (marks t) (λ none. no_escape_after t (pieces_of t) (pieces_are t) none)
   where
     by_marks : (ms : List Mark) → (ms ≡ [] → has_escape t ≡ false) → (length ms == 0) ≡ false
     by_marks [] bare = absurd (true≢false (sym some ∙ bare refl))
@@ -149,29 +150,29 @@ escape_is_marked t some = by_marks (marks t) (λ none. no_escape_behind t (piece
 
 -- A part that is all of a text but its first bytes: as it is written,
 
-whole_part-else : (c : Rendition) (t : List ℕ) (skip : ℕ) → (skip == length (plain t) && length (marks t) == 0) ≡ false → (whole_part c t skip).bytes ≡ whole_text c t skip
-unfolding part_from whole_text
-whole_part-else c t skip filled =
+span_part-else : (c : Rendition) (t : List ℕ) (skip : ℕ) → (skip == length (plain t) && length (marks t) == 0) ≡ false → (span_part c t skip).bytes ≡ span_text c t skip
+unfolding part_from span_text
+span_part-else c t skip filled =
     let x = plain t in
     let all : style_within c t (length x) ≡ after_marks c (marks t) = ap (after_marks c) (up_to-past (length x) (pieces_of t) (omega arith)) in
     let bytes : List Mark → Rendition → List ℕ = λ own last. if skip == length x && length own == 0 then [] else start c ++ show x skip (length x) own ++ close_if_any last in
     ap₂ bytes (own-whole t) all ∙ ap (λ b. if b then [] else start c ++ show x skip (length x) (marks t) ++ close_if_any (after_marks c (marks t))) filled
 
-whole_part-borrowed : (c : Rendition) (t : List ℕ) (skip : ℕ) → (whole_part c t skip).borrowed ≡ (length (marks t) == 0 && (skip == length (plain t) || not (has_any c)))
+span_part-borrowed : (c : Rendition) (t : List ℕ) (skip : ℕ) → (span_part c t skip).borrowed ≡ (length (marks t) == 0 && (skip == length (plain t) || not (has_any c)))
 unfolding part_from
-whole_part-borrowed c t skip = ap (λ (own : List Mark). length own == 0 && (skip == length (plain t) || not (has_any c))) (own-whole t)
+span_part-borrowed c t skip = ap (λ (own : List Mark). length own == 0 && (skip == length (plain t) || not (has_any c))) (own-whole t)
 
 -- where a sequence stands in it, or it isn't empty and a style is carried,
 
 abbrev pub IsWritten : Rendition → List ℕ → ℕ → Type 0
-IsWritten c t skip = whole_part c t skip ≡ record { bytes = whole_text c t skip; borrowed = false }
+IsWritten c t skip = span_part c t skip ≡ record { bytes = span_text c t skip; borrowed = false }
 
 pub written-escape : (c : Rendition) (t : List ℕ) (skip : ℕ) → has_escape t ≡ true → IsWritten c t skip
 written-escape c t skip some =
     let marked = escape_is_marked t some in
     ap₂ (λ w b. record { bytes = w; borrowed = b })
-    (whole_part-else c t skip (ap (λ b. skip == length (plain t) && b) marked ∙ never (skip == length (plain t))))
-    (whole_part-borrowed c t skip ∙ ap (λ b. b && (skip == length (plain t) || not (has_any c))) marked)
+    (span_part-else c t skip (ap (λ b. skip == length (plain t) && b) marked ∙ never (skip == length (plain t))))
+    (span_part-borrowed c t skip ∙ ap (λ b. b && (skip == length (plain t) || not (has_any c))) marked)
   where
     never : (b : Bool) → (b && false) ≡ false
     never true = refl
@@ -181,8 +182,8 @@ pub written-styled : (c : Rendition) (t : List ℕ) (skip : ℕ) → has_escape 
 written-styled c t skip none filled any =
     let more : (skip == length (plain t)) ≡ false = ap (λ x. skip == length x) (plain-bare t none) ∙ filled in
     ap₂ (λ w b. record { bytes = w; borrowed = b })
-    (whole_part-else c t skip (ap (λ b. b && length (marks t) == 0) more))
-    (whole_part-borrowed c t skip ∙ ap₂ (λ a b. length (marks t) == 0 && (a || not b)) more any ∙ never (length (marks t) == 0))
+    (span_part-else c t skip (ap (λ b. b && length (marks t) == 0) more))
+    (span_part-borrowed c t skip ∙ ap₂ (λ a b. length (marks t) == 0 && (a || not b)) more any ∙ never (length (marks t) == 0))
   where
     never : (b : Bool) → (b && false) ≡ false
     never true = refl
@@ -191,9 +192,9 @@ written-styled c t skip none filled any =
 -- and as it stands in the text, where it is empty or no style is carried.
 
 abbrev pub IsBare : Rendition → List ℕ → ℕ → List ℕ → Type 0
-IsBare c t skip u = whole_part c t skip ≡ record { bytes = u; borrowed = true }
+IsBare c t skip u = span_part c t skip ≡ record { bytes = u; borrowed = true }
 
-bare_part : (c : Rendition) (t : List ℕ) (skip : ℕ) → has_escape t ≡ false → (whole_part c t skip).bytes ≡ (if skip == length t && true then [] else start c ++ drop skip t ++ close_if_any c)
+bare_part : (c : Rendition) (t : List ℕ) (skip : ℕ) → has_escape t ≡ false → (span_part c t skip).bytes ≡ (if skip == length t && true then [] else start c ++ drop skip t ++ close_if_any c)
 unfolding part_from
 bare_part c t skip none =
     let bytes : List ℕ → List Mark → List ℕ
@@ -206,7 +207,7 @@ bare-empty c t skip none end =
     let same : (skip == length t) ≡ true = eq-eqb skip (length t) end in
     ap₂ (λ w b. record { bytes = w; borrowed = b })
     (bare_part c t skip none ∙ ap (λ b. if b && true then [] else start c ++ drop skip t ++ close_if_any c) same ∙ sym (drop_all skip t (omega (arith, end))))
-    (whole_part-borrowed c t skip ∙ ap₂ (λ (ms : List Mark) (x : List ℕ). length ms == 0 && (skip == length x || not (has_any c))) (marks-bare t none) (plain-bare t none)
+    (span_part-borrowed c t skip ∙ ap₂ (λ (ms : List Mark) (x : List ℕ). length ms == 0 && (skip == length x || not (has_any c))) (marks-bare t none) (plain-bare t none)
     ∙ ap (λ b. b || not (has_any c)) same)
 
 pub bare-unstyled : (c : Rendition) (t : List ℕ) (skip : ℕ) → has_escape t ≡ false → skip ≤ length t → has_any c ≡ false → IsBare c t skip (drop skip t)
@@ -216,7 +217,7 @@ bare-unstyled c t skip none inside unset =
     ∙ cond_both (skip == length t && true) [] (start c ++ drop skip t ++ close_if_any c) (λ w. w ≡ drop skip t)
     (λ empty. sym (drop_all skip t (omega (arith, eqb-true skip (length t) (and_parts (skip == length t) true empty).0))))
     (λ some. ap₂ (λ u v. u ++ drop skip t ++ v) (start-unset c unset) (close_if_any-unset c unset) ∙ append-nil (drop skip t)))
-    (whole_part-borrowed c t skip ∙ ap₂ (λ (ms : List Mark) b. length ms == 0 && (skip == length (plain t) || not b)) (marks-bare t none) unset
+    (span_part-borrowed c t skip ∙ ap₂ (λ (ms : List Mark) b. length ms == 0 && (skip == length (plain t) || not b)) (marks-bare t none) unset
     ∙ either (skip == length (plain t)))
   where
     either : (b : Bool) → (b || true) ≡ true

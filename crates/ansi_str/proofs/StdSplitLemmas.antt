@@ -4,7 +4,7 @@ use Rattle.std.proofs.lemmas.Bool.{cases_order}
 use Rattle.std.proofs.lemmas.List.{drop-drop, get_or-drop, take_all}
 use Rattle.std.specs.Str.{IsUtf8, IsCharBoundary}
 use Rattle.std.specs.Str.Pattern.{FindsText, LacksTextAt, HasTextAt, IsSplitAtFirstMatch}
-use Rattle.ansi_str.specs.Parts.{parts}
+use Rattle.ansi_slice.specs.Parts.{parts}
 use Rattle.ansi_str.specs.StdSplit.{GoesOn, AreSplit, AreBetween, slices_over}
 use Rattle.ansi_str.proofs.BetweenLemmas.{filled, parts_are_between}
 
@@ -20,7 +20,7 @@ split_last x p e i last =
     let len : length (slice_range x i.0 i.1) + 0 ≤ length w = omega (arith, ap length all) in
     (false, [], (len, (None, nowhere, (all, refl))), refl)
 
--- a text up to a match, and those behind it
+-- a text up to a match, and those after it
 split_more : (x p : List ℕ) (e : ℕ) (i : ℕ × ℕ) (ys : List (List ℕ)) → i.0 ≡ e → e ≤ i.1 → HasTextAt p x i.1 (i.1 + length p) → ((k : ℕ) → e ≤ k → k < i.1 → LacksTextAt p x k)
     → AreSplit p (drop (i.1 + length p) x) ys → AreSplit p (drop e x) (slice_range x i.0 i.1 ∷ ys)
 split_more x p e i ys begins from stands none more =
@@ -29,7 +29,7 @@ split_more x p e i ys begins from stands none more =
     let place : e + at ≡ i.1 = omega (arith, from) in
     let end : e + (at + length p) ≡ i.1 + length p = omega (arith, from) in
     let here : drop at w ≡ drop i.1 x = drop-drop at e x ∙ ap (λ n. drop n x) place in
-    let behind : drop (at + length p) w ≡ drop (i.1 + length p) x = drop-drop (at + length p) e x ∙ ap (λ n. drop n x) end in
+    let after : drop (at + length p) w ≡ drop (i.1 + length p) x = drop-drop (at + length p) e x ∙ ap (λ n. drop n x) end in
     let part : slice_range x i.0 i.1 ≡ take at w = ap (λ n. slice_range x n i.1) begins in
     let inside : i.1 + length p ≤ length x = stands.after.0 in
     let boundary : IsCharBoundary w (at + length p)
@@ -40,11 +40,11 @@ split_more x p e i ys begins from stands none more =
           let lead = stands.after.1 (omega (arith, below, from, length-drop e x)) (omega (arith, high, index)) in
           omega (arith, lead, index)),
     ) in
-    let found : HasTextAt p w at (at + length p) = record { split = here ∙ stands.split ∙ ap (λ v. p ++ v) (sym behind); ends = refl; after = boundary } in
+    let found : HasTextAt p w at (at + length p) = record { split = here ∙ stands.split ∙ ap (λ v. p ++ v) (sym after); ends = refl; after = boundary } in
     let none_before : (k : ℕ) → k < at → LacksTextAt p w k = λ k below rest there. none (e + k) (omega arith) (omega (arith, below, from)) rest (sym (drop-drop k e x) ∙ there) in
     let len : length (slice_range x i.0 i.1) + length (drop (i.1 + length p) x) ≤ length w
     = omega (arith, ap length part, length-take at w, length-drop e x, length-drop (i.1 + length p) x, from, inside) in
-    (true, drop (i.1 + length p) x, (len, (Some (at, at + length p), (none_before, found), λ on. (part, refl, sym behind))), more)
+    (true, drop (i.1 + length p) x, (len, (Some (at, at + length p), (none_before, found), λ on. (part, refl, sym after))), more)
 
 split_between : (x p : List ℕ) (e : ℕ) (is : List (ℕ × ℕ)) → AreBetween x p e is → AreSplit p (drop e x) (slices_over x is)
 split_between x p e [] are = absurd are

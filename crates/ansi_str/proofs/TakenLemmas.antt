@@ -1,13 +1,13 @@
--- The matches of a pattern behind one of them, and the intervals between them.
+-- The matches of a pattern after one of them, and the intervals between them.
 use Rattle.std.proofs.Common.{◌≡◌, ℕ, zero, suc, ◌+◌, ◌<◌, ◌≤◌, max, inl, inr, Bool, true, false, List, [], ◌∷◌, ◌++◌, length, map, filter, zip, drop, Some, None, refl, sym, ◌∙◌, ap, ap₂, subst, arith, if◌then◌else◌, nat_le, slice_get}
 use Rattle.std.proofs.lemmas.Bool.{cases_lt, le-leb, lt-leb}
 use Rattle.std.proofs.lemmas.Option.{none-some, same_Some}
 use Rattle.std.proofs.lemmas.List.{length-drop}
 use Rattle.std.specs.List.{range_with_len}
-use Rattle.ansi_str.specs.Parts.{is_match, match_places, first_match_from, apart}
-use Rattle.ansi_str.proofs.MatchLemmas.{is_match-drop}
+use Rattle.ansi_slice.specs.Parts.{is_match, match_places, first_match_from, apart}
+use Rattle.ansi_slice.proofs.MatchLemmas.{is_match-drop}
 
--- The matches behind the first m bytes are those of the text.
+-- The matches after the first m bytes are those of the text.
 
 matches-drop : (x p : List ℕ) (m i n : ℕ) → m ≤ length x → filter (is_match x p) (range_with_len (m + i) n) ≡ map (λ k. m + k) (filter (is_match (drop m x) p) (range_with_len i n))
 matches-drop x p m i zero within = refl
@@ -69,7 +69,7 @@ apart-moved n e m (k ∷ ms) = elim (cases_lt k e) [
       ∙ ap (map (λ k. m + k)) (sym (apart-taken n e k ms from)))
 ]
 
--- The first match that is taken, and those behind it.
+-- The first match that is taken, and those after it.
 
 pub apart-none : (n from : ℕ) (ms : List ℕ) → slice_get (filter (nat_le from) ms) 0 ≡ None → apart n from ms ≡ []
 apart-none n from [] none = refl
@@ -144,7 +144,7 @@ is_taken q n from i (suc k) m found = by_test (is_taken q n from (i + 1) k m) (q
               subst (IsTaken q n from i (suc k)) (same_Some i m (subst (λ b. slice_get (in_front i ks b) 0 ≡ Some m) (le-leb from i at) found)) (taken_here q n from i k is at)
         ]
 
--- The first match of a text at or past `from`, and those behind it, which are those of what stands behind its first byte.
+-- The first match of a text at or past `from`, and those after it, which are those of what stands after its first byte.
 pub record IsFirstTaken (x p : List ℕ) (from m : ℕ) : Type 0 where
   pub taken : apart (length p) from (match_places x p) ≡ m ∷ map (λ k. m + k) (apart (length p) (max (length p) 1) (match_places (drop m x) p))
   pub at : from ≤ m
@@ -176,7 +176,7 @@ is_first_taken x p from m found =
 abbrev pub moved_on : ℕ → ℕ × ℕ → ℕ × ℕ
 moved_on m i = (m + i.0, m + i.1)
 
--- the intervals before, between and behind the places that are taken, from a on, of a text of the length e
+-- the intervals before, between and after the places that are taken, from a on, of a text of the length e
 abbrev pub between : ℕ → ℕ → ℕ → List ℕ → List (ℕ × ℕ)
 between n a e taken = zip (a ∷ map (λ m. m + n) taken) (taken ++ e ∷ [])
 

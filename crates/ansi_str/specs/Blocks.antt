@@ -1,15 +1,16 @@
--- The blocks of a text: each run of text, behind the sequences that wait for it, with its style.
+-- The blocks of a text: each run of text, after the sequences that wait for it, with its style.
 use Rattle.std.specs.Prelude.{◌≡◌, ℕ, Bool, true, false, not, List, [], ◌∷◌, ◌++◌, ◌==◌, length, filter, filter_map, Option, Some, None, Result, Ok, Err, IsFalse}
 use Rattle.std.specs.declared.borrow.CowStr.{CowStr}
 use Rattle.std.specs.declared.borrow.CowStr.TheVariants.{Borrowed, Owned}
-use Rattle.ansi_str.specs.Sequences.{is_sgr}
-use Rattle.ansi_str.specs.Rendition.{Rendition, plain_style}
-use Rattle.ansi_str.specs.Pieces.{Piece, Text, Sequence, LoneEscape, pieces_of}
-use Rattle.ansi_str.specs.Plain.{Placed, places, marks, joined}
-use Rattle.ansi_str.specs.Reading.{style_within}
-use Rattle.ansi_str.specs.Cut.{at_place}
+use Rattle.ansi_items.specs.Sequences.{is_sgr}
+use Rattle.ansi_style.specs.declared.state.rendition.Rendition.{Rendition}
+use Rattle.ansi_style.specs.Rendition.{plain_style}
+use Rattle.ansi_items.specs.Pieces.{Piece, Text, Sequence, LoneEscape, pieces_of}
+use Rattle.ansi_items.specs.Plain.{Placed, places, marks, joined}
+use Rattle.ansi_style.specs.Reading.{style_within}
+use Rattle.ansi_slice.specs.Cut.{at_place}
 
--- a block is a run of text behind the sequences that waited for it, the style of that text, and whether it is a borrow
+-- a block is a run of text after the sequences that waited for it, the style of that text, and whether it is a borrow
 pub record Block : Type 0 where
   pub text : List ℕ
   pub style : Rendition
@@ -19,13 +20,13 @@ pub record Block : Type 0 where
 abbrev pub waiting : List ℕ → ℕ → List ℕ
 waiting t i = joined (filter (λ m. not (is_sgr m.bytes)) (at_place i (marks t)))
 
--- a run of text behind the sequences that waited for it, in a style; it is a borrow where none waited
-abbrev pub block_behind : List ℕ → List ℕ → Rendition → Block
-block_behind sequences w s = record { text = sequences ++ w; style = s; is_borrow = length sequences == 0 }
+-- a run of text after the sequences that waited for it, in a style; it is a borrow where none waited
+abbrev pub block_after : List ℕ → List ℕ → Rendition → Block
+block_after sequences w s = record { text = sequences ++ w; style = s; is_borrow = length sequences == 0 }
 
--- the block of a piece, behind these sequences and in this style: a text gives one, a sequence or a lone escape none
+-- the block of a piece, after these sequences and in this style: a text gives one, a sequence or a lone escape none
 abbrev pub block_of : List ℕ → Rendition → Piece → Option Block
-block_of sequences s (Text w) = Some (block_behind sequences w s)
+block_of sequences s (Text w) = Some (block_after sequences w s)
 block_of sequences s (Sequence w) = None
 block_of sequences s LoneEscape = None
 

@@ -1,10 +1,10 @@
 -- What an edit keeps of a plain text, and of styled bytes.
 use Rattle.std.specs.Prelude.{ℕ, ◌-◌, List, length, nat_eq, Option, Some, None, option_map, unwrap_or, slice_get, slice_range, if◌then◌else◌}
 use Rattle.std.specs.List.{starts_with, ends_with}
-use Rattle.ansi_str.specs.Styled.{StyledByte, bytes_of}
-use Rattle.ansi_str.specs.Positions.{is_good_position, is_good_range}
-use Rattle.ansi_str.specs.Kept.{trim_interval}
-use Rattle.ansi_str.specs.Parts.{parts}
+use Rattle.ansi_style.specs.Styled.{StyledByte, bytes_of}
+use Rattle.ansi_slice.specs.Positions.{is_good_position, is_good_range}
+use Rattle.ansi_slice.specs.Kept.{trim_interval}
+use Rattle.ansi_slice.specs.Parts.{parts}
 
 -- a change is an edit as the definitions see it: a range that is cut, the side on the left or on the right of a position, the part of an index, what is left without a prefix or a suffix, or what is left without the white space at the ends
 pub data Change : Type 0 where

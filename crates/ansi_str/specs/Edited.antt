@@ -2,13 +2,13 @@
 use Rattle.std.specs.Prelude.{◌≡◌, IfSome, IsTrue, ℕ, Bool, true, false, not, ◌&&◌, ◌||◌, List, [], ◌∷◌, Option, Some, None, option_map, option_and_then, unwrap_or, is_some, if◌then◌else◌}
 use Rattle.std.specs.List.{list_any}
 use Rattle.std.specs.Option.{option_map_or}
-use Rattle.ansi_str.specs.Plain.{plain, has_escape, is_whole}
-use Rattle.ansi_str.specs.Rendition.{plain_style}
-use Rattle.ansi_str.specs.Styled.{StyledByte, styled, residue}
-use Rattle.ansi_str.specs.Cut.{cut}
-use Rattle.ansi_str.specs.Sides.{left_side, right_side}
-use Rattle.ansi_str.specs.Parts.{part, is_part_borrowed}
-use Rattle.ansi_str.specs.Kept.{without_prefix, without_suffix, trimmed}
+use Rattle.ansi_items.specs.Plain.{plain, has_escape, is_whole}
+use Rattle.ansi_style.specs.Rendition.{plain_style}
+use Rattle.ansi_style.specs.Styled.{StyledByte, styled, residue}
+use Rattle.ansi_slice.specs.Cut.{cut}
+use Rattle.ansi_slice.specs.Sides.{left_side, right_side}
+use Rattle.ansi_slice.specs.Parts.{part, is_part_borrowed}
+use Rattle.ansi_slice.specs.Kept.{without_prefix, without_suffix, trimmed}
 use Rattle.ansi_str.specs.Changes.{Change, CutRange, LeftOf, RightOf, PartOf, WithoutPrefix, WithoutSuffix, Trimmed, interval_of, slice_of}
 
 -- the meaning of changes in turn, each a slice of what the one before gave, or None where one is refused (own)

@@ -3,17 +3,17 @@ use Rattle.std.specs.Prelude.{◌≡◌, ℕ, ◌+◌, ◌<◌, ◌≤◌, Bool,
 use Rattle.std.specs.Str.{IsCharBoundary}
 use Rattle.std.specs.Str.Pattern.{FindsText, LacksTextAt, HasTextAt, IsSplitAtFirstMatch}
 
--- where a match was found, what is behind it is split on; else no text follows
+-- where a match was found, what is after it is split on; else no text follows
 abbrev pub GoesOn : Bool → Type 0 → List (List ℕ) → Type 0
-GoesOn true BehindMatch ys = BehindMatch
-GoesOn false BehindMatch ys = ys ≡ []
+GoesOn true AfterMatch ys = AfterMatch
+GoesOn false AfterMatch ys = ys ≡ []
 
 -- std's `split` of x at a pattern p that isn't empty gives these texts, one after the other: each is what is left of x up to the first match, or all that is left
 abbrev pub AreSplit : List ℕ → List ℕ → List (List ℕ) → Type 0
 AreSplit p x [] = ⊥
 AreSplit p x (y ∷ ys) = (found : Bool) × (rest : List ℕ) × IsSplitAtFirstMatch (FindsText p) x y found rest × GoesOn found (AreSplit p rest ys) ys
 
--- The intervals of x before, between and behind the first matches of p, from the place e on: each begins where a match ends, holds none, and ends where the next begins; the last ends with x.
+-- The intervals of x before, between and after the first matches of p, from the place e on: each begins where a match ends, holds none, and ends where the next begins; the last ends with x.
 abbrev pub AreBetween : List ℕ → List ℕ → ℕ → List (ℕ × ℕ) → Type 0
 AreBetween x p e [] = ⊥
 AreBetween x p e (i ∷ []) = (i.0 ≡ e) × (i.1 ≡ length x) × (e ≤ i.1) × ((k : ℕ) → e ≤ k → k ≤ length x → LacksTextAt p x k)

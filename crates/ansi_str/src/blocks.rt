@@ -1,17 +1,18 @@
 //! The blocks of a text: its runs of one style.
 ghost use Rattle.std.specs.Prelude.{◌≡◌, ◌∷◌, [], ◌++◌, ◌≤◌, IsTrue, IsFalse, IsNone, IsOk, IfOk, IfSome, IfNone, not, ◌==◌, length, string_bytes};
 ghost use Rattle.std.specs.Cow.{cow_str_bytes};
-ghost use Rattle.ansi_str.specs.Rendition.{has_any};
-ghost use Rattle.ansi_str.specs.States.{rendition_of};
-ghost use Rattle.ansi_str.specs.Blocks.{waiting, block_behind, blocks, blocks_from, is_borrow};
+ghost use Rattle.ansi_style.specs.Rendition.{has_any};
+ghost use Rattle.ansi_style.specs.States.{rendition_of};
+ghost use Rattle.ansi_str.specs.Blocks.{waiting, block_after, blocks, blocks_from, is_borrow};
 
 use crate::ansitok::{Kind, Scanner};
-use crate::state::{Rendition, Style};
+use ansi_style::state::{Rendition, Style};
+use ansi_style::styles;
 use std::alloc::{AllocError, Allocator, Global};
 use std::borrow::CowStr;
 use std::marker::Model;
 
-/// A run of text in one style, behind the sequences that stand before it and are no SGR.
+/// A run of text in one style, after the sequences that stand before it and are no SGR.
 ///
 /// It lives as long as the text that it is a block of. Two blocks are equal where their texts and
 /// their styles are. (The Rust crate.)
@@ -23,7 +24,7 @@ pub struct AnsiBlock<'a, A: Allocator = Global> {
 
 impl<'a, A: Allocator> Model for AnsiBlock<'a, A> {
     ghost use Rattle.std.specs.Cow.{cow_str_bytes};
-    ghost use Rattle.ansi_str.specs.States.{rendition_of};
+    ghost use Rattle.ansi_style.specs.States.{rendition_of};
     ghost use Rattle.ansi_str.specs.Blocks.{Block, is_borrow};
 
     ghost Value = { Block };
@@ -54,7 +55,7 @@ impl<'a, A: Allocator> AnsiBlock<'a, A> {
     pub fn has_ansi(&self) -> bool
         ensures { result ≡ has_any self.now.style }
     {
-        self.style.has_any()
+        styles::has_any(&self.style)
     }
 
     /// The style of the run, with whatever the text before it left open. Takes no memory. (The Rust
@@ -99,7 +100,7 @@ impl<'a, A: Allocator> PartialEq for AnsiBlock<'a, A> {
     ghost use Rattle.std.specs.Ordering.{on, eq_of_both};
     ghost use Rattle.std.specs.Cmp.{and_per, on_per, partial_equiv_from_equiv};
     ghost use Rattle.std.specs.Cmp.Lexicographic.{pointwise, nat_list_eq_equiv};
-    ghost use Rattle.ansi_str.specs.contracts.state.rendition.RenditionPartialEq.TheImpl.Laws.{laws-law};
+    ghost use Rattle.ansi_style.specs.contracts.state.rendition.RenditionPartialEq.TheImpl.Laws.{laws-law};
 
     ghost eq = { eq_of_both (on (λ b. b.text) (pointwise nat_eq)) (on (λ b. b.style) ⟦<Rendition as PartialEq>⟧.eq) };
 
@@ -113,7 +114,7 @@ impl<'a, A: Allocator> PartialEq for AnsiBlock<'a, A> {
 impl<'a, A: Allocator> Eq for AnsiBlock<'a, A> {
     ghost use Rattle.std.specs.Cmp.{and_equiv, on_equiv};
     ghost use Rattle.std.specs.Cmp.Lexicographic.{nat_list_eq_equiv};
-    ghost use Rattle.ansi_str.specs.contracts.state.rendition.RenditionEq.TheImpl.Laws.{laws-law};
+    ghost use Rattle.ansi_style.specs.contracts.state.rendition.RenditionEq.TheImpl.Laws.{laws-law};
 
     ghost laws = { and_equiv (on_equiv (λ b. b.text) nat_list_eq_equiv) (on_equiv (λ b. b.style) laws-law) };
 }
@@ -124,7 +125,7 @@ impl<'a, A: Allocator> Eq for AnsiBlock<'a, A> {
 #[derive(Drop)]
 pub struct AnsiBlockIter<'a, A: Allocator = Global> {
     alloc: A,
-    /// What is left of the text behind the last block.
+    /// What is left of the text after the last block.
     rest: &'a str,
     /// The style there.
     style: Style,
@@ -132,7 +133,7 @@ pub struct AnsiBlockIter<'a, A: Allocator = Global> {
 
 impl<'a, A: Allocator> Model for AnsiBlockIter<'a, A> {
     ghost use Rattle.std.specs.Prelude.{List};
-    ghost use Rattle.ansi_str.specs.States.{rendition_of};
+    ghost use Rattle.ansi_style.specs.States.{rendition_of};
     ghost use Rattle.ansi_str.specs.Blocks.{Block, blocks_from};
 
     ghost Value = { List Block };
@@ -144,7 +145,7 @@ impl<'a, A: Allocator> Model for AnsiBlockIter<'a, A> {
 ///
 /// There is one for each run of text between sequences. A block's text is the sequences before the run
 /// that are no SGR, joined, and then the run; it is a borrow where there are none, and then no memory
-/// is taken. Sequences behind the last run are in no block. An item is an `Err` where memory is
+/// is taken. Sequences after the last run are in no block. An item is an `Err` where memory is
 /// wanting, and it is the last. (The Rust crate.)
 ///
 /// ```
@@ -167,7 +168,7 @@ pub fn get_blocks_in<A: Allocator>(alloc: A, text: &str) -> AnsiBlockIter<'_, A>
     AnsiBlockIter {
         alloc,
         rest: text,
-        style: Style::new(),
+        style: styles::plain_style(),
     }
 }
 
@@ -208,7 +209,7 @@ struct Run<'a> {
     style: Style,
     /// Whether a sequence that is no SGR waits for it.
     is_awaited: bool,
-    /// The text behind it.
+    /// The text after it.
     rest: &'a str,
 }
 
@@ -216,7 +217,7 @@ struct Run<'a> {
 fn first_run(text: &str, mut style: Style) -> Option<Run<'_>>
     ensures none { IfNone result (blocks_from (rendition_of style) text.now ≡ []) }
     ensures first { IfSome result (λ run. blocks_from (rendition_of style) text.now
-        ≡ block_behind (waiting text.now 0) run.text.now (rendition_of run.style) ∷ blocks_from (rendition_of run.style) run.rest.now) }
+        ≡ block_after (waiting text.now 0) run.text.now (rendition_of run.style) ∷ blocks_from (rendition_of run.style) run.rest.now) }
     ensures awaited { IfSome result (λ run. run.is_awaited ≡ not (length (waiting text.now 0) == 0)) }
 {
     let mut is_awaited = false;
@@ -231,7 +232,7 @@ fn first_run(text: &str, mut style: Style) -> Option<Run<'_>>
                     rest: &text[item.end..],
                 });
             }
-            Kind::Sgr => style.apply(piece),
+            Kind::Sgr => styles::apply(&mut style, piece),
             Kind::Other | Kind::Lone => is_awaited = true,
         }
     }

@@ -1,7 +1,7 @@
 //! Edits of a text.
 ghost use Rattle.std.specs.Prelude.{◌≡◌, ◌↔◌, IsTrue, IsNone, IsOk, IfOk, IfSome, option_map};
 ghost use Rattle.std.specs.Cow.{cow_str_bytes, IsBorrowedStr};
-ghost use Rattle.ansi_str.specs.Plain.{is_whole};
+ghost use Rattle.ansi_items.specs.Plain.{is_whole};
 ghost use Rattle.ansi_str.specs.Edited.{edited, stay_borrowed, IsSliceNamed};
 ghost use Rattle.ansi_str.specs.Edits.{changes_of};
 
@@ -16,7 +16,7 @@ use steps::edit_given;
 
 /// Whether the text is whole: whether it has no lone escape, an ESC that begins no whole sequence.
 ///
-/// Where a lone escape stands, cutting away the text behind it can make a whole sequence of it:
+/// Where a lone escape stands, cutting away the text after it can make a whole sequence of it:
 /// `\x1bé[m` cut from 2 on is `\x1b[m`. Takes no memory. (The Rust crate lacks it.)
 ///
 /// ```

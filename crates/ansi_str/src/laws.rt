@@ -6,19 +6,20 @@ ghost use Rattle.std.specs.List.{list_any, starts_with, ends_with};
 ghost use Rattle.std.specs.Str.{IsUtf8, IsCharBoundary, trim, chars};
 ghost use Rattle.std.specs.Char.{encode_utf8};
 ghost use Rattle.std.specs.Str.Pattern.{FindsTextPrefix, FindsTextSuffix, StripsPrefix, StripsSuffix};
-ghost use Rattle.ansi_str.specs.Sequences.{IsSequence};
-ghost use Rattle.ansi_str.specs.Pieces.{Piece, ArePieces, pieces_of, merged};
-ghost use Rattle.ansi_str.specs.Plain.{plain, marks, up_to, joined, is_text, is_whole, other_sequences, has_escape};
-ghost use Rattle.ansi_str.specs.Rendition.{Rendition, IsStyle, plain_style, known, has_any};
-ghost use Rattle.ansi_str.specs.Sgr.{apply};
-ghost use Rattle.ansi_str.specs.Styled.{style_at, style_after, styled, bytes_of, residue};
-ghost use Rattle.ansi_str.specs.Reading.{style_behind, styled_from};
-ghost use Rattle.ansi_str.specs.Written.{start, close, close_if_any};
-ghost use Rattle.ansi_str.specs.Positions.{is_good_position, is_char_boundary, is_good_range};
-ghost use Rattle.ansi_str.specs.Cut.{cut};
-ghost use Rattle.ansi_str.specs.Sides.{left_side, right_side};
-ghost use Rattle.ansi_str.specs.Kept.{kept, IsKept, without_prefix, without_suffix, trim_interval, trimmed};
-ghost use Rattle.ansi_str.specs.Parts.{parts, part, past, part_over, all_parts};
+ghost use Rattle.ansi_items.specs.Sequences.{IsSequence};
+ghost use Rattle.ansi_items.specs.Pieces.{Piece, ArePieces, pieces_of, merged};
+ghost use Rattle.ansi_items.specs.Plain.{plain, marks, up_to, joined, is_text, is_whole, other_sequences, has_escape};
+ghost use Rattle.ansi_style.specs.declared.state.rendition.Rendition.{Rendition};
+ghost use Rattle.ansi_style.specs.Rendition.{IsStyle, plain_style, known, has_any};
+ghost use Rattle.ansi_style.specs.Sgr.{apply};
+ghost use Rattle.ansi_style.specs.Styled.{style_at, style_after, styled, bytes_of, residue};
+ghost use Rattle.ansi_style.specs.Reading.{style_after_from, styled_from};
+ghost use Rattle.ansi_style.specs.Written.{start, close, close_if_any};
+ghost use Rattle.ansi_slice.specs.Positions.{is_good_position, is_char_boundary, is_good_range};
+ghost use Rattle.ansi_slice.specs.Cut.{cut};
+ghost use Rattle.ansi_slice.specs.Sides.{left_side, right_side};
+ghost use Rattle.ansi_slice.specs.Kept.{kept, IsKept, without_prefix, without_suffix, trim_interval, trimmed};
+ghost use Rattle.ansi_slice.specs.Parts.{parts, part, past, part_over, all_parts};
 ghost use Rattle.ansi_str.specs.Changes.{Change, CutRange, LeftOf, RightOf, PartOf, WithoutPrefix, WithoutSuffix, Trimmed, interval_of, slice_of};
 ghost use Rattle.ansi_str.specs.Edited.{meaning, edited_by, edited, closes, stay_borrowed, IsSliceNamed};
 ghost use Rattle.ansi_str.specs.StdSplit.{AreSplit, AreBetween, AreInTurn, slices_over};
@@ -48,7 +49,7 @@ pub fn texts_have_styles()
     ensures plain { IsStyle plain_style }
     ensures known { (s : Rendition) → IsStyle s → IsStyle (known s) }
     ensures sequence { (s : Rendition) (w : List ℕ) → IsStyle s → IsStyle (apply s w) }
-    ensures behind { (s : Rendition) (t : List ℕ) → IsStyle s → IsStyle (style_behind s t) }
+    ensures after_from { (s : Rendition) (t : List ℕ) → IsStyle s → IsStyle (style_after_from s t) }
     ensures at { (t : List ℕ) (i : ℕ) → IsStyle (style_at t i) }
     ensures after { (t : List ℕ) → IsStyle (style_after t) }
 {}
@@ -56,16 +57,16 @@ pub fn texts_have_styles()
 /// The start of a style, read from the plain style, sets what is known of it, and read from the style
 /// itself it changes nothing. Where nothing is known, or what is known of it, it leaves that known.
 pub fn start_sets()
-    ensures from_plain { (s : Rendition) → IsStyle s → style_behind plain_style (start s) ≡ known s }
-    ensures from_itself { (s : Rendition) → IsStyle s → style_behind s (start s) ≡ s }
-    ensures from_cleared { (p s : Rendition) → IsStyle s → known p ≡ plain_style → known (style_behind p (start s)) ≡ known s }
-    ensures from_known { (p s : Rendition) → IsStyle s → known p ≡ known s → known (style_behind p (start s)) ≡ known s }
+    ensures from_plain { (s : Rendition) → IsStyle s → style_after_from plain_style (start s) ≡ known s }
+    ensures from_itself { (s : Rendition) → IsStyle s → style_after_from s (start s) ≡ s }
+    ensures from_cleared { (p s : Rendition) → IsStyle s → known p ≡ plain_style → known (style_after_from p (start s)) ≡ known s }
+    ensures from_known { (p s : Rendition) → IsStyle s → known p ≡ known s → known (style_after_from p (start s)) ≡ known s }
 {}
 
 /// The close of a style, read where that style is known, leaves nothing known.
 pub fn close_clears()
-    ensures from_itself { (s : Rendition) → known (style_behind s (close s)) ≡ plain_style }
-    ensures from_known { (p s : Rendition) → known p ≡ known s → known (style_behind p (close s)) ≡ plain_style }
+    ensures from_itself { (s : Rendition) → known (style_after_from s (close s)) ≡ plain_style }
+    ensures from_known { (p s : Rendition) → known p ≡ known s → known (style_after_from p (close s)) ≡ plain_style }
 {}
 
 /// Of a style in which nothing is set that a reader could see nothing is known, and its start is empty.
@@ -74,7 +75,7 @@ pub fn unset_styles_need_nothing()
     ensures known { (s : Rendition) → IsFalse (has_any s) → known s ≡ plain_style }
     ensures start { (s : Rendition) → IsFalse (has_any s) → start s ≡ [] }
     ensures close { (s : Rendition) → IsFalse (has_any s) → close_if_any s ≡ [] }
-    ensures cleared { (p s : Rendition) → known p ≡ known s → known (style_behind p (close_if_any s)) ≡ plain_style }
+    ensures cleared { (p s : Rendition) → known p ≡ known s → known (style_after_from p (close_if_any s)) ≡ plain_style }
 {}
 
 /// Two whole texts in a row have the pieces of both, with texts that touch joined, and are whole. A cut,
@@ -85,7 +86,7 @@ pub fn join()
     ensures whole { (u v : List ℕ) → IsTrue (is_whole u) → IsTrue (is_whole v) → IsTrue (is_whole (u ++ v)) }
     ensures whole_cut { (t : List ℕ) (s : ℕ) (e : Option ℕ) → IsTrue (is_whole t) → IsTrue (is_whole (cut t s e)) }
     ensures whole_sides { (t : List ℕ) (mid : ℕ) → IsTrue (is_whole t) → IsTrue (is_whole (left_side t mid)) × IsTrue (is_whole (right_side t mid)) }
-    ensures whole_part { (t p : List ℕ) (k : ℕ) (u : List ℕ) → IsTrue (is_whole t) → part t p k ≡ Some u → IsTrue (is_whole u) }
+    ensures span_part { (t p : List ℕ) (k : ℕ) (u : List ℕ) → IsTrue (is_whole t) → part t p k ≡ Some u → IsTrue (is_whole u) }
     ensures whole_kept { (t : List ℕ) (a b : ℕ) → IsTrue (is_whole t) → IsTrue (is_whole (kept t a b)) }
     ensures closed_cut { (t : List ℕ) (s : ℕ) (e : Option ℕ) → IsTrue (is_whole t) → residue (cut t s e) ≡ plain_style }
     ensures closed_sides { (t : List ℕ) (mid : ℕ) → IsTrue (is_whole t) → (residue (left_side t mid) ≡ plain_style) × (residue (right_side t mid) ≡ plain_style) }
@@ -93,13 +94,13 @@ pub fn join()
     ensures residue_kept { (t : List ℕ) (a b : ℕ) → IsTrue (is_whole t) → residue (kept t a b) ≡ residue t }
 {}
 
-/// Of two whole texts in a row the second is read in the style behind the first. What is read depends
+/// Of two whole texts in a row the second is read in the style after the first. What is read depends
 /// on what is known of the style before, and on nothing else of it.
 pub fn read_in_turn()
-    ensures styled { (s : Rendition) (u v : List ℕ) → IsTrue (is_whole u) → IsTrue (is_whole v) → styled_from s (u ++ v) ≡ styled_from s u ++ styled_from (style_behind s u) v }
-    ensures behind { (s : Rendition) (u v : List ℕ) → IsTrue (is_whole u) → IsTrue (is_whole v) → style_behind s (u ++ v) ≡ style_behind (style_behind s u) v }
+    ensures styled { (s : Rendition) (u v : List ℕ) → IsTrue (is_whole u) → IsTrue (is_whole v) → styled_from s (u ++ v) ≡ styled_from s u ++ styled_from (style_after_from s u) v }
+    ensures after_from { (s : Rendition) (u v : List ℕ) → IsTrue (is_whole u) → IsTrue (is_whole v) → style_after_from s (u ++ v) ≡ style_after_from (style_after_from s u) v }
     ensures styled_alike { (p q : Rendition) (t : List ℕ) → known p ≡ known q → styled_from p t ≡ styled_from q t }
-    ensures behind_alike { (p q : Rendition) (t : List ℕ) → known p ≡ known q → known (style_behind p t) ≡ known (style_behind q t) }
+    ensures after_alike { (p q : Rendition) (t : List ℕ) → known p ≡ known q → known (style_after_from p t) ≡ known (style_after_from q t) }
 {}
 
 /// A cut of a whole text has the slice of its styled bytes that the range names, each side the one that

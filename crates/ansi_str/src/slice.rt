@@ -5,26 +5,20 @@ ghost use Rattle.std.specs.Cow.{cow_str_bytes, IsBorrowedStr};
 ghost use Rattle.std.specs.List.{starts_with, ends_with};
 ghost use Rattle.std.specs.Str.{IsCharBoundary};
 ghost use Rattle.std.specs.Str.Pattern.{FindsText, MatchBeginsAt};
-ghost use Rattle.ansi_str.specs.Plain.{plain, has_escape};
-ghost use Rattle.ansi_str.specs.Positions.{is_good_position, is_char_boundary, is_good_range};
-ghost use Rattle.ansi_str.specs.Cut.{cut};
-ghost use Rattle.ansi_str.specs.Sides.{left_side, right_side};
-ghost use Rattle.ansi_str.specs.Kept.{without_prefix, without_suffix, trimmed};
-ghost use Rattle.ansi_str.specs.Parts.{all_parts, is_part_borrowed};
+ghost use Rattle.ansi_items.specs.Plain.{plain, has_escape};
+ghost use Rattle.ansi_slice.specs.Positions.{is_good_position, is_char_boundary, is_good_range};
+ghost use Rattle.ansi_slice.specs.Cut.{cut};
+ghost use Rattle.ansi_slice.specs.Sides.{left_side, right_side};
+ghost use Rattle.ansi_slice.specs.Kept.{without_prefix, without_suffix, trimmed};
+ghost use Rattle.ansi_slice.specs.Parts.{all_parts, is_part_borrowed};
 
-mod cuts;
-mod kept;
-mod range;
-mod sides;
-
-use crate::ansitok::{ESC, Kind, Scanner};
-use crate::search;
 use crate::split::{AnsiSplit, split_in};
-pub use cuts::{cut_in, get_in};
-pub use kept::{strip_prefix_in, strip_suffix_in, trim_in};
-pub use range::AnsiRange;
-pub use sides::split_at_in;
-use std::alloc::{AllocError, Allocator, Global};
+use ansi_slice::search;
+pub use ansi_slice::slice::{
+    AnsiRange, cut_in, get_in, has_any, split_at_in, strip_in, strip_prefix_in, strip_suffix_in,
+    trim_in,
+};
+use std::alloc::{AllocError, Global};
 use std::borrow::CowStr;
 
 /// A text, taken as if its sequences weren't there.
@@ -59,7 +53,7 @@ pub trait AnsiStr {
     /// The text between two positions, each character in its style.
     ///
     /// Every sequence up to the end of the range stays, at its place; the plain bytes of the range
-    /// stay; and behind them stands the close of the style, so that nothing is left open. Positions
+    /// stay; and after them stands the close of the style, so that nothing is left open. Positions
     /// count bytes of the plain text. Each has to be a character boundary of it, or lie past its
     /// end, which counts as the end; and no end may lie below the start.
     ///
@@ -136,7 +130,7 @@ pub trait AnsiStr {
     /// it.
     ///
     /// The suffix is met across sequences, and every sequence stays, at its place: also one that
-    /// stands inside the suffix or behind it. No style is opened or closed. An empty suffix takes
+    /// stands inside the suffix or after it. No style is opened or closed. An empty suffix takes
     /// nothing off, and a suffix with an ESC is never there. (std's `strip_suffix`, on the plain
     /// text; the sequences, the Rust crate.)
     ///
@@ -169,7 +163,7 @@ pub trait AnsiStr {
     /// The iterator has at most two parts more than the plain text has bytes. A part with no
     /// sequence is a borrow where no style is carried into it or it is empty, so on a text without
     /// ESC every part is one; a borrow takes no memory. Any other part is owned, and in its place
-    /// comes an `Err` where memory is wanting. Behind that there is nothing but `None`. (std; the
+    /// comes an `Err` where memory is wanting. After that there is nothing but `None`. (std; the
     /// Rust crate splits the text with its sequences; where a sequence goes, own.)
     ///
     /// ```
@@ -415,30 +409,4 @@ impl AnsiStr for String {
     fn ansi_has_any(&self) -> bool {
         has_any(self.as_str())
     }
-}
-
-/// As [`AnsiStr::ansi_has_any`].
-pub fn has_any(text: &str) -> bool
-    ensures { result ≡ has_escape text.now }
-{
-    text.as_bytes().contains(&ESC)
-}
-
-/// As [`AnsiStr::ansi_strip`], with an answer that lives as long as the text, and its memory taken
-/// from any allocator.
-pub fn strip_in<'t, A: Allocator>(alloc: A, text: &'t str) -> Result<CowStr<'t, A>, AllocError>
-    ensures bytes { IfOk result (λ c. cow_str_bytes c ≡ plain text.now) }
-    ensures borrowed { IfOk result (λ c. IsBorrowedStr c ↔ IsFalse (has_escape text.now)) }
-    ensures takes_no_memory { IsFalse (has_escape text.now) → IsOk result }
-{
-    if !has_any(text) {
-        return Ok(CowStr::Borrowed(text));
-    }
-    let mut plain = String::new(alloc);
-    for item in Scanner::new(text) {
-        if item.kind == Kind::Text {
-            plain.push_str(&text[item.start..item.end])?;
-        }
-    }
-    Ok(CowStr::Owned(plain))
 }

@@ -2,10 +2,10 @@
 ghost use Rattle.std.specs.Prelude.{◌≡◌, ◌↔◌, ◌⊎◌, ◌+◌, ◌≤◌, Some, length, map, slice_get, IsTrue, IsFalse, IsNone, IsOk, IfOk, IfSome};
 ghost use Rattle.std.specs.List.{range_with_len, list_all};
 ghost use Rattle.std.specs.Cow.{cow_str_bytes, IsBorrowedStr};
-ghost use Rattle.ansi_str.specs.Plain.{plain, has_escape};
-ghost use Rattle.ansi_str.specs.Parts.{parts, part, all_parts, is_part_borrowed};
+ghost use Rattle.ansi_items.specs.Plain.{plain, has_escape};
+ghost use Rattle.ansi_slice.specs.Parts.{parts, part, all_parts, is_part_borrowed};
 
-mod behind;
+mod after;
 mod rest;
 mod spans;
 
@@ -18,7 +18,7 @@ use std::marker::Model;
 /// [`AnsiStr::ansi_split`](crate::AnsiStr::ansi_split) makes.
 ///
 /// A part with no sequence is a borrow where no style is carried into it or it is empty. Any other
-/// part is owned. An `Err` means that memory is wanting; behind it, as behind the last part, there is
+/// part is owned. An `Err` means that memory is wanting; after it, as after the last part, there is
 /// nothing but `None`.
 #[derive(Drop)]
 pub struct AnsiSplit<'a, A: Allocator = Global> {
@@ -58,7 +58,7 @@ impl<'a, A: Allocator + Copy> Iterator for AnsiSplit<'a, A> {
 
     ghost remaining = { item_count (λ s. s) };
 
-    /// The next part, or `None` behind the last one and behind an `Err`, then and ever after.
+    /// The next part, or `None` after the last one and after an `Err`, then and ever after.
     fn next(&mut self) -> Option<Result<CowStr<'a, A>, AllocError>> {
         let span = self.spans.next()?;
         let part = span.write(self.alloc);

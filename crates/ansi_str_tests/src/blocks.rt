@@ -187,7 +187,7 @@ const MEMORY_ROWS: [MemoryRow; 4] = [
 ];
 
 /// Whether a block of the text, or the clone of one, is an `Err`; the blocks before it have to be the
-/// row's, and none may come behind it.
+/// row's, and none may come after it.
 fn is_err(rt: &impl Abort, heap: &Refusing<Global>, row: MemoryRow) -> bool {
     let (text, want, _) = row;
     let mut blocks = get_blocks_in(heap, text);
@@ -202,7 +202,7 @@ fn is_err(rt: &impl Abort, heap: &Refusing<Global>, row: MemoryRow) -> bool {
             }
             Some(Err(_)) => {
                 for _ in 0..3u8 {
-                    assert!(rt; blocks.next().is_none(), "behind an error");
+                    assert!(rt; blocks.next().is_none(), "after an error");
                 }
                 return true;
             }

@@ -119,7 +119,7 @@ const ROWS: [Row; 28] = [
         "\x1b[>4;2mx\x1b[22m\x1b[0m",
         false,
     ),
-    // Behind a lone escape.
+    // After a lone escape.
     ("\x1bé[m", RangeFrom(2), "\x1b[m", false),
     // To a last position.
     (
@@ -193,6 +193,6 @@ fn many_fields_are_read(rt: HostRuntime) -> Result<(), Fail> {
     // The last field is empty, an unknown code.
     want.push_str("\x1b[22m\x1b[0m")?;
     let got = Range(0, 1).cut(&rt, rt.alloc(), &sgr)?;
-    assert!(rt; got.as_str() == want.as_str(), "cut behind 100,000 fields");
+    assert!(rt; got.as_str() == want.as_str(), "cut after 100,000 fields");
     Ok(())
 }

@@ -11,7 +11,7 @@ fn the_first_example_is_right(rt: HostRuntime) -> Result<(), Fail> {
     assert_eq!(rt; log.ansi_strip(rt.alloc())?.as_str(), "red and plain");
     assert_eq!(rt; log.ansi_find("d and"), Some(2));
 
-    // positions count bytes of the plain text, and the color is closed behind the cut
+    // positions count bytes of the plain text, and the color is closed after the cut
     assert_eq!(rt;
         log.ansi_cut(rt.alloc(), ..2)?.as_str(),
         "\x1b[31mre\x1b[39m"
@@ -27,7 +27,7 @@ fn the_first_example_is_right(rt: HostRuntime) -> Result<(), Fail> {
     Ok(())
 }
 
-// A table cuts a cell to a width in bytes. Nothing stays open behind it.
+// A table cuts a cell to a width in bytes. Nothing stays open after it.
 #[test]
 fn a_cell_is_cut_to_a_width(rt: HostRuntime) -> Result<(), Fail> {
     let edits = [

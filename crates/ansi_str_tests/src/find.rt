@@ -93,6 +93,6 @@ fn many_sequences_are_passed_over(rt: HostRuntime) -> Result<(), Fail> {
         Some(1),
         "both sides of many sequences"
     );
-    assert_eq!(rt; apart.ansi_find("bx"), None, "behind many sequences");
+    assert_eq!(rt; apart.ansi_find("bx"), None, "after many sequences");
     Ok(())
 }

@@ -43,8 +43,8 @@ fn items_come_in_order(rt: HostRuntime) -> Result<(), Fail> {
             assert_eq!(rt; scanner.next(), Some(item), "in {text:?}");
             start = *end;
         }
-        assert_eq!(rt; scanner.next(), None, "behind {text:?}");
-        assert_eq!(rt; scanner.next(), None, "once more behind {text:?}");
+        assert_eq!(rt; scanner.next(), None, "after {text:?}");
+        assert_eq!(rt; scanner.next(), None, "once more after {text:?}");
     }
     Ok(())
 }

@@ -285,7 +285,7 @@ fn a_long_run_is_split(rt: HostRuntime) -> Result<(), Fail> {
     Ok(())
 }
 
-/// Whether the split of a row answers an `Err`, behind which there is nothing. The parts before have
+/// Whether the split of a row answers an `Err`, after which there is nothing. The parts before have
 /// to be the row's.
 fn split_is_err(rt: &impl Abort, heap: &Refusing<Global>, text: &str, number: usize) -> bool {
     let Some(row) = ROWS.get(number) else {

@@ -67,7 +67,7 @@ fn plain_texts_are_given(rt: HostRuntime) -> Result<(), Fail> {
     Ok(())
 }
 
-/// A front, a text that stands behind it so often, and the plain text of both together.
+/// A front, a text that stands after it so often, and the plain text of both together.
 type LongRow = (&'static str, &'static str, usize, &'static str);
 
 const LONG_ROWS: [LongRow; 3] = [
@@ -88,10 +88,10 @@ fn long_unfinished_sequences_are_text(rt: HostRuntime) -> Result<(), Fail> {
             }
         }
         let got = text.ansi_strip(rt.alloc())?;
-        assert_eq!(rt; got.len(), plain.len(), "length behind {front:?}");
+        assert_eq!(rt; got.len(), plain.len(), "length after {front:?}");
         assert!(rt;
             got.as_str() == plain.as_str(),
-            "plain text behind {front:?}"
+            "plain text after {front:?}"
         );
     }
     Ok(())

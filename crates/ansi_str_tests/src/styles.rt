@@ -103,7 +103,7 @@ fn attributes_are_told(rt: HostRuntime) -> Result<(), Fail> {
         let text = format!(in rt.alloc(); "\x1b[{code}mx")?;
         let block = first_block(rt.alloc(), text.as_str())?;
         for (j, is_set) in attributes(block.style()).iter().enumerate() {
-            assert_eq!(rt; *is_set, i == j, "attribute {j} behind code {code}");
+            assert_eq!(rt; *is_set, i == j, "attribute {j} after code {code}");
         }
     }
     Ok(())
@@ -116,7 +116,7 @@ const CODES: [&str; 28] = [
 ];
 
 /// A text in which the codes from an index on are set. The reset comes first, since it clears others.
-fn text_behind_codes(alloc: Global, index: usize) -> Result<String, Fail> {
+fn text_after_codes(alloc: Global, index: usize) -> Result<String, Fail> {
     let mut text = String::new(alloc);
     if index <= 13 {
         text.push_str("\x1b[0m")?;
@@ -134,12 +134,12 @@ fn text_behind_codes(alloc: Global, index: usize) -> Result<String, Fail> {
 fn earlier_parts_decide(rt: HostRuntime) -> Result<(), Fail> {
     for (i, code) in CODES.iter().enumerate() {
         let one = format!(in rt.alloc(); "\x1b[{code}mx")?;
-        let later = text_behind_codes(rt.alloc(), i + 1)?;
+        let later = text_after_codes(rt.alloc(), i + 1)?;
         let one = first_block(rt.alloc(), one.as_str())?;
         let later = first_block(rt.alloc(), later.as_str())?;
         assert!(rt;
             *one.style() > *later.style(),
-            "code {code} against all behind it"
+            "code {code} against all after it"
         );
     }
     Ok(())

@@ -1,15 +1,15 @@
 //! One edit of a text.
 ghost use Rattle.std.specs.Prelude.{◌≡◌, ◌↔◌, ◌⊎◌, IsTrue, IsFalse, IsNone, IsOk, IfOk, IfSome, option_map};
 ghost use Rattle.std.specs.Cow.{cow_str_bytes, IsBorrowedStr};
-ghost use Rattle.ansi_str.specs.Plain.{has_escape};
+ghost use Rattle.ansi_items.specs.Plain.{has_escape};
 ghost use Rattle.ansi_str.specs.Changes.{LeftOf, RightOf};
 ghost use Rattle.ansi_str.specs.Edited.{edited_by, gives_borrow};
 ghost use Rattle.ansi_str.specs.Edits.{change_of};
 
 use crate::edits::Edit;
-use crate::search;
 use crate::slice::{get_in, split_at_in, strip_prefix_in, strip_suffix_in, trim_in};
 use crate::split::part_in;
+use ansi_slice::search;
 use std::alloc::{AllocError, Allocator};
 use std::borrow::CowStr;
 

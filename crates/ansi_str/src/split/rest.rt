@@ -2,13 +2,13 @@
 ghost use Rattle.std.specs.Prelude.{◌≡◌, ◌≤◌, take, drop, None, IfSome, IsFalse};
 ghost use Rattle.std.specs.Option.{MatchOption};
 ghost use Rattle.std.specs.Str.{IsCharBoundary};
-ghost use Rattle.ansi_str.specs.Plain.{plain, has_escape};
-ghost use Rattle.ansi_str.specs.Parts.{first_match_from};
+ghost use Rattle.ansi_items.specs.Plain.{plain, has_escape};
+ghost use Rattle.ansi_slice.specs.Parts.{first_match_from};
 ghost use Rattle.ansi_str.specs.Spans.{IsCutAtMatch};
 
 use crate::ansitok::{Kind, Scanner};
-use crate::search;
-use crate::split::behind::split_at_match;
+use crate::split::after::split_at_match;
+use ansi_slice::search;
 
 /// What is left of a text, and how long the run of plain text at its front is. So where a run has many
 /// matches, its end isn't looked for at each of them.
@@ -39,7 +39,7 @@ impl<'t> Rest<'t> {
     }
 
     /// What stands before the first match that doesn't begin before `from`, with every sequence up to
-    /// there, and what is left then: the match and all that stands behind. `None` where there is no
+    /// there, and what is left then: the match and all that follows. `None` where there is no
     /// such match.
     pub(super) fn split_at_match(&self, pat: &str, from: usize) -> Option<(&'t str, Rest<'t>)>
         ensures { MatchOption result (first_match_from (plain self.now.text.now) pat.now from ≡ None) (λ halves. IsCutAtMatch self.now.text.now pat.now from halves.0.now halves.1.text.now) }
@@ -74,6 +74,6 @@ fn match_in_run(text: &str, run: usize, pat: &str, from: usize) -> Option<usize>
     ensures boundary { IfSome result (λ place. IsCharBoundary text.now place) }
     ensures cut { IfSome result (λ place. IsCutAtMatch text.now pat.now from (take place text.now) (drop place text.now)) }
 {
-    let (run, behind) = text.split_at(run);
-    search::first_in_run(run, behind, pat, from)
+    let (run, after) = text.split_at(run);
+    search::first_in_run(run, after, pat, from)
 }

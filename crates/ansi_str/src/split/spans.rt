@@ -1,13 +1,16 @@
 //! The stretches of a text that its parts are written from.
 ghost use Rattle.std.specs.Prelude.{◌≡◌, ◌↔◌, IsTrue, IsOk, IfOk, string_bytes};
 ghost use Rattle.std.specs.Cow.{cow_str_bytes, IsBorrowedStr};
-ghost use Rattle.ansi_str.specs.Plain.{plain};
-ghost use Rattle.ansi_str.specs.Positions.{is_char_boundary};
+ghost use Rattle.ansi_items.specs.Plain.{plain};
+ghost use Rattle.ansi_slice.specs.Positions.{is_char_boundary};
+ghost use Rattle.ansi_style.specs.Reading.{style_after_from};
+ghost use Rattle.ansi_style.specs.States.{rendition_of};
 
 use crate::ansitok::{Kind, Scanner};
 use crate::slice::has_any;
 use crate::split::rest::Rest;
-use crate::state::Style;
+use ansi_style::state::Style;
+use ansi_style::styles;
 use std::alloc::{AllocError, Allocator};
 use std::borrow::CowStr;
 use std::marker::Model;
@@ -15,7 +18,7 @@ use std::marker::Model;
 /// What one part is written from.
 #[derive(Drop)]
 pub(super) struct Span<'t> {
-    /// The text from the match before up to behind the last sequence at the end of the part.
+    /// The text from the match before up to after the last sequence at the end of the part.
     text: &'t str,
     /// How many plain bytes of it are in no part: those of the match before.
     skip: usize,
@@ -27,14 +30,14 @@ pub(super) struct Span<'t> {
 impl<'t> Span<'t> {
     ghost use Rattle.std.specs.Prelude.{true, false};
     ghost use Rattle.std.specs.Option.{MatchOption};
-    ghost use Rattle.ansi_str.specs.States.{rendition_of};
-    ghost use Rattle.ansi_str.specs.Spans.{whole_part, whole_text};
+    ghost use Rattle.ansi_style.specs.States.{rendition_of};
+    ghost use Rattle.ansi_str.specs.Spans.{span_part, span_text};
 
     /// The part: a borrow where no sequence stands in it and no style has to be written.
     pub(super) fn write<A: Allocator>(&self, alloc: A) -> Result<CowStr<'t, A>, AllocError>
-        ensures bytes { IfOk result (λ c. cow_str_bytes c ≡ (whole_part (rendition_of self.now.carried) self.now.text.now self.now.skip).bytes) }
-        ensures borrowed { IfOk result (λ c. IsBorrowedStr c ↔ IsTrue (whole_part (rendition_of self.now.carried) self.now.text.now self.now.skip).borrowed) }
-        ensures takes_no_memory { IsTrue (whole_part (rendition_of self.now.carried) self.now.text.now self.now.skip).borrowed → IsOk result }
+        ensures bytes { IfOk result (λ c. cow_str_bytes c ≡ (span_part (rendition_of self.now.carried) self.now.text.now self.now.skip).bytes) }
+        ensures borrowed { IfOk result (λ c. IsBorrowedStr c ↔ IsTrue (span_part (rendition_of self.now.carried) self.now.text.now self.now.skip).borrowed) }
+        ensures takes_no_memory { IsTrue (span_part (rendition_of self.now.carried) self.now.text.now self.now.skip).borrowed → IsOk result }
     {
         match self.bare() {
             Some(bare) => Ok(CowStr::Borrowed(bare)),
@@ -45,14 +48,14 @@ impl<'t> Span<'t> {
     /// The part as it stands in the text, where no sequence stands in it, and it is empty or no style
     /// is carried.
     fn bare(&self) -> Option<&'t str>
-        ensures { MatchOption result (whole_part (rendition_of self.now.carried) self.now.text.now self.now.skip ≡ record { bytes = whole_text (rendition_of self.now.carried) self.now.text.now self.now.skip; borrowed = false })
-            (λ bare. whole_part (rendition_of self.now.carried) self.now.text.now self.now.skip ≡ record { bytes = bare.now; borrowed = true }) }
+        ensures { MatchOption result (span_part (rendition_of self.now.carried) self.now.text.now self.now.skip ≡ record { bytes = span_text (rendition_of self.now.carried) self.now.text.now self.now.skip; borrowed = false })
+            (λ bare. span_part (rendition_of self.now.carried) self.now.text.now self.now.skip ≡ record { bytes = bare.now; borrowed = true }) }
     {
         if has_any(self.text) {
             return None;
         }
         let bare = &self.text[self.skip..];
-        if bare.is_empty() || !self.carried.has_any() {
+        if bare.is_empty() || !styles::has_any(&self.carried) {
             return Some(bare);
         }
         None
@@ -61,14 +64,14 @@ impl<'t> Span<'t> {
     /// The part, written: the start of the style that is carried, the text with its sequences, and the
     /// close of the style then, where that has any.
     fn written<A: Allocator>(&self, alloc: A) -> Result<String<A>, AllocError>
-        ensures { IfOk result (λ s. string_bytes s ≡ whole_text (rendition_of self.now.carried) self.now.text.now self.now.skip) }
+        ensures { IfOk result (λ s. string_bytes s ≡ span_text (rendition_of self.now.carried) self.now.text.now self.now.skip) }
     {
         // At least so many bytes are written: the text but for what is left out.
         let len = self.text.len().saturating_sub(self.skip);
         let mut part = String::with_capacity(alloc, len)?;
         let mut style = self.carried;
         let mut skip = self.skip;
-        style.write_start(&mut part)?;
+        styles::write_start(&style, &mut part)?;
         for item in Scanner::new(self.text) {
             let piece = &self.text[item.start..item.end];
             if item.kind == Kind::Text {
@@ -77,12 +80,12 @@ impl<'t> Span<'t> {
             } else {
                 part.push_str(piece)?;
                 if item.kind == Kind::Sgr {
-                    style.apply(piece);
+                    styles::apply(&mut style, piece);
                 }
             }
         }
-        if style.has_any() {
-            style.write_close(&mut part)?;
+        if styles::has_any(&style) {
+            styles::write_close(&style, &mut part)?;
         }
         Ok(part)
     }
@@ -91,7 +94,7 @@ impl<'t> Span<'t> {
 /// The spans of a text between the matches of a pattern, in order: an iterator that takes no memory.
 #[derive(Drop)]
 pub(super) struct Spans<'t, 'p> {
-    /// What is left of the text: the match before and all behind it.
+    /// What is left of the text: the match before and all after it.
     left: Rest<'t>,
     pat: &'p str,
     /// How many plain bytes of `left` are in no part: those of the match before.
@@ -105,9 +108,9 @@ pub(super) struct Spans<'t, 'p> {
 
 impl<'t, 'p> Model for Spans<'t, 'p> {
     ghost use Rattle.std.specs.Prelude.{◌≤◌, List, [], if◌then◌else◌, IsTrue};
-    ghost use Rattle.ansi_str.specs.Plain.{plain};
-    ghost use Rattle.ansi_str.specs.Positions.{is_char_boundary};
-    ghost use Rattle.ansi_str.specs.States.{rendition_of};
+    ghost use Rattle.ansi_items.specs.Plain.{plain};
+    ghost use Rattle.ansi_slice.specs.Positions.{is_char_boundary};
+    ghost use Rattle.ansi_style.specs.States.{rendition_of};
     ghost use Rattle.ansi_str.specs.Splits.{SplitPart};
     ghost use Rattle.ansi_str.specs.Spans.{parts_left};
 
@@ -120,7 +123,7 @@ impl<'t, 'p> Model for Spans<'t, 'p> {
 
 impl<'t, 'p> Spans<'t, 'p> {
     ghost use Rattle.std.specs.Prelude.{◌≡◌, []};
-    ghost use Rattle.ansi_str.specs.Rendition.{plain_style};
+    ghost use Rattle.ansi_style.specs.Rendition.{plain_style};
     ghost use Rattle.ansi_str.specs.Spans.{parts_left};
 
     /// The spans of all parts of the text.
@@ -132,7 +135,7 @@ impl<'t, 'p> Spans<'t, 'p> {
             pat,
             skip: 0,
             from: 0,
-            carried: Style::new(),
+            carried: styles::plain_style(),
             finished: false,
         }
     }
@@ -147,12 +150,12 @@ impl<'t, 'p> Spans<'t, 'p> {
 
 impl<'t, 'p> Iterator for Spans<'t, 'p> {
     ghost use Rattle.std.specs.Iterator.{YieldsFirstBy, item_count};
-    ghost use Rattle.ansi_str.specs.States.{rendition_of};
-    ghost use Rattle.ansi_str.specs.Spans.{whole_part};
+    ghost use Rattle.ansi_style.specs.States.{rendition_of};
+    ghost use Rattle.ansi_str.specs.Spans.{span_part};
 
     type Item = Span<'t>;
 
-    ghost next_gives = { YieldsFirstBy (λ s. whole_part (rendition_of s.carried) s.text.now s.skip) (λ s. s) };
+    ghost next_gives = { YieldsFirstBy (λ s. span_part (rendition_of s.carried) s.text.now s.skip) (λ s. s) };
 
     ghost remaining = { item_count (λ s. s) };
 
@@ -172,11 +175,22 @@ impl<'t, 'p> Iterator for Spans<'t, 'p> {
         self.left = left;
         self.skip = self.pat.len();
         self.from = self.pat.len().max(1);
-        self.carried.apply_all(text);
+        apply_all(&mut self.carried, text);
         Some(Span {
             text,
             skip,
             carried,
         })
+    }
+}
+
+/// Does what the SGRs of a text ask for, one after another.
+fn apply_all(style: &mut Style, text: &str)
+    ensures { rendition_of style.new ≡ style_after_from (rendition_of style.old) text.now }
+{
+    for item in Scanner::new(text) {
+        if item.kind == Kind::Sgr {
+            styles::apply(style, &text[item.start..item.end]);
+        }
     }
 }

@@ -79,7 +79,7 @@ impl Draft {
     }
 }
 
-/// The part between two ends of the plain text, behind one that ends at `before`.
+/// The part between two ends of the plain text, after one that ends at `before`.
 fn part(
     alloc: Global,
     text: &str,

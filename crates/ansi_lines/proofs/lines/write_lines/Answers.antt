@@ -27,7 +27,7 @@ loop-line-preserved g c =
       unfailed = search rules;
     }
 
--- an ended line is refused: nothing of it is written, and nothing behind it
+-- an ended line is refused: nothing of it is written, and nothing after it
 refused-ended : (g : Over) (c : goal.Then-not-branch g)
     → (g.W.Sink.taken c.write_answer.new.output ≡ g.W.Sink.taken c.loop-line.output) × (answers (work_of c.args.job.now) c.loop-line.rest.now ≡ []) × (first_refused c.loop-line.number (work_of c.args.job.now) c.loop-line.rest.now ≡ Some c.loop-line.number)
 refused-ended g c =
@@ -44,7 +44,7 @@ returns-then-not-branch-clause-refused g c =
     let (kept, none, number) = refused-ended g c in
     sym (c.loop-line.invariant.none_refused ∙ number)
 
--- nothing stands behind the last line feed
+-- nothing stands after the last line feed
 pub returns-then-is_empty-clause-done : goal.returns-then-is_empty-clause-done
 returns-then-is_empty-clause-done g c =
     let none : length c.loop-line.rest.now ≡ 0 = grind (arith, nat_tests, c.if-is_empty.true, c.is_empty.ensures) in
@@ -55,7 +55,7 @@ returns-then-is_empty-clause-refused g c =
     let none : length c.loop-line.rest.now ≡ 0 = grind (arith, nat_tests, c.if-is_empty.true, c.is_empty.ensures) in
     sym (c.loop-line.invariant.none_refused ∙ (answers-empty (work_of c.args.job.now) c.loop-line.number c.loop-line.rest.now none).1)
 
--- what stands behind the last line feed is the last line
+-- what stands after the last line feed is the last line
 pub returns-then-branch-clause-done : goal.returns-then-branch-clause-done
 returns-then-branch-clause-done g c =
     let rest = c.loop-line.rest.now in

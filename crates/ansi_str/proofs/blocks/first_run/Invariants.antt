@@ -1,6 +1,6 @@
 use Rattle.std.proofs.Common.{◌≡◌}
-use Rattle.ansi_str.specs.States.{rendition_of}
-use Rattle.ansi_str.specs.Scans.{pieces_left}
+use Rattle.ansi_style.specs.States.{rendition_of}
+use Rattle.ansi_items.specs.Scans.{pieces_left}
 use Rattle.ansi_str.proofs.BlockWalkLemmas.{IsRunSoFar}
 use Rattle.ansi_str.proofs.blocks.first_run.Given as goal
 

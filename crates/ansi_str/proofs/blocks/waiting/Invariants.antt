@@ -1,6 +1,6 @@
 use Rattle.std.proofs.Common.{◌≡◌, ◌++◌, string_bytes}
 use Rattle.ansi_str.specs.Blocks.{waiting}
-use Rattle.ansi_str.specs.Scans.{pieces_left}
+use Rattle.ansi_items.specs.Scans.{pieces_left}
 use Rattle.ansi_str.proofs.BlockLemmas.{waiting_before}
 use Rattle.ansi_str.proofs.blocks.waiting.Given as goal
 

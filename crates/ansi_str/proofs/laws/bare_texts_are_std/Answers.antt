@@ -1,4 +1,4 @@
-use Rattle.ansi_str.proofs.PlainLemmas.{plain-bare}
+use Rattle.ansi_items.proofs.PlainLemmas.{plain-bare}
 use Rattle.ansi_str.proofs.BareLemmas.{is_whole-bare, cut_inside-bare, left_inside-bare, right_inside-bare, part-bare, all_parts-bare, all_parts_are_split-bare, all_parts-empty-bare, without_prefix-bare, without_suffix-bare, trimmed-bare, edited_by-bare, edited-bare, stay_borrowed-bare}
 use Rattle.ansi_str.proofs.laws.bare_texts_are_std.Goals as goal
 

@@ -1,5 +1,5 @@
 use Rattle.std.proofs.Common.{refl}
-use Rattle.ansi_str.proofs.CloseLemmas.{close_clears}
+use Rattle.ansi_style.proofs.CloseLemmas.{close_clears}
 use Rattle.ansi_str.proofs.laws.close_clears.Goals as goal
 
 pub returns-clause-from_itself : goal.returns-clause-from_itself

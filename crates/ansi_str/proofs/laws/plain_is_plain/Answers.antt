@@ -1,5 +1,5 @@
-use Rattle.ansi_str.proofs.PlainLemmas.{has_escape-plain, plain-plain, is_whole-plain}
-use Rattle.ansi_str.proofs.Utf8Lemmas.{IsUtf8-plain}
+use Rattle.ansi_items.proofs.PlainLemmas.{has_escape-plain, plain-plain, is_whole-plain}
+use Rattle.ansi_items.proofs.Utf8Lemmas.{IsUtf8-plain}
 use Rattle.ansi_str.proofs.laws.plain_is_plain.Goals as goal
 
 pub returns-clause-no_escape : goal.returns-clause-no_escape

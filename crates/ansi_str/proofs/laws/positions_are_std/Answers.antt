@@ -1,4 +1,4 @@
-use Rattle.ansi_str.proofs.PositionLemmas.{char_boundary_is, good_position_is, good_range_is}
+use Rattle.ansi_slice.proofs.PositionLemmas.{char_boundary_is, good_position_is, good_range_is}
 use Rattle.ansi_str.proofs.laws.positions_are_std.Goals as goal
 
 pub returns-clause-boundary : goal.returns-clause-boundary

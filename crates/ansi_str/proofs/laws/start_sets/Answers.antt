@@ -1,4 +1,4 @@
-use Rattle.ansi_str.proofs.StartLemmas.{start_sets, start_keeps, start_sets_known, start_keeps_known}
+use Rattle.ansi_style.proofs.StartLemmas.{start_sets, start_keeps, start_sets_known, start_keeps_known}
 use Rattle.ansi_str.proofs.laws.start_sets.Goals as goal
 
 pub returns-clause-from_plain : goal.returns-clause-from_plain

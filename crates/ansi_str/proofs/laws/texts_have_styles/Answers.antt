@@ -1,4 +1,4 @@
-use Rattle.ansi_str.proofs.StyleLemmas.{IsStyle-plain_style, IsStyle-known, IsStyle-apply, IsStyle-style_behind, IsStyle-style_at, IsStyle-style_after}
+use Rattle.ansi_style.proofs.StyleLemmas.{IsStyle-plain_style, IsStyle-known, IsStyle-apply, IsStyle-style_after_from, IsStyle-style_at, IsStyle-style_after}
 use Rattle.ansi_str.proofs.laws.texts_have_styles.Goals as goal
 
 pub returns-clause-plain : goal.returns-clause-plain
@@ -10,8 +10,8 @@ returns-clause-known c = IsStyle-known
 pub returns-clause-sequence : goal.returns-clause-sequence
 returns-clause-sequence c = IsStyle-apply
 
-pub returns-clause-behind : goal.returns-clause-behind
-returns-clause-behind c = IsStyle-style_behind
+pub returns-clause-after_from : goal.returns-clause-after_from
+returns-clause-after_from c = IsStyle-style_after_from
 
 pub returns-clause-at : goal.returns-clause-at
 returns-clause-at c = IsStyle-style_at

@@ -1,5 +1,5 @@
 use Rattle.ansi_str.proofs.KeptLemmas.{is_kept}
-use Rattle.ansi_str.proofs.TrimLemmas.{slice_range-trim_interval, trim_interval_boundaries}
+use Rattle.ansi_slice.proofs.TrimLemmas.{slice_range-trim_interval, trim_interval_boundaries}
 use Rattle.ansi_str.proofs.KeptAsStdLemmas.{plain-trimmed, plain-without_prefix, plain-without_suffix}
 use Rattle.ansi_str.proofs.laws.trim_is_std.Goals as goal
 

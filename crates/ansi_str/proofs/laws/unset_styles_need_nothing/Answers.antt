@@ -1,4 +1,4 @@
-use Rattle.ansi_str.proofs.UnsetLemmas.{known-unset, start-unset, close_if_any-unset, close_if_any_clears}
+use Rattle.ansi_style.proofs.UnsetLemmas.{known-unset, start-unset, close_if_any-unset, close_if_any_clears}
 use Rattle.ansi_str.proofs.laws.unset_styles_need_nothing.Goals as goal
 
 pub returns-clause-known : goal.returns-clause-known

@@ -1,16 +1,16 @@
 use Rattle.std.proofs.Common.{◌≡◌, inl, inr, Some, option_map, refl, sym, ◌∙◌, ap, slice_get, is_some, true≢false}
 use Rattle.std.proofs.lemmas.Iterator.Consumers.{nth_from_yields_List, YieldsList-from_first}
 use Rattle.ansi_str.specs.declared.split.spans.Span.{Span}
-use Rattle.ansi_str.specs.Rendition.{plain_style}
-use Rattle.ansi_str.specs.States.{rendition_of}
+use Rattle.ansi_style.specs.Rendition.{plain_style}
+use Rattle.ansi_style.specs.States.{rendition_of}
 use Rattle.ansi_str.specs.Splits.{SplitPart}
-use Rattle.ansi_str.specs.Spans.{whole_part, parts_left}
+use Rattle.ansi_str.specs.Spans.{span_part, parts_left}
 use Rattle.ansi_str.proofs.SplitLemmas.{IsPartAt, part_at, no_part_at}
 use Rattle.ansi_str.proofs.split.part_in.Goals as goal
 
 -- the part that a span is written as
 abbrev written_as : Span → SplitPart
-written_as s = whole_part (rendition_of s.carried) s.text.now s.skip
+written_as s = span_part (rendition_of s.carried) s.text.now s.skip
 
 -- a part that is a borrow is never an `Err`
 pub returns-in_err-write-in-Some-clause-takes_no_memory : goal.returns-in_err-write-in-Some-clause-takes_no_memory

@@ -1,5 +1,5 @@
 use Rattle.std.proofs.Common.{length, ap, arith}
-use Rattle.ansi_str.specs.States.{rendition_of}
+use Rattle.ansi_style.specs.States.{rendition_of}
 use Rattle.ansi_str.proofs.BlockLemmas.{blocks_from-nil}
 use Rattle.ansi_str.proofs.BlockWalkLemmas.{not_borrowed}
 use Rattle.ansi_str.proofs.blocks.AnsiBlockIterIterator.next.Goals as goal
@@ -13,7 +13,7 @@ pub returns-in-Err-clause-steps : goal.returns-in-Err-clause-steps
 returns-in-Err-clause-steps g c =
     rw (← c.self.view_is) ((_, _, c.in_ok-run.ensures.first, not_borrowed _ _ c.in_ok-run.ensures.awaited c.in-Err.ensures.takes_no_memory), blocks_from-nil (rendition_of c.self.inside.style))
 
--- nothing is left behind an error
+-- nothing is left after an error
 pub returns-in-Err-clause-goes : goal.returns-in-Err-clause-goes
 returns-in-Err-clause-goes g c =
     let some = ap length c.in_ok-run.ensures.first in

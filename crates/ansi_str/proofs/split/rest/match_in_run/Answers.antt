@@ -1,10 +1,10 @@
 use Rattle.std.proofs.Common.{◌≡◌, ◌++◌, sym, ◌∙◌, ap, ap₂, IsFalse}
 use Rattle.std.proofs.lemmas.List.{take-append-drop}
-use Rattle.ansi_str.specs.Plain.{has_escape}
+use Rattle.ansi_items.specs.Plain.{has_escape}
 use Rattle.ansi_str.proofs.RestLemmas.{matches_in_run}
 use Rattle.ansi_str.proofs.split.rest.match_in_run.Goals as goal
 
--- the run and what stands behind it are the text
+-- the run and what stands after it are the text
 pub returns-clause-cut : goal.returns-clause-cut
 returns-clause-cut c =
     let t = c.args.text.now in

@@ -4,7 +4,7 @@ use Rattle.ansi_str.specs.Blocks.{Block, GivesBlock}
 use Rattle.ansi_str_tests.specs.Same.{are_same}
 use Rattle.ansi_str_tests.proofs.callers.blocks.have_same_blocks.Goals as goal
 
--- the first blocks are compared, and then those behind them
+-- the first blocks are compared, and then those after them
 first : {xs ys us vs : List Block} {x y : Block} (same : Bool) → xs ≡ x ∷ us → ys ≡ y ∷ vs → are_same x y ≡ same → pointwise are_same xs ys ≡ same && pointwise are_same us vs
 first {us = us} {vs = vs} same xs_is ys_is compared = ap₂ (pointwise are_same) xs_is ys_is ∙ ap (λ b. b && pointwise are_same us vs) compared
 

@@ -1,7 +1,7 @@
 use Rattle.ansi_str.proofs.RestLemmas.{boundary-drop, no_escape-drop}
 use Rattle.ansi_str.proofs.split.rest.Rest.split_at_match.Goals as goal
 
--- behind a match in the run the run goes on
+-- after a match in the run the run goes on
 pub invariant_of-result : goal.invariant_of-result
 invariant_of-result c =
     let s = c.args.self.now in

@@ -1,20 +1,20 @@
 use Rattle.std.proofs.Common.{rules, ◌≡◌, ◌≢◌, ◌++◌, ◌∷◌, sym, ◌∙◌, ap, subst, string_bytes, drop}
-use Rattle.ansi_str.specs.declared.ansitok.Kind.TheVariants.{Sgr}
+use Rattle.ansi_items.specs.declared.ansitok.Kind.TheVariants.{Sgr}
 use Rattle.std.proofs.lemmas.Bool.{and_parts}
 use Rattle.std.specs.Str.{IsCharBoundary}
-use Rattle.ansi_str.specs.Pieces.{Text}
-use Rattle.ansi_str.specs.Written.{start}
-use Rattle.ansi_str.specs.States.{rendition_of}
-use Rattle.ansi_str.specs.Scans.{pieces_left}
-use Rattle.ansi_str.proofs.StepLemmas.{BeginsWithMark, is_text, gives_text, gives_mark}
-use Rattle.ansi_str.proofs.CutWalkLemmas.{apply-no_sgr}
+use Rattle.ansi_items.specs.Pieces.{Text}
+use Rattle.ansi_style.specs.Written.{start}
+use Rattle.ansi_style.specs.States.{rendition_of}
+use Rattle.ansi_items.specs.Scans.{pieces_left}
+use Rattle.ansi_items.proofs.StepLemmas.{BeginsWithMark, is_text, gives_text, gives_mark}
+use Rattle.ansi_slice.proofs.CutWalkLemmas.{apply-no_sgr}
 use Rattle.ansi_str.proofs.SpanWalkLemmas.{shown-begin, shown-boundary, shown-text, shown-mark, shown-closed, shown-open}
 use Rattle.ansi_str.proofs.split.spans.Span.written.Goals as goal
 use Rattle.ansi_str.proofs.split.spans.Span.written.Goals.{then-has_any+in_ok-write_close, else-has_any}
 
 pub loop-item-init : goal.loop-item-init
 loop-item-init g c =
-    let begins : c.into_iter-item-iterator.result ≡ record { text = c.args.self.now.text.now; position = 0 } = c.into_iter-item-iterator.ensures.into_iter_gives ∙ c.new-item-items.ensures.start in
+    let begins : c.into_iter-item-iterator.result ≡ record { text = c.args.self.now.text.now; offset = 0 } = c.into_iter-item-iterator.ensures.into_iter_gives ∙ c.new-item-items.ensures.start in
     let written : string_bytes c.write_start.new.out ≡ start (rendition_of c.args.self.now.carried) = c.in_ok-write_start.ensures ∙ ap (λ v. v ++ start (rendition_of c.args.self.now.carried)) c.in_ok-part.ensures.bytes in
     record {
       text = ap (λ s. s.text) begins;

@@ -1,7 +1,7 @@
 use Rattle.std.proofs.Common.{◌≡◌, ◌∷◌, [], sym, ◌∙◌, ap, ap₂, arith, max, length, if◌then◌else◌}
-use Rattle.ansi_str.specs.Reading.{style_behind}
-use Rattle.ansi_str.specs.States.{rendition_of}
-use Rattle.ansi_str.specs.Spans.{whole_part, parts_left}
+use Rattle.ansi_style.specs.Reading.{style_after_from}
+use Rattle.ansi_style.specs.States.{rendition_of}
+use Rattle.ansi_str.specs.Spans.{span_part, parts_left}
 use Rattle.ansi_str.proofs.SpanLemmas.{parts_left-last, parts_left-first, skip_in_front}
 use Rattle.ansi_str.proofs.split.spans.SpansIterator.next.Goals as goal
 
@@ -12,7 +12,7 @@ returns-in_default-clause-steps c =
     let all = parts_left (rendition_of s.carried) s.left.text.now s.pat.now s.skip s.from in
     let left : c.args.self.now ≡ all = sym c.self.view_is ∙ ap (λ b. if b then [] else all) c.if-self.false in
     left ∙ parts_left-last (rendition_of s.carried) s.left.text.now s.pat.now s.skip s.from c.in_default.ensures
-    ∙ ap (λ t. whole_part (rendition_of s.carried) t s.skip ∷ []) (sym c.text.ensures)
+    ∙ ap (λ t. span_part (rendition_of s.carried) t s.skip ∷ []) (sym c.text.ensures)
 
 pub returns-in_default-clause-goes : goal.returns-in_default-clause-goes
 returns-in_default-clause-goes c =
@@ -29,14 +29,14 @@ pub returns-clause-steps : goal.returns-clause-steps
 returns-clause-steps c =
     let s = c.self.inside in
     let text = c.in-Some.text.now in
-    let behind = c.in-Some.left.text.now in
+    let after = c.in-Some.left.text.now in
     let all = parts_left (rendition_of s.carried) s.left.text.now s.pat.now s.skip s.from in
     let left : c.args.self.now ≡ all = sym c.self.view_is ∙ ap (λ b. if b then [] else all) c.if-self.false in
-    let later = parts_left (rendition_of c.apply_all.new.self) behind s.pat.now (length s.pat.now) c.max-self-inside.result in
-    let more : parts_left (style_behind (rendition_of s.carried) text) behind s.pat.now (length s.pat.now) (max (length s.pat.now) 1) ≡ (if s.finished then [] else later)
-    = ap₂ (λ r n. parts_left r behind s.pat.now (length s.pat.now) n) (sym c.apply_all.ensures) (sym c.max-self-inside.ensures) ∙ sym (ap (λ b. if b then [] else later) c.if-self.false) in
-    left ∙ parts_left-first (rendition_of s.carried) s.left.text.now s.pat.now s.skip s.from text behind c.in-Some.ensures
-    ∙ ap (λ ps. whole_part (rendition_of s.carried) text s.skip ∷ ps) more
+    let later = parts_left (rendition_of c.apply_all.new.style) after s.pat.now (length s.pat.now) c.max-self-inside.result in
+    let more : parts_left (style_after_from (rendition_of s.carried) text) after s.pat.now (length s.pat.now) (max (length s.pat.now) 1) ≡ (if s.finished then [] else later)
+    = ap₂ (λ r n. parts_left r after s.pat.now (length s.pat.now) n) (sym c.apply_all.ensures) (sym c.max-self-inside.ensures) ∙ sym (ap (λ b. if b then [] else later) c.if-self.false) in
+    left ∙ parts_left-first (rendition_of s.carried) s.left.text.now s.pat.now s.skip s.from text after c.in-Some.ensures
+    ∙ ap (λ ps. span_part (rendition_of s.carried) text s.skip ∷ ps) more
 
 pub returns-clause-goes : goal.returns-clause-goes
 returns-clause-goes c =

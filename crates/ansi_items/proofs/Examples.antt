@@ -1,0 +1,88 @@
+-- Worked examples of the definitions, each by computation.
+use Rattle.std.proofs.Common.{◌≡◌, refl, codes, [], ◌∷◌, Some, None, true, false, replicate, length}
+use Rattle.std.specs.List.{repeat}
+use Rattle.ansi_items.specs.Sequences.{sgr_parameters}
+use Rattle.ansi_items.specs.Pieces.{Text, Sequence, LoneEscape, pieces_of}
+use Rattle.ansi_items.specs.Plain.{plain, marks, is_whole}
+
+-- Pieces.
+
+every_kind : pieces_of (codes "a\u{1b}[31mb\u{1b}(B\u{1b}\u{1b}[1 m\u{1b}")
+    ≡ Text (codes "a") ∷ Sequence (codes "\u{1b}[31m") ∷ Text (codes "b") ∷ Sequence (codes "\u{1b}(B") ∷ LoneEscape ∷ Sequence (codes "\u{1b}[1 m") ∷ LoneEscape ∷ []
+every_kind = refl
+
+no_bytes : pieces_of [] ≡ []
+no_bytes = refl
+
+terminator_alone : pieces_of (codes "\u{1b}\\") ≡ Sequence (codes "\u{1b}\\") ∷ []
+terminator_alone = refl
+
+wide_character_after_escape : pieces_of (0x1B ∷ 0xC3 ∷ 0xA9 ∷ codes "[m") ≡ LoneEscape ∷ Text (0xC3 ∷ 0xA9 ∷ codes "[m") ∷ []
+wide_character_after_escape = refl
+
+-- SGRs.
+
+color_is_sgr : sgr_parameters (codes "\u{1b}[31m") ≡ Some (codes "31")
+color_is_sgr = refl
+
+no_parameters_are_sgr : sgr_parameters (codes "\u{1b}[m") ≡ Some []
+no_parameters_are_sgr = refl
+
+private_parameters_are_sgr : sgr_parameters (codes "\u{1b}[>4;2m") ≡ Some (codes ">4;2")
+private_parameters_are_sgr = refl
+
+intermediate_byte_is_no_sgr : sgr_parameters (codes "\u{1b}[1 m") ≡ None
+intermediate_byte_is_no_sgr = refl
+
+-- Plain texts.
+
+color : plain (codes "\u{1b}[31m") ≡ []
+color = refl
+
+bell_in_a_device_control_string : plain (codes "\u{1b}P\u{7}\u{1b}\\x") ≡ codes "x"
+bell_in_a_device_control_string = refl
+
+charset_and_short : plain (codes "\u{1b}(Ba\u{1b}7b") ≡ codes "ab"
+charset_and_short = refl
+
+command_broken_by_another_escape : plain (codes "\u{1b}]a\u{1b}b") ≡ codes "]a"
+command_broken_by_another_escape = refl
+
+unfinished_charset : plain (codes "\u{1b}(") ≡ codes "("
+unfinished_charset = refl
+
+title_broken_by_color : plain (codes "\u{1b}]0;title\u{1b}[31mx") ≡ codes "]0;titlex"
+title_broken_by_color = refl
+
+unfinished_control_sequence : plain (codes "\u{1b}[31") ≡ codes "[31"
+unfinished_control_sequence = refl
+
+escape_before_bold : plain (codes "\u{1b}\u{1b}[1mx") ≡ codes "x"
+escape_before_bold = refl
+
+delete_is_no_final_byte : plain (codes "\u{1b}[1\u{7f}m") ≡ codes "[1\u{7f}m"
+delete_is_no_final_byte = refl
+
+eight_bit_control_is_text : plain (0xC2 ∷ 0x9B ∷ codes "31m") ≡ 0xC2 ∷ 0x9B ∷ codes "31m"
+eight_bit_control_is_text = refl
+
+many_escapes : plain (replicate 1000 0x1B) ≡ []
+many_escapes = refl
+
+many_unfinished_commands : length (plain (repeat 1000 (codes "\u{1b}]"))) ≡ 1000
+many_unfinished_commands = refl
+
+-- Marks and whole texts.
+
+marks_at_their_places : marks (codes "a\u{1b}[1mb\u{1b}]0;t\u{7}\u{1b}")
+    ≡ record { place = 1; bytes = codes "\u{1b}[1m" } ∷ record { place = 2; bytes = codes "\u{1b}]0;t\u{7}" } ∷ record { place = 2; bytes = codes "\u{1b}" } ∷ []
+marks_at_their_places = refl
+
+short_sequences_are_whole : is_whole (codes "\u{1b}(Ba\u{1b}7b") ≡ true
+short_sequences_are_whole = refl
+
+broken_title_is_not_whole : is_whole (codes "\u{1b}]0;title\u{1b}[31mx") ≡ false
+broken_title_is_not_whole = refl
+
+escape_before_bold_is_not_whole : is_whole (codes "\u{1b}\u{1b}[1mx") ≡ false
+escape_before_bold_is_not_whole = refl

@@ -1,0 +1,239 @@
+-- What the code reads at the front of a text is its first piece.
+use Rattle.std.proofs.Common.{◌≡◌, ℕ, zero, suc, ◌+◌, ◌-◌, ◌<◌, ◌≤◌, inl, inr, ⊎_elim, Bool, true, false, not, ◌&&◌, ◌==◌, List, [], ◌∷◌, ◌++◌, take, drop, length, Option, Some, None, refl, sym, ◌∙◌, ap, ap₂, subst, append_assoc, arith, slice_index, length-append}
+use Rattle.std.proofs.lemmas.Bool.{cond-true, cond-false, cases_Bool, eqb-true, and_parts, both_ways, cases_lt, not-false, or_cases, ne_eqb}
+use Rattle.std.proofs.lemmas.Bool.Decides.{nat_tests}
+use Rattle.std.proofs.lemmas.List.{get_or_past, drop_more, drop_all, drop-drop, drop_at, take_at, length-drop, take-append-drop}
+use Rattle.std.proofs.lemmas.List.Sums.{prefix_len-le-length, prefix_len_stops}
+use Rattle.std.proofs.lemmas.List.Folds.{list_all-append, length-prefix_len}
+use Rattle.std.specs.List.{list_all, prefix_len, ends_with}
+use Rattle.std.specs.Cmp.Lexicographic.{pointwise}
+use Rattle.std.specs.Option.{option_map_or}
+use Rattle.std.specs.Prelude.{unwrap_or, if◌then◌else◌, nat_eq, codes, is_some, slice_range}
+use Rattle.std.specs.Str.{byte}
+use Rattle.ansi_items.specs.declared.ansitok.Kind.TheVariants.{Text, Sgr, Other, Lone}
+use Rattle.ansi_items.specs.declared.ansitok.grammar.Front.{Front}
+use Rattle.ansi_items.specs.Bytes.{escape, bell, is_parameter_byte, is_intermediate_byte, is_final_byte, is_escape_final_byte, opens_control_string, opens_command, opens_control_sequence, is_body_byte, is_plain_byte}
+use Rattle.ansi_items.specs.Sequences.{after_one, after_control_sequence, after_terminator, after_control_string, after_escape_sequence, after_sequence, is_sgr}
+use Rattle.ansi_items.specs.Pieces.{Piece, Text, Sequence, spelling, text_or_lone, first_piece}
+use Rattle.ansi_items.specs.Scans.{kind_of}
+use Rattle.ansi_items.specs.Fronts.{front_of, control_at, string_at, escape_at, sequence_at, front_at}
+use Rattle.ansi_items.proofs.SequenceLemmas.{all-run, intermediate_stops}
+
+-- After one byte at a place.
+
+after_one-at : (test : ℕ → Bool) (k : ℕ) (t : List ℕ) → test 0 ≡ false → after_one test (drop k t) ≡ (if test (slice_index t k) then Some (drop (k + 1) t) else None)
+after_one-at test k t none =
+    ⊎_elim
+    (λ below. ap (after_one test) (drop_more t k 0 below))
+    (λ past. ap (after_one test) (drop_all k t past) ∙ sym (cond-false _ _ _ (ap test (get_or_past t k 0 past) ∙ none)))
+    (cases_lt k (length t))
+
+-- a byte that is not 0 stands in the list
+within : (t : List ℕ) (k : ℕ) → 0 < slice_index t k → k < length t
+within t k h = ⊎_elim (λ below. below) (λ past. absurd (let nothing : slice_index t k ≡ 0 = get_or_past t k 0 past in omega arith)) (cases_lt k (length t))
+
+drop_two : (a b k j : ℕ) (t : List ℕ) → j ≡ k + 2 → drop k t ≡ drop j (a ∷ b ∷ t)
+drop_two a b k j t e = drop-drop k 2 (a ∷ b ∷ t) ∙ ap (λ i. drop i (a ∷ b ∷ t)) (omega arith)
+
+drop_one : (a k j : ℕ) (t : List ℕ) → j ≡ k + 1 → drop k t ≡ drop j (a ∷ t)
+drop_one a k j t e = drop-drop k 1 (a ∷ t) ∙ ap (λ i. drop i (a ∷ t)) (omega arith)
+
+-- Which sequences are SGRs.
+
+is_some-cond : {X : Type 0} (b : Bool) (x : X) → is_some (if b then Some x else None) ≡ b
+is_some-cond true x = refl
+is_some-cond false x = refl
+
+and_swapped : (a b : Bool) → (a && b) ≡ (b && a)
+and_swapped true true = refl
+and_swapped true false = refl
+and_swapped false true = refl
+and_swapped false false = refl
+
+no_parameters : (is : List ℕ) → list_all is_intermediate_byte is ≡ true → list_all is_parameter_byte is ≡ (length is == 0)
+no_parameters [] all = refl
+no_parameters (i ∷ is) all =
+    ap (λ b. b && list_all is_parameter_byte is) (intermediate_stops i (and_parts (is_intermediate_byte i) (list_all is_intermediate_byte is) all).0)
+    ∙ sym (ne_eqb (length (i ∷ is)) 0 (λ e. omega (arith, e)))
+
+m_last : (final : ℕ) → (nat_eq 109 final && true) ≡ (final == 109)
+m_last final = grind (arith, nat_tests)
+
+sgr-spelled : (ps is : List ℕ) (final : ℕ) → list_all is_parameter_byte ps ≡ true → list_all is_intermediate_byte is ≡ true
+    → is_sgr (escape ∷ byte "[" ∷ (ps ++ is ++ final ∷ [])) ≡ ((length is == 0) && (final == 109))
+sgr-spelled ps is final hp hi =
+    let w = escape ∷ byte "[" ∷ (ps ++ is ++ final ∷ []) in
+    let inner = ps ++ is in
+    let size : length w - 1 ≡ 2 + length inner = omega (arith, length-append inner (final ∷ [])) in
+    let last : ends_with nat_eq w (codes "m") ≡ (final == 109)
+    = ap (pointwise nat_eq (codes "m")) (ap (λ k. drop k w) size ∙ drop_at (escape ∷ byte "[" ∷ inner) (final ∷ []) (2 + length inner) (omega arith)) ∙ m_last final in
+    let between : slice_range w 2 (length w - 1) ≡ inner
+    = ap (λ k. slice_range w 2 k) size ∙ take_at inner (final ∷ []) (2 + length inner - 2) (omega arith) in
+    let parameters : list_all is_parameter_byte (slice_range w 2 (length w - 1)) ≡ (length is == 0)
+    = ap (list_all is_parameter_byte) between ∙ list_all-append is_parameter_byte ps is ∙ ap (λ b. b && list_all is_parameter_byte is) hp ∙ no_parameters is hi in
+    is_some-cond _ _ ∙ ap₂ (λ a b. a && b) last parameters ∙ and_swapped (final == 109) (length is == 0)
+
+no_control : (o : ℕ) → opens_control_sequence o ≡ false → nat_eq 91 o ≡ false
+no_control o h = grind (arith, nat_tests)
+
+-- an SGR goes on with `[`
+no_sgr : (o k : ℕ) (t : List ℕ) → opens_control_sequence o ≡ false → is_sgr (take k (escape ∷ o ∷ t)) ≡ false
+no_sgr o zero t h = refl
+no_sgr o (suc zero) t h = refl
+no_sgr o (suc (suc k)) t h = is_some-cond _ _ ∙ rw (no_control o h) refl
+
+-- What the code found, against what is left after the sequence.
+
+abbrev pub Agrees : List ℕ → Option Front → Option (List ℕ) → Type 0
+Agrees t None None = Unit {0}
+Agrees t None (Some rest) = ⊥
+Agrees t (Some f) None = ⊥
+Agrees t (Some f) (Some rest) = (rest ≡ drop f.len t) × (f.len ≤ length t) × (f.kind ≡ kind_of (Sequence (take f.len t)))
+
+agrees_where : (t : List ℕ) (b : Bool) (f g : Option Front) (r s : Option (List ℕ)) → (b ≡ true → Agrees t f r) → (b ≡ false → Agrees t g s) → Agrees t (if b then f else g) (if b then r else s)
+agrees_where t true f g r s yes_case no_case = yes_case refl
+agrees_where t false f g r s yes_case no_case = no_case refl
+
+control_agrees : (t : List ℕ) → Agrees (escape ∷ byte "[" ∷ t) (control_at t) (after_control_sequence t)
+unfolding control_at
+control_agrees t =
+    let n = prefix_len is_parameter_byte t in
+    let u = drop n t in
+    let m = prefix_len is_intermediate_byte u in
+    let final = slice_index t (n + m) in
+    let kind = if (m == 0) && (final == byte "m") then Sgr else Other in
+    let f = front_of kind (n + m + 3) in
+    let after : after_control_sequence t ≡ (if is_final_byte final then Some (drop (n + m + 1) t) else None)
+    = ap (after_one is_final_byte) (drop-drop m n t) ∙ after_one-at is_final_byte (n + m) t refl in
+    let found : is_final_byte final ≡ true → Agrees (escape ∷ byte "[" ∷ t) (Some f) (Some (drop (n + m + 1) t))
+    = λ passes.
+    let above : 63 < final = grind (arith, nat_tests) in
+    let inside : n + m < length t = within t (n + m) (omega arith) in
+    let ps = take n t in
+    let is = take m u in
+    let ps_len : length ps ≡ n = length-prefix_len is_parameter_byte t in
+    let is_len : length is ≡ m = length-prefix_len is_intermediate_byte u in
+    let split : t ≡ (ps ++ is ++ final ∷ []) ++ drop (n + m + 1) t
+    = sym (take-append-drop n t) ∙ ap (λ v. ps ++ v) (sym (take-append-drop m u) ∙ ap (λ v. is ++ v) (drop-drop m n t ∙ drop_more t (n + m) 0 inside)) ∙ simp append_assoc in
+    let word : take (n + m + 3) (escape ∷ byte "[" ∷ t) ≡ escape ∷ byte "[" ∷ (ps ++ is ++ final ∷ [])
+    = ap (λ v. take (n + m + 3) (escape ∷ byte "[" ∷ v)) split
+    ∙ take_at (escape ∷ byte "[" ∷ (ps ++ is ++ final ∷ [])) (drop (n + m + 1) t) (n + m + 3) (omega (arith, length-append (ps ++ is) (final ∷ []), length-append ps is)) in
+    let sgr : is_sgr (take (n + m + 3) (escape ∷ byte "[" ∷ t)) ≡ ((m == 0) && (final == 109))
+    = ap is_sgr word ∙ sgr-spelled ps is final (all-run is_parameter_byte t) (all-run is_intermediate_byte u) ∙ ap (λ k. (k == 0) && (final == 109)) is_len in
+    (drop_two escape (byte "[") (n + m + 1) (n + m + 3) t (omega arith), omega arith, ap (λ b. if b then Sgr else Other) (sym sgr)) in
+    subst (Agrees (escape ∷ byte "[" ∷ t) (if is_final_byte final then Some f else None)) (sym after)
+    (agrees_where _ (is_final_byte final) (Some f) None (Some (drop (n + m + 1) t)) None found (λ fails. tt))
+
+-- where a body ends that no BEL ends, an ESC does
+escape_ends : (o stop : ℕ) → is_body_byte o stop ≡ false → (stop == bell) ≡ false → stop ≡ escape
+escape_ends o stop stops no_bell = elim (or_cases (stop == escape) (opens_command o && stop == bell) (not-false _ stops)) [
+  | inl is ↦ eqb-true stop escape is
+  | inr both ↦ absurd (both_ways (stop == bell) no_bell (and_parts (opens_command o) (stop == bell) both).1)
+]
+
+-- where the body of a string stops, inside the text
+stop_at : (o : ℕ) (t : List ℕ) → prefix_len (is_body_byte o) t < length t → is_body_byte o (slice_index t (prefix_len (is_body_byte o) t)) ≡ false
+stop_at o t inside = prefix_len_stops (is_body_byte o) t 0 inside
+
+abbrev is_backslash : ℕ → Bool
+is_backslash c = c == byte "\\"
+
+-- after the terminator of a string of opener o, where t has n bytes of body
+string_agrees : (o : ℕ) (t : List ℕ) → opens_control_sequence o ≡ false → Agrees (escape ∷ o ∷ t) (string_at t (prefix_len (is_body_byte o) t)) (after_control_string o t)
+unfolding string_at
+string_agrees o t not_control =
+    let n = prefix_len (is_body_byte o) t in
+    let stop = slice_index t n in
+    let next = slice_index t (n + 1) in
+    let w = escape ∷ o ∷ t in
+    let other : (k : ℕ) → Other ≡ kind_of (Sequence (take k w)) = λ k. ap (λ b. if b then Sgr else Other) (sym (no_sgr o k t not_control)) in
+    let found = λ (f : Option Front). Agrees w f (after_control_string o t) in
+    ⊎_elim
+    (λ inside.
+    let after : after_control_string o t ≡ (if stop == bell then Some (drop (n + 1) t) else after_one is_backslash (drop (n + 1) t)) = ap after_terminator (drop_more t n 0 inside) in
+    subst (Agrees w (string_at t n)) (sym after)
+    (agrees_where w (stop == bell) _ _ _ _
+    (λ bells. (drop_two escape o (n + 1) (n + 3) t (omega arith), omega arith, other (n + 3)))
+    (λ no_bell.
+    let is_escape : stop ≡ escape = escape_ends o stop (stop_at o t inside) no_bell in
+    let tested : ((stop == escape) && (next == byte "\\")) ≡ (next == byte "\\") = ap (λ b. (b == escape) && (next == byte "\\")) is_escape in
+    let left : after_one is_backslash (drop (n + 1) t) ≡ (if next == byte "\\" then Some (drop (n + 1 + 1) t) else None) = after_one-at is_backslash (n + 1) t refl in
+    subst (λ b. Agrees w (if b then Some (front_of Other (n + 4)) else None) (after_one is_backslash (drop (n + 1) t))) (sym tested)
+    (subst (Agrees w (if next == byte "\\" then Some (front_of Other (n + 4)) else None)) (sym left)
+    (agrees_where w (next == byte "\\") _ _ _ _
+    (λ slash.
+    let there : next ≡ 92 = eqb-true next 92 slash in
+    let inside_too : n + 1 < length t = within t (n + 1) (omega arith) in
+    (drop_two escape o (n + 1 + 1) (n + 4) t (omega arith), omega arith, other (n + 4)))
+    (λ no_slash. tt))))))
+    (λ past.
+    let nothing : stop ≡ 0 = get_or_past t n 0 past in
+    let none : string_at t n ≡ None = ap (λ b. if b == bell then Some (front_of Other (n + 3)) else (if (b == escape) && (next == byte "\\") then Some (front_of Other (n + 4)) else None)) nothing in
+    let after : after_control_string o t ≡ None = ap after_terminator (drop_all n t past) in
+    subst (λ f. Agrees w f (after_control_string o t)) (sym none) (subst (Agrees w None) (sym after) tt))
+    (cases_lt n (length t))
+
+escape_agrees : (b : ℕ) (t : List ℕ) → opens_control_sequence b ≡ false → Agrees (escape ∷ b ∷ t) (escape_at (b ∷ t)) (after_escape_sequence (b ∷ t))
+unfolding escape_at
+escape_agrees b t not_control =
+    let u = b ∷ t in
+    let n = prefix_len is_intermediate_byte u in
+    let final = slice_index u n in
+    let w = escape ∷ u in
+    let after : after_escape_sequence u ≡ (if is_escape_final_byte final then Some (drop (n + 1) u) else None) = after_one-at is_escape_final_byte n u refl in
+    subst (Agrees w (escape_at u)) (sym after)
+    (agrees_where w (is_escape_final_byte final) _ _ _ _
+    (λ passes.
+    let above : 0 < final = grind (arith, nat_tests) in
+    let inside : n < length u = within u n above in
+    (drop_one escape (n + 1) (n + 2) u (omega arith), omega arith, ap (λ c. if c then Sgr else Other) (sym (no_sgr b (n + 2) t not_control))))
+    (λ fails. tt))
+
+sequence_agrees : (t : List ℕ) → Agrees (escape ∷ t) (sequence_at (escape ∷ t)) (after_sequence (escape ∷ t))
+unfolding sequence_at escape_at
+sequence_agrees [] = tt
+sequence_agrees (b ∷ t) =
+    agrees_where (escape ∷ b ∷ t) (opens_control_sequence b) _ _ _ _
+    (λ control. subst (λ x. Agrees (escape ∷ x ∷ t) (control_at t) (after_control_sequence t)) (sym (eqb-true b (byte "[") control)) (control_agrees t))
+    (λ not_control. agrees_where (escape ∷ b ∷ t) (opens_control_string b) _ _ _ _ (λ opens. string_agrees b t not_control) (λ no_string. escape_agrees b t not_control))
+
+-- The first piece.
+
+-- what stands at the front of t is this piece, with this left after it
+pub record IsFront (t : List ℕ) (f : Front) (p : Piece) (rest : List ℕ) : Type 0 where
+  pub kind : f.kind ≡ kind_of p
+  pub spelled : spelling p ≡ take f.len t
+  pub left : rest ≡ drop f.len t
+  pub inside : f.len ≤ length t
+
+escape_front : (t : List ℕ) (o : Option Front) (b : Option (List ℕ)) → Agrees (escape ∷ t) o b
+    → (let first = option_map_or (λ rest. (Sequence (take (length (escape ∷ t) - length rest) (escape ∷ t)), rest)) b (text_or_lone (escape ∷ t)) in
+    IsFront (escape ∷ t) (unwrap_or o (front_of Lone 1)) first.0 first.1)
+escape_front t None None agrees = record { kind = refl; spelled = refl; left = refl; inside = omega arith }
+escape_front t None (Some rest) agrees = absurd agrees
+escape_front t (Some f) None agrees = absurd agrees
+escape_front t (Some f) (Some rest) agrees =
+    let len : length (escape ∷ t) - length rest ≡ f.len = omega (arith, ap length agrees.0, length-drop f.len (escape ∷ t), agrees.1) in
+    let word : take (length (escape ∷ t) - length rest) (escape ∷ t) ≡ take f.len (escape ∷ t) = ap (λ k. take k (escape ∷ t)) len in
+    record { kind = agrees.2 ∙ ap (λ v. kind_of (Sequence v)) (sym word); spelled = word; left = agrees.0; inside = agrees.1 }
+
+-- what the code reads at the front is the first piece
+pub front_is_first : (b : ℕ) (bs : List ℕ) → IsFront (b ∷ bs) (front_at (b ∷ bs)) (first_piece (b ∷ bs)).0 (first_piece (b ∷ bs)).1
+unfolding front_at
+front_is_first b bs = elim (cases_Bool (b == escape)) [
+  | inl is ↦ subst (λ x. IsFront (x ∷ bs) (front_at (x ∷ bs)) (first_piece (x ∷ bs)).0 (first_piece (x ∷ bs)).1) (sym (eqb-true b escape is))
+      (escape_front bs (sequence_at (escape ∷ bs)) (after_sequence (escape ∷ bs)) (sequence_agrees bs))
+  | inr other ↦ plain_front other
+]
+  where
+    plain_front : (b == escape) ≡ false → IsFront (b ∷ bs) (front_at (b ∷ bs)) (first_piece (b ∷ bs)).0 (first_piece (b ∷ bs)).1
+    plain_front other =
+        let t = b ∷ bs in
+        let n = prefix_len is_plain_byte t in
+        let front : front_at t ≡ front_of Text n = cond-false (b == escape) _ _ other in
+        let none : after_sequence t ≡ None = cond-false (b == escape) _ _ other in
+        let first : first_piece t ≡ (Text (take n t), drop n t)
+        = ap (λ o. option_map_or (λ rest. (Sequence (take (length t - length rest) t), rest)) o (text_or_lone t)) none ∙ cond-true (is_plain_byte b) _ _ (ap not other) in
+        let G : Piece × List ℕ → Type 0 = λ p. IsFront t (front_of Text n) p.0 p.1 in
+        subst (λ f. IsFront t f (first_piece t).0 (first_piece t).1) (sym front)
+        (subst G (sym first) (record { kind = refl; spelled = refl; left = refl; inside = prefix_len-le-length is_plain_byte t }))

@@ -1,0 +1,9 @@
+pub mod SequenceLemmas
+pub mod PieceLemmas
+pub mod FrontLemmas
+pub mod ScanLemmas
+pub mod PlainLemmas
+pub mod Utf8Lemmas
+pub mod StepLemmas
+pub mod JoinLemmas
+mod Examples

@@ -1,0 +1,10 @@
+use Rattle.std.proofs.lemmas.Str.{IsCharBoundary-start}
+use Rattle.ansi_items.proofs.PieceLemmas.{are_pieces}
+use Rattle.ansi_items.proofs.ansitok.Scanner.new.Goals as goal
+
+-- the front of a text is a character boundary
+pub invariant_of-result : goal.invariant_of-result
+invariant_of-result c = IsCharBoundary-start c.args.text.now c.utf8.text
+
+pub returns-clause-pieces : goal.returns-clause-pieces
+returns-clause-pieces c = are_pieces c.args.text.now

@@ -1,0 +1,6 @@
+pub mod Bytes
+pub mod Sequences
+pub mod Pieces
+pub mod Plain
+pub mod Fronts
+pub mod Scans

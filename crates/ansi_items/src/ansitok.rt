@@ -1,0 +1,111 @@
+//! The items of a text: texts, whole sequences and lone escapes.
+pub(crate) mod grammar;
+
+use grammar::first_front;
+use std::marker::Model;
+
+/// A color, as SGR codes write it.
+#[derive(Debug, Clone, Copy, PartialEq, Eq, PartialOrd, Ord, Hash)]
+pub enum AnsiColor {
+    /// One of sixteen colors, by the code that sets it: 30 to 37 or 90 to 97 for a foreground, 40 to
+    /// 47 or 100 to 107 for a background.
+    Bit4(u8),
+    /// One of 256 colors.
+    Bit8(u8),
+    /// A color by its red, green and blue.
+    Bit24 { r: u8, g: u8, b: u8 },
+}
+
+/// What an item is.
+#[derive(Debug, Clone, Copy, PartialEq, Eq)]
+pub enum Kind {
+    /// A run of plain text, as long as it goes on: no ESC stands in it.
+    Text,
+    /// Select graphic rendition: a control sequence with no intermediate byte and the final byte
+    /// `m` (ECMA-48, section 8.3.117).
+    Sgr,
+    /// Any other control sequence, control string or escape sequence (ECMA-48, ECMA-35).
+    Other,
+    /// An ESC that begins no whole sequence.
+    Lone,
+}
+
+/// An item of a text: its kind, and the bytes of the text that are its own, from `start` up to
+/// `end`. Both are character boundaries.
+#[derive(Debug, Clone, Copy, PartialEq, Eq)]
+pub struct Item {
+    pub kind: Kind,
+    pub start: usize,
+    pub end: usize,
+}
+
+/// The items of a text, in order: an iterator that takes no memory.
+///
+/// Each byte of the text is in one item, and each text has one list of items. An unfinished
+/// sequence is no error: its ESC is an item of its own, and what follows is read anew.
+///
+/// ```
+/// let mut items = Scanner::new("a\x1b[1m");
+/// assert_eq!(items.next(), Some(Item { kind: Kind::Text, start: 0, end: 1 }));
+/// assert_eq!(items.next(), Some(Item { kind: Kind::Sgr, start: 1, end: 5 }));
+/// assert_eq!(items.next(), None);
+/// ```
+#[derive(Drop)]
+pub struct Scanner<'a> {
+    text: &'a str,
+    offset: usize,
+}
+
+impl<'a> Model for Scanner<'a> {
+    ghost use Rattle.std.specs.Str.{IsCharBoundary};
+    ghost use Rattle.ansi_items.specs.Scans.{Scan};
+
+    ghost Value = { Scan };
+
+    ghost view = { λ s. record { text = s.text.now; offset = s.offset } };
+
+    ghost invariant = { λ s. IsCharBoundary s.text.now s.offset };
+}
+
+impl<'a> Scanner<'a> {
+    ghost use Rattle.std.specs.Prelude.{◌≡◌, ◌↔◌, List};
+    ghost use Rattle.ansi_items.specs.Pieces.{Piece, ArePieces};
+    ghost use Rattle.ansi_items.specs.Scans.{pieces_left};
+
+    /// A scanner at the front of the text.
+    pub fn new(text: &'a str) -> Self
+        ensures start { result ≡ record { text = text.entry.now; offset = 0 } }
+
+        // What it has left are the pieces of the text, and no others.
+        ensures pieces { (ps : List Piece) → ArePieces text.entry.now ps ↔ (ps ≡ pieces_left result) }
+    {
+        Scanner { text, offset: 0 }
+    }
+}
+
+impl<'a> Iterator for Scanner<'a> {
+    ghost use Rattle.std.specs.Iterator.{item_count};
+    ghost use Rattle.ansi_items.specs.Scans.{Scans, pieces_left};
+
+    type Item = Item;
+
+    ghost next_gives = { Scans };
+
+    ghost remaining = { item_count pieces_left };
+
+    /// The next item, or `None` at the end of the text, then and ever after.
+    fn next(&mut self) -> Option<Item> {
+        let rest = &self.text.as_bytes()[self.offset..];
+        if rest.is_empty() {
+            return None;
+        }
+        let front = first_front(rest);
+        let start = self.offset;
+        self.offset += front.len;
+        Some(Item {
+            kind: front.kind,
+            start,
+            end: self.offset,
+        })
+    }
+}

@@ -1,0 +1,240 @@
+-- Where a pattern stands in a text, and where it stands first.
+use Rattle.std.proofs.Common.{◌≡◌, ◌≢◌, ℕ, zero, suc, ◌+◌, ◌-◌, ◌<◌, ◌≤◌, max, inl, inr, Bool, true, false, ◌&&◌, List, [], ◌∷◌, ◌++◌, take, drop, length, filter, nat_eq, nat_le, IsTrue, Option, Some, None, refl, sym, ◌∙◌, ap, ap₂, subst, arith, slice_get, slice_index}
+use Rattle.std.proofs.lemmas.Bool.{and_parts, and_from, cond_both, cases_lt, cases_eq, le-leb, leb-true, leb-false, eq-eqb, ne_eqb, true≢false}
+use Rattle.std.proofs.lemmas.List.{take-append-drop, take_at, drop-drop, take-append-le, get_or_append_left, get_or-drop, length-append, length-drop, append_assoc, drop-append-le}
+use Rattle.std.proofs.lemmas.Slice.Eq.{bytes_eq-Decides}
+use Rattle.std.proofs.lemmas.Str.{IsCharBoundary-start, IsCharBoundary-from_rest}
+use Rattle.std.specs.Cmp.{both_ways}
+use Rattle.std.specs.List.{range_with_len, starts_with}
+use Rattle.std.specs.Str.{IsUtf8, IsCharBoundary}
+use Rattle.memchr.specs.Find.{Nowhere, IsFirst, OccursAt, FindsNeedle}
+use Rattle.memchr.proofs.lemmas.MatchLemmas.{OccursAt-split, OccursAt-from_part}
+use Rattle.ansi_slice.specs.Positions.{is_good_position, is_char_boundary}
+use Rattle.ansi_slice.specs.Parts.{is_match, first_match_from}
+use Rattle.ansi_slice.proofs.PositionLemmas.{is_good_position-past, is_char_boundary-from}
+
+-- Whether a text begins with a pattern.
+
+pub starts_with-from : (x p rest : List ℕ) → x ≡ p ++ rest → starts_with nat_eq x p ≡ true
+starts_with-from x p rest is = (bytes_eq-Decides p (take (length p) x)).1 (sym (ap (take (length p)) is ∙ take_at p rest (length p) refl))
+
+pub starts_with-splits : (x p : List ℕ) → starts_with nat_eq x p ≡ true → x ≡ p ++ drop (length p) x
+starts_with-splits x p h = sym (take-append-drop (length p) x) ∙ ap (λ v. v ++ drop (length p) x) (sym ((bytes_eq-Decides p (take (length p) x)).0 h))
+
+-- what both begin with says nothing
+pub starts_with-append : (w x p : List ℕ) → starts_with nat_eq (w ++ x) (w ++ p) ≡ starts_with nat_eq x p
+starts_with-append [] x p = refl
+starts_with-append (b ∷ w) x p = ap (λ t. t && starts_with nat_eq (w ++ x) (w ++ p)) (eq-eqb b b refl) ∙ starts_with-append w x p
+
+-- neither begins with the other, so they differ somewhere
+pub starts_with-differs : (w x p : List ℕ) → ((rest : List ℕ) → w ≢ p ++ rest) → ((rest : List ℕ) → p ≢ w ++ rest) → starts_with nat_eq (w ++ x) p ≡ false
+starts_with-differs [] x p short long = absurd (long p refl)
+starts_with-differs (b ∷ w) x [] short long = absurd (short (b ∷ w) refl)
+starts_with-differs (b ∷ w) x (c ∷ p) short long = elim (cases_eq c b) [
+  | inl same ↦
+      ap (λ t. t && starts_with nat_eq (w ++ x) p) (eq-eqb c b same)
+      ∙ starts_with-differs w x p (λ rest is. short rest (ap₂ (λ d v. d ∷ v) (sym same) is)) (λ rest is. long rest (ap₂ (λ d v. d ∷ v) same is))
+  | inr other ↦ ap (λ t. t && starts_with nat_eq (w ++ x) p) (ne_eqb c b other)
+]
+
+-- A pattern that is a text stands at character boundaries alone.
+
+pub boundary_at : (x p rest : List ℕ) (i : ℕ) → IsUtf8 p → 0 < length p → drop i x ≡ p ++ rest → IsCharBoundary x i
+boundary_at x p rest i utf8 some stands =
+    let first : slice_index (drop i x) 0 ≡ slice_index p 0 = ap (λ u. slice_index u 0) stands ∙ get_or_append_left p rest 0 0 some in
+    let starts = IsCharBoundary-start p utf8 in
+    let fits : i ≤ length x = omega (arith, some, ap length stands, length-append p rest, length-drop i x) in
+    let within : IsCharBoundary (drop i x) 0
+    = (omega arith, λ lt high. (let high_p : 128 ≤ slice_index p 0 = omega (arith, high, first) in let lead : 192 ≤ slice_index p 0 = starts.1 some high_p in omega (arith, lead, first))) in
+    let same : i + 0 ≡ i = omega arith in
+    subst (IsCharBoundary x) same (IsCharBoundary-from_rest x i 0 fits within)
+
+pub is_match-utf8 : (x p : List ℕ) (i : ℕ) → IsUtf8 p → 0 < length p → is_match x p i ≡ starts_with nat_eq (drop i x) p
+is_match-utf8 x p i utf8 some =
+    both_ways (is_match x p i) (starts_with nat_eq (drop i x) p)
+    (λ h. (and_parts (is_char_boundary x i) (starts_with nat_eq (drop i x) p) h).1)
+    (λ h. and_from _ _ (is_char_boundary-from x i (boundary_at x p _ i utf8 some (starts_with-splits (drop i x) p h))) h)
+
+-- Where a text is passed over.
+
+is_char_boundary-drop : (x : List ℕ) (k i : ℕ) → k ≤ length x → is_char_boundary x (k + i) ≡ is_char_boundary (drop k x) i
+is_char_boundary-drop x k i within =
+    let left : length (drop k x) ≡ length x - k = length-drop k x in
+    let inside : nat_le (k + i) (length x) ≡ nat_le i (length (drop k x))
+    = both_ways _ _
+    (λ h. le-leb i (length (drop k x)) (omega (arith, leb-true (k + i) (length x) h, left)))
+    (λ h. le-leb (k + i) (length x) (omega (arith, leb-true i (length (drop k x)) h, left, within))) in
+    ap₂ (λ s b. s && is_good_position (b ∷ []) 0) inside (sym (get_or-drop k x i 0))
+
+pub is_match-drop : (x p : List ℕ) (k i : ℕ) → k ≤ length x → is_match x p (k + i) ≡ is_match (drop k x) p i
+is_match-drop x p k i within = ap₂ (λ s v. s && starts_with nat_eq v p) (is_char_boundary-drop x k i within) (sym (drop-drop i k x))
+
+-- the same at a place in x
+pub is_match-after : (x p y : List ℕ) (k j : ℕ) → k ≤ length x → drop k x ≡ y → k ≤ j → is_match x p j ≡ is_match y p (j - k)
+is_match-after x p y k j within is past =
+    let sum : j ≡ k + (j - k) = omega arith in
+    ap (is_match x p) sum ∙ is_match-drop x p k (j - k) within ∙ ap (λ v. is_match v p (j - k)) is
+
+-- The first match.
+
+-- the pattern stands at the place
+abbrev pub IsMatch : List ℕ → List ℕ → ℕ → Type 0
+IsMatch x p i = IsTrue (is_match x p i)
+
+-- a place that is no match, or stands before `from`, is passed over
+further : (f : ℕ → Bool) (from n k : ℕ) (r : Option ℕ) → (IsTrue (f k) → k < from) → IsFirst (λ i. IsTrue (f i)) (max from k) (k + suc n) r → IsFirst (λ i. IsTrue (f i)) (max from (k + 1)) (k + 1 + n) r
+further f from n k None skips first = λ i low high. first i (omega (arith, low)) (omega (arith, high))
+further f from n k (Some m) skips first =
+    let found = first.0 in
+    let low : max from k ≤ m = found.low in
+    let high : m < k + suc n = found.high in
+    let past : k ≢ m = λ same. (let below : k < from = skips (subst (λ i. IsTrue (f i)) (sym same) first.1) in omega (arith, below, low, same)) in
+    (record { low = omega (arith, low, past); high = omega (arith, high); before = λ i from_here to. found.before i (omega (arith, from_here)) to }, first.1)
+
+-- of n places from k on, the first that isn't before `from` and passes
+first_kept : (f : ℕ → Bool) (from n k : ℕ) (r : Option ℕ) → IsFirst (λ i. IsTrue (f i)) (max from k) (k + n) r → r ≡ slice_get (filter (nat_le from) (filter f (range_with_len k n))) 0
+first_kept f from zero k None first = refl
+first_kept f from zero k (Some m) first = (let found = first.0 in absurd (let low = found.low in let high = found.high in omega (arith, low, high)))
+first_kept f from (suc n) k r first =
+    let later = filter f (range_with_len (k + 1) n) in
+    cond_both (f k) (k ∷ later) later (λ ks. r ≡ slice_get (filter (nat_le from) ks) 0)
+    (λ passes.
+    cond_both (nat_le from k) (k ∷ filter (nat_le from) later) (filter (nat_le from) later) (λ ks. r ≡ slice_get ks 0)
+    (λ below. here r passes (leb-true from k below) first)
+    (λ above. first_kept f from n (k + 1) r (further f from n k r (λ _. leb-false from k above) first)))
+    (λ fails. first_kept f from n (k + 1) r (further f from n k r (λ passes. absurd (true≢false (sym passes ∙ fails))) first))
+  where
+    here : (r : Option ℕ) → IsTrue (f k) → from ≤ k → IsFirst (λ i. IsTrue (f i)) (max from k) (k + suc n) r → r ≡ Some k
+    here None passes below first = absurd (first k (omega arith) (omega arith) passes)
+    here (Some m) passes below first =
+        let found = first.0 in
+        elim (cases_eq k m) [
+          | inl same ↦ ap (λ i. Some i) (sym same)
+          | inr other ↦ (let low = found.low in absurd (found.before k (omega arith) (omega (arith, low, other)) passes))
+        ]
+
+pub first_match_from-is : (x p : List ℕ) (from : ℕ) (r : Option ℕ) → IsFirst (IsMatch x p) from (length x + 1) r → r ≡ first_match_from x p from
+first_match_from-is x p from r first =
+    let same : from ≡ max from 0 = omega arith in
+    let count : length x + 1 ≡ 0 + (length x + 1) = omega arith in
+    first_kept (is_match x p) from (length x + 1) 0 r (subst (λ n. IsFirst (IsMatch x p) (max from 0) n r) count (subst (λ k. IsFirst (IsMatch x p) k (length x + 1) r) same first))
+
+-- Past a place before which there is no match, and from which the text x goes on as v.
+
+pub no_match_in : (x p v : List ℕ) (from place n : ℕ) → place ≤ length x → drop place x ≡ v → Nowhere (IsMatch x p) from place → Nowhere (IsMatch v p) (from - place) n
+    → Nowhere (IsMatch x p) from (place + n)
+no_match_in x p v from place n within is before later = λ k low high found. elim (cases_lt k place) [
+  | inl front ↦ before k low front found
+  | inr after ↦ later (k - place) (omega (arith, low)) (omega (arith, high, after)) (sym (is_match-after x p v place k within is after) ∙ found)
+]
+
+pub first_match_in : (x p v : List ℕ) (from place n start : ℕ) → place ≤ length x → drop place x ≡ v → n ≤ length v → Nowhere (IsMatch x p) from place
+    → IsFirst (IsMatch v p) (from - place) n (Some start) → Some (place + start) ≡ first_match_from x p from
+first_match_in x p v from place n start within is inside before first =
+    let found = first.0 in
+    let low : from - place ≤ start = found.low in
+    let high : start < n = found.high in
+    let left : length v ≡ length x - place = ap length (sym is) ∙ length-drop place x in
+    first_match_from-is x p from (Some (place + start)) (
+      record {
+        low = omega (arith, low);
+        high = omega (arith, high, inside, left, within);
+        before = no_match_in x p v from place start within is before found.before;
+      },
+      is_match-drop x p place start within ∙ ap (λ u. is_match u p start) is ∙ first.1,
+    )
+
+-- at the end of x stands the empty pattern alone
+
+pub empty_at_end : (x p : List ℕ) (from place : ℕ) → place ≡ length x → length p ≡ 0 → from ≤ place → Nowhere (IsMatch x p) from place → Some place ≡ first_match_from x p from
+empty_at_end x (b ∷ p) from place end none below before = absurd (omega (arith, none))
+empty_at_end x [] from place end none below before =
+    first_match_from-is x [] from (Some place) (
+      record { low = below; high = omega (arith, end); before = before },
+      and_from _ _ (and_from _ _ (le-leb place (length x) (omega (arith, end))) (is_good_position-past x place (omega (arith, end)))) refl,
+    )
+
+pub none_at_end : (x p : List ℕ) (from place : ℕ) → place ≡ length x → (length p ≡ 0 → place < from) → Nowhere (IsMatch x p) from place → None ≡ first_match_from x p from
+none_at_end x p from place end passed before = first_match_from-is x p from None (λ k low high found. elim (cases_lt k place) [
+  | inl front ↦ before k low front found
+  | inr after ↦ at_end p passed k low (omega (arith, high, after, end)) found
+])
+  where
+    at_end : (q : List ℕ) → (length q ≡ 0 → place < from) → (k : ℕ) → from ≤ k → k ≡ place → ¬ (IsMatch x q k)
+    at_end [] passed k low here found = (let above : place < from = passed refl in omega (arith, above, low, here))
+    at_end (b ∷ q) passed k low here found =
+        let stands : drop k x ≡ (b ∷ q) ++ drop (length (b ∷ q)) (drop k x) = starts_with-splits (drop k x) (b ∷ q) (and_parts (is_char_boundary x k) (starts_with nat_eq (drop k x) (b ∷ q)) found).1 in
+        omega (arith, here, end, ap length stands, length-append (b ∷ q) (drop (length (b ∷ q)) (drop k x)), length-drop k x)
+
+-- In a run w before a text y, a match that ends in the run is one that a search of the run's bytes finds.
+
+pub match_from_occurrence : (w y p : List ℕ) (from s : ℕ) → IsUtf8 p → 0 < length p → from ≤ length w → OccursAt (drop from w) p s → IsMatch (w ++ y) p (from + s)
+match_from_occurrence w y p from s utf8 some inside occurs =
+    let fits : s + length p ≤ length (drop from w) = occurs.fits in
+    let split : drop s (drop from w) ≡ p ++ drop (s + length p) (drop from w) = OccursAt-split (drop from w) p s occurs in
+    let part : drop (from + s) (w ++ y) ≡ drop (from + s) w ++ y = drop-append-le (from + s) w y (omega (arith, fits, length-drop from w, inside)) in
+    let stands : drop (from + s) (w ++ y) ≡ p ++ (drop (s + length p) (drop from w) ++ y)
+    = part ∙ ap (λ v. v ++ y) (sym (drop-drop s from w) ∙ split) ∙ append_assoc p (drop (s + length p) (drop from w)) y in
+    is_match-utf8 (w ++ y) p (from + s) utf8 some ∙ starts_with-from (drop (from + s) (w ++ y)) p (drop (s + length p) (drop from w) ++ y) stands
+
+pub occurrence_from_match : (w y p : List ℕ) (from s : ℕ) → from + s + length p ≤ length w → IsMatch (w ++ y) p (from + s) → OccursAt (drop from w) p s
+occurrence_from_match w y p from s inside found =
+    let x = drop s (drop from w) in
+    let left : length x ≡ length w - from - s = length-drop s (drop from w) ∙ ap (λ n. n - s) (length-drop from w) in
+    let same : drop (from + s) (w ++ y) ≡ x ++ y = drop-append-le (from + s) w y (omega (arith, inside)) ∙ ap (λ v. v ++ y) (sym (drop-drop s from w)) in
+    let part : take (length p) (x ++ y) ≡ take (length p) x = take-append-le (length p) x y (omega (arith, left, inside)) in
+    let is : p ≡ take (length p) (x ++ y) = (bytes_eq-Decides p (take (length p) (x ++ y))).0 (ap (λ v. starts_with nat_eq v p) (sym same) ∙ (and_parts (is_char_boundary (w ++ y) (from + s)) (starts_with nat_eq (drop (from + s) (w ++ y)) p) found).1) in
+    OccursAt-from_part (drop from w) p s (let len : length (drop from w) ≡ length w - from = length-drop from w in omega (arith, inside, len)) (sym (is ∙ part))
+
+-- the same of each place from `from` on
+inside_none : (w y p : List ℕ) (from k : ℕ) → from ≤ k → k + length p ≤ length w → ¬ (OccursAt (drop from w) p (k - from)) → ¬ (IsMatch (w ++ y) p k)
+inside_none w y p from k low fits none found =
+    let sum : k ≡ from + (k - from) = omega (arith, low) in
+    none (occurrence_from_match w y p from (k - from) (omega (arith, low, fits)) (subst (IsMatch (w ++ y) p) sum found))
+
+pub found_inside : (w y p : List ℕ) (from s : ℕ) → IsUtf8 p → 0 < length p → from ≤ length w → FindsNeedle (drop from w) p 0 (Some s) → IsFirst (IsMatch (w ++ y) p) from (length w) (Some (from + s))
+found_inside w y p from s utf8 some inside finds =
+    let found = finds.0 in
+    let fits : s + length p ≤ length (drop from w) = finds.1.fits in
+    let len : length (drop from w) ≡ length w - from = length-drop from w in (
+      record {
+        low = omega arith;
+        high = omega (arith, fits, len, some);
+        before = λ k low high. inside_none w y p from k low (omega (arith, high, fits, len, inside)) (found.before (k - from) (omega arith) (omega (arith, low, high)));
+      },
+      match_from_occurrence w y p from s utf8 some inside finds.1,
+    )
+
+-- where no match ends in the run, the first is the first that goes on past it
+pub found_across : (w y p : List ℕ) (from : ℕ) (r : Option ℕ) → from ≤ length w → FindsNeedle (drop from w) p 0 None → IsFirst (IsMatch (w ++ y) p) (max from (length w + 1 - length p)) (length w) r
+    → IsFirst (IsMatch (w ++ y) p) from (length w) r
+found_across w y p from r inside finds across = by_answer r across
+  where
+    short : (k : ℕ) → from ≤ k → k < length w + 1 - length p → ¬ (IsMatch (w ++ y) p k)
+    short k low high =
+        let len : length (drop from w) ≡ length w - from = length-drop from w in
+        inside_none w y p from k low (omega (arith, high)) (finds (k - from) (omega arith) (omega (arith, len, low, high)))
+
+    by_answer : (r : Option ℕ) → IsFirst (IsMatch (w ++ y) p) (max from (length w + 1 - length p)) (length w) r → IsFirst (IsMatch (w ++ y) p) from (length w) r
+    by_answer None none = λ k low high found. elim (cases_lt k (length w + 1 - length p)) [
+      | inl before ↦ short k low before found
+      | inr past ↦ none k (omega (arith, low, past)) high found
+    ]
+    by_answer (Some m) first =
+        let found = first.0 in
+        let low : max from (length w + 1 - length p) ≤ m = found.low in (
+          record {
+            low = omega (arith, low);
+            high = found.high;
+            before = λ k from_here to match. elim (cases_lt k (length w + 1 - length p)) [
+              | inl before ↦ short k from_here before match
+              | inr past ↦ found.before k (omega (arith, from_here, past)) to match
+            ];
+          },
+          first.1,
+        )
+
+-- one that goes on past the run is one of what is left of the run and the text after it
+pub is_match-across : (w y e p : List ℕ) (k : ℕ) → IsUtf8 p → 0 < length p → k ≤ length w → e ≡ drop k w → is_match (w ++ y) p k ≡ starts_with nat_eq (e ++ y) p
+is_match-across w y e p k utf8 some inside is =
+    is_match-utf8 (w ++ y) p k utf8 some ∙ ap (λ v. starts_with nat_eq v p) (drop-append-le k w y inside ∙ ap (λ v. v ++ y) (sym is))

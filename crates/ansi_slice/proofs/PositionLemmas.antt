@@ -1,0 +1,122 @@
+-- Good positions, in a text at the front and after it, and as std's character boundaries.
+use Rattle.std.proofs.Common.{◌≡◌, ℕ, ◌-◌, ◌<◌, ◌≤◌, inl, inr, not, true, List, ◌++◌, length, IsTrue, Some, None, Option, ◌&&◌, refl, sym, ◌∙◌, ap, ap₂, subst, arith, ◌+◌, ◌↔◌, Bool, min, nat_le, slice_index}
+use Rattle.std.proofs.lemmas.Bool.{leb-true, leb-false, le-leb, and_parts, and_from, lt-leb, cases_lt, not-true, not_from_false, and_left, and_right, and_cases}
+use Rattle.std.proofs.lemmas.List.{get_or_append_left, get_or_past, get_or-append_right, length-append}
+use Rattle.std.specs.Cmp.{both_ways}
+use Rattle.std.proofs.lemmas.Str.{IsCharBoundary-start, IsCharBoundary-end}
+use Rattle.std.specs.Prelude.{unwrap_or}
+use Rattle.std.specs.Str.{IsUtf8, IsCharBoundary}
+use Rattle.ansi_slice.specs.Positions.{is_continuation_byte, is_good_position, is_char_boundary, is_good_range}
+
+pub is_good_position-past : (x : List ℕ) (n : ℕ) → length x ≤ n → is_good_position x n ≡ true
+is_good_position-past x n past = ap (λ b. not (is_continuation_byte b)) (get_or_past x n 0 past)
+
+pub is_good_position-append : (w y : List ℕ) (n : ℕ) → n < length w → is_good_position (w ++ y) n ≡ is_good_position w n
+is_good_position-append w y n within = ap (λ b. not (is_continuation_byte b)) (get_or_append_left w y 0 n within)
+
+pub is_good_position-after : (w y : List ℕ) (n : ℕ) → length w ≤ n → is_good_position (w ++ y) n ≡ is_good_position y (n - length w)
+is_good_position-after w y n past = ap (λ b. not (is_continuation_byte b)) (get_or-append_right w y (length w) n 0 refl past)
+
+-- a good position is good in the text at the front
+pub good_in_front : (w y : List ℕ) (n : ℕ) → IsTrue (is_good_position (w ++ y) n) → IsTrue (is_good_position w n)
+good_in_front w y n good = elim (cases_lt n (length w)) [
+  | inl within ↦ sym (is_good_position-append w y n within) ∙ good
+  | inr past ↦ is_good_position-past w n past
+]
+
+-- Within a text, the good positions are std's boundaries.
+
+pub good_is_boundary : (x : List ℕ) (n : ℕ) → n ≤ length x → IsTrue (is_good_position x n) → IsCharBoundary x n
+good_is_boundary x n within good =
+    let b = slice_index x n in (
+      within,
+      λ inside high. elim (and_cases (nat_le 128 b) (nat_le b 191) (not-true (is_continuation_byte b) good)) [
+        | inl low ↦ (let below = leb-false 128 b low in absurd (omega (arith, below, high)))
+        | inr lead ↦ (let above = leb-false b 191 lead in omega (arith, above))
+      ],
+    )
+
+pub boundary_is_good : (x : List ℕ) (n : ℕ) → IsCharBoundary x n → IsTrue (is_good_position x n)
+boundary_is_good x n boundary =
+    let b = slice_index x n in
+    elim (cases_lt n (length x)) [
+      | inl within ↦ not_from_false (is_continuation_byte b) (elim (cases_lt b 128) [
+        | inl ascii ↦ and_left (nat_le 128 b) (nat_le b 191) (lt-leb 128 b ascii)
+        | inr high ↦ and_right (nat_le 128 b) (nat_le b 191) (let lead : 192 ≤ b = boundary.1 within high in lt-leb b 191 (omega (arith, lead)))
+      ])
+      | inr past ↦ is_good_position-past x n past
+    ]
+
+pub boundary_inside : (x : List ℕ) (n : ℕ) → IsTrue (is_good_position x n) → IsCharBoundary x (min n (length x))
+boundary_inside x n good = elim (cases_lt n (length x)) [
+  | inl within ↦ (let here : n ≡ min n (length x) = omega arith in subst (IsCharBoundary x) here (good_is_boundary x n (omega arith) good))
+  | inr past ↦ (let end : length x ≡ min n (length x) = omega arith in subst (IsCharBoundary x) end (IsCharBoundary-end x))
+]
+
+pub is_char_boundary-from : (x : List ℕ) (n : ℕ) → IsCharBoundary x n → is_char_boundary x n ≡ true
+is_char_boundary-from x n boundary = and_from _ _ (le-leb n (length x) boundary.0) (boundary_is_good x n boundary)
+
+pub is_char_boundary-is : (x : List ℕ) (n : ℕ) → is_char_boundary x n ≡ true → IsCharBoundary x n
+is_char_boundary-is x n h =
+    let both = and_parts (nat_le n (length x)) (is_good_position x n) h in
+    good_is_boundary x n (leb-true n (length x) both.0) both.1
+
+pub is_char_boundary-decides : (x : List ℕ) (n : ℕ) (b : Bool) → b ≡ is_char_boundary x n → IsTrue b ↔ IsCharBoundary x n
+is_char_boundary-decides x n b is = (λ yes. is_char_boundary-is x n (sym is ∙ yes), λ boundary. is ∙ is_char_boundary-from x n boundary)
+
+-- after a text at the front, the boundaries are those of what follows it
+pub is_char_boundary-after : (w y : List ℕ) (n : ℕ) → length w ≤ n → is_char_boundary (w ++ y) n ≡ is_char_boundary y (n - length w)
+is_char_boundary-after w y n past =
+    let all : length (w ++ y) ≡ length w + length y = length-append w y in
+    let inside : nat_le n (length (w ++ y)) ≡ nat_le (n - length w) (length y)
+    = both_ways _ _
+    (λ h. le-leb (n - length w) (length y) (omega (arith, leb-true n (length (w ++ y)) h, all)))
+    (λ h. le-leb n (length (w ++ y)) (omega (arith, leb-true (n - length w) (length y) h, all, past))) in
+    ap₂ (λ s t. s && t) inside (is_good_position-after w y n past)
+
+pub char_boundary_is : (x : List ℕ) (n : ℕ) → IsTrue (is_char_boundary x n) ↔ IsCharBoundary x n
+char_boundary_is x n = (is_char_boundary-is x n, is_char_boundary-from x n)
+
+-- a position past the end counts as the end
+pub good_position_is : (x : List ℕ) (n : ℕ) → IsTrue (is_good_position x n) ↔ IsCharBoundary x (min n (length x))
+good_position_is x n = (
+  boundary_inside x n,
+  λ boundary. elim (cases_lt n (length x)) [
+    | inl within ↦ (let here : min n (length x) ≡ n = omega arith in boundary_is_good x n (subst (IsCharBoundary x) here boundary))
+    | inr past ↦ is_good_position-past x n past
+  ],
+)
+
+-- Good ranges.
+
+pub good_range_parts : (x : List ℕ) (s e : ℕ) → IsTrue (is_good_range x s (Some e)) → (s ≤ e) × IsTrue (is_good_position x s) × IsTrue (is_good_position x e)
+good_range_parts x s e good =
+    let both = and_parts (nat_le s e) (is_good_position x s && is_good_position x e) good in
+    let ends = and_parts (is_good_position x s) (is_good_position x e) both.1 in
+    (leb-true s e both.0, ends.0, ends.1)
+
+pub good_range_from : (x : List ℕ) (s e : ℕ) → s ≤ e → IsCharBoundary x s → IsCharBoundary x e → is_good_range x s (Some e) ≡ true
+good_range_from x s e ordered from to = and_from _ _ (le-leb s e ordered) (and_from _ _ (boundary_is_good x s from) (boundary_is_good x e to))
+
+-- a range without an end is as good as one up to a position past the end
+pub is_good_range-top : (x : List ℕ) (s : ℕ) (end : Option ℕ) (top : ℕ) → IsTrue (is_good_range x s end) → s ≤ top → length x ≤ top → IsTrue (is_good_range x s (Some (unwrap_or end top)))
+is_good_range-top x s None top good below past = and_from _ _ (le-leb s top below) (and_from _ _ good (is_good_position-past x top past))
+is_good_range-top x s (Some e) top good below past = good
+
+-- a position that is not yet passed is good in the text at the front, and so is 0
+good_or_front : (w y : List ℕ) (n : ℕ) → IsUtf8 w → (0 < n → IsTrue (is_good_position (w ++ y) n)) → IsTrue (is_good_position w n)
+good_or_front w y n utf8 good = elim (cases_lt 0 n) [
+  | inl some ↦ good_in_front w y n (good some)
+  | inr none ↦ (let front : 0 ≡ n = omega arith in subst (λ k. IsTrue (is_good_position w k)) front (boundary_is_good w 0 (IsCharBoundary-start w utf8)))
+]
+
+-- the range of what is left of two good positions, in a text at the front
+pub good_range_in_front : (w y : List ℕ) (s e : ℕ) → IsUtf8 w → s ≤ e → (0 < s → IsTrue (is_good_position (w ++ y) s)) → (0 < e → IsTrue (is_good_position (w ++ y) e)) → IsTrue (is_good_range w s (Some e))
+good_range_in_front w y s e utf8 ordered start end = and_from _ _ (le-leb s e ordered) (and_from _ _ (good_or_front w y s utf8 start) (good_or_front w y e utf8 end))
+
+-- a range is good where its ends are, in order
+pub good_range_is : (x : List ℕ) (s e : ℕ) → IsTrue (is_good_range x s (Some e)) ↔ ((s ≤ e) × IsCharBoundary x (min s (length x)) × IsCharBoundary x (min e (length x)))
+good_range_is x s e = (
+  λ good. (let parts = good_range_parts x s e good in (parts.0, boundary_inside x s parts.1, boundary_inside x e parts.2)),
+  λ ends. and_from _ _ (le-leb s e ends.0) (and_from _ _ ((good_position_is x s).1 ends.1) ((good_position_is x e).1 ends.2)),
+)

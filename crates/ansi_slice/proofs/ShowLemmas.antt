@@ -1,0 +1,113 @@
+-- What is shown of a plain text, after a text or a mark at its front.
+use Rattle.std.proofs.Common.{◌≡◌, ℕ, zero, suc, ◌+◌, ◌-◌, Bool, true, false, ◌&&◌, ◌==◌, List, [], ◌∷◌, ◌++◌, map, length, take, drop, refl, sym, ◌∙◌, ap, ap₂, arith, flat_map, slice_range, if◌then◌else◌, nat_le, nat_lt, append_assoc, append-nil}
+use Rattle.std.proofs.lemmas.Bool.Decides.{nat_tests}
+use Rattle.std.specs.List.{range_with_len}
+use Rattle.ansi_items.specs.Plain.{Mark, joined}
+use Rattle.ansi_slice.specs.Cut.{at_place, shown_at, show}
+use Rattle.ansi_slice.proofs.SliceLemmas.{slice_range-from_past}
+use Rattle.ansi_style.proofs.MarkLemmas.{further, map-further-0, map-further-suc}
+
+-- functions that agree one place apart
+flat_map-range-suc : (f g : ℕ → List ℕ) → ((j : ℕ) → f (j + 1) ≡ g j) → (n i : ℕ) → flat_map f (range_with_len (i + 1) n) ≡ flat_map g (range_with_len i n)
+flat_map-range-suc f g same zero i = refl
+flat_map-range-suc f g same (suc n) i = ap₂ (λ u v. u ++ v) (same i) (flat_map-range-suc f g same n (i + 1))
+
+-- functions that agree after 0
+flat_map-range-1 : (f g : ℕ → List ℕ) → ((j : ℕ) → f (j + 1) ≡ g (j + 1)) → (n : ℕ) → flat_map f (range_with_len 1 n) ≡ flat_map g (range_with_len 1 n)
+flat_map-range-1 f g same n =
+    flat_map-range-suc f (λ j. g (j + 1)) same n 0 ∙ sym (flat_map-range-suc g (λ j. g (j + 1)) (λ j. refl) n 0)
+
+flat_map-range-0 : (f : ℕ → List ℕ) (n : ℕ) → flat_map f (range_with_len 0 (n + 1)) ≡ f 0 ++ flat_map f (range_with_len 1 n)
+flat_map-range-0 f n = (let one_more : n + 1 ≡ suc n = omega arith in ap (λ k. flat_map f (range_with_len 0 k)) one_more)
+
+-- Marks one place further on.
+
+joined-at_place-0 : (ms : List Mark) → joined (at_place 0 (map (further 1) ms)) ≡ []
+joined-at_place-0 [] = refl
+joined-at_place-0 (m ∷ ms) = (let apart : (1 + m.place == 0) ≡ false = grind (arith, nat_tests) in rw apart (joined-at_place-0 ms))
+
+joined-at_place-suc : (i : ℕ) (ms : List Mark) → joined (at_place (i + 1) (map (further 1) ms)) ≡ joined (at_place i ms)
+joined-at_place-suc i [] = refl
+joined-at_place-suc i (m ∷ ms) =
+    let same : (1 + m.place == i + 1) ≡ (m.place == i) = grind (arith, nat_tests) in
+    let later = at_place (i + 1) (map (further 1) ms) in
+    ap (λ b. joined (if b then further 1 m ∷ later else later)) same
+    ∙ with_head (m.place == i) later (at_place i ms) (joined-at_place-suc i ms)
+  where
+    with_head : (b : Bool) (ks ls : List Mark) → joined ks ≡ joined ls → joined (if b then further 1 m ∷ ks else ks) ≡ joined (if b then m ∷ ls else ls)
+    with_head true ks ls later = ap (λ v. m.bytes ++ v) later
+    with_head false ks ls later = later
+
+-- One byte of text at the front.
+
+show-byte : (c : ℕ) (x : List ℕ) (a b : ℕ) (ms : List Mark)
+    → show (c ∷ x) a b (map (further 1) ms) ≡ (if nat_le a 0 && nat_lt 0 b then c ∷ [] else []) ++ show x (a - 1) (b - 1) ms
+show-byte c x a b ms =
+    let f = shown_at (c ∷ x) a b (map (further 1) ms) in
+    let g = shown_at x (a - 1) (b - 1) ms in
+    let first : f 0 ≡ (if nat_le a 0 && nat_lt 0 b then c ∷ [] else []) = ap (λ v. v ++ (if nat_le a 0 && nat_lt 0 b then c ∷ [] else [])) (joined-at_place-0 ms) in
+    let next : (j : ℕ) → f (j + 1) ≡ g j = λ j.
+    let inside : (nat_le a (j + 1) && nat_lt (j + 1) b) ≡ (nat_le (a - 1) j && nat_lt j (b - 1)) = grind (arith, nat_tests) in
+    let byte : slice_range (c ∷ x) (j + 1) (j + 1 + 1) ≡ slice_range x j (j + 1) = ap₂ (λ n y. take n y) (omega arith) (sym (drop_after c j x)) in
+    ap₂ (λ u v. u ++ v) (joined-at_place-suc j ms) (ap₂ (λ t v. if t then v else []) inside byte) in
+    let size : length (c ∷ x) + 1 ≡ length x + 1 + 1 = omega arith in
+    ap (λ n. flat_map f (range_with_len 0 n)) size ∙ flat_map-range-0 f (length x + 1) ∙ ap₂ (λ u v. u ++ v) first (flat_map-range-suc f g next (length x + 1) 0)
+  where
+    drop_after : (c j : ℕ) (x : List ℕ) → drop j x ≡ drop (j + 1) (c ∷ x)
+    drop_after c j x = (let one_more : suc j ≡ j + 1 = omega arith in ap (λ n. drop n (c ∷ x)) one_more)
+
+slice_range-cons : (a b c : ℕ) (w : List ℕ) → (if nat_le a 0 && nat_lt 0 b then c ∷ [] else []) ++ slice_range w (a - 1) (b - 1) ≡ slice_range (c ∷ w) a b
+slice_range-cons zero zero c w = refl
+slice_range-cons zero (suc b) c w =
+    let here : (nat_le 0 0 && nat_lt 0 (suc b)) ≡ true = grind (arith, nat_tests) in
+    let size : suc b - 1 - (0 - 1) ≡ b = omega arith in
+    let from : 0 - 1 ≡ 0 = omega arith in
+    let whole : suc b ≡ suc b - 0 = omega arith in
+    ap (λ t. (if t then c ∷ [] else []) ++ slice_range w (0 - 1) (suc b - 1)) here
+    ∙ ap₂ (λ n k. c ∷ take n (drop k w)) size from
+    ∙ ap (λ n. take n (c ∷ w)) whole
+slice_range-cons (suc a) b c w =
+    let before : (nat_le (suc a) 0 && nat_lt 0 b) ≡ false = grind (arith, nat_tests) in
+    let size : b - 1 - (suc a - 1) ≡ b - suc a = omega arith in
+    let from : suc a - 1 ≡ a = omega arith in
+    ap (λ t. (if t then c ∷ [] else []) ++ slice_range w (suc a - 1) (b - 1)) before
+    ∙ ap₂ (λ n k. take n (drop k w)) size from
+
+-- A text at the front, a mark at the front, and nothing.
+
+pub show-text : (w x : List ℕ) (a b : ℕ) (ms : List Mark) → show (w ++ x) a b (map (further (length w)) ms) ≡ slice_range w a b ++ show x (a - length w) (b - length w) ms
+show-text [] x a b ms =
+    ap (show x a b) (map-further-0 ms) ∙ sym (ap₂ (λ u v. u ++ v) (slice_range-from_past [] a b (omega arith)) (ap₂ (λ i j. show x i j ms) (omega arith) (omega arith)))
+show-text (c ∷ w) x a b ms =
+    let n = length w in
+    let head = if nat_le a 0 && nat_lt 0 b then c ∷ [] else [] in
+    ap (show (c ∷ w ++ x) a b) (map-further-suc n ms)
+    ∙ show-byte c (w ++ x) a b (map (further n) ms)
+    ∙ ap (λ v. head ++ v) (show-text w x (a - 1) (b - 1) ms)
+    ∙ sym (append_assoc head (slice_range w (a - 1) (b - 1)) (show x (a - 1 - n) (b - 1 - n) ms))
+    ∙ ap₂ (λ u v. u ++ v) (slice_range-cons a b c w) (ap₂ (λ i j. show x i j ms) (omega arith) (omega arith))
+
+pub show-mark : (v x : List ℕ) (a b : ℕ) (ms : List Mark) → show x a b (record { place = 0; bytes = v } ∷ ms) ≡ v ++ show x a b ms
+show-mark v x a b ms =
+    let f = shown_at x a b (record { place = 0; bytes = v } ∷ ms) in
+    let g = shown_at x a b ms in
+    let shown = if nat_le a 0 && nat_lt 0 b then slice_range x 0 (0 + 1) else [] in
+    let first : f 0 ≡ v ++ g 0 = append_assoc v (joined (at_place 0 ms)) shown in
+    let after : (j : ℕ) → f (j + 1) ≡ g (j + 1) = λ j. (let apart : (0 == j + 1) ≡ false = grind (arith, nat_tests) in ap (λ t. joined (if t then record { place = 0; bytes = v } ∷ at_place (j + 1) ms else at_place (j + 1) ms) ++ (if nat_le a (j + 1) && nat_lt (j + 1) b then slice_range x (j + 1) (j + 1 + 1) else [])) apart) in
+    flat_map-range-0 f (length x)
+    ∙ ap₂ (λ u w. u ++ w) first (flat_map-range-1 f g after (length x))
+    ∙ append_assoc v (g 0) (flat_map g (range_with_len 1 (length x)))
+    ∙ ap (λ w. v ++ w) (sym (flat_map-range-0 g (length x)))
+
+pub show-nil : (a b : ℕ) → show [] a b [] ≡ []
+show-nil a b = either (nat_le a 0 && nat_lt 0 b)
+  where
+    either : (t : Bool) → (if t then slice_range {X = ℕ} [] 0 1 else []) ++ [] ≡ []
+    either true = refl
+    either false = refl
+
+-- without marks, what is shown is a slice
+pub show-bare : (x : List ℕ) (a b : ℕ) → show x a b [] ≡ slice_range x a b
+show-bare x a b =
+    ap (λ y. show y a b []) (sym (append-nil x)) ∙ show-text x [] a b []
+    ∙ ap (λ v. slice_range x a b ++ v) (show-nil (a - length x) (b - length x)) ∙ append-nil (slice_range x a b)

@@ -1,0 +1,110 @@
+-- What is left of a text without the white space at its ends is the slice over an interval.
+use Rattle.std.proofs.Common.{◌≡◌, ℕ, ◌+◌, ◌-◌, true, ◌&&◌, ◌==◌, List, [], ◌∷◌, ◌++◌, take, drop, length, refl, sym, ◌∙◌, ap, ap₂, subst, arith, slice_range, length-append, append_assoc}
+use Rattle.std.proofs.lemmas.Bool.{cond_both, and_parts, and_from}
+use Rattle.std.proofs.lemmas.Str.{encodes-append, chars-encodes, IsCharBoundary-at_seam}
+use Rattle.std.proofs.Math.Seq.{take-append_seam, drop-append_seam}
+use Rattle.std.specs.Str.{IsUtf8, IsCharBoundary, chars, trim_start, trim_end, trim, skip_leading_whitespace, drop_trailing_whitespace, encode_utf8_all, all_scalars}
+use Rattle.std.specs.Char.{is_whitespace}
+use Rattle.ansi_slice.specs.Kept.{trim_interval}
+
+-- The characters that are taken off stand at the front, and at the end.
+
+skipped : (cs : List ℕ) → (front : List ℕ) × (cs ≡ front ++ skip_leading_whitespace cs)
+skipped [] = ([], refl)
+skipped (c ∷ cs) =
+    let later = skipped cs in
+    cond_both (is_whitespace c) (skip_leading_whitespace cs) (c ∷ cs) (λ rest. (front : List ℕ) × (c ∷ cs ≡ front ++ rest))
+    (λ white. (c ∷ later.0, ap (λ v. c ∷ v) later.1))
+    (λ other. ([], refl))
+
+pub dropped : (cs : List ℕ) → (back : List ℕ) × (cs ≡ drop_trailing_whitespace cs ++ back)
+dropped [] = ([], refl)
+dropped (c ∷ cs) =
+    let later = dropped cs in
+    cond_both (is_whitespace c && length (drop_trailing_whitespace cs) == 0) [] (c ∷ drop_trailing_whitespace cs) (λ rest. (back : List ℕ) × (c ∷ cs ≡ rest ++ back))
+    (λ white. (c ∷ cs, refl))
+    (λ other. (later.0, ap (λ v. c ∷ v) later.1))
+
+scalars_after : (cs ds : List ℕ) → all_scalars (cs ++ ds) ≡ true → all_scalars ds ≡ true
+scalars_after [] ds all = all
+scalars_after (c ∷ cs) ds all = scalars_after cs ds (and_parts _ _ all).1
+
+-- a text is what a trim takes off its front, what is left, and what it takes off its end
+record IsTrimmed (x : List ℕ) : Type 0 where
+  front : List ℕ
+  back : List ℕ
+  started : x ≡ front ++ trim_start x
+  ended : trim_start x ≡ trim x ++ back
+  start_is_utf8 : IsUtf8 (trim_start x)
+  back_is_utf8 : IsUtf8 back
+
+is_trimmed : (x : List ℕ) → IsUtf8 x → IsTrimmed x
+unfolding trim_start trim_end
+is_trimmed x utf8 =
+    let cs = utf8.0 in
+    let read : chars x ≡ cs = ap chars (sym utf8.1.1) ∙ chars-encodes cs utf8.1.0 in
+    let left = skip_leading_whitespace cs in
+    let skip = skipped cs in
+    let start : trim_start x ≡ encode_utf8_all left = ap (λ ds. encode_utf8_all (skip_leading_whitespace ds)) read in
+    let left_scalars = scalars_after skip.0 left (sym (ap all_scalars skip.1) ∙ utf8.1.0) in
+    let inner = drop_trailing_whitespace left in
+    let drops = dropped left in
+    let end : trim x ≡ encode_utf8_all inner = ap (λ ds. encode_utf8_all (drop_trailing_whitespace ds)) (ap chars start ∙ chars-encodes left left_scalars) in
+    let back_scalars = scalars_after inner drops.0 (sym (ap all_scalars drops.1) ∙ left_scalars) in
+    record {
+      front = encode_utf8_all skip.0;
+      back = encode_utf8_all drops.0;
+      started = sym utf8.1.1 ∙ ap encode_utf8_all skip.1 ∙ encodes-append skip.0 left ∙ ap (λ v. encode_utf8_all skip.0 ++ v) (sym start);
+      ended = start ∙ ap encode_utf8_all drops.1 ∙ encodes-append inner drops.0 ∙ ap (λ v. v ++ encode_utf8_all drops.0) (sym end);
+      start_is_utf8 = (left, (left_scalars, sym start));
+      back_is_utf8 = (drops.0, (back_scalars, refl));
+    }
+
+-- the interval begins after what is taken off the front
+from_is : (x : List ℕ) (is : IsTrimmed x) → (trim_interval x).0 ≡ length is.front
+from_is x is = omega (arith, ap length is.started, length-append is.front (trim_start x))
+
+-- the slice over the interval is std's trim
+pub slice_range-trim_interval : (x : List ℕ) → IsUtf8 x → slice_range x (trim_interval x).0 (trim_interval x).1 ≡ trim x
+slice_range-trim_interval x utf8 =
+    let is = is_trimmed x utf8 in
+    let from = (trim_interval x).0 in
+    let count : from + length (trim x) - from ≡ length (trim x) = omega arith in
+    let rest : drop from x ≡ trim_start x = ap (λ n. drop n x) (from_is x is) ∙ ap (drop (length is.front)) is.started ∙ drop-append_seam is.front (trim_start x) in
+    ap₂ take count rest ∙ ap (take (length (trim x))) is.ended ∙ take-append_seam (trim x) is.back
+
+-- The interval begins and ends at characters.
+
+trim_begins : (x : List ℕ) → IsUtf8 x → IsCharBoundary x (trim_interval x).0
+trim_begins x utf8 =
+    let is = is_trimmed x utf8 in
+    subst (IsCharBoundary x) (sym (from_is x is)) (IsCharBoundary-at_seam x is.front (trim_start x) is.started is.start_is_utf8)
+
+trim_ends : (x : List ℕ) → IsUtf8 x → IsCharBoundary x (trim_interval x).1
+trim_ends x utf8 =
+    let is = is_trimmed x utf8 in
+    let seam : x ≡ (is.front ++ trim x) ++ is.back
+    = is.started ∙ ap (λ v. is.front ++ v) is.ended ∙ sym (append_assoc is.front (trim x) is.back) in
+    let end : length (is.front ++ trim x) ≡ (trim_interval x).1 = length-append is.front (trim x) ∙ ap (λ n. n + length (trim x)) (sym (from_is x is)) in
+    subst (IsCharBoundary x) end (IsCharBoundary-at_seam x (is.front ++ trim x) is.back seam is.back_is_utf8)
+
+pub trim_interval_boundaries : (x : List ℕ) → IsUtf8 x → IsCharBoundary x (trim_interval x).0 × IsCharBoundary x (trim_interval x).1
+trim_interval_boundaries x utf8 = (trim_begins x utf8, trim_ends x utf8)
+
+-- what std's `trim_start` takes off is UTF-8 too
+pub trim_start-front : (x : List ℕ) → IsUtf8 x → (front : List ℕ) × IsUtf8 front × (x ≡ front ++ trim_start x)
+unfolding trim_start
+trim_start-front x utf8 =
+    let cs = utf8.0 in
+    let read : chars x ≡ cs = ap chars (sym utf8.1.1) ∙ chars-encodes cs utf8.1.0 in
+    let skip = skipped cs in
+    let left = skip_leading_whitespace cs in
+    let start : trim_start x ≡ encode_utf8_all left = ap (λ ds. encode_utf8_all (skip_leading_whitespace ds)) read in (
+      encode_utf8_all skip.0,
+      (skip.0, (scalars_before skip.0 left (sym (ap all_scalars skip.1) ∙ utf8.1.0), refl)),
+      sym utf8.1.1 ∙ ap encode_utf8_all skip.1 ∙ encodes-append skip.0 left ∙ ap (λ v. encode_utf8_all skip.0 ++ v) (sym start),
+    )
+  where
+    scalars_before : (cs ds : List ℕ) → all_scalars (cs ++ ds) ≡ true → all_scalars cs ≡ true
+    scalars_before [] ds all = refl
+    scalars_before (c ∷ cs) ds all = (let parts = and_parts _ _ all in and_from _ _ parts.0 (scalars_before cs ds parts.1))

@@ -1,0 +1,12 @@
+use Rattle.std.proofs.Common.{◌≡◌}
+use Rattle.ansi_items.specs.Plain.{plain, plain_of}
+use Rattle.ansi_slice.specs.Positions.{is_good_position}
+use Rattle.ansi_items.specs.Scans.{pieces_left}
+use Rattle.ansi_slice.proofs.search.is_good_position.Given as goal
+
+-- what is left of the position is good in what is left exactly where the position is good in all
+abbrev pub invariant-loop-item : goal.invariant-loop-item
+invariant-loop-item l = record {
+  text : l.item-iterator.text ≡ l.text;
+  good : is_good_position (plain_of (pieces_left l.item-iterator)) l.left ≡ is_good_position (plain l.text) l.position;
+}

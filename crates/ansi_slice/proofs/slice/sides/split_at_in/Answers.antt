@@ -1,0 +1,21 @@
+use Rattle.std.proofs.Common.{sym, ◌∙◌, subst, IsTrue, IsFalse}
+use Rattle.ansi_items.specs.Plain.{has_escape}
+use Rattle.ansi_slice.specs.Positions.{is_good_position}
+use Rattle.ansi_items.proofs.PlainLemmas.{plain-bare}
+use Rattle.ansi_slice.proofs.SideLemmas.{left_side-bare, right_side-bare}
+use Rattle.ansi_slice.proofs.slice.sides.split_at_in.Goals as goal
+
+-- a text without ESC is its own plain text, and its sides are slices
+
+pub halves-requires : goal.halves-requires
+halves-requires g c =
+    let none : IsFalse (has_escape c.args.text.now) = sym c.has_any.ensures ∙ c.if-not-has_any.true in
+    subst (λ x. IsTrue (is_good_position x c.args.mid)) (plain-bare c.args.text.now none) c.requires
+
+pub returns-then-not-has_any-clause-left : goal.returns-then-not-has_any-clause-left
+returns-then-not-has_any-clause-left g c =
+    c.halves.ensures.left ∙ sym (left_side-bare c.args.text.now c.args.mid (sym c.has_any.ensures ∙ c.if-not-has_any.true))
+
+pub returns-then-not-has_any-clause-right : goal.returns-then-not-has_any-clause-right
+returns-then-not-has_any-clause-right g c =
+    c.halves.ensures.right ∙ sym (right_side-bare c.args.text.now c.args.mid (sym c.has_any.ensures ∙ c.if-not-has_any.true))

@@ -1,0 +1,36 @@
+-- The two sides of a text at a position.
+use Rattle.std.specs.Prelude.{ℕ, ◌-◌, ◌==◌, List, [], ◌++◌, length, take, drop, flat_map, nat_le, if◌then◌else◌}
+use Rattle.ansi_items.specs.Sequences.{is_sgr}
+use Rattle.ansi_items.specs.Pieces.{Piece, Text, Sequence, LoneEscape, spelling, pieces_of}
+use Rattle.ansi_items.specs.Plain.{Placed, places}
+use Rattle.ansi_style.specs.declared.state.rendition.Rendition.{Rendition}
+use Rattle.ansi_style.specs.Written.{start, close}
+use Rattle.ansi_style.specs.Styled.{style_at}
+
+-- bytes are dressed in a style by its start before them and its close after them; no bytes stay none
+abbrev pub dressed : Rendition → List ℕ → List ℕ
+dressed s w = if length w == 0 then [] else start s ++ w ++ close s
+
+-- an SGR isn't copied to a side, for the text on each side is dressed; any other sequence is, and a lone escape
+abbrev pub copied : Piece → List ℕ
+copied p = if is_sgr (spelling p) then [] else spelling p
+
+-- what a piece gives to the left side: its bytes before mid, dressed in the style there; a sequence goes left where its place is at most mid (the Rust crate)
+abbrev pub left_part : ℕ → ℕ → Rendition → Piece → List ℕ
+left_part mid place s (Text w) = dressed s (take (mid - place) w)
+left_part mid place s (Sequence w) = if nat_le place mid then copied (Sequence w) else []
+left_part mid place s LoneEscape = if nat_le place mid then copied LoneEscape else []
+
+-- what a piece gives to the right side: its bytes from mid on, dressed; and a sequence that doesn't go left (the Rust crate)
+abbrev pub right_part : ℕ → ℕ → Rendition → Piece → List ℕ
+right_part mid place s (Text w) = dressed s (drop (mid - place) w)
+right_part mid place s (Sequence w) = if nat_le place mid then [] else copied (Sequence w)
+right_part mid place s LoneEscape = if nat_le place mid then [] else copied LoneEscape
+
+-- the left side of t at mid
+unfoldable pub left_side : List ℕ → ℕ → List ℕ
+left_side t mid = flat_map (λ (p : Placed). left_part mid p.place (style_at t p.place) p.piece) (places (pieces_of t))
+
+-- the right side of t at mid
+unfoldable pub right_side : List ℕ → ℕ → List ℕ
+right_side t mid = flat_map (λ (p : Placed). right_part mid p.place (style_at t p.place) p.piece) (places (pieces_of t))

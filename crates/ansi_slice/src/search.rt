@@ -1,0 +1,65 @@
+//! Searches in a plain text, over the items of its text and without memory.
+ghost use Rattle.std.specs.Prelude.{◌≡◌, ◌↔◌, IsTrue};
+ghost use Rattle.std.specs.Str.{IsCharBoundary};
+ghost use Rattle.ansi_items.specs.Plain.{plain};
+ghost use Rattle.ansi_slice.specs.Positions.{is_good_position, is_char_boundary, is_good_range};
+
+mod ends;
+mod matches;
+
+use ansi_items::ansitok::{Kind, Scanner};
+pub use ends::{ends_with, starts_with, suffix_start, trim_interval};
+pub use matches::{find, find_from, first_in_run};
+
+/// Whether the position is good: a character of the plain text begins there, or it is the end of the
+/// plain text or lies past it. (std; past the end, the Rust crate.)
+///
+/// It counts bytes of the plain text. Takes no memory.
+pub fn is_good_position(text: &str, position: usize) -> bool
+    ensures { result ≡ is_good_position (plain text.now) position }
+{
+    let mut left = position;
+    for item in Scanner::new(text) {
+        if item.kind == Kind::Text {
+            let run = &text[item.start..item.end];
+            if left < run.len() {
+                return run.is_char_boundary(left);
+            }
+            left -= run.len();
+        }
+    }
+    true
+}
+
+/// As `AnsiStr::ansi_is_char_boundary`.
+pub fn is_char_boundary(text: &str, index: usize) -> bool
+    ensures value { result ≡ is_char_boundary (plain text.now) index }
+    ensures boundary { IsTrue result ↔ IsCharBoundary (plain text.now) index }
+{
+    let mut offset = index;
+    for item in Scanner::new(text) {
+        if item.kind == Kind::Text {
+            let run = &text[item.start..item.end];
+            if offset < run.len() {
+                return run.is_char_boundary(offset);
+            }
+            offset -= run.len();
+        }
+    }
+    offset == 0
+}
+
+/// Whether the range is good: its start and its end are, and its end is not below its start. (std;
+/// past the end, the Rust crate.)
+///
+/// Positions count bytes of the plain text. Takes no memory.
+pub fn is_good_range(text: &str, start: usize, end: Option<usize>) -> bool
+    ensures { result ≡ is_good_range (plain text.now) start end }
+{
+    match end {
+        Some(end) => {
+            start <= end && is_good_position(text, start) && is_good_position(text, end)
+        }
+        None => is_good_position(text, start),
+    }
+}

@@ -1,0 +1,44 @@
+//! The slices of a text, with every sequence at its place: the functions that the calls of `AnsiStr` stand on.
+ghost use Rattle.std.specs.Prelude.{◌≡◌, ◌↔◌, IsFalse, IsOk, IfOk};
+ghost use Rattle.std.specs.Cow.{cow_str_bytes, IsBorrowedStr};
+ghost use Rattle.ansi_items.specs.Plain.{plain, has_escape};
+
+mod cuts;
+mod kept;
+mod range;
+mod sides;
+
+use ansi_items::ESC;
+use ansi_items::ansitok::{Kind, Scanner};
+pub use cuts::{cut_in, get_in};
+pub use kept::{strip_prefix_in, strip_suffix_in, trim_in};
+pub use range::AnsiRange;
+pub use sides::split_at_in;
+use std::alloc::{AllocError, Allocator};
+use std::borrow::CowStr;
+
+/// Whether an ESC stands in the text, as `AnsiStr::ansi_has_any` says.
+pub fn has_any(text: &str) -> bool
+    ensures { result ≡ has_escape text.now }
+{
+    text.as_bytes().contains(&ESC)
+}
+
+/// As `AnsiStr::ansi_strip`, with an answer that lives as long as the text, and its memory taken
+/// from any allocator.
+pub fn strip_in<'t, A: Allocator>(alloc: A, text: &'t str) -> Result<CowStr<'t, A>, AllocError>
+    ensures bytes { IfOk result (λ c. cow_str_bytes c ≡ plain text.now) }
+    ensures borrowed { IfOk result (λ c. IsBorrowedStr c ↔ IsFalse (has_escape text.now)) }
+    ensures takes_no_memory { IsFalse (has_escape text.now) → IsOk result }
+{
+    if !has_any(text) {
+        return Ok(CowStr::Borrowed(text));
+    }
+    let mut plain = String::new(alloc);
+    for item in Scanner::new(text) {
+        if item.kind == Kind::Text {
+            plain.push_str(&text[item.start..item.end])?;
+        }
+    }
+    Ok(CowStr::Owned(plain))
+}

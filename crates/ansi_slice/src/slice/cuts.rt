@@ -1,0 +1,98 @@
+//! Cuts of a text.
+ghost use Rattle.std.specs.Prelude.{◌≡◌, ◌↔◌, ◌⊎◌, Some, slice_range, IsTrue, IsFalse, IsNone, IsOk, IfOk, IfSome, string_bytes};
+ghost use Rattle.std.specs.Cow.{cow_str_bytes, IsBorrowedStr};
+ghost use Rattle.ansi_items.specs.Plain.{plain, has_escape};
+ghost use Rattle.ansi_slice.specs.Positions.{is_good_range};
+ghost use Rattle.ansi_slice.specs.Cut.{cut, cut_up_to};
+
+use crate::search;
+use crate::slice::has_any;
+use ansi_items::ansitok::{Kind, Scanner};
+use ansi_style::styles;
+use std::alloc::{AllocError, Allocator};
+use std::borrow::CowStr;
+
+/// As `AnsiStr::ansi_cut`, with an answer that lives as long as the text, and its memory taken from any allocator.
+pub fn cut_in<'t, A: Allocator>(
+    alloc: A,
+    text: &'t str,
+    start: usize,
+    end: Option<usize>,
+) -> Result<CowStr<'t, A>, AllocError>
+    requires { IsTrue (is_good_range (plain text.now) start end) }
+    ensures bytes { IfOk result (λ c. cow_str_bytes c ≡ cut text.now start end) }
+    ensures borrowed { IfOk result (λ c. IsBorrowedStr c ↔ IsFalse (has_escape text.now)) }
+    ensures takes_no_memory { IsFalse (has_escape text.now) → IsOk result }
+{
+    // No position of a text lies past this one, so it stands for no end.
+    let end = end.unwrap_or(usize::MAX);
+    if !has_any(text) {
+        return Ok(CowStr::Borrowed(between(text, start, end)));
+    }
+    Ok(CowStr::Owned(cut_up_to(alloc, text, start, end)?))
+}
+
+/// The bytes of a text between two good positions. One past the end counts as the end.
+pub(crate) fn between(text: &str, start: usize, end: usize) -> &str
+    requires { IsTrue (is_good_range text.now start (Some end)) }
+    ensures { result.now ≡ slice_range text.now start end }
+{
+    let len = text.len();
+    &text[start.min(len)..end.min(len)]
+}
+
+/// The cut of a text, written: the plain bytes of the range with every sequence up to its end, and
+/// then the close of the style there.
+fn cut_up_to<A: Allocator>(
+    alloc: A,
+    text: &str,
+    start: usize,
+    end: usize,
+) -> Result<String<A>, AllocError>
+    requires { IsTrue (is_good_range (plain text.now) start (Some end)) }
+    ensures { IfOk result (λ s. string_bytes s ≡ cut_up_to text.now start end) }
+{
+    // At least so many bytes are written: those of the range or, where it goes on past the end of the
+    // plain text, all of the text but its first `start` plain bytes.
+    let mut cut = String::with_capacity(alloc, end.min(text.len()).saturating_sub(start))?;
+    let mut style = styles::plain_style();
+    let mut from = start;
+    let mut to = end;
+    for item in Scanner::new(text) {
+        let piece = &text[item.start..item.end];
+        if item.kind == Kind::Text {
+            cut.push_str(between(piece, from, to))?;
+            if to < piece.len() {
+                // Every later sequence stands past the end.
+                break;
+            }
+            from = from.saturating_sub(piece.len());
+            to -= piece.len();
+        } else {
+            cut.push_str(piece)?;
+            if item.kind == Kind::Sgr {
+                styles::apply(&mut style, piece);
+            }
+        }
+    }
+    styles::write_close(&style, &mut cut)?;
+    Ok(cut)
+}
+
+/// As `AnsiStr::ansi_get`, with an answer that lives as long as the text, and its memory taken from any allocator.
+pub fn get_in<'t, A: Allocator>(
+    alloc: A,
+    text: &'t str,
+    start: usize,
+    end: Option<usize>,
+) -> Result<Option<CowStr<'t, A>>, AllocError>
+    ensures none { IfOk result (λ o. IsNone o ↔ IsFalse (is_good_range (plain text.now) start end)) }
+    ensures bytes { IfOk result (λ o. IfSome o (λ c. cow_str_bytes c ≡ cut text.now start end)) }
+    ensures borrowed { IfOk result (λ o. IfSome o (λ c. IsBorrowedStr c ↔ IsFalse (has_escape text.now))) }
+    ensures takes_no_memory { IsFalse (has_escape text.now) ⊎ IsFalse (is_good_range (plain text.now) start end) → IsOk result }
+{
+    if !search::is_good_range(text, start, end) {
+        return Ok(None);
+    }
+    Ok(Some(cut_in(alloc, text, start, end)?))
+}

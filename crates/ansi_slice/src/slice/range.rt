@@ -1,0 +1,117 @@
+//! Ranges of positions of a plain text.
+ghost use Rattle.std.specs.Prelude.{◌≡◌, ℕ, Option, Some, None};
+ghost use Rattle.std.specs.Range.{range_inclusive_start, range_inclusive_end};
+ghost use Rattle.ansi_slice.specs.Ranges.{past_inclusive};
+
+use std::ops::{Range, RangeFrom, RangeFull, RangeInclusive, RangeTo, RangeToInclusive};
+
+/// A range of positions of a plain text, in bytes from its start: `a..b`, `a..=b`, `a..`, `..b`,
+/// `..=b` or `..`.
+///
+/// ```
+/// assert_eq!(AnsiRange::start(&(2..=5)), 2);
+/// assert_eq!(AnsiRange::end(&(2..=5)), Some(6));
+/// assert_eq!(AnsiRange::end(&(2..)), None);
+/// ```
+pub trait AnsiRange: Drop {
+    /// The position that the range begins at.
+    ghost start: { Self → ℕ };
+
+    /// The position that the range ends in front of, where there is one.
+    ghost end: { Self → Option ℕ };
+
+    /// The position that the range begins at: 0 where none is written. (std)
+    fn start(&self) -> usize
+        ensures { result ≡ start self.now };
+
+    /// The position that the range ends in front of, or `None` where it has no end.
+    ///
+    /// After an inclusive end `b` that is `b + 1`, and an inclusive end of `usize::MAX` is no end.
+    /// (std, but for `usize::MAX`.)
+    fn end(&self) -> Option<usize>
+        ensures { result ≡ end self.now };
+}
+
+impl AnsiRange for Range<usize> {
+    ghost start = { λ r. r.start };
+
+    ghost end = { λ r. Some r.end };
+
+    fn start(&self) -> usize {
+        self.start
+    }
+
+    fn end(&self) -> Option<usize> {
+        Some(self.end)
+    }
+}
+
+impl AnsiRange for RangeInclusive<usize> {
+    ghost start = { range_inclusive_start };
+
+    ghost end = { λ r. past_inclusive (range_inclusive_end r) };
+
+    fn start(&self) -> usize {
+        *self.start()
+    }
+
+    fn end(&self) -> Option<usize> {
+        self.end().checked_add(1)
+    }
+}
+
+impl AnsiRange for RangeFrom<usize> {
+    ghost start = { λ r. r.start };
+
+    ghost end = { λ _. None };
+
+    fn start(&self) -> usize {
+        self.start
+    }
+
+    fn end(&self) -> Option<usize> {
+        None
+    }
+}
+
+impl AnsiRange for RangeTo<usize> {
+    ghost start = { λ _. 0 };
+
+    ghost end = { λ r. Some r.end };
+
+    fn start(&self) -> usize {
+        0
+    }
+
+    fn end(&self) -> Option<usize> {
+        Some(self.end)
+    }
+}
+
+impl AnsiRange for RangeToInclusive<usize> {
+    ghost start = { λ _. 0 };
+
+    ghost end = { λ r. past_inclusive r.end };
+
+    fn start(&self) -> usize {
+        0
+    }
+
+    fn end(&self) -> Option<usize> {
+        self.end.checked_add(1)
+    }
+}
+
+impl AnsiRange for RangeFull {
+    ghost start = { λ _. 0 };
+
+    ghost end = { λ _. None };
+
+    fn start(&self) -> usize {
+        0
+    }
+
+    fn end(&self) -> Option<usize> {
+        None
+    }
+}

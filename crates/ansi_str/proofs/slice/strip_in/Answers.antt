@@ -1,7 +1,0 @@
-use Rattle.std.proofs.Common.{sym, ◌∙◌}
-use Rattle.ansi_str.proofs.PlainLemmas.{plain-bare}
-use Rattle.ansi_str.proofs.slice.strip_in.Goals as goal
-
--- a text without ESC is its own plain text
-pub returns-then-not-has_any-clause-bytes : goal.returns-then-not-has_any-clause-bytes
-returns-then-not-has_any-clause-bytes g c = sym (plain-bare c.args.text.now (sym c.has_any.ensures ∙ c.if-not-has_any.true))

@@ -1,7 +1,0 @@
--- A style as the code holds it, seen as a rendition.
-use Rattle.ansi_str.specs.Rendition.{Rendition}
-use Rattle.ansi_str.specs.declared.state.Style.{Style}
-
--- the rendition that a style of the code is
-abbrev pub rendition_of : Style → Rendition
-rendition_of s = s.rendition

@@ -1,0 +1,214 @@
+-- The code of a color or a font is written in parameter bytes, and what is written sets that color or font.
+use Rattle.std.proofs.Common.{◌≡◌, ℕ, suc, ◌+◌, ◌-◌, ◌<◌, ◌≤◌, inl, inr, Bool, true, false, cond, not, ◌&&◌, ◌==◌, nat_eq, nat_lt, List, [], ◌∷◌, ◌++◌, take, drop, length, Some, None, refl, sym, ◌∙◌, ap, ap₂, arith, codes, decimal, IsTrue, length-append, bytes_eq, append_assoc, true≢false}
+use Rattle.std.proofs.lemmas.Bool.{agree_below_at, and_parts, and_from, eqb-true, ltb-true, leb-true, cond-true, or_cases, not-true}
+use Rattle.std.proofs.Math.Seq.{take-append_seam, drop-append_seam}
+use Rattle.std.proofs.lemmas.List.Folds.{list_all-append}
+use Rattle.std.proofs.lemmas.List.Sums.{AllPass-from_list_all}
+use Rattle.std.proofs.lemmas.List.Splits.{slice_split_at, slice_split_none}
+use Rattle.std.specs.Fmt.{digits}
+use Rattle.std.specs.Int.{is_in_range}
+use Rattle.std.specs.List.{list_all, ends_with, All, slice_index_or}
+use Rattle.std.specs.Str.{byte}
+use Rattle.ansi_items.specs.declared.ansitok.AnsiColor.{AnsiColor}
+use Rattle.ansi_items.specs.declared.ansitok.AnsiColor.TheVariants.{Bit4, Bit8, Bit24}
+use Rattle.ansi_items.specs.Bytes.{is_parameter_byte}
+use Rattle.ansi_items.specs.Sequences.{sgr_parameters}
+use Rattle.ansi_style.specs.Rendition.{Rendition, is_extended_color, is_foreground, is_background}
+use Rattle.ansi_style.specs.Sgr.{color_number, fields_of, effect_of, ReadsColor, apply, perform}
+use Rattle.ansi_style.specs.Written.{color_code, written}
+use Rattle.ansi_style.proofs.CodeLemmas.{HoldsFrom, holds_in_range}
+use Rattle.ansi_style.proofs.StateLemmas.{apply-parameters, after_fields, after_fields-step}
+
+-- What tests of ranges say.
+
+pub in_range : (lo hi c : ℕ) → is_in_range lo hi c ≡ true → (lo ≤ c) × (c ≤ hi)
+in_range lo hi c h =
+    let both = and_parts _ _ h in
+    (leb-true lo c both.0, leb-true c hi both.1)
+
+three_small : (r g b : ℕ) → (nat_lt r 256 && (nat_lt g 256 && nat_lt b 256)) ≡ true → (r < 256) × (g < 256) × (b < 256)
+three_small r g b h =
+    let both = and_parts _ _ h in
+    let more = and_parts _ _ both.1 in
+    (ltb-true r 256 both.0, ltb-true g 256 more.0, ltb-true b 256 more.1)
+
+-- The bytes of a number.
+
+-- a parameter byte that ends no field
+abbrev is_field_byte : ℕ → Bool
+is_field_byte b = is_parameter_byte b && not (b == byte ";")
+
+-- numbers of at most 255, by computation
+field_bytes-decimal : (n : ℕ) → n < 256 → list_all is_field_byte (decimal n) ≡ true
+unfolding digits
+field_bytes-decimal n small = agree_below_at (λ n. list_all is_field_byte (decimal n)) (λ _. true) 256 n refl small
+
+color_number-decimal : (n : ℕ) → n < 256 → color_number (decimal n) ≡ n
+unfolding digits
+color_number-decimal n small = eqb-true (color_number (decimal n)) n (agree_below_at (λ n. color_number (decimal n) == n) (λ _. true) 256 n refl small)
+
+parameter_bytes : (d : List ℕ) → list_all is_field_byte d ≡ true → list_all is_parameter_byte d ≡ true
+parameter_bytes [] all = refl
+parameter_bytes (b ∷ d) all =
+    let both = and_parts (is_field_byte b) (list_all is_field_byte d) all in
+    and_from _ _ (and_parts (is_parameter_byte b) (not (b == byte ";")) both.0).0 (parameter_bytes d both.1)
+
+-- parameter bytes, and then a number
+pub parameters-decimal : (front : List ℕ) (n : ℕ) → n < 256 → list_all is_parameter_byte front ≡ true → list_all is_parameter_byte (front ++ decimal n) ≡ true
+parameters-decimal front n small all = list_all-append is_parameter_byte front (decimal n) ∙ and_from _ _ all (parameter_bytes (decimal n) (field_bytes-decimal n small))
+
+parameters-semicolon : (front : List ℕ) → list_all is_parameter_byte front ≡ true → list_all is_parameter_byte (front ++ codes ";") ≡ true
+parameters-semicolon front all = list_all-append is_parameter_byte front (codes ";") ∙ and_from _ _ all refl
+
+-- the numbers of a color are at most 255
+abbrev pub IsByteColor : AnsiColor → Type 0
+IsByteColor (Bit4 n) = n < 256
+IsByteColor (Bit8 n) = n < 256
+IsByteColor (Bit24 r g b) = (r < 256) × (g < 256) × (b < 256)
+
+pub parameters-color_code : (extended : List ℕ) (c : AnsiColor) → list_all is_parameter_byte extended ≡ true → IsByteColor c → list_all is_parameter_byte (color_code extended c) ≡ true
+parameters-color_code extended (Bit4 n) all small = parameters-decimal [] n small refl
+parameters-color_code extended (Bit8 n) all small =
+    parameters-decimal (extended ++ codes ";5;") n small (list_all-append is_parameter_byte extended (codes ";5;") ∙ and_from _ _ all refl)
+parameters-color_code extended (Bit24 r g b) all small =
+    let front = extended ++ codes ";2;" in
+    let red = front ++ decimal r in
+    let green = red ++ codes ";" ++ decimal g in
+    parameters-decimal (green ++ codes ";") b small.2
+    (parameters-semicolon green
+    (parameters-decimal (red ++ codes ";") g small.1
+    (parameters-semicolon red
+    (parameters-decimal front r small.0 (list_all-append is_parameter_byte extended (codes ";2;") ∙ and_from _ _ all refl)))))
+
+-- Fields that semicolons end.
+
+no_semicolon : (d : List ℕ) → list_all is_field_byte d ≡ true → All (λ b. (b == byte ";") ≡ false) d
+no_semicolon d all =
+    λ k x below. (let b = slice_index_or d k x in not-true (b == byte ";") (and_parts (is_parameter_byte b) (not (b == byte ";")) (AllPass-from_list_all is_field_byte d all k x below)).1)
+
+fields_of-one : (d : List ℕ) → list_all is_field_byte d ≡ true → fields_of d ≡ d ∷ []
+fields_of-one d all = slice_split_none (λ b. b == byte ";") d (no_semicolon d all)
+
+fields_of-more : (d rest : List ℕ) → list_all is_field_byte d ≡ true → fields_of (d ++ (byte ";" ∷ rest)) ≡ d ∷ fields_of rest
+fields_of-more d rest all = slice_split_at (λ b. b == byte ";") d (byte ";") rest (no_semicolon d all) refl
+
+fields_of-by_number : (extended : List ℕ) (n : ℕ) → list_all is_field_byte extended ≡ true → n < 256 → fields_of (color_code extended (Bit8 n)) ≡ extended ∷ codes "5" ∷ decimal n ∷ []
+fields_of-by_number extended n all small =
+    ap fields_of (append_assoc extended (codes ";5;") (decimal n)) ∙ fields_of-more extended (codes "5;" ++ decimal n) all
+    ∙ ap (λ fs. extended ∷ codes "5" ∷ fs) (fields_of-one (decimal n) (field_bytes-decimal n small))
+
+fields_of-by_parts : (extended : List ℕ) (r g b : ℕ) → list_all is_field_byte extended ≡ true → r < 256 → g < 256 → b < 256
+    → fields_of (color_code extended (Bit24 r g b)) ≡ extended ∷ codes "2" ∷ decimal r ∷ decimal g ∷ decimal b ∷ []
+fields_of-by_parts extended r g b all hr hg hb =
+    ap fields_of
+    (append_assoc (extended ++ codes ";2;" ++ decimal r ++ codes ";" ++ decimal g) (codes ";") (decimal b)
+    ∙ append_assoc (extended ++ codes ";2;" ++ decimal r ++ codes ";") (decimal g) (byte ";" ∷ decimal b)
+    ∙ append_assoc (extended ++ codes ";2;" ++ decimal r) (codes ";") (decimal g ++ (byte ";" ∷ decimal b))
+    ∙ append_assoc (extended ++ codes ";2;") (decimal r) (byte ";" ∷ (decimal g ++ (byte ";" ∷ decimal b)))
+    ∙ append_assoc extended (codes ";2;") (decimal r ++ (byte ";" ∷ (decimal g ++ (byte ";" ∷ decimal b)))))
+    ∙ fields_of-more extended _ all
+    ∙ ap (λ fs. extended ∷ codes "2" ∷ fs)
+    (fields_of-more (decimal r) _ (field_bytes-decimal r hr)
+    ∙ ap (λ fs. decimal r ∷ fs) (fields_of-more (decimal g) _ (field_bytes-decimal g hg) ∙ ap (λ fs. decimal g ∷ fs) (fields_of-one (decimal b) (field_bytes-decimal b hb))))
+
+-- What is written for a code is an SGR.
+
+pub sgr_parameters-written : (code : List ℕ) → list_all is_parameter_byte code ≡ true → sgr_parameters (written code) ≡ Some code
+sgr_parameters-written code all =
+    let w = written code in
+    let tail : List ℕ = code ++ (byte "m" ∷ []) in
+    let len : length tail ≡ length code + 1 = length-append code (byte "m" ∷ []) in
+    let middle : take (length w - 1 - 2) tail ≡ code
+    = (let count : length w - 1 - 2 ≡ length code = omega (arith, len) in ap (λ n. take n tail) count ∙ take-append_seam code (byte "m" ∷ [])) in
+    let last : ends_with nat_eq w (codes "m") ≡ true
+    = (let count : length w - 1 ≡ suc (suc (length code)) = omega (arith, len) in
+    ap (λ n. bytes_eq (codes "m") (drop n w)) count ∙ ap (bytes_eq (codes "m")) (drop-append_seam code (byte "m" ∷ []))) in
+    ap₂ (λ (e : Bool) (v : List ℕ). cond (true && e && list_all is_parameter_byte v) (Some v) None) last middle
+    ∙ cond-true (list_all is_parameter_byte code) (Some code) None all
+
+-- what an extended color's code does, where the code before it reads a color
+apply-extended : (extended : List ℕ) (put : AnsiColor → Rendition → Rendition) (c : AnsiColor) (p : Rendition)
+    → list_all is_field_byte extended ≡ true → effect_of extended ≡ ReadsColor put → IsTrue (is_extended_color c) → apply p (written (color_code extended c)) ≡ put c p
+apply-extended extended put (Bit4 n) p all reads is = absurd (true≢false (sym is))
+apply-extended extended put (Bit8 n) p all reads is =
+    let small = ltb-true n 256 is in
+    let rest = codes "5" ∷ decimal n ∷ [] in
+    apply-parameters p (written (color_code extended (Bit8 n))) (color_code extended (Bit8 n)) (sgr_parameters-written _ (parameters-color_code extended (Bit8 n) (parameter_bytes extended all) small))
+    ∙ ap (after_fields p) (fields_of-by_number extended n all small) ∙ after_fields-step p extended rest
+    ∙ ap (λ e. after_fields (perform e p rest).0 (perform e p rest).1) reads
+    ∙ ap (λ m. put (Bit8 m) p) (color_number-decimal n small)
+apply-extended extended put (Bit24 r g b) p all reads is =
+    let small = three_small r g b is in
+    let rest = codes "2" ∷ decimal r ∷ decimal g ∷ decimal b ∷ [] in
+    apply-parameters p (written (color_code extended (Bit24 r g b))) (color_code extended (Bit24 r g b)) (sgr_parameters-written _ (parameters-color_code extended (Bit24 r g b) (parameter_bytes extended all) small))
+    ∙ ap (after_fields p) (fields_of-by_parts extended r g b all small.0 small.1 small.2) ∙ after_fields-step p extended rest
+    ∙ ap (λ e. after_fields (perform e p rest).0 (perform e p rest).1) reads
+    ∙ ap (λ x. put (Bit24 x (color_number (decimal g)) (color_number (decimal b))) p) (color_number-decimal r small.0)
+    ∙ ap (λ x. put (Bit24 r x (color_number (decimal b))) p) (color_number-decimal g small.1)
+    ∙ ap (λ x. put (Bit24 r g x) p) (color_number-decimal b small.2)
+
+-- The numbers of colors in their ranges.
+
+pub IsByteColor-extended : (c : AnsiColor) → IsTrue (is_extended_color c) → IsByteColor c
+IsByteColor-extended (Bit4 n) is = absurd (true≢false (sym is))
+IsByteColor-extended (Bit8 n) is = ltb-true n 256 is
+IsByteColor-extended (Bit24 r g b) is = three_small r g b is
+
+pub IsByteColor-foreground : (c : AnsiColor) → IsTrue (is_foreground c) → IsByteColor c
+IsByteColor-foreground (Bit4 n) is = elim (or_cases (is_in_range 30 37 n) (is_in_range 90 97 n) is) [
+  | inl dark ↦ (let bounds = in_range 30 37 n dark in omega (arith, bounds.1))
+  | inr bright ↦ (let bounds = in_range 90 97 n bright in omega (arith, bounds.1))
+]
+IsByteColor-foreground (Bit8 n) is = IsByteColor-extended (Bit8 n) is
+IsByteColor-foreground (Bit24 r g b) is = IsByteColor-extended (Bit24 r g b) is
+
+pub IsByteColor-background : (c : AnsiColor) → IsTrue (is_background c) → IsByteColor c
+IsByteColor-background (Bit4 n) is = elim (or_cases (is_in_range 40 47 n) (is_in_range 100 107 n) is) [
+  | inl dark ↦ (let bounds = in_range 40 47 n dark in omega (arith, bounds.1))
+  | inr bright ↦ (let bounds = in_range 100 107 n bright in omega (arith, bounds.1))
+]
+IsByteColor-background (Bit8 n) is = IsByteColor-extended (Bit8 n) is
+IsByteColor-background (Bit24 r g b) is = IsByteColor-extended (Bit24 r g b) is
+
+-- What is written for a color or a font sets it.
+
+-- the number that is written does this to every style
+abbrev Sets : (ℕ → Rendition → Rendition) → ℕ → Type 0
+Sets put n = (p : Rendition) → apply p (written (decimal n)) ≡ put n p
+
+-- numbers of a range, each by computation
+sets_in_range : (put : ℕ → Rendition → Rendition) (count first last n : ℕ) → HoldsFrom (Sets put) first count → last < first + count → is_in_range first last n ≡ true → Sets put n
+sets_in_range put count first last n all size is =
+    let bounds = in_range first last n is in
+    holds_in_range (Sets put) count first n all bounds.0 (omega (arith, bounds.1, size))
+
+pub apply-font : (n : ℕ) → is_in_range 11 19 n ≡ true → (p : Rendition) → apply p (written (decimal n)) ≡ record p { font = Some n }
+unfolding digits
+apply-font n is =
+    sets_in_range (λ n p. record p { font = Some n }) 9 11 19 n
+    (λ p. refl, (λ p. refl, (λ p. refl, (λ p. refl, (λ p. refl, (λ p. refl, (λ p. refl, (λ p. refl, (λ p. refl, tt))))))))) (omega arith) is
+
+pub apply-foreground : (c : AnsiColor) → IsTrue (is_foreground c) → (p : Rendition) → apply p (written (color_code (codes "38") c)) ≡ record p { foreground = Some c }
+unfolding digits
+apply-foreground (Bit4 n) is p =
+    let set : ℕ → Rendition → Rendition = λ n p. record p { foreground = Some (Bit4 n) } in
+    elim (or_cases (is_in_range 30 37 n) (is_in_range 90 97 n) is) [
+      | inl dark ↦ sets_in_range set 8 30 37 n (λ p. refl, (λ p. refl, (λ p. refl, (λ p. refl, (λ p. refl, (λ p. refl, (λ p. refl, (λ p. refl, tt)))))))) (omega arith) dark p
+      | inr bright ↦ sets_in_range set 8 90 97 n (λ p. refl, (λ p. refl, (λ p. refl, (λ p. refl, (λ p. refl, (λ p. refl, (λ p. refl, (λ p. refl, tt)))))))) (omega arith) bright p
+    ]
+apply-foreground (Bit8 n) is p = apply-extended (codes "38") (λ c s. record s { foreground = Some c }) (Bit8 n) p refl refl is
+apply-foreground (Bit24 r g b) is p = apply-extended (codes "38") (λ c s. record s { foreground = Some c }) (Bit24 r g b) p refl refl is
+
+pub apply-background : (c : AnsiColor) → IsTrue (is_background c) → (p : Rendition) → apply p (written (color_code (codes "48") c)) ≡ record p { background = Some c }
+unfolding digits
+apply-background (Bit4 n) is p =
+    let set : ℕ → Rendition → Rendition = λ n p. record p { background = Some (Bit4 n) } in
+    elim (or_cases (is_in_range 40 47 n) (is_in_range 100 107 n) is) [
+      | inl dark ↦ sets_in_range set 8 40 47 n (λ p. refl, (λ p. refl, (λ p. refl, (λ p. refl, (λ p. refl, (λ p. refl, (λ p. refl, (λ p. refl, tt)))))))) (omega arith) dark p
+      | inr bright ↦ sets_in_range set 8 100 107 n (λ p. refl, (λ p. refl, (λ p. refl, (λ p. refl, (λ p. refl, (λ p. refl, (λ p. refl, (λ p. refl, tt)))))))) (omega arith) bright p
+    ]
+apply-background (Bit8 n) is p = apply-extended (codes "48") (λ c s. record s { background = Some c }) (Bit8 n) p refl refl is
+apply-background (Bit24 r g b) is p = apply-extended (codes "48") (λ c s. record s { background = Some c }) (Bit24 r g b) p refl refl is
+
+pub apply-underline_color : (c : AnsiColor) → IsTrue (is_extended_color c) → (p : Rendition) → apply p (written (color_code (codes "58") c)) ≡ record p { underline_color = Some c }
+apply-underline_color c is p = apply-extended (codes "58") (λ c s. record s { underline_color = Some c }) c p refl refl is

@@ -1,0 +1,16 @@
+pub mod CodeLemmas
+pub mod FieldLemmas
+pub mod StateLemmas
+pub mod WrittenLemmas
+pub mod MarkLemmas
+pub mod SgrLemmas
+pub mod StyleLemmas
+pub mod StyledLemmas
+pub mod SpelledLemmas
+pub mod ColorLemmas
+pub mod ReadBackLemmas
+pub mod StartLemmas
+pub mod CloseLemmas
+pub mod UnsetLemmas
+pub mod DressedLemmas
+mod StyleExamples

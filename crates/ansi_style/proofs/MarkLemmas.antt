@@ -1,0 +1,111 @@
+-- The marks of pieces, one piece at a time, and those up to a place.
+use Rattle.std.proofs.Common.{◌≡◌, ℕ, suc, ◌+◌, ◌-◌, ◌<◌, ◌≤◌, Bool, true, false, List, [], ◌∷◌, length, map, filter_map, Option, refl, ◌∙◌, ap, ap₂, arith, nat_le, if◌then◌else◌, IsFalse}
+use Rattle.std.proofs.lemmas.Bool.{le-leb, lt-leb}
+use Rattle.std.proofs.lemmas.Bool.Decides.{nat_tests}
+use Rattle.ansi_items.specs.Bytes.{escape}
+use Rattle.ansi_items.specs.Pieces.{Piece, Text, Sequence, LoneEscape}
+use Rattle.ansi_items.specs.Plain.{Mark, Placed, mark_of, moved, marks_of, marks, places, up_to, has_escape}
+use Rattle.ansi_style.specs.Rendition.{Rendition}
+use Rattle.ansi_style.specs.Sgr.{apply_all, apply}
+use Rattle.ansi_style.specs.Reading.{after_marks}
+use Rattle.ansi_items.proofs.PlainLemmas.{one_text, pieces_of-bare}
+
+-- n plain bytes more stand before the mark
+abbrev pub further : ℕ → Mark → Mark
+further n m = record m { place = n + m.place }
+
+pub map-further-0 : (ms : List Mark) → map (further 0) ms ≡ ms
+map-further-0 [] = refl
+map-further-0 (m ∷ ms) = ap₂ (λ n ks. record m { place = n } ∷ ks) (omega arith) (map-further-0 ms)
+
+pub map-further-suc : (n : ℕ) (ms : List Mark) → map (further (suc n)) ms ≡ map (further 1) (map (further n) ms)
+map-further-suc n [] = refl
+map-further-suc n (m ∷ ms) = ap₂ (λ k ks. record m { place = k } ∷ ks) (omega arith) (map-further-suc n ms)
+
+abbrev mark_at : Placed → Option Mark
+mark_at p = mark_of p.place p.piece
+
+-- the marks of pieces that stand further on stand further on
+marks-moved : (n : ℕ) (qs : List Placed) → filter_map mark_at (map (moved n) qs) ≡ map (further n) (filter_map mark_at qs)
+marks-moved n [] = refl
+marks-moved n (q ∷ qs) = by_piece q.piece (marks-moved n qs)
+  where
+    by_piece : (p : Piece) → filter_map mark_at (map (moved n) qs) ≡ map (further n) (filter_map mark_at qs)
+        → filter_map mark_at (map (moved n) (record q { piece = p } ∷ qs)) ≡ map (further n) (filter_map mark_at (record q { piece = p } ∷ qs))
+    by_piece (Text w) later = later
+    by_piece (Sequence w) later = ap (λ ms. record { place = n + q.place; bytes = w } ∷ ms) later
+    by_piece LoneEscape later = ap (λ ms. record { place = n + q.place; bytes = escape ∷ [] } ∷ ms) later
+
+pub marks_of-text : (w : List ℕ) (ps : List Piece) → marks_of (Text w ∷ ps) ≡ map (further (length w)) (marks_of ps)
+marks_of-text w ps = marks-moved (length w) (places ps)
+
+pub marks_of-sequence : (w : List ℕ) (ps : List Piece) → marks_of (Sequence w ∷ ps) ≡ record { place = 0; bytes = w } ∷ marks_of ps
+marks_of-sequence w ps = ap (λ ms. record { place = 0; bytes = w } ∷ ms) (marks-moved 0 (places ps) ∙ map-further-0 (marks_of ps))
+
+pub marks_of-lone : (ps : List Piece) → marks_of (LoneEscape ∷ ps) ≡ record { place = 0; bytes = escape ∷ [] } ∷ marks_of ps
+marks_of-lone ps = ap (λ ms. record { place = 0; bytes = escape ∷ [] } ∷ ms) (marks-moved 0 (places ps) ∙ map-further-0 (marks_of ps))
+
+-- a text without ESC has no marks
+pub marks-bare : (t : List ℕ) → IsFalse (has_escape t) → marks t ≡ []
+marks-bare t none = ap marks_of (pieces_of-bare t none) ∙ of_one t
+  where
+    of_one : (x : List ℕ) → marks_of (one_text x) ≡ []
+    of_one [] = refl
+    of_one (b ∷ x) = refl
+
+-- of marks that stand further on than e none is up to e
+pub up_to-none : (e n : ℕ) (ms : List Mark) → e < n → up_to e (map (further n) ms) ≡ []
+up_to-none e n [] below = refl
+up_to-none e n (m ∷ ms) below =
+    let past : nat_le (n + m.place) e ≡ false = lt-leb _ _ (omega arith) in
+    ap (λ b. if b then further n m ∷ up_to e (map (further n) ms) else up_to e (map (further n) ms)) past ∙ up_to-none e n ms below
+
+pub up_to-further : (e n : ℕ) (ms : List Mark) → n ≤ e → up_to e (map (further n) ms) ≡ map (further n) (up_to (e - n) ms)
+up_to-further e n [] within = refl
+up_to-further e n (m ∷ ms) within =
+    let same : nat_le (n + m.place) e ≡ nat_le m.place (e - n) = grind (arith, nat_tests) in
+    ap₂ (λ b ks. if b then further n m ∷ ks else ks) same (up_to-further e n ms within) ∙ either (nat_le m.place (e - n))
+  where
+    either : (b : Bool) → (if b then further n m ∷ map (further n) (up_to (e - n) ms) else map (further n) (up_to (e - n) ms)) ≡ map (further n) (if b then m ∷ up_to (e - n) ms else up_to (e - n) ms)
+    either true = refl
+    either false = refl
+
+pub up_to-here : (e : ℕ) (w : List ℕ) (ms : List Mark) → up_to e (record { place = 0; bytes = w } ∷ ms) ≡ record { place = 0; bytes = w } ∷ up_to e ms
+up_to-here e w ms =
+    let here : nat_le 0 e ≡ true = le-leb 0 e (omega arith) in
+    ap (λ b. if b then record { place = 0; bytes = w } ∷ up_to e ms else up_to e ms) here
+
+-- The style after marks, wherever they stand.
+
+pub bytes-further : (n : ℕ) (ms : List Mark) → map (λ (m : Mark). m.bytes) (map (further n) ms) ≡ map (λ (m : Mark). m.bytes) ms
+bytes-further n [] = refl
+bytes-further n (m ∷ ms) = ap (λ ws. m.bytes ∷ ws) (bytes-further n ms)
+
+pub after_marks-further : (s : Rendition) (n : ℕ) (ms : List Mark) → after_marks s (map (further n) ms) ≡ after_marks s ms
+after_marks-further s n ms = ap (apply_all s) (bytes-further n ms)
+
+-- The style at a place, by the marks of pieces.
+
+abbrev pub style_by_marks : Rendition → List Piece → ℕ → Rendition
+style_by_marks s ps i = after_marks s (up_to i (marks_of ps))
+
+pub style_by_marks-before : (s : Rendition) (w : List ℕ) (ps : List Piece) (i : ℕ) → i < length w → style_by_marks s (Text w ∷ ps) i ≡ s
+style_by_marks-before s w ps i below =
+    ap (λ ms. after_marks s (up_to i ms)) (marks_of-text w ps) ∙ ap (after_marks s) (up_to-none i (length w) (marks_of ps) below)
+
+pub style_by_marks-text : (s : Rendition) (w : List ℕ) (ps : List Piece) (i : ℕ) → style_by_marks s (Text w ∷ ps) (length w + i) ≡ style_by_marks s ps i
+style_by_marks-text s w ps i =
+    let n = length w in
+    let left : n + i - n ≡ i = omega arith in
+    ap (λ ms. after_marks s (up_to (n + i) ms)) (marks_of-text w ps)
+    ∙ ap (after_marks s) (up_to-further (n + i) n (marks_of ps) (omega arith))
+    ∙ after_marks-further s n (up_to (n + i - n) (marks_of ps))
+    ∙ ap (style_by_marks s ps) left
+
+pub style_by_marks-sequence : (s : Rendition) (w : List ℕ) (ps : List Piece) (i : ℕ) → style_by_marks s (Sequence w ∷ ps) i ≡ style_by_marks (apply s w) ps i
+style_by_marks-sequence s w ps i =
+    ap (λ ms. after_marks s (up_to i ms)) (marks_of-sequence w ps) ∙ ap (after_marks s) (up_to-here i w (marks_of ps))
+
+pub style_by_marks-lone : (s : Rendition) (ps : List Piece) (i : ℕ) → style_by_marks s (LoneEscape ∷ ps) i ≡ style_by_marks s ps i
+style_by_marks-lone s ps i =
+    ap (λ ms. after_marks s (up_to i ms)) (marks_of-lone ps) ∙ ap (after_marks s) (up_to-here i (escape ∷ []) (marks_of ps))

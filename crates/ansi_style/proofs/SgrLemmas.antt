@@ -1,0 +1,124 @@
+-- What is known of a style after a sequence depends on what was known before, and on the sequence.
+use Rattle.std.proofs.Common.{◌≡◌, ℕ, zero, suc, List, [], ◌∷◌, length, Option, Some, None, refl, sym, ◌∙◌, ap, find}
+use Rattle.std.proofs.lemmas.Bool.{cond_both}
+use Rattle.std.specs.List.{AllByRecursion}
+use Rattle.std.specs.Option.{option_map_or}
+use Rattle.std.specs.Int.{is_in_range}
+use Rattle.ansi_items.specs.declared.ansitok.AnsiColor.{AnsiColor}
+use Rattle.ansi_items.specs.Sequences.{sgr_parameters}
+use Rattle.ansi_style.specs.Rendition.{Rendition, known}
+use Rattle.ansi_style.specs.Sgr.{Effect, Changes, ReadsColor, Rows, table, rows, unknown_code, effect_of, code_of, effect_of_code, perform, read_color, steps, apply, apply_parameters, fields_of, apply_all}
+
+-- what is known after the effect depends on what was known before
+abbrev KeepsApart : Effect → Type 0
+KeepsApart (Changes f) = (s : Rendition) → known (f s) ≡ known (f (known s))
+KeepsApart (ReadsColor put) = (c : AnsiColor) (s : Rendition) → known (put c s) ≡ known (put c (known s))
+
+-- one row of the table, and those after it
+pub ◌also◌ : {A B : Type 0} → A → B → A × B
+x also y = (x, y)
+
+infixr 30 ◌also◌
+table_keeps_apart : AllByRecursion (λ (r : Rows). (n : ℕ) → KeepsApart (r.effect n)) table
+table_keeps_apart =
+    (λ n s. refl)
+    also (λ n s. refl)
+    also (λ n s. refl)
+    also (λ n s. refl)
+    also (λ n s. refl)
+    also (λ n s. refl)
+    also (λ n s. refl)
+    also (λ n s. refl)
+    also (λ n s. refl)
+    also (λ n s. refl)
+    also (λ n s. refl)
+    also (λ n s. refl)
+    also (λ n s. refl)
+    also (λ n s. refl)
+    also (λ n s. refl)
+    also (λ n s. refl)
+    also (λ n s. refl)
+    also (λ n s. refl)
+    also (λ n s. refl)
+    also (λ n s. refl)
+    also (λ n s. refl)
+    also (λ n s. refl)
+    also (λ n s. refl)
+    also (λ n c s. refl)
+    also (λ n s. refl)
+    also (λ n s. refl)
+    also (λ n c s. refl)
+    also (λ n s. refl)
+    also (λ n s. refl)
+    also (λ n s. refl)
+    also (λ n s. refl)
+    also (λ n s. refl)
+    also (λ n s. refl)
+    also (λ n s. refl)
+    also (λ n c s. refl)
+    also (λ n s. refl)
+    also (λ n s. refl)
+    also (λ n s. refl)
+    also (λ n s. refl)
+    also (λ n s. refl)
+    also (λ n s. refl)
+    also (λ n s. refl)
+    also (λ n s. refl)
+    also (λ n s. refl)
+    also (λ n s. refl)
+    also (λ n s. refl)
+    also (λ n s. refl)
+    also tt
+
+found_keeps_apart : (rows : List Rows) (n : ℕ) → AllByRecursion (λ (r : Rows). (n : ℕ) → KeepsApart (r.effect n)) rows
+    → KeepsApart (option_map_or (λ (r : Rows). r.effect n) (find (λ (r : Rows). is_in_range r.first r.last n) rows) unknown_code)
+found_keeps_apart [] n all = λ s. refl
+found_keeps_apart (r ∷ rows) n all =
+    let P : Option Rows → Type 0 = λ o. KeepsApart (option_map_or (λ (r : Rows). r.effect n) o unknown_code) in
+    cond_both (is_in_range r.first r.last n) (Some r) (find (λ (r : Rows). is_in_range r.first r.last n) rows) P
+    (λ yes. all.0 n)
+    (λ other. found_keeps_apart rows n all.1)
+
+effect_keeps_apart : (field : List ℕ) → KeepsApart (effect_of field)
+effect_keeps_apart field = by_code (code_of field)
+  where
+    by_code : (o : Option ℕ) → KeepsApart (option_map_or effect_of_code o unknown_code)
+    by_code None = λ s. refl
+    by_code (Some n) = found_keeps_apart table n table_keeps_apart
+
+-- where two styles are known alike, so are the styles after the same effect
+perform-known : (e : Effect) (fields : List (List ℕ)) (s t : Rendition) → KeepsApart e → known s ≡ known t → known (perform e s fields).0 ≡ known (perform e t fields).0
+perform-known (Changes f) fields s t apart same = apart s ∙ ap (λ u. known (f u)) same ∙ sym (apart t)
+perform-known (ReadsColor put) fields s t apart same = by_color (read_color fields).0
+  where
+    by_color : (o : Option AnsiColor) → known (option_map_or (λ c. put c s) o s) ≡ known (option_map_or (λ c. put c t) o t)
+    by_color None = same
+    by_color (Some c) = apart c s ∙ ap (λ u. known (put c u)) same ∙ sym (apart c t)
+
+perform-rest : (e : Effect) (fields : List (List ℕ)) (s t : Rendition) → (perform e s fields).1 ≡ (perform e t fields).1
+perform-rest (Changes f) fields s t = refl
+perform-rest (ReadsColor put) fields s t = refl
+
+steps-known : (n : ℕ) (s t : Rendition) (fields : List (List ℕ)) → known s ≡ known t → known (steps n s fields) ≡ known (steps n t fields)
+steps-known zero s t fields same = same
+steps-known (suc n) s t [] same = steps-known n s t [] same
+steps-known (suc n) s t (field ∷ fields) same =
+    let e = effect_of field in
+    steps-known n (perform e s fields).0 (perform e t fields).0 (perform e s fields).1 (perform-known e fields s t (effect_keeps_apart field) same)
+    ∙ ap (λ rest. known (steps n (perform e t fields).0 rest)) (perform-rest e fields s t)
+
+pub apply-known : (s : Rendition) (w : List ℕ) → known (apply s w) ≡ known (apply (known s) w)
+apply-known s w = by_parameters (sgr_parameters w)
+  where
+    by_parameters : (o : Option (List ℕ)) → known (option_map_or (apply_parameters s) o s) ≡ known (option_map_or (apply_parameters (known s)) o (known s))
+    by_parameters None = refl
+    by_parameters (Some parameters) = steps-known (length (fields_of parameters)) s (known s) (fields_of parameters) refl
+
+-- So styles that are known alike stay so.
+
+pub apply-alike : (s t : Rendition) (w : List ℕ) → known s ≡ known t → known (apply s w) ≡ known (apply t w)
+apply-alike s t w same = apply-known s w ∙ ap (λ k. known (apply k w)) same ∙ sym (apply-known t w)
+
+pub apply_all-alike : (s t : Rendition) (ws : List (List ℕ)) → known s ≡ known t → known (apply_all s ws) ≡ known (apply_all t ws)
+apply_all-alike s t [] same = same
+apply_all-alike s t (w ∷ ws) same = apply_all-alike (apply s w) (apply t w) ws (apply-alike s t w same)

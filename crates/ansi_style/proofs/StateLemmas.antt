@@ -1,0 +1,68 @@
+-- The steps of the table, one field after another.
+use Rattle.std.proofs.Common.{◌≡◌, ℕ, zero, suc, ◌≤◌, List, [], ◌∷◌, length, refl, sym, ◌∙◌, ap, arith}
+use Rattle.std.specs.Prelude.{Option, Some}
+use Rattle.std.specs.Option.{option_map_or}
+use Rattle.std.proofs.lemmas.Bool.{cond_both}
+use Rattle.ansi_items.specs.declared.ansitok.AnsiColor.{AnsiColor}
+use Rattle.ansi_style.specs.Rendition.{Rendition}
+use Rattle.ansi_items.specs.Sequences.{sgr_parameters}
+use Rattle.ansi_style.specs.Sgr.{Effect, Changes, ReadsColor, is_code, color_by_parts, color_by_number, read_color, effect_of, perform, step, steps, fields_of, apply_parameters, apply}
+
+-- no more than n fields are left
+abbrev LeavesUpTo : ℕ → Option AnsiColor × List (List ℕ) → Type 0
+LeavesUpTo n read = length read.1 ≤ n
+
+color_by_parts-left : (fields : List (List ℕ)) → LeavesUpTo (length fields) (color_by_parts fields)
+color_by_parts-left [] = omega arith
+color_by_parts-left (r ∷ []) = omega arith
+color_by_parts-left (r ∷ g ∷ []) = omega arith
+color_by_parts-left (r ∷ g ∷ b ∷ fields) = omega arith
+
+color_by_number-left : (fields : List (List ℕ)) → LeavesUpTo (length fields) (color_by_number fields)
+color_by_number-left [] = omega arith
+color_by_number-left (n ∷ fields) = omega arith
+
+read_color-left : (fields : List (List ℕ)) → LeavesUpTo (length fields) (read_color fields)
+read_color-left [] = omega arith
+read_color-left (selector ∷ fields) =
+    cond_both (is_code 2 selector) (color_by_parts fields) _ (LeavesUpTo (suc (length fields)))
+    (λ parts. (let left = color_by_parts-left fields in omega arith))
+    (λ other. cond_both (is_code 5 selector) (color_by_number fields) _ (LeavesUpTo (suc (length fields)))
+    (λ number. (let left = color_by_number-left fields in omega arith))
+    (λ none. omega arith))
+
+perform-left : (e : Effect) (s : Rendition) (fields : List (List ℕ)) → length (perform e s fields).1 ≤ length fields
+perform-left (Changes f) s fields = omega arith
+perform-left (ReadsColor put) s fields = read_color-left fields
+
+-- a step takes a field, and more where it reads a color
+pub step-left : (s : Rendition) (field : List ℕ) (fields : List (List ℕ)) → length (step s (field ∷ fields)).1 ≤ length fields
+step-left s field fields = perform-left (effect_of field) s fields
+
+steps-none : (n : ℕ) (s : Rendition) → steps n s [] ≡ s
+steps-none zero s = refl
+steps-none (suc n) s = steps-none n s
+
+-- no step is missed where there are as many as fields
+steps-enough : (n m : ℕ) (s : Rendition) (fields : List (List ℕ)) → length fields ≤ n → length fields ≤ m → steps n s fields ≡ steps m s fields
+steps-enough n m s [] below_n below_m = steps-none n s ∙ sym (steps-none m s)
+steps-enough zero m s (field ∷ fields) below_n below_m = absurd (omega arith)
+steps-enough (suc n) zero s (field ∷ fields) below_n below_m = absurd (omega arith)
+steps-enough (suc n) (suc m) s (field ∷ fields) below_n below_m =
+    let fewer = step-left s field fields in
+    steps-enough n m (step s (field ∷ fields)).0 (step s (field ∷ fields)).1 (omega arith) (omega arith)
+
+-- the style after all the fields
+abbrev pub after_fields : Rendition → List (List ℕ) → Rendition
+after_fields s fields = steps (length fields) s fields
+
+-- it is that after the fields that the first step leaves
+pub after_fields-step : (s : Rendition) (field : List ℕ) (fields : List (List ℕ))
+    → after_fields s (field ∷ fields) ≡ after_fields (step s (field ∷ fields)).0 (step s (field ∷ fields)).1
+after_fields-step s field fields =
+    let next = step s (field ∷ fields) in
+    steps-enough (length fields) (length next.1) next.0 next.1 (step-left s field fields) (omega arith)
+
+-- an SGR does what its fields do
+pub apply-parameters : (s : Rendition) (w parameters : List ℕ) → sgr_parameters w ≡ Some parameters → apply s w ≡ after_fields s (fields_of parameters)
+apply-parameters s w parameters is = ap (λ o. option_map_or (apply_parameters s) o s) is

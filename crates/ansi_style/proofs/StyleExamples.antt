@@ -1,0 +1,525 @@
+-- Worked examples of the SGR table, of starts and of closes, each by computation.
+use Rattle.std.proofs.Common.{◌≡◌, ℕ, List, [], ◌∷◌, map, refl, codes, true, false, None, Some, length}
+use Rattle.std.specs.List.{range_with_len}
+use Rattle.std.specs.Fmt.{digits}
+use Rattle.ansi_items.specs.declared.ansitok.AnsiColor.TheVariants.{Bit4, Bit8, Bit24}
+use Rattle.ansi_style.specs.Rendition.{Rendition, plain_style, has_any}
+use Rattle.ansi_style.specs.Sgr.{effect_of_code, perform, apply_parameters, apply}
+use Rattle.ansi_style.specs.Written.{start, close}
+
+-- The table.
+
+-- the style after each of n codes from `first` on, before which the style was s; no field follows the code
+abbrev styles_after : Rendition → ℕ → ℕ → List Rendition
+styles_after s first n = map (λ code. (perform (effect_of_code code) s []).0) (range_with_len first n)
+
+-- a style in which everything is set
+abbrev full_style : Rendition
+full_style = record {
+  foreground = Some (Bit24 255 255 255);
+  background = Some (Bit24 255 255 255);
+  underline_color = Some (Bit24 255 255 255);
+  bold = true;
+  faint = true;
+  italic = true;
+  underline = true;
+  double_underline = true;
+  slow_blink = true;
+  rapid_blink = true;
+  inverse = true;
+  hide = true;
+  crossed_out = true;
+  reset = true;
+  framed = true;
+  encircled = true;
+  font = Some 11;
+  fraktur = true;
+  proportional_spacing = true;
+  overlined = true;
+  ideogram_underline = true;
+  ideogram_double_underline = true;
+  ideogram_overline = true;
+  ideogram_double_overline = true;
+  ideogram_stress_marking = true;
+  superscript = true;
+  subscript = true;
+  unknown = true;
+}
+
+-- each code below 30, from the plain style
+from_plain : styles_after plain_style 0 30 ≡
+    record plain_style { reset = true }
+    ∷ record plain_style { bold = true }
+    ∷ record plain_style { faint = true }
+    ∷ record plain_style { italic = true }
+    ∷ record plain_style { underline = true }
+    ∷ record plain_style { slow_blink = true }
+    ∷ record plain_style { rapid_blink = true }
+    ∷ record plain_style { inverse = true }
+    ∷ record plain_style { hide = true }
+    ∷ record plain_style { crossed_out = true }
+    ∷ record plain_style { font = None }
+    ∷ record plain_style { font = Some 11 }
+    ∷ record plain_style { font = Some 12 }
+    ∷ record plain_style { font = Some 13 }
+    ∷ record plain_style { font = Some 14 }
+    ∷ record plain_style { font = Some 15 }
+    ∷ record plain_style { font = Some 16 }
+    ∷ record plain_style { font = Some 17 }
+    ∷ record plain_style { font = Some 18 }
+    ∷ record plain_style { font = Some 19 }
+    ∷ record plain_style { fraktur = true }
+    ∷ record plain_style { double_underline = true }
+    ∷ record plain_style { bold = false; faint = false }
+    ∷ record plain_style { italic = false; fraktur = false }
+    ∷ record plain_style { underline = false; double_underline = false }
+    ∷ record plain_style { slow_blink = false; rapid_blink = false }
+    ∷ record plain_style { proportional_spacing = true }
+    ∷ record plain_style { inverse = false }
+    ∷ record plain_style { hide = false }
+    ∷ record plain_style { crossed_out = false }
+    ∷ []
+from_plain = refl
+
+-- each from 30 to 59
+from_plain_to_59 : styles_after plain_style 30 30 ≡
+    record plain_style { foreground = Some (Bit4 30) }
+    ∷ record plain_style { foreground = Some (Bit4 31) }
+    ∷ record plain_style { foreground = Some (Bit4 32) }
+    ∷ record plain_style { foreground = Some (Bit4 33) }
+    ∷ record plain_style { foreground = Some (Bit4 34) }
+    ∷ record plain_style { foreground = Some (Bit4 35) }
+    ∷ record plain_style { foreground = Some (Bit4 36) }
+    ∷ record plain_style { foreground = Some (Bit4 37) }
+    ∷ plain_style
+    ∷ record plain_style { foreground = None }
+    ∷ record plain_style { background = Some (Bit4 40) }
+    ∷ record plain_style { background = Some (Bit4 41) }
+    ∷ record plain_style { background = Some (Bit4 42) }
+    ∷ record plain_style { background = Some (Bit4 43) }
+    ∷ record plain_style { background = Some (Bit4 44) }
+    ∷ record plain_style { background = Some (Bit4 45) }
+    ∷ record plain_style { background = Some (Bit4 46) }
+    ∷ record plain_style { background = Some (Bit4 47) }
+    ∷ plain_style
+    ∷ record plain_style { background = None }
+    ∷ record plain_style { proportional_spacing = false }
+    ∷ record plain_style { framed = true }
+    ∷ record plain_style { encircled = true }
+    ∷ record plain_style { overlined = true }
+    ∷ record plain_style { framed = false; encircled = false }
+    ∷ record plain_style { overlined = false }
+    ∷ record plain_style { unknown = true }
+    ∷ record plain_style { unknown = true }
+    ∷ plain_style
+    ∷ record plain_style { underline_color = None }
+    ∷ []
+from_plain_to_59 = refl
+
+-- each from 60 to 107
+from_plain_to_107 : styles_after plain_style 60 48 ≡
+    record plain_style { ideogram_underline = true }
+    ∷ record plain_style { ideogram_double_underline = true }
+    ∷ record plain_style { ideogram_overline = true }
+    ∷ record plain_style { ideogram_double_overline = true }
+    ∷ record plain_style { ideogram_stress_marking = true }
+    ∷ record plain_style { ideogram_underline = false; ideogram_double_underline = false; ideogram_overline = false; ideogram_double_overline = false; ideogram_stress_marking = false }
+    ∷ record plain_style { unknown = true }
+    ∷ record plain_style { unknown = true }
+    ∷ record plain_style { unknown = true }
+    ∷ record plain_style { unknown = true }
+    ∷ record plain_style { unknown = true }
+    ∷ record plain_style { unknown = true }
+    ∷ record plain_style { unknown = true }
+    ∷ record plain_style { superscript = true }
+    ∷ record plain_style { subscript = true }
+    ∷ record plain_style { superscript = false; subscript = false }
+    ∷ record plain_style { unknown = true }
+    ∷ record plain_style { unknown = true }
+    ∷ record plain_style { unknown = true }
+    ∷ record plain_style { unknown = true }
+    ∷ record plain_style { unknown = true }
+    ∷ record plain_style { unknown = true }
+    ∷ record plain_style { unknown = true }
+    ∷ record plain_style { unknown = true }
+    ∷ record plain_style { unknown = true }
+    ∷ record plain_style { unknown = true }
+    ∷ record plain_style { unknown = true }
+    ∷ record plain_style { unknown = true }
+    ∷ record plain_style { unknown = true }
+    ∷ record plain_style { unknown = true }
+    ∷ record plain_style { foreground = Some (Bit4 90) }
+    ∷ record plain_style { foreground = Some (Bit4 91) }
+    ∷ record plain_style { foreground = Some (Bit4 92) }
+    ∷ record plain_style { foreground = Some (Bit4 93) }
+    ∷ record plain_style { foreground = Some (Bit4 94) }
+    ∷ record plain_style { foreground = Some (Bit4 95) }
+    ∷ record plain_style { foreground = Some (Bit4 96) }
+    ∷ record plain_style { foreground = Some (Bit4 97) }
+    ∷ record plain_style { unknown = true }
+    ∷ record plain_style { unknown = true }
+    ∷ record plain_style { background = Some (Bit4 100) }
+    ∷ record plain_style { background = Some (Bit4 101) }
+    ∷ record plain_style { background = Some (Bit4 102) }
+    ∷ record plain_style { background = Some (Bit4 103) }
+    ∷ record plain_style { background = Some (Bit4 104) }
+    ∷ record plain_style { background = Some (Bit4 105) }
+    ∷ record plain_style { background = Some (Bit4 106) }
+    ∷ record plain_style { background = Some (Bit4 107) }
+    ∷ []
+from_plain_to_107 = refl
+
+-- each code below 30, from a style in which everything is set
+from_full : styles_after full_style 0 30 ≡
+    record plain_style { reset = true }
+    ∷ record full_style { bold = true }
+    ∷ record full_style { faint = true }
+    ∷ record full_style { italic = true }
+    ∷ record full_style { underline = true }
+    ∷ record full_style { slow_blink = true }
+    ∷ record full_style { rapid_blink = true }
+    ∷ record full_style { inverse = true }
+    ∷ record full_style { hide = true }
+    ∷ record full_style { crossed_out = true }
+    ∷ record full_style { font = None }
+    ∷ record full_style { font = Some 11 }
+    ∷ record full_style { font = Some 12 }
+    ∷ record full_style { font = Some 13 }
+    ∷ record full_style { font = Some 14 }
+    ∷ record full_style { font = Some 15 }
+    ∷ record full_style { font = Some 16 }
+    ∷ record full_style { font = Some 17 }
+    ∷ record full_style { font = Some 18 }
+    ∷ record full_style { font = Some 19 }
+    ∷ record full_style { fraktur = true }
+    ∷ record full_style { double_underline = true }
+    ∷ record full_style { bold = false; faint = false }
+    ∷ record full_style { italic = false; fraktur = false }
+    ∷ record full_style { underline = false; double_underline = false }
+    ∷ record full_style { slow_blink = false; rapid_blink = false }
+    ∷ record full_style { proportional_spacing = true }
+    ∷ record full_style { inverse = false }
+    ∷ record full_style { hide = false }
+    ∷ record full_style { crossed_out = false }
+    ∷ []
+from_full = refl
+
+-- each from 30 to 59
+from_full_to_59 : styles_after full_style 30 30 ≡
+    record full_style { foreground = Some (Bit4 30) }
+    ∷ record full_style { foreground = Some (Bit4 31) }
+    ∷ record full_style { foreground = Some (Bit4 32) }
+    ∷ record full_style { foreground = Some (Bit4 33) }
+    ∷ record full_style { foreground = Some (Bit4 34) }
+    ∷ record full_style { foreground = Some (Bit4 35) }
+    ∷ record full_style { foreground = Some (Bit4 36) }
+    ∷ record full_style { foreground = Some (Bit4 37) }
+    ∷ full_style
+    ∷ record full_style { foreground = None }
+    ∷ record full_style { background = Some (Bit4 40) }
+    ∷ record full_style { background = Some (Bit4 41) }
+    ∷ record full_style { background = Some (Bit4 42) }
+    ∷ record full_style { background = Some (Bit4 43) }
+    ∷ record full_style { background = Some (Bit4 44) }
+    ∷ record full_style { background = Some (Bit4 45) }
+    ∷ record full_style { background = Some (Bit4 46) }
+    ∷ record full_style { background = Some (Bit4 47) }
+    ∷ full_style
+    ∷ record full_style { background = None }
+    ∷ record full_style { proportional_spacing = false }
+    ∷ record full_style { framed = true }
+    ∷ record full_style { encircled = true }
+    ∷ record full_style { overlined = true }
+    ∷ record full_style { framed = false; encircled = false }
+    ∷ record full_style { overlined = false }
+    ∷ record full_style { unknown = true }
+    ∷ record full_style { unknown = true }
+    ∷ full_style
+    ∷ record full_style { underline_color = None }
+    ∷ []
+from_full_to_59 = refl
+
+-- each from 60 to 107
+from_full_to_107 : styles_after full_style 60 48 ≡
+    record full_style { ideogram_underline = true }
+    ∷ record full_style { ideogram_double_underline = true }
+    ∷ record full_style { ideogram_overline = true }
+    ∷ record full_style { ideogram_double_overline = true }
+    ∷ record full_style { ideogram_stress_marking = true }
+    ∷ record full_style { ideogram_underline = false; ideogram_double_underline = false; ideogram_overline = false; ideogram_double_overline = false; ideogram_stress_marking = false }
+    ∷ record full_style { unknown = true }
+    ∷ record full_style { unknown = true }
+    ∷ record full_style { unknown = true }
+    ∷ record full_style { unknown = true }
+    ∷ record full_style { unknown = true }
+    ∷ record full_style { unknown = true }
+    ∷ record full_style { unknown = true }
+    ∷ record full_style { superscript = true }
+    ∷ record full_style { subscript = true }
+    ∷ record full_style { superscript = false; subscript = false }
+    ∷ record full_style { unknown = true }
+    ∷ record full_style { unknown = true }
+    ∷ record full_style { unknown = true }
+    ∷ record full_style { unknown = true }
+    ∷ record full_style { unknown = true }
+    ∷ record full_style { unknown = true }
+    ∷ record full_style { unknown = true }
+    ∷ record full_style { unknown = true }
+    ∷ record full_style { unknown = true }
+    ∷ record full_style { unknown = true }
+    ∷ record full_style { unknown = true }
+    ∷ record full_style { unknown = true }
+    ∷ record full_style { unknown = true }
+    ∷ record full_style { unknown = true }
+    ∷ record full_style { foreground = Some (Bit4 90) }
+    ∷ record full_style { foreground = Some (Bit4 91) }
+    ∷ record full_style { foreground = Some (Bit4 92) }
+    ∷ record full_style { foreground = Some (Bit4 93) }
+    ∷ record full_style { foreground = Some (Bit4 94) }
+    ∷ record full_style { foreground = Some (Bit4 95) }
+    ∷ record full_style { foreground = Some (Bit4 96) }
+    ∷ record full_style { foreground = Some (Bit4 97) }
+    ∷ record full_style { unknown = true }
+    ∷ record full_style { unknown = true }
+    ∷ record full_style { background = Some (Bit4 100) }
+    ∷ record full_style { background = Some (Bit4 101) }
+    ∷ record full_style { background = Some (Bit4 102) }
+    ∷ record full_style { background = Some (Bit4 103) }
+    ∷ record full_style { background = Some (Bit4 104) }
+    ∷ record full_style { background = Some (Bit4 105) }
+    ∷ record full_style { background = Some (Bit4 106) }
+    ∷ record full_style { background = Some (Bit4 107) }
+    ∷ []
+from_full_to_107 = refl
+
+-- each from 108 to 299 is unknown
+beyond_the_table : styles_after plain_style 108 192 ≡ map (λ _. record plain_style { unknown = true }) (range_with_len 108 192)
+beyond_the_table = refl
+
+-- Colors that are read.
+
+bad_selector_then_bold : apply_parameters plain_style (codes "38;7;1") ≡ record plain_style { bold = true }
+bad_selector_then_bold = refl
+
+no_selector : apply_parameters plain_style (codes "38") ≡ plain_style
+no_selector = refl
+
+color_without_number : apply_parameters plain_style (codes "38;5") ≡ plain_style
+color_without_number = refl
+
+color_of_two_numbers : apply_parameters plain_style (codes "38;2;1;2") ≡ plain_style
+color_of_two_numbers = refl
+
+color_number_too_large : apply_parameters plain_style (codes "38;5;300") ≡ record plain_style { foreground = Some (Bit8 0) }
+color_number_too_large = refl
+
+background_with_leading_zeros : apply_parameters plain_style (codes "48;2;023;011;100") ≡ record plain_style { background = Some (Bit24 23 11 100) }
+background_with_leading_zeros = refl
+
+color_number_empty_then_bold : apply_parameters plain_style (codes "38;5;;1") ≡ record plain_style { foreground = Some (Bit8 0); bold = true }
+color_number_empty_then_bold = refl
+
+underline_color_then_underline : apply_parameters plain_style (codes "58;5;255;4") ≡ record plain_style { underline_color = Some (Bit8 255); underline = true }
+underline_color_then_underline = refl
+
+-- Fields that are no codes.
+
+empty_field : apply_parameters plain_style [] ≡ record plain_style { unknown = true }
+empty_field = refl
+
+leading_zero : apply_parameters plain_style (codes "01") ≡ record plain_style { unknown = true }
+leading_zero = refl
+
+selector_with_leading_zero : apply_parameters plain_style (codes "38;05;1") ≡ record plain_style { bold = true }
+selector_with_leading_zero = refl
+
+colons : apply_parameters plain_style (codes "38:5:1") ≡ record plain_style { unknown = true }
+colons = refl
+
+private_parameters : apply_parameters plain_style (codes ">4;2") ≡ record plain_style { unknown = true; faint = true }
+private_parameters = refl
+
+number_past_255 : apply_parameters plain_style (codes "257") ≡ record plain_style { unknown = true }
+number_past_255 = refl
+
+-- The attributes `reset` and `unknown`.
+
+bold_then_reset : apply_parameters plain_style (codes "1;0") ≡ record plain_style { reset = true }
+bold_then_reset = refl
+
+unknown_then_reset : apply_parameters plain_style (codes "99;0") ≡ record plain_style { reset = true }
+unknown_then_reset = refl
+
+reset_then_unknown : apply_parameters plain_style (codes "0;99") ≡ record plain_style { reset = true; unknown = true }
+reset_then_unknown = refl
+
+-- a style with a known part has something to end, and so has one with both of these attributes
+which_have_any : map has_any (plain_style
+    ∷ record plain_style { bold = true }
+    ∷ record plain_style { font = Some 12 }
+    ∷ record plain_style { foreground = Some (Bit8 0) }
+    ∷ record plain_style { background = Some (Bit24 23 11 100) }
+    ∷ record plain_style { reset = true }
+    ∷ record plain_style { unknown = true }
+    ∷ record plain_style { reset = true; unknown = true }
+    ∷ [])
+    ≡ false ∷ true ∷ true ∷ true ∷ true ∷ false ∷ false ∷ true ∷ []
+which_have_any = refl
+
+-- Sequences.
+
+other_sequence : apply plain_style (codes "\u{1b}[1 m") ≡ plain_style
+other_sequence = refl
+
+sgr : apply plain_style (codes "\u{1b}[1;31m") ≡ record plain_style { bold = true; foreground = Some (Bit4 31) }
+sgr = refl
+
+-- Starts and closes.
+
+full_start : start full_style ≡ codes "\u{1b}[1m\u{1b}[2m\u{1b}[3m\u{1b}[4m\u{1b}[5m\u{1b}[6m\u{1b}[7m\u{1b}[8m\u{1b}[9m\u{1b}[11m\u{1b}[20m\u{1b}[21m\u{1b}[26m\u{1b}[38;2;255;255;255m\u{1b}[48;2;255;255;255m\u{1b}[58;2;255;255;255m\u{1b}[51m\u{1b}[52m\u{1b}[53m\u{1b}[60m\u{1b}[61m\u{1b}[62m\u{1b}[63m\u{1b}[64m\u{1b}[73m\u{1b}[74m"
+unfolding digits
+full_start = refl
+
+full_close : close full_style ≡ codes "\u{1b}[0m\u{1b}[10m\u{1b}[22m\u{1b}[23m\u{1b}[24m\u{1b}[25m\u{1b}[27m\u{1b}[28m\u{1b}[29m\u{1b}[39m\u{1b}[49m\u{1b}[50m\u{1b}[54m\u{1b}[55m\u{1b}[65m\u{1b}[59m\u{1b}[75m\u{1b}[0m"
+full_close = refl
+
+-- 9 codes of 4 bytes, 14 of 5 and three colors of 19
+longest_start : length (start full_style) ≡ 163
+unfolding digits
+longest_start = refl
+
+-- 16 codes of 5 bytes and two of 4
+longest_close : length (close full_style) ≡ 88
+longest_close = refl
+
+-- the styles in which one attribute is set, in the order of their codes
+abbrev single_styles : List Rendition
+single_styles =
+    record plain_style { bold = true }
+    ∷ record plain_style { faint = true }
+    ∷ record plain_style { italic = true }
+    ∷ record plain_style { underline = true }
+    ∷ record plain_style { slow_blink = true }
+    ∷ record plain_style { rapid_blink = true }
+    ∷ record plain_style { inverse = true }
+    ∷ record plain_style { hide = true }
+    ∷ record plain_style { crossed_out = true }
+    ∷ record plain_style { fraktur = true }
+    ∷ record plain_style { double_underline = true }
+    ∷ record plain_style { proportional_spacing = true }
+    ∷ record plain_style { framed = true }
+    ∷ record plain_style { encircled = true }
+    ∷ record plain_style { overlined = true }
+    ∷ record plain_style { ideogram_underline = true }
+    ∷ record plain_style { ideogram_double_underline = true }
+    ∷ record plain_style { ideogram_overline = true }
+    ∷ record plain_style { ideogram_double_overline = true }
+    ∷ record plain_style { ideogram_stress_marking = true }
+    ∷ record plain_style { superscript = true }
+    ∷ record plain_style { subscript = true }
+    ∷ []
+
+start_of_each : map start single_styles ≡
+    codes "\u{1b}[1m"
+    ∷ codes "\u{1b}[2m"
+    ∷ codes "\u{1b}[3m"
+    ∷ codes "\u{1b}[4m"
+    ∷ codes "\u{1b}[5m"
+    ∷ codes "\u{1b}[6m"
+    ∷ codes "\u{1b}[7m"
+    ∷ codes "\u{1b}[8m"
+    ∷ codes "\u{1b}[9m"
+    ∷ codes "\u{1b}[20m"
+    ∷ codes "\u{1b}[21m"
+    ∷ codes "\u{1b}[26m"
+    ∷ codes "\u{1b}[51m"
+    ∷ codes "\u{1b}[52m"
+    ∷ codes "\u{1b}[53m"
+    ∷ codes "\u{1b}[60m"
+    ∷ codes "\u{1b}[61m"
+    ∷ codes "\u{1b}[62m"
+    ∷ codes "\u{1b}[63m"
+    ∷ codes "\u{1b}[64m"
+    ∷ codes "\u{1b}[73m"
+    ∷ codes "\u{1b}[74m"
+    ∷ []
+start_of_each = refl
+
+close_of_each : map close single_styles ≡
+    codes "\u{1b}[22m"
+    ∷ codes "\u{1b}[22m"
+    ∷ codes "\u{1b}[23m"
+    ∷ codes "\u{1b}[24m"
+    ∷ codes "\u{1b}[25m"
+    ∷ codes "\u{1b}[25m"
+    ∷ codes "\u{1b}[27m"
+    ∷ codes "\u{1b}[28m"
+    ∷ codes "\u{1b}[29m"
+    ∷ codes "\u{1b}[23m"
+    ∷ codes "\u{1b}[24m"
+    ∷ codes "\u{1b}[50m"
+    ∷ codes "\u{1b}[54m"
+    ∷ codes "\u{1b}[54m"
+    ∷ codes "\u{1b}[55m"
+    ∷ codes "\u{1b}[65m"
+    ∷ codes "\u{1b}[65m"
+    ∷ codes "\u{1b}[65m"
+    ∷ codes "\u{1b}[65m"
+    ∷ codes "\u{1b}[65m"
+    ∷ codes "\u{1b}[75m"
+    ∷ codes "\u{1b}[75m"
+    ∷ []
+close_of_each = refl
+
+-- the styles in which one color or the font is set
+abbrev colored_styles : List Rendition
+colored_styles =
+    record plain_style { font = Some 19 }
+    ∷ record plain_style { foreground = Some (Bit4 97) }
+    ∷ record plain_style { foreground = Some (Bit8 7) }
+    ∷ record plain_style { foreground = Some (Bit24 1 20 255) }
+    ∷ record plain_style { background = Some (Bit4 107) }
+    ∷ record plain_style { background = Some (Bit8 7) }
+    ∷ record plain_style { background = Some (Bit24 1 20 255) }
+    ∷ record plain_style { underline_color = Some (Bit8 7) }
+    ∷ record plain_style { underline_color = Some (Bit24 1 20 255) }
+    ∷ []
+
+start_of_each_color : map start colored_styles ≡
+    codes "\u{1b}[19m"
+    ∷ codes "\u{1b}[97m"
+    ∷ codes "\u{1b}[38;5;7m"
+    ∷ codes "\u{1b}[38;2;1;20;255m"
+    ∷ codes "\u{1b}[107m"
+    ∷ codes "\u{1b}[48;5;7m"
+    ∷ codes "\u{1b}[48;2;1;20;255m"
+    ∷ codes "\u{1b}[58;5;7m"
+    ∷ codes "\u{1b}[58;2;1;20;255m"
+    ∷ []
+unfolding digits
+start_of_each_color = refl
+
+close_of_each_color : map close colored_styles ≡
+    codes "\u{1b}[10m"
+    ∷ codes "\u{1b}[39m"
+    ∷ codes "\u{1b}[39m"
+    ∷ codes "\u{1b}[39m"
+    ∷ codes "\u{1b}[49m"
+    ∷ codes "\u{1b}[49m"
+    ∷ codes "\u{1b}[49m"
+    ∷ codes "\u{1b}[59m"
+    ∷ codes "\u{1b}[59m"
+    ∷ []
+close_of_each_color = refl
+
+unread_attributes_have_no_start : start (record plain_style { reset = true; unknown = true }) ≡ []
+unread_attributes_have_no_start = refl
+
+reset_alone_closes_nothing : close (record plain_style { reset = true }) ≡ []
+reset_alone_closes_nothing = refl
+
+unknown_alone_is_closed : close (record plain_style { unknown = true }) ≡ codes "\u{1b}[0m"
+unknown_alone_is_closed = refl
+
+reset_and_unknown_are_closed_twice : close (record plain_style { reset = true; unknown = true }) ≡ codes "\u{1b}[0m\u{1b}[0m"
+reset_and_unknown_are_closed_twice = refl

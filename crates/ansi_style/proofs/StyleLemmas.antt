@@ -1,0 +1,191 @@
+-- Sequences make styles of styles: each color and font that they select is in its range.
+use Rattle.std.proofs.Common.{◌≡◌, ℕ, zero, suc, ◌≤◌, true, ◌&&◌, List, [], ◌∷◌, length, Option, Some, None, refl, sym, find, IsTrue, IfSome, nat_le, nat_lt, arith, map, true≢false}
+use Rattle.std.proofs.lemmas.Bool.{cond_both, and_parts, and_from, leb-true, lt-ltb, or_left, or_right}
+use Rattle.std.specs.Prelude.{unwrap_or}
+use Rattle.std.specs.List.{AllByRecursion}
+use Rattle.std.specs.Option.{option_map_or}
+use Rattle.std.specs.Int.{is_in_range}
+use Rattle.std.specs.Str.{all_ascii_digits}
+use Rattle.std.specs.Str.Parse.{digits_value}
+use Rattle.ansi_items.specs.declared.ansitok.AnsiColor.{AnsiColor}
+use Rattle.ansi_items.specs.declared.ansitok.AnsiColor.TheVariants.{Bit4, Bit8, Bit24}
+use Rattle.ansi_items.specs.Sequences.{sgr_parameters}
+use Rattle.ansi_items.specs.Plain.{Mark, marks, up_to}
+use Rattle.ansi_style.specs.Rendition.{Rendition, is_foreground, is_background, is_extended_color, IsStyle, plain_style, known}
+use Rattle.ansi_style.specs.Sgr.{Effect, Changes, ReadsColor, Rows, table, rows, unknown_code, effect_of, code_of, effect_of_code, color_number, color_by_parts, color_by_number, read_color, is_code, perform, steps, step, apply, apply_parameters, fields_of, apply_all}
+use Rattle.ansi_style.specs.Styled.{style_at, style_after}
+use Rattle.ansi_style.proofs.SgrLemmas.{◌also◌}
+use Rattle.ansi_style.specs.Reading.{style_after_from}
+
+-- the ranges, field by field
+abbrev HasRanges : Rendition → Type 0
+HasRanges s = IfSome s.foreground (λ c. IsTrue (is_foreground c)) × IfSome s.background (λ c. IsTrue (is_background c))
+    × IfSome s.underline_color (λ c. IsTrue (is_extended_color c)) × IfSome s.font (λ n. IsTrue (is_in_range 11 19 n))
+
+has_ranges : (s : Rendition) → IsStyle s → HasRanges s
+has_ranges s is = (is.foreground, is.background, is.underline_color, is.font)
+
+is_style : (s : Rendition) → HasRanges s → IsStyle s
+is_style s has = record { foreground = has.0; background = has.1; underline_color = has.2; font = has.3 }
+
+-- the effect makes styles of styles
+abbrev KeepsRanges : Effect → Type 0
+KeepsRanges (Changes f) = (s : Rendition) → HasRanges s → HasRanges (f s)
+KeepsRanges (ReadsColor put) = (c : AnsiColor) (s : Rendition) → IsTrue (is_extended_color c) → HasRanges s → HasRanges (put c s)
+
+-- the codes of a row are in its range
+abbrev RowKeepsRanges : Rows → Type 0
+RowKeepsRanges r = (n : ℕ) → is_in_range r.first r.last n ≡ true → KeepsRanges (r.effect n)
+
+extended_is_foreground : (c : AnsiColor) → IsTrue (is_extended_color c) → IsTrue (is_foreground c)
+extended_is_foreground (Bit4 n) is = absurd (true≢false (sym is))
+extended_is_foreground (Bit8 n) is = is
+extended_is_foreground (Bit24 r g b) is = is
+
+extended_is_background : (c : AnsiColor) → IsTrue (is_extended_color c) → IsTrue (is_background c)
+extended_is_background (Bit4 n) is = absurd (true≢false (sym is))
+extended_is_background (Bit8 n) is = is
+extended_is_background (Bit24 r g b) is = is
+
+table_keeps_ranges : AllByRecursion RowKeepsRanges table
+table_keeps_ranges =
+    (λ n h s is. (tt, tt, tt, tt))
+    also (λ n h s is. is)
+    also (λ n h s is. is)
+    also (λ n h s is. is)
+    also (λ n h s is. is)
+    also (λ n h s is. is)
+    also (λ n h s is. is)
+    also (λ n h s is. is)
+    also (λ n h s is. is)
+    also (λ n h s is. is)
+    also (λ n h s is. (is.0, is.1, is.2, tt))
+    also (λ n h s is. (is.0, is.1, is.2, h))
+    also (λ n h s is. is)
+    also (λ n h s is. is)
+    also (λ n h s is. is)
+    also (λ n h s is. is)
+    also (λ n h s is. is)
+    also (λ n h s is. is)
+    also (λ n h s is. is)
+    also (λ n h s is. is)
+    also (λ n h s is. is)
+    also (λ n h s is. is)
+    also (λ n h s is. (or_left (is_in_range 30 37 n) (is_in_range 90 97 n) h, is.1, is.2, is.3))
+    also (λ n h c s e is. (extended_is_foreground c e, is.1, is.2, is.3))
+    also (λ n h s is. (tt, is.1, is.2, is.3))
+    also (λ n h s is. (is.0, or_left (is_in_range 40 47 n) (is_in_range 100 107 n) h, is.2, is.3))
+    also (λ n h c s e is. (is.0, extended_is_background c e, is.2, is.3))
+    also (λ n h s is. (is.0, tt, is.2, is.3))
+    also (λ n h s is. is)
+    also (λ n h s is. is)
+    also (λ n h s is. is)
+    also (λ n h s is. is)
+    also (λ n h s is. is)
+    also (λ n h s is. is)
+    also (λ n h c s e is. (is.0, is.1, e, is.3))
+    also (λ n h s is. (is.0, is.1, tt, is.3))
+    also (λ n h s is. is)
+    also (λ n h s is. is)
+    also (λ n h s is. is)
+    also (λ n h s is. is)
+    also (λ n h s is. is)
+    also (λ n h s is. is)
+    also (λ n h s is. is)
+    also (λ n h s is. is)
+    also (λ n h s is. is)
+    also (λ n h s is. (or_right (is_in_range 30 37 n) (is_in_range 90 97 n) h, is.1, is.2, is.3))
+    also (λ n h s is. (is.0, or_right (is_in_range 40 47 n) (is_in_range 100 107 n) h, is.2, is.3))
+    also tt
+
+found_keeps_ranges : (rows : List Rows) (n : ℕ) → AllByRecursion RowKeepsRanges rows
+    → KeepsRanges (option_map_or (λ (r : Rows). r.effect n) (find (λ (r : Rows). is_in_range r.first r.last n) rows) unknown_code)
+found_keeps_ranges [] n all = λ s is. is
+found_keeps_ranges (r ∷ rows) n all =
+    let P : Option Rows → Type 0 = λ o. KeepsRanges (option_map_or (λ (r : Rows). r.effect n) o unknown_code) in
+    cond_both (is_in_range r.first r.last n) (Some r) (find (λ (r : Rows). is_in_range r.first r.last n) rows) P
+    (λ within. all.0 n within)
+    (λ other. found_keeps_ranges rows n all.1)
+
+effect_keeps_ranges : (field : List ℕ) → KeepsRanges (effect_of field)
+effect_keeps_ranges field = by_code (code_of field)
+  where
+    by_code : (o : Option ℕ) → KeepsRanges (option_map_or effect_of_code o unknown_code)
+    by_code None = λ s is. is
+    by_code (Some n) = found_keeps_ranges table n table_keeps_ranges
+
+-- a number of a color is at most 255
+color_number_is_byte : (field : List ℕ) → nat_lt (color_number field) 256 ≡ true
+color_number_is_byte field =
+    let P : Option ℕ → Type 0 = λ o. nat_lt (unwrap_or o 0) 256 ≡ true in
+    cond_both (nat_lt 0 (length field) && (all_ascii_digits field && nat_le (digits_value 10 field) 255)) (Some (digits_value 10 field)) None P
+    (λ is. (let small : digits_value 10 field ≤ 255 = leb-true (digits_value 10 field) 255 (and_parts (all_ascii_digits field) (nat_le (digits_value 10 field) 255) (and_parts (nat_lt 0 (length field)) _ is).1).1 in
+    lt-ltb (digits_value 10 field) 256 (omega (arith, small))))
+    (λ other. refl)
+
+abbrev ReadsExtended : Option AnsiColor × List (List ℕ) → Type 0
+ReadsExtended read = IfSome read.0 (λ c. IsTrue (is_extended_color c))
+
+color_by_parts_is_extended : (fields : List (List ℕ)) → ReadsExtended (color_by_parts fields)
+color_by_parts_is_extended [] = tt
+color_by_parts_is_extended (r ∷ []) = tt
+color_by_parts_is_extended (r ∷ g ∷ []) = tt
+color_by_parts_is_extended (r ∷ g ∷ b ∷ fields) =
+    and_from _ _ (color_number_is_byte r) (and_from _ _ (color_number_is_byte g) (color_number_is_byte b))
+
+color_by_number_is_extended : (fields : List (List ℕ)) → ReadsExtended (color_by_number fields)
+color_by_number_is_extended [] = tt
+color_by_number_is_extended (n ∷ fields) = color_number_is_byte n
+
+read_color_is_extended : (fields : List (List ℕ)) → ReadsExtended (read_color fields)
+read_color_is_extended [] = tt
+read_color_is_extended (selector ∷ fields) =
+    cond_both (is_code 2 selector) (color_by_parts fields) _ ReadsExtended
+    (λ parts. color_by_parts_is_extended fields)
+    (λ other. cond_both (is_code 5 selector) (color_by_number fields) _ ReadsExtended (λ number. color_by_number_is_extended fields) (λ none. tt))
+
+perform_keeps_ranges : (e : Effect) (s : Rendition) (fields : List (List ℕ)) → KeepsRanges e → HasRanges s → HasRanges (perform e s fields).0
+perform_keeps_ranges (Changes f) s fields keeps is = keeps s is
+perform_keeps_ranges (ReadsColor put) s fields keeps is = by_color (read_color fields).0 (read_color_is_extended fields)
+  where
+    by_color : (o : Option AnsiColor) → IfSome o (λ c. IsTrue (is_extended_color c)) → HasRanges (option_map_or (λ c. put c s) o s)
+    by_color None read = is
+    by_color (Some c) read = keeps c s read is
+
+steps_keep_ranges : (n : ℕ) (s : Rendition) (fields : List (List ℕ)) → HasRanges s → HasRanges (steps n s fields)
+steps_keep_ranges zero s fields is = is
+steps_keep_ranges (suc n) s [] is = steps_keep_ranges n s [] is
+steps_keep_ranges (suc n) s (field ∷ fields) is =
+    let next = step s (field ∷ fields) in
+    steps_keep_ranges n next.0 next.1 (perform_keeps_ranges (effect_of field) s fields (effect_keeps_ranges field) is)
+
+apply_keeps_ranges : (s : Rendition) (w : List ℕ) → HasRanges s → HasRanges (apply s w)
+apply_keeps_ranges s w is = by_parameters (sgr_parameters w)
+  where
+    by_parameters : (o : Option (List ℕ)) → HasRanges (option_map_or (apply_parameters s) o s)
+    by_parameters None = is
+    by_parameters (Some parameters) = steps_keep_ranges (length (fields_of parameters)) s (fields_of parameters) is
+
+-- Each style that is read is a style.
+
+pub IsStyle-apply : (s : Rendition) (w : List ℕ) → IsStyle s → IsStyle (apply s w)
+IsStyle-apply s w is = is_style (apply s w) (apply_keeps_ranges s w (has_ranges s is))
+
+pub IsStyle-apply_all : (s : Rendition) (ws : List (List ℕ)) → IsStyle s → IsStyle (apply_all s ws)
+IsStyle-apply_all s [] is = is
+IsStyle-apply_all s (w ∷ ws) is = IsStyle-apply_all (apply s w) ws (IsStyle-apply s w is)
+
+pub IsStyle-plain_style : IsStyle plain_style
+IsStyle-plain_style = is_style plain_style (tt, tt, tt, tt)
+
+pub IsStyle-known : (s : Rendition) → IsStyle s → IsStyle (known s)
+IsStyle-known s is = is_style (known s) (has_ranges s is)
+
+pub IsStyle-style_after_from : (s : Rendition) (t : List ℕ) → IsStyle s → IsStyle (style_after_from s t)
+IsStyle-style_after_from s t is = IsStyle-apply_all s (map (λ (m : Mark). m.bytes) (marks t)) is
+
+pub IsStyle-style_at : (t : List ℕ) (i : ℕ) → IsStyle (style_at t i)
+IsStyle-style_at t i = IsStyle-apply_all plain_style (map (λ (m : Mark). m.bytes) (up_to i (marks t))) IsStyle-plain_style
+
+pub IsStyle-style_after : (t : List ℕ) → IsStyle (style_after t)
+IsStyle-style_after t = IsStyle-style_after_from plain_style t IsStyle-plain_style

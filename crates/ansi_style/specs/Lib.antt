@@ -1,0 +1,12 @@
+pub use Rattle.ansi_items.specs.Bytes
+pub use Rattle.ansi_items.specs.Sequences
+pub use Rattle.ansi_items.specs.Pieces
+pub use Rattle.ansi_items.specs.Plain
+pub use Rattle.ansi_items.specs.Scans
+pub mod Rendition
+pub mod Sgr
+pub mod Written
+pub mod Colors
+pub mod Styled
+pub mod Reading
+pub mod States

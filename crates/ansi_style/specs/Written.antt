@@ -1,0 +1,97 @@
+-- The sequences that are written to set a style, its start, and to end it, its close.
+use Rattle.std.specs.Prelude.{ℕ, Bool, ◌&&◌, ◌||◌, List, [], ◌∷◌, ◌++◌, Option, Some, None, is_some, if◌then◌else◌, codes, decimal, flat_map}
+use Rattle.ansi_items.specs.declared.ansitok.AnsiColor.{AnsiColor}
+use Rattle.ansi_items.specs.declared.ansitok.AnsiColor.TheVariants.{Bit4, Bit8, Bit24}
+use Rattle.ansi_style.specs.Rendition.{Rendition, has_any, has_ideogram_attribute}
+
+-- each code is written in an SGR of its own (the Rust crate)
+abbrev pub written : List ℕ → List ℕ
+written code = codes "\u{1b}[" ++ code ++ codes "m"
+
+-- codes in a row, each in a sequence of its own
+abbrev pub written_all : List (List ℕ) → List ℕ
+written_all all = flat_map written all
+
+-- a code, where it is called for
+abbrev pub when : Bool → List ℕ → List (List ℕ)
+when b code = if b then code ∷ [] else []
+
+-- the code of a color; `extended` is the code before those beyond the sixteen
+abbrev pub color_code : List ℕ → AnsiColor → List ℕ
+color_code extended (Bit4 n) = decimal n
+color_code extended (Bit8 n) = extended ++ codes ";5;" ++ decimal n
+color_code extended (Bit24 r g b) = extended ++ codes ";2;" ++ decimal r ++ codes ";" ++ decimal g ++ codes ";" ++ decimal b
+
+-- the code of a color, where there is one
+abbrev pub color_codes : List ℕ → Option AnsiColor → List (List ℕ)
+color_codes extended None = []
+color_codes extended (Some c) = color_code extended c ∷ []
+
+-- the code of a font, where there is one
+abbrev pub font_codes : Option ℕ → List (List ℕ)
+font_codes None = []
+font_codes (Some n) = decimal n ∷ []
+
+-- the codes that set a style, in the order in which they are written (the Rust crate)
+abbrev pub start_codes : Rendition → List (List ℕ)
+start_codes s =
+    when s.bold (codes "1")
+    ++ when s.faint (codes "2")
+    ++ when s.italic (codes "3")
+    ++ when s.underline (codes "4")
+    ++ when s.slow_blink (codes "5")
+    ++ when s.rapid_blink (codes "6")
+    ++ when s.inverse (codes "7")
+    ++ when s.hide (codes "8")
+    ++ when s.crossed_out (codes "9")
+    ++ font_codes s.font
+    ++ when s.fraktur (codes "20")
+    ++ when s.double_underline (codes "21")
+    ++ when s.proportional_spacing (codes "26")
+    ++ color_codes (codes "38") s.foreground
+    ++ color_codes (codes "48") s.background
+    ++ color_codes (codes "58") s.underline_color
+    ++ when s.framed (codes "51")
+    ++ when s.encircled (codes "52")
+    ++ when s.overlined (codes "53")
+    ++ when s.ideogram_underline (codes "60")
+    ++ when s.ideogram_double_underline (codes "61")
+    ++ when s.ideogram_overline (codes "62")
+    ++ when s.ideogram_double_overline (codes "63")
+    ++ when s.ideogram_stress_marking (codes "64")
+    ++ when s.superscript (codes "73")
+    ++ when s.subscript (codes "74")
+
+-- the codes that end a style, in the order in which they are written (the Rust crate)
+abbrev pub close_codes : Rendition → List (List ℕ)
+close_codes s =
+    when (s.unknown && s.reset) (codes "0")
+    ++ when (is_some s.font) (codes "10")
+    ++ when (s.bold || s.faint) (codes "22")
+    ++ when (s.italic || s.fraktur) (codes "23")
+    ++ when (s.underline || s.double_underline) (codes "24")
+    ++ when (s.slow_blink || s.rapid_blink) (codes "25")
+    ++ when s.inverse (codes "27")
+    ++ when s.hide (codes "28")
+    ++ when s.crossed_out (codes "29")
+    ++ when (is_some s.foreground) (codes "39")
+    ++ when (is_some s.background) (codes "49")
+    ++ when s.proportional_spacing (codes "50")
+    ++ when (s.framed || s.encircled) (codes "54")
+    ++ when s.overlined (codes "55")
+    ++ when (has_ideogram_attribute s) (codes "65")
+    ++ when (is_some s.underline_color) (codes "59")
+    ++ when (s.superscript || s.subscript) (codes "75")
+    ++ when s.unknown (codes "0")
+
+-- the start of a style: the bytes that set it
+abbrev pub start : Rendition → List ℕ
+start s = written_all (start_codes s)
+
+-- the close of a style: the bytes that end it
+abbrev pub close : Rendition → List ℕ
+close s = written_all (close_codes s)
+
+-- the close of a style in which anything is set that a reader could see, else nothing (the Rust crate)
+abbrev pub close_if_any : Rendition → List ℕ
+close_if_any s = if has_any s then close s else []

@@ -1,0 +1,8 @@
+//! The style of a text: what SGRs do to it, the sequences that set and end it, and what callers see of it.
+#![tactic(auto)]
+
+pub mod state;
+mod style;
+pub mod styles;
+
+pub use style::Color;

@@ -1,0 +1,161 @@
+//! The style: what SGRs do to it, and the sequences that set and end it.
+mod compare;
+mod fields;
+pub mod rendition;
+mod table;
+mod written;
+
+ghost use Rattle.std.specs.Prelude.{IsTrue};
+ghost use Rattle.std.specs.Option.{ForSome};
+ghost use Rattle.std.specs.Int.{is_in_range};
+ghost use Rattle.ansi_style.specs.Rendition.{is_foreground, is_background, is_extended_color};
+
+use crate::state::fields::{Fields, code, parameters};
+pub use crate::state::rendition::Rendition;
+use crate::state::written::Close;
+pub use crate::state::written::{AnsiSequenceEnd, AnsiSequenceStart};
+use std::alloc::{AllocError, Allocator};
+use std::fmt::Write;
+
+/// A style: what the SGRs before a character of a text have selected (ECMA-48, section 8.3.117).
+///
+/// It has three colors, a font and 24 attributes. Styles compare by these, part by part, in the order
+/// of the fields of `Rendition`. A block has one, see [`get_blocks`](crate::get_blocks). (The Rust
+/// crate.)
+///
+/// Its colors and its font are such as SGR codes select, which the ghost fields say. Contracts see
+/// it as a `Rendition`, by `rendition_of`.
+#[derive(Debug, Clone, Copy)]
+pub struct Style {
+    rendition: Rendition,
+    ghost foreground_in_range: { ForSome rendition.foreground (λ c. IsTrue (is_foreground c)) },
+    ghost background_in_range: { ForSome rendition.background (λ c. IsTrue (is_background c)) },
+    ghost underline_color_in_range: { ForSome rendition.underline_color (λ c. IsTrue (is_extended_color c)) },
+    ghost font_in_range: { ForSome rendition.font (λ n. IsTrue (is_in_range 11 19 n)) },
+}
+
+impl Style {
+    ghost use Rattle.std.specs.Prelude.{◌≡◌, ◌∷◌, ◌++◌, OnOk, string_bytes};
+    ghost use Rattle.ansi_items.specs.Sequences.{is_sgr};
+    ghost use Rattle.ansi_style.specs.Rendition.{plain_style, has_any};
+    ghost use Rattle.ansi_style.specs.Sgr.{step, apply};
+    ghost use Rattle.ansi_style.specs.Written.{start, close};
+    ghost use Rattle.ansi_style.specs.States.{rendition_of};
+
+    /// The plain style, in which nothing is set.
+    pub(crate) fn new() -> Self
+        ensures { rendition_of result ≡ plain_style }
+    {
+        Style {
+            rendition: Rendition {
+                foreground: None,
+                background: None,
+                underline_color: None,
+                bold: false,
+                faint: false,
+                italic: false,
+                underline: false,
+                double_underline: false,
+                slow_blink: false,
+                rapid_blink: false,
+                inverse: false,
+                hide: false,
+                crossed_out: false,
+                reset: false,
+                framed: false,
+                encircled: false,
+                font: None,
+                fraktur: false,
+                proportional_spacing: false,
+                overlined: false,
+                ideogram_underline: false,
+                ideogram_double_underline: false,
+                ideogram_overline: false,
+                ideogram_double_overline: false,
+                ideogram_stress_marking: false,
+                superscript: false,
+                subscript: false,
+                unknown: false,
+            },
+        }
+    }
+
+    /// Does what the codes of an SGR, a whole sequence, ask for, one after another.
+    pub(crate) fn apply(&mut self, sequence: &str)
+        requires { IsTrue (is_sgr sequence.now) }
+        ensures { rendition_of self.new ≡ apply (rendition_of self.old) sequence.now }
+    {
+        let mut fields = Fields::new(parameters(sequence));
+        while let Some(field) = fields.next() {
+            self.step(field, &mut fields);
+        }
+    }
+
+    /// Does what a field asks for as a code. A code that reads a color takes fields off those left.
+    fn step(&mut self, field: &str, left: &mut Fields<'_>)
+        ensures { (rendition_of self.new, left.new) ≡ step (rendition_of self.old) (field.now ∷ left.old) }
+    {
+        match code(field) {
+            Some(code) => self.perform(code, left),
+            None => self.rendition.unknown = true,
+        }
+    }
+
+    /// What the style shows.
+    pub(crate) fn rendition(&self) -> Rendition
+        ensures { result ≡ rendition_of self.now }
+    {
+        self.rendition
+    }
+
+    /// Whether the style has something to end: a known attribute, a color or a font is set, or `reset`
+    /// and `unknown` both are.
+    pub(crate) fn has_any(&self) -> bool
+        ensures { result ≡ has_any (rendition_of self.now) }
+    {
+        self.rendition.has_any()
+    }
+
+    /// The start of the style, to be printed: the sequences that set it. Takes no memory. (The Rust
+    /// crate.)
+    ///
+    /// ```
+    /// write!(out, "{}{word}{}", style.start(), style.end())?;
+    /// ```
+    pub fn start(&self) -> AnsiSequenceStart<'_>
+        ensures { result ≡ rendition_of self.now }
+    {
+        AnsiSequenceStart(self)
+    }
+
+    /// The end of the style, to be printed: the sequences that end it, or nothing where the style has
+    /// nothing to end. Takes no memory. (The Rust crate.)
+    ///
+    /// ```
+    /// write!(out, "{}{word}{}", style.start(), style.end())?;
+    /// ```
+    pub fn end(&self) -> AnsiSequenceEnd<'_>
+        ensures { result ≡ rendition_of self.now }
+    {
+        AnsiSequenceEnd(self)
+    }
+
+    /// Appends the start of the style. An `Err` means that memory is wanting; what was appended up to
+    /// there stands.
+    pub(crate) fn write_start<A: Allocator>(&self, out: &mut String<A>) -> Result<(), AllocError>
+        ensures { OnOk result (string_bytes out.new ≡ string_bytes out.old ++ start (rendition_of self.now)) }
+    {
+        write!(out, "{}", self.start())
+    }
+
+    /// Appends the close of the style. An `Err` means that memory is wanting; what was appended up to
+    /// there stands.
+    pub(crate) fn write_close<A: Allocator>(&self, out: &mut String<A>) -> Result<(), AllocError>
+        ensures { OnOk result (string_bytes out.new ≡ string_bytes out.old ++ close (rendition_of self.now)) }
+    {
+        write!(out, "{}", Close(self))
+    }
+}
+
+#[cfg(test)]
+mod tests;

@@ -1,0 +1,50 @@
+//! What the layers above do with a style. They are free functions, so that `Style` has no public method
+//! but those that a caller of `ansi_str` is to see.
+ghost use Rattle.std.specs.Prelude.{◌≡◌, ◌++◌, IsTrue, OnOk, string_bytes};
+ghost use Rattle.ansi_items.specs.Sequences.{is_sgr};
+ghost use Rattle.ansi_style.specs.Rendition.{plain_style, has_any};
+ghost use Rattle.ansi_style.specs.Sgr.{apply};
+ghost use Rattle.ansi_style.specs.Written.{start, close};
+ghost use Rattle.ansi_style.specs.States.{rendition_of};
+
+use crate::state::Style;
+use std::alloc::{AllocError, Allocator};
+
+/// The plain style, in which nothing is set.
+pub fn plain_style() -> Style
+    ensures { rendition_of result ≡ plain_style }
+{
+    Style::new()
+}
+
+/// Does what the codes of an SGR, a whole sequence, ask for, one after another.
+pub fn apply(style: &mut Style, sequence: &str)
+    requires { IsTrue (is_sgr sequence.now) }
+    ensures { rendition_of style.new ≡ apply (rendition_of style.old) sequence.now }
+{
+    style.apply(sequence);
+}
+
+/// Whether the style has something to end: a known attribute, a color or a font is set, or `reset`
+/// and `unknown` both are.
+pub fn has_any(style: &Style) -> bool
+    ensures { result ≡ has_any (rendition_of style.now) }
+{
+    style.has_any()
+}
+
+/// Appends the start of the style. An `Err` means that memory is wanting; what was appended up to
+/// there stands.
+pub fn write_start<A: Allocator>(style: &Style, out: &mut String<A>) -> Result<(), AllocError>
+    ensures { OnOk result (string_bytes out.new ≡ string_bytes out.old ++ start (rendition_of style.now)) }
+{
+    style.write_start(out)
+}
+
+/// Appends the close of the style. An `Err` means that memory is wanting; what was appended up to
+/// there stands.
+pub fn write_close<A: Allocator>(style: &Style, out: &mut String<A>) -> Result<(), AllocError>
+    ensures { OnOk result (string_bytes out.new ≡ string_bytes out.old ++ close (rendition_of style.now)) }
+{
+    style.write_close(out)
+}
