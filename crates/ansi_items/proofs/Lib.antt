@@ -2,6 +2,7 @@ pub mod SequenceLemmas
 pub mod PieceLemmas
 pub mod FrontLemmas
 pub mod ScanLemmas
+pub mod CountLemmas
 pub mod PlainLemmas
 pub mod Utf8Lemmas
 pub mod StepLemmas

@@ -3,4 +3,5 @@ pub mod Sequences
 pub mod Pieces
 pub mod Plain
 pub mod Fronts
+pub mod Counts
 pub mod Scans

@@ -1,7 +1,7 @@
 //! The items of a text: texts, whole sequences and lone escapes.
 pub(crate) mod grammar;
 
-use grammar::first_front;
+use grammar::Looks;
 use std::marker::Model;
 
 /// A color, as SGR codes write it.
@@ -54,21 +54,22 @@ pub struct Item {
 pub struct Scanner<'a> {
     text: &'a str,
     offset: usize,
+    reads: u128,
 }
 
 impl<'a> Model for Scanner<'a> {
-    ghost use Rattle.std.specs.Str.{IsCharBoundary};
     ghost use Rattle.ansi_items.specs.Scans.{Scan};
+    ghost use Rattle.ansi_items.specs.Counts.{IsCounted};
 
     ghost Value = { Scan };
 
     ghost view = { λ s. record { text = s.text.now; offset = s.offset } };
 
-    ghost invariant = { λ s. IsCharBoundary s.text.now s.offset };
+    ghost invariant = { λ s. IsCounted s.text.now s.offset s.reads };
 }
 
 impl<'a> Scanner<'a> {
-    ghost use Rattle.std.specs.Prelude.{◌≡◌, ◌↔◌, List};
+    ghost use Rattle.std.specs.Prelude.{◌≡◌, ◌↔◌, ◌*◌, ◌≤◌, length, List};
     ghost use Rattle.ansi_items.specs.Pieces.{Piece, ArePieces};
     ghost use Rattle.ansi_items.specs.Scans.{pieces_left};
 
@@ -79,7 +80,33 @@ impl<'a> Scanner<'a> {
         // What it has left are the pieces of the text, and no others.
         ensures pieces { (ps : List Piece) → ArePieces text.entry.now ps ↔ (ps ≡ pieces_left result) }
     {
-        Scanner { text, offset: 0 }
+        Scanner {
+            text,
+            offset: 0,
+            reads: 0,
+        }
+    }
+
+    /// How many looks at bytes of the text it took so far.
+    ///
+    /// A look at one byte counts 1, and a search counts each byte that it passed over and the one
+    /// that it found. A byte that is looked at twice counts twice. So a scan of a text takes time in
+    /// proportion to its length, whatever the text holds: also where sequences are unfinished, and
+    /// what follows their ESC is read anew.
+    ///
+    /// ```
+    /// let mut items = Scanner::new("\x1b]\x1b]");
+    /// while items.next().is_some() {}
+    /// assert!(4 <= items.reads() && items.reads() <= 16);
+    /// ```
+    pub fn reads(&self) -> u128
+        // At every moment there are at most four looks for each byte of the text.
+        ensures at_most { result ≤ 4 * length self.now.text }
+
+        // Each byte of the items so far was looked at: where nothing is left, each byte of the text.
+        ensures at_least { self.now.offset ≤ result }
+    {
+        self.reads
     }
 }
 
@@ -94,14 +121,17 @@ impl<'a> Iterator for Scanner<'a> {
     ghost remaining = { item_count pieces_left };
 
     /// The next item, or `None` at the end of the text, then and ever after.
+    #[inline(always)]
     fn next(&mut self) -> Option<Item> {
         let rest = &self.text.as_bytes()[self.offset..];
         if rest.is_empty() {
             return None;
         }
-        let front = first_front(rest);
+        let mut looks = Looks { count: 0 };
+        let front = looks.first_front(rest);
         let start = self.offset;
         self.offset += front.len;
+        self.reads += looks.count;
         Some(Item {
             kind: front.kind,
             start,

@@ -1,5 +1,5 @@
--- What a read does to what a source tells.
-use Rattle.std.specs.Prelude.{◌≡◌, ◌<◌, ℕ, List, length, take, ⊤, Bool, true, false, Option, Result, Ok, Err}
+-- What a read does to what a source tells, and how calls are counted.
+use Rattle.std.specs.Prelude.{◌≡◌, ◌<◌, ◌+◌, ℕ, List, length, take, min, ⊤, Bool, true, false, Option, Result, Ok, Err}
 use Rattle.std.specs.Io.KnownBytes.{prepend_known, IsAtEnd}
 use Rattle.ansi_lines.specs.declared.devices.ReadFault.{ReadFault}
 use Rattle.ansi_lines.specs.declared.devices.ReadFault.TheVariants.{Interrupted, Failed}
@@ -22,3 +22,7 @@ Reads old new (Ok count) room =
     (old ≡ prepend_known (take count room) new) × (count ≡ 0 → 0 < length room → IsAtEnd new)
 Reads old new (Err Interrupted) room = new ≡ old
 Reads old new (Err Failed) room = ⊤
+
+-- a count of calls after so many more, which stops at the greatest u32
+abbrev pub count_after : ℕ → ℕ → ℕ
+count_after calls more = min (calls + more) 4_294_967_295

@@ -11,13 +11,15 @@ reader_of device = device.reader
 abbrev pub writer_of : {W : Type 0} → HostOut W → W
 writer_of device = device.writer
 
--- a fresh source stands over its reader, and no read of it was interrupted or has failed
+-- a fresh source stands over its reader, was asked for no read, and none was interrupted or has failed
 pub record IsFreshSource {R : Type 0} (reader : R) (device : HostIn R) : Type 0 where
   pub same_reader : reader_of device ≡ reader
+  pub unread : device.reads ≡ 0
   pub uninterrupted : device.interrupted ≡ false
   pub unfailed : device.failed ≡ false
 
--- a fresh sink stands over its writer, and no write of it has failed
+-- a fresh sink stands over its writer, was asked for no flush, and no write of it has failed
 pub record IsFreshSink {W : Type 0} (writer : W) (device : HostOut W) : Type 0 where
   pub same_writer : writer_of device ≡ writer
+  pub unflushed : device.flushes ≡ 0
   pub unfailed : device.failed ≡ false

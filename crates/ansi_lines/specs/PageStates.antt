@@ -2,11 +2,13 @@
 use Rattle.std.specs.Prelude.{◌≤◌, ℕ, List, Bool}
 use Rattle.ansi_lines.specs.declared.page.Outcome.{Outcome}
 
--- the first bytes of a page are read and the first are passed on, it has room for so many, a read gives a chunk at most, and its calls come out as scheduled
+-- the first bytes of a page are read and the first are passed on, it was asked for so many reads and flushes, it has room for so many, a read gives a chunk at most, and its calls come out as scheduled
 pub record PageState : Type 0 where
   pub bytes : List ℕ
   pub read : ℕ
   pub passed : ℕ
+  pub reads : ℕ
+  pub flushes : ℕ
   pub room : ℕ
   pub chunk : ℕ
   pub schedule : List Outcome

@@ -7,15 +7,17 @@ use Rattle.ansi_lines.specs.declared.devices.WriteFault.{WriteFault}
 use Rattle.ansi_lines.specs.declared.devices.WriteFault.TheVariants as write_fault
 use Rattle.ansi_lines.specs.declared.page.Outcome.{Outcome}
 use Rattle.ansi_lines.specs.declared.page.Outcome.TheVariants.{Works, Interrupted, Failed}
-use Rattle.ansi_lines.specs.Devices.{was_interrupted, was_failed}
+use Rattle.ansi_lines.specs.Devices.{was_interrupted, was_failed, count_after}
 use Rattle.ansi_lines.specs.PageStates.{PageState}
 
--- a new page has read, passed on and planned nothing, and gives all that it has at one read
+-- a new page has read, passed on and planned nothing, was asked for no read and no flush, and gives all that it has at one read
 abbrev pub fresh_page : List ℕ → ℕ → PageState
 fresh_page bytes room = record {
   bytes = bytes;
   read = 0;
   passed = 0;
+  reads = 0;
+  flushes = 0;
   room = room;
   chunk = room;
   schedule = [];
@@ -60,6 +62,7 @@ write_comes_to outcome len room = if nat_le len room then flush_comes_to outcome
 abbrev pub page_after_read : PageState → Result ℕ ReadFault → PageState
 page_after_read page result = record page {
   read = page.read + result_unwrap_or result 0;
+  reads = count_after page.reads 1;
   schedule = drop 1 page.schedule;
   interrupted = page.interrupted || was_interrupted result;
   failed = page.failed || was_failed result;
@@ -77,6 +80,7 @@ page_after_write page more result = record page {
 abbrev pub page_after_flush : PageState → Result (Unit {0}) WriteFault → PageState
 page_after_flush page result = record page {
   passed = if is_ok result then length page.bytes else page.passed;
+  flushes = count_after page.flushes 1;
   schedule = drop 1 page.schedule;
   failed = page.failed || is_err result;
 }

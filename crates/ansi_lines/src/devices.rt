@@ -1,7 +1,7 @@
 //! What the program reads from and writes to.
 ghost use Rattle.std.specs.Prelude.{◌≡◌, ◌≤◌, ◌||◌, Bool, ℕ, List, Option, length, is_err, IfOk, OnOk};
 ghost use Rattle.std.specs.Io.KnownBytes.{append_known};
-ghost use Rattle.ansi_lines.specs.Devices.{Reads, was_interrupted, was_failed};
+ghost use Rattle.ansi_lines.specs.Devices.{Reads, count_after, was_interrupted, was_failed};
 
 /// Why a read gave nothing.
 #[derive(Clone, Copy, Debug, PartialEq, Eq)]
@@ -24,6 +24,9 @@ pub trait Source {
     /// The bytes that it has left, where it tells them.
     ghost left: { Self → Option (List ℕ) };
 
+    /// How many reads it was asked for, counted up to `u32::MAX`.
+    ghost reads: { Self → ℕ };
+
     /// Whether a read has been interrupted.
     ghost interrupted: { Self → Bool };
 
@@ -37,6 +40,7 @@ pub trait Source {
     fn read(&mut self, room: &mut [u8]) -> Result<usize, ReadFault>
         ensures within { IfOk result (λ count. count ≤ length room.new) }
         ensures bytes { Reads (left self.old) (left self.new) result room.new }
+        ensures reads { reads self.new ≡ count_after (reads self.old) 1 }
         ensures interrupted { interrupted self.new ≡ (interrupted self.old || was_interrupted result) }
         ensures failed { failed self.new ≡ (failed self.old || was_failed result) };
 }
@@ -49,6 +53,9 @@ pub trait Sink {
     /// The bytes that it has passed on, where it tells them.
     ghost passed: { Self → Option (List ℕ) };
 
+    /// How many flushes it was asked for, counted up to `u32::MAX`.
+    ghost flushes: { Self → ℕ };
+
     /// Whether a write or a flush has failed.
     ghost failed: { Self → Bool };
 
@@ -57,11 +64,13 @@ pub trait Sink {
     /// How many a failed write takes isn't said.
     fn write(&mut self, bytes: &[u8]) -> Result<(), WriteFault>
         ensures taken { OnOk result (taken self.new ≡ append_known (taken self.old) bytes.now) }
+        ensures flushes { flushes self.new ≡ flushes self.old }
         ensures failed { failed self.new ≡ (failed self.old || is_err result) };
 
     /// Passes on all that it has taken.
     fn flush(&mut self) -> Result<(), WriteFault>
         ensures taken { OnOk result (taken self.new ≡ taken self.old) }
         ensures passed { OnOk result (passed self.new ≡ taken self.new) }
+        ensures flushes { flushes self.new ≡ count_after (flushes self.old) 1 }
         ensures failed { failed self.new ≡ (failed self.old || is_err result) };
 }

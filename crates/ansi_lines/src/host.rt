@@ -1,7 +1,7 @@
 //! The devices over std's readers and writers. They tell nothing of their bytes.
 ghost use Rattle.std.specs.Prelude.{◌≡◌, ◌≤◌, ◌||◌, None, length, is_err, IfOk, OnOk};
 ghost use Rattle.std.specs.Io.KnownBytes.{append_known, Appends, Keeps, ReadConsumes};
-ghost use Rattle.ansi_lines.specs.Devices.{Reads, was_interrupted, was_failed};
+ghost use Rattle.ansi_lines.specs.Devices.{Reads, count_after, was_interrupted, was_failed};
 ghost use Rattle.ansi_lines.specs.Hosts.{reader_of, writer_of, IsFreshSource, IsFreshSink};
 
 use crate::devices::{ReadFault, Sink, Source, WriteFault};
@@ -11,6 +11,7 @@ use std::io::{ErrorKind, Read, Write};
 #[derive(Drop)]
 pub struct HostIn<R> {
     reader: R,
+    reads: u32,
     interrupted: bool,
     failed: bool,
 }
@@ -22,6 +23,7 @@ impl<R: Read> HostIn<R> {
     {
         HostIn {
             reader,
+            reads: 0,
             interrupted: false,
             failed: false,
         }
@@ -31,6 +33,8 @@ impl<R: Read> HostIn<R> {
 impl<R: Read> Source for HostIn<R> {
     ghost left = { λ _. None };
 
+    ghost reads = { λ device. device.reads };
+
     ghost interrupted = { λ device. device.interrupted };
 
     ghost failed = { λ device. device.failed };
@@ -39,10 +43,12 @@ impl<R: Read> Source for HostIn<R> {
     fn read(&mut self, room: &mut [u8]) -> Result<usize, ReadFault>
         ensures within { IfOk result (λ count. count ≤ length room.new) }
         ensures bytes { Reads None None result room.new }
+        ensures reads { self.new.reads ≡ count_after self.old.reads 1 }
         ensures interrupted { self.new.interrupted ≡ (self.old.interrupted || was_interrupted result) }
         ensures failed { self.new.failed ≡ (self.old.failed || was_failed result) }
         ensures reader { ReadConsumes (R.remaining (reader_of self.old)) (R.remaining (reader_of self.new)) result room.new }
     {
+        self.reads = self.reads.saturating_add(1);
         match self.reader.read(room) {
             Ok(count) => Ok(count),
             Err(error) if error.kind() == ErrorKind::Interrupted => {
@@ -61,6 +67,7 @@ impl<R: Read> Source for HostIn<R> {
 #[derive(Drop)]
 pub struct HostOut<W> {
     writer: W,
+    flushes: u32,
     failed: bool,
 }
 
@@ -71,6 +78,7 @@ impl<W: Write> HostOut<W> {
     {
         HostOut {
             writer,
+            flushes: 0,
             failed: false,
         }
     }
@@ -81,10 +89,13 @@ impl<W: Write> Sink for HostOut<W> {
 
     ghost passed = { λ _. None };
 
+    ghost flushes = { λ device. device.flushes };
+
     ghost failed = { λ device. device.failed };
 
     // The last clause says of the writer what the device doesn't tell.
     fn write(&mut self, bytes: &[u8]) -> Result<(), WriteFault>
+        ensures flushes { self.new.flushes ≡ self.old.flushes }
         ensures failed { self.new.failed ≡ (self.old.failed || is_err result) }
         ensures writer { OnOk result (Appends (W.contents (writer_of self.old)) (W.contents (writer_of self.new)) bytes.now) }
     {
@@ -97,9 +108,11 @@ impl<W: Write> Sink for HostOut<W> {
 
     // The last clause says of the writer what the device doesn't tell.
     fn flush(&mut self) -> Result<(), WriteFault>
+        ensures flushes { self.new.flushes ≡ count_after self.old.flushes 1 }
         ensures failed { self.new.failed ≡ (self.old.failed || is_err result) }
         ensures writer { Keeps (W.contents (writer_of self.old)) (W.contents (writer_of self.new)) }
     {
+        self.flushes = self.flushes.saturating_add(1);
         if self.writer.flush().is_err() {
             self.failed = true;
             return Err(WriteFault::Failed);

@@ -24,6 +24,7 @@ pub fn write_lines<A: Allocator + Copy, W: Sink>(
 ) -> Result<Option<usize>, Stop>
     ensures done { OnOk result (W.taken output.new ≡ append_known (W.taken output.old) (answers (work_of job.now) text.now)) }
     ensures refused { IfOk result (λ line. line ≡ first_refused 1 (work_of job.now) text.now) }
+    ensures flushes { W.flushes output.new ≡ W.flushes output.old }
     ensures unfailed { OnOk result (W.failed output.new ≡ W.failed output.old) }
     ensures stopped { IfErr result (StopsWriting (W.failed output.old) (W.failed output.new)
         (WritesBeginning (W.taken output.old) (W.taken output.new) (answers (work_of job.now) text.now))) }
@@ -57,6 +58,7 @@ fn write_answer<A: Allocator + Copy, W: Sink>(
     output: &mut W,
 ) -> Result<bool, Stop>
     ensures done { IfOk result (λ answered. WritesAnswer (answer_of (work_of job.now) line.now) answered (W.taken output.old) (W.taken output.new)) }
+    ensures flushes { W.flushes output.new ≡ W.flushes output.old }
     ensures unfailed { OnOk result (W.failed output.new ≡ W.failed output.old) }
     ensures stopped { IfErr result (StopsWriting (W.failed output.old) (W.failed output.new)
         (W.taken output.new ≡ W.taken output.old)) }

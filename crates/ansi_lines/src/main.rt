@@ -1,10 +1,11 @@
 //! Reads text and writes each line without its sequences, or edited as if they weren't there.
 #![tactic(auto)]
 
-ghost use Rattle.std.specs.Prelude.{◌≡◌, ◌≤◌, ◌⊎◌, false, true, IfSome, IsNone, IsSome};
+ghost use Rattle.std.specs.Prelude.{◌≡◌, ◌≤◌, ◌+◌, ◌⊎◌, false, true, IfOk, IfSome, IsErr, IsOk, IsNone, IsSome};
 ghost use Rattle.std.specs.Io.KnownBytes.{append_known};
+ghost use Rattle.ansi_lines.specs.Devices.{count_after};
 ghost use Rattle.ansi_lines.specs.Lines.{WritesBeginning};
-ghost use Rattle.ansi_lines.specs.Reading.{IsBadInput, IsUnfit};
+ghost use Rattle.ansi_lines.specs.Reading.{IsBadInput, IsGivenUp, IsUnfit};
 ghost use Rattle.ansi_lines.specs.Runs.{AreBadWords, AreGoodWords, output_of, refused_line, told, words_of};
 ghost use Rattle.ansi_lines.specs.Stops.{refusal};
 
@@ -24,7 +25,7 @@ use host::{HostIn, HostOut};
 use runs::run_in;
 use std::alloc::Global;
 use std::env;
-use std::io::BufWriter;
+use std::io::{self, BufWriter, Write};
 use std::process::ExitCode;
 use stop::Stop;
 
@@ -84,7 +85,9 @@ pub fn run<S: Source, W: Sink, V: Sink>(
     ensures nothing_written { AreBadWords (words_of words.now) → output.new ≡ output.old }
 
     // A bad input is told of before anything is written.
-    ensures bad_input { result ≡ 3 → IsBadInput (S.left input.old) (S.interrupted input.new) (S.failed input.new) }
+    ensures bad_input { result ≡ 3 → IsBadInput (S.left input.old) (S.failed input.new)
+        (IsGivenUp (S.interrupted input.new) (S.reads input.old) (S.reads input.new)) }
+    ensures most_reads { S.reads input.new ≤ S.reads input.old + 2_097_154 }
     ensures good_words { result ≡ 3 → AreGoodWords (words_of words.now) }
     ensures unwritten { result ≡ 3 → output.new ≡ output.old }
     ensures unfit { AreGoodWords (words_of words.now) → IfSome (S.left input.old) (λ bytes.
@@ -100,6 +103,13 @@ pub fn run<S: Source, W: Sink, V: Sink>(
     ensures out_of_memory { result ≡ 5 → IfSome (S.left input.old) (λ bytes.
         WritesBeginning (W.taken output.old) (W.taken output.new) (output_of (words_of words.now) bytes)) }
 
+    // The output is flushed once, after all is written, and the fault writer never.
+    ensures flushed_once { result ≤ 1 → W.flushes output.new ≡ count_after (W.flushes output.old) 1 }
+    ensures flushed_at_most_once { (W.flushes output.new ≡ W.flushes output.old) ⊎
+        (W.flushes output.new ≡ count_after (W.flushes output.old) 1) }
+    ensures unflushed { result ≡ 5 → W.flushes output.new ≡ W.flushes output.old }
+    ensures faults_unflushed { V.flushes faults.new ≡ V.flushes faults.old }
+
     // What ends a run early is told of, and nothing else.
     ensures quiet { result ≡ 0 → faults.new ≡ faults.old }
     ensures told { 2 ≤ result → V.failed faults.new ≡ false →
@@ -113,15 +123,31 @@ pub fn run<S: Source, W: Sink, V: Sink>(
 
 fn main(rt: HostRuntime) -> ExitCode {
     let mut faults = HostOut::new(rt.stderr());
-    ExitCode::from(run_on_host(&rt, &mut faults))
+    let words = words_given(&rt);
+    let buffer = BufWriter::new(rt.alloc(), rt.stdout());
+    ExitCode::from(run_on_host(&rt, words, buffer, &mut faults))
 }
 
-// Runs over the standard streams.
-fn run_on_host<V: Sink>(rt: &HostRuntime, faults: &mut V) -> u8 {
-    let Ok(words) = words_given(rt) else {
+// Runs over standard input and the buffer of standard output. Words that can't be read are bad words, and
+// a buffer that can't be had is want of memory.
+fn run_on_host<W: Write + Drop, V: Sink>(
+    rt: &HostRuntime,
+    words: io::Result<Vec<String>>,
+    buffer: io::Result<W>,
+    faults: &mut V,
+) -> u8
+    ensures statuses { result ≤ 5 }
+    ensures unread_words { IsErr words → result ≡ 2 }
+    ensures bad_words { result ≡ 2 → IfOk words (λ read. AreBadWords (words_of read.items)) }
+    ensures only_bad_words { IfOk words (λ read. AreBadWords (words_of read.items) → (result ≡ 2) ⊎ (result ≡ 5)) }
+    ensures no_buffer { IsOk words → IsErr buffer → result ≡ 5 }
+    ensures told { 2 ≤ result → V.failed faults.new ≡ false →
+        V.taken faults.new ≡ append_known (V.taken faults.old) (told result) }
+{
+    let Ok(words) = words else {
         return Stop::BadWords.tell(faults);
     };
-    let Ok(buffer) = BufWriter::new(rt.alloc(), rt.stdout()) else {
+    let Ok(buffer) = buffer else {
         return Stop::OutOfMemory.tell(faults);
     };
     let mut input = HostIn::new(rt.stdin());
@@ -136,7 +162,7 @@ fn run_on_host<V: Sink>(rt: &HostRuntime, faults: &mut V) -> u8 {
 }
 
 // The words after the program's name.
-fn words_given(rt: &HostRuntime) -> std::io::Result<Vec<String>> {
+fn words_given(rt: &HostRuntime) -> io::Result<Vec<String>> {
     let mut words = Vec::new(rt.alloc());
     for word in env::args(rt)?.skip(1) {
         words.push(word)?;

@@ -1,7 +1,7 @@
 //! A device over memory, whose calls come out as a schedule says.
 ghost use Rattle.std.specs.Prelude.{◌≡◌, ◌≤◌, ◌+◌, ◌||◌, [], ◌++◌, IfOk, OnOk, Some, length, drop, take, is_err, vec_len};
 ghost use Rattle.std.specs.Io.KnownBytes.{append_known};
-ghost use Rattle.ansi_lines.specs.Devices.{Reads, was_interrupted, was_failed};
+ghost use Rattle.ansi_lines.specs.Devices.{Reads, count_after, was_interrupted, was_failed};
 ghost use Rattle.ansi_lines.specs.Pages.{fresh_page, next_outcome, bytes_left, count_given, read_comes_to, write_comes_to, flush_comes_to, page_after_read, page_after_write, page_after_flush};
 
 use crate::devices::{ReadFault, Sink, Source, WriteFault};
@@ -37,6 +37,8 @@ pub struct Page {
     bytes: Vec<u8>,
     read: usize,
     passed: usize,
+    reads: u32,
+    flushes: u32,
     room: usize,
     chunk: usize,
     schedule: VecDeque<Outcome>,
@@ -54,6 +56,8 @@ impl Model for Page {
       bytes = page.bytes.items;
       read = page.read;
       passed = page.passed;
+      reads = page.reads;
+      flushes = page.flushes;
       room = page.room;
       chunk = page.chunk;
       schedule = page.schedule.items;
@@ -74,6 +78,8 @@ impl Page {
             bytes,
             read: 0,
             passed: 0,
+            reads: 0,
+            flushes: 0,
             room,
             chunk: room,
             schedule: VecDeque::new(alloc),
@@ -90,6 +96,8 @@ impl Page {
             bytes: Vec::with_capacity(alloc, room)?,
             read: 0,
             passed: 0,
+            reads: 0,
+            flushes: 0,
             room,
             chunk: room,
             schedule: VecDeque::new(alloc),
@@ -143,6 +151,15 @@ impl Page {
         self.schedule.pop_front().unwrap_or(Outcome::Works)
     }
 
+    // Counts a read, and takes its outcome off the schedule.
+    fn start_read(&mut self) -> Outcome
+        ensures outcome { result ≡ next_outcome self.old }
+        ensures page { self.new ≡ record self.old { reads = count_after self.old.reads 1; schedule = drop 1 self.old.schedule } }
+    {
+        self.reads = self.reads.saturating_add(1);
+        self.take_outcome()
+    }
+
     // Puts the next bytes into the front of the room.
     fn give(&mut self, room: &mut [u8]) -> usize
         ensures count { result ≡ count_given self.old (length room.old) }
@@ -162,6 +179,8 @@ impl Source for Page {
 
     ghost left = { λ page. Some (bytes_left page) };
 
+    ghost reads = { λ page. page.reads };
+
     ghost interrupted = { λ page. page.interrupted };
 
     ghost failed = { λ page. page.failed };
@@ -169,12 +188,13 @@ impl Source for Page {
     fn read(&mut self, room: &mut [u8]) -> Result<usize, ReadFault>
         ensures within { IfOk result (λ count. count ≤ length room.new) }
         ensures bytes { Reads (Some (bytes_left self.old)) (Some (bytes_left self.new)) result room.new }
+        ensures reads { self.new.reads ≡ count_after self.old.reads 1 }
         ensures interrupted { self.new.interrupted ≡ (self.old.interrupted || was_interrupted result) }
         ensures failed { self.new.failed ≡ (self.old.failed || was_failed result) }
         ensures outcome { result ≡ read_comes_to (next_outcome self.old) (count_given self.old (length room.old)) }
         ensures page { self.new ≡ page_after_read self.old result }
     {
-        match self.take_outcome() {
+        match self.start_read() {
             Outcome::Works => Ok(self.give(room)),
             Outcome::Interrupted => {
                 self.interrupted = true;
@@ -195,10 +215,13 @@ impl Sink for Page {
 
     ghost passed = { λ page. Some (take page.passed page.bytes) };
 
+    ghost flushes = { λ page. page.flushes };
+
     ghost failed = { λ page. page.failed };
 
     fn write(&mut self, bytes: &[u8]) -> Result<(), WriteFault>
         ensures taken { OnOk result (Some self.new.bytes ≡ append_known (Some self.old.bytes) bytes.now) }
+        ensures flushes { self.new.flushes ≡ self.old.flushes }
         ensures failed { self.new.failed ≡ (self.old.failed || is_err result) }
         ensures outcome { result ≡ write_comes_to (next_outcome self.old) (length self.old.bytes + length bytes.now) self.old.room }
         ensures page { self.new ≡ page_after_write self.old bytes.now result }
@@ -215,10 +238,12 @@ impl Sink for Page {
     fn flush(&mut self) -> Result<(), WriteFault>
         ensures taken { OnOk result (Some self.new.bytes ≡ Some self.old.bytes) }
         ensures passed { OnOk result (Some (take self.new.passed self.new.bytes) ≡ Some self.new.bytes) }
+        ensures flushes { self.new.flushes ≡ count_after self.old.flushes 1 }
         ensures failed { self.new.failed ≡ (self.old.failed || is_err result) }
         ensures outcome { result ≡ flush_comes_to (next_outcome self.old) }
         ensures page { self.new ≡ page_after_flush self.old result }
     {
+        self.flushes = self.flushes.saturating_add(1);
         if self.take_outcome() == Outcome::Works {
             self.passed = self.bytes.len();
             return Ok(());

@@ -1,7 +1,8 @@
 //! Reads the whole input.
-ghost use Rattle.std.specs.Prelude.{◌≡◌, ◌≤◌, ◌<◌, ◌⊎◌, true, length, take, OnOk, IfOk, IfNone, IfSome, IfErr, string_bytes, string_len, vec_len};
+ghost use Rattle.std.specs.Prelude.{◌≡◌, ◌≤◌, ◌<◌, ◌+◌, ◌⊎◌, true, length, take, OnOk, IfOk, IfNone, IfSome, IfErr, string_bytes, string_len, vec_len};
 ghost use Rattle.std.specs.Io.KnownBytes.{prepend_known, IsAtEnd};
-ghost use Rattle.ansi_lines.specs.Reading.{StopsReading};
+ghost use Rattle.ansi_lines.specs.Devices.{count_after};
+ghost use Rattle.ansi_lines.specs.Reading.{IsGivenUp, StopsReading};
 
 use crate::devices::{ReadFault, Source};
 use crate::stop::Stop;
@@ -23,9 +24,11 @@ const ROOM: usize = 4096;
 /// for a bad input, or for want of memory.
 pub fn read_text<A: Allocator, S: Source>(alloc: A, input: &mut S) -> Result<String<A>, Stop>
     ensures all { IfOk result (λ text. IfSome (S.left input.old) (λ bytes. string_bytes text ≡ bytes)) }
-    ensures short { IfOk result (λ text. string_len text ≤ MAX_BYTES) }
+    ensures short { IfOk result (λ text. string_len text ≤ 1_048_576) }
+    ensures most_reads { S.reads input.new ≤ S.reads input.old + 2_097_154 }
     ensures unfailed { OnOk result (S.failed input.new ≡ S.failed input.old) }
-    ensures stopped { IfErr result (StopsReading (S.left input.old) (S.interrupted input.new) (S.failed input.new)) }
+    ensures stopped { IfErr result (StopsReading (S.left input.old) (S.failed input.new)
+        (IsGivenUp (S.interrupted input.new) (S.reads input.old) (S.reads input.new))) }
 {
     let bytes = read_bytes(alloc, input)?;
     String::from_utf8(bytes).map_err(|_| Stop::BadInput)
@@ -34,9 +37,11 @@ pub fn read_text<A: Allocator, S: Source>(alloc: A, input: &mut S) -> Result<Str
 // Reads all that is left, if it isn't too long.
 fn read_bytes<A: Allocator, S: Source>(alloc: A, input: &mut S) -> Result<Vec<u8, A>, Stop>
     ensures all { IfOk result (λ read. IfSome (S.left input.old) (λ bytes. read.items ≡ bytes)) }
-    ensures short { IfOk result (λ read. vec_len read ≤ MAX_BYTES) }
+    ensures short { IfOk result (λ read. vec_len read ≤ 1_048_576) }
+    ensures most_reads { S.reads input.new ≤ S.reads input.old + 2_097_154 }
     ensures unfailed { OnOk result (S.failed input.new ≡ S.failed input.old) }
-    ensures stopped { IfErr result (StopsReading (S.left input.old) (S.interrupted input.new) (S.failed input.new)) }
+    ensures stopped { IfErr result (StopsReading (S.left input.old) (S.failed input.new)
+        (IsGivenUp (S.interrupted input.new) (S.reads input.old) (S.reads input.new))) }
 {
     let mut read = Vec::new(alloc);
     let mut room = [0u8; ROOM];
@@ -60,6 +65,7 @@ fn read_once<S: Source>(input: &mut S, room: &mut [u8]) -> Result<Option<usize>,
     ensures bytes { IfOk result (λ given. IfSome given (λ count.
         S.left input.old ≡ prepend_known (take count room.new) (S.left input.new))) }
     ensures progress { IfOk result (λ given. IfSome given (λ count. (0 < count) ⊎ (S.interrupted input.new ≡ true))) }
+    ensures reads { S.reads input.new ≡ count_after (S.reads input.old) 1 }
     ensures interrupted { S.interrupted input.old ≡ true → S.interrupted input.new ≡ true }
     ensures unfailed { OnOk result (S.failed input.new ≡ S.failed input.old) }
     ensures failed { IfErr result (λ stop. (stop ≡ Stop.BadInput) × (S.failed input.new ≡ true)) }

@@ -1,8 +1,9 @@
 //! A run in the memory of any allocator.
-ghost use Rattle.std.specs.Prelude.{◌≡◌, ◌≤◌, ◌⊎◌, false, true, IfErr, IfSome, IsErrOf, IsNone, IsSome, OnOk};
+ghost use Rattle.std.specs.Prelude.{◌≡◌, ◌≤◌, ◌+◌, ◌⊎◌, false, true, IfErr, IfSome, IsErrOf, IsNone, IsSome, OnOk};
 ghost use Rattle.std.specs.Io.KnownBytes.{append_known};
+ghost use Rattle.ansi_lines.specs.Devices.{count_after};
 ghost use Rattle.ansi_lines.specs.Lines.{WritesBeginning};
-ghost use Rattle.ansi_lines.specs.Reading.{IsBadInput, IsRead, IsUnfit};
+ghost use Rattle.ansi_lines.specs.Reading.{IsBadInput, IsGivenUp, IsRead, IsUnfit};
 ghost use Rattle.ansi_lines.specs.Runs.{AreBadWords, AreGoodWords, IfAnswered, MatchesWords, output_of, refused_line, told, words_of};
 ghost use Rattle.ansi_lines.specs.Stops.{refusal};
 
@@ -44,7 +45,9 @@ pub fn run_in<A: Allocator, S: Source, W: Sink, V: Sink>(
     ensures nothing_written { AreBadWords (words_of words.now) → output.new ≡ output.old }
 
     // A bad input is told of before anything is written.
-    ensures bad_input { result ≡ 3 → IsBadInput (S.left input.old) (S.interrupted input.new) (S.failed input.new) }
+    ensures bad_input { result ≡ 3 → IsBadInput (S.left input.old) (S.failed input.new)
+        (IsGivenUp (S.interrupted input.new) (S.reads input.old) (S.reads input.new)) }
+    ensures most_reads { S.reads input.new ≤ S.reads input.old + 2_097_154 }
     ensures good_words { result ≡ 3 → AreGoodWords (words_of words.now) }
     ensures unwritten { result ≡ 3 → output.new ≡ output.old }
     ensures unfit { AreGoodWords (words_of words.now) → IfSome (S.left input.old) (λ bytes.
@@ -59,6 +62,13 @@ pub fn run_in<A: Allocator, S: Source, W: Sink, V: Sink>(
     // For want of memory a beginning is written.
     ensures out_of_memory { result ≡ 5 → IfSome (S.left input.old) (λ bytes.
         WritesBeginning (W.taken output.old) (W.taken output.new) (output_of (words_of words.now) bytes)) }
+
+    // The output is flushed once, after all is written, and the fault writer never.
+    ensures flushed_once { result ≤ 1 → W.flushes output.new ≡ count_after (W.flushes output.old) 1 }
+    ensures flushed_at_most_once { (W.flushes output.new ≡ W.flushes output.old) ⊎
+        (W.flushes output.new ≡ count_after (W.flushes output.old) 1) }
+    ensures unflushed { result ≡ 5 → W.flushes output.new ≡ W.flushes output.old }
+    ensures faults_unflushed { V.flushes faults.new ≡ V.flushes faults.old }
 
     // What ends a run early is told of, and nothing else.
     ensures quiet { result ≡ 0 → faults.new ≡ faults.old }
@@ -99,7 +109,9 @@ fn perform<A: Allocator, S: Source, W: Sink>(
     ensures read_before_writing { IsErrOf result Stop.WriteFailed →
         IsRead (S.left input.old) (S.failed input.old) (S.failed input.new) }
     ensures bad_input { IsErrOf result Stop.BadInput →
-        IsBadInput (S.left input.old) (S.interrupted input.new) (S.failed input.new) }
+        IsBadInput (S.left input.old) (S.failed input.new)
+        (IsGivenUp (S.interrupted input.new) (S.reads input.old) (S.reads input.new)) }
+    ensures most_reads { S.reads input.new ≤ S.reads input.old + 2_097_154 }
     ensures unwritten { IsErrOf result Stop.BadInput → output.new ≡ output.old }
 
     // The output.
@@ -107,6 +119,10 @@ fn perform<A: Allocator, S: Source, W: Sink>(
     ensures write_failed { IsErrOf result Stop.WriteFailed → W.failed output.new ≡ true }
     ensures out_of_memory { IsErrOf result Stop.OutOfMemory → IfSome (S.left input.old) (λ bytes.
         WritesBeginning (W.taken output.old) (W.taken output.new) (output_of (words_of words.now) bytes)) }
+    ensures flushed_once { IfAnswered result (λ _. W.flushes output.new ≡ count_after (W.flushes output.old) 1) }
+    ensures flushed_at_most_once { (W.flushes output.new ≡ W.flushes output.old) ⊎
+        (W.flushes output.new ≡ count_after (W.flushes output.old) 1) }
+    ensures unflushed { IsErrOf result Stop.OutOfMemory → W.flushes output.new ≡ W.flushes output.old }
     ensures unfailed_without_memory { IsErrOf result Stop.OutOfMemory → W.failed output.new ≡ W.failed output.old }
 {
     let job = parse(alloc, words)?.ok_or(Stop::BadWords)?;

@@ -42,6 +42,7 @@ impl Stop {
         ensures status { result ≡ status_of self }
         ensures told { V.failed faults.new ≡ false →
             V.taken faults.new ≡ append_known (V.taken faults.old) (text_of self) }
+        ensures flushes { V.flushes faults.new ≡ V.flushes faults.old }
     {
         let _ = self.write_line(faults);
         self.status()
@@ -50,6 +51,7 @@ impl Stop {
     // Writes the line that is told of it.
     fn write_line<V: Sink>(self, faults: &mut V) -> Result<(), WriteFault>
         ensures told { OnOk result (V.taken faults.new ≡ append_known (V.taken faults.old) (text_of self)) }
+        ensures flushes { V.flushes faults.new ≡ V.flushes faults.old }
         ensures failed { OnErr result (V.failed faults.new ≡ true) }
     {
         match self {

@@ -1,9 +1,9 @@
 //! Runs over pages: what a run writes, tells and answers, whatever its devices do.
 mod devices;
+mod faults;
 mod memory;
 
 use crate::page::{Outcome, Page};
-use crate::reading::MAX_BYTES;
 use crate::run;
 use std::alloc::{AllocError, Global};
 use std::process::Abort;
@@ -285,9 +285,9 @@ fn bad_words_read_nothing(rt: HostRuntime) -> Result<(), Fail> {
 #[test]
 fn an_input_at_the_limit_is_taken_and_one_beyond_refused(rt: HostRuntime) -> Result<(), Fail> {
     for word in ["strip", "trim"] {
-        let longest = vec![in rt.alloc(); b'a'; MAX_BYTES]?;
+        let longest = vec![in rt.alloc(); b'a'; 1_048_576]?;
         let input = Page::of(rt.alloc(), longest.clone()?);
-        let output = Page::with_room(rt.alloc(), MAX_BYTES)?;
+        let output = Page::with_room(rt.alloc(), 1_048_576)?;
         let faults = Page::with_room(rt.alloc(), 100)?;
         let ran = run_over(rt.alloc(), &[word], input, output, faults)?;
         assert_eq!(rt; ran.status, 0, "status of {word} on the longest input");
@@ -295,7 +295,7 @@ fn an_input_at_the_limit_is_taken_and_one_beyond_refused(rt: HostRuntime) -> Res
             ran.output.bytes() == longest.as_slice(),
             "output of {word} on the longest input"
         );
-        let longer = vec![in rt.alloc(); b'a'; MAX_BYTES + 1]?;
+        let longer = vec![in rt.alloc(); b'a'; 1_048_577]?;
         let ran = run_on(rt.alloc(), &[word], Page::of(rt.alloc(), longer))?;
         expect(&rt, &ran, 3, "", "bad input\n", "an input that is too long");
     }

@@ -1,5 +1,5 @@
 -- A pattern at the front and at the end of a text, met over the texts that are left.
-use Rattle.std.proofs.Common.{◌≡◌, ℕ, ◌-◌, ◌≤◌, Bool, true, false, ◌&&◌, List, [], ◌∷◌, ◌++◌, length, take, drop, nat_eq, Option, Some, None, MatchOption, is_some, refl, sym, ◌∙◌, ap, ap₂, subst, arith}
+use Rattle.std.proofs.Common.{◌≡◌, ℕ, ◌-◌, ◌≤◌, Bool, true, false, ◌&&◌, List, [], ◌∷◌, ◌++◌, length, take, drop, nat_eq, refl, sym, ◌∙◌, ap, ap₂, subst, arith}
 use Rattle.std.proofs.Math.Bool.{and_assoc}
 use Rattle.std.proofs.lemmas.Cmp.{nat_eq_equiv}
 use Rattle.std.proofs.lemmas.List.{take-append-le, take_all, length-drop, length-take}
@@ -7,11 +7,9 @@ use Rattle.std.proofs.lemmas.Str.{IsCharBoundary-from_take, IsCharBoundary-from_
 use Rattle.std.specs.Cmp.Lexicographic.{pointwise, same_text}
 use Rattle.std.specs.List.{starts_with, ends_with}
 use Rattle.std.specs.Str.{IsUtf8, IsCharBoundary}
-use Rattle.std.specs.Str.Pattern.{FindsText, MatchBeginsAt}
 use Rattle.ansi_items.specs.Pieces.{Piece, Text}
 use Rattle.ansi_items.specs.Plain.{plain_of}
 use Rattle.ansi_slice.proofs.SliceLemmas.{drop-append}
-use Rattle.ansi_slice.proofs.MatchLemmas.{starts_with-splits}
 
 -- a pattern that is no longer than the text at the front stands in that
 pub starts_with-within : (p w y : List ℕ) → length p ≤ length w → starts_with nat_eq (w ++ y) p ≡ starts_with nat_eq w p
@@ -80,10 +78,3 @@ ends_with-boundary x p suffix_utf8 ends =
     let start = length x - length p in
     let same : p ≡ drop start x = same_text p (drop start x) (sym ends) in
     IsCharBoundary-from_drop x start (omega arith) (subst IsUtf8 same suffix_utf8)
-
--- a pattern at the end is found
-pub finds_at_end : (x p : List ℕ) (r : Option ℕ) → MatchOption r (FindsText p x None) (MatchBeginsAt (FindsText p) x) → ends_with nat_eq x p ≡ true → is_some r ≡ true
-finds_at_end x p None lacks ends =
-    let start = length x - length p in
-    absurd (lacks start (omega arith) _ (starts_with-splits (drop start x) p (ends_with-starts_with x p ∙ ends)))
-finds_at_end x p (Some i) found ends = refl

@@ -1,9 +1,7 @@
 -- The first match is the one that std's `find` gives.
-use Rattle.std.proofs.Common.{◌≡◌, ℕ, zero, suc, ◌+◌, ◌<◌, ◌≤◌, max, inl, inr, Bool, true, false, List, [], ◌∷◌, ◌++◌, take, drop, length, filter, nat_eq, nat_le, IsTrue, Option, Some, None, MatchOption, refl, sym, ◌∙◌, ap, subst, arith, slice_get}
+use Rattle.std.proofs.Common.{◌≡◌, ℕ, zero, suc, ◌+◌, ◌<◌, ◌≤◌, max, inl, inr, Bool, List, [], ◌∷◌, ◌++◌, take, drop, length, filter, nat_eq, nat_le, IsTrue, Option, Some, None, MatchOption, refl, sym, ◌∙◌, ap, subst, arith, slice_get}
 use Rattle.std.specs.Prelude.{IfSome}
-use Rattle.std.proofs.lemmas.Bool.{and_parts, and_from, cond_both, cases_lt, leb-true, leb-false, true≢false, eqb-true, eq-eqb}
-use Rattle.std.specs.Cmp.{both_ways}
-use Rattle.std.specs.Option.{option_eq}
+use Rattle.std.proofs.lemmas.Bool.{and_parts, and_from, cond_both, cases_lt, leb-true, leb-false, true≢false}
 use Rattle.std.proofs.lemmas.List.{take_at, drop-drop, length-append}
 use Rattle.std.proofs.lemmas.Str.{IsUtf8-drop, IsCharBoundary-start, IsCharBoundary-from_take, IsCharBoundary-from_rest}
 use Rattle.std.specs.List.{range_with_len, starts_with}
@@ -12,7 +10,7 @@ use Rattle.std.specs.Str.Pattern.{FindsText, LacksTextAt, HasTextAt, MatchBegins
 use Rattle.memchr.specs.Find.{IsFirst}
 use Rattle.ansi_slice.specs.Positions.{is_char_boundary, is_good_range}
 use Rattle.ansi_slice.specs.Parts.{is_match, first_match_from}
-use Rattle.ansi_slice.proofs.PositionLemmas.{is_char_boundary-from, is_char_boundary-is, good_range_from}
+use Rattle.ansi_slice.proofs.PositionLemmas.{is_char_boundary-from, is_char_boundary-is, boundary_is_good, good_range_from, good_before}
 use Rattle.ansi_slice.proofs.MatchLemmas.{IsMatch, is_match-utf8, starts_with-from, starts_with-splits}
 
 -- The first match is the least one.
@@ -101,21 +99,15 @@ pub finds_good_range : (x p : List ℕ) (r : Option ℕ) → IsUtf8 x → IsUtf8
 finds_good_range x p None utf8 utf8_p first = tt
 finds_good_range x p (Some i) utf8 utf8_p first = good_range_from x i (i + length p) (omega arith) (match_begins x p i first.1) (match_ends x p i utf8 utf8_p first.1)
 
+-- what stands before a match, and what stands after it, are good ranges too
+pub finds_good_before : (x p : List ℕ) (r : Option ℕ) → IsUtf8 x → IsFirst (IsMatch x p) 0 (length x + 1) r → IfSome r (λ i. IsTrue (is_good_range x 0 (Some i)))
+finds_good_before x p None utf8 first = tt
+finds_good_before x p (Some i) utf8 first = good_before x i utf8 (match_begins x p i first.1)
+
+pub finds_good_after : (x p : List ℕ) (r : Option ℕ) → IsUtf8 x → IsUtf8 p → IsFirst (IsMatch x p) 0 (length x + 1) r → IfSome r (λ i. IsTrue (is_good_range x (i + length p) None))
+finds_good_after x p None utf8 utf8_p first = tt
+finds_good_after x p (Some i) utf8 utf8_p first = boundary_is_good x (i + length p) (match_ends x p i utf8 utf8_p first.1)
+
 pub finds_within : (x p : List ℕ) (r : Option ℕ) → IsUtf8 x → IsUtf8 p → IsFirst (IsMatch x p) 0 (length x + 1) r → IfSome r (λ i. i + length p ≤ length x)
 finds_within x p None utf8 utf8_p first = tt
 finds_within x p (Some i) utf8 utf8_p first = (match_ends x p i utf8 utf8_p first.1).0
-
--- what is found is found at the front exactly where the text begins with the pattern
-pub finds_at_front : (x p : List ℕ) (r : Option ℕ) → MatchOption r (FindsText p x None) (MatchBeginsAt (FindsText p) x) → option_eq nat_eq r (Some 0) ≡ starts_with nat_eq x p
-finds_at_front x p None lacks = sym (not_begun (starts_with nat_eq x p) refl)
-  where
-    not_begun : (b : Bool) → b ≡ starts_with nat_eq x p → b ≡ false
-    not_begun true is = absurd (lacks 0 (omega arith) _ (starts_with-splits x p (sym is)))
-    not_begun false is = refl
-finds_at_front x p (Some i) found =
-    both_ways (nat_eq i 0) (starts_with nat_eq x p)
-    (λ front. (let zero : i ≡ 0 = eqb-true i 0 front in starts_with-from x p (drop found.0 x) (ap (λ k. drop k x) (sym zero) ∙ found.1.1.split)))
-    (λ begun. elim (cases_lt 0 i) [
-      | inl past ↦ absurd (found.1.0 0 past _ (starts_with-splits x p begun))
-      | inr front ↦ eq-eqb i 0 (omega (arith, front))
-    ])

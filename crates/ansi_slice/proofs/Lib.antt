@@ -3,6 +3,7 @@ pub mod ShowLemmas
 pub mod PositionLemmas
 pub mod MatchLemmas
 pub mod FindLemmas
+pub mod BorderLemmas
 pub mod CutLemmas
 pub mod CutWalkLemmas
 pub mod TrimLemmas
@@ -12,6 +13,12 @@ pub mod SideWalkLemmas
 pub mod KeptWalkLemmas
 pub mod TrimWalkLemmas
 pub mod EndLemmas
+pub mod ShownLemmas
+pub mod CutSliceLemmas
+pub mod SideSliceLemmas
+pub mod KeptLemmas
+pub mod KeptAsStdLemmas
+pub mod LengthLemmas
 mod CutExamples
 mod KeptExamples
 mod SideExamples

@@ -1,14 +1,17 @@
 -- Where a pattern stands in a text, and where it stands first.
-use Rattle.std.proofs.Common.{◌≡◌, ◌≢◌, ℕ, zero, suc, ◌+◌, ◌-◌, ◌<◌, ◌≤◌, max, inl, inr, Bool, true, false, ◌&&◌, List, [], ◌∷◌, ◌++◌, take, drop, length, filter, nat_eq, nat_le, IsTrue, Option, Some, None, refl, sym, ◌∙◌, ap, ap₂, subst, arith, slice_get, slice_index}
-use Rattle.std.proofs.lemmas.Bool.{and_parts, and_from, cond_both, cases_lt, cases_eq, le-leb, leb-true, leb-false, eq-eqb, ne_eqb, true≢false}
-use Rattle.std.proofs.lemmas.List.{take-append-drop, take_at, drop-drop, take-append-le, get_or_append_left, get_or-drop, length-append, length-drop, append_assoc, drop-append-le}
+use Rattle.std.proofs.Common.{◌≡◌, ◌≢◌, ℕ, zero, suc, ◌+◌, ◌-◌, ◌<◌, ◌≤◌, max, inl, inr, Bool, true, false, ◌&&◌, ◌||◌, List, [], ◌∷◌, ◌++◌, take, drop, length, filter, nat_eq, nat_le, IsTrue, IsFalse, Option, Some, None, refl, sym, ◌∙◌, ap, ap₂, subst, arith, slice_get, slice_index}
+use Rattle.std.proofs.lemmas.Bool.{and_parts, and_from, cond_both, cases_lt, cases_eq, le-leb, leb-true, leb-false, eq-eqb, true≢false}
+use Rattle.std.proofs.lemmas.List.{take-append-drop, take_at, drop-drop, append-nil, take-append-le, get_or_append_left, get_or-drop, length-append, length-drop, append_assoc, drop-append-le}
 use Rattle.std.proofs.lemmas.Slice.Eq.{bytes_eq-Decides}
 use Rattle.std.proofs.lemmas.Str.{IsCharBoundary-start, IsCharBoundary-from_rest}
 use Rattle.std.specs.Cmp.{both_ways}
 use Rattle.std.specs.List.{range_with_len, starts_with}
-use Rattle.std.specs.Str.{IsUtf8, IsCharBoundary}
-use Rattle.memchr.specs.Find.{Nowhere, IsFirst, OccursAt, FindsNeedle}
+use Rattle.std.specs.Str.{IsUtf8, IsCharBoundary, bytes_eq}
+use Rattle.memchr.specs.Find.{Nowhere, IsFirst, OccursAt, FindsNeedle, Passes, is_byte}
 use Rattle.memchr.proofs.lemmas.MatchLemmas.{OccursAt-split, OccursAt-from_part}
+use Rattle.std.specs.Prelude.{◌==◌}
+use Rattle.ansi_items.specs.Bytes.{escape}
+use Rattle.ansi_items.specs.Plain.{has_escape}
 use Rattle.ansi_slice.specs.Positions.{is_good_position, is_char_boundary}
 use Rattle.ansi_slice.specs.Parts.{is_match, first_match_from}
 use Rattle.ansi_slice.proofs.PositionLemmas.{is_good_position-past, is_char_boundary-from}
@@ -25,17 +28,6 @@ starts_with-splits x p h = sym (take-append-drop (length p) x) ∙ ap (λ v. v +
 pub starts_with-append : (w x p : List ℕ) → starts_with nat_eq (w ++ x) (w ++ p) ≡ starts_with nat_eq x p
 starts_with-append [] x p = refl
 starts_with-append (b ∷ w) x p = ap (λ t. t && starts_with nat_eq (w ++ x) (w ++ p)) (eq-eqb b b refl) ∙ starts_with-append w x p
-
--- neither begins with the other, so they differ somewhere
-pub starts_with-differs : (w x p : List ℕ) → ((rest : List ℕ) → w ≢ p ++ rest) → ((rest : List ℕ) → p ≢ w ++ rest) → starts_with nat_eq (w ++ x) p ≡ false
-starts_with-differs [] x p short long = absurd (long p refl)
-starts_with-differs (b ∷ w) x [] short long = absurd (short (b ∷ w) refl)
-starts_with-differs (b ∷ w) x (c ∷ p) short long = elim (cases_eq c b) [
-  | inl same ↦
-      ap (λ t. t && starts_with nat_eq (w ++ x) p) (eq-eqb c b same)
-      ∙ starts_with-differs w x p (λ rest is. short rest (ap₂ (λ d v. d ∷ v) (sym same) is)) (λ rest is. long rest (ap₂ (λ d v. d ∷ v) same is))
-  | inr other ↦ ap (λ t. t && starts_with nat_eq (w ++ x) p) (ne_eqb c b other)
-]
 
 -- A pattern that is a text stands at character boundaries alone.
 
@@ -186,55 +178,102 @@ occurrence_from_match w y p from s inside found =
     let is : p ≡ take (length p) (x ++ y) = (bytes_eq-Decides p (take (length p) (x ++ y))).0 (ap (λ v. starts_with nat_eq v p) (sym same) ∙ (and_parts (is_char_boundary (w ++ y) (from + s)) (starts_with nat_eq (drop (from + s) (w ++ y)) p) found).1) in
     OccursAt-from_part (drop from w) p s (let len : length (drop from w) ≡ length w - from = length-drop from w in omega (arith, inside, len)) (sym (is ∙ part))
 
--- the same of each place from `from` on
-inside_none : (w y p : List ℕ) (from k : ℕ) → from ≤ k → k + length p ≤ length w → ¬ (OccursAt (drop from w) p (k - from)) → ¬ (IsMatch (w ++ y) p k)
-inside_none w y p from k low fits none found =
-    let sum : k ≡ from + (k - from) = omega (arith, low) in
-    none (occurrence_from_match w y p from (k - from) (omega (arith, low, fits)) (subst (IsMatch (w ++ y) p) sum found))
+-- The first match in a run.
 
-pub found_inside : (w y p : List ℕ) (from s : ℕ) → IsUtf8 p → 0 < length p → from ≤ length w → FindsNeedle (drop from w) p 0 (Some s) → IsFirst (IsMatch (w ++ y) p) from (length w) (Some (from + s))
-found_inside w y p from s utf8 some inside finds =
+-- a match ends in the text
+pub match_fits : (x p : List ℕ) (i : ℕ) → 0 < length p → IsMatch x p i → i + length p ≤ length x
+match_fits x p i some found =
+    let splits : drop i x ≡ p ++ drop (length p) (drop i x) = starts_with-splits (drop i x) p (and_parts (is_char_boundary x i) (starts_with nat_eq (drop i x) p) found).1 in
+    omega (arith, some, ap length splits, length-append p (drop (length p) (drop i x)), length-drop i x)
+
+pub no_match-short : (x p : List ℕ) (from n : ℕ) → 0 < length p → length x < from + length p → Nowhere (IsMatch x p) from n
+no_match-short x p from n some short k low high found = omega (arith, low, short, match_fits x p k some found)
+
+-- a pattern that is longer than the text
+pub none-longer : (x p : List ℕ) (from : ℕ) → length x < length p → None ≡ first_match_from x p from
+none-longer x p from longer = first_match_from-is x p from None (no_match-short x p from (length x + 1) (omega (arith, longer)) (omega (arith, longer)))
+
+match_is : (w p : List ℕ) (from s : ℕ) → IsUtf8 p → 0 < length p → from ≤ length w → OccursAt (drop from w) p s → IsMatch w p (from + s)
+match_is w p from s utf8 some inside occurs = subst (λ v. IsMatch v p (from + s)) (append-nil w) (match_from_occurrence w [] p from s utf8 some inside occurs)
+
+no_match : (w p : List ℕ) (from k : ℕ) → 0 < length p → from ≤ k → ¬ (OccursAt (drop from w) p (k - from)) → ¬ (IsMatch w p k)
+no_match w p from k some low none found =
+    let sum : k ≡ from + (k - from) = omega (arith, low) in
+    let fits : k + length p ≤ length w = match_fits w p k some found in
+    none (occurrence_from_match w [] p from (k - from) (omega (arith, low, fits)) (subst (IsMatch (w ++ []) p) sum (subst (λ v. IsMatch v p k) (sym (append-nil w)) found)))
+
+-- a search of the run's bytes from `from` on finds it
+pub found_inside : (w p : List ℕ) (from s : ℕ) → IsUtf8 p → 0 < length p → from ≤ length w → FindsNeedle (drop from w) p 0 (Some s) → IsFirst (IsMatch w p) from (length w) (Some (from + s))
+found_inside w p from s utf8 some inside finds =
     let found = finds.0 in
     let fits : s + length p ≤ length (drop from w) = finds.1.fits in
     let len : length (drop from w) ≡ length w - from = length-drop from w in (
       record {
         low = omega arith;
         high = omega (arith, fits, len, some);
-        before = λ k low high. inside_none w y p from k low (omega (arith, high, fits, len, inside)) (found.before (k - from) (omega arith) (omega (arith, low, high)));
+        before = λ k low high. no_match w p from k some low (found.before (k - from) (omega arith) (omega (arith, low, high)));
       },
-      match_from_occurrence w y p from s utf8 some inside finds.1,
+      match_is w p from s utf8 some inside finds.1,
     )
 
--- where no match ends in the run, the first is the first that goes on past it
-pub found_across : (w y p : List ℕ) (from : ℕ) (r : Option ℕ) → from ≤ length w → FindsNeedle (drop from w) p 0 None → IsFirst (IsMatch (w ++ y) p) (max from (length w + 1 - length p)) (length w) r
-    → IsFirst (IsMatch (w ++ y) p) from (length w) r
-found_across w y p from r inside finds across = by_answer r across
+pub none_inside : (w p : List ℕ) (from : ℕ) → 0 < length p → from ≤ length w → FindsNeedle (drop from w) p 0 None → Nowhere (IsMatch w p) from (length w)
+none_inside w p from some inside finds k low high =
+    let len : length (drop from w) ≡ length w - from = length-drop from w in
+    no_match w p from k some low (finds (k - from) (omega arith) (omega (arith, len, low, high)))
+
+-- Where a run goes on.
+
+-- a match in the run is one in all
+pub is_match-front : (w y p : List ℕ) (i : ℕ) → i < length w → i + length p ≤ length w → is_match (w ++ y) p i ≡ is_match w p i
+is_match-front w y p i inside fits =
+    let all : length (w ++ y) ≡ length w + length y = length-append w y in
+    let rest : length (drop i w) ≡ length w - i = length-drop i w in
+    let here : nat_le i (length (w ++ y)) ≡ nat_le i (length w) = le-leb i (length (w ++ y)) (omega (arith, all, inside)) ∙ sym (le-leb i (length w) (omega (arith, inside))) in
+    let stands : starts_with nat_eq (drop i (w ++ y)) p ≡ starts_with nat_eq (drop i w) p
+    = ap (λ v. starts_with nat_eq v p) (drop-append-le i w y (omega (arith, inside)))
+    ∙ ap (bytes_eq p) (take-append-le (length p) (drop i w) y (omega (arith, rest, fits))) in
+    ap₂ (λ s b. (s && is_good_position (b ∷ []) 0) && starts_with nat_eq (drop i (w ++ y)) p) here (get_or_append_left w y 0 i inside)
+    ∙ ap (λ t. is_char_boundary w i && t) stands
+
+-- the first that begins and ends in the run is the first of all
+pub first_in_front : (w y p : List ℕ) (from s : ℕ) → s + length p ≤ length w → IsFirst (IsMatch w p) from (length w) (Some s) → IsFirst (IsMatch (w ++ y) p) from (length w) (Some s)
+first_in_front w y p from s fits first =
+    let found = first.0 in
+    let high : s < length w = found.high in (
+      record {
+        low = found.low;
+        high = high;
+        before = λ k low below match. found.before k low below (sym (is_match-front w y p k (omega (arith, below, high)) (omega (arith, below, fits))) ∙ match);
+      },
+      is_match-front w y p s high fits ∙ first.1,
+    )
+
+-- the empty pattern
+pub first_empty : (w y : List ℕ) (from : ℕ) (r : Option ℕ) → IsFirst (IsMatch w []) from (length w) r → IsFirst (IsMatch (w ++ y) []) from (length w) r
+first_empty w y from None none = λ k low high match. none k low high (sym (is_match-front w y [] k high (omega (arith, high))) ∙ match)
+first_empty w y from (Some s) first = (let found = first.0 in let high : s < length w = found.high in first_in_front w y [] from s (omega (arith, high)) first)
+
+-- of a run that is all of the text
+pub first_of_all : (w p : List ℕ) (from : ℕ) (r : Option ℕ) → 0 < length p → IsFirst (IsMatch w p) from (length w) r → r ≡ first_match_from w p from
+first_of_all w p from None some none = none_at_end w p from (length w) refl (λ empty. absurd (omega (arith, some, empty))) none
+first_of_all w p from (Some s) some first =
+    let found = first.0 in
+    let high : s < length w = found.high in
+    first_match_from-is w p from (Some s) (record { low = found.low; high = omega (arith, high); before = found.before }, first.1)
+
+-- no ESC is found, so there is none
+pub no_escape-found : (t : List ℕ) → Nowhere (Passes (is_byte escape) t) 0 (length t) → IsFalse (has_escape t)
+no_escape-found [] none = refl
+no_escape-found (b ∷ t) none = ap₂ (λ u v. u || v) (not_true (b == escape) (none 0 (omega arith) (omega arith))) (no_escape-found t (λ k low high passes. none (suc k) (omega arith) (omega (arith, high)) passes))
   where
-    short : (k : ℕ) → from ≤ k → k < length w + 1 - length p → ¬ (IsMatch (w ++ y) p k)
-    short k low high =
-        let len : length (drop from w) ≡ length w - from = length-drop from w in
-        inside_none w y p from k low (omega (arith, high)) (finds (k - from) (omega arith) (omega (arith, len, low, high)))
+    not_true : (c : Bool) → ¬ (c ≡ true) → c ≡ false
+    not_true true not = absurd (not refl)
+    not_true false not = refl
 
-    by_answer : (r : Option ℕ) → IsFirst (IsMatch (w ++ y) p) (max from (length w + 1 - length p)) (length w) r → IsFirst (IsMatch (w ++ y) p) from (length w) r
-    by_answer None none = λ k low high found. elim (cases_lt k (length w + 1 - length p)) [
-      | inl before ↦ short k low before found
-      | inr past ↦ none k (omega (arith, low, past)) high found
-    ]
-    by_answer (Some m) first =
-        let found = first.0 in
-        let low : max from (length w + 1 - length p) ≤ m = found.low in (
-          record {
-            low = omega (arith, low);
-            high = found.high;
-            before = λ k from_here to match. elim (cases_lt k (length w + 1 - length p)) [
-              | inl before ↦ short k from_here before match
-              | inr past ↦ found.before k (omega (arith, from_here, past)) to match
-            ];
-          },
-          first.1,
-        )
+-- A text from a position on, searched for what isn't empty.
 
--- one that goes on past the run is one of what is left of the run and the text after it
-pub is_match-across : (w y e p : List ℕ) (k : ℕ) → IsUtf8 p → 0 < length p → k ≤ length w → e ≡ drop k w → is_match (w ++ y) p k ≡ starts_with nat_eq (e ++ y) p
-is_match-across w y e p k utf8 some inside is =
-    is_match-utf8 (w ++ y) p k utf8 some ∙ ap (λ v. starts_with nat_eq v p) (drop-append-le k w y inside ∙ ap (λ v. v ++ y) (sym is))
+-- in the words of the text from there
+pub match-from : (x p : List ℕ) (from i : ℕ) → IsUtf8 p → 0 < length p → from ≤ i → is_match x p i ≡ starts_with nat_eq (drop (i - from) (drop from x)) p
+match-from x p from i utf8 some low =
+    let sum : from + (i - from) ≡ i = omega (arith, low) in
+    is_match-utf8 x p i utf8 some ∙ ap (λ v. starts_with nat_eq v p) (ap (λ n. drop n x) (sym sum) ∙ sym (drop-drop (i - from) from x))

@@ -98,6 +98,10 @@ good_range_parts x s e good =
 pub good_range_from : (x : List ℕ) (s e : ℕ) → s ≤ e → IsCharBoundary x s → IsCharBoundary x e → is_good_range x s (Some e) ≡ true
 good_range_from x s e ordered from to = and_from _ _ (le-leb s e ordered) (and_from _ _ (boundary_is_good x s from) (boundary_is_good x e to))
 
+-- all before a character boundary is a good range
+pub good_before : (x : List ℕ) (n : ℕ) → IsUtf8 x → IsCharBoundary x n → IsTrue (is_good_range x 0 (Some n))
+good_before x n utf8 boundary = good_range_from x 0 n (omega arith) (IsCharBoundary-start x utf8) boundary
+
 -- a range without an end is as good as one up to a position past the end
 pub is_good_range-top : (x : List ℕ) (s : ℕ) (end : Option ℕ) (top : ℕ) → IsTrue (is_good_range x s end) → s ≤ top → length x ≤ top → IsTrue (is_good_range x s (Some (unwrap_or end top)))
 is_good_range-top x s None top good below past = and_from _ _ (le-leb s top below) (and_from _ _ good (is_good_position-past x top past))

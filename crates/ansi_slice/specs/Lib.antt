@@ -2,6 +2,7 @@ pub use Rattle.ansi_items.specs.Bytes
 pub use Rattle.ansi_items.specs.Sequences
 pub use Rattle.ansi_items.specs.Pieces
 pub use Rattle.ansi_items.specs.Plain
+pub use Rattle.ansi_items.specs.Counts
 pub use Rattle.ansi_items.specs.Scans
 pub use Rattle.ansi_style.specs.Rendition
 pub use Rattle.ansi_style.specs.Sgr
@@ -16,3 +17,4 @@ pub mod Cut
 pub mod Sides
 pub mod Kept
 pub mod Parts
+pub mod Searches

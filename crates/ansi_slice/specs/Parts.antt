@@ -65,6 +65,16 @@ part t p k =
 abbrev pub all_parts : List ℕ → List ℕ → List (List ℕ)
 all_parts t p = filter_map (part t p) (range_with_len 0 (length (parts (plain t) p)))
 
+-- how many bytes of t the part over the interval i has, after a part that ends at `before`: its plain bytes and its marks
+unfoldable pub share_over : List ℕ → Option ℕ → ℕ × ℕ → ℕ
+share_over t before i = length (show (plain t) i.0 i.1 (past before (up_to i.1 (marks t))))
+
+-- the share of the part of index k: how many bytes of t it has, without those that are written for its style
+abbrev pub share : List ℕ → List ℕ → ℕ → ℕ
+share t p k =
+    let intervals = parts (plain t) p in
+    option_map_or (share_over t (end_before intervals k)) (slice_get intervals k) 0
+
 -- the part over the interval i holds no mark, and is empty or carries no style: it stands in t as it is
 unfoldable pub is_borrowed_over : List ℕ → Option ℕ → ℕ × ℕ → Bool
 is_borrowed_over t before i = length (past before (up_to i.1 (marks t))) == 0 && (i.0 == i.1 || not (has_any (carried t before)))

@@ -1,11 +1,12 @@
 //! Searches in a plain text, over the items of its text and without memory.
-ghost use Rattle.std.specs.Prelude.{◌≡◌, ◌↔◌, IsTrue};
+ghost use Rattle.std.specs.Prelude.{◌≡◌, ◌↔◌, None, Some, IsTrue};
 ghost use Rattle.std.specs.Str.{IsCharBoundary};
 ghost use Rattle.ansi_items.specs.Plain.{plain};
 ghost use Rattle.ansi_slice.specs.Positions.{is_good_position, is_char_boundary, is_good_range};
 
 mod ends;
 mod matches;
+mod pattern;
 
 use ansi_items::ansitok::{Kind, Scanner};
 pub use ends::{ends_with, starts_with, suffix_start, trim_interval};
@@ -35,6 +36,8 @@ pub fn is_good_position(text: &str, position: usize) -> bool
 pub fn is_char_boundary(text: &str, index: usize) -> bool
     ensures value { result ≡ is_char_boundary (plain text.now) index }
     ensures boundary { IsTrue result ↔ IsCharBoundary (plain text.now) index }
+    ensures good_before { IsTrue result → IsTrue (is_good_range (plain text.now) 0 (Some index)) }
+    ensures good_after { IsTrue result → IsTrue (is_good_range (plain text.now) index None) }
 {
     let mut offset = index;
     for item in Scanner::new(text) {

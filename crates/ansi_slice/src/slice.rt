@@ -34,7 +34,7 @@ pub fn strip_in<'t, A: Allocator>(alloc: A, text: &'t str) -> Result<CowStr<'t, 
     if !has_any(text) {
         return Ok(CowStr::Borrowed(text));
     }
-    let mut plain = String::new(alloc);
+    let mut plain = String::with_capacity(alloc, text.len())?;
     for item in Scanner::new(text) {
         if item.kind == Kind::Text {
             plain.push_str(&text[item.start..item.end])?;

@@ -30,8 +30,8 @@ use Rattle.ansi_slice.proofs.SideLemmas.{left_side-bare, right_side-bare}
 use Rattle.ansi_style.proofs.StyledLemmas.{bytes_of-styled}
 use Rattle.ansi_slice.proofs.TrimLemmas.{slice_range-trim_interval}
 use Rattle.ansi_slice.proofs.KeptWalkLemmas.{kept-bare}
-use Rattle.ansi_str.proofs.KeptLemmas.{plain-kept}
-use Rattle.ansi_str.proofs.KeptAsStdLemmas.{plain-without_prefix, plain-without_suffix}
+use Rattle.ansi_slice.proofs.KeptLemmas.{plain-kept}
+use Rattle.ansi_slice.proofs.KeptAsStdLemmas.{plain-without_prefix, plain-without_suffix}
 use Rattle.ansi_str.proofs.StdSplitLemmas.{parts_are_split}
 use Rattle.ansi_str.proofs.CharacterLemmas.{slices_over-parts-empty}
 use Rattle.ansi_str.proofs.PartTextLemmas.{map-all_parts}

@@ -31,13 +31,13 @@ waiting_before (LoneEscape ∷ ps) = copied LoneEscape ++ waiting_before ps
 -- What waits at a place, by the marks.
 
 -- the bytes of marks that are no SGR
-abbrev others : List Mark → List ℕ
+abbrev pub others : List Mark → List ℕ
 others ms = joined (filter (λ m. not (is_sgr m.bytes)) ms)
 
-abbrev waiting_at : List Piece → ℕ → List ℕ
+abbrev pub waiting_at : List Piece → ℕ → List ℕ
 waiting_at ps i = others (at_place i (marks_of ps))
 
-others-further : (n i : ℕ) (ms : List Mark) → others (at_place (n + i) (map (further n) ms)) ≡ others (at_place i ms)
+pub others-further : (n i : ℕ) (ms : List Mark) → others (at_place (n + i) (map (further n) ms)) ≡ others (at_place i ms)
 others-further n i [] = refl
 others-further n i (m ∷ ms) =
     let same : (n + m.place == n + i) ≡ (m.place == i) = grind (arith, nat_tests) in
@@ -62,14 +62,14 @@ others-front n (m ∷ ms) some =
     ap (λ b. others (if b then further n m ∷ at_place 0 (map (further n) ms) else at_place 0 (map (further n) ms))) apart ∙ others-front n ms some
 
 -- a mark at the front
-others-here : (v : List ℕ) (ms : List Mark) → others (at_place 0 (record { place = 0; bytes = v } ∷ ms)) ≡ (if is_sgr v then [] else v) ++ others (at_place 0 ms)
+pub others-here : (v : List ℕ) (ms : List Mark) → others (at_place 0 (record { place = 0; bytes = v } ∷ ms)) ≡ (if is_sgr v then [] else v) ++ others (at_place 0 ms)
 others-here v ms = by_kind (is_sgr v)
   where
     by_kind : (b : Bool) → joined (if not b then record { place = 0; bytes = v } ∷ filter (λ k. not (is_sgr k.bytes)) (at_place 0 ms) else filter (λ k. not (is_sgr k.bytes)) (at_place 0 ms)) ≡ (if b then [] else v) ++ others (at_place 0 ms)
     by_kind true = refl
     by_kind false = refl
 
-others-after : (v : List ℕ) (ms : List Mark) (i : ℕ) → 0 < i → others (at_place i (record { place = 0; bytes = v } ∷ ms)) ≡ others (at_place i ms)
+pub others-after : (v : List ℕ) (ms : List Mark) (i : ℕ) → 0 < i → others (at_place i (record { place = 0; bytes = v } ∷ ms)) ≡ others (at_place i ms)
 others-after v ms i some =
     let apart : (0 == i) ≡ false = grind (arith, nat_tests) in
     ap (λ b. others (if b then record { place = 0; bytes = v } ∷ at_place i ms else at_place i ms)) apart

@@ -16,9 +16,9 @@ use Rattle.ansi_str.specs.Changes.{Change, CutRange, LeftOf, RightOf, PartOf, Wi
 use Rattle.ansi_str.specs.Edited.{text_of, edited_by, closes}
 use Rattle.ansi_slice.proofs.SliceLemmas.{slice_range-past, slice_range-map}
 use Rattle.ansi_style.proofs.StyledLemmas.{bytes_of-styled}
-use Rattle.ansi_str.proofs.CutSliceLemmas.{styled-cut, is_whole-cut, residue-cut}
-use Rattle.ansi_str.proofs.SideSliceLemmas.{left_side_is, right_side_is}
-use Rattle.ansi_str.proofs.KeptLemmas.{styled-kept, is_whole-kept, residue-kept}
+use Rattle.ansi_slice.proofs.CutSliceLemmas.{styled-cut, is_whole-cut, residue-cut}
+use Rattle.ansi_slice.proofs.SideSliceLemmas.{left_side_is, right_side_is}
+use Rattle.ansi_slice.proofs.KeptLemmas.{styled-kept, is_whole-kept, residue-kept}
 use Rattle.ansi_str.proofs.PartSliceLemmas.{text_of-part_is}
 
 -- u is what a change makes of t that keeps the interval i; it closes, or leaves open what t does

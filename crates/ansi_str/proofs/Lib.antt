@@ -1,10 +1,6 @@
 pub mod BlockLemmas
+pub mod BlockRunLemmas
 pub mod BlockWalkLemmas
-pub mod ShownLemmas
-pub mod CutSliceLemmas
-pub mod SideSliceLemmas
-pub mod KeptLemmas
-pub mod KeptAsStdLemmas
 pub mod IntervalLemmas
 pub mod PartSliceLemmas
 pub mod BetweenLemmas
@@ -21,7 +17,7 @@ pub mod ChangeLemmas
 pub mod EditLemmas
 pub mod BareLemmas
 pub mod SplitLemmas
-pub mod LengthLemmas
+pub mod PartLengthLemmas
 pub mod EditWalkLemmas
 mod EditExamples
 mod BlockExamples

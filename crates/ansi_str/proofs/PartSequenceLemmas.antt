@@ -20,7 +20,7 @@ use Rattle.ansi_items.proofs.JoinLemmas.{spelled, AllStandAnywhere, pieces_of-sp
 use Rattle.ansi_style.proofs.ColorLemmas.{sgr_parameters-written}
 use Rattle.ansi_style.proofs.ReadBackLemmas.{AreCodes, code_pieces, start_codes_are}
 use Rattle.ansi_style.proofs.DressedLemmas.{dressed_pieces}
-use Rattle.ansi_str.proofs.ShownLemmas.{shown_pieces, piece_when}
+use Rattle.ansi_slice.proofs.ShownLemmas.{shown_pieces, piece_when}
 use Rattle.ansi_str.proofs.IntervalLemmas.{ComesAfter, ComeAfter, all_parts_come_after}
 use Rattle.ansi_str.proofs.PartSliceLemmas.{shown_pieces-nothing, earlier_places, own_pieces, spelled-own_pieces, own_pieces_stand, all_pieces, closing_codes, closing_codes_are, IsStyle-carried, part_pieces, spelled-part_pieces, part_pieces_stand}
 use Rattle.ansi_str.proofs.PartTextLemmas.{parts_over, all_parts-over}

@@ -24,7 +24,7 @@ use Rattle.ansi_style.proofs.ReadBackLemmas.{AreCodes, close_codes_are}
 use Rattle.ansi_style.proofs.CloseLemmas.{close_codes_clear}
 use Rattle.ansi_style.proofs.UnsetLemmas.{known-unset}
 use Rattle.ansi_style.proofs.DressedLemmas.{GiveAlone, IsClosed, closed-spelled, Clears, dressed_pieces, spelled-dressed_pieces, dressed_pieces_stand, dressed_pieces_give}
-use Rattle.ansi_str.proofs.ShownLemmas.{at_places, piece_when, shown_pieces, spelled-shown_pieces, shown_pieces_stand, style_through-shown_pieces, styled_through-shown_pieces}
+use Rattle.ansi_slice.proofs.ShownLemmas.{at_places, piece_when, shown_pieces, spelled-shown_pieces, shown_pieces_stand, style_through-shown_pieces, styled_through-shown_pieces}
 use Rattle.ansi_str.proofs.IntervalLemmas.{ComesAfter, parts_come_after}
 
 -- The marks of the parts before, and then what a part shows, are what is shown with the marks of all.

@@ -14,7 +14,7 @@ use Rattle.std.specs.Prelude.{◌==◌}
 use Rattle.ansi_items.proofs.PieceLemmas.{pieces_are, pieces_of-unique}
 use Rattle.ansi_items.proofs.PlainLemmas.{all_plain_bytes, no_escape}
 use Rattle.ansi_items.proofs.JoinLemmas.{after_text_are}
-use Rattle.ansi_slice.proofs.MatchLemmas.{IsMatch, first_match_in}
+use Rattle.ansi_slice.proofs.MatchLemmas.{IsMatch, match_fits, first_in_front, first_match_in}
 use Rattle.ansi_str.proofs.AfterLemmas.{drop-take, front_len, front_len-last, is_cut_after}
 use Rattle.ansi_str.proofs.SpanLemmas.{is_cut_at_match}
 
@@ -58,10 +58,15 @@ match_in_run t w rest p from place utf8 utf8_p spelled none first =
     is_cut_at_match t p from place (take place t) (drop place t) utf8 utf8_p found
     (is_cut_after t place place (sym (ap (front_len place) pieces ∙ front_len-after_text place w (pieces_of rest) inside)))
 
-pub matches_in_run : (t w rest p : List ℕ) (from : ℕ) (r : Option ℕ) → IsUtf8 t → IsUtf8 p → t ≡ w ++ rest → IsFalse (has_escape w) → IsFirst (IsMatch (w ++ plain rest) p) from (length w) r
+-- a search of the run alone finds it
+pub matches_in_run : (t w rest p : List ℕ) (from : ℕ) (r : Option ℕ) → IsUtf8 t → IsUtf8 p → t ≡ w ++ rest → IsFalse (has_escape w) → IsFirst (IsMatch w p) from (length w) r
     → IfSome r (λ place. IsCutAtMatch t p from (take place t) (drop place t))
 matches_in_run t w rest p from None utf8 utf8_p spelled none first = tt
-matches_in_run t w rest p from (Some place) utf8 utf8_p spelled none first = match_in_run t w rest p from place utf8 utf8_p spelled none first
+matches_in_run t w rest p from (Some place) utf8 utf8_p spelled none first = match_in_run t w rest p from place utf8 utf8_p spelled none (first_in_front w (plain rest) p from place (fits p first) first)
+  where
+    fits : (q : List ℕ) → IsFirst (IsMatch w q) from (length w) (Some place) → place + length q ≤ length w
+    fits [] one = (let high = one.0.high in omega (arith, high))
+    fits (b ∷ q) one = match_fits w (b ∷ q) place (omega arith) one.1
 
 -- What is left of the run after a place in it.
 

@@ -23,7 +23,7 @@ use Rattle.ansi_slice.proofs.SliceLemmas.{slice_range-from_past}
 use Rattle.ansi_slice.proofs.ShowLemmas.{show-text}
 use Rattle.ansi_style.proofs.MarkLemmas.{further, marks_of-text, marks_of-sequence, marks_of-lone, up_to-further, up_to-here}
 use Rattle.ansi_items.proofs.Utf8Lemmas.{IsUtf8-plain}
-use Rattle.ansi_str.proofs.ShownLemmas.{at_places, at_places-further}
+use Rattle.ansi_slice.proofs.ShownLemmas.{at_places, at_places-further}
 use Rattle.ansi_str.proofs.PartSliceLemmas.{own_places, past-places, at_places-at_places}
 use Rattle.ansi_slice.proofs.PositionLemmas.{good_is_boundary, is_good_position-past, is_char_boundary-from}
 use Rattle.ansi_slice.proofs.MatchLemmas.{starts_with-splits}
@@ -43,7 +43,7 @@ up_to-past e (Sequence w ∷ ps) past =
 up_to-past e (LoneEscape ∷ ps) past =
     ap (up_to e) (marks_of-lone ps) ∙ up_to-here e (escape ∷ []) (marks_of ps) ∙ ap (λ ms. record { place = 0; bytes = escape ∷ [] } ∷ ms) (up_to-past e ps past) ∙ sym (marks_of-lone ps)
 
-past-none : (ms : List Mark) → past None ms ≡ ms
+pub past-none : (ms : List Mark) → past None ms ≡ ms
 past-none [] = refl
 past-none (m ∷ ms) = ap (λ ks. m ∷ ks) (past-none ms)
 
@@ -77,6 +77,7 @@ abbrev made_of : Bool → ℕ → Rendition → List ℕ → Rendition → Split
 made_of same n style shown last = record {
   bytes = if same && n == 0 then [] else start style ++ shown ++ close_if_any last;
   borrowed = n == 0 && (same || not (has_any style));
+  share = length shown;
 }
 
 made_of-alike : {same same' : Bool} {n n' : ℕ} {style style' last last' : Rendition} {shown shown' : List ℕ} → same ≡ same' → n ≡ n' → style ≡ style' → shown ≡ shown' → last ≡ last'

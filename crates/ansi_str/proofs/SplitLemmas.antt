@@ -14,9 +14,9 @@ use Rattle.ansi_style.specs.Rendition.{plain_style, has_any}
 use Rattle.ansi_style.specs.Written.{start, close_if_any}
 use Rattle.ansi_style.specs.Reading.{after_marks, style_within}
 use Rattle.ansi_slice.specs.Cut.{show}
-use Rattle.ansi_slice.specs.Parts.{parts, end_before, past, part_over, part, all_parts, is_borrowed_over, is_part_borrowed}
+use Rattle.ansi_slice.specs.Parts.{parts, end_before, past, part_over, part, all_parts, share_over, share, is_borrowed_over, is_part_borrowed}
 use Rattle.ansi_str.specs.Splits.{SplitPart}
-use Rattle.ansi_str.specs.Spans.{part_from, parts_from, parts_left, span_part, span_text}
+use Rattle.ansi_str.specs.Spans.{part_from, parts_from, parts_left, span_part, span_text, IsWritten, IsBare}
 use Rattle.ansi_items.proofs.PieceLemmas.{pieces_are}
 use Rattle.ansi_items.proofs.PlainLemmas.{no_escape, plain-bare}
 use Rattle.ansi_slice.proofs.SliceLemmas.{slice_range-past}
@@ -89,18 +89,36 @@ is_part_borrowed-parts_left t p k =
     by_interval None = refl
     by_interval (Some i) = sym (borrowed-part_from t (end_before (parts (plain t) p) k) i)
 
+pub share-part_from : (t : List ℕ) (before : Option ℕ) (i : ℕ × ℕ) → (part_from plain_style t before i).share ≡ share_over t before i
+unfolding part_from share_over
+share-part_from t before i = refl
+
+pub share-parts_left : (t p : List ℕ) (k : ℕ) → share t p k ≡ option_map_or (λ (q : SplitPart). q.share) (slice_get (parts_left plain_style t p 0 0) k) 0
+share-parts_left t p k =
+    by_interval (slice_get (parts (plain t) p) k) ∙ ap (λ o. option_map_or (λ (q : SplitPart). q.share) o 0) (sym (slice_get-parts_left t p k))
+  where
+    by_interval : (o : Option (ℕ × ℕ)) → option_map_or (share_over t (end_before (parts (plain t) p) k)) o 0
+        ≡ option_map_or (λ (q : SplitPart). q.share) (option_map (part_from plain_style t (end_before (parts (plain t) p) k)) o) 0
+    by_interval None = refl
+    by_interval (Some i) = sym (share-part_from t (end_before (parts (plain t) p) k) i)
+
 -- where h gives of each index, from a on, what f is of the element
-map-by_index : {X : Type 0} (f : X → Bool) (h : ℕ → Bool) (xs : List X) (a : ℕ) → ((j : ℕ) → h (a + j) ≡ option_map_or f (slice_get xs j) false) → map f xs ≡ map h (range_with_len a (length xs))
-map-by_index f h [] a gives = refl
-map-by_index f h (x ∷ xs) a gives =
+map-by_index : {X Y : Type 0} (f : X → Y) (none : Y) (h : ℕ → Y) (xs : List X) (a : ℕ) → ((j : ℕ) → h (a + j) ≡ option_map_or f (slice_get xs j) none) → map f xs ≡ map h (range_with_len a (length xs))
+map-by_index f none h [] a gives = refl
+map-by_index f none h (x ∷ xs) a gives =
     let same : a ≡ a + 0 = omega arith in
     let next : (j : ℕ) → a + 1 + j ≡ a + suc j = λ j. omega arith in
-    ap₂ (λ b bs. b ∷ bs) (sym (ap h same ∙ gives 0)) (map-by_index f h xs (a + 1) (λ j. ap h (next j) ∙ gives (suc j)))
+    ap₂ (λ b bs. b ∷ bs) (sym (ap h same ∙ gives 0)) (map-by_index f none h xs (a + 1) (λ j. ap h (next j) ∙ gives (suc j)))
+
+pub shares-parts_left : (t p : List ℕ) → map (λ (q : SplitPart). q.share) (parts_left plain_style t p 0 0) ≡ map (share t p) (range_with_len 0 (length (parts_left plain_style t p 0 0)))
+shares-parts_left t p =
+    let first : (j : ℕ) → 0 + j ≡ j = λ j. omega arith in
+    map-by_index (λ (q : SplitPart). q.share) 0 (share t p) (parts_left plain_style t p 0 0) 0 (λ j. ap (share t p) (first j) ∙ share-parts_left t p j)
 
 pub borrowed-parts_left : (t p : List ℕ) → map (λ (q : SplitPart). q.borrowed) (parts_left plain_style t p 0 0) ≡ map (is_part_borrowed t p) (range_with_len 0 (length (parts_left plain_style t p 0 0)))
 borrowed-parts_left t p =
     let first : (j : ℕ) → 0 + j ≡ j = λ j. omega arith in
-    map-by_index (λ (q : SplitPart). q.borrowed) (is_part_borrowed t p) (parts_left plain_style t p 0 0) 0 (λ j. ap (is_part_borrowed t p) (first j) ∙ is_part_borrowed-parts_left t p j)
+    map-by_index (λ (q : SplitPart). q.borrowed) false (is_part_borrowed t p) (parts_left plain_style t p 0 0) 0 (λ j. ap (is_part_borrowed t p) (first j) ∙ is_part_borrowed-parts_left t p j)
 
 -- Where no ESC stands, each part is a borrow.
 
@@ -164,15 +182,13 @@ span_part-borrowed c t skip = ap (λ (own : List Mark). length own == 0 && (skip
 
 -- where a sequence stands in it, or it isn't empty and a style is carried,
 
-abbrev pub IsWritten : Rendition → List ℕ → ℕ → Type 0
-IsWritten c t skip = span_part c t skip ≡ record { bytes = span_text c t skip; borrowed = false }
-
 pub written-escape : (c : Rendition) (t : List ℕ) (skip : ℕ) → has_escape t ≡ true → IsWritten c t skip
 written-escape c t skip some =
     let marked = escape_is_marked t some in
-    ap₂ (λ w b. record { bytes = w; borrowed = b })
-    (span_part-else c t skip (ap (λ b. skip == length (plain t) && b) marked ∙ never (skip == length (plain t))))
-    (span_part-borrowed c t skip ∙ ap (λ b. b && (skip == length (plain t) || not (has_any c))) marked)
+    record {
+      bytes = span_part-else c t skip (ap (λ b. skip == length (plain t) && b) marked ∙ never (skip == length (plain t)));
+      owned = span_part-borrowed c t skip ∙ ap (λ b. b && (skip == length (plain t) || not (has_any c))) marked;
+    }
   where
     never : (b : Bool) → (b && false) ≡ false
     never true = refl
@@ -181,18 +197,16 @@ written-escape c t skip some =
 pub written-styled : (c : Rendition) (t : List ℕ) (skip : ℕ) → has_escape t ≡ false → (skip == length t) ≡ false → has_any c ≡ true → IsWritten c t skip
 written-styled c t skip none filled any =
     let more : (skip == length (plain t)) ≡ false = ap (λ x. skip == length x) (plain-bare t none) ∙ filled in
-    ap₂ (λ w b. record { bytes = w; borrowed = b })
-    (span_part-else c t skip (ap (λ b. b && length (marks t) == 0) more))
-    (span_part-borrowed c t skip ∙ ap₂ (λ a b. length (marks t) == 0 && (a || not b)) more any ∙ never (length (marks t) == 0))
+    record {
+      bytes = span_part-else c t skip (ap (λ b. b && length (marks t) == 0) more);
+      owned = span_part-borrowed c t skip ∙ ap₂ (λ a b. length (marks t) == 0 && (a || not b)) more any ∙ never (length (marks t) == 0);
+    }
   where
     never : (b : Bool) → (b && false) ≡ false
     never true = refl
     never false = refl
 
 -- and as it stands in the text, where it is empty or no style is carried.
-
-abbrev pub IsBare : Rendition → List ℕ → ℕ → List ℕ → Type 0
-IsBare c t skip u = span_part c t skip ≡ record { bytes = u; borrowed = true }
 
 bare_part : (c : Rendition) (t : List ℕ) (skip : ℕ) → has_escape t ≡ false → (span_part c t skip).bytes ≡ (if skip == length t && true then [] else start c ++ drop skip t ++ close_if_any c)
 unfolding part_from
@@ -205,20 +219,22 @@ bare_part c t skip none =
 pub bare-empty : (c : Rendition) (t : List ℕ) (skip : ℕ) → has_escape t ≡ false → skip ≡ length t → IsBare c t skip (drop skip t)
 bare-empty c t skip none end =
     let same : (skip == length t) ≡ true = eq-eqb skip (length t) end in
-    ap₂ (λ w b. record { bytes = w; borrowed = b })
-    (bare_part c t skip none ∙ ap (λ b. if b && true then [] else start c ++ drop skip t ++ close_if_any c) same ∙ sym (drop_all skip t (omega (arith, end))))
-    (span_part-borrowed c t skip ∙ ap₂ (λ (ms : List Mark) (x : List ℕ). length ms == 0 && (skip == length x || not (has_any c))) (marks-bare t none) (plain-bare t none)
-    ∙ ap (λ b. b || not (has_any c)) same)
+    record {
+      bytes = bare_part c t skip none ∙ ap (λ b. if b && true then [] else start c ++ drop skip t ++ close_if_any c) same ∙ sym (drop_all skip t (omega (arith, end)));
+      borrowed = span_part-borrowed c t skip ∙ ap₂ (λ (ms : List Mark) (x : List ℕ). length ms == 0 && (skip == length x || not (has_any c))) (marks-bare t none) (plain-bare t none)
+          ∙ ap (λ b. b || not (has_any c)) same;
+    }
 
 pub bare-unstyled : (c : Rendition) (t : List ℕ) (skip : ℕ) → has_escape t ≡ false → skip ≤ length t → has_any c ≡ false → IsBare c t skip (drop skip t)
 bare-unstyled c t skip none inside unset =
-    ap₂ (λ w b. record { bytes = w; borrowed = b })
-    (bare_part c t skip none
-    ∙ cond_both (skip == length t && true) [] (start c ++ drop skip t ++ close_if_any c) (λ w. w ≡ drop skip t)
-    (λ empty. sym (drop_all skip t (omega (arith, eqb-true skip (length t) (and_parts (skip == length t) true empty).0))))
-    (λ some. ap₂ (λ u v. u ++ drop skip t ++ v) (start-unset c unset) (close_if_any-unset c unset) ∙ append-nil (drop skip t)))
-    (span_part-borrowed c t skip ∙ ap₂ (λ (ms : List Mark) b. length ms == 0 && (skip == length (plain t) || not b)) (marks-bare t none) unset
-    ∙ either (skip == length (plain t)))
+    record {
+      bytes = bare_part c t skip none
+          ∙ cond_both (skip == length t && true) [] (start c ++ drop skip t ++ close_if_any c) (λ w. w ≡ drop skip t)
+          (λ empty. sym (drop_all skip t (omega (arith, eqb-true skip (length t) (and_parts (skip == length t) true empty).0))))
+          (λ some. ap₂ (λ u v. u ++ drop skip t ++ v) (start-unset c unset) (close_if_any-unset c unset) ∙ append-nil (drop skip t));
+      borrowed = span_part-borrowed c t skip ∙ ap₂ (λ (ms : List Mark) b. length ms == 0 && (skip == length (plain t) || not b)) (marks-bare t none) unset
+          ∙ either (skip == length (plain t));
+    }
   where
     either : (b : Bool) → (b || true) ≡ true
     either true = refl
@@ -231,6 +247,7 @@ pub record IsPartAt (t p : List ℕ) (k : ℕ) (q : SplitPart) : Type 0 where
   pub found : slice_get (parts (plain t) p) k ≡ Some interval
   pub bytes : part t p k ≡ Some q.bytes
   pub borrowed : is_part_borrowed t p k ≡ q.borrowed
+  pub share : share t p k ≡ q.share
   pub bare : IsFalse (has_escape t) → q.borrowed ≡ true
 
 pub part_at : (t p : List ℕ) (k : ℕ) (q : SplitPart) → slice_get (parts_left plain_style t p 0 0) k ≡ Some q → IsPartAt t p k q
@@ -245,6 +262,7 @@ part_at t p k q at = by_interval (slice_get (parts (plain t) p) k) refl
           found = is;
           bytes = part-parts_left t p k ∙ ap (option_map (λ (q : SplitPart). q.bytes)) at;
           borrowed = borrowed;
+          share = share-parts_left t p k ∙ ap (λ o. option_map_or (λ (q : SplitPart). q.share) o 0) at;
           bare = λ none. sym borrowed ∙ is_part_borrowed-bare t p k i none is;
         }
 

@@ -1,12 +1,12 @@
 -- The blocks of a text: each run of text, after the sequences that wait for it, with its style.
-use Rattle.std.specs.Prelude.{◌≡◌, ℕ, Bool, true, false, not, List, [], ◌∷◌, ◌++◌, ◌==◌, length, filter, filter_map, Option, Some, None, Result, Ok, Err, IsFalse}
+use Rattle.std.specs.Prelude.{◌≡◌, ℕ, Bool, true, false, not, List, [], ◌∷◌, ◌++◌, ◌==◌, length, filter, filter_map, flat_map, Option, Some, None, Result, Ok, Err, IsFalse}
 use Rattle.std.specs.declared.borrow.CowStr.{CowStr}
 use Rattle.std.specs.declared.borrow.CowStr.TheVariants.{Borrowed, Owned}
 use Rattle.ansi_items.specs.Sequences.{is_sgr}
 use Rattle.ansi_style.specs.declared.state.rendition.Rendition.{Rendition}
 use Rattle.ansi_style.specs.Rendition.{plain_style}
-use Rattle.ansi_items.specs.Pieces.{Piece, Text, Sequence, LoneEscape, pieces_of}
-use Rattle.ansi_items.specs.Plain.{Placed, places, marks, joined}
+use Rattle.ansi_items.specs.Pieces.{Piece, Text, Sequence, LoneEscape, spelling, pieces_of}
+use Rattle.ansi_items.specs.Plain.{Placed, places, marks, joined, is_text}
 use Rattle.ansi_style.specs.Reading.{style_within}
 use Rattle.ansi_slice.specs.Cut.{at_place}
 
@@ -33,6 +33,14 @@ block_of sequences s LoneEscape = None
 -- the blocks of t, in order, where s is the style before it
 unfoldable pub blocks_from : Rendition → List ℕ → List Block
 blocks_from s t = filter_map (λ (p : Placed). block_of (waiting t p.place) (style_within s t p.place) p.piece) (places (pieces_of t))
+
+-- the runs of text of t, each at its place
+abbrev pub runs : List ℕ → List Placed
+runs t = filter (λ (p : Placed). is_text p.piece) (places (pieces_of t))
+
+-- t without its SGRs
+abbrev pub without_sgrs : List ℕ → List ℕ
+without_sgrs t = flat_map spelling (filter (λ p. not (is_sgr (spelling p))) (pieces_of t))
 
 -- the blocks of t, in order (the Rust crate)
 abbrev pub blocks : List ℕ → List Block

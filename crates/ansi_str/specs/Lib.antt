@@ -2,6 +2,7 @@ pub use Rattle.ansi_items.specs.Bytes
 pub use Rattle.ansi_items.specs.Sequences
 pub use Rattle.ansi_items.specs.Pieces
 pub use Rattle.ansi_items.specs.Plain
+pub use Rattle.ansi_items.specs.Counts
 pub use Rattle.ansi_items.specs.Scans
 pub use Rattle.ansi_style.specs.Rendition
 pub use Rattle.ansi_style.specs.Sgr
@@ -16,8 +17,11 @@ pub use Rattle.ansi_slice.specs.Cut
 pub use Rattle.ansi_slice.specs.Sides
 pub use Rattle.ansi_slice.specs.Kept
 pub use Rattle.ansi_slice.specs.Parts
+pub mod Orders
+pub use Rattle.ansi_slice.specs.Searches
 pub mod StdSplit
 pub mod Blocks
+pub mod Same
 pub mod Changes
 pub mod Edited
 pub mod Edits

@@ -1,5 +1,5 @@
 -- The parts of a text that is read where a style is already open, and after the match before.
-use Rattle.std.specs.Prelude.{◌≡◌, ℕ, ◌+◌, ◌==◌, not, ◌&&◌, ◌||◌, List, [], ◌∷◌, ◌++◌, length, map, zip, drop, take, Option, Some, None, if◌then◌else◌, IsTrue}
+use Rattle.std.specs.Prelude.{◌≡◌, ℕ, ◌+◌, ◌==◌, true, false, not, ◌&&◌, ◌||◌, List, [], ◌∷◌, ◌++◌, length, map, zip, drop, take, Option, Some, None, if◌then◌else◌, IsTrue}
 use Rattle.std.specs.Option.{option_map_or}
 use Rattle.ansi_style.specs.declared.state.rendition.Rendition.{Rendition}
 use Rattle.ansi_style.specs.Rendition.{has_any}
@@ -43,6 +43,7 @@ part_from c t before i =
     record {
       bytes = if i.0 == i.1 && length own == 0 then [] else start style ++ show (plain t) i.0 i.1 own ++ close_if_any (style_within c t i.1);
       borrowed = length own == 0 && (i.0 == i.1 || not (has_any style));
+      share = length (show (plain t) i.0 i.1 own);
     }
 
 -- the parts over intervals of t in order, the first after a part that ends at `before`
@@ -63,3 +64,13 @@ span_text c t skip = start c ++ show (plain t) skip (length (plain t)) (marks t)
 -- the part that all of t is, but for its first `skip` plain bytes
 abbrev pub span_part : Rendition → List ℕ → ℕ → SplitPart
 span_part c t skip = part_from c t None (skip, length (plain t))
+
+-- that part has to be written
+pub record IsWritten (c : Rendition) (t : List ℕ) (skip : ℕ) : Type 0 where
+  pub bytes : (span_part c t skip).bytes ≡ span_text c t skip
+  pub owned : (span_part c t skip).borrowed ≡ false
+
+-- that part is u, as it stands in t
+pub record IsBare (c : Rendition) (t : List ℕ) (skip : ℕ) (u : List ℕ) : Type 0 where
+  pub bytes : (span_part c t skip).bytes ≡ u
+  pub borrowed : (span_part c t skip).borrowed ≡ true

@@ -3,7 +3,7 @@ ghost use Rattle.std.specs.Prelude.{◌≡◌, ◌∷◌, [], ◌++◌, ◌≤�
 ghost use Rattle.std.specs.Cow.{cow_str_bytes};
 ghost use Rattle.ansi_style.specs.Rendition.{has_any};
 ghost use Rattle.ansi_style.specs.States.{rendition_of};
-ghost use Rattle.ansi_str.specs.Blocks.{waiting, block_after, blocks, blocks_from, is_borrow};
+ghost use Rattle.ansi_str.specs.Blocks.{waiting, block_after, blocks, blocks_from, runs, is_borrow};
 
 use crate::ansitok::{Kind, Scanner};
 use ansi_style::state::{Rendition, Style};
@@ -155,6 +155,7 @@ impl<'a, A: Allocator> Model for AnsiBlockIter<'a, A> {
 /// ```
 pub fn get_blocks(alloc: Global, text: &str) -> AnsiBlockIter<'_>
     ensures blocks { result ≡ blocks text.now }
+    ensures runs { length result ≡ length (runs text.now) }
     ensures len { length result ≤ length text.now }
 {
     get_blocks_in(alloc, text)
@@ -163,6 +164,7 @@ pub fn get_blocks(alloc: Global, text: &str) -> AnsiBlockIter<'_>
 /// As [`get_blocks`], with the blocks' memory taken from any allocator.
 pub fn get_blocks_in<A: Allocator>(alloc: A, text: &str) -> AnsiBlockIter<'_, A>
     ensures blocks { result ≡ blocks text.now }
+    ensures runs { length result ≡ length (runs text.now) }
     ensures len { length result ≤ length text.now }
 {
     AnsiBlockIter {

@@ -1,16 +1,17 @@
 //! The calls on a text that take it as if its sequences weren't there.
-ghost use Rattle.std.specs.Prelude.{◌≡◌, ◌↔◌, ◌⊎◌, ℕ, List, [], IsTrue, IsFalse, IsNone, IsOk, IfOk, IfSome, nat_eq, string_bytes, ◌+◌, ◌<◌, ◌^◌, length, None, Some, MatchOption, ◌≤◌, map};
-ghost use Rattle.std.specs.List.{list_all, range_with_len};
+ghost use Rattle.std.specs.Prelude.{◌≡◌, ◌↔◌, ◌⊎◌, ℕ, List, [], IsTrue, IsFalse, IsNone, IsOk, IfOk, IfSome, nat_eq, string_bytes, ◌+◌, ◌*◌, ◌<◌, ◌^◌, length, filter, None, Some, MatchOption, ◌≤◌, map};
+ghost use Rattle.std.specs.List.{list_all, range_with_len, sum_by};
 ghost use Rattle.std.specs.Cow.{cow_str_bytes, IsBorrowedStr};
 ghost use Rattle.std.specs.List.{starts_with, ends_with};
 ghost use Rattle.std.specs.Str.{IsCharBoundary};
 ghost use Rattle.std.specs.Str.Pattern.{FindsText, MatchBeginsAt};
-ghost use Rattle.ansi_items.specs.Plain.{plain, has_escape};
+ghost use Rattle.ansi_items.specs.Pieces.{pieces_of};
+ghost use Rattle.ansi_items.specs.Plain.{plain, is_text, has_escape};
 ghost use Rattle.ansi_slice.specs.Positions.{is_good_position, is_char_boundary, is_good_range};
 ghost use Rattle.ansi_slice.specs.Cut.{cut};
 ghost use Rattle.ansi_slice.specs.Sides.{left_side, right_side};
 ghost use Rattle.ansi_slice.specs.Kept.{without_prefix, without_suffix, trimmed};
-ghost use Rattle.ansi_slice.specs.Parts.{all_parts, is_part_borrowed};
+ghost use Rattle.ansi_slice.specs.Parts.{all_parts, share, is_part_borrowed};
 
 use crate::split::{AnsiSplit, split_in};
 use ansi_slice::search;
@@ -47,6 +48,7 @@ pub trait AnsiStr {
         ensures none { IfOk result (λ o. IsNone o ↔ IsFalse (is_good_range (plain (text self.now)) (R.start range) (R.end range))) }
         ensures bytes { IfOk result (λ o. IfSome o (λ c. cow_str_bytes c ≡ cut (text self.now) (R.start range) (R.end range))) }
         ensures borrowed { IfOk result (λ o. IfSome o (λ c. IsBorrowedStr c ↔ IsFalse (has_escape (text self.now)))) }
+        ensures len { IfOk result (λ o. IfSome o (λ c. length (cow_str_bytes c) ≤ length (text self.now) + 88)) }
         ensures takes_no_memory { IsFalse (has_escape (text self.now))
             ⊎ IsFalse (is_good_range (plain (text self.now)) (R.start range) (R.end range)) → IsOk result };
 
@@ -67,13 +69,15 @@ pub trait AnsiStr {
         requires { IsTrue (is_good_range (plain (text self.now)) (R.start range) (R.end range)) }
         ensures bytes { IfOk result (λ c. cow_str_bytes c ≡ cut (text self.now) (R.start range) (R.end range)) }
         ensures borrowed { IfOk result (λ c. IsBorrowedStr c ↔ IsFalse (has_escape (text self.now))) }
+        ensures len { IfOk result (λ c. length (cow_str_bytes c) ≤ length (text self.now) + 88) }
         ensures takes_no_memory { IsFalse (has_escape (text self.now)) → IsOk result };
 
     /// Whether a character of the plain text begins at the index, or the plain text ends there. (std,
     /// on the plain text.)
     ///
     /// The index counts bytes of the plain text. It is false past the end. A text can be cut and
-    /// split wherever it is true: the index is a good position then. Takes no memory.
+    /// split wherever it is true: the index is a good position then, and `..index` and `index..` are
+    /// good ranges. Takes no memory.
     ///
     /// ```
     /// assert!("\x1b[1mé\x1b[0m".ansi_is_char_boundary(2));
@@ -81,14 +85,17 @@ pub trait AnsiStr {
     /// ```
     fn ansi_is_char_boundary(&self, index: usize) -> bool
         ensures value { result ≡ is_char_boundary (plain (text self.now)) index }
-        ensures boundary { IsTrue result ↔ IsCharBoundary (plain (text self.now)) index };
+        ensures boundary { IsTrue result ↔ IsCharBoundary (plain (text self.now)) index }
+        ensures good_before { IsTrue result → IsTrue (is_good_range (plain (text self.now)) 0 (Some index)) }
+        ensures good_after { IsTrue result → IsTrue (is_good_range (plain (text self.now)) index None) };
 
     /// Where the pattern first stands in the plain text, in bytes from its start. (std's `find`, on
     /// the plain text.)
     ///
     /// A match may run across sequences. It is `None` where the pattern stands nowhere. An empty
     /// pattern stands at 0, and a pattern with an ESC nowhere. The place and the one past the match
-    /// are good positions, so the text can be cut and split there. Takes no memory.
+    /// are good positions, so the text can be cut and split there: the match, what stands before it and
+    /// what stands after it are good ranges. Takes no memory.
     ///
     /// ```
     /// assert_eq!("a\x1b[1mb\x1b[0mc".ansi_find("bc"), Some(1));
@@ -97,6 +104,8 @@ pub trait AnsiStr {
     fn ansi_find(&self, pat: &str) -> Option<usize>
         ensures first { MatchOption result (FindsText pat.now (plain (text self.now)) None) (MatchBeginsAt (FindsText pat.now) (plain (text self.now))) }
         ensures good { IfSome result (λ i. IsTrue (is_good_range (plain (text self.now)) i (Some (i + length pat.now)))) }
+        ensures good_before { IfSome result (λ i. IsTrue (is_good_range (plain (text self.now)) 0 (Some i))) }
+        ensures good_after { IfSome result (λ i. IsTrue (is_good_range (plain (text self.now)) (i + length pat.now) None)) }
         ensures fits { IfSome result (λ i. i + length pat.now < 2 ^ 64) };
 
     /// The text without a prefix of its plain text, or `None` where the plain text doesn't begin with
@@ -160,7 +169,8 @@ pub trait AnsiStr {
     /// with the start of the style that the parts before it leave open, and ends with the close of
     /// its own, where these have anything; a part without text and sequences stays empty.
     ///
-    /// The iterator has at most two parts more than the plain text has bytes. A part with no
+    /// The iterator has at most two parts more than the plain text has bytes, and a `usize` counts them.
+    /// A part with no
     /// sequence is a borrow where no style is carried into it or it is empty, so on a text without
     /// ESC every part is one; a borrow takes no memory. Any other part is owned, and in its place
     /// comes an `Err` where memory is wanting. After that there is nothing but `None`. (std; the
@@ -176,6 +186,9 @@ pub trait AnsiStr {
         ensures bytes { map (λ p. p.bytes) result ≡ all_parts (text self.now) pat.now }
         ensures borrowed { map (λ p. p.borrowed) result ≡ map (is_part_borrowed (text self.now) pat.now) (range_with_len 0 (length result)) }
         ensures len { length result ≤ length (plain (text self.now)) + 2 }
+        ensures fits { length result < 2 ^ 64 }
+        ensures shares { map (λ p. p.share) result ≡ map (share (text self.now) pat.now) (range_with_len 0 (length result)) }
+        ensures within { sum_by (λ p. p.share) result ≤ length (text self.now) }
         ensures takes_no_memory { IsFalse (has_escape (text self.now)) → IsTrue (list_all (λ p. p.borrowed) result) };
 
     /// The text before a position and the text from there on, each character in its style.
@@ -203,6 +216,8 @@ pub trait AnsiStr {
         ensures right { IfOk result (λ c. cow_str_bytes c.1 ≡ right_side (text self.now) mid) }
         ensures borrowed { IfOk result (λ c. (IsBorrowedStr c.0 ↔ IsFalse (has_escape (text self.now)))
             × (IsBorrowedStr c.1 ↔ IsFalse (has_escape (text self.now)))) }
+        ensures len { IfOk result (λ c. length (cow_str_bytes c.0) + length (cow_str_bytes c.1)
+            ≤ length (text self.now) + 251 * (length (filter is_text (pieces_of (text self.now))) + 1)) }
         ensures takes_no_memory { IsFalse (has_escape (text self.now)) → IsOk result };
 
     /// Whether the plain text begins with the pattern.

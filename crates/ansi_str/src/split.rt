@@ -1,9 +1,9 @@
 //! The parts of a text between the matches of a pattern.
-ghost use Rattle.std.specs.Prelude.{◌≡◌, ◌↔◌, ◌⊎◌, ◌+◌, ◌≤◌, Some, length, map, slice_get, IsTrue, IsFalse, IsNone, IsOk, IfOk, IfSome};
-ghost use Rattle.std.specs.List.{range_with_len, list_all};
+ghost use Rattle.std.specs.Prelude.{◌≡◌, ◌↔◌, ◌⊎◌, ◌+◌, ◌≤◌, ◌<◌, ◌^◌, Some, length, map, slice_get, IsTrue, IsFalse, IsNone, IsOk, IfOk, IfSome};
+ghost use Rattle.std.specs.List.{range_with_len, list_all, sum_by};
 ghost use Rattle.std.specs.Cow.{cow_str_bytes, IsBorrowedStr};
 ghost use Rattle.ansi_items.specs.Plain.{plain, has_escape};
-ghost use Rattle.ansi_slice.specs.Parts.{parts, part, all_parts, is_part_borrowed};
+ghost use Rattle.ansi_slice.specs.Parts.{parts, part, all_parts, share, is_part_borrowed};
 
 mod after;
 mod rest;
@@ -40,6 +40,9 @@ pub fn split_in<'a, A: Allocator>(alloc: A, text: &'a str, pat: &'a str) -> Ansi
     ensures bytes { map (λ p. p.bytes) result ≡ all_parts text.now pat.now }
     ensures borrowed { map (λ p. p.borrowed) result ≡ map (is_part_borrowed text.now pat.now) (range_with_len 0 (length result)) }
     ensures len { length result ≤ length (plain text.now) + 2 }
+    ensures fits { length result < 2 ^ 64 }
+    ensures shares { map (λ p. p.share) result ≡ map (share text.now pat.now) (range_with_len 0 (length result)) }
+    ensures within { sum_by (λ p. p.share) result ≤ length text.now }
     ensures takes_no_memory { IsFalse (has_escape text.now) → IsTrue (list_all (λ p. p.borrowed) result) }
 {
     AnsiSplit {
@@ -83,6 +86,8 @@ pub fn part_in<'t, A: Allocator>(
     ensures none { IfOk result (λ o. IsNone o ↔ IsNone (slice_get (parts (plain text.now) pat.now) index)) }
     ensures bytes { IfOk result (λ o. IfSome o (λ c. part text.now pat.now index ≡ Some (cow_str_bytes c))) }
     ensures borrowed { IfOk result (λ o. IfSome o (λ c. IsBorrowedStr c ↔ (IsFalse (has_escape text.now) ⊎ IsTrue (is_part_borrowed text.now pat.now index)))) }
+    ensures len { IfOk result (λ o. IfSome o (λ c. length (cow_str_bytes c) ≤ share text.now pat.now index + 251)) }
+    ensures within { share text.now pat.now index ≤ length text.now }
     ensures takes_no_memory { IsFalse (has_escape text.now) ⊎ IsTrue (is_part_borrowed text.now pat.now index) ⊎ IsNone (slice_get (parts (plain text.now) pat.now) index) → IsOk result }
 {
     match Spans::new(text, pat).nth(index) {

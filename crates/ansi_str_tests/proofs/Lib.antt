@@ -1,1 +1,2 @@
 pub mod RefusingLemmas
+pub mod SearchLemmas

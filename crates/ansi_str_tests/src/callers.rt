@@ -1,4 +1,5 @@
 //! Callers of the library, proved by its contracts alone: what can be concluded of the calls' answers.
 pub mod blocks;
+pub mod buffers;
 pub mod parts;
 pub mod searches;

@@ -27,6 +27,8 @@ mod find;
 #[cfg(test)]
 mod get;
 #[cfg(test)]
+mod hostile;
+#[cfg(test)]
 mod memory;
 #[cfg(test)]
 mod plain;

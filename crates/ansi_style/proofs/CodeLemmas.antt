@@ -6,6 +6,7 @@ use Rattle.std.specs.Prelude.{find}
 use Rattle.std.specs.Int.{is_in_range}
 use Rattle.std.specs.Option.{option_map_or}
 use Rattle.ansi_items.specs.declared.ansitok.AnsiColor.TheVariants.{Bit4}
+use Rattle.ansi_style.specs.Rendition.{Rendition}
 use Rattle.ansi_style.specs.Sgr.{Changes, Rows, table, effect_of_code, unknown_code}
 
 -- P holds of count numbers from first on
@@ -21,15 +22,30 @@ holds_in_range P (suc count) first n all low high = elim (cases_eq n first) [
   | inr other ↦ holds_in_range P count (suc first) n all.1 (omega arith) (omega arith)
 ]
 
-pub effect_of_code-bright_foreground : (n : ℕ) → 90 ≤ n → n ≤ 97 → effect_of_code n ≡ Changes (λ s. record s { foreground = Some (Bit4 n) })
-effect_of_code-bright_foreground n low high =
-    holds_in_range (λ n. effect_of_code n ≡ Changes (λ s. record s { foreground = Some (Bit4 n) })) 8 90 n
-    (refl, (refl, (refl, (refl, (refl, (refl, (refl, (refl, tt)))))))) low (omega arith)
+-- the codes of the eight colors from `first` on change a style so
+abbrev AreColors : (ℕ → Rendition → Rendition) → ℕ → Type 0
+AreColors put first = HoldsFrom (λ n. effect_of_code n ≡ Changes (put n)) first 8
 
-pub effect_of_code-bright_background : (n : ℕ) → 100 ≤ n → n ≤ 107 → effect_of_code n ≡ Changes (λ s. record s { background = Some (Bit4 n) })
-effect_of_code-bright_background n low high =
-    holds_in_range (λ n. effect_of_code n ≡ Changes (λ s. record s { background = Some (Bit4 n) })) 8 100 n
-    (refl, (refl, (refl, (refl, (refl, (refl, (refl, (refl, tt)))))))) low (omega arith)
+colors_at : (put : ℕ → Rendition → Rendition) (first n : ℕ) → AreColors put first → first ≤ n → n ≤ first + 7 → effect_of_code n ≡ Changes (put n)
+colors_at put first n are low high = holds_in_range (λ n. effect_of_code n ≡ Changes (put n)) 8 first n are low (omega arith)
+
+abbrev put_foreground : ℕ → Rendition → Rendition
+put_foreground n s = record s { foreground = Some (Bit4 n) }
+
+abbrev put_background : ℕ → Rendition → Rendition
+put_background n s = record s { background = Some (Bit4 n) }
+
+pub effect_of_code-foreground : (n : ℕ) → 30 ≤ n → n ≤ 37 → effect_of_code n ≡ Changes (put_foreground n)
+effect_of_code-foreground n = colors_at put_foreground 30 n (refl, (refl, (refl, (refl, (refl, (refl, (refl, (refl, tt))))))))
+
+pub effect_of_code-background : (n : ℕ) → 40 ≤ n → n ≤ 47 → effect_of_code n ≡ Changes (put_background n)
+effect_of_code-background n = colors_at put_background 40 n (refl, (refl, (refl, (refl, (refl, (refl, (refl, (refl, tt))))))))
+
+pub effect_of_code-bright_foreground : (n : ℕ) → 90 ≤ n → n ≤ 97 → effect_of_code n ≡ Changes (put_foreground n)
+effect_of_code-bright_foreground n = colors_at put_foreground 90 n (refl, (refl, (refl, (refl, (refl, (refl, (refl, (refl, tt))))))))
+
+pub effect_of_code-bright_background : (n : ℕ) → 100 ≤ n → n ≤ 107 → effect_of_code n ≡ Changes (put_background n)
+effect_of_code-bright_background n = colors_at put_background 100 n (refl, (refl, (refl, (refl, (refl, (refl, (refl, (refl, tt))))))))
 
 -- a row of the table has the code n
 abbrev has_row : ℕ → Bool

@@ -1,3 +1,4 @@
+pub mod BitsLemmas
 pub mod CodeLemmas
 pub mod FieldLemmas
 pub mod StateLemmas

@@ -3,12 +3,14 @@ use Rattle.std.proofs.Common.{◌≡◌, ℕ, zero, suc, ◌≤◌, true, ◌&&�
 use Rattle.std.proofs.lemmas.Bool.{cond_both, and_parts, and_from, leb-true, lt-ltb, or_left, or_right}
 use Rattle.std.specs.Prelude.{unwrap_or}
 use Rattle.std.specs.List.{AllByRecursion}
-use Rattle.std.specs.Option.{option_map_or}
+use Rattle.std.specs.Option.{option_map_or, ForSome}
 use Rattle.std.specs.Int.{is_in_range}
 use Rattle.std.specs.Str.{all_ascii_digits}
 use Rattle.std.specs.Str.Parse.{digits_value}
 use Rattle.ansi_items.specs.declared.ansitok.AnsiColor.{AnsiColor}
 use Rattle.ansi_items.specs.declared.ansitok.AnsiColor.TheVariants.{Bit4, Bit8, Bit24}
+use Rattle.ansi_style.specs.declared.state.Style.{Style}
+use Rattle.ansi_style.specs.States.{rendition_of}
 use Rattle.ansi_items.specs.Sequences.{sgr_parameters}
 use Rattle.ansi_items.specs.Plain.{Mark, marks, up_to}
 use Rattle.ansi_style.specs.Rendition.{Rendition, is_foreground, is_background, is_extended_color, IsStyle, plain_style, known}
@@ -189,3 +191,17 @@ IsStyle-style_at t i = IsStyle-apply_all plain_style (map (λ (m : Mark). m.byte
 
 pub IsStyle-style_after : (t : List ℕ) → IsStyle (style_after t)
 IsStyle-style_after t = IsStyle-style_after_from plain_style t IsStyle-plain_style
+
+-- a style of the code is one
+pub IsStyle-rendition_of : (s : Style) → IsStyle (rendition_of s)
+unfolding rendition_of
+IsStyle-rendition_of s = record {
+  foreground = if_some s.foreground s.foreground_in_range;
+  background = if_some s.background s.background_in_range;
+  underline_color = if_some s.underline_color s.underline_color_in_range;
+  font = if_some s.font s.font_in_range;
+}
+  where
+    if_some : {X : Type 0} {P : X → Type 0} (o : Option X) → ForSome o P → IfSome o P
+    if_some None for = tt
+    if_some (Some x) for = for x refl

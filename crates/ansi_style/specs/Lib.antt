@@ -2,6 +2,7 @@ pub use Rattle.ansi_items.specs.Bytes
 pub use Rattle.ansi_items.specs.Sequences
 pub use Rattle.ansi_items.specs.Pieces
 pub use Rattle.ansi_items.specs.Plain
+pub use Rattle.ansi_items.specs.Counts
 pub use Rattle.ansi_items.specs.Scans
 pub mod Rendition
 pub mod Sgr

@@ -1,7 +1,47 @@
 -- A style as the code holds it, seen as a rendition.
-use Rattle.ansi_style.specs.Rendition.{Rendition}
+use Rattle.std.specs.Prelude.{ℕ, Bool, ◌==◌, ◌^◌}
+use Rattle.std.specs.Int.RustNames.{bit_and}
+use Rattle.ansi_style.specs.Rendition.{Rendition, plain_style}
 use Rattle.ansi_style.specs.declared.state.Style.{Style}
 
+-- a set of attributes has the one at this place: its bit there is 1
+abbrev pub has : ℕ → ℕ → Bool
+has set place = bit_and set (2 ^ place) == 2 ^ place
+
+-- a rendition with each attribute that `is_set` tells by its place
+abbrev pub with_attributes : (ℕ → Bool) → Rendition → Rendition
+with_attributes is_set s = record s {
+  bold = is_set 0;
+  faint = is_set 1;
+  italic = is_set 2;
+  underline = is_set 3;
+  double_underline = is_set 4;
+  slow_blink = is_set 5;
+  rapid_blink = is_set 6;
+  inverse = is_set 7;
+  hide = is_set 8;
+  crossed_out = is_set 9;
+  framed = is_set 10;
+  encircled = is_set 11;
+  fraktur = is_set 12;
+  proportional_spacing = is_set 13;
+  overlined = is_set 14;
+  ideogram_underline = is_set 15;
+  ideogram_double_underline = is_set 16;
+  ideogram_overline = is_set 17;
+  ideogram_double_overline = is_set 18;
+  ideogram_stress_marking = is_set 19;
+  superscript = is_set 20;
+  subscript = is_set 21;
+  reset = is_set 22;
+  unknown = is_set 23;
+}
+
 -- the rendition that a style of the code is
-abbrev pub rendition_of : Style → Rendition
-rendition_of s = s.rendition
+unfoldable pub rendition_of : Style → Rendition
+rendition_of s = with_attributes (has s.attributes.0) (record plain_style {
+  foreground = s.foreground;
+  background = s.background;
+  underline_color = s.underline_color;
+  font = s.font;
+})

@@ -1,4 +1,5 @@
 //! The style: what SGRs do to it, and the sequences that set and end it.
+pub(crate) mod attributes;
 mod compare;
 mod fields;
 pub mod rendition;
@@ -10,10 +11,13 @@ ghost use Rattle.std.specs.Option.{ForSome};
 ghost use Rattle.std.specs.Int.{is_in_range};
 ghost use Rattle.ansi_style.specs.Rendition.{is_foreground, is_background, is_extended_color};
 
+use crate::state::attributes::Attributes;
 use crate::state::fields::{Fields, code, parameters};
 pub use crate::state::rendition::Rendition;
 use crate::state::written::Close;
 pub use crate::state::written::{AnsiSequenceEnd, AnsiSequenceStart};
+use ansi_items::ansitok::AnsiColor;
+use bitflags::Flags;
 use std::alloc::{AllocError, Allocator};
 use std::fmt::Write;
 
@@ -27,56 +31,36 @@ use std::fmt::Write;
 /// it as a `Rendition`, by `rendition_of`.
 #[derive(Debug, Clone, Copy)]
 pub struct Style {
-    rendition: Rendition,
-    ghost foreground_in_range: { ForSome rendition.foreground (λ c. IsTrue (is_foreground c)) },
-    ghost background_in_range: { ForSome rendition.background (λ c. IsTrue (is_background c)) },
-    ghost underline_color_in_range: { ForSome rendition.underline_color (λ c. IsTrue (is_extended_color c)) },
-    ghost font_in_range: { ForSome rendition.font (λ n. IsTrue (is_in_range 11 19 n)) },
+    pub(crate) attributes: Attributes,
+    pub(crate) foreground: Option<AnsiColor>,
+    pub(crate) background: Option<AnsiColor>,
+    pub(crate) underline_color: Option<AnsiColor>,
+    pub(crate) font: Option<u8>,
+    ghost foreground_in_range: { ForSome foreground (λ c. IsTrue (is_foreground c)) },
+    ghost background_in_range: { ForSome background (λ c. IsTrue (is_background c)) },
+    ghost underline_color_in_range: { ForSome underline_color (λ c. IsTrue (is_extended_color c)) },
+    ghost font_in_range: { ForSome font (λ n. IsTrue (is_in_range 11 19 n)) },
 }
 
 impl Style {
-    ghost use Rattle.std.specs.Prelude.{◌≡◌, ◌∷◌, ◌++◌, OnOk, string_bytes};
+    ghost use Rattle.std.specs.Prelude.{◌≡◌, ◌∷◌, ◌++◌, ◌&&◌, ◌||◌, not, OnOk, string_bytes};
     ghost use Rattle.ansi_items.specs.Sequences.{is_sgr};
     ghost use Rattle.ansi_style.specs.Rendition.{plain_style, has_any};
     ghost use Rattle.ansi_style.specs.Sgr.{step, apply};
     ghost use Rattle.ansi_style.specs.Written.{start, close};
-    ghost use Rattle.ansi_style.specs.States.{rendition_of};
+    ghost use Rattle.ansi_style.specs.States.{has, rendition_of, with_attributes};
 
     /// The plain style, in which nothing is set.
+    #[tactic(auto, unfolding(crate::specs::States::rendition_of))]
     pub(crate) fn new() -> Self
         ensures { rendition_of result ≡ plain_style }
     {
         Style {
-            rendition: Rendition {
-                foreground: None,
-                background: None,
-                underline_color: None,
-                bold: false,
-                faint: false,
-                italic: false,
-                underline: false,
-                double_underline: false,
-                slow_blink: false,
-                rapid_blink: false,
-                inverse: false,
-                hide: false,
-                crossed_out: false,
-                reset: false,
-                framed: false,
-                encircled: false,
-                font: None,
-                fraktur: false,
-                proportional_spacing: false,
-                overlined: false,
-                ideogram_underline: false,
-                ideogram_double_underline: false,
-                ideogram_overline: false,
-                ideogram_double_overline: false,
-                ideogram_stress_marking: false,
-                superscript: false,
-                subscript: false,
-                unknown: false,
-            },
+            attributes: Attributes::empty(),
+            foreground: None,
+            background: None,
+            underline_color: None,
+            font: None,
         }
     }
 
@@ -92,28 +76,84 @@ impl Style {
     }
 
     /// Does what a field asks for as a code. A code that reads a color takes fields off those left.
+    #[tactic(auto, unfolding(crate::specs::States::rendition_of))]
     fn step(&mut self, field: &str, left: &mut Fields<'_>)
         ensures { (rendition_of self.new, left.new) ≡ step (rendition_of self.old) (field.now ∷ left.old) }
     {
         match code(field) {
             Some(code) => self.perform(code, left),
-            None => self.rendition.unknown = true,
+            None => self.set(Attributes::UNKNOWN),
         }
     }
 
+    /// Sets attributes.
+    #[tactic(auto, unfolding(crate::specs::States::rendition_of))]
+    fn set(&mut self, attributes: Attributes)
+        ensures { rendition_of self.new
+            ≡ with_attributes (λ place. has attributes.0 place || has self.old.attributes.0 place) (rendition_of self.old) }
+    {
+        self.attributes.insert(attributes);
+    }
+
+    /// Clears attributes.
+    #[tactic(auto, unfolding(crate::specs::States::rendition_of))]
+    fn clear(&mut self, attributes: Attributes)
+        ensures { rendition_of self.new
+            ≡ with_attributes (λ place. not (has attributes.0 place) && has self.old.attributes.0 place) (rendition_of self.old) }
+    {
+        self.attributes.remove(attributes);
+    }
+
     /// What the style shows.
+    #[tactic(auto, unfolding(crate::specs::States::rendition_of))]
     pub(crate) fn rendition(&self) -> Rendition
         ensures { result ≡ rendition_of self.now }
     {
-        self.rendition
+        Rendition {
+            foreground: self.foreground,
+            background: self.background,
+            underline_color: self.underline_color,
+            bold: self.attributes.contains(Attributes::BOLD),
+            faint: self.attributes.contains(Attributes::FAINT),
+            italic: self.attributes.contains(Attributes::ITALIC),
+            underline: self.attributes.contains(Attributes::UNDERLINE),
+            double_underline: self.attributes.contains(Attributes::DOUBLE_UNDERLINE),
+            slow_blink: self.attributes.contains(Attributes::SLOW_BLINK),
+            rapid_blink: self.attributes.contains(Attributes::RAPID_BLINK),
+            inverse: self.attributes.contains(Attributes::INVERSE),
+            hide: self.attributes.contains(Attributes::HIDE),
+            crossed_out: self.attributes.contains(Attributes::CROSSED_OUT),
+            reset: self.attributes.contains(Attributes::RESET),
+            framed: self.attributes.contains(Attributes::FRAMED),
+            encircled: self.attributes.contains(Attributes::ENCIRCLED),
+            font: self.font,
+            fraktur: self.attributes.contains(Attributes::FRAKTUR),
+            proportional_spacing: self.attributes.contains(Attributes::PROPORTIONAL_SPACING),
+            overlined: self.attributes.contains(Attributes::OVERLINED),
+            ideogram_underline: self.attributes.contains(Attributes::IDEOGRAM_UNDERLINE),
+            ideogram_double_underline: self
+                .attributes
+                .contains(Attributes::IDEOGRAM_DOUBLE_UNDERLINE),
+            ideogram_overline: self.attributes.contains(Attributes::IDEOGRAM_OVERLINE),
+            ideogram_double_overline: self
+                .attributes
+                .contains(Attributes::IDEOGRAM_DOUBLE_OVERLINE),
+            ideogram_stress_marking: self
+                .attributes
+                .contains(Attributes::IDEOGRAM_STRESS_MARKING),
+            superscript: self.attributes.contains(Attributes::SUPERSCRIPT),
+            subscript: self.attributes.contains(Attributes::SUBSCRIPT),
+            unknown: self.attributes.contains(Attributes::UNKNOWN),
+        }
     }
 
     /// Whether the style has something to end: a known attribute, a color or a font is set, or `reset`
     /// and `unknown` both are.
+    #[tactic(auto, unfolding(crate::specs::States::rendition_of))]
     pub(crate) fn has_any(&self) -> bool
         ensures { result ≡ has_any (rendition_of self.now) }
     {
-        self.rendition.has_any()
+        self.rendition().has_any()
     }
 
     /// The start of the style, to be printed: the sequences that set it. Takes no memory. (The Rust

@@ -7,8 +7,11 @@ ghost use Rattle.ansi_style.specs.States.{rendition_of};
 ghost use Rattle.ansi_style.specs.Colors.{color_of};
 
 use crate::state::Style;
+use crate::state::attributes::Attributes;
+use bitflags::Flags;
 pub use color::Color;
 
+#[tactic(auto, unfolding(crate::specs::States::rendition_of))]
 impl Style {
     /// Whether the text is bold (SGR 1, ECMA-48).
     ///
@@ -18,7 +21,7 @@ impl Style {
     pub fn is_bold(&self) -> bool
         ensures { result ≡ (rendition_of self.now).bold }
     {
-        self.rendition().bold
+        self.attributes.contains(Attributes::BOLD)
     }
 
     /// Whether the text is faint (SGR 2, ECMA-48).
@@ -29,7 +32,7 @@ impl Style {
     pub fn is_faint(&self) -> bool
         ensures { result ≡ (rendition_of self.now).faint }
     {
-        self.rendition().faint
+        self.attributes.contains(Attributes::FAINT)
     }
 
     /// Whether the text is italic (SGR 3, ECMA-48).
@@ -40,7 +43,7 @@ impl Style {
     pub fn is_italic(&self) -> bool
         ensures { result ≡ (rendition_of self.now).italic }
     {
-        self.rendition().italic
+        self.attributes.contains(Attributes::ITALIC)
     }
 
     /// Whether the text is underlined, and not doubly (SGR 4, ECMA-48).
@@ -51,7 +54,7 @@ impl Style {
     pub fn is_underline(&self) -> bool
         ensures { result ≡ (rendition_of self.now).underline }
     {
-        self.rendition().underline
+        self.attributes.contains(Attributes::UNDERLINE)
     }
 
     /// Whether the text blinks slowly (SGR 5, ECMA-48).
@@ -62,7 +65,7 @@ impl Style {
     pub fn is_slow_blink(&self) -> bool
         ensures { result ≡ (rendition_of self.now).slow_blink }
     {
-        self.rendition().slow_blink
+        self.attributes.contains(Attributes::SLOW_BLINK)
     }
 
     /// Whether the text blinks rapidly (SGR 6, ECMA-48).
@@ -73,7 +76,7 @@ impl Style {
     pub fn is_rapid_blink(&self) -> bool
         ensures { result ≡ (rendition_of self.now).rapid_blink }
     {
-        self.rendition().rapid_blink
+        self.attributes.contains(Attributes::RAPID_BLINK)
     }
 
     /// Whether foreground and background change places (SGR 7, ECMA-48).
@@ -84,7 +87,7 @@ impl Style {
     pub fn is_inverse(&self) -> bool
         ensures { result ≡ (rendition_of self.now).inverse }
     {
-        self.rendition().inverse
+        self.attributes.contains(Attributes::INVERSE)
     }
 
     /// Whether the text is concealed (SGR 8, ECMA-48).
@@ -95,7 +98,7 @@ impl Style {
     pub fn is_hide(&self) -> bool
         ensures { result ≡ (rendition_of self.now).hide }
     {
-        self.rendition().hide
+        self.attributes.contains(Attributes::HIDE)
     }
 
     /// Whether the text is crossed out (SGR 9, ECMA-48).
@@ -106,7 +109,7 @@ impl Style {
     pub fn is_crossedout(&self) -> bool
         ensures { result ≡ (rendition_of self.now).crossed_out }
     {
-        self.rendition().crossed_out
+        self.attributes.contains(Attributes::CROSSED_OUT)
     }
 
     /// Whether the text is in Fraktur (SGR 20, ECMA-48).
@@ -117,7 +120,7 @@ impl Style {
     pub fn is_fraktur(&self) -> bool
         ensures { result ≡ (rendition_of self.now).fraktur }
     {
-        self.rendition().fraktur
+        self.attributes.contains(Attributes::FRAKTUR)
     }
 
     /// The color of the text, by its name, or `None` where none is set. (The Rust crate.)
@@ -129,7 +132,7 @@ impl Style {
     pub fn foreground(&self) -> Option<Color>
         ensures { result ≡ option_map color_of (rendition_of self.now).foreground }
     {
-        self.rendition().foreground.map(Color::from)
+        self.foreground.map(Color::from)
     }
 
     /// The color after the text, by its name, or `None` where none is set. (The Rust crate.)
@@ -141,6 +144,6 @@ impl Style {
     pub fn background(&self) -> Option<Color>
         ensures { result ≡ option_map color_of (rendition_of self.now).background }
     {
-        self.rendition().background.map(Color::from)
+        self.background.map(Color::from)
     }
 }

@@ -1,13 +1,11 @@
-//! What stands at the front of a text, byte by byte, by ECMA-48 and ECMA-35 in this profile.
+//! What stands at the front of a text, by ECMA-48 and ECMA-35 in this profile, and how many looks at
+//! its bytes that takes.
 //!
 //! An attempt at a sequence is given up at the first byte that can't belong to it, an ESC above
 //! all, so that no text is looked at more than a few times over.
-ghost use Rattle.std.specs.Prelude.{◌≡◌, ◌<◌, ◌≤◌, length};
-ghost use Rattle.std.specs.List.{prefix_len};
-ghost use Rattle.ansi_items.specs.Bytes.{is_parameter_byte, is_intermediate_byte, is_body_byte, is_plain_byte};
-ghost use Rattle.ansi_items.specs.Fronts.{control_at, string_at, escape_at, sequence_at, front_at};
-
 use crate::ansitok::Kind;
+use memchr::{memchr, memchr2};
+use std::cmp::min;
 
 /// The byte that begins every sequence.
 pub const ESC: u8 = 0x1B;
@@ -22,129 +20,216 @@ pub(crate) struct Front {
     pub(crate) len: usize,
 }
 
-/// The item that the bytes begin with.
-#[tactic(auto, unfolding(crate::specs::Fronts::front_at))]
-pub(crate) fn first_front(bytes: &[u8]) -> Front
-    requires { 0 < length bytes.now }
-    ensures { result ≡ front_at bytes.now }
-{
-    if bytes[0] == ESC {
-        sequence(bytes).unwrap_or(Front {
-            kind: Kind::Lone,
-            len: 1,
-        })
-    } else {
-        Front {
-            kind: Kind::Text,
-            len: text_len(bytes),
+/// A count of looks at the bytes of a text, each byte as often as it is looked at.
+#[derive(Drop)]
+pub(crate) struct Looks {
+    pub(crate) count: u128,
+}
+
+impl Looks {
+    ghost use Rattle.std.specs.Prelude.{◌≡◌, ◌+◌, ◌*◌, ◌^◌, ◌<◌, ◌≤◌, length, drop, slice_index, min, IfSome, IfNone};
+    ghost use Rattle.std.specs.List.{prefix_len};
+    ghost use Rattle.ansi_items.specs.Bytes.{is_parameter_byte, is_intermediate_byte, is_body_byte, is_plain_byte};
+    ghost use Rattle.ansi_items.specs.Fronts.{control_at, string_at, escape_at, sequence_at, front_at};
+    ghost use Rattle.ansi_items.specs.Counts.{before_escape, CostsSequence, CostsFound, CostsFront};
+
+    /// The item that the bytes begin with.
+    #[inline(always)]
+    #[tactic(auto, unfolding(crate::specs::Fronts::front_at))]
+    pub(crate) fn first_front(&mut self, bytes: &[u8]) -> Front
+        requires some { 0 < length bytes.now }
+        requires room { self.old.count + 2 * length bytes.now + 5 < 2 ^ 128 }
+        ensures front { result ≡ front_at bytes.now }
+        ensures cost { CostsFront self.old.count bytes.now result.len self.new.count }
+    {
+        match self.byte(bytes, 0) {
+            Some(ESC) => self.sequence(bytes).unwrap_or(Front {
+                kind: Kind::Lone,
+                len: 1,
+            }),
+            _ => Front {
+                kind: Kind::Text,
+                len: self.text_len(bytes),
+            },
         }
     }
-}
 
-/// The whole sequence that the bytes, the first of them ESC, begin with.
-#[tactic(auto, unfolding(crate::specs::Fronts::sequence_at))]
-fn sequence(bytes: &[u8]) -> Option<Front>
-    requires { 0 < length bytes.now }
-    ensures { result ≡ sequence_at bytes.now }
-{
-    match &bytes[1..] {
-        [b'[', rest @ ..] => control_sequence(rest),
-        [opener @ (b'P' | b'X' | b']' | b'^' | b'_'), rest @ ..] => {
-            control_string(rest, body_len(*opener, rest))
+    /// The whole sequence that the bytes, the first of them ESC, begin with.
+    #[inline(always)]
+    #[tactic(auto, using(crate::proofs::CountLemmas::short_none), unfolding(crate::specs::Fronts::sequence_at))]
+    fn sequence(&mut self, bytes: &[u8]) -> Option<Front>
+        requires some { 0 < length bytes.now }
+        requires room { self.old.count + 2 * length bytes.now + 4 < 2 ^ 128 }
+        ensures front { result ≡ sequence_at bytes.now }
+        ensures cost { CostsFound self.old.count (drop 1 bytes.now) result self.new.count }
+    {
+        match self.byte(bytes, 1)? {
+            b'[' => self.control_sequence(&bytes[2..]),
+            opener @ (b'P' | b'X' | b']' | b'^' | b'_') => {
+                let rest = &bytes[2..];
+                let body = self.body_len(opener, rest);
+                self.control_string(rest, body)
+            }
+            _ => self.escape_sequence(&bytes[1..]),
         }
-        rest => escape_sequence(rest),
     }
-}
 
-/// The control sequence of which the bytes follow ESC `[`.
-#[tactic(auto, unfolding(crate::specs::Fronts::control_at))]
-fn control_sequence(bytes: &[u8]) -> Option<Front>
-    ensures { result ≡ control_at bytes.now }
-{
-    let parameters = parameters_len(bytes);
-    let intermediates = intermediates_len(&bytes[parameters..]);
-    match *bytes.get(parameters + intermediates)? {
-        b'm' if intermediates == 0 => Some(Front {
-            kind: Kind::Sgr,
-            len: parameters + 3,
-        }),
-        0x40..=0x7E => Some(Front {
-            kind: Kind::Other,
-            len: parameters + intermediates + 3,
-        }),
-        _ => None,
+    /// The control sequence of which the bytes follow ESC `[`.
+    #[inline(always)]
+    #[tactic(auto, unfolding(crate::specs::Fronts::control_at))]
+    fn control_sequence(&mut self, bytes: &[u8]) -> Option<Front>
+        requires { self.old.count + 2 * length bytes.now + 3 < 2 ^ 128 }
+        ensures front { result ≡ control_at bytes.now }
+        ensures cost { CostsSequence self.old.count bytes.now 2 3 result self.new.count }
+    {
+        let parameters = self.parameters_len(bytes);
+        let intermediates = self.intermediates_len(&bytes[parameters..]);
+        match self.byte(bytes, parameters + intermediates)? {
+            b'm' if intermediates == 0 => Some(Front {
+                kind: Kind::Sgr,
+                len: parameters + 3,
+            }),
+            0x40..=0x7E => Some(Front {
+                kind: Kind::Other,
+                len: parameters + intermediates + 3,
+            }),
+            _ => None,
+        }
     }
-}
 
-/// The control string of which the bytes follow ESC and its opener, `body` of them its body.
-#[tactic(auto, unfolding(crate::specs::Fronts::string_at))]
-fn control_string(bytes: &[u8], body: usize) -> Option<Front>
-    requires { body ≤ length bytes.now }
-    ensures { result ≡ string_at bytes.now body }
-{
-    match &bytes[body..] {
-        [BEL, ..] => Some(Front {
-            kind: Kind::Other,
-            len: body + 3,
-        }),
-        [ESC, b'\\', ..] => Some(Front {
-            kind: Kind::Other,
-            len: body + 4,
-        }),
-        _ => None,
+    /// The control string of which the bytes follow ESC and its opener, `body` of them its body.
+    #[inline(always)]
+    #[tactic(auto, unfolding(crate::specs::Fronts::string_at))]
+    fn control_string(&mut self, bytes: &[u8], body: usize) -> Option<Front>
+        requires inside { body ≤ length bytes.now }
+        requires room { self.old.count + 3 < 2 ^ 128 }
+        ensures front { result ≡ string_at bytes.now body }
+        ensures found { IfSome result (λ f. self.new.count + body + 2 ≡ self.old.count + f.len) }
+        ensures more { self.old.count ≤ self.new.count }
+        ensures few { self.new.count ≤ self.old.count + 2 }
+    {
+        match self.byte(bytes, body)? {
+            BEL => Some(Front {
+                kind: Kind::Other,
+                len: body + 3,
+            }),
+            ESC => match self.byte(bytes, body + 1)? {
+                b'\\' => Some(Front {
+                    kind: Kind::Other,
+                    len: body + 4,
+                }),
+                _ => None,
+            },
+            _ => None,
+        }
     }
-}
 
-/// The escape sequence of which the bytes follow ESC.
-#[tactic(auto, unfolding(crate::specs::Fronts::escape_at))]
-fn escape_sequence(bytes: &[u8]) -> Option<Front>
-    ensures { result ≡ escape_at bytes.now }
-{
-    let intermediates = intermediates_len(bytes);
-    match *bytes.get(intermediates)? {
-        0x30..=0x7E => Some(Front {
-            kind: Kind::Other,
-            len: intermediates + 2,
-        }),
-        _ => None,
+    /// The escape sequence of which the bytes follow ESC.
+    #[inline(always)]
+    #[tactic(auto, using(crate::proofs::CountLemmas::intermediates_within), unfolding(crate::specs::Fronts::escape_at))]
+    fn escape_sequence(&mut self, bytes: &[u8]) -> Option<Front>
+        requires { self.old.count + length bytes.now + 3 < 2 ^ 128 }
+        ensures front { result ≡ escape_at bytes.now }
+        ensures cost { CostsSequence self.old.count bytes.now 1 2 result self.new.count }
+    {
+        let intermediates = self.intermediates_len(bytes);
+        match self.byte(bytes, intermediates)? {
+            0x30..=0x7E => Some(Front {
+                kind: Kind::Other,
+                len: intermediates + 2,
+            }),
+            _ => None,
+        }
     }
-}
 
-// How many bytes at the front are of one class.
+    // All looks at the text are made below, and counted.
 
-fn parameters_len(bytes: &[u8]) -> usize
-    ensures count { result ≡ prefix_len is_parameter_byte bytes.now }
-    ensures bound { result ≤ length bytes.now }
-{
-    bytes
-        .iter()
-        .take_while(|b| matches!(**b, 0x30..=0x3F))
-        .count()
-}
+    /// The byte at this place.
+    #[inline(always)]
+    fn byte(&mut self, bytes: &[u8], at: usize) -> Option<u8>
+        requires { self.old.count + 1 < 2 ^ 128 }
+        ensures some { IfSome result (λ b. (b ≡ slice_index bytes.now at) × (at < length bytes.now) × (self.new.count ≡ self.old.count + 1)) }
+        ensures none { IfNone result ((slice_index bytes.now at ≡ 0) × (length bytes.now ≤ at) × (self.new.count ≡ self.old.count)) }
+    {
+        let byte = *bytes.get(at)?;
+        self.count += 1;
+        Some(byte)
+    }
 
-fn intermediates_len(bytes: &[u8]) -> usize
-    ensures count { result ≡ prefix_len is_intermediate_byte bytes.now }
-    ensures bound { result ≤ length bytes.now }
-{
-    bytes
-        .iter()
-        .take_while(|b| matches!(**b, 0x20..=0x2F))
-        .count()
-}
+    /// How many parameter bytes stand at the front.
+    #[inline(always)]
+    fn parameters_len(&mut self, bytes: &[u8]) -> usize
+        requires { self.old.count + length bytes.now < 2 ^ 128 }
+        ensures len { result ≡ prefix_len is_parameter_byte bytes.now }
+        ensures bound { result ≤ length bytes.now }
+        ensures looks { self.new.count ≡ self.old.count + min (result + 1) (length bytes.now) }
+    {
+        let len = bytes
+            .iter()
+            .take_while(|b| matches!(**b, 0x30..=0x3F))
+            .count();
+        self.passed(bytes, len);
+        len
+    }
 
-fn body_len(opener: u8, bytes: &[u8]) -> usize
-    ensures count { result ≡ prefix_len (is_body_byte opener) bytes.now }
-    ensures bound { result ≤ length bytes.now }
-{
-    bytes
-        .iter()
-        .take_while(|b| **b != ESC && !(opener == b']' && **b == BEL))
-        .count()
-}
+    /// How many intermediate bytes stand at the front.
+    #[inline(always)]
+    fn intermediates_len(&mut self, bytes: &[u8]) -> usize
+        requires { self.old.count + length bytes.now < 2 ^ 128 }
+        ensures len { result ≡ prefix_len is_intermediate_byte bytes.now }
+        ensures bound { result ≤ length bytes.now }
+        ensures looks { self.new.count ≡ self.old.count + min (result + 1) (length bytes.now) }
+    {
+        let len = bytes
+            .iter()
+            .take_while(|b| matches!(**b, 0x20..=0x2F))
+            .count();
+        self.passed(bytes, len);
+        len
+    }
 
-fn text_len(bytes: &[u8]) -> usize
-    ensures count { result ≡ prefix_len is_plain_byte bytes.now }
-    ensures bound { result ≤ length bytes.now }
-{
-    bytes.iter().take_while(|b| **b != ESC).count()
+    /// How many bytes of a control string's body stand at the front: those before the next ESC, or
+    /// before the next BEL in an operating system command.
+    #[inline(always)]
+    #[tactic(auto, using(crate::proofs::CountLemmas::body_found, crate::proofs::CountLemmas::text_is_body, crate::proofs::CountLemmas::body_within))]
+    fn body_len(&mut self, opener: u8, bytes: &[u8]) -> usize
+        requires { self.old.count + length bytes.now < 2 ^ 128 }
+        ensures len { result ≡ prefix_len (is_body_byte opener) bytes.now }
+        ensures within { result ≤ before_escape bytes.now }
+        ensures bound { result ≤ length bytes.now }
+        ensures looks { self.new.count ≡ self.old.count + min (result + 1) (length bytes.now) }
+    {
+        if opener == b']' {
+            let len = memchr2(ESC, BEL, bytes).unwrap_or(bytes.len());
+            self.passed(bytes, len);
+            len
+        } else {
+            self.text_len(bytes)
+        }
+    }
+
+    /// How many bytes stand before the next ESC.
+    #[inline(always)]
+    #[tactic(auto, using(crate::proofs::CountLemmas::text_found))]
+    fn text_len(&mut self, bytes: &[u8]) -> usize
+        requires { self.old.count + length bytes.now < 2 ^ 128 }
+        ensures len { result ≡ prefix_len is_plain_byte bytes.now }
+        ensures bound { result ≤ length bytes.now }
+        ensures looks { self.new.count ≡ self.old.count + min (result + 1) (length bytes.now) }
+    {
+        let len = memchr(ESC, bytes).unwrap_or(bytes.len());
+        self.passed(bytes, len);
+        len
+    }
+
+    /// Counts a search that passed over so many of the bytes: a look at each, and one at the byte
+    /// that stopped it, where one did.
+    #[inline(always)]
+    fn passed(&mut self, bytes: &[u8], len: usize)
+        requires inside { len ≤ length bytes.now }
+        requires room { self.old.count + length bytes.now < 2 ^ 128 }
+        ensures { self.new.count ≡ self.old.count + min (len + 1) (length bytes.now) }
+    {
+        self.count += min(len as u128 + 1, bytes.len() as u128);
+    }
 }

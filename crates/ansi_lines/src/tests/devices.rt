@@ -1,7 +1,6 @@
 //! Runs over devices that fail or are interrupted.
 use super::{CHUNK, Ran, at_call, expect, page_of, run_on, run_over};
 use crate::page::{Outcome, Page};
-use crate::reading::{MAX_BYTES, MAX_READS};
 use std::alloc::{AllocError, Global};
 use std::test::Fail;
 
@@ -55,7 +54,10 @@ const CASES: [Case; 4] = [
 const FAULT_CALLS: usize = 3;
 
 // So many calls that work, each after one that is interrupted.
-fn interrupted_each_once(alloc: Global, calls: usize) -> Result<Vec<Outcome>, AllocError> {
+pub(super) fn interrupted_each_once(
+    alloc: Global,
+    calls: usize,
+) -> Result<Vec<Outcome>, AllocError> {
     let mut schedule = Vec::new(alloc);
     for _ in 0..calls {
         schedule.push(Outcome::Interrupted)?;
@@ -117,7 +119,7 @@ fn interrupted_reads_are_made_again(rt: HostRuntime) -> Result<(), Fail> {
             "reads that are interrupted once",
         );
 
-        let planned = vec![in rt.alloc(); Outcome::Interrupted; MAX_READS + 1]?;
+        let planned = vec![in rt.alloc(); Outcome::Interrupted; 2_097_155]?;
         let input = page_of(rt.alloc(), case.text.as_bytes())?.with_schedule(planned);
         let ran = run_on(rt.alloc(), case.words, input)?;
         expect(
@@ -128,9 +130,10 @@ fn interrupted_reads_are_made_again(rt: HostRuntime) -> Result<(), Fail> {
             "bad input\n",
             "reads that are interrupted for ever",
         );
-        assert!(rt;
-            0 < ran.input.outcomes_left(),
-            "no more reads than there may be"
+        assert_eq!(rt;
+            ran.input.outcomes_left(),
+            1,
+            "outcomes that 2,097,154 reads leave"
         );
     }
     Ok(())
@@ -138,16 +141,16 @@ fn interrupted_reads_are_made_again(rt: HostRuntime) -> Result<(), Fail> {
 
 #[test]
 fn the_longest_input_takes_the_most_reads(rt: HostRuntime) -> Result<(), Fail> {
-    let longest = vec![in rt.alloc(); b'a'; MAX_BYTES]?;
-    let planned = interrupted_each_once(rt.alloc(), MAX_BYTES + 1)?;
+    let longest = vec![in rt.alloc(); b'a'; 1_048_576]?;
+    let planned = interrupted_each_once(rt.alloc(), 1_048_577)?;
     let input = Page::of(rt.alloc(), longest)
         .in_chunks(1)
         .with_schedule(planned);
-    let output = Page::with_room(rt.alloc(), MAX_BYTES)?;
+    let output = Page::with_room(rt.alloc(), 1_048_576)?;
     let faults = Page::with_room(rt.alloc(), 100)?;
     let ran = run_over(rt.alloc(), &["strip"], input, output, faults)?;
     assert_eq!(rt; ran.status, 0, "status of the longest input, a byte a read");
-    assert_eq!(rt; ran.output.bytes().len(), MAX_BYTES, "output of it");
+    assert_eq!(rt; ran.output.bytes().len(), 1_048_576, "output of it");
     assert_eq!(rt; ran.input.outcomes_left(), 0, "reads of it");
     Ok(())
 }

@@ -11,7 +11,7 @@ use std::test::Fail;
 const MOST_REQUESTS: u64 = 100;
 
 // Refuses each request of a run in turn, until a run meets no refusal and ends as told.
-fn refuse_each(
+pub(super) fn refuse_each(
     rt: &impl Abort,
     alloc: Global,
     words: &[&str],

@@ -13,7 +13,7 @@ use ansi_items::ansitok::{Kind, Scanner};
 pub fn starts_with(text: &str, pat: &str) -> bool
     ensures { result ≡ starts_with nat_eq (plain text.now) pat.now }
 {
-    stands_at(text, pat, 0)
+    stands_at(text, pat.as_bytes(), 0)
 }
 
 /// Whether the plain text ends with the pattern. (std.)
@@ -33,7 +33,7 @@ pub fn suffix_start(text: &str, pat: &str) -> Option<usize>
     ensures { result ≡ (if ends_with nat_eq (plain text.now) pat.now then Some (length (plain text.now) - length pat.now) else None) }
 {
     let start = plain_len(text).saturating_sub(pat.len());
-    if stands_at(text, pat, start) {
+    if stands_at(text, pat.as_bytes(), start) {
         Some(start)
     } else {
         None
@@ -41,11 +41,11 @@ pub fn suffix_start(text: &str, pat: &str) -> Option<usize>
 }
 
 /// Whether the plain text goes on with the pattern from a place on.
-fn stands_at(text: &str, pat: &str, place: usize) -> bool
+pub(super) fn stands_at(text: &str, pat: &[u8], place: usize) -> bool
     ensures { result ≡ starts_with nat_eq (drop place (plain text.now)) pat.now }
 {
     let mut before = place;
-    let mut left = pat.as_bytes();
+    let mut left = pat;
     for item in Scanner::new(text) {
         if item.kind == Kind::Text {
             let piece = text[item.start..item.end].as_bytes();

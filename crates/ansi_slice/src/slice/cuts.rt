@@ -1,5 +1,5 @@
 //! Cuts of a text.
-ghost use Rattle.std.specs.Prelude.{◌≡◌, ◌↔◌, ◌⊎◌, Some, slice_range, IsTrue, IsFalse, IsNone, IsOk, IfOk, IfSome, string_bytes};
+ghost use Rattle.std.specs.Prelude.{◌≡◌, ◌↔◌, ◌⊎◌, ◌≤◌, ◌+◌, length, Some, slice_range, IsTrue, IsFalse, IsNone, IsOk, IfOk, IfSome, string_bytes};
 ghost use Rattle.std.specs.Cow.{cow_str_bytes, IsBorrowedStr};
 ghost use Rattle.ansi_items.specs.Plain.{plain, has_escape};
 ghost use Rattle.ansi_slice.specs.Positions.{is_good_range};
@@ -22,6 +22,7 @@ pub fn cut_in<'t, A: Allocator>(
     requires { IsTrue (is_good_range (plain text.now) start end) }
     ensures bytes { IfOk result (λ c. cow_str_bytes c ≡ cut text.now start end) }
     ensures borrowed { IfOk result (λ c. IsBorrowedStr c ↔ IsFalse (has_escape text.now)) }
+    ensures len { IfOk result (λ c. length (cow_str_bytes c) ≤ length text.now + 88) }
     ensures takes_no_memory { IsFalse (has_escape text.now) → IsOk result }
 {
     // No position of a text lies past this one, so it stands for no end.
@@ -89,6 +90,7 @@ pub fn get_in<'t, A: Allocator>(
     ensures none { IfOk result (λ o. IsNone o ↔ IsFalse (is_good_range (plain text.now) start end)) }
     ensures bytes { IfOk result (λ o. IfSome o (λ c. cow_str_bytes c ≡ cut text.now start end)) }
     ensures borrowed { IfOk result (λ o. IfSome o (λ c. IsBorrowedStr c ↔ IsFalse (has_escape text.now))) }
+    ensures len { IfOk result (λ o. IfSome o (λ c. length (cow_str_bytes c) ≤ length text.now + 88)) }
     ensures takes_no_memory { IsFalse (has_escape text.now) ⊎ IsFalse (is_good_range (plain text.now) start end) → IsOk result }
 {
     if !search::is_good_range(text, start, end) {

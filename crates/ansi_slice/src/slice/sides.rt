@@ -1,7 +1,8 @@
 //! The two sides of a text.
-ghost use Rattle.std.specs.Prelude.{◌≡◌, ◌++◌, ◌↔◌, take, drop, IsTrue, IsFalse, IsOk, IfOk, OnOk, string_bytes};
+ghost use Rattle.std.specs.Prelude.{◌≡◌, ◌++◌, ◌↔◌, ◌≤◌, ◌+◌, ◌*◌, length, filter, take, drop, IsTrue, IsFalse, IsOk, IfOk, OnOk, string_bytes};
 ghost use Rattle.std.specs.Cow.{cow_str_bytes, IsBorrowedStr};
-ghost use Rattle.ansi_items.specs.Plain.{plain, has_escape};
+ghost use Rattle.ansi_items.specs.Pieces.{pieces_of};
+ghost use Rattle.ansi_items.specs.Plain.{plain, is_text, has_escape};
 ghost use Rattle.ansi_slice.specs.Positions.{is_good_position};
 ghost use Rattle.ansi_slice.specs.Sides.{dressed, left_side, right_side};
 ghost use Rattle.ansi_style.specs.States.{rendition_of};
@@ -23,6 +24,7 @@ pub fn split_at_in<'t, A: Allocator + Copy>(
     ensures left { IfOk result (λ c. cow_str_bytes c.0 ≡ left_side text.now mid) }
     ensures right { IfOk result (λ c. cow_str_bytes c.1 ≡ right_side text.now mid) }
     ensures borrowed { IfOk result (λ c. (IsBorrowedStr c.0 ↔ IsFalse (has_escape text.now)) × (IsBorrowedStr c.1 ↔ IsFalse (has_escape text.now))) }
+    ensures len { IfOk result (λ c. length (cow_str_bytes c.0) + length (cow_str_bytes c.1) ≤ length text.now + 251 * (length (filter is_text (pieces_of text.now)) + 1)) }
     ensures takes_no_memory { IsFalse (has_escape text.now) → IsOk result }
 {
     if !has_any(text) {

@@ -68,8 +68,8 @@ fn right_in<'t, A: Allocator + Copy>(
     Ok(Some(right))
 }
 
-/// What one edit makes of what the edits before it gave, or `None` where it is refused. What is owned
-/// stays owned.
+/// What one edit makes of what the edits before it gave, or `None` where it is refused, which takes no
+/// memory, whatever was given. What is owned stays owned.
 pub(crate) fn edit_given<'t, A: Allocator + Copy>(
     alloc: A,
     given: CowStr<'t, A>,
@@ -77,7 +77,8 @@ pub(crate) fn edit_given<'t, A: Allocator + Copy>(
 ) -> Result<Option<CowStr<'t, A>>, AllocError>
     ensures bytes { IfOk result (λ o. option_map cow_str_bytes o ≡ edited_by (change_of edit.entry) (cow_str_bytes given.entry)) }
     ensures borrowed { IfOk result (λ o. IfSome o (λ c. IsBorrowedStr c ↔ (IsBorrowedStr given.entry × IsTrue (gives_borrow (change_of edit.entry) (cow_str_bytes given.entry))))) }
-    ensures takes_no_memory { IsBorrowedStr given.entry → IsNone (edited_by (change_of edit.entry) (cow_str_bytes given.entry)) ⊎ IsTrue (gives_borrow (change_of edit.entry) (cow_str_bytes given.entry)) → IsOk result }
+    ensures takes_no_memory { IsNone (edited_by (change_of edit.entry) (cow_str_bytes given.entry))
+        ⊎ (IsBorrowedStr given.entry × IsTrue (gives_borrow (change_of edit.entry) (cow_str_bytes given.entry))) → IsOk result }
 {
     match given {
         CowStr::Borrowed(text) => edit_once(alloc, text, edit),

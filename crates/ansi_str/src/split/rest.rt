@@ -66,7 +66,7 @@ fn run_len(text: &str) -> usize
 }
 
 /// The first match that doesn't begin before `from`, where it begins in the run of plain text at the
-/// front of a text. What is read of the run ends with the match.
+/// front of a text, and ends in it. What is read of the run ends with the match.
 fn match_in_run(text: &str, run: usize, pat: &str, from: usize) -> Option<usize>
     requires ends { IsCharBoundary text.now run }
     requires plain { IsFalse (has_escape (take run text.now)) }
@@ -74,6 +74,6 @@ fn match_in_run(text: &str, run: usize, pat: &str, from: usize) -> Option<usize>
     ensures boundary { IfSome result (λ place. IsCharBoundary text.now place) }
     ensures cut { IfSome result (λ place. IsCutAtMatch text.now pat.now from (take place text.now) (drop place text.now)) }
 {
-    let (run, after) = text.split_at(run);
-    search::first_in_run(run, after, pat, from)
+    let (run, _) = text.split_at(run);
+    search::first_in_run(run, pat, from)
 }

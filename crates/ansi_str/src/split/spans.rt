@@ -1,5 +1,5 @@
 //! The stretches of a text that its parts are written from.
-ghost use Rattle.std.specs.Prelude.{◌≡◌, ◌↔◌, IsTrue, IsOk, IfOk, string_bytes};
+ghost use Rattle.std.specs.Prelude.{◌≡◌, ◌↔◌, ◌≤◌, ◌+◌, length, IsTrue, IsOk, IfOk, string_bytes};
 ghost use Rattle.std.specs.Cow.{cow_str_bytes, IsBorrowedStr};
 ghost use Rattle.ansi_items.specs.Plain.{plain};
 ghost use Rattle.ansi_slice.specs.Positions.{is_char_boundary};
@@ -31,12 +31,13 @@ impl<'t> Span<'t> {
     ghost use Rattle.std.specs.Prelude.{true, false};
     ghost use Rattle.std.specs.Option.{MatchOption};
     ghost use Rattle.ansi_style.specs.States.{rendition_of};
-    ghost use Rattle.ansi_str.specs.Spans.{span_part, span_text};
+    ghost use Rattle.ansi_str.specs.Spans.{span_part, span_text, IsWritten, IsBare};
 
     /// The part: a borrow where no sequence stands in it and no style has to be written.
     pub(super) fn write<A: Allocator>(&self, alloc: A) -> Result<CowStr<'t, A>, AllocError>
         ensures bytes { IfOk result (λ c. cow_str_bytes c ≡ (span_part (rendition_of self.now.carried) self.now.text.now self.now.skip).bytes) }
         ensures borrowed { IfOk result (λ c. IsBorrowedStr c ↔ IsTrue (span_part (rendition_of self.now.carried) self.now.text.now self.now.skip).borrowed) }
+        ensures len { IfOk result (λ c. length (cow_str_bytes c) ≤ (span_part (rendition_of self.now.carried) self.now.text.now self.now.skip).share + 251) }
         ensures takes_no_memory { IsTrue (span_part (rendition_of self.now.carried) self.now.text.now self.now.skip).borrowed → IsOk result }
     {
         match self.bare() {
@@ -48,8 +49,8 @@ impl<'t> Span<'t> {
     /// The part as it stands in the text, where no sequence stands in it, and it is empty or no style
     /// is carried.
     fn bare(&self) -> Option<&'t str>
-        ensures { MatchOption result (span_part (rendition_of self.now.carried) self.now.text.now self.now.skip ≡ record { bytes = span_text (rendition_of self.now.carried) self.now.text.now self.now.skip; borrowed = false })
-            (λ bare. span_part (rendition_of self.now.carried) self.now.text.now self.now.skip ≡ record { bytes = bare.now; borrowed = true }) }
+        ensures { MatchOption result (IsWritten (rendition_of self.now.carried) self.now.text.now self.now.skip)
+            (λ bare. IsBare (rendition_of self.now.carried) self.now.text.now self.now.skip bare.now) }
     {
         if has_any(self.text) {
             return None;

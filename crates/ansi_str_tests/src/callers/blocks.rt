@@ -4,7 +4,7 @@ ghost use Rattle.std.specs.Cmp.Lexicographic.{pointwise};
 ghost use Rattle.ansi_str.specs.Written.{start, close_if_any};
 ghost use Rattle.ansi_str.specs.States.{rendition_of};
 ghost use Rattle.ansi_str.specs.Blocks.{blocks};
-ghost use Rattle.ansi_str_tests.specs.Same.{are_same};
+ghost use Rattle.ansi_str.specs.Same.{are_same};
 
 use ansi_str::{AnsiBlock, AnsiSequenceEnd, Style, get_blocks};
 use std::alloc::{AllocError, Global};

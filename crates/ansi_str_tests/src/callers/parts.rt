@@ -1,6 +1,5 @@
 //! A caller of a split, which knows what it was given.
-ghost use Rattle.std.specs.Prelude.{◌≡◌, ◌<◌, ◌^◌, ◌+◌, length, IfOk};
-ghost use Rattle.ansi_str.specs.Plain.{plain};
+ghost use Rattle.std.specs.Prelude.{◌≡◌, length, IfOk};
 ghost use Rattle.ansi_str.specs.Parts.{all_parts};
 
 use ansi_str::split::split_in;
@@ -12,7 +11,6 @@ pub fn count_parts<'x, A: Allocator + Copy>(
     text: &'x str,
     pat: &'x str,
 ) -> Result<usize, AllocError>
-    requires { length (plain text.now) + 2 < 2 ^ 64 }
     ensures { IfOk result (λ count. count ≡ length (all_parts text.now pat.now)) }
 {
     let mut count = 0;

@@ -1,5 +1,5 @@
 //! Callers of the searches: what can be concluded of their answers alone.
-ghost use Rattle.std.specs.Prelude.{◌≡◌, ◌↔◌, ◌+◌, ◌≤◌, ℕ, length, Some, IsNone, IfOk, IfSome, true};
+ghost use Rattle.std.specs.Prelude.{◌≡◌, ◌↔◌, ◌+◌, ◌≤◌, ℕ, length, Some, None, IsNone, IfOk, IfSome, true};
 ghost use Rattle.std.specs.Cow.{cow_str_bytes};
 ghost use Rattle.std.specs.Str.{IsCharBoundary};
 ghost use Rattle.std.specs.Str.Pattern.{HasTextAt, LacksTextAt};
@@ -27,6 +27,48 @@ pub fn cut_match<'t, T: AnsiStr>(
     }
 }
 
+/// The text before the first match of the pattern, the match, and the text after it, or `None` where
+/// the pattern stands nowhere.
+pub fn cut_around_match<'t, T: AnsiStr>(
+    alloc: Global,
+    text: &'t T,
+    pat: &str,
+) -> Result<Option<(CowStr<'t>, CowStr<'t>, CowStr<'t>)>, AllocError>
+    ensures none { IfOk result (λ o. IsNone o → (i : ℕ) → i ≤ length (plain (T.text text.now)) → LacksTextAt pat.now (plain (T.text text.now)) i) }
+    ensures bytes { IfOk result (λ o. IfSome o (λ c. (i : ℕ) × HasTextAt pat.now (plain (T.text text.now)) i (i + length pat.now)
+        × (cow_str_bytes c.0 ≡ cut (T.text text.now) 0 (Some i))
+        × (cow_str_bytes c.1 ≡ cut (T.text text.now) i (Some (i + length pat.now)))
+        × (cow_str_bytes c.2 ≡ cut (T.text text.now) (i + length pat.now) None))) }
+{
+    let Some(start) = text.ansi_find(pat) else {
+        return Ok(None);
+    };
+    let end = start + pat.len();
+    let before = text.ansi_cut(alloc, ..start)?;
+    let found = text.ansi_cut(alloc, start..end)?;
+    let after = text.ansi_cut(alloc, end..)?;
+    Ok(Some((before, found, after)))
+}
+
+/// The text before the index, and the text from there on, or `None` where that is no character
+/// boundary of the plain text.
+pub fn cut_at_boundary<'t, T: AnsiStr>(
+    alloc: Global,
+    text: &'t T,
+    index: usize,
+) -> Result<Option<(CowStr<'t>, CowStr<'t>)>, AllocError>
+    ensures none { IfOk result (λ o. IsNone o ↔ (¬ (IsCharBoundary (plain (T.text text.now)) index))) }
+    ensures before { IfOk result (λ o. IfSome o (λ c. cow_str_bytes c.0 ≡ cut (T.text text.now) 0 (Some index))) }
+    ensures after { IfOk result (λ o. IfSome o (λ c. cow_str_bytes c.1 ≡ cut (T.text text.now) index None)) }
+{
+    if !text.ansi_is_char_boundary(index) {
+        return Ok(None);
+    }
+    let before = text.ansi_cut(alloc, ..index)?;
+    let after = text.ansi_cut(alloc, index..)?;
+    Ok(Some((before, after)))
+}
+
 /// The two sides of the text at the index, or `None` where that is no character boundary of the
 /// plain text.
 pub fn split_at_boundary<'t, T: AnsiStr>(
@@ -46,7 +88,7 @@ pub fn split_at_boundary<'t, T: AnsiStr>(
 
 /// Whether the searches agree: a plain text begins with a pattern exactly where this is first found at
 /// 0, and a pattern that it ends with is found.
-#[tactic(auto, using(ansi_str::proofs::FindLemmas::finds_at_front, ansi_str::proofs::EndLemmas::finds_at_end))]
+#[tactic(auto, using(crate::proofs::SearchLemmas::finds_at_front, crate::proofs::SearchLemmas::finds_at_end))]
 pub fn searches_agree<T: AnsiStr>(text: &T, pat: &str) -> bool
     ensures { result ≡ true }
 {

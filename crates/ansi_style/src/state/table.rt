@@ -5,102 +5,87 @@ ghost use Rattle.ansi_style.specs.Sgr.{effect_of_code, perform, read_color, colo
 ghost use Rattle.ansi_style.specs.States.{rendition_of};
 
 use crate::state::Style;
+use crate::state::attributes::Attributes;
 use crate::state::fields::{Fields, code, color_number};
 use ansi_items::ansitok::AnsiColor;
+use bitflags::Flags;
 
 impl Style {
     /// Does what the code asks for; where that is a color, it is read from the fields.
+    #[tactic(auto, unfolding(crate::specs::States::rendition_of))]
     pub(super) fn perform(&mut self, code: u8, fields: &mut Fields<'_>)
         ensures { (rendition_of self.new, fields.new) ≡ perform (effect_of_code code) (rendition_of self.old) fields.old }
     {
         match code {
             0 => {
                 *self = Style::new();
-                self.rendition.reset = true;
+                self.set(Attributes::RESET);
             }
-            1 => self.rendition.bold = true,
-            2 => self.rendition.faint = true,
-            3 => self.rendition.italic = true,
-            4 => self.rendition.underline = true,
-            5 => self.rendition.slow_blink = true,
-            6 => self.rendition.rapid_blink = true,
-            7 => self.rendition.inverse = true,
-            8 => self.rendition.hide = true,
-            9 => self.rendition.crossed_out = true,
-            10 => self.rendition.font = None,
-            11..=19 => self.rendition.font = Some(code),
-            20 => self.rendition.fraktur = true,
-            21 => self.rendition.double_underline = true,
-            22 => {
-                self.rendition.bold = false;
-                self.rendition.faint = false;
-            }
-            23 => {
-                self.rendition.italic = false;
-                self.rendition.fraktur = false;
-            }
-            24 => {
-                self.rendition.underline = false;
-                self.rendition.double_underline = false;
-            }
-            25 => {
-                self.rendition.slow_blink = false;
-                self.rendition.rapid_blink = false;
-            }
-            26 => self.rendition.proportional_spacing = true,
-            27 => self.rendition.inverse = false,
-            28 => self.rendition.hide = false,
-            29 => self.rendition.crossed_out = false,
-            30..=37 => self.rendition.foreground = Some(AnsiColor::Bit4(code)),
+            1 => self.set(Attributes::BOLD),
+            2 => self.set(Attributes::FAINT),
+            3 => self.set(Attributes::ITALIC),
+            4 => self.set(Attributes::UNDERLINE),
+            5 => self.set(Attributes::SLOW_BLINK),
+            6 => self.set(Attributes::RAPID_BLINK),
+            7 => self.set(Attributes::INVERSE),
+            8 => self.set(Attributes::HIDE),
+            9 => self.set(Attributes::CROSSED_OUT),
+            10 => self.font = None,
+            11..=19 => self.font = Some(code),
+            20 => self.set(Attributes::FRAKTUR),
+            21 => self.set(Attributes::DOUBLE_UNDERLINE),
+            22 => self.clear(Attributes::BOLD.union(Attributes::FAINT)),
+            23 => self.clear(Attributes::ITALIC.union(Attributes::FRAKTUR)),
+            24 => self.clear(Attributes::UNDERLINE.union(Attributes::DOUBLE_UNDERLINE)),
+            25 => self.clear(Attributes::SLOW_BLINK.union(Attributes::RAPID_BLINK)),
+            26 => self.set(Attributes::PROPORTIONAL_SPACING),
+            27 => self.clear(Attributes::INVERSE),
+            28 => self.clear(Attributes::HIDE),
+            29 => self.clear(Attributes::CROSSED_OUT),
+            30..=37 => self.foreground = Some(AnsiColor::Bit4(code)),
             38 => {
                 if let Some(color) = read_color(fields) {
-                    self.rendition.foreground = Some(color);
+                    self.foreground = Some(color);
                 }
             }
-            39 => self.rendition.foreground = None,
-            40..=47 => self.rendition.background = Some(AnsiColor::Bit4(code)),
+            39 => self.foreground = None,
+            40..=47 => self.background = Some(AnsiColor::Bit4(code)),
             48 => {
                 if let Some(color) = read_color(fields) {
-                    self.rendition.background = Some(color);
+                    self.background = Some(color);
                 }
             }
-            49 => self.rendition.background = None,
-            50 => self.rendition.proportional_spacing = false,
-            51 => self.rendition.framed = true,
-            52 => self.rendition.encircled = true,
-            53 => self.rendition.overlined = true,
-            54 => {
-                self.rendition.framed = false;
-                self.rendition.encircled = false;
-            }
-            55 => self.rendition.overlined = false,
+            49 => self.background = None,
+            50 => self.clear(Attributes::PROPORTIONAL_SPACING),
+            51 => self.set(Attributes::FRAMED),
+            52 => self.set(Attributes::ENCIRCLED),
+            53 => self.set(Attributes::OVERLINED),
+            54 => self.clear(Attributes::FRAMED.union(Attributes::ENCIRCLED)),
+            55 => self.clear(Attributes::OVERLINED),
             58 => {
                 if let Some(color) = read_color(fields) {
-                    self.rendition.underline_color = Some(color);
+                    self.underline_color = Some(color);
                 }
             }
-            59 => self.rendition.underline_color = None,
-            60 => self.rendition.ideogram_underline = true,
-            61 => self.rendition.ideogram_double_underline = true,
-            62 => self.rendition.ideogram_overline = true,
-            63 => self.rendition.ideogram_double_overline = true,
-            64 => self.rendition.ideogram_stress_marking = true,
-            65 => {
-                self.rendition.ideogram_underline = false;
-                self.rendition.ideogram_double_underline = false;
-                self.rendition.ideogram_overline = false;
-                self.rendition.ideogram_double_overline = false;
-                self.rendition.ideogram_stress_marking = false;
-            }
-            73 => self.rendition.superscript = true,
-            74 => self.rendition.subscript = true,
-            75 => {
-                self.rendition.superscript = false;
-                self.rendition.subscript = false;
-            }
-            90..=97 => self.rendition.foreground = Some(AnsiColor::Bit4(code)),
-            100..=107 => self.rendition.background = Some(AnsiColor::Bit4(code)),
-            _ => self.rendition.unknown = true,
+            59 => self.underline_color = None,
+            60 => self.set(Attributes::IDEOGRAM_UNDERLINE),
+            61 => self.set(Attributes::IDEOGRAM_DOUBLE_UNDERLINE),
+            62 => self.set(Attributes::IDEOGRAM_OVERLINE),
+            63 => self.set(Attributes::IDEOGRAM_DOUBLE_OVERLINE),
+            64 => self.set(Attributes::IDEOGRAM_STRESS_MARKING),
+            65 => self.clear(
+                Attributes::IDEOGRAM_UNDERLINE
+                    .union(Attributes::IDEOGRAM_DOUBLE_UNDERLINE)
+                    .union(Attributes::IDEOGRAM_OVERLINE)
+                    .union(Attributes::IDEOGRAM_DOUBLE_OVERLINE)
+                    .union(Attributes::IDEOGRAM_STRESS_MARKING),
+            ),
+            73 => self.set(Attributes::SUPERSCRIPT),
+            74 => self.set(Attributes::SUBSCRIPT),
+            75 => self.clear(Attributes::SUPERSCRIPT.union(Attributes::SUBSCRIPT)),
+            90..=97 => self.foreground = Some(AnsiColor::Bit4(code)),
+            100..=107 => self.background = Some(AnsiColor::Bit4(code)),
+            _ => self.set(Attributes::UNKNOWN),
         }
     }
 }

@@ -1,5 +1,6 @@
 //! What SGRs do to a style, and what is printed of one.
 use crate::state::Style;
+use crate::state::attributes::Attributes;
 use ansi_items::ansitok::{AnsiColor, Kind, Scanner};
 use std::test::Fail;
 
@@ -18,23 +19,23 @@ fn style_after(text: &str) -> Style {
 fn parameters(rt: HostRuntime) -> Result<(), Fail> {
     let plain = Style::new();
     let mut bold = plain;
-    bold.rendition.bold = true;
+    bold.set(Attributes::BOLD);
     let mut black = plain;
-    black.rendition.foreground = Some(AnsiColor::Bit8(0));
+    black.foreground = Some(AnsiColor::Bit8(0));
     let mut bold_black = black;
-    bold_black.rendition.bold = true;
+    bold_black.set(Attributes::BOLD);
     let mut on_blue = plain;
-    on_blue.rendition.background = Some(AnsiColor::Bit24 {
+    on_blue.background = Some(AnsiColor::Bit24 {
         r: 23,
         g: 11,
         b: 100,
     });
     let mut reset = plain;
-    reset.rendition.reset = true;
+    reset.set(Attributes::RESET);
     let mut unknown = plain;
-    unknown.rendition.unknown = true;
+    unknown.set(Attributes::UNKNOWN);
     let mut reset_and_unknown = reset;
-    reset_and_unknown.rendition.unknown = true;
+    reset_and_unknown.set(Attributes::UNKNOWN);
     let rows = [
         ("38;7;1", bold),
         ("38;5", plain),

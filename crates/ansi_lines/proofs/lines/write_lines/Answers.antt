@@ -24,6 +24,7 @@ loop-line-preserved g c =
       written = HasWritten-more {all = answers (work_of c.args.job.now) c.args.text.now} _ (answer ++ line_feed ∷ []) _ c.loop-line.invariant.written (append_known-twice _ answer (line_feed ∷ []) wrote c.in_ok-write.ensures.taken) splits;
       none_refused = c.loop-line.invariant.none_refused ∙ goes_on;
       counted = omega arith;
+      flushes = search rules;
       unfailed = search rules;
     }
 

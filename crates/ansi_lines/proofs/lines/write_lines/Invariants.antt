@@ -16,6 +16,7 @@ invariant-loop-line g l =
       written : HasWritten (taken l.fn.output) (taken l.output) (answers work l.text) (answers work l.rest);
       none_refused : first_refused 1 work l.text ≡ first_refused l.number work l.rest;
       counted : l.number + length l.rest ≤ 1 + length l.text;
+      flushes : g.W.Sink.flushes l.output ≡ g.W.Sink.flushes l.fn.output;
       unfailed : g.W.Sink.failed l.output ≡ g.W.Sink.failed l.fn.output;
     }
 

@@ -1,6 +1,9 @@
-use Rattle.ansi_str.proofs.KeptLemmas.{is_kept}
+use Rattle.std.proofs.Common.{◌-◌, length, arith}
+use Rattle.ansi_items.specs.Plain.{plain}
+use Rattle.ansi_slice.proofs.KeptWalkLemmas.{kept-all}
+use Rattle.ansi_slice.proofs.KeptLemmas.{is_kept}
 use Rattle.ansi_slice.proofs.TrimLemmas.{slice_range-trim_interval, trim_interval_boundaries}
-use Rattle.ansi_str.proofs.KeptAsStdLemmas.{plain-trimmed, plain-without_prefix, plain-without_suffix}
+use Rattle.ansi_slice.proofs.KeptAsStdLemmas.{plain-trimmed, plain-without_prefix, plain-without_suffix}
 use Rattle.ansi_str.proofs.laws.trim_is_std.Goals as goal
 
 pub returns-clause-trim : goal.returns-clause-trim
@@ -20,3 +23,9 @@ returns-clause-boundaries c = trim_interval_boundaries
 
 pub returns-clause-kept : goal.returns-clause-kept
 returns-clause-kept c = is_kept
+
+pub returns-clause-empty_prefix : goal.returns-clause-empty_prefix
+returns-clause-empty_prefix c = λ t. kept-all t (length (plain t)) (omega arith)
+
+pub returns-clause-empty_suffix : goal.returns-clause-empty_suffix
+returns-clause-empty_suffix c = λ t. kept-all t (length (plain t) - 0) (omega arith)

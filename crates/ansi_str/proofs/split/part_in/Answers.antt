@@ -1,4 +1,4 @@
-use Rattle.std.proofs.Common.{◌≡◌, inl, inr, Some, option_map, refl, sym, ◌∙◌, ap, slice_get, is_some, true≢false}
+use Rattle.std.proofs.Common.{◌≡◌, inl, inr, Some, option_map, refl, sym, ◌∙◌, ap, slice_get, is_some, true≢false, arith}
 use Rattle.std.proofs.lemmas.Iterator.Consumers.{nth_from_yields_List, YieldsList-from_first}
 use Rattle.ansi_str.specs.declared.split.spans.Span.{Span}
 use Rattle.ansi_style.specs.Rendition.{plain_style}
@@ -6,6 +6,7 @@ use Rattle.ansi_style.specs.States.{rendition_of}
 use Rattle.ansi_str.specs.Splits.{SplitPart}
 use Rattle.ansi_str.specs.Spans.{span_part, parts_left}
 use Rattle.ansi_str.proofs.SplitLemmas.{IsPartAt, part_at, no_part_at}
+use Rattle.ansi_str.proofs.PartLengthLemmas.{share_within}
 use Rattle.ansi_str.proofs.split.part_in.Goals as goal
 
 -- the part that a span is written as
@@ -64,3 +65,23 @@ returns-in-None-clause-none g c =
     = nth_from_yields_List c.nth.result _ c.args.index c.nth.ensures.ran (YieldsList-from_first written_as (λ s. s) (parts_left plain_style t p 0 0) c.new.ensures) in
     let none = no_part_at t p c.args.index (sym at ∙ ap (option_map written_as) c.in-None.is) in
     (λ e. ap is_some none, λ e. refl)
+
+pub returns-in_ok-write-in-Some-clause-len : goal.returns-in_ok-write-in-Some-clause-len
+returns-in_ok-write-in-Some-clause-len g c =
+    let t = c.args.text.now in
+    let p = c.args.pat.now in
+    let at : option_map written_as c.nth.result ≡ slice_get (parts_left plain_style t p 0 0) c.args.index
+    = nth_from_yields_List c.nth.result _ c.args.index c.nth.ensures.ran (YieldsList-from_first written_as (λ s. s) (parts_left plain_style t p 0 0) c.new.ensures) in
+    let part : IsPartAt t p c.args.index (written_as c.in-Some.span) = part_at t p c.args.index (written_as c.in-Some.span) (sym at ∙ ap (option_map written_as) c.in-Some.is) in
+    omega (arith, c.in_ok-write-in-Some.ensures.len, part.share)
+
+-- a share is part of the text
+
+pub returns-in_ok-write-in-Some-clause-within : goal.returns-in_ok-write-in-Some-clause-within
+returns-in_ok-write-in-Some-clause-within g c = share_within c.args.text.now c.args.pat.now c.args.index
+
+pub returns-in_err-write-in-Some-clause-within : goal.returns-in_err-write-in-Some-clause-within
+returns-in_err-write-in-Some-clause-within g c = share_within c.args.text.now c.args.pat.now c.args.index
+
+pub returns-in-None-clause-within : goal.returns-in-None-clause-within
+returns-in-None-clause-within g c = share_within c.args.text.now c.args.pat.now c.args.index

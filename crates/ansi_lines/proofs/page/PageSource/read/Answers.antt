@@ -5,5 +5,5 @@ use Rattle.ansi_lines.proofs.page.PageSource.read.Goals as goal
 pub returns-in-Works-clause-bytes : goal.returns-in-Works-clause-bytes
 returns-in-Works-clause-bytes c =
     let page = c.args.self.now in
-    rw (c.give.ensures.bytes, c.give.ensures.page, c.take_outcome.ensures.page)
-    (reads_front page.bytes c.args.room.now page.read c.give.result page.chunk (rw c.take_outcome.ensures.page at c.give.ensures.count))
+    rw (c.give.ensures.bytes, c.give.ensures.page, c.start_read.ensures.page)
+    (reads_front page.bytes c.args.room.now page.read c.give.result page.chunk (rw c.start_read.ensures.page at c.give.ensures.count))

@@ -5,7 +5,7 @@ use Rattle.ansi_items.specs.Plain.{plain}
 use Rattle.ansi_items.proofs.PlainLemmas.{length-plain}
 use Rattle.ansi_items.proofs.Utf8Lemmas.{IsUtf8-plain}
 use Rattle.ansi_slice.proofs.MatchLemmas.{IsMatch}
-use Rattle.ansi_slice.proofs.FindLemmas.{first_match_from-first, finds_text, finds_good_range, finds_within}
+use Rattle.ansi_slice.proofs.FindLemmas.{first_match_from-first, finds_text, finds_good_range, finds_good_before, finds_good_after, finds_within}
 use Rattle.ansi_slice.proofs.search.matches.find.Goals as goal
 
 pub returns-clause-first : goal.returns-clause-first
@@ -21,6 +21,20 @@ returns-clause-good c =
     let p = c.args.pat.now in
     let first : IsFirst (IsMatch x p) 0 (length x + 1) c.find_from.result = subst (IsFirst (IsMatch x p) 0 (length x + 1)) (sym c.find_from.ensures) (first_match_from-first x p 0) in
     finds_good_range x p c.find_from.result (IsUtf8-plain c.args.text.now c.utf8.text) c.utf8.pat first
+
+pub returns-clause-good_before : goal.returns-clause-good_before
+returns-clause-good_before c =
+    let x = plain c.args.text.now in
+    let p = c.args.pat.now in
+    let first : IsFirst (IsMatch x p) 0 (length x + 1) c.find_from.result = subst (IsFirst (IsMatch x p) 0 (length x + 1)) (sym c.find_from.ensures) (first_match_from-first x p 0) in
+    finds_good_before x p c.find_from.result (IsUtf8-plain c.args.text.now c.utf8.text) first
+
+pub returns-clause-good_after : goal.returns-clause-good_after
+returns-clause-good_after c =
+    let x = plain c.args.text.now in
+    let p = c.args.pat.now in
+    let first : IsFirst (IsMatch x p) 0 (length x + 1) c.find_from.result = subst (IsFirst (IsMatch x p) 0 (length x + 1)) (sym c.find_from.ensures) (first_match_from-first x p 0) in
+    finds_good_after x p c.find_from.result (IsUtf8-plain c.args.text.now c.utf8.text) c.utf8.pat first
 
 -- the plain text is no longer than the text, which is in memory
 pub returns-clause-fits : goal.returns-clause-fits

@@ -1,69 +1,20 @@
-use Rattle.std.proofs.Common.{◌≡◌, ◌++◌, ◌∷◌, ◌+◌, ◌-◌, ◌≤◌, ◌<◌, [], drop, length, refl, sym, ◌∙◌, ap, arith}
-use Rattle.std.proofs.lemmas.Bool.{eqb-true, eqb-false}
-use Rattle.std.proofs.lemmas.List.{drop_at, drop-drop, length-append, length-drop}
-use Rattle.ansi_items.specs.Pieces.{Text}
-use Rattle.ansi_items.specs.Plain.{plain, plain_of}
-use Rattle.ansi_items.specs.Scans.{pieces_left}
-use Rattle.ansi_items.proofs.StepLemmas.{is_text, gives_text, gives_rest}
-use Rattle.ansi_slice.proofs.MatchLemmas.{first_match_in, no_match_in, empty_at_end, none_at_end}
+use Rattle.std.proofs.Common.{◌≢◌, length, sym, ◌∙◌, ap, arith, IsFalse}
+use Rattle.std.proofs.lemmas.Bool.{eqb-false}
+use Rattle.ansi_items.specs.Plain.{plain, has_escape}
+use Rattle.ansi_slice.specs.Parts.{first_match_from}
+use Rattle.ansi_items.proofs.PlainLemmas.{plain-bare, length-plain}
+use Rattle.ansi_slice.proofs.MatchLemmas.{none-longer, first_of_all, no_escape-found}
 use Rattle.ansi_slice.proofs.search.matches.find_from.Goals as goal
-use Rattle.ansi_slice.proofs.search.matches.find_from.Goals.{else-is_empty-via-then-is_empty+else-from-place, else-is_empty-via-else-is_empty}
 
--- a match begins in the run
-pub returns-in-Some-first_in_run : goal.returns-in-Some-first_in_run
-returns-in-Some-first_in_run c =
-    let x = plain c.args.text.now in
-    let w = c.range-run.result.now in
-    let y = plain c.range_from-after.result.now in
-    let steps = c.in-Some.ensures.steps in
-    let left : pieces_left c.loop-item.item-iterator ≡ Text w ∷ pieces_left c.next.new.self = gives_text steps c.loop-item.invariant.text c.range-run.ensures.value (is_text c.if-eq.ensures) in
-    let after : y ≡ plain_of (pieces_left c.next.new.self) = ap plain_of (gives_rest steps c.loop-item.invariant.text c.range_from-after.ensures.value) in
-    let is : drop c.loop-item.place x ≡ w ++ y = sym c.loop-item.invariant.left ∙ ap plain_of left ∙ ap (λ v. w ++ v) (sym after) in
-    let inside : length w ≤ length (w ++ y) = omega (arith, length-append w y) in
-    first_match_in x c.args.pat.now (w ++ y) c.args.from c.loop-item.place (length w) c.in-Some-first_in_run.start c.loop-item.invariant.within is inside
-    c.loop-item.invariant.none (rw (← c.saturating_sub.ensures) (c.in-Some-first_in_run.ensures))
+-- the pattern is longer than the text
+pub returns-then-text-pat : goal.returns-then-text-pat
+returns-then-text-pat c = none-longer (plain c.args.text.now) c.args.pat.now c.args.from (omega (arith, c.if-text-pat.true, length-plain c.args.text.now))
 
--- no match begins in the run
-pub loop-item-preserved-then-eq : goal.loop-item-preserved-then-eq
-loop-item-preserved-then-eq c =
-    let x = plain c.args.text.now in
-    let w = c.range-run.result.now in
-    let y = plain c.range_from-after.result.now in
-    let place = c.loop-item.place in
-    let steps = c.in-Some.ensures.steps in
-    let left : pieces_left c.loop-item.item-iterator ≡ Text w ∷ pieces_left c.next.new.self = gives_text steps c.loop-item.invariant.text c.range-run.ensures.value (is_text c.if-eq.ensures) in
-    let after : y ≡ plain_of (pieces_left c.next.new.self) = ap plain_of (gives_rest steps c.loop-item.invariant.text c.range_from-after.ensures.value) in
-    let is : drop place x ≡ w ++ y = sym c.loop-item.invariant.left ∙ ap plain_of left ∙ ap (λ v. w ++ v) (sym after) in
-    let size : length x - place ≡ length (w ++ y) = sym (length-drop place x) ∙ ap length is in
-    let all : length (w ++ y) ≡ length w + length y = length-append w y in
-    let within : place ≤ length x = c.loop-item.invariant.within in
-    record {
-      text = steps.text ∙ c.loop-item.invariant.text;
-      left = sym after ∙ sym (drop_at w y (length w) refl) ∙ ap (drop (length w)) (sym is) ∙ drop-drop (length w) place x;
-      within = omega (arith, size, all, within);
-      bounded = omega (arith, c.loop-item.invariant.bounded, steps.start, steps.end, c.range-run.ensures.len);
-      none = no_match_in x c.args.pat.now (w ++ y) c.args.from place (length w) within is c.loop-item.invariant.none (rw (← c.saturating_sub.ensures) c.in_default.ensures);
-    }
-
--- the pattern is empty
-pub returns-then-from-place : goal.returns-then-from-place
-returns-then-from-place c =
-    let x = plain c.args.text.now in
-    let place = c.loop-item.place in
-    let rest : drop place x ≡ [] = sym c.loop-item.invariant.left ∙ ap plain_of c.in-None.ensures.steps.2 in
-    let end : place ≡ length x = omega (arith, ap length rest, length-drop place x, c.loop-item.invariant.within) in
-    empty_at_end x c.args.pat.now c.args.from place end (eqb-true (length c.args.pat.now) 0 (sym c.if-is_empty.ensures)) c.if-from-place.true c.loop-item.invariant.none
-
--- it isn't empty, or `from` lies past the end
-pub returns : goal.returns
-returns c =
-    let x = plain c.args.text.now in
+-- the text has no ESC
+pub returns-in-None : goal.returns-in-None
+returns-in-None c =
+    let t = c.args.text.now in
     let p = c.args.pat.now in
-    let place = c.loop-item.place in
-    let rest : drop place x ≡ [] = sym c.loop-item.invariant.left ∙ ap plain_of c.in-None.ensures.steps.2 in
-    let end : place ≡ length x = omega (arith, ap length rest, length-drop place x, c.loop-item.invariant.within) in
-    let passed : length p ≡ 0 → place < c.args.from = elim c.else-is_empty.branch [
-      | else-is_empty-via-then-is_empty+else-from-place far ↦ λ _. far.if-from-place.false
-      | else-is_empty-via-else-is_empty some ↦ λ none. absurd (eqb-false (length p) 0 (sym some.if-is_empty.ensures) none)
-    ] in
-    none_at_end x p c.args.from place end passed c.loop-item.invariant.none
+    let none : IsFalse (has_escape t) = ap has_escape (sym c.as_bytes.ensures.value) ∙ no_escape-found c.as_bytes.result.now c.in-None.ensures in
+    let filled : length p ≢ 0 = eqb-false (length p) 0 (sym c.if-is_empty.ensures) in
+    first_of_all t p c.args.from c.first_in_run.result (omega (arith, filled)) c.first_in_run.ensures ∙ ap (λ v. first_match_from v p c.args.from) (sym (plain-bare t none))

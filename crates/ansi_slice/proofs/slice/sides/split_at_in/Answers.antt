@@ -1,8 +1,9 @@
-use Rattle.std.proofs.Common.{sym, ◌∙◌, subst, IsTrue, IsFalse}
+use Rattle.std.proofs.Common.{sym, ◌∙◌, ap, subst, arith, length, IsTrue, IsFalse}
 use Rattle.ansi_items.specs.Plain.{has_escape}
 use Rattle.ansi_slice.specs.Positions.{is_good_position}
 use Rattle.ansi_items.proofs.PlainLemmas.{plain-bare}
 use Rattle.ansi_slice.proofs.SideLemmas.{left_side-bare, right_side-bare}
+use Rattle.ansi_slice.proofs.LengthLemmas.{length-sides}
 use Rattle.ansi_slice.proofs.slice.sides.split_at_in.Goals as goal
 
 -- a text without ESC is its own plain text, and its sides are slices
@@ -19,3 +20,18 @@ returns-then-not-has_any-clause-left g c =
 pub returns-then-not-has_any-clause-right : goal.returns-then-not-has_any-clause-right
 returns-then-not-has_any-clause-right g c =
     c.halves.ensures.right ∙ sym (right_side-bare c.args.text.now c.args.mid (sym c.has_any.ensures ∙ c.if-not-has_any.true))
+
+-- both sides have their text, and a start and a close for each text item and for the one that is divided
+
+pub returns-then-not-has_any-clause-len : goal.returns-then-not-has_any-clause-len
+returns-then-not-has_any-clause-len g c =
+    omega (
+      arith,
+      ap length (returns-then-not-has_any-clause-left g c),
+      ap length (returns-then-not-has_any-clause-right g c),
+      length-sides c.args.text.now c.args.mid,
+    )
+
+pub returns-clause-len : goal.returns-clause-len
+returns-clause-len g c =
+    omega (arith, ap length c.in_ok-left.ensures.left, ap length c.in_ok-left.ensures.right, length-sides c.args.text.now c.args.mid)

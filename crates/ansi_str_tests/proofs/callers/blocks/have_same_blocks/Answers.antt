@@ -1,7 +1,7 @@
 use Rattle.std.proofs.Common.{◌≡◌, Bool, true, false, not, ◌&&◌, List, ◌∷◌, refl, sym, ◌∙◌, ap, ap₂, subst, Some, Result, Ok}
 use Rattle.std.specs.Cmp.Lexicographic.{pointwise}
 use Rattle.ansi_str.specs.Blocks.{Block, GivesBlock}
-use Rattle.ansi_str_tests.specs.Same.{are_same}
+use Rattle.ansi_str.specs.Same.{are_same}
 use Rattle.ansi_str_tests.proofs.callers.blocks.have_same_blocks.Goals as goal
 
 -- the first blocks are compared, and then those after them

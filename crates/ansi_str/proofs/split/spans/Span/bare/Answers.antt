@@ -6,7 +6,8 @@ use Rattle.ansi_slice.specs.Positions.{is_char_boundary}
 use Rattle.ansi_style.specs.States.{rendition_of}
 use Rattle.ansi_items.proofs.PlainLemmas.{plain-bare}
 use Rattle.ansi_slice.proofs.PositionLemmas.{good_is_boundary}
-use Rattle.ansi_str.proofs.SplitLemmas.{IsBare, written-escape, written-styled, bare-empty, bare-unstyled}
+use Rattle.ansi_str.specs.Spans.{IsBare}
+use Rattle.ansi_str.proofs.SplitLemmas.{written-escape, written-styled, bare-empty, bare-unstyled}
 use Rattle.ansi_str.proofs.split.spans.Span.bare.Goals as goal
 use Rattle.ansi_str.proofs.split.spans.Span.bare.Goals.{then-is_empty-via-then-is_empty, then-is_empty-via-else-is_empty+then-not-has_any}
 

@@ -2,7 +2,7 @@
 use Rattle.std.specs.Prelude.{Bool, ◌&&◌, nat_eq}
 use Rattle.std.specs.Cmp.Lexicographic.{pointwise}
 use Rattle.ansi_str.specs.Blocks.{Block}
-use Rattle.ansi_str.specs.contracts.state.rendition.RenditionPartialEq.TheImpl.{ghosts}
+use Rattle.ansi_style.specs.contracts.state.rendition.RenditionPartialEq.TheImpl.{ghosts}
 
 -- two blocks with the same text and the same style, as `==` tells
 abbrev pub are_same : Block → Block → Bool

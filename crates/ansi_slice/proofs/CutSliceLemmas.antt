@@ -14,7 +14,7 @@ use Rattle.ansi_style.proofs.StyledLemmas.{styled_through-append, style_through,
 use Rattle.ansi_style.proofs.SpelledLemmas.{styled-spelled, residue-spelled}
 use Rattle.ansi_style.proofs.ReadBackLemmas.{code_pieces, spelled-code_pieces, code_pieces_stand, close_codes_are, styled_through-codes, style_through-codes}
 use Rattle.ansi_style.proofs.CloseLemmas.{close_codes_clear}
-use Rattle.ansi_str.proofs.ShownLemmas.{shown_pieces, spelled-shown_pieces, shown_pieces_stand, styled_through-shown_pieces, style_through-shown_pieces}
+use Rattle.ansi_slice.proofs.ShownLemmas.{shown_pieces, spelled-shown_pieces, shown_pieces_stand, styled_through-shown_pieces, style_through-shown_pieces}
 
 abbrev pub cut_pieces : List ℕ → ℕ → ℕ → List Piece
 cut_pieces t s e = shown_pieces (λ p. nat_le p e) s e (pieces_of t) ++ code_pieces (close_codes (style_at t e))

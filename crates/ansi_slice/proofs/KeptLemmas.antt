@@ -13,7 +13,7 @@ use Rattle.ansi_style.proofs.MarkLemmas.{bytes-further, marks_of-text, marks_of-
 use Rattle.ansi_items.proofs.JoinLemmas.{spelled, pieces_stand, is_whole-spelled}
 use Rattle.ansi_style.proofs.StyledLemmas.{styled-pieces, bytes_of-styled}
 use Rattle.ansi_style.proofs.SpelledLemmas.{styled-spelled, residue-spelled}
-use Rattle.ansi_str.proofs.ShownLemmas.{at_places, shown_pieces, spelled-shown_pieces, shown_pieces_stand, styled_through-shown_pieces, style_through-shown_pieces}
+use Rattle.ansi_slice.proofs.ShownLemmas.{at_places, shown_pieces, spelled-shown_pieces, shown_pieces_stand, styled_through-shown_pieces, style_through-shown_pieces}
 
 -- the pieces of what is kept
 abbrev pub kept_pieces : ℕ → ℕ → List Piece → List Piece

@@ -13,7 +13,7 @@ use Rattle.ansi_slice.proofs.SliceLemmas.{slice_range-past}
 use Rattle.ansi_items.proofs.Utf8Lemmas.{IsUtf8-plain}
 use Rattle.ansi_slice.proofs.TrimLemmas.{slice_range-trim_interval}
 use Rattle.ansi_slice.proofs.MatchLemmas.{starts_with-splits}
-use Rattle.ansi_str.proofs.KeptLemmas.{plain-kept}
+use Rattle.ansi_slice.proofs.KeptLemmas.{plain-kept}
 
 pub ends_in : (x p : List ℕ) → IsTrue (ends_with nat_eq x p) → x ≡ take (length x - length p) x ++ p
 ends_in x p ends = (ends_is Decides-eqb x p (ends_with nat_eq x p) refl).0 ends

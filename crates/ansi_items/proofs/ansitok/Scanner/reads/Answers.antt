@@ -1,0 +1,5 @@
+use Rattle.ansi_items.proofs.CountLemmas.{counted_bound}
+use Rattle.ansi_items.proofs.ansitok.Scanner.reads.Goals as goal
+
+pub returns-clause-at_most : goal.returns-clause-at_most
+returns-clause-at_most c = rw (← c.self.view_is) (counted_bound c.self.inside.text.now c.self.inside.offset c.self.inside.reads c.self.invariant)

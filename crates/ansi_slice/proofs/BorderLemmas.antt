@@ -1,0 +1,393 @@
+-- The borders of a pattern, and a search that goes forward by them.
+use Rattle.std.proofs.Common.{◌≡◌, ◌≢◌, ℕ, zero, suc, ◌+◌, ◌-◌, ◌<◌, ◌≤◌, inl, inr, false, List, ◌++◌, drop, length, nat_eq, IsTrue, Some, None, sym, ◌∙◌, ap, ap₂, subst, arith, slice_index, set, get_or-set_same, get_or-set_other}
+use Rattle.std.proofs.lemmas.Bool.{cases_lt, cases_eq, true≢false}
+use Rattle.std.proofs.lemmas.List.{get_or-drop, get_or_append_left, length-append, length-drop, drop-drop, drop-append-le}
+use Rattle.std.specs.List.{starts_with}
+use Rattle.memchr.specs.Find.{Nowhere}
+use Rattle.memchr.proofs.lemmas.MatchLemmas.{OccursAt-split}
+use Rattle.std.specs.Str.{IsUtf8}
+use Rattle.ansi_slice.specs.Parts.{first_match_from}
+use Rattle.ansi_slice.specs.Searches.{StandsAt, IsBorder, AreBorders, GoesOn, IsNext, IsFound, IsRead, IsMatched}
+use Rattle.ansi_slice.proofs.MatchLemmas.{IsMatch, starts_with-splits, starts_with-append, match_fits, match-from, first_match_from-is}
+
+-- What stands at a place.
+
+-- what p ends with there stands there too
+pub stands-end : (x p : List ℕ) (s k n t : ℕ) → StandsAt x p s k → StandsAt p p (k - n) n → n ≤ k → t ≡ s + k - n → StandsAt x p t n
+stands-end x p s k n t stands border fits is j inside =
+    let here : t + j ≡ s + (k - n + j) = omega (arith, is, fits) in
+    ap (slice_index x) here ∙ stands (k - n + j) (omega (arith, inside, fits)) ∙ border j inside
+
+-- what stands there stands in p at the same distance from the end
+pub stands-inner : (x p : List ℕ) (s k n t : ℕ) → StandsAt x p s k → StandsAt x p t n → n ≤ k → t ≡ s + k - n → StandsAt p p (k - n) n
+stands-inner x p s k n t stands inner fits is j inside =
+    let here : s + (k - n + j) ≡ t + j = omega (arith, is, fits) in
+    sym (stands (k - n + j) (omega (arith, inside, fits))) ∙ ap (slice_index x) here ∙ inner j inside
+
+pub stands-more : (x p : List ℕ) (s k e : ℕ) → StandsAt x p s k → e ≡ s + k → slice_index x e ≡ slice_index p k → StandsAt x p s (k + 1)
+stands-more x p s k e stands end same j inside = elim (cases_lt j k) [
+  | inl before ↦ stands j before
+  | inr past ↦ (
+      let last : j ≡ k = omega (arith, inside, past) in
+      let here : s + j ≡ e = omega (arith, last, end) in
+      ap (slice_index x) here ∙ same ∙ ap (slice_index p) (sym last))
+]
+
+pub stands-none : (x p : List ℕ) (s : ℕ) → StandsAt x p s 0
+stands-none x p s j inside = absurd (omega arith)
+
+stands-less : (x p : List ℕ) (s k n : ℕ) → StandsAt x p s k → n ≤ k → StandsAt x p s n
+stands-less x p s k n stands less j inside = stands j (omega (arith, inside, less))
+
+stands-move : (x p : List ℕ) (s t n : ℕ) → StandsAt x p s n → s ≡ t → StandsAt x p t n
+stands-move x p s t n stands same = subst (λ (u : ℕ). StandsAt x p u n) same stands
+
+-- The next byte.
+
+-- the first k bytes of p end with its first n, and with the byte c no more of them go on
+pub record IsNextSoFar (p : List ℕ) (k c n : ℕ) : Type 0 where
+  pub within : n ≤ k
+  pub stands : StandsAt p p (k - n) n
+  pub longer : (m : ℕ) → n < m → m ≤ k → ¬ (GoesOn p k c m)
+
+pub next-start : (p : List ℕ) (k c : ℕ) → IsNextSoFar p k c k
+next-start p k c = record {
+  within = omega arith;
+  stands = λ j inside. (let same : k - k + j ≡ j = omega arith in ap (slice_index p) same);
+  longer = λ m low high _. omega (arith, low, high);
+}
+
+-- n bytes don't go on, so their border is the next to be tried
+pub next-further : (p : List ℕ) (k c n b : ℕ) → IsNextSoFar p k c n → slice_index p n ≢ c → IsBorder p n b → IsNextSoFar p k c b
+next-further p k c n b so_far other border =
+    let within : n ≤ k = so_far.within in
+    let shorter : b < n = border.shorter in
+    record {
+      within = omega (arith, within, shorter);
+      stands = stands-end p p (k - n) n b (k - b) so_far.stands border.stands (omega (arith, shorter)) (omega (arith, within, shorter));
+      longer = λ m low high goes. elim (cases_lt n m) [
+        | inl past ↦ so_far.longer m past high goes
+        | inr upto ↦ elim (cases_eq m n) [
+          | inl here ↦ other (ap (slice_index p) (sym here) ∙ goes.1)
+          | inr before ↦ (let below : m < n = omega (arith, upto, before) in border.longest m low below (stands-inner p p (k - n) n m (k - m) so_far.stands goes.0 (omega (arith, below)) (omega (arith, within, below))))
+        ]
+      ];
+    }
+
+pub next-found : (p : List ℕ) (k c n : ℕ) → IsNextSoFar p k c n → slice_index p n ≡ c → IsNext p k c (n + 1)
+next-found p k c n so_far same =
+    let within : n ≤ k = so_far.within in
+    let last : n + 1 - 1 ≡ n = omega arith in
+    record {
+      within = omega (arith, within);
+      ends = λ _. subst (GoesOn p k c) (sym last) (so_far.stands, same);
+      longest = λ m low high goes. so_far.longer m (omega (arith, low)) high goes;
+    }
+
+pub next-none : (p : List ℕ) (k c n : ℕ) → IsNextSoFar p k c n → n ≡ 0 → slice_index p n ≢ c → IsNext p k c 0
+next-none p k c n so_far all other = record {
+  within = omega arith;
+  ends = λ some. absurd (omega (arith, some));
+  longest = λ m low high goes. elim (cases_eq m 0) [
+    | inl here ↦ (let same : n ≡ m = omega (arith, all, here) in other (ap (slice_index p) same ∙ goes.1))
+    | inr past ↦ so_far.longer m (omega (arith, all, past)) high goes
+  ];
+}
+
+-- The borders.
+
+pub border-one : (p : List ℕ) → IsBorder p 1 0
+border-one p = record {
+  shorter = omega arith;
+  stands = λ j inside. absurd (omega (arith, inside));
+  longest = λ n low high _. omega (arith, low, high);
+}
+
+-- the border of one byte more is what the border goes on to
+pub border-next : (p : List ℕ) (k b r : ℕ) → IsBorder p k b → IsNext p b (slice_index p k) r → IsBorder p (k + 1) r
+border-next p k b r border next =
+    let shorter : b < k = border.shorter in
+    let within : r ≤ b + 1 = next.within in
+    record {
+      shorter = omega (arith, shorter, within);
+      stands = by_length r within next.ends;
+      longest = λ n low high stands. none n low high stands;
+    }
+  where
+    by_length : (r : ℕ) → r ≤ b + 1 → (0 < r → GoesOn p b (slice_index p k) (r - 1)) → StandsAt p p (k + 1 - r) r
+    by_length zero within ends = stands-none p p (k + 1 - 0)
+    by_length (suc n) within ends =
+        let shorter : b < k = border.shorter in
+        let some : 0 < suc n = omega arith in
+        let last : suc n - 1 ≡ n = omega arith in
+        let goes : GoesOn p b (slice_index p k) n = subst (GoesOn p b (slice_index p k)) last (ends some) in
+        let fits : n ≤ b = omega (arith, within) in
+        let start : StandsAt p p (k - n) n = stands-end p p (k - b) b n (k - n) border.stands goes.0 fits (omega (arith, shorter, fits)) in
+        let more : StandsAt p p (k - n) (n + 1) = stands-more p p (k - n) n k start (omega (arith, shorter, fits)) (sym goes.1) in
+        let size : n + 1 ≡ suc n = omega arith in
+        let place : k - n ≡ k + 1 - suc n = omega (arith, shorter, fits) in
+        stands-move p p (k - n) (k + 1 - suc n) (suc n) (subst (StandsAt p p (k - n)) size more) place
+
+    none : (n : ℕ) → r < n → n < k + 1 → ¬ (StandsAt p p (k + 1 - n) n)
+    none zero low high stands = omega (arith, low)
+    none (suc n) low high stands =
+        let shorter : b < k = border.shorter in
+        let below : n < k = omega (arith, high) in
+        let place : k + 1 - suc n ≡ k - n = omega (arith, below) in
+        let here : StandsAt p p (k - n) (suc n) = stands-move p p (k + 1 - suc n) (k - n) (suc n) stands place in
+        let front : StandsAt p p (k - n) n = stands-less p p (k - n) (suc n) n here (omega arith) in
+        let end : k - n + n ≡ k = omega (arith, below) in
+        let last : slice_index p n ≡ slice_index p k = sym (here n (omega arith)) ∙ ap (slice_index p) end in
+        elim (cases_lt b n) [
+          | inl past ↦ border.longest n past below front
+          | inr upto ↦ next.longest n (omega (arith, low)) upto (stands-inner p p (k - b) b n (k - n) border.stands front upto (omega (arith, upto, shorter)), last)
+        ]
+
+-- of one byte, in a table of zeros
+pub borders-first : (p bs : List ℕ) → slice_index bs 0 ≡ 0 → AreBorders p bs 1
+borders-first p bs none k some upto =
+    let one : k ≡ 1 = omega (arith, some, upto) in
+    let first : k - 1 ≡ 0 = omega (arith, one) in
+    subst (λ (n : ℕ). IsBorder p n (slice_index bs (k - 1))) (sym one) (subst (IsBorder p 1) (sym (ap (slice_index bs) first ∙ none)) (border-one p))
+
+pub borders-more : (p bs : List ℕ) (i b : ℕ) → i < length bs → AreBorders p bs i → IsBorder p (i + 1) b → AreBorders p (set bs i b) (i + 1)
+borders-more p bs i b inside known last k some upto = elim (cases_lt i (k - 1)) [
+  | inl far ↦ absurd (omega (arith, far, upto))
+  | inr near ↦ elim (cases_eq (k - 1) i) [
+    | inl here ↦ (
+        let size : i + 1 ≡ k = omega (arith, here, some) in
+        subst (IsBorder p k) (sym (ap (slice_index (set bs i b)) here ∙ get_or-set_same bs i b 0 inside)) (subst (λ (n : ℕ). IsBorder p n b) size last))
+    | inr before ↦ subst (IsBorder p k) (sym (get_or-set_other bs i (k - 1) b 0 before)) (known k some (omega (arith, near, before, some)))
+  ]
+]
+
+-- What is read.
+
+-- at a place where front and tail stand, so do the front's bytes
+found-reads : (x front tail : List ℕ) (j m : ℕ) → IsFound x front tail j → m < length front → slice_index x (j + m) ≡ slice_index front m
+found-reads x front tail j m found inside =
+    let whole = front ++ tail in
+    let splits : drop j x ≡ whole ++ drop (length whole) (drop j x) = starts_with-splits (drop j x) whole found in
+    let longer : m < length whole = omega (arith, inside, length-append front tail) in
+    sym (get_or-drop j x m 0) ∙ ap (λ v. slice_index v m) splits ∙ get_or_append_left whole (drop (length whole) (drop j x)) 0 m longer ∙ get_or_append_left front tail 0 m inside
+
+pub read-start : (x front tail : List ℕ) → 0 < length front → IsRead x front tail 0 0
+read-start x front tail some = record { within = omega arith; short = some; stands = stands-none x front 0; none = λ k low high _. omega (arith, high) }
+
+-- bytes with which no match begins, where none was begun
+pub read-over : (x front tail : List ℕ) (i d : ℕ) → IsRead x front tail i 0 → ((m : ℕ) → m < d → slice_index x (i + m) ≢ slice_index front 0) → IsRead x front tail (i + d) 0
+read-over x front tail i d read others = record {
+  within = omega arith;
+  short = read.short;
+  stands = stands-none x front (i + d - 0);
+  none = λ k low high found. elim (cases_lt k i) [
+    | inl before ↦ read.none k low (omega (arith, before)) found
+    | inr past ↦ (
+        let sum : i + (k - i) ≡ k + 0 = omega (arith, past) in
+        others (k - i) (omega (arith, high, past)) (ap (slice_index x) sum ∙ found-reads x front tail k 0 found read.short))
+  ];
+}
+
+-- what may be met after one byte more: k bytes of the front
+pub record IsMet (x front tail : List ℕ) (i k : ℕ) : Type 0 where
+  pub within : k ≤ i
+  pub stands : StandsAt x front (i - k) k
+  pub none : Nowhere (IsFound x front tail) 0 (i - k)
+
+pub met-next : (x front tail : List ℕ) (i k r : ℕ) → IsRead x front tail i k → IsNext front k (slice_index x i) r → IsMet x front tail (i + 1) r
+met-next x front tail i k r read next =
+    let within : k ≤ i = read.within in
+    let fits : r ≤ k + 1 = next.within in
+    record {
+      within = omega (arith, within, fits);
+      stands = by_length r fits next.ends;
+      none = λ j low high found. elim (cases_lt j (i - k)) [
+        | inl before ↦ read.none j low before found
+        | inr past ↦ none (i - j) (omega (arith, high)) (omega (arith, past, within)) (subst (IsFound x front tail) (let same : j ≡ i - (i - j) = omega (arith, high) in same) found)
+      ];
+    }
+  where
+    by_length : (r : ℕ) → r ≤ k + 1 → (0 < r → GoesOn front k (slice_index x i) (r - 1)) → StandsAt x front (i + 1 - r) r
+    by_length zero fits ends = stands-none x front (i + 1 - 0)
+    by_length (suc n) fits ends =
+        let within : k ≤ i = read.within in
+        let some : 0 < suc n = omega arith in
+        let last : suc n - 1 ≡ n = omega arith in
+        let goes : GoesOn front k (slice_index x i) n = subst (GoesOn front k (slice_index x i)) last (ends some) in
+        let less : n ≤ k = omega (arith, fits) in
+        let start : StandsAt x front (i - n) n = stands-end x front (i - k) k n (i - n) read.stands goes.0 less (omega (arith, within, less)) in
+        let more : StandsAt x front (i - n) (n + 1) = stands-more x front (i - n) n i start (omega (arith, within, less)) (sym goes.1) in
+        let size : n + 1 ≡ suc n = omega arith in
+        let place : i - n ≡ i + 1 - suc n = omega (arith, within, less) in
+        stands-move x front (i - n) (i + 1 - suc n) (suc n) (subst (StandsAt x front (i - n)) size more) place
+
+    none : (n : ℕ) → r ≤ n → n ≤ k → ¬ (IsFound x front tail (i - n))
+    none n low high found =
+        let within : k ≤ i = read.within in
+        let short : k < length front = read.short in
+        let here : StandsAt x front (i - n) n = λ j inside. found-reads x front tail (i - n) j found (omega (arith, inside, high, short)) in
+        let end : i ≡ i - n + n = omega (arith, within, high) in
+        let last : slice_index front n ≡ slice_index x i = sym (found-reads x front tail (i - n) n found (omega (arith, high, short))) ∙ ap (slice_index x) (sym end) in
+        next.longest n low high (stands-inner x front (i - k) k n (i - n) read.stands here high (omega (arith, within, high)), last)
+
+pub read-short : (x front tail : List ℕ) (i k : ℕ) → IsMet x front tail i k → k < length front → IsRead x front tail i k
+read-short x front tail i k met short = record { within = met.within; short = short; stands = met.stands; none = met.none }
+
+-- all of the front is met, and what follows is the tail or isn't
+
+met-splits : (x front tail : List ℕ) (i : ℕ) → IsMet x front tail i (length front) → i ≤ length x → drop (i - length front) x ≡ front ++ drop i x
+met-splits x front tail i met inside =
+    let within : length front ≤ i = met.within in
+    let end : i - length front + length front ≡ i = omega (arith, within) in
+    OccursAt-split x front (i - length front) (record { fits = omega (arith, end, inside); reads = met.stands })
+    ∙ ap (λ n. front ++ drop n x) end
+
+met-found : (x front tail : List ℕ) (i : ℕ) → IsMet x front tail i (length front) → i ≤ length x → starts_with nat_eq (drop (i - length front) x) (front ++ tail) ≡ starts_with nat_eq (drop i x) tail
+met-found x front tail i met inside = ap (λ v. starts_with nat_eq v (front ++ tail)) (met-splits x front tail i met inside) ∙ starts_with-append front (drop i x) tail
+
+pub met-matched : (x front tail : List ℕ) (i : ℕ) → IsMet x front tail i (length front) → i ≤ length x → IsTrue (starts_with nat_eq (drop i x) tail) → IsMatched x front tail i
+met-matched x front tail i met inside goes_on = record { fits = met.within; found = met-found x front tail i met inside ∙ goes_on; none = met.none }
+
+pub met-apart : (x front tail : List ℕ) (i b : ℕ) → IsMet x front tail i (length front) → i ≤ length x → ¬ (IsTrue (starts_with nat_eq (drop i x) tail)) → IsBorder front (length front) b → IsRead x front tail i b
+met-apart x front tail i b met inside other border =
+    let within : length front ≤ i = met.within in
+    let shorter : b < length front = border.shorter in
+    record {
+      within = omega (arith, within, shorter);
+      short = shorter;
+      stands = stands-end x front (i - length front) (length front) b (i - b) met.stands border.stands (omega (arith, shorter)) (omega (arith, within, shorter));
+      none = λ j low high found. elim (cases_lt j (i - length front)) [
+        | inl before ↦ met.none j low before found
+        | inr past ↦ elim (cases_eq j (i - length front)) [
+          | inl here ↦ other (sym (met-found x front tail i met inside) ∙ subst (IsFound x front tail) here found)
+          | inr later ↦ none (i - j) (omega (arith, high)) (omega (arith, past, later, within)) (subst (IsFound x front tail) (let same : j ≡ i - (i - j) = omega (arith, high) in same) found)
+        ]
+      ];
+    }
+  where
+    none : (n : ℕ) → b < n → n < length front → ¬ (IsFound x front tail (i - n))
+    none n low high found =
+        let within : length front ≤ i = met.within in
+        let here : StandsAt x front (i - n) n = λ j before. found-reads x front tail (i - n) j found (omega (arith, before, high)) in
+        border.longest n low high (stands-inner x front (i - length front) (length front) n (i - n) met.stands here (omega (arith, high)) (omega (arith, within, high)))
+
+-- A run is read on from an offset, in a text z from which the text x goes on.
+
+-- whatever was read before, up to `at` all is read
+abbrev pub ReadsTo : List ℕ → List ℕ → List ℕ → ℕ → ℕ → ℕ → ℕ → Type 0
+ReadsTo front tail z from met at k = (x : List ℕ) (i : ℕ) → IsRead x front tail i met → drop i x ≡ drop from z → IsRead x front tail (i + (at - from)) k
+
+-- the same where k bytes of the front are met, which may be all
+abbrev pub MeetsAt : List ℕ → List ℕ → List ℕ → ℕ → ℕ → ℕ → ℕ → Type 0
+MeetsAt front tail z from met at k = (x : List ℕ) (i : ℕ) → IsRead x front tail i met → drop i x ≡ drop from z → IsMet x front tail (i + (at - from)) k
+
+goes-on : (x z : List ℕ) (i from at : ℕ) → from ≤ at → drop i x ≡ drop from z → drop (i + (at - from)) x ≡ drop at z
+goes-on x z i from at forward is =
+    let sum : from + (at - from) ≡ at = omega (arith, forward) in
+    sym (drop-drop (at - from) i x) ∙ ap (drop (at - from)) is ∙ drop-drop (at - from) from z ∙ ap (λ n. drop n z) sum
+
+pub reads-start : (front tail z : List ℕ) (from met : ℕ) → ReadsTo front tail z from met from met
+reads-start front tail z from met x i read is = (let sum : i ≡ i + (from - from) = omega arith in subst (λ (n : ℕ). IsRead x front tail n met) sum read)
+
+-- over bytes with which no match begins, where none is begun
+reads-over : (front tail w y : List ℕ) (from met at k n : ℕ) → from ≤ at → at ≤ n → n ≤ length w → (0 < k → n ≡ at) → ((m : ℕ) → at ≤ m → m < n → slice_index w m ≢ slice_index front 0)
+    → ReadsTo front tail (w ++ y) from met at k → ReadsTo front tail (w ++ y) from met n k
+reads-over front tail w y from met at (suc k) n forward past fits here others so_far x i read is =
+    let same : at ≡ n = sym (here (omega arith)) in
+    subst (λ (m : ℕ). IsRead x front tail (i + (m - from)) (suc k)) same (so_far x i read is)
+reads-over front tail w y from met at zero n forward past fits here others so_far x i read is =
+    let sum : i + (at - from) + (n - at) ≡ i + (n - from) = omega (arith, forward, past) in
+    subst (λ (m : ℕ). IsRead x front tail m 0) sum (read-over x front tail (i + (at - from)) (n - at) (so_far x i read is) other)
+  where
+    other : (m : ℕ) → m < n - at → slice_index x (i + (at - from) + m) ≢ slice_index front 0
+    other m inside same =
+        let below : at + m < n = omega (arith, inside) in
+        let place : at + m < length w = omega (arith, below, fits) in
+        let reads : slice_index x (i + (at - from) + m) ≡ slice_index w (at + m)
+        = sym (get_or-drop (i + (at - from)) x m 0) ∙ ap (λ v. slice_index v m) (goes-on x (w ++ y) i from at forward is) ∙ get_or-drop at (w ++ y) m 0 ∙ get_or_append_left w y 0 (at + m) place in
+        others (at + m) (omega arith) below (sym reads ∙ same)
+
+-- one byte more
+reads-next : (front tail w y : List ℕ) (from met at k r : ℕ) → from ≤ at → at < length w → ReadsTo front tail (w ++ y) from met at k → IsNext front k (slice_index w at) r
+    → MeetsAt front tail (w ++ y) from met (at + 1) r
+reads-next front tail w y from met at k r forward inside so_far next x i read is =
+    let z = w ++ y in
+    let e = i + (at - from) in
+    let sum : e + 1 ≡ i + (at + 1 - from) = omega (arith, forward) in
+    let start : at + 0 ≡ at = omega arith in
+    let place : e + 0 ≡ e = omega arith in
+    let here : slice_index x e ≡ slice_index w at = sym (ap (slice_index x) place) ∙ sym (get_or-drop e x 0 0) ∙ ap (λ v. slice_index v 0) (goes-on x z i from at forward is) ∙ get_or-drop at z 0 0 ∙ ap (slice_index z) start ∙ get_or_append_left w y 0 at inside in
+    subst (λ (n : ℕ). IsMet x front tail n r) sum (met-next x front tail e k r (so_far x i read is) (subst (λ (b : ℕ). IsNext front k b r) (sym here) next))
+
+-- both
+pub reads-on : (front tail w y : List ℕ) (from met at k n r : ℕ) → from ≤ at → at ≤ n → n < length w → (0 < k → n ≡ at) → ((m : ℕ) → at ≤ m → m < n → slice_index w m ≢ slice_index front 0)
+    → ReadsTo front tail (w ++ y) from met at k → IsNext front k (slice_index w n) r → MeetsAt front tail (w ++ y) from met (n + 1) r
+reads-on front tail w y from met at k n r forward past inside here others so_far next =
+    reads-next front tail w y from met n k r (omega (arith, forward, past)) inside (reads-over front tail w y from met at k n forward past (omega (arith, inside)) here others so_far) next
+
+pub meets-short : (front tail z : List ℕ) (from met at k : ℕ) → MeetsAt front tail z from met at k → k < length front → ReadsTo front tail z from met at k
+meets-short front tail z from met at k meets short x i read is = read-short x front tail (i + (at - from)) k (meets x i read is) short
+
+-- all of the front is met, and the tail follows or doesn't
+
+follows : (w y rest : List ℕ) (at : ℕ) → at ≤ length w → rest ≡ drop at w → drop at (w ++ y) ≡ rest ++ y
+follows w y rest at inside spelled = drop-append-le at w y inside ∙ ap (λ v. v ++ y) (sym spelled)
+
+within : (x z : List ℕ) (i from at : ℕ) → from < at → at ≤ length z → drop i x ≡ drop from z → i + (at - from) ≤ length x
+within x z i from at forward inside is =
+    let left : length (drop i x) ≡ length x - i = length-drop i x in
+    let rest : length (drop from z) ≡ length z - from = length-drop from z in
+    omega (arith, ap length is, left, rest, forward, inside)
+
+pub meets-all : (front tail w y rest : List ℕ) (from met at k : ℕ) → from < at → at ≤ length w → rest ≡ drop at w → MeetsAt front tail (w ++ y) from met at k → k ≡ length front
+    → IsTrue (starts_with nat_eq (rest ++ y) tail)
+    → (x : List ℕ) (i : ℕ) → IsRead x front tail i met → drop i x ≡ drop from (w ++ y) → IsMatched x front tail (i + (at - from))
+meets-all front tail w y rest from met at k forward inside spelled meets all tail_follows x i read is =
+    let e = i + (at - from) in
+    let less : from ≤ at = omega (arith, forward) in
+    let here : drop e x ≡ rest ++ y = goes-on x (w ++ y) i from at less is ∙ follows w y rest at inside spelled in
+    met-matched x front tail e (subst (IsMet x front tail e) all (meets x i read is)) (within x (w ++ y) i from at forward (omega (arith, inside, length-append w y)) is)
+    (ap (λ v. starts_with nat_eq v tail) here ∙ tail_follows)
+
+pub meets-apart : (front tail w y rest : List ℕ) (from met at k b : ℕ) → from < at → at ≤ length w → rest ≡ drop at w → MeetsAt front tail (w ++ y) from met at k → k ≡ length front
+    → starts_with nat_eq (rest ++ y) tail ≡ false → IsBorder front (length front) b → ReadsTo front tail (w ++ y) from met at b
+meets-apart front tail w y rest from met at k b forward inside spelled meets all other border x i read is =
+    let e = i + (at - from) in
+    let less : from ≤ at = omega (arith, forward) in
+    let here : drop e x ≡ rest ++ y = goes-on x (w ++ y) i from at less is ∙ follows w y rest at inside spelled in
+    met-apart x front tail e b (subst (IsMet x front tail e) all (meets x i read is)) (within x (w ++ y) i from at forward (omega (arith, inside, length-append w y)) is)
+    (λ found. true≢false (sym found ∙ ap (λ v. starts_with nat_eq v tail) here ∙ other)) border
+
+-- at the end of the run
+pub reads-end : (front tail w y : List ℕ) (from met at k n : ℕ) → from ≤ at → at ≤ n → n ≡ length w → (0 < k → n ≡ at) → ((m : ℕ) → at ≤ m → m < n → slice_index w m ≢ slice_index front 0)
+    → ReadsTo front tail (w ++ y) from met at k → ReadsTo front tail (w ++ y) from met (length w) k
+reads-end front tail w y from met at k n forward past end here others so_far x i read is =
+    subst (λ (m : ℕ). IsRead x front tail (i + (m - from)) k) end (reads-over front tail w y from met at k n forward past (omega (arith, end)) here others so_far x i read is)
+
+-- A text x, read from the position `from` on, for a pattern p that is the front and the tail.
+
+pub matched-first : (x p front tail : List ℕ) (from e : ℕ) → IsUtf8 p → front ++ tail ≡ p → 0 < length front → IsMatched (drop from x) front tail e → Some (from + (e - length front)) ≡ first_match_from x p from
+matched-first x p front tail from e utf8 spelled some matched =
+    let s = e - length front in
+    let size : 0 < length p = omega (arith, some, ap length spelled, length-append front tail) in
+    let same : from + s - from ≡ s = omega arith in
+    let is : IsMatch x p (from + s)
+    = match-from x p from (from + s) utf8 size (omega arith) ∙ ap₂ (λ n v. starts_with nat_eq (drop n (drop from x)) v) same (sym spelled) ∙ matched.found in
+    let fits : from + s + length p ≤ length x = match_fits x p (from + s) size is in
+    first_match_from-is x p from (Some (from + s)) (
+      record {
+        low = omega arith;
+        high = omega (arith, fits);
+        before = λ k low high found. matched.none (k - from) (omega arith) (omega (arith, low, high)) (ap (starts_with nat_eq (drop (k - from) (drop from x))) spelled ∙ sym (match-from x p from k utf8 size low) ∙ found);
+      },
+      is,
+    )
+
+pub read-none : (x p front tail : List ℕ) (from k : ℕ) → IsUtf8 p → front ++ tail ≡ p → IsRead (drop from x) front tail (length x - from) k → None ≡ first_match_from x p from
+read-none x p front tail from k utf8 spelled read =
+    first_match_from-is x p from None (λ i low high found.
+    let short : k < length front = read.short in
+    let size : length p ≡ length front + length tail = sym (ap length spelled) ∙ length-append front tail in
+    let some : 0 < length p = omega (arith, short, size) in
+    let fits : i + length p ≤ length x = match_fits x p i some found in
+    read.none (i - from) (omega arith) (omega (arith, low, fits, size, short)) (ap (starts_with nat_eq (drop (i - from) (drop from x))) spelled ∙ sym (match-from x p from i utf8 some low) ∙ found))

@@ -1,0 +1,143 @@
+//! A pattern that is looked for in a plain text whose runs are read once, in order. (Knuth, Morris and
+//! Pratt, Fast Pattern Matching in Strings, 1977.)
+ghost use Rattle.std.specs.Prelude.{◌≡◌, ◌≢◌, ◌++◌, ◌+◌, ◌<◌, ◌≤◌, ℕ, List, length, drop, nat_eq, slice_index};
+ghost use Rattle.std.specs.List.{starts_with};
+ghost use Rattle.ansi_items.specs.Plain.{plain};
+ghost use Rattle.ansi_slice.specs.Searches.{IsBorder, AreBorders, IsNext, IsRead, Reads};
+
+use crate::search::ends::stands_at;
+use memchr::memchr;
+
+/// A pattern: its first bytes, 256 at most, with their borders, and the rest of it.
+///
+/// A border of some bytes is what they begin and end with, and that isn't all of them. Where a byte
+/// doesn't go on with the bytes that were met, it may go on with their longest border.
+#[derive(Drop)]
+pub(super) struct Pattern<'p> {
+    front: &'p [u8],
+    tail: &'p [u8],
+    // after the first n bytes, at n - 1, the length of their longest border
+    borders: [u8; 256],
+    ghost some: { 0 < length front.now },
+    ghost most: { length front.now ≤ 256 },
+    ghost are_borders: { AreBorders front.now borders (length front.now) },
+}
+
+/// How a run was read.
+pub(super) enum Reading {
+    /// The front of a match ends in the run, at this offset.
+    Match(usize),
+    /// No match ends in the run. It ends with so many bytes of the front, which may go on after it.
+    Open(usize),
+}
+
+impl<'p> Pattern<'p> {
+    /// A pattern that isn't empty.
+    pub(super) fn new(pat: &'p str) -> Self
+        requires { 0 < length pat.now }
+        ensures some { 0 < length result.front.now }
+        ensures bytes { result.front.now ++ result.tail.now ≡ pat.entry.now }
+    {
+        let (front, tail) = pat.as_bytes().split_at(pat.len().min(256));
+        Pattern {
+            front,
+            tail,
+            borders: borders(front),
+        }
+    }
+
+    /// The length of the front.
+    pub(super) fn front_len(&self) -> usize
+        ensures { result ≡ length self.now.front.now }
+    {
+        self.front.len()
+    }
+
+    /// Reads a run from an offset on, where the text that was read before ends with the first `met`
+    /// bytes of the front.
+    pub(super) fn read(&self, run: &str, after: &str, from: usize, met: usize) -> Reading
+        requires { met < length self.now.front.now }
+        ensures { (x : List ℕ) (i : ℕ) → IsRead x self.now.front.now self.now.tail.now i met → drop i x ≡ drop from (run.now ++ plain after.now) → Reads x self.now.front.now self.now.tail.now i (length run.now) from result }
+    {
+        let bytes = run.as_bytes();
+        let first = self.front[0];
+        let mut len = met;
+        let mut at = from;
+        while at < bytes.len() {
+            at = next_start(bytes, at, first, len);
+            if at == bytes.len() {
+                break;
+            }
+            len = met_with(self.front, &self.borders, len, bytes[at]);
+            at += 1;
+            if len == self.front.len() {
+                if goes_on(&bytes[at..], after, self.tail) {
+                    return Reading::Match(at);
+                }
+                len = self.borders[len - 1] as usize;
+            }
+        }
+        Reading::Open(len)
+    }
+}
+
+/// Where the front goes on, or where it may begin: at its first byte, or at the end of the run.
+#[inline(always)]
+fn next_start(run: &[u8], at: usize, first: u8, met: usize) -> usize
+    requires { at ≤ length run.now }
+    ensures forward { at ≤ result }
+    ensures within { result ≤ length run.now }
+    ensures here { 0 < met → result ≡ at }
+    ensures passed { (i : ℕ) → at ≤ i → i < result → slice_index run.now i ≢ first }
+{
+    if met > 0 {
+        return at;
+    }
+    match memchr(first, &run[at..]) {
+        Some(distance) => at + distance,
+        None => run.len(),
+    }
+}
+
+/// Whether a plain text begins with some bytes: a run, and what follows it.
+fn goes_on(run: &[u8], after: &str, bytes: &[u8]) -> bool
+    ensures { result ≡ starts_with nat_eq (run.now ++ plain after.now) bytes.now }
+{
+    if bytes.len() <= run.len() {
+        return run.starts_with(bytes);
+    }
+    bytes.starts_with(run) && stands_at(after, &bytes[run.len()..], 0)
+}
+
+/// The lengths of the longest borders of the first bytes, from one byte up to all of them.
+fn borders(bytes: &[u8]) -> [u8; 256]
+    requires some { 0 < length bytes.now }
+    requires most { length bytes.now ≤ 256 }
+    ensures { AreBorders bytes.now result (length bytes.now) }
+{
+    let mut borders = [0; 256];
+    let mut border = 0;
+    for i in 1..bytes.len() {
+        border = met_with(bytes, &borders, border, bytes[i]);
+        borders[i] = border as u8;
+    }
+    borders
+}
+
+/// With how many of its first bytes at most the pattern is met, where it was met with `met` of them and
+/// then one byte more is read.
+fn met_with(bytes: &[u8], borders: &[u8; 256], met: usize, byte: u8) -> usize
+    requires short { met < length bytes.now }
+    requires most { length bytes.now ≤ 256 }
+    requires borders { AreBorders bytes.now borders.now met }
+    ensures { IsNext bytes.now met byte result }
+{
+    let mut len = met;
+    while bytes[len] != byte {
+        if len == 0 {
+            return 0;
+        }
+        len = borders[len - 1] as usize;
+    }
+    len + 1
+}

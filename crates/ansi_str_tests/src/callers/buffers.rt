@@ -1,0 +1,67 @@
+//! Callers that write what they are given into a buffer that was made before: the calls say how much room is enough.
+ghost use Rattle.std.specs.Prelude.{◌≡◌, ◌≤◌, ◌+◌, length, take, Some, IsTrue, IfOk, IfSome};
+ghost use Rattle.ansi_str.specs.Plain.{plain};
+ghost use Rattle.ansi_str.specs.Positions.{is_good_range};
+ghost use Rattle.ansi_str.specs.Cut.{cut};
+ghost use Rattle.ansi_str.specs.Parts.{part};
+
+use ansi_str::AnsiStr;
+use ansi_str::split::part_in;
+use std::alloc::{AllocError, Global};
+
+/// Copies the cut of a text to the front of a buffer, and gives its length. A buffer that is 88 bytes
+/// longer than the text has room for every cut.
+pub fn cut_into(
+    alloc: Global,
+    text: &str,
+    start: usize,
+    end: usize,
+    buffer: &mut [u8],
+) -> Result<usize, AllocError>
+    requires good { IsTrue (is_good_range (plain text.now) start (Some end)) }
+    requires room { length text.now + 88 ≤ length buffer.old }
+    ensures { IfOk result (λ n. take n buffer.new ≡ cut text.now start (Some end)) }
+{
+    let cut = text.ansi_cut(alloc, start..end)?;
+    buffer[..cut.len()].copy_from_slice(cut.as_bytes());
+    Ok(cut.len())
+}
+
+/// Copies the part of an index to the front of a buffer, and gives its length, or `None` where there
+/// are not so many parts. A buffer that is 251 bytes longer than the text has room for every part.
+pub fn part_into(
+    alloc: Global,
+    text: &str,
+    pat: &str,
+    index: usize,
+    buffer: &mut [u8],
+) -> Result<Option<usize>, AllocError>
+    requires { length text.now + 251 ≤ length buffer.old }
+    ensures { IfOk result (λ o. IfSome o (λ n. part text.now pat.now index ≡ Some (take n buffer.new))) }
+{
+    let Some(part) = part_in(alloc, text, pat, index)? else {
+        return Ok(None);
+    };
+    buffer[..part.len()].copy_from_slice(part.as_bytes());
+    Ok(Some(part.len()))
+}
+
+/// Copies each part of a text in turn to the front of a buffer, as one who shows a part at a time, and
+/// gives the length of the longest. A buffer that is 251 bytes longer than the text has room for each.
+pub fn show_parts<'x>(
+    alloc: Global,
+    text: &'x str,
+    pat: &'x str,
+    buffer: &mut [u8],
+) -> Result<usize, AllocError>
+    requires { length text.now + 251 ≤ length buffer.old }
+    ensures { IfOk result (λ n. n ≤ length text.now + 251) }
+{
+    let mut longest = 0;
+    for part in text.ansi_split(alloc, pat) {
+        let part = part?;
+        buffer[..part.len()].copy_from_slice(part.as_bytes());
+        longest = longest.max(part.len());
+    }
+    Ok(longest)
+}
