@@ -1,7 +1,8 @@
 /* Prints, for each call and input, the time of 1 MiB and of 128 KiB, the one over the other, the
    nanoseconds a byte of 1 MiB, and the allocations there. A plain copy of the same bytes stands beside
-   them. A time is the shortest of some runs. Ends with 1 where a growth is above 16: an input eight times
-   as long may take at most twice eight times as long, with room for noise. */
+   them. A time is the shortest of some runs. Ends with 1 where a growth is above 12: an input eight times
+   as long may take at most one and a half times eight times as long, with room for noise; and where a search
+   for a long pattern takes more than 4 times as long as one for `xyz`. */
 #include <stddef.h>
 #include <stdint.h>
 #include <stdio.h>
@@ -21,7 +22,7 @@ size_t ansi_bench_split(const uint8_t *, size_t, const uint8_t *, size_t);
 size_t ansi_bench_std_split(const uint8_t *, size_t, const uint8_t *, size_t);
 size_t ansi_bench_blocks(const uint8_t *, size_t);
 
-enum { LONG = 1 << 20, SHORT = 1 << 17, RUNS = 15, MOST = 16 };
+enum { LONG = 1 << 20, SHORT = 1 << 17, RUNS = 15, MOST = 12, MOST_OF_SHORT = 4 };
 
 /* a text, its plain text, and a pattern to be searched */
 struct text {
@@ -43,6 +44,7 @@ static const struct input PLAIN = {"plain text", "one line of a log, not in colo
 static const struct input LOG = {
     "colored log lines", "\x1b[2m12:00:00\x1b[0m \x1b[32mINFO\x1b[0m one line of a log, in color\n", "", 0};
 static const struct input SHORT_SEQUENCES = {"ESC [1m, a letter", "\x1b[1ma", "", 0};
+static const struct input LETTERS = {"lines of one letter", "a\n", "", 0};
 static const struct input TAIL = {"a log, then 100,000 ESC [m",
                                   "\x1b[32mINFO\x1b[0m one line of a log, in color\n", "\x1b[m", 29};
 static const struct input BLANKS = {"ESC [1m, a blank", "\x1b[1m ", "", 0};
@@ -51,6 +53,11 @@ static const struct input MARKED = {"colored log lines, END", "\x1b[2m12:00:00\x
 static const struct input WORDS = {"100,000 words, some bold", "\x1b[1mbold\x1b[0m and plain ", "", 0};
 static const struct input UNFINISHED = {"ESC ] unfinished", "\x1b]", "", 0};
 static const struct input FIELDS = {"ESC [ 1;1;.. unfinished", "1;", "", 0};
+
+#define A16 "aaaaaaaaaaaaaaaa"
+#define A64 A16 A16 A16 A16
+#define X16 "xxxxxxxxxxxxxxxx"
+#define X64 X16 X16 X16 X16
 
 /* what a call is given as its pattern: a half of the plain text, or a text of its own */
 enum pattern { NONE, FIRST_HALF, LAST_HALF, WORD };
@@ -154,9 +161,10 @@ static struct text made(const struct input *input, size_t limit) {
     return t;
 }
 
+/* the time that the processor spent on this program */
 static double now(void) {
     struct timespec at;
-    clock_gettime(CLOCK_MONOTONIC, &at);
+    clock_gettime(CLOCK_PROCESS_CPUTIME_ID, &at);
     return (double)at.tv_sec * 1e9 + (double)at.tv_nsec;
 }
 
@@ -196,8 +204,8 @@ static double measured(const struct call *call, struct text *t) {
     return shortest;
 }
 
-/* prints a row, and tells whether the growth is above the most that is allowed */
-static int row(const struct call *call, const struct input *input) {
+/* prints a row, gives the time of 1 MiB, and tells whether the growth is above the most that is allowed */
+static int timed_row(const struct call *call, const struct input *input, double *took) {
     struct text t = made(input, LONG);
     double of_long = measured(call, &t);
     size_t len = t.len, count = allocations;
@@ -205,7 +213,13 @@ static int row(const struct call *call, const struct input *input) {
     double of_short = measured(call, &t), growth = of_long / of_short;
     printf("%-16s %-28s %9.3f ms %9.3f ms %8.2f %8.3f %12zu\n", call->name, input->name, of_long / 1e6,
            of_short / 1e6, growth, of_long / (double)len, count);
+    *took = of_long;
     return growth > MOST;
+}
+
+static int row(const struct call *call, const struct input *input) {
+    double took;
+    return timed_row(call, input, &took);
 }
 
 static int rows(const struct call *call, const struct input *const *inputs) {
@@ -222,7 +236,7 @@ int main(void) {
     static const struct input *const TRIMMED[] = {&LOG, &SHORT_SEQUENCES, &TAIL, &BLANKS, NULL};
     static const struct input *const SEARCHED[] = {&LOG, &SHORT_SEQUENCES, NULL};
     static const struct input *const ENDED[] = {&MARKED, NULL};
-    static const struct input *const HOSTILE[] = {&SHORT_SEQUENCES, NULL};
+    static const struct input *const HOSTILE[] = {&SHORT_SEQUENCES, &LETTERS, NULL};
     static const struct input *const PARTED[] = {&LOG, &WORDS, NULL};
     static const struct input *const WALKED[] = {&LOG, &SHORT_SEQUENCES, &TAIL, NULL};
     static const struct call COPY = {"copy", copy, NONE, NULL};
@@ -234,9 +248,10 @@ int main(void) {
     static const struct call TRIM = {"trim", trim, NONE, NULL};
     static const struct call FIND_END = {"find, at the end", find, WORD, "END"};
     static const struct call FIND_ABSENT = {"find, absent", find_absent, WORD, "absent"};
-    static const struct call FIND_HOSTILE = {
-        "find, 64 a and b", find_absent, WORD,
-        "aaaaaaaaaaaaaaaaaaaaaaaaaaaaaaaaaaaaaaaaaaaaaaaaaaaaaaaaaaaaaaaab"};
+    static const struct call FIND_SHORT = {"find, xyz", find_absent, WORD, "xyz"};
+    static const struct call FIND_LONG[] = {
+        {"find, 256 x", find_absent, WORD, X64 X64 X64 X64},
+        {"find, 255 a, b", find_absent, WORD, A64 A64 A64 A16 A16 A16 "aaaaaaaaaaaaaaa" "b"}};
     static const struct call SPLITS[] = {{"split", split, WORD, " "}, {"std's split", std_split, WORD, " "}};
     static const struct call BLOCKS = {"blocks", blocks, NONE, NULL};
     int above = 0;
@@ -252,7 +267,18 @@ int main(void) {
     above |= rows(&TRIM, TRIMMED);
     above |= rows(&FIND_END, ENDED);
     above |= rows(&FIND_ABSENT, SEARCHED);
-    above |= rows(&FIND_HOSTILE, HOSTILE);
+    for (const struct input *const *input = HOSTILE; *input != NULL; input++) {
+        double of_short = 0;
+        above |= timed_row(&FIND_SHORT, *input, &of_short);
+        for (size_t i = 0; i < sizeof FIND_LONG / sizeof FIND_LONG[0]; i++) {
+            double took = 0;
+            above |= timed_row(&FIND_LONG[i], *input, &took);
+            if (took > MOST_OF_SHORT * of_short) {
+                fprintf(stderr, "%s takes more than %d times %s\n", FIND_LONG[i].name, MOST_OF_SHORT, FIND_SHORT.name);
+                above = 1;
+            }
+        }
+    }
     for (size_t i = 0; i < sizeof SPLITS / sizeof SPLITS[0]; i++) {
         above |= rows(&SPLITS[i], PARTED);
     }

@@ -2,20 +2,25 @@
 """Measures how the time of `ansi_lines` grows with its input, in one run over the built program.
 
 For each word and input it prints the time of 1 MiB, that of 128 KiB, and the one over the other. An input eight
-times as long may take at most 16 times as long: the growth is linear, with room for noise."""
+times as long may take at most 12 times as long: the growth is linear, with room for noise. A part by a long pattern
+may take at most 4 times as long as one by `xyz`."""
 import os
+import resource
 import subprocess
 import sys
-import time
 
 TOP = os.path.dirname(os.path.dirname(os.path.abspath(__file__)))
 PROGRAM = os.path.join(TOP, 'crates', 'ansi_lines', 'out', 'ansi_lines')
 LONG = 1 << 20
 SHORT = 1 << 17
-MOST = 16
+MOST = 12
+MOST_OF_SHORT = 4
 RUNS = 9
 
 WORDS = ['strip', 'cut:1:']
+
+SHORT_PART = 'part:0:xyz'
+LONG_PARTS = ['part:0:' + 'x' * 256, 'part:0:' + 'a' * 255 + 'b']
 
 INPUTS = [
     ('colored log lines', b'', b'\x1b[2m12:00:00\x1b[0m \x1b[32mINFO\x1b[0m one line of a log, in color\n'),
@@ -24,7 +29,10 @@ INPUTS = [
     ('ESC [ 1;1;.. unfinished', b'\x1b[', b'1;'),
     ('ESC alone', b'', b'\x1b'),
     ('ESC [1m and a letter', b'', b'\x1b[1ma'),
+    ('lines of one letter', b'', b'a\n'),
 ]
+
+SEARCHED = INPUTS[-2:]
 
 
 def text(front, piece, length):
@@ -32,30 +40,52 @@ def text(front, piece, length):
     return (front + piece * (length // len(piece) + 1))[:length]
 
 
+def spent():
+    """The time that the processor has spent on the programs that were run."""
+    usage = resource.getrusage(resource.RUSAGE_CHILDREN)
+    return usage.ru_utime + usage.ru_stime
+
+
 def seconds(word, data):
-    """The shortest of some runs with the word on the data."""
+    """The shortest time that the processor spent on a run with the word on the data, of some runs."""
     shortest = float('inf')
     for _ in range(RUNS):
-        begin = time.perf_counter()
+        begin = spent()
         subprocess.run([PROGRAM, word], input=data, stdout=subprocess.DEVNULL, check=True)
-        shortest = min(shortest, time.perf_counter() - begin)
+        shortest = min(shortest, spent() - begin)
     return shortest
+
+
+def measured(word, name, front, piece):
+    """Prints a row, and gives the time of 1 MiB and whether the growth is linear."""
+    long = seconds(word, text(front, piece, LONG))
+    short = seconds(word, text(front, piece, SHORT))
+    growth = long / short
+    shown = word if len(word) <= 16 else '%s.. (%d)' % (word[:8], len(word))
+    print('%-16s %-26s %7.2f ms %7.2f ms %8.2f' % (shown, name, long * 1e3, short * 1e3, growth))
+    return long, growth <= MOST
 
 
 def main():
     # builds the program where its sources have changed
     subprocess.run([os.path.join(TOP, 'ansi_lines'), 'strip'], input=b'', check=True)
-    print('%-8s %-26s %10s %10s %8s' % ('word', 'input', '1 MiB', '128 KiB', 'growth'))
+    print('%-16s %-26s %10s %10s %8s' % ('word', 'input', '1 MiB', '128 KiB', 'growth'))
     is_linear = True
     for word in WORDS:
-        for name, front, piece in INPUTS:
-            long = seconds(word, text(front, piece, LONG))
-            short = seconds(word, text(front, piece, SHORT))
-            growth = long / short
-            is_linear = is_linear and growth <= MOST
-            print('%-8s %-26s %7.2f ms %7.2f ms %8.2f' % (word, name, long * 1e3, short * 1e3, growth))
+        for given in INPUTS:
+            is_linear = measured(word, *given)[1] and is_linear
+    is_short = True
+    for given in SEARCHED:
+        of_short, linear = measured(SHORT_PART, *given)
+        is_linear = linear and is_linear
+        for word in LONG_PARTS:
+            took, linear = measured(word, *given)
+            is_linear = linear and is_linear
+            is_short = took <= MOST_OF_SHORT * of_short and is_short
     if not is_linear:
         sys.exit('a growth is above %d' % MOST)
+    if not is_short:
+        sys.exit('a part by a long pattern takes more than %d times as long as one by a short one' % MOST_OF_SHORT)
 
 
 if __name__ == '__main__':

@@ -7,4 +7,5 @@ pub mod PlainLemmas
 pub mod Utf8Lemmas
 pub mod StepLemmas
 pub mod JoinLemmas
+pub mod AnsiColorLemmas
 mod Examples

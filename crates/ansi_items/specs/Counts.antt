@@ -1,4 +1,4 @@
--- How many looks at the bytes of a text its items take. No public contract cites this but as the invariant of a scanner.
+-- How many looks at the bytes of a text its items take. No clause of a public function cites this.
 use Rattle.std.specs.Prelude.{ℕ, ◌+◌, ◌*◌, ◌≤◌, List, Option, Some, None, drop}
 use Rattle.std.specs.List.{prefix_len}
 use Rattle.std.specs.Str.{IsCharBoundary}

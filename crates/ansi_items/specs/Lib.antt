@@ -5,3 +5,4 @@ pub mod Plain
 pub mod Fronts
 pub mod Counts
 pub mod Scans
+pub mod AnsiColors

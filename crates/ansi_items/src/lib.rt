@@ -2,5 +2,6 @@
 #![tactic(auto)]
 
 pub mod ansitok;
+pub mod laws;
 
 pub use ansitok::grammar::ESC;

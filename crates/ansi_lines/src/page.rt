@@ -166,9 +166,9 @@ impl Page {
         ensures bytes { room.new ≡ take result (bytes_left self.old) ++ drop result room.old }
         ensures page { self.new ≡ record self.old { read = self.old.read + result } }
     {
-        let left = &self.bytes[self.read..];
-        let count = left.len().min(room.len()).min(self.chunk.max(1));
-        room[..count].copy_from_slice(&left[..count]);
+        let rest = &self.bytes[self.read..];
+        let count = rest.len().min(room.len()).min(self.chunk.max(1));
+        room[..count].copy_from_slice(&rest[..count]);
         self.read += count;
         count
     }

@@ -1,6 +1,7 @@
 //! Runs over pages: what a run writes, tells and answers, whatever its devices do.
 mod devices;
 mod faults;
+mod hostile;
 mod memory;
 
 use crate::page::{Outcome, Page};

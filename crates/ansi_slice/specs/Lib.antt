@@ -4,6 +4,7 @@ pub use Rattle.ansi_items.specs.Pieces
 pub use Rattle.ansi_items.specs.Plain
 pub use Rattle.ansi_items.specs.Counts
 pub use Rattle.ansi_items.specs.Scans
+pub use Rattle.ansi_items.specs.AnsiColors
 pub use Rattle.ansi_style.specs.Rendition
 pub use Rattle.ansi_style.specs.Sgr
 pub use Rattle.ansi_style.specs.Written
@@ -11,6 +12,8 @@ pub use Rattle.ansi_style.specs.Colors
 pub use Rattle.ansi_style.specs.Styled
 pub use Rattle.ansi_style.specs.Reading
 pub use Rattle.ansi_style.specs.States
+pub use Rattle.ansi_style.specs.Orders
+pub use Rattle.ansi_style.specs.Fields
 pub mod Positions
 pub mod Ranges
 pub mod Cut

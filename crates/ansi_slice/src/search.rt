@@ -19,14 +19,14 @@ pub use matches::{find, find_from, first_in_run};
 pub fn is_good_position(text: &str, position: usize) -> bool
     ensures { result ≡ is_good_position (plain text.now) position }
 {
-    let mut left = position;
+    let mut remaining = position;
     for item in Scanner::new(text) {
         if item.kind == Kind::Text {
             let run = &text[item.start..item.end];
-            if left < run.len() {
-                return run.is_char_boundary(left);
+            if remaining < run.len() {
+                return run.is_char_boundary(remaining);
             }
-            left -= run.len();
+            remaining -= run.len();
         }
     }
     true
@@ -39,17 +39,17 @@ pub fn is_char_boundary(text: &str, index: usize) -> bool
     ensures good_before { IsTrue result → IsTrue (is_good_range (plain text.now) 0 (Some index)) }
     ensures good_after { IsTrue result → IsTrue (is_good_range (plain text.now) index None) }
 {
-    let mut offset = index;
+    let mut remaining = index;
     for item in Scanner::new(text) {
         if item.kind == Kind::Text {
             let run = &text[item.start..item.end];
-            if offset < run.len() {
-                return run.is_char_boundary(offset);
+            if remaining < run.len() {
+                return run.is_char_boundary(remaining);
             }
-            offset -= run.len();
+            remaining -= run.len();
         }
     }
-    offset == 0
+    remaining == 0
 }
 
 /// Whether the range is good: its start and its end are, and its end is not below its start. (std;

@@ -1,17 +1,21 @@
 -- The blocks of a text, by one walk over its pieces with what waits for the next run, and a running style.
-use Rattle.std.proofs.Common.{◌≡◌, ℕ, zero, suc, ◌≤◌, ◌+◌, ◌<◌, Bool, true, false, not, ◌==◌, List, [], ◌∷◌, ◌++◌, map, filter, filter_map, length, refl, sym, ◌∙◌, ap, ap₂, arith, if◌then◌else◌, append_assoc, append-nil}
+use Rattle.std.proofs.Common.{◌≡◌, ℕ, IsTrue, zero, suc, ◌≤◌, ◌+◌, ◌<◌, Bool, true, false, not, ◌==◌, List, [], ◌∷◌, ◌++◌, map, filter, filter_map, length, refl, sym, ◌∙◌, ap, ap₂, subst, arith, if◌then◌else◌, append_assoc, append-nil}
 use Rattle.std.proofs.lemmas.Bool.Decides.{nat_tests}
+use Rattle.std.specs.Prelude.{IsFalse}
+use Rattle.std.specs.List.{list_all}
 use Rattle.ansi_items.specs.Bytes.{escape}
 use Rattle.ansi_items.specs.Sequences.{is_sgr}
 use Rattle.ansi_items.specs.Pieces.{Piece, Text, Sequence, LoneEscape, ArePieces, first_piece, first_pieces, pieces_of}
-use Rattle.ansi_items.specs.Plain.{Mark, Placed, moved, places, marks_of, joined}
+use Rattle.ansi_items.specs.Plain.{Mark, Placed, moved, places, marks_of, joined, has_escape}
 use Rattle.ansi_style.specs.declared.state.rendition.Rendition.{Rendition}
+use Rattle.ansi_style.specs.Rendition.{plain_style}
 use Rattle.ansi_style.specs.Sgr.{apply}
 use Rattle.ansi_slice.specs.Cut.{at_place}
 use Rattle.ansi_slice.specs.Sides.{copied}
 use Rattle.ansi_style.specs.Reading.{style_within}
-use Rattle.ansi_str.specs.Blocks.{Block, waiting, block_after, block_of, blocks_from}
+use Rattle.ansi_str.specs.Blocks.{Block, waiting, block_after, block_of, blocks_from, blocks}
 use Rattle.ansi_items.proofs.PieceLemmas.{pieces_are}
+use Rattle.ansi_items.proofs.PlainLemmas.{one_text, pieces_of-bare}
 use Rattle.ansi_style.proofs.MarkLemmas.{further, marks_of-text, marks_of-sequence, marks_of-lone, style_by_marks, style_by_marks-before, style_by_marks-text, style_by_marks-sequence, style_by_marks-lone}
 
 -- the blocks of pieces, where these sequences wait for the first run, and s is the style before the pieces
@@ -169,3 +173,14 @@ length-blocks_through s held (LoneEscape ∷ ps) = omega (arith, length-blocks_t
 pub length-blocks_from : (s : Rendition) (t : List ℕ) → length (blocks_from s t) ≤ length t
 length-blocks_from s t =
     rw (blocks_from-walked s t) (omega (arith, length-blocks_through s [] (pieces_of t), length-first_pieces (length t) t))
+
+-- Of a text without ESC each block is a borrow.
+
+one_text_borrows : (t : List ℕ) → IsTrue (list_all (λ (b : Block). b.is_borrow) (blocks_through plain_style [] (one_text t)))
+one_text_borrows [] = refl
+one_text_borrows (b ∷ t) = refl
+
+pub blocks-bare : (t : List ℕ) → IsFalse (has_escape t) → IsTrue (list_all (λ (b : Block). b.is_borrow) (blocks t))
+blocks-bare t none =
+    let walked : blocks t ≡ blocks_through plain_style [] (one_text t) = blocks_from-walked plain_style t ∙ ap (blocks_through plain_style []) (pieces_of-bare t none) in
+    subst (λ bs. IsTrue (list_all (λ (b : Block). b.is_borrow) bs)) (sym walked) (one_text_borrows t)

@@ -4,6 +4,7 @@ pub use Rattle.ansi_items.specs.Pieces
 pub use Rattle.ansi_items.specs.Plain
 pub use Rattle.ansi_items.specs.Counts
 pub use Rattle.ansi_items.specs.Scans
+pub use Rattle.ansi_items.specs.AnsiColors
 pub use Rattle.ansi_style.specs.Rendition
 pub use Rattle.ansi_style.specs.Sgr
 pub use Rattle.ansi_style.specs.Written
@@ -11,13 +12,14 @@ pub use Rattle.ansi_style.specs.Colors
 pub use Rattle.ansi_style.specs.Styled
 pub use Rattle.ansi_style.specs.Reading
 pub use Rattle.ansi_style.specs.States
+pub use Rattle.ansi_style.specs.Orders
+pub use Rattle.ansi_style.specs.Fields
 pub use Rattle.ansi_slice.specs.Positions
 pub use Rattle.ansi_slice.specs.Ranges
 pub use Rattle.ansi_slice.specs.Cut
 pub use Rattle.ansi_slice.specs.Sides
 pub use Rattle.ansi_slice.specs.Kept
 pub use Rattle.ansi_slice.specs.Parts
-pub mod Orders
 pub use Rattle.ansi_slice.specs.Searches
 pub mod StdSplit
 pub mod Blocks

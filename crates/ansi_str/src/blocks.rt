@@ -1,6 +1,8 @@
 //! The blocks of a text: its runs of one style.
 ghost use Rattle.std.specs.Prelude.{◌≡◌, ◌∷◌, [], ◌++◌, ◌≤◌, IsTrue, IsFalse, IsNone, IsOk, IfOk, IfSome, IfNone, not, ◌==◌, length, string_bytes};
+ghost use Rattle.std.specs.List.{list_all};
 ghost use Rattle.std.specs.Cow.{cow_str_bytes};
+ghost use Rattle.ansi_items.specs.Plain.{has_escape};
 ghost use Rattle.ansi_style.specs.Rendition.{has_any};
 ghost use Rattle.ansi_style.specs.States.{rendition_of};
 ghost use Rattle.ansi_str.specs.Blocks.{waiting, block_after, blocks, blocks_from, runs, is_borrow};
@@ -145,7 +147,7 @@ impl<'a, A: Allocator> Model for AnsiBlockIter<'a, A> {
 ///
 /// There is one for each run of text between sequences. A block's text is the sequences before the run
 /// that are no SGR, joined, and then the run; it is a borrow where there are none, and then no memory
-/// is taken. Sequences after the last run are in no block. An item is an `Err` where memory is
+/// is taken: so on a text without ESC. Sequences after the last run are in no block. An item is an `Err` where memory is
 /// wanting, and it is the last. (The Rust crate.)
 ///
 /// ```
@@ -157,6 +159,7 @@ pub fn get_blocks(alloc: Global, text: &str) -> AnsiBlockIter<'_>
     ensures blocks { result ≡ blocks text.now }
     ensures runs { length result ≡ length (runs text.now) }
     ensures len { length result ≤ length text.now }
+    ensures takes_no_memory { IsFalse (has_escape text.now) → IsTrue (list_all (λ b. b.is_borrow) result) }
 {
     get_blocks_in(alloc, text)
 }
@@ -166,6 +169,7 @@ pub fn get_blocks_in<A: Allocator>(alloc: A, text: &str) -> AnsiBlockIter<'_, A>
     ensures blocks { result ≡ blocks text.now }
     ensures runs { length result ≡ length (runs text.now) }
     ensures len { length result ≤ length text.now }
+    ensures takes_no_memory { IsFalse (has_escape text.now) → IsTrue (list_all (λ b. b.is_borrow) result) }
 {
     AnsiBlockIter {
         alloc,
@@ -274,6 +278,3 @@ fn waiting<A: Allocator>(alloc: A, text: &str) -> Result<String<A>, AllocError>
     }
     Ok(joined)
 }
-
-#[cfg(test)]
-mod tests;

@@ -1,7 +1,7 @@
 //! Laws of the definitions that the contracts cite.
 //!
 //! Each function carries one law as its contract, does nothing and answers nothing.
-ghost use Rattle.std.specs.Prelude.{◌≡◌, ◌↔◌, ◌≤◌, ◌+◌, ◌*◌, ◌++◌, ℕ, List, [], length, filter, take, drop, slice_range, nat_eq, min, slice_get, Option, Some, None, option_map, unwrap_or, if◌then◌else◌, IsTrue, IsFalse, ◌≢◌, ◌∷◌, map, flat_map, codes};
+ghost use Rattle.std.specs.Prelude.{◌≡◌, ◌↔◌, ◌≤◌, ◌+◌, ◌*◌, ◌++◌, ℕ, List, [], length, filter, take, drop, slice_range, nat_eq, min, slice_get, Option, Some, None, option_map, unwrap_or, if◌then◌else◌, IsTrue, IsFalse, ◌≢◌, ◌∷◌, map, flat_map};
 ghost use Rattle.std.specs.List.{list_any, starts_with, ends_with};
 ghost use Rattle.std.specs.Str.{IsUtf8, IsCharBoundary, trim, chars};
 ghost use Rattle.std.specs.Char.{encode_utf8};
@@ -23,12 +23,9 @@ ghost use Rattle.ansi_slice.specs.Parts.{parts, part, past, part_over, all_parts
 ghost use Rattle.ansi_str.specs.Changes.{Change, CutRange, LeftOf, RightOf, PartOf, WithoutPrefix, WithoutSuffix, Trimmed, interval_of, slice_of};
 ghost use Rattle.ansi_str.specs.Edited.{meaning, edited_by, edited, closes, stay_borrowed, IsSliceNamed};
 ghost use Rattle.ansi_str.specs.Blocks.{waiting, runs, without_sgrs, blocks};
-ghost use Rattle.ansi_str.specs.Orders.{compared, compared_in_turn, parts_in_order, color_key, ansi_color_key};
-ghost use Rattle.ansi_style.specs.States.{rendition_of};
 ghost use Rattle.ansi_str.specs.StdSplit.{AreSplit, AreBetween, AreInTurn, slices_over};
 
-use crate::ansitok::AnsiColor;
-use crate::{AnsiSequenceEnd, Color, Style};
+pub use ansi_style::laws::{orders_go_by_parts, reset_all_clears};
 
 /// A text is read in one way: no whole sequence is a proper beginning of another, and each text has
 /// one list of pieces.
@@ -73,20 +70,6 @@ pub fn start_sets()
 pub fn close_clears()
     ensures from_itself { (s : Rendition) → known (style_after_from s (close s)) ≡ plain_style }
     ensures from_known { (p s : Rendition) → known p ≡ known s → known (style_after_from p (close s)) ≡ plain_style }
-{}
-
-/// `AnsiSequenceEnd::RESET_ALL` is `\e[0m`, which leaves nothing known of any style.
-pub fn reset_all_clears()
-    ensures bytes { AnsiSequenceEnd.RESET_ALL.now ≡ codes "\u{1b}[0m" }
-    ensures cleared { (s : Rendition) → known (style_after_from s AnsiSequenceEnd.RESET_ALL.now) ≡ plain_style }
-{}
-
-/// Styles compare by their 28 parts in turn, colors by their rank and then by their numbers: an attribute
-/// that isn't set is before one that is, and no color and no font is before any.
-pub fn orders_go_by_parts()
-    ensures style { (a b : Style) → ⟦<Style as Ord>⟧.cmp a b ≡ compared_in_turn (parts_in_order (rendition_of a)) (parts_in_order (rendition_of b)) }
-    ensures color { (a b : Color) → ⟦<Color as Ord>⟧.cmp a b ≡ compared (color_key a) (color_key b) }
-    ensures ansi_color { (a b : AnsiColor) → ⟦<AnsiColor as Ord>⟧.cmp a b ≡ compared (ansi_color_key a) (ansi_color_key b) }
 {}
 
 /// Of a style in which nothing is set that a reader could see nothing is known, and its start is empty.

@@ -60,7 +60,8 @@ pub trait AnsiStr {
     /// end, which counts as the end; and no end may lie below the start.
     ///
     /// It is a borrow where no ESC stands in the text, and then no memory is taken. Else it is
-    /// owned. `Err` means that memory is wanting. (The Rust crate.)
+    /// owned, and at most a close longer than the text, 88 bytes. `Err` means that memory is wanting.
+    /// (The Rust crate.)
     ///
     /// ```
     /// assert_eq!("\x1b[30mTEXT\x1b[39m".ansi_cut(alloc, 1..3)?, "\x1b[30mEX\x1b[39m");
@@ -175,6 +176,9 @@ pub trait AnsiStr {
     /// ESC every part is one; a borrow takes no memory. Any other part is owned, and in its place
     /// comes an `Err` where memory is wanting. After that there is nothing but `None`. (std; the
     /// Rust crate splits the text with its sequences; where a sequence goes, own.)
+    ///
+    /// A part's share is how many bytes of the text it has, its plain bytes and its sequences. It is at
+    /// most a start and a close longer, 163 + 88 bytes, and all shares together are within the text.
     ///
     /// ```
     /// let mut parts = "\x1b[31mlion::tiger\x1b[0m".ansi_split(alloc, "::");

@@ -1,5 +1,5 @@
 //! The answers of `ansi_is_char_boundary` for worked texts, and what is split there.
-use crate::callers::searches::split_at_boundary;
+use crate::callers::searches::{cut_at_boundary, split_at_boundary};
 use ansi_str::AnsiStr;
 use std::alloc::Global;
 use std::process::Abort;
@@ -8,7 +8,7 @@ use std::test::Fail;
 /// A text, an index, and whether that is a character boundary.
 type Row = (&'static str, usize, bool);
 
-const ROWS: [Row; 16] = [
+static ROWS: [Row; 16] = [
     // The end, and past it.
     ("a\x1b[1mb\x1b[0mc", 3, true),
     ("a\x1b[1mb\x1b[0mc", 4, false),
@@ -31,19 +31,19 @@ const ROWS: [Row; 16] = [
     ("\x1b[1m", 1, false),
 ];
 
-fn expect_boundary(rt: &impl Abort, alloc: Global, row: Row) -> Result<(), Fail> {
-    let (text, index, want) = row;
+fn expect_boundary(rt: &impl Abort, alloc: Global, row: &Row) -> Result<(), Fail> {
+    let (text, index, want) = *row;
     let got = text.ansi_is_char_boundary(index);
-    assert_eq!(rt; got, want, "boundary {index} of {text:?}");
+    assert!(rt; got == want, "boundary {index} of {text:?}");
     let owned = String::from_str(alloc, text)?;
     let got = owned.ansi_is_char_boundary(index);
-    assert_eq!(rt; got, want, "boundary {index} of {text:?}, owned");
+    assert!(rt; got == want, "boundary {index} of {text:?}, owned");
     Ok(())
 }
 
 #[test]
 fn boundaries_are_known(rt: HostRuntime) -> Result<(), Fail> {
-    for row in ROWS {
+    for row in &ROWS {
         expect_boundary(&rt, rt.alloc(), row)?;
     }
     Ok(())
@@ -55,10 +55,23 @@ fn texts_are_split_at_boundaries(rt: HostRuntime) -> Result<(), Fail> {
     let sides = sides
         .as_ref()
         .map(|(left, right)| (left.as_str(), right.as_str()));
-    assert_eq!(rt; sides, Some(("\x1b[30mTE\x1b[39m", "\x1b[30mXT\x1b[39m")));
+    assert!(rt;
+        sides == Some(("\x1b[30mTE\x1b[39m", "\x1b[30mXT\x1b[39m")),
+        "between two characters"
+    );
     let inside = split_at_boundary(rt.alloc(), &"\x1b[1mé", 1)?;
     assert!(rt; inside.is_none(), "inside a character");
     let past = split_at_boundary(rt.alloc(), &"\x1b[1mé", 3)?;
     assert!(rt; past.is_none(), "past the end");
+    Ok(())
+}
+
+#[test]
+fn texts_are_cut_at_boundaries(rt: HostRuntime) -> Result<(), Fail> {
+    let cuts = cut_at_boundary(rt.alloc(), &"\x1b[30mTEXT\x1b[39m", 2)?;
+    let cuts = cuts
+        .as_ref()
+        .map(|(before, after)| (before.as_str(), after.as_str()));
+    assert_eq!(rt; cuts, Some(("\x1b[30mTE\x1b[39m", "\x1b[30mXT\x1b[39m")));
     Ok(())
 }

@@ -2,4 +2,5 @@
 pub mod blocks;
 pub mod buffers;
 pub mod parts;
+pub mod scans;
 pub mod searches;

@@ -1,10 +1,11 @@
 //! The names of colors.
 use ansi_str::Color;
 use ansi_str::ansitok::AnsiColor;
-use std::test::Fail;
+use std::fmt::Debug;
+use std::process::Abort;
 
 /// The codes of a color of the sixteen as a foreground and as a background, and its name.
-const NAMED: [(u8, u8, Color); 16] = [
+static NAMED: [(u8, u8, Color); 16] = [
     (30, 40, Color::Black),
     (31, 41, Color::Red),
     (32, 42, Color::Green),
@@ -23,30 +24,30 @@ const NAMED: [(u8, u8, Color); 16] = [
     (97, 107, Color::BrightWhite),
 ];
 
+/// Colors that have no name, and what they are read as.
+static OTHERS: [(AnsiColor, Color); 3] = [
+    (AnsiColor::Bit4(50), Color::Fixed(50)),
+    (AnsiColor::Bit8(1), Color::Fixed(1)),
+    (AnsiColor::Bit24 { r: 1, g: 2, b: 3 }, Color::Rgb(1, 2, 3)),
+];
+
+fn expect_color(rt: &impl Abort, color: AnsiColor, want: Color) {
+    assert!(rt; Color::from(color) == want, "the color of {color:?}");
+}
+
 #[test]
-fn colors_are_named(rt: HostRuntime) -> Result<(), Fail> {
-    for (foreground, background, want) in NAMED {
-        for code in [foreground, background] {
-            assert_eq!(rt;
-                Color::from(AnsiColor::Bit4(code)),
-                want,
-                "the color of {code}"
-            );
-        }
+fn colors_are_named(rt: HostRuntime) {
+    for (foreground, background, want) in &NAMED {
+        expect_color(&rt, AnsiColor::Bit4(*foreground), *want);
+        expect_color(&rt, AnsiColor::Bit4(*background), *want);
     }
-    let others = [
-        (AnsiColor::Bit4(50), Color::Fixed(50)),
-        (AnsiColor::Bit8(1), Color::Fixed(1)),
-        (AnsiColor::Bit24 { r: 1, g: 2, b: 3 }, Color::Rgb(1, 2, 3)),
-    ];
-    for (color, want) in others {
-        assert_eq!(rt; Color::from(color), want, "{color:?}");
+    for (color, want) in &OTHERS {
+        expect_color(&rt, *color, *want);
     }
-    Ok(())
 }
 
 /// Colors in the order in which they compare.
-const ORDER: [Color; 22] = [
+static ORDER: [Color; 22] = [
     Color::Black,
     Color::BrightBlack,
     Color::Red,
@@ -71,25 +72,37 @@ const ORDER: [Color; 22] = [
     Color::Rgb(1, 0, 0),
 ];
 
+/// Colors as they are written, in the order in which they compare.
+static WRITTEN: [AnsiColor; 5] = [
+    AnsiColor::Bit4(255),
+    AnsiColor::Bit8(0),
+    AnsiColor::Bit24 { r: 0, g: 0, b: 1 },
+    AnsiColor::Bit24 { r: 0, g: 1, b: 0 },
+    AnsiColor::Bit24 { r: 1, g: 0, b: 0 },
+];
+
+/// Compares a color with those of the order, in which it has this index.
+fn expect_order<C: Ord + Debug>(rt: &impl Abort, order: &[C], color: &C, index: usize) {
+    for (other_index, other) in order.iter().enumerate() {
+        let got = color.cmp(other);
+        assert!(rt;
+            got == index.cmp(&other_index),
+            "{color:?} against {other:?}"
+        );
+        let is_same = color == other;
+        assert!(rt;
+            is_same == (index == other_index),
+            "{color:?} and {other:?}"
+        );
+    }
+}
+
 #[test]
-fn colors_are_ordered(rt: HostRuntime) -> Result<(), Fail> {
-    for (i, color) in ORDER.iter().enumerate() {
-        for (j, other) in ORDER.iter().enumerate() {
-            assert_eq!(rt; color.cmp(other), i.cmp(&j), "{color:?} against {other:?}");
-            assert_eq!(rt; color == other, i == j, "{color:?} and {other:?}");
-        }
+fn colors_are_ordered(rt: HostRuntime) {
+    for (index, color) in ORDER.iter().enumerate() {
+        expect_order(&rt, &ORDER, color, index);
     }
-    let written = [
-        AnsiColor::Bit4(255),
-        AnsiColor::Bit8(0),
-        AnsiColor::Bit24 { r: 0, g: 0, b: 1 },
-        AnsiColor::Bit24 { r: 0, g: 1, b: 0 },
-        AnsiColor::Bit24 { r: 1, g: 0, b: 0 },
-    ];
-    for (i, color) in written.iter().enumerate() {
-        for (j, other) in written.iter().enumerate() {
-            assert_eq!(rt; color.cmp(other), i.cmp(&j), "{color:?} against {other:?}");
-        }
+    for (index, color) in WRITTEN.iter().enumerate() {
+        expect_order(&rt, &WRITTEN, color, index);
     }
-    Ok(())
 }

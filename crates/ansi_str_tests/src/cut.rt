@@ -11,7 +11,7 @@ use std::test::Fail;
 /// A text, a range, the cut, and whether that is a borrow.
 type Row = (&'static str, AnyRange, &'static str, bool);
 
-const ROWS: [Row; 28] = [
+static ROWS: [Row; 28] = [
     // Texts without ESC.
     ("", RangeFull, "", true),
     ("😀😃😄", RangeTo(4), "😀", true),
@@ -133,11 +133,10 @@ const ROWS: [Row; 28] = [
 
 fn expect_cut(rt: &impl Abort, got: CowStr<'_>, row: &Row) {
     let (text, range, cut, is_borrow) = row;
-    assert_eq!(rt; got.as_str(), *cut, "cut {range:?} of {text:?}");
+    assert!(rt; got.as_str() == *cut, "cut {range:?} of {text:?}");
     let got_borrow = matches!(&got, CowStr::Borrowed(_));
-    assert_eq!(rt;
-        got_borrow,
-        *is_borrow,
+    assert!(rt;
+        got_borrow == *is_borrow,
         "borrow of cut {range:?} of {text:?}"
     );
 }
@@ -147,7 +146,7 @@ fn expect_row(rt: &impl Abort, alloc: Global, row: &Row) -> Result<(), Fail> {
     expect_cut(rt, range.cut(rt, alloc, text)?, row);
     let owned = String::from_str(alloc, text)?;
     expect_cut(rt, range.cut(rt, alloc, &owned)?, row);
-    assert_eq!(rt; owned.as_str(), *text, "the caller's text");
+    assert!(rt; owned.as_str() == *text, "the caller's text {text:?}");
     Ok(())
 }
 
@@ -162,22 +161,27 @@ fn cuts_are_given(rt: HostRuntime) -> Result<(), Fail> {
 /// A text, a range, and the plain text of the cut.
 type StrippedRow = (&'static str, AnyRange, &'static str);
 
-const STRIPPED_ROWS: [StrippedRow; 2] = [
+static STRIPPED_ROWS: [StrippedRow; 2] = [
     ("\x1b[31;40m🗻 on the 🌏\x1b[0m", Range(0, 4), "🗻"),
     ("\x1b[31;40m🗻 on the 🌏\x1b[0m", RangeFrom(8), "the 🌏"),
 ];
 
+fn expect_stripped(rt: &impl Abort, alloc: Global, row: &StrippedRow) -> Result<(), Fail> {
+    let (text, range, plain) = *row;
+    let answer = range.cut(rt, alloc, &text)?;
+    let cut = answer.as_str();
+    let got = cut.ansi_strip(alloc)?;
+    assert!(rt;
+        got.as_str() == plain,
+        "plain text of cut {range:?} of {text:?}"
+    );
+    Ok(())
+}
+
 #[test]
 fn cuts_are_stripped(rt: HostRuntime) -> Result<(), Fail> {
-    for (text, range, plain) in STRIPPED_ROWS {
-        let answer = range.cut(&rt, rt.alloc(), &text)?;
-        let cut = answer.as_str();
-        let got = cut.ansi_strip(rt.alloc())?;
-        assert_eq!(rt;
-            got.as_str(),
-            plain,
-            "plain text of cut {range:?} of {text:?}"
-        );
+    for row in &STRIPPED_ROWS {
+        expect_stripped(&rt, rt.alloc(), row)?;
     }
     Ok(())
 }

@@ -17,7 +17,7 @@ type Row = (
     bool,
 );
 
-const ROWS: [Row; 22] = [
+static ROWS: [Row; 22] = [
     // No edits.
     ("a", &[], Some("a"), true, false),
     ("\x1b[1mx", &[], Some("\x1b[1mx"), true, false),
@@ -155,14 +155,20 @@ const ROWS: [Row; 22] = [
     ),
 ];
 
+fn expect_edited(rt: &impl Abort, alloc: Global, row: &Row) -> Result<(), Fail> {
+    let (text, edits, want, is_borrow, _) = *row;
+    let got = edit(alloc, text, edits)?;
+    let answer = got.as_ref().map(|edited| edited.as_str());
+    assert!(rt; answer == want, "{edits:?} of {text:?}");
+    let got_borrow = matches!(&got, Some(CowStr::Borrowed(_)));
+    assert!(rt; got_borrow == is_borrow, "borrow of {edits:?} of {text:?}");
+    Ok(())
+}
+
 #[test]
 fn texts_are_edited(rt: HostRuntime) -> Result<(), Fail> {
-    for (text, edits, want, is_borrow, _) in ROWS {
-        let got = edit(rt.alloc(), text, edits)?;
-        let answer = got.as_ref().map(|edited| edited.as_str());
-        assert_eq!(rt; answer, want, "{edits:?} of {text:?}");
-        let got_borrow = matches!(&got, Some(CowStr::Borrowed(_)));
-        assert_eq!(rt; got_borrow, is_borrow, "borrow of {edits:?} of {text:?}");
+    for row in &ROWS {
+        expect_edited(&rt, rt.alloc(), row)?;
     }
     Ok(())
 }
@@ -177,23 +183,61 @@ fn is_err(rt: &impl Abort, heap: &Refusing<Global>, number: usize) -> bool {
         Err(_) => true,
         Ok(got) => {
             let answer = got.as_ref().map(|edited| edited.as_str());
-            assert_eq!(rt; answer, *want, "{edits:?} of {text:?}");
+            assert!(rt; answer == *want, "{edits:?} of {text:?}");
             false
         }
     }
 }
 
+fn expect_refusals(rt: &impl Abort, alloc: Global, row: &Row, number: usize) {
+    let (text, _, _, _, takes_memory) = *row;
+    expect_each_refusal(rt, alloc, text, takes_memory, |heap| {
+        is_err(rt, heap, number)
+    });
+}
+
 // An `Err` of an earlier edit comes before the refusal of a later one.
 #[test]
 fn edits_meet_each_refusal(rt: HostRuntime) {
-    let mut number = 0usize;
-    for (_, _, _, _, takes_memory) in ROWS {
-        expect_each_refusal(
-            &rt,
-            rt.alloc(),
-            takes_memory,
-            |heap| is_err(&rt, heap, number),
-        );
-        number = number.saturating_add(1);
+    for (number, row) in ROWS.iter().enumerate() {
+        expect_refusals(&rt, rt.alloc(), row, number);
     }
+}
+
+/// Edits that are refused on `é` in red, which `Left(2)` leaves of the text below.
+static REFUSED_LATER: [Edit<'static>; 7] = [
+    Prefix("x"),
+    Suffix("x"),
+    Cut {
+        start: 0,
+        end: Some(1),
+    },
+    Cut {
+        start: 2,
+        end: Some(1),
+    },
+    Left(1),
+    Right(1),
+    Part { pat: "X", index: 1 },
+];
+
+const RED_TEXT: &str = "\x1b[31méa\x1b[39m";
+
+/// With the requests of a `Left` granted and no more, a later edit is refused by a `None`.
+fn expect_none(rt: &impl Abort, alloc: Global, granted: u64, refused: Edit<'_>) {
+    let heap = Refusing::new(alloc, granted);
+    let got = edit_in(&heap, RED_TEXT, &[Left(2), refused]);
+    assert!(rt; matches!(&got, Ok(None)), "{refused:?} of an owned text");
+    assert!(rt; !heap.has_refused(), "{refused:?} takes no memory");
+}
+
+#[test]
+fn a_refused_edit_takes_no_memory(rt: HostRuntime) -> Result<(), Fail> {
+    let heap = Refusing::new(rt.alloc(), u64::MAX);
+    let left = edit_in(&heap, RED_TEXT, &[Left(2)])?.ok_or("a good position")?;
+    assert!(rt; left.as_str() == "\x1b[31mé\x1b[39m", "the left side");
+    for refused in &REFUSED_LATER {
+        expect_none(&rt, rt.alloc(), heap.requests(), *refused);
+    }
+    Ok(())
 }

@@ -1,6 +1,6 @@
 //! What the plain texts of worked texts begin and end with.
 use ansi_str::AnsiStr;
-use std::alloc::{AllocError, Global};
+use std::alloc::Global;
 use std::process::Abort;
 use std::test::Fail;
 
@@ -9,7 +9,7 @@ type Row = (&'static str, &'static str, bool);
 
 const TWO_COLORS: &str = "\x1b[41;30mTEXT\x1b[39m \x1b[34m123\x1b[39;49m";
 
-const STARTS: [Row; 9] = [
+static STARTS: [Row; 9] = [
     // Texts without ESC.
     ("", "", true),
     ("", "T", false),
@@ -23,7 +23,7 @@ const STARTS: [Row; 9] = [
     ("\x1b[1m", "a", false),
 ];
 
-const ENDS: [Row; 11] = [
+static ENDS: [Row; 11] = [
     // Texts without ESC.
     ("", "", true),
     ("", "T", false),
@@ -39,37 +39,45 @@ const ENDS: [Row; 11] = [
     ("\x1b[1m", "a", false),
 ];
 
-fn expect_start<T: AnsiStr>(rt: &impl Abort, text: &T, row: Row) {
-    let (name, pat, want) = row;
-    assert_eq!(rt; text.ansi_starts_with(pat), want, "{pat:?} begins {name:?}");
+fn expect_start<T: AnsiStr>(rt: &impl Abort, text: &T, row: &Row) {
+    let (name, pat, want) = *row;
+    assert!(rt;
+        text.ansi_starts_with(pat) == want,
+        "{pat:?} begins {name:?}"
+    );
 }
 
-fn expect_end<T: AnsiStr>(rt: &impl Abort, text: &T, row: Row) {
-    let (name, pat, want) = row;
-    assert_eq!(rt; text.ansi_ends_with(pat), want, "{pat:?} ends {name:?}");
+fn expect_end<T: AnsiStr>(rt: &impl Abort, text: &T, row: &Row) {
+    let (name, pat, want) = *row;
+    assert!(rt; text.ansi_ends_with(pat) == want, "{pat:?} ends {name:?}");
 }
 
-fn owned(alloc: Global, row: Row) -> Result<String, AllocError> {
-    let (text, ..) = row;
-    String::from_str(alloc, text)
+fn expect_starts(rt: &impl Abort, alloc: Global, row: &Row) -> Result<(), Fail> {
+    let (text, ..) = *row;
+    expect_start(rt, &text, row);
+    expect_start(rt, &String::from_str(alloc, text)?, row);
+    Ok(())
+}
+
+fn expect_ends(rt: &impl Abort, alloc: Global, row: &Row) -> Result<(), Fail> {
+    let (text, ..) = *row;
+    expect_end(rt, &text, row);
+    expect_end(rt, &String::from_str(alloc, text)?, row);
+    Ok(())
 }
 
 #[test]
 fn starts_are_told(rt: HostRuntime) -> Result<(), Fail> {
-    for row in STARTS {
-        let (text, ..) = row;
-        expect_start(&rt, &text, row);
-        expect_start(&rt, &owned(rt.alloc(), row)?, row);
+    for row in &STARTS {
+        expect_starts(&rt, rt.alloc(), row)?;
     }
     Ok(())
 }
 
 #[test]
 fn ends_are_told(rt: HostRuntime) -> Result<(), Fail> {
-    for row in ENDS {
-        let (text, ..) = row;
-        expect_end(&rt, &text, row);
-        expect_end(&rt, &owned(rt.alloc(), row)?, row);
+    for row in &ENDS {
+        expect_ends(&rt, rt.alloc(), row)?;
     }
     Ok(())
 }

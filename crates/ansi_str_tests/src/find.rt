@@ -1,5 +1,5 @@
 //! The answers of `ansi_find` for worked texts, and what is cut there.
-use crate::callers::searches::cut_match;
+use crate::callers::searches::{cut_around_match, cut_match};
 use ansi_str::AnsiStr;
 use std::alloc::Global;
 use std::process::Abort;
@@ -8,7 +8,7 @@ use std::test::Fail;
 /// A text, a pattern, and where that first stands.
 type Row = (&'static str, &'static str, Option<usize>);
 
-const ROWS: [Row; 20] = [
+static ROWS: [Row; 20] = [
     // Across sequences.
     ("a\x1b[1mb\x1b[0mc", "abc", Some(0)),
     ("a\x1b[1mb\x1b[0mc", "bc", Some(1)),
@@ -44,17 +44,17 @@ const ROWS: [Row; 20] = [
     ("é\x1bé", "éé", Some(0)),
 ];
 
-fn expect_place(rt: &impl Abort, alloc: Global, row: Row) -> Result<(), Fail> {
-    let (text, pat, want) = row;
-    assert_eq!(rt; text.ansi_find(pat), want, "{pat:?} in {text:?}");
+fn expect_place(rt: &impl Abort, alloc: Global, row: &Row) -> Result<(), Fail> {
+    let (text, pat, want) = *row;
+    assert!(rt; text.ansi_find(pat) == want, "{pat:?} in {text:?}");
     let owned = String::from_str(alloc, text)?;
-    assert_eq!(rt; owned.ansi_find(pat), want, "{pat:?} in {text:?}, owned");
+    assert!(rt; owned.ansi_find(pat) == want, "{pat:?} in {text:?}, owned");
     Ok(())
 }
 
 #[test]
 fn patterns_are_found(rt: HostRuntime) -> Result<(), Fail> {
-    for row in ROWS {
+    for row in &ROWS {
         expect_place(&rt, rt.alloc(), row)?;
     }
     Ok(())
@@ -64,9 +64,27 @@ fn patterns_are_found(rt: HostRuntime) -> Result<(), Fail> {
 fn matches_are_cut(rt: HostRuntime) -> Result<(), Fail> {
     let cut = cut_match(rt.alloc(), &"a\x1b[1mb\x1b[0mc", "bc")?;
     let cut = cut.as_ref().map(|cut| cut.as_str());
-    assert_eq!(rt; cut, Some("\x1b[1mb\x1b[0mc"));
+    assert!(rt;
+        cut == Some("\x1b[1mb\x1b[0mc"),
+        "a match across a sequence"
+    );
     let absent = cut_match(rt.alloc(), &"a\x1b[1mb\x1b[0mc", "cb")?;
     assert!(rt; absent.is_none(), "an absent pattern");
+    Ok(())
+}
+
+#[test]
+fn texts_are_cut_around_matches(rt: HostRuntime) -> Result<(), Fail> {
+    let cuts = cut_around_match(rt.alloc(), &"a\x1b[1mb\x1b[0mc", "b")?;
+    let cuts = cuts.as_ref().map(|(before, found, after)| (
+        before.as_str(),
+        found.as_str(),
+        after.as_str(),
+    ));
+    assert_eq!(rt;
+        cuts,
+        Some(("a\x1b[1m\x1b[22m", "\x1b[1mb\x1b[0m", "\x1b[1m\x1b[0mc"))
+    );
     Ok(())
 }
 
@@ -82,17 +100,103 @@ fn many_sequences_are_passed_over(rt: HostRuntime) -> Result<(), Fail> {
     }
     runs.push_str("b")?;
     apart.push_str("b")?;
-    assert_eq!(rt;
-        runs.ansi_find("ab"),
-        Some(199_999),
+    assert!(rt;
+        runs.ansi_find("ab") == Some(199_999),
         "the last of many runs"
     );
-    assert_eq!(rt; runs.ansi_find("ac"), None, "none of many runs");
-    assert_eq!(rt;
-        apart.ansi_find("xab"),
-        Some(1),
+    assert!(rt; runs.ansi_find("ac") == None, "none of many runs");
+    assert!(rt;
+        apart.ansi_find("xab") == Some(1),
         "both sides of many sequences"
     );
-    assert_eq!(rt; apart.ansi_find("bx"), None, "after many sequences");
+    assert!(rt; apart.ansi_find("bx") == None, "after many sequences");
+    Ok(())
+}
+
+/// How often a letter stands in a pattern before the last one, that, and where the pattern first stands.
+static LONG: [(usize, &str, Option<usize>); 12] = [
+    (1, "b", Some(599)),
+    (255, "b", Some(345)),
+    (256, "b", Some(344)),
+    (257, "b", Some(343)),
+    (599, "b", Some(1)),
+    (600, "b", Some(0)),
+    (601, "b", None),
+    (255, "c", None),
+    (256, "c", None),
+    (257, "c", None),
+    (600, "", Some(0)),
+    (601, "", None),
+];
+
+fn expect_long(
+    rt: &impl Abort,
+    alloc: Global,
+    text: &str,
+    row: (usize, &str, Option<usize>),
+) -> Result<(), Fail> {
+    let (count, last, want) = row;
+    let mut pat = String::new(alloc);
+    for _ in 0..count {
+        pat.push_str("a")?;
+    }
+    pat.push_str(last)?;
+    assert!(rt;
+        text.ansi_find(pat.as_str()) == want,
+        "{count} letters and {last:?}"
+    );
+    Ok(())
+}
+
+#[test]
+fn long_patterns_are_found(rt: HostRuntime) -> Result<(), Fail> {
+    let mut text = String::new(rt.alloc());
+    for _ in 0..600 {
+        text.push_str("\x1b[1ma")?;
+    }
+    text.push_str("b")?;
+    for row in LONG {
+        expect_long(&rt, rt.alloc(), text.as_str(), row)?;
+    }
+    Ok(())
+}
+
+/// How often a character of two bytes stands in a pattern after the first one, and where that first stands.
+static WIDE: [(usize, Option<usize>); 5] = [
+    (127, Some(0)),
+    (128, Some(0)),
+    (129, Some(0)),
+    (300, Some(0)),
+    (301, None),
+];
+
+fn expect_wide(
+    rt: &impl Abort,
+    alloc: Global,
+    text: &str,
+    row: (usize, Option<usize>),
+) -> Result<(), Fail> {
+    let (count, want) = row;
+    let mut pat = String::from_str(alloc, "a")?;
+    for _ in 0..count {
+        pat.push_str("é")?;
+    }
+    assert!(rt;
+        text.ansi_find(pat.as_str()) == want,
+        "a letter and {count} of two bytes"
+    );
+    Ok(())
+}
+
+// The 256th byte of the pattern may be inside a character.
+#[test]
+fn long_patterns_of_wide_characters_are_found(rt: HostRuntime) -> Result<(), Fail> {
+    let mut text = String::from_str(rt.alloc(), "a")?;
+    for _ in 0..300 {
+        text.push_str("\x1b[1mé")?;
+    }
+    for row in WIDE {
+        expect_wide(&rt, rt.alloc(), text.as_str(), row)?;
+    }
     Ok(())
 }

@@ -10,7 +10,7 @@ use std::test::Fail;
 /// A text, a range, the answer, and whether that is a borrow.
 type Row = (&'static str, AnyRange, Option<&'static str>, bool);
 
-const ROWS: [Row; 23] = [
+static ROWS: [Row; 23] = [
     // Texts without ESC.
     ("TEXT", Range(1, 3), Some("EX"), true),
     ("TEXT", Range(3, 1), None, false),
@@ -83,9 +83,9 @@ const ROWS: [Row; 23] = [
 fn expect_answer(rt: &impl Abort, got: Option<CowStr<'_>>, row: &Row) {
     let (text, range, want, is_borrow) = row;
     let answer = got.as_ref().map(|cut| cut.as_str());
-    assert_eq!(rt; answer, *want, "{range:?} of {text:?}");
+    assert!(rt; answer == *want, "{range:?} of {text:?}");
     let got_borrow = matches!(&got, Some(CowStr::Borrowed(_)));
-    assert_eq!(rt; got_borrow, *is_borrow, "borrow of {range:?} of {text:?}");
+    assert!(rt; got_borrow == *is_borrow, "borrow of {range:?} of {text:?}");
 }
 
 fn expect_row(rt: &impl Abort, alloc: Global, row: &Row) -> Result<(), Fail> {
@@ -93,7 +93,7 @@ fn expect_row(rt: &impl Abort, alloc: Global, row: &Row) -> Result<(), Fail> {
     expect_answer(rt, range.get(alloc, text)?, row);
     let owned = String::from_str(alloc, text)?;
     expect_answer(rt, range.get(alloc, &owned)?, row);
-    assert_eq!(rt; owned.as_str(), *text, "the caller's text");
+    assert!(rt; owned.as_str() == *text, "the caller's text {text:?}");
     Ok(())
 }
 

@@ -2,6 +2,7 @@
 #![tactic(auto)]
 
 pub mod callers;
+pub mod clones;
 pub mod refusing;
 
 pub use refusing::Refusing;
@@ -23,6 +24,8 @@ mod ends;
 #[cfg(test)]
 mod examples;
 #[cfg(test)]
+mod faults;
+#[cfg(test)]
 mod find;
 #[cfg(test)]
 mod get;
@@ -34,6 +37,8 @@ mod memory;
 mod plain;
 #[cfg(test)]
 mod prefix;
+#[cfg(test)]
+mod reads;
 #[cfg(test)]
 mod scanner;
 #[cfg(test)]

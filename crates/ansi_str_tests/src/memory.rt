@@ -11,7 +11,7 @@ use std::test::Fail;
 
 /// A call that takes its memory from any allocator.
 #[derive(Clone, Copy, Debug)]
-enum Call {
+pub enum Call {
     Strip,
     Cut(usize, Option<usize>),
     Get(usize, Option<usize>),
@@ -31,9 +31,9 @@ const BARE: &str = "no sequence, so no memory";
 const MANY_RUNS: &str =
     "\x1b[1mmany\x1b[0m \x1b[2mruns,\x1b[0m \x1b[3mso that\x1b[0m \x1b[4mthe answer\x1b[0m grows";
 
-const ROWS: [Row; 33] = [
+static ROWS: [Row; 33] = [
     (BARE, Strip, Some(BARE), false),
-    ("\x1b[31m", Strip, Some(""), false),
+    ("\x1b[31m", Strip, Some(""), true),
     ("\x1b]0;title\x1b[31mx", Strip, Some("]0;titlex"), true),
     ("\x1b[31", Strip, Some("[31"), true),
     (
@@ -120,7 +120,7 @@ const ROWS: [Row; 33] = [
 ];
 
 /// The answer of a call. A range to cut at has to be good, which a call with ample memory tells.
-fn answer<'h, 't>(
+pub fn answer<'h, 't>(
     rt: &impl Abort,
     alloc: Global,
     heap: &'h Refusing<Global>,
@@ -148,17 +148,18 @@ fn is_err(rt: &impl Abort, alloc: Global, heap: &Refusing<Global>, text: &str, r
         Err(_) => true,
         Ok(got) => {
             let got = got.as_ref().map(|cow| cow.as_str());
-            assert_eq!(rt; got, *want, "{call:?} of {text:?}");
+            assert!(rt; got == *want, "{call:?} of {text:?}");
             false
         }
     }
 }
 
 /// Grants a call more and more requests, till it meets no refusal. `is_err` makes the call, and
-/// tells whether it answered an `Err`.
+/// tells whether it answered an `Err`. Each message has the name.
 pub fn expect_each_refusal<IsErr: Fn(&Refusing<Global>) -> bool>(
     rt: &impl Abort,
     alloc: Global,
+    name: &str,
     takes_memory: bool,
     is_err: IsErr,
 )
@@ -167,22 +168,28 @@ pub fn expect_each_refusal<IsErr: Fn(&Refusing<Global>) -> bool>(
     for granted in 0..100u64 {
         let heap = Refusing::new(alloc, granted);
         let is_refused = is_err(&heap);
-        assert_eq!(rt; is_refused, heap.has_refused(), "{granted} granted");
+        assert!(rt;
+            is_refused == heap.has_refused(),
+            "{granted} requests granted to {name:?}"
+        );
         if !is_refused {
-            assert_eq!(rt; granted > 0, takes_memory, "whether memory is taken");
+            assert!(rt;
+                (granted > 0) == takes_memory,
+                "whether {name:?} takes memory"
+            );
             return;
         }
     }
-    assert!(rt; false, "each run was refused");
+    assert!(rt; false, "each run of {name:?} was refused");
 }
 
 fn expect_row(rt: &impl Abort, alloc: Global, row: &Row) -> Result<(), Fail> {
     let (text, _, _, takes_memory) = row;
     let owned = String::from_str(alloc, text)?;
-    expect_each_refusal(rt, alloc, *takes_memory, |heap| {
+    expect_each_refusal(rt, alloc, text, *takes_memory, |heap| {
         is_err(rt, alloc, heap, owned.as_str(), row)
     });
-    assert_eq!(rt; owned.as_str(), *text, "the caller's text");
+    assert!(rt; owned.as_str() == *text, "the caller's text {text:?}");
     Ok(())
 }
 
@@ -197,7 +204,7 @@ fn calls_meet_each_refusal(rt: HostRuntime) -> Result<(), Fail> {
 /// A text, a position, the two sides there, and whether they take memory.
 type SplitRow = (&'static str, usize, &'static str, &'static str, bool);
 
-const SPLIT_ROWS: [SplitRow; 4] = [
+static SPLIT_ROWS: [SplitRow; 4] = [
     ("no sequence", 3, "no ", "sequence", false),
     ("\x1b[31m", 0, "", "", false),
     ("a\x1b]0;t\x07b", 1, "a\x1b]0;t\x07", "b", true),
@@ -216,29 +223,34 @@ fn split_at_is_err(
     alloc: Global,
     heap: &Refusing<Global>,
     text: &str,
-    row: SplitRow,
+    row: &SplitRow,
 ) -> bool {
-    let (_, mid, left, right, _) = row;
+    let (_, mid, left, right, _) = *row;
     assert!(rt; is_good(alloc, &text, mid), "{mid} is good in {text:?}");
     match split_at_in(heap, text, mid) {
         Err(_) => true,
         Ok((got_left, got_right)) => {
-            assert_eq!(rt; got_left.as_str(), left, "left side");
-            assert_eq!(rt; got_right.as_str(), right, "right side");
+            assert!(rt; got_left.as_str() == left, "left of {mid} in {text:?}");
+            assert!(rt; got_right.as_str() == right, "right of {mid} in {text:?}");
             false
         }
     }
 }
 
+fn expect_split_row(rt: &impl Abort, alloc: Global, row: &SplitRow) -> Result<(), Fail> {
+    let (text, _, _, _, takes_memory) = *row;
+    let owned = String::from_str(alloc, text)?;
+    expect_each_refusal(rt, alloc, text, takes_memory, |heap| {
+        split_at_is_err(rt, alloc, heap, owned.as_str(), row)
+    });
+    assert!(rt; owned.as_str() == text, "the caller's text {text:?}");
+    Ok(())
+}
+
 #[test]
 fn split_at_meets_each_refusal(rt: HostRuntime) -> Result<(), Fail> {
-    for row in SPLIT_ROWS {
-        let (text, _, _, _, takes_memory) = row;
-        let owned = String::from_str(rt.alloc(), text)?;
-        expect_each_refusal(&rt, rt.alloc(), takes_memory, |heap| {
-            split_at_is_err(&rt, rt.alloc(), heap, owned.as_str(), row)
-        });
-        assert_eq!(rt; owned.as_str(), text, "the caller's text");
+    for row in &SPLIT_ROWS {
+        expect_split_row(&rt, rt.alloc(), row)?;
     }
     Ok(())
 }

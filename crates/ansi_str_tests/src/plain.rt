@@ -11,6 +11,7 @@ mod style;
 use ansi_str::AnsiStr;
 use ansi_str::ansitok::{Item, Kind, Scanner};
 use std::alloc::{AllocError, Global};
+use std::process::Abort;
 use std::test::Fail;
 
 const ESC: u8 = 0x1B;
@@ -107,7 +108,7 @@ fn plain(alloc: Global, text: &str, items: &[Item]) -> Result<String, AllocError
 }
 
 /// The characters that the texts are made of: at least one of each class.
-const CHARACTERS: [&str; 12] = [
+static CHARACTERS: [&str; 12] = [
     "\x1b", "[", "]", "P", "\\", "\x07", "0", "!", "m", "G", "\x7f", "é",
 ];
 
@@ -119,38 +120,44 @@ fn text_at(
     len: usize,
 ) -> Result<String, AllocError> {
     let mut text = String::new(alloc);
-    let mut left = number;
+    let mut rest = number;
     for _ in 0..len {
-        let piece = left.checked_rem(pieces.len()).and_then(|n| pieces.get(n));
+        let piece = rest.checked_rem(pieces.len()).and_then(|n| pieces.get(n));
         text.push_str(piece.copied().unwrap_or(""))?;
-        left /= pieces.len().max(1);
+        rest /= pieces.len().max(1);
     }
     Ok(text)
 }
 
+/// How many characters a text has, and how many such texts there are.
+static LENGTHS: [(usize, usize); 6] = [
+    (0, 1),
+    (1, 12),
+    (2, 144),
+    (3, 1_728),
+    (4, 20_736),
+    (5, 248_832),
+];
+
+/// Compares the items and the plain text of a text.
+fn expect_read(rt: &impl Abort, alloc: Global, text: &str) -> Result<(), Fail> {
+    let want = items(alloc, text)?;
+    let got: Vec<Item> = Scanner::new(text).collect(alloc)?;
+    assert!(rt; got == want, "items of {text:?}");
+    let want = plain(alloc, text, want.as_slice())?;
+    let got = text.ansi_strip(alloc)?;
+    assert!(rt; got.as_str() == want.as_str(), "plain text of {text:?}");
+    let has_any = text.as_bytes().contains(&ESC);
+    assert!(rt; text.ansi_has_any() == has_any, "ESC in {text:?}");
+    Ok(())
+}
+
 #[test]
 fn short_texts_are_read_as_defined(rt: HostRuntime) -> Result<(), Fail> {
-    for (len, count) in [
-        (0, 1),
-        (1, 12),
-        (2, 144),
-        (3, 1_728),
-        (4, 20_736),
-        (5, 248_832),
-    ] {
-        for number in 0..count {
-            let text = text_at(rt.alloc(), &CHARACTERS, number, len)?;
-            let want = items(rt.alloc(), text.as_str())?;
-            let got: Vec<Item> = Scanner::new(text.as_str()).collect(rt.alloc())?;
-            assert_eq!(rt; got, want, "items of {text:?}");
-            let want = plain(rt.alloc(), text.as_str(), want.as_slice())?;
-            let got = text.ansi_strip(rt.alloc())?;
-            assert_eq!(rt; got.as_str(), want.as_str(), "plain text of {text:?}");
-            assert_eq!(rt;
-                text.ansi_has_any(),
-                text.as_bytes().contains(&ESC),
-                "ESC in {text:?}"
-            );
+    for (len, count) in &LENGTHS {
+        for number in 0..*count {
+            let text = text_at(rt.alloc(), &CHARACTERS, number, *len)?;
+            expect_read(&rt, rt.alloc(), text.as_str())?;
         }
     }
     Ok(())

@@ -8,7 +8,7 @@ use std::test::Fail;
 /// A text, a prefix or a suffix, the answer, and whether that is a borrow.
 type Row = (&'static str, &'static str, Option<&'static str>, bool);
 
-const PREFIXES: [Row; 14] = [
+static PREFIXES: [Row; 14] = [
     // Texts without ESC.
     ("TEXT", "TE", Some("XT"), true),
     ("TEXT", "", Some("TEXT"), true),
@@ -47,7 +47,7 @@ const PREFIXES: [Row; 14] = [
     ("\x1b[1ma", "\x1b[1ma", None, false),
 ];
 
-const SUFFIXES: [Row; 12] = [
+static SUFFIXES: [Row; 12] = [
     // Texts without ESC.
     ("TEXT", "XT", Some("TE"), true),
     ("TEXT", "", Some("TEXT"), true),
@@ -84,21 +84,24 @@ const SUFFIXES: [Row; 12] = [
     ("\x1b[30mTEXT\x1b[39m", "+TEXT", None, false),
 ];
 
-fn expect_answer(rt: &impl Abort, got: Option<CowStr<'_>>, row: Row) {
-    let (text, pat, want, is_borrow) = row;
+fn expect_answer(rt: &impl Abort, got: Option<CowStr<'_>>, row: &Row) {
+    let (text, pat, want, is_borrow) = *row;
     let answer = got.as_ref().map(|kept| kept.as_str());
-    assert_eq!(rt; answer, want, "{text:?} without {pat:?}");
+    assert!(rt; answer == want, "{text:?} without {pat:?}");
     let got_borrow = matches!(&got, Some(CowStr::Borrowed(_)));
-    assert_eq!(rt; got_borrow, is_borrow, "borrow of {text:?} without {pat:?}");
+    assert!(rt;
+        got_borrow == is_borrow,
+        "borrow of {text:?} without {pat:?}"
+    );
 }
 
 fn expect_prefix<T: AnsiStr>(
     rt: &impl Abort,
     alloc: Global,
     text: &T,
-    row: Row,
+    row: &Row,
 ) -> Result<(), Fail> {
-    let (_, prefix, ..) = row;
+    let (_, prefix, ..) = *row;
     expect_answer(rt, text.ansi_strip_prefix(alloc, prefix)?, row);
     Ok(())
 }
@@ -107,33 +110,43 @@ fn expect_suffix<T: AnsiStr>(
     rt: &impl Abort,
     alloc: Global,
     text: &T,
-    row: Row,
+    row: &Row,
 ) -> Result<(), Fail> {
-    let (_, suffix, ..) = row;
+    let (_, suffix, ..) = *row;
     expect_answer(rt, text.ansi_strip_suffix(alloc, suffix)?, row);
+    Ok(())
+}
+
+fn expect_prefixes(rt: &impl Abort, alloc: Global, row: &Row) -> Result<(), Fail> {
+    let (text, ..) = *row;
+    expect_prefix(rt, alloc, &text, row)?;
+    let owned = String::from_str(alloc, text)?;
+    expect_prefix(rt, alloc, &owned, row)?;
+    assert!(rt; owned.as_str() == text, "the caller's text {text:?}");
+    Ok(())
+}
+
+fn expect_suffixes(rt: &impl Abort, alloc: Global, row: &Row) -> Result<(), Fail> {
+    let (text, ..) = *row;
+    expect_suffix(rt, alloc, &text, row)?;
+    let owned = String::from_str(alloc, text)?;
+    expect_suffix(rt, alloc, &owned, row)?;
+    assert!(rt; owned.as_str() == text, "the caller's text {text:?}");
     Ok(())
 }
 
 #[test]
 fn prefixes_are_taken_off(rt: HostRuntime) -> Result<(), Fail> {
-    for row in PREFIXES {
-        let (text, ..) = row;
-        expect_prefix(&rt, rt.alloc(), &text, row)?;
-        let owned = String::from_str(rt.alloc(), text)?;
-        expect_prefix(&rt, rt.alloc(), &owned, row)?;
-        assert_eq!(rt; owned.as_str(), text, "the caller's text");
+    for row in &PREFIXES {
+        expect_prefixes(&rt, rt.alloc(), row)?;
     }
     Ok(())
 }
 
 #[test]
 fn suffixes_are_taken_off(rt: HostRuntime) -> Result<(), Fail> {
-    for row in SUFFIXES {
-        let (text, ..) = row;
-        expect_suffix(&rt, rt.alloc(), &text, row)?;
-        let owned = String::from_str(rt.alloc(), text)?;
-        expect_suffix(&rt, rt.alloc(), &owned, row)?;
-        assert_eq!(rt; owned.as_str(), text, "the caller's text");
+    for row in &SUFFIXES {
+        expect_suffixes(&rt, rt.alloc(), row)?;
     }
     Ok(())
 }

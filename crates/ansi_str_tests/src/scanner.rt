@@ -1,12 +1,12 @@
 //! What a scanner gives for worked texts.
 use ansi_str::ansitok::Kind::{Lone, Other, Sgr, Text};
 use ansi_str::ansitok::{Item, Kind, Scanner};
-use std::test::Fail;
+use std::process::Abort;
 
 /// A text, and the kinds and ends of its items.
 type Row = (&'static str, &'static [(Kind, usize)]);
 
-const ROWS: [Row; 6] = [
+static ROWS: [Row; 6] = [
     // All four kinds in one text.
     (
         "a\x1b[31mb\x1b(B\x1b\x1b[1 m\x1b",
@@ -29,22 +29,27 @@ const ROWS: [Row; 6] = [
     ("", &[]),
 ];
 
-#[test]
-fn items_come_in_order(rt: HostRuntime) -> Result<(), Fail> {
-    for (text, want) in ROWS {
-        let mut scanner = Scanner::new(text);
-        let mut start = 0;
-        for (kind, end) in want {
-            let item = Item {
-                kind: *kind,
-                start,
-                end: *end,
-            };
-            assert_eq!(rt; scanner.next(), Some(item), "in {text:?}");
-            start = *end;
-        }
-        assert_eq!(rt; scanner.next(), None, "after {text:?}");
-        assert_eq!(rt; scanner.next(), None, "once more after {text:?}");
+fn expect_items(rt: &impl Abort, row: &Row) {
+    let (text, want) = *row;
+    let mut scanner = Scanner::new(text);
+    let mut start = 0;
+    for (kind, end) in want {
+        let item = Item {
+            kind: *kind,
+            start,
+            end: *end,
+        };
+        let got = scanner.next();
+        assert!(rt; got == Some(item), "the item at {start} in {text:?}");
+        start = *end;
     }
-    Ok(())
+    assert!(rt; scanner.next().is_none(), "after {text:?}");
+    assert!(rt; scanner.next().is_none(), "once more after {text:?}");
+}
+
+#[test]
+fn items_come_in_order(rt: HostRuntime) {
+    for row in &ROWS {
+        expect_items(&rt, row);
+    }
 }

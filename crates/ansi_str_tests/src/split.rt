@@ -11,7 +11,7 @@ use std::test::Fail;
 /// A text, a pattern, and its parts with whether each is a borrow.
 type Row = (&'static str, &'static str, &'static [(&'static str, bool)]);
 
-const ROWS: [Row; 21] = [
+static ROWS: [Row; 21] = [
     // Texts without ESC.
     ("", "X", &[("", true)]),
     ("", "", &[("", true), ("", true)]),
@@ -165,17 +165,16 @@ const ROWS: [Row; 21] = [
 fn expect_part<A: Allocator>(rt: &impl Abort, got: &CowStr<'_, A>, want: &(&str, bool), row: &Row) {
     let (text, pat, _) = row;
     let (part, is_borrow) = want;
-    assert_eq!(rt; got.as_str(), *part, "part of {text:?} by {pat:?}");
+    assert!(rt; got.as_str() == *part, "part of {text:?} by {pat:?}");
     let got_borrow = matches!(got, CowStr::Borrowed(_));
-    assert_eq!(rt;
-        got_borrow,
-        *is_borrow,
+    assert!(rt;
+        got_borrow == *is_borrow,
         "borrow of a part of {text:?} by {pat:?}"
     );
 }
 
 /// The iterator has nothing left, and stays so.
-fn expect_ended<A: Allocator + Copy>(rt: &impl Abort, parts: &mut AnsiSplit<'_, A>) {
+pub fn expect_ended<A: Allocator + Copy>(rt: &impl Abort, parts: &mut AnsiSplit<'_, A>) {
     for _ in 0..3 {
         assert!(rt; parts.next().is_none(), "None for good");
     }
@@ -199,32 +198,58 @@ fn expect_split<T: AnsiStr>(
     Ok(())
 }
 
+fn expect_row(rt: &impl Abort, alloc: Global, row: &Row) -> Result<(), Fail> {
+    let (text, ..) = *row;
+    expect_split(rt, alloc, &text, row)?;
+    let owned = String::from_str(alloc, text)?;
+    expect_split(rt, alloc, &owned, row)?;
+    assert!(rt; owned.as_str() == text, "the caller's text {text:?}");
+    Ok(())
+}
+
 #[test]
 fn parts_are_given(rt: HostRuntime) -> Result<(), Fail> {
     for row in &ROWS {
-        let (text, ..) = row;
-        expect_split(&rt, rt.alloc(), text, row)?;
-        let owned = String::from_str(rt.alloc(), text)?;
-        expect_split(&rt, rt.alloc(), &owned, row)?;
-        assert_eq!(rt; owned.as_str(), *text, "the caller's text");
+        expect_row(&rt, rt.alloc(), row)?;
     }
     Ok(())
+}
+
+fn expect_part_at(
+    rt: &impl Abort,
+    alloc: Global,
+    row: &Row,
+    index: usize,
+    want: &(&str, bool),
+) -> Result<(), Fail> {
+    let (text, pat, _) = *row;
+    match part_in(alloc, text, pat, index)? {
+        Some(got) => expect_part(rt, &got, want, row),
+        None => assert!(rt; false, "part {index} of {text:?} by {pat:?}"),
+    }
+    Ok(())
+}
+
+fn expect_no_part_at(rt: &impl Abort, alloc: Global, row: &Row, index: usize) -> Result<(), Fail> {
+    let (text, pat, _) = *row;
+    let got = part_in(alloc, text, pat, index)?;
+    assert!(rt; got.is_none(), "part {index} of {text:?} by {pat:?}");
+    Ok(())
+}
+
+fn expect_parts_by_index(rt: &impl Abort, alloc: Global, row: &Row) -> Result<(), Fail> {
+    let (_, _, want) = *row;
+    for (index, part) in want.iter().enumerate() {
+        expect_part_at(rt, alloc, row, index, part)?;
+    }
+    expect_no_part_at(rt, alloc, row, want.len())?;
+    expect_no_part_at(rt, alloc, row, usize::MAX)
 }
 
 #[test]
 fn parts_are_given_by_index(rt: HostRuntime) -> Result<(), Fail> {
     for row in &ROWS {
-        let (text, pat, want) = row;
-        for (index, part) in want.iter().enumerate() {
-            match part_in(rt.alloc(), text, pat, index)? {
-                Some(got) => expect_part(&rt, &got, part, row),
-                None => assert!(rt; false, "part {index} of {text:?} by {pat:?}"),
-            }
-        }
-        for index in [want.len(), usize::MAX] {
-            let got = part_in(rt.alloc(), text, pat, index)?;
-            assert!(rt; got.is_none(), "part {index} of {text:?} by {pat:?}");
-        }
+        expect_parts_by_index(&rt, rt.alloc(), row)?;
     }
     Ok(())
 }
@@ -244,6 +269,15 @@ fn escapes_alone_are_one_part(rt: HostRuntime) -> Result<(), Fail> {
     Ok(())
 }
 
+/// The part of this index of a text of `a` and a comma, 10,000 times over, with a bold start.
+fn want_of_many(index: usize) -> &'static str {
+    match index {
+        0 => "\x1b[1ma\x1b[4m\x1b[22m\x1b[24m",
+        10_000 => "",
+        _ => "\x1b[1m\x1b[4ma\x1b[4m\x1b[22m\x1b[24m",
+    }
+}
+
 #[test]
 fn many_parts_are_given(rt: HostRuntime) -> Result<(), Fail> {
     let mut text = String::from_str(rt.alloc(), "\x1b[1m")?;
@@ -252,41 +286,46 @@ fn many_parts_are_given(rt: HostRuntime) -> Result<(), Fail> {
     }
     let mut count = 0usize;
     for part in text.ansi_split(rt.alloc(), ",") {
-        let part = part?;
-        let want = match count {
-            0 => "\x1b[1ma\x1b[4m\x1b[22m\x1b[24m",
-            10_000 => "",
-            _ => "\x1b[1m\x1b[4ma\x1b[4m\x1b[22m\x1b[24m",
-        };
-        assert_eq!(rt; part.as_str(), want, "part {count}");
+        let is_right = part?.as_str() == want_of_many(count);
+        assert!(rt; is_right, "part {count}");
         count = count.saturating_add(1);
     }
-    assert_eq!(rt; count, 10_001, "parts");
+    assert!(rt; count == 10_001, "how many parts");
+    Ok(())
+}
+
+/// Patterns, and how many parts a text of `a` and a comma, 50,000 times over, has by each.
+static LONG_RUN_ROWS: [(&str, usize); 3] = [(",", 50_001), ("", 100_002), ("b", 1)];
+
+/// All parts of a text are borrows, and they are so many.
+fn expect_borrows(
+    rt: &impl Abort,
+    alloc: Global,
+    text: &str,
+    pat: &str,
+    want: usize,
+) -> Result<(), Fail> {
+    let mut count = 0usize;
+    for part in text.ansi_split(alloc, pat) {
+        let is_borrow = matches!(&part?, CowStr::Borrowed(_));
+        assert!(rt; is_borrow, "part {count} by {pat:?}");
+        count = count.saturating_add(1);
+    }
+    assert!(rt; count == want, "how many parts by {pat:?}");
     Ok(())
 }
 
 #[test]
 fn a_long_run_is_split(rt: HostRuntime) -> Result<(), Fail> {
-    let mut text = String::new(rt.alloc());
-    for _ in 0..50_000 {
-        text.push_str("a,")?;
-    }
-    for (pat, want) in [(",", 50_001usize), ("", 100_002), ("b", 1)] {
-        let mut count = 0usize;
-        for part in text.ansi_split(rt.alloc(), pat) {
-            assert!(rt;
-                matches!(&part?, CowStr::Borrowed(_)),
-                "part {count} by {pat:?}"
-            );
-            count = count.saturating_add(1);
-        }
-        assert_eq!(rt; count, want, "parts by {pat:?}");
+    let text = "a,".repeat(rt.alloc(), 50_000)?;
+    for (pat, want) in &LONG_RUN_ROWS {
+        expect_borrows(&rt, rt.alloc(), text.as_str(), pat, *want)?;
     }
     Ok(())
 }
 
-/// Whether the split of a row answers an `Err`, after which there is nothing. The parts before have
-/// to be the row's.
+/// Whether the split of the row of this number answers an `Err`, after which there is nothing. The
+/// parts before have to be the row's.
 fn split_is_err(rt: &impl Abort, heap: &Refusing<Global>, text: &str, number: usize) -> bool {
     let Some(row) = ROWS.get(number) else {
         return false;
@@ -307,20 +346,32 @@ fn split_is_err(rt: &impl Abort, heap: &Refusing<Global>, text: &str, number: us
     false
 }
 
+fn expect_split_refusals(
+    rt: &impl Abort,
+    alloc: Global,
+    row: &Row,
+    number: usize,
+) -> Result<(), Fail> {
+    let (text, _, want) = *row;
+    let takes_memory = want.iter().any(|(_, is_borrow)| !is_borrow);
+    let owned = String::from_str(alloc, text)?;
+    expect_each_refusal(rt, alloc, text, takes_memory, |heap| {
+        split_is_err(rt, heap, owned.as_str(), number)
+    });
+    assert!(rt; owned.as_str() == text, "the caller's text {text:?}");
+    Ok(())
+}
+
 #[test]
 fn split_meets_each_refusal(rt: HostRuntime) -> Result<(), Fail> {
-    for (number, (text, _, want)) in ROWS.iter().enumerate() {
-        let takes_memory = want.iter().any(|(_, is_borrow)| !is_borrow);
-        let owned = String::from_str(rt.alloc(), text)?;
-        expect_each_refusal(&rt, rt.alloc(), takes_memory, |heap| {
-            split_is_err(&rt, heap, owned.as_str(), number)
-        });
-        assert_eq!(rt; owned.as_str(), *text, "the caller's text");
+    for (number, row) in ROWS.iter().enumerate() {
+        expect_split_refusals(&rt, rt.alloc(), row, number)?;
     }
     Ok(())
 }
 
-/// Whether the part of an index of a row is an `Err`; where it isn't, it has to be the row's.
+/// Whether the part of an index of the row of this number is an `Err`; where it isn't, it has to be
+/// the row's.
 fn part_is_err(rt: &impl Abort, heap: &Refusing<Global>, number: usize, index: usize) -> bool {
     let Some(row) = ROWS.get(number) else {
         return false;
@@ -340,15 +391,19 @@ fn part_is_err(rt: &impl Abort, heap: &Refusing<Global>, number: usize, index: u
     }
 }
 
-#[test]
-fn part_meets_each_refusal(rt: HostRuntime) -> Result<(), Fail> {
-    for (number, (_, _, want)) in ROWS.iter().enumerate() {
-        for index in 0..=want.len() {
-            let takes_memory = want.get(index).is_some_and(|(_, is_borrow)| !is_borrow);
-            expect_each_refusal(&rt, rt.alloc(), takes_memory, |heap| {
-                part_is_err(&rt, heap, number, index)
-            });
-        }
+fn expect_part_refusals(rt: &impl Abort, alloc: Global, row: &Row, number: usize) {
+    let (text, _, want) = *row;
+    for index in 0..=want.len() {
+        let takes_memory = want.get(index).is_some_and(|(_, is_borrow)| !is_borrow);
+        expect_each_refusal(rt, alloc, text, takes_memory, |heap| {
+            part_is_err(rt, heap, number, index)
+        });
     }
-    Ok(())
+}
+
+#[test]
+fn part_meets_each_refusal(rt: HostRuntime) {
+    for (number, row) in ROWS.iter().enumerate() {
+        expect_part_refusals(&rt, rt.alloc(), row, number);
+    }
 }

@@ -12,7 +12,7 @@ use std::test::Fail;
 /// A text, a position, the two sides there, and whether both are borrows.
 type Row = (&'static str, usize, &'static str, &'static str, bool);
 
-const ROWS: [Row; 16] = [
+static ROWS: [Row; 16] = [
     // Texts without ESC.
     ("ab", 1, "a", "b", true),
     ("ab", 9, "ab", "", true),
@@ -89,29 +89,34 @@ fn expect_sides<T: AnsiStr>(
     rt: &impl Abort,
     alloc: Global,
     text: &T,
-    row: Row,
+    row: &Row,
 ) -> Result<(), Fail> {
-    let (name, mid, left, right, is_borrow) = row;
+    let (name, mid, left, right, is_borrow) = *row;
     assert!(rt; is_good(alloc, text, mid), "{mid} is good in {name:?}");
     let (got_left, got_right) = text.ansi_split_at(alloc, mid)?;
-    assert_eq!(rt; got_left.as_str(), left, "left of {mid} in {name:?}");
-    assert_eq!(rt; got_right.as_str(), right, "right of {mid} in {name:?}");
+    assert!(rt; got_left.as_str() == left, "left of {mid} in {name:?}");
+    assert!(rt; got_right.as_str() == right, "right of {mid} in {name:?}");
     let borrows = (
         matches!(&got_left, CowStr::Borrowed(_)),
         matches!(&got_right, CowStr::Borrowed(_)),
     );
-    assert_eq!(rt; borrows, (is_borrow, is_borrow), "borrows of {name:?}");
+    assert!(rt; borrows == (is_borrow, is_borrow), "borrows of {name:?}");
+    Ok(())
+}
+
+fn expect_row(rt: &impl Abort, alloc: Global, row: &Row) -> Result<(), Fail> {
+    let (text, ..) = *row;
+    expect_sides(rt, alloc, &text, row)?;
+    let owned = String::from_str(alloc, text)?;
+    expect_sides(rt, alloc, &owned, row)?;
+    assert!(rt; owned.as_str() == text, "the caller's text {text:?}");
     Ok(())
 }
 
 #[test]
 fn sides_are_given(rt: HostRuntime) -> Result<(), Fail> {
-    for row in ROWS {
-        let (text, ..) = row;
-        expect_sides(&rt, rt.alloc(), &text, row)?;
-        let owned = String::from_str(rt.alloc(), text)?;
-        expect_sides(&rt, rt.alloc(), &owned, row)?;
-        assert_eq!(rt; owned.as_str(), text, "the caller's text");
+    for row in &ROWS {
+        expect_row(&rt, rt.alloc(), row)?;
     }
     Ok(())
 }

@@ -8,7 +8,7 @@ use std::test::Fail;
 /// A text, its plain text, and whether that is a borrow.
 type Row = (&'static str, &'static str, bool);
 
-const ROWS: [Row; 13] = [
+static ROWS: [Row; 13] = [
     // Texts without ESC.
     ("abc", "abc", true),
     ("", "", true),
@@ -27,42 +27,34 @@ const ROWS: [Row; 13] = [
     ("\x1b[1\x7fm", "[1\x7fm", false),
 ];
 
-fn expect_plain(
-    rt: &impl Abort,
-    got: CowStr<'_, Global>,
-    plain: &str,
-    is_borrow: bool,
-    text: &str,
-) {
-    assert_eq!(rt; got.as_str(), plain, "plain text of {text:?}");
-    let got_borrow = matches!(&got, CowStr::Borrowed(_));
-    assert_eq!(rt; got_borrow, is_borrow, "borrow of {text:?}");
-}
-
-fn expect_row(
+fn expect_plain<T: AnsiStr>(
     rt: &impl Abort,
     alloc: Global,
-    text: &str,
-    plain: &str,
-    is_borrow: bool,
+    text: &T,
+    row: &Row,
 ) -> Result<(), Fail> {
-    expect_plain(rt, text.ansi_strip(alloc)?, plain, is_borrow, text);
-    assert_eq!(rt; text.ansi_has_any(), !is_borrow, "ESC in {text:?}");
+    let (name, plain, is_borrow) = *row;
+    let got = text.ansi_strip(alloc)?;
+    assert!(rt; got.as_str() == plain, "plain text of {name:?}");
+    let got_borrow = matches!(&got, CowStr::Borrowed(_));
+    assert!(rt; got_borrow == is_borrow, "borrow of {name:?}");
+    assert!(rt; text.ansi_has_any() != is_borrow, "ESC in {name:?}");
+    Ok(())
+}
+
+fn expect_row(rt: &impl Abort, alloc: Global, row: &Row) -> Result<(), Fail> {
+    let (text, ..) = *row;
+    expect_plain(rt, alloc, &text, row)?;
     let owned = String::from_str(alloc, text)?;
-    expect_plain(rt, owned.ansi_strip(alloc)?, plain, is_borrow, text);
-    assert_eq!(rt;
-        owned.ansi_has_any(),
-        !is_borrow,
-        "ESC in the String {text:?}"
-    );
-    assert_eq!(rt; owned.as_str(), text, "the caller's text");
+    expect_plain(rt, alloc, &owned, row)?;
+    assert!(rt; owned.as_str() == text, "the caller's text {text:?}");
     Ok(())
 }
 
 #[test]
 fn plain_texts_are_given(rt: HostRuntime) -> Result<(), Fail> {
-    for (text, plain, is_borrow) in ROWS {
-        expect_row(&rt, rt.alloc(), text, plain, is_borrow)?;
+    for row in &ROWS {
+        expect_row(&rt, rt.alloc(), row)?;
     }
     Ok(())
 }
@@ -70,29 +62,35 @@ fn plain_texts_are_given(rt: HostRuntime) -> Result<(), Fail> {
 /// A front, a text that stands after it so often, and the plain text of both together.
 type LongRow = (&'static str, &'static str, usize, &'static str);
 
-const LONG_ROWS: [LongRow; 3] = [
+static LONG_ROWS: [LongRow; 3] = [
     ("", "\x1b", 1_000, ""),
     ("\x1b[", "1;", 100_000, "["),
     ("\x1b]0;", "a", 100_000, "]0;"),
 ];
 
+fn expect_long_row(rt: &impl Abort, alloc: Global, row: &LongRow) -> Result<(), Fail> {
+    let (front, repeated, count, plain_front) = *row;
+    let mut text = String::from_str(alloc, front)?;
+    let mut plain = String::from_str(alloc, plain_front)?;
+    for _ in 0..count {
+        text.push_str(repeated)?;
+        if repeated != "\x1b" {
+            plain.push_str(repeated)?;
+        }
+    }
+    let got = text.ansi_strip(alloc)?;
+    assert!(rt; got.len() == plain.len(), "length after {front:?}");
+    assert!(rt;
+        got.as_str() == plain.as_str(),
+        "plain text after {front:?}"
+    );
+    Ok(())
+}
+
 #[test]
 fn long_unfinished_sequences_are_text(rt: HostRuntime) -> Result<(), Fail> {
-    for (front, piece, count, plain_front) in LONG_ROWS {
-        let mut text = String::from_str(rt.alloc(), front)?;
-        let mut plain = String::from_str(rt.alloc(), plain_front)?;
-        for _ in 0..count {
-            text.push_str(piece)?;
-            if piece != "\x1b" {
-                plain.push_str(piece)?;
-            }
-        }
-        let got = text.ansi_strip(rt.alloc())?;
-        assert_eq!(rt; got.len(), plain.len(), "length after {front:?}");
-        assert!(rt;
-            got.as_str() == plain.as_str(),
-            "plain text after {front:?}"
-        );
+    for row in &LONG_ROWS {
+        expect_long_row(&rt, rt.alloc(), row)?;
     }
     Ok(())
 }

@@ -8,7 +8,7 @@ use std::test::Fail;
 /// A text, the answer, and whether that is a borrow.
 type Row = (&'static str, &'static str, bool);
 
-const ROWS: [Row; 7] = [
+static ROWS: [Row; 7] = [
     // Texts without ESC.
     ("\u{85}a\u{3000}", "a", true),
     (" \t\n", "", true),
@@ -32,24 +32,29 @@ fn expect_trimmed<T: AnsiStr>(
     rt: &impl Abort,
     alloc: Global,
     text: &T,
-    row: Row,
+    row: &Row,
 ) -> Result<(), Fail> {
-    let (name, want, is_borrow) = row;
+    let (name, want, is_borrow) = *row;
     let got = text.ansi_trim(alloc)?;
-    assert_eq!(rt; got.as_str(), want, "trim of {name:?}");
+    assert!(rt; got.as_str() == want, "trim of {name:?}");
     let got_borrow = matches!(&got, CowStr::Borrowed(_));
-    assert_eq!(rt; got_borrow, is_borrow, "borrow of {name:?}");
+    assert!(rt; got_borrow == is_borrow, "borrow of {name:?}");
+    Ok(())
+}
+
+fn expect_row(rt: &impl Abort, alloc: Global, row: &Row) -> Result<(), Fail> {
+    let (text, ..) = *row;
+    expect_trimmed(rt, alloc, &text, row)?;
+    let owned = String::from_str(alloc, text)?;
+    expect_trimmed(rt, alloc, &owned, row)?;
+    assert!(rt; owned.as_str() == text, "the caller's text {text:?}");
     Ok(())
 }
 
 #[test]
 fn white_space_is_taken_off(rt: HostRuntime) -> Result<(), Fail> {
-    for row in ROWS {
-        let (text, ..) = row;
-        expect_trimmed(&rt, rt.alloc(), &text, row)?;
-        let owned = String::from_str(rt.alloc(), text)?;
-        expect_trimmed(&rt, rt.alloc(), &owned, row)?;
-        assert_eq!(rt; owned.as_str(), text, "the caller's text");
+    for row in &ROWS {
+        expect_row(&rt, rt.alloc(), row)?;
     }
     Ok(())
 }

@@ -1,12 +1,13 @@
 -- The steps of the table, one field after another.
-use Rattle.std.proofs.Common.{◌≡◌, ℕ, zero, suc, ◌≤◌, List, [], ◌∷◌, length, refl, sym, ◌∙◌, ap, arith}
-use Rattle.std.specs.Prelude.{Option, Some}
+use Rattle.std.proofs.Common.{◌≡◌, ℕ, zero, suc, ◌<◌, ◌≤◌, List, [], ◌∷◌, length, refl, sym, ◌∙◌, ap, ap₂, arith}
+use Rattle.std.specs.Prelude.{Option, Some, None}
 use Rattle.std.specs.Option.{option_map_or}
 use Rattle.std.proofs.lemmas.Bool.{cond_both}
 use Rattle.ansi_items.specs.declared.ansitok.AnsiColor.{AnsiColor}
 use Rattle.ansi_style.specs.Rendition.{Rendition}
 use Rattle.ansi_items.specs.Sequences.{sgr_parameters}
-use Rattle.ansi_style.specs.Sgr.{Effect, Changes, ReadsColor, is_code, color_by_parts, color_by_number, read_color, effect_of, perform, step, steps, fields_of, apply_parameters, apply}
+use Rattle.ansi_style.specs.Sgr.{Effect, Changes, ReadsColor, unknown_code, effect_of_code, code_of, is_code, color_by_parts, color_by_number, read_color, effect_of, perform, step, steps, fields_of, apply_parameters, apply}
+use Rattle.ansi_style.specs.Fields.{first_field}
 
 -- no more than n fields are left
 abbrev LeavesUpTo : ℕ → Option AnsiColor × List (List ℕ) → Type 0
@@ -62,6 +63,22 @@ pub after_fields-step : (s : Rendition) (field : List ℕ) (fields : List (List 
 after_fields-step s field fields =
     let next = step s (field ∷ fields) in
     steps-enough (length fields) (length next.1) next.0 next.1 (step-left s field fields) (omega arith)
+
+-- a field that is read as a code is the first, and the style after all fields is that after those that it leaves, which are fewer
+pub after_fields-code : (s p : Rendition) (fields rest left : List (List ℕ)) (code : Option ℕ) → (Some code, rest) ≡ first_field code_of fields
+    → (p, left) ≡ perform (option_map_or effect_of_code code unknown_code) s rest → (after_fields p left ≡ after_fields s fields) × (length left < length fields)
+after_fields-code s p [] rest left code first done = absurd (let none = ap (λ x. x.0) first in cc)
+after_fields-code s p (field ∷ fields) rest left code first done =
+    let is : code ≡ code_of field = (let same = ap (λ x. x.0) first in cc) in
+    let next : (p, left) ≡ step s (field ∷ fields)
+    = done ∙ ap₂ (λ o fs. perform (option_map_or effect_of_code o unknown_code) s fs) is (ap (λ x. x.1) first) in
+    let fewer = step-left s field fields in
+    (ap (λ x. after_fields x.0 x.1) next ∙ sym (after_fields-step s field fields), omega (arith, ap (λ x. length x.1) next))
+
+-- after the last field there is none
+pub first_field-none : {A : Type 0} (read : List ℕ → A) (fields rest : List (List ℕ)) → (None, rest) ≡ first_field read fields → fields ≡ []
+first_field-none read [] rest first = refl
+first_field-none read (field ∷ fields) rest first = absurd (let some = ap (λ x. x.0) first in cc)
 
 -- an SGR does what its fields do
 pub apply-parameters : (s : Rendition) (w parameters : List ℕ) → sgr_parameters w ≡ Some parameters → apply s w ≡ after_fields s (fields_of parameters)

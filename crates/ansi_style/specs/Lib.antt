@@ -4,6 +4,7 @@ pub use Rattle.ansi_items.specs.Pieces
 pub use Rattle.ansi_items.specs.Plain
 pub use Rattle.ansi_items.specs.Counts
 pub use Rattle.ansi_items.specs.Scans
+pub use Rattle.ansi_items.specs.AnsiColors
 pub mod Rendition
 pub mod Sgr
 pub mod Written
@@ -11,3 +12,5 @@ pub mod Colors
 pub mod Styled
 pub mod Reading
 pub mod States
+pub mod Fields
+pub mod Orders

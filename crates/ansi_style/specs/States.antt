@@ -1,5 +1,5 @@
 -- A style as the code holds it, seen as a rendition.
-use Rattle.std.specs.Prelude.{ℕ, Bool, ◌==◌, ◌^◌}
+use Rattle.std.specs.Prelude.{ℕ, Bool, not, ◌==◌, ◌^◌}
 use Rattle.std.specs.Int.RustNames.{bit_and}
 use Rattle.ansi_style.specs.Rendition.{Rendition, plain_style}
 use Rattle.ansi_style.specs.declared.state.Style.{Style}
@@ -7,6 +7,10 @@ use Rattle.ansi_style.specs.declared.state.Style.{Style}
 -- a set of attributes has the one at this place: its bit there is 1
 abbrev pub has : ℕ → ℕ → Bool
 has set place = bit_and set (2 ^ place) == 2 ^ place
+
+-- a set has one of the attributes of the other
+abbrev pub has_one : ℕ → ℕ → Bool
+has_one set attributes = not (bit_and set attributes == 0)
 
 -- a rendition with each attribute that `is_set` tells by its place
 abbrev pub with_attributes : (ℕ → Bool) → Rendition → Rendition

@@ -12,7 +12,7 @@ ghost use Rattle.std.specs.Int.{is_in_range};
 ghost use Rattle.ansi_style.specs.Rendition.{is_foreground, is_background, is_extended_color};
 
 use crate::state::attributes::Attributes;
-use crate::state::fields::{Fields, code, parameters};
+use crate::state::fields::{Fields, parameters};
 pub use crate::state::rendition::Rendition;
 use crate::state::written::Close;
 pub use crate::state::written::{AnsiSequenceEnd, AnsiSequenceStart};
@@ -43,10 +43,11 @@ pub struct Style {
 }
 
 impl Style {
-    ghost use Rattle.std.specs.Prelude.{◌≡◌, ◌∷◌, ◌++◌, ◌&&◌, ◌||◌, not, OnOk, string_bytes};
+    ghost use Rattle.std.specs.Prelude.{◌≡◌, ◌++◌, ◌&&◌, ◌||◌, not, OnOk, string_bytes};
     ghost use Rattle.ansi_items.specs.Sequences.{is_sgr};
-    ghost use Rattle.ansi_style.specs.Rendition.{plain_style, has_any};
-    ghost use Rattle.ansi_style.specs.Sgr.{step, apply};
+    ghost use Rattle.ansi_style.specs.Rendition.{plain_style, has_known, has_any};
+    ghost use Rattle.std.specs.Option.{option_map_or};
+    ghost use Rattle.ansi_style.specs.Sgr.{effect_of_code, unknown_code, perform, apply};
     ghost use Rattle.ansi_style.specs.Written.{start, close};
     ghost use Rattle.ansi_style.specs.States.{has, rendition_of, with_attributes};
 
@@ -70,18 +71,20 @@ impl Style {
         ensures { rendition_of self.new ≡ apply (rendition_of self.old) sequence.now }
     {
         let mut fields = Fields::new(parameters(sequence));
-        while let Some(field) = fields.next() {
-            self.step(field, &mut fields);
+        while let Some(code) = fields.next_code() {
+            self.step(code, &mut fields);
         }
     }
 
-    /// Does what a field asks for as a code. A code that reads a color takes fields off those left.
+    /// Does what a field asks for, as the code that it is, if it is one. A code that reads a color takes
+    /// fields off those left.
     #[tactic(auto, unfolding(crate::specs::States::rendition_of))]
-    fn step(&mut self, field: &str, left: &mut Fields<'_>)
-        ensures { (rendition_of self.new, left.new) ≡ step (rendition_of self.old) (field.now ∷ left.old) }
+    fn step(&mut self, code: Option<u8>, rest: &mut Fields<'_>)
+        ensures { (rendition_of self.new, rest.new)
+            ≡ perform (option_map_or effect_of_code code unknown_code) (rendition_of self.old) rest.old }
     {
-        match code(field) {
-            Some(code) => self.perform(code, left),
+        match code {
+            Some(code) => self.perform(code, rest),
             None => self.set(Attributes::UNKNOWN),
         }
     }
@@ -147,13 +150,27 @@ impl Style {
         }
     }
 
+    /// Whether a color, the font or an attribute other than `reset` and `unknown` is set.
+    #[tactic(auto, unfolding(crate::specs::States::rendition_of))]
+    fn has_known(&self) -> bool
+        ensures { result ≡ has_known (rendition_of self.now) }
+    {
+        self.foreground.is_some()
+            | self.background.is_some()
+            | self.underline_color.is_some()
+            | self.font.is_some()
+            | self.attributes.intersects(Attributes::KNOWN)
+    }
+
     /// Whether the style has something to end: a known attribute, a color or a font is set, or `reset`
     /// and `unknown` both are.
     #[tactic(auto, unfolding(crate::specs::States::rendition_of))]
     pub(crate) fn has_any(&self) -> bool
         ensures { result ≡ has_any (rendition_of self.now) }
     {
-        self.rendition().has_any()
+        self.has_known()
+            || self.attributes.contains(Attributes::RESET)
+                && self.attributes.contains(Attributes::UNKNOWN)
     }
 
     /// The start of the style, to be printed: the sequences that set it. Takes no memory. (The Rust
@@ -185,6 +202,10 @@ impl Style {
     pub(crate) fn write_start<A: Allocator>(&self, out: &mut String<A>) -> Result<(), AllocError>
         ensures { OnOk result (string_bytes out.new ≡ string_bytes out.old ++ start (rendition_of self.now)) }
     {
+        // also before a formatter is made
+        if !self.has_known() {
+            return Ok(());
+        }
         write!(out, "{}", self.start())
     }
 
@@ -193,9 +214,10 @@ impl Style {
     pub(crate) fn write_close<A: Allocator>(&self, out: &mut String<A>) -> Result<(), AllocError>
         ensures { OnOk result (string_bytes out.new ≡ string_bytes out.old ++ close (rendition_of self.now)) }
     {
+        // also before a formatter is made
+        if !(self.has_known() | self.attributes.contains(Attributes::UNKNOWN)) {
+            return Ok(());
+        }
         write!(out, "{}", Close(self))
     }
 }
-
-#[cfg(test)]
-mod tests;

@@ -2,7 +2,7 @@
 //! its bytes that takes.
 //!
 //! An attempt at a sequence is given up at the first byte that can't belong to it, an ESC above
-//! all, so that no text is looked at more than a few times over.
+//! all, so that a text is looked at no more than four times for each of its bytes.
 use crate::ansitok::Kind;
 use memchr::{memchr, memchr2};
 use std::cmp::min;

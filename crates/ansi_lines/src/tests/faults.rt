@@ -197,11 +197,13 @@ fn count_calls(rt: &impl Abort, alloc: Global, run: &Run) -> Result<Calls, Alloc
         Page::with_room(alloc, 100)?,
     )?;
     expect(rt, &ran, run.status, run.output, run.faults, run.id);
-    let calls = MANY.saturating_sub(ran.output.outcomes_left());
-    Ok(Calls {
-        reads: MANY.saturating_sub(ran.input.outcomes_left()),
-        writes: calls.saturating_sub(1),
-    })
+    let reads = MANY.saturating_sub(ran.input.outcomes_left());
+    let writes = MANY
+        .saturating_sub(ran.output.outcomes_left())
+        .saturating_sub(1);
+    assert!(rt; 0 < reads, "{}: no reads", run.id);
+    assert!(rt; 0 < writes, "{}: no writes", run.id);
+    Ok(Calls { reads, writes })
 }
 
 // A run ends as the row says.
@@ -305,14 +307,14 @@ fn run_under(rt: &impl Abort, alloc: Global, row: &Row, run: &Run) -> Result<(),
 // Each of the row's runs, found by its name.
 fn run_row(rt: &impl Abort, alloc: Global, row: &Row) -> Result<(), AllocError> {
     for id in row.runs {
-        let mut found = 0;
+        let mut is_found = false;
         for run in &RUNS {
             if run.id == *id {
                 run_under(rt, alloc, row, run)?;
-                found += 1;
+                is_found = true;
             }
         }
-        assert!(rt; found == 1, "{}: {found} runs are named {id}", row.id);
+        assert!(rt; is_found, "{}: no run is named {id}", row.id);
     }
     Ok(())
 }

@@ -45,22 +45,22 @@ pub(super) fn stands_at(text: &str, pat: &[u8], place: usize) -> bool
     ensures { result ≡ starts_with nat_eq (drop place (plain text.now)) pat.now }
 {
     let mut before = place;
-    let mut left = pat;
+    let mut rest = pat;
     for item in Scanner::new(text) {
         if item.kind == Kind::Text {
             let piece = text[item.start..item.end].as_bytes();
             let run = &piece[before.min(piece.len())..];
-            if left.len() <= run.len() {
-                return run.starts_with(left);
+            if rest.len() <= run.len() {
+                return run.starts_with(rest);
             }
-            if !left.starts_with(run) {
+            if !rest.starts_with(run) {
                 return false;
             }
-            left = &left[run.len()..];
+            rest = &rest[run.len()..];
             before = before.saturating_sub(piece.len());
         }
     }
-    left.is_empty()
+    rest.is_empty()
 }
 
 /// How many bytes the plain text has.

@@ -1,9 +1,9 @@
 //! A pattern that is looked for in a plain text whose runs are read once, in order. (Knuth, Morris and
 //! Pratt, Fast Pattern Matching in Strings, 1977.)
-ghost use Rattle.std.specs.Prelude.{◌≡◌, ◌≢◌, ◌++◌, ◌+◌, ◌<◌, ◌≤◌, ℕ, List, length, drop, nat_eq, slice_index};
+ghost use Rattle.std.specs.Prelude.{◌≡◌, ◌≢◌, ◌++◌, ◌<◌, ◌≤◌, ℕ, List, length, drop, nat_eq, slice_index};
 ghost use Rattle.std.specs.List.{starts_with};
 ghost use Rattle.ansi_items.specs.Plain.{plain};
-ghost use Rattle.ansi_slice.specs.Searches.{IsBorder, AreBorders, IsNext, IsRead, Reads};
+ghost use Rattle.ansi_slice.specs.Searches.{AreBorders, IsNext, IsRead, Reads};
 
 use crate::search::ends::stands_at;
 use memchr::memchr;
@@ -16,7 +16,7 @@ use memchr::memchr;
 pub(super) struct Pattern<'p> {
     front: &'p [u8],
     tail: &'p [u8],
-    // after the first n bytes, at n - 1, the length of their longest border
+    // of the first n bytes, at n - 1, the length of their longest border
     borders: [u8; 256],
     ghost some: { 0 < length front.now },
     ghost most: { length front.now ≤ 256 },

@@ -15,14 +15,14 @@ fn split_after(text: &str, position: usize) -> (&str, &str)
     requires { IsTrue (is_good_position (plain text.now) position) }
     ensures { IsCutAfter text.now position result.0.now result.1.now }
 {
-    let mut left = position;
+    let mut remaining = position;
     for item in Scanner::new(text) {
         if item.kind == Kind::Text {
             let run = &text[item.start..item.end];
-            if left < run.len() {
-                return text.split_at(item.start + left);
+            if remaining < run.len() {
+                return text.split_at(item.start + remaining);
             }
-            left -= run.len();
+            remaining -= run.len();
         }
     }
     text.split_at(text.len())

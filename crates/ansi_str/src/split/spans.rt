@@ -96,11 +96,11 @@ impl<'t> Span<'t> {
 #[derive(Drop)]
 pub(super) struct Spans<'t, 'p> {
     /// What is left of the text: the match before and all after it.
-    left: Rest<'t>,
+    rest: Rest<'t>,
     pat: &'p str,
-    /// How many plain bytes of `left` are in no part: those of the match before.
+    /// How many plain bytes of `rest` are in no part: those of the match before.
     skip: usize,
-    /// The least place in `left` at which the next match may stand.
+    /// The least place in `rest` at which the next match may stand.
     from: usize,
     /// The style that the parts before leave open.
     carried: Style,
@@ -117,9 +117,9 @@ impl<'t, 'p> Model for Spans<'t, 'p> {
 
     ghost Value = { List SplitPart };
 
-    ghost view = { λ s. if s.finished then [] else parts_left (rendition_of s.carried) s.left.text.now s.pat.now s.skip s.from };
+    ghost view = { λ s. if s.finished then [] else parts_left (rendition_of s.carried) s.rest.text.now s.pat.now s.skip s.from };
 
-    ghost invariant = { λ s. IsTrue (is_char_boundary (plain s.left.text.now) s.skip) × (s.skip ≤ s.from) };
+    ghost invariant = { λ s. IsTrue (is_char_boundary (plain s.rest.text.now) s.skip) × (s.skip ≤ s.from) };
 }
 
 impl<'t, 'p> Spans<'t, 'p> {
@@ -132,7 +132,7 @@ impl<'t, 'p> Spans<'t, 'p> {
         ensures { result ≡ parts_left plain_style text.now pat.now 0 0 }
     {
         Spans {
-            left: Rest::new(text),
+            rest: Rest::new(text),
             pat,
             skip: 0,
             from: 0,
@@ -165,15 +165,15 @@ impl<'t, 'p> Iterator for Spans<'t, 'p> {
             return None;
         }
         let (skip, carried) = (self.skip, self.carried);
-        let Some((text, left)) = self.left.split_at_match(self.pat, self.from) else {
+        let Some((text, rest)) = self.rest.split_at_match(self.pat, self.from) else {
             self.finished = true;
             return Some(Span {
-                text: self.left.text(),
+                text: self.rest.text(),
                 skip,
                 carried,
             });
         };
-        self.left = left;
+        self.rest = rest;
         self.skip = self.pat.len();
         self.from = self.pat.len().max(1);
         apply_all(&mut self.carried, text);

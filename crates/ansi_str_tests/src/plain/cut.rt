@@ -69,9 +69,9 @@ fn close_after(alloc: Global, text: &str, items: &[Item]) -> Result<String, Allo
     style.close(alloc)
 }
 
-const STARTS: [usize; 6] = [0, 1, 2, 3, 4, usize::MAX];
+static STARTS: [usize; 6] = [0, 1, 2, 3, 4, usize::MAX];
 
-const ENDS: [Option<usize>; 7] = [
+static ENDS: [Option<usize>; 7] = [
     Some(0),
     Some(1),
     Some(2),
@@ -80,6 +80,34 @@ const ENDS: [Option<usize>; 7] = [
     Some(usize::MAX),
     None,
 ];
+
+/// Compares one range of a text, of which these items and this close are kept up to its end.
+fn expect_cut(
+    rt: &impl Abort,
+    alloc: Global,
+    text: &str,
+    kept: &[Item],
+    plain: &str,
+    close: &str,
+    range: (usize, Option<usize>),
+) -> Result<(), Fail> {
+    let (start, end) = range;
+    let last = end.unwrap_or(usize::MAX);
+    let any_range = match end {
+        Some(end) => AnyRange::Range(start, end),
+        None => AnyRange::RangeFrom(start),
+    };
+    let got = any_range.get(alloc, &text)?;
+    if is_good_range(plain, start, last) {
+        let mut want = kept_bytes(alloc, text, kept, start, last)?;
+        want.extend_from_slice(close.as_bytes())?;
+        let got = got.as_ref().map(|cut| cut.as_bytes());
+        assert!(rt; got == Some(want.as_slice()), "{any_range:?} of {text:?}");
+    } else {
+        assert!(rt; got.is_none(), "{any_range:?} of {text:?}");
+    }
+    Ok(())
+}
 
 /// Compares the ranges of a text that have this end.
 fn expect_cuts_to(
@@ -90,23 +118,18 @@ fn expect_cuts_to(
     plain: &str,
     end: Option<usize>,
 ) -> Result<(), Fail> {
-    let last = end.unwrap_or(usize::MAX);
-    let kept = kept_items(alloc, items, last)?;
+    let kept = kept_items(alloc, items, end.unwrap_or(usize::MAX))?;
     let close = close_after(alloc, text, kept.as_slice())?;
-    for start in STARTS {
-        let range = match end {
-            Some(end) => AnyRange::Range(start, end),
-            None => AnyRange::RangeFrom(start),
-        };
-        let got = range.get(alloc, &text)?;
-        if is_good_range(plain, start, last) {
-            let mut want = kept_bytes(alloc, text, kept.as_slice(), start, last)?;
-            want.extend_from_slice(close.as_bytes())?;
-            let got = got.as_ref().map(|cut| cut.as_bytes());
-            assert_eq!(rt; got, Some(want.as_slice()), "{range:?} of {text:?}");
-        } else {
-            assert!(rt; got.is_none(), "{range:?} of {text:?}");
-        }
+    for start in &STARTS {
+        expect_cut(
+            rt,
+            alloc,
+            text,
+            kept.as_slice(),
+            plain,
+            close.as_str(),
+            (*start, end),
+        )?;
     }
     Ok(())
 }
@@ -115,14 +138,14 @@ fn expect_cuts_to(
 fn expect_cuts(rt: &impl Abort, alloc: Global, text: &str) -> Result<(), Fail> {
     let items = items(alloc, text)?;
     let plain = plain(alloc, text, items.as_slice())?;
-    for end in ENDS {
-        expect_cuts_to(rt, alloc, text, items.as_slice(), plain.as_str(), end)?;
+    for end in &ENDS {
+        expect_cuts_to(rt, alloc, text, items.as_slice(), plain.as_str(), *end)?;
     }
     Ok(())
 }
 
 /// The pieces that the texts are made of.
-const PIECES: [&str; 21] = [
+static PIECES: [&str; 21] = [
     "\x1b[1m",
     "\x1b[22m",
     "\x1b[31m",
@@ -160,10 +183,16 @@ fn expect_cuts_of_pieces(
     Ok(())
 }
 
+/// How many pieces a short text has, and how many such texts there are.
+static SHORT_LENGTHS: [(usize, usize); 3] = [(0, 1), (1, 21), (2, 441)];
+
+/// The same of longer texts.
+static LONGER_LENGTHS: [(usize, usize); 2] = [(3, 9_261), (4, 194_481)];
+
 #[test]
 fn short_texts_are_cut_as_defined(rt: HostRuntime) -> Result<(), Fail> {
-    for (len, count) in [(0, 1), (1, 21), (2, 441)] {
-        expect_cuts_of_pieces(&rt, rt.alloc(), len, count)?;
+    for (len, count) in &SHORT_LENGTHS {
+        expect_cuts_of_pieces(&rt, rt.alloc(), *len, *count)?;
     }
     Ok(())
 }
@@ -171,8 +200,8 @@ fn short_texts_are_cut_as_defined(rt: HostRuntime) -> Result<(), Fail> {
 // Six seconds as `rt test` builds it, and more than the minute that `rt try` grants.
 #[test]
 fn longer_texts_are_cut_as_defined(rt: HostRuntime) -> Result<(), Fail> {
-    for (len, count) in [(3, 9_261), (4, 194_481)] {
-        expect_cuts_of_pieces(&rt, rt.alloc(), len, count)?;
+    for (len, count) in &LONGER_LENGTHS {
+        expect_cuts_of_pieces(&rt, rt.alloc(), *len, *count)?;
     }
     Ok(())
 }
@@ -183,25 +212,31 @@ fn expect_closed(rt: &impl Abort, alloc: Global, text: &str) -> Result<(), Fail>
     let close = close_after(alloc, text, items.as_slice())?;
     let got = AnyRange::RangeFull.get(alloc, &text)?;
     let got = got.as_ref().and_then(|cut| cut.as_str().strip_prefix(text));
-    assert_eq!(rt; got, Some(close.as_str()), "close of {text:?}");
+    assert!(rt; got == Some(close.as_str()), "close of {text:?}");
+    Ok(())
+}
+
+/// Compares the closes of a code alone, and before each other code.
+fn expect_code(rt: &impl Abort, alloc: Global, first: u8) -> Result<(), Fail> {
+    let text = format!(in alloc; "\x1b[{first}m")?;
+    expect_closed(rt, alloc, text.as_str())?;
+    for second in 0..=110 {
+        let text = format!(in alloc; "\x1b[{first};{second}m")?;
+        expect_closed(rt, alloc, text.as_str())?;
+    }
     Ok(())
 }
 
 #[test]
 fn codes_are_closed_as_defined(rt: HostRuntime) -> Result<(), Fail> {
     for first in 0..=110 {
-        let text = format!(in rt.alloc(); "\x1b[{first}m")?;
-        expect_closed(&rt, rt.alloc(), text.as_str())?;
-        for second in 0..=110 {
-            let text = format!(in rt.alloc(); "\x1b[{first};{second}m")?;
-            expect_closed(&rt, rt.alloc(), text.as_str())?;
-        }
+        expect_code(&rt, rt.alloc(), first)?;
     }
     Ok(())
 }
 
 /// Fields that are no code, though they resemble one.
-const ODD_FIELDS: [&str; 10] = [
+static ODD_FIELDS: [&str; 10] = [
     "",
     "00",
     "01",
@@ -214,14 +249,22 @@ const ODD_FIELDS: [&str; 10] = [
     "?1",
 ];
 
+/// Fields that stand before an odd one.
+static FRONTS: [&str; 7] = ["", "1;", "0;", "38;", "48;2;", "58;5;", "38;2;1;2;"];
+
+/// Compares the closes of an odd field after such fields, at the end and before others.
+fn expect_odd_field(rt: &impl Abort, alloc: Global, front: &str, field: &str) -> Result<(), Fail> {
+    let text = format!(in alloc; "\x1b[{front}{field};4;5;3m")?;
+    expect_closed(rt, alloc, text.as_str())?;
+    let text = format!(in alloc; "\x1b[{front}{field}m")?;
+    expect_closed(rt, alloc, text.as_str())
+}
+
 #[test]
 fn odd_fields_are_read_as_defined(rt: HostRuntime) -> Result<(), Fail> {
-    for field in ODD_FIELDS {
-        for front in ["", "1;", "0;", "38;", "48;2;", "58;5;", "38;2;1;2;"] {
-            let text = format!(in rt.alloc(); "\x1b[{front}{field};4;5;3m")?;
-            expect_closed(&rt, rt.alloc(), text.as_str())?;
-            let text = format!(in rt.alloc(); "\x1b[{front}{field}m")?;
-            expect_closed(&rt, rt.alloc(), text.as_str())?;
+    for field in &ODD_FIELDS {
+        for front in &FRONTS {
+            expect_odd_field(&rt, rt.alloc(), front, field)?;
         }
     }
     Ok(())

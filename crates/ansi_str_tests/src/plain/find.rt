@@ -18,19 +18,25 @@ fn first_place(plain: &str, pat: &str) -> Option<usize> {
 }
 
 /// The pieces that the texts are made of.
-const PIECES: [&str; 7] = ["a", "b", "é", "aab", "\x1b[1m", "\x1b]0;ab\x07", "\x1b"];
+static PIECES: [&str; 7] = ["a", "b", "é", "aab", "\x1b[1m", "\x1b]0;ab\x07", "\x1b"];
 
 /// What the patterns are made of, of at most three.
-const CHARACTERS: [&str; 5] = ["a", "b", "é", "[", "\x1b"];
+static CHARACTERS: [&str; 5] = ["a", "b", "é", "[", "\x1b"];
 
-const INDICES: [usize; 8] = [0, 1, 2, 3, 4, 5, 13, usize::MAX];
+/// How many pieces a text has, and how many such texts there are.
+static LENGTHS: [(usize, usize); 5] = [(0, 1), (1, 7), (2, 49), (3, 343), (4, 2_401)];
+
+/// The same of patterns and their characters.
+static PATTERN_LENGTHS: [(usize, usize); 4] = [(0, 1), (1, 5), (2, 25), (3, 125)];
+
+static INDICES: [usize; 8] = [0, 1, 2, 3, 4, 5, 13, usize::MAX];
 
 /// Compares the boundaries of a text.
 fn expect_boundaries(rt: &impl Abort, text: &str, plain: &str) {
-    for index in INDICES {
-        let got = text.ansi_is_char_boundary(index);
-        let want = plain.is_char_boundary(index);
-        assert_eq!(rt; got, want, "boundary {index} of {text:?}");
+    for index in &INDICES {
+        let got = text.ansi_is_char_boundary(*index);
+        let want = plain.is_char_boundary(*index);
+        assert!(rt; got == want, "boundary {index} of {text:?}");
     }
 }
 
@@ -47,7 +53,7 @@ fn expect_places(
         let pat = text_at(alloc, &CHARACTERS, number, len)?;
         let got = text.ansi_find(pat.as_str());
         let want = first_place(plain, pat.as_str());
-        assert_eq!(rt; got, want, "{pat:?} in {text:?}");
+        assert!(rt; got == want, "{pat:?} in {text:?}");
     }
     Ok(())
 }
@@ -57,17 +63,17 @@ fn expect_searches(rt: &impl Abort, alloc: Global, text: &str) -> Result<(), Fai
     let items = items(alloc, text)?;
     let plain = plain(alloc, text, items.as_slice())?;
     expect_boundaries(rt, text, plain.as_str());
-    for (len, count) in [(0, 1), (1, 5), (2, 25), (3, 125)] {
-        expect_places(rt, alloc, text, plain.as_str(), len, count)?;
+    for (len, count) in &PATTERN_LENGTHS {
+        expect_places(rt, alloc, text, plain.as_str(), *len, *count)?;
     }
     Ok(())
 }
 
 #[test]
 fn short_texts_are_searched_as_defined(rt: HostRuntime) -> Result<(), Fail> {
-    for (len, count) in [(0, 1), (1, 7), (2, 49), (3, 343), (4, 2_401)] {
-        for number in 0..count {
-            let text = text_at(rt.alloc(), &PIECES, number, len)?;
+    for (len, count) in &LENGTHS {
+        for number in 0..*count {
+            let text = text_at(rt.alloc(), &PIECES, number, *len)?;
             expect_searches(&rt, rt.alloc(), text.as_str())?;
         }
     }

@@ -33,12 +33,14 @@ fn expect_kept(
     };
     let want = kept_bytes(alloc, name, text.items, start, end)?;
     let bytes = got.as_ref().map(|kept| kept.as_bytes());
-    assert_eq!(rt; bytes, Some(want.as_slice()), "{name:?} without {takes:?}");
+    assert!(rt;
+        bytes == Some(want.as_slice()),
+        "{name:?} without {takes:?}"
+    );
     let is_borrow = takes.is_empty() || !name.as_bytes().contains(&ESC);
     let got_borrow = matches!(&got, Some(CowStr::Borrowed(_)));
-    assert_eq!(rt;
-        got_borrow,
-        is_borrow,
+    assert!(rt;
+        got_borrow == is_borrow,
         "borrow of {name:?} without {takes:?}"
     );
     Ok(())
@@ -49,12 +51,11 @@ fn expect_pattern(rt: &impl Abort, alloc: Global, text: &Text<'_>, pat: &str) ->
     let (name, plain) = (text.text, text.plain);
     let starts = plain.starts_with(pat);
     let ends = plain.ends_with(pat);
-    assert_eq!(rt;
-        name.ansi_starts_with(pat),
-        starts,
+    assert!(rt;
+        name.ansi_starts_with(pat) == starts,
         "{pat:?} begins {name:?}"
     );
-    assert_eq!(rt; name.ansi_ends_with(pat), ends, "{pat:?} ends {name:?}");
+    assert!(rt; name.ansi_ends_with(pat) == ends, "{pat:?} ends {name:?}");
     let prefix = if starts {
         Some((pat.len(), plain.len()))
     } else {
@@ -93,7 +94,7 @@ fn expect_trimmed(rt: &impl Abort, alloc: Global, text: &Text<'_>) -> Result<(),
 }
 
 /// The pieces that the texts are made of.
-const PIECES: [&str; 12] = [
+static PIECES: [&str; 12] = [
     "\x1b[1m",
     "\x1b]0;t\x07",
     "\x1b",
@@ -108,7 +109,10 @@ const PIECES: [&str; 12] = [
     "m",
 ];
 
-const PATTERNS: [&str; 12] = [
+/// How many pieces a text has, and how many such texts there are.
+static LENGTHS: [(usize, usize); 5] = [(0, 1), (1, 12), (2, 144), (3, 1_728), (4, 20_736)];
+
+static PATTERNS: [&str; 12] = [
     "", "a", "ab", "aab", "bab", "[m", " ", " a", "é", "\u{3000}", "\x1b", "\x1b[1m",
 ];
 
@@ -120,7 +124,7 @@ fn expect_text(rt: &impl Abort, alloc: Global, text: &str) -> Result<(), Fail> {
         items: items.as_slice(),
         plain: plain.as_str(),
     };
-    for pat in PATTERNS {
+    for pat in &PATTERNS {
         expect_pattern(rt, alloc, &text, pat)?;
     }
     expect_trimmed(rt, alloc, &text)
@@ -128,9 +132,9 @@ fn expect_text(rt: &impl Abort, alloc: Global, text: &str) -> Result<(), Fail> {
 
 #[test]
 fn short_texts_are_kept_as_defined(rt: HostRuntime) -> Result<(), Fail> {
-    for (len, count) in [(0, 1), (1, 12), (2, 144), (3, 1_728), (4, 20_736)] {
-        for number in 0..count {
-            let text = text_at(rt.alloc(), &PIECES, number, len)?;
+    for (len, count) in &LENGTHS {
+        for number in 0..*count {
+            let text = text_at(rt.alloc(), &PIECES, number, *len)?;
             expect_text(&rt, rt.alloc(), text.as_str())?;
         }
     }

@@ -104,6 +104,27 @@ fn part(
     part.finish(alloc)
 }
 
+/// Compares one part of a text by a pattern, which has these ends.
+fn expect_part(
+    rt: &impl Abort,
+    got: &CowStr<'_>,
+    want: &(String, bool),
+    text: &str,
+    pat: &str,
+    interval: (usize, usize),
+) {
+    let (bytes, is_borrow) = want;
+    assert!(rt;
+        got.as_str() == bytes.as_str(),
+        "{interval:?} of {text:?} by {pat:?}"
+    );
+    let got_borrow = matches!(got, CowStr::Borrowed(_));
+    assert!(rt;
+        got_borrow == *is_borrow,
+        "borrow of {interval:?} of {text:?} by {pat:?}"
+    );
+}
+
 /// Compares the parts of a text by a pattern.
 fn expect_parts<'t>(
     rt: &impl Abort,
@@ -116,22 +137,9 @@ fn expect_parts<'t>(
     let mut parts = text.ansi_split(alloc, pat);
     let mut before = None;
     for interval in intervals(alloc, plain, pat)? {
-        let (want, is_borrow) = part(alloc, text, items, before, interval)?;
-        let got = match parts.next() {
-            Some(got) => got?,
-            None => CowStr::Borrowed("no such part"),
-        };
-        assert_eq!(rt;
-            got.as_str(),
-            want.as_str(),
-            "{interval:?} of {text:?} by {pat:?}"
-        );
-        let got_borrow = matches!(&got, CowStr::Borrowed(_));
-        assert_eq!(rt;
-            got_borrow,
-            is_borrow,
-            "borrow of {interval:?} of {text:?} by {pat:?}"
-        );
+        let want = part(alloc, text, items, before, interval)?;
+        let got = parts.next().ok_or("a part is missing")??;
+        expect_part(rt, &got, &want, text, pat, interval);
         before = Some(interval.1);
     }
     assert!(rt;
@@ -142,7 +150,7 @@ fn expect_parts<'t>(
 }
 
 /// The pieces that the texts are made of.
-const PIECES: [&str; 13] = [
+static PIECES: [&str; 13] = [
     "\x1b[1m",
     "\x1b[22m",
     "\x1b[31m",
@@ -159,9 +167,9 @@ const PIECES: [&str; 13] = [
 ];
 
 /// The codes of the pieces that set what a start writes, in its order.
-const STARTS: [(&str, &str); 3] = [("bold", "1"), ("font", "12"), ("foreground", "31")];
+static STARTS: [(&str, &str); 3] = [("bold", "1"), ("font", "12"), ("foreground", "31")];
 
-const PATTERNS: [&str; 9] = ["", "a", "b", "ab", "aa", "aba", "é", "m", "\x1b"];
+static PATTERNS: [&str; 9] = ["", "a", "b", "ab", "aa", "aba", "é", "m", "\x1b"];
 
 /// Compares the parts of each text of so many pieces.
 fn expect_parts_of_pieces(
@@ -174,7 +182,7 @@ fn expect_parts_of_pieces(
         let text = text_at(alloc, &PIECES, number, len)?;
         let items = items(alloc, text.as_str())?;
         let plain = plain(alloc, text.as_str(), items.as_slice())?;
-        for pat in PATTERNS {
+        for pat in &PATTERNS {
             expect_parts(
                 rt,
                 alloc,
@@ -188,10 +196,16 @@ fn expect_parts_of_pieces(
     Ok(())
 }
 
+/// How many pieces a short text has, and how many such texts there are.
+static SHORT_LENGTHS: [(usize, usize); 3] = [(0, 1), (1, 13), (2, 169)];
+
+/// The same of longer texts.
+static LONGER_LENGTHS: [(usize, usize); 2] = [(3, 2_197), (4, 28_561)];
+
 #[test]
 fn short_texts_are_split_as_defined(rt: HostRuntime) -> Result<(), Fail> {
-    for (len, count) in [(0, 1), (1, 13), (2, 169)] {
-        expect_parts_of_pieces(&rt, rt.alloc(), len, count)?;
+    for (len, count) in &SHORT_LENGTHS {
+        expect_parts_of_pieces(&rt, rt.alloc(), *len, *count)?;
     }
     Ok(())
 }
@@ -199,8 +213,8 @@ fn short_texts_are_split_as_defined(rt: HostRuntime) -> Result<(), Fail> {
 // More than the minute that `rt try` grants.
 #[test]
 fn longer_texts_are_split_as_defined(rt: HostRuntime) -> Result<(), Fail> {
-    for (len, count) in [(3, 2_197), (4, 28_561)] {
-        expect_parts_of_pieces(&rt, rt.alloc(), len, count)?;
+    for (len, count) in &LONGER_LENGTHS {
+        expect_parts_of_pieces(&rt, rt.alloc(), *len, *count)?;
     }
     Ok(())
 }

@@ -4,7 +4,7 @@ use std::alloc::{AllocError, Global};
 /// What a style may have, the codes that set it, and the code that clears it.
 type Name = (&'static str, &'static [&'static str], &'static str);
 
-const NAMES: [Name; 26] = [
+static NAMES: [Name; 26] = [
     ("bold", &["1"], "22"),
     ("faint", &["2"], "22"),
     ("italic", &["3"], "23"),
@@ -52,7 +52,7 @@ const NAMES: [Name; 26] = [
 ];
 
 /// The codes that a close may have, in its order, but for the 0 at either end.
-const CLOSING_CODES: [&str; 16] = [
+static CLOSING_CODES: [&str; 16] = [
     "10", "22", "23", "24", "25", "27", "28", "29", "39", "49", "50", "54", "55", "65", "59", "75",
 ];
 
@@ -168,8 +168,8 @@ impl NamedStyle {
         if self.is_unknown && self.is_reset {
             close.push_str("\x1b[0m")?;
         }
-        for code in CLOSING_CODES {
-            if self.names.iter().any(|(_, clearing)| *clearing == code) {
+        for code in &CLOSING_CODES {
+            if self.names.iter().any(|(_, clearing)| clearing == code) {
                 close.push_str("\x1b[")?;
                 close.push_str(code)?;
                 close.push_str("m")?;

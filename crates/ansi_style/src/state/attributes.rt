@@ -80,3 +80,32 @@ impl Flags for Attributes {
         Attributes(bits)
     }
 }
+
+impl Attributes {
+    /// All but `RESET` and `UNKNOWN`, which no sequence sets or ends.
+    pub(crate) const KNOWN: Attributes = Attributes(0x3fffff);
+
+    /// Bold and faint, which one code ends, as it does those of the groups after this.
+    pub(crate) const INTENSITY: Attributes = Attributes(0x3);
+
+    pub(crate) const SHAPE: Attributes = Attributes(0x1004);
+
+    pub(crate) const UNDERLINES: Attributes = Attributes(0x18);
+
+    pub(crate) const BLINK: Attributes = Attributes(0x60);
+
+    pub(crate) const FRAME: Attributes = Attributes(0xc00);
+
+    pub(crate) const IDEOGRAM: Attributes = Attributes(0xf8000);
+
+    pub(crate) const SCRIPT: Attributes = Attributes(0x300000);
+
+    /// Those with codes from 1 to 9, and those that codes below 30 end.
+    pub(crate) const LETTERS: Attributes = Attributes(0x13ff);
+
+    pub(crate) const SHAPES: Attributes = Attributes(0x3010);
+
+    pub(crate) const FRAMES: Attributes = Attributes(0x3fec00);
+
+    pub(crate) const ENDS: Attributes = Attributes(0xb00000);
+}

@@ -6,7 +6,7 @@ ghost use Rattle.ansi_style.specs.States.{rendition_of};
 
 use crate::state::Style;
 use crate::state::attributes::Attributes;
-use crate::state::fields::{Fields, code, color_number};
+use crate::state::fields::Fields;
 use ansi_items::ansitok::AnsiColor;
 use bitflags::Flags;
 
@@ -95,7 +95,7 @@ fn read_color(fields: &mut Fields<'_>) -> Option<AnsiColor>
     ensures read { (result, fields.new) ≡ read_color fields.old }
     ensures extended { IfSome result (λ c. IsTrue (is_extended_color c)) }
 {
-    match code(fields.next()?) {
+    match fields.next_code()? {
         Some(2) => color_by_parts(fields),
         Some(5) => color_by_number(fields),
         _ => None,
@@ -107,9 +107,9 @@ fn color_by_parts(fields: &mut Fields<'_>) -> Option<AnsiColor>
     ensures read { (result, fields.new) ≡ color_by_parts fields.old }
     ensures extended { IfSome result (λ c. IsTrue (is_extended_color c)) }
 {
-    let r = color_number(fields.next()?);
-    let g = color_number(fields.next()?);
-    let b = color_number(fields.next()?);
+    let r = fields.next_number()?;
+    let g = fields.next_number()?;
+    let b = fields.next_number()?;
     Some(AnsiColor::Bit24 { r, g, b })
 }
 
@@ -118,6 +118,6 @@ fn color_by_number(fields: &mut Fields<'_>) -> Option<AnsiColor>
     ensures read { (result, fields.new) ≡ color_by_number fields.old }
     ensures extended { IfSome result (λ c. IsTrue (is_extended_color c)) }
 {
-    let number = color_number(fields.next()?);
+    let number = fields.next_number()?;
     Some(AnsiColor::Bit8(number))
 }

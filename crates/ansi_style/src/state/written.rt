@@ -1,10 +1,16 @@
 //! The start and the close of a style, as they are printed: each code in a sequence of its own.
-ghost use Rattle.std.specs.Prelude.{◌≡◌, ◌++◌, Some, codes, flat_map};
+ghost use Rattle.std.specs.Prelude.{◌==◌, ◌++◌, ◌||◌, [], Some, IsTrue, is_some, codes, flat_map, if◌then◌else◌};
+ghost use Rattle.std.specs.List.{list_all};
+ghost use Rattle.std.specs.Int.RustNames.{bit_and};
 ghost use Rattle.std.specs.Fmt.{WritesOnOk};
-ghost use Rattle.ansi_style.specs.Written.{written_all, when, color_codes, font_codes, start, close, close_if_any};
+ghost use Rattle.ansi_style.specs.Rendition.{has_ideogram_attribute};
+ghost use Rattle.ansi_style.specs.States.{has_one, rendition_of};
+ghost use Rattle.ansi_style.specs.Written.{written, written_all, when, color_code, color_codes, font_codes, start, close, close_if_any};
 
-use crate::state::{Rendition, Style};
+use crate::state::Style;
+use crate::state::attributes::Attributes;
 use ansi_items::ansitok::AnsiColor;
+use bitflags::Flags;
 use std::fmt;
 use std::marker::Model;
 
@@ -70,7 +76,7 @@ impl fmt::Display for AnsiSequenceStart<'_> {
     ghost output = { λ s. Some (start s) };
 
     fn fmt<W: fmt::Write>(&self, f: &mut fmt::Formatter<W>) -> fmt::Result {
-        write_start(f, &self.0.rendition())
+        write_start(f, self.0)
     }
 }
 
@@ -78,7 +84,7 @@ impl fmt::Display for Close<'_> {
     ghost output = { λ s. Some (close s) };
 
     fn fmt<W: fmt::Write>(&self, f: &mut fmt::Formatter<W>) -> fmt::Result {
-        write_close(f, &self.0.rendition())
+        write_close(f, self.0)
     }
 }
 
@@ -93,97 +99,148 @@ impl fmt::Display for AnsiSequenceEnd<'_> {
     }
 }
 
+/// Sequences, each to be written where one of its attributes is set.
+type Rows = &'static [(Attributes, &'static str)];
+
+const START_LETTERS: Rows = &[
+    (Attributes::BOLD, "\u{1b}[1m"),
+    (Attributes::FAINT, "\u{1b}[2m"),
+    (Attributes::ITALIC, "\u{1b}[3m"),
+    (Attributes::UNDERLINE, "\u{1b}[4m"),
+    (Attributes::SLOW_BLINK, "\u{1b}[5m"),
+    (Attributes::RAPID_BLINK, "\u{1b}[6m"),
+    (Attributes::INVERSE, "\u{1b}[7m"),
+    (Attributes::HIDE, "\u{1b}[8m"),
+    (Attributes::CROSSED_OUT, "\u{1b}[9m"),
+];
+
+const START_SHAPES: Rows = &[
+    (Attributes::FRAKTUR, "\u{1b}[20m"),
+    (Attributes::DOUBLE_UNDERLINE, "\u{1b}[21m"),
+    (Attributes::PROPORTIONAL_SPACING, "\u{1b}[26m"),
+];
+
+const START_FRAMES: Rows = &[
+    (Attributes::FRAMED, "\u{1b}[51m"),
+    (Attributes::ENCIRCLED, "\u{1b}[52m"),
+    (Attributes::OVERLINED, "\u{1b}[53m"),
+    (Attributes::IDEOGRAM_UNDERLINE, "\u{1b}[60m"),
+    (Attributes::IDEOGRAM_DOUBLE_UNDERLINE, "\u{1b}[61m"),
+    (Attributes::IDEOGRAM_OVERLINE, "\u{1b}[62m"),
+    (Attributes::IDEOGRAM_DOUBLE_OVERLINE, "\u{1b}[63m"),
+    (Attributes::IDEOGRAM_STRESS_MARKING, "\u{1b}[64m"),
+    (Attributes::SUPERSCRIPT, "\u{1b}[73m"),
+    (Attributes::SUBSCRIPT, "\u{1b}[74m"),
+];
+
+const CLOSE_LETTERS: Rows = &[
+    (Attributes::INTENSITY, "\u{1b}[22m"),
+    (Attributes::SHAPE, "\u{1b}[23m"),
+    (Attributes::UNDERLINES, "\u{1b}[24m"),
+    (Attributes::BLINK, "\u{1b}[25m"),
+    (Attributes::INVERSE, "\u{1b}[27m"),
+    (Attributes::HIDE, "\u{1b}[28m"),
+    (Attributes::CROSSED_OUT, "\u{1b}[29m"),
+];
+
+const CLOSE_FRAMES: Rows = &[
+    (Attributes::PROPORTIONAL_SPACING, "\u{1b}[50m"),
+    (Attributes::FRAME, "\u{1b}[54m"),
+    (Attributes::OVERLINED, "\u{1b}[55m"),
+    (Attributes::IDEOGRAM, "\u{1b}[65m"),
+];
+
+const CLOSE_ENDS: Rows = &[
+    (Attributes::SCRIPT, "\u{1b}[75m"),
+    (Attributes::UNKNOWN, "\u{1b}[0m"),
+];
+
 /// Writes the start of a style.
-fn write_start<W: fmt::Write>(f: &mut fmt::Formatter<W>, style: &Rendition) -> fmt::Result
-    ensures { WritesOnOk W.write_str_gives f.old result (start style.now) f.new }
+fn write_start<W: fmt::Write>(f: &mut fmt::Formatter<W>, style: &Style) -> fmt::Result
+    ensures { WritesOnOk W.write_str_gives f.old result (start (rendition_of style.now)) f.new }
 {
-    write_codes(
-        f,
-        &[
-            (style.bold, "1"),
-            (style.faint, "2"),
-            (style.italic, "3"),
-            (style.underline, "4"),
-            (style.slow_blink, "5"),
-            (style.rapid_blink, "6"),
-            (style.inverse, "7"),
-            (style.hide, "8"),
-            (style.crossed_out, "9"),
-        ],
-    )?;
+    if !style.has_known() {
+        return Ok(());
+    }
+    let set = style.attributes;
+    write_rows(f, set, Attributes::LETTERS, START_LETTERS)?;
     write_font(f, style.font)?;
-    write_codes(
-        f,
-        &[
-            (style.fraktur, "20"),
-            (style.double_underline, "21"),
-            (style.proportional_spacing, "26"),
-        ],
-    )?;
+    write_rows(f, set, Attributes::SHAPES, START_SHAPES)?;
     write_colors(f, style)?;
-    write_codes(
-        f,
-        &[
-            (style.framed, "51"),
-            (style.encircled, "52"),
-            (style.overlined, "53"),
-            (style.ideogram_underline, "60"),
-            (style.ideogram_double_underline, "61"),
-            (style.ideogram_overline, "62"),
-            (style.ideogram_double_overline, "63"),
-            (style.ideogram_stress_marking, "64"),
-            (style.superscript, "73"),
-            (style.subscript, "74"),
-        ],
-    )
+    write_rows(f, set, Attributes::FRAMES, START_FRAMES)
 }
 
 /// Writes the close of a style.
-fn write_close<W: fmt::Write>(f: &mut fmt::Formatter<W>, style: &Rendition) -> fmt::Result
-    ensures { WritesOnOk W.write_str_gives f.old result (close style.now) f.new }
+fn write_close<W: fmt::Write>(f: &mut fmt::Formatter<W>, style: &Style) -> fmt::Result
+    ensures { WritesOnOk W.write_str_gives f.old result (close (rendition_of style.now)) f.new }
 {
-    write_codes(
-        f,
-        &[
-            (style.unknown && style.reset, "0"),
-            (style.font.is_some(), "10"),
-            (style.bold || style.faint, "22"),
-            (style.italic || style.fraktur, "23"),
-            (style.underline || style.double_underline, "24"),
-            (style.slow_blink || style.rapid_blink, "25"),
-            (style.inverse, "27"),
-            (style.hide, "28"),
-            (style.crossed_out, "29"),
-            (style.foreground.is_some(), "39"),
-            (style.background.is_some(), "49"),
-            (style.proportional_spacing, "50"),
-            (style.framed || style.encircled, "54"),
-            (style.overlined, "55"),
-            (style.has_ideogram_attribute(), "65"),
-            (style.underline_color.is_some(), "59"),
-            (style.superscript || style.subscript, "75"),
-            (style.unknown, "0"),
-        ],
-    )
+    let set = style.attributes;
+    let is_unknown = set.contains(Attributes::UNKNOWN);
+    if !(style.has_known() | is_unknown) {
+        return Ok(());
+    }
+    write_when(f, is_unknown & set.contains(Attributes::RESET), "\u{1b}[0m")?;
+    write_when(f, style.font.is_some(), "\u{1b}[10m")?;
+    write_rows(f, set, Attributes::LETTERS, CLOSE_LETTERS)?;
+    write_color_ends(f, style)?;
+    write_rows(f, set, Attributes::ENDS, CLOSE_ENDS)
 }
 
-/// Writes those of the codes that are called for.
-fn write_codes<W: fmt::Write>(f: &mut fmt::Formatter<W>, codes: &[(bool, &str)]) -> fmt::Result
-    ensures { WritesOnOk W.write_str_gives f.old result
-        (flat_map (λ row. written_all (when row.0 row.1.now)) codes.now) f.new }
+/// Writes the middle of the close of a style, from the foreground to the color of the underline.
+#[tactic(auto, unfolding(crate::specs::States::rendition_of))]
+fn write_color_ends<W: fmt::Write>(f: &mut fmt::Formatter<W>, style: &Style) -> fmt::Result
+    ensures { let s = rendition_of style.now in WritesOnOk W.write_str_gives f.old result (written_all
+        (when (is_some s.foreground) (codes "39")
+        ++ when (is_some s.background) (codes "49")
+        ++ when s.proportional_spacing (codes "50")
+        ++ when (s.framed || s.encircled) (codes "54")
+        ++ when s.overlined (codes "55")
+        ++ when (has_ideogram_attribute s) (codes "65")
+        ++ when (is_some s.underline_color) (codes "59"))) f.new }
 {
-    for (is_set, code) in codes {
-        if *is_set {
-            write!(f, "\u{1b}[{code}m")?;
-        }
+    write_when(f, style.foreground.is_some(), "\u{1b}[39m")?;
+    write_when(f, style.background.is_some(), "\u{1b}[49m")?;
+    write_rows(f, style.attributes, Attributes::FRAMES, CLOSE_FRAMES)?;
+    write_when(f, style.underline_color.is_some(), "\u{1b}[59m")
+}
+
+/// Writes the sequences of those rows of which an attribute is set, each of which is in the group.
+fn write_rows<W: fmt::Write>(
+    f: &mut fmt::Formatter<W>,
+    set: Attributes,
+    group: Attributes,
+    rows: &[(Attributes, &str)],
+) -> fmt::Result
+    requires { IsTrue (list_all (λ row. bit_and group.0 row.0.0 == row.0.0) rows.now) }
+    ensures { WritesOnOk W.write_str_gives f.old result
+        (flat_map (λ row. if has_one set.0 row.0.0 then row.1.now else []) rows.now) f.new }
+{
+    if !set.intersects(group) {
+        return Ok(());
+    }
+    for (attributes, sequence) in rows {
+        write_when(f, set.intersects(*attributes), sequence)?;
+    }
+    Ok(())
+}
+
+/// Writes a sequence where it is called for.
+#[inline(always)]
+fn write_when<W: fmt::Write>(f: &mut fmt::Formatter<W>, is_set: bool, sequence: &str) -> fmt::Result
+    ensures { WritesOnOk W.write_str_gives f.old result (if is_set then sequence.now else []) f.new }
+{
+    if is_set {
+        f.write_str(sequence)?;
     }
     Ok(())
 }
 
 /// Writes the codes of the colors that there are.
-fn write_colors<W: fmt::Write>(f: &mut fmt::Formatter<W>, style: &Rendition) -> fmt::Result
-    ensures { WritesOnOk W.write_str_gives f.old result (written_all (color_codes (codes "38") style.now.foreground
-        ++ color_codes (codes "48") style.now.background ++ color_codes (codes "58") style.now.underline_color)) f.new }
+#[tactic(auto, unfolding(crate::specs::States::rendition_of))]
+fn write_colors<W: fmt::Write>(f: &mut fmt::Formatter<W>, style: &Style) -> fmt::Result
+    ensures { WritesOnOk W.write_str_gives f.old result (written_all (color_codes (codes "38") (rendition_of style.now).foreground
+        ++ color_codes (codes "48") (rendition_of style.now).background
+        ++ color_codes (codes "58") (rendition_of style.now).underline_color)) f.new }
 {
     write_color(f, "38", style.foreground)?;
     write_color(f, "48", style.background)?;
@@ -200,8 +257,8 @@ fn write_font<W: fmt::Write>(f: &mut fmt::Formatter<W>, font: Option<u8>) -> fmt
     }
 }
 
-/// Writes the code of a color, where there is one; `extended` stands before those beyond the
-/// sixteen.
+/// Writes the code of a color, where there is one.
+#[inline(always)]
 fn write_color<W: fmt::Write>(
     f: &mut fmt::Formatter<W>,
     extended: &str,
@@ -212,8 +269,21 @@ fn write_color<W: fmt::Write>(
 {
     match color {
         None => Ok(()),
-        Some(AnsiColor::Bit4(n)) => write!(f, "\u{1b}[{n}m"),
-        Some(AnsiColor::Bit8(n)) => write!(f, "\u{1b}[{extended};5;{n}m"),
-        Some(AnsiColor::Bit24 { r, g, b }) => write!(f, "\u{1b}[{extended};2;{r};{g};{b}m"),
+        Some(color) => write_color_code(f, extended, color),
+    }
+}
+
+/// Writes the code of a color; `extended` stands before those beyond the sixteen.
+fn write_color_code<W: fmt::Write>(
+    f: &mut fmt::Formatter<W>,
+    extended: &str,
+    color: AnsiColor,
+) -> fmt::Result
+    ensures { WritesOnOk W.write_str_gives f.old result (written (color_code extended.now color)) f.new }
+{
+    match color {
+        AnsiColor::Bit4(n) => write!(f, "\u{1b}[{n}m"),
+        AnsiColor::Bit8(n) => write!(f, "\u{1b}[{extended};5;{n}m"),
+        AnsiColor::Bit24 { r, g, b } => write!(f, "\u{1b}[{extended};2;{r};{g};{b}m"),
     }
 }

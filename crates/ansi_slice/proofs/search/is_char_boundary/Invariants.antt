@@ -8,5 +8,5 @@ use Rattle.ansi_slice.proofs.search.is_char_boundary.Given as goal
 abbrev pub invariant-loop-item : goal.invariant-loop-item
 invariant-loop-item l = record {
   text : l.item-iterator.text ≡ l.text;
-  boundary : is_char_boundary (plain_of (pieces_left l.item-iterator)) l.offset ≡ is_char_boundary (plain l.text) l.index;
+  boundary : is_char_boundary (plain_of (pieces_left l.item-iterator)) l.remaining ≡ is_char_boundary (plain l.text) l.index;
 }

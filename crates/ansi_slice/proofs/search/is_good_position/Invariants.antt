@@ -8,5 +8,5 @@ use Rattle.ansi_slice.proofs.search.is_good_position.Given as goal
 abbrev pub invariant-loop-item : goal.invariant-loop-item
 invariant-loop-item l = record {
   text : l.item-iterator.text ≡ l.text;
-  good : is_good_position (plain_of (pieces_left l.item-iterator)) l.left ≡ is_good_position (plain l.text) l.position;
+  good : is_good_position (plain_of (pieces_left l.item-iterator)) l.remaining ≡ is_good_position (plain l.text) l.position;
 }

@@ -7,18 +7,18 @@ use Rattle.ansi_slice.proofs.EndLemmas.{met-last, met-apart, met-more}
 use Rattle.ansi_slice.proofs.search.ends.stands_at.Goals as goal
 
 -- over a run that is no shorter than what is left of the pattern
-pub returns-then-left-run : goal.returns-then-left-run
-returns-then-left-run c =
+pub returns-then-rest-run : goal.returns-then-rest-run
+returns-then-rest-run c =
     let w = c.as_bytes-piece.result.now in
     let left : pieces_left c.loop-item.item-iterator ≡ Text w ∷ pieces_left c.next.new.self = gives_text c.in-Some.ensures.steps c.loop-item.invariant.text (c.as_bytes-piece.ensures.value ∙ c.range.ensures.value) (is_text c.if-eq.ensures) in
-    c.starts_with.ensures.value ∙ met-last c.loop-item.invariant.so_far left (slice_range-rest w c.loop-item.before c.min.result c.min.ensures) c.if-left-run.true
+    c.starts_with.ensures.value ∙ met-last c.loop-item.invariant.so_far left (slice_range-rest w c.loop-item.before c.min.result c.min.ensures) c.if-rest-run.true
 
 -- over one that isn't how it begins
 pub returns-then-not-starts_with : goal.returns-then-not-starts_with
 returns-then-not-starts_with c =
     let w = c.as_bytes-piece.result.now in
     let left : pieces_left c.loop-item.item-iterator ≡ Text w ∷ pieces_left c.next.new.self = gives_text c.in-Some.ensures.steps c.loop-item.invariant.text (c.as_bytes-piece.ensures.value ∙ c.range.ensures.value) (is_text c.if-eq.ensures) in
-    met-apart c.loop-item.invariant.so_far left (slice_range-rest w c.loop-item.before c.min.result c.min.ensures) (omega (arith, c.if-left-run.false)) (sym c.starts_with-then-eq.ensures.value ∙ c.if-not-starts_with.true)
+    met-apart c.loop-item.invariant.so_far left (slice_range-rest w c.loop-item.before c.min.result c.min.ensures) (omega (arith, c.if-rest-run.false)) (sym c.starts_with-then-eq.ensures.value ∙ c.if-not-starts_with.true)
 
 -- over one that is
 pub loop-item-preserved-then-eq : goal.loop-item-preserved-then-eq
@@ -27,5 +27,5 @@ loop-item-preserved-then-eq c =
     let left : pieces_left c.loop-item.item-iterator ≡ Text w ∷ pieces_left c.next.new.self = gives_text c.in-Some.ensures.steps c.loop-item.invariant.text (c.as_bytes-piece.ensures.value ∙ c.range.ensures.value) (is_text c.if-eq.ensures) in
     record {
       text = c.in-Some.ensures.steps.text ∙ c.loop-item.invariant.text;
-      so_far = met-more c.loop-item.invariant.so_far left (slice_range-rest w c.loop-item.before c.min.result c.min.ensures) (omega (arith, c.if-left-run.false)) (sym c.starts_with-then-eq.ensures.value ∙ c.if-not-starts_with.false) c.saturating_sub-before.ensures (slice_range-past c.loop-item.left.now _ _ (omega arith));
+      so_far = met-more c.loop-item.invariant.so_far left (slice_range-rest w c.loop-item.before c.min.result c.min.ensures) (omega (arith, c.if-rest-run.false)) (sym c.starts_with-then-eq.ensures.value ∙ c.if-not-starts_with.false) c.saturating_sub-before.ensures (slice_range-past c.loop-item.rest.now _ _ (omega arith));
     }

@@ -9,5 +9,5 @@ use Rattle.ansi_slice.proofs.search.ends.stands_at.Given as goal
 abbrev pub invariant-loop-item : goal.invariant-loop-item
 invariant-loop-item l = record {
   text : l.item-iterator.text ≡ l.text;
-  so_far : IsMetSoFar (starts_with nat_eq (drop l.place (plain l.text)) l.pat) l.before l.left (pieces_left l.item-iterator);
+  so_far : IsMetSoFar (starts_with nat_eq (drop l.place (plain l.text)) l.pat) l.before l.rest (pieces_left l.item-iterator);
 }

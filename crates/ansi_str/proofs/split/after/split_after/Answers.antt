@@ -24,17 +24,17 @@ split_at-requires c =
     let gives = c.in-Some.ensures.steps in
     let first : pieces_left c.loop-item.item-iterator ≡ Text w ∷ pieces_left c.next.new.self = gives_text gives c.loop-item.invariant.text c.range-run.ensures.value (is_text c.if-eq.ensures) in
     let here = ap₂ (λ n t. pieces_of (drop n t)) gives.start (sym c.loop-item.invariant.text) ∙ first in
-    boundary_in_next c.args.text.now c.in-Some.item.start c.loop-item.left w (pieces_left c.next.new.self) (omega (arith, gives.start_boundary.0, ap length c.loop-item.invariant.text)) here c.if-left-run.true
-    (ap (λ ps. is_good_position (plain_of ps) c.loop-item.left) (sym first) ∙ c.loop-item.invariant.way.good)
+    boundary_in_next c.args.text.now c.in-Some.item.start c.loop-item.remaining w (pieces_left c.next.new.self) (omega (arith, gives.start_boundary.0, ap length c.loop-item.invariant.text)) here c.if-remaining-run.true
+    (ap (λ ps. is_good_position (plain_of ps) c.loop-item.remaining) (sym first) ∙ c.loop-item.invariant.way.good)
 
-pub returns-then-left-run : goal.returns-then-left-run
-returns-then-left-run c =
+pub returns-then-remaining-run : goal.returns-then-remaining-run
+returns-then-remaining-run c =
     let w = c.range-run.result.now in
     let gives = c.in-Some.ensures.steps in
     let first : pieces_left c.loop-item.item-iterator ≡ Text w ∷ pieces_left c.next.new.self = gives_text gives c.loop-item.invariant.text c.range-run.ensures.value (is_text c.if-eq.ensures) in
     rw (c.split_at.ensures.front, c.split_at.ensures.back)
-    (is_cut_after c.args.text.now c.args.position (c.in-Some.item.start + c.loop-item.left)
-    (on_the_way-last c.loop-item.invariant.way first c.if-left-run.true (ap (λ n. n + c.loop-item.left) gives.start)))
+    (is_cut_after c.args.text.now c.args.position (c.in-Some.item.start + c.loop-item.remaining)
+    (on_the_way-last c.loop-item.invariant.way first c.if-remaining-run.true (ap (λ n. n + c.loop-item.remaining) gives.start)))
 
 -- over a text
 pub loop-item-preserved-then-eq : goal.loop-item-preserved-then-eq
@@ -44,7 +44,7 @@ loop-item-preserved-then-eq c =
     let first : pieces_left c.loop-item.item-iterator ≡ Text w ∷ pieces_left c.next.new.self = gives_text gives c.loop-item.invariant.text c.range-run.ensures.value (is_text c.if-eq.ensures) in
     record {
       text = gives.text ∙ c.loop-item.invariant.text;
-      way = on_the_way-text c.loop-item.invariant.way first c.if-left-run.false (omega (arith, gives.start, gives.end, gives.forward, c.range-run.ensures.len)) refl;
+      way = on_the_way-text c.loop-item.invariant.way first c.if-remaining-run.false (omega (arith, gives.start, gives.end, gives.forward, c.range-run.ensures.len)) refl;
     }
 
 -- over a mark

@@ -8,5 +8,5 @@ use Rattle.ansi_str.proofs.split.after.split_after.Given as goal
 abbrev pub invariant-loop-item : goal.invariant-loop-item
 invariant-loop-item l = record {
   text : l.item-iterator.text ≡ l.text;
-  way : IsOnTheWay (front_len l.position (pieces_of l.text)) l.item-iterator.offset l.left (pieces_left l.item-iterator);
+  way : IsOnTheWay (front_len l.position (pieces_of l.text)) l.item-iterator.offset l.remaining (pieces_left l.item-iterator);
 }

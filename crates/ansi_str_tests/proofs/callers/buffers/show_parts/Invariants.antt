@@ -1,4 +1,4 @@
-use Rattle.std.proofs.Common.{◌≡◌, ◌+◌, ◌≤◌, length}
+use Rattle.std.proofs.Common.{◌+◌, ◌≤◌, length}
 use Rattle.std.specs.List.{sum_by}
 use Rattle.ansi_str.specs.Splits.{SplitPart}
 use Rattle.ansi_str_tests.proofs.callers.buffers.show_parts.Given as goal

@@ -9,9 +9,9 @@ use Rattle.ansi_str.proofs.split.spans.SpansIterator.next.Goals as goal
 pub returns-in_default-clause-steps : goal.returns-in_default-clause-steps
 returns-in_default-clause-steps c =
     let s = c.self.inside in
-    let all = parts_left (rendition_of s.carried) s.left.text.now s.pat.now s.skip s.from in
+    let all = parts_left (rendition_of s.carried) s.rest.text.now s.pat.now s.skip s.from in
     let left : c.args.self.now ≡ all = sym c.self.view_is ∙ ap (λ b. if b then [] else all) c.if-self.false in
-    left ∙ parts_left-last (rendition_of s.carried) s.left.text.now s.pat.now s.skip s.from c.in_default.ensures
+    left ∙ parts_left-last (rendition_of s.carried) s.rest.text.now s.pat.now s.skip s.from c.in_default.ensures
     ∙ ap (λ t. span_part (rendition_of s.carried) t s.skip ∷ []) (sym c.text.ensures)
 
 pub returns-in_default-clause-goes : goal.returns-in_default-clause-goes
@@ -22,20 +22,20 @@ returns-in_default-clause-goes c =
 pub invariant_of-result-2 : goal.invariant_of-result-2
 invariant_of-result-2 c =
     let s = c.self.inside in
-    record { skip_is_boundary = skip_in_front s.left.text.now s.pat.now s.skip s.from c.in-Some.text.now c.in-Some.left.text.now c.in-Some.ensures c.self.invariant.1 c.self.invariant.0 }
+    record { skip_is_boundary = skip_in_front s.rest.text.now s.pat.now s.skip s.from c.in-Some.text.now c.in-Some.rest.text.now c.in-Some.ensures c.self.invariant.1 c.self.invariant.0 }
 
 -- with one, the first part is what stands before it
 pub returns-clause-steps : goal.returns-clause-steps
 returns-clause-steps c =
     let s = c.self.inside in
     let text = c.in-Some.text.now in
-    let after = c.in-Some.left.text.now in
-    let all = parts_left (rendition_of s.carried) s.left.text.now s.pat.now s.skip s.from in
+    let after = c.in-Some.rest.text.now in
+    let all = parts_left (rendition_of s.carried) s.rest.text.now s.pat.now s.skip s.from in
     let left : c.args.self.now ≡ all = sym c.self.view_is ∙ ap (λ b. if b then [] else all) c.if-self.false in
     let later = parts_left (rendition_of c.apply_all.new.style) after s.pat.now (length s.pat.now) c.max-self-inside.result in
     let more : parts_left (style_after_from (rendition_of s.carried) text) after s.pat.now (length s.pat.now) (max (length s.pat.now) 1) ≡ (if s.finished then [] else later)
     = ap₂ (λ r n. parts_left r after s.pat.now (length s.pat.now) n) (sym c.apply_all.ensures) (sym c.max-self-inside.ensures) ∙ sym (ap (λ b. if b then [] else later) c.if-self.false) in
-    left ∙ parts_left-first (rendition_of s.carried) s.left.text.now s.pat.now s.skip s.from text after c.in-Some.ensures
+    left ∙ parts_left-first (rendition_of s.carried) s.rest.text.now s.pat.now s.skip s.from text after c.in-Some.ensures
     ∙ ap (λ ps. span_part (rendition_of s.carried) text s.skip ∷ ps) more
 
 pub returns-clause-goes : goal.returns-clause-goes

@@ -8,14 +8,10 @@ use Rattle.ansi_items.specs.declared.ansitok.AnsiColor.{AnsiColor}
 use Rattle.ansi_items.specs.declared.ansitok.AnsiColor.TheVariants.{Bit4, Bit8, Bit24}
 use Rattle.ansi_items.specs.contracts.ansitok.AnsiColorOrd.TheImpl.{ghosts}
 use Rattle.ansi_style.specs.States.{rendition_of}
-use Rattle.ansi_str.specs.Orders.{compared, part_of_color, part_of_font, part_of_attribute, ansi_color_key}
-use Rattle.ansi_str.proofs.laws.orders_go_by_parts.Goals as goal
-
--- what nothing follows decides alone
-alone : (o : Ordering) → o ≡ ordering_then o Equal
-alone Less = refl
-alone Equal = refl
-alone Greater = refl
+use Rattle.ansi_items.specs.AnsiColors.{compared, ansi_color_key}
+use Rattle.ansi_style.specs.Orders.{part_of_color, part_of_font, part_of_attribute}
+use Rattle.ansi_items.proofs.AnsiColorLemmas.{alone, same_ansi_color}
+use Rattle.ansi_style.proofs.laws.orders_go_by_parts.Goals as goal
 
 -- where two parts compare alike, and what follows them does, both do
 in_turn : {o p r s : Ordering} → o ≡ p → r ≡ s → ordering_then o r ≡ ordering_then p s
@@ -32,17 +28,6 @@ same_font None None = refl
 same_font None (Some y) = refl
 same_font (Some x) None = refl
 same_font (Some x) (Some y) = alone (nat_cmp x y)
-
-same_ansi_color : (x y : AnsiColor) → ghosts.cmp x y ≡ compared (ansi_color_key x) (ansi_color_key y)
-same_ansi_color (Bit4 n) (Bit4 m) = alone (nat_cmp n m)
-same_ansi_color (Bit4 n) (Bit8 m) = refl
-same_ansi_color (Bit4 n) (Bit24 r g b) = refl
-same_ansi_color (Bit8 n) (Bit4 m) = refl
-same_ansi_color (Bit8 n) (Bit8 m) = alone (nat_cmp n m)
-same_ansi_color (Bit8 n) (Bit24 r g b) = refl
-same_ansi_color (Bit24 r g b) (Bit4 m) = refl
-same_ansi_color (Bit24 r g b) (Bit8 m) = refl
-same_ansi_color (Bit24 r g b) (Bit24 u v w) = ap (λ o. ordering_then (nat_cmp r u) (ordering_then (nat_cmp g v) o)) (alone (nat_cmp b w))
 
 same_color : (x y : Option AnsiColor) → option_cmp ghosts.cmp x y ≡ compared (part_of_color x) (part_of_color y)
 same_color None None = refl

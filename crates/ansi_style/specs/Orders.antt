@@ -1,27 +1,16 @@
 -- The order of styles and of colors: by their parts, in turn.
 use Rattle.std.specs.Prelude.{ℕ, Bool, true, false, List, [], ◌∷◌, Option, Some, None}
-use Rattle.std.specs.Ordering.{nat_cmp}
 use Rattle.std.specs.Cmp.Lexicographic.{slice_cmp}
 use Rattle.std.specs.declared.cmp.Ordering.{Ordering}
 use Rattle.ansi_items.specs.declared.ansitok.AnsiColor.{AnsiColor}
-use Rattle.ansi_items.specs.declared.ansitok.AnsiColor.TheVariants.{Bit4, Bit8, Bit24}
 use Rattle.ansi_style.specs.declared.style.color.Color.{Color}
 use Rattle.ansi_style.specs.declared.style.color.Color.TheVariants.{Black, BrightBlack, Red, BrightRed, Green, BrightGreen, Yellow, BrightYellow, Blue, BrightBlue, Purple, BrightPurple, Magenta, BrightMagenta, Cyan, BrightCyan, White, BrightWhite, Fixed, Rgb}
+use Rattle.ansi_items.specs.AnsiColors.{compared, ansi_color_key}
 use Rattle.ansi_style.specs.declared.state.rendition.Rendition.{Rendition}
-
--- numbers in a row compare by the first that differs, and none before any
-abbrev pub compared : List ℕ → List ℕ → Ordering
-compared a b = slice_cmp nat_cmp a b
 
 -- parts in a row compare by the first that differs
 abbrev pub compared_in_turn : List (List ℕ) → List (List ℕ) → Ordering
 compared_in_turn a b = slice_cmp compared a b
-
--- a color as SGR codes write it compares by its kind, and then by its numbers (the Rust crate)
-abbrev pub ansi_color_key : AnsiColor → List ℕ
-ansi_color_key (Bit4 n) = 0 ∷ n ∷ []
-ansi_color_key (Bit8 n) = 1 ∷ n ∷ []
-ansi_color_key (Bit24 r g b) = 2 ∷ r ∷ g ∷ b ∷ []
 
 -- a color by its name compares by its rank in this list, and then by its numbers (the Rust crate)
 abbrev pub color_key : Color → List ℕ

@@ -1,0 +1,247 @@
+/* Makes every call on hostile texts and says how long the worst takes: on all texts of up to six of eight
+   pieces, and on 1 MiB of each hostile kind. Ends with 1 where a call takes more than a second on 1 MiB, or
+   where a cut, a part or both sides are longer than their bound. A call that doesn't return is ended by an alarm. */
+#include <signal.h>
+#include <stddef.h>
+#include <stdint.h>
+#include <stdio.h>
+#include <stdlib.h>
+#include <string.h>
+#include <time.h>
+#include <unistd.h>
+
+size_t ansi_bench_strip(const uint8_t *, size_t);
+size_t ansi_bench_cut(const uint8_t *, size_t, size_t, size_t);
+size_t ansi_bench_split_at(const uint8_t *, size_t, size_t);
+size_t ansi_bench_starts_with(const uint8_t *, size_t, const uint8_t *, size_t);
+size_t ansi_bench_ends_with(const uint8_t *, size_t, const uint8_t *, size_t);
+size_t ansi_bench_strip_prefix(const uint8_t *, size_t, const uint8_t *, size_t);
+size_t ansi_bench_strip_suffix(const uint8_t *, size_t, const uint8_t *, size_t);
+size_t ansi_bench_trim(const uint8_t *, size_t);
+size_t ansi_bench_find(const uint8_t *, size_t, const uint8_t *, size_t);
+size_t ansi_bench_split(const uint8_t *, size_t, const uint8_t *, size_t);
+size_t ansi_bench_part(const uint8_t *, size_t, const uint8_t *, size_t, size_t);
+size_t ansi_bench_edit(const uint8_t *, size_t, size_t);
+size_t ansi_bench_is_char_boundary(const uint8_t *, size_t, size_t);
+size_t ansi_bench_has_any(const uint8_t *, size_t);
+size_t ansi_bench_is_whole(const uint8_t *, size_t);
+size_t ansi_bench_blocks(const uint8_t *, size_t);
+
+enum { LONG = 1 << 20, PIECES = 6, CLOSE = 88, START_AND_CLOSE = 251, MOST_SECONDS = 1, ALARM = 60 };
+
+struct bytes {
+    const uint8_t *at;
+    size_t len;
+};
+
+/* a call on a text, with a position and a pattern */
+struct call {
+    const char *name;
+    size_t (*run)(struct bytes text, size_t position, struct bytes pattern);
+    int has_position, has_pattern;
+};
+
+#define POSITION(name) \
+    static size_t name(struct bytes t, size_t n, struct bytes p) { (void)p; return ansi_bench_##name(t.at, t.len, n); }
+#define PATTERN(name) \
+    static size_t name(struct bytes t, size_t n, struct bytes p) { \
+        (void)n; \
+        return ansi_bench_##name(t.at, t.len, p.at, p.len); \
+    }
+#define ALONE(name) \
+    static size_t name(struct bytes t, size_t n, struct bytes p) { (void)n; (void)p; return ansi_bench_##name(t.at, t.len); }
+
+ALONE(strip) ALONE(trim) ALONE(has_any) ALONE(is_whole) ALONE(blocks)
+POSITION(split_at) POSITION(edit) POSITION(is_char_boundary)
+PATTERN(starts_with) PATTERN(ends_with) PATTERN(strip_prefix) PATTERN(strip_suffix) PATTERN(find) PATTERN(split)
+
+/* from a position to the end, and from the start to a position */
+static size_t cut_from(struct bytes t, size_t n, struct bytes p) {
+    (void)p;
+    return ansi_bench_cut(t.at, t.len, n, SIZE_MAX);
+}
+static size_t cut_to(struct bytes t, size_t n, struct bytes p) {
+    (void)p;
+    return ansi_bench_cut(t.at, t.len, 0, n);
+}
+static size_t part(struct bytes t, size_t n, struct bytes p) { return ansi_bench_part(t.at, t.len, p.at, p.len, n); }
+
+static const struct call CALLS[] = {
+    {"strip", strip, 0, 0}, {"trim", trim, 0, 0}, {"has_any", has_any, 0, 0}, {"is_whole", is_whole, 0, 0},
+    {"blocks", blocks, 0, 0}, {"cut from", cut_from, 1, 0}, {"cut to", cut_to, 1, 0}, {"split_at", split_at, 1, 0},
+    {"edit", edit, 1, 0}, {"is_char_boundary", is_char_boundary, 1, 0}, {"starts_with", starts_with, 0, 1},
+    {"ends_with", ends_with, 0, 1}, {"strip_prefix", strip_prefix, 0, 1}, {"strip_suffix", strip_suffix, 0, 1},
+    {"find", find, 0, 1}, {"split", split, 0, 1}, {"part", part, 1, 1},
+};
+enum { CALL_COUNT = sizeof CALLS / sizeof CALLS[0] };
+
+static double now(void) {
+    struct timespec at;
+    clock_gettime(CLOCK_MONOTONIC, &at);
+    return (double)at.tv_sec + (double)at.tv_nsec / 1e9;
+}
+
+/* the longest time so far, and of what */
+struct worst {
+    double seconds;
+    const char *call, *pattern;
+    size_t position;
+};
+
+/* what is running, for the alarm */
+static struct worst running;
+
+static void on_alarm(int signal) {
+    (void)signal;
+    printf("    %s, pattern %s, position %zu: not within %d s\n", running.call, running.pattern, running.position, ALARM);
+    fflush(stdout);
+    _exit(1);
+}
+
+static struct worst measured(const struct call *call, struct bytes t, size_t position, struct bytes p, const char *pattern) {
+    struct worst w = {0, call->name, call->has_pattern ? pattern : "-", call->has_position ? position : 0};
+    running = w;
+    alarm(ALARM);
+    double begin = now();
+    call->run(t, position, p);
+    w.seconds = now() - begin;
+    alarm(0);
+    return w;
+}
+
+/* whether a call's answer is within its bound; SIZE_MAX says that there is none */
+static int is_short(struct bytes t, size_t len, size_t more) { return len == SIZE_MAX || len <= t.len + more; }
+
+static int is_bounded(struct bytes t, size_t position, struct bytes p) {
+    size_t runs = ansi_bench_blocks(t.at, t.len);
+    return is_short(t, cut_from(t, position, p), CLOSE) && is_short(t, cut_to(t, position, p), CLOSE) &&
+           is_short(t, part(t, position, p), START_AND_CLOSE) &&
+           is_short(t, split_at(t, position, p), START_AND_CLOSE * (runs + 1));
+}
+
+static const size_t POSITIONS[] = {0, 1, 2, SIZE_MAX};
+enum { POSITION_COUNT = sizeof POSITIONS / sizeof POSITIONS[0] };
+
+/* every call on a text, at each position and with each pattern that it takes */
+static int all_calls(struct bytes t, const struct bytes *patterns, const char *const *names, size_t count, struct worst *worst) {
+    int fails = 0;
+    for (size_t c = 0; c < CALL_COUNT; c++) {
+        for (size_t i = 0; i < (CALLS[c].has_position ? POSITION_COUNT : 1); i++) {
+            for (size_t k = 0; k < (CALLS[c].has_pattern ? count : 1); k++) {
+                struct worst w = measured(&CALLS[c], t, POSITIONS[i], patterns[k], names[k]);
+                if (w.seconds > MOST_SECONDS) {
+                    printf("    %s, pattern %s, position %zu: %.3f s\n", w.call, w.pattern, w.position, w.seconds);
+                    fails = 1;
+                }
+                *worst = w.seconds > worst->seconds ? w : *worst;
+            }
+        }
+    }
+    for (size_t i = 0; i < POSITION_COUNT; i++) {
+        for (size_t k = 0; k < count; k++) {
+            if (!is_bounded(t, POSITIONS[i], patterns[k])) {
+                printf("    an answer at %zu, pattern %s, is longer than its bound\n", POSITIONS[i], names[k]);
+                fails = 1;
+            }
+        }
+    }
+    return fails;
+}
+
+/* all texts of up to so many of these pieces */
+static int short_texts(void) {
+    static const char *const ALPHABET[] = {"\x1b", "[", "]", "1", "m", "\\", "a", "\xc3\xa9"};
+    enum { LETTERS = sizeof ALPHABET / sizeof ALPHABET[0] };
+    static const char *const NAMES[] = {"empty", "a", "1m"};
+    static const struct bytes PATTERNS[] = {
+        {(const uint8_t *)"", 0}, {(const uint8_t *)"a", 1}, {(const uint8_t *)"1m", 2}};
+    struct worst worst = {0, "-", "-", 0};
+    size_t count = 0, of_length = 1;
+    int fails = 0;
+    for (int length = 0; length <= PIECES; length++, of_length *= LETTERS) {
+        for (size_t n = 0; n < of_length; n++) {
+            uint8_t text[2 * PIECES];
+            struct bytes t = {text, 0};
+            size_t left = n;
+            for (int i = 0; i < length; i++, left /= LETTERS) {
+                const char *letter = ALPHABET[left % LETTERS];
+                memcpy(text + t.len, letter, strlen(letter));
+                t.len += strlen(letter);
+            }
+            fails |= all_calls(t, PATTERNS, NAMES, sizeof PATTERNS / sizeof PATTERNS[0], &worst);
+            count++;
+        }
+    }
+    printf("%zu short texts: the worst call took %.3f ms\n", count, worst.seconds * 1e3);
+    return fails;
+}
+
+/* a hostile kind: a front, and a piece as often as it fits */
+struct kind {
+    const char *name, *front, *piece;
+};
+
+#define LONGEST \
+    "\x1b[0;99;1;2;3;4;5;6;7;8;9;19;20;21;26;38;2;255;255;255;48;2;255;255;255;58;2;255;255;255;51;52;53;60;61;62;63;64;73;74m"
+
+static const struct kind KINDS[] = {
+    {"letters", "", "a"},
+    {"ESC", "", "\x1b"},
+    {"ESC [ 1;1;.. unfinished", "\x1b[", "1;"},
+    {"ESC [ 1;1;.. many times", "", "\x1b[1;1;1;1;1;1;1;1"},
+    {"ESC ] unfinished", "", "\x1b]"},
+    {"ESC P unfinished", "", "\x1bP"},
+    {"ESC P a.. unfinished", "\x1bP", "a"},
+    {"ESC ( unfinished", "", "\x1b("},
+    {"ESC \\", "", "\x1b\\"},
+    {"titles", "", "\x1b]0;t\x07"},
+    {"titles and letters", "", "\x1b]0;t\x07" "a"},
+    {"ESC [1m", "", "\x1b[1m"},
+    {"ESC [1m, a letter", "", "\x1b[1ma"},
+    {"ESC [1m, a blank", "", "\x1b[1m "},
+    {"ESC [m, two letters", "", "\x1b[m" "aa"},
+    {"the longest style, letters", LONGEST, "a"},
+    {"the longest style, short runs", LONGEST, "\x1b\\" "a"},
+    {"the longest style, many times", "", LONGEST "a"},
+    {"two bytes a character", "", "\x1b[1m\xc3\xa9"},
+};
+
+static struct bytes made(const struct kind *kind) {
+    static uint8_t text[LONG];
+    struct bytes t = {text, strlen(kind->front)};
+    size_t len = strlen(kind->piece);
+    memcpy(text, kind->front, t.len);
+    for (; t.len + len <= LONG; t.len += len) {
+        memcpy(text + t.len, kind->piece, len);
+    }
+    return t;
+}
+
+static int long_texts(void) {
+    enum { MANY = 500, HALF = LONG / 8 };
+    static const char *const NAMES[] = {"empty", "a", "ESC", "500 a, b", "131,072 a", "131,072 a, b"};
+    static uint8_t letters[HALF + 1], many[MANY + 1];
+    memset(letters, 'a', HALF);
+    letters[HALF] = 'b';
+    memset(many, 'a', MANY);
+    many[MANY] = 'b';
+    const struct bytes patterns[] = {{letters, 0},        {letters, 1},    {(const uint8_t *)"\x1b", 1},
+                                     {many, sizeof many}, {letters, HALF}, {letters, sizeof letters}};
+    int fails = 0;
+    printf("%-32s %-16s %-14s %12s %12s\n", "1 MiB of", "worst call", "pattern", "position", "time");
+    for (size_t i = 0; i < sizeof KINDS / sizeof KINDS[0]; i++) {
+        struct worst worst = {0, "-", "-", 0};
+        fails |= all_calls(made(&KINDS[i]), patterns, NAMES, sizeof patterns / sizeof patterns[0], &worst);
+        printf("%-32s %-16s %-14s %12zx %9.3f ms\n", KINDS[i].name, worst.call, worst.pattern, worst.position,
+               worst.seconds * 1e3);
+        fflush(stdout);
+    }
+    return fails;
+}
+
+int main(void) {
+    signal(SIGALRM, on_alarm);
+    int fails = short_texts();
+    fails |= long_texts();
+    return fails;
+}

@@ -1,0 +1,26 @@
+-- The order of colors as SGR codes write them.
+use Rattle.std.proofs.Common.{◌≡◌, refl, ap}
+use Rattle.std.specs.Ordering.{ordering_then, nat_cmp}
+use Rattle.std.specs.declared.cmp.Ordering.{Ordering}
+use Rattle.std.specs.declared.cmp.Ordering.TheVariants.{Less, Equal, Greater}
+use Rattle.ansi_items.specs.declared.ansitok.AnsiColor.{AnsiColor}
+use Rattle.ansi_items.specs.declared.ansitok.AnsiColor.TheVariants.{Bit4, Bit8, Bit24}
+use Rattle.ansi_items.specs.contracts.ansitok.AnsiColorOrd.TheImpl.{ghosts}
+use Rattle.ansi_items.specs.AnsiColors.{compared, ansi_color_key}
+
+-- what nothing follows decides alone
+pub alone : (o : Ordering) → o ≡ ordering_then o Equal
+alone Less = refl
+alone Equal = refl
+alone Greater = refl
+
+pub same_ansi_color : (x y : AnsiColor) → ghosts.cmp x y ≡ compared (ansi_color_key x) (ansi_color_key y)
+same_ansi_color (Bit4 n) (Bit4 m) = alone (nat_cmp n m)
+same_ansi_color (Bit4 n) (Bit8 m) = refl
+same_ansi_color (Bit4 n) (Bit24 r g b) = refl
+same_ansi_color (Bit8 n) (Bit4 m) = refl
+same_ansi_color (Bit8 n) (Bit8 m) = alone (nat_cmp n m)
+same_ansi_color (Bit8 n) (Bit24 r g b) = refl
+same_ansi_color (Bit24 r g b) (Bit4 m) = refl
+same_ansi_color (Bit24 r g b) (Bit8 m) = refl
+same_ansi_color (Bit24 r g b) (Bit24 u v w) = ap (λ o. ordering_then (nat_cmp r u) (ordering_then (nat_cmp g v) o)) (alone (nat_cmp b w))

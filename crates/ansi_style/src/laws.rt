@@ -1,0 +1,27 @@
+//! Laws of styles and of colors. `ansi_str` shows them among its own.
+//!
+//! Each function carries one law as its contract, does nothing and answers nothing.
+ghost use Rattle.std.specs.Prelude.{◌≡◌, codes};
+ghost use Rattle.ansi_items.specs.AnsiColors.{compared, ansi_color_key};
+ghost use Rattle.ansi_style.specs.Rendition.{Rendition, plain_style, known};
+ghost use Rattle.ansi_style.specs.Reading.{style_after_from};
+ghost use Rattle.ansi_style.specs.Orders.{compared_in_turn, parts_in_order, color_key};
+ghost use Rattle.ansi_style.specs.States.{rendition_of};
+
+use crate::state::{AnsiSequenceEnd, Style};
+use crate::style::Color;
+use ansi_items::ansitok::AnsiColor;
+
+/// `AnsiSequenceEnd::RESET_ALL` is `\e[0m`, which leaves nothing known of any style.
+pub fn reset_all_clears()
+    ensures bytes { AnsiSequenceEnd.RESET_ALL.now ≡ codes "\u{1b}[0m" }
+    ensures cleared { (s : Rendition) → known (style_after_from s AnsiSequenceEnd.RESET_ALL.now) ≡ plain_style }
+{}
+
+/// Styles compare by their 28 parts in turn, colors by their rank and then by their numbers: an attribute
+/// that isn't set is before one that is, and no color and no font is before any.
+pub fn orders_go_by_parts()
+    ensures style { (a b : Style) → ⟦<Style as Ord>⟧.cmp a b ≡ compared_in_turn (parts_in_order (rendition_of a)) (parts_in_order (rendition_of b)) }
+    ensures color { (a b : Color) → ⟦<Color as Ord>⟧.cmp a b ≡ compared (color_key a) (color_key b) }
+    ensures ansi_color { (a b : AnsiColor) → ⟦<AnsiColor as Ord>⟧.cmp a b ≡ compared (ansi_color_key a) (ansi_color_key b) }
+{}
