@@ -2,7 +2,7 @@
 use Rattle.std.proofs.Common.{◌≡◌, ℕ, zero, suc, ◌+◌, ◌-◌, ◌<◌, ◌≤◌, inl, inr, ⊎_elim, Bool, true, false, not, ◌&&◌, ◌==◌, List, [], ◌∷◌, ◌++◌, take, drop, length, Option, Some, None, refl, sym, ◌∙◌, ap, ap₂, subst, append_assoc, arith, slice_index, length-append}
 use Rattle.std.proofs.lemmas.Bool.{cond-true, cond-false, cases_Bool, eqb-true, and_parts, both_ways, cases_lt, not-false, or_cases, ne_eqb}
 use Rattle.std.proofs.lemmas.Bool.Decides.{nat_tests}
-use Rattle.std.proofs.lemmas.List.{get_or_past, drop_more, drop_all, drop-drop, drop_at, take_at, length-drop, take-append-drop}
+use Rattle.std.proofs.lemmas.List.{take_rest, get_or_past, drop_more, drop_all, drop-drop, drop_at, take_at, length-drop, take-append-drop}
 use Rattle.std.proofs.lemmas.List.Sums.{prefix_len-le-length, prefix_len_stops}
 use Rattle.std.proofs.lemmas.List.Folds.{list_all-append, length-prefix_len}
 use Rattle.std.specs.List.{list_all, prefix_len, ends_with}
@@ -73,6 +73,47 @@ sgr-spelled ps is final hp hi =
     = ap (list_all is_parameter_byte) between ∙ list_all-append is_parameter_byte ps is ∙ ap (λ b. b && list_all is_parameter_byte is) hp ∙ no_parameters is hi in
     is_some-cond _ _ ∙ ap₂ (λ a b. a && b) last parameters ∙ and_swapped (final == 109) (length is == 0)
 
+final_within : (t : List ℕ) (k : ℕ) → is_final_byte (slice_index t k) ≡ true → k < length t
+final_within t k passes = let above : 63 < slice_index t k = grind (arith, nat_tests) in within t k (omega arith)
+
+-- how many parameter bytes a control sequence has, and how many intermediate bytes, where t follows its ESC `[`
+abbrev parameters_len : List ℕ → ℕ
+parameters_len t = prefix_len is_parameter_byte t
+
+abbrev intermediates_len : List ℕ → ℕ
+intermediates_len t = prefix_len is_intermediate_byte (drop (parameters_len t) t)
+
+-- a control sequence is an SGR by these and its final byte
+sgr_at : (t : List ℕ) → is_final_byte (slice_index t (parameters_len t + intermediates_len t)) ≡ true
+    → is_sgr (take (parameters_len t + intermediates_len t + 3) (escape ∷ byte "[" ∷ t)) ≡ ((intermediates_len t == 0) && (slice_index t (parameters_len t + intermediates_len t) == 109))
+sgr_at t passes =
+    let n = parameters_len t in
+    let u = drop n t in
+    let m = intermediates_len t in
+    let final = slice_index t (n + m) in
+    let inside = final_within t (n + m) passes in
+    let ps = take n t in
+    let is = take m u in
+    let ps_len : length ps ≡ n = length-prefix_len is_parameter_byte t in
+    let is_len : length is ≡ m = length-prefix_len is_intermediate_byte u in
+    let split : t ≡ (ps ++ is ++ final ∷ []) ++ drop (n + m + 1) t
+    = sym (take-append-drop n t) ∙ ap (λ v. ps ++ v) (sym (take-append-drop m u) ∙ ap (λ v. is ++ v) (drop-drop m n t ∙ drop_more t (n + m) 0 inside)) ∙ simp append_assoc in
+    let word : take (n + m + 3) (escape ∷ byte "[" ∷ t) ≡ escape ∷ byte "[" ∷ (ps ++ is ++ final ∷ [])
+    = ap (λ v. take (n + m + 3) (escape ∷ byte "[" ∷ v)) split
+    ∙ take_at (escape ∷ byte "[" ∷ (ps ++ is ++ final ∷ [])) (drop (n + m + 1) t) (n + m + 3) (omega (arith, length-append (ps ++ is) (final ∷ []), length-append ps is)) in
+    ap is_sgr word ∙ sgr-spelled ps is final (all-run is_parameter_byte t) (all-run is_intermediate_byte u) ∙ ap (λ k. (k == 0) && (final == 109)) is_len
+
+-- the code reads these, the intermediate bytes in what is left, and the final byte
+pub control_at-read : (t : List ℕ) (n m final : ℕ) → n ≡ prefix_len is_parameter_byte t → m ≡ prefix_len is_intermediate_byte (take (length t - n) (drop n t)) → final ≡ slice_index t (n + m)
+    → is_final_byte final ≡ true → Some (front_of (if (m == 0) && (final == 109) then Sgr else Other) (n + m + 3)) ≡ control_at t
+unfolding control_at
+control_at-read t n m final parameters intermediates ends passes =
+    let counted : m ≡ intermediates_len t = intermediates ∙ ap (prefix_len is_intermediate_byte) (take_rest t n) ∙ ap (λ k. prefix_len is_intermediate_byte (drop k t)) parameters in
+    let last : final ≡ slice_index t (parameters_len t + intermediates_len t) = ends ∙ ap₂ (λ k j. slice_index t (k + j)) parameters counted in
+    let found : is_final_byte (slice_index t (parameters_len t + intermediates_len t)) ≡ true = ap is_final_byte (sym last) ∙ passes in
+    rw (last, counted, parameters)
+    (ap (λ b. Some (front_of (if b then Sgr else Other) (parameters_len t + intermediates_len t + 3))) (sym (sgr_at t found)) ∙ sym (cond-true _ _ _ found))
+
 no_control : (o : ℕ) → opens_control_sequence o ≡ false → nat_eq 91 o ≡ false
 no_control o h = grind (arith, nat_tests)
 
@@ -101,26 +142,13 @@ control_agrees t =
     let u = drop n t in
     let m = prefix_len is_intermediate_byte u in
     let final = slice_index t (n + m) in
-    let kind = if (m == 0) && (final == byte "m") then Sgr else Other in
-    let f = front_of kind (n + m + 3) in
+    let f = front_of (kind_of (Sequence (take (n + m + 3) (escape ∷ byte "[" ∷ t)))) (n + m + 3) in
     let after : after_control_sequence t ≡ (if is_final_byte final then Some (drop (n + m + 1) t) else None)
     = ap (after_one is_final_byte) (drop-drop m n t) ∙ after_one-at is_final_byte (n + m) t refl in
     let found : is_final_byte final ≡ true → Agrees (escape ∷ byte "[" ∷ t) (Some f) (Some (drop (n + m + 1) t))
     = λ passes.
-    let above : 63 < final = grind (arith, nat_tests) in
-    let inside : n + m < length t = within t (n + m) (omega arith) in
-    let ps = take n t in
-    let is = take m u in
-    let ps_len : length ps ≡ n = length-prefix_len is_parameter_byte t in
-    let is_len : length is ≡ m = length-prefix_len is_intermediate_byte u in
-    let split : t ≡ (ps ++ is ++ final ∷ []) ++ drop (n + m + 1) t
-    = sym (take-append-drop n t) ∙ ap (λ v. ps ++ v) (sym (take-append-drop m u) ∙ ap (λ v. is ++ v) (drop-drop m n t ∙ drop_more t (n + m) 0 inside)) ∙ simp append_assoc in
-    let word : take (n + m + 3) (escape ∷ byte "[" ∷ t) ≡ escape ∷ byte "[" ∷ (ps ++ is ++ final ∷ [])
-    = ap (λ v. take (n + m + 3) (escape ∷ byte "[" ∷ v)) split
-    ∙ take_at (escape ∷ byte "[" ∷ (ps ++ is ++ final ∷ [])) (drop (n + m + 1) t) (n + m + 3) (omega (arith, length-append (ps ++ is) (final ∷ []), length-append ps is)) in
-    let sgr : is_sgr (take (n + m + 3) (escape ∷ byte "[" ∷ t)) ≡ ((m == 0) && (final == 109))
-    = ap is_sgr word ∙ sgr-spelled ps is final (all-run is_parameter_byte t) (all-run is_intermediate_byte u) ∙ ap (λ k. (k == 0) && (final == 109)) is_len in
-    (drop_two escape (byte "[") (n + m + 1) (n + m + 3) t (omega arith), omega arith, ap (λ b. if b then Sgr else Other) (sym sgr)) in
+    let inside = final_within t (n + m) passes in
+    (drop_two escape (byte "[") (n + m + 1) (n + m + 3) t (omega arith), omega arith, refl) in
     subst (Agrees (escape ∷ byte "[" ∷ t) (if is_final_byte final then Some f else None)) (sym after)
     (agrees_where _ (is_final_byte final) (Some f) None (Some (drop (n + m + 1) t)) None found (λ fails. tt))
 

@@ -1,12 +1,13 @@
 -- What stands at the front of a text, as the private functions of the scanner read it: its kind and its length.
 -- No public contract cites this. That it is the first piece of the text is `front_is_first` in proofs/FrontLemmas.antt.
-use Rattle.std.specs.Prelude.{ℕ, ◌+◌, ◌==◌, ◌&&◌, List, Option, Some, None, if◌then◌else◌, slice_index, drop, unwrap_or}
+use Rattle.std.specs.Prelude.{ℕ, ◌+◌, ◌==◌, ◌&&◌, List, ◌∷◌, Option, Some, None, if◌then◌else◌, slice_index, take, drop, unwrap_or}
 use Rattle.std.specs.List.{prefix_len}
 use Rattle.std.specs.Str.{byte}
 use Rattle.ansi_items.specs.declared.ansitok.Kind.{Kind}
 use Rattle.ansi_items.specs.declared.ansitok.Kind.TheVariants.{Text, Sgr, Other, Lone}
 use Rattle.ansi_items.specs.declared.ansitok.grammar.Front.{Front}
 use Rattle.ansi_items.specs.Bytes.{escape, bell, is_parameter_byte, is_intermediate_byte, is_final_byte, is_escape_final_byte, opens_control_string, opens_control_sequence, is_body_byte, is_plain_byte}
+use Rattle.ansi_items.specs.Sequences.{is_sgr}
 
 -- a front of this kind and length
 abbrev pub front_of : Kind → ℕ → Front
@@ -17,9 +18,9 @@ unfoldable pub control_at : List ℕ → Option Front
 control_at bs =
     let parameters = prefix_len is_parameter_byte bs in
     let intermediates = prefix_len is_intermediate_byte (drop parameters bs) in
-    let final = slice_index bs (parameters + intermediates) in
-    let kind = if (intermediates == 0) && (final == byte "m") then Sgr else Other in
-    if is_final_byte final then Some (front_of kind (parameters + intermediates + 3)) else None
+    let len = parameters + intermediates + 3 in
+    let kind = if is_sgr (take len (escape ∷ byte "[" ∷ bs)) then Sgr else Other in
+    if is_final_byte (slice_index bs (parameters + intermediates)) then Some (front_of kind len) else None
 
 -- the control string whose body, after its opener, has this many bytes
 unfoldable pub string_at : List ℕ → ℕ → Option Front

@@ -3,7 +3,9 @@ use Rattle.std.proofs.Common.{◌≡◌, ◌<◌, ◌+◌, ℕ, List, [], ◌∷
 use Rattle.std.specs.Io.KnownBytes.{append_known}
 use Rattle.std.specs.List.{slice_split, flat_map, position_or_len, before_first, after_first, position_from, All}
 use Rattle.std.proofs.lemmas.List.Splits.{slice_split_first, slice_split_none, length-slice_split}
-use Rattle.std.proofs.lemmas.List.Sums.{fails_before_first, take_while-cons}
+use Rattle.std.proofs.lemmas.Bool.{false_from_ne_true}
+use Rattle.std.proofs.lemmas.List.Sums.{fails_before_first, position_or_len_is, take_while-cons}
+use Rattle.memchr.specs.Find.{IsFirstByte, is_byte}
 use Rattle.ansi_lines.specs.Lines.{Line, line_feed, is_line_feed, lines, lines_of_pieces, answer_of, answer_to, answers, is_refused, first_refused, WritesAnswer}
 use Rattle.ansi_lines.specs.Words.{Work}
 
@@ -11,6 +13,14 @@ use Rattle.ansi_lines.specs.Words.{Work}
 lines_of_pieces-cons : (piece : List ℕ) (pieces : List (List ℕ)) → 0 < length pieces → lines_of_pieces (piece ∷ pieces) ≡ record { text = piece; ended = true } ∷ lines_of_pieces pieces
 lines_of_pieces-cons piece [] some = absurd (omega arith)
 lines_of_pieces-cons piece (next ∷ more) some = refl
+
+-- a search for a line feed that finds one
+pub first_found : (text : List ℕ) (end : ℕ) → IsFirstByte (is_byte line_feed) text (Some end) → position_or_len is_line_feed text ≡ end
+first_found text end h = position_or_len_is is_line_feed text end 0 (omega (arith, h.0.high)) (λ k below. false_from_ne_true _ (h.0.before k (omega arith) below)) (λ _. h.1)
+
+-- a search for a line feed that finds none
+pub none_found : (text : List ℕ) → IsFirstByte (is_byte line_feed) text None → position_or_len is_line_feed text ≡ length text
+none_found text h = position_or_len_is is_line_feed text (length text) 0 (omega arith) (λ k below. false_from_ne_true _ (h k (omega arith) below)) (λ inside. absurd (omega arith))
 
 -- a text with a line feed has a first line, and the others
 pub lines-first : (text line more : List ℕ)

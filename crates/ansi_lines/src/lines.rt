@@ -1,14 +1,16 @@
 //! Answers a text line by line.
-ghost use Rattle.std.specs.Prelude.{◌≡◌, IfErr, IfOk, OnOk};
+ghost use Rattle.std.specs.Prelude.{◌≡◌, ◌<◌, length, IfErr, IfNone, IfOk, IfSome, OnOk};
+ghost use Rattle.std.specs.List.{after_first, before_first, position_or_len};
 ghost use Rattle.std.specs.Option.{option_map};
 ghost use Rattle.std.specs.Cow.{cow_str_bytes};
 ghost use Rattle.std.specs.Io.KnownBytes.{append_known};
 ghost use Rattle.ansi_lines.specs.Jobs.{work_of};
-ghost use Rattle.ansi_lines.specs.Lines.{answer_of, answers, first_refused, StopsWriting, WritesAnswer, WritesBeginning};
+ghost use Rattle.ansi_lines.specs.Lines.{answer_of, answers, first_refused, is_line_feed, StopsWriting, WritesAnswer, WritesBeginning};
 
 use crate::devices::Sink;
 use crate::stop::Stop;
 use crate::words::Job;
+use memchr::memchr;
 use std::alloc::{AllocError, Allocator};
 use std::borrow::CowStr;
 
@@ -31,7 +33,7 @@ pub fn write_lines<A: Allocator + Copy, W: Sink>(
 {
     let mut rest = text;
     let mut number = 1;
-    while let Some((line, more)) = rest.split_once('\n') {
+    while let Some((line, more)) = first_line(rest) {
         if !write_answer(alloc, job, line, output)? {
             return Ok(Some(number));
         }
@@ -47,6 +49,17 @@ pub fn write_lines<A: Allocator + Copy, W: Sink>(
     } else {
         Ok(Some(number))
     }
+}
+
+// The text of the first line and what stands after its line feed, if a line feed stands in the text.
+fn first_line(text: &str) -> Option<(&str, &str)>
+    ensures none { IfNone result (position_or_len is_line_feed text.now ≡ length text.now) }
+    ensures some { IfSome result (λ _. position_or_len is_line_feed text.now < length text.now) }
+    ensures line { IfSome result (λ cut. cut.0.now ≡ before_first is_line_feed text.now) }
+    ensures more { IfSome result (λ cut. cut.1.now ≡ after_first is_line_feed text.now) }
+{
+    let end = memchr(b'\n', text.as_bytes())?;
+    Some((&text[..end], &text[end + 1..]))
 }
 
 // Writes the answer to a line's text, all of it or, for want of memory, nothing. It is false where

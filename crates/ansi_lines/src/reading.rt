@@ -16,7 +16,7 @@ pub const MAX_BYTES: usize = 1_048_576;
 pub const MAX_READS: usize = 2_097_154;
 
 // How many bytes a read may give at most.
-const ROOM: usize = 4096;
+const ROOM: usize = 65_536;
 
 /// Reads all that is left, which has to be a text of no more than `MAX_BYTES` bytes.
 ///

@@ -74,7 +74,7 @@ fn expect(rt: &impl Abort, ran: &Ran, status: u8, output: &str, faults: &str, wh
 // What the words make of an input, all of which is passed on.
 type Row = (&'static [&'static str], &'static str, &'static str);
 
-const ANSWERED: [Row; 31] = [
+const ANSWERED: [Row; 32] = [
     (
         &["strip"],
         "\x1b[31mred\x1b[39m and plain\n",
@@ -95,6 +95,7 @@ const ANSWERED: [Row; 31] = [
         "\x1b[30mEX\x1b[39m\nbc",
     ),
     (&["cut:3:1"], "", ""),
+    (&["cut:0:1"], "\x1b[mab", "\x1b[ma"),
     (&["cut:0:"], "a\n\nb", "a\n\nb"),
     (&["cut:2:"], "é\nabc\n", "\nc\n"),
     (&["cut:0:0"], "ab\ncd", "\n"),

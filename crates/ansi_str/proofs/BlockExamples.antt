@@ -25,9 +25,13 @@ bold_after_a_color_that_is_none : blocks (codes "\u{1b}[38;7;1mx") ≡ block (co
 unfolding blocks_from
 bold_after_a_color_that_is_none = refl
 
-empty_field : blocks (codes "\u{1b}[mx") ≡ block (codes "x") (record plain_style { unknown = true }) true ∷ []
+empty_field : blocks (codes "\u{1b}[mx") ≡ block (codes "x") (record plain_style { reset = true }) true ∷ []
 unfolding blocks_from
 empty_field = refl
+
+leading_zero : blocks (codes "\u{1b}[1;01mx") ≡ block (codes "x") (record plain_style { bold = true }) true ∷ []
+unfolding blocks_from
+leading_zero = refl
 
 kept_background : blocks (codes "\u{1b}[41;30mqwe:TEXT\u{1b}[39m \u{1b}[34mQWE")
     ≡ block (codes "qwe:TEXT") (record plain_style { foreground = Some (Bit4 30); background = Some (Bit4 41) }) true

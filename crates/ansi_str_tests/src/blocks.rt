@@ -37,7 +37,7 @@ const BLACK_ON_RED: StyleLook = (
 
 const WHITE: Option<Color> = Some(Color::Rgb(255, 255, 255));
 
-static ROWS: [Row; 14] = [
+static ROWS: [Row; 15] = [
     // Texts without ESC.
     ("", &[]),
     ("213\n456", &[("213\n456", PLAIN, true)]),
@@ -54,7 +54,11 @@ static ROWS: [Row; 14] = [
             true,
         )],
     ),
-    ("\x1b[mx", &[("x", (UNKNOWN, "", false, None, None), true)]),
+    ("\x1b[mx", &[("x", (RESET, "", false, None, None), true)]),
+    (
+        "\x1b[1;01mx",
+        &[("x", (UNMARKED, "\x1b[1m", true, None, None), true)],
+    ),
     (
         "\x1b[1;?2mx",
         &[("x", (UNKNOWN, "\x1b[1m", true, None, None), true)],

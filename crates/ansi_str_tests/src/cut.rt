@@ -91,7 +91,7 @@ static ROWS: [Row; 28] = [
     // The attributes `reset` and `unknown`.
     ("\x1b[99ma,b", Range(0, 1), "\x1b[99ma\x1b[0m", false),
     ("\x1b[0mab", Range(0, 1), "\x1b[0ma", false),
-    ("\x1b[mab", Range(0, 1), "\x1b[ma\x1b[0m", false),
+    ("\x1b[mab", Range(0, 1), "\x1b[ma", false),
     // The longest close, of 88 bytes.
     (
         "\x1b[0;99;11;1;3;4;5;7;8;9;31;41;26;51;53;60;58;5;1;73mx",
@@ -193,10 +193,8 @@ fn many_fields_are_read(rt: HostRuntime) -> Result<(), Fail> {
         sgr.push_str("1;")?;
     }
     sgr.push_str("mx")?;
-    let mut want = sgr.clone()?;
-    // The last field is empty, an unknown code.
-    want.push_str("\x1b[22m\x1b[0m")?;
+    // The last field is empty, and resets.
     let got = Range(0, 1).cut(&rt, rt.alloc(), &sgr)?;
-    assert!(rt; got.as_str() == want.as_str(), "cut after 100,000 fields");
+    assert!(rt; got.as_str() == sgr.as_str(), "cut after 100,000 fields");
     Ok(())
 }

@@ -141,10 +141,7 @@ static ROWS: [Row; 21] = [
     (
         "\x1b[1ma\x1b[mb,c",
         ",",
-        &[
-            ("\x1b[1ma\x1b[mb\x1b[22m\x1b[0m", false),
-            ("\x1b[1mc\x1b[22m\x1b[0m", false),
-        ],
+        &[("\x1b[1ma\x1b[mb", false), ("c", true)],
     ),
     // Other sequences, and an SGR with a private parameter byte.
     (

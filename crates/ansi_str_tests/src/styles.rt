@@ -181,7 +181,7 @@ pub fn expect_style(
 /// The parameters of an SGR, and the marks and the start of the style after it.
 type ParametersRow = (&'static str, &'static str, &'static str);
 
-static PARAMETERS_ROWS: [ParametersRow; 11] = [
+static PARAMETERS_ROWS: [ParametersRow; 22] = [
     ("38;7;1", UNMARKED, "\x1b[1m"),
     ("38;5", UNMARKED, ""),
     ("38;2;1;2", UNMARKED, ""),
@@ -191,8 +191,20 @@ static PARAMETERS_ROWS: [ParametersRow; 11] = [
     ("1;0", RESET, ""),
     ("99;0", RESET, ""),
     ("0;99", RESET_AND_UNKNOWN, ""),
-    ("", UNKNOWN, ""),
     ("0", RESET, ""),
+    // Empty fields, and leading zeros.
+    ("", RESET, ""),
+    ("000", RESET, ""),
+    ("31;", RESET, ""),
+    ("1;;4", RESET, "\x1b[4m"),
+    ("38;;1", UNMARKED, "\x1b[1m"),
+    ("01", UNMARKED, "\x1b[1m"),
+    ("0031", UNMARKED, "\x1b[31m"),
+    ("0107", UNMARKED, "\x1b[107m"),
+    ("038;05;7", UNMARKED, "\x1b[38;5;7m"),
+    ("048;02;1;2;3", UNMARKED, "\x1b[48;2;1;2;3m"),
+    ("099", UNKNOWN, ""),
+    ("38:5:1", UNKNOWN, ""),
 ];
 
 fn expect_parameters(rt: &impl Abort, alloc: Global, row: &ParametersRow) -> Result<(), Fail> {
@@ -214,8 +226,9 @@ fn parameters_are_read(rt: HostRuntime) -> Result<(), Fail> {
 /// also where a style has nothing to end.
 type PrintedRow = (&'static str, &'static str, &'static str);
 
-static PRINTED_ROWS: [PrintedRow; 7] = [
-    ("", "", "\x1b[0m"),
+static PRINTED_ROWS: [PrintedRow; 8] = [
+    ("99", "", "\x1b[0m"),
+    ("", "", ""),
     ("1;31", "\x1b[1m\x1b[31m", "\x1b[22m\x1b[39m"),
     ("0", "", ""),
     ("0;99", "", "\x1b[0m\x1b[0m"),

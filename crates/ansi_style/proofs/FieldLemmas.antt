@@ -9,7 +9,7 @@ use Rattle.std.specs.Result.{result_ok, OkIff}
 use Rattle.std.proofs.lemmas.Bool.{cases_Bool, cond_both, and_parts, and_from, cond-true, cond-false, leb-true, le-leb, lt-ltb, ne_eqb, eq-eqb}
 use Rattle.std.proofs.lemmas.List.Splits.{slice_split-cons_yes, slice_split-cons_no}
 use Rattle.std.proofs.lemmas.Str.{digit_value_digit}
-use Rattle.ansi_style.specs.Sgr.{fields_of, number_of}
+use Rattle.ansi_style.specs.Sgr.{fields_of, number_of, code_of}
 use Rattle.ansi_style.specs.Fields.{with_digit}
 
 -- a field that a semicolon ends, and those after it
@@ -75,7 +75,7 @@ tells (b ∷ t) n small = elim (cases_Bool (is_ascii_digit b)) [
 ]
 
 -- the number that is read is that of a field, where it is at most 255 and the field isn't empty
-pub number_of-read : {E : Type 0} (t : List ℕ) (r : Result ℕ E) → 0 < length t → OkIff r (fold with_digit 0 t < 2 ^ 8) (fold with_digit 0 t) → result_ok r ≡ number_of t
+number_of-read : {E : Type 0} (t : List ℕ) (r : Result ℕ E) → 0 < length t → OkIff r (fold with_digit 0 t < 2 ^ 8) (fold with_digit 0 t) → result_ok r ≡ number_of t
 number_of-read t (Ok n) some (fits, value) =
     let told = tells t 0 (omega (arith, fits)) in
     ap Some (value ∙ sym told.1)
@@ -86,3 +86,9 @@ number_of-read t (Err e) some none = elim (cases_Bool (nat_lt 0 (length t) && (a
       absurd (none (omega (arith, reads t 0 two.0 small, small))))
   | inr isnt ↦ sym (cond-false _ _ _ isnt)
 ]
+
+-- so it is what a field is read as
+pub code_of-read : {E : Type 0} (t : List ℕ) (r : Result ℕ E) → OkIff r (fold with_digit 0 t < 2 ^ 8) (fold with_digit 0 t) → result_ok r ≡ code_of t
+code_of-read [] (Ok n) (fits, value) = ap Some value
+code_of-read [] (Err e) none = absurd (none (omega arith))
+code_of-read (b ∷ t) r read = number_of-read (b ∷ t) r (omega arith) read

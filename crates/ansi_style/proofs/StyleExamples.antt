@@ -322,16 +322,39 @@ color_number_empty_then_bold = refl
 underline_color_then_underline : apply_parameters plain_style (codes "58;5;255;4") ≡ record plain_style { underline_color = Some (Bit8 255); underline = true }
 underline_color_then_underline = refl
 
--- Fields that are no codes.
+-- Empty fields, and leading zeros.
 
-empty_field : apply_parameters plain_style [] ≡ record plain_style { unknown = true }
+empty_field : apply_parameters plain_style [] ≡ record plain_style { reset = true }
 empty_field = refl
 
-leading_zero : apply_parameters plain_style (codes "01") ≡ record plain_style { unknown = true }
+empty_last_field : apply_parameters plain_style (codes "31;") ≡ record plain_style { reset = true }
+empty_last_field = refl
+
+empty_field_in_the_middle : apply_parameters plain_style (codes "1;;4") ≡ record plain_style { underline = true; reset = true }
+empty_field_in_the_middle = refl
+
+empty_selector_then_bold : apply_parameters plain_style (codes "38;;1") ≡ record plain_style { bold = true }
+empty_selector_then_bold = refl
+
+zeros : apply_parameters plain_style (codes "000") ≡ record plain_style { reset = true }
+zeros = refl
+
+leading_zero : apply_parameters plain_style (codes "01") ≡ record plain_style { bold = true }
 leading_zero = refl
 
-selector_with_leading_zero : apply_parameters plain_style (codes "38;05;1") ≡ record plain_style { bold = true }
+leading_zeros : apply_parameters plain_style (codes "0031") ≡ record plain_style { foreground = Some (Bit4 31) }
+leading_zeros = refl
+
+selector_with_leading_zero : apply_parameters plain_style (codes "038;05;7") ≡ record plain_style { foreground = Some (Bit8 7) }
 selector_with_leading_zero = refl
+
+other_selector_with_leading_zero : apply_parameters plain_style (codes "048;02;1;2;3") ≡ record plain_style { background = Some (Bit24 1 2 3) }
+other_selector_with_leading_zero = refl
+
+unknown_with_leading_zero : apply_parameters plain_style (codes "099") ≡ record plain_style { unknown = true }
+unknown_with_leading_zero = refl
+
+-- Fields that are no codes.
 
 colons : apply_parameters plain_style (codes "38:5:1") ≡ record plain_style { unknown = true }
 colons = refl

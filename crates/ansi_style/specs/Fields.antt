@@ -1,13 +1,6 @@
 -- What the code reads of a field; no public contract cites it.
-use Rattle.std.specs.Prelude.{ℕ, ◌+◌, ◌-◌, ◌*◌, ◌&&◌, ◌||◌, ◌==◌, not, List, [], ◌∷◌, length, Option, Some, None, if◌then◌else◌, slice_index, nat_le}
+use Rattle.std.specs.Prelude.{ℕ, ◌+◌, ◌-◌, ◌*◌, ◌&&◌, List, [], ◌∷◌, Option, Some, None, if◌then◌else◌, nat_le}
 use Rattle.std.specs.Char.{is_ascii_digit}
-use Rattle.std.specs.Str.{byte}
-use Rattle.ansi_style.specs.declared.state.fields.Field.{Field}
-use Rattle.ansi_style.specs.Sgr.{number_of}
-
--- a field, as its number and whether that may be a code, since it has no leading zero
-abbrev pub field_of : List ℕ → Field
-field_of t = record { number = number_of t; may_be_code = length t == 1 || not (slice_index t 0 == byte "0") }
 
 -- the first field, as `read` has it, and those after it
 abbrev pub first_field : {A : Type 0} → (List ℕ → A) → List (List ℕ) → Option A × List (List ℕ)

@@ -1,5 +1,5 @@
 -- The SGR table: what the codes of an SGR do to a style (ECMA-48, section 8.3.117, and the Rust crate for what it lacks).
-use Rattle.std.specs.Prelude.{ℕ, zero, suc, Bool, true, false, ◌&&◌, List, [], ◌∷◌, length, ◌==◌, nat_le, nat_lt, Option, Some, None, if◌then◌else◌, find, fold, not, ◌||◌, slice_index, unwrap_or}
+use Rattle.std.specs.Prelude.{ℕ, zero, suc, Bool, true, false, ◌&&◌, List, [], ◌∷◌, length, ◌==◌, nat_le, nat_lt, Option, Some, None, if◌then◌else◌, find, fold, unwrap_or}
 use Rattle.std.specs.List.{slice_split}
 use Rattle.std.specs.Int.{is_in_range}
 use Rattle.std.specs.Option.{option_map_or}
@@ -91,9 +91,10 @@ number_of field =
     if nat_lt 0 (length field) && (all_ascii_digits field && nat_le (digits_value 10 field) 255)
     then Some (digits_value 10 field) else None
 
--- a field is read as a code where it is a number without leading zeros (the Rust crate)
+-- a field is read as a code where it is a number, and an empty one as 0 (ECMA-48, sections 5.4.2 and 8.3.117)
 abbrev pub code_of : List ℕ → Option ℕ
-code_of field = if length field == 1 || not (slice_index field 0 == byte "0") then number_of field else None
+code_of [] = Some 0
+code_of field = number_of field
 
 -- the effect of a number as a code
 abbrev pub effect_of_code : ℕ → Effect

@@ -235,13 +235,15 @@ fn codes_are_closed_as_defined(rt: HostRuntime) -> Result<(), Fail> {
     Ok(())
 }
 
-/// Fields that are no code, though they resemble one.
-static ODD_FIELDS: [&str; 10] = [
+/// Fields that are a code written otherwise, or no code though they resemble one.
+static ODD_FIELDS: [&str; 12] = [
     "",
     "00",
     "01",
     "022",
+    "0031",
     "256",
+    "0256",
     "257",
     "65537",
     "18446744073709551617",
@@ -250,7 +252,17 @@ static ODD_FIELDS: [&str; 10] = [
 ];
 
 /// Fields that stand before an odd one.
-static FRONTS: [&str; 7] = ["", "1;", "0;", "38;", "48;2;", "58;5;", "38;2;1;2;"];
+static FRONTS: [&str; 9] = [
+    "",
+    "1;",
+    "0;",
+    "38;",
+    "48;2;",
+    "58;5;",
+    "38;2;1;2;",
+    "038;05;",
+    "48;02;",
+];
 
 /// Compares the closes of an odd field after such fields, at the end and before others.
 fn expect_odd_field(rt: &impl Abort, alloc: Global, front: &str, field: &str) -> Result<(), Fail> {

@@ -56,6 +56,18 @@ static CLOSING_CODES: [&str; 16] = [
     "10", "22", "23", "24", "25", "27", "28", "29", "39", "49", "50", "54", "55", "65", "59", "75",
 ];
 
+/// What a field is read as, where it is read as a code: digits are read without the zeros before
+/// them, and no digit but zeros, or none at all, is a zero.
+fn code(field: &str) -> &str {
+    if !field.bytes().all(|b| b.is_ascii_digit()) {
+        return field;
+    }
+    match field.trim_start_matches('0') {
+        "" => "0",
+        digits => digits,
+    }
+}
+
 /// A style: the names that are set, each once and with the code that clears it.
 #[derive(Drop)]
 pub struct NamedStyle {
@@ -108,7 +120,7 @@ impl NamedStyle {
 
     /// Changes the style by the parameters of an SGR.
     pub fn apply(&mut self, alloc: Global, parameters: &str) -> Result<(), AllocError> {
-        let fields: Vec<&str> = parameters.split(';').collect(alloc)?;
+        let fields: Vec<&str> = parameters.split(';').map(code).collect(alloc)?;
         let mut start = 0usize;
         for _ in 0..fields.len() {
             let rest = fields.get(start..).unwrap_or(&[]);

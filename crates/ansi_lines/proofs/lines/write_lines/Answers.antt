@@ -1,4 +1,4 @@
-use Rattle.std.proofs.Common.{rules, ◌≡◌, ◌<◌, ◌+◌, ◌∙◌, ap, sym, length, arith, ◌++◌, ◌∷◌, [], lit<, append-nil, refl, true, false, length-drop, Some}
+use Rattle.std.proofs.Common.{rules, ◌≡◌, ◌<◌, ◌+◌, ◌∙◌, ap, sym, length, arith, ◌++◌, ◌∷◌, [], append-nil, refl, true, false, length-drop, Some}
 use Rattle.std.specs.List.{position_or_len, before_first, after_first}
 use Rattle.std.proofs.lemmas.Bool.Decides.{nat_tests}
 use Rattle.ansi_lines.specs.Jobs.{work_of}
@@ -16,7 +16,7 @@ loop-line-preserved g c =
     let more = c.in-Some.more.now in
     let line : Line = record { text = c.in-Some.line.now; ended = true } in
     let cut : (line.text ≡ before_first is_line_feed rest) × (more ≡ after_first is_line_feed rest) × (position_or_len is_line_feed rest < length rest) =
-    c.in-Some.ensures.byte (lit< tt) (λ w o h. h) in
+    (c.in-Some.ensures.line, c.in-Some.ensures.more, c.in-Some.ensures.some) in
     let (answer, wrote, splits, goes_on) = line-answered _ _ (work_of c.args.job.now) c.loop-line.number rest line more (lines-first rest line.text more cut) c.if-not-branch.false c.in_ok-write_answer.ensures.done in
     let shorter : length more < length rest = rw cut.1 (omega (arith, cut.2, length-drop (position_or_len is_line_feed rest + 1) rest)) in
     record {
@@ -33,7 +33,7 @@ refused-ended : (g : Over) (c : goal.Then-not-branch g)
     → (g.W.Sink.taken c.write_answer.new.output ≡ g.W.Sink.taken c.loop-line.output) × (answers (work_of c.args.job.now) c.loop-line.rest.now ≡ []) × (first_refused c.loop-line.number (work_of c.args.job.now) c.loop-line.rest.now ≡ Some c.loop-line.number)
 refused-ended g c =
     line-refused _ _ (work_of c.args.job.now) c.loop-line.number c.loop-line.rest.now (record { text = c.in-Some.line.now; ended = true }) c.in-Some.more.now
-    (lines-first _ _ _ (c.in-Some.ensures.byte (lit< tt) (λ w o h. h))) c.if-not-branch.true c.in_ok-write_answer.ensures.done
+    (lines-first _ _ _ (c.in-Some.ensures.line, c.in-Some.ensures.more, c.in-Some.ensures.some)) c.if-not-branch.true c.in_ok-write_answer.ensures.done
 
 pub returns-then-not-branch-clause-done : goal.returns-then-not-branch-clause-done
 returns-then-not-branch-clause-done g c =
@@ -62,7 +62,7 @@ returns-then-branch-clause-done g c =
     let rest = c.loop-line.rest.now in
     let some : 0 < length rest = grind (arith, nat_tests, c.if-is_empty.false, c.is_empty.ensures) in
     let (answer, wrote, splits, goes_on) = line-answered _ _ (work_of c.args.job.now) c.loop-line.number rest (record { text = rest; ended = false }) []
-    (lines-last rest (c.in_default.ensures.byte (lit< tt) (λ w o h. h)) some) c.if-branch.true c.in_ok-write_answer-2.ensures.done in
+    (lines-last rest c.in_default.ensures.none some) c.if-branch.true c.in_ok-write_answer-2.ensures.done in
     HasWritten-all {all = answers (work_of c.args.job.now) c.args.text.now} (HasWritten-more {all = answers (work_of c.args.job.now) c.args.text.now} _ answer _ c.loop-line.invariant.written wrote (splits ∙ ap (λ xs. xs ++ answers (work_of c.args.job.now) []) (append-nil answer))) refl
     (answers-empty (work_of c.args.job.now) c.loop-line.number [] refl).0
 
@@ -71,7 +71,7 @@ returns-then-branch-clause-refused g c =
     let rest = c.loop-line.rest.now in
     let some : 0 < length rest = grind (arith, nat_tests, c.if-is_empty.false, c.is_empty.ensures) in
     let (answer, wrote, splits, goes_on) = line-answered _ _ (work_of c.args.job.now) c.loop-line.number rest (record { text = rest; ended = false }) []
-    (lines-last rest (c.in_default.ensures.byte (lit< tt) (λ w o h. h)) some) c.if-branch.true c.in_ok-write_answer-2.ensures.done in
+    (lines-last rest c.in_default.ensures.none some) c.if-branch.true c.in_ok-write_answer-2.ensures.done in
     sym (c.loop-line.invariant.none_refused ∙ goes_on ∙ (answers-empty (work_of c.args.job.now) (c.loop-line.number + 1) [] refl).1)
 
 -- the last line is refused
@@ -81,7 +81,7 @@ refused-last g c =
     let rest = c.loop-line.rest.now in
     let some : 0 < length rest = grind (arith, nat_tests, c.if-is_empty.false, c.is_empty.ensures) in
     line-refused _ _ (work_of c.args.job.now) c.loop-line.number rest (record { text = rest; ended = false }) []
-    (lines-last rest (c.in_default.ensures.byte (lit< tt) (λ w o h. h)) some) c.if-branch.false c.in_ok-write_answer-2.ensures.done
+    (lines-last rest c.in_default.ensures.none some) c.if-branch.false c.in_ok-write_answer-2.ensures.done
 
 pub returns-else-branch-clause-done : goal.returns-else-branch-clause-done
 returns-else-branch-clause-done g c =

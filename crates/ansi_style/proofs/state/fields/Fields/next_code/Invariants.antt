@@ -1,7 +1,7 @@
 use Rattle.std.proofs.Common.{◌≡◌, ◌≢◌, ℕ, ◌<◌, fold, take, get_or}
 use Rattle.std.specs.Str.{byte}
 use Rattle.ansi_style.specs.Fields.{with_digit}
-use Rattle.ansi_style.proofs.state.fields.Fields.next.Given as goal
+use Rattle.ansi_style.proofs.state.fields.Fields.next_code.Given as goal
 
 -- no semicolon so far, and the digits so far are read
 abbrev pub invariant-loop-i : goal.invariant-loop-i
