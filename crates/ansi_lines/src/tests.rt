@@ -66,15 +66,15 @@ fn at_call(alloc: Global, call: usize, outcome: Outcome) -> Result<Vec<Outcome>,
 }
 
 fn expect(rt: &impl Abort, ran: &Ran, status: u8, output: &str, faults: &str, what: &str) {
-    assert_eq!(rt; ran.status, status, "status of {what}");
-    assert_eq!(rt; ran.output.bytes(), output.as_bytes(), "output of {what}");
-    assert_eq!(rt; ran.faults.bytes(), faults.as_bytes(), "faults of {what}");
+    assert!(rt; ran.status == status, "status of {what}");
+    assert!(rt; ran.output.bytes() == output.as_bytes(), "output of {what}");
+    assert!(rt; ran.faults.bytes() == faults.as_bytes(), "faults of {what}");
 }
 
 // What the words make of an input, all of which is passed on.
 type Row = (&'static [&'static str], &'static str, &'static str);
 
-const ANSWERED: [Row; 32] = [
+static ANSWERED: [Row; 32] = [
     (
         &["strip"],
         "\x1b[31mred\x1b[39m and plain\n",
@@ -129,16 +129,21 @@ const ANSWERED: [Row; 32] = [
     (&["part:1::"], "a:b:c\n", "b\n"),
 ];
 
+fn expect_answered(rt: &impl Abort, alloc: Global, row: &Row) -> Result<(), Fail> {
+    let (words, text, answer) = *row;
+    let ran = run_on(alloc, words, page_of(alloc, text.as_bytes())?)?;
+    expect(rt, &ran, 0, answer, "", text);
+    assert!(rt;
+        ran.output.passed() == answer.len(),
+        "what {words:?} passes on of {text:?}"
+    );
+    Ok(())
+}
+
 #[test]
 fn each_line_is_answered(rt: HostRuntime) -> Result<(), Fail> {
-    for (words, text, answer) in ANSWERED {
-        let ran = run_on(rt.alloc(), words, page_of(rt.alloc(), text.as_bytes())?)?;
-        expect(&rt, &ran, 0, answer, "", text);
-        assert_eq!(rt;
-            ran.output.passed(),
-            answer.len(),
-            "what is passed on of {text:?}"
-        );
+    for row in &ANSWERED {
+        expect_answered(&rt, rt.alloc(), row)?;
     }
     Ok(())
 }
@@ -151,7 +156,7 @@ type Refusal = (
     &'static str,
 );
 
-const REFUSED: [Refusal; 14] = [
+static REFUSED: [Refusal; 14] = [
     (&["cut:1:"], "ab\né\n", "b\n", "line 2: refused\n"),
     (&["cut:1:"], "é", "", "line 1: refused\n"),
     (&["cut:1:"], "é\né\nab\n", "", "line 1: refused\n"),
@@ -198,21 +203,26 @@ const REFUSED: [Refusal; 14] = [
     ),
 ];
 
+fn expect_refused(rt: &impl Abort, alloc: Global, row: &Refusal) -> Result<(), Fail> {
+    let (words, text, before, refused) = *row;
+    let ran = run_on(alloc, words, page_of(alloc, text.as_bytes())?)?;
+    expect(rt, &ran, 1, before, refused, text);
+    assert!(rt;
+        ran.output.passed() == before.len(),
+        "what {words:?} passes on of {text:?}"
+    );
+    Ok(())
+}
+
 #[test]
 fn a_refused_line_ends_the_run(rt: HostRuntime) -> Result<(), Fail> {
-    for (words, text, before, refused) in REFUSED {
-        let ran = run_on(rt.alloc(), words, page_of(rt.alloc(), text.as_bytes())?)?;
-        expect(&rt, &ran, 1, before, refused, text);
-        assert_eq!(rt;
-            ran.output.passed(),
-            before.len(),
-            "what is passed on of {text:?}"
-        );
+    for row in &REFUSED {
+        expect_refused(&rt, rt.alloc(), row)?;
     }
     Ok(())
 }
 
-const BAD_WORDS: [&[&str]; 49] = [
+static BAD_WORDS: [&[&str]; 49] = [
     &[],
     &["strip", "trim"],
     &["strip", "strip"],
@@ -264,52 +274,70 @@ const BAD_WORDS: [&[&str]; 49] = [
     &["prefix "],
 ];
 
+fn expect_bad(rt: &impl Abort, alloc: Global, words: &[&str]) -> Result<(), Fail> {
+    let planned = at_call(alloc, 0, Outcome::Failed)?;
+    let input = page_of(alloc, b"abc\n")?.with_schedule(planned.clone()?);
+    let output = Page::with_room(alloc, 100)?.with_schedule(planned);
+    let faults = Page::with_room(alloc, 100)?;
+    let ran = run_over(alloc, words, input, output, faults)?;
+    assert!(rt; ran.status == 2, "status of {words:?}");
+    assert!(rt;
+        ran.faults.bytes() == b"bad words\n".as_slice(),
+        "faults of {words:?}"
+    );
+    assert!(rt; ran.input.outcomes_left() == 1, "a read for {words:?}");
+    assert!(rt; ran.output.outcomes_left() == 1, "a write for {words:?}");
+    Ok(())
+}
+
 #[test]
 fn bad_words_read_nothing(rt: HostRuntime) -> Result<(), Fail> {
-    for words in BAD_WORDS {
-        let planned = at_call(rt.alloc(), 0, Outcome::Failed)?;
-        let input = page_of(rt.alloc(), b"abc\n")?.with_schedule(planned.clone()?);
-        let output = Page::with_room(rt.alloc(), 100)?.with_schedule(planned);
-        let faults = Page::with_room(rt.alloc(), 100)?;
-        let ran = run_over(rt.alloc(), words, input, output, faults)?;
-        assert_eq!(rt; ran.status, 2, "status of {words:?}");
-        assert_eq!(rt;
-            ran.faults.bytes(),
-            b"bad words\n".as_slice(),
-            "faults of {words:?}"
-        );
-        assert_eq!(rt; ran.input.outcomes_left(), 1, "a read for {words:?}");
-        assert_eq!(rt; ran.output.outcomes_left(), 1, "a write for {words:?}");
+    for words in &BAD_WORDS {
+        expect_bad(&rt, rt.alloc(), words)?;
     }
+    Ok(())
+}
+
+fn expect_limit(rt: &impl Abort, alloc: Global, word: &str) -> Result<(), Fail> {
+    let longest = vec![in alloc; b'a'; 1_048_576]?;
+    let input = Page::of(alloc, longest.clone()?);
+    let output = Page::with_room(alloc, 1_048_576)?;
+    let faults = Page::with_room(alloc, 100)?;
+    let ran = run_over(alloc, &[word], input, output, faults)?;
+    assert!(rt; ran.status == 0, "status of {word} on the longest input");
+    assert!(rt;
+        ran.output.bytes() == longest.as_slice(),
+        "output of {word} on the longest input"
+    );
+    let longer = vec![in alloc; b'a'; 1_048_577]?;
+    let ran = run_on(alloc, &[word], Page::of(alloc, longer))?;
+    expect(rt, &ran, 3, "", "bad input\n", "an input that is too long");
     Ok(())
 }
 
 #[test]
 fn an_input_at_the_limit_is_taken_and_one_beyond_refused(rt: HostRuntime) -> Result<(), Fail> {
-    for word in ["strip", "trim"] {
-        let longest = vec![in rt.alloc(); b'a'; 1_048_576]?;
-        let input = Page::of(rt.alloc(), longest.clone()?);
-        let output = Page::with_room(rt.alloc(), 1_048_576)?;
-        let faults = Page::with_room(rt.alloc(), 100)?;
-        let ran = run_over(rt.alloc(), &[word], input, output, faults)?;
-        assert_eq!(rt; ran.status, 0, "status of {word} on the longest input");
-        assert!(rt;
-            ran.output.bytes() == longest.as_slice(),
-            "output of {word} on the longest input"
-        );
-        let longer = vec![in rt.alloc(); b'a'; 1_048_577]?;
-        let ran = run_on(rt.alloc(), &[word], Page::of(rt.alloc(), longer))?;
-        expect(&rt, &ran, 3, "", "bad input\n", "an input that is too long");
-    }
+    expect_limit(&rt, rt.alloc(), "strip")?;
+    expect_limit(&rt, rt.alloc(), "trim")
+}
+
+static NO_TEXTS: [&[u8]; 3] = [b"\xff", b"abc\n\xc3", b"\xed\xa0\x80\n"];
+
+fn expect_no_text(rt: &impl Abort, alloc: Global, bytes: &[u8]) -> Result<(), Fail> {
+    let ran = run_on(alloc, &["strip"], page_of(alloc, bytes)?)?;
+    assert!(rt; ran.status == 3, "status of {bytes:?}");
+    assert!(rt; ran.output.bytes().is_empty(), "output of {bytes:?}");
+    assert!(rt;
+        ran.faults.bytes() == b"bad input\n".as_slice(),
+        "faults of {bytes:?}"
+    );
     Ok(())
 }
 
 #[test]
 fn an_input_that_is_no_text_is_refused(rt: HostRuntime) -> Result<(), Fail> {
-    let cases: [&[u8]; 3] = [b"\xff", b"abc\n\xc3", b"\xed\xa0\x80\n"];
-    for bytes in cases {
-        let ran = run_on(rt.alloc(), &["strip"], page_of(rt.alloc(), bytes)?)?;
-        expect(&rt, &ran, 3, "", "bad input\n", "bytes that are no text");
+    for bytes in &NO_TEXTS {
+        expect_no_text(&rt, rt.alloc(), bytes)?;
     }
     Ok(())
 }

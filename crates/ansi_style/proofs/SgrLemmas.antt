@@ -1,5 +1,5 @@
 -- What is known of a style after a sequence depends on what was known before, and on the sequence.
-use Rattle.std.proofs.Common.{◌≡◌, ℕ, zero, suc, List, [], ◌∷◌, length, Option, Some, None, refl, sym, ◌∙◌, ap, find}
+use Rattle.std.proofs.Common.{◌≡◌, ℕ, zero, suc, List, [], ◌∷◌, length, Option, Some, None, refl, sym, ◌∙◌, ap, find, rules}
 use Rattle.std.proofs.lemmas.Bool.{cond_both}
 use Rattle.std.specs.List.{AllByRecursion}
 use Rattle.std.specs.Option.{option_map_or}
@@ -14,61 +14,9 @@ abbrev KeepsApart : Effect → Type 0
 KeepsApart (Changes f) = (s : Rendition) → known (f s) ≡ known (f (known s))
 KeepsApart (ReadsColor put) = (c : AnsiColor) (s : Rendition) → known (put c s) ≡ known (put c (known s))
 
--- one row of the table, and those after it
-pub ◌also◌ : {A B : Type 0} → A → B → A × B
-x also y = (x, y)
-
-infixr 30 ◌also◌
+-- each row of the table, by computation
 table_keeps_apart : AllByRecursion (λ (r : Rows). (n : ℕ) → KeepsApart (r.effect n)) table
-table_keeps_apart =
-    (λ n s. refl)
-    also (λ n s. refl)
-    also (λ n s. refl)
-    also (λ n s. refl)
-    also (λ n s. refl)
-    also (λ n s. refl)
-    also (λ n s. refl)
-    also (λ n s. refl)
-    also (λ n s. refl)
-    also (λ n s. refl)
-    also (λ n s. refl)
-    also (λ n s. refl)
-    also (λ n s. refl)
-    also (λ n s. refl)
-    also (λ n s. refl)
-    also (λ n s. refl)
-    also (λ n s. refl)
-    also (λ n s. refl)
-    also (λ n s. refl)
-    also (λ n s. refl)
-    also (λ n s. refl)
-    also (λ n s. refl)
-    also (λ n s. refl)
-    also (λ n c s. refl)
-    also (λ n s. refl)
-    also (λ n s. refl)
-    also (λ n c s. refl)
-    also (λ n s. refl)
-    also (λ n s. refl)
-    also (λ n s. refl)
-    also (λ n s. refl)
-    also (λ n s. refl)
-    also (λ n s. refl)
-    also (λ n s. refl)
-    also (λ n c s. refl)
-    also (λ n s. refl)
-    also (λ n s. refl)
-    also (λ n s. refl)
-    also (λ n s. refl)
-    also (λ n s. refl)
-    also (λ n s. refl)
-    also (λ n s. refl)
-    also (λ n s. refl)
-    also (λ n s. refl)
-    also (λ n s. refl)
-    also (λ n s. refl)
-    also (λ n s. refl)
-    also tt
+table_keeps_apart = search rules
 
 found_keeps_apart : (rows : List Rows) (n : ℕ) → AllByRecursion (λ (r : Rows). (n : ℕ) → KeepsApart (r.effect n)) rows
     → KeepsApart (option_map_or (λ (r : Rows). r.effect n) (find (λ (r : Rows). is_in_range r.first r.last n) rows) unknown_code)

@@ -1,5 +1,5 @@
 -- Sequences make styles of styles: each color and font that they select is in its range.
-use Rattle.std.proofs.Common.{◌≡◌, ℕ, zero, suc, ◌≤◌, true, ◌&&◌, List, [], ◌∷◌, length, Option, Some, None, refl, sym, find, IsTrue, IfSome, nat_le, nat_lt, arith, map, true≢false}
+use Rattle.std.proofs.Common.{◌≡◌, ℕ, zero, suc, ◌≤◌, true, ◌&&◌, List, [], ◌∷◌, length, Option, Some, None, refl, sym, find, IsTrue, IfSome, nat_le, nat_lt, arith, map, true≢false, rules}
 use Rattle.std.proofs.lemmas.Bool.{cond_both, and_parts, and_from, leb-true, lt-ltb, or_left, or_right}
 use Rattle.std.specs.Prelude.{unwrap_or}
 use Rattle.std.specs.List.{AllByRecursion}
@@ -16,7 +16,6 @@ use Rattle.ansi_items.specs.Plain.{Mark, marks, up_to}
 use Rattle.ansi_style.specs.Rendition.{Rendition, is_foreground, is_background, is_extended_color, IsStyle, plain_style, known}
 use Rattle.ansi_style.specs.Sgr.{Effect, Changes, ReadsColor, Rows, table, rows, unknown_code, effect_of, code_of, effect_of_code, color_number, color_by_parts, color_by_number, read_color, is_code, perform, steps, step, apply, apply_parameters, fields_of, apply_all}
 use Rattle.ansi_style.specs.Styled.{style_at, style_after}
-use Rattle.ansi_style.proofs.SgrLemmas.{◌also◌}
 use Rattle.ansi_style.specs.Reading.{style_after_from}
 
 -- the ranges, field by field
@@ -50,55 +49,7 @@ extended_is_background (Bit8 n) is = is
 extended_is_background (Bit24 r g b) is = is
 
 table_keeps_ranges : AllByRecursion RowKeepsRanges table
-table_keeps_ranges =
-    (λ n h s is. (tt, tt, tt, tt))
-    also (λ n h s is. is)
-    also (λ n h s is. is)
-    also (λ n h s is. is)
-    also (λ n h s is. is)
-    also (λ n h s is. is)
-    also (λ n h s is. is)
-    also (λ n h s is. is)
-    also (λ n h s is. is)
-    also (λ n h s is. is)
-    also (λ n h s is. (is.0, is.1, is.2, tt))
-    also (λ n h s is. (is.0, is.1, is.2, h))
-    also (λ n h s is. is)
-    also (λ n h s is. is)
-    also (λ n h s is. is)
-    also (λ n h s is. is)
-    also (λ n h s is. is)
-    also (λ n h s is. is)
-    also (λ n h s is. is)
-    also (λ n h s is. is)
-    also (λ n h s is. is)
-    also (λ n h s is. is)
-    also (λ n h s is. (or_left (is_in_range 30 37 n) (is_in_range 90 97 n) h, is.1, is.2, is.3))
-    also (λ n h c s e is. (extended_is_foreground c e, is.1, is.2, is.3))
-    also (λ n h s is. (tt, is.1, is.2, is.3))
-    also (λ n h s is. (is.0, or_left (is_in_range 40 47 n) (is_in_range 100 107 n) h, is.2, is.3))
-    also (λ n h c s e is. (is.0, extended_is_background c e, is.2, is.3))
-    also (λ n h s is. (is.0, tt, is.2, is.3))
-    also (λ n h s is. is)
-    also (λ n h s is. is)
-    also (λ n h s is. is)
-    also (λ n h s is. is)
-    also (λ n h s is. is)
-    also (λ n h s is. is)
-    also (λ n h c s e is. (is.0, is.1, e, is.3))
-    also (λ n h s is. (is.0, is.1, tt, is.3))
-    also (λ n h s is. is)
-    also (λ n h s is. is)
-    also (λ n h s is. is)
-    also (λ n h s is. is)
-    also (λ n h s is. is)
-    also (λ n h s is. is)
-    also (λ n h s is. is)
-    also (λ n h s is. is)
-    also (λ n h s is. is)
-    also (λ n h s is. (or_right (is_in_range 30 37 n) (is_in_range 90 97 n) h, is.1, is.2, is.3))
-    also (λ n h s is. (is.0, or_right (is_in_range 40 47 n) (is_in_range 100 107 n) h, is.2, is.3))
-    also tt
+table_keeps_ranges = search (rules, or_left, or_right, extended_is_foreground, extended_is_background)
 
 found_keeps_ranges : (rows : List Rows) (n : ℕ) → AllByRecursion RowKeepsRanges rows
     → KeepsRanges (option_map_or (λ (r : Rows). r.effect n) (find (λ (r : Rows). is_in_range r.first r.last n) rows) unknown_code)

@@ -293,7 +293,9 @@ fn fail_faults(rt: &impl Abort, alloc: Global, row: &Row, run: &Run) -> Result<(
 fn run_under(rt: &impl Abort, alloc: Global, row: &Row, run: &Run) -> Result<(), AllocError> {
     match row.condition {
         Condition::EachGrowth => refuse_each(
-            rt, alloc, run.words, run.input, run.status, run.output, run.faults,
+            rt,
+            alloc,
+            &(run.words, run.input, run.status, run.output, run.faults),
         ),
         Condition::ReadFails => fail_reads(rt, alloc, row, run),
         Condition::ReadInterruptedOnce => interrupt_once(rt, alloc, row, run),

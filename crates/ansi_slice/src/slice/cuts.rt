@@ -1,13 +1,14 @@
 //! Cuts of a text.
-ghost use Rattle.std.specs.Prelude.{◌≡◌, ◌↔◌, ◌⊎◌, ◌≤◌, ◌+◌, length, Some, slice_range, IsTrue, IsFalse, IsNone, IsOk, IfOk, IfSome, string_bytes};
+ghost use Rattle.std.specs.Prelude.{◌≡◌, ◌↔◌, ◌⊎◌, ◌≤◌, ◌+◌, ◌++◌, length, Some, slice_range, IsTrue, IsFalse, IsNone, IsOk, IfOk, IfSome, string_bytes};
 ghost use Rattle.std.specs.Cow.{cow_str_bytes, IsBorrowedStr};
+ghost use Rattle.std.specs.Str.{IsCharBoundary};
 ghost use Rattle.ansi_items.specs.Plain.{plain, has_escape};
 ghost use Rattle.ansi_slice.specs.Positions.{is_good_range};
 ghost use Rattle.ansi_slice.specs.Cut.{cut, cut_up_to};
 
 use crate::search;
 use crate::slice::has_any;
-use ansi_items::ansitok::{Kind, Scanner};
+use ansi_items::ansitok::{Item, Kind, Scanner};
 use ansi_style::styles;
 use std::alloc::{AllocError, Allocator};
 use std::borrow::CowStr;
@@ -59,25 +60,57 @@ fn cut_up_to<A: Allocator>(
     let mut style = styles::plain_style();
     let mut from = start;
     let mut to = end;
+    let mut stretch = 0;
+    let mut reached = 0;
     for item in Scanner::new(text) {
         let piece = &text[item.start..item.end];
+        reached = item.end;
         if item.kind == Kind::Text {
-            cut.push_str(between(piece, from, to))?;
+            stretch = after_run(&mut cut, text, stretch, item, from, to)?;
             if to < piece.len() {
                 // Every later sequence stands past the end.
                 break;
             }
             from = from.saturating_sub(piece.len());
             to -= piece.len();
-        } else {
-            cut.push_str(piece)?;
-            if item.kind == Kind::Sgr {
-                styles::apply(&mut style, piece);
-            }
+        } else if item.kind == Kind::Sgr {
+            styles::apply(&mut style, piece);
         }
     }
+    cut.push_str(&text[stretch..reached])?;
     styles::write_close(&style, &mut cut)?;
     Ok(cut)
+}
+
+/// Where the stretch of a text begins that is still to be copied after a run, of which a range is
+/// kept. A run that is kept whole goes on with the stretch. Any other ends it: the stretch up to the
+/// run and what is kept of this are appended.
+pub(crate) fn after_run<A: Allocator>(
+    out: &mut String<A>,
+    text: &str,
+    stretch: usize,
+    run: Item,
+    from: usize,
+    to: usize,
+) -> Result<usize, AllocError>
+    requires range { IsTrue (is_good_range (slice_range text.now run.start run.end) from (Some to)) }
+    requires begins { IsCharBoundary text.now stretch }
+    requires before { stretch ≤ run.start }
+    requires start { IsCharBoundary text.now run.start }
+    requires forward { run.start ≤ run.end }
+    requires end { IsCharBoundary text.now run.end }
+    ensures bytes { IfOk result (λ later. string_bytes out.new ++ slice_range text.now later run.end
+        ≡ (string_bytes out.old ++ slice_range text.now stretch run.start) ++ slice_range (slice_range text.now run.start run.end) from to) }
+    ensures boundary { IfOk result (λ later. IsCharBoundary text.now later) }
+    ensures within { IfOk result (λ later. later ≤ run.end) }
+{
+    let piece = &text[run.start..run.end];
+    if from == 0 && piece.len() <= to {
+        return Ok(stretch);
+    }
+    out.push_str(&text[stretch..run.start])?;
+    out.push_str(between(piece, from, to))?;
+    Ok(run.end)
 }
 
 /// As `AnsiStr::ansi_get`, with an answer that lives as long as the text, and its memory taken from any allocator.

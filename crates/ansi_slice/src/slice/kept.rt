@@ -7,7 +7,7 @@ ghost use Rattle.ansi_slice.specs.Positions.{is_good_range};
 ghost use Rattle.ansi_slice.specs.Kept.{kept, without_prefix, without_suffix, trimmed};
 
 use crate::search;
-use crate::slice::cuts::between;
+use crate::slice::cuts::{after_run, between};
 use crate::slice::has_any;
 use ansi_items::ansitok::{Kind, Scanner};
 use std::alloc::{AllocError, Allocator};
@@ -101,15 +101,15 @@ fn keep<A: Allocator>(
     let mut kept = String::with_capacity(alloc, text.len().saturating_sub(start))?;
     let mut from = start;
     let mut to = end;
+    let mut stretch = 0;
     for item in Scanner::new(text) {
         let piece = &text[item.start..item.end];
         if item.kind == Kind::Text {
-            kept.push_str(between(piece, from, to))?;
+            stretch = after_run(&mut kept, text, stretch, item, from, to)?;
             from = from.saturating_sub(piece.len());
             to = to.saturating_sub(piece.len());
-        } else {
-            kept.push_str(piece)?;
         }
     }
+    kept.push_str(&text[stretch..])?;
     Ok(kept)
 }
