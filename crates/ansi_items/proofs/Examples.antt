@@ -28,8 +28,14 @@ color_is_sgr = refl
 no_parameters_are_sgr : sgr_parameters (codes "\u{1b}[m") ≡ Some []
 no_parameters_are_sgr = refl
 
-private_parameters_are_sgr : sgr_parameters (codes "\u{1b}[>4;2m") ≡ Some (codes ">4;2")
-private_parameters_are_sgr = refl
+private_parameters_are_no_sgr : sgr_parameters (codes "\u{1b}[>4;2m") ≡ None
+private_parameters_are_no_sgr = refl
+
+parameters_from_a_colon_on_are_sgr : sgr_parameters (codes "\u{1b}[:1m") ≡ Some (codes ":1")
+parameters_from_a_colon_on_are_sgr = refl
+
+private_byte_later_is_sgr : sgr_parameters (codes "\u{1b}[1;?2m") ≡ Some (codes "1;?2")
+private_byte_later_is_sgr = refl
 
 intermediate_byte_is_no_sgr : sgr_parameters (codes "\u{1b}[1 m") ≡ None
 intermediate_byte_is_no_sgr = refl

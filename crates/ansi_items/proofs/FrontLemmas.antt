@@ -13,7 +13,7 @@ use Rattle.std.specs.Str.{byte}
 use Rattle.ansi_items.specs.declared.ansitok.Kind.TheVariants.{Text, Sgr, Other, Lone}
 use Rattle.ansi_items.specs.declared.ansitok.grammar.Front.{Front}
 use Rattle.ansi_items.specs.Bytes.{escape, bell, is_parameter_byte, is_intermediate_byte, is_final_byte, is_escape_final_byte, opens_control_string, opens_command, opens_control_sequence, is_body_byte, is_plain_byte}
-use Rattle.ansi_items.specs.Sequences.{after_one, after_control_sequence, after_terminator, after_control_string, after_escape_sequence, after_sequence, is_sgr}
+use Rattle.ansi_items.specs.Sequences.{after_one, after_control_sequence, after_terminator, after_control_string, after_escape_sequence, after_sequence, is_sgr, are_private}
 use Rattle.ansi_items.specs.Pieces.{Piece, Text, Sequence, spelling, text_or_lone, first_piece}
 use Rattle.ansi_items.specs.Scans.{kind_of}
 use Rattle.ansi_items.specs.Fronts.{front_of, control_at, string_at, escape_at, sequence_at, front_at}
@@ -59,9 +59,21 @@ no_parameters (i ∷ is) all =
 m_last : (final : ℕ) → (nat_eq 109 final && true) ≡ (final == 109)
 m_last final = grind (arith, nat_tests)
 
-sgr-spelled : (ps is : List ℕ) (final : ℕ) → list_all is_parameter_byte ps ≡ true → list_all is_intermediate_byte is ≡ true
-    → is_sgr (escape ∷ byte "[" ∷ (ps ++ is ++ final ∷ [])) ≡ ((length is == 0) && (final == 109))
-sgr-spelled ps is final hp hi =
+-- the first parameter byte tells whether they are private, and the final byte tells nothing
+are_private-front : (v w : List ℕ) → 0 < length v → are_private (v ++ w) ≡ are_private v
+are_private-front [] w some = absurd (omega arith)
+are_private-front (b ∷ v) w some = refl
+
+are_private-final : (v : List ℕ) (final : ℕ) → is_final_byte final ≡ true → are_private (v ++ final ∷ []) ≡ are_private v
+are_private-final [] final is = grind (arith, nat_tests)
+are_private-final (b ∷ v) final is = refl
+
+and_three : (a b p a' b' p' : Bool) → a ≡ a' → b ≡ b' → p ≡ p' → (a && b && not p) ≡ (b' && a' && not p')
+and_three a b p a' b' p' e f g = ap₂ (λ x y. x && y && not p) e f ∙ ap₂ (λ x y. x && not y) (and_swapped a' b') g
+
+sgr-spelled : (ps is : List ℕ) (final : ℕ) → list_all is_parameter_byte ps ≡ true → list_all is_intermediate_byte is ≡ true → is_final_byte final ≡ true
+    → is_sgr (escape ∷ byte "[" ∷ (ps ++ is ++ final ∷ [])) ≡ ((length is == 0) && (final == 109) && not (are_private (ps ++ is ++ final ∷ [])))
+sgr-spelled ps is final hp hi hf =
     let w = escape ∷ byte "[" ∷ (ps ++ is ++ final ∷ []) in
     let inner = ps ++ is in
     let size : length w - 1 ≡ 2 + length inner = omega (arith, length-append inner (final ∷ [])) in
@@ -71,7 +83,8 @@ sgr-spelled ps is final hp hi =
     = ap (λ k. slice_range w 2 k) size ∙ take_at inner (final ∷ []) (2 + length inner - 2) (omega arith) in
     let parameters : list_all is_parameter_byte (slice_range w 2 (length w - 1)) ≡ (length is == 0)
     = ap (list_all is_parameter_byte) between ∙ list_all-append is_parameter_byte ps is ∙ ap (λ b. b && list_all is_parameter_byte is) hp ∙ no_parameters is hi in
-    is_some-cond _ _ ∙ ap₂ (λ a b. a && b) last parameters ∙ and_swapped (final == 109) (length is == 0)
+    let private : are_private (slice_range w 2 (length w - 1)) ≡ are_private (inner ++ final ∷ []) = ap are_private between ∙ sym (are_private-final inner final hf) in
+    is_some-cond _ _ ∙ and_three _ _ _ (final == 109) (length is == 0) _ last parameters private
 
 final_within : (t : List ℕ) (k : ℕ) → is_final_byte (slice_index t k) ≡ true → k < length t
 final_within t k passes = let above : 63 < slice_index t k = grind (arith, nat_tests) in within t k (omega arith)
@@ -85,7 +98,8 @@ intermediates_len t = prefix_len is_intermediate_byte (drop (parameters_len t) t
 
 -- a control sequence is an SGR by these and its final byte
 sgr_at : (t : List ℕ) → is_final_byte (slice_index t (parameters_len t + intermediates_len t)) ≡ true
-    → is_sgr (take (parameters_len t + intermediates_len t + 3) (escape ∷ byte "[" ∷ t)) ≡ ((intermediates_len t == 0) && (slice_index t (parameters_len t + intermediates_len t) == 109))
+    → is_sgr (take (parameters_len t + intermediates_len t + 3) (escape ∷ byte "[" ∷ t))
+    ≡ ((intermediates_len t == 0) && (slice_index t (parameters_len t + intermediates_len t) == 109) && not (are_private t))
 sgr_at t passes =
     let n = parameters_len t in
     let u = drop n t in
@@ -101,17 +115,21 @@ sgr_at t passes =
     let word : take (n + m + 3) (escape ∷ byte "[" ∷ t) ≡ escape ∷ byte "[" ∷ (ps ++ is ++ final ∷ [])
     = ap (λ v. take (n + m + 3) (escape ∷ byte "[" ∷ v)) split
     ∙ take_at (escape ∷ byte "[" ∷ (ps ++ is ++ final ∷ [])) (drop (n + m + 1) t) (n + m + 3) (omega (arith, length-append (ps ++ is) (final ∷ []), length-append ps is)) in
-    ap is_sgr word ∙ sgr-spelled ps is final (all-run is_parameter_byte t) (all-run is_intermediate_byte u) ∙ ap (λ k. (k == 0) && (final == 109)) is_len
+    let w = ps ++ is ++ final ∷ [] in
+    let private : are_private w ≡ are_private t
+    = sym (ap are_private split ∙ are_private-front w (drop (n + m + 1) t) (omega (arith, length-append (ps ++ is) (final ∷ [])))) in
+    ap is_sgr word ∙ sgr-spelled ps is final (all-run is_parameter_byte t) (all-run is_intermediate_byte u) passes
+    ∙ ap₂ (λ k p. (k == 0) && (final == 109) && not p) is_len private
 
 -- the code reads these, the intermediate bytes in what is left, and the final byte
-pub control_at-read : (t : List ℕ) (n m final : ℕ) → n ≡ prefix_len is_parameter_byte t → m ≡ prefix_len is_intermediate_byte (take (length t - n) (drop n t)) → final ≡ slice_index t (n + m)
-    → is_final_byte final ≡ true → Some (front_of (if (m == 0) && (final == 109) then Sgr else Other) (n + m + 3)) ≡ control_at t
+pub control_at-read : (t : List ℕ) (n m final : ℕ) (private : Bool) → private ≡ are_private t → n ≡ prefix_len is_parameter_byte t → m ≡ prefix_len is_intermediate_byte (take (length t - n) (drop n t)) → final ≡ slice_index t (n + m)
+    → is_final_byte final ≡ true → Some (front_of (if (m == 0) && (final == 109) && not private then Sgr else Other) (n + m + 3)) ≡ control_at t
 unfolding control_at
-control_at-read t n m final parameters intermediates ends passes =
+control_at-read t n m final private tells parameters intermediates ends passes =
     let counted : m ≡ intermediates_len t = intermediates ∙ ap (prefix_len is_intermediate_byte) (take_rest t n) ∙ ap (λ k. prefix_len is_intermediate_byte (drop k t)) parameters in
     let last : final ≡ slice_index t (parameters_len t + intermediates_len t) = ends ∙ ap₂ (λ k j. slice_index t (k + j)) parameters counted in
     let found : is_final_byte (slice_index t (parameters_len t + intermediates_len t)) ≡ true = ap is_final_byte (sym last) ∙ passes in
-    rw (last, counted, parameters)
+    rw (last, counted, parameters, tells)
     (ap (λ b. Some (front_of (if b then Sgr else Other) (parameters_len t + intermediates_len t + 3))) (sym (sgr_at t found)) ∙ sym (cond-true _ _ _ found))
 
 no_control : (o : ℕ) → opens_control_sequence o ≡ false → nat_eq 91 o ≡ false

@@ -1,6 +1,7 @@
 -- Whole sequences: control sequences, control strings and escape sequences.
-use Rattle.std.specs.Prelude.{◌≡◌, ℕ, ◌-◌, Bool, ◌&&◌, ◌||◌, not, List, [], ◌∷◌, ◌++◌, length, drop, slice_range, ◌==◌, nat_eq, Option, Some, None, IsTrue, ◌⊎◌, if◌then◌else◌, codes, is_some}
+use Rattle.std.specs.Prelude.{◌≡◌, ℕ, ◌-◌, Bool, false, ◌&&◌, ◌||◌, not, List, [], ◌∷◌, ◌++◌, length, drop, slice_range, ◌==◌, nat_eq, Option, Some, None, IsTrue, ◌⊎◌, if◌then◌else◌, codes, is_some}
 use Rattle.std.specs.List.{list_all, prefix_len, starts_with, ends_with}
+use Rattle.std.specs.Int.{is_in_range}
 use Rattle.std.specs.Str.{byte}
 use Rattle.ansi_items.specs.Bytes.{escape, bell, is_parameter_byte, is_intermediate_byte, is_final_byte, is_escape_final_byte, opens_control_sequence, opens_control_string, opens_command, is_body_byte}
 
@@ -37,11 +38,16 @@ pub record IsEscapeSequence (w : List ℕ) : Type 0 where
 abbrev pub IsSequence : List ℕ → Type 0
 IsSequence w = IsControlSequence w ⊎ IsControlString w ⊎ IsEscapeSequence w
 
--- an SGR, select graphic rendition, is a control sequence with no intermediate byte and the final byte `m` (ECMA-48, section 8.3.117): its parameter bytes
+-- parameter bytes are for private use where the first is one of 3C to 3F (ECMA-48, section 5.4.2)
+abbrev pub are_private : List ℕ → Bool
+are_private [] = false
+are_private (b ∷ more) = is_in_range 0x3C 0x3F b
+
+-- an SGR, select graphic rendition, is a control sequence with no intermediate byte and the final byte `m` (ECMA-48, section 8.3.117) whose parameter bytes aren't for private use: these
 abbrev pub sgr_parameters : List ℕ → Option (List ℕ)
 sgr_parameters w =
     let parameters = slice_range w 2 (length w - 1) in
-    if starts_with nat_eq w (escape ∷ byte "[" ∷ []) && ends_with nat_eq w (codes "m") && list_all is_parameter_byte parameters
+    if starts_with nat_eq w (escape ∷ byte "[" ∷ []) && ends_with nat_eq w (codes "m") && list_all is_parameter_byte parameters && not (are_private parameters)
     then Some parameters else None
 
 -- the whole sequence w is an SGR

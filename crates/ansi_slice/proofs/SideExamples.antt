@@ -105,14 +105,6 @@ right_after_a_lone_reset : right_side (codes "\u{1b}[0mab") 1 ≡ codes "b"
 unfolding digits right_side
 right_after_a_lone_reset = refl
 
-left_after_a_private_parameter : left_side (codes "\u{1b}[>4;2mx") 0 ≡ []
-unfolding digits left_side
-left_after_a_private_parameter = refl
-
-right_after_a_private_parameter : right_side (codes "\u{1b}[>4;2mx") 0 ≡ codes "\u{1b}[2mx\u{1b}[22m\u{1b}[0m"
-unfolding digits right_side
-right_after_a_private_parameter = refl
-
 -- Other sequences and lone escapes at the position go left.
 
 left_at_a_title : left_side (codes "a\u{1b}]0;t\u{7}b") 1 ≡ codes "a\u{1b}]0;t\u{7}"
@@ -122,6 +114,14 @@ left_at_a_title = refl
 right_at_a_title : right_side (codes "a\u{1b}]0;t\u{7}b") 1 ≡ codes "b"
 unfolding digits right_side
 right_at_a_title = refl
+
+left_at_a_private_sequence : left_side (codes "\u{1b}[>4;2mx") 0 ≡ codes "\u{1b}[>4;2m"
+unfolding digits left_side
+left_at_a_private_sequence = refl
+
+right_at_a_private_sequence : right_side (codes "\u{1b}[>4;2mx") 0 ≡ codes "x"
+unfolding digits right_side
+right_at_a_private_sequence = refl
 
 left_at_a_lone_escape : left_side (utf8 "é\u{1b}") 2 ≡ utf8 "é\u{1b}"
 unfolding digits encode_utf8 left_side

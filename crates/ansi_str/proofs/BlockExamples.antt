@@ -55,6 +55,10 @@ sequence_waits : blocks (codes "\u{1b}[1 mx") ≡ block (codes "\u{1b}[1 mx") pl
 unfolding blocks_from
 sequence_waits = refl
 
+private_sequence_waits : blocks (codes "\u{1b}[>4;2mx") ≡ block (codes "\u{1b}[>4;2mx") plain_style false ∷ []
+unfolding blocks_from
+private_sequence_waits = refl
+
 link_waits : blocks (codes "\u{1b}]8;;u\u{1b}\\link\u{1b}]8;;\u{1b}\\") ≡ block (codes "\u{1b}]8;;u\u{1b}\\link") plain_style false ∷ []
 unfolding blocks_from
 link_waits = refl

@@ -33,6 +33,10 @@ through-other (Sequence v) w s held ps is same other =
     (ap₂ (λ r h. blocks_through r h ps) (apply-no_sgr s v no_sgr) (ap (λ u. held ++ u) all), ap (λ u. u ++ waiting_before ps) all)
 through-other LoneEscape w s held ps is same other = (ap (λ u. blocks_through s (held ++ u) ps) same, ap (λ u. u ++ waiting_before ps) same)
 
+pub waiting_before-other : {kind : Kind} {w : List ℕ} {pieces ps : List Piece} → BeginsWithMark kind w pieces ps → kind ≢ Sgr → waiting_before pieces ≡ w ++ waiting_before ps
+waiting_before-other {kind} {w} {pieces} {ps} begins other =
+    ap waiting_before begins.pieces ∙ (through-other begins.mark w plain_style [] ps begins.is_mark begins.bytes (begins.no_sgr other)).1
+
 -- The blocks of t from a style on are those of the pieces that are left, with what waits and the style so far.
 pub record IsRunSoFar (from : Rendition) (t : List ℕ) (s : Rendition) (waits : Bool) (pieces : List Piece) : Type 0 where
   pub held : List ℕ

@@ -3,7 +3,6 @@ use Rattle.std.proofs.Common.{◌≡◌, ℕ, ◌+◌, ◌-◌, ◌≤◌, Bool,
 use Rattle.std.proofs.lemmas.Bool.{cond_both, cond-false, and_parts, eqb-true, le-leb}
 use Rattle.std.proofs.lemmas.List.Elements.{filter-append}
 use Rattle.std.specs.List.{list_all}
-use Rattle.ansi_items.specs.Bytes.{is_parameter_byte}
 use Rattle.ansi_items.specs.Sequences.{is_sgr}
 use Rattle.ansi_items.specs.Pieces.{Piece, Text, Sequence, LoneEscape, after_text, merged, pieces_of}
 use Rattle.ansi_items.specs.Plain.{Mark, plain_of, plain, marks, up_to, is_whole, is_other, other_sequences}
@@ -17,7 +16,7 @@ use Rattle.ansi_items.proofs.PlainLemmas.{one_text}
 use Rattle.ansi_slice.proofs.SliceLemmas.{slice_range-none}
 use Rattle.ansi_slice.proofs.ShowLemmas.{show-bare}
 use Rattle.ansi_items.proofs.JoinLemmas.{spelled, AllStandAnywhere, pieces_of-spelled}
-use Rattle.ansi_style.proofs.ColorLemmas.{sgr_parameters-written}
+use Rattle.ansi_style.proofs.ColorLemmas.{is_code_byte, sgr_parameters-written}
 use Rattle.ansi_style.proofs.ReadBackLemmas.{AreCodes, code_pieces, start_codes_are}
 use Rattle.ansi_style.proofs.DressedLemmas.{dressed_pieces}
 use Rattle.ansi_slice.proofs.ShownLemmas.{shown_pieces, piece_when}
@@ -49,10 +48,10 @@ other_sequences-spelled ps stand = ap others (pieces_of-spelled ps stand) ∙ ot
 others-code_pieces : {n : ℕ} (xs : List (List ℕ)) → AreCodes xs n → others (code_pieces xs) ≡ []
 others-code_pieces xs are = by_each xs are.each
   where
-    by_each : (xs : List (List ℕ)) → list_all (list_all is_parameter_byte) xs ≡ true → others (code_pieces xs) ≡ []
+    by_each : (xs : List (List ℕ)) → list_all (list_all is_code_byte) xs ≡ true → others (code_pieces xs) ≡ []
     by_each [] each = refl
     by_each (x ∷ xs) each =
-        let both = and_parts (list_all is_parameter_byte x) (list_all (list_all is_parameter_byte) xs) each in
+        let both = and_parts (list_all is_code_byte x) (list_all (list_all is_code_byte) xs) each in
         let sgr : is_sgr (written x) ≡ true = ap is_some (sgr_parameters-written x both.0) in
         cond-false (is_other (Sequence (written x))) (Sequence (written x) ∷ others (code_pieces xs)) (others (code_pieces xs)) (ap not sgr) ∙ by_each xs both.1
 

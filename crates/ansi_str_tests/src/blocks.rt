@@ -77,10 +77,7 @@ static ROWS: [Row; 15] = [
             true,
         )],
     ),
-    (
-        "\x1b[>4;2mx",
-        &[("x", (UNKNOWN, "\x1b[2m", true, None, None), true)],
-    ),
+    ("\x1b[>4;2mx", &[("\x1b[>4;2mx", PLAIN, false)]),
     // Several blocks.
     (
         "\x1b[41;30mqwe:TEXT\x1b[39m \x1b[34mQWE",

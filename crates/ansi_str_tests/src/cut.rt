@@ -112,13 +112,8 @@ static ROWS: [Row; 28] = [
         "\x1b[20mab\x1b[23mc",
         false,
     ),
-    // An SGR with a private parameter byte.
-    (
-        "\x1b[>4;2mx",
-        RangeFull,
-        "\x1b[>4;2mx\x1b[22m\x1b[0m",
-        false,
-    ),
+    // A control sequence for private use.
+    ("\x1b[>4;2mx", RangeFull, "\x1b[>4;2mx", false),
     // After a lone escape.
     ("\x1bé[m", RangeFrom(2), "\x1b[m", false),
     // To a last position.

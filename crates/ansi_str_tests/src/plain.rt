@@ -50,6 +50,7 @@ fn is_sequence(bytes: &[u8]) -> bool {
 /// Whether a whole sequence is select graphic rendition.
 fn is_sgr(bytes: &[u8]) -> bool {
     match bytes {
+        [ESC, b'[', 0x3C..=0x3F, ..] => false,
         [ESC, b'[', inner @ .., b'm'] => inner.iter().all(is_parameter_byte),
         _ => false,
     }
@@ -108,8 +109,8 @@ fn plain(alloc: Global, text: &str, items: &[Item]) -> Result<String, AllocError
 }
 
 /// The characters that the texts are made of: at least one of each class.
-static CHARACTERS: [&str; 12] = [
-    "\x1b", "[", "]", "P", "\\", "\x07", "0", "!", "m", "G", "\x7f", "é",
+static CHARACTERS: [&str; 13] = [
+    "\x1b", "[", "]", "P", "\\", "\x07", "0", "?", "!", "m", "G", "\x7f", "é",
 ];
 
 /// The text of `len` pieces whose place among all such texts is `number`.
@@ -132,11 +133,11 @@ fn text_at(
 /// How many characters a text has, and how many such texts there are.
 static LENGTHS: [(usize, usize); 6] = [
     (0, 1),
-    (1, 12),
-    (2, 144),
-    (3, 1_728),
-    (4, 20_736),
-    (5, 248_832),
+    (1, 13),
+    (2, 169),
+    (3, 2_197),
+    (4, 28_561),
+    (5, 371_293),
 ];
 
 /// Compares the items and the plain text of a text.

@@ -23,7 +23,7 @@ static ROWS: [Row; 6] = [
     // A lone escape before a character of several bytes.
     ("\x1b\u{e9}[m", &[(Lone, 1), (Text, 5)]),
     // Control sequences that end in `m`: with a private parameter byte, with a colon, with none.
-    ("\x1b[>4;2mx", &[(Sgr, 7), (Text, 8)]),
+    ("\x1b[>4;2mx", &[(Other, 7), (Text, 8)]),
     ("\x1b[:1mx", &[(Sgr, 5), (Text, 6)]),
     ("\x1b[mx", &[(Sgr, 3), (Text, 4)]),
     ("", &[]),

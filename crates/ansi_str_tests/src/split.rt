@@ -143,20 +143,13 @@ static ROWS: [Row; 21] = [
         ",",
         &[("\x1b[1ma\x1b[mb", false), ("c", true)],
     ),
-    // Other sequences, and an SGR with a private parameter byte.
+    // Other sequences, one of them for private use.
     (
         "a\x1b]0;t\x07,b",
         ",",
         &[("a\x1b]0;t\x07", false), ("b", true)],
     ),
-    (
-        "\x1b[>4;2ma,b",
-        ",",
-        &[
-            ("\x1b[>4;2ma\x1b[22m\x1b[0m", false),
-            ("\x1b[2mb\x1b[22m\x1b[0m", false),
-        ],
-    ),
+    ("\x1b[>4;2ma,b", ",", &[("\x1b[>4;2ma", false), ("b", true)]),
 ];
 
 fn expect_part<A: Allocator>(rt: &impl Abort, got: &CowStr<'_, A>, want: &(&str, bool), row: &Row) {

@@ -72,8 +72,8 @@ static ROWS: [Row; 16] = [
     // An unknown code, and a lone reset.
     ("\x1b[99mab", 1, "a\x1b[0m", "b\x1b[0m", false),
     ("\x1b[0mab", 1, "a", "b", false),
-    ("\x1b[>4;2mx", 0, "", "\x1b[2mx\x1b[22m\x1b[0m", false),
-    // Other sequences, and lone escapes.
+    // Other sequences, one of them for private use, and lone escapes.
+    ("\x1b[>4;2mx", 0, "\x1b[>4;2m", "x", false),
     ("a\x1b]0;t\x07b", 1, "a\x1b]0;t\x07", "b", false),
     ("é\x1b", 2, "é\x1b", "", false),
 ];

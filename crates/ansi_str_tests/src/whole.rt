@@ -5,11 +5,12 @@ use std::process::Abort;
 /// A text, and whether it is whole.
 type Row = (&'static str, bool);
 
-static ROWS: [Row; 5] = [
+static ROWS: [Row; 6] = [
     ("\x1b(Ba\x1b7b", true),
     ("\x1b]0;title\x1b[31mx", false),
     ("\x1b\x1b[1mx", false),
     ("\x1bé[m", false),
+    ("\x1b[1\x7fm", false),
     ("é\x1b", false),
 ];
 

@@ -1,6 +1,7 @@
 -- The code of a color or a font is written in parameter bytes, and what is written sets that color or font.
 use Rattle.std.proofs.Common.{◌≡◌, ℕ, suc, ◌+◌, ◌-◌, ◌<◌, ◌≤◌, inl, inr, Bool, true, false, cond, not, ◌&&◌, ◌==◌, nat_eq, nat_lt, List, [], ◌∷◌, ◌++◌, take, drop, length, Some, None, refl, sym, ◌∙◌, ap, ap₂, arith, codes, decimal, IsTrue, length-append, bytes_eq, append_assoc, true≢false}
 use Rattle.std.proofs.lemmas.Bool.{agree_below_at, and_parts, and_from, eqb-true, ltb-true, leb-true, cond-true, or_cases, not-true}
+use Rattle.std.proofs.lemmas.Bool.Decides.{nat_tests}
 use Rattle.std.proofs.Math.Seq.{take-append_seam, drop-append_seam}
 use Rattle.std.proofs.lemmas.List.Folds.{list_all-append}
 use Rattle.std.proofs.lemmas.List.Sums.{AllPass-from_list_all}
@@ -12,7 +13,7 @@ use Rattle.std.specs.Str.{byte}
 use Rattle.ansi_items.specs.declared.ansitok.AnsiColor.{AnsiColor}
 use Rattle.ansi_items.specs.declared.ansitok.AnsiColor.TheVariants.{Bit4, Bit8, Bit24}
 use Rattle.ansi_items.specs.Bytes.{is_parameter_byte}
-use Rattle.ansi_items.specs.Sequences.{sgr_parameters}
+use Rattle.ansi_items.specs.Sequences.{sgr_parameters, are_private}
 use Rattle.ansi_style.specs.Rendition.{Rendition, is_extended_color, is_foreground, is_background}
 use Rattle.ansi_style.specs.Sgr.{color_number, fields_of, effect_of, ReadsColor, apply, perform}
 use Rattle.ansi_style.specs.Written.{color_code, written}
@@ -34,9 +35,13 @@ three_small r g b h =
 
 -- The bytes of a number.
 
--- a parameter byte that ends no field
+-- a byte of a written code: a digit, `:` or `;`
+abbrev pub is_code_byte : ℕ → Bool
+is_code_byte b = is_in_range 0x30 0x3B b
+
+-- one that ends no field
 abbrev is_field_byte : ℕ → Bool
-is_field_byte b = is_parameter_byte b && not (b == byte ";")
+is_field_byte b = is_code_byte b && not (b == byte ";")
 
 -- numbers of at most 255, by computation
 field_bytes-decimal : (n : ℕ) → n < 256 → list_all is_field_byte (decimal n) ≡ true
@@ -47,18 +52,18 @@ color_number-decimal : (n : ℕ) → n < 256 → color_number (decimal n) ≡ n
 unfolding digits
 color_number-decimal n small = eqb-true (color_number (decimal n)) n (agree_below_at (λ n. color_number (decimal n) == n) (λ _. true) 256 n refl small)
 
-parameter_bytes : (d : List ℕ) → list_all is_field_byte d ≡ true → list_all is_parameter_byte d ≡ true
-parameter_bytes [] all = refl
-parameter_bytes (b ∷ d) all =
+code_bytes : (d : List ℕ) → list_all is_field_byte d ≡ true → list_all is_code_byte d ≡ true
+code_bytes [] all = refl
+code_bytes (b ∷ d) all =
     let both = and_parts (is_field_byte b) (list_all is_field_byte d) all in
-    and_from _ _ (and_parts (is_parameter_byte b) (not (b == byte ";")) both.0).0 (parameter_bytes d both.1)
+    and_from _ _ (and_parts (is_code_byte b) (not (b == byte ";")) both.0).0 (code_bytes d both.1)
 
--- parameter bytes, and then a number
-pub parameters-decimal : (front : List ℕ) (n : ℕ) → n < 256 → list_all is_parameter_byte front ≡ true → list_all is_parameter_byte (front ++ decimal n) ≡ true
-parameters-decimal front n small all = list_all-append is_parameter_byte front (decimal n) ∙ and_from _ _ all (parameter_bytes (decimal n) (field_bytes-decimal n small))
+-- such bytes, and then a number
+pub parameters-decimal : (front : List ℕ) (n : ℕ) → n < 256 → list_all is_code_byte front ≡ true → list_all is_code_byte (front ++ decimal n) ≡ true
+parameters-decimal front n small all = list_all-append is_code_byte front (decimal n) ∙ and_from _ _ all (code_bytes (decimal n) (field_bytes-decimal n small))
 
-parameters-semicolon : (front : List ℕ) → list_all is_parameter_byte front ≡ true → list_all is_parameter_byte (front ++ codes ";") ≡ true
-parameters-semicolon front all = list_all-append is_parameter_byte front (codes ";") ∙ and_from _ _ all refl
+parameters-semicolon : (front : List ℕ) → list_all is_code_byte front ≡ true → list_all is_code_byte (front ++ codes ";") ≡ true
+parameters-semicolon front all = list_all-append is_code_byte front (codes ";") ∙ and_from _ _ all refl
 
 -- the numbers of a color are at most 255
 abbrev pub IsByteColor : AnsiColor → Type 0
@@ -66,10 +71,10 @@ IsByteColor (Bit4 n) = n < 256
 IsByteColor (Bit8 n) = n < 256
 IsByteColor (Bit24 r g b) = (r < 256) × (g < 256) × (b < 256)
 
-pub parameters-color_code : (extended : List ℕ) (c : AnsiColor) → list_all is_parameter_byte extended ≡ true → IsByteColor c → list_all is_parameter_byte (color_code extended c) ≡ true
+pub parameters-color_code : (extended : List ℕ) (c : AnsiColor) → list_all is_code_byte extended ≡ true → IsByteColor c → list_all is_code_byte (color_code extended c) ≡ true
 parameters-color_code extended (Bit4 n) all small = parameters-decimal [] n small refl
 parameters-color_code extended (Bit8 n) all small =
-    parameters-decimal (extended ++ codes ";5;") n small (list_all-append is_parameter_byte extended (codes ";5;") ∙ and_from _ _ all refl)
+    parameters-decimal (extended ++ codes ";5;") n small (list_all-append is_code_byte extended (codes ";5;") ∙ and_from _ _ all refl)
 parameters-color_code extended (Bit24 r g b) all small =
     let front = extended ++ codes ";2;" in
     let red = front ++ decimal r in
@@ -78,13 +83,13 @@ parameters-color_code extended (Bit24 r g b) all small =
     (parameters-semicolon green
     (parameters-decimal (red ++ codes ";") g small.1
     (parameters-semicolon red
-    (parameters-decimal front r small.0 (list_all-append is_parameter_byte extended (codes ";2;") ∙ and_from _ _ all refl)))))
+    (parameters-decimal front r small.0 (list_all-append is_code_byte extended (codes ";2;") ∙ and_from _ _ all refl)))))
 
 -- Fields that semicolons end.
 
 no_semicolon : (d : List ℕ) → list_all is_field_byte d ≡ true → All (λ b. (b == byte ";") ≡ false) d
 no_semicolon d all =
-    λ k x below. (let b = slice_index_or d k x in not-true (b == byte ";") (and_parts (is_parameter_byte b) (not (b == byte ";")) (AllPass-from_list_all is_field_byte d all k x below)).1)
+    λ k x below. (let b = slice_index_or d k x in not-true (b == byte ";") (and_parts (is_code_byte b) (not (b == byte ";")) (AllPass-from_list_all is_field_byte d all k x below)).1)
 
 fields_of-one : (d : List ℕ) → list_all is_field_byte d ≡ true → fields_of d ≡ d ∷ []
 fields_of-one d all = slice_split_none (λ b. b == byte ";") d (no_semicolon d all)
@@ -113,7 +118,23 @@ fields_of-by_parts extended r g b all hr hg hb =
 
 -- What is written for a code is an SGR.
 
-pub sgr_parameters-written : (code : List ℕ) → list_all is_parameter_byte code ≡ true → sgr_parameters (written code) ≡ Some code
+pub parameter_bytes : (d : List ℕ) → list_all is_code_byte d ≡ true → list_all is_parameter_byte d ≡ true
+parameter_bytes [] all = refl
+parameter_bytes (b ∷ d) all =
+    let both = and_parts (is_code_byte b) (list_all is_code_byte d) all in
+    and_from _ _ (parameter_byte b both.0) (parameter_bytes d both.1)
+  where
+    parameter_byte : (b : ℕ) → is_code_byte b ≡ true → is_parameter_byte b ≡ true
+    parameter_byte b is = grind (arith, nat_tests)
+
+are_private-code : (d : List ℕ) → list_all is_code_byte d ≡ true → are_private d ≡ false
+are_private-code [] all = refl
+are_private-code (b ∷ d) all = not_private b (and_parts (is_code_byte b) (list_all is_code_byte d) all).0
+  where
+    not_private : (b : ℕ) → is_code_byte b ≡ true → is_in_range 0x3C 0x3F b ≡ false
+    not_private b is = grind (arith, nat_tests)
+
+pub sgr_parameters-written : (code : List ℕ) → list_all is_code_byte code ≡ true → sgr_parameters (written code) ≡ Some code
 sgr_parameters-written code all =
     let w = written code in
     let tail : List ℕ = code ++ (byte "m" ∷ []) in
@@ -123,8 +144,8 @@ sgr_parameters-written code all =
     let last : ends_with nat_eq w (codes "m") ≡ true
     = (let count : length w - 1 ≡ suc (suc (length code)) = omega (arith, len) in
     ap (λ n. bytes_eq (codes "m") (drop n w)) count ∙ ap (bytes_eq (codes "m")) (drop-append_seam code (byte "m" ∷ []))) in
-    ap₂ (λ (e : Bool) (v : List ℕ). cond (true && e && list_all is_parameter_byte v) (Some v) None) last middle
-    ∙ cond-true (list_all is_parameter_byte code) (Some code) None all
+    ap₂ (λ (e : Bool) (v : List ℕ). cond (true && e && list_all is_parameter_byte v && not (are_private v)) (Some v) None) last middle
+    ∙ cond-true (list_all is_parameter_byte code && not (are_private code)) (Some code) None (and_from _ _ (parameter_bytes code all) (ap not (are_private-code code all)))
 
 -- what an extended color's code does, where the code before it reads a color
 apply-extended : (extended : List ℕ) (put : AnsiColor → Rendition → Rendition) (c : AnsiColor) (p : Rendition)
@@ -133,14 +154,14 @@ apply-extended extended put (Bit4 n) p all reads is = absurd (true≢false (sym 
 apply-extended extended put (Bit8 n) p all reads is =
     let small = ltb-true n 256 is in
     let rest = codes "5" ∷ decimal n ∷ [] in
-    apply-parameters p (written (color_code extended (Bit8 n))) (color_code extended (Bit8 n)) (sgr_parameters-written _ (parameters-color_code extended (Bit8 n) (parameter_bytes extended all) small))
+    apply-parameters p (written (color_code extended (Bit8 n))) (color_code extended (Bit8 n)) (sgr_parameters-written _ (parameters-color_code extended (Bit8 n) (code_bytes extended all) small))
     ∙ ap (after_fields p) (fields_of-by_number extended n all small) ∙ after_fields-step p extended rest
     ∙ ap (λ e. after_fields (perform e p rest).0 (perform e p rest).1) reads
     ∙ ap (λ m. put (Bit8 m) p) (color_number-decimal n small)
 apply-extended extended put (Bit24 r g b) p all reads is =
     let small = three_small r g b is in
     let rest = codes "2" ∷ decimal r ∷ decimal g ∷ decimal b ∷ [] in
-    apply-parameters p (written (color_code extended (Bit24 r g b))) (color_code extended (Bit24 r g b)) (sgr_parameters-written _ (parameters-color_code extended (Bit24 r g b) (parameter_bytes extended all) small))
+    apply-parameters p (written (color_code extended (Bit24 r g b))) (color_code extended (Bit24 r g b)) (sgr_parameters-written _ (parameters-color_code extended (Bit24 r g b) (code_bytes extended all) small))
     ∙ ap (after_fields p) (fields_of-by_parts extended r g b all small.0 small.1 small.2) ∙ after_fields-step p extended rest
     ∙ ap (λ e. after_fields (perform e p rest).0 (perform e p rest).1) reads
     ∙ ap (λ x. put (Bit24 x (color_number (decimal g)) (color_number (decimal b))) p) (color_number-decimal r small.0)

@@ -12,7 +12,7 @@ use Rattle.std.specs.List.{list_all}
 use Rattle.std.specs.Str.{byte}
 use Rattle.ansi_items.specs.declared.ansitok.AnsiColor.{AnsiColor}
 use Rattle.ansi_items.specs.declared.ansitok.AnsiColor.TheVariants.{Bit4, Bit8, Bit24}
-use Rattle.ansi_items.specs.Bytes.{is_parameter_byte, escape}
+use Rattle.ansi_items.specs.Bytes.{escape}
 use Rattle.ansi_items.specs.Sequences.{IsSequence}
 use Rattle.ansi_items.specs.Pieces.{Piece, Sequence}
 use Rattle.ansi_style.specs.Rendition.{Rendition, IsStyle, has_ideogram_attribute}
@@ -22,7 +22,7 @@ use Rattle.ansi_style.specs.Reading.{style_after_from}
 use Rattle.ansi_items.proofs.JoinLemmas.{spelled, AllStandAnywhere}
 use Rattle.ansi_style.proofs.StyledLemmas.{style_through, styled_through}
 use Rattle.ansi_style.proofs.SpelledLemmas.{style_after_from-spelled}
-use Rattle.ansi_style.proofs.ColorLemmas.{IsByteColor, parameters-color_code, in_range, parameters-decimal, IsByteColor-foreground, IsByteColor-background, IsByteColor-extended}
+use Rattle.ansi_style.proofs.ColorLemmas.{is_code_byte, parameter_bytes, IsByteColor, parameters-color_code, in_range, parameters-decimal, IsByteColor-foreground, IsByteColor-background, IsByteColor-extended}
 
 -- The style after codes.
 
@@ -32,16 +32,16 @@ apply_codes s xs = apply_all s (map written xs)
 pub apply_codes-append : (s : Rendition) (xs ys : List (List ℕ)) → apply_codes s (xs ++ ys) ≡ apply_codes (apply_codes s xs) ys
 apply_codes-append s xs ys = ap (fold apply s) (map-append written xs ys) ∙ fold-append apply s (map written xs) (map written ys)
 
--- Codes are written with parameter bytes alone, and are short.
+-- Codes are written with digits and semicolons, and are short.
 
--- each code has parameter bytes alone, and what is written for all of them has at most n bytes
+-- each code has bytes of codes alone, and what is written for all of them has at most n bytes
 pub record AreCodes (xs : List (List ℕ)) (n : ℕ) : Type 0 where
-  pub each : list_all (list_all is_parameter_byte) xs ≡ true
+  pub each : list_all (list_all is_code_byte) xs ≡ true
   pub short : length (written_all xs) ≤ n
 
 ◌then◌ : {xs ys : List (List ℕ)} {n k : ℕ} → AreCodes xs n → AreCodes ys k → AreCodes (xs ++ ys) (n + k)
 ◌then◌ {xs} {ys} first second = record {
-  each = list_all-append (list_all is_parameter_byte) xs ys ∙ and_from _ _ first.each second.each;
+  each = list_all-append (list_all is_code_byte) xs ys ∙ and_from _ _ first.each second.each;
   short = omega (arith, ap length (flat_map-append written xs ys) ∙ length-append (written_all xs) (written_all ys), first.short, second.short);
 }
 
@@ -50,13 +50,13 @@ length-written : (code : List ℕ) → length (written_all (code ∷ [])) ≡ le
 length-written code =
     length-append (written code) [] ∙ ap (λ n. n + 0) (length-append (codes "\u{1b}[" ++ code) (codes "m") ∙ ap (λ n. n + 1) (length-append (codes "\u{1b}[") code)) ∙ omega arith
 
-one_code : (code : List ℕ) (n : ℕ) → list_all is_parameter_byte code ≡ true → length code + 3 ≤ n → AreCodes (code ∷ []) n
+one_code : (code : List ℕ) (n : ℕ) → list_all is_code_byte code ≡ true → length code + 3 ≤ n → AreCodes (code ∷ []) n
 one_code code n all short = record { each = and_from _ _ all refl; short = omega (arith, length-written code, short) }
 
 no_code : (n : ℕ) → AreCodes [] n
 no_code n = record { each = refl; short = omega arith }
 
-code_when : (b : Bool) (code : List ℕ) → list_all is_parameter_byte code ≡ true → AreCodes (when b code) (length code + 3)
+code_when : (b : Bool) (code : List ℕ) → list_all is_code_byte code ≡ true → AreCodes (when b code) (length code + 3)
 code_when true code all = one_code code (length code + 3) all (omega arith)
 code_when false code all = no_code (length code + 3)
 
@@ -87,7 +87,7 @@ length-color_code extended (Bit24 r g b) two small =
       two,
     )
 
-color_code_of : (extended : List ℕ) (o : Option AnsiColor) → list_all is_parameter_byte extended ≡ true → length extended ≡ 2 → IfSome o IsByteColor → AreCodes (color_codes extended o) 19
+color_code_of : (extended : List ℕ) (o : Option AnsiColor) → list_all is_code_byte extended ≡ true → length extended ≡ 2 → IfSome o IsByteColor → AreCodes (color_codes extended o) 19
 color_code_of extended None all two is = no_code 19
 color_code_of extended (Some c) all two is =
     one_code (color_code extended c) 19 (parameters-color_code extended c all is) (omega (arith, length-color_code extended c two is))
@@ -162,13 +162,13 @@ pub spelled-code_pieces : (xs : List (List ℕ)) → spelled (code_pieces xs) �
 spelled-code_pieces [] = refl
 spelled-code_pieces (x ∷ xs) = ap (λ w. written x ++ w) (spelled-code_pieces xs)
 
-written_is_sequence : (code : List ℕ) → list_all is_parameter_byte code ≡ true → IsSequence (written code)
+written_is_sequence : (code : List ℕ) → list_all is_code_byte code ≡ true → IsSequence (written code)
 written_is_sequence code all = inl (record {
   parameters = code;
   intermediates = [];
   final = byte "m";
   spelled = ap (λ v. escape ∷ byte "[" ∷ (v ++ (byte "m" ∷ []))) (sym (append-nil code));
-  are_parameters = all;
+  are_parameters = parameter_bytes code all;
   are_intermediates = refl;
   is_final = refl;
 })
@@ -176,10 +176,10 @@ written_is_sequence code all = inl (record {
 pub code_pieces_stand : {n : ℕ} (xs : List (List ℕ)) → AreCodes xs n → AllStandAnywhere (code_pieces xs)
 code_pieces_stand xs are = by_each xs are.each
   where
-    by_each : (xs : List (List ℕ)) → list_all (list_all is_parameter_byte) xs ≡ true → AllStandAnywhere (code_pieces xs)
+    by_each : (xs : List (List ℕ)) → list_all (list_all is_code_byte) xs ≡ true → AllStandAnywhere (code_pieces xs)
     by_each [] each = tt
     by_each (x ∷ xs) each =
-        let both = and_parts (list_all is_parameter_byte x) (list_all (list_all is_parameter_byte) xs) each in
+        let both = and_parts (list_all is_code_byte x) (list_all (list_all is_code_byte) xs) each in
         (written_is_sequence x both.0, by_each xs both.1)
 
 pub style_through-codes : (p : Rendition) (xs : List (List ℕ)) → style_through p (code_pieces xs) ≡ apply_codes p xs

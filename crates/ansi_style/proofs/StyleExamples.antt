@@ -113,8 +113,8 @@ unknown_with_leading_zero = refl
 colons : apply_parameters plain_style (codes "38:5:1") ≡ record plain_style { unknown = true }
 colons = refl
 
-private_parameters : apply_parameters plain_style (codes ">4;2") ≡ record plain_style { unknown = true; faint = true }
-private_parameters = refl
+private_byte_in_a_field : apply_parameters plain_style (codes "1;?2") ≡ record plain_style { bold = true; unknown = true }
+private_byte_in_a_field = refl
 
 number_past_255 : apply_parameters plain_style (codes "257") ≡ record plain_style { unknown = true }
 number_past_255 = refl
@@ -147,6 +147,9 @@ which_have_any = refl
 
 other_sequence : apply plain_style (codes "\u{1b}[1 m") ≡ plain_style
 other_sequence = refl
+
+private_sequence : apply plain_style (codes "\u{1b}[>4;2m") ≡ plain_style
+private_sequence = refl
 
 sgr : apply plain_style (codes "\u{1b}[1;31m") ≡ record plain_style { bold = true; foreground = Some (Bit4 31) }
 sgr = refl

@@ -20,6 +20,14 @@ pub(crate) struct Front {
     pub(crate) len: usize,
 }
 
+/// The parameter bytes of a control sequence.
+#[derive(Clone, Copy)]
+struct Parameters {
+    len: usize,
+    /// Whether they are for private use.
+    are_private: bool,
+}
+
 /// A count of looks at the bytes of a text, each byte as often as it is looked at.
 #[derive(Drop)]
 pub(crate) struct Looks {
@@ -30,6 +38,7 @@ impl Looks {
     ghost use Rattle.std.specs.Prelude.{◌≡◌, ◌+◌, ◌*◌, ◌^◌, ◌<◌, ◌≤◌, length, drop, slice_index, min, IfSome, IfNone};
     ghost use Rattle.std.specs.List.{prefix_len};
     ghost use Rattle.ansi_items.specs.Bytes.{is_parameter_byte, is_intermediate_byte, is_body_byte, is_plain_byte};
+    ghost use Rattle.ansi_items.specs.Sequences.{are_private};
     ghost use Rattle.ansi_items.specs.Fronts.{control_at, string_at, escape_at, sequence_at, front_at};
     ghost use Rattle.ansi_items.specs.Counts.{before_escape, CostsSequence, CostsFound, CostsFront};
 
@@ -82,16 +91,16 @@ impl Looks {
         ensures front { result ≡ control_at bytes.now }
         ensures cost { CostsSequence self.old.count bytes.now 2 3 result self.new.count }
     {
-        let parameters = self.parameters_len(bytes);
-        let intermediates = self.intermediates_len(&bytes[parameters..]);
-        match self.byte(bytes, parameters + intermediates)? {
-            b'm' if intermediates == 0 => Some(Front {
+        let parameters = self.parameters(bytes);
+        let intermediates = self.intermediates_len(&bytes[parameters.len..]);
+        match self.byte(bytes, parameters.len + intermediates)? {
+            b'm' if intermediates == 0 && !parameters.are_private => Some(Front {
                 kind: Kind::Sgr,
-                len: parameters + 3,
+                len: parameters.len + 3,
             }),
             0x40..=0x7E => Some(Front {
                 kind: Kind::Other,
-                len: parameters + intermediates + 3,
+                len: parameters.len + intermediates + 3,
             }),
             _ => None,
         }
@@ -154,6 +163,27 @@ impl Looks {
         let byte = *bytes.get(at)?;
         self.count += 1;
         Some(byte)
+    }
+
+    /// The parameter bytes at the front, of which the first tells whether they are for private use.
+    #[inline(always)]
+    fn parameters(&mut self, bytes: &[u8]) -> Parameters
+        requires { self.old.count + length bytes.now + 1 < 2 ^ 128 }
+        ensures len { result.len ≡ prefix_len is_parameter_byte bytes.now }
+        ensures private { result.are_private ≡ are_private bytes.now }
+        ensures bound { result.len ≤ length bytes.now }
+        ensures looks { self.new.count ≡ self.old.count + min (result.len + 1) (length bytes.now) }
+    {
+        match self.byte(bytes, 0) {
+            Some(first @ 0x30..=0x3F) => Parameters {
+                len: 1 + self.parameters_len(&bytes[1..]),
+                are_private: first >= 0x3C,
+            },
+            _ => Parameters {
+                len: 0,
+                are_private: false,
+            },
+        }
     }
 
     /// How many parameter bytes stand at the front.
