@@ -88,7 +88,7 @@ static LONG_ROWS: [LongRow; 8] = [
         word: "cut:0:1",
         count: 100_000,
         line: ("\x1b[", "1;", "mx"),
-        written: ("\x1b[", "1;", "mx\x1b[22m\x1b[0m"),
+        written: ("\x1b[", "1;", "mx"),
     },
     LongRow {
         word: "cut:18446744073709551615:",
