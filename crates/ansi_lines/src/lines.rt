@@ -93,6 +93,6 @@ fn answer<'t, A: Allocator + Copy>(
 {
     match job {
         Job::Strip => Ok(Some(ansi_str::slice::strip_in(alloc, line)?)),
-        Job::Edits(edits) => ansi_str::edit_in(alloc, line, edits.as_slice()),
+        Job::Edits(edits) => ansi_str::edit(alloc, line, edits.as_slice()),
     }
 }

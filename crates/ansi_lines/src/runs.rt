@@ -1,4 +1,4 @@
-//! A run in the memory of any allocator.
+//! A run of the program, over any devices.
 ghost use Rattle.std.specs.Prelude.{◌≡◌, ◌≤◌, ◌+◌, ◌⊎◌, false, true, IfErr, IfSome, IsErrOf, IsNone, IsSome, OnOk};
 ghost use Rattle.std.specs.Io.KnownBytes.{append_known};
 ghost use Rattle.ansi_lines.specs.Devices.{count_after};
@@ -14,8 +14,33 @@ use crate::stop::Stop;
 use crate::words::parse;
 use std::alloc::Allocator;
 
-/// As [`run`](crate::run), in the memory of any allocator.
-pub fn run_in<A: Allocator, S: Source, W: Sink, V: Sink>(
+/// Does what the words ask for with each line of the input, and answers the status.
+///
+/// The whole input is read first. Then each line is handled by itself, in order; a line feed ends
+/// it, isn't part of it, and is written after its answer. A line that is refused ends the run: the
+/// lines before it are written, and nothing of it or after it. The output is flushed once: at the
+/// end, or before a refused line is told of.
+///
+/// | status | when | text on the fault writer |
+/// |---|---|---|
+/// | 0 | done | none |
+/// | 1 | line N, counted from 1, is refused | `line N: refused\n` |
+/// | 2 | bad words; nothing is read | `bad words\n` |
+/// | 3 | the input is longer than `MAX_BYTES`, isn't UTF-8, or failed; nothing is written | `bad input\n` |
+/// | 4 | a write or a flush of the output failed | `write failed\n` |
+/// | 5 | want of memory; what is written is a beginning of what would have been | `out of memory\n` |
+///
+/// Memory comes from the allocator, the program's own or any other. The first of these that is met is the status. A read that is interrupted is made again; more than
+/// `MAX_READS` reads are a failed input. A fault of the fault writer is passed over.
+///
+/// ```
+/// let mut input = Page::of(alloc, b"\x1b[31mred\x1b[39m\n".to_vec(alloc)?);
+/// let mut output = Page::with_room(alloc, 10)?;
+/// let mut faults = Page::with_room(alloc, 10)?;
+/// assert_eq!(run(alloc, words, &mut input, &mut output, &mut faults), 0); // of the word `strip`
+/// assert_eq!(output.bytes(), b"red\n");
+/// ```
+pub fn run<A: Allocator, S: Source, W: Sink, V: Sink>(
     alloc: A,
     words: &[String],
     input: &mut S,

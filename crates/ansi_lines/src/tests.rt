@@ -5,7 +5,7 @@ mod hostile;
 mod memory;
 
 use crate::page::{Outcome, Page};
-use crate::run;
+use crate::runs::run;
 use std::alloc::{AllocError, Global};
 use std::process::Abort;
 use std::test::Fail;

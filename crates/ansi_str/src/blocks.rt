@@ -148,24 +148,14 @@ impl<'a, A: Allocator> Model for AnsiBlockIter<'a, A> {
 /// There is one for each run of text between sequences. A block's text is the sequences before the run
 /// that are no SGR, joined, and then the run; it is a borrow where there are none, and then no memory
 /// is taken: so on a text without ESC. Sequences after the last run are in no block. An item is an `Err` where memory is
-/// wanting, and it is the last. (The Rust crate.)
+/// wanting, and it is the last. Memory may come from any allocator. (The Rust crate.)
 ///
 /// ```
 /// let mut blocks = get_blocks(alloc, "\x1b[31mred\x1b[39m and plain");
 /// let red = blocks.next()??;
 /// assert_eq!((red.text(), red.style().foreground()), ("red", Some(Color::Red)));
 /// ```
-pub fn get_blocks(alloc: Global, text: &str) -> AnsiBlockIter<'_>
-    ensures blocks { result ≡ blocks text.now }
-    ensures runs { length result ≡ length (runs text.now) }
-    ensures len { length result ≤ length text.now }
-    ensures takes_no_memory { IsFalse (has_escape text.now) → IsTrue (list_all (λ b. b.is_borrow) result) }
-{
-    get_blocks_in(alloc, text)
-}
-
-/// As [`get_blocks`], with the blocks' memory taken from any allocator.
-pub fn get_blocks_in<A: Allocator>(alloc: A, text: &str) -> AnsiBlockIter<'_, A>
+pub fn get_blocks<A: Allocator>(alloc: A, text: &str) -> AnsiBlockIter<'_, A>
     ensures blocks { result ≡ blocks text.now }
     ensures runs { length result ≡ length (runs text.now) }
     ensures len { length result ≤ length text.now }

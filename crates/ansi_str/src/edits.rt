@@ -10,7 +10,7 @@ mod steps;
 
 use crate::ansitok::{Kind, Scanner};
 pub use kinds::Edit;
-use std::alloc::{AllocError, Allocator, Global};
+use std::alloc::{AllocError, Allocator};
 use std::borrow::CowStr;
 use steps::edit_given;
 
@@ -46,30 +46,15 @@ pub fn ansi_is_whole(text: &str) -> bool
 ///
 /// It is a borrow of the text until an edit gives an owned text, and owned from then on. Where it
 /// stays a borrow no memory is taken and there is no `Err`: for no edits, on a text without ESC, and
-/// where the first edit is refused. Else `Err` means that memory is wanting. (The Rust crate lacks
-/// it.)
+/// where the first edit is refused. Else `Err` means that memory is wanting. It may come from any
+/// allocator. (The Rust crate lacks it.)
 ///
 /// ```
 /// let edits = [Edit::Prefix("> "), Edit::Cut { start: 0, end: Some(2) }];
 /// assert_eq!(edit(alloc, "> \x1b[31mred", &edits)?, Some("\x1b[31mre\x1b[39m"));
 /// assert_eq!(edit(alloc, "red", &edits)?, None);
 /// ```
-pub fn edit<'t>(
-    alloc: Global,
-    text: &'t str,
-    edits: &[Edit<'_>],
-) -> Result<Option<CowStr<'t>>, AllocError>
-    ensures headline { IsTrue (is_whole text.now) → IfOk result (λ o. IsSliceNamed (changes_of edits.now) text.now (option_map cow_str_bytes o)) }
-    ensures none { IfOk result (λ o. IsNone o ↔ IsNone (edited (changes_of edits.now) text.now)) }
-    ensures bytes { IfOk result (λ o. option_map cow_str_bytes o ≡ edited (changes_of edits.now) text.now) }
-    ensures borrowed { IfOk result (λ o. IfSome o (λ c. IsBorrowedStr c ↔ IsTrue (stay_borrowed (changes_of edits.now) text.now))) }
-    ensures takes_no_memory { IsTrue (stay_borrowed (changes_of edits.now) text.now) → IsOk result }
-{
-    edit_in(alloc, text, edits)
-}
-
-/// As [`edit`], with its memory taken from any allocator.
-pub fn edit_in<'t, A: Allocator + Copy>(
+pub fn edit<'t, A: Allocator + Copy>(
     alloc: A,
     text: &'t str,
     edits: &[Edit<'_>],

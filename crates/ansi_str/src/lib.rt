@@ -13,6 +13,6 @@ pub use ansi_items::ansitok;
 pub use ansi_style::Color;
 pub use ansi_style::state::{AnsiSequenceEnd, AnsiSequenceStart, Style};
 pub use blocks::{AnsiBlock, AnsiBlockIter, get_blocks};
-pub use edits::{Edit, ansi_is_whole, edit, edit_in};
+pub use edits::{Edit, ansi_is_whole, edit};
 pub use slice::{AnsiRange, AnsiStr};
 pub use split::AnsiSplit;

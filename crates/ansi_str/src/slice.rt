@@ -19,7 +19,7 @@ pub use ansi_slice::slice::{
     AnsiRange, cut_in, get_in, has_any, split_at_in, strip_in, strip_prefix_in, strip_suffix_in,
     trim_in,
 };
-use std::alloc::{AllocError, Global};
+use std::alloc::{AllocError, Allocator, Global};
 use std::borrow::CowStr;
 
 /// A text, taken as if its sequences weren't there.
@@ -29,6 +29,15 @@ use std::borrow::CowStr;
 pub trait AnsiStr {
     /// The bytes of the text, sequences included.
     ghost text: { Self → List ℕ };
+
+    /// The text itself, sequences included: a borrow that takes no memory. Every other call is one on
+    /// this text, so a further type needs no more than this one. (The Rust crate lacks it.)
+    ///
+    /// ```
+    /// assert_eq!("\x1b[1mbold".as_text(), "\x1b[1mbold");
+    /// ```
+    fn as_text(&self) -> &str
+        ensures { result.now ≡ text self.now };
 
     /// The text between two positions, as [`ansi_cut`](AnsiStr::ansi_cut) gives it.
     ///
@@ -50,7 +59,10 @@ pub trait AnsiStr {
         ensures borrowed { IfOk result (λ o. IfSome o (λ c. IsBorrowedStr c ↔ IsFalse (has_escape (text self.now)))) }
         ensures len { IfOk result (λ o. IfSome o (λ c. length (cow_str_bytes c) ≤ length (text self.now) + 88)) }
         ensures takes_no_memory { IsFalse (has_escape (text self.now))
-            ⊎ IsFalse (is_good_range (plain (text self.now)) (R.start range) (R.end range)) → IsOk result };
+            ⊎ IsFalse (is_good_range (plain (text self.now)) (R.start range) (R.end range)) → IsOk result }
+    {
+        get_in(alloc, self.as_text(), range.start(), range.end())
+    }
 
     /// The text between two positions, each character in its style.
     ///
@@ -71,7 +83,10 @@ pub trait AnsiStr {
         ensures bytes { IfOk result (λ c. cow_str_bytes c ≡ cut (text self.now) (R.start range) (R.end range)) }
         ensures borrowed { IfOk result (λ c. IsBorrowedStr c ↔ IsFalse (has_escape (text self.now))) }
         ensures len { IfOk result (λ c. length (cow_str_bytes c) ≤ length (text self.now) + 88) }
-        ensures takes_no_memory { IsFalse (has_escape (text self.now)) → IsOk result };
+        ensures takes_no_memory { IsFalse (has_escape (text self.now)) → IsOk result }
+    {
+        cut_in(alloc, self.as_text(), range.start(), range.end())
+    }
 
     /// Whether a character of the plain text begins at the index, or the plain text ends there. (std,
     /// on the plain text.)
@@ -88,7 +103,10 @@ pub trait AnsiStr {
         ensures value { result ≡ is_char_boundary (plain (text self.now)) index }
         ensures boundary { IsTrue result ↔ IsCharBoundary (plain (text self.now)) index }
         ensures good_before { IsTrue result → IsTrue (is_good_range (plain (text self.now)) 0 (Some index)) }
-        ensures good_after { IsTrue result → IsTrue (is_good_range (plain (text self.now)) index None) };
+        ensures good_after { IsTrue result → IsTrue (is_good_range (plain (text self.now)) index None) }
+    {
+        search::is_char_boundary(self.as_text(), index)
+    }
 
     /// Where the pattern first stands in the plain text, in bytes from its start. (std's `find`, on
     /// the plain text.)
@@ -107,7 +125,10 @@ pub trait AnsiStr {
         ensures good { IfSome result (λ i. IsTrue (is_good_range (plain (text self.now)) i (Some (i + length pat.now)))) }
         ensures good_before { IfSome result (λ i. IsTrue (is_good_range (plain (text self.now)) 0 (Some i))) }
         ensures good_after { IfSome result (λ i. IsTrue (is_good_range (plain (text self.now)) (i + length pat.now) None)) }
-        ensures fits { IfSome result (λ i. i + length pat.now < 2 ^ 64) };
+        ensures fits { IfSome result (λ i. i + length pat.now < 2 ^ 64) }
+    {
+        search::find(self.as_text(), pat)
+    }
 
     /// The text without a prefix of its plain text, or `None` where the plain text doesn't begin with
     /// it.
@@ -134,7 +155,10 @@ pub trait AnsiStr {
         ensures bytes { IfOk result (λ o. IfSome o (λ c. cow_str_bytes c ≡ without_prefix (text self.now) prefix.now)) }
         ensures borrowed { IfOk result (λ o. IfSome o (λ c. IsBorrowedStr c ↔ (IsFalse (has_escape (text self.now)) ⊎ (prefix.now ≡ [])))) }
         ensures takes_no_memory { IsFalse (has_escape (text self.now)) ⊎ (prefix.now ≡ [])
-            ⊎ IsFalse (starts_with nat_eq (plain (text self.now)) prefix.now) → IsOk result };
+            ⊎ IsFalse (starts_with nat_eq (plain (text self.now)) prefix.now) → IsOk result }
+    {
+        strip_prefix_in(alloc, self.as_text(), prefix)
+    }
 
     /// The text without a suffix of its plain text, or `None` where the plain text doesn't end with
     /// it.
@@ -160,7 +184,11 @@ pub trait AnsiStr {
         ensures bytes { IfOk result (λ o. IfSome o (λ c. cow_str_bytes c ≡ without_suffix (text self.now) suffix.now)) }
         ensures borrowed { IfOk result (λ o. IfSome o (λ c. IsBorrowedStr c ↔ (IsFalse (has_escape (text self.now)) ⊎ (suffix.now ≡ [])))) }
         ensures takes_no_memory { IsFalse (has_escape (text self.now)) ⊎ (suffix.now ≡ [])
-            ⊎ IsFalse (ends_with nat_eq (plain (text self.now)) suffix.now) → IsOk result };
+            ⊎ IsFalse (ends_with nat_eq (plain (text self.now)) suffix.now) → IsOk result }
+    {
+        strip_suffix_in(alloc, self.as_text(), suffix)
+    }
+
     /// The parts of the text between the matches of a pattern, each with its sequences and in its
     /// style: an iterator, which takes no memory to make.
     ///
@@ -193,7 +221,10 @@ pub trait AnsiStr {
         ensures fits { length result < 2 ^ 64 }
         ensures shares { map (λ p. p.share) result ≡ map (share (text self.now) pat.now) (range_with_len 0 (length result)) }
         ensures within { sum_by (λ p. p.share) result ≤ length (text self.now) }
-        ensures takes_no_memory { IsFalse (has_escape (text self.now)) → IsTrue (list_all (λ p. p.borrowed) result) };
+        ensures takes_no_memory { IsFalse (has_escape (text self.now)) → IsTrue (list_all (λ p. p.borrowed) result) }
+    {
+        split_in(alloc, self.as_text(), pat)
+    }
 
     /// The text before a position and the text from there on, each character in its style.
     ///
@@ -222,7 +253,10 @@ pub trait AnsiStr {
             × (IsBorrowedStr c.1 ↔ IsFalse (has_escape (text self.now)))) }
         ensures len { IfOk result (λ c. length (cow_str_bytes c.0) + length (cow_str_bytes c.1)
             ≤ length (text self.now) + 251 * (length (filter is_text (pieces_of (text self.now))) + 1)) }
-        ensures takes_no_memory { IsFalse (has_escape (text self.now)) → IsOk result };
+        ensures takes_no_memory { IsFalse (has_escape (text self.now)) → IsOk result }
+    {
+        split_at_in(alloc, self.as_text(), mid)
+    }
 
     /// Whether the plain text begins with the pattern.
     ///
@@ -233,7 +267,10 @@ pub trait AnsiStr {
     /// assert!("\x1b[31mred\x1b[39m and plain".ansi_starts_with("red and"));
     /// ```
     fn ansi_starts_with(&self, pat: &str) -> bool
-        ensures { result ≡ starts_with nat_eq (plain (text self.now)) pat.now };
+        ensures { result ≡ starts_with nat_eq (plain (text self.now)) pat.now }
+    {
+        search::starts_with(self.as_text(), pat)
+    }
 
     /// Whether the plain text ends with the pattern.
     ///
@@ -244,7 +281,10 @@ pub trait AnsiStr {
     /// assert!("plain and \x1b[31mred\x1b[39m".ansi_ends_with("and red"));
     /// ```
     fn ansi_ends_with(&self, pat: &str) -> bool
-        ensures { result ≡ ends_with nat_eq (plain (text self.now)) pat.now };
+        ensures { result ≡ ends_with nat_eq (plain (text self.now)) pat.now }
+    {
+        search::ends_with(self.as_text(), pat)
+    }
 
     /// The text without the white space at the ends of its plain text.
     ///
@@ -261,7 +301,10 @@ pub trait AnsiStr {
     fn ansi_trim(&self, alloc: Global) -> Result<CowStr<'_>, AllocError>
         ensures bytes { IfOk result (λ c. cow_str_bytes c ≡ trimmed (text self.now)) }
         ensures borrowed { IfOk result (λ c. IsBorrowedStr c ↔ IsFalse (has_escape (text self.now))) }
-        ensures takes_no_memory { IsFalse (has_escape (text self.now)) → IsOk result };
+        ensures takes_no_memory { IsFalse (has_escape (text self.now)) → IsOk result }
+    {
+        trim_in(alloc, self.as_text())
+    }
 
     /// The plain text: the text without its sequences and lone escapes.
     ///
@@ -274,7 +317,10 @@ pub trait AnsiStr {
     fn ansi_strip(&self, alloc: Global) -> Result<CowStr<'_>, AllocError>
         ensures bytes { IfOk result (λ c. cow_str_bytes c ≡ plain (text self.now)) }
         ensures borrowed { IfOk result (λ c. IsBorrowedStr c ↔ IsFalse (has_escape (text self.now))) }
-        ensures takes_no_memory { IsFalse (has_escape (text self.now)) → IsOk result };
+        ensures takes_no_memory { IsFalse (has_escape (text self.now)) → IsOk result }
+    {
+        strip_in(alloc, self.as_text())
+    }
 
     /// Whether an ESC stands in the text: a sequence, or a lone escape. Takes no memory. (The Rust
     /// crate.)
@@ -283,149 +329,32 @@ pub trait AnsiStr {
     /// assert!("\x1b[31mred".ansi_has_any());
     /// ```
     fn ansi_has_any(&self) -> bool
-        ensures { result ≡ has_escape (text self.now) };
+        ensures { result ≡ has_escape (text self.now) }
+    {
+        has_any(self.as_text())
+    }
 }
 
 impl AnsiStr for &str {
     ghost text = { λ s. s.now };
 
-    fn ansi_get<R: AnsiRange>(
-        &self,
-        alloc: Global,
-        range: R,
-    ) -> Result<Option<CowStr<'_>>, AllocError> {
-        get_in(alloc, self, range.start(), range.end())
-    }
-
-    fn ansi_cut<R: AnsiRange>(&self, alloc: Global, range: R) -> Result<CowStr<'_>, AllocError> {
-        cut_in(alloc, self, range.start(), range.end())
-    }
-
-    fn ansi_is_char_boundary(&self, index: usize) -> bool {
-        search::is_char_boundary(self, index)
-    }
-
-    fn ansi_find(&self, pat: &str) -> Option<usize> {
-        search::find(self, pat)
-    }
-
-    fn ansi_strip_prefix(
-        &self,
-        alloc: Global,
-        prefix: &str,
-    ) -> Result<Option<CowStr<'_>>, AllocError> {
-        strip_prefix_in(alloc, self, prefix)
-    }
-
-    fn ansi_strip_suffix(
-        &self,
-        alloc: Global,
-        suffix: &str,
-    ) -> Result<Option<CowStr<'_>>, AllocError> {
-        strip_suffix_in(alloc, self, suffix)
-    }
-
-    fn ansi_split<'a>(&'a self, alloc: Global, pat: &'a str) -> AnsiSplit<'a> {
-        split_in(alloc, self, pat)
-    }
-
-    fn ansi_split_at(
-        &self,
-        alloc: Global,
-        mid: usize,
-    ) -> Result<(CowStr<'_>, CowStr<'_>), AllocError> {
-        split_at_in(alloc, self, mid)
-    }
-
-    fn ansi_starts_with(&self, pat: &str) -> bool {
-        search::starts_with(self, pat)
-    }
-
-    fn ansi_ends_with(&self, pat: &str) -> bool {
-        search::ends_with(self, pat)
-    }
-
-    fn ansi_trim(&self, alloc: Global) -> Result<CowStr<'_>, AllocError> {
-        trim_in(alloc, self)
-    }
-
-    fn ansi_strip(&self, alloc: Global) -> Result<CowStr<'_>, AllocError> {
-        strip_in(alloc, self)
-    }
-
-    fn ansi_has_any(&self) -> bool {
-        has_any(self)
+    fn as_text(&self) -> &str {
+        self
     }
 }
 
 impl AnsiStr for String {
     ghost text = { string_bytes };
 
-    fn ansi_get<R: AnsiRange>(
-        &self,
-        alloc: Global,
-        range: R,
-    ) -> Result<Option<CowStr<'_>>, AllocError> {
-        get_in(alloc, self.as_str(), range.start(), range.end())
+    fn as_text(&self) -> &str {
+        self.as_str()
     }
+}
 
-    fn ansi_cut<R: AnsiRange>(&self, alloc: Global, range: R) -> Result<CowStr<'_>, AllocError> {
-        cut_in(alloc, self.as_str(), range.start(), range.end())
-    }
+impl<A: Allocator> AnsiStr for CowStr<'_, A> {
+    ghost text = { cow_str_bytes };
 
-    fn ansi_is_char_boundary(&self, index: usize) -> bool {
-        search::is_char_boundary(self.as_str(), index)
-    }
-
-    fn ansi_find(&self, pat: &str) -> Option<usize> {
-        search::find(self.as_str(), pat)
-    }
-
-    fn ansi_strip_prefix(
-        &self,
-        alloc: Global,
-        prefix: &str,
-    ) -> Result<Option<CowStr<'_>>, AllocError> {
-        strip_prefix_in(alloc, self.as_str(), prefix)
-    }
-
-    fn ansi_strip_suffix(
-        &self,
-        alloc: Global,
-        suffix: &str,
-    ) -> Result<Option<CowStr<'_>>, AllocError> {
-        strip_suffix_in(alloc, self.as_str(), suffix)
-    }
-
-    fn ansi_split<'a>(&'a self, alloc: Global, pat: &'a str) -> AnsiSplit<'a> {
-        split_in(alloc, self.as_str(), pat)
-    }
-
-    fn ansi_split_at(
-        &self,
-        alloc: Global,
-        mid: usize,
-    ) -> Result<(CowStr<'_>, CowStr<'_>), AllocError> {
-        split_at_in(alloc, self.as_str(), mid)
-    }
-
-    fn ansi_starts_with(&self, pat: &str) -> bool {
-        search::starts_with(self.as_str(), pat)
-    }
-
-    fn ansi_ends_with(&self, pat: &str) -> bool {
-        search::ends_with(self.as_str(), pat)
-    }
-
-    fn ansi_trim(&self, alloc: Global) -> Result<CowStr<'_>, AllocError> {
-        trim_in(alloc, self.as_str())
-    }
-
-    fn ansi_strip(&self, alloc: Global) -> Result<CowStr<'_>, AllocError> {
-        strip_in(alloc, self.as_str())
-    }
-
-    fn ansi_has_any(&self) -> bool {
-        has_any(self.as_str())
+    fn as_text(&self) -> &str {
+        self.as_str()
     }
 }

@@ -3,7 +3,6 @@ use crate::Refusing;
 use crate::callers::blocks::{count_blocks, have_same_blocks, write_cell, write_status};
 use crate::memory::expect_each_refusal;
 use crate::styles::{RESET, UNKNOWN, UNMARKED, expect_style};
-use ansi_str::blocks::get_blocks_in;
 use ansi_str::{AnsiBlock, AnsiBlockIter, Color, get_blocks};
 use std::alloc::{AllocError, Allocator, Global};
 use std::process::Abort;
@@ -203,7 +202,7 @@ fn blocks_are_given(rt: HostRuntime) -> Result<(), Fail> {
 fn expect_borrows(rt: &impl Abort, alloc: Global, row: &Row) -> Result<(), Fail> {
     let (text, want) = *row;
     let heap = Refusing::new(alloc, u64::MAX);
-    let mut blocks = get_blocks_in(&heap, text);
+    let mut blocks = get_blocks(&heap, text);
     for (block_text, _, is_borrow) in want {
         let before = heap.requests();
         let block = blocks.next().ok_or("a block is missing")??;
@@ -344,7 +343,7 @@ static MEMORY_ROWS: [MemoryRow; 4] = [
 /// row's, and none may come after it.
 fn is_err(rt: &impl Abort, heap: &Refusing<Global>, row: &MemoryRow) -> bool {
     let (text, want, _) = *row;
-    let mut blocks = get_blocks_in(heap, text);
+    let mut blocks = get_blocks(heap, text);
     for want in want.split('|') {
         match blocks.next() {
             Some(Ok(block)) => {

@@ -1,6 +1,7 @@
 //! Callers of the library, proved by its contracts alone: what can be concluded of the calls' answers.
 pub mod blocks;
 pub mod buffers;
+pub mod chains;
 pub mod parts;
 pub mod scans;
 pub mod searches;

@@ -2,7 +2,7 @@
 use crate::Refusing;
 use crate::memory::expect_each_refusal;
 use ansi_str::Edit::{self, Cut, Left, Part, Prefix, Right, Suffix, Trim};
-use ansi_str::{edit, edit_in};
+use ansi_str::edit;
 use std::alloc::Global;
 use std::borrow::CowStr;
 use std::process::Abort;
@@ -179,7 +179,7 @@ fn is_err(rt: &impl Abort, heap: &Refusing<Global>, number: usize) -> bool {
     let Some((text, edits, want, _, _)) = ROWS.get(number) else {
         return false;
     };
-    match edit_in(heap, text, edits) {
+    match edit(heap, text, edits) {
         Err(_) => true,
         Ok(got) => {
             let answer = got.as_ref().map(|edited| edited.as_str());
@@ -226,7 +226,7 @@ const RED_TEXT: &str = "\x1b[31méa\x1b[39m";
 /// With the requests of a `Left` granted and no more, a later edit is refused by a `None`.
 fn expect_none(rt: &impl Abort, alloc: Global, granted: u64, refused: Edit<'_>) {
     let heap = Refusing::new(alloc, granted);
-    let got = edit_in(&heap, RED_TEXT, &[Left(2), refused]);
+    let got = edit(&heap, RED_TEXT, &[Left(2), refused]);
     assert!(rt; matches!(&got, Ok(None)), "{refused:?} of an owned text");
     assert!(rt; !heap.has_refused(), "{refused:?} takes no memory");
 }
@@ -234,7 +234,7 @@ fn expect_none(rt: &impl Abort, alloc: Global, granted: u64, refused: Edit<'_>) 
 #[test]
 fn a_refused_edit_takes_no_memory(rt: HostRuntime) -> Result<(), Fail> {
     let heap = Refusing::new(rt.alloc(), u64::MAX);
-    let left = edit_in(&heap, RED_TEXT, &[Left(2)])?.ok_or("a good position")?;
+    let left = edit(&heap, RED_TEXT, &[Left(2)])?.ok_or("a good position")?;
     assert!(rt; left.as_str() == "\x1b[31mé\x1b[39m", "the left side");
     for refused in &REFUSED_LATER {
         expect_none(&rt, rt.alloc(), heap.requests(), *refused);

@@ -3,10 +3,9 @@ use crate::memory::Call::{self, Cut, Get, Strip, StripPrefix, StripSuffix, Trim}
 use crate::memory::{answer, expect_each_refusal};
 use crate::split_at::is_good;
 use crate::{Refusing, blocks, split};
-use ansi_str::blocks::get_blocks_in;
 use ansi_str::slice::split_at_in;
 use ansi_str::split::split_in;
-use ansi_str::{AnsiStr, Edit, ansi_is_whole, edit_in};
+use ansi_str::{AnsiStr, Edit, ansi_is_whole, edit, get_blocks};
 use std::alloc::Global;
 use std::process::Abort;
 use std::test::Fail;
@@ -479,7 +478,7 @@ fn blocks_are_err(
     text: &str,
     want: &[&str],
 ) -> bool {
-    let mut blocks = get_blocks_in(heap, text);
+    let mut blocks = get_blocks(heap, text);
     for block in want {
         match blocks.next() {
             Some(Ok(got)) => assert!(rt; got.text() == *block, "a block of {name}"),
@@ -502,7 +501,7 @@ fn clone_is_err(
     text: &str,
     want: &str,
 ) -> bool {
-    let Some(Ok(block)) = get_blocks_in(heap, text).next() else {
+    let Some(Ok(block)) = get_blocks(heap, text).next() else {
         return true;
     };
     let style = *block.style();
@@ -526,7 +525,7 @@ fn edits_are_err(
     edits: &[Edit<'_>],
     want: Option<&str>,
 ) -> bool {
-    match edit_in(heap, text, edits) {
+    match edit(heap, text, edits) {
         Err(_) => true,
         Ok(got) => {
             let got = got.as_ref().map(|edited| edited.as_str());

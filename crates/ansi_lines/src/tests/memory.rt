@@ -1,7 +1,7 @@
 //! Each request for memory that a run makes, refused in turn.
 use super::page_of;
 use crate::page::Page;
-use crate::runs::run_in;
+use crate::runs::run;
 use ansi_str_tests::Refusing;
 use std::alloc::{AllocError, Global};
 use std::process::Abort;
@@ -106,7 +106,7 @@ fn run_is_refused(
     let mut input = page_of(alloc, text.as_bytes())?;
     let mut output = Page::with_room(alloc, 100)?;
     let mut faults = Page::with_room(alloc, 100)?;
-    let ended = run_in(&heap, given, &mut input, &mut output, &mut faults);
+    let ended = run(&heap, given, &mut input, &mut output, &mut faults);
     if heap.has_refused() {
         expect_out_of_memory(rt, row, granted, ended, &output, &faults);
     } else {

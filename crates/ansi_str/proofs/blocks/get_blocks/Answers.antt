@@ -1,7 +1,7 @@
 use Rattle.ansi_style.specs.Rendition.{plain_style}
 use Rattle.ansi_str.proofs.BlockLemmas.{length-blocks_from, blocks-bare}
 use Rattle.ansi_str.proofs.BlockRunLemmas.{length-blocks}
-use Rattle.ansi_str.proofs.blocks.get_blocks_in.Goals as goal
+use Rattle.ansi_str.proofs.blocks.get_blocks.Goals as goal
 
 -- there are no more blocks than bytes
 pub returns-clause-len : goal.returns-clause-len

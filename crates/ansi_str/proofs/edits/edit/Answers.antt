@@ -3,7 +3,7 @@ use Rattle.std.proofs.lemmas.Grind.{common_steps}
 use Rattle.std.specs.Cow.{cow_str_bytes}
 use Rattle.ansi_str.specs.Edits.{changes_of}
 use Rattle.ansi_str.proofs.EditLemmas.{is_slice_named}
-use Rattle.ansi_str.proofs.edits.edit_in.Goals as goal
+use Rattle.ansi_str.proofs.edits.edit.Goals as goal
 
 -- what the edits make is what the headline says of them, and so is a refusal
 pub returns-in-None-clause-headline : goal.returns-in-None-clause-headline

@@ -2,7 +2,7 @@ use Rattle.std.proofs.Common.{drop}
 use Rattle.std.specs.Cow.{cow_str_bytes, IsBorrowedStr}
 use Rattle.ansi_str.specs.Edits.{changes_of}
 use Rattle.ansi_str.proofs.EditWalkLemmas.{IsEditedSoFar}
-use Rattle.ansi_str.proofs.edits.edit_in.Given as goal
+use Rattle.ansi_str.proofs.edits.edit.Given as goal
 
 -- so many edits are done, and the text that they gave is edited by those that are left
 abbrev pub invariant-loop-edit : goal.invariant-loop-edit
