@@ -12,6 +12,7 @@ use std::fmt::Write;
 
 const STEPS: u32 = 20;
 
+#[derive(Drop)]
 struct Task<'t> {
     name: &'t str,
     done: u32,
