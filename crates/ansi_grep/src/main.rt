@@ -1,7 +1,8 @@
-//! Prints the lines of a log that have a text in them, each after its number, with the text marked wherever it stands.
+//! Prints the lines of a log that have a text in them, each after its number, with the text marked wherever it
+//! stands.
 //!
-//! The first word after the program's name is the text. It is found as if the log had no colors, so also where a color
-//! begins or ends inside it.
+//! The first word after the program's name is the text. It is found as if the log had no colors, so also where a
+//! color begins or ends inside it.
 #![tactic(auto)]
 
 use ansi_str::AnsiStr;

@@ -1,8 +1,10 @@
 //! Prints a progress line for each line `NAME DONE TOTAL` of its input, in the styles of a sample.
 //!
-//! The first word after the program's name is the sample, as `\e[32m#\e[90m-`: what stands for a step that is done, and in
-//! another style what stands for one that is left.
+//! The first word after the program's name is the sample, as `\e[32m#\e[90m-`: what stands for a step that is
+//! done, and in another style what stands for one that is left.
 #![tactic(auto)]
+
+ghost use Rattle.std.specs.Prelude.{◌≤◌};
 
 use ansi_str::{AnsiBlock, get_blocks};
 use anyhow::Context;
@@ -29,7 +31,9 @@ impl<'t> Task<'t> {
     }
 
     // How many of so many parts of the task are done. A task of no steps is done.
-    fn done_of(&self, parts: u32) -> u32 {
+    fn done_of(&self, parts: u32) -> u32
+        ensures { result ≤ parts }
+    {
         if self.done >= self.total {
             return parts;
         }
@@ -49,7 +53,9 @@ fn push_steps(line: &mut String, sample: &AnsiBlock<'_>, count: u32) -> Result<(
 
 fn main(rt: HostRuntime) -> anyhow::Result<()> {
     let alloc = rt.alloc();
-    let sample = env::args(&rt)?.nth(1).context("what does a step look like?")?;
+    let sample = env::args(&rt)?
+        .nth(1)
+        .context("what does a step look like?")?;
     let mut blocks = get_blocks(alloc, sample.as_str());
     let done = blocks.next().context("no step that is done")??;
     let left = blocks.next().context("no step that is left")??;

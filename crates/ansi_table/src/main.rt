@@ -1,7 +1,7 @@
 //! Prints lines of cells as a table, each cell in a column of its own width.
 //!
-//! Cells are separated by tabs. The words after the program's name are the widths, in columns of a terminal. A cell that is
-//! too wide is cut, one that is too narrow is filled up with blanks, and its styles end with it.
+//! Cells are separated by tabs. The words after the program's name are the widths, in columns of a terminal. A
+//! cell that is too wide is cut, one that is too narrow is filled up with blanks, and its styles end with it.
 #![tactic(auto)]
 
 use ansi_str::AnsiStr;
@@ -10,32 +10,29 @@ use std::alloc::{AllocError, Global};
 use std::env;
 use unicode_width::UnicodeWidthStr;
 
-// The longest beginning of a plain text that fits into so many columns.
-fn fitting(plain: &str, width: usize) -> &str {
-    let mut front = "";
+// The longest beginning of a plain text that fits into so many columns: how many bytes it has, and how
+// many columns it takes.
+fn fitting(plain: &str, width: usize) -> (usize, usize) {
+    let mut fits = (0, 0);
     for (start, character) in plain.char_indices() {
-        let longer = &plain[..start + character.len_utf8()];
-        if longer.width() > width {
+        let end = start + character.len_utf8();
+        let columns = plain.get(..end).map_or(0, |front| front.width());
+        if columns > width {
             break;
         }
-        front = longer;
+        fits = (end, columns);
     }
-    front
+    fits
 }
 
-// Appends a cell, cut or filled up to the width. It ends between two characters, so the range is a good one.
-fn push_cell(
-    alloc: Global,
-    row: &mut String,
-    cell: &str,
-    width: usize,
-) -> Result<(), AllocError> {
+// Appends a cell, cut or filled up to the width. It is cut between two characters, so the range is good.
+fn push_cell(alloc: Global, row: &mut String, cell: &str, width: usize) -> Result<(), AllocError> {
     let plain = cell.ansi_strip(alloc)?;
-    let front = fitting(plain.as_str(), width);
-    if let Some(shown) = cell.ansi_get(alloc, ..front.len())? {
+    let (end, columns) = fitting(plain.as_str(), width);
+    if let Some(shown) = cell.ansi_get(alloc, ..end)? {
         row.push_str(shown.as_str())?;
     }
-    for _ in front.width()..width {
+    for _ in columns..width {
         row.push(' ')?;
     }
     Ok(())

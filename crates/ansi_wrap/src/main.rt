@@ -6,25 +6,40 @@
 use ansi_str::{AnsiStr, Edit, edit};
 use anyhow::Context;
 use std::alloc::{AllocError, Global};
-use std::env;
-use std::iter;
+use std::borrow::CowStr;
+use std::{env, iter};
 use unicode_width::UnicodeWidthStr;
 
-// Where each line of a plain text starts and ends, once it is wrapped: at a blank, which is left out, or at an end.
+// Where each line of a plain text starts and ends, once it is wrapped: at a blank, which is left out, or at
+// an end.
 fn lines_of(alloc: Global, plain: &str, width: usize) -> Result<Vec<(usize, usize)>, AllocError> {
     let mut lines = Vec::new(alloc);
     let mut start = 0;
     let mut end = 0;
     let blanks = plain.match_indices(' ').map(|(blank, _)| blank);
     for next in blanks.chain(iter::once(plain.len())) {
-        if end > start && plain[start..next].width() > width {
+        let is_wider = plain
+            .get(start..next)
+            .is_some_and(|line| line.width() > width);
+        if end > start && is_wider {
             lines.push((start, end))?;
-            start = end + 1;
+            start = end.saturating_add(1);
         }
         end = next;
     }
     lines.push((start, end))?;
     Ok(lines)
+}
+
+// The text between two places, in its styles. A place beside a blank is between two characters, so no edit
+// is refused.
+fn between(
+    alloc: Global,
+    text: &str,
+    start: usize,
+    end: usize,
+) -> Result<Option<CowStr<'_>>, AllocError> {
+    edit(alloc, text, &[Edit::Left(end), Edit::Right(start)])
 }
 
 fn main(rt: HostRuntime) -> anyhow::Result<()> {
@@ -35,10 +50,8 @@ fn main(rt: HostRuntime) -> anyhow::Result<()> {
         let line = line?;
         let plain = line.ansi_strip(alloc)?;
         for (start, end) in lines_of(alloc, plain.as_str(), width)? {
-            // a place beside a blank is between two characters, so neither edit is refused
-            let edits = [Edit::Left(end), Edit::Right(start)];
-            if let Some(wrapped) = edit(alloc, line.as_str(), &edits)? {
-                println!(rt; "{}", wrapped.as_str())?;
+            if let Some(wrapped) = between(alloc, line.as_str(), start, end)? {
+                println!(rt; "{wrapped}")?;
             }
         }
     }
