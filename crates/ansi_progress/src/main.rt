@@ -1,0 +1,72 @@
+//! Prints a progress line for each line `NAME DONE TOTAL` of its input, in the styles of a sample.
+//!
+//! The first word after the program's name is the sample, as `\e[32m#\e[90m-`: what stands for a step that is
+//! done, and in another style what stands for one that is left.
+#![tactic(auto)]
+
+ghost use Rattle.std.specs.Prelude.{◌≤◌};
+
+use ansi_str::{AnsiBlock, get_blocks};
+use anyhow::Context;
+use std::alloc::{AllocError, Global};
+use std::env;
+use std::fmt::Write;
+
+const STEPS: u32 = 20;
+
+#[derive(Drop)]
+struct Task<'t> {
+    name: &'t str,
+    done: u32,
+    total: u32,
+}
+
+impl<'t> Task<'t> {
+    fn parse(line: &'t str) -> Option<Task<'t>> {
+        let mut words = line.split_whitespace();
+        let name = words.next()?;
+        let done = words.next()?.parse().ok()?;
+        let total = words.next()?.parse().ok()?;
+        Some(Task { name, done, total })
+    }
+
+    // How many of so many parts of the task are done. A task of no steps is done.
+    fn done_of(&self, parts: u32) -> u32
+        ensures { result ≤ parts }
+    {
+        if self.done >= self.total {
+            return parts;
+        }
+        (u64::from(self.done) * u64::from(parts) / u64::from(self.total)) as u32
+    }
+}
+
+// Appends so many steps, in the style of the sample.
+fn push_steps(line: &mut String, sample: &AnsiBlock<'_>, count: u32) -> Result<(), AllocError> {
+    let style = sample.style();
+    write!(line, "{}", style.start())?;
+    for _ in 0..count {
+        line.push_str(sample.text())?;
+    }
+    write!(line, "{}", style.end())
+}
+
+fn main(rt: HostRuntime) -> anyhow::Result<()> {
+    let alloc = rt.alloc();
+    let sample = env::args(&rt)?
+        .nth(1)
+        .context("what does a step look like?")?;
+    let mut blocks = get_blocks(alloc, sample.as_str());
+    let done = blocks.next().context("no step that is done")??;
+    let left = blocks.next().context("no step that is left")??;
+    for line in rt.lines(alloc) {
+        let line = line?;
+        let task = Task::parse(line.as_str()).context("a line is NAME DONE TOTAL")?;
+        let steps = task.done_of(STEPS);
+        let mut bar = String::new(alloc);
+        push_steps(&mut bar, &done, steps)?;
+        push_steps(&mut bar, &left, STEPS - steps)?;
+        println!(rt; "{:>8} {bar} {:>3}%", task.name, task.done_of(100))?;
+    }
+    Ok(())
+}

@@ -1,0 +1,63 @@
+//! Prints lines of cells as a table, each cell in a column of its own width.
+//!
+//! Cells are separated by tabs. The words after the program's name are the widths, in columns of a terminal. A
+//! cell that is too wide is cut, one that is too narrow is filled up with blanks, and its styles end with it.
+#![tactic(auto)]
+
+use ansi_str::AnsiStr;
+use anyhow::Context;
+use std::alloc::{AllocError, Global};
+use std::env;
+use unicode_width::UnicodeWidthStr;
+
+// The longest beginning of a plain text that fits into so many columns: how many bytes it has, and how
+// many columns it takes.
+fn fitting(plain: &str, width: usize) -> (usize, usize) {
+    let mut fits = (0, 0);
+    for (start, character) in plain.char_indices() {
+        let end = start + character.len_utf8();
+        let columns = plain.get(..end).map_or(0, |front| front.width());
+        if columns > width {
+            break;
+        }
+        fits = (end, columns);
+    }
+    fits
+}
+
+// Appends a cell, cut or filled up to the width. It is cut between two characters, so the range is good.
+fn push_cell(alloc: Global, row: &mut String, cell: &str, width: usize) -> Result<(), AllocError> {
+    let plain = cell.ansi_strip(alloc)?;
+    let (end, columns) = fitting(plain.as_str(), width);
+    if let Some(shown) = cell.ansi_get(alloc, ..end)? {
+        row.push_str(shown.as_str())?;
+    }
+    for _ in columns..width {
+        row.push(' ')?;
+    }
+    Ok(())
+}
+
+// The row of a line: as many of its cells as there are widths.
+fn row_of(alloc: Global, line: &str, widths: &[usize]) -> Result<String, AllocError> {
+    let mut row = String::from_str(alloc, "|")?;
+    for (cell, width) in line.ansi_split(alloc, "\t").zip(widths) {
+        row.push(' ')?;
+        push_cell(alloc, &mut row, cell?.as_str(), *width)?;
+        row.push_str(" |")?;
+    }
+    Ok(row)
+}
+
+fn main(rt: HostRuntime) -> anyhow::Result<()> {
+    let alloc = rt.alloc();
+    let mut widths = Vec::new(alloc);
+    for word in env::args(&rt)?.skip(1) {
+        widths.push(word.parse::<usize>().context("a width is a number")?)?;
+    }
+    for line in rt.lines(alloc) {
+        let row = row_of(alloc, line?.as_str(), widths.as_slice())?;
+        println!(rt; "{row}")?;
+    }
+    Ok(())
+}
