@@ -1,25 +1,26 @@
 use Rattle.std.proofs.Common.{◌≡◌, ◌∙◌, true, ap, arith, ◌<◌, ◌≤◌}
+use Rattle.std.proofs.lemmas.Bool.Decides.{nat_tests}
 use Rattle.ansi_style.specs.Rendition.{Rendition}
 use Rattle.ansi_style.specs.States.{rendition_of}
-use Rattle.ansi_style.proofs.CodeLemmas.{effect_of_code-foreground, effect_of_code-background, effect_of_code-bright_foreground, effect_of_code-bright_background, effect_of_code-outside}
+use Rattle.ansi_style.proofs.CodeLemmas.{effect_of_code-foreground, effect_of_code-background, effect_of_code-outside}
 use Rattle.ansi_style.proofs.state.Style.perform.Goals as goal
 use Rattle.ansi_style.proofs.state.Style.perform.Goals.{in_default-via-then-code-lt90, in_default-via-else-code-lt90+else-code-lt98+then-code-lt100, in_default-via-else-code-lt90+else-code-lt98+else-code-lt100+else-code-lt108}
 
 pub returns-in-30-to-37 : goal.returns-in-30-to-37
 unfolding rendition_of
-returns-in-30-to-37 c = rw (effect_of_code-foreground c.args.code (omega arith) (omega arith))
+returns-in-30-to-37 c = rw (effect_of_code-foreground c.args.code (grind (arith, nat_tests)))
 
 pub returns-in-40-to-47 : goal.returns-in-40-to-47
 unfolding rendition_of
-returns-in-40-to-47 c = rw (effect_of_code-background c.args.code (omega arith) (omega arith))
+returns-in-40-to-47 c = rw (effect_of_code-background c.args.code (grind (arith, nat_tests)))
 
 pub returns-in-90-to-97 : goal.returns-in-90-to-97
 unfolding rendition_of
-returns-in-90-to-97 c = rw (effect_of_code-bright_foreground c.args.code (omega arith) (omega arith))
+returns-in-90-to-97 c = rw (effect_of_code-foreground c.args.code (grind (arith, nat_tests)))
 
 pub returns-in-100-to-107 : goal.returns-in-100-to-107
 unfolding rendition_of
-returns-in-100-to-107 c = rw (effect_of_code-bright_background c.args.code (omega arith) (omega arith))
+returns-in-100-to-107 c = rw (effect_of_code-background c.args.code (grind (arith, nat_tests)))
 
 -- no row of the table has another code
 pub returns-in_default : goal.returns-in_default
