@@ -48,17 +48,13 @@ abbrev has_row : ℕ → Bool
 has_row n = is_some (find (λ (r : Rows). is_in_range r.first r.last n) table)
 
 -- the codes that have rows, as ranges
-abbrev is_in_table : ℕ → Bool
+abbrev pub is_in_table : ℕ → Bool
 is_in_table n = is_in_range 0 55 n || (is_in_range 58 65 n || (is_in_range 73 75 n || (is_in_range 90 97 n || is_in_range 100 107 n)))
 
 effect_of_none : (n : ℕ) (o : Option Rows) → is_some o ≡ false → option_map_or (λ (r : Rows). r.effect n) o unknown_code ≡ unknown_code
 effect_of_none n None none = refl
 effect_of_none n (Some r) none = absurd (true≢false none)
 
-is_in_table-outside : (n : ℕ) → 55 < n → (n ≤ 65 → n < 58) → (n ≤ 75 → n < 73) → (n ≤ 97 → n < 90) → (n ≤ 107 → n < 100) → is_in_table n ≡ false
-is_in_table-outside n a b c d e = grind (arith, nat_tests)
-
-pub effect_of_code-outside : (n : ℕ) → n < 256 → 55 < n → (n ≤ 65 → n < 58) → (n ≤ 75 → n < 73) → (n ≤ 97 → n < 90) → (n ≤ 107 → n < 100) → effect_of_code n ≡ unknown_code
-effect_of_code-outside n small a b c d e =
-    effect_of_none n (find (λ (r : Rows). is_in_range r.first r.last n) table)
-    (agree_below_at has_row is_in_table 256 n refl small ∙ is_in_table-outside n a b c d e)
+pub effect_of_code-outside : (n : ℕ) → n < 256 → is_in_table n ≡ false → effect_of_code n ≡ unknown_code
+effect_of_code-outside n small outside =
+    effect_of_none n (find (λ (r : Rows). is_in_range r.first r.last n) table) (agree_below_at has_row is_in_table 256 n refl small ∙ outside)
