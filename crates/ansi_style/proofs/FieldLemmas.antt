@@ -1,6 +1,6 @@
 -- The fields of parameter bytes, one after another, and the numbers that they are.
 use Rattle.std.proofs.Common.{◌≡◌, ◌≢◌, ℕ, zero, suc, ◌+◌, ◌-◌, ◌*◌, ◌<◌, ◌≤◌, Bool, true, ◌&&◌, ◌==◌, List, [], ◌∷◌, length, take, drop, get_or, fold, refl, sym, ◌∙◌, ap, ap₂, arith, Option, Some, None, if◌then◌else◌}
-use Rattle.std.specs.Prelude.{nat_lt, nat_le}
+use Rattle.std.specs.Prelude.{nat_le}
 use Rattle.std.specs.List.{onto_first}
 use Rattle.std.specs.Char.{digit_value, is_ascii_digit}
 use Rattle.std.specs.Str.{byte, all_ascii_digits}

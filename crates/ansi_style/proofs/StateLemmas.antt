@@ -6,7 +6,7 @@ use Rattle.std.proofs.lemmas.Bool.{cond_both}
 use Rattle.ansi_items.specs.declared.ansitok.AnsiColor.{AnsiColor}
 use Rattle.ansi_style.specs.Rendition.{Rendition}
 use Rattle.ansi_items.specs.Sequences.{sgr_parameters}
-use Rattle.ansi_style.specs.Sgr.{Effect, Changes, ReadsColor, unknown_code, effect_of_code, code_of, is_code, color_by_parts, color_by_number, read_color, effect_of, perform, step, steps, fields_of, apply_parameters, apply}
+use Rattle.ansi_style.specs.Sgr.{Effect, Changes, ReadsColor, unknown_code, effect_of_code, code_of, is_code, color_by_parts, color_by_number, effect_of, perform, step, steps, fields_of, apply_parameters, apply}
 use Rattle.ansi_style.specs.Fields.{first_field}
 
 -- no more than n fields are left

@@ -14,7 +14,7 @@ use Rattle.ansi_style.specs.States.{rendition_of}
 use Rattle.ansi_items.specs.Sequences.{sgr_parameters}
 use Rattle.ansi_items.specs.Plain.{Mark, marks, up_to}
 use Rattle.ansi_style.specs.Rendition.{Rendition, is_foreground, is_background, is_extended_color, IsStyle, plain_style, known}
-use Rattle.ansi_style.specs.Sgr.{Effect, Changes, ReadsColor, unknown_code, effect_of, color_number, color_by_parts, color_by_number, read_color, is_code, perform, steps, step, apply, apply_parameters, fields_of, apply_all}
+use Rattle.ansi_style.specs.Sgr.{Effect, Changes, ReadsColor, effect_of, color_number, color_by_parts, color_by_number, read_color, is_code, perform, steps, step, apply, apply_parameters, fields_of, apply_all}
 use Rattle.ansi_style.specs.Styled.{style_at, style_after}
 use Rattle.ansi_style.specs.Reading.{style_after_from}
 use Rattle.ansi_style.proofs.SgrLemmas.{effect_holds}

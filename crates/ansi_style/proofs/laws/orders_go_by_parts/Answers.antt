@@ -5,7 +5,7 @@ use Rattle.std.specs.Option.{option_cmp}
 use Rattle.ansi_items.specs.declared.ansitok.AnsiColor.{AnsiColor}
 use Rattle.ansi_items.specs.declared.ansitok.AnsiColor.TheVariants.{Bit4, Bit8, Bit24}
 use Rattle.ansi_items.specs.contracts.ansitok.AnsiColorOrd.TheImpl.{ghosts}
-use Rattle.ansi_items.specs.AnsiColors.{compared, ansi_color_key}
+use Rattle.ansi_items.specs.AnsiColors.{compared}
 use Rattle.ansi_style.specs.Orders.{part_of_color, part_of_font, part_of_attribute}
 use Rattle.ansi_items.proofs.AnsiColorLemmas.{alone, same_ansi_color}
 use Rattle.ansi_style.proofs.laws.orders_go_by_parts.Goals as goal
