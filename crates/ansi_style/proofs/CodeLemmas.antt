@@ -1,68 +1,60 @@
 -- The numbers of the table of SGR codes: those of its ranges, and those that have no row.
-use Rattle.std.proofs.Common.{◌≡◌, ℕ, zero, suc, ◌+◌, ◌<◌, ◌≤◌, inl, inr, Bool, false, ◌||◌, refl, sym, ◌∙◌, subst, arith, Option, Some, None, is_some}
-use Rattle.std.proofs.lemmas.Bool.{agree_below_at, cases_eq, true≢false}
+use Rattle.std.proofs.Common.{◌≡◌, ℕ, zero, suc, ◌+◌, ◌<◌, ◌≤◌, inl, inr, Bool, true, false, ◌||◌, refl, sym, ◌∙◌, subst, arith, Option, Some, None, is_some, rules}
+use Rattle.std.proofs.lemmas.Bool.{agree_below_at, cases_eq, and_parts, or_cases, leb-true, true≢false}
 use Rattle.std.proofs.lemmas.Bool.Decides.{nat_tests}
 use Rattle.std.specs.Prelude.{find}
 use Rattle.std.specs.Int.{is_in_range}
 use Rattle.std.specs.Option.{option_map_or}
 use Rattle.ansi_items.specs.declared.ansitok.AnsiColor.TheVariants.{Bit4}
-use Rattle.ansi_style.specs.Rendition.{Rendition}
+use Rattle.ansi_style.specs.Rendition.{Rendition, is_foreground, is_background}
 use Rattle.ansi_style.specs.Sgr.{Changes, Rows, table, effect_of_code, unknown_code}
 
--- P holds of count numbers from first on
-abbrev pub HoldsFrom : (ℕ → Type 0) → ℕ → ℕ → Type 0
-HoldsFrom P first zero = Unit {0}
-HoldsFrom P first (suc count) = P first × HoldsFrom P (suc first) count
+pub in_range : (lo hi c : ℕ) → is_in_range lo hi c ≡ true → (lo ≤ c) × (c ≤ hi)
+in_range lo hi c h =
+    let both = and_parts _ _ h in
+    (leb-true lo c both.0, leb-true c hi both.1)
 
--- so it holds of each of them
-pub holds_in_range : (P : ℕ → Type 0) (count first n : ℕ) → HoldsFrom P first count → first ≤ n → n < first + count → P n
-holds_in_range P zero first n all low high = absurd (omega arith)
-holds_in_range P (suc count) first n all low high = elim (cases_eq n first) [
-  | inl same ↦ subst P (sym same) all.0
-  | inr other ↦ holds_in_range P count (suc first) n all.1 (omega arith) (omega arith)
+-- `count` codes from `first` on change a style so
+abbrev Change : (ℕ → Rendition → Rendition) → ℕ → ℕ → Type 0
+Change put first zero = Unit {0}
+Change put first (suc count) = (effect_of_code first ≡ Changes (put first)) × Change put (suc first) count
+
+changes_at : (put : ℕ → Rendition → Rendition) (count first n : ℕ) → Change put first count → first ≤ n → n < first + count → effect_of_code n ≡ Changes (put n)
+changes_at put zero first n all low high = absurd (omega arith)
+changes_at put (suc count) first n all low high = elim (cases_eq n first) [
+  | inl same ↦ subst (λ n. effect_of_code n ≡ Changes (put n)) (sym same) all.0
+  | inr other ↦ changes_at put count (suc first) n all.1 (omega arith) (omega arith)
 ]
 
--- the codes of the eight colors from `first` on change a style so
-abbrev AreColors : (ℕ → Rendition → Rendition) → ℕ → Type 0
-AreColors put first = HoldsFrom (λ n. effect_of_code n ≡ Changes (put n)) first 8
+pub effect_of_code-font : (n : ℕ) → is_in_range 11 19 n ≡ true → effect_of_code n ≡ Changes (λ s. record s { font = Some n })
+effect_of_code-font n is = grind (arith, nat_tests)
 
-colors_at : (put : ℕ → Rendition → Rendition) (first n : ℕ) → AreColors put first → first ≤ n → n ≤ first + 7 → effect_of_code n ≡ Changes (put n)
-colors_at put first n are low high = holds_in_range (λ n. effect_of_code n ≡ Changes (put n)) 8 first n are low (omega arith)
+-- the codes of the eight colors from `dark` on, and from `bright` on
+color_at : (put : ℕ → Rendition → Rendition) (dark bright n : ℕ) → Change put dark 8 → Change put bright 8
+    → (is_in_range dark (dark + 7) n || is_in_range bright (bright + 7) n) ≡ true → effect_of_code n ≡ Changes (put n)
+color_at put dark bright n are_dark are_bright is = elim (or_cases (is_in_range dark (dark + 7) n) (is_in_range bright (bright + 7) n) is) [
+  | inl in_dark ↦ (let bounds = in_range dark (dark + 7) n in_dark in changes_at put 8 dark n are_dark bounds.0 (omega (arith, bounds.1)))
+  | inr in_bright ↦ (let bounds = in_range bright (bright + 7) n in_bright in changes_at put 8 bright n are_bright bounds.0 (omega (arith, bounds.1)))
+]
 
-abbrev put_foreground : ℕ → Rendition → Rendition
-put_foreground n s = record s { foreground = Some (Bit4 n) }
+pub effect_of_code-foreground : (n : ℕ) → is_foreground (Bit4 n) ≡ true → effect_of_code n ≡ Changes (λ s. record s { foreground = Some (Bit4 n) })
+effect_of_code-foreground n = color_at (λ n s. record s { foreground = Some (Bit4 n) }) 30 90 n (search rules) (search rules)
 
-abbrev put_background : ℕ → Rendition → Rendition
-put_background n s = record s { background = Some (Bit4 n) }
-
-pub effect_of_code-foreground : (n : ℕ) → 30 ≤ n → n ≤ 37 → effect_of_code n ≡ Changes (put_foreground n)
-effect_of_code-foreground n = colors_at put_foreground 30 n (refl, (refl, (refl, (refl, (refl, (refl, (refl, (refl, tt))))))))
-
-pub effect_of_code-background : (n : ℕ) → 40 ≤ n → n ≤ 47 → effect_of_code n ≡ Changes (put_background n)
-effect_of_code-background n = colors_at put_background 40 n (refl, (refl, (refl, (refl, (refl, (refl, (refl, (refl, tt))))))))
-
-pub effect_of_code-bright_foreground : (n : ℕ) → 90 ≤ n → n ≤ 97 → effect_of_code n ≡ Changes (put_foreground n)
-effect_of_code-bright_foreground n = colors_at put_foreground 90 n (refl, (refl, (refl, (refl, (refl, (refl, (refl, (refl, tt))))))))
-
-pub effect_of_code-bright_background : (n : ℕ) → 100 ≤ n → n ≤ 107 → effect_of_code n ≡ Changes (put_background n)
-effect_of_code-bright_background n = colors_at put_background 100 n (refl, (refl, (refl, (refl, (refl, (refl, (refl, (refl, tt))))))))
+pub effect_of_code-background : (n : ℕ) → is_background (Bit4 n) ≡ true → effect_of_code n ≡ Changes (λ s. record s { background = Some (Bit4 n) })
+effect_of_code-background n = color_at (λ n s. record s { background = Some (Bit4 n) }) 40 100 n (search rules) (search rules)
 
 -- a row of the table has the code n
 abbrev has_row : ℕ → Bool
 has_row n = is_some (find (λ (r : Rows). is_in_range r.first r.last n) table)
 
 -- the codes that have rows, as ranges
-abbrev is_in_table : ℕ → Bool
+abbrev pub is_in_table : ℕ → Bool
 is_in_table n = is_in_range 0 55 n || (is_in_range 58 65 n || (is_in_range 73 75 n || (is_in_range 90 97 n || is_in_range 100 107 n)))
 
 effect_of_none : (n : ℕ) (o : Option Rows) → is_some o ≡ false → option_map_or (λ (r : Rows). r.effect n) o unknown_code ≡ unknown_code
 effect_of_none n None none = refl
 effect_of_none n (Some r) none = absurd (true≢false none)
 
-is_in_table-outside : (n : ℕ) → 55 < n → (n ≤ 65 → n < 58) → (n ≤ 75 → n < 73) → (n ≤ 97 → n < 90) → (n ≤ 107 → n < 100) → is_in_table n ≡ false
-is_in_table-outside n a b c d e = grind (arith, nat_tests)
-
-pub effect_of_code-outside : (n : ℕ) → n < 256 → 55 < n → (n ≤ 65 → n < 58) → (n ≤ 75 → n < 73) → (n ≤ 97 → n < 90) → (n ≤ 107 → n < 100) → effect_of_code n ≡ unknown_code
-effect_of_code-outside n small a b c d e =
-    effect_of_none n (find (λ (r : Rows). is_in_range r.first r.last n) table)
-    (agree_below_at has_row is_in_table 256 n refl small ∙ is_in_table-outside n a b c d e)
+pub effect_of_code-outside : (n : ℕ) → n < 256 → is_in_table n ≡ false → effect_of_code n ≡ unknown_code
+effect_of_code-outside n small outside =
+    effect_of_none n (find (λ (r : Rows). is_in_range r.first r.last n) table) (agree_below_at has_row is_in_table 256 n refl small ∙ outside)

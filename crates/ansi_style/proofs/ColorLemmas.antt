@@ -1,6 +1,6 @@
 -- The code of a color or a font is written in parameter bytes, and what is written sets that color or font.
-use Rattle.std.proofs.Common.{◌≡◌, ℕ, suc, ◌+◌, ◌-◌, ◌<◌, ◌≤◌, inl, inr, Bool, true, false, cond, not, ◌&&◌, ◌==◌, nat_eq, nat_lt, List, [], ◌∷◌, ◌++◌, take, drop, length, Some, None, refl, sym, ◌∙◌, ap, ap₂, arith, codes, decimal, IsTrue, length-append, bytes_eq, append_assoc, true≢false}
-use Rattle.std.proofs.lemmas.Bool.{agree_below_at, and_parts, and_from, eqb-true, ltb-true, leb-true, cond-true, or_cases, not-true}
+use Rattle.std.proofs.Common.{◌≡◌, ℕ, suc, ◌+◌, ◌-◌, ◌<◌, Bool, true, false, cond, not, ◌&&◌, ◌==◌, nat_eq, nat_lt, List, [], ◌∷◌, ◌++◌, take, drop, length, Option, Some, None, refl, sym, ◌∙◌, ap, ap₂, arith, codes, decimal, IsTrue, length-append, bytes_eq, append_assoc, true≢false}
+use Rattle.std.proofs.lemmas.Bool.{agree_below_at, and_parts, and_from, eqb-true, ltb-true, cond-true, not-true}
 use Rattle.std.proofs.lemmas.Bool.Decides.{nat_tests}
 use Rattle.std.proofs.Math.Seq.{take-append_seam, drop-append_seam}
 use Rattle.std.proofs.lemmas.List.Folds.{list_all-append}
@@ -9,23 +9,19 @@ use Rattle.std.proofs.lemmas.List.Splits.{slice_split_at, slice_split_none}
 use Rattle.std.specs.Fmt.{digits}
 use Rattle.std.specs.Int.{is_in_range}
 use Rattle.std.specs.List.{list_all, ends_with, All, slice_index_or}
+use Rattle.std.specs.Option.{option_map_or}
 use Rattle.std.specs.Str.{byte}
 use Rattle.ansi_items.specs.declared.ansitok.AnsiColor.{AnsiColor}
 use Rattle.ansi_items.specs.declared.ansitok.AnsiColor.TheVariants.{Bit4, Bit8, Bit24}
 use Rattle.ansi_items.specs.Bytes.{is_parameter_byte}
 use Rattle.ansi_items.specs.Sequences.{sgr_parameters, are_private}
 use Rattle.ansi_style.specs.Rendition.{Rendition, is_extended_color, is_foreground, is_background}
-use Rattle.ansi_style.specs.Sgr.{color_number, fields_of, effect_of, ReadsColor, apply, perform}
+use Rattle.ansi_style.specs.Sgr.{Changes, ReadsColor, color_number, code_of, is_code, effect_of_code, unknown_code, fields_of, effect_of, apply, perform}
 use Rattle.ansi_style.specs.Written.{color_code, written}
-use Rattle.ansi_style.proofs.CodeLemmas.{HoldsFrom, holds_in_range}
+use Rattle.ansi_style.proofs.CodeLemmas.{in_range, effect_of_code-font, effect_of_code-foreground, effect_of_code-background}
 use Rattle.ansi_style.proofs.StateLemmas.{apply-parameters, after_fields, after_fields-step}
 
 -- What tests of ranges say.
-
-pub in_range : (lo hi c : ℕ) → is_in_range lo hi c ≡ true → (lo ≤ c) × (c ≤ hi)
-in_range lo hi c h =
-    let both = and_parts _ _ h in
-    (leb-true lo c both.0, leb-true c hi both.1)
 
 three_small : (r g b : ℕ) → (nat_lt r 256 && (nat_lt g 256 && nat_lt b 256)) ≡ true → (r < 256) × (g < 256) × (b < 256)
 three_small r g b h =
@@ -58,12 +54,8 @@ code_bytes (b ∷ d) all =
     let both = and_parts (is_field_byte b) (list_all is_field_byte d) all in
     and_from _ _ (and_parts (is_code_byte b) (not (b == byte ";")) both.0).0 (code_bytes d both.1)
 
--- such bytes, and then a number
-pub parameters-decimal : (front : List ℕ) (n : ℕ) → n < 256 → list_all is_code_byte front ≡ true → list_all is_code_byte (front ++ decimal n) ≡ true
-parameters-decimal front n small all = list_all-append is_code_byte front (decimal n) ∙ and_from _ _ all (code_bytes (decimal n) (field_bytes-decimal n small))
-
-parameters-semicolon : (front : List ℕ) → list_all is_code_byte front ≡ true → list_all is_code_byte (front ++ codes ";") ≡ true
-parameters-semicolon front all = list_all-append is_code_byte front (codes ";") ∙ and_from _ _ all refl
+pub code_bytes-decimal : (n : ℕ) → n < 256 → list_all is_code_byte (decimal n) ≡ true
+code_bytes-decimal n small = code_bytes (decimal n) (field_bytes-decimal n small)
 
 -- the numbers of a color are at most 255
 abbrev pub IsByteColor : AnsiColor → Type 0
@@ -72,18 +64,10 @@ IsByteColor (Bit8 n) = n < 256
 IsByteColor (Bit24 r g b) = (r < 256) × (g < 256) × (b < 256)
 
 pub parameters-color_code : (extended : List ℕ) (c : AnsiColor) → list_all is_code_byte extended ≡ true → IsByteColor c → list_all is_code_byte (color_code extended c) ≡ true
-parameters-color_code extended (Bit4 n) all small = parameters-decimal [] n small refl
-parameters-color_code extended (Bit8 n) all small =
-    parameters-decimal (extended ++ codes ";5;") n small (list_all-append is_code_byte extended (codes ";5;") ∙ and_from _ _ all refl)
+parameters-color_code extended (Bit4 n) all small = code_bytes-decimal n small
+parameters-color_code extended (Bit8 n) all small = simp (list_all-append, all, code_bytes-decimal n small)
 parameters-color_code extended (Bit24 r g b) all small =
-    let front = extended ++ codes ";2;" in
-    let red = front ++ decimal r in
-    let green = red ++ codes ";" ++ decimal g in
-    parameters-decimal (green ++ codes ";") b small.2
-    (parameters-semicolon green
-    (parameters-decimal (red ++ codes ";") g small.1
-    (parameters-semicolon red
-    (parameters-decimal front r small.0 (list_all-append is_code_byte extended (codes ";2;") ∙ and_from _ _ all refl)))))
+    simp (list_all-append, all, code_bytes-decimal r small.0, code_bytes-decimal g small.1, code_bytes-decimal b small.2)
 
 -- Fields that semicolons end.
 
@@ -99,22 +83,12 @@ fields_of-more d rest all = slice_split_at (λ b. b == byte ";") d (byte ";") re
 
 fields_of-by_number : (extended : List ℕ) (n : ℕ) → list_all is_field_byte extended ≡ true → n < 256 → fields_of (color_code extended (Bit8 n)) ≡ extended ∷ codes "5" ∷ decimal n ∷ []
 fields_of-by_number extended n all small =
-    ap fields_of (append_assoc extended (codes ";5;") (decimal n)) ∙ fields_of-more extended (codes "5;" ++ decimal n) all
-    ∙ ap (λ fs. extended ∷ codes "5" ∷ fs) (fields_of-one (decimal n) (field_bytes-decimal n small))
+    simp (append_assoc, fields_of-more) (ap (λ fs. extended ∷ codes "5" ∷ fs) (fields_of-one (decimal n) (field_bytes-decimal n small)))
 
 fields_of-by_parts : (extended : List ℕ) (r g b : ℕ) → list_all is_field_byte extended ≡ true → r < 256 → g < 256 → b < 256
     → fields_of (color_code extended (Bit24 r g b)) ≡ extended ∷ codes "2" ∷ decimal r ∷ decimal g ∷ decimal b ∷ []
 fields_of-by_parts extended r g b all hr hg hb =
-    ap fields_of
-    (append_assoc (extended ++ codes ";2;" ++ decimal r ++ codes ";" ++ decimal g) (codes ";") (decimal b)
-    ∙ append_assoc (extended ++ codes ";2;" ++ decimal r ++ codes ";") (decimal g) (byte ";" ∷ decimal b)
-    ∙ append_assoc (extended ++ codes ";2;" ++ decimal r) (codes ";") (decimal g ++ (byte ";" ∷ decimal b))
-    ∙ append_assoc (extended ++ codes ";2;") (decimal r) (byte ";" ∷ (decimal g ++ (byte ";" ∷ decimal b)))
-    ∙ append_assoc extended (codes ";2;") (decimal r ++ (byte ";" ∷ (decimal g ++ (byte ";" ∷ decimal b)))))
-    ∙ fields_of-more extended _ all
-    ∙ ap (λ fs. extended ∷ codes "2" ∷ fs)
-    (fields_of-more (decimal r) _ (field_bytes-decimal r hr)
-    ∙ ap (λ fs. decimal r ∷ fs) (fields_of-more (decimal g) _ (field_bytes-decimal g hg) ∙ ap (λ fs. decimal g ∷ fs) (fields_of-one (decimal b) (field_bytes-decimal b hb))))
+    simp (append_assoc, fields_of-more, fields_of-one, field_bytes-decimal r hr, field_bytes-decimal g hg, field_bytes-decimal b hb)
 
 -- What is written for a code is an SGR.
 
@@ -176,58 +150,43 @@ IsByteColor-extended (Bit8 n) is = ltb-true n 256 is
 IsByteColor-extended (Bit24 r g b) is = three_small r g b is
 
 pub IsByteColor-foreground : (c : AnsiColor) → IsTrue (is_foreground c) → IsByteColor c
-IsByteColor-foreground (Bit4 n) is = elim (or_cases (is_in_range 30 37 n) (is_in_range 90 97 n) is) [
-  | inl dark ↦ (let bounds = in_range 30 37 n dark in omega (arith, bounds.1))
-  | inr bright ↦ (let bounds = in_range 90 97 n bright in omega (arith, bounds.1))
-]
+IsByteColor-foreground (Bit4 n) is = grind (arith, nat_tests, is)
 IsByteColor-foreground (Bit8 n) is = IsByteColor-extended (Bit8 n) is
 IsByteColor-foreground (Bit24 r g b) is = IsByteColor-extended (Bit24 r g b) is
 
 pub IsByteColor-background : (c : AnsiColor) → IsTrue (is_background c) → IsByteColor c
-IsByteColor-background (Bit4 n) is = elim (or_cases (is_in_range 40 47 n) (is_in_range 100 107 n) is) [
-  | inl dark ↦ (let bounds = in_range 40 47 n dark in omega (arith, bounds.1))
-  | inr bright ↦ (let bounds = in_range 100 107 n bright in omega (arith, bounds.1))
-]
+IsByteColor-background (Bit4 n) is = grind (arith, nat_tests, is)
 IsByteColor-background (Bit8 n) is = IsByteColor-extended (Bit8 n) is
 IsByteColor-background (Bit24 r g b) is = IsByteColor-extended (Bit24 r g b) is
 
 -- What is written for a color or a font sets it.
 
--- the number that is written does this to every style
-abbrev Sets : (ℕ → Rendition → Rendition) → ℕ → Type 0
-Sets put n = (p : Rendition) → apply p (written (decimal n)) ≡ put n p
+code_of-decimal : (n : ℕ) → n < 256 → code_of (decimal n) ≡ Some n
+unfolding digits
+code_of-decimal n small = some_same (code_of (decimal n)) (agree_below_at (λ n. is_code n (decimal n)) (λ _. true) 256 n refl small)
+  where
+    some_same : (o : Option ℕ) → option_map_or (λ m. m == n) o false ≡ true → o ≡ Some n
+    some_same None same = absurd (true≢false (sym same))
+    some_same (Some m) same = ap Some (eqb-true m n same)
 
--- numbers of a range, each by computation
-sets_in_range : (put : ℕ → Rendition → Rendition) (count first last n : ℕ) → HoldsFrom (Sets put) first count → last < first + count → is_in_range first last n ≡ true → Sets put n
-sets_in_range put count first last n all size is =
-    let bounds = in_range first last n is in
-    holds_in_range (Sets put) count first n all bounds.0 (omega (arith, bounds.1, size))
+-- the number of a code, written alone, does what the code does
+apply-decimal : (n : ℕ) (change : Rendition → Rendition) (p : Rendition) → n < 256 → effect_of_code n ≡ Changes change → apply p (written (decimal n)) ≡ change p
+apply-decimal n change p small is =
+    apply-parameters p (written (decimal n)) (decimal n) (sgr_parameters-written (decimal n) (code_bytes-decimal n small))
+    ∙ ap (after_fields p) (fields_of-one (decimal n) (field_bytes-decimal n small))
+    ∙ ap (λ o. (perform (option_map_or effect_of_code o unknown_code) p []).0) (code_of-decimal n small)
+    ∙ ap (λ e. (perform e p []).0) is
 
 pub apply-font : (n : ℕ) → is_in_range 11 19 n ≡ true → (p : Rendition) → apply p (written (decimal n)) ≡ record p { font = Some n }
-unfolding digits
-apply-font n is =
-    sets_in_range (λ n p. record p { font = Some n }) 9 11 19 n
-    (λ p. refl, (λ p. refl, (λ p. refl, (λ p. refl, (λ p. refl, (λ p. refl, (λ p. refl, (λ p. refl, (λ p. refl, tt))))))))) (omega arith) is
+apply-font n is p = apply-decimal n (λ s. record s { font = Some n }) p (omega (arith, (in_range 11 19 n is).1)) (effect_of_code-font n is)
 
 pub apply-foreground : (c : AnsiColor) → IsTrue (is_foreground c) → (p : Rendition) → apply p (written (color_code (codes "38") c)) ≡ record p { foreground = Some c }
-unfolding digits
-apply-foreground (Bit4 n) is p =
-    let set : ℕ → Rendition → Rendition = λ n p. record p { foreground = Some (Bit4 n) } in
-    elim (or_cases (is_in_range 30 37 n) (is_in_range 90 97 n) is) [
-      | inl dark ↦ sets_in_range set 8 30 37 n (λ p. refl, (λ p. refl, (λ p. refl, (λ p. refl, (λ p. refl, (λ p. refl, (λ p. refl, (λ p. refl, tt)))))))) (omega arith) dark p
-      | inr bright ↦ sets_in_range set 8 90 97 n (λ p. refl, (λ p. refl, (λ p. refl, (λ p. refl, (λ p. refl, (λ p. refl, (λ p. refl, (λ p. refl, tt)))))))) (omega arith) bright p
-    ]
+apply-foreground (Bit4 n) is p = apply-decimal n (λ s. record s { foreground = Some (Bit4 n) }) p (IsByteColor-foreground (Bit4 n) is) (effect_of_code-foreground n is)
 apply-foreground (Bit8 n) is p = apply-extended (codes "38") (λ c s. record s { foreground = Some c }) (Bit8 n) p refl refl is
 apply-foreground (Bit24 r g b) is p = apply-extended (codes "38") (λ c s. record s { foreground = Some c }) (Bit24 r g b) p refl refl is
 
 pub apply-background : (c : AnsiColor) → IsTrue (is_background c) → (p : Rendition) → apply p (written (color_code (codes "48") c)) ≡ record p { background = Some c }
-unfolding digits
-apply-background (Bit4 n) is p =
-    let set : ℕ → Rendition → Rendition = λ n p. record p { background = Some (Bit4 n) } in
-    elim (or_cases (is_in_range 40 47 n) (is_in_range 100 107 n) is) [
-      | inl dark ↦ sets_in_range set 8 40 47 n (λ p. refl, (λ p. refl, (λ p. refl, (λ p. refl, (λ p. refl, (λ p. refl, (λ p. refl, (λ p. refl, tt)))))))) (omega arith) dark p
-      | inr bright ↦ sets_in_range set 8 100 107 n (λ p. refl, (λ p. refl, (λ p. refl, (λ p. refl, (λ p. refl, (λ p. refl, (λ p. refl, (λ p. refl, tt)))))))) (omega arith) bright p
-    ]
+apply-background (Bit4 n) is p = apply-decimal n (λ s. record s { background = Some (Bit4 n) }) p (IsByteColor-background (Bit4 n) is) (effect_of_code-background n is)
 apply-background (Bit8 n) is p = apply-extended (codes "48") (λ c s. record s { background = Some c }) (Bit8 n) p refl refl is
 apply-background (Bit24 r g b) is p = apply-extended (codes "48") (λ c s. record s { background = Some c }) (Bit24 r g b) p refl refl is
 

@@ -1,5 +1,5 @@
 -- What is known of a style after a sequence depends on what was known before, and on the sequence.
-use Rattle.std.proofs.Common.{◌≡◌, ℕ, zero, suc, List, [], ◌∷◌, length, Option, Some, None, refl, sym, ◌∙◌, ap, find, rules}
+use Rattle.std.proofs.Common.{◌≡◌, ℕ, zero, suc, true, List, [], ◌∷◌, length, Option, Some, None, refl, sym, ◌∙◌, ap, find, rules}
 use Rattle.std.proofs.lemmas.Bool.{cond_both}
 use Rattle.std.specs.List.{AllByRecursion}
 use Rattle.std.specs.Option.{option_map_or}
@@ -9,30 +9,29 @@ use Rattle.ansi_items.specs.Sequences.{sgr_parameters}
 use Rattle.ansi_style.specs.Rendition.{Rendition, known}
 use Rattle.ansi_style.specs.Sgr.{Effect, Changes, ReadsColor, Rows, table, rows, unknown_code, effect_of, code_of, effect_of_code, perform, read_color, steps, apply, apply_parameters, fields_of, apply_all}
 
+-- what holds of an unknown code, and of each row for the codes in its range, holds of each field
+pub effect_holds : (P : Effect → Type 0) → P unknown_code → AllByRecursion (λ (r : Rows). (n : ℕ) → is_in_range r.first r.last n ≡ true → P (r.effect n)) table → (field : List ℕ) → P (effect_of field)
+effect_holds P unknown all field = by_code (code_of field)
+  where
+    found : (rows : List Rows) (n : ℕ) → AllByRecursion (λ (r : Rows). (n : ℕ) → is_in_range r.first r.last n ≡ true → P (r.effect n)) rows
+        → P (option_map_or (λ (r : Rows). r.effect n) (find (λ (r : Rows). is_in_range r.first r.last n) rows) unknown_code)
+    found [] n all = unknown
+    found (r ∷ rows) n all =
+        let Q : Option Rows → Type 0 = λ o. P (option_map_or (λ (r : Rows). r.effect n) o unknown_code) in
+        cond_both (is_in_range r.first r.last n) (Some r) (find (λ (r : Rows). is_in_range r.first r.last n) rows) Q (all.0 n) (λ other. found rows n all.1)
+
+    by_code : (o : Option ℕ) → P (option_map_or effect_of_code o unknown_code)
+    by_code None = unknown
+    by_code (Some n) = found table n all
+
 -- what is known after the effect depends on what was known before
 abbrev KeepsApart : Effect → Type 0
 KeepsApart (Changes f) = (s : Rendition) → known (f s) ≡ known (f (known s))
 KeepsApart (ReadsColor put) = (c : AnsiColor) (s : Rendition) → known (put c s) ≡ known (put c (known s))
 
 -- each row of the table, by computation
-table_keeps_apart : AllByRecursion (λ (r : Rows). (n : ℕ) → KeepsApart (r.effect n)) table
-table_keeps_apart = search rules
-
-found_keeps_apart : (rows : List Rows) (n : ℕ) → AllByRecursion (λ (r : Rows). (n : ℕ) → KeepsApart (r.effect n)) rows
-    → KeepsApart (option_map_or (λ (r : Rows). r.effect n) (find (λ (r : Rows). is_in_range r.first r.last n) rows) unknown_code)
-found_keeps_apart [] n all = λ s. refl
-found_keeps_apart (r ∷ rows) n all =
-    let P : Option Rows → Type 0 = λ o. KeepsApart (option_map_or (λ (r : Rows). r.effect n) o unknown_code) in
-    cond_both (is_in_range r.first r.last n) (Some r) (find (λ (r : Rows). is_in_range r.first r.last n) rows) P
-    (λ yes. all.0 n)
-    (λ other. found_keeps_apart rows n all.1)
-
 effect_keeps_apart : (field : List ℕ) → KeepsApart (effect_of field)
-effect_keeps_apart field = by_code (code_of field)
-  where
-    by_code : (o : Option ℕ) → KeepsApart (option_map_or effect_of_code o unknown_code)
-    by_code None = λ s. refl
-    by_code (Some n) = found_keeps_apart table n table_keeps_apart
+effect_keeps_apart = effect_holds KeepsApart (λ s. refl) (search rules)
 
 -- where two styles are known alike, so are the styles after the same effect
 perform-known : (e : Effect) (fields : List (List ℕ)) (s t : Rendition) → KeepsApart e → known s ≡ known t → known (perform e s fields).0 ≡ known (perform e t fields).0

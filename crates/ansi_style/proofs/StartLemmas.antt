@@ -1,32 +1,15 @@
 -- The start of a style sets it: read from the plain style, and from the style itself.
-use Rattle.std.proofs.Common.{◌≡◌, ℕ, Bool, true, ◌||◌, List, [], ◌∷◌, ◌++◌, map, Option, Some, None, refl, sym, ◌∙◌, ap, codes, decimal, IfSome, subst}
+use Rattle.std.proofs.Common.{◌≡◌, ℕ, Bool, true, ◌||◌, List, [], ◌++◌, map, Option, Some, None, refl, sym, ◌∙◌, ap, codes, IfSome, IsTrue}
+use Rattle.std.specs.Int.{is_in_range}
 use Rattle.std.proofs.Math.Bool.{or-false, or_self}
 use Rattle.ansi_items.specs.declared.ansitok.AnsiColor.{AnsiColor}
-use Rattle.ansi_style.specs.Rendition.{Rendition, IsStyle, plain_style, known}
+use Rattle.ansi_style.specs.Rendition.{Rendition, IsStyle, plain_style, known, is_foreground, is_background, is_extended_color}
 use Rattle.ansi_style.specs.Sgr.{apply}
-use Rattle.ansi_style.specs.Written.{written, color_code, when, start_codes, font_codes, color_codes, start}
+use Rattle.ansi_style.specs.Written.{written, when, start_codes, font_codes, color_codes, start}
 use Rattle.ansi_style.specs.Reading.{style_after_from}
 use Rattle.ansi_style.proofs.SgrLemmas.{apply_all-alike}
 use Rattle.ansi_style.proofs.ColorLemmas.{apply-foreground, apply-background, apply-underline_color, apply-font}
-use Rattle.ansi_style.proofs.ReadBackLemmas.{◌next◌, LeadFrom, lead_when, lead_option, apply_codes, style_after_from-codes, start_codes_are}
-
--- the colors and the font of a style are such as codes set
-record IsRead (s : Rendition) : Type 0 where
-  foreground : (c : AnsiColor) → s.foreground ≡ Some c → (p : Rendition) → apply p (written (color_code (codes "38") c)) ≡ record p { foreground = Some c }
-  background : (c : AnsiColor) → s.background ≡ Some c → (p : Rendition) → apply p (written (color_code (codes "48") c)) ≡ record p { background = Some c }
-  underline_color : (c : AnsiColor) → s.underline_color ≡ Some c → (p : Rendition) → apply p (written (color_code (codes "58") c)) ≡ record p { underline_color = Some c }
-  font : (n : ℕ) → s.font ≡ Some n → (p : Rendition) → apply p (written (decimal n)) ≡ record p { font = Some n }
-
-some_at : {A : Type 0} (o : Option A) (P : A → Type 0) (x : A) → IfSome o P → o ≡ Some x → P x
-some_at o P x h is = (let Q : Option _ → Type 0 = λ o. IfSome o P in subst Q is h)
-
-is_read : (s : Rendition) → IsStyle s → IsRead s
-is_read s is = record {
-  foreground = λ c e. apply-foreground c (some_at s.foreground _ c is.foreground e);
-  background = λ c e. apply-background c (some_at s.background _ c is.background e);
-  underline_color = λ c e. apply-underline_color c (some_at s.underline_color _ c is.underline_color e);
-  font = λ n e. apply-font n (some_at s.font _ n is.font e);
-}
+use Rattle.ansi_style.proofs.ReadBackLemmas.{◌next◌, LeadFrom, lead_when, lead_on, apply_codes, style_after_from-codes, start_codes_are}
 
 -- Read from any style, a start adds what is set to what was set.
 
@@ -41,18 +24,27 @@ more : {q : Rendition} {xs : List (List ℕ)} {p : Rendition} (b old : Bool) (co
 more {p = p} b old code put same set so_far =
     lead_when b code (put (b || old) p) (λ yes. set ∙ ap (λ c. put (c || old) p) (sym yes)) (λ no. sym same ∙ ap (λ c. put (c || old) p) (sym no)) so_far
 
--- one more color or font
-more_option : {A : Type 0} {q : Rendition} {xs : List (List ℕ)} {p : Rendition} (o old : Option A) (code : A → List ℕ) (codes_of : Option A → List (List ℕ)) (put : Option A → Rendition → Rendition)
-    → codes_of None ≡ [] → ((c : A) → codes_of (Some c) ≡ code c ∷ []) → put old p ≡ p → ((c : A) → o ≡ Some c → apply p (written (code c)) ≡ put (Some c) p)
-    → LeadFrom q xs p → LeadFrom q (xs ++ codes_of o) (put (either_of o old) p)
-more_option {p = p} o old code codes_of put none some same set so_far =
-    lead_option o code codes_of (put (either_of o old) p) none some (λ c is. set c is ∙ ap (λ v. put (either_of v old) p) (sym is)) (λ is. sym same ∙ ap (λ v. put (either_of v old) p) (sym is)) so_far
+add_font : (o : Option ℕ) → IfSome o (λ n. IsTrue (is_in_range 11 19 n)) → (p : Rendition) → apply_codes p (font_codes o) ≡ record p { font = either_of o p.font }
+add_font None is p = refl
+add_font (Some n) is p = apply-font n is p
+
+add_foreground : (o : Option AnsiColor) → IfSome o (λ c. IsTrue (is_foreground c)) → (p : Rendition) → apply_codes p (color_codes (codes "38") o) ≡ record p { foreground = either_of o p.foreground }
+add_foreground None is p = refl
+add_foreground (Some c) is p = apply-foreground c is p
+
+add_background : (o : Option AnsiColor) → IfSome o (λ c. IsTrue (is_background c)) → (p : Rendition) → apply_codes p (color_codes (codes "48") o) ≡ record p { background = either_of o p.background }
+add_background None is p = refl
+add_background (Some c) is p = apply-background c is p
+
+add_underline_color : (o : Option AnsiColor) → IfSome o (λ c. IsTrue (is_extended_color c)) → (p : Rendition) → apply_codes p (color_codes (codes "58") o) ≡ record p { underline_color = either_of o p.underline_color }
+add_underline_color None is p = refl
+add_underline_color (Some c) is p = apply-underline_color c is p
 
 -- what is set in s, or in p
 abbrev added : Rendition → Rendition → Rendition
 added s p = record p { bold = s.bold || p.bold; faint = s.faint || p.faint; italic = s.italic || p.italic; underline = s.underline || p.underline; slow_blink = s.slow_blink || p.slow_blink; rapid_blink = s.rapid_blink || p.rapid_blink; inverse = s.inverse || p.inverse; hide = s.hide || p.hide; crossed_out = s.crossed_out || p.crossed_out; font = either_of s.font p.font; fraktur = s.fraktur || p.fraktur; double_underline = s.double_underline || p.double_underline; proportional_spacing = s.proportional_spacing || p.proportional_spacing; foreground = either_of s.foreground p.foreground; background = either_of s.background p.background; underline_color = either_of s.underline_color p.underline_color; framed = s.framed || p.framed; encircled = s.encircled || p.encircled; overlined = s.overlined || p.overlined; ideogram_underline = s.ideogram_underline || p.ideogram_underline; ideogram_double_underline = s.ideogram_double_underline || p.ideogram_double_underline; ideogram_overline = s.ideogram_overline || p.ideogram_overline; ideogram_double_overline = s.ideogram_double_overline || p.ideogram_double_overline; ideogram_stress_marking = s.ideogram_stress_marking || p.ideogram_stress_marking; superscript = s.superscript || p.superscript; subscript = s.subscript || p.subscript }
 
-start_adds : (s p : Rendition) → IsRead s → apply_codes p (start_codes s) ≡ added s p
+start_adds : (s p : Rendition) → IsStyle s → apply_codes p (start_codes s) ≡ added s p
 start_adds s p is =
     let none : LeadFrom p [] p = record { reached = refl } in
     (none
@@ -65,13 +57,13 @@ start_adds s p is =
     next more s.inverse p.inverse (codes "7") (λ b p. record p { inverse = b }) refl refl
     next more s.hide p.hide (codes "8") (λ b p. record p { hide = b }) refl refl
     next more s.crossed_out p.crossed_out (codes "9") (λ b p. record p { crossed_out = b }) refl refl
-    next more_option s.font p.font decimal font_codes (λ o p. record p { font = o }) refl (λ n. refl) refl (λ n e. is.font n e _)
+    next lead_on (font_codes s.font) _ (add_font s.font is.font _)
     next more s.fraktur p.fraktur (codes "20") (λ b p. record p { fraktur = b }) refl refl
     next more s.double_underline p.double_underline (codes "21") (λ b p. record p { double_underline = b }) refl refl
     next more s.proportional_spacing p.proportional_spacing (codes "26") (λ b p. record p { proportional_spacing = b }) refl refl
-    next more_option s.foreground p.foreground (color_code (codes "38")) (color_codes (codes "38")) (λ o p. record p { foreground = o }) refl (λ c. refl) refl (λ c e. is.foreground c e _)
-    next more_option s.background p.background (color_code (codes "48")) (color_codes (codes "48")) (λ o p. record p { background = o }) refl (λ c. refl) refl (λ c e. is.background c e _)
-    next more_option s.underline_color p.underline_color (color_code (codes "58")) (color_codes (codes "58")) (λ o p. record p { underline_color = o }) refl (λ c. refl) refl (λ c e. is.underline_color c e _)
+    next lead_on (color_codes (codes "38") s.foreground) _ (add_foreground s.foreground is.foreground _)
+    next lead_on (color_codes (codes "48") s.background) _ (add_background s.background is.background _)
+    next lead_on (color_codes (codes "58") s.underline_color) _ (add_underline_color s.underline_color is.underline_color _)
     next more s.framed p.framed (codes "51") (λ b p. record p { framed = b }) refl refl
     next more s.encircled p.encircled (codes "52") (λ b p. record p { encircled = b }) refl refl
     next more s.overlined p.overlined (codes "53") (λ b p. record p { overlined = b }) refl refl
@@ -91,10 +83,10 @@ either_of-same : {A : Type 0} (o : Option A) → either_of o o ≡ o
 either_of-same None = refl
 either_of-same (Some x) = refl
 
-start_from_plain : (s : Rendition) → IsRead s → apply_codes plain_style (start_codes s) ≡ known s
+start_from_plain : (s : Rendition) → IsStyle s → apply_codes plain_style (start_codes s) ≡ known s
 start_from_plain s is = start_adds s plain_style is ∙ simp (or-false, either_of-none)
 
-start_from_itself : (s : Rendition) → IsRead s → apply_codes s (start_codes s) ≡ s
+start_from_itself : (s : Rendition) → IsStyle s → apply_codes s (start_codes s) ≡ s
 start_from_itself s is = start_adds s s is ∙ simp (or_self, either_of-same)
 
 -- So it is with the text that is written for a start.
@@ -103,18 +95,18 @@ style_after_from-start : (p s : Rendition) → IsStyle s → style_after_from p 
 style_after_from-start p s is = style_after_from-codes p (start_codes s) (start_codes_are s is)
 
 pub start_sets : (s : Rendition) → IsStyle s → style_after_from plain_style (start s) ≡ known s
-start_sets s is = style_after_from-start plain_style s is ∙ start_from_plain s (is_read s is)
+start_sets s is = style_after_from-start plain_style s is ∙ start_from_plain s is
 
 pub start_keeps : (s : Rendition) → IsStyle s → style_after_from s (start s) ≡ s
-start_keeps s is = style_after_from-start s s is ∙ start_from_itself s (is_read s is)
+start_keeps s is = style_after_from-start s s is ∙ start_from_itself s is
 
 -- where nothing is known, the codes give what is known of s
 pub start_codes_set : (p s : Rendition) → IsStyle s → known p ≡ plain_style → known (apply_codes p (start_codes s)) ≡ known s
-start_codes_set p s is none = apply_all-alike p plain_style (map written (start_codes s)) none ∙ ap known (start_from_plain s (is_read s is))
+start_codes_set p s is none = apply_all-alike p plain_style (map written (start_codes s)) none ∙ ap known (start_from_plain s is)
 
 pub start_sets_known : (p s : Rendition) → IsStyle s → known p ≡ plain_style → known (style_after_from p (start s)) ≡ known s
 start_sets_known p s is none = ap known (style_after_from-start p s is) ∙ start_codes_set p s is none
 
 pub start_keeps_known : (p s : Rendition) → IsStyle s → known p ≡ known s → known (style_after_from p (start s)) ≡ known s
 start_keeps_known p s is same =
-    ap known (style_after_from-start p s is) ∙ apply_all-alike p s (map written (start_codes s)) same ∙ ap known (start_from_itself s (is_read s is))
+    ap known (style_after_from-start p s is) ∙ apply_all-alike p s (map written (start_codes s)) same ∙ ap known (start_from_itself s is)

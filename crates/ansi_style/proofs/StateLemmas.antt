@@ -6,7 +6,7 @@ use Rattle.std.proofs.lemmas.Bool.{cond_both}
 use Rattle.ansi_items.specs.declared.ansitok.AnsiColor.{AnsiColor}
 use Rattle.ansi_style.specs.Rendition.{Rendition}
 use Rattle.ansi_items.specs.Sequences.{sgr_parameters}
-use Rattle.ansi_style.specs.Sgr.{Effect, Changes, ReadsColor, unknown_code, effect_of_code, code_of, is_code, color_by_parts, color_by_number, read_color, effect_of, perform, step, steps, fields_of, apply_parameters, apply}
+use Rattle.ansi_style.specs.Sgr.{Effect, Changes, ReadsColor, unknown_code, effect_of_code, code_of, is_code, color_by_parts, color_by_number, effect_of, perform, step, steps, fields_of, apply_parameters, apply}
 use Rattle.ansi_style.specs.Fields.{first_field}
 
 -- no more than n fields are left
@@ -14,27 +14,19 @@ abbrev LeavesUpTo : ℕ → Option AnsiColor × List (List ℕ) → Type 0
 LeavesUpTo n read = length read.1 ≤ n
 
 color_by_parts-left : (fields : List (List ℕ)) → LeavesUpTo (length fields) (color_by_parts fields)
-color_by_parts-left [] = omega arith
-color_by_parts-left (r ∷ []) = omega arith
-color_by_parts-left (r ∷ g ∷ []) = omega arith
-color_by_parts-left (r ∷ g ∷ b ∷ fields) = omega arith
+color_by_parts-left fields = grind arith
 
 color_by_number-left : (fields : List (List ℕ)) → LeavesUpTo (length fields) (color_by_number fields)
-color_by_number-left [] = omega arith
-color_by_number-left (n ∷ fields) = omega arith
-
-read_color-left : (fields : List (List ℕ)) → LeavesUpTo (length fields) (read_color fields)
-read_color-left [] = omega arith
-read_color-left (selector ∷ fields) =
-    cond_both (is_code 2 selector) (color_by_parts fields) _ (LeavesUpTo (suc (length fields)))
-    (λ parts. (let left = color_by_parts-left fields in omega arith))
-    (λ other. cond_both (is_code 5 selector) (color_by_number fields) _ (LeavesUpTo (suc (length fields)))
-    (λ number. (let left = color_by_number-left fields in omega arith))
-    (λ none. omega arith))
+color_by_number-left fields = grind arith
 
 perform-left : (e : Effect) (s : Rendition) (fields : List (List ℕ)) → length (perform e s fields).1 ≤ length fields
 perform-left (Changes f) s fields = omega arith
-perform-left (ReadsColor put) s fields = read_color-left fields
+perform-left (ReadsColor put) s [] = omega arith
+perform-left (ReadsColor put) s (selector ∷ fields) =
+    cond_both (is_code 2 selector) (color_by_parts fields) _ (LeavesUpTo (suc (length fields)))
+    (λ parts. omega (arith, color_by_parts-left fields))
+    (λ other. cond_both (is_code 5 selector) (color_by_number fields) (None, fields) (LeavesUpTo (suc (length fields)))
+    (λ number. omega (arith, color_by_number-left fields)) (λ none. omega arith))
 
 -- a step takes a field, and more where it reads a color
 pub step-left : (s : Rendition) (field : List ℕ) (fields : List (List ℕ)) → length (step s (field ∷ fields)).1 ≤ length fields
@@ -74,11 +66,6 @@ after_fields-code s p (field ∷ fields) rest left code first done =
     = done ∙ ap₂ (λ o fs. perform (option_map_or effect_of_code o unknown_code) s fs) is (ap (λ x. x.1) first) in
     let fewer = step-left s field fields in
     (ap (λ x. after_fields x.0 x.1) next ∙ sym (after_fields-step s field fields), omega (arith, ap (λ x. length x.1) next))
-
--- after the last field there is none
-pub first_field-none : {A : Type 0} (read : List ℕ → A) (fields rest : List (List ℕ)) → (None, rest) ≡ first_field read fields → fields ≡ []
-first_field-none read [] rest first = refl
-first_field-none read (field ∷ fields) rest first = absurd (let some = ap (λ x. x.0) first in cc)
 
 -- an SGR does what its fields do
 pub apply-parameters : (s : Rendition) (w parameters : List ℕ) → sgr_parameters w ≡ Some parameters → apply s w ≡ after_fields s (fields_of parameters)

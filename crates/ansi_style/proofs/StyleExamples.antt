@@ -1,5 +1,5 @@
 -- Worked examples of the SGR table, of starts and of closes, each by computation.
-use Rattle.std.proofs.Common.{◌≡◌, ℕ, List, [], ◌∷◌, map, refl, codes, Bool, filter, ◌++◌, true, false, Some, length}
+use Rattle.std.proofs.Common.{◌≡◌, ℕ, [], ◌∷◌, map, refl, codes, Bool, filter, ◌++◌, true, false, Some, length}
 use Rattle.std.specs.List.{range_with_len}
 use Rattle.std.specs.Fmt.{digits}
 use Rattle.ansi_items.specs.declared.ansitok.AnsiColor.TheVariants.{Bit4, Bit8, Bit24}
@@ -11,34 +11,8 @@ use Rattle.ansi_style.specs.Written.{start, close}
 
 -- a style in which everything is set
 abbrev full_style : Rendition
-full_style = record {
-  foreground = Some (Bit24 255 255 255);
-  background = Some (Bit24 255 255 255);
-  underline_color = Some (Bit24 255 255 255);
-  bold = true;
-  faint = true;
-  italic = true;
-  underline = true;
-  double_underline = true;
-  slow_blink = true;
-  rapid_blink = true;
-  inverse = true;
-  hide = true;
-  crossed_out = true;
+full_style = record (apply_parameters plain_style (codes "1;2;3;4;5;6;7;8;9;11;20;21;26;38;2;255;255;255;48;2;255;255;255;58;2;255;255;255;51;52;53;60;61;62;63;64;73;74")) {
   reset = true;
-  framed = true;
-  encircled = true;
-  font = Some 11;
-  fraktur = true;
-  proportional_spacing = true;
-  overlined = true;
-  ideogram_underline = true;
-  ideogram_double_underline = true;
-  ideogram_overline = true;
-  ideogram_double_overline = true;
-  ideogram_stress_marking = true;
-  superscript = true;
-  subscript = true;
   unknown = true;
 }
 
@@ -172,125 +146,9 @@ longest_start = refl
 longest_close : length (close full_style) ≡ 88
 longest_close = refl
 
--- the styles in which one attribute is set, in the order of their codes
-abbrev single_styles : List Rendition
-single_styles =
-    record plain_style { bold = true }
-    ∷ record plain_style { faint = true }
-    ∷ record plain_style { italic = true }
-    ∷ record plain_style { underline = true }
-    ∷ record plain_style { slow_blink = true }
-    ∷ record plain_style { rapid_blink = true }
-    ∷ record plain_style { inverse = true }
-    ∷ record plain_style { hide = true }
-    ∷ record plain_style { crossed_out = true }
-    ∷ record plain_style { fraktur = true }
-    ∷ record plain_style { double_underline = true }
-    ∷ record plain_style { proportional_spacing = true }
-    ∷ record plain_style { framed = true }
-    ∷ record plain_style { encircled = true }
-    ∷ record plain_style { overlined = true }
-    ∷ record plain_style { ideogram_underline = true }
-    ∷ record plain_style { ideogram_double_underline = true }
-    ∷ record plain_style { ideogram_overline = true }
-    ∷ record plain_style { ideogram_double_overline = true }
-    ∷ record plain_style { ideogram_stress_marking = true }
-    ∷ record plain_style { superscript = true }
-    ∷ record plain_style { subscript = true }
-    ∷ []
-
-start_of_each : map start single_styles ≡
-    codes "\u{1b}[1m"
-    ∷ codes "\u{1b}[2m"
-    ∷ codes "\u{1b}[3m"
-    ∷ codes "\u{1b}[4m"
-    ∷ codes "\u{1b}[5m"
-    ∷ codes "\u{1b}[6m"
-    ∷ codes "\u{1b}[7m"
-    ∷ codes "\u{1b}[8m"
-    ∷ codes "\u{1b}[9m"
-    ∷ codes "\u{1b}[20m"
-    ∷ codes "\u{1b}[21m"
-    ∷ codes "\u{1b}[26m"
-    ∷ codes "\u{1b}[51m"
-    ∷ codes "\u{1b}[52m"
-    ∷ codes "\u{1b}[53m"
-    ∷ codes "\u{1b}[60m"
-    ∷ codes "\u{1b}[61m"
-    ∷ codes "\u{1b}[62m"
-    ∷ codes "\u{1b}[63m"
-    ∷ codes "\u{1b}[64m"
-    ∷ codes "\u{1b}[73m"
-    ∷ codes "\u{1b}[74m"
-    ∷ []
-start_of_each = refl
-
-close_of_each : map close single_styles ≡
-    codes "\u{1b}[22m"
-    ∷ codes "\u{1b}[22m"
-    ∷ codes "\u{1b}[23m"
-    ∷ codes "\u{1b}[24m"
-    ∷ codes "\u{1b}[25m"
-    ∷ codes "\u{1b}[25m"
-    ∷ codes "\u{1b}[27m"
-    ∷ codes "\u{1b}[28m"
-    ∷ codes "\u{1b}[29m"
-    ∷ codes "\u{1b}[23m"
-    ∷ codes "\u{1b}[24m"
-    ∷ codes "\u{1b}[50m"
-    ∷ codes "\u{1b}[54m"
-    ∷ codes "\u{1b}[54m"
-    ∷ codes "\u{1b}[55m"
-    ∷ codes "\u{1b}[65m"
-    ∷ codes "\u{1b}[65m"
-    ∷ codes "\u{1b}[65m"
-    ∷ codes "\u{1b}[65m"
-    ∷ codes "\u{1b}[65m"
-    ∷ codes "\u{1b}[75m"
-    ∷ codes "\u{1b}[75m"
-    ∷ []
-close_of_each = refl
-
--- the styles in which one color or the font is set
-abbrev colored_styles : List Rendition
-colored_styles =
-    record plain_style { font = Some 19 }
-    ∷ record plain_style { foreground = Some (Bit4 97) }
-    ∷ record plain_style { foreground = Some (Bit8 7) }
-    ∷ record plain_style { foreground = Some (Bit24 1 20 255) }
-    ∷ record plain_style { background = Some (Bit4 107) }
-    ∷ record plain_style { background = Some (Bit8 7) }
-    ∷ record plain_style { background = Some (Bit24 1 20 255) }
-    ∷ record plain_style { underline_color = Some (Bit8 7) }
-    ∷ record plain_style { underline_color = Some (Bit24 1 20 255) }
-    ∷ []
-
-start_of_each_color : map start colored_styles ≡
-    codes "\u{1b}[19m"
-    ∷ codes "\u{1b}[97m"
-    ∷ codes "\u{1b}[38;5;7m"
-    ∷ codes "\u{1b}[38;2;1;20;255m"
-    ∷ codes "\u{1b}[107m"
-    ∷ codes "\u{1b}[48;5;7m"
-    ∷ codes "\u{1b}[48;2;1;20;255m"
-    ∷ codes "\u{1b}[58;5;7m"
-    ∷ codes "\u{1b}[58;2;1;20;255m"
-    ∷ []
+start_of_colors : start (record plain_style { font = Some 19; foreground = Some (Bit4 97); background = Some (Bit8 7) }) ≡ codes "\u{1b}[19m\u{1b}[97m\u{1b}[48;5;7m"
 unfolding digits
-start_of_each_color = refl
-
-close_of_each_color : map close colored_styles ≡
-    codes "\u{1b}[10m"
-    ∷ codes "\u{1b}[39m"
-    ∷ codes "\u{1b}[39m"
-    ∷ codes "\u{1b}[39m"
-    ∷ codes "\u{1b}[49m"
-    ∷ codes "\u{1b}[49m"
-    ∷ codes "\u{1b}[49m"
-    ∷ codes "\u{1b}[59m"
-    ∷ codes "\u{1b}[59m"
-    ∷ []
-close_of_each_color = refl
+start_of_colors = refl
 
 unread_attributes_have_no_start : start (record plain_style { reset = true; unknown = true }) ≡ []
 unread_attributes_have_no_start = refl

@@ -1,8 +1,8 @@
 -- Sequences make styles of styles: each color and font that they select is in its range.
-use Rattle.std.proofs.Common.{◌≡◌, ℕ, zero, suc, ◌≤◌, true, ◌&&◌, List, [], ◌∷◌, length, Option, Some, None, refl, sym, find, IsTrue, IfSome, nat_le, nat_lt, arith, map, true≢false, rules}
-use Rattle.std.proofs.lemmas.Bool.{cond_both, and_parts, and_from, leb-true, lt-ltb, or_left, or_right}
+use Rattle.std.proofs.Common.{◌≡◌, ℕ, zero, suc, Bool, true, ◌&&◌, List, [], ◌∷◌, length, Option, Some, None, refl, sym, IsTrue, IfSome, nat_le, nat_lt, arith, map, true≢false, rules, if◌then◌else◌}
+use Rattle.std.proofs.lemmas.Bool.{cond_both, and_from, or_left, or_right}
+use Rattle.std.proofs.lemmas.Bool.Decides.{nat_tests}
 use Rattle.std.specs.Prelude.{unwrap_or}
-use Rattle.std.specs.List.{AllByRecursion}
 use Rattle.std.specs.Option.{option_map_or, ForSome}
 use Rattle.std.specs.Int.{is_in_range}
 use Rattle.std.specs.Str.{all_ascii_digits}
@@ -14,9 +14,10 @@ use Rattle.ansi_style.specs.States.{rendition_of}
 use Rattle.ansi_items.specs.Sequences.{sgr_parameters}
 use Rattle.ansi_items.specs.Plain.{Mark, marks, up_to}
 use Rattle.ansi_style.specs.Rendition.{Rendition, is_foreground, is_background, is_extended_color, IsStyle, plain_style, known}
-use Rattle.ansi_style.specs.Sgr.{Effect, Changes, ReadsColor, Rows, table, rows, unknown_code, effect_of, code_of, effect_of_code, color_number, color_by_parts, color_by_number, read_color, is_code, perform, steps, step, apply, apply_parameters, fields_of, apply_all}
+use Rattle.ansi_style.specs.Sgr.{Effect, Changes, ReadsColor, effect_of, color_number, color_by_parts, color_by_number, read_color, is_code, perform, steps, step, apply, apply_parameters, fields_of, apply_all}
 use Rattle.ansi_style.specs.Styled.{style_at, style_after}
 use Rattle.ansi_style.specs.Reading.{style_after_from}
+use Rattle.ansi_style.proofs.SgrLemmas.{effect_holds}
 
 -- the ranges, field by field
 abbrev HasRanges : Rendition → Type 0
@@ -34,10 +35,6 @@ abbrev KeepsRanges : Effect → Type 0
 KeepsRanges (Changes f) = (s : Rendition) → HasRanges s → HasRanges (f s)
 KeepsRanges (ReadsColor put) = (c : AnsiColor) (s : Rendition) → IsTrue (is_extended_color c) → HasRanges s → HasRanges (put c s)
 
--- the codes of a row are in its range
-abbrev RowKeepsRanges : Rows → Type 0
-RowKeepsRanges r = (n : ℕ) → is_in_range r.first r.last n ≡ true → KeepsRanges (r.effect n)
-
 extended_is_foreground : (c : AnsiColor) → IsTrue (is_extended_color c) → IsTrue (is_foreground c)
 extended_is_foreground (Bit4 n) is = absurd (true≢false (sym is))
 extended_is_foreground (Bit8 n) is = is
@@ -48,33 +45,15 @@ extended_is_background (Bit4 n) is = absurd (true≢false (sym is))
 extended_is_background (Bit8 n) is = is
 extended_is_background (Bit24 r g b) is = is
 
-table_keeps_ranges : AllByRecursion RowKeepsRanges table
-table_keeps_ranges = search (rules, or_left, or_right, extended_is_foreground, extended_is_background)
-
-found_keeps_ranges : (rows : List Rows) (n : ℕ) → AllByRecursion RowKeepsRanges rows
-    → KeepsRanges (option_map_or (λ (r : Rows). r.effect n) (find (λ (r : Rows). is_in_range r.first r.last n) rows) unknown_code)
-found_keeps_ranges [] n all = λ s is. is
-found_keeps_ranges (r ∷ rows) n all =
-    let P : Option Rows → Type 0 = λ o. KeepsRanges (option_map_or (λ (r : Rows). r.effect n) o unknown_code) in
-    cond_both (is_in_range r.first r.last n) (Some r) (find (λ (r : Rows). is_in_range r.first r.last n) rows) P
-    (λ within. all.0 n within)
-    (λ other. found_keeps_ranges rows n all.1)
-
 effect_keeps_ranges : (field : List ℕ) → KeepsRanges (effect_of field)
-effect_keeps_ranges field = by_code (code_of field)
-  where
-    by_code : (o : Option ℕ) → KeepsRanges (option_map_or effect_of_code o unknown_code)
-    by_code None = λ s is. is
-    by_code (Some n) = found_keeps_ranges table n table_keeps_ranges
+effect_keeps_ranges = effect_holds KeepsRanges (λ s is. is) (search (rules, or_left, or_right, extended_is_foreground, extended_is_background))
 
 -- a number of a color is at most 255
 color_number_is_byte : (field : List ℕ) → nat_lt (color_number field) 256 ≡ true
-color_number_is_byte field =
-    let P : Option ℕ → Type 0 = λ o. nat_lt (unwrap_or o 0) 256 ≡ true in
-    cond_both (nat_lt 0 (length field) && (all_ascii_digits field && nat_le (digits_value 10 field) 255)) (Some (digits_value 10 field)) None P
-    (λ is. (let small : digits_value 10 field ≤ 255 = leb-true (digits_value 10 field) 255 (and_parts (all_ascii_digits field) (nat_le (digits_value 10 field) 255) (and_parts (nat_lt 0 (length field)) _ is).1).1 in
-    lt-ltb (digits_value 10 field) 256 (omega (arith, small))))
-    (λ other. refl)
+color_number_is_byte field = small (nat_lt 0 (length field)) (all_ascii_digits field) (digits_value 10 field)
+  where
+    small : (a b : Bool) (n : ℕ) → nat_lt (unwrap_or (if a && (b && nat_le n 255) then Some n else None) 0) 256 ≡ true
+    small a b n = grind (arith, nat_tests)
 
 abbrev ReadsExtended : Option AnsiColor × List (List ℕ) → Type 0
 ReadsExtended read = IfSome read.0 (λ c. IsTrue (is_extended_color c))

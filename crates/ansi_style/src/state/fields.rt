@@ -1,5 +1,5 @@
 //! The fields of an SGR's parameter bytes, and the numbers that they write.
-ghost use Rattle.std.specs.Prelude.{◌≡◌, Some, IsTrue};
+ghost use Rattle.std.specs.Prelude.{◌≡◌, Some, None, IsTrue, nat_le, if◌then◌else◌};
 ghost use Rattle.ansi_items.specs.Sequences.{is_sgr, sgr_parameters};
 ghost use Rattle.ansi_style.specs.Sgr.{fields_of, code_of, color_number};
 ghost use Rattle.ansi_style.specs.Fields.{first_field, with_digit};
@@ -44,12 +44,12 @@ impl<'a> Fields<'a> {
         for (i, byte) in bytes.iter().enumerate() {
             if *byte == b';' {
                 self.rest = Some(&bytes[i + 1..]);
-                return Some(u8::try_from(number).ok());
+                return Some(byte_of(number));
             }
             number = with_digit(number, *byte);
         }
         self.rest = None;
-        Some(u8::try_from(number).ok())
+        Some(byte_of(number))
     }
 
     /// The number that the next field gives a color, 0 where it is none, or `None` after the last
@@ -73,6 +73,14 @@ fn with_digit(number: u32, byte: u8) -> u32
     } else {
         256
     }
+}
+
+/// The number where it is at most 255.
+#[inline(always)]
+fn byte_of(number: u32) -> Option<u8>
+    ensures { result ≡ if nat_le number 255 then Some number else None }
+{
+    u8::try_from(number).ok()
 }
 
 /// The parameter bytes of an SGR: all but ESC `[` and the final byte.

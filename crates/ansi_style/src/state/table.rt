@@ -42,14 +42,14 @@ impl Style {
             27 => self.clear(Attributes::INVERSE),
             28 => self.clear(Attributes::HIDE),
             29 => self.clear(Attributes::CROSSED_OUT),
-            30..=37 => self.foreground = Some(AnsiColor::Bit4(code)),
+            30..=37 | 90..=97 => self.foreground = Some(AnsiColor::Bit4(code)),
             38 => {
                 if let Some(color) = read_color(fields) {
                     self.foreground = Some(color);
                 }
             }
             39 => self.foreground = None,
-            40..=47 => self.background = Some(AnsiColor::Bit4(code)),
+            40..=47 | 100..=107 => self.background = Some(AnsiColor::Bit4(code)),
             48 => {
                 if let Some(color) = read_color(fields) {
                     self.background = Some(color);
@@ -83,8 +83,6 @@ impl Style {
             73 => self.set(Attributes::SUPERSCRIPT),
             74 => self.set(Attributes::SUBSCRIPT),
             75 => self.clear(Attributes::SUPERSCRIPT.union(Attributes::SUBSCRIPT)),
-            90..=97 => self.foreground = Some(AnsiColor::Bit4(code)),
-            100..=107 => self.background = Some(AnsiColor::Bit4(code)),
             _ => self.set(Attributes::UNKNOWN),
         }
     }

@@ -1,11 +1,8 @@
 //! The start and the close of a style, as they are printed: each code in a sequence of its own.
-ghost use Rattle.std.specs.Prelude.{◌==◌, ◌++◌, ◌||◌, [], Some, IsTrue, is_some, codes, flat_map, if◌then◌else◌};
-ghost use Rattle.std.specs.List.{list_all};
-ghost use Rattle.std.specs.Int.RustNames.{bit_and};
+ghost use Rattle.std.specs.Prelude.{◌++◌, [], Some, codes, flat_map, if◌then◌else◌};
 ghost use Rattle.std.specs.Fmt.{WritesOnOk};
-ghost use Rattle.ansi_style.specs.Rendition.{has_ideogram_attribute};
 ghost use Rattle.ansi_style.specs.States.{has_one, rendition_of};
-ghost use Rattle.ansi_style.specs.Written.{written, written_all, when, color_code, color_codes, font_codes, start, close, close_if_any};
+ghost use Rattle.ansi_style.specs.Written.{written, written_all, color_code, color_codes, font_codes, start, close, close_if_any};
 
 use crate::state::Style;
 use crate::state::attributes::Attributes;
@@ -159,15 +156,12 @@ const CLOSE_ENDS: Rows = &[
 fn write_start<W: fmt::Write>(f: &mut fmt::Formatter<W>, style: &Style) -> fmt::Result
     ensures { WritesOnOk W.write_str_gives f.old result (start (rendition_of style.now)) f.new }
 {
-    if !style.has_known() {
-        return Ok(());
-    }
     let set = style.attributes;
-    write_rows(f, set, Attributes::LETTERS, START_LETTERS)?;
+    write_rows(f, set.intersection(Attributes::LETTERS), START_LETTERS)?;
     write_font(f, style.font)?;
-    write_rows(f, set, Attributes::SHAPES, START_SHAPES)?;
+    write_rows(f, set.intersection(Attributes::SHAPES), START_SHAPES)?;
     write_colors(f, style)?;
-    write_rows(f, set, Attributes::FRAMES, START_FRAMES)
+    write_rows(f, set.intersection(Attributes::FRAMES), START_FRAMES)
 }
 
 /// Writes the close of a style.
@@ -176,46 +170,26 @@ fn write_close<W: fmt::Write>(f: &mut fmt::Formatter<W>, style: &Style) -> fmt::
 {
     let set = style.attributes;
     let is_unknown = set.contains(Attributes::UNKNOWN);
-    if !(style.has_known() | is_unknown) {
-        return Ok(());
-    }
     write_when(f, is_unknown & set.contains(Attributes::RESET), "\u{1b}[0m")?;
     write_when(f, style.font.is_some(), "\u{1b}[10m")?;
-    write_rows(f, set, Attributes::LETTERS, CLOSE_LETTERS)?;
-    write_color_ends(f, style)?;
-    write_rows(f, set, Attributes::ENDS, CLOSE_ENDS)
-}
-
-/// Writes the middle of the close of a style, from the foreground to the color of the underline.
-#[tactic(auto, unfolding(crate::specs::States::rendition_of))]
-fn write_color_ends<W: fmt::Write>(f: &mut fmt::Formatter<W>, style: &Style) -> fmt::Result
-    ensures { let s = rendition_of style.now in WritesOnOk W.write_str_gives f.old result (written_all
-        (when (is_some s.foreground) (codes "39")
-        ++ when (is_some s.background) (codes "49")
-        ++ when s.proportional_spacing (codes "50")
-        ++ when (s.framed || s.encircled) (codes "54")
-        ++ when s.overlined (codes "55")
-        ++ when (has_ideogram_attribute s) (codes "65")
-        ++ when (is_some s.underline_color) (codes "59"))) f.new }
-{
+    write_rows(f, set.intersection(Attributes::LETTERS), CLOSE_LETTERS)?;
     write_when(f, style.foreground.is_some(), "\u{1b}[39m")?;
     write_when(f, style.background.is_some(), "\u{1b}[49m")?;
-    write_rows(f, style.attributes, Attributes::FRAMES, CLOSE_FRAMES)?;
-    write_when(f, style.underline_color.is_some(), "\u{1b}[59m")
+    write_rows(f, set.intersection(Attributes::FRAMES), CLOSE_FRAMES)?;
+    write_when(f, style.underline_color.is_some(), "\u{1b}[59m")?;
+    write_rows(f, set.intersection(Attributes::ENDS), CLOSE_ENDS)
 }
 
-/// Writes the sequences of those rows of which an attribute is set, each of which is in the group.
+/// Writes the sequences of those rows of which an attribute is set.
 fn write_rows<W: fmt::Write>(
     f: &mut fmt::Formatter<W>,
     set: Attributes,
-    group: Attributes,
     rows: &[(Attributes, &str)],
 ) -> fmt::Result
-    requires { IsTrue (list_all (λ row. bit_and group.0 row.0.0 == row.0.0) rows.now) }
     ensures { WritesOnOk W.write_str_gives f.old result
         (flat_map (λ row. if has_one set.0 row.0.0 then row.1.now else []) rows.now) f.new }
 {
-    if !set.intersects(group) {
+    if set.is_empty() {
         return Ok(());
     }
     for (attributes, sequence) in rows {

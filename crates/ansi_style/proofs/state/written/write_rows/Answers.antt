@@ -1,10 +1,12 @@
-use Rattle.std.proofs.Common.{sym, subst, arith}
-use Rattle.std.specs.Fmt.{HasWritten}
-use Rattle.std.proofs.lemmas.Bool.{eqb-true, not-false}
+use Rattle.std.proofs.Common.{◌≡◌, ℕ, List, [], ◌∷◌, refl, sym, ◌∙◌, flat_map, arith}
+use Rattle.std.proofs.lemmas.Bool.{eqb-true}
 use Rattle.std.proofs.lemmas.Grind.{common_steps}
-use Rattle.ansi_style.proofs.BitsLemmas.{flat_map-outside}
 use Rattle.ansi_style.proofs.state.written.write_rows.Goals as goal
 
-pub returns-then-not-intersects : goal.returns-then-not-intersects
-returns-then-not-intersects g c = λ plain ok.
-    subst (λ bs. HasWritten g.W.Write.write_str_gives c.args.f.now bs c.args.f.now) (sym (flat_map-outside c.args.set.0 c.args.group.0 (λ row. row.0.0) (λ row. row.1.now) c.args.rows.now c.requires (eqb-true _ 0 (not-false _ (sym (c.if-not-intersects.ensures tt)))))) (grind (arith, common_steps))
+nothing : {X : Type 0} (rows : List X) → flat_map {A = ℕ} (λ (row : X). []) rows ≡ []
+nothing [] = refl
+nothing (row ∷ rows) = nothing rows
+
+pub returns-then-is_empty : goal.returns-then-is_empty
+returns-then-is_empty g c = λ plain ok.
+    rw (eqb-true c.args.set.0 0 (sym (c.is_empty.ensures tt) ∙ c.if-is_empty.true), nothing c.args.rows.now) (grind (arith, common_steps))
