@@ -1,5 +1,5 @@
 -- How many looks at a text its items take.
-use Rattle.std.proofs.Common.{◌≡◌, ℕ, ◌+◌, ◌-◌, ◌*◌, ◌<◌, ◌≤◌, Bool, true, false, List, [], ◌∷◌, length, take, drop, get_or, Option, Some, None, refl, sym, ◌∙◌, ap, subst, arith, one-add}
+use Rattle.std.proofs.Common.{◌≡◌, ℕ, ◌+◌, ◌-◌, ◌*◌, ◌<◌, ◌≤◌, Bool, true, false, List, [], ◌∷◌, length, take, drop, get_or, slice_index, Option, Some, None, refl, sym, ◌∙◌, ap, subst, arith, one-add}
 use Rattle.std.proofs.lemmas.Bool.{false_from_ne_true, cond-true, cond_both}
 use Rattle.std.proofs.lemmas.Bool.Decides.{nat_tests}
 use Rattle.std.proofs.lemmas.List.{take_rest, length-drop, drop-drop}
@@ -14,7 +14,7 @@ use Rattle.ansi_items.specs.Bytes.{is_parameter_byte, is_intermediate_byte, is_b
 use Rattle.ansi_items.specs.Fronts.{front_of, escape_at, sequence_at, front_at}
 use Rattle.ansi_items.specs.Counts.{before_escape, CostsFound, CostsFront, IsCounted}
 use Rattle.ansi_items.proofs.PieceLemmas.{first_piece_splits}
-use Rattle.ansi_items.proofs.FrontLemmas.{front_is_first}
+use Rattle.ansi_items.proofs.FrontLemmas.{not_alone, front_is_first}
 
 -- What a search finds.
 
@@ -82,13 +82,16 @@ text_is_body o bs other =
     let below = runs_on is_plain_byte (is_body_byte o) bs (λ b h. plain_is_body o b other h) in
     omega (arith, below, body_within o bs)
 
--- the runs of a control sequence, the second of them of what is left
-pub control_within : (bs : List ℕ) (n m : ℕ) → n ≡ prefix_len is_parameter_byte bs → m ≡ prefix_len is_intermediate_byte (take (length bs - n) (drop n bs)) → n + m ≤ before_escape bs
-control_within bs n m e f =
+pub parameters_within : (bs : List ℕ) → prefix_len is_parameter_byte bs ≤ before_escape bs
+parameters_within bs = omega (arith, runs_on is_parameter_byte is_plain_byte bs parameter_is_plain)
+
+-- the runs of a control sequence, with an intermediate byte after its parameters
+pub control_within : (bs : List ℕ) (n b m : ℕ) → n ≡ prefix_len is_parameter_byte bs → b ≡ slice_index bs n → n < length bs → is_intermediate_byte b ≡ true
+    → m ≡ prefix_len is_intermediate_byte (take (length bs - (n + 1)) (drop (n + 1) bs)) → n + (1 + m) ≤ before_escape bs
+control_within bs n b m e here inside is counted =
     let first : prefix_len is_parameter_byte bs + before_escape (drop (prefix_len is_parameter_byte bs) bs) ≡ before_escape bs = runs_on is_parameter_byte is_plain_byte bs parameter_is_plain in
-    let rest : m ≡ prefix_len is_intermediate_byte (drop n bs) = f ∙ ap (prefix_len is_intermediate_byte) (take_rest bs n) in
     let same : before_escape (drop n bs) ≡ before_escape (drop (prefix_len is_parameter_byte bs) bs) = ap (λ k. before_escape (drop k bs)) e in
-    omega (arith, first, rest, intermediates_within (drop n bs), same, e)
+    omega (arith, first, not_alone bs n b m here inside is counted, intermediates_within (drop n bs), same, e)
 
 pub short_none : (bs : List ℕ) → 0 < length bs → length bs ≤ 1 → sequence_at bs ≡ None
 unfolding sequence_at escape_at

@@ -3,7 +3,7 @@ use Rattle.std.proofs.Common.{◌≡◌, ℕ, zero, suc, ◌+◌, ◌-◌, ◌<�
 use Rattle.std.proofs.lemmas.Bool.{cond-true, cond-false, cases_Bool, eqb-true, and_parts, both_ways, cases_lt, not-false, or_cases, ne_eqb}
 use Rattle.std.proofs.lemmas.Bool.Decides.{nat_tests}
 use Rattle.std.proofs.lemmas.List.{take_rest, get_or_past, drop_more, drop_all, drop-drop, drop_at, take_at, length-drop, take-append-drop}
-use Rattle.std.proofs.lemmas.List.Sums.{prefix_len-le-length, prefix_len_stops}
+use Rattle.std.proofs.lemmas.List.Sums.{prefix_len-le-length, prefix_len_stops, prefix_len-drop_yes, prefix_len-drop_no, prefix_len-drop_all}
 use Rattle.std.proofs.lemmas.List.Folds.{list_all-append, length-prefix_len}
 use Rattle.std.specs.List.{list_all, prefix_len, ends_with}
 use Rattle.std.specs.Cmp.Lexicographic.{pointwise}
@@ -121,16 +121,52 @@ sgr_at t passes =
     ap is_sgr word ∙ sgr-spelled ps is final (all-run is_parameter_byte t) (all-run is_intermediate_byte u) passes
     ∙ ap₂ (λ k p. (k == 0) && (final == 109) && not p) is_len private
 
--- the code reads these, the intermediate bytes in what is left, and the final byte
-pub control_at-read : (t : List ℕ) (n m final : ℕ) (private : Bool) → private ≡ are_private t → n ≡ prefix_len is_parameter_byte t → m ≡ prefix_len is_intermediate_byte (take (length t - n) (drop n t)) → final ≡ slice_index t (n + m)
-    → is_final_byte final ≡ true → Some (front_of (if (m == 0) && (final == 109) && not private then Sgr else Other) (n + m + 3)) ≡ control_at t
+-- a control sequence has these, and the final byte
+control_at-read : (t : List ℕ) (n m final : ℕ) → n ≡ parameters_len t → m ≡ prefix_len is_intermediate_byte (drop n t) → final ≡ slice_index t (n + m)
+    → is_final_byte final ≡ true → Some (front_of (if (m == 0) && (final == 109) && not (are_private t) then Sgr else Other) (n + m + 3)) ≡ control_at t
 unfolding control_at
-control_at-read t n m final private tells parameters intermediates ends passes =
-    let counted : m ≡ intermediates_len t = intermediates ∙ ap (prefix_len is_intermediate_byte) (take_rest t n) ∙ ap (λ k. prefix_len is_intermediate_byte (drop k t)) parameters in
+control_at-read t n m final parameters intermediates ends passes =
+    let counted : m ≡ intermediates_len t = intermediates ∙ ap (λ k. prefix_len is_intermediate_byte (drop k t)) parameters in
     let last : final ≡ slice_index t (parameters_len t + intermediates_len t) = ends ∙ ap₂ (λ k j. slice_index t (k + j)) parameters counted in
     let found : is_final_byte (slice_index t (parameters_len t + intermediates_len t)) ≡ true = ap is_final_byte (sym last) ∙ passes in
-    rw (last, counted, parameters, tells)
+    rw (last, counted, parameters)
     (ap (λ b. Some (front_of (if b then Sgr else Other) (parameters_len t + intermediates_len t + 3))) (sym (sgr_at t found)) ∙ sym (cond-true _ _ _ found))
+
+-- The code looks at the byte after the parameters.
+
+-- it is no intermediate byte, or there is none
+pub alone : (t : List ℕ) (n b : ℕ) → b ≡ slice_index t n → is_intermediate_byte b ≡ false → 0 ≡ prefix_len is_intermediate_byte (drop n t)
+alone t n b here other = sym (
+    ⊎_elim
+    (λ inside. prefix_len-drop_no is_intermediate_byte t n 0 inside (ap is_intermediate_byte (sym here) ∙ other))
+    (λ past. prefix_len-drop_all is_intermediate_byte t n past)
+    (cases_lt n (length t)))
+
+-- it is one, and more may follow
+pub not_alone : (t : List ℕ) (n b m : ℕ) → b ≡ slice_index t n → n < length t → is_intermediate_byte b ≡ true → m ≡ prefix_len is_intermediate_byte (take (length t - (n + 1)) (drop (n + 1) t))
+    → 1 + m ≡ prefix_len is_intermediate_byte (drop n t)
+not_alone t n b m here inside is counted =
+    ap (λ k. 1 + k) (counted ∙ ap (prefix_len is_intermediate_byte) (take_rest t (n + 1))) ∙ sym (prefix_len-drop_yes is_intermediate_byte t n 0 inside (ap is_intermediate_byte (sym here) ∙ is))
+
+pub unless_private : (b : Bool) → (if b then Other else Sgr) ≡ (if not b then Sgr else Other)
+unless_private true = refl
+unless_private false = refl
+
+-- it is the final byte
+pub control_at-final : (t : List ℕ) (n final : ℕ) (is_sgr : Bool) → n ≡ prefix_len is_parameter_byte t → final ≡ slice_index t n → is_final_byte final ≡ true
+    → is_sgr ≡ ((final == 109) && not (are_private t)) → Some (front_of (if is_sgr then Sgr else Other) (n + 3)) ≡ control_at t
+control_at-final t n final is_sgr parameters here passes tells =
+    let other : is_intermediate_byte final ≡ false = grind (arith, nat_tests) in
+    let last : final ≡ slice_index t (n + 0) = here ∙ ap (slice_index t) (omega arith) in
+    ap₂ (λ b k. Some (front_of (if b then Sgr else Other) k)) tells (omega arith)
+    ∙ control_at-read t n 0 final parameters (alone t n final here other) last passes
+
+-- the final byte follows the intermediate ones
+pub control_at-later : (t : List ℕ) (n m final : ℕ) → n ≡ prefix_len is_parameter_byte t → 1 + m ≡ prefix_len is_intermediate_byte (drop n t) → final ≡ slice_index t (n + (1 + m)) → is_final_byte final ≡ true
+    → Some (front_of Other (n + (1 + m) + 3)) ≡ control_at t
+control_at-later t n m final parameters intermediates ends passes =
+    let no_sgr : ((1 + m == 0) && (final == 109) && not (are_private t)) ≡ false = grind (arith, nat_tests) in
+    ap (λ b. Some (front_of (if b then Sgr else Other) (n + (1 + m) + 3))) (sym no_sgr) ∙ control_at-read t n (1 + m) final parameters intermediates ends passes
 
 no_control : (o : ℕ) → opens_control_sequence o ≡ false → nat_eq 91 o ≡ false
 no_control o h = grind (arith, nat_tests)

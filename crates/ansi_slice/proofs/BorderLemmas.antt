@@ -1,13 +1,13 @@
 -- The borders of a pattern, and a search that goes forward by them.
-use Rattle.std.proofs.Common.{◌≡◌, ◌≢◌, ℕ, zero, suc, ◌+◌, ◌-◌, ◌<◌, ◌≤◌, inl, inr, false, List, ◌++◌, drop, length, nat_eq, IsTrue, Some, None, sym, ◌∙◌, ap, ap₂, subst, arith, slice_index, set, get_or-set_same, get_or-set_other}
+use Rattle.std.proofs.Common.{◌≡◌, ◌≢◌, ℕ, zero, suc, ◌+◌, ◌-◌, ◌<◌, ◌≤◌, inl, inr, false, List, ◌++◌, take, drop, length, nat_eq, IsTrue, Some, None, sym, ◌∙◌, ap, ap₂, subst, arith, slice_index, set, get_or-set_same, get_or-set_other}
 use Rattle.std.proofs.lemmas.Bool.{cases_lt, cases_eq, true≢false}
-use Rattle.std.proofs.lemmas.List.{get_or-drop, get_or_append_left, length-append, length-drop, drop-drop, drop-append-le}
-use Rattle.std.specs.List.{starts_with}
+use Rattle.std.proofs.lemmas.List.{get_or-drop, get_or-take, get_or_append_left, length-append, length-drop, length-take-le, drop-drop, drop-take, drop-append-le}
+use Rattle.std.specs.List.{starts_with, slice_range}
 use Rattle.memchr.specs.Find.{Nowhere}
 use Rattle.memchr.proofs.lemmas.MatchLemmas.{OccursAt-split}
 use Rattle.std.specs.Str.{IsUtf8}
 use Rattle.ansi_slice.specs.Parts.{first_match_from}
-use Rattle.ansi_slice.specs.Searches.{StandsAt, IsBorder, AreBorders, GoesOn, IsNext, IsFound, IsRead, IsMatched}
+use Rattle.ansi_slice.specs.Searches.{StandsAt, IsBorder, AreBorders, GoesOn, IsNext, IsFound, IsRead, IsMatched, BeginsNowhere}
 use Rattle.ansi_slice.proofs.MatchLemmas.{IsMatch, starts_with-splits, starts_with-append, match_fits, match-from, first_match_from-is}
 
 -- What stands at a place.
@@ -271,15 +271,20 @@ met-apart x front tail i b met inside other border =
         let here : StandsAt x front (i - n) n = λ j before. found-reads x front tail (i - n) j found (omega (arith, before, high)) in
         border.longest n low high (stands-inner x front (i - length front) (length front) n (i - n) met.stands here (omega (arith, high)) (omega (arith, within, high)))
 
--- A run is read on from an offset, in a text z from which the text x goes on.
+-- A run is read on from an offset, in a text z from which the text x goes on: one whose bytes are those of a text t up
+-- to the end of the run.
+
+-- what stands in the run
+in_run : (t y : List ℕ) (end n : ℕ) → n < end → end ≤ length t → slice_index (take end t ++ y) n ≡ slice_index t n
+in_run t y end n inside fits = get_or_append_left (take end t) y 0 n (omega (arith, inside, length-take-le end t fits)) ∙ get_or-take end t n 0 inside
 
 -- whatever was read before, up to `at` all is read
 abbrev pub ReadsTo : List ℕ → List ℕ → List ℕ → ℕ → ℕ → ℕ → ℕ → Type 0
-ReadsTo front tail z from met at k = (x : List ℕ) (i : ℕ) → IsRead x front tail i met → drop i x ≡ drop from z → IsRead x front tail (i + (at - from)) k
+ReadsTo front tail z from met at k = (x : List ℕ) (i : ℕ) → IsRead x front tail i met → (from < at → drop i x ≡ drop from z) → IsRead x front tail (i + (at - from)) k
 
 -- the same where k bytes of the front are met, which may be all
 abbrev pub MeetsAt : List ℕ → List ℕ → List ℕ → ℕ → ℕ → ℕ → ℕ → Type 0
-MeetsAt front tail z from met at k = (x : List ℕ) (i : ℕ) → IsRead x front tail i met → drop i x ≡ drop from z → IsMet x front tail (i + (at - from)) k
+MeetsAt front tail z from met at k = (x : List ℕ) (i : ℕ) → IsRead x front tail i met → (from < at → drop i x ≡ drop from z) → IsMet x front tail (i + (at - from)) k
 
 goes-on : (x z : List ℕ) (i from at : ℕ) → from ≤ at → drop i x ≡ drop from z → drop (i + (at - from)) x ≡ drop at z
 goes-on x z i from at forward is =
@@ -290,48 +295,52 @@ pub reads-start : (front tail z : List ℕ) (from met : ℕ) → ReadsTo front t
 reads-start front tail z from met x i read is = (let sum : i ≡ i + (from - from) = omega arith in subst (λ (n : ℕ). IsRead x front tail n met) sum read)
 
 -- over bytes with which no match begins, where none is begun
-reads-over : (front tail w y : List ℕ) (from met at k n : ℕ) → from ≤ at → at ≤ n → n ≤ length w → (0 < k → n ≡ at) → ((m : ℕ) → at ≤ m → m < n → slice_index w m ≢ slice_index front 0)
-    → ReadsTo front tail (w ++ y) from met at k → ReadsTo front tail (w ++ y) from met n k
-reads-over front tail w y from met at (suc k) n forward past fits here others so_far x i read is =
+pub reads-over : (front tail t y : List ℕ) (from met at k n end : ℕ) → from ≤ at → at ≤ n → n ≤ end → end ≤ length t → (0 < k → n ≡ at) → BeginsNowhere front t at n
+    → ReadsTo front tail (take end t ++ y) from met at k → ReadsTo front tail (take end t ++ y) from met n k
+reads-over front tail t y from met at (suc k) n end forward past inside fits here others so_far x i read is =
     let same : at ≡ n = sym (here (omega arith)) in
-    subst (λ (m : ℕ). IsRead x front tail (i + (m - from)) (suc k)) same (so_far x i read is)
-reads-over front tail w y from met at zero n forward past fits here others so_far x i read is =
+    subst (λ (m : ℕ). IsRead x front tail (i + (m - from)) (suc k)) same (so_far x i read (λ some. is (omega (arith, some, past))))
+reads-over front tail t y from met at zero n end forward past inside fits here others so_far x i read is =
     let sum : i + (at - from) + (n - at) ≡ i + (n - from) = omega (arith, forward, past) in
-    subst (λ (m : ℕ). IsRead x front tail m 0) sum (read-over x front tail (i + (at - from)) (n - at) (so_far x i read is) other)
+    subst (λ (m : ℕ). IsRead x front tail m 0) sum (read-over x front tail (i + (at - from)) (n - at) (so_far x i read (λ some. is (omega (arith, some, past)))) other)
   where
     other : (m : ℕ) → m < n - at → slice_index x (i + (at - from) + m) ≢ slice_index front 0
-    other m inside same =
-        let below : at + m < n = omega (arith, inside) in
-        let place : at + m < length w = omega (arith, below, fits) in
-        let reads : slice_index x (i + (at - from) + m) ≡ slice_index w (at + m)
-        = sym (get_or-drop (i + (at - from)) x m 0) ∙ ap (λ v. slice_index v m) (goes-on x (w ++ y) i from at forward is) ∙ get_or-drop at (w ++ y) m 0 ∙ get_or_append_left w y 0 (at + m) place in
+    other m low same =
+        let below : at + m < n = omega (arith, low) in
+        let z = take end t ++ y in
+        let reads : slice_index x (i + (at - from) + m) ≡ slice_index t (at + m)
+        = sym (get_or-drop (i + (at - from)) x m 0) ∙ ap (λ v. slice_index v m) (goes-on x z i from at forward (is (omega (arith, below, forward)))) ∙ get_or-drop at z m 0 ∙ in_run t y end (at + m) (omega (arith, below, inside)) fits in
         others (at + m) (omega arith) below (sym reads ∙ same)
 
 -- one byte more
-reads-next : (front tail w y : List ℕ) (from met at k r : ℕ) → from ≤ at → at < length w → ReadsTo front tail (w ++ y) from met at k → IsNext front k (slice_index w at) r
-    → MeetsAt front tail (w ++ y) from met (at + 1) r
-reads-next front tail w y from met at k r forward inside so_far next x i read is =
-    let z = w ++ y in
+reads-next : (front tail t y : List ℕ) (from met at k r end : ℕ) → from ≤ at → at < end → end ≤ length t → ReadsTo front tail (take end t ++ y) from met at k → IsNext front k (slice_index t at) r
+    → MeetsAt front tail (take end t ++ y) from met (at + 1) r
+reads-next front tail t y from met at k r end forward inside fits so_far next x i read is =
+    let z = take end t ++ y in
     let e = i + (at - from) in
+    let same : drop i x ≡ drop from z = is (omega (arith, forward)) in
     let sum : e + 1 ≡ i + (at + 1 - from) = omega (arith, forward) in
     let start : at + 0 ≡ at = omega arith in
     let place : e + 0 ≡ e = omega arith in
-    let here : slice_index x e ≡ slice_index w at = sym (ap (slice_index x) place) ∙ sym (get_or-drop e x 0 0) ∙ ap (λ v. slice_index v 0) (goes-on x z i from at forward is) ∙ get_or-drop at z 0 0 ∙ ap (slice_index z) start ∙ get_or_append_left w y 0 at inside in
-    subst (λ (n : ℕ). IsMet x front tail n r) sum (met-next x front tail e k r (so_far x i read is) (subst (λ (b : ℕ). IsNext front k b r) (sym here) next))
+    let here : slice_index x e ≡ slice_index t at = sym (ap (slice_index x) place) ∙ sym (get_or-drop e x 0 0) ∙ ap (λ v. slice_index v 0) (goes-on x z i from at forward same) ∙ get_or-drop at z 0 0 ∙ ap (slice_index z) start ∙ in_run t y end at inside fits in
+    subst (λ (n : ℕ). IsMet x front tail n r) sum (met-next x front tail e k r (so_far x i read (λ _. same)) (subst (λ (b : ℕ). IsNext front k b r) (sym here) next))
 
 -- both
-pub reads-on : (front tail w y : List ℕ) (from met at k n r : ℕ) → from ≤ at → at ≤ n → n < length w → (0 < k → n ≡ at) → ((m : ℕ) → at ≤ m → m < n → slice_index w m ≢ slice_index front 0)
-    → ReadsTo front tail (w ++ y) from met at k → IsNext front k (slice_index w n) r → MeetsAt front tail (w ++ y) from met (n + 1) r
-reads-on front tail w y from met at k n r forward past inside here others so_far next =
-    reads-next front tail w y from met n k r (omega (arith, forward, past)) inside (reads-over front tail w y from met at k n forward past (omega (arith, inside)) here others so_far) next
+pub reads-on : (front tail t y : List ℕ) (from met at k n r end : ℕ) → from ≤ at → at ≤ n → n < end → end ≤ length t → (0 < k → n ≡ at) → BeginsNowhere front t at n
+    → ReadsTo front tail (take end t ++ y) from met at k → IsNext front k (slice_index t n) r → MeetsAt front tail (take end t ++ y) from met (n + 1) r
+reads-on front tail t y from met at k n r end forward past inside fits here others so_far next =
+    reads-next front tail t y from met n k r end (omega (arith, forward, past)) inside fits (reads-over front tail t y from met at k n end forward past (omega (arith, inside)) fits here others so_far) next
 
 pub meets-short : (front tail z : List ℕ) (from met at k : ℕ) → MeetsAt front tail z from met at k → k < length front → ReadsTo front tail z from met at k
 meets-short front tail z from met at k meets short x i read is = read-short x front tail (i + (at - from)) k (meets x i read is) short
 
 -- all of the front is met, and the tail follows or doesn't
 
-follows : (w y rest : List ℕ) (at : ℕ) → at ≤ length w → rest ≡ drop at w → drop at (w ++ y) ≡ rest ++ y
-follows w y rest at inside spelled = drop-append-le at w y inside ∙ ap (λ v. v ++ y) (sym spelled)
+pub follows : (t y : List ℕ) (at end : ℕ) → at ≤ end → end ≤ length t → drop at (take end t ++ y) ≡ slice_range t at end ++ y
+follows t y at end inside fits =
+    let sum : at + (end - at) ≡ end = omega (arith, inside) in
+    drop-append-le at (take end t) y (omega (arith, inside, length-take-le end t fits))
+    ∙ ap (λ v. v ++ y) (ap (λ n. drop at (take n t)) (sym sum) ∙ drop-take at (end - at) t)
 
 within : (x z : List ℕ) (i from at : ℕ) → from < at → at ≤ length z → drop i x ≡ drop from z → i + (at - from) ≤ length x
 within x z i from at forward inside is =
@@ -339,30 +348,26 @@ within x z i from at forward inside is =
     let rest : length (drop from z) ≡ length z - from = length-drop from z in
     omega (arith, ap length is, left, rest, forward, inside)
 
-pub meets-all : (front tail w y rest : List ℕ) (from met at k : ℕ) → from < at → at ≤ length w → rest ≡ drop at w → MeetsAt front tail (w ++ y) from met at k → k ≡ length front
-    → IsTrue (starts_with nat_eq (rest ++ y) tail)
-    → (x : List ℕ) (i : ℕ) → IsRead x front tail i met → drop i x ≡ drop from (w ++ y) → IsMatched x front tail (i + (at - from))
-meets-all front tail w y rest from met at k forward inside spelled meets all tail_follows x i read is =
+pub meets-all : (front tail t y : List ℕ) (from met at k end : ℕ) → from < at → at ≤ end → end ≤ length t → MeetsAt front tail (take end t ++ y) from met at k → k ≡ length front
+    → IsTrue (starts_with nat_eq (slice_range t at end ++ y) tail)
+    → (x : List ℕ) (i : ℕ) → IsRead x front tail i met → (from < at → drop i x ≡ drop from (take end t ++ y)) → IsMatched x front tail (i + (at - from))
+meets-all front tail t y from met at k end forward inside fits meets all tail_follows x i read is =
+    let z = take end t ++ y in
     let e = i + (at - from) in
     let less : from ≤ at = omega (arith, forward) in
-    let here : drop e x ≡ rest ++ y = goes-on x (w ++ y) i from at less is ∙ follows w y rest at inside spelled in
-    met-matched x front tail e (subst (IsMet x front tail e) all (meets x i read is)) (within x (w ++ y) i from at forward (omega (arith, inside, length-append w y)) is)
+    let here : drop e x ≡ slice_range t at end ++ y = goes-on x z i from at less (is forward) ∙ follows t y at end inside fits in
+    met-matched x front tail e (subst (IsMet x front tail e) all (meets x i read is)) (within x z i from at forward (omega (arith, inside, length-append (take end t) y, length-take-le end t fits)) (is forward))
     (ap (λ v. starts_with nat_eq v tail) here ∙ tail_follows)
 
-pub meets-apart : (front tail w y rest : List ℕ) (from met at k b : ℕ) → from < at → at ≤ length w → rest ≡ drop at w → MeetsAt front tail (w ++ y) from met at k → k ≡ length front
-    → starts_with nat_eq (rest ++ y) tail ≡ false → IsBorder front (length front) b → ReadsTo front tail (w ++ y) from met at b
-meets-apart front tail w y rest from met at k b forward inside spelled meets all other border x i read is =
+pub meets-apart : (front tail t y : List ℕ) (from met at k b end : ℕ) → from < at → at ≤ end → end ≤ length t → MeetsAt front tail (take end t ++ y) from met at k → k ≡ length front
+    → starts_with nat_eq (slice_range t at end ++ y) tail ≡ false → IsBorder front (length front) b → ReadsTo front tail (take end t ++ y) from met at b
+meets-apart front tail t y from met at k b end forward inside fits meets all other border x i read is =
+    let z = take end t ++ y in
     let e = i + (at - from) in
     let less : from ≤ at = omega (arith, forward) in
-    let here : drop e x ≡ rest ++ y = goes-on x (w ++ y) i from at less is ∙ follows w y rest at inside spelled in
-    met-apart x front tail e b (subst (IsMet x front tail e) all (meets x i read is)) (within x (w ++ y) i from at forward (omega (arith, inside, length-append w y)) is)
+    let here : drop e x ≡ slice_range t at end ++ y = goes-on x z i from at less (is forward) ∙ follows t y at end inside fits in
+    met-apart x front tail e b (subst (IsMet x front tail e) all (meets x i read is)) (within x z i from at forward (omega (arith, inside, length-append (take end t) y, length-take-le end t fits)) (is forward))
     (λ found. true≢false (sym found ∙ ap (λ v. starts_with nat_eq v tail) here ∙ other)) border
-
--- at the end of the run
-pub reads-end : (front tail w y : List ℕ) (from met at k n : ℕ) → from ≤ at → at ≤ n → n ≡ length w → (0 < k → n ≡ at) → ((m : ℕ) → at ≤ m → m < n → slice_index w m ≢ slice_index front 0)
-    → ReadsTo front tail (w ++ y) from met at k → ReadsTo front tail (w ++ y) from met (length w) k
-reads-end front tail w y from met at k n forward past end here others so_far x i read is =
-    subst (λ (m : ℕ). IsRead x front tail (i + (m - from)) k) end (reads-over front tail w y from met at k n forward past (omega (arith, end)) here others so_far x i read is)
 
 -- A text x, read from the position `from` on, for a pattern p that is the front and the tail.
 

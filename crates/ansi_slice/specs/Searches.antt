@@ -1,5 +1,5 @@
 -- A search that reads a text once: with how much of a pattern the bytes read end, and where a match may still begin.
-use Rattle.std.specs.Prelude.{◌≡◌, ℕ, ◌+◌, ◌-◌, ◌<◌, ◌≤◌, List, ◌++◌, length, drop, nat_eq, slice_index, IsTrue}
+use Rattle.std.specs.Prelude.{◌≡◌, ◌≢◌, ℕ, ◌+◌, ◌-◌, ◌<◌, ◌≤◌, List, ◌++◌, length, drop, nat_eq, slice_index, IsTrue, ⊤}
 use Rattle.std.specs.List.{starts_with}
 use Rattle.memchr.specs.Find.{Nowhere}
 use Rattle.ansi_slice.specs.declared.search.pattern.Reading.{Reading}
@@ -46,7 +46,16 @@ pub record IsMatched (x front tail : List ℕ) (i : ℕ) : Type 0 where
   pub found : IsFound x front tail (i - length front)
   pub none : Nowhere (IsFound x front tail) 0 (i - length front)
 
--- after i bytes of x a run of n bytes was read from `from` on
+-- after i bytes of x a run was read, which stands in a text from the offset `from` up to n
 abbrev pub Reads : List ℕ → List ℕ → List ℕ → ℕ → ℕ → ℕ → Reading → Type 0
-Reads x front tail i n from (Match end) = IsMatched x front tail (i + (end - from)) × (end ≤ n)
-Reads x front tail i n from (Open k) = IsRead x front tail (i + (n - from)) k
+Reads x front tail i n from (Match end) = IsMatched x front tail (i + (end - from))
+Reads x front tail i n from (Open reached) = IsRead x front tail (i + (n - from)) reached.met
+
+-- the front's first byte stands nowhere in the text t from the offset m up to n
+abbrev pub BeginsNowhere : List ℕ → List ℕ → ℕ → ℕ → Type 0
+BeginsNowhere front t m n = (j : ℕ) → m ≤ j → j < n → slice_index t j ≢ slice_index front 0
+
+-- the offset at which the reading of that run ends: that of a match in the run, or one up to which no other begins after it
+abbrev pub Stops : List ℕ → List ℕ → ℕ → ℕ → Reading → Type 0
+Stops front t n from (Match end) = (from ≤ end) × (end ≤ n)
+Stops front t n from (Open reached) = BeginsNowhere front t n reached.next

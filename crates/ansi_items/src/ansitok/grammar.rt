@@ -20,14 +20,6 @@ pub(crate) struct Front {
     pub(crate) len: usize,
 }
 
-/// The parameter bytes of a control sequence.
-#[derive(Clone, Copy)]
-struct Parameters {
-    len: usize,
-    /// Whether they are for private use.
-    are_private: bool,
-}
-
 /// A count of looks at the bytes of a text, each byte as often as it is looked at.
 #[derive(Drop)]
 pub(crate) struct Looks {
@@ -35,10 +27,11 @@ pub(crate) struct Looks {
 }
 
 impl Looks {
-    ghost use Rattle.std.specs.Prelude.{◌≡◌, ◌+◌, ◌*◌, ◌^◌, ◌<◌, ◌≤◌, length, drop, slice_index, min, IfSome, IfNone};
+    ghost use Rattle.std.specs.Prelude.{◌≡◌, ◌+◌, ◌*◌, ◌^◌, ◌<◌, ◌≤◌, length, drop, slice_index, min, IfSome, IfNone, if◌then◌else◌};
     ghost use Rattle.std.specs.List.{prefix_len};
     ghost use Rattle.ansi_items.specs.Bytes.{is_parameter_byte, is_intermediate_byte, is_body_byte, is_plain_byte};
     ghost use Rattle.ansi_items.specs.Sequences.{are_private};
+    ghost use Rattle.ansi_items.specs.declared.ansitok.Kind.TheVariants.{Sgr, Other};
     ghost use Rattle.ansi_items.specs.Fronts.{control_at, string_at, escape_at, sequence_at, front_at};
     ghost use Rattle.ansi_items.specs.Counts.{before_escape, CostsSequence, CostsFound, CostsFront};
 
@@ -85,23 +78,32 @@ impl Looks {
 
     /// The control sequence of which the bytes follow ESC `[`.
     #[inline(always)]
-    #[tactic(auto, unfolding(crate::specs::Fronts::control_at))]
+    #[tactic(auto, using(crate::proofs::CountLemmas::parameters_within), unfolding(crate::specs::Fronts::control_at))]
     fn control_sequence(&mut self, bytes: &[u8]) -> Option<Front>
         requires { self.old.count + 2 * length bytes.now + 3 < 2 ^ 128 }
         ensures front { result ≡ control_at bytes.now }
         ensures cost { CostsSequence self.old.count bytes.now 2 3 result self.new.count }
     {
-        let parameters = self.parameters(bytes);
-        let intermediates = self.intermediates_len(&bytes[parameters.len..]);
-        match self.byte(bytes, parameters.len + intermediates)? {
-            b'm' if intermediates == 0 && !parameters.are_private => Some(Front {
-                kind: Kind::Sgr,
-                len: parameters.len + 3,
+        let parameters = self.parameters_len(bytes);
+        match self.byte(bytes, parameters)? {
+            b'm' => Some(Front {
+                kind: self.kind_before_m(bytes),
+                len: parameters + 3,
             }),
             0x40..=0x7E => Some(Front {
                 kind: Kind::Other,
-                len: parameters.len + intermediates + 3,
+                len: parameters + 3,
             }),
+            0x20..=0x2F => {
+                let intermediates = 1 + self.intermediates_len(&bytes[parameters + 1..]);
+                match self.byte(bytes, parameters + intermediates)? {
+                    0x40..=0x7E => Some(Front {
+                        kind: Kind::Other,
+                        len: parameters + intermediates + 3,
+                    }),
+                    _ => None,
+                }
+            }
             _ => None,
         }
     }
@@ -165,24 +167,17 @@ impl Looks {
         Some(byte)
     }
 
-    /// The parameter bytes at the front, of which the first tells whether they are for private use.
+    /// The kind of a control sequence of which the bytes follow ESC `[`: parameter bytes and then `m`. It
+    /// is an SGR where they aren't for private use, as the first of them tells.
     #[inline(always)]
-    fn parameters(&mut self, bytes: &[u8]) -> Parameters
-        requires { self.old.count + length bytes.now + 1 < 2 ^ 128 }
-        ensures len { result.len ≡ prefix_len is_parameter_byte bytes.now }
-        ensures private { result.are_private ≡ are_private bytes.now }
-        ensures bound { result.len ≤ length bytes.now }
-        ensures looks { self.new.count ≡ self.old.count + min (result.len + 1) (length bytes.now) }
+    fn kind_before_m(&mut self, bytes: &[u8]) -> Kind
+        requires { self.old.count + 1 < 2 ^ 128 }
+        ensures kind { result ≡ (if are_private bytes.now then Other else Sgr) }
+        ensures looks { self.new.count ≡ self.old.count + min 1 (length bytes.now) }
     {
         match self.byte(bytes, 0) {
-            Some(first @ 0x30..=0x3F) => Parameters {
-                len: 1 + self.parameters_len(&bytes[1..]),
-                are_private: first >= 0x3C,
-            },
-            _ => Parameters {
-                len: 0,
-                are_private: false,
-            },
+            Some(0x3C..=0x3F) => Kind::Other,
+            _ => Kind::Sgr,
         }
     }
 

@@ -6,7 +6,7 @@ ghost use Rattle.ansi_items.specs.Plain.{plain};
 ghost use Rattle.ansi_slice.specs.Positions.{is_good_range};
 ghost use Rattle.ansi_slice.specs.Parts.{is_match, first_match_from};
 
-use crate::search::pattern::{Pattern, Reading};
+use crate::search::pattern::{Pattern, Reached, Reading};
 use ansi_items::ESC;
 use ansi_items::ansitok::{Kind, Scanner};
 use memchr::{memchr, memmem};
@@ -86,16 +86,19 @@ fn find_across(text: &str, pat: &str, from: usize) -> Option<usize>
 {
     let pattern = Pattern::new(pat);
     let mut place = 0;
-    let mut met = 0;
+    let mut reached = Reached { met: 0, next: 0 };
     for item in Scanner::new(text) {
         if item.kind == Kind::Text {
-            let run = &text[item.start..item.end];
-            let after = &text[item.end..];
-            match pattern.read(run, after, from.saturating_sub(place), met) {
-                Reading::Match(end) => return Some(place + end - pattern.front_len()),
-                Reading::Open(len) => met = len,
+            let len = item.end - item.start;
+            let start = item.start + from.saturating_sub(place).min(len);
+            match pattern.read(text, start, item.end, reached) {
+                Reading::Match(end) => {
+                    let after = place + (end - item.start);
+                    return Some(after - pattern.front_len());
+                }
+                Reading::Open(further) => reached = further,
             }
-            place += run.len();
+            place += len;
         }
     }
     None

@@ -1,9 +1,10 @@
 //! A pattern that is looked for in a plain text whose runs are read once, in order. (Knuth, Morris and
 //! Pratt, Fast Pattern Matching in Strings, 1977.)
-ghost use Rattle.std.specs.Prelude.{◌≡◌, ◌≢◌, ◌++◌, ◌<◌, ◌≤◌, ℕ, List, length, drop, nat_eq, slice_index};
+ghost use Rattle.std.specs.Prelude.{◌≡◌, ◌≢◌, ◌++◌, ◌<◌, ◌≤◌, ℕ, List, length, take, drop, nat_eq, slice_index};
 ghost use Rattle.std.specs.List.{starts_with};
 ghost use Rattle.ansi_items.specs.Plain.{plain};
-ghost use Rattle.ansi_slice.specs.Searches.{AreBorders, IsNext, IsRead, Reads};
+ghost use Rattle.std.specs.Str.{IsCharBoundary};
+ghost use Rattle.ansi_slice.specs.Searches.{AreBorders, BeginsNowhere, IsNext, IsRead, Reads, Stops};
 
 use crate::search::ends::stands_at;
 use memchr::memchr;
@@ -23,12 +24,21 @@ pub(super) struct Pattern<'p> {
     ghost are_borders: { AreBorders front.now borders (length front.now) },
 }
 
+/// How far a search has come in a text.
+#[derive(Clone, Copy)]
+pub(super) struct Reached {
+    /// How many bytes of the front the plain text ends with that was read. They may go on after it.
+    pub(super) met: usize,
+    /// An offset of the text, up to which the front's first byte stands nowhere after what was read.
+    pub(super) next: usize,
+}
+
 /// How a run was read.
 pub(super) enum Reading {
-    /// The front of a match ends in the run, at this offset.
+    /// The front of a match ends in the run, at this offset of the text.
     Match(usize),
-    /// No match ends in the run. It ends with so many bytes of the front, which may go on after it.
-    Open(usize),
+    /// No match ends in the run.
+    Open(Reached),
 }
 
 impl<'p> Pattern<'p> {
@@ -53,49 +63,58 @@ impl<'p> Pattern<'p> {
         self.front.len()
     }
 
-    /// Reads a run from an offset on, where the text that was read before ends with the first `met`
-    /// bytes of the front.
-    pub(super) fn read(&self, run: &str, after: &str, from: usize, met: usize) -> Reading
-        requires { met < length self.now.front.now }
-        ensures { (x : List ℕ) (i : ℕ) → IsRead x self.now.front.now self.now.tail.now i met → drop i x ≡ drop from (run.now ++ plain after.now) → Reads x self.now.front.now self.now.tail.now i (length run.now) from result }
+    /// Reads a run of a text, which ends at `end`, from the offset `from` on, where the search has come
+    /// up to there.
+    pub(super) fn read(&self, text: &str, from: usize, end: usize, reached: Reached) -> Reading
+        requires ordered { from ≤ end }
+        requires boundary { IsCharBoundary text.now end }
+        requires short { reached.met < length self.now.front.now }
+        requires known { BeginsNowhere self.now.front.now text.now from reached.next }
+        ensures read { (x : List ℕ) (i : ℕ) → IsRead x self.now.front.now self.now.tail.now i reached.met → (from < end → drop i x ≡ drop from (take end text.now ++ plain (drop end text.now))) → Reads x self.now.front.now self.now.tail.now i end from result }
+        ensures stops { Stops self.now.front.now text.now end from result }
     {
-        let bytes = run.as_bytes();
+        let bytes = text.as_bytes();
         let first = self.front[0];
-        let mut len = met;
+        let mut met = reached.met;
         let mut at = from;
-        while at < bytes.len() {
-            at = next_start(bytes, at, first, len);
-            if at == bytes.len() {
-                break;
+        while at < end {
+            at = next_start(bytes, at, first, met, reached.next);
+            if at >= end {
+                return Reading::Open(Reached { met, next: at });
             }
-            len = met_with(self.front, &self.borders, len, bytes[at]);
+            met = met_with(self.front, &self.borders, met, bytes[at]);
             at += 1;
-            if len == self.front.len() {
-                if goes_on(&bytes[at..], after, self.tail) {
+            if met == self.front.len() {
+                let after = &text[end..];
+                if goes_on(&bytes[at..end], after, self.tail) {
                     return Reading::Match(at);
                 }
-                len = self.borders[len - 1] as usize;
+                met = self.borders[met - 1] as usize;
             }
         }
-        Reading::Open(len)
+        Reading::Open(Reached { met, next: end })
     }
 }
 
-/// Where the front goes on, or where it may begin: at its first byte, or at the end of the run.
+/// Where the front goes on, or where it may begin: at its first byte, or past the end of all. Up to the
+/// offset `next` that stands nowhere.
 #[inline(always)]
-fn next_start(run: &[u8], at: usize, first: u8, met: usize) -> usize
-    requires { at ≤ length run.now }
+fn next_start(bytes: &[u8], at: usize, first: u8, met: usize, next: usize) -> usize
+    requires within { at ≤ length bytes.now }
+    requires known { (i : ℕ) → at ≤ i → i < next → slice_index bytes.now i ≢ first }
     ensures forward { at ≤ result }
-    ensures within { result ≤ length run.now }
     ensures here { 0 < met → result ≡ at }
-    ensures passed { (i : ℕ) → at ≤ i → i < result → slice_index run.now i ≢ first }
+    ensures passed { (i : ℕ) → at ≤ i → i < result → slice_index bytes.now i ≢ first }
 {
     if met > 0 {
         return at;
     }
-    match memchr(first, &run[at..]) {
+    if at <= next {
+        return next;
+    }
+    match memchr(first, &bytes[at..]) {
         Some(distance) => at + distance,
-        None => run.len(),
+        None => bytes.len(),
     }
 }
 

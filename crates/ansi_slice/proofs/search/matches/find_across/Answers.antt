@@ -1,92 +1,139 @@
-use Rattle.std.proofs.Common.{◌≡◌, ◌++◌, ◌∷◌, ◌+◌, ◌-◌, ◌≤◌, ◌<◌, ℕ, List, [], Some, drop, length, refl, sym, ◌∙◌, ap, subst, arith}
+use Rattle.std.proofs.Common.{rules, ◌≡◌, ◌++◌, ◌∷◌, ◌+◌, ◌-◌, ◌≤◌, ◌<◌, ℕ, List, [], Some, take, drop, length, min, refl, sym, ◌∙◌, ap, subst, arith}
 use Rattle.std.proofs.lemmas.List.{drop_at, drop-drop, length-append, length-drop}
+use Rattle.std.specs.List.{slice_range}
+use Rattle.ansi_items.specs.declared.ansitok.Item.{Item}
+use Rattle.ansi_items.specs.declared.ansitok.Kind.TheVariants.{Text as TextKind}
 use Rattle.ansi_items.specs.Pieces.{Text}
 use Rattle.ansi_items.specs.Plain.{plain, plain_of}
-use Rattle.ansi_items.specs.Scans.{pieces_left}
-use Rattle.ansi_slice.specs.Searches.{IsRead, IsMatched}
-use Rattle.ansi_items.proofs.StepLemmas.{is_text, gives_text, gives_rest}
-use Rattle.ansi_slice.proofs.BorderLemmas.{read-none, matched-first}
+use Rattle.ansi_items.specs.Scans.{Scan, Gives, pieces_left}
+use Rattle.ansi_slice.specs.Searches.{IsRead, IsMatched, BeginsNowhere}
+use Rattle.ansi_items.proofs.StepLemmas.{BeginsWithMark, is_text, gives_text, gives_mark, gives_rest, plain_of-mark}
+use Rattle.ansi_slice.proofs.SliceLemmas.{length-slice_range}
+use Rattle.ansi_slice.proofs.BorderLemmas.{follows, read-none, matched-first}
 use Rattle.ansi_slice.proofs.search.matches.find_across.Goals as goal
 
--- what is left of the text from a position on is what is left of the run and what follows it
-from_here : (x z : List ℕ) (from place d : ℕ) → drop place x ≡ z → d ≡ from - place → drop (place - from) (drop from x) ≡ drop d z
-from_here x z from place d is distance =
-    let same : from + (place - from) ≡ place + d = omega (arith, distance) in
-    drop-drop (place - from) from x ∙ ap (λ n. drop n x) same ∙ sym (drop-drop d place x) ∙ ap (drop d) is
+-- what is left of the plain text x is the run, and what follows it
+run_is : {old new : Scan} {item : Item} {t : List ℕ} (x : List ℕ) (place : ℕ) → Gives old item new → old.text ≡ t → item.kind ≡ TextKind → plain_of (pieces_left old) ≡ drop place x
+    → drop place x ≡ slice_range t item.start item.end ++ plain (drop item.end t)
+run_is {old} {new} {item} {t} x place gives same kind left =
+    let w = slice_range t item.start item.end in
+    let run : pieces_left old ≡ Text w ∷ pieces_left new = gives_text gives same refl kind in
+    let rest : plain (drop item.end t) ≡ plain_of (pieces_left new) = ap plain_of (gives_rest gives same refl) in
+    sym left ∙ ap plain_of run ∙ ap (λ v. w ++ v) (sym rest)
+
+-- and from a position on, what is left of the run
+from_here : (x t y : List ℕ) (from place d start end : ℕ) → drop place x ≡ slice_range t start end ++ y → d ≡ min (from - place) (end - start) → start < end → end ≤ length t
+    → start + d < end → drop (place - from) (drop from x) ≡ drop (start + d) (take end t ++ y)
+from_here x t y from place d start end is distance forward fits some =
+    let z = take end t ++ y in
+    let same : from + (place - from) ≡ place + d = omega (arith, distance, some) in
+    drop-drop (place - from) from x ∙ ap (λ n. drop n x) same ∙ sym (drop-drop d place x)
+    ∙ ap (drop d) (is ∙ sym (follows t y start end (omega (arith, forward)) fits)) ∙ drop-drop d start z
+
+pub read-requires-clause-known : goal.read-requires-clause-known
+read-requires-clause-known c j low high is =
+    c.loop-item.invariant.known j (omega (arith, low, c.in-Some.ensures.steps.start)) high is
 
 -- a match ends in the run
-pub overflow_add-result : goal.overflow_add-result
-overflow_add-result c =
-    let x = plain c.args.text.now in
+pub overflow_sub-after : goal.overflow_sub-after
+overflow_sub-after c = omega (arith, c.in-Match.ensures.stops.0)
+
+pub overflow_add-after : goal.overflow_add-after
+overflow_add-after c =
     let steps = c.in-Some.ensures.steps in
-    let w = c.range-run.result.now in
-    let y = plain c.range_from-after.result.now in
-    let left : pieces_left c.loop-item.item-iterator ≡ Text w ∷ pieces_left c.next.new.self = gives_text steps c.loop-item.invariant.text c.range-run.ensures.value (is_text c.if-eq.ensures) in
-    let after : y ≡ plain_of (pieces_left c.next.new.self) = ap plain_of (gives_rest steps c.loop-item.invariant.text c.range_from-after.ensures.value) in
-    let is : drop c.loop-item.place x ≡ w ++ y = sym c.loop-item.invariant.left ∙ ap plain_of left ∙ ap (λ v. w ++ v) (sym after) in
-    let matched = c.in-Match.ensures (drop c.args.from x) (c.loop-item.place - c.args.from) c.loop-item.invariant.read (from_here x (w ++ y) c.args.from c.loop-item.place c.saturating_sub.result is c.saturating_sub.ensures) in
-    let inside : c.in-Match.end ≤ length w = matched.1 in
-    omega (arith, inside, c.loop-item.invariant.bounded, steps.start, c.range-run.ensures.len, steps.end_boundary.0, ap length c.loop-item.invariant.text, c.well_formed.0.0)
+    omega (arith, c.in-Match.ensures.stops.1, c.loop-item.invariant.bounded, steps.start, steps.end_boundary.0, ap length c.loop-item.invariant.text, c.well_formed.0.0)
 
 pub overflow_sub-result : goal.overflow_sub-result
 overflow_sub-result c =
     let x = plain c.args.text.now in
+    let t = c.args.text.now in
+    let front = c.new-pattern.result.front.now in
+    let tail = c.new-pattern.result.tail.now in
     let steps = c.in-Some.ensures.steps in
-    let w = c.range-run.result.now in
-    let y = plain c.range_from-after.result.now in
-    let left : pieces_left c.loop-item.item-iterator ≡ Text w ∷ pieces_left c.next.new.self = gives_text steps c.loop-item.invariant.text c.range-run.ensures.value (is_text c.if-eq.ensures) in
-    let after : y ≡ plain_of (pieces_left c.next.new.self) = ap plain_of (gives_rest steps c.loop-item.invariant.text c.range_from-after.ensures.value) in
-    let is : drop c.loop-item.place x ≡ w ++ y = sym c.loop-item.invariant.left ∙ ap plain_of left ∙ ap (λ v. w ++ v) (sym after) in
-    let matched = c.in-Match.ensures (drop c.args.from x) (c.loop-item.place - c.args.from) c.loop-item.invariant.read (from_here x (w ++ y) c.args.from c.loop-item.place c.saturating_sub.result is c.saturating_sub.ensures) in
-    omega (arith, matched.0.fits, c.front_len.ensures)
+    let so_far = c.loop-item.invariant in
+    let item = c.in-Some.item in
+    let place = c.loop-item.place in
+    let y = plain (drop item.end t) in
+    let is : drop place x ≡ slice_range t item.start item.end ++ y = run_is x place steps so_far.text (is_text c.if-eq.ensures) so_far.left in
+    let fits : item.end ≤ length t = omega (arith, steps.end_boundary.0, ap length so_far.text) in
+    let skipped : c.min.result ≡ min (c.args.from - place) (item.end - item.start) = omega (arith, c.min.ensures, c.saturating_sub.ensures) in
+    let from = item.start + c.min.result in
+    let here : from < item.end → drop (place - c.args.from) (drop c.args.from x) ≡ drop from (take item.end t ++ y) = from_here x t y c.args.from place c.min.result item.start item.end is skipped steps.forward fits in
+    let stops = c.in-Match.ensures.stops in
+    let met : IsMatched (drop c.args.from x) front tail (place - c.args.from + (c.in-Match.end - from)) = c.in-Match.ensures.read (drop c.args.from x) (place - c.args.from) so_far.read here in
+    omega (arith, met.fits, stops.0, skipped, c.front_len.ensures)
 
 pub returns-in-Match : goal.returns-in-Match
 returns-in-Match c =
     let x = plain c.args.text.now in
-    let p = c.args.pat.now in
+    let t = c.args.text.now in
     let front = c.new-pattern.result.front.now in
     let tail = c.new-pattern.result.tail.now in
     let steps = c.in-Some.ensures.steps in
+    let so_far = c.loop-item.invariant in
+    let item = c.in-Some.item in
     let place = c.loop-item.place in
-    let d = c.saturating_sub.result in
-    let w = c.range-run.result.now in
-    let y = plain c.range_from-after.result.now in
-    let left : pieces_left c.loop-item.item-iterator ≡ Text w ∷ pieces_left c.next.new.self = gives_text steps c.loop-item.invariant.text c.range-run.ensures.value (is_text c.if-eq.ensures) in
-    let after : y ≡ plain_of (pieces_left c.next.new.self) = ap plain_of (gives_rest steps c.loop-item.invariant.text c.range_from-after.ensures.value) in
-    let is : drop place x ≡ w ++ y = sym c.loop-item.invariant.left ∙ ap plain_of left ∙ ap (λ v. w ++ v) (sym after) in
-    let e = place - c.args.from + (c.in-Match.end - d) in
-    let matched = c.in-Match.ensures (drop c.args.from x) (place - c.args.from) c.loop-item.invariant.read (from_here x (w ++ y) c.args.from place d is c.saturating_sub.ensures) in
-    let met : IsMatched (drop c.args.from x) front tail e = matched.0 in
+    let y = plain (drop item.end t) in
+    let is : drop place x ≡ slice_range t item.start item.end ++ y = run_is x place steps so_far.text (is_text c.if-eq.ensures) so_far.left in
+    let fits : item.end ≤ length t = omega (arith, steps.end_boundary.0, ap length so_far.text) in
+    let skipped : c.min.result ≡ min (c.args.from - place) (item.end - item.start) = omega (arith, c.min.ensures, c.saturating_sub.ensures) in
+    let from = item.start + c.min.result in
+    let here : from < item.end → drop (place - c.args.from) (drop c.args.from x) ≡ drop from (take item.end t ++ y) = from_here x t y c.args.from place c.min.result item.start item.end is skipped steps.forward fits in
+    let stops = c.in-Match.ensures.stops in
+    let met : IsMatched (drop c.args.from x) front tail (place - c.args.from + (c.in-Match.end - from)) = c.in-Match.ensures.read (drop c.args.from x) (place - c.args.from) so_far.read here in
+    let e = place - c.args.from + (c.in-Match.end - from) in
     let some : 0 < length front = c.new-pattern.ensures.some in
-    let same : place + c.in-Match.end - c.front_len.result ≡ c.args.from + (e - length front) = omega (arith, c.front_len.ensures, c.saturating_sub.ensures, met.fits, some) in
-    ap (λ n. Some n) same ∙ matched-first x p front tail c.args.from e c.utf8.pat c.new-pattern.ensures.bytes some met
+    let same : place + (c.in-Match.end - item.start) - c.front_len.result ≡ c.args.from + (e - length front) = omega (arith, c.front_len.ensures, skipped, met.fits, stops.0, stops.1, steps.forward, some) in
+    ap (λ n. Some n) same ∙ matched-first x c.args.pat.now front tail c.args.from e c.utf8.pat c.new-pattern.ensures.bytes some met
 
 -- no match ends in it
 pub loop-item-preserved-then-eq : goal.loop-item-preserved-then-eq
 loop-item-preserved-then-eq c =
     let x = plain c.args.text.now in
+    let t = c.args.text.now in
     let front = c.new-pattern.result.front.now in
     let tail = c.new-pattern.result.tail.now in
     let steps = c.in-Some.ensures.steps in
+    let so_far = c.loop-item.invariant in
+    let item = c.in-Some.item in
     let place = c.loop-item.place in
-    let d = c.saturating_sub.result in
-    let w = c.range-run.result.now in
-    let y = plain c.range_from-after.result.now in
-    let left : pieces_left c.loop-item.item-iterator ≡ Text w ∷ pieces_left c.next.new.self = gives_text steps c.loop-item.invariant.text c.range-run.ensures.value (is_text c.if-eq.ensures) in
-    let after : y ≡ plain_of (pieces_left c.next.new.self) = ap plain_of (gives_rest steps c.loop-item.invariant.text c.range_from-after.ensures.value) in
-    let is : drop place x ≡ w ++ y = sym c.loop-item.invariant.left ∙ ap plain_of left ∙ ap (λ v. w ++ v) (sym after) in
-    let size : length x - place ≡ length (w ++ y) = sym (length-drop place x) ∙ ap length is in
-    let all : length (w ++ y) ≡ length w + length y = length-append w y in
-    let within : place ≤ length x = c.loop-item.invariant.within in
-    let read : IsRead (drop c.args.from x) front tail (place - c.args.from + (length w - d)) c.in-Open.len
-    = c.in-Open.ensures (drop c.args.from x) (place - c.args.from) c.loop-item.invariant.read (from_here x (w ++ y) c.args.from place d is c.saturating_sub.ensures) in
-    let sum : place - c.args.from + (length w - d) ≡ place + length w - c.args.from = omega (arith, c.saturating_sub.ensures) in
+    let y = plain (drop item.end t) in
+    let is : drop place x ≡ slice_range t item.start item.end ++ y = run_is x place steps so_far.text (is_text c.if-eq.ensures) so_far.left in
+    let fits : item.end ≤ length t = omega (arith, steps.end_boundary.0, ap length so_far.text) in
+    let skipped : c.min.result ≡ min (c.args.from - place) (item.end - item.start) = omega (arith, c.min.ensures, c.saturating_sub.ensures) in
+    let from = item.start + c.min.result in
+    let here : from < item.end → drop (place - c.args.from) (drop c.args.from x) ≡ drop from (take item.end t ++ y) = from_here x t y c.args.from place c.min.result item.start item.end is skipped steps.forward fits in
+    let w = slice_range t item.start item.end in
+    let len = item.end - item.start in
+    let after : y ≡ plain_of (pieces_left c.next.new.self) = ap plain_of (gives_rest steps so_far.text refl) in
+    let size : length w ≡ len = length-slice_range t item.start item.end (omega (arith, steps.forward)) fits in
+    let rest : length x - place ≡ length (w ++ y) = sym (length-drop place x) ∙ ap length is in
+    let read : IsRead (drop c.args.from x) front tail (place - c.args.from + (item.end - from)) c.in-Open.further.met
+    = c.in-Open.ensures.read (drop c.args.from x) (place - c.args.from) so_far.read here in
+    let sum : place - c.args.from + (item.end - from) ≡ place + len - c.args.from = omega (arith, skipped, steps.forward) in
     record {
-      text = steps.text ∙ c.loop-item.invariant.text;
-      left = sym after ∙ sym (drop_at w y (length w) refl) ∙ ap (drop (length w)) (sym is) ∙ drop-drop (length w) place x;
-      within = omega (arith, size, all, within);
-      bounded = omega (arith, c.loop-item.invariant.bounded, steps.start, steps.end, c.range-run.ensures.len);
-      read = subst (λ (n : ℕ). IsRead (drop c.args.from x) front tail n c.in-Open.len) sum read;
+      text = steps.text ∙ so_far.text;
+      left = sym after ∙ sym (drop_at w y len size) ∙ ap (drop len) (sym is) ∙ drop-drop len place x;
+      within = omega (arith, rest, length-append w y, size, so_far.within);
+      bounded = omega (arith, so_far.bounded, steps.start, steps.end, steps.forward);
+      read = subst (λ (n : ℕ). IsRead (drop c.args.from x) front tail n c.in-Open.further.met) sum read;
+      known = subst (λ (n : ℕ). BeginsNowhere front t n c.in-Open.further.next) steps.end c.in-Open.ensures.stops;
+    }
+
+-- over a sequence
+pub loop-item-preserved : goal.loop-item-preserved
+loop-item-preserved c =
+    let steps = c.in-Some.ensures.steps in
+    let item = c.in-Some.item in
+    let so_far = c.loop-item.invariant in
+    let mark : BeginsWithMark item.kind (slice_range c.args.text.now item.start item.end) (pieces_left c.loop-item.item-iterator) (pieces_left c.next.new.self) = gives_mark steps so_far.text refl (search rules) in
+    record {
+      text = steps.text ∙ so_far.text;
+      left = sym (ap plain_of mark.pieces ∙ plain_of-mark mark.mark (pieces_left c.next.new.self) mark.is_mark) ∙ so_far.left;
+      within = so_far.within;
+      bounded = omega (arith, so_far.bounded, steps.start, steps.end, steps.forward);
+      read = so_far.read;
+      known = λ j low high. so_far.known j (omega (arith, low, steps.start, steps.end, steps.forward)) high;
     }
 
 pub returns : goal.returns
@@ -97,5 +144,5 @@ returns c =
     let tail = c.new-pattern.result.tail.now in
     let rest : drop place x ≡ [] = sym c.loop-item.invariant.left ∙ ap plain_of c.in-None.ensures.steps.2 in
     let end : place ≡ length x = omega (arith, ap length rest, length-drop place x, c.loop-item.invariant.within) in
-    read-none x c.args.pat.now front tail c.args.from c.loop-item.met c.utf8.pat c.new-pattern.ensures.bytes
-    (subst (λ (n : ℕ). IsRead (drop c.args.from x) front tail (n - c.args.from) c.loop-item.met) end c.loop-item.invariant.read)
+    read-none x c.args.pat.now front tail c.args.from c.loop-item.reached.met c.utf8.pat c.new-pattern.ensures.bytes
+    (subst (λ (n : ℕ). IsRead (drop c.args.from x) front tail (n - c.args.from) c.loop-item.reached.met) end c.loop-item.invariant.read)

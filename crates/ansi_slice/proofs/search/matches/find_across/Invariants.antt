@@ -1,7 +1,7 @@
 use Rattle.std.proofs.Common.{◌≡◌, ◌-◌, ◌≤◌, length, drop}
 use Rattle.ansi_items.specs.Plain.{plain, plain_of}
 use Rattle.ansi_items.specs.Scans.{pieces_left}
-use Rattle.ansi_slice.specs.Searches.{IsRead}
+use Rattle.ansi_slice.specs.Searches.{IsRead, BeginsNowhere}
 use Rattle.ansi_slice.proofs.search.matches.find_across.Given as goal
 
 -- what is left is the plain text from the place on, and up to there it is read
@@ -11,5 +11,6 @@ invariant-loop-item l = record {
   left : plain_of (pieces_left l.item-iterator) ≡ drop l.place (plain l.text);
   within : l.place ≤ length (plain l.text);
   bounded : l.place ≤ l.item-iterator.offset;
-  read : IsRead (drop l.from (plain l.text)) l.pattern.front.now l.pattern.tail.now (l.place - l.from) l.met;
+  read : IsRead (drop l.from (plain l.text)) l.pattern.front.now l.pattern.tail.now (l.place - l.from) l.reached.met;
+  known : BeginsNowhere l.pattern.front.now l.text l.item-iterator.offset l.reached.next;
 }

@@ -1,4 +1,4 @@
-use Rattle.std.proofs.Common.{◌-◌, ◌<◌, ◌≤◌, ◌++◌, length, max}
+use Rattle.std.proofs.Common.{◌-◌, ◌<◌, ◌≤◌, ◌++◌, length, take, drop}
 use Rattle.ansi_items.specs.Plain.{plain}
 use Rattle.ansi_slice.proofs.BorderLemmas.{ReadsTo}
 use Rattle.ansi_slice.proofs.search.pattern.Pattern.read.Given as goal
@@ -7,10 +7,10 @@ use Rattle.ansi_slice.proofs.search.pattern.Pattern.read.Given as goal
 abbrev pub invariant-loop-at : goal.invariant-loop-at
 invariant-loop-at l = record {
   forward : l.from ≤ l.at;
-  within : l.at ≤ max l.from (length l.bytes);
-  short : l.len < length l.self.front.now;
-  read : ReadsTo l.self.front.now l.self.tail.now (l.bytes ++ plain l.after) l.from l.met l.at l.len;
+  within : l.at ≤ l.end;
+  short : l.met < length l.self.front.now;
+  read : ReadsTo l.self.front.now l.self.tail.now (take l.end l.bytes ++ plain (drop l.end l.text)) l.from l.reached.met l.at l.met;
 }
 
 abbrev pub decreases-loop-at : goal.decreases-loop-at
-decreases-loop-at l = length l.bytes - l.at
+decreases-loop-at l = l.end - l.at
