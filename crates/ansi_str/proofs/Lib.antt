@@ -17,6 +17,7 @@ pub mod ChangeLemmas
 pub mod EditLemmas
 pub mod BareLemmas
 pub mod SplitLemmas
+pub mod MatchWalkLemmas
 pub mod PartLengthLemmas
 pub mod EditWalkLemmas
 mod EditExamples

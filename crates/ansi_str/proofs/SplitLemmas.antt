@@ -159,7 +159,7 @@ no_escape_after t (Text w ∷ ps) are none =
 no_escape_after t (Sequence w ∷ ps) are none = (let mark = sym (marks_of-sequence w ps) ∙ none in absurd (cc mark))
 no_escape_after t (LoneEscape ∷ ps) are none = (let mark = sym (marks_of-lone ps) ∙ none in absurd (cc mark))
 
-escape_is_marked : (t : List ℕ) → has_escape t ≡ true → (length (marks t) == 0) ≡ false
+pub escape_is_marked : (t : List ℕ) → has_escape t ≡ true → (length (marks t) == 0) ≡ false
 escape_is_marked t some = by_marks (marks t) (λ none. no_escape_after t (pieces_of t) (pieces_are t) none)
   where
     by_marks : (ms : List Mark) → (ms ≡ [] → has_escape t ≡ false) → (length ms == 0) ≡ false

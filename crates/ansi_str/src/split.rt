@@ -5,7 +5,6 @@ ghost use Rattle.std.specs.Cow.{cow_str_bytes, IsBorrowedStr};
 ghost use Rattle.ansi_items.specs.Plain.{plain, has_escape};
 ghost use Rattle.ansi_slice.specs.Parts.{parts, part, all_parts, share, is_part_borrowed};
 
-mod after;
 mod rest;
 mod spans;
 

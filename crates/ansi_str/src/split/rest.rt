@@ -1,17 +1,34 @@
 //! What is left of a text that is split.
-ghost use Rattle.std.specs.Prelude.{◌≡◌, ◌≤◌, take, drop, None, IfSome, IsFalse};
+ghost use Rattle.std.specs.Prelude.{◌≡◌, ℕ, List, ◌++◌, ◌<◌, ◌≤◌, ◌+◌, length, take, drop, None, Some, IsFalse, IsTrue};
 ghost use Rattle.std.specs.Option.{MatchOption};
 ghost use Rattle.std.specs.Str.{IsCharBoundary};
 ghost use Rattle.ansi_items.specs.Plain.{plain, has_escape};
-ghost use Rattle.ansi_slice.specs.Parts.{first_match_from};
+ghost use Rattle.ansi_slice.specs.Parts.{is_match, first_match_from};
+ghost use Rattle.ansi_style.specs.Reading.{style_after_from};
+ghost use Rattle.ansi_style.specs.States.{rendition_of};
 ghost use Rattle.ansi_str.specs.Spans.{IsCutAtMatch};
 
 use crate::ansitok::{Kind, Scanner};
-use crate::split::after::split_at_match;
 use ansi_slice::search;
+use ansi_style::state::Style;
+use ansi_style::styles;
+use memchr::memchr;
 
-/// What is left of a text, and how long the run of plain text at its front is. So where a run has many
-/// matches, its end isn't looked for at each of them.
+/// A text in two at the first match of a pattern.
+#[derive(Drop)]
+pub(super) struct Cut<'t> {
+    /// What stands before the match, with every sequence up to there; without a match, all of the text.
+    pub(super) front: &'t str,
+    /// Whether an ESC stands in the front.
+    pub(super) is_marked: bool,
+    /// The style after the front.
+    pub(super) style: Style,
+    /// The match and all that follows.
+    pub(super) rest: Option<Rest<'t>>,
+}
+
+/// What is left of a text, and how many bytes at its front are known to be plain. So where a run has
+/// many matches, its end isn't looked for at each of them.
 #[derive(Drop)]
 pub(super) struct Rest<'t> {
     text: &'t str,
@@ -21,59 +38,123 @@ pub(super) struct Rest<'t> {
 }
 
 impl<'t> Rest<'t> {
-    /// All of the text.
+    /// All of the text, of which nothing is known.
     pub(super) fn new(text: &'t str) -> Self
         ensures { result.text.now ≡ text.entry.now }
     {
-        Rest {
-            text,
-            run: run_len(text),
-        }
+        Rest { text, run: 0 }
     }
 
-    /// The text that is left.
-    pub(super) fn text(&self) -> &'t str
-        ensures { result.now ≡ self.now.text.now }
+    /// The text in two at the first match that doesn't begin before `from`, read on from a style.
+    pub(super) fn cut_at_match(&self, pat: &str, from: usize, style: Style) -> Cut<'t>
+        ensures rest { MatchOption result.rest ((first_match_from (plain self.now.text.now) pat.now from ≡ None) × (result.front.now ≡ self.now.text.now))
+            (λ rest. IsCutAtMatch self.now.text.now pat.now from result.front.now rest.text.now) }
+        ensures marked { result.is_marked ≡ has_escape result.front.now }
+        ensures style { rendition_of result.style ≡ style_after_from (rendition_of style) result.front.now }
     {
-        self.text
-    }
-
-    /// What stands before the first match that doesn't begin before `from`, with every sequence up to
-    /// there, and what is left then: the match and all that follows. `None` where there is no
-    /// such match.
-    pub(super) fn split_at_match(&self, pat: &str, from: usize) -> Option<(&'t str, Rest<'t>)>
-        ensures { MatchOption result (first_match_from (plain self.now.text.now) pat.now from ≡ None) (λ halves. IsCutAtMatch self.now.text.now pat.now from halves.0.now halves.1.text.now) }
-    {
-        if let Some(place) = match_in_run(self.text, self.run, pat, from) {
-            let (front, text) = self.text.split_at(place);
-            let run = self.run - place;
-            return Some((front, Rest { text, run }));
+        let start = next_start(self.text, self.run, pat, from);
+        if start < self.run {
+            let (front, text) = self.text.split_at(start);
+            let run = self.run - start;
+            return Cut {
+                front,
+                is_marked: false,
+                style,
+                rest: Some(Rest { text, run }),
+            };
         }
-        let (front, text) = split_at_match(self.text, pat, from)?;
-        Some((front, Rest::new(text)))
+        cut_from(self.text, pat, from, start, style)
     }
 }
 
-/// The length of the run of plain text at the front of a text.
-fn run_len(text: &str) -> usize
-    ensures ends { IsCharBoundary text.now result }
-    ensures plain { IsFalse (has_escape (take result text.now)) }
+/// The same, by a walk over the items, where no match begins before `ahead`.
+fn cut_from<'t>(
+    text: &'t str,
+    pat: &str,
+    from: usize,
+    mut ahead: usize,
+    mut style: Style,
+) -> Cut<'t>
+    requires { first_match_from (plain text.now) pat.now ahead ≡ first_match_from (plain text.now) pat.now from }
+    ensures rest { MatchOption result.rest ((first_match_from (plain text.now) pat.now from ≡ None) × (result.front.now ≡ text.now))
+        (λ rest. IsCutAtMatch text.now pat.now from result.front.now rest.text.now) }
+    ensures marked { result.is_marked ≡ has_escape result.front.now }
+    ensures style { rendition_of result.style ≡ style_after_from (rendition_of style) result.front.now }
 {
-    match Scanner::new(text).next() {
-        Some(item) if item.kind == Kind::Text => item.end,
-        _ => 0,
+    let mut is_marked = false;
+    // `ahead` counts plain bytes of what is left.
+    for item in Scanner::new(text) {
+        let piece = &text[item.start..item.end];
+        match item.kind {
+            Kind::Text => {
+                ahead = next_start(&text[item.start..], piece.len(), pat, ahead);
+                if ahead < piece.len() {
+                    let offset = item.start + ahead;
+                    let (front, rest) = text.split_at(offset);
+                    let run = item.end - offset;
+                    return Cut {
+                        front,
+                        is_marked,
+                        style,
+                        rest: Some(Rest { text: rest, run }),
+                    };
+                }
+                ahead -= piece.len();
+            }
+            Kind::Sgr => {
+                styles::apply(&mut style, piece);
+                is_marked = true;
+            }
+            Kind::Other | Kind::Lone => is_marked = true,
+        }
+    }
+    // At the end stands the empty pattern alone.
+    let rest = if pat.is_empty() && ahead == 0 {
+        Some(Rest::new(""))
+    } else {
+        None
+    };
+    Cut {
+        front: text,
+        is_marked,
+        style,
+        rest,
     }
 }
 
-/// The first match that doesn't begin before `from`, where it begins in the run of plain text at the
-/// front of a text, and ends in it. What is read of the run ends with the match.
-fn match_in_run(text: &str, run: usize, pat: &str, from: usize) -> Option<usize>
+/// From where on the first match is still to be looked for that doesn't begin before `from`, once the run
+/// at the front of a text was searched. Where that is in the run, the match begins there.
+fn next_start(text: &str, run: usize, pat: &str, from: usize) -> usize
     requires ends { IsCharBoundary text.now run }
     requires plain { IsFalse (has_escape (take run text.now)) }
-    ensures inside { IfSome result (λ place. place ≤ run) }
-    ensures boundary { IfSome result (λ place. IsCharBoundary text.now place) }
-    ensures cut { IfSome result (λ place. IsCutAtMatch text.now pat.now from (take place text.now) (drop place text.now)) }
+    ensures same { first_match_from (plain text.now) pat.now result ≡ first_match_from (plain text.now) pat.now from }
+    ensures here { result < run → first_match_from (plain text.now) pat.now from ≡ Some result }
+    ensures boundary { result < run → IsCharBoundary text.now result }
+    ensures cut { result < run → IsCutAtMatch text.now pat.now from (take result text.now) (drop result text.now) }
 {
-    let (run, _) = text.split_at(run);
-    search::first_in_run(run, pat, from)
+    if run <= from {
+        return from;
+    }
+    let (front, _) = text.split_at(run);
+    if let Some(start) = search::first_in_run(front, pat, from) {
+        return start;
+    }
+    if may_go_on(front, pat) {
+        // No position of a text lies past this one, so it stands for no match.
+        return search::find_from(text, pat, from).unwrap_or(usize::MAX);
+    }
+    run
+}
+
+/// Whether a match may begin in a run and go on after it: whether the pattern's first byte is one of the
+/// run's last bytes, where too few follow for a match.
+fn may_go_on(run: &str, pat: &str) -> bool
+    ensures { IsFalse result → (y : List ℕ) (i : ℕ) → i < length run.now → IsTrue (is_match (run.now ++ y) pat.now i) → i + length pat.now ≤ length run.now }
+{
+    let Some(first) = pat.as_bytes().first() else {
+        return false;
+    };
+    let bytes = run.as_bytes();
+    let start = (bytes.len() + 1).saturating_sub(pat.len());
+    memchr(*first, &bytes[start..]).is_some()
 }

@@ -1,13 +1,13 @@
 //! The stretches of a text that its parts are written from.
-ghost use Rattle.std.specs.Prelude.{◌≡◌, ◌↔◌, ◌≤◌, ◌+◌, length, IsTrue, IsOk, IfOk, string_bytes};
+ghost use Rattle.std.specs.Prelude.{◌≡◌, ◌↔◌, ◌≤◌, ◌+◌, ◌++◌, length, IsTrue, IsOk, IfOk, OnOk, string_bytes};
 ghost use Rattle.std.specs.Cow.{cow_str_bytes, IsBorrowedStr};
-ghost use Rattle.ansi_items.specs.Plain.{plain};
+ghost use Rattle.ansi_items.specs.Plain.{plain, marks, has_escape};
+ghost use Rattle.ansi_slice.specs.Cut.{show};
 ghost use Rattle.ansi_slice.specs.Positions.{is_char_boundary};
 ghost use Rattle.ansi_style.specs.Reading.{style_after_from};
 ghost use Rattle.ansi_style.specs.States.{rendition_of};
 
 use crate::ansitok::{Kind, Scanner};
-use crate::slice::has_any;
 use crate::split::rest::Rest;
 use ansi_style::state::Style;
 use ansi_style::styles;
@@ -15,16 +15,26 @@ use std::alloc::{AllocError, Allocator};
 use std::borrow::CowStr;
 use std::marker::Model;
 
+/// How many bytes most starts have, and most closes.
+const START_ROOM: usize = 24;
+const CLOSE_ROOM: usize = 16;
+
 /// What one part is written from.
 #[derive(Drop)]
 pub(super) struct Span<'t> {
     /// The text from the match before up to after the last sequence at the end of the part.
     text: &'t str,
+    /// Whether an ESC stands in it.
+    is_marked: bool,
     /// How many plain bytes of it are in no part: those of the match before.
     skip: usize,
     /// The style that the parts before leave open.
     carried: Style,
+    /// The style after the text.
+    after: Style,
+    ghost marked: { is_marked ≡ has_escape text.now },
     ghost skip_is_boundary: { IsTrue (is_char_boundary (plain text.now) skip) },
+    ghost is_after: { rendition_of after ≡ style_after_from (rendition_of carried) text.now },
 }
 
 impl<'t> Span<'t> {
@@ -52,7 +62,7 @@ impl<'t> Span<'t> {
         ensures { MatchOption result (IsWritten (rendition_of self.now.carried) self.now.text.now self.now.skip)
             (λ bare. IsBare (rendition_of self.now.carried) self.now.text.now self.now.skip bare.now) }
     {
-        if has_any(self.text) {
+        if self.is_marked {
             return None;
         }
         let bare = &self.text[self.skip..];
@@ -67,28 +77,47 @@ impl<'t> Span<'t> {
     fn written<A: Allocator>(&self, alloc: A) -> Result<String<A>, AllocError>
         ensures { IfOk result (λ s. string_bytes s ≡ span_text (rendition_of self.now.carried) self.now.text.now self.now.skip) }
     {
-        // At least so many bytes are written: the text but for what is left out.
-        let len = self.text.len().saturating_sub(self.skip);
-        let mut part = String::with_capacity(alloc, len)?;
-        let mut style = self.carried;
+        let mut part = String::with_capacity(alloc, self.room())?;
+        styles::write_start(&self.carried, &mut part)?;
+        self.write_text(&mut part)?;
+        if styles::has_any(&self.after) {
+            styles::write_close(&self.after, &mut part)?;
+        }
+        Ok(part)
+    }
+
+    /// How much memory the part takes, where its start and its close have the usual lengths.
+    fn room(&self) -> usize {
+        let mut room = self.text.len().saturating_sub(self.skip);
+        if styles::has_any(&self.carried) {
+            room = room.saturating_add(START_ROOM);
+        }
+        if styles::has_any(&self.after) {
+            room = room.saturating_add(CLOSE_ROOM);
+        }
+        room
+    }
+
+    /// Appends the text with its sequences, but for the plain bytes that are left out. An `Err` means that
+    /// memory is wanting; what was appended up to there stands.
+    fn write_text<A: Allocator>(&self, part: &mut String<A>) -> Result<(), AllocError>
+        ensures { OnOk result (string_bytes part.new ≡ string_bytes part.old ++ show (plain self.now.text.now) self.now.skip (length (plain self.now.text.now)) (marks self.now.text.now)) }
+    {
         let mut skip = self.skip;
-        styles::write_start(&style, &mut part)?;
         for item in Scanner::new(self.text) {
             let piece = &self.text[item.start..item.end];
             if item.kind == Kind::Text {
-                part.push_str(&piece[skip.min(piece.len())..])?;
-                skip = skip.saturating_sub(piece.len());
+                if skip <= piece.len() {
+                    // What follows is written as it stands.
+                    part.push_str(&self.text[item.start + skip..])?;
+                    return Ok(());
+                }
+                skip -= piece.len();
             } else {
                 part.push_str(piece)?;
-                if item.kind == Kind::Sgr {
-                    styles::apply(&mut style, piece);
-                }
             }
         }
-        if styles::has_any(&style) {
-            styles::write_close(&style, &mut part)?;
-        }
-        Ok(part)
+        Ok(())
     }
 }
 
@@ -164,34 +193,23 @@ impl<'t, 'p> Iterator for Spans<'t, 'p> {
         if self.finished {
             return None;
         }
-        let (skip, carried) = (self.skip, self.carried);
-        let Some((text, rest)) = self.rest.split_at_match(self.pat, self.from) else {
-            self.finished = true;
-            return Some(Span {
-                text: self.rest.text(),
-                skip,
-                carried,
-            });
+        let cut = self.rest.cut_at_match(self.pat, self.from, self.carried);
+        let span = Span {
+            text: cut.front,
+            is_marked: cut.is_marked,
+            skip: self.skip,
+            carried: self.carried,
+            after: cut.style,
         };
-        self.rest = rest;
-        self.skip = self.pat.len();
-        self.from = self.pat.len().max(1);
-        apply_all(&mut self.carried, text);
-        Some(Span {
-            text,
-            skip,
-            carried,
-        })
-    }
-}
-
-/// Does what the SGRs of a text ask for, one after another.
-fn apply_all(style: &mut Style, text: &str)
-    ensures { rendition_of style.new ≡ style_after_from (rendition_of style.old) text.now }
-{
-    for item in Scanner::new(text) {
-        if item.kind == Kind::Sgr {
-            styles::apply(style, &text[item.start..item.end]);
+        match cut.rest {
+            Some(rest) => {
+                self.rest = rest;
+                self.skip = self.pat.len();
+                self.from = self.pat.len().max(1);
+                self.carried = cut.style;
+            }
+            None => self.finished = true,
         }
+        Some(span)
     }
 }

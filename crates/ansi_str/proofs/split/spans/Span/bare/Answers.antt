@@ -11,16 +11,16 @@ use Rattle.ansi_str.proofs.SplitLemmas.{written-escape, written-styled, bare-emp
 use Rattle.ansi_str.proofs.split.spans.Span.bare.Goals as goal
 use Rattle.ansi_str.proofs.split.spans.Span.bare.Goals.{then-is_empty-via-then-is_empty, then-is_empty-via-else-is_empty+then-not-has_any}
 
-pub returns-then-has_any : goal.returns-then-has_any
-returns-then-has_any c =
+pub returns-then-self : goal.returns-then-self
+returns-then-self c =
     let s = c.args.self.now in
-    written-escape (rendition_of s.carried) s.text.now s.skip (sym c.has_any.ensures ∙ c.if-has_any.true)
+    written-escape (rendition_of s.carried) s.text.now s.skip (sym s.marked ∙ c.if-self.true)
 
 -- a text without ESC is its own plain text
 pub range_from-bare-requires : goal.range_from-bare-requires
 range_from-bare-requires c =
     let s = c.args.self.now in
-    let none : IsFalse (has_escape s.text.now) = sym c.has_any.ensures ∙ c.if-has_any.false in
+    let none : IsFalse (has_escape s.text.now) = sym s.marked ∙ c.if-self.false in
     let both = and_parts _ _ (subst (λ x. IsTrue (is_char_boundary x s.skip)) (plain-bare s.text.now none) s.skip_is_boundary) in
     λ some. good_is_boundary s.text.now s.skip (leb-true s.skip (length s.text.now) both.0) both.1
 
@@ -28,7 +28,7 @@ pub returns-then-is_empty : goal.returns-then-is_empty
 returns-then-is_empty c =
     let s = c.args.self.now in
     let style = rendition_of s.carried in
-    let none : IsFalse (has_escape s.text.now) = sym c.has_any.ensures ∙ c.if-has_any.false in
+    let none : IsFalse (has_escape s.text.now) = sym s.marked ∙ c.if-self.false in
     let both = and_parts _ _ (subst (λ x. IsTrue (is_char_boundary x s.skip)) (plain-bare s.text.now none) s.skip_is_boundary) in
     let inside : s.skip ≤ length s.text.now = leb-true s.skip (length s.text.now) both.0 in
     subst (IsBare style s.text.now s.skip) (sym c.range_from-bare.ensures.value) (elim c.then-is_empty.branch [
@@ -36,14 +36,14 @@ returns-then-is_empty c =
           let nothing : length c.range_from-bare.result.now ≡ 0 = eqb-true _ 0 (sym c.is_empty.ensures ∙ empty.if-is_empty.true) in
           bare-empty style s.text.now s.skip none (omega (arith, inside, nothing, ap length c.range_from-bare.ensures.value, length-drop s.skip s.text.now)))
       | then-is_empty-via-else-is_empty+then-not-has_any plain ↦
-          bare-unstyled style s.text.now s.skip none inside (sym plain.has_any-else-is_empty.ensures ∙ plain.if-not-has_any.true)
+          bare-unstyled style s.text.now s.skip none inside (sym plain.has_any.ensures ∙ plain.if-not-has_any.true)
     ])
 
 pub returns : goal.returns
 returns c =
     let s = c.args.self.now in
-    let none : IsFalse (has_escape s.text.now) = sym c.has_any.ensures ∙ c.if-has_any.false in
+    let none : IsFalse (has_escape s.text.now) = sym s.marked ∙ c.if-self.false in
     let filled : (s.skip == length s.text.now) ≡ false
     = ne_eqb s.skip (length s.text.now) (λ end.
     omega (arith, end, eqb-false _ 0 (sym c.is_empty.ensures ∙ c.if-is_empty.false), ap length c.range_from-bare.ensures.value, length-drop s.skip s.text.now)) in
-    written-styled (rendition_of s.carried) s.text.now s.skip none filled (sym c.has_any-else-is_empty.ensures ∙ c.if-not-has_any.false)
+    written-styled (rendition_of s.carried) s.text.now s.skip none filled (sym c.has_any.ensures ∙ c.if-not-has_any.false)

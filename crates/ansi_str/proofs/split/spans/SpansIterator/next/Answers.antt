@@ -1,42 +1,68 @@
-use Rattle.std.proofs.Common.{◌≡◌, ◌∷◌, [], sym, ◌∙◌, ap, ap₂, arith, max, length, if◌then◌else◌}
+use Rattle.std.proofs.Common.{◌≡◌, ◌≤◌, ℕ, List, ◌∷◌, [], Option, Some, None, sym, ◌∙◌, ap, ap₂, subst, arith, max, length, IsTrue, if◌then◌else◌}
+use Rattle.std.proofs.lemmas.Option.{same_Some}
+use Rattle.std.specs.Option.{MatchOption}
+use Rattle.ansi_style.specs.declared.state.rendition.Rendition.{Rendition}
+use Rattle.ansi_str.specs.declared.split.rest.Rest.{Rest}
+use Rattle.ansi_items.specs.Plain.{plain}
+use Rattle.ansi_slice.specs.Parts.{first_match_from}
+use Rattle.ansi_slice.specs.Positions.{is_char_boundary}
 use Rattle.ansi_style.specs.Reading.{style_after_from}
 use Rattle.ansi_style.specs.States.{rendition_of}
-use Rattle.ansi_str.specs.Spans.{span_part, parts_left}
+use Rattle.ansi_str.specs.Spans.{IsCutAtMatch, span_part, parts_left}
 use Rattle.ansi_str.proofs.SpanLemmas.{parts_left-last, parts_left-first, skip_in_front}
 use Rattle.ansi_str.proofs.split.spans.SpansIterator.next.Goals as goal
+use Rattle.ansi_str.proofs.split.spans.SpansIterator.next.Goals.{in-Some, in-None}
 
--- without a match, all that is left is the last part
-pub returns-in_default-clause-steps : goal.returns-in_default-clause-steps
-returns-in_default-clause-steps c =
+-- what a cut says where its rest is known
+
+last : (c : Rendition) (t p : List ℕ) (skip from : ℕ) (front : List ℕ) (r : Option Rest) → MatchOption r ((first_match_from (plain t) p from ≡ None) × (front ≡ t)) (λ rest. IsCutAtMatch t p from front rest.text.now)
+    → r ≡ None → parts_left c t p skip from ≡ span_part c front skip ∷ []
+last c t p skip from front None all is = parts_left-last c t p skip from all.0 ∙ ap (λ v. span_part c v skip ∷ []) (sym all.1)
+last c t p skip from front (Some rest) cut is = absurd (cc is)
+
+more : (c : Rendition) (t p : List ℕ) (skip from : ℕ) (front : List ℕ) (r : Option Rest) → MatchOption r ((first_match_from (plain t) p from ≡ None) × (front ≡ t)) (λ rest. IsCutAtMatch t p from front rest.text.now)
+    → (after : Rest) → r ≡ Some after → parts_left c t p skip from ≡ span_part c front skip ∷ parts_left (style_after_from c front) after.text.now p (length p) (max (length p) 1)
+more c t p skip from front None all after is = absurd (cc is)
+more c t p skip from front (Some rest) cut after is =
+    parts_left-first c t p skip from front rest.text.now cut
+    ∙ ap (λ (k : Rest). span_part c front skip ∷ parts_left (style_after_from c front) k.text.now p (length p) (max (length p) 1)) (same_Some rest after is)
+
+-- where the plain bytes that are left out end, a character of the front does
+skip_in : (t p : List ℕ) (skip from : ℕ) (front : List ℕ) (r : Option Rest) → MatchOption r ((first_match_from (plain t) p from ≡ None) × (front ≡ t)) (λ rest. IsCutAtMatch t p from front rest.text.now)
+    → skip ≤ from → IsTrue (is_char_boundary (plain t) skip) → IsTrue (is_char_boundary (plain front) skip)
+skip_in t p skip from front None all before boundary = subst (λ v. IsTrue (is_char_boundary (plain v) skip)) (sym all.1) boundary
+skip_in t p skip from front (Some rest) cut before boundary = skip_in_front t p skip from front rest.text.now cut before boundary
+
+pub invariant_of-span : goal.invariant_of-span
+invariant_of-span c =
     let s = c.self.inside in
-    let all = parts_left (rendition_of s.carried) s.rest.text.now s.pat.now s.skip s.from in
-    let left : c.args.self.now ≡ all = sym c.self.view_is ∙ ap (λ b. if b then [] else all) c.if-self.false in
-    left ∙ parts_left-last (rendition_of s.carried) s.rest.text.now s.pat.now s.skip s.from c.in_default.ensures
-    ∙ ap (λ t. span_part (rendition_of s.carried) t s.skip ∷ []) (sym c.text.ensures)
+    let cut = c.cut_at_match-cut in
+    record {
+      marked = cut.ensures.marked;
+      skip_is_boundary = skip_in s.rest.text.now s.pat.now s.skip s.from cut.result.front.now cut.result.rest cut.ensures.rest c.self.invariant.1 c.self.invariant.0;
+      is_after = cut.ensures.style;
+    }
 
-pub returns-in_default-clause-goes : goal.returns-in_default-clause-goes
-returns-in_default-clause-goes c =
-    let fewer = ap length (returns-in_default-clause-steps c) in
-    record { on = λ _. (tt, tt, omega (arith, fewer)); keeps = tt; rests = λ _. tt }
-
-pub invariant_of-result-2 : goal.invariant_of-result-2
-invariant_of-result-2 c =
-    let s = c.self.inside in
-    record { skip_is_boundary = skip_in_front s.rest.text.now s.pat.now s.skip s.from c.in-Some.text.now c.in-Some.rest.text.now c.in-Some.ensures c.self.invariant.1 c.self.invariant.0 }
-
--- with one, the first part is what stands before it
 pub returns-clause-steps : goal.returns-clause-steps
 returns-clause-steps c =
     let s = c.self.inside in
-    let text = c.in-Some.text.now in
-    let after = c.in-Some.rest.text.now in
-    let all = parts_left (rendition_of s.carried) s.rest.text.now s.pat.now s.skip s.from in
+    let style = rendition_of s.carried in
+    let t = s.rest.text.now in
+    let p = s.pat.now in
+    let cut = c.cut_at_match-cut in
+    let front = cut.result.front.now in
+    let all = parts_left style t p s.skip s.from in
     let left : c.args.self.now ≡ all = sym c.self.view_is ∙ ap (λ b. if b then [] else all) c.if-self.false in
-    let later = parts_left (rendition_of c.apply_all.new.style) after s.pat.now (length s.pat.now) c.max-self-inside.result in
-    let more : parts_left (style_after_from (rendition_of s.carried) text) after s.pat.now (length s.pat.now) (max (length s.pat.now) 1) ≡ (if s.finished then [] else later)
-    = ap₂ (λ r n. parts_left r after s.pat.now (length s.pat.now) n) (sym c.apply_all.ensures) (sym c.max-self-inside.ensures) ∙ sym (ap (λ b. if b then [] else later) c.if-self.false) in
-    left ∙ parts_left-first (rendition_of s.carried) s.rest.text.now s.pat.now s.skip s.from text after c.in-Some.ensures
-    ∙ ap (λ ps. span_part (rendition_of s.carried) text s.skip ∷ ps) more
+    elim c.match-cut.branch [
+      | in-Some w ↦ (
+          let after = w.in-Some.rest in
+          let later = parts_left (rendition_of cut.result.style) after.text.now p (length p) w.max-self-inside.result in
+          let goes_on : parts_left (style_after_from style front) after.text.now p (length p) (max (length p) 1) ≡ (if s.finished then [] else later)
+          = ap₂ (λ r n. parts_left r after.text.now p (length p) n) (sym cut.ensures.style) (sym w.max-self-inside.ensures) ∙ sym (ap (λ b. if b then [] else later) c.if-self.false) in
+          left ∙ more style t p s.skip s.from front cut.result.rest cut.ensures.rest after w.in-Some.is ∙ ap (λ ps. span_part style front s.skip ∷ ps) (goes_on ∙ sym w.self-is))
+      | in-None w ↦
+          left ∙ last style t p s.skip s.from front cut.result.rest cut.ensures.rest w.in-None.is ∙ ap (λ ps. span_part style front s.skip ∷ ps) (sym w.self-is)
+    ]
 
 pub returns-clause-goes : goal.returns-clause-goes
 returns-clause-goes c =
