@@ -1,6 +1,8 @@
 //! Callers of the library, proved by its contracts alone: what can be concluded of the calls' answers.
 pub mod blocks;
 pub mod buffers;
+pub mod laws;
+pub mod matches;
 pub mod parts;
 pub mod scans;
 pub mod searches;

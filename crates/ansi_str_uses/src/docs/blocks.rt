@@ -1,0 +1,68 @@
+//! The examples of the docs of blocks, in the same words.
+use ansi_str::blocks::get_blocks_in;
+use ansi_str::{Color, get_blocks};
+use std::test::Fail;
+
+#[test]
+fn ansi_block_example(rt: HostRuntime) -> Result<(), Fail> {
+    let block = get_blocks(rt.alloc(), "\x1b[1mbold").next().ok_or("no block")??;
+    assert!(rt; block.text() == "bold" && block.style().is_bold());
+    Ok(())
+}
+
+#[test]
+fn text_example(rt: HostRuntime) -> Result<(), Fail> {
+    let text = "\x1b]8;;u\x1b\\link\x1b]8;;\x1b\\";
+    let block = get_blocks(rt.alloc(), text).next().ok_or("no block")??;
+    assert!(rt; block.text() == "\x1b]8;;u\x1b\\link");
+    Ok(())
+}
+
+#[test]
+fn has_ansi_example(rt: HostRuntime) -> Result<(), Fail> {
+    let block = get_blocks(rt.alloc(), "\x1b[12mx").next().ok_or("no block")??;
+    assert!(rt; block.has_ansi());
+    Ok(())
+}
+
+#[test]
+fn style_example(rt: HostRuntime) -> Result<(), Fail> {
+    let block = get_blocks(rt.alloc(), "\x1b[1mx").next().ok_or("no block")??;
+    assert!(rt; block.style().is_bold() && !block.style().is_italic());
+    Ok(())
+}
+
+#[test]
+fn clone_example(rt: HostRuntime) -> Result<(), Fail> {
+    let block = get_blocks(rt.alloc(), "\x1b[1mx").next().ok_or("no block")??;
+    assert!(rt; block.clone()? == block);
+    Ok(())
+}
+
+#[test]
+fn ansi_block_iter_example(rt: HostRuntime) -> Result<(), Fail> {
+    let mut texts = String::new(rt.alloc());
+    for block in get_blocks(rt.alloc(), "\x1b[31mred\x1b[39m and plain") {
+        texts.push_str(block?.text())?;
+    }
+    assert!(rt; texts.as_str() == "red and plain");
+    Ok(())
+}
+
+#[test]
+fn get_blocks_example(rt: HostRuntime) -> Result<(), Fail> {
+    let mut blocks = get_blocks(rt.alloc(), "\x1b[31mred\x1b[39m and");
+    let red = blocks.next().ok_or("no block")??;
+    assert!(rt; red.text() == "red" && red.style().foreground() == Some(Color::Red));
+    let and = blocks.next().ok_or("no block")??;
+    assert!(rt; and.text() == " and" && and.style().foreground().is_none());
+    assert!(rt; blocks.next().is_none());
+    Ok(())
+}
+
+#[test]
+fn get_blocks_in_example(rt: HostRuntime) -> Result<(), Fail> {
+    let block = get_blocks_in(rt.alloc(), "\x1b[1mbold").next().ok_or("no block")??;
+    assert!(rt; block.text() == "bold");
+    Ok(())
+}
