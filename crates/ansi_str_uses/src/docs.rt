@@ -1,4 +1,4 @@
-//! The examples of the library's docs, each as a test in the same words, which `docs/check-quotes` sees to.
+//! The examples of the library's docs, each in the same words, as `docs/check-quotes` sees to.
 mod blocks;
 mod calls;
 mod colors;

@@ -1,46 +1,54 @@
 //! The examples of the docs of blocks, in the same words.
 use ansi_str::blocks::get_blocks_in;
 use ansi_str::{Color, get_blocks};
+use std::process::Abort;
 use std::test::Fail;
 
 #[test]
-fn ansi_block_example(rt: HostRuntime) -> Result<(), Fail> {
+fn the_examples_are_right(rt: HostRuntime) -> Result<(), Fail> {
+    ansi_block_example(&rt)?;
+    text_example(&rt)?;
+    has_ansi_example(&rt)?;
+    style_example(&rt)?;
+    clone_example(&rt)?;
+    ansi_block_iter_example(&rt)?;
+    get_blocks_example(&rt)?;
+    get_blocks_in_example(&rt)?;
+    Ok(())
+}
+
+fn ansi_block_example<R: Abort + AllocGlobal>(rt: &R) -> Result<(), Fail> {
     let block = get_blocks(rt.alloc(), "\x1b[1mbold").next().ok_or("no block")??;
     assert!(rt; block.text() == "bold" && block.style().is_bold());
     Ok(())
 }
 
-#[test]
-fn text_example(rt: HostRuntime) -> Result<(), Fail> {
+fn text_example<R: Abort + AllocGlobal>(rt: &R) -> Result<(), Fail> {
     let text = "\x1b]8;;u\x1b\\link\x1b]8;;\x1b\\";
     let block = get_blocks(rt.alloc(), text).next().ok_or("no block")??;
     assert!(rt; block.text() == "\x1b]8;;u\x1b\\link");
     Ok(())
 }
 
-#[test]
-fn has_ansi_example(rt: HostRuntime) -> Result<(), Fail> {
+fn has_ansi_example<R: Abort + AllocGlobal>(rt: &R) -> Result<(), Fail> {
     let block = get_blocks(rt.alloc(), "\x1b[12mx").next().ok_or("no block")??;
     assert!(rt; block.has_ansi());
     Ok(())
 }
 
-#[test]
-fn style_example(rt: HostRuntime) -> Result<(), Fail> {
+fn style_example<R: Abort + AllocGlobal>(rt: &R) -> Result<(), Fail> {
     let block = get_blocks(rt.alloc(), "\x1b[1mx").next().ok_or("no block")??;
     assert!(rt; block.style().is_bold() && !block.style().is_italic());
     Ok(())
 }
 
-#[test]
-fn clone_example(rt: HostRuntime) -> Result<(), Fail> {
+fn clone_example<R: Abort + AllocGlobal>(rt: &R) -> Result<(), Fail> {
     let block = get_blocks(rt.alloc(), "\x1b[1mx").next().ok_or("no block")??;
     assert!(rt; block.clone()? == block);
     Ok(())
 }
 
-#[test]
-fn ansi_block_iter_example(rt: HostRuntime) -> Result<(), Fail> {
+fn ansi_block_iter_example<R: Abort + AllocGlobal>(rt: &R) -> Result<(), Fail> {
     let mut texts = String::new(rt.alloc());
     for block in get_blocks(rt.alloc(), "\x1b[31mred\x1b[39m and plain") {
         texts.push_str(block?.text())?;
@@ -49,8 +57,7 @@ fn ansi_block_iter_example(rt: HostRuntime) -> Result<(), Fail> {
     Ok(())
 }
 
-#[test]
-fn get_blocks_example(rt: HostRuntime) -> Result<(), Fail> {
+fn get_blocks_example<R: Abort + AllocGlobal>(rt: &R) -> Result<(), Fail> {
     let mut blocks = get_blocks(rt.alloc(), "\x1b[31mred\x1b[39m and");
     let red = blocks.next().ok_or("no block")??;
     assert!(rt; red.text() == "red" && red.style().foreground() == Some(Color::Red));
@@ -60,8 +67,7 @@ fn get_blocks_example(rt: HostRuntime) -> Result<(), Fail> {
     Ok(())
 }
 
-#[test]
-fn get_blocks_in_example(rt: HostRuntime) -> Result<(), Fail> {
+fn get_blocks_in_example<R: Abort + AllocGlobal>(rt: &R) -> Result<(), Fail> {
     let block = get_blocks_in(rt.alloc(), "\x1b[1mbold").next().ok_or("no block")??;
     assert!(rt; block.text() == "bold");
     Ok(())
