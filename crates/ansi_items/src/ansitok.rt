@@ -4,7 +4,13 @@ pub(crate) mod grammar;
 use grammar::Looks;
 use std::marker::Model;
 
-/// A color, as SGR codes write it.
+/// A color, as SGR codes write it. (ECMA-48, section 8.3.117, and the codes 90 to 97 and 100 to 107,
+/// which terminals share; the type, the Rust crate.)
+///
+/// ```
+/// assert!(rt; Color::from(AnsiColor::Bit4(91)) == Color::BrightRed);
+/// assert!(rt; Color::from(AnsiColor::Bit8(91)) == Color::Fixed(91));
+/// ```
 #[derive(Debug, Clone, Copy, PartialEq, Eq, PartialOrd, Ord, Hash)]
 pub enum AnsiColor {
     /// One of sixteen colors, by the code that sets it: 30 to 37 or 90 to 97 for a foreground, 40 to
@@ -16,7 +22,14 @@ pub enum AnsiColor {
     Bit24 { r: u8, g: u8, b: u8 },
 }
 
-/// What an item is.
+/// What an item is. (`Sgr` and `Other`, ECMA-48 and ECMA-35; `Text` and `Lone`, own.)
+///
+/// ```
+/// let item = Scanner::new("\x1b[31m").next().ok_or("no item")?;
+/// assert!(rt; item.kind == Kind::Sgr);
+/// let item = Scanner::new("\x1b[31").next().ok_or("no item")?;
+/// assert!(rt; item.kind == Kind::Lone);
+/// ```
 #[derive(Debug, Clone, Copy, PartialEq, Eq)]
 pub enum Kind {
     /// A run of plain text, as long as it goes on: no ESC stands in it.
@@ -31,7 +44,16 @@ pub enum Kind {
 }
 
 /// An item of a text: its kind, and the bytes of the text that are its own, from `start` up to
-/// `end`. Both are character boundaries.
+/// `end`. (Own.)
+///
+/// Both ends count bytes of the text with its sequences, from its start, and not of the plain text.
+/// Both are character boundaries.
+///
+/// ```
+/// let text = "\x1b[31mred";
+/// let item = Scanner::new(text).next().ok_or("no item")?;
+/// assert!(rt; &text[item.start..item.end] == "\x1b[31m");
+/// ```
 #[derive(Debug, Clone, Copy, PartialEq, Eq)]
 pub struct Item {
     pub kind: Kind,
@@ -42,13 +64,16 @@ pub struct Item {
 /// The items of a text, in order: an iterator that takes no memory.
 ///
 /// Each byte of the text is in one item, and each text has one list of items. An unfinished
-/// sequence is no error: its ESC is an item of its own, and what follows is read anew.
+/// sequence is no error: its ESC is an item of its own, and what follows is read anew. (What a
+/// sequence is, ECMA-48 and ECMA-35; of unfinished ones, own.)
 ///
 /// ```
 /// let mut items = Scanner::new("a\x1b[1m");
-/// assert_eq!(items.next(), Some(Item { kind: Kind::Text, start: 0, end: 1 }));
-/// assert_eq!(items.next(), Some(Item { kind: Kind::Sgr, start: 1, end: 5 }));
-/// assert_eq!(items.next(), None);
+/// let text = items.next().ok_or("no text")?;
+/// assert!(rt; (text.kind, text.start, text.end) == (Kind::Text, 0, 1));
+/// let bold = items.next().ok_or("no sequence")?;
+/// assert!(rt; (bold.kind, bold.start, bold.end) == (Kind::Sgr, 1, 5));
+/// assert!(rt; items.next().is_none());
 /// ```
 #[derive(Drop)]
 pub struct Scanner<'a> {
@@ -73,7 +98,11 @@ impl<'a> Scanner<'a> {
     ghost use Rattle.ansi_items.specs.Pieces.{Piece, ArePieces};
     ghost use Rattle.ansi_items.specs.Scans.{pieces_left};
 
-    /// A scanner at the front of the text.
+    /// A scanner at the front of the text. Takes no memory. (Own.)
+    ///
+    /// ```
+    /// assert!(rt; Scanner::new("").next().is_none());
+    /// ```
     pub fn new(text: &'a str) -> Self
         ensures start { result ≡ record { text = text.entry.now; offset = 0 } }
 
@@ -92,12 +121,12 @@ impl<'a> Scanner<'a> {
     /// A look at one byte counts 1, and a search counts each byte that it passed over and the one
     /// that it found. A byte that is looked at twice counts twice. So a scan of a text takes time in
     /// proportion to its length, whatever the text holds: also where sequences are unfinished, and
-    /// what follows their ESC is read anew.
+    /// what follows their ESC is read anew. Takes no memory. (Own.)
     ///
     /// ```
-    /// let mut items = Scanner::new("\x1b]\x1b]");
-    /// while items.next().is_some() {}
-    /// assert!(4 <= items.reads() && items.reads() <= 16);
+    /// let mut items = Scanner::new("\x1b]");
+    /// assert!(rt; items.next().is_some() && items.next().is_some() && items.next().is_none());
+    /// assert!(rt; 2 <= items.reads() && items.reads() <= 8);
     /// ```
     pub fn reads(&self) -> u128
         // At every moment there are at most four looks for each byte of the text.

@@ -17,7 +17,12 @@ pub use sides::split_at_in;
 use std::alloc::{AllocError, Allocator};
 use std::borrow::CowStr;
 
-/// Whether an ESC stands in the text, as `AnsiStr::ansi_has_any` says.
+/// Whether an ESC stands in the text, as `AnsiStr::ansi_has_any` says. Takes no memory. (The Rust
+/// crate.)
+///
+/// ```
+/// assert!(rt; has_any("\x1b[31mred") && !has_any("red"));
+/// ```
 pub fn has_any(text: &str) -> bool
     ensures { result ≡ has_escape text.now }
 {
@@ -25,7 +30,12 @@ pub fn has_any(text: &str) -> bool
 }
 
 /// As `AnsiStr::ansi_strip`, with an answer that lives as long as the text, and its memory taken
-/// from any allocator.
+/// from any allocator. (Own.)
+///
+/// ```
+/// let plain = strip_in(rt.alloc(), "\x1b[31mred\x1b[39m and plain")?;
+/// assert!(rt; plain.as_str() == "red and plain");
+/// ```
 pub fn strip_in<'t, A: Allocator>(alloc: A, text: &'t str) -> Result<CowStr<'t, A>, AllocError>
     ensures bytes { IfOk result (λ c. cow_str_bytes c ≡ plain text.now) }
     ensures borrowed { IfOk result (λ c. IsBorrowedStr c ↔ IsFalse (has_escape text.now)) }

@@ -18,6 +18,11 @@ use std::marker::Model;
 ///
 /// It lives as long as the text that it is a block of. Two blocks are equal where their texts and
 /// their styles are. (The Rust crate.)
+///
+/// ```
+/// let block = get_blocks(rt.alloc(), "\x1b[1mbold").next().ok_or("no block")??;
+/// assert!(rt; block.text() == "bold" && block.style().is_bold());
+/// ```
 #[derive(Debug, Drop)]
 pub struct AnsiBlock<'a, A: Allocator = Global> {
     text: CowStr<'a, A>,
@@ -39,8 +44,9 @@ impl<'a, A: Allocator> AnsiBlock<'a, A> {
     /// (The Rust crate.)
     ///
     /// ```
-    /// let link = get_blocks(alloc, "\x1b]8;;u\x1b\\link\x1b]8;;\x1b\\").next()??;
-    /// assert_eq!(link.text(), "\x1b]8;;u\x1b\\link");
+    /// let text = "\x1b]8;;u\x1b\\link\x1b]8;;\x1b\\";
+    /// let block = get_blocks(rt.alloc(), text).next().ok_or("no block")??;
+    /// assert!(rt; block.text() == "\x1b]8;;u\x1b\\link");
     /// ```
     pub fn text(&self) -> &str
         ensures { result.now ≡ self.now.text }
@@ -52,7 +58,8 @@ impl<'a, A: Allocator> AnsiBlock<'a, A> {
     /// memory. (The Rust crate, the font counted.)
     ///
     /// ```
-    /// assert!(get_blocks(alloc, "\x1b[12mx").next()??.has_ansi());
+    /// let block = get_blocks(rt.alloc(), "\x1b[12mx").next().ok_or("no block")??;
+    /// assert!(rt; block.has_ansi());
     /// ```
     pub fn has_ansi(&self) -> bool
         ensures { result ≡ has_any self.now.style }
@@ -64,7 +71,8 @@ impl<'a, A: Allocator> AnsiBlock<'a, A> {
     /// crate.)
     ///
     /// ```
-    /// assert!(get_blocks(alloc, "\x1b[1mx").next()??.style().is_bold());
+    /// let block = get_blocks(rt.alloc(), "\x1b[1mx").next().ok_or("no block")??;
+    /// assert!(rt; block.style().is_bold() && !block.style().is_italic());
     /// ```
     pub fn style(&self) -> &Style
         ensures { rendition_of result.now ≡ self.now.style }
@@ -80,7 +88,8 @@ impl<'a, A: Allocator + Clone> AnsiBlock<'a, A> {
     /// memory is wanting. (The Rust crate.)
     ///
     /// ```
-    /// assert!(block.clone()? == block);
+    /// let block = get_blocks(rt.alloc(), "\x1b[1mx").next().ok_or("no block")??;
+    /// assert!(rt; block.clone()? == block);
     /// ```
     pub fn clone(&self) -> Result<AnsiBlock<'a, A>, AllocError>
         ensures same { IfOk result (λ block. block ≡ self.now) }
@@ -123,7 +132,16 @@ impl<'a, A: Allocator> Eq for AnsiBlock<'a, A> {
 
 /// The blocks of a text, in order: an iterator, of which each item may be an `Err`.
 ///
-/// After an `Err`, and after the last block, it gives `None`, then and ever after.
+/// An `Err` means that memory is wanting. After it, and after the last block, the iterator gives
+/// `None`, then and ever after. (The Rust crate; that an item may be an `Err`, own.)
+///
+/// ```
+/// let mut texts = String::new(rt.alloc());
+/// for block in get_blocks(rt.alloc(), "\x1b[31mred\x1b[39m and plain") {
+///     texts.push_str(block?.text())?;
+/// }
+/// assert!(rt; texts.as_str() == "red and plain");
+/// ```
 #[derive(Drop)]
 pub struct AnsiBlockIter<'a, A: Allocator = Global> {
     alloc: A,
@@ -151,9 +169,12 @@ impl<'a, A: Allocator> Model for AnsiBlockIter<'a, A> {
 /// wanting, and it is the last. Memory may come from any allocator. (The Rust crate.)
 ///
 /// ```
-/// let mut blocks = get_blocks(alloc, "\x1b[31mred\x1b[39m and plain");
-/// let red = blocks.next()??;
-/// assert_eq!((red.text(), red.style().foreground()), ("red", Some(Color::Red)));
+/// let mut blocks = get_blocks(rt.alloc(), "\x1b[31mred\x1b[39m and");
+/// let red = blocks.next().ok_or("no block")??;
+/// assert!(rt; red.text() == "red" && red.style().foreground() == Some(Color::Red));
+/// let and = blocks.next().ok_or("no block")??;
+/// assert!(rt; and.text() == " and" && and.style().foreground().is_none());
+/// assert!(rt; blocks.next().is_none());
 /// ```
 pub fn get_blocks<A: Allocator>(alloc: A, text: &str) -> AnsiBlockIter<'_, A>
     ensures blocks { result ≡ blocks text.now }

@@ -20,8 +20,8 @@ use steps::edit_given;
 /// `\x1bé[m` cut from 2 on is `\x1b[m`. Takes no memory. (The Rust crate lacks it.)
 ///
 /// ```
-/// assert!(ansi_is_whole("\x1b[31mred\x1b[m"));
-/// assert!(!ansi_is_whole("\x1b[31"));
+/// assert!(rt; ansi_is_whole("\x1b[31mred\x1b[m"));
+/// assert!(rt; !ansi_is_whole("\x1b[31"));
 /// ```
 pub fn ansi_is_whole(text: &str) -> bool
     ensures { result ≡ is_whole text.now }
@@ -50,9 +50,10 @@ pub fn ansi_is_whole(text: &str) -> bool
 /// allocator. (The Rust crate lacks it.)
 ///
 /// ```
-/// let edits = [Edit::Prefix("> "), Edit::Cut { start: 0, end: Some(2) }];
-/// assert_eq!(edit(alloc, "> \x1b[31mred", &edits)?, Some("\x1b[31mre\x1b[39m"));
-/// assert_eq!(edit(alloc, "red", &edits)?, None);
+/// let edits = [Edit::Prefix("> "), Edit::Left(2)];
+/// let edited = edit(rt.alloc(), "> \x1b[31mred", &edits)?.ok_or("refused")?;
+/// assert!(rt; edited.as_str() == "\x1b[31mre\x1b[39m");
+/// assert!(rt; edit(rt.alloc(), "red", &edits)?.is_none());
 /// ```
 pub fn edit<'t, A: Allocator + Copy>(
     alloc: A,

@@ -1,6 +1,7 @@
 //! Laws of the definitions that the contracts cite.
 //!
-//! Each function carries one law as its contract, does nothing and answers nothing.
+//! Each function carries one law as its contract, does nothing and answers nothing. A body that needs the
+//! law calls it, as `laws::join();`. (Own.)
 ghost use Rattle.std.specs.Prelude.{◌≡◌, ◌↔◌, ◌≤◌, ◌+◌, ◌*◌, ◌++◌, ℕ, List, [], length, filter, take, drop, slice_range, nat_eq, min, slice_get, Option, Some, None, option_map, unwrap_or, if◌then◌else◌, IsTrue, IsFalse, ◌≢◌, ◌∷◌, map, flat_map};
 ghost use Rattle.std.specs.List.{list_any, starts_with, ends_with};
 ghost use Rattle.std.specs.Str.{IsUtf8, IsCharBoundary, trim, chars};

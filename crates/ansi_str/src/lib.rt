@@ -1,6 +1,9 @@
 //! Text with ANSI control sequences, taken as if the sequences weren't there.
 //!
 //! Positions count the bytes of the plain text: the text without its sequences.
+//!
+//! `CALLING.md` beside this folder says how a crate depends on this one and calls it, and quotes the
+//! contracts. Each example of these docs stands in `ansi_str_uses` as a test.
 #![tactic(auto)]
 
 pub mod blocks;

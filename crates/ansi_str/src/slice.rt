@@ -24,8 +24,18 @@ use std::borrow::CowStr;
 
 /// A text, taken as if its sequences weren't there.
 ///
-/// It stands for `&str` and for `String`, with the same answers. An answer borrows for as long as
-/// the reference that the call is made on.
+/// It stands for `&str`, `String` and `CowStr`, with the same answers, so that a call can be made on
+/// what another call answered. An answer borrows for as long as
+/// the reference that the call is made on. Where it has to live as long as a `&'t str`, the functions
+/// `.._in` of [`slice`](crate::slice) and [`split`](crate::split) give it. (The calls, the Rust crate.)
+///
+/// ```
+/// let borrowed = "\x1b[31mred\x1b[39m";
+/// let owned = String::from_str(rt.alloc(), borrowed)?;
+/// assert!(rt; borrowed.ansi_strip(rt.alloc())?.as_str() == "red");
+/// assert!(rt; owned.ansi_strip(rt.alloc())?.as_str() == "red");
+/// assert!(rt; owned.ansi_cut(rt.alloc(), ..2)?.ansi_strip(rt.alloc())?.as_str() == "re");
+/// ```
 pub trait AnsiStr {
     /// The bytes of the text, sequences included.
     ghost text: { Self → List ℕ };
@@ -34,20 +44,26 @@ pub trait AnsiStr {
     /// this text, so a further type needs no more than this one. (The Rust crate lacks it.)
     ///
     /// ```
-    /// assert_eq!("\x1b[1mbold".as_text(), "\x1b[1mbold");
+    /// assert!(rt; "\x1b[1mbold".as_text() == "\x1b[1mbold");
     /// ```
     fn as_text(&self) -> &str
         ensures { result.now ≡ text self.now };
 
     /// The text between two positions, as [`ansi_cut`](AnsiStr::ansi_cut) gives it.
     ///
-    /// It is `None` exactly where the range is bad: where a position lies inside a character, or the
-    /// end below the start. Then no memory is taken, and there is no `Err`. (std's `get`, on the
-    /// plain text; past the end, the Rust crate.)
+    /// Positions count bytes of the plain text. It is `None` exactly where the range is bad: where a
+    /// position lies inside a character, or the end below the start. (std's `get`, on the plain text;
+    /// past the end, the Rust crate.)
+    ///
+    /// It is a borrow where no ESC stands in the text. Then no memory is taken, and none for a `None`.
+    /// Else it is owned, and at most a close longer than the text, 88 bytes. `Err` means that memory is
+    /// wanting.
     ///
     /// ```
-    /// assert_eq!("\x1b[30mTEXT\x1b[39m".ansi_get(alloc, 1..3)?, Some("\x1b[30mEX\x1b[39m"));
-    /// assert_eq!("TEXT".ansi_get(alloc, 3..1)?, None);
+    /// let text = "\x1b[30mTEXT\x1b[39m";
+    /// let cut = text.ansi_get(rt.alloc(), 1..3)?.ok_or("a bad range")?;
+    /// assert!(rt; cut.as_str() == "\x1b[30mEX\x1b[39m");
+    /// assert!(rt; text.ansi_get(rt.alloc(), 3..1)?.is_none());
     /// ```
     fn ansi_get<R: AnsiRange>(
         &self,
@@ -76,7 +92,8 @@ pub trait AnsiStr {
     /// (The Rust crate.)
     ///
     /// ```
-    /// assert_eq!("\x1b[30mTEXT\x1b[39m".ansi_cut(alloc, 1..3)?, "\x1b[30mEX\x1b[39m");
+    /// let text = "\x1b[30mTEXT\x1b[39m";
+    /// assert!(rt; text.ansi_cut(rt.alloc(), 1..3)?.as_str() == "\x1b[30mEX\x1b[39m");
     /// ```
     fn ansi_cut<R: AnsiRange>(&self, alloc: Global, range: R) -> Result<CowStr<'_>, AllocError>
         requires { IsTrue (is_good_range (plain (text self.now)) (R.start range) (R.end range)) }
@@ -96,8 +113,8 @@ pub trait AnsiStr {
     /// good ranges. Takes no memory.
     ///
     /// ```
-    /// assert!("\x1b[1mé\x1b[0m".ansi_is_char_boundary(2));
-    /// assert!(!"\x1b[1mé\x1b[0m".ansi_is_char_boundary(1));
+    /// assert!(rt; "\x1b[1mé\x1b[0m".ansi_is_char_boundary(2));
+    /// assert!(rt; !"\x1b[1mé\x1b[0m".ansi_is_char_boundary(1));
     /// ```
     fn ansi_is_char_boundary(&self, index: usize) -> bool
         ensures value { result ≡ is_char_boundary (plain (text self.now)) index }
@@ -117,8 +134,8 @@ pub trait AnsiStr {
     /// what stands after it are good ranges. Takes no memory.
     ///
     /// ```
-    /// assert_eq!("a\x1b[1mb\x1b[0mc".ansi_find("bc"), Some(1));
-    /// assert_eq!("a\x1b[1mb\x1b[0mc".ansi_find("cb"), None);
+    /// assert!(rt; "a\x1b[1mb\x1b[0mc".ansi_find("bc") == Some(1));
+    /// assert!(rt; "a\x1b[1mb\x1b[0mc".ansi_find("cb").is_none());
     /// ```
     fn ansi_find(&self, pat: &str) -> Option<usize>
         ensures first { MatchOption result (FindsText pat.now (plain (text self.now)) None) (MatchBeginsAt (FindsText pat.now) (plain (text self.now))) }
@@ -143,8 +160,10 @@ pub trait AnsiStr {
     /// memory is wanting.
     ///
     /// ```
-    /// assert_eq!("\x1b[31mred\x1b[39m and plain".ansi_strip_prefix(alloc, "red ")?, Some("\x1b[31m\x1b[39mand plain"));
-    /// assert_eq!("\x1b[31mred\x1b[39m".ansi_strip_prefix(alloc, "red and")?, None);
+    /// let text = "\x1b[31mred\x1b[39m and plain";
+    /// let rest = text.ansi_strip_prefix(rt.alloc(), "red ")?.ok_or("no prefix")?;
+    /// assert!(rt; rest.as_str() == "\x1b[31m\x1b[39mand plain");
+    /// assert!(rt; text.ansi_strip_prefix(rt.alloc(), "and")?.is_none());
     /// ```
     fn ansi_strip_prefix(
         &self,
@@ -173,7 +192,10 @@ pub trait AnsiStr {
     /// memory is wanting.
     ///
     /// ```
-    /// assert_eq!("plain and \x1b[31mred\x1b[39m".ansi_strip_suffix(alloc, " red")?, Some("plain and\x1b[31m\x1b[39m"));
+    /// let text = "plain and \x1b[31mred\x1b[39m";
+    /// let rest = text.ansi_strip_suffix(rt.alloc(), " red")?.ok_or("no suffix")?;
+    /// assert!(rt; rest.as_str() == "plain and\x1b[31m\x1b[39m");
+    /// assert!(rt; text.ansi_strip_suffix(rt.alloc(), "and")?.is_none());
     /// ```
     fn ansi_strip_suffix(
         &self,
@@ -209,10 +231,13 @@ pub trait AnsiStr {
     /// most a start and a close longer, 163 + 88 bytes, and all shares together are within the text.
     ///
     /// ```
-    /// let mut parts = "\x1b[31mlion::tiger\x1b[0m".ansi_split(alloc, "::");
-    /// assert_eq!(parts.next(), Some(Ok("\x1b[31mlion\x1b[39m")));
-    /// assert_eq!(parts.next(), Some(Ok("\x1b[31mtiger\x1b[0m")));
-    /// assert_eq!(parts.next(), None);
+    /// let text = "\x1b[31mlion::tiger\x1b[0m";
+    /// let mut parts = text.ansi_split(rt.alloc(), "::");
+    /// let lion = parts.next().ok_or("no part")??;
+    /// assert!(rt; lion.as_str() == "\x1b[31mlion\x1b[39m");
+    /// let tiger = parts.next().ok_or("no part")??;
+    /// assert!(rt; tiger.as_str() == "\x1b[31mtiger\x1b[0m");
+    /// assert!(rt; parts.next().is_none());
     /// ```
     fn ansi_split<'a>(&'a self, alloc: Global, pat: &'a str) -> AnsiSplit<'a>
         ensures bytes { map (λ p. p.bytes) result ≡ all_parts (text self.now) pat.now }
@@ -238,8 +263,10 @@ pub trait AnsiStr {
     /// both are owned, an empty one too. `Err` means that memory is wanting. (The Rust crate.)
     ///
     /// ```
-    /// let (left, right) = "\x1b[30mTEXT\x1b[39m".ansi_split_at(alloc, 2)?;
-    /// assert_eq!((left, right), ("\x1b[30mTE\x1b[39m", "\x1b[30mXT\x1b[39m"));
+    /// let text = "\x1b[30mTEXT\x1b[39m";
+    /// let (left, right) = text.ansi_split_at(rt.alloc(), 2)?;
+    /// assert!(rt; left.as_str() == "\x1b[30mTE\x1b[39m");
+    /// assert!(rt; right.as_str() == "\x1b[30mXT\x1b[39m");
     /// ```
     fn ansi_split_at(
         &self,
@@ -264,7 +291,7 @@ pub trait AnsiStr {
     /// one that has an ESC. Takes no memory. (std, on the plain text.)
     ///
     /// ```
-    /// assert!("\x1b[31mred\x1b[39m and plain".ansi_starts_with("red and"));
+    /// assert!(rt; "\x1b[31mred\x1b[39m and plain".ansi_starts_with("red and"));
     /// ```
     fn ansi_starts_with(&self, pat: &str) -> bool
         ensures { result ≡ starts_with nat_eq (plain (text self.now)) pat.now }
@@ -278,7 +305,7 @@ pub trait AnsiStr {
     /// one that has an ESC. Takes no memory. (std, on the plain text.)
     ///
     /// ```
-    /// assert!("plain and \x1b[31mred\x1b[39m".ansi_ends_with("and red"));
+    /// assert!(rt; "plain and \x1b[31mred\x1b[39m".ansi_ends_with("and red"));
     /// ```
     fn ansi_ends_with(&self, pat: &str) -> bool
         ensures { result ≡ ends_with nat_eq (plain (text self.now)) pat.now }
@@ -296,7 +323,8 @@ pub trait AnsiStr {
     /// `Err` means that memory is wanting.
     ///
     /// ```
-    /// assert_eq!(" \x1b[31m red \x1b[39m ".ansi_trim(alloc)?, "\x1b[31mred\x1b[39m");
+    /// let text = " \x1b[31m red \x1b[39m ";
+    /// assert!(rt; text.ansi_trim(rt.alloc())?.as_str() == "\x1b[31mred\x1b[39m");
     /// ```
     fn ansi_trim(&self, alloc: Global) -> Result<CowStr<'_>, AllocError>
         ensures bytes { IfOk result (λ c. cow_str_bytes c ≡ trimmed (text self.now)) }
@@ -312,7 +340,8 @@ pub trait AnsiStr {
     /// Else it is owned. `Err` means that memory is wanting. (The Rust crate.)
     ///
     /// ```
-    /// assert_eq!("\x1b[31mred\x1b[39m and plain".ansi_strip(alloc)?, "red and plain");
+    /// let text = "\x1b[31mred\x1b[39m and plain";
+    /// assert!(rt; text.ansi_strip(rt.alloc())?.as_str() == "red and plain");
     /// ```
     fn ansi_strip(&self, alloc: Global) -> Result<CowStr<'_>, AllocError>
         ensures bytes { IfOk result (λ c. cow_str_bytes c ≡ plain (text self.now)) }
@@ -326,7 +355,8 @@ pub trait AnsiStr {
     /// crate.)
     ///
     /// ```
-    /// assert!("\x1b[31mred".ansi_has_any());
+    /// assert!(rt; "\x1b[31mred".ansi_has_any());
+    /// assert!(rt; !"red".ansi_has_any());
     /// ```
     fn ansi_has_any(&self) -> bool
         ensures { result ≡ has_escape (text self.now) }

@@ -18,7 +18,18 @@ use std::marker::Model;
 ///
 /// A part with no sequence is a borrow where no style is carried into it or it is empty. Any other
 /// part is owned. An `Err` means that memory is wanting; after it, as after the last part, there is
-/// nothing but `None`.
+/// nothing but `None`. A part lives as long as the text and the pattern, and may outlive the iterator.
+/// (The Rust crate; that an item may be an `Err`, own.)
+///
+/// ```
+/// let text = "\x1b[1mlion,tiger";
+/// let mut lines = String::new(rt.alloc());
+/// for part in text.ansi_split(rt.alloc(), ",") {
+///     lines.push_str(part?.as_str())?;
+///     lines.push('\n')?;
+/// }
+/// assert!(rt; lines.as_str() == "\x1b[1mlion\x1b[22m\n\x1b[1mtiger\x1b[22m\n");
+/// ```
 #[derive(Drop)]
 pub struct AnsiSplit<'a, A: Allocator = Global> {
     alloc: A,
@@ -35,6 +46,12 @@ impl<'a, A: Allocator> Model for AnsiSplit<'a, A> {
 }
 
 /// As [`AnsiStr::ansi_split`](crate::AnsiStr::ansi_split), with parts that live as long as the text and the pattern, and their memory taken from any allocator.
+/// (Own.)
+///
+/// ```
+/// let part = split_in(rt.alloc(), "\x1b[1mlion,tiger", ",").next().ok_or("no part")??;
+/// assert!(rt; part.as_str() == "\x1b[1mlion\x1b[22m");
+/// ```
 pub fn split_in<'a, A: Allocator>(alloc: A, text: &'a str, pat: &'a str) -> AnsiSplit<'a, A>
     ensures bytes { map (λ p. p.bytes) result ≡ all_parts text.now pat.now }
     ensures borrowed { map (λ p. p.borrowed) result ≡ map (is_part_borrowed text.now pat.now) (range_with_len 0 (length result)) }
@@ -74,8 +91,15 @@ impl<'a, A: Allocator + Copy> Iterator for AnsiSplit<'a, A> {
 /// The part of an index, counted from 0, of those that [`split_in`] gives, with an answer that lives
 /// as long as the text. The parts before it aren't written.
 ///
-/// It is `None` exactly where there are not so many parts. Then no memory is taken, and there is no
-/// `Err`. (Own.)
+/// It is `None` exactly where there are not so many parts. It is a borrow where no ESC stands in the
+/// text, or where the part is one that `split_in` borrows. Then no memory is taken, and none for a
+/// `None`. Else it is owned. `Err` means that memory is wanting. (Own.)
+///
+/// ```
+/// let part = part_in(rt.alloc(), "\x1b[1mlion,tiger", ",", 1)?.ok_or("no part")?;
+/// assert!(rt; part.as_str() == "\x1b[1mtiger\x1b[22m");
+/// assert!(rt; part_in(rt.alloc(), "lion,tiger", ",", 2)?.is_none());
+/// ```
 pub fn part_in<'t, A: Allocator>(
     alloc: A,
     text: &'t str,

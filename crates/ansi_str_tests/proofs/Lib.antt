@@ -1,2 +1,1 @@
 pub mod RefusingLemmas
-pub mod SearchLemmas

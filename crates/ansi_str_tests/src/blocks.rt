@@ -1,9 +1,9 @@
 //! The blocks of worked texts.
 use crate::Refusing;
-use crate::callers::blocks::{count_blocks, have_same_blocks, write_cell, write_status};
 use crate::memory::expect_each_refusal;
 use crate::styles::{RESET, UNKNOWN, UNMARKED, expect_style};
 use ansi_str::{AnsiBlock, AnsiBlockIter, Color, get_blocks};
+use ansi_str_uses::callers::blocks::{count_blocks, have_same_blocks, write_cell, write_status};
 use std::alloc::{AllocError, Allocator, Global};
 use std::process::Abort;
 use std::test::Fail;

@@ -1,6 +1,6 @@
 //! The answers of `ansi_is_char_boundary` for worked texts, and what is split there.
-use crate::callers::searches::{cut_at_boundary, split_at_boundary};
 use ansi_str::AnsiStr;
+use ansi_str_uses::callers::searches::{cut_at_boundary, split_at_boundary};
 use std::alloc::Global;
 use std::process::Abort;
 use std::test::Fail;

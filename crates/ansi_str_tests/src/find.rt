@@ -1,6 +1,6 @@
 //! The answers of `ansi_find` for worked texts, and what is cut there.
-use crate::callers::searches::{cut_around_match, cut_match};
 use ansi_str::AnsiStr;
+use ansi_str_uses::callers::searches::{cut_around_match, cut_match};
 use std::alloc::Global;
 use std::process::Abort;
 use std::test::Fail;

@@ -1,8 +1,6 @@
 //! The tests of `ansi_str` through its public calls, and what they stand on.
 #![tactic(auto)]
 
-pub mod callers;
-pub mod clones;
 pub mod refusing;
 
 pub use refusing::Refusing;
@@ -21,8 +19,6 @@ mod cut;
 mod edits;
 #[cfg(test)]
 mod ends;
-#[cfg(test)]
-mod examples;
 #[cfg(test)]
 mod faults;
 #[cfg(test)]

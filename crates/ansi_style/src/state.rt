@@ -24,8 +24,13 @@ use std::fmt::Write;
 /// A style: what the SGRs before a character of a text have selected (ECMA-48, section 8.3.117).
 ///
 /// It has three colors, a font and 24 attributes. Styles compare by these, part by part, in the order
-/// of the fields of `Rendition`. A block has one, see [`get_blocks`](crate::get_blocks). (The Rust
-/// crate.)
+/// of the fields of `Rendition`. A block has one, see `get_blocks`. (The Rust crate.)
+///
+/// ```
+/// let block = get_blocks(rt.alloc(), "\x1b[1;31mred").next().ok_or("no block")??;
+/// let style = block.style();
+/// assert!(rt; style.is_bold() && style.foreground() == Some(Color::Red));
+/// ```
 ///
 /// Its colors and its font are such as SGR codes select, which the ghost fields say. Contracts see
 /// it as a `Rendition`, by `rendition_of`.
@@ -177,7 +182,10 @@ impl Style {
     /// crate.)
     ///
     /// ```
-    /// write!(out, "{}{word}{}", style.start(), style.end())?;
+    /// let block = get_blocks(rt.alloc(), "\x1b[1;33mbar").next().ok_or("no block")??;
+    /// let mut line = String::new(rt.alloc());
+    /// write!(&mut line, "{}{}%", block.style().start(), 42)?;
+    /// assert!(rt; line.as_str() == "\x1b[1m\x1b[33m42%");
     /// ```
     pub fn start(&self) -> AnsiSequenceStart<'_>
         ensures { result ≡ rendition_of self.now }
@@ -189,7 +197,10 @@ impl Style {
     /// nothing to end. Takes no memory. (The Rust crate.)
     ///
     /// ```
-    /// write!(out, "{}{word}{}", style.start(), style.end())?;
+    /// let block = get_blocks(rt.alloc(), "\x1b[1;33mbar").next().ok_or("no block")??;
+    /// let mut line = String::new(rt.alloc());
+    /// write!(&mut line, "{}{}", block.text(), block.style().end())?;
+    /// assert!(rt; line.as_str() == "bar\x1b[22m\x1b[39m");
     /// ```
     pub fn end(&self) -> AnsiSequenceEnd<'_>
         ensures { result ≡ rendition_of self.now }

@@ -13,7 +13,13 @@ use ansi_style::styles;
 use std::alloc::{AllocError, Allocator};
 use std::borrow::CowStr;
 
-/// As `AnsiStr::ansi_cut`, with an answer that lives as long as the text, and its memory taken from any allocator.
+/// As `AnsiStr::ansi_cut`, from `start` up to `end`, or to the end of the text where that is `None`,
+/// with an answer that lives as long as the text, and its memory taken from any allocator. (Own.)
+///
+/// ```
+/// let cut = cut_in(rt.alloc(), "\x1b[30mTEXT\x1b[39m", 1, Some(3))?;
+/// assert!(rt; cut.as_str() == "\x1b[30mEX\x1b[39m");
+/// ```
 pub fn cut_in<'t, A: Allocator>(
     alloc: A,
     text: &'t str,
@@ -113,7 +119,14 @@ pub(crate) fn after_run<A: Allocator>(
     Ok(run.end)
 }
 
-/// As `AnsiStr::ansi_get`, with an answer that lives as long as the text, and its memory taken from any allocator.
+/// As `AnsiStr::ansi_get`, from `start` up to `end`, or to the end of the text where that is `None`,
+/// with an answer that lives as long as the text, and its memory taken from any allocator. (Own.)
+///
+/// ```
+/// let cut = get_in(rt.alloc(), "\x1b[30mTEXT\x1b[39m", 2, None)?.ok_or("a bad range")?;
+/// assert!(rt; cut.as_str() == "\x1b[30mXT\x1b[39m");
+/// assert!(rt; get_in(rt.alloc(), "é", 1, None)?.is_none());
+/// ```
 pub fn get_in<'t, A: Allocator>(
     alloc: A,
     text: &'t str,

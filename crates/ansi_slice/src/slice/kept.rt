@@ -14,6 +14,12 @@ use std::alloc::{AllocError, Allocator};
 use std::borrow::CowStr;
 
 /// As `AnsiStr::ansi_strip_prefix`, with an answer that lives as long as the text, and its memory taken from any allocator.
+/// (Own.)
+///
+/// ```
+/// let rest = strip_prefix_in(rt.alloc(), "\x1b[1m> red", "> ")?.ok_or("no prefix")?;
+/// assert!(rt; rest.as_str() == "\x1b[1mred");
+/// ```
 pub fn strip_prefix_in<'t, A: Allocator>(
     alloc: A,
     text: &'t str,
@@ -36,6 +42,12 @@ pub fn strip_prefix_in<'t, A: Allocator>(
 }
 
 /// As `AnsiStr::ansi_strip_suffix`, with an answer that lives as long as the text, and its memory taken from any allocator.
+/// (Own.)
+///
+/// ```
+/// let rest = strip_suffix_in(rt.alloc(), "\x1b[1mred.\x1b[m", ".")?.ok_or("no suffix")?;
+/// assert!(rt; rest.as_str() == "\x1b[1mred\x1b[m");
+/// ```
 pub fn strip_suffix_in<'t, A: Allocator>(
     alloc: A,
     text: &'t str,
@@ -57,6 +69,12 @@ pub fn strip_suffix_in<'t, A: Allocator>(
 }
 
 /// As `AnsiStr::ansi_trim`, with an answer that lives as long as the text, and its memory taken from any allocator.
+/// (Own.)
+///
+/// ```
+/// let trimmed = trim_in(rt.alloc(), " \x1b[1mred ")?;
+/// assert!(rt; trimmed.as_str() == "\x1b[1mred");
+/// ```
 pub fn trim_in<'t, A: Allocator>(alloc: A, text: &'t str) -> Result<CowStr<'t, A>, AllocError>
     ensures bytes { IfOk result (λ c. cow_str_bytes c ≡ trimmed text.now) }
     ensures borrowed { IfOk result (λ c. IsBorrowedStr c ↔ IsFalse (has_escape text.now)) }

@@ -6,12 +6,12 @@ ghost use Rattle.ansi_slice.specs.Ranges.{past_inclusive};
 use std::ops::{Range, RangeFrom, RangeFull, RangeInclusive, RangeTo, RangeToInclusive};
 
 /// A range of positions of a plain text, in bytes from its start: `a..b`, `a..=b`, `a..`, `..b`,
-/// `..=b` or `..`.
+/// `..=b` or `..`. Takes no memory. (std; as a trait, own.)
 ///
 /// ```
-/// assert_eq!(AnsiRange::start(&(2..=5)), 2);
-/// assert_eq!(AnsiRange::end(&(2..=5)), Some(6));
-/// assert_eq!(AnsiRange::end(&(2..)), None);
+/// let text = "\x1b[30mTEXT\x1b[39m";
+/// assert!(rt; text.ansi_cut(rt.alloc(), 1..=2)?.as_str() == "\x1b[30mEX\x1b[39m");
+/// assert!(rt; text.ansi_cut(rt.alloc(), ..)?.as_str() == "\x1b[30mTEXT\x1b[39m");
 /// ```
 pub trait AnsiRange: Drop {
     /// The position that the range begins at.
@@ -21,6 +21,11 @@ pub trait AnsiRange: Drop {
     ghost end: { Self → Option ℕ };
 
     /// The position that the range begins at: 0 where none is written. (std)
+    ///
+    /// ```
+    /// assert!(rt; AnsiRange::start(&(2..=5)) == 2);
+    /// assert!(rt; AnsiRange::start(&(..5)) == 0);
+    /// ```
     fn start(&self) -> usize
         ensures { result ≡ start self.now };
 
@@ -28,6 +33,11 @@ pub trait AnsiRange: Drop {
     ///
     /// After an inclusive end `b` that is `b + 1`, and an inclusive end of `usize::MAX` is no end.
     /// (std, but for `usize::MAX`.)
+    ///
+    /// ```
+    /// assert!(rt; AnsiRange::end(&(2..=5)) == Some(6));
+    /// assert!(rt; AnsiRange::end(&(2..)).is_none());
+    /// ```
     fn end(&self) -> Option<usize>
         ensures { result ≡ end self.now };
 }

@@ -15,6 +15,13 @@ use std::alloc::{AllocError, Allocator};
 use std::borrow::CowStr;
 
 /// As `AnsiStr::ansi_split_at`, with answers that live as long as the text, and their memory taken from any allocator.
+/// (Own.)
+///
+/// ```
+/// let (left, right) = split_at_in(rt.alloc(), "\x1b[30mTEXT\x1b[39m", 2)?;
+/// assert!(rt; left.as_str() == "\x1b[30mTE\x1b[39m");
+/// assert!(rt; right.as_str() == "\x1b[30mXT\x1b[39m");
+/// ```
 pub fn split_at_in<'t, A: Allocator + Copy>(
     alloc: A,
     text: &'t str,

@@ -2,7 +2,14 @@
 
 /// One edit of a text, taken as if its sequences weren't there. (The Rust crate lacks it.)
 ///
-/// Positions count bytes of the plain text.
+/// Positions count bytes of the plain text. An edit that is refused makes a `None` of the whole list.
+///
+/// ```
+/// let part = Edit::Part { pat: " ", index: 1 };
+/// let edits = [part, Edit::Right(1), Edit::Suffix("!"), Edit::Trim];
+/// let edited = edit(rt.alloc(), "\x1b[1mlion tiger!", &edits)?.ok_or("refused")?;
+/// assert!(rt; edited.as_str() == "\x1b[1miger\x1b[22m");
+/// ```
 #[derive(Debug, Clone, Copy, PartialEq, Eq)]
 pub enum Edit<'p> {
     /// The text between two positions, or from a start on: [`ansi_cut`](crate::AnsiStr::ansi_cut).

@@ -12,19 +12,25 @@ use std::fmt;
 use std::marker::Model;
 
 /// Prints the start of a style: the sequences that set it, each code in one of its own. What is
-/// printed has 163 bytes at most. (The Rust crate.)
+/// printed has 163 bytes at most. Printing takes no memory, and an `Err` is the writer's. (The Rust
+/// crate.)
 ///
 /// ```
-/// assert_eq!(style.start().to_string(alloc)?, "\x1b[1m\x1b[31m");
+/// let block = get_blocks(rt.alloc(), "\x1b[31;1mred").next().ok_or("no block")??;
+/// let start = block.style().start().to_string(rt.alloc())?;
+/// assert!(rt; start.as_str() == "\x1b[1m\x1b[31m");
 /// ```
 #[derive(Drop)]
 pub struct AnsiSequenceStart<'a>(pub(super) &'a Style);
 
 /// Prints the close of a style, the sequences that end it, where the style has something to end, and
-/// else nothing. What is printed has 88 bytes at most. (The Rust crate, the font counted.)
+/// else nothing. What is printed has 88 bytes at most. Printing takes no memory, and an `Err` is the
+/// writer's. (The Rust crate, the font counted.)
 ///
 /// ```
-/// assert_eq!(style.end().to_string(alloc)?, "\x1b[22m\x1b[39m");
+/// let block = get_blocks(rt.alloc(), "\x1b[31;1mred").next().ok_or("no block")??;
+/// let end = block.style().end().to_string(rt.alloc())?;
+/// assert!(rt; end.as_str() == "\x1b[22m\x1b[39m");
 /// ```
 #[derive(Drop)]
 pub struct AnsiSequenceEnd<'a>(pub(super) &'a Style);
@@ -61,10 +67,10 @@ impl<'a> Model for Close<'a> {
 }
 
 impl AnsiSequenceEnd<'_> {
-    /// The sequence that ends every style. (The Rust crate.)
+    /// The sequence that ends every style. (The Rust crate; ECMA-48, section 8.3.117.)
     ///
     /// ```
-    /// assert_eq!(AnsiSequenceEnd::RESET_ALL, "\x1b[0m");
+    /// assert!(rt; AnsiSequenceEnd::RESET_ALL == "\x1b[0m");
     /// ```
     pub const RESET_ALL: &'static str = "\u{1b}[0m";
 }

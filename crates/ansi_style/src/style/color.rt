@@ -7,30 +7,55 @@ use ansi_items::ansitok::AnsiColor;
 /// A color by its name, by its number among 256, or by its red, green and blue.
 ///
 /// Colors compare in the order in which they are written here. `Purple` and `BrightPurple` come of no
-/// sequence. (The Rust crate.)
+/// sequence. (The Rust crate; the codes, ECMA-48, section 8.3.117, and 90 to 97 and 100 to 107, which
+/// terminals share.)
+///
+/// ```
+/// let block = get_blocks(rt.alloc(), "\x1b[38;5;200mx").next().ok_or("no block")??;
+/// assert!(rt; block.style().foreground() == Some(Color::Fixed(200)));
+/// assert!(rt; Color::Black < Color::Red);
+/// ```
 #[derive(Debug, Clone, Copy, PartialEq, Eq, PartialOrd, Ord, Hash)]
 pub enum Color {
+    /// Code 30, or 40 for a background.
     Black,
+    /// Code 90, or 100 for a background.
     BrightBlack,
+    /// Code 31, or 41 for a background.
     Red,
+    /// Code 91, or 101 for a background.
     BrightRed,
+    /// Code 32, or 42 for a background.
     Green,
+    /// Code 92, or 102 for a background.
     BrightGreen,
+    /// Code 33, or 43 for a background.
     Yellow,
+    /// Code 93, or 103 for a background.
     BrightYellow,
+    /// Code 34, or 44 for a background.
     Blue,
+    /// Code 94, or 104 for a background.
     BrightBlue,
+    /// No code sets it.
     Purple,
+    /// No code sets it.
     BrightPurple,
+    /// Code 35, or 45 for a background.
     Magenta,
+    /// Code 95, or 105 for a background.
     BrightMagenta,
+    /// Code 36, or 46 for a background.
     Cyan,
+    /// Code 96, or 106 for a background.
     BrightCyan,
+    /// Code 37, or 47 for a background.
     White,
+    /// Code 97, or 107 for a background.
     BrightWhite,
-    /// A color by its number among 256.
+    /// A color by its number among 256: `38;5` and the number, `48;5` for a background.
     Fixed(u8),
-    /// A color by its red, green and blue.
+    /// A color by its red, green and blue: `38;2` and these, `48;2` for a background.
     Rgb(u8, u8, u8),
 }
 
@@ -38,6 +63,12 @@ impl From<AnsiColor> for Color {
     ghost from_gives = { λ color named. named ≡ color_of color };
 
     /// The color by its name. A number of `Bit4` that is no code of one of the sixteen stays a number.
+    /// Takes no memory. (The Rust crate.)
+    ///
+    /// ```
+    /// assert!(rt; Color::from(AnsiColor::Bit4(35)) == Color::Magenta);
+    /// assert!(rt; Color::from(AnsiColor::Bit4(38)) == Color::Fixed(38));
+    /// ```
     fn from(color: AnsiColor) -> Color {
         match color {
             AnsiColor::Bit4(code) => color_of_code(code),

@@ -2,6 +2,8 @@
 pub mod blocks;
 pub mod buffers;
 pub mod chains;
+pub mod laws;
+pub mod matches;
 pub mod parts;
 pub mod scans;
 pub mod searches;

@@ -1,5 +1,5 @@
 -- What is found of a pattern that a text begins or ends with, in std's words.
-use Rattle.std.proofs.Common.{◌≡◌, ℕ, ◌-◌, ◌<◌, ◌++◌, inl, inr, Bool, true, false, List, take, drop, length, nat_eq, Option, Some, None, MatchOption, is_some, refl, sym, ◌∙◌, ap, arith}
+use Rattle.std.proofs.Common.{◌≡◌, ℕ, ◌-◌, ◌++◌, inl, inr, Bool, true, false, List, take, drop, length, nat_eq, Option, Some, None, MatchOption, is_some, refl, sym, ◌∙◌, ap, arith}
 use Rattle.std.proofs.lemmas.Bool.{cases_lt, eqb-true, eq-eqb}
 use Rattle.std.proofs.lemmas.List.{take-append-drop, take_at, take_all, length-drop}
 use Rattle.std.proofs.lemmas.Slice.Eq.{bytes_eq-Decides}

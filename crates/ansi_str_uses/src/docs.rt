@@ -1,0 +1,10 @@
+//! The examples of the library's docs, each in the same words, as `docs/check-quotes` sees to.
+mod blocks;
+mod calls;
+mod colors;
+mod edits;
+mod parts;
+mod ranges;
+mod scanner;
+mod slices;
+mod styles;
