@@ -25,7 +25,7 @@ fn marked(alloc: Global, line: &str, pattern: &str) -> Result<String, AllocError
 
 fn main(rt: HostRuntime) -> anyhow::Result<()> {
     let alloc = rt.alloc();
-    let pattern = env::args(&rt)?.nth(1).context("what is to be found?")?;
+    let pattern = env::args(&rt)?.nth(1).context("no text to find is given")?;
     for (index, line) in rt.lines(alloc).enumerate() {
         let line = line?;
         if line.ansi_find(pattern.as_str()).is_some() {

@@ -44,7 +44,7 @@ fn between(
 
 fn main(rt: HostRuntime) -> anyhow::Result<()> {
     let alloc = rt.alloc();
-    let word = env::args(&rt)?.nth(1).context("how wide?")?;
+    let word = env::args(&rt)?.nth(1).context("no width is given")?;
     let width = word.parse::<usize>().context("the width is a number")?;
     for line in rt.lines(alloc) {
         let line = line?;
