@@ -1,5 +1,5 @@
 -- A search that reads a text once: with how much of a pattern the bytes read end, and where a match may still begin.
-use Rattle.std.specs.Prelude.{◌≡◌, ◌≢◌, ℕ, ◌+◌, ◌-◌, ◌<◌, ◌≤◌, List, ◌++◌, length, drop, nat_eq, slice_index, IsTrue, ⊤}
+use Rattle.std.specs.Prelude.{◌≡◌, ◌≢◌, ℕ, ◌+◌, ◌-◌, ◌<◌, ◌≤◌, List, ◌++◌, length, drop, nat_eq, slice_index, IsTrue}
 use Rattle.std.specs.List.{starts_with}
 use Rattle.memchr.specs.Find.{Nowhere}
 use Rattle.ansi_slice.specs.declared.search.pattern.Reading.{Reading}

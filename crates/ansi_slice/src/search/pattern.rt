@@ -27,9 +27,9 @@ pub(super) struct Pattern<'p> {
 /// How far a search has come in a text.
 #[derive(Clone, Copy)]
 pub(super) struct Reached {
-    /// How many bytes of the front the plain text ends with that was read. They may go on after it.
+    /// The plain text that was read ends with so many bytes of the front, which may go on after it.
     pub(super) met: usize,
-    /// An offset of the text, up to which the front's first byte stands nowhere after what was read.
+    /// From there up to this offset of the text, the front's first byte stands nowhere.
     pub(super) next: usize,
 }
 
@@ -63,8 +63,8 @@ impl<'p> Pattern<'p> {
         self.front.len()
     }
 
-    /// Reads a run of a text, which ends at `end`, from the offset `from` on, where the search has come
-    /// up to there.
+    /// Reads a run of a text, which ends at the offset `end`, from the offset `from` on, after a search
+    /// that has come up to there.
     pub(super) fn read(&self, text: &str, from: usize, end: usize, reached: Reached) -> Reading
         requires ordered { from ≤ end }
         requires boundary { IsCharBoundary text.now end }
@@ -96,8 +96,8 @@ impl<'p> Pattern<'p> {
     }
 }
 
-/// Where the front goes on, or where it may begin: at its first byte, or past the end of all. Up to the
-/// offset `next` that stands nowhere.
+/// Where the front goes on, or where it may begin: at its first byte, or at the end of the bytes. Before
+/// the offset `next` that byte stands nowhere.
 #[inline(always)]
 fn next_start(bytes: &[u8], at: usize, first: u8, met: usize, next: usize) -> usize
     requires within { at ≤ length bytes.now }

@@ -2,7 +2,7 @@ use Rattle.std.proofs.Common.{◌≡◌, ◌+◌, ◌-◌, ◌<◌, ◌≤◌, �
 use Rattle.std.specs.List.{slice_range, starts_with}
 use Rattle.ansi_items.specs.Plain.{plain}
 use Rattle.ansi_slice.specs.Searches.{IsBorder, IsRead}
-use Rattle.ansi_slice.proofs.BorderLemmas.{ReadsTo, MeetsAt, reads-start, reads-over, reads-on, meets-short, meets-all, meets-apart}
+use Rattle.ansi_slice.proofs.BorderLemmas.{MeetsAt, reads-start, reads-over, reads-on, meets-short, meets-all, meets-apart}
 use Rattle.ansi_slice.proofs.search.pattern.Pattern.read.Goals as goal
 
 pub loop-at-init : goal.loop-at-init
