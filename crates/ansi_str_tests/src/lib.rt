@@ -14,6 +14,8 @@ mod blocks;
 #[cfg(test)]
 mod boundary;
 #[cfg(test)]
+mod checks;
+#[cfg(test)]
 mod colors;
 #[cfg(test)]
 mod cut;
@@ -39,6 +41,8 @@ mod plain;
 mod prefix;
 #[cfg(test)]
 mod reads;
+#[cfg(test)]
+mod refusals;
 #[cfg(test)]
 mod scanner;
 #[cfg(test)]

@@ -2,6 +2,7 @@
 use super::style::NamedStyle;
 use super::{items, plain, spelling, text_at};
 use crate::any_range::AnyRange;
+use crate::checks::{expect, text_of};
 use ansi_str::ansitok::{Item, Kind};
 use std::alloc::{AllocError, Global};
 use std::process::Abort;
@@ -98,14 +99,14 @@ fn expect_cut(
         None => AnyRange::RangeFrom(start),
     };
     let got = any_range.get(alloc, &text)?;
-    if is_good_range(plain, start, last) {
-        let mut want = kept_bytes(alloc, text, kept, start, last)?;
-        want.extend_from_slice(close.as_bytes())?;
-        let got = got.as_ref().map(|cut| cut.as_bytes());
-        assert!(rt; got == Some(want.as_slice()), "{any_range:?} of {text:?}");
-    } else {
-        assert!(rt; got.is_none(), "{any_range:?} of {text:?}");
+    if !is_good_range(plain, start, last) {
+        expect(rt, got.is_none(), "a refusal", (any_range, text));
+        return Ok(());
     }
+    let mut want = kept_bytes(alloc, text, kept, start, last)?;
+    want.extend_from_slice(close.as_bytes())?;
+    let got = got.as_ref().map(|cut| cut.as_bytes());
+    expect(rt, got == Some(want.as_slice()), "the cut", (any_range, text));
     Ok(())
 }
 
@@ -210,9 +211,9 @@ fn longer_texts_are_cut_as_defined(rt: HostRuntime) -> Result<(), Fail> {
 fn expect_closed(rt: &impl Abort, alloc: Global, text: &str) -> Result<(), Fail> {
     let items = items(alloc, text)?;
     let close = close_after(alloc, text, items.as_slice())?;
+    let want = format!(in alloc; "{text}{close}")?;
     let got = AnyRange::RangeFull.get(alloc, &text)?;
-    let got = got.as_ref().and_then(|cut| cut.as_str().strip_prefix(text));
-    assert!(rt; got == Some(close.as_str()), "close of {text:?}");
+    expect(rt, text_of(&got) == Some(want.as_str()), "the close", text);
     Ok(())
 }
 

@@ -1,10 +1,10 @@
 //! Parts, item by item of a text, compared with those of the library.
 use super::style::NamedStyle;
 use super::{items, plain, spelling, text_at};
+use crate::checks::{expect, expect_text};
 use ansi_str::AnsiStr;
 use ansi_str::ansitok::{Item, Kind};
 use std::alloc::{AllocError, Global};
-use std::borrow::CowStr;
 use std::process::Abort;
 use std::test::Fail;
 
@@ -104,27 +104,6 @@ fn part(
     part.finish(alloc)
 }
 
-/// Compares one part of a text by a pattern, which has these ends.
-fn expect_part(
-    rt: &impl Abort,
-    got: &CowStr<'_>,
-    want: &(String, bool),
-    text: &str,
-    pat: &str,
-    interval: (usize, usize),
-) {
-    let (bytes, is_borrow) = want;
-    assert!(rt;
-        got.as_str() == bytes.as_str(),
-        "{interval:?} of {text:?} by {pat:?}"
-    );
-    let got_borrow = matches!(got, CowStr::Borrowed(_));
-    assert!(rt;
-        got_borrow == *is_borrow,
-        "borrow of {interval:?} of {text:?} by {pat:?}"
-    );
-}
-
 /// Compares the parts of a text by a pattern.
 fn expect_parts<'t>(
     rt: &impl Abort,
@@ -137,15 +116,12 @@ fn expect_parts<'t>(
     let mut parts = text.ansi_split(alloc, pat);
     let mut before = None;
     for interval in intervals(alloc, plain, pat)? {
-        let want = part(alloc, text, items, before, interval)?;
+        let (want, is_borrow) = part(alloc, text, items, before, interval)?;
         let got = parts.next().ok_or("a part is missing")??;
-        expect_part(rt, &got, &want, text, pat, interval);
+        expect_text(rt, &got, want.as_str(), is_borrow, (interval, text, pat));
         before = Some(interval.1);
     }
-    assert!(rt;
-        parts.next().is_none(),
-        "a part too many of {text:?} by {pat:?}"
-    );
+    expect(rt, parts.next().is_none(), "no part more", (text, pat));
     Ok(())
 }
 
