@@ -36,8 +36,6 @@ mod hostile;
 #[cfg(test)]
 mod memory;
 #[cfg(test)]
-mod plain;
-#[cfg(test)]
 mod prefix;
 #[cfg(test)]
 mod reads;

@@ -1,10 +1,11 @@
 //! Parts, item by item of a text, compared with those of the library.
 use super::style::NamedStyle;
 use super::{items, plain, spelling, text_at};
-use crate::checks::{expect, expect_text};
+use crate::checks::expect;
 use ansi_str::AnsiStr;
 use ansi_str::ansitok::{Item, Kind};
 use std::alloc::{AllocError, Global};
+use std::borrow::CowStr;
 use std::process::Abort;
 use std::test::Fail;
 
@@ -104,6 +105,21 @@ fn part(
     part.finish(alloc)
 }
 
+/// Compares a part of a text by a pattern, and whether it is a borrow.
+fn expect_part(
+    rt: &impl Abort,
+    got: &CowStr<'_>,
+    want: &(String, bool),
+    text: &str,
+    pat: &str,
+) {
+    let (bytes, is_borrow) = want;
+    let name = (text, pat, bytes.as_str());
+    expect(rt, got.as_str() == bytes.as_str(), "a part", name);
+    let got_borrow = matches!(got, CowStr::Borrowed(_));
+    expect(rt, got_borrow == *is_borrow, "whether a part is a borrow", name);
+}
+
 /// Compares the parts of a text by a pattern.
 fn expect_parts<'t>(
     rt: &impl Abort,
@@ -116,9 +132,9 @@ fn expect_parts<'t>(
     let mut parts = text.ansi_split(alloc, pat);
     let mut before = None;
     for interval in intervals(alloc, plain, pat)? {
-        let (want, is_borrow) = part(alloc, text, items, before, interval)?;
+        let want = part(alloc, text, items, before, interval)?;
         let got = parts.next().ok_or("a part is missing")??;
-        expect_text(rt, &got, want.as_str(), is_borrow, (interval, text, pat));
+        expect_part(rt, &got, &want, text, pat);
         before = Some(interval.1);
     }
     expect(rt, parts.next().is_none(), "no part more", (text, pat));
