@@ -7,32 +7,114 @@ mod memory;
 use crate::page::{Outcome, Page};
 use crate::runs::run;
 use std::alloc::{AllocError, Global};
+use std::fmt::Debug;
 use std::process::Abort;
 use std::test::Fail;
 
 // How many bytes a read gives, so that most inputs take several.
 const CHUNK: usize = 7;
 
-// A run's status, and its pages.
+// How many bytes an output takes.
+const ROOM: usize = 100;
+
+// More bytes than any input has.
+const ALL: usize = 2_000_000;
+
+// What the devices of a run do.
+#[derive(Drop)]
+struct Plan {
+    // How the calls of each device come out.
+    input: Vec<Outcome>,
+    output: Vec<Outcome>,
+    faults: Vec<Outcome>,
+    // How many bytes a read gives at most.
+    chunk: usize,
+    // How many bytes the output takes.
+    room: usize,
+}
+
+impl Plan {
+    // Devices that work.
+    fn new(alloc: Global) -> Self {
+        Plan {
+            input: Vec::new(alloc),
+            output: Vec::new(alloc),
+            faults: Vec::new(alloc),
+            chunk: CHUNK,
+            room: ROOM,
+        }
+    }
+}
+
+// What a run has done. It has no pages, so that a check of it is quick to prove.
 #[derive(Drop)]
 struct Ran {
     status: u8,
-    input: Page,
-    output: Page,
-    faults: Page,
+    output: Vec<u8>,
+    faults: Vec<u8>,
+    // How many bytes of the output are passed on.
+    passed: usize,
+    // How many outcomes of each device no call has taken.
+    input_left: usize,
+    output_left: usize,
+    faults_left: usize,
 }
 
-fn run_over(
+impl Ran {
+    fn over(
+        alloc: Global,
+        status: u8,
+        input: &Page,
+        output: &Page,
+        faults: &Page,
+    ) -> Result<Self, AllocError> {
+        Ok(Ran {
+            status,
+            output: output.bytes().to_vec(alloc)?,
+            faults: faults.bytes().to_vec(alloc)?,
+            passed: output.passed(),
+            input_left: input.outcomes_left(),
+            output_left: output.outcomes_left(),
+            faults_left: faults.outcomes_left(),
+        })
+    }
+}
+
+fn input_page(
     alloc: Global,
-    words: &[&str],
-    mut input: Page,
-    mut output: Page,
-    mut faults: Page,
-) -> Result<Ran, AllocError> {
+    bytes: &[u8],
+    chunk: usize,
+    schedule: Vec<Outcome>,
+) -> Result<Page, AllocError> {
+    let page = Page::of(alloc, bytes.to_vec(alloc)?);
+    Ok(page.in_chunks(chunk).with_schedule(schedule))
+}
+
+fn empty_page(alloc: Global, room: usize, schedule: Vec<Outcome>) -> Result<Page, AllocError> {
+    Ok(Page::with_room(alloc, room)?.with_schedule(schedule))
+}
+
+fn owned(alloc: Global, words: &[&str]) -> Result<Vec<String>, AllocError> {
     let mut given = Vec::new(alloc);
     for word in words {
         given.push(String::from_str(alloc, word)?)?;
     }
+    Ok(given)
+}
+
+// Runs over devices that do as they are told.
+fn run_with(alloc: Global, words: &[&str], bytes: &[u8], plan: Plan) -> Result<Ran, AllocError> {
+    let given = owned(alloc, words)?;
+    let Plan {
+        input,
+        output,
+        faults,
+        chunk,
+        room,
+    } = plan;
+    let mut input = input_page(alloc, bytes, chunk, input)?;
+    let mut output = empty_page(alloc, room, output)?;
+    let mut faults = empty_page(alloc, ROOM, faults)?;
     let status = run(
         alloc,
         given.as_slice(),
@@ -40,22 +122,12 @@ fn run_over(
         &mut output,
         &mut faults,
     );
-    Ok(Ran {
-        status,
-        input,
-        output,
-        faults,
-    })
+    Ran::over(alloc, status, &input, &output, &faults)
 }
 
-// Runs over an output and a fault writer that work.
-fn run_on(alloc: Global, words: &[&str], input: Page) -> Result<Ran, AllocError> {
-    let output = Page::with_room(alloc, 100)?;
-    run_over(alloc, words, input, output, Page::with_room(alloc, 100)?)
-}
-
-fn page_of(alloc: Global, bytes: &[u8]) -> Result<Page, AllocError> {
-    Ok(Page::of(alloc, bytes.to_vec(alloc)?).in_chunks(CHUNK))
+// Runs over devices that work.
+fn run_on(alloc: Global, words: &[&str], bytes: &[u8]) -> Result<Ran, AllocError> {
+    run_with(alloc, words, bytes, Plan::new(alloc))
 }
 
 // So many calls that work, and then one that comes out as told.
@@ -65,10 +137,26 @@ fn at_call(alloc: Global, call: usize, outcome: Outcome) -> Result<Vec<Outcome>,
     Ok(schedule)
 }
 
-fn expect(rt: &impl Abort, ran: &Ran, status: u8, output: &str, faults: &str, what: &str) {
-    assert!(rt; ran.status == status, "status of {what}");
-    assert!(rt; ran.output.bytes() == output.as_bytes(), "output of {what}");
-    assert!(rt; ran.faults.bytes() == faults.as_bytes(), "faults of {what}");
+// Ends the test where this doesn't hold of a run.
+fn expect<R: Copy + Debug>(rt: &impl Abort, holds: bool, what: &str, run: R) {
+    assert!(rt; holds, "{what} of {run:?}");
+}
+
+// A run ends so.
+fn expect_end<R: Copy + Debug>(
+    rt: &impl Abort,
+    ran: &Ran,
+    status: u8,
+    output: &str,
+    faults: &str,
+    run: R,
+) {
+    let has_status = ran.status == status;
+    expect(rt, has_status, "status", run);
+    let has_output = ran.output.as_slice() == output.as_bytes();
+    expect(rt, has_output, "output", run);
+    let has_faults = ran.faults.as_slice() == faults.as_bytes();
+    expect(rt, has_faults, "faults", run);
 }
 
 // What the words make of an input, all of which is passed on.
@@ -131,12 +219,9 @@ static ANSWERED: [Row; 32] = [
 
 fn expect_answered(rt: &impl Abort, alloc: Global, row: &Row) -> Result<(), Fail> {
     let (words, text, answer) = *row;
-    let ran = run_on(alloc, words, page_of(alloc, text.as_bytes())?)?;
-    expect(rt, &ran, 0, answer, "", text);
-    assert!(rt;
-        ran.output.passed() == answer.len(),
-        "what {words:?} passes on of {text:?}"
-    );
+    let ran = run_on(alloc, words, text.as_bytes())?;
+    expect_end(rt, &ran, 0, answer, "", row);
+    expect(rt, ran.passed == answer.len(), "what is passed on", row);
     Ok(())
 }
 
@@ -205,12 +290,9 @@ static REFUSED: [Refusal; 14] = [
 
 fn expect_refused(rt: &impl Abort, alloc: Global, row: &Refusal) -> Result<(), Fail> {
     let (words, text, before, refused) = *row;
-    let ran = run_on(alloc, words, page_of(alloc, text.as_bytes())?)?;
-    expect(rt, &ran, 1, before, refused, text);
-    assert!(rt;
-        ran.output.passed() == before.len(),
-        "what {words:?} passes on of {text:?}"
-    );
+    let ran = run_on(alloc, words, text.as_bytes())?;
+    expect_end(rt, &ran, 1, before, refused, row);
+    expect(rt, ran.passed == before.len(), "what is passed on", row);
     Ok(())
 }
 
@@ -275,18 +357,13 @@ static BAD_WORDS: [&[&str]; 49] = [
 ];
 
 fn expect_bad(rt: &impl Abort, alloc: Global, words: &[&str]) -> Result<(), Fail> {
-    let planned = at_call(alloc, 0, Outcome::Failed)?;
-    let input = page_of(alloc, b"abc\n")?.with_schedule(planned.clone()?);
-    let output = Page::with_room(alloc, 100)?.with_schedule(planned);
-    let faults = Page::with_room(alloc, 100)?;
-    let ran = run_over(alloc, words, input, output, faults)?;
-    assert!(rt; ran.status == 2, "status of {words:?}");
-    assert!(rt;
-        ran.faults.bytes() == b"bad words\n".as_slice(),
-        "faults of {words:?}"
-    );
-    assert!(rt; ran.input.outcomes_left() == 1, "a read for {words:?}");
-    assert!(rt; ran.output.outcomes_left() == 1, "a write for {words:?}");
+    let mut plan = Plan::new(alloc);
+    plan.input = at_call(alloc, 0, Outcome::Failed)?;
+    plan.output = at_call(alloc, 0, Outcome::Failed)?;
+    let ran = run_with(alloc, words, b"abc\n", plan)?;
+    expect_end(rt, &ran, 2, "", "bad words\n", words);
+    expect(rt, ran.input_left == 1, "no read", words);
+    expect(rt, ran.output_left == 1, "no write", words);
     Ok(())
 }
 
@@ -298,21 +375,28 @@ fn bad_words_read_nothing(rt: HostRuntime) -> Result<(), Fail> {
     Ok(())
 }
 
-fn expect_limit(rt: &impl Abort, alloc: Global, word: &str) -> Result<(), Fail> {
-    let longest = vec![in alloc; b'a'; 1_048_576]?;
-    let input = Page::of(alloc, longest.clone()?);
-    let output = Page::with_room(alloc, 1_048_576)?;
-    let faults = Page::with_room(alloc, 100)?;
-    let ran = run_over(alloc, &[word], input, output, faults)?;
-    assert!(rt; ran.status == 0, "status of {word} on the longest input");
-    assert!(rt;
-        ran.output.bytes() == longest.as_slice(),
-        "output of {word} on the longest input"
-    );
-    let longer = vec![in alloc; b'a'; 1_048_577]?;
-    let ran = run_on(alloc, &[word], Page::of(alloc, longer))?;
-    expect(rt, &ran, 3, "", "bad input\n", "an input that is too long");
+fn expect_longest(rt: &impl Abort, alloc: Global, word: &str) -> Result<(), Fail> {
+    let longest = "a".repeat(alloc, 1_048_576)?;
+    let mut plan = Plan::new(alloc);
+    plan.chunk = ALL;
+    plan.room = ALL;
+    let ran = run_with(alloc, &[word], longest.as_bytes(), plan)?;
+    expect_end(rt, &ran, 0, longest.as_str(), "", word);
     Ok(())
+}
+
+fn expect_too_long(rt: &impl Abort, alloc: Global, word: &str) -> Result<(), Fail> {
+    let longer = "a".repeat(alloc, 1_048_577)?;
+    let mut plan = Plan::new(alloc);
+    plan.chunk = ALL;
+    let ran = run_with(alloc, &[word], longer.as_bytes(), plan)?;
+    expect_end(rt, &ran, 3, "", "bad input\n", word);
+    Ok(())
+}
+
+fn expect_limit(rt: &impl Abort, alloc: Global, word: &str) -> Result<(), Fail> {
+    expect_longest(rt, alloc, word)?;
+    expect_too_long(rt, alloc, word)
 }
 
 #[test]
@@ -324,13 +408,8 @@ fn an_input_at_the_limit_is_taken_and_one_beyond_refused(rt: HostRuntime) -> Res
 static NO_TEXTS: [&[u8]; 3] = [b"\xff", b"abc\n\xc3", b"\xed\xa0\x80\n"];
 
 fn expect_no_text(rt: &impl Abort, alloc: Global, bytes: &[u8]) -> Result<(), Fail> {
-    let ran = run_on(alloc, &["strip"], page_of(alloc, bytes)?)?;
-    assert!(rt; ran.status == 3, "status of {bytes:?}");
-    assert!(rt; ran.output.bytes().is_empty(), "output of {bytes:?}");
-    assert!(rt;
-        ran.faults.bytes() == b"bad input\n".as_slice(),
-        "faults of {bytes:?}"
-    );
+    let ran = run_on(alloc, &["strip"], bytes)?;
+    expect_end(rt, &ran, 3, "", "bad input\n", bytes);
     Ok(())
 }
 

@@ -1,10 +1,11 @@
 //! The blocks of worked texts.
 use crate::Refusing;
-use crate::memory::expect_each_refusal;
+use crate::checks::expect;
+use crate::refusals::{Asked, expect_each_refusal};
 use crate::styles::{RESET, UNKNOWN, UNMARKED, expect_style};
-use ansi_str::{AnsiBlock, AnsiBlockIter, Color, get_blocks};
+use ansi_str::{AnsiBlock, AnsiBlockIter, Color, Style, get_blocks};
 use ansi_str_uses::callers::blocks::{count_blocks, have_same_blocks, write_cell, write_status};
-use std::alloc::{AllocError, Allocator, Global};
+use std::alloc::{Allocator, Global};
 use std::process::Abort;
 use std::test::Fail;
 
@@ -128,43 +129,38 @@ static ROWS: [Row; 15] = [
     ("\x1b]", &[("\x1b]", PLAIN, false)]),
 ];
 
-/// The style of a block of the text looks so.
-fn expect_style_look(
+fn expect_colors(rt: &impl Abort, style: &Style, want: &StyleLook, text: &str) {
+    let (_, _, _, foreground, background) = *want;
+    expect(rt, style.foreground() == foreground, "a foreground", text);
+    expect(rt, style.background() == background, "a background", text);
+}
+
+/// The block of a text looks so.
+fn expect_look(
     rt: &impl Abort,
     alloc: Global,
     block: &AnsiBlock<'_>,
-    want: &StyleLook,
+    want: &Look,
     text: &str,
 ) -> Result<(), Fail> {
-    let (marks, start, has_ansi, foreground, background) = *want;
-    let style = block.style();
-    assert!(rt;
-        block.has_ansi() == has_ansi,
-        "has_ansi of a block of {text:?}"
-    );
-    assert!(rt;
-        style.foreground() == foreground,
-        "a foreground in {text:?}"
-    );
-    assert!(rt;
-        style.background() == background,
-        "a background in {text:?}"
-    );
-    expect_style(rt, alloc, style, marks, start, text)
+    let (block_text, style, _) = want;
+    let (marks, start, has_ansi, _, _) = *style;
+    expect(rt, block.text() == *block_text, "a block", text);
+    expect(rt, block.has_ansi() == has_ansi, "has_ansi", text);
+    expect_colors(rt, block.style(), style, text);
+    expect_style(rt, alloc, block.style(), marks, start, text)
 }
 
 /// The next block of a text is there, and looks so.
 fn expect_block(
     rt: &impl Abort,
     alloc: Global,
-    got: Option<Result<AnsiBlock<'_>, AllocError>>,
+    blocks: &mut AnsiBlockIter<'_>,
     want: &Look,
     text: &str,
 ) -> Result<(), Fail> {
-    let (block_text, style, _) = want;
-    let block = got.ok_or("a block is missing")??;
-    assert!(rt; block.text() == *block_text, "a block of {text:?}");
-    expect_style_look(rt, alloc, &block, style, text)
+    let block = blocks.next().ok_or("a block is missing")??;
+    expect_look(rt, alloc, &block, want, text)
 }
 
 /// The iterator has nothing left, and stays so.
@@ -174,7 +170,7 @@ pub fn expect_ended<A: Allocator + Copy>(
     text: &str,
 ) {
     for _ in 0..3u8 {
-        assert!(rt; blocks.next().is_none(), "the end of {text:?}");
+        expect(rt, blocks.next().is_none(), "the end of the blocks", text);
     }
 }
 
@@ -182,11 +178,11 @@ fn expect_blocks(rt: &impl Abort, alloc: Global, row: &Row) -> Result<(), Fail> 
     let (text, want) = *row;
     let mut blocks = get_blocks(alloc, text);
     for block in want {
-        expect_block(rt, alloc, blocks.next(), block, text)?;
+        expect_block(rt, alloc, &mut blocks, block, text)?;
     }
     expect_ended(rt, &mut blocks, text);
     let count = count_blocks(alloc, text)?;
-    assert!(rt; count == want.len(), "how many blocks {text:?} has");
+    expect(rt, count == want.len(), "how many blocks", text);
     Ok(())
 }
 
@@ -198,27 +194,43 @@ fn blocks_are_given(rt: HostRuntime) -> Result<(), Fail> {
     Ok(())
 }
 
-/// A block takes no memory where it is a borrow, and only there.
+/// The clone of a block takes no memory where that is a borrow, and only there.
+fn expect_clone(
+    rt: &impl Abort,
+    heap: &Refusing<Global>,
+    block: &AnsiBlock<'_, &Refusing<Global>>,
+    is_borrow: bool,
+    text: &str,
+) -> Result<(), Fail> {
+    let before = heap.requests();
+    let clone = block.clone()?;
+    let takes_none = heap.requests() == before;
+    expect(rt, takes_none == is_borrow, "memory for a clone", text);
+    expect(rt, clone == *block, "a clone", text);
+    Ok(())
+}
+
+/// The same of the next block.
+fn expect_borrow(
+    rt: &impl Abort,
+    heap: &Refusing<Global>,
+    blocks: &mut AnsiBlockIter<'_, &Refusing<Global>>,
+    is_borrow: bool,
+    text: &str,
+) -> Result<(), Fail> {
+    let before = heap.requests();
+    let block = blocks.next().ok_or("a block is missing")??;
+    let takes_none = heap.requests() == before;
+    expect(rt, takes_none == is_borrow, "memory for a block", text);
+    expect_clone(rt, heap, &block, is_borrow, text)
+}
+
 fn expect_borrows(rt: &impl Abort, alloc: Global, row: &Row) -> Result<(), Fail> {
     let (text, want) = *row;
     let heap = Refusing::new(alloc, u64::MAX);
     let mut blocks = get_blocks(&heap, text);
-    for (block_text, _, is_borrow) in want {
-        let before = heap.requests();
-        let block = blocks.next().ok_or("a block is missing")??;
-        let takes_none = heap.requests() == before;
-        assert!(rt;
-            takes_none == *is_borrow,
-            "memory for {block_text:?} of {text:?}"
-        );
-        let before = heap.requests();
-        let clone = block.clone()?;
-        let takes_none = heap.requests() == before;
-        assert!(rt;
-            takes_none == *is_borrow,
-            "memory for a clone of {block_text:?} of {text:?}"
-        );
-        assert!(rt; clone == block, "a clone of {block_text:?} of {text:?}");
+    for (_, _, is_borrow) in want {
+        expect_borrow(rt, &heap, &mut blocks, *is_borrow, text)?;
     }
     Ok(())
 }
@@ -237,13 +249,7 @@ fn unfinished_sequences_are_blocks(rt: HostRuntime) -> Result<(), Fail> {
     let want = ("\x1b]", PLAIN, false);
     let mut blocks = get_blocks(rt.alloc(), text.as_str());
     for _ in 0..1000 {
-        expect_block(
-            &rt,
-            rt.alloc(),
-            blocks.next(),
-            &want,
-            "an unfinished sequence",
-        )?;
+        expect_block(&rt, rt.alloc(), &mut blocks, &want, "unfinished sequences")?;
     }
     expect_ended(&rt, &mut blocks, "unfinished sequences");
     Ok(())
@@ -256,13 +262,13 @@ fn blocks_outlive_their_iterator(rt: HostRuntime) -> Result<(), Fail> {
         let mut blocks = get_blocks(rt.alloc(), text.as_str());
         blocks.next().ok_or("a text has a block")??
     };
-    assert!(rt; first.clone()? == first, "its clone");
+    expect(&rt, first.clone()? == first, "its clone", "red");
     let want = (
         "red",
         (UNMARKED, "\x1b[31m", true, Some(Color::Red), None),
         true,
     );
-    expect_block(&rt, rt.alloc(), Some(Ok(first)), &want, text.as_str())
+    expect_look(&rt, rt.alloc(), &first, &want, text.as_str())
 }
 
 /// Two texts, and whether they have the same blocks.
@@ -284,7 +290,7 @@ static SAME_ROWS: [SameRow; 10] = [
 fn expect_same(rt: &impl Abort, alloc: Global, row: &SameRow) -> Result<(), Fail> {
     let (one, other, want) = *row;
     let got = have_same_blocks(alloc, one, other)?;
-    assert!(rt; got == want, "{one:?} and {other:?}");
+    expect(rt, got == want, "whether they are the same", row);
     Ok(())
 }
 
@@ -317,61 +323,49 @@ fn blocks_are_printed(rt: HostRuntime) -> Result<(), Fail> {
     Ok(())
 }
 
-/// A text, the texts of its blocks with `|` between them, and whether these take memory.
-type MemoryRow = (&'static str, &'static str, bool);
+/// A text, the texts of its blocks, and whether these take memory.
+type MemoryRow = (&'static str, &'static [&'static str], bool);
 
 static MEMORY_ROWS: [MemoryRow; 4] = [
     (
         "no \x1b[31msequence\x1b[0m waits, \x1b[1mso no memory",
-        "no |sequence| waits, |so no memory",
+        &["no ", "sequence", " waits, ", "so no memory"],
         false,
     ),
-    ("a\x1b]0;a title that waits in vain\x07", "a", false),
+    (
+        "a\x1b]0;a title that waits in vain\x07",
+        &["a"],
+        false,
+    ),
     (
         "a\x1b]0;title\x07\x1b[1mb\x1b]1;t\x07\x1b]2;u\x07c\x1bdd\x1b",
-        "a|\x1b]0;title\x07b|\x1b]1;t\x07\x1b]2;u\x07c|\x1bdd",
+        &[
+            "a",
+            "\x1b]0;title\x07b",
+            "\x1b]1;t\x07\x1b]2;u\x07c",
+            "\x1bdd",
+        ],
         true,
     ),
     (
         "\x1b]0;one title, and\x07\x1b]0;another one\x07\x1b[31m\x1b]0;and a third\x07a text that is long enough to make a text grow",
-        "\x1b]0;one title, and\x07\x1b]0;another one\x07\x1b]0;and a third\x07a text that is long enough to make a text grow",
+        &[
+            "\x1b]0;one title, and\x07\x1b]0;another one\x07\x1b]0;and a third\x07a text that is long enough to make a text grow",
+        ],
         true,
     ),
 ];
 
-/// Whether a block of the text, or the clone of one, is an `Err`; the blocks before it have to be the
-/// row's, and none may come after it.
-fn is_err(rt: &impl Abort, heap: &Refusing<Global>, row: &MemoryRow) -> bool {
-    let (text, want, _) = *row;
-    let mut blocks = get_blocks(heap, text);
-    for want in want.split('|') {
-        match blocks.next() {
-            Some(Ok(block)) => {
-                assert!(rt; block.text() == want, "a block of {text:?}");
-                match block.clone() {
-                    Ok(clone) => assert!(rt; clone == block, "a clone of a block of {text:?}"),
-                    Err(_) => return true,
-                }
-            }
-            Some(Err(_)) => {
-                expect_ended(rt, &mut blocks, text);
-                return true;
-            }
-            None => assert!(rt; false, "a block of {text:?} is missing"),
-        }
-    }
-    expect_ended(rt, &mut blocks, text);
-    false
-}
-
-fn expect_refusals(rt: &impl Abort, alloc: Global, row: &MemoryRow) {
-    let (text, _, takes_memory) = *row;
-    expect_each_refusal(rt, alloc, text, takes_memory, |heap| is_err(rt, heap, row));
+fn expect_refusals(rt: &impl Abort, alloc: Global, row: &MemoryRow) -> Result<(), Fail> {
+    let (text, want, takes_memory) = *row;
+    expect_each_refusal(rt, alloc, text, text, &Asked::Blocks(want), takes_memory)?;
+    expect_each_refusal(rt, alloc, text, text, &Asked::Clones(want), takes_memory)
 }
 
 #[test]
-fn blocks_meet_each_refusal(rt: HostRuntime) {
+fn blocks_meet_each_refusal(rt: HostRuntime) -> Result<(), Fail> {
     for row in &MEMORY_ROWS {
-        expect_refusals(&rt, rt.alloc(), row);
+        expect_refusals(&rt, rt.alloc(), row)?;
     }
+    Ok(())
 }

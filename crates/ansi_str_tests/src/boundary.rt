@@ -1,4 +1,5 @@
 //! The answers of `ansi_is_char_boundary` for worked texts, and what is split there.
+use crate::checks::expect;
 use ansi_str::AnsiStr;
 use ansi_str_uses::callers::searches::{cut_at_boundary, split_at_boundary};
 use std::alloc::Global;
@@ -31,20 +32,30 @@ static ROWS: [Row; 16] = [
     ("\x1b[1m", 1, false),
 ];
 
-fn expect_boundary(rt: &impl Abort, alloc: Global, row: &Row) -> Result<(), Fail> {
-    let (text, index, want) = *row;
+/// Whether an index is a boundary of the text.
+pub fn expect_boundary<T: AnsiStr>(
+    rt: &impl Abort,
+    text: &T,
+    index: usize,
+    want: bool,
+    name: &str,
+) {
     let got = text.ansi_is_char_boundary(index);
-    assert!(rt; got == want, "boundary {index} of {text:?}");
+    expect(rt, got == want, "the boundary", (index, name));
+}
+
+fn expect_row(rt: &impl Abort, alloc: Global, row: &Row) -> Result<(), Fail> {
+    let (text, index, want) = *row;
+    expect_boundary(rt, &text, index, want, text);
     let owned = String::from_str(alloc, text)?;
-    let got = owned.ansi_is_char_boundary(index);
-    assert!(rt; got == want, "boundary {index} of {text:?}, owned");
+    expect_boundary(rt, &owned, index, want, text);
     Ok(())
 }
 
 #[test]
 fn boundaries_are_known(rt: HostRuntime) -> Result<(), Fail> {
     for row in &ROWS {
-        expect_boundary(&rt, rt.alloc(), row)?;
+        expect_row(&rt, rt.alloc(), row)?;
     }
     Ok(())
 }

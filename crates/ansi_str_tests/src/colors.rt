@@ -1,6 +1,8 @@
 //! The names of colors.
+use crate::checks::expect;
 use ansi_str::Color;
 use ansi_str::ansitok::AnsiColor;
+use std::cmp::Ordering;
 use std::fmt::Debug;
 use std::process::Abort;
 
@@ -32,7 +34,7 @@ static OTHERS: [(AnsiColor, Color); 3] = [
 ];
 
 fn expect_color(rt: &impl Abort, color: AnsiColor, want: Color) {
-    assert!(rt; Color::from(color) == want, "the color of {color:?}");
+    expect(rt, Color::from(color) == want, "the color", color);
 }
 
 #[test]
@@ -81,19 +83,18 @@ static WRITTEN: [AnsiColor; 5] = [
     AnsiColor::Bit24 { r: 1, g: 0, b: 0 },
 ];
 
+/// Two colors compare so, and are the same where that is `Equal`.
+fn expect_ordering<C: Ord + Debug>(rt: &impl Abort, color: &C, other: &C, want: Ordering) {
+    let colors = (color, other);
+    expect(rt, color.cmp(other) == want, "the order", colors);
+    let are_same = color == other;
+    expect(rt, are_same == (want == Ordering::Equal), "equality", colors);
+}
+
 /// Compares a color with those of the order, in which it has this index.
 fn expect_order<C: Ord + Debug>(rt: &impl Abort, order: &[C], color: &C, index: usize) {
     for (other_index, other) in order.iter().enumerate() {
-        let got = color.cmp(other);
-        assert!(rt;
-            got == index.cmp(&other_index),
-            "{color:?} against {other:?}"
-        );
-        let is_same = color == other;
-        assert!(rt;
-            is_same == (index == other_index),
-            "{color:?} and {other:?}"
-        );
+        expect_ordering(rt, color, other, index.cmp(&other_index));
     }
 }
 

@@ -2,9 +2,9 @@
 use crate::any_range::AnyRange::{
     self, Range, RangeFrom, RangeFull, RangeInclusive, RangeTo, RangeToInclusive,
 };
+use crate::checks::{expect, expect_text, joined};
 use ansi_str::AnsiStr;
 use std::alloc::Global;
-use std::borrow::CowStr;
 use std::process::Abort;
 use std::test::Fail;
 
@@ -126,22 +126,23 @@ static ROWS: [Row; 28] = [
     ("TEXT", RangeToInclusive(usize::MAX), "TEXT", true),
 ];
 
-fn expect_cut(rt: &impl Abort, got: CowStr<'_>, row: &Row) {
-    let (text, range, cut, is_borrow) = row;
-    assert!(rt; got.as_str() == *cut, "cut {range:?} of {text:?}");
-    let got_borrow = matches!(&got, CowStr::Borrowed(_));
-    assert!(rt;
-        got_borrow == *is_borrow,
-        "borrow of cut {range:?} of {text:?}"
-    );
+fn expect_cut<T: AnsiStr>(
+    rt: &impl Abort,
+    alloc: Global,
+    text: &T,
+    row: &Row,
+) -> Result<(), Fail> {
+    let (_, range, want, is_borrow) = *row;
+    expect_text(rt, &range.cut(rt, alloc, text)?, want, is_borrow, row);
+    Ok(())
 }
 
 fn expect_row(rt: &impl Abort, alloc: Global, row: &Row) -> Result<(), Fail> {
-    let (text, range, ..) = row;
-    expect_cut(rt, range.cut(rt, alloc, text)?, row);
+    let (text, ..) = *row;
+    expect_cut(rt, alloc, &text, row)?;
     let owned = String::from_str(alloc, text)?;
-    expect_cut(rt, range.cut(rt, alloc, &owned)?, row);
-    assert!(rt; owned.as_str() == *text, "the caller's text {text:?}");
+    expect_cut(rt, alloc, &owned, row)?;
+    expect(rt, owned.as_str() == text, "the caller's text", text);
     Ok(())
 }
 
@@ -166,10 +167,7 @@ fn expect_stripped(rt: &impl Abort, alloc: Global, row: &StrippedRow) -> Result<
     let answer = range.cut(rt, alloc, &text)?;
     let cut = answer.as_str();
     let got = cut.ansi_strip(alloc)?;
-    assert!(rt;
-        got.as_str() == plain,
-        "plain text of cut {range:?} of {text:?}"
-    );
+    expect(rt, got.as_str() == plain, "the plain text of a cut", row);
     Ok(())
 }
 
@@ -183,13 +181,9 @@ fn cuts_are_stripped(rt: HostRuntime) -> Result<(), Fail> {
 
 #[test]
 fn many_fields_are_read(rt: HostRuntime) -> Result<(), Fail> {
-    let mut sgr = String::from_str(rt.alloc(), "\x1b[")?;
-    for _ in 0..100_000 {
-        sgr.push_str("1;")?;
-    }
-    sgr.push_str("mx")?;
     // The last field is empty, and resets.
+    let sgr = joined(rt.alloc(), ("\x1b[", "1;"), 100_000, "mx")?;
     let got = Range(0, 1).cut(&rt, rt.alloc(), &sgr)?;
-    assert!(rt; got.as_str() == sgr.as_str(), "cut after 100,000 fields");
+    expect(&rt, got.as_str() == sgr.as_str(), "a cut", "100,000 fields");
     Ok(())
 }

@@ -1,10 +1,10 @@
 //! The answers of `edit` for worked texts and lists of edits.
 use crate::Refusing;
-use crate::memory::expect_each_refusal;
+use crate::checks::{expect, expect_answer, text_of};
+use crate::refusals::{Asked, expect_each_refusal};
 use ansi_str::Edit::{self, Cut, Left, Part, Prefix, Right, Suffix, Trim};
 use ansi_str::edit;
 use std::alloc::Global;
-use std::borrow::CowStr;
 use std::process::Abort;
 use std::test::Fail;
 
@@ -158,10 +158,7 @@ static ROWS: [Row; 22] = [
 fn expect_edited(rt: &impl Abort, alloc: Global, row: &Row) -> Result<(), Fail> {
     let (text, edits, want, is_borrow, _) = *row;
     let got = edit(alloc, text, edits)?;
-    let answer = got.as_ref().map(|edited| edited.as_str());
-    assert!(rt; answer == want, "{edits:?} of {text:?}");
-    let got_borrow = matches!(&got, Some(CowStr::Borrowed(_)));
-    assert!(rt; got_borrow == is_borrow, "borrow of {edits:?} of {text:?}");
+    expect_answer(rt, &got, want, is_borrow, (text, edits));
     Ok(())
 }
 
@@ -173,35 +170,20 @@ fn texts_are_edited(rt: HostRuntime) -> Result<(), Fail> {
     Ok(())
 }
 
-/// Whether the edits of the row of this number answer an `Err`; where they don't, the answer has to be
-/// the row's.
-fn is_err(rt: &impl Abort, heap: &Refusing<Global>, number: usize) -> bool {
-    let Some((text, edits, want, _, _)) = ROWS.get(number) else {
-        return false;
-    };
-    match edit(heap, text, edits) {
-        Err(_) => true,
-        Ok(got) => {
-            let answer = got.as_ref().map(|edited| edited.as_str());
-            assert!(rt; answer == *want, "{edits:?} of {text:?}");
-            false
-        }
-    }
-}
-
-fn expect_refusals(rt: &impl Abort, alloc: Global, row: &Row, number: usize) {
-    let (text, _, _, _, takes_memory) = *row;
-    expect_each_refusal(rt, alloc, text, takes_memory, |heap| {
-        is_err(rt, heap, number)
-    });
+fn expect_refusals(rt: &impl Abort, alloc: Global, number: usize, row: &Row) -> Result<(), Fail> {
+    let (text, edits, want, _, takes_memory) = *row;
+    let name = format!(in alloc; "row {number}")?;
+    let asked = Asked::Edits(edits, want);
+    expect_each_refusal(rt, alloc, name.as_str(), text, &asked, takes_memory)
 }
 
 // An `Err` of an earlier edit comes before the refusal of a later one.
 #[test]
-fn edits_meet_each_refusal(rt: HostRuntime) {
+fn edits_meet_each_refusal(rt: HostRuntime) -> Result<(), Fail> {
     for (number, row) in ROWS.iter().enumerate() {
-        expect_refusals(&rt, rt.alloc(), row, number);
+        expect_refusals(&rt, rt.alloc(), number, row)?;
     }
+    Ok(())
 }
 
 /// Edits that are refused on `é` in red, which `Left(2)` leaves of the text below.
@@ -227,15 +209,15 @@ const RED_TEXT: &str = "\x1b[31méa\x1b[39m";
 fn expect_none(rt: &impl Abort, alloc: Global, granted: u64, refused: Edit<'_>) {
     let heap = Refusing::new(alloc, granted);
     let got = edit(&heap, RED_TEXT, &[Left(2), refused]);
-    assert!(rt; matches!(&got, Ok(None)), "{refused:?} of an owned text");
-    assert!(rt; !heap.has_refused(), "{refused:?} takes no memory");
+    expect(rt, matches!(&got, Ok(None)), "a refusal", refused);
+    expect(rt, !heap.has_refused(), "no memory is taken", refused);
 }
 
 #[test]
 fn a_refused_edit_takes_no_memory(rt: HostRuntime) -> Result<(), Fail> {
     let heap = Refusing::new(rt.alloc(), u64::MAX);
-    let left = edit(&heap, RED_TEXT, &[Left(2)])?.ok_or("a good position")?;
-    assert!(rt; left.as_str() == "\x1b[31mé\x1b[39m", "the left side");
+    let left = edit(&heap, RED_TEXT, &[Left(2)])?;
+    expect(&rt, text_of(&left) == Some("\x1b[31mé\x1b[39m"), "the left side", RED_TEXT);
     for refused in &REFUSED_LATER {
         expect_none(&rt, rt.alloc(), heap.requests(), *refused);
     }

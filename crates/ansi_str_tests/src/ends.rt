@@ -1,4 +1,5 @@
 //! What the plain texts of worked texts begin and end with.
+use crate::checks::expect;
 use ansi_str::AnsiStr;
 use std::alloc::Global;
 use std::process::Abort;
@@ -39,30 +40,31 @@ static ENDS: [Row; 11] = [
     ("\x1b[1m", "a", false),
 ];
 
-fn expect_start<T: AnsiStr>(rt: &impl Abort, text: &T, row: &Row) {
-    let (name, pat, want) = *row;
-    assert!(rt;
-        text.ansi_starts_with(pat) == want,
-        "{pat:?} begins {name:?}"
-    );
+/// Whether the text begins with a pattern.
+pub fn expect_start<T: AnsiStr>(rt: &impl Abort, text: &T, pat: &str, want: bool, name: &str) {
+    expect(rt, text.ansi_starts_with(pat) == want, "the start", name);
 }
 
-fn expect_end<T: AnsiStr>(rt: &impl Abort, text: &T, row: &Row) {
-    let (name, pat, want) = *row;
-    assert!(rt; text.ansi_ends_with(pat) == want, "{pat:?} ends {name:?}");
+/// Whether the text ends with a pattern.
+pub fn expect_end<T: AnsiStr>(rt: &impl Abort, text: &T, pat: &str, want: bool, name: &str) {
+    expect(rt, text.ansi_ends_with(pat) == want, "the end", name);
 }
 
 fn expect_starts(rt: &impl Abort, alloc: Global, row: &Row) -> Result<(), Fail> {
-    let (text, ..) = *row;
-    expect_start(rt, &text, row);
-    expect_start(rt, &String::from_str(alloc, text)?, row);
+    let (text, pat, want) = *row;
+    let name = format!(in alloc; "{pat:?} of {text:?}")?;
+    expect_start(rt, &text, pat, want, name.as_str());
+    let owned = String::from_str(alloc, text)?;
+    expect_start(rt, &owned, pat, want, name.as_str());
     Ok(())
 }
 
 fn expect_ends(rt: &impl Abort, alloc: Global, row: &Row) -> Result<(), Fail> {
-    let (text, ..) = *row;
-    expect_end(rt, &text, row);
-    expect_end(rt, &String::from_str(alloc, text)?, row);
+    let (text, pat, want) = *row;
+    let name = format!(in alloc; "{pat:?} of {text:?}")?;
+    expect_end(rt, &text, pat, want, name.as_str());
+    let owned = String::from_str(alloc, text)?;
+    expect_end(rt, &owned, pat, want, name.as_str());
     Ok(())
 }
 

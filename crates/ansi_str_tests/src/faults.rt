@@ -1,35 +1,11 @@
 //! Named rows, `call:row`, of which each request for memory is refused in turn.
-use crate::memory::Call::{self, Cut, Get, Strip, StripPrefix, StripSuffix, Trim};
-use crate::memory::{answer, expect_each_refusal};
-use crate::split_at::is_good;
-use crate::{Refusing, blocks, split};
-use ansi_str::slice::split_at_in;
-use ansi_str::split::split_in;
-use ansi_str::{AnsiStr, Edit, ansi_is_whole, edit, get_blocks};
-use std::alloc::Global;
-use std::process::Abort;
+use crate::refusals::Asked::{
+    self, Blocks, Clones, Edits, Find, IsCharBoundary, IsWhole, One, Parts, Sides,
+};
+use crate::refusals::Call::{Cut, Get, Strip, StripPrefix, StripSuffix, Trim};
+use crate::refusals::expect_each_refusal;
+use ansi_str::Edit;
 use std::test::Fail;
-
-/// What is asked of a text, and the answer.
-#[derive(Clone, Copy)]
-enum Asked {
-    /// One of the calls that give one text.
-    One(Call, Option<&'static str>),
-    /// The two sides at a position.
-    Sides(usize, &'static str, &'static str),
-    /// All parts by a pattern.
-    Parts(&'static str, &'static [&'static str]),
-    /// The texts of all blocks.
-    Blocks(&'static [&'static str]),
-    /// A clone of the first block, which has this text.
-    CloneOfBlock(&'static str),
-    Edits(&'static [Edit<'static>], Option<&'static str>),
-    Find(&'static str, Option<usize>),
-    IsCharBoundary(usize, bool),
-    IsWhole(bool),
-}
-
-use Asked::{Blocks, CloneOfBlock, Edits, Find, IsCharBoundary, IsWhole, One, Parts, Sides};
 
 /// A row's name, a text, what is asked of it, and whether that takes memory.
 type Row = (&'static str, &'static str, Asked, bool);
@@ -103,10 +79,10 @@ static ROWS: [Row; 54] = [
         Parts(
             "X",
             &[
-                "\x1b[31mlion\x1b[39m",
-                "",
-                "\x1b[31mtiger\x1b[39m",
-                "\x1b[31mleopard\x1b[0m",
+                ("\x1b[31mlion\x1b[39m", false),
+                ("", true),
+                ("\x1b[31mtiger\x1b[39m", false),
+                ("\x1b[31mleopard\x1b[0m", false),
             ],
         ),
         true,
@@ -114,7 +90,7 @@ static ROWS: [Row; 54] = [
     (
         "split:split-pattern-across-sequence",
         "a:\x1b[31m:b",
-        Parts("::", &["a", "\x1b[31mb\x1b[39m"]),
+        Parts("::", &[("a", true), ("\x1b[31mb\x1b[39m", false)]),
         true,
     ),
     // All blocks, and a block's clone.
@@ -133,7 +109,7 @@ static ROWS: [Row; 54] = [
     (
         "blocks:blocks-link-waits",
         "\x1b]8;;u\x1b\\link\x1b]8;;\x1b\\",
-        CloneOfBlock("\x1b]8;;u\x1b\\link"),
+        Clones(&["\x1b]8;;u\x1b\\link"]),
         true,
     ),
     // Edits. With the first growth refused the second row is an `Err` and not `None`.
@@ -406,183 +382,10 @@ static ROWS: [Row; 54] = [
     ),
 ];
 
-fn one_is_err(
-    rt: &impl Abort,
-    alloc: Global,
-    heap: &Refusing<Global>,
-    name: &str,
-    text: &str,
-    call: Call,
-    want: Option<&str>,
-) -> bool {
-    match answer(rt, alloc, heap, text, call) {
-        Err(_) => true,
-        Ok(got) => {
-            let got = got.as_ref().map(|cow| cow.as_str());
-            assert!(rt; got == want, "{name}");
-            false
-        }
-    }
-}
-
-fn sides_are_err(
-    rt: &impl Abort,
-    alloc: Global,
-    heap: &Refusing<Global>,
-    name: &str,
-    text: &str,
-    mid: usize,
-    left: &str,
-    right: &str,
-) -> bool {
-    assert!(rt; is_good(alloc, &text, mid), "the position of {name}");
-    match split_at_in(heap, text, mid) {
-        Err(_) => true,
-        Ok((got_left, got_right)) => {
-            assert!(rt; got_left.as_str() == left, "the left side of {name}");
-            assert!(rt; got_right.as_str() == right, "the right side of {name}");
-            false
-        }
-    }
-}
-
-/// All parts are asked for. Those before an `Err` have to be the row's.
-fn parts_are_err(
-    rt: &impl Abort,
-    heap: &Refusing<Global>,
-    name: &str,
-    text: &str,
-    pat: &str,
-    want: &[&str],
-) -> bool {
-    let mut parts = split_in(heap, text, pat);
-    for part in want {
-        match parts.next() {
-            Some(Ok(got)) => assert!(rt; got.as_str() == *part, "a part of {name}"),
-            Some(Err(_)) => {
-                split::expect_ended(rt, &mut parts);
-                return true;
-            }
-            None => assert!(rt; false, "too few parts of {name}"),
-        }
-    }
-    split::expect_ended(rt, &mut parts);
-    false
-}
-
-/// All blocks are asked for. Those before an `Err` have to be the row's.
-fn blocks_are_err(
-    rt: &impl Abort,
-    heap: &Refusing<Global>,
-    name: &str,
-    text: &str,
-    want: &[&str],
-) -> bool {
-    let mut blocks = get_blocks(heap, text);
-    for block in want {
-        match blocks.next() {
-            Some(Ok(got)) => assert!(rt; got.text() == *block, "a block of {name}"),
-            Some(Err(_)) => {
-                blocks::expect_ended(rt, &mut blocks, name);
-                return true;
-            }
-            None => assert!(rt; false, "too few blocks of {name}"),
-        }
-    }
-    blocks::expect_ended(rt, &mut blocks, name);
-    false
-}
-
-/// A block whose clone is refused is as it was.
-fn clone_is_err(
-    rt: &impl Abort,
-    heap: &Refusing<Global>,
-    name: &str,
-    text: &str,
-    want: &str,
-) -> bool {
-    let Some(Ok(block)) = get_blocks(heap, text).next() else {
-        return true;
-    };
-    let style = *block.style();
-    let clone = block.clone();
-    assert!(rt; block.text() == want, "the text of the block of {name}");
-    assert!(rt; *block.style() == style, "the style of the block of {name}");
-    match clone {
-        Err(_) => true,
-        Ok(clone) => {
-            assert!(rt; clone == block, "the clone of the block of {name}");
-            false
-        }
-    }
-}
-
-fn edits_are_err(
-    rt: &impl Abort,
-    heap: &Refusing<Global>,
-    name: &str,
-    text: &str,
-    edits: &[Edit<'_>],
-    want: Option<&str>,
-) -> bool {
-    match edit(heap, text, edits) {
-        Err(_) => true,
-        Ok(got) => {
-            let got = got.as_ref().map(|edited| edited.as_str());
-            assert!(rt; got == want, "{name}");
-            false
-        }
-    }
-}
-
-/// Whether the row of this number answers an `Err`; where it doesn't, the answer has to be the row's.
-/// The searches have no allocator, and no `Err`.
-fn is_err(
-    rt: &impl Abort,
-    alloc: Global,
-    heap: &Refusing<Global>,
-    text: &str,
-    number: usize,
-) -> bool {
-    let Some((name, _, asked, _)) = ROWS.get(number) else {
-        return false;
-    };
-    match *asked {
-        One(call, want) => one_is_err(rt, alloc, heap, name, text, call, want),
-        Sides(mid, left, right) => sides_are_err(rt, alloc, heap, name, text, mid, left, right),
-        Parts(pat, want) => parts_are_err(rt, heap, name, text, pat, want),
-        Blocks(want) => blocks_are_err(rt, heap, name, text, want),
-        CloneOfBlock(want) => clone_is_err(rt, heap, name, text, want),
-        Edits(edits, want) => edits_are_err(rt, heap, name, text, edits, want),
-        Find(pat, want) => {
-            assert!(rt; text.ansi_find(pat) == want, "{name}");
-            false
-        }
-        IsCharBoundary(index, want) => {
-            assert!(rt; text.ansi_is_char_boundary(index) == want, "{name}");
-            false
-        }
-        IsWhole(want) => {
-            assert!(rt; ansi_is_whole(text) == want, "{name}");
-            false
-        }
-    }
-}
-
-fn expect_row(rt: &impl Abort, alloc: Global, row: &Row, number: usize) -> Result<(), Fail> {
-    let (name, text, _, takes_memory) = *row;
-    let owned = String::from_str(alloc, text)?;
-    expect_each_refusal(rt, alloc, name, takes_memory, |heap| {
-        is_err(rt, alloc, heap, owned.as_str(), number)
-    });
-    assert!(rt; owned.as_str() == text, "the caller's text of {name}");
-    Ok(())
-}
-
 #[test]
 fn named_rows_meet_each_refusal(rt: HostRuntime) -> Result<(), Fail> {
-    for (number, row) in ROWS.iter().enumerate() {
-        expect_row(&rt, rt.alloc(), row, number)?;
+    for (name, text, asked, takes_memory) in &ROWS {
+        expect_each_refusal(&rt, rt.alloc(), name, text, asked, *takes_memory)?;
     }
     Ok(())
 }

@@ -1,4 +1,5 @@
 //! The answers of `ansi_find` for worked texts, and what is cut there.
+use crate::checks::{expect, joined};
 use ansi_str::AnsiStr;
 use ansi_str_uses::callers::searches::{cut_around_match, cut_match};
 use std::alloc::Global;
@@ -44,18 +45,31 @@ static ROWS: [Row; 20] = [
     ("é\x1bé", "éé", Some(0)),
 ];
 
-fn expect_place(rt: &impl Abort, alloc: Global, row: &Row) -> Result<(), Fail> {
+/// A pattern first stands there in a text of this name.
+pub fn expect_place<T: AnsiStr>(
+    rt: &impl Abort,
+    text: &T,
+    pat: &str,
+    want: Option<usize>,
+    name: &str,
+) {
+    let place = text.ansi_find(pat);
+    expect(rt, place == want, "the place", name);
+}
+
+fn expect_row(rt: &impl Abort, alloc: Global, row: &Row) -> Result<(), Fail> {
     let (text, pat, want) = *row;
-    assert!(rt; text.ansi_find(pat) == want, "{pat:?} in {text:?}");
+    let name = format!(in alloc; "{pat:?} in {text:?}")?;
+    expect_place(rt, &text, pat, want, name.as_str());
     let owned = String::from_str(alloc, text)?;
-    assert!(rt; owned.ansi_find(pat) == want, "{pat:?} in {text:?}, owned");
+    expect_place(rt, &owned, pat, want, name.as_str());
     Ok(())
 }
 
 #[test]
 fn patterns_are_found(rt: HostRuntime) -> Result<(), Fail> {
     for row in &ROWS {
-        expect_place(&rt, rt.alloc(), row)?;
+        expect_row(&rt, rt.alloc(), row)?;
     }
     Ok(())
 }
@@ -92,24 +106,12 @@ fn texts_are_cut_around_matches(rt: HostRuntime) -> Result<(), Fail> {
 // follows it.
 #[test]
 fn many_sequences_are_passed_over(rt: HostRuntime) -> Result<(), Fail> {
-    let mut runs = String::new(rt.alloc());
-    let mut apart = String::from_str(rt.alloc(), "xxa")?;
-    for _ in 0..100_000 {
-        runs.push_str("xa\x1b[1m")?;
-        apart.push_str("\x1b[1m")?;
-    }
-    runs.push_str("b")?;
-    apart.push_str("b")?;
-    assert!(rt;
-        runs.ansi_find("ab") == Some(199_999),
-        "the last of many runs"
-    );
-    assert!(rt; runs.ansi_find("ac") == None, "none of many runs");
-    assert!(rt;
-        apart.ansi_find("xab") == Some(1),
-        "both sides of many sequences"
-    );
-    assert!(rt; apart.ansi_find("bx") == None, "after many sequences");
+    let runs = joined(rt.alloc(), ("", "xa\x1b[1m"), 100_000, "b")?;
+    expect_place(&rt, &runs, "ab", Some(199_999), "the last of many runs");
+    expect_place(&rt, &runs, "ac", None, "none of many runs");
+    let apart = joined(rt.alloc(), ("xxa", "\x1b[1m"), 100_000, "b")?;
+    expect_place(&rt, &apart, "xab", Some(1), "both sides of many sequences");
+    expect_place(&rt, &apart, "bx", None, "after many sequences");
     Ok(())
 }
 
@@ -133,29 +135,18 @@ fn expect_long(
     rt: &impl Abort,
     alloc: Global,
     text: &str,
-    row: (usize, &str, Option<usize>),
+    row: &(usize, &str, Option<usize>),
 ) -> Result<(), Fail> {
-    let (count, last, want) = row;
-    let mut pat = String::new(alloc);
-    for _ in 0..count {
-        pat.push_str("a")?;
-    }
-    pat.push_str(last)?;
-    assert!(rt;
-        text.ansi_find(pat.as_str()) == want,
-        "{count} letters and {last:?}"
-    );
+    let (count, last, want) = *row;
+    let pat = joined(alloc, ("", "a"), count, last)?;
+    expect_place(rt, &text, pat.as_str(), want, pat.as_str());
     Ok(())
 }
 
 #[test]
 fn long_patterns_are_found(rt: HostRuntime) -> Result<(), Fail> {
-    let mut text = String::new(rt.alloc());
-    for _ in 0..600 {
-        text.push_str("\x1b[1ma")?;
-    }
-    text.push_str("b")?;
-    for row in LONG {
+    let text = joined(rt.alloc(), ("", "\x1b[1ma"), 600, "b")?;
+    for row in &LONG {
         expect_long(&rt, rt.alloc(), text.as_str(), row)?;
     }
     Ok(())
@@ -174,28 +165,19 @@ fn expect_wide(
     rt: &impl Abort,
     alloc: Global,
     text: &str,
-    row: (usize, Option<usize>),
+    row: &(usize, Option<usize>),
 ) -> Result<(), Fail> {
-    let (count, want) = row;
-    let mut pat = String::from_str(alloc, "a")?;
-    for _ in 0..count {
-        pat.push_str("é")?;
-    }
-    assert!(rt;
-        text.ansi_find(pat.as_str()) == want,
-        "a letter and {count} of two bytes"
-    );
+    let (count, want) = *row;
+    let pat = joined(alloc, ("a", "é"), count, "")?;
+    expect_place(rt, &text, pat.as_str(), want, pat.as_str());
     Ok(())
 }
 
 // The 256th byte of the pattern may be inside a character.
 #[test]
 fn long_patterns_of_wide_characters_are_found(rt: HostRuntime) -> Result<(), Fail> {
-    let mut text = String::from_str(rt.alloc(), "a")?;
-    for _ in 0..300 {
-        text.push_str("\x1b[1mé")?;
-    }
-    for row in WIDE {
+    let text = joined(rt.alloc(), ("a", "\x1b[1mé"), 300, "")?;
+    for row in &WIDE {
         expect_wide(&rt, rt.alloc(), text.as_str(), row)?;
     }
     Ok(())

@@ -2,8 +2,9 @@
 use crate::any_range::AnyRange::{
     self, Range, RangeFrom, RangeFull, RangeInclusive, RangeTo, RangeToInclusive,
 };
+use crate::checks::{expect, expect_answer};
+use ansi_str::AnsiStr;
 use std::alloc::Global;
-use std::borrow::CowStr;
 use std::process::Abort;
 use std::test::Fail;
 
@@ -80,20 +81,23 @@ static ROWS: [Row; 23] = [
     ("TEXT", RangeFull, Some("TEXT"), true),
 ];
 
-fn expect_answer(rt: &impl Abort, got: Option<CowStr<'_>>, row: &Row) {
-    let (text, range, want, is_borrow) = row;
-    let answer = got.as_ref().map(|cut| cut.as_str());
-    assert!(rt; answer == *want, "{range:?} of {text:?}");
-    let got_borrow = matches!(&got, Some(CowStr::Borrowed(_)));
-    assert!(rt; got_borrow == *is_borrow, "borrow of {range:?} of {text:?}");
+fn expect_get<T: AnsiStr>(
+    rt: &impl Abort,
+    alloc: Global,
+    text: &T,
+    row: &Row,
+) -> Result<(), Fail> {
+    let (_, range, want, is_borrow) = *row;
+    expect_answer(rt, &range.get(alloc, text)?, want, is_borrow, row);
+    Ok(())
 }
 
 fn expect_row(rt: &impl Abort, alloc: Global, row: &Row) -> Result<(), Fail> {
-    let (text, range, ..) = row;
-    expect_answer(rt, range.get(alloc, text)?, row);
+    let (text, ..) = *row;
+    expect_get(rt, alloc, &text, row)?;
     let owned = String::from_str(alloc, text)?;
-    expect_answer(rt, range.get(alloc, &owned)?, row);
-    assert!(rt; owned.as_str() == *text, "the caller's text {text:?}");
+    expect_get(rt, alloc, &owned, row)?;
+    expect(rt, owned.as_str() == text, "the caller's text", text);
     Ok(())
 }
 

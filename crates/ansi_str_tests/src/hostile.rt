@@ -1,6 +1,7 @@
 //! Long hostile texts: what each call answers on 100,000 pieces, and at the largest position.
 mod calls;
 
+use crate::checks;
 use std::alloc::{AllocError, Global};
 
 /// How many pieces stand in a text.
@@ -110,9 +111,5 @@ static KINDS: [Kind; 8] = [
 
 /// The pieces, joined, with an end after them.
 fn joined(alloc: Global, pieces: Pieces, end: &str) -> Result<String, AllocError> {
-    let (front, piece) = pieces;
-    let mut text = String::from_str(alloc, front)?;
-    text.push_str(piece.repeat(alloc, COUNT)?.as_str())?;
-    text.push_str(end)?;
-    Ok(text)
+    checks::joined(alloc, pieces, COUNT, end)
 }

@@ -12,6 +12,8 @@ mod blocks;
 #[cfg(test)]
 mod boundary;
 #[cfg(test)]
+mod checks;
+#[cfg(test)]
 mod colors;
 #[cfg(test)]
 mod cut;
@@ -30,11 +32,11 @@ mod hostile;
 #[cfg(test)]
 mod memory;
 #[cfg(test)]
-mod plain;
-#[cfg(test)]
 mod prefix;
 #[cfg(test)]
 mod reads;
+#[cfg(test)]
+mod refusals;
 #[cfg(test)]
 mod scanner;
 #[cfg(test)]

@@ -1,29 +1,11 @@
-//! Each request for memory of a call refused in turn.
-use crate::Refusing;
-use crate::split_at::is_good;
-use ansi_str::slice::{
-    cut_in, get_in, split_at_in, strip_in, strip_prefix_in, strip_suffix_in, trim_in,
-};
-use std::alloc::{AllocError, Global};
-use std::borrow::CowStr;
+//! Texts whose calls take memory, or none.
+use crate::refusals::Call::{self, Cut, Get, Strip, StripPrefix, StripSuffix, Trim};
+use crate::refusals::{Asked, expect_each_refusal};
+use std::alloc::Global;
 use std::process::Abort;
 use std::test::Fail;
 
-/// A call that takes its memory from any allocator.
-#[derive(Clone, Copy, Debug)]
-pub enum Call {
-    Strip,
-    Cut(usize, Option<usize>),
-    Get(usize, Option<usize>),
-    StripPrefix(&'static str),
-    StripSuffix(&'static str),
-    Trim,
-}
-
-use Call::{Cut, Get, Strip, StripPrefix, StripSuffix, Trim};
-
-/// A text, a call, its answer, and whether that takes memory. A `None` is a bad range, or a prefix
-/// or a suffix that isn't there.
+/// A text, a call, its answer, and whether that takes memory.
 type Row = (&'static str, Call, Option<&'static str>, bool);
 
 const BARE: &str = "no sequence, so no memory";
@@ -119,84 +101,17 @@ static ROWS: [Row; 33] = [
     ),
 ];
 
-/// The answer of a call. A range to cut at has to be good, which a call with ample memory tells.
-pub fn answer<'h, 't>(
-    rt: &impl Abort,
-    alloc: Global,
-    heap: &'h Refusing<Global>,
-    text: &'t str,
-    call: Call,
-) -> Result<Option<CowStr<'t, &'h Refusing<Global>>>, AllocError> {
-    match call {
-        Strip => Ok(Some(strip_in(heap, text)?)),
-        Cut(start, end) => {
-            let ample = get_in(alloc, text, start, end)?;
-            assert!(rt; ample.is_some(), "a good range");
-            Ok(Some(cut_in(heap, text, start, end)?))
-        }
-        Get(start, end) => get_in(heap, text, start, end),
-        StripPrefix(prefix) => strip_prefix_in(heap, text, prefix),
-        StripSuffix(suffix) => strip_suffix_in(heap, text, suffix),
-        Trim => Ok(Some(trim_in(heap, text)?)),
-    }
-}
-
-/// Whether the call answers an `Err`; where it doesn't, the answer has to be the row's.
-fn is_err(rt: &impl Abort, alloc: Global, heap: &Refusing<Global>, text: &str, row: &Row) -> bool {
-    let (_, call, want, _) = row;
-    match answer(rt, alloc, heap, text, *call) {
-        Err(_) => true,
-        Ok(got) => {
-            let got = got.as_ref().map(|cow| cow.as_str());
-            assert!(rt; got == *want, "{call:?} of {text:?}");
-            false
-        }
-    }
-}
-
-/// Grants a call more and more requests, till it meets no refusal. `is_err` makes the call, and
-/// tells whether it answered an `Err`. Each message has the name.
-pub fn expect_each_refusal<IsErr: Fn(&Refusing<Global>) -> bool>(
-    rt: &impl Abort,
-    alloc: Global,
-    name: &str,
-    takes_memory: bool,
-    is_err: IsErr,
-)
-    requires { IsErr.IsAlwaysCallable is_err }
-{
-    for granted in 0..100u64 {
-        let heap = Refusing::new(alloc, granted);
-        let is_refused = is_err(&heap);
-        assert!(rt;
-            is_refused == heap.has_refused(),
-            "{granted} requests granted to {name:?}"
-        );
-        if !is_refused {
-            assert!(rt;
-                (granted > 0) == takes_memory,
-                "whether {name:?} takes memory"
-            );
-            return;
-        }
-    }
-    assert!(rt; false, "each run of {name:?} was refused");
-}
-
-fn expect_row(rt: &impl Abort, alloc: Global, row: &Row) -> Result<(), Fail> {
-    let (text, _, _, takes_memory) = row;
-    let owned = String::from_str(alloc, text)?;
-    expect_each_refusal(rt, alloc, text, *takes_memory, |heap| {
-        is_err(rt, alloc, heap, owned.as_str(), row)
-    });
-    assert!(rt; owned.as_str() == *text, "the caller's text {text:?}");
-    Ok(())
+fn expect_row(rt: &impl Abort, alloc: Global, number: usize, row: &Row) -> Result<(), Fail> {
+    let (text, call, want, takes_memory) = *row;
+    let name = format!(in alloc; "row {number}")?;
+    let asked = Asked::One(call, want);
+    expect_each_refusal(rt, alloc, name.as_str(), text, &asked, takes_memory)
 }
 
 #[test]
 fn calls_meet_each_refusal(rt: HostRuntime) -> Result<(), Fail> {
-    for row in &ROWS {
-        expect_row(&rt, rt.alloc(), row)?;
+    for (number, row) in ROWS.iter().enumerate() {
+        expect_row(&rt, rt.alloc(), number, row)?;
     }
     Ok(())
 }
@@ -217,34 +132,10 @@ static SPLIT_ROWS: [SplitRow; 4] = [
     ),
 ];
 
-/// Whether the call answers an `Err`; where it doesn't, the answer has to be the two sides.
-fn split_at_is_err(
-    rt: &impl Abort,
-    alloc: Global,
-    heap: &Refusing<Global>,
-    text: &str,
-    row: &SplitRow,
-) -> bool {
-    let (_, mid, left, right, _) = *row;
-    assert!(rt; is_good(alloc, &text, mid), "{mid} is good in {text:?}");
-    match split_at_in(heap, text, mid) {
-        Err(_) => true,
-        Ok((got_left, got_right)) => {
-            assert!(rt; got_left.as_str() == left, "left of {mid} in {text:?}");
-            assert!(rt; got_right.as_str() == right, "right of {mid} in {text:?}");
-            false
-        }
-    }
-}
-
 fn expect_split_row(rt: &impl Abort, alloc: Global, row: &SplitRow) -> Result<(), Fail> {
-    let (text, _, _, _, takes_memory) = *row;
-    let owned = String::from_str(alloc, text)?;
-    expect_each_refusal(rt, alloc, text, takes_memory, |heap| {
-        split_at_is_err(rt, alloc, heap, owned.as_str(), row)
-    });
-    assert!(rt; owned.as_str() == text, "the caller's text {text:?}");
-    Ok(())
+    let (text, mid, left, right, takes_memory) = *row;
+    let asked = Asked::Sides(mid, left, right);
+    expect_each_refusal(rt, alloc, text, text, &asked, takes_memory)
 }
 
 #[test]

@@ -1,7 +1,7 @@
 //! Worked texts without a prefix, and without a suffix.
+use crate::checks::{expect, expect_answer};
 use ansi_str::AnsiStr;
 use std::alloc::Global;
-use std::borrow::CowStr;
 use std::process::Abort;
 use std::test::Fail;
 
@@ -84,54 +84,55 @@ static SUFFIXES: [Row; 12] = [
     ("\x1b[30mTEXT\x1b[39m", "+TEXT", None, false),
 ];
 
-fn expect_answer(rt: &impl Abort, got: Option<CowStr<'_>>, row: &Row) {
-    let (text, pat, want, is_borrow) = *row;
-    let answer = got.as_ref().map(|kept| kept.as_str());
-    assert!(rt; answer == want, "{text:?} without {pat:?}");
-    let got_borrow = matches!(&got, Some(CowStr::Borrowed(_)));
-    assert!(rt;
-        got_borrow == is_borrow,
-        "borrow of {text:?} without {pat:?}"
-    );
-}
-
-fn expect_prefix<T: AnsiStr>(
+/// The text without a prefix is this, and is a borrow or not.
+pub fn expect_prefix<T: AnsiStr>(
     rt: &impl Abort,
     alloc: Global,
     text: &T,
-    row: &Row,
+    prefix: &str,
+    want: Option<&str>,
+    is_borrow: bool,
+    name: &str,
 ) -> Result<(), Fail> {
-    let (_, prefix, ..) = *row;
-    expect_answer(rt, text.ansi_strip_prefix(alloc, prefix)?, row);
+    let got = text.ansi_strip_prefix(alloc, prefix)?;
+    expect_answer(rt, &got, want, is_borrow, name);
     Ok(())
 }
 
-fn expect_suffix<T: AnsiStr>(
+/// The same of a suffix.
+pub fn expect_suffix<T: AnsiStr>(
     rt: &impl Abort,
     alloc: Global,
     text: &T,
-    row: &Row,
+    suffix: &str,
+    want: Option<&str>,
+    is_borrow: bool,
+    name: &str,
 ) -> Result<(), Fail> {
-    let (_, suffix, ..) = *row;
-    expect_answer(rt, text.ansi_strip_suffix(alloc, suffix)?, row);
+    let got = text.ansi_strip_suffix(alloc, suffix)?;
+    expect_answer(rt, &got, want, is_borrow, name);
     Ok(())
 }
 
 fn expect_prefixes(rt: &impl Abort, alloc: Global, row: &Row) -> Result<(), Fail> {
-    let (text, ..) = *row;
-    expect_prefix(rt, alloc, &text, row)?;
+    let (text, prefix, want, is_borrow) = *row;
+    let name = format!(in alloc; "{text:?} without {prefix:?}")?;
+    let name = name.as_str();
+    expect_prefix(rt, alloc, &text, prefix, want, is_borrow, name)?;
     let owned = String::from_str(alloc, text)?;
-    expect_prefix(rt, alloc, &owned, row)?;
-    assert!(rt; owned.as_str() == text, "the caller's text {text:?}");
+    expect_prefix(rt, alloc, &owned, prefix, want, is_borrow, name)?;
+    expect(rt, owned.as_str() == text, "the caller's text", text);
     Ok(())
 }
 
 fn expect_suffixes(rt: &impl Abort, alloc: Global, row: &Row) -> Result<(), Fail> {
-    let (text, ..) = *row;
-    expect_suffix(rt, alloc, &text, row)?;
+    let (text, suffix, want, is_borrow) = *row;
+    let name = format!(in alloc; "{text:?} without {suffix:?}")?;
+    let name = name.as_str();
+    expect_suffix(rt, alloc, &text, suffix, want, is_borrow, name)?;
     let owned = String::from_str(alloc, text)?;
-    expect_suffix(rt, alloc, &owned, row)?;
-    assert!(rt; owned.as_str() == text, "the caller's text {text:?}");
+    expect_suffix(rt, alloc, &owned, suffix, want, is_borrow, name)?;
+    expect(rt, owned.as_str() == text, "the caller's text", text);
     Ok(())
 }
 

@@ -1,4 +1,5 @@
 //! How many looks a full scan of worked texts takes.
+use crate::checks::{expect, joined};
 use ansi_str::ansitok::Kind::{Lone, Text};
 use ansi_str::ansitok::{Kind, Scanner};
 use std::alloc::Global;
@@ -46,31 +47,33 @@ static ROWS: [Row; 4] = [
     },
 ];
 
+fn expect_kind(rt: &impl Abort, scanner: &mut Scanner<'_>, kind: Kind, unit: &str) {
+    let got = scanner.next().map(|item| item.kind);
+    expect(rt, got == Some(kind), "the kind of an item", unit);
+}
+
 fn expect_kinds(rt: &impl Abort, scanner: &mut Scanner<'_>, row: &Row) {
     for _ in 0..row.rounds {
         for kind in row.kinds {
-            let got = scanner.next().map(|item| item.kind);
-            assert!(rt; got == Some(*kind), "{got:?} in {:?}", row.unit);
+            expect_kind(rt, scanner, *kind, row.unit);
         }
     }
-    assert!(rt; scanner.next().is_none(), "the end of {:?}", row.unit);
+    expect(rt, scanner.next().is_none(), "the end", row.unit);
 }
 
 /// From as many looks as the text has bytes up to four times as many.
+fn expect_looks(rt: &impl Abort, looks: u128, len: usize, unit: &str) {
+    let len = len as u128;
+    let are_few = len <= looks && looks <= 4 * len;
+    expect(rt, are_few, "looks, bytes", (looks, len, unit));
+}
+
 fn expect_row(rt: &impl Abort, alloc: Global, row: &Row) -> Result<(), Fail> {
-    let mut text = String::from_str(alloc, row.start)?;
-    for _ in 0..row.units {
-        text.push_str(row.unit)?;
-    }
+    let text = joined(alloc, (row.start, row.unit), row.units, "")?;
     let mut scanner = Scanner::new(text.as_str());
-    assert!(rt; scanner.reads() == 0, "no look yet at {:?}", row.unit);
+    expect(rt, scanner.reads() == 0, "no look yet", row.unit);
     expect_kinds(rt, &mut scanner, row);
-    let (reads, len) = (scanner.reads(), text.len() as u128);
-    assert!(rt;
-        len <= reads && reads <= 4 * len,
-        "{reads} looks at {len} bytes, of {:?}",
-        row.unit
-    );
+    expect_looks(rt, scanner.reads(), text.len(), row.unit);
     Ok(())
 }
 

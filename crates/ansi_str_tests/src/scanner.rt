@@ -1,4 +1,5 @@
 //! What a scanner gives for worked texts.
+use crate::checks::expect;
 use ansi_str::ansitok::Kind::{Lone, Other, Sgr, Text};
 use ansi_str::ansitok::{Item, Kind, Scanner};
 use std::process::Abort;
@@ -29,22 +30,26 @@ static ROWS: [Row; 6] = [
     ("", &[]),
 ];
 
+fn expect_item(rt: &impl Abort, scanner: &mut Scanner<'_>, want: Item, row: &Row) {
+    expect(rt, scanner.next() == Some(want), "an item", row);
+}
+
+fn expect_ended(rt: &impl Abort, scanner: &mut Scanner<'_>, row: &Row) {
+    for _ in 0..2 {
+        expect(rt, scanner.next().is_none(), "no item more", row);
+    }
+}
+
 fn expect_items(rt: &impl Abort, row: &Row) {
     let (text, want) = *row;
     let mut scanner = Scanner::new(text);
     let mut start = 0;
     for (kind, end) in want {
-        let item = Item {
-            kind: *kind,
-            start,
-            end: *end,
-        };
-        let got = scanner.next();
-        assert!(rt; got == Some(item), "the item at {start} in {text:?}");
-        start = *end;
+        let (kind, end) = (*kind, *end);
+        expect_item(rt, &mut scanner, Item { kind, start, end }, row);
+        start = end;
     }
-    assert!(rt; scanner.next().is_none(), "after {text:?}");
-    assert!(rt; scanner.next().is_none(), "once more after {text:?}");
+    expect_ended(rt, &mut scanner, row);
 }
 
 #[test]

@@ -1,8 +1,8 @@
 //! The parts of worked texts.
-use crate::Refusing;
-use crate::memory::expect_each_refusal;
+use crate::checks::{expect, expect_answer, expect_text, joined};
+use crate::refusals::{Asked, expect_each_refusal};
 use ansi_str::AnsiStr;
-use ansi_str::split::{AnsiSplit, part_in, split_in};
+use ansi_str::split::{AnsiSplit, part_in};
 use std::alloc::{Allocator, Global};
 use std::borrow::CowStr;
 use std::process::Abort;
@@ -152,22 +152,27 @@ static ROWS: [Row; 21] = [
     ("\x1b[>4;2ma,b", ",", &[("\x1b[>4;2ma", false), ("b", true)]),
 ];
 
-fn expect_part<A: Allocator>(rt: &impl Abort, got: &CowStr<'_, A>, want: &(&str, bool), row: &Row) {
-    let (text, pat, _) = row;
-    let (part, is_borrow) = want;
-    assert!(rt; got.as_str() == *part, "part of {text:?} by {pat:?}");
-    let got_borrow = matches!(got, CowStr::Borrowed(_));
-    assert!(rt;
-        got_borrow == *is_borrow,
-        "borrow of a part of {text:?} by {pat:?}"
-    );
+/// The iterator has nothing left, and stays so.
+pub fn expect_ended<A: Allocator + Copy>(
+    rt: &impl Abort,
+    parts: &mut AnsiSplit<'_, A>,
+    name: &str,
+) {
+    for _ in 0..3 {
+        expect(rt, parts.next().is_none(), "the end of the parts", name);
+    }
 }
 
-/// The iterator has nothing left, and stays so.
-pub fn expect_ended<A: Allocator + Copy>(rt: &impl Abort, parts: &mut AnsiSplit<'_, A>) {
-    for _ in 0..3 {
-        assert!(rt; parts.next().is_none(), "None for good");
-    }
+fn expect_next(
+    rt: &impl Abort,
+    parts: &mut AnsiSplit<'_>,
+    want: &(&str, bool),
+    row: &Row,
+) -> Result<(), Fail> {
+    let (part, is_borrow) = *want;
+    let got = parts.next().ok_or("a part is missing")??;
+    expect_text(rt, &got, part, is_borrow, row);
+    Ok(())
 }
 
 fn expect_split<T: AnsiStr>(
@@ -176,15 +181,12 @@ fn expect_split<T: AnsiStr>(
     text: &T,
     row: &Row,
 ) -> Result<(), Fail> {
-    let (name, pat, want) = row;
+    let (name, pat, want) = *row;
     let mut parts = text.ansi_split(alloc, pat);
-    for part in *want {
-        match parts.next() {
-            Some(got) => expect_part(rt, &got?, part, row),
-            None => assert!(rt; false, "too few parts of {name:?} by {pat:?}"),
-        }
+    for part in want {
+        expect_next(rt, &mut parts, part, row)?;
     }
-    expect_ended(rt, &mut parts);
+    expect_ended(rt, &mut parts, name);
     Ok(())
 }
 
@@ -193,7 +195,7 @@ fn expect_row(rt: &impl Abort, alloc: Global, row: &Row) -> Result<(), Fail> {
     expect_split(rt, alloc, &text, row)?;
     let owned = String::from_str(alloc, text)?;
     expect_split(rt, alloc, &owned, row)?;
-    assert!(rt; owned.as_str() == text, "the caller's text {text:?}");
+    expect(rt, owned.as_str() == text, "the caller's text", text);
     Ok(())
 }
 
@@ -213,17 +215,16 @@ fn expect_part_at(
     want: &(&str, bool),
 ) -> Result<(), Fail> {
     let (text, pat, _) = *row;
-    match part_in(alloc, text, pat, index)? {
-        Some(got) => expect_part(rt, &got, want, row),
-        None => assert!(rt; false, "part {index} of {text:?} by {pat:?}"),
-    }
+    let (part, is_borrow) = *want;
+    let got = part_in(alloc, text, pat, index)?;
+    expect_answer(rt, &got, Some(part), is_borrow, row);
     Ok(())
 }
 
 fn expect_no_part_at(rt: &impl Abort, alloc: Global, row: &Row, index: usize) -> Result<(), Fail> {
     let (text, pat, _) = *row;
     let got = part_in(alloc, text, pat, index)?;
-    assert!(rt; got.is_none(), "part {index} of {text:?} by {pat:?}");
+    expect(rt, got.is_none(), "no part", row);
     Ok(())
 }
 
@@ -246,16 +247,11 @@ fn parts_are_given_by_index(rt: HostRuntime) -> Result<(), Fail> {
 
 #[test]
 fn escapes_alone_are_one_part(rt: HostRuntime) -> Result<(), Fail> {
-    let mut text = String::new(rt.alloc());
-    for _ in 0..1_000 {
-        text.push('\x1b')?;
-    }
+    let text = "\x1b".repeat(rt.alloc(), 1_000)?;
     let mut parts = text.ansi_split(rt.alloc(), "a");
-    match parts.next() {
-        Some(got) => assert!(rt; got?.as_str() == text.as_str(), "1,000 escapes"),
-        None => assert!(rt; false, "no part of 1,000 escapes"),
-    }
-    expect_ended(&rt, &mut parts);
+    let part = parts.next().ok_or("a part is missing")??;
+    expect(&rt, part.as_str() == text.as_str(), "the part", "1,000 escapes");
+    expect_ended(&rt, &mut parts, "1,000 escapes");
     Ok(())
 }
 
@@ -270,17 +266,14 @@ fn want_of_many(index: usize) -> &'static str {
 
 #[test]
 fn many_parts_are_given(rt: HostRuntime) -> Result<(), Fail> {
-    let mut text = String::from_str(rt.alloc(), "\x1b[1m")?;
-    for _ in 0..10_000 {
-        text.push_str("a\x1b[4m,")?;
-    }
+    let text = joined(rt.alloc(), ("\x1b[1m", "a\x1b[4m,"), 10_000, "")?;
     let mut count = 0usize;
     for part in text.ansi_split(rt.alloc(), ",") {
         let is_right = part?.as_str() == want_of_many(count);
-        assert!(rt; is_right, "part {count}");
+        expect(&rt, is_right, "a part", count);
         count = count.saturating_add(1);
     }
-    assert!(rt; count == 10_001, "how many parts");
+    expect(&rt, count == 10_001, "how many parts", count);
     Ok(())
 }
 
@@ -298,10 +291,10 @@ fn expect_borrows(
     let mut count = 0usize;
     for part in text.ansi_split(alloc, pat) {
         let is_borrow = matches!(&part?, CowStr::Borrowed(_));
-        assert!(rt; is_borrow, "part {count} by {pat:?}");
+        expect(rt, is_borrow, "a borrow", (pat, count));
         count = count.saturating_add(1);
     }
-    assert!(rt; count == want, "how many parts by {pat:?}");
+    expect(rt, count == want, "how many parts", (pat, count));
     Ok(())
 }
 
@@ -314,86 +307,59 @@ fn a_long_run_is_split(rt: HostRuntime) -> Result<(), Fail> {
     Ok(())
 }
 
-/// Whether the split of the row of this number answers an `Err`, after which there is nothing. The
-/// parts before have to be the row's.
-fn split_is_err(rt: &impl Abort, heap: &Refusing<Global>, text: &str, number: usize) -> bool {
-    let Some(row) = ROWS.get(number) else {
-        return false;
-    };
-    let (_, pat, want) = row;
-    let mut parts = split_in(heap, text, pat);
-    for part in *want {
-        match parts.next() {
-            Some(Ok(got)) => expect_part(rt, &got, part, row),
-            Some(Err(_)) => {
-                expect_ended(rt, &mut parts);
-                return true;
-            }
-            None => assert!(rt; false, "too few parts of {text:?} by {pat:?}"),
-        }
-    }
-    expect_ended(rt, &mut parts);
-    false
-}
-
 fn expect_split_refusals(
     rt: &impl Abort,
     alloc: Global,
-    row: &Row,
     number: usize,
+    row: &Row,
 ) -> Result<(), Fail> {
-    let (text, _, want) = *row;
+    let (text, pat, want) = *row;
+    let name = format!(in alloc; "row {number}")?;
     let takes_memory = want.iter().any(|(_, is_borrow)| !is_borrow);
-    let owned = String::from_str(alloc, text)?;
-    expect_each_refusal(rt, alloc, text, takes_memory, |heap| {
-        split_is_err(rt, heap, owned.as_str(), number)
-    });
-    assert!(rt; owned.as_str() == text, "the caller's text {text:?}");
-    Ok(())
+    let asked = Asked::Parts(pat, want);
+    expect_each_refusal(rt, alloc, name.as_str(), text, &asked, takes_memory)
 }
 
 #[test]
 fn split_meets_each_refusal(rt: HostRuntime) -> Result<(), Fail> {
     for (number, row) in ROWS.iter().enumerate() {
-        expect_split_refusals(&rt, rt.alloc(), row, number)?;
+        expect_split_refusals(&rt, rt.alloc(), number, row)?;
     }
     Ok(())
 }
 
-/// Whether the part of an index of the row of this number is an `Err`; where it isn't, it has to be
-/// the row's.
-fn part_is_err(rt: &impl Abort, heap: &Refusing<Global>, number: usize, index: usize) -> bool {
-    let Some(row) = ROWS.get(number) else {
-        return false;
-    };
-    let (text, pat, want) = row;
-    match (part_in(heap, text, pat, index), want.get(index)) {
-        (Err(_), _) => true,
-        (Ok(Some(got)), Some(part)) => {
-            expect_part(rt, &got, part, row);
-            false
-        }
-        (Ok(got), part) => {
-            let are_none = got.is_none() && part.is_none();
-            assert!(rt; are_none, "part {index} of {text:?} by {pat:?}");
-            false
-        }
-    }
+fn expect_part_refusal(
+    rt: &impl Abort,
+    alloc: Global,
+    number: usize,
+    row: &Row,
+    index: usize,
+) -> Result<(), Fail> {
+    let (text, pat, want) = *row;
+    let name = format!(in alloc; "part {index} of row {number}")?;
+    let part = want.get(index).copied();
+    let takes_memory = matches!(part, Some((_, false)));
+    let asked = Asked::Part(pat, index, part);
+    expect_each_refusal(rt, alloc, name.as_str(), text, &asked, takes_memory)
 }
 
-fn expect_part_refusals(rt: &impl Abort, alloc: Global, row: &Row, number: usize) {
-    let (text, _, want) = *row;
+fn expect_part_refusals(
+    rt: &impl Abort,
+    alloc: Global,
+    number: usize,
+    row: &Row,
+) -> Result<(), Fail> {
+    let (_, _, want) = *row;
     for index in 0..=want.len() {
-        let takes_memory = want.get(index).is_some_and(|(_, is_borrow)| !is_borrow);
-        expect_each_refusal(rt, alloc, text, takes_memory, |heap| {
-            part_is_err(rt, heap, number, index)
-        });
+        expect_part_refusal(rt, alloc, number, row, index)?;
     }
+    Ok(())
 }
 
 #[test]
-fn part_meets_each_refusal(rt: HostRuntime) {
+fn part_meets_each_refusal(rt: HostRuntime) -> Result<(), Fail> {
     for (number, row) in ROWS.iter().enumerate() {
-        expect_part_refusals(&rt, rt.alloc(), row, number);
+        expect_part_refusals(&rt, rt.alloc(), number, row)?;
     }
+    Ok(())
 }

@@ -3,9 +3,9 @@ ghost use Rattle.std.specs.Prelude.{IsTrue};
 ghost use Rattle.ansi_str.specs.Plain.{plain};
 ghost use Rattle.ansi_str.specs.Positions.{is_good_position};
 
+use crate::checks::{expect, expect_text};
 use ansi_str::AnsiStr;
 use std::alloc::Global;
-use std::borrow::CowStr;
 use std::process::Abort;
 use std::test::Fail;
 
@@ -94,13 +94,8 @@ fn expect_sides<T: AnsiStr>(
     let (name, mid, left, right, is_borrow) = *row;
     assert!(rt; is_good(alloc, text, mid), "{mid} is good in {name:?}");
     let (got_left, got_right) = text.ansi_split_at(alloc, mid)?;
-    assert!(rt; got_left.as_str() == left, "left of {mid} in {name:?}");
-    assert!(rt; got_right.as_str() == right, "right of {mid} in {name:?}");
-    let borrows = (
-        matches!(&got_left, CowStr::Borrowed(_)),
-        matches!(&got_right, CowStr::Borrowed(_)),
-    );
-    assert!(rt; borrows == (is_borrow, is_borrow), "borrows of {name:?}");
+    expect_text(rt, &got_left, left, is_borrow, row);
+    expect_text(rt, &got_right, right, is_borrow, row);
     Ok(())
 }
 
@@ -109,7 +104,7 @@ fn expect_row(rt: &impl Abort, alloc: Global, row: &Row) -> Result<(), Fail> {
     expect_sides(rt, alloc, &text, row)?;
     let owned = String::from_str(alloc, text)?;
     expect_sides(rt, alloc, &owned, row)?;
-    assert!(rt; owned.as_str() == text, "the caller's text {text:?}");
+    expect(rt, owned.as_str() == text, "the caller's text", text);
     Ok(())
 }
 

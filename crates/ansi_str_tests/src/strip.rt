@@ -1,7 +1,7 @@
 //! The plain texts of worked texts.
+use crate::checks::{expect, expect_text, joined};
 use ansi_str::AnsiStr;
 use std::alloc::Global;
-use std::borrow::CowStr;
 use std::process::Abort;
 use std::test::Fail;
 
@@ -27,27 +27,28 @@ static ROWS: [Row; 13] = [
     ("\x1b[1\x7fm", "[1\x7fm", false),
 ];
 
-fn expect_plain<T: AnsiStr>(
+/// The text has this plain text, which is a borrow or not.
+pub fn expect_plain<T: AnsiStr>(
     rt: &impl Abort,
     alloc: Global,
     text: &T,
-    row: &Row,
+    want: &str,
+    is_borrow: bool,
+    name: &str,
 ) -> Result<(), Fail> {
-    let (name, plain, is_borrow) = *row;
     let got = text.ansi_strip(alloc)?;
-    assert!(rt; got.as_str() == plain, "plain text of {name:?}");
-    let got_borrow = matches!(&got, CowStr::Borrowed(_));
-    assert!(rt; got_borrow == is_borrow, "borrow of {name:?}");
-    assert!(rt; text.ansi_has_any() != is_borrow, "ESC in {name:?}");
+    expect_text(rt, &got, want, is_borrow, name);
+    let has_any = text.ansi_has_any();
+    expect(rt, has_any != is_borrow, "whether it has an ESC", name);
     Ok(())
 }
 
 fn expect_row(rt: &impl Abort, alloc: Global, row: &Row) -> Result<(), Fail> {
-    let (text, ..) = *row;
-    expect_plain(rt, alloc, &text, row)?;
+    let (text, want, is_borrow) = *row;
+    expect_plain(rt, alloc, &text, want, is_borrow, text)?;
     let owned = String::from_str(alloc, text)?;
-    expect_plain(rt, alloc, &owned, row)?;
-    assert!(rt; owned.as_str() == text, "the caller's text {text:?}");
+    expect_plain(rt, alloc, &owned, want, is_borrow, text)?;
+    expect(rt, owned.as_str() == text, "the caller's text", text);
     Ok(())
 }
 
@@ -59,32 +60,20 @@ fn plain_texts_are_given(rt: HostRuntime) -> Result<(), Fail> {
     Ok(())
 }
 
-/// A front, a text that stands after it so often, and the plain text of both together.
-type LongRow = (&'static str, &'static str, usize, &'static str);
+/// A front, what stands after it so often, and the same of the plain text.
+type LongRow = (&'static str, &'static str, usize, &'static str, &'static str);
 
 static LONG_ROWS: [LongRow; 3] = [
-    ("", "\x1b", 1_000, ""),
-    ("\x1b[", "1;", 100_000, "["),
-    ("\x1b]0;", "a", 100_000, "]0;"),
+    ("", "\x1b", 1_000, "", ""),
+    ("\x1b[", "1;", 100_000, "[", "1;"),
+    ("\x1b]0;", "a", 100_000, "]0;", "a"),
 ];
 
 fn expect_long_row(rt: &impl Abort, alloc: Global, row: &LongRow) -> Result<(), Fail> {
-    let (front, repeated, count, plain_front) = *row;
-    let mut text = String::from_str(alloc, front)?;
-    let mut plain = String::from_str(alloc, plain_front)?;
-    for _ in 0..count {
-        text.push_str(repeated)?;
-        if repeated != "\x1b" {
-            plain.push_str(repeated)?;
-        }
-    }
-    let got = text.ansi_strip(alloc)?;
-    assert!(rt; got.len() == plain.len(), "length after {front:?}");
-    assert!(rt;
-        got.as_str() == plain.as_str(),
-        "plain text after {front:?}"
-    );
-    Ok(())
+    let (front, rest, count, plain_front, plain_rest) = *row;
+    let text = joined(alloc, (front, rest), count, "")?;
+    let plain = joined(alloc, (plain_front, plain_rest), count, "")?;
+    expect_plain(rt, alloc, &text, plain.as_str(), false, front)
 }
 
 #[test]

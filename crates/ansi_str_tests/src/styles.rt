@@ -1,4 +1,5 @@
 //! What callers see of the style of a text's first block, and what SGRs do to it.
+use crate::checks::{expect, text_of};
 use ansi_str::{AnsiBlock, AnsiSequenceEnd, AnsiStr, Style, get_blocks};
 use std::alloc::Global;
 use std::cmp::Ordering;
@@ -55,7 +56,7 @@ fn expect_start(
     text: &str,
 ) -> Result<(), Fail> {
     let got = style.start().to_string(alloc)?;
-    assert!(rt; got.as_str() == want, "the start in {text:?}");
+    expect(rt, got.as_str() == want, "the start", text);
     Ok(())
 }
 
@@ -67,21 +68,29 @@ fn expect_end(
     text: &str,
 ) -> Result<(), Fail> {
     let got = style.end().to_string(alloc)?;
-    assert!(rt; got.as_str() == want, "the end in {text:?}");
+    expect(rt, got.as_str() == want, "the end", text);
     Ok(())
 }
 
 fn expect_order(rt: &impl Abort, style: &Style, other: &Style, want: Ordering, text: &str) {
-    assert!(rt; style.cmp(other) == want, "the order of {text:?}");
-    assert!(rt;
-        style.partial_cmp(other) == Some(want),
-        "the partial order of {text:?}"
-    );
+    expect(rt, style.cmp(other) == want, "the order", text);
+    let order = style.partial_cmp(other);
+    expect(rt, order == Some(want), "the partial order", text);
     let is_same = style == other;
-    assert!(rt;
-        is_same == (want == Ordering::Equal),
-        "equality of {text:?}"
-    );
+    expect(rt, is_same == (want == Ordering::Equal), "equality", text);
+}
+
+/// The styles of the first blocks of two texts compare so.
+fn expect_order_of(
+    rt: &impl Abort,
+    alloc: Global,
+    style: &Style,
+    other: &str,
+    want: Ordering,
+) -> Result<(), Fail> {
+    let block = first_block(alloc, other)?;
+    expect_order(rt, style, block.style(), want, other);
+    Ok(())
 }
 
 fn expect_look(rt: &impl Abort, alloc: Global, row: &Row) -> Result<(), Fail> {
@@ -89,15 +98,14 @@ fn expect_look(rt: &impl Abort, alloc: Global, row: &Row) -> Result<(), Fail> {
     let block = first_block(alloc, text)?;
     let style = block.style();
     match look {
-        Start(want) => expect_start(rt, alloc, style, want, text)?,
-        End(want) => expect_end(rt, alloc, style, want, text)?,
-        HasAnsi(want) => assert!(rt; block.has_ansi() == want, "has_ansi in {text:?}"),
-        Order(other, want) => {
-            let other = first_block(alloc, other)?;
-            expect_order(rt, style, other.style(), want, text);
+        Start(want) => expect_start(rt, alloc, style, want, text),
+        End(want) => expect_end(rt, alloc, style, want, text),
+        Order(other, want) => expect_order_of(rt, alloc, style, other, want),
+        HasAnsi(want) => {
+            expect(rt, block.has_ansi() == want, "has_ansi", text);
+            Ok(())
         }
     }
-    Ok(())
 }
 
 #[test]
@@ -111,10 +119,8 @@ fn styles_are_shown(rt: HostRuntime) -> Result<(), Fail> {
 #[test]
 fn reset_all_is_its_bytes(rt: HostRuntime) {
     let bytes = [0x1B, b'[', b'0', b'm'];
-    assert!(rt;
-        AnsiSequenceEnd::RESET_ALL.as_bytes() == bytes.as_slice(),
-        "ends every style"
-    );
+    let is_right = AnsiSequenceEnd::RESET_ALL.as_bytes() == bytes.as_slice();
+    expect(&rt, is_right, "the bytes", "RESET_ALL");
 }
 
 // No call tells the two marks of a style, `reset` and `unknown`. A style that starts with nothing has at
@@ -139,17 +145,12 @@ static MARKS: [&str; 4] = [UNMARKED, UNKNOWN, RESET, RESET_AND_UNKNOWN];
 fn expect_marks(rt: &impl Abort, alloc: Global, index: usize, marks: &str) -> Result<(), Fail> {
     let text = format!(in alloc; "{marks}x")?;
     let block = first_block(alloc, text.as_str())?;
-    expect_start(rt, alloc, block.style(), "", text.as_str())?;
+    let style = block.style();
+    expect_start(rt, alloc, style, "", text.as_str())?;
     for (other_index, other) in MARKS.iter().enumerate() {
         let other = format!(in alloc; "{other}x")?;
-        let other = first_block(alloc, other.as_str())?;
-        expect_order(
-            rt,
-            block.style(),
-            other.style(),
-            index.cmp(&other_index),
-            text.as_str(),
-        );
+        let want = index.cmp(&other_index);
+        expect_order_of(rt, alloc, style, other.as_str(), want)?;
     }
     Ok(())
 }
@@ -174,7 +175,7 @@ pub fn expect_style(
     expect_start(rt, alloc, style, start, text)?;
     let same = format!(in alloc; "{marks}{start}x")?;
     let same = first_block(alloc, same.as_str())?;
-    assert!(rt; style == same.style(), "the marks of the style in {text:?}");
+    expect(rt, style == same.style(), "the marks of the style", text);
     Ok(())
 }
 
@@ -249,15 +250,19 @@ static PRINTED_ROWS: [PrintedRow; 8] = [
     ),
 ];
 
+fn expect_close(rt: &impl Abort, alloc: Global, text: &str, close: &str) -> Result<(), Fail> {
+    let want = format!(in alloc; "{text}{close}")?;
+    let cut = text.ansi_get(alloc, ..)?;
+    expect(rt, text_of(&cut) == Some(want.as_str()), "the close", text);
+    Ok(())
+}
+
 fn expect_printed(rt: &impl Abort, alloc: Global, row: &PrintedRow) -> Result<(), Fail> {
     let (parameters, start, close) = *row;
     let text = format!(in alloc; "\x1b[{parameters}mx")?;
     let block = first_block(alloc, text.as_str())?;
     expect_start(rt, alloc, block.style(), start, text.as_str())?;
-    let want = format!(in alloc; "\x1b[{parameters}mx{close}")?;
-    let cut = text.ansi_get(alloc, ..)?.ok_or("a text has a cut")?;
-    assert!(rt; cut.as_str() == want.as_str(), "the close in {text:?}");
-    Ok(())
+    expect_close(rt, alloc, text.as_str(), close)
 }
 
 #[test]
@@ -292,10 +297,7 @@ fn expect_attribute(rt: &impl Abort, alloc: Global, index: usize, code: &str) ->
     let block = first_block(alloc, text.as_str())?;
     for (other_index, is_set) in attributes(block.style()).iter().enumerate() {
         let want = index == other_index;
-        assert!(rt;
-            *is_set == want,
-            "attribute {other_index} after code {code}"
-        );
+        expect(rt, *is_set == want, "an attribute", (other_index, code));
     }
     Ok(())
 }
@@ -334,10 +336,8 @@ fn expect_earlier(rt: &impl Abort, alloc: Global, index: usize, code: &str) -> R
     let later = text_of_codes_from(alloc, index.saturating_add(1))?;
     let one = first_block(alloc, one.as_str())?;
     let later = first_block(alloc, later.as_str())?;
-    assert!(rt;
-        *one.style() > *later.style(),
-        "code {code} against all after it"
-    );
+    let is_greater = *one.style() > *later.style();
+    expect(rt, is_greater, "the order against all after it", code);
     Ok(())
 }
 

@@ -1,7 +1,8 @@
 //! Worked texts without the white space at their ends.
+use crate::checks::{expect, expect_text};
+use crate::prefix::{expect_prefix, expect_suffix};
 use ansi_str::AnsiStr;
 use std::alloc::Global;
-use std::borrow::CowStr;
 use std::process::Abort;
 use std::test::Fail;
 
@@ -28,26 +29,26 @@ static ROWS: [Row; 7] = [
     ),
 ];
 
-fn expect_trimmed<T: AnsiStr>(
+/// The trimmed text is this, and is a borrow or not.
+pub fn expect_trimmed<T: AnsiStr>(
     rt: &impl Abort,
     alloc: Global,
     text: &T,
-    row: &Row,
+    want: &str,
+    is_borrow: bool,
+    name: &str,
 ) -> Result<(), Fail> {
-    let (name, want, is_borrow) = *row;
     let got = text.ansi_trim(alloc)?;
-    assert!(rt; got.as_str() == want, "trim of {name:?}");
-    let got_borrow = matches!(&got, CowStr::Borrowed(_));
-    assert!(rt; got_borrow == is_borrow, "borrow of {name:?}");
+    expect_text(rt, &got, want, is_borrow, name);
     Ok(())
 }
 
 fn expect_row(rt: &impl Abort, alloc: Global, row: &Row) -> Result<(), Fail> {
-    let (text, ..) = *row;
-    expect_trimmed(rt, alloc, &text, row)?;
+    let (text, want, is_borrow) = *row;
+    expect_trimmed(rt, alloc, &text, want, is_borrow, text)?;
     let owned = String::from_str(alloc, text)?;
-    expect_trimmed(rt, alloc, &owned, row)?;
-    assert!(rt; owned.as_str() == text, "the caller's text {text:?}");
+    expect_trimmed(rt, alloc, &owned, want, is_borrow, text)?;
+    expect(rt, owned.as_str() == text, "the caller's text", text);
     Ok(())
 }
 
@@ -64,26 +65,11 @@ const MANY: usize = 100_000;
 
 #[test]
 fn long_texts_are_kept(rt: HostRuntime) -> Result<(), Fail> {
-    let mut text = String::new(rt.alloc());
-    let mut plain = String::new(rt.alloc());
-    let mut sequences = String::new(rt.alloc());
-    for _ in 0..MANY {
-        text.push_str("\x1b[1m ")?;
-        plain.push_str(" ")?;
-        sequences.push_str("\x1b[1m")?;
-    }
-    let want = Some(sequences.as_str());
-    let got = text.ansi_strip_prefix(rt.alloc(), plain.as_str())?;
-    assert!(rt;
-        got.as_ref().map(|kept| kept.as_str()) == want,
-        "all as a prefix"
-    );
-    let got = text.ansi_strip_suffix(rt.alloc(), plain.as_str())?;
-    assert!(rt;
-        got.as_ref().map(|kept| kept.as_str()) == want,
-        "all as a suffix"
-    );
-    let got = text.ansi_trim(rt.alloc())?;
-    assert!(rt; Some(got.as_str()) == want, "white space alone");
-    Ok(())
+    let text = "\x1b[1m ".repeat(rt.alloc(), MANY)?;
+    let blanks = " ".repeat(rt.alloc(), MANY)?;
+    let want = "\x1b[1m".repeat(rt.alloc(), MANY)?;
+    let (blanks, want) = (blanks.as_str(), want.as_str());
+    expect_prefix(&rt, rt.alloc(), &text, blanks, Some(want), false, "a long text")?;
+    expect_suffix(&rt, rt.alloc(), &text, blanks, Some(want), false, "a long text")?;
+    expect_trimmed(&rt, rt.alloc(), &text, want, false, "a long text")
 }

@@ -1,4 +1,5 @@
 //! Whether worked texts are whole.
+use crate::checks::expect;
 use ansi_str::ansi_is_whole;
 use std::process::Abort;
 
@@ -16,7 +17,7 @@ static ROWS: [Row; 6] = [
 
 fn expect_whole(rt: &impl Abort, row: &Row) {
     let (text, is_whole) = *row;
-    assert!(rt; ansi_is_whole(text) == is_whole, "whole: {text:?}");
+    expect(rt, ansi_is_whole(text) == is_whole, "whole", text);
 }
 
 #[test]

@@ -1,6 +1,6 @@
 //! Runs over devices that fail or are interrupted.
-use super::{CHUNK, Ran, at_call, expect, page_of, run_on, run_over};
-use crate::page::{Outcome, Page};
+use super::{ALL, CHUNK, Plan, Ran, at_call, expect, expect_end, run_with};
+use crate::page::Outcome;
 use std::alloc::{AllocError, Global};
 use std::process::Abort;
 use std::test::Fail;
@@ -67,34 +67,37 @@ pub(super) fn interrupted_each_once(
     Ok(schedule)
 }
 
+// Runs a case whose reads come out as told.
+fn run_reading(alloc: Global, case: &Case, schedule: Vec<Outcome>) -> Result<Ran, AllocError> {
+    let mut plan = Plan::new(alloc);
+    plan.input = schedule;
+    run_with(alloc, case.words, case.text.as_bytes(), plan)
+}
+
 // Runs a case whose output's calls come out as told.
-fn run_case(alloc: Global, case: &Case, schedule: Vec<Outcome>) -> Result<Ran, AllocError> {
-    let input = page_of(alloc, case.text.as_bytes())?;
-    let output = Page::with_room(alloc, 100)?.with_schedule(schedule);
-    let faults = Page::with_room(alloc, 100)?;
-    run_over(alloc, case.words, input, output, faults)
+fn run_writing(alloc: Global, case: &Case, schedule: Vec<Outcome>) -> Result<Ran, AllocError> {
+    let mut plan = Plan::new(alloc);
+    plan.output = schedule;
+    run_with(alloc, case.words, case.text.as_bytes(), plan)
 }
 
 // A run that ends as its case does.
 fn expect_case(rt: &impl Abort, case: &Case, ran: &Ran, what: &str) {
-    expect(rt, ran, case.status, case.output, case.faults, what);
+    let name = (case.words, what);
+    expect_end(rt, ran, case.status, case.output, case.faults, name);
 }
 
+// Reads before a call that fails.
 fn expect_failing_read(
     rt: &impl Abort,
     alloc: Global,
     case: &Case,
     call: usize,
 ) -> Result<(), Fail> {
-    let planned = at_call(alloc, call, Outcome::Failed)?;
-    let input = page_of(alloc, case.text.as_bytes())?.with_schedule(planned);
-    let ran = run_on(alloc, case.words, input)?;
-    let words = case.words;
-    expect(rt, &ran, 3, "", "bad input\n", "a failing read");
-    assert!(rt;
-        ran.input.outcomes_left() == 0,
-        "reads of {words:?} before the failing one, {call}"
-    );
+    let ran = run_reading(alloc, case, at_call(alloc, call, Outcome::Failed)?)?;
+    let name = (case.words, "a failing read", call);
+    expect_end(rt, &ran, 3, "", "bad input\n", name);
+    expect(rt, ran.input_left == 0, "the reads", name);
     Ok(())
 }
 
@@ -103,9 +106,7 @@ fn expect_failing_reads(rt: &impl Abort, alloc: Global, case: &Case) -> Result<(
     for call in 0..reads {
         expect_failing_read(rt, alloc, case, call)?;
     }
-    let planned = at_call(alloc, reads, Outcome::Failed)?;
-    let input = page_of(alloc, case.text.as_bytes())?.with_schedule(planned);
-    let ran = run_on(alloc, case.words, input)?;
+    let ran = run_reading(alloc, case, at_call(alloc, reads, Outcome::Failed)?)?;
     expect_case(rt, case, &ran, "a failing read that isn't made");
     Ok(())
 }
@@ -118,26 +119,24 @@ fn each_failing_read_is_told_of(rt: HostRuntime) -> Result<(), Fail> {
     Ok(())
 }
 
-fn expect_interruptions(rt: &impl Abort, alloc: Global, case: &Case) -> Result<(), Fail> {
-    let planned = interrupted_each_once(alloc, 10)?;
-    let input = page_of(alloc, case.text.as_bytes())?.with_schedule(planned);
-    let ran = run_on(alloc, case.words, input)?;
+fn expect_interrupted_once(rt: &impl Abort, alloc: Global, case: &Case) -> Result<(), Fail> {
+    let ran = run_reading(alloc, case, interrupted_each_once(alloc, 10)?)?;
     expect_case(rt, case, &ran, "reads that are interrupted once");
-
-    let planned = vec![in alloc; Outcome::Interrupted; 2_097_155]?;
-    let input = page_of(alloc, case.text.as_bytes())?.with_schedule(planned);
-    let ran = run_on(alloc, case.words, input)?;
-    expect(
-        rt,
-        &ran,
-        3,
-        "",
-        "bad input\n",
-        "reads that are interrupted for ever",
-    );
-    let left = ran.input.outcomes_left();
-    assert!(rt; left == 1, "2,097,154 reads leave {left} outcomes");
     Ok(())
+}
+
+fn expect_interrupted_for_ever(rt: &impl Abort, alloc: Global, case: &Case) -> Result<(), Fail> {
+    let schedule = vec![in alloc; Outcome::Interrupted; 2_097_155]?;
+    let ran = run_reading(alloc, case, schedule)?;
+    let name = (case.words, "reads that are interrupted for ever");
+    expect_end(rt, &ran, 3, "", "bad input\n", name);
+    expect(rt, ran.input_left == 1, "2,097,154 reads", name);
+    Ok(())
+}
+
+fn expect_interruptions(rt: &impl Abort, alloc: Global, case: &Case) -> Result<(), Fail> {
+    expect_interrupted_once(rt, alloc, case)?;
+    expect_interrupted_for_ever(rt, alloc, case)
 }
 
 #[test]
@@ -150,20 +149,15 @@ fn interrupted_reads_are_made_again(rt: HostRuntime) -> Result<(), Fail> {
 
 #[test]
 fn the_longest_input_takes_the_most_reads(rt: HostRuntime) -> Result<(), Fail> {
-    let longest = vec![in rt.alloc(); b'a'; 1_048_576]?;
-    let planned = interrupted_each_once(rt.alloc(), 1_048_577)?;
-    let input = Page::of(rt.alloc(), longest)
-        .in_chunks(1)
-        .with_schedule(planned);
-    let output = Page::with_room(rt.alloc(), 1_048_576)?;
-    let faults = Page::with_room(rt.alloc(), 100)?;
-    let ran = run_over(rt.alloc(), &["strip"], input, output, faults)?;
-    assert!(rt;
-        ran.status == 0,
-        "status of the longest input, a byte a read"
-    );
-    assert!(rt; ran.output.bytes().len() == 1_048_576, "output of it");
-    assert!(rt; ran.input.outcomes_left() == 0, "reads of it");
+    let longest = "a".repeat(rt.alloc(), 1_048_576)?;
+    let mut plan = Plan::new(rt.alloc());
+    plan.input = interrupted_each_once(rt.alloc(), 1_048_577)?;
+    plan.chunk = 1;
+    plan.room = ALL;
+    let ran = run_with(rt.alloc(), &["strip"], longest.as_bytes(), plan)?;
+    let name = "the longest input, a byte a read";
+    expect_end(&rt, &ran, 0, longest.as_str(), "", name);
+    expect(&rt, ran.input_left == 0, "the reads", name);
     Ok(())
 }
 
@@ -174,22 +168,13 @@ fn expect_failing_call(
     call: usize,
     outcome: Outcome,
 ) -> Result<(), Fail> {
-    let planned = at_call(alloc, call, outcome)?;
-    let ran = run_case(alloc, case, planned)?;
-    let words = case.words;
-    assert!(rt; ran.status == 4, "status of {words:?}, call {call} failing");
-    assert!(rt;
-        ran.faults.bytes() == b"write failed\n".as_slice(),
-        "faults of {words:?}, call {call} failing"
-    );
-    assert!(rt;
-        ran.output.outcomes_left() == 0,
-        "calls of {words:?} before the failing one, {call}"
-    );
-    assert!(rt;
-        ran.output.passed() == 0,
-        "what {words:?} passes on, call {call} failing"
-    );
+    let ran = run_writing(alloc, case, at_call(alloc, call, outcome)?)?;
+    let name = (case.words, call, outcome);
+    expect(rt, ran.status == 4, "status", name);
+    let has_faults = ran.faults.as_slice() == b"write failed\n".as_slice();
+    expect(rt, has_faults, "faults", name);
+    expect(rt, ran.output_left == 0, "the calls", name);
+    expect(rt, ran.passed == 0, "what is passed on", name);
     Ok(())
 }
 
@@ -198,8 +183,8 @@ fn expect_failing_calls(rt: &impl Abort, alloc: Global, case: &Case) -> Result<(
         expect_failing_call(rt, alloc, case, call, Outcome::Failed)?;
         expect_failing_call(rt, alloc, case, call, Outcome::Interrupted)?;
     }
-    let planned = at_call(alloc, case.output_calls, Outcome::Failed)?;
-    let ran = run_case(alloc, case, planned)?;
+    let schedule = at_call(alloc, case.output_calls, Outcome::Failed)?;
+    let ran = run_writing(alloc, case, schedule)?;
     expect_case(rt, case, &ran, "a failing call that isn't made");
     Ok(())
 }
@@ -214,18 +199,11 @@ fn each_failing_write_and_flush_is_told_of(rt: HostRuntime) -> Result<(), Fail> 
 
 #[test]
 fn a_full_page_takes_no_more(rt: HostRuntime) -> Result<(), Fail> {
-    let input = page_of(rt.alloc(), b"abc\n")?;
-    let output = Page::with_room(rt.alloc(), 3)?;
-    let faults = Page::with_room(rt.alloc(), 100)?;
-    let ran = run_over(rt.alloc(), &["strip"], input, output, faults)?;
-    expect(
-        &rt,
-        &ran,
-        4,
-        "abc",
-        "write failed\n",
-        "a page with no room for the line feed",
-    );
+    let mut plan = Plan::new(rt.alloc());
+    plan.room = 3;
+    let ran = run_with(rt.alloc(), &["strip"], b"abc\n", plan)?;
+    let name = "a page with no room for the line feed";
+    expect_end(&rt, &ran, 4, "abc", "write failed\n", name);
     Ok(())
 }
 
@@ -246,27 +224,15 @@ fn expect_failing_fault(
     call: usize,
 ) -> Result<(), Fail> {
     let (word, bytes, status, written, _) = *row;
-    let planned = at_call(alloc, call, Outcome::Failed)?;
-    let input = page_of(alloc, bytes)?;
-    let output = Page::with_room(alloc, 100)?;
-    let faults = Page::with_room(alloc, 100)?.with_schedule(planned);
-    let ran = run_over(alloc, &[word], input, output, faults)?;
-    assert!(rt;
-        ran.status == status,
-        "status of {word}, call {call} failing"
-    );
-    assert!(rt;
-        ran.output.bytes() == written.as_bytes(),
-        "output of {word}, call {call} failing"
-    );
-    assert!(rt;
-        ran.output.passed() == written.len(),
-        "what {word} passes on, call {call} failing"
-    );
-    assert!(rt;
-        ran.faults.outcomes_left() == 0,
-        "calls of {word} before the failing one, {call}"
-    );
+    let mut plan = Plan::new(alloc);
+    plan.faults = at_call(alloc, call, Outcome::Failed)?;
+    let ran = run_with(alloc, &[word], bytes, plan)?;
+    let name = (word, call);
+    expect(rt, ran.status == status, "status", name);
+    let has_output = ran.output.as_slice() == written.as_bytes();
+    expect(rt, has_output, "output", name);
+    expect(rt, ran.passed == written.len(), "what is passed on", name);
+    expect(rt, ran.faults_left == 0, "the calls", name);
     Ok(())
 }
 

@@ -1,8 +1,8 @@
 //! Each condition on memory and devices, over the runs that it names.
 use super::devices::interrupted_each_once;
 use super::memory::refuse_each;
-use super::{Ran, at_call, expect, page_of, run_on, run_over};
-use crate::page::{Outcome, Page};
+use super::{Plan, Ran, at_call, expect, expect_end, run_with};
+use crate::page::Outcome;
 use std::alloc::{AllocError, Global};
 use std::process::Abort;
 use std::test::Fail;
@@ -158,73 +158,67 @@ struct Calls {
     writes: usize,
 }
 
-fn page_with(alloc: Global, schedule: Vec<Outcome>) -> Result<Page, AllocError> {
-    Ok(Page::with_room(alloc, 100)?.with_schedule(schedule))
-}
-
-fn input_with(alloc: Global, run: &Run, schedule: Vec<Outcome>) -> Result<Page, AllocError> {
-    Ok(page_of(alloc, run.input.as_bytes())?.with_schedule(schedule))
-}
-
 // Runs with an input whose reads come out as told.
 fn run_reading(alloc: Global, run: &Run, schedule: Vec<Outcome>) -> Result<Ran, AllocError> {
-    run_on(alloc, run.words, input_with(alloc, run, schedule)?)
+    let mut plan = Plan::new(alloc);
+    plan.input = schedule;
+    run_with(alloc, run.words, run.input.as_bytes(), plan)
 }
 
 // Runs with an output whose calls come out as told.
 fn run_writing(alloc: Global, run: &Run, schedule: Vec<Outcome>) -> Result<Ran, AllocError> {
-    let input = page_of(alloc, run.input.as_bytes())?;
-    let output = page_with(alloc, schedule)?;
-    run_over(
-        alloc,
-        run.words,
-        input,
-        output,
-        Page::with_room(alloc, 100)?,
-    )
+    let mut plan = Plan::new(alloc);
+    plan.output = schedule;
+    run_with(alloc, run.words, run.input.as_bytes(), plan)
+}
+
+// A run whose devices work, with more outcomes than it has calls.
+fn run_freely(alloc: Global, run: &Run) -> Result<Ran, AllocError> {
+    let mut plan = Plan::new(alloc);
+    plan.input = vec![in alloc; Outcome::Works; MANY]?;
+    plan.output = vec![in alloc; Outcome::Works; MANY]?;
+    run_with(alloc, run.words, run.input.as_bytes(), plan)
 }
 
 // The calls of a run whose devices work, which ends as the run says. Its last call of the output is the
 // flush.
 fn count_calls(rt: &impl Abort, alloc: Global, run: &Run) -> Result<Calls, AllocError> {
-    let input = input_with(alloc, run, vec![in alloc; Outcome::Works; MANY]?)?;
-    let output = page_with(alloc, vec![in alloc; Outcome::Works; MANY]?)?;
-    let ran = run_over(
-        alloc,
-        run.words,
-        input,
-        output,
-        Page::with_room(alloc, 100)?,
-    )?;
-    expect(rt, &ran, run.status, run.output, run.faults, run.id);
-    let reads = MANY.saturating_sub(ran.input.outcomes_left());
-    let writes = MANY
-        .saturating_sub(ran.output.outcomes_left())
-        .saturating_sub(1);
-    assert!(rt; 0 < reads, "{}: no reads", run.id);
-    assert!(rt; 0 < writes, "{}: no writes", run.id);
+    let ran = run_freely(alloc, run)?;
+    expect_end(rt, &ran, run.status, run.output, run.faults, run.id);
+    let reads = MANY.saturating_sub(ran.input_left);
+    let writes = MANY.saturating_sub(ran.output_left).saturating_sub(1);
+    expect(rt, 0 < reads, "the reads", run.id);
+    expect(rt, 0 < writes, "the writes", run.id);
     Ok(Calls { reads, writes })
 }
 
 // A run ends as the row says.
 fn expect_row(rt: &impl Abort, row: &Row, ran: &Ran) {
-    let id = row.id;
-    assert!(rt; ran.status == row.status, "{id}: status {}", ran.status);
-    assert!(rt; ran.faults.bytes() == row.faults.as_bytes(), "{id}: faults");
+    expect(rt, ran.status == row.status, "status", row.id);
+    let has_faults = ran.faults.as_slice() == row.faults.as_bytes();
+    expect(rt, has_faults, "faults", row.id);
     if let Some(output) = row.output {
-        assert!(rt; ran.output.bytes() == output.as_bytes(), "{id}: output");
+        let has_output = ran.output.as_slice() == output.as_bytes();
+        expect(rt, has_output, "output", row.id);
     }
+}
+
+fn fail_read(
+    rt: &impl Abort,
+    alloc: Global,
+    row: &Row,
+    run: &Run,
+    call: usize,
+) -> Result<(), AllocError> {
+    let ran = run_reading(alloc, run, at_call(alloc, call, Outcome::Failed)?)?;
+    expect_row(rt, row, &ran);
+    expect(rt, ran.input_left == 0, "a read", (row.id, call));
+    Ok(())
 }
 
 fn fail_reads(rt: &impl Abort, alloc: Global, row: &Row, run: &Run) -> Result<(), AllocError> {
     for call in 0..count_calls(rt, alloc, run)?.reads {
-        let ran = run_reading(alloc, run, at_call(alloc, call, Outcome::Failed)?)?;
-        expect_row(rt, row, &ran);
-        assert!(rt;
-            ran.input.outcomes_left() == 0,
-            "{}: no read {call}",
-            row.id
-        );
+        fail_read(rt, alloc, row, run, call)?;
     }
     Ok(())
 }
@@ -233,7 +227,7 @@ fn interrupt_once(rt: &impl Abort, alloc: Global, row: &Row, run: &Run) -> Resul
     let reads = count_calls(rt, alloc, run)?.reads;
     let ran = run_reading(alloc, run, interrupted_each_once(alloc, reads)?)?;
     expect_row(rt, row, &ran);
-    assert!(rt; ran.input.outcomes_left() == 0, "{}: fewer reads", row.id);
+    expect(rt, ran.input_left == 0, "the reads", row.id);
     Ok(())
 }
 
@@ -246,8 +240,7 @@ fn interrupt_for_ever(
     let schedule = vec![in alloc; Outcome::Interrupted; 2_097_155]?;
     let ran = run_reading(alloc, run, schedule)?;
     expect_row(rt, row, &ran);
-    let left = ran.input.outcomes_left();
-    assert!(rt; left == 1, "{}: 2,097,154 reads leave {left}", row.id);
+    expect(rt, ran.input_left == 1, "2,097,154 reads", row.id);
     Ok(())
 }
 
@@ -272,19 +265,14 @@ fn fail_output_call(
 ) -> Result<(), AllocError> {
     let ran = run_writing(alloc, run, at_call(alloc, call, Outcome::Failed)?)?;
     expect_row(rt, row, &ran);
-    assert!(rt;
-        ran.output.outcomes_left() == 0,
-        "{}: no call {call}",
-        row.id
-    );
+    expect(rt, ran.output_left == 0, "a call", (row.id, call));
     Ok(())
 }
 
 fn fail_faults(rt: &impl Abort, alloc: Global, row: &Row, run: &Run) -> Result<(), AllocError> {
-    let input = page_of(alloc, run.input.as_bytes())?;
-    let output = Page::with_room(alloc, 100)?;
-    let faults = page_with(alloc, vec![in alloc; Outcome::Failed; MANY]?)?;
-    let ran = run_over(alloc, run.words, input, output, faults)?;
+    let mut plan = Plan::new(alloc);
+    plan.faults = vec![in alloc; Outcome::Failed; MANY]?;
+    let ran = run_with(alloc, run.words, run.input.as_bytes(), plan)?;
     expect_row(rt, row, &ran);
     Ok(())
 }
@@ -306,17 +294,21 @@ fn run_under(rt: &impl Abort, alloc: Global, row: &Row, run: &Run) -> Result<(),
     }
 }
 
-// Each of the row's runs, found by its name.
-fn run_row(rt: &impl Abort, alloc: Global, row: &Row) -> Result<(), AllocError> {
-    for id in row.runs {
-        let mut is_found = false;
-        for run in &RUNS {
-            if run.id == *id {
-                run_under(rt, alloc, row, run)?;
-                is_found = true;
-            }
+// The run of this name.
+fn run_named(id: &str) -> Option<&'static Run> {
+    for run in &RUNS {
+        if run.id == id {
+            return Some(run);
         }
-        assert!(rt; is_found, "{}: no run is named {id}", row.id);
+    }
+    None
+}
+
+// Each of the row's runs, found by its name.
+fn run_row(rt: &impl Abort, alloc: Global, row: &Row) -> Result<(), Fail> {
+    for id in row.runs {
+        let run = run_named(id).ok_or("a run is missing")?;
+        run_under(rt, alloc, row, run)?;
     }
     Ok(())
 }

@@ -1,6 +1,5 @@
 //! Hostile lines, and words with the largest position.
-use super::{expect, page_of, run_on, run_over};
-use crate::page::Page;
+use super::{ALL, Plan, expect_end, run_on, run_with};
 use std::alloc::Global;
 use std::process::Abort;
 use std::test::Fail;
@@ -37,9 +36,9 @@ static ROWS: [Row; 14] = [
 
 fn expect_line(rt: &impl Abort, alloc: Global, row: &Row) -> Result<(), Fail> {
     let (word, line, status, written) = *row;
-    let ran = run_on(alloc, &[word], page_of(alloc, line.as_bytes())?)?;
+    let ran = run_on(alloc, &[word], line.as_bytes())?;
     let told = if status == 0 { "" } else { "line 1: refused\n" };
-    expect(rt, &ran, status, written, told, word);
+    expect_end(rt, &ran, status, written, told, row);
     Ok(())
 }
 
@@ -121,16 +120,11 @@ fn joined(alloc: Global, pieces: (&str, &str, &str), count: usize) -> Result<Str
 fn expect_long_line(rt: &impl Abort, alloc: Global, row: &LongRow) -> Result<(), Fail> {
     let line = joined(alloc, row.line, row.count)?;
     let want = joined(alloc, row.written, row.count)?;
-    let input = Page::of(alloc, line.as_bytes().to_vec(alloc)?);
-    let output = Page::with_room(alloc, want.len())?;
-    let faults = Page::with_room(alloc, 100)?;
-    let ran = run_over(alloc, &[row.word], input, output, faults)?;
-    let word = row.word;
-    assert!(rt; ran.status == 0, "status of {word} on a long line");
-    assert!(rt;
-        ran.output.bytes() == want.as_bytes(),
-        "output of {word} on a long line"
-    );
+    let mut plan = Plan::new(alloc);
+    plan.chunk = ALL;
+    plan.room = want.len();
+    let ran = run_with(alloc, &[row.word], line.as_bytes(), plan)?;
+    expect_end(rt, &ran, 0, want.as_str(), "", (row.word, "a long line"));
     Ok(())
 }
 

@@ -1,6 +1,5 @@
 //! Each request for memory that a run makes, refused in turn.
-use super::page_of;
-use crate::page::Page;
+use super::{CHUNK, ROOM, Ran, empty_page, expect, expect_end, input_page, owned};
 use crate::runs::run;
 use ansi_str_tests::Refusing;
 use std::alloc::{AllocError, Global};
@@ -59,38 +58,34 @@ static ROWS: [Row; 6] = [
 ];
 
 // What a run that met a refusal has written is a beginning of what it should have.
-fn expect_out_of_memory(
-    rt: &impl Abort,
-    row: &Row,
-    granted: u64,
-    ended: u8,
-    output: &Page,
-    faults: &Page,
-) {
+fn expect_out_of_memory(rt: &impl Abort, row: &Row, granted: u64, ran: &Ran) {
     let (words, _, _, written, _) = *row;
-    assert!(rt; ended == 5, "status of {words:?}, {granted} granted");
-    assert!(rt;
-        faults.bytes() == b"out of memory\n".as_slice(),
-        "faults of {words:?}, {granted} granted"
-    );
-    assert!(rt;
-        written.as_bytes().starts_with(output.bytes()),
-        "output of {words:?}, {granted} granted, is no beginning"
-    );
+    let name = (words, granted);
+    expect(rt, ran.status == 5, "status", name);
+    let has_faults = ran.faults.as_slice() == b"out of memory\n".as_slice();
+    expect(rt, has_faults, "faults", name);
+    let is_beginning = written.as_bytes().starts_with(ran.output.as_slice());
+    expect(rt, is_beginning, "the beginning of the output", name);
 }
 
-fn expect_ended(rt: &impl Abort, row: &Row, granted: u64, ended: u8, output: &Page, faults: &Page) {
+fn expect_ended(rt: &impl Abort, row: &Row, granted: u64, ran: &Ran) {
     let (words, _, status, written, told) = *row;
-    assert!(rt; ended == status, "status of {words:?}, no request refused");
-    assert!(rt;
-        output.bytes() == written.as_bytes(),
-        "output of {words:?}, no request refused"
-    );
-    assert!(rt;
-        faults.bytes() == told.as_bytes(),
-        "faults of {words:?}, no request refused"
-    );
-    assert!(rt; 0 < granted, "{words:?} takes memory");
+    expect_end(rt, ran, status, written, told, (words, granted));
+    expect(rt, 0 < granted, "memory", words);
+}
+
+// Runs in the memory of the heap.
+fn run_on_heap(
+    alloc: Global,
+    heap: &Refusing<Global>,
+    given: &[String],
+    text: &str,
+) -> Result<Ran, AllocError> {
+    let mut input = input_page(alloc, text.as_bytes(), CHUNK, Vec::new(alloc))?;
+    let mut output = empty_page(alloc, ROOM, Vec::new(alloc))?;
+    let mut faults = empty_page(alloc, ROOM, Vec::new(alloc))?;
+    let status = run(heap, given, &mut input, &mut output, &mut faults);
+    Ran::over(alloc, status, &input, &output, &faults)
 }
 
 // Runs with so many requests granted, and tells whether one was refused.
@@ -103,14 +98,11 @@ fn run_is_refused(
 ) -> Result<bool, AllocError> {
     let (_, text, ..) = *row;
     let heap = Refusing::new(alloc, granted);
-    let mut input = page_of(alloc, text.as_bytes())?;
-    let mut output = Page::with_room(alloc, 100)?;
-    let mut faults = Page::with_room(alloc, 100)?;
-    let ended = run(&heap, given, &mut input, &mut output, &mut faults);
+    let ran = run_on_heap(alloc, &heap, given, text)?;
     if heap.has_refused() {
-        expect_out_of_memory(rt, row, granted, ended, &output, &faults);
+        expect_out_of_memory(rt, row, granted, &ran);
     } else {
-        expect_ended(rt, row, granted, ended, &output, &faults);
+        expect_ended(rt, row, granted, &ran);
     }
     Ok(heap.has_refused())
 }
@@ -118,16 +110,13 @@ fn run_is_refused(
 // Refuses each request of a run in turn, until a run meets no refusal.
 pub(super) fn refuse_each(rt: &impl Abort, alloc: Global, row: &Row) -> Result<(), AllocError> {
     let (words, ..) = *row;
-    let mut given = Vec::new(alloc);
-    for word in words {
-        given.push(String::from_str(alloc, word)?)?;
-    }
+    let given = owned(alloc, words)?;
     for granted in 0..MOST_REQUESTS {
         if !run_is_refused(rt, alloc, row, given.as_slice(), granted)? {
             return Ok(());
         }
     }
-    assert!(rt; false, "every run of {words:?} met a refusal");
+    expect(rt, false, "a run without a refusal", words);
     Ok(())
 }
 

@@ -1,45 +1,40 @@
 //! Each call on each kind of text.
 use super::{COUNT, KINDS, Kind, joined};
 use crate::any_range::AnyRange::{self, Range, RangeInclusive};
+use crate::boundary::expect_boundary;
+use crate::checks::{expect, text_of};
+use crate::ends::{expect_end, expect_start};
+use crate::find::expect_place;
+use crate::prefix::{expect_prefix, expect_suffix};
+use crate::strip::expect_plain;
+use crate::trim::expect_trimmed;
 use ansi_str::split::part_in;
 use ansi_str::{AnsiStr, Edit, ansi_is_whole, edit, get_blocks};
 use std::alloc::Global;
-use std::borrow::CowStr;
 use std::process::Abort;
 use std::test::Fail;
 
-/// Whether an answer is given, and is the text.
-fn is_given(answer: &Option<CowStr<'_>>, want: &str) -> bool {
-    match answer {
-        Some(text) => text.as_str() == want,
-        None => false,
-    }
-}
+/// The largest position.
+const MAX: usize = usize::MAX;
 
-fn expect_read(rt: &impl Abort, alloc: Global, kind: &Kind) -> Result<(), Fail> {
-    let name = kind.name;
-    let text = joined(alloc, kind.text, "")?;
-    let plain = joined(alloc, kind.plain, "")?;
-    assert!(rt; text.ansi_has_any(), "ESC in {name}");
-    assert!(rt;
-        ansi_is_whole(text.as_str()) == kind.is_whole,
-        "whole: {name}"
-    );
-    assert!(rt;
-        text.ansi_strip(alloc)?.as_str() == plain.as_str(),
-        "plain text of {name}"
-    );
-    assert!(rt;
-        text.ansi_trim(alloc)?.as_str() == text.as_str(),
-        "{name}, trimmed"
-    );
+fn expect_runs(rt: &impl Abort, alloc: Global, text: &str, kind: &Kind) -> Result<(), Fail> {
     let mut runs = 0usize;
-    for block in get_blocks(alloc, text.as_str()) {
+    for block in get_blocks(alloc, text) {
         let _block = block?;
         runs = runs.saturating_add(1);
     }
-    assert!(rt; runs == kind.runs, "blocks of {name}");
+    expect(rt, runs == kind.runs, "how many blocks", kind.name);
     Ok(())
+}
+
+fn expect_read(rt: &impl Abort, alloc: Global, kind: &Kind) -> Result<(), Fail> {
+    let text = joined(alloc, kind.text, "")?;
+    let text = text.as_str();
+    expect(rt, ansi_is_whole(text) == kind.is_whole, "whole", kind.name);
+    let plain = joined(alloc, kind.plain, "")?;
+    expect_plain(rt, alloc, &text, plain.as_str(), false, kind.name)?;
+    expect_trimmed(rt, alloc, &text, text, false, kind.name)?;
+    expect_runs(rt, alloc, text, kind)
 }
 
 #[test]
@@ -59,7 +54,7 @@ fn expect_get(
     name: &str,
 ) -> Result<(), Fail> {
     let got = range.get(alloc, &text)?;
-    assert!(rt; is_given(&got, want), "{range:?} of {name}");
+    expect(rt, text_of(&got) == Some(want), "the cut", (range, name));
     Ok(())
 }
 
@@ -68,16 +63,9 @@ fn expect_cuts(rt: &impl Abort, alloc: Global, kind: &Kind) -> Result<(), Fail> 
     let text = text.as_str();
     let all = joined(alloc, kind.text, kind.close)?;
     let none = joined(alloc, kind.marks, kind.close)?;
-    let max = usize::MAX;
-    expect_get(
-        rt,
-        alloc,
-        text,
-        RangeInclusive(0, max),
-        all.as_str(),
-        kind.name,
-    )?;
-    expect_get(rt, alloc, text, Range(max, max), none.as_str(), kind.name)
+    let to_the_end = RangeInclusive(0, MAX);
+    expect_get(rt, alloc, text, to_the_end, all.as_str(), kind.name)?;
+    expect_get(rt, alloc, text, Range(MAX, MAX), none.as_str(), kind.name)
 }
 
 #[test]
@@ -88,16 +76,33 @@ fn hostile_texts_are_cut(rt: HostRuntime) -> Result<(), Fail> {
     Ok(())
 }
 
+static LEFT: [Edit<'static>; 1] = [Edit::Left(MAX)];
+
+static RIGHT: [Edit<'static>; 1] = [Edit::Right(MAX)];
+
+/// Edits each of which keeps all of the plain text.
+static ALL: [Edit<'static>; 3] = [
+    Edit::Part {
+        pat: "\x1b",
+        index: 0,
+    },
+    Edit::Trim,
+    Edit::Cut {
+        start: 0,
+        end: Some(MAX),
+    },
+];
+
 fn expect_edited(
     rt: &impl Abort,
     alloc: Global,
     text: &str,
-    edits: &[Edit],
+    edits: &[Edit<'_>],
     want: &str,
     name: &str,
 ) -> Result<(), Fail> {
     let got = edit(alloc, text, edits)?;
-    assert!(rt; is_given(&got, want), "{edits:?} of {name}");
+    expect(rt, text_of(&got) == Some(want), "the answer", (edits, name));
     Ok(())
 }
 
@@ -106,32 +111,9 @@ fn expect_edits(rt: &impl Abort, alloc: Global, kind: &Kind) -> Result<(), Fail>
     let text = text.as_str();
     let left = joined(alloc, kind.left, "")?;
     let all = joined(alloc, kind.text, kind.close)?;
-    let max = usize::MAX;
-    expect_edited(
-        rt,
-        alloc,
-        text,
-        &[Edit::Left(max)],
-        left.as_str(),
-        kind.name,
-    )?;
-    expect_edited(rt, alloc, text, &[Edit::Right(max)], "", kind.name)?;
-    let whole_part = Edit::Part {
-        pat: "\x1b",
-        index: 0,
-    };
-    let whole_cut = Edit::Cut {
-        start: 0,
-        end: Some(max),
-    };
-    expect_edited(
-        rt,
-        alloc,
-        text,
-        &[whole_part, Edit::Trim, whole_cut],
-        all.as_str(),
-        kind.name,
-    )
+    expect_edited(rt, alloc, text, &LEFT, left.as_str(), kind.name)?;
+    expect_edited(rt, alloc, text, &RIGHT, "", kind.name)?;
+    expect_edited(rt, alloc, text, &ALL, all.as_str(), kind.name)
 }
 
 #[test]
@@ -142,8 +124,37 @@ fn hostile_texts_are_edited(rt: HostRuntime) -> Result<(), Fail> {
     Ok(())
 }
 
+/// The text has so many parts by the pattern, and no part past them.
+fn expect_part_count(
+    rt: &impl Abort,
+    alloc: Global,
+    text: &str,
+    pat: &str,
+    want: usize,
+    name: &str,
+) -> Result<(), Fail> {
+    let mut count = 0usize;
+    for part in text.ansi_split(alloc, pat) {
+        let _part = part?;
+        count = count.saturating_add(1);
+    }
+    expect(rt, count == want, "how many parts", name);
+    Ok(())
+}
+
+fn expect_no_part(
+    rt: &impl Abort,
+    alloc: Global,
+    text: &str,
+    pat: &str,
+    name: &str,
+) -> Result<(), Fail> {
+    let none = part_in(alloc, text, pat, MAX)?;
+    expect(rt, none.is_none(), "no part at the largest index", name);
+    Ok(())
+}
+
 fn expect_parts(rt: &impl Abort, alloc: Global, kind: &Kind) -> Result<(), Fail> {
-    let name = kind.name;
     let text = joined(alloc, kind.text, "")?;
     let (_, piece) = kind.plain;
     let (pat, want) = if piece.is_empty() {
@@ -151,15 +162,8 @@ fn expect_parts(rt: &impl Abort, alloc: Global, kind: &Kind) -> Result<(), Fail>
     } else {
         (piece, COUNT + 1)
     };
-    let mut count = 0usize;
-    for part in text.ansi_split(alloc, pat) {
-        let _part = part?;
-        count = count.saturating_add(1);
-    }
-    assert!(rt; count == want, "parts of {name}");
-    let none = part_in(alloc, text.as_str(), pat, usize::MAX)?;
-    assert!(rt; none.is_none(), "the last of all parts of {name}");
-    Ok(())
+    expect_part_count(rt, alloc, text.as_str(), pat, want, kind.name)?;
+    expect_no_part(rt, alloc, text.as_str(), pat, kind.name)
 }
 
 #[test]
@@ -171,32 +175,20 @@ fn hostile_texts_are_split(rt: HostRuntime) -> Result<(), Fail> {
 }
 
 fn expect_matches(rt: &impl Abort, alloc: Global, kind: &Kind) -> Result<(), Fail> {
-    let name = kind.name;
     let text = joined(alloc, kind.text, "")?;
     let plain = joined(alloc, kind.plain, "")?;
     let marks = joined(alloc, kind.marks, "")?;
-    let pat = plain.as_str();
-    assert!(rt; text.ansi_find(pat) == Some(0), "the plain text in {name}");
-    assert!(rt;
-        text.ansi_starts_with(pat),
-        "{name} begin with their plain text"
-    );
-    assert!(rt;
-        text.ansi_ends_with(pat),
-        "{name} end with their plain text"
-    );
-    assert!(rt; text.ansi_is_char_boundary(pat.len()), "the end of {name}");
-    assert!(rt;
-        !text.ansi_is_char_boundary(usize::MAX),
-        "past the end of {name}"
-    );
-    if !pat.is_empty() {
-        let rest = text.ansi_strip_prefix(alloc, pat)?;
-        assert!(rt; is_given(&rest, marks.as_str()), "{name} without a prefix");
-        let rest = text.ansi_strip_suffix(alloc, pat)?;
-        assert!(rt; is_given(&rest, marks.as_str()), "{name} without a suffix");
+    let (pat, name) = (plain.as_str(), kind.name);
+    expect_place(rt, &text, pat, Some(0), name);
+    expect_start(rt, &text, pat, true, name);
+    expect_end(rt, &text, pat, true, name);
+    expect_boundary(rt, &text, pat.len(), true, name);
+    expect_boundary(rt, &text, MAX, false, name);
+    if pat.is_empty() {
+        return Ok(());
     }
-    Ok(())
+    expect_prefix(rt, alloc, &text, pat, Some(marks.as_str()), false, name)?;
+    expect_suffix(rt, alloc, &text, pat, Some(marks.as_str()), false, name)
 }
 
 #[test]
@@ -208,20 +200,13 @@ fn hostile_texts_are_matched(rt: HostRuntime) -> Result<(), Fail> {
 }
 
 fn expect_no_escape(rt: &impl Abort, alloc: Global, kind: &Kind) -> Result<(), Fail> {
-    let name = kind.name;
     let text = joined(alloc, kind.text, "")?;
-    assert!(rt; text.ansi_find("\x1b").is_none(), "ESC found in {name}");
-    assert!(rt; !text.ansi_starts_with("\x1b"), "{name} begin with ESC");
-    assert!(rt; !text.ansi_ends_with("\x1b"), "{name} end with ESC");
-    assert!(rt;
-        text.ansi_strip_prefix(alloc, "\x1b")?.is_none(),
-        "{name} without ESC in front"
-    );
-    assert!(rt;
-        text.ansi_strip_suffix(alloc, "\x1b")?.is_none(),
-        "{name} without ESC at the end"
-    );
-    Ok(())
+    let name = kind.name;
+    expect_place(rt, &text, "\x1b", None, name);
+    expect_start(rt, &text, "\x1b", false, name);
+    expect_end(rt, &text, "\x1b", false, name);
+    expect_prefix(rt, alloc, &text, "\x1b", None, false, name)?;
+    expect_suffix(rt, alloc, &text, "\x1b", None, false, name)
 }
 
 #[test]

@@ -1,6 +1,7 @@
 //! Prefixes, suffixes and white space, by std on the plain text, compared with the library's.
 use super::cut::kept_bytes;
 use super::{ESC, items, plain, text_at};
+use crate::checks::expect;
 use ansi_str::AnsiStr;
 use ansi_str::ansitok::Item;
 use std::alloc::Global;
@@ -26,62 +27,48 @@ fn expect_kept(
     got: Option<CowStr<'_>>,
     takes: &str,
 ) -> Result<(), Fail> {
-    let name = text.text;
+    let name = (text.text, takes);
     let Some((start, end)) = interval else {
-        assert!(rt; got.is_none(), "{name:?} without {takes:?}");
+        expect(rt, got.is_none(), "no answer", name);
         return Ok(());
     };
-    let want = kept_bytes(alloc, name, text.items, start, end)?;
+    let want = kept_bytes(alloc, text.text, text.items, start, end)?;
     let bytes = got.as_ref().map(|kept| kept.as_bytes());
-    assert!(rt;
-        bytes == Some(want.as_slice()),
-        "{name:?} without {takes:?}"
-    );
-    let is_borrow = takes.is_empty() || !name.as_bytes().contains(&ESC);
+    expect(rt, bytes == Some(want.as_slice()), "the answer", name);
+    let is_borrow = takes.is_empty() || !text.text.as_bytes().contains(&ESC);
     let got_borrow = matches!(&got, Some(CowStr::Borrowed(_)));
-    assert!(rt;
-        got_borrow == is_borrow,
-        "borrow of {name:?} without {takes:?}"
-    );
+    expect(rt, got_borrow == is_borrow, "whether it is a borrow", name);
     Ok(())
 }
 
-/// Compares the calls that take a pattern.
-fn expect_pattern(rt: &impl Abort, alloc: Global, text: &Text<'_>, pat: &str) -> Result<(), Fail> {
+/// Compares the calls that take a prefix.
+fn expect_prefix(rt: &impl Abort, alloc: Global, text: &Text<'_>, pat: &str) -> Result<(), Fail> {
     let (name, plain) = (text.text, text.plain);
-    let starts = plain.starts_with(pat);
-    let ends = plain.ends_with(pat);
-    assert!(rt;
-        name.ansi_starts_with(pat) == starts,
-        "{pat:?} begins {name:?}"
-    );
-    assert!(rt; name.ansi_ends_with(pat) == ends, "{pat:?} ends {name:?}");
-    let prefix = if starts {
+    let is_there = plain.starts_with(pat);
+    let got = name.ansi_starts_with(pat);
+    expect(rt, got == is_there, "the start", (name, pat));
+    let kept = if is_there {
         Some((pat.len(), plain.len()))
     } else {
         None
     };
-    expect_kept(
-        rt,
-        alloc,
-        text,
-        prefix,
-        name.ansi_strip_prefix(alloc, pat)?,
-        pat,
-    )?;
-    let suffix = if ends {
+    let got = name.ansi_strip_prefix(alloc, pat)?;
+    expect_kept(rt, alloc, text, kept, got, pat)
+}
+
+/// Compares the calls that take a suffix.
+fn expect_suffix(rt: &impl Abort, alloc: Global, text: &Text<'_>, pat: &str) -> Result<(), Fail> {
+    let (name, plain) = (text.text, text.plain);
+    let is_there = plain.ends_with(pat);
+    let got = name.ansi_ends_with(pat);
+    expect(rt, got == is_there, "the end", (name, pat));
+    let kept = if is_there {
         Some((0, plain.len().saturating_sub(pat.len())))
     } else {
         None
     };
-    expect_kept(
-        rt,
-        alloc,
-        text,
-        suffix,
-        name.ansi_strip_suffix(alloc, pat)?,
-        pat,
-    )
+    let got = name.ansi_strip_suffix(alloc, pat)?;
+    expect_kept(rt, alloc, text, kept, got, pat)
 }
 
 /// Compares the trimmed text.
@@ -125,7 +112,8 @@ fn expect_text(rt: &impl Abort, alloc: Global, text: &str) -> Result<(), Fail> {
         plain: plain.as_str(),
     };
     for pat in &PATTERNS {
-        expect_pattern(rt, alloc, &text, pat)?;
+        expect_prefix(rt, alloc, &text, pat)?;
+        expect_suffix(rt, alloc, &text, pat)?;
     }
     expect_trimmed(rt, alloc, &text)
 }

@@ -1,9 +1,11 @@
 //! Cuts, byte by byte of a text, compared with those of the library.
 use super::style::NamedStyle;
 use super::{items, plain, spelling, text_at};
-use crate::any_range::AnyRange;
+use crate::checks::expect;
+use ansi_str::AnsiStr;
 use ansi_str::ansitok::{Item, Kind};
 use std::alloc::{AllocError, Global};
+use std::borrow::CowStr;
 use std::process::Abort;
 use std::test::Fail;
 
@@ -81,6 +83,19 @@ static ENDS: [Option<usize>; 7] = [
     None,
 ];
 
+/// The answer of `ansi_get` for a range that may have an end.
+fn get<'t>(
+    alloc: Global,
+    text: &'t &str,
+    start: usize,
+    end: Option<usize>,
+) -> Result<Option<CowStr<'t>>, AllocError> {
+    match end {
+        Some(end) => text.ansi_get(alloc, start..end),
+        None => text.ansi_get(alloc, start..),
+    }
+}
+
 /// Compares one range of a text, of which these items and this close are kept up to its end.
 fn expect_cut(
     rt: &impl Abort,
@@ -93,19 +108,15 @@ fn expect_cut(
 ) -> Result<(), Fail> {
     let (start, end) = range;
     let last = end.unwrap_or(usize::MAX);
-    let any_range = match end {
-        Some(end) => AnyRange::Range(start, end),
-        None => AnyRange::RangeFrom(start),
-    };
-    let got = any_range.get(alloc, &text)?;
-    if is_good_range(plain, start, last) {
-        let mut want = kept_bytes(alloc, text, kept, start, last)?;
-        want.extend_from_slice(close.as_bytes())?;
-        let got = got.as_ref().map(|cut| cut.as_bytes());
-        assert!(rt; got == Some(want.as_slice()), "{any_range:?} of {text:?}");
-    } else {
-        assert!(rt; got.is_none(), "{any_range:?} of {text:?}");
+    let got = get(alloc, &text, start, end)?;
+    if !is_good_range(plain, start, last) {
+        expect(rt, got.is_none(), "a refusal", (range, text));
+        return Ok(());
     }
+    let mut want = kept_bytes(alloc, text, kept, start, last)?;
+    want.extend_from_slice(close.as_bytes())?;
+    let got = got.as_ref().map(|cut| cut.as_bytes());
+    expect(rt, got == Some(want.as_slice()), "the cut", (range, text));
     Ok(())
 }
 
@@ -210,9 +221,9 @@ fn longer_texts_are_cut_as_defined(rt: HostRuntime) -> Result<(), Fail> {
 fn expect_closed(rt: &impl Abort, alloc: Global, text: &str) -> Result<(), Fail> {
     let items = items(alloc, text)?;
     let close = close_after(alloc, text, items.as_slice())?;
-    let got = AnyRange::RangeFull.get(alloc, &text)?;
-    let got = got.as_ref().and_then(|cut| cut.as_str().strip_prefix(text));
-    assert!(rt; got == Some(close.as_str()), "close of {text:?}");
+    let want = format!(in alloc; "{text}{close}")?;
+    let got = text.ansi_get(alloc, ..)?.ok_or("a text has a cut")?;
+    expect(rt, got.as_str() == want.as_str(), "the close", text);
     Ok(())
 }
 

@@ -1,5 +1,6 @@
 //! Lists of edits, by std on the plain text, compared with the library's.
 use super::{items, plain, text_at};
+use crate::checks::expect;
 use ansi_str::Edit::{self, Cut, Left, Part, Prefix, Right, Suffix, Trim};
 use ansi_str::{AnsiStr, ansi_is_whole, edit};
 use std::alloc::Global;
@@ -63,33 +64,41 @@ static EDITS: [Edit<'static>; 13] = [
     Trim,
 ];
 
+/// What is left of a plain text by two edits in turn.
+fn twice_edited<'t>(plain: &'t str, first: &Edit<'_>, second: &Edit<'_>) -> Option<&'t str> {
+    edited(edited(plain, first)?, second)
+}
+
+/// The text is whole, and this is its plain text.
+fn expect_whole(
+    rt: &impl Abort,
+    alloc: Global,
+    text: &str,
+    plain: &str,
+    name: (&str, &[Edit<'_>]),
+) -> Result<(), Fail> {
+    expect(rt, ansi_is_whole(text), "whole", name);
+    let stripped = text.ansi_strip(alloc)?;
+    expect(rt, stripped.as_str() == plain, "the plain text", name);
+    Ok(())
+}
+
 /// Compares the plain text of what two edits in turn make of a whole text.
 fn expect_edited(
     rt: &impl Abort,
     alloc: Global,
     text: &str,
-    plain: &str,
+    want: Option<&str>,
     edits: &[Edit<'_>],
 ) -> Result<(), Fail> {
-    let mut want = Some(plain);
-    for one in edits {
-        want = match want {
-            Some(plain) => edited(plain, one),
-            None => None,
-        };
-    }
+    let name = (text, edits);
     match (edit(alloc, text, edits)?, want) {
-        (Some(got), Some(want)) => {
-            let got = got.as_str();
-            let stripped = got.ansi_strip(alloc)?;
-            assert!(rt; stripped.as_str() == want, "{edits:?} of {text:?}");
-            assert!(rt; ansi_is_whole(got), "{edits:?} of {text:?} is whole");
-        }
+        (Some(got), Some(want)) => expect_whole(rt, alloc, got.as_str(), want, name),
         (got, want) => {
-            assert!(rt; got.is_some() == want.is_some(), "{edits:?} of {text:?}");
+            expect(rt, got.is_none() && want.is_none(), "a refusal", name);
+            Ok(())
         }
     }
-    Ok(())
 }
 
 /// How many pieces a text has, and how many such texts there are.
@@ -101,7 +110,8 @@ fn expect_pairs(rt: &impl Abort, alloc: Global, text: &str) -> Result<(), Fail> 
     let plain = plain(alloc, text, items.as_slice())?;
     for first in &EDITS {
         for second in &EDITS {
-            expect_edited(rt, alloc, text, plain.as_str(), &[*first, *second])?;
+            let want = twice_edited(plain.as_str(), first, second);
+            expect_edited(rt, alloc, text, want, &[*first, *second])?;
         }
     }
     Ok(())

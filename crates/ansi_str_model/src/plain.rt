@@ -8,6 +8,7 @@ mod kept;
 mod split;
 mod style;
 
+use crate::checks::expect;
 use ansi_str::AnsiStr;
 use ansi_str::ansitok::{Item, Kind, Scanner};
 use std::alloc::{AllocError, Global};
@@ -140,16 +141,28 @@ static LENGTHS: [(usize, usize); 6] = [
     (5, 371_293),
 ];
 
+/// Compares the items of a text.
+fn expect_items(rt: &impl Abort, alloc: Global, text: &str, want: &[Item]) -> Result<(), Fail> {
+    let got: Vec<Item> = Scanner::new(text).collect(alloc)?;
+    expect(rt, got.as_slice() == want, "the items", text);
+    Ok(())
+}
+
+/// Compares the plain text of a text.
+fn expect_plain(rt: &impl Abort, alloc: Global, text: &str, items: &[Item]) -> Result<(), Fail> {
+    let want = plain(alloc, text, items)?;
+    let got = text.ansi_strip(alloc)?;
+    expect(rt, got.as_str() == want.as_str(), "the plain text", text);
+    Ok(())
+}
+
 /// Compares the items and the plain text of a text.
 fn expect_read(rt: &impl Abort, alloc: Global, text: &str) -> Result<(), Fail> {
-    let want = items(alloc, text)?;
-    let got: Vec<Item> = Scanner::new(text).collect(alloc)?;
-    assert!(rt; got == want, "items of {text:?}");
-    let want = plain(alloc, text, want.as_slice())?;
-    let got = text.ansi_strip(alloc)?;
-    assert!(rt; got.as_str() == want.as_str(), "plain text of {text:?}");
+    let items = items(alloc, text)?;
+    expect_items(rt, alloc, text, items.as_slice())?;
+    expect_plain(rt, alloc, text, items.as_slice())?;
     let has_any = text.as_bytes().contains(&ESC);
-    assert!(rt; text.ansi_has_any() == has_any, "ESC in {text:?}");
+    expect(rt, text.ansi_has_any() == has_any, "whether it has an ESC", text);
     Ok(())
 }
 

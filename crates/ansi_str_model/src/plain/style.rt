@@ -68,6 +68,17 @@ fn code(field: &str) -> &str {
     }
 }
 
+/// Whether a code is among others.
+fn has_code(codes: &[&str], code: &str) -> bool {
+    codes.iter().any(|other| *other == code)
+}
+
+fn push_sgr(text: &mut String, code: &str) -> Result<(), AllocError> {
+    text.push_str("\x1b[")?;
+    text.push_str(code)?;
+    text.push_str("m")
+}
+
 /// A style: the names that are set, each once and with the code that clears it.
 #[derive(Drop)]
 pub struct NamedStyle {
@@ -86,29 +97,49 @@ impl NamedStyle {
         }
     }
 
+    /// Whether a name is set.
+    fn has(&self, name: &str) -> bool {
+        self.names.iter().any(|(set, _)| *set == name)
+    }
+
     /// Sets a name that this code clears.
     fn set(&mut self, name: &'static str, clearing_code: &'static str) -> Result<(), AllocError> {
-        if !self.names.iter().any(|(set, _)| *set == name) {
+        if !self.has(name) {
             self.names.push((name, clearing_code))?;
         }
         Ok(())
     }
 
+    /// Clears the style, and marks it.
+    fn reset(&mut self) {
+        self.names.clear();
+        self.is_reset = true;
+        self.is_unknown = false;
+    }
+
+    /// Sets or clears a name, and tells whether the code does that.
+    fn change(&mut self, name: &Name, code: &str) -> Result<bool, AllocError> {
+        let (name, setting_codes, clearing_code) = *name;
+        if has_code(setting_codes, code) {
+            self.set(name, clearing_code)?;
+            return Ok(true);
+        }
+        if clearing_code == code {
+            self.names.retain(|(set, _)| *set != name);
+            return Ok(true);
+        }
+        Ok(false)
+    }
+
     /// Changes the style by a code that begins no color of several fields.
     fn perform(&mut self, code: &str) -> Result<(), AllocError> {
         if code == "0" {
-            self.names.clear();
-            self.is_reset = true;
-            self.is_unknown = false;
+            self.reset();
             return Ok(());
         }
         let mut is_known = false;
-        for (name, setting_codes, clearing_code) in &NAMES {
-            if setting_codes.iter().any(|setting| *setting == code) {
-                self.set(name, clearing_code)?;
-                is_known = true;
-            } else if *clearing_code == code {
-                self.names.retain(|(set, _)| set != name);
+        for name in &NAMES {
+            if self.change(name, code)? {
                 is_known = true;
             }
         }
@@ -131,16 +162,25 @@ impl NamedStyle {
 
     /// Changes the style by the first code of the fields, and gives the number of fields it took.
     fn read(&mut self, fields: &[&str]) -> Result<usize, AllocError> {
-        let (name, clearing_code) = match fields {
-            [] => return Ok(0),
-            ["38", ..] => ("foreground", "39"),
-            ["48", ..] => ("background", "49"),
-            ["58", ..] => ("underline color", "59"),
+        match fields {
+            [] => Ok(0),
+            ["38", ..] => self.read_color("foreground", "39", fields),
+            ["48", ..] => self.read_color("background", "49", fields),
+            ["58", ..] => self.read_color("underline color", "59", fields),
             [code, ..] => {
                 self.perform(code)?;
-                return Ok(1);
+                Ok(1)
             }
-        };
+        }
+    }
+
+    /// The same of a color of several fields.
+    fn read_color(
+        &mut self,
+        name: &'static str,
+        clearing_code: &'static str,
+        fields: &[&str],
+    ) -> Result<usize, AllocError> {
         match fields {
             [_, "2", _, _, _, ..] => {
                 self.set(name, clearing_code)?;
@@ -165,30 +205,31 @@ impl NamedStyle {
     pub fn start(&self, alloc: Global, codes: &[(&str, &str)]) -> Result<String, AllocError> {
         let mut start = String::new(alloc);
         for (name, code) in codes {
-            if self.names.iter().any(|(set, _)| set == name) {
-                start.push_str("\x1b[")?;
-                start.push_str(code)?;
-                start.push_str("m")?;
+            if self.has(name) {
+                push_sgr(&mut start, code)?;
             }
         }
         Ok(start)
+    }
+
+    /// Whether a name is set that this code clears.
+    fn is_closed_by(&self, code: &str) -> bool {
+        self.names.iter().any(|(_, clearing)| *clearing == code)
     }
 
     /// The sequences that end the style.
     pub fn close(&self, alloc: Global) -> Result<String, AllocError> {
         let mut close = String::new(alloc);
         if self.is_unknown && self.is_reset {
-            close.push_str("\x1b[0m")?;
+            push_sgr(&mut close, "0")?;
         }
         for code in &CLOSING_CODES {
-            if self.names.iter().any(|(_, clearing)| clearing == code) {
-                close.push_str("\x1b[")?;
-                close.push_str(code)?;
-                close.push_str("m")?;
+            if self.is_closed_by(code) {
+                push_sgr(&mut close, code)?;
             }
         }
         if self.is_unknown {
-            close.push_str("\x1b[0m")?;
+            push_sgr(&mut close, "0")?;
         }
         Ok(close)
     }

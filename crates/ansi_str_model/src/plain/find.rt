@@ -1,5 +1,6 @@
 //! Searches in the plain text, place by place, compared with those of the library.
 use super::{items, plain, text_at};
+use crate::checks::expect;
 use ansi_str::AnsiStr;
 use std::alloc::Global;
 use std::process::Abort;
@@ -36,7 +37,7 @@ fn expect_boundaries(rt: &impl Abort, text: &str, plain: &str) {
     for index in &INDICES {
         let got = text.ansi_is_char_boundary(*index);
         let want = plain.is_char_boundary(*index);
-        assert!(rt; got == want, "boundary {index} of {text:?}");
+        expect(rt, got == want, "the boundary", (index, text));
     }
 }
 
@@ -53,7 +54,7 @@ fn expect_places(
         let pat = text_at(alloc, &CHARACTERS, number, len)?;
         let got = text.ansi_find(pat.as_str());
         let want = first_place(plain, pat.as_str());
-        assert!(rt; got == want, "{pat:?} in {text:?}");
+        expect(rt, got == want, "the place", (pat.as_str(), text));
     }
     Ok(())
 }

@@ -1,6 +1,7 @@
 //! Parts, item by item of a text, compared with those of the library.
 use super::style::NamedStyle;
 use super::{items, plain, spelling, text_at};
+use crate::checks::expect;
 use ansi_str::AnsiStr;
 use ansi_str::ansitok::{Item, Kind};
 use std::alloc::{AllocError, Global};
@@ -104,25 +105,19 @@ fn part(
     part.finish(alloc)
 }
 
-/// Compares one part of a text by a pattern, which has these ends.
+/// Compares a part of a text by a pattern, and whether it is a borrow.
 fn expect_part(
     rt: &impl Abort,
     got: &CowStr<'_>,
     want: &(String, bool),
     text: &str,
     pat: &str,
-    interval: (usize, usize),
 ) {
     let (bytes, is_borrow) = want;
-    assert!(rt;
-        got.as_str() == bytes.as_str(),
-        "{interval:?} of {text:?} by {pat:?}"
-    );
+    let name = (text, pat, bytes.as_str());
+    expect(rt, got.as_str() == bytes.as_str(), "a part", name);
     let got_borrow = matches!(got, CowStr::Borrowed(_));
-    assert!(rt;
-        got_borrow == *is_borrow,
-        "borrow of {interval:?} of {text:?} by {pat:?}"
-    );
+    expect(rt, got_borrow == *is_borrow, "whether a part is a borrow", name);
 }
 
 /// Compares the parts of a text by a pattern.
@@ -139,13 +134,10 @@ fn expect_parts<'t>(
     for interval in intervals(alloc, plain, pat)? {
         let want = part(alloc, text, items, before, interval)?;
         let got = parts.next().ok_or("a part is missing")??;
-        expect_part(rt, &got, &want, text, pat, interval);
+        expect_part(rt, &got, &want, text, pat);
         before = Some(interval.1);
     }
-    assert!(rt;
-        parts.next().is_none(),
-        "a part too many of {text:?} by {pat:?}"
-    );
+    expect(rt, parts.next().is_none(), "no part more", (text, pat));
     Ok(())
 }
 
