@@ -9,6 +9,9 @@
 size_t ansi_bench_strip(const uint8_t *, size_t);
 size_t ansi_bench_cut(const uint8_t *, size_t, size_t, size_t);
 size_t ansi_bench_split_at(const uint8_t *, size_t, size_t);
+size_t ansi_bench_starts_with(const uint8_t *, size_t, const uint8_t *, size_t);
+size_t ansi_bench_ends_with(const uint8_t *, size_t, const uint8_t *, size_t);
+size_t ansi_bench_strip_prefix(const uint8_t *, size_t, const uint8_t *, size_t);
 size_t ansi_bench_strip_suffix(const uint8_t *, size_t, const uint8_t *, size_t);
 size_t ansi_bench_trim(const uint8_t *, size_t);
 size_t ansi_bench_find(const uint8_t *, size_t, const uint8_t *, size_t);
@@ -18,6 +21,8 @@ size_t ansi_bench_blocks(const uint8_t *, size_t);
 struct text {
     uint8_t *bytes;
     size_t len, plain_len;
+    /* the first and the last byte of the plain text */
+    uint8_t first, last;
 };
 
 static size_t strip(const struct text *t) { return ansi_bench_strip(t->bytes, t->len); }
@@ -30,6 +35,8 @@ static size_t find_absent(const struct text *t) {
     return ansi_bench_find(t->bytes, t->len, (const uint8_t *)"absent", 6) == SIZE_MAX ? 0 : SIZE_MAX;
 }
 static size_t trim(const struct text *t) { return ansi_bench_trim(t->bytes, t->len); }
+static size_t strip_prefix(const struct text *t) { return ansi_bench_strip_prefix(t->bytes, t->len, &t->first, 1); }
+static size_t strip_suffix(const struct text *t) { return ansi_bench_strip_suffix(t->bytes, t->len, &t->last, 1); }
 static size_t split(const struct text *t) { return ansi_bench_split(t->bytes, t->len, (const uint8_t *)" ", 1); }
 static size_t blocks(const struct text *t) { return ansi_bench_blocks(t->bytes, t->len); }
 
@@ -41,6 +48,7 @@ struct call {
 static const struct call CALLS[] = {
     {"strip", strip},     {"cut_front", cut_front}, {"cut_middle", cut_middle}, {"split_at", split_at},
     {"trim", trim},       {"find", find_absent},    {"split", split},           {"blocks", blocks},
+    {"strip_prefix", strip_prefix}, {"strip_suffix", strip_suffix},
 };
 
 static int is_read(struct text *t, const char *name) {
@@ -56,11 +64,15 @@ static int is_read(struct text *t, const char *name) {
 }
 
 int main(int count, char **words) {
-    struct text t;
+    struct text t = {0};
     if (count != 4 || !is_read(&t, words[2])) {
         return 1;
     }
     t.plain_len = ansi_bench_strip(t.bytes, t.len);
+    for (uint8_t byte = 1; byte < 0x80; byte++) {
+        t.first = ansi_bench_starts_with(t.bytes, t.len, &byte, 1) == 1 ? byte : t.first;
+        t.last = ansi_bench_ends_with(t.bytes, t.len, &byte, 1) == 1 ? byte : t.last;
+    }
     for (size_t i = 0; i < sizeof CALLS / sizeof CALLS[0]; i++) {
         if (strcmp(CALLS[i].name, words[1]) == 0) {
             for (int runs = atoi(words[3]); runs > 0; runs--) {

@@ -1,14 +1,20 @@
 -- A pattern at the front and at the end of a text, met over the texts that are left.
-use Rattle.std.proofs.Common.{◌≡◌, ℕ, ◌-◌, ◌≤◌, Bool, true, false, ◌&&◌, List, [], ◌∷◌, ◌++◌, length, take, drop, nat_eq, refl, sym, ◌∙◌, ap, ap₂, subst, arith}
+use Rattle.std.proofs.Common.{◌≡◌, ℕ, ◌+◌, ◌-◌, ◌≤◌, ◌⊎◌, inl, inr, IsTrue, Bool, true, false, ◌&&◌, List, [], ◌∷◌, ◌++◌, length, take, drop, nat_eq, refl, sym, ◌∙◌, ap, ap₂, subst, arith}
 use Rattle.std.proofs.Math.Bool.{and_assoc}
 use Rattle.std.proofs.lemmas.Cmp.{nat_eq_equiv}
-use Rattle.std.proofs.lemmas.List.{take-append-le, take_all, length-drop, length-take}
-use Rattle.std.proofs.lemmas.Str.{IsCharBoundary-from_take, IsCharBoundary-from_drop}
+use Rattle.std.proofs.lemmas.List.{take-append-le, take_all, drop-drop, length-drop, length-take}
+use Rattle.std.proofs.lemmas.Str.{IsCharBoundary-start, IsCharBoundary-from_take, IsCharBoundary-from_drop}
 use Rattle.std.specs.Cmp.Lexicographic.{pointwise, same_text}
 use Rattle.std.specs.List.{starts_with, ends_with}
 use Rattle.std.specs.Str.{IsUtf8, IsCharBoundary}
-use Rattle.ansi_items.specs.Pieces.{Piece, Text}
-use Rattle.ansi_items.specs.Plain.{plain_of}
+use Rattle.ansi_items.specs.declared.ansitok.Kind.{Kind}
+use Rattle.ansi_items.specs.Pieces.{Piece, Text, pieces_of}
+use Rattle.ansi_items.specs.Plain.{plain_of, plain}
+use Rattle.ansi_items.proofs.StepLemmas.{BeginsWithMark}
+use Rattle.ansi_slice.specs.Positions.{is_good_position}
+use Rattle.ansi_slice.specs.Offsets.{StandsIn, KeepsUpTo}
+use Rattle.ansi_slice.proofs.PositionLemmas.{boundary_is_good}
+use Rattle.ansi_slice.proofs.OffsetLemmas.{IsPassed, passed-begin, passed-text, passed-mark, keeps-after}
 use Rattle.ansi_slice.proofs.SliceLemmas.{drop-append}
 
 -- a pattern that is no longer than the text at the front stands in that
@@ -78,3 +84,80 @@ ends_with-boundary x p suffix_utf8 ends =
     let start = length x - length p in
     let same : p ≡ drop start x = same_text p (drop start x) (sym ends) in
     IsCharBoundary-from_drop x start (omega arith) (subst IsUtf8 same suffix_utf8)
+
+-- How far the walk for a suffix of n bytes has come: where the last run begins that is no shorter, or all of the text, and how long the plain text is from there on.
+pub record IsTailSoFar (t : List ℕ) (n last len passed : ℕ) (left : List Piece) : Type 0 where
+  pub before : ℕ
+  pub from : IsPassed t before last (pieces_of (drop last t))
+  pub boundary : IsCharBoundary t last
+  pub way : IsPassed t (before + len) passed left
+  pub long : (before ≡ 0) ⊎ (n ≤ len)
+
+pub tail-begin : (t : List ℕ) (n : ℕ) → IsUtf8 t → IsTailSoFar t n 0 0 0 (pieces_of t)
+tail-begin t n utf8 = record { before = 0; from = passed-begin t; boundary = IsCharBoundary-start t utf8; way = passed-begin t; long = inl refl }
+
+-- over a run that is no shorter
+pub tail-run : {t : List ℕ} {n last len passed : ℕ} {w : List ℕ} {left ps : List Piece} (at : ℕ) → IsTailSoFar t n last len passed left → left ≡ Text w ∷ ps → take at t ≡ take passed t ++ w
+    → pieces_of (drop passed t) ≡ left → IsCharBoundary t passed → n ≤ length w → IsTailSoFar t n passed (0 + length w) at ps
+tail-run {t} {n} {last} {len} {passed} {w} {left} {ps} at so_far first more there boundary fits =
+    let whole : length w ≡ 0 + length w = omega arith in
+    subst (λ k. IsTailSoFar t n passed k at ps) whole (record {
+      before = so_far.before + len;
+      from = subst (IsPassed t (so_far.before + len) passed) (sym there) so_far.way;
+      boundary = boundary;
+      way = passed-text at so_far.way first more;
+      long = inr fits;
+    })
+
+-- over any other
+pub tail-text : {t : List ℕ} {n last len passed : ℕ} {w : List ℕ} {left ps : List Piece} (at : ℕ) → IsTailSoFar t n last len passed left → left ≡ Text w ∷ ps → take at t ≡ take passed t ++ w
+    → IsTailSoFar t n last (len + length w) at ps
+tail-text {t} {n} {last} {len} {passed} {w} {left} {ps} at so_far first more =
+    let sum : so_far.before + len + length w ≡ so_far.before + (len + length w) = omega arith in
+    record {
+      before = so_far.before;
+      from = so_far.from;
+      boundary = so_far.boundary;
+      way = subst (λ k. IsPassed t k at ps) sum (passed-text at so_far.way first more);
+      long = elim so_far.long [ inl all ↦ inl all | inr fits ↦ inr (omega (arith, fits)) ];
+    }
+
+pub tail-mark : {t : List ℕ} {n last len passed : ℕ} {kind : Kind} {w : List ℕ} {left ps : List Piece} (at : ℕ) → IsTailSoFar t n last len passed left → BeginsWithMark kind w left ps
+    → take at t ≡ take passed t ++ w → IsTailSoFar t n last len at ps
+tail-mark at so_far begins more = record {
+  before = so_far.before;
+  from = so_far.from;
+  boundary = so_far.boundary;
+  way = passed-mark at so_far.way begins more;
+  long = so_far.long;
+}
+
+-- where the suffix begins in all, and in what follows the last such run
+tail-sum : {t : List ℕ} {n last len passed : ℕ} {left : List Piece} (so_far : IsTailSoFar t n last len passed left) → left ≡ [] → so_far.before + (len - n) ≡ length (plain t) - n
+tail-sum {left = left} so_far none =
+    let count = so_far.way.count in
+    let nothing : length (plain_of left) ≡ 0 = ap (λ ps. length (plain_of ps)) none in
+    elim so_far.long [ inl all ↦ omega (arith, all, count, nothing) | inr fits ↦ omega (arith, fits, count, nothing) ]
+
+pub tail-starts : {t rest : List ℕ} (p : List ℕ) {last len passed : ℕ} {left : List Piece} → IsTailSoFar t (length p) last len passed left → left ≡ [] → rest ≡ drop last t
+    → starts_with nat_eq (drop (len - length p) (plain rest)) p ≡ ends_with nat_eq (plain t) p
+tail-starts {t} {rest} p {last} {len} so_far none is =
+    let n = len - length p in
+    ap (λ u. starts_with nat_eq (drop n u) p) (ap plain is ∙ sym so_far.from.rest)
+    ∙ ap (λ u. starts_with nat_eq u p) (drop-drop n so_far.before (plain t) ∙ ap (λ k. drop k (plain t)) (tail-sum so_far none))
+    ∙ ends_with-starts_with (plain t) p
+
+pub tail-good : {t rest : List ℕ} (p : List ℕ) {last len passed : ℕ} {left : List Piece} → IsTailSoFar t (length p) last len passed left → left ≡ [] → rest ≡ drop last t → IsUtf8 p
+    → starts_with nat_eq (drop (len - length p) (plain rest)) p ≡ true → IsTrue (is_good_position (plain rest) (len - length p))
+tail-good {t} {rest} p {len = len} {left = left} so_far none is utf8 starts =
+    let nothing : length (plain_of left) ≡ 0 = ap (λ ps. length (plain_of ps)) none in
+    let rest_is : plain rest ≡ drop so_far.before (plain t) = ap plain is ∙ sym so_far.from.rest in
+    let size : len - length p ≡ length (plain rest) - length p = omega (arith, ap length rest_is, length-drop so_far.before (plain t), so_far.way.count, nothing) in
+    let ends : ends_with nat_eq (plain rest) p ≡ true = sym (ends_with-starts_with (plain rest) p) ∙ ap (λ n. starts_with nat_eq (drop n (plain rest)) p) (sym size) ∙ starts in
+    ap (is_good_position (plain rest)) size ∙ boundary_is_good (plain rest) (length (plain rest) - length p) (ends_with-boundary (plain rest) p utf8 ends)
+
+pub tail-keeps : {t rest : List ℕ} {n last len passed i : ℕ} {left : List Piece} → IsTailSoFar t n last len passed left → left ≡ [] → rest ≡ drop last t → StandsIn rest (len - n) i
+    → KeepsUpTo t (length (plain t) - n) (last + i)
+tail-keeps {t} {rest} {n} {last} {len} {passed} {i} so_far none is stands =
+    subst (λ k. KeepsUpTo t k (last + i)) (tail-sum so_far none)
+    (keeps-after (subst (λ u. IsPassed t so_far.before last (pieces_of u)) (sym is) so_far.from) is so_far.boundary.0 stands)

@@ -9,8 +9,9 @@ pub mod CutWalkLemmas
 pub mod TrimLemmas
 pub mod WalkLemmas
 pub mod SideLemmas
-pub mod SideWalkLemmas
 pub mod KeptWalkLemmas
+pub mod OffsetLemmas
+pub mod SideWalkLemmas
 pub mod TrimWalkLemmas
 pub mod EndLemmas
 pub mod ShownLemmas

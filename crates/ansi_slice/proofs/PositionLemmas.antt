@@ -1,7 +1,7 @@
 -- Good positions, in a text at the front and after it, and as std's character boundaries.
-use Rattle.std.proofs.Common.{◌≡◌, ℕ, ◌-◌, ◌<◌, ◌≤◌, inl, inr, not, true, List, ◌++◌, length, IsTrue, Some, None, Option, ◌&&◌, refl, sym, ◌∙◌, ap, ap₂, subst, arith, ◌+◌, ◌↔◌, Bool, min, nat_le, slice_index}
+use Rattle.std.proofs.Common.{◌≡◌, ℕ, ◌-◌, ◌<◌, ◌≤◌, inl, inr, not, true, false, List, ◌++◌, length, drop, IsTrue, Some, None, Option, ◌&&◌, refl, sym, ◌∙◌, ap, ap₂, subst, arith, ◌+◌, ◌↔◌, Bool, min, nat_le, slice_index}
 use Rattle.std.proofs.lemmas.Bool.{leb-true, leb-false, le-leb, and_parts, and_from, lt-leb, cases_lt, not-true, not_from_false, and_left, and_right, and_cases}
-use Rattle.std.proofs.lemmas.List.{get_or_append_left, get_or_past, get_or-append_right, length-append}
+use Rattle.std.proofs.lemmas.List.{get_or_append_left, get_or_past, get_or-append_right, get_or-drop, length-append}
 use Rattle.std.specs.Cmp.{both_ways}
 use Rattle.std.proofs.lemmas.Str.{IsCharBoundary-start, IsCharBoundary-end}
 use Rattle.std.specs.Prelude.{unwrap_or}
@@ -16,6 +16,10 @@ is_good_position-append w y n within = ap (λ b. not (is_continuation_byte b)) (
 
 pub is_good_position-after : (w y : List ℕ) (n : ℕ) → length w ≤ n → is_good_position (w ++ y) n ≡ is_good_position y (n - length w)
 is_good_position-after w y n past = ap (λ b. not (is_continuation_byte b)) (get_or-append_right w y (length w) n 0 refl past)
+
+-- a position in what is left of a text
+pub is_good_position-drop : (x : List ℕ) (k n : ℕ) → is_good_position (drop k x) n ≡ is_good_position x (k + n)
+is_good_position-drop x k n = ap (λ b. not (is_continuation_byte b)) (get_or-drop k x n 0)
 
 -- a good position is good in the text at the front
 pub good_in_front : (w y : List ℕ) (n : ℕ) → IsTrue (is_good_position (w ++ y) n) → IsTrue (is_good_position w n)
@@ -103,20 +107,14 @@ pub good_before : (x : List ℕ) (n : ℕ) → IsUtf8 x → IsCharBoundary x n �
 good_before x n utf8 boundary = good_range_from x 0 n (omega arith) (IsCharBoundary-start x utf8) boundary
 
 -- a range without an end is as good as one up to a position past the end
-pub is_good_range-top : (x : List ℕ) (s : ℕ) (end : Option ℕ) (top : ℕ) → IsTrue (is_good_range x s end) → s ≤ top → length x ≤ top → IsTrue (is_good_range x s (Some (unwrap_or end top)))
-is_good_range-top x s None top good below past = and_from _ _ (le-leb s top below) (and_from _ _ good (is_good_position-past x top past))
-is_good_range-top x s (Some e) top good below past = good
-
--- a position that is not yet passed is good in the text at the front, and so is 0
-good_or_front : (w y : List ℕ) (n : ℕ) → IsUtf8 w → (0 < n → IsTrue (is_good_position (w ++ y) n)) → IsTrue (is_good_position w n)
-good_or_front w y n utf8 good = elim (cases_lt 0 n) [
-  | inl some ↦ good_in_front w y n (good some)
-  | inr none ↦ (let front : 0 ≡ n = omega arith in subst (λ k. IsTrue (is_good_position w k)) front (boundary_is_good w 0 (IsCharBoundary-start w utf8)))
-]
-
--- the range of what is left of two good positions, in a text at the front
-pub good_range_in_front : (w y : List ℕ) (s e : ℕ) → IsUtf8 w → s ≤ e → (0 < s → IsTrue (is_good_position (w ++ y) s)) → (0 < e → IsTrue (is_good_position (w ++ y) e)) → IsTrue (is_good_range w s (Some e))
-good_range_in_front w y s e utf8 ordered start end = and_from _ _ (le-leb s e ordered) (and_from _ _ (good_or_front w y s utf8 start) (good_or_front w y e utf8 end))
+pub is_good_range-top : (x : List ℕ) (s : ℕ) (end : Option ℕ) (top : ℕ) → s ≤ top → length x ≤ top → is_good_range x s (Some (unwrap_or end top)) ≡ is_good_range x s end
+is_good_range-top x s None top below past =
+    ap₂ (λ a b. a && (is_good_position x s && b)) (le-leb s top below) (is_good_position-past x top past) ∙ and_true (is_good_position x s)
+  where
+    and_true : (b : Bool) → b && true ≡ b
+    and_true true = refl
+    and_true false = refl
+is_good_range-top x s (Some e) top below past = refl
 
 -- a range is good where its ends are, in order
 pub good_range_is : (x : List ℕ) (s e : ℕ) → IsTrue (is_good_range x s (Some e)) ↔ ((s ≤ e) × IsCharBoundary x (min s (length x)) × IsCharBoundary x (min e (length x)))
@@ -124,3 +122,11 @@ good_range_is x s e = (
   λ good. (let parts = good_range_parts x s e good in (parts.0, boundary_inside x s parts.1, boundary_inside x e parts.2)),
   λ ends. and_from _ _ (le-leb s e ends.0) (and_from _ _ ((good_position_is x s).1 ends.1) ((good_position_is x e).1 ends.2)),
 )
+
+-- Nothing is answered exactly where a test fails.
+
+pub none_if_bad : {b : Bool} → b ≡ false → (false ≡ false) ↔ (b ≡ false)
+none_if_bad is = (λ _. is, λ _. refl)
+
+pub some_if_good : {b : Bool} → b ≡ true → (true ≡ false) ↔ (b ≡ false)
+some_if_good is = (λ e. absurd (cc e), λ bad. absurd (cc (is, bad)))

@@ -1,113 +1,165 @@
--- How far a split has come, and what a step of the walk is to it.
-use Rattle.std.proofs.Common.{◌≡◌, ◌≢◌, ℕ, ◌+◌, ◌-◌, ◌<◌, ◌≤◌, inl, inr, true, false, List, [], ◌∷◌, ◌++◌, length, take, drop, sym, ◌∙◌, ap, ap₂, subst, arith, nat_le, if◌then◌else◌, append_assoc, append-nil, IsTrue}
-use Rattle.std.proofs.lemmas.Bool.{cases_lt, le-leb, lt-leb}
-use Rattle.std.proofs.lemmas.Str.{IsCharBoundary-start}
-use Rattle.std.specs.Str.{IsUtf8}
+-- A side of a text as what its pieces give before a place, or after it; and how far the walk over them has come.
+use Rattle.std.proofs.Common.{◌≡◌, ◌≢◌, ℕ, ◌+◌, ◌-◌, ◌<◌, ◌≤◌, inl, inr, true, false, List, [], ◌∷◌, ◌++◌, length, take, drop, sym, ◌∙◌, refl, ap, ap₂, arith, append_assoc, append-nil, length-append, if◌then◌else◌}
+use Rattle.std.proofs.lemmas.Bool.{cases_lt, le-leb, lt-leb, lt-ltb, le-ltb}
+use Rattle.std.proofs.lemmas.List.{take_all, drop_all, length-drop}
 use Rattle.ansi_items.specs.declared.ansitok.Kind.{Kind}
 use Rattle.ansi_items.specs.declared.ansitok.Kind.TheVariants.{Sgr}
 use Rattle.ansi_items.specs.Sequences.{is_sgr}
 use Rattle.ansi_items.specs.Pieces.{Piece, Text, Sequence, LoneEscape, spelling, pieces_of}
-use Rattle.ansi_items.specs.Plain.{plain_of, plain}
-use Rattle.ansi_slice.specs.Positions.{is_good_position}
+use Rattle.ansi_items.specs.Plain.{plain_of}
+use Rattle.ansi_items.proofs.PlainLemmas.{length-plain}
+use Rattle.ansi_items.proofs.StepLemmas.{is_mark, BeginsWithMark}
 use Rattle.ansi_style.specs.declared.state.rendition.Rendition.{Rendition}
 use Rattle.ansi_style.specs.Rendition.{plain_style}
-use Rattle.ansi_slice.specs.Sides.{dressed, left_part, right_part, left_side, right_side}
-use Rattle.ansi_items.proofs.StepLemmas.{is_mark, BeginsWithMark, plain_of-mark}
-use Rattle.ansi_slice.proofs.PositionLemmas.{good_in_front, boundary_is_good, is_good_position-after}
+use Rattle.ansi_style.specs.Sgr.{apply}
+use Rattle.ansi_style.specs.Reading.{style_within}
+use Rattle.ansi_style.proofs.MarkLemmas.{style_by_marks, style_by_marks-before, style_by_marks-sequence, style_by_marks-lone}
+use Rattle.ansi_slice.specs.Sides.{dressed, copied, left_part, right_part, left_side, right_side, side_up_to}
+use Rattle.ansi_slice.specs.Offsets.{StandsIn}
 use Rattle.ansi_slice.proofs.CutWalkLemmas.{apply-no_sgr}
 use Rattle.ansi_slice.proofs.WalkLemmas.{walked}
 use Rattle.ansi_slice.proofs.SideLemmas.{left_side-walked, right_side-walked}
+use Rattle.ansi_slice.proofs.OffsetLemmas.{after_of, after_of-last, after_of-text, style-text, pieces_of-after}
 
--- What is written on each side, and what the pieces that are left give to it, are the whole side. A position that is not yet reached is good in what is left.
-pub record IsSplitSoFar (t : List ℕ) (mid : ℕ) (left right : List ℕ) (place : ℕ) (style : Rendition) (pieces : List Piece) : Type 0 where
-  pub on_left : left ++ walked (left_part mid) place style pieces ≡ left_side t mid
-  pub on_right : right ++ walked (right_part mid) place style pieces ≡ right_side t mid
-  pub good : place < mid → IsTrue (is_good_position (plain_of pieces) (mid - place))
+side_up_to-last : (s : Rendition) (n : ℕ) (w : List ℕ) (ps : List Piece) → n < length w → side_up_to s n (Text w ∷ ps) ≡ dressed s (take n w)
+side_up_to-last s n w ps last = ap (λ b. if b then dressed s (take n w) else dressed s w ++ side_up_to s (n - length w) ps) (lt-ltb n (length w) last)
 
-pub split-begin : (t : List ℕ) (mid : ℕ) → IsTrue (is_good_position (plain t) mid) → IsSplitSoFar t mid [] [] 0 plain_style (pieces_of t)
-split-begin t mid good =
-    let all : mid ≡ mid - 0 = omega arith in
+side_up_to-text : (s : Rendition) (n : ℕ) (w : List ℕ) (ps : List Piece) → length w ≤ n → side_up_to s n (Text w ∷ ps) ≡ dressed s w ++ side_up_to s (n - length w) ps
+side_up_to-text s n w ps within = ap (λ b. if b then dressed s (take n w) else dressed s w ++ side_up_to s (n - length w) ps) (le-ltb n (length w) within)
+
+-- On the left, pieces past the position give nothing.
+
+left-past : (mid n : ℕ) (s : Rendition) (ps : List Piece) → mid < n → walked (left_part mid) n s ps ≡ []
+left-past mid n s [] past = refl
+left-past mid n s (Text w ∷ ps) past =
+    let none : mid - n ≡ 0 = omega arith in
+    ap₂ (λ k v. dressed s (take k w) ++ v) none (left-past mid (n + length w) s ps (omega arith))
+left-past mid n s (Sequence w ∷ ps) past =
+    ap₂ (λ b v. (if b then copied (Sequence w) else []) ++ v) (lt-leb n mid past) (left-past mid (n + 0) (apply s w) ps (omega arith))
+left-past mid n s (LoneEscape ∷ ps) past =
+    ap₂ (λ b v. (if b then copied LoneEscape else []) ++ v) (lt-leb n mid past) (left-past mid (n + 0) s ps (omega arith))
+
+left-walk : (mid n : ℕ) (s : Rendition) (ps : List Piece) → n ≤ mid → walked (left_part mid) n s ps ≡ side_up_to s (mid - n) ps
+left-walk mid n s [] within = refl
+left-walk mid n s (Text w ∷ ps) within = elim (cases_lt (mid - n) (length w)) [
+  | inl last ↦ (
+      ap (λ v. dressed s (take (mid - n) w) ++ v) (left-past mid (n + length w) s ps (omega arith)) ∙ append-nil (dressed s (take (mid - n) w))
+      ∙ sym (side_up_to-last s (mid - n) w ps last))
+  | inr all ↦ (
+      let left : mid - (n + length w) ≡ mid - n - length w = omega arith in
+      ap₂ (λ u v. dressed s u ++ v) (take_all (mid - n) w all) (left-walk mid (n + length w) s ps (omega arith) ∙ ap (λ k. side_up_to s k ps) left)
+      ∙ sym (side_up_to-text s (mid - n) w ps all))
+]
+left-walk mid n s (Sequence w ∷ ps) within =
+    let same : mid - (n + 0) ≡ mid - n = omega arith in
+    ap₂ (λ b v. (if b then copied (Sequence w) else []) ++ v) (le-leb n mid within) (left-walk mid (n + 0) (apply s w) ps (omega arith) ∙ ap (λ k. side_up_to (apply s w) k ps) same)
+left-walk mid n s (LoneEscape ∷ ps) within =
+    let same : mid - (n + 0) ≡ mid - n = omega arith in
+    ap₂ (λ b v. (if b then copied LoneEscape else []) ++ v) (le-leb n mid within) (left-walk mid (n + 0) s ps (omega arith) ∙ ap (λ k. side_up_to s k ps) same)
+
+pub left_side-is : (t : List ℕ) (mid : ℕ) → left_side t mid ≡ side_up_to plain_style mid (pieces_of t)
+left_side-is t mid =
+    let all : mid - 0 ≡ mid = omega arith in
+    left_side-walked t mid ∙ left-walk mid 0 plain_style (pieces_of t) (omega arith) ∙ ap (λ n. side_up_to plain_style n (pieces_of t)) all
+
+-- On the right, those before it do.
+
+right-past : (mid n top : ℕ) (s : Rendition) (ps : List Piece) → mid < n → length (plain_of ps) ≤ top → walked (right_part mid) n s ps ≡ side_up_to s top ps
+right-past mid n top s [] past fits = refl
+right-past mid n top s (Text w ∷ ps) past fits =
+    let none : mid - n ≡ 0 = omega arith in
+    let size = length-append w (plain_of ps) in
+    ap₂ (λ k v. dressed s (drop k w) ++ v) none (right-past mid (n + length w) (top - length w) s ps (omega arith) (omega (arith, size, fits)))
+    ∙ sym (side_up_to-text s top w ps (omega (arith, size, fits)))
+right-past mid n top s (Sequence w ∷ ps) past fits =
+    ap₂ (λ b v. (if b then [] else copied (Sequence w)) ++ v) (lt-leb n mid past) (right-past mid (n + 0) top (apply s w) ps (omega arith) fits)
+right-past mid n top s (LoneEscape ∷ ps) past fits =
+    ap₂ (λ b v. (if b then [] else copied LoneEscape) ++ v) (lt-leb n mid past) (right-past mid (n + 0) top s ps (omega arith) fits)
+
+right-walk : (mid n top : ℕ) (s : Rendition) (ps : List Piece) → n ≤ mid → length (plain_of ps) ≤ top
+    → walked (right_part mid) n s ps ≡ side_up_to (style_by_marks s ps (mid - n)) top (after_of (mid - n) ps)
+right-walk mid n top s [] within fits = refl
+right-walk mid n top s (Text w ∷ ps) within fits =
+    let k = mid - n in
+    let size = length-append w (plain_of ps) in
+    elim (cases_lt k (length w)) [
+      | inl last ↦ (
+          let v = drop k w in
+          let left : length v ≡ length w - k = length-drop k w in
+          ap (λ u. dressed s v ++ u) (right-past mid (n + length w) (top - length v) s ps (omega arith) (omega (arith, size, fits, left)))
+          ∙ sym (ap₂ (λ r qs. side_up_to r top qs) (style_by_marks-before s w ps k last) (after_of-last k w ps last)
+          ∙ side_up_to-text s top v ps (omega (arith, size, fits, left))))
+      | inr all ↦ (
+          let rest : mid - (n + length w) ≡ k - length w = omega arith in
+          ap₂ (λ u v. dressed s u ++ v) (drop_all k w all) (right-walk mid (n + length w) top s ps (omega arith) (omega (arith, size, fits)))
+          ∙ ap (λ i. side_up_to (style_by_marks s ps i) top (after_of i ps)) rest
+          ∙ sym (ap₂ (λ r qs. side_up_to r top qs) (style-text s k w ps all) (after_of-text k w ps all)))
+    ]
+right-walk mid n top s (Sequence w ∷ ps) within fits =
+    let same : mid - (n + 0) ≡ mid - n = omega arith in
+    ap₂ (λ b v. (if b then [] else copied (Sequence w)) ++ v) (le-leb n mid within) (right-walk mid (n + 0) top (apply s w) ps (omega arith) fits)
+    ∙ ap (λ i. side_up_to (style_by_marks (apply s w) ps i) top (after_of i ps)) same
+    ∙ ap (λ r. side_up_to r top (after_of (mid - n) ps)) (sym (style_by_marks-sequence s w ps (mid - n)))
+right-walk mid n top s (LoneEscape ∷ ps) within fits =
+    let same : mid - (n + 0) ≡ mid - n = omega arith in
+    ap₂ (λ b v. (if b then [] else copied LoneEscape) ++ v) (le-leb n mid within) (right-walk mid (n + 0) top s ps (omega arith) fits)
+    ∙ ap (λ i. side_up_to (style_by_marks s ps i) top (after_of i ps)) same
+    ∙ ap (λ r. side_up_to r top (after_of (mid - n) ps)) (sym (style_by_marks-lone s ps (mid - n)))
+
+pub right_side-is : {t rest : List ℕ} {mid i top : ℕ} {style : Rendition} → StandsIn t mid i → rest ≡ drop i t → style ≡ style_within plain_style t mid → length t ≤ top
+    → side_up_to style top (pieces_of rest) ≡ right_side t mid
+right_side-is {t} {rest} {mid} {i} {top} {style} stands is styled fits =
+    let all : mid - 0 ≡ mid = omega arith in
+    ap₂ (λ r ps. side_up_to r top ps) styled (ap pieces_of is ∙ ap (λ n. pieces_of (drop n t)) stands.offset ∙ pieces_of-after t mid)
+    ∙ sym (right_side-walked t mid ∙ right-walk mid 0 top plain_style (pieces_of t) (omega arith) (omega (arith, length-plain t))
+    ∙ ap (λ n. side_up_to (style_by_marks plain_style (pieces_of t) n) top (after_of n (pieces_of t))) all)
+
+-- What has been written, and what the pieces that are left give before the position, are all.
+pub record IsSideSoFar (whole written : List ℕ) (style : Rendition) (n : ℕ) (left : List Piece) : Type 0 where
+  pub side : written ++ side_up_to style n left ≡ whole
+
+pub side-text : {whole written new : List ℕ} {style : Rendition} {n next : ℕ} {w : List ℕ} {left ps : List Piece} → IsSideSoFar whole written style n left → left ≡ Text w ∷ ps → length w ≤ n
+    → new ≡ written ++ dressed style w → next ≡ n - length w → IsSideSoFar whole new style next ps
+side-text {whole} {written} {new} {style} {n} {next} {w} {left} {ps} so_far first within more is =
+    rw (more, is) (record {
+      side = append_assoc written (dressed style w) (side_up_to style (n - length w) ps)
+          ∙ ap (λ v. written ++ v) (sym (ap (side_up_to style n) first ∙ side_up_to-text style n w ps within)) ∙ so_far.side;
+    })
+
+pub side-last : {whole written new : List ℕ} {style : Rendition} {n : ℕ} {w : List ℕ} {left ps : List Piece} → IsSideSoFar whole written style n left → left ≡ Text w ∷ ps → n < length w
+    → new ≡ written ++ dressed style (take n w) → new ≡ whole
+side-last {written = written} {style = style} {n = n} {w = w} {ps = ps} so_far first last more =
+    more ∙ ap (λ v. written ++ v) (sym (ap (side_up_to style n) first ∙ side_up_to-last style n w ps last)) ∙ so_far.side
+
+side_up_to-mark : (p : Piece) (s : Rendition) (n : ℕ) (ps : List Piece) → is_mark p ≡ true → side_up_to s n (p ∷ ps) ≡ copied p ++ side_up_to (apply s (spelling p)) n ps
+side_up_to-mark (Text w) s n ps is = absurd (cc is)
+side_up_to-mark (Sequence w) s n ps is = refl
+side_up_to-mark LoneEscape s n ps is = refl
+
+-- over an SGR
+pub side-sgr : {whole written : List ℕ} {style next : Rendition} {n : ℕ} {kind : Kind} {w : List ℕ} {left ps : List Piece} → IsSideSoFar whole written style n left → BeginsWithMark kind w left ps
+    → kind ≡ Sgr → next ≡ apply style w → IsSideSoFar whole written next n ps
+side-sgr {whole} {written} {style} {next} {n} {kind} {w} {left} {ps} so_far begins kind_is applied =
+    let is : is_sgr (spelling begins.mark) ≡ true = ap is_sgr begins.bytes ∙ begins.sgr kind_is in
     record {
-      on_left = sym (left_side-walked t mid);
-      on_right = sym (right_side-walked t mid);
-      good = λ _. subst (λ n. IsTrue (is_good_position (plain t) n)) all good;
+      side = ap (λ v. written ++ v)
+          (ap (λ r. side_up_to r n ps) (applied ∙ ap (apply style) (sym begins.bytes))
+          ∙ sym (ap (side_up_to style n) begins.pieces ∙ side_up_to-mark begins.mark style n ps begins.is_mark
+          ∙ ap (λ b. (if b then [] else spelling begins.mark) ++ side_up_to (apply style (spelling begins.mark)) n ps) is))
+          ∙ so_far.side;
     }
 
--- what is left of the position is good in a text that comes next
-pub split-good : {t left right : List ℕ} {mid place at : ℕ} {style : Rendition} {w : List ℕ} {pieces ps : List Piece} → IsSplitSoFar t mid left right place style pieces → pieces ≡ Text w ∷ ps
-    → at ≡ mid - place → IsUtf8 w → IsTrue (is_good_position w at)
-split-good {t} {left} {right} {mid} {place} {at} {style} {w} {pieces} {ps} so_far is at_is utf8 =
-    let first = subst (IsSplitSoFar t mid left right place style) is so_far in
-    elim (cases_lt place mid) [
-      | inl before ↦ rw at_is (good_in_front w (plain_of ps) (mid - place) (first.good before))
-      | inr reached ↦ (let front : 0 ≡ at = omega (arith, at_is) in subst (λ n. IsTrue (is_good_position w n)) front (boundary_is_good w 0 (IsCharBoundary-start w utf8)))
-    ]
+-- over any other mark
+pub side-mark : {whole written new : List ℕ} {style : Rendition} {n : ℕ} {kind : Kind} {w : List ℕ} {left ps : List Piece} → IsSideSoFar whole written style n left → BeginsWithMark kind w left ps
+    → kind ≢ Sgr → new ≡ written ++ w → IsSideSoFar whole new style n ps
+side-mark {whole} {written} {new} {style} {n} {kind} {w} {left} {ps} so_far begins other more =
+    let bytes = begins.bytes in
+    let no_sgr : is_sgr (spelling begins.mark) ≡ false = ap is_sgr bytes ∙ begins.no_sgr other in
+    let here : side_up_to style n left ≡ w ++ side_up_to style n ps
+    = ap (side_up_to style n) begins.pieces ∙ side_up_to-mark begins.mark style n ps begins.is_mark
+    ∙ ap₂ (λ b r. (if b then [] else spelling begins.mark) ++ side_up_to r n ps) no_sgr (apply-no_sgr style (spelling begins.mark) no_sgr)
+    ∙ ap (λ v. v ++ side_up_to style n ps) bytes in
+    record { side = ap (λ v. v ++ side_up_to style n ps) more ∙ append_assoc written w (side_up_to style n ps) ∙ ap (λ v. written ++ v) (sym here) ∙ so_far.side }
 
--- over a text
-pub split-text : {t left right left_next right_next : List ℕ} {mid place at : ℕ} {style : Rendition} {w before after : List ℕ} {pieces ps : List Piece}
-    → IsSplitSoFar t mid left right place style pieces → pieces ≡ Text w ∷ ps
-    → at ≡ mid - place → before ≡ take at w → after ≡ drop at w → left_next ≡ left ++ dressed style before → right_next ≡ right ++ dressed style after
-    → IsSplitSoFar t mid left_next right_next (place + length w) style ps
-split-text {t} {left} {right} {left_next} {right_next} {mid} {place} {at} {style} {w} {before} {after} {pieces} {ps} so_far is at_is before_is after_is more_left more_right =
-    let first = subst (IsSplitSoFar t mid left right place style) is so_far in
-    let step : IsSplitSoFar t mid (left ++ dressed style (take (mid - place) w)) (right ++ dressed style (drop (mid - place) w)) (place + length w) style ps = record {
-      on_left = append_assoc left (dressed style (take (mid - place) w)) (walked (left_part mid) (place + length w) style ps) ∙ first.on_left;
-      on_right = append_assoc right (dressed style (drop (mid - place) w)) (walked (right_part mid) (place + length w) style ps) ∙ first.on_right;
-      good = λ some. (
-          let later : mid - place - length w ≡ mid - (place + length w) = omega arith in
-          subst (λ n. IsTrue (is_good_position (plain_of ps) n)) later (sym (is_good_position-after w (plain_of ps) (mid - place) (omega arith)) ∙ first.good (omega arith)));
-    } in
-    rw (more_left, more_right, before_is, after_is, at_is) step
-
--- A mark that is no SGR goes to one of the sides, as it stands.
-
-left-mark : (p : Piece) (mid place : ℕ) (style : Rendition) (ps : List Piece) → is_mark p ≡ true → is_sgr (spelling p) ≡ false
-    → walked (left_part mid) place style (p ∷ ps) ≡ (if nat_le place mid then spelling p else []) ++ walked (left_part mid) place style ps
-left-mark (Text w) mid place style ps is other = absurd (cc is)
-left-mark (Sequence w) mid place style ps is other =
-    ap₂ (λ u v. u ++ v)
-    (ap (λ b. if nat_le place mid then (if b then [] else w) else []) other)
-    (ap₂ (λ n s. walked (left_part mid) n s ps) (omega arith) (apply-no_sgr style w other))
-left-mark LoneEscape mid place style ps is other = ap (λ n. (if nat_le place mid then spelling LoneEscape else []) ++ walked (left_part mid) n style ps) (omega arith)
-
-right-mark : (p : Piece) (mid place : ℕ) (style : Rendition) (ps : List Piece) → is_mark p ≡ true → is_sgr (spelling p) ≡ false
-    → walked (right_part mid) place style (p ∷ ps) ≡ (if nat_le place mid then [] else spelling p) ++ walked (right_part mid) place style ps
-right-mark (Text w) mid place style ps is other = absurd (cc is)
-right-mark (Sequence w) mid place style ps is other =
-    ap₂ (λ u v. u ++ v)
-    (ap (λ b. if nat_le place mid then [] else (if b then [] else w)) other)
-    (ap₂ (λ n s. walked (right_part mid) n s ps) (omega arith) (apply-no_sgr style w other))
-right-mark LoneEscape mid place style ps is other = ap (λ n. (if nat_le place mid then [] else spelling LoneEscape) ++ walked (right_part mid) n style ps) (omega arith)
-
--- over a mark that is no SGR, and gives these bytes to the sides
-split-mark : {t left right left_next right_next to_left to_right : List ℕ} {mid place : ℕ} {style : Rendition} {kind : Kind} {w : List ℕ} {pieces ps : List Piece}
-    → IsSplitSoFar t mid left right place style pieces → BeginsWithMark kind w pieces ps → kind ≢ Sgr
-    → (if nat_le place mid then w else []) ≡ to_left → (if nat_le place mid then [] else w) ≡ to_right → left_next ≡ left ++ to_left → right_next ≡ right ++ to_right
-    → IsSplitSoFar t mid left_next right_next place style ps
-split-mark {t} {left} {right} {left_next} {right_next} {to_left} {to_right} {mid} {place} {style} {kind} {w} {pieces} {ps} so_far begins other goes_left goes_right more_left more_right =
-    let first = subst (IsSplitSoFar t mid left right place style) begins.pieces so_far in
-    let mark = begins.mark in
-    let no_sgr : is_sgr (spelling mark) ≡ false = ap is_sgr begins.bytes ∙ begins.no_sgr other in
-    let step : IsSplitSoFar t mid (left ++ (if nat_le place mid then spelling mark else [])) (right ++ (if nat_le place mid then [] else spelling mark)) place style ps = record {
-      on_left = append_assoc left (if nat_le place mid then spelling mark else []) (walked (left_part mid) place style ps)
-          ∙ ap (λ v. left ++ v) (sym (left-mark mark mid place style ps begins.is_mark no_sgr)) ∙ first.on_left;
-      on_right = append_assoc right (if nat_le place mid then [] else spelling mark) (walked (right_part mid) place style ps)
-          ∙ ap (λ v. right ++ v) (sym (right-mark mark mid place style ps begins.is_mark no_sgr)) ∙ first.on_right;
-      good = λ some. subst (λ x. IsTrue (is_good_position x (mid - place))) (plain_of-mark mark ps begins.is_mark) (first.good some);
-    } in
-    let to_sides = subst (λ v. IsSplitSoFar t mid (left ++ (if nat_le place mid then v else [])) (right ++ (if nat_le place mid then [] else v)) place style ps) begins.bytes step in
-    rw (more_left, more_right, ← goes_left, ← goes_right) to_sides
-
--- over one at or before the position
-pub split-left : {t left right next : List ℕ} {mid place : ℕ} {style : Rendition} {kind : Kind} {w : List ℕ} {pieces ps : List Piece} → IsSplitSoFar t mid left right place style pieces → BeginsWithMark kind w pieces ps
-    → kind ≢ Sgr → place ≤ mid → next ≡ left ++ w → IsSplitSoFar t mid next right place style ps
-split-left {right = right} {mid = mid} {place = place} {w = w} so_far begins other here more =
-    let goes = le-leb place mid here in
-    split-mark so_far begins other (ap (λ b. if b then w else []) goes) (ap (λ b. if b then [] else w) goes) more (sym (append-nil right))
-
--- over one past the position
-pub split-right : {t left right next : List ℕ} {mid place : ℕ} {style : Rendition} {kind : Kind} {w : List ℕ} {pieces ps : List Piece} → IsSplitSoFar t mid left right place style pieces → BeginsWithMark kind w pieces ps
-    → kind ≢ Sgr → mid < place → next ≡ right ++ w → IsSplitSoFar t mid left next place style ps
-split-right {left = left} {mid = mid} {place = place} {w = w} so_far begins other past more =
-    let goes = lt-leb place mid past in
-    split-mark so_far begins other (ap (λ b. if b then w else []) goes) (ap (λ b. if b then [] else w) goes) (sym (append-nil left)) more
+pub side-end : {whole written : List ℕ} {style : Rendition} {n : ℕ} {left : List Piece} → IsSideSoFar whole written style n left → left ≡ [] → written ≡ whole
+side-end {written = written} {style = style} {n = n} so_far none = sym (append-nil written) ∙ ap (λ v. written ++ v) (sym (ap (side_up_to style n) none)) ∙ so_far.side

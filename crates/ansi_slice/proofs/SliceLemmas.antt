@@ -1,8 +1,8 @@
 -- Slices of a list whose ends lie at its end or past it, and of two lists in a row.
-use Rattle.std.proofs.Common.{◌≡◌, ℕ, zero, suc, ◌-◌, ◌<◌, ◌≤◌, min, inl, inr, List, [], ◌∷◌, ◌++◌, map, length, take, drop, take-add, append_assoc, sym, ◌∙◌, ap, ap₂, arith}
+use Rattle.std.proofs.Common.{◌≡◌, ℕ, zero, suc, ◌-◌, ◌≤◌, min, inl, inr, List, [], ◌∷◌, ◌++◌, map, length, take, drop, sym, ◌∙◌, ap, ap₂, arith}
 use Rattle.std.proofs.lemmas.Bool.{cases_lt}
 use Rattle.std.proofs.Math.Seq.{take-nil, drop-nil}
-use Rattle.std.proofs.lemmas.List.{drop-drop, length-drop, length-take-le, drop_all, take_all, take-map, drop-map}
+use Rattle.std.proofs.lemmas.List.{length-drop, length-take-le, drop_all, take_all, take-map, drop-map}
 use Rattle.std.specs.List.{slice_range}
 
 pub slice_range-none : {X : Type 0} (x : List X) (a b : ℕ) → b ≤ a → slice_range x a b ≡ []
@@ -64,31 +64,3 @@ slice_range-append xs ys a b =
 
 pub slice_range-map : {X Y : Type 0} (f : X → Y) (xs : List X) (a b : ℕ) → slice_range (map f xs) a b ≡ map f (slice_range xs a b)
 slice_range-map f xs a b = ap (take (b - a)) (drop-map f a xs) ∙ take-map f (b - a) (drop a xs)
-
--- A stretch of a text that is still to be copied.
-
--- a stretch goes on with the bytes after it
-pub stretch-more : (old t : List ℕ) (a i j : ℕ) → a ≤ i → i ≤ j → old ++ slice_range t a j ≡ (old ++ slice_range t a i) ++ slice_range t i j
-stretch-more old t a i j before forward =
-    let front : slice_range t a j ≡ slice_range t a i ++ slice_range t i j =
-    ap (λ n. take n (drop a t)) (omega arith) ∙ take-add (i - a) (j - i) (drop a t)
-    ∙ ap (λ v. take (i - a) (drop a t) ++ take (j - i) v) (drop-drop (i - a) a t ∙ ap (λ n. drop n t) (omega arith)) in
-    ap (λ v. old ++ v) front ∙ sym (append_assoc old (slice_range t a i) (slice_range t i j))
-
--- a run that is kept whole goes on with the stretch
-pub stretch-run : (old t : List ℕ) (a i j to : ℕ) → a ≤ i → i ≤ j → length (slice_range t i j) ≤ to
-    → old ++ slice_range t a j ≡ (old ++ slice_range t a i) ++ slice_range (slice_range t i j) 0 to
-stretch-run old t a i j to before forward whole =
-    stretch-more old t a i j before forward ∙ ap (λ v. (old ++ slice_range t a i) ++ v) (sym (slice_range-past (slice_range t i j) 0 to whole))
-
--- a sequence goes on with the stretch
-pub stretch-mark : (old t : List ℕ) {w : List ℕ} {a i start end : ℕ} → a ≤ i → start ≡ i → start < end → w ≡ slice_range t start end
-    → old ++ slice_range t a end ≡ (old ++ slice_range t a i) ++ w
-stretch-mark old t {w} {a} {i} {start} {end} before begins forward is =
-    stretch-more old t a i end before (omega (arith, begins)) ∙ ap (λ v. (old ++ slice_range t a i) ++ v) (ap (λ n. slice_range t n end) (sym begins) ∙ sym is)
-
--- what stands after a run, with its bytes by another name
-pub stretch-text : (old t : List ℕ) (a end from to : ℕ) {new w : List ℕ} {i start : ℕ} → new ≡ (old ++ slice_range t a start) ++ slice_range (slice_range t start end) from to
-    → start ≡ i → w ≡ slice_range t start end → new ≡ (old ++ slice_range t a i) ++ slice_range w from to
-stretch-text old t a end from to {new} {w} {i} {start} more begins is =
-    more ∙ ap₂ (λ n v. (old ++ slice_range t a n) ++ slice_range v from to) begins (sym is)

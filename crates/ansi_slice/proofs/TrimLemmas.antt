@@ -1,6 +1,6 @@
 -- What is left of a text without the white space at its ends is the slice over an interval.
 use Rattle.std.proofs.Common.{◌≡◌, ℕ, ◌+◌, ◌-◌, true, ◌&&◌, ◌==◌, List, [], ◌∷◌, ◌++◌, take, drop, length, refl, sym, ◌∙◌, ap, ap₂, subst, arith, slice_range, length-append, append_assoc}
-use Rattle.std.proofs.lemmas.Bool.{cond_both, and_parts, and_from}
+use Rattle.std.proofs.lemmas.Bool.{cond_both, and_parts}
 use Rattle.std.proofs.lemmas.Str.{encodes-append, chars-encodes, IsCharBoundary-at_seam}
 use Rattle.std.proofs.Math.Seq.{take-append_seam, drop-append_seam}
 use Rattle.std.specs.Str.{IsUtf8, IsCharBoundary, chars, trim_start, trim_end, trim, skip_leading_whitespace, drop_trailing_whitespace, encode_utf8_all, all_scalars}
@@ -64,14 +64,19 @@ is_trimmed x utf8 =
 from_is : (x : List ℕ) (is : IsTrimmed x) → (trim_interval x).0 ≡ length is.front
 from_is x is = omega (arith, ap length is.started, length-append is.front (trim_start x))
 
+-- what is left of the text from there on
+pub drop-trim_interval : (x : List ℕ) → IsUtf8 x → drop (trim_interval x).0 x ≡ trim_start x
+drop-trim_interval x utf8 =
+    let is = is_trimmed x utf8 in
+    ap (λ n. drop n x) (from_is x is) ∙ ap (drop (length is.front)) is.started ∙ drop-append_seam is.front (trim_start x)
+
 -- the slice over the interval is std's trim
 pub slice_range-trim_interval : (x : List ℕ) → IsUtf8 x → slice_range x (trim_interval x).0 (trim_interval x).1 ≡ trim x
 slice_range-trim_interval x utf8 =
     let is = is_trimmed x utf8 in
     let from = (trim_interval x).0 in
     let count : from + length (trim x) - from ≡ length (trim x) = omega arith in
-    let rest : drop from x ≡ trim_start x = ap (λ n. drop n x) (from_is x is) ∙ ap (drop (length is.front)) is.started ∙ drop-append_seam is.front (trim_start x) in
-    ap₂ take count rest ∙ ap (take (length (trim x))) is.ended ∙ take-append_seam (trim x) is.back
+    ap₂ take count (drop-trim_interval x utf8) ∙ ap (take (length (trim x))) is.ended ∙ take-append_seam (trim x) is.back
 
 -- The interval begins and ends at characters.
 
@@ -90,21 +95,3 @@ trim_ends x utf8 =
 
 pub trim_interval_boundaries : (x : List ℕ) → IsUtf8 x → IsCharBoundary x (trim_interval x).0 × IsCharBoundary x (trim_interval x).1
 trim_interval_boundaries x utf8 = (trim_begins x utf8, trim_ends x utf8)
-
--- what std's `trim_start` takes off is UTF-8 too
-pub trim_start-front : (x : List ℕ) → IsUtf8 x → (front : List ℕ) × IsUtf8 front × (x ≡ front ++ trim_start x)
-unfolding trim_start
-trim_start-front x utf8 =
-    let cs = utf8.0 in
-    let read : chars x ≡ cs = ap chars (sym utf8.1.1) ∙ chars-encodes cs utf8.1.0 in
-    let skip = skipped cs in
-    let left = skip_leading_whitespace cs in
-    let start : trim_start x ≡ encode_utf8_all left = ap (λ ds. encode_utf8_all (skip_leading_whitespace ds)) read in (
-      encode_utf8_all skip.0,
-      (skip.0, (scalars_before skip.0 left (sym (ap all_scalars skip.1) ∙ utf8.1.0), refl)),
-      sym utf8.1.1 ∙ ap encode_utf8_all skip.1 ∙ encodes-append skip.0 left ∙ ap (λ v. encode_utf8_all skip.0 ++ v) (sym start),
-    )
-  where
-    scalars_before : (cs ds : List ℕ) → all_scalars (cs ++ ds) ≡ true → all_scalars cs ≡ true
-    scalars_before [] ds all = refl
-    scalars_before (c ∷ cs) ds all = (let parts = and_parts _ _ all in and_from _ _ parts.0 (scalars_before cs ds parts.1))

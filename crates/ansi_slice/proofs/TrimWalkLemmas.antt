@@ -1,17 +1,23 @@
 -- White space at the front and at the end of a text, over the texts that are left.
-use Rattle.std.proofs.Common.{◌≡◌, ℕ, ◌+◌, ◌-◌, ◌<◌, ◌≤◌, inl, inr, Bool, true, false, ◌&&◌, ◌==◌, List, [], ◌∷◌, ◌++◌, length, drop, refl, sym, ◌∙◌, ap, ap₂, subst, arith, cond, length-append, max}
-use Rattle.std.proofs.lemmas.Bool.{cases_lt}
+use Rattle.std.proofs.Common.{◌≡◌, ℕ, ◌+◌, ◌-◌, ◌<◌, ◌≤◌, Bool, true, false, ◌&&◌, ◌==◌, List, [], ◌∷◌, ◌++◌, length, take, drop, take-add, refl, sym, ◌∙◌, ap, ap₂, subst, arith, cond, length-append}
 use Rattle.std.proofs.lemmas.Bool.Decides.{nat_tests}
-use Rattle.std.proofs.lemmas.Str.{chars-nil, encodes-append, encodes-chars, chars-append, length-le-encodes, IsUtf8-drop}
-use Rattle.std.specs.Str.{IsUtf8, chars, trim_start, trim_end, trim, skip_leading_whitespace, drop_trailing_whitespace, encode_utf8_all}
+use Rattle.std.proofs.lemmas.List.{take-append-le, length-drop}
+use Rattle.std.proofs.lemmas.Str.{chars-nil, encodes-append, encodes-chars, chars-append, length-le-encodes, IsUtf8-drop, IsUtf8-append, IsUtf8-take, IsCharBoundary-start, IsCharBoundary-from_take}
+use Rattle.std.proofs.Math.Seq.{take-append_seam}
+use Rattle.std.specs.Str.{IsUtf8, IsCharBoundary, chars, trim_start, trim_end, trim, skip_leading_whitespace, drop_trailing_whitespace, encode_utf8_all}
 use Rattle.std.specs.Char.{is_whitespace}
 use Rattle.ansi_items.specs.declared.ansitok.Item.{Item}
-use Rattle.ansi_items.specs.Pieces.{Piece, Text, pieces_of}
+use Rattle.ansi_items.specs.declared.ansitok.Kind.{Kind}
+use Rattle.ansi_items.specs.Pieces.{Piece, Text, ArePieces, pieces_of}
 use Rattle.ansi_items.specs.Plain.{plain_of, plain}
-use Rattle.ansi_slice.specs.Kept.{trim_interval}
+use Rattle.ansi_slice.specs.Kept.{kept, trim_interval, trimmed}
+use Rattle.ansi_slice.specs.Offsets.{sequences_up_to, offset_of, StandsIn, KeepsUpTo}
 use Rattle.ansi_items.specs.Scans.{Scan, Gives, pieces_left}
 use Rattle.ansi_items.proofs.Utf8Lemmas.{IsUtf8-plain}
-use Rattle.ansi_slice.proofs.TrimLemmas.{dropped, trim_start-front}
+use Rattle.ansi_items.proofs.PieceLemmas.{pieces_are}
+use Rattle.ansi_items.proofs.StepLemmas.{BeginsWithMark, plain_of-mark}
+use Rattle.ansi_slice.proofs.TrimLemmas.{dropped, drop-trim_interval}
+use Rattle.ansi_slice.proofs.OffsetLemmas.{IsPassed, passed-begin, passed-text, passed-mark, keeps-inside, plain-after, kept-front}
 
 -- the plain text of what a scanner has left is UTF-8
 pub IsUtf8-left : {old new : Scan} {item : Item} {text : List ℕ} → Gives old item new → old.text ≡ text → IsUtf8 text → IsUtf8 (plain_of (pieces_left new))
@@ -139,7 +145,7 @@ pub record IsEndSoFar (whole place end : ℕ) (left : List Piece) : Type 0 where
   pub white : length (trim_end (plain_of left)) ≡ 0 → end ≡ whole
   pub other : 0 < length (trim_end (plain_of left)) → place + length (trim_end (plain_of left)) ≡ whole
 
-pub end-begin : (t : List ℕ) → IsEndSoFar (length (trim_end (plain t))) 0 0 (pieces_of t)
+end-begin : (t : List ℕ) → IsEndSoFar (length (trim_end (plain t))) 0 0 (pieces_of t)
 end-begin t = record { white = λ none. sym none; other = λ some. omega arith }
 
 -- what the texts after this one make of the end
@@ -155,14 +161,14 @@ end-ahead {whole} {place} w ps so_far utf8 white = record {
 }
 
 -- over a text of white space alone
-pub end-white : {whole place end : ℕ} {w front : List ℕ} {left ps : List Piece} → IsEndSoFar whole place end left → left ≡ Text w ∷ ps → front ≡ trim_end w → IsUtf8 w
+end-white : {whole place end : ℕ} {w front : List ℕ} {left ps : List Piece} → IsEndSoFar whole place end left → left ≡ Text w ∷ ps → front ≡ trim_end w → IsUtf8 w
     → length front ≡ 0 → IsEndSoFar whole (place + length w) end ps
 end-white {whole} {place} {end} {w} {front} {left} {ps} so_far is front_is utf8 none =
     let first = subst (IsEndSoFar whole place end) is so_far in
     end-ahead w ps first utf8 (λ after. first.white (ap length (trim_end-white w (plain_of ps) utf8 after) ∙ sym (ap length front_is) ∙ none))
 
 -- over any other
-pub end-other : {whole place end : ℕ} {w front : List ℕ} {left ps : List Piece} → IsEndSoFar whole place end left → left ≡ Text w ∷ ps → front ≡ trim_end w → IsUtf8 w
+end-other : {whole place end : ℕ} {w front : List ℕ} {left ps : List Piece} → IsEndSoFar whole place end left → left ≡ Text w ∷ ps → front ≡ trim_end w → IsUtf8 w
     → 0 < length front → IsEndSoFar whole (place + length w) (place + length front) ps
 end-other {whole} {place} {end} {w} {front} {left} {ps} so_far is front_is utf8 some =
     let first = subst (IsEndSoFar whole place end) is so_far in
@@ -172,23 +178,90 @@ end-other {whole} {place} {end} {w} {front} {left} {ps} so_far is front_is utf8 
     let found : place + length (trim_end (w ++ plain_of ps)) ≡ whole = first.other (omega (arith, here, same, some)) in
     omega (arith, here, same, found))
 
-pub end-none : {whole place end : ℕ} {left : List Piece} → IsEndSoFar whole place end left → left ≡ [] → end ≡ whole
+end-none : {whole place end : ℕ} {left : List Piece} → IsEndSoFar whole place end left → left ≡ [] → end ≡ whole
 unfolding trim_end
 end-none {whole} {place} {end} so_far none =
     (subst (IsEndSoFar whole place end) none so_far).white (ap (λ cs. length (encode_utf8_all (drop_trailing_whitespace cs))) chars-nil)
 
--- the interval, by the white space at the front and the end of the rest
-pub trim_interval-ends : (x : List ℕ) → IsUtf8 x → trim_interval x ≡ (length x - length (trim_start x), max (length (trim_end x)) (length x - length (trim_start x)))
-trim_interval-ends x utf8 =
-    let from = length x - length (trim_start x) in
-    let split = trim_start-front x utf8 in
-    let size : length x ≡ length split.0 + length (trim_start x) = ap length split.2 ∙ length-append split.0 (trim_start x) in
-    let whole : length (trim_end x) ≡ length (trim_end (split.0 ++ trim_start x)) = ap (λ v. length (trim_end v)) split.2 in
-    ap (λ n. (from, n)) (elim (cases_lt 0 (length (trim x))) [
-      | inl some ↦ (
-          let ahead = ap length (trim_end-other split.0 (trim_start x) split.1 some) in
-          omega (arith, size, whole, ahead, length-append split.0 (trim x)))
-      | inr none ↦ (
-          let here = ap length (trim_end-white split.0 (trim_start x) split.1 (omega (arith, none))) in
-          omega (arith, size, whole, here, none, trim_end-shorter split.0 split.1))
-    ])
+-- over a mark
+end-mark : {whole place end : ℕ} {kind : Kind} {w : List ℕ} {left ps : List Piece} → IsEndSoFar whole place end left → BeginsWithMark kind w left ps → IsEndSoFar whole place end ps
+end-mark {whole} {place} {end} {ps = ps} so_far begins =
+    let same = ap plain_of begins.pieces ∙ plain_of-mark begins.mark ps begins.is_mark in
+    record {
+      white = λ none. so_far.white (ap (λ x. length (trim_end x)) same ∙ none);
+      other = λ some. ap (λ x. place + length (trim_end x)) (sym same) ∙ so_far.other (subst (λ x. 0 < length (trim_end x)) (sym same) some);
+    }
+
+-- The same, with how far it is in the text, and the offset of the end there.
+pub record IsSolidSoFar (t : List ℕ) (passed end : ℕ) (left : List Piece) : Type 0 where
+  pub place : ℕ
+  pub found : ℕ
+  pub ends : IsEndSoFar (length (trim_end (plain t))) place found left
+  pub way : IsPassed t place passed left
+  pub keeps : KeepsUpTo t found end
+
+pub solid-begin : (t : List ℕ) → IsUtf8 t → IsSolidSoFar t 0 0 (pieces_of t)
+solid-begin t utf8 = record { place = 0; found = 0; ends = end-begin t; way = passed-begin t; keeps = record { boundary = IsCharBoundary-start t utf8; bytes = refl } }
+
+pub solid-white : {t : List ℕ} {passed end : ℕ} {w front : List ℕ} {left ps : List Piece} (at : ℕ) → IsSolidSoFar t passed end left → left ≡ Text w ∷ ps → take at t ≡ take passed t ++ w
+    → front ≡ trim_end w → IsUtf8 w → length front ≡ 0 → IsSolidSoFar t at end ps
+solid-white {w = w} at so_far first more front_is utf8 none = record {
+  place = so_far.place + length w;
+  found = so_far.found;
+  ends = end-white so_far.ends first front_is utf8 none;
+  way = passed-text at so_far.way first more;
+  keeps = so_far.keeps;
+}
+
+-- what is left of a text without the white space at its end is how it begins
+trim_end-front : (x : List ℕ) → IsUtf8 x → take (length (trim_end x)) x ≡ trim_end x
+unfolding trim_end
+trim_end-front x utf8 =
+    let split = dropped (chars x) in
+    let kept = encode_utf8_all (drop_trailing_whitespace (chars x)) in
+    let all : x ≡ kept ++ encode_utf8_all split.0 = sym (encodes-chars x utf8) ∙ ap encode_utf8_all split.1 ∙ encodes-append (drop_trailing_whitespace (chars x)) split.0 in
+    ap (take (length kept)) all ∙ take-append_seam kept (encode_utf8_all split.0)
+
+pub solid-other : {t : List ℕ} {passed end : ℕ} {w front : List ℕ} {left ps : List Piece} (at : ℕ) → IsSolidSoFar t passed end left → left ≡ Text w ∷ ps → take at t ≡ take passed t ++ w
+    → pieces_of (drop passed t) ≡ left → IsUtf8 t → IsCharBoundary t passed → front ≡ trim_end w → IsUtf8 w → IsUtf8 front → 0 < length front → IsSolidSoFar t at (passed + length front) ps
+solid-other {t} {passed} {end} {w} {front} {left} {ps} at so_far first more there utf8 boundary front_is run_utf8 front_utf8 some =
+    let n = length front in
+    let are = subst (ArePieces (drop passed t)) (there ∙ first) (pieces_are (drop passed t)) in
+    let short : n ≤ length w = omega (arith, trim_end-shorter w run_utf8, ap length front_is) in
+    let all : take n w ≡ front = ap (λ u. take (length u) w) front_is ∙ trim_end-front w run_utf8 ∙ sym front_is in
+    let begins : take (passed + n) t ≡ take passed t ++ front
+    = take-add passed n t ∙ ap (λ v. take passed t ++ v) (ap (take n) are.1 ∙ take-append-le n w are.0 short ∙ all) in
+    let fits : passed + n ≤ length t = omega (arith, boundary.0, length-drop passed t, ap length are.1, length-append w are.0) in
+    record {
+      place = so_far.place + length w;
+      found = so_far.place + n;
+      ends = end-other so_far.ends first front_is run_utf8 some;
+      way = passed-text at so_far.way first more;
+      keeps = keeps-inside so_far.way first there short
+          (IsCharBoundary-from_take t (passed + n) utf8 fits (subst IsUtf8 (sym begins) (IsUtf8-append (take passed t) front (IsUtf8-take t passed utf8 boundary) front_utf8)));
+    }
+
+pub solid-mark : {t : List ℕ} {passed end : ℕ} {kind : Kind} {w : List ℕ} {left ps : List Piece} (at : ℕ) → IsSolidSoFar t passed end left → BeginsWithMark kind w left ps → take at t ≡ take passed t ++ w
+    → IsSolidSoFar t at end ps
+solid-mark at so_far begins more = record {
+  place = so_far.place;
+  found = so_far.found;
+  ends = end-mark so_far.ends begins;
+  way = passed-mark at so_far.way begins more;
+  keeps = so_far.keeps;
+}
+
+pub solid-end : {t : List ℕ} {passed end : ℕ} {left : List Piece} → IsSolidSoFar t passed end left → left ≡ [] → KeepsUpTo t (length (trim_end (plain t))) end
+solid-end {t} {passed} {end} so_far none = subst (λ n. KeepsUpTo t n end) (end-none so_far.ends none) so_far.keeps
+
+-- What is left of a text, by these ends: the end is that of what follows the start.
+pub trimmed-stretch : {t rest : List ℕ} {start from end : ℕ} → IsUtf8 t → start ≡ (trim_interval (plain t)).0 → StandsIn t start from → rest ≡ drop from t → KeepsUpTo rest (length (trim_end (plain rest))) end
+    → sequences_up_to start (pieces_of t) ++ (take end rest ++ kept (drop end rest) 0 0) ≡ trimmed t
+trimmed-stretch {t} {rest} {start} {from} {end} utf8 start_is stands is keeps =
+    let x = plain t in
+    let i = trim_interval x in
+    let after : rest ≡ drop (offset_of t i.0) t = is ∙ ap (λ n. drop n t) (stands.offset ∙ ap (offset_of t) start_is) in
+    let plain_rest : plain rest ≡ trim_start x = ap plain after ∙ plain-after t i.0 ∙ drop-trim_interval x (IsUtf8-plain t utf8) in
+    let count : i.1 - i.0 ≡ length (trim_end (plain rest)) = (let all : i.1 - i.0 ≡ length (trim x) = omega arith in all ∙ ap (λ u. length (trim_end u)) (sym plain_rest)) in
+    ap (λ n. sequences_up_to n (pieces_of t) ++ (take end rest ++ kept (drop end rest) 0 0)) start_is
+    ∙ sym (kept-front t i.0 i.1 (omega arith) ∙ ap (λ v. sequences_up_to i.0 (pieces_of t) ++ v) (ap₂ (λ u n. kept u 0 n) (sym after) count ∙ keeps.bytes))

@@ -21,3 +21,4 @@ pub mod Sides
 pub mod Kept
 pub mod Parts
 pub mod Searches
+pub mod Offsets

@@ -1,9 +1,10 @@
 -- The two sides of a text at a position.
-use Rattle.std.specs.Prelude.{ℕ, ◌-◌, ◌==◌, List, [], ◌++◌, length, take, drop, flat_map, nat_le, if◌then◌else◌}
+use Rattle.std.specs.Prelude.{ℕ, ◌-◌, ◌==◌, List, [], ◌∷◌, ◌++◌, length, take, drop, flat_map, nat_le, nat_lt, if◌then◌else◌}
 use Rattle.ansi_items.specs.Sequences.{is_sgr}
 use Rattle.ansi_items.specs.Pieces.{Piece, Text, Sequence, LoneEscape, spelling, pieces_of}
 use Rattle.ansi_items.specs.Plain.{Placed, places}
 use Rattle.ansi_style.specs.declared.state.rendition.Rendition.{Rendition}
+use Rattle.ansi_style.specs.Sgr.{apply}
 use Rattle.ansi_style.specs.Written.{start, close}
 use Rattle.ansi_style.specs.Styled.{style_at}
 
@@ -34,3 +35,10 @@ left_side t mid = flat_map (λ (p : Placed). left_part mid p.place (style_at t p
 -- the right side of t at mid
 unfoldable pub right_side : List ℕ → ℕ → List ℕ
 right_side t mid = flat_map (λ (p : Placed). right_part mid p.place (style_at t p.place) p.piece) (places (pieces_of t))
+
+-- what pieces give to a side before the plain byte n, where s is the style before them; no public contract cites it
+abbrev pub side_up_to : Rendition → ℕ → List Piece → List ℕ
+side_up_to s n [] = []
+side_up_to s n (Text w ∷ ps) = if nat_lt n (length w) then dressed s (take n w) else dressed s w ++ side_up_to s (n - length w) ps
+side_up_to s n (Sequence w ∷ ps) = copied (Sequence w) ++ side_up_to (apply s w) n ps
+side_up_to s n (LoneEscape ∷ ps) = copied LoneEscape ++ side_up_to s n ps

@@ -4,12 +4,13 @@ ghost use Rattle.std.specs.Str.{IsCharBoundary};
 ghost use Rattle.ansi_items.specs.Plain.{plain};
 ghost use Rattle.ansi_slice.specs.Positions.{is_good_position, is_char_boundary, is_good_range};
 
-mod ends;
+pub(crate) mod ends;
 mod matches;
+pub(crate) mod offsets;
 mod pattern;
 
 use ansi_items::ansitok::{Kind, Scanner};
-pub use ends::{ends_with, starts_with, suffix_start, trim_interval};
+pub use ends::{ends_with, starts_with};
 pub use matches::{find, find_from, first_in_run};
 
 /// Whether the position is good: a character of the plain text begins there, or it is the end of the
@@ -50,19 +51,4 @@ pub fn is_char_boundary(text: &str, index: usize) -> bool
         }
     }
     remaining == 0
-}
-
-/// Whether the range is good: its start and its end are, and its end is not below its start. (std;
-/// past the end, the Rust crate.)
-///
-/// Positions count bytes of the plain text. Takes no memory.
-pub fn is_good_range(text: &str, start: usize, end: Option<usize>) -> bool
-    ensures { result ≡ is_good_range (plain text.now) start end }
-{
-    match end {
-        Some(end) => {
-            start <= end && is_good_position(text, start) && is_good_position(text, end)
-        }
-        None => is_good_position(text, start),
-    }
 }

@@ -6,6 +6,7 @@ ghost use Rattle.ansi_items.specs.Plain.{plain, has_escape};
 mod cuts;
 mod kept;
 mod range;
+mod sequences;
 mod sides;
 
 use ansi_items::ESC;
@@ -13,7 +14,7 @@ use ansi_items::ansitok::{Kind, Scanner};
 pub use cuts::{cut_in, get_in};
 pub use kept::{strip_prefix_in, strip_suffix_in, trim_in};
 pub use range::AnsiRange;
-pub use sides::split_at_in;
+pub use sides::{left_in, right_in, split_at_in};
 use std::alloc::{AllocError, Allocator};
 use std::borrow::CowStr;
 

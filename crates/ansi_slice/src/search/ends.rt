@@ -1,10 +1,11 @@
 //! What a plain text begins and ends with, and its white space at both ends.
-ghost use Rattle.std.specs.Prelude.{◌≡◌, ◌-◌, Some, None, length, drop, nat_eq, if◌then◌else◌};
+ghost use Rattle.std.specs.Prelude.{◌≡◌, ◌-◌, MatchOption, length, drop, nat_eq, IsTrue, IsFalse};
 ghost use Rattle.std.specs.List.{starts_with, ends_with};
 ghost use Rattle.std.specs.Str.{trim_start, trim_end};
 ghost use Rattle.ansi_items.specs.Plain.{plain};
-ghost use Rattle.ansi_slice.specs.Kept.{trim_interval};
+ghost use Rattle.ansi_slice.specs.Offsets.{KeepsUpTo};
 
+use crate::search::offsets::offset_at;
 use ansi_items::ansitok::{Kind, Scanner};
 
 /// Whether the plain text begins with the pattern. (std.)
@@ -22,22 +23,37 @@ pub fn starts_with(text: &str, pat: &str) -> bool
 pub fn ends_with(text: &str, pat: &str) -> bool
     ensures { result ≡ ends_with nat_eq (plain text.now) pat.now }
 {
-    suffix_start(text, pat).is_some()
+    suffix_offset(text, pat).is_some()
 }
 
-/// Where a pattern that the plain text ends with begins, or `None` where it doesn't end with that.
-/// (std.)
+/// Where a pattern that the plain text ends with begins in the text, or `None` where it doesn't end
+/// with that. (std.)
 ///
-/// It counts bytes of the plain text. Takes no memory.
-pub fn suffix_start(text: &str, pat: &str) -> Option<usize>
-    ensures { result ≡ (if ends_with nat_eq (plain text.now) pat.now then Some (length (plain text.now) - length pat.now) else None) }
+/// Takes no memory.
+pub(crate) fn suffix_offset(text: &str, pat: &str) -> Option<usize>
+    ensures { MatchOption result (IsFalse (ends_with nat_eq (plain text.now) pat.now))
+        (λ i. IsTrue (ends_with nat_eq (plain text.now) pat.now) × KeepsUpTo text.now (length (plain text.now) - length pat.now) i) }
 {
-    let start = plain_len(text).saturating_sub(pat.len());
-    if stands_at(text, pat.as_bytes(), start) {
-        Some(start)
-    } else {
-        None
+    // The last run that is no shorter than the pattern, and how long the plain text is from there on:
+    // the pattern begins in that run, or after it.
+    let mut last = 0;
+    let mut len = 0;
+    for item in Scanner::new(text) {
+        if item.kind == Kind::Text {
+            let run = &text[item.start..item.end];
+            if pat.len() <= run.len() {
+                last = item.start;
+                len = 0;
+            }
+            len += run.len();
+        }
     }
+    let rest = &text[last..];
+    let place = len.saturating_sub(pat.len());
+    if !stands_at(rest, pat.as_bytes(), place) {
+        return None;
+    }
+    Some(last + offset_at(rest, place))
 }
 
 /// Whether the plain text goes on with the pattern from a place on.
@@ -63,33 +79,8 @@ pub(super) fn stands_at(text: &str, pat: &[u8], place: usize) -> bool
     rest.is_empty()
 }
 
-/// How many bytes the plain text has.
-fn plain_len(text: &str) -> usize
-    ensures { result ≡ length (plain text.now) }
-{
-    let mut len = 0;
-    for item in Scanner::new(text) {
-        if item.kind == Kind::Text {
-            len += item.end - item.start;
-        }
-    }
-    len
-}
-
-/// The interval of the plain text that is left without the white space at its ends. Where white space
-/// is all, it is empty, and stands at the end. (std's `trim`.)
-///
-/// It counts bytes of the plain text. Takes no memory.
-pub fn trim_interval(text: &str) -> (usize, usize)
-    ensures { result ≡ trim_interval (plain text.now) }
-{
-    let start = white_space_len(text);
-    let end = trimmed_end(text);
-    (start, end.max(start))
-}
-
 /// How many bytes the white space at the front of the plain text takes.
-fn white_space_len(text: &str) -> usize
+pub(crate) fn white_space_len(text: &str) -> usize
     ensures { result ≡ length (plain text.now) - length (trim_start (plain text.now)) }
 {
     let mut len = 0;
@@ -106,20 +97,19 @@ fn white_space_len(text: &str) -> usize
     len
 }
 
-/// Where the last character of the plain text ends that isn't white space, or 0 where there is none.
-fn trimmed_end(text: &str) -> usize
-    ensures { result ≡ length (trim_end (plain text.now)) }
+/// Where in the text the last character of the plain text ends that isn't white space, or 0 where there
+/// is none.
+pub(crate) fn solid_end(text: &str) -> usize
+    ensures { KeepsUpTo text.now (length (trim_end (plain text.now))) result }
 {
-    let mut place = 0;
     let mut end = 0;
     for item in Scanner::new(text) {
         if item.kind == Kind::Text {
             let run = &text[item.start..item.end];
             let front = run.trim_end();
             if !front.is_empty() {
-                end = place + front.len();
+                end = item.start + front.len();
             }
-            place += run.len();
         }
     }
     end

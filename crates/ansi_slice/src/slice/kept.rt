@@ -1,15 +1,16 @@
 //! Texts without a prefix, without a suffix, and without the white space at their ends.
-ghost use Rattle.std.specs.Prelude.{◌≡◌, ◌↔◌, ◌⊎◌, Some, [], IsTrue, IsFalse, IsNone, IsOk, IfOk, IfSome, nat_eq, string_bytes};
+ghost use Rattle.std.specs.Prelude.{◌≡◌, ◌++◌, ◌↔◌, ◌⊎◌, [], length, take, drop, IsTrue, IsFalse, IsNone, IsOk, IfOk, OnOk, IfSome, nat_eq, string_bytes};
 ghost use Rattle.std.specs.Cow.{cow_str_bytes, IsBorrowedStr};
 ghost use Rattle.std.specs.List.{starts_with, ends_with};
+ghost use Rattle.std.specs.Str.{IsCharBoundary};
 ghost use Rattle.ansi_items.specs.Plain.{plain, has_escape};
-ghost use Rattle.ansi_slice.specs.Positions.{is_good_range};
 ghost use Rattle.ansi_slice.specs.Kept.{kept, without_prefix, without_suffix, trimmed};
 
 use crate::search;
-use crate::slice::cuts::{after_run, between};
+use crate::search::ends::{solid_end, suffix_offset, white_space_len};
+use crate::search::offsets::offset_at;
 use crate::slice::has_any;
-use ansi_items::ansitok::{Kind, Scanner};
+use crate::slice::sequences::push_sequences;
 use std::alloc::{AllocError, Allocator};
 use std::borrow::CowStr;
 
@@ -34,11 +35,16 @@ pub fn strip_prefix_in<'t, A: Allocator>(
     if prefix.is_empty() {
         return Ok(Some(CowStr::Borrowed(text)));
     }
+    if !has_any(text) {
+        if !text.as_bytes().starts_with(prefix.as_bytes()) {
+            return Ok(None);
+        }
+        return Ok(Some(CowStr::Borrowed(&text[prefix.len()..])));
+    }
     if !search::starts_with(text, prefix) {
         return Ok(None);
     }
-    // No position of a text lies past this one, so it stands for the end.
-    Ok(Some(kept_in(alloc, text, prefix.len(), usize::MAX)?))
+    Ok(Some(CowStr::Owned(keep_from(alloc, text, prefix.len())?)))
 }
 
 /// As `AnsiStr::ansi_strip_suffix`, with an answer that lives as long as the text, and its memory taken from any allocator.
@@ -62,10 +68,18 @@ pub fn strip_suffix_in<'t, A: Allocator>(
     if suffix.is_empty() {
         return Ok(Some(CowStr::Borrowed(text)));
     }
-    match search::suffix_start(text, suffix) {
-        Some(end) => Ok(Some(kept_in(alloc, text, 0, end)?)),
-        None => Ok(None),
+    if !has_any(text) {
+        if !text.as_bytes().ends_with(suffix.as_bytes()) {
+            return Ok(None);
+        }
+        return Ok(Some(CowStr::Borrowed(&text[..text.len() - suffix.len()])));
     }
+    let Some(end) = suffix_offset(text, suffix) else {
+        return Ok(None);
+    };
+    let mut kept = String::with_capacity(alloc, text.len())?;
+    push_up_to(&mut kept, text, end)?;
+    Ok(Some(CowStr::Owned(kept)))
 }
 
 /// As `AnsiStr::ansi_trim`, with an answer that lives as long as the text, and its memory taken from any allocator.
@@ -80,54 +94,37 @@ pub fn trim_in<'t, A: Allocator>(alloc: A, text: &'t str) -> Result<CowStr<'t, A
     ensures borrowed { IfOk result (λ c. IsBorrowedStr c ↔ IsFalse (has_escape text.now)) }
     ensures takes_no_memory { IsFalse (has_escape text.now) → IsOk result }
 {
-    let (start, end) = search::trim_interval(text);
-    kept_in(alloc, text, start, end)
-}
-
-/// The plain bytes between two good positions, with every sequence at its place. A position past the
-/// end counts as the end.
-///
-/// It is a borrow where no ESC stands in the text, and then no memory is taken.
-fn kept_in<'t, A: Allocator>(
-    alloc: A,
-    text: &'t str,
-    start: usize,
-    end: usize,
-) -> Result<CowStr<'t, A>, AllocError>
-    requires { IsTrue (is_good_range (plain text.now) start (Some end)) }
-    ensures bytes { IfOk result (λ c. cow_str_bytes c ≡ kept text.now start end) }
-    ensures borrowed { IfOk result (λ c. IsBorrowedStr c ↔ IsFalse (has_escape text.now)) }
-    ensures takes_no_memory { IsFalse (has_escape text.now) → IsOk result }
-{
     if !has_any(text) {
-        return Ok(CowStr::Borrowed(between(text, start, end)));
+        return Ok(CowStr::Borrowed(text.trim()));
     }
-    Ok(CowStr::Owned(keep(alloc, text, start, end)?))
+    let start = white_space_len(text);
+    let rest = &text[offset_at(text, start)..];
+    let mut kept = String::with_capacity(alloc, text.len())?;
+    push_sequences(&mut kept, text, start)?;
+    push_up_to(&mut kept, rest, solid_end(rest))?;
+    Ok(CowStr::Owned(kept))
 }
 
-/// The same, written: the plain bytes between the positions, and every sequence.
-fn keep<A: Allocator>(
-    alloc: A,
-    text: &str,
-    start: usize,
-    end: usize,
-) -> Result<String<A>, AllocError>
-    requires { IsTrue (is_good_range (plain text.now) start (Some end)) }
-    ensures { IfOk result (λ s. string_bytes s ≡ kept text.now start end) }
+/// What is kept of a text from a position on, written: the sequences up to there, and all that follows.
+fn keep_from<A: Allocator>(alloc: A, text: &str, start: usize) -> Result<String<A>, AllocError>
+    requires { IsCharBoundary (plain text.now) start }
+    ensures { IfOk result (λ s. string_bytes s ≡ kept text.now start (length (plain text.now))) }
 {
-    // So many bytes are enough, and all of them are written where the end is that of the plain text.
-    let mut kept = String::with_capacity(alloc, text.len().saturating_sub(start))?;
-    let mut from = start;
-    let mut to = end;
-    let mut stretch = 0;
-    for item in Scanner::new(text) {
-        let piece = &text[item.start..item.end];
-        if item.kind == Kind::Text {
-            stretch = after_run(&mut kept, text, stretch, item, from, to)?;
-            from = from.saturating_sub(piece.len());
-            to = to.saturating_sub(piece.len());
-        }
-    }
-    kept.push_str(&text[stretch..])?;
+    let rest = &text[offset_at(text, start)..];
+    let mut kept = String::with_capacity(alloc, text.len())?;
+    push_sequences(&mut kept, text, start)?;
+    kept.push_str(rest)?;
     Ok(kept)
+}
+
+/// Appends a text up to an offset, and then its sequences alone. An `Err` means that memory is wanting;
+/// what was appended up to there stands.
+fn push_up_to<A: Allocator>(out: &mut String<A>, text: &str, end: usize) -> Result<(), AllocError>
+    requires { IsCharBoundary text.now end }
+    ensures { OnOk result (string_bytes out.new ≡ string_bytes out.old ++ (take end text.now ++ kept (drop end text.now) 0 0)) }
+{
+    let (front, rest) = text.split_at(end);
+    out.push_str(front)?;
+    // No position of a text lies past this one, so all sequences stand up to there.
+    push_sequences(out, rest, usize::MAX)
 }

@@ -4,9 +4,12 @@ ghost use Rattle.std.specs.Cow.{cow_str_bytes, IsBorrowedStr};
 ghost use Rattle.ansi_items.specs.Pieces.{pieces_of};
 ghost use Rattle.ansi_items.specs.Plain.{plain, is_text, has_escape};
 ghost use Rattle.ansi_slice.specs.Positions.{is_good_position};
-ghost use Rattle.ansi_slice.specs.Sides.{dressed, left_side, right_side};
+ghost use Rattle.ansi_slice.specs.Sides.{dressed, left_side, right_side, side_up_to};
+ghost use Rattle.ansi_slice.specs.Offsets.{StandsIn};
+ghost use Rattle.ansi_style.specs.Reading.{style_within};
 ghost use Rattle.ansi_style.specs.States.{rendition_of};
 
+use crate::search::offsets::walk_to;
 use crate::slice::has_any;
 use ansi_items::ansitok::{Kind, Scanner};
 use ansi_style::state::Style;
@@ -38,8 +41,54 @@ pub fn split_at_in<'t, A: Allocator + Copy>(
         let (left, right) = halves(text, mid);
         return Ok((CowStr::Borrowed(left), CowStr::Borrowed(right)));
     }
-    let (left, right) = write_sides(alloc, text, mid)?;
+    let mut style = styles::plain_style();
+    let mut left = String::new(alloc);
+    let end = write_side(&mut left, &mut style, text, mid)?;
+    let right = write_right(alloc, style, &text[end..])?;
     Ok((CowStr::Owned(left), CowStr::Owned(right)))
+}
+
+/// As the left of `split_at_in`, alone.
+pub fn left_in<'t, A: Allocator>(
+    alloc: A,
+    text: &'t str,
+    mid: usize,
+) -> Result<CowStr<'t, A>, AllocError>
+    requires { IsTrue (is_good_position (plain text.now) mid) }
+    ensures bytes { IfOk result (λ c. cow_str_bytes c ≡ left_side text.now mid) }
+    ensures borrowed { IfOk result (λ c. IsBorrowedStr c ↔ IsFalse (has_escape text.now)) }
+    ensures len { IfOk result (λ c. length (cow_str_bytes c) ≤ length text.now + 251 * (length (filter is_text (pieces_of text.now)) + 1)) }
+    ensures takes_no_memory { IsFalse (has_escape text.now) → IsOk result }
+{
+    if !has_any(text) {
+        let (left, _) = halves(text, mid);
+        return Ok(CowStr::Borrowed(left));
+    }
+    let mut style = styles::plain_style();
+    let mut left = String::new(alloc);
+    write_side(&mut left, &mut style, text, mid)?;
+    Ok(CowStr::Owned(left))
+}
+
+/// As the right of `split_at_in`, alone.
+pub fn right_in<'t, A: Allocator>(
+    alloc: A,
+    text: &'t str,
+    mid: usize,
+) -> Result<CowStr<'t, A>, AllocError>
+    requires { IsTrue (is_good_position (plain text.now) mid) }
+    ensures bytes { IfOk result (λ c. cow_str_bytes c ≡ right_side text.now mid) }
+    ensures borrowed { IfOk result (λ c. IsBorrowedStr c ↔ IsFalse (has_escape text.now)) }
+    ensures len { IfOk result (λ c. length (cow_str_bytes c) ≤ length text.now + 251 * (length (filter is_text (pieces_of text.now)) + 1)) }
+    ensures takes_no_memory { IsFalse (has_escape text.now) → IsOk result }
+{
+    if !has_any(text) {
+        let (_, right) = halves(text, mid);
+        return Ok(CowStr::Borrowed(right));
+    }
+    let mut style = styles::plain_style();
+    let from = walk_to(&mut style, text, mid).unwrap();
+    Ok(CowStr::Owned(write_right(alloc, style, &text[from..])?))
 }
 
 /// The bytes of a text before a good position, and those from there on. One past the end counts as
@@ -52,36 +101,48 @@ fn halves(text: &str, mid: usize) -> (&str, &str)
     text.split_at(mid.min(text.len()))
 }
 
-/// The sides of a text, written: each piece of a text item in the style there, and each sequence but
-/// the SGRs on the side where it stands.
-fn write_sides<A: Allocator + Copy>(
-    alloc: A,
+/// Appends what a text gives to a side before a position: each run of its plain text in the style there,
+/// and each sequence but the SGRs, which change the style. Gives where the position stands in the text.
+/// An `Err` means that memory is wanting; what was appended up to there stands.
+fn write_side<A: Allocator>(
+    out: &mut String<A>,
+    style: &mut Style,
     text: &str,
-    mid: usize,
-) -> Result<(String<A>, String<A>), AllocError>
-    requires { IsTrue (is_good_position (plain text.now) mid) }
-    ensures left { IfOk result (λ s. string_bytes s.0 ≡ left_side text.now mid) }
-    ensures right { IfOk result (λ s. string_bytes s.1 ≡ right_side text.now mid) }
+    position: usize,
+) -> Result<usize, AllocError>
+    requires { IsTrue (is_good_position (plain text.now) position) }
+    ensures bytes { OnOk result (string_bytes out.new ≡ string_bytes out.old ++ side_up_to (rendition_of style.old) position (pieces_of text.now)) }
+    ensures style { OnOk result (rendition_of style.new ≡ style_within (rendition_of style.old) text.now position) }
+    ensures offset { IfOk result (StandsIn text.now position) }
 {
-    let mut left = String::new(alloc);
-    let mut right = String::new(alloc);
-    let mut style = styles::plain_style();
-    let mut place = 0;
+    let mut remaining = position;
     for item in Scanner::new(text) {
         let piece = &text[item.start..item.end];
         match item.kind {
             Kind::Text => {
-                let (before, after) = halves(piece, mid.saturating_sub(place));
-                write_dressed(&mut left, &style, before)?;
-                write_dressed(&mut right, &style, after)?;
-                place += piece.len();
+                if remaining < piece.len() {
+                    write_dressed(out, style, &piece[..remaining])?;
+                    return Ok(item.start + remaining);
+                }
+                write_dressed(out, style, piece)?;
+                remaining -= piece.len();
             }
-            Kind::Sgr => styles::apply(&mut style, piece),
-            Kind::Other | Kind::Lone if place <= mid => left.push_str(piece)?,
-            Kind::Other | Kind::Lone => right.push_str(piece)?,
+            Kind::Sgr => styles::apply(style, piece),
+            Kind::Other | Kind::Lone => out.push_str(piece)?,
         }
     }
-    Ok((left, right))
+    Ok(text.len())
+}
+
+/// What a text gives to a side, written, where the style is that before it.
+fn write_right<A: Allocator>(alloc: A, style: Style, text: &str) -> Result<String<A>, AllocError>
+    ensures { IfOk result (λ s. string_bytes s ≡ side_up_to (rendition_of style) usize.MAX (pieces_of text.now)) }
+{
+    let mut style = style;
+    let mut right = String::new(alloc);
+    // No position of a text lies past this one, so it stands for the end.
+    write_side(&mut right, &mut style, text, usize::MAX)?;
+    Ok(right)
 }
 
 /// Appends a piece of text in a style: its start, the piece and its close, or nothing for an empty

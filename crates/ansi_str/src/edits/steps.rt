@@ -7,9 +7,10 @@ ghost use Rattle.ansi_str.specs.Edited.{edited_by, gives_borrow};
 ghost use Rattle.ansi_str.specs.Edits.{change_of};
 
 use crate::edits::Edit;
-use crate::slice::{get_in, split_at_in, strip_prefix_in, strip_suffix_in, trim_in};
+use crate::slice::{get_in, strip_prefix_in, strip_suffix_in, trim_in};
 use crate::split::part_in;
 use ansi_slice::search;
+use ansi_slice::slice::{left_in, right_in};
 use std::alloc::{AllocError, Allocator};
 use std::borrow::CowStr;
 
@@ -25,8 +26,8 @@ pub(crate) fn edit_once<'t, A: Allocator + Copy>(
 {
     match edit {
         Edit::Cut { start, end } => get_in(alloc, text, start, end),
-        Edit::Left(mid) => left_in(alloc, text, mid),
-        Edit::Right(mid) => right_in(alloc, text, mid),
+        Edit::Left(mid) => left_of(alloc, text, mid),
+        Edit::Right(mid) => right_of(alloc, text, mid),
         Edit::Part { pat, index } => part_in(alloc, text, pat, index),
         Edit::Prefix(prefix) => strip_prefix_in(alloc, text, prefix),
         Edit::Suffix(suffix) => strip_suffix_in(alloc, text, suffix),
@@ -35,7 +36,7 @@ pub(crate) fn edit_once<'t, A: Allocator + Copy>(
 }
 
 /// The text before a position, or `None` where that is bad, which takes no memory.
-fn left_in<'t, A: Allocator + Copy>(
+fn left_of<'t, A: Allocator + Copy>(
     alloc: A,
     text: &'t str,
     mid: usize,
@@ -47,12 +48,11 @@ fn left_in<'t, A: Allocator + Copy>(
     if !search::is_good_position(text, mid) {
         return Ok(None);
     }
-    let (left, _) = split_at_in(alloc, text, mid)?;
-    Ok(Some(left))
+    Ok(Some(left_in(alloc, text, mid)?))
 }
 
 /// The text from a position on, or `None` where that is bad, which takes no memory.
-fn right_in<'t, A: Allocator + Copy>(
+fn right_of<'t, A: Allocator + Copy>(
     alloc: A,
     text: &'t str,
     mid: usize,
@@ -64,8 +64,7 @@ fn right_in<'t, A: Allocator + Copy>(
     if !search::is_good_position(text, mid) {
         return Ok(None);
     }
-    let (_, right) = split_at_in(alloc, text, mid)?;
-    Ok(Some(right))
+    Ok(Some(right_in(alloc, text, mid)?))
 }
 
 /// What one edit makes of what the edits before it gave, or `None` where it is refused, which takes no

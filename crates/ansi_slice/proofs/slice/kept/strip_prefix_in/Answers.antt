@@ -1,12 +1,14 @@
-use Rattle.std.proofs.Common.{sym, ◌∙◌, ap, arith, length}
-use Rattle.std.proofs.lemmas.Bool.{and_from, le-leb, eqb-true}
-use Rattle.ansi_items.specs.Plain.{plain}
+use Rattle.std.proofs.Common.{sym, ◌∙◌, ap, ap₂, arith, length, IsFalse, nat_eq}
+use Rattle.std.proofs.lemmas.Bool.{eqb-true}
+use Rattle.std.specs.List.{starts_with}
+use Rattle.ansi_items.specs.Plain.{plain, has_escape}
 use Rattle.ansi_slice.specs.Kept.{kept}
-use Rattle.ansi_items.proofs.PlainLemmas.{length-plain}
-use Rattle.ansi_slice.proofs.PositionLemmas.{boundary_is_good, is_good_position-past}
+use Rattle.ansi_items.proofs.PlainLemmas.{plain-bare}
 use Rattle.ansi_items.proofs.Utf8Lemmas.{IsUtf8-plain}
+use Rattle.ansi_slice.proofs.PositionLemmas.{none_if_bad, some_if_good}
 use Rattle.ansi_slice.proofs.EndLemmas.{starts_with-boundary}
-use Rattle.ansi_slice.proofs.KeptWalkLemmas.{kept-all, kept-past}
+use Rattle.ansi_slice.proofs.SliceLemmas.{slice_range-past}
+use Rattle.ansi_slice.proofs.KeptWalkLemmas.{kept-all, kept-bare}
 use Rattle.ansi_slice.proofs.slice.kept.strip_prefix_in.Goals as goal
 
 -- without an empty prefix all is kept
@@ -16,14 +18,37 @@ returns-then-is_empty-clause-bytes g c =
     let none = eqb-true _ 0 (sym c.is_empty.ensures ∙ c.if-is_empty.true) in
     sym (ap (λ n. kept t n (length (plain t))) none ∙ kept-all t (length (plain t)) (omega arith))
 
--- a character begins after the prefix, and the largest position lies past the end of each text
-pub kept_in-requires : goal.kept_in-requires
-kept_in-requires g c =
+-- a character begins after the prefix
+pub keep_from-requires : goal.keep_from-requires
+keep_from-requires g c =
     let t = c.args.text.now in
-    let p = c.args.prefix.now in
-    let boundary = starts_with-boundary (plain t) p (IsUtf8-plain t c.utf8.text) c.utf8.prefix (sym c.starts_with.ensures ∙ c.if-not-starts_with.false) in
-    and_from _ _ (le-leb (length p) _ (omega arith))
-    (and_from _ _ (boundary_is_good (plain t) (length p) boundary) (is_good_position-past (plain t) _ (omega (arith, length-plain t))))
+    starts_with-boundary (plain t) c.args.prefix.now (IsUtf8-plain t c.utf8.text) c.utf8.prefix (sym c.starts_with-2.ensures ∙ c.if-not-starts_with-2.false)
 
-pub returns-clause-bytes : goal.returns-clause-bytes
-returns-clause-bytes g c = c.in_ok-kept_in.ensures.bytes ∙ kept-past c.args.text.now _ _ (omega arith)
+-- a text without ESC is its own plain text, and what is left of it is a slice
+
+pub returns-then-not-starts_with-clause-none : goal.returns-then-not-starts_with-clause-none
+returns-then-not-starts_with-clause-none g c =
+    let t = c.args.text.now in
+    let none : IsFalse (has_escape t) = sym c.has_any.ensures ∙ c.if-not-has_any.true in
+    none_if_bad (ap (λ x. starts_with nat_eq x c.args.prefix.now) (plain-bare t none)
+    ∙ sym (c.starts_with.ensures.value ∙ ap₂ (λ x p. starts_with nat_eq x p) c.as_bytes.ensures.value c.as_bytes-then-not-has_any.ensures.value) ∙ c.if-not-starts_with.true)
+
+pub range_from-requires : goal.range_from-requires
+range_from-requires g c =
+    let t = c.args.text.now in
+    λ some. starts_with-boundary t c.args.prefix.now c.utf8.text c.utf8.prefix
+    (sym (c.starts_with.ensures.value ∙ ap₂ (λ x p. starts_with nat_eq x p) c.as_bytes.ensures.value c.as_bytes-then-not-has_any.ensures.value) ∙ c.if-not-starts_with.false)
+
+pub returns-then-not-has_any-clause-none : goal.returns-then-not-has_any-clause-none
+returns-then-not-has_any-clause-none g c =
+    let t = c.args.text.now in
+    let none : IsFalse (has_escape t) = sym c.has_any.ensures ∙ c.if-not-has_any.true in
+    some_if_good (ap (λ x. starts_with nat_eq x c.args.prefix.now) (plain-bare t none)
+    ∙ sym (c.starts_with.ensures.value ∙ ap₂ (λ x p. starts_with nat_eq x p) c.as_bytes.ensures.value c.as_bytes-then-not-has_any.ensures.value) ∙ c.if-not-starts_with.false)
+
+pub returns-then-not-has_any-clause-bytes : goal.returns-then-not-has_any-clause-bytes
+returns-then-not-has_any-clause-bytes g c =
+    let t = c.args.text.now in
+    let n = length c.args.prefix.now in
+    let none : IsFalse (has_escape t) = sym c.has_any.ensures ∙ c.if-not-has_any.true in
+    c.range_from.ensures.value ∙ sym (kept-bare t n (length (plain t)) none ∙ slice_range-past t n (length (plain t)) (omega (arith, ap length (plain-bare t none))))

@@ -1,14 +1,12 @@
-use Rattle.std.proofs.Common.{◌≡◌, ℕ, ◌-◌, Bool, true, false, Some, None, if◌then◌else◌, refl, sym, ◌∙◌, ap, subst, arith, length, nat_eq, IsTrue}
-use Rattle.std.proofs.lemmas.Bool.{and_from, le-leb, eqb-true}
-use Rattle.std.proofs.lemmas.Str.{IsCharBoundary-start}
-use Rattle.std.specs.List.{ends_with}
-use Rattle.ansi_items.specs.Plain.{plain}
-use Rattle.ansi_slice.specs.Positions.{is_good_position}
+use Rattle.std.proofs.Common.{◌-◌, sym, ◌∙◌, ap, ap₂, arith, length, IsFalse, nat_eq}
+use Rattle.std.proofs.lemmas.Bool.{eqb-true}
+use Rattle.std.specs.List.{ends_with, slice_range}
+use Rattle.ansi_items.specs.Plain.{plain, has_escape}
 use Rattle.ansi_slice.specs.Kept.{kept}
-use Rattle.ansi_slice.proofs.PositionLemmas.{boundary_is_good}
-use Rattle.ansi_items.proofs.Utf8Lemmas.{IsUtf8-plain}
+use Rattle.ansi_items.proofs.PlainLemmas.{plain-bare}
+use Rattle.ansi_slice.proofs.PositionLemmas.{none_if_bad, some_if_good}
 use Rattle.ansi_slice.proofs.EndLemmas.{ends_with-boundary}
-use Rattle.ansi_slice.proofs.KeptWalkLemmas.{kept-all}
+use Rattle.ansi_slice.proofs.KeptWalkLemmas.{kept-all, kept-bare}
 use Rattle.ansi_slice.proofs.slice.kept.strip_suffix_in.Goals as goal
 
 -- without an empty suffix all is kept
@@ -18,16 +16,30 @@ returns-then-is_empty-clause-bytes g c =
     let none = eqb-true _ 0 (sym c.is_empty.ensures ∙ c.if-is_empty.true) in
     sym (ap (λ n. kept t 0 (length (plain t) - n)) none ∙ kept-all t (length (plain t) - 0) (omega arith))
 
-some_is : (b : Bool) (n k : ℕ) → Some k ≡ (if b then Some n else None) → (b ≡ true) × (k ≡ n)
-some_is true n k is = (refl, cc is)
-some_is false n k is = absurd (cc is)
+-- a text without ESC is its own plain text, and what is left of it is a slice
 
--- a character begins at the suffix, or it is the end
-pub kept_in-requires : goal.kept_in-requires
-kept_in-requires g c =
-    let x = plain c.args.text.now in
-    let p = c.args.suffix.now in
-    let found = some_is (ends_with nat_eq x p) (length x - length p) c.in-Some.end c.in-Some.ensures in
-    and_from _ _ (le-leb 0 c.in-Some.end (omega arith))
-    (and_from _ _ (boundary_is_good x 0 (IsCharBoundary-start x (IsUtf8-plain c.args.text.now c.utf8.text)))
-    (subst (λ n. IsTrue (is_good_position x n)) (sym found.1) (boundary_is_good x _ (ends_with-boundary x p c.utf8.suffix found.0))))
+pub returns-then-not-ends_with-clause-none : goal.returns-then-not-ends_with-clause-none
+returns-then-not-ends_with-clause-none g c =
+    let t = c.args.text.now in
+    let none : IsFalse (has_escape t) = sym c.has_any.ensures ∙ c.if-not-has_any.true in
+    none_if_bad (ap (λ x. ends_with nat_eq x c.args.suffix.now) (plain-bare t none)
+    ∙ sym (c.ends_with.ensures.value ∙ ap₂ (λ x p. ends_with nat_eq x p) c.as_bytes.ensures.value c.as_bytes-then-not-has_any.ensures.value) ∙ c.if-not-ends_with.true)
+
+pub range-requires-clause-end_boundary : goal.range-requires-clause-end_boundary
+range-requires-clause-end_boundary g c =
+    ends_with-boundary c.args.text.now c.args.suffix.now c.utf8.suffix
+    (sym (c.ends_with.ensures.value ∙ ap₂ (λ x p. ends_with nat_eq x p) c.as_bytes.ensures.value c.as_bytes-then-not-has_any.ensures.value) ∙ c.if-not-ends_with.false)
+
+pub returns-then-not-has_any-clause-none : goal.returns-then-not-has_any-clause-none
+returns-then-not-has_any-clause-none g c =
+    let t = c.args.text.now in
+    let none : IsFalse (has_escape t) = sym c.has_any.ensures ∙ c.if-not-has_any.true in
+    some_if_good (ap (λ x. ends_with nat_eq x c.args.suffix.now) (plain-bare t none)
+    ∙ sym (c.ends_with.ensures.value ∙ ap₂ (λ x p. ends_with nat_eq x p) c.as_bytes.ensures.value c.as_bytes-then-not-has_any.ensures.value) ∙ c.if-not-ends_with.false)
+
+pub returns-then-not-has_any-clause-bytes : goal.returns-then-not-has_any-clause-bytes
+returns-then-not-has_any-clause-bytes g c =
+    let t = c.args.text.now in
+    let n = length c.args.suffix.now in
+    let none : IsFalse (has_escape t) = sym c.has_any.ensures ∙ c.if-not-has_any.true in
+    c.range.ensures.value ∙ sym (kept-bare t 0 (length (plain t) - n) none ∙ ap (λ x. slice_range t 0 (length x - n)) (plain-bare t none))

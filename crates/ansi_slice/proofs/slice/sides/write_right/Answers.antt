@@ -1,0 +1,9 @@
+use Rattle.std.proofs.Common.{arith}
+use Rattle.ansi_items.specs.Plain.{plain}
+use Rattle.ansi_items.proofs.PlainLemmas.{length-plain}
+use Rattle.ansi_slice.proofs.PositionLemmas.{is_good_position-past}
+use Rattle.ansi_slice.proofs.slice.sides.write_right.Goals as goal
+
+-- the largest position lies past the end of each text
+pub write_side-requires : goal.write_side-requires
+write_side-requires g c = is_good_position-past (plain c.args.text.now) _ (omega (arith, length-plain c.args.text.now))

@@ -1,0 +1,16 @@
+use Rattle.std.proofs.Common.{◌≡◌, ◌++◌, string_bytes}
+use Rattle.ansi_items.specs.Pieces.{pieces_of}
+use Rattle.ansi_items.specs.Scans.{pieces_left}
+use Rattle.ansi_style.specs.States.{rendition_of}
+use Rattle.ansi_slice.specs.Sides.{side_up_to}
+use Rattle.ansi_slice.proofs.OffsetLemmas.{IsOnTheWay}
+use Rattle.ansi_slice.proofs.SideWalkLemmas.{IsSideSoFar}
+use Rattle.ansi_slice.proofs.slice.sides.write_side.Given as goal
+
+-- what is written, and what the pieces that are left give before the position, are all
+abbrev pub invariant-loop-item : goal.invariant-loop-item
+invariant-loop-item g l = record {
+  text : l.item-iterator.text ≡ l.text;
+  way : IsOnTheWay l.text l.position (rendition_of l.initial.style) l.item-iterator.offset l.remaining (rendition_of l.style) (pieces_left l.item-iterator);
+  so_far : IsSideSoFar (string_bytes l.initial.out ++ side_up_to (rendition_of l.initial.style) l.position (pieces_of l.text)) (string_bytes l.out) (rendition_of l.style) l.remaining (pieces_left l.item-iterator);
+}

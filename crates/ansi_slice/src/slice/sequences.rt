@@ -1,0 +1,31 @@
+//! The sequences of a text, without its plain text.
+ghost use Rattle.std.specs.Prelude.{◌≡◌, ◌++◌, OnOk, string_bytes};
+ghost use Rattle.ansi_items.specs.Pieces.{pieces_of};
+ghost use Rattle.ansi_slice.specs.Offsets.{sequences_up_to};
+
+use ansi_items::ansitok::{Kind, Scanner};
+use std::alloc::{AllocError, Allocator};
+
+/// Appends every sequence of a text up to a position. An `Err` means that memory is wanting; what was
+/// appended up to there stands.
+pub(super) fn push_sequences<A: Allocator>(
+    out: &mut String<A>,
+    text: &str,
+    position: usize,
+) -> Result<(), AllocError>
+    ensures { OnOk result (string_bytes out.new ≡ string_bytes out.old ++ sequences_up_to position (pieces_of text.now)) }
+{
+    let mut remaining = position;
+    for item in Scanner::new(text) {
+        let piece = &text[item.start..item.end];
+        if item.kind == Kind::Text {
+            if remaining < piece.len() {
+                return Ok(());
+            }
+            remaining -= piece.len();
+        } else {
+            out.push_str(piece)?;
+        }
+    }
+    Ok(())
+}
