@@ -304,14 +304,14 @@ static inline ansi_str_answer ansi_str_block(const char *text, size_t text_len, 
 }
 
 /* The sequences that set the style of the block of an index: 163 bytes at most. ANSI_STR_NO: there are not so many
-   blocks. */
+   blocks. Takes memory also on a text without ESC. */
 static inline ansi_str_answer ansi_str_block_start(const char *text, size_t text_len, size_t index, char *buffer,
                                                    size_t buffer_len) {
     return ansi_str_raw_block_start(ansi_str_bytes(text), text_len, index, ansi_str_room(buffer), buffer_len);
 }
 
 /* The sequences that end the style of the block of an index: 88 bytes at most. ANSI_STR_NO: there are not so many
-   blocks. */
+   blocks. Takes memory also on a text without ESC. */
 static inline ansi_str_answer ansi_str_block_end(const char *text, size_t text_len, size_t index, char *buffer,
                                                  size_t buffer_len) {
     return ansi_str_raw_block_end(ansi_str_bytes(text), text_len, index, ansi_str_room(buffer), buffer_len);

@@ -5,6 +5,8 @@
 
 pub mod answers;
 pub mod blocks;
+pub mod edits;
+pub mod lists;
 pub mod searches;
 pub mod styles;
 pub mod texts;

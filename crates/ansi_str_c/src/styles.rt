@@ -1,5 +1,6 @@
 //! The style of a block as data.
 ghost use Rattle.std.specs.Prelude.{◌≡◌, if◌then◌else◌};
+ghost use Rattle.ansi_str.specs.Rendition.{plain_style};
 ghost use Rattle.ansi_str.specs.States.{rendition_of};
 ghost use Rattle.ansi_str_c.specs.Styles.{color_data, style_data, attributes_of};
 
@@ -104,6 +105,7 @@ impl StyleData {
     }
 
     /// A style in which nothing is set.
+    #[tactic(auto, unfolding(crate::specs::Styles::attributes_of))]
     pub fn empty() -> StyleData
         ensures { result ≡ style_data plain_style }
     {
@@ -124,6 +126,7 @@ fn set_if(is_set: bool, attribute: u32) -> u32
 }
 
 /// The set of the attributes of a style.
+#[tactic(auto, unfolding(crate::specs::Styles::attributes_of))]
 fn attributes(style: &Style) -> u32
     ensures { result ≡ attributes_of (rendition_of style.now) }
 {

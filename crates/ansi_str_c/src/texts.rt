@@ -142,7 +142,7 @@ pub extern "C" fn ansi_str_raw_part(
 }
 
 /// Writes what edits make of a text, or answers a status where one is refused.
-fn write_edited(
+pub(crate) fn write_edited(
     alloc: Global,
     text: &[u8],
     edits: &[Edit<'_>],
