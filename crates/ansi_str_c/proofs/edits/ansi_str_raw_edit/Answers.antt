@@ -17,4 +17,4 @@ returns-in-Ok-Some c =
 pub returns-in-Ok-None : goal.returns-in-Ok-None
 returns-in-Ok-None c =
     let bad = rw c.in-Ok-None.field-0-is at c.in-Ok-None.ensures in
-    inl (OnUtf8-not (c.args.text.now ∷ patterns_of c.args.steps.now) (ap (λ others. is_utf8 c.args.text.now && others) bad ∙ and-false _) (c.failed.ensures, refl))
+    inl (OnUtf8-not (c.args.text.now ∷ patterns_of c.args.steps.now) _ _ (ap (λ others. is_utf8 c.args.text.now && others) bad ∙ and-false _) (c.failed.ensures, refl))
