@@ -1,0 +1,378 @@
+/* Passes rows of texts and answers through the calls, and ends with 1 where one differs.
+
+   A row is one line of standard input, its fields stand between TABs: a call, the status, the answer, the text, and then
+   what else the call takes. `\xHH` is the byte HH in a field. The answer is a text, or the length where a call
+   writes none; for `split` and `blocks` it is how many there are, and what they give follows what they take.
+
+   Each text is also asked for with a buffer that is one byte too small, with one that is larger, and with each request
+   for memory refused in turn: then nothing may be written, past the answer's length or at all. */
+#include "ansi_str.h"
+
+#include <stdio.h>
+#include <stdlib.h>
+#include <string.h>
+
+enum { MOST_FIELDS = 4096, GUARD = 0x5a };
+
+/* Requests for memory that are still granted; a negative number grants all. */
+static long granted = -1;
+
+void *__real_malloc(size_t size);
+void *__real_realloc(void *block, size_t size);
+void *__wrap_malloc(size_t size);
+void *__wrap_realloc(void *block, size_t size);
+
+static int is_refused(void) {
+    if (granted == 0) {
+        return 1;
+    }
+    if (granted > 0) {
+        granted--;
+    }
+    return 0;
+}
+
+void *__wrap_malloc(size_t size) { return is_refused() ? NULL : __real_malloc(size); }
+
+void *__wrap_realloc(void *block, size_t size) { return is_refused() ? NULL : __real_realloc(block, size); }
+
+struct text {
+    char *bytes;
+    size_t len;
+};
+
+struct row {
+    struct text fields[MOST_FIELDS];
+    size_t count;
+};
+
+static long line_number = 0;
+
+static void expect(const char *what, int is_so) {
+    if (!is_so) {
+        fprintf(stderr, "vectors: line %ld: %s\n", line_number, what);
+        exit(1);
+    }
+}
+
+static size_t number(const struct row *r, size_t i) {
+    expect("a number", i < r->count);
+    return (size_t)strtoull(r->fields[i].bytes, NULL, 10);
+}
+
+static uint32_t status_of(const struct row *r) { return (uint32_t)number(r, 1); }
+
+static const struct text *text_of(const struct row *r) { return &r->fields[3]; }
+
+/* What a row takes beside its text. */
+static const struct text *argument(const struct row *r, size_t i) {
+    expect("an argument", 4 + i < r->count);
+    return &r->fields[4 + i];
+}
+
+static size_t position(const struct row *r, size_t i) { return number(r, 4 + i); }
+
+#define TEXT(t) (t)->bytes, (t)->len
+
+/* The edits of a row, each of a kind, two numbers and a pattern. */
+static ansi_str_edit_step *edits_of(const struct row *r, size_t *count) {
+    *count = (r->count - 4) / 4;
+    ansi_str_edit_step *edits = __real_malloc((*count + 1) * sizeof *edits);
+    for (size_t i = 0; i < *count; i++) {
+        edits[i] = ansi_str_edit_of((uint32_t)position(r, 4 * i), position(r, 4 * i + 1), position(r, 4 * i + 2),
+                                    TEXT(argument(r, 4 * i + 3)));
+    }
+    return edits;
+}
+
+/* One call of a row that writes a text. */
+static ansi_str_answer call(const struct row *r, char *buffer, size_t len) {
+    const char *name = r->fields[0].bytes;
+    const struct text *t = text_of(r);
+    if (strcmp(name, "strip") == 0) {
+        return ansi_str_strip(TEXT(t), buffer, len);
+    } else if (strcmp(name, "cut") == 0) {
+        return ansi_str_cut(TEXT(t), position(r, 0), position(r, 1), buffer, len);
+    } else if (strcmp(name, "left") == 0) {
+        return ansi_str_left(TEXT(t), position(r, 0), buffer, len);
+    } else if (strcmp(name, "right") == 0) {
+        return ansi_str_right(TEXT(t), position(r, 0), buffer, len);
+    } else if (strcmp(name, "trim") == 0) {
+        return ansi_str_trim(TEXT(t), buffer, len);
+    } else if (strcmp(name, "strip_prefix") == 0) {
+        return ansi_str_strip_prefix(TEXT(t), TEXT(argument(r, 0)), buffer, len);
+    } else if (strcmp(name, "strip_suffix") == 0) {
+        return ansi_str_strip_suffix(TEXT(t), TEXT(argument(r, 0)), buffer, len);
+    } else if (strcmp(name, "part") == 0) {
+        return ansi_str_part(TEXT(t), TEXT(argument(r, 0)), position(r, 1), buffer, len);
+    } else if (strcmp(name, "block") == 0) {
+        return ansi_str_block(TEXT(t), position(r, 0), buffer, len);
+    } else if (strcmp(name, "block_start") == 0) {
+        return ansi_str_block_start(TEXT(t), position(r, 0), buffer, len);
+    } else if (strcmp(name, "block_end") == 0) {
+        return ansi_str_block_end(TEXT(t), position(r, 0), buffer, len);
+    }
+    expect("the call is known", strcmp(name, "edit") == 0);
+    size_t count;
+    ansi_str_edit_step *edits = edits_of(r, &count);
+    ansi_str_answer answer = ansi_str_edit(TEXT(t), edits, count, buffer, len);
+    free(edits);
+    return answer;
+}
+
+/* A buffer whose bytes all are GUARD. */
+static char *guarded(size_t len) {
+    char *buffer = __real_malloc(len + 1);
+    memset(buffer, GUARD, len + 1);
+    return buffer;
+}
+
+static int is_guard(const char *buffer, size_t start, size_t end) {
+    for (size_t i = start; i < end; i++) {
+        if (buffer[i] != GUARD) {
+            return 0;
+        }
+    }
+    return 1;
+}
+
+/* A call with a buffer of so many bytes answers and writes this text, or fails. */
+static void expect_text(const struct row *r, uint32_t status, const struct text *wanted, size_t room) {
+    char *buffer = guarded(room);
+    ansi_str_answer answer = call(r, buffer, room);
+    if (status == ANSI_STR_OK && room < wanted->len) {
+        status = ANSI_STR_TOO_SMALL;
+    }
+    int is_told = status == ANSI_STR_OK || status == ANSI_STR_TOO_SMALL;
+    expect("status", answer.status == status);
+    expect("length", answer.len == (is_told ? wanted->len : 0));
+    size_t written = status == ANSI_STR_OK ? answer.len : 0;
+    expect("text", memcmp(buffer, wanted->bytes, written) == 0);
+    expect("nothing more is written", is_guard(buffer, written, room + 1));
+    free(buffer);
+}
+
+/* The call with a buffer of the right size, with others, and with each request for memory refused in turn. */
+static void expect_writes(const struct row *r, uint32_t status, const struct text *wanted) {
+    expect_text(r, status, wanted, wanted->len);
+    expect_text(r, status, wanted, wanted->len + 7);
+    if (wanted->len > 0) {
+        expect_text(r, status, wanted, wanted->len - 1);
+        expect_text(r, status, wanted, 0);
+    }
+    char *buffer = guarded(wanted->len);
+    for (long requests = 0;; requests++) {
+        granted = requests;
+        ansi_str_answer answer = call(r, buffer, wanted->len);
+        granted = -1;
+        if (answer.status != ANSI_STR_OUT_OF_MEMORY) {
+            expect("status with little memory", answer.status == status);
+            break;
+        }
+        expect("length with little memory", answer.len == 0);
+        expect("the buffer with little memory", is_guard(buffer, 0, wanted->len + 1));
+    }
+    free(buffer);
+}
+
+/* A call that only tells. */
+static int expect_told(const struct row *r) {
+    const char *name = r->fields[0].bytes;
+    const struct text *t = text_of(r);
+    ansi_str_answer answer;
+    if (strcmp(name, "find") == 0) {
+        answer = ansi_str_find(TEXT(t), TEXT(argument(r, 0)));
+    } else if (strcmp(name, "starts_with") == 0) {
+        answer = ansi_str_starts_with(TEXT(t), TEXT(argument(r, 0)));
+    } else if (strcmp(name, "ends_with") == 0) {
+        answer = ansi_str_ends_with(TEXT(t), TEXT(argument(r, 0)));
+    } else if (strcmp(name, "is_char_boundary") == 0) {
+        answer = ansi_str_is_char_boundary(TEXT(t), position(r, 0));
+    } else if (strcmp(name, "is_whole") == 0) {
+        answer = ansi_str_is_whole(TEXT(t));
+    } else if (strcmp(name, "has_any") == 0) {
+        answer = ansi_str_has_any(TEXT(t));
+    } else {
+        return 0;
+    }
+    expect("status", answer.status == status_of(r));
+    expect("position", answer.len == number(r, 2));
+    return 1;
+}
+
+/* A row of its own for one part or block of a row. */
+static void expect_one(const struct row *r, const char *name, uint32_t status, size_t index, const struct text *wanted) {
+    static struct row one;
+    static char digits[32];
+    one = *r;
+    snprintf(digits, sizeof digits, "%zu", index);
+    size_t at = strcmp(name, "part") == 0 ? 5 : 4;
+    one.fields[0].bytes = (char *)(uintptr_t)name;
+    one.fields[at].bytes = digits;
+    one.fields[at].len = strlen(digits);
+    one.count = at + 1;
+    expect_writes(&one, status, wanted);
+}
+
+static const struct text EMPTY = {(char *)(uintptr_t)"", 0};
+
+/* All parts, in one call and by their index. */
+static void expect_parts(const struct row *r) {
+    const struct text *t = text_of(r), *pattern = argument(r, 0);
+    size_t count = number(r, 2), len = 0;
+    const struct text *parts = &r->fields[5];
+    expect("parts", r->count == 5 + count);
+    for (size_t i = 0; i < count; i++) {
+        len += parts[i].len;
+    }
+    size_t *ends = __real_malloc((count + 1) * sizeof *ends);
+    char *buffer = guarded(len);
+    ends[count] = 0;
+    uint32_t status = status_of(r);
+    ansi_str_answers answer = {0, 0, 0};
+    for (long requests = 0;; requests++) {
+        granted = requests;
+        answer = ansi_str_split(TEXT(t), TEXT(pattern), buffer, len, ends, count);
+        granted = -1;
+        if (answer.status != ANSI_STR_OUT_OF_MEMORY) {
+            break;
+        }
+        expect("the buffer with little memory", is_guard(buffer, 0, len + 1));
+    }
+    expect("status", answer.status == status);
+    expect("how many and how long", answer.count == count && answer.len == len && buffer[len] == GUARD && ends[count] == 0);
+    size_t start = 0;
+    for (size_t i = 0; i < count; i++) {
+        expect("part", ends[i] == start + parts[i].len && memcmp(buffer + start, parts[i].bytes, parts[i].len) == 0);
+        start = ends[i];
+        expect_one(r, "part", status, i, &parts[i]);
+    }
+    if (status == ANSI_STR_OK) {
+        expect_one(r, "part", ANSI_STR_NO, count, &EMPTY);
+        memset(buffer, GUARD, len);
+        answer = ansi_str_split(TEXT(t), TEXT(pattern), buffer, len, ends, count - 1);
+        expect("too few ends", answer.status == ANSI_STR_TOO_SMALL && answer.count == count && answer.len == len);
+        if (len > 0) {
+            answer = ansi_str_split(TEXT(t), TEXT(pattern), buffer, len - 1, ends, count);
+            expect("too small a buffer", answer.status == ANSI_STR_TOO_SMALL && answer.count == count && answer.len == len);
+        }
+        expect("nothing is written", is_guard(buffer, 0, len + 1));
+    }
+    free(buffer);
+    free(ends);
+}
+
+/* A color as a row has it: its kind and its numbers. */
+static int is_color(const ansi_str_color *color, const struct text *wanted) {
+    char text[64];
+    snprintf(text, sizeof text, "%u,%u,%u,%u,%u", (unsigned)color->kind, color->number, color->red, color->green, color->blue);
+    return strcmp(text, wanted->bytes) == 0;
+}
+
+/* A style as a row has it: its attributes, two colors, and whether it has something to end. */
+static int is_style(const struct row *r, size_t i, const ansi_str_style *style) {
+    return style->attributes == number(r, i) && is_color(&style->foreground, &r->fields[i + 1]) &&
+           is_color(&style->background, &r->fields[i + 2]) && (size_t)style->has_any == number(r, i + 3);
+}
+
+/* All blocks, in one call and by their index. */
+static void expect_blocks(const struct row *r) {
+    const struct text *t = text_of(r);
+    size_t count = number(r, 2), len = 0;
+    expect("blocks", r->count == 4 + 5 * count);
+    for (size_t i = 0; i < count; i++) {
+        len += r->fields[4 + 5 * i].len;
+    }
+    ansi_str_block_entry *blocks = __real_malloc((count + 1) * sizeof *blocks);
+    char *buffer = guarded(len);
+    uint32_t status = status_of(r);
+    ansi_str_answers answer = {0, 0, 0};
+    for (long requests = 0;; requests++) {
+        granted = requests;
+        answer = ansi_str_blocks(TEXT(t), buffer, len, blocks, count);
+        granted = -1;
+        if (answer.status != ANSI_STR_OUT_OF_MEMORY) {
+            break;
+        }
+        expect("the buffer with little memory", is_guard(buffer, 0, len + 1));
+    }
+    expect("status", answer.status == status);
+    expect("how many and how long", answer.count == count && answer.len == len && buffer[len] == GUARD);
+    size_t start = 0;
+    for (size_t i = 0; i < count; i++) {
+        const struct text *block = &r->fields[4 + 5 * i];
+        expect("block", blocks[i].end == start + block->len && memcmp(buffer + start, block->bytes, block->len) == 0);
+        start = blocks[i].end;
+        expect("style", is_style(r, 5 + 5 * i, &blocks[i].style));
+        expect_one(r, "block", status, i, block);
+        ansi_str_style_answer style = ansi_str_block_style(TEXT(t), i);
+        expect("its style", style.status == ANSI_STR_OK && is_style(r, 5 + 5 * i, &style.style));
+    }
+    uint32_t past = status == ANSI_STR_OK ? ANSI_STR_NO : status;
+    expect("no style", ansi_str_block_style(TEXT(t), count).status == past);
+    expect_one(r, "block", past, count, &EMPTY);
+    if (count > 0) {
+        answer = ansi_str_blocks(TEXT(t), buffer, len, blocks, count - 1);
+        expect("too few entries", answer.status == ANSI_STR_TOO_SMALL && answer.count == count && answer.len == len);
+    }
+    free(buffer);
+    free(blocks);
+}
+
+/* The byte of two hexadecimal digits. */
+static char byte_of(const char *digits) {
+    char two[3] = {digits[0], digits[1], 0};
+    return (char)strtol(two, NULL, 16);
+}
+
+/* The fields of a line, which is changed: each field ends with a 0. */
+static void read_row(char *line, struct row *r) {
+    r->count = 0;
+    char *to = line;
+    for (char *from = line;; from++) {
+        if (r->count == 0 || *from == '\t' || *from == '\n') {
+            int is_first = r->count == 0;
+            if (!is_first) {
+                r->fields[r->count - 1].len = (size_t)(to - r->fields[r->count - 1].bytes);
+                char end = *from;
+                *to++ = 0;
+                if (end == '\n') {
+                    return;
+                }
+            }
+            expect("fields", r->count < MOST_FIELDS);
+            r->fields[r->count].bytes = to;
+            r->count++;
+            if (!is_first) {
+                continue;
+            }
+        }
+        if (*from == '\\') {
+            *to++ = byte_of(from + 2);
+            from += 3;
+        } else {
+            *to++ = *from;
+        }
+    }
+}
+
+int main(void) {
+    static struct row r;
+    char *line = NULL;
+    size_t size = 0;
+    while (getline(&line, &size, stdin) > 0) {
+        line_number++;
+        read_row(line, &r);
+        expect("a row", r.count >= 4);
+        if (strcmp(r.fields[0].bytes, "split") == 0) {
+            expect_parts(&r);
+        } else if (strcmp(r.fields[0].bytes, "blocks") == 0) {
+            expect_blocks(&r);
+        } else if (!expect_told(&r)) {
+            expect_writes(&r, status_of(&r), &r.fields[2]);
+        }
+    }
+    free(line);
+    printf("vectors: %ld rows are as they should be\n", line_number);
+    return 0;
+}

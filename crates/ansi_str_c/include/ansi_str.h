@@ -1,0 +1,402 @@
+/* Text with ANSI control sequences, taken as if the sequences weren't there.
+
+   The plain text is the text without its sequences. Positions and lengths count bytes: positions those
+   of the plain text, lengths those of what is written. A position past the end of the plain text counts
+   as its end, so SIZE_MAX is the end of a cut that goes up to the end.
+
+   A call takes texts and patterns, each as a pointer and a length. They are UTF-8, need no 0 at their end
+   and may hold one, and are read during the call alone. What a call gives it writes into a buffer of the caller's.
+   So nothing is borrowed, and there is nothing to free. A buffer must not overlap a text or a pattern.
+
+   A pointer may be NULL where its length is 0.
+
+   A call has no state: any number may run at once, in any threads. It takes memory by `malloc` and gives it back by
+   `free` before it returns, where it has to: never on a text without ESC, unless that is said of it. It must not
+   run in a signal handler, nor in the forked child of a process with threads.
+
+   Link with libansi_str_c.a and, after it, with liblibc_c.a of the kit (README.md says where they lie). */
+#ifndef ANSI_STR_H
+#define ANSI_STR_H
+
+#include <stdbool.h>
+#include <stddef.h>
+#include <stdint.h>
+
+#ifdef __cplusplus
+extern "C" {
+#endif
+
+/* What became of a call. */
+enum {
+    /* it is done, or it is so */
+    ANSI_STR_OK = 0,
+    /* it is not so, or there is no such thing: the pattern isn't there, or there are not so many parts or blocks */
+    ANSI_STR_NO = 1,
+    /* a position lies inside a character, or the end of a range below its start; or an edit is refused */
+    ANSI_STR_REFUSED = 2,
+    /* the text or a pattern isn't UTF-8 */
+    ANSI_STR_NOT_UTF8 = 3,
+    /* the buffer is too small: nothing was written, and the answer says how much is needed */
+    ANSI_STR_TOO_SMALL = 4,
+    /* memory is wanting: nothing was written */
+    ANSI_STR_OUT_OF_MEMORY = 5
+};
+
+/* What a call answers. The length is that of what was written or found with ANSI_STR_OK, what is needed with
+   ANSI_STR_TOO_SMALL, and 0 with any other status. What was written stands at the front of the buffer, and all bytes
+   after it are as they were; with any status but ANSI_STR_OK the whole buffer is. */
+typedef struct {
+    uint32_t status;
+    size_t len;
+} ansi_str_answer;
+
+/* What a call answers that gives several texts: how many they are, and their length together. They are given with
+   ANSI_STR_OK and with ANSI_STR_TOO_SMALL, and 0 with any other status. */
+typedef struct {
+    uint32_t status;
+    size_t count;
+    size_t len;
+} ansi_str_answers;
+
+/* The attributes of a style, one bit each. */
+enum {
+    ANSI_STR_BOLD = 1 << 0,
+    ANSI_STR_FAINT = 1 << 1,
+    ANSI_STR_ITALIC = 1 << 2,
+    ANSI_STR_UNDERLINE = 1 << 3,
+    ANSI_STR_SLOW_BLINK = 1 << 4,
+    ANSI_STR_RAPID_BLINK = 1 << 5,
+    ANSI_STR_INVERSE = 1 << 6,
+    ANSI_STR_HIDE = 1 << 7,
+    ANSI_STR_CROSSED_OUT = 1 << 8,
+    ANSI_STR_FRAKTUR = 1 << 9
+};
+
+/* The kinds of colors: none is set, one of the names, one of 256 by its number, or one by its red, green and blue. */
+enum {
+    ANSI_STR_NO_COLOR = 0,
+    ANSI_STR_BLACK = 1,
+    ANSI_STR_BRIGHT_BLACK = 2,
+    ANSI_STR_RED = 3,
+    ANSI_STR_BRIGHT_RED = 4,
+    ANSI_STR_GREEN = 5,
+    ANSI_STR_BRIGHT_GREEN = 6,
+    ANSI_STR_YELLOW = 7,
+    ANSI_STR_BRIGHT_YELLOW = 8,
+    ANSI_STR_BLUE = 9,
+    ANSI_STR_BRIGHT_BLUE = 10,
+    ANSI_STR_PURPLE = 11,
+    ANSI_STR_BRIGHT_PURPLE = 12,
+    ANSI_STR_MAGENTA = 13,
+    ANSI_STR_BRIGHT_MAGENTA = 14,
+    ANSI_STR_CYAN = 15,
+    ANSI_STR_BRIGHT_CYAN = 16,
+    ANSI_STR_WHITE = 17,
+    ANSI_STR_BRIGHT_WHITE = 18,
+    ANSI_STR_FIXED = 19,
+    ANSI_STR_RGB = 20
+};
+
+/* A color. The number is that of ANSI_STR_FIXED and 0 else; red, green and blue are those of ANSI_STR_RGB and 0 else.
+   No sequence sets ANSI_STR_PURPLE or ANSI_STR_BRIGHT_PURPLE: code 35 is ANSI_STR_MAGENTA. */
+typedef struct {
+    uint32_t kind;
+    uint8_t number;
+    uint8_t red;
+    uint8_t green;
+    uint8_t blue;
+} ansi_str_color;
+
+/* The style of a block: a set of attributes, its colors, and whether it has something to end, which a style also has by
+   what isn't told here, as a font. */
+typedef struct {
+    uint32_t attributes;
+    ansi_str_color foreground;
+    ansi_str_color background;
+    bool has_any;
+} ansi_str_style;
+
+/* What a call answers that gives a style. With any status but ANSI_STR_OK the style is empty: all 0. */
+typedef struct {
+    uint32_t status;
+    ansi_str_style style;
+} ansi_str_style_answer;
+
+/* A block among the blocks of a text: where its text ends in the buffer, and its style. It begins where the one before
+   ends, and the first at 0. */
+typedef struct {
+    size_t end;
+    ansi_str_style style;
+} ansi_str_block_entry;
+
+/* The kinds of edits. */
+enum {
+    /* ansi_str_cut from `first` up to `second` */
+    ANSI_STR_EDIT_CUT = 0,
+    /* ansi_str_left and ansi_str_right at `first` */
+    ANSI_STR_EDIT_LEFT = 1,
+    ANSI_STR_EDIT_RIGHT = 2,
+    /* ansi_str_part of the index `first` */
+    ANSI_STR_EDIT_PART = 3,
+    ANSI_STR_EDIT_PREFIX = 4,
+    ANSI_STR_EDIT_SUFFIX = 5,
+    ANSI_STR_EDIT_TRIM = 6
+};
+
+/* One edit of a text. The pointer is never NULL; the functions below, from ansi_str_edit_cut on, make an edit with a
+   good one. Edits are read during a call alone, so their patterns have to live until it returns. */
+typedef struct {
+    uint32_t kind;
+    size_t first;
+    size_t second;
+    const uint8_t *pattern;
+    size_t pattern_len;
+} ansi_str_edit_step;
+
+/* The calls themselves, for other languages. Here no pointer may be NULL, whatever its length. The functions below
+   have the same names without `raw`, and say what each does. */
+ansi_str_answer ansi_str_raw_strip(const uint8_t *text, size_t text_len, uint8_t *buffer, size_t buffer_len);
+ansi_str_answer ansi_str_raw_cut(const uint8_t *text, size_t text_len, size_t start, size_t end, uint8_t *buffer,
+                                 size_t buffer_len);
+ansi_str_answer ansi_str_raw_left(const uint8_t *text, size_t text_len, size_t mid, uint8_t *buffer, size_t buffer_len);
+ansi_str_answer ansi_str_raw_right(const uint8_t *text, size_t text_len, size_t mid, uint8_t *buffer,
+                                   size_t buffer_len);
+ansi_str_answer ansi_str_raw_trim(const uint8_t *text, size_t text_len, uint8_t *buffer, size_t buffer_len);
+ansi_str_answer ansi_str_raw_strip_prefix(const uint8_t *text, size_t text_len, const uint8_t *pattern,
+                                          size_t pattern_len, uint8_t *buffer, size_t buffer_len);
+ansi_str_answer ansi_str_raw_strip_suffix(const uint8_t *text, size_t text_len, const uint8_t *pattern,
+                                          size_t pattern_len, uint8_t *buffer, size_t buffer_len);
+ansi_str_answer ansi_str_raw_part(const uint8_t *text, size_t text_len, const uint8_t *pattern, size_t pattern_len,
+                                  size_t index, uint8_t *buffer, size_t buffer_len);
+ansi_str_answer ansi_str_raw_find(const uint8_t *text, size_t text_len, const uint8_t *pattern, size_t pattern_len);
+ansi_str_answer ansi_str_raw_starts_with(const uint8_t *text, size_t text_len, const uint8_t *pattern,
+                                         size_t pattern_len);
+ansi_str_answer ansi_str_raw_ends_with(const uint8_t *text, size_t text_len, const uint8_t *pattern,
+                                       size_t pattern_len);
+ansi_str_answer ansi_str_raw_is_char_boundary(const uint8_t *text, size_t text_len, size_t index);
+ansi_str_answer ansi_str_raw_is_whole(const uint8_t *text, size_t text_len);
+ansi_str_answer ansi_str_raw_has_any(const uint8_t *text, size_t text_len);
+ansi_str_answer ansi_str_raw_block(const uint8_t *text, size_t text_len, size_t index, uint8_t *buffer,
+                                   size_t buffer_len);
+ansi_str_answer ansi_str_raw_block_start(const uint8_t *text, size_t text_len, size_t index, uint8_t *buffer,
+                                         size_t buffer_len);
+ansi_str_answer ansi_str_raw_block_end(const uint8_t *text, size_t text_len, size_t index, uint8_t *buffer,
+                                       size_t buffer_len);
+ansi_str_style_answer ansi_str_raw_block_style(const uint8_t *text, size_t text_len, size_t index);
+ansi_str_answer ansi_str_raw_edit(const uint8_t *text, size_t text_len, const ansi_str_edit_step *edits,
+                                  size_t edits_len, uint8_t *buffer, size_t buffer_len);
+ansi_str_answers ansi_str_raw_split(const uint8_t *text, size_t text_len, const uint8_t *pattern, size_t pattern_len,
+                                    uint8_t *buffer, size_t buffer_len, size_t *ends, size_t ends_len);
+ansi_str_answers ansi_str_raw_blocks(const uint8_t *text, size_t text_len, uint8_t *buffer, size_t buffer_len,
+                                     ansi_str_block_entry *blocks, size_t blocks_len);
+
+/* A pointer for a length of 0. */
+static inline const uint8_t *ansi_str_bytes(const char *bytes) {
+    return (const uint8_t *)(bytes == NULL ? "" : bytes);
+}
+
+static inline uint8_t *ansi_str_room(char *buffer) {
+    return (uint8_t *)(uintptr_t)ansi_str_bytes(buffer);
+}
+
+/* The plain text: the text without its sequences. It is never longer than the text.
+   "\x1b[31mred\x1b[39m and plain" gives "red and plain". */
+static inline ansi_str_answer ansi_str_strip(const char *text, size_t text_len, char *buffer, size_t buffer_len) {
+    return ansi_str_raw_strip(ansi_str_bytes(text), text_len, ansi_str_room(buffer), buffer_len);
+}
+
+/* The text from one position up to another, each character in its style: every sequence up to the end stays, at its
+   place, and at last stands the close of the style, so that nothing is left open. It is at most 88 bytes longer than
+   the text. ANSI_STR_REFUSED: a position lies inside a character, or `end` is below `start`.
+   "\x1b[30mTEXT\x1b[39m" from 1 up to 3 gives "\x1b[30mEX\x1b[39m". */
+static inline ansi_str_answer ansi_str_cut(const char *text, size_t text_len, size_t start, size_t end, char *buffer,
+                                           size_t buffer_len) {
+    return ansi_str_raw_cut(ansi_str_bytes(text), text_len, start, end, ansi_str_room(buffer), buffer_len);
+}
+
+/* The text before a position, each run of text between the start of its style and its close. A sequence that is no SGR
+   stays where it stands before the position or at it. ANSI_STR_REFUSED: the position lies inside a character.
+   "\x1b[30mTEXT\x1b[39m" at 2 gives "\x1b[30mTE\x1b[39m". */
+static inline ansi_str_answer ansi_str_left(const char *text, size_t text_len, size_t mid, char *buffer,
+                                            size_t buffer_len) {
+    return ansi_str_raw_left(ansi_str_bytes(text), text_len, mid, ansi_str_room(buffer), buffer_len);
+}
+
+/* The text from a position on, as ansi_str_left. "\x1b[30mTEXT\x1b[39m" at 2 gives "\x1b[30mXT\x1b[39m". */
+static inline ansi_str_answer ansi_str_right(const char *text, size_t text_len, size_t mid, char *buffer,
+                                             size_t buffer_len) {
+    return ansi_str_raw_right(ansi_str_bytes(text), text_len, mid, ansi_str_room(buffer), buffer_len);
+}
+
+/* The text without the white space at the ends of its plain text; every sequence stays. It is never longer than the
+   text. " \x1b[31m red \x1b[39m " gives "\x1b[31mred\x1b[39m". */
+static inline ansi_str_answer ansi_str_trim(const char *text, size_t text_len, char *buffer, size_t buffer_len) {
+    return ansi_str_raw_trim(ansi_str_bytes(text), text_len, ansi_str_room(buffer), buffer_len);
+}
+
+/* The text without a prefix of its plain text; every sequence stays. It is never longer than the text. ANSI_STR_NO: the
+   plain text doesn't begin with it. "\x1b[31mred\x1b[39m" without "re" gives "\x1b[31md\x1b[39m". */
+static inline ansi_str_answer ansi_str_strip_prefix(const char *text, size_t text_len, const char *pattern,
+                                                    size_t pattern_len, char *buffer, size_t buffer_len) {
+    return ansi_str_raw_strip_prefix(ansi_str_bytes(text), text_len, ansi_str_bytes(pattern), pattern_len,
+                                     ansi_str_room(buffer), buffer_len);
+}
+
+/* The text without a suffix of its plain text, as ansi_str_strip_prefix. */
+static inline ansi_str_answer ansi_str_strip_suffix(const char *text, size_t text_len, const char *pattern,
+                                                    size_t pattern_len, char *buffer, size_t buffer_len) {
+    return ansi_str_raw_strip_suffix(ansi_str_bytes(text), text_len, ansi_str_bytes(pattern), pattern_len,
+                                     ansi_str_room(buffer), buffer_len);
+}
+
+/* The part of an index, counted from 0, between the matches of a pattern, with its sequences and in its style. It is at
+   most 251 bytes longer than the text. ANSI_STR_NO: there are not so many parts. A loop over all indices reads the
+   text once for each; ansi_str_split gives all parts in one call.
+   Of "\x1b[31mlion::tiger\x1b[0m" at "::" 1 gives "\x1b[31mtiger\x1b[0m". */
+static inline ansi_str_answer ansi_str_part(const char *text, size_t text_len, const char *pattern, size_t pattern_len,
+                                            size_t index, char *buffer, size_t buffer_len) {
+    return ansi_str_raw_part(ansi_str_bytes(text), text_len, ansi_str_bytes(pattern), pattern_len, index,
+                             ansi_str_room(buffer), buffer_len);
+}
+
+/* Where the pattern first stands in the plain text: the answer's length is its position. ANSI_STR_NO: it stands
+   nowhere. Takes no memory. */
+static inline ansi_str_answer ansi_str_find(const char *text, size_t text_len, const char *pattern,
+                                            size_t pattern_len) {
+    return ansi_str_raw_find(ansi_str_bytes(text), text_len, ansi_str_bytes(pattern), pattern_len);
+}
+
+/* Whether the plain text begins with the pattern: ANSI_STR_OK or ANSI_STR_NO. Takes no memory. */
+static inline ansi_str_answer ansi_str_starts_with(const char *text, size_t text_len, const char *pattern,
+                                                   size_t pattern_len) {
+    return ansi_str_raw_starts_with(ansi_str_bytes(text), text_len, ansi_str_bytes(pattern), pattern_len);
+}
+
+/* Whether the plain text ends with the pattern, as ansi_str_starts_with. */
+static inline ansi_str_answer ansi_str_ends_with(const char *text, size_t text_len, const char *pattern,
+                                                 size_t pattern_len) {
+    return ansi_str_raw_ends_with(ansi_str_bytes(text), text_len, ansi_str_bytes(pattern), pattern_len);
+}
+
+/* Whether a character of the plain text begins at the index, or the plain text ends there: ANSI_STR_OK or ANSI_STR_NO.
+   Takes no memory. */
+static inline ansi_str_answer ansi_str_is_char_boundary(const char *text, size_t text_len, size_t index) {
+    return ansi_str_raw_is_char_boundary(ansi_str_bytes(text), text_len, index);
+}
+
+/* Whether no ESC in the text begins an unfinished sequence: ANSI_STR_OK or ANSI_STR_NO. Takes no memory. */
+static inline ansi_str_answer ansi_str_is_whole(const char *text, size_t text_len) {
+    return ansi_str_raw_is_whole(ansi_str_bytes(text), text_len);
+}
+
+/* Whether an ESC stands in the text: ANSI_STR_OK or ANSI_STR_NO. Takes no memory. */
+static inline ansi_str_answer ansi_str_has_any(const char *text, size_t text_len) {
+    return ansi_str_raw_has_any(ansi_str_bytes(text), text_len);
+}
+
+/* The text of the block of an index, counted from 0: a run of text in one style, after the sequences before it that are
+   no SGR. ANSI_STR_NO: there are not so many blocks. A loop over all indices reads the text once for each;
+   ansi_str_blocks gives all blocks in one call.
+   Of "\x1b[31mred\x1b[39m and plain" 0 gives "red", and 1 " and plain". */
+static inline ansi_str_answer ansi_str_block(const char *text, size_t text_len, size_t index, char *buffer,
+                                             size_t buffer_len) {
+    return ansi_str_raw_block(ansi_str_bytes(text), text_len, index, ansi_str_room(buffer), buffer_len);
+}
+
+/* The sequences that set the style of the block of an index: 163 bytes at most. ANSI_STR_NO: there are not so many
+   blocks. Takes memory also on a text without ESC. */
+static inline ansi_str_answer ansi_str_block_start(const char *text, size_t text_len, size_t index, char *buffer,
+                                                   size_t buffer_len) {
+    return ansi_str_raw_block_start(ansi_str_bytes(text), text_len, index, ansi_str_room(buffer), buffer_len);
+}
+
+/* The sequences that end the style of the block of an index: 88 bytes at most. ANSI_STR_NO: there are not so many
+   blocks. Takes memory also on a text without ESC. */
+static inline ansi_str_answer ansi_str_block_end(const char *text, size_t text_len, size_t index, char *buffer,
+                                                 size_t buffer_len) {
+    return ansi_str_raw_block_end(ansi_str_bytes(text), text_len, index, ansi_str_room(buffer), buffer_len);
+}
+
+/* The style of the block of an index, as data. ANSI_STR_NO: there are not so many blocks. */
+static inline ansi_str_style_answer ansi_str_block_style(const char *text, size_t text_len, size_t index) {
+    return ansi_str_raw_block_style(ansi_str_bytes(text), text_len, index);
+}
+
+/* All parts of the text between the matches of a pattern, as ansi_str_part gives each. They stand one after the other in
+   the buffer; part i ends at ends[i], and begins where the one before ends, the first at 0. There are at most two parts
+   more than the plain text has bytes. ANSI_STR_TOO_SMALL: the buffer or `ends` is too small, and the answer
+   says how many bytes and how many ends there are. Takes memory also on a text without ESC. */
+static inline ansi_str_answers ansi_str_split(const char *text, size_t text_len, const char *pattern,
+                                              size_t pattern_len, char *buffer, size_t buffer_len, size_t *ends,
+                                              size_t ends_len) {
+    size_t none;
+    return ansi_str_raw_split(ansi_str_bytes(text), text_len, ansi_str_bytes(pattern), pattern_len,
+                              ansi_str_room(buffer), buffer_len, ends == NULL ? &none : ends, ends_len);
+}
+
+/* All blocks of the text, as ansi_str_block and ansi_str_block_style give each. Their texts stand one after the other in
+   the buffer, and are never longer than the text together. There is at most one block for each byte.
+   ANSI_STR_TOO_SMALL: the buffer or `blocks` is too small, and the answer says how many bytes and how many blocks there are.
+   Takes memory also on a text without ESC. */
+static inline ansi_str_answers ansi_str_blocks(const char *text, size_t text_len, char *buffer, size_t buffer_len,
+                                               ansi_str_block_entry *blocks, size_t blocks_len) {
+    ansi_str_block_entry none;
+    return ansi_str_raw_blocks(ansi_str_bytes(text), text_len, ansi_str_room(buffer), buffer_len,
+                               blocks == NULL ? &none : blocks, blocks_len);
+}
+
+/* One edit each, for ansi_str_edit. */
+static inline ansi_str_edit_step ansi_str_edit_of(uint32_t kind, size_t first, size_t second, const char *pattern,
+                                                  size_t pattern_len) {
+    ansi_str_edit_step step;
+    step.kind = kind;
+    step.first = first;
+    step.second = second;
+    step.pattern = ansi_str_bytes(pattern);
+    step.pattern_len = pattern_len;
+    return step;
+}
+
+static inline ansi_str_edit_step ansi_str_edit_cut(size_t start, size_t end) {
+    return ansi_str_edit_of(ANSI_STR_EDIT_CUT, start, end, NULL, 0);
+}
+
+static inline ansi_str_edit_step ansi_str_edit_left(size_t mid) {
+    return ansi_str_edit_of(ANSI_STR_EDIT_LEFT, mid, 0, NULL, 0);
+}
+
+static inline ansi_str_edit_step ansi_str_edit_right(size_t mid) {
+    return ansi_str_edit_of(ANSI_STR_EDIT_RIGHT, mid, 0, NULL, 0);
+}
+
+static inline ansi_str_edit_step ansi_str_edit_part(const char *pattern, size_t pattern_len, size_t index) {
+    return ansi_str_edit_of(ANSI_STR_EDIT_PART, index, 0, pattern, pattern_len);
+}
+
+static inline ansi_str_edit_step ansi_str_edit_prefix(const char *pattern, size_t pattern_len) {
+    return ansi_str_edit_of(ANSI_STR_EDIT_PREFIX, 0, 0, pattern, pattern_len);
+}
+
+static inline ansi_str_edit_step ansi_str_edit_suffix(const char *pattern, size_t pattern_len) {
+    return ansi_str_edit_of(ANSI_STR_EDIT_SUFFIX, 0, 0, pattern, pattern_len);
+}
+
+static inline ansi_str_edit_step ansi_str_edit_trim(void) {
+    return ansi_str_edit_of(ANSI_STR_EDIT_TRIM, 0, 0, NULL, 0);
+}
+
+/* What edits make of the text, each done on what the one before gave. ANSI_STR_REFUSED: one of them is refused at its
+   turn, since its positions are bad, its pattern isn't there, there is no such part, or its kind is none of those above.
+   Takes memory also on a text without ESC. */
+static inline ansi_str_answer ansi_str_edit(const char *text, size_t text_len, const ansi_str_edit_step *edits,
+                                            size_t edits_len, char *buffer, size_t buffer_len) {
+    ansi_str_edit_step none = ansi_str_edit_trim();
+    return ansi_str_raw_edit(ansi_str_bytes(text), text_len, edits == NULL ? &none : edits, edits_len,
+                             ansi_str_room(buffer), buffer_len);
+}
+
+#ifdef __cplusplus
+}
+#endif
+
+#endif

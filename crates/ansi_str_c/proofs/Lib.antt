@@ -1,0 +1,2 @@
+pub mod Utf8Lemmas
+pub mod StepLemmas

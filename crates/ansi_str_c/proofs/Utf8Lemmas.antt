@@ -1,0 +1,30 @@
+-- What a call of texts does, by the test of each text.
+use Rattle.std.proofs.Common.{◌≡◌, ◌∙◌, Bool, true, false, ◌&&◌, ℕ, List, [], ◌∷◌, inl, inr, sym, refl}
+use Rattle.std.proofs.lemmas.Bool.{true≢false}
+use Rattle.std.proofs.lemmas.Str.{IsUtf8-from_is_utf8, is_utf8-from_IsUtf8}
+use Rattle.std.specs.List.{list_all}
+use Rattle.std.specs.Str.{is_utf8, IsUtf8}
+use Rattle.ansi_str_c.specs.Answers.{OnUtf8}
+
+both-left : (a b : Bool) → (a && b) ≡ true → a ≡ true
+both-left true b both = refl
+both-left false b both = both
+
+both-right : (a b : Bool) → (a && b) ≡ true → b ≡ true
+both-right true b both = both
+both-right false b both = cc
+
+-- all texts are UTF-8
+pub OnUtf8-all : (ts : List (List ℕ)) (Done Failed : Type 0) → list_all is_utf8 ts ≡ true → Done → OnUtf8 ts Done Failed
+OnUtf8-all [] Done Failed all done = done
+OnUtf8-all (t ∷ ts) Done Failed all done = inl (IsUtf8-from_is_utf8 t (both-left (is_utf8 t) (list_all is_utf8 ts) all), OnUtf8-all ts Done Failed (both-right (is_utf8 t) (list_all is_utf8 ts) all) done)
+
+not-first : (t : List ℕ) (ts : List (List ℕ)) (Done Failed : Type 0) (is : Bool) → is_utf8 t ≡ is → (is && list_all is_utf8 ts) ≡ false → Failed
+    → (list_all is_utf8 ts ≡ false → OnUtf8 ts Done Failed) → OnUtf8 (t ∷ ts) Done Failed
+not-first t ts Done Failed true told not_all failed others = inl (IsUtf8-from_is_utf8 t told, others not_all)
+not-first t ts Done Failed false told not_all failed others = inr ((λ utf8. true≢false (sym (is_utf8-from_IsUtf8 t utf8) ∙ told)), failed)
+
+-- a text isn't UTF-8
+pub OnUtf8-not : (ts : List (List ℕ)) (Done Failed : Type 0) → list_all is_utf8 ts ≡ false → Failed → OnUtf8 ts Done Failed
+OnUtf8-not [] Done Failed not_all failed = cc
+OnUtf8-not (t ∷ ts) Done Failed not_all failed = not-first t ts Done Failed (is_utf8 t) refl not_all failed (λ others. OnUtf8-not ts Done Failed others failed)

@@ -1,0 +1,4 @@
+pub mod Answers
+pub mod Styles
+pub mod Lists
+pub mod Steps

@@ -1,0 +1,169 @@
+//! Calls that give the block of an index, or its style.
+ghost use Rattle.std.specs.Prelude.{◌≡◌, ◌∷◌, [], slice_get, option_map, true, IsFalse, IsOk, IfOk, OnOk, string_bytes};
+ghost use Rattle.std.specs.Cow.{cow_str_bytes};
+ghost use Rattle.ansi_str.specs.Plain.{has_escape};
+ghost use Rattle.ansi_str.specs.Written.{start, close_if_any};
+ghost use Rattle.ansi_str.specs.Blocks.{blocks};
+ghost use Rattle.ansi_str_c.specs.Answers.{no, not_utf8, OnUtf8, HasFailed, Gives};
+ghost use Rattle.ansi_str_c.specs.Styles.{no_style, TellsStyle};
+
+use crate::answers::{Answer, NO, NOT_UTF8, OK, OUT_OF_MEMORY, write};
+use crate::styles::StyleData;
+use ansi_str::{AnsiBlock, get_blocks};
+use std::alloc::{AllocError, Global};
+use std::fmt::Write;
+use std::str;
+
+/// What a call answers that gives a style.
+#[repr(C)]
+#[derive(Clone, Copy)]
+pub struct StyleAnswer {
+    pub status: u32,
+    pub style: StyleData,
+}
+
+impl StyleAnswer {
+    /// The answer of a call that gives none.
+    fn failed(status: u32) -> StyleAnswer
+        ensures { result ≡ no_style status }
+    {
+        StyleAnswer {
+            status,
+            style: StyleData::empty(),
+        }
+    }
+}
+
+/// The text of the block of an index.
+#[unsafe(no_mangle)]
+pub extern "C" fn ansi_str_raw_block(
+    alloc: Global,
+    text: &[u8],
+    index: usize,
+    buffer: &mut [u8],
+) -> Answer
+    ensures { OnUtf8 (text.now ∷ [])
+        (Gives no (has_escape text.now) (option_map (λ b. b.text) (slice_get (blocks text.now) index)) result buffer.old buffer.new)
+        (HasFailed not_utf8 result buffer.old buffer.new) }
+{
+    let Ok(text) = str::from_utf8(text) else {
+        return Answer::failed(NOT_UTF8);
+    };
+    match find_block(alloc, text, index) {
+        Ok(Some(block)) => write(block.text().as_bytes(), buffer),
+        Ok(None) => Answer::failed(NO),
+        Err(_) => Answer::failed(OUT_OF_MEMORY),
+    }
+}
+
+/// The start of the style of the block of an index.
+#[unsafe(no_mangle)]
+pub extern "C" fn ansi_str_raw_block_start(
+    alloc: Global,
+    text: &[u8],
+    index: usize,
+    buffer: &mut [u8],
+) -> Answer
+    ensures { OnUtf8 (text.now ∷ [])
+        (Gives no true (option_map (λ b. start b.style) (slice_get (blocks text.now) index)) result buffer.old buffer.new)
+        (HasFailed not_utf8 result buffer.old buffer.new) }
+{
+    let Ok(text) = str::from_utf8(text) else {
+        return Answer::failed(NOT_UTF8);
+    };
+    match block_start(alloc, text, index) {
+        Ok(Some(start)) => write(start.as_bytes(), buffer),
+        Ok(None) => Answer::failed(NO),
+        Err(_) => Answer::failed(OUT_OF_MEMORY),
+    }
+}
+
+/// The end of the style of the block of an index.
+#[unsafe(no_mangle)]
+pub extern "C" fn ansi_str_raw_block_end(
+    alloc: Global,
+    text: &[u8],
+    index: usize,
+    buffer: &mut [u8],
+) -> Answer
+    ensures { OnUtf8 (text.now ∷ [])
+        (Gives no true (option_map (λ b. close_if_any b.style) (slice_get (blocks text.now) index)) result buffer.old buffer.new)
+        (HasFailed not_utf8 result buffer.old buffer.new) }
+{
+    let Ok(text) = str::from_utf8(text) else {
+        return Answer::failed(NOT_UTF8);
+    };
+    match block_end(alloc, text, index) {
+        Ok(Some(end)) => write(end.as_bytes(), buffer),
+        Ok(None) => Answer::failed(NO),
+        Err(_) => Answer::failed(OUT_OF_MEMORY),
+    }
+}
+
+/// The style of the block of an index.
+#[unsafe(no_mangle)]
+pub extern "C" fn ansi_str_raw_block_style(
+    alloc: Global,
+    text: &[u8],
+    index: usize,
+) -> StyleAnswer
+    ensures { OnUtf8 (text.now ∷ [])
+        (TellsStyle (has_escape text.now) (option_map (λ b. b.style) (slice_get (blocks text.now) index)) result)
+        (result ≡ no_style not_utf8) }
+{
+    let Ok(text) = str::from_utf8(text) else {
+        return StyleAnswer::failed(NOT_UTF8);
+    };
+    match find_block(alloc, text, index) {
+        Ok(Some(block)) => StyleAnswer {
+            status: OK,
+            style: StyleData::of(&block),
+        },
+        Ok(None) => StyleAnswer::failed(NO),
+        Err(_) => StyleAnswer::failed(OUT_OF_MEMORY),
+    }
+}
+
+/// The block of an index, or `None` where there are not so many blocks.
+fn find_block(
+    alloc: Global,
+    text: &str,
+    index: usize,
+) -> Result<Option<AnsiBlock<'_>>, AllocError>
+    ensures found { IfOk result (λ found. found ≡ slice_get (blocks text.now) index) }
+    ensures takes_no_memory { IsFalse (has_escape text.now) → IsOk result }
+{
+    let mut before = index;
+    for block in get_blocks(alloc, text) {
+        let block = block?;
+        if before == 0 {
+            return Ok(Some(block));
+        }
+        before -= 1;
+    }
+    Ok(None)
+}
+
+/// The start of the style of the block of an index, or `None` where there are not so many blocks.
+fn block_start(alloc: Global, text: &str, index: usize) -> Result<Option<String>, AllocError>
+    ensures { IfOk result (λ found. option_map string_bytes found ≡ option_map (λ b. start b.style) (slice_get (blocks text.now) index)) }
+{
+    let Some(block) = find_block(alloc, text, index)? else {
+        return Ok(None);
+    };
+    let mut start = String::new(alloc);
+    write!(start, "{}", block.style().start())?;
+    Ok(Some(start))
+}
+
+/// The end of the style of the block of an index, or `None` where there are not so many blocks.
+fn block_end(alloc: Global, text: &str, index: usize) -> Result<Option<String>, AllocError>
+    ensures { IfOk result (λ found. option_map string_bytes found ≡ option_map (λ b. close_if_any b.style) (slice_get (blocks text.now) index)) }
+{
+    let Some(block) = find_block(alloc, text, index)? else {
+        return Ok(None);
+    };
+    let mut end = String::new(alloc);
+    write!(end, "{}", block.style().end())?;
+    Ok(Some(end))
+}

@@ -1,0 +1,159 @@
+//! Calls that give several texts: all parts, and all blocks.
+ghost use Rattle.std.specs.Prelude.{◌≡◌, ◌∷◌, [], flat_map, IfOk, string_bytes};
+ghost use Rattle.ansi_str.specs.Parts.{all_parts};
+ghost use Rattle.ansi_str.specs.Blocks.{blocks};
+ghost use Rattle.ansi_str_c.specs.Answers.{not_utf8, OnUtf8};
+ghost use Rattle.ansi_str_c.specs.Lists.{none, ends_from, entries_from, AreWritten, HaveFailed, GivesAll};
+
+use crate::answers::{NOT_UTF8, OK, OUT_OF_MEMORY, TOO_SMALL};
+use crate::styles::StyleData;
+use ansi_str::get_blocks;
+use ansi_str::split::split_in;
+use std::alloc::{AllocError, Global};
+use std::str;
+
+/// What a call answers that gives several texts: a status, how many they are, and their length
+/// together.
+#[repr(C)]
+#[derive(Clone, Copy)]
+pub struct ListAnswer {
+    pub status: u32,
+    pub count: usize,
+    pub len: usize,
+}
+
+impl ListAnswer {
+    /// The answer of a call that gives nothing.
+    fn failed(status: u32) -> ListAnswer
+        ensures { result ≡ none status }
+    {
+        ListAnswer {
+            status,
+            count: 0,
+            len: 0,
+        }
+    }
+}
+
+/// A block among the blocks of a text: where its text ends among theirs, and its style.
+#[repr(C)]
+#[derive(Clone, Copy)]
+pub struct BlockEntry {
+    pub end: usize,
+    pub style: StyleData,
+}
+
+/// All parts of a text between the matches of a pattern, and where each ends.
+#[unsafe(no_mangle)]
+pub extern "C" fn ansi_str_raw_split(
+    alloc: Global,
+    text: &[u8],
+    pattern: &[u8],
+    buffer: &mut [u8],
+    ends: &mut [usize],
+) -> ListAnswer
+    ensures { OnUtf8 (text.now ∷ pattern.now ∷ [])
+        (GivesAll (flat_map (λ p. p) (all_parts text.now pattern.now)) (ends_from 0 (all_parts text.now pattern.now)) result buffer.old buffer.new ends.old ends.new)
+        (HaveFailed not_utf8 result buffer.old buffer.new ends.old ends.new) }
+{
+    let Ok(text) = str::from_utf8(text) else {
+        return ListAnswer::failed(NOT_UTF8);
+    };
+    let Ok(pat) = str::from_utf8(pattern) else {
+        return ListAnswer::failed(NOT_UTF8);
+    };
+    match join_parts(alloc, text, pat) {
+        Ok((texts, their_ends)) => {
+            write_list(texts.as_bytes(), their_ends.as_slice(), buffer, ends)
+        }
+        Err(_) => ListAnswer::failed(OUT_OF_MEMORY),
+    }
+}
+
+/// All blocks of a text, and where each ends and its style.
+#[unsafe(no_mangle)]
+pub extern "C" fn ansi_str_raw_blocks(
+    alloc: Global,
+    text: &[u8],
+    buffer: &mut [u8],
+    entries: &mut [BlockEntry],
+) -> ListAnswer
+    ensures { OnUtf8 (text.now ∷ [])
+        (GivesAll (flat_map (λ b. b.text) (blocks text.now)) (entries_from 0 (blocks text.now)) result buffer.old buffer.new entries.old entries.new)
+        (HaveFailed not_utf8 result buffer.old buffer.new entries.old entries.new) }
+{
+    let Ok(text) = str::from_utf8(text) else {
+        return ListAnswer::failed(NOT_UTF8);
+    };
+    match join_blocks(alloc, text) {
+        Ok((texts, their_entries)) => {
+            write_list(texts.as_bytes(), their_entries.as_slice(), buffer, entries)
+        }
+        Err(_) => ListAnswer::failed(OUT_OF_MEMORY),
+    }
+}
+
+/// The parts of a text one after the other, and where each ends.
+fn join_parts(
+    alloc: Global,
+    text: &str,
+    pat: &str,
+) -> Result<(String, Vec<usize>), AllocError>
+    ensures texts { IfOk result (λ joined. string_bytes joined.0 ≡ flat_map (λ p. p) (all_parts text.now pat.now)) }
+    ensures ends { IfOk result (λ joined. joined.1.items ≡ ends_from 0 (all_parts text.now pat.now)) }
+{
+    let mut texts = String::new(alloc);
+    let mut ends = Vec::new(alloc);
+    for part in split_in(alloc, text, pat) {
+        let part = part?;
+        texts.push_str(part.as_str())?;
+        ends.push(texts.len())?;
+    }
+    Ok((texts, ends))
+}
+
+/// The blocks of a text one after the other, and where each ends and its style.
+fn join_blocks(alloc: Global, text: &str) -> Result<(String, Vec<BlockEntry>), AllocError>
+    ensures texts { IfOk result (λ joined. string_bytes joined.0 ≡ flat_map (λ b. b.text) (blocks text.now)) }
+    ensures entries { IfOk result (λ joined. joined.1.items ≡ entries_from 0 (blocks text.now)) }
+{
+    let mut texts = String::new(alloc);
+    let mut entries = Vec::new(alloc);
+    for block in get_blocks(alloc, text) {
+        let block = block?;
+        texts.push_str(block.text())?;
+        entries.push(BlockEntry {
+            end: texts.len(),
+            style: StyleData::of(&block),
+        })?;
+    }
+    Ok((texts, entries))
+}
+
+/// Writes texts at the front of a buffer and their entries at the front of another, where there is room
+/// for both.
+fn write_list<T: Copy>(
+    texts: &[u8],
+    their_entries: &[T],
+    buffer: &mut [u8],
+    entries: &mut [T],
+) -> ListAnswer
+    ensures { AreWritten texts.now their_entries.now result buffer.old buffer.new entries.old entries.new }
+{
+    let count = their_entries.len();
+    let len = texts.len();
+    if len > buffer.len() || count > entries.len() {
+        return ListAnswer {
+            status: TOO_SMALL,
+            count,
+            len,
+        };
+    }
+    buffer[..len].copy_from_slice(texts);
+    entries[..count].copy_from_slice(their_entries);
+    ListAnswer {
+        status: OK,
+        count,
+        len,
+    }
+}

@@ -1,0 +1,98 @@
+//! Calls that tell of a text, and write nothing.
+ghost use Rattle.std.specs.Prelude.{◌≡◌, ◌∷◌, [], nat_eq};
+ghost use Rattle.std.specs.List.{starts_with, ends_with};
+ghost use Rattle.ansi_str.specs.Plain.{plain, has_escape, is_whole};
+ghost use Rattle.ansi_str.specs.Positions.{is_char_boundary};
+ghost use Rattle.ansi_str_c.specs.Answers.{not_utf8, failed, told, OnUtf8, TellsPlace};
+
+use crate::answers::{Answer, NO, NOT_UTF8};
+use ansi_str::{AnsiStr, ansi_is_whole};
+use std::str;
+
+/// Where the pattern first stands in the plain text.
+#[unsafe(no_mangle)]
+pub extern "C" fn ansi_str_raw_find(text: &[u8], pattern: &[u8]) -> Answer
+    ensures { OnUtf8 (text.now ∷ pattern.now ∷ []) (TellsPlace pattern.now (plain text.now) result) (result ≡ failed not_utf8) }
+{
+    let Ok(text) = str::from_utf8(text) else {
+        return Answer::failed(NOT_UTF8);
+    };
+    let Ok(pat) = str::from_utf8(pattern) else {
+        return Answer::failed(NOT_UTF8);
+    };
+    match text.ansi_find(pat) {
+        Some(place) => Answer::done(place),
+        None => Answer::failed(NO),
+    }
+}
+
+/// Whether the plain text begins with the pattern.
+#[unsafe(no_mangle)]
+pub extern "C" fn ansi_str_raw_starts_with(text: &[u8], pattern: &[u8]) -> Answer
+    ensures { OnUtf8 (text.now ∷ pattern.now ∷ [])
+        (result ≡ told (starts_with nat_eq (plain text.now) pattern.now))
+        (result ≡ failed not_utf8) }
+{
+    let Ok(text) = str::from_utf8(text) else {
+        return Answer::failed(NOT_UTF8);
+    };
+    let Ok(pat) = str::from_utf8(pattern) else {
+        return Answer::failed(NOT_UTF8);
+    };
+    Answer::told(text.ansi_starts_with(pat))
+}
+
+/// Whether the plain text ends with the pattern.
+#[unsafe(no_mangle)]
+pub extern "C" fn ansi_str_raw_ends_with(text: &[u8], pattern: &[u8]) -> Answer
+    ensures { OnUtf8 (text.now ∷ pattern.now ∷ [])
+        (result ≡ told (ends_with nat_eq (plain text.now) pattern.now))
+        (result ≡ failed not_utf8) }
+{
+    let Ok(text) = str::from_utf8(text) else {
+        return Answer::failed(NOT_UTF8);
+    };
+    let Ok(pat) = str::from_utf8(pattern) else {
+        return Answer::failed(NOT_UTF8);
+    };
+    Answer::told(text.ansi_ends_with(pat))
+}
+
+/// Whether a character of the plain text begins at the index, or it ends there.
+#[unsafe(no_mangle)]
+pub extern "C" fn ansi_str_raw_is_char_boundary(text: &[u8], index: usize) -> Answer
+    ensures { OnUtf8 (text.now ∷ [])
+        (result ≡ told (is_char_boundary (plain text.now) index))
+        (result ≡ failed not_utf8) }
+{
+    match str::from_utf8(text) {
+        Ok(text) => Answer::told(text.ansi_is_char_boundary(index)),
+        Err(_) => Answer::failed(NOT_UTF8),
+    }
+}
+
+/// Whether the text is whole.
+#[unsafe(no_mangle)]
+pub extern "C" fn ansi_str_raw_is_whole(text: &[u8]) -> Answer
+    ensures { OnUtf8 (text.now ∷ [])
+        (result ≡ told (is_whole text.now))
+        (result ≡ failed not_utf8) }
+{
+    match str::from_utf8(text) {
+        Ok(text) => Answer::told(ansi_is_whole(text)),
+        Err(_) => Answer::failed(NOT_UTF8),
+    }
+}
+
+/// Whether an ESC stands in the text.
+#[unsafe(no_mangle)]
+pub extern "C" fn ansi_str_raw_has_any(text: &[u8]) -> Answer
+    ensures { OnUtf8 (text.now ∷ [])
+        (result ≡ told (has_escape text.now))
+        (result ≡ failed not_utf8) }
+{
+    match str::from_utf8(text) {
+        Ok(text) => Answer::told(text.ansi_has_any()),
+        Err(_) => Answer::failed(NOT_UTF8),
+    }
+}

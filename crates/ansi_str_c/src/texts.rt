@@ -1,0 +1,164 @@
+//! Calls that give one text: what is made of the text that they take.
+ghost use Rattle.std.specs.Prelude.{◌≡◌, ◌∷◌, [], Some};
+ghost use Rattle.ansi_str.specs.Plain.{plain, has_escape};
+ghost use Rattle.ansi_str.specs.Changes.{CutRange, LeftOf, RightOf, PartOf, WithoutPrefix, WithoutSuffix, Trimmed};
+ghost use Rattle.ansi_str.specs.Edits.{changes_of};
+ghost use Rattle.ansi_str_c.specs.Answers.{no, refused, not_utf8, OnUtf8, HasFailed, Gives, GivesEdited};
+
+use crate::answers::{Answer, NO, NOT_UTF8, OUT_OF_MEMORY, REFUSED, write};
+use ansi_str::{AnsiStr, Edit, edit};
+use std::alloc::Global;
+use std::str;
+
+/// The plain text.
+#[unsafe(no_mangle)]
+pub extern "C" fn ansi_str_raw_strip(alloc: Global, text: &[u8], buffer: &mut [u8]) -> Answer
+    ensures { OnUtf8 (text.now ∷ [])
+        (Gives no (has_escape text.now) (Some (plain text.now)) result buffer.old buffer.new)
+        (HasFailed not_utf8 result buffer.old buffer.new) }
+{
+    let Ok(text) = str::from_utf8(text) else {
+        return Answer::failed(NOT_UTF8);
+    };
+    match text.ansi_strip(alloc) {
+        Ok(plain) => write(plain.as_bytes(), buffer),
+        Err(_) => Answer::failed(OUT_OF_MEMORY),
+    }
+}
+
+/// The text from one position up to another.
+#[unsafe(no_mangle)]
+pub extern "C" fn ansi_str_raw_cut(
+    alloc: Global,
+    text: &[u8],
+    start: usize,
+    end: usize,
+    buffer: &mut [u8],
+) -> Answer
+    ensures { OnUtf8 (text.now ∷ [])
+        (GivesEdited refused (CutRange start (Some end) ∷ []) text.now result buffer.old buffer.new)
+        (HasFailed not_utf8 result buffer.old buffer.new) }
+{
+    let cut = Edit::Cut {
+        start,
+        end: Some(end),
+    };
+    write_edited(alloc, text, &[cut], REFUSED, buffer)
+}
+
+/// The text before a position.
+#[unsafe(no_mangle)]
+pub extern "C" fn ansi_str_raw_left(
+    alloc: Global,
+    text: &[u8],
+    mid: usize,
+    buffer: &mut [u8],
+) -> Answer
+    ensures { OnUtf8 (text.now ∷ [])
+        (GivesEdited refused (LeftOf mid ∷ []) text.now result buffer.old buffer.new)
+        (HasFailed not_utf8 result buffer.old buffer.new) }
+{
+    write_edited(alloc, text, &[Edit::Left(mid)], REFUSED, buffer)
+}
+
+/// The text from a position on.
+#[unsafe(no_mangle)]
+pub extern "C" fn ansi_str_raw_right(
+    alloc: Global,
+    text: &[u8],
+    mid: usize,
+    buffer: &mut [u8],
+) -> Answer
+    ensures { OnUtf8 (text.now ∷ [])
+        (GivesEdited refused (RightOf mid ∷ []) text.now result buffer.old buffer.new)
+        (HasFailed not_utf8 result buffer.old buffer.new) }
+{
+    write_edited(alloc, text, &[Edit::Right(mid)], REFUSED, buffer)
+}
+
+/// The text without the white space at its ends.
+#[unsafe(no_mangle)]
+pub extern "C" fn ansi_str_raw_trim(alloc: Global, text: &[u8], buffer: &mut [u8]) -> Answer
+    ensures { OnUtf8 (text.now ∷ [])
+        (GivesEdited refused (Trimmed ∷ []) text.now result buffer.old buffer.new)
+        (HasFailed not_utf8 result buffer.old buffer.new) }
+{
+    write_edited(alloc, text, &[Edit::Trim], REFUSED, buffer)
+}
+
+/// The text without a prefix.
+#[unsafe(no_mangle)]
+pub extern "C" fn ansi_str_raw_strip_prefix(
+    alloc: Global,
+    text: &[u8],
+    pattern: &[u8],
+    buffer: &mut [u8],
+) -> Answer
+    ensures { OnUtf8 (pattern.now ∷ text.now ∷ [])
+        (GivesEdited no (WithoutPrefix pattern.now ∷ []) text.now result buffer.old buffer.new)
+        (HasFailed not_utf8 result buffer.old buffer.new) }
+{
+    let Ok(prefix) = str::from_utf8(pattern) else {
+        return Answer::failed(NOT_UTF8);
+    };
+    write_edited(alloc, text, &[Edit::Prefix(prefix)], NO, buffer)
+}
+
+/// The text without a suffix.
+#[unsafe(no_mangle)]
+pub extern "C" fn ansi_str_raw_strip_suffix(
+    alloc: Global,
+    text: &[u8],
+    pattern: &[u8],
+    buffer: &mut [u8],
+) -> Answer
+    ensures { OnUtf8 (pattern.now ∷ text.now ∷ [])
+        (GivesEdited no (WithoutSuffix pattern.now ∷ []) text.now result buffer.old buffer.new)
+        (HasFailed not_utf8 result buffer.old buffer.new) }
+{
+    let Ok(suffix) = str::from_utf8(pattern) else {
+        return Answer::failed(NOT_UTF8);
+    };
+    write_edited(alloc, text, &[Edit::Suffix(suffix)], NO, buffer)
+}
+
+/// The part of an index between the matches of a pattern.
+#[unsafe(no_mangle)]
+pub extern "C" fn ansi_str_raw_part(
+    alloc: Global,
+    text: &[u8],
+    pattern: &[u8],
+    index: usize,
+    buffer: &mut [u8],
+) -> Answer
+    ensures { OnUtf8 (pattern.now ∷ text.now ∷ [])
+        (GivesEdited no (PartOf pattern.now index ∷ []) text.now result buffer.old buffer.new)
+        (HasFailed not_utf8 result buffer.old buffer.new) }
+{
+    let Ok(pat) = str::from_utf8(pattern) else {
+        return Answer::failed(NOT_UTF8);
+    };
+    write_edited(alloc, text, &[Edit::Part { pat, index }], NO, buffer)
+}
+
+/// Writes what edits make of a text, or answers a status where one is refused.
+pub(crate) fn write_edited(
+    alloc: Global,
+    text: &[u8],
+    edits: &[Edit<'_>],
+    absent: u32,
+    buffer: &mut [u8],
+) -> Answer
+    ensures { OnUtf8 (text.now ∷ [])
+        (GivesEdited absent (changes_of edits.now) text.now result buffer.old buffer.new)
+        (HasFailed not_utf8 result buffer.old buffer.new) }
+{
+    let Ok(text) = str::from_utf8(text) else {
+        return Answer::failed(NOT_UTF8);
+    };
+    match edit(alloc, text, edits) {
+        Ok(Some(edited)) => write(edited.as_bytes(), buffer),
+        Ok(None) => Answer::failed(absent),
+        Err(_) => Answer::failed(OUT_OF_MEMORY),
+    }
+}
