@@ -7,7 +7,7 @@ import unittest
 
 import ansi_str
 
-ROWS = os.path.join(os.path.dirname(os.path.abspath(__file__)), "../../crates/ansi_str_c/c/rows.tsv")
+ROWS = os.path.join(os.path.dirname(os.path.abspath(__file__)), "../rows.tsv")
 KINDS = [ansi_str.Cut, ansi_str.Left, ansi_str.Right, ansi_str.Part, ansi_str.Prefix, ansi_str.Suffix, ansi_str.Trim]
 
 
