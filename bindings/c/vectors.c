@@ -17,6 +17,9 @@ enum { MOST_FIELDS = 4096, GUARD = 0x5a };
 /* Requests for memory that are still granted; a negative number grants all. */
 static long granted = -1;
 
+/* How many calls have told of want of memory. */
+static long wanting = 0;
+
 void *__real_malloc(size_t size);
 void *__real_realloc(void *block, size_t size);
 void *__wrap_malloc(size_t size);
@@ -169,6 +172,7 @@ static void expect_writes(const struct row *r, uint32_t status, const struct tex
             expect("status with little memory", answer.status == status);
             break;
         }
+        wanting++;
         expect("length with little memory", answer.len == 0);
         expect("the buffer with little memory", is_guard(buffer, 0, wanted->len + 1));
     }
@@ -237,6 +241,7 @@ static void expect_parts(const struct row *r) {
         if (answer.status != ANSI_STR_OUT_OF_MEMORY) {
             break;
         }
+        wanting++;
         expect("the buffer with little memory", is_guard(buffer, 0, len + 1));
     }
     expect("status", answer.status == status);
@@ -294,6 +299,7 @@ static void expect_blocks(const struct row *r) {
         if (answer.status != ANSI_STR_OUT_OF_MEMORY) {
             break;
         }
+        wanting++;
         expect("the buffer with little memory", is_guard(buffer, 0, len + 1));
     }
     expect("status", answer.status == status);
@@ -373,6 +379,7 @@ int main(void) {
         }
     }
     free(line);
-    printf("vectors: %ld rows are as they should be\n", line_number);
+    expect("memory was wanting", wanting > 0);
+    printf("vectors: %ld rows are as they should be, and %ld calls told of want of memory\n", line_number, wanting);
     return 0;
 }
