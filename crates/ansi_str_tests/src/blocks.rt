@@ -332,11 +332,7 @@ static MEMORY_ROWS: [MemoryRow; 4] = [
         &["no ", "sequence", " waits, ", "so no memory"],
         false,
     ),
-    (
-        "a\x1b]0;a title that waits in vain\x07",
-        &["a"],
-        false,
-    ),
+    ("a\x1b]0;a title that waits in vain\x07", &["a"], false),
     (
         "a\x1b]0;title\x07\x1b[1mb\x1b]1;t\x07\x1b]2;u\x07c\x1bdd\x1b",
         &[

@@ -88,7 +88,12 @@ fn expect_ordering<C: Ord + Debug>(rt: &impl Abort, color: &C, other: &C, want: 
     let colors = (color, other);
     expect(rt, color.cmp(other) == want, "the order", colors);
     let are_same = color == other;
-    expect(rt, are_same == (want == Ordering::Equal), "equality", colors);
+    expect(
+        rt,
+        are_same == (want == Ordering::Equal),
+        "equality",
+        colors,
+    );
 }
 
 /// Compares a color with those of the order, in which it has this index.

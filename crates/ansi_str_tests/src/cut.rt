@@ -126,12 +126,7 @@ static ROWS: [Row; 28] = [
     ("TEXT", RangeToInclusive(usize::MAX), "TEXT", true),
 ];
 
-fn expect_cut<T: AnsiStr>(
-    rt: &impl Abort,
-    alloc: Global,
-    text: &T,
-    row: &Row,
-) -> Result<(), Fail> {
+fn expect_cut<T: AnsiStr>(rt: &impl Abort, alloc: Global, text: &T, row: &Row) -> Result<(), Fail> {
     let (_, range, want, is_borrow) = *row;
     expect_text(rt, &range.cut(rt, alloc, text)?, want, is_borrow, row);
     Ok(())

@@ -217,7 +217,12 @@ fn expect_none(rt: &impl Abort, alloc: Global, granted: u64, refused: Edit<'_>) 
 fn a_refused_edit_takes_no_memory(rt: HostRuntime) -> Result<(), Fail> {
     let heap = Refusing::new(rt.alloc(), u64::MAX);
     let left = edit(&heap, RED_TEXT, &[Left(2)])?;
-    expect(&rt, text_of(&left) == Some("\x1b[31mé\x1b[39m"), "the left side", RED_TEXT);
+    expect(
+        &rt,
+        text_of(&left) == Some("\x1b[31mé\x1b[39m"),
+        "the left side",
+        RED_TEXT,
+    );
     for refused in &REFUSED_LATER {
         expect_none(&rt, rt.alloc(), heap.requests(), *refused);
     }

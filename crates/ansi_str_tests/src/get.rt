@@ -81,12 +81,7 @@ static ROWS: [Row; 23] = [
     ("TEXT", RangeFull, Some("TEXT"), true),
 ];
 
-fn expect_get<T: AnsiStr>(
-    rt: &impl Abort,
-    alloc: Global,
-    text: &T,
-    row: &Row,
-) -> Result<(), Fail> {
+fn expect_get<T: AnsiStr>(rt: &impl Abort, alloc: Global, text: &T, row: &Row) -> Result<(), Fail> {
     let (_, range, want, is_borrow) = *row;
     expect_answer(rt, &range.get(alloc, text)?, want, is_borrow, row);
     Ok(())

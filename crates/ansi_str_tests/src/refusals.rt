@@ -1,9 +1,7 @@
 //! Each request for memory of a call refused in turn.
-use crate::Refusing;
-use crate::blocks;
 use crate::checks::{expect, expect_answer, expect_text, text_of};
-use crate::split;
 use crate::split_at::is_good;
+use crate::{Refusing, blocks, split};
 use ansi_str::slice::{
     cut_in, get_in, split_at_in, strip_in, strip_prefix_in, strip_suffix_in, trim_in,
 };
@@ -64,7 +62,12 @@ pub fn expect_each_refusal(
     for granted in 0..100u64 {
         if !is_refused(rt, alloc, granted, name, owned.as_str(), asked) {
             let took_memory = granted > 0;
-            expect(rt, took_memory == takes_memory, "whether it takes memory", name);
+            expect(
+                rt,
+                took_memory == takes_memory,
+                "whether it takes memory",
+                name,
+            );
             expect(rt, owned.as_str() == text, "the caller's text", name);
             return Ok(());
         }
@@ -112,7 +115,12 @@ fn is_err(
             false
         }
         Asked::IsCharBoundary(index, want) => {
-            expect(rt, text.ansi_is_char_boundary(index) == want, "the boundary", name);
+            expect(
+                rt,
+                text.ansi_is_char_boundary(index) == want,
+                "the boundary",
+                name,
+            );
             false
         }
         Asked::IsWhole(want) => {

@@ -250,7 +250,12 @@ fn escapes_alone_are_one_part(rt: HostRuntime) -> Result<(), Fail> {
     let text = "\x1b".repeat(rt.alloc(), 1_000)?;
     let mut parts = text.ansi_split(rt.alloc(), "a");
     let part = parts.next().ok_or("a part is missing")??;
-    expect(&rt, part.as_str() == text.as_str(), "the part", "1,000 escapes");
+    expect(
+        &rt,
+        part.as_str() == text.as_str(),
+        "the part",
+        "1,000 escapes",
+    );
     expect_ended(&rt, &mut parts, "1,000 escapes");
     Ok(())
 }

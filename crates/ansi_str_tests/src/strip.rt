@@ -61,7 +61,13 @@ fn plain_texts_are_given(rt: HostRuntime) -> Result<(), Fail> {
 }
 
 /// A front, what stands after it so often, and the same of the plain text.
-type LongRow = (&'static str, &'static str, usize, &'static str, &'static str);
+type LongRow = (
+    &'static str,
+    &'static str,
+    usize,
+    &'static str,
+    &'static str,
+);
 
 static LONG_ROWS: [LongRow; 3] = [
     ("", "\x1b", 1_000, "", ""),

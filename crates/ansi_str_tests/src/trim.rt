@@ -69,7 +69,23 @@ fn long_texts_are_kept(rt: HostRuntime) -> Result<(), Fail> {
     let blanks = " ".repeat(rt.alloc(), MANY)?;
     let want = "\x1b[1m".repeat(rt.alloc(), MANY)?;
     let (blanks, want) = (blanks.as_str(), want.as_str());
-    expect_prefix(&rt, rt.alloc(), &text, blanks, Some(want), false, "a long text")?;
-    expect_suffix(&rt, rt.alloc(), &text, blanks, Some(want), false, "a long text")?;
+    expect_prefix(
+        &rt,
+        rt.alloc(),
+        &text,
+        blanks,
+        Some(want),
+        false,
+        "a long text",
+    )?;
+    expect_suffix(
+        &rt,
+        rt.alloc(),
+        &text,
+        blanks,
+        Some(want),
+        false,
+        "a long text",
+    )?;
     expect_trimmed(&rt, rt.alloc(), &text, want, false, "a long text")
 }
