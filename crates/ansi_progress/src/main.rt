@@ -53,12 +53,14 @@ fn push_steps(line: &mut String, sample: &AnsiBlock<'_>, count: u32) -> Result<(
 
 fn main(rt: HostRuntime) -> anyhow::Result<()> {
     let alloc = rt.alloc();
-    let sample = env::args(&rt)?
-        .nth(1)
-        .context("no sample is given")?;
+    let sample = env::args(&rt)?.nth(1).context("no sample is given")?;
     let mut blocks = get_blocks(alloc, sample.as_str());
-    let done = blocks.next().context("the sample has no step that is done")??;
-    let left = blocks.next().context("the sample has no step that is left")??;
+    let done = blocks
+        .next()
+        .context("the sample has no step that is done")??;
+    let left = blocks
+        .next()
+        .context("the sample has no step that is left")??;
     for line in rt.lines(alloc) {
         let line = line?;
         let task = Task::parse(line.as_str()).context("a line is NAME DONE TOTAL")?;
