@@ -27,6 +27,20 @@ fn the_first_example_is_right(rt: HostRuntime) -> Result<(), Fail> {
     Ok(())
 }
 
+// An answer is a text like any other.
+#[test]
+fn a_cut_is_stripped(rt: HostRuntime) -> Result<(), Fail> {
+    let log = "\x1b[31mred\x1b[39m and plain";
+    assert!(rt;
+        log.ansi_cut(rt.alloc(), ..5)?
+            .as_str()
+            .ansi_strip(rt.alloc())?
+            .as_str()
+            == "red a"
+    );
+    Ok(())
+}
+
 // A table cuts a cell to a width in bytes. Nothing stays open after it.
 #[test]
 fn a_cell_is_cut_to_a_width(rt: HostRuntime) -> Result<(), Fail> {

@@ -3,7 +3,6 @@
 
 pub mod callers;
 pub mod clones;
-
 #[cfg(test)]
 mod docs;
 #[cfg(test)]

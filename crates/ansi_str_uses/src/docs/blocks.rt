@@ -16,7 +16,9 @@ fn the_examples_are_right(rt: HostRuntime) -> Result<(), Fail> {
 }
 
 fn ansi_block_example<R: Abort + AllocGlobal>(rt: &R) -> Result<(), Fail> {
-    let block = get_blocks(rt.alloc(), "\x1b[1mbold").next().ok_or("no block")??;
+    let block = get_blocks(rt.alloc(), "\x1b[1mbold")
+        .next()
+        .ok_or("no block")??;
     assert!(rt; block.text() == "bold" && block.style().is_bold());
     Ok(())
 }
@@ -29,19 +31,25 @@ fn text_example<R: Abort + AllocGlobal>(rt: &R) -> Result<(), Fail> {
 }
 
 fn has_ansi_example<R: Abort + AllocGlobal>(rt: &R) -> Result<(), Fail> {
-    let block = get_blocks(rt.alloc(), "\x1b[12mx").next().ok_or("no block")??;
+    let block = get_blocks(rt.alloc(), "\x1b[12mx")
+        .next()
+        .ok_or("no block")??;
     assert!(rt; block.has_ansi());
     Ok(())
 }
 
 fn style_example<R: Abort + AllocGlobal>(rt: &R) -> Result<(), Fail> {
-    let block = get_blocks(rt.alloc(), "\x1b[1mx").next().ok_or("no block")??;
+    let block = get_blocks(rt.alloc(), "\x1b[1mx")
+        .next()
+        .ok_or("no block")??;
     assert!(rt; block.style().is_bold() && !block.style().is_italic());
     Ok(())
 }
 
 fn clone_example<R: Abort + AllocGlobal>(rt: &R) -> Result<(), Fail> {
-    let block = get_blocks(rt.alloc(), "\x1b[1mx").next().ok_or("no block")??;
+    let block = get_blocks(rt.alloc(), "\x1b[1mx")
+        .next()
+        .ok_or("no block")??;
     assert!(rt; block.clone()? == block);
     Ok(())
 }

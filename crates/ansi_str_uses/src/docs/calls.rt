@@ -62,7 +62,9 @@ fn ansi_find_example(rt: &impl Abort) {
 
 fn ansi_strip_prefix_example<R: Abort + AllocGlobal>(rt: &R) -> Result<(), Fail> {
     let text = "\x1b[31mred\x1b[39m and plain";
-    let rest = text.ansi_strip_prefix(rt.alloc(), "red ")?.ok_or("no prefix")?;
+    let rest = text
+        .ansi_strip_prefix(rt.alloc(), "red ")?
+        .ok_or("no prefix")?;
     assert!(rt; rest.as_str() == "\x1b[31m\x1b[39mand plain");
     assert!(rt; text.ansi_strip_prefix(rt.alloc(), "and")?.is_none());
     Ok(())
@@ -70,7 +72,9 @@ fn ansi_strip_prefix_example<R: Abort + AllocGlobal>(rt: &R) -> Result<(), Fail>
 
 fn ansi_strip_suffix_example<R: Abort + AllocGlobal>(rt: &R) -> Result<(), Fail> {
     let text = "plain and \x1b[31mred\x1b[39m";
-    let rest = text.ansi_strip_suffix(rt.alloc(), " red")?.ok_or("no suffix")?;
+    let rest = text
+        .ansi_strip_suffix(rt.alloc(), " red")?
+        .ok_or("no suffix")?;
     assert!(rt; rest.as_str() == "plain and\x1b[31m\x1b[39m");
     assert!(rt; text.ansi_strip_suffix(rt.alloc(), "and")?.is_none());
     Ok(())

@@ -12,7 +12,9 @@ fn the_examples_are_right(rt: HostRuntime) -> Result<(), Fail> {
 }
 
 fn color_example<R: Abort + AllocGlobal>(rt: &R) -> Result<(), Fail> {
-    let block = get_blocks(rt.alloc(), "\x1b[38;5;200mx").next().ok_or("no block")??;
+    let block = get_blocks(rt.alloc(), "\x1b[38;5;200mx")
+        .next()
+        .ok_or("no block")??;
     assert!(rt; block.style().foreground() == Some(Color::Fixed(200)));
     assert!(rt; Color::Black < Color::Red);
     Ok(())

@@ -24,7 +24,9 @@ fn ansi_split_example<R: Abort + AllocGlobal>(rt: &R) -> Result<(), Fail> {
 }
 
 fn split_in_example<R: Abort + AllocGlobal>(rt: &R) -> Result<(), Fail> {
-    let part = split_in(rt.alloc(), "\x1b[1mlion,tiger", ",").next().ok_or("no part")??;
+    let part = split_in(rt.alloc(), "\x1b[1mlion,tiger", ",")
+        .next()
+        .ok_or("no part")??;
     assert!(rt; part.as_str() == "\x1b[1mlion\x1b[22m");
     Ok(())
 }
