@@ -31,11 +31,11 @@ HaveFailed status answer old new old_entries new_entries = (answer ≡ none stat
 abbrev pub AreWritten : {T : Type 0} → List ℕ → List T → ListAnswer → List ℕ → List ℕ → List T → List T → Type 0
 AreWritten bytes entries answer old new old_entries new_entries =
     ((length bytes ≤ length old) × (length entries ≤ length old_entries)
-        × (answer ≡ record { status = ok; count = length entries; len = length bytes })
-        × (new ≡ bytes ++ drop (length bytes) old) × (new_entries ≡ entries ++ drop (length entries) old_entries))
+    × (answer ≡ record { status = ok; count = length entries; len = length bytes })
+    × (new ≡ bytes ++ drop (length bytes) old) × (new_entries ≡ entries ++ drop (length entries) old_entries))
     ⊎ (((length old < length bytes) ⊎ (length old_entries < length entries))
-        × (answer ≡ record { status = too_small; count = length entries; len = length bytes })
-        × (new ≡ old) × (new_entries ≡ old_entries))
+    × (answer ≡ record { status = too_small; count = length entries; len = length bytes })
+    × (new ≡ old) × (new_entries ≡ old_entries))
 
 -- a call gives all texts, or memory is wanting
 abbrev pub GivesAll : {T : Type 0} → List ℕ → List T → ListAnswer → List ℕ → List ℕ → List T → List T → Type 0

@@ -102,11 +102,7 @@ pub extern "C" fn ansi_str_raw_block_end(
 
 /// The style of the block of an index.
 #[unsafe(no_mangle)]
-pub extern "C" fn ansi_str_raw_block_style(
-    alloc: Global,
-    text: &[u8],
-    index: usize,
-) -> StyleAnswer
+pub extern "C" fn ansi_str_raw_block_style(alloc: Global, text: &[u8], index: usize) -> StyleAnswer
     ensures { OnUtf8 (text.now ∷ [])
         (TellsStyle (has_escape text.now) (option_map (λ b. b.style) (slice_get (blocks text.now) index)) result)
         (result ≡ no_style not_utf8) }
@@ -125,11 +121,7 @@ pub extern "C" fn ansi_str_raw_block_style(
 }
 
 /// The block of an index, or `None` where there are not so many blocks.
-fn find_block(
-    alloc: Global,
-    text: &str,
-    index: usize,
-) -> Result<Option<AnsiBlock<'_>>, AllocError>
+fn find_block(alloc: Global, text: &str, index: usize) -> Result<Option<AnsiBlock<'_>>, AllocError>
     ensures found { IfOk result (λ found. found ≡ slice_get (blocks text.now) index) }
     ensures takes_no_memory { IsFalse (has_escape text.now) → IsOk result }
 {

@@ -14,11 +14,17 @@ use std::alloc::{AllocError, Global};
 use std::str;
 
 const CUT: u32 = 0;
+
 const LEFT: u32 = 1;
+
 const RIGHT: u32 = 2;
+
 const PART: u32 = 3;
+
 const PREFIX: u32 = 4;
+
 const SUFFIX: u32 = 5;
+
 const TRIM: u32 = 6;
 
 /// One edit of a text: its kind, and two numbers and a pattern, of which the kind says what it takes.
@@ -52,10 +58,7 @@ pub extern "C" fn ansi_str_raw_edit(
 }
 
 /// The edits that steps are, or `None` where a pattern isn't UTF-8.
-fn edits_of<'a>(
-    alloc: Global,
-    steps: &[EditStep<'a>],
-) -> Result<Option<Vec<Edit<'a>>>, AllocError>
+fn edits_of<'a>(alloc: Global, steps: &[EditStep<'a>]) -> Result<Option<Vec<Edit<'a>>>, AllocError>
     ensures { IfOk result (λ found. MatchOption found
         (list_all is_utf8 (patterns_of steps.now) ≡ false)
         (λ edits. (list_all is_utf8 (patterns_of steps.now) ≡ true) × (changes_of edits.items ≡ map change_of_step steps.now))) }

@@ -94,11 +94,7 @@ pub extern "C" fn ansi_str_raw_blocks(
 }
 
 /// The parts of a text one after the other, and where each ends.
-fn join_parts(
-    alloc: Global,
-    text: &str,
-    pat: &str,
-) -> Result<(String, Vec<usize>), AllocError>
+fn join_parts(alloc: Global, text: &str, pat: &str) -> Result<(String, Vec<usize>), AllocError>
     ensures texts { IfOk result (λ joined. string_bytes joined.0 ≡ flat_map (λ p. p) (all_parts text.now pat.now)) }
     ensures ends { IfOk result (λ joined. joined.1.items ≡ ends_from 0 (all_parts text.now pat.now)) }
 {

@@ -7,14 +7,23 @@ ghost use Rattle.ansi_str_c.specs.Styles.{color_data, style_data, attributes_of}
 use ansi_str::{AnsiBlock, Color, Style};
 
 const BOLD: u32 = 1;
+
 const FAINT: u32 = 2;
+
 const ITALIC: u32 = 4;
+
 const UNDERLINE: u32 = 8;
+
 const SLOW_BLINK: u32 = 16;
+
 const RAPID_BLINK: u32 = 32;
+
 const INVERSE: u32 = 64;
+
 const HIDE: u32 = 128;
+
 const CROSSED_OUT: u32 = 256;
+
 const FRAKTUR: u32 = 512;
 
 /// A color: its kind, and its numbers where the kind has any.

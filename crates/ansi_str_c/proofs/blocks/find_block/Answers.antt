@@ -1,4 +1,4 @@
-use Rattle.std.proofs.Common.{rules, ◌≡◌, ◌∙◌, sym, refl, arith, ℕ, zero, suc, ◌-◌, ◌<◌, List, ◌∷◌, Bool, true, false, ◌&&◌, Some, Result, Ok, slice_get, subst, IsTrue}
+use Rattle.std.proofs.Common.{rules, ◌≡◌, ◌∙◌, arith, ℕ, zero, suc, ◌-◌, ◌<◌, List, ◌∷◌, Bool, true, false, ◌&&◌, Some, Result, Ok, slice_get, subst, IsTrue}
 use Rattle.std.specs.List.{list_all}
 use Rattle.ansi_str.specs.Blocks.{Block, GivesBlock}
 use Rattle.ansi_str_c.proofs.blocks.find_block.Goals as goal

@@ -8,6 +8,6 @@ use Rattle.ansi_str_c.proofs.blocks.find_block.Given as goal
 -- the block of the index is among those that are left, and they are borrows where all are
 abbrev pub invariant-loop-block : goal.invariant-loop-block
 invariant-loop-block l = record {
-    found : slice_get l.block-iterator l.before ≡ slice_get (blocks l.text) l.index;
-    borrowed : IsFalse (has_escape l.text) → IsTrue (list_all (λ b. b.is_borrow) l.block-iterator);
-  }
+  found : slice_get l.block-iterator l.before ≡ slice_get (blocks l.text) l.index;
+  borrowed : IsFalse (has_escape l.text) → IsTrue (list_all (λ b. b.is_borrow) l.block-iterator);
+}

@@ -1,4 +1,4 @@
-use Rattle.std.proofs.Common.{◌≡◌, ◌∷◌, [], ℕ, List, subst, inl}
+use Rattle.std.proofs.Common.{◌∷◌, [], ℕ, List, subst, inl}
 use Rattle.ansi_str.specs.Changes.{PartOf}
 use Rattle.ansi_str_c.specs.Answers.{no, not_utf8, OnUtf8, HasFailed, GivesEdited}
 use Rattle.ansi_str_c.proofs.texts.ansi_str_raw_part.Goals as goal
