@@ -147,7 +147,6 @@ fn write_right<A: Allocator>(alloc: A, style: Style, text: &str) -> Result<Strin
 
 /// Appends a piece of text in a style: its start, the piece and its close, or nothing for an empty
 /// piece. An `Err` means that memory is wanting; what was appended up to there stands.
-#[inline(always)]
 fn write_dressed<A: Allocator>(
     out: &mut String<A>,
     style: &Style,
