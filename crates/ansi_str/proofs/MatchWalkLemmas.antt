@@ -179,7 +179,7 @@ walked-cut {c} {t} {p} {from} {offset} {ahead} {start} {n} {style} {marked} {w} 
     = ap (λ ms. length (up_to start ms) == 0) (marks_of-text w ps) ∙ ap (λ ms. length ms == 0) (up_to-none start (length w) (marks_of ps) inside) in (
       is_cut_at_match t p from (m + start) (take n t) (drop n t) utf8 utf8_p found cut,
       front_is c t (m + start) (take n t) (drop n t) style marked cut (first.styles start ∙ style_by_marks-before style w ps start inside)
-      (first.unmarked start ∙ ap (λ b. not marked && b) none ∙ always (not marked)),
+          (first.unmarked start ∙ ap (λ b. not marked && b) none ∙ always (not marked)),
     )
 
 -- nothing is left: the front is all of the text, and only the empty pattern may stand at its end

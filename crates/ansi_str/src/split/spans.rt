@@ -17,6 +17,7 @@ use std::marker::Model;
 
 /// How many bytes most starts have, and most closes.
 const START_ROOM: usize = 24;
+
 const CLOSE_ROOM: usize = 16;
 
 /// What one part is written from.

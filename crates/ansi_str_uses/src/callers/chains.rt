@@ -10,16 +10,16 @@ use ansi_str::AnsiStr;
 use std::alloc::{AllocError, Global};
 
 /// The plain text of a cut, in memory of its own.
-pub fn plain_cut(
-    alloc: Global,
-    text: &str,
-    start: usize,
-    end: usize,
-) -> Result<String, AllocError>
+pub fn plain_cut(alloc: Global, text: &str, start: usize, end: usize) -> Result<String, AllocError>
     requires good { IsTrue (is_good_range (plain text.now) start (Some end)) }
     ensures { IfOk result (λ s. string_bytes s ≡ plain (cut text.now start (Some end))) }
 {
-    String::from_str(alloc, text.ansi_cut(alloc, start..end)?.ansi_strip(alloc)?.as_str())
+    String::from_str(
+        alloc,
+        text.ansi_cut(alloc, start..end)?
+            .ansi_strip(alloc)?
+            .as_str(),
+    )
 }
 
 /// Whether the plain text, without the white space at its ends, begins with the pattern.

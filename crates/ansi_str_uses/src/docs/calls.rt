@@ -28,7 +28,13 @@ fn ansi_str_example<R: Abort + AllocGlobal>(rt: &R) -> Result<(), Fail> {
     let owned = String::from_str(rt.alloc(), borrowed)?;
     assert!(rt; borrowed.ansi_strip(rt.alloc())?.as_str() == "red");
     assert!(rt; owned.ansi_strip(rt.alloc())?.as_str() == "red");
-    assert!(rt; owned.ansi_cut(rt.alloc(), ..2)?.ansi_strip(rt.alloc())?.as_str() == "re");
+    assert!(rt;
+        owned
+            .ansi_cut(rt.alloc(), ..2)?
+            .ansi_strip(rt.alloc())?
+            .as_str()
+            == "re"
+    );
     Ok(())
 }
 
