@@ -90,7 +90,7 @@ pub fn join()
     ensures whole { (u v : List ℕ) → IsTrue (is_whole u) → IsTrue (is_whole v) → IsTrue (is_whole (u ++ v)) }
     ensures whole_cut { (t : List ℕ) (s : ℕ) (e : Option ℕ) → IsTrue (is_whole t) → IsTrue (is_whole (cut t s e)) }
     ensures whole_sides { (t : List ℕ) (mid : ℕ) → IsTrue (is_whole t) → IsTrue (is_whole (left_side t mid)) × IsTrue (is_whole (right_side t mid)) }
-    ensures span_part { (t p : List ℕ) (k : ℕ) (u : List ℕ) → IsTrue (is_whole t) → part t p k ≡ Some u → IsTrue (is_whole u) }
+    ensures whole_part { (t p : List ℕ) (k : ℕ) (u : List ℕ) → IsTrue (is_whole t) → part t p k ≡ Some u → IsTrue (is_whole u) }
     ensures whole_kept { (t : List ℕ) (a b : ℕ) → IsTrue (is_whole t) → IsTrue (is_whole (kept t a b)) }
     ensures closed_cut { (t : List ℕ) (s : ℕ) (e : Option ℕ) → IsTrue (is_whole t) → residue (cut t s e) ≡ plain_style }
     ensures closed_sides { (t : List ℕ) (mid : ℕ) → IsTrue (is_whole t) → (residue (left_side t mid) ≡ plain_style) × (residue (right_side t mid) ≡ plain_style) }

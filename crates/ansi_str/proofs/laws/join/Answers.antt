@@ -17,8 +17,8 @@ returns-clause-whole_cut c = is_whole-cut
 pub returns-clause-whole_sides : goal.returns-clause-whole_sides
 returns-clause-whole_sides c = λ t mid whole. ((left_side_is t mid whole).whole, (right_side_is t mid whole).whole)
 
-pub returns-clause-span_part : goal.returns-clause-span_part
-returns-clause-span_part c = is_whole-part
+pub returns-clause-whole_part : goal.returns-clause-whole_part
+returns-clause-whole_part c = is_whole-part
 
 pub returns-clause-closed_cut : goal.returns-clause-closed_cut
 returns-clause-closed_cut c = residue-cut
