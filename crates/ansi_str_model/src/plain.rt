@@ -162,7 +162,12 @@ fn expect_read(rt: &impl Abort, alloc: Global, text: &str) -> Result<(), Fail> {
     expect_items(rt, alloc, text, items.as_slice())?;
     expect_plain(rt, alloc, text, items.as_slice())?;
     let has_any = text.as_bytes().contains(&ESC);
-    expect(rt, text.ansi_has_any() == has_any, "whether it has an ESC", text);
+    expect(
+        rt,
+        text.ansi_has_any() == has_any,
+        "whether it has an ESC",
+        text,
+    );
     Ok(())
 }
 

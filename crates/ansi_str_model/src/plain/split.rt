@@ -106,18 +106,17 @@ fn part(
 }
 
 /// Compares a part of a text by a pattern, and whether it is a borrow.
-fn expect_part(
-    rt: &impl Abort,
-    got: &CowStr<'_>,
-    want: &(String, bool),
-    text: &str,
-    pat: &str,
-) {
+fn expect_part(rt: &impl Abort, got: &CowStr<'_>, want: &(String, bool), text: &str, pat: &str) {
     let (bytes, is_borrow) = want;
     let name = (text, pat, bytes.as_str());
     expect(rt, got.as_str() == bytes.as_str(), "a part", name);
     let got_borrow = matches!(got, CowStr::Borrowed(_));
-    expect(rt, got_borrow == *is_borrow, "whether a part is a borrow", name);
+    expect(
+        rt,
+        got_borrow == *is_borrow,
+        "whether a part is a borrow",
+        name,
+    );
 }
 
 /// Compares the parts of a text by a pattern.
