@@ -1,7 +1,7 @@
 /* Passes rows of texts and answers through the calls, and ends with 1 where one differs.
 
    A row is one line of standard input, its fields stand between TABs: a call, the status, the answer, the text, and then
-   what else the call takes. `\xHH` is the byte HH in a field. The answer is a text, or the length where a call
+   what else the call takes. `\xHH` is the byte HH in a field; `bindings/test` has written out each `\{N:TEXT}`, which is TEXT N times. The answer is a text, or the length where a call
    writes none; for `split` and `blocks` it is how many there are, and what they give follows what they take.
 
    Each text is also asked for with a buffer that is one byte too small, with one that is larger, and with each request
@@ -12,7 +12,7 @@
 #include <stdlib.h>
 #include <string.h>
 
-enum { MOST_FIELDS = 4096, GUARD = 0x5a };
+enum { MOST_FIELDS = 8192, GUARD = 0x5a };
 
 /* Requests for memory that are still granted; a negative number grants all. */
 static long granted = -1;

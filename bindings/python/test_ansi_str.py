@@ -11,6 +11,11 @@ ROWS = os.path.join(os.path.dirname(os.path.abspath(__file__)), "../rows.tsv")
 KINDS = [ansi_str.Cut, ansi_str.Left, ansi_str.Right, ansi_str.Part, ansi_str.Prefix, ansi_str.Suffix, ansi_str.Trim]
 
 
+def expanded(line):
+    """A row in which each `\\{N:TEXT}` is TEXT N times."""
+    return re.sub(rb"\\\{(\d+):(.*?)\}", lambda repeat: repeat[2] * int(repeat[1]), line)
+
+
 def bytes_of(field):
     return re.sub(rb"\\x(..)", lambda digits: bytes([int(digits[1], 16)]), field)
 
@@ -22,7 +27,7 @@ def rows():
             if not line:
                 continue
             try:
-                yield [bytes_of(field).decode() for field in line.split(b"\t")]
+                yield [bytes_of(field).decode() for field in expanded(line).split(b"\t")]
             except UnicodeDecodeError:
                 pass
 
