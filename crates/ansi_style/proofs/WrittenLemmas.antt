@@ -1,47 +1,181 @@
 -- What the code writes for a start and a close, row by row, as the definitions have it.
-use Rattle.std.proofs.Common.{◌≡◌, ℕ, Bool, true, false, List, [], ◌++◌, ◌&&◌, is_some, codes, refl, append_assoc, append-nil, bit_and, if◌then◌else◌}
+use Rattle.std.proofs.Common.{◌≡◌, ℕ, Bool, true, false, List, [], ◌∷◌, ◌++◌, ◌&&◌, ◌||◌, ◌==◌, ◌+◌, ◌^◌, not, is_some, codes, refl, sym, ◌∙◌, ap, ap₂, append_assoc, append-nil, bit_and, nat_lt, if◌then◌else◌}
 use Rattle.std.proofs.Math.Bool.{or-false}
 use Rattle.std.proofs.lemmas.Grind.{flat_map-append}
 use Rattle.std.proofs.lemmas.Nat.{and_assoc}
 use Rattle.std.specs.Prelude.{flat_map}
 use Rattle.ansi_style.specs.declared.state.Style.{Style}
 use Rattle.ansi_style.specs.declared.state.attributes.Attributes.{Attributes}
-use Rattle.ansi_style.specs.declared.state.attributes.TheConstants.Attributes.{LETTERS, SHAPES, FRAMES, ENDS}
-use Rattle.ansi_style.specs.declared.state.written.TheConstants.{START_LETTERS, START_SHAPES, START_FRAMES, CLOSE_LETTERS, CLOSE_FRAMES, CLOSE_ENDS}
+use Rattle.ansi_style.specs.declared.state.attributes.TheConstants.Attributes.{INTENSITY, LETTERS, SHAPES, FRAMES, ENDS, IDEOGRAM}
+use Rattle.ansi_style.specs.declared.state.written.TheConstants.{START_INTENSITY, START_LETTERS, START_SHAPES, START_FRAMES, CLOSE_LETTERS, CLOSE_FRAMES, CLOSE_ENDS}
 use Rattle.ansi_style.specs.States.{has, has_one, rendition_of}
-use Rattle.ansi_style.specs.Written.{written, written_all, when, color_codes, font_codes, start, close}
-use Rattle.ansi_style.proofs.BitsLemmas.{has_one-places}
+use Rattle.ansi_style.specs.Written.{written, written_all, when, color_codes, font_codes, start_codes, close_codes, start, close}
+use Rattle.ansi_style.proofs.BitsLemmas.{has_one-places, has_one_in_last}
 
-written_all-when : (b : Bool) (code : List ℕ) → written_all (when b code) ≡ (if b then written code else [])
-written_all-when true code = append-nil (written code)
-written_all-when false code = refl
+-- Whether a set has one of some attributes.
 
--- what is written for those rows of which an attribute is in the set and in the group
-abbrev written_rows : {T : Type 0} → Attributes → Attributes → List (Attributes × T) → (T → List ℕ) → List ℕ
-written_rows set group rows text = flat_map (λ row. if has_one (bit_and set.0 group.0) row.0.0 then text row.1 else []) rows
+-- those of a group, where these are in it
+of_group : (set group attributes : ℕ) → bit_and group attributes ≡ attributes → nat_lt attributes (2 ^ 24) ≡ true
+    → has_one (bit_and set group) attributes ≡ has_one_in_last set attributes 24
+of_group set group attributes inside below =
+    ap (λ m. not (m == 0)) (and_assoc attributes set group ∙ ap (bit_and set) inside) ∙ has_one-places set attributes below
+
+-- the attribute at a place
+one : (set group k : ℕ) → bit_and group (2 ^ k) ≡ 2 ^ k → nat_lt (2 ^ k) (2 ^ 24) ≡ true → has_one_in_last set (2 ^ k) 24 ≡ (has set k || false)
+    → has_one (bit_and set group) (2 ^ k) ≡ has set k
+one set group k inside below place = of_group set group (2 ^ k) inside below ∙ place ∙ or-false (has set k)
+
+-- those at two places
+two : (set group j k : ℕ) → bit_and group (2 ^ j + 2 ^ k) ≡ 2 ^ j + 2 ^ k → nat_lt (2 ^ j + 2 ^ k) (2 ^ 24) ≡ true
+    → has_one_in_last set (2 ^ j + 2 ^ k) 24 ≡ (has set j || (has set k || false)) → has_one (bit_and set group) (2 ^ j + 2 ^ k) ≡ (has set j || has set k)
+two set group j k inside below places = of_group set group (2 ^ j + 2 ^ k) inside below ∙ places ∙ ap (λ b. has set j || b) (or-false (has set k))
+
+-- What is written, code by code.
 
 abbrev written_if : Bool → List ℕ → List ℕ
 written_if b sequence = if b then sequence else []
 
+written_when : (b : Bool) (code : List ℕ) (xs : List (List ℕ)) → written_if b (written code) ++ written_all xs ≡ written_all (when b code ++ xs)
+written_when true code xs = refl
+written_when false code xs = refl
+
+abbrev joined : List (List (List ℕ)) → List (List ℕ)
+joined = flat_map (λ codes. codes)
+
+-- what is left to write, of a group of rows and after it, is what is written for these codes
+record Writes (rows rest : List ℕ) (all : List (List (List ℕ))) : Type 0 where
+  pub is : rows ++ rest ≡ written_all (joined all)
+
+nothing : Writes [] [] []
+nothing = record { is = refl }
+
+-- a code that is written where a test says so
+row : {rest : List ℕ} {all : List (List (List ℕ))} {b c : Bool} (code : List ℕ) → c ≡ b → Writes [] rest all
+    → Writes [] (written_if c (written code) ++ rest) (when b code ∷ all)
+row {all = all} {b} code same later = record { is = ap₂ (λ c v. written_if c (written code) ++ v) same later.is ∙ written_when b code (joined all) }
+
+-- the same in a group of rows
+row_in : {rows rest : List ℕ} {all : List (List (List ℕ))} {b c : Bool} (code : List ℕ) → c ≡ b → Writes rows rest all
+    → Writes (written_if c (written code) ++ rows) rest (when b code ∷ all)
+row_in {rows} {rest} {all} {b} {c} code same later = record {
+  is = append_assoc (written_if c (written code)) rows rest ∙ ap₂ (λ c v. written_if c (written code) ++ v) same later.is ∙ written_when b code (joined all);
+}
+
+-- a group of rows, and the last one
+group : {rows rest : List ℕ} {all : List (List (List ℕ))} → Writes rows rest all → Writes [] (rows ++ rest) all
+group later = record { is = later.is }
+
+last_group : {rows : List ℕ} {all : List (List (List ℕ))} → Writes rows [] all → Writes [] rows all
+last_group {rows} later = record { is = sym (append-nil rows) ∙ later.is }
+
+-- codes that are written as they stand
+codes_then : {rest : List ℕ} {all : List (List (List ℕ))} (cs : List (List ℕ)) → Writes [] rest all → Writes [] (written_all cs ++ rest) (cs ∷ all)
+codes_then {all = all} cs later = record { is = ap (λ v. written_all cs ++ v) later.is ∙ sym (flat_map-append written cs (joined all)) }
+
+three_then : {rest : List ℕ} {all : List (List (List ℕ))} (a b c : List (List ℕ)) → Writes [] rest all → Writes [] (written_all (a ++ b ++ c) ++ rest) (a ∷ b ∷ c ∷ all)
+three_then {all = all} a b c later = record {
+  is = (codes_then (a ++ b ++ c) later).is ∙ ap written_all (append_assoc (a ++ b) c (joined all) ∙ append_assoc a b (c ++ joined all));
+}
+
+-- codes that are joined from the left
+abbrev joined_after : List (List ℕ) → List (List (List ℕ)) → List (List ℕ)
+joined_after xs [] = xs
+joined_after xs (w ∷ all) = joined_after (xs ++ w) all
+
+joined_after-joined : (xs : List (List ℕ)) (all : List (List (List ℕ))) → xs ++ joined all ≡ joined_after xs all
+joined_after-joined xs [] = append-nil xs
+joined_after-joined xs (w ∷ all) = sym (append_assoc xs w (joined all)) ∙ joined_after-joined (xs ++ w) all
+
+all_written : {w : List ℕ} {all : List (List (List ℕ))} → Writes [] w all → (xs : List (List ℕ)) → joined_after [] all ≡ xs → w ≡ written_all xs
+all_written {all = all} writes xs same = writes.is ∙ ap written_all (joined_after-joined [] all ∙ same)
+
+-- a step, and those after it
+◌before◌ : {A B : Type 0} → (A → B) → A → B
+f before x = f x
+
+infixr 30 ◌before◌
+-- what is written for those rows of which an attribute is in the set and in the group
+abbrev written_rows : {T : Type 0} → Attributes → Attributes → List (Attributes × T) → (T → List ℕ) → List ℕ
+written_rows set group rows text = flat_map (λ row. if has_one (bit_and set.0 group.0) row.0.0 then text row.1 else []) rows
+
 pub start_by_rows : (s : Style) →
-    written_rows s.attributes LETTERS START_LETTERS.now (λ w. w.now)
+    written_rows s.attributes INTENSITY START_INTENSITY.now (λ w. w.now)
+    ++ (written_rows s.attributes LETTERS START_LETTERS.now (λ w. w.now)
     ++ (written_all (font_codes s.font)
     ++ (written_rows s.attributes SHAPES START_SHAPES.now (λ w. w.now)
     ++ (written_all (color_codes (codes "38") s.foreground ++ color_codes (codes "48") s.background ++ color_codes (codes "58") s.underline_color)
-    ++ written_rows s.attributes FRAMES START_FRAMES.now (λ w. w.now))))
+    ++ written_rows s.attributes FRAMES START_FRAMES.now (λ w. w.now)))))
     ≡ start (rendition_of s)
 unfolding rendition_of
-start_by_rows s = simp (and_assoc, has_one-places, or-false) (simp (flat_map-append, written_all-when) (simp (append_assoc, append-nil)))
+start_by_rows s =
+    let n = s.attributes.0 in
+    all_written
+    (group
+    before row_in (codes "1") (one n INTENSITY.0 0 refl refl refl)
+    before row_in (codes "2") (one n INTENSITY.0 1 refl refl refl)
+    before group
+    before row_in (codes "3") (one n LETTERS.0 2 refl refl refl)
+    before row_in (codes "4") (one n LETTERS.0 3 refl refl refl)
+    before row_in (codes "5") (one n LETTERS.0 5 refl refl refl)
+    before row_in (codes "6") (one n LETTERS.0 6 refl refl refl)
+    before row_in (codes "7") (one n LETTERS.0 7 refl refl refl)
+    before row_in (codes "8") (one n LETTERS.0 8 refl refl refl)
+    before row_in (codes "9") (one n LETTERS.0 9 refl refl refl)
+    before codes_then (font_codes s.font)
+    before group
+    before row_in (codes "20") (one n SHAPES.0 12 refl refl refl)
+    before row_in (codes "21") (one n SHAPES.0 4 refl refl refl)
+    before row_in (codes "26") (one n SHAPES.0 13 refl refl refl)
+    before three_then (color_codes (codes "38") s.foreground) (color_codes (codes "48") s.background) (color_codes (codes "58") s.underline_color)
+    before last_group
+    before row_in (codes "51") (one n FRAMES.0 10 refl refl refl)
+    before row_in (codes "52") (one n FRAMES.0 11 refl refl refl)
+    before row_in (codes "53") (one n FRAMES.0 14 refl refl refl)
+    before row_in (codes "60") (one n FRAMES.0 15 refl refl refl)
+    before row_in (codes "61") (one n FRAMES.0 16 refl refl refl)
+    before row_in (codes "62") (one n FRAMES.0 17 refl refl refl)
+    before row_in (codes "63") (one n FRAMES.0 18 refl refl refl)
+    before row_in (codes "64") (one n FRAMES.0 19 refl refl refl)
+    before row_in (codes "73") (one n FRAMES.0 20 refl refl refl)
+    before row_in (codes "74") (one n FRAMES.0 21 refl refl refl)
+    before nothing)
+    (start_codes (rendition_of s)) refl
 
 pub close_by_rows : (s : Style) →
     written_if (has s.attributes.0 23 && has s.attributes.0 22) (codes "\u{1b}[0m")
     ++ (written_if (is_some s.font) (codes "\u{1b}[10m")
+    ++ (written_if (has_one s.attributes.0 INTENSITY.0) (codes "\u{1b}[22m")
     ++ (written_rows s.attributes LETTERS CLOSE_LETTERS.now (λ w. w.now)
-    ++ written_if (is_some s.foreground) (codes "\u{1b}[39m")))
+    ++ (written_if (is_some s.foreground) (codes "\u{1b}[39m")
     ++ (written_if (is_some s.background) (codes "\u{1b}[49m")
     ++ (written_rows s.attributes FRAMES CLOSE_FRAMES.now (λ w. w.now)
     ++ (written_if (is_some s.underline_color) (codes "\u{1b}[59m")
-    ++ written_rows s.attributes ENDS CLOSE_ENDS.now (λ w. w.now))))
+    ++ written_rows s.attributes ENDS CLOSE_ENDS.now (λ w. w.now))))))))
     ≡ close (rendition_of s)
 unfolding rendition_of
-close_by_rows s = simp (and_assoc, has_one-places, or-false) (simp (flat_map-append, written_all-when) (simp (append_assoc, append-nil)))
+close_by_rows s =
+    let n = s.attributes.0 in
+    all_written
+    (row (codes "0") refl
+    before row (codes "10") refl
+    before row (codes "22") (has_one-places n INTENSITY.0 refl ∙ ap (λ b. has n 0 || b) (or-false (has n 1)))
+    before group
+    before row_in (codes "23") (two n LETTERS.0 2 12 refl refl refl)
+    before row_in (codes "24") (two n LETTERS.0 3 4 refl refl refl)
+    before row_in (codes "25") (two n LETTERS.0 5 6 refl refl refl)
+    before row_in (codes "27") (one n LETTERS.0 7 refl refl refl)
+    before row_in (codes "28") (one n LETTERS.0 8 refl refl refl)
+    before row_in (codes "29") (one n LETTERS.0 9 refl refl refl)
+    before row (codes "39") refl
+    before row (codes "49") refl
+    before group
+    before row_in (codes "50") (one n FRAMES.0 13 refl refl refl)
+    before row_in (codes "54") (two n FRAMES.0 10 11 refl refl refl)
+    before row_in (codes "55") (one n FRAMES.0 14 refl refl refl)
+    before row_in (codes "65") (of_group n FRAMES.0 IDEOGRAM.0 refl refl)
+    before row (codes "59") refl
+    before last_group
+    before row_in (codes "75") (two n ENDS.0 20 21 refl refl refl)
+    before row_in (codes "0") (one n ENDS.0 23 refl refl refl)
+    before nothing)
+    (close_codes (rendition_of s)) refl

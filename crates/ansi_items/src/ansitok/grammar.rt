@@ -27,7 +27,7 @@ pub(crate) struct Looks {
 }
 
 impl Looks {
-    ghost use Rattle.std.specs.Prelude.{◌≡◌, ◌+◌, ◌*◌, ◌^◌, ◌<◌, ◌≤◌, length, drop, slice_index, min, IfSome, IfNone, if◌then◌else◌};
+    ghost use Rattle.std.specs.Prelude.{◌≡◌, ◌+◌, ◌*◌, ◌^◌, ◌<◌, ◌≤◌, length, drop, slice_index, min, IfSome, IfNone, if◌then◌else◌, IsTrue};
     ghost use Rattle.std.specs.List.{prefix_len};
     ghost use Rattle.ansi_items.specs.Bytes.{is_parameter_byte, is_intermediate_byte, is_body_byte, is_plain_byte};
     ghost use Rattle.ansi_items.specs.Sequences.{are_private};
@@ -94,16 +94,31 @@ impl Looks {
                 kind: Kind::Other,
                 len: parameters + 3,
             }),
-            0x20..=0x2F => {
-                let intermediates = 1 + self.intermediates_len(&bytes[parameters + 1..]);
-                match self.byte(bytes, parameters + intermediates)? {
-                    0x40..=0x7E => Some(Front {
-                        kind: Kind::Other,
-                        len: parameters + intermediates + 3,
-                    }),
-                    _ => None,
-                }
-            }
+            0x20..=0x2F => self.sequence_with_intermediates(bytes, parameters),
+            _ => None,
+        }
+    }
+
+    /// The control sequence of which the bytes follow ESC `[`, so many of them its parameter bytes, and
+    /// after these an intermediate byte.
+    #[inline(always)]
+    #[tactic(auto, unfolding(crate::specs::Fronts::control_at))]
+    fn sequence_with_intermediates(&mut self, bytes: &[u8], parameters: usize) -> Option<Front>
+        requires parameters { parameters ≡ prefix_len is_parameter_byte bytes.now }
+        requires inside { parameters < length bytes.now }
+        requires intermediate { IsTrue (is_intermediate_byte (slice_index bytes.now parameters)) }
+        requires room { self.old.count + length bytes.now + 1 < 2 ^ 128 }
+        ensures front { result ≡ control_at bytes.now }
+        ensures found { IfSome result (λ f. self.new.count + parameters + 2 ≡ self.old.count + f.len) }
+        ensures more { self.old.count ≤ self.new.count }
+        ensures few { IfNone result (self.new.count + parameters ≤ self.old.count + before_escape bytes.now + 1) }
+    {
+        let intermediates = 1 + self.intermediates_len(&bytes[parameters + 1..]);
+        match self.byte(bytes, parameters + intermediates)? {
+            0x40..=0x7E => Some(Front {
+                kind: Kind::Other,
+                len: parameters + intermediates + 3,
+            }),
             _ => None,
         }
     }

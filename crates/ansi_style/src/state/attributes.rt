@@ -100,8 +100,8 @@ impl Attributes {
 
     pub(crate) const SCRIPT: Attributes = Attributes(0x300000);
 
-    /// Those with codes from 1 to 9, and those that codes below 30 end.
-    pub(crate) const LETTERS: Attributes = Attributes(0x13ff);
+    /// Those with codes from 3 to 9, and the other one that the code of italic's end ends.
+    pub(crate) const LETTERS: Attributes = Attributes(0x13fc);
 
     pub(crate) const SHAPES: Attributes = Attributes(0x3010);
 

@@ -5,7 +5,7 @@ use ansi_items::ansitok::AnsiColor;
 ///
 /// The order of the fields is that in which styles are compared: an attribute that isn't set is less
 /// than one that is, and none is less than any color or font. (The Rust crate.)
-#[derive(Debug, Clone, Copy, PartialEq, Eq, PartialOrd, Ord, Hash)]
+#[derive(Clone, Copy, PartialEq, Eq, PartialOrd, Ord, Hash)]
 pub struct Rendition {
     pub foreground: Option<AnsiColor>,
     pub background: Option<AnsiColor>,

@@ -34,10 +34,10 @@ impl Style {
             11..=19 => self.font = Some(code),
             20 => self.set(Attributes::FRAKTUR),
             21 => self.set(Attributes::DOUBLE_UNDERLINE),
-            22 => self.clear(Attributes::BOLD.union(Attributes::FAINT)),
-            23 => self.clear(Attributes::ITALIC.union(Attributes::FRAKTUR)),
-            24 => self.clear(Attributes::UNDERLINE.union(Attributes::DOUBLE_UNDERLINE)),
-            25 => self.clear(Attributes::SLOW_BLINK.union(Attributes::RAPID_BLINK)),
+            22 => self.clear(Attributes::INTENSITY),
+            23 => self.clear(Attributes::SHAPE),
+            24 => self.clear(Attributes::UNDERLINES),
+            25 => self.clear(Attributes::BLINK),
             26 => self.set(Attributes::PROPORTIONAL_SPACING),
             27 => self.clear(Attributes::INVERSE),
             28 => self.clear(Attributes::HIDE),
@@ -60,7 +60,7 @@ impl Style {
             51 => self.set(Attributes::FRAMED),
             52 => self.set(Attributes::ENCIRCLED),
             53 => self.set(Attributes::OVERLINED),
-            54 => self.clear(Attributes::FRAMED.union(Attributes::ENCIRCLED)),
+            54 => self.clear(Attributes::FRAME),
             55 => self.clear(Attributes::OVERLINED),
             58 => {
                 if let Some(color) = read_color(fields) {
@@ -73,16 +73,10 @@ impl Style {
             62 => self.set(Attributes::IDEOGRAM_OVERLINE),
             63 => self.set(Attributes::IDEOGRAM_DOUBLE_OVERLINE),
             64 => self.set(Attributes::IDEOGRAM_STRESS_MARKING),
-            65 => self.clear(
-                Attributes::IDEOGRAM_UNDERLINE
-                    .union(Attributes::IDEOGRAM_DOUBLE_UNDERLINE)
-                    .union(Attributes::IDEOGRAM_OVERLINE)
-                    .union(Attributes::IDEOGRAM_DOUBLE_OVERLINE)
-                    .union(Attributes::IDEOGRAM_STRESS_MARKING),
-            ),
+            65 => self.clear(Attributes::IDEOGRAM),
             73 => self.set(Attributes::SUPERSCRIPT),
             74 => self.set(Attributes::SUBSCRIPT),
-            75 => self.clear(Attributes::SUPERSCRIPT.union(Attributes::SUBSCRIPT)),
+            75 => self.clear(Attributes::SCRIPT),
             _ => self.set(Attributes::UNKNOWN),
         }
     }

@@ -105,9 +105,12 @@ impl fmt::Display for AnsiSequenceEnd<'_> {
 /// Sequences, each to be written where one of its attributes is set.
 type Rows = &'static [(Attributes, &'static str)];
 
-const START_LETTERS: Rows = &[
+const START_INTENSITY: Rows = &[
     (Attributes::BOLD, "\u{1b}[1m"),
     (Attributes::FAINT, "\u{1b}[2m"),
+];
+
+const START_LETTERS: Rows = &[
     (Attributes::ITALIC, "\u{1b}[3m"),
     (Attributes::UNDERLINE, "\u{1b}[4m"),
     (Attributes::SLOW_BLINK, "\u{1b}[5m"),
@@ -137,7 +140,6 @@ const START_FRAMES: Rows = &[
 ];
 
 const CLOSE_LETTERS: Rows = &[
-    (Attributes::INTENSITY, "\u{1b}[22m"),
     (Attributes::SHAPE, "\u{1b}[23m"),
     (Attributes::UNDERLINES, "\u{1b}[24m"),
     (Attributes::BLINK, "\u{1b}[25m"),
@@ -163,6 +165,7 @@ fn write_start<W: fmt::Write>(f: &mut fmt::Formatter<W>, style: &Style) -> fmt::
     ensures { WritesOnOk W.write_str_gives f.old result (start (rendition_of style.now)) f.new }
 {
     let set = style.attributes;
+    write_rows(f, set.intersection(Attributes::INTENSITY), START_INTENSITY)?;
     write_rows(f, set.intersection(Attributes::LETTERS), START_LETTERS)?;
     write_font(f, style.font)?;
     write_rows(f, set.intersection(Attributes::SHAPES), START_SHAPES)?;
@@ -178,6 +181,7 @@ fn write_close<W: fmt::Write>(f: &mut fmt::Formatter<W>, style: &Style) -> fmt::
     let is_unknown = set.contains(Attributes::UNKNOWN);
     write_when(f, is_unknown & set.contains(Attributes::RESET), "\u{1b}[0m")?;
     write_when(f, style.font.is_some(), "\u{1b}[10m")?;
+    write_when(f, set.intersects(Attributes::INTENSITY), "\u{1b}[22m")?;
     write_rows(f, set.intersection(Attributes::LETTERS), CLOSE_LETTERS)?;
     write_when(f, style.foreground.is_some(), "\u{1b}[39m")?;
     write_when(f, style.background.is_some(), "\u{1b}[49m")?;

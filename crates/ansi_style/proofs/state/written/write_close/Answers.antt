@@ -1,5 +1,5 @@
 use Rattle.std.proofs.Common.{refl}
-use Rattle.std.proofs.lemmas.Grind.{put_four, put_five}
+use Rattle.std.proofs.lemmas.Grind.{put_five}
 use Rattle.ansi_style.specs.States.{rendition_of}
 use Rattle.ansi_style.proofs.WrittenLemmas.{close_by_rows}
 use Rattle.ansi_style.proofs.state.written.write_close.Goals as goal
@@ -9,12 +9,13 @@ unfolding rendition_of
 returns g c = λ plain ok.
     let reset = c.in_ok-write_when.ensures plain refl in
     let font = c.in_ok-write_when-2.ensures reset.plain refl in
-    let letters = c.in_ok-write_rows.ensures font.plain refl in
-    let foreground = c.in_ok-write_when-3.ensures letters.plain refl in
-    let background = c.in_ok-write_when-4.ensures foreground.plain refl in
+    let intensity = c.in_ok-write_when-3.ensures font.plain refl in
+    let letters = c.in_ok-write_rows.ensures intensity.plain refl in
+    let foreground = c.in_ok-write_when-4.ensures letters.plain refl in
+    let background = c.in_ok-write_when-5.ensures foreground.plain refl in
     let frames = c.in_ok-write_rows-2.ensures background.plain refl in
-    let underline_color = c.in_ok-write_when-5.ensures frames.plain refl in
+    let underline_color = c.in_ok-write_when-6.ensures frames.plain refl in
     let ends = c.write_rows-3.ensures underline_color.plain ok in
-    put_five g.W.Write.write_str_gives _ _ _ _ _ _ _ _ _ _ _ _
-    (put_four g.W.Write.write_str_gives _ _ _ _ _ _ _ _ _ _ reset font letters foreground refl) background frames underline_color ends
-    (rw (c.intersection.ensures tt, c.intersection-2.ensures tt, c.intersection-3.ensures tt, c.contains-is_unknown.ensures tt, c.contains.ensures tt, c.is_some.ensures, c.is_some-2.ensures, c.is_some-3.ensures, c.is_some-4.ensures) (close_by_rows c.args.style.now))
+    put_five g.W.Write.write_str_gives _ _ _ _ _ _ _ _ _ _ _ _ reset font intensity letters
+    (put_five g.W.Write.write_str_gives _ _ _ _ _ _ _ _ _ _ _ _ foreground background frames underline_color ends refl)
+    (rw (c.intersection.ensures tt, c.intersection-2.ensures tt, c.intersection-3.ensures tt, c.contains-is_unknown.ensures tt, c.contains.ensures tt, c.intersects.ensures, c.is_some.ensures, c.is_some-2.ensures, c.is_some-3.ensures, c.is_some-4.ensures) (close_by_rows c.args.style.now))
