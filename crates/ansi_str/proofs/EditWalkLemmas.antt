@@ -1,5 +1,5 @@
 -- How far a list of edits has come, and what one edit more is to it.
-use Rattle.std.proofs.Common.{◌≡◌, ◌↔◌, ℕ, List, refl, IsTrue}
+use Rattle.std.proofs.Common.{◌≡◌, ◌↔◌, ℕ, List, IsTrue}
 use Rattle.ansi_str.specs.Changes.{Change}
 use Rattle.ansi_str.specs.Edited.{edited, stay_borrowed}
 
@@ -7,6 +7,3 @@ use Rattle.ansi_str.specs.Edited.{edited, stay_borrowed}
 pub record IsEditedSoFar (es : List Change) (t : List ℕ) (left : List Change) (Lent : Type 0) (u : List ℕ) : Type 0 where
   pub same : edited es t ≡ edited left u
   pub lent : IsTrue (stay_borrowed es t) ↔ (Lent × IsTrue (stay_borrowed left u))
-
-pub so_far-begin : (es : List Change) (t : List ℕ) {Lent : Type 0} → Lent → IsEditedSoFar es t es Lent t
-so_far-begin es t is = record { same = refl; lent = ((λ stays. (is, stays)), (λ both. both.1)) }

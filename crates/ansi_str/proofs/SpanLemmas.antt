@@ -7,9 +7,8 @@ use Rattle.std.proofs.lemmas.List.Elements.{filter_agree}
 use Rattle.std.proofs.lemmas.Str.{IsUtf8-drop, IsCharBoundary-from_take, IsCharBoundary-start}
 use Rattle.std.specs.List.{starts_with}
 use Rattle.std.specs.Str.{IsUtf8}
-use Rattle.ansi_items.specs.Bytes.{escape}
-use Rattle.ansi_items.specs.Pieces.{Piece, Text, Sequence, LoneEscape, pieces_of}
-use Rattle.ansi_items.specs.Plain.{Mark, plain_of, plain, marks_of, marks, up_to}
+use Rattle.ansi_items.specs.Pieces.{pieces_of}
+use Rattle.ansi_items.specs.Plain.{Mark, plain, marks, up_to}
 use Rattle.ansi_slice.specs.Positions.{is_good_position, is_char_boundary}
 use Rattle.ansi_style.specs.declared.state.rendition.Rendition.{Rendition}
 use Rattle.ansi_style.specs.Rendition.{has_any}
@@ -21,27 +20,15 @@ use Rattle.ansi_str.specs.Splits.{SplitPart}
 use Rattle.ansi_str.specs.Spans.{further_on, IsCutAfter, IsCutAtMatch, carried_from, part_from, parts_from, parts_left, span_part}
 use Rattle.ansi_slice.proofs.SliceLemmas.{slice_range-from_past}
 use Rattle.ansi_slice.proofs.ShowLemmas.{show-text}
-use Rattle.ansi_style.proofs.MarkLemmas.{further, marks_of-text, marks_of-sequence, marks_of-lone, up_to-further, up_to-here}
 use Rattle.ansi_items.proofs.Utf8Lemmas.{IsUtf8-plain}
 use Rattle.ansi_slice.proofs.ShownLemmas.{at_places, at_places-further}
 use Rattle.ansi_str.proofs.PartSliceLemmas.{own_places, past-places, at_places-at_places}
 use Rattle.ansi_slice.proofs.PositionLemmas.{good_is_boundary, is_good_position-past, is_char_boundary-from}
 use Rattle.ansi_slice.proofs.MatchLemmas.{starts_with-splits}
+use Rattle.ansi_str.proofs.AfterLemmas.{up_to-past}
 use Rattle.ansi_str.proofs.TakenLemmas.{is_first_taken, apart-none, between, between-moved, moved_on}
 
 -- The marks of a part.
-
--- no mark stands past the end
-pub up_to-past : (e : ℕ) (ps : List Piece) → length (plain_of ps) ≤ e → up_to e (marks_of ps) ≡ marks_of ps
-up_to-past e [] past = refl
-up_to-past e (Text w ∷ ps) past =
-    let size = length-append w (plain_of ps) in
-    ap (up_to e) (marks_of-text w ps) ∙ up_to-further e (length w) (marks_of ps) (omega (arith, size))
-    ∙ ap (map (further (length w))) (up_to-past (e - length w) ps (omega (arith, size))) ∙ sym (marks_of-text w ps)
-up_to-past e (Sequence w ∷ ps) past =
-    ap (up_to e) (marks_of-sequence w ps) ∙ up_to-here e w (marks_of ps) ∙ ap (λ ms. record { place = 0; bytes = w } ∷ ms) (up_to-past e ps past) ∙ sym (marks_of-sequence w ps)
-up_to-past e (LoneEscape ∷ ps) past =
-    ap (up_to e) (marks_of-lone ps) ∙ up_to-here e (escape ∷ []) (marks_of ps) ∙ ap (λ ms. record { place = 0; bytes = escape ∷ [] } ∷ ms) (up_to-past e ps past) ∙ sym (marks_of-lone ps)
 
 pub past-none : (ms : List Mark) → past None ms ≡ ms
 past-none [] = refl
