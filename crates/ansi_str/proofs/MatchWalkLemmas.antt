@@ -1,5 +1,5 @@
 -- How far a walk to the first match of a pattern has come, and what a step of it is.
-use Rattle.std.proofs.Common.{◌≡◌, ◌≢◌, ℕ, ◌+◌, ◌-◌, ◌<◌, ◌≤◌, Bool, true, false, not, ◌&&◌, ◌==◌, List, [], ◌∷◌, ◌++◌, length, take, drop, Option, Some, None, option_map, refl, sym, ◌∙◌, ap, ap₂, subst, arith, length-append}
+use Rattle.std.proofs.Common.{◌≡◌, ◌≢◌, ℕ, ◌+◌, ◌-◌, ◌<◌, ◌≤◌, Bool, true, false, not, ◌&&◌, ◌==◌, List, [], ◌∷◌, ◌++◌, length, take, drop, Option, Some, None, option_map, refl, sym, ◌∙◌, ap, subst, arith, length-append}
 use Rattle.std.proofs.Math.Bool.{and-false, and-true}
 use Rattle.std.proofs.lemmas.Bool.{ne_eqb}
 use Rattle.std.proofs.lemmas.List.{length-map, length-drop, drop-drop, drop_at, take_all, drop_all}
@@ -16,7 +16,7 @@ use Rattle.ansi_slice.specs.Parts.{is_match, first_match_from}
 use Rattle.ansi_str.specs.Spans.{IsCutAfter, IsCutAtMatch}
 use Rattle.ansi_items.proofs.StepLemmas.{is_mark, BeginsWithMark, plain_of-mark}
 use Rattle.ansi_style.proofs.MarkLemmas.{further, marks-bare, marks_of-text, marks_of-sequence, marks_of-lone, up_to-none, up_to-further, up_to-here, style_by_marks, style_by_marks-before, style_by_marks-text, style_by_marks-sequence, style_by_marks-lone}
-use Rattle.ansi_slice.proofs.MatchLemmas.{IsMatch, match_fits, is_match-drop, is_match-after, first_match_from-is}
+use Rattle.ansi_slice.proofs.MatchLemmas.{IsMatch, is_match-drop, is_match-after, first_match_from-is, empty_at_end, none_at_end}
 use Rattle.ansi_slice.proofs.FindLemmas.{first_match_from-first}
 use Rattle.ansi_slice.specs.Offsets.{bytes_before}
 use Rattle.ansi_slice.proofs.OffsetLemmas.{bytes_before-last, bytes_before-text}
@@ -187,30 +187,25 @@ walked-end {c} {t} {p} {from} {offset} {ahead} {style} {marked} {left} walked is
     subst (λ v. IsFront c v style marked) (take_all (length t) t (omega arith))
     (front_is c t (first.place + 0) (take (length t) t) (drop (length t) t) style marked cut (first.styles 0) (first.unmarked 0 ∙ and-true (not marked)))
 
-walked-found : {c : Rendition} {t p : List ℕ} {from offset ahead : ℕ} {style : Rendition} {marked : Bool} {left : List Piece}
-    → (walked : IsWalked c t p from offset ahead style marked left) → left ≡ [] → first_match_from (plain t) p from ≡ option_map (λ k. walked.place + k) (first_match_from [] p ahead)
-walked-found {c} {t} {p} {from} {offset} {ahead} walked is =
-    sym walked.found ∙ first_match-after (plain t) [] p walked.place ahead walked.within (walked.rest ∙ ap plain_of is)
+at_end : {c : Rendition} {t p : List ℕ} {from offset ahead : ℕ} {style : Rendition} {marked : Bool} → (walked : IsWalked c t p from offset ahead style marked []) → walked.place ≡ length (plain t)
+at_end {t = t} walked = omega (arith, ap length walked.rest, length-drop walked.place (plain t), walked.within)
 
 pub walked-none : {c : Rendition} {t p : List ℕ} {from offset ahead : ℕ} {style : Rendition} {marked : Bool} {left : List Piece}
     → IsWalked c t p from offset ahead style marked left → left ≡ [] → (length p ≡ 0 → ahead ≢ 0) → first_match_from (plain t) p from ≡ None
-walked-none {c} {t} {p} {from} {offset} {ahead} walked is none =
-    walked-found walked is ∙ ap (option_map (λ k. walked.place + k)) (sym (first_match_from-is [] p ahead None (nowhere p none)))
-  where
-    nowhere : (q : List ℕ) → (length q ≡ 0 → ahead ≢ 0) → (k : ℕ) → ahead ≤ k → k < 0 + 1 → ¬ (IsMatch [] q k)
-    nowhere [] none k low high match = none refl (omega (arith, low, high))
-    nowhere (b ∷ q) none k low high match = omega (arith, match_fits [] (b ∷ q) k (omega arith) match)
+walked-none {c} {t} {p} {from} {offset} {ahead} {style} {marked} walked is none =
+    let last = subst (IsWalked c t p from offset ahead style marked) is walked in
+    sym last.found
+    ∙ sym (none_at_end (plain t) p (last.place + ahead) last.place (at_end last) (λ empty. (let some = none empty in omega (arith, some))) (λ k low high. absurd (omega (arith, low, high))))
 
 pub walked-empty : {c : Rendition} {t p : List ℕ} {from offset ahead : ℕ} {style : Rendition} {marked : Bool} {left : List Piece}
     → IsWalked c t p from offset ahead style marked left → left ≡ [] → offset ≡ length t → length p ≡ 0 → ahead ≡ 0 → IsUtf8 t → IsUtf8 p → IsCutAtMatch t p from t []
-walked-empty {c} {t} {p} {from} {offset} {ahead} {style} {marked} {left} walked is end empty here utf8 utf8_p =
-    let first = subst (IsWalked c t p from offset ahead style marked) is walked in
-    let e = first.place + 0 in
-    let found : first_match_from (plain t) p from ≡ Some e = walked-found first refl ∙ ap₂ (λ q d. option_map (λ k. first.place + k) (first_match_from [] q d)) (nil p empty) here in
-    let cut : IsCutAfter t e (take (length t) t) (drop (length t) t) = is_cut_after t e (length t) (sym end ∙ omega arith ∙ sym (first.lens 0)) in
+walked-empty {c} {t} {p} {from} {offset} {ahead} {style} {marked} walked is end empty here utf8 utf8_p =
+    let last = subst (IsWalked c t p from offset ahead style marked) is walked in
+    let e = last.place + 0 in
+    let same : last.place ≡ e = omega arith in
+    let found : first_match_from (plain t) p from ≡ Some e
+    = sym last.found ∙ ap (λ d. first_match_from (plain t) p (last.place + d)) here
+    ∙ sym (empty_at_end (plain t) p e e (sym same ∙ at_end last) empty (omega arith) (λ k low high. absurd (omega (arith, low, high)))) in
+    let cut : IsCutAfter t e (take (length t) t) (drop (length t) t) = is_cut_after t e (length t) (sym end ∙ omega arith ∙ sym (last.lens 0)) in
     is_cut_at_match t p from e t [] utf8 utf8_p found
     (subst (λ v. IsCutAfter t e t v) (drop_all (length t) t (omega arith)) (subst (λ v. IsCutAfter t e v (drop (length t) t)) (take_all (length t) t (omega arith)) cut))
-  where
-    nil : (q : List ℕ) → length q ≡ 0 → q ≡ []
-    nil [] none = refl
-    nil (b ∷ q) none = absurd (omega (arith, none))

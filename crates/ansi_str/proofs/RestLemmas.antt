@@ -140,12 +140,11 @@ here_or_past (Some m) past run top below = refl
 
 -- A text that is cut in the run at its front.
 
+no_escape-parts : (n : ℕ) (w : List ℕ) → IsFalse (has_escape w) → (has_escape (take n w) ≡ false) × (has_escape (drop n w) ≡ false)
+no_escape-parts n w none = or_parts _ _ (sym (list_any-append (λ b. b == escape) (take n w) (drop n w)) ∙ ap has_escape (take-append-drop n w) ∙ none)
+
 no_escape-take : (t : List ℕ) (start run : ℕ) → start ≤ run → IsFalse (has_escape (take run t)) → has_escape (take start t) ≡ false
-no_escape-take t start run before none =
-    let w = take run t in
-    let both = or_parts (has_escape (take start w)) (has_escape (drop start w))
-    (sym (list_any-append (λ b. b == escape) (take start w) (drop start w)) ∙ ap has_escape (take-append-drop start w) ∙ none) in
-    ap has_escape (sym (take-take start run t before)) ∙ both.0
+no_escape-take t start run before none = ap has_escape (sym (take-take start run t before)) ∙ (no_escape-parts start (take run t) none).0
 
 pub cut_in_run : (t p : List ℕ) (from run start : ℕ) → IsUtf8 t → IsUtf8 p → run ≤ length t → IsFalse (has_escape (take run t)) → start < run → first_match_from (plain t) p from ≡ Some start
     → IsCutAtMatch t p from (take start t) (drop start t)
@@ -190,11 +189,7 @@ boundary-drop t place run before boundary =
     )
 
 pub no_escape-drop : (t : List ℕ) (place run : ℕ) → IsFalse (has_escape (take run t)) → IsFalse (has_escape (take (run - place) (drop place t)))
-no_escape-drop t place run none =
-    let u = take run t in
-    let both = or_parts (has_escape (take place u)) (has_escape (drop place u))
-    (sym (list_any-append (λ b. b == escape) (take place u) (drop place u)) ∙ ap has_escape (take-append-drop place u) ∙ none) in
-    ap has_escape (sym (drop-take place run t)) ∙ both.1
+no_escape-drop t place run none = ap has_escape (sym (drop-take place run t)) ∙ (no_escape-parts place (take run t) none).1
 
 -- of a run that stands further on, what follows a place in it
 pub no_escape-later : (t : List ℕ) (begin end ahead : ℕ) → IsFalse (has_escape (slice_range t begin end)) → IsFalse (has_escape (take (end - (begin + ahead)) (drop (begin + ahead) t)))
