@@ -2,6 +2,7 @@
 use Rattle.std.proofs.Common.{◌≡◌, ◌≢◌, ℕ, zero, suc, ◌+◌, Bool, true, false, not, ◌==◌, List, [], ◌∷◌, ◌++◌, map, filter, filter_map, flat_map, length, IsTrue, refl, sym, ◌∙◌, ap, ap₂, arith, if◌then◌else◌, append_assoc, append-nil, length-append}
 use Rattle.std.proofs.lemmas.Bool.{and_parts}
 use Rattle.std.proofs.lemmas.Bool.Decides.{nat_tests}
+use Rattle.std.proofs.lemmas.List.{length-map}
 use Rattle.std.specs.List.{list_all}
 use Rattle.ansi_items.specs.Bytes.{escape, is_plain_byte}
 use Rattle.ansi_items.specs.Sequences.{is_sgr}
@@ -27,16 +28,6 @@ by_places wait style qs = filter_map (λ (q : Placed). block_of (wait q.place) (
 abbrev runs_of : List Placed → List Placed
 runs_of qs = filter (λ (q : Placed). is_text q.piece) qs
 
-length-by_places : (wait : ℕ → List ℕ) (style : ℕ → Rendition) (qs : List Placed) → length (by_places wait style qs) ≡ length (runs_of qs)
-length-by_places wait style [] = refl
-length-by_places wait style (q ∷ qs) = by_piece q.piece (length-by_places wait style qs)
-  where
-    by_piece : (p : Piece) → length (by_places wait style qs) ≡ length (runs_of qs)
-        → length (by_places wait style (record q { piece = p } ∷ qs)) ≡ length (runs_of (record q { piece = p } ∷ qs))
-    by_piece (Text w) later = ap (λ n. suc n) later
-    by_piece (Sequence w) later = later
-    by_piece LoneEscape later = later
-
 styles-by_places : (wait : ℕ → List ℕ) (style : ℕ → Rendition) (qs : List Placed) → map (λ (b : Block). b.style) (by_places wait style qs) ≡ map (λ (q : Placed). style q.place) (runs_of qs)
 styles-by_places wait style [] = refl
 styles-by_places wait style (q ∷ qs) = by_piece q.piece (styles-by_places wait style qs)
@@ -47,13 +38,13 @@ styles-by_places wait style (q ∷ qs) = by_piece q.piece (styles-by_places wait
     by_piece (Sequence w) later = later
     by_piece LoneEscape later = later
 
-pub length-blocks : (t : List ℕ) → length (blocks t) ≡ length (runs t)
-unfolding blocks_from
-length-blocks t = length-by_places (waiting t) (style_within plain_style t) (places (pieces_of t))
-
 pub styles-blocks : (t : List ℕ) → map (λ (b : Block). b.style) (blocks t) ≡ map (λ (q : Placed). style_at t q.place) (runs t)
 unfolding blocks_from
 styles-blocks t = styles-by_places (waiting t) (style_within plain_style t) (places (pieces_of t))
+
+pub length-blocks : (t : List ℕ) → length (blocks t) ≡ length (runs t)
+length-blocks t =
+    sym (length-map (blocks t) (λ (b : Block). b.style)) ∙ ap length (styles-blocks t) ∙ length-map (runs t) (λ (q : Placed). style_at t q.place)
 
 -- The texts of the blocks, joined, by one walk over the pieces with what waits for the next run.
 

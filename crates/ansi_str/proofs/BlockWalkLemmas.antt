@@ -7,23 +7,13 @@ use Rattle.ansi_items.specs.Sequences.{is_sgr}
 use Rattle.ansi_items.specs.Pieces.{Piece, Text, Sequence, LoneEscape, spelling, pieces_of}
 use Rattle.ansi_style.specs.declared.state.rendition.Rendition.{Rendition}
 use Rattle.ansi_style.specs.Rendition.{plain_style}
-use Rattle.ansi_style.specs.Sgr.{apply}
 use Rattle.ansi_slice.specs.Sides.{copied}
 use Rattle.ansi_str.specs.Blocks.{waiting, block_after, blocks_from}
 use Rattle.ansi_items.proofs.StepLemmas.{is_mark, BeginsWithMark}
 use Rattle.ansi_slice.proofs.CutWalkLemmas.{apply-no_sgr}
 use Rattle.ansi_str.proofs.BlockLemmas.{blocks_through, waiting_before, blocks_from-walked, waiting-front}
 
--- a mark that is an SGR sets the style
-through-sgr : (p : Piece) (w : List ℕ) (s : Rendition) (held : List ℕ) (ps : List Piece) → is_mark p ≡ true → spelling p ≡ w → is_sgr w ≡ true
-    → (blocks_through s held (p ∷ ps) ≡ blocks_through (apply s w) held ps) × (waiting_before (p ∷ ps) ≡ waiting_before ps)
-through-sgr (Text v) w s held ps is same sgr = absurd (cc is)
-through-sgr (Sequence v) w s held ps is same sgr =
-    let none : copied (Sequence v) ≡ [] = ap (λ b. if b then [] else v) (ap is_sgr same ∙ sgr) in
-    (ap₂ (λ r h. blocks_through r h ps) (ap (apply s) same) (ap (λ u. held ++ u) none ∙ append-nil held), ap (λ u. u ++ waiting_before ps) none)
-through-sgr LoneEscape w s held ps is same sgr = absurd (cc (ap is_sgr same ∙ sgr))
-
--- any other waits
+-- a mark that is no SGR waits
 through-other : (p : Piece) (w : List ℕ) (s : Rendition) (held : List ℕ) (ps : List Piece) → is_mark p ≡ true → spelling p ≡ w → is_sgr w ≡ false
     → (blocks_through s held (p ∷ ps) ≡ blocks_through s (held ++ w) ps) × (waiting_before (p ∷ ps) ≡ w ++ waiting_before ps)
 through-other (Text v) w s held ps is same other = absurd (cc is)
@@ -46,19 +36,6 @@ pub record IsRunSoFar (from : Rendition) (t : List ℕ) (s : Rendition) (waits :
 
 pub run-begin : (s : Rendition) (t : List ℕ) → IsRunSoFar s t s false (pieces_of t)
 run-begin s t = record { held = []; blocks = blocks_from-walked s t; front = waiting-front t; some = refl }
-
--- over an SGR
-pub run-sgr : {from s next : Rendition} {t : List ℕ} {waits : Bool} {kind : Kind} {w : List ℕ} {pieces ps : List Piece} → IsRunSoFar from t s waits pieces → BeginsWithMark kind w pieces ps
-    → kind ≡ Sgr → next ≡ apply s w → IsRunSoFar from t next waits ps
-run-sgr {from} {s} {next} {t} {waits} {kind} {w} {pieces} {ps} so_far begins sgr is =
-    let first = subst (IsRunSoFar from t s waits) begins.pieces so_far in
-    let step = through-sgr begins.mark w s first.held ps begins.is_mark begins.bytes (begins.sgr sgr) in
-    record {
-      held = first.held;
-      blocks = first.blocks ∙ step.0 ∙ ap (λ r. blocks_through r first.held ps) (sym is);
-      front = first.front ∙ ap (λ u. first.held ++ u) step.1;
-      some = first.some;
-    }
 
 -- over any other mark
 pub run-other : {from s : Rendition} {t : List ℕ} {waits : Bool} {kind : Kind} {w : List ℕ} {pieces ps : List Piece} → IsRunSoFar from t s waits pieces → BeginsWithMark kind w pieces ps
@@ -90,31 +67,3 @@ run-text {from} {s} {t} {waits} {w} {pieces} after so_far is =
 pub not_borrowed : (waits none : Bool) → waits ≡ not none → (waits ≡ false → false ≡ true) → none ≡ false
 not_borrowed waits true is some = absurd (cc (some is))
 not_borrowed waits false is some = refl
-
--- at the end
-pub run-end : {from s : Rendition} {t : List ℕ} {waits : Bool} {pieces : List Piece} → IsRunSoFar from t s waits pieces → pieces ≡ [] → blocks_from from t ≡ []
-run-end {from} {s} {t} {waits} so_far is = (subst (IsRunSoFar from t s waits) is so_far).blocks
-
--- What is joined of the sequences before the first run, and what is left of them, are all of them.
-
--- over an SGR
-pub joined-sgr : (joined : List ℕ) {all w : List ℕ} {kind : Kind} {pieces ps : List Piece} → joined ++ waiting_before pieces ≡ all → BeginsWithMark kind w pieces ps → kind ≡ Sgr → joined ++ waiting_before ps ≡ all
-joined-sgr joined {all} {w} {kind} {pieces} {ps} so_far begins sgr =
-    ap (λ u. joined ++ u) (sym (through-sgr begins.mark w plain_style [] ps begins.is_mark begins.bytes (begins.sgr sgr)).1)
-    ∙ subst (λ qs. joined ++ waiting_before qs ≡ all) begins.pieces so_far
-
--- over any other mark
-pub joined-other : (joined : List ℕ) {next all w : List ℕ} {kind : Kind} {pieces ps : List Piece} → joined ++ waiting_before pieces ≡ all → BeginsWithMark kind w pieces ps → kind ≢ Sgr → next ≡ joined ++ w
-    → next ++ waiting_before ps ≡ all
-joined-other joined {next} {all} {w} {kind} {pieces} {ps} so_far begins other more =
-    ap (λ u. u ++ waiting_before ps) more ∙ append_assoc joined w (waiting_before ps)
-    ∙ ap (λ u. joined ++ u) (sym (through-other begins.mark w plain_style [] ps begins.is_mark begins.bytes (begins.no_sgr other)).1)
-    ∙ subst (λ qs. joined ++ waiting_before qs ≡ all) begins.pieces so_far
-
--- at the run
-pub joined-text : (joined : List ℕ) {all w : List ℕ} {pieces ps : List Piece} → joined ++ waiting_before pieces ≡ all → pieces ≡ Text w ∷ ps → joined ≡ all
-joined-text joined {all} so_far is = sym (append-nil joined) ∙ subst (λ qs. joined ++ waiting_before qs ≡ all) is so_far
-
--- at the end
-pub joined-end : (joined : List ℕ) {all : List ℕ} {pieces : List Piece} → joined ++ waiting_before pieces ≡ all → pieces ≡ [] → joined ≡ all
-joined-end joined {all} so_far is = sym (append-nil joined) ∙ subst (λ qs. joined ++ waiting_before qs ≡ all) is so_far

@@ -1,8 +1,9 @@
 -- The parts for the empty pattern are the characters of a text, between two empty parts.
-use Rattle.std.proofs.Common.{◌≡◌, ◌≢◌, ℕ, zero, suc, ◌+◌, ◌-◌, ◌/◌, ◌%◌, ◌≤◌, Bool, true, false, ◌&&◌, List, [], ◌∷◌, ◌++◌, take, drop, length, map, filter, zip, nat_lt, nat_le, refl, sym, ◌∙◌, ap, ap₂, subst, arith, slice_index, slice_range, length-append, if◌then◌else◌}
+use Rattle.std.proofs.Common.{◌≡◌, ◌≢◌, ℕ, zero, suc, ◌+◌, ◌-◌, ◌/◌, ◌%◌, ◌≤◌, Bool, true, false, List, [], ◌∷◌, ◌++◌, take, drop, length, map, filter, zip, nat_lt, nat_le, refl, sym, ◌∙◌, ap, ap₂, subst, arith, slice_index, slice_range, length-append}
+use Rattle.std.proofs.Math.Bool.{and-true}
 use Rattle.std.proofs.lemmas.Bool.{and_parts, and_from, and_right, cond-true, cond-false, cond_both, le-leb, not_from_true}
 use Rattle.std.proofs.lemmas.List.{drop-drop, get_or-drop}
-use Rattle.std.proofs.lemmas.List.Elements.{filter-append}
+use Rattle.std.proofs.lemmas.List.Elements.{filter-append, filter_agree}
 use Rattle.std.proofs.lemmas.Str.{encodes-chars, scalars-chars, IsCharBoundary-from_drop, IsCharBoundary-start, IsCharBoundary-end}
 use Rattle.std.proofs.Math.Seq.{take-append_seam, drop-append_seam}
 use Rattle.std.specs.Char.{encode_utf8}
@@ -96,14 +97,6 @@ boundaries_from x (c ∷ cs) k scalars at end =
 
 -- The empty pattern stands at every boundary, and each is taken.
 
-and_true : (b : Bool) → (b && true) ≡ b
-and_true true = refl
-and_true false = refl
-
-filter_same : (f g : ℕ → Bool) → ((i : ℕ) → f i ≡ g i) → (is : List ℕ) → filter f is ≡ filter g is
-filter_same f g same [] = refl
-filter_same f g same (i ∷ is) = ap₂ (λ b js. if b then i ∷ js else js) (same i) (filter_same f g same is)
-
 all_taken : (f : ℕ → Bool) (n k e : ℕ) → e ≤ k → apart 0 e (filter f (range_with_len k n)) ≡ filter f (range_with_len k n)
 all_taken f zero k e from = refl
 all_taken f (suc n) k e from =
@@ -122,7 +115,7 @@ parts-empty x utf8 =
     let spelled : encode_utf8_all cs ≡ x = encodes-chars x utf8 in
     let end : 0 + length (encode_utf8_all cs) ≡ length x = omega (arith, ap length spelled) in
     ap (intervals x 0)
-    (ap (apart 0 0) (filter_same (is_match x []) (is_char_boundary x) (λ i. and_true (is_char_boundary x i)) (range_with_len 0 (length x + 1)))
+    (ap (apart 0 0) (filter_agree (is_match x []) (is_char_boundary x) (λ i. and-true (is_char_boundary x i)) (range_with_len 0 (length x + 1)))
     ∙ all_taken (is_char_boundary x) (length x + 1) 0 0 (omega arith)
     ∙ ap (λ n. filter (is_char_boundary x) (range_with_len 0 (n + 1))) (sym (ap length spelled))
     ∙ boundaries_from x cs 0 (scalars-chars x utf8) (sym spelled) end)

@@ -1,12 +1,63 @@
 -- How far a list of edits has come, and what one edit more is to it.
-use Rattle.std.proofs.Common.{◌≡◌, ◌↔◌, ℕ, List, refl, IsTrue}
+use Rattle.std.proofs.Common.{◌≡◌, ◌↔◌, ◌⊎◌, inl, inr, ℕ, ◌+◌, ◌<◌, ◌≤◌, suc, ◌&&◌, true, List, ◌∷◌, length, drop, get_or, drop-cons, Option, Some, None, refl, sym, ◌∙◌, ap, subst, arith, IsTrue}
+use Rattle.std.specs.Prelude.{option_and_then, IsNone}
+use Rattle.std.specs.Option.{option_map_or}
+use Rattle.std.proofs.lemmas.Bool.{and_parts, and_from}
+use Rattle.std.proofs.lemmas.List.{drop_all}
+use Rattle.ansi_str.specs.declared.edits.kinds.Edit.{Edit}
 use Rattle.ansi_str.specs.Changes.{Change}
-use Rattle.ansi_str.specs.Edited.{edited, stay_borrowed}
+use Rattle.ansi_str.specs.Edited.{edited_by, edited, gives_borrow, stay_borrowed}
+use Rattle.ansi_str.specs.Edits.{change_of, changes_of}
 
 -- The text that was reached, edited by what is left, is the whole answer; and it stays a borrow to the end where it is one, and what is left leaves it one.
 pub record IsEditedSoFar (es : List Change) (t : List ℕ) (left : List Change) (Lent : Type 0) (u : List ℕ) : Type 0 where
   pub same : edited es t ≡ edited left u
   pub lent : IsTrue (stay_borrowed es t) ↔ (Lent × IsTrue (stay_borrowed left u))
 
-pub so_far-begin : (es : List Change) (t : List ℕ) {Lent : Type 0} → Lent → IsEditedSoFar es t es Lent t
-so_far-begin es t is = record { same = refl; lent = ((λ stays. (is, stays)), (λ both. both.1)) }
+-- an edit is left
+next_edit : {es : List Change} {t u : List ℕ} {Lent : Type 0} (edits : List Edit) (i : ℕ) (edit : Edit) → IsEditedSoFar es t (changes_of (drop i edits)) Lent u → i < length edits
+    → IsEditedSoFar es t (change_of (get_or edits i edit) ∷ changes_of (drop (i + 1) edits)) Lent u
+next_edit {es} {t} {u} {Lent} edits i edit so_far more =
+    let next : i + 1 ≡ suc i = omega arith in
+    subst (λ es'. IsEditedSoFar es t (changes_of es') Lent u) (drop-cons edits i edit more ∙ ap (λ n. get_or edits i edit ∷ drop n edits) (sym next)) so_far
+
+pub so_far-more : {es : List Change} {t u v : List ℕ} {Lent Next : Type 0} (edits : List Edit) (i : ℕ) (edit : Edit) → IsEditedSoFar es t (changes_of (drop i edits)) Lent u → i < length edits
+    → Some v ≡ edited_by (change_of (get_or edits i edit)) u → Next ↔ (Lent × IsTrue (gives_borrow (change_of (get_or edits i edit)) u)) → IsEditedSoFar es t (changes_of (drop (i + 1) edits)) Next v
+so_far-more {u = u} {v = v} edits i edit so_far more is lends =
+    let now = next_edit edits i edit so_far more in
+    let e = change_of (get_or edits i edit) in
+    let left = changes_of (drop (i + 1) edits) in
+    let stays : stay_borrowed (e ∷ left) u ≡ (gives_borrow e u && stay_borrowed left v) = ap (λ o. option_map_or (λ w. gives_borrow e u && stay_borrowed left w) o true) (sym is) in
+    record {
+      same = now.same ∙ ap (option_and_then (edited left)) (sym is);
+      lent = (
+        λ stay. (let both = now.lent.0 stay in let two = and_parts _ _ (sym stays ∙ both.1) in (lends.1 (both.0, two.0), two.1)),
+        λ both. (let was = lends.0 both.0 in now.lent.1 (was.0, stays ∙ and_from _ _ was.1 both.1)),
+      );
+    }
+
+-- one that is refused
+pub so_far-refused : {es : List Change} {t u : List ℕ} {Lent : Type 0} (edits : List Edit) (i : ℕ) (edit : Edit) → IsEditedSoFar es t (changes_of (drop i edits)) Lent u → i < length edits
+    → None ≡ edited_by (change_of (get_or edits i edit)) u → None ≡ edited es t
+so_far-refused edits i edit so_far more is =
+    let now = next_edit edits i edit so_far more in
+    sym (now.same ∙ ap (option_and_then (edited (changes_of (drop (i + 1) edits)))) (sym is))
+
+-- one that is refused, or gives a borrow of a borrow, where all that are done do
+pub so_far-lent : {es : List Change} {t u : List ℕ} {Lent : Type 0} (edits : List Edit) (i : ℕ) (edit : Edit) → IsEditedSoFar es t (changes_of (drop i edits)) Lent u → i < length edits → IsTrue (stay_borrowed es t)
+    → IsNone (edited_by (change_of (get_or edits i edit)) u) ⊎ (Lent × IsTrue (gives_borrow (change_of (get_or edits i edit)) u))
+so_far-lent {u = u} {Lent = Lent} edits i edit so_far more stay =
+    let both = (next_edit edits i edit so_far more).lent.0 stay in
+    by_text (edited_by (change_of (get_or edits i edit)) u) both.0 both.1
+  where
+    by_text : (o : Option (List ℕ)) → Lent → IsTrue (option_map_or (λ w. gives_borrow (change_of (get_or edits i edit)) u && stay_borrowed (changes_of (drop (i + 1) edits)) w) o true)
+        → IsNone o ⊎ (Lent × IsTrue (gives_borrow (change_of (get_or edits i edit)) u))
+    by_text None lent stays = inl refl
+    by_text (Some w) lent stays = inr (lent, (and_parts _ _ stays).0)
+
+-- none is left
+pub so_far-end : {es : List Change} {t u : List ℕ} {Lent : Type 0} (edits : List Edit) (i : ℕ) → IsEditedSoFar es t (changes_of (drop i edits)) Lent u → length edits ≤ i
+    → (Some u ≡ edited es t) × (Lent ↔ IsTrue (stay_borrowed es t))
+so_far-end {es} {t} {u} {Lent} edits i so_far end =
+    let last = subst (λ es'. IsEditedSoFar es t (changes_of es') Lent u) (drop_all i edits end) so_far in
+    (sym last.same, (λ lent. last.lent.1 (lent, refl), λ stays. (last.lent.0 stays).0))

@@ -1,5 +1,6 @@
 -- How far a walk to the first match of a pattern has come, and what a step of it is.
-use Rattle.std.proofs.Common.{◌≡◌, ◌≢◌, ℕ, ◌+◌, ◌-◌, ◌<◌, ◌≤◌, Bool, true, false, not, ◌&&◌, ◌==◌, List, [], ◌∷◌, ◌++◌, length, map, take, drop, Option, Some, None, option_map, refl, sym, ◌∙◌, ap, ap₂, subst, arith, length-append}
+use Rattle.std.proofs.Common.{◌≡◌, ◌≢◌, ℕ, ◌+◌, ◌-◌, ◌<◌, ◌≤◌, Bool, true, false, not, ◌&&◌, ◌==◌, List, [], ◌∷◌, ◌++◌, length, take, drop, Option, Some, None, option_map, refl, sym, ◌∙◌, ap, subst, arith, length-append}
+use Rattle.std.proofs.Math.Bool.{and-false, and-true}
 use Rattle.std.proofs.lemmas.Bool.{ne_eqb}
 use Rattle.std.proofs.lemmas.List.{length-map, length-drop, drop-drop, drop_at, take_all, drop_all}
 use Rattle.std.specs.Str.{IsUtf8}
@@ -15,9 +16,11 @@ use Rattle.ansi_slice.specs.Parts.{is_match, first_match_from}
 use Rattle.ansi_str.specs.Spans.{IsCutAfter, IsCutAtMatch}
 use Rattle.ansi_items.proofs.StepLemmas.{is_mark, BeginsWithMark, plain_of-mark}
 use Rattle.ansi_style.proofs.MarkLemmas.{further, marks-bare, marks_of-text, marks_of-sequence, marks_of-lone, up_to-none, up_to-further, up_to-here, style_by_marks, style_by_marks-before, style_by_marks-text, style_by_marks-sequence, style_by_marks-lone}
-use Rattle.ansi_slice.proofs.MatchLemmas.{IsMatch, match_fits, is_match-drop, is_match-after, first_match_from-is}
+use Rattle.ansi_slice.proofs.MatchLemmas.{IsMatch, is_match-drop, is_match-after, first_match_from-is, empty_at_end, none_at_end}
 use Rattle.ansi_slice.proofs.FindLemmas.{first_match_from-first}
-use Rattle.ansi_str.proofs.AfterLemmas.{front_len, front_len-last, front_len-text, is_cut_after}
+use Rattle.ansi_slice.specs.Offsets.{bytes_before}
+use Rattle.ansi_slice.proofs.OffsetLemmas.{bytes_before-last, bytes_before-text}
+use Rattle.ansi_str.proofs.AfterLemmas.{is_cut_after}
 use Rattle.ansi_str.proofs.SpanLemmas.{is_cut_at_match}
 use Rattle.ansi_str.proofs.SplitLemmas.{escape_is_marked}
 
@@ -71,7 +74,7 @@ pub record IsWalked (c : Rendition) (t p : List ℕ) (from offset ahead : ℕ) (
   pub within : place ≤ length (plain t)
   pub rest : drop place (plain t) ≡ plain_of left
   pub found : first_match_from (plain t) p (place + ahead) ≡ first_match_from (plain t) p from
-  pub lens : (d : ℕ) → front_len (place + d) (pieces_of t) ≡ offset + front_len d left
+  pub lens : (d : ℕ) → bytes_before (place + d) (pieces_of t) ≡ offset + bytes_before d left
   pub styles : (d : ℕ) → style_within c t (place + d) ≡ style_by_marks style left d
   pub unmarked : (d : ℕ) → (length (up_to (place + d) (marks t)) == 0) ≡ (not marked && length (up_to d (marks_of left)) == 0)
 
@@ -83,7 +86,7 @@ walked-begin c t p from ahead same =
       within = omega arith;
       rest = refl;
       found = ap (first_match_from (plain t) p) (front ahead) ∙ same;
-      lens = λ d. ap (λ k. front_len k (pieces_of t)) (front d) ∙ sym (front (front_len d (pieces_of t)));
+      lens = λ d. ap (λ k. bytes_before k (pieces_of t)) (front d) ∙ sym (front (bytes_before d (pieces_of t)));
       styles = λ d. ap (style_within c t) (front d);
       unmarked = λ d. ap (λ k. length (up_to k (marks t)) == 0) (front d);
     }
@@ -110,8 +113,8 @@ walked-text {c} {t} {p} {from} {offset} {ahead} {next} {after} {later} {style} {
       rest = sym (drop-drop n m x) ∙ ap (drop n) first.rest ∙ drop_at w y n refl;
       found = ap (first_match_from x p) sum ∙ first_match-after x (w ++ y) p m next inside first.rest ∙ ap (option_map (λ k. m + k)) same
           ∙ sym (first_match-after x (w ++ y) p m ahead inside first.rest) ∙ first.found;
-      lens = λ d. ap (λ k. front_len k (pieces_of t)) (on d) ∙ first.lens (n + d)
-          ∙ ap (λ k. offset + k) (front_len-text (n + d) w ps (omega arith) ∙ ap (λ k. n + front_len k ps) (back d)) ∙ omega arith;
+      lens = λ d. ap (λ k. bytes_before k (pieces_of t)) (on d) ∙ first.lens (n + d)
+          ∙ ap (λ k. offset + k) (bytes_before-text (n + d) w ps (omega arith) ∙ ap (λ k. n + bytes_before k ps) (back d)) ∙ omega arith;
       styles = λ d. ap (style_within c t) (on d) ∙ first.styles (n + d) ∙ style_by_marks-text style w ps d;
       unmarked = λ d. ap (λ k. length (up_to k (marks t)) == 0) (on d) ∙ first.unmarked (n + d)
           ∙ ap (λ k. not marked && k == 0) (ap (λ ms. length (up_to (n + d) ms)) (marks_of-text w ps) ∙ ap length (up_to-further (n + d) n (marks_of ps) (omega arith))
@@ -133,11 +136,11 @@ walked-mark {c} {t} {p} {from} {offset} {ahead} {after} {style} {next} {marked} 
       found = first.found;
       lens = λ d. first.lens d ∙ ap (λ k. offset + k) (len begins.mark d begins.is_mark) ∙ omega arith;
       styles = λ d. first.styles d ∙ read begins.mark d begins.is_mark;
-      unmarked = λ d. first.unmarked d ∙ ap (λ b. not marked && b) (some begins.mark d begins.is_mark) ∙ never (not marked);
+      unmarked = λ d. first.unmarked d ∙ ap (λ b. not marked && b) (some begins.mark d begins.is_mark) ∙ and-false (not marked);
     } in
     rw (after_is, applied, ← begins.bytes) step
   where
-    len : (q : Piece) (d : ℕ) → is_mark q ≡ true → front_len d (q ∷ ps) ≡ length (spelling q) + front_len d ps
+    len : (q : Piece) (d : ℕ) → is_mark q ≡ true → bytes_before d (q ∷ ps) ≡ length (spelling q) + bytes_before d ps
     len (Text v) d is = absurd (cc is)
     len (Sequence v) d is = refl
     len LoneEscape d is = refl
@@ -155,14 +158,6 @@ walked-mark {c} {t} {p} {from} {offset} {ahead} {after} {style} {next} {marked} 
     some (Sequence v) d is = ap (λ ms. length ms == 0) (ap (up_to d) (marks_of-sequence v ps) ∙ up_to-here d v (marks_of ps)) ∙ filled (record { place = 0; bytes = v }) (up_to d (marks_of ps))
     some LoneEscape d is = ap (λ ms. length ms == 0) (ap (up_to d) (marks_of-lone ps) ∙ up_to-here d (escape ∷ []) (marks_of ps)) ∙ filled (record { place = 0; bytes = escape ∷ [] }) (up_to d (marks_of ps))
 
-    never : (b : Bool) → (b && false) ≡ false
-    never true = refl
-    never false = refl
-
-always : (b : Bool) → (b && true) ≡ b
-always true = refl
-always false = refl
-
 -- the match begins in a text
 pub walked-cut : {c : Rendition} {t p : List ℕ} {from offset ahead start n : ℕ} {style : Rendition} {marked : Bool} {w : List ℕ} {left ps : List Piece}
     → IsWalked c t p from offset ahead style marked left → left ≡ Text w ∷ ps → first_match_from (w ++ plain_of ps) p ahead ≡ Some start → start < length w → n ≡ offset + start
@@ -173,13 +168,13 @@ walked-cut {c} {t} {p} {from} {offset} {ahead} {start} {n} {style} {marked} {w} 
     let x = plain t in
     let found : first_match_from x p from ≡ Some (m + start)
     = sym first.found ∙ first_match-after x (w ++ plain_of ps) p m ahead first.within first.rest ∙ ap (option_map (λ k. m + k)) here in
-    let len : n ≡ front_len (m + start) (pieces_of t) = n_is ∙ sym (first.lens start ∙ ap (λ k. offset + k) (front_len-last start w ps inside)) in
+    let len : n ≡ bytes_before (m + start) (pieces_of t) = n_is ∙ sym (first.lens start ∙ ap (λ k. offset + k) (bytes_before-last start w ps inside)) in
     let cut = is_cut_after t (m + start) n len in
     let none : (length (up_to start (marks_of (Text w ∷ ps))) == 0) ≡ true
     = ap (λ ms. length (up_to start ms) == 0) (marks_of-text w ps) ∙ ap (λ ms. length ms == 0) (up_to-none start (length w) (marks_of ps) inside) in (
       is_cut_at_match t p from (m + start) (take n t) (drop n t) utf8 utf8_p found cut,
       front_is c t (m + start) (take n t) (drop n t) style marked cut (first.styles start ∙ style_by_marks-before style w ps start inside)
-          (first.unmarked start ∙ ap (λ b. not marked && b) none ∙ always (not marked)),
+          (first.unmarked start ∙ ap (λ b. not marked && b) none ∙ and-true (not marked)),
     )
 
 -- nothing is left: the front is all of the text, and only the empty pattern may stand at its end
@@ -187,35 +182,30 @@ pub walked-end : {c : Rendition} {t p : List ℕ} {from offset ahead : ℕ} {sty
     → IsWalked c t p from offset ahead style marked left → left ≡ [] → offset ≡ length t → IsFront c t style marked
 walked-end {c} {t} {p} {from} {offset} {ahead} {style} {marked} {left} walked is end =
     let first = subst (IsWalked c t p from offset ahead style marked) is walked in
-    let len : length t ≡ front_len (first.place + 0) (pieces_of t) = sym end ∙ omega arith ∙ sym (first.lens 0) in
+    let len : length t ≡ bytes_before (first.place + 0) (pieces_of t) = sym end ∙ omega arith ∙ sym (first.lens 0) in
     let cut = is_cut_after t (first.place + 0) (length t) len in
     subst (λ v. IsFront c v style marked) (take_all (length t) t (omega arith))
-    (front_is c t (first.place + 0) (take (length t) t) (drop (length t) t) style marked cut (first.styles 0) (first.unmarked 0 ∙ always (not marked)))
+    (front_is c t (first.place + 0) (take (length t) t) (drop (length t) t) style marked cut (first.styles 0) (first.unmarked 0 ∙ and-true (not marked)))
 
-walked-found : {c : Rendition} {t p : List ℕ} {from offset ahead : ℕ} {style : Rendition} {marked : Bool} {left : List Piece}
-    → (walked : IsWalked c t p from offset ahead style marked left) → left ≡ [] → first_match_from (plain t) p from ≡ option_map (λ k. walked.place + k) (first_match_from [] p ahead)
-walked-found {c} {t} {p} {from} {offset} {ahead} walked is =
-    sym walked.found ∙ first_match-after (plain t) [] p walked.place ahead walked.within (walked.rest ∙ ap plain_of is)
+at_end : {c : Rendition} {t p : List ℕ} {from offset ahead : ℕ} {style : Rendition} {marked : Bool} → (walked : IsWalked c t p from offset ahead style marked []) → walked.place ≡ length (plain t)
+at_end {t = t} walked = omega (arith, ap length walked.rest, length-drop walked.place (plain t), walked.within)
 
 pub walked-none : {c : Rendition} {t p : List ℕ} {from offset ahead : ℕ} {style : Rendition} {marked : Bool} {left : List Piece}
     → IsWalked c t p from offset ahead style marked left → left ≡ [] → (length p ≡ 0 → ahead ≢ 0) → first_match_from (plain t) p from ≡ None
-walked-none {c} {t} {p} {from} {offset} {ahead} walked is none =
-    walked-found walked is ∙ ap (option_map (λ k. walked.place + k)) (sym (first_match_from-is [] p ahead None (nowhere p none)))
-  where
-    nowhere : (q : List ℕ) → (length q ≡ 0 → ahead ≢ 0) → (k : ℕ) → ahead ≤ k → k < 0 + 1 → ¬ (IsMatch [] q k)
-    nowhere [] none k low high match = none refl (omega (arith, low, high))
-    nowhere (b ∷ q) none k low high match = omega (arith, match_fits [] (b ∷ q) k (omega arith) match)
+walked-none {c} {t} {p} {from} {offset} {ahead} {style} {marked} walked is none =
+    let last = subst (IsWalked c t p from offset ahead style marked) is walked in
+    sym last.found
+    ∙ sym (none_at_end (plain t) p (last.place + ahead) last.place (at_end last) (λ empty. (let some = none empty in omega (arith, some))) (λ k low high. absurd (omega (arith, low, high))))
 
 pub walked-empty : {c : Rendition} {t p : List ℕ} {from offset ahead : ℕ} {style : Rendition} {marked : Bool} {left : List Piece}
     → IsWalked c t p from offset ahead style marked left → left ≡ [] → offset ≡ length t → length p ≡ 0 → ahead ≡ 0 → IsUtf8 t → IsUtf8 p → IsCutAtMatch t p from t []
-walked-empty {c} {t} {p} {from} {offset} {ahead} {style} {marked} {left} walked is end empty here utf8 utf8_p =
-    let first = subst (IsWalked c t p from offset ahead style marked) is walked in
-    let e = first.place + 0 in
-    let found : first_match_from (plain t) p from ≡ Some e = walked-found first refl ∙ ap₂ (λ q d. option_map (λ k. first.place + k) (first_match_from [] q d)) (nil p empty) here in
-    let cut : IsCutAfter t e (take (length t) t) (drop (length t) t) = is_cut_after t e (length t) (sym end ∙ omega arith ∙ sym (first.lens 0)) in
+walked-empty {c} {t} {p} {from} {offset} {ahead} {style} {marked} walked is end empty here utf8 utf8_p =
+    let last = subst (IsWalked c t p from offset ahead style marked) is walked in
+    let e = last.place + 0 in
+    let same : last.place ≡ e = omega arith in
+    let found : first_match_from (plain t) p from ≡ Some e
+    = sym last.found ∙ ap (λ d. first_match_from (plain t) p (last.place + d)) here
+    ∙ sym (empty_at_end (plain t) p e e (sym same ∙ at_end last) empty (omega arith) (λ k low high. absurd (omega (arith, low, high)))) in
+    let cut : IsCutAfter t e (take (length t) t) (drop (length t) t) = is_cut_after t e (length t) (sym end ∙ omega arith ∙ sym (last.lens 0)) in
     is_cut_at_match t p from e t [] utf8 utf8_p found
     (subst (λ v. IsCutAfter t e t v) (drop_all (length t) t (omega arith)) (subst (λ v. IsCutAfter t e v (drop (length t) t)) (take_all (length t) t (omega arith)) cut))
-  where
-    nil : (q : List ℕ) → length q ≡ 0 → q ≡ []
-    nil [] none = refl
-    nil (b ∷ q) none = absurd (omega (arith, none))

@@ -108,7 +108,7 @@ own_places before b p = nat_le p b && comes_later before p
 abbrev pub earlier_places : Option ℕ → ℕ → Bool
 earlier_places before p = option_map_or (λ e. nat_le p e) before false
 
-at_places-never : (ms : List Mark) → at_places (λ p. false) ms ≡ []
+pub at_places-never : (ms : List Mark) → at_places (λ p. false) ms ≡ []
 at_places-never [] = refl
 at_places-never (m ∷ ms) = at_places-never ms
 

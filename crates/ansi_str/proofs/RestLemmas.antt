@@ -21,7 +21,9 @@ use Rattle.ansi_items.proofs.JoinLemmas.{after_text_are}
 use Rattle.ansi_style.proofs.MarkLemmas.{marks-bare}
 use Rattle.ansi_slice.proofs.MatchLemmas.{IsMatch, match_fits, first_in_front, is_match-front, first_match_from-is, starts_with-splits}
 use Rattle.ansi_slice.proofs.FindLemmas.{first_match_from-first}
-use Rattle.ansi_str.proofs.AfterLemmas.{drop-take, front_len, front_len-last, is_cut_after}
+use Rattle.ansi_slice.specs.Offsets.{bytes_before}
+use Rattle.ansi_slice.proofs.OffsetLemmas.{bytes_before-last}
+use Rattle.ansi_str.proofs.AfterLemmas.{drop-take, is_cut_after}
 use Rattle.ansi_slice.proofs.PositionLemmas.{is_good_position-append, good_is_boundary}
 use Rattle.ansi_str.proofs.SpanLemmas.{is_cut_at_match, match_is_good}
 
@@ -36,11 +38,11 @@ plain_of-after_text w (Text v ∷ ps) = append_assoc w v (plain_of ps)
 plain_of-after_text w (Sequence v ∷ ps) = refl
 plain_of-after_text w (LoneEscape ∷ ps) = refl
 
-front_len-after_text : (e : ℕ) (w : List ℕ) (ps : List Piece) → e < length w → front_len e (after_text w ps) ≡ e
-front_len-after_text e w [] inside = front_len-last e w [] inside
-front_len-after_text e w (Text v ∷ ps) inside = front_len-last e (w ++ v) ps (omega (arith, length-append w v))
-front_len-after_text e w (Sequence v ∷ ps) inside = front_len-last e w (Sequence v ∷ ps) inside
-front_len-after_text e w (LoneEscape ∷ ps) inside = front_len-last e w (LoneEscape ∷ ps) inside
+bytes_before-after_text : (e : ℕ) (w : List ℕ) (ps : List Piece) → e < length w → bytes_before e (after_text w ps) ≡ e
+bytes_before-after_text e w [] inside = bytes_before-last e w [] inside
+bytes_before-after_text e w (Text v ∷ ps) inside = bytes_before-last e (w ++ v) ps (omega (arith, length-append w v))
+bytes_before-after_text e w (Sequence v ∷ ps) inside = bytes_before-last e w (Sequence v ∷ ps) inside
+bytes_before-after_text e w (LoneEscape ∷ ps) inside = bytes_before-last e w (LoneEscape ∷ ps) inside
 
 filled : (w : List ℕ) (k : ℕ) → k < length w → w ≢ []
 filled [] k inside = absurd (omega arith)
@@ -138,12 +140,11 @@ here_or_past (Some m) past run top below = refl
 
 -- A text that is cut in the run at its front.
 
+no_escape-parts : (n : ℕ) (w : List ℕ) → IsFalse (has_escape w) → (has_escape (take n w) ≡ false) × (has_escape (drop n w) ≡ false)
+no_escape-parts n w none = or_parts _ _ (sym (list_any-append (λ b. b == escape) (take n w) (drop n w)) ∙ ap has_escape (take-append-drop n w) ∙ none)
+
 no_escape-take : (t : List ℕ) (start run : ℕ) → start ≤ run → IsFalse (has_escape (take run t)) → has_escape (take start t) ≡ false
-no_escape-take t start run before none =
-    let w = take run t in
-    let both = or_parts (has_escape (take start w)) (has_escape (drop start w))
-    (sym (list_any-append (λ b. b == escape) (take start w) (drop start w)) ∙ ap has_escape (take-append-drop start w) ∙ none) in
-    ap has_escape (sym (take-take start run t before)) ∙ both.0
+no_escape-take t start run before none = ap has_escape (sym (take-take start run t before)) ∙ (no_escape-parts start (take run t) none).0
 
 pub cut_in_run : (t p : List ℕ) (from run start : ℕ) → IsUtf8 t → IsUtf8 p → run ≤ length t → IsFalse (has_escape (take run t)) → start < run → first_match_from (plain t) p from ≡ Some start
     → IsCutAtMatch t p from (take start t) (drop start t)
@@ -154,7 +155,7 @@ cut_in_run t p from run start utf8 utf8_p inside none before found =
     let pieces : pieces_of t ≡ after_text w (pieces_of rest)
     = ap pieces_of (sym (take-append-drop run t)) ∙ pieces_of-run w rest (filled w start (omega (arith, size, before))) none in
     is_cut_at_match t p from start (take start t) (drop start t) utf8 utf8_p found
-    (is_cut_after t start start (sym (ap (front_len start) pieces ∙ front_len-after_text start w (pieces_of rest) (omega (arith, size, before)))))
+    (is_cut_after t start start (sym (ap (bytes_before start) pieces ∙ bytes_before-after_text start w (pieces_of rest) (omega (arith, size, before)))))
 
 pub boundary_in_run : (t p : List ℕ) (from run start : ℕ) → run ≤ length t → IsFalse (has_escape (take run t)) → start < run → first_match_from (plain t) p from ≡ Some start → IsCharBoundary t start
 boundary_in_run t p from run start inside none before found =
@@ -188,11 +189,7 @@ boundary-drop t place run before boundary =
     )
 
 pub no_escape-drop : (t : List ℕ) (place run : ℕ) → IsFalse (has_escape (take run t)) → IsFalse (has_escape (take (run - place) (drop place t)))
-no_escape-drop t place run none =
-    let u = take run t in
-    let both = or_parts (has_escape (take place u)) (has_escape (drop place u))
-    (sym (list_any-append (λ b. b == escape) (take place u) (drop place u)) ∙ ap has_escape (take-append-drop place u) ∙ none) in
-    ap has_escape (sym (drop-take place run t)) ∙ both.1
+no_escape-drop t place run none = ap has_escape (sym (drop-take place run t)) ∙ (no_escape-parts place (take run t) none).1
 
 -- of a run that stands further on, what follows a place in it
 pub no_escape-later : (t : List ℕ) (begin end ahead : ℕ) → IsFalse (has_escape (slice_range t begin end)) → IsFalse (has_escape (take (end - (begin + ahead)) (drop (begin + ahead) t)))

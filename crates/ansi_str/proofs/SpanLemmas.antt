@@ -7,9 +7,8 @@ use Rattle.std.proofs.lemmas.List.Elements.{filter_agree}
 use Rattle.std.proofs.lemmas.Str.{IsUtf8-drop, IsCharBoundary-from_take, IsCharBoundary-start}
 use Rattle.std.specs.List.{starts_with}
 use Rattle.std.specs.Str.{IsUtf8}
-use Rattle.ansi_items.specs.Bytes.{escape}
-use Rattle.ansi_items.specs.Pieces.{Piece, Text, Sequence, LoneEscape, pieces_of}
-use Rattle.ansi_items.specs.Plain.{Mark, plain_of, plain, marks_of, marks, up_to}
+use Rattle.ansi_items.specs.Pieces.{pieces_of}
+use Rattle.ansi_items.specs.Plain.{Mark, plain, marks, up_to}
 use Rattle.ansi_slice.specs.Positions.{is_good_position, is_char_boundary}
 use Rattle.ansi_style.specs.declared.state.rendition.Rendition.{Rendition}
 use Rattle.ansi_style.specs.Rendition.{has_any}
@@ -21,27 +20,15 @@ use Rattle.ansi_str.specs.Splits.{SplitPart}
 use Rattle.ansi_str.specs.Spans.{further_on, IsCutAfter, IsCutAtMatch, carried_from, part_from, parts_from, parts_left, span_part}
 use Rattle.ansi_slice.proofs.SliceLemmas.{slice_range-from_past}
 use Rattle.ansi_slice.proofs.ShowLemmas.{show-text}
-use Rattle.ansi_style.proofs.MarkLemmas.{further, marks_of-text, marks_of-sequence, marks_of-lone, up_to-further, up_to-here}
 use Rattle.ansi_items.proofs.Utf8Lemmas.{IsUtf8-plain}
 use Rattle.ansi_slice.proofs.ShownLemmas.{at_places, at_places-further}
 use Rattle.ansi_str.proofs.PartSliceLemmas.{own_places, past-places, at_places-at_places}
 use Rattle.ansi_slice.proofs.PositionLemmas.{good_is_boundary, is_good_position-past, is_char_boundary-from}
 use Rattle.ansi_slice.proofs.MatchLemmas.{starts_with-splits}
+use Rattle.ansi_str.proofs.AfterLemmas.{up_to-past}
 use Rattle.ansi_str.proofs.TakenLemmas.{is_first_taken, apart-none, between, between-moved, moved_on}
 
 -- The marks of a part.
-
--- no mark stands past the end
-pub up_to-past : (e : ℕ) (ps : List Piece) → length (plain_of ps) ≤ e → up_to e (marks_of ps) ≡ marks_of ps
-up_to-past e [] past = refl
-up_to-past e (Text w ∷ ps) past =
-    let size = length-append w (plain_of ps) in
-    ap (up_to e) (marks_of-text w ps) ∙ up_to-further e (length w) (marks_of ps) (omega (arith, size))
-    ∙ ap (map (further (length w))) (up_to-past (e - length w) ps (omega (arith, size))) ∙ sym (marks_of-text w ps)
-up_to-past e (Sequence w ∷ ps) past =
-    ap (up_to e) (marks_of-sequence w ps) ∙ up_to-here e w (marks_of ps) ∙ ap (λ ms. record { place = 0; bytes = w } ∷ ms) (up_to-past e ps past) ∙ sym (marks_of-sequence w ps)
-up_to-past e (LoneEscape ∷ ps) past =
-    ap (up_to e) (marks_of-lone ps) ∙ up_to-here e (escape ∷ []) (marks_of ps) ∙ ap (λ ms. record { place = 0; bytes = escape ∷ [] } ∷ ms) (up_to-past e ps past) ∙ sym (marks_of-lone ps)
 
 pub past-none : (ms : List Mark) → past None ms ≡ ms
 past-none [] = refl
@@ -51,25 +38,23 @@ past-none (m ∷ ms) = ap (λ ks. m ∷ ks) (past-none ms)
 pub own-whole : (t : List ℕ) → past None (up_to (length (plain t)) (marks t)) ≡ marks t
 own-whole t = past-none (up_to (length (plain t)) (marks t)) ∙ up_to-past (length (plain t)) (pieces_of t) (omega arith)
 
--- marks after m that pass a test
-own-after : (m : ℕ) (f : ℕ → Bool) (ms ks : List Mark) → past (Some m) ms ≡ further_on m ks → at_places (λ p. nat_lt m p && f p) ms ≡ further_on m (at_places (λ p. f (m + p)) ks)
-own-after m f ms ks is = sym (at_places-at_places f (λ p. nat_lt m p) ms) ∙ ap (at_places f) is ∙ at_places-further f m ks
+-- where a part of what follows m ends, in all of the text; before the first, at m
+abbrev moved_end : ℕ → Option ℕ → Option ℕ
+moved_end m None = Some m
+moved_end m (Some e) = Some (m + e)
 
-own-next : (m b : ℕ) (ms ks : List Mark) → past (Some m) ms ≡ further_on m ks → past (Some m) (up_to (m + b) ms) ≡ further_on m (past None (up_to b ks))
-own-next m b ms ks is =
-    past-places (Some m) (m + b) ms
-    ∙ filter_agree (λ (k : Mark). own_places (Some m) (m + b) k.place) (λ (k : Mark). nat_lt m k.place && nat_le k.place (m + b)) (λ k. grind (arith, nat_tests)) ms
-    ∙ own-after m (λ p. nat_le p (m + b)) ms ks is
-    ∙ ap (further_on m) (filter_agree (λ (k : Mark). nat_le (m + k.place) (m + b)) (λ (k : Mark). own_places None b k.place) (λ k. grind (arith, nat_tests)) ks
-    ∙ sym (past-places None b ks))
+-- the marks of a part that stands after m, which are those after m that pass a test
+own-moved : (f : ℕ → Bool) (before later : Option ℕ) (m b : ℕ) (ms ks : List Mark) → ((p : ℕ) → own_places before (m + b) p ≡ (nat_lt m p && f p)) → ((p : ℕ) → f (m + p) ≡ own_places later b p)
+    → past (Some m) ms ≡ further_on m ks → past before (up_to (m + b) ms) ≡ further_on m (past later (up_to b ks))
+own-moved f before later m b ms ks after moved is =
+    past-places before (m + b) ms
+    ∙ filter_agree (λ (k : Mark). own_places before (m + b) k.place) (λ (k : Mark). nat_lt m k.place && f k.place) (λ k. after k.place) ms
+    ∙ sym (at_places-at_places f (λ p. nat_lt m p) ms) ∙ ap (at_places f) is ∙ at_places-further f m ks
+    ∙ ap (further_on m) (filter_agree (λ (k : Mark). f (m + k.place)) (λ (k : Mark). own_places later b k.place) (λ k. moved k.place) ks ∙ sym (past-places later b ks))
 
-own-later : (m e b : ℕ) (ms ks : List Mark) → past (Some m) ms ≡ further_on m ks → past (Some (m + e)) (up_to (m + b) ms) ≡ further_on m (past (Some e) (up_to b ks))
-own-later m e b ms ks is =
-    past-places (Some (m + e)) (m + b) ms
-    ∙ filter_agree (λ (k : Mark). own_places (Some (m + e)) (m + b) k.place) (λ (k : Mark). nat_lt m k.place && own_places (Some (m + e)) (m + b) k.place) (λ k. grind (arith, nat_tests)) ms
-    ∙ own-after m (own_places (Some (m + e)) (m + b)) ms ks is
-    ∙ ap (further_on m) (filter_agree (λ (k : Mark). own_places (Some (m + e)) (m + b) (m + k.place)) (λ (k : Mark). own_places (Some e) b k.place) (λ k. grind (arith, nat_tests)) ks
-    ∙ sym (past-places (Some e) b ks))
+own-after : (later : Option ℕ) (m b : ℕ) (ms ks : List Mark) → past (Some m) ms ≡ further_on m ks → past (moved_end m later) (up_to (m + b) ms) ≡ further_on m (past later (up_to b ks))
+own-after None m b ms ks is = own-moved (λ p. nat_le p (m + b)) (Some m) None m b ms ks (λ p. grind (arith, nat_tests)) (λ p. grind (arith, nat_tests)) is
+own-after (Some e) m b ms ks is = own-moved (own_places (Some (m + e)) (m + b)) (Some (m + e)) (Some e) m b ms ks (λ p. grind (arith, nat_tests)) (λ p. grind (arith, nat_tests)) is
 
 -- A part by what it is made of.
 
@@ -92,7 +77,7 @@ part_from-made c t before i = refl
 
 -- The part up to m, by the front of the text that is cut there.
 
-pub part-front : (c : Rendition) (t : List ℕ) (skip m : ℕ) (front after : List ℕ) → m ≤ length (plain t) → IsCutAfter t m front after → part_from c t None (skip, m) ≡ span_part c front skip
+part-front : (c : Rendition) (t : List ℕ) (skip m : ℕ) (front after : List ℕ) → m ≤ length (plain t) → IsCutAfter t m front after → part_from c t None (skip, m) ≡ span_part c front skip
 part-front c t skip m front after inside cut =
     let size : m ≡ length (plain front) = sym (ap length cut.plain_front ∙ length-take-le m (plain t) inside) in
     let own : past None (up_to m (marks t)) ≡ past None (up_to (length (plain front)) (marks front)) = past-none (up_to m (marks t)) ∙ sym cut.marks_front ∙ sym (own-whole front) in
@@ -118,35 +103,27 @@ show-after x m a b ms inside =
     ∙ ap (λ u. u ++ show (drop m x) (m + a - length w) (m + b - length w) ms) (slice_range-from_past w (m + a) (m + b) (omega (arith, size)))
     ∙ ap₂ (λ i j. show (drop m x) i j ms) from to
 
-part-after : (c : Rendition) (t : List ℕ) (m : ℕ) (front after : List ℕ) (before later : Option ℕ) (i : ℕ × ℕ) → m ≤ length (plain t) → IsCutAfter t m front after
-    → past before (up_to (m + i.1) (marks t)) ≡ further_on m (past later (up_to i.1 (marks after)))
-    → carried_from c t before ≡ carried_from (style_within c t m) after later
-    → part_from c t before (moved_on m i) ≡ part_from (style_within c t m) after later i
-part-after c t m front after before later i inside cut own carried =
-    let d = style_within c t m in
+carried-after : (c : Rendition) (t : List ℕ) (m : ℕ) (front after : List ℕ) (later : Option ℕ) → IsCutAfter t m front after → carried_from c t (moved_end m later) ≡ carried_from (style_within c t m) after later
+carried-after c t m front after None cut = refl
+carried-after c t m front after (Some e) cut = cut.styles_after_from c e
+
+part-after : (c : Rendition) (t : List ℕ) (m : ℕ) (front after : List ℕ) (later : Option ℕ) (i : ℕ × ℕ) → m ≤ length (plain t) → IsCutAfter t m front after
+    → part_from c t (moved_end m later) (moved_on m i) ≡ part_from (style_within c t m) after later i
+part-after c t m front after later i inside cut =
+    let before = moved_end m later in
     let same : (m + i.0 == m + i.1) ≡ (i.0 == i.1) = grind (arith, nat_tests) in
     let ks = past later (up_to i.1 (marks after)) in
+    let own : past before (up_to (m + i.1) (marks t)) ≡ further_on m ks = own-after later m i.1 (marks t) (marks after) cut.marks_after in
     let shown : show (plain t) (m + i.0) (m + i.1) (past before (up_to (m + i.1) (marks t))) ≡ show (plain after) i.0 i.1 ks
     = ap (show (plain t) (m + i.0) (m + i.1)) own ∙ show-after (plain t) m i.0 i.1 ks inside ∙ ap (λ x. show x i.0 i.1 ks) (sym cut.plain_after) in
     part_from-made c t before (moved_on m i)
-    ∙ made_of-alike same (ap length own ∙ length-map ks _) carried shown (cut.styles_after_from c i.1)
-    ∙ sym (part_from-made d after later i)
+    ∙ made_of-alike same (ap length own ∙ length-map ks _) (carried-after c t m front after later cut) shown (cut.styles_after_from c i.1)
+    ∙ sym (part_from-made (style_within c t m) after later i)
 
-parts-later : (c : Rendition) (t : List ℕ) (m : ℕ) (front after : List ℕ) (e : ℕ) (is : List (ℕ × ℕ)) → m ≤ length (plain t) → IsCutAfter t m front after
-    → parts_from c t (Some (m + e)) (map (moved_on m) is) ≡ parts_from (style_within c t m) after (Some e) is
-parts-later c t m front after e [] inside cut = refl
-parts-later c t m front after e (i ∷ is) inside cut =
-    ap₂ (λ p ps. p ∷ ps)
-    (part-after c t m front after (Some (m + e)) (Some e) i inside cut (own-later m e i.1 (marks t) (marks after) cut.marks_after) (cut.styles_after_from c e))
-    (parts-later c t m front after i.1 is inside cut)
-
-pub parts-after : (c : Rendition) (t : List ℕ) (m : ℕ) (front after : List ℕ) (is : List (ℕ × ℕ)) → m ≤ length (plain t) → IsCutAfter t m front after
-    → parts_from c t (Some m) (map (moved_on m) is) ≡ parts_from (style_within c t m) after None is
-parts-after c t m front after [] inside cut = refl
-parts-after c t m front after (i ∷ is) inside cut =
-    ap₂ (λ p ps. p ∷ ps)
-    (part-after c t m front after (Some m) None i inside cut (own-next m i.1 (marks t) (marks after) cut.marks_after) refl)
-    (parts-later c t m front after i.1 is inside cut)
+parts-after : (c : Rendition) (t : List ℕ) (m : ℕ) (front after : List ℕ) (later : Option ℕ) (is : List (ℕ × ℕ)) → m ≤ length (plain t) → IsCutAfter t m front after
+    → parts_from c t (moved_end m later) (map (moved_on m) is) ≡ parts_from (style_within c t m) after later is
+parts-after c t m front after later [] inside cut = refl
+parts-after c t m front after later (i ∷ is) inside cut = ap₂ (λ p ps. p ∷ ps) (part-after c t m front after later i inside cut) (parts-after c t m front after (Some i.1) is inside cut)
 
 -- The parts that are left: with no match left, what is left is the last one.
 
@@ -174,7 +151,7 @@ parts_left-first c t p skip from front after at_match =
     ap (λ taken. parts_from c t None (between n skip (length x) taken)) first.taken
     ∙ ap₂ (λ p ps. p ∷ ps)
     (part-front c t skip m front after first.inside cut)
-    (ap (parts_from c t (Some m)) moved ∙ parts-after c t m front after (between n n (length (drop m x)) ms) first.inside cut
+    (ap (parts_from c t (Some m)) moved ∙ parts-after c t m front after None (between n n (length (drop m x)) ms) first.inside cut
     ∙ ap₂ (λ s y. parts_from s after None (between n n (length y) (apart n (max n 1) (match_places y p)))) style (sym cut.plain_after))
 
 -- Where the plain bytes that are left out end, a character does.

@@ -1,7 +1,8 @@
 -- The parts that a split gives: those of the text, each by its index; and a part that is written or borrowed.
-use Rattle.std.proofs.Common.{◌≡◌, ℕ, zero, suc, ◌+◌, ◌≤◌, Bool, true, false, not, ◌&&◌, ◌||◌, ◌==◌, List, [], ◌∷◌, ◌++◌, length, map, drop, Option, Some, None, option_map, refl, sym, ◌∙◌, ap, ap₂, arith, IsTrue, IsFalse, if◌then◌else◌, slice_get, append-nil}
+use Rattle.std.proofs.Common.{◌≡◌, ℕ, zero, suc, ◌+◌, ◌≤◌, true, false, not, ◌&&◌, ◌||◌, ◌==◌, List, [], ◌∷◌, ◌++◌, length, map, drop, Option, Some, None, option_map, refl, sym, ◌∙◌, ap, ap₂, arith, IsTrue, IsFalse, if◌then◌else◌, slice_get, append-nil}
 use Rattle.std.proofs.lemmas.Bool.{eqb-true, eq-eqb, ne_eqb, true≢false, cond_both, or_from, and_parts, and_from}
-use Rattle.std.proofs.lemmas.Option.{none-some}
+use Rattle.std.proofs.Math.Bool.{and-false, or-true}
+use Rattle.std.proofs.lemmas.Option.{none-some, same_Some}
 use Rattle.std.proofs.lemmas.List.{drop_all}
 use Rattle.std.proofs.lemmas.List.Folds.{list_any-append}
 use Rattle.std.specs.List.{range_with_len, list_all}
@@ -26,7 +27,8 @@ use Rattle.ansi_style.proofs.UnsetLemmas.{start-unset, close_if_any-unset}
 use Rattle.ansi_str.proofs.IntervalLemmas.{end_after, end_after-suc, end_after-none}
 use Rattle.ansi_str.proofs.PartTextLemmas.{length-parts, parts_over, all_parts-over}
 use Rattle.ansi_str.proofs.BareLemmas.{carried-bare}
-use Rattle.ansi_str.proofs.SpanLemmas.{own-whole, up_to-past}
+use Rattle.ansi_str.proofs.AfterLemmas.{up_to-past}
+use Rattle.ansi_str.proofs.SpanLemmas.{own-whole}
 
 -- What a split has left at first are the parts of the text.
 
@@ -64,43 +66,31 @@ slice_get-parts_from c t before (i ∷ is) zero = refl
 slice_get-parts_from c t before (i ∷ is) (suc k) =
     slice_get-parts_from c t (Some i.1) is k ∙ ap (λ b. option_map (part_from c t b) (slice_get is k)) (sym (end_after-suc before i is k))
 
-pub slice_get-parts_left : (t p : List ℕ) (k : ℕ)
+slice_get-parts_left : (t p : List ℕ) (k : ℕ)
     → slice_get (parts_left plain_style t p 0 0) k ≡ option_map (part_from plain_style t (end_before (parts (plain t) p) k)) (slice_get (parts (plain t) p) k)
 slice_get-parts_left t p k =
     let is = parts (plain t) p in
     ap (λ qs. slice_get qs k) (parts_left-begin t p) ∙ slice_get-parts_from plain_style t None is k
     ∙ ap (λ b. option_map (part_from plain_style t b) (slice_get is k)) (end_after-none is k)
 
-pub part-parts_left : (t p : List ℕ) (k : ℕ) → part t p k ≡ option_map (λ (q : SplitPart). q.bytes) (slice_get (parts_left plain_style t p 0 0) k)
-part-parts_left t p k =
-    by_interval (slice_get (parts (plain t) p) k) ∙ ap (option_map (λ (q : SplitPart). q.bytes)) (sym (slice_get-parts_left t p k))
-  where
-    by_interval : (o : Option (ℕ × ℕ)) → option_map (part_over t (end_before (parts (plain t) p) k)) o
-        ≡ option_map (λ (q : SplitPart). q.bytes) (option_map (part_from plain_style t (end_before (parts (plain t) p) k)) o)
-    by_interval None = refl
-    by_interval (Some i) = ap Some (sym (bytes-part_from t (end_before (parts (plain t) p) k) i))
-
-pub is_part_borrowed-parts_left : (t p : List ℕ) (k : ℕ) → is_part_borrowed t p k ≡ option_map_or (λ (q : SplitPart). q.borrowed) (slice_get (parts_left plain_style t p 0 0) k) false
-is_part_borrowed-parts_left t p k =
-    by_interval (slice_get (parts (plain t) p) k) ∙ ap (λ o. option_map_or (λ (q : SplitPart). q.borrowed) o false) (sym (slice_get-parts_left t p k))
-  where
-    by_interval : (o : Option (ℕ × ℕ)) → option_map_or (is_borrowed_over t (end_before (parts (plain t) p) k)) o false
-        ≡ option_map_or (λ (q : SplitPart). q.borrowed) (option_map (part_from plain_style t (end_before (parts (plain t) p) k)) o) false
-    by_interval None = refl
-    by_interval (Some i) = sym (borrowed-part_from t (end_before (parts (plain t) p) k) i)
-
 pub share-part_from : (t : List ℕ) (before : Option ℕ) (i : ℕ × ℕ) → (part_from plain_style t before i).share ≡ share_over t before i
 unfolding part_from share_over
 share-part_from t before i = refl
 
-pub share-parts_left : (t p : List ℕ) (k : ℕ) → share t p k ≡ option_map_or (λ (q : SplitPart). q.share) (slice_get (parts_left plain_style t p 0 0) k) 0
-share-parts_left t p k =
-    by_interval (slice_get (parts (plain t) p) k) ∙ ap (λ o. option_map_or (λ (q : SplitPart). q.share) o 0) (sym (slice_get-parts_left t p k))
+-- what is read of the part of an index, as of each part by its interval
+read-parts_left : {Y : Type 0} (read : SplitPart → Y) (g : List ℕ → Option ℕ → ℕ × ℕ → Y) (none : Y) → ((t : List ℕ) (before : Option ℕ) (i : ℕ × ℕ) → read (part_from plain_style t before i) ≡ g t before i) → (t p : List ℕ) (k : ℕ)
+    → option_map_or (g t (end_before (parts (plain t) p) k)) (slice_get (parts (plain t) p) k) none ≡ option_map_or read (slice_get (parts_left plain_style t p 0 0) k) none
+read-parts_left read g none same t p k = by_interval (slice_get (parts (plain t) p) k) ∙ ap (λ o. option_map_or read o none) (sym (slice_get-parts_left t p k))
   where
-    by_interval : (o : Option (ℕ × ℕ)) → option_map_or (share_over t (end_before (parts (plain t) p) k)) o 0
-        ≡ option_map_or (λ (q : SplitPart). q.share) (option_map (part_from plain_style t (end_before (parts (plain t) p) k)) o) 0
+    by_interval : (o : Option (ℕ × ℕ)) → option_map_or (g t (end_before (parts (plain t) p) k)) o none ≡ option_map_or read (option_map (part_from plain_style t (end_before (parts (plain t) p) k)) o) none
     by_interval None = refl
-    by_interval (Some i) = sym (share-part_from t (end_before (parts (plain t) p) k) i)
+    by_interval (Some i) = sym (same t (end_before (parts (plain t) p) k) i)
+
+is_part_borrowed-parts_left : (t p : List ℕ) (k : ℕ) → is_part_borrowed t p k ≡ option_map_or (λ (q : SplitPart). q.borrowed) (slice_get (parts_left plain_style t p 0 0) k) false
+is_part_borrowed-parts_left t p k = read-parts_left (λ (q : SplitPart). q.borrowed) is_borrowed_over false borrowed-part_from t p k
+
+share-parts_left : (t p : List ℕ) (k : ℕ) → share t p k ≡ option_map_or (λ (q : SplitPart). q.share) (slice_get (parts_left plain_style t p 0 0) k) 0
+share-parts_left t p k = read-parts_left (λ (q : SplitPart). q.share) share_over 0 share-part_from t p k
 
 -- where h gives of each index, from a on, what f is of the element
 map-by_index : {X Y : Type 0} (f : X → Y) (none : Y) (h : ℕ → Y) (xs : List X) (a : ℕ) → ((j : ℕ) → h (a + j) ≡ option_map_or f (slice_get xs j) none) → map f xs ≡ map h (range_with_len a (length xs))
@@ -126,11 +116,7 @@ is_borrowed_over-bare : (t : List ℕ) (before : Option ℕ) (i : ℕ × ℕ) �
 unfolding is_borrowed_over
 is_borrowed_over-bare t before i none =
     ap₂ (λ ms s. length (past before (up_to i.1 ms)) == 0 && (i.0 == i.1 || not (has_any s))) (marks-bare t none) (carried-bare t before none)
-    ∙ either (i.0 == i.1)
-  where
-    either : (b : Bool) → (b || true) ≡ true
-    either true = refl
-    either false = refl
+    ∙ or-true (i.0 == i.1)
 
 bare_are_borrowed : (t : List ℕ) (before : Option ℕ) (is : List (ℕ × ℕ)) → IsFalse (has_escape t) → list_all (λ (q : SplitPart). q.borrowed) (parts_from plain_style t before is) ≡ true
 bare_are_borrowed t before [] none = refl
@@ -139,11 +125,6 @@ bare_are_borrowed t before (i ∷ is) none =
 
 pub parts_left-bare : (t p : List ℕ) → IsFalse (has_escape t) → IsTrue (list_all (λ (q : SplitPart). q.borrowed) (parts_left plain_style t p 0 0))
 parts_left-bare t p none = ap (list_all (λ (q : SplitPart). q.borrowed)) (parts_left-begin t p) ∙ bare_are_borrowed t None (parts (plain t) p) none
-
--- so is each part that there is
-pub is_part_borrowed-bare : (t p : List ℕ) (k : ℕ) (i : ℕ × ℕ) → IsFalse (has_escape t) → slice_get (parts (plain t) p) k ≡ Some i → IsTrue (is_part_borrowed t p k)
-is_part_borrowed-bare t p k i none found =
-    ap (λ o. option_map_or (is_borrowed_over t (end_before (parts (plain t) p) k)) o false) found ∙ is_borrowed_over-bare t (end_before (parts (plain t) p) k) i none
 
 -- A text without marks has no ESC.
 
@@ -186,25 +167,17 @@ pub written-escape : (c : Rendition) (t : List ℕ) (skip : ℕ) → has_escape 
 written-escape c t skip some =
     let marked = escape_is_marked t some in
     record {
-      bytes = span_part-else c t skip (ap (λ b. skip == length (plain t) && b) marked ∙ never (skip == length (plain t)));
+      bytes = span_part-else c t skip (ap (λ b. skip == length (plain t) && b) marked ∙ and-false (skip == length (plain t)));
       owned = span_part-borrowed c t skip ∙ ap (λ b. b && (skip == length (plain t) || not (has_any c))) marked;
     }
-  where
-    never : (b : Bool) → (b && false) ≡ false
-    never true = refl
-    never false = refl
 
 pub written-styled : (c : Rendition) (t : List ℕ) (skip : ℕ) → has_escape t ≡ false → (skip == length t) ≡ false → has_any c ≡ true → IsWritten c t skip
 written-styled c t skip none filled any =
     let more : (skip == length (plain t)) ≡ false = ap (λ x. skip == length x) (plain-bare t none) ∙ filled in
     record {
       bytes = span_part-else c t skip (ap (λ b. b && length (marks t) == 0) more);
-      owned = span_part-borrowed c t skip ∙ ap₂ (λ a b. length (marks t) == 0 && (a || not b)) more any ∙ never (length (marks t) == 0);
+      owned = span_part-borrowed c t skip ∙ ap₂ (λ a b. length (marks t) == 0 && (a || not b)) more any ∙ and-false (length (marks t) == 0);
     }
-  where
-    never : (b : Bool) → (b && false) ≡ false
-    never true = refl
-    never false = refl
 
 -- and as it stands in the text, where it is empty or no style is carried.
 
@@ -233,12 +206,8 @@ bare-unstyled c t skip none inside unset =
           (λ empty. sym (drop_all skip t (omega (arith, eqb-true skip (length t) (and_parts (skip == length t) true empty).0))))
           (λ some. ap₂ (λ u v. u ++ drop skip t ++ v) (start-unset c unset) (close_if_any-unset c unset) ∙ append-nil (drop skip t));
       borrowed = span_part-borrowed c t skip ∙ ap₂ (λ (ms : List Mark) b. length ms == 0 && (skip == length (plain t) || not b)) (marks-bare t none) unset
-          ∙ either (skip == length (plain t));
+          ∙ or-true (skip == length (plain t));
     }
-  where
-    either : (b : Bool) → (b || true) ≡ true
-    either true = refl
-    either false = refl
 
 -- The part of an index.
 
@@ -253,17 +222,22 @@ pub record IsPartAt (t p : List ℕ) (k : ℕ) (q : SplitPart) : Type 0 where
 pub part_at : (t p : List ℕ) (k : ℕ) (q : SplitPart) → slice_get (parts_left plain_style t p 0 0) k ≡ Some q → IsPartAt t p k q
 part_at t p k q at = by_interval (slice_get (parts (plain t) p) k) refl
   where
+    before : Option ℕ
+    before = end_before (parts (plain t) p) k
+
     by_interval : (o : Option (ℕ × ℕ)) → slice_get (parts (plain t) p) k ≡ o → IsPartAt t p k q
-    by_interval None is = absurd (none-some q (sym (sym at ∙ slice_get-parts_left t p k ∙ ap (option_map (part_from plain_style t (end_before (parts (plain t) p) k))) is)))
+    by_interval None is = absurd (none-some q (sym (sym at ∙ slice_get-parts_left t p k ∙ ap (option_map (part_from plain_style t before)) is)))
     by_interval (Some i) is =
-        let borrowed : is_part_borrowed t p k ≡ q.borrowed = is_part_borrowed-parts_left t p k ∙ ap (λ o. option_map_or (λ (q : SplitPart). q.borrowed) o false) at in
+        let same : part_from plain_style t before i ≡ q = same_Some _ q (sym (slice_get-parts_left t p k ∙ ap (option_map (part_from plain_style t before)) is) ∙ at) in
+        let borrowed : is_part_borrowed t p k ≡ q.borrowed
+        = ap (λ o. option_map_or (is_borrowed_over t before) o false) is ∙ sym (borrowed-part_from t before i) ∙ ap (λ (q : SplitPart). q.borrowed) same in
         record {
           interval = i;
           found = is;
-          bytes = part-parts_left t p k ∙ ap (option_map (λ (q : SplitPart). q.bytes)) at;
+          bytes = ap (option_map (part_over t before)) is ∙ ap Some (sym (bytes-part_from t before i) ∙ ap (λ (q : SplitPart). q.bytes) same);
           borrowed = borrowed;
-          share = share-parts_left t p k ∙ ap (λ o. option_map_or (λ (q : SplitPart). q.share) o 0) at;
-          bare = λ none. sym borrowed ∙ is_part_borrowed-bare t p k i none is;
+          share = ap (λ o. option_map_or (share_over t before) o 0) is ∙ sym (share-part_from t before i) ∙ ap (λ (q : SplitPart). q.share) same;
+          bare = λ none. sym borrowed ∙ ap (λ o. option_map_or (is_borrowed_over t before) o false) is ∙ is_borrowed_over-bare t before i none;
         }
 
 pub no_part_at : (t p : List ℕ) (k : ℕ) → slice_get (parts_left plain_style t p 0 0) k ≡ None → slice_get (parts (plain t) p) k ≡ None

@@ -13,6 +13,23 @@ use Rattle.ansi_str.proofs.split.part_in.Goals as goal
 abbrev written_as : Span → SplitPart
 written_as s = span_part (rendition_of s.carried) s.text.now s.skip
 
+pub returns-in_ok-write-in-Some : goal.returns-in_ok-write-in-Some
+returns-in_ok-write-in-Some g c =
+    let t = c.args.text.now in
+    let p = c.args.pat.now in
+    let at : option_map written_as c.nth.result ≡ slice_get (parts_left plain_style t p 0 0) c.args.index
+    = nth_from_yields_List c.nth.result _ c.args.index c.nth.ensures.ran (YieldsList-from_first written_as (λ s. s) (parts_left plain_style t p 0 0) c.new.ensures) in
+    let part : IsPartAt t p c.args.index (written_as c.in-Some.span) = part_at t p c.args.index (written_as c.in-Some.span) (sym at ∙ ap (option_map written_as) c.in-Some.is) in
+    let written = c.in_ok-write-in-Some.ensures in
+    record {
+      none = (λ e. absurd (true≢false e), λ nothing. sym (ap is_some part.found) ∙ nothing);
+      bytes = part.bytes ∙ ap Some (sym written.bytes);
+      borrowed = (λ borrowed. inr (part.borrowed ∙ written.borrowed.0 borrowed), λ any. written.borrowed.1 (elim any [ inl none ↦ part.bare none | inr borrowed ↦ sym part.borrowed ∙ borrowed ]));
+      len = omega (arith, written.len, part.share);
+      within = share_within t p c.args.index;
+      takes_no_memory = λ _. refl;
+    }
+
 -- a part that is a borrow is never an `Err`
 pub returns-in_err-write-in-Some-clause-takes_no_memory : goal.returns-in_err-write-in-Some-clause-takes_no_memory
 returns-in_err-write-in-Some-clause-takes_no_memory g c =
@@ -27,35 +44,8 @@ returns-in_err-write-in-Some-clause-takes_no_memory g c =
       | inr (inr nothing) ↦ absurd (true≢false (sym (ap is_some part.found) ∙ nothing))
     ]))))
 
-pub returns-in_ok-write-in-Some-clause-none : goal.returns-in_ok-write-in-Some-clause-none
-returns-in_ok-write-in-Some-clause-none g c =
-    let t = c.args.text.now in
-    let p = c.args.pat.now in
-    let at : option_map written_as c.nth.result ≡ slice_get (parts_left plain_style t p 0 0) c.args.index
-    = nth_from_yields_List c.nth.result _ c.args.index c.nth.ensures.ran (YieldsList-from_first written_as (λ s. s) (parts_left plain_style t p 0 0) c.new.ensures) in
-    let part : IsPartAt t p c.args.index (written_as c.in-Some.span) = part_at t p c.args.index (written_as c.in-Some.span) (sym at ∙ ap (option_map written_as) c.in-Some.is) in
-    (λ e. absurd (true≢false e), λ nothing. sym (ap is_some part.found) ∙ nothing)
-
-pub returns-in_ok-write-in-Some-clause-bytes : goal.returns-in_ok-write-in-Some-clause-bytes
-returns-in_ok-write-in-Some-clause-bytes g c =
-    let t = c.args.text.now in
-    let p = c.args.pat.now in
-    let at : option_map written_as c.nth.result ≡ slice_get (parts_left plain_style t p 0 0) c.args.index
-    = nth_from_yields_List c.nth.result _ c.args.index c.nth.ensures.ran (YieldsList-from_first written_as (λ s. s) (parts_left plain_style t p 0 0) c.new.ensures) in
-    let part : IsPartAt t p c.args.index (written_as c.in-Some.span) = part_at t p c.args.index (written_as c.in-Some.span) (sym at ∙ ap (option_map written_as) c.in-Some.is) in
-    part.bytes ∙ ap Some (sym c.in_ok-write-in-Some.ensures.bytes)
-
-pub returns-in_ok-write-in-Some-clause-borrowed : goal.returns-in_ok-write-in-Some-clause-borrowed
-returns-in_ok-write-in-Some-clause-borrowed g c =
-    let t = c.args.text.now in
-    let p = c.args.pat.now in
-    let at : option_map written_as c.nth.result ≡ slice_get (parts_left plain_style t p 0 0) c.args.index
-    = nth_from_yields_List c.nth.result _ c.args.index c.nth.ensures.ran (YieldsList-from_first written_as (λ s. s) (parts_left plain_style t p 0 0) c.new.ensures) in
-    let part : IsPartAt t p c.args.index (written_as c.in-Some.span) = part_at t p c.args.index (written_as c.in-Some.span) (sym at ∙ ap (option_map written_as) c.in-Some.is) in
-    let written = c.in_ok-write-in-Some.ensures.borrowed in (
-      λ borrowed. inr (part.borrowed ∙ written.0 borrowed),
-      λ any. written.1 (elim any [ inl none ↦ part.bare none | inr borrowed ↦ sym part.borrowed ∙ borrowed ]),
-    )
+pub returns-in_err-write-in-Some-clause-within : goal.returns-in_err-write-in-Some-clause-within
+returns-in_err-write-in-Some-clause-within g c = share_within c.args.text.now c.args.pat.now c.args.index
 
 pub returns-in-None-clause-none : goal.returns-in-None-clause-none
 returns-in-None-clause-none g c =
@@ -65,23 +55,6 @@ returns-in-None-clause-none g c =
     = nth_from_yields_List c.nth.result _ c.args.index c.nth.ensures.ran (YieldsList-from_first written_as (λ s. s) (parts_left plain_style t p 0 0) c.new.ensures) in
     let none = no_part_at t p c.args.index (sym at ∙ ap (option_map written_as) c.in-None.is) in
     (λ e. ap is_some none, λ e. refl)
-
-pub returns-in_ok-write-in-Some-clause-len : goal.returns-in_ok-write-in-Some-clause-len
-returns-in_ok-write-in-Some-clause-len g c =
-    let t = c.args.text.now in
-    let p = c.args.pat.now in
-    let at : option_map written_as c.nth.result ≡ slice_get (parts_left plain_style t p 0 0) c.args.index
-    = nth_from_yields_List c.nth.result _ c.args.index c.nth.ensures.ran (YieldsList-from_first written_as (λ s. s) (parts_left plain_style t p 0 0) c.new.ensures) in
-    let part : IsPartAt t p c.args.index (written_as c.in-Some.span) = part_at t p c.args.index (written_as c.in-Some.span) (sym at ∙ ap (option_map written_as) c.in-Some.is) in
-    omega (arith, c.in_ok-write-in-Some.ensures.len, part.share)
-
--- a share is part of the text
-
-pub returns-in_ok-write-in-Some-clause-within : goal.returns-in_ok-write-in-Some-clause-within
-returns-in_ok-write-in-Some-clause-within g c = share_within c.args.text.now c.args.pat.now c.args.index
-
-pub returns-in_err-write-in-Some-clause-within : goal.returns-in_err-write-in-Some-clause-within
-returns-in_err-write-in-Some-clause-within g c = share_within c.args.text.now c.args.pat.now c.args.index
 
 pub returns-in-None-clause-within : goal.returns-in-None-clause-within
 returns-in-None-clause-within g c = share_within c.args.text.now c.args.pat.now c.args.index

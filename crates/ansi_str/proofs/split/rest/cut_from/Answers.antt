@@ -1,4 +1,4 @@
-use Rattle.std.proofs.Common.{rules, ◌≡◌, ◌≢◌, ◌∷◌, ◌++◌, ◌+◌, ◌-◌, ◌≤◌, Some, length, take, drop, refl, sym, ◌∙◌, ap, ap₂, subst, arith, IsFalse}
+use Rattle.std.proofs.Common.{rules, ◌≡◌, ◌≢◌, ◌∷◌, ◌++◌, ◌+◌, ◌-◌, Some, length, take, drop, refl, sym, ◌∙◌, ap, ap₂, subst, arith, IsFalse}
 use Rattle.std.proofs.lemmas.Bool.{eqb-true, eqb-false}
 use Rattle.std.proofs.lemmas.Str.{IsCharBoundary-from_rest}
 use Rattle.std.specs.Str.{IsCharBoundary}

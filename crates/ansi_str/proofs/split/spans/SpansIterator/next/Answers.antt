@@ -1,7 +1,5 @@
 use Rattle.std.proofs.Common.{◌≡◌, ◌≤◌, ℕ, List, ◌∷◌, [], Option, Some, None, sym, ◌∙◌, ap, ap₂, subst, arith, max, length, IsTrue, if◌then◌else◌}
-use Rattle.std.proofs.lemmas.Option.{same_Some}
 use Rattle.std.specs.Option.{MatchOption}
-use Rattle.ansi_style.specs.declared.state.rendition.Rendition.{Rendition}
 use Rattle.ansi_str.specs.declared.split.rest.Rest.{Rest}
 use Rattle.ansi_items.specs.Plain.{plain}
 use Rattle.ansi_slice.specs.Parts.{first_match_from}
@@ -12,20 +10,6 @@ use Rattle.ansi_str.specs.Spans.{IsCutAtMatch, span_part, parts_left}
 use Rattle.ansi_str.proofs.SpanLemmas.{parts_left-last, parts_left-first, skip_in_front}
 use Rattle.ansi_str.proofs.split.spans.SpansIterator.next.Goals as goal
 use Rattle.ansi_str.proofs.split.spans.SpansIterator.next.Goals.{in-Some, in-None}
-
--- what a cut says where its rest is known
-
-last : (c : Rendition) (t p : List ℕ) (skip from : ℕ) (front : List ℕ) (r : Option Rest) → MatchOption r ((first_match_from (plain t) p from ≡ None) × (front ≡ t)) (λ rest. IsCutAtMatch t p from front rest.text.now)
-    → r ≡ None → parts_left c t p skip from ≡ span_part c front skip ∷ []
-last c t p skip from front None all is = parts_left-last c t p skip from all.0 ∙ ap (λ v. span_part c v skip ∷ []) (sym all.1)
-last c t p skip from front (Some rest) cut is = absurd (cc is)
-
-more : (c : Rendition) (t p : List ℕ) (skip from : ℕ) (front : List ℕ) (r : Option Rest) → MatchOption r ((first_match_from (plain t) p from ≡ None) × (front ≡ t)) (λ rest. IsCutAtMatch t p from front rest.text.now)
-    → (after : Rest) → r ≡ Some after → parts_left c t p skip from ≡ span_part c front skip ∷ parts_left (style_after_from c front) after.text.now p (length p) (max (length p) 1)
-more c t p skip from front None all after is = absurd (cc is)
-more c t p skip from front (Some rest) cut after is =
-    parts_left-first c t p skip from front rest.text.now cut
-    ∙ ap (λ (k : Rest). span_part c front skip ∷ parts_left (style_after_from c front) k.text.now p (length p) (max (length p) 1)) (same_Some rest after is)
 
 -- where the plain bytes that are left out end, a character of the front does
 skip_in : (t p : List ℕ) (skip from : ℕ) (front : List ℕ) (r : Option Rest) → MatchOption r ((first_match_from (plain t) p from ≡ None) × (front ≡ t)) (λ rest. IsCutAtMatch t p from front rest.text.now)
@@ -55,13 +39,15 @@ returns-clause-steps c =
     let left : c.args.self.now ≡ all = sym c.self.view_is ∙ ap (λ b. if b then [] else all) c.if-self.false in
     elim c.match-cut.branch [
       | in-Some w ↦ (
-          let after = w.in-Some.rest in
-          let later = parts_left (rendition_of cut.result.style) after.text.now p (length p) w.max-self-inside.result in
-          let goes_on : parts_left (style_after_from style front) after.text.now p (length p) (max (length p) 1) ≡ (if s.finished then [] else later)
-          = ap₂ (λ r n. parts_left r after.text.now p (length p) n) (sym cut.ensures.style) (sym w.max-self-inside.ensures) ∙ sym (ap (λ b. if b then [] else later) c.if-self.false) in
-          left ∙ more style t p s.skip s.from front cut.result.rest cut.ensures.rest after w.in-Some.is ∙ ap (λ ps. span_part style front s.skip ∷ ps) (goes_on ∙ sym w.self-is))
-      | in-None w ↦
-          left ∙ last style t p s.skip s.from front cut.result.rest cut.ensures.rest w.in-None.is ∙ ap (λ ps. span_part style front s.skip ∷ ps) (sym w.self-is)
+          let after = w.in-Some.rest.text.now in
+          let at : IsCutAtMatch t p s.from front after = rw w.in-Some.is at cut.ensures.rest in
+          let later = parts_left (rendition_of cut.result.style) after p (length p) w.max-self-inside.result in
+          let goes_on : parts_left (style_after_from style front) after p (length p) (max (length p) 1) ≡ (if s.finished then [] else later)
+          = ap₂ (λ r n. parts_left r after p (length p) n) (sym cut.ensures.style) (sym w.max-self-inside.ensures) ∙ sym (ap (λ b. if b then [] else later) c.if-self.false) in
+          left ∙ parts_left-first style t p s.skip s.from front after at ∙ ap (λ ps. span_part style front s.skip ∷ ps) (goes_on ∙ sym w.self-is))
+      | in-None w ↦ (
+          let none : (first_match_from (plain t) p s.from ≡ None) × (front ≡ t) = rw w.in-None.is at cut.ensures.rest in
+          left ∙ parts_left-last style t p s.skip s.from none.0 ∙ ap₂ (λ v ps. span_part style v s.skip ∷ ps) (sym none.1) (sym w.self-is))
     ]
 
 pub returns-clause-goes : goal.returns-clause-goes
