@@ -171,9 +171,6 @@ found-reads x front tail j m found inside =
     let longer : m < length whole = omega (arith, inside, length-append front tail) in
     sym (get_or-drop j x m 0) ∙ ap (λ v. slice_index v m) splits ∙ get_or_append_left whole (drop (length whole) (drop j x)) 0 m longer ∙ get_or_append_left front tail 0 m inside
 
-pub read-start : (x front tail : List ℕ) → 0 < length front → IsRead x front tail 0 0
-read-start x front tail some = record { within = omega arith; short = some; stands = stands-none x front 0; none = λ k low high _. omega (arith, high) }
-
 -- bytes with which no match begins, where none was begun
 pub read-over : (x front tail : List ℕ) (i d : ℕ) → IsRead x front tail i 0 → ((m : ℕ) → m < d → slice_index x (i + m) ≢ slice_index front 0) → IsRead x front tail (i + d) 0
 read-over x front tail i d read others = record {

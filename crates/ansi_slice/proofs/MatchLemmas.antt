@@ -73,43 +73,66 @@ is_match-after x p y k j within is past =
 abbrev pub IsMatch : List ℕ → List ℕ → ℕ → Type 0
 IsMatch x p i = IsTrue (is_match x p i)
 
--- a place that is no match, or stands before `from`, is passed over
-further : (f : ℕ → Bool) (from n k : ℕ) (r : Option ℕ) → (IsTrue (f k) → k < from) → IsFirst (λ i. IsTrue (f i)) (max from k) (k + suc n) r → IsFirst (λ i. IsTrue (f i)) (max from (k + 1)) (k + 1 + n) r
-further f from n k None skips first = λ i low high. first i (omega (arith, low)) (omega (arith, high))
-further f from n k (Some m) skips first =
+-- none before k + 1 but k, which is passed over
+nearer : (f : ℕ → Bool) (from n k : ℕ) (r : Option ℕ) → (IsTrue (f k) → k < from) → IsFirst (λ i. IsTrue (f i)) (max from (k + 1)) (k + 1 + n) r → IsFirst (λ i. IsTrue (f i)) (max from k) (k + suc n) r
+nearer f from n k None skips first = λ i low high passes. elim (cases_lt k i) [
+  | inl past ↦ first i (omega (arith, low, past)) (omega (arith, high)) passes
+  | inr here ↦ (let same : i ≡ k = omega (arith, low, here) in let below : k < from = skips (subst (λ j. IsTrue (f j)) same passes) in omega (arith, low, same, below))
+]
+nearer f from n k (Some m) skips first =
     let found = first.0 in
-    let low : max from k ≤ m = found.low in
-    let high : m < k + suc n = found.high in
-    let past : k ≢ m = λ same. (let below : k < from = skips (subst (λ i. IsTrue (f i)) (sym same) first.1) in omega (arith, below, low, same)) in
-    (record { low = omega (arith, low, past); high = omega (arith, high); before = λ i from_here to. found.before i (omega (arith, from_here)) to }, first.1)
+    let low : max from (k + 1) ≤ m = found.low in
+    let high : m < k + 1 + n = found.high in (
+      record {
+        low = omega (arith, low);
+        high = omega (arith, high);
+        before = λ i from_here to passes. elim (cases_lt k i) [
+          | inl past ↦ found.before i (omega (arith, from_here, past)) to passes
+          | inr here ↦ (let same : i ≡ k = omega (arith, from_here, here) in let below : k < from = skips (subst (λ j. IsTrue (f j)) same passes) in omega (arith, from_here, same, below))
+        ];
+      },
+      first.1,
+    )
 
--- of n places from k on, the first that isn't before `from` and passes
-first_kept : (f : ℕ → Bool) (from n k : ℕ) (r : Option ℕ) → IsFirst (λ i. IsTrue (f i)) (max from k) (k + n) r → r ≡ slice_get (filter (nat_le from) (filter f (range_with_len k n))) 0
-first_kept f from zero k None first = refl
-first_kept f from zero k (Some m) first = (let found = first.0 in absurd (let low = found.low in let high = found.high in omega (arith, low, high)))
-first_kept f from (suc n) k r first =
+kept_first : (f : ℕ → Bool) (from n k : ℕ) → IsFirst (λ i. IsTrue (f i)) (max from k) (k + n) (slice_get (filter (nat_le from) (filter f (range_with_len k n))) 0)
+kept_first f from zero k = λ i low high passes. omega (arith, low, high)
+kept_first f from (suc n) k =
+    let P : Option ℕ → Type 0 = λ r. IsFirst (λ i. IsTrue (f i)) (max from k) (k + suc n) r in
     let later = filter f (range_with_len (k + 1) n) in
-    cond_both (f k) (k ∷ later) later (λ ks. r ≡ slice_get (filter (nat_le from) ks) 0)
+    cond_both (f k) (k ∷ later) later (λ ks. P (slice_get (filter (nat_le from) ks) 0))
     (λ passes.
-    cond_both (nat_le from k) (k ∷ filter (nat_le from) later) (filter (nat_le from) later) (λ ks. r ≡ slice_get ks 0)
-    (λ below. here r passes (leb-true from k below) first)
-    (λ above. first_kept f from n (k + 1) r (further f from n k r (λ _. leb-false from k above) first)))
-    (λ fails. first_kept f from n (k + 1) r (further f from n k r (λ passes. absurd (true≢false (sym passes ∙ fails))) first))
-  where
-    here : (r : Option ℕ) → IsTrue (f k) → from ≤ k → IsFirst (λ i. IsTrue (f i)) (max from k) (k + suc n) r → r ≡ Some k
-    here None passes below first = absurd (first k (omega arith) (omega arith) passes)
-    here (Some m) passes below first =
-        let found = first.0 in
-        elim (cases_eq k m) [
-          | inl same ↦ ap (λ i. Some i) (sym same)
-          | inr other ↦ (let low = found.low in absurd (found.before k (omega arith) (omega (arith, low, other)) passes))
-        ]
+    cond_both (nat_le from k) (k ∷ filter (nat_le from) later) (filter (nat_le from) later) (λ ks. P (slice_get ks 0))
+    (λ below.
+    let at : from ≤ k = leb-true from k below in
+    (record { low = omega (arith, at); high = omega arith; before = λ i low high _. omega (arith, low, high) }, passes))
+    (λ above. nearer f from n k _ (λ _. leb-false from k above) (kept_first f from n (k + 1))))
+    (λ fails. nearer f from n k _ (λ passes. absurd (true≢false (sym passes ∙ fails))) (kept_first f from n (k + 1)))
+
+pub first_match_from-first : (x p : List ℕ) (from : ℕ) → IsFirst (IsMatch x p) from (length x + 1) (first_match_from x p from)
+first_match_from-first x p from =
+    let r = first_match_from x p from in
+    let same : max from 0 ≡ from = omega arith in
+    let count : 0 + (length x + 1) ≡ length x + 1 = omega arith in
+    subst (λ k. IsFirst (IsMatch x p) k (length x + 1) r) same (subst (λ n. IsFirst (IsMatch x p) (max from 0) n r) count (kept_first (is_match x p) from (length x + 1) 0))
+
+-- there is one first place at most
+first-unique : (P : ℕ → Type 0) (i j : ℕ) (r s : Option ℕ) → IsFirst P i j r → IsFirst P i j s → r ≡ s
+first-unique P i j None None none also = refl
+first-unique P i j None (Some m) none first = (let found = first.0 in absurd (none m found.low found.high first.1))
+first-unique P i j (Some k) None first none = (let found = first.0 in absurd (none k found.low found.high first.1))
+first-unique P i j (Some k) (Some m) first other =
+    let here = first.0 in
+    let there = other.0 in
+    elim (cases_eq k m) [
+      | inl same ↦ ap (λ n. Some n) same
+      | inr apart ↦ elim (cases_lt k m) [
+        | inl before ↦ absurd (there.before k here.low before first.1)
+        | inr past ↦ absurd (here.before m there.low (omega (arith, past, apart)) other.1)
+      ]
+    ]
 
 pub first_match_from-is : (x p : List ℕ) (from : ℕ) (r : Option ℕ) → IsFirst (IsMatch x p) from (length x + 1) r → r ≡ first_match_from x p from
-first_match_from-is x p from r first =
-    let same : from ≡ max from 0 = omega arith in
-    let count : length x + 1 ≡ 0 + (length x + 1) = omega arith in
-    first_kept (is_match x p) from (length x + 1) 0 r (subst (λ n. IsFirst (IsMatch x p) (max from 0) n r) count (subst (λ k. IsFirst (IsMatch x p) k (length x + 1) r) same first))
+first_match_from-is x p from r first = first-unique (IsMatch x p) from (length x + 1) r _ first (first_match_from-first x p from)
 
 -- Past a place before which there is no match, and from which the text x goes on as v.
 

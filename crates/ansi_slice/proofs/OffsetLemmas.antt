@@ -1,5 +1,5 @@
 -- Where the plain bytes of a text stand in it: what stands before them and after them, and how far a walk there has come.
-use Rattle.std.proofs.Common.{◌≡◌, ◌≢◌, ℕ, zero, suc, ◌+◌, ◌-◌, ◌<◌, ◌≤◌, inl, inr, Bool, true, ◌↔◌, List, [], ◌∷◌, ◌++◌, length, take, drop, take-add, refl, sym, ◌∙◌, ap, ap₂, subst, arith, IsTrue, if◌then◌else◌, nat_lt, length-append, append_assoc, append-nil, ◌&&◌, Some}
+use Rattle.std.proofs.Common.{◌≡◌, ◌≢◌, ℕ, zero, suc, ◌+◌, ◌-◌, ◌<◌, ◌≤◌, inl, inr, Bool, true, ◌↔◌, List, [], ◌∷◌, ◌++◌, length, take, drop, take-add, refl, sym, ◌∙◌, ap, ap₂, subst, arith, IsTrue, if◌then◌else◌, nat_lt, length-append, append_assoc, ◌&&◌, Some}
 use Rattle.std.proofs.Math.Seq.{drop-nil, drop-append_seam}
 use Rattle.std.proofs.lemmas.Bool.{cases_lt, le-leb, lt-ltb, le-ltb, and_parts}
 use Rattle.std.proofs.lemmas.Bool.Decides.{nat_tests}
@@ -32,10 +32,10 @@ use Rattle.ansi_slice.proofs.PositionLemmas.{is_good_position-append, is_good_po
 use Rattle.ansi_slice.proofs.CutLemmas.{cut_from, cut_from-last, cut_from-text, cut_up_to-walk}
 use Rattle.ansi_slice.proofs.KeptWalkLemmas.{kept_from, kept_from-mark, kept-walk, kept-all}
 
-bytes_before-last : (n : ℕ) (w : List ℕ) (ps : List Piece) → n < length w → bytes_before n (Text w ∷ ps) ≡ n
+pub bytes_before-last : (n : ℕ) (w : List ℕ) (ps : List Piece) → n < length w → bytes_before n (Text w ∷ ps) ≡ n
 bytes_before-last n w ps last = ap (λ b. if b then n else length w + bytes_before (n - length w) ps) (lt-ltb n (length w) last)
 
-bytes_before-text : (n : ℕ) (w : List ℕ) (ps : List Piece) → length w ≤ n → bytes_before n (Text w ∷ ps) ≡ length w + bytes_before (n - length w) ps
+pub bytes_before-text : (n : ℕ) (w : List ℕ) (ps : List Piece) → length w ≤ n → bytes_before n (Text w ∷ ps) ≡ length w + bytes_before (n - length w) ps
 bytes_before-text n w ps within = ap (λ b. if b then n else length w + bytes_before (n - length w) ps) (le-ltb n (length w) within)
 
 sequences_up_to-last : (n : ℕ) (w : List ℕ) (ps : List Piece) → n < length w → sequences_up_to n (Text w ∷ ps) ≡ []
@@ -61,17 +61,17 @@ after_of-last n w ps last = ap (λ b. if b then Text (drop n w) ∷ ps else afte
 pub after_of-text : (n : ℕ) (w : List ℕ) (ps : List Piece) → length w ≤ n → after_of n (Text w ∷ ps) ≡ after_of (n - length w) ps
 after_of-text n w ps within = ap (λ b. if b then Text (drop n w) ∷ ps else after_of (n - length w) ps) (le-ltb n (length w) within)
 
-take-after : (w rest : List ℕ) (n : ℕ) → take (length w + n) (w ++ rest) ≡ w ++ take n rest
+pub take-after : (w rest : List ℕ) (n : ℕ) → take (length w + n) (w ++ rest) ≡ w ++ take n rest
 take-after w rest n =
     let left : length w + n - length w ≡ n = omega arith in
     take-append (length w + n) w rest ∙ ap₂ (λ u k. u ++ take k rest) (take_all (length w + n) w (omega arith)) left
 
-drop-after : (w rest : List ℕ) (n : ℕ) → drop (length w + n) (w ++ rest) ≡ drop n rest
+pub drop-after : (w rest : List ℕ) (n : ℕ) → drop (length w + n) (w ++ rest) ≡ drop n rest
 drop-after w rest n =
     let left : length w + n - length w ≡ n = omega arith in
     drop-append (length w + n) w rest ∙ ap₂ (λ u k. u ++ drop k rest) (drop_all (length w + n) w (omega arith)) left
 
-drop_filled : (n : ℕ) (w : List ℕ) → n < length w → drop n w ≢ []
+pub drop_filled : (n : ℕ) (w : List ℕ) → n < length w → drop n w ≢ []
 drop_filled n [] last = absurd (omega arith)
 drop_filled zero (b ∷ w) last = λ e. cc
 drop_filled (suc n) (b ∷ w) last = drop_filled n w (omega arith)
@@ -82,10 +82,10 @@ inside_are n t w ps are last =
     let parts : (list_all is_plain_byte (take n w) ≡ true) × (list_all is_plain_byte (drop n w) ≡ true) = and_parts _ _ (sym (list_all-append is_plain_byte (take n w) (drop n w)) ∙ ap (list_all is_plain_byte) (take-append-drop n w) ∙ are.2.1) in
     (are.0, ap (drop n) are.1 ∙ drop-append-le n w are.0 (omega arith), (drop_filled n w last, parts.1, are.2.2), are.3)
 
-after_more : (t : List ℕ) (p : Piece) (rest : List ℕ) (n : ℕ) (qs : List Piece) → t ≡ spelling p ++ rest → ArePieces (drop n rest) qs → ArePieces (drop (length (spelling p) + n) t) qs
+pub after_more : (t : List ℕ) (p : Piece) (rest : List ℕ) (n : ℕ) (qs : List Piece) → t ≡ spelling p ++ rest → ArePieces (drop n rest) qs → ArePieces (drop (length (spelling p) + n) t) qs
 after_more t p rest n qs spelled are = subst (λ u. ArePieces u qs) (sym (ap (drop (length (spelling p) + n)) spelled ∙ drop-after (spelling p) rest n)) are
 
-after_are : (n : ℕ) (t : List ℕ) (ps : List Piece) → ArePieces t ps → ArePieces (drop (bytes_before n ps) t) (after_of n ps)
+pub after_are : (n : ℕ) (t : List ℕ) (ps : List Piece) → ArePieces t ps → ArePieces (drop (bytes_before n ps) t) (after_of n ps)
 after_are n t [] are = are
 after_are n t (Text w ∷ ps) are = elim (cases_lt n (length w)) [
   | inl last ↦ rw (bytes_before-last n w ps last, after_of-last n w ps last) (inside_are n t w ps are last)
@@ -99,7 +99,7 @@ after_are n t (LoneEscape ∷ ps) are = after_more t LoneEscape are.0 (bytes_bef
 pub pieces_of-after : (t : List ℕ) (n : ℕ) → pieces_of (drop (offset_of t n) t) ≡ after_of n (pieces_of t)
 pieces_of-after t n = sym (pieces_of-unique _ _ (after_are n t (pieces_of t) (pieces_are t)))
 
-plain_of-after : (n : ℕ) (ps : List Piece) → plain_of (after_of n ps) ≡ drop n (plain_of ps)
+pub plain_of-after : (n : ℕ) (ps : List Piece) → plain_of (after_of n ps) ≡ drop n (plain_of ps)
 plain_of-after n [] = sym (drop-nil n)
 plain_of-after n (Text w ∷ ps) = elim (cases_lt n (length w)) [
   | inl last ↦ ap plain_of (after_of-last n w ps last) ∙ sym (drop-append-le n w (plain_of ps) (omega arith))
@@ -385,13 +385,6 @@ pushed-mark {whole} {written} {new} {n} {w = w} {ps = ps} so_far begins is =
     by_piece (Text v) is = absurd (cc is)
     by_piece (Sequence v) is = refl
     by_piece LoneEscape is = refl
-
-pub pushed-last : {whole written : List ℕ} {n : ℕ} {w : List ℕ} {old ps : List Piece} → IsPushedSoFar whole written n old → old ≡ Text w ∷ ps → n < length w → written ≡ whole
-pushed-last {written = written} {n = n} {w = w} {ps = ps} so_far first last =
-    sym (append-nil written) ∙ ap (λ v. written ++ v) (sym (ap (sequences_up_to n) first ∙ sequences_up_to-last n w ps last)) ∙ so_far.pushed
-
-pub pushed-end : {whole written : List ℕ} {n : ℕ} {old : List Piece} → IsPushedSoFar whole written n old → old ≡ [] → written ≡ whole
-pushed-end {written = written} {n = n} so_far none = sym (append-nil written) ∙ ap (λ v. written ++ v) (sym (ap (sequences_up_to n) none)) ∙ so_far.pushed
 
 -- How far a walk has come: so many plain bytes and so many bytes of t have been passed, and what is kept up to a place further on is those bytes, and what is kept of the pieces that are left.
 pub record IsPassed (t : List ℕ) (place passed : ℕ) (left : List Piece) : Type 0 where

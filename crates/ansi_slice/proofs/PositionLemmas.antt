@@ -21,13 +21,6 @@ is_good_position-after w y n past = ap (λ b. not (is_continuation_byte b)) (get
 pub is_good_position-drop : (x : List ℕ) (k n : ℕ) → is_good_position (drop k x) n ≡ is_good_position x (k + n)
 is_good_position-drop x k n = ap (λ b. not (is_continuation_byte b)) (get_or-drop k x n 0)
 
--- a good position is good in the text at the front
-pub good_in_front : (w y : List ℕ) (n : ℕ) → IsTrue (is_good_position (w ++ y) n) → IsTrue (is_good_position w n)
-good_in_front w y n good = elim (cases_lt n (length w)) [
-  | inl within ↦ sym (is_good_position-append w y n within) ∙ good
-  | inr past ↦ is_good_position-past w n past
-]
-
 -- Within a text, the good positions are std's boundaries.
 
 pub good_is_boundary : (x : List ℕ) (n : ℕ) → n ≤ length x → IsTrue (is_good_position x n) → IsCharBoundary x n
