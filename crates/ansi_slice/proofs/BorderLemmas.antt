@@ -94,6 +94,27 @@ next-none p k c n so_far all other = record {
   ];
 }
 
+-- Where the first k bytes of p end in x at i, the bytes up to and with the next one end with the first r of p, and with no more.
+
+stands-next : (x p : List ℕ) (i k r : ℕ) → k ≤ i → StandsAt x p (i - k) k → IsNext p k (slice_index x i) r → StandsAt x p (i + 1 - r) r
+stands-next x p i k zero within stands next = stands-none x p (i + 1 - 0)
+stands-next x p i k (suc n) within stands next =
+    let fits : suc n ≤ k + 1 = next.within in
+    let last : suc n - 1 ≡ n = omega arith in
+    let goes : GoesOn p k (slice_index x i) n = subst (GoesOn p k (slice_index x i)) last (next.ends (omega arith)) in
+    let start : StandsAt x p (i - n) n = stands-end x p (i - k) k n (i - n) stands goes.0 (omega (arith, fits)) (omega (arith, within, fits)) in
+    let more : StandsAt x p (i - n) (n + 1) = stands-more x p (i - n) n i start (omega (arith, within, fits)) (sym goes.1) in
+    let size : n + 1 ≡ suc n = omega arith in
+    let place : i - n ≡ i + 1 - suc n = omega (arith, within, fits) in
+    stands-move x p (i - n) (i + 1 - suc n) (suc n) (subst (StandsAt x p (i - n)) size more) place
+
+none-next : (x p : List ℕ) (i k r n : ℕ) → k ≤ i → StandsAt x p (i - k) k → IsNext p k (slice_index x i) r → r ≤ n → n ≤ k → ¬ (StandsAt x p (i - n) (n + 1))
+none-next x p i k r n within stands next low high here =
+    let front : StandsAt x p (i - n) n = stands-less x p (i - n) (n + 1) n here (omega arith) in
+    let end : i - n + n ≡ i = omega (arith, within, high) in
+    let last : slice_index p n ≡ slice_index x i = sym (here n (omega arith)) ∙ ap (slice_index x) end in
+    next.longest n low high (stands-inner x p (i - k) k n (i - n) stands front high (omega (arith, within, high)), last)
+
 -- The borders.
 
 pub border-one : (p : List ℕ) → IsBorder p 1 0
@@ -110,37 +131,21 @@ border-next p k b r border next =
     let within : r ≤ b + 1 = next.within in
     record {
       shorter = omega (arith, shorter, within);
-      stands = by_length r within next.ends;
+      stands = stands-next p p k b r (omega (arith, shorter)) border.stands next;
       longest = λ n low high stands. none n low high stands;
     }
   where
-    by_length : (r : ℕ) → r ≤ b + 1 → (0 < r → GoesOn p b (slice_index p k) (r - 1)) → StandsAt p p (k + 1 - r) r
-    by_length zero within ends = stands-none p p (k + 1 - 0)
-    by_length (suc n) within ends =
-        let shorter : b < k = border.shorter in
-        let some : 0 < suc n = omega arith in
-        let last : suc n - 1 ≡ n = omega arith in
-        let goes : GoesOn p b (slice_index p k) n = subst (GoesOn p b (slice_index p k)) last (ends some) in
-        let fits : n ≤ b = omega (arith, within) in
-        let start : StandsAt p p (k - n) n = stands-end p p (k - b) b n (k - n) border.stands goes.0 fits (omega (arith, shorter, fits)) in
-        let more : StandsAt p p (k - n) (n + 1) = stands-more p p (k - n) n k start (omega (arith, shorter, fits)) (sym goes.1) in
-        let size : n + 1 ≡ suc n = omega arith in
-        let place : k - n ≡ k + 1 - suc n = omega (arith, shorter, fits) in
-        stands-move p p (k - n) (k + 1 - suc n) (suc n) (subst (StandsAt p p (k - n)) size more) place
-
     none : (n : ℕ) → r < n → n < k + 1 → ¬ (StandsAt p p (k + 1 - n) n)
     none zero low high stands = omega (arith, low)
     none (suc n) low high stands =
         let shorter : b < k = border.shorter in
         let below : n < k = omega (arith, high) in
+        let size : suc n ≡ n + 1 = omega arith in
         let place : k + 1 - suc n ≡ k - n = omega (arith, below) in
-        let here : StandsAt p p (k - n) (suc n) = stands-move p p (k + 1 - suc n) (k - n) (suc n) stands place in
-        let front : StandsAt p p (k - n) n = stands-less p p (k - n) (suc n) n here (omega arith) in
-        let end : k - n + n ≡ k = omega (arith, below) in
-        let last : slice_index p n ≡ slice_index p k = sym (here n (omega arith)) ∙ ap (slice_index p) end in
+        let here : StandsAt p p (k - n) (n + 1) = stands-move p p (k + 1 - suc n) (k - n) (n + 1) (subst (StandsAt p p (k + 1 - suc n)) size stands) place in
         elim (cases_lt b n) [
-          | inl past ↦ border.longest n past below front
-          | inr upto ↦ next.longest n (omega (arith, low)) upto (stands-inner p p (k - b) b n (k - n) border.stands front upto (omega (arith, upto, shorter)), last)
+          | inl past ↦ border.longest n past below (stands-less p p (k - n) (n + 1) n here (omega arith))
+          | inr upto ↦ none-next p p k b r n (omega (arith, shorter)) border.stands next (omega (arith, low)) upto here
         ]
 
 -- of one byte, in a table of zeros
@@ -197,35 +202,17 @@ met-next x front tail i k r read next =
     let fits : r ≤ k + 1 = next.within in
     record {
       within = omega (arith, within, fits);
-      stands = by_length r fits next.ends;
+      stands = stands-next x front i k r within read.stands next;
       none = λ j low high found. elim (cases_lt j (i - k)) [
         | inl before ↦ read.none j low before found
-        | inr past ↦ none (i - j) (omega (arith, high)) (omega (arith, past, within)) (subst (IsFound x front tail) (let same : j ≡ i - (i - j) = omega (arith, high) in same) found)
+        | inr past ↦ (
+            let n = i - j in
+            let same : j ≡ i - n = omega (arith, high) in
+            let short : k < length front = read.short in
+            none-next x front i k r n within read.stands next (omega (arith, high)) (omega (arith, past, within))
+            (λ m inside. found-reads x front tail (i - n) m (subst (IsFound x front tail) same found) (omega (arith, inside, past, within, short))))
       ];
     }
-  where
-    by_length : (r : ℕ) → r ≤ k + 1 → (0 < r → GoesOn front k (slice_index x i) (r - 1)) → StandsAt x front (i + 1 - r) r
-    by_length zero fits ends = stands-none x front (i + 1 - 0)
-    by_length (suc n) fits ends =
-        let within : k ≤ i = read.within in
-        let some : 0 < suc n = omega arith in
-        let last : suc n - 1 ≡ n = omega arith in
-        let goes : GoesOn front k (slice_index x i) n = subst (GoesOn front k (slice_index x i)) last (ends some) in
-        let less : n ≤ k = omega (arith, fits) in
-        let start : StandsAt x front (i - n) n = stands-end x front (i - k) k n (i - n) read.stands goes.0 less (omega (arith, within, less)) in
-        let more : StandsAt x front (i - n) (n + 1) = stands-more x front (i - n) n i start (omega (arith, within, less)) (sym goes.1) in
-        let size : n + 1 ≡ suc n = omega arith in
-        let place : i - n ≡ i + 1 - suc n = omega (arith, within, less) in
-        stands-move x front (i - n) (i + 1 - suc n) (suc n) (subst (StandsAt x front (i - n)) size more) place
-
-    none : (n : ℕ) → r ≤ n → n ≤ k → ¬ (IsFound x front tail (i - n))
-    none n low high found =
-        let within : k ≤ i = read.within in
-        let short : k < length front = read.short in
-        let here : StandsAt x front (i - n) n = λ j inside. found-reads x front tail (i - n) j found (omega (arith, inside, high, short)) in
-        let end : i ≡ i - n + n = omega (arith, within, high) in
-        let last : slice_index front n ≡ slice_index x i = sym (found-reads x front tail (i - n) n found (omega (arith, high, short))) ∙ ap (slice_index x) (sym end) in
-        next.longest n low high (stands-inner x front (i - k) k n (i - n) read.stands here high (omega (arith, within, high)), last)
 
 pub read-short : (x front tail : List ℕ) (i k : ℕ) → IsMet x front tail i k → k < length front → IsRead x front tail i k
 read-short x front tail i k met short = record { within = met.within; short = short; stands = met.stands; none = met.none }

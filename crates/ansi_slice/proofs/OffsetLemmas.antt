@@ -7,16 +7,18 @@ use Rattle.std.proofs.lemmas.List.{take_all, take-append-le, drop-append-le, tak
 use Rattle.std.proofs.lemmas.List.Folds.{list_all-append}
 use Rattle.std.specs.List.{list_all, slice_range}
 use Rattle.std.proofs.lemmas.Str.{IsCharBoundary-from_rest}
-use Rattle.std.specs.Cmp.{both_ways}
 use Rattle.std.specs.Str.{IsCharBoundary}
 use Rattle.ansi_items.specs.declared.ansitok.Kind.{Kind}
+use Rattle.ansi_items.specs.declared.ansitok.Kind.TheVariants.{Text as TextKind}
 use Rattle.ansi_items.specs.Bytes.{escape, is_plain_byte}
 use Rattle.ansi_items.specs.Pieces.{Piece, Text, Sequence, LoneEscape, spelling, ArePieces, pieces_of}
 use Rattle.ansi_items.specs.Plain.{plain_of, plain}
 use Rattle.ansi_items.proofs.PieceLemmas.{pieces_are, pieces_of-unique}
 use Rattle.ansi_items.proofs.PlainLemmas.{length-plain}
 use Rattle.ansi_items.proofs.JoinLemmas.{spelled, spelled-pieces_of}
-use Rattle.ansi_items.proofs.StepLemmas.{is_mark, BeginsWithMark, plain_of-mark}
+use Rattle.ansi_items.specs.declared.ansitok.Item.{Item}
+use Rattle.ansi_items.specs.Scans.{Scan, Gives, pieces_left}
+use Rattle.ansi_items.proofs.StepLemmas.{is_mark, BeginsWithMark, gives_text, gives_mark, plain_of-mark}
 use Rattle.ansi_style.specs.declared.state.rendition.Rendition.{Rendition}
 use Rattle.ansi_style.specs.Rendition.{plain_style}
 use Rattle.ansi_style.specs.Sgr.{apply}
@@ -27,8 +29,8 @@ use Rattle.ansi_slice.specs.Positions.{is_good_position, is_good_range}
 use Rattle.ansi_slice.specs.Cut.{cut_up_to}
 use Rattle.ansi_slice.specs.Kept.{kept}
 use Rattle.ansi_slice.specs.Offsets.{bytes_before, sequences_up_to, offset_of, StandsIn, KeepsUpTo}
-use Rattle.ansi_slice.proofs.SliceLemmas.{take-append, drop-append, slice_range-past, slice_range-from_past}
-use Rattle.ansi_slice.proofs.PositionLemmas.{is_good_position-append, is_good_position-after, is_good_position-past, is_good_position-drop, good_is_boundary, boundary_is_good}
+use Rattle.ansi_slice.proofs.SliceLemmas.{length-slice_range, take-append, drop-append, slice_range-past, slice_range-from_past}
+use Rattle.ansi_slice.proofs.PositionLemmas.{is_good_position-append, is_good_position-after, is_good_position-past, is_good_position-drop, good_is_boundary, boundary_test}
 use Rattle.ansi_slice.proofs.CutLemmas.{shown_from, shown_from-text, cut_up_to-walk}
 use Rattle.ansi_slice.proofs.KeptWalkLemmas.{shown_from-mark, kept-walk, kept-all}
 
@@ -256,6 +258,46 @@ shown_from-none (LoneEscape ∷ ps) top past = ap (λ v. escape ∷ v) (shown_fr
 pub kept-none : (t : List ℕ) (top : ℕ) → length t ≤ top → kept t 0 0 ≡ sequences_up_to top (pieces_of t)
 kept-none t top past = kept-walk t 0 0 ∙ shown_from-none (pieces_of t) top (omega (arith, length-plain t))
 
+-- A step over the run w of t, or over a mark: the pieces before it and after it, and where it stands.
+
+pub record IsOverText (t w : List ℕ) (at next : ℕ) (old new : List Piece) : Type 0 where
+  pub first : old ≡ Text w ∷ new
+  pub there : pieces_of (drop at t) ≡ old
+  pub begins : IsCharBoundary t at
+  pub within : next ≤ length t
+  pub count : next ≡ at + length w
+  pub bytes : take next t ≡ take at t ++ w
+
+pub record IsOverMark (kind : Kind) (t w : List ℕ) (at next : ℕ) (old new : List Piece) : Type 0 where
+  pub first : BeginsWithMark kind w old new
+  pub count : next ≡ at + length w
+  pub bytes : take next t ≡ take at t ++ w
+
+item_count : {old new : Scan} {item : Item} {t w : List ℕ} → Gives old item new → old.text ≡ t → w ≡ slice_range t item.start item.end → new.offset ≡ old.offset + length w
+item_count {item = item} {t = t} gives same is =
+    omega (arith, gives.start, gives.end, gives.forward, ap length is, length-slice_range t item.start item.end (omega (arith, gives.forward)) (omega (arith, gives.end_boundary.0, ap length same)))
+
+item_bytes : {old new : Scan} {item : Item} {w : List ℕ} (t : List ℕ) → Gives old item new → w ≡ slice_range t item.start item.end → take new.offset t ≡ take old.offset t ++ w
+item_bytes {old} {item = item} t gives is =
+    let n = item.end - old.offset in
+    let all : item.end ≡ old.offset + n = omega (arith, gives.start, gives.forward) in
+    ap (λ k. take k t) (sym gives.end ∙ all) ∙ take-add old.offset n t ∙ ap (λ v. take old.offset t ++ v) (sym (is ∙ ap (λ k. slice_range t k item.end) gives.start))
+
+pub over_text : {old new : Scan} {item : Item} {t w : List ℕ} → Gives old item new → old.text ≡ t → w ≡ slice_range t item.start item.end → item.kind ≡ TextKind
+    → IsOverText t w old.offset new.offset (pieces_left old) (pieces_left new)
+over_text {old} {item = item} {t = t} gives same is kind = record {
+  first = gives_text gives same is kind;
+  there = ap (λ u. pieces_of (drop old.offset u)) (sym same);
+  begins = subst (IsCharBoundary t) gives.start (subst (λ u. IsCharBoundary u item.start) same gives.start_boundary);
+  within = omega (arith, gives.end, gives.end_boundary.0, ap length same);
+  count = item_count gives same is;
+  bytes = item_bytes t gives is;
+}
+
+pub over_mark : {old new : Scan} {item : Item} {t w : List ℕ} → Gives old item new → old.text ≡ t → w ≡ slice_range t item.start item.end → item.kind ≢ TextKind
+    → IsOverMark item.kind t w old.offset new.offset (pieces_left old) (pieces_left new)
+over_mark gives same is other = record { first = gives_mark gives same is other; count = item_count gives same is; bytes = item_bytes _ gives is }
+
 -- How far a walk to the plain byte n has come: what has been passed, and what stands before the byte in what is left, stand before it in all; and so the style there.
 pub record IsOnTheWay (t : List ℕ) (n : ℕ) (start : Rendition) (passed left : ℕ) (style : Rendition) (ps : List Piece) : Type 0 where
   pub offset : passed + bytes_before left ps ≡ offset_of t n
@@ -265,27 +307,27 @@ pub record IsOnTheWay (t : List ℕ) (n : ℕ) (start : Rendition) (passed left 
 pub way-begin : (t : List ℕ) (n : ℕ) (start : Rendition) → IsOnTheWay t n start 0 n start (pieces_of t)
 way-begin t n start = record { offset = omega arith; good = refl; styled = refl }
 
-pub way-text : {t : List ℕ} {n passed left next : ℕ} {start style : Rendition} {w : List ℕ} {old ps : List Piece} (at : ℕ) → IsOnTheWay t n start passed left style old → old ≡ Text w ∷ ps
-    → length w ≤ left → at ≡ passed + length w → next ≡ left - length w → IsOnTheWay t n start at next style ps
-way-text {t} {n} {passed} {left} {next} {start} {style} {w} {old} {ps} at way first within at_is next_is =
-    let here = subst (IsOnTheWay t n start passed left style) first way in
-    let step : IsOnTheWay t n start (passed + length w) (left - length w) style ps = record {
-      offset = omega (arith, here.offset, bytes_before-text left w ps within);
+pub way-text : {t : List ℕ} {n passed at left next : ℕ} {start style : Rendition} {w : List ℕ} {old ps : List Piece} → IsOnTheWay t n start passed left style old → IsOverText t w passed at old ps
+    → length w ≤ left → next ≡ left - length w → IsOnTheWay t n start at next style ps
+way-text {t} {n} {passed} {at} {left} {next} {start} {style} {w} {old} {ps} way over within next_is =
+    let here = subst (IsOnTheWay t n start passed left style) over.first way in
+    rw next_is (record {
+      offset = omega (arith, over.count, here.offset, bytes_before-text left w ps within);
       good = sym (is_good_position-after w (plain_of ps) left within) ∙ here.good;
       styled = sym (style-text style left w ps within) ∙ here.styled;
-    } in
-    rw (at_is, next_is) step
+    })
 
-pub way-mark : {t : List ℕ} {n passed left : ℕ} {start style next : Rendition} {kind : Kind} {w : List ℕ} {old ps : List Piece} (at : ℕ) → IsOnTheWay t n start passed left style old → BeginsWithMark kind w old ps
-    → at ≡ passed + length w → next ≡ apply style w → IsOnTheWay t n start at left next ps
-way-mark {t} {n} {passed} {left} {start} {style} {next} {w = w} {ps = ps} at way begins at_is next_is =
+pub way-mark : {t : List ℕ} {n passed at left : ℕ} {start style next : Rendition} {kind : Kind} {w : List ℕ} {old ps : List Piece} → IsOnTheWay t n start passed left style old → IsOverMark kind t w passed at old ps
+    → next ≡ apply style w → IsOnTheWay t n start at left next ps
+way-mark {t} {n} {passed} {at} {left} {start} {style} {next} {w = w} {ps = ps} way over next_is =
+    let begins = over.first in
     let here = subst (IsOnTheWay t n start passed left style) begins.pieces way in
-    let step : IsOnTheWay t n start (passed + length (spelling begins.mark)) left (apply style (spelling begins.mark)) ps = record {
-      offset = omega (arith, here.offset, bytes begins.mark begins.is_mark);
+    let step : IsOnTheWay t n start at left (apply style (spelling begins.mark)) ps = record {
+      offset = omega (arith, over.count, ap length begins.bytes, here.offset, bytes begins.mark begins.is_mark);
       good = ap (λ x. is_good_position x left) (sym (plain_of-mark begins.mark ps begins.is_mark)) ∙ here.good;
       styled = sym (styles begins.mark begins.is_mark) ∙ here.styled;
     } in
-    rw (at_is, next_is, ← begins.bytes) step
+    rw (next_is, ← begins.bytes) step
   where
     bytes : (p : Piece) → is_mark p ≡ true → bytes_before left (p ∷ ps) ≡ length (spelling p) + bytes_before left ps
     bytes (Text v) is = absurd (cc is)
@@ -298,10 +340,10 @@ way-mark {t} {n} {passed} {left} {start} {style} {next} {w = w} {ps = ps} at way
     styles LoneEscape is = style_by_marks-lone style ps left
 
 -- the byte stands in the text that comes next, or there is none
-pub way-last : {t : List ℕ} {n passed left : ℕ} {start style : Rendition} {w : List ℕ} {old ps : List Piece} → IsOnTheWay t n start passed left style old → old ≡ Text w ∷ ps → left < length w
+pub way-last : {t : List ℕ} {n passed at left : ℕ} {start style : Rendition} {w : List ℕ} {old ps : List Piece} → IsOnTheWay t n start passed left style old → IsOverText t w passed at old ps → left < length w
     → (passed + left ≡ offset_of t n) × (style ≡ style_within start t n)
-way-last {t} {n} {passed} {left} {start} {style} {w} {old} {ps} way first last =
-    let here = subst (IsOnTheWay t n start passed left style) first way in
+way-last {t} {n} {passed} {left = left} {start = start} {style = style} {w = w} {ps = ps} way over last =
+    let here = subst (IsOnTheWay t n start passed left style) over.first way in
     (omega (arith, here.offset, bytes_before-last left w ps last), sym (style_by_marks-before style w ps left last) ∙ here.styled)
 
 pub way-end : {t : List ℕ} {n passed left : ℕ} {start style : Rendition} {old : List Piece} → IsOnTheWay t n start passed left style old → old ≡ []
@@ -318,20 +360,20 @@ good_in_next t at left w ps first last =
     sym (is_good_position-drop t at left)
     ∙ ap (λ u. is_good_position u left) are.1 ∙ is_good_position-append w are.0 left last ∙ sym (is_good_position-append w (plain_of ps) left last)
 
-boundary_test : (t : List ℕ) (i : ℕ) (b : Bool) → i ≤ length t → IsTrue b ↔ IsCharBoundary t i → b ≡ is_good_position t i
-boundary_test t i b within test = both_ways _ _ (λ yes. boundary_is_good t i (test.0 yes)) (λ good. test.1 (good_is_boundary t i within good))
+way-good : {t : List ℕ} {n passed at left i : ℕ} {start style : Rendition} {w : List ℕ} {old ps : List Piece} → IsOnTheWay t n start passed left style old → IsOverText t w passed at old ps → left < length w → i ≡ passed + left
+    → (i ≤ length t) × (is_good_position t i ≡ is_good_position (plain t) n)
+way-good {t} {n} {passed} {left = left} {w = w} {ps = ps} way over last is = (
+  omega (arith, is, last, over.count, over.within),
+  ap (is_good_position t) is ∙ good_in_next t passed left w ps (over.there ∙ over.first) last ∙ ap (λ qs. is_good_position (plain_of qs) left) (sym over.first) ∙ way.good,
+)
 
-pub way-test : {t : List ℕ} {n passed left i : ℕ} {start style : Rendition} {w : List ℕ} {old ps : List Piece} {b : Bool} → IsOnTheWay t n start passed left style old → old ≡ Text w ∷ ps
-    → pieces_of (drop passed t) ≡ old → left < length w → i ≡ passed + left → i ≤ length t → IsTrue b ↔ IsCharBoundary t i → b ≡ is_good_position (plain t) n
-way-test {t} {n} {passed} {left} {i} {w = w} {ps = ps} {b = b} way first there last is within test =
-    boundary_test t i b within test ∙ ap (is_good_position t) is ∙ good_in_next t passed left w ps (there ∙ first) last
-    ∙ ap (λ qs. is_good_position (plain_of qs) left) (sym first) ∙ way.good
+pub way-test : {t : List ℕ} {n passed at left i : ℕ} {start style : Rendition} {w : List ℕ} {old ps : List Piece} {b : Bool} → IsOnTheWay t n start passed left style old → IsOverText t w passed at old ps → left < length w → i ≡ passed + left
+    → IsTrue b ↔ IsCharBoundary t i → b ≡ is_good_position (plain t) n
+way-test {t} {i = i} {b = b} way over last is test = (let here = way-good way over last is in boundary_test t i b here.0 test ∙ here.1)
 
-pub way-boundary : {t : List ℕ} {n passed left i : ℕ} {start style : Rendition} {w : List ℕ} {old ps : List Piece} → IsOnTheWay t n start passed left style old → old ≡ Text w ∷ ps
-    → pieces_of (drop passed t) ≡ old → left < length w → i ≡ passed + left → i ≤ length t → IsTrue (is_good_position (plain t) n) → IsCharBoundary t i
-way-boundary {t} {n} {passed} {left} {i} {w = w} {ps = ps} way first there last is within good =
-    good_is_boundary t i within
-    (ap (is_good_position t) is ∙ good_in_next t passed left w ps (there ∙ first) last ∙ ap (λ qs. is_good_position (plain_of qs) left) (sym first) ∙ way.good ∙ good)
+pub way-boundary : {t : List ℕ} {n passed at left i : ℕ} {start style : Rendition} {w : List ℕ} {old ps : List Piece} → IsOnTheWay t n start passed left style old → IsOverText t w passed at old ps → left < length w → i ≡ passed + left
+    → IsTrue (is_good_position (plain t) n) → IsCharBoundary t i
+way-boundary {t} {i = i} way over last is good = (let here = way-good way over last is in good_is_boundary t i here.0 (here.1 ∙ good))
 
 -- What has been appended, and the sequences up to a place in what is left, are all.
 pub record IsPushedSoFar (whole written : List ℕ) (n : ℕ) (left : List Piece) : Type 0 where
@@ -369,16 +411,9 @@ passed-begin t = record {
   bytes = λ e past. (let all : e ≡ e - 0 = omega arith in kept-walk t 0 e ∙ ap (λ n. shown_from true 0 n (pieces_of t)) all);
 }
 
--- the bytes of an item stand after those that were passed
-pub take-item : (t : List ℕ) {w : List ℕ} {i start end : ℕ} → start ≡ i → i ≤ end → w ≡ slice_range t start end → take end t ≡ take i t ++ w
-take-item t {w} {i} {start} {end} begins forward is =
-    let all : end ≡ i + (end - i) = omega arith in
-    ap (λ n. take n t) all ∙ take-add i (end - i) t ∙ ap (λ v. take i t ++ v) (sym (is ∙ ap (λ n. slice_range t n end) begins))
-
-pub passed-text : {t : List ℕ} {place passed : ℕ} {w : List ℕ} {left ps : List Piece} (at : ℕ) → IsPassed t place passed left → left ≡ Text w ∷ ps → take at t ≡ take passed t ++ w
-    → IsPassed t (place + length w) at ps
-passed-text {t} {place} {passed} {w} {left} {ps} at way first more =
-    let here = subst (IsPassed t place passed) first way in
+pub passed-text : {t : List ℕ} {place passed at : ℕ} {w : List ℕ} {left ps : List Piece} → IsPassed t place passed left → IsOverText t w passed at left ps → IsPassed t (place + length w) at ps
+passed-text {t} {place} {passed} {w = w} {ps = ps} way over =
+    let here = subst (IsPassed t place passed) over.first way in
     let n = length w in
     let far : drop n (drop place (plain t)) ≡ drop (place + n) (plain t) = drop-drop n place (plain t) in
     record {
@@ -391,12 +426,12 @@ passed-text {t} {place} {passed} {w} {left} {ps} at way first more =
           ∙ ap (λ v. take passed t ++ v)
           (ap (λ u. u ++ shown_from true (0 - n) (e - place - n) ps) (slice_range-past w 0 (e - place) (omega (arith, past)))
           ∙ ap₂ (λ i j. w ++ shown_from true i j ps) none left_over)
-          ∙ sym (append_assoc (take passed t) w (shown_from true 0 (e - (place + n)) ps)) ∙ ap (λ v. v ++ shown_from true 0 (e - (place + n)) ps) (sym more));
+          ∙ sym (append_assoc (take passed t) w (shown_from true 0 (e - (place + n)) ps)) ∙ ap (λ v. v ++ shown_from true 0 (e - (place + n)) ps) (sym over.bytes));
     }
 
-pub passed-mark : {t : List ℕ} {place passed : ℕ} {kind : Kind} {w : List ℕ} {left ps : List Piece} (at : ℕ) → IsPassed t place passed left → BeginsWithMark kind w left ps → take at t ≡ take passed t ++ w
-    → IsPassed t place at ps
-passed-mark {t} {place} {passed} {w = w} {ps = ps} at way begins more =
+pub passed-mark : {t : List ℕ} {place passed at : ℕ} {kind : Kind} {w : List ℕ} {left ps : List Piece} → IsPassed t place passed left → IsOverMark kind t w passed at left ps → IsPassed t place at ps
+passed-mark {t} {place} {passed} {w = w} {ps = ps} way over =
+    let begins = over.first in
     let here = subst (IsPassed t place passed) begins.pieces way in
     let same = plain_of-mark begins.mark ps begins.is_mark in
     record {
@@ -405,7 +440,7 @@ passed-mark {t} {place} {passed} {w = w} {ps = ps} at way begins more =
       bytes = λ e past.
           here.bytes e past
           ∙ ap (λ v. take passed t ++ v) (shown_from-mark begins.mark 0 (e - place) ps begins.is_mark ∙ ap (λ v. v ++ shown_from true 0 (e - place) ps) begins.bytes)
-          ∙ sym (append_assoc (take passed t) w (shown_from true 0 (e - place) ps)) ∙ ap (λ v. v ++ shown_from true 0 (e - place) ps) (sym more);
+          ∙ sym (append_assoc (take passed t) w (shown_from true 0 (e - place) ps)) ∙ ap (λ v. v ++ shown_from true 0 (e - place) ps) (sym over.bytes);
     }
 
 -- what is kept from a place inside a text on, or from its end, where no plain byte is
@@ -421,11 +456,11 @@ none_kept-inside k t w ps are within = kept-walk (drop k t) 0 0 ∙ elim (cases_
 ]
 
 -- a place inside a text that comes next, or its end
-pub keeps-inside : {t : List ℕ} {place passed k : ℕ} {w : List ℕ} {left ps : List Piece} → IsPassed t place passed left → left ≡ Text w ∷ ps → pieces_of (drop passed t) ≡ left → k ≤ length w
-    → IsCharBoundary t (passed + k) → KeepsUpTo t (place + k) (passed + k)
-keeps-inside {t} {place} {passed} {k} {w} {left} {ps} way first there within boundary =
-    let here = subst (IsPassed t place passed) first way in
-    let are = subst (ArePieces (drop passed t)) (there ∙ first) (pieces_are (drop passed t)) in
+pub keeps-inside : {t : List ℕ} {place passed at k : ℕ} {w : List ℕ} {left ps : List Piece} → IsPassed t place passed left → IsOverText t w passed at left ps → k ≤ length w → IsCharBoundary t (passed + k)
+    → KeepsUpTo t (place + k) (passed + k)
+keeps-inside {t} {place} {passed} {k = k} {w = w} {ps = ps} way over within boundary =
+    let here = subst (IsPassed t place passed) over.first way in
+    let are = subst (ArePieces (drop passed t)) (over.there ∙ over.first) (pieces_are (drop passed t)) in
     let count : place + k - place ≡ k = omega arith in
     let all : k - 0 ≡ k = omega arith in
     let from : 0 - length w ≡ 0 = omega arith in
