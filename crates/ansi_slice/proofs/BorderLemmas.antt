@@ -255,70 +255,11 @@ met-apart x front tail i b met inside other border =
         let here : StandsAt x front (i - n) n = λ j before. found-reads x front tail (i - n) j found (omega (arith, before, high)) in
         border.longest n low high (stands-inner x front (i - length front) (length front) n (i - n) met.stands here (omega (arith, high)) (omega (arith, within, high)))
 
--- A run is read on from an offset, in a text z from which the text x goes on: one whose bytes are those of a text t up
--- to the end of the run.
+-- A run, which ends at the offset `end` of a text t and is followed by y, is read on from the offset `from`.
 
 -- what stands in the run
 in_run : (t y : List ℕ) (end n : ℕ) → n < end → end ≤ length t → slice_index (take end t ++ y) n ≡ slice_index t n
 in_run t y end n inside fits = get_or_append_left (take end t) y 0 n (omega (arith, inside, length-take-le end t fits)) ∙ get_or-take end t n 0 inside
-
--- whatever was read before, up to `at` all is read
-abbrev pub ReadsTo : List ℕ → List ℕ → List ℕ → ℕ → ℕ → ℕ → ℕ → Type 0
-ReadsTo front tail z from met at k = (x : List ℕ) (i : ℕ) → IsRead x front tail i met → (from < at → drop i x ≡ drop from z) → IsRead x front tail (i + (at - from)) k
-
--- the same where k bytes of the front are met, which may be all
-abbrev pub MeetsAt : List ℕ → List ℕ → List ℕ → ℕ → ℕ → ℕ → ℕ → Type 0
-MeetsAt front tail z from met at k = (x : List ℕ) (i : ℕ) → IsRead x front tail i met → (from < at → drop i x ≡ drop from z) → IsMet x front tail (i + (at - from)) k
-
-goes-on : (x z : List ℕ) (i from at : ℕ) → from ≤ at → drop i x ≡ drop from z → drop (i + (at - from)) x ≡ drop at z
-goes-on x z i from at forward is =
-    let sum : from + (at - from) ≡ at = omega (arith, forward) in
-    sym (drop-drop (at - from) i x) ∙ ap (drop (at - from)) is ∙ drop-drop (at - from) from z ∙ ap (λ n. drop n z) sum
-
-pub reads-start : (front tail z : List ℕ) (from met : ℕ) → ReadsTo front tail z from met from met
-reads-start front tail z from met x i read is = (let sum : i ≡ i + (from - from) = omega arith in subst (λ (n : ℕ). IsRead x front tail n met) sum read)
-
--- over bytes with which no match begins, where none is begun
-pub reads-over : (front tail t y : List ℕ) (from met at k n end : ℕ) → from ≤ at → at ≤ n → n ≤ end → end ≤ length t → (0 < k → n ≡ at) → BeginsNowhere front t at n
-    → ReadsTo front tail (take end t ++ y) from met at k → ReadsTo front tail (take end t ++ y) from met n k
-reads-over front tail t y from met at (suc k) n end forward past inside fits here others so_far x i read is =
-    let same : at ≡ n = sym (here (omega arith)) in
-    subst (λ (m : ℕ). IsRead x front tail (i + (m - from)) (suc k)) same (so_far x i read (λ some. is (omega (arith, some, past))))
-reads-over front tail t y from met at zero n end forward past inside fits here others so_far x i read is =
-    let sum : i + (at - from) + (n - at) ≡ i + (n - from) = omega (arith, forward, past) in
-    subst (λ (m : ℕ). IsRead x front tail m 0) sum (read-over x front tail (i + (at - from)) (n - at) (so_far x i read (λ some. is (omega (arith, some, past)))) other)
-  where
-    other : (m : ℕ) → m < n - at → slice_index x (i + (at - from) + m) ≢ slice_index front 0
-    other m low same =
-        let below : at + m < n = omega (arith, low) in
-        let z = take end t ++ y in
-        let reads : slice_index x (i + (at - from) + m) ≡ slice_index t (at + m)
-        = sym (get_or-drop (i + (at - from)) x m 0) ∙ ap (λ v. slice_index v m) (goes-on x z i from at forward (is (omega (arith, below, forward)))) ∙ get_or-drop at z m 0 ∙ in_run t y end (at + m) (omega (arith, below, inside)) fits in
-        others (at + m) (omega arith) below (sym reads ∙ same)
-
--- one byte more
-reads-next : (front tail t y : List ℕ) (from met at k r end : ℕ) → from ≤ at → at < end → end ≤ length t → ReadsTo front tail (take end t ++ y) from met at k → IsNext front k (slice_index t at) r
-    → MeetsAt front tail (take end t ++ y) from met (at + 1) r
-reads-next front tail t y from met at k r end forward inside fits so_far next x i read is =
-    let z = take end t ++ y in
-    let e = i + (at - from) in
-    let same : drop i x ≡ drop from z = is (omega (arith, forward)) in
-    let sum : e + 1 ≡ i + (at + 1 - from) = omega (arith, forward) in
-    let start : at + 0 ≡ at = omega arith in
-    let place : e + 0 ≡ e = omega arith in
-    let here : slice_index x e ≡ slice_index t at = sym (ap (slice_index x) place) ∙ sym (get_or-drop e x 0 0) ∙ ap (λ v. slice_index v 0) (goes-on x z i from at forward same) ∙ get_or-drop at z 0 0 ∙ ap (slice_index z) start ∙ in_run t y end at inside fits in
-    subst (λ (n : ℕ). IsMet x front tail n r) sum (met-next x front tail e k r (so_far x i read (λ _. same)) (subst (λ (b : ℕ). IsNext front k b r) (sym here) next))
-
--- both
-pub reads-on : (front tail t y : List ℕ) (from met at k n r end : ℕ) → from ≤ at → at ≤ n → n < end → end ≤ length t → (0 < k → n ≡ at) → BeginsNowhere front t at n
-    → ReadsTo front tail (take end t ++ y) from met at k → IsNext front k (slice_index t n) r → MeetsAt front tail (take end t ++ y) from met (n + 1) r
-reads-on front tail t y from met at k n r end forward past inside fits here others so_far next =
-    reads-next front tail t y from met n k r end (omega (arith, forward, past)) inside fits (reads-over front tail t y from met at k n end forward past (omega (arith, inside)) fits here others so_far) next
-
-pub meets-short : (front tail z : List ℕ) (from met at k : ℕ) → MeetsAt front tail z from met at k → k < length front → ReadsTo front tail z from met at k
-meets-short front tail z from met at k meets short x i read is = read-short x front tail (i + (at - from)) k (meets x i read is) short
-
--- all of the front is met, and the tail follows or doesn't
 
 pub follows : (t y : List ℕ) (at end : ℕ) → at ≤ end → end ≤ length t → drop at (take end t ++ y) ≡ slice_range t at end ++ y
 follows t y at end inside fits =
@@ -326,32 +267,110 @@ follows t y at end inside fits =
     drop-append-le at (take end t) y (omega (arith, inside, length-take-le end t fits))
     ∙ ap (λ v. v ++ y) (ap (λ n. drop at (take n t)) (sym sum) ∙ drop-take at (end - at) t)
 
-within : (x z : List ℕ) (i from at : ℕ) → from < at → at ≤ length z → drop i x ≡ drop from z → i + (at - from) ≤ length x
-within x z i from at forward inside is =
-    let left : length (drop i x) ≡ length x - i = length-drop i x in
-    let rest : length (drop from z) ≡ length z - from = length-drop from z in
-    omega (arith, ap length is, left, rest, forward, inside)
+-- what stands there in a text x that goes on so after i bytes
+goes-on : (x z : List ℕ) (i from at : ℕ) → from ≤ at → drop i x ≡ drop from z → drop (i + (at - from)) x ≡ drop at z
+goes-on x z i from at forward is =
+    let sum : from + (at - from) ≡ at = omega (arith, forward) in
+    sym (drop-drop (at - from) i x) ∙ ap (drop (at - from)) is ∙ drop-drop (at - from) from z ∙ ap (λ n. drop n z) sum
 
-pub meets-all : (front tail t y : List ℕ) (from met at k end : ℕ) → from < at → at ≤ end → end ≤ length t → MeetsAt front tail (take end t ++ y) from met at k → k ≡ length front
-    → IsTrue (starts_with nat_eq (slice_range t at end ++ y) tail)
-    → (x : List ℕ) (i : ℕ) → IsRead x front tail i met → (from < at → drop i x ≡ drop from (take end t ++ y)) → IsMatched x front tail (i + (at - from))
-meets-all front tail t y from met at k end forward inside fits meets all tail_follows x i read is =
+stands-on : (x t y : List ℕ) (i from at m end : ℕ) → from ≤ at → at + m < end → end ≤ length t → drop i x ≡ drop from (take end t ++ y) → slice_index x (i + (at - from) + m) ≡ slice_index t (at + m)
+stands-on x t y i from at m end forward inside fits is =
     let z = take end t ++ y in
-    let e = i + (at - from) in
-    let less : from ≤ at = omega (arith, forward) in
-    let here : drop e x ≡ slice_range t at end ++ y = goes-on x z i from at less (is forward) ∙ follows t y at end inside fits in
-    met-matched x front tail e (subst (IsMet x front tail e) all (meets x i read is)) (within x z i from at forward (omega (arith, inside, length-append (take end t) y, length-take-le end t fits)) (is forward))
-    (ap (λ v. starts_with nat_eq v tail) here ∙ tail_follows)
+    sym (get_or-drop (i + (at - from)) x m 0) ∙ ap (λ v. slice_index v m) (goes-on x z i from at forward is) ∙ get_or-drop at z m 0 ∙ in_run t y end (at + m) inside fits
 
-pub meets-apart : (front tail t y : List ℕ) (from met at k b end : ℕ) → from < at → at ≤ end → end ≤ length t → MeetsAt front tail (take end t ++ y) from met at k → k ≡ length front
-    → starts_with nat_eq (slice_range t at end ++ y) tail ≡ false → IsBorder front (length front) b → ReadsTo front tail (take end t ++ y) from met at b
-meets-apart front tail t y from met at k b end forward inside fits meets all other border x i read is =
-    let z = take end t ++ y in
-    let e = i + (at - from) in
-    let less : from ≤ at = omega (arith, forward) in
-    let here : drop e x ≡ slice_range t at end ++ y = goes-on x z i from at less (is forward) ∙ follows t y at end inside fits in
-    met-apart x front tail e b (subst (IsMet x front tail e) all (meets x i read is)) (within x z i from at forward (omega (arith, inside, length-append (take end t) y, length-take-le end t fits)) (is forward))
-    (λ found. true≢false (sym found ∙ ap (λ v. starts_with nat_eq v tail) here ∙ other)) border
+-- whatever was read before, up to `at` all is read
+pub record ReadsTo (front tail t y : List ℕ) (from met end at k : ℕ) : Type 0 where
+  pub forward : from ≤ at
+  pub within : at ≤ end
+  pub fits : end ≤ length t
+  pub reads : (x : List ℕ) (i : ℕ) → IsRead x front tail i met → (from < at → drop i x ≡ drop from (take end t ++ y)) → IsRead x front tail (i + (at - from)) k
+
+-- the same where k bytes of the front are met, which may be all
+pub record MeetsAt (front tail t y : List ℕ) (from met end at k : ℕ) : Type 0 where
+  pub forward : from < at
+  pub within : at ≤ end
+  pub fits : end ≤ length t
+  pub meets : (x : List ℕ) (i : ℕ) → IsRead x front tail i met → drop i x ≡ drop from (take end t ++ y) → IsMet x front tail (i + (at - from)) k
+
+pub reads-start : {front tail t y : List ℕ} {from met end : ℕ} → from ≤ end → end ≤ length t → ReadsTo front tail t y from met end from met
+reads-start {front} {tail} {from = from} {met = met} ordered fits = record {
+  forward = omega arith;
+  within = ordered;
+  fits = fits;
+  reads = λ x i read is. (let sum : i ≡ i + (from - from) = omega arith in subst (λ (n : ℕ). IsRead x front tail n met) sum read);
+}
+
+-- over bytes with which no match begins, where none is begun
+pub reads-over : {front tail t y : List ℕ} {from met end at : ℕ} (k n : ℕ) → ReadsTo front tail t y from met end at k → at ≤ n → n ≤ end → (0 < k → n ≡ at) → BeginsNowhere front t at n
+    → ReadsTo front tail t y from met end n k
+reads-over {front} {tail} {t} {y} {from} {met} {end} {at} (suc k) n so_far past inside here others =
+    let same : at ≡ n = sym (here (omega arith)) in
+    subst (λ (m : ℕ). ReadsTo front tail t y from met end m (suc k)) same so_far
+reads-over {front} {tail} {t} {y} {from} {met} {end} {at} zero n so_far past inside here others = record {
+  forward = omega (arith, so_far.forward, past);
+  within = inside;
+  fits = so_far.fits;
+  reads = λ x i read is.
+      let sum : i + (at - from) + (n - at) ≡ i + (n - from) = omega (arith, so_far.forward, past) in
+      subst (λ (m : ℕ). IsRead x front tail m 0) sum
+      (read-over x front tail (i + (at - from)) (n - at) (so_far.reads x i read (λ some. is (omega (arith, some, past)))) (λ m low same.
+      let below : at + m < n = omega (arith, low) in
+      others (at + m) (omega arith) below (sym (stands-on x t y i from at m end so_far.forward (omega (arith, below, inside)) so_far.fits (is (omega (arith, below, so_far.forward)))) ∙ same)));
+}
+
+-- over those, and one byte more
+pub reads-on : {front tail t y : List ℕ} {from met end at k r : ℕ} (n : ℕ) → ReadsTo front tail t y from met end at k → at ≤ n → n < end → (0 < k → n ≡ at) → BeginsNowhere front t at n → IsNext front k (slice_index t n) r
+    → MeetsAt front tail t y from met end (n + 1) r
+reads-on {front} {tail} {t} {y} {from} {met} {end} {at} {k} {r} n so_far past inside here others next =
+    let over = reads-over k n so_far past (omega (arith, inside)) here others in
+    let forward : from ≤ n = over.forward in
+    record {
+      forward = omega (arith, forward);
+      within = omega (arith, inside);
+      fits = so_far.fits;
+      meets = λ x i read is.
+          let e = i + (n - from) in
+          let sum : e + 1 ≡ i + (n + 1 - from) = omega (arith, forward) in
+          let place : e ≡ e + 0 = omega arith in
+          let start : n + 0 ≡ n = omega arith in
+          let same : slice_index x e ≡ slice_index t n = ap (slice_index x) place ∙ stands-on x t y i from n 0 end forward (omega (arith, inside)) so_far.fits is ∙ ap (slice_index t) start in
+          subst (λ (m : ℕ). IsMet x front tail m r) sum (met-next x front tail e k r (over.reads x i read (λ _. is)) (subst (λ (b : ℕ). IsNext front k b r) (sym same) next));
+    }
+
+pub meets-short : {front tail t y : List ℕ} {from met end at k : ℕ} → MeetsAt front tail t y from met end at k → k < length front → ReadsTo front tail t y from met end at k
+meets-short {front} {tail} {from = from} {at = at} {k = k} met short = record {
+  forward = omega (arith, met.forward);
+  within = met.within;
+  fits = met.fits;
+  reads = λ x i read is. read-short x front tail (i + (at - from)) k (met.meets x i read (is met.forward)) short;
+}
+
+-- all of the front is met, and the tail follows or doesn't
+
+meets-rest : {front tail t y : List ℕ} {from met end at k : ℕ} → MeetsAt front tail t y from met end at k → (x : List ℕ) (i : ℕ) → drop i x ≡ drop from (take end t ++ y)
+    → (drop (i + (at - from)) x ≡ slice_range t at end ++ y) × (i + (at - from) ≤ length x)
+meets-rest {t = t} {y = y} {from = from} {end = end} {at = at} met x i is =
+    let z = take end t ++ y in (
+      goes-on x z i from at (omega (arith, met.forward)) is ∙ follows t y at end met.within met.fits,
+      omega (arith, ap length is, length-drop i x, length-drop from z, met.forward, met.within, length-append (take end t) y, length-take-le end t met.fits),
+    )
+
+pub meets-all : {front tail t y : List ℕ} {from met end at k : ℕ} → MeetsAt front tail t y from met end at k → k ≡ length front → IsTrue (starts_with nat_eq (slice_range t at end ++ y) tail)
+    → (x : List ℕ) (i : ℕ) → IsRead x front tail i met → drop i x ≡ drop from (take end t ++ y) → IsMatched x front tail (i + (at - from))
+meets-all {front} {tail} {from = from} {at = at} met all goes x i read is =
+    let rest = meets-rest met x i is in
+    met-matched x front tail (i + (at - from)) (subst (IsMet x front tail (i + (at - from))) all (met.meets x i read is)) rest.1 (ap (λ v. starts_with nat_eq v tail) rest.0 ∙ goes)
+
+pub meets-apart : {front tail t y : List ℕ} {from met end at k b : ℕ} → MeetsAt front tail t y from met end at k → k ≡ length front → starts_with nat_eq (slice_range t at end ++ y) tail ≡ false → IsBorder front (length front) b
+    → ReadsTo front tail t y from met end at b
+meets-apart {front} {tail} {from = from} {at = at} {b = b} met all other border = record {
+  forward = omega (arith, met.forward);
+  within = met.within;
+  fits = met.fits;
+  reads = λ x i read is.
+      let rest = meets-rest met x i (is met.forward) in
+      met-apart x front tail (i + (at - from)) b (subst (IsMet x front tail (i + (at - from))) all (met.meets x i read (is met.forward))) rest.1 (λ found. true≢false (sym found ∙ ap (λ v. starts_with nat_eq v tail) rest.0 ∙ other)) border;
+}
 
 -- A text x, read from the position `from` on, for a pattern p that is the front and the tail.
 
