@@ -1,11 +1,10 @@
 -- Where the plain bytes of a text stand in it: what stands before them and after them, and how far a walk there has come.
 use Rattle.std.proofs.Common.{◌≡◌, ◌≢◌, ℕ, zero, suc, ◌+◌, ◌-◌, ◌<◌, ◌≤◌, inl, inr, Bool, true, ◌↔◌, List, [], ◌∷◌, ◌++◌, length, take, drop, take-add, refl, sym, ◌∙◌, ap, ap₂, subst, arith, IsTrue, if◌then◌else◌, nat_lt, length-append, append_assoc, append-nil, not, false, ◌&&◌, Some}
 use Rattle.std.proofs.Math.Seq.{drop-nil, drop-append_seam}
-use Rattle.std.proofs.lemmas.Bool.{cases_lt, le-leb, lt-ltb, le-ltb, and_parts}
+use Rattle.std.proofs.lemmas.Bool.{cases_lt, le-leb, lt-ltb, le-ltb}
 use Rattle.std.proofs.lemmas.Bool.Decides.{nat_tests}
-use Rattle.std.proofs.lemmas.List.{take_all, take-append-le, drop-append-le, take-append-drop, length-drop, drop-drop, drop_all}
-use Rattle.std.proofs.lemmas.List.Folds.{list_all-append}
-use Rattle.std.specs.List.{list_all, slice_range}
+use Rattle.std.proofs.lemmas.List.{take_all, take-append-le, drop-append-le, length-drop, drop-drop, drop_all}
+use Rattle.std.specs.List.{slice_range}
 use Rattle.std.proofs.lemmas.Str.{IsCharBoundary-from_rest}
 use Rattle.std.specs.Str.{IsCharBoundary}
 use Rattle.ansi_items.specs.declared.ansitok.Kind.{Kind}
@@ -29,7 +28,7 @@ use Rattle.ansi_slice.specs.Positions.{is_good_position, is_good_range}
 use Rattle.ansi_slice.specs.Cut.{cut_up_to}
 use Rattle.ansi_slice.specs.Kept.{kept}
 use Rattle.ansi_slice.specs.Offsets.{bytes_before, sequences_up_to, offset_of, StandsIn, KeepsUpTo}
-use Rattle.ansi_slice.proofs.SliceLemmas.{length-slice_range, take-append, drop-append, slice_range-past, slice_range-from_past}
+use Rattle.ansi_slice.proofs.SliceLemmas.{length-slice_range, take-append, drop-append, list_all-parts, slice_range-past, slice_range-from_past}
 use Rattle.ansi_slice.proofs.PositionLemmas.{is_good_position-append, is_good_position-after, is_good_position-past, is_good_position-drop, good_is_boundary, boundary_test}
 use Rattle.ansi_slice.proofs.CutLemmas.{shown_from, shown_from-text, cut_up_to-walk}
 use Rattle.ansi_slice.proofs.KeptWalkLemmas.{shown_from-mark, kept-walk, kept-all}
@@ -84,8 +83,7 @@ drop_filled (suc n) (b ∷ w) last = drop_filled n w (omega arith)
 -- from a place inside a text on
 pub inside_are : (n : ℕ) (t w : List ℕ) (ps : List Piece) → ArePieces t (Text w ∷ ps) → n < length w → ArePieces (drop n t) (Text (drop n w) ∷ ps)
 inside_are n t w ps are last =
-    let parts : (list_all is_plain_byte (take n w) ≡ true) × (list_all is_plain_byte (drop n w) ≡ true) = and_parts _ _ (sym (list_all-append is_plain_byte (take n w) (drop n w)) ∙ ap (list_all is_plain_byte) (take-append-drop n w) ∙ are.2.1) in
-    (are.0, ap (drop n) are.1 ∙ drop-append-le n w are.0 (omega arith), (drop_filled n w last, parts.1, are.2.2), are.3)
+    (are.0, ap (drop n) are.1 ∙ drop-append-le n w are.0 (omega arith), (drop_filled n w last, (list_all-parts is_plain_byte n w are.2.1).1, are.2.2), are.3)
 
 pub after_more : (t : List ℕ) (p : Piece) (rest : List ℕ) (n : ℕ) (qs : List Piece) → t ≡ spelling p ++ rest → ArePieces (drop n rest) qs → ArePieces (drop (length (spelling p) + n) t) qs
 after_more t p rest n qs spelled are = subst (λ u. ArePieces u qs) (sym (ap (drop (length (spelling p) + n)) spelled ∙ drop-after (spelling p) rest n)) are

@@ -1,7 +1,7 @@
 -- White space at the front and at the end of a text, over the texts that are left.
 use Rattle.std.proofs.Common.{◌≡◌, ℕ, ◌+◌, ◌-◌, ◌<◌, ◌≤◌, Bool, true, false, ◌&&◌, ◌==◌, List, [], ◌∷◌, ◌++◌, length, take, drop, take-add, refl, sym, ◌∙◌, ap, ap₂, subst, arith, cond, length-append}
 use Rattle.std.proofs.lemmas.Bool.Decides.{nat_tests}
-use Rattle.std.proofs.lemmas.List.{take-append-le}
+use Rattle.std.proofs.lemmas.List.{take-append-le, length-take}
 use Rattle.std.proofs.lemmas.Str.{chars-nil, encodes-append, encodes-chars, chars-append, length-le-encodes, IsUtf8-drop, IsUtf8-append, IsUtf8-take, IsCharBoundary-start, IsCharBoundary-from_take}
 use Rattle.std.proofs.Math.Seq.{take-append_seam}
 use Rattle.std.specs.Str.{IsUtf8, chars, trim_start, trim_end, trim, skip_leading_whitespace, drop_trailing_whitespace, encode_utf8_all}
@@ -104,13 +104,14 @@ trim_end-other w y utf8 some =
     ∙ ap encode_utf8_all (drop-other (chars w) (chars y) (some_chars left some))
     ∙ encodes-append (chars w) left ∙ ap (λ v. v ++ encode_utf8_all left) (encodes-chars w utf8)
 
-trim_end-shorter : (x : List ℕ) → IsUtf8 x → length (trim_end x) ≤ length x
+-- what is left of a text without the white space at its end is how it begins
+trim_end-front : (x : List ℕ) → IsUtf8 x → take (length (trim_end x)) x ≡ trim_end x
 unfolding trim_end
-trim_end-shorter x utf8 =
+trim_end-front x utf8 =
     let split = dropped (chars x) in
-    let kept = drop_trailing_whitespace (chars x) in
-    let same : length x ≡ length (encode_utf8_all kept ++ encode_utf8_all split.0) = ap length (sym (encodes-chars x utf8) ∙ ap encode_utf8_all split.1 ∙ encodes-append kept split.0) in
-    omega (arith, same, length-append (encode_utf8_all kept) (encode_utf8_all split.0))
+    let kept = encode_utf8_all (drop_trailing_whitespace (chars x)) in
+    let all : x ≡ kept ++ encode_utf8_all split.0 = sym (encodes-chars x utf8) ∙ ap encode_utf8_all split.1 ∙ encodes-append (drop_trailing_whitespace (chars x)) split.0 in
+    ap (take (length kept)) all ∙ take-append_seam kept (encode_utf8_all split.0)
 
 -- How far the walk over the white space at the front has come: so far all was white space, and so many bytes of it were counted.
 pub record IsWhiteSoFar (whole len : ℕ) (left : List Piece) : Type 0 where
@@ -213,21 +214,12 @@ solid-white {w = w} so_far over front_is utf8 none = record {
   keeps = so_far.keeps;
 }
 
--- what is left of a text without the white space at its end is how it begins
-trim_end-front : (x : List ℕ) → IsUtf8 x → take (length (trim_end x)) x ≡ trim_end x
-unfolding trim_end
-trim_end-front x utf8 =
-    let split = dropped (chars x) in
-    let kept = encode_utf8_all (drop_trailing_whitespace (chars x)) in
-    let all : x ≡ kept ++ encode_utf8_all split.0 = sym (encodes-chars x utf8) ∙ ap encode_utf8_all split.1 ∙ encodes-append (drop_trailing_whitespace (chars x)) split.0 in
-    ap (take (length kept)) all ∙ take-append_seam kept (encode_utf8_all split.0)
-
 pub solid-other : {t : List ℕ} {passed at end : ℕ} {w front : List ℕ} {left ps : List Piece} → IsSolidSoFar t passed end left → IsOverText t w passed at left ps
     → IsUtf8 t → front ≡ trim_end w → IsUtf8 w → IsUtf8 front → 0 < length front → IsSolidSoFar t at (passed + length front) ps
 solid-other {t} {passed} {w = w} {front = front} so_far over utf8 front_is run_utf8 front_utf8 some =
     let n = length front in
     let are = subst (ArePieces (drop passed t)) (over.there ∙ over.first) (pieces_are (drop passed t)) in
-    let short : n ≤ length w = omega (arith, trim_end-shorter w run_utf8, ap length front_is) in
+    let short : n ≤ length w = omega (arith, ap length (trim_end-front w run_utf8), length-take (length (trim_end w)) w, ap length front_is) in
     let all : take n w ≡ front = ap (λ u. take (length u) w) front_is ∙ trim_end-front w run_utf8 ∙ sym front_is in
     let begins : take (passed + n) t ≡ take passed t ++ front
     = take-add passed n t ∙ ap (λ v. take passed t ++ v) (ap (take n) are.1 ∙ take-append-le n w are.0 short ∙ all) in
