@@ -94,6 +94,27 @@ next-none p k c n so_far all other = record {
   ];
 }
 
+-- Where the first k bytes of p end in x at i, the bytes up to and with the next one end with the first r of p, and with no more.
+
+stands-next : (x p : List ℕ) (i k r : ℕ) → k ≤ i → StandsAt x p (i - k) k → IsNext p k (slice_index x i) r → StandsAt x p (i + 1 - r) r
+stands-next x p i k zero within stands next = stands-none x p (i + 1 - 0)
+stands-next x p i k (suc n) within stands next =
+    let fits : suc n ≤ k + 1 = next.within in
+    let last : suc n - 1 ≡ n = omega arith in
+    let goes : GoesOn p k (slice_index x i) n = subst (GoesOn p k (slice_index x i)) last (next.ends (omega arith)) in
+    let start : StandsAt x p (i - n) n = stands-end x p (i - k) k n (i - n) stands goes.0 (omega (arith, fits)) (omega (arith, within, fits)) in
+    let more : StandsAt x p (i - n) (n + 1) = stands-more x p (i - n) n i start (omega (arith, within, fits)) (sym goes.1) in
+    let size : n + 1 ≡ suc n = omega arith in
+    let place : i - n ≡ i + 1 - suc n = omega (arith, within, fits) in
+    stands-move x p (i - n) (i + 1 - suc n) (suc n) (subst (StandsAt x p (i - n)) size more) place
+
+none-next : (x p : List ℕ) (i k r n : ℕ) → k ≤ i → StandsAt x p (i - k) k → IsNext p k (slice_index x i) r → r ≤ n → n ≤ k → ¬ (StandsAt x p (i - n) (n + 1))
+none-next x p i k r n within stands next low high here =
+    let front : StandsAt x p (i - n) n = stands-less x p (i - n) (n + 1) n here (omega arith) in
+    let end : i - n + n ≡ i = omega (arith, within, high) in
+    let last : slice_index p n ≡ slice_index x i = sym (here n (omega arith)) ∙ ap (slice_index x) end in
+    next.longest n low high (stands-inner x p (i - k) k n (i - n) stands front high (omega (arith, within, high)), last)
+
 -- The borders.
 
 pub border-one : (p : List ℕ) → IsBorder p 1 0
@@ -110,37 +131,21 @@ border-next p k b r border next =
     let within : r ≤ b + 1 = next.within in
     record {
       shorter = omega (arith, shorter, within);
-      stands = by_length r within next.ends;
+      stands = stands-next p p k b r (omega (arith, shorter)) border.stands next;
       longest = λ n low high stands. none n low high stands;
     }
   where
-    by_length : (r : ℕ) → r ≤ b + 1 → (0 < r → GoesOn p b (slice_index p k) (r - 1)) → StandsAt p p (k + 1 - r) r
-    by_length zero within ends = stands-none p p (k + 1 - 0)
-    by_length (suc n) within ends =
-        let shorter : b < k = border.shorter in
-        let some : 0 < suc n = omega arith in
-        let last : suc n - 1 ≡ n = omega arith in
-        let goes : GoesOn p b (slice_index p k) n = subst (GoesOn p b (slice_index p k)) last (ends some) in
-        let fits : n ≤ b = omega (arith, within) in
-        let start : StandsAt p p (k - n) n = stands-end p p (k - b) b n (k - n) border.stands goes.0 fits (omega (arith, shorter, fits)) in
-        let more : StandsAt p p (k - n) (n + 1) = stands-more p p (k - n) n k start (omega (arith, shorter, fits)) (sym goes.1) in
-        let size : n + 1 ≡ suc n = omega arith in
-        let place : k - n ≡ k + 1 - suc n = omega (arith, shorter, fits) in
-        stands-move p p (k - n) (k + 1 - suc n) (suc n) (subst (StandsAt p p (k - n)) size more) place
-
     none : (n : ℕ) → r < n → n < k + 1 → ¬ (StandsAt p p (k + 1 - n) n)
     none zero low high stands = omega (arith, low)
     none (suc n) low high stands =
         let shorter : b < k = border.shorter in
         let below : n < k = omega (arith, high) in
+        let size : suc n ≡ n + 1 = omega arith in
         let place : k + 1 - suc n ≡ k - n = omega (arith, below) in
-        let here : StandsAt p p (k - n) (suc n) = stands-move p p (k + 1 - suc n) (k - n) (suc n) stands place in
-        let front : StandsAt p p (k - n) n = stands-less p p (k - n) (suc n) n here (omega arith) in
-        let end : k - n + n ≡ k = omega (arith, below) in
-        let last : slice_index p n ≡ slice_index p k = sym (here n (omega arith)) ∙ ap (slice_index p) end in
+        let here : StandsAt p p (k - n) (n + 1) = stands-move p p (k + 1 - suc n) (k - n) (n + 1) (subst (StandsAt p p (k + 1 - suc n)) size stands) place in
         elim (cases_lt b n) [
-          | inl past ↦ border.longest n past below front
-          | inr upto ↦ next.longest n (omega (arith, low)) upto (stands-inner p p (k - b) b n (k - n) border.stands front upto (omega (arith, upto, shorter)), last)
+          | inl past ↦ border.longest n past below (stands-less p p (k - n) (n + 1) n here (omega arith))
+          | inr upto ↦ none-next p p k b r n (omega (arith, shorter)) border.stands next (omega (arith, low)) upto here
         ]
 
 -- of one byte, in a table of zeros
@@ -171,9 +176,6 @@ found-reads x front tail j m found inside =
     let longer : m < length whole = omega (arith, inside, length-append front tail) in
     sym (get_or-drop j x m 0) ∙ ap (λ v. slice_index v m) splits ∙ get_or_append_left whole (drop (length whole) (drop j x)) 0 m longer ∙ get_or_append_left front tail 0 m inside
 
-pub read-start : (x front tail : List ℕ) → 0 < length front → IsRead x front tail 0 0
-read-start x front tail some = record { within = omega arith; short = some; stands = stands-none x front 0; none = λ k low high _. omega (arith, high) }
-
 -- bytes with which no match begins, where none was begun
 pub read-over : (x front tail : List ℕ) (i d : ℕ) → IsRead x front tail i 0 → ((m : ℕ) → m < d → slice_index x (i + m) ≢ slice_index front 0) → IsRead x front tail (i + d) 0
 read-over x front tail i d read others = record {
@@ -200,35 +202,17 @@ met-next x front tail i k r read next =
     let fits : r ≤ k + 1 = next.within in
     record {
       within = omega (arith, within, fits);
-      stands = by_length r fits next.ends;
+      stands = stands-next x front i k r within read.stands next;
       none = λ j low high found. elim (cases_lt j (i - k)) [
         | inl before ↦ read.none j low before found
-        | inr past ↦ none (i - j) (omega (arith, high)) (omega (arith, past, within)) (subst (IsFound x front tail) (let same : j ≡ i - (i - j) = omega (arith, high) in same) found)
+        | inr past ↦ (
+            let n = i - j in
+            let same : j ≡ i - n = omega (arith, high) in
+            let short : k < length front = read.short in
+            none-next x front i k r n within read.stands next (omega (arith, high)) (omega (arith, past, within))
+            (λ m inside. found-reads x front tail (i - n) m (subst (IsFound x front tail) same found) (omega (arith, inside, past, within, short))))
       ];
     }
-  where
-    by_length : (r : ℕ) → r ≤ k + 1 → (0 < r → GoesOn front k (slice_index x i) (r - 1)) → StandsAt x front (i + 1 - r) r
-    by_length zero fits ends = stands-none x front (i + 1 - 0)
-    by_length (suc n) fits ends =
-        let within : k ≤ i = read.within in
-        let some : 0 < suc n = omega arith in
-        let last : suc n - 1 ≡ n = omega arith in
-        let goes : GoesOn front k (slice_index x i) n = subst (GoesOn front k (slice_index x i)) last (ends some) in
-        let less : n ≤ k = omega (arith, fits) in
-        let start : StandsAt x front (i - n) n = stands-end x front (i - k) k n (i - n) read.stands goes.0 less (omega (arith, within, less)) in
-        let more : StandsAt x front (i - n) (n + 1) = stands-more x front (i - n) n i start (omega (arith, within, less)) (sym goes.1) in
-        let size : n + 1 ≡ suc n = omega arith in
-        let place : i - n ≡ i + 1 - suc n = omega (arith, within, less) in
-        stands-move x front (i - n) (i + 1 - suc n) (suc n) (subst (StandsAt x front (i - n)) size more) place
-
-    none : (n : ℕ) → r ≤ n → n ≤ k → ¬ (IsFound x front tail (i - n))
-    none n low high found =
-        let within : k ≤ i = read.within in
-        let short : k < length front = read.short in
-        let here : StandsAt x front (i - n) n = λ j inside. found-reads x front tail (i - n) j found (omega (arith, inside, high, short)) in
-        let end : i ≡ i - n + n = omega (arith, within, high) in
-        let last : slice_index front n ≡ slice_index x i = sym (found-reads x front tail (i - n) n found (omega (arith, high, short))) ∙ ap (slice_index x) (sym end) in
-        next.longest n low high (stands-inner x front (i - k) k n (i - n) read.stands here high (omega (arith, within, high)), last)
 
 pub read-short : (x front tail : List ℕ) (i k : ℕ) → IsMet x front tail i k → k < length front → IsRead x front tail i k
 read-short x front tail i k met short = record { within = met.within; short = short; stands = met.stands; none = met.none }
@@ -271,70 +255,11 @@ met-apart x front tail i b met inside other border =
         let here : StandsAt x front (i - n) n = λ j before. found-reads x front tail (i - n) j found (omega (arith, before, high)) in
         border.longest n low high (stands-inner x front (i - length front) (length front) n (i - n) met.stands here (omega (arith, high)) (omega (arith, within, high)))
 
--- A run is read on from an offset, in a text z from which the text x goes on: one whose bytes are those of a text t up
--- to the end of the run.
+-- A run, which ends at the offset `end` of a text t and is followed by y, is read on from the offset `from`.
 
 -- what stands in the run
 in_run : (t y : List ℕ) (end n : ℕ) → n < end → end ≤ length t → slice_index (take end t ++ y) n ≡ slice_index t n
 in_run t y end n inside fits = get_or_append_left (take end t) y 0 n (omega (arith, inside, length-take-le end t fits)) ∙ get_or-take end t n 0 inside
-
--- whatever was read before, up to `at` all is read
-abbrev pub ReadsTo : List ℕ → List ℕ → List ℕ → ℕ → ℕ → ℕ → ℕ → Type 0
-ReadsTo front tail z from met at k = (x : List ℕ) (i : ℕ) → IsRead x front tail i met → (from < at → drop i x ≡ drop from z) → IsRead x front tail (i + (at - from)) k
-
--- the same where k bytes of the front are met, which may be all
-abbrev pub MeetsAt : List ℕ → List ℕ → List ℕ → ℕ → ℕ → ℕ → ℕ → Type 0
-MeetsAt front tail z from met at k = (x : List ℕ) (i : ℕ) → IsRead x front tail i met → (from < at → drop i x ≡ drop from z) → IsMet x front tail (i + (at - from)) k
-
-goes-on : (x z : List ℕ) (i from at : ℕ) → from ≤ at → drop i x ≡ drop from z → drop (i + (at - from)) x ≡ drop at z
-goes-on x z i from at forward is =
-    let sum : from + (at - from) ≡ at = omega (arith, forward) in
-    sym (drop-drop (at - from) i x) ∙ ap (drop (at - from)) is ∙ drop-drop (at - from) from z ∙ ap (λ n. drop n z) sum
-
-pub reads-start : (front tail z : List ℕ) (from met : ℕ) → ReadsTo front tail z from met from met
-reads-start front tail z from met x i read is = (let sum : i ≡ i + (from - from) = omega arith in subst (λ (n : ℕ). IsRead x front tail n met) sum read)
-
--- over bytes with which no match begins, where none is begun
-pub reads-over : (front tail t y : List ℕ) (from met at k n end : ℕ) → from ≤ at → at ≤ n → n ≤ end → end ≤ length t → (0 < k → n ≡ at) → BeginsNowhere front t at n
-    → ReadsTo front tail (take end t ++ y) from met at k → ReadsTo front tail (take end t ++ y) from met n k
-reads-over front tail t y from met at (suc k) n end forward past inside fits here others so_far x i read is =
-    let same : at ≡ n = sym (here (omega arith)) in
-    subst (λ (m : ℕ). IsRead x front tail (i + (m - from)) (suc k)) same (so_far x i read (λ some. is (omega (arith, some, past))))
-reads-over front tail t y from met at zero n end forward past inside fits here others so_far x i read is =
-    let sum : i + (at - from) + (n - at) ≡ i + (n - from) = omega (arith, forward, past) in
-    subst (λ (m : ℕ). IsRead x front tail m 0) sum (read-over x front tail (i + (at - from)) (n - at) (so_far x i read (λ some. is (omega (arith, some, past)))) other)
-  where
-    other : (m : ℕ) → m < n - at → slice_index x (i + (at - from) + m) ≢ slice_index front 0
-    other m low same =
-        let below : at + m < n = omega (arith, low) in
-        let z = take end t ++ y in
-        let reads : slice_index x (i + (at - from) + m) ≡ slice_index t (at + m)
-        = sym (get_or-drop (i + (at - from)) x m 0) ∙ ap (λ v. slice_index v m) (goes-on x z i from at forward (is (omega (arith, below, forward)))) ∙ get_or-drop at z m 0 ∙ in_run t y end (at + m) (omega (arith, below, inside)) fits in
-        others (at + m) (omega arith) below (sym reads ∙ same)
-
--- one byte more
-reads-next : (front tail t y : List ℕ) (from met at k r end : ℕ) → from ≤ at → at < end → end ≤ length t → ReadsTo front tail (take end t ++ y) from met at k → IsNext front k (slice_index t at) r
-    → MeetsAt front tail (take end t ++ y) from met (at + 1) r
-reads-next front tail t y from met at k r end forward inside fits so_far next x i read is =
-    let z = take end t ++ y in
-    let e = i + (at - from) in
-    let same : drop i x ≡ drop from z = is (omega (arith, forward)) in
-    let sum : e + 1 ≡ i + (at + 1 - from) = omega (arith, forward) in
-    let start : at + 0 ≡ at = omega arith in
-    let place : e + 0 ≡ e = omega arith in
-    let here : slice_index x e ≡ slice_index t at = sym (ap (slice_index x) place) ∙ sym (get_or-drop e x 0 0) ∙ ap (λ v. slice_index v 0) (goes-on x z i from at forward same) ∙ get_or-drop at z 0 0 ∙ ap (slice_index z) start ∙ in_run t y end at inside fits in
-    subst (λ (n : ℕ). IsMet x front tail n r) sum (met-next x front tail e k r (so_far x i read (λ _. same)) (subst (λ (b : ℕ). IsNext front k b r) (sym here) next))
-
--- both
-pub reads-on : (front tail t y : List ℕ) (from met at k n r end : ℕ) → from ≤ at → at ≤ n → n < end → end ≤ length t → (0 < k → n ≡ at) → BeginsNowhere front t at n
-    → ReadsTo front tail (take end t ++ y) from met at k → IsNext front k (slice_index t n) r → MeetsAt front tail (take end t ++ y) from met (n + 1) r
-reads-on front tail t y from met at k n r end forward past inside fits here others so_far next =
-    reads-next front tail t y from met n k r end (omega (arith, forward, past)) inside fits (reads-over front tail t y from met at k n end forward past (omega (arith, inside)) fits here others so_far) next
-
-pub meets-short : (front tail z : List ℕ) (from met at k : ℕ) → MeetsAt front tail z from met at k → k < length front → ReadsTo front tail z from met at k
-meets-short front tail z from met at k meets short x i read is = read-short x front tail (i + (at - from)) k (meets x i read is) short
-
--- all of the front is met, and the tail follows or doesn't
 
 pub follows : (t y : List ℕ) (at end : ℕ) → at ≤ end → end ≤ length t → drop at (take end t ++ y) ≡ slice_range t at end ++ y
 follows t y at end inside fits =
@@ -342,32 +267,110 @@ follows t y at end inside fits =
     drop-append-le at (take end t) y (omega (arith, inside, length-take-le end t fits))
     ∙ ap (λ v. v ++ y) (ap (λ n. drop at (take n t)) (sym sum) ∙ drop-take at (end - at) t)
 
-within : (x z : List ℕ) (i from at : ℕ) → from < at → at ≤ length z → drop i x ≡ drop from z → i + (at - from) ≤ length x
-within x z i from at forward inside is =
-    let left : length (drop i x) ≡ length x - i = length-drop i x in
-    let rest : length (drop from z) ≡ length z - from = length-drop from z in
-    omega (arith, ap length is, left, rest, forward, inside)
+-- what stands there in a text x that goes on so after i bytes
+goes-on : (x z : List ℕ) (i from at : ℕ) → from ≤ at → drop i x ≡ drop from z → drop (i + (at - from)) x ≡ drop at z
+goes-on x z i from at forward is =
+    let sum : from + (at - from) ≡ at = omega (arith, forward) in
+    sym (drop-drop (at - from) i x) ∙ ap (drop (at - from)) is ∙ drop-drop (at - from) from z ∙ ap (λ n. drop n z) sum
 
-pub meets-all : (front tail t y : List ℕ) (from met at k end : ℕ) → from < at → at ≤ end → end ≤ length t → MeetsAt front tail (take end t ++ y) from met at k → k ≡ length front
-    → IsTrue (starts_with nat_eq (slice_range t at end ++ y) tail)
-    → (x : List ℕ) (i : ℕ) → IsRead x front tail i met → (from < at → drop i x ≡ drop from (take end t ++ y)) → IsMatched x front tail (i + (at - from))
-meets-all front tail t y from met at k end forward inside fits meets all tail_follows x i read is =
+stands-on : (x t y : List ℕ) (i from at m end : ℕ) → from ≤ at → at + m < end → end ≤ length t → drop i x ≡ drop from (take end t ++ y) → slice_index x (i + (at - from) + m) ≡ slice_index t (at + m)
+stands-on x t y i from at m end forward inside fits is =
     let z = take end t ++ y in
-    let e = i + (at - from) in
-    let less : from ≤ at = omega (arith, forward) in
-    let here : drop e x ≡ slice_range t at end ++ y = goes-on x z i from at less (is forward) ∙ follows t y at end inside fits in
-    met-matched x front tail e (subst (IsMet x front tail e) all (meets x i read is)) (within x z i from at forward (omega (arith, inside, length-append (take end t) y, length-take-le end t fits)) (is forward))
-    (ap (λ v. starts_with nat_eq v tail) here ∙ tail_follows)
+    sym (get_or-drop (i + (at - from)) x m 0) ∙ ap (λ v. slice_index v m) (goes-on x z i from at forward is) ∙ get_or-drop at z m 0 ∙ in_run t y end (at + m) inside fits
 
-pub meets-apart : (front tail t y : List ℕ) (from met at k b end : ℕ) → from < at → at ≤ end → end ≤ length t → MeetsAt front tail (take end t ++ y) from met at k → k ≡ length front
-    → starts_with nat_eq (slice_range t at end ++ y) tail ≡ false → IsBorder front (length front) b → ReadsTo front tail (take end t ++ y) from met at b
-meets-apart front tail t y from met at k b end forward inside fits meets all other border x i read is =
-    let z = take end t ++ y in
-    let e = i + (at - from) in
-    let less : from ≤ at = omega (arith, forward) in
-    let here : drop e x ≡ slice_range t at end ++ y = goes-on x z i from at less (is forward) ∙ follows t y at end inside fits in
-    met-apart x front tail e b (subst (IsMet x front tail e) all (meets x i read is)) (within x z i from at forward (omega (arith, inside, length-append (take end t) y, length-take-le end t fits)) (is forward))
-    (λ found. true≢false (sym found ∙ ap (λ v. starts_with nat_eq v tail) here ∙ other)) border
+-- whatever was read before, up to `at` all is read
+pub record ReadsTo (front tail t y : List ℕ) (from met end at k : ℕ) : Type 0 where
+  pub forward : from ≤ at
+  pub within : at ≤ end
+  pub fits : end ≤ length t
+  pub reads : (x : List ℕ) (i : ℕ) → IsRead x front tail i met → (from < at → drop i x ≡ drop from (take end t ++ y)) → IsRead x front tail (i + (at - from)) k
+
+-- the same where k bytes of the front are met, which may be all
+pub record MeetsAt (front tail t y : List ℕ) (from met end at k : ℕ) : Type 0 where
+  pub forward : from < at
+  pub within : at ≤ end
+  pub fits : end ≤ length t
+  pub meets : (x : List ℕ) (i : ℕ) → IsRead x front tail i met → drop i x ≡ drop from (take end t ++ y) → IsMet x front tail (i + (at - from)) k
+
+pub reads-start : {front tail t y : List ℕ} {from met end : ℕ} → from ≤ end → end ≤ length t → ReadsTo front tail t y from met end from met
+reads-start {front} {tail} {from = from} {met = met} ordered fits = record {
+  forward = omega arith;
+  within = ordered;
+  fits = fits;
+  reads = λ x i read is. (let sum : i ≡ i + (from - from) = omega arith in subst (λ (n : ℕ). IsRead x front tail n met) sum read);
+}
+
+-- over bytes with which no match begins, where none is begun
+pub reads-over : {front tail t y : List ℕ} {from met end at : ℕ} (k n : ℕ) → ReadsTo front tail t y from met end at k → at ≤ n → n ≤ end → (0 < k → n ≡ at) → BeginsNowhere front t at n
+    → ReadsTo front tail t y from met end n k
+reads-over {front} {tail} {t} {y} {from} {met} {end} {at} (suc k) n so_far past inside here others =
+    let same : at ≡ n = sym (here (omega arith)) in
+    subst (λ (m : ℕ). ReadsTo front tail t y from met end m (suc k)) same so_far
+reads-over {front} {tail} {t} {y} {from} {met} {end} {at} zero n so_far past inside here others = record {
+  forward = omega (arith, so_far.forward, past);
+  within = inside;
+  fits = so_far.fits;
+  reads = λ x i read is.
+      let sum : i + (at - from) + (n - at) ≡ i + (n - from) = omega (arith, so_far.forward, past) in
+      subst (λ (m : ℕ). IsRead x front tail m 0) sum
+      (read-over x front tail (i + (at - from)) (n - at) (so_far.reads x i read (λ some. is (omega (arith, some, past)))) (λ m low same.
+      let below : at + m < n = omega (arith, low) in
+      others (at + m) (omega arith) below (sym (stands-on x t y i from at m end so_far.forward (omega (arith, below, inside)) so_far.fits (is (omega (arith, below, so_far.forward)))) ∙ same)));
+}
+
+-- over those, and one byte more
+pub reads-on : {front tail t y : List ℕ} {from met end at k r : ℕ} (n : ℕ) → ReadsTo front tail t y from met end at k → at ≤ n → n < end → (0 < k → n ≡ at) → BeginsNowhere front t at n → IsNext front k (slice_index t n) r
+    → MeetsAt front tail t y from met end (n + 1) r
+reads-on {front} {tail} {t} {y} {from} {met} {end} {at} {k} {r} n so_far past inside here others next =
+    let over = reads-over k n so_far past (omega (arith, inside)) here others in
+    let forward : from ≤ n = over.forward in
+    record {
+      forward = omega (arith, forward);
+      within = omega (arith, inside);
+      fits = so_far.fits;
+      meets = λ x i read is.
+          let e = i + (n - from) in
+          let sum : e + 1 ≡ i + (n + 1 - from) = omega (arith, forward) in
+          let place : e ≡ e + 0 = omega arith in
+          let start : n + 0 ≡ n = omega arith in
+          let same : slice_index x e ≡ slice_index t n = ap (slice_index x) place ∙ stands-on x t y i from n 0 end forward (omega (arith, inside)) so_far.fits is ∙ ap (slice_index t) start in
+          subst (λ (m : ℕ). IsMet x front tail m r) sum (met-next x front tail e k r (over.reads x i read (λ _. is)) (subst (λ (b : ℕ). IsNext front k b r) (sym same) next));
+    }
+
+pub meets-short : {front tail t y : List ℕ} {from met end at k : ℕ} → MeetsAt front tail t y from met end at k → k < length front → ReadsTo front tail t y from met end at k
+meets-short {front} {tail} {from = from} {at = at} {k = k} met short = record {
+  forward = omega (arith, met.forward);
+  within = met.within;
+  fits = met.fits;
+  reads = λ x i read is. read-short x front tail (i + (at - from)) k (met.meets x i read (is met.forward)) short;
+}
+
+-- all of the front is met, and the tail follows or doesn't
+
+meets-rest : {front tail t y : List ℕ} {from met end at k : ℕ} → MeetsAt front tail t y from met end at k → (x : List ℕ) (i : ℕ) → drop i x ≡ drop from (take end t ++ y)
+    → (drop (i + (at - from)) x ≡ slice_range t at end ++ y) × (i + (at - from) ≤ length x)
+meets-rest {t = t} {y = y} {from = from} {end = end} {at = at} met x i is =
+    let z = take end t ++ y in (
+      goes-on x z i from at (omega (arith, met.forward)) is ∙ follows t y at end met.within met.fits,
+      omega (arith, ap length is, length-drop i x, length-drop from z, met.forward, met.within, length-append (take end t) y, length-take-le end t met.fits),
+    )
+
+pub meets-all : {front tail t y : List ℕ} {from met end at k : ℕ} → MeetsAt front tail t y from met end at k → k ≡ length front → IsTrue (starts_with nat_eq (slice_range t at end ++ y) tail)
+    → (x : List ℕ) (i : ℕ) → IsRead x front tail i met → drop i x ≡ drop from (take end t ++ y) → IsMatched x front tail (i + (at - from))
+meets-all {front} {tail} {from = from} {at = at} met all goes x i read is =
+    let rest = meets-rest met x i is in
+    met-matched x front tail (i + (at - from)) (subst (IsMet x front tail (i + (at - from))) all (met.meets x i read is)) rest.1 (ap (λ v. starts_with nat_eq v tail) rest.0 ∙ goes)
+
+pub meets-apart : {front tail t y : List ℕ} {from met end at k b : ℕ} → MeetsAt front tail t y from met end at k → k ≡ length front → starts_with nat_eq (slice_range t at end ++ y) tail ≡ false → IsBorder front (length front) b
+    → ReadsTo front tail t y from met end at b
+meets-apart {front} {tail} {from = from} {at = at} {b = b} met all other border = record {
+  forward = omega (arith, met.forward);
+  within = met.within;
+  fits = met.fits;
+  reads = λ x i read is.
+      let rest = meets-rest met x i (is met.forward) in
+      met-apart x front tail (i + (at - from)) b (subst (IsMet x front tail (i + (at - from))) all (met.meets x i read (is met.forward))) rest.1 (λ found. true≢false (sym found ∙ ap (λ v. starts_with nat_eq v tail) rest.0 ∙ other)) border;
+}
 
 -- A text x, read from the position `from` on, for a pattern p that is the front and the tail.
 

@@ -1,106 +1,108 @@
--- A cut as one walk over the pieces, with what is left of its ends; and of a text without ESC.
-use Rattle.std.proofs.Common.{◌≡◌, ℕ, ◌-◌, ◌<◌, ◌≤◌, inl, inr, List, [], ◌∷◌, ◌++◌, map, length, Option, Some, None, refl, sym, ◌∙◌, ap, ap₂, arith, slice_range, if◌then◌else◌, nat_lt, append_assoc, append-nil, length-append, IsFalse}
+-- What is shown of a text as one walk over its pieces, with what is left of its ends; a cut, also of a text without ESC.
+use Rattle.std.proofs.Common.{◌≡◌, ℕ, ◌-◌, ◌≤◌, inl, inr, Bool, true, false, not, ◌&&◌, List, [], ◌∷◌, ◌++◌, map, length, Option, Some, None, refl, sym, ◌∙◌, ap, ap₂, arith, slice_range, if◌then◌else◌, nat_lt, append-nil, length-append, IsFalse}
 use Rattle.std.specs.Prelude.{unwrap_or}
 use Rattle.std.proofs.lemmas.Bool.{cases_lt, lt-ltb, le-ltb}
 use Rattle.ansi_items.specs.Bytes.{escape}
 use Rattle.ansi_items.specs.Pieces.{Piece, Text, Sequence, LoneEscape, pieces_of}
-use Rattle.ansi_items.specs.Plain.{plain_of, plain, Mark, marks_of, up_to, has_escape}
-use Rattle.ansi_style.specs.declared.state.rendition.Rendition.{Rendition}
+use Rattle.ansi_items.specs.Plain.{plain_of, plain, marks_of, up_to, has_escape}
 use Rattle.ansi_style.specs.Rendition.{plain_style}
-use Rattle.ansi_style.specs.Sgr.{apply}
 use Rattle.ansi_style.specs.Written.{close}
 use Rattle.ansi_style.specs.Reading.{after_marks}
+use Rattle.ansi_style.specs.Styled.{style_at}
 use Rattle.ansi_slice.specs.Cut.{show, cut_up_to, cut}
-use Rattle.ansi_slice.proofs.SliceLemmas.{slice_range-none, slice_range-past}
+use Rattle.ansi_slice.proofs.SliceLemmas.{slice_range-none, slice_range-past, slice_range-append}
 use Rattle.ansi_items.proofs.PlainLemmas.{plain-bare, length-plain}
-use Rattle.ansi_style.proofs.MarkLemmas.{further, marks-bare, marks_of-text, marks_of-sequence, marks_of-lone, up_to-none, up_to-further, up_to-here, after_marks-further}
+use Rattle.ansi_style.proofs.MarkLemmas.{further, marks-bare, marks_of-text, marks_of-sequence, marks_of-lone, up_to-none, up_to-further, up_to-here}
 use Rattle.ansi_slice.proofs.ShowLemmas.{show-nil, show-bare, show-text, show-mark}
 
--- The cut of the pieces that are left, where `style` has been reached: s plain bytes are still to be passed over, and the end is e plain bytes away. It is over where a text goes on past the end.
-abbrev pub cut_from : Rendition → ℕ → ℕ → List Piece → List ℕ
-cut_from style s e [] = close style
-cut_from style s e (Text w ∷ ps) = slice_range w s e ++ (if nat_lt e (length w) then close style else cut_from style (s - length w) (e - length w) ps)
-cut_from style s e (Sequence w ∷ ps) = w ++ cut_from (apply style w) s e ps
-cut_from style s e (LoneEscape ∷ ps) = escape ∷ cut_from style s e ps
+-- What is shown of the pieces that are left: s plain bytes are still to be passed over, and the end is e plain bytes away. Of the marks all are shown, or those up to the end.
+abbrev pub shown_from : Bool → ℕ → ℕ → List Piece → List ℕ
+shown_from all s e [] = []
+shown_from all s e (Text w ∷ ps) = slice_range w s e ++ (if not all && nat_lt e (length w) then [] else shown_from all (s - length w) (e - length w) ps)
+shown_from all s e (Sequence w ∷ ps) = w ++ shown_from all s e ps
+shown_from all s e (LoneEscape ∷ ps) = escape ∷ shown_from all s e ps
 
--- a text that goes on past the end is the last to be written
-pub cut_from-last : (style : Rendition) (s e : ℕ) (w : List ℕ) (ps : List Piece) → e < length w → cut_from style s e (Text w ∷ ps) ≡ slice_range w s e ++ close style
-cut_from-last style s e w ps last =
-    ap (λ b. slice_range w s e ++ (if b then close style else cut_from style (s - length w) (e - length w) ps)) (lt-ltb e (length w) last)
+pub shown_from-text : (all : Bool) (s e : ℕ) (w : List ℕ) (ps : List Piece) → length w ≤ e → shown_from all s e (Text w ∷ ps) ≡ slice_range w s e ++ shown_from all (s - length w) (e - length w) ps
+shown_from-text true s e w ps within = refl
+shown_from-text false s e w ps within = ap (λ b. slice_range w s e ++ (if b then [] else shown_from false (s - length w) (e - length w) ps)) (le-ltb e (length w) within)
 
-pub cut_from-text : (style : Rendition) (s e : ℕ) (w : List ℕ) (ps : List Piece) → length w ≤ e → cut_from style s e (Text w ∷ ps) ≡ slice_range w s e ++ cut_from style (s - length w) (e - length w) ps
-cut_from-text style s e w ps within =
-    ap (λ b. slice_range w s e ++ (if b then close style else cut_from style (s - length w) (e - length w) ps)) (le-ltb e (length w) within)
+-- with all marks
+pub show-all : (ps : List Piece) (s e : ℕ) → show (plain_of ps) s e (marks_of ps) ≡ shown_from true s e ps
+show-all [] s e = show-nil s e
+show-all (Text w ∷ ps) s e =
+    ap (show (w ++ plain_of ps) s e) (marks_of-text w ps)
+    ∙ show-text w (plain_of ps) s e (marks_of ps)
+    ∙ ap (λ v. slice_range w s e ++ v) (show-all ps (s - length w) (e - length w))
+show-all (Sequence w ∷ ps) s e =
+    ap (show (plain_of ps) s e) (marks_of-sequence w ps) ∙ show-mark w (plain_of ps) s e (marks_of ps) ∙ ap (λ v. w ++ v) (show-all ps s e)
+show-all (LoneEscape ∷ ps) s e =
+    ap (show (plain_of ps) s e) (marks_of-lone ps) ∙ show-mark (escape ∷ []) (plain_of ps) s e (marks_of ps) ∙ ap (λ v. escape ∷ v) (show-all ps s e)
 
--- The definition of a cut, of any pieces and from any style.
-
--- what is shown of the plain text x with these marks, and the close of the style after them
-abbrev closed : Rendition → List ℕ → ℕ → ℕ → List Mark → List ℕ
-closed style x s e ms = show x s e ms ++ close (after_marks style ms)
-
-closed-last : (style : Rendition) (w x : List ℕ) (s e : ℕ) → e < length w → closed style (w ++ x) s e [] ≡ slice_range w s e ++ close style
-closed-last style w x s e last =
-    let front : show x (s - length w) (e - length w) [] ≡ [] = show-bare x _ _ ∙ slice_range-none x _ _ (omega arith) in
-    ap (λ v. v ++ close style) (show-text w x s e [] ∙ ap (λ v. slice_range w s e ++ v) front ∙ append-nil (slice_range w s e))
-
-closed-text : (style : Rendition) (w x : List ℕ) (s e : ℕ) (ms : List Mark) → closed style (w ++ x) s e (map (further (length w)) ms) ≡ slice_range w s e ++ closed style x (s - length w) (e - length w) ms
-closed-text style w x s e ms =
-    ap₂ (λ u r. u ++ close r) (show-text w x s e ms) (after_marks-further style (length w) ms)
-    ∙ append_assoc (slice_range w s e) (show x (s - length w) (e - length w) ms) (close (after_marks style ms))
-
-closed-mark : (style : Rendition) (w x : List ℕ) (s e : ℕ) (ms : List Mark) → closed style x s e (record { place = 0; bytes = w } ∷ ms) ≡ w ++ closed (apply style w) x s e ms
-closed-mark style w x s e ms =
-    ap (λ u. u ++ close (after_marks (apply style w) ms)) (show-mark w x s e ms)
-    ∙ append_assoc w (show x s e ms) (close (after_marks (apply style w) ms))
-
-closed-walk : (ps : List Piece) (style : Rendition) (s e : ℕ) → closed style (plain_of ps) s e (up_to e (marks_of ps)) ≡ cut_from style s e ps
-closed-walk [] style s e = ap (λ v. v ++ close style) (show-nil s e)
-closed-walk (Text w ∷ ps) style s e = elim (cases_lt e (length w)) [
+-- with those up to the end: a text that goes on past it is the last to be shown
+show-up_to : (ps : List Piece) (s e : ℕ) → show (plain_of ps) s e (up_to e (marks_of ps)) ≡ shown_from false s e ps
+show-up_to [] s e = show-nil s e
+show-up_to (Text w ∷ ps) s e = elim (cases_lt e (length w)) [
   | inl last ↦ (
-      ap (closed style (w ++ plain_of ps) s e) (ap (up_to e) (marks_of-text w ps) ∙ up_to-none e (length w) (marks_of ps) last)
-      ∙ closed-last style w (plain_of ps) s e last ∙ sym (cut_from-last style s e w ps last))
+      ap (show (w ++ plain_of ps) s e) (ap (up_to e) (marks_of-text w ps) ∙ up_to-none e (length w) (marks_of ps) last)
+      ∙ show-bare (w ++ plain_of ps) s e ∙ slice_range-append w (plain_of ps) s e
+      ∙ ap₂ (λ v b. slice_range w s e ++ (if b then v else shown_from false (s - length w) (e - length w) ps))
+      (slice_range-none (plain_of ps) (s - length w) (e - length w) (omega arith)) (sym (lt-ltb e (length w) last)))
   | inr within ↦ (
-      ap (closed style (w ++ plain_of ps) s e) (ap (up_to e) (marks_of-text w ps) ∙ up_to-further e (length w) (marks_of ps) within)
-      ∙ closed-text style w (plain_of ps) s e (up_to (e - length w) (marks_of ps))
-      ∙ ap (λ v. slice_range w s e ++ v) (closed-walk ps style (s - length w) (e - length w)) ∙ sym (cut_from-text style s e w ps within))
+      ap (show (w ++ plain_of ps) s e) (ap (up_to e) (marks_of-text w ps) ∙ up_to-further e (length w) (marks_of ps) within)
+      ∙ show-text w (plain_of ps) s e (up_to (e - length w) (marks_of ps))
+      ∙ ap (λ v. slice_range w s e ++ v) (show-up_to ps (s - length w) (e - length w)) ∙ sym (shown_from-text false s e w ps within))
 ]
-closed-walk (Sequence w ∷ ps) style s e =
-    ap (closed style (plain_of ps) s e) (ap (up_to e) (marks_of-sequence w ps) ∙ up_to-here e w (marks_of ps))
-    ∙ closed-mark style w (plain_of ps) s e (up_to e (marks_of ps)) ∙ ap (λ v. w ++ v) (closed-walk ps (apply style w) s e)
-closed-walk (LoneEscape ∷ ps) style s e =
-    ap (closed style (plain_of ps) s e) (ap (up_to e) (marks_of-lone ps) ∙ up_to-here e (escape ∷ []) (marks_of ps))
-    ∙ closed-mark style (escape ∷ []) (plain_of ps) s e (up_to e (marks_of ps)) ∙ ap (λ v. escape ∷ v) (closed-walk ps style s e)
+show-up_to (Sequence w ∷ ps) s e =
+    ap (show (plain_of ps) s e) (ap (up_to e) (marks_of-sequence w ps) ∙ up_to-here e w (marks_of ps))
+    ∙ show-mark w (plain_of ps) s e (up_to e (marks_of ps)) ∙ ap (λ v. w ++ v) (show-up_to ps s e)
+show-up_to (LoneEscape ∷ ps) s e =
+    ap (show (plain_of ps) s e) (ap (up_to e) (marks_of-lone ps) ∙ up_to-here e (escape ∷ []) (marks_of ps))
+    ∙ show-mark (escape ∷ []) (plain_of ps) s e (up_to e (marks_of ps)) ∙ ap (λ v. escape ∷ v) (show-up_to ps s e)
 
--- a cut is the walk over all pieces, from the plain style
-pub cut_up_to-walk : (t : List ℕ) (s e : ℕ) → cut_up_to t s e ≡ cut_from plain_style s e (pieces_of t)
-cut_up_to-walk t s e = closed-walk (pieces_of t) plain_style s e
+-- a cut is the walk over all pieces, and a close
+pub cut_up_to-walk : (t : List ℕ) (s e : ℕ) → cut_up_to t s e ≡ shown_from false s e (pieces_of t) ++ close (style_at t e)
+cut_up_to-walk t s e = ap (λ v. v ++ close (style_at t e)) (show-up_to (pieces_of t) s e)
 
 -- Ends at or past the end of the plain text give the same cut.
 
-cut_from-past : (ps : List Piece) (style : Rendition) (s d e : ℕ) → length (plain_of ps) ≤ d → length (plain_of ps) ≤ e → cut_from style s d ps ≡ cut_from style s e ps
-cut_from-past [] style s d e past_d past_e = refl
-cut_from-past (Text w ∷ ps) style s d e past_d past_e =
+shown_from-past : (ps : List Piece) (s d e : ℕ) → length (plain_of ps) ≤ d → length (plain_of ps) ≤ e → shown_from false s d ps ≡ shown_from false s e ps
+shown_from-past [] s d e past_d past_e = refl
+shown_from-past (Text w ∷ ps) s d e past_d past_e =
     let size = length-append w (plain_of ps) in
-    cut_from-text style s d w ps (omega arith)
+    shown_from-text false s d w ps (omega arith)
     ∙ ap₂ (λ u v. u ++ v)
     (slice_range-past w s d (omega arith) ∙ sym (slice_range-past w s e (omega arith)))
-    (cut_from-past ps style (s - length w) (d - length w) (e - length w) (omega arith) (omega arith))
-    ∙ sym (cut_from-text style s e w ps (omega arith))
-cut_from-past (Sequence w ∷ ps) style s d e past_d past_e = ap (λ v. w ++ v) (cut_from-past ps (apply style w) s d e past_d past_e)
-cut_from-past (LoneEscape ∷ ps) style s d e past_d past_e = ap (λ v. escape ∷ v) (cut_from-past ps style s d e past_d past_e)
+    (shown_from-past ps (s - length w) (d - length w) (e - length w) (omega arith) (omega arith))
+    ∙ sym (shown_from-text false s e w ps (omega arith))
+shown_from-past (Sequence w ∷ ps) s d e past_d past_e = ap (λ v. w ++ v) (shown_from-past ps s d e past_d past_e)
+shown_from-past (LoneEscape ∷ ps) s d e past_d past_e = ap (λ v. escape ∷ v) (shown_from-past ps s d e past_d past_e)
+
+-- all marks stand up to there
+pub up_to-past : (e : ℕ) (ps : List Piece) → length (plain_of ps) ≤ e → up_to e (marks_of ps) ≡ marks_of ps
+up_to-past e [] past = refl
+up_to-past e (Text w ∷ ps) past =
+    let size = length-append w (plain_of ps) in
+    ap (up_to e) (marks_of-text w ps) ∙ up_to-further e (length w) (marks_of ps) (omega arith)
+    ∙ ap (map (further (length w))) (up_to-past (e - length w) ps (omega arith)) ∙ sym (marks_of-text w ps)
+up_to-past e (Sequence w ∷ ps) past =
+    ap (up_to e) (marks_of-sequence w ps) ∙ up_to-here e w (marks_of ps) ∙ ap (λ ms. record { place = 0; bytes = w } ∷ ms) (up_to-past e ps past) ∙ sym (marks_of-sequence w ps)
+up_to-past e (LoneEscape ∷ ps) past =
+    ap (up_to e) (marks_of-lone ps) ∙ up_to-here e (escape ∷ []) (marks_of ps) ∙ ap (λ ms. record { place = 0; bytes = escape ∷ [] } ∷ ms) (up_to-past e ps past) ∙ sym (marks_of-lone ps)
 
 -- no end is any end past the text
 pub cut_up_to-unwrap_or : (t : List ℕ) (s : ℕ) (end : Option ℕ) (top : ℕ) → length t ≤ top → cut_up_to t s (unwrap_or end top) ≡ cut t s end
 unfolding cut
 cut_up_to-unwrap_or t s None top past =
-    let fits = length-plain t in
-    cut_up_to-walk t s top ∙ cut_from-past (pieces_of t) plain_style s top (length (plain t)) (omega arith) (omega arith)
-    ∙ sym (cut_up_to-walk t s (length (plain t)))
+    let n = length (plain t) in
+    let fits : n ≤ top = omega (arith, length-plain t) in
+    let style : style_at t top ≡ style_at t n = ap (after_marks plain_style) (up_to-past top (pieces_of t) fits ∙ sym (up_to-past n (pieces_of t) (omega arith))) in
+    cut_up_to-walk t s top ∙ ap₂ (λ v c. v ++ close c) (shown_from-past (pieces_of t) s top n fits (omega arith)) style
+    ∙ sym (cut_up_to-walk t s n)
 cut_up_to-unwrap_or t s (Some e) top past = refl
 
 -- Without ESC, a cut is a slice.
 
 pub cut_up_to-bare : (t : List ℕ) (s e : ℕ) → IsFalse (has_escape t) → cut_up_to t s e ≡ slice_range t s e
 cut_up_to-bare t s e none =
-    ap₂ (λ x ms. closed plain_style x s e (up_to e ms)) (plain-bare t none) (marks-bare t none)
+    ap₂ (λ x ms. show x s e (up_to e ms) ++ close (after_marks plain_style (up_to e ms))) (plain-bare t none) (marks-bare t none)
     ∙ append-nil (show t s e []) ∙ show-bare t s e

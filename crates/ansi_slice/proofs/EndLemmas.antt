@@ -10,11 +10,10 @@ use Rattle.std.specs.Str.{IsUtf8, IsCharBoundary}
 use Rattle.ansi_items.specs.declared.ansitok.Kind.{Kind}
 use Rattle.ansi_items.specs.Pieces.{Piece, Text, pieces_of}
 use Rattle.ansi_items.specs.Plain.{plain_of, plain}
-use Rattle.ansi_items.proofs.StepLemmas.{BeginsWithMark}
 use Rattle.ansi_slice.specs.Positions.{is_good_position}
 use Rattle.ansi_slice.specs.Offsets.{StandsIn, KeepsUpTo}
 use Rattle.ansi_slice.proofs.PositionLemmas.{boundary_is_good}
-use Rattle.ansi_slice.proofs.OffsetLemmas.{IsPassed, passed-begin, passed-text, passed-mark, keeps-after}
+use Rattle.ansi_slice.proofs.OffsetLemmas.{IsOverText, IsOverMark, IsPassed, passed-begin, passed-text, passed-mark, keeps-after}
 use Rattle.ansi_slice.proofs.SliceLemmas.{drop-append}
 
 -- a pattern that is no longer than the text at the front stands in that
@@ -97,38 +96,36 @@ pub tail-begin : (t : List ℕ) (n : ℕ) → IsUtf8 t → IsTailSoFar t n 0 0 0
 tail-begin t n utf8 = record { before = 0; from = passed-begin t; boundary = IsCharBoundary-start t utf8; way = passed-begin t; long = inl refl }
 
 -- over a run that is no shorter
-pub tail-run : {t : List ℕ} {n last len passed : ℕ} {w : List ℕ} {left ps : List Piece} (at : ℕ) → IsTailSoFar t n last len passed left → left ≡ Text w ∷ ps → take at t ≡ take passed t ++ w
-    → pieces_of (drop passed t) ≡ left → IsCharBoundary t passed → n ≤ length w → IsTailSoFar t n passed (0 + length w) at ps
-tail-run {t} {n} {last} {len} {passed} {w} {left} {ps} at so_far first more there boundary fits =
+pub tail-run : {t : List ℕ} {n last len passed at : ℕ} {w : List ℕ} {left ps : List Piece} → IsTailSoFar t n last len passed left → IsOverText t w passed at left ps → n ≤ length w
+    → IsTailSoFar t n passed (0 + length w) at ps
+tail-run {t} {n} {last} {len} {passed} {at} {w} {left} {ps} so_far over fits =
     let whole : length w ≡ 0 + length w = omega arith in
     subst (λ k. IsTailSoFar t n passed k at ps) whole (record {
       before = so_far.before + len;
-      from = subst (IsPassed t (so_far.before + len) passed) (sym there) so_far.way;
-      boundary = boundary;
-      way = passed-text at so_far.way first more;
+      from = subst (IsPassed t (so_far.before + len) passed) (sym over.there) so_far.way;
+      boundary = over.begins;
+      way = passed-text so_far.way over;
       long = inr fits;
     })
 
 -- over any other
-pub tail-text : {t : List ℕ} {n last len passed : ℕ} {w : List ℕ} {left ps : List Piece} (at : ℕ) → IsTailSoFar t n last len passed left → left ≡ Text w ∷ ps → take at t ≡ take passed t ++ w
-    → IsTailSoFar t n last (len + length w) at ps
-tail-text {t} {n} {last} {len} {passed} {w} {left} {ps} at so_far first more =
+pub tail-text : {t : List ℕ} {n last len passed at : ℕ} {w : List ℕ} {left ps : List Piece} → IsTailSoFar t n last len passed left → IsOverText t w passed at left ps → IsTailSoFar t n last (len + length w) at ps
+tail-text {t} {n} {last} {len} {passed} {at} {w} {left} {ps} so_far over =
     let sum : so_far.before + len + length w ≡ so_far.before + (len + length w) = omega arith in
     record {
       before = so_far.before;
       from = so_far.from;
       boundary = so_far.boundary;
-      way = subst (λ k. IsPassed t k at ps) sum (passed-text at so_far.way first more);
+      way = subst (λ k. IsPassed t k at ps) sum (passed-text so_far.way over);
       long = elim so_far.long [ inl all ↦ inl all | inr fits ↦ inr (omega (arith, fits)) ];
     }
 
-pub tail-mark : {t : List ℕ} {n last len passed : ℕ} {kind : Kind} {w : List ℕ} {left ps : List Piece} (at : ℕ) → IsTailSoFar t n last len passed left → BeginsWithMark kind w left ps
-    → take at t ≡ take passed t ++ w → IsTailSoFar t n last len at ps
-tail-mark at so_far begins more = record {
+pub tail-mark : {t : List ℕ} {n last len passed at : ℕ} {kind : Kind} {w : List ℕ} {left ps : List Piece} → IsTailSoFar t n last len passed left → IsOverMark kind t w passed at left ps → IsTailSoFar t n last len at ps
+tail-mark so_far over = record {
   before = so_far.before;
   from = so_far.from;
   boundary = so_far.boundary;
-  way = passed-mark at so_far.way begins more;
+  way = passed-mark so_far.way over;
   long = so_far.long;
 }
 

@@ -1,61 +1,17 @@
 -- The first match is the one that std's `find` gives.
-use Rattle.std.proofs.Common.{◌≡◌, ℕ, zero, suc, ◌+◌, ◌<◌, ◌≤◌, max, inl, inr, Bool, List, [], ◌∷◌, ◌++◌, take, drop, length, filter, nat_eq, nat_le, IsTrue, Option, Some, None, MatchOption, refl, sym, ◌∙◌, ap, subst, arith, slice_get}
+use Rattle.std.proofs.Common.{◌≡◌, ℕ, ◌+◌, ◌<◌, ◌≤◌, List, [], ◌∷◌, ◌++◌, take, drop, length, nat_eq, IsTrue, Option, Some, None, MatchOption, refl, sym, ◌∙◌, ap, subst, arith}
 use Rattle.std.specs.Prelude.{IfSome}
-use Rattle.std.proofs.lemmas.Bool.{and_parts, and_from, cond_both, cases_lt, leb-true, leb-false, true≢false}
+use Rattle.std.proofs.lemmas.Bool.{and_parts, and_from}
 use Rattle.std.proofs.lemmas.List.{take_at, drop-drop, length-append}
 use Rattle.std.proofs.lemmas.Str.{IsUtf8-drop, IsCharBoundary-start, IsCharBoundary-from_take, IsCharBoundary-from_rest}
-use Rattle.std.specs.List.{range_with_len, starts_with}
+use Rattle.std.specs.List.{starts_with}
 use Rattle.std.specs.Str.{IsUtf8, IsCharBoundary}
 use Rattle.std.specs.Str.Pattern.{FindsText, LacksTextAt, HasTextAt, MatchBeginsAt}
 use Rattle.memchr.specs.Find.{IsFirst}
 use Rattle.ansi_slice.specs.Positions.{is_char_boundary, is_good_range}
-use Rattle.ansi_slice.specs.Parts.{is_match, first_match_from}
 use Rattle.ansi_slice.proofs.PositionLemmas.{is_char_boundary-from, is_char_boundary-is, boundary_is_good, good_range_from, good_before}
+pub use Rattle.ansi_slice.proofs.MatchLemmas.{first_match_from-first}
 use Rattle.ansi_slice.proofs.MatchLemmas.{IsMatch, is_match-utf8, starts_with-from, starts_with-splits}
-
--- The first match is the least one.
-
--- none before k + 1 but k, which is passed over
-nearer : (f : ℕ → Bool) (from n k : ℕ) (r : Option ℕ) → (IsTrue (f k) → k < from) → IsFirst (λ i. IsTrue (f i)) (max from (k + 1)) (k + 1 + n) r → IsFirst (λ i. IsTrue (f i)) (max from k) (k + suc n) r
-nearer f from n k None skips first = λ i low high passes. elim (cases_lt k i) [
-  | inl past ↦ first i (omega (arith, low, past)) (omega (arith, high)) passes
-  | inr here ↦ (let same : i ≡ k = omega (arith, low, here) in let below : k < from = skips (subst (λ j. IsTrue (f j)) same passes) in omega (arith, low, same, below))
-]
-nearer f from n k (Some m) skips first =
-    let found = first.0 in
-    let low : max from (k + 1) ≤ m = found.low in
-    let high : m < k + 1 + n = found.high in (
-      record {
-        low = omega (arith, low);
-        high = omega (arith, high);
-        before = λ i from_here to passes. elim (cases_lt k i) [
-          | inl past ↦ found.before i (omega (arith, from_here, past)) to passes
-          | inr here ↦ (let same : i ≡ k = omega (arith, from_here, here) in let below : k < from = skips (subst (λ j. IsTrue (f j)) same passes) in omega (arith, from_here, same, below))
-        ];
-      },
-      first.1,
-    )
-
-kept_first : (f : ℕ → Bool) (from n k : ℕ) → IsFirst (λ i. IsTrue (f i)) (max from k) (k + n) (slice_get (filter (nat_le from) (filter f (range_with_len k n))) 0)
-kept_first f from zero k = λ i low high passes. omega (arith, low, high)
-kept_first f from (suc n) k =
-    let P : Option ℕ → Type 0 = λ r. IsFirst (λ i. IsTrue (f i)) (max from k) (k + suc n) r in
-    let later = filter f (range_with_len (k + 1) n) in
-    cond_both (f k) (k ∷ later) later (λ ks. P (slice_get (filter (nat_le from) ks) 0))
-    (λ passes.
-    cond_both (nat_le from k) (k ∷ filter (nat_le from) later) (filter (nat_le from) later) (λ ks. P (slice_get ks 0))
-    (λ below.
-    let at : from ≤ k = leb-true from k below in
-    (record { low = omega (arith, at); high = omega arith; before = λ i low high _. omega (arith, low, high) }, passes))
-    (λ above. nearer f from n k _ (λ _. leb-false from k above) (kept_first f from n (k + 1))))
-    (λ fails. nearer f from n k _ (λ passes. absurd (true≢false (sym passes ∙ fails))) (kept_first f from n (k + 1)))
-
-pub first_match_from-first : (x p : List ℕ) (from : ℕ) → IsFirst (IsMatch x p) from (length x + 1) (first_match_from x p from)
-first_match_from-first x p from =
-    let r = first_match_from x p from in
-    let same : max from 0 ≡ from = omega arith in
-    let count : 0 + (length x + 1) ≡ length x + 1 = omega arith in
-    subst (λ k. IsFirst (IsMatch x p) k (length x + 1) r) same (subst (λ n. IsFirst (IsMatch x p) (max from 0) n r) count (kept_first (is_match x p) from (length x + 1) 0))
 
 -- A match, in std's words.
 

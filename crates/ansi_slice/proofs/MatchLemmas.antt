@@ -1,7 +1,7 @@
 -- Where a pattern stands in a text, and where it stands first.
 use Rattle.std.proofs.Common.{◌≡◌, ◌≢◌, ℕ, zero, suc, ◌+◌, ◌-◌, ◌<◌, ◌≤◌, max, inl, inr, Bool, true, false, ◌&&◌, ◌||◌, List, [], ◌∷◌, ◌++◌, take, drop, length, filter, nat_eq, nat_le, IsTrue, IsFalse, Option, Some, None, refl, sym, ◌∙◌, ap, ap₂, subst, arith, slice_get, slice_index}
 use Rattle.std.proofs.lemmas.Bool.{and_parts, and_from, cond_both, cases_lt, cases_eq, le-leb, leb-true, leb-false, eq-eqb, true≢false}
-use Rattle.std.proofs.lemmas.List.{take-append-drop, take_at, drop-drop, append-nil, take-append-le, get_or_append_left, get_or-drop, length-append, length-drop, append_assoc, drop-append-le}
+use Rattle.std.proofs.lemmas.List.{take-append-drop, take_at, drop-drop, take-append-le, get_or_append_left, get_or-drop, length-append, length-drop, drop-append-le}
 use Rattle.std.proofs.lemmas.Slice.Eq.{bytes_eq-Decides}
 use Rattle.std.proofs.lemmas.Str.{IsCharBoundary-start, IsCharBoundary-from_rest}
 use Rattle.std.specs.Cmp.{both_ways}
@@ -73,43 +73,66 @@ is_match-after x p y k j within is past =
 abbrev pub IsMatch : List ℕ → List ℕ → ℕ → Type 0
 IsMatch x p i = IsTrue (is_match x p i)
 
--- a place that is no match, or stands before `from`, is passed over
-further : (f : ℕ → Bool) (from n k : ℕ) (r : Option ℕ) → (IsTrue (f k) → k < from) → IsFirst (λ i. IsTrue (f i)) (max from k) (k + suc n) r → IsFirst (λ i. IsTrue (f i)) (max from (k + 1)) (k + 1 + n) r
-further f from n k None skips first = λ i low high. first i (omega (arith, low)) (omega (arith, high))
-further f from n k (Some m) skips first =
+-- none before k + 1 but k, which is passed over
+nearer : (f : ℕ → Bool) (from n k : ℕ) (r : Option ℕ) → (IsTrue (f k) → k < from) → IsFirst (λ i. IsTrue (f i)) (max from (k + 1)) (k + 1 + n) r → IsFirst (λ i. IsTrue (f i)) (max from k) (k + suc n) r
+nearer f from n k None skips first = λ i low high passes. elim (cases_lt k i) [
+  | inl past ↦ first i (omega (arith, low, past)) (omega (arith, high)) passes
+  | inr here ↦ (let same : i ≡ k = omega (arith, low, here) in let below : k < from = skips (subst (λ j. IsTrue (f j)) same passes) in omega (arith, low, same, below))
+]
+nearer f from n k (Some m) skips first =
     let found = first.0 in
-    let low : max from k ≤ m = found.low in
-    let high : m < k + suc n = found.high in
-    let past : k ≢ m = λ same. (let below : k < from = skips (subst (λ i. IsTrue (f i)) (sym same) first.1) in omega (arith, below, low, same)) in
-    (record { low = omega (arith, low, past); high = omega (arith, high); before = λ i from_here to. found.before i (omega (arith, from_here)) to }, first.1)
+    let low : max from (k + 1) ≤ m = found.low in
+    let high : m < k + 1 + n = found.high in (
+      record {
+        low = omega (arith, low);
+        high = omega (arith, high);
+        before = λ i from_here to passes. elim (cases_lt k i) [
+          | inl past ↦ found.before i (omega (arith, from_here, past)) to passes
+          | inr here ↦ (let same : i ≡ k = omega (arith, from_here, here) in let below : k < from = skips (subst (λ j. IsTrue (f j)) same passes) in omega (arith, from_here, same, below))
+        ];
+      },
+      first.1,
+    )
 
--- of n places from k on, the first that isn't before `from` and passes
-first_kept : (f : ℕ → Bool) (from n k : ℕ) (r : Option ℕ) → IsFirst (λ i. IsTrue (f i)) (max from k) (k + n) r → r ≡ slice_get (filter (nat_le from) (filter f (range_with_len k n))) 0
-first_kept f from zero k None first = refl
-first_kept f from zero k (Some m) first = (let found = first.0 in absurd (let low = found.low in let high = found.high in omega (arith, low, high)))
-first_kept f from (suc n) k r first =
+kept_first : (f : ℕ → Bool) (from n k : ℕ) → IsFirst (λ i. IsTrue (f i)) (max from k) (k + n) (slice_get (filter (nat_le from) (filter f (range_with_len k n))) 0)
+kept_first f from zero k = λ i low high passes. omega (arith, low, high)
+kept_first f from (suc n) k =
+    let P : Option ℕ → Type 0 = λ r. IsFirst (λ i. IsTrue (f i)) (max from k) (k + suc n) r in
     let later = filter f (range_with_len (k + 1) n) in
-    cond_both (f k) (k ∷ later) later (λ ks. r ≡ slice_get (filter (nat_le from) ks) 0)
+    cond_both (f k) (k ∷ later) later (λ ks. P (slice_get (filter (nat_le from) ks) 0))
     (λ passes.
-    cond_both (nat_le from k) (k ∷ filter (nat_le from) later) (filter (nat_le from) later) (λ ks. r ≡ slice_get ks 0)
-    (λ below. here r passes (leb-true from k below) first)
-    (λ above. first_kept f from n (k + 1) r (further f from n k r (λ _. leb-false from k above) first)))
-    (λ fails. first_kept f from n (k + 1) r (further f from n k r (λ passes. absurd (true≢false (sym passes ∙ fails))) first))
-  where
-    here : (r : Option ℕ) → IsTrue (f k) → from ≤ k → IsFirst (λ i. IsTrue (f i)) (max from k) (k + suc n) r → r ≡ Some k
-    here None passes below first = absurd (first k (omega arith) (omega arith) passes)
-    here (Some m) passes below first =
-        let found = first.0 in
-        elim (cases_eq k m) [
-          | inl same ↦ ap (λ i. Some i) (sym same)
-          | inr other ↦ (let low = found.low in absurd (found.before k (omega arith) (omega (arith, low, other)) passes))
-        ]
+    cond_both (nat_le from k) (k ∷ filter (nat_le from) later) (filter (nat_le from) later) (λ ks. P (slice_get ks 0))
+    (λ below.
+    let at : from ≤ k = leb-true from k below in
+    (record { low = omega (arith, at); high = omega arith; before = λ i low high _. omega (arith, low, high) }, passes))
+    (λ above. nearer f from n k _ (λ _. leb-false from k above) (kept_first f from n (k + 1))))
+    (λ fails. nearer f from n k _ (λ passes. absurd (true≢false (sym passes ∙ fails))) (kept_first f from n (k + 1)))
+
+pub first_match_from-first : (x p : List ℕ) (from : ℕ) → IsFirst (IsMatch x p) from (length x + 1) (first_match_from x p from)
+first_match_from-first x p from =
+    let r = first_match_from x p from in
+    let same : max from 0 ≡ from = omega arith in
+    let count : 0 + (length x + 1) ≡ length x + 1 = omega arith in
+    subst (λ k. IsFirst (IsMatch x p) k (length x + 1) r) same (subst (λ n. IsFirst (IsMatch x p) (max from 0) n r) count (kept_first (is_match x p) from (length x + 1) 0))
+
+-- there is one first place at most
+first-unique : (P : ℕ → Type 0) (i j : ℕ) (r s : Option ℕ) → IsFirst P i j r → IsFirst P i j s → r ≡ s
+first-unique P i j None None none also = refl
+first-unique P i j None (Some m) none first = (let found = first.0 in absurd (none m found.low found.high first.1))
+first-unique P i j (Some k) None first none = (let found = first.0 in absurd (none k found.low found.high first.1))
+first-unique P i j (Some k) (Some m) first other =
+    let here = first.0 in
+    let there = other.0 in
+    elim (cases_eq k m) [
+      | inl same ↦ ap (λ n. Some n) same
+      | inr apart ↦ elim (cases_lt k m) [
+        | inl before ↦ absurd (there.before k here.low before first.1)
+        | inr past ↦ absurd (here.before m there.low (omega (arith, past, apart)) other.1)
+      ]
+    ]
 
 pub first_match_from-is : (x p : List ℕ) (from : ℕ) (r : Option ℕ) → IsFirst (IsMatch x p) from (length x + 1) r → r ≡ first_match_from x p from
-first_match_from-is x p from r first =
-    let same : from ≡ max from 0 = omega arith in
-    let count : length x + 1 ≡ 0 + (length x + 1) = omega arith in
-    first_kept (is_match x p) from (length x + 1) 0 r (subst (λ n. IsFirst (IsMatch x p) (max from 0) n r) count (subst (λ k. IsFirst (IsMatch x p) k (length x + 1) r) same first))
+first_match_from-is x p from r first = first-unique (IsMatch x p) from (length x + 1) r _ first (first_match_from-first x p from)
 
 -- Past a place before which there is no match, and from which the text x goes on as v.
 
@@ -158,33 +181,25 @@ none_at_end x p from place end passed before = first_match_from-is x p from None
         let stands : drop k x ≡ (b ∷ q) ++ drop (length (b ∷ q)) (drop k x) = starts_with-splits (drop k x) (b ∷ q) (and_parts (is_char_boundary x k) (starts_with nat_eq (drop k x) (b ∷ q)) found).1 in
         omega (arith, here, end, ap length stands, length-append (b ∷ q) (drop (length (b ∷ q)) (drop k x)), length-drop k x)
 
--- In a run w before a text y, a match that ends in the run is one that a search of the run's bytes finds.
+-- A text from a position on, searched for what isn't empty: a match is one that a search of the bytes finds.
 
-pub match_from_occurrence : (w y p : List ℕ) (from s : ℕ) → IsUtf8 p → 0 < length p → from ≤ length w → OccursAt (drop from w) p s → IsMatch (w ++ y) p (from + s)
-match_from_occurrence w y p from s utf8 some inside occurs =
-    let fits : s + length p ≤ length (drop from w) = occurs.fits in
-    let split : drop s (drop from w) ≡ p ++ drop (s + length p) (drop from w) = OccursAt-split (drop from w) p s occurs in
-    let part : drop (from + s) (w ++ y) ≡ drop (from + s) w ++ y = drop-append-le (from + s) w y (omega (arith, fits, length-drop from w, inside)) in
-    let stands : drop (from + s) (w ++ y) ≡ p ++ (drop (s + length p) (drop from w) ++ y)
-    = part ∙ ap (λ v. v ++ y) (sym (drop-drop s from w) ∙ split) ∙ append_assoc p (drop (s + length p) (drop from w)) y in
-    is_match-utf8 (w ++ y) p (from + s) utf8 some ∙ starts_with-from (drop (from + s) (w ++ y)) p (drop (s + length p) (drop from w) ++ y) stands
+pub match-from : (x p : List ℕ) (from i : ℕ) → IsUtf8 p → 0 < length p → from ≤ i → is_match x p i ≡ starts_with nat_eq (drop (i - from) (drop from x)) p
+match-from x p from i utf8 some low =
+    let sum : from + (i - from) ≡ i = omega (arith, low) in
+    is_match-utf8 x p i utf8 some ∙ ap (λ v. starts_with nat_eq v p) (ap (λ n. drop n x) (sym sum) ∙ sym (drop-drop (i - from) from x))
 
-pub occurrence_from_match : (w y p : List ℕ) (from s : ℕ) → from + s + length p ≤ length w → IsMatch (w ++ y) p (from + s) → OccursAt (drop from w) p s
-occurrence_from_match w y p from s inside found =
-    let x = drop s (drop from w) in
-    let left : length x ≡ length w - from - s = length-drop s (drop from w) ∙ ap (λ n. n - s) (length-drop from w) in
-    let same : drop (from + s) (w ++ y) ≡ x ++ y = drop-append-le (from + s) w y (omega (arith, inside)) ∙ ap (λ v. v ++ y) (sym (drop-drop s from w)) in
-    let part : take (length p) (x ++ y) ≡ take (length p) x = take-append-le (length p) x y (omega (arith, left, inside)) in
-    let is : p ≡ take (length p) (x ++ y) = (bytes_eq-Decides p (take (length p) (x ++ y))).0 (ap (λ v. starts_with nat_eq v p) (sym same) ∙ (and_parts (is_char_boundary (w ++ y) (from + s)) (starts_with nat_eq (drop (from + s) (w ++ y)) p) found).1) in
-    OccursAt-from_part (drop from w) p s (let len : length (drop from w) ≡ length w - from = length-drop from w in omega (arith, inside, len)) (sym (is ∙ part))
+starts_with-occurs : (x p : List ℕ) (s : ℕ) → 0 < length p → starts_with nat_eq (drop s x) p ≡ true → OccursAt x p s
+starts_with-occurs x p s some starts =
+    let splits : drop s x ≡ p ++ drop (length p) (drop s x) = starts_with-splits (drop s x) p starts in
+    let fits : s + length p ≤ length x = omega (arith, some, ap length splits, length-append p (drop (length p) (drop s x)), length-drop s x) in
+    OccursAt-from_part x p s fits (sym ((bytes_eq-Decides p (take (length p) (drop s x))).0 starts))
 
 -- The first match in a run.
 
 -- a match ends in the text
 pub match_fits : (x p : List ℕ) (i : ℕ) → 0 < length p → IsMatch x p i → i + length p ≤ length x
 match_fits x p i some found =
-    let splits : drop i x ≡ p ++ drop (length p) (drop i x) = starts_with-splits (drop i x) p (and_parts (is_char_boundary x i) (starts_with nat_eq (drop i x) p) found).1 in
-    omega (arith, some, ap length splits, length-append p (drop (length p) (drop i x)), length-drop i x)
+    (starts_with-occurs x p i some (and_parts (is_char_boundary x i) (starts_with nat_eq (drop i x) p) found).1).fits
 
 pub no_match-short : (x p : List ℕ) (from n : ℕ) → 0 < length p → length x < from + length p → Nowhere (IsMatch x p) from n
 no_match-short x p from n some short k low high found = omega (arith, low, short, match_fits x p k some found)
@@ -193,33 +208,29 @@ no_match-short x p from n some short k low high found = omega (arith, low, short
 pub none-longer : (x p : List ℕ) (from : ℕ) → length x < length p → None ≡ first_match_from x p from
 none-longer x p from longer = first_match_from-is x p from None (no_match-short x p from (length x + 1) (omega (arith, longer)) (omega (arith, longer)))
 
-match_is : (w p : List ℕ) (from s : ℕ) → IsUtf8 p → 0 < length p → from ≤ length w → OccursAt (drop from w) p s → IsMatch w p (from + s)
-match_is w p from s utf8 some inside occurs = subst (λ v. IsMatch v p (from + s)) (append-nil w) (match_from_occurrence w [] p from s utf8 some inside occurs)
-
-no_match : (w p : List ℕ) (from k : ℕ) → 0 < length p → from ≤ k → ¬ (OccursAt (drop from w) p (k - from)) → ¬ (IsMatch w p k)
-no_match w p from k some low none found =
-    let sum : k ≡ from + (k - from) = omega (arith, low) in
-    let fits : k + length p ≤ length w = match_fits w p k some found in
-    none (occurrence_from_match w [] p from (k - from) (omega (arith, low, fits)) (subst (IsMatch (w ++ []) p) sum (subst (λ v. IsMatch v p k) (sym (append-nil w)) found)))
+no_match : (w p : List ℕ) (from k : ℕ) → IsUtf8 p → 0 < length p → from ≤ k → ¬ (OccursAt (drop from w) p (k - from)) → ¬ (IsMatch w p k)
+no_match w p from k utf8 some low none found = none (starts_with-occurs (drop from w) p (k - from) some (sym (match-from w p from k utf8 some low) ∙ found))
 
 -- a search of the run's bytes from `from` on finds it
 pub found_inside : (w p : List ℕ) (from s : ℕ) → IsUtf8 p → 0 < length p → from ≤ length w → FindsNeedle (drop from w) p 0 (Some s) → IsFirst (IsMatch w p) from (length w) (Some (from + s))
 found_inside w p from s utf8 some inside finds =
     let found = finds.0 in
     let fits : s + length p ≤ length (drop from w) = finds.1.fits in
+    let same : from + s - from ≡ s = omega arith in
     let len : length (drop from w) ≡ length w - from = length-drop from w in (
       record {
         low = omega arith;
         high = omega (arith, fits, len, some);
-        before = λ k low high. no_match w p from k some low (found.before (k - from) (omega arith) (omega (arith, low, high)));
+        before = λ k low high. no_match w p from k utf8 some low (found.before (k - from) (omega arith) (omega (arith, low, high)));
       },
-      match_is w p from s utf8 some inside finds.1,
+      match-from w p from (from + s) utf8 some (omega arith)
+          ∙ ap (λ n. starts_with nat_eq (drop n (drop from w)) p) same ∙ starts_with-from (drop s (drop from w)) p _ (OccursAt-split (drop from w) p s finds.1),
     )
 
-pub none_inside : (w p : List ℕ) (from : ℕ) → 0 < length p → from ≤ length w → FindsNeedle (drop from w) p 0 None → Nowhere (IsMatch w p) from (length w)
-none_inside w p from some inside finds k low high =
+pub none_inside : (w p : List ℕ) (from : ℕ) → IsUtf8 p → 0 < length p → from ≤ length w → FindsNeedle (drop from w) p 0 None → Nowhere (IsMatch w p) from (length w)
+none_inside w p from utf8 some inside finds k low high =
     let len : length (drop from w) ≡ length w - from = length-drop from w in
-    no_match w p from k some low (finds (k - from) (omega arith) (omega (arith, len, low, high)))
+    no_match w p from k utf8 some low (finds (k - from) (omega arith) (omega (arith, len, low, high)))
 
 -- Where a run goes on.
 
@@ -269,11 +280,3 @@ no_escape-found (b ∷ t) none = ap₂ (λ u v. u || v) (not_true (b == escape) 
     not_true : (c : Bool) → ¬ (c ≡ true) → c ≡ false
     not_true true not = absurd (not refl)
     not_true false not = refl
-
--- A text from a position on, searched for what isn't empty.
-
--- in the words of the text from there
-pub match-from : (x p : List ℕ) (from i : ℕ) → IsUtf8 p → 0 < length p → from ≤ i → is_match x p i ≡ starts_with nat_eq (drop (i - from) (drop from x)) p
-match-from x p from i utf8 some low =
-    let sum : from + (i - from) ≡ i = omega (arith, low) in
-    is_match-utf8 x p i utf8 some ∙ ap (λ v. starts_with nat_eq v p) (ap (λ n. drop n x) (sym sum) ∙ sym (drop-drop (i - from) from x))

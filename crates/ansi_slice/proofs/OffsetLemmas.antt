@@ -1,22 +1,23 @@
 -- Where the plain bytes of a text stand in it: what stands before them and after them, and how far a walk there has come.
-use Rattle.std.proofs.Common.{◌≡◌, ◌≢◌, ℕ, zero, suc, ◌+◌, ◌-◌, ◌<◌, ◌≤◌, inl, inr, Bool, true, ◌↔◌, List, [], ◌∷◌, ◌++◌, length, take, drop, take-add, refl, sym, ◌∙◌, ap, ap₂, subst, arith, IsTrue, if◌then◌else◌, nat_lt, length-append, append_assoc, append-nil, ◌&&◌, Some}
+use Rattle.std.proofs.Common.{◌≡◌, ◌≢◌, ℕ, zero, suc, ◌+◌, ◌-◌, ◌<◌, ◌≤◌, inl, inr, Bool, true, ◌↔◌, List, [], ◌∷◌, ◌++◌, length, take, drop, take-add, refl, sym, ◌∙◌, ap, ap₂, subst, arith, IsTrue, if◌then◌else◌, nat_lt, length-append, append_assoc, append-nil, not, false, ◌&&◌, Some}
 use Rattle.std.proofs.Math.Seq.{drop-nil, drop-append_seam}
-use Rattle.std.proofs.lemmas.Bool.{cases_lt, le-leb, lt-ltb, le-ltb, and_parts}
+use Rattle.std.proofs.lemmas.Bool.{cases_lt, le-leb, lt-ltb, le-ltb}
 use Rattle.std.proofs.lemmas.Bool.Decides.{nat_tests}
-use Rattle.std.proofs.lemmas.List.{take_all, take-append-le, drop-append-le, take-append-drop, length-drop, drop-drop, drop_all}
-use Rattle.std.proofs.lemmas.List.Folds.{list_all-append}
-use Rattle.std.specs.List.{list_all, slice_range}
+use Rattle.std.proofs.lemmas.List.{take_all, take-append-le, drop-append-le, length-drop, drop-drop, drop_all}
+use Rattle.std.specs.List.{slice_range}
 use Rattle.std.proofs.lemmas.Str.{IsCharBoundary-from_rest}
-use Rattle.std.specs.Cmp.{both_ways}
 use Rattle.std.specs.Str.{IsCharBoundary}
 use Rattle.ansi_items.specs.declared.ansitok.Kind.{Kind}
+use Rattle.ansi_items.specs.declared.ansitok.Kind.TheVariants.{Text as TextKind}
 use Rattle.ansi_items.specs.Bytes.{escape, is_plain_byte}
 use Rattle.ansi_items.specs.Pieces.{Piece, Text, Sequence, LoneEscape, spelling, ArePieces, pieces_of}
 use Rattle.ansi_items.specs.Plain.{plain_of, plain}
 use Rattle.ansi_items.proofs.PieceLemmas.{pieces_are, pieces_of-unique}
 use Rattle.ansi_items.proofs.PlainLemmas.{length-plain}
 use Rattle.ansi_items.proofs.JoinLemmas.{spelled, spelled-pieces_of}
-use Rattle.ansi_items.proofs.StepLemmas.{is_mark, BeginsWithMark, plain_of-mark}
+use Rattle.ansi_items.specs.declared.ansitok.Item.{Item}
+use Rattle.ansi_items.specs.Scans.{Scan, Gives, pieces_left}
+use Rattle.ansi_items.proofs.StepLemmas.{is_mark, BeginsWithMark, gives_text, gives_mark, plain_of-mark}
 use Rattle.ansi_style.specs.declared.state.rendition.Rendition.{Rendition}
 use Rattle.ansi_style.specs.Rendition.{plain_style}
 use Rattle.ansi_style.specs.Sgr.{apply}
@@ -27,10 +28,10 @@ use Rattle.ansi_slice.specs.Positions.{is_good_position, is_good_range}
 use Rattle.ansi_slice.specs.Cut.{cut_up_to}
 use Rattle.ansi_slice.specs.Kept.{kept}
 use Rattle.ansi_slice.specs.Offsets.{bytes_before, sequences_up_to, offset_of, StandsIn, KeepsUpTo}
-use Rattle.ansi_slice.proofs.SliceLemmas.{take-append, drop-append, slice_range-past, slice_range-from_past}
-use Rattle.ansi_slice.proofs.PositionLemmas.{is_good_position-append, is_good_position-after, is_good_position-past, is_good_position-drop, good_is_boundary, boundary_is_good}
-use Rattle.ansi_slice.proofs.CutLemmas.{cut_from, cut_from-last, cut_from-text, cut_up_to-walk}
-use Rattle.ansi_slice.proofs.KeptWalkLemmas.{kept_from, kept_from-mark, kept-walk, kept-all}
+use Rattle.ansi_slice.proofs.SliceLemmas.{length-slice_range, take-append, drop-append, list_all-parts, slice_range-past, slice_range-from_past}
+use Rattle.ansi_slice.proofs.PositionLemmas.{is_good_position-append, is_good_position-after, is_good_position-past, is_good_position-drop, good_is_boundary, boundary_test}
+use Rattle.ansi_slice.proofs.CutLemmas.{shown_from, shown_from-text, cut_up_to-walk}
+use Rattle.ansi_slice.proofs.KeptWalkLemmas.{shown_from-mark, kept-walk, kept-all}
 
 pub bytes_before-last : (n : ℕ) (w : List ℕ) (ps : List Piece) → n < length w → bytes_before n (Text w ∷ ps) ≡ n
 bytes_before-last n w ps last = ap (λ b. if b then n else length w + bytes_before (n - length w) ps) (lt-ltb n (length w) last)
@@ -66,6 +67,9 @@ take-after w rest n =
     let left : length w + n - length w ≡ n = omega arith in
     take-append (length w + n) w rest ∙ ap₂ (λ u k. u ++ take k rest) (take_all (length w + n) w (omega arith)) left
 
+take-more : (w rest more : List ℕ) (n : ℕ) → take (length w + n) (w ++ rest) ++ more ≡ w ++ (take n rest ++ more)
+take-more w rest more n = ap (λ u. u ++ more) (take-after w rest n) ∙ append_assoc w (take n rest) more
+
 pub drop-after : (w rest : List ℕ) (n : ℕ) → drop (length w + n) (w ++ rest) ≡ drop n rest
 drop-after w rest n =
     let left : length w + n - length w ≡ n = omega arith in
@@ -79,8 +83,7 @@ drop_filled (suc n) (b ∷ w) last = drop_filled n w (omega arith)
 -- from a place inside a text on
 pub inside_are : (n : ℕ) (t w : List ℕ) (ps : List Piece) → ArePieces t (Text w ∷ ps) → n < length w → ArePieces (drop n t) (Text (drop n w) ∷ ps)
 inside_are n t w ps are last =
-    let parts : (list_all is_plain_byte (take n w) ≡ true) × (list_all is_plain_byte (drop n w) ≡ true) = and_parts _ _ (sym (list_all-append is_plain_byte (take n w) (drop n w)) ∙ ap (list_all is_plain_byte) (take-append-drop n w) ∙ are.2.1) in
-    (are.0, ap (drop n) are.1 ∙ drop-append-le n w are.0 (omega arith), (drop_filled n w last, parts.1, are.2.2), are.3)
+    (are.0, ap (drop n) are.1 ∙ drop-append-le n w are.0 (omega arith), (drop_filled n w last, (list_all-parts is_plain_byte n w are.2.1).1, are.2.2), are.3)
 
 pub after_more : (t : List ℕ) (p : Piece) (rest : List ℕ) (n : ℕ) (qs : List Piece) → t ≡ spelling p ++ rest → ArePieces (drop n rest) qs → ArePieces (drop (length (spelling p) + n) t) qs
 after_more t p rest n qs spelled are = subst (λ u. ArePieces u qs) (sym (ap (drop (length (spelling p) + n)) spelled ∙ drop-after (spelling p) rest n)) are
@@ -115,9 +118,9 @@ plain-after t n = ap plain_of (pieces_of-after t n) ∙ plain_of-after n (pieces
 
 -- A cut, and a kept text, begin with the sequences up to their start, and go on as one stretch.
 
-cut_from-front : (ps : List Piece) (c : Rendition) (s e : ℕ) → s ≤ e → cut_from c s e ps ≡ sequences_up_to s ps ++ cut_from (style_by_marks c ps s) 0 (e - s) (after_of s ps)
-cut_from-front [] c s e ordered = refl
-cut_from-front (Text w ∷ ps) c s e ordered = elim (cases_lt s (length w)) [
+shown_from-front : (all : Bool) (ps : List Piece) (s e : ℕ) → s ≤ e → shown_from all s e ps ≡ sequences_up_to s ps ++ shown_from all 0 (e - s) (after_of s ps)
+shown_from-front all [] s e ordered = refl
+shown_from-front all (Text w ∷ ps) s e ordered = elim (cases_lt s (length w)) [
   | inl last ↦ (
       let v = drop s w in
       let left : length v ≡ length w - s = length-drop s w in
@@ -125,68 +128,88 @@ cut_from-front (Text w ∷ ps) c s e ordered = elim (cases_lt s (length w)) [
       let count : e - s ≡ e - s - 0 = omega arith in
       let from : s - length w ≡ 0 - length v = omega arith in
       let to : e - length w ≡ e - s - length v = omega arith in
-      ap (λ n. take n v ++ (if nat_lt e (length w) then close c else cut_from c (s - length w) (e - length w) ps)) count
-      ∙ ap (λ b. slice_range v 0 (e - s) ++ (if b then close c else cut_from c (s - length w) (e - length w) ps)) test
-      ∙ ap₂ (λ i j. slice_range v 0 (e - s) ++ (if nat_lt (e - s) (length v) then close c else cut_from c i j ps)) from to
-      ∙ sym (ap₂ (λ u r. u ++ cut_from r 0 (e - s) (after_of s (Text w ∷ ps))) (sequences_up_to-last s w ps last) (style_by_marks-before c w ps s last)
-      ∙ ap (cut_from c 0 (e - s)) (after_of-last s w ps last)))
+      ap₂ (λ n b. take n v ++ (if not all && b then [] else shown_from all (s - length w) (e - length w) ps)) count test
+      ∙ ap₂ (λ i j. slice_range v 0 (e - s) ++ (if not all && nat_lt (e - s) (length v) then [] else shown_from all i j ps)) from to
+      ∙ sym (ap₂ (λ u qs. u ++ shown_from all 0 (e - s) qs) (sequences_up_to-last s w ps last) (after_of-last s w ps last)))
   | inr within ↦ (
       let n = length w in
       let count : e - n - (s - n) ≡ e - s = omega arith in
-      cut_from-text c s e w ps (omega arith)
-      ∙ ap (λ u. u ++ cut_from c (s - n) (e - n) ps) (slice_range-from_past w s e within)
-      ∙ cut_from-front ps c (s - n) (e - n) (omega arith)
-      ∙ ap (λ k. sequences_up_to (s - n) ps ++ cut_from (style_by_marks c ps (s - n)) 0 k (after_of (s - n) ps)) count
-      ∙ sym (ap₂ (λ u r. u ++ cut_from r 0 (e - s) (after_of s (Text w ∷ ps))) (sequences_up_to-text s w ps within) (style-text c s w ps within)
-      ∙ ap (λ qs. sequences_up_to (s - n) ps ++ cut_from (style_by_marks c ps (s - n)) 0 (e - s) qs) (after_of-text s w ps within)))
+      shown_from-text all s e w ps (omega arith)
+      ∙ ap (λ u. u ++ shown_from all (s - n) (e - n) ps) (slice_range-from_past w s e within)
+      ∙ shown_from-front all ps (s - n) (e - n) (omega arith)
+      ∙ ap (λ k. sequences_up_to (s - n) ps ++ shown_from all 0 k (after_of (s - n) ps)) count
+      ∙ sym (ap₂ (λ u qs. u ++ shown_from all 0 (e - s) qs) (sequences_up_to-text s w ps within) (after_of-text s w ps within)))
 ]
-cut_from-front (Sequence w ∷ ps) c s e ordered =
-    ap (λ v. w ++ v) (cut_from-front ps (apply c w) s e ordered)
-    ∙ sym (append_assoc w (sequences_up_to s ps) (cut_from (style_by_marks (apply c w) ps s) 0 (e - s) (after_of s ps)))
-    ∙ ap (λ r. (w ++ sequences_up_to s ps) ++ cut_from r 0 (e - s) (after_of s ps)) (sym (style_by_marks-sequence c w ps s))
-cut_from-front (LoneEscape ∷ ps) c s e ordered =
-    ap (λ v. escape ∷ v) (cut_from-front ps c s e ordered)
-    ∙ ap (λ r. escape ∷ (sequences_up_to s ps ++ cut_from r 0 (e - s) (after_of s ps))) (sym (style_by_marks-lone c ps s))
+shown_from-front all (Sequence w ∷ ps) s e ordered =
+    ap (λ v. w ++ v) (shown_from-front all ps s e ordered) ∙ sym (append_assoc w (sequences_up_to s ps) (shown_from all 0 (e - s) (after_of s ps)))
+shown_from-front all (LoneEscape ∷ ps) s e ordered = ap (λ v. escape ∷ v) (shown_from-front all ps s e ordered)
 
-cut_from-stretch : (ps : List Piece) (c : Rendition) (e : ℕ) → cut_from c 0 e ps ≡ take (bytes_before e ps) (spelled ps) ++ close (style_by_marks c ps e)
-cut_from-stretch [] c e = refl
-cut_from-stretch (Text w ∷ ps) c e = elim (cases_lt e (length w)) [
+-- the marks past the end, where all are shown
+abbrev later : Bool → ℕ → List Piece → List ℕ
+later all e ps = if all then shown_from true 0 0 (after_of e ps) else []
+
+shown_from-stretch : (all : Bool) (ps : List Piece) (e : ℕ) → shown_from all 0 e ps ≡ take (bytes_before e ps) (spelled ps) ++ later all e ps
+shown_from-stretch true [] e = refl
+shown_from-stretch false [] e = refl
+shown_from-stretch all (Text w ∷ ps) e = elim (cases_lt e (length w)) [
   | inl last ↦ (
       let count : e - 0 ≡ e = omega arith in
-      cut_from-last c 0 e w ps last
-      ∙ ap (λ n. take n w ++ close c) count
-      ∙ sym (ap₂ (λ n r. take n (w ++ spelled ps) ++ close r) (bytes_before-last e w ps last) (style_by_marks-before c w ps e last)
-      ∙ ap (λ u. u ++ close c) (take-append-le e w (spelled ps) (omega arith))))
+      ap₂ (λ n b. take n w ++ (if not all && b then [] else shown_from all (0 - length w) (e - length w) ps)) count (lt-ltb e (length w) last)
+      ∙ ap (λ v. take e w ++ v) (past all last)
+      ∙ sym (ap₂ (λ n qs. take n (w ++ spelled ps) ++ (if all then shown_from true 0 0 qs else [])) (bytes_before-last e w ps last) (after_of-last e w ps last)
+      ∙ ap (λ u. u ++ (if all then shown_from true 0 0 (Text (drop e w) ∷ ps) else [])) (take-append-le e w (spelled ps) (omega arith))))
   | inr within ↦ (
       let n = length w in
       let front : 0 - n ≡ 0 = omega arith in
-      cut_from-text c 0 e w ps within
-      ∙ ap₂ (λ u k. u ++ cut_from c k (e - n) ps) (slice_range-past w 0 e within) front
-      ∙ ap (λ v. w ++ v) (cut_from-stretch ps c (e - n))
-      ∙ sym (ap₂ (λ k r. take k (w ++ spelled ps) ++ close r) (bytes_before-text e w ps within) (style-text c e w ps within)
-      ∙ ap (λ u. u ++ close (style_by_marks c ps (e - n))) (take-after w (spelled ps) (bytes_before (e - n) ps))
-      ∙ append_assoc w (take (bytes_before (e - n) ps) (spelled ps)) (close (style_by_marks c ps (e - n)))))
+      shown_from-text all 0 e w ps within
+      ∙ ap₂ (λ u k. u ++ shown_from all k (e - n) ps) (slice_range-past w 0 e within) front
+      ∙ ap (λ v. w ++ v) (shown_from-stretch all ps (e - n))
+      ∙ sym (ap₂ (λ k qs. take k (w ++ spelled ps) ++ (if all then shown_from true 0 0 qs else [])) (bytes_before-text e w ps within) (after_of-text e w ps within)
+      ∙ take-more w (spelled ps) (later all (e - n) ps) (bytes_before (e - n) ps)))
 ]
-cut_from-stretch (Sequence w ∷ ps) c e =
-    ap (λ v. w ++ v) (cut_from-stretch ps (apply c w) e)
-    ∙ sym (ap₂ (λ u r. u ++ close r) (take-after w (spelled ps) (bytes_before e ps)) (style_by_marks-sequence c w ps e)
-    ∙ append_assoc w (take (bytes_before e ps) (spelled ps)) (close (style_by_marks (apply c w) ps e)))
-cut_from-stretch (LoneEscape ∷ ps) c e =
-    ap (λ v. escape ∷ v) (cut_from-stretch ps c e)
-    ∙ sym (ap₂ (λ u r. u ++ close r) (take-after (escape ∷ []) (spelled ps) (bytes_before e ps)) (style_by_marks-lone c ps e))
+  where
+    past : (b : Bool) → e < length w → (if not b && true then [] else shown_from b (0 - length w) (e - length w) ps) ≡ (if b then shown_from true 0 0 (Text (drop e w) ∷ ps) else [])
+    past true last = ap₂ (λ i j. shown_from true i j ps) (omega arith) (omega arith)
+    past false last = refl
+shown_from-stretch all (Sequence w ∷ ps) e = ap (λ v. w ++ v) (shown_from-stretch all ps e) ∙ sym (take-more w (spelled ps) (later all e ps) (bytes_before e ps))
+shown_from-stretch all (LoneEscape ∷ ps) e = ap (λ v. escape ∷ v) (shown_from-stretch all ps e) ∙ sym (take-more (escape ∷ []) (spelled ps) (later all e ps) (bytes_before e ps))
+
+-- the style at the end is that after the marks from the start on
+style-after : (ps : List Piece) (c : Rendition) (s e : ℕ) → s ≤ e → style_by_marks (style_by_marks c ps s) (after_of s ps) (e - s) ≡ style_by_marks c ps e
+style-after [] c s e ordered = refl
+style-after (Text w ∷ ps) c s e ordered = elim (cases_lt s (length w)) [
+  | inl last ↦ (
+      let v = drop s w in
+      let left : length v ≡ length w - s = length-drop s w in
+      let same : e - s - length v ≡ e - length w = omega arith in
+      ap₂ (λ r qs. style_by_marks r qs (e - s)) (style_by_marks-before c w ps s last) (after_of-last s w ps last)
+      ∙ elim (cases_lt e (length w)) [
+        | inl before ↦ style_by_marks-before c v ps (e - s) (omega arith) ∙ sym (style_by_marks-before c w ps e before)
+        | inr past ↦ style-text c (e - s) v ps (omega arith) ∙ ap (style_by_marks c ps) same ∙ sym (style-text c e w ps past)
+      ])
+  | inr within ↦ (
+      let n = length w in
+      let count : e - s ≡ e - n - (s - n) = omega arith in
+      ap₂ (λ r qs. style_by_marks r qs (e - s)) (style-text c s w ps within) (after_of-text s w ps within)
+      ∙ ap (style_by_marks (style_by_marks c ps (s - n)) (after_of (s - n) ps)) count
+      ∙ style-after ps c (s - n) (e - n) (omega arith) ∙ sym (style-text c e w ps (omega arith)))
+]
+style-after (Sequence w ∷ ps) c s e ordered =
+    ap (λ r. style_by_marks r (after_of s ps) (e - s)) (style_by_marks-sequence c w ps s) ∙ style-after ps (apply c w) s e ordered ∙ sym (style_by_marks-sequence c w ps e)
+style-after (LoneEscape ∷ ps) c s e ordered =
+    ap (λ r. style_by_marks r (after_of s ps) (e - s)) (style_by_marks-lone c ps s) ∙ style-after ps c s e ordered ∙ sym (style_by_marks-lone c ps e)
 
 -- a cut, by the offsets of its start, and of its end in what follows that
 pub cut-stretch : {t rest : List ℕ} {s e from to : ℕ} {c style : Rendition} → s ≤ e → StandsIn t s from → rest ≡ drop from t → StandsIn rest (e - s) to
     → c ≡ style_within plain_style t s → style ≡ style_within c rest (e - s) → (sequences_up_to s (pieces_of t) ++ take to rest) ++ close style ≡ cut_up_to t s e
 cut-stretch {t} {rest} {s} {e} {from} {to} {c} {style} ordered start rest_is end c_is style_is =
-    let front = sequences_up_to s (pieces_of t) in
-    let n = e - s in
-    let after : pieces_of rest ≡ after_of s (pieces_of t) = ap pieces_of rest_is ∙ ap (λ i. pieces_of (drop i t)) start.offset ∙ pieces_of-after t s in
-    ap₂ (λ i r. (front ++ take i rest) ++ close r) end.offset style_is
-    ∙ append_assoc front (take (offset_of rest n) rest) (close (style_within c rest n))
-    ∙ ap (λ v. front ++ v) (sym (cut_from-stretch (pieces_of rest) c n ∙ ap (λ u. take (offset_of rest n) u ++ close (style_within c rest n)) (spelled-pieces_of rest)))
-    ∙ ap₂ (λ r ps. front ++ cut_from r 0 n ps) c_is after
-    ∙ sym (cut_up_to-walk t s e ∙ cut_from-front (pieces_of t) plain_style s e ordered)
+    let ps = pieces_of t in
+    let after : pieces_of rest ≡ after_of s ps = ap pieces_of rest_is ∙ ap (λ i. pieces_of (drop i t)) start.offset ∙ pieces_of-after t s in
+    let stretch : take to rest ≡ shown_from false 0 (e - s) (pieces_of rest)
+    = ap₂ (λ i u. take i u) end.offset (sym (spelled-pieces_of rest)) ∙ sym (shown_from-stretch false (pieces_of rest) (e - s) ∙ append-nil _) in
+    ap₂ (λ u r. (sequences_up_to s ps ++ u) ++ close r) (stretch ∙ ap (shown_from false 0 (e - s)) after)
+    (style_is ∙ ap₂ (λ r qs. style_by_marks r qs (e - s)) c_is after ∙ style-after ps plain_style s e ordered)
+    ∙ sym (cut_up_to-walk t s e ∙ ap (λ u. u ++ close (style_by_marks plain_style ps e)) (shown_from-front false ps s e ordered))
 
 -- the range of a cut, by those
 pub range-by_offset : {t rest : List ℕ} {s e from : ℕ} → s ≤ e → StandsIn t s from → rest ≡ drop from t → is_good_range (plain t) s (Some e) ≡ is_good_position (plain rest) (e - s)
@@ -197,35 +220,11 @@ range-by_offset {t} {rest} {s} {e} {from} ordered start rest_is =
     ap₂ (λ a b. a && (b && is_good_position x e)) (le-leb s e ordered) start.good
     ∙ sym (ap (λ y. is_good_position y (e - s)) after ∙ is_good_position-drop x s (e - s) ∙ ap (is_good_position x) all)
 
-kept_from-front : (ps : List Piece) (s e : ℕ) → s ≤ e → kept_from s e ps ≡ sequences_up_to s ps ++ kept_from 0 (e - s) (after_of s ps)
-kept_from-front [] s e ordered = refl
-kept_from-front (Text w ∷ ps) s e ordered = elim (cases_lt s (length w)) [
-  | inl last ↦ (
-      let v = drop s w in
-      let left : length v ≡ length w - s = length-drop s w in
-      let count : e - s ≡ e - s - 0 = omega arith in
-      let from : s - length w ≡ 0 - length v = omega arith in
-      let to : e - length w ≡ e - s - length v = omega arith in
-      ap (λ n. take n v ++ kept_from (s - length w) (e - length w) ps) count
-      ∙ ap₂ (λ i j. slice_range v 0 (e - s) ++ kept_from i j ps) from to
-      ∙ sym (ap₂ (λ u qs. u ++ kept_from 0 (e - s) qs) (sequences_up_to-last s w ps last) (after_of-last s w ps last)))
-  | inr within ↦ (
-      let n = length w in
-      let count : e - n - (s - n) ≡ e - s = omega arith in
-      ap (λ u. u ++ kept_from (s - n) (e - n) ps) (slice_range-from_past w s e within)
-      ∙ kept_from-front ps (s - n) (e - n) (omega arith)
-      ∙ ap (λ k. sequences_up_to (s - n) ps ++ kept_from 0 k (after_of (s - n) ps)) count
-      ∙ sym (ap₂ (λ u qs. u ++ kept_from 0 (e - s) qs) (sequences_up_to-text s w ps within) (after_of-text s w ps within)))
-]
-kept_from-front (Sequence w ∷ ps) s e ordered =
-    ap (λ v. w ++ v) (kept_from-front ps s e ordered) ∙ sym (append_assoc w (sequences_up_to s ps) (kept_from 0 (e - s) (after_of s ps)))
-kept_from-front (LoneEscape ∷ ps) s e ordered = ap (λ v. escape ∷ v) (kept_from-front ps s e ordered)
-
 -- what is kept from s on
 pub kept-front : (t : List ℕ) (s e : ℕ) → s ≤ e → kept t s e ≡ sequences_up_to s (pieces_of t) ++ kept (drop (offset_of t s) t) 0 (e - s)
 kept-front t s e ordered =
-    kept-walk t s e ∙ kept_from-front (pieces_of t) s e ordered
-    ∙ ap (λ v. sequences_up_to s (pieces_of t) ++ v) (ap (kept_from 0 (e - s)) (sym (pieces_of-after t s)) ∙ sym (kept-walk (drop (offset_of t s) t) 0 (e - s)))
+    kept-walk t s e ∙ shown_from-front true (pieces_of t) s e ordered
+    ∙ ap (λ v. sequences_up_to s (pieces_of t) ++ v) (ap (shown_from true 0 (e - s)) (sym (pieces_of-after t s)) ∙ sym (kept-walk (drop (offset_of t s) t) 0 (e - s)))
 
 -- all from s on
 pub kept-rest : {t rest : List ℕ} {s from : ℕ} → s ≤ length (plain t) → StandsIn t s from → rest ≡ drop from t → sequences_up_to s (pieces_of t) ++ rest ≡ kept t s (length (plain t))
@@ -236,55 +235,66 @@ kept-rest {t} {rest} {s} {from} inside stands is =
     sym (kept-front t s (length x) inside
     ∙ ap (λ v. sequences_up_to s (pieces_of t) ++ v) (ap (λ u. kept u 0 (length x - s)) (sym after) ∙ kept-all rest (length x - s) (omega (arith, size))))
 
-kept_from-stretch : (ps : List Piece) (e : ℕ) → kept_from 0 e ps ≡ take (bytes_before e ps) (spelled ps) ++ kept_from 0 0 (after_of e ps)
-kept_from-stretch [] e = refl
-kept_from-stretch (Text w ∷ ps) e = elim (cases_lt e (length w)) [
-  | inl last ↦ (
-      let count : e - 0 ≡ e = omega arith in
-      let front : 0 - length w ≡ 0 = omega arith in
-      let after : 0 - length (drop e w) ≡ 0 = omega arith in
-      let to : e - length w ≡ 0 = omega arith in
-      ap (λ n. take n w ++ kept_from (0 - length w) (e - length w) ps) count
-      ∙ ap₂ (λ i j. take e w ++ kept_from i j ps) front to
-      ∙ sym (ap₂ (λ n qs. take n (w ++ spelled ps) ++ kept_from 0 0 qs) (bytes_before-last e w ps last) (after_of-last e w ps last)
-      ∙ ap₂ (λ u k. u ++ kept_from k k ps) (take-append-le e w (spelled ps) (omega arith)) after))
-  | inr within ↦ (
-      let n = length w in
-      let front : 0 - n ≡ 0 = omega arith in
-      ap₂ (λ u k. u ++ kept_from k (e - n) ps) (slice_range-past w 0 e within) front
-      ∙ ap (λ v. w ++ v) (kept_from-stretch ps (e - n))
-      ∙ sym (ap₂ (λ k qs. take k (w ++ spelled ps) ++ kept_from 0 0 qs) (bytes_before-text e w ps within) (after_of-text e w ps within)
-      ∙ ap (λ u. u ++ kept_from 0 0 (after_of (e - n) ps)) (take-after w (spelled ps) (bytes_before (e - n) ps))
-      ∙ append_assoc w (take (bytes_before (e - n) ps) (spelled ps)) (kept_from 0 0 (after_of (e - n) ps))))
-]
-kept_from-stretch (Sequence w ∷ ps) e =
-    ap (λ v. w ++ v) (kept_from-stretch ps e)
-    ∙ sym (ap (λ u. u ++ kept_from 0 0 (after_of e ps)) (take-after w (spelled ps) (bytes_before e ps))
-    ∙ append_assoc w (take (bytes_before e ps) (spelled ps)) (kept_from 0 0 (after_of e ps)))
-kept_from-stretch (LoneEscape ∷ ps) e =
-    ap (λ v. escape ∷ v) (kept_from-stretch ps e)
-    ∙ sym (ap (λ u. u ++ kept_from 0 0 (after_of e ps)) (take-after (escape ∷ []) (spelled ps) (bytes_before e ps)))
-
 -- what is kept up to e: all before its offset, and the sequences after that
 pub kept-stretch : (t : List ℕ) (e : ℕ) → kept t 0 e ≡ take (offset_of t e) t ++ kept (drop (offset_of t e) t) 0 0
 kept-stretch t e =
-    kept-walk t 0 e ∙ kept_from-stretch (pieces_of t) e
+    kept-walk t 0 e ∙ shown_from-stretch true (pieces_of t) e
     ∙ ap₂ (λ u v. take (offset_of t e) u ++ v) (spelled-pieces_of t)
-    (ap (kept_from 0 0) (sym (pieces_of-after t e)) ∙ sym (kept-walk (drop (offset_of t e) t) 0 0))
+    (ap (shown_from true 0 0) (sym (pieces_of-after t e)) ∙ sym (kept-walk (drop (offset_of t e) t) 0 0))
 
 -- where no plain byte is kept, all sequences are
-kept_from-none : (ps : List Piece) (top : ℕ) → length (plain_of ps) ≤ top → kept_from 0 0 ps ≡ sequences_up_to top ps
-kept_from-none [] top past = refl
-kept_from-none (Text w ∷ ps) top past =
+shown_from-none : (ps : List Piece) (top : ℕ) → length (plain_of ps) ≤ top → shown_from true 0 0 ps ≡ sequences_up_to top ps
+shown_from-none [] top past = refl
+shown_from-none (Text w ∷ ps) top past =
     let n = length w in
     let none : 0 - n ≡ 0 = omega arith in
     let size : length (w ++ plain_of ps) ≡ n + length (plain_of ps) = length-append w (plain_of ps) in
-    ap (λ k. kept_from k k ps) none ∙ kept_from-none ps (top - n) (omega (arith, size, past)) ∙ sym (sequences_up_to-text top w ps (omega (arith, size, past)))
-kept_from-none (Sequence w ∷ ps) top past = ap (λ v. w ++ v) (kept_from-none ps top past)
-kept_from-none (LoneEscape ∷ ps) top past = ap (λ v. escape ∷ v) (kept_from-none ps top past)
+    ap (λ k. shown_from true k k ps) none ∙ shown_from-none ps (top - n) (omega (arith, size, past)) ∙ sym (sequences_up_to-text top w ps (omega (arith, size, past)))
+shown_from-none (Sequence w ∷ ps) top past = ap (λ v. w ++ v) (shown_from-none ps top past)
+shown_from-none (LoneEscape ∷ ps) top past = ap (λ v. escape ∷ v) (shown_from-none ps top past)
 
 pub kept-none : (t : List ℕ) (top : ℕ) → length t ≤ top → kept t 0 0 ≡ sequences_up_to top (pieces_of t)
-kept-none t top past = kept-walk t 0 0 ∙ kept_from-none (pieces_of t) top (omega (arith, length-plain t))
+kept-none t top past = kept-walk t 0 0 ∙ shown_from-none (pieces_of t) top (omega (arith, length-plain t))
+
+-- A step over the run w of t, or over a mark: the pieces before it and after it, and where it stands.
+
+pub record IsOverText (t w : List ℕ) (at next : ℕ) (old new : List Piece) : Type 0 where
+  pub first : old ≡ Text w ∷ new
+  pub there : pieces_of (drop at t) ≡ old
+  pub begins : IsCharBoundary t at
+  pub within : next ≤ length t
+  pub count : next ≡ at + length w
+  pub bytes : take next t ≡ take at t ++ w
+
+pub record IsOverMark (kind : Kind) (t w : List ℕ) (at next : ℕ) (old new : List Piece) : Type 0 where
+  pub first : BeginsWithMark kind w old new
+  pub count : next ≡ at + length w
+  pub bytes : take next t ≡ take at t ++ w
+
+item_count : {old new : Scan} {item : Item} {t w : List ℕ} → Gives old item new → old.text ≡ t → w ≡ slice_range t item.start item.end → new.offset ≡ old.offset + length w
+item_count {item = item} {t = t} gives same is =
+    omega (arith, gives.start, gives.end, gives.forward, ap length is, length-slice_range t item.start item.end (omega (arith, gives.forward)) (omega (arith, gives.end_boundary.0, ap length same)))
+
+item_bytes : {old new : Scan} {item : Item} {w : List ℕ} (t : List ℕ) → Gives old item new → w ≡ slice_range t item.start item.end → take new.offset t ≡ take old.offset t ++ w
+item_bytes {old} {item = item} t gives is =
+    let n = item.end - old.offset in
+    let all : item.end ≡ old.offset + n = omega (arith, gives.start, gives.forward) in
+    ap (λ k. take k t) (sym gives.end ∙ all) ∙ take-add old.offset n t ∙ ap (λ v. take old.offset t ++ v) (sym (is ∙ ap (λ k. slice_range t k item.end) gives.start))
+
+pub over_text : {old new : Scan} {item : Item} {t w : List ℕ} → Gives old item new → old.text ≡ t → w ≡ slice_range t item.start item.end → item.kind ≡ TextKind
+    → IsOverText t w old.offset new.offset (pieces_left old) (pieces_left new)
+over_text {old} {item = item} {t = t} gives same is kind = record {
+  first = gives_text gives same is kind;
+  there = ap (λ u. pieces_of (drop old.offset u)) (sym same);
+  begins = subst (IsCharBoundary t) gives.start (subst (λ u. IsCharBoundary u item.start) same gives.start_boundary);
+  within = omega (arith, gives.end, gives.end_boundary.0, ap length same);
+  count = item_count gives same is;
+  bytes = item_bytes t gives is;
+}
+
+pub over_mark : {old new : Scan} {item : Item} {t w : List ℕ} → Gives old item new → old.text ≡ t → w ≡ slice_range t item.start item.end → item.kind ≢ TextKind
+    → IsOverMark item.kind t w old.offset new.offset (pieces_left old) (pieces_left new)
+over_mark gives same is other = record { first = gives_mark gives same is other; count = item_count gives same is; bytes = item_bytes _ gives is }
 
 -- How far a walk to the plain byte n has come: what has been passed, and what stands before the byte in what is left, stand before it in all; and so the style there.
 pub record IsOnTheWay (t : List ℕ) (n : ℕ) (start : Rendition) (passed left : ℕ) (style : Rendition) (ps : List Piece) : Type 0 where
@@ -295,27 +305,27 @@ pub record IsOnTheWay (t : List ℕ) (n : ℕ) (start : Rendition) (passed left 
 pub way-begin : (t : List ℕ) (n : ℕ) (start : Rendition) → IsOnTheWay t n start 0 n start (pieces_of t)
 way-begin t n start = record { offset = omega arith; good = refl; styled = refl }
 
-pub way-text : {t : List ℕ} {n passed left next : ℕ} {start style : Rendition} {w : List ℕ} {old ps : List Piece} (at : ℕ) → IsOnTheWay t n start passed left style old → old ≡ Text w ∷ ps
-    → length w ≤ left → at ≡ passed + length w → next ≡ left - length w → IsOnTheWay t n start at next style ps
-way-text {t} {n} {passed} {left} {next} {start} {style} {w} {old} {ps} at way first within at_is next_is =
-    let here = subst (IsOnTheWay t n start passed left style) first way in
-    let step : IsOnTheWay t n start (passed + length w) (left - length w) style ps = record {
-      offset = omega (arith, here.offset, bytes_before-text left w ps within);
+pub way-text : {t : List ℕ} {n passed at left next : ℕ} {start style : Rendition} {w : List ℕ} {old ps : List Piece} → IsOnTheWay t n start passed left style old → IsOverText t w passed at old ps
+    → length w ≤ left → next ≡ left - length w → IsOnTheWay t n start at next style ps
+way-text {t} {n} {passed} {at} {left} {next} {start} {style} {w} {old} {ps} way over within next_is =
+    let here = subst (IsOnTheWay t n start passed left style) over.first way in
+    rw next_is (record {
+      offset = omega (arith, over.count, here.offset, bytes_before-text left w ps within);
       good = sym (is_good_position-after w (plain_of ps) left within) ∙ here.good;
       styled = sym (style-text style left w ps within) ∙ here.styled;
-    } in
-    rw (at_is, next_is) step
+    })
 
-pub way-mark : {t : List ℕ} {n passed left : ℕ} {start style next : Rendition} {kind : Kind} {w : List ℕ} {old ps : List Piece} (at : ℕ) → IsOnTheWay t n start passed left style old → BeginsWithMark kind w old ps
-    → at ≡ passed + length w → next ≡ apply style w → IsOnTheWay t n start at left next ps
-way-mark {t} {n} {passed} {left} {start} {style} {next} {w = w} {ps = ps} at way begins at_is next_is =
+pub way-mark : {t : List ℕ} {n passed at left : ℕ} {start style next : Rendition} {kind : Kind} {w : List ℕ} {old ps : List Piece} → IsOnTheWay t n start passed left style old → IsOverMark kind t w passed at old ps
+    → next ≡ apply style w → IsOnTheWay t n start at left next ps
+way-mark {t} {n} {passed} {at} {left} {start} {style} {next} {w = w} {ps = ps} way over next_is =
+    let begins = over.first in
     let here = subst (IsOnTheWay t n start passed left style) begins.pieces way in
-    let step : IsOnTheWay t n start (passed + length (spelling begins.mark)) left (apply style (spelling begins.mark)) ps = record {
-      offset = omega (arith, here.offset, bytes begins.mark begins.is_mark);
+    let step : IsOnTheWay t n start at left (apply style (spelling begins.mark)) ps = record {
+      offset = omega (arith, over.count, ap length begins.bytes, here.offset, bytes begins.mark begins.is_mark);
       good = ap (λ x. is_good_position x left) (sym (plain_of-mark begins.mark ps begins.is_mark)) ∙ here.good;
       styled = sym (styles begins.mark begins.is_mark) ∙ here.styled;
     } in
-    rw (at_is, next_is, ← begins.bytes) step
+    rw (next_is, ← begins.bytes) step
   where
     bytes : (p : Piece) → is_mark p ≡ true → bytes_before left (p ∷ ps) ≡ length (spelling p) + bytes_before left ps
     bytes (Text v) is = absurd (cc is)
@@ -328,10 +338,10 @@ way-mark {t} {n} {passed} {left} {start} {style} {next} {w = w} {ps = ps} at way
     styles LoneEscape is = style_by_marks-lone style ps left
 
 -- the byte stands in the text that comes next, or there is none
-pub way-last : {t : List ℕ} {n passed left : ℕ} {start style : Rendition} {w : List ℕ} {old ps : List Piece} → IsOnTheWay t n start passed left style old → old ≡ Text w ∷ ps → left < length w
+pub way-last : {t : List ℕ} {n passed at left : ℕ} {start style : Rendition} {w : List ℕ} {old ps : List Piece} → IsOnTheWay t n start passed left style old → IsOverText t w passed at old ps → left < length w
     → (passed + left ≡ offset_of t n) × (style ≡ style_within start t n)
-way-last {t} {n} {passed} {left} {start} {style} {w} {old} {ps} way first last =
-    let here = subst (IsOnTheWay t n start passed left style) first way in
+way-last {t} {n} {passed} {left = left} {start = start} {style = style} {w = w} {ps = ps} way over last =
+    let here = subst (IsOnTheWay t n start passed left style) over.first way in
     (omega (arith, here.offset, bytes_before-last left w ps last), sym (style_by_marks-before style w ps left last) ∙ here.styled)
 
 pub way-end : {t : List ℕ} {n passed left : ℕ} {start style : Rendition} {old : List Piece} → IsOnTheWay t n start passed left style old → old ≡ []
@@ -348,20 +358,20 @@ good_in_next t at left w ps first last =
     sym (is_good_position-drop t at left)
     ∙ ap (λ u. is_good_position u left) are.1 ∙ is_good_position-append w are.0 left last ∙ sym (is_good_position-append w (plain_of ps) left last)
 
-boundary_test : (t : List ℕ) (i : ℕ) (b : Bool) → i ≤ length t → IsTrue b ↔ IsCharBoundary t i → b ≡ is_good_position t i
-boundary_test t i b within test = both_ways _ _ (λ yes. boundary_is_good t i (test.0 yes)) (λ good. test.1 (good_is_boundary t i within good))
+way-good : {t : List ℕ} {n passed at left i : ℕ} {start style : Rendition} {w : List ℕ} {old ps : List Piece} → IsOnTheWay t n start passed left style old → IsOverText t w passed at old ps → left < length w → i ≡ passed + left
+    → (i ≤ length t) × (is_good_position t i ≡ is_good_position (plain t) n)
+way-good {t} {n} {passed} {left = left} {w = w} {ps = ps} way over last is = (
+  omega (arith, is, last, over.count, over.within),
+  ap (is_good_position t) is ∙ good_in_next t passed left w ps (over.there ∙ over.first) last ∙ ap (λ qs. is_good_position (plain_of qs) left) (sym over.first) ∙ way.good,
+)
 
-pub way-test : {t : List ℕ} {n passed left i : ℕ} {start style : Rendition} {w : List ℕ} {old ps : List Piece} {b : Bool} → IsOnTheWay t n start passed left style old → old ≡ Text w ∷ ps
-    → pieces_of (drop passed t) ≡ old → left < length w → i ≡ passed + left → i ≤ length t → IsTrue b ↔ IsCharBoundary t i → b ≡ is_good_position (plain t) n
-way-test {t} {n} {passed} {left} {i} {w = w} {ps = ps} {b = b} way first there last is within test =
-    boundary_test t i b within test ∙ ap (is_good_position t) is ∙ good_in_next t passed left w ps (there ∙ first) last
-    ∙ ap (λ qs. is_good_position (plain_of qs) left) (sym first) ∙ way.good
+pub way-test : {t : List ℕ} {n passed at left i : ℕ} {start style : Rendition} {w : List ℕ} {old ps : List Piece} {b : Bool} → IsOnTheWay t n start passed left style old → IsOverText t w passed at old ps → left < length w → i ≡ passed + left
+    → IsTrue b ↔ IsCharBoundary t i → b ≡ is_good_position (plain t) n
+way-test {t} {i = i} {b = b} way over last is test = (let here = way-good way over last is in boundary_test t i b here.0 test ∙ here.1)
 
-pub way-boundary : {t : List ℕ} {n passed left i : ℕ} {start style : Rendition} {w : List ℕ} {old ps : List Piece} → IsOnTheWay t n start passed left style old → old ≡ Text w ∷ ps
-    → pieces_of (drop passed t) ≡ old → left < length w → i ≡ passed + left → i ≤ length t → IsTrue (is_good_position (plain t) n) → IsCharBoundary t i
-way-boundary {t} {n} {passed} {left} {i} {w = w} {ps = ps} way first there last is within good =
-    good_is_boundary t i within
-    (ap (is_good_position t) is ∙ good_in_next t passed left w ps (there ∙ first) last ∙ ap (λ qs. is_good_position (plain_of qs) left) (sym first) ∙ way.good ∙ good)
+pub way-boundary : {t : List ℕ} {n passed at left i : ℕ} {start style : Rendition} {w : List ℕ} {old ps : List Piece} → IsOnTheWay t n start passed left style old → IsOverText t w passed at old ps → left < length w → i ≡ passed + left
+    → IsTrue (is_good_position (plain t) n) → IsCharBoundary t i
+way-boundary {t} {i = i} way over last is good = (let here = way-good way over last is in good_is_boundary t i here.0 (here.1 ∙ good))
 
 -- What has been appended, and the sequences up to a place in what is left, are all.
 pub record IsPushedSoFar (whole written : List ℕ) (n : ℕ) (left : List Piece) : Type 0 where
@@ -386,36 +396,22 @@ pushed-mark {whole} {written} {new} {n} {w = w} {ps = ps} so_far begins is =
     by_piece (Sequence v) is = refl
     by_piece LoneEscape is = refl
 
-pub pushed-last : {whole written : List ℕ} {n : ℕ} {w : List ℕ} {old ps : List Piece} → IsPushedSoFar whole written n old → old ≡ Text w ∷ ps → n < length w → written ≡ whole
-pushed-last {written = written} {n = n} {w = w} {ps = ps} so_far first last =
-    sym (append-nil written) ∙ ap (λ v. written ++ v) (sym (ap (sequences_up_to n) first ∙ sequences_up_to-last n w ps last)) ∙ so_far.pushed
-
-pub pushed-end : {whole written : List ℕ} {n : ℕ} {old : List Piece} → IsPushedSoFar whole written n old → old ≡ [] → written ≡ whole
-pushed-end {written = written} {n = n} so_far none = sym (append-nil written) ∙ ap (λ v. written ++ v) (sym (ap (sequences_up_to n) none)) ∙ so_far.pushed
-
 -- How far a walk has come: so many plain bytes and so many bytes of t have been passed, and what is kept up to a place further on is those bytes, and what is kept of the pieces that are left.
 pub record IsPassed (t : List ℕ) (place passed : ℕ) (left : List Piece) : Type 0 where
   pub count : place + length (plain_of left) ≡ length (plain t)
   pub rest : drop place (plain t) ≡ plain_of left
-  pub bytes : (e : ℕ) → place ≤ e → kept t 0 e ≡ take passed t ++ kept_from 0 (e - place) left
+  pub bytes : (e : ℕ) → place ≤ e → kept t 0 e ≡ take passed t ++ shown_from true 0 (e - place) left
 
 pub passed-begin : (t : List ℕ) → IsPassed t 0 0 (pieces_of t)
 passed-begin t = record {
   count = omega arith;
   rest = refl;
-  bytes = λ e past. (let all : e ≡ e - 0 = omega arith in kept-walk t 0 e ∙ ap (λ n. kept_from 0 n (pieces_of t)) all);
+  bytes = λ e past. (let all : e ≡ e - 0 = omega arith in kept-walk t 0 e ∙ ap (λ n. shown_from true 0 n (pieces_of t)) all);
 }
 
--- the bytes of an item stand after those that were passed
-pub take-item : (t : List ℕ) {w : List ℕ} {i start end : ℕ} → start ≡ i → i ≤ end → w ≡ slice_range t start end → take end t ≡ take i t ++ w
-take-item t {w} {i} {start} {end} begins forward is =
-    let all : end ≡ i + (end - i) = omega arith in
-    ap (λ n. take n t) all ∙ take-add i (end - i) t ∙ ap (λ v. take i t ++ v) (sym (is ∙ ap (λ n. slice_range t n end) begins))
-
-pub passed-text : {t : List ℕ} {place passed : ℕ} {w : List ℕ} {left ps : List Piece} (at : ℕ) → IsPassed t place passed left → left ≡ Text w ∷ ps → take at t ≡ take passed t ++ w
-    → IsPassed t (place + length w) at ps
-passed-text {t} {place} {passed} {w} {left} {ps} at way first more =
-    let here = subst (IsPassed t place passed) first way in
+pub passed-text : {t : List ℕ} {place passed at : ℕ} {w : List ℕ} {left ps : List Piece} → IsPassed t place passed left → IsOverText t w passed at left ps → IsPassed t (place + length w) at ps
+passed-text {t} {place} {passed} {w = w} {ps = ps} way over =
+    let here = subst (IsPassed t place passed) over.first way in
     let n = length w in
     let far : drop n (drop place (plain t)) ≡ drop (place + n) (plain t) = drop-drop n place (plain t) in
     record {
@@ -426,14 +422,14 @@ passed-text {t} {place} {passed} {w} {left} {ps} at way first more =
           let left_over : e - place - n ≡ e - (place + n) = omega arith in
           here.bytes e (omega (arith, past))
           ∙ ap (λ v. take passed t ++ v)
-          (ap (λ u. u ++ kept_from (0 - n) (e - place - n) ps) (slice_range-past w 0 (e - place) (omega (arith, past)))
-          ∙ ap₂ (λ i j. w ++ kept_from i j ps) none left_over)
-          ∙ sym (append_assoc (take passed t) w (kept_from 0 (e - (place + n)) ps)) ∙ ap (λ v. v ++ kept_from 0 (e - (place + n)) ps) (sym more));
+          (ap (λ u. u ++ shown_from true (0 - n) (e - place - n) ps) (slice_range-past w 0 (e - place) (omega (arith, past)))
+          ∙ ap₂ (λ i j. w ++ shown_from true i j ps) none left_over)
+          ∙ sym (append_assoc (take passed t) w (shown_from true 0 (e - (place + n)) ps)) ∙ ap (λ v. v ++ shown_from true 0 (e - (place + n)) ps) (sym over.bytes));
     }
 
-pub passed-mark : {t : List ℕ} {place passed : ℕ} {kind : Kind} {w : List ℕ} {left ps : List Piece} (at : ℕ) → IsPassed t place passed left → BeginsWithMark kind w left ps → take at t ≡ take passed t ++ w
-    → IsPassed t place at ps
-passed-mark {t} {place} {passed} {w = w} {ps = ps} at way begins more =
+pub passed-mark : {t : List ℕ} {place passed at : ℕ} {kind : Kind} {w : List ℕ} {left ps : List Piece} → IsPassed t place passed left → IsOverMark kind t w passed at left ps → IsPassed t place at ps
+passed-mark {t} {place} {passed} {w = w} {ps = ps} way over =
+    let begins = over.first in
     let here = subst (IsPassed t place passed) begins.pieces way in
     let same = plain_of-mark begins.mark ps begins.is_mark in
     record {
@@ -441,43 +437,43 @@ passed-mark {t} {place} {passed} {w = w} {ps = ps} at way begins more =
       rest = here.rest ∙ same;
       bytes = λ e past.
           here.bytes e past
-          ∙ ap (λ v. take passed t ++ v) (kept_from-mark begins.mark 0 (e - place) ps begins.is_mark ∙ ap (λ v. v ++ kept_from 0 (e - place) ps) begins.bytes)
-          ∙ sym (append_assoc (take passed t) w (kept_from 0 (e - place) ps)) ∙ ap (λ v. v ++ kept_from 0 (e - place) ps) (sym more);
+          ∙ ap (λ v. take passed t ++ v) (shown_from-mark begins.mark 0 (e - place) ps begins.is_mark ∙ ap (λ v. v ++ shown_from true 0 (e - place) ps) begins.bytes)
+          ∙ sym (append_assoc (take passed t) w (shown_from true 0 (e - place) ps)) ∙ ap (λ v. v ++ shown_from true 0 (e - place) ps) (sym over.bytes);
     }
 
 -- what is kept from a place inside a text on, or from its end, where no plain byte is
-none_kept-inside : (k : ℕ) (t w : List ℕ) (ps : List Piece) → ArePieces t (Text w ∷ ps) → k ≤ length w → kept (drop k t) 0 0 ≡ kept_from 0 0 ps
+none_kept-inside : (k : ℕ) (t w : List ℕ) (ps : List Piece) → ArePieces t (Text w ∷ ps) → k ≤ length w → kept (drop k t) 0 0 ≡ shown_from true 0 0 ps
 none_kept-inside k t w ps are within = kept-walk (drop k t) 0 0 ∙ elim (cases_lt k (length w)) [
   | inl last ↦ (
       let none : 0 - length (drop k w) ≡ 0 = omega arith in
-      ap (kept_from 0 0) (sym (pieces_of-unique (drop k t) (Text (drop k w) ∷ ps) (inside_are k t w ps are last))) ∙ ap (λ n. kept_from n n ps) none)
+      ap (shown_from true 0 0) (sym (pieces_of-unique (drop k t) (Text (drop k w) ∷ ps) (inside_are k t w ps are last))) ∙ ap (λ n. shown_from true n n ps) none)
   | inr past ↦ (
       let all : k ≡ length w = omega arith in
-      ap (λ u. kept_from 0 0 (pieces_of u)) (ap (drop k) are.1 ∙ ap (λ n. drop n (w ++ are.0)) all ∙ drop-append_seam w are.0)
-      ∙ ap (kept_from 0 0) (sym (pieces_of-unique are.0 ps are.3)))
+      ap (λ u. shown_from true 0 0 (pieces_of u)) (ap (drop k) are.1 ∙ ap (λ n. drop n (w ++ are.0)) all ∙ drop-append_seam w are.0)
+      ∙ ap (shown_from true 0 0) (sym (pieces_of-unique are.0 ps are.3)))
 ]
 
 -- a place inside a text that comes next, or its end
-pub keeps-inside : {t : List ℕ} {place passed k : ℕ} {w : List ℕ} {left ps : List Piece} → IsPassed t place passed left → left ≡ Text w ∷ ps → pieces_of (drop passed t) ≡ left → k ≤ length w
-    → IsCharBoundary t (passed + k) → KeepsUpTo t (place + k) (passed + k)
-keeps-inside {t} {place} {passed} {k} {w} {left} {ps} way first there within boundary =
-    let here = subst (IsPassed t place passed) first way in
-    let are = subst (ArePieces (drop passed t)) (there ∙ first) (pieces_are (drop passed t)) in
+pub keeps-inside : {t : List ℕ} {place passed at k : ℕ} {w : List ℕ} {left ps : List Piece} → IsPassed t place passed left → IsOverText t w passed at left ps → k ≤ length w → IsCharBoundary t (passed + k)
+    → KeepsUpTo t (place + k) (passed + k)
+keeps-inside {t} {place} {passed} {k = k} {w = w} {ps = ps} way over within boundary =
+    let here = subst (IsPassed t place passed) over.first way in
+    let are = subst (ArePieces (drop passed t)) (over.there ∙ over.first) (pieces_are (drop passed t)) in
     let count : place + k - place ≡ k = omega arith in
     let all : k - 0 ≡ k = omega arith in
     let from : 0 - length w ≡ 0 = omega arith in
     let to : k - length w ≡ 0 = omega arith in
     let front : take (passed + k) t ≡ take passed t ++ take k w
     = take-add passed k t ∙ ap (λ v. take passed t ++ v) (ap (take k) are.1 ∙ take-append-le k w are.0 within) in
-    let after : kept (drop (passed + k) t) 0 0 ≡ kept_from 0 0 ps
+    let after : kept (drop (passed + k) t) 0 0 ≡ shown_from true 0 0 ps
     = ap (λ u. kept u 0 0) (sym (drop-drop k passed t)) ∙ none_kept-inside k (drop passed t) w ps are within in
     record {
       boundary = boundary;
       bytes = here.bytes (place + k) (omega arith)
-          ∙ ap (λ n. take passed t ++ kept_from 0 n (Text w ∷ ps)) count
-          ∙ ap (λ n. take passed t ++ (take n w ++ kept_from (0 - length w) (k - length w) ps)) all
-          ∙ ap₂ (λ i j. take passed t ++ (take k w ++ kept_from i j ps)) from to
-          ∙ sym (append_assoc (take passed t) (take k w) (kept_from 0 0 ps)) ∙ ap₂ (λ u v. u ++ v) (sym front) (sym after);
+          ∙ ap (λ n. take passed t ++ shown_from true 0 n (Text w ∷ ps)) count
+          ∙ ap (λ n. take passed t ++ (take n w ++ shown_from true (0 - length w) (k - length w) ps)) all
+          ∙ ap₂ (λ i j. take passed t ++ (take k w ++ shown_from true i j ps)) from to
+          ∙ sym (append_assoc (take passed t) (take k w) (shown_from true 0 0 ps)) ∙ ap₂ (λ u v. u ++ v) (sym front) (sym after);
     }
 
 -- a place in what follows a place that was passed
@@ -489,7 +485,7 @@ keeps-after {t} {rest} {place} {passed} {n} {i} way is fits stands =
     record {
       boundary = IsCharBoundary-from_rest t passed i fits (subst (λ u. IsCharBoundary u i) is stands.boundary);
       bytes = way.bytes (place + n) (omega arith)
-          ∙ ap (λ k. take passed t ++ kept_from 0 k (pieces_of rest)) count
+          ∙ ap (λ k. take passed t ++ shown_from true 0 k (pieces_of rest)) count
           ∙ ap (λ v. take passed t ++ v) (sym (kept-walk rest 0 n) ∙ kept-stretch rest n ∙ ap (λ k. take k rest ++ kept (drop k rest) 0 0) (sym stands.offset))
           ∙ sym (append_assoc (take passed t) (take i rest) (kept (drop i rest) 0 0))
           ∙ ap₂ (λ u v. u ++ kept v 0 0) (sym front) (sym after);

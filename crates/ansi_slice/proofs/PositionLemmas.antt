@@ -1,7 +1,8 @@
 -- Good positions, in a text at the front and after it, and as std's character boundaries.
-use Rattle.std.proofs.Common.{◌≡◌, ℕ, ◌-◌, ◌<◌, ◌≤◌, inl, inr, not, true, false, List, ◌++◌, length, drop, IsTrue, Some, None, Option, ◌&&◌, refl, sym, ◌∙◌, ap, ap₂, subst, arith, ◌+◌, ◌↔◌, Bool, min, nat_le, slice_index}
+use Rattle.std.proofs.Common.{◌≡◌, ℕ, ◌-◌, ◌<◌, ◌≤◌, inl, inr, not, true, false, List, ◌++◌, length, drop, IsTrue, Some, None, Option, ◌&&◌, ◌||◌, refl, sym, ◌∙◌, ap, ap₂, subst, arith, ◌+◌, ◌↔◌, Bool, min, nat_le, slice_index}
 use Rattle.std.proofs.lemmas.Bool.{leb-true, leb-false, le-leb, and_parts, and_from, lt-leb, cases_lt, not-true, not_from_false, and_left, and_right, and_cases}
 use Rattle.std.proofs.lemmas.List.{get_or_append_left, get_or_past, get_or-append_right, get_or-drop, length-append}
+use Rattle.std.proofs.lemmas.Bool.Decides.{nat_tests}
 use Rattle.std.specs.Cmp.{both_ways}
 use Rattle.std.proofs.lemmas.Str.{IsCharBoundary-start, IsCharBoundary-end}
 use Rattle.std.specs.Prelude.{unwrap_or}
@@ -20,13 +21,6 @@ is_good_position-after w y n past = ap (λ b. not (is_continuation_byte b)) (get
 -- a position in what is left of a text
 pub is_good_position-drop : (x : List ℕ) (k n : ℕ) → is_good_position (drop k x) n ≡ is_good_position x (k + n)
 is_good_position-drop x k n = ap (λ b. not (is_continuation_byte b)) (get_or-drop k x n 0)
-
--- a good position is good in the text at the front
-pub good_in_front : (w y : List ℕ) (n : ℕ) → IsTrue (is_good_position (w ++ y) n) → IsTrue (is_good_position w n)
-good_in_front w y n good = elim (cases_lt n (length w)) [
-  | inl within ↦ sym (is_good_position-append w y n within) ∙ good
-  | inr past ↦ is_good_position-past w n past
-]
 
 -- Within a text, the good positions are std's boundaries.
 
@@ -68,15 +62,26 @@ is_char_boundary-is x n h =
 pub is_char_boundary-decides : (x : List ℕ) (n : ℕ) (b : Bool) → b ≡ is_char_boundary x n → IsTrue b ↔ IsCharBoundary x n
 is_char_boundary-decides x n b is = (λ yes. is_char_boundary-is x n (sym is ∙ yes), λ boundary. is ∙ is_char_boundary-from x n boundary)
 
--- after a text at the front, the boundaries are those of what follows it
-pub is_char_boundary-after : (w y : List ℕ) (n : ℕ) → length w ≤ n → is_char_boundary (w ++ y) n ≡ is_char_boundary y (n - length w)
-is_char_boundary-after w y n past =
-    let all : length (w ++ y) ≡ length w + length y = length-append w y in
-    let inside : nat_le n (length (w ++ y)) ≡ nat_le (n - length w) (length y)
-    = both_ways _ _
-    (λ h. le-leb (n - length w) (length y) (omega (arith, leb-true n (length (w ++ y)) h, all)))
-    (λ h. le-leb n (length (w ++ y)) (omega (arith, leb-true (n - length w) (length y) h, all, past))) in
-    ap₂ (λ s t. s && t) inside (is_good_position-after w y n past)
+pub boundary_test : (x : List ℕ) (n : ℕ) (b : Bool) → n ≤ length x → IsTrue b ↔ IsCharBoundary x n → b ≡ is_good_position x n
+boundary_test x n b within test = both_ways _ _ (λ yes. boundary_is_good x n (test.0 yes)) (λ good. test.1 (good_is_boundary x n within good))
+
+-- n is a boundary of x or, where `past` says so, lies past its end
+abbrev pub is_boundary : Bool → List ℕ → ℕ → Bool
+is_boundary past x n = (past || nat_le n (length x)) && is_good_position x n
+
+-- in a text at the front, and after it
+pub is_boundary-append : (past : Bool) (w y : List ℕ) (n : ℕ) → n < length w → is_boundary past (w ++ y) n ≡ is_good_position w n
+is_boundary-append past w y n within =
+    ap₂ (λ s t. (past || s) && t) (le-leb n (length (w ++ y)) (omega (arith, length-append w y))) (is_good_position-append w y n within) ∙ either past
+  where
+    either : (b : Bool) → (b || true) && is_good_position w n ≡ is_good_position w n
+    either true = refl
+    either false = refl
+
+pub is_boundary-after : (past : Bool) (w y : List ℕ) (n : ℕ) → length w ≤ n → is_boundary past (w ++ y) n ≡ is_boundary past y (n - length w)
+is_boundary-after past w y n beyond =
+    let inside : nat_le n (length (w ++ y)) ≡ nat_le (n - length w) (length y) = grind (arith, nat_tests, length-append w y) in
+    ap₂ (λ s t. (past || s) && t) inside (is_good_position-after w y n beyond)
 
 pub char_boundary_is : (x : List ℕ) (n : ℕ) → IsTrue (is_char_boundary x n) ↔ IsCharBoundary x n
 char_boundary_is x n = (is_char_boundary-is x n, is_char_boundary-from x n)

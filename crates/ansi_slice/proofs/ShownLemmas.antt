@@ -1,9 +1,8 @@
 -- What is shown of a plain text with some of its marks, as pieces; their styled bytes, and the style after them.
-use Rattle.std.proofs.Common.{◌≡◌, ◌≢◌, ℕ, ◌+◌, ◌-◌, ◌<◌, ◌≤◌, inl, inr, Bool, true, false, List, [], ◌∷◌, ◌++◌, map, length, take, drop, filter, refl, sym, ◌∙◌, ap, ap₂, arith, append-nil, slice_range, if◌then◌else◌}
-use Rattle.std.proofs.lemmas.Bool.{cond_both, and_parts, cases_lt}
+use Rattle.std.proofs.Common.{◌≡◌, ◌≢◌, ℕ, ◌+◌, ◌-◌, ◌<◌, ◌≤◌, inl, inr, Bool, true, false, List, [], ◌∷◌, ◌++◌, map, length, drop, filter, refl, sym, ◌∙◌, ap, ap₂, arith, append-nil, slice_range, if◌then◌else◌}
+use Rattle.std.proofs.lemmas.Bool.{cond_both, cases_lt}
 use Rattle.std.proofs.lemmas.Grind.{flat_map-append}
-use Rattle.std.proofs.lemmas.List.{length-map, take-append-drop}
-use Rattle.std.proofs.lemmas.List.Folds.{list_all-append}
+use Rattle.std.proofs.lemmas.List.{length-map}
 use Rattle.std.specs.List.{list_all}
 use Rattle.ansi_items.specs.Bytes.{is_plain_byte}
 use Rattle.ansi_items.specs.Pieces.{Piece, Text, Sequence, LoneEscape, spelling}
@@ -14,7 +13,7 @@ use Rattle.ansi_style.specs.Sgr.{apply}
 use Rattle.ansi_style.specs.Reading.{after_marks}
 use Rattle.ansi_slice.specs.Cut.{show}
 use Rattle.ansi_items.proofs.PlainLemmas.{one_text}
-use Rattle.ansi_slice.proofs.SliceLemmas.{slice_range-none, slice_range-from_past, slice_range-map, slice_range-append}
+use Rattle.ansi_slice.proofs.SliceLemmas.{slice_range-none, slice_range-from_past, slice_range-map, slice_range-append, list_all-parts}
 use Rattle.ansi_style.proofs.MarkLemmas.{further, marks_of-text, marks_of-sequence, marks_of-lone, after_marks-further}
 use Rattle.ansi_slice.proofs.ShowLemmas.{show-mark, show-nil, show-text}
 use Rattle.ansi_items.proofs.JoinLemmas.{spelled, AllStandAnywhere, stand-append}
@@ -81,12 +80,7 @@ spelled-shown_pieces (LoneEscape ∷ ps) test a b =
 -- Where the pieces stand anywhere, so does what is shown of them.
 
 plain-slice_range : (x : List ℕ) (a b : ℕ) → list_all is_plain_byte x ≡ true → list_all is_plain_byte (slice_range x a b) ≡ true
-plain-slice_range x a b all =
-    let rest = drop a x in
-    let after = (and_parts (list_all is_plain_byte (take a x)) (list_all is_plain_byte rest)
-    (sym (list_all-append is_plain_byte (take a x) rest) ∙ ap (list_all is_plain_byte) (take-append-drop a x) ∙ all)).1 in
-    (and_parts (list_all is_plain_byte (take (b - a) rest)) (list_all is_plain_byte (drop (b - a) rest))
-    (sym (list_all-append is_plain_byte (take (b - a) rest) (drop (b - a) rest)) ∙ ap (list_all is_plain_byte) (take-append-drop (b - a) rest) ∙ after)).0
+plain-slice_range x a b all = (list_all-parts is_plain_byte (b - a) (drop a x) (list_all-parts is_plain_byte a x all).1).0
 
 one_text_stands : (w : List ℕ) → list_all is_plain_byte w ≡ true → AllStandAnywhere (one_text w)
 one_text_stands [] all = tt

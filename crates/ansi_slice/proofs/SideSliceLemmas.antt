@@ -1,10 +1,9 @@
 -- A side of a whole text is whole, has the slice of its styled bytes, and leaves nothing known open.
 use Rattle.std.proofs.Common.{◌≡◌, ℕ, ◌+◌, ◌-◌, Bool, true, false, not, ◌==◌, List, [], ◌∷◌, ◌++◌, length, take, drop, nat_le, refl, sym, ◌∙◌, ap, ap₂, subst, arith, IsTrue, append-nil, if◌then◌else◌}
-use Rattle.std.proofs.lemmas.Bool.{cond_both, cond-false, and_parts, ne_eqb, eqb-false}
+use Rattle.std.proofs.lemmas.Bool.{cond_both, cond-false, ne_eqb, eqb-false}
 use Rattle.std.proofs.lemmas.Grind.{flat_map-append}
 use Rattle.std.proofs.Math.Seq.{take-nil, drop-nil}
 use Rattle.std.proofs.lemmas.List.{length-map, take-append-drop, take-map, drop-map}
-use Rattle.std.proofs.lemmas.List.Folds.{list_all-append}
 use Rattle.std.specs.List.{list_all}
 use Rattle.ansi_items.specs.Bytes.{is_plain_byte}
 use Rattle.ansi_items.specs.Sequences.{is_sgr}
@@ -16,7 +15,7 @@ use Rattle.ansi_style.specs.Sgr.{apply}
 use Rattle.ansi_style.specs.Written.{close_codes, start, close}
 use Rattle.ansi_style.specs.Styled.{StyledByte, styled}
 use Rattle.ansi_slice.specs.Sides.{dressed, left_part, copied, right_part, left_side, right_side}
-use Rattle.ansi_slice.proofs.SliceLemmas.{take-append, drop-append}
+use Rattle.ansi_slice.proofs.SliceLemmas.{take-append, drop-append, list_all-parts}
 use Rattle.ansi_slice.proofs.CutWalkLemmas.{apply-no_sgr}
 use Rattle.ansi_slice.proofs.WalkLemmas.{walked, style_past}
 use Rattle.ansi_slice.proofs.SideLemmas.{left_side-walked, right_side-walked}
@@ -136,17 +135,12 @@ is_side pick among picks test part t mid spells whole =
 
 -- The left side takes the first bytes, and the right side the others.
 
-halves_plain : (n : ℕ) (w : List ℕ) → list_all is_plain_byte w ≡ true → (list_all is_plain_byte (take n w) ≡ true) × (list_all is_plain_byte (drop n w) ≡ true)
-halves_plain n w all =
-    and_parts (list_all is_plain_byte (take n w)) (list_all is_plain_byte (drop n w))
-    (sym (list_all-append is_plain_byte (take n w) (drop n w)) ∙ ap (list_all is_plain_byte) (take-append-drop n w) ∙ all)
-
 take_picks : Picks (λ n w. take n w) (λ n bs. take n bs)
 take_picks = record {
   as_styled = λ n s w. sym (take-map (λ b. record { byte = b; style = known s }) n w);
   of_nothing = take-nil;
   of_both = λ n bs cs. take-append n bs cs;
-  stays_plain = λ n w all. (halves_plain n w all).0;
+  stays_plain = λ n w all. (list_all-parts is_plain_byte n w all).0;
 }
 
 drop_picks : Picks (λ n w. drop n w) (λ n bs. drop n bs)
@@ -154,7 +148,7 @@ drop_picks = record {
   as_styled = λ n s w. sym (drop-map (λ b. record { byte = b; style = known s }) n w);
   of_nothing = drop-nil;
   of_both = λ n bs cs. drop-append n bs cs;
-  stays_plain = λ n w all. (halves_plain n w all).1;
+  stays_plain = λ n w all. (list_all-parts is_plain_byte n w all).1;
 }
 
 spelled-left : (mid n : ℕ) (s : Rendition) (p : Piece) → spelled (side_pieces (λ k w. take k w) (λ n. nat_le n mid) mid n s p) ≡ left_part mid n s p

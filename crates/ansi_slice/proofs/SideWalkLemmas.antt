@@ -126,11 +126,6 @@ side-text {whole} {written} {new} {style} {n} {next} {w} {left} {ps} so_far firs
           ∙ ap (λ v. written ++ v) (sym (ap (side_up_to style n) first ∙ side_up_to-text style n w ps within)) ∙ so_far.side;
     })
 
-pub side-last : {whole written new : List ℕ} {style : Rendition} {n : ℕ} {w : List ℕ} {left ps : List Piece} → IsSideSoFar whole written style n left → left ≡ Text w ∷ ps → n < length w
-    → new ≡ written ++ dressed style (take n w) → new ≡ whole
-side-last {written = written} {style = style} {n = n} {w = w} {ps = ps} so_far first last more =
-    more ∙ ap (λ v. written ++ v) (sym (ap (side_up_to style n) first ∙ side_up_to-last style n w ps last)) ∙ so_far.side
-
 side_up_to-mark : (p : Piece) (s : Rendition) (n : ℕ) (ps : List Piece) → is_mark p ≡ true → side_up_to s n (p ∷ ps) ≡ copied p ++ side_up_to (apply s (spelling p)) n ps
 side_up_to-mark (Text w) s n ps is = absurd (cc is)
 side_up_to-mark (Sequence w) s n ps is = refl
@@ -160,6 +155,3 @@ side-mark {whole} {written} {new} {style} {n} {kind} {w} {left} {ps} so_far begi
     ∙ ap₂ (λ b r. (if b then [] else spelling begins.mark) ++ side_up_to r n ps) no_sgr (apply-no_sgr style (spelling begins.mark) no_sgr)
     ∙ ap (λ v. v ++ side_up_to style n ps) bytes in
     record { side = ap (λ v. v ++ side_up_to style n ps) more ∙ append_assoc written w (side_up_to style n ps) ∙ ap (λ v. written ++ v) (sym here) ∙ so_far.side }
-
-pub side-end : {whole written : List ℕ} {style : Rendition} {n : ℕ} {left : List Piece} → IsSideSoFar whole written style n left → left ≡ [] → written ≡ whole
-side-end {written = written} {style = style} {n = n} so_far none = sym (append-nil written) ∙ ap (λ v. written ++ v) (sym (ap (side_up_to style n) none)) ∙ so_far.side

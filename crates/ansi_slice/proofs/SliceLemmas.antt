@@ -1,9 +1,10 @@
 -- Slices of a list whose ends lie at its end or past it, and of two lists in a row.
-use Rattle.std.proofs.Common.{◌≡◌, ℕ, zero, suc, ◌-◌, ◌≤◌, min, inl, inr, List, [], ◌∷◌, ◌++◌, map, length, take, drop, sym, ◌∙◌, ap, ap₂, arith}
-use Rattle.std.proofs.lemmas.Bool.{cases_lt}
+use Rattle.std.proofs.Common.{◌≡◌, ℕ, zero, suc, ◌-◌, ◌≤◌, min, inl, inr, Bool, true, List, [], ◌∷◌, ◌++◌, map, length, take, drop, sym, ◌∙◌, ap, ap₂, arith}
+use Rattle.std.proofs.lemmas.Bool.{cases_lt, and_parts}
+use Rattle.std.proofs.lemmas.List.Folds.{list_all-append}
 use Rattle.std.proofs.Math.Seq.{take-nil, drop-nil}
-use Rattle.std.proofs.lemmas.List.{length-drop, length-take-le, drop_all, take_all, take-map, drop-map}
-use Rattle.std.specs.List.{slice_range}
+use Rattle.std.proofs.lemmas.List.{length-drop, length-take-le, drop_all, take_all, take-append-drop, take-map, drop-map}
+use Rattle.std.specs.List.{slice_range, list_all}
 
 pub slice_range-none : {X : Type 0} (x : List X) (a b : ℕ) → b ≤ a → slice_range x a b ≡ []
 slice_range-none x a b none = (let size : b - a ≡ 0 = omega arith in ap (λ n. take n (drop a x)) size)
@@ -64,3 +65,7 @@ slice_range-append xs ys a b =
 
 pub slice_range-map : {X Y : Type 0} (f : X → Y) (xs : List X) (a b : ℕ) → slice_range (map f xs) a b ≡ map f (slice_range xs a b)
 slice_range-map f xs a b = ap (take (b - a)) (drop-map f a xs) ∙ take-map f (b - a) (drop a xs)
+
+-- where all pass a test, so do all of each part
+pub list_all-parts : (test : ℕ → Bool) (n : ℕ) (x : List ℕ) → list_all test x ≡ true → (list_all test (take n x) ≡ true) × (list_all test (drop n x) ≡ true)
+list_all-parts test n x all = and_parts _ _ (sym (list_all-append test (take n x) (drop n x)) ∙ ap (list_all test) (take-append-drop n x) ∙ all)

@@ -1,10 +1,10 @@
 -- White space at the front and at the end of a text, over the texts that are left.
 use Rattle.std.proofs.Common.{◌≡◌, ℕ, ◌+◌, ◌-◌, ◌<◌, ◌≤◌, Bool, true, false, ◌&&◌, ◌==◌, List, [], ◌∷◌, ◌++◌, length, take, drop, take-add, refl, sym, ◌∙◌, ap, ap₂, subst, arith, cond, length-append}
 use Rattle.std.proofs.lemmas.Bool.Decides.{nat_tests}
-use Rattle.std.proofs.lemmas.List.{take-append-le, length-drop}
+use Rattle.std.proofs.lemmas.List.{take-append-le, length-take}
 use Rattle.std.proofs.lemmas.Str.{chars-nil, encodes-append, encodes-chars, chars-append, length-le-encodes, IsUtf8-drop, IsUtf8-append, IsUtf8-take, IsCharBoundary-start, IsCharBoundary-from_take}
 use Rattle.std.proofs.Math.Seq.{take-append_seam}
-use Rattle.std.specs.Str.{IsUtf8, IsCharBoundary, chars, trim_start, trim_end, trim, skip_leading_whitespace, drop_trailing_whitespace, encode_utf8_all}
+use Rattle.std.specs.Str.{IsUtf8, chars, trim_start, trim_end, trim, skip_leading_whitespace, drop_trailing_whitespace, encode_utf8_all}
 use Rattle.std.specs.Char.{is_whitespace}
 use Rattle.ansi_items.specs.declared.ansitok.Item.{Item}
 use Rattle.ansi_items.specs.declared.ansitok.Kind.{Kind}
@@ -17,7 +17,7 @@ use Rattle.ansi_items.proofs.Utf8Lemmas.{IsUtf8-plain}
 use Rattle.ansi_items.proofs.PieceLemmas.{pieces_are}
 use Rattle.ansi_items.proofs.StepLemmas.{BeginsWithMark, plain_of-mark}
 use Rattle.ansi_slice.proofs.TrimLemmas.{dropped, drop-trim_interval}
-use Rattle.ansi_slice.proofs.OffsetLemmas.{IsPassed, passed-begin, passed-text, passed-mark, keeps-inside, plain-after, kept-front}
+use Rattle.ansi_slice.proofs.OffsetLemmas.{IsOverText, IsOverMark, IsPassed, passed-begin, passed-text, passed-mark, keeps-inside, plain-after, kept-front}
 
 -- the plain text of what a scanner has left is UTF-8
 pub IsUtf8-left : {old new : Scan} {item : Item} {text : List ℕ} → Gives old item new → old.text ≡ text → IsUtf8 text → IsUtf8 (plain_of (pieces_left new))
@@ -104,13 +104,14 @@ trim_end-other w y utf8 some =
     ∙ ap encode_utf8_all (drop-other (chars w) (chars y) (some_chars left some))
     ∙ encodes-append (chars w) left ∙ ap (λ v. v ++ encode_utf8_all left) (encodes-chars w utf8)
 
-trim_end-shorter : (x : List ℕ) → IsUtf8 x → length (trim_end x) ≤ length x
+-- what is left of a text without the white space at its end is how it begins
+trim_end-front : (x : List ℕ) → IsUtf8 x → take (length (trim_end x)) x ≡ trim_end x
 unfolding trim_end
-trim_end-shorter x utf8 =
+trim_end-front x utf8 =
     let split = dropped (chars x) in
-    let kept = drop_trailing_whitespace (chars x) in
-    let same : length x ≡ length (encode_utf8_all kept ++ encode_utf8_all split.0) = ap length (sym (encodes-chars x utf8) ∙ ap encode_utf8_all split.1 ∙ encodes-append kept split.0) in
-    omega (arith, same, length-append (encode_utf8_all kept) (encode_utf8_all split.0))
+    let kept = encode_utf8_all (drop_trailing_whitespace (chars x)) in
+    let all : x ≡ kept ++ encode_utf8_all split.0 = sym (encodes-chars x utf8) ∙ ap encode_utf8_all split.1 ∙ encodes-append (drop_trailing_whitespace (chars x)) split.0 in
+    ap (take (length kept)) all ∙ take-append_seam kept (encode_utf8_all split.0)
 
 -- How far the walk over the white space at the front has come: so far all was white space, and so many bytes of it were counted.
 pub record IsWhiteSoFar (whole len : ℕ) (left : List Piece) : Type 0 where
@@ -203,51 +204,41 @@ pub record IsSolidSoFar (t : List ℕ) (passed end : ℕ) (left : List Piece) : 
 pub solid-begin : (t : List ℕ) → IsUtf8 t → IsSolidSoFar t 0 0 (pieces_of t)
 solid-begin t utf8 = record { place = 0; found = 0; ends = end-begin t; way = passed-begin t; keeps = record { boundary = IsCharBoundary-start t utf8; bytes = refl } }
 
-pub solid-white : {t : List ℕ} {passed end : ℕ} {w front : List ℕ} {left ps : List Piece} (at : ℕ) → IsSolidSoFar t passed end left → left ≡ Text w ∷ ps → take at t ≡ take passed t ++ w
+pub solid-white : {t : List ℕ} {passed at end : ℕ} {w front : List ℕ} {left ps : List Piece} → IsSolidSoFar t passed end left → IsOverText t w passed at left ps
     → front ≡ trim_end w → IsUtf8 w → length front ≡ 0 → IsSolidSoFar t at end ps
-solid-white {w = w} at so_far first more front_is utf8 none = record {
+solid-white {w = w} so_far over front_is utf8 none = record {
   place = so_far.place + length w;
   found = so_far.found;
-  ends = end-white so_far.ends first front_is utf8 none;
-  way = passed-text at so_far.way first more;
+  ends = end-white so_far.ends over.first front_is utf8 none;
+  way = passed-text so_far.way over;
   keeps = so_far.keeps;
 }
 
--- what is left of a text without the white space at its end is how it begins
-trim_end-front : (x : List ℕ) → IsUtf8 x → take (length (trim_end x)) x ≡ trim_end x
-unfolding trim_end
-trim_end-front x utf8 =
-    let split = dropped (chars x) in
-    let kept = encode_utf8_all (drop_trailing_whitespace (chars x)) in
-    let all : x ≡ kept ++ encode_utf8_all split.0 = sym (encodes-chars x utf8) ∙ ap encode_utf8_all split.1 ∙ encodes-append (drop_trailing_whitespace (chars x)) split.0 in
-    ap (take (length kept)) all ∙ take-append_seam kept (encode_utf8_all split.0)
-
-pub solid-other : {t : List ℕ} {passed end : ℕ} {w front : List ℕ} {left ps : List Piece} (at : ℕ) → IsSolidSoFar t passed end left → left ≡ Text w ∷ ps → take at t ≡ take passed t ++ w
-    → pieces_of (drop passed t) ≡ left → IsUtf8 t → IsCharBoundary t passed → front ≡ trim_end w → IsUtf8 w → IsUtf8 front → 0 < length front → IsSolidSoFar t at (passed + length front) ps
-solid-other {t} {passed} {end} {w} {front} {left} {ps} at so_far first more there utf8 boundary front_is run_utf8 front_utf8 some =
+pub solid-other : {t : List ℕ} {passed at end : ℕ} {w front : List ℕ} {left ps : List Piece} → IsSolidSoFar t passed end left → IsOverText t w passed at left ps
+    → IsUtf8 t → front ≡ trim_end w → IsUtf8 w → IsUtf8 front → 0 < length front → IsSolidSoFar t at (passed + length front) ps
+solid-other {t} {passed} {w = w} {front = front} so_far over utf8 front_is run_utf8 front_utf8 some =
     let n = length front in
-    let are = subst (ArePieces (drop passed t)) (there ∙ first) (pieces_are (drop passed t)) in
-    let short : n ≤ length w = omega (arith, trim_end-shorter w run_utf8, ap length front_is) in
+    let are = subst (ArePieces (drop passed t)) (over.there ∙ over.first) (pieces_are (drop passed t)) in
+    let short : n ≤ length w = omega (arith, ap length (trim_end-front w run_utf8), length-take (length (trim_end w)) w, ap length front_is) in
     let all : take n w ≡ front = ap (λ u. take (length u) w) front_is ∙ trim_end-front w run_utf8 ∙ sym front_is in
     let begins : take (passed + n) t ≡ take passed t ++ front
     = take-add passed n t ∙ ap (λ v. take passed t ++ v) (ap (take n) are.1 ∙ take-append-le n w are.0 short ∙ all) in
-    let fits : passed + n ≤ length t = omega (arith, boundary.0, length-drop passed t, ap length are.1, length-append w are.0) in
+    let fits : passed + n ≤ length t = omega (arith, short, over.count, over.within) in
     record {
       place = so_far.place + length w;
       found = so_far.place + n;
-      ends = end-other so_far.ends first front_is run_utf8 some;
-      way = passed-text at so_far.way first more;
-      keeps = keeps-inside so_far.way first there short
-          (IsCharBoundary-from_take t (passed + n) utf8 fits (subst IsUtf8 (sym begins) (IsUtf8-append (take passed t) front (IsUtf8-take t passed utf8 boundary) front_utf8)));
+      ends = end-other so_far.ends over.first front_is run_utf8 some;
+      way = passed-text so_far.way over;
+      keeps = keeps-inside so_far.way over short
+          (IsCharBoundary-from_take t (passed + n) utf8 fits (subst IsUtf8 (sym begins) (IsUtf8-append (take passed t) front (IsUtf8-take t passed utf8 over.begins) front_utf8)));
     }
 
-pub solid-mark : {t : List ℕ} {passed end : ℕ} {kind : Kind} {w : List ℕ} {left ps : List Piece} (at : ℕ) → IsSolidSoFar t passed end left → BeginsWithMark kind w left ps → take at t ≡ take passed t ++ w
-    → IsSolidSoFar t at end ps
-solid-mark at so_far begins more = record {
+pub solid-mark : {t : List ℕ} {passed at end : ℕ} {kind : Kind} {w : List ℕ} {left ps : List Piece} → IsSolidSoFar t passed end left → IsOverMark kind t w passed at left ps → IsSolidSoFar t at end ps
+solid-mark so_far over = record {
   place = so_far.place;
   found = so_far.found;
-  ends = end-mark so_far.ends begins;
-  way = passed-mark at so_far.way begins more;
+  ends = end-mark so_far.ends over.first;
+  way = passed-mark so_far.way over;
   keeps = so_far.keeps;
 }
 

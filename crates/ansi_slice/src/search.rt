@@ -1,5 +1,5 @@
 //! Searches in a plain text, over the items of its text and without memory.
-ghost use Rattle.std.specs.Prelude.{◌≡◌, ◌↔◌, None, Some, IsTrue};
+ghost use Rattle.std.specs.Prelude.{◌≡◌, ◌↔◌, ◌&&◌, ◌||◌, length, nat_le, None, Some, IsTrue};
 ghost use Rattle.std.specs.Str.{IsCharBoundary};
 ghost use Rattle.ansi_items.specs.Plain.{plain};
 ghost use Rattle.ansi_slice.specs.Positions.{is_good_position, is_char_boundary, is_good_range};
@@ -20,6 +20,24 @@ pub use matches::{find, find_from, first_in_run};
 pub fn is_good_position(text: &str, position: usize) -> bool
     ensures { result ≡ is_good_position (plain text.now) position }
 {
+    is_boundary(text, position, true)
+}
+
+/// As `AnsiStr::ansi_is_char_boundary`.
+pub fn is_char_boundary(text: &str, index: usize) -> bool
+    ensures value { result ≡ is_char_boundary (plain text.now) index }
+    ensures boundary { IsTrue result ↔ IsCharBoundary (plain text.now) index }
+    ensures good_before { IsTrue result → IsTrue (is_good_range (plain text.now) 0 (Some index)) }
+    ensures good_after { IsTrue result → IsTrue (is_good_range (plain text.now) index None) }
+{
+    is_boundary(text, index, false)
+}
+
+/// Whether a character of the plain text begins at the position, or it is the end, or it lies past the
+/// end and that is good too.
+fn is_boundary(text: &str, position: usize, is_past_good: bool) -> bool
+    ensures { result ≡ ((is_past_good || nat_le position (length (plain text.now))) && is_good_position (plain text.now) position) }
+{
     let mut remaining = position;
     for item in Scanner::new(text) {
         if item.kind == Kind::Text {
@@ -30,25 +48,5 @@ pub fn is_good_position(text: &str, position: usize) -> bool
             remaining -= run.len();
         }
     }
-    true
-}
-
-/// As `AnsiStr::ansi_is_char_boundary`.
-pub fn is_char_boundary(text: &str, index: usize) -> bool
-    ensures value { result ≡ is_char_boundary (plain text.now) index }
-    ensures boundary { IsTrue result ↔ IsCharBoundary (plain text.now) index }
-    ensures good_before { IsTrue result → IsTrue (is_good_range (plain text.now) 0 (Some index)) }
-    ensures good_after { IsTrue result → IsTrue (is_good_range (plain text.now) index None) }
-{
-    let mut remaining = index;
-    for item in Scanner::new(text) {
-        if item.kind == Kind::Text {
-            let run = &text[item.start..item.end];
-            if remaining < run.len() {
-                return run.is_char_boundary(remaining);
-            }
-            remaining -= run.len();
-        }
-    }
-    remaining == 0
+    is_past_good || remaining == 0
 }

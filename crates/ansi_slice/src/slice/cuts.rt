@@ -7,7 +7,7 @@ ghost use Rattle.ansi_slice.specs.Cut.{cut, cut_up_to};
 
 use crate::search::offsets::walk_to;
 use crate::slice::has_any;
-use crate::slice::sequences::push_sequences;
+use crate::slice::sequences::with_sequences;
 use ansi_style::styles;
 use std::alloc::{AllocError, Allocator};
 use std::borrow::CowStr;
@@ -108,9 +108,7 @@ fn cut_up_to<A: Allocator>(
     };
     // The sequences up to the start are what stands before it but for the plain bytes there.
     let most = from.saturating_sub(start) + to + LONGEST_CLOSE;
-    let mut cut = String::with_capacity(alloc, most)?;
-    push_sequences(&mut cut, text, start)?;
-    cut.push_str(&rest[..to])?;
+    let mut cut = with_sequences(alloc, most, text, start, &rest[..to])?;
     styles::write_close(&style, &mut cut)?;
     Ok(Some(cut))
 }

@@ -10,7 +10,7 @@ use crate::search;
 use crate::search::ends::{solid_end, suffix_offset, white_space_len};
 use crate::search::offsets::offset_at;
 use crate::slice::has_any;
-use crate::slice::sequences::push_sequences;
+use crate::slice::sequences::{push_sequences, with_sequences};
 use std::alloc::{AllocError, Allocator};
 use std::borrow::CowStr;
 
@@ -44,7 +44,9 @@ pub fn strip_prefix_in<'t, A: Allocator>(
     if !search::starts_with(text, prefix) {
         return Ok(None);
     }
-    Ok(Some(CowStr::Owned(keep_from(alloc, text, prefix.len())?)))
+    let start = prefix.len();
+    let rest = &text[offset_at(text, start)..];
+    Ok(Some(CowStr::Owned(with_sequences(alloc, text.len(), text, start, rest)?)))
 }
 
 /// As `AnsiStr::ansi_strip_suffix`, with an answer that lives as long as the text, and its memory taken from any allocator.
@@ -103,18 +105,6 @@ pub fn trim_in<'t, A: Allocator>(alloc: A, text: &'t str) -> Result<CowStr<'t, A
     push_sequences(&mut kept, text, start)?;
     push_up_to(&mut kept, rest, solid_end(rest))?;
     Ok(CowStr::Owned(kept))
-}
-
-/// What is kept of a text from a position on, written: the sequences up to there, and all that follows.
-fn keep_from<A: Allocator>(alloc: A, text: &str, start: usize) -> Result<String<A>, AllocError>
-    requires { IsCharBoundary (plain text.now) start }
-    ensures { IfOk result (λ s. string_bytes s ≡ kept text.now start (length (plain text.now))) }
-{
-    let rest = &text[offset_at(text, start)..];
-    let mut kept = String::with_capacity(alloc, text.len())?;
-    push_sequences(&mut kept, text, start)?;
-    kept.push_str(rest)?;
-    Ok(kept)
 }
 
 /// Appends a text up to an offset, and then its sequences alone. An `Err` means that memory is wanting;

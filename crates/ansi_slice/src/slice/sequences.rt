@@ -1,5 +1,5 @@
 //! The sequences of a text, without its plain text.
-ghost use Rattle.std.specs.Prelude.{◌≡◌, ◌++◌, OnOk, string_bytes};
+ghost use Rattle.std.specs.Prelude.{◌≡◌, ◌++◌, IfOk, OnOk, string_bytes};
 ghost use Rattle.ansi_items.specs.Pieces.{pieces_of};
 ghost use Rattle.ansi_slice.specs.Offsets.{sequences_up_to};
 
@@ -28,4 +28,21 @@ pub(super) fn push_sequences<A: Allocator>(
         }
     }
     Ok(())
+}
+
+/// Every sequence of a text up to a position, and then a stretch of it, in a text that has room for so
+/// many bytes.
+pub(super) fn with_sequences<A: Allocator>(
+    alloc: A,
+    capacity: usize,
+    text: &str,
+    position: usize,
+    stretch: &str,
+) -> Result<String<A>, AllocError>
+    ensures { IfOk result (λ s. string_bytes s ≡ sequences_up_to position (pieces_of text.now) ++ stretch.now) }
+{
+    let mut out = String::with_capacity(alloc, capacity)?;
+    push_sequences(&mut out, text, position)?;
+    out.push_str(stretch)?;
+    Ok(out)
 }

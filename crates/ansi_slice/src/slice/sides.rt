@@ -1,5 +1,5 @@
 //! The two sides of a text.
-ghost use Rattle.std.specs.Prelude.{◌≡◌, ◌++◌, ◌↔◌, ◌≤◌, ◌+◌, ◌*◌, length, filter, take, drop, IsTrue, IsFalse, IsOk, IfOk, OnOk, string_bytes};
+ghost use Rattle.std.specs.Prelude.{◌≡◌, ◌++◌, ◌↔◌, ◌≤◌, ◌+◌, ◌*◌, length, filter, IsTrue, IsFalse, IsOk, IfOk, OnOk, string_bytes};
 ghost use Rattle.std.specs.Cow.{cow_str_bytes, IsBorrowedStr};
 ghost use Rattle.ansi_items.specs.Pieces.{pieces_of};
 ghost use Rattle.ansi_items.specs.Plain.{plain, is_text, has_escape};
@@ -91,12 +91,13 @@ pub fn right_in<'t, A: Allocator>(
     Ok(CowStr::Owned(write_right(alloc, style, &text[from..])?))
 }
 
-/// The bytes of a text before a good position, and those from there on. One past the end counts as
-/// the end.
+/// The two sides of a text without ESC: its bytes before the position, and those from there on. A
+/// position past the end counts as the end.
 fn halves(text: &str, mid: usize) -> (&str, &str)
-    requires { IsTrue (is_good_position text.now mid) }
-    ensures left { result.0.now ≡ take mid text.now }
-    ensures right { result.1.now ≡ drop mid text.now }
+    requires bare { IsFalse (has_escape text.now) }
+    requires good { IsTrue (is_good_position (plain text.now) mid) }
+    ensures left { result.0.now ≡ left_side text.now mid }
+    ensures right { result.1.now ≡ right_side text.now mid }
 {
     text.split_at(mid.min(text.len()))
 }

@@ -1,13 +1,10 @@
-use Rattle.std.proofs.Common.{rules, ◌≡◌, ◌∷◌, ◌++◌, ◌≤◌, length, refl, sym, ◌∙◌, ap, subst, arith, take, drop, nat_eq, true, ◌-◌, IsTrue}
-use Rattle.std.specs.List.{slice_range, starts_with}
-use Rattle.std.specs.Str.{IsCharBoundary}
-use Rattle.ansi_items.specs.Pieces.{Text, pieces_of}
+use Rattle.std.proofs.Common.{rules, ◌≡◌, length, refl, sym, ◌∙◌, ap, subst, arith, drop, nat_eq, true, ◌-◌, IsTrue}
+use Rattle.std.specs.List.{starts_with}
 use Rattle.ansi_items.specs.Plain.{plain}
-use Rattle.ansi_items.specs.Scans.{pieces_left}
-use Rattle.ansi_items.proofs.StepLemmas.{BeginsWithMark, is_text, gives_text, gives_mark}
+use Rattle.ansi_items.proofs.StepLemmas.{is_text}
 use Rattle.ansi_slice.specs.Positions.{is_good_position}
 use Rattle.ansi_slice.specs.Offsets.{StandsIn}
-use Rattle.ansi_slice.proofs.OffsetLemmas.{take-item}
+use Rattle.ansi_slice.proofs.OffsetLemmas.{over_text, over_mark}
 use Rattle.ansi_slice.proofs.EndLemmas.{tail-begin, tail-run, tail-text, tail-mark, tail-starts, tail-good, tail-keeps}
 use Rattle.ansi_slice.proofs.search.ends.suffix_offset.Goals as goal
 use Rattle.ansi_slice.proofs.search.ends.suffix_offset.Goals.{then-pat-run, else-pat-run}
@@ -24,42 +21,29 @@ loop-item-init c =
 -- over a run
 pub loop-item-preserved-then-eq : goal.loop-item-preserved-then-eq
 loop-item-preserved-then-eq c =
-    let t = c.args.text.now in
-    let w = c.range-run.result.now in
-    let at = c.loop-item.item-iterator.offset in
     let gives = c.in-Some.ensures.steps in
-    let left : pieces_left c.loop-item.item-iterator ≡ Text w ∷ pieces_left c.next.new.self = gives_text gives c.loop-item.invariant.text c.range-run.ensures.value (is_text c.if-eq.ensures) in
-    let forward : at ≤ c.in-Some.item.end = omega (arith, gives.start, gives.forward) in
-    let more : take c.next.new.self.offset t ≡ take at t ++ w = ap (λ n. take n t) (sym gives.end) ∙ take-item t gives.start forward c.range-run.ensures.value in
-    let there : pieces_of (drop at t) ≡ pieces_left c.loop-item.item-iterator = ap (λ u. pieces_of (drop at u)) (sym c.loop-item.invariant.text) in
-    let boundary : IsCharBoundary t at = subst (IsCharBoundary t) gives.start (subst (λ u. IsCharBoundary u c.in-Some.item.start) c.loop-item.invariant.text gives.start_boundary) in
+    let over = over_text gives c.loop-item.invariant.text c.range-run.ensures.value (is_text c.if-eq.ensures) in
     elim c.if-pat-run.branch [
       | then-pat-run v ↦ record {
         text = gives.text ∙ c.loop-item.invariant.text;
         fits = omega (arith, v.len-is, gives.start, gives.end, gives.forward, c.range-run.ensures.len);
-        so_far = rw (v.last-is, v.len-is, gives.start) (tail-run c.next.new.self.offset c.loop-item.invariant.so_far left more there boundary v.if-pat-run.true);
+        so_far = rw (v.last-is, v.len-is, gives.start) (tail-run c.loop-item.invariant.so_far over v.if-pat-run.true);
       }
       | else-pat-run v ↦ record {
         text = gives.text ∙ c.loop-item.invariant.text;
         fits = omega (arith, v.len-is, c.loop-item.invariant.fits, gives.start, gives.end, gives.forward, c.range-run.ensures.len);
-        so_far = rw (v.last-is, v.len-is) (tail-text c.next.new.self.offset c.loop-item.invariant.so_far left more);
+        so_far = rw (v.last-is, v.len-is) (tail-text c.loop-item.invariant.so_far over);
       }
     ]
 
 -- over a mark
 pub loop-item-preserved : goal.loop-item-preserved
 loop-item-preserved c =
-    let t = c.args.text.now in
-    let item = c.in-Some.item in
-    let w = slice_range t item.start item.end in
-    let at = c.loop-item.item-iterator.offset in
     let gives = c.in-Some.ensures.steps in
-    let mark : BeginsWithMark item.kind w (pieces_left c.loop-item.item-iterator) (pieces_left c.next.new.self) = gives_mark gives c.loop-item.invariant.text refl (search rules) in
-    let forward : at ≤ item.end = omega (arith, gives.start, gives.forward) in
     record {
       text = gives.text ∙ c.loop-item.invariant.text;
       fits = omega (arith, c.loop-item.invariant.fits, gives.start, gives.end, gives.forward);
-      so_far = tail-mark c.next.new.self.offset c.loop-item.invariant.so_far mark (ap (λ n. take n t) (sym gives.end) ∙ take-item t gives.start forward refl);
+      so_far = tail-mark c.loop-item.invariant.so_far (over_mark gives c.loop-item.invariant.text refl (search rules));
     }
 
 pub range_from-rest-requires : goal.range_from-rest-requires

@@ -34,4 +34,4 @@ returns-in_err-find c =
     let rest : c.in_ok-rest.rest.now ≡ drop c.args.from w = lookup.2 ∙ take_rest c.as_bytes.result.now c.args.from ∙ ap (drop c.args.from) c.as_bytes.ensures.value in
     let finds : FindsNeedle (drop c.args.from w) p 0 None = rw (← rest, ← c.as_bytes-2.ensures.value) c.in_err-find.ensures in
     let filled : length p ≢ 0 = eqb-false (length p) 0 (sym c.if-is_empty.ensures) in
-    rw c.from_residual-in_err-find.ensures (none_inside w p c.args.from (omega (arith, filled)) (omega (arith, lookup.0, ap length c.as_bytes.ensures.value)) finds)
+    rw c.from_residual-in_err-find.ensures (none_inside w p c.args.from c.utf8.pat (omega (arith, filled)) (omega (arith, lookup.0, ap length c.as_bytes.ensures.value)) finds)

@@ -1,4 +1,4 @@
-use Rattle.std.proofs.Common.{◌≡◌, ◌++◌, ◌-◌, ◌∙◌, ap, ap₂, arith, take}
+use Rattle.std.proofs.Common.{◌≡◌, ◌++◌, ◌-◌, ◌∙◌, ap, arith, take}
 use Rattle.ansi_items.specs.Pieces.{pieces_of}
 use Rattle.ansi_style.specs.Reading.{style_within}
 use Rattle.ansi_style.specs.Written.{close}
@@ -18,16 +18,6 @@ returns-in_err-cut-clause-takes_no_memory g c = λ bad.
     let good = range-by_offset c.if-end-start.false c.in-Some.ensures.offset c.range_from-rest.ensures.value ∙ c.in-Some-walk_to.ensures.offset.good in
     absurd (cc (good, bad))
 
-pub returns-in_err-push_sequences-clause-takes_no_memory : goal.returns-in_err-push_sequences-clause-takes_no_memory
-returns-in_err-push_sequences-clause-takes_no_memory g c = λ bad.
-    let good = range-by_offset c.if-end-start.false c.in-Some.ensures.offset c.range_from-rest.ensures.value ∙ c.in-Some-walk_to.ensures.offset.good in
-    absurd (cc (good, bad))
-
-pub returns-in_err-push_str-clause-takes_no_memory : goal.returns-in_err-push_str-clause-takes_no_memory
-returns-in_err-push_str-clause-takes_no_memory g c = λ bad.
-    let good = range-by_offset c.if-end-start.false c.in-Some.ensures.offset c.range_from-rest.ensures.value ∙ c.in-Some-walk_to.ensures.offset.good in
-    absurd (cc (good, bad))
-
 pub returns-in_err-write_close-clause-takes_no_memory : goal.returns-in_err-write_close-clause-takes_no_memory
 returns-in_err-write_close-clause-takes_no_memory g c = λ bad.
     let good = range-by_offset c.if-end-start.false c.in-Some.ensures.offset c.range_from-rest.ensures.value ∙ c.in-Some-walk_to.ensures.offset.good in
@@ -36,16 +26,12 @@ returns-in_err-write_close-clause-takes_no_memory g c = λ bad.
 -- the sequences up to the start, the stretch and the close are the cut
 pub returns-clause-cut : goal.returns-clause-cut
 returns-clause-cut g c =
-    let t = c.args.text.now in
     let rest = c.range_from-rest.result.now in
-    let s = c.args.start in
-    let front = sequences_up_to s (pieces_of t) in
-    let last = close (rendition_of c.walk_to-2.new.style) in
-    let to = c.in-Some-walk_to.to in
-    let all : to - 0 ≡ to = omega arith in
-    let styled : rendition_of c.walk_to.new.style ≡ style_within _ t s = c.in-Some.ensures.style ∙ ap (λ r. style_within r t s) c.plain_style-style.ensures in (
+    let front = sequences_up_to c.args.start (pieces_of c.args.text.now) in
+    let all : c.in-Some-walk_to.to - 0 ≡ c.in-Some-walk_to.to = omega arith in
+    let styled : rendition_of c.walk_to.new.style ≡ style_within _ c.args.text.now c.args.start = c.in-Some.ensures.style ∙ ap (λ r. style_within r c.args.text.now c.args.start) c.plain_style-style.ensures in (
       range-by_offset c.if-end-start.false c.in-Some.ensures.offset c.range_from-rest.ensures.value ∙ c.in-Some-walk_to.ensures.offset.good,
       c.in_ok-write_close.ensures
-          ∙ ap (λ v. v ++ last) (c.in_ok-push_str.ensures.bytes ∙ ap₂ (λ u v. u ++ v) (c.in_ok-push_sequences.ensures ∙ ap (λ v. v ++ front) c.in_ok-cut.ensures.bytes) (c.range.ensures.value ∙ ap (λ n. take n rest) all))
+          ∙ ap (λ v. v ++ close (rendition_of c.walk_to-2.new.style)) (c.in_ok-cut.ensures ∙ ap (λ v. front ++ v) (c.range.ensures.value ∙ ap (λ n. take n rest) all))
           ∙ cut-stretch c.if-end-start.false c.in-Some.ensures.offset c.range_from-rest.ensures.value c.in-Some-walk_to.ensures.offset styled c.in-Some-walk_to.ensures.style,
     )

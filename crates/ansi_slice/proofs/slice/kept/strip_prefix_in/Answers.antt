@@ -1,11 +1,13 @@
-use Rattle.std.proofs.Common.{sym, ◌∙◌, ap, ap₂, arith, length, IsFalse, nat_eq}
+use Rattle.std.proofs.Common.{◌≡◌, ℕ, true, List, sym, ◌∙◌, ap, ap₂, arith, length, IsFalse, nat_eq}
 use Rattle.std.proofs.lemmas.Bool.{eqb-true}
 use Rattle.std.specs.List.{starts_with}
 use Rattle.ansi_items.specs.Plain.{plain, has_escape}
 use Rattle.ansi_slice.specs.Kept.{kept}
 use Rattle.ansi_items.proofs.PlainLemmas.{plain-bare}
 use Rattle.ansi_items.proofs.Utf8Lemmas.{IsUtf8-plain}
-use Rattle.ansi_slice.proofs.PositionLemmas.{none_if_bad, some_if_good}
+use Rattle.std.specs.Str.{IsUtf8, IsCharBoundary}
+use Rattle.ansi_slice.proofs.PositionLemmas.{boundary_is_good, none_if_bad, some_if_good}
+use Rattle.ansi_slice.proofs.OffsetLemmas.{kept-rest}
 use Rattle.ansi_slice.proofs.EndLemmas.{starts_with-boundary}
 use Rattle.ansi_slice.proofs.SliceLemmas.{slice_range-past}
 use Rattle.ansi_slice.proofs.KeptWalkLemmas.{kept-all, kept-bare}
@@ -19,10 +21,17 @@ returns-then-is_empty-clause-bytes g c =
     sym (ap (λ n. kept t n (length (plain t))) none ∙ kept-all t (length (plain t)) (omega arith))
 
 -- a character begins after the prefix
-pub keep_from-requires : goal.keep_from-requires
-keep_from-requires g c =
-    let t = c.args.text.now in
-    starts_with-boundary (plain t) c.args.prefix.now (IsUtf8-plain t c.utf8.text) c.utf8.prefix (sym c.starts_with-2.ensures ∙ c.if-not-starts_with-2.false)
+after_prefix : (t p : List ℕ) → IsUtf8 t → IsUtf8 p → starts_with nat_eq (plain t) p ≡ true → IsCharBoundary (plain t) (length p)
+after_prefix t p utf8 prefix_utf8 starts = starts_with-boundary (plain t) p (IsUtf8-plain t utf8) prefix_utf8 starts
+
+pub offset_at-requires : goal.offset_at-requires
+offset_at-requires g c =
+    boundary_is_good _ _ (after_prefix c.args.text.now c.args.prefix.now c.utf8.text c.utf8.prefix (sym c.starts_with-2.ensures ∙ c.if-not-starts_with-2.false))
+
+pub returns-clause-bytes : goal.returns-clause-bytes
+returns-clause-bytes g c =
+    let boundary = after_prefix c.args.text.now c.args.prefix.now c.utf8.text c.utf8.prefix (sym c.starts_with-2.ensures ∙ c.if-not-starts_with-2.false) in
+    c.in_ok-with_sequences.ensures ∙ kept-rest boundary.0 c.offset_at.ensures c.range_from-rest.ensures.value
 
 -- a text without ESC is its own plain text, and what is left of it is a slice
 

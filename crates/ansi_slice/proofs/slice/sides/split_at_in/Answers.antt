@@ -1,29 +1,10 @@
-use Rattle.std.proofs.Common.{◌++◌, sym, ◌∙◌, ap, ap₂, subst, arith, length, IsTrue, IsFalse}
+use Rattle.std.proofs.Common.{◌++◌, sym, ◌∙◌, ap, ap₂, arith, length}
 use Rattle.ansi_items.specs.Pieces.{pieces_of}
-use Rattle.ansi_items.specs.Plain.{has_escape}
-use Rattle.ansi_items.proofs.PlainLemmas.{plain-bare}
 use Rattle.ansi_style.specs.Reading.{style_within}
-use Rattle.ansi_slice.specs.Positions.{is_good_position}
 use Rattle.ansi_slice.specs.Sides.{side_up_to}
-use Rattle.ansi_slice.proofs.SideLemmas.{left_side-bare, right_side-bare}
 use Rattle.ansi_slice.proofs.SideWalkLemmas.{left_side-is, right_side-is}
 use Rattle.ansi_slice.proofs.LengthLemmas.{length-sides}
 use Rattle.ansi_slice.proofs.slice.sides.split_at_in.Goals as goal
-
--- a text without ESC is its own plain text, and its sides are slices
-
-pub halves-requires : goal.halves-requires
-halves-requires g c =
-    let none : IsFalse (has_escape c.args.text.now) = sym c.has_any.ensures ∙ c.if-not-has_any.true in
-    subst (λ x. IsTrue (is_good_position x c.args.mid)) (plain-bare c.args.text.now none) c.requires
-
-pub returns-then-not-has_any-clause-left : goal.returns-then-not-has_any-clause-left
-returns-then-not-has_any-clause-left g c =
-    c.halves.ensures.left ∙ sym (left_side-bare c.args.text.now c.args.mid (sym c.has_any.ensures ∙ c.if-not-has_any.true))
-
-pub returns-then-not-has_any-clause-right : goal.returns-then-not-has_any-clause-right
-returns-then-not-has_any-clause-right g c =
-    c.halves.ensures.right ∙ sym (right_side-bare c.args.text.now c.args.mid (sym c.has_any.ensures ∙ c.if-not-has_any.true))
 
 -- both sides have their text, and a start and a close for each text item and for the one that is divided
 
@@ -31,8 +12,8 @@ pub returns-then-not-has_any-clause-len : goal.returns-then-not-has_any-clause-l
 returns-then-not-has_any-clause-len g c =
     omega (
       arith,
-      ap length (returns-then-not-has_any-clause-left g c),
-      ap length (returns-then-not-has_any-clause-right g c),
+      ap length c.halves.ensures.left,
+      ap length c.halves.ensures.right,
       length-sides c.args.text.now c.args.mid,
     )
 

@@ -1,4 +1,4 @@
-use Rattle.std.proofs.Common.{◌-◌, ◌<◌, ◌≤◌, ◌++◌, length, take, drop}
+use Rattle.std.proofs.Common.{◌-◌, ◌<◌, length, drop}
 use Rattle.ansi_items.specs.Plain.{plain}
 use Rattle.ansi_slice.proofs.BorderLemmas.{ReadsTo}
 use Rattle.ansi_slice.proofs.search.pattern.Pattern.read.Given as goal
@@ -6,10 +6,8 @@ use Rattle.ansi_slice.proofs.search.pattern.Pattern.read.Given as goal
 -- whatever was read before, all up to here is read too
 abbrev pub invariant-loop-at : goal.invariant-loop-at
 invariant-loop-at l = record {
-  forward : l.from ≤ l.at;
-  within : l.at ≤ l.end;
   short : l.met < length l.self.front.now;
-  read : ReadsTo l.self.front.now l.self.tail.now (take l.end l.bytes ++ plain (drop l.end l.text)) l.from l.reached.met l.at l.met;
+  read : ReadsTo l.self.front.now l.self.tail.now l.bytes (plain (drop l.end l.text)) l.from l.reached.met l.end l.at l.met;
 }
 
 abbrev pub decreases-loop-at : goal.decreases-loop-at
