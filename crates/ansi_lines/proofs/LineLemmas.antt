@@ -1,12 +1,12 @@
 -- The first line of a text, and the rest.
-use Rattle.std.proofs.Common.{◌≡◌, ◌<◌, ◌+◌, ℕ, List, [], ◌∷◌, ◌++◌, length, Bool, true, false, Option, None, Some, refl, ap, ◌∙◌, arith, not, cond, is_none, unwrap_or, if◌then◌else◌}
+use Rattle.std.proofs.Common.{◌≡◌, ◌<◌, ◌+◌, ℕ, take, drop, List, [], ◌∷◌, ◌++◌, length, Bool, true, false, Option, None, Some, refl, ap, ◌∙◌, arith, not, cond, is_none, unwrap_or, if◌then◌else◌}
 use Rattle.std.specs.Io.KnownBytes.{append_known}
 use Rattle.std.specs.List.{slice_split, flat_map, position_or_len, before_first, after_first, position_from, All}
 use Rattle.std.proofs.lemmas.List.Splits.{slice_split_first, slice_split_none, length-slice_split}
 use Rattle.std.proofs.lemmas.Bool.{false_from_ne_true}
 use Rattle.std.proofs.lemmas.List.Sums.{fails_before_first, position_or_len_is, take_while-cons}
 use Rattle.memchr.specs.Find.{IsFirstByte, is_byte}
-use Rattle.ansi_lines.specs.Lines.{Line, line_feed, is_line_feed, lines, lines_of_pieces, answer_of, answer_to, answers, is_refused, first_refused, WritesAnswer}
+use Rattle.ansi_lines.specs.Lines.{Line, HasFirstLine, line_feed, is_line_feed, lines, lines_of_pieces, answer_of, answer_to, answers, is_refused, first_refused, WritesAnswer}
 use Rattle.ansi_lines.specs.Words.{Work}
 
 -- a piece with a piece after it is ended
@@ -15,26 +15,27 @@ lines_of_pieces-cons piece [] some = absurd (omega arith)
 lines_of_pieces-cons piece (next ∷ more) some = refl
 
 -- a search for a line feed that finds one
-pub first_found : (text : List ℕ) (end : ℕ) → IsFirstByte (is_byte line_feed) text (Some end) → position_or_len is_line_feed text ≡ end
+first_found : (text : List ℕ) (end : ℕ) → IsFirstByte (is_byte line_feed) text (Some end) → position_or_len is_line_feed text ≡ end
 first_found text end h = position_or_len_is is_line_feed text end 0 (omega (arith, h.0.high)) (λ k below. false_from_ne_true _ (h.0.before k (omega arith) below)) (λ _. h.1)
 
 -- a search for a line feed that finds none
-pub none_found : (text : List ℕ) → IsFirstByte (is_byte line_feed) text None → position_or_len is_line_feed text ≡ length text
+none_found : (text : List ℕ) → IsFirstByte (is_byte line_feed) text None → position_or_len is_line_feed text ≡ length text
 none_found text h = position_or_len_is is_line_feed text (length text) 0 (omega arith) (λ k below. false_from_ne_true _ (h k (omega arith) below)) (λ inside. absurd (omega arith))
 
--- a text with a line feed has a first line, and the others
-pub lines-first : (text line more : List ℕ)
-    → (line ≡ before_first is_line_feed text) × (more ≡ after_first is_line_feed text) × (position_or_len is_line_feed text < length text)
-    → lines text ≡ record { text = line; ended = true } ∷ lines more
-lines-first text line more (is_line, is_more, within) = rw (is_line, is_more) (
-    ap lines_of_pieces (slice_split_first is_line_feed text 0 within)
+-- a text with a line feed has a first line that it ends, and the others
+pub lines-first : (text : List ℕ) (end : ℕ) → IsFirstByte (is_byte line_feed) text (Some end) → HasFirstLine text (take end text) true (drop (end + 1) text)
+lines-first text end found =
+    let at : position_or_len is_line_feed text ≡ end = first_found text end found in
+    rw (← at) (
+    ap lines_of_pieces (slice_split_first is_line_feed text 0 (omega (arith, at, found.0.high)))
     ∙ lines_of_pieces-cons (before_first is_line_feed text) (slice_split is_line_feed (after_first is_line_feed text))
     (omega (arith, length-slice_split is_line_feed (after_first is_line_feed text))))
 
 -- a text without a line feed is one line, if it isn't empty
-pub lines-last : (text : List ℕ) → position_or_len is_line_feed text ≡ length text → 0 < length text → lines text ≡ record { text = text; ended = false } ∷ lines []
-lines-last [] whole some = absurd (omega arith)
-lines-last (b ∷ text) whole some =
+pub lines-last : (text : List ℕ) → IsFirstByte (is_byte line_feed) text None → 0 < length text → HasFirstLine text text false []
+lines-last [] found some = absurd (omega arith)
+lines-last (b ∷ text) found some =
+    let whole : position_or_len is_line_feed (b ∷ text) ≡ length (b ∷ text) = none_found (b ∷ text) found in
     let none : All (λ x. is_line_feed x ≡ false) (b ∷ text) = λ k d below. fails_before_first is_line_feed (b ∷ text) k d (omega arith) in
     ap lines_of_pieces (slice_split_none is_line_feed (b ∷ text) none)
 
@@ -60,7 +61,7 @@ was_refused old new (Some answer) is wrote = let yes = wrote.0 in cc
 
 -- a text whose first line is answered, and what is written for that line
 pub line-answered : {answered : Bool} (old new : Option (List ℕ)) (work : Work) (number : ℕ) (text : List ℕ) (line : Line) (more : List ℕ)
-    → lines text ≡ line ∷ lines more → answered ≡ true → WritesAnswer (answer_of work line.text) answered old new
+    → HasFirstLine text line.text line.ended more → answered ≡ true → WritesAnswer (answer_of work line.text) answered old new
     → (answer : List ℕ) × (new ≡ append_known old answer)
     × (answers work text ≡ (answer ++ (if line.ended then line_feed ∷ [] else [])) ++ answers work more)
     × (first_refused number work text ≡ first_refused (number + 1) work more)
@@ -79,7 +80,7 @@ line-answered old new work number text line more split is wrote =
 
 -- a text whose first line is refused
 pub line-refused : {answered : Bool} (old new : Option (List ℕ)) (work : Work) (number : ℕ) (text : List ℕ) (line : Line) (more : List ℕ)
-    → lines text ≡ line ∷ lines more → answered ≡ false → WritesAnswer (answer_of work line.text) answered old new
+    → HasFirstLine text line.text line.ended more → answered ≡ false → WritesAnswer (answer_of work line.text) answered old new
     → (new ≡ old) × (answers work text ≡ []) × (first_refused number work text ≡ Some number)
 unfolding answers first_refused
 line-refused old new work number text line more split is wrote =
@@ -92,8 +93,8 @@ line-refused old new work number text line more split is wrote =
           ∙ ap (λ b. cond b (Some number) (position_from (is_refused work) (number + 1) (lines more))) refused,
     )
 
--- an empty text has no answers, and none is refused
-pub answers-empty : (work : Work) (number : ℕ) (text : List ℕ) → length text ≡ 0 → (answers work text ≡ []) × (first_refused number work text ≡ None)
+-- a text without lines has no answers, and none is refused
+pub answers-none : (work : Work) (number : ℕ) (text : List ℕ) → lines text ≡ [] → (answers work text ≡ []) × (first_refused number work text ≡ None)
 unfolding answers first_refused
-answers-empty work number [] empty = (refl, refl)
-answers-empty work number (b ∷ text) empty = absurd (omega arith)
+answers-none work number text none =
+    (ap (λ ls. flat_map (answer_to work) (before_first (is_refused work) ls)) none, ap (position_from (is_refused work) number) none)

@@ -36,6 +36,10 @@ lines_of_pieces (piece ∷ next ∷ more) = record { text = piece; ended = true 
 abbrev pub lines : List ℕ → List Line
 lines text = lines_of_pieces (slice_split is_line_feed text)
 
+-- a text has this first line, ended or not, and goes on with these
+abbrev pub HasFirstLine : List ℕ → List ℕ → Bool → List ℕ → Type 0
+HasFirstLine text line ended more = lines text ≡ record { text = line; ended = ended } ∷ lines more
+
 -- a line's text is answered by its plain text, or by what the changes in turn make of it, if none is refused
 abbrev pub answer_of : Work → List ℕ → Option (List ℕ)
 answer_of Stripped text = Some (plain text)

@@ -1,11 +1,10 @@
 //! Answers a text line by line.
-ghost use Rattle.std.specs.Prelude.{◌≡◌, ◌<◌, length, IfErr, IfNone, IfOk, IfSome, OnOk};
-ghost use Rattle.std.specs.List.{after_first, before_first, position_or_len};
+ghost use Rattle.std.specs.Prelude.{◌≡◌, ◌<◌, [], length, IfErr, IfNone, IfOk, IfSome, OnOk};
 ghost use Rattle.std.specs.Option.{option_map};
 ghost use Rattle.std.specs.Cow.{cow_str_bytes};
 ghost use Rattle.std.specs.Io.KnownBytes.{append_known};
 ghost use Rattle.ansi_lines.specs.Jobs.{work_of};
-ghost use Rattle.ansi_lines.specs.Lines.{answer_of, answers, first_refused, is_line_feed, StopsWriting, WritesAnswer, WritesBeginning};
+ghost use Rattle.ansi_lines.specs.Lines.{answer_of, answers, first_refused, lines, HasFirstLine, StopsWriting, WritesAnswer, WritesBeginning};
 
 use crate::devices::Sink;
 use crate::stop::Stop;
@@ -33,33 +32,32 @@ pub fn write_lines<A: Allocator + Copy, W: Sink>(
 {
     let mut rest = text;
     let mut number = 1;
-    while let Some((line, more)) = first_line(rest) {
+    while let Some((line, ended, more)) = first_line(rest) {
         if !write_answer(alloc, job, line, output)? {
             return Ok(Some(number));
         }
-        output.write(b"\n")?;
+        if ended {
+            output.write(b"\n")?;
+        }
         rest = more;
         number += 1;
     }
-    if rest.is_empty() {
-        return Ok(None);
-    }
-    if write_answer(alloc, job, rest, output)? {
-        Ok(None)
-    } else {
-        Ok(Some(number))
-    }
+    Ok(None)
 }
 
-// The text of the first line and what stands after its line feed, if a line feed stands in the text.
-fn first_line(text: &str) -> Option<(&str, &str)>
-    ensures none { IfNone result (position_or_len is_line_feed text.now ≡ length text.now) }
-    ensures some { IfSome result (λ _. position_or_len is_line_feed text.now < length text.now) }
-    ensures line { IfSome result (λ cut. cut.0.now ≡ before_first is_line_feed text.now) }
-    ensures more { IfSome result (λ cut. cut.1.now ≡ after_first is_line_feed text.now) }
+// The text of the first line, whether a line feed ends it, and what stands after it.
+fn first_line(text: &str) -> Option<(&str, bool, &str)>
+    ensures none { IfNone result (lines text.now ≡ []) }
+    ensures first { IfSome result (λ line. HasFirstLine text.now line.0.now line.1 line.2.now) }
+    ensures shorter { IfSome result (λ line. length line.2.now < length text.now) }
 {
-    let end = memchr(b'\n', text.as_bytes())?;
-    Some((&text[..end], &text[end + 1..]))
+    if text.is_empty() {
+        return None;
+    }
+    match memchr(b'\n', text.as_bytes()) {
+        Some(end) => Some((&text[..end], true, &text[end + 1..])),
+        None => Some((text, false, "")),
+    }
 }
 
 // Writes the answer to a line's text, all of it or, for want of memory, nothing. It is false where

@@ -1,5 +1,5 @@
 //! Runs over devices that fail or are interrupted.
-use super::{ALL, CHUNK, Plan, Ran, at_call, expect, expect_end, run_with};
+use super::{CHUNK, Plan, Ran, at_call, expect, expect_end, run_with};
 use crate::page::Outcome;
 use std::alloc::{AllocError, Global};
 use std::process::Abort;
@@ -55,10 +55,7 @@ static CASES: [Case; 4] = [
 const FAULT_CALLS: usize = 3;
 
 // So many calls that work, each after one that is interrupted.
-pub(super) fn interrupted_each_once(
-    alloc: Global,
-    calls: usize,
-) -> Result<Vec<Outcome>, AllocError> {
+fn interrupted_each_once(alloc: Global, calls: usize) -> Result<Vec<Outcome>, AllocError> {
     let mut schedule = Vec::new(alloc);
     for _ in 0..calls {
         schedule.push(Outcome::Interrupted)?;
@@ -153,7 +150,7 @@ fn the_longest_input_takes_the_most_reads(rt: HostRuntime) -> Result<(), Fail> {
     let mut plan = Plan::new(rt.alloc());
     plan.input = interrupted_each_once(rt.alloc(), 1_048_577)?;
     plan.chunk = 1;
-    plan.room = ALL;
+    plan.room = longest.len();
     let ran = run_with(rt.alloc(), &["strip"], longest.as_bytes(), plan)?;
     let name = "the longest input, a byte a read";
     expect_end(&rt, &ran, 0, longest.as_str(), "", name);
@@ -207,6 +204,18 @@ fn a_full_page_takes_no_more(rt: HostRuntime) -> Result<(), Fail> {
     Ok(())
 }
 
+#[test]
+fn bad_words_read_and_write_nothing(rt: HostRuntime) -> Result<(), Fail> {
+    let mut plan = Plan::new(rt.alloc());
+    plan.input = at_call(rt.alloc(), 0, Outcome::Failed)?;
+    plan.output = at_call(rt.alloc(), 0, Outcome::Failed)?;
+    let ran = run_with(rt.alloc(), &["strip", "trim"], b"abc\n", plan)?;
+    expect_end(&rt, &ran, 2, "", "bad words\n", "bad words");
+    expect(&rt, ran.input_left == 1, "no read", "bad words");
+    expect(&rt, ran.output_left == 1, "no write", "bad words");
+    Ok(())
+}
+
 // A word, an input, the status and the output, and how many calls of the fault writer tell of it.
 type FaultRow = (&'static str, &'static [u8], u8, &'static str, usize);
 
@@ -236,12 +245,22 @@ fn expect_failing_fault(
     Ok(())
 }
 
+// Each call of the fault writer fails, so it has nothing.
+fn expect_silence(rt: &impl Abort, alloc: Global, row: &FaultRow) -> Result<(), Fail> {
+    let (word, bytes, status, written, calls) = *row;
+    let mut plan = Plan::new(alloc);
+    plan.faults = vec![in alloc; Outcome::Failed; calls]?;
+    let ran = run_with(alloc, &[word], bytes, plan)?;
+    expect_end(rt, &ran, status, written, "", word);
+    Ok(())
+}
+
 fn expect_failing_faults(rt: &impl Abort, alloc: Global, row: &FaultRow) -> Result<(), Fail> {
     let (_, _, _, _, calls) = *row;
     for call in 0..calls {
         expect_failing_fault(rt, alloc, row, call)?;
     }
-    Ok(())
+    expect_silence(rt, alloc, row)
 }
 
 #[test]

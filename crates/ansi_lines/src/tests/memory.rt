@@ -108,7 +108,7 @@ fn run_is_refused(
 }
 
 // Refuses each request of a run in turn, until a run meets no refusal.
-pub(super) fn refuse_each(rt: &impl Abort, alloc: Global, row: &Row) -> Result<(), AllocError> {
+fn refuse_each(rt: &impl Abort, alloc: Global, row: &Row) -> Result<(), Fail> {
     let (words, ..) = *row;
     let given = owned(alloc, words)?;
     for granted in 0..MOST_REQUESTS {
