@@ -2,7 +2,7 @@
 
    A row is one line of standard input, its fields stand between TABs: a call, the status, the answer, the text, and then
    what else the call takes. `\xHH` is the byte HH in a field; `bindings/test` has written out each `\{N:TEXT}`, which is TEXT N times. The answer is a text, or the length where a call
-   writes none; for `split` and `blocks` it is how many there are, and what they give follows what they take.
+   writes none; for `split`, `blocks` and `styled_blocks` it is how many there are, and what they give follows what they take.
 
    Each text is also asked for with a buffer that is one byte too small, with one that is larger, and with each request
    for memory refused in turn: then nothing may be written, past the answer's length or at all. */
@@ -325,6 +325,60 @@ static void expect_blocks(const struct row *r) {
     free(blocks);
 }
 
+static int is_same_style(const ansi_str_style *a, const ansi_str_style *b) {
+    return a->attributes == b->attributes && memcmp(&a->foreground, &b->foreground, sizeof a->foreground) == 0 &&
+           memcmp(&a->background, &b->background, sizeof a->background) == 0 && a->has_any == b->has_any;
+}
+
+/* All blocks in one call with the starts and the ends of their styles, which a row has before and after each text. */
+static void expect_styled_blocks(const struct row *r) {
+    const struct text *t = text_of(r);
+    size_t count = number(r, 2), len = 0;
+    expect("blocks", r->count == 4 + 3 * count);
+    for (size_t i = 0; i < 3 * count; i++) {
+        len += r->fields[4 + i].len;
+    }
+    ansi_str_styled_block_entry *blocks = __real_malloc((count + 1) * sizeof *blocks);
+    char *buffer = guarded(len);
+    uint32_t status = status_of(r);
+    ansi_str_answers answer = {0, 0, 0};
+    if (count > 0) {
+        answer = ansi_str_styled_blocks(TEXT(t), buffer, len, blocks, count - 1);
+        expect("too few entries", answer.status == ANSI_STR_TOO_SMALL && answer.count == count && answer.len == len);
+        answer = ansi_str_styled_blocks(TEXT(t), buffer, len - 1, blocks, count);
+        expect("too small a buffer", answer.status == ANSI_STR_TOO_SMALL && answer.count == count && answer.len == len);
+    }
+    for (granted = 0;; granted++) {
+        long requests = granted;
+        expect("the buffer with little memory", is_guard(buffer, 0, len + 1));
+        answer = ansi_str_styled_blocks(TEXT(t), buffer, len, blocks, count);
+        granted = requests;
+        if (answer.status != ANSI_STR_OUT_OF_MEMORY) {
+            break;
+        }
+        wanting++;
+    }
+    granted = -1;
+    expect("status", answer.status == status);
+    expect("how many and how long", answer.count == count && answer.len == len && buffer[len] == GUARD);
+    size_t start = 0;
+    for (size_t i = 0; i < count; i++) {
+        const struct text *wanted = &r->fields[4 + 3 * i];
+        const size_t ends[3] = {blocks[i].text_start, blocks[i].text_end, blocks[i].end};
+        for (size_t k = 0; k < 3; k++) {
+            expect("start, text and end", ends[k] == start + wanted[k].len && memcmp(buffer + start, wanted[k].bytes, wanted[k].len) == 0);
+            start = ends[k];
+        }
+        expect_one(r, "block_start", status, i, &wanted[0]);
+        expect_one(r, "block", status, i, &wanted[1]);
+        expect_one(r, "block_end", status, i, &wanted[2]);
+        ansi_str_style_answer style = ansi_str_block_style(TEXT(t), i);
+        expect("its style", is_same_style(&style.style, &blocks[i].style));
+    }
+    free(buffer);
+    free(blocks);
+}
+
 /* The byte of two hexadecimal digits. */
 static char byte_of(const char *digits) {
     char two[3] = {digits[0], digits[1], 0};
@@ -374,6 +428,8 @@ int main(void) {
             expect_parts(&r);
         } else if (strcmp(r.fields[0].bytes, "blocks") == 0) {
             expect_blocks(&r);
+        } else if (strcmp(r.fields[0].bytes, "styled_blocks") == 0) {
+            expect_styled_blocks(&r);
         } else if (!expect_told(&r)) {
             expect_writes(&r, status_of(&r), &r.fields[2]);
         }

@@ -45,7 +45,7 @@ class _Style(ctypes.Structure):
 
 
 class _Block(ctypes.Structure):
-    _fields_ = [("end", ctypes.c_size_t), ("style", _Style)]
+    _fields_ = [("text_start", ctypes.c_size_t), ("text_end", ctypes.c_size_t), ("end", ctypes.c_size_t), ("style", _Style)]
 
 
 class _Step(ctypes.Structure):
@@ -69,7 +69,7 @@ _strip = _call("strip", _Answer, _TEXT, _TEXT)
 _find = _call("find", _Answer, _TEXT, _TEXT)
 _edit = _call("edit", _Answer, _TEXT, [ctypes.POINTER(_Step)], _NUMBER, _TEXT)
 _split = _call("split", _Answers, _TEXT, _TEXT, _TEXT, [ctypes.POINTER(ctypes.c_size_t)], _NUMBER)
-_blocks = _call("blocks", _Answers, _TEXT, _TEXT, [ctypes.POINTER(_Block)], _NUMBER)
+_blocks = _call("styled_blocks", _Answers, _TEXT, _TEXT, [ctypes.POINTER(_Block)], _NUMBER)
 
 
 def _given(data: bytes) -> Tuple[bytes, int]:
@@ -228,12 +228,14 @@ def split(text: str, pattern: str) -> List[str]:
 
 
 class Style(NamedTuple):
-    """The style of a block: the names of its attributes, its colors, and whether it has something to end. A color is a
-    name, a number among 256, its red, green and blue, or None."""
+    """The style of a block: the names of its attributes, its colors, whether it has something to end, and the sequences that
+    set it and end it. A color is a name, a number among 256, its red, green and blue, or None."""
     attributes: frozenset
     foreground: Union[str, int, Tuple[int, int, int], None]
     background: Union[str, int, Tuple[int, int, int], None]
     has_any: bool
+    start: str
+    end: str
 
 
 class Block(NamedTuple):
@@ -250,9 +252,9 @@ def _color_of(color: _Color) -> Union[str, int, Tuple[int, int, int], None]:
     return COLORS[color.kind - 1] if color.kind else None
 
 
-def _style_of(style: _Style) -> Style:
+def _style_of(style: _Style, start: str, end: str) -> Style:
     names = frozenset(name for bit, name in enumerate(ATTRIBUTES) if style.attributes >> bit & 1)
-    return Style(names, _color_of(style.foreground), _color_of(style.background), style.has_any)
+    return Style(names, _color_of(style.foreground), _color_of(style.background), style.has_any, start, end)
 
 
 def blocks(text: str) -> List[Block]:
@@ -262,7 +264,10 @@ def blocks(text: str) -> List[Block]:
     [('red', 'Red'), (' and plain', None)]
     """
     data = text.encode()
-    texts, entries = _listed(len(data), _Block,
+    texts, entries = _listed(len(data) + _LONGEST_START_AND_CLOSE, _Block,
                              lambda buffer, room, entries, count: _blocks(*_given(data), buffer, room, entries, count))
+    at = lambda start, end: texts[start:end].decode()
     starts = [0] + [entry.end for entry in entries]
-    return [Block(texts[start:entry.end].decode(), _style_of(entry.style)) for start, entry in zip(starts, entries)]
+    return [Block(at(entry.text_start, entry.text_end),
+                  _style_of(entry.style, at(start, entry.text_start), at(entry.text_end, entry.end)))
+            for start, entry in zip(starts, entries)]

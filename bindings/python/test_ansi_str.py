@@ -79,6 +79,10 @@ class Rows(unittest.TestCase):
                 blocks = ansi_str.blocks(text)
                 self.assertEqual([block.text for block in blocks], more[::5], row)
                 self.assertEqual([block.style.has_any for block in blocks], [has == "1" for has in more[4::5]], row)
+            elif call == "styled_blocks":
+                blocks = ansi_str.blocks(text)
+                got = [each for block in blocks for each in (block.style.start, block.text, block.style.end)]
+                self.assertEqual(got, more, row)
             else:
                 continue
             passed += 1

@@ -9,8 +9,6 @@ use std::vec;
 
 /// The blocks of a text, in order: a run of text between sequences each, after those before it that set no style.
 ///
-/// The library reads the text once for the blocks, and twice more for the style of each.
-///
 /// ```
 /// use ansi_str::{get_blocks, Color};
 /// let block = get_blocks("\x1b[31mred\x1b[39m and plain").next().unwrap();

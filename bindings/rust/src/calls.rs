@@ -49,6 +49,8 @@ struct RawStyle {
 #[repr(C)]
 #[derive(Clone, Copy, Default)]
 struct RawBlock {
+    text_start: usize,
+    text_end: usize,
     end: usize,
     style: RawStyle,
 }
@@ -84,8 +86,6 @@ extern "C" {
     fn ansi_str_raw_ends_with(t: Bytes, n: usize, p: Bytes, k: usize) -> Answer;
     fn ansi_str_raw_is_char_boundary(t: Bytes, n: usize, index: usize) -> Answer;
     fn ansi_str_raw_has_any(t: Bytes, n: usize) -> Answer;
-    fn ansi_str_raw_block_start(t: Bytes, n: usize, index: usize, b: Room, m: usize) -> Answer;
-    fn ansi_str_raw_block_end(t: Bytes, n: usize, index: usize, b: Room, m: usize) -> Answer;
     fn ansi_str_raw_split(
         t: Bytes,
         n: usize,
@@ -96,7 +96,7 @@ extern "C" {
         ends: *mut usize,
         count: usize,
     ) -> Answers;
-    fn ansi_str_raw_blocks(
+    fn ansi_str_raw_styled_blocks(
         t: Bytes,
         n: usize,
         b: Room,
@@ -263,10 +263,10 @@ fn listed<E: Clone + Default>(
 }
 
 /// The texts that stand one after the other in a text, of which these are the ends.
-fn texts_at(all: &str, ends: impl Iterator<Item = usize>) -> Vec<String> {
+fn texts_at(all: &str, ends: impl Iterator<Item = usize>) -> Vec<&str> {
     let mut start = 0;
     ends.map(|end| {
-        let text = all[start..end].to_owned();
+        let text = &all[start..end];
         start = end;
         text
     })
@@ -288,12 +288,16 @@ pub(crate) fn split(text: &str, pat: &str) -> Vec<String> {
         )
     });
     texts_at(&all, ends.into_iter())
+        .into_iter()
+        .map(str::to_owned)
+        .collect()
 }
 
 /// The blocks of a text, each by its text and its style.
 pub(crate) fn blocks(text: &str) -> Vec<(String, Style)> {
-    let (all, entries) = listed(text.len(), |buffer, entries: &mut [RawBlock]| unsafe {
-        ansi_str_raw_blocks(
+    let room = text.len() + LONGEST_START_AND_CLOSE;
+    let (all, entries) = listed(room, |buffer, entries: &mut [RawBlock]| unsafe {
+        ansi_str_raw_styled_blocks(
             text.as_ptr(),
             text.len(),
             buffer.as_mut_ptr(),
@@ -302,23 +306,22 @@ pub(crate) fn blocks(text: &str) -> Vec<(String, Style)> {
             entries.len(),
         )
     });
-    let texts = texts_at(&all, entries.iter().map(|entry| entry.end));
-    let styles = entries
+    let ends = entries
         .iter()
-        .enumerate()
-        .map(|(index, entry)| style_of(text, index, &entry.style));
-    texts.into_iter().zip(styles).collect()
+        .flat_map(|entry| [entry.text_start, entry.text_end, entry.end]);
+    entries
+        .iter()
+        .zip(texts_at(&all, ends).chunks(3))
+        .map(|(entry, texts)| {
+            let style = style_of(&entry.style, texts[0], texts[2]);
+            (texts[1].to_owned(), style)
+        })
+        .collect()
 }
 
-fn style_of(text: &str, index: usize, style: &RawStyle) -> Style {
-    let start = always(written(LONGEST_START_AND_CLOSE, |b, m| unsafe {
-        ansi_str_raw_block_start(text.as_ptr(), text.len(), index, b, m)
-    }));
-    let end = always(written(LONGEST_START_AND_CLOSE, |b, m| unsafe {
-        ansi_str_raw_block_end(text.as_ptr(), text.len(), index, b, m)
-    }));
+fn style_of(style: &RawStyle, start: &str, end: &str) -> Style {
     let colors = (color_of(&style.foreground), color_of(&style.background));
-    Style::new(style.attributes, colors, style.has_any, &start, &end)
+    Style::new(style.attributes, colors, style.has_any, start, end)
 }
 
 /// The names of colors, as the header numbers them from 1 on.

@@ -100,6 +100,21 @@ fn expect_blocks(text: &str, count: usize, fields: &[&str], row: &str) {
     }
 }
 
+fn expect_styled_blocks(text: &str, count: usize, fields: &[&str], row: &str) {
+    let blocks: Vec<_> = get_blocks(text).collect();
+    assert_eq!(blocks.len(), count, "{row}");
+    for (block, want) in blocks.iter().zip(fields.chunks(3)) {
+        let style = block.style();
+        assert_eq!(
+            style.start().to_string(),
+            text_of(want[0]).unwrap(),
+            "{row}"
+        );
+        assert_eq!(block.text(), text_of(want[1]).unwrap(), "{row}");
+        assert_eq!(style.end().to_string(), text_of(want[2]).unwrap(), "{row}");
+    }
+}
+
 /// Whether the row is one that a Rust program can ask for, and then passes.
 fn pass(row: &str) -> bool {
     let fields: Vec<&str> = row.split('\t').collect();
@@ -164,6 +179,7 @@ fn pass(row: &str) -> bool {
             assert_eq!(parts, wants, "{row}");
         }
         "blocks" => expect_blocks(&text, number(want), more, row),
+        "styled_blocks" => expect_styled_blocks(&text, number(want), more, row),
         "block_start" if is_ok => {
             let block = get_blocks(&text).nth(position(0)).unwrap();
             assert_eq!(

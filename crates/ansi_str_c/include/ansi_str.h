@@ -129,6 +129,15 @@ typedef struct {
     ansi_str_style style;
 } ansi_str_block_entry;
 
+/* A block that stands in the buffer between the start of its style and the end: where its text begins and ends, where all of
+   it ends, and its style. All of it begins where the one before ends, and the first at 0. */
+typedef struct {
+    size_t text_start;
+    size_t text_end;
+    size_t end;
+    ansi_str_style style;
+} ansi_str_styled_block_entry;
+
 /* The kinds of edits. */
 enum {
     /* ansi_str_cut from `first` up to `second` */
@@ -189,6 +198,8 @@ ansi_str_answers ansi_str_raw_split(const uint8_t *text, size_t text_len, const 
                                     uint8_t *buffer, size_t buffer_len, size_t *ends, size_t ends_len);
 ansi_str_answers ansi_str_raw_blocks(const uint8_t *text, size_t text_len, uint8_t *buffer, size_t buffer_len,
                                      ansi_str_block_entry *blocks, size_t blocks_len);
+ansi_str_answers ansi_str_raw_styled_blocks(const uint8_t *text, size_t text_len, uint8_t *buffer, size_t buffer_len,
+                                            ansi_str_styled_block_entry *blocks, size_t blocks_len);
 
 /* A pointer for a length of 0. */
 static inline const uint8_t *ansi_str_bytes(const char *bytes) {
@@ -304,7 +315,8 @@ static inline ansi_str_answer ansi_str_block(const char *text, size_t text_len, 
 }
 
 /* The sequences that set the style of the block of an index: 163 bytes at most. ANSI_STR_NO: there are not so many
-   blocks. Takes memory also on a text without ESC. */
+   blocks. Takes memory also on a text without ESC. A loop over all indices reads the text once for each;
+   ansi_str_styled_blocks gives all starts and ends in one call. */
 static inline ansi_str_answer ansi_str_block_start(const char *text, size_t text_len, size_t index, char *buffer,
                                                    size_t buffer_len) {
     return ansi_str_raw_block_start(ansi_str_bytes(text), text_len, index, ansi_str_room(buffer), buffer_len);
@@ -343,6 +355,17 @@ static inline ansi_str_answers ansi_str_blocks(const char *text, size_t text_len
     ansi_str_block_entry none;
     return ansi_str_raw_blocks(ansi_str_bytes(text), text_len, ansi_str_room(buffer), buffer_len,
                                blocks == NULL ? &none : blocks, blocks_len);
+}
+
+/* All blocks of the text, as ansi_str_blocks, each with what sets its style before it and what ends it after it, as
+   ansi_str_block_start and ansi_str_block_end give them: at most 251 bytes more for each block.
+   Of "a\x1b[31mb" it gives "a" and "\x1b[31mb\x1b[39m". */
+static inline ansi_str_answers ansi_str_styled_blocks(const char *text, size_t text_len, char *buffer,
+                                                      size_t buffer_len, ansi_str_styled_block_entry *blocks,
+                                                      size_t blocks_len) {
+    ansi_str_styled_block_entry none;
+    return ansi_str_raw_styled_blocks(ansi_str_bytes(text), text_len, ansi_str_room(buffer), buffer_len,
+                                      blocks == NULL ? &none : blocks, blocks_len);
 }
 
 /* One edit each, for ansi_str_edit. */

@@ -2,22 +2,37 @@
 use Rattle.std.specs.Prelude.{◌≡◌, ◌⊎◌, ◌<◌, ◌≤◌, ◌+◌, ℕ, List, [], ◌∷◌, ◌++◌, drop, length}
 use Rattle.ansi_str.specs.Blocks.{Block}
 use Rattle.ansi_str_c.specs.declared.lists.ListAnswer.{ListAnswer}
+use Rattle.ansi_str.specs.Written.{start, close_if_any}
 use Rattle.ansi_str_c.specs.declared.lists.BlockEntry.{BlockEntry}
+use Rattle.ansi_str_c.specs.declared.lists.StyledBlockEntry.{StyledBlockEntry}
 use Rattle.ansi_str_c.specs.Answers.{ok, too_small, out_of_memory}
 use Rattle.ansi_str_c.specs.Styles.{style_data}
 
--- an entry for each of texts in a row, made of where it ends; the first begins at n
-abbrev pub entries_of : {X Y : Type 0} → (X → List ℕ) → (ℕ → X → Y) → ℕ → List X → List Y
+-- an entry for each of texts in a row, made of where it begins and ends; the first begins at n
+abbrev pub entries_of : {X Y : Type 0} → (X → List ℕ) → (ℕ → ℕ → X → Y) → ℕ → List X → List Y
 entries_of text entry n [] = []
-entries_of text entry n (x ∷ xs) = entry (n + length (text x)) x ∷ entries_of text entry (n + length (text x)) xs
+entries_of text entry n (x ∷ xs) = entry n (n + length (text x)) x ∷ entries_of text entry (n + length (text x)) xs
 
 -- where each text ends, where the first begins at n
 abbrev pub ends_from : ℕ → List (List ℕ) → List ℕ
-ends_from n ts = entries_of (λ t. t) (λ end t. end) n ts
+ends_from n ts = entries_of (λ t. t) (λ begin end t. end) n ts
 
 -- where each block ends and its style, where the first begins at n
 abbrev pub entries_from : ℕ → List Block → List BlockEntry
-entries_from n bs = entries_of (λ b. b.text) (λ end b. record { end = end; style = style_data b.style }) n bs
+entries_from n bs = entries_of (λ b. b.text) (λ begin end b. record { end = end; style = style_data b.style }) n bs
+
+-- a block with the start of its style before its text and the end after it
+abbrev pub styled_text : Block → List ℕ
+styled_text b = start b.style ++ b.text ++ close_if_any b.style
+
+-- where of each such block the start, the text and the end come to an end, and its style, where the first begins at n
+abbrev pub styled_entries_from : ℕ → List Block → List StyledBlockEntry
+styled_entries_from n bs = entries_of styled_text (λ begin end b. record {
+  text_start = begin + length (start b.style);
+  text_end = begin + length (start b.style) + length b.text;
+  end = end;
+  style = style_data b.style;
+}) n bs
 
 -- the answer of a call that gives nothing
 abbrev pub none : ℕ → ListAnswer

@@ -3,13 +3,14 @@ ghost use Rattle.std.specs.Prelude.{◌≡◌, ◌∷◌, [], flat_map, IfOk, st
 ghost use Rattle.ansi_str.specs.Parts.{all_parts};
 ghost use Rattle.ansi_str.specs.Blocks.{blocks};
 ghost use Rattle.ansi_str_c.specs.Answers.{not_utf8, OnUtf8};
-ghost use Rattle.ansi_str_c.specs.Lists.{none, ends_from, entries_from, AreWritten, HaveFailed, GivesAll};
+ghost use Rattle.ansi_str_c.specs.Lists.{none, ends_from, entries_from, styled_text, styled_entries_from, AreWritten, HaveFailed, GivesAll};
 
 use crate::answers::{NOT_UTF8, OK, OUT_OF_MEMORY, TOO_SMALL};
 use crate::styles::StyleData;
 use ansi_str::get_blocks;
 use ansi_str::split::split_in;
 use std::alloc::{AllocError, Global};
+use std::fmt::Write;
 use std::str;
 
 /// What a call answers that gives several texts: a status, how many they are, and their length
@@ -39,6 +40,17 @@ impl ListAnswer {
 #[repr(C)]
 #[derive(Clone, Copy)]
 pub struct BlockEntry {
+    pub end: usize,
+    pub style: StyleData,
+}
+
+/// A block among the blocks of a text, each between the start of its style and the end: where its text
+/// starts and ends, where all of it ends, and its style.
+#[repr(C)]
+#[derive(Clone, Copy)]
+pub struct StyledBlockEntry {
+    pub text_start: usize,
+    pub text_end: usize,
     pub end: usize,
     pub style: StyleData,
 }
@@ -93,6 +105,30 @@ pub extern "C" fn ansi_str_raw_blocks(
     }
 }
 
+/// All blocks of a text, each between the start of its style and the end, and where these stand and its
+/// style.
+#[unsafe(no_mangle)]
+pub extern "C" fn ansi_str_raw_styled_blocks(
+    alloc: Global,
+    text: &[u8],
+    buffer: &mut [u8],
+    entries: &mut [StyledBlockEntry],
+) -> ListAnswer
+    ensures { OnUtf8 (text.now ∷ [])
+        (GivesAll (flat_map styled_text (blocks text.now)) (styled_entries_from 0 (blocks text.now)) result buffer.old buffer.new entries.old entries.new)
+        (HaveFailed not_utf8 result buffer.old buffer.new entries.old entries.new) }
+{
+    let Ok(text) = str::from_utf8(text) else {
+        return ListAnswer::failed(NOT_UTF8);
+    };
+    match join_styled_blocks(alloc, text) {
+        Ok((texts, their_entries)) => {
+            write_list(texts.as_bytes(), their_entries.as_slice(), buffer, entries)
+        }
+        Err(_) => ListAnswer::failed(OUT_OF_MEMORY),
+    }
+}
+
 /// The parts of a text one after the other, and where each ends.
 fn join_parts(alloc: Global, text: &str, pat: &str) -> Result<(String, Vec<usize>), AllocError>
     ensures texts { IfOk result (λ joined. string_bytes joined.0 ≡ flat_map (λ p. p) (all_parts text.now pat.now)) }
@@ -121,6 +157,35 @@ fn join_blocks(alloc: Global, text: &str) -> Result<(String, Vec<BlockEntry>), A
         entries.push(BlockEntry {
             end: texts.len(),
             style: StyleData::of(&block),
+        })?;
+    }
+    Ok((texts, entries))
+}
+
+/// The blocks of a text one after the other, each between the start of its style and the end, and where
+/// these stand and its style.
+fn join_styled_blocks(
+    alloc: Global,
+    text: &str,
+) -> Result<(String, Vec<StyledBlockEntry>), AllocError>
+    ensures texts { IfOk result (λ joined. string_bytes joined.0 ≡ flat_map styled_text (blocks text.now)) }
+    ensures entries { IfOk result (λ joined. joined.1.items ≡ styled_entries_from 0 (blocks text.now)) }
+{
+    let mut texts = String::new(alloc);
+    let mut entries = Vec::new(alloc);
+    for block in get_blocks(alloc, text) {
+        let block = block?;
+        let style = StyleData::of(&block);
+        write!(texts, "{}", block.style().start())?;
+        let text_start = texts.len();
+        texts.push_str(block.text())?;
+        let text_end = texts.len();
+        write!(texts, "{}", block.style().end())?;
+        entries.push(StyledBlockEntry {
+            text_start,
+            text_end,
+            end: texts.len(),
+            style,
         })?;
     }
     Ok((texts, entries))
