@@ -266,30 +266,3 @@ text_of-part_is t p k i whole found =
     let before = end_before (parts (plain t) p) k in
     subst (IsClosed (slice_range (styled t) i.0 i.1)) (sym (ap (λ o. unwrap_or (option_map (part_over t before) o) []) found))
     (part_over_is t before i whole (parts_come_after (plain t) p k i found))
-
--- the answer is the slice over the interval, whole and closed, or None where there is no interval
-abbrev IsSliceOver : List ℕ → Option (ℕ × ℕ) → Option (List ℕ) → Type 0
-IsSliceOver t o answer = (option_map (λ (i : ℕ × ℕ). slice_range (styled t) i.0 i.1) o ≡ option_map styled answer) × IfSome answer (λ u. IsTrue (is_whole u) × (residue u ≡ plain_style))
-
-part_is_slice : (t p : List ℕ) (k : ℕ) → IsTrue (is_whole t) → IsSliceOver t (interval_of (PartOf p k) (bytes_of (styled t))) (part t p k)
-part_is_slice t p k whole =
-    subst (λ x. IsSliceOver t (slice_get (parts x p) k) (part t p k)) (sym (bytes_of-styled t)) (by_interval (slice_get (parts (plain t) p) k) (λ i found. parts_come_after (plain t) p k i found))
-  where
-    by_interval : (o : Option (ℕ × ℕ)) → ((i : ℕ × ℕ) → o ≡ Some i → ComesAfter (end_before (parts (plain t) p) k) i)
-        → IsSliceOver t o (option_map (part_over t (end_before (parts (plain t) p) k)) o)
-    by_interval None after = (refl, tt)
-    by_interval (Some i) after =
-        let is = part_over_is t (end_before (parts (plain t) p) k) i whole (after i refl) in
-        (ap Some (sym is.styled_bytes), (is.whole, is.closed))
-
-pub slice_of-part : (t p : List ℕ) (k : ℕ) → IsTrue (is_whole t) → slice_of (PartOf p k) (styled t) ≡ option_map styled (part t p k)
-slice_of-part t p k whole = (part_is_slice t p k whole).0
-
-closed_part : (t p : List ℕ) (k : ℕ) (u : List ℕ) → IsTrue (is_whole t) → part t p k ≡ Some u → IsTrue (is_whole u) × (residue u ≡ plain_style)
-closed_part t p k u whole found = subst (λ o. IfSome o (λ u. IsTrue (is_whole u) × (residue u ≡ plain_style))) found (part_is_slice t p k whole).1
-
-pub is_whole-part : (t p : List ℕ) (k : ℕ) (u : List ℕ) → IsTrue (is_whole t) → part t p k ≡ Some u → IsTrue (is_whole u)
-is_whole-part t p k u whole found = (closed_part t p k u whole found).0
-
-pub residue-part : (t p : List ℕ) (k : ℕ) (u : List ℕ) → IsTrue (is_whole t) → part t p k ≡ Some u → residue u ≡ plain_style
-residue-part t p k u whole found = (closed_part t p k u whole found).1
