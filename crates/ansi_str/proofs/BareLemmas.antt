@@ -52,7 +52,7 @@ style_at-bare t i none = ap (λ ms. style_of (up_to i ms)) (marks-bare t none)
 
 -- Cuts and sides.
 
-pub cut-bare : (t : List ℕ) (s : ℕ) (e : Option ℕ) → IsFalse (has_escape t) → cut t s e ≡ slice_range t s (unwrap_or e (length t))
+cut-bare : (t : List ℕ) (s : ℕ) (e : Option ℕ) → IsFalse (has_escape t) → cut t s e ≡ slice_range t s (unwrap_or e (length t))
 unfolding cut
 cut-bare t s e none =
     cut_up_to-bare t s (unwrap_or e (length (plain t))) none ∙ ap (λ x. slice_range t s (unwrap_or e (length x))) (plain-bare t none)

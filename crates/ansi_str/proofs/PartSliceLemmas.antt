@@ -1,5 +1,5 @@
 -- A part of a whole text is whole, has the slice of its styled bytes, and leaves nothing known open.
-use Rattle.std.proofs.Common.{◌≡◌, ℕ, ◌+◌, ◌-◌, ◌<◌, ◌≤◌, inl, inr, Bool, true, false, ◌&&◌, ◌==◌, List, [], ◌∷◌, ◌++◌, length, nat_le, nat_lt, refl, sym, ◌∙◌, ap, ap₂, subst, arith, slice_range, slice_get, Option, Some, None, IsTrue, IfSome, if◌then◌else◌}
+use Rattle.std.proofs.Common.{◌≡◌, ℕ, ◌+◌, ◌-◌, ◌<◌, ◌≤◌, inl, inr, Bool, true, false, ◌&&◌, ◌==◌, List, [], ◌∷◌, ◌++◌, length, nat_le, nat_lt, refl, sym, ◌∙◌, ap, ap₂, subst, arith, slice_range, Option, Some, None, IsTrue, if◌then◌else◌}
 use Rattle.std.specs.Prelude.{option_map, unwrap_or}
 use Rattle.std.specs.Option.{option_map_or}
 use Rattle.std.proofs.lemmas.Bool.{cond_both, and_parts, eqb-true, cases_lt, le-leb}
@@ -9,17 +9,17 @@ use Rattle.ansi_items.specs.Plain.{Mark, plain, marks, up_to, is_whole}
 use Rattle.ansi_style.specs.declared.state.rendition.Rendition.{Rendition}
 use Rattle.ansi_style.specs.Rendition.{IsStyle, plain_style, known, has_any}
 use Rattle.ansi_style.specs.Written.{written_all, start, close_codes, close, close_if_any}
-use Rattle.ansi_style.specs.Styled.{style_at, styled, bytes_of, residue}
+use Rattle.ansi_style.specs.Styled.{style_at, styled}
 use Rattle.ansi_style.specs.Reading.{after_marks}
 use Rattle.ansi_slice.specs.Cut.{show}
-use Rattle.ansi_slice.specs.Parts.{parts, end_before, past, carried, part_over, part}
-use Rattle.ansi_str.specs.Changes.{PartOf, interval_of, slice_of}
+use Rattle.ansi_slice.specs.Parts.{parts, end_before, past, carried, part_over}
+use Rattle.ansi_str.specs.Changes.{PartOf, interval_of}
 use Rattle.ansi_str.specs.Edited.{text_of}
 use Rattle.ansi_items.proofs.PlainLemmas.{one_text}
 use Rattle.ansi_slice.proofs.SliceLemmas.{slice_range-none, slice_range-from_past}
 use Rattle.ansi_style.proofs.StyleLemmas.{IsStyle-plain_style, IsStyle-style_at}
 use Rattle.ansi_items.proofs.JoinLemmas.{spelled, AllStandAnywhere, pieces_stand}
-use Rattle.ansi_style.proofs.StyledLemmas.{styled_through, style_through, styled_through-append, style_through-append, styled-pieces, bytes_of-styled}
+use Rattle.ansi_style.proofs.StyledLemmas.{styled_through, style_through, styled_through-append, style_through-append, styled-pieces}
 use Rattle.ansi_style.proofs.ReadBackLemmas.{AreCodes, close_codes_are}
 use Rattle.ansi_style.proofs.CloseLemmas.{close_codes_clear}
 use Rattle.ansi_style.proofs.UnsetLemmas.{known-unset}
