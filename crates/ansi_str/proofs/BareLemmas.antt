@@ -35,6 +35,7 @@ use Rattle.ansi_slice.proofs.KeptAsStdLemmas.{plain-without_prefix, plain-withou
 use Rattle.ansi_str.proofs.StdSplitLemmas.{parts_are_split}
 use Rattle.ansi_str.proofs.CharacterLemmas.{slices_over-parts-empty}
 use Rattle.ansi_str.proofs.PartTextLemmas.{map-all_parts}
+use Rattle.ansi_str.proofs.ChangeLemmas.{edited_by-part}
 use Rattle.ansi_str.proofs.EditLemmas.{edited_is_slice}
 
 pub is_whole-bare : (t : List ℕ) → IsFalse (has_escape t) → IsTrue (is_whole t)
@@ -51,7 +52,7 @@ style_at-bare t i none = ap (λ ms. style_of (up_to i ms)) (marks-bare t none)
 
 -- Cuts and sides.
 
-pub cut-bare : (t : List ℕ) (s : ℕ) (e : Option ℕ) → IsFalse (has_escape t) → cut t s e ≡ slice_range t s (unwrap_or e (length t))
+cut-bare : (t : List ℕ) (s : ℕ) (e : Option ℕ) → IsFalse (has_escape t) → cut t s e ≡ slice_range t s (unwrap_or e (length t))
 unfolding cut
 cut-bare t s e none =
     cut_up_to-bare t s (unwrap_or e (length (plain t))) none ∙ ap (λ x. slice_range t s (unwrap_or e (length x))) (plain-bare t none)
@@ -152,11 +153,8 @@ edited_on-bare (LeftOf mid) t none =
     through (is_good_position t mid) t (left_side t mid) (0, mid) (left_side-bare t mid none ∙ ap (λ n. take n t) all)
 edited_on-bare (RightOf mid) t none =
     through (is_good_position t mid) t (right_side t mid) (mid, length t) (right_side-bare t mid none ∙ sym (slice_range-past t mid (length t) (omega arith)))
-edited_on-bare (PartOf p k) t none = ap (λ o. if is_some (slice_get (parts t p) k) then Some (unwrap_or o []) else None) (part-bare t p k none) ∙ found (slice_get (parts t p) k)
-  where
-    found : (o : Option (ℕ × ℕ)) → (if is_some o then Some (unwrap_or (option_map (λ (i : ℕ × ℕ). slice_range t i.0 i.1) o) []) else None) ≡ option_map (λ (i : ℕ × ℕ). slice_range t i.0 i.1) o
-    found None = refl
-    found (Some i) = refl
+edited_on-bare (PartOf p k) t none =
+    ap (λ x. edited_on (PartOf p k) t x) (sym (plain-bare t none)) ∙ edited_by-part t p k ∙ part-bare t p k none
 edited_on-bare (WithoutPrefix p) t none =
     through (starts_with nat_eq t p) t (without_prefix t p) (length p, length t)
     (kept-bare t (length p) (length (plain t)) none ∙ ap (λ x. slice_range t (length p) (length x)) (plain-bare t none))

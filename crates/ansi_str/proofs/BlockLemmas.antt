@@ -81,7 +81,7 @@ others-after v ms i some =
 -- The walk.
 
 -- blocks by places: what waits at each, and the style there
-abbrev by_places : (ℕ → List ℕ) → (ℕ → Rendition) → List Placed → List Block
+abbrev pub by_places : (ℕ → List ℕ) → (ℕ → Rendition) → List Placed → List Block
 by_places wait style qs = filter_map (λ (q : Placed). block_of (wait q.place) (style q.place) q.piece) qs
 
 by_places-moved : (wait : ℕ → List ℕ) (style : ℕ → Rendition) (n : ℕ) (qs : List Placed) → by_places wait style (map (moved n) qs) ≡ by_places (λ i. wait (n + i)) (λ i. style (n + i)) qs

@@ -1,5 +1,5 @@
 -- The blocks of a text, as its runs: their number, their texts joined, and their styles.
-use Rattle.std.proofs.Common.{◌≡◌, ◌≢◌, ℕ, zero, suc, ◌+◌, Bool, true, false, not, ◌==◌, List, [], ◌∷◌, ◌++◌, map, filter, filter_map, flat_map, length, IsTrue, refl, sym, ◌∙◌, ap, ap₂, arith, if◌then◌else◌, append_assoc, append-nil, length-append}
+use Rattle.std.proofs.Common.{◌≡◌, ◌≢◌, ℕ, zero, suc, ◌+◌, Bool, true, false, not, ◌==◌, List, [], ◌∷◌, ◌++◌, map, filter, flat_map, length, IsTrue, refl, sym, ◌∙◌, ap, ap₂, arith, if◌then◌else◌, append_assoc, append-nil, length-append}
 use Rattle.std.proofs.lemmas.Bool.{and_parts}
 use Rattle.std.proofs.lemmas.Bool.Decides.{nat_tests}
 use Rattle.std.proofs.lemmas.List.{length-map}
@@ -15,15 +15,12 @@ use Rattle.ansi_style.specs.Styled.{style_at}
 use Rattle.ansi_slice.specs.Cut.{at_place}
 use Rattle.ansi_slice.specs.Sides.{copied}
 use Rattle.ansi_style.specs.Reading.{style_within}
-use Rattle.ansi_str.specs.Blocks.{Block, waiting, block_of, blocks_from, blocks, runs, without_sgrs}
+use Rattle.ansi_str.specs.Blocks.{Block, waiting, blocks_from, blocks, runs, without_sgrs}
 use Rattle.ansi_items.proofs.PieceLemmas.{pieces_are}
 use Rattle.ansi_style.proofs.MarkLemmas.{marks_of-text, marks_of-sequence, marks_of-lone}
-use Rattle.ansi_str.proofs.BlockLemmas.{blocks_through, blocks_from-walked, others, waiting_at, others-further, others-here, others-after}
+use Rattle.ansi_str.proofs.BlockLemmas.{by_places, blocks_through, blocks_from-walked, others, waiting_at, others-further, others-here, others-after}
 
 -- blocks by their places, of which only the runs give one
-
-abbrev by_places : (ℕ → List ℕ) → (ℕ → Rendition) → List Placed → List Block
-by_places wait style qs = filter_map (λ (q : Placed). block_of (wait q.place) (style q.place) q.piece) qs
 
 abbrev runs_of : List Placed → List Placed
 runs_of qs = filter (λ (q : Placed). is_text q.piece) qs

@@ -1,5 +1,5 @@
 -- What one change makes of a whole text is the slice of its styled bytes that it names, whole, and closed where the change closes.
-use Rattle.std.proofs.Common.{◌≡◌, ℕ, ◌-◌, Bool, true, false, List, length, take, Option, Some, None, option_map, is_some, refl, sym, ◌∙◌, ap, subst, arith, IsTrue, slice_range, if◌then◌else◌, nat_eq}
+use Rattle.std.proofs.Common.{◌≡◌, ℕ, ◌-◌, Bool, true, false, List, [], length, take, Option, Some, None, option_map, is_some, refl, sym, ◌∙◌, ap, subst, arith, IsTrue, slice_range, slice_get, if◌then◌else◌, nat_eq}
 use Rattle.std.specs.Prelude.{IfSome, unwrap_or}
 use Rattle.std.specs.List.{starts_with, ends_with}
 use Rattle.std.proofs.lemmas.Bool.{cond-true}
@@ -12,6 +12,7 @@ use Rattle.ansi_slice.specs.Positions.{is_good_position, is_good_range}
 use Rattle.ansi_slice.specs.Cut.{cut}
 use Rattle.ansi_slice.specs.Sides.{left_side, right_side}
 use Rattle.ansi_slice.specs.Kept.{kept, without_prefix, without_suffix, trim_interval, trimmed}
+use Rattle.ansi_slice.specs.Parts.{parts, end_before, part_over, part}
 use Rattle.ansi_str.specs.Changes.{Change, CutRange, LeftOf, RightOf, PartOf, WithoutPrefix, WithoutSuffix, Trimmed, interval_of, slice_of}
 use Rattle.ansi_str.specs.Edited.{text_of, edited_by, closes}
 use Rattle.ansi_slice.proofs.SliceLemmas.{slice_range-past, slice_range-map}
@@ -86,6 +87,26 @@ edited_by_answers e t whole =
 -- of one change, refused or not
 pub slice_of-styled : (e : Change) (t : List ℕ) → IsTrue (is_whole t) → slice_of e (styled t) ≡ option_map styled (edited_by e t)
 slice_of-styled e t whole = (edited_by_answers e t whole).0
+
+-- A part is what its change makes.
+pub edited_by-part : (t p : List ℕ) (k : ℕ) → edited_by (PartOf p k) t ≡ part t p k
+edited_by-part t p k = by_interval (slice_get (parts (plain t) p) k)
+  where
+    by_interval : (o : Option (ℕ × ℕ)) → (if is_some o then Some (unwrap_or (option_map (part_over t (end_before (parts (plain t) p) k)) o) []) else None) ≡ option_map (part_over t (end_before (parts (plain t) p) k)) o
+    by_interval None = refl
+    by_interval (Some i) = refl
+
+pub slice_of-part : (t p : List ℕ) (k : ℕ) → IsTrue (is_whole t) → slice_of (PartOf p k) (styled t) ≡ option_map styled (part t p k)
+slice_of-part t p k whole = slice_of-styled (PartOf p k) t whole ∙ ap (option_map styled) (edited_by-part t p k)
+
+closed_part : (t p : List ℕ) (k : ℕ) (u : List ℕ) → IsTrue (is_whole t) → part t p k ≡ Some u → IsTrue (is_whole u) × (residue u ≡ plain_style)
+closed_part t p k u whole found = subst (λ o. IfSome o (λ u. IsTrue (is_whole u) × (residue u ≡ plain_style))) (edited_by-part t p k ∙ found) (edited_by_answers (PartOf p k) t whole).1
+
+pub is_whole-part : (t p : List ℕ) (k : ℕ) (u : List ℕ) → IsTrue (is_whole t) → part t p k ≡ Some u → IsTrue (is_whole u)
+is_whole-part t p k u whole found = (closed_part t p k u whole found).0
+
+pub residue-part : (t p : List ℕ) (k : ℕ) (u : List ℕ) → IsTrue (is_whole t) → part t p k ≡ Some u → residue u ≡ plain_style
+residue-part t p k u whole found = (closed_part t p k u whole found).1
 
 -- Of each change that isn't refused.
 

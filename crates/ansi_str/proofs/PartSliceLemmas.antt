@@ -1,5 +1,5 @@
 -- A part of a whole text is whole, has the slice of its styled bytes, and leaves nothing known open.
-use Rattle.std.proofs.Common.{◌≡◌, ℕ, ◌+◌, ◌-◌, ◌<◌, ◌≤◌, inl, inr, Bool, true, false, ◌&&◌, ◌==◌, List, [], ◌∷◌, ◌++◌, length, nat_le, nat_lt, refl, sym, ◌∙◌, ap, ap₂, subst, arith, slice_range, slice_get, Option, Some, None, IsTrue, IfSome, if◌then◌else◌}
+use Rattle.std.proofs.Common.{◌≡◌, ℕ, ◌+◌, ◌-◌, ◌<◌, ◌≤◌, inl, inr, Bool, true, false, ◌&&◌, ◌==◌, List, [], ◌∷◌, ◌++◌, length, nat_le, nat_lt, refl, sym, ◌∙◌, ap, ap₂, subst, arith, slice_range, Option, Some, None, IsTrue, if◌then◌else◌}
 use Rattle.std.specs.Prelude.{option_map, unwrap_or}
 use Rattle.std.specs.Option.{option_map_or}
 use Rattle.std.proofs.lemmas.Bool.{cond_both, and_parts, eqb-true, cases_lt, le-leb}
@@ -9,17 +9,17 @@ use Rattle.ansi_items.specs.Plain.{Mark, plain, marks, up_to, is_whole}
 use Rattle.ansi_style.specs.declared.state.rendition.Rendition.{Rendition}
 use Rattle.ansi_style.specs.Rendition.{IsStyle, plain_style, known, has_any}
 use Rattle.ansi_style.specs.Written.{written_all, start, close_codes, close, close_if_any}
-use Rattle.ansi_style.specs.Styled.{style_at, styled, bytes_of, residue}
+use Rattle.ansi_style.specs.Styled.{style_at, styled}
 use Rattle.ansi_style.specs.Reading.{after_marks}
 use Rattle.ansi_slice.specs.Cut.{show}
-use Rattle.ansi_slice.specs.Parts.{parts, end_before, past, carried, part_over, part}
-use Rattle.ansi_str.specs.Changes.{PartOf, interval_of, slice_of}
+use Rattle.ansi_slice.specs.Parts.{parts, end_before, past, carried, part_over}
+use Rattle.ansi_str.specs.Changes.{PartOf, interval_of}
 use Rattle.ansi_str.specs.Edited.{text_of}
 use Rattle.ansi_items.proofs.PlainLemmas.{one_text}
 use Rattle.ansi_slice.proofs.SliceLemmas.{slice_range-none, slice_range-from_past}
 use Rattle.ansi_style.proofs.StyleLemmas.{IsStyle-plain_style, IsStyle-style_at}
 use Rattle.ansi_items.proofs.JoinLemmas.{spelled, AllStandAnywhere, pieces_stand}
-use Rattle.ansi_style.proofs.StyledLemmas.{styled_through, style_through, styled_through-append, style_through-append, styled-pieces, bytes_of-styled}
+use Rattle.ansi_style.proofs.StyledLemmas.{styled_through, style_through, styled_through-append, style_through-append, styled-pieces}
 use Rattle.ansi_style.proofs.ReadBackLemmas.{AreCodes, close_codes_are}
 use Rattle.ansi_style.proofs.CloseLemmas.{close_codes_clear}
 use Rattle.ansi_style.proofs.UnsetLemmas.{known-unset}
@@ -266,30 +266,3 @@ text_of-part_is t p k i whole found =
     let before = end_before (parts (plain t) p) k in
     subst (IsClosed (slice_range (styled t) i.0 i.1)) (sym (ap (λ o. unwrap_or (option_map (part_over t before) o) []) found))
     (part_over_is t before i whole (parts_come_after (plain t) p k i found))
-
--- the answer is the slice over the interval, whole and closed, or None where there is no interval
-abbrev IsSliceOver : List ℕ → Option (ℕ × ℕ) → Option (List ℕ) → Type 0
-IsSliceOver t o answer = (option_map (λ (i : ℕ × ℕ). slice_range (styled t) i.0 i.1) o ≡ option_map styled answer) × IfSome answer (λ u. IsTrue (is_whole u) × (residue u ≡ plain_style))
-
-part_is_slice : (t p : List ℕ) (k : ℕ) → IsTrue (is_whole t) → IsSliceOver t (interval_of (PartOf p k) (bytes_of (styled t))) (part t p k)
-part_is_slice t p k whole =
-    subst (λ x. IsSliceOver t (slice_get (parts x p) k) (part t p k)) (sym (bytes_of-styled t)) (by_interval (slice_get (parts (plain t) p) k) (λ i found. parts_come_after (plain t) p k i found))
-  where
-    by_interval : (o : Option (ℕ × ℕ)) → ((i : ℕ × ℕ) → o ≡ Some i → ComesAfter (end_before (parts (plain t) p) k) i)
-        → IsSliceOver t o (option_map (part_over t (end_before (parts (plain t) p) k)) o)
-    by_interval None after = (refl, tt)
-    by_interval (Some i) after =
-        let is = part_over_is t (end_before (parts (plain t) p) k) i whole (after i refl) in
-        (ap Some (sym is.styled_bytes), (is.whole, is.closed))
-
-pub slice_of-part : (t p : List ℕ) (k : ℕ) → IsTrue (is_whole t) → slice_of (PartOf p k) (styled t) ≡ option_map styled (part t p k)
-slice_of-part t p k whole = (part_is_slice t p k whole).0
-
-closed_part : (t p : List ℕ) (k : ℕ) (u : List ℕ) → IsTrue (is_whole t) → part t p k ≡ Some u → IsTrue (is_whole u) × (residue u ≡ plain_style)
-closed_part t p k u whole found = subst (λ o. IfSome o (λ u. IsTrue (is_whole u) × (residue u ≡ plain_style))) found (part_is_slice t p k whole).1
-
-pub is_whole-part : (t p : List ℕ) (k : ℕ) (u : List ℕ) → IsTrue (is_whole t) → part t p k ≡ Some u → IsTrue (is_whole u)
-is_whole-part t p k u whole found = (closed_part t p k u whole found).0
-
-pub residue-part : (t p : List ℕ) (k : ℕ) (u : List ℕ) → IsTrue (is_whole t) → part t p k ≡ Some u → residue u ≡ plain_style
-residue-part t p k u whole found = (closed_part t p k u whole found).1

@@ -45,7 +45,7 @@ length-parts x p =
 
 -- The plain text of a part.
 
-pub plain-part_over : (t : List ℕ) (before : Option ℕ) (i : ℕ × ℕ) → IsTrue (is_whole t) → ComesAfter before i → plain (part_over t before i) ≡ slice_range (plain t) i.0 i.1
+plain-part_over : (t : List ℕ) (before : Option ℕ) (i : ℕ × ℕ) → IsTrue (is_whole t) → ComesAfter before i → plain (part_over t before i) ≡ slice_range (plain t) i.0 i.1
 plain-part_over t before i whole after =
     sym (bytes_of-styled (part_over t before i)) ∙ ap bytes_of (part_over_is t before i whole after).styled_bytes
     ∙ sym (slice_range-map (λ (b : StyledByte). b.byte) (styled t) i.0 i.1) ∙ ap (λ x. slice_range x i.0 i.1) (bytes_of-styled t)

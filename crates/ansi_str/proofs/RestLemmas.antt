@@ -75,7 +75,7 @@ start_again x p from m found = first_again x p from m found ∙ sym found
 
 -- A match that begins in the run, which is a front of x.
 
-pub plain-run : (t w rest : List ℕ) → t ≡ w ++ rest → IsFalse (has_escape w) → plain t ≡ w ++ plain rest
+plain-run : (t w rest : List ℕ) → t ≡ w ++ rest → IsFalse (has_escape w) → plain t ≡ w ++ plain rest
 plain-run t [] rest spelled none = ap plain spelled
 plain-run t (b ∷ w) rest spelled none = ap plain spelled ∙ ap plain_of (pieces_of-run (b ∷ w) rest (λ e. cc) none) ∙ plain_of-after_text (b ∷ w) (pieces_of rest)
 

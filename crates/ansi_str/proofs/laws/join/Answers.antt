@@ -2,7 +2,7 @@ use Rattle.ansi_items.proofs.JoinLemmas.{pieces_of-append, is_whole-append}
 use Rattle.ansi_slice.proofs.CutSliceLemmas.{is_whole-cut, residue-cut}
 use Rattle.ansi_slice.proofs.SideSliceLemmas.{left_side_is, right_side_is}
 use Rattle.ansi_slice.proofs.KeptLemmas.{is_whole-kept, residue-kept}
-use Rattle.ansi_str.proofs.PartSliceLemmas.{is_whole-part, residue-part}
+use Rattle.ansi_str.proofs.ChangeLemmas.{is_whole-part, residue-part}
 use Rattle.ansi_str.proofs.laws.join.Goals as goal
 
 pub returns-clause-pieces : goal.returns-clause-pieces

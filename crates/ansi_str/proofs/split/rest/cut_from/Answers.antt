@@ -115,26 +115,22 @@ loop-item-preserved c =
     }
 
 -- nothing is left: the pattern stands at the end where it is empty
-pub returns-clause-rest : goal.returns-clause-rest
-returns-clause-rest c =
+pub returns : goal.returns
+returns c =
     let end = c.in-None.ensures.steps in
     let so_far = c.loop-item.invariant.so_far in
-    elim c.if-is_empty.branch [
-      | then-is_empty+then-ahead-eq0 last ↦
-          rw last.rest-is (subst (λ v. IsCutAtMatch c.args.text.now c.args.pat.now c.args.from c.args.text.now v) (sym last.new.ensures)
-          (walked-empty so_far end.2 (end.1 ∙ ap length c.loop-item.invariant.text) (eqb-true _ 0 (sym c.is_empty.ensures ∙ last.if-is_empty.true)) last.if-ahead-eq0.true c.utf8.text c.utf8.pat))
-      | else-is_empty none ↦ rw none.rest-is (elim none.else-is_empty.branch [
-        | else-is_empty-via-then-is_empty+else-ahead-eq0 more ↦ (walked-none so_far end.2 (λ _. more.if-ahead-eq0.false), refl)
-        | else-is_empty-via-else-is_empty some ↦ (walked-none so_far end.2 (λ e. absurd (eqb-false _ 0 (sym c.is_empty.ensures ∙ some.if-is_empty.false) e)), refl)
-      ])
-    ]
-
-pub returns-clause-marked : goal.returns-clause-marked
-returns-clause-marked c =
-    let end = c.in-None.ensures.steps in
-    (walked-end c.loop-item.invariant.so_far end.2 (end.1 ∙ ap length c.loop-item.invariant.text)).is_marked
-
-pub returns-clause-style : goal.returns-clause-style
-returns-clause-style c =
-    let end = c.in-None.ensures.steps in
-    (walked-end c.loop-item.invariant.so_far end.2 (end.1 ∙ ap length c.loop-item.invariant.text)).is_style
+    let all : c.loop-item.item-iterator.offset ≡ length c.args.text.now = end.1 ∙ ap length c.loop-item.invariant.text in
+    let front = walked-end so_far end.2 all in
+    record {
+      rest = elim c.if-is_empty.branch [
+        | then-is_empty+then-ahead-eq0 last ↦
+            rw last.rest-is (subst (λ v. IsCutAtMatch c.args.text.now c.args.pat.now c.args.from c.args.text.now v) (sym last.new.ensures)
+            (walked-empty so_far end.2 all (eqb-true _ 0 (sym c.is_empty.ensures ∙ last.if-is_empty.true)) last.if-ahead-eq0.true c.utf8.text c.utf8.pat))
+        | else-is_empty none ↦ rw none.rest-is (elim none.else-is_empty.branch [
+          | else-is_empty-via-then-is_empty+else-ahead-eq0 more ↦ (walked-none so_far end.2 (λ _. more.if-ahead-eq0.false), refl)
+          | else-is_empty-via-else-is_empty some ↦ (walked-none so_far end.2 (λ e. absurd (eqb-false _ 0 (sym c.is_empty.ensures ∙ some.if-is_empty.false) e)), refl)
+        ])
+      ];
+      marked = front.is_marked;
+      style = front.is_style;
+    }
