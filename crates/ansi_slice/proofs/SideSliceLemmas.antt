@@ -151,33 +151,27 @@ drop_picks = record {
   stays_plain = λ n w all. (list_all-parts is_plain_byte n w all).1;
 }
 
+spelled-mark : (goes : Bool) (p : Piece) → spelled (if goes then (if is_sgr (spelling p) then [] else p ∷ []) else []) ≡ (if goes then copied p else [])
+spelled-mark false p = refl
+spelled-mark true p = either (is_sgr (spelling p))
+  where
+    either : (sgr : Bool) → spelled (if sgr then [] else p ∷ []) ≡ (if sgr then [] else spelling p)
+    either true = refl
+    either false = append-nil (spelling p)
+
+turned : (b : Bool) (v : List ℕ) → (if not b then v else []) ≡ (if b then [] else v)
+turned true v = refl
+turned false v = refl
+
 spelled-left : (mid n : ℕ) (s : Rendition) (p : Piece) → spelled (side_pieces (λ k w. take k w) (λ n. nat_le n mid) mid n s p) ≡ left_part mid n s p
 spelled-left mid n s (Text w) = spelled-dressed_text s (take (mid - n) w)
-spelled-left mid n s (Sequence w) = either (nat_le n mid) (is_sgr w)
-  where
-    either : (goes sgr : Bool) → spelled (if goes then (if sgr then [] else Sequence w ∷ []) else []) ≡ (if goes then (if sgr then [] else w) else [])
-    either true true = refl
-    either true false = append-nil w
-    either false sgr = refl
-spelled-left mid n s LoneEscape = either (nat_le n mid)
-  where
-    either : (goes : Bool) → spelled (if goes then LoneEscape ∷ [] else []) ≡ (if goes then copied LoneEscape else [])
-    either true = refl
-    either false = refl
+spelled-left mid n s (Sequence w) = spelled-mark (nat_le n mid) (Sequence w)
+spelled-left mid n s LoneEscape = spelled-mark (nat_le n mid) LoneEscape
 
 spelled-right : (mid n : ℕ) (s : Rendition) (p : Piece) → spelled (side_pieces (λ k w. drop k w) (λ n. not (nat_le n mid)) mid n s p) ≡ right_part mid n s p
 spelled-right mid n s (Text w) = spelled-dressed_text s (drop (mid - n) w)
-spelled-right mid n s (Sequence w) = either (nat_le n mid) (is_sgr w)
-  where
-    either : (stays sgr : Bool) → spelled (if not stays then (if sgr then [] else Sequence w ∷ []) else []) ≡ (if stays then [] else (if sgr then [] else w))
-    either true sgr = refl
-    either false true = refl
-    either false false = append-nil w
-spelled-right mid n s LoneEscape = either (nat_le n mid)
-  where
-    either : (stays : Bool) → spelled (if not stays then LoneEscape ∷ [] else []) ≡ (if stays then [] else copied LoneEscape)
-    either true = refl
-    either false = refl
+spelled-right mid n s (Sequence w) = spelled-mark (not (nat_le n mid)) (Sequence w) ∙ turned (nat_le n mid) (copied (Sequence w))
+spelled-right mid n s LoneEscape = spelled-mark (not (nat_le n mid)) LoneEscape ∙ turned (nat_le n mid) (copied LoneEscape)
 
 -- at every position, whether it is good or not
 pub left_side_is : (t : List ℕ) (mid : ℕ) → IsTrue (is_whole t) → IsClosed (take mid (styled t)) (left_side t mid)

@@ -1,3 +1,4 @@
+use Rattle.std.proofs.lemmas.Grind.{common_steps}
 use Rattle.std.proofs.Common.{◌≡◌, ℕ, true, List, sym, ◌∙◌, ap, ap₂, arith, length, IsFalse, nat_eq}
 use Rattle.std.proofs.lemmas.Bool.{eqb-true}
 use Rattle.std.specs.List.{starts_with}
@@ -61,3 +62,9 @@ returns-then-not-has_any-clause-bytes g c =
     let n = length c.args.prefix.now in
     let none : IsFalse (has_escape t) = sym c.has_any.ensures ∙ c.if-not-has_any.true in
     c.range_from.ensures.value ∙ sym (kept-bare t n (length (plain t)) none ∙ slice_range-past t n (length (plain t)) (omega (arith, ap length (plain-bare t none))))
+
+pub returns-clause-borrowed : goal.returns-clause-borrowed
+returns-clause-borrowed g c = grind (arith, common_steps)
+
+pub returns-in_err-with_sequences-clause-takes_no_memory : goal.returns-in_err-with_sequences-clause-takes_no_memory
+returns-in_err-with_sequences-clause-takes_no_memory g c = grind (arith, common_steps)

@@ -1,3 +1,4 @@
+use Rattle.std.proofs.lemmas.Grind.{common_steps}
 use Rattle.std.proofs.Common.{◌-◌, sym, ◌∙◌, ap, ap₂, arith, length, IsFalse, nat_eq}
 use Rattle.std.proofs.lemmas.Bool.{eqb-true}
 use Rattle.std.specs.List.{ends_with, slice_range}
@@ -43,3 +44,12 @@ returns-then-not-has_any-clause-bytes g c =
     let n = length c.args.suffix.now in
     let none : IsFalse (has_escape t) = sym c.has_any.ensures ∙ c.if-not-has_any.true in
     c.range.ensures.value ∙ sym (kept-bare t 0 (length (plain t) - n) none ∙ ap (λ x. slice_range t 0 (length x - n)) (plain-bare t none))
+
+pub returns-clause-borrowed : goal.returns-clause-borrowed
+returns-clause-borrowed g c = grind (arith, common_steps)
+
+pub returns-in_err-kept-clause-takes_no_memory : goal.returns-in_err-kept-clause-takes_no_memory
+returns-in_err-kept-clause-takes_no_memory g c = grind (arith, common_steps)
+
+pub returns-in_err-push_up_to-clause-takes_no_memory : goal.returns-in_err-push_up_to-clause-takes_no_memory
+returns-in_err-push_up_to-clause-takes_no_memory g c = grind (arith, common_steps)
