@@ -2,7 +2,8 @@
 ghost use Rattle.std.specs.Prelude.{◌≡◌, ◌≤◌, ◌+◌, ◌⊎◌, false, true, IfErr, IfSome, IsErrOf, IsNone, IsSome, OnOk};
 ghost use Rattle.std.specs.Io.KnownBytes.{append_known};
 ghost use Rattle.ansi_lines.specs.Devices.{count_after};
-ghost use Rattle.ansi_lines.specs.Lines.{WritesBeginning};
+ghost use Rattle.ansi_lines.specs.Jobs.{work_of};
+ghost use Rattle.ansi_lines.specs.Lines.{answers, first_refused, StopsAnswering, WritesBeginning};
 ghost use Rattle.ansi_lines.specs.Reading.{IsBadInput, IsGivenUp, IsRead, IsUnfit};
 ghost use Rattle.ansi_lines.specs.Runs.{AreBadWords, AreGoodWords, IfAnswered, MatchesWords, output_of, refused_line, told, words_of};
 ghost use Rattle.ansi_lines.specs.Stops.{refusal};
@@ -11,7 +12,7 @@ use crate::devices::{Sink, Source};
 use crate::lines::write_lines;
 use crate::reading::read_text;
 use crate::stop::Stop;
-use crate::words::parse;
+use crate::words::{Job, parse};
 use std::alloc::Allocator;
 
 /// Does what the words ask for with each line of the input, and answers the status.
@@ -152,7 +153,28 @@ fn perform<A: Allocator, S: Source, W: Sink>(
 {
     let job = parse(alloc, words)?.ok_or(Stop::BadWords)?;
     let text = read_text(alloc, input)?;
-    let refused = write_lines(alloc, &job, text.as_str(), output)?;
+    answer_text(alloc, &job, text.as_str(), output)
+}
+
+// Writes what the job makes of each line, up to one that is refused, and passes it on.
+fn answer_text<A: Allocator + Copy, W: Sink>(
+    alloc: A,
+    job: &Job<'_, A>,
+    text: &str,
+    output: &mut W,
+) -> Result<(), Stop>
+    ensures done { IfAnswered result (λ _. W.taken output.new ≡ append_known (W.taken output.old) (answers (work_of job.now) text.now)) }
+    ensures passed { IfAnswered result (λ _. W.passed output.new ≡ W.taken output.new) }
+    ensures refused { IfAnswered result (λ line. line ≡ first_refused 1 (work_of job.now) text.now) }
+    ensures unfailed { IfAnswered result (λ _. W.failed output.new ≡ W.failed output.old) }
+    ensures flushed_once { IfAnswered result (λ _. W.flushes output.new ≡ count_after (W.flushes output.old) 1) }
+    ensures flushed_at_most_once { (W.flushes output.new ≡ W.flushes output.old) ⊎
+        (W.flushes output.new ≡ count_after (W.flushes output.old) 1) }
+    ensures stopped { IfErr result (StopsAnswering (W.failed output.old) (W.failed output.new)
+        (WritesBeginning (W.taken output.old) (W.taken output.new) (answers (work_of job.now) text.now) ×
+        (W.flushes output.new ≡ W.flushes output.old))) }
+{
+    let refused = write_lines(alloc, job, text, output)?;
     output.flush()?;
     match refused {
         Some(line) => Err(Stop::Refused(line)),
