@@ -78,6 +78,12 @@ static void give_all_blocks(void) {
     expect("plain", blocks[1].style.attributes == 0 && !blocks[1].style.has_any);
     expect("bold", blocks[2].style.attributes == ANSI_STR_BOLD);
 
+    ansi_str_styled_block_entry styled[8];
+    given = ansi_str_styled_blocks(LOG, strlen(LOG), buffer, sizeof buffer, styled, 8);
+    expect("styled blocks", given.status == ANSI_STR_OK && given.count == 3);
+    expect("the first one", styled[0].end == 15 && memcmp(buffer, "\x1b[31merror\x1b[39m", 15) == 0);
+    expect("its text", styled[0].text_start == 5 && styled[0].text_end == 10);
+
     ansi_str_style_answer first = ansi_str_block_style(LOG, strlen(LOG), 0);
     expect("its style", first.status == ANSI_STR_OK && first.style.foreground.kind == ANSI_STR_RED);
 }
@@ -112,6 +118,7 @@ static void take_nothing(void) {
     expect("find", ansi_str_find(NULL, 0, NULL, 0).status == ANSI_STR_OK);
     expect("split", ansi_str_split(NULL, 0, ":", 1, NULL, 0, NULL, 0).status == ANSI_STR_TOO_SMALL);
     expect("blocks", ansi_str_blocks(NULL, 0, NULL, 0, NULL, 0).status == ANSI_STR_OK);
+    expect("styled blocks", ansi_str_styled_blocks(NULL, 0, NULL, 0, NULL, 0).status == ANSI_STR_OK);
     expect("edit", ansi_str_edit("ab", 2, NULL, 0, NULL, 0).status == ANSI_STR_TOO_SMALL);
 }
 
