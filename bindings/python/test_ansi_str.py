@@ -7,7 +7,7 @@ import unittest
 
 import ansi_str
 
-ROWS = os.path.join(os.path.dirname(os.path.abspath(__file__)), "../rows.tsv")
+ROWS = os.path.join(os.path.dirname(os.path.abspath(__file__)), "../../crates/ansi_rows/stdin")
 KINDS = [ansi_str.Cut, ansi_str.Left, ansi_str.Right, ansi_str.Part, ansi_str.Prefix, ansi_str.Suffix, ansi_str.Trim]
 
 
@@ -21,13 +21,13 @@ def bytes_of(field):
 
 
 def rows():
-    """The rows of which every text is one."""
+    """The rows of which every text is one, without what they say of memory."""
     with open(ROWS, "rb") as file:
         for line in file.read().split(b"\n"):
-            if not line:
+            if not line or line.startswith(b"#"):
                 continue
             try:
-                yield [bytes_of(field).decode() for field in expanded(line).split(b"\t")]
+                yield [bytes_of(field).decode() for field in expanded(line).split(b"\t")[1:]]
             except UnicodeDecodeError:
                 pass
 

@@ -2,7 +2,7 @@
 
 use ansi_str::{get_blocks, AnsiStr, Color};
 
-const ROWS: &str = include_str!("../../rows.tsv");
+const ROWS: &str = include_str!("../../../crates/ansi_rows/stdin");
 
 /// A row in which each `\{N:TEXT}` is TEXT N times.
 fn expanded(row: &str) -> String {
@@ -119,7 +119,7 @@ fn expect_styled_blocks(text: &str, count: usize, fields: &[&str], row: &str) {
 fn pass(row: &str) -> bool {
     let fields: Vec<&str> = row.split('\t').collect();
     // a row whose texts aren't UTF-8 can't be asked for in Rust
-    let ([call, status, want, text, more @ ..], true) = (
+    let ([_memory, call, status, want, text, more @ ..], true) = (
         &fields[..],
         fields.iter().all(|field| text_of(field).is_some()),
     ) else {
@@ -201,7 +201,7 @@ fn pass(row: &str) -> bool {
 fn rows_pass() {
     let passed = ROWS
         .lines()
-        .filter(|row| !row.is_empty() && pass(&expanded(row)))
+        .filter(|row| !row.is_empty() && !row.starts_with('#') && pass(&expanded(row)))
         .count();
     assert!(passed >= 200, "only {passed} rows were tried");
 }

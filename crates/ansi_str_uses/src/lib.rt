@@ -1,4 +1,5 @@
-//! Callers of `ansi_str`: some that are proved by its contracts alone, and the examples of its docs, as tests.
+//! Callers of `ansi_str` that are proved by its contracts alone, and as tests the examples of its docs, and what no row
+//! of `ansi_rows` can ask for.
 #![tactic(auto)]
 
 pub mod callers;
@@ -7,3 +8,5 @@ pub mod clones;
 mod docs;
 #[cfg(test)]
 mod examples;
+#[cfg(test)]
+mod tests;

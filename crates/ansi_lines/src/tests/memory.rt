@@ -1,7 +1,7 @@
 //! Each request for memory that a run makes, refused in turn.
 use super::{CHUNK, ROOM, Ran, empty_page, expect, expect_end, input_page, owned};
 use crate::runs::run;
-use ansi_str_tests::Refusing;
+use refusing::Refusing;
 use std::alloc::{AllocError, Global};
 use std::process::Abort;
 use std::test::Fail;

@@ -180,39 +180,15 @@ static PIECES: [&str; 21] = [
     " ",
 ];
 
-/// Compares the ranges of each text of so many pieces.
-fn expect_cuts_of_pieces(
-    rt: &impl Abort,
-    alloc: Global,
-    len: usize,
-    count: usize,
-) -> Result<(), Fail> {
-    for number in 0..count {
-        let text = text_at(alloc, &PIECES, number, len)?;
-        expect_cuts(rt, alloc, text.as_str())?;
-    }
-    Ok(())
-}
-
-/// How many pieces a short text has, and how many such texts there are.
-static SHORT_LENGTHS: [(usize, usize); 3] = [(0, 1), (1, 21), (2, 441)];
-
-/// The same of longer texts.
-static LONGER_LENGTHS: [(usize, usize); 2] = [(3, 9_261), (4, 194_481)];
-
-#[test]
-fn short_texts_are_cut_as_defined(rt: HostRuntime) -> Result<(), Fail> {
-    for (len, count) in &SHORT_LENGTHS {
-        expect_cuts_of_pieces(&rt, rt.alloc(), *len, *count)?;
-    }
-    Ok(())
-}
+/// How many texts have at most four of these pieces.
+const TEXTS: usize = 204_205;
 
 // Six seconds as `rt test` builds it, and more than the minute that `rt try` grants.
 #[test]
-fn longer_texts_are_cut_as_defined(rt: HostRuntime) -> Result<(), Fail> {
-    for (len, count) in &LONGER_LENGTHS {
-        expect_cuts_of_pieces(&rt, rt.alloc(), *len, *count)?;
+fn short_texts_are_cut_as_defined(rt: HostRuntime) -> Result<(), Fail> {
+    for number in 0..TEXTS {
+        let text = text_at(rt.alloc(), &PIECES, number)?;
+        expect_cuts(&rt, rt.alloc(), text.as_str())?;
     }
     Ok(())
 }

@@ -162,50 +162,25 @@ static STARTS: [(&str, &str); 3] = [("bold", "1"), ("font", "12"), ("foreground"
 
 static PATTERNS: [&str; 9] = ["", "a", "b", "ab", "aa", "aba", "é", "m", "\x1b"];
 
-/// Compares the parts of each text of so many pieces.
-fn expect_parts_of_pieces(
-    rt: &impl Abort,
-    alloc: Global,
-    len: usize,
-    count: usize,
-) -> Result<(), Fail> {
-    for number in 0..count {
-        let text = text_at(alloc, &PIECES, number, len)?;
-        let items = items(alloc, text.as_str())?;
-        let plain = plain(alloc, text.as_str(), items.as_slice())?;
-        for pat in &PATTERNS {
-            expect_parts(
-                rt,
-                alloc,
-                text.as_str(),
-                items.as_slice(),
-                plain.as_str(),
-                pat,
-            )?;
-        }
-    }
-    Ok(())
-}
+/// How many texts have at most four of these pieces.
+const TEXTS: usize = 30_941;
 
-/// How many pieces a short text has, and how many such texts there are.
-static SHORT_LENGTHS: [(usize, usize); 3] = [(0, 1), (1, 13), (2, 169)];
-
-/// The same of longer texts.
-static LONGER_LENGTHS: [(usize, usize); 2] = [(3, 2_197), (4, 28_561)];
-
-#[test]
-fn short_texts_are_split_as_defined(rt: HostRuntime) -> Result<(), Fail> {
-    for (len, count) in &SHORT_LENGTHS {
-        expect_parts_of_pieces(&rt, rt.alloc(), *len, *count)?;
+/// Compares the parts of a text by each pattern.
+fn expect_text(rt: &impl Abort, alloc: Global, text: &str) -> Result<(), Fail> {
+    let items = items(alloc, text)?;
+    let plain = plain(alloc, text, items.as_slice())?;
+    for pat in &PATTERNS {
+        expect_parts(rt, alloc, text, items.as_slice(), plain.as_str(), pat)?;
     }
     Ok(())
 }
 
 // More than the minute that `rt try` grants.
 #[test]
-fn longer_texts_are_split_as_defined(rt: HostRuntime) -> Result<(), Fail> {
-    for (len, count) in &LONGER_LENGTHS {
-        expect_parts_of_pieces(&rt, rt.alloc(), *len, *count)?;
+fn short_texts_are_split_as_defined(rt: HostRuntime) -> Result<(), Fail> {
+    for number in 0..TEXTS {
+        let text = text_at(rt.alloc(), &PIECES, number)?;
+        expect_text(&rt, rt.alloc(), text.as_str())?;
     }
     Ok(())
 }

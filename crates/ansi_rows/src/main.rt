@@ -1,0 +1,71 @@
+//! Makes the call of each row of its standard input, and tells of each row whose call answers otherwise than
+//! the row says. At the end it tells how many rows of each call passed.
+//!
+//! A row is a line. A line that is empty or begins with `#` is none. `rows` says what a row has.
+#![tactic(auto)]
+
+mod blocks;
+mod calls;
+mod items;
+mod ranges;
+mod rows;
+mod said;
+mod texts;
+mod tries;
+
+use rows::{Row, fields_of};
+use said::Fault;
+use std::alloc::{AllocError, Global};
+
+/// How many rows of each call passed.
+#[derive(Drop)]
+struct Tally {
+    passed: Vec<(String, usize)>,
+}
+
+impl Tally {
+    fn count(&mut self, alloc: Global, call: &str) -> Result<(), AllocError> {
+        for (name, count) in self.passed.iter_mut() {
+            if name.as_str() == call {
+                *count = count.saturating_add(1);
+                return Ok(());
+            }
+        }
+        self.passed.push((String::from_str(alloc, call)?, 1))?;
+        Ok(())
+    }
+}
+
+/// A fault of the row, if there is one. A row that no caller in Rattle can ask for has none, and isn't counted.
+fn tried(alloc: Global, line: &str, tally: &mut Tally) -> anyhow::Result<Option<Fault>> {
+    let Some(fields) = fields_of(alloc, line)? else {
+        tally.count(alloc, "passed over")?;
+        return Ok(None);
+    };
+    let row = Row::new(fields.as_slice())?;
+    let fault = tries::fault(alloc, &row)?;
+    if fault.is_none() {
+        tally.count(alloc, row.call)?;
+    }
+    Ok(fault)
+}
+
+fn main(rt: HostRuntime) -> anyhow::Result<()> {
+    let alloc = rt.alloc();
+    let mut tally = Tally {
+        passed: Vec::new(alloc),
+    };
+    for (index, line) in rt.lines(alloc).enumerate() {
+        let line = line?;
+        if line.is_empty() || line.starts_with('#') {
+            continue;
+        }
+        if let Some(fault) = tried(alloc, line.as_str(), &mut tally)? {
+            println!(rt; "line {}: {}: {:?}", index + 1, fault.what, fault.said)?;
+        }
+    }
+    for (call, count) in &tally.passed {
+        println!(rt; "{call}: {count}")?;
+    }
+    Ok(())
+}
