@@ -74,12 +74,12 @@ fn say_style(
 fn say_clone(said: &mut Said, heap: &Heap, block: &AnsiBlock<'_, &Heap>, is_borrow: bool) {
     let before = heap.requests();
     match block.clone() {
-        Err(_) => said.err(),
-        Ok(clone) if clone != *block => said.none("another clone"),
+        Err(_) => said.is_err = true,
+        Ok(clone) if clone != *block => said.status = "another clone",
         Ok(_) => {}
     }
     if (heap.requests() == before) != is_borrow {
-        said.none("memory for a clone");
+        said.status = "memory for a clone";
     }
 }
 
@@ -112,7 +112,7 @@ fn say_next(
     let before = heap.requests();
     match blocks.next() {
         None => return Ok(false),
-        Some(Err(_)) => said.err(),
+        Some(Err(_)) => said.is_err = true,
         Some(Ok(block)) => {
             let is_borrow = heap.requests() == before;
             say_block(said, alloc, heap, &block, is_borrow, is_counted)?;
@@ -127,7 +127,7 @@ fn say_next(
 fn expect_end(said: &mut Said, blocks: &mut AnsiBlockIter<'_, &Heap>) {
     for _ in 0..3 {
         if blocks.next().is_some() {
-            said.none("a block after the end");
+            said.status = "a block after the end";
         }
     }
 }
@@ -231,7 +231,7 @@ pub fn said_of_block(
     let mut said = Said::new(alloc);
     match block_at(alloc, text, index)? {
         Some(block) => said.push(told_of(alloc, &block, call)?)?,
-        None => said.none("1"),
+        None => said.status = "1",
     }
     Ok(said)
 }

@@ -14,18 +14,12 @@ fn item_text(alloc: Global, item: &Item) -> Result<String, AllocError> {
     format!(in alloc; "{kind} {}", item.end.saturating_sub(item.start))
 }
 
-/// From as many looks as the text has bytes up to four times as many.
-fn are_few(looks: u128, len: usize) -> bool {
-    let len = len as u128;
-    len <= looks && looks <= 4 * len
-}
-
 /// The items of a text, one after the other, after which there are none.
 pub fn said_of_items(alloc: Global, text: &str) -> Result<Said, AllocError> {
     let mut said = Said::new(alloc);
     let mut scanner = Scanner::new(text);
     if scanner.reads() != 0 {
-        said.none("a look too early");
+        said.status = "a look too early";
     }
     let mut offset = 0;
     for _ in 0..usize::MAX {
@@ -33,16 +27,18 @@ pub fn said_of_items(alloc: Global, text: &str) -> Result<Said, AllocError> {
             break;
         };
         if item.start != offset {
-            said.none("a gap");
+            said.status = "a gap";
         }
         offset = item.end;
         said.push(item_text(alloc, &item)?)?;
     }
     if scanner.next().is_some() || scanner.next().is_some() {
-        said.none("an item after the end");
+        said.status = "an item after the end";
     }
-    if !are_few(scanner.reads(), text.len()) {
-        said.none("too few or too many looks");
+    // from as many looks as the text has bytes up to four times as many
+    let (looks, len) = (scanner.reads(), text.len() as u128);
+    if looks < len || looks > 4 * len {
+        said.status = "too few or too many looks";
     }
     Ok(said)
 }

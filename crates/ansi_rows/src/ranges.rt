@@ -8,7 +8,7 @@ use std::alloc::{AllocError, Global};
 use std::borrow::CowStr;
 
 /// A range of one of the six types.
-#[derive(Clone, Copy, Debug)]
+#[derive(Clone, Copy)]
 pub enum AnyRange {
     Range(usize, usize),
     RangeInclusive(usize, usize),

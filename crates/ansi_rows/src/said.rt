@@ -8,7 +8,8 @@ use std::borrow::CowStr;
 pub struct Said {
     /// Whether it was an `Err`.
     pub is_err: bool,
-    status: &'static str,
+    /// The status that a row has for it, or what is wrong with it.
+    pub status: &'static str,
     borrows: String,
     gave: Vec<String>,
 }
@@ -61,22 +62,12 @@ impl Said {
         self.push(String::from_str(alloc, text.as_str())?)
     }
 
-    /// The call said that there is no such thing, or refused it.
-    pub fn none(&mut self, status: &'static str) {
-        self.status = status;
-    }
-
-    /// The call was an `Err`.
-    pub fn err(&mut self) {
-        self.is_err = true;
-    }
-
     /// What a call told: a number, or that there is no such thing.
     pub fn number(alloc: Global, told: Option<usize>) -> Result<Self, AllocError> {
         let mut said = Said::new(alloc);
         match told {
             Some(number) => said.push(number.to_string(alloc)?)?,
-            None => said.none("1"),
+            None => said.status = "1",
         }
         Ok(said)
     }

@@ -22,8 +22,8 @@ fn say_answer<A: Allocator>(
 ) -> Result<(), AllocError> {
     match answer {
         Ok(Some(text)) => said.push_text(alloc, text)?,
-        Ok(None) => said.none(none),
-        Err(_) => said.err(),
+        Ok(None) => said.status = none,
+        Err(_) => said.is_err = true,
     }
     Ok(())
 }
@@ -38,8 +38,8 @@ fn say_sides<A: Allocator>(
             said.push_text(alloc, left)?;
             said.push_text(alloc, right)?;
         }
-        Ok(None) => said.none("2"),
-        Err(_) => said.err(),
+        Ok(None) => said.status = "2",
+        Err(_) => said.is_err = true,
     }
     Ok(())
 }
@@ -53,7 +53,7 @@ fn say_next<A: Allocator + Copy>(
 ) -> Result<bool, AllocError> {
     match parts.next() {
         None => return Ok(false),
-        Some(Err(_)) => said.err(),
+        Some(Err(_)) => said.is_err = true,
         Some(Ok(part)) if is_counted => said.push_borrow(matches!(&part, CowStr::Borrowed(_)))?,
         Some(Ok(part)) => said.push_text(alloc, &part)?,
     }
@@ -63,7 +63,7 @@ fn say_next<A: Allocator + Copy>(
 fn expect_end<A: Allocator + Copy>(said: &mut Said, parts: &mut AnsiSplit<'_, A>) {
     for _ in 0..3 {
         if parts.next().is_some() {
-            said.none("a part after the end");
+            said.status = "a part after the end";
         }
     }
 }

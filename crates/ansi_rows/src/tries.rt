@@ -72,14 +72,6 @@ fn fault_of(alloc: Global, row: &Row<'_>, call: &Call<'_>) -> Result<Option<Faul
     fault_in(alloc, row, call)
 }
 
-fn fault_of_text(
-    alloc: Global,
-    row: &Row<'_>,
-    call: TextCall<'_>,
-) -> Result<Option<Fault>, AllocError> {
-    fault_of(alloc, row, &Call::Text(call))
-}
-
 /// The text between two positions, by every range that says so.
 fn fault_of_cut(
     alloc: Global,
@@ -89,7 +81,7 @@ fn fault_of_cut(
 ) -> Result<Option<Fault>, AllocError> {
     for range in ranges_of(alloc, start, end)? {
         for call in [TextCall::Get(range), TextCall::Cut(range)] {
-            if let Some(fault) = fault_of_text(alloc, row, call)? {
+            if let Some(fault) = fault_of(alloc, row, &Call::Text(call))? {
                 return Ok(Some(fault));
             }
         }
@@ -156,12 +148,6 @@ fn yes(is_so: bool) -> Option<usize> {
     is_so.then_some(0)
 }
 
-/// The call of a row of `split` or `count_parts`.
-fn split_of<'r>(row: &Row<'r>, are_counted: bool) -> anyhow::Result<Call<'r>> {
-    let pat = row.argument(0)?;
-    Ok(Call::Split { pat, are_counted })
-}
-
 /// What a call says that only tells, of a type with `AnsiStr`.
 fn said_to<T: AnsiStr>(alloc: Global, text: &T, row: &Row<'_>) -> anyhow::Result<Said> {
     let told = match row.call {
@@ -195,18 +181,32 @@ fn fault_of_block(
 /// Makes the call of a row in each way, and tells what differs from what the row says.
 pub fn fault(alloc: Global, row: &Row<'_>) -> anyhow::Result<Option<Fault>> {
     let fault = match row.call {
-        "strip" => fault_of_text(alloc, row, TextCall::Strip)?,
-        "trim" => fault_of_text(alloc, row, TextCall::Trim)?,
-        "strip_prefix" => fault_of_text(alloc, row, TextCall::Prefix(row.argument(0)?))?,
-        "strip_suffix" => fault_of_text(alloc, row, TextCall::Suffix(row.argument(0)?))?,
+        "strip" => fault_of(alloc, row, &Call::Text(TextCall::Strip))?,
+        "trim" => fault_of(alloc, row, &Call::Text(TextCall::Trim))?,
+        "strip_prefix" => fault_of(alloc, row, &Call::Text(TextCall::Prefix(row.argument(0)?)))?,
+        "strip_suffix" => fault_of(alloc, row, &Call::Text(TextCall::Suffix(row.argument(0)?)))?,
         "cut" => fault_of_cut(alloc, row, row.number(0)?, row.number(1)?)?,
         "left" => fault_in(alloc, row, &Call::Edits(&[Edit::Left(row.number(0)?)]))?,
         "right" => fault_in(alloc, row, &Call::Edits(&[Edit::Right(row.number(0)?)]))?,
         "split_at" => fault_of(alloc, row, &Call::SplitAt(row.number(0)?))?,
         "part" => fault_in(alloc, row, &Call::Part(row.argument(0)?, row.number(1)?))?,
         "edit" => fault_of_edits(alloc, row, edits_of(alloc, row)?.as_slice())?,
-        "split" => fault_of(alloc, row, &split_of(row, false)?)?,
-        "count_parts" => fault_of(alloc, row, &split_of(row, true)?)?,
+        "split" => fault_of(
+            alloc,
+            row,
+            &Call::Split {
+                pat: row.argument(0)?,
+                are_counted: false,
+            },
+        )?,
+        "count_parts" => fault_of(
+            alloc,
+            row,
+            &Call::Split {
+                pat: row.argument(0)?,
+                are_counted: true,
+            },
+        )?,
         "blocks" => fault_in(alloc, row, &Call::Blocks { are_counted: false })?,
         "count_blocks" => fault_in(alloc, row, &Call::Blocks { are_counted: true })?,
         "styled_blocks" => said_of_styled_blocks(alloc, row.text)?.fault(row, "of the blocks"),
