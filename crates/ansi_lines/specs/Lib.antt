@@ -1,10 +1,4 @@
-pub mod Devices
-pub mod Hosts
 pub mod Jobs
 pub mod Lines
-pub mod PageStates
-pub mod Pages
-pub mod Reading
 pub mod Runs
-pub mod Stops
 pub mod Words

@@ -6,9 +6,9 @@ ghost use Rattle.std.specs.Io.KnownBytes.{append_known};
 ghost use Rattle.ansi_lines.specs.Jobs.{work_of};
 ghost use Rattle.ansi_lines.specs.Lines.{answer_of, answers, first_refused, lines, HasFirstLine, StopsWriting, WritesAnswer, WritesBeginning};
 
-use crate::devices::Sink;
-use crate::stop::Stop;
 use crate::words::Job;
+use ansi_lines_io::devices::Sink;
+use ansi_lines_io::stop::Stop;
 use memchr::memchr;
 use std::alloc::{AllocError, Allocator};
 use std::borrow::CowStr;

@@ -5,24 +5,19 @@ ghost use Rattle.std.specs.Prelude.{◌≡◌, ◌≤◌, ◌⊎◌, false, IfOk
 ghost use Rattle.std.specs.Io.KnownBytes.{append_known};
 ghost use Rattle.ansi_lines.specs.Runs.{AreBadWords, told, words_of};
 
-pub mod devices;
-pub mod host;
 pub mod lines;
-pub mod page;
-pub mod reading;
 mod runs;
-pub mod stop;
 #[cfg(test)]
 mod tests;
 pub mod words;
 
-use devices::Sink;
-use host::{HostIn, HostOut};
+use ansi_lines_io::devices::Sink;
+use ansi_lines_io::host::{HostIn, HostOut};
+use ansi_lines_io::stop::Stop;
 use runs::run;
 use std::env;
 use std::io::{self, BufWriter, Write};
 use std::process::ExitCode;
-use stop::Stop;
 
 fn main(rt: HostRuntime) -> ExitCode {
     let mut faults = HostOut::new(rt.stderr());

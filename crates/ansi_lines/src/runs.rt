@@ -1,18 +1,18 @@
 //! A run of the program, over any devices.
 ghost use Rattle.std.specs.Prelude.{◌≡◌, ◌≤◌, ◌+◌, ◌⊎◌, false, true, IfErr, IfSome, IsErrOf, IsNone, IsSome, OnOk};
 ghost use Rattle.std.specs.Io.KnownBytes.{append_known};
-ghost use Rattle.ansi_lines.specs.Devices.{count_after};
+ghost use Rattle.ansi_lines_io.specs.Devices.{count_after};
 ghost use Rattle.ansi_lines.specs.Jobs.{work_of};
 ghost use Rattle.ansi_lines.specs.Lines.{answers, first_refused, StopsAnswering, WritesBeginning};
-ghost use Rattle.ansi_lines.specs.Reading.{IsBadInput, IsGivenUp, IsRead, IsUnfit};
+ghost use Rattle.ansi_lines_io.specs.Reading.{IsBadInput, IsGivenUp, IsRead, IsUnfit};
 ghost use Rattle.ansi_lines.specs.Runs.{AreBadWords, AreGoodWords, IfAnswered, MatchesWords, output_of, refused_line, told, words_of};
-ghost use Rattle.ansi_lines.specs.Stops.{refusal};
+ghost use Rattle.ansi_lines_io.specs.Stops.{refusal};
 
-use crate::devices::{Sink, Source};
 use crate::lines::write_lines;
-use crate::reading::read_text;
-use crate::stop::Stop;
 use crate::words::{Job, parse};
+use ansi_lines_io::devices::{Sink, Source};
+use ansi_lines_io::reading::read_text;
+use ansi_lines_io::stop::Stop;
 use std::alloc::Allocator;
 
 /// Does what the words ask for with each line of the input, and answers the status.

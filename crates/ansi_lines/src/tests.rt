@@ -3,8 +3,8 @@
 mod devices;
 mod memory;
 
-use crate::page::{Outcome, Page};
 use crate::runs::run;
+use ansi_lines_io::page::{Outcome, Page};
 use std::alloc::{AllocError, Global};
 use std::fmt::Debug;
 use std::process::Abort;

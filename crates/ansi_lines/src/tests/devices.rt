@@ -1,6 +1,6 @@
 //! Runs over devices that fail or are interrupted.
 use super::{CHUNK, Plan, Ran, at_call, expect, expect_end, run_with};
-use crate::page::Outcome;
+use ansi_lines_io::page::Outcome;
 use std::alloc::{AllocError, Global};
 use std::process::Abort;
 use std::test::Fail;

@@ -2,7 +2,7 @@ use Rattle.std.proofs.Common.{rules, ◌≡◌, ◌∙◌, sym, arith, refl, ◌
 use Rattle.std.specs.Io.KnownBytes.{append_known}
 use Rattle.ansi_lines.specs.Jobs.{work_of}
 use Rattle.ansi_lines.specs.Lines.{Line, line_feed, answers, first_refused}
-use Rattle.ansi_lines.proofs.Known.{append_known-nil, append_known-twice}
+use Rattle.ansi_lines_io.proofs.Known.{append_known-nil, append_known-twice}
 use Rattle.ansi_lines.proofs.Written.{HasWritten-more, HasWritten-all}
 use Rattle.ansi_lines.proofs.LineLemmas.{line-answered, line-refused, answers-none}
 use Rattle.ansi_lines.proofs.lines.write_lines.Given.{Over}

@@ -1,9 +1,9 @@
 -- When an input is read, and why reading stops.
 use Rattle.std.specs.Prelude.{◌≡◌, ◌≤◌, ◌<◌, ◌⊎◌, ℕ, List, length, Bool, true, Option, None, Some, IfSome, ⊤}
 use Rattle.std.specs.Str.{IsUtf8}
-use Rattle.ansi_lines.specs.Devices.{count_after}
-use Rattle.ansi_lines.specs.declared.stop.Stop.{Stop}
-use Rattle.ansi_lines.specs.declared.stop.Stop.TheVariants.{Refused, BadInput, OutOfMemory, BadWords, WriteFailed}
+use Rattle.ansi_lines_io.specs.Devices.{count_after}
+use Rattle.ansi_lines_io.specs.declared.stop.Stop.{Stop}
+use Rattle.ansi_lines_io.specs.declared.stop.Stop.TheVariants.{Refused, BadInput, OutOfMemory, BadWords, WriteFailed}
 
 -- an unfit input is longer than 1 MiB, or isn't a text
 abbrev pub IsUnfit : List ℕ → Type 0

@@ -1,5 +1,5 @@
-use Rattle.ansi_lines.proofs.Known.{all_read}
-use Rattle.ansi_lines.proofs.reading.read_bytes.Goals as goal
+use Rattle.ansi_lines_io.proofs.Known.{all_read}
+use Rattle.ansi_lines_io.proofs.reading.read_bytes.Goals as goal
 
 -- nothing is left at the end
 pub returns-in_default-clause-all : goal.returns-in_default-clause-all

@@ -1,14 +1,14 @@
 -- How the calls of a page come out, and what they make of it.
 use Rattle.std.specs.Prelude.{◌+◌, ◌++◌, ◌||◌, ℕ, List, [], ◌∷◌, length, drop, min, max, nat_le, false, is_ok, is_err, Result, Ok, Err, if◌then◌else◌}
 use Rattle.std.specs.Result.{result_unwrap_or}
-use Rattle.ansi_lines.specs.declared.devices.ReadFault.{ReadFault}
-use Rattle.ansi_lines.specs.declared.devices.ReadFault.TheVariants as read_fault
-use Rattle.ansi_lines.specs.declared.devices.WriteFault.{WriteFault}
-use Rattle.ansi_lines.specs.declared.devices.WriteFault.TheVariants as write_fault
-use Rattle.ansi_lines.specs.declared.page.Outcome.{Outcome}
-use Rattle.ansi_lines.specs.declared.page.Outcome.TheVariants.{Works, Interrupted, Failed}
-use Rattle.ansi_lines.specs.Devices.{was_interrupted, was_failed, count_after}
-use Rattle.ansi_lines.specs.PageStates.{PageState}
+use Rattle.ansi_lines_io.specs.declared.devices.ReadFault.{ReadFault}
+use Rattle.ansi_lines_io.specs.declared.devices.ReadFault.TheVariants as read_fault
+use Rattle.ansi_lines_io.specs.declared.devices.WriteFault.{WriteFault}
+use Rattle.ansi_lines_io.specs.declared.devices.WriteFault.TheVariants as write_fault
+use Rattle.ansi_lines_io.specs.declared.page.Outcome.{Outcome}
+use Rattle.ansi_lines_io.specs.declared.page.Outcome.TheVariants.{Works, Interrupted, Failed}
+use Rattle.ansi_lines_io.specs.Devices.{was_interrupted, was_failed, count_after}
+use Rattle.ansi_lines_io.specs.PageStates.{PageState}
 
 -- a new page has read, passed on and planned nothing, was asked for no read and no flush, and gives all that it has at one read
 abbrev pub fresh_page : List ℕ → ℕ → PageState

@@ -1,8 +1,8 @@
 //! A device over memory, whose calls come out as a schedule says.
 ghost use Rattle.std.specs.Prelude.{◌≡◌, ◌≤◌, ◌+◌, ◌||◌, [], ◌++◌, IfOk, OnOk, Some, length, drop, take, is_err, vec_len};
 ghost use Rattle.std.specs.Io.KnownBytes.{append_known};
-ghost use Rattle.ansi_lines.specs.Devices.{Reads, count_after, was_interrupted, was_failed};
-ghost use Rattle.ansi_lines.specs.Pages.{fresh_page, next_outcome, bytes_left, count_given, read_comes_to, write_comes_to, flush_comes_to, page_after_read, page_after_write, page_after_flush};
+ghost use Rattle.ansi_lines_io.specs.Devices.{Reads, count_after, was_interrupted, was_failed};
+ghost use Rattle.ansi_lines_io.specs.Pages.{fresh_page, next_outcome, bytes_left, count_given, read_comes_to, write_comes_to, flush_comes_to, page_after_read, page_after_write, page_after_flush};
 
 use crate::devices::{ReadFault, Sink, Source, WriteFault};
 use std::alloc::{AllocError, Global};
@@ -48,7 +48,7 @@ pub struct Page {
 
 impl Model for Page {
     ghost use Rattle.std.specs.Prelude.{vec_len, vec_capacity};
-    ghost use Rattle.ansi_lines.specs.PageStates.{PageState, IsWithinRoom};
+    ghost use Rattle.ansi_lines_io.specs.PageStates.{PageState, IsWithinRoom};
 
     ghost Value = { PageState };
 
@@ -175,7 +175,7 @@ impl Page {
 }
 
 impl Source for Page {
-    ghost use Rattle.ansi_lines.specs.Pages.{bytes_left};
+    ghost use Rattle.ansi_lines_io.specs.Pages.{bytes_left};
 
     ghost left = { λ page. Some (bytes_left page) };
 

@@ -1,8 +1,8 @@
 //! Why a run ends early.
 ghost use Rattle.std.specs.Prelude.{◌≡◌, ◌||◌, true, false, OnErr, OnOk};
 ghost use Rattle.std.specs.Io.KnownBytes.{append_known};
-ghost use Rattle.ansi_lines.specs.declared.stop.Stop.TheVariants.{OutOfMemory, WriteFailed};
-ghost use Rattle.ansi_lines.specs.Stops.{status_of, text_of};
+ghost use Rattle.ansi_lines_io.specs.declared.stop.Stop.TheVariants.{OutOfMemory, WriteFailed};
+ghost use Rattle.ansi_lines_io.specs.Stops.{status_of, text_of};
 
 use crate::devices::{Sink, WriteFault};
 use itoa::Buffer;

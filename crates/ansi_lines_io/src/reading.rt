@@ -1,8 +1,8 @@
 //! Reads the whole input.
 ghost use Rattle.std.specs.Prelude.{◌≡◌, ◌≤◌, ◌<◌, ◌+◌, ◌⊎◌, true, length, take, OnOk, IfOk, IfNone, IfSome, IfErr, string_bytes, string_len, vec_len};
 ghost use Rattle.std.specs.Io.KnownBytes.{prepend_known, IsAtEnd};
-ghost use Rattle.ansi_lines.specs.Devices.{count_after};
-ghost use Rattle.ansi_lines.specs.Reading.{IsGivenUp, StopsReading};
+ghost use Rattle.ansi_lines_io.specs.Devices.{count_after};
+ghost use Rattle.ansi_lines_io.specs.Reading.{IsGivenUp, StopsReading};
 
 use crate::devices::{ReadFault, Source};
 use crate::stop::Stop;

@@ -2,7 +2,7 @@
 use Rattle.std.proofs.Common.{◌≡◌, ◌≤◌, ◌+◌, ◌∙◌, ap, sym, ℕ, List, ◌++◌, length, take, drop, min, max, Some, Ok, arith, subst, length-append, length-drop}
 use Rattle.std.proofs.Math.Seq.{take-append_seam}
 use Rattle.std.proofs.lemmas.List.{take-append-drop, drop-drop, length-take-le, drop_all}
-use Rattle.ansi_lines.specs.Devices.{Reads}
+use Rattle.ansi_lines_io.specs.Devices.{Reads}
 
 -- the front of a list, put into a room, and the rest are the whole list
 front_and_rest : (left room : List ℕ) (count : ℕ) → count ≤ length left

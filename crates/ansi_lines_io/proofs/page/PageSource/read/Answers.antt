@@ -1,5 +1,5 @@
-use Rattle.ansi_lines.proofs.PageLemmas.{reads_front}
-use Rattle.ansi_lines.proofs.page.PageSource.read.Goals as goal
+use Rattle.ansi_lines_io.proofs.PageLemmas.{reads_front}
+use Rattle.ansi_lines_io.proofs.page.PageSource.read.Goals as goal
 
 -- the schedule is all that differs before the bytes are given
 pub returns-in-Works-clause-bytes : goal.returns-in-Works-clause-bytes

@@ -1,6 +1,6 @@
 -- What a page holds, and how its calls will come out.
 use Rattle.std.specs.Prelude.{◌≤◌, ℕ, List, Bool}
-use Rattle.ansi_lines.specs.declared.page.Outcome.{Outcome}
+use Rattle.ansi_lines_io.specs.declared.page.Outcome.{Outcome}
 
 -- the first bytes of a page are read and the first are passed on, it was asked for so many reads and flushes, it has room for so many, a read gives a chunk at most, and its calls come out as scheduled
 pub record PageState : Type 0 where

@@ -1,7 +1,7 @@
 //! What the program reads from and writes to.
 ghost use Rattle.std.specs.Prelude.{◌≡◌, ◌≤◌, ◌||◌, Bool, ℕ, List, Option, length, is_err, IfOk, OnOk};
 ghost use Rattle.std.specs.Io.KnownBytes.{append_known};
-ghost use Rattle.ansi_lines.specs.Devices.{Reads, count_after, was_interrupted, was_failed};
+ghost use Rattle.ansi_lines_io.specs.Devices.{Reads, count_after, was_interrupted, was_failed};
 
 /// Why a read gave nothing.
 #[derive(Clone, Copy, Debug, PartialEq, Eq)]

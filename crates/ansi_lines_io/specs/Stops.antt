@@ -1,7 +1,7 @@
 -- What a run that ends early answers and tells.
 use Rattle.std.specs.Prelude.{◌++◌, ℕ, List, codes, decimal}
-use Rattle.ansi_lines.specs.declared.stop.Stop.{Stop}
-use Rattle.ansi_lines.specs.declared.stop.Stop.TheVariants.{Refused, BadWords, BadInput, WriteFailed, OutOfMemory}
+use Rattle.ansi_lines_io.specs.declared.stop.Stop.{Stop}
+use Rattle.ansi_lines_io.specs.declared.stop.Stop.TheVariants.{Refused, BadWords, BadInput, WriteFailed, OutOfMemory}
 
 -- each reason to end early has a status of its own
 abbrev pub status_of : Stop → ℕ

@@ -1,8 +1,8 @@
 -- What a read does to what a source tells, and how calls are counted.
 use Rattle.std.specs.Prelude.{◌≡◌, ◌<◌, ◌+◌, ℕ, List, length, take, min, ⊤, Bool, true, false, Option, Result, Ok, Err}
 use Rattle.std.specs.Io.KnownBytes.{prepend_known, IsAtEnd}
-use Rattle.ansi_lines.specs.declared.devices.ReadFault.{ReadFault}
-use Rattle.ansi_lines.specs.declared.devices.ReadFault.TheVariants.{Interrupted, Failed}
+use Rattle.ansi_lines_io.specs.declared.devices.ReadFault.{ReadFault}
+use Rattle.ansi_lines_io.specs.declared.devices.ReadFault.TheVariants.{Interrupted, Failed}
 
 -- an answer tells whether the read was interrupted
 abbrev pub was_interrupted : Result ℕ ReadFault → Bool

@@ -1,7 +1,7 @@
 -- What the devices over std's readers and writers stand over.
 use Rattle.std.specs.Prelude.{◌≡◌, false}
-use Rattle.ansi_lines.specs.declared.host.HostIn.{HostIn}
-use Rattle.ansi_lines.specs.declared.host.HostOut.{HostOut}
+use Rattle.ansi_lines_io.specs.declared.host.HostIn.{HostIn}
+use Rattle.ansi_lines_io.specs.declared.host.HostOut.{HostOut}
 
 -- the reader that a source stands over
 abbrev pub reader_of : {R : Type 0} → HostIn R → R

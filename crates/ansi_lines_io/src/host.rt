@@ -1,8 +1,8 @@
 //! The devices over std's readers and writers. They tell nothing of their bytes.
 ghost use Rattle.std.specs.Prelude.{◌≡◌, ◌≤◌, ◌||◌, None, length, is_err, IfOk, OnOk};
 ghost use Rattle.std.specs.Io.KnownBytes.{append_known, Appends, Keeps, ReadConsumes};
-ghost use Rattle.ansi_lines.specs.Devices.{Reads, count_after, was_interrupted, was_failed};
-ghost use Rattle.ansi_lines.specs.Hosts.{reader_of, writer_of, IsFreshSource, IsFreshSink};
+ghost use Rattle.ansi_lines_io.specs.Devices.{Reads, count_after, was_interrupted, was_failed};
+ghost use Rattle.ansi_lines_io.specs.Hosts.{reader_of, writer_of, IsFreshSource, IsFreshSink};
 
 use crate::devices::{ReadFault, Sink, Source, WriteFault};
 use std::io::{ErrorKind, Read, Write};
