@@ -1,5 +1,5 @@
 -- The plain text of a text, its sequences at their places, and whole texts.
-use Rattle.std.specs.Prelude.{ℕ, ◌+◌, Bool, true, false, not, ◌&&◌, List, [], ◌∷◌, length, map, flat_map, filter, filter_map, nat_le, ◌==◌, Option, Some, None}
+use Rattle.std.specs.Prelude.{ℕ, ◌+◌, Bool, true, false, not, ◌&&◌, List, [], ◌∷◌, length, map, flat_map, filter, filter_map, nat_le, ◌==◌, Option, Some, None, if◌then◌else◌}
 use Rattle.std.specs.List.{list_all, list_any}
 use Rattle.ansi_items.specs.Bytes.{escape}
 use Rattle.ansi_items.specs.Sequences.{is_sgr}
@@ -52,6 +52,10 @@ marks_of ps = filter_map (λ p. mark_of p.place p.piece) (places ps)
 abbrev pub marks : List ℕ → List Mark
 marks t = marks_of (pieces_of t)
 
+-- the marks at the place i, in order
+abbrev pub at_place : ℕ → List Mark → List Mark
+at_place i ms = filter (λ m. m.place == i) ms
+
 -- the marks at places up to i
 abbrev pub up_to : ℕ → List Mark → List Mark
 up_to i ms = filter (λ m. nat_le m.place i) ms
@@ -87,6 +91,10 @@ has_escape t = list_any (λ b. b == escape) t
 -- the piece is a sequence that is no SGR, or a lone escape
 abbrev pub is_other : Piece → Bool
 is_other p = not (is_text p) && not (is_sgr (spelling p))
+
+-- what is copied of a piece where styles are written anew: nothing of an SGR
+abbrev pub copied : Piece → List ℕ
+copied p = if is_sgr (spelling p) then [] else spelling p
 
 -- the sequences of t that are no SGR, and its lone escapes, in order
 abbrev pub other_sequences : List ℕ → List Piece

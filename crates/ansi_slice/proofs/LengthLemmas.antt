@@ -6,7 +6,7 @@ use Rattle.std.proofs.lemmas.Grind.{flat_map-append}
 use Rattle.std.specs.List.{slice_range}
 use Rattle.ansi_items.specs.Sequences.{is_sgr}
 use Rattle.ansi_items.specs.Pieces.{Piece, spelling, Text, Sequence, LoneEscape, pieces_of}
-use Rattle.ansi_items.specs.Plain.{plain, is_text, plain_bytes}
+use Rattle.ansi_items.specs.Plain.{plain, is_text, plain_bytes, copied}
 use Rattle.ansi_style.specs.declared.state.rendition.Rendition.{Rendition}
 use Rattle.ansi_style.specs.Rendition.{IsStyle, plain_style}
 use Rattle.ansi_style.specs.Sgr.{apply}
@@ -15,7 +15,7 @@ use Rattle.ansi_style.specs.Styled.{style_at}
 use Rattle.ansi_slice.specs.Cut.{cut}
 use Rattle.ansi_slice.specs.Kept.{kept}
 use Rattle.ansi_slice.specs.Parts.{past}
-use Rattle.ansi_slice.specs.Sides.{dressed, copied, left_part, right_part, left_side, right_side}
+use Rattle.ansi_slice.specs.Sides.{dressed, left_part, right_part, left_side, right_side}
 use Rattle.ansi_items.proofs.PlainLemmas.{one_text}
 use Rattle.ansi_slice.proofs.WalkLemmas.{walked, style_past}
 use Rattle.ansi_slice.proofs.SideLemmas.{left_side-walked, right_side-walked}

@@ -5,7 +5,6 @@ pub mod MatchLemmas
 pub mod FindLemmas
 pub mod BorderLemmas
 pub mod CutLemmas
-pub mod CutWalkLemmas
 pub mod TrimLemmas
 pub mod WalkLemmas
 pub mod SideLemmas

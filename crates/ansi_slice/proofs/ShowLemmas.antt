@@ -2,8 +2,8 @@
 use Rattle.std.proofs.Common.{◌≡◌, ℕ, zero, suc, ◌+◌, ◌-◌, Bool, true, false, ◌&&◌, ◌==◌, List, [], ◌∷◌, ◌++◌, map, length, take, drop, refl, sym, ◌∙◌, ap, ap₂, arith, flat_map, slice_range, if◌then◌else◌, nat_le, nat_lt, append_assoc, append-nil}
 use Rattle.std.proofs.lemmas.Bool.Decides.{nat_tests}
 use Rattle.std.specs.List.{range_with_len}
-use Rattle.ansi_items.specs.Plain.{Mark, joined}
-use Rattle.ansi_slice.specs.Cut.{at_place, shown_at, show}
+use Rattle.ansi_items.specs.Plain.{Mark, joined, at_place}
+use Rattle.ansi_slice.specs.Cut.{shown_at, show}
 use Rattle.ansi_slice.proofs.SliceLemmas.{slice_range-from_past}
 use Rattle.ansi_style.proofs.MarkLemmas.{further, map-further-0, map-further-suc}
 

@@ -8,15 +8,15 @@ use Rattle.std.specs.List.{list_all}
 use Rattle.ansi_items.specs.Bytes.{is_plain_byte}
 use Rattle.ansi_items.specs.Sequences.{is_sgr}
 use Rattle.ansi_items.specs.Pieces.{Piece, Text, spelling, Sequence, LoneEscape, pieces_of}
-use Rattle.ansi_items.specs.Plain.{plain, plain_bytes, is_whole}
+use Rattle.ansi_items.specs.Plain.{plain, plain_bytes, is_whole, copied}
 use Rattle.ansi_style.specs.declared.state.rendition.Rendition.{Rendition}
 use Rattle.ansi_style.specs.Rendition.{known, plain_style, IsStyle}
 use Rattle.ansi_style.specs.Sgr.{apply}
 use Rattle.ansi_style.specs.Written.{close_codes, start, close}
 use Rattle.ansi_style.specs.Styled.{StyledByte, styled}
-use Rattle.ansi_slice.specs.Sides.{dressed, left_part, copied, right_part, left_side, right_side}
+use Rattle.ansi_slice.specs.Sides.{dressed, left_part, right_part, left_side, right_side}
 use Rattle.ansi_slice.proofs.SliceLemmas.{take-append, drop-append, list_all-parts}
-use Rattle.ansi_slice.proofs.CutWalkLemmas.{apply-no_sgr}
+use Rattle.ansi_style.proofs.SgrLemmas.{apply-no_sgr}
 use Rattle.ansi_slice.proofs.WalkLemmas.{walked, style_past}
 use Rattle.ansi_slice.proofs.SideLemmas.{left_side-walked, right_side-walked}
 use Rattle.ansi_style.proofs.StyleLemmas.{IsStyle-apply, IsStyle-plain_style}

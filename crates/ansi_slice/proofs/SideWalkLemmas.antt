@@ -6,7 +6,7 @@ use Rattle.ansi_items.specs.declared.ansitok.Kind.{Kind}
 use Rattle.ansi_items.specs.declared.ansitok.Kind.TheVariants.{Sgr}
 use Rattle.ansi_items.specs.Sequences.{is_sgr}
 use Rattle.ansi_items.specs.Pieces.{Piece, Text, Sequence, LoneEscape, spelling, pieces_of}
-use Rattle.ansi_items.specs.Plain.{plain_of}
+use Rattle.ansi_items.specs.Plain.{plain_of, copied}
 use Rattle.ansi_items.proofs.PlainLemmas.{length-plain}
 use Rattle.ansi_items.proofs.StepLemmas.{is_mark, BeginsWithMark}
 use Rattle.ansi_style.specs.declared.state.rendition.Rendition.{Rendition}
@@ -14,9 +14,9 @@ use Rattle.ansi_style.specs.Rendition.{plain_style}
 use Rattle.ansi_style.specs.Sgr.{apply}
 use Rattle.ansi_style.specs.Reading.{style_within}
 use Rattle.ansi_style.proofs.MarkLemmas.{style_by_marks, style_by_marks-before, style_by_marks-sequence, style_by_marks-lone}
-use Rattle.ansi_slice.specs.Sides.{dressed, copied, left_part, right_part, left_side, right_side, side_up_to}
+use Rattle.ansi_slice.specs.Sides.{dressed, left_part, right_part, left_side, right_side, side_up_to}
 use Rattle.ansi_slice.specs.Offsets.{StandsIn}
-use Rattle.ansi_slice.proofs.CutWalkLemmas.{apply-no_sgr}
+use Rattle.ansi_style.proofs.SgrLemmas.{apply-no_sgr}
 use Rattle.ansi_slice.proofs.WalkLemmas.{walked}
 use Rattle.ansi_slice.proofs.SideLemmas.{left_side-walked, right_side-walked}
 use Rattle.ansi_slice.proofs.OffsetLemmas.{after_of, after_of-last, after_of-text, style-text, pieces_of-after}

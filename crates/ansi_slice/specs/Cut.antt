@@ -1,13 +1,9 @@
 -- A cut of a text: a range of its plain text, with the sequences up to its end, closed.
-use Rattle.std.specs.Prelude.{ℕ, ◌+◌, ◌&&◌, List, [], ◌++◌, length, filter, flat_map, nat_le, nat_lt, ◌==◌, Option, unwrap_or, if◌then◌else◌, slice_range}
+use Rattle.std.specs.Prelude.{ℕ, ◌+◌, ◌&&◌, List, [], ◌++◌, length, flat_map, nat_le, nat_lt, Option, unwrap_or, if◌then◌else◌, slice_range}
 use Rattle.std.specs.List.{range_with_len}
-use Rattle.ansi_items.specs.Plain.{Mark, plain, marks, up_to, joined}
+use Rattle.ansi_items.specs.Plain.{Mark, plain, marks, at_place, up_to, joined}
 use Rattle.ansi_style.specs.Styled.{style_at}
 use Rattle.ansi_style.specs.Written.{close}
-
--- the marks at the place i, in order
-abbrev pub at_place : ℕ → List Mark → List Mark
-at_place i ms = filter (λ m. m.place == i) ms
 
 -- what is shown at the place i: the marks there, and then byte i of x where it lies in a..b
 abbrev pub shown_at : List ℕ → ℕ → ℕ → List Mark → ℕ → List ℕ

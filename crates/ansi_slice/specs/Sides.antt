@@ -1,8 +1,7 @@
 -- The two sides of a text at a position.
 use Rattle.std.specs.Prelude.{ℕ, ◌-◌, ◌==◌, List, [], ◌∷◌, ◌++◌, length, take, drop, flat_map, nat_le, nat_lt, if◌then◌else◌}
-use Rattle.ansi_items.specs.Sequences.{is_sgr}
-use Rattle.ansi_items.specs.Pieces.{Piece, Text, Sequence, LoneEscape, spelling, pieces_of}
-use Rattle.ansi_items.specs.Plain.{Placed, places}
+use Rattle.ansi_items.specs.Pieces.{Piece, Text, Sequence, LoneEscape, pieces_of}
+use Rattle.ansi_items.specs.Plain.{Placed, places, copied}
 use Rattle.ansi_style.specs.declared.state.rendition.Rendition.{Rendition}
 use Rattle.ansi_style.specs.Sgr.{apply}
 use Rattle.ansi_style.specs.Written.{start, close}
@@ -11,10 +10,6 @@ use Rattle.ansi_style.specs.Styled.{style_at}
 -- bytes are dressed in a style by its start before them and its close after them; no bytes stay none
 abbrev pub dressed : Rendition → List ℕ → List ℕ
 dressed s w = if length w == 0 then [] else start s ++ w ++ close s
-
--- an SGR isn't copied to a side, for the text on each side is dressed; any other sequence is, and a lone escape
-abbrev pub copied : Piece → List ℕ
-copied p = if is_sgr (spelling p) then [] else spelling p
 
 -- what a piece gives to the left side: its bytes before mid, dressed in the style there; a sequence goes left where its place is at most mid (the Rust crate)
 abbrev pub left_part : ℕ → ℕ → Rendition → Piece → List ℕ

@@ -10,15 +10,14 @@ use Rattle.std.proofs.lemmas.List.{map-id, take_min, drop_min}
 use Rattle.std.proofs.lemmas.Bool.{cond_both, and_parts, and_from, eqb-true}
 use Rattle.ansi_items.specs.Plain.{Mark, plain, up_to, has_escape, is_whole}
 use Rattle.ansi_style.specs.declared.state.rendition.Rendition.{Rendition}
-use Rattle.ansi_style.specs.Rendition.{plain_style}
 use Rattle.ansi_style.specs.Written.{start, close_if_any}
-use Rattle.ansi_style.specs.Styled.{styled, bytes_of, style_of, style_at}
+use Rattle.ansi_style.specs.Styled.{styled, bytes_of, style_at}
 use Rattle.ansi_slice.specs.Positions.{is_good_position, is_good_range}
 use Rattle.ansi_slice.specs.Cut.{show, cut}
 use Rattle.ansi_slice.specs.Sides.{left_side, right_side}
 use Rattle.ansi_slice.specs.Kept.{kept, without_prefix, without_suffix, trim_interval, trimmed}
 use Rattle.ansi_slice.specs.Parts.{parts, past, carried, part_over, end_before, part, all_parts, is_part_borrowed}
-use Rattle.ansi_str.specs.StdSplit.{AreSplit, slices_over}
+use Rattle.ansi_split.specs.StdSplit.{AreSplit, slices_over}
 use Rattle.ansi_str.specs.Changes.{Change, CutRange, LeftOf, RightOf, PartOf, WithoutPrefix, WithoutSuffix, Trimmed, interval_of}
 use Rattle.ansi_str.specs.Edited.{meaning, text_of, edited_by, edited, gives_borrow, stay_borrowed}
 use Rattle.ansi_items.proofs.PlainLemmas.{plain-bare, has_escape-plain, is_whole-plain}
@@ -32,9 +31,10 @@ use Rattle.ansi_slice.proofs.TrimLemmas.{slice_range-trim_interval}
 use Rattle.ansi_slice.proofs.KeptWalkLemmas.{kept-bare}
 use Rattle.ansi_slice.proofs.KeptLemmas.{plain-kept}
 use Rattle.ansi_slice.proofs.KeptAsStdLemmas.{plain-without_prefix, plain-without_suffix}
-use Rattle.ansi_str.proofs.StdSplitLemmas.{parts_are_split}
-use Rattle.ansi_str.proofs.CharacterLemmas.{slices_over-parts-empty}
-use Rattle.ansi_str.proofs.PartTextLemmas.{map-all_parts}
+use Rattle.ansi_split.proofs.SplitLemmas.{style_at-bare, carried-bare}
+use Rattle.ansi_split.proofs.StdSplitLemmas.{parts_are_split}
+use Rattle.ansi_split.proofs.CharacterLemmas.{slices_over-parts-empty}
+use Rattle.ansi_split.proofs.PartTextLemmas.{map-all_parts}
 use Rattle.ansi_str.proofs.ChangeLemmas.{edited_by-part}
 use Rattle.ansi_str.proofs.EditLemmas.{edited_is_slice}
 
@@ -45,10 +45,6 @@ is_whole-bare t none = ap is_whole (sym (plain-bare t none)) ∙ is_whole-plain 
 has_escape-slice_range : (t : List ℕ) (a b : ℕ) → IsFalse (has_escape t) → IsFalse (has_escape (slice_range t a b))
 has_escape-slice_range t a b none =
     ap has_escape (ap (λ x. slice_range x a b) (sym (plain-bare t none)) ∙ sym (plain-kept t a b (is_whole-bare t none))) ∙ has_escape-plain (kept t a b)
-
--- each style of it is the plain style
-style_at-bare : (t : List ℕ) (i : ℕ) → IsFalse (has_escape t) → style_at t i ≡ plain_style
-style_at-bare t i none = ap (λ ms. style_of (up_to i ms)) (marks-bare t none)
 
 -- Cuts and sides.
 
@@ -98,10 +94,6 @@ without_suffix-bare t p utf8_p none ends =
     (subst (λ x. StripsSuffix (FindsTextSuffix p) x (plain (without_suffix t p))) is strips)
 
 -- Parts.
-
-pub carried-bare : (t : List ℕ) (before : Option ℕ) → IsFalse (has_escape t) → carried t before ≡ plain_style
-carried-bare t None none = refl
-carried-bare t (Some e) none = style_at-bare t e none
 
 part_over-bare : (t : List ℕ) (before : Option ℕ) (i : ℕ × ℕ) → IsFalse (has_escape t) → part_over t before i ≡ slice_range t i.0 i.1
 unfolding part_over

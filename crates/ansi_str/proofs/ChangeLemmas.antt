@@ -17,10 +17,19 @@ use Rattle.ansi_str.specs.Changes.{Change, CutRange, LeftOf, RightOf, PartOf, Wi
 use Rattle.ansi_str.specs.Edited.{text_of, edited_by, closes}
 use Rattle.ansi_slice.proofs.SliceLemmas.{slice_range-past, slice_range-map}
 use Rattle.ansi_style.proofs.StyledLemmas.{bytes_of-styled}
+use Rattle.ansi_style.proofs.DressedLemmas.{IsClosed}
 use Rattle.ansi_slice.proofs.CutSliceLemmas.{styled-cut, is_whole-cut, residue-cut}
 use Rattle.ansi_slice.proofs.SideSliceLemmas.{left_side_is, right_side_is}
 use Rattle.ansi_slice.proofs.KeptLemmas.{styled-kept, is_whole-kept, residue-kept}
-use Rattle.ansi_str.proofs.PartSliceLemmas.{text_of-part_is}
+use Rattle.ansi_split.proofs.IntervalLemmas.{parts_come_after}
+use Rattle.ansi_split.proofs.PartSliceLemmas.{part_over_is}
+
+-- the part of an index, as the text that its change makes
+pub text_of-part_is : (t p : List ℕ) (k : ℕ) (i : ℕ × ℕ) → IsTrue (is_whole t) → interval_of (PartOf p k) (plain t) ≡ Some i → IsClosed (slice_range (styled t) i.0 i.1) (text_of (PartOf p k) t)
+text_of-part_is t p k i whole found =
+    let before = end_before (parts (plain t) p) k in
+    subst (IsClosed (slice_range (styled t) i.0 i.1)) (sym (ap (λ o. unwrap_or (option_map (part_over t before) o) []) found))
+    (part_over_is t before i whole (parts_come_after (plain t) p k i found))
 
 -- u is what a change makes of t that keeps the interval i; it closes, or leaves open what t does
 record IsSlice (closing : Bool) (t : List ℕ) (i : ℕ × ℕ) (u : List ℕ) : Type 0 where

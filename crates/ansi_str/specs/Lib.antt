@@ -21,11 +21,11 @@ pub use Rattle.ansi_slice.specs.Sides
 pub use Rattle.ansi_slice.specs.Kept
 pub use Rattle.ansi_slice.specs.Parts
 pub use Rattle.ansi_slice.specs.Searches
-pub mod StdSplit
-pub mod Blocks
-pub mod Same
+pub use Rattle.ansi_blocks.specs.Blocks
+pub use Rattle.ansi_blocks.specs.Same
+pub use Rattle.ansi_split.specs.StdSplit
+pub use Rattle.ansi_split.specs.Splits
+pub use Rattle.ansi_split.specs.Spans
 pub mod Changes
 pub mod Edited
 pub mod Edits
-pub mod Splits
-pub mod Spans

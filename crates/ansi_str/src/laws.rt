@@ -23,8 +23,8 @@ ghost use Rattle.ansi_slice.specs.Kept.{kept, IsKept, without_prefix, without_su
 ghost use Rattle.ansi_slice.specs.Parts.{parts, part, past, part_over, all_parts};
 ghost use Rattle.ansi_str.specs.Changes.{Change, CutRange, LeftOf, RightOf, PartOf, WithoutPrefix, WithoutSuffix, Trimmed, interval_of, slice_of};
 ghost use Rattle.ansi_str.specs.Edited.{meaning, edited_by, edited, closes, stay_borrowed, IsSliceNamed};
-ghost use Rattle.ansi_str.specs.Blocks.{waiting, runs, without_sgrs, blocks};
-ghost use Rattle.ansi_str.specs.StdSplit.{AreSplit, AreBetween, AreInTurn, slices_over};
+ghost use Rattle.ansi_blocks.specs.Blocks.{waiting, runs, without_sgrs, blocks};
+ghost use Rattle.ansi_split.specs.StdSplit.{AreSplit, AreBetween, AreInTurn, slices_over};
 
 pub use ansi_style::laws::{orders_go_by_parts, reset_all_clears};
 

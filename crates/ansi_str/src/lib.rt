@@ -6,13 +6,13 @@
 //! contracts. Each example of these docs stands in `ansi_str_uses` as a test.
 #![tactic(auto)]
 
-pub mod blocks;
 mod edits;
 pub mod laws;
 pub mod slice;
-pub mod split;
 
+pub use ansi_blocks::blocks;
 pub use ansi_items::ansitok;
+pub use ansi_split::split;
 pub use ansi_style::Color;
 pub use ansi_style::state::{AnsiSequenceEnd, AnsiSequenceStart, Style};
 pub use blocks::{AnsiBlock, AnsiBlockIter, get_blocks};

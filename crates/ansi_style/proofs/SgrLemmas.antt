@@ -1,11 +1,11 @@
 -- What is known of a style after a sequence depends on what was known before, and on the sequence.
-use Rattle.std.proofs.Common.{◌≡◌, ℕ, zero, suc, true, List, [], ◌∷◌, length, Option, Some, None, refl, sym, ◌∙◌, ap, find, rules}
+use Rattle.std.proofs.Common.{◌≡◌, ℕ, zero, suc, true, false, List, [], ◌∷◌, length, Option, Some, None, is_some, refl, sym, ◌∙◌, ap, find, rules}
 use Rattle.std.proofs.lemmas.Bool.{cond_both}
 use Rattle.std.specs.List.{AllByRecursion}
 use Rattle.std.specs.Option.{option_map_or}
 use Rattle.std.specs.Int.{is_in_range}
 use Rattle.ansi_items.specs.declared.ansitok.AnsiColor.{AnsiColor}
-use Rattle.ansi_items.specs.Sequences.{sgr_parameters}
+use Rattle.ansi_items.specs.Sequences.{is_sgr, sgr_parameters}
 use Rattle.ansi_style.specs.Rendition.{Rendition, known}
 use Rattle.ansi_style.specs.Sgr.{Effect, Changes, ReadsColor, Rows, table, rows, unknown_code, effect_of, code_of, effect_of_code, perform, read_color, steps, apply, apply_parameters, fields_of, apply_all}
 
@@ -69,3 +69,11 @@ apply-alike s t w same = apply-known s w ∙ ap (λ k. known (apply k w)) same �
 pub apply_all-alike : (s t : Rendition) (ws : List (List ℕ)) → known s ≡ known t → known (apply_all s ws) ≡ known (apply_all t ws)
 apply_all-alike s t [] same = same
 apply_all-alike s t (w ∷ ws) same = apply_all-alike (apply s w) (apply t w) ws (apply-alike s t w same)
+
+-- what is no SGR changes no style
+pub apply-no_sgr : (style : Rendition) (w : List ℕ) → is_sgr w ≡ false → apply style w ≡ style
+apply-no_sgr style w other = by_parameters (sgr_parameters w) other
+  where
+    by_parameters : (o : Option (List ℕ)) → is_some o ≡ false → option_map_or (apply_parameters style) o style ≡ style
+    by_parameters None other = refl
+    by_parameters (Some p) other = absurd (cc other)

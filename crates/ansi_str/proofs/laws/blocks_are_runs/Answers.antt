@@ -1,4 +1,4 @@
-use Rattle.ansi_str.proofs.BlockRunLemmas.{length-blocks, styles-blocks, texts-blocks}
+use Rattle.ansi_blocks.proofs.BlockRunLemmas.{length-blocks, styles-blocks, texts-blocks}
 use Rattle.ansi_str.proofs.laws.blocks_are_runs.Goals as goal
 
 pub returns-clause-runs : goal.returns-clause-runs

@@ -1,7 +1,7 @@
-use Rattle.ansi_str.proofs.BetweenLemmas.{parts_are_between}
-use Rattle.ansi_str.proofs.StdSplitLemmas.{parts_are_split}
-use Rattle.ansi_str.proofs.CharacterLemmas.{slices_over-parts-empty, parts_in_turn}
-use Rattle.ansi_str.proofs.PartTextLemmas.{length-parts}
+use Rattle.ansi_split.proofs.BetweenLemmas.{parts_are_between}
+use Rattle.ansi_split.proofs.StdSplitLemmas.{parts_are_split}
+use Rattle.ansi_split.proofs.CharacterLemmas.{slices_over-parts-empty, parts_in_turn}
+use Rattle.ansi_split.proofs.PartTextLemmas.{length-parts}
 use Rattle.ansi_str.proofs.laws.parts_lie_between_matches.Goals as goal
 
 pub returns-clause-between : goal.returns-clause-between

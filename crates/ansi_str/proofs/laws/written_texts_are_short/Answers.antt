@@ -1,5 +1,5 @@
 use Rattle.ansi_slice.proofs.LengthLemmas.{length-start, length-close, length-cut, length-kept, length-sides}
-use Rattle.ansi_str.proofs.PartLengthLemmas.{length-part_over, length-part}
+use Rattle.ansi_split.proofs.PartLengthLemmas.{length-part_over, length-part}
 use Rattle.ansi_str.proofs.laws.written_texts_are_short.Goals as goal
 
 pub returns-clause-start : goal.returns-clause-start

@@ -3,7 +3,7 @@ use Rattle.std.proofs.lemmas.Str.{IsCharBoundary-end}
 use Rattle.ansi_items.specs.declared.ansitok.Kind.TheVariants.{Sgr}
 use Rattle.ansi_items.proofs.StepLemmas.{is_text}
 use Rattle.ansi_style.specs.States.{rendition_of}
-use Rattle.ansi_slice.proofs.CutWalkLemmas.{apply-no_sgr}
+use Rattle.ansi_style.proofs.SgrLemmas.{apply-no_sgr}
 use Rattle.ansi_slice.proofs.OffsetLemmas.{over_text, over_mark, way-begin, way-text, way-mark, way-last, way-end, way-test}
 use Rattle.ansi_slice.proofs.search.offsets.walk_to.Goals as goal
 

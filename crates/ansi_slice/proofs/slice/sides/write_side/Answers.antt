@@ -1,7 +1,7 @@
 use Rattle.std.proofs.Common.{rules, ◌≡◌, ◌≢◌, ◌+◌, refl, sym, ◌∙◌, ap}
 use Rattle.ansi_items.specs.declared.ansitok.Kind.TheVariants.{Sgr}
 use Rattle.ansi_style.specs.States.{rendition_of}
-use Rattle.ansi_slice.proofs.CutWalkLemmas.{apply-no_sgr}
+use Rattle.ansi_style.proofs.SgrLemmas.{apply-no_sgr}
 use Rattle.ansi_slice.proofs.OffsetLemmas.{over_text, over_mark, way-begin, way-text, way-mark, way-last, way-boundary}
 use Rattle.ansi_slice.proofs.SideWalkLemmas.{side-text, side-sgr, side-mark}
 use Rattle.ansi_slice.proofs.slice.sides.write_side.Goals as goal

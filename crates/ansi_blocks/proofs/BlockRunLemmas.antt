@@ -1,0 +1,138 @@
+-- The blocks of a text, as its runs: their number, their texts joined, and their styles.
+use Rattle.std.proofs.Common.{◌≡◌, ◌≢◌, ℕ, zero, suc, ◌+◌, Bool, true, false, not, ◌==◌, List, [], ◌∷◌, ◌++◌, map, filter, flat_map, length, IsTrue, refl, sym, ◌∙◌, ap, ap₂, arith, if◌then◌else◌, append_assoc, append-nil, length-append}
+use Rattle.std.proofs.lemmas.Bool.{and_parts}
+use Rattle.std.proofs.lemmas.Bool.Decides.{nat_tests}
+use Rattle.std.proofs.lemmas.List.{length-map}
+use Rattle.std.specs.List.{list_all}
+use Rattle.ansi_items.specs.Bytes.{escape, is_plain_byte}
+use Rattle.ansi_items.specs.Sequences.{is_sgr}
+use Rattle.ansi_items.specs.Pieces.{Piece, Text, Sequence, LoneEscape, ArePieces, spelling, pieces_of}
+use Rattle.ansi_items.specs.Plain.{Mark, Placed, places, marks_of, plain_of, plain, is_text, at_place, copied}
+use Rattle.ansi_style.specs.declared.state.rendition.Rendition.{Rendition}
+use Rattle.ansi_style.specs.Rendition.{plain_style}
+use Rattle.ansi_style.specs.Sgr.{apply}
+use Rattle.ansi_style.specs.Styled.{style_at}
+use Rattle.ansi_style.specs.Reading.{style_within}
+use Rattle.ansi_blocks.specs.Blocks.{Block, waiting, blocks_from, blocks, runs, without_sgrs}
+use Rattle.ansi_items.proofs.PieceLemmas.{pieces_are}
+use Rattle.ansi_style.proofs.MarkLemmas.{marks_of-text, marks_of-sequence, marks_of-lone}
+use Rattle.ansi_blocks.proofs.BlockLemmas.{by_places, blocks_through, blocks_from-walked, others, waiting_at, others-further, others-here, others-after}
+
+-- blocks by their places, of which only the runs give one
+
+abbrev runs_of : List Placed → List Placed
+runs_of qs = filter (λ (q : Placed). is_text q.piece) qs
+
+styles-by_places : (wait : ℕ → List ℕ) (style : ℕ → Rendition) (qs : List Placed) → map (λ (b : Block). b.style) (by_places wait style qs) ≡ map (λ (q : Placed). style q.place) (runs_of qs)
+styles-by_places wait style [] = refl
+styles-by_places wait style (q ∷ qs) = by_piece q.piece (styles-by_places wait style qs)
+  where
+    by_piece : (p : Piece) → map (λ (b : Block). b.style) (by_places wait style qs) ≡ map (λ (q : Placed). style q.place) (runs_of qs)
+        → map (λ (b : Block). b.style) (by_places wait style (record q { piece = p } ∷ qs)) ≡ map (λ (q : Placed). style q.place) (runs_of (record q { piece = p } ∷ qs))
+    by_piece (Text w) later = ap (λ ss. style q.place ∷ ss) later
+    by_piece (Sequence w) later = later
+    by_piece LoneEscape later = later
+
+pub styles-blocks : (t : List ℕ) → map (λ (b : Block). b.style) (blocks t) ≡ map (λ (q : Placed). style_at t q.place) (runs t)
+unfolding blocks_from
+styles-blocks t = styles-by_places (waiting t) (style_within plain_style t) (places (pieces_of t))
+
+pub length-blocks : (t : List ℕ) → length (blocks t) ≡ length (runs t)
+length-blocks t =
+    sym (length-map (blocks t) (λ (b : Block). b.style)) ∙ ap length (styles-blocks t) ∙ length-map (runs t) (λ (q : Placed). style_at t q.place)
+
+-- The texts of the blocks, joined, by one walk over the pieces with what waits for the next run.
+
+is_sgr-text : (w : List ℕ) → w ≢ [] → IsTrue (list_all is_plain_byte w) → is_sgr w ≡ false
+is_sgr-text [] some bare = absurd (some refl)
+is_sgr-text (b ∷ w) some bare =
+    let first : IsTrue (is_plain_byte b) = (and_parts (is_plain_byte b) (list_all is_plain_byte w) bare).0 in
+    let apart : (escape == b) ≡ false = grind (arith, nat_tests) in
+    rw apart
+
+copied-text : (w : List ℕ) → w ≢ [] → IsTrue (list_all is_plain_byte w) → copied (Text w) ≡ w
+copied-text w some bare = ap (λ b. if b then [] else w) (is_sgr-text w some bare)
+
+without_sgrs-copied : (ps : List Piece) → flat_map spelling (filter (λ p. not (is_sgr (spelling p))) ps) ≡ flat_map copied ps
+without_sgrs-copied [] = refl
+without_sgrs-copied (p ∷ ps) = by_kind (is_sgr (spelling p)) (without_sgrs-copied ps)
+  where
+    by_kind : (b : Bool) → flat_map spelling (filter (λ p. not (is_sgr (spelling p))) ps) ≡ flat_map copied ps
+        → flat_map spelling (if not b then p ∷ filter (λ p. not (is_sgr (spelling p))) ps else filter (λ p. not (is_sgr (spelling p))) ps) ≡ (if b then [] else spelling p) ++ flat_map copied ps
+    by_kind true more = more
+    by_kind false more = ap (λ v. spelling p ++ v) more
+
+-- what waits at the end, where these sequences wait for the first run
+abbrev waiting_after : List ℕ → List Piece → List ℕ
+waiting_after held [] = held
+waiting_after held (Text w ∷ ps) = waiting_after [] ps
+waiting_after held (Sequence w ∷ ps) = waiting_after (held ++ copied (Sequence w)) ps
+waiting_after held (LoneEscape ∷ ps) = waiting_after (held ++ copied LoneEscape) ps
+
+abbrev texts_of : List Block → List ℕ
+texts_of bs = flat_map (λ (b : Block). b.text) bs
+
+texts-through : (s : Rendition) (held : List ℕ) (ps : List Piece) (t : List ℕ) → ArePieces t ps → texts_of (blocks_through s held ps) ++ waiting_after held ps ≡ held ++ flat_map copied ps
+texts-through s held [] t are = sym (append-nil held)
+texts-through s held (Text w ∷ ps) t are =
+    let more : texts_of (blocks_through s [] ps) ++ waiting_after [] ps ≡ flat_map copied ps = texts-through s [] ps are.0 are.3 in
+    append_assoc (held ++ w) (texts_of (blocks_through s [] ps)) (waiting_after [] ps)
+    ∙ ap (λ v. (held ++ w) ++ v) more
+    ∙ append_assoc held w (flat_map copied ps)
+    ∙ ap (λ v. held ++ (v ++ flat_map copied ps)) (sym (copied-text w are.2.0 are.2.1))
+texts-through s held (Sequence w ∷ ps) t are =
+    texts-through (apply s w) (held ++ copied (Sequence w)) ps are.0 are.3 ∙ append_assoc held (copied (Sequence w)) (flat_map copied ps)
+texts-through s held (LoneEscape ∷ ps) t are =
+    texts-through s (held ++ copied LoneEscape) ps are.0 are.3 ∙ append_assoc held (copied LoneEscape) (flat_map copied ps)
+
+-- these sequences, at the front
+abbrev at_front : ℕ → List ℕ → List ℕ
+at_front n held = if n == 0 then held else []
+
+at_front-nil : (n : ℕ) → at_front n [] ≡ []
+at_front-nil n = either (n == 0) []
+  where
+    either : (b : Bool) (v : List ℕ) → (if b then v else v) ≡ v
+    either true v = refl
+    either false v = refl
+
+at_front-mark : (held v : List ℕ) (ms : List Mark) (n : ℕ)
+    → at_front n (held ++ (if is_sgr v then [] else v)) ++ others (at_place n ms) ≡ at_front n held ++ others (at_place n (record { place = 0; bytes = v } ∷ ms))
+at_front-mark held v ms zero =
+    append_assoc held (if is_sgr v then [] else v) (others (at_place 0 ms)) ∙ ap (λ u. held ++ u) (sym (others-here v ms))
+at_front-mark held v ms (suc k) =
+    let past : (suc k == 0) ≡ false = grind (arith, nat_tests) in
+    ap (λ b. (if b then held ++ (if is_sgr v then [] else v) else []) ++ others (at_place (suc k) ms)) past
+    ∙ sym (ap₂ (λ b u. (if b then held else []) ++ u) past (others-after v ms (suc k) (omega arith)))
+
+waiting_after-end : (held : List ℕ) (ps : List Piece) (t : List ℕ) → ArePieces t ps → waiting_after held ps ≡ at_front (length (plain_of ps)) held ++ waiting_at ps (length (plain_of ps))
+waiting_after-end held [] t are = sym (append-nil held)
+waiting_after-end held (Text [] ∷ ps) t are = absurd (are.2.0 refl)
+waiting_after-end held (Text (c ∷ w) ∷ ps) t are =
+    let n = length (c ∷ w) in
+    let len = length (plain_of ps) in
+    let all : length (plain_of (Text (c ∷ w) ∷ ps)) ≡ n + len = length-append (c ∷ w) (plain_of ps) in
+    let past : (n + len == 0) ≡ false = grind (arith, nat_tests) in
+    waiting_after-end [] ps are.0 are.3
+    ∙ ap (λ v. v ++ waiting_at ps len) (at_front-nil len)
+    ∙ sym (ap (λ k. at_front k held ++ waiting_at (Text (c ∷ w) ∷ ps) k) all
+    ∙ ap₂ (λ b v. (if b then held else []) ++ v) past (ap (λ ms. others (at_place (n + len) ms)) (marks_of-text (c ∷ w) ps) ∙ others-further n len (marks_of ps)))
+waiting_after-end held (Sequence w ∷ ps) t are =
+    let len = length (plain_of ps) in
+    waiting_after-end (held ++ copied (Sequence w)) ps are.0 are.3
+    ∙ at_front-mark held w (marks_of ps) len
+    ∙ ap (λ ms. at_front len held ++ others (at_place len ms)) (sym (marks_of-sequence w ps))
+waiting_after-end held (LoneEscape ∷ ps) t are =
+    let len = length (plain_of ps) in
+    waiting_after-end (held ++ copied LoneEscape) ps are.0 are.3
+    ∙ at_front-mark held (escape ∷ []) (marks_of ps) len
+    ∙ ap (λ ms. at_front len held ++ others (at_place len ms)) (sym (marks_of-lone ps))
+
+pub texts-blocks : (t : List ℕ) → texts_of (blocks t) ++ waiting t (length (plain t)) ≡ without_sgrs t
+texts-blocks t =
+    let len = length (plain t) in
+    let ps = pieces_of t in
+    let last : waiting_after [] ps ≡ waiting t len = waiting_after-end [] ps t (pieces_are t) ∙ ap (λ v. v ++ waiting_at ps len) (at_front-nil len) in
+    ap₂ (λ bs v. texts_of bs ++ v) (blocks_from-walked plain_style t) (sym last)
+    ∙ texts-through plain_style [] ps t (pieces_are t)
+    ∙ sym (without_sgrs-copied ps)

@@ -1,0 +1,4 @@
+pub mod BlockLemmas
+pub mod BlockRunLemmas
+pub mod BlockWalkLemmas
+mod BlockExamples

@@ -1,0 +1,291 @@
+//! The blocks of a text: its runs of one style.
+ghost use Rattle.std.specs.Prelude.{◌≡◌, ◌∷◌, [], ◌++◌, ◌≤◌, IsTrue, IsFalse, IsNone, IsOk, IfOk, IfSome, IfNone, not, ◌==◌, length, string_bytes};
+ghost use Rattle.std.specs.List.{list_all};
+ghost use Rattle.std.specs.Cow.{cow_str_bytes};
+ghost use Rattle.ansi_items.specs.Plain.{has_escape};
+ghost use Rattle.ansi_style.specs.Rendition.{has_any};
+ghost use Rattle.ansi_style.specs.States.{rendition_of};
+ghost use Rattle.ansi_blocks.specs.Blocks.{waiting, block_after, blocks, blocks_from, runs, is_borrow};
+
+use ansi_items::ansitok::{Kind, Scanner};
+use ansi_style::state::{Rendition, Style};
+use ansi_style::styles;
+use std::alloc::{AllocError, Allocator, Global};
+use std::borrow::CowStr;
+use std::marker::Model;
+
+/// A run of text in one style, after the sequences that stand before it and are no SGR.
+///
+/// It lives as long as the text that it is a block of. Two blocks are equal where their texts and
+/// their styles are. (The Rust crate.)
+///
+/// ```
+/// let block = get_blocks(rt.alloc(), "\x1b[1mbold").next().ok_or("no block")??;
+/// assert!(rt; block.text() == "bold" && block.style().is_bold());
+/// ```
+#[derive(Debug, Drop)]
+pub struct AnsiBlock<'a, A: Allocator = Global> {
+    text: CowStr<'a, A>,
+    style: Style,
+}
+
+impl<'a, A: Allocator> Model for AnsiBlock<'a, A> {
+    ghost use Rattle.std.specs.Cow.{cow_str_bytes};
+    ghost use Rattle.ansi_style.specs.States.{rendition_of};
+    ghost use Rattle.ansi_blocks.specs.Blocks.{Block, is_borrow};
+
+    ghost Value = { Block };
+
+    ghost view = { λ b. record { text = cow_str_bytes b.text; style = rendition_of b.style; is_borrow = is_borrow b.text } };
+}
+
+impl<'a, A: Allocator> AnsiBlock<'a, A> {
+    /// The sequences before the run that are no SGR, joined, and then the run itself. Takes no memory.
+    /// (The Rust crate.)
+    ///
+    /// ```
+    /// let text = "\x1b]8;;u\x1b\\link\x1b]8;;\x1b\\";
+    /// let block = get_blocks(rt.alloc(), text).next().ok_or("no block")??;
+    /// assert!(rt; block.text() == "\x1b]8;;u\x1b\\link");
+    /// ```
+    pub fn text(&self) -> &str
+        ensures { result.now ≡ self.now.text }
+    {
+        self.text.as_str()
+    }
+
+    /// Whether the style has something to end: a font is enough, an unknown code alone isn't. Takes no
+    /// memory. (The Rust crate, the font counted.)
+    ///
+    /// ```
+    /// let block = get_blocks(rt.alloc(), "\x1b[12mx").next().ok_or("no block")??;
+    /// assert!(rt; block.has_ansi());
+    /// ```
+    pub fn has_ansi(&self) -> bool
+        ensures { result ≡ has_any self.now.style }
+    {
+        styles::has_any(&self.style)
+    }
+
+    /// The style of the run, with whatever the text before it left open. Takes no memory. (The Rust
+    /// crate.)
+    ///
+    /// ```
+    /// let block = get_blocks(rt.alloc(), "\x1b[1mx").next().ok_or("no block")??;
+    /// assert!(rt; block.style().is_bold() && !block.style().is_italic());
+    /// ```
+    pub fn style(&self) -> &Style
+        ensures { rendition_of result.now ≡ self.now.style }
+    {
+        &self.style
+    }
+}
+
+impl<'a, A: Allocator + Clone> AnsiBlock<'a, A> {
+    /// The same block again.
+    ///
+    /// Its text is a borrow where this block's is, and then no memory is taken. `Err` means that
+    /// memory is wanting. (The Rust crate.)
+    ///
+    /// ```
+    /// let block = get_blocks(rt.alloc(), "\x1b[1mx").next().ok_or("no block")??;
+    /// assert!(rt; block.clone()? == block);
+    /// ```
+    pub fn clone(&self) -> Result<AnsiBlock<'a, A>, AllocError>
+        ensures same { IfOk result (λ block. block ≡ self.now) }
+        ensures takes_no_memory { IsTrue self.now.is_borrow → IsOk result }
+    {
+        let text = match &self.text {
+            CowStr::Borrowed(text) => CowStr::Borrowed(text),
+            CowStr::Owned(text) => CowStr::Owned(text.clone()?),
+        };
+        Ok(AnsiBlock {
+            text,
+            style: self.style,
+        })
+    }
+}
+
+impl<'a, A: Allocator> PartialEq for AnsiBlock<'a, A> {
+    ghost use Rattle.std.specs.Prelude.{nat_eq};
+    ghost use Rattle.std.specs.Ordering.{on, eq_of_both};
+    ghost use Rattle.std.specs.Cmp.{and_per, on_per, partial_equiv_from_equiv};
+    ghost use Rattle.std.specs.Cmp.Lexicographic.{pointwise, nat_list_eq_equiv};
+    ghost use Rattle.ansi_style.specs.contracts.state.rendition.RenditionPartialEq.TheImpl.Laws.{laws-law};
+
+    ghost eq = { eq_of_both (on (λ b. b.text) (pointwise nat_eq)) (on (λ b. b.style) ⟦<Rendition as PartialEq>⟧.eq) };
+
+    ghost laws = { and_per (on_per (λ b. b.text) (partial_equiv_from_equiv nat_list_eq_equiv)) (on_per (λ b. b.style) laws-law) };
+
+    fn eq(&self, other: &AnsiBlock<'a, A>) -> bool {
+        self.text() == other.text() && self.style == other.style
+    }
+}
+
+impl<'a, A: Allocator> Eq for AnsiBlock<'a, A> {
+    ghost use Rattle.std.specs.Cmp.{and_equiv, on_equiv};
+    ghost use Rattle.std.specs.Cmp.Lexicographic.{nat_list_eq_equiv};
+    ghost use Rattle.ansi_style.specs.contracts.state.rendition.RenditionEq.TheImpl.Laws.{laws-law};
+
+    ghost laws = { and_equiv (on_equiv (λ b. b.text) nat_list_eq_equiv) (on_equiv (λ b. b.style) laws-law) };
+}
+
+/// The blocks of a text, in order: an iterator, of which each item may be an `Err`.
+///
+/// An `Err` means that memory is wanting. After it, and after the last block, the iterator gives
+/// `None`, then and ever after. (The Rust crate; that an item may be an `Err`, own.)
+///
+/// ```
+/// let mut texts = String::new(rt.alloc());
+/// for block in get_blocks(rt.alloc(), "\x1b[31mred\x1b[39m and plain") {
+///     texts.push_str(block?.text())?;
+/// }
+/// assert!(rt; texts.as_str() == "red and plain");
+/// ```
+#[derive(Drop)]
+pub struct AnsiBlockIter<'a, A: Allocator = Global> {
+    alloc: A,
+    /// What is left of the text after the last block.
+    rest: &'a str,
+    /// The style there.
+    style: Style,
+}
+
+impl<'a, A: Allocator> Model for AnsiBlockIter<'a, A> {
+    ghost use Rattle.std.specs.Prelude.{List};
+    ghost use Rattle.ansi_style.specs.States.{rendition_of};
+    ghost use Rattle.ansi_blocks.specs.Blocks.{Block, blocks_from};
+
+    ghost Value = { List Block };
+
+    ghost view = { λ i. blocks_from (rendition_of i.style) i.rest.now };
+}
+
+/// The blocks of a text, in order.
+///
+/// There is one for each run of text between sequences. A block's text is the sequences before the run
+/// that are no SGR, joined, and then the run; it is a borrow where there are none, and then no memory
+/// is taken: so on a text without ESC. Sequences after the last run are in no block. An item is an `Err` where memory is
+/// wanting, and it is the last. Memory may come from any allocator. (The Rust crate.)
+///
+/// ```
+/// let mut blocks = get_blocks(rt.alloc(), "\x1b[31mred\x1b[39m and");
+/// let red = blocks.next().ok_or("no block")??;
+/// assert!(rt; red.text() == "red" && red.style().foreground() == Some(Color::Red));
+/// let and = blocks.next().ok_or("no block")??;
+/// assert!(rt; and.text() == " and" && and.style().foreground().is_none());
+/// assert!(rt; blocks.next().is_none());
+/// ```
+pub fn get_blocks<A: Allocator>(alloc: A, text: &str) -> AnsiBlockIter<'_, A>
+    ensures blocks { result ≡ blocks text.now }
+    ensures runs { length result ≡ length (runs text.now) }
+    ensures len { length result ≤ length text.now }
+    ensures takes_no_memory { IsFalse (has_escape text.now) → IsTrue (list_all (λ b. b.is_borrow) result) }
+{
+    AnsiBlockIter {
+        alloc,
+        rest: text,
+        style: styles::plain_style(),
+    }
+}
+
+impl<'a, A: Allocator + Copy> Iterator for AnsiBlockIter<'a, A> {
+    ghost use Rattle.std.specs.Iterator.{item_count};
+    ghost use Rattle.ansi_blocks.specs.Blocks.{GivesBlock};
+
+    type Item = Result<AnsiBlock<'a, A>, AllocError>;
+
+    ghost next_gives = { GivesBlock };
+
+    ghost remaining = { item_count (λ blocks. blocks) };
+
+    /// The next block; or an `Err` where memory is wanting; or `None`.
+    fn next(&mut self) -> Option<Result<AnsiBlock<'a, A>, AllocError>> {
+        let text = self.rest;
+        // Nothing is left, unless a block is made.
+        self.rest = "";
+        let run = first_run(text, self.style)?;
+        match block_text(self.alloc, text, &run) {
+            Ok(text) => {
+                self.rest = run.rest;
+                self.style = run.style;
+                Some(Ok(AnsiBlock {
+                    text,
+                    style: run.style,
+                }))
+            }
+            Err(e) => Some(Err(e)),
+        }
+    }
+}
+
+/// The first run of text in a text.
+#[derive(Clone, Copy)]
+struct Run<'a> {
+    text: &'a str,
+    style: Style,
+    /// Whether a sequence that is no SGR waits for it.
+    is_awaited: bool,
+    /// The text after it.
+    rest: &'a str,
+}
+
+/// The first run of a text, where `style` is the style before the text.
+fn first_run(text: &str, mut style: Style) -> Option<Run<'_>>
+    ensures none { IfNone result (blocks_from (rendition_of style) text.now ≡ []) }
+    ensures first { IfSome result (λ run. blocks_from (rendition_of style) text.now
+        ≡ block_after (waiting text.now 0) run.text.now (rendition_of run.style) ∷ blocks_from (rendition_of run.style) run.rest.now) }
+    ensures awaited { IfSome result (λ run. run.is_awaited ≡ not (length (waiting text.now 0) == 0)) }
+{
+    let mut is_awaited = false;
+    for item in Scanner::new(text) {
+        let piece = &text[item.start..item.end];
+        match item.kind {
+            Kind::Text => {
+                return Some(Run {
+                    text: piece,
+                    style,
+                    is_awaited,
+                    rest: &text[item.end..],
+                });
+            }
+            Kind::Sgr => styles::apply(&mut style, piece),
+            Kind::Other | Kind::Lone => is_awaited = true,
+        }
+    }
+    None
+}
+
+/// The text of the block of a run, the first in a text.
+fn block_text<'a, A: Allocator>(
+    alloc: A,
+    text: &str,
+    run: &Run<'a>,
+) -> Result<CowStr<'a, A>, AllocError>
+    requires { run.now.is_awaited ≡ not (length (waiting text.now 0) == 0) }
+    ensures bytes { IfOk result (λ c. cow_str_bytes c ≡ waiting text.now 0 ++ run.now.text.now) }
+    ensures borrowed { IfOk result (λ c. is_borrow c ≡ (length (waiting text.now 0) == 0)) }
+    ensures takes_no_memory { IsFalse run.now.is_awaited → IsOk result }
+{
+    if !run.is_awaited {
+        return Ok(CowStr::Borrowed(run.text));
+    }
+    let mut joined = waiting(alloc, text)?;
+    joined.push_str(run.text)?;
+    Ok(CowStr::Owned(joined))
+}
+
+/// The sequences before the first run of a text that are no SGR, joined.
+fn waiting<A: Allocator>(alloc: A, text: &str) -> Result<String<A>, AllocError>
+    ensures { IfOk result (λ s. string_bytes s ≡ waiting text.now 0) }
+{
+    let mut joined = String::new(alloc);
+    for item in Scanner::new(text) {
+        match item.kind {
+            Kind::Text => break,
+            Kind::Sgr => {}
+            Kind::Other | Kind::Lone => joined.push_str(&text[item.start..item.end])?,
+        }
+    }
+    Ok(joined)
+}

@@ -1,0 +1,4 @@
+//! The blocks of a text: its runs of one style.
+#![tactic(auto)]
+
+pub mod blocks;

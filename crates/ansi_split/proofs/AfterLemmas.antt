@@ -1,0 +1,261 @@
+-- A text in two, after the last mark at a position.
+use Rattle.std.proofs.Common.{min, ◌≡◌, ◌≢◌, ℕ, zero, suc, ◌+◌, ◌-◌, ◌<◌, ◌≤◌, inl, inr, true, false, List, [], ◌∷◌, ◌++◌, length, map, take, drop, Some, refl, sym, ◌∙◌, ap, ap₂, subst, arith, IsTrue, if◌then◌else◌, nat_lt, nat_le, slice_index, slice_range, length-append, append_assoc, append-nil}
+use Rattle.std.proofs.Math.Seq.{take-nil}
+use Rattle.std.proofs.lemmas.Bool.{and_parts, cases_lt, lt-ltb, le-ltb}
+use Rattle.std.proofs.lemmas.Bool.Decides.{nat_tests}
+use Rattle.std.proofs.lemmas.List.{take_all, take-take, take-append-le, take-append-drop, map-append, length-drop, length-take}
+use Rattle.std.proofs.lemmas.List.Elements.{filter-append, filter_agree}
+use Rattle.std.specs.List.{list_all}
+use Rattle.std.proofs.lemmas.List.Folds.{list_all-append}
+use Rattle.std.proofs.lemmas.List.Sums.{fold-append}
+use Rattle.std.proofs.lemmas.Str.{IsCharBoundary-from_rest}
+use Rattle.std.specs.Str.{IsCharBoundary}
+use Rattle.ansi_items.specs.Bytes.{escape, is_plain_byte}
+use Rattle.ansi_items.specs.Sequences.{IsSequence}
+use Rattle.ansi_items.specs.Pieces.{Piece, Text, Sequence, LoneEscape, spelling, ArePieces, StandsBefore, pieces_of}
+use Rattle.ansi_items.specs.Plain.{Mark, plain_of, plain, marks_of, marks, up_to}
+use Rattle.ansi_items.proofs.PieceLemmas.{pieces_are, pieces_of-unique}
+use Rattle.ansi_items.proofs.PlainLemmas.{one_text, one_text_are, plain_of-one_text}
+use Rattle.ansi_style.specs.Sgr.{apply, apply_all}
+use Rattle.ansi_style.specs.Reading.{after_marks}
+use Rattle.ansi_style.proofs.MarkLemmas.{further, marks_of-text, marks_of-sequence, marks_of-lone, up_to-none, up_to-further, up_to-here, after_marks-further}
+use Rattle.ansi_slice.specs.Positions.{is_good_position}
+use Rattle.ansi_slice.specs.Cut.{show}
+use Rattle.ansi_slice.specs.Parts.{past}
+use Rattle.ansi_slice.specs.Offsets.{bytes_before, offset_of}
+use Rattle.ansi_slice.proofs.SliceLemmas.{take-append, slice_range-none, slice_range-from_past}
+use Rattle.ansi_slice.proofs.ShowLemmas.{show-bare, show-text, show-mark, show-nil}
+use Rattle.ansi_slice.proofs.PositionLemmas.{is_good_position-append, good_is_boundary}
+use Rattle.ansi_slice.proofs.OffsetLemmas.{bytes_before-last, bytes_before-text, after_of, after_of-last, after_of-text, take-after, pieces_of-after, plain-after}
+use Rattle.ansi_split.specs.Spans.{further_on, IsCutAfter}
+use Rattle.ansi_split.proofs.PartSliceLemmas.{own_places, at_places-never, past-places}
+
+-- The pieces up to the position e with the marks there. A text that goes on past it is in them and in those after it.
+
+abbrev front_of : ℕ → List Piece → List Piece
+front_of e [] = []
+front_of e (Text w ∷ ps) = if nat_lt e (length w) then one_text (take e w) else Text w ∷ front_of (e - length w) ps
+front_of e (Sequence w ∷ ps) = Sequence w ∷ front_of e ps
+front_of e (LoneEscape ∷ ps) = LoneEscape ∷ front_of e ps
+
+front_of-last : (e : ℕ) (w : List ℕ) (ps : List Piece) → e < length w → front_of e (Text w ∷ ps) ≡ one_text (take e w)
+front_of-last e w ps last = ap (λ b. if b then one_text (take e w) else Text w ∷ front_of (e - length w) ps) (lt-ltb e (length w) last)
+
+front_of-text : (e : ℕ) (w : List ℕ) (ps : List Piece) → length w ≤ e → front_of e (Text w ∷ ps) ≡ Text w ∷ front_of (e - length w) ps
+front_of-text e w ps within = ap (λ b. if b then one_text (take e w) else Text w ∷ front_of (e - length w) ps) (le-ltb e (length w) within)
+
+-- They are the pieces of the text before.
+
+first_byte : (n : ℕ) (rest : List ℕ) → take n rest ≢ [] → (rest ≢ []) × (slice_index (take n rest) 0 ≡ slice_index rest 0)
+first_byte zero rest some = absurd (some refl)
+first_byte (suc n) [] some = absurd (some refl)
+first_byte (suc n) (b ∷ rest) some = ((λ e. cc), refl)
+
+alone_before : (n : ℕ) (rest : List ℕ) → StandsBefore LoneEscape rest → StandsBefore LoneEscape (take n rest)
+alone_before n rest alone = λ m whole. elim (cases_lt (suc n) m) [
+  | inl longer ↦ (
+      let t = escape ∷ rest in
+      let all : take m (take (suc n) t) ≡ take (suc n) t = take_all m (take (suc n) t) (omega (arith, length_take (suc n) t)) in
+      alone (suc n) (subst IsSequence all whole))
+  | inr shorter ↦ alone m (subst IsSequence (take-take m (suc n) (escape ∷ rest) shorter) whole)
+]
+  where
+    length_take : (k : ℕ) (t : List ℕ) → length (take k t) ≤ k
+    length_take zero t = omega arith
+    length_take (suc k) [] = omega arith
+    length_take (suc k) (b ∷ t) = (let later = length_take k t in omega arith)
+
+stands_before : (p : Piece) (n : ℕ) (rest : List ℕ) → StandsBefore p rest → StandsBefore p (take n rest)
+stands_before (Text w) n rest stands = (stands.0, stands.1, λ some. (let first = first_byte n rest some in first.1 ∙ stands.2 first.0))
+stands_before (Sequence w) n rest stands = stands
+stands_before LoneEscape n rest stands = alone_before n rest stands
+
+plain_front : (e : ℕ) (w : List ℕ) → list_all is_plain_byte w ≡ true → list_all is_plain_byte (take e w) ≡ true
+plain_front e w all = (and_parts _ _ (sym (list_all-append is_plain_byte (take e w) (drop e w)) ∙ ap (list_all is_plain_byte) (take-append-drop e w) ∙ all)).0
+
+-- after a piece that is in front as a whole
+front_more : (t : List ℕ) (p : Piece) (rest : List ℕ) (n : ℕ) (qs : List Piece) → t ≡ spelling p ++ rest → StandsBefore p rest → ArePieces (take n rest) qs → ArePieces (take (length (spelling p) + n) t) (p ∷ qs)
+front_more t p rest n qs spelled stands are =
+    (take n rest, ap (take (length (spelling p) + n)) spelled ∙ take-after (spelling p) rest n, stands_before p n rest stands, are)
+
+front_are : (e : ℕ) (t : List ℕ) (ps : List Piece) → ArePieces t ps → ArePieces (take (bytes_before e ps) t) (front_of e ps)
+front_are e t [] are = refl
+front_are e t (Text w ∷ ps) are = elim (cases_lt e (length w)) [
+  | inl last ↦ (
+      let cut : take e t ≡ take e w = ap (take e) are.1 ∙ take-append-le e w are.0 (omega arith) in
+      rw (bytes_before-last e w ps last, front_of-last e w ps last, cut) (one_text_are (take e w) (plain_front e w are.2.1)))
+  | inr within ↦
+      rw (bytes_before-text e w ps within, front_of-text e w ps within)
+      (front_more t (Text w) are.0 (bytes_before (e - length w) ps) (front_of (e - length w) ps) are.1 are.2 (front_are (e - length w) are.0 ps are.3))
+]
+front_are e t (Sequence w ∷ ps) are = front_more t (Sequence w) are.0 (bytes_before e ps) (front_of e ps) are.1 are.2 (front_are e are.0 ps are.3)
+front_are e t (LoneEscape ∷ ps) are = front_more t LoneEscape are.0 (bytes_before e ps) (front_of e ps) are.1 are.2 (front_are e are.0 ps are.3)
+
+-- Their plain text.
+
+plain_of-front : (e : ℕ) (ps : List Piece) → plain_of (front_of e ps) ≡ take e (plain_of ps)
+plain_of-front e [] = sym (take-nil e)
+plain_of-front e (Text w ∷ ps) = elim (cases_lt e (length w)) [
+  | inl last ↦ ap plain_of (front_of-last e w ps last) ∙ plain_of-one_text (take e w) ∙ sym (take-append-le e w (plain_of ps) (omega arith))
+  | inr within ↦
+      ap plain_of (front_of-text e w ps within) ∙ ap (λ v. w ++ v) (plain_of-front (e - length w) ps)
+      ∙ sym (take-append e w (plain_of ps) ∙ ap (λ u. u ++ take (e - length w) (plain_of ps)) (take_all e w within))
+]
+plain_of-front e (Sequence w ∷ ps) = plain_of-front e ps
+plain_of-front e (LoneEscape ∷ ps) = plain_of-front e ps
+
+-- Marks that stand up to a position, and past it.
+
+-- no mark stands past the end
+pub up_to-past : (e : ℕ) (ps : List Piece) → length (plain_of ps) ≤ e → up_to e (marks_of ps) ≡ marks_of ps
+up_to-past e [] past = refl
+up_to-past e (Text w ∷ ps) past =
+    let size = length-append w (plain_of ps) in
+    ap (up_to e) (marks_of-text w ps) ∙ up_to-further e (length w) (marks_of ps) (omega (arith, size))
+    ∙ ap (map (further (length w))) (up_to-past (e - length w) ps (omega (arith, size))) ∙ sym (marks_of-text w ps)
+up_to-past e (Sequence w ∷ ps) past =
+    ap (up_to e) (marks_of-sequence w ps) ∙ up_to-here e w (marks_of ps) ∙ ap (λ ms. record { place = 0; bytes = w } ∷ ms) (up_to-past e ps past) ∙ sym (marks_of-sequence w ps)
+up_to-past e (LoneEscape ∷ ps) past =
+    ap (up_to e) (marks_of-lone ps) ∙ up_to-here e (escape ∷ []) (marks_of ps) ∙ ap (λ ms. record { place = 0; bytes = escape ∷ [] } ∷ ms) (up_to-past e ps past) ∙ sym (marks_of-lone ps)
+
+past-up_to : (e : ℕ) (ms : List Mark) → past (Some e) (up_to e ms) ≡ []
+past-up_to e ms =
+    past-places (Some e) e ms ∙ filter_agree (λ (m : Mark). own_places (Some e) e m.place) (λ (m : Mark). false) (λ m. grind (arith, nat_tests)) ms ∙ at_places-never ms
+
+past-all : (e n : ℕ) (ms : List Mark) → e < n → past (Some e) (further_on n ms) ≡ further_on n ms
+past-all e n [] below = refl
+past-all e n (m ∷ ms) below =
+    let there : nat_lt e (n + m.place) ≡ true = lt-ltb _ _ (omega arith) in
+    ap (λ b. if b then further n m ∷ past (Some e) (further_on n ms) else past (Some e) (further_on n ms)) there ∙ ap (λ ks. further n m ∷ ks) (past-all e n ms below)
+
+further_on-further_on : (a b : ℕ) (ms : List Mark) → further_on a (further_on b ms) ≡ further_on (a + b) ms
+further_on-further_on a b [] = refl
+further_on-further_on a b (m ∷ ms) = ap₂ (λ n ks. record m { place = n } ∷ ks) (omega arith) (further_on-further_on a b ms)
+
+-- All marks are those up to the position, and then others further on, which are those of the pieces after it.
+record AreMarksCut (e : ℕ) (ps : List Piece) : Type 0 where
+  n : ℕ
+  far : e < n
+  others : List Mark
+  all : marks_of ps ≡ marks_of (front_of e ps) ++ further_on n others
+  after : further_on e (marks_of (after_of e ps)) ≡ further_on n others
+
+marks_of-one_text : (w : List ℕ) → marks_of (one_text w) ≡ []
+marks_of-one_text [] = refl
+marks_of-one_text (b ∷ w) = refl
+
+marks_cut : (e : ℕ) (ps : List Piece) → AreMarksCut e ps
+marks_cut e [] = record { n = e + 1; far = omega arith; others = []; all = refl; after = refl }
+marks_cut e (Text w ∷ ps) = elim (cases_lt e (length w)) [
+  | inl last ↦ (
+      let left : e + length (drop e w) ≡ length w = omega (arith, length-drop e w) in
+      record {
+        n = length w;
+        far = last;
+        others = marks_of ps;
+        all = marks_of-text w ps ∙ ap (λ ms. ms ++ further_on (length w) (marks_of ps)) (sym (ap marks_of (front_of-last e w ps last) ∙ marks_of-one_text (take e w)));
+        after = ap (λ qs. further_on e (marks_of qs)) (after_of-last e w ps last) ∙ ap (further_on e) (marks_of-text (drop e w) ps)
+            ∙ further_on-further_on e (length (drop e w)) (marks_of ps) ∙ ap (λ k. further_on k (marks_of ps)) left;
+      })
+  | inr within ↦ (
+      let k = length w in
+      let cut = marks_cut (e - k) ps in
+      let far : e - k < cut.n = cut.far in
+      let all : e ≡ k + (e - k) = omega arith in
+      let moved = further_on-further_on k cut.n cut.others in
+      record {
+        n = k + cut.n;
+        far = omega (arith, far);
+        others = cut.others;
+        all = marks_of-text w ps ∙ ap (further_on k) cut.all ∙ map-append (further k) (marks_of (front_of (e - k) ps)) (further_on cut.n cut.others)
+            ∙ ap₂ (λ ms ks. ms ++ ks) (sym (ap marks_of (front_of-text e w ps within) ∙ marks_of-text w (front_of (e - k) ps))) moved;
+        after = ap₂ (λ a qs. further_on a (marks_of qs)) all (after_of-text e w ps within) ∙ sym (further_on-further_on k (e - k) (marks_of (after_of (e - k) ps)))
+            ∙ ap (further_on k) cut.after ∙ moved;
+      })
+]
+marks_cut e (Sequence w ∷ ps) =
+    let cut = marks_cut e ps in
+    record { n = cut.n; far = cut.far; others = cut.others; after = cut.after; all = marks_of-sequence w ps ∙ ap (λ ms. record { place = 0; bytes = w } ∷ ms) cut.all ∙ ap (λ ms. ms ++ further_on cut.n cut.others) (sym (marks_of-sequence w (front_of e ps))) }
+marks_cut e (LoneEscape ∷ ps) =
+    let cut = marks_cut e ps in
+    record { n = cut.n; far = cut.far; others = cut.others; after = cut.after; all = marks_of-lone ps ∙ ap (λ ms. record { place = 0; bytes = escape ∷ [] } ∷ ms) cut.all ∙ ap (λ ms. ms ++ further_on cut.n cut.others) (sym (marks_of-lone (front_of e ps))) }
+
+-- What is shown of pieces, where nothing of the text y after them is.
+show-front : (ps : List Piece) (y : List ℕ) (a e : ℕ) → slice_range y (a - length (plain_of ps)) (e - length (plain_of ps)) ≡ [] → show (plain_of ps ++ y) a e (marks_of ps) ≡ show (plain_of ps) a e (marks_of ps)
+show-front [] y a e none = show-bare y a e ∙ ap₂ (slice_range y) (omega arith) (omega arith) ∙ none ∙ sym (show-nil a e)
+show-front (Text w ∷ ps) y a e none =
+    let n = length w in
+    let x = plain_of ps in
+    let size : length (w ++ x) ≡ n + length x = length-append w x in
+    ap₂ (λ u ms. show u a e ms) (append_assoc w x y) (marks_of-text w ps) ∙ show-text w (x ++ y) a e (marks_of ps)
+    ∙ ap (λ u. slice_range w a e ++ u) (show-front ps y (a - n) (e - n) (ap₂ (slice_range y) (omega (arith, size)) (omega (arith, size)) ∙ none))
+    ∙ sym (ap (show (w ++ x) a e) (marks_of-text w ps) ∙ show-text w x a e (marks_of ps))
+show-front (Sequence w ∷ ps) y a e none =
+    let x = plain_of ps in
+    ap (show (x ++ y) a e) (marks_of-sequence w ps) ∙ show-mark w (x ++ y) a e (marks_of ps) ∙ ap (λ u. w ++ u) (show-front ps y a e none)
+    ∙ sym (ap (show x a e) (marks_of-sequence w ps) ∙ show-mark w x a e (marks_of ps))
+show-front (LoneEscape ∷ ps) y a e none =
+    let x = plain_of ps in
+    let w = escape ∷ [] in
+    ap (show (x ++ y) a e) (marks_of-lone ps) ∙ show-mark w (x ++ y) a e (marks_of ps) ∙ ap (λ u. w ++ u) (show-front ps y a e none)
+    ∙ sym (ap (show x a e) (marks_of-lone ps) ∙ show-mark w x a e (marks_of ps))
+
+-- So the text is cut there.
+
+pub is_cut_after : (t : List ℕ) (e n : ℕ) → n ≡ offset_of t e → IsCutAfter t e (take n t) (drop n t)
+is_cut_after t e n is =
+    let x = plain t in
+    let fs = pieces_of (take n t) in
+    let ks = marks (drop n t) in
+    let front : fs ≡ front_of e (pieces_of t) = ap (λ k. pieces_of (take k t)) is ∙ sym (pieces_of-unique _ _ (front_are e t (pieces_of t) (pieces_are t))) in
+    let after : pieces_of (drop n t) ≡ after_of e (pieces_of t) = ap (λ k. pieces_of (drop k t)) is ∙ pieces_of-after t e in
+    let cut = marks_cut e (pieces_of t) in
+    let plain_front : plain_of fs ≡ take e x = ap plain_of front ∙ plain_of-front e (pieces_of t) in
+    let short : length (plain_of fs) ≤ e = omega (arith, ap length plain_front, length-take e x) in
+    let others : further_on e ks ≡ further_on cut.n cut.others = ap (λ qs. further_on e (marks_of qs)) after ∙ cut.after in
+    let all : marks t ≡ marks_of fs ++ further_on e ks = cut.all ∙ ap₂ (λ qs ms. marks_of qs ++ ms) (sym front) (sym others) in
+    let marks_front : up_to e (marks t) ≡ marks_of fs
+    = ap (up_to e) all ∙ filter-append (λ (m : Mark). nat_le m.place e) (marks_of fs) (further_on e ks)
+    ∙ ap₂ (λ ms ls. ms ++ ls) (up_to-past e fs short) (ap (up_to e) others ∙ up_to-none e cut.n cut.others cut.far) ∙ append-nil (marks_of fs) in
+    record {
+      plain_front = plain_front;
+      marks_front = sym marks_front;
+      shown_front = λ a.
+          ap₂ (λ u ms. show u a e ms) (sym (ap (λ u. u ++ drop e x) plain_front ∙ take-append-drop e x)) marks_front
+          ∙ show-front fs (drop e x) a e (nothing (length (plain_of fs)) a (ap length plain_front ∙ length-take e x));
+      plain_after = ap (λ k. plain (drop k t)) is ∙ plain-after t e;
+      marks_after =
+          ap (past (Some e)) all ∙ filter-append (λ (m : Mark). nat_lt e m.place) (marks_of fs) (further_on e ks)
+          ∙ ap₂ (λ ms ls. ms ++ ls) (ap (past (Some e)) (sym marks_front) ∙ past-up_to e (marks t)) (ap (past (Some e)) others ∙ past-all e cut.n cut.others cut.far ∙ sym others);
+      styles_after_from = λ c i. (
+          let left : e + i - e ≡ i = omega arith in
+          let some = up_to i ks in
+          let bytes = λ (m : Mark). m.bytes in
+          ap (λ ms. after_marks c (up_to (e + i) ms)) all
+          ∙ ap (after_marks c) (filter-append (λ (m : Mark). nat_le m.place (e + i)) (marks_of fs) (further_on e ks)
+          ∙ ap₂ (λ ms ls. ms ++ ls) (up_to-past (e + i) fs (omega (arith, short))) (up_to-further (e + i) e ks (omega arith) ∙ ap (λ k. further_on e (up_to k ks)) left))
+          ∙ ap (apply_all c) (map-append bytes (marks_of fs) (further_on e some)) ∙ fold-append apply c (map bytes (marks_of fs)) (map bytes (further_on e some))
+          ∙ after_marks-further (after_marks c (marks_of fs)) e some ∙ ap (λ ms. after_marks (after_marks c ms) some) (sym marks_front));
+    }
+  where
+    nothing : (k a : ℕ) → k ≡ min e (length (plain t)) → slice_range (drop e (plain t)) (a - k) (e - k) ≡ []
+    nothing k a is = elim (cases_lt (length (plain t)) e) [
+      | inl past ↦ slice_range-from_past (drop e (plain t)) (a - k) (e - k) (omega (arith, length-drop e (plain t)))
+      | inr within ↦ slice_range-none (drop e (plain t)) (a - k) (e - k) (omega arith)
+    ]
+
+pub drop-take : (a e : ℕ) (w : List ℕ) → drop a (take e w) ≡ take (e - a) (drop a w)
+drop-take zero e w = (let same : e ≡ e - 0 = omega arith in ap (λ n. take n w) same)
+drop-take (suc a) e [] = ap (drop (suc a)) (take-nil e) ∙ sym (take-nil (e - suc a))
+drop-take (suc a) zero (b ∷ w) = (let none : 0 ≡ 0 - suc a = omega arith in ap (λ n. take n (drop a w)) none)
+drop-take (suc a) (suc e) (b ∷ w) = drop-take a e w ∙ (let same : e - a ≡ suc e - suc a = omega arith in ap (λ n. take n (drop a w)) same)
+
+-- A good position in the text that stands next is a boundary of the text.
+pub boundary_in_next : (t : List ℕ) (position left : ℕ) (w : List ℕ) (ps : List Piece) → position ≤ length t → pieces_of (drop position t) ≡ Text w ∷ ps → left < length w
+    → IsTrue (is_good_position (w ++ plain_of ps) left) → IsCharBoundary t (position + left)
+boundary_in_next t position left w ps inside first last good =
+    let are = subst (ArePieces (drop position t)) first (pieces_are (drop position t)) in
+    let within : left ≤ length (drop position t) = omega (arith, ap length are.1, length-append w are.0) in
+    let here : IsTrue (is_good_position (drop position t) left)
+    = ap (λ u. is_good_position u left) are.1 ∙ is_good_position-append w are.0 left last ∙ sym (is_good_position-append w (plain_of ps) left last) ∙ good in
+    IsCharBoundary-from_rest t position left inside (good_is_boundary (drop position t) left within here)

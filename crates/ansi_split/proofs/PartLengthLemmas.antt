@@ -1,0 +1,205 @@
+-- How long a part may be, and what it takes of its text.
+use Rattle.std.proofs.Common.{◌≡◌, ℕ, ◌+◌, ◌-◌, ◌≤◌, Bool, true, false, ◌==◌, List, [], ◌∷◌, ◌++◌, length, map, drop, refl, ◌∙◌, sym, ap, subst, arith, length-append, length-take, length-drop, if◌then◌else◌}
+use Rattle.std.specs.Prelude.{Option, Some, None, IfSome, option_map, slice_get, ◌&&◌, nat_lt}
+use Rattle.std.proofs.lemmas.Bool.{cond_both, true≢false}
+use Rattle.std.proofs.lemmas.Bool.Decides.{nat_tests}
+use Rattle.std.proofs.lemmas.List.Sums.{sum_by-cons}
+use Rattle.std.specs.List.{slice_range, sum_by}
+use Rattle.std.specs.Option.{option_map_or}
+use Rattle.ansi_items.specs.Pieces.{Piece, spelling, Text, Sequence, LoneEscape, pieces_of}
+use Rattle.ansi_items.specs.Plain.{Mark, plain, plain_of, marks, marks_of, up_to, joined}
+use Rattle.ansi_style.specs.declared.state.rendition.Rendition.{Rendition}
+use Rattle.ansi_style.specs.Rendition.{IsStyle, plain_style, has_any}
+use Rattle.ansi_style.specs.Written.{close, start, close_if_any}
+use Rattle.ansi_slice.specs.Cut.{show}
+use Rattle.ansi_style.specs.Reading.{style_within}
+use Rattle.ansi_slice.specs.Parts.{parts, end_before, past, part_over, part, share_over, share}
+use Rattle.ansi_split.specs.Splits.{SplitPart}
+use Rattle.ansi_split.specs.Spans.{carried_from, part_from, parts_from, parts_left}
+use Rattle.ansi_items.proofs.PlainLemmas.{one_text}
+use Rattle.ansi_slice.proofs.SliceLemmas.{slice_range-append}
+use Rattle.ansi_style.proofs.MarkLemmas.{further, marks_of-text, marks_of-sequence, marks_of-lone}
+use Rattle.ansi_items.proofs.JoinLemmas.{spelled, spelled-pieces_of}
+use Rattle.ansi_slice.proofs.ShownLemmas.{shown_pieces, piece_when, at_places, at_places-further}
+use Rattle.ansi_split.proofs.IntervalLemmas.{ComesAfter, ComeAfter, all_parts_come_after}
+use Rattle.ansi_split.proofs.PartSliceLemmas.{past-places, own_places, spelled-own_pieces, IsStyle-carried}
+use Rattle.ansi_split.proofs.SpanLemmas.{past-none}
+use Rattle.ansi_split.proofs.SplitLemmas.{parts_left-begin, share-part_from}
+use Rattle.ansi_slice.proofs.LengthLemmas.{length-one_text, length-spelled, length-shown_pieces, length-close, length-start}
+
+-- A part: the bytes of its interval, its marks, a start and a close.
+
+joined-further : (n : ℕ) (ms : List Mark) → joined (map (further n) ms) ≡ joined ms
+joined-further n [] = refl
+joined-further n (m ∷ ms) = ap (λ v. m.bytes ++ v) (joined-further n ms)
+
+length-mark : (p : Piece) (c : Bool) (shown : List Piece) (ms : List Mark) (n : ℕ) → length (spelled shown) ≤ n + length (joined ms)
+    → length (spelled (piece_when c p ++ shown)) ≤ n + length (joined (if c then record { place = 0; bytes = spelling p } ∷ ms else ms))
+length-mark p true shown ms n within = omega (arith, within, length-append (spelling p) (spelled shown), length-append (spelling p) (joined ms))
+length-mark p false shown ms n within = within
+
+-- what is shown of pieces has no more than the bytes of the slice and the marks at these places
+length-shown_taken : (ps : List Piece) (test : ℕ → Bool) (a b : ℕ) → length (spelled (shown_pieces test a b ps)) ≤ length (slice_range (plain_of ps) a b) + length (joined (at_places test (marks_of ps)))
+length-shown_taken [] test a b = omega arith
+length-shown_taken (Text w ∷ ps) test a b =
+    let n = length w in
+    let later : ℕ → Bool = λ p. test (n + p) in
+    omega (
+      arith,
+      length-spelled (one_text (slice_range w a b)) (shown_pieces later (a - n) (b - n) ps),
+      length-one_text (slice_range w a b),
+      length-shown_taken ps later (a - n) (b - n),
+      ap length (slice_range-append w (plain_of ps) a b),
+      length-append (slice_range w a b) (slice_range (plain_of ps) (a - n) (b - n)),
+      ap length (ap joined (ap (at_places test) (marks_of-text w ps) ∙ at_places-further test n (marks_of ps)) ∙ joined-further n (at_places later (marks_of ps))),
+    )
+length-shown_taken (Sequence w ∷ ps) test a b =
+    let shown = shown_pieces test a b ps in
+    let taken = slice_range (plain_of ps) a b in
+    subst (λ ms. length (spelled (piece_when (test 0) (Sequence w) ++ shown)) ≤ length taken + length (joined (at_places test ms))) (sym (marks_of-sequence w ps))
+    (length-mark (Sequence w) (test 0) shown (at_places test (marks_of ps)) (length taken) (length-shown_taken ps test a b))
+length-shown_taken (LoneEscape ∷ ps) test a b =
+    let shown = shown_pieces test a b ps in
+    let taken = slice_range (plain_of ps) a b in
+    subst (λ ms. length (spelled (piece_when (test 0) LoneEscape ++ shown)) ≤ length taken + length (joined (at_places test ms))) (sym (marks_of-lone ps))
+    (length-mark LoneEscape (test 0) shown (at_places test (marks_of ps)) (length taken) (length-shown_taken ps test a b))
+
+length-close_if_any : (s : Rendition) → length (close_if_any s) ≤ 88
+length-close_if_any s = cond_both (has_any s) (close s) [] (λ w. length w ≤ 88) (λ any. length-close s) (λ none. omega arith)
+
+-- a part is its share of the text, a start and a close, or nothing: 163 + 88 = 251
+pub length-part_from : (c : Rendition) (t : List ℕ) (before : Option ℕ) (i : ℕ × ℕ) → IsStyle (carried_from c t before) → length (part_from c t before i).bytes ≤ (part_from c t before i).share + 251
+unfolding part_from
+length-part_from c t before i is =
+    let own = past before (up_to i.1 (marks t)) in
+    let shown = show (plain t) i.0 i.1 own in
+    let from = start (carried_from c t before) in
+    let to = close_if_any (style_within c t i.1) in
+    cond_both (i.0 == i.1 && length own == 0) [] (from ++ shown ++ to) (λ w. length w ≤ length shown + 251)
+    (λ none. omega arith)
+    (λ some. omega (
+      arith,
+      length-append (from ++ shown) to,
+      length-append from shown,
+      length-start (carried_from c t before) is,
+      length-close_if_any (style_within c t i.1),
+    ))
+
+length-dressed_part : (t : List ℕ) (before : Option ℕ) (i : ℕ × ℕ) → length (part_over t before i) ≤ share_over t before i + 251
+unfolding part_from part_over share_over
+length-dressed_part t before i = length-part_from plain_style t before i (IsStyle-carried t before)
+
+share_by_marks : (t : List ℕ) (before : Option ℕ) (i : ℕ × ℕ) → share_over t before i ≤ length (slice_range (plain t) i.0 i.1) + length (joined (past before (up_to i.1 (marks t))))
+unfolding share_over
+share_by_marks t before i =
+    omega (
+      arith,
+      ap length (spelled-own_pieces t before i),
+      length-shown_taken (pieces_of t) (own_places before i.1) i.0 i.1,
+      ap (λ ms. length (joined ms)) (past-places before i.1 (marks t)),
+    )
+
+share_over_within : (t : List ℕ) (before : Option ℕ) (i : ℕ × ℕ) → share_over t before i ≤ length t
+unfolding share_over
+share_over_within t before i =
+    omega (arith, ap length (spelled-own_pieces t before i), length-shown_pieces (pieces_of t) (own_places before i.1) i.0 i.1, ap length (spelled-pieces_of t))
+
+pub share_within : (t p : List ℕ) (k : ℕ) → share t p k ≤ length t
+share_within t p k = by_interval (slice_get (parts (plain t) p) k)
+  where
+    by_interval : (o : Option (ℕ × ℕ)) → option_map_or (share_over t (end_before (parts (plain t) p) k)) o 0 ≤ length t
+    by_interval None = omega arith
+    by_interval (Some i) = share_over_within t (end_before (parts (plain t) p) k) i
+
+pub length-part_over : (t : List ℕ) (before : Option ℕ) (i : ℕ × ℕ)
+    → length (part_over t before i) ≤ length (slice_range (plain t) i.0 i.1) + length (joined (past before (up_to i.1 (marks t)))) + 251
+length-part_over t before i = omega (arith, length-dressed_part t before i, share_by_marks t before i)
+
+pub length-part : (t p : List ℕ) (k : ℕ) (u : List ℕ) → part t p k ≡ Some u → length u ≤ length t + 251
+length-part t p k u found = subst (λ o. IfSome o (λ u. length u ≤ length t + 251)) found (by_interval (slice_get (parts (plain t) p) k))
+  where
+    by_interval : (o : Option (ℕ × ℕ)) → IfSome (option_map (part_over t (end_before (parts (plain t) p) k)) o) (λ u. length u ≤ length t + 251)
+    by_interval None = tt
+    by_interval (Some i) =
+        let before = end_before (parts (plain t) p) k in
+        omega (arith, length-dressed_part t before i, share_over_within t before i)
+
+-- All parts: their shares have no byte of the text twice.
+
+-- a mark that goes to one of two lists at most, and then to a third
+joined_once : (m : Mark) (fs gs hs : List Mark) (a b c : Bool) → length (joined fs) + length (joined gs) ≤ length (joined hs)
+    → (a ≡ true → (b ≡ false) × (c ≡ true)) → (b ≡ true → c ≡ true)
+    → length (joined (if a then m ∷ fs else fs)) + length (joined (if b then m ∷ gs else gs)) ≤ length (joined (if c then m ∷ hs else hs))
+joined_once m fs gs hs true true c later one other = absurd (true≢false (one refl).0)
+joined_once m fs gs hs true false false later one other = absurd (true≢false (sym (one refl).1))
+joined_once m fs gs hs true false true later one other = omega (arith, later, length-append m.bytes (joined fs), length-append m.bytes (joined hs))
+joined_once m fs gs hs false true false later one other = absurd (true≢false (sym (other refl)))
+joined_once m fs gs hs false true true later one other = omega (arith, later, length-append m.bytes (joined gs), length-append m.bytes (joined hs))
+joined_once m fs gs hs false false true later one other = omega (arith, later, length-append m.bytes (joined hs))
+joined_once m fs gs hs false false false later one other = later
+
+-- the bytes of marks at places of two kinds, where no place is of both, are among those at places of a third
+joined_among : (f g h : ℕ → Bool) (ms : List Mark) → ((p : ℕ) → f p ≡ true → (g p ≡ false) × (h p ≡ true)) → ((p : ℕ) → g p ≡ true → h p ≡ true)
+    → length (joined (at_places f ms)) + length (joined (at_places g ms)) ≤ length (joined (at_places h ms))
+joined_among f g h [] first second = omega arith
+joined_among f g h (m ∷ ms) first second =
+    joined_once m (at_places f ms) (at_places g ms) (at_places h ms) (f m.place) (g m.place) (h m.place) (joined_among f g h ms first second) (first m.place) (second m.place)
+
+-- the marks of a part, and those past its end, are among those past the end of the part before
+marks_of_one : (before : Option ℕ) (i : ℕ × ℕ) (ms : List Mark) → ComesAfter before i
+    → length (joined (past before (up_to i.1 ms))) + length (joined (past (Some i.1) ms)) ≤ length (joined (past before ms))
+marks_of_one None i ms comes =
+    subst (λ own. length (joined own) + length (joined (past (Some i.1) ms)) ≤ length (joined (past None ms))) (sym (past-places None i.1 ms))
+    (joined_among (own_places None i.1) (nat_lt i.1) (λ p. true) ms (λ p own. (grind (arith, nat_tests), refl)) (λ p later. refl))
+marks_of_one (Some e) i ms comes =
+    let at = comes.1 in
+    subst (λ own. length (joined own) + length (joined (past (Some i.1) ms)) ≤ length (joined (past (Some e) ms))) (sym (past-places (Some e) i.1 ms))
+    (joined_among (own_places (Some e) i.1) (nat_lt i.1) (nat_lt e) ms (λ p own. (grind (arith, nat_tests), grind (arith, nat_tests))) (λ p later. grind (arith, nat_tests)))
+
+-- how many of n plain bytes stand past the end of the part before
+abbrev remaining : Option ℕ → ℕ → ℕ
+remaining None n = n
+remaining (Some e) n = n - e
+
+bytes_of_one : (before : Option ℕ) (i : ℕ × ℕ) (x : List ℕ) → ComesAfter before i → length (slice_range x i.0 i.1) + (length x - i.1) ≤ remaining before (length x)
+bytes_of_one None i x comes = omega (arith, length-take (i.1 - i.0) (drop i.0 x), length-drop i.0 x)
+bytes_of_one (Some e) i x comes = omega (arith, comes.0, comes.1, length-take (i.1 - i.0) (drop i.0 x), length-drop i.0 x)
+
+shares_over : (t : List ℕ) (before : Option ℕ) (is : List (ℕ × ℕ)) → ComeAfter before is
+    → sum_by (λ (q : SplitPart). q.share) (parts_from plain_style t before is) ≤ remaining before (length (plain t)) + length (joined (past before (marks t)))
+shares_over t before [] come = omega arith
+shares_over t before (i ∷ is) come =
+    omega (
+      arith,
+      sum_by-cons (λ (q : SplitPart). q.share) (part_from plain_style t before i) (parts_from plain_style t (Some i.1) is),
+      share-part_from t before i,
+      share_by_marks t before i,
+      bytes_of_one before i (plain t) come.0,
+      marks_of_one before i (marks t) come.0,
+      shares_over t (Some i.1) is come.1,
+    )
+
+length-pieces : (ps : List Piece) → length (spelled ps) ≡ length (plain_of ps) + length (joined (marks_of ps))
+length-pieces [] = refl
+length-pieces (Text w ∷ ps) =
+    omega (
+      arith,
+      length-pieces ps,
+      length-append w (spelled ps),
+      length-append w (plain_of ps),
+      ap length (ap joined (marks_of-text w ps) ∙ joined-further (length w) (marks_of ps)),
+    )
+length-pieces (Sequence w ∷ ps) =
+    omega (arith, length-pieces ps, length-append w (spelled ps), ap (λ ms. length (joined ms)) (marks_of-sequence w ps), length-append w (joined (marks_of ps)))
+length-pieces (LoneEscape ∷ ps) = omega (arith, length-pieces ps, ap (λ ms. length (joined ms)) (marks_of-lone ps))
+
+pub shares_within : (t p : List ℕ) → sum_by (λ (q : SplitPart). q.share) (parts_left plain_style t p 0 0) ≤ length t
+shares_within t p =
+    omega (
+      arith,
+      ap (sum_by (λ (q : SplitPart). q.share)) (parts_left-begin t p),
+      shares_over t None (parts (plain t) p) (all_parts_come_after (plain t) p),
+      ap (λ ms. length (joined ms)) (past-none (marks t)),
+      length-pieces (pieces_of t),
+      ap length (spelled-pieces_of t),
+    )

@@ -1,0 +1,113 @@
+-- How many parts there are; and that the plain texts of all parts of a whole text are the slices between the matches.
+use Rattle.std.proofs.Common.{◌≡◌, ◌≢◌, ℕ, suc, ◌+◌, ◌≤◌, List, [], ◌∷◌, ◌++◌, map, length, filter_map, Option, Some, None, refl, sym, ◌∙◌, ap, ap₂, subst, arith, IsTrue, slice_range, slice_get, length-append, nat_le, if◌then◌else◌}
+use Rattle.std.specs.Prelude.{option_map}
+use Rattle.std.specs.List.{cons_option, range_with_len}
+use Rattle.std.proofs.lemmas.Bool.{cond_both}
+use Rattle.std.proofs.lemmas.List.FromFn.{length-range_with_len}
+use Rattle.std.proofs.lemmas.List.Sums.{length-filter, count_by-le-length}
+use Rattle.std.proofs.lemmas.Slice.Zip.{length-zip}
+use Rattle.std.specs.Char.{encode_utf8}
+use Rattle.std.specs.Str.{IsUtf8, chars}
+use Rattle.ansi_items.specs.Plain.{plain, is_whole}
+use Rattle.ansi_style.specs.Styled.{StyledByte, styled, bytes_of}
+use Rattle.ansi_slice.specs.Parts.{is_match, match_places, apart, parts, end_before, part_over, part, all_parts}
+use Rattle.ansi_split.specs.StdSplit.{AreSplit, slices_over}
+use Rattle.ansi_slice.proofs.SliceLemmas.{slice_range-map}
+use Rattle.ansi_style.proofs.StyledLemmas.{bytes_of-styled}
+use Rattle.ansi_split.proofs.IntervalLemmas.{ComesAfter, parts_come_after, end_after, end_after-suc, end_after-none}
+use Rattle.ansi_split.proofs.PartSliceLemmas.{part_over_is}
+use Rattle.ansi_items.proofs.Utf8Lemmas.{IsUtf8-plain}
+use Rattle.ansi_split.proofs.StdSplitLemmas.{parts_are_split}
+use Rattle.ansi_split.proofs.CharacterLemmas.{slices_over-parts-empty}
+
+-- At most two more than bytes.
+
+length-apart : (n e : ℕ) (ms : List ℕ) → length (apart n e ms) ≤ length ms
+length-apart n e [] = omega arith
+length-apart n e (m ∷ ms) =
+    let next = if nat_le e m then m + n else e in
+    let later = length-apart n next ms in
+    cond_both (nat_le e m) (m ∷ apart n next ms) (apart n next ms) (λ ks. length ks ≤ length (m ∷ ms))
+    (λ taken. omega (arith, later)) (λ passed. omega (arith, later))
+
+pub length-parts : (x p : List ℕ) → length (parts x p) ≤ length x + 2
+length-parts x p =
+    let taken = apart (length p) 0 (match_places x p) in
+    omega (
+      arith,
+      length-zip (0 ∷ map (λ m. m + length p) taken) (taken ++ length x ∷ []),
+      length-append taken (length x ∷ []),
+      length-apart (length p) 0 (match_places x p),
+      length-filter (is_match x p) (range_with_len 0 (length x + 1)),
+      count_by-le-length (is_match x p) (range_with_len 0 (length x + 1)),
+      length-range_with_len 0 (length x + 1),
+    )
+
+-- The plain text of a part.
+
+plain-part_over : (t : List ℕ) (before : Option ℕ) (i : ℕ × ℕ) → IsTrue (is_whole t) → ComesAfter before i → plain (part_over t before i) ≡ slice_range (plain t) i.0 i.1
+plain-part_over t before i whole after =
+    sym (bytes_of-styled (part_over t before i)) ∙ ap bytes_of (part_over_is t before i whole after).styled_bytes
+    ∙ sym (slice_range-map (λ (b : StyledByte). b.byte) (styled t) i.0 i.1) ∙ ap (λ x. slice_range x i.0 i.1) (bytes_of-styled t)
+
+-- The parts of all indices are those over the intervals, in turn.
+
+abbrev pub parts_over : List ℕ → Option ℕ → List (ℕ × ℕ) → List (List ℕ)
+parts_over t before [] = []
+parts_over t before (i ∷ is) = part_over t before i ∷ parts_over t (Some i.1) is
+
+-- where h gives the part of each index, from a on
+filter_map-parts : (t : List ℕ) (h : ℕ → Option (List ℕ)) (before : Option ℕ) (is : List (ℕ × ℕ)) (a : ℕ)
+    → ((j : ℕ) → h (a + j) ≡ option_map (part_over t (end_after before is j)) (slice_get is j)) → filter_map h (range_with_len a (length is)) ≡ parts_over t before is
+filter_map-parts t h before [] a gives = refl
+filter_map-parts t h before (i ∷ is) a gives =
+    let same : a ≡ a + 0 = omega arith in
+    let next : (j : ℕ) → a + 1 + j ≡ a + suc j = λ j. omega arith in
+    ap₂ (λ o us. cons_option o us) (ap h same ∙ gives 0)
+    (filter_map-parts t h (Some i.1) is (a + 1)
+    (λ j. ap h (next j) ∙ gives (suc j) ∙ ap (λ b. option_map (part_over t b) (slice_get is j)) (end_after-suc before i is j)))
+
+pub all_parts-over : (t p : List ℕ) → all_parts t p ≡ parts_over t None (parts (plain t) p)
+all_parts-over t p =
+    let is = parts (plain t) p in
+    let first : (j : ℕ) → 0 + j ≡ j = λ j. omega arith in
+    filter_map-parts t (part t p) None is 0
+    (λ j. ap (part t p) (first j) ∙ ap (λ b. option_map (part_over t b) (slice_get is j)) (sym (end_after-none is j)))
+
+length-parts_over : (t : List ℕ) (before : Option ℕ) (is : List (ℕ × ℕ)) → length (parts_over t before is) ≡ length is
+length-parts_over t before [] = refl
+length-parts_over t before (i ∷ is) = ap suc (length-parts_over t (Some i.1) is)
+
+pub length-all_parts : (t p : List ℕ) → length (all_parts t p) ≡ length (parts (plain t) p)
+length-all_parts t p = ap length (all_parts-over t p) ∙ length-parts_over t None (parts (plain t) p)
+
+-- where g reads each part as v does its interval
+
+map-parts_over : {Z : Type 0} (t : List ℕ) (g : List ℕ → Z) (v : ℕ × ℕ → Z) (before : Option ℕ) (is : List (ℕ × ℕ))
+    → ((k : ℕ) (i : ℕ × ℕ) → slice_get is k ≡ Some i → g (part_over t (end_after before is k) i) ≡ v i) → map g (parts_over t before is) ≡ map v is
+map-parts_over t g v before [] reads = refl
+map-parts_over t g v before (i ∷ is) reads =
+    ap₂ (λ y ys. y ∷ ys) (reads 0 i refl)
+    (map-parts_over t g v (Some i.1) is (λ k j found. ap (λ b. g (part_over t b j)) (sym (end_after-suc before i is k)) ∙ reads (suc k) j found))
+
+pub map-all_parts : {Z : Type 0} (t p : List ℕ) (g : List ℕ → Z) (v : ℕ × ℕ → Z)
+    → ((k : ℕ) (i : ℕ × ℕ) → slice_get (parts (plain t) p) k ≡ Some i → g (part_over t (end_before (parts (plain t) p) k) i) ≡ v i)
+    → map g (all_parts t p) ≡ map v (parts (plain t) p)
+map-all_parts t p g v reads =
+    let is = parts (plain t) p in
+    ap (map g) (all_parts-over t p)
+    ∙ map-parts_over t g v None is (λ k i found. ap (λ b. g (part_over t b i)) (end_after-none is k) ∙ reads k i found)
+
+pub plain-all_parts : (t p : List ℕ) → IsTrue (is_whole t) → map plain (all_parts t p) ≡ slices_over (plain t) (parts (plain t) p)
+plain-all_parts t p whole =
+    map-all_parts t p plain (λ i. slice_range (plain t) i.0 i.1)
+    (λ k i found. plain-part_over t (end_before (parts (plain t) p) k) i whole (parts_come_after (plain t) p k i found))
+
+-- So they are what std's `split` gives, and at the empty pattern the characters.
+
+pub plain_parts_are_split : (t p : List ℕ) → IsUtf8 t → IsUtf8 p → IsTrue (is_whole t) → p ≢ [] → AreSplit p (plain t) (map plain (all_parts t p))
+plain_parts_are_split t p utf8 utf8_p whole some =
+    subst (AreSplit p (plain t)) (sym (plain-all_parts t p whole)) (parts_are_split (plain t) p (IsUtf8-plain t utf8) utf8_p some)
+
+pub plain-all_parts-empty : (t : List ℕ) → IsUtf8 t → IsTrue (is_whole t) → map plain (all_parts t []) ≡ [] ∷ (map encode_utf8 (chars (plain t)) ++ [] ∷ [])
+plain-all_parts-empty t utf8 whole = plain-all_parts t [] whole ∙ slices_over-parts-empty (plain t) (IsUtf8-plain t utf8)

@@ -1,0 +1,202 @@
+-- A run of plain text at the front of a text, and a match that begins in it.
+use Rattle.std.proofs.Common.{◌≡◌, ◌≢◌, ℕ, ◌+◌, ◌-◌, ◌<◌, ◌≤◌, inl, inr, false, List, [], ◌∷◌, ◌++◌, length, take, drop, Option, Some, None, refl, sym, ◌∙◌, ap, ap₂, subst, arith, IsFalse, is_some, slice_index, append_assoc, length-append, nat_eq}
+use Rattle.std.specs.Prelude.{◌==◌, unwrap_or}
+use Rattle.std.proofs.lemmas.Bool.{or_parts, and_parts, cases_lt, eq-eqb}
+use Rattle.std.proofs.lemmas.List.{take-append-drop, take-take, drop-drop, length-take-le, length-drop, get_or-drop, get_or_append_left}
+use Rattle.std.proofs.lemmas.List.Folds.{list_any-append}
+use Rattle.std.specs.List.{starts_with, slice_range}
+use Rattle.std.specs.Str.{IsUtf8, IsCharBoundary}
+use Rattle.memchr.specs.Find.{Nowhere, NoneBefore, IsFirst, Passes, is_byte}
+use Rattle.ansi_items.specs.Bytes.{escape}
+use Rattle.ansi_items.specs.Pieces.{Piece, Text, Sequence, LoneEscape, after_text, pieces_of, ArePieces}
+use Rattle.ansi_items.specs.Plain.{plain_of, plain, has_escape}
+use Rattle.ansi_style.specs.declared.state.rendition.Rendition.{Rendition}
+use Rattle.ansi_style.specs.Reading.{after_marks, style_after_from}
+use Rattle.ansi_slice.specs.Positions.{is_char_boundary, is_good_position}
+use Rattle.ansi_slice.specs.Parts.{first_match_from}
+use Rattle.ansi_split.specs.Spans.{IsCutAtMatch}
+use Rattle.ansi_items.proofs.PieceLemmas.{pieces_are, pieces_of-unique}
+use Rattle.ansi_items.proofs.PlainLemmas.{all_plain_bytes, no_escape}
+use Rattle.ansi_items.proofs.JoinLemmas.{after_text_are}
+use Rattle.ansi_style.proofs.MarkLemmas.{marks-bare}
+use Rattle.ansi_slice.proofs.MatchLemmas.{IsMatch, match_fits, first_in_front, is_match-front, first_match_from-is, starts_with-splits}
+use Rattle.ansi_slice.proofs.FindLemmas.{first_match_from-first}
+use Rattle.ansi_slice.specs.Offsets.{bytes_before}
+use Rattle.ansi_slice.proofs.OffsetLemmas.{bytes_before-last}
+use Rattle.ansi_split.proofs.AfterLemmas.{drop-take, is_cut_after}
+use Rattle.ansi_slice.proofs.PositionLemmas.{is_good_position-append, good_is_boundary}
+use Rattle.ansi_split.proofs.SpanLemmas.{is_cut_at_match, match_is_good}
+
+-- A run at the front joins the text after it.
+
+pieces_of-run : (w rest : List ℕ) → w ≢ [] → IsFalse (has_escape w) → pieces_of (w ++ rest) ≡ after_text w (pieces_of rest)
+pieces_of-run w rest filled none = sym (pieces_of-unique (w ++ rest) (after_text w (pieces_of rest)) (after_text_are w rest (pieces_of rest) filled (all_plain_bytes w none) (pieces_are rest)))
+
+plain_of-after_text : (w : List ℕ) (ps : List Piece) → plain_of (after_text w ps) ≡ w ++ plain_of ps
+plain_of-after_text w [] = refl
+plain_of-after_text w (Text v ∷ ps) = append_assoc w v (plain_of ps)
+plain_of-after_text w (Sequence v ∷ ps) = refl
+plain_of-after_text w (LoneEscape ∷ ps) = refl
+
+bytes_before-after_text : (e : ℕ) (w : List ℕ) (ps : List Piece) → e < length w → bytes_before e (after_text w ps) ≡ e
+bytes_before-after_text e w [] inside = bytes_before-last e w [] inside
+bytes_before-after_text e w (Text v ∷ ps) inside = bytes_before-last e (w ++ v) ps (omega (arith, length-append w v))
+bytes_before-after_text e w (Sequence v ∷ ps) inside = bytes_before-last e w (Sequence v ∷ ps) inside
+bytes_before-after_text e w (LoneEscape ∷ ps) inside = bytes_before-last e w (LoneEscape ∷ ps) inside
+
+filled : (w : List ℕ) (k : ℕ) → k < length w → w ≢ []
+filled [] k inside = absurd (omega arith)
+filled (b ∷ w) k inside = λ e. cc
+
+-- The first match from a place on, where it may be looked for from a later one.
+
+first_later : (x p : List ℕ) (from k : ℕ) → from ≤ k → Nowhere (IsMatch x p) from k → first_match_from x p k ≡ first_match_from x p from
+first_later x p from k before none = first_match_from-is x p from (first_match_from x p k) (widened (first_match_from x p k) (first_match_from-first x p k))
+  where
+    not_before : (j : ℕ) → Nowhere (IsMatch x p) k j → Nowhere (IsMatch x p) from j
+    not_before j later i low high match = elim (cases_lt i k) [ inl front ↦ none i low front match | inr after ↦ later i after high match ]
+
+    widened : (r : Option ℕ) → IsFirst (IsMatch x p) k (length x + 1) r → IsFirst (IsMatch x p) from (length x + 1) r
+    widened None later = not_before (length x + 1) later
+    widened (Some m) later =
+        let found : NoneBefore (IsMatch x p) k (length x + 1) m = later.0 in
+        let low : k ≤ m = found.low in
+        (record { low = omega (arith, before, low); high = found.high; before = not_before m found.before }, later.1)
+
+first_again : (x p : List ℕ) (from m : ℕ) → first_match_from x p from ≡ Some m → first_match_from x p m ≡ Some m
+first_again x p from m found =
+    let first = subst (IsFirst (IsMatch x p) from (length x + 1)) found (first_match_from-first x p from) in
+    let one : NoneBefore (IsMatch x p) from (length x + 1) m = first.0 in
+    sym (first_match_from-is x p m (Some m) (record { low = omega arith; high = one.high; before = λ k low high. absurd (omega (arith, low, high)) }, first.1))
+
+-- the first start in a run is the first from there on
+pub start_again : (x p : List ℕ) (from m : ℕ) → first_match_from x p from ≡ Some m → first_match_from x p m ≡ first_match_from x p from
+start_again x p from m found = first_again x p from m found ∙ sym found
+
+-- A match that begins in the run, which is a front of x.
+
+plain-run : (t w rest : List ℕ) → t ≡ w ++ rest → IsFalse (has_escape w) → plain t ≡ w ++ plain rest
+plain-run t [] rest spelled none = ap plain spelled
+plain-run t (b ∷ w) rest spelled none = ap plain spelled ∙ ap plain_of (pieces_of-run (b ∷ w) rest (λ e. cc) none) ∙ plain_of-after_text (b ∷ w) (pieces_of rest)
+
+plain-front : (t w : List ℕ) (run : ℕ) → w ≡ take run t → IsFalse (has_escape (take run t)) → plain t ≡ w ++ plain (drop run t)
+plain-front t w run is none = plain-run t w (drop run t) (sym (ap (λ u. u ++ drop run t) is ∙ take-append-drop run t)) (ap has_escape is ∙ none)
+
+-- a search of the run alone finds it
+pub start_in_run : (t w p : List ℕ) (run from start : ℕ) → w ≡ take run t → IsFalse (has_escape (take run t)) → IsFirst (IsMatch w p) from (length w) (Some start) → first_match_from (plain t) p from ≡ Some start
+start_in_run t w p run from start is none first =
+    let y = plain (drop run t) in
+    let front = first_in_front w y p from start (fits p first) first in
+    let found : NoneBefore (IsMatch (w ++ y) p) from (length w) start = front.0 in
+    let high : start < length w = found.high in
+    ap (λ v. first_match_from v p from) (plain-front t w run is none)
+    ∙ sym (first_match_from-is (w ++ y) p from (Some start) (record { low = found.low; high = omega (arith, high, length-append w y); before = found.before }, front.1))
+  where
+    fits : (q : List ℕ) → IsFirst (IsMatch w q) from (length w) (Some start) → start + length q ≤ length w
+    fits [] one = (let high = one.0.high in omega (arith, high))
+    fits (b ∷ q) one = match_fits w (b ∷ q) start (omega arith) one.1
+
+-- no first byte of p among the last bytes of the run: no match goes on after it
+pub ends_in_run : (w p tail : List ℕ) (first start : ℕ) (r : Option ℕ) → 0 < length p → first ≡ slice_index p 0 → start ≡ length w + 1 - length p → tail ≡ drop start w
+    → IsFirst (Passes (is_byte first) tail) 0 (length tail) r → is_some r ≡ false → (y : List ℕ) (i : ℕ) → i < length w → IsMatch (w ++ y) p i → i + length p ≤ length w
+ends_in_run w p tail first start (Some k) some byte begins is found none = absurd (cc none)
+ends_in_run w p tail first start None some byte begins is found none = λ y i inside match. elim (cases_lt (length w) (i + length p)) [
+  | inl over ↦ (
+      let stands : drop i (w ++ y) ≡ p ++ drop (length p) (drop i (w ++ y))
+      = starts_with-splits (drop i (w ++ y)) p (and_parts (is_char_boundary (w ++ y) i) (starts_with nat_eq (drop i (w ++ y)) p) match).1 in
+      let here : i + 0 ≡ i = omega arith in
+      let sum : start + (i - start) ≡ i = omega (arith, begins, over) in
+      let size : length tail ≡ length w - start = ap length is ∙ length-drop start w in
+      let at : slice_index tail (i - start) ≡ first
+      = ap (λ v. slice_index v (i - start)) is ∙ get_or-drop start w (i - start) 0 ∙ ap (slice_index w) sum
+      ∙ sym (get_or_append_left w y 0 i inside) ∙ ap (slice_index (w ++ y)) (sym here) ∙ sym (get_or-drop i (w ++ y) 0 0)
+      ∙ ap (λ v. slice_index v 0) stands ∙ get_or_append_left p (drop (length p) (drop i (w ++ y))) 0 0 some ∙ sym byte in
+      absurd (found (i - start) (omega arith) (omega (arith, size, sum, inside, begins)) (eq-eqb (slice_index tail (i - start)) first at)))
+  | inr fits ↦ omega (arith, fits)
+]
+
+-- where each match that begins in the run ends in it, and none does from a place on, the first one from there is the first after the run
+pub start_after_run : (t w p : List ℕ) (run from : ℕ) → w ≡ take run t → IsFalse (has_escape (take run t)) → run ≤ length t → from ≤ run
+    → ((y : List ℕ) (i : ℕ) → i < length w → IsMatch (w ++ y) p i → i + length p ≤ length w) → Nowhere (IsMatch w p) from (length w) → first_match_from (plain t) p run ≡ first_match_from (plain t) p from
+start_after_run t w p run from is bare inside before fits none =
+    let y = plain (drop run t) in
+    let x = plain-front t w run is bare in
+    let size : length w ≡ run = ap length is ∙ length-take-le run t inside in
+    ap₂ (λ v k. first_match_from v p k) x (sym size)
+    ∙ first_later (w ++ y) p from (length w) (omega (arith, size, before)) (λ i low high match. none i low high (sym (is_match-front w y p i high (fits y i high match)) ∙ match))
+    ∙ ap (λ v. first_match_from v p from) (sym x)
+
+-- the first match of all, or a place past the end where there is none
+pub first_or_past : (x p : List ℕ) (from past : ℕ) → length x < past → first_match_from x p (unwrap_or (first_match_from x p from) past) ≡ first_match_from x p from
+first_or_past x p from past below = by_match (first_match_from x p from) refl
+  where
+    by_match : (r : Option ℕ) → first_match_from x p from ≡ r → first_match_from x p (unwrap_or r past) ≡ r
+    by_match None none = sym (first_match_from-is x p past None (λ k low high. absurd (omega (arith, low, high, below))))
+    by_match (Some m) found = first_again x p from m found
+
+pub here_or_past : (r : Option ℕ) (past run : ℕ) → run ≤ past → unwrap_or r past < run → r ≡ Some (unwrap_or r past)
+here_or_past None past run top below = absurd (omega (arith, top, below))
+here_or_past (Some m) past run top below = refl
+
+-- A text that is cut in the run at its front.
+
+no_escape-parts : (n : ℕ) (w : List ℕ) → IsFalse (has_escape w) → (has_escape (take n w) ≡ false) × (has_escape (drop n w) ≡ false)
+no_escape-parts n w none = or_parts _ _ (sym (list_any-append (λ b. b == escape) (take n w) (drop n w)) ∙ ap has_escape (take-append-drop n w) ∙ none)
+
+no_escape-take : (t : List ℕ) (start run : ℕ) → start ≤ run → IsFalse (has_escape (take run t)) → has_escape (take start t) ≡ false
+no_escape-take t start run before none = ap has_escape (sym (take-take start run t before)) ∙ (no_escape-parts start (take run t) none).0
+
+pub cut_in_run : (t p : List ℕ) (from run start : ℕ) → IsUtf8 t → IsUtf8 p → run ≤ length t → IsFalse (has_escape (take run t)) → start < run → first_match_from (plain t) p from ≡ Some start
+    → IsCutAtMatch t p from (take start t) (drop start t)
+cut_in_run t p from run start utf8 utf8_p inside none before found =
+    let w = take run t in
+    let rest = drop run t in
+    let size : length w ≡ run = length-take-le run t inside in
+    let pieces : pieces_of t ≡ after_text w (pieces_of rest)
+    = ap pieces_of (sym (take-append-drop run t)) ∙ pieces_of-run w rest (filled w start (omega (arith, size, before))) none in
+    is_cut_at_match t p from start (take start t) (drop start t) utf8 utf8_p found
+    (is_cut_after t start start (sym (ap (bytes_before start) pieces ∙ bytes_before-after_text start w (pieces_of rest) (omega (arith, size, before)))))
+
+pub boundary_in_run : (t p : List ℕ) (from run start : ℕ) → run ≤ length t → IsFalse (has_escape (take run t)) → start < run → first_match_from (plain t) p from ≡ Some start → IsCharBoundary t start
+boundary_in_run t p from run start inside none before found =
+    let w = take run t in
+    let size : length w ≡ run = length-take-le run t inside in
+    let at : start < length w = omega (arith, size, before) in
+    good_is_boundary t start (omega (arith, inside, before))
+    (ap (λ v. is_good_position v start) (sym (take-append-drop run t)) ∙ is_good_position-append w (drop run t) start at
+    ∙ sym (is_good_position-append w (plain (drop run t)) start at) ∙ ap (λ v. is_good_position v start) (sym (plain-front t w run refl none))
+    ∙ match_is_good (plain t) p from start found)
+
+-- nothing in it changes the style
+pub style-run : (c : Rendition) (t : List ℕ) (start run : ℕ) → start ≤ run → IsFalse (has_escape (take run t)) → c ≡ style_after_from c (take start t)
+style-run c t start run before none = sym (ap (after_marks c) (marks-bare (take start t) (no_escape-take t start run before none)))
+
+pub unmarked-run : (t : List ℕ) (start run : ℕ) → start ≤ run → IsFalse (has_escape (take run t)) → false ≡ has_escape (take start t)
+unmarked-run t start run before none = sym (no_escape-take t start run before none)
+
+-- What is left of the run after a place in it.
+
+pub boundary-drop : (t : List ℕ) (place run : ℕ) → place ≤ run → IsCharBoundary t run → IsCharBoundary (drop place t) (run - place)
+boundary-drop t place run before boundary =
+    let size : length (drop place t) ≡ length t - place = length-drop place t in
+    let fits : run ≤ length t = boundary.0 in
+    let sum : place + (run - place) ≡ run = omega (arith, before) in
+    let same : slice_index (drop place t) (run - place) ≡ slice_index t run = get_or-drop place t (run - place) 0 ∙ ap (slice_index t) sum in (
+      omega (arith, size, fits),
+      λ inside high. (
+          let lead : 192 ≤ slice_index t run = boundary.1 (omega (arith, inside, size, before)) (omega (arith, high, same)) in
+          omega (arith, lead, same)),
+    )
+
+pub no_escape-drop : (t : List ℕ) (place run : ℕ) → IsFalse (has_escape (take run t)) → IsFalse (has_escape (take (run - place) (drop place t)))
+no_escape-drop t place run none = ap has_escape (sym (drop-take place run t)) ∙ (no_escape-parts place (take run t) none).1
+
+-- of a run that stands further on, what follows a place in it
+pub no_escape-later : (t : List ℕ) (begin end ahead : ℕ) → IsFalse (has_escape (slice_range t begin end)) → IsFalse (has_escape (take (end - (begin + ahead)) (drop (begin + ahead) t)))
+no_escape-later t begin end ahead none =
+    let size : end - (begin + ahead) ≡ end - begin - ahead = omega arith in
+    ap has_escape (ap₂ (λ n v. take n v) size (sym (drop-drop ahead begin t))) ∙ no_escape-drop (drop begin t) ahead (end - begin) none
+
+-- The first piece, where it is a text.
+pub no_escape-text : (t w : List ℕ) (ps : List Piece) → pieces_of t ≡ Text w ∷ ps → IsFalse (has_escape w)
+no_escape-text t w ps first = no_escape w (subst (ArePieces t) first (pieces_are t)).2.1

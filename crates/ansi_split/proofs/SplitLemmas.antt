@@ -1,0 +1,255 @@
+-- The parts that a split gives: those of the text, each by its index; and a part that is written or borrowed.
+use Rattle.std.proofs.Common.{◌≡◌, ℕ, zero, suc, ◌+◌, ◌≤◌, true, false, not, ◌&&◌, ◌||◌, ◌==◌, List, [], ◌∷◌, ◌++◌, length, map, drop, Option, Some, None, option_map, refl, sym, ◌∙◌, ap, ap₂, arith, IsTrue, IsFalse, if◌then◌else◌, slice_get, append-nil}
+use Rattle.std.proofs.lemmas.Bool.{eqb-true, eq-eqb, ne_eqb, true≢false, cond_both, or_from, and_parts, and_from}
+use Rattle.std.proofs.Math.Bool.{and-false, or-true}
+use Rattle.std.proofs.lemmas.Option.{none-some, same_Some}
+use Rattle.std.proofs.lemmas.List.{drop_all}
+use Rattle.std.proofs.lemmas.List.Folds.{list_any-append}
+use Rattle.std.specs.List.{range_with_len, list_all}
+use Rattle.std.specs.Option.{option_map_or}
+use Rattle.ansi_items.specs.Bytes.{escape}
+use Rattle.ansi_items.specs.Pieces.{Piece, Text, Sequence, LoneEscape, ArePieces, pieces_of}
+use Rattle.ansi_items.specs.Plain.{Mark, plain, marks_of, marks, up_to, has_escape}
+use Rattle.ansi_style.specs.declared.state.rendition.Rendition.{Rendition}
+use Rattle.ansi_style.specs.Rendition.{plain_style, has_any}
+use Rattle.ansi_style.specs.Written.{start, close_if_any}
+use Rattle.ansi_style.specs.Styled.{style_of, style_at}
+use Rattle.ansi_style.specs.Reading.{after_marks, style_within}
+use Rattle.ansi_slice.specs.Cut.{show}
+use Rattle.ansi_slice.specs.Parts.{parts, end_before, past, carried, part_over, part, all_parts, share_over, share, is_borrowed_over, is_part_borrowed}
+use Rattle.ansi_split.specs.Splits.{SplitPart}
+use Rattle.ansi_split.specs.Spans.{part_from, parts_from, parts_left, span_part, span_text, IsWritten, IsBare}
+use Rattle.ansi_items.proofs.PieceLemmas.{pieces_are}
+use Rattle.ansi_items.proofs.PlainLemmas.{no_escape, plain-bare}
+use Rattle.ansi_slice.proofs.SliceLemmas.{slice_range-past}
+use Rattle.ansi_style.proofs.MarkLemmas.{further, marks-bare, marks_of-text, marks_of-sequence, marks_of-lone}
+use Rattle.ansi_slice.proofs.ShowLemmas.{show-bare}
+use Rattle.ansi_style.proofs.UnsetLemmas.{start-unset, close_if_any-unset}
+use Rattle.ansi_split.proofs.IntervalLemmas.{end_after, end_after-suc, end_after-none}
+use Rattle.ansi_split.proofs.PartTextLemmas.{length-parts, parts_over, all_parts-over}
+use Rattle.ansi_split.proofs.AfterLemmas.{up_to-past}
+use Rattle.ansi_split.proofs.SpanLemmas.{own-whole}
+
+-- What a split has left at first are the parts of the text.
+
+pub parts_left-begin : (t p : List ℕ) → parts_left plain_style t p 0 0 ≡ parts_from plain_style t None (parts (plain t) p)
+unfolding parts_left
+parts_left-begin t p = refl
+
+bytes-part_from : (t : List ℕ) (before : Option ℕ) (i : ℕ × ℕ) → (part_from plain_style t before i).bytes ≡ part_over t before i
+unfolding part_from part_over
+bytes-part_from t before i = refl
+
+borrowed-part_from : (t : List ℕ) (before : Option ℕ) (i : ℕ × ℕ) → (part_from plain_style t before i).borrowed ≡ is_borrowed_over t before i
+unfolding part_from is_borrowed_over
+borrowed-part_from t before i = refl
+
+bytes-parts_from : (t : List ℕ) (before : Option ℕ) (is : List (ℕ × ℕ)) → map (λ (q : SplitPart). q.bytes) (parts_from plain_style t before is) ≡ parts_over t before is
+bytes-parts_from t before [] = refl
+bytes-parts_from t before (i ∷ is) = ap₂ (λ u us. u ∷ us) (bytes-part_from t before i) (bytes-parts_from t (Some i.1) is)
+
+pub bytes-parts_left : (t p : List ℕ) → map (λ (q : SplitPart). q.bytes) (parts_left plain_style t p 0 0) ≡ all_parts t p
+bytes-parts_left t p = ap (map (λ (q : SplitPart). q.bytes)) (parts_left-begin t p) ∙ bytes-parts_from t None (parts (plain t) p) ∙ sym (all_parts-over t p)
+
+length-parts_from : (c : Rendition) (t : List ℕ) (before : Option ℕ) (is : List (ℕ × ℕ)) → length (parts_from c t before is) ≡ length is
+length-parts_from c t before [] = refl
+length-parts_from c t before (i ∷ is) = ap suc (length-parts_from c t (Some i.1) is)
+
+pub length-parts_left : (t p : List ℕ) → length (parts_left plain_style t p 0 0) ≤ length (plain t) + 2
+length-parts_left t p = omega (arith, ap length (parts_left-begin t p) ∙ length-parts_from plain_style t None (parts (plain t) p), length-parts (plain t) p)
+
+-- By index.
+
+slice_get-parts_from : (c : Rendition) (t : List ℕ) (before : Option ℕ) (is : List (ℕ × ℕ)) (k : ℕ) → slice_get (parts_from c t before is) k ≡ option_map (part_from c t (end_after before is k)) (slice_get is k)
+slice_get-parts_from c t before [] k = refl
+slice_get-parts_from c t before (i ∷ is) zero = refl
+slice_get-parts_from c t before (i ∷ is) (suc k) =
+    slice_get-parts_from c t (Some i.1) is k ∙ ap (λ b. option_map (part_from c t b) (slice_get is k)) (sym (end_after-suc before i is k))
+
+slice_get-parts_left : (t p : List ℕ) (k : ℕ)
+    → slice_get (parts_left plain_style t p 0 0) k ≡ option_map (part_from plain_style t (end_before (parts (plain t) p) k)) (slice_get (parts (plain t) p) k)
+slice_get-parts_left t p k =
+    let is = parts (plain t) p in
+    ap (λ qs. slice_get qs k) (parts_left-begin t p) ∙ slice_get-parts_from plain_style t None is k
+    ∙ ap (λ b. option_map (part_from plain_style t b) (slice_get is k)) (end_after-none is k)
+
+pub share-part_from : (t : List ℕ) (before : Option ℕ) (i : ℕ × ℕ) → (part_from plain_style t before i).share ≡ share_over t before i
+unfolding part_from share_over
+share-part_from t before i = refl
+
+-- what is read of the part of an index, as of each part by its interval
+read-parts_left : {Y : Type 0} (read : SplitPart → Y) (g : List ℕ → Option ℕ → ℕ × ℕ → Y) (none : Y) → ((t : List ℕ) (before : Option ℕ) (i : ℕ × ℕ) → read (part_from plain_style t before i) ≡ g t before i) → (t p : List ℕ) (k : ℕ)
+    → option_map_or (g t (end_before (parts (plain t) p) k)) (slice_get (parts (plain t) p) k) none ≡ option_map_or read (slice_get (parts_left plain_style t p 0 0) k) none
+read-parts_left read g none same t p k = by_interval (slice_get (parts (plain t) p) k) ∙ ap (λ o. option_map_or read o none) (sym (slice_get-parts_left t p k))
+  where
+    by_interval : (o : Option (ℕ × ℕ)) → option_map_or (g t (end_before (parts (plain t) p) k)) o none ≡ option_map_or read (option_map (part_from plain_style t (end_before (parts (plain t) p) k)) o) none
+    by_interval None = refl
+    by_interval (Some i) = sym (same t (end_before (parts (plain t) p) k) i)
+
+is_part_borrowed-parts_left : (t p : List ℕ) (k : ℕ) → is_part_borrowed t p k ≡ option_map_or (λ (q : SplitPart). q.borrowed) (slice_get (parts_left plain_style t p 0 0) k) false
+is_part_borrowed-parts_left t p k = read-parts_left (λ (q : SplitPart). q.borrowed) is_borrowed_over false borrowed-part_from t p k
+
+share-parts_left : (t p : List ℕ) (k : ℕ) → share t p k ≡ option_map_or (λ (q : SplitPart). q.share) (slice_get (parts_left plain_style t p 0 0) k) 0
+share-parts_left t p k = read-parts_left (λ (q : SplitPart). q.share) share_over 0 share-part_from t p k
+
+-- where h gives of each index, from a on, what f is of the element
+map-by_index : {X Y : Type 0} (f : X → Y) (none : Y) (h : ℕ → Y) (xs : List X) (a : ℕ) → ((j : ℕ) → h (a + j) ≡ option_map_or f (slice_get xs j) none) → map f xs ≡ map h (range_with_len a (length xs))
+map-by_index f none h [] a gives = refl
+map-by_index f none h (x ∷ xs) a gives =
+    let same : a ≡ a + 0 = omega arith in
+    let next : (j : ℕ) → a + 1 + j ≡ a + suc j = λ j. omega arith in
+    ap₂ (λ b bs. b ∷ bs) (sym (ap h same ∙ gives 0)) (map-by_index f none h xs (a + 1) (λ j. ap h (next j) ∙ gives (suc j)))
+
+pub shares-parts_left : (t p : List ℕ) → map (λ (q : SplitPart). q.share) (parts_left plain_style t p 0 0) ≡ map (share t p) (range_with_len 0 (length (parts_left plain_style t p 0 0)))
+shares-parts_left t p =
+    let first : (j : ℕ) → 0 + j ≡ j = λ j. omega arith in
+    map-by_index (λ (q : SplitPart). q.share) 0 (share t p) (parts_left plain_style t p 0 0) 0 (λ j. ap (share t p) (first j) ∙ share-parts_left t p j)
+
+pub borrowed-parts_left : (t p : List ℕ) → map (λ (q : SplitPart). q.borrowed) (parts_left plain_style t p 0 0) ≡ map (is_part_borrowed t p) (range_with_len 0 (length (parts_left plain_style t p 0 0)))
+borrowed-parts_left t p =
+    let first : (j : ℕ) → 0 + j ≡ j = λ j. omega arith in
+    map-by_index (λ (q : SplitPart). q.borrowed) false (is_part_borrowed t p) (parts_left plain_style t p 0 0) 0 (λ j. ap (is_part_borrowed t p) (first j) ∙ is_part_borrowed-parts_left t p j)
+
+-- Where no ESC stands, each part is a borrow.
+
+pub style_at-bare : (t : List ℕ) (i : ℕ) → IsFalse (has_escape t) → style_at t i ≡ plain_style
+style_at-bare t i none = ap (λ ms. style_of (up_to i ms)) (marks-bare t none)
+
+pub carried-bare : (t : List ℕ) (before : Option ℕ) → IsFalse (has_escape t) → carried t before ≡ plain_style
+carried-bare t None none = refl
+carried-bare t (Some e) none = style_at-bare t e none
+
+is_borrowed_over-bare : (t : List ℕ) (before : Option ℕ) (i : ℕ × ℕ) → IsFalse (has_escape t) → is_borrowed_over t before i ≡ true
+unfolding is_borrowed_over
+is_borrowed_over-bare t before i none =
+    ap₂ (λ ms s. length (past before (up_to i.1 ms)) == 0 && (i.0 == i.1 || not (has_any s))) (marks-bare t none) (carried-bare t before none)
+    ∙ or-true (i.0 == i.1)
+
+bare_are_borrowed : (t : List ℕ) (before : Option ℕ) (is : List (ℕ × ℕ)) → IsFalse (has_escape t) → list_all (λ (q : SplitPart). q.borrowed) (parts_from plain_style t before is) ≡ true
+bare_are_borrowed t before [] none = refl
+bare_are_borrowed t before (i ∷ is) none =
+    and_from _ _ (borrowed-part_from t before i ∙ is_borrowed_over-bare t before i none) (bare_are_borrowed t (Some i.1) is none)
+
+pub parts_left-bare : (t p : List ℕ) → IsFalse (has_escape t) → IsTrue (list_all (λ (q : SplitPart). q.borrowed) (parts_left plain_style t p 0 0))
+parts_left-bare t p none = ap (list_all (λ (q : SplitPart). q.borrowed)) (parts_left-begin t p) ∙ bare_are_borrowed t None (parts (plain t) p) none
+
+-- A text without marks has no ESC.
+
+no_escape_after : (t : List ℕ) (ps : List Piece) → ArePieces t ps → marks_of ps ≡ [] → has_escape t ≡ false
+no_escape_after t [] are none = ap has_escape are
+no_escape_after t (Text w ∷ ps) are none =
+    ap has_escape are.1 ∙ list_any-append (λ b. b == escape) w are.0
+    ∙ or_from _ _ (no_escape w are.2.1) (no_escape_after are.0 ps are.3 (no_marks (marks_of ps) (sym (marks_of-text w ps) ∙ none)))
+  where
+    no_marks : (ms : List Mark) → map (further (length w)) ms ≡ [] → ms ≡ []
+    no_marks [] none = refl
+    no_marks (m ∷ ms) none = absurd (cc none)
+no_escape_after t (Sequence w ∷ ps) are none = (let mark = sym (marks_of-sequence w ps) ∙ none in absurd (cc mark))
+no_escape_after t (LoneEscape ∷ ps) are none = (let mark = sym (marks_of-lone ps) ∙ none in absurd (cc mark))
+
+pub escape_is_marked : (t : List ℕ) → has_escape t ≡ true → (length (marks t) == 0) ≡ false
+escape_is_marked t some = by_marks (marks t) (λ none. no_escape_after t (pieces_of t) (pieces_are t) none)
+  where
+    by_marks : (ms : List Mark) → (ms ≡ [] → has_escape t ≡ false) → (length ms == 0) ≡ false
+    by_marks [] bare = absurd (true≢false (sym some ∙ bare refl))
+    by_marks (m ∷ ms) bare = ne_eqb (length (m ∷ ms)) 0 (λ e. omega (arith, e))
+
+-- A part that is all of a text but its first bytes: as it is written,
+
+span_part-else : (c : Rendition) (t : List ℕ) (skip : ℕ) → (skip == length (plain t) && length (marks t) == 0) ≡ false → (span_part c t skip).bytes ≡ span_text c t skip
+unfolding part_from span_text
+span_part-else c t skip filled =
+    let x = plain t in
+    let all : style_within c t (length x) ≡ after_marks c (marks t) = ap (after_marks c) (up_to-past (length x) (pieces_of t) (omega arith)) in
+    let bytes : List Mark → Rendition → List ℕ = λ own last. if skip == length x && length own == 0 then [] else start c ++ show x skip (length x) own ++ close_if_any last in
+    ap₂ bytes (own-whole t) all ∙ ap (λ b. if b then [] else start c ++ show x skip (length x) (marks t) ++ close_if_any (after_marks c (marks t))) filled
+
+span_part-borrowed : (c : Rendition) (t : List ℕ) (skip : ℕ) → (span_part c t skip).borrowed ≡ (length (marks t) == 0 && (skip == length (plain t) || not (has_any c)))
+unfolding part_from
+span_part-borrowed c t skip = ap (λ (own : List Mark). length own == 0 && (skip == length (plain t) || not (has_any c))) (own-whole t)
+
+-- where a sequence stands in it, or it isn't empty and a style is carried,
+
+pub written-escape : (c : Rendition) (t : List ℕ) (skip : ℕ) → has_escape t ≡ true → IsWritten c t skip
+written-escape c t skip some =
+    let marked = escape_is_marked t some in
+    record {
+      bytes = span_part-else c t skip (ap (λ b. skip == length (plain t) && b) marked ∙ and-false (skip == length (plain t)));
+      owned = span_part-borrowed c t skip ∙ ap (λ b. b && (skip == length (plain t) || not (has_any c))) marked;
+    }
+
+pub written-styled : (c : Rendition) (t : List ℕ) (skip : ℕ) → has_escape t ≡ false → (skip == length t) ≡ false → has_any c ≡ true → IsWritten c t skip
+written-styled c t skip none filled any =
+    let more : (skip == length (plain t)) ≡ false = ap (λ x. skip == length x) (plain-bare t none) ∙ filled in
+    record {
+      bytes = span_part-else c t skip (ap (λ b. b && length (marks t) == 0) more);
+      owned = span_part-borrowed c t skip ∙ ap₂ (λ a b. length (marks t) == 0 && (a || not b)) more any ∙ and-false (length (marks t) == 0);
+    }
+
+-- and as it stands in the text, where it is empty or no style is carried.
+
+bare_part : (c : Rendition) (t : List ℕ) (skip : ℕ) → has_escape t ≡ false → (span_part c t skip).bytes ≡ (if skip == length t && true then [] else start c ++ drop skip t ++ close_if_any c)
+unfolding part_from
+bare_part c t skip none =
+    let bytes : List ℕ → List Mark → List ℕ
+    = λ x ms. (let own = past None (up_to (length x) ms) in if skip == length x && length own == 0 then [] else start c ++ show x skip (length x) own ++ close_if_any (after_marks c (up_to (length x) ms))) in
+    ap₂ bytes (plain-bare t none) (marks-bare t none)
+    ∙ ap (λ u. if skip == length t && true then [] else start c ++ u ++ close_if_any c) (show-bare t skip (length t) ∙ slice_range-past t skip (length t) (omega arith))
+
+pub bare-empty : (c : Rendition) (t : List ℕ) (skip : ℕ) → has_escape t ≡ false → skip ≡ length t → IsBare c t skip (drop skip t)
+bare-empty c t skip none end =
+    let same : (skip == length t) ≡ true = eq-eqb skip (length t) end in
+    record {
+      bytes = bare_part c t skip none ∙ ap (λ b. if b && true then [] else start c ++ drop skip t ++ close_if_any c) same ∙ sym (drop_all skip t (omega (arith, end)));
+      borrowed = span_part-borrowed c t skip ∙ ap₂ (λ (ms : List Mark) (x : List ℕ). length ms == 0 && (skip == length x || not (has_any c))) (marks-bare t none) (plain-bare t none)
+          ∙ ap (λ b. b || not (has_any c)) same;
+    }
+
+pub bare-unstyled : (c : Rendition) (t : List ℕ) (skip : ℕ) → has_escape t ≡ false → skip ≤ length t → has_any c ≡ false → IsBare c t skip (drop skip t)
+bare-unstyled c t skip none inside unset =
+    record {
+      bytes = bare_part c t skip none
+          ∙ cond_both (skip == length t && true) [] (start c ++ drop skip t ++ close_if_any c) (λ w. w ≡ drop skip t)
+          (λ empty. sym (drop_all skip t (omega (arith, eqb-true skip (length t) (and_parts (skip == length t) true empty).0))))
+          (λ some. ap₂ (λ u v. u ++ drop skip t ++ v) (start-unset c unset) (close_if_any-unset c unset) ∙ append-nil (drop skip t));
+      borrowed = span_part-borrowed c t skip ∙ ap₂ (λ (ms : List Mark) b. length ms == 0 && (skip == length (plain t) || not b)) (marks-bare t none) unset
+          ∙ or-true (skip == length (plain t));
+    }
+
+-- The part of an index.
+
+pub record IsPartAt (t p : List ℕ) (k : ℕ) (q : SplitPart) : Type 0 where
+  pub interval : ℕ × ℕ
+  pub found : slice_get (parts (plain t) p) k ≡ Some interval
+  pub bytes : part t p k ≡ Some q.bytes
+  pub borrowed : is_part_borrowed t p k ≡ q.borrowed
+  pub share : share t p k ≡ q.share
+  pub bare : IsFalse (has_escape t) → q.borrowed ≡ true
+
+pub part_at : (t p : List ℕ) (k : ℕ) (q : SplitPart) → slice_get (parts_left plain_style t p 0 0) k ≡ Some q → IsPartAt t p k q
+part_at t p k q at = by_interval (slice_get (parts (plain t) p) k) refl
+  where
+    before : Option ℕ
+    before = end_before (parts (plain t) p) k
+
+    by_interval : (o : Option (ℕ × ℕ)) → slice_get (parts (plain t) p) k ≡ o → IsPartAt t p k q
+    by_interval None is = absurd (none-some q (sym (sym at ∙ slice_get-parts_left t p k ∙ ap (option_map (part_from plain_style t before)) is)))
+    by_interval (Some i) is =
+        let same : part_from plain_style t before i ≡ q = same_Some _ q (sym (slice_get-parts_left t p k ∙ ap (option_map (part_from plain_style t before)) is) ∙ at) in
+        let borrowed : is_part_borrowed t p k ≡ q.borrowed
+        = ap (λ o. option_map_or (is_borrowed_over t before) o false) is ∙ sym (borrowed-part_from t before i) ∙ ap (λ (q : SplitPart). q.borrowed) same in
+        record {
+          interval = i;
+          found = is;
+          bytes = ap (option_map (part_over t before)) is ∙ ap Some (sym (bytes-part_from t before i) ∙ ap (λ (q : SplitPart). q.bytes) same);
+          borrowed = borrowed;
+          share = ap (λ o. option_map_or (share_over t before) o 0) is ∙ sym (share-part_from t before i) ∙ ap (λ (q : SplitPart). q.share) same;
+          bare = λ none. sym borrowed ∙ ap (λ o. option_map_or (is_borrowed_over t before) o false) is ∙ is_borrowed_over-bare t before i none;
+        }
+
+pub no_part_at : (t p : List ℕ) (k : ℕ) → slice_get (parts_left plain_style t p 0 0) k ≡ None → slice_get (parts (plain t) p) k ≡ None
+no_part_at t p k none = by_interval (slice_get (parts (plain t) p) k) (sym (slice_get-parts_left t p k) ∙ none)
+  where
+    by_interval : (o : Option (ℕ × ℕ)) → option_map (part_from plain_style t (end_before (parts (plain t) p) k)) o ≡ None → o ≡ None
+    by_interval None is = refl
+    by_interval (Some i) is = absurd (none-some _ (sym is))

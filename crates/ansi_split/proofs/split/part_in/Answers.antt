@@ -1,0 +1,60 @@
+use Rattle.std.proofs.Common.{◌≡◌, inl, inr, Some, option_map, refl, sym, ◌∙◌, ap, slice_get, is_some, true≢false, arith}
+use Rattle.std.proofs.lemmas.Iterator.Consumers.{nth_from_yields_List, YieldsList-from_first}
+use Rattle.ansi_split.specs.declared.split.spans.Span.{Span}
+use Rattle.ansi_style.specs.Rendition.{plain_style}
+use Rattle.ansi_style.specs.States.{rendition_of}
+use Rattle.ansi_split.specs.Splits.{SplitPart}
+use Rattle.ansi_split.specs.Spans.{span_part, parts_left}
+use Rattle.ansi_split.proofs.SplitLemmas.{IsPartAt, part_at, no_part_at}
+use Rattle.ansi_split.proofs.PartLengthLemmas.{share_within}
+use Rattle.ansi_split.proofs.split.part_in.Goals as goal
+
+-- the part that a span is written as
+abbrev written_as : Span → SplitPart
+written_as s = span_part (rendition_of s.carried) s.text.now s.skip
+
+pub returns-in_ok-write-in-Some : goal.returns-in_ok-write-in-Some
+returns-in_ok-write-in-Some g c =
+    let t = c.args.text.now in
+    let p = c.args.pat.now in
+    let at : option_map written_as c.nth.result ≡ slice_get (parts_left plain_style t p 0 0) c.args.index
+    = nth_from_yields_List c.nth.result _ c.args.index c.nth.ensures.ran (YieldsList-from_first written_as (λ s. s) (parts_left plain_style t p 0 0) c.new.ensures) in
+    let part : IsPartAt t p c.args.index (written_as c.in-Some.span) = part_at t p c.args.index (written_as c.in-Some.span) (sym at ∙ ap (option_map written_as) c.in-Some.is) in
+    let written = c.in_ok-write-in-Some.ensures in
+    record {
+      none = (λ e. absurd (true≢false e), λ nothing. sym (ap is_some part.found) ∙ nothing);
+      bytes = part.bytes ∙ ap Some (sym written.bytes);
+      borrowed = (λ borrowed. inr (part.borrowed ∙ written.borrowed.0 borrowed), λ any. written.borrowed.1 (elim any [ inl none ↦ part.bare none | inr borrowed ↦ sym part.borrowed ∙ borrowed ]));
+      len = omega (arith, written.len, part.share);
+      within = share_within t p c.args.index;
+      takes_no_memory = λ _. refl;
+    }
+
+-- a part that is a borrow is never an `Err`
+pub returns-in_err-write-in-Some-clause-takes_no_memory : goal.returns-in_err-write-in-Some-clause-takes_no_memory
+returns-in_err-write-in-Some-clause-takes_no_memory g c =
+    let t = c.args.text.now in
+    let p = c.args.pat.now in
+    let at : option_map written_as c.nth.result ≡ slice_get (parts_left plain_style t p 0 0) c.args.index
+    = nth_from_yields_List c.nth.result _ c.args.index c.nth.ensures.ran (YieldsList-from_first written_as (λ s. s) (parts_left plain_style t p 0 0) c.new.ensures) in
+    let part : IsPartAt t p c.args.index (written_as c.in-Some.span) = part_at t p c.args.index (written_as c.in-Some.span) (sym at ∙ ap (option_map written_as) c.in-Some.is) in
+    λ any. absurd (true≢false (sym (c.in_err-write-in-Some.ensures.takes_no_memory (elim any [
+      | inl none ↦ part.bare none
+      | inr (inl borrowed) ↦ sym part.borrowed ∙ borrowed
+      | inr (inr nothing) ↦ absurd (true≢false (sym (ap is_some part.found) ∙ nothing))
+    ]))))
+
+pub returns-in_err-write-in-Some-clause-within : goal.returns-in_err-write-in-Some-clause-within
+returns-in_err-write-in-Some-clause-within g c = share_within c.args.text.now c.args.pat.now c.args.index
+
+pub returns-in-None-clause-none : goal.returns-in-None-clause-none
+returns-in-None-clause-none g c =
+    let t = c.args.text.now in
+    let p = c.args.pat.now in
+    let at : option_map written_as c.nth.result ≡ slice_get (parts_left plain_style t p 0 0) c.args.index
+    = nth_from_yields_List c.nth.result _ c.args.index c.nth.ensures.ran (YieldsList-from_first written_as (λ s. s) (parts_left plain_style t p 0 0) c.new.ensures) in
+    let none = no_part_at t p c.args.index (sym at ∙ ap (option_map written_as) c.in-None.is) in
+    (λ e. ap is_some none, λ e. refl)
+
+pub returns-in-None-clause-within : goal.returns-in-None-clause-within
+returns-in-None-clause-within g c = share_within c.args.text.now c.args.pat.now c.args.index

@@ -1,0 +1,136 @@
+use Rattle.std.proofs.Common.{rules, ◌≡◌, ◌≢◌, ◌∷◌, ◌++◌, ◌+◌, ◌-◌, Some, length, take, drop, refl, sym, ◌∙◌, ap, ap₂, subst, arith, IsFalse}
+use Rattle.std.proofs.lemmas.Bool.{eqb-true, eqb-false}
+use Rattle.std.proofs.lemmas.Str.{IsCharBoundary-from_rest}
+use Rattle.std.specs.Str.{IsCharBoundary}
+use Rattle.ansi_items.specs.declared.ansitok.Kind.TheVariants.{Sgr}
+use Rattle.ansi_items.specs.Pieces.{Text, pieces_of}
+use Rattle.ansi_items.specs.Plain.{plain_of, plain, has_escape}
+use Rattle.ansi_items.specs.Scans.{pieces_left}
+use Rattle.ansi_style.specs.States.{rendition_of}
+use Rattle.ansi_slice.specs.Parts.{first_match_from}
+use Rattle.ansi_split.specs.Spans.{IsCutAtMatch}
+use Rattle.ansi_items.proofs.StepLemmas.{BeginsWithMark, gives_text, gives_mark}
+use Rattle.ansi_style.proofs.SgrLemmas.{apply-no_sgr}
+use Rattle.ansi_split.proofs.RestLemmas.{boundary-drop, no_escape-later, no_escape-text}
+use Rattle.ansi_split.proofs.MatchWalkLemmas.{walked-begin, walked-text, walked-mark, walked-cut, walked-end, walked-none, walked-empty}
+use Rattle.ansi_split.proofs.split.rest.cut_from.Goals as goal
+use Rattle.ansi_split.proofs.split.rest.cut_from.Goals.{then-is_empty+then-ahead-eq0, else-is_empty, else-is_empty-via-then-is_empty+else-ahead-eq0, else-is_empty-via-else-is_empty}
+
+pub loop-item-init : goal.loop-item-init
+loop-item-init c =
+    let begins : c.into_iter-item-iterator.result ≡ record { text = c.args.text.now; offset = 0 } = c.into_iter-item-iterator.ensures.into_iter_gives ∙ c.new-item-items.ensures.start in
+    record {
+      text = ap (λ s. s.text) begins;
+      so_far = rw begins (walked-begin (rendition_of c.args.style) c.args.text.now c.args.pat.now c.args.from c.args.ahead c.requires);
+    }
+
+-- a text has no ESC
+pub next_start-ahead-requires-clause-plain : goal.next_start-ahead-requires-clause-plain
+next_start-ahead-requires-clause-plain c =
+    let t = c.args.text.now in
+    let gives = c.in-Some.ensures.steps in
+    let w = c.range-piece.result.now in
+    let first : pieces_left c.loop-item.item-iterator ≡ Text w ∷ pieces_left c.next.new.self = gives_text gives c.loop-item.invariant.text c.range-piece.ensures.value c.in-Text.is in
+    let s = c.loop-item.item-iterator in
+    let size : length w ≡ c.in-Some.item.end - c.in-Some.item.start = omega (arith, c.range-piece.ensures.len, gives.forward) in
+    ap has_escape (ap₂ (λ n v. take n v) size c.range_from.ensures.value ∙ sym c.range-piece.ensures.value) ∙ no_escape-text (drop s.offset s.text) w (pieces_left c.next.new.self) first
+
+pub split_at-requires : goal.split_at-requires
+split_at-requires c =
+    let gives = c.in-Some.ensures.steps in
+    IsCharBoundary-from_rest c.args.text.now c.in-Some.item.start c.next_start-ahead.result (omega (arith, gives.start_boundary.0, ap length c.loop-item.invariant.text))
+    (subst (λ v. IsCharBoundary v c.next_start-ahead.result) c.range_from.ensures.value (c.next_start-ahead.ensures.boundary c.if-ahead-piece.true))
+
+-- what is left of the run goes on after the cut
+pub invariant_of-result : goal.invariant_of-result
+invariant_of-result c =
+    let t = c.args.text.now in
+    let gives = c.in-Some.ensures.steps in
+    let w = c.range-piece.result.now in
+    let first : pieces_left c.loop-item.item-iterator ≡ Text w ∷ pieces_left c.next.new.self = gives_text gives c.loop-item.invariant.text c.range-piece.ensures.value c.in-Text.is in
+    let s = c.loop-item.item-iterator in
+    let item = c.in-Some.item in
+    let ahead = c.next_start-ahead.result in
+    let bare : IsFalse (has_escape w) = no_escape-text (drop s.offset s.text) w (pieces_left c.next.new.self) first in
+    rw c.split_at.ensures.back (record {
+      run_ends = boundary-drop t (item.start + ahead) item.end (omega (arith, gives.forward, c.range-piece.ensures.len, c.if-ahead-piece.true)) (subst (λ v. IsCharBoundary v item.end) c.loop-item.invariant.text gives.end_boundary);
+      run_is_plain = no_escape-later t item.start item.end ahead (ap has_escape (sym c.range-piece.ensures.value) ∙ bare);
+    })
+
+-- the match begins in the run
+pub returns-then-ahead-piece : goal.returns-then-ahead-piece
+returns-then-ahead-piece c =
+    let t = c.args.text.now in
+    let gives = c.in-Some.ensures.steps in
+    let w = c.range-piece.result.now in
+    let first : pieces_left c.loop-item.item-iterator ≡ Text w ∷ pieces_left c.next.new.self = gives_text gives c.loop-item.invariant.text c.range-piece.ensures.value c.in-Text.is in
+    let here : plain c.range_from.result.now ≡ w ++ plain_of (pieces_left c.next.new.self)
+    = ap plain_of (ap pieces_of c.range_from.ensures.value ∙ ap₂ (λ n v. pieces_of (drop n v)) gives.start (sym c.loop-item.invariant.text) ∙ first) in
+    let found : first_match_from (w ++ plain_of (pieces_left c.next.new.self)) c.args.pat.now c.loop-item.ahead ≡ Some c.next_start-ahead.result
+    = ap (λ x. first_match_from x c.args.pat.now c.loop-item.ahead) (sym here) ∙ c.next_start-ahead.ensures.here c.if-ahead-piece.true in
+    let cut = walked-cut c.loop-item.invariant.so_far first found c.if-ahead-piece.true (ap (λ n. n + c.next_start-ahead.result) gives.start) c.utf8.text c.utf8.pat in
+    record {
+      rest = rw (c.split_at.ensures.front, c.split_at.ensures.back) cut.0;
+      marked = rw c.split_at.ensures.front cut.1.is_marked;
+      style = rw c.split_at.ensures.front cut.1.is_style;
+    }
+
+-- over a run
+pub loop-item-preserved-in-Text : goal.loop-item-preserved-in-Text
+loop-item-preserved-in-Text c =
+    let t = c.args.text.now in
+    let gives = c.in-Some.ensures.steps in
+    let w = c.range-piece.result.now in
+    let first : pieces_left c.loop-item.item-iterator ≡ Text w ∷ pieces_left c.next.new.self = gives_text gives c.loop-item.invariant.text c.range-piece.ensures.value c.in-Text.is in
+    let here : plain c.range_from.result.now ≡ w ++ plain_of (pieces_left c.next.new.self)
+    = ap plain_of (ap pieces_of c.range_from.ensures.value ∙ ap₂ (λ n v. pieces_of (drop n v)) gives.start (sym c.loop-item.invariant.text) ∙ first) in
+    record {
+      text = gives.text ∙ c.loop-item.invariant.text;
+      so_far = walked-text c.loop-item.invariant.so_far first
+          (subst (λ x. first_match_from x c.args.pat.now c.next_start-ahead.result ≡ first_match_from x c.args.pat.now c.loop-item.ahead) here c.next_start-ahead.ensures.same)
+          c.if-ahead-piece.false (omega (arith, gives.start, gives.end, gives.forward, c.range-piece.ensures.len)) refl;
+    }
+
+-- over an SGR
+pub loop-item-preserved-in-Sgr : goal.loop-item-preserved-in-Sgr
+loop-item-preserved-in-Sgr c =
+    let gives = c.in-Some.ensures.steps in
+    let w = c.range-piece.result.now in
+    let mark : BeginsWithMark c.in-Some.item.kind w (pieces_left c.loop-item.item-iterator) (pieces_left c.next.new.self) = gives_mark gives c.loop-item.invariant.text c.range-piece.ensures.value (search rules) in
+    record {
+      text = gives.text ∙ c.loop-item.invariant.text;
+      so_far = walked-mark c.loop-item.invariant.so_far mark (omega (arith, gives.start, gives.end, gives.forward, c.range-piece.ensures.len)) c.apply.ensures;
+    }
+
+-- over another sequence, or a lone escape
+pub loop-item-preserved : goal.loop-item-preserved
+loop-item-preserved c =
+    let gives = c.in-Some.ensures.steps in
+    let w = c.range-piece.result.now in
+    let mark : BeginsWithMark c.in-Some.item.kind w (pieces_left c.loop-item.item-iterator) (pieces_left c.next.new.self) = gives_mark gives c.loop-item.invariant.text c.range-piece.ensures.value (search rules) in
+    let other : c.in-Some.item.kind ≢ Sgr = search rules in
+    record {
+      text = gives.text ∙ c.loop-item.invariant.text;
+      so_far = walked-mark c.loop-item.invariant.so_far mark (omega (arith, gives.start, gives.end, gives.forward, c.range-piece.ensures.len)) (sym (apply-no_sgr _ w (mark.no_sgr other)));
+    }
+
+-- nothing is left: the pattern stands at the end where it is empty
+pub returns : goal.returns
+returns c =
+    let end = c.in-None.ensures.steps in
+    let so_far = c.loop-item.invariant.so_far in
+    let all : c.loop-item.item-iterator.offset ≡ length c.args.text.now = end.1 ∙ ap length c.loop-item.invariant.text in
+    let front = walked-end so_far end.2 all in
+    record {
+      rest = elim c.if-is_empty.branch [
+        | then-is_empty+then-ahead-eq0 last ↦
+            rw last.rest-is (subst (λ v. IsCutAtMatch c.args.text.now c.args.pat.now c.args.from c.args.text.now v) (sym last.new.ensures)
+            (walked-empty so_far end.2 all (eqb-true _ 0 (sym c.is_empty.ensures ∙ last.if-is_empty.true)) last.if-ahead-eq0.true c.utf8.text c.utf8.pat))
+        | else-is_empty none ↦ rw none.rest-is (elim none.else-is_empty.branch [
+          | else-is_empty-via-then-is_empty+else-ahead-eq0 more ↦ (walked-none so_far end.2 (λ _. more.if-ahead-eq0.false), refl)
+          | else-is_empty-via-else-is_empty some ↦ (walked-none so_far end.2 (λ e. absurd (eqb-false _ 0 (sym c.is_empty.ensures ∙ some.if-is_empty.false) e)), refl)
+        ])
+      ];
+      marked = front.is_marked;
+      style = front.is_style;
+    }

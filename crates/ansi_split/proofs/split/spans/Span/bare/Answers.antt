@@ -1,0 +1,49 @@
+use Rattle.std.proofs.Common.{◌≡◌, ◌≤◌, IsTrue, IsFalse, sym, ◌∙◌, ap, subst, arith, length, false, ◌==◌}
+use Rattle.std.proofs.lemmas.Bool.{and_parts, leb-true, eqb-true, eqb-false, ne_eqb}
+use Rattle.std.proofs.lemmas.List.{length-drop}
+use Rattle.ansi_items.specs.Plain.{has_escape}
+use Rattle.ansi_slice.specs.Positions.{is_char_boundary}
+use Rattle.ansi_style.specs.States.{rendition_of}
+use Rattle.ansi_items.proofs.PlainLemmas.{plain-bare}
+use Rattle.ansi_slice.proofs.PositionLemmas.{good_is_boundary}
+use Rattle.ansi_split.specs.Spans.{IsBare}
+use Rattle.ansi_split.proofs.SplitLemmas.{written-escape, written-styled, bare-empty, bare-unstyled}
+use Rattle.ansi_split.proofs.split.spans.Span.bare.Goals as goal
+use Rattle.ansi_split.proofs.split.spans.Span.bare.Goals.{then-is_empty-via-then-is_empty, then-is_empty-via-else-is_empty+then-not-has_any}
+
+pub returns-then-self : goal.returns-then-self
+returns-then-self c =
+    let s = c.args.self.now in
+    written-escape (rendition_of s.carried) s.text.now s.skip (sym s.marked ∙ c.if-self.true)
+
+-- a text without ESC is its own plain text
+pub range_from-bare-requires : goal.range_from-bare-requires
+range_from-bare-requires c =
+    let s = c.args.self.now in
+    let none : IsFalse (has_escape s.text.now) = sym s.marked ∙ c.if-self.false in
+    let both = and_parts _ _ (subst (λ x. IsTrue (is_char_boundary x s.skip)) (plain-bare s.text.now none) s.skip_is_boundary) in
+    λ some. good_is_boundary s.text.now s.skip (leb-true s.skip (length s.text.now) both.0) both.1
+
+pub returns-then-is_empty : goal.returns-then-is_empty
+returns-then-is_empty c =
+    let s = c.args.self.now in
+    let style = rendition_of s.carried in
+    let none : IsFalse (has_escape s.text.now) = sym s.marked ∙ c.if-self.false in
+    let both = and_parts _ _ (subst (λ x. IsTrue (is_char_boundary x s.skip)) (plain-bare s.text.now none) s.skip_is_boundary) in
+    let inside : s.skip ≤ length s.text.now = leb-true s.skip (length s.text.now) both.0 in
+    subst (IsBare style s.text.now s.skip) (sym c.range_from-bare.ensures.value) (elim c.then-is_empty.branch [
+      | then-is_empty-via-then-is_empty empty ↦ (
+          let nothing : length c.range_from-bare.result.now ≡ 0 = eqb-true _ 0 (sym c.is_empty.ensures ∙ empty.if-is_empty.true) in
+          bare-empty style s.text.now s.skip none (omega (arith, inside, nothing, ap length c.range_from-bare.ensures.value, length-drop s.skip s.text.now)))
+      | then-is_empty-via-else-is_empty+then-not-has_any plain ↦
+          bare-unstyled style s.text.now s.skip none inside (sym plain.has_any.ensures ∙ plain.if-not-has_any.true)
+    ])
+
+pub returns : goal.returns
+returns c =
+    let s = c.args.self.now in
+    let none : IsFalse (has_escape s.text.now) = sym s.marked ∙ c.if-self.false in
+    let filled : (s.skip == length s.text.now) ≡ false
+    = ne_eqb s.skip (length s.text.now) (λ end.
+    omega (arith, end, eqb-false _ 0 (sym c.is_empty.ensures ∙ c.if-is_empty.false), ap length c.range_from-bare.ensures.value, length-drop s.skip s.text.now)) in
+    written-styled (rendition_of s.carried) s.text.now s.skip none filled (sym c.has_any.ensures ∙ c.if-not-has_any.false)

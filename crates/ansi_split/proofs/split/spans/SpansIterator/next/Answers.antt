@@ -1,0 +1,56 @@
+use Rattle.std.proofs.Common.{◌≡◌, ◌≤◌, ℕ, List, ◌∷◌, [], Option, Some, None, sym, ◌∙◌, ap, ap₂, subst, arith, max, length, IsTrue, if◌then◌else◌}
+use Rattle.std.specs.Option.{MatchOption}
+use Rattle.ansi_split.specs.declared.split.rest.Rest.{Rest}
+use Rattle.ansi_items.specs.Plain.{plain}
+use Rattle.ansi_slice.specs.Parts.{first_match_from}
+use Rattle.ansi_slice.specs.Positions.{is_char_boundary}
+use Rattle.ansi_style.specs.Reading.{style_after_from}
+use Rattle.ansi_style.specs.States.{rendition_of}
+use Rattle.ansi_split.specs.Spans.{IsCutAtMatch, span_part, parts_left}
+use Rattle.ansi_split.proofs.SpanLemmas.{parts_left-last, parts_left-first, skip_in_front}
+use Rattle.ansi_split.proofs.split.spans.SpansIterator.next.Goals as goal
+use Rattle.ansi_split.proofs.split.spans.SpansIterator.next.Goals.{in-Some, in-None}
+
+-- where the plain bytes that are left out end, a character of the front does
+skip_in : (t p : List ℕ) (skip from : ℕ) (front : List ℕ) (r : Option Rest) → MatchOption r ((first_match_from (plain t) p from ≡ None) × (front ≡ t)) (λ rest. IsCutAtMatch t p from front rest.text.now)
+    → skip ≤ from → IsTrue (is_char_boundary (plain t) skip) → IsTrue (is_char_boundary (plain front) skip)
+skip_in t p skip from front None all before boundary = subst (λ v. IsTrue (is_char_boundary (plain v) skip)) (sym all.1) boundary
+skip_in t p skip from front (Some rest) cut before boundary = skip_in_front t p skip from front rest.text.now cut before boundary
+
+pub invariant_of-span : goal.invariant_of-span
+invariant_of-span c =
+    let s = c.self.inside in
+    let cut = c.cut_at_match-cut in
+    record {
+      marked = cut.ensures.marked;
+      skip_is_boundary = skip_in s.rest.text.now s.pat.now s.skip s.from cut.result.front.now cut.result.rest cut.ensures.rest c.self.invariant.1 c.self.invariant.0;
+      is_after = cut.ensures.style;
+    }
+
+pub returns-clause-steps : goal.returns-clause-steps
+returns-clause-steps c =
+    let s = c.self.inside in
+    let style = rendition_of s.carried in
+    let t = s.rest.text.now in
+    let p = s.pat.now in
+    let cut = c.cut_at_match-cut in
+    let front = cut.result.front.now in
+    let all = parts_left style t p s.skip s.from in
+    let left : c.args.self.now ≡ all = sym c.self.view_is ∙ ap (λ b. if b then [] else all) c.if-self.false in
+    elim c.match-cut.branch [
+      | in-Some w ↦ (
+          let after = w.in-Some.rest.text.now in
+          let at : IsCutAtMatch t p s.from front after = rw w.in-Some.is at cut.ensures.rest in
+          let later = parts_left (rendition_of cut.result.style) after p (length p) w.max-self-inside.result in
+          let goes_on : parts_left (style_after_from style front) after p (length p) (max (length p) 1) ≡ (if s.finished then [] else later)
+          = ap₂ (λ r n. parts_left r after p (length p) n) (sym cut.ensures.style) (sym w.max-self-inside.ensures) ∙ sym (ap (λ b. if b then [] else later) c.if-self.false) in
+          left ∙ parts_left-first style t p s.skip s.from front after at ∙ ap (λ ps. span_part style front s.skip ∷ ps) (goes_on ∙ sym w.self-is))
+      | in-None w ↦ (
+          let none : (first_match_from (plain t) p s.from ≡ None) × (front ≡ t) = rw w.in-None.is at cut.ensures.rest in
+          left ∙ parts_left-last style t p s.skip s.from none.0 ∙ ap₂ (λ v ps. span_part style v s.skip ∷ ps) (sym none.1) (sym w.self-is))
+    ]
+
+pub returns-clause-goes : goal.returns-clause-goes
+returns-clause-goes c =
+    let fewer = ap length (returns-clause-steps c) in
+    record { on = λ _. (tt, tt, omega (arith, fewer)); keeps = tt; rests = λ _. tt }

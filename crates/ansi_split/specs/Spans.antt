@@ -1,0 +1,76 @@
+-- The parts of a text that is read where a style is already open, and after the match before.
+use Rattle.std.specs.Prelude.{◌≡◌, ℕ, ◌+◌, ◌==◌, true, false, not, ◌&&◌, ◌||◌, List, [], ◌∷◌, ◌++◌, length, map, zip, drop, take, Option, Some, None, if◌then◌else◌, IsTrue}
+use Rattle.std.specs.Option.{option_map_or}
+use Rattle.ansi_style.specs.declared.state.rendition.Rendition.{Rendition}
+use Rattle.ansi_style.specs.Rendition.{has_any}
+use Rattle.ansi_items.specs.Plain.{Mark, plain, marks, up_to}
+use Rattle.ansi_style.specs.Written.{start, close_if_any}
+use Rattle.ansi_style.specs.Reading.{style_after_from, style_within}
+use Rattle.ansi_slice.specs.Cut.{show}
+use Rattle.ansi_slice.specs.Positions.{is_char_boundary}
+use Rattle.ansi_slice.specs.Parts.{match_places, first_match_from, apart, past}
+use Rattle.ansi_split.specs.Splits.{SplitPart}
+
+-- marks with n plain bytes more before each
+abbrev pub further_on : ℕ → List Mark → List Mark
+further_on n ms = map (λ (m : Mark). record m { place = n + m.place }) ms
+
+-- t is cut after its last mark at the position e: what is shown up to there is the front, and what follows is read on from there in the style there
+pub record IsCutAfter (t : List ℕ) (e : ℕ) (front after : List ℕ) : Type 0 where
+  pub plain_front : plain front ≡ take e (plain t)
+  pub marks_front : marks front ≡ up_to e (marks t)
+  pub shown_front : (a : ℕ) → show (plain t) a e (up_to e (marks t)) ≡ show (plain front) a e (marks front)
+  pub plain_after : plain after ≡ drop e (plain t)
+  pub marks_after : past (Some e) (marks t) ≡ further_on e (marks after)
+  pub styles_after_from : (c : Rendition) (i : ℕ) → style_within c t (e + i) ≡ style_within (style_within c t e) after i
+
+-- t is cut after its last mark at the first match of p that doesn't begin before `from`, and a character begins, or the text ends, after the match
+pub record IsCutAtMatch (t p : List ℕ) (from : ℕ) (front after : List ℕ) : Type 0 where
+  pub place : ℕ
+  pub first : first_match_from (plain t) p from ≡ Some place
+  pub cut : IsCutAfter t place front after
+  pub match_end : IsTrue (is_char_boundary (plain after) (length p))
+
+-- the style that is carried after a part that ends at `before`, where c is the style before t
+abbrev pub carried_from : Rendition → List ℕ → Option ℕ → Rendition
+carried_from c t before = option_map_or (style_within c t) before c
+
+-- the part over the interval i of t, after a part that ends at `before`, where c is the style before t
+unfoldable pub part_from : Rendition → List ℕ → Option ℕ → ℕ × ℕ → SplitPart
+part_from c t before i =
+    let own = past before (up_to i.1 (marks t)) in
+    let style = carried_from c t before in
+    record {
+      bytes = if i.0 == i.1 && length own == 0 then [] else start style ++ show (plain t) i.0 i.1 own ++ close_if_any (style_within c t i.1);
+      borrowed = length own == 0 && (i.0 == i.1 || not (has_any style));
+      share = length (show (plain t) i.0 i.1 own);
+    }
+
+-- the parts over intervals of t in order, the first after a part that ends at `before`
+abbrev pub parts_from : Rendition → List ℕ → Option ℕ → List (ℕ × ℕ) → List SplitPart
+parts_from c t before [] = []
+parts_from c t before (i ∷ is) = part_from c t before i ∷ parts_from c t (Some i.1) is
+
+-- the parts left of t, where its first `skip` plain bytes are in none, and the next match stands at or past `from`
+unfoldable pub parts_left : Rendition → List ℕ → List ℕ → ℕ → ℕ → List SplitPart
+parts_left c t p skip from =
+    let taken = apart (length p) from (match_places (plain t) p) in
+    parts_from c t None (zip (skip ∷ map (λ m. m + length p) taken) (taken ++ length (plain t) ∷ []))
+
+-- all of t but its first `skip` plain bytes, with every mark, between the start of c and the close of the style then
+unfoldable pub span_text : Rendition → List ℕ → ℕ → List ℕ
+span_text c t skip = start c ++ show (plain t) skip (length (plain t)) (marks t) ++ close_if_any (style_after_from c t)
+
+-- the part that all of t is, but for its first `skip` plain bytes
+abbrev pub span_part : Rendition → List ℕ → ℕ → SplitPart
+span_part c t skip = part_from c t None (skip, length (plain t))
+
+-- that part has to be written
+pub record IsWritten (c : Rendition) (t : List ℕ) (skip : ℕ) : Type 0 where
+  pub bytes : (span_part c t skip).bytes ≡ span_text c t skip
+  pub owned : (span_part c t skip).borrowed ≡ false
+
+-- that part is u, as it stands in t
+pub record IsBare (c : Rendition) (t : List ℕ) (skip : ℕ) (u : List ℕ) : Type 0 where
+  pub bytes : (span_part c t skip).bytes ≡ u
+  pub borrowed : (span_part c t skip).borrowed ≡ true

@@ -1,0 +1,4 @@
+//! The parts of a text between the matches of a pattern.
+#![tactic(auto)]
+
+pub mod split;

@@ -1,0 +1,120 @@
+//! The parts of a text between the matches of a pattern.
+ghost use Rattle.std.specs.Prelude.{◌≡◌, ◌↔◌, ◌⊎◌, ◌+◌, ◌≤◌, ◌<◌, ◌^◌, Some, length, map, slice_get, IsTrue, IsFalse, IsNone, IsOk, IfOk, IfSome};
+ghost use Rattle.std.specs.List.{range_with_len, list_all, sum_by};
+ghost use Rattle.std.specs.Cow.{cow_str_bytes, IsBorrowedStr};
+ghost use Rattle.ansi_items.specs.Plain.{plain, has_escape};
+ghost use Rattle.ansi_slice.specs.Parts.{parts, part, all_parts, share, is_part_borrowed};
+
+mod rest;
+mod spans;
+
+use crate::split::spans::Spans;
+use std::alloc::{AllocError, Allocator, Global};
+use std::borrow::CowStr;
+use std::marker::Model;
+
+/// The parts of a text between the matches of a pattern, in order: the iterator that
+/// [`AnsiStr::ansi_split`](crate::AnsiStr::ansi_split) makes.
+///
+/// A part with no sequence is a borrow where no style is carried into it or it is empty. Any other
+/// part is owned. An `Err` means that memory is wanting; after it, as after the last part, there is
+/// nothing but `None`. A part lives as long as the text and the pattern, and may outlive the iterator.
+/// (The Rust crate; that an item may be an `Err`, own.)
+///
+/// ```
+/// let text = "\x1b[1mlion,tiger";
+/// let mut lines = String::new(rt.alloc());
+/// for part in text.ansi_split(rt.alloc(), ",") {
+///     lines.push_str(part?.as_str())?;
+///     lines.push('\n')?;
+/// }
+/// assert!(rt; lines.as_str() == "\x1b[1mlion\x1b[22m\n\x1b[1mtiger\x1b[22m\n");
+/// ```
+#[derive(Drop)]
+pub struct AnsiSplit<'a, A: Allocator = Global> {
+    alloc: A,
+    spans: Spans<'a, 'a>,
+}
+
+impl<'a, A: Allocator> Model for AnsiSplit<'a, A> {
+    ghost use Rattle.std.specs.Prelude.{List};
+    ghost use Rattle.ansi_split.specs.Splits.{SplitPart};
+
+    ghost Value = { List SplitPart };
+
+    ghost view = { λ s. s.spans };
+}
+
+/// As [`AnsiStr::ansi_split`](crate::AnsiStr::ansi_split), with parts that live as long as the text and the pattern, and their memory taken from any allocator.
+/// (Own.)
+///
+/// ```
+/// let part = split_in(rt.alloc(), "\x1b[1mlion,tiger", ",").next().ok_or("no part")??;
+/// assert!(rt; part.as_str() == "\x1b[1mlion\x1b[22m");
+/// ```
+pub fn split_in<'a, A: Allocator>(alloc: A, text: &'a str, pat: &'a str) -> AnsiSplit<'a, A>
+    ensures bytes { map (λ p. p.bytes) result ≡ all_parts text.now pat.now }
+    ensures borrowed { map (λ p. p.borrowed) result ≡ map (is_part_borrowed text.now pat.now) (range_with_len 0 (length result)) }
+    ensures len { length result ≤ length (plain text.now) + 2 }
+    ensures fits { length result < 2 ^ 64 }
+    ensures shares { map (λ p. p.share) result ≡ map (share text.now pat.now) (range_with_len 0 (length result)) }
+    ensures within { sum_by (λ p. p.share) result ≤ length text.now }
+    ensures takes_no_memory { IsFalse (has_escape text.now) → IsTrue (list_all (λ p. p.borrowed) result) }
+{
+    AnsiSplit {
+        alloc,
+        spans: Spans::new(text, pat),
+    }
+}
+
+impl<'a, A: Allocator + Copy> Iterator for AnsiSplit<'a, A> {
+    ghost use Rattle.std.specs.Iterator.{item_count};
+    ghost use Rattle.ansi_split.specs.Splits.{GivesPart};
+
+    type Item = Result<CowStr<'a, A>, AllocError>;
+
+    ghost next_gives = { GivesPart };
+
+    ghost remaining = { item_count (λ s. s) };
+
+    /// The next part, or `None` after the last one and after an `Err`, then and ever after.
+    fn next(&mut self) -> Option<Result<CowStr<'a, A>, AllocError>> {
+        let span = self.spans.next()?;
+        let part = span.write(self.alloc);
+        if part.is_err() {
+            self.spans.finish();
+        }
+        Some(part)
+    }
+}
+
+/// The part of an index, counted from 0, of those that [`split_in`] gives, with an answer that lives
+/// as long as the text. The parts before it aren't written.
+///
+/// It is `None` exactly where there are not so many parts. It is a borrow where no ESC stands in the
+/// text, or where the part is one that `split_in` borrows. Then no memory is taken, and none for a
+/// `None`. Else it is owned. `Err` means that memory is wanting. (Own.)
+///
+/// ```
+/// let part = part_in(rt.alloc(), "\x1b[1mlion,tiger", ",", 1)?.ok_or("no part")?;
+/// assert!(rt; part.as_str() == "\x1b[1mtiger\x1b[22m");
+/// assert!(rt; part_in(rt.alloc(), "lion,tiger", ",", 2)?.is_none());
+/// ```
+pub fn part_in<'t, A: Allocator>(
+    alloc: A,
+    text: &'t str,
+    pat: &str,
+    index: usize,
+) -> Result<Option<CowStr<'t, A>>, AllocError>
+    ensures none { IfOk result (λ o. IsNone o ↔ IsNone (slice_get (parts (plain text.now) pat.now) index)) }
+    ensures bytes { IfOk result (λ o. IfSome o (λ c. part text.now pat.now index ≡ Some (cow_str_bytes c))) }
+    ensures borrowed { IfOk result (λ o. IfSome o (λ c. IsBorrowedStr c ↔ (IsFalse (has_escape text.now) ⊎ IsTrue (is_part_borrowed text.now pat.now index)))) }
+    ensures len { IfOk result (λ o. IfSome o (λ c. length (cow_str_bytes c) ≤ share text.now pat.now index + 251)) }
+    ensures within { share text.now pat.now index ≤ length text.now }
+    ensures takes_no_memory { IsFalse (has_escape text.now) ⊎ IsTrue (is_part_borrowed text.now pat.now index) ⊎ IsNone (slice_get (parts (plain text.now) pat.now) index) → IsOk result }
+{
+    match Spans::new(text, pat).nth(index) {
+        Some(span) => Ok(Some(span.write(alloc)?)),
+        None => Ok(None),
+    }
+}

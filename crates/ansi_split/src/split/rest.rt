@@ -1,0 +1,160 @@
+//! What is left of a text that is split.
+ghost use Rattle.std.specs.Prelude.{◌≡◌, ℕ, List, ◌++◌, ◌<◌, ◌≤◌, ◌+◌, length, take, drop, None, Some, IsFalse, IsTrue};
+ghost use Rattle.std.specs.Option.{MatchOption};
+ghost use Rattle.std.specs.Str.{IsCharBoundary};
+ghost use Rattle.ansi_items.specs.Plain.{plain, has_escape};
+ghost use Rattle.ansi_slice.specs.Parts.{is_match, first_match_from};
+ghost use Rattle.ansi_style.specs.Reading.{style_after_from};
+ghost use Rattle.ansi_style.specs.States.{rendition_of};
+ghost use Rattle.ansi_split.specs.Spans.{IsCutAtMatch};
+
+use ansi_items::ansitok::{Kind, Scanner};
+use ansi_slice::search;
+use ansi_style::state::Style;
+use ansi_style::styles;
+use memchr::memchr;
+
+/// A text in two at the first match of a pattern.
+#[derive(Drop)]
+pub(super) struct Cut<'t> {
+    /// What stands before the match, with every sequence up to there; without a match, all of the text.
+    pub(super) front: &'t str,
+    /// Whether an ESC stands in the front.
+    pub(super) is_marked: bool,
+    /// The style after the front.
+    pub(super) style: Style,
+    /// The match and all that follows.
+    pub(super) rest: Option<Rest<'t>>,
+}
+
+/// What is left of a text, and how many bytes at its front are known to be plain. So where a run has
+/// many matches, its end isn't looked for at each of them.
+#[derive(Drop)]
+pub(super) struct Rest<'t> {
+    text: &'t str,
+    run: usize,
+    ghost run_ends: { IsCharBoundary text.now run },
+    ghost run_is_plain: { IsFalse (has_escape (take run text.now)) },
+}
+
+impl<'t> Rest<'t> {
+    /// All of the text, of which nothing is known.
+    pub(super) fn new(text: &'t str) -> Self
+        ensures { result.text.now ≡ text.entry.now }
+    {
+        Rest { text, run: 0 }
+    }
+
+    /// The text in two at the first match that doesn't begin before `from`, read on from a style.
+    pub(super) fn cut_at_match(&self, pat: &str, from: usize, style: Style) -> Cut<'t>
+        ensures rest { MatchOption result.rest ((first_match_from (plain self.now.text.now) pat.now from ≡ None) × (result.front.now ≡ self.now.text.now))
+            (λ rest. IsCutAtMatch self.now.text.now pat.now from result.front.now rest.text.now) }
+        ensures marked { result.is_marked ≡ has_escape result.front.now }
+        ensures style { rendition_of result.style ≡ style_after_from (rendition_of style) result.front.now }
+    {
+        let start = next_start(self.text, self.run, pat, from);
+        if start < self.run {
+            let (front, text) = self.text.split_at(start);
+            let run = self.run - start;
+            return Cut {
+                front,
+                is_marked: false,
+                style,
+                rest: Some(Rest { text, run }),
+            };
+        }
+        cut_from(self.text, pat, from, start, style)
+    }
+}
+
+/// The same, by a walk over the items, where no match begins before `ahead`.
+fn cut_from<'t>(
+    text: &'t str,
+    pat: &str,
+    from: usize,
+    mut ahead: usize,
+    mut style: Style,
+) -> Cut<'t>
+    requires { first_match_from (plain text.now) pat.now ahead ≡ first_match_from (plain text.now) pat.now from }
+    ensures rest { MatchOption result.rest ((first_match_from (plain text.now) pat.now from ≡ None) × (result.front.now ≡ text.now))
+        (λ rest. IsCutAtMatch text.now pat.now from result.front.now rest.text.now) }
+    ensures marked { result.is_marked ≡ has_escape result.front.now }
+    ensures style { rendition_of result.style ≡ style_after_from (rendition_of style) result.front.now }
+{
+    let mut is_marked = false;
+    // `ahead` counts plain bytes of what is left.
+    for item in Scanner::new(text) {
+        let piece = &text[item.start..item.end];
+        match item.kind {
+            Kind::Text => {
+                ahead = next_start(&text[item.start..], piece.len(), pat, ahead);
+                if ahead < piece.len() {
+                    let offset = item.start + ahead;
+                    let (front, rest) = text.split_at(offset);
+                    let run = item.end - offset;
+                    return Cut {
+                        front,
+                        is_marked,
+                        style,
+                        rest: Some(Rest { text: rest, run }),
+                    };
+                }
+                ahead -= piece.len();
+            }
+            Kind::Sgr => {
+                styles::apply(&mut style, piece);
+                is_marked = true;
+            }
+            Kind::Other | Kind::Lone => is_marked = true,
+        }
+    }
+    // At the end stands the empty pattern alone.
+    let rest = if pat.is_empty() && ahead == 0 {
+        Some(Rest::new(""))
+    } else {
+        None
+    };
+    Cut {
+        front: text,
+        is_marked,
+        style,
+        rest,
+    }
+}
+
+/// From where on the first match is still to be looked for that doesn't begin before `from`, once the run
+/// at the front of a text was searched. Where that is in the run, the match begins there.
+fn next_start(text: &str, run: usize, pat: &str, from: usize) -> usize
+    requires ends { IsCharBoundary text.now run }
+    requires plain { IsFalse (has_escape (take run text.now)) }
+    ensures same { first_match_from (plain text.now) pat.now result ≡ first_match_from (plain text.now) pat.now from }
+    ensures here { result < run → first_match_from (plain text.now) pat.now from ≡ Some result }
+    ensures boundary { result < run → IsCharBoundary text.now result }
+    ensures cut { result < run → IsCutAtMatch text.now pat.now from (take result text.now) (drop result text.now) }
+{
+    if run <= from {
+        return from;
+    }
+    let (front, _) = text.split_at(run);
+    if let Some(start) = search::first_in_run(front, pat, from) {
+        return start;
+    }
+    if may_go_on(front, pat) {
+        // No position of a text lies past this one, so it stands for no match.
+        return search::find_from(text, pat, from).unwrap_or(usize::MAX);
+    }
+    run
+}
+
+/// Whether a match may begin in a run and go on after it: whether the pattern's first byte is one of the
+/// run's last bytes, where too few follow for a match.
+fn may_go_on(run: &str, pat: &str) -> bool
+    ensures { IsFalse result → (y : List ℕ) (i : ℕ) → i < length run.now → IsTrue (is_match (run.now ++ y) pat.now i) → i + length pat.now ≤ length run.now }
+{
+    let Some(first) = pat.as_bytes().first() else {
+        return false;
+    };
+    let bytes = run.as_bytes();
+    let start = (bytes.len() + 1).saturating_sub(pat.len());
+    memchr(*first, &bytes[start..]).is_some()
+}

@@ -1,0 +1,216 @@
+//! The stretches of a text that its parts are written from.
+ghost use Rattle.std.specs.Prelude.{◌≡◌, ◌↔◌, ◌≤◌, ◌+◌, ◌++◌, length, IsTrue, IsOk, IfOk, OnOk, string_bytes};
+ghost use Rattle.std.specs.Cow.{cow_str_bytes, IsBorrowedStr};
+ghost use Rattle.ansi_items.specs.Plain.{plain, marks, has_escape};
+ghost use Rattle.ansi_slice.specs.Cut.{show};
+ghost use Rattle.ansi_slice.specs.Positions.{is_char_boundary};
+ghost use Rattle.ansi_style.specs.Reading.{style_after_from};
+ghost use Rattle.ansi_style.specs.States.{rendition_of};
+
+use crate::split::rest::Rest;
+use ansi_items::ansitok::{Kind, Scanner};
+use ansi_style::state::Style;
+use ansi_style::styles;
+use std::alloc::{AllocError, Allocator};
+use std::borrow::CowStr;
+use std::marker::Model;
+
+/// How many bytes most starts have, and most closes.
+const START_ROOM: usize = 24;
+
+const CLOSE_ROOM: usize = 16;
+
+/// What one part is written from.
+#[derive(Drop)]
+pub(super) struct Span<'t> {
+    /// The text from the match before up to after the last sequence at the end of the part.
+    text: &'t str,
+    /// Whether an ESC stands in it.
+    is_marked: bool,
+    /// How many plain bytes of it are in no part: those of the match before.
+    skip: usize,
+    /// The style that the parts before leave open.
+    carried: Style,
+    /// The style after the text.
+    after: Style,
+    ghost marked: { is_marked ≡ has_escape text.now },
+    ghost skip_is_boundary: { IsTrue (is_char_boundary (plain text.now) skip) },
+    ghost is_after: { rendition_of after ≡ style_after_from (rendition_of carried) text.now },
+}
+
+impl<'t> Span<'t> {
+    ghost use Rattle.std.specs.Prelude.{true, false};
+    ghost use Rattle.std.specs.Option.{MatchOption};
+    ghost use Rattle.ansi_style.specs.States.{rendition_of};
+    ghost use Rattle.ansi_split.specs.Spans.{span_part, span_text, IsWritten, IsBare};
+
+    /// The part: a borrow where no sequence stands in it and no style has to be written.
+    pub(super) fn write<A: Allocator>(&self, alloc: A) -> Result<CowStr<'t, A>, AllocError>
+        ensures bytes { IfOk result (λ c. cow_str_bytes c ≡ (span_part (rendition_of self.now.carried) self.now.text.now self.now.skip).bytes) }
+        ensures borrowed { IfOk result (λ c. IsBorrowedStr c ↔ IsTrue (span_part (rendition_of self.now.carried) self.now.text.now self.now.skip).borrowed) }
+        ensures len { IfOk result (λ c. length (cow_str_bytes c) ≤ (span_part (rendition_of self.now.carried) self.now.text.now self.now.skip).share + 251) }
+        ensures takes_no_memory { IsTrue (span_part (rendition_of self.now.carried) self.now.text.now self.now.skip).borrowed → IsOk result }
+    {
+        match self.bare() {
+            Some(bare) => Ok(CowStr::Borrowed(bare)),
+            None => Ok(CowStr::Owned(self.written(alloc)?)),
+        }
+    }
+
+    /// The part as it stands in the text, where no sequence stands in it, and it is empty or no style
+    /// is carried.
+    fn bare(&self) -> Option<&'t str>
+        ensures { MatchOption result (IsWritten (rendition_of self.now.carried) self.now.text.now self.now.skip)
+            (λ bare. IsBare (rendition_of self.now.carried) self.now.text.now self.now.skip bare.now) }
+    {
+        if self.is_marked {
+            return None;
+        }
+        let bare = &self.text[self.skip..];
+        if bare.is_empty() || !styles::has_any(&self.carried) {
+            return Some(bare);
+        }
+        None
+    }
+
+    /// The part, written: the start of the style that is carried, the text with its sequences, and the
+    /// close of the style then, where that has any.
+    fn written<A: Allocator>(&self, alloc: A) -> Result<String<A>, AllocError>
+        ensures { IfOk result (λ s. string_bytes s ≡ span_text (rendition_of self.now.carried) self.now.text.now self.now.skip) }
+    {
+        let mut part = String::with_capacity(alloc, self.room())?;
+        styles::write_start(&self.carried, &mut part)?;
+        self.write_text(&mut part)?;
+        if styles::has_any(&self.after) {
+            styles::write_close(&self.after, &mut part)?;
+        }
+        Ok(part)
+    }
+
+    /// How much memory the part takes, where its start and its close have the usual lengths.
+    fn room(&self) -> usize {
+        let mut room = self.text.len().saturating_sub(self.skip);
+        if styles::has_any(&self.carried) {
+            room = room.saturating_add(START_ROOM);
+        }
+        if styles::has_any(&self.after) {
+            room = room.saturating_add(CLOSE_ROOM);
+        }
+        room
+    }
+
+    /// Appends the text with its sequences, but for the plain bytes that are left out. An `Err` means that
+    /// memory is wanting; what was appended up to there stands.
+    fn write_text<A: Allocator>(&self, part: &mut String<A>) -> Result<(), AllocError>
+        ensures { OnOk result (string_bytes part.new ≡ string_bytes part.old ++ show (plain self.now.text.now) self.now.skip (length (plain self.now.text.now)) (marks self.now.text.now)) }
+    {
+        let mut skip = self.skip;
+        for item in Scanner::new(self.text) {
+            let piece = &self.text[item.start..item.end];
+            if item.kind == Kind::Text {
+                if skip <= piece.len() {
+                    // What follows is written as it stands.
+                    part.push_str(&self.text[item.start + skip..])?;
+                    return Ok(());
+                }
+                skip -= piece.len();
+            } else {
+                part.push_str(piece)?;
+            }
+        }
+        Ok(())
+    }
+}
+
+/// The spans of a text between the matches of a pattern, in order: an iterator that takes no memory.
+#[derive(Drop)]
+pub(super) struct Spans<'t, 'p> {
+    /// What is left of the text: the match before and all after it.
+    rest: Rest<'t>,
+    pat: &'p str,
+    /// How many plain bytes of `rest` are in no part: those of the match before.
+    skip: usize,
+    /// The least place in `rest` at which the next match may stand.
+    from: usize,
+    /// The style that the parts before leave open.
+    carried: Style,
+    finished: bool,
+}
+
+impl<'t, 'p> Model for Spans<'t, 'p> {
+    ghost use Rattle.std.specs.Prelude.{◌≤◌, List, [], if◌then◌else◌, IsTrue};
+    ghost use Rattle.ansi_items.specs.Plain.{plain};
+    ghost use Rattle.ansi_slice.specs.Positions.{is_char_boundary};
+    ghost use Rattle.ansi_style.specs.States.{rendition_of};
+    ghost use Rattle.ansi_split.specs.Splits.{SplitPart};
+    ghost use Rattle.ansi_split.specs.Spans.{parts_left};
+
+    ghost Value = { List SplitPart };
+
+    ghost view = { λ s. if s.finished then [] else parts_left (rendition_of s.carried) s.rest.text.now s.pat.now s.skip s.from };
+
+    ghost invariant = { λ s. IsTrue (is_char_boundary (plain s.rest.text.now) s.skip) × (s.skip ≤ s.from) };
+}
+
+impl<'t, 'p> Spans<'t, 'p> {
+    ghost use Rattle.std.specs.Prelude.{◌≡◌, []};
+    ghost use Rattle.ansi_style.specs.Rendition.{plain_style};
+    ghost use Rattle.ansi_split.specs.Spans.{parts_left};
+
+    /// The spans of all parts of the text.
+    pub(super) fn new(text: &'t str, pat: &'p str) -> Self
+        ensures { result ≡ parts_left plain_style text.now pat.now 0 0 }
+    {
+        Spans {
+            rest: Rest::new(text),
+            pat,
+            skip: 0,
+            from: 0,
+            carried: styles::plain_style(),
+            finished: false,
+        }
+    }
+
+    /// Leaves nothing.
+    pub(super) fn finish(&mut self)
+        ensures { self.new ≡ [] }
+    {
+        self.finished = true;
+    }
+}
+
+impl<'t, 'p> Iterator for Spans<'t, 'p> {
+    ghost use Rattle.std.specs.Iterator.{YieldsFirstBy, item_count};
+    ghost use Rattle.ansi_style.specs.States.{rendition_of};
+    ghost use Rattle.ansi_split.specs.Spans.{span_part};
+
+    type Item = Span<'t>;
+
+    ghost next_gives = { YieldsFirstBy (λ s. span_part (rendition_of s.carried) s.text.now s.skip) (λ s. s) };
+
+    ghost remaining = { item_count (λ s. s) };
+
+    fn next(&mut self) -> Option<Span<'t>> {
+        if self.finished {
+            return None;
+        }
+        let cut = self.rest.cut_at_match(self.pat, self.from, self.carried);
+        let span = Span {
+            text: cut.front,
+            is_marked: cut.is_marked,
+            skip: self.skip,
+            carried: self.carried,
+            after: cut.style,
+        };
+        match cut.rest {
+            Some(rest) => {
+                self.rest = rest;
+                self.skip = self.pat.len();
+                self.from = self.pat.len().max(1);
+                self.carried = cut.style;
+            }
+            None => self.finished = true,
+        }
+        Some(span)
+    }
+}
