@@ -95,7 +95,8 @@ impl fmt::Display for AnsiSequenceEnd<'_> {
     ghost output = { λ s. Some (close_if_any s) };
 
     fn fmt<W: fmt::Write>(&self, f: &mut fmt::Formatter<W>) -> fmt::Result {
-        if self.0.has_any() {
+        let ends = self.0.has_any();
+        if ends {
             Close(self.0).fmt(f)?;
         }
         Ok(())
@@ -214,9 +215,10 @@ fn write_when<W: fmt::Write>(f: &mut fmt::Formatter<W>, is_set: bool, sequence: 
     ensures { WritesOnOk W.write_str_gives f.old result (if is_set then sequence.now else []) f.new }
 {
     if is_set {
-        f.write_str(sequence)?;
+        f.write_str(sequence)
+    } else {
+        Ok(())
     }
-    Ok(())
 }
 
 /// Writes the codes of the colors that there are.
