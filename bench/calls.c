@@ -3,6 +3,8 @@
    them. A time is the shortest of some runs. Ends with 1 where a growth is above 12: an input eight times
    as long may take at most one and a half times eight times as long, with room for noise; and where a search
    for a long pattern takes more than 4 times as long as one for `xyz`. */
+#include "lengths.h"
+
 #include <stddef.h>
 #include <stdint.h>
 #include <stdio.h>
@@ -10,25 +12,13 @@
 #include <string.h>
 #include <time.h>
 
-size_t ansi_bench_strip(const uint8_t *, size_t);
-size_t ansi_bench_cut(const uint8_t *, size_t, size_t, size_t);
-size_t ansi_bench_starts_with(const uint8_t *, size_t, const uint8_t *, size_t);
-size_t ansi_bench_ends_with(const uint8_t *, size_t, const uint8_t *, size_t);
-size_t ansi_bench_strip_prefix(const uint8_t *, size_t, const uint8_t *, size_t);
-size_t ansi_bench_strip_suffix(const uint8_t *, size_t, const uint8_t *, size_t);
-size_t ansi_bench_trim(const uint8_t *, size_t);
-size_t ansi_bench_find(const uint8_t *, size_t, const uint8_t *, size_t);
-size_t ansi_bench_split(const uint8_t *, size_t, const uint8_t *, size_t);
-size_t ansi_bench_std_split(const uint8_t *, size_t, const uint8_t *, size_t);
-size_t ansi_bench_blocks(const uint8_t *, size_t);
-
 enum { LONG = 1 << 20, SHORT = 1 << 17, RUNS = 15, MOST = 12, MOST_OF_SHORT = 4 };
 
 /* a text, its plain text, and a pattern to be searched */
 struct text {
-    uint8_t *bytes, *plain;
+    char *bytes, *plain;
     size_t len, plain_len;
-    const uint8_t *pattern;
+    const char *pattern;
     size_t pattern_len;
 };
 
@@ -84,10 +74,10 @@ void *__wrap_realloc(void *old, size_t size) {
 }
 
 /* so that the copy isn't left out */
-static volatile uint8_t last;
+static volatile char last;
 
 static size_t copy(const struct text *t) {
-    uint8_t *other = malloc(t->len);
+    char *other = malloc(t->len);
     if (other == NULL) {
         return SIZE_MAX;
     }
@@ -97,33 +87,31 @@ static size_t copy(const struct text *t) {
     return t->len;
 }
 
-static size_t strip(const struct text *t) { return ansi_bench_strip(t->bytes, t->len); }
-static size_t cut(const struct text *t) { return ansi_bench_cut(t->bytes, t->len, 1, t->len); }
+static size_t strip(const struct text *t) { return len_of(ansi_str_strip(t->bytes, t->len, NULL, 0)); }
+static size_t cut(const struct text *t) { return len_of(ansi_str_cut(t->bytes, t->len, 1, t->len, NULL, 0)); }
 static size_t starts_with(const struct text *t) {
-    return ansi_bench_starts_with(t->bytes, t->len, t->pattern, t->pattern_len);
+    return ansi_str_starts_with(t->bytes, t->len, t->pattern, t->pattern_len).status == ANSI_STR_OK ? 0 : SIZE_MAX;
 }
 static size_t ends_with(const struct text *t) {
-    return ansi_bench_ends_with(t->bytes, t->len, t->pattern, t->pattern_len);
+    return ansi_str_ends_with(t->bytes, t->len, t->pattern, t->pattern_len).status == ANSI_STR_OK ? 0 : SIZE_MAX;
 }
 static size_t strip_prefix(const struct text *t) {
-    return ansi_bench_strip_prefix(t->bytes, t->len, t->pattern, t->pattern_len);
+    return len_of(ansi_str_strip_prefix(t->bytes, t->len, t->pattern, t->pattern_len, NULL, 0));
 }
 static size_t strip_suffix(const struct text *t) {
-    return ansi_bench_strip_suffix(t->bytes, t->len, t->pattern, t->pattern_len);
+    return len_of(ansi_str_strip_suffix(t->bytes, t->len, t->pattern, t->pattern_len, NULL, 0));
 }
-static size_t trim(const struct text *t) { return ansi_bench_trim(t->bytes, t->len); }
+static size_t trim(const struct text *t) { return len_of(ansi_str_trim(t->bytes, t->len, NULL, 0)); }
 static size_t find(const struct text *t) {
-    return ansi_bench_find(t->bytes, t->len, t->pattern, t->pattern_len);
+    return len_of(ansi_str_find(t->bytes, t->len, t->pattern, t->pattern_len));
 }
-static size_t find_absent(const struct text *t) { return find(t) == SIZE_MAX ? 0 : SIZE_MAX; }
+static size_t find_absent(const struct text *t) {
+    return ansi_str_find(t->bytes, t->len, t->pattern, t->pattern_len).status == ANSI_STR_NO ? 0 : SIZE_MAX;
+}
 static size_t split(const struct text *t) {
-    return ansi_bench_split(t->bytes, t->len, t->pattern, t->pattern_len);
+    return count_of(ansi_str_split(t->bytes, t->len, t->pattern, t->pattern_len, NULL, 0, NULL, 0));
 }
-/* std's split, of the plain text */
-static size_t std_split(const struct text *t) {
-    return ansi_bench_std_split(t->plain, t->plain_len, t->pattern, t->pattern_len);
-}
-static size_t blocks(const struct text *t) { return ansi_bench_blocks(t->bytes, t->len); }
+static size_t blocks(const struct text *t) { return count_of(ansi_str_blocks(t->bytes, t->len, NULL, 0, NULL, 0)); }
 
 /* appends a piece, and its plain bytes, while it fits into so many bytes */
 static void append(struct text *t, const char *piece, size_t limit) {
@@ -131,11 +119,11 @@ static void append(struct text *t, const char *piece, size_t limit) {
     while (len > 0 && t->len + len <= limit) {
         int in_sequence = 0;
         for (size_t i = 0; i < len; i++) {
-            t->bytes[t->len++] = (uint8_t)piece[i];
+            t->bytes[t->len++] = piece[i];
             if (piece[i] == '\x1b') {
                 in_sequence = 1;
             } else if (!in_sequence) {
-                t->plain[t->plain_len++] = (uint8_t)piece[i];
+                t->plain[t->plain_len++] = piece[i];
             } else if (piece[i] == 'm') {
                 in_sequence = 0;
             }
@@ -144,7 +132,7 @@ static void append(struct text *t, const char *piece, size_t limit) {
 }
 
 static struct text made(const struct input *input, size_t limit) {
-    static uint8_t bytes[LONG], plain[LONG];
+    static char bytes[LONG], plain[LONG];
     struct text t = {bytes, plain, 0, 0, plain, 0};
     if (input == &FIELDS) {
         bytes[0] = '\x1b';
@@ -181,7 +169,7 @@ static void set_pattern(const struct call *call, struct text *t) {
         t->pattern_len = half;
         break;
     case WORD:
-        t->pattern = (const uint8_t *)call->word;
+        t->pattern = call->word;
         t->pattern_len = strlen(call->word);
         break;
     }
@@ -237,7 +225,7 @@ int main(void) {
     static const struct input *const SEARCHED[] = {&LOG, &SHORT_SEQUENCES, NULL};
     static const struct input *const ENDED[] = {&MARKED, NULL};
     static const struct input *const HOSTILE[] = {&SHORT_SEQUENCES, &LETTERS, NULL};
-    static const struct input *const PARTED[] = {&LOG, &WORDS, NULL};
+    static const struct input *const PARTED[] = {&PLAIN, &LOG, &WORDS, NULL};
     static const struct input *const WALKED[] = {&LOG, &SHORT_SEQUENCES, &TAIL, NULL};
     static const struct call COPY = {"copy", copy, NONE, NULL};
     static const struct call SCANS[] = {{"strip", strip, NONE, NULL}, {"cut", cut, NONE, NULL}};
@@ -252,7 +240,7 @@ int main(void) {
     static const struct call FIND_LONG[] = {
         {"find, 256 x", find_absent, WORD, X64 X64 X64 X64},
         {"find, 255 a, b", find_absent, WORD, A64 A64 A64 A16 A16 A16 "aaaaaaaaaaaaaaa" "b"}};
-    static const struct call SPLITS[] = {{"split", split, WORD, " "}, {"std's split", std_split, WORD, " "}};
+    static const struct call SPLIT = {"split", split, WORD, " "};
     static const struct call BLOCKS = {"blocks", blocks, NONE, NULL};
     int above = 0;
     printf("%-16s %-28s %12s %12s %8s %8s %12s\n", "call", "input", "1 MiB", "128 KiB", "growth",
@@ -279,9 +267,7 @@ int main(void) {
             }
         }
     }
-    for (size_t i = 0; i < sizeof SPLITS / sizeof SPLITS[0]; i++) {
-        above |= rows(&SPLITS[i], PARTED);
-    }
+    above |= rows(&SPLIT, PARTED);
     above |= rows(&BLOCKS, WALKED);
     if (above) {
         fprintf(stderr, "a growth is above %d\n", MOST);

@@ -1,6 +1,9 @@
 /* Makes every call on hostile texts and says how long the worst takes: on all texts of up to six of eight
-   pieces, and on 1 MiB of each hostile kind. Ends with 1 where a call takes more than a second on 1 MiB, or
-   where a cut, a part or both sides are longer than their bound. A call that doesn't return is ended by an alarm. */
+   pieces, and on 1 MiB of each hostile kind. Ends with 1 where a call takes more than a second on 1 MiB, or one that
+   lists all parts or blocks more than two, or where a cut, a part or both sides are longer than their bound. A call
+   that doesn't return is ended by an alarm. */
+#include "lengths.h"
+
 #include <signal.h>
 #include <stddef.h>
 #include <stdint.h>
@@ -10,27 +13,10 @@
 #include <time.h>
 #include <unistd.h>
 
-size_t ansi_bench_strip(const uint8_t *, size_t);
-size_t ansi_bench_cut(const uint8_t *, size_t, size_t, size_t);
-size_t ansi_bench_split_at(const uint8_t *, size_t, size_t);
-size_t ansi_bench_starts_with(const uint8_t *, size_t, const uint8_t *, size_t);
-size_t ansi_bench_ends_with(const uint8_t *, size_t, const uint8_t *, size_t);
-size_t ansi_bench_strip_prefix(const uint8_t *, size_t, const uint8_t *, size_t);
-size_t ansi_bench_strip_suffix(const uint8_t *, size_t, const uint8_t *, size_t);
-size_t ansi_bench_trim(const uint8_t *, size_t);
-size_t ansi_bench_find(const uint8_t *, size_t, const uint8_t *, size_t);
-size_t ansi_bench_split(const uint8_t *, size_t, const uint8_t *, size_t);
-size_t ansi_bench_part(const uint8_t *, size_t, const uint8_t *, size_t, size_t);
-size_t ansi_bench_edit(const uint8_t *, size_t, size_t);
-size_t ansi_bench_is_char_boundary(const uint8_t *, size_t, size_t);
-size_t ansi_bench_has_any(const uint8_t *, size_t);
-size_t ansi_bench_is_whole(const uint8_t *, size_t);
-size_t ansi_bench_blocks(const uint8_t *, size_t);
-
-enum { LONG = 1 << 20, PIECES = 6, CLOSE = 88, START_AND_CLOSE = 251, MOST_SECONDS = 1, ALARM = 60 };
+enum { LONG = 1 << 20, PIECES = 6, CLOSE = 88, START_AND_CLOSE = 251, MOST_SECONDS = 1, MOST_OF_LIST = 2, ALARM = 60 };
 
 struct bytes {
-    const uint8_t *at;
+    const char *at;
     size_t len;
 };
 
@@ -38,40 +24,64 @@ struct bytes {
 struct call {
     const char *name;
     size_t (*run)(struct bytes text, size_t position, struct bytes pattern);
-    int has_position, has_pattern;
+    int has_position, has_pattern, is_list;
 };
 
-#define POSITION(name) \
-    static size_t name(struct bytes t, size_t n, struct bytes p) { (void)p; return ansi_bench_##name(t.at, t.len, n); }
-#define PATTERN(name) \
+/* a call that gives a text, or one that answers a question or a position */
+#define TEXT(name, ...) \
     static size_t name(struct bytes t, size_t n, struct bytes p) { \
         (void)n; \
-        return ansi_bench_##name(t.at, t.len, p.at, p.len); \
+        (void)p; \
+        return len_of(ansi_str_##name(t.at, t.len, ##__VA_ARGS__, NULL, 0)); \
     }
-#define ALONE(name) \
-    static size_t name(struct bytes t, size_t n, struct bytes p) { (void)n; (void)p; return ansi_bench_##name(t.at, t.len); }
+#define QUESTION(name, ...) \
+    static size_t name(struct bytes t, size_t n, struct bytes p) { \
+        (void)n; \
+        (void)p; \
+        return len_of(ansi_str_##name(t.at, t.len, ##__VA_ARGS__)); \
+    }
 
-ALONE(strip) ALONE(trim) ALONE(has_any) ALONE(is_whole) ALONE(blocks)
-POSITION(split_at) POSITION(edit) POSITION(is_char_boundary)
-PATTERN(starts_with) PATTERN(ends_with) PATTERN(strip_prefix) PATTERN(strip_suffix) PATTERN(find) PATTERN(split)
+TEXT(strip) TEXT(trim) TEXT(strip_prefix, p.at, p.len) TEXT(strip_suffix, p.at, p.len) TEXT(part, p.at, p.len, n)
+QUESTION(has_any) QUESTION(is_whole) QUESTION(is_char_boundary, n)
+QUESTION(starts_with, p.at, p.len) QUESTION(ends_with, p.at, p.len) QUESTION(find, p.at, p.len)
 
 /* from a position to the end, and from the start to a position */
 static size_t cut_from(struct bytes t, size_t n, struct bytes p) {
     (void)p;
-    return ansi_bench_cut(t.at, t.len, n, SIZE_MAX);
+    return len_of(ansi_str_cut(t.at, t.len, n, SIZE_MAX, NULL, 0));
 }
 static size_t cut_to(struct bytes t, size_t n, struct bytes p) {
     (void)p;
-    return ansi_bench_cut(t.at, t.len, 0, n);
+    return len_of(ansi_str_cut(t.at, t.len, 0, n, NULL, 0));
 }
-static size_t part(struct bytes t, size_t n, struct bytes p) { return ansi_bench_part(t.at, t.len, p.at, p.len, n); }
+/* both sides, together */
+static size_t sides(struct bytes t, size_t n, struct bytes p) {
+    (void)p;
+    size_t left = len_of(ansi_str_left(t.at, t.len, n, NULL, 0));
+    size_t right = len_of(ansi_str_right(t.at, t.len, n, NULL, 0));
+    return left == SIZE_MAX || right == SIZE_MAX ? SIZE_MAX : left + right;
+}
+static size_t edit(struct bytes t, size_t n, struct bytes p) {
+    (void)p;
+    const ansi_str_edit_step edits[] = {ansi_str_edit_right(n), ansi_str_edit_trim()};
+    return len_of(ansi_str_edit(t.at, t.len, edits, 2, NULL, 0));
+}
+static size_t split(struct bytes t, size_t n, struct bytes p) {
+    (void)n;
+    return count_of(ansi_str_split(t.at, t.len, p.at, p.len, NULL, 0, NULL, 0));
+}
+static size_t blocks(struct bytes t, size_t n, struct bytes p) {
+    (void)n;
+    (void)p;
+    return count_of(ansi_str_blocks(t.at, t.len, NULL, 0, NULL, 0));
+}
 
 static const struct call CALLS[] = {
-    {"strip", strip, 0, 0}, {"trim", trim, 0, 0}, {"has_any", has_any, 0, 0}, {"is_whole", is_whole, 0, 0},
-    {"blocks", blocks, 0, 0}, {"cut from", cut_from, 1, 0}, {"cut to", cut_to, 1, 0}, {"split_at", split_at, 1, 0},
-    {"edit", edit, 1, 0}, {"is_char_boundary", is_char_boundary, 1, 0}, {"starts_with", starts_with, 0, 1},
-    {"ends_with", ends_with, 0, 1}, {"strip_prefix", strip_prefix, 0, 1}, {"strip_suffix", strip_suffix, 0, 1},
-    {"find", find, 0, 1}, {"split", split, 0, 1}, {"part", part, 1, 1},
+    {"strip", strip, 0, 0, 0}, {"trim", trim, 0, 0, 0}, {"has_any", has_any, 0, 0, 0}, {"is_whole", is_whole, 0, 0, 0},
+    {"blocks", blocks, 0, 0, 1}, {"cut from", cut_from, 1, 0, 0}, {"cut to", cut_to, 1, 0, 0}, {"both sides", sides, 1, 0, 0},
+    {"edit", edit, 1, 0, 0}, {"is_char_boundary", is_char_boundary, 1, 0, 0}, {"starts_with", starts_with, 0, 1, 0},
+    {"ends_with", ends_with, 0, 1, 0}, {"strip_prefix", strip_prefix, 0, 1, 0}, {"strip_suffix", strip_suffix, 0, 1, 0},
+    {"find", find, 0, 1, 0}, {"split", split, 0, 1, 1}, {"part", part, 1, 1, 0},
 };
 enum { CALL_COUNT = sizeof CALLS / sizeof CALLS[0] };
 
@@ -113,10 +123,10 @@ static struct worst measured(const struct call *call, struct bytes t, size_t pos
 static int is_short(struct bytes t, size_t len, size_t more) { return len == SIZE_MAX || len <= t.len + more; }
 
 static int is_bounded(struct bytes t, size_t position, struct bytes p) {
-    size_t runs = ansi_bench_blocks(t.at, t.len);
+    size_t runs = blocks(t, position, p);
     return is_short(t, cut_from(t, position, p), CLOSE) && is_short(t, cut_to(t, position, p), CLOSE) &&
            is_short(t, part(t, position, p), START_AND_CLOSE) &&
-           is_short(t, split_at(t, position, p), START_AND_CLOSE * (runs + 1));
+           is_short(t, sides(t, position, p), START_AND_CLOSE * (runs + 1));
 }
 
 static const size_t POSITIONS[] = {0, 1, 2, SIZE_MAX};
@@ -129,7 +139,7 @@ static int all_calls(struct bytes t, const struct bytes *patterns, const char *c
         for (size_t i = 0; i < (CALLS[c].has_position ? POSITION_COUNT : 1); i++) {
             for (size_t k = 0; k < (CALLS[c].has_pattern ? count : 1); k++) {
                 struct worst w = measured(&CALLS[c], t, POSITIONS[i], patterns[k], names[k]);
-                if (w.seconds > MOST_SECONDS) {
+                if (w.seconds > (CALLS[c].is_list ? MOST_OF_LIST : MOST_SECONDS)) {
                     printf("    %s, pattern %s, position %zu: %.3f s\n", w.call, w.pattern, w.position, w.seconds);
                     fails = 1;
                 }
@@ -153,14 +163,13 @@ static int short_texts(void) {
     static const char *const ALPHABET[] = {"\x1b", "[", "]", "1", "m", "\\", "a", "\xc3\xa9"};
     enum { LETTERS = sizeof ALPHABET / sizeof ALPHABET[0] };
     static const char *const NAMES[] = {"empty", "a", "1m"};
-    static const struct bytes PATTERNS[] = {
-        {(const uint8_t *)"", 0}, {(const uint8_t *)"a", 1}, {(const uint8_t *)"1m", 2}};
+    static const struct bytes PATTERNS[] = {{"", 0}, {"a", 1}, {"1m", 2}};
     struct worst worst = {0, "-", "-", 0};
     size_t count = 0, of_length = 1;
     int fails = 0;
     for (int length = 0; length <= PIECES; length++, of_length *= LETTERS) {
         for (size_t n = 0; n < of_length; n++) {
-            uint8_t text[2 * PIECES];
+            char text[2 * PIECES];
             struct bytes t = {text, 0};
             size_t left = n;
             for (int i = 0; i < length; i++, left /= LETTERS) {
@@ -207,7 +216,7 @@ static const struct kind KINDS[] = {
 };
 
 static struct bytes made(const struct kind *kind) {
-    static uint8_t text[LONG];
+    static char text[LONG];
     struct bytes t = {text, strlen(kind->front)};
     size_t len = strlen(kind->piece);
     memcpy(text, kind->front, t.len);
@@ -221,12 +230,12 @@ static struct bytes made(const struct kind *kind) {
 static int long_texts(int has_long_patterns) {
     enum { MANY = 255, HALF = LONG / 8 };
     static const char *const NAMES[] = {"empty", "a", "ESC", "255 a, b", "131,072 a", "131,072 a, b"};
-    static uint8_t letters[HALF + 1], many[MANY + 1];
+    static char letters[HALF + 1], many[MANY + 1];
     memset(letters, 'a', HALF);
     letters[HALF] = 'b';
     memset(many, 'a', MANY);
     many[MANY] = 'b';
-    const struct bytes patterns[] = {{letters, 0},        {letters, 1},    {(const uint8_t *)"\x1b", 1},
+    const struct bytes patterns[] = {{letters, 0},        {letters, 1},    {"\x1b", 1},
                                      {many, sizeof many}, {letters, HALF}, {letters, sizeof letters}};
     int fails = 0;
     printf("%-32s %-16s %-14s %12s %12s\n", "1 MiB of", "worst call", "pattern", "position", "time");

@@ -1,44 +1,54 @@
 /* once CALL FILE RUNS: reads the file and makes the call on its bytes so many times. Ends with 1 where the
-   call isn't one of these, where the file can't be read, or where the call answers SIZE_MAX. */
+   call isn't one of these, where the file can't be read, or where the call answers no length. */
+#include "lengths.h"
+
 #include <stddef.h>
 #include <stdint.h>
 #include <stdio.h>
 #include <stdlib.h>
 #include <string.h>
 
-size_t ansi_bench_strip(const uint8_t *, size_t);
-size_t ansi_bench_cut(const uint8_t *, size_t, size_t, size_t);
-size_t ansi_bench_split_at(const uint8_t *, size_t, size_t);
-size_t ansi_bench_starts_with(const uint8_t *, size_t, const uint8_t *, size_t);
-size_t ansi_bench_ends_with(const uint8_t *, size_t, const uint8_t *, size_t);
-size_t ansi_bench_strip_prefix(const uint8_t *, size_t, const uint8_t *, size_t);
-size_t ansi_bench_strip_suffix(const uint8_t *, size_t, const uint8_t *, size_t);
-size_t ansi_bench_trim(const uint8_t *, size_t);
-size_t ansi_bench_find(const uint8_t *, size_t, const uint8_t *, size_t);
-size_t ansi_bench_split(const uint8_t *, size_t, const uint8_t *, size_t);
-size_t ansi_bench_blocks(const uint8_t *, size_t);
-
 struct text {
-    uint8_t *bytes;
+    char *bytes;
     size_t len, plain_len;
     /* the first and the last byte of the plain text */
-    uint8_t first, last;
+    char first, last;
 };
 
-static size_t strip(const struct text *t) { return ansi_bench_strip(t->bytes, t->len); }
-static size_t cut_front(const struct text *t) { return ansi_bench_cut(t->bytes, t->len, 0, t->plain_len / 2); }
+static size_t strip(const struct text *t) { return len_of(ansi_str_strip(t->bytes, t->len, NULL, 0)); }
+static size_t cut_front(const struct text *t) {
+    return len_of(ansi_str_cut(t->bytes, t->len, 0, t->plain_len / 2, NULL, 0));
+}
 static size_t cut_middle(const struct text *t) {
-    return ansi_bench_cut(t->bytes, t->len, t->plain_len / 3, t->plain_len / 3 * 2);
+    return len_of(ansi_str_cut(t->bytes, t->len, t->plain_len / 3, t->plain_len / 3 * 2, NULL, 0));
 }
-static size_t split_at(const struct text *t) { return ansi_bench_split_at(t->bytes, t->len, t->plain_len / 2); }
+static size_t left(const struct text *t) {
+    return len_of(ansi_str_left(t->bytes, t->len, t->plain_len / 2, NULL, 0));
+}
+static size_t right(const struct text *t) {
+    return len_of(ansi_str_right(t->bytes, t->len, t->plain_len / 2, NULL, 0));
+}
 static size_t find_absent(const struct text *t) {
-    return ansi_bench_find(t->bytes, t->len, (const uint8_t *)"absent", 6) == SIZE_MAX ? 0 : SIZE_MAX;
+    return ansi_str_find(t->bytes, t->len, "absent", 6).status == ANSI_STR_NO ? 0 : SIZE_MAX;
 }
-static size_t trim(const struct text *t) { return ansi_bench_trim(t->bytes, t->len); }
-static size_t strip_prefix(const struct text *t) { return ansi_bench_strip_prefix(t->bytes, t->len, &t->first, 1); }
-static size_t strip_suffix(const struct text *t) { return ansi_bench_strip_suffix(t->bytes, t->len, &t->last, 1); }
-static size_t split(const struct text *t) { return ansi_bench_split(t->bytes, t->len, (const uint8_t *)" ", 1); }
-static size_t blocks(const struct text *t) { return ansi_bench_blocks(t->bytes, t->len); }
+static size_t trim(const struct text *t) { return len_of(ansi_str_trim(t->bytes, t->len, NULL, 0)); }
+static size_t strip_prefix(const struct text *t) {
+    return len_of(ansi_str_strip_prefix(t->bytes, t->len, &t->first, 1, NULL, 0));
+}
+static size_t strip_suffix(const struct text *t) {
+    return len_of(ansi_str_strip_suffix(t->bytes, t->len, &t->last, 1, NULL, 0));
+}
+static size_t split(const struct text *t) {
+    return count_of(ansi_str_split(t->bytes, t->len, " ", 1, NULL, 0, NULL, 0));
+}
+/* a walk over all blocks, which looks for one past the last */
+static size_t blocks(const struct text *t) {
+    return ansi_str_block(t->bytes, t->len, SIZE_MAX, NULL, 0).status == ANSI_STR_NO ? 0 : SIZE_MAX;
+}
+/* all blocks with their styles, in a list */
+static size_t block_list(const struct text *t) {
+    return count_of(ansi_str_blocks(t->bytes, t->len, NULL, 0, NULL, 0));
+}
 
 struct call {
     const char *name;
@@ -46,9 +56,9 @@ struct call {
 };
 
 static const struct call CALLS[] = {
-    {"strip", strip},     {"cut_front", cut_front}, {"cut_middle", cut_middle}, {"split_at", split_at},
-    {"trim", trim},       {"find", find_absent},    {"split", split},           {"blocks", blocks},
-    {"strip_prefix", strip_prefix}, {"strip_suffix", strip_suffix},
+    {"strip", strip}, {"cut_front", cut_front}, {"cut_middle", cut_middle}, {"left", left},
+    {"right", right}, {"trim", trim}, {"strip_prefix", strip_prefix}, {"strip_suffix", strip_suffix},
+    {"find", find_absent}, {"split", split}, {"blocks", blocks}, {"block_list", block_list},
 };
 
 static int is_read(struct text *t, const char *name) {
@@ -68,10 +78,10 @@ int main(int count, char **words) {
     if (count != 4 || !is_read(&t, words[2])) {
         return 1;
     }
-    t.plain_len = ansi_bench_strip(t.bytes, t.len);
-    for (uint8_t byte = 1; byte < 0x80; byte++) {
-        t.first = ansi_bench_starts_with(t.bytes, t.len, &byte, 1) == 1 ? byte : t.first;
-        t.last = ansi_bench_ends_with(t.bytes, t.len, &byte, 1) == 1 ? byte : t.last;
+    t.plain_len = strip(&t);
+    for (char byte = 1; byte < 0x7f; byte++) {
+        t.first = ansi_str_starts_with(t.bytes, t.len, &byte, 1).status == ANSI_STR_OK ? byte : t.first;
+        t.last = ansi_str_ends_with(t.bytes, t.len, &byte, 1).status == ANSI_STR_OK ? byte : t.last;
     }
     for (size_t i = 0; i < sizeof CALLS / sizeof CALLS[0]; i++) {
         if (strcmp(CALLS[i].name, words[1]) == 0) {

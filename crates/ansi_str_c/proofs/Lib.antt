@@ -1,2 +1,3 @@
 pub mod Utf8Lemmas
 pub mod StepLemmas
+pub mod ListLemmas

@@ -1,13 +1,13 @@
 //! Edits in turn.
-ghost use Rattle.std.specs.Prelude.{◌≡◌, ◌⊎◌, ◌∷◌, map, IfOk, MatchOption, true, false};
+ghost use Rattle.std.specs.Prelude.{◌≡◌, ◌⊎◌, ◌∷◌, [], map, IfOk, MatchOption, true, false};
 ghost use Rattle.std.specs.List.{list_all};
 ghost use Rattle.std.specs.Str.{is_utf8};
 ghost use Rattle.ansi_str.specs.Edited.{edited};
 ghost use Rattle.ansi_str.specs.Edits.{change_of, changes_of};
-ghost use Rattle.ansi_str_c.specs.Answers.{refused, not_utf8, out_of_memory, OnUtf8, HasFailed, IsFound};
+ghost use Rattle.ansi_str_c.specs.Answers.{no, refused, not_utf8, out_of_memory, OnUtf8, HasFailed, IsFound, GivesEdited};
 ghost use Rattle.ansi_str_c.specs.Steps.{change_of_step, patterns_of};
 
-use crate::answers::{Answer, NOT_UTF8, OUT_OF_MEMORY, REFUSED};
+use crate::answers::{Answer, NO, NOT_UTF8, OUT_OF_MEMORY, REFUSED};
 use crate::texts::write_edited;
 use ansi_str::Edit;
 use std::alloc::{AllocError, Global};
@@ -19,11 +19,11 @@ const LEFT: u32 = 1;
 
 const RIGHT: u32 = 2;
 
-const PART: u32 = 3;
+pub(crate) const PART: u32 = 3;
 
-const PREFIX: u32 = 4;
+pub(crate) const PREFIX: u32 = 4;
 
-const SUFFIX: u32 = 5;
+pub(crate) const SUFFIX: u32 = 5;
 
 const TRIM: u32 = 6;
 
@@ -55,6 +55,23 @@ pub extern "C" fn ansi_str_raw_edit(
         Ok(None) => Answer::failed(NOT_UTF8),
         Err(_) => Answer::failed(OUT_OF_MEMORY),
     }
+}
+
+/// Writes what one step makes of a text, or answers that its pattern isn't there or has no such part.
+pub(crate) fn write_step(
+    alloc: Global,
+    text: &[u8],
+    step: &EditStep<'_>,
+    buffer: &mut [u8],
+) -> Answer
+    ensures { OnUtf8 (step.now.pattern.now ∷ text.now ∷ [])
+        (GivesEdited no (change_of_step step.now ∷ []) text.now result buffer.old buffer.new)
+        (HasFailed not_utf8 result buffer.old buffer.new) }
+{
+    let Ok(pat) = str::from_utf8(step.pattern) else {
+        return Answer::failed(NOT_UTF8);
+    };
+    write_edited(alloc, text, &[edit_of(step, pat)], NO, buffer)
 }
 
 /// The edits that steps are, or `None` where a pattern isn't UTF-8.

@@ -6,6 +6,7 @@ ghost use Rattle.ansi_str.specs.Edits.{changes_of};
 ghost use Rattle.ansi_str_c.specs.Answers.{no, refused, not_utf8, OnUtf8, HasFailed, Gives, GivesEdited};
 
 use crate::answers::{Answer, NO, NOT_UTF8, OUT_OF_MEMORY, REFUSED, write};
+use crate::edits::{EditStep, PART, PREFIX, SUFFIX, write_step};
 use ansi_str::{AnsiStr, Edit, edit};
 use std::alloc::Global;
 use std::str;
@@ -98,10 +99,13 @@ pub extern "C" fn ansi_str_raw_strip_prefix(
         (GivesEdited no (WithoutPrefix pattern.now ∷ []) text.now result buffer.old buffer.new)
         (HasFailed not_utf8 result buffer.old buffer.new) }
 {
-    let Ok(prefix) = str::from_utf8(pattern) else {
-        return Answer::failed(NOT_UTF8);
+    let step = EditStep {
+        kind: PREFIX,
+        first: 0,
+        second: 0,
+        pattern,
     };
-    write_edited(alloc, text, &[Edit::Prefix(prefix)], NO, buffer)
+    write_step(alloc, text, &step, buffer)
 }
 
 /// The text without a suffix.
@@ -116,10 +120,13 @@ pub extern "C" fn ansi_str_raw_strip_suffix(
         (GivesEdited no (WithoutSuffix pattern.now ∷ []) text.now result buffer.old buffer.new)
         (HasFailed not_utf8 result buffer.old buffer.new) }
 {
-    let Ok(suffix) = str::from_utf8(pattern) else {
-        return Answer::failed(NOT_UTF8);
+    let step = EditStep {
+        kind: SUFFIX,
+        first: 0,
+        second: 0,
+        pattern,
     };
-    write_edited(alloc, text, &[Edit::Suffix(suffix)], NO, buffer)
+    write_step(alloc, text, &step, buffer)
 }
 
 /// The part of an index between the matches of a pattern.
@@ -135,10 +142,13 @@ pub extern "C" fn ansi_str_raw_part(
         (GivesEdited no (PartOf pattern.now index ∷ []) text.now result buffer.old buffer.new)
         (HasFailed not_utf8 result buffer.old buffer.new) }
 {
-    let Ok(pat) = str::from_utf8(pattern) else {
-        return Answer::failed(NOT_UTF8);
+    let step = EditStep {
+        kind: PART,
+        first: index,
+        second: 0,
+        pattern,
     };
-    write_edited(alloc, text, &[Edit::Part { pat, index }], NO, buffer)
+    write_step(alloc, text, &step, buffer)
 }
 
 /// Writes what edits make of a text, or answers a status where one is refused.

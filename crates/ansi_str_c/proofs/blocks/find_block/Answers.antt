@@ -1,11 +1,8 @@
-use Rattle.std.proofs.Common.{rules, ◌≡◌, ◌∙◌, arith, ℕ, zero, suc, ◌-◌, ◌<◌, List, ◌∷◌, Bool, true, false, ◌&&◌, Some, Result, Ok, slice_get, subst, IsTrue}
+use Rattle.std.proofs.Common.{rules, ◌≡◌, ◌∙◌, arith, ℕ, zero, suc, ◌-◌, ◌<◌, List, ◌∷◌, Bool, true, false, ◌&&◌, slice_get, IsTrue}
 use Rattle.std.specs.List.{list_all}
-use Rattle.ansi_str.specs.Blocks.{Block, GivesBlock}
+use Rattle.ansi_str.specs.Blocks.{Block}
+use Rattle.ansi_str_c.proofs.ListLemmas.{block-taken}
 use Rattle.ansi_str_c.proofs.blocks.find_block.Goals as goal
-
--- a block was taken off those that were left
-taken : {E : Type 0} {xs us : List Block} {r : Result Block E} {x : Block} → GivesBlock xs (Some r) us → r ≡ Ok x → xs ≡ x ∷ us
-taken {E} {xs} {us} gives is = subst (λ r. GivesBlock {E = E} xs (Some r) us) is gives
 
 -- what stands at an index stands one before it, once the first is taken
 later : (xs us : List Block) (x : Block) (i : ℕ) → xs ≡ x ∷ us → 0 < i → slice_get us (i - 1) ≡ slice_get xs i
@@ -21,7 +18,7 @@ borrowed-later xs us x is all = both-right x.is_borrow _ (rw is at all)
 
 pub loop-block-preserved-else-before-eq0 : goal.loop-block-preserved-else-before-eq0
 loop-block-preserved-else-before-eq0 c =
-    let is = taken c.in-Some.ensures.steps c.in_ok-block.was in
+    let is = block-taken c.in-Some.ensures.steps c.in_ok-block.was in
     record {
       found = later _ _ _ c.loop-block.before is (search rules) ∙ c.loop-block.invariant.found;
       borrowed = λ bare. borrowed-later _ _ _ is (c.loop-block.invariant.borrowed bare);

@@ -1,7 +1,0 @@
-use Rattle.std.proofs.Common.{◌≡◌, ◌+◌, length}
-use Rattle.ansi_str.specs.Blocks.{blocks}
-use Rattle.ansi_bench.proofs.ansi_bench_blocks.Given as goal
-
--- the blocks so far and those that are left are all
-abbrev pub invariant-loop-block : goal.invariant-loop-block
-invariant-loop-block l = l.count + length l.block-iterator ≡ length (blocks l.bytes)

@@ -1,0 +1,4 @@
+use Rattle.ansi_str_c.proofs.texts.ansi_str_raw_left.Goals as goal
+
+pub returns : goal.returns
+returns c = c.write_edited.ensures

@@ -1,0 +1,4 @@
+use Rattle.ansi_str_c.proofs.texts.ansi_str_raw_strip_prefix.Goals as goal
+
+pub returns : goal.returns
+returns c = c.write_step.ensures
