@@ -1,8 +1,9 @@
 /* Passes rows of texts and answers through the calls, and ends with 1 where one differs.
 
    A row is one line of standard input, its fields stand between TABs: a call, the status, the answer, the text, and then
-   what else the call takes. `\xHH` is the byte HH in a field; `bindings/test` has written out each `\{N:TEXT}`, which is TEXT N times. The answer is a text, or the length where a call
-   writes none; for `split`, `blocks` and `styled_blocks` it is how many there are, and what they give follows what they take.
+   what else the call takes. `\xHH` is the byte HH in a field; `bindings/test` has written out each `\{N:TEXT}`, which is
+   TEXT N times. The answer is a text, or the length where a call writes none; for `split`, `blocks` and `styled_blocks`
+   it is how many there are, and what they give follows what they take.
 
    Each text is also asked for with a buffer that is one byte too small, with one that is larger, and with each request
    for memory refused in turn: then nothing may be written, past the answer's length or at all. */
@@ -139,6 +140,17 @@ static int is_guard(const char *buffer, size_t start, size_t end) {
     return 1;
 }
 
+/* After a call with few requests granted: whether it tells of want of memory, and then it has written nothing. */
+static int is_wanting(uint32_t status, const char *buffer, size_t len) {
+    granted = -1;
+    if (status != ANSI_STR_OUT_OF_MEMORY) {
+        return 0;
+    }
+    wanting++;
+    expect("the buffer with little memory", is_guard(buffer, 0, len + 1));
+    return 1;
+}
+
 /* A call with a buffer of so many bytes answers and writes this text, or fails. */
 static void expect_text(const struct row *r, uint32_t status, const struct text *wanted, size_t room) {
     char *buffer = guarded(room);
@@ -164,18 +176,14 @@ static void expect_writes(const struct row *r, uint32_t status, const struct tex
         expect_text(r, status, wanted, 0);
     }
     char *buffer = guarded(wanted->len);
-    for (long requests = 0;; requests++) {
-        granted = requests;
-        ansi_str_answer answer = call(r, buffer, wanted->len);
-        granted = -1;
-        if (answer.status != ANSI_STR_OUT_OF_MEMORY) {
-            expect("status with little memory", answer.status == status);
-            break;
-        }
-        wanting++;
-        expect("length with little memory", answer.len == 0);
-        expect("the buffer with little memory", is_guard(buffer, 0, wanted->len + 1));
-    }
+    ansi_str_answer answer;
+    long requests = 0;
+    do {
+        granted = requests++;
+        answer = call(r, buffer, wanted->len);
+        expect("length with little memory", answer.status != ANSI_STR_OUT_OF_MEMORY || answer.len == 0);
+    } while (is_wanting(answer.status, buffer, wanted->len));
+    expect("status with little memory", answer.status == status);
     free(buffer);
 }
 
@@ -233,17 +241,12 @@ static void expect_parts(const struct row *r) {
     char *buffer = guarded(len);
     ends[count] = 0;
     uint32_t status = status_of(r);
-    ansi_str_answers answer = {0, 0, 0};
-    for (long requests = 0;; requests++) {
-        granted = requests;
+    ansi_str_answers answer;
+    long requests = 0;
+    do {
+        granted = requests++;
         answer = ansi_str_split(TEXT(t), TEXT(pattern), buffer, len, ends, count);
-        granted = -1;
-        if (answer.status != ANSI_STR_OUT_OF_MEMORY) {
-            break;
-        }
-        wanting++;
-        expect("the buffer with little memory", is_guard(buffer, 0, len + 1));
-    }
+    } while (is_wanting(answer.status, buffer, len));
     expect("status", answer.status == status);
     expect("how many and how long", answer.count == count && answer.len == len && buffer[len] == GUARD && ends[count] == 0);
     size_t start = 0;
@@ -291,17 +294,12 @@ static void expect_blocks(const struct row *r) {
     ansi_str_block_entry *blocks = __real_malloc((count + 1) * sizeof *blocks);
     char *buffer = guarded(len);
     uint32_t status = status_of(r);
-    ansi_str_answers answer = {0, 0, 0};
-    for (long requests = 0;; requests++) {
-        granted = requests;
+    ansi_str_answers answer;
+    long requests = 0;
+    do {
+        granted = requests++;
         answer = ansi_str_blocks(TEXT(t), buffer, len, blocks, count);
-        granted = -1;
-        if (answer.status != ANSI_STR_OUT_OF_MEMORY) {
-            break;
-        }
-        wanting++;
-        expect("the buffer with little memory", is_guard(buffer, 0, len + 1));
-    }
+    } while (is_wanting(answer.status, buffer, len));
     expect("status", answer.status == status);
     expect("how many and how long", answer.count == count && answer.len == len && buffer[len] == GUARD);
     size_t start = 0;
@@ -341,24 +339,19 @@ static void expect_styled_blocks(const struct row *r) {
     ansi_str_styled_block_entry *blocks = __real_malloc((count + 1) * sizeof *blocks);
     char *buffer = guarded(len);
     uint32_t status = status_of(r);
-    ansi_str_answers answer = {0, 0, 0};
+    ansi_str_answers answer;
     if (count > 0) {
         answer = ansi_str_styled_blocks(TEXT(t), buffer, len, blocks, count - 1);
         expect("too few entries", answer.status == ANSI_STR_TOO_SMALL && answer.count == count && answer.len == len);
         answer = ansi_str_styled_blocks(TEXT(t), buffer, len - 1, blocks, count);
         expect("too small a buffer", answer.status == ANSI_STR_TOO_SMALL && answer.count == count && answer.len == len);
+        expect("nothing is written", is_guard(buffer, 0, len + 1));
     }
-    for (granted = 0;; granted++) {
-        long requests = granted;
-        expect("the buffer with little memory", is_guard(buffer, 0, len + 1));
+    long requests = 0;
+    do {
+        granted = requests++;
         answer = ansi_str_styled_blocks(TEXT(t), buffer, len, blocks, count);
-        granted = requests;
-        if (answer.status != ANSI_STR_OUT_OF_MEMORY) {
-            break;
-        }
-        wanting++;
-    }
-    granted = -1;
+    } while (is_wanting(answer.status, buffer, len));
     expect("status", answer.status == status);
     expect("how many and how long", answer.count == count && answer.len == len && buffer[len] == GUARD);
     size_t start = 0;
