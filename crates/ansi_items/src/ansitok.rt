@@ -25,10 +25,8 @@ pub enum AnsiColor {
 /// What an item is. (`Sgr` and `Other`, ECMA-48 and ECMA-35; `Text` and `Lone`, own.)
 ///
 /// ```
-/// let item = Scanner::new("\x1b[31m").next().ok_or("no item")?;
-/// assert!(rt; item.kind == Kind::Sgr);
-/// let item = Scanner::new("\x1b[31").next().ok_or("no item")?;
-/// assert!(rt; item.kind == Kind::Lone);
+/// assert!(rt; matches!(Scanner::new("\x1b[31m").next(), Some(item) if item.kind == Kind::Sgr));
+/// assert!(rt; matches!(Scanner::new("\x1b[31").next(), Some(item) if item.kind == Kind::Lone));
 /// ```
 #[derive(Debug, Clone, Copy, PartialEq, Eq)]
 pub enum Kind {
@@ -69,10 +67,8 @@ pub struct Item {
 ///
 /// ```
 /// let mut items = Scanner::new("a\x1b[1m");
-/// let text = items.next().ok_or("no text")?;
-/// assert!(rt; (text.kind, text.start, text.end) == (Kind::Text, 0, 1));
-/// let bold = items.next().ok_or("no sequence")?;
-/// assert!(rt; (bold.kind, bold.start, bold.end) == (Kind::Sgr, 1, 5));
+/// assert!(rt; matches!(items.next(), Some(text) if text.kind == Kind::Text && text.end == 1));
+/// assert!(rt; matches!(items.next(), Some(bold) if bold.kind == Kind::Sgr && bold.end == 5));
 /// assert!(rt; items.next().is_none());
 /// ```
 #[derive(Drop)]

@@ -51,9 +51,9 @@ pub fn ansi_is_whole(text: &str) -> bool
 ///
 /// ```
 /// let edits = [Edit::Prefix("> "), Edit::Left(2)];
-/// let edited = edit(rt.alloc(), "> \x1b[31mred", &edits)?.ok_or("refused")?;
-/// assert!(rt; edited.as_str() == "\x1b[31mre\x1b[39m");
-/// assert!(rt; edit(rt.alloc(), "red", &edits)?.is_none());
+/// let edited = edit(rt.alloc(), "> \x1b[31mred", &edits);
+/// assert!(rt; matches!(&edited, Ok(Some(text)) if text.as_str() == "\x1b[31mre\x1b[39m"));
+/// assert!(rt; matches!(&edit(rt.alloc(), "red", &edits), Ok(None)));
 /// ```
 pub fn edit<'t, A: Allocator + Copy>(
     alloc: A,

@@ -32,9 +32,10 @@ use std::borrow::CowStr;
 /// ```
 /// let borrowed = "\x1b[31mred\x1b[39m";
 /// let owned = String::from_str(rt.alloc(), borrowed)?;
-/// assert!(rt; borrowed.ansi_strip(rt.alloc())?.as_str() == "red");
-/// assert!(rt; owned.ansi_strip(rt.alloc())?.as_str() == "red");
-/// assert!(rt; owned.ansi_cut(rt.alloc(), ..2)?.ansi_strip(rt.alloc())?.as_str() == "re");
+/// let cut = owned.ansi_cut(rt.alloc(), ..2)?;
+/// assert!(rt; borrowed.ansi_starts_with("red"));
+/// assert!(rt; owned.ansi_starts_with("red"));
+/// assert!(rt; cut.ansi_ends_with("re"));
 /// ```
 pub trait AnsiStr {
     /// The bytes of the text, sequences included.
@@ -61,9 +62,9 @@ pub trait AnsiStr {
     ///
     /// ```
     /// let text = "\x1b[30mTEXT\x1b[39m";
-    /// let cut = text.ansi_get(rt.alloc(), 1..3)?.ok_or("a bad range")?;
-    /// assert!(rt; cut.as_str() == "\x1b[30mEX\x1b[39m");
-    /// assert!(rt; text.ansi_get(rt.alloc(), 3..1)?.is_none());
+    /// let cut = text.ansi_get(rt.alloc(), 1..3);
+    /// assert!(rt; matches!(&cut, Ok(Some(cut)) if cut.as_str() == "\x1b[30mEX\x1b[39m"));
+    /// assert!(rt; matches!(&text.ansi_get(rt.alloc(), 3..1), Ok(None)));
     /// ```
     fn ansi_get<R: AnsiRange>(
         &self,
@@ -92,8 +93,8 @@ pub trait AnsiStr {
     /// (The Rust crate.)
     ///
     /// ```
-    /// let text = "\x1b[30mTEXT\x1b[39m";
-    /// assert!(rt; text.ansi_cut(rt.alloc(), 1..3)?.as_str() == "\x1b[30mEX\x1b[39m");
+    /// let cut = "\x1b[30mTEXT\x1b[39m".ansi_cut(rt.alloc(), 1..3)?;
+    /// assert!(rt; cut.as_str() == "\x1b[30mEX\x1b[39m");
     /// ```
     fn ansi_cut<R: AnsiRange>(&self, alloc: Global, range: R) -> Result<CowStr<'_>, AllocError>
         requires { IsTrue (is_good_range (plain (text self.now)) (R.start range) (R.end range)) }
@@ -161,9 +162,9 @@ pub trait AnsiStr {
     ///
     /// ```
     /// let text = "\x1b[31mred\x1b[39m and plain";
-    /// let rest = text.ansi_strip_prefix(rt.alloc(), "red ")?.ok_or("no prefix")?;
-    /// assert!(rt; rest.as_str() == "\x1b[31m\x1b[39mand plain");
-    /// assert!(rt; text.ansi_strip_prefix(rt.alloc(), "and")?.is_none());
+    /// let rest = text.ansi_strip_prefix(rt.alloc(), "red ");
+    /// assert!(rt; matches!(&rest, Ok(Some(rest)) if rest.as_str() == "\x1b[31m\x1b[39mand plain"));
+    /// assert!(rt; matches!(&text.ansi_strip_prefix(rt.alloc(), "and"), Ok(None)));
     /// ```
     fn ansi_strip_prefix(
         &self,
@@ -193,9 +194,9 @@ pub trait AnsiStr {
     ///
     /// ```
     /// let text = "plain and \x1b[31mred\x1b[39m";
-    /// let rest = text.ansi_strip_suffix(rt.alloc(), " red")?.ok_or("no suffix")?;
-    /// assert!(rt; rest.as_str() == "plain and\x1b[31m\x1b[39m");
-    /// assert!(rt; text.ansi_strip_suffix(rt.alloc(), "and")?.is_none());
+    /// let rest = text.ansi_strip_suffix(rt.alloc(), " red");
+    /// assert!(rt; matches!(&rest, Ok(Some(rest)) if rest.as_str() == "plain and\x1b[31m\x1b[39m"));
+    /// assert!(rt; matches!(&text.ansi_strip_suffix(rt.alloc(), "and"), Ok(None)));
     /// ```
     fn ansi_strip_suffix(
         &self,
@@ -231,13 +232,12 @@ pub trait AnsiStr {
     /// most a start and a close longer, 163 + 88 bytes, and all shares together are within the text.
     ///
     /// ```
-    /// let text = "\x1b[31mlion::tiger\x1b[0m";
-    /// let mut parts = text.ansi_split(rt.alloc(), "::");
-    /// let lion = parts.next().ok_or("no part")??;
-    /// assert!(rt; lion.as_str() == "\x1b[31mlion\x1b[39m");
-    /// let tiger = parts.next().ok_or("no part")??;
-    /// assert!(rt; tiger.as_str() == "\x1b[31mtiger\x1b[0m");
-    /// assert!(rt; parts.next().is_none());
+    /// let mut cells = String::new(rt.alloc());
+    /// for part in "\x1b[31mlion::tiger\x1b[0m".ansi_split(rt.alloc(), "::") {
+    ///     cells.push_str(part?.as_str())?;
+    ///     cells.push('|')?;
+    /// }
+    /// assert!(rt; cells.as_str() == "\x1b[31mlion\x1b[39m|\x1b[31mtiger\x1b[0m|");
     /// ```
     fn ansi_split<'a>(&'a self, alloc: Global, pat: &'a str) -> AnsiSplit<'a>
         ensures bytes { map (λ p. p.bytes) result ≡ all_parts (text self.now) pat.now }
@@ -323,8 +323,8 @@ pub trait AnsiStr {
     /// `Err` means that memory is wanting.
     ///
     /// ```
-    /// let text = " \x1b[31m red \x1b[39m ";
-    /// assert!(rt; text.ansi_trim(rt.alloc())?.as_str() == "\x1b[31mred\x1b[39m");
+    /// let trimmed = " \x1b[31m red \x1b[39m ".ansi_trim(rt.alloc())?;
+    /// assert!(rt; trimmed.as_str() == "\x1b[31mred\x1b[39m");
     /// ```
     fn ansi_trim(&self, alloc: Global) -> Result<CowStr<'_>, AllocError>
         ensures bytes { IfOk result (λ c. cow_str_bytes c ≡ trimmed (text self.now)) }
@@ -340,8 +340,8 @@ pub trait AnsiStr {
     /// Else it is owned. `Err` means that memory is wanting. (The Rust crate.)
     ///
     /// ```
-    /// let text = "\x1b[31mred\x1b[39m and plain";
-    /// assert!(rt; text.ansi_strip(rt.alloc())?.as_str() == "red and plain");
+    /// let plain = "\x1b[31mred\x1b[39m and plain".ansi_strip(rt.alloc())?;
+    /// assert!(rt; plain.as_str() == "red and plain");
     /// ```
     fn ansi_strip(&self, alloc: Global) -> Result<CowStr<'_>, AllocError>
         ensures bytes { IfOk result (λ c. cow_str_bytes c ≡ plain (text self.now)) }

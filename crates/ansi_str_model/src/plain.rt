@@ -13,7 +13,6 @@ use ansi_str::AnsiStr;
 use ansi_str::ansitok::{Item, Kind, Scanner};
 use std::alloc::{AllocError, Global};
 use std::process::Abort;
-use std::test::Fail;
 
 const ESC: u8 = 0x1B;
 
@@ -136,22 +135,33 @@ fn text_at(alloc: Global, pieces: &[&str], number: usize) -> Result<String, Allo
 const TEXTS: usize = 402_234;
 
 /// Compares the items of a text.
-fn expect_items(rt: &impl Abort, alloc: Global, text: &str, want: &[Item]) -> Result<(), Fail> {
+fn expect_items(
+    rt: &impl Abort,
+    alloc: Global,
+    text: &str,
+    want: &[Item],
+) -> Result<(), AllocError> {
     let got: Vec<Item> = Scanner::new(text).collect(alloc)?;
     expect(rt, got.as_slice() == want, "the items", text);
     Ok(())
 }
 
 /// Compares the plain text of a text.
-fn expect_plain(rt: &impl Abort, alloc: Global, text: &str, items: &[Item]) -> Result<(), Fail> {
+fn expect_plain(
+    rt: &impl Abort,
+    alloc: Global,
+    text: &str,
+    items: &[Item],
+) -> Result<(), AllocError> {
     let want = plain(alloc, text, items)?;
-    let got = text.ansi_strip(alloc)?;
-    expect(rt, got.as_str() == want.as_str(), "the plain text", text);
+    let got = text.ansi_strip(alloc);
+    let is_right = matches!(&got, Ok(got) if got.as_str() == want.as_str());
+    expect(rt, is_right, "the plain text", text);
     Ok(())
 }
 
 /// Compares the items and the plain text of a text.
-fn expect_read(rt: &impl Abort, alloc: Global, text: &str) -> Result<(), Fail> {
+fn expect_read(rt: &impl Abort, alloc: Global, text: &str) -> Result<(), AllocError> {
     let items = items(alloc, text)?;
     expect_items(rt, alloc, text, items.as_slice())?;
     expect_plain(rt, alloc, text, items.as_slice())?;
@@ -166,7 +176,7 @@ fn expect_read(rt: &impl Abort, alloc: Global, text: &str) -> Result<(), Fail> {
 }
 
 #[test]
-fn short_texts_are_read_as_defined(rt: HostRuntime) -> Result<(), Fail> {
+fn short_texts_are_read_as_defined(rt: HostRuntime) -> Result<(), AllocError> {
     for number in 0..TEXTS {
         let text = text_at(rt.alloc(), &CHARACTERS, number)?;
         expect_read(&rt, rt.alloc(), text.as_str())?;

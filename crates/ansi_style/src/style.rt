@@ -16,8 +16,8 @@ impl Style {
     /// Whether the text is bold (SGR 1, ECMA-48).
     ///
     /// ```
-    /// let block = get_blocks(rt.alloc(), "\x1b[1mx").next().ok_or("no block")??;
-    /// assert!(rt; block.style().is_bold());
+    /// let first = get_blocks(rt.alloc(), "\x1b[1mx").next();
+    /// assert!(rt; matches!(&first, Some(Ok(block)) if block.style().is_bold()));
     /// ```
     pub fn is_bold(&self) -> bool
         ensures { result ≡ (rendition_of self.now).bold }
@@ -28,8 +28,8 @@ impl Style {
     /// Whether the text is faint (SGR 2, ECMA-48).
     ///
     /// ```
-    /// let block = get_blocks(rt.alloc(), "\x1b[2mx").next().ok_or("no block")??;
-    /// assert!(rt; block.style().is_faint());
+    /// let first = get_blocks(rt.alloc(), "\x1b[2mx").next();
+    /// assert!(rt; matches!(&first, Some(Ok(block)) if block.style().is_faint()));
     /// ```
     pub fn is_faint(&self) -> bool
         ensures { result ≡ (rendition_of self.now).faint }
@@ -40,8 +40,8 @@ impl Style {
     /// Whether the text is italic (SGR 3, ECMA-48).
     ///
     /// ```
-    /// let block = get_blocks(rt.alloc(), "\x1b[3mx").next().ok_or("no block")??;
-    /// assert!(rt; block.style().is_italic());
+    /// let first = get_blocks(rt.alloc(), "\x1b[3mx").next();
+    /// assert!(rt; matches!(&first, Some(Ok(block)) if block.style().is_italic()));
     /// ```
     pub fn is_italic(&self) -> bool
         ensures { result ≡ (rendition_of self.now).italic }
@@ -52,8 +52,8 @@ impl Style {
     /// Whether the text is underlined, and not doubly (SGR 4, ECMA-48).
     ///
     /// ```
-    /// let block = get_blocks(rt.alloc(), "\x1b[4mx").next().ok_or("no block")??;
-    /// assert!(rt; block.style().is_underline());
+    /// let first = get_blocks(rt.alloc(), "\x1b[4mx").next();
+    /// assert!(rt; matches!(&first, Some(Ok(block)) if block.style().is_underline()));
     /// ```
     pub fn is_underline(&self) -> bool
         ensures { result ≡ (rendition_of self.now).underline }
@@ -64,8 +64,8 @@ impl Style {
     /// Whether the text blinks slowly (SGR 5, ECMA-48).
     ///
     /// ```
-    /// let block = get_blocks(rt.alloc(), "\x1b[5mx").next().ok_or("no block")??;
-    /// assert!(rt; block.style().is_slow_blink());
+    /// let first = get_blocks(rt.alloc(), "\x1b[5mx").next();
+    /// assert!(rt; matches!(&first, Some(Ok(block)) if block.style().is_slow_blink()));
     /// ```
     pub fn is_slow_blink(&self) -> bool
         ensures { result ≡ (rendition_of self.now).slow_blink }
@@ -76,8 +76,8 @@ impl Style {
     /// Whether the text blinks rapidly (SGR 6, ECMA-48).
     ///
     /// ```
-    /// let block = get_blocks(rt.alloc(), "\x1b[6mx").next().ok_or("no block")??;
-    /// assert!(rt; block.style().is_rapid_blink());
+    /// let first = get_blocks(rt.alloc(), "\x1b[6mx").next();
+    /// assert!(rt; matches!(&first, Some(Ok(block)) if block.style().is_rapid_blink()));
     /// ```
     pub fn is_rapid_blink(&self) -> bool
         ensures { result ≡ (rendition_of self.now).rapid_blink }
@@ -88,8 +88,8 @@ impl Style {
     /// Whether foreground and background change places (SGR 7, ECMA-48).
     ///
     /// ```
-    /// let block = get_blocks(rt.alloc(), "\x1b[7mx").next().ok_or("no block")??;
-    /// assert!(rt; block.style().is_inverse());
+    /// let first = get_blocks(rt.alloc(), "\x1b[7mx").next();
+    /// assert!(rt; matches!(&first, Some(Ok(block)) if block.style().is_inverse()));
     /// ```
     pub fn is_inverse(&self) -> bool
         ensures { result ≡ (rendition_of self.now).inverse }
@@ -100,8 +100,8 @@ impl Style {
     /// Whether the text is concealed (SGR 8, ECMA-48).
     ///
     /// ```
-    /// let block = get_blocks(rt.alloc(), "\x1b[8mx").next().ok_or("no block")??;
-    /// assert!(rt; block.style().is_hide());
+    /// let first = get_blocks(rt.alloc(), "\x1b[8mx").next();
+    /// assert!(rt; matches!(&first, Some(Ok(block)) if block.style().is_hide()));
     /// ```
     pub fn is_hide(&self) -> bool
         ensures { result ≡ (rendition_of self.now).hide }
@@ -112,8 +112,8 @@ impl Style {
     /// Whether the text is crossed out (SGR 9, ECMA-48).
     ///
     /// ```
-    /// let block = get_blocks(rt.alloc(), "\x1b[9mx").next().ok_or("no block")??;
-    /// assert!(rt; block.style().is_crossedout());
+    /// let first = get_blocks(rt.alloc(), "\x1b[9mx").next();
+    /// assert!(rt; matches!(&first, Some(Ok(block)) if block.style().is_crossedout()));
     /// ```
     pub fn is_crossedout(&self) -> bool
         ensures { result ≡ (rendition_of self.now).crossed_out }
@@ -124,8 +124,8 @@ impl Style {
     /// Whether the text is in Fraktur (SGR 20, ECMA-48).
     ///
     /// ```
-    /// let block = get_blocks(rt.alloc(), "\x1b[20mx").next().ok_or("no block")??;
-    /// assert!(rt; block.style().is_fraktur());
+    /// let first = get_blocks(rt.alloc(), "\x1b[20mx").next();
+    /// assert!(rt; matches!(&first, Some(Ok(block)) if block.style().is_fraktur()));
     /// ```
     pub fn is_fraktur(&self) -> bool
         ensures { result ≡ (rendition_of self.now).fraktur }
@@ -136,8 +136,8 @@ impl Style {
     /// The color of the text, by its name, or `None` where none is set. (The Rust crate.)
     ///
     /// ```
-    /// let block = get_blocks(rt.alloc(), "\x1b[35mx").next().ok_or("no block")??;
-    /// assert!(rt; block.style().foreground() == Some(Color::Magenta));
+    /// let first = get_blocks(rt.alloc(), "\x1b[35mx").next();
+    /// assert!(rt; matches!(&first, Some(Ok(block)) if block.style().foreground() == Some(Color::Magenta)));
     /// ```
     pub fn foreground(&self) -> Option<Color>
         ensures { result ≡ option_map color_of (rendition_of self.now).foreground }
@@ -148,8 +148,8 @@ impl Style {
     /// The color after the text, by its name, or `None` where none is set. (The Rust crate.)
     ///
     /// ```
-    /// let block = get_blocks(rt.alloc(), "\x1b[45mx").next().ok_or("no block")??;
-    /// assert!(rt; block.style().background() == Some(Color::Magenta));
+    /// let first = get_blocks(rt.alloc(), "\x1b[45mx").next();
+    /// assert!(rt; matches!(&first, Some(Ok(block)) if block.style().background() == Some(Color::Magenta)));
     /// ```
     pub fn background(&self) -> Option<Color>
         ensures { result ≡ option_map color_of (rendition_of self.now).background }

@@ -1,6 +1,7 @@
 //! Which requests are refused, which no contract says.
 
 use super::*;
+use std::alloc::Global;
 use std::process::Abort;
 use std::test::Fail;
 
@@ -14,6 +15,11 @@ static ROWS: [Row; 5] = [
     (1, u64::MAX, true),
     (u64::MAX, u64::MAX, false),
 ];
+
+/// Ends the test where this doesn't hold.
+fn expect(rt: &impl Abort, holds: bool, what: &str) {
+    assert!(rt; holds, "{what}");
+}
 
 fn expect_next(rt: &impl Abort, row: &Row) {
     let (granted, so_far, is_refused) = *row;
@@ -38,38 +44,32 @@ fn refuses_past_the_granted(rt: HostRuntime) {
 fn refuses_the_first_request(rt: HostRuntime) {
     let heap = Refusing::new(rt.alloc(), 0);
     let mut digits = Vec::new(&heap);
-    assert!(rt; !heap.has_refused(), "an empty Vec takes no memory");
-    assert!(rt; digits.push(1u8).is_err(), "the first push takes memory");
-    assert!(rt; heap.has_refused(), "that was the first request");
+    expect(&rt, !heap.has_refused(), "an empty Vec takes no memory");
+    expect(
+        &rt,
+        digits.push(1u8).is_err(),
+        "the first push takes memory",
+    );
+    expect(&rt, heap.has_refused(), "that was the first request");
 }
 
 #[test]
 fn refuses_a_growth(rt: HostRuntime) -> Result<(), Fail> {
     let heap = Refusing::new(rt.alloc(), 1);
-    let mut digits = Vec::with_capacity(&heap, 2)?;
-    digits.push(1u8)?;
-    digits.push(2)?;
-    assert!(rt;
-        (heap.requests(), heap.has_refused()) == (1, false),
-        "there is room for two"
-    );
+    let mut digits = Vec::from_array(&heap, [1u8, 2])?;
+    expect(&rt, heap.requests() == 1, "two digits are one request");
+    expect(&rt, !heap.has_refused(), "that was granted");
 
-    assert!(rt; digits.push(3).is_err(), "there is no room for a third");
-    assert!(rt;
-        (heap.requests(), heap.has_refused()) == (2, true),
-        "the growth was refused"
-    );
-    assert!(rt;
-        digits.as_slice() == [1, 2].as_slice(),
-        "what was there stays"
-    );
+    expect(&rt, digits.push(3).is_err(), "there is no room for a third");
+    expect(&rt, heap.requests() == 2, "the growth is a request");
+    expect(&rt, heap.has_refused(), "the growth was refused");
+    let stays = digits.as_slice() == [1, 2].as_slice();
+    expect(&rt, stays, "what was there stays");
 
     drop(digits);
-    assert!(rt; heap.requests() == 2, "giving back is no request");
-    assert!(rt;
-        String::from_str(&heap, "text").is_err(),
-        "what is given back is not granted again"
-    );
+    expect(&rt, heap.requests() == 2, "giving back is no request");
+    let is_refused = String::from_str(&heap, "text").is_err();
+    expect(&rt, is_refused, "what is given back is not granted again");
     Ok(())
 }
 
@@ -80,17 +80,22 @@ fn refuses_nothing_of_plenty(rt: HostRuntime) -> Result<(), Fail> {
     for _ in 0..100 {
         text.push_str("text")?;
     }
-    assert!(rt; text.len() == 400, "each push is there");
-    assert!(rt; heap.requests() > 1, "a String of 400 bytes has grown");
-    assert!(rt; !heap.has_refused(), "each request was granted");
+    expect(&rt, text.len() == 400, "each push is there");
+    expect(&rt, heap.requests() > 1, "a String of 400 bytes has grown");
+    expect(&rt, !heap.has_refused(), "each request was granted");
     Ok(())
+}
+
+/// A text is there exactly where no request was refused.
+fn expect_answer(rt: &impl Abort, alloc: Global, granted: u64) {
+    let heap = Refusing::new(alloc, granted);
+    let is_refused = String::from_str(&heap, "text").is_err();
+    assert!(rt; is_refused == heap.has_refused(), "{granted} granted");
 }
 
 #[test]
 fn refuses_each_in_turn(rt: HostRuntime) {
     for granted in 0..10 {
-        let heap = Refusing::new(rt.alloc(), granted);
-        let answer = String::from_str(&heap, "text");
-        assert!(rt; answer.is_err() == heap.has_refused(), "{granted} granted");
+        expect_answer(&rt, rt.alloc(), granted);
     }
 }

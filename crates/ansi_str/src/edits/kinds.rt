@@ -7,8 +7,8 @@
 /// ```
 /// let part = Edit::Part { pat: " ", index: 1 };
 /// let edits = [part, Edit::Right(1), Edit::Suffix("!"), Edit::Trim];
-/// let edited = edit(rt.alloc(), "\x1b[1mlion tiger!", &edits)?.ok_or("refused")?;
-/// assert!(rt; edited.as_str() == "\x1b[1miger\x1b[22m");
+/// let edited = edit(rt.alloc(), "\x1b[1mlion tiger!", &edits);
+/// assert!(rt; matches!(&edited, Ok(Some(text)) if text.as_str() == "\x1b[1miger\x1b[22m"));
 /// ```
 #[derive(Debug, Clone, Copy, PartialEq, Eq)]
 pub enum Edit<'p> {

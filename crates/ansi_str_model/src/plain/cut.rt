@@ -7,7 +7,6 @@ use ansi_str::ansitok::{Item, Kind};
 use std::alloc::{AllocError, Global};
 use std::borrow::CowStr;
 use std::process::Abort;
-use std::test::Fail;
 
 /// Whether a plain text may be cut at the position.
 fn is_good_position(plain: &str, position: usize) -> bool {
@@ -96,6 +95,20 @@ fn get<'t>(
     }
 }
 
+/// The bytes that a cut keeps of a text, and its close.
+fn closed_bytes(
+    alloc: Global,
+    text: &str,
+    kept: &[Item],
+    close: &str,
+    start: usize,
+    end: usize,
+) -> Result<Vec<u8>, AllocError> {
+    let mut bytes = kept_bytes(alloc, text, kept, start, end)?;
+    bytes.extend_from_slice(close.as_bytes())?;
+    Ok(bytes)
+}
+
 /// Compares one range of a text, of which these items and this close are kept up to its end.
 fn expect_cut(
     rt: &impl Abort,
@@ -105,18 +118,17 @@ fn expect_cut(
     plain: &str,
     close: &str,
     range: (usize, Option<usize>),
-) -> Result<(), Fail> {
+) -> Result<(), AllocError> {
     let (start, end) = range;
     let last = end.unwrap_or(usize::MAX);
-    let got = get(alloc, &text, start, end)?;
+    let got = get(alloc, &text, start, end);
     if !is_good_range(plain, start, last) {
-        expect(rt, got.is_none(), "a refusal", (range, text));
+        expect(rt, matches!(&got, Ok(None)), "a refusal", (range, text));
         return Ok(());
     }
-    let mut want = kept_bytes(alloc, text, kept, start, last)?;
-    want.extend_from_slice(close.as_bytes())?;
-    let got = got.as_ref().map(|cut| cut.as_bytes());
-    expect(rt, got == Some(want.as_slice()), "the cut", (range, text));
+    let want = closed_bytes(alloc, text, kept, close, start, last)?;
+    let is_right = matches!(&got, Ok(Some(got)) if got.as_bytes() == want.as_slice());
+    expect(rt, is_right, "the cut", (range, text));
     Ok(())
 }
 
@@ -128,7 +140,7 @@ fn expect_cuts_to(
     items: &[Item],
     plain: &str,
     end: Option<usize>,
-) -> Result<(), Fail> {
+) -> Result<(), AllocError> {
     let kept = kept_items(alloc, items, end.unwrap_or(usize::MAX))?;
     let close = close_after(alloc, text, kept.as_slice())?;
     for start in &STARTS {
@@ -146,7 +158,7 @@ fn expect_cuts_to(
 }
 
 /// Compares the ranges of a text.
-fn expect_cuts(rt: &impl Abort, alloc: Global, text: &str) -> Result<(), Fail> {
+fn expect_cuts(rt: &impl Abort, alloc: Global, text: &str) -> Result<(), AllocError> {
     let items = items(alloc, text)?;
     let plain = plain(alloc, text, items.as_slice())?;
     for end in &ENDS {
@@ -185,7 +197,7 @@ const TEXTS: usize = 204_205;
 
 // Six seconds as `rt test` builds it, and more than the minute that `rt try` grants.
 #[test]
-fn short_texts_are_cut_as_defined(rt: HostRuntime) -> Result<(), Fail> {
+fn short_texts_are_cut_as_defined(rt: HostRuntime) -> Result<(), AllocError> {
     for number in 0..TEXTS {
         let text = text_at(rt.alloc(), &PIECES, number)?;
         expect_cuts(&rt, rt.alloc(), text.as_str())?;
@@ -193,18 +205,24 @@ fn short_texts_are_cut_as_defined(rt: HostRuntime) -> Result<(), Fail> {
     Ok(())
 }
 
-/// Compares the whole of a text of sequences.
-fn expect_closed(rt: &impl Abort, alloc: Global, text: &str) -> Result<(), Fail> {
+/// A text of sequences and its close.
+fn closed(alloc: Global, text: &str) -> Result<String, AllocError> {
     let items = items(alloc, text)?;
     let close = close_after(alloc, text, items.as_slice())?;
-    let want = format!(in alloc; "{text}{close}")?;
-    let got = text.ansi_get(alloc, ..)?.ok_or("a text has a cut")?;
-    expect(rt, got.as_str() == want.as_str(), "the close", text);
+    format!(in alloc; "{text}{close}")
+}
+
+/// Compares the whole of a text of sequences.
+fn expect_closed(rt: &impl Abort, alloc: Global, text: &str) -> Result<(), AllocError> {
+    let want = closed(alloc, text)?;
+    let got = text.ansi_get(alloc, ..);
+    let is_right = matches!(&got, Ok(Some(got)) if got.as_str() == want.as_str());
+    expect(rt, is_right, "the close", text);
     Ok(())
 }
 
 /// Compares the closes of a code alone, and before each other code.
-fn expect_code(rt: &impl Abort, alloc: Global, first: u8) -> Result<(), Fail> {
+fn expect_code(rt: &impl Abort, alloc: Global, first: u8) -> Result<(), AllocError> {
     let text = format!(in alloc; "\x1b[{first}m")?;
     expect_closed(rt, alloc, text.as_str())?;
     for second in 0..=110 {
@@ -215,7 +233,7 @@ fn expect_code(rt: &impl Abort, alloc: Global, first: u8) -> Result<(), Fail> {
 }
 
 #[test]
-fn codes_are_closed_as_defined(rt: HostRuntime) -> Result<(), Fail> {
+fn codes_are_closed_as_defined(rt: HostRuntime) -> Result<(), AllocError> {
     for first in 0..=110 {
         expect_code(&rt, rt.alloc(), first)?;
     }
@@ -252,7 +270,12 @@ static FRONTS: [&str; 9] = [
 ];
 
 /// Compares the closes of an odd field after such fields, at the end and before others.
-fn expect_odd_field(rt: &impl Abort, alloc: Global, front: &str, field: &str) -> Result<(), Fail> {
+fn expect_odd_field(
+    rt: &impl Abort,
+    alloc: Global,
+    front: &str,
+    field: &str,
+) -> Result<(), AllocError> {
     let text = format!(in alloc; "\x1b[{front}{field};4;5;3m")?;
     expect_closed(rt, alloc, text.as_str())?;
     let text = format!(in alloc; "\x1b[{front}{field}m")?;
@@ -260,7 +283,7 @@ fn expect_odd_field(rt: &impl Abort, alloc: Global, front: &str, field: &str) ->
 }
 
 #[test]
-fn odd_fields_are_read_as_defined(rt: HostRuntime) -> Result<(), Fail> {
+fn odd_fields_are_read_as_defined(rt: HostRuntime) -> Result<(), AllocError> {
     for field in &ODD_FIELDS {
         for front in &FRONTS {
             expect_odd_field(&rt, rt.alloc(), front, field)?;

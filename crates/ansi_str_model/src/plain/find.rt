@@ -2,9 +2,8 @@
 use super::{items, plain, text_at};
 use crate::checks::expect;
 use ansi_str::AnsiStr;
-use std::alloc::Global;
+use std::alloc::{AllocError, Global};
 use std::process::Abort;
-use std::test::Fail;
 
 /// The first character boundary of a plain text at which the pattern stands.
 fn first_place(plain: &str, pat: &str) -> Option<usize> {
@@ -42,7 +41,12 @@ fn expect_boundaries(rt: &impl Abort, text: &str, plain: &str) {
 }
 
 /// Compares the searches for each pattern in a text.
-fn expect_places(rt: &impl Abort, alloc: Global, text: &str, plain: &str) -> Result<(), Fail> {
+fn expect_places(
+    rt: &impl Abort,
+    alloc: Global,
+    text: &str,
+    plain: &str,
+) -> Result<(), AllocError> {
     for number in 0..PATTERNS {
         let pat = text_at(alloc, &CHARACTERS, number)?;
         let got = text.ansi_find(pat.as_str());
@@ -53,7 +57,7 @@ fn expect_places(rt: &impl Abort, alloc: Global, text: &str, plain: &str) -> Res
 }
 
 /// Compares the searches in a text.
-fn expect_searches(rt: &impl Abort, alloc: Global, text: &str) -> Result<(), Fail> {
+fn expect_searches(rt: &impl Abort, alloc: Global, text: &str) -> Result<(), AllocError> {
     let items = items(alloc, text)?;
     let plain = plain(alloc, text, items.as_slice())?;
     expect_boundaries(rt, text, plain.as_str());
@@ -61,7 +65,7 @@ fn expect_searches(rt: &impl Abort, alloc: Global, text: &str) -> Result<(), Fai
 }
 
 #[test]
-fn short_texts_are_searched_as_defined(rt: HostRuntime) -> Result<(), Fail> {
+fn short_texts_are_searched_as_defined(rt: HostRuntime) -> Result<(), AllocError> {
     for number in 0..TEXTS {
         let text = text_at(rt.alloc(), &PIECES, number)?;
         expect_searches(&rt, rt.alloc(), text.as_str())?;

@@ -11,8 +11,8 @@ use ansi_items::ansitok::AnsiColor;
 /// terminals share.)
 ///
 /// ```
-/// let block = get_blocks(rt.alloc(), "\x1b[38;5;200mx").next().ok_or("no block")??;
-/// assert!(rt; block.style().foreground() == Some(Color::Fixed(200)));
+/// let first = get_blocks(rt.alloc(), "\x1b[38;5;200mx").next();
+/// assert!(rt; matches!(&first, Some(Ok(block)) if block.style().foreground() == Some(Color::Fixed(200))));
 /// assert!(rt; Color::Black < Color::Red);
 /// ```
 #[derive(Debug, Clone, Copy, PartialEq, Eq, PartialOrd, Ord, Hash)]

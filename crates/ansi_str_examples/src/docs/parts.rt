@@ -1,0 +1,29 @@
+//! The examples of the docs of splits, in the same words.
+use ansi_str::AnsiStr;
+use ansi_str::split::{part_in, split_in};
+use std::test::Fail;
+
+#[test]
+fn ansi_split_example(rt: HostRuntime) -> Result<(), Fail> {
+    let text = "\x1b[1mlion,tiger";
+    let mut lines = String::new(rt.alloc());
+    for part in text.ansi_split(rt.alloc(), ",") {
+        lines.push_str(part?.as_str())?;
+        lines.push('\n')?;
+    }
+    assert!(rt; lines.as_str() == "\x1b[1mlion\x1b[22m\n\x1b[1mtiger\x1b[22m\n");
+    Ok(())
+}
+
+#[test]
+fn split_in_example(rt: HostRuntime) {
+    let first = split_in(rt.alloc(), "\x1b[1mlion,tiger", ",").next();
+    assert!(rt; matches!(&first, Some(Ok(part)) if part.as_str() == "\x1b[1mlion\x1b[22m"));
+}
+
+#[test]
+fn part_in_example(rt: HostRuntime) {
+    let part = part_in(rt.alloc(), "\x1b[1mlion,tiger", ",", 1);
+    assert!(rt; matches!(&part, Ok(Some(part)) if part.as_str() == "\x1b[1mtiger\x1b[22m"));
+    assert!(rt; matches!(&part_in(rt.alloc(), "lion,tiger", ",", 2), Ok(None)));
+}

@@ -1,0 +1,178 @@
+//! The callers, each on worked texts.
+use super::expect;
+use ansi_str::get_blocks;
+use ansi_str_uses::callers::blocks::{count_blocks, have_same_blocks, write_cell, write_status};
+use ansi_str_uses::callers::searches::{
+    cut_around_match, cut_at_boundary, cut_match, split_at_boundary,
+};
+use std::alloc::{AllocError, Global};
+use std::borrow::CowStr;
+use std::process::Abort;
+use std::test::Fail;
+
+/// The answer is this text, where one is wanted.
+fn expect_cut(
+    rt: &impl Abort,
+    got: &Result<Option<CowStr<'_>>, AllocError>,
+    want: Option<&str>,
+    row: &str,
+) {
+    let is_right = match (got, want) {
+        (Ok(Some(got)), Some(want)) => got.as_str() == want,
+        (Ok(None), None) => true,
+        _ => false,
+    };
+    expect(rt, is_right, "the cut", row);
+}
+
+#[test]
+fn matches_are_cut(rt: HostRuntime) {
+    let text = "a\x1b[1mb\x1b[0mc";
+    let cut = cut_match(rt.alloc(), &text, "bc");
+    expect_cut(
+        &rt,
+        &cut,
+        Some("\x1b[1mb\x1b[0mc"),
+        "a match across a sequence",
+    );
+    let absent = cut_match(rt.alloc(), &text, "cb");
+    expect_cut(&rt, &absent, None, "an absent pattern");
+}
+
+#[test]
+fn texts_are_cut_around_matches(rt: HostRuntime) {
+    let cuts = cut_around_match(rt.alloc(), &"a\x1b[1mb\x1b[0mc", "b");
+    let is_right = match &cuts {
+        Ok(Some((before, found, after))) => {
+            before.as_str() == "a\x1b[1m\x1b[22m"
+                && found.as_str() == "\x1b[1mb\x1b[0m"
+                && after.as_str() == "\x1b[1m\x1b[0mc"
+        }
+        _ => false,
+    };
+    expect(&rt, is_right, "before, at and after", "a match");
+}
+
+/// The answer is these two texts, where two are wanted.
+fn expect_sides(
+    rt: &impl Abort,
+    got: &Result<Option<(CowStr<'_>, CowStr<'_>)>, AllocError>,
+    want: Option<(&str, &str)>,
+    row: &str,
+) {
+    let is_right = match (got, want) {
+        (Ok(Some((left, right))), Some(want)) => (left.as_str(), right.as_str()) == want,
+        (Ok(None), None) => true,
+        _ => false,
+    };
+    expect(rt, is_right, "the sides", row);
+}
+
+/// The two sides of a text, each in its style.
+static SIDES: (&str, &str) = ("\x1b[30mTE\x1b[39m", "\x1b[30mXT\x1b[39m");
+
+#[test]
+fn texts_are_split_at_boundaries(rt: HostRuntime) {
+    let sides = split_at_boundary(rt.alloc(), &"\x1b[30mTEXT\x1b[39m", 2);
+    expect_sides(&rt, &sides, Some(SIDES), "between two characters");
+    let inside = split_at_boundary(rt.alloc(), &"\x1b[1mé", 1);
+    expect_sides(&rt, &inside, None, "inside a character");
+    let past = split_at_boundary(rt.alloc(), &"\x1b[1mé", 3);
+    expect_sides(&rt, &past, None, "past the end");
+}
+
+#[test]
+fn texts_are_cut_at_boundaries(rt: HostRuntime) {
+    let cuts = cut_at_boundary(rt.alloc(), &"\x1b[30mTEXT\x1b[39m", 2);
+    expect_sides(&rt, &cuts, Some(SIDES), "between two characters");
+}
+
+/// A text, and how many blocks it has.
+static COUNTS: [(&str, usize); 15] = [
+    ("", 0),
+    ("213\n456", 1),
+    ("\x1b[38;7;1mx", 1),
+    ("\x1b[38;5;300mx", 1),
+    ("\x1b[mx", 1),
+    ("\x1b[1;01mx", 1),
+    ("\x1b[1;?2mx", 1),
+    (
+        "\x1b[1;2;3;4;5;6;7;8;9;19;20;21;26;38;2;255;255;255;48;2;255;255;255;58;2;255;255;255;51;52;53;60;61;62;63;64;73;74mx",
+        1,
+    ),
+    ("\x1b[>4;2mx", 1),
+    ("\x1b[41;30mqwe:TEXT\x1b[39m \x1b[34mQWE", 3),
+    ("\x1b[41;30m Hello \x1b[0m \t \x1b[43;32m World \x1b[0m", 3),
+    ("\x1b[1 mx", 1),
+    ("\x1b]8;;u\x1b\\link\x1b]8;;\x1b\\", 1),
+    ("a\x1b]0;t\x07", 1),
+    ("\x1b]", 1),
+];
+
+fn expect_count(rt: &impl Abort, alloc: Global, text: &str, want: usize) -> Result<(), Fail> {
+    let count = count_blocks(alloc, text)?;
+    expect(rt, count == want, "how many blocks", text);
+    Ok(())
+}
+
+#[test]
+fn blocks_are_counted(rt: HostRuntime) -> Result<(), Fail> {
+    for (text, want) in &COUNTS {
+        expect_count(&rt, rt.alloc(), text, *want)?;
+    }
+    Ok(())
+}
+
+/// Two texts, and whether they have the same blocks.
+type SameRow = (&'static str, &'static str, bool);
+
+static SAME_ROWS: [SameRow; 10] = [
+    ("", "\x1b[31m\x1b]0;t\x07", true),
+    ("\x1b[1;31mred", "\x1b[31m\x1b[1mred\x1b[0m", true),
+    ("\x1b]0;t\x07\x1b[31mred", "\x1b[31m\x1b]0;t\x07red", true),
+    ("\x1b[31mred", "\x1b[32mred", false),
+    ("\x1b[31mred", "\x1b[31mred\x1b[1m", true),
+    ("\x1b[31mred", "\x1b[99;31mred", false),
+    ("\x1b[31mred", "\x1b[31mrod", false),
+    ("red", "red\x1b[31m and", false),
+    ("red\x1b[31m and", "red", false),
+    ("red", "\x1b]0;t\x07red", false),
+];
+
+fn expect_same(rt: &impl Abort, alloc: Global, row: &SameRow) -> Result<(), Fail> {
+    let (one, other, want) = *row;
+    let got = have_same_blocks(alloc, one, other)?;
+    expect(rt, got == want, "whether they are the same", row);
+    Ok(())
+}
+
+#[test]
+fn blocks_are_the_same(rt: HostRuntime) -> Result<(), Fail> {
+    for row in &SAME_ROWS {
+        expect_same(&rt, rt.alloc(), row)?;
+    }
+    Ok(())
+}
+
+#[test]
+fn cells_are_printed(rt: HostRuntime) -> Result<(), Fail> {
+    let mut cells = String::new(rt.alloc());
+    for block in get_blocks(rt.alloc(), "\x1b[31;1mred\x1b[99m, \x1b[0mplain") {
+        write_cell(&mut cells, &block?)?;
+        cells.push('|')?;
+    }
+    let want = "\x1b[1m\x1b[31mred\x1b[22m\x1b[39m|\x1b[1m\x1b[31m, \x1b[22m\x1b[39m\x1b[0m|plain|";
+    expect(&rt, cells.as_str() == want, "a cell a block", want);
+    Ok(())
+}
+
+#[test]
+fn a_status_is_printed(rt: HostRuntime) -> Result<(), Fail> {
+    let mut status = String::new(rt.alloc());
+    for block in get_blocks(rt.alloc(), "\x1b[32mdone") {
+        write_status(&mut status, block?.style(), "ready")?;
+    }
+    let want = "\x1b[32mready\x1b[0m";
+    expect(&rt, status.as_str() == want, "a status", want);
+    Ok(())
+}
