@@ -5,7 +5,7 @@ ghost use Rattle.ansi_str.specs.Changes.{CutRange, LeftOf, RightOf, PartOf, With
 ghost use Rattle.ansi_str.specs.Edits.{changes_of};
 ghost use Rattle.ansi_str_c.specs.Answers.{no, refused, not_utf8, OnUtf8, HasFailed, Gives, GivesEdited};
 
-use crate::answers::{Answer, NO, NOT_UTF8, OUT_OF_MEMORY, REFUSED, write};
+use crate::answers::{Answer, NOT_UTF8, OUT_OF_MEMORY, REFUSED, write};
 use crate::edits::{EditStep, PART, PREFIX, SUFFIX, write_step};
 use ansi_str::{AnsiStr, Edit, edit};
 use std::alloc::Global;
