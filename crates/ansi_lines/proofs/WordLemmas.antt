@@ -1,17 +1,18 @@
 -- The numbers that fields write, and the changes that words ask for in turn.
-use Rattle.std.proofs.Common.{◌≡◌, ℕ, ◌+◌, ◌^◌, ◌<◌, Bool, true, ◌&&◌, inl, inr, List, [], ◌∷◌, ◌++◌, append_assoc, length, drop, sym, ◌∙◌, ap, refl, Option, None, Some, Result, Ok, Err}
-use Rattle.std.specs.Prelude.{◌≢◌, String, slice_index, slice_index_or, nat_lt, is_some, string_bytes}
+use Rattle.std.proofs.Common.{◌≡◌, ℕ, ◌+◌, ◌^◌, ◌<◌, Bool, true, ◌&&◌, inl, inr, List, [], ◌∷◌, ◌++◌, append_assoc, length, drop, sym, ◌∙◌, ap, refl, arith, Option, None, Some, Result, Ok, Err}
+use Rattle.std.specs.Prelude.{◌≢◌, String, codes, bytes_eq, slice_index, slice_index_or, nat_lt, is_some, string_bytes}
 use Rattle.std.specs.Option.{option_map}
 use Rattle.std.specs.List.{list_all}
+use Rattle.std.specs.Char.{is_ascii_digit}
 use Rattle.std.specs.Str.{byte, all_ascii_digits}
 use Rattle.std.specs.Str.Parse.{ParsesUnsigned, digits_value}
 use Rattle.std.specs.Result.{result_ok, OkIff}
-use Rattle.std.proofs.lemmas.Bool.{cases_Bool, and_parts, and_from, cond-true, cond-false, ltb-true, lt-ltb}
+use Rattle.std.proofs.lemmas.Bool.{false≢true, cases_Bool, and_parts, and_from, cond-true, cond-false, ltb-true, lt-ltb}
 use Rattle.std.proofs.lemmas.Str.Parse.{parse_plain, numerals_by_value, tells_all_ascii_digits}
 use Rattle.std.proofs.lemmas.List.{drop_more}
 use Rattle.ansi_lines.specs.Runs.{words_of}
 use Rattle.ansi_str.specs.Changes.{Change}
-use Rattle.ansi_lines.specs.Words.{number_of, change_asked, changes_asked}
+use Rattle.ansi_lines.specs.Words.{Stripped, number_of, change_asked, changes_asked, work_asked}
 
 -- the bytes are digits, and of a value that fits
 abbrev is_number : List ℕ → Bool
@@ -29,6 +30,14 @@ number_of-read t (Err e) none = elim (cases_Bool (is_number t)) [
 -- std reads a field as its number, but for a plus in front
 pub number_of-parsed : {E : Type 0} (t : List ℕ) (r : Result ℕ E) → slice_index t 0 ≢ byte "+" → ParsesUnsigned 64 10 t r → result_ok r ≡ number_of t
 number_of-parsed t r plain parsed = number_of-read t r (parse_plain (numerals_by_value _ tells_all_ascii_digits) 64 t r parsed plain)
+
+-- a field with a plus in front is no number
+pub number_of-signed : (t : List ℕ) → slice_index t 0 ≡ byte "+" → number_of t ≡ None
+number_of-signed [] plus = refl
+number_of-signed (c ∷ cs) plus = elim (cases_Bool (is_number (c ∷ cs))) [
+  | inl is ↦ absurd (false≢true (sym (ap (λ b. is_ascii_digit b && all_ascii_digits cs) plus) ∙ (and_parts (all_ascii_digits (c ∷ cs)) _ (and_parts (nat_lt 0 (length (c ∷ cs))) _ is).1).0))
+  | inr isnt ↦ cond-false (is_number (c ∷ cs)) _ _ isnt
+]
 
 -- no words ask for no changes
 pub changes_asked-empty : changes_asked [] ≡ Some []
@@ -65,3 +74,11 @@ pub changes-next : (changes : List Change) (change : Change) (o : Option (List C
     → option_map (λ more. changes ++ more) (option_map (λ more. change ∷ more) o) ≡ option_map (λ more. (changes ++ change ∷ []) ++ more) o
 changes-next changes change None = refl
 changes-next changes change (Some more) = ap Some (sym (append_assoc changes (change ∷ []) more))
+
+-- `strip` alone
+pub work_asked-strip : {Y : Type 0} (words : List (String Y)) (word : String Y) → length words ≡ 1 → word ≡ slice_index_or words 0 word
+    → bytes_eq (string_bytes word) (codes "strip") ≡ true → work_asked (words_of words) ≡ Some Stripped
+unfolding work_asked
+work_asked-strip [] word one is strip = absurd (omega arith)
+work_asked-strip (first ∷ []) word one is strip = rw (ap (λ w. bytes_eq (string_bytes w) (codes "strip")) (sym is) ∙ strip) refl
+work_asked-strip (first ∷ second ∷ more) word one is strip = absurd (omega arith)

@@ -1,5 +1,5 @@
 -- What a sink has taken on the way.
-use Rattle.std.proofs.Common.{◌≡◌, List, [], ◌++◌, ℕ, Option, refl, sym, ap, ◌∙◌, append_assoc, append-nil}
+use Rattle.std.proofs.Common.{◌≡◌, List, [], ◌++◌, ℕ, Bool, true, false, ◌||◌, Option, None, Some, IfSome, refl, sym, ap, ◌∙◌, append_assoc, append-nil}
 use Rattle.std.specs.Io.KnownBytes.{append_known}
 use Rattle.ansi_lines.specs.Lines.{WritesBeginning}
 use Rattle.ansi_lines_io.proofs.Known.{append_known-nil, append_known-twice}
@@ -31,3 +31,13 @@ HasWritten-all {old} so_far same none =
 -- what is written on the way is a beginning of all
 pub HasWritten-beginning : {old new : Option (List ℕ)} {all rest : List ℕ} → HasWritten old new all rest → WritesBeginning old new all
 HasWritten-beginning {old} {new} {all} {rest} so_far = record { part = so_far.part; rest = rest; taken = so_far.taken; whole = so_far.whole }
+
+-- nothing is a beginning of all
+pub nothing-beginning : (left old : Option (List ℕ)) (all : List ℕ → List ℕ) → IfSome left (λ bytes. WritesBeginning old old (all bytes))
+nothing-beginning None old all = tt
+nothing-beginning (Some bytes) old all = HasWritten-beginning (HasWritten-start old (all bytes))
+
+-- a call that works leaves the flag as it was
+pub unfailed : (before after : Bool) → after ≡ (before || false) → after ≡ before
+unfailed true after is = is
+unfailed false after is = is

@@ -1,9 +1,9 @@
 //! A run of the program, over any devices.
-ghost use Rattle.std.specs.Prelude.{◌≡◌, ◌≤◌, ◌+◌, ◌⊎◌, false, true, IfErr, IfSome, IsErrOf, IsNone, IsSome, OnOk};
+ghost use Rattle.std.specs.Prelude.{◌≡◌, ◌≤◌, ◌+◌, ◌⊎◌, false, true, IfErr, IfOk, IfSome, IsErrOf, IsNone, IsSome, OnOk};
 ghost use Rattle.std.specs.Io.KnownBytes.{append_known};
 ghost use Rattle.ansi_lines_io.specs.Devices.{count_after};
 ghost use Rattle.ansi_lines.specs.Jobs.{work_of};
-ghost use Rattle.ansi_lines.specs.Lines.{answers, first_refused, StopsAnswering, WritesBeginning};
+ghost use Rattle.ansi_lines.specs.Lines.{answers, first_refused, StopsAnswering, StopsWriting, WritesBeginning};
 ghost use Rattle.ansi_lines_io.specs.Reading.{IsBadInput, IsGivenUp, IsRead, IsUnfit};
 ghost use Rattle.ansi_lines.specs.Runs.{AreBadWords, AreGoodWords, IfAnswered, MatchesWords, output_of, refused_line, told, words_of};
 ghost use Rattle.ansi_lines_io.specs.Stops.{refusal};
@@ -174,10 +174,32 @@ fn answer_text<A: Allocator + Copy, W: Sink>(
         (WritesBeginning (W.taken output.old) (W.taken output.new) (answers (work_of job.now) text.now) ×
         (W.flushes output.new ≡ W.flushes output.old))) }
 {
-    let refused = write_lines(alloc, job, text, output)?;
-    output.flush()?;
+    let refused = pass_on_lines(alloc, job, text, output)?;
     match refused {
         Some(line) => Err(Stop::Refused(line)),
         None => Ok(()),
     }
+}
+
+// Writes and flushes what the job makes of each line, and answers the number of the one that is refused.
+fn pass_on_lines<A: Allocator + Copy, W: Sink>(
+    alloc: A,
+    job: &Job<'_, A>,
+    text: &str,
+    output: &mut W,
+) -> Result<Option<usize>, Stop>
+    ensures done { OnOk result (W.taken output.new ≡ append_known (W.taken output.old) (answers (work_of job.now) text.now)) }
+    ensures passed { OnOk result (W.passed output.new ≡ W.taken output.new) }
+    ensures refused { IfOk result (λ line. line ≡ first_refused 1 (work_of job.now) text.now) }
+    ensures unfailed { OnOk result (W.failed output.new ≡ W.failed output.old) }
+    ensures flushed_once { OnOk result (W.flushes output.new ≡ count_after (W.flushes output.old) 1) }
+    ensures flushed_at_most_once { (W.flushes output.new ≡ W.flushes output.old) ⊎
+        (W.flushes output.new ≡ count_after (W.flushes output.old) 1) }
+    ensures stopped { IfErr result (StopsWriting (W.failed output.old) (W.failed output.new)
+        (WritesBeginning (W.taken output.old) (W.taken output.new) (answers (work_of job.now) text.now) ×
+        (W.flushes output.new ≡ W.flushes output.old))) }
+{
+    let refused = write_lines(alloc, job, text, output)?;
+    output.flush()?;
+    Ok(refused)
 }

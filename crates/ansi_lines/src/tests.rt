@@ -5,7 +5,7 @@ mod memory;
 
 use crate::runs::run;
 use ansi_lines_io::page::{Outcome, Page};
-use std::alloc::{AllocError, Global};
+use std::alloc::{AllocError, Allocator, Global};
 use std::fmt::Debug;
 use std::process::Abort;
 
@@ -97,6 +97,17 @@ fn owned(alloc: Global, words: &[&str]) -> Result<Vec<String>, AllocError> {
     Ok(given)
 }
 
+// The status of a run over pages. It says nothing of what the run does, so that its callers are quick to prove.
+fn status_of<A: Allocator>(
+    alloc: A,
+    words: &[String],
+    input: &mut Page,
+    output: &mut Page,
+    faults: &mut Page,
+) -> u8 {
+    run(alloc, words, input, output, faults)
+}
+
 // Runs over devices that do as they are told.
 fn run_with(alloc: Global, words: &[&str], bytes: &[u8], plan: Plan) -> Result<Ran, AllocError> {
     let given = owned(alloc, words)?;
@@ -110,7 +121,7 @@ fn run_with(alloc: Global, words: &[&str], bytes: &[u8], plan: Plan) -> Result<R
     let mut input = input_page(alloc, bytes, chunk, input)?;
     let mut output = empty_page(alloc, room, output)?;
     let mut faults = empty_page(alloc, ROOM, faults)?;
-    let status = run(
+    let status = status_of(
         alloc,
         given.as_slice(),
         &mut input,

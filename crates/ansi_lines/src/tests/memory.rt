@@ -1,6 +1,5 @@
 //! Each request for memory that a run makes, refused in turn.
-use super::{CHUNK, ROOM, Ran, empty_page, expect, expect_end, input_page, owned};
-use crate::runs::run;
+use super::{CHUNK, ROOM, Ran, empty_page, expect, expect_end, input_page, owned, status_of};
 use refusing::Refusing;
 use std::alloc::{AllocError, Global};
 use std::process::Abort;
@@ -84,7 +83,7 @@ fn run_on_heap(
     let mut input = input_page(alloc, text.as_bytes(), CHUNK, Vec::new(alloc))?;
     let mut output = empty_page(alloc, ROOM, Vec::new(alloc))?;
     let mut faults = empty_page(alloc, ROOM, Vec::new(alloc))?;
-    let status = run(heap, given, &mut input, &mut output, &mut faults);
+    let status = status_of(heap, given, &mut input, &mut output, &mut faults);
     Ran::over(alloc, status, &input, &output, &faults)
 }
 

@@ -3,11 +3,22 @@ use Rattle.std.specs.Io.KnownBytes.{append_known}
 use Rattle.ansi_lines.specs.Jobs.{work_of}
 use Rattle.ansi_lines.specs.Lines.{Line, line_feed, answers, first_refused}
 use Rattle.ansi_lines_io.proofs.Known.{append_known-nil, append_known-twice}
-use Rattle.ansi_lines.proofs.Written.{HasWritten-more, HasWritten-all}
+use Rattle.ansi_lines.proofs.Written.{HasWritten-start, HasWritten-more, HasWritten-all, unfailed}
 use Rattle.ansi_lines.proofs.LineLemmas.{line-answered, line-refused, answers-none}
 use Rattle.ansi_lines.proofs.lines.write_lines.Given.{Over}
 use Rattle.ansi_lines.proofs.lines.write_lines.Goals.{then-ended+in_ok-write, else-ended}
 use Rattle.ansi_lines.proofs.lines.write_lines.Goals as goal
+
+-- nothing is written
+pub loop-line-init : goal.loop-line-init
+loop-line-init g c = record {
+  text = search rules;
+  written = HasWritten-start _ _;
+  none_refused = refl;
+  counted = omega arith;
+  flushes = refl;
+  unfailed = refl;
+}
 
 -- the first line's answer and its line feed are written, and the answers to the other lines are to come
 pub loop-line-preserved : goal.loop-line-preserved
@@ -17,10 +28,10 @@ loop-line-preserved g c =
     let after = c.if-ended.output in
     let line : Line = record { text = c.in-Some.line.now; ended = c.in-Some.ended } in
     let (answer, wrote, splits, goes_on) = line-answered _ _ work c.loop-line.number c.loop-line.rest.now line c.in-Some.more.now c.in-Some.ensures.first c.if-not-branch.false c.in_ok-write_answer.ensures.done in
-    let (taken, flushes, unfailed) : (g.W.Sink.taken after ≡ append_known (g.W.Sink.taken before) (if line.ended then line_feed ∷ [] else []))
+    let (taken, same_flushes, same_failed) : (g.W.Sink.taken after ≡ append_known (g.W.Sink.taken before) (if line.ended then line_feed ∷ [] else []))
     × (g.W.Sink.flushes after ≡ g.W.Sink.flushes before) × (g.W.Sink.failed after ≡ g.W.Sink.failed before) =
     elim c.if-ended.branch [
-      | then-ended+in_ok-write w ↦ rw (w.output-is, w.if-ended.true) (w.in_ok-write.ensures.taken, w.in_ok-write.ensures.flushes, search rules)
+      | then-ended+in_ok-write w ↦ rw (w.output-is, w.if-ended.true) (w.in_ok-write.ensures.taken, w.in_ok-write.ensures.flushes, unfailed _ _ w.in_ok-write.ensures.failed)
       | else-ended w ↦ rw (w.output-is, w.if-ended.false) (sym (append_known-nil _), refl, refl)
     ] in
     record {
@@ -28,8 +39,8 @@ loop-line-preserved g c =
       written = HasWritten-more {all = answers work c.args.text.now} _ (answer ++ (if line.ended then line_feed ∷ [] else [])) _ c.loop-line.invariant.written (append_known-twice _ answer _ wrote taken) splits;
       none_refused = c.loop-line.invariant.none_refused ∙ goes_on;
       counted = omega (arith, c.in-Some.ensures.shorter);
-      flushes = cc;
-      unfailed = search rules;
+      flushes = same_flushes ∙ c.in_ok-write_answer.ensures.flushes ∙ c.loop-line.invariant.flushes;
+      unfailed = same_failed ∙ c.in_ok-write_answer.ensures.unfailed ∙ c.loop-line.invariant.unfailed;
     }
 
 -- a line is refused: nothing of it is written, and nothing after it

@@ -1,3 +1,4 @@
+use Rattle.std.proofs.Common.{arith}
 use Rattle.ansi_lines_io.proofs.Known.{all_read}
 use Rattle.ansi_lines_io.proofs.reading.read_bytes.Goals as goal
 
@@ -5,3 +6,19 @@ use Rattle.ansi_lines_io.proofs.reading.read_bytes.Goals as goal
 pub returns-in_default-clause-all : goal.returns-in_default-clause-all
 returns-in_default-clause-all g c =
     all_read _ _ _ c.loop-turn.invariant.taken (rw c.in_default.is at c.in_ok-count.ensures.end)
+
+-- each turn makes one read
+pub returns-in_err-count-clause-most_reads : goal.returns-in_err-count-clause-most_reads
+returns-in_err-count-clause-most_reads g c = omega arith
+
+pub returns-in_default-clause-most_reads : goal.returns-in_default-clause-most_reads
+returns-in_default-clause-most_reads g c = omega arith
+
+pub returns-in_err-extend_from_slice-clause-most_reads : goal.returns-in_err-extend_from_slice-clause-most_reads
+returns-in_err-extend_from_slice-clause-most_reads g c = omega arith
+
+pub returns-then-len-gt-MAX_BYTES-clause-most_reads : goal.returns-then-len-gt-MAX_BYTES-clause-most_reads
+returns-then-len-gt-MAX_BYTES-clause-most_reads g c = omega arith
+
+pub returns-clause-most_reads : goal.returns-clause-most_reads
+returns-clause-most_reads g c = omega arith
