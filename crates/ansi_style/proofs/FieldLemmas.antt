@@ -1,6 +1,7 @@
 -- The fields of parameter bytes, one after another, and the numbers that they are.
 use Rattle.std.proofs.Common.{◌≡◌, ◌≢◌, ℕ, zero, suc, ◌+◌, ◌-◌, ◌*◌, ◌<◌, ◌≤◌, Bool, true, ◌&&◌, ◌==◌, List, [], ◌∷◌, length, take, drop, get_or, fold, refl, sym, ◌∙◌, ap, ap₂, arith, Option, Some, None, if◌then◌else◌}
 use Rattle.std.specs.Prelude.{nat_le}
+use Rattle.std.specs.Option.{unwrap_or, option_map}
 use Rattle.std.specs.List.{onto_first}
 use Rattle.std.specs.Char.{digit_value, is_ascii_digit}
 use Rattle.std.specs.Str.{byte, all_ascii_digits}
@@ -9,8 +10,8 @@ use Rattle.std.proofs.lemmas.Bool.{cond_both, and_parts, leb-true, lt-ltb, ne_eq
 use Rattle.std.proofs.lemmas.Bool.Decides.{nat_tests}
 use Rattle.std.proofs.lemmas.List.Splits.{slice_split-cons_yes, slice_split-cons_no}
 use Rattle.std.proofs.lemmas.Str.{digit_value_digit}
-use Rattle.ansi_style.specs.Sgr.{fields_of, code_of}
-use Rattle.ansi_style.specs.Fields.{with_digit}
+use Rattle.ansi_style.specs.Sgr.{fields_of, code_of, color_number}
+use Rattle.ansi_style.specs.Fields.{first_field, with_digit}
 
 -- a field that a semicolon ends, and those after it
 pub fields_of-cut : (t : List ℕ) (i : ℕ) → i < length t → get_or t i 0 ≡ byte ";" → ((k : ℕ) → k < i → get_or t k 0 ≢ byte ";") → fields_of t ≡ take i t ∷ fields_of (drop (suc i) t)
@@ -56,3 +57,9 @@ reads (b ∷ t) n = reads t (with_digit n b) ∙ next_digit n b t
 pub code_of-read : (t : List ℕ) → if_small true (fold with_digit 0 t) ≡ code_of t
 code_of-read [] = refl
 code_of-read (b ∷ t) = rw (lt-ltb 0 (length (b ∷ t)) (omega arith)) (reads (b ∷ t) 0)
+
+-- the number that a field gives a color is its code, and 0 where it is none
+pub first_field-number : (fields rest : List (List ℕ)) (code : Option ℕ) → (Some code, rest) ≡ first_field code_of fields → (Some (unwrap_or code 0), rest) ≡ first_field color_number fields
+first_field-number [] rest code first = absurd (let none = ap (λ x. x.0) first in cc)
+first_field-number ([] ∷ fields) rest code first = ap (λ x. (option_map (λ o. unwrap_or o 0) x.0, x.1)) first
+first_field-number ((b ∷ field) ∷ fields) rest code first = ap (λ x. (option_map (λ o. unwrap_or o 0) x.0, x.1)) first

@@ -214,9 +214,10 @@ fn write_when<W: fmt::Write>(f: &mut fmt::Formatter<W>, is_set: bool, sequence: 
     ensures { WritesOnOk W.write_str_gives f.old result (if is_set then sequence.now else []) f.new }
 {
     if is_set {
-        f.write_str(sequence)?;
+        f.write_str(sequence)
+    } else {
+        Ok(())
     }
-    Ok(())
 }
 
 /// Writes the codes of the colors that there are.
