@@ -1,6 +1,6 @@
 -- `pieces_of` gives the pieces of a text, and a text has no others.
 use Rattle.std.proofs.Common.{◌≡◌, ◌≢◌, ℕ, zero, suc, ◌-◌, ◌≤◌, ◌⊎◌, inl, inr, true, false, ◌==◌, List, [], ◌∷◌, ◌++◌, take, drop, length, Option, Some, None, refl, sym, ◌∙◌, ap, ap₂, subst, arith, one-add, slice_index, length-append}
-use Rattle.std.proofs.lemmas.Bool.{cond-true, cond-false, and_parts, cases_Bool, eqb-true, ne_eqb, not-true, not-false, not_from_false}
+use Rattle.std.proofs.lemmas.Bool.{cond-true, cond-false, and_parts, cases_Bool, eqb-true, not-true, not-false}
 use Rattle.std.proofs.lemmas.Option.{none-some}
 use Rattle.std.proofs.Math.Seq.{take-append_seam}
 use Rattle.std.proofs.lemmas.List.{take-append-drop}
@@ -16,9 +16,6 @@ pub front_is : (t w rest : List ℕ) → t ≡ w ++ rest → take (length t - le
 front_is t w rest spelled =
     let len : length t - length rest ≡ length w = omega (arith, ap length spelled ∙ length-append w rest) in
     ap (λ n. take n t) len ∙ ap (take (length w)) spelled ∙ take-append_seam w rest
-
-plain_from : (b : ℕ) → (b ≡ escape → ⊥) → is_plain_byte b ≡ true
-plain_from b h = not_from_false (b == escape) (ne_eqb b escape h)
 
 escape_from : (b : ℕ) → is_plain_byte b ≡ false → b ≡ escape
 escape_from b h = eqb-true b escape (not-false (b == escape) h)

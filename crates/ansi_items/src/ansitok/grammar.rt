@@ -5,7 +5,6 @@
 //! all, so that a text is looked at no more than four times for each of its bytes.
 use crate::ansitok::Kind;
 use memchr::{memchr, memchr2};
-use std::cmp::min;
 
 /// The byte that begins every sequence.
 pub const ESC: u8 = 0x1B;
@@ -270,6 +269,9 @@ impl Looks {
         requires room { self.old.count + length bytes.now < 2 ^ 128 }
         ensures { self.new.count ≡ self.old.count + min (len + 1) (length bytes.now) }
     {
-        self.count += min(len as u128 + 1, bytes.len() as u128);
+        self.count += len as u128;
+        if len < bytes.len() {
+            self.count += 1;
+        }
     }
 }
