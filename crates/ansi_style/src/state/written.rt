@@ -95,7 +95,8 @@ impl fmt::Display for AnsiSequenceEnd<'_> {
     ghost output = { λ s. Some (close_if_any s) };
 
     fn fmt<W: fmt::Write>(&self, f: &mut fmt::Formatter<W>) -> fmt::Result {
-        if self.0.has_any() {
+        let ends = self.0.has_any();
+        if ends {
             Close(self.0).fmt(f)?;
         }
         Ok(())
