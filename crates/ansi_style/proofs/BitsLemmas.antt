@@ -24,6 +24,7 @@ each_bit P clear set zero below = clear
 each_bit P clear set (suc zero) below = set
 each_bit P clear set (suc (suc b)) below = absurd (omega (arith, below))
 
+-- and what holds of each two of them holds of the bits at a place of two numbers
 bits_of : (P : ℕ → ℕ → Type 0) → P 0 0 → P 0 1 → P 1 0 → P 1 1 → (n m k : ℕ) → P (bit_at n k) (bit_at m k)
 bits_of P neither right left both n m k =
     let other = λ (a : ℕ) (clear : P a 0) (set : P a 1). each_bit (P a) clear set (bit_at m k) (bit_at-lt m k) in

@@ -7,6 +7,13 @@ use Rattle.ansi_style.proofs.CodeLemmas.{effect_of_code-foreground, effect_of_co
 use Rattle.ansi_style.proofs.state.Style.perform.Goals as goal
 use Rattle.ansi_style.proofs.state.Style.perform.Goals.{then-code-lt38, else-code-lt38+else-code-lt48+else-code-lt90+then-code-lt98, then-code-lt48, else-code-lt48+else-code-lt90+else-code-lt98+else-code-lt100+then-code-lt108, in_default-via-then-code-lt90, in_default-via-else-code-lt90+else-code-lt98+then-code-lt100, in_default-via-else-code-lt90+else-code-lt98+else-code-lt100+else-code-lt108}
 
+-- italic and Fraktur are cleared
+pub returns-in-23 : goal.returns-in-23
+unfolding rendition_of
+returns-in-23 c =
+    let cleared : rendition_of c.clear-in-23.new.self ≡ with_attributes (λ place. not (has SHAPE.0 place) && has c.args.self.now.attributes.0 place) (rendition_of c.args.self.now) = c.clear-in-23.ensures in
+    rw c.in-23.is (ap (λ s. (s, c.args.fields.now)) cleared)
+
 pub returns-in-30-to-37 : goal.returns-in-30-to-37
 unfolding rendition_of
 returns-in-30-to-37 c = rw (effect_of_code-foreground c.args.code (elim c.in-30-to-37-1.branch [ then-code-lt38 w ↦ grind (arith, nat_tests) | else-code-lt38+else-code-lt48+else-code-lt90+then-code-lt98 w ↦ grind (arith, nat_tests) ]))

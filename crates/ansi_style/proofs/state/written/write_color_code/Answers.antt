@@ -1,6 +1,7 @@
 use Rattle.std.proofs.Common.{append_assoc}
 use Rattle.ansi_style.proofs.state.written.write_color_code.Goals as goal
 
+-- what `write!` writes is the code, joined another way
 pub returns-in-Bit4 : goal.returns-in-Bit4
 returns-in-Bit4 g c = rw c.in-Bit4.is c.write.ensures.writes
 

@@ -3,6 +3,7 @@ use Rattle.std.proofs.lemmas.Grind.{put_three, flat_map-append}
 use Rattle.ansi_style.specs.States.{rendition_of}
 use Rattle.ansi_style.proofs.state.written.write_colors.Goals as goal
 
+-- the three colors, one after another
 pub returns : goal.returns
 unfolding rendition_of
 returns g c = λ plain ok.
