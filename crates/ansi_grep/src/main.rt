@@ -9,18 +9,12 @@ use ansi_str::AnsiStr;
 use anyhow::Context;
 use std::alloc::{AllocError, Global};
 use std::env;
-use std::fmt::Write;
 
 // The line with each match of the pattern in inverse. What stands between the matches keeps its styles.
 fn marked(alloc: Global, line: &str, pattern: &str) -> Result<String, AllocError> {
-    let mut marked = String::new(alloc);
-    for (index, part) in line.ansi_split(alloc, pattern).enumerate() {
-        if index > 0 {
-            write!(&mut marked, "\x1b[7m{pattern}\x1b[27m")?;
-        }
-        marked.push_str(part?.as_str())?;
-    }
-    Ok(marked)
+    let mark = format!(in alloc; "\x1b[7m{pattern}\x1b[27m")?;
+    let parts: Vec<_> = line.ansi_split(alloc, pattern).try_collect(alloc)?;
+    parts.join(alloc, mark.as_str())
 }
 
 fn main(rt: HostRuntime) -> anyhow::Result<()> {

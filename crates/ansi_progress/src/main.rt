@@ -10,7 +10,6 @@ use ansi_str::{AnsiBlock, get_blocks};
 use anyhow::Context;
 use std::alloc::{AllocError, Global};
 use std::env;
-use std::fmt::Write;
 
 const STEPS: u32 = 20;
 
@@ -41,14 +40,11 @@ impl<'t> Task<'t> {
     }
 }
 
-// Appends so many steps, in the style of the sample.
-fn push_steps(line: &mut String, sample: &AnsiBlock<'_>, count: u32) -> Result<(), AllocError> {
+// So many steps, in the style of the sample.
+fn steps_of(alloc: Global, sample: &AnsiBlock<'_>, count: u32) -> Result<String, AllocError> {
     let style = sample.style();
-    write!(line, "{}", style.start())?;
-    for _ in 0..count {
-        line.push_str(sample.text())?;
-    }
-    write!(line, "{}", style.end())
+    let steps = sample.text().repeat(alloc, count as usize)?;
+    format!(in alloc; "{}{steps}{}", style.start(), style.end())
 }
 
 fn main(rt: HostRuntime) -> anyhow::Result<()> {
@@ -64,11 +60,14 @@ fn main(rt: HostRuntime) -> anyhow::Result<()> {
     for line in rt.lines(alloc) {
         let line = line?;
         let task = Task::parse(line.as_str()).context("a line is NAME DONE TOTAL")?;
-        let steps = task.done_of(STEPS);
-        let mut bar = String::new(alloc);
-        push_steps(&mut bar, &done, steps)?;
-        push_steps(&mut bar, &left, STEPS - steps)?;
-        println!(rt; "{:>8} {bar} {:>3}%", task.name, task.done_of(100))?;
+        let count = task.done_of(STEPS);
+        let steps_done = steps_of(alloc, &done, count)?;
+        let steps_left = steps_of(alloc, &left, STEPS - count)?;
+        println!(rt;
+            "{:>8} {steps_done}{steps_left} {:>3}%",
+            task.name,
+            task.done_of(100)
+        )?;
     }
     Ok(())
 }

@@ -8,6 +8,7 @@ use ansi_str::AnsiStr;
 use anyhow::Context;
 use std::alloc::{AllocError, Global};
 use std::env;
+use std::fmt::Write;
 use unicode_width::UnicodeWidthStr;
 
 // The longest beginning of a plain text that fits into so many columns: how many bytes it has, and how
@@ -29,11 +30,9 @@ fn fitting(plain: &str, width: usize) -> (usize, usize) {
 fn push_cell(alloc: Global, row: &mut String, cell: &str, width: usize) -> Result<(), AllocError> {
     let plain = cell.ansi_strip(alloc)?;
     let (end, columns) = fitting(plain.as_str(), width);
+    let blanks = " ".repeat(alloc, width.saturating_sub(columns))?;
     if let Some(shown) = cell.ansi_get(alloc, ..end)? {
-        row.push_str(shown.as_str())?;
-    }
-    for _ in columns..width {
-        row.push(' ')?;
+        write!(row, " {shown}{blanks} |")?;
     }
     Ok(())
 }
@@ -42,9 +41,7 @@ fn push_cell(alloc: Global, row: &mut String, cell: &str, width: usize) -> Resul
 fn row_of(alloc: Global, line: &str, widths: &[usize]) -> Result<String, AllocError> {
     let mut row = String::from_str(alloc, "|")?;
     for (cell, width) in line.ansi_split(alloc, "\t").zip(widths) {
-        row.push(' ')?;
         push_cell(alloc, &mut row, cell?.as_str(), *width)?;
-        row.push_str(" |")?;
     }
     Ok(row)
 }
