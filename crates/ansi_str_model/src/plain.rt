@@ -34,14 +34,30 @@ fn are_control_bytes(bytes: &[u8]) -> bool {
         .all(is_intermediate_byte)
 }
 
+/// Whether the bytes are the body of an operating system command and its terminator.
+fn ends_command(bytes: &[u8]) -> bool {
+    match bytes {
+        [body @ .., BEL] => !body.contains(&ESC) && !body.contains(&BEL),
+        [body @ .., ESC, b'\\'] => !body.contains(&ESC) && !body.contains(&BEL),
+        _ => false,
+    }
+}
+
+/// Whether the bytes are the body of another control string and its terminator.
+fn ends_string(bytes: &[u8]) -> bool {
+    match bytes {
+        [body @ .., ESC, b'\\'] => !body.contains(&ESC),
+        _ => false,
+    }
+}
+
 /// Whether the bytes are a whole sequence, no more and no less.
 fn is_sequence(bytes: &[u8]) -> bool {
     match bytes {
         [ESC, b'[', inner @ .., 0x40..=0x7E] => are_control_bytes(inner),
-        [ESC, b']', body @ .., BEL] => !body.contains(&ESC) && !body.contains(&BEL),
-        [ESC, b']', body @ .., ESC, b'\\'] => !body.contains(&ESC) && !body.contains(&BEL),
-        [ESC, b'P' | b'X' | b'^' | b'_', body @ .., ESC, b'\\'] => !body.contains(&ESC),
-        [ESC, b'[' | b']' | b'P' | b'X' | b'^' | b'_'] => false,
+        [ESC, b']', rest @ ..] => ends_command(rest),
+        [ESC, b'P' | b'X' | b'^' | b'_', rest @ ..] => ends_string(rest),
+        [ESC, b'['] => false,
         [ESC, inner @ .., 0x30..=0x7E] => inner.iter().all(is_intermediate_byte),
         _ => false,
     }

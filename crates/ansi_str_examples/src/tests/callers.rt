@@ -10,55 +10,40 @@ use std::borrow::CowStr;
 use std::process::Abort;
 use std::test::Fail;
 
-/// The answer is this text, where one is wanted.
-fn expect_cut(
-    rt: &impl Abort,
-    got: &Result<Option<CowStr<'_>>, AllocError>,
-    want: Option<&str>,
-    row: &str,
-) {
-    let is_right = match (got, want) {
+/// Compares the cut of a match of a pattern, where there is one.
+fn expect_match(rt: &impl Abort, alloc: Global, text: &str, pat: &str, want: Option<&str>) {
+    let is_right = match (&cut_match(alloc, &text, pat), want) {
         (Ok(Some(got)), Some(want)) => got.as_str() == want,
         (Ok(None), None) => true,
         _ => false,
     };
-    expect(rt, is_right, "the cut", row);
+    expect(rt, is_right, "the cut of a match", (text, pat));
 }
 
 #[test]
 fn matches_are_cut(rt: HostRuntime) {
     let text = "a\x1b[1mb\x1b[0mc";
-    let cut = cut_match(rt.alloc(), &text, "bc");
-    expect_cut(
-        &rt,
-        &cut,
-        Some("\x1b[1mb\x1b[0mc"),
-        "a match across a sequence",
-    );
-    let absent = cut_match(rt.alloc(), &text, "cb");
-    expect_cut(&rt, &absent, None, "an absent pattern");
+    let across_a_sequence = Some("\x1b[1mb\x1b[0mc");
+    expect_match(&rt, rt.alloc(), text, "bc", across_a_sequence);
+    expect_match(&rt, rt.alloc(), text, "cb", None);
 }
 
 #[test]
-fn texts_are_cut_around_matches(rt: HostRuntime) {
-    let cuts = cut_around_match(rt.alloc(), &"a\x1b[1mb\x1b[0mc", "b");
-    let is_right = match &cuts {
-        Ok(Some((before, found, after))) => {
-            before.as_str() == "a\x1b[1m\x1b[22m"
-                && found.as_str() == "\x1b[1mb\x1b[0m"
-                && after.as_str() == "\x1b[1m\x1b[0mc"
-        }
-        _ => false,
-    };
-    expect(&rt, is_right, "before, at and after", "a match");
+fn texts_are_cut_around_matches(rt: HostRuntime) -> Result<(), Fail> {
+    let cuts = cut_around_match(rt.alloc(), &"a\x1b[1mb\x1b[0mc", "b")?;
+    let (before, found, after) = cuts.ok_or("no match")?;
+    assert!(rt; before.as_str() == "a\x1b[1m\x1b[22m");
+    assert!(rt; found.as_str() == "\x1b[1mb\x1b[0m");
+    assert!(rt; after.as_str() == "\x1b[1m\x1b[0mc");
+    Ok(())
 }
 
-/// The answer is these two texts, where two are wanted.
+/// Compares the two sides of a text, where there are two.
 fn expect_sides(
     rt: &impl Abort,
     got: &Result<Option<(CowStr<'_>, CowStr<'_>)>, AllocError>,
     want: Option<(&str, &str)>,
-    row: &str,
+    row: (&str, usize),
 ) {
     let is_right = match (got, want) {
         (Ok(Some((left, right))), Some(want)) => (left.as_str(), right.as_str()) == want,
@@ -68,23 +53,44 @@ fn expect_sides(
     expect(rt, is_right, "the sides", row);
 }
 
-/// The two sides of a text, each in its style.
-static SIDES: (&str, &str) = ("\x1b[30mTE\x1b[39m", "\x1b[30mXT\x1b[39m");
+/// A text, an index, and the sides there.
+type SidesRow = (&'static str, usize, Option<(&'static str, &'static str)>);
+
+/// Between two characters, inside a character, and past the end.
+static SIDES_ROWS: [SidesRow; 3] = [
+    (
+        "\x1b[30mTEXT\x1b[39m",
+        2,
+        Some(("\x1b[30mTE\x1b[39m", "\x1b[30mXT\x1b[39m")),
+    ),
+    ("\x1b[1mé", 1, None),
+    ("\x1b[1mé", 3, None),
+];
+
+fn expect_split(rt: &impl Abort, alloc: Global, row: &SidesRow) {
+    let (text, index, want) = *row;
+    let sides = split_at_boundary(alloc, &text, index);
+    expect_sides(rt, &sides, want, (text, index));
+}
 
 #[test]
 fn texts_are_split_at_boundaries(rt: HostRuntime) {
-    let sides = split_at_boundary(rt.alloc(), &"\x1b[30mTEXT\x1b[39m", 2);
-    expect_sides(&rt, &sides, Some(SIDES), "between two characters");
-    let inside = split_at_boundary(rt.alloc(), &"\x1b[1mé", 1);
-    expect_sides(&rt, &inside, None, "inside a character");
-    let past = split_at_boundary(rt.alloc(), &"\x1b[1mé", 3);
-    expect_sides(&rt, &past, None, "past the end");
+    for row in &SIDES_ROWS {
+        expect_split(&rt, rt.alloc(), row);
+    }
+}
+
+fn expect_cuts(rt: &impl Abort, alloc: Global, row: &SidesRow) {
+    let (text, index, want) = *row;
+    let cuts = cut_at_boundary(alloc, &text, index);
+    expect_sides(rt, &cuts, want, (text, index));
 }
 
 #[test]
 fn texts_are_cut_at_boundaries(rt: HostRuntime) {
-    let cuts = cut_at_boundary(rt.alloc(), &"\x1b[30mTEXT\x1b[39m", 2);
-    expect_sides(&rt, &cuts, Some(SIDES), "between two characters");
+    for row in &SIDES_ROWS {
+        expect_cuts(&rt, rt.alloc(), row);
+    }
 }
 
 /// A text, and how many blocks it has.
