@@ -18,12 +18,6 @@ pub returns-in-30-to-37 : goal.returns-in-30-to-37
 unfolding rendition_of
 returns-in-30-to-37 c = rw (effect_of_code-foreground c.args.code (elim c.in-30-to-37-1.branch [ then-code-lt38 w ↦ grind (arith, nat_tests) | else-code-lt38+else-code-lt48+else-code-lt90+then-code-lt98 w ↦ grind (arith, nat_tests) ]))
 
-pub returns-in-23 : goal.returns-in-23
-unfolding rendition_of
-returns-in-23 c =
-    let cleared : rendition_of c.clear-in-23.new.self ≡ with_attributes (λ place. not (has SHAPE.0 place) && has c.args.self.now.attributes.0 place) (rendition_of c.args.self.now) = c.clear-in-23.ensures in
-    rw c.in-23.is (ap (λ s. (s, c.args.fields.now)) cleared)
-
 pub returns-in-40-to-47 : goal.returns-in-40-to-47
 unfolding rendition_of
 returns-in-40-to-47 c = rw (effect_of_code-background c.args.code (elim c.in-40-to-47-1.branch [ then-code-lt48 w ↦ grind (arith, nat_tests) | else-code-lt48+else-code-lt90+else-code-lt98+else-code-lt100+then-code-lt108 w ↦ grind (arith, nat_tests) ]))
