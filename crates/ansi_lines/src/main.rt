@@ -3,18 +3,15 @@
 
 ghost use Rattle.std.specs.Prelude.{◌≡◌, ◌≤◌, ◌⊎◌, false, IfOk, IsErr, IsOk};
 ghost use Rattle.std.specs.Io.KnownBytes.{append_known};
-ghost use Rattle.ansi_lines.specs.Runs.{AreBadWords, told, words_of};
+ghost use Rattle.ansi_lines_runs.specs.Runs.{AreBadWords, told, words_of};
 
-pub mod lines;
-mod runs;
 #[cfg(test)]
 mod tests;
-pub mod words;
 
 use ansi_lines_io::devices::Sink;
 use ansi_lines_io::host::{HostIn, HostOut};
 use ansi_lines_io::stop::Stop;
-use runs::run;
+use ansi_lines_runs::runs::run;
 use std::env;
 use std::io::{self, BufWriter, Write};
 use std::process::ExitCode;

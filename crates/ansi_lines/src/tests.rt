@@ -3,7 +3,7 @@
 mod devices;
 mod memory;
 
-use crate::runs::run;
+use ansi_lines_runs::runs::run;
 use ansi_lines_io::page::{Outcome, Page};
 use std::alloc::{AllocError, Allocator, Global};
 use std::fmt::Debug;

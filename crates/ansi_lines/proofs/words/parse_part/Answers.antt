@@ -1,6 +1,0 @@
-use Rattle.std.proofs.Common.{rules}
-use Rattle.ansi_lines.proofs.words.parse_part.Goals as goal
-
--- the pattern is all that stands after the index's colon
-pub returns : goal.returns
-returns c = search rules

@@ -1,0 +1,96 @@
+//! Answers a text line by line.
+ghost use Rattle.std.specs.Prelude.{◌≡◌, ◌<◌, [], length, IfErr, IfNone, IfOk, IfSome, OnOk};
+ghost use Rattle.std.specs.Option.{option_map};
+ghost use Rattle.std.specs.Cow.{cow_str_bytes};
+ghost use Rattle.std.specs.Io.KnownBytes.{append_known};
+ghost use Rattle.ansi_lines_runs.specs.Jobs.{work_of};
+ghost use Rattle.ansi_lines_runs.specs.Lines.{answer_of, answers, first_refused, lines, HasFirstLine, StopsWriting, WritesAnswer, WritesBeginning};
+
+use crate::words::Job;
+use ansi_lines_io::devices::Sink;
+use ansi_lines_io::stop::Stop;
+use memchr::memchr;
+use std::alloc::{AllocError, Allocator};
+use std::borrow::CowStr;
+
+/// Writes the answer to each line, in order, and a line feed after each that had one. It ends
+/// before the first line that is refused, and answers that line's number, counted from 1.
+///
+/// The memory that one line's answer takes is given back before the next.
+pub fn write_lines<A: Allocator + Copy, W: Sink>(
+    alloc: A,
+    job: &Job<'_, A>,
+    text: &str,
+    output: &mut W,
+) -> Result<Option<usize>, Stop>
+    ensures done { OnOk result (W.taken output.new ≡ append_known (W.taken output.old) (answers (work_of job.now) text.now)) }
+    ensures refused { IfOk result (λ line. line ≡ first_refused 1 (work_of job.now) text.now) }
+    ensures flushes { W.flushes output.new ≡ W.flushes output.old }
+    ensures unfailed { OnOk result (W.failed output.new ≡ W.failed output.old) }
+    ensures stopped { IfErr result (StopsWriting (W.failed output.old) (W.failed output.new)
+        (WritesBeginning (W.taken output.old) (W.taken output.new) (answers (work_of job.now) text.now))) }
+{
+    let mut rest = text;
+    let mut number = 1;
+    while let Some((line, ended, more)) = first_line(rest) {
+        if !write_answer(alloc, job, line, output)? {
+            return Ok(Some(number));
+        }
+        if ended {
+            output.write(b"\n")?;
+        }
+        rest = more;
+        number += 1;
+    }
+    Ok(None)
+}
+
+// The text of the first line, whether a line feed ends it, and what stands after it.
+fn first_line(text: &str) -> Option<(&str, bool, &str)>
+    ensures none { IfNone result (lines text.now ≡ []) }
+    ensures first { IfSome result (λ line. HasFirstLine text.now line.0.now line.1 line.2.now) }
+    ensures shorter { IfSome result (λ line. length line.2.now < length text.now) }
+{
+    if text.is_empty() {
+        return None;
+    }
+    match memchr(b'\n', text.as_bytes()) {
+        Some(end) => Some((&text[..end], true, &text[end + 1..])),
+        None => Some((text, false, "")),
+    }
+}
+
+// Writes the answer to a line's text, all of it or, for want of memory, nothing. It is false where
+// the line is refused, and then nothing is written.
+fn write_answer<A: Allocator + Copy, W: Sink>(
+    alloc: A,
+    job: &Job<'_, A>,
+    line: &str,
+    output: &mut W,
+) -> Result<bool, Stop>
+    ensures done { IfOk result (λ answered. WritesAnswer (answer_of (work_of job.now) line.now) answered (W.taken output.old) (W.taken output.new)) }
+    ensures flushes { W.flushes output.new ≡ W.flushes output.old }
+    ensures unfailed { OnOk result (W.failed output.new ≡ W.failed output.old) }
+    ensures stopped { IfErr result (StopsWriting (W.failed output.old) (W.failed output.new)
+        (W.taken output.new ≡ W.taken output.old)) }
+{
+    let Some(answer) = answer(alloc, job, line)? else {
+        return Ok(false);
+    };
+    output.write(answer.as_bytes())?;
+    Ok(true)
+}
+
+// What the job makes of a line's text, or `None` where the line is refused.
+fn answer<'t, A: Allocator + Copy>(
+    alloc: A,
+    job: &Job<'_, A>,
+    line: &'t str,
+) -> Result<Option<CowStr<'t, A>>, AllocError>
+    ensures { IfOk result (λ found. option_map cow_str_bytes found ≡ answer_of (work_of job.now) line.now) }
+{
+    match job {
+        Job::Strip => Ok(Some(ansi_str::slice::strip_in(alloc, line)?)),
+        Job::Edits(edits) => ansi_str::edit(alloc, line, edits.as_slice()),
+    }
+}

@@ -1,0 +1,205 @@
+//! A run of the program, over any devices.
+ghost use Rattle.std.specs.Prelude.{◌≡◌, ◌≤◌, ◌+◌, ◌⊎◌, false, true, IfErr, IfOk, IfSome, IsErrOf, IsNone, IsSome, OnOk};
+ghost use Rattle.std.specs.Io.KnownBytes.{append_known};
+ghost use Rattle.ansi_lines_io.specs.Devices.{count_after};
+ghost use Rattle.ansi_lines_runs.specs.Jobs.{work_of};
+ghost use Rattle.ansi_lines_runs.specs.Lines.{answers, first_refused, StopsAnswering, StopsWriting, WritesBeginning};
+ghost use Rattle.ansi_lines_io.specs.Reading.{IsBadInput, IsGivenUp, IsRead, IsUnfit};
+ghost use Rattle.ansi_lines_runs.specs.Runs.{AreBadWords, AreGoodWords, IfAnswered, MatchesWords, output_of, refused_line, told, words_of};
+ghost use Rattle.ansi_lines_io.specs.Stops.{refusal};
+
+use crate::lines::write_lines;
+use crate::words::{Job, parse};
+use ansi_lines_io::devices::{Sink, Source};
+use ansi_lines_io::reading::read_text;
+use ansi_lines_io::stop::Stop;
+use std::alloc::Allocator;
+
+/// Does what the words ask for with each line of the input, and answers the status.
+///
+/// The whole input is read first. Then each line is handled by itself, in order; a line feed ends
+/// it, isn't part of it, and is written after its answer. A line that is refused ends the run: the
+/// lines before it are written, and nothing of it or after it. The output is flushed once: at the
+/// end, or before a refused line is told of.
+///
+/// | status | when | text on the fault writer |
+/// |---|---|---|
+/// | 0 | done | none |
+/// | 1 | line N, counted from 1, is refused | `line N: refused\n` |
+/// | 2 | bad words; nothing is read | `bad words\n` |
+/// | 3 | the input is longer than `MAX_BYTES`, isn't UTF-8, or failed; nothing is written | `bad input\n` |
+/// | 4 | a write or a flush of the output failed | `write failed\n` |
+/// | 5 | want of memory; what is written is a beginning of what would have been | `out of memory\n` |
+///
+/// Memory comes from the allocator, the program's own or any other. The first of these that is met is the status. A read that is interrupted is made again; more than
+/// `MAX_READS` reads are a failed input. A fault of the fault writer is passed over.
+///
+/// ```
+/// let mut input = Page::of(alloc, b"\x1b[31mred\x1b[39m\n".to_vec(alloc)?);
+/// let mut output = Page::with_room(alloc, 10)?;
+/// let mut faults = Page::with_room(alloc, 10)?;
+/// assert_eq!(run(alloc, words, &mut input, &mut output, &mut faults), 0); // of the word `strip`
+/// assert_eq!(output.bytes(), b"red\n");
+/// ```
+pub fn run<A: Allocator, S: Source, W: Sink, V: Sink>(
+    alloc: A,
+    words: &[String],
+    input: &mut S,
+    output: &mut W,
+    faults: &mut V,
+) -> u8
+    ensures statuses { result ≤ 5 }
+
+    // All that the words make of the input is written and passed on.
+    ensures done { result ≡ 0 → IfSome (S.left input.old) (λ bytes.
+        W.taken output.new ≡ append_known (W.taken output.old) (output_of (words_of words.now) bytes)) }
+    ensures passed { result ≡ 0 → W.passed output.new ≡ W.taken output.new }
+    ensures none_refused { result ≡ 0 → IfSome (S.left input.old) (λ bytes.
+        IsNone (refused_line (words_of words.now) bytes)) }
+
+    // Before a refused line is told of, all that comes of the lines before it is written and passed on.
+    ensures refused { result ≡ 1 → IfSome (S.left input.old) (λ bytes.
+        IsSome (refused_line (words_of words.now) bytes)) }
+    ensures done_before { result ≡ 1 → IfSome (S.left input.old) (λ bytes.
+        W.taken output.new ≡ append_known (W.taken output.old) (output_of (words_of words.now) bytes)) }
+    ensures passed_before { result ≡ 1 → W.passed output.new ≡ W.taken output.new }
+
+    // Bad words are told of before anything is read or written.
+    ensures bad_words { result ≡ 2 → AreBadWords (words_of words.now) }
+    ensures only_bad_words { AreBadWords (words_of words.now) → (result ≡ 2) ⊎ (result ≡ 5) }
+    ensures nothing_read { AreBadWords (words_of words.now) → input.new ≡ input.old }
+    ensures nothing_written { AreBadWords (words_of words.now) → output.new ≡ output.old }
+
+    // A bad input is told of before anything is written.
+    ensures bad_input { result ≡ 3 → IsBadInput (S.left input.old) (S.failed input.new)
+        (IsGivenUp (S.interrupted input.new) (S.reads input.old) (S.reads input.new)) }
+    ensures most_reads { S.reads input.new ≤ S.reads input.old + 2_097_154 }
+    ensures good_words { result ≡ 3 → AreGoodWords (words_of words.now) }
+    ensures unwritten { result ≡ 3 → output.new ≡ output.old }
+    ensures unfit { AreGoodWords (words_of words.now) → IfSome (S.left input.old) (λ bytes.
+        IsUnfit bytes → (result ≡ 3) ⊎ (result ≡ 5)) }
+    ensures unread { AreGoodWords (words_of words.now) → S.failed input.old ≡ false →
+        S.failed input.new ≡ true → (result ≡ 3) ⊎ (result ≡ 5) }
+
+    // A failed write or flush is told of.
+    ensures write_failed { result ≡ 4 → W.failed output.new ≡ true }
+    ensures only_write_failed { W.failed output.old ≡ false → W.failed output.new ≡ true → result ≡ 4 }
+
+    // For want of memory a beginning is written.
+    ensures out_of_memory { result ≡ 5 → IfSome (S.left input.old) (λ bytes.
+        WritesBeginning (W.taken output.old) (W.taken output.new) (output_of (words_of words.now) bytes)) }
+
+    // The output is flushed once, after all is written, and the fault writer never.
+    ensures flushed_once { result ≤ 1 → W.flushes output.new ≡ count_after (W.flushes output.old) 1 }
+    ensures flushed_at_most_once { (W.flushes output.new ≡ W.flushes output.old) ⊎
+        (W.flushes output.new ≡ count_after (W.flushes output.old) 1) }
+    ensures unflushed { result ≡ 5 → W.flushes output.new ≡ W.flushes output.old }
+    ensures faults_unflushed { V.flushes faults.new ≡ V.flushes faults.old }
+
+    // What ends a run early is told of, and nothing else.
+    ensures quiet { result ≡ 0 → faults.new ≡ faults.old }
+    ensures told { 2 ≤ result → V.failed faults.new ≡ false →
+        V.taken faults.new ≡ append_known (V.taken faults.old) (told result) }
+    ensures told_line { result ≡ 1 → V.failed faults.new ≡ false → IfSome (S.left input.old) (λ bytes.
+        IfSome (refused_line (words_of words.now) bytes) (λ line.
+        V.taken faults.new ≡ append_known (V.taken faults.old) (refusal line))) }
+{
+    match perform(&alloc, words, input, output) {
+        Ok(()) => 0,
+        Err(stop) => stop.tell(faults),
+    }
+}
+
+// Does what the words ask for, and tells nothing.
+fn perform<A: Allocator, S: Source, W: Sink>(
+    alloc: &A,
+    words: &[String],
+    input: &mut S,
+    output: &mut W,
+) -> Result<(), Stop>
+    // All that the words make of the input, up to a refused line.
+    ensures done { IfAnswered result (λ _. IfSome (S.left input.old) (λ bytes.
+        W.taken output.new ≡ append_known (W.taken output.old) (output_of (words_of words.now) bytes))) }
+    ensures passed { IfAnswered result (λ _. W.passed output.new ≡ W.taken output.new) }
+    ensures refused { IfAnswered result (λ line. IfSome (S.left input.old) (λ bytes.
+        line ≡ refused_line (words_of words.now) bytes)) }
+
+    // Bad words.
+    ensures good_words { OnOk result (AreGoodWords (words_of words.now)) }
+    ensures words { IfErr result (λ stop. MatchesWords stop (words_of words.now)) }
+    ensures nothing_read { AreBadWords (words_of words.now) → input.new ≡ input.old }
+    ensures nothing_written { AreBadWords (words_of words.now) → output.new ≡ output.old }
+
+    // The input.
+    ensures read { IfAnswered result (λ _. IsRead (S.left input.old) (S.failed input.old) (S.failed input.new)) }
+    ensures read_before_writing { IsErrOf result Stop.WriteFailed →
+        IsRead (S.left input.old) (S.failed input.old) (S.failed input.new) }
+    ensures bad_input { IsErrOf result Stop.BadInput →
+        IsBadInput (S.left input.old) (S.failed input.new)
+        (IsGivenUp (S.interrupted input.new) (S.reads input.old) (S.reads input.new)) }
+    ensures most_reads { S.reads input.new ≤ S.reads input.old + 2_097_154 }
+    ensures unwritten { IsErrOf result Stop.BadInput → output.new ≡ output.old }
+
+    // The output.
+    ensures unfailed { IfAnswered result (λ _. W.failed output.new ≡ W.failed output.old) }
+    ensures write_failed { IsErrOf result Stop.WriteFailed → W.failed output.new ≡ true }
+    ensures out_of_memory { IsErrOf result Stop.OutOfMemory → IfSome (S.left input.old) (λ bytes.
+        WritesBeginning (W.taken output.old) (W.taken output.new) (output_of (words_of words.now) bytes)) }
+    ensures flushed_once { IfAnswered result (λ _. W.flushes output.new ≡ count_after (W.flushes output.old) 1) }
+    ensures flushed_at_most_once { (W.flushes output.new ≡ W.flushes output.old) ⊎
+        (W.flushes output.new ≡ count_after (W.flushes output.old) 1) }
+    ensures unflushed { IsErrOf result Stop.OutOfMemory → W.flushes output.new ≡ W.flushes output.old }
+    ensures unfailed_without_memory { IsErrOf result Stop.OutOfMemory → W.failed output.new ≡ W.failed output.old }
+{
+    let job = parse(alloc, words)?.ok_or(Stop::BadWords)?;
+    let text = read_text(alloc, input)?;
+    answer_text(alloc, &job, text.as_str(), output)
+}
+
+// Writes what the job makes of each line, up to one that is refused, and passes it on.
+fn answer_text<A: Allocator + Copy, W: Sink>(
+    alloc: A,
+    job: &Job<'_, A>,
+    text: &str,
+    output: &mut W,
+) -> Result<(), Stop>
+    ensures done { IfAnswered result (λ _. W.taken output.new ≡ append_known (W.taken output.old) (answers (work_of job.now) text.now)) }
+    ensures passed { IfAnswered result (λ _. W.passed output.new ≡ W.taken output.new) }
+    ensures refused { IfAnswered result (λ line. line ≡ first_refused 1 (work_of job.now) text.now) }
+    ensures unfailed { IfAnswered result (λ _. W.failed output.new ≡ W.failed output.old) }
+    ensures flushed_once { IfAnswered result (λ _. W.flushes output.new ≡ count_after (W.flushes output.old) 1) }
+    ensures flushed_at_most_once { (W.flushes output.new ≡ W.flushes output.old) ⊎
+        (W.flushes output.new ≡ count_after (W.flushes output.old) 1) }
+    ensures stopped { IfErr result (StopsAnswering (W.failed output.old) (W.failed output.new)
+        (WritesBeginning (W.taken output.old) (W.taken output.new) (answers (work_of job.now) text.now) ×
+        (W.flushes output.new ≡ W.flushes output.old))) }
+{
+    let refused = pass_on_lines(alloc, job, text, output)?;
+    match refused {
+        Some(line) => Err(Stop::Refused(line)),
+        None => Ok(()),
+    }
+}
+
+// Writes and flushes what the job makes of each line, and answers the number of the one that is refused.
+fn pass_on_lines<A: Allocator + Copy, W: Sink>(
+    alloc: A,
+    job: &Job<'_, A>,
+    text: &str,
+    output: &mut W,
+) -> Result<Option<usize>, Stop>
+    ensures done { OnOk result (W.taken output.new ≡ append_known (W.taken output.old) (answers (work_of job.now) text.now)) }
+    ensures passed { OnOk result (W.passed output.new ≡ W.taken output.new) }
+    ensures refused { IfOk result (λ line. line ≡ first_refused 1 (work_of job.now) text.now) }
+    ensures unfailed { OnOk result (W.failed output.new ≡ W.failed output.old) }
+    ensures flushed_once { OnOk result (W.flushes output.new ≡ count_after (W.flushes output.old) 1) }
+    ensures flushed_at_most_once { (W.flushes output.new ≡ W.flushes output.old) ⊎
+        (W.flushes output.new ≡ count_after (W.flushes output.old) 1) }
+    ensures stopped { IfErr result (StopsWriting (W.failed output.old) (W.failed output.new)
+        (WritesBeginning (W.taken output.old) (W.taken output.new) (answers (work_of job.now) text.now) ×
+        (W.flushes output.new ≡ W.flushes output.old))) }
+{
+    let refused = write_lines(alloc, job, text, output)?;
+    output.flush()?;
+    Ok(refused)
+}

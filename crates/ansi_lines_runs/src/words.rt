@@ -1,0 +1,123 @@
+//! The words that the program is given.
+ghost use Rattle.std.specs.Prelude.{◌≡◌, IfOk};
+ghost use Rattle.std.specs.Option.{option_map};
+ghost use Rattle.ansi_str.specs.Edits.{change_of};
+ghost use Rattle.ansi_lines_runs.specs.Jobs.{work_of};
+ghost use Rattle.ansi_lines_runs.specs.Runs.{words_of};
+ghost use Rattle.ansi_lines_runs.specs.Words.{Changed, change_asked, change_named, changes_asked, cut_of, end_of, number_of, part_of, work_asked};
+
+use ansi_str::Edit;
+use std::alloc::{AllocError, Allocator};
+
+/// What is done to each line.
+#[derive(Drop)]
+pub enum Job<'w, A: Allocator> {
+    /// The line is written without its sequences.
+    Strip,
+    /// The line is edited, each edit on what the one before gave. The patterns stand in the words.
+    Edits(Vec<Edit<'w>, A>),
+}
+
+/// What the words ask for, or `None` where they are bad.
+///
+/// The list of edits takes memory, and `Err` means that it is wanting.
+///
+/// ```
+/// assert!(parse(alloc, &[])?.is_none());
+/// ```
+#[tactic(auto, unfolding(crate::specs::Words::work_asked))]
+pub fn parse<'w, A: Allocator>(
+    alloc: A,
+    words: &'w [String],
+) -> Result<Option<Job<'w, A>>, AllocError>
+    ensures { IfOk result (λ job. option_map work_of job ≡ work_asked (words_of words.now)) }
+{
+    match words {
+        [] => Ok(None),
+        [word] if word.as_str() == "strip" => Ok(Some(Job::Strip)),
+        _ => parse_edits(alloc, words),
+    }
+}
+
+// The edits that the words ask for, in order, or `None` where a word asks for none.
+fn parse_edits<'w, A: Allocator>(
+    alloc: A,
+    words: &'w [String],
+) -> Result<Option<Job<'w, A>>, AllocError>
+    ensures { IfOk result (λ job. option_map work_of job ≡ option_map Changed (changes_asked (words_of words.now))) }
+{
+    let mut edits = Vec::new(alloc);
+    for word in words {
+        let Some(edit) = parse_edit(word.as_str()) else {
+            return Ok(None);
+        };
+        edits.push(edit)?;
+    }
+    Ok(Some(Job::Edits(edits)))
+}
+
+// The edit that a word asks for.
+fn parse_edit(word: &str) -> Option<Edit<'_>>
+    ensures { option_map change_of result ≡ change_asked word.now }
+{
+    if word == "trim" {
+        return Some(Edit::Trim);
+    }
+    let (name, field) = word.split_once(':')?;
+    parse_named(name, field)
+}
+
+// The edit of this name, with what stands after the name's colon.
+fn parse_named<'w>(name: &str, field: &'w str) -> Option<Edit<'w>>
+    ensures { option_map change_of result ≡ change_named name.now field.now }
+{
+    match name {
+        "cut" => parse_cut(field),
+        "left" => Some(Edit::Left(parse_number(field)?)),
+        "right" => Some(Edit::Right(parse_number(field)?)),
+        "part" => parse_part(field),
+        "prefix" => Some(Edit::Prefix(field)),
+        "suffix" => Some(Edit::Suffix(field)),
+        _ => None,
+    }
+}
+
+// The cut with the start and the end that these fields write.
+fn parse_cut(fields: &str) -> Option<Edit<'_>>
+    ensures { option_map change_of result ≡ cut_of fields.now }
+{
+    let (start, end) = fields.split_once(':')?;
+    let start = parse_number(start)?;
+    let end = parse_end(end)?;
+    Some(Edit::Cut { start, end })
+}
+
+// The part of the index that the first of these fields writes. Its pattern may hold further colons.
+fn parse_part(fields: &str) -> Option<Edit<'_>>
+    ensures { option_map change_of result ≡ part_of fields.now }
+{
+    let (index, pat) = fields.split_once(':')?;
+    let index = parse_number(index)?;
+    Some(Edit::Part { pat, index })
+}
+
+// An end, where an empty field is no end.
+fn parse_end(field: &str) -> Option<Option<usize>>
+    ensures { result ≡ end_of field.now }
+{
+    if field.is_empty() {
+        return Some(None);
+    }
+    Some(Some(parse_number(field)?))
+}
+
+// The number that the digits of a field write, if it fits. Where std reads a plus in front of them, it
+// is none.
+fn parse_number(field: &str) -> Option<usize>
+    ensures { result ≡ number_of field.now }
+{
+    if field.starts_with('+') {
+        return None;
+    }
+    field.parse().ok()
+}
