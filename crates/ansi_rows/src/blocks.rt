@@ -1,5 +1,6 @@
 //! What blocks and their styles say.
-use crate::said::Said;
+use crate::calls::BlockCall;
+use crate::said::Trial;
 use ansi_str::{AnsiBlock, AnsiBlockIter, Color, Style, get_blocks};
 use refusing::Refusing;
 use std::alloc::{AllocError, Global};
@@ -58,111 +59,86 @@ fn attributes(style: &Style) -> u32 {
     attributes
 }
 
-fn say_style(
-    said: &mut Said,
-    alloc: Global,
-    style: &Style,
-    has_ansi: bool,
-) -> Result<(), AllocError> {
-    said.push(attributes(style).to_string(alloc)?)?;
-    said.push(color_text(alloc, style.foreground())?)?;
-    said.push(color_text(alloc, style.background())?)?;
-    said.push(u8::from(has_ansi).to_string(alloc)?)
+fn say_style(trial: &mut Trial<'_>, style: &Style) {
+    let alloc = trial.alloc;
+    trial.written(attributes(style).to_string(alloc));
+    trial.written(color_text(alloc, style.foreground()));
+    trial.written(color_text(alloc, style.background()));
 }
 
 /// A clone is the same block, and takes no memory where that is a borrow, and only there.
-fn say_clone(said: &mut Said, heap: &Heap, block: &AnsiBlock<'_, &Heap>, is_borrow: bool) {
+fn say_clone(trial: &mut Trial<'_>, heap: &Heap, block: &AnsiBlock<'_, &Heap>, is_borrow: bool) {
     let before = heap.requests();
     match block.clone() {
-        Err(_) => said.is_err = true,
-        Ok(clone) if clone != *block => said.status = "another clone",
+        Err(_) => trial.is_err = true,
+        Ok(clone) if clone != *block => trial.refute("another clone"),
         Ok(_) => {}
     }
     if (heap.requests() == before) != is_borrow {
-        said.status = "memory for a clone";
+        trial.refute("memory for a clone");
     }
 }
 
 /// A block, which is as it was where its clone is refused.
-fn say_block(
-    said: &mut Said,
-    alloc: Global,
-    heap: &Heap,
-    block: &AnsiBlock<'_, &Heap>,
-    is_borrow: bool,
-    is_counted: bool,
-) -> Result<(), AllocError> {
-    say_clone(said, heap, block, is_borrow);
-    said.push_borrow(is_borrow)?;
-    if is_counted {
-        return Ok(());
+fn say_block(trial: &mut Trial<'_>, heap: &Heap, block: &AnsiBlock<'_, &Heap>, is_borrow: bool) {
+    say_clone(trial, heap, block, is_borrow);
+    trial.borrow(is_borrow);
+    if !trial.row.is_count {
+        trial.text(block.text());
+        say_style(trial, block.style());
+        trial.text(if block.has_ansi() { "1" } else { "0" });
     }
-    said.push(String::from_str(alloc, block.text())?)?;
-    say_style(said, alloc, block.style(), block.has_ansi())
 }
 
 /// The next block with its clone, which is a borrow where it takes no memory. Gives whether there was one, and no `Err`.
-fn say_next(
-    said: &mut Said,
-    alloc: Global,
-    heap: &Heap,
-    blocks: &mut AnsiBlockIter<'_, &Heap>,
-    is_counted: bool,
-) -> Result<bool, AllocError> {
+fn say_next(trial: &mut Trial<'_>, heap: &Heap, blocks: &mut AnsiBlockIter<'_, &Heap>) -> bool {
     let before = heap.requests();
     match blocks.next() {
-        None => return Ok(false),
-        Some(Err(_)) => said.is_err = true,
+        None => return false,
+        Some(Err(_)) => trial.is_err = true,
         Some(Ok(block)) => {
             let is_borrow = heap.requests() == before;
-            say_block(said, alloc, heap, &block, is_borrow, is_counted)?;
-            if said.is_err {
-                return Ok(false);
-            }
+            say_block(trial, heap, &block, is_borrow);
         }
     }
-    Ok(!said.is_err)
+    !trial.is_err
 }
 
-fn expect_end(said: &mut Said, blocks: &mut AnsiBlockIter<'_, &Heap>) {
+fn expect_end(trial: &mut Trial<'_>, blocks: &mut AnsiBlockIter<'_, &Heap>) {
     for _ in 0..3 {
         if blocks.next().is_some() {
-            said.status = "a block after the end";
+            trial.refute("a block after the end");
         }
     }
 }
 
-/// All blocks, or how many there are. After an `Err` of the iterator there are none.
-pub fn say_blocks(
-    said: &mut Said,
-    alloc: Global,
-    heap: &Heap,
-    text: &str,
-    are_counted: bool,
-) -> Result<(), AllocError> {
-    let mut blocks = get_blocks(heap, text);
+/// All blocks, or how many there are. After the last one there are none.
+pub fn say_blocks(trial: &mut Trial<'_>, heap: &Heap) {
+    let mut blocks = get_blocks(heap, trial.row.text);
     let mut count = 0usize;
     for _ in 0..usize::MAX {
-        if !say_next(said, alloc, heap, &mut blocks, are_counted)? {
+        if !say_next(trial, heap, &mut blocks) {
             break;
         }
         count = count.saturating_add(1);
     }
-    if said.is_err {
-        return Ok(());
+    if !trial.is_err {
+        expect_end(trial, &mut blocks);
+        trial.count(count);
     }
-    expect_end(said, &mut blocks);
-    if are_counted {
-        said.push(count.to_string(alloc)?)?;
-    }
-    Ok(())
 }
 
-/// The block of an index, in ample memory.
-fn block_at(alloc: Global, text: &str, index: usize) -> Result<Option<AnsiBlock<'_>>, AllocError> {
-    match get_blocks(alloc, text).nth(index) {
-        Some(block) => Ok(Some(block?)),
-        None => Ok(None),
+/// Each block between what sets its style and what ends that.
+pub fn say_styled_blocks(trial: &mut Trial<'_>) {
+    for block in get_blocks(trial.alloc, trial.row.text) {
+        match block {
+            Ok(block) => {
+                say_of_block(trial, &block, BlockCall::Start);
+                say_of_block(trial, &block, BlockCall::Text);
+                say_of_block(trial, &block, BlockCall::End);
+            }
+            Err(_) => trial.is_err = true,
+        }
     }
 }
 
@@ -179,59 +155,25 @@ fn order_text(style: &Style, other: &Style) -> &'static str {
     }
 }
 
-/// What is asked of the block of an index.
-#[derive(Clone, Copy)]
-pub enum BlockCall<'r> {
-    Text,
-    Start,
-    End,
-    /// How its style compares with that of the first block of another text.
-    Order(&'r str),
-}
-
 /// What is asked of a block.
-fn told_of(
-    alloc: Global,
-    block: &AnsiBlock<'_>,
-    call: BlockCall<'_>,
-) -> Result<String, AllocError> {
-    match call {
-        BlockCall::Text => String::from_str(alloc, block.text()),
-        BlockCall::Start => block.style().start().to_string(alloc),
-        BlockCall::End => block.style().end().to_string(alloc),
-        BlockCall::Order(other) => {
-            let order = match block_at(alloc, other, 0)? {
-                Some(other) => order_text(block.style(), other.style()),
-                None => "no block",
-            };
-            String::from_str(alloc, order)
-        }
+fn say_of_block(trial: &mut Trial<'_>, block: &AnsiBlock<'_>, asked: BlockCall<'_>) {
+    let alloc = trial.alloc;
+    match asked {
+        BlockCall::Text => trial.text(block.text()),
+        BlockCall::Start => trial.written(block.style().start().to_string(alloc)),
+        BlockCall::End => trial.written(block.style().end().to_string(alloc)),
+        BlockCall::Order(other) => match get_blocks(alloc, other).next() {
+            Some(Ok(other)) => trial.text(order_text(block.style(), other.style())),
+            _ => trial.refute("no other block"),
+        },
     }
-}
-
-/// Each block between what sets its style and what ends that.
-pub fn said_of_styled_blocks(alloc: Global, text: &str) -> Result<Said, AllocError> {
-    let mut said = Said::new(alloc);
-    for block in get_blocks(alloc, text) {
-        let block = block?;
-        for call in [BlockCall::Start, BlockCall::Text, BlockCall::End] {
-            said.push(told_of(alloc, &block, call)?)?;
-        }
-    }
-    Ok(said)
 }
 
 /// The same of the block of an index.
-pub fn said_of_block(
-    alloc: Global,
-    text: &str,
-    index: usize,
-    call: BlockCall<'_>,
-) -> Result<Said, AllocError> {
-    let mut said = Said::new(alloc);
-    match block_at(alloc, text, index)? {
-        Some(block) => said.push(told_of(alloc, &block, call)?)?,
-        None => said.status = "1",
+pub fn say_block_at(trial: &mut Trial<'_>, index: usize, asked: BlockCall<'_>) {
+    match get_blocks(trial.alloc, trial.row.text).nth(index) {
+        Some(Ok(block)) => say_of_block(trial, &block, asked),
+        Some(Err(_)) => trial.is_err = true,
+        None => trial.none("1"),
     }
-    Ok(said)
 }

@@ -1,38 +1,99 @@
-//! The calls that rows name, but for those that only tell.
+//! The calls that rows name.
 use crate::ranges::AnyRange;
+use crate::rows::Row;
 use ansi_str::Edit;
 
-/// A call that gives one text, or `None`. Each is a call of `AnsiStr`, and one in the memory of any allocator.
+/// What is asked of the block of an index.
 #[derive(Clone, Copy)]
-pub enum TextCall<'r> {
+pub enum BlockCall<'r> {
+    Text,
+    Start,
+    End,
+    /// How its style compares with that of the first block of another text.
+    Order(&'r str),
+}
+
+#[derive(Clone, Copy)]
+pub enum Call<'r> {
     Strip,
     Trim,
     Prefix(&'r str),
     Suffix(&'r str),
     Get(AnyRange),
     Cut(AnyRange),
-}
-
-/// A call in the memory of any allocator.
-#[derive(Clone, Copy)]
-pub enum Call<'r> {
-    Text(TextCall<'r>),
-    Part(&'r str, usize),
-    Edits(&'r [Edit<'r>]),
     SplitAt(usize),
     /// All parts, or how many there are.
-    Split { pat: &'r str, are_counted: bool },
+    Split(&'r str),
+    Find(&'r str),
+    StartsWith(&'r str),
+    EndsWith(&'r str),
+    IsCharBoundary(usize),
+    HasAny,
+    Part(&'r str, usize),
+    Edit(Edit<'r>),
+    Edits(&'r [Edit<'r>]),
     /// All blocks, or how many there are.
-    Blocks { are_counted: bool },
+    Blocks,
+    StyledBlocks,
+    Block(usize, BlockCall<'r>),
+    Items,
+    IsWhole,
 }
 
 impl<'r> Call<'r> {
-    /// The status of a row whose call is a `None`.
-    pub fn none(&self) -> &'static str {
-        match self {
-            Call::Text(TextCall::Get(_) | TextCall::Cut(_)) | Call::Edits(_) | Call::SplitAt(_) =>
-                "2",
-            _ => "1",
-        }
+    /// Whether it is a call of `AnsiStr`.
+    pub fn is_of_trait(&self) -> bool {
+        !matches!(
+            self,
+            Call::Part(..)
+                | Call::Edit(_)
+                | Call::Edits(_)
+                | Call::Blocks
+                | Call::StyledBlocks
+                | Call::Block(..)
+                | Call::Items
+                | Call::IsWhole
+        )
+    }
+
+    /// The call of a row, but for `cut` and `edit`.
+    pub fn new(row: &Row<'r>) -> Option<Self> {
+        Some(match row.call {
+            "strip" => Call::Strip,
+            "trim" => Call::Trim,
+            "strip_prefix" => Call::Prefix(row.argument(0)?),
+            "strip_suffix" => Call::Suffix(row.argument(0)?),
+            "split_at" => Call::SplitAt(row.number(0)?),
+            "split" | "count_parts" => Call::Split(row.argument(0)?),
+            "part" => Call::Part(row.argument(0)?, row.number(1)?),
+            "left" => Call::Edit(Edit::Left(row.number(0)?)),
+            "right" => Call::Edit(Edit::Right(row.number(0)?)),
+            _ => Call::of_blocks(row)?,
+        })
+    }
+
+    fn of_blocks(row: &Row<'r>) -> Option<Self> {
+        Some(match row.call {
+            "blocks" | "count_blocks" => Call::Blocks,
+            "styled_blocks" => Call::StyledBlocks,
+            "block" => Call::Block(row.number(0)?, BlockCall::Text),
+            "block_start" => Call::Block(row.number(0)?, BlockCall::Start),
+            "block_end" => Call::Block(row.number(0)?, BlockCall::End),
+            "block_order" => Call::Block(row.number(0)?, BlockCall::Order(row.argument(1)?)),
+            _ => Call::that_tells(row)?,
+        })
+    }
+
+    fn that_tells(row: &Row<'r>) -> Option<Self> {
+        Some(match row.call {
+            "items" => Call::Items,
+            "is_whole" => Call::IsWhole,
+            "has_any" => Call::HasAny,
+            "find" => Call::Find(row.argument(0)?),
+            "starts_with" => Call::StartsWith(row.argument(0)?),
+            "ends_with" => Call::EndsWith(row.argument(0)?),
+            "is_char_boundary" => Call::IsCharBoundary(row.number(0)?),
+            _ => return None,
+        })
     }
 }

@@ -1,25 +1,25 @@
 //! What a scanner says.
-use crate::said::Said;
+use crate::said::Trial;
 use ansi_str::ansitok::{Item, Kind, Scanner};
-use std::alloc::{AllocError, Global};
 
 /// The kind of an item and its length.
-fn item_text(alloc: Global, item: &Item) -> Result<String, AllocError> {
+fn say_item(trial: &mut Trial<'_>, item: &Item) {
     let kind = match item.kind {
         Kind::Text => "text",
         Kind::Sgr => "sgr",
         Kind::Other => "other",
         Kind::Lone => "lone",
     };
-    format!(in alloc; "{kind} {}", item.end.saturating_sub(item.start))
+    let len = item.end.saturating_sub(item.start);
+    trial.written(format!(in trial.alloc; "{kind} {len}"));
 }
 
 /// The items of a text, one after the other, after which there are none.
-pub fn said_of_items(alloc: Global, text: &str) -> Result<Said, AllocError> {
-    let mut said = Said::new(alloc);
+pub fn say_items(trial: &mut Trial<'_>) {
+    let text = trial.row.text;
     let mut scanner = Scanner::new(text);
     if scanner.reads() != 0 {
-        said.status = "a look too early";
+        trial.refute("a look too early");
     }
     let mut offset = 0;
     for _ in 0..usize::MAX {
@@ -27,18 +27,17 @@ pub fn said_of_items(alloc: Global, text: &str) -> Result<Said, AllocError> {
             break;
         };
         if item.start != offset {
-            said.status = "a gap";
+            trial.refute("a gap");
         }
         offset = item.end;
-        said.push(item_text(alloc, &item)?)?;
+        say_item(trial, &item);
     }
     if scanner.next().is_some() || scanner.next().is_some() {
-        said.status = "an item after the end";
+        trial.refute("an item after the end");
     }
     // from as many looks as the text has bytes up to four times as many
     let (looks, len) = (scanner.reads(), text.len() as u128);
     if looks < len || looks > 4 * len {
-        said.status = "too few or too many looks";
+        trial.refute("too few or too many looks");
     }
-    Ok(said)
 }

@@ -13,9 +13,11 @@ mod said;
 mod texts;
 mod tries;
 
-use rows::{Row, fields_of};
-use said::Fault;
+use rows::{Line, Row};
+use said::Trial;
 use std::alloc::{AllocError, Global};
+use std::io;
+use tries::try_row;
 
 /// How many rows of each call passed.
 #[derive(Drop)]
@@ -37,20 +39,34 @@ impl Tally {
 }
 
 /// A fault of the row, if there is one. A row that no caller in Rattle can ask for has none, and isn't counted.
-fn tried(alloc: Global, line: &str, tally: &mut Tally) -> anyhow::Result<Option<Fault>> {
-    let Some(fields) = fields_of(alloc, line)? else {
-        tally.count(alloc, "passed over")?;
-        return Ok(None);
+fn fault_of_row(alloc: Global, row: Row<'_>) -> Option<String> {
+    let mut trial = Trial::new(alloc, row);
+    if try_row(&mut trial).is_none() {
+        trial.refute("no such call");
+    }
+    trial.fault
+}
+
+fn tried(alloc: Global, line: &str, tally: &mut Tally) -> io::Result<Option<String>> {
+    let fields = match Line::new(alloc, line) {
+        Line::Fields(fields) => fields,
+        Line::NotUtf8 => {
+            tally.count(alloc, "passed over")?;
+            return Ok(None);
+        }
+        Line::Unread => return Ok(Some(String::from_str(alloc, "no row")?)),
     };
-    let row = Row::new(fields.as_slice())?;
-    let fault = tries::fault(alloc, &row)?;
+    let Some(row) = Row::new(fields.as_slice()) else {
+        return Ok(Some(String::from_str(alloc, "no row")?));
+    };
+    let fault = fault_of_row(alloc, row);
     if fault.is_none() {
         tally.count(alloc, row.call)?;
     }
     Ok(fault)
 }
 
-fn main(rt: HostRuntime) -> anyhow::Result<()> {
+fn main(rt: HostRuntime) -> io::Result<()> {
     let alloc = rt.alloc();
     let mut tally = Tally {
         passed: Vec::new(alloc),
@@ -61,7 +77,7 @@ fn main(rt: HostRuntime) -> anyhow::Result<()> {
             continue;
         }
         if let Some(fault) = tried(alloc, line.as_str(), &mut tally)? {
-            println!(rt; "line {}: {}: {:?}", index + 1, fault.what, fault.said)?;
+            println!(rt; "line {}: {fault}", index + 1)?;
         }
     }
     for (call, count) in &tally.passed {

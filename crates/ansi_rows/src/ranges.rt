@@ -1,11 +1,11 @@
 //! Ranges of the six types that calls take.
 ghost use Rattle.std.specs.Prelude.{IsTrue};
 ghost use Rattle.ansi_str.specs.Plain.{plain};
-ghost use Rattle.ansi_str.specs.Positions.{is_good_position, is_good_range};
+ghost use Rattle.ansi_str.specs.Positions.{is_good_range};
 
+use crate::said::Trial;
 use ansi_str::{AnsiRange, AnsiStr};
-use std::alloc::{AllocError, Global};
-use std::borrow::CowStr;
+use std::alloc::Global;
 
 /// A range of one of the six types.
 #[derive(Clone, Copy)]
@@ -21,27 +21,21 @@ pub enum AnyRange {
 use AnyRange::{Range, RangeFrom, RangeFull, RangeInclusive, RangeTo, RangeToInclusive};
 
 /// Every range from a start to an end. An end of `usize::MAX` is none.
-pub fn ranges_of(alloc: Global, start: usize, end: usize) -> Result<Vec<AnyRange>, AllocError> {
-    let mut ranges = Vec::new(alloc);
-    ranges.push(Range(start, end))?;
-    if start == 0 {
-        ranges.push(RangeTo(end))?;
-    }
-    if let Some(last) = end.checked_sub(1) {
-        ranges.push(RangeInclusive(start, last))?;
-        if start == 0 {
-            ranges.push(RangeToInclusive(last))?;
-        }
-    }
-    if end == usize::MAX {
-        ranges.push(RangeInclusive(start, end))?;
-        ranges.push(RangeFrom(start))?;
-        if start == 0 {
-            ranges.push(RangeToInclusive(end))?;
-            ranges.push(RangeFull)?;
-        }
-    }
-    Ok(ranges)
+pub fn ranges_of(start: usize, end: usize) -> [Option<AnyRange>; 8] {
+    let is_from_zero = start == 0;
+    let is_endless = end == usize::MAX;
+    let has_last = end > 0;
+    let last = end.saturating_sub(1);
+    [
+        Some(Range(start, end)),
+        is_from_zero.then_some(RangeTo(end)),
+        has_last.then_some(RangeInclusive(start, last)),
+        (has_last & is_from_zero).then_some(RangeToInclusive(last)),
+        is_endless.then_some(RangeInclusive(start, end)),
+        is_endless.then_some(RangeFrom(start)),
+        (is_endless & is_from_zero).then_some(RangeToInclusive(end)),
+        (is_endless & is_from_zero).then_some(RangeFull),
+    ]
 }
 
 impl AnyRange {
@@ -57,57 +51,28 @@ impl AnyRange {
         }
     }
 
-    /// The answer of `ansi_get` at the range's own type.
-    pub fn get<T: AnsiStr>(
-        self,
-        alloc: Global,
-        text: &T,
-    ) -> Result<Option<CowStr<'_>>, AllocError> {
+    /// Says what `ansi_get` or `ansi_cut` answers at the range's own type.
+    pub fn say<T: AnsiStr>(self, trial: &mut Trial<'_>, text: &T, is_cut: bool) {
         match self {
-            Range(a, b) => get_at(alloc, text, a..b),
-            RangeInclusive(a, b) => get_at(alloc, text, a..=b),
-            RangeFrom(a) => get_at(alloc, text, a..),
-            RangeTo(b) => get_at(alloc, text, ..b),
-            RangeToInclusive(b) => get_at(alloc, text, ..=b),
-            RangeFull => get_at(alloc, text, ..),
-        }
-    }
-
-    /// The answer of `ansi_cut` at the range's own type, or `None` where the range is bad.
-    pub fn cut<T: AnsiStr>(
-        self,
-        alloc: Global,
-        text: &T,
-    ) -> Result<Option<CowStr<'_>>, AllocError> {
-        match self {
-            Range(a, b) => cut_at(alloc, text, a..b),
-            RangeInclusive(a, b) => cut_at(alloc, text, a..=b),
-            RangeFrom(a) => cut_at(alloc, text, a..),
-            RangeTo(b) => cut_at(alloc, text, ..b),
-            RangeToInclusive(b) => cut_at(alloc, text, ..=b),
-            RangeFull => cut_at(alloc, text, ..),
+            Range(a, b) => say_range(trial, text, a..b, is_cut),
+            RangeInclusive(a, b) => say_range(trial, text, a..=b, is_cut),
+            RangeFrom(a) => say_range(trial, text, a.., is_cut),
+            RangeTo(b) => say_range(trial, text, ..b, is_cut),
+            RangeToInclusive(b) => say_range(trial, text, ..=b, is_cut),
+            RangeFull => say_range(trial, text, .., is_cut),
         }
     }
 }
 
-// A function without a contract of its own, so that six of its calls are quick to prove.
-fn get_at<T: AnsiStr, R: AnsiRange>(
-    alloc: Global,
-    text: &T,
-    range: R,
-) -> Result<Option<CowStr<'_>>, AllocError> {
-    text.ansi_get(alloc, range)
-}
-
-fn cut_at<T: AnsiStr, R: AnsiRange>(
-    alloc: Global,
-    text: &T,
-    range: R,
-) -> Result<Option<CowStr<'_>>, AllocError> {
-    if !is_good_range_of(alloc, text, range.start(), range.end()) {
-        return Ok(None);
+fn say_range<T: AnsiStr, R: AnsiRange>(trial: &mut Trial<'_>, text: &T, range: R, is_cut: bool) {
+    let alloc = trial.alloc;
+    if !is_cut {
+        trial.hear_option(text.ansi_get(alloc, range), "2");
+    } else if is_good_range_of(alloc, text, range.start(), range.end()) {
+        trial.hear(text.ansi_cut(alloc, range));
+    } else {
+        trial.none("2");
     }
-    Ok(Some(text.ansi_cut(alloc, range)?))
 }
 
 /// Whether the text may be cut at both positions.
@@ -123,11 +88,4 @@ pub fn is_good_range_of<T: AnsiStr>(
         Some(end) => matches!(text.ansi_get(alloc, start..end), Ok(Some(_))),
         None => matches!(text.ansi_get(alloc, start..), Ok(Some(_))),
     }
-}
-
-/// Whether the text may be split at the position.
-pub fn is_good_position_of<T: AnsiStr>(alloc: Global, text: &T, mid: usize) -> bool
-    ensures { IsTrue result → IsTrue (is_good_position (plain (T.text text.now)) mid) }
-{
-    matches!(text.ansi_get(alloc, mid..), Ok(Some(_)))
 }

@@ -9,47 +9,72 @@
 //! - The status is 0; 1 where there is no such thing; 2 where a position or an edit is refused; 3 where a text isn't UTF-8,
 //!   so that no caller in Rattle can ask for it.
 //! - The answer is a text or a number.
-use anyhow::Context;
 use std::alloc::Global;
 
+/// What a line has.
+#[derive(Drop)]
+pub enum Line {
+    Fields(Vec<String>),
+    /// A field isn't UTF-8.
+    NotUtf8,
+    /// An escape is malformed, or memory is wanting.
+    Unread,
+}
+
+fn push_repeated(expanded: &mut String, piece: &str) -> Option<()> {
+    let (count, piece) = piece.split_once(':')?;
+    let (text, after) = piece.split_once('}')?;
+    for _ in 0..count.parse::<u32>().ok()? {
+        expanded.push_str(text).ok()?;
+    }
+    expanded.push_str(after).ok()
+}
+
 /// The line with each `\{N:TEXT}` written out.
-fn expanded(alloc: Global, line: &str) -> anyhow::Result<String> {
-    let mut expanded = String::new(alloc);
+fn expanded(alloc: Global, line: &str) -> Option<String> {
     let mut pieces = line.split("\\{");
-    expanded.push_str(pieces.next().unwrap_or(""))?;
+    let mut expanded = String::from_str(alloc, pieces.next()?).ok()?;
     for piece in pieces {
-        let (count, piece) = piece.split_once(':').context("no count")?;
-        let (text, after) = piece.split_once('}').context("no end of what repeats")?;
-        expanded.push_str(text.repeat(alloc, count.parse()?)?.as_str())?;
-        expanded.push_str(after)?;
+        push_repeated(&mut expanded, piece)?;
     }
-    Ok(expanded)
+    Some(expanded)
 }
 
-/// A field's text, or `None` where it isn't UTF-8.
-fn text_of(alloc: Global, field: &str) -> anyhow::Result<Option<String>> {
-    let mut bytes = Vec::with_capacity(alloc, field.len())?;
+fn push_byte(bytes: &mut Vec<u8>, piece: &str) -> Option<()> {
+    let (digits, after) = piece.split_at_checked(2)?;
+    bytes.push(u8::from_str_radix(digits, 16).ok()?).ok()?;
+    bytes.extend_from_slice(after.as_bytes()).ok()
+}
+
+/// A field with each `\xHH` as the byte HH.
+fn bytes_of(alloc: Global, field: &str) -> Option<Vec<u8>> {
     let mut pieces = field.split("\\x");
-    bytes.extend_from_slice(pieces.next().unwrap_or("").as_bytes())?;
+    let mut bytes = Vec::from_slice(alloc, pieces.next()?.as_bytes()).ok()?;
     for piece in pieces {
-        let (digits, after) = piece.split_at_checked(2).context("no two digits")?;
-        bytes.push(u8::from_str_radix(digits, 16)?)?;
-        bytes.extend_from_slice(after.as_bytes())?;
+        push_byte(&mut bytes, piece)?;
     }
-    Ok(String::from_utf8(bytes).ok())
+    Some(bytes)
 }
 
-/// The fields of a line, or `None` where one of them isn't UTF-8.
-pub fn fields_of(alloc: Global, line: &str) -> anyhow::Result<Option<Vec<String>>> {
-    let mut fields = Vec::new(alloc);
-    let line = expanded(alloc, line)?;
-    for field in line.split('\t') {
-        let Some(text) = text_of(alloc, field)? else {
-            return Ok(None);
+impl Line {
+    pub fn new(alloc: Global, line: &str) -> Self {
+        let Some(line) = expanded(alloc, line) else {
+            return Line::Unread;
         };
-        fields.push(text)?;
+        let mut fields = Vec::new(alloc);
+        for field in line.split('\t') {
+            let Some(bytes) = bytes_of(alloc, field) else {
+                return Line::Unread;
+            };
+            let Ok(text) = String::from_utf8(bytes) else {
+                return Line::NotUtf8;
+            };
+            if fields.push(text).is_err() {
+                return Line::Unread;
+            }
+        }
+        Line::Fields(fields)
     }
-    Ok(Some(fields))
 }
 
 /// A row by its fields.
@@ -59,6 +84,8 @@ pub struct Row<'r> {
     /// A `b` or an `o` for each text that the call gives.
     pub borrows: &'r str,
     pub call: &'r str,
+    /// Whether the answer is how many texts the call gives, and the row has none of them.
+    pub is_count: bool,
     pub status: &'r str,
     pub text: &'r str,
     /// What the call takes beside its text, and what may follow that.
@@ -68,21 +95,22 @@ pub struct Row<'r> {
 }
 
 impl<'r> Row<'r> {
-    pub fn new(fields: &'r [String]) -> anyhow::Result<Self> {
+    /// The row that has the fields, if they are those of one.
+    pub fn new(fields: &'r [String]) -> Option<Self> {
         let [memory, call, status, answer, text, more @ ..] = fields else {
-            anyhow::bail!("too few fields");
+            return None;
         };
-        let borrows = memory.as_str().get(1..).context("no memory")?;
         let gives = match call.as_str() {
-            "split" | "split_at" => more.get(1..).context("no argument")?,
+            "split" | "split_at" => more.get(1..)?,
             "blocks" | "styled_blocks" | "items" => more,
             _ if status.as_str() == "0" => std::slice::from_ref(answer),
             _ => &[],
         };
-        Ok(Row {
+        Some(Row {
             takes_memory: memory.starts_with('+'),
-            borrows,
+            borrows: memory.as_str().get(1..)?,
             call: call.as_str(),
+            is_count: call.starts_with("count_"),
             status: status.as_str(),
             text: text.as_str(),
             more,
@@ -91,13 +119,12 @@ impl<'r> Row<'r> {
     }
 
     /// What the call takes beside its text, by its place.
-    pub fn argument(&self, place: usize) -> anyhow::Result<&'r str> {
-        let argument = self.more.get(place).context("no argument")?;
-        Ok(argument.as_str())
+    pub fn argument(&self, place: usize) -> Option<&'r str> {
+        Some(self.more.get(place)?.as_str())
     }
 
     /// The same where it is a number.
-    pub fn number(&self, place: usize) -> anyhow::Result<usize> {
-        Ok(self.argument(place)?.parse()?)
+    pub fn number(&self, place: usize) -> Option<usize> {
+        self.argument(place)?.parse().ok()
     }
 }
