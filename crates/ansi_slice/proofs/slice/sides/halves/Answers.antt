@@ -1,4 +1,4 @@
-use Rattle.std.proofs.Common.{arith, ◌≡◌, take, drop, min, sym, ◌∙◌, subst, IsTrue}
+use Rattle.std.proofs.Common.{arith, ◌≡◌, take, drop, sym, ◌∙◌, subst, IsTrue}
 use Rattle.std.proofs.lemmas.Grind.{common_steps}
 use Rattle.std.specs.Str.{IsCharBoundary}
 use Rattle.ansi_items.proofs.PlainLemmas.{plain-bare}
