@@ -1,6 +1,8 @@
 -- A pattern at the front and at the end of a text, met over the texts that are left.
-use Rattle.std.proofs.Common.{◌≡◌, ℕ, ◌+◌, ◌-◌, ◌≤◌, ◌⊎◌, inl, inr, IsTrue, Bool, true, false, ◌&&◌, List, [], ◌∷◌, ◌++◌, length, take, drop, nat_eq, refl, sym, ◌∙◌, ap, ap₂, subst, arith}
+use Rattle.std.proofs.Common.{◌≡◌, ◌==◌, ℕ, ◌+◌, ◌-◌, ◌≤◌, ◌⊎◌, inl, inr, IsTrue, Bool, true, false, ◌&&◌, List, [], ◌∷◌, ◌++◌, length, take, drop, nat_eq, refl, sym, ◌∙◌, ap, ap₂, subst, arith}
 use Rattle.std.proofs.Math.Bool.{and_assoc}
+use Rattle.std.proofs.Math.Seq.{drop-nil}
+use Rattle.std.proofs.lemmas.Bool.Decides.{nat_tests}
 use Rattle.std.proofs.lemmas.Cmp.{nat_eq_equiv}
 use Rattle.std.proofs.lemmas.List.{take-append-le, take_all, drop-drop, length-drop, length-take}
 use Rattle.std.proofs.lemmas.Str.{IsCharBoundary-start, IsCharBoundary-from_take, IsCharBoundary-from_drop}
@@ -69,6 +71,16 @@ met-more {whole} {before} {next} {pat} {rest} {w} {run} {left} {ps} so_far is ru
           ∙ met-run so_far is run_is;
     } in
     rw (next_is, rest_is) step
+
+-- at the end
+pub met-end : {whole : Bool} {before : ℕ} {pat : List ℕ} {left : List Piece} → IsMetSoFar whole before pat left → left ≡ [] → (length pat == 0) ≡ whole
+met-end {whole} {before} {pat} so_far none =
+    let last = subst (IsMetSoFar whole before pat) none so_far in
+    empty pat ∙ ap (λ v. starts_with nat_eq v pat) (sym (drop-nil before)) ∙ last.met
+  where
+    empty : (p : List ℕ) → (length p == 0) ≡ starts_with nat_eq [] p
+    empty [] = refl
+    empty (b ∷ p) = (let some : (length (b ∷ p) == 0) ≡ false = grind (arith, nat_tests) in some)
 
 -- A text may be cut after what it begins with, and before what it ends with.
 

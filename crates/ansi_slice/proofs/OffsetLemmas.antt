@@ -199,15 +199,21 @@ style-after (Sequence w ∷ ps) c s e ordered =
 style-after (LoneEscape ∷ ps) c s e ordered =
     ap (λ r. style_by_marks r (after_of s ps) (e - s)) (style_by_marks-lone c ps s) ∙ style-after ps c s e ordered ∙ sym (style_by_marks-lone c ps e)
 
+-- a front that is one stretch
+front-stretch : {t : List ℕ} {e to : ℕ} → StandsIn t e to → take to t ≡ shown_from false 0 e (pieces_of t)
+front-stretch {t} {e} end = ap₂ (λ i u. take i u) end.offset (sym (spelled-pieces_of t)) ∙ sym (shown_from-stretch false (pieces_of t) e ∙ append-nil _)
+
+-- a cut from the front, by the offset of its end
+pub cut-front : {t : List ℕ} {e to : ℕ} {style : Rendition} → StandsIn t e to → style ≡ style_within plain_style t e → take to t ++ close style ≡ cut_up_to t 0 e
+cut-front {t} {e} end style_is = ap₂ (λ u r. u ++ close r) (front-stretch end) style_is ∙ sym (cut_up_to-walk t 0 e)
+
 -- a cut, by the offsets of its start, and of its end in what follows that
 pub cut-stretch : {t rest : List ℕ} {s e from to : ℕ} {c style : Rendition} → s ≤ e → StandsIn t s from → rest ≡ drop from t → StandsIn rest (e - s) to
     → c ≡ style_within plain_style t s → style ≡ style_within c rest (e - s) → (sequences_up_to s (pieces_of t) ++ take to rest) ++ close style ≡ cut_up_to t s e
 cut-stretch {t} {rest} {s} {e} {from} {to} {c} {style} ordered start rest_is end c_is style_is =
     let ps = pieces_of t in
     let after : pieces_of rest ≡ after_of s ps = ap pieces_of rest_is ∙ ap (λ i. pieces_of (drop i t)) start.offset ∙ pieces_of-after t s in
-    let stretch : take to rest ≡ shown_from false 0 (e - s) (pieces_of rest)
-    = ap₂ (λ i u. take i u) end.offset (sym (spelled-pieces_of rest)) ∙ sym (shown_from-stretch false (pieces_of rest) (e - s) ∙ append-nil _) in
-    ap₂ (λ u r. (sequences_up_to s ps ++ u) ++ close r) (stretch ∙ ap (shown_from false 0 (e - s)) after)
+    ap₂ (λ u r. (sequences_up_to s ps ++ u) ++ close r) (front-stretch end ∙ ap (shown_from false 0 (e - s)) after)
     (style_is ∙ ap₂ (λ r qs. style_by_marks r qs (e - s)) c_is after ∙ style-after ps plain_style s e ordered)
     ∙ sym (cut_up_to-walk t s e ∙ ap (λ u. u ++ close (style_by_marks plain_style ps e)) (shown_from-front false ps s e ordered))
 
@@ -376,6 +382,9 @@ way-boundary {t} {i = i} way over last is good = (let here = way-good way over l
 -- What has been appended, and the sequences up to a place in what is left, are all.
 pub record IsPushedSoFar (whole written : List ℕ) (n : ℕ) (left : List Piece) : Type 0 where
   pub pushed : written ++ sequences_up_to n left ≡ whole
+
+pub pushed-begin : (out t : List ℕ) (n : ℕ) → IsPushedSoFar (out ++ sequences_up_to n (pieces_of t)) out n (pieces_of t)
+pushed-begin out t n = record { pushed = refl }
 
 pub pushed-text : {whole written : List ℕ} {n next : ℕ} {w : List ℕ} {old ps : List Piece} → IsPushedSoFar whole written n old → old ≡ Text w ∷ ps → length w ≤ n → next ≡ n - length w
     → IsPushedSoFar whole written next ps

@@ -107,6 +107,14 @@ good_range_parts x s e good =
 pub good_range_from : (x : List ℕ) (s e : ℕ) → s ≤ e → IsCharBoundary x s → IsCharBoundary x e → is_good_range x s (Some e) ≡ true
 good_range_from x s e ordered from to = and_from _ _ (le-leb s e ordered) (and_from _ _ (boundary_is_good x s from) (boundary_is_good x e to))
 
+-- no range ends before its start
+pub is_good_range-disordered : (x : List ℕ) (s e : ℕ) → e < s → is_good_range x s (Some e) ≡ false
+is_good_range-disordered x s e disordered = ap (λ b. b && (is_good_position x s && is_good_position x e)) (lt-leb s e disordered)
+
+-- each text begins at a good position
+pub is_good_range-front : (x : List ℕ) (e : ℕ) → IsUtf8 x → is_good_range x 0 (Some e) ≡ is_good_position x e
+is_good_range-front x e utf8 = ap₂ (λ a b. a && (b && is_good_position x e)) (le-leb 0 e (omega arith)) (boundary_is_good x 0 (IsCharBoundary-start x utf8))
+
 -- all before a character boundary is a good range
 pub good_before : (x : List ℕ) (n : ℕ) → IsUtf8 x → IsCharBoundary x n → IsTrue (is_good_range x 0 (Some n))
 good_before x n utf8 boundary = good_range_from x 0 n (omega arith) (IsCharBoundary-start x utf8) boundary

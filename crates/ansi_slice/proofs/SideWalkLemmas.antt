@@ -1,10 +1,8 @@
 -- A side of a text as what its pieces give before a place, or after it; and how far the walk over them has come.
-use Rattle.std.proofs.Common.{◌≡◌, ◌≢◌, ℕ, ◌+◌, ◌-◌, ◌<◌, ◌≤◌, inl, inr, true, false, List, [], ◌∷◌, ◌++◌, length, take, drop, sym, ◌∙◌, refl, ap, ap₂, arith, append_assoc, append-nil, length-append, if◌then◌else◌}
+use Rattle.std.proofs.Common.{◌≡◌, ℕ, ◌+◌, ◌-◌, ◌<◌, ◌≤◌, inl, inr, true, List, [], ◌∷◌, ◌++◌, length, take, drop, sym, ◌∙◌, refl, ap, ap₂, arith, append_assoc, append-nil, length-append, if◌then◌else◌}
 use Rattle.std.proofs.lemmas.Bool.{cases_lt, le-leb, lt-leb, lt-ltb, le-ltb}
 use Rattle.std.proofs.lemmas.List.{take_all, drop_all, length-drop}
 use Rattle.ansi_items.specs.declared.ansitok.Kind.{Kind}
-use Rattle.ansi_items.specs.declared.ansitok.Kind.TheVariants.{Sgr}
-use Rattle.ansi_items.specs.Sequences.{is_sgr}
 use Rattle.ansi_items.specs.Pieces.{Piece, Text, Sequence, LoneEscape, spelling, pieces_of}
 use Rattle.ansi_items.specs.Plain.{plain_of, copied}
 use Rattle.ansi_items.proofs.PlainLemmas.{length-plain}
@@ -16,7 +14,6 @@ use Rattle.ansi_style.specs.Reading.{style_within}
 use Rattle.ansi_style.proofs.MarkLemmas.{style_by_marks, style_by_marks-before, style_by_marks-sequence, style_by_marks-lone}
 use Rattle.ansi_slice.specs.Sides.{dressed, left_part, right_part, left_side, right_side, side_up_to}
 use Rattle.ansi_slice.specs.Offsets.{StandsIn}
-use Rattle.ansi_style.proofs.SgrLemmas.{apply-no_sgr}
 use Rattle.ansi_slice.proofs.WalkLemmas.{walked}
 use Rattle.ansi_slice.proofs.SideLemmas.{left_side-walked, right_side-walked}
 use Rattle.ansi_slice.proofs.OffsetLemmas.{after_of, after_of-last, after_of-text, style-text, pieces_of-after}
@@ -118,6 +115,9 @@ right_side-is {t} {rest} {mid} {i} {top} {style} stands is styled fits =
 pub record IsSideSoFar (whole written : List ℕ) (style : Rendition) (n : ℕ) (left : List Piece) : Type 0 where
   pub side : written ++ side_up_to style n left ≡ whole
 
+pub side-begin : (out : List ℕ) (s : Rendition) (n : ℕ) (t : List ℕ) → IsSideSoFar (out ++ side_up_to s n (pieces_of t)) out s n (pieces_of t)
+side-begin out s n t = record { side = refl }
+
 pub side-text : {whole written new : List ℕ} {style : Rendition} {n next : ℕ} {w : List ℕ} {left ps : List Piece} → IsSideSoFar whole written style n left → left ≡ Text w ∷ ps → length w ≤ n
     → new ≡ written ++ dressed style w → next ≡ n - length w → IsSideSoFar whole new style next ps
 side-text {whole} {written} {new} {style} {n} {next} {w} {left} {ps} so_far first within more is =
@@ -131,27 +131,11 @@ side_up_to-mark (Text w) s n ps is = absurd (cc is)
 side_up_to-mark (Sequence w) s n ps is = refl
 side_up_to-mark LoneEscape s n ps is = refl
 
--- over an SGR
-pub side-sgr : {whole written : List ℕ} {style next : Rendition} {n : ℕ} {kind : Kind} {w : List ℕ} {left ps : List Piece} → IsSideSoFar whole written style n left → BeginsWithMark kind w left ps
-    → kind ≡ Sgr → next ≡ apply style w → IsSideSoFar whole written next n ps
-side-sgr {whole} {written} {style} {next} {n} {kind} {w} {left} {ps} so_far begins kind_is applied =
-    let is : is_sgr (spelling begins.mark) ≡ true = ap is_sgr begins.bytes ∙ begins.sgr kind_is in
-    record {
-      side = ap (λ v. written ++ v)
-          (ap (λ r. side_up_to r n ps) (applied ∙ ap (apply style) (sym begins.bytes))
-          ∙ sym (ap (side_up_to style n) begins.pieces ∙ side_up_to-mark begins.mark style n ps begins.is_mark
-          ∙ ap (λ b. (if b then [] else spelling begins.mark) ++ side_up_to (apply style (spelling begins.mark)) n ps) is))
-          ∙ so_far.side;
-    }
-
--- over any other mark
-pub side-mark : {whole written new : List ℕ} {style : Rendition} {n : ℕ} {kind : Kind} {w : List ℕ} {left ps : List Piece} → IsSideSoFar whole written style n left → BeginsWithMark kind w left ps
-    → kind ≢ Sgr → new ≡ written ++ w → IsSideSoFar whole new style n ps
-side-mark {whole} {written} {new} {style} {n} {kind} {w} {left} {ps} so_far begins other more =
-    let bytes = begins.bytes in
-    let no_sgr : is_sgr (spelling begins.mark) ≡ false = ap is_sgr bytes ∙ begins.no_sgr other in
-    let here : side_up_to style n left ≡ w ++ side_up_to style n ps
+-- over a mark
+pub side-mark : {whole written new : List ℕ} {style next : Rendition} {n : ℕ} {kind : Kind} {w : List ℕ} {left ps : List Piece} → IsSideSoFar whole written style n left → BeginsWithMark kind w left ps
+    → new ≡ written ++ copied (Sequence w) → next ≡ apply style w → IsSideSoFar whole new next n ps
+side-mark {whole} {written} {new} {style} {next} {n} {kind} {w} {left} {ps} so_far begins more applied =
+    let here : side_up_to style n left ≡ copied (Sequence w) ++ side_up_to (apply style w) n ps
     = ap (side_up_to style n) begins.pieces ∙ side_up_to-mark begins.mark style n ps begins.is_mark
-    ∙ ap₂ (λ b r. (if b then [] else spelling begins.mark) ++ side_up_to r n ps) no_sgr (apply-no_sgr style (spelling begins.mark) no_sgr)
-    ∙ ap (λ v. v ++ side_up_to style n ps) bytes in
-    record { side = ap (λ v. v ++ side_up_to style n ps) more ∙ append_assoc written w (side_up_to style n ps) ∙ ap (λ v. written ++ v) (sym here) ∙ so_far.side }
+    ∙ ap (λ v. copied (Sequence v) ++ side_up_to (apply style v) n ps) begins.bytes in
+    rw (more, applied) (record { side = append_assoc written (copied (Sequence w)) (side_up_to (apply style w) n ps) ∙ ap (λ v. written ++ v) (sym here) ∙ so_far.side })

@@ -1,5 +1,5 @@
 //! The slices of a text, with every sequence at its place: the functions that the calls of `AnsiStr` stand on.
-ghost use Rattle.std.specs.Prelude.{◌≡◌, ◌↔◌, IsFalse, IsOk, IfOk};
+ghost use Rattle.std.specs.Prelude.{◌≡◌, ◌++◌, ◌↔◌, IsFalse, IsOk, IfOk, OnOk, string_bytes};
 ghost use Rattle.std.specs.Cow.{cow_str_bytes, IsBorrowedStr};
 ghost use Rattle.ansi_items.specs.Plain.{plain, has_escape};
 
@@ -46,10 +46,19 @@ pub fn strip_in<'t, A: Allocator>(alloc: A, text: &'t str) -> Result<CowStr<'t, 
         return Ok(CowStr::Borrowed(text));
     }
     let mut plain = String::with_capacity(alloc, text.len())?;
+    push_plain(&mut plain, text)?;
+    Ok(CowStr::Owned(plain))
+}
+
+/// Appends the plain text of a text. An `Err` means that memory is wanting; what was appended up to there
+/// stands.
+fn push_plain<A: Allocator>(out: &mut String<A>, text: &str) -> Result<(), AllocError>
+    ensures { OnOk result (string_bytes out.new ≡ string_bytes out.old ++ plain text.now) }
+{
     for item in Scanner::new(text) {
         if item.kind == Kind::Text {
-            plain.push_str(&text[item.start..item.end])?;
+            out.push_str(&text[item.start..item.end])?;
         }
     }
-    Ok(CowStr::Owned(plain))
+    Ok(())
 }

@@ -1,13 +1,18 @@
 //! Cuts of a text.
-ghost use Rattle.std.specs.Prelude.{◌≡◌, ◌↔◌, ◌⊎◌, ◌≤◌, ◌+◌, length, Some, MatchOption, slice_range, IsTrue, IsFalse, IsNone, IsOk, IfOk, IfSome, string_bytes};
+ghost use Rattle.std.specs.Prelude.{◌≡◌, ◌↔◌, ◌⊎◌, ◌≤◌, ◌+◌, ◌++◌, length, Some, MatchOption, slice_range, IsTrue, IsFalse, IsNone, IsOk, IfOk, IfSome, string_bytes};
 ghost use Rattle.std.specs.Cow.{cow_str_bytes, IsBorrowedStr};
+ghost use Rattle.ansi_items.specs.Pieces.{pieces_of};
 ghost use Rattle.ansi_items.specs.Plain.{plain, has_escape};
 ghost use Rattle.ansi_slice.specs.Positions.{is_good_range};
 ghost use Rattle.ansi_slice.specs.Cut.{cut, cut_up_to};
+ghost use Rattle.ansi_slice.specs.Offsets.{sequences_up_to};
+ghost use Rattle.ansi_style.specs.States.{rendition_of};
+ghost use Rattle.ansi_style.specs.Written.{close};
 
 use crate::search::offsets::walk_to;
 use crate::slice::has_any;
 use crate::slice::sequences::with_sequences;
+use ansi_style::state::Style;
 use ansi_style::styles;
 use std::alloc::{AllocError, Allocator};
 use std::borrow::CowStr;
@@ -84,8 +89,7 @@ fn range_of(text: &str, start: usize, end: usize) -> Option<&str>
     Some(&text[from..to])
 }
 
-/// The cut of a text, written, or `None` where the range is bad: the sequences up to its start, the
-/// stretch of the text from there on with the sequences up to its end, and the close of the style then.
+/// The cut of a text, written, or `None` where the range is bad.
 fn cut_up_to<A: Allocator>(
     alloc: A,
     text: &str,
@@ -98,6 +102,42 @@ fn cut_up_to<A: Allocator>(
     if end < start {
         return Ok(None);
     }
+    if start == 0 {
+        return cut_front(alloc, text, end);
+    }
+    cut_range(alloc, text, start, end)
+}
+
+/// The cut of a text from its front, written, or `None` where the end isn't good: the text up to there as
+/// it stands, and the close of the style then.
+fn cut_front<A: Allocator>(
+    alloc: A,
+    text: &str,
+    end: usize,
+) -> Result<Option<String<A>>, AllocError>
+    ensures cut { IfOk result (λ o. MatchOption o (IsFalse (is_good_range (plain text.now) 0 (Some end))) (λ s. IsTrue (is_good_range (plain text.now) 0 (Some end)) × (string_bytes s ≡ cut_up_to text.now 0 end))) }
+    ensures takes_no_memory { IsFalse (is_good_range (plain text.now) 0 (Some end)) → IsOk result }
+{
+    let mut style = styles::plain_style();
+    let Some(to) = walk_to(&mut style, text, end) else {
+        return Ok(None);
+    };
+    let most = to + LONGEST_CLOSE;
+    Ok(Some(closed(alloc, most, "", 0, &text[..to], &style)?))
+}
+
+/// The cut of a range in order, written, or `None` where the range is bad: the sequences up to its start,
+/// the stretch of the text from there on with the sequences up to its end, and the close of the style then.
+fn cut_range<A: Allocator>(
+    alloc: A,
+    text: &str,
+    start: usize,
+    end: usize,
+) -> Result<Option<String<A>>, AllocError>
+    requires { start ≤ end }
+    ensures cut { IfOk result (λ o. MatchOption o (IsFalse (is_good_range (plain text.now) start (Some end))) (λ s. IsTrue (is_good_range (plain text.now) start (Some end)) × (string_bytes s ≡ cut_up_to text.now start end))) }
+    ensures takes_no_memory { IsFalse (is_good_range (plain text.now) start (Some end)) → IsOk result }
+{
     let mut style = styles::plain_style();
     let Some(from) = walk_to(&mut style, text, start) else {
         return Ok(None);
@@ -108,7 +148,22 @@ fn cut_up_to<A: Allocator>(
     };
     // The sequences up to the start are what stands before it but for the plain bytes there.
     let most = from.saturating_sub(start) + to + LONGEST_CLOSE;
-    let mut cut = with_sequences(alloc, most, text, start, &rest[..to])?;
-    styles::write_close(&style, &mut cut)?;
-    Ok(Some(cut))
+    Ok(Some(closed(alloc, most, text, start, &rest[..to], &style)?))
+}
+
+/// Every sequence of a text up to a position, a stretch after it, and the close of the style then, in a
+/// text that has room for so many bytes.
+fn closed<A: Allocator>(
+    alloc: A,
+    capacity: usize,
+    text: &str,
+    position: usize,
+    stretch: &str,
+    style: &Style,
+) -> Result<String<A>, AllocError>
+    ensures { IfOk result (λ s. string_bytes s ≡ (sequences_up_to position (pieces_of text.now) ++ stretch.now) ++ close (rendition_of style.now)) }
+{
+    let mut out = with_sequences(alloc, capacity, text, position, stretch)?;
+    styles::write_close(style, &mut out)?;
+    Ok(out)
 }

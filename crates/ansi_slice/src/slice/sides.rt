@@ -1,12 +1,15 @@
 //! The two sides of a text.
-ghost use Rattle.std.specs.Prelude.{◌≡◌, ◌++◌, ◌↔◌, ◌≤◌, ◌+◌, ◌*◌, length, filter, IsTrue, IsFalse, IsOk, IfOk, OnOk, string_bytes};
+ghost use Rattle.std.specs.Prelude.{◌≡◌, ◌≢◌, ◌++◌, ◌↔◌, ◌≤◌, ◌+◌, ◌*◌, length, filter, IsTrue, IsFalse, IsOk, IfOk, OnOk, string_bytes};
 ghost use Rattle.std.specs.Cow.{cow_str_bytes, IsBorrowedStr};
-ghost use Rattle.ansi_items.specs.Pieces.{pieces_of};
+ghost use Rattle.ansi_items.specs.declared.ansitok.Kind.TheVariants.{Sgr};
+ghost use Rattle.ansi_items.specs.Pieces.{Sequence, pieces_of};
 ghost use Rattle.ansi_items.specs.Plain.{plain, is_text, has_escape};
+ghost use Rattle.ansi_items.specs.Sequences.{is_sgr};
 ghost use Rattle.ansi_slice.specs.Positions.{is_good_position};
-ghost use Rattle.ansi_slice.specs.Sides.{dressed, left_side, right_side, side_up_to};
+ghost use Rattle.ansi_slice.specs.Sides.{copied, dressed, left_side, right_side, side_up_to};
 ghost use Rattle.ansi_slice.specs.Offsets.{StandsIn};
 ghost use Rattle.ansi_style.specs.Reading.{style_within};
+ghost use Rattle.ansi_style.specs.Sgr.{apply};
 ghost use Rattle.ansi_style.specs.States.{rendition_of};
 
 use crate::search::offsets::walk_to;
@@ -119,20 +122,38 @@ fn write_side<A: Allocator>(
     let mut remaining = position;
     for item in Scanner::new(text) {
         let piece = &text[item.start..item.end];
-        match item.kind {
-            Kind::Text => {
-                if remaining < piece.len() {
-                    write_dressed(out, style, &piece[..remaining])?;
-                    return Ok(item.start + remaining);
-                }
-                write_dressed(out, style, piece)?;
-                remaining -= piece.len();
+        if item.kind == Kind::Text {
+            if remaining < piece.len() {
+                write_dressed(out, style, &piece[..remaining])?;
+                return Ok(item.start + remaining);
             }
-            Kind::Sgr => styles::apply(style, piece),
-            Kind::Other | Kind::Lone => out.push_str(piece)?,
+            write_dressed(out, style, piece)?;
+            remaining -= piece.len();
+        } else {
+            write_mark(out, style, item.kind, piece)?;
         }
     }
     Ok(text.len())
+}
+
+/// Appends a sequence, or a lone escape, that is no SGR. An SGR changes the style instead. An `Err` means
+/// that memory is wanting, and nothing is appended.
+fn write_mark<A: Allocator>(
+    out: &mut String<A>,
+    style: &mut Style,
+    kind: Kind,
+    mark: &str,
+) -> Result<(), AllocError>
+    requires sgr { kind ≡ Sgr → IsTrue (is_sgr mark.now) }
+    requires no_sgr { kind ≢ Sgr → IsFalse (is_sgr mark.now) }
+    ensures bytes { OnOk result (string_bytes out.new ≡ string_bytes out.old ++ copied (Sequence mark.now)) }
+    ensures style { rendition_of style.new ≡ apply (rendition_of style.old) mark.now }
+{
+    if kind == Kind::Sgr {
+        styles::apply(style, mark);
+        return Ok(());
+    }
+    out.push_str(mark)
 }
 
 /// What a text gives to a side, written, where the style is that before it.

@@ -3,7 +3,7 @@ use Rattle.ansi_items.specs.Pieces.{Text}
 use Rattle.ansi_items.specs.Scans.{pieces_left}
 use Rattle.ansi_slice.proofs.SliceLemmas.{slice_range-past, slice_range-rest}
 use Rattle.ansi_items.proofs.StepLemmas.{is_text, gives_text}
-use Rattle.ansi_slice.proofs.EndLemmas.{met-last, met-apart, met-more}
+use Rattle.ansi_slice.proofs.EndLemmas.{met-last, met-apart, met-more, met-end}
 use Rattle.ansi_slice.proofs.search.ends.stands_at.Goals as goal
 
 -- over a run that is no shorter than what is left of the pattern
@@ -29,3 +29,7 @@ loop-item-preserved-then-eq c =
       text = c.in-Some.ensures.steps.text ∙ c.loop-item.invariant.text;
       so_far = met-more c.loop-item.invariant.so_far left (slice_range-rest w c.loop-item.before c.min.result c.min.ensures) (omega (arith, c.if-rest-run.false)) (sym c.starts_with-then-eq.ensures.value ∙ c.if-not-starts_with.false) c.saturating_sub-before.ensures (slice_range-past c.loop-item.rest.now _ _ (omega arith));
     }
+
+-- nothing is left
+pub returns : goal.returns
+returns c = c.is_empty.ensures ∙ met-end c.loop-item.invariant.so_far c.in-None.ensures.steps.2

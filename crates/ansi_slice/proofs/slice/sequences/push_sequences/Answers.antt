@@ -1,14 +1,14 @@
-use Rattle.std.proofs.Common.{rules, ◌≡◌, ◌∷◌, refl, ◌∙◌, ap}
+use Rattle.std.proofs.Common.{rules, ◌≡◌, ◌∷◌, refl, ◌∙◌, ap, string_bytes}
 use Rattle.ansi_items.specs.Pieces.{Text}
 use Rattle.ansi_items.specs.Scans.{pieces_left}
 use Rattle.ansi_items.proofs.StepLemmas.{BeginsWithMark, is_text, gives_text, gives_mark}
-use Rattle.ansi_slice.proofs.OffsetLemmas.{pushed-text, pushed-mark}
+use Rattle.ansi_slice.proofs.OffsetLemmas.{pushed-begin, pushed-text, pushed-mark}
 use Rattle.ansi_slice.proofs.slice.sequences.push_sequences.Goals as goal
 
 pub loop-item-init : goal.loop-item-init
 loop-item-init g c =
     let begins : c.into_iter-item-iterator.result ≡ record { text = c.args.text.now; offset = 0 } = c.into_iter-item-iterator.ensures.into_iter_gives ∙ c.new-item-items.ensures.start in
-    record { text = ap (λ s. s.text) begins; so_far = rw begins (record { pushed = refl }) }
+    record { text = ap (λ s. s.text) begins; so_far = rw begins (pushed-begin (string_bytes c.args.out.now) c.args.text.now c.args.position) }
 
 -- over a text
 pub loop-item-preserved-then-eq : goal.loop-item-preserved-then-eq

@@ -1,11 +1,11 @@
 use Rattle.std.proofs.Common.{◌≡◌, ◌++◌, string_bytes}
 use Rattle.ansi_items.specs.Plain.{plain, plain_of}
 use Rattle.ansi_items.specs.Scans.{pieces_left}
-use Rattle.ansi_slice.proofs.slice.strip_in.Given as goal
+use Rattle.ansi_slice.proofs.slice.push_plain.Given as goal
 
--- what is written and the plain text of what is left are the plain text of all
+-- what is written and the plain text of what is left are what was there and the plain text of all
 abbrev pub invariant-loop-item : goal.invariant-loop-item
 invariant-loop-item g l = record {
   text : l.item-iterator.text ≡ l.text;
-  written : string_bytes l.plain ++ plain_of (pieces_left l.item-iterator) ≡ plain l.text;
+  written : string_bytes l.out ++ plain_of (pieces_left l.item-iterator) ≡ string_bytes l.initial.out ++ plain l.text;
 }

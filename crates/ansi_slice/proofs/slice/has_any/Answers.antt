@@ -1,0 +1,8 @@
+use Rattle.std.proofs.Common.{◌==◌, ◌∙◌, ap}
+use Rattle.std.specs.List.{list_any}
+use Rattle.ansi_items.specs.Bytes.{escape}
+use Rattle.ansi_slice.proofs.slice.has_any.Goals as goal
+
+-- an ESC stands in the bytes
+pub returns : goal.returns
+returns c = c.contains.ensures.value ∙ ap (list_any (λ b. b == escape)) c.as_bytes.ensures.value
