@@ -89,8 +89,7 @@ by_places-moved wait style n (q ∷ qs) = by_piece q.piece (by_places-moved wait
     by_piece : (p : Piece) → by_places wait style (map (moved n) qs) ≡ by_places (λ i. wait (n + i)) (λ i. style (n + i)) qs
         → by_places wait style (map (moved n) (record q { piece = p } ∷ qs)) ≡ by_places (λ i. wait (n + i)) (λ i. style (n + i)) (record q { piece = p } ∷ qs)
     by_piece (Text w) later = ap (λ bs. block_after (wait (n + q.place)) w (style (n + q.place)) ∷ bs) later
-    by_piece (Sequence w) later = later
-    by_piece LoneEscape later = later
+    by_piece p later = later
 
 -- what waits at each place, of which the first has these beside those of the pieces, and the style there
 record Follows (wait : ℕ → List ℕ) (style : ℕ → Rendition) (held : List ℕ) (s : Rendition) (ps : List Piece) : Type 0 where

@@ -30,8 +30,7 @@ styles-by_places wait style (q ∷ qs) = by_piece q.piece (styles-by_places wait
     by_piece : (p : Piece) → map (λ (b : Block). b.style) (by_places wait style qs) ≡ map (λ (q : Placed). style q.place) (runs_of qs)
         → map (λ (b : Block). b.style) (by_places wait style (record q { piece = p } ∷ qs)) ≡ map (λ (q : Placed). style q.place) (runs_of (record q { piece = p } ∷ qs))
     by_piece (Text w) later = ap (λ ss. style q.place ∷ ss) later
-    by_piece (Sequence w) later = later
-    by_piece LoneEscape later = later
+    by_piece p later = later
 
 pub styles-blocks : (t : List ℕ) → map (λ (b : Block). b.style) (blocks t) ≡ map (λ (q : Placed). style_at t q.place) (runs t)
 unfolding blocks_from

@@ -3,29 +3,36 @@ use Rattle.std.proofs.Common.{◌≡◌, ◌≢◌, ℕ, Bool, true, false, not,
 use Rattle.std.proofs.lemmas.Bool.{ne_eqb}
 use Rattle.ansi_items.specs.declared.ansitok.Kind.{Kind}
 use Rattle.ansi_items.specs.declared.ansitok.Kind.TheVariants.{Sgr}
-use Rattle.ansi_items.specs.Sequences.{is_sgr}
-use Rattle.ansi_items.specs.Pieces.{Piece, Text, Sequence, LoneEscape, spelling, pieces_of}
+use Rattle.ansi_items.specs.Pieces.{Piece, Text, Sequence, spelling, pieces_of}
 use Rattle.ansi_style.specs.declared.state.rendition.Rendition.{Rendition}
 use Rattle.ansi_style.specs.Rendition.{plain_style}
+use Rattle.ansi_style.specs.Sgr.{apply}
 use Rattle.ansi_items.specs.Plain.{copied}
 use Rattle.ansi_blocks.specs.Blocks.{waiting, block_after, blocks_from}
 use Rattle.ansi_items.proofs.StepLemmas.{is_mark, BeginsWithMark}
 use Rattle.ansi_style.proofs.SgrLemmas.{apply-no_sgr}
 use Rattle.ansi_blocks.proofs.BlockLemmas.{blocks_through, waiting_before, blocks_from-walked, waiting-front}
 
--- a mark that is no SGR waits
-through-other : (p : Piece) (w : List ℕ) (s : Rendition) (held : List ℕ) (ps : List Piece) → is_mark p ≡ true → spelling p ≡ w → is_sgr w ≡ false
-    → (blocks_through s held (p ∷ ps) ≡ blocks_through s (held ++ w) ps) × (waiting_before (p ∷ ps) ≡ w ++ waiting_before ps)
-through-other (Text v) w s held ps is same other = absurd (cc is)
-through-other (Sequence v) w s held ps is same other =
-    let no_sgr : is_sgr v ≡ false = ap is_sgr same ∙ other in
-    let all : copied (Sequence v) ≡ w = ap (λ b. if b then [] else v) no_sgr ∙ same in
-    (ap₂ (λ r h. blocks_through r h ps) (apply-no_sgr s v no_sgr) (ap (λ u. held ++ u) all), ap (λ u. u ++ waiting_before ps) all)
-through-other LoneEscape w s held ps is same other = (ap (λ u. blocks_through s (held ++ u) ps) same, ap (λ u. u ++ waiting_before ps) same)
+-- over a mark, of which nothing waits where it is an SGR
+through-mark : (p : Piece) (w : List ℕ) (s : Rendition) (held : List ℕ) (ps : List Piece) → is_mark p ≡ true → spelling p ≡ w
+    → (blocks_through s held (p ∷ ps) ≡ blocks_through (apply s w) (held ++ copied (Sequence w)) ps) × (waiting_before (p ∷ ps) ≡ copied (Sequence w) ++ waiting_before ps)
+through-mark (Text v) w s held ps is same = absurd (cc is)
+through-mark p w s held ps is same = (ap (λ u. blocks_through (apply s u) (held ++ copied (Sequence u)) ps) same, ap (λ u. copied (Sequence u) ++ waiting_before ps) same)
 
-pub waiting_before-other : {kind : Kind} {w : List ℕ} {pieces ps : List Piece} → BeginsWithMark kind w pieces ps → kind ≢ Sgr → waiting_before pieces ≡ w ++ waiting_before ps
-waiting_before-other {kind} {w} {pieces} {ps} begins other =
-    ap waiting_before begins.pieces ∙ (through-other begins.mark w plain_style [] ps begins.is_mark begins.bytes (begins.no_sgr other)).1
+-- What is joined, and what waits before the first run among the pieces that are left, are all that waits.
+pub record IsJoinedSoFar (whole joined : List ℕ) (left : List Piece) : Type 0 where
+  pub bytes : joined ++ waiting_before left ≡ whole
+
+joined-mark : {whole joined more w : List ℕ} {kind : Kind} {left ps : List Piece} → IsJoinedSoFar whole joined left → BeginsWithMark kind w left ps → more ≡ joined ++ copied (Sequence w) → IsJoinedSoFar whole more ps
+joined-mark {whole} {joined} {more} {w} {kind} {left} {ps} so_far begins is =
+    let front = ap waiting_before begins.pieces ∙ (through-mark begins.mark w plain_style [] ps begins.is_mark begins.bytes).1 in
+    record { bytes = ap (λ u. u ++ waiting_before ps) is ∙ append_assoc joined (copied (Sequence w)) (waiting_before ps) ∙ ap (λ u. joined ++ u) (sym front) ∙ so_far.bytes }
+
+pub joined-sgr : {whole joined w : List ℕ} {kind : Kind} {left ps : List Piece} → IsJoinedSoFar whole joined left → BeginsWithMark kind w left ps → kind ≡ Sgr → IsJoinedSoFar whole joined ps
+joined-sgr {joined = joined} {w = w} so_far begins is = joined-mark so_far begins (sym (ap (λ b. joined ++ (if b then [] else w)) (begins.sgr is) ∙ append-nil joined))
+
+pub joined-other : {whole joined more w : List ℕ} {kind : Kind} {left ps : List Piece} → IsJoinedSoFar whole joined left → BeginsWithMark kind w left ps → kind ≢ Sgr → more ≡ joined ++ w → IsJoinedSoFar whole more ps
+joined-other {joined = joined} {w = w} so_far begins other is = joined-mark so_far begins (is ∙ sym (ap (λ b. joined ++ (if b then [] else w)) (begins.no_sgr other)))
 
 -- The blocks of t from a style on are those of the pieces that are left, with what waits and the style so far.
 pub record IsRunSoFar (from : Rendition) (t : List ℕ) (s : Rendition) (waits : Bool) (pieces : List Piece) : Type 0 where
@@ -37,16 +44,31 @@ pub record IsRunSoFar (from : Rendition) (t : List ℕ) (s : Rendition) (waits :
 pub run-begin : (s : Rendition) (t : List ℕ) → IsRunSoFar s t s false (pieces_of t)
 run-begin s t = record { held = []; blocks = blocks_from-walked s t; front = waiting-front t; some = refl }
 
+-- over an SGR
+pub run-sgr : {from s next : Rendition} {t : List ℕ} {waits : Bool} {kind : Kind} {w : List ℕ} {pieces ps : List Piece} → IsRunSoFar from t s waits pieces → BeginsWithMark kind w pieces ps
+    → kind ≡ Sgr → next ≡ apply s w → IsRunSoFar from t next waits ps
+run-sgr {from} {s} {next} {t} {waits} {kind} {w} {pieces} {ps} so_far begins is applied =
+    let first = subst (IsRunSoFar from t s waits) begins.pieces so_far in
+    let step = through-mark begins.mark w s first.held ps begins.is_mark begins.bytes in
+    let none : copied (Sequence w) ≡ [] = ap (λ b. if b then [] else w) (begins.sgr is) in
+    record {
+      held = first.held;
+      blocks = first.blocks ∙ step.0 ∙ ap₂ (λ r h. blocks_through r h ps) (sym applied) (ap (λ u. first.held ++ u) none ∙ append-nil first.held);
+      front = first.front ∙ ap (λ u. first.held ++ u) (step.1 ∙ ap (λ u. u ++ waiting_before ps) none);
+      some = first.some;
+    }
+
 -- over any other mark
 pub run-other : {from s : Rendition} {t : List ℕ} {waits : Bool} {kind : Kind} {w : List ℕ} {pieces ps : List Piece} → IsRunSoFar from t s waits pieces → BeginsWithMark kind w pieces ps
     → kind ≢ Sgr → w ≢ [] → IsRunSoFar from t s true ps
 run-other {from} {s} {t} {waits} {kind} {w} {pieces} {ps} so_far begins other filled =
     let first = subst (IsRunSoFar from t s waits) begins.pieces so_far in
-    let step = through-other begins.mark w s first.held ps begins.is_mark begins.bytes (begins.no_sgr other) in
+    let step = through-mark begins.mark w s first.held ps begins.is_mark begins.bytes in
+    let all : copied (Sequence w) ≡ w = ap (λ b. if b then [] else w) (begins.no_sgr other) in
     record {
       held = first.held ++ w;
-      blocks = first.blocks ∙ step.0;
-      front = first.front ∙ ap (λ u. first.held ++ u) step.1 ∙ sym (append_assoc first.held w (waiting_before ps));
+      blocks = first.blocks ∙ step.0 ∙ ap₂ (λ r h. blocks_through r (first.held ++ h) ps) (apply-no_sgr s w (begins.no_sgr other)) all;
+      front = first.front ∙ ap (λ u. first.held ++ u) (step.1 ∙ ap (λ u. u ++ waiting_before ps) all) ∙ sym (append_assoc first.held w (waiting_before ps));
       some = filled_after first.held w filled;
     }
   where
@@ -62,6 +84,10 @@ run-text {from} {s} {t} {waits} {w} {pieces} after so_far is =
     let first = subst (IsRunSoFar from t s waits) is so_far in
     let held : waiting t 0 ≡ first.held = first.front ∙ append-nil first.held in
     (first.blocks ∙ ap₂ (λ u bs. block_after u w s ∷ bs) (sym held) (sym (blocks_from-walked s after)), first.some ∙ ap (λ u. not (length u == 0)) (sym held))
+
+-- nothing is left
+pub run-end : {from s : Rendition} {t : List ℕ} {waits : Bool} {pieces : List Piece} → IsRunSoFar from t s waits pieces → pieces ≡ [] → blocks_from from t ≡ []
+run-end {from} {s} {t} {waits} so_far is = (subst (IsRunSoFar from t s waits) is so_far).blocks
 
 -- a block that takes memory is no borrow
 pub not_borrowed : (waits none : Bool) → waits ≡ not none → (waits ≡ false → false ≡ true) → none ≡ false

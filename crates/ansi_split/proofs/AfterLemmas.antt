@@ -1,12 +1,10 @@
 -- A text in two, after the last mark at a position.
 use Rattle.std.proofs.Common.{min, ◌≡◌, ◌≢◌, ℕ, zero, suc, ◌+◌, ◌-◌, ◌<◌, ◌≤◌, inl, inr, true, false, List, [], ◌∷◌, ◌++◌, length, map, take, drop, Some, refl, sym, ◌∙◌, ap, ap₂, subst, arith, IsTrue, if◌then◌else◌, nat_lt, nat_le, slice_index, slice_range, length-append, append_assoc, append-nil}
 use Rattle.std.proofs.Math.Seq.{take-nil}
-use Rattle.std.proofs.lemmas.Bool.{and_parts, cases_lt, lt-ltb, le-ltb}
+use Rattle.std.proofs.lemmas.Bool.{cases_lt, lt-ltb, le-ltb}
 use Rattle.std.proofs.lemmas.Bool.Decides.{nat_tests}
 use Rattle.std.proofs.lemmas.List.{take_all, take-take, take-append-le, take-append-drop, map-append, length-drop, length-take}
 use Rattle.std.proofs.lemmas.List.Elements.{filter-append, filter_agree}
-use Rattle.std.specs.List.{list_all}
-use Rattle.std.proofs.lemmas.List.Folds.{list_all-append}
 use Rattle.std.proofs.lemmas.List.Sums.{fold-append}
 use Rattle.std.proofs.lemmas.Str.{IsCharBoundary-from_rest}
 use Rattle.std.specs.Str.{IsCharBoundary}
@@ -18,14 +16,15 @@ use Rattle.ansi_items.proofs.PieceLemmas.{pieces_are, pieces_of-unique}
 use Rattle.ansi_items.proofs.PlainLemmas.{one_text, one_text_are, plain_of-one_text}
 use Rattle.ansi_style.specs.Sgr.{apply, apply_all}
 use Rattle.ansi_style.specs.Reading.{after_marks}
-use Rattle.ansi_style.proofs.MarkLemmas.{further, marks_of-text, marks_of-sequence, marks_of-lone, up_to-none, up_to-further, up_to-here, after_marks-further}
+use Rattle.ansi_style.proofs.MarkLemmas.{further, marks_of-text, marks_of-sequence, marks_of-lone, up_to-none, up_to-further, after_marks-further}
 use Rattle.ansi_slice.specs.Positions.{is_good_position}
 use Rattle.ansi_slice.specs.Cut.{show}
 use Rattle.ansi_slice.specs.Parts.{past}
 use Rattle.ansi_slice.specs.Offsets.{bytes_before, offset_of}
-use Rattle.ansi_slice.proofs.SliceLemmas.{take-append, slice_range-none, slice_range-from_past}
+use Rattle.ansi_slice.proofs.SliceLemmas.{list_all-parts, take-append, slice_range-none, slice_range-from_past}
 use Rattle.ansi_slice.proofs.ShowLemmas.{show-bare, show-text, show-mark, show-nil}
 use Rattle.ansi_slice.proofs.PositionLemmas.{is_good_position-append, good_is_boundary}
+use Rattle.ansi_slice.proofs.CutLemmas.{up_to-past}
 use Rattle.ansi_slice.proofs.OffsetLemmas.{bytes_before-last, bytes_before-text, after_of, after_of-last, after_of-text, take-after, pieces_of-after, plain-after}
 use Rattle.ansi_split.specs.Spans.{further_on, IsCutAfter}
 use Rattle.ansi_split.proofs.PartSliceLemmas.{own_places, at_places-never, past-places}
@@ -55,23 +54,15 @@ alone_before : (n : ℕ) (rest : List ℕ) → StandsBefore LoneEscape rest → 
 alone_before n rest alone = λ m whole. elim (cases_lt (suc n) m) [
   | inl longer ↦ (
       let t = escape ∷ rest in
-      let all : take m (take (suc n) t) ≡ take (suc n) t = take_all m (take (suc n) t) (omega (arith, length_take (suc n) t)) in
+      let all : take m (take (suc n) t) ≡ take (suc n) t = take_all m (take (suc n) t) (omega (arith, length-take (suc n) t)) in
       alone (suc n) (subst IsSequence all whole))
   | inr shorter ↦ alone m (subst IsSequence (take-take m (suc n) (escape ∷ rest) shorter) whole)
 ]
-  where
-    length_take : (k : ℕ) (t : List ℕ) → length (take k t) ≤ k
-    length_take zero t = omega arith
-    length_take (suc k) [] = omega arith
-    length_take (suc k) (b ∷ t) = (let later = length_take k t in omega arith)
 
 stands_before : (p : Piece) (n : ℕ) (rest : List ℕ) → StandsBefore p rest → StandsBefore p (take n rest)
 stands_before (Text w) n rest stands = (stands.0, stands.1, λ some. (let first = first_byte n rest some in first.1 ∙ stands.2 first.0))
 stands_before (Sequence w) n rest stands = stands
 stands_before LoneEscape n rest stands = alone_before n rest stands
-
-plain_front : (e : ℕ) (w : List ℕ) → list_all is_plain_byte w ≡ true → list_all is_plain_byte (take e w) ≡ true
-plain_front e w all = (and_parts _ _ (sym (list_all-append is_plain_byte (take e w) (drop e w)) ∙ ap (list_all is_plain_byte) (take-append-drop e w) ∙ all)).0
 
 -- after a piece that is in front as a whole
 front_more : (t : List ℕ) (p : Piece) (rest : List ℕ) (n : ℕ) (qs : List Piece) → t ≡ spelling p ++ rest → StandsBefore p rest → ArePieces (take n rest) qs → ArePieces (take (length (spelling p) + n) t) (p ∷ qs)
@@ -83,13 +74,12 @@ front_are e t [] are = refl
 front_are e t (Text w ∷ ps) are = elim (cases_lt e (length w)) [
   | inl last ↦ (
       let cut : take e t ≡ take e w = ap (take e) are.1 ∙ take-append-le e w are.0 (omega arith) in
-      rw (bytes_before-last e w ps last, front_of-last e w ps last, cut) (one_text_are (take e w) (plain_front e w are.2.1)))
+      rw (bytes_before-last e w ps last, front_of-last e w ps last, cut) (one_text_are (take e w) (list_all-parts is_plain_byte e w are.2.1).0))
   | inr within ↦
       rw (bytes_before-text e w ps within, front_of-text e w ps within)
       (front_more t (Text w) are.0 (bytes_before (e - length w) ps) (front_of (e - length w) ps) are.1 are.2 (front_are (e - length w) are.0 ps are.3))
 ]
-front_are e t (Sequence w ∷ ps) are = front_more t (Sequence w) are.0 (bytes_before e ps) (front_of e ps) are.1 are.2 (front_are e are.0 ps are.3)
-front_are e t (LoneEscape ∷ ps) are = front_more t LoneEscape are.0 (bytes_before e ps) (front_of e ps) are.1 are.2 (front_are e are.0 ps are.3)
+front_are e t (p ∷ ps) are = front_more t p are.0 (bytes_before e ps) (front_of e ps) are.1 are.2 (front_are e are.0 ps are.3)
 
 -- Their plain text.
 
@@ -101,22 +91,9 @@ plain_of-front e (Text w ∷ ps) = elim (cases_lt e (length w)) [
       ap plain_of (front_of-text e w ps within) ∙ ap (λ v. w ++ v) (plain_of-front (e - length w) ps)
       ∙ sym (take-append e w (plain_of ps) ∙ ap (λ u. u ++ take (e - length w) (plain_of ps)) (take_all e w within))
 ]
-plain_of-front e (Sequence w ∷ ps) = plain_of-front e ps
-plain_of-front e (LoneEscape ∷ ps) = plain_of-front e ps
+plain_of-front e (p ∷ ps) = plain_of-front e ps
 
 -- Marks that stand up to a position, and past it.
-
--- no mark stands past the end
-pub up_to-past : (e : ℕ) (ps : List Piece) → length (plain_of ps) ≤ e → up_to e (marks_of ps) ≡ marks_of ps
-up_to-past e [] past = refl
-up_to-past e (Text w ∷ ps) past =
-    let size = length-append w (plain_of ps) in
-    ap (up_to e) (marks_of-text w ps) ∙ up_to-further e (length w) (marks_of ps) (omega (arith, size))
-    ∙ ap (map (further (length w))) (up_to-past (e - length w) ps (omega (arith, size))) ∙ sym (marks_of-text w ps)
-up_to-past e (Sequence w ∷ ps) past =
-    ap (up_to e) (marks_of-sequence w ps) ∙ up_to-here e w (marks_of ps) ∙ ap (λ ms. record { place = 0; bytes = w } ∷ ms) (up_to-past e ps past) ∙ sym (marks_of-sequence w ps)
-up_to-past e (LoneEscape ∷ ps) past =
-    ap (up_to e) (marks_of-lone ps) ∙ up_to-here e (escape ∷ []) (marks_of ps) ∙ ap (λ ms. record { place = 0; bytes = escape ∷ [] } ∷ ms) (up_to-past e ps past) ∙ sym (marks_of-lone ps)
 
 past-up_to : (e : ℕ) (ms : List Mark) → past (Some e) (up_to e ms) ≡ []
 past-up_to e ms =

@@ -4,7 +4,7 @@ use Rattle.std.proofs.lemmas.Bool.{cond_both, cond-false, and_parts, eqb-true, l
 use Rattle.std.proofs.lemmas.List.Elements.{filter-append}
 use Rattle.std.specs.List.{list_all}
 use Rattle.ansi_items.specs.Sequences.{is_sgr}
-use Rattle.ansi_items.specs.Pieces.{Piece, Text, Sequence, LoneEscape, after_text, merged, pieces_of}
+use Rattle.ansi_items.specs.Pieces.{Piece, Text, Sequence, after_text, merged, pieces_of}
 use Rattle.ansi_items.specs.Plain.{Mark, plain_of, plain, marks, up_to, is_whole, is_other, other_sequences}
 use Rattle.ansi_style.specs.declared.state.rendition.Rendition.{Rendition}
 use Rattle.ansi_style.specs.Rendition.{IsStyle}
@@ -30,16 +30,13 @@ abbrev others : List Piece → List Piece
 others ps = filter is_other ps
 
 others-after_text : (w : List ℕ) (ps : List Piece) → others (after_text w ps) ≡ others ps
-others-after_text w [] = refl
 others-after_text w (Text v ∷ ps) = refl
-others-after_text w (Sequence v ∷ ps) = refl
-others-after_text w (LoneEscape ∷ ps) = refl
+others-after_text w ps = refl
 
 others-merged : (ps : List Piece) → others (merged ps) ≡ others ps
 others-merged [] = refl
 others-merged (Text w ∷ ps) = others-after_text w (merged ps) ∙ others-merged ps
-others-merged (Sequence w ∷ ps) = ap (λ qs. if is_other (Sequence w) then Sequence w ∷ qs else qs) (others-merged ps)
-others-merged (LoneEscape ∷ ps) = ap (λ qs. if is_other LoneEscape then LoneEscape ∷ qs else qs) (others-merged ps)
+others-merged (p ∷ ps) = ap (λ qs. if is_other p then p ∷ qs else qs) (others-merged ps)
 
 other_sequences-spelled : (ps : List Piece) → AllStandAnywhere ps → other_sequences (spelled ps) ≡ others ps
 other_sequences-spelled ps stand = ap others (pieces_of-spelled ps stand) ∙ others-merged ps
@@ -77,11 +74,8 @@ others-shown_pieces (Text w ∷ ps) test a b c d =
     filter-append is_other (one_text (slice_range w a b)) (shown_pieces later (a - n) (b - n) ps)
     ∙ ap₂ (λ u v. u ++ v) (others-one_text (slice_range w a b) ∙ sym (others-one_text (slice_range w c d))) (others-shown_pieces ps later (a - n) (b - n) (c - n) (d - n))
     ∙ sym (filter-append is_other (one_text (slice_range w c d)) (shown_pieces later (c - n) (d - n) ps))
-others-shown_pieces (Sequence w ∷ ps) test a b c d =
-    let own = piece_when (test 0) (Sequence w) in
-    filter-append is_other own (shown_pieces test a b ps) ∙ ap (λ v. others own ++ v) (others-shown_pieces ps test a b c d) ∙ sym (filter-append is_other own (shown_pieces test c d ps))
-others-shown_pieces (LoneEscape ∷ ps) test a b c d =
-    let own = piece_when (test 0) LoneEscape in
+others-shown_pieces (p ∷ ps) test a b c d =
+    let own = piece_when (test 0) p in
     filter-append is_other own (shown_pieces test a b ps) ∙ ap (λ v. others own ++ v) (others-shown_pieces ps test a b c d) ∙ sym (filter-append is_other own (shown_pieces test c d ps))
 
 -- where each place up to the end passes, they are all
@@ -93,12 +87,9 @@ others-shown_all (Text w ∷ ps) test all =
     filter-append is_other (one_text (slice_range w 0 0)) (shown_pieces later (0 - n) (0 - n) ps)
     ∙ ap₂ (λ u v. u ++ v) (others-one_text (slice_range w 0 0))
     (others-shown_pieces ps later (0 - n) (0 - n) 0 0 ∙ others-shown_all ps later (λ p within. all (n + p) (omega (arith, within, length-append w (plain_of ps)))))
-others-shown_all (Sequence w ∷ ps) test all =
-    ap (λ c. others (piece_when c (Sequence w) ++ shown_pieces test 0 0 ps)) (all 0 (omega arith))
-    ∙ ap (λ qs. if is_other (Sequence w) then Sequence w ∷ qs else qs) (others-shown_all ps test all)
-others-shown_all (LoneEscape ∷ ps) test all =
-    ap (λ c. others (piece_when c LoneEscape ++ shown_pieces test 0 0 ps)) (all 0 (omega arith))
-    ∙ ap (λ qs. if is_other LoneEscape then LoneEscape ∷ qs else qs) (others-shown_all ps test all)
+others-shown_all (p ∷ ps) test all =
+    ap (λ c. others (piece_when c p ++ shown_pieces test 0 0 ps)) (all 0 (omega arith))
+    ∙ ap (λ qs. if is_other p then p ∷ qs else qs) (others-shown_all ps test all)
 
 -- In a part they are those that it shows.
 

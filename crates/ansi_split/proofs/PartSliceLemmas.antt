@@ -3,7 +3,7 @@ use Rattle.std.proofs.Common.{◌≡◌, ℕ, ◌+◌, ◌-◌, ◌<◌, ◌≤�
 use Rattle.std.specs.Option.{option_map_or}
 use Rattle.std.proofs.lemmas.Bool.{cond_both, and_parts, eqb-true, cases_lt, le-leb}
 use Rattle.std.proofs.lemmas.Bool.Decides.{nat_tests}
-use Rattle.ansi_items.specs.Pieces.{Piece, Text, Sequence, LoneEscape, pieces_of}
+use Rattle.ansi_items.specs.Pieces.{Piece, Text, pieces_of}
 use Rattle.ansi_items.specs.Plain.{Mark, plain, marks, up_to, is_whole}
 use Rattle.ansi_style.specs.declared.state.rendition.Rendition.{Rendition}
 use Rattle.ansi_style.specs.Rendition.{IsStyle, plain_style, known, has_any}
@@ -31,10 +31,7 @@ shown_pieces-nothing test a b [] never none = refl
 shown_pieces-nothing test a b (Text w ∷ ps) never none =
     let n = length w in
     ap₂ (λ v qs. one_text v ++ qs) (slice_range-none w a b none) (shown_pieces-nothing (λ p. test (n + p)) (a - n) (b - n) ps (λ p. never (n + p)) (omega arith))
-shown_pieces-nothing test a b (Sequence w ∷ ps) never none =
-    ap₂ (λ c qs. piece_when c (Sequence w) ++ qs) (never 0) (shown_pieces-nothing test a b ps never none)
-shown_pieces-nothing test a b (LoneEscape ∷ ps) never none =
-    ap₂ (λ c qs. piece_when c LoneEscape ++ qs) (never 0) (shown_pieces-nothing test a b ps never none)
+shown_pieces-nothing test a b (p ∷ ps) never none = ap₂ (λ c qs. piece_when c p ++ qs) (never 0) (shown_pieces-nothing test a b ps never none)
 
 -- places before k pass `early`, places from k on pass `late` where they pass `both`
 record Divides (k : ℕ) (early late both : ℕ → Bool) : Type 0 where
@@ -85,12 +82,8 @@ shown_pieces-divided (Text w ∷ ps) k early late both c a b divides after =
           ap (λ qs. qs ++ (one_text (slice_range w a b) ++ ls)) none
           ∙ ap (λ qs. one_text (slice_range w a b) ++ qs) (ap (λ qs. qs ++ ls) (sym none) ∙ later))
     ]
-shown_pieces-divided (Sequence w ∷ ps) k early late both c a b divides after =
-    mark-divided (Sequence w) k early late both (shown_pieces early c c ps) (shown_pieces late a b ps) (shown_pieces both a b ps) divides
-    (λ from. shown_pieces-nothing early c c ps (λ p. divides.early_from p (omega arith)) (omega arith))
-    (shown_pieces-divided ps k early late both c a b divides after)
-shown_pieces-divided (LoneEscape ∷ ps) k early late both c a b divides after =
-    mark-divided LoneEscape k early late both (shown_pieces early c c ps) (shown_pieces late a b ps) (shown_pieces both a b ps) divides
+shown_pieces-divided (p ∷ ps) k early late both c a b divides after =
+    mark-divided p k early late both (shown_pieces early c c ps) (shown_pieces late a b ps) (shown_pieces both a b ps) divides
     (λ from. shown_pieces-nothing early c c ps (λ p. divides.early_from p (omega arith)) (omega arith))
     (shown_pieces-divided ps k early late both c a b divides after)
 

@@ -8,7 +8,7 @@ use Rattle.std.specs.List.{starts_with, slice_range}
 use Rattle.std.specs.Str.{IsUtf8, IsCharBoundary}
 use Rattle.memchr.specs.Find.{Nowhere, NoneBefore, IsFirst, Passes, is_byte}
 use Rattle.ansi_items.specs.Bytes.{escape}
-use Rattle.ansi_items.specs.Pieces.{Piece, Text, Sequence, LoneEscape, after_text, pieces_of, ArePieces}
+use Rattle.ansi_items.specs.Pieces.{Piece, Text, after_text, pieces_of, ArePieces}
 use Rattle.ansi_items.specs.Plain.{plain_of, plain, has_escape}
 use Rattle.ansi_style.specs.declared.state.rendition.Rendition.{Rendition}
 use Rattle.ansi_style.specs.Reading.{after_marks, style_after_from}
@@ -19,8 +19,7 @@ use Rattle.ansi_items.proofs.PieceLemmas.{pieces_are, pieces_of-unique}
 use Rattle.ansi_items.proofs.PlainLemmas.{all_plain_bytes, no_escape}
 use Rattle.ansi_items.proofs.JoinLemmas.{after_text_are}
 use Rattle.ansi_style.proofs.MarkLemmas.{marks-bare}
-use Rattle.ansi_slice.proofs.MatchLemmas.{IsMatch, match_fits, first_in_front, is_match-front, first_match_from-is, starts_with-splits}
-use Rattle.ansi_slice.proofs.FindLemmas.{first_match_from-first}
+use Rattle.ansi_slice.proofs.MatchLemmas.{IsMatch, match_fits, first_in_front, is_match-front, first_match_from-first, first_match_from-is, starts_with-splits}
 use Rattle.ansi_slice.specs.Offsets.{bytes_before}
 use Rattle.ansi_slice.proofs.OffsetLemmas.{bytes_before-last}
 use Rattle.ansi_split.proofs.AfterLemmas.{drop-take, is_cut_after}
@@ -33,16 +32,12 @@ pieces_of-run : (w rest : List ℕ) → w ≢ [] → IsFalse (has_escape w) → 
 pieces_of-run w rest filled none = sym (pieces_of-unique (w ++ rest) (after_text w (pieces_of rest)) (after_text_are w rest (pieces_of rest) filled (all_plain_bytes w none) (pieces_are rest)))
 
 plain_of-after_text : (w : List ℕ) (ps : List Piece) → plain_of (after_text w ps) ≡ w ++ plain_of ps
-plain_of-after_text w [] = refl
 plain_of-after_text w (Text v ∷ ps) = append_assoc w v (plain_of ps)
-plain_of-after_text w (Sequence v ∷ ps) = refl
-plain_of-after_text w (LoneEscape ∷ ps) = refl
+plain_of-after_text w ps = refl
 
 bytes_before-after_text : (e : ℕ) (w : List ℕ) (ps : List Piece) → e < length w → bytes_before e (after_text w ps) ≡ e
-bytes_before-after_text e w [] inside = bytes_before-last e w [] inside
 bytes_before-after_text e w (Text v ∷ ps) inside = bytes_before-last e (w ++ v) ps (omega (arith, length-append w v))
-bytes_before-after_text e w (Sequence v ∷ ps) inside = bytes_before-last e w (Sequence v ∷ ps) inside
-bytes_before-after_text e w (LoneEscape ∷ ps) inside = bytes_before-last e w (LoneEscape ∷ ps) inside
+bytes_before-after_text e w ps inside = bytes_before-last e w ps inside
 
 filled : (w : List ℕ) (k : ℕ) → k < length w → w ≢ []
 filled [] k inside = absurd (omega arith)
@@ -140,7 +135,7 @@ here_or_past (Some m) past run top below = refl
 
 -- A text that is cut in the run at its front.
 
-no_escape-parts : (n : ℕ) (w : List ℕ) → IsFalse (has_escape w) → (has_escape (take n w) ≡ false) × (has_escape (drop n w) ≡ false)
+pub no_escape-parts : (n : ℕ) (w : List ℕ) → IsFalse (has_escape w) → (has_escape (take n w) ≡ false) × (has_escape (drop n w) ≡ false)
 no_escape-parts n w none = or_parts _ _ (sym (list_any-append (λ b. b == escape) (take n w) (drop n w)) ∙ ap has_escape (take-append-drop n w) ∙ none)
 
 no_escape-take : (t : List ℕ) (start run : ℕ) → start ≤ run → IsFalse (has_escape (take run t)) → has_escape (take start t) ≡ false

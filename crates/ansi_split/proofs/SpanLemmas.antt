@@ -19,13 +19,13 @@ use Rattle.ansi_slice.specs.Parts.{match_places, first_match_from, apart, past}
 use Rattle.ansi_split.specs.Splits.{SplitPart}
 use Rattle.ansi_split.specs.Spans.{further_on, IsCutAfter, IsCutAtMatch, carried_from, part_from, parts_from, parts_left, span_part}
 use Rattle.ansi_slice.proofs.SliceLemmas.{slice_range-from_past}
+use Rattle.ansi_slice.proofs.CutLemmas.{up_to-past}
 use Rattle.ansi_slice.proofs.ShowLemmas.{show-text}
 use Rattle.ansi_items.proofs.Utf8Lemmas.{IsUtf8-plain}
 use Rattle.ansi_slice.proofs.ShownLemmas.{at_places, at_places-further}
 use Rattle.ansi_split.proofs.PartSliceLemmas.{own_places, past-places, at_places-at_places}
 use Rattle.ansi_slice.proofs.PositionLemmas.{good_is_boundary, is_good_position-past, is_char_boundary-from}
 use Rattle.ansi_slice.proofs.MatchLemmas.{starts_with-splits}
-use Rattle.ansi_split.proofs.AfterLemmas.{up_to-past}
 use Rattle.ansi_split.proofs.TakenLemmas.{is_first_taken, apart-none, between, between-moved, moved_on}
 
 -- The marks of a part.

@@ -1,12 +1,11 @@
 -- How far a part that is written has come, and what a step of the walk is to it.
-use Rattle.std.proofs.Common.{◌≡◌, ℕ, ◌+◌, ◌-◌, ◌<◌, ◌≤◌, inl, inr, true, false, List, [], ◌∷◌, ◌++◌, length, drop, sym, ◌∙◌, ap, ap₂, subst, arith, IsTrue, if◌then◌else◌, append_assoc, append-nil, length-append}
+use Rattle.std.proofs.Common.{◌≡◌, ℕ, ◌+◌, ◌-◌, ◌<◌, ◌≤◌, inl, inr, true, false, List, [], ◌∷◌, ◌++◌, length, drop, refl, sym, ◌∙◌, ap, ap₂, subst, arith, IsTrue, if◌then◌else◌, append_assoc, append-nil, length-append}
 use Rattle.std.proofs.lemmas.Bool.{cases_lt}
-use Rattle.std.proofs.lemmas.List.{drop_all, drop-drop, take-append-drop, drop-append-le}
-use Rattle.std.specs.List.{slice_range}
+use Rattle.std.proofs.lemmas.List.{drop_all, drop-drop, drop-append-le}
 use Rattle.std.specs.Str.{IsCharBoundary}
 use Rattle.ansi_items.specs.declared.ansitok.Kind.{Kind}
 use Rattle.ansi_items.specs.Bytes.{escape}
-use Rattle.ansi_items.specs.Pieces.{Piece, Text, Sequence, LoneEscape, spelling, pieces_of}
+use Rattle.ansi_items.specs.Pieces.{Piece, Text, Sequence, LoneEscape, spelling, ArePieces, pieces_of}
 use Rattle.ansi_items.specs.Plain.{plain_of, plain, marks_of}
 use Rattle.ansi_slice.specs.Positions.{is_good_position}
 use Rattle.ansi_style.specs.declared.state.rendition.Rendition.{Rendition}
@@ -16,12 +15,14 @@ use Rattle.ansi_style.specs.Reading.{style_after_from}
 use Rattle.ansi_slice.specs.Cut.{show}
 use Rattle.ansi_slice.specs.Kept.{kept}
 use Rattle.ansi_split.specs.Spans.{span_text}
+use Rattle.ansi_items.proofs.PieceLemmas.{pieces_are, pieces_of-unique}
 use Rattle.ansi_items.proofs.StepLemmas.{is_mark, BeginsWithMark, plain_of-mark}
 use Rattle.ansi_style.proofs.MarkLemmas.{marks_of-text, marks_of-sequence, marks_of-lone}
 use Rattle.ansi_slice.proofs.SliceLemmas.{slice_range-past}
 use Rattle.ansi_slice.proofs.ShowLemmas.{show-nil, show-text, show-mark}
 use Rattle.ansi_slice.proofs.PositionLemmas.{is_good_position-after}
 use Rattle.ansi_slice.proofs.KeptWalkLemmas.{kept-all}
+use Rattle.ansi_slice.proofs.OffsetLemmas.{IsOverText}
 use Rattle.ansi_split.proofs.AfterLemmas.{boundary_in_next}
 
 -- all of the pieces but for so many plain bytes at their front
@@ -32,6 +33,9 @@ left_of skip ps = show (plain_of ps) skip (length (plain_of ps)) (marks_of ps)
 pub record IsShownSoFar (whole written : List ℕ) (skip : ℕ) (left : List Piece) : Type 0 where
   pub shown : written ++ left_of skip left ≡ whole
   pub good : IsTrue (is_good_position (plain_of left) skip)
+
+pub shown-begin : (written : List ℕ) (skip : ℕ) (ps : List Piece) → IsTrue (is_good_position (plain_of ps) skip) → IsShownSoFar (written ++ left_of skip ps) written skip ps
+shown-begin written skip ps good = record { shown = refl; good = good }
 
 -- a text in front
 show-front : (w : List ℕ) (ps : List Piece) (a : ℕ) → left_of a (Text w ∷ ps) ≡ drop a w ++ left_of (a - length w) ps
@@ -58,24 +62,23 @@ unfolding kept
 left_of-rest t = kept-all t (length (plain t)) (omega arith)
 
 -- in a text, what follows stands as it is
-pub shown-rest : {whole written last v : List ℕ} {skip : ℕ} {w : List ℕ} {left ps : List Piece} (t : List ℕ) (begin end : ℕ) → IsShownSoFar whole written skip left → left ≡ Text w ∷ ps → skip ≤ length w
-    → begin ≤ end → w ≡ slice_range t begin end → pieces_of (drop end t) ≡ ps → v ≡ drop (begin + skip) t → last ≡ written ++ v → last ≡ whole
-shown-rest {whole} {written} {last} {v} {skip} {w} {left} {ps} t begin end so_far is inside forward w_is rest v_is last_is =
-    let first = subst (IsShownSoFar whole written skip) is so_far in
+pub shown-rest : {t whole written last v : List ℕ} {skip begin at next : ℕ} {w : List ℕ} {left ps : List Piece} → IsShownSoFar whole written skip left → IsOverText t w at next left ps → skip ≤ length w
+    → begin ≡ at → v ≡ drop (begin + skip) t → last ≡ written ++ v → last ≡ whole
+shown-rest {t} {whole} {written} {last} {v} {skip} {begin} {at} {next} {w} {left} {ps} so_far over inside begin_is v_is last_is =
+    let first = subst (IsShownSoFar whole written skip) over.first so_far in
+    let are = subst (ArePieces (drop at t)) (over.there ∙ over.first) (pieces_are (drop at t)) in
     let none : skip - length w ≡ 0 = omega (arith, inside) in
-    let sum : begin + (end - begin) ≡ end = omega (arith, forward) in
-    let joined : drop begin t ≡ w ++ drop end t
-    = sym (take-append-drop (end - begin) (drop begin t)) ∙ ap₂ (λ u r. u ++ r) (sym w_is) (drop-drop (end - begin) begin t ∙ ap (λ n. drop n t) sum) in
-    let bytes : v ≡ drop skip w ++ drop end t = v_is ∙ sym (drop-drop skip begin t) ∙ ap (drop skip) joined ∙ drop-append-le skip w (drop end t) inside in
-    last_is ∙ ap (λ u. written ++ u) (bytes ∙ ap (λ u. drop skip w ++ u) (sym (ap₂ left_of none (sym rest) ∙ left_of-rest (drop end t))) ∙ sym (show-front w ps skip)) ∙ first.shown
+    let rest : left_of (skip - length w) ps ≡ are.0 = ap₂ left_of none (pieces_of-unique are.0 ps are.3) ∙ left_of-rest are.0 in
+    let bytes : v ≡ drop skip w ++ are.0 = v_is ∙ ap (λ k. drop (k + skip) t) begin_is ∙ sym (drop-drop skip at t) ∙ ap (drop skip) are.1 ∙ drop-append-le skip w are.0 inside in
+    last_is ∙ ap (λ u. written ++ u) (bytes ∙ ap (λ u. drop skip w ++ u) (sym rest) ∙ sym (show-front w ps skip)) ∙ first.shown
 
 -- a character begins there
-pub shown-boundary : {whole written : List ℕ} {skip : ℕ} {w : List ℕ} {left ps : List Piece} (t : List ℕ) (begin end : ℕ) → IsShownSoFar whole written skip left → left ≡ Text w ∷ ps → skip ≤ length w
-    → begin ≤ length t → pieces_of (drop begin t) ≡ left → end ≡ begin + length w → IsCharBoundary t end → IsCharBoundary t (begin + skip)
-shown-boundary {whole} {written} {skip} {w} {left} {ps} t begin end so_far is inside fits here end_is boundary = elim (cases_lt skip (length w)) [
-  | inl before ↦ boundary_in_next t begin skip w ps fits (here ∙ is) before (ap (λ qs. is_good_position (plain_of qs) skip) (sym is) ∙ so_far.good)
-  | inr past ↦ (let same : end ≡ begin + skip = omega (arith, past, inside, end_is) in subst (IsCharBoundary t) same boundary)
-]
+pub shown-boundary : {t : List ℕ} {begin at next : ℕ} {w : List ℕ} {left ps : List Piece} (skip : ℕ) → IsTrue (is_good_position (plain_of left) skip) → IsOverText t w at next left ps → skip ≤ length w
+    → begin ≡ at → IsCharBoundary t next → IsCharBoundary t (begin + skip)
+shown-boundary {t} {begin} {at} {next} {w} {left} {ps} skip good over inside begin_is boundary = rw begin_is (elim (cases_lt skip (length w)) [
+  | inl before ↦ boundary_in_next t at skip w ps over.begins.0 (over.there ∙ over.first) before (ap (λ qs. is_good_position (plain_of qs) skip) (sym over.first) ∙ good)
+  | inr past ↦ (let same : next ≡ at + skip = omega (arith, past, inside, over.count) in subst (IsCharBoundary t) same boundary)
+])
 
 show-piece : (p : Piece) (ps : List Piece) (a : ℕ) → is_mark p ≡ true
     → left_of a (p ∷ ps) ≡ spelling p ++ left_of a ps

@@ -23,11 +23,11 @@ use Rattle.ansi_items.proofs.PieceLemmas.{pieces_are}
 use Rattle.ansi_items.proofs.PlainLemmas.{no_escape, plain-bare}
 use Rattle.ansi_slice.proofs.SliceLemmas.{slice_range-past}
 use Rattle.ansi_style.proofs.MarkLemmas.{further, marks-bare, marks_of-text, marks_of-sequence, marks_of-lone}
+use Rattle.ansi_slice.proofs.CutLemmas.{up_to-past}
 use Rattle.ansi_slice.proofs.ShowLemmas.{show-bare}
 use Rattle.ansi_style.proofs.UnsetLemmas.{start-unset, close_if_any-unset}
 use Rattle.ansi_split.proofs.IntervalLemmas.{end_after, end_after-suc, end_after-none}
 use Rattle.ansi_split.proofs.PartTextLemmas.{length-parts, parts_over, all_parts-over}
-use Rattle.ansi_split.proofs.AfterLemmas.{up_to-past}
 use Rattle.ansi_split.proofs.SpanLemmas.{own-whole}
 
 -- What a split has left at first are the parts of the text.
@@ -86,12 +86,6 @@ read-parts_left read g none same t p k = by_interval (slice_get (parts (plain t)
     by_interval None = refl
     by_interval (Some i) = sym (same t (end_before (parts (plain t) p) k) i)
 
-is_part_borrowed-parts_left : (t p : List ℕ) (k : ℕ) → is_part_borrowed t p k ≡ option_map_or (λ (q : SplitPart). q.borrowed) (slice_get (parts_left plain_style t p 0 0) k) false
-is_part_borrowed-parts_left t p k = read-parts_left (λ (q : SplitPart). q.borrowed) is_borrowed_over false borrowed-part_from t p k
-
-share-parts_left : (t p : List ℕ) (k : ℕ) → share t p k ≡ option_map_or (λ (q : SplitPart). q.share) (slice_get (parts_left plain_style t p 0 0) k) 0
-share-parts_left t p k = read-parts_left (λ (q : SplitPart). q.share) share_over 0 share-part_from t p k
-
 -- where h gives of each index, from a on, what f is of the element
 map-by_index : {X Y : Type 0} (f : X → Y) (none : Y) (h : ℕ → Y) (xs : List X) (a : ℕ) → ((j : ℕ) → h (a + j) ≡ option_map_or f (slice_get xs j) none) → map f xs ≡ map h (range_with_len a (length xs))
 map-by_index f none h [] a gives = refl
@@ -100,15 +94,18 @@ map-by_index f none h (x ∷ xs) a gives =
     let next : (j : ℕ) → a + 1 + j ≡ a + suc j = λ j. omega arith in
     ap₂ (λ b bs. b ∷ bs) (sym (ap h same ∙ gives 0)) (map-by_index f none h xs (a + 1) (λ j. ap h (next j) ∙ gives (suc j)))
 
-pub shares-parts_left : (t p : List ℕ) → map (λ (q : SplitPart). q.share) (parts_left plain_style t p 0 0) ≡ map (share t p) (range_with_len 0 (length (parts_left plain_style t p 0 0)))
-shares-parts_left t p =
+read-all_parts : {Y : Type 0} (read : SplitPart → Y) (g : List ℕ → Option ℕ → ℕ × ℕ → Y) (none : Y) → ((t : List ℕ) (before : Option ℕ) (i : ℕ × ℕ) → read (part_from plain_style t before i) ≡ g t before i) → (t p : List ℕ)
+    → map read (parts_left plain_style t p 0 0) ≡ map (λ k. option_map_or (g t (end_before (parts (plain t) p) k)) (slice_get (parts (plain t) p) k) none) (range_with_len 0 (length (parts_left plain_style t p 0 0)))
+read-all_parts {Y} read g none same t p =
+    let by_interval : ℕ → Y = λ k. option_map_or (g t (end_before (parts (plain t) p) k)) (slice_get (parts (plain t) p) k) none in
     let first : (j : ℕ) → 0 + j ≡ j = λ j. omega arith in
-    map-by_index (λ (q : SplitPart). q.share) 0 (share t p) (parts_left plain_style t p 0 0) 0 (λ j. ap (share t p) (first j) ∙ share-parts_left t p j)
+    map-by_index read none by_interval (parts_left plain_style t p 0 0) 0 (λ j. ap by_interval (first j) ∙ read-parts_left read g none same t p j)
+
+pub shares-parts_left : (t p : List ℕ) → map (λ (q : SplitPart). q.share) (parts_left plain_style t p 0 0) ≡ map (share t p) (range_with_len 0 (length (parts_left plain_style t p 0 0)))
+shares-parts_left t p = read-all_parts (λ (q : SplitPart). q.share) share_over 0 share-part_from t p
 
 pub borrowed-parts_left : (t p : List ℕ) → map (λ (q : SplitPart). q.borrowed) (parts_left plain_style t p 0 0) ≡ map (is_part_borrowed t p) (range_with_len 0 (length (parts_left plain_style t p 0 0)))
-borrowed-parts_left t p =
-    let first : (j : ℕ) → 0 + j ≡ j = λ j. omega arith in
-    map-by_index (λ (q : SplitPart). q.borrowed) false (is_part_borrowed t p) (parts_left plain_style t p 0 0) 0 (λ j. ap (is_part_borrowed t p) (first j) ∙ is_part_borrowed-parts_left t p j)
+borrowed-parts_left t p = read-all_parts (λ (q : SplitPart). q.borrowed) is_borrowed_over false borrowed-part_from t p
 
 -- Where no ESC stands, each part is a borrow.
 

@@ -80,11 +80,13 @@ impl<'a, A: Allocator + Copy> Iterator for AnsiSplit<'a, A> {
     /// The next part, or `None` after the last one and after an `Err`, then and ever after.
     fn next(&mut self) -> Option<Result<CowStr<'a, A>, AllocError>> {
         let span = self.spans.next()?;
-        let part = span.write(self.alloc);
-        if part.is_err() {
-            self.spans.finish();
+        match span.write(self.alloc) {
+            Ok(part) => Some(Ok(part)),
+            Err(e) => {
+                self.spans.finish();
+                Some(Err(e))
+            }
         }
-        Some(part)
     }
 }
 

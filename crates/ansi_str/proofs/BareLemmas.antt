@@ -187,15 +187,10 @@ edited-bare es t none =
     over (Some u) is = ap Some (bytes_of-styled u ∙ plain-bare u is)
 
 gives_borrow-bare : (e : Change) (t : List ℕ) → IsFalse (has_escape t) → gives_borrow e t ≡ true
-gives_borrow-bare (CutRange s e) t none = ap not none
-gives_borrow-bare (LeftOf mid) t none = ap not none
-gives_borrow-bare (RightOf mid) t none = ap not none
 gives_borrow-bare (PartOf p k) t none = ap (λ b. not b || is_part_borrowed t p k) none
 gives_borrow-bare (WithoutPrefix []) t none = refl
-gives_borrow-bare (WithoutPrefix (b ∷ p)) t none = ap not none
 gives_borrow-bare (WithoutSuffix []) t none = refl
-gives_borrow-bare (WithoutSuffix (b ∷ p)) t none = ap not none
-gives_borrow-bare Trimmed t none = ap not none
+gives_borrow-bare e t none = ap not none
 
 pub stay_borrowed-bare : (es : List Change) (t : List ℕ) → IsFalse (has_escape t) → stay_borrowed es t ≡ true
 stay_borrowed-bare [] t none = refl

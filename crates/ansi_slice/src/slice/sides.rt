@@ -3,10 +3,10 @@ ghost use Rattle.std.specs.Prelude.{◌≡◌, ◌≢◌, ◌++◌, ◌↔◌, �
 ghost use Rattle.std.specs.Cow.{cow_str_bytes, IsBorrowedStr};
 ghost use Rattle.ansi_items.specs.declared.ansitok.Kind.TheVariants.{Sgr};
 ghost use Rattle.ansi_items.specs.Pieces.{Sequence, pieces_of};
-ghost use Rattle.ansi_items.specs.Plain.{plain, is_text, has_escape};
+ghost use Rattle.ansi_items.specs.Plain.{plain, is_text, has_escape, copied};
 ghost use Rattle.ansi_items.specs.Sequences.{is_sgr};
 ghost use Rattle.ansi_slice.specs.Positions.{is_good_position};
-ghost use Rattle.ansi_slice.specs.Sides.{copied, dressed, left_side, right_side, side_up_to};
+ghost use Rattle.ansi_slice.specs.Sides.{dressed, left_side, right_side, side_up_to};
 ghost use Rattle.ansi_slice.specs.Offsets.{StandsIn};
 ghost use Rattle.ansi_style.specs.Reading.{style_within};
 ghost use Rattle.ansi_style.specs.Sgr.{apply};

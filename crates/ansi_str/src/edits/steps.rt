@@ -48,7 +48,8 @@ fn left_of<'t, A: Allocator + Copy>(
     if !search::is_good_position(text, mid) {
         return Ok(None);
     }
-    Ok(Some(left_in(alloc, text, mid)?))
+    let side = left_in(alloc, text, mid)?;
+    Ok(Some(side))
 }
 
 /// The text from a position on, or `None` where that is bad, which takes no memory.
@@ -64,7 +65,8 @@ fn right_of<'t, A: Allocator + Copy>(
     if !search::is_good_position(text, mid) {
         return Ok(None);
     }
-    Ok(Some(right_in(alloc, text, mid)?))
+    let side = right_in(alloc, text, mid)?;
+    Ok(Some(side))
 }
 
 /// What one edit makes of what the edits before it gave, or `None` where it is refused, which takes no

@@ -1,9 +1,8 @@
-use Rattle.std.proofs.Common.{rules, ◌≡◌, ◌∷◌, length, drop, sym, ◌∙◌, ap, ap₂, arith}
-use Rattle.ansi_items.specs.Pieces.{Text, pieces_of}
+use Rattle.std.proofs.Common.{rules, ◌≡◌, ◌∷◌, length, sym, ◌∙◌, ap, arith}
+use Rattle.ansi_items.specs.Pieces.{Text}
 use Rattle.ansi_style.specs.States.{rendition_of}
-use Rattle.ansi_items.specs.Scans.{pieces_left}
-use Rattle.ansi_items.proofs.StepLemmas.{BeginsWithMark, gives_text, gives_mark}
-use Rattle.ansi_blocks.proofs.BlockWalkLemmas.{run-begin, run-other, run-text}
+use Rattle.ansi_items.proofs.StepLemmas.{gives_text, gives_rest, gives_mark}
+use Rattle.ansi_blocks.proofs.BlockWalkLemmas.{run-begin, run-sgr, run-other, run-text, run-end}
 use Rattle.ansi_blocks.proofs.blocks.first_run.Goals as goal
 
 pub loop-item-init : goal.loop-item-init
@@ -14,23 +13,35 @@ loop-item-init c =
       so_far = rw begins (run-begin (rendition_of c.args.style) c.args.text.now);
     }
 
+-- over an SGR
+pub loop-item-preserved-in-Sgr : goal.loop-item-preserved-in-Sgr
+loop-item-preserved-in-Sgr c =
+    let gives = c.in-Some.ensures.steps in
+    let same = c.loop-item.invariant.text in
+    record {
+      text = gives.text ∙ same;
+      so_far = run-sgr c.loop-item.invariant.so_far (gives_mark gives same c.range-piece.ensures.value (search rules)) c.in-Sgr.is c.apply.ensures;
+    }
+
 -- over a sequence that is no SGR, or a lone escape
 pub loop-item-preserved : goal.loop-item-preserved
 loop-item-preserved c =
-    let w = c.range-piece.result.now in
     let gives = c.in-Some.ensures.steps in
-    let mark : BeginsWithMark c.in-Some.item.kind w (pieces_left c.loop-item.item-iterator) (pieces_left c.next.new.self) = gives_mark gives c.loop-item.invariant.text c.range-piece.ensures.value (search rules) in
+    let same = c.loop-item.invariant.text in
     record {
-      text = gives.text ∙ c.loop-item.invariant.text;
-      so_far = run-other c.loop-item.invariant.so_far mark (search rules) (λ none. omega (arith, gives.forward, c.range-piece.ensures.len, ap length none));
+      text = gives.text ∙ same;
+      so_far = run-other c.loop-item.invariant.so_far (gives_mark gives same c.range-piece.ensures.value (search rules)) (search rules) (λ none. omega (arith, gives.forward, c.range-piece.ensures.len, ap length none));
     }
 
 -- at the run
-pub returns-in-Text-clause-first : goal.returns-in-Text-clause-first
-returns-in-Text-clause-first c =
-    let w = c.range-piece.result.now in
+pub returns-in-Text : goal.returns-in-Text
+returns-in-Text c =
     let gives = c.in-Some.ensures.steps in
-    let first : pieces_left c.loop-item.item-iterator ≡ Text w ∷ pieces_left c.next.new.self = gives_text gives c.loop-item.invariant.text c.range-piece.ensures.value c.in-Text.is in
-    let after : pieces_left c.next.new.self ≡ pieces_of c.range_from.result.now =
-    ap₂ (λ n x. pieces_of (drop n x)) (sym gives.end) (gives.text ∙ c.loop-item.invariant.text) ∙ ap pieces_of (sym c.range_from.ensures.value) in
-    (run-text c.range_from.result.now c.loop-item.invariant.so_far (first ∙ ap (λ ps. Text w ∷ ps) after)).0
+    let same = c.loop-item.invariant.text in
+    let first = gives_text gives same c.range-piece.ensures.value c.in-Text.is in
+    let run = run-text c.range_from.result.now c.loop-item.invariant.so_far (first ∙ ap (λ ps. Text c.range-piece.result.now ∷ ps) (sym (gives_rest gives same c.range_from.ensures.value))) in
+    record { none = tt; first = run.0; awaited = run.1 }
+
+-- nothing is left
+pub returns : goal.returns
+returns c = record { none = run-end c.loop-item.invariant.so_far c.in-None.ensures.steps.2; first = tt; awaited = tt }

@@ -1,11 +1,13 @@
-use Rattle.std.proofs.Common.{◌≡◌, inl, inr, Some, option_map, refl, sym, ◌∙◌, ap, slice_get, is_some, true≢false, arith}
+use Rattle.std.proofs.Common.{◌≡◌, ◌≤◌, ℕ, List, inl, inr, Option, Some, option_map, length, refl, sym, ◌∙◌, ap, slice_get, is_some, true≢false, arith}
+use Rattle.std.specs.Option.{MatchOption}
+use Rattle.std.specs.Iterator.{YieldsFirstBy, YieldsThen}
 use Rattle.std.proofs.lemmas.Iterator.Consumers.{nth_from_yields_List, YieldsList-from_first}
 use Rattle.ansi_split.specs.declared.split.spans.Span.{Span}
 use Rattle.ansi_style.specs.Rendition.{plain_style}
 use Rattle.ansi_style.specs.States.{rendition_of}
 use Rattle.ansi_split.specs.Splits.{SplitPart}
 use Rattle.ansi_split.specs.Spans.{span_part, parts_left}
-use Rattle.ansi_split.proofs.SplitLemmas.{IsPartAt, part_at, no_part_at}
+use Rattle.ansi_split.proofs.SplitLemmas.{part_at, no_part_at}
 use Rattle.ansi_split.proofs.PartLengthLemmas.{share_within}
 use Rattle.ansi_split.proofs.split.part_in.Goals as goal
 
@@ -13,13 +15,15 @@ use Rattle.ansi_split.proofs.split.part_in.Goals as goal
 abbrev written_as : Span → SplitPart
 written_as s = span_part (rendition_of s.carried) s.text.now s.skip
 
+at_index : {first : List SplitPart} (left : List SplitPart) (t p : List ℕ) (k : ℕ) (r : Option Span) → (xs : List Span) × YieldsThen (YieldsFirstBy written_as (λ s. s)) first xs r left × MatchOption r (length xs ≤ k) (λ _. length xs ≡ k)
+    → first ≡ parts_left plain_style t p 0 0 → slice_get (parts_left plain_style t p 0 0) k ≡ option_map written_as r
+at_index left t p k r ran begins = sym (nth_from_yields_List r left k ran (YieldsList-from_first written_as (λ s. s) (parts_left plain_style t p 0 0) begins))
+
 pub returns-in_ok-write-in-Some : goal.returns-in_ok-write-in-Some
 returns-in_ok-write-in-Some g c =
     let t = c.args.text.now in
     let p = c.args.pat.now in
-    let at : option_map written_as c.nth.result ≡ slice_get (parts_left plain_style t p 0 0) c.args.index
-    = nth_from_yields_List c.nth.result _ c.args.index c.nth.ensures.ran (YieldsList-from_first written_as (λ s. s) (parts_left plain_style t p 0 0) c.new.ensures) in
-    let part : IsPartAt t p c.args.index (written_as c.in-Some.span) = part_at t p c.args.index (written_as c.in-Some.span) (sym at ∙ ap (option_map written_as) c.in-Some.is) in
+    let part = part_at t p c.args.index (written_as c.in-Some.span) (at_index _ t p c.args.index c.nth.result c.nth.ensures.ran c.new.ensures ∙ ap (option_map written_as) c.in-Some.is) in
     let written = c.in_ok-write-in-Some.ensures in
     record {
       none = (λ e. absurd (true≢false e), λ nothing. sym (ap is_some part.found) ∙ nothing);
@@ -35,9 +39,7 @@ pub returns-in_err-write-in-Some-clause-takes_no_memory : goal.returns-in_err-wr
 returns-in_err-write-in-Some-clause-takes_no_memory g c =
     let t = c.args.text.now in
     let p = c.args.pat.now in
-    let at : option_map written_as c.nth.result ≡ slice_get (parts_left plain_style t p 0 0) c.args.index
-    = nth_from_yields_List c.nth.result _ c.args.index c.nth.ensures.ran (YieldsList-from_first written_as (λ s. s) (parts_left plain_style t p 0 0) c.new.ensures) in
-    let part : IsPartAt t p c.args.index (written_as c.in-Some.span) = part_at t p c.args.index (written_as c.in-Some.span) (sym at ∙ ap (option_map written_as) c.in-Some.is) in
+    let part = part_at t p c.args.index (written_as c.in-Some.span) (at_index _ t p c.args.index c.nth.result c.nth.ensures.ran c.new.ensures ∙ ap (option_map written_as) c.in-Some.is) in
     λ any. absurd (true≢false (sym (c.in_err-write-in-Some.ensures.takes_no_memory (elim any [
       | inl none ↦ part.bare none
       | inr (inl borrowed) ↦ sym part.borrowed ∙ borrowed
@@ -51,9 +53,7 @@ pub returns-in-None-clause-none : goal.returns-in-None-clause-none
 returns-in-None-clause-none g c =
     let t = c.args.text.now in
     let p = c.args.pat.now in
-    let at : option_map written_as c.nth.result ≡ slice_get (parts_left plain_style t p 0 0) c.args.index
-    = nth_from_yields_List c.nth.result _ c.args.index c.nth.ensures.ran (YieldsList-from_first written_as (λ s. s) (parts_left plain_style t p 0 0) c.new.ensures) in
-    let none = no_part_at t p c.args.index (sym at ∙ ap (option_map written_as) c.in-None.is) in
+    let none = no_part_at t p c.args.index (at_index _ t p c.args.index c.nth.result c.nth.ensures.ran c.new.ensures ∙ ap (option_map written_as) c.in-None.is) in
     (λ e. ap is_some none, λ e. refl)
 
 pub returns-in-None-clause-within : goal.returns-in-None-clause-within

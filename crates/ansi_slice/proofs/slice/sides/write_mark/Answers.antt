@@ -2,8 +2,8 @@ use Rattle.std.proofs.Common.{rules, ◌≡◌, ◌≢◌, [], sym, ap, append-n
 use Rattle.ansi_items.specs.declared.ansitok.Kind.TheVariants.{Sgr}
 use Rattle.ansi_items.specs.Pieces.{Sequence}
 use Rattle.ansi_style.specs.States.{rendition_of}
-use Rattle.ansi_slice.specs.Sides.{copied}
-use Rattle.ansi_slice.proofs.CutWalkLemmas.{apply-no_sgr}
+use Rattle.ansi_items.specs.Plain.{copied}
+use Rattle.ansi_style.proofs.SgrLemmas.{apply-no_sgr}
 use Rattle.ansi_slice.proofs.slice.sides.write_mark.Goals as goal
 
 -- an SGR is not copied

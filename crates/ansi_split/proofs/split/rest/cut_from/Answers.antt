@@ -1,16 +1,16 @@
-use Rattle.std.proofs.Common.{rules, ◌≡◌, ◌≢◌, ◌∷◌, ◌++◌, ◌+◌, ◌-◌, Some, length, take, drop, refl, sym, ◌∙◌, ap, ap₂, subst, arith, IsFalse}
+use Rattle.std.proofs.Common.{rules, ◌≡◌, ◌∷◌, ◌++◌, ◌+◌, ◌-◌, Some, length, take, drop, refl, sym, ◌∙◌, ap, ap₂, subst, arith, IsFalse}
 use Rattle.std.proofs.lemmas.Bool.{eqb-true, eqb-false}
 use Rattle.std.proofs.lemmas.Str.{IsCharBoundary-from_rest}
 use Rattle.std.specs.Str.{IsCharBoundary}
-use Rattle.ansi_items.specs.declared.ansitok.Kind.TheVariants.{Sgr}
 use Rattle.ansi_items.specs.Pieces.{Text, pieces_of}
 use Rattle.ansi_items.specs.Plain.{plain_of, plain, has_escape}
 use Rattle.ansi_items.specs.Scans.{pieces_left}
 use Rattle.ansi_style.specs.States.{rendition_of}
 use Rattle.ansi_slice.specs.Parts.{first_match_from}
 use Rattle.ansi_split.specs.Spans.{IsCutAtMatch}
-use Rattle.ansi_items.proofs.StepLemmas.{BeginsWithMark, gives_text, gives_mark}
+use Rattle.ansi_items.proofs.StepLemmas.{gives_text}
 use Rattle.ansi_style.proofs.SgrLemmas.{apply-no_sgr}
+use Rattle.ansi_slice.proofs.OffsetLemmas.{over_text, over_mark}
 use Rattle.ansi_split.proofs.RestLemmas.{boundary-drop, no_escape-later, no_escape-text}
 use Rattle.ansi_split.proofs.MatchWalkLemmas.{walked-begin, walked-text, walked-mark, walked-cut, walked-end, walked-none, walked-empty}
 use Rattle.ansi_split.proofs.split.rest.cut_from.Goals as goal
@@ -60,15 +60,14 @@ invariant_of-result c =
 -- the match begins in the run
 pub returns-then-ahead-piece : goal.returns-then-ahead-piece
 returns-then-ahead-piece c =
-    let t = c.args.text.now in
     let gives = c.in-Some.ensures.steps in
     let w = c.range-piece.result.now in
-    let first : pieces_left c.loop-item.item-iterator ≡ Text w ∷ pieces_left c.next.new.self = gives_text gives c.loop-item.invariant.text c.range-piece.ensures.value c.in-Text.is in
+    let over = over_text gives c.loop-item.invariant.text c.range-piece.ensures.value c.in-Text.is in
     let here : plain c.range_from.result.now ≡ w ++ plain_of (pieces_left c.next.new.self)
-    = ap plain_of (ap pieces_of c.range_from.ensures.value ∙ ap₂ (λ n v. pieces_of (drop n v)) gives.start (sym c.loop-item.invariant.text) ∙ first) in
+    = ap plain (c.range_from.ensures.value ∙ ap (λ n. drop n c.args.text.now) gives.start) ∙ ap plain_of (over.there ∙ over.first) in
     let found : first_match_from (w ++ plain_of (pieces_left c.next.new.self)) c.args.pat.now c.loop-item.ahead ≡ Some c.next_start-ahead.result
     = ap (λ x. first_match_from x c.args.pat.now c.loop-item.ahead) (sym here) ∙ c.next_start-ahead.ensures.here c.if-ahead-piece.true in
-    let cut = walked-cut c.loop-item.invariant.so_far first found c.if-ahead-piece.true (ap (λ n. n + c.next_start-ahead.result) gives.start) c.utf8.text c.utf8.pat in
+    let cut = walked-cut c.loop-item.invariant.so_far over found c.if-ahead-piece.true (ap (λ n. n + c.next_start-ahead.result) gives.start) c.utf8.text c.utf8.pat in
     record {
       rest = rw (c.split_at.ensures.front, c.split_at.ensures.back) cut.0;
       marked = rw c.split_at.ensures.front cut.1.is_marked;
@@ -78,40 +77,36 @@ returns-then-ahead-piece c =
 -- over a run
 pub loop-item-preserved-in-Text : goal.loop-item-preserved-in-Text
 loop-item-preserved-in-Text c =
-    let t = c.args.text.now in
     let gives = c.in-Some.ensures.steps in
-    let w = c.range-piece.result.now in
-    let first : pieces_left c.loop-item.item-iterator ≡ Text w ∷ pieces_left c.next.new.self = gives_text gives c.loop-item.invariant.text c.range-piece.ensures.value c.in-Text.is in
-    let here : plain c.range_from.result.now ≡ w ++ plain_of (pieces_left c.next.new.self)
-    = ap plain_of (ap pieces_of c.range_from.ensures.value ∙ ap₂ (λ n v. pieces_of (drop n v)) gives.start (sym c.loop-item.invariant.text) ∙ first) in
+    let over = over_text gives c.loop-item.invariant.text c.range-piece.ensures.value c.in-Text.is in
+    let here : plain c.range_from.result.now ≡ c.range-piece.result.now ++ plain_of (pieces_left c.next.new.self)
+    = ap plain (c.range_from.ensures.value ∙ ap (λ n. drop n c.args.text.now) gives.start) ∙ ap plain_of (over.there ∙ over.first) in
     record {
       text = gives.text ∙ c.loop-item.invariant.text;
-      so_far = walked-text c.loop-item.invariant.so_far first
+      so_far = walked-text c.loop-item.invariant.so_far over
           (subst (λ x. first_match_from x c.args.pat.now c.next_start-ahead.result ≡ first_match_from x c.args.pat.now c.loop-item.ahead) here c.next_start-ahead.ensures.same)
-          c.if-ahead-piece.false (omega (arith, gives.start, gives.end, gives.forward, c.range-piece.ensures.len)) refl;
+          c.if-ahead-piece.false refl;
     }
 
 -- over an SGR
 pub loop-item-preserved-in-Sgr : goal.loop-item-preserved-in-Sgr
 loop-item-preserved-in-Sgr c =
     let gives = c.in-Some.ensures.steps in
-    let w = c.range-piece.result.now in
-    let mark : BeginsWithMark c.in-Some.item.kind w (pieces_left c.loop-item.item-iterator) (pieces_left c.next.new.self) = gives_mark gives c.loop-item.invariant.text c.range-piece.ensures.value (search rules) in
+    let same = c.loop-item.invariant.text in
     record {
-      text = gives.text ∙ c.loop-item.invariant.text;
-      so_far = walked-mark c.loop-item.invariant.so_far mark (omega (arith, gives.start, gives.end, gives.forward, c.range-piece.ensures.len)) c.apply.ensures;
+      text = gives.text ∙ same;
+      so_far = walked-mark c.loop-item.invariant.so_far (over_mark gives same c.range-piece.ensures.value (search rules)) (ap (λ t. pieces_of (drop c.loop-item.item-iterator.offset t)) (sym same)) c.apply.ensures;
     }
 
 -- over another sequence, or a lone escape
 pub loop-item-preserved : goal.loop-item-preserved
 loop-item-preserved c =
     let gives = c.in-Some.ensures.steps in
-    let w = c.range-piece.result.now in
-    let mark : BeginsWithMark c.in-Some.item.kind w (pieces_left c.loop-item.item-iterator) (pieces_left c.next.new.self) = gives_mark gives c.loop-item.invariant.text c.range-piece.ensures.value (search rules) in
-    let other : c.in-Some.item.kind ≢ Sgr = search rules in
+    let same = c.loop-item.invariant.text in
+    let over = over_mark gives same c.range-piece.ensures.value (search rules) in
     record {
-      text = gives.text ∙ c.loop-item.invariant.text;
-      so_far = walked-mark c.loop-item.invariant.so_far mark (omega (arith, gives.start, gives.end, gives.forward, c.range-piece.ensures.len)) (sym (apply-no_sgr _ w (mark.no_sgr other)));
+      text = gives.text ∙ same;
+      so_far = walked-mark c.loop-item.invariant.so_far over (ap (λ t. pieces_of (drop c.loop-item.item-iterator.offset t)) (sym same)) (sym (apply-no_sgr _ c.range-piece.result.now (over.first.no_sgr (search rules))));
     }
 
 -- nothing is left: the pattern stands at the end where it is empty
