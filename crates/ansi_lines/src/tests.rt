@@ -3,8 +3,8 @@
 mod devices;
 mod memory;
 
-use ansi_lines_runs::runs::run;
 use ansi_lines_io::page::{Outcome, Page};
+use ansi_lines_runs::runs::run;
 use std::alloc::{AllocError, Allocator, Global};
 use std::fmt::Debug;
 use std::process::Abort;
