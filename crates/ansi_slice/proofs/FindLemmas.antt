@@ -10,7 +10,6 @@ use Rattle.std.specs.Str.Pattern.{FindsText, LacksTextAt, HasTextAt, MatchBegins
 use Rattle.memchr.specs.Find.{IsFirst}
 use Rattle.ansi_slice.specs.Positions.{is_char_boundary, is_good_range}
 use Rattle.ansi_slice.proofs.PositionLemmas.{is_char_boundary-from, is_char_boundary-is, boundary_is_good, good_range_from, good_before}
-pub use Rattle.ansi_slice.proofs.MatchLemmas.{first_match_from-first}
 use Rattle.ansi_slice.proofs.MatchLemmas.{IsMatch, is_match-utf8, starts_with-from, starts_with-splits}
 
 -- A match, in std's words.
