@@ -209,7 +209,6 @@ impl Style {
 
     /// Appends the start of the style. An `Err` means that memory is wanting; what was appended up to
     /// there stands.
-    #[tactic(auto, using(crate::proofs::UnsetLemmas::unset_styles), unfolding(crate::specs::States::rendition_of))]
     pub(crate) fn write_start<A: Allocator>(&self, out: &mut String<A>) -> Result<(), AllocError>
         ensures { OnOk result (string_bytes out.new ≡ string_bytes out.old ++ start (rendition_of self.now)) }
     {
