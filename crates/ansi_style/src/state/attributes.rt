@@ -30,28 +30,51 @@ impl Flags for Attributes {
 
 impl Attributes {
     pub(crate) const BOLD: Attributes = Attributes(0x1);
+
     pub(crate) const FAINT: Attributes = Attributes(0x2);
+
     pub(crate) const ITALIC: Attributes = Attributes(0x4);
+
     pub(crate) const UNDERLINE: Attributes = Attributes(0x8);
+
     pub(crate) const DOUBLE_UNDERLINE: Attributes = Attributes(0x10);
+
     pub(crate) const SLOW_BLINK: Attributes = Attributes(0x20);
+
     pub(crate) const RAPID_BLINK: Attributes = Attributes(0x40);
+
     pub(crate) const INVERSE: Attributes = Attributes(0x80);
+
     pub(crate) const HIDE: Attributes = Attributes(0x100);
+
     pub(crate) const CROSSED_OUT: Attributes = Attributes(0x200);
+
     pub(crate) const FRAMED: Attributes = Attributes(0x400);
+
     pub(crate) const ENCIRCLED: Attributes = Attributes(0x800);
+
     pub(crate) const FRAKTUR: Attributes = Attributes(0x1000);
+
     pub(crate) const PROPORTIONAL_SPACING: Attributes = Attributes(0x2000);
+
     pub(crate) const OVERLINED: Attributes = Attributes(0x4000);
+
     pub(crate) const IDEOGRAM_UNDERLINE: Attributes = Attributes(0x8000);
+
     pub(crate) const IDEOGRAM_DOUBLE_UNDERLINE: Attributes = Attributes(0x10000);
+
     pub(crate) const IDEOGRAM_OVERLINE: Attributes = Attributes(0x20000);
+
     pub(crate) const IDEOGRAM_DOUBLE_OVERLINE: Attributes = Attributes(0x40000);
+
     pub(crate) const IDEOGRAM_STRESS_MARKING: Attributes = Attributes(0x80000);
+
     pub(crate) const SUPERSCRIPT: Attributes = Attributes(0x100000);
+
     pub(crate) const SUBSCRIPT: Attributes = Attributes(0x200000);
+
     pub(crate) const RESET: Attributes = Attributes(0x400000);
+
     pub(crate) const UNKNOWN: Attributes = Attributes(0x800000);
 
     /// All but `RESET` and `UNKNOWN`, which no sequence sets or ends.
