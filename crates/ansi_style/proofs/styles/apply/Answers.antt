@@ -5,10 +5,7 @@ use Rattle.ansi_style.proofs.styles.apply.Goals as goal
 
 -- a step reads the field that was next, and leaves fewer
 pub loop-code-smaller : goal.loop-code-smaller
-loop-code-smaller c =
-    (after_fields-code (rendition_of c.loop-code.style) (rendition_of c.step.new.self) c.loop-code.fields c.next_code.new.self c.step.new.rest c.in-Some.code c.in-Some.ensures c.step.ensures).1
+loop-code-smaller c = (after_fields-code (rendition_of c.loop-code.style) _ c.loop-code.fields _ _ _ c.in-Some.ensures c.step.ensures).1
 
 pub loop-code-preserved : goal.loop-code-preserved
-loop-code-preserved c =
-    (after_fields-code (rendition_of c.loop-code.style) (rendition_of c.step.new.self) c.loop-code.fields c.next_code.new.self c.step.new.rest c.in-Some.code c.in-Some.ensures c.step.ensures).0
-    ∙ c.loop-code.invariant
+loop-code-preserved c = (after_fields-code (rendition_of c.loop-code.style) _ c.loop-code.fields _ _ _ c.in-Some.ensures c.step.ensures).0 ∙ c.loop-code.invariant
