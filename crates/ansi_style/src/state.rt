@@ -1,10 +1,10 @@
 //! The style: what SGRs do to it, and the sequences that set and end it.
 pub(crate) mod attributes;
 mod compare;
-mod fields;
+pub(crate) mod fields;
 pub mod rendition;
 mod table;
-mod written;
+pub(crate) mod written;
 
 ghost use Rattle.std.specs.Prelude.{IsTrue};
 ghost use Rattle.std.specs.Option.{ForSome};
@@ -12,14 +12,11 @@ ghost use Rattle.std.specs.Int.{is_in_range};
 ghost use Rattle.ansi_style.specs.Rendition.{is_foreground, is_background, is_extended_color};
 
 use crate::state::attributes::Attributes;
-use crate::state::fields::{Fields, parameters};
+use crate::state::fields::Fields;
 pub use crate::state::rendition::Rendition;
-use crate::state::written::Close;
 pub use crate::state::written::{AnsiSequenceEnd, AnsiSequenceStart};
 use ansi_items::ansitok::AnsiColor;
 use bitflags::Flags;
-use std::alloc::{AllocError, Allocator};
-use std::fmt::Write;
 
 /// A style: what the SGRs before a character of a text have selected (ECMA-48, section 8.3.117).
 ///
@@ -47,43 +44,16 @@ pub struct Style {
 }
 
 impl Style {
-    ghost use Rattle.std.specs.Prelude.{◌≡◌, ◌++◌, ◌&&◌, ◌||◌, not, OnOk, string_bytes};
-    ghost use Rattle.ansi_items.specs.Sequences.{is_sgr};
-    ghost use Rattle.ansi_style.specs.Rendition.{plain_style, has_known, has_any};
+    ghost use Rattle.std.specs.Prelude.{◌≡◌, ◌&&◌, ◌||◌, not};
+    ghost use Rattle.ansi_style.specs.Rendition.{has_known};
     ghost use Rattle.std.specs.Option.{option_map_or};
-    ghost use Rattle.ansi_style.specs.Sgr.{effect_of_code, unknown_code, perform, apply};
-    ghost use Rattle.ansi_style.specs.Written.{start, close};
+    ghost use Rattle.ansi_style.specs.Sgr.{effect_of_code, unknown_code, perform};
     ghost use Rattle.ansi_style.specs.States.{has, rendition_of, with_attributes};
-
-    /// The plain style, in which nothing is set.
-    #[tactic(auto, unfolding(crate::specs::States::rendition_of))]
-    pub(crate) fn new() -> Self
-        ensures { rendition_of result ≡ plain_style }
-    {
-        Style {
-            attributes: Attributes::empty(),
-            foreground: None,
-            background: None,
-            underline_color: None,
-            font: None,
-        }
-    }
-
-    /// Does what the codes of an SGR, a whole sequence, ask for, one after another.
-    pub(crate) fn apply(&mut self, sequence: &str)
-        requires { IsTrue (is_sgr sequence.now) }
-        ensures { rendition_of self.new ≡ apply (rendition_of self.old) sequence.now }
-    {
-        let mut fields = Fields::new(parameters(sequence));
-        while let Some(code) = fields.next_code() {
-            self.step(code, &mut fields);
-        }
-    }
 
     /// Does what a field asks for, as the code that it is, if it is one. A code that reads a color takes
     /// fields off those left.
     #[tactic(auto, unfolding(crate::specs::States::rendition_of))]
-    fn step(&mut self, code: Option<u8>, rest: &mut Fields<'_>)
+    pub(crate) fn step(&mut self, code: Option<u8>, rest: &mut Fields<'_>)
         ensures { (rendition_of self.new, rest.new)
             ≡ perform (option_map_or effect_of_code code unknown_code) (rendition_of self.old) rest.old }
     {
@@ -156,7 +126,7 @@ impl Style {
 
     /// Whether a color, the font or an attribute other than `reset` and `unknown` is set.
     #[tactic(auto, unfolding(crate::specs::States::rendition_of))]
-    fn has_known(&self) -> bool
+    pub(crate) fn has_known(&self) -> bool
         ensures { result ≡ has_known (rendition_of self.now) }
     {
         self.foreground.is_some()
@@ -164,17 +134,6 @@ impl Style {
             | self.underline_color.is_some()
             | self.font.is_some()
             | self.attributes.intersects(Attributes::KNOWN)
-    }
-
-    /// Whether the style has something to end: a known attribute, a color or a font is set, or `reset`
-    /// and `unknown` both are.
-    #[tactic(auto, unfolding(crate::specs::States::rendition_of))]
-    pub(crate) fn has_any(&self) -> bool
-        ensures { result ≡ has_any (rendition_of self.now) }
-    {
-        self.has_known()
-            || self.attributes.contains(Attributes::RESET)
-                && self.attributes.contains(Attributes::UNKNOWN)
     }
 
     /// The start of the style, to be printed: the sequences that set it. Takes no memory. (The Rust
@@ -205,31 +164,5 @@ impl Style {
         ensures { result ≡ rendition_of self.now }
     {
         AnsiSequenceEnd(self)
-    }
-
-    /// Appends the start of the style. An `Err` means that memory is wanting; what was appended up to
-    /// there stands.
-    #[tactic(auto, using(crate::proofs::UnsetLemmas::unset_styles), unfolding(crate::specs::States::rendition_of))]
-    pub(crate) fn write_start<A: Allocator>(&self, out: &mut String<A>) -> Result<(), AllocError>
-        ensures { OnOk result (string_bytes out.new ≡ string_bytes out.old ++ start (rendition_of self.now)) }
-    {
-        // also before a formatter is made
-        if !self.has_known() {
-            return Ok(());
-        }
-        write!(out, "{}", self.start())
-    }
-
-    /// Appends the close of the style. An `Err` means that memory is wanting; what was appended up to
-    /// there stands.
-    #[tactic(auto, using(crate::proofs::UnsetLemmas::unset_styles), unfolding(crate::specs::States::rendition_of))]
-    pub(crate) fn write_close<A: Allocator>(&self, out: &mut String<A>) -> Result<(), AllocError>
-        ensures { OnOk result (string_bytes out.new ≡ string_bytes out.old ++ close (rendition_of self.now)) }
-    {
-        // also before a formatter is made
-        if !(self.has_known() | self.attributes.contains(Attributes::UNKNOWN)) {
-            return Ok(());
-        }
-        write!(out, "{}", Close(self))
     }
 }

@@ -142,7 +142,7 @@ impl Style {
     pub fn foreground(&self) -> Option<Color>
         ensures { result ≡ option_map color_of (rendition_of self.now).foreground }
     {
-        self.foreground.map(Color::from)
+        Some(Color::from(self.foreground?))
     }
 
     /// The color after the text, by its name, or `None` where none is set. (The Rust crate.)
@@ -154,6 +154,6 @@ impl Style {
     pub fn background(&self) -> Option<Color>
         ensures { result ≡ option_map color_of (rendition_of self.now).background }
     {
-        self.background.map(Color::from)
+        Some(Color::from(self.background?))
     }
 }

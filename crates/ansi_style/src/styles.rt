@@ -8,13 +8,25 @@ ghost use Rattle.ansi_style.specs.Written.{start, close};
 ghost use Rattle.ansi_style.specs.States.{rendition_of};
 
 use crate::state::Style;
+use crate::state::attributes::Attributes;
+use crate::state::fields::{Fields, parameters};
+use crate::state::written::Close;
+use bitflags::Flags;
 use std::alloc::{AllocError, Allocator};
+use std::fmt::Write;
 
 /// The plain style, in which nothing is set.
+#[tactic(auto, unfolding(crate::specs::States::rendition_of))]
 pub fn plain_style() -> Style
     ensures { rendition_of result ≡ plain_style }
 {
-    Style::new()
+    Style {
+        attributes: Attributes::empty(),
+        foreground: None,
+        background: None,
+        underline_color: None,
+        font: None,
+    }
 }
 
 /// Does what the codes of an SGR, a whole sequence, ask for, one after another.
@@ -22,15 +34,21 @@ pub fn apply(style: &mut Style, sequence: &str)
     requires { IsTrue (is_sgr sequence.now) }
     ensures { rendition_of style.new ≡ apply (rendition_of style.old) sequence.now }
 {
-    style.apply(sequence);
+    let mut fields = Fields::new(parameters(sequence));
+    while let Some(code) = fields.next_code() {
+        style.step(code, &mut fields);
+    }
 }
 
 /// Whether the style has something to end: a known attribute, a color or a font is set, or `reset`
 /// and `unknown` both are.
+#[tactic(auto, unfolding(crate::specs::States::rendition_of))]
 pub fn has_any(style: &Style) -> bool
     ensures { result ≡ has_any (rendition_of style.now) }
 {
-    style.has_any()
+    style.has_known()
+        || style.attributes.contains(Attributes::RESET)
+            && style.attributes.contains(Attributes::UNKNOWN)
 }
 
 /// Appends the start of the style. An `Err` means that memory is wanting; what was appended up to
@@ -38,13 +56,22 @@ pub fn has_any(style: &Style) -> bool
 pub fn write_start<A: Allocator>(style: &Style, out: &mut String<A>) -> Result<(), AllocError>
     ensures { OnOk result (string_bytes out.new ≡ string_bytes out.old ++ start (rendition_of style.now)) }
 {
-    style.write_start(out)
+    // also before a formatter is made
+    if !style.has_known() {
+        return Ok(());
+    }
+    write!(out, "{}", style.start())
 }
 
 /// Appends the close of the style. An `Err` means that memory is wanting; what was appended up to
 /// there stands.
+#[tactic(auto, using(crate::proofs::UnsetLemmas::unset_styles), unfolding(crate::specs::States::rendition_of))]
 pub fn write_close<A: Allocator>(style: &Style, out: &mut String<A>) -> Result<(), AllocError>
     ensures { OnOk result (string_bytes out.new ≡ string_bytes out.old ++ close (rendition_of style.now)) }
 {
-    style.write_close(out)
+    // also before a formatter is made
+    if !(style.has_known() | style.attributes.contains(Attributes::UNKNOWN)) {
+        return Ok(());
+    }
+    write!(out, "{}", Close(style))
 }

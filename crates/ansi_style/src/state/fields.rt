@@ -8,7 +8,7 @@ use std::marker::Model;
 
 /// The fields that are left of some parameter bytes.
 #[derive(Drop)]
-pub(super) struct Fields<'a> {
+pub(crate) struct Fields<'a> {
     /// The parameter bytes from the next field on, or none after the last field.
     rest: Option<&'a [u8]>,
 }
@@ -25,7 +25,7 @@ impl<'a> Model for Fields<'a> {
 
 impl<'a> Fields<'a> {
     /// All the fields of these parameter bytes.
-    pub(super) fn new(parameters: &'a [u8]) -> Self
+    pub(crate) fn new(parameters: &'a [u8]) -> Self
         ensures { result ≡ fields_of parameters.now }
     {
         Fields {
@@ -36,7 +36,7 @@ impl<'a> Fields<'a> {
     /// The next field as a code, or `None` after the last field. An empty field is 0, and leading
     /// zeros change nothing.
     #[inline(always)]
-    pub(super) fn next_code(&mut self) -> Option<Option<u8>>
+    pub(crate) fn next_code(&mut self) -> Option<Option<u8>>
         ensures { (result, self.new) ≡ first_field code_of self.old }
     {
         let bytes = self.rest?;
@@ -55,7 +55,7 @@ impl<'a> Fields<'a> {
     /// The number that the next field gives a color, 0 where it is none, or `None` after the last
     /// field.
     #[inline(always)]
-    pub(super) fn next_number(&mut self) -> Option<u8>
+    pub(crate) fn next_number(&mut self) -> Option<u8>
         ensures { (result, self.new) ≡ first_field color_number self.old }
     {
         let code = self.next_code()?;
@@ -84,7 +84,7 @@ fn byte_of(number: u32) -> Option<u8>
 }
 
 /// The parameter bytes of an SGR: all but ESC `[` and the final byte.
-pub(super) fn parameters(sequence: &str) -> &[u8]
+pub(crate) fn parameters(sequence: &str) -> &[u8]
     requires { IsTrue (is_sgr sequence.now) }
     ensures { sgr_parameters sequence.now ≡ Some result.now }
 {

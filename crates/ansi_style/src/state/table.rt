@@ -7,6 +7,7 @@ ghost use Rattle.ansi_style.specs.States.{rendition_of};
 use crate::state::Style;
 use crate::state::attributes::Attributes;
 use crate::state::fields::Fields;
+use crate::styles::plain_style;
 use ansi_items::ansitok::AnsiColor;
 use bitflags::Flags;
 
@@ -18,7 +19,7 @@ impl Style {
     {
         match code {
             0 => {
-                *self = Style::new();
+                *self = plain_style();
                 self.set(Attributes::RESET);
             }
             1 => self.set(Attributes::BOLD),

@@ -6,6 +6,7 @@ ghost use Rattle.ansi_style.specs.Written.{written, written_all, color_code, col
 
 use crate::state::Style;
 use crate::state::attributes::Attributes;
+use crate::styles::has_any;
 use ansi_items::ansitok::AnsiColor;
 use bitflags::Flags;
 use std::fmt;
@@ -37,7 +38,7 @@ pub struct AnsiSequenceEnd<'a>(pub(super) &'a Style);
 
 /// Prints the close of a style, whatever the style.
 #[derive(Drop)]
-pub(super) struct Close<'a>(pub(super) &'a Style);
+pub(crate) struct Close<'a>(pub(crate) &'a Style);
 
 impl<'a> Model for AnsiSequenceStart<'a> {
     ghost use Rattle.ansi_style.specs.Rendition.{Rendition};
@@ -95,7 +96,7 @@ impl fmt::Display for AnsiSequenceEnd<'_> {
     ghost output = { λ s. Some (close_if_any s) };
 
     fn fmt<W: fmt::Write>(&self, f: &mut fmt::Formatter<W>) -> fmt::Result {
-        let ends = self.0.has_any();
+        let ends = has_any(self.0);
         if ends {
             Close(self.0).fmt(f)?;
         }

@@ -1,5 +1,5 @@
 -- The order of styles is that of their parts, in turn.
-use Rattle.std.proofs.Common.{◌≡◌, ℕ, Bool, true, false, Option, Some, None, refl}
+use Rattle.std.proofs.Common.{◌≡◌, ℕ, Bool, true, false, Option, Some, None, refl, rules}
 use Rattle.std.specs.Ordering.{bool_cmp, nat_cmp}
 use Rattle.std.specs.Option.{option_cmp}
 use Rattle.ansi_items.specs.declared.ansitok.AnsiColor.{AnsiColor}
@@ -34,3 +34,6 @@ same_color (Some x) (Some y) = same_ansi_color x y
 
 pub returns-clause-style : goal.returns-clause-style
 returns-clause-style c = λ a b. simp (same_color, same_font, same_attribute, ← alone)
+
+pub returns-clause-color : goal.returns-clause-color
+returns-clause-color c = search rules
