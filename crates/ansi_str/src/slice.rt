@@ -66,7 +66,7 @@ pub trait AnsiStr {
     /// assert!(rt; matches!(&cut, Ok(Some(cut)) if cut.as_str() == "\x1b[30mEX\x1b[39m"));
     /// assert!(rt; matches!(&text.ansi_get(rt.alloc(), 3..1), Ok(None)));
     /// ```
-    fn ansi_get<R: AnsiRange>(
+    final fn ansi_get<R: AnsiRange>(
         &self,
         alloc: Global,
         range: R,
@@ -96,7 +96,11 @@ pub trait AnsiStr {
     /// let cut = "\x1b[30mTEXT\x1b[39m".ansi_cut(rt.alloc(), 1..3)?;
     /// assert!(rt; cut.as_str() == "\x1b[30mEX\x1b[39m");
     /// ```
-    fn ansi_cut<R: AnsiRange>(&self, alloc: Global, range: R) -> Result<CowStr<'_>, AllocError>
+    final fn ansi_cut<R: AnsiRange>(
+        &self,
+        alloc: Global,
+        range: R,
+    ) -> Result<CowStr<'_>, AllocError>
         requires { IsTrue (is_good_range (plain (text self.now)) (R.start range) (R.end range)) }
         ensures bytes { IfOk result (λ c. cow_str_bytes c ≡ cut (text self.now) (R.start range) (R.end range)) }
         ensures borrowed { IfOk result (λ c. IsBorrowedStr c ↔ IsFalse (has_escape (text self.now))) }
@@ -117,7 +121,7 @@ pub trait AnsiStr {
     /// assert!(rt; "\x1b[1mé\x1b[0m".ansi_is_char_boundary(2));
     /// assert!(rt; !"\x1b[1mé\x1b[0m".ansi_is_char_boundary(1));
     /// ```
-    fn ansi_is_char_boundary(&self, index: usize) -> bool
+    final fn ansi_is_char_boundary(&self, index: usize) -> bool
         ensures value { result ≡ is_char_boundary (plain (text self.now)) index }
         ensures boundary { IsTrue result ↔ IsCharBoundary (plain (text self.now)) index }
         ensures good_before { IsTrue result → IsTrue (is_good_range (plain (text self.now)) 0 (Some index)) }
@@ -138,7 +142,7 @@ pub trait AnsiStr {
     /// assert!(rt; "a\x1b[1mb\x1b[0mc".ansi_find("bc") == Some(1));
     /// assert!(rt; "a\x1b[1mb\x1b[0mc".ansi_find("cb").is_none());
     /// ```
-    fn ansi_find(&self, pat: &str) -> Option<usize>
+    final fn ansi_find(&self, pat: &str) -> Option<usize>
         ensures first { MatchOption result (FindsText pat.now (plain (text self.now)) None) (MatchBeginsAt (FindsText pat.now) (plain (text self.now))) }
         ensures good { IfSome result (λ i. IsTrue (is_good_range (plain (text self.now)) i (Some (i + length pat.now)))) }
         ensures good_before { IfSome result (λ i. IsTrue (is_good_range (plain (text self.now)) 0 (Some i))) }
@@ -166,7 +170,7 @@ pub trait AnsiStr {
     /// assert!(rt; matches!(&rest, Ok(Some(rest)) if rest.as_str() == "\x1b[31m\x1b[39mand plain"));
     /// assert!(rt; matches!(&text.ansi_strip_prefix(rt.alloc(), "and"), Ok(None)));
     /// ```
-    fn ansi_strip_prefix(
+    final fn ansi_strip_prefix(
         &self,
         alloc: Global,
         prefix: &str,
@@ -198,7 +202,7 @@ pub trait AnsiStr {
     /// assert!(rt; matches!(&rest, Ok(Some(rest)) if rest.as_str() == "plain and\x1b[31m\x1b[39m"));
     /// assert!(rt; matches!(&text.ansi_strip_suffix(rt.alloc(), "and"), Ok(None)));
     /// ```
-    fn ansi_strip_suffix(
+    final fn ansi_strip_suffix(
         &self,
         alloc: Global,
         suffix: &str,
@@ -239,7 +243,7 @@ pub trait AnsiStr {
     /// }
     /// assert!(rt; cells.as_str() == "\x1b[31mlion\x1b[39m|\x1b[31mtiger\x1b[0m|");
     /// ```
-    fn ansi_split<'a>(&'a self, alloc: Global, pat: &'a str) -> AnsiSplit<'a>
+    final fn ansi_split<'a>(&'a self, alloc: Global, pat: &'a str) -> AnsiSplit<'a>
         ensures bytes { map (λ p. p.bytes) result ≡ all_parts (text self.now) pat.now }
         ensures borrowed { map (λ p. p.borrowed) result ≡ map (is_part_borrowed (text self.now) pat.now) (range_with_len 0 (length result)) }
         ensures len { length result ≤ length (plain (text self.now)) + 2 }
@@ -268,7 +272,7 @@ pub trait AnsiStr {
     /// assert!(rt; left.as_str() == "\x1b[30mTE\x1b[39m");
     /// assert!(rt; right.as_str() == "\x1b[30mXT\x1b[39m");
     /// ```
-    fn ansi_split_at(
+    final fn ansi_split_at(
         &self,
         alloc: Global,
         mid: usize,
@@ -293,7 +297,7 @@ pub trait AnsiStr {
     /// ```
     /// assert!(rt; "\x1b[31mred\x1b[39m and plain".ansi_starts_with("red and"));
     /// ```
-    fn ansi_starts_with(&self, pat: &str) -> bool
+    final fn ansi_starts_with(&self, pat: &str) -> bool
         ensures { result ≡ starts_with nat_eq (plain (text self.now)) pat.now }
     {
         search::starts_with(self.as_text(), pat)
@@ -307,7 +311,7 @@ pub trait AnsiStr {
     /// ```
     /// assert!(rt; "plain and \x1b[31mred\x1b[39m".ansi_ends_with("and red"));
     /// ```
-    fn ansi_ends_with(&self, pat: &str) -> bool
+    final fn ansi_ends_with(&self, pat: &str) -> bool
         ensures { result ≡ ends_with nat_eq (plain (text self.now)) pat.now }
     {
         search::ends_with(self.as_text(), pat)
@@ -326,7 +330,7 @@ pub trait AnsiStr {
     /// let trimmed = " \x1b[31m red \x1b[39m ".ansi_trim(rt.alloc())?;
     /// assert!(rt; trimmed.as_str() == "\x1b[31mred\x1b[39m");
     /// ```
-    fn ansi_trim(&self, alloc: Global) -> Result<CowStr<'_>, AllocError>
+    final fn ansi_trim(&self, alloc: Global) -> Result<CowStr<'_>, AllocError>
         ensures bytes { IfOk result (λ c. cow_str_bytes c ≡ trimmed (text self.now)) }
         ensures borrowed { IfOk result (λ c. IsBorrowedStr c ↔ IsFalse (has_escape (text self.now))) }
         ensures takes_no_memory { IsFalse (has_escape (text self.now)) → IsOk result }
@@ -343,7 +347,7 @@ pub trait AnsiStr {
     /// let plain = "\x1b[31mred\x1b[39m and plain".ansi_strip(rt.alloc())?;
     /// assert!(rt; plain.as_str() == "red and plain");
     /// ```
-    fn ansi_strip(&self, alloc: Global) -> Result<CowStr<'_>, AllocError>
+    final fn ansi_strip(&self, alloc: Global) -> Result<CowStr<'_>, AllocError>
         ensures bytes { IfOk result (λ c. cow_str_bytes c ≡ plain (text self.now)) }
         ensures borrowed { IfOk result (λ c. IsBorrowedStr c ↔ IsFalse (has_escape (text self.now))) }
         ensures takes_no_memory { IsFalse (has_escape (text self.now)) → IsOk result }
@@ -358,7 +362,7 @@ pub trait AnsiStr {
     /// assert!(rt; "\x1b[31mred".ansi_has_any());
     /// assert!(rt; !"red".ansi_has_any());
     /// ```
-    fn ansi_has_any(&self) -> bool
+    final fn ansi_has_any(&self) -> bool
         ensures { result ≡ has_escape (text self.now) }
     {
         has_any(self.as_text())
