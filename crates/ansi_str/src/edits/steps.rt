@@ -1,8 +1,6 @@
 //! One edit of a text.
-ghost use Rattle.std.specs.Prelude.{◌≡◌, ◌↔◌, ◌⊎◌, IsTrue, IsFalse, IsNone, IsOk, IfOk, IfSome, option_map};
+ghost use Rattle.std.specs.Prelude.{◌≡◌, ◌↔◌, ◌⊎◌, IsTrue, IsNone, IsOk, IfOk, IfSome, option_map};
 ghost use Rattle.std.specs.Cow.{cow_str_bytes, IsBorrowedStr};
-ghost use Rattle.ansi_items.specs.Plain.{has_escape};
-ghost use Rattle.ansi_str.specs.Changes.{LeftOf, RightOf};
 ghost use Rattle.ansi_str.specs.Edited.{edited_by, gives_borrow};
 ghost use Rattle.ansi_str.specs.Edits.{change_of};
 
@@ -26,47 +24,14 @@ pub(crate) fn edit_once<'t, A: Allocator + Copy>(
 {
     match edit {
         Edit::Cut { start, end } => get_in(alloc, text, start, end),
-        Edit::Left(mid) => left_of(alloc, text, mid),
-        Edit::Right(mid) => right_of(alloc, text, mid),
+        Edit::Left(mid) | Edit::Right(mid) if !search::is_good_position(text, mid) => Ok(None),
+        Edit::Left(mid) => Ok(Some(left_in(alloc, text, mid)?)),
+        Edit::Right(mid) => Ok(Some(right_in(alloc, text, mid)?)),
         Edit::Part { pat, index } => part_in(alloc, text, pat, index),
         Edit::Prefix(prefix) => strip_prefix_in(alloc, text, prefix),
         Edit::Suffix(suffix) => strip_suffix_in(alloc, text, suffix),
         Edit::Trim => Ok(Some(trim_in(alloc, text)?)),
     }
-}
-
-/// The text before a position, or `None` where that is bad, which takes no memory.
-fn left_of<'t, A: Allocator + Copy>(
-    alloc: A,
-    text: &'t str,
-    mid: usize,
-) -> Result<Option<CowStr<'t, A>>, AllocError>
-    ensures bytes { IfOk result (λ o. option_map cow_str_bytes o ≡ edited_by (LeftOf mid) text.now) }
-    ensures borrowed { IfOk result (λ o. IfSome o (λ c. IsBorrowedStr c ↔ IsFalse (has_escape text.now))) }
-    ensures takes_no_memory { IsNone (edited_by (LeftOf mid) text.now) ⊎ IsFalse (has_escape text.now) → IsOk result }
-{
-    if !search::is_good_position(text, mid) {
-        return Ok(None);
-    }
-    let side = left_in(alloc, text, mid)?;
-    Ok(Some(side))
-}
-
-/// The text from a position on, or `None` where that is bad, which takes no memory.
-fn right_of<'t, A: Allocator + Copy>(
-    alloc: A,
-    text: &'t str,
-    mid: usize,
-) -> Result<Option<CowStr<'t, A>>, AllocError>
-    ensures bytes { IfOk result (λ o. option_map cow_str_bytes o ≡ edited_by (RightOf mid) text.now) }
-    ensures borrowed { IfOk result (λ o. IfSome o (λ c. IsBorrowedStr c ↔ IsFalse (has_escape text.now))) }
-    ensures takes_no_memory { IsNone (edited_by (RightOf mid) text.now) ⊎ IsFalse (has_escape text.now) → IsOk result }
-{
-    if !search::is_good_position(text, mid) {
-        return Ok(None);
-    }
-    let side = right_in(alloc, text, mid)?;
-    Ok(Some(side))
 }
 
 /// What one edit makes of what the edits before it gave, or `None` where it is refused, which takes no

@@ -1,5 +1,4 @@
-use Rattle.std.proofs.Common.{arith}
-use Rattle.ansi_items.proofs.PlainLemmas.{length-plain}
+use Rattle.ansi_split.proofs.Common.{arith, length-plain}
 use Rattle.ansi_split.proofs.SplitLemmas.{bytes-parts_left, borrowed-parts_left, length-parts_left, shares-parts_left, parts_left-bare}
 use Rattle.ansi_split.proofs.PartLengthLemmas.{shares_within}
 use Rattle.ansi_split.proofs.split.split_in.Goals as goal
