@@ -42,7 +42,7 @@ pub trait AnsiStr {
     ghost text: { Self → List ℕ };
 
     /// The text itself, sequences included: a borrow that takes no memory. Every other call is one on
-    /// this text, so a further type needs no more than this one. (The Rust crate lacks it.)
+    /// this text and is `final`, so a further type needs no more than this one. (The Rust crate lacks it.)
     ///
     /// ```
     /// assert!(rt; "\x1b[1mbold".as_text() == "\x1b[1mbold");
@@ -56,9 +56,8 @@ pub trait AnsiStr {
     /// position lies inside a character, or the end below the start. (std's `get`, on the plain text;
     /// past the end, the Rust crate.)
     ///
-    /// It is a borrow where no ESC stands in the text. Then no memory is taken, and none for a `None`.
-    /// Else it is owned, and at most a close longer than the text, 88 bytes. `Err` means that memory is
-    /// wanting.
+    /// It is a borrow where no ESC stands in the text. Then no memory is taken, and none for a `None`. Else
+    /// it is owned, and at most a close longer than the text, 88 bytes. `Err` means that memory is wanting.
     ///
     /// ```
     /// let text = "\x1b[30mTEXT\x1b[39m";
@@ -152,8 +151,7 @@ pub trait AnsiStr {
         search::find(self.as_text(), pat)
     }
 
-    /// The text without a prefix of its plain text, or `None` where the plain text doesn't begin with
-    /// it.
+    /// The text without a prefix of its plain text, or `None` where the plain text doesn't begin with it.
     ///
     /// The prefix is met across sequences, and every sequence stays, at its place: also one that
     /// stands before the prefix or inside it. No style is opened or closed. An empty prefix takes
@@ -184,8 +182,7 @@ pub trait AnsiStr {
         strip_prefix_in(alloc, self.as_text(), prefix)
     }
 
-    /// The text without a suffix of its plain text, or `None` where the plain text doesn't end with
-    /// it.
+    /// The text without a suffix of its plain text, or `None` where the plain text doesn't end with it.
     ///
     /// The suffix is met across sequences, and every sequence stays, at its place: also one that
     /// stands inside the suffix or after it. No style is opened or closed. An empty suffix takes
@@ -225,12 +222,11 @@ pub trait AnsiStr {
     /// with the start of the style that the parts before it leave open, and ends with the close of
     /// its own, where these have anything; a part without text and sequences stays empty.
     ///
-    /// The iterator has at most two parts more than the plain text has bytes, and a `usize` counts them.
-    /// A part with no
-    /// sequence is a borrow where no style is carried into it or it is empty, so on a text without
-    /// ESC every part is one; a borrow takes no memory. Any other part is owned, and in its place
-    /// comes an `Err` where memory is wanting. After that there is nothing but `None`. (std; the
-    /// Rust crate splits the text with its sequences; where a sequence goes, own.)
+    /// The iterator has at most two parts more than the plain text has bytes, and a `usize` counts them. A
+    /// part with no sequence is a borrow where no style is carried into it or it is empty, so on a text
+    /// without ESC every part is one; a borrow takes no memory. Any other part is owned, and in its place
+    /// comes an `Err` where memory is wanting. After that there is nothing but `None`. (std; the Rust crate
+    /// splits the text with its sequences; where a sequence goes, own.)
     ///
     /// A part's share is how many bytes of the text it has, its plain bytes and its sequences. It is at
     /// most a start and a close longer, 163 + 88 bytes, and all shares together are within the text.
@@ -257,11 +253,10 @@ pub trait AnsiStr {
 
     /// The text before a position and the text from there on, each character in its style.
     ///
-    /// On each side every run of text stands between the start of its style and the close, so the
-    /// SGRs themselves aren't copied and nothing is left open. Any other sequence, and a lone
-    /// escape, goes left where it stands at or before the position, else right. The position counts
-    /// bytes of the plain text. It has to be a character boundary of it, or lie past its end, which
-    /// counts as the end.
+    /// On each side every run of text stands between the start of its style and the close, so the SGRs
+    /// themselves aren't copied and nothing is left open. Any other sequence, and a lone escape, goes left
+    /// where it stands at or before the position, else right. The position counts bytes of the plain text.
+    /// It has to be a character boundary of it, or lie past its end, which counts as the end.
     ///
     /// Both sides are borrows where no ESC stands in the text, and then no memory is taken. Else
     /// both are owned, an empty one too. `Err` means that memory is wanting. (The Rust crate.)
@@ -355,8 +350,7 @@ pub trait AnsiStr {
         strip_in(alloc, self.as_text())
     }
 
-    /// Whether an ESC stands in the text: a sequence, or a lone escape. Takes no memory. (The Rust
-    /// crate.)
+    /// Whether an ESC stands in the text: a sequence, or a lone escape. Takes no memory. (The Rust crate.)
     ///
     /// ```
     /// assert!(rt; "\x1b[31mred".ansi_has_any());
