@@ -20,6 +20,13 @@ invariant_of-span c =
       is_after = cut.ensures.style;
     }
 
+pub invariant_of-self : goal.invariant_of-self
+invariant_of-self c =
+    let s = c.self.inside in
+    let cut = c.cut_at_match-cut in
+    let at : IsCutAtMatch s.rest.text.now s.pat.now s.from cut.result.front.now c.in-Some.rest.text.now = rw c.in-Some.is at cut.ensures.rest in
+    (at.match_end, omega arith)
+
 pub returns-clause-steps : goal.returns-clause-steps
 returns-clause-steps c =
     let s = c.self.inside in
