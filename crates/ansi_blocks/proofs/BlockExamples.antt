@@ -1,12 +1,9 @@
 -- Worked examples of blocks, of names of colors and of printed ends, each by computation.
-use Rattle.std.proofs.Common.{◌≡◌, refl, codes, [], ◌∷◌, Some, List, ℕ, Bool, true, false}
+use Rattle.ansi_blocks.proofs.Common.{◌≡◌, refl, codes, [], ◌∷◌, Some, List, ℕ, Bool, true, false, Rendition, plain_style, Block, blocks, blocks_from}
 use Rattle.ansi_items.specs.declared.ansitok.AnsiColor.TheVariants.{Bit4, Bit8, Bit24}
 use Rattle.ansi_style.specs.declared.style.color.Color.TheVariants.{Magenta, BrightBlack, BrightWhite, Fixed, Rgb}
-use Rattle.ansi_style.specs.declared.state.rendition.Rendition.{Rendition}
-use Rattle.ansi_style.specs.Rendition.{plain_style}
 use Rattle.ansi_style.specs.Colors.{color_of}
 use Rattle.ansi_style.specs.Written.{close_if_any}
-use Rattle.ansi_blocks.specs.Blocks.{Block, blocks, blocks_from}
 
 abbrev block : List ℕ → Rendition → Bool → Block
 block w s lent = record { text = w; style = s; is_borrow = lent }

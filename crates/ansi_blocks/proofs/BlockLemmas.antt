@@ -1,20 +1,7 @@
 -- The blocks of a text, by one walk over its pieces with what waits for the next run, and a running style.
-use Rattle.std.proofs.Common.{◌≡◌, ℕ, IsTrue, zero, suc, ◌≤◌, ◌+◌, ◌<◌, Bool, true, false, not, ◌==◌, List, [], ◌∷◌, ◌++◌, map, filter, filter_map, length, refl, sym, ◌∙◌, ap, ap₂, subst, arith, if◌then◌else◌, append_assoc, append-nil}
-use Rattle.std.proofs.lemmas.Bool.Decides.{nat_tests}
+use Rattle.ansi_blocks.proofs.Common.{◌≡◌, ℕ, IsTrue, zero, suc, ◌≤◌, ◌+◌, ◌<◌, Bool, true, false, not, ◌==◌, List, [], ◌∷◌, ◌++◌, map, filter, filter_map, length, refl, sym, ◌∙◌, ap, ap₂, subst, arith, if◌then◌else◌, append_assoc, append-nil, nat_tests, list_all, escape, is_sgr, Piece, Text, Sequence, LoneEscape, ArePieces, first_piece, first_pieces, pieces_of, Mark, Placed, moved, places, marks_of, joined, has_escape, at_place, copied, Rendition, plain_style, apply, style_within, Block, waiting, block_after, block_of, blocks_from, blocks, pieces_are, further, marks_of-text, marks_of-sequence, marks_of-lone, style_by_marks, style_by_marks-before, style_by_marks-text, style_by_marks-sequence, style_by_marks-lone}
 use Rattle.std.specs.Prelude.{IsFalse}
-use Rattle.std.specs.List.{list_all}
-use Rattle.ansi_items.specs.Bytes.{escape}
-use Rattle.ansi_items.specs.Sequences.{is_sgr}
-use Rattle.ansi_items.specs.Pieces.{Piece, Text, Sequence, LoneEscape, ArePieces, first_piece, first_pieces, pieces_of}
-use Rattle.ansi_items.specs.Plain.{Mark, Placed, moved, places, marks_of, joined, has_escape, at_place, copied}
-use Rattle.ansi_style.specs.declared.state.rendition.Rendition.{Rendition}
-use Rattle.ansi_style.specs.Rendition.{plain_style}
-use Rattle.ansi_style.specs.Sgr.{apply}
-use Rattle.ansi_style.specs.Reading.{style_within}
-use Rattle.ansi_blocks.specs.Blocks.{Block, waiting, block_after, block_of, blocks_from, blocks}
-use Rattle.ansi_items.proofs.PieceLemmas.{pieces_are}
 use Rattle.ansi_items.proofs.PlainLemmas.{one_text, pieces_of-bare}
-use Rattle.ansi_style.proofs.MarkLemmas.{further, marks_of-text, marks_of-sequence, marks_of-lone, style_by_marks, style_by_marks-before, style_by_marks-text, style_by_marks-sequence, style_by_marks-lone}
 
 -- the blocks of pieces, where these sequences wait for the first run, and s is the style before the pieces
 abbrev pub blocks_through : Rendition → List ℕ → List Piece → List Block

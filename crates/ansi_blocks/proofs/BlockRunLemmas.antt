@@ -1,21 +1,7 @@
 -- The blocks of a text, as its runs: their number, their texts joined, and their styles.
-use Rattle.std.proofs.Common.{◌≡◌, ◌≢◌, ℕ, zero, suc, ◌+◌, Bool, true, false, not, ◌==◌, List, [], ◌∷◌, ◌++◌, map, filter, flat_map, length, IsTrue, refl, sym, ◌∙◌, ap, ap₂, arith, if◌then◌else◌, append_assoc, append-nil, length-append}
-use Rattle.std.proofs.lemmas.Bool.{and_parts}
-use Rattle.std.proofs.lemmas.Bool.Decides.{nat_tests}
+use Rattle.ansi_blocks.proofs.Common.{◌≡◌, ◌≢◌, ℕ, zero, suc, ◌+◌, Bool, true, false, not, ◌==◌, List, [], ◌∷◌, ◌++◌, map, filter, flat_map, length, IsTrue, refl, sym, ◌∙◌, ap, ap₂, arith, if◌then◌else◌, append_assoc, append-nil, length-append, and_parts, nat_tests, list_all, escape, is_plain_byte, is_sgr, Piece, Text, Sequence, LoneEscape, ArePieces, spelling, pieces_of, Mark, Placed, places, marks_of, plain_of, plain, is_text, at_place, copied, Rendition, plain_style, apply, style_within, Block, waiting, blocks_from, blocks, runs, without_sgrs, pieces_are, marks_of-text, marks_of-sequence, marks_of-lone}
 use Rattle.std.proofs.lemmas.List.{length-map}
-use Rattle.std.specs.List.{list_all}
-use Rattle.ansi_items.specs.Bytes.{escape, is_plain_byte}
-use Rattle.ansi_items.specs.Sequences.{is_sgr}
-use Rattle.ansi_items.specs.Pieces.{Piece, Text, Sequence, LoneEscape, ArePieces, spelling, pieces_of}
-use Rattle.ansi_items.specs.Plain.{Mark, Placed, places, marks_of, plain_of, plain, is_text, at_place, copied}
-use Rattle.ansi_style.specs.declared.state.rendition.Rendition.{Rendition}
-use Rattle.ansi_style.specs.Rendition.{plain_style}
-use Rattle.ansi_style.specs.Sgr.{apply}
 use Rattle.ansi_style.specs.Styled.{style_at}
-use Rattle.ansi_style.specs.Reading.{style_within}
-use Rattle.ansi_blocks.specs.Blocks.{Block, waiting, blocks_from, blocks, runs, without_sgrs}
-use Rattle.ansi_items.proofs.PieceLemmas.{pieces_are}
-use Rattle.ansi_style.proofs.MarkLemmas.{marks_of-text, marks_of-sequence, marks_of-lone}
 use Rattle.ansi_blocks.proofs.BlockLemmas.{by_places, blocks_through, blocks_from-walked, others, waiting_at, others-further, others-here, others-after}
 
 -- blocks by their places, of which only the runs give one

@@ -1,15 +1,7 @@
 -- How far the walk to the first run of a text has come, and what a step of it is.
-use Rattle.std.proofs.Common.{◌≡◌, ◌≢◌, ℕ, Bool, true, false, not, ◌==◌, List, [], ◌∷◌, ◌++◌, length, refl, sym, ◌∙◌, ap, ap₂, subst, arith, if◌then◌else◌, append_assoc, append-nil}
-use Rattle.std.proofs.lemmas.Bool.{ne_eqb}
+use Rattle.ansi_blocks.proofs.Common.{◌≡◌, ◌≢◌, ℕ, Bool, true, false, not, ◌==◌, List, [], ◌∷◌, ◌++◌, length, refl, sym, ◌∙◌, ap, ap₂, subst, arith, if◌then◌else◌, append_assoc, append-nil, ne_eqb, Piece, Text, Sequence, spelling, pieces_of, Rendition, plain_style, apply, copied, waiting, block_after, blocks_from, is_mark, BeginsWithMark}
 use Rattle.ansi_items.specs.declared.ansitok.Kind.{Kind}
 use Rattle.ansi_items.specs.declared.ansitok.Kind.TheVariants.{Sgr}
-use Rattle.ansi_items.specs.Pieces.{Piece, Text, Sequence, spelling, pieces_of}
-use Rattle.ansi_style.specs.declared.state.rendition.Rendition.{Rendition}
-use Rattle.ansi_style.specs.Rendition.{plain_style}
-use Rattle.ansi_style.specs.Sgr.{apply}
-use Rattle.ansi_items.specs.Plain.{copied}
-use Rattle.ansi_blocks.specs.Blocks.{waiting, block_after, blocks_from}
-use Rattle.ansi_items.proofs.StepLemmas.{is_mark, BeginsWithMark}
 use Rattle.ansi_style.proofs.SgrLemmas.{apply-no_sgr}
 use Rattle.ansi_blocks.proofs.BlockLemmas.{blocks_through, waiting_before, blocks_from-walked, waiting-front}
 

@@ -1,3 +1,4 @@
+mod Common
 pub mod BlockLemmas
 pub mod BlockRunLemmas
 pub mod BlockWalkLemmas

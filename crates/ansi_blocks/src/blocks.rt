@@ -67,8 +67,7 @@ impl<'a, A: Allocator> AnsiBlock<'a, A> {
         styles::has_any(&self.style)
     }
 
-    /// The style of the run, with whatever the text before it left open. Takes no memory. (The Rust
-    /// crate.)
+    /// The style of the run, with whatever the text before it left open. Takes no memory. (The Rust crate.)
     ///
     /// ```
     /// let first = get_blocks(rt.alloc(), "\x1b[1mx").next();
@@ -99,10 +98,8 @@ impl<'a, A: Allocator + Clone> AnsiBlock<'a, A> {
             CowStr::Borrowed(text) => CowStr::Borrowed(text),
             CowStr::Owned(text) => CowStr::Owned(text.clone()?),
         };
-        Ok(AnsiBlock {
-            text,
-            style: self.style,
-        })
+        let style = self.style;
+        Ok(AnsiBlock { text, style })
     }
 }
 
@@ -207,10 +204,8 @@ impl<'a, A: Allocator + Copy> Iterator for AnsiBlockIter<'a, A> {
             Ok(text) => {
                 self.rest = run.rest;
                 self.style = run.style;
-                Some(Ok(AnsiBlock {
-                    text,
-                    style: run.style,
-                }))
+                let style = run.style;
+                Some(Ok(AnsiBlock { text, style }))
             }
             Err(e) => Some(Err(e)),
         }

@@ -1,32 +1,6 @@
 -- A text in two, after the last mark at a position.
-use Rattle.std.proofs.Common.{min, ◌≡◌, ◌≢◌, ℕ, zero, suc, ◌+◌, ◌-◌, ◌<◌, ◌≤◌, inl, inr, true, false, List, [], ◌∷◌, ◌++◌, length, map, take, drop, Some, refl, sym, ◌∙◌, ap, ap₂, subst, arith, IsTrue, if◌then◌else◌, nat_lt, nat_le, slice_index, slice_range, length-append, append_assoc, append-nil}
-use Rattle.std.proofs.Math.Seq.{take-nil}
-use Rattle.std.proofs.lemmas.Bool.{cases_lt, lt-ltb, le-ltb}
-use Rattle.std.proofs.lemmas.Bool.Decides.{nat_tests}
-use Rattle.std.proofs.lemmas.List.{take_all, take-take, take-append-le, take-append-drop, map-append, length-drop, length-take}
-use Rattle.std.proofs.lemmas.List.Elements.{filter-append, filter_agree}
-use Rattle.std.proofs.lemmas.List.Sums.{fold-append}
-use Rattle.std.proofs.lemmas.Str.{IsCharBoundary-from_rest}
-use Rattle.std.specs.Str.{IsCharBoundary}
-use Rattle.ansi_items.specs.Bytes.{escape, is_plain_byte}
-use Rattle.ansi_items.specs.Sequences.{IsSequence}
-use Rattle.ansi_items.specs.Pieces.{Piece, Text, Sequence, LoneEscape, spelling, ArePieces, StandsBefore, pieces_of}
-use Rattle.ansi_items.specs.Plain.{Mark, plain_of, plain, marks_of, marks, up_to}
-use Rattle.ansi_items.proofs.PieceLemmas.{pieces_are, pieces_of-unique}
-use Rattle.ansi_items.proofs.PlainLemmas.{one_text, one_text_are, plain_of-one_text}
-use Rattle.ansi_style.specs.Sgr.{apply, apply_all}
-use Rattle.ansi_style.specs.Reading.{after_marks}
-use Rattle.ansi_style.proofs.MarkLemmas.{further, marks_of-text, marks_of-sequence, marks_of-lone, up_to-none, up_to-further, after_marks-further}
-use Rattle.ansi_slice.specs.Positions.{is_good_position}
-use Rattle.ansi_slice.specs.Cut.{show}
-use Rattle.ansi_slice.specs.Parts.{past}
-use Rattle.ansi_slice.specs.Offsets.{bytes_before, offset_of}
-use Rattle.ansi_slice.proofs.SliceLemmas.{list_all-parts, take-append, slice_range-none, slice_range-from_past}
-use Rattle.ansi_slice.proofs.ShowLemmas.{show-bare, show-text, show-mark, show-nil}
-use Rattle.ansi_slice.proofs.PositionLemmas.{is_good_position-append, good_is_boundary}
-use Rattle.ansi_slice.proofs.CutLemmas.{up_to-past}
-use Rattle.ansi_slice.proofs.OffsetLemmas.{bytes_before-last, bytes_before-text, after_of, after_of-last, after_of-text, take-after, pieces_of-after, plain-after}
-use Rattle.ansi_split.specs.Spans.{further_on, IsCutAfter}
+use Rattle.ansi_split.proofs.Common.{min, ◌≡◌, ◌≢◌, ℕ, zero, suc, ◌+◌, ◌-◌, ◌<◌, ◌≤◌, inl, inr, true, false, List, [], ◌∷◌, ◌++◌, length, map, take, drop, Some, refl, sym, ◌∙◌, ap, ap₂, subst, arith, IsTrue, if◌then◌else◌, nat_lt, nat_le, slice_index, slice_range, length-append, append_assoc, append-nil, take-nil, cases_lt, lt-ltb, le-ltb, nat_tests, take_all, take-take, take-append-le, take-append-drop, map-append, length-drop, filter-append, filter_agree, fold-append, IsCharBoundary-from_rest, IsCharBoundary, escape, is_plain_byte, IsSequence, Piece, Text, Sequence, LoneEscape, spelling, ArePieces, StandsBefore, pieces_of, Mark, plain_of, plain, marks_of, marks, up_to, pieces_are, pieces_of-unique, one_text, one_text_are, plain_of-one_text, apply, apply_all, after_marks, further, marks_of-text, marks_of-sequence, marks_of-lone, up_to-none, up_to-further, after_marks-further, is_good_position, show, past, bytes_before, offset_of, list_all-parts, take-append, slice_range-none, slice_range-from_past, show-bare, show-text, show-mark, show-nil, is_good_position-append, good_is_boundary, up_to-past, bytes_before-last, bytes_before-text, after_of, after_of-last, after_of-text, take-after, pieces_of-after, plain-after, further_on, IsCutAfter}
+use Rattle.std.proofs.lemmas.List.{length-take}
 use Rattle.ansi_split.proofs.PartSliceLemmas.{own_places, at_places-never, past-places}
 
 -- The pieces up to the position e with the marks there. A text that goes on past it is in them and in those after it.

@@ -1,13 +1,5 @@
 -- The parts of a text are the intervals between the first matches of a pattern that isn't empty.
-use Rattle.std.proofs.Common.{◌≡◌, ◌≢◌, ℕ, zero, suc, ◌+◌, ◌<◌, ◌≤◌, inl, inr, Bool, List, [], ◌∷◌, ◌++◌, drop, length, map, filter, zip, refl, sym, ◌∙◌, ap, subst, arith, true≢false, if◌then◌else◌}
-use Rattle.std.proofs.lemmas.Bool.{cond_both, cases_lt, le-leb, lt-leb}
-use Rattle.std.proofs.lemmas.Str.{IsCharBoundary-start, IsCharBoundary-end}
-use Rattle.std.specs.List.{range_with_len}
-use Rattle.std.specs.Str.{IsUtf8, IsCharBoundary}
-use Rattle.std.specs.Str.Pattern.{LacksTextAt, HasTextAt}
-use Rattle.ansi_slice.specs.Parts.{is_match, apart, parts}
-use Rattle.ansi_split.specs.StdSplit.{AreBetween, AreInTurn}
-use Rattle.ansi_slice.proofs.MatchLemmas.{boundary_at}
+use Rattle.ansi_split.proofs.Common.{◌≡◌, ◌≢◌, ℕ, zero, suc, ◌+◌, ◌<◌, ◌≤◌, inl, inr, Bool, List, [], ◌∷◌, ◌++◌, drop, length, map, filter, zip, refl, sym, ◌∙◌, ap, subst, arith, true≢false, if◌then◌else◌, cond_both, cases_lt, le-leb, lt-leb, IsCharBoundary-start, IsCharBoundary-end, range_with_len, IsUtf8, IsCharBoundary, LacksTextAt, HasTextAt, is_match, apart, parts, AreBetween, AreInTurn, boundary_at}
 use Rattle.ansi_slice.proofs.FindLemmas.{match_stands, no_match_lacks}
 
 pub filled : (p : List ℕ) → p ≢ [] → 0 < length p

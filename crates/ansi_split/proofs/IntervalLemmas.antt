@@ -1,9 +1,5 @@
 -- Each part begins and ends at or after the end of the part before it.
-use Rattle.std.proofs.Common.{◌≡◌, ℕ, zero, suc, ◌+◌, ◌≤◌, Bool, true, false, List, [], ◌∷◌, ◌++◌, map, length, filter, zip, nat_le, Option, Some, None, option_map, refl, sym, subst, arith, slice_get, if◌then◌else◌}
-use Rattle.std.proofs.lemmas.Bool.{cond_both, leb-true}
-use Rattle.std.proofs.lemmas.Option.{cond_some, none-some}
-use Rattle.std.specs.List.{range_with_len, AllByRecursion}
-use Rattle.ansi_slice.specs.Parts.{is_match, match_places, apart, parts, end_before}
+use Rattle.ansi_split.proofs.Common.{◌≡◌, ℕ, zero, suc, ◌+◌, ◌≤◌, Bool, true, false, List, [], ◌∷◌, ◌++◌, map, length, filter, zip, nat_le, Option, Some, None, option_map, refl, sym, subst, arith, slice_get, if◌then◌else◌, cond_both, leb-true, cond_some, none-some, range_with_len, AllByRecursion, is_match, match_places, apart, parts, end_before}
 
 -- the interval begins and ends at or after the end of the one before, if there is one
 abbrev pub ComesAfter : Option ℕ → ℕ × ℕ → Type 0

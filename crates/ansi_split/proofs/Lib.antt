@@ -1,3 +1,4 @@
+mod Common
 pub mod IntervalLemmas
 pub mod PartSliceLemmas
 pub mod BetweenLemmas

@@ -1,28 +1,5 @@
 -- How far a walk to the first match of a pattern has come, and what a step of it is.
-use Rattle.std.proofs.Common.{◌≡◌, ◌≢◌, ℕ, ◌+◌, ◌-◌, ◌<◌, ◌≤◌, Bool, true, false, ◌||◌, ◌==◌, List, [], ◌∷◌, ◌++◌, length, take, drop, Option, Some, None, option_map, refl, sym, ◌∙◌, ap, subst, arith, length-append, IsFalse}
-use Rattle.std.proofs.Math.Bool.{or-false, or-true}
-use Rattle.std.proofs.Math.Seq.{take-add}
-use Rattle.std.proofs.lemmas.List.{length-drop, drop-drop, drop_at, take_all, drop_all, take-append-le}
-use Rattle.std.proofs.lemmas.List.Folds.{list_any-append}
-use Rattle.std.specs.Str.{IsUtf8}
-use Rattle.memchr.specs.Find.{NoneBefore, IsFirst}
-use Rattle.ansi_items.specs.declared.ansitok.Kind.{Kind}
-use Rattle.ansi_items.specs.Bytes.{escape}
-use Rattle.ansi_items.specs.Pieces.{Piece, Text, Sequence, LoneEscape, spelling, StandsBefore, ArePieces, pieces_of}
-use Rattle.ansi_items.specs.Plain.{plain_of, plain, has_escape}
-use Rattle.ansi_style.specs.declared.state.rendition.Rendition.{Rendition}
-use Rattle.ansi_style.specs.Sgr.{apply}
-use Rattle.ansi_style.specs.Reading.{after_marks, style_after_from, style_within}
-use Rattle.ansi_slice.specs.Parts.{is_match, first_match_from}
-use Rattle.ansi_split.specs.Spans.{IsCutAfter, IsCutAtMatch}
-use Rattle.ansi_items.proofs.PieceLemmas.{pieces_are, sequence_front}
-use Rattle.ansi_items.proofs.PlainLemmas.{no_escape}
-use Rattle.ansi_items.proofs.StepLemmas.{is_mark, plain_of-mark}
-use Rattle.ansi_style.proofs.MarkLemmas.{style_by_marks, style_by_marks-before, style_by_marks-text, style_by_marks-sequence, style_by_marks-lone}
-use Rattle.ansi_slice.proofs.MatchLemmas.{IsMatch, is_match-drop, is_match-after, first_match_from-first, first_match_from-is, empty_at_end, none_at_end}
-use Rattle.ansi_slice.specs.Offsets.{bytes_before}
-use Rattle.ansi_slice.proofs.CutLemmas.{up_to-past}
-use Rattle.ansi_slice.proofs.OffsetLemmas.{IsOverText, IsOverMark, bytes_before-last, bytes_before-text}
+use Rattle.ansi_split.proofs.Common.{◌≡◌, ◌≢◌, ℕ, ◌+◌, ◌-◌, ◌<◌, ◌≤◌, Bool, true, false, ◌||◌, ◌==◌, List, [], ◌∷◌, ◌++◌, length, take, drop, Option, Some, None, option_map, refl, sym, ◌∙◌, ap, subst, arith, length-append, IsFalse, or-false, or-true, take-add, length-drop, drop-drop, drop_at, take_all, drop_all, take-append-le, list_any-append, IsUtf8, NoneBefore, IsFirst, Kind, escape, Piece, Text, Sequence, LoneEscape, spelling, StandsBefore, ArePieces, pieces_of, plain_of, plain, has_escape, Rendition, apply, after_marks, style_after_from, style_within, is_match, first_match_from, IsCutAfter, IsCutAtMatch, pieces_are, sequence_front, no_escape, is_mark, plain_of-mark, style_by_marks, style_by_marks-before, style_by_marks-text, style_by_marks-sequence, style_by_marks-lone, IsMatch, is_match-drop, is_match-after, first_match_from-first, first_match_from-is, empty_at_end, none_at_end, bytes_before, up_to-past, IsOverText, IsOverMark, bytes_before-last, bytes_before-text}
 use Rattle.ansi_split.proofs.AfterLemmas.{is_cut_after}
 use Rattle.ansi_split.proofs.RestLemmas.{no_escape-parts, no_escape-text}
 use Rattle.ansi_split.proofs.SpanLemmas.{is_cut_at_match}

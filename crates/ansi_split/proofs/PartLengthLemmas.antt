@@ -1,26 +1,9 @@
 -- How long a part may be, and what it takes of its text.
-use Rattle.std.proofs.Common.{◌≡◌, ℕ, ◌+◌, ◌-◌, ◌≤◌, Bool, true, false, ◌==◌, List, [], ◌∷◌, ◌++◌, length, map, drop, refl, ◌∙◌, sym, ap, subst, arith, length-append, length-take, length-drop, if◌then◌else◌}
-use Rattle.std.specs.Prelude.{Option, Some, None, IfSome, option_map, slice_get, ◌&&◌, nat_lt}
-use Rattle.std.proofs.lemmas.Bool.{cond_both, true≢false}
-use Rattle.std.proofs.lemmas.Bool.Decides.{nat_tests}
-use Rattle.std.proofs.lemmas.List.Sums.{sum_by-cons}
-use Rattle.std.specs.List.{slice_range, sum_by}
-use Rattle.std.specs.Option.{option_map_or}
-use Rattle.ansi_items.specs.Pieces.{Piece, spelling, Text, Sequence, LoneEscape, pieces_of}
-use Rattle.ansi_items.specs.Plain.{Mark, plain, plain_of, marks, marks_of, up_to, joined}
-use Rattle.ansi_style.specs.declared.state.rendition.Rendition.{Rendition}
-use Rattle.ansi_style.specs.Rendition.{IsStyle, plain_style, has_any}
-use Rattle.ansi_style.specs.Written.{close, start, close_if_any}
-use Rattle.ansi_slice.specs.Cut.{show}
-use Rattle.ansi_style.specs.Reading.{style_within}
-use Rattle.ansi_slice.specs.Parts.{parts, end_before, past, part_over, part, share_over, share}
-use Rattle.ansi_split.specs.Splits.{SplitPart}
-use Rattle.ansi_split.specs.Spans.{carried_from, part_from, parts_from, parts_left}
-use Rattle.ansi_items.proofs.PlainLemmas.{one_text}
-use Rattle.ansi_slice.proofs.SliceLemmas.{slice_range-append}
-use Rattle.ansi_style.proofs.MarkLemmas.{further, marks_of-text, marks_of-sequence, marks_of-lone}
-use Rattle.ansi_items.proofs.JoinLemmas.{spelled, spelled-pieces_of}
-use Rattle.ansi_slice.proofs.ShownLemmas.{shown_pieces, piece_when, at_places, at_places-further}
+use Rattle.ansi_split.proofs.Common.{◌≡◌, ℕ, ◌+◌, ◌-◌, ◌≤◌, Bool, true, false, ◌==◌, List, [], ◌∷◌, ◌++◌, length, map, drop, refl, ◌∙◌, sym, ap, subst, arith, length-append, length-take, if◌then◌else◌, IfSome, cond_both, nat_tests, sum_by-cons, sum_by, option_map_or, Piece, spelling, Text, Sequence, LoneEscape, pieces_of, Mark, plain, plain_of, marks, marks_of, up_to, joined, Rendition, IsStyle, plain_style, has_any, close, start, close_if_any, show, style_within, parts, end_before, past, part_over, part, share_over, share, SplitPart, carried_from, part_from, parts_from, parts_left, one_text, slice_range-append, further, marks_of-text, marks_of-sequence, marks_of-lone, spelled, spelled-pieces_of, shown_pieces, piece_when, at_places, at_places-further}
+use Rattle.std.proofs.Common.{length-drop}
+use Rattle.std.specs.Prelude.{Option, Some, None, option_map, slice_get, ◌&&◌, nat_lt}
+use Rattle.std.proofs.lemmas.Bool.{true≢false}
+use Rattle.std.specs.List.{slice_range}
 use Rattle.ansi_split.proofs.IntervalLemmas.{ComesAfter, ComeAfter, all_parts_come_after}
 use Rattle.ansi_split.proofs.PartSliceLemmas.{past-places, own_places, spelled-own_pieces, IsStyle-carried}
 use Rattle.ansi_split.proofs.SpanLemmas.{past-none}

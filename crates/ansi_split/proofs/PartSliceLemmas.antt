@@ -1,27 +1,6 @@
 -- A part of a whole text is whole, has the slice of its styled bytes, and leaves nothing known open.
-use Rattle.std.proofs.Common.{◌≡◌, ℕ, ◌+◌, ◌-◌, ◌<◌, ◌≤◌, inl, inr, Bool, true, false, ◌&&◌, ◌==◌, List, [], ◌∷◌, ◌++◌, length, nat_le, nat_lt, refl, sym, ◌∙◌, ap, ap₂, subst, arith, slice_range, Option, Some, None, IsTrue, if◌then◌else◌}
-use Rattle.std.specs.Option.{option_map_or}
-use Rattle.std.proofs.lemmas.Bool.{cond_both, and_parts, eqb-true, cases_lt, le-leb}
-use Rattle.std.proofs.lemmas.Bool.Decides.{nat_tests}
-use Rattle.ansi_items.specs.Pieces.{Piece, Text, pieces_of}
-use Rattle.ansi_items.specs.Plain.{Mark, plain, marks, up_to, is_whole}
-use Rattle.ansi_style.specs.declared.state.rendition.Rendition.{Rendition}
-use Rattle.ansi_style.specs.Rendition.{IsStyle, plain_style, known, has_any}
-use Rattle.ansi_style.specs.Written.{written_all, start, close_codes, close, close_if_any}
-use Rattle.ansi_style.specs.Styled.{style_at, styled}
-use Rattle.ansi_style.specs.Reading.{after_marks}
-use Rattle.ansi_slice.specs.Cut.{show}
-use Rattle.ansi_slice.specs.Parts.{past, carried, part_over}
-use Rattle.ansi_items.proofs.PlainLemmas.{one_text}
-use Rattle.ansi_slice.proofs.SliceLemmas.{slice_range-none, slice_range-from_past}
-use Rattle.ansi_style.proofs.StyleLemmas.{IsStyle-plain_style, IsStyle-style_at}
-use Rattle.ansi_items.proofs.JoinLemmas.{spelled, AllStandAnywhere, pieces_stand}
-use Rattle.ansi_style.proofs.StyledLemmas.{styled_through, style_through, styled_through-append, style_through-append, styled-pieces}
-use Rattle.ansi_style.proofs.ReadBackLemmas.{AreCodes, close_codes_are}
+use Rattle.ansi_split.proofs.Common.{◌≡◌, ℕ, ◌+◌, ◌-◌, ◌<◌, ◌≤◌, inl, inr, Bool, true, false, ◌&&◌, ◌==◌, List, [], ◌∷◌, ◌++◌, length, nat_le, nat_lt, refl, sym, ◌∙◌, ap, ap₂, subst, arith, slice_range, Option, Some, None, IsTrue, if◌then◌else◌, option_map_or, cond_both, and_parts, eqb-true, cases_lt, le-leb, nat_tests, Piece, Text, pieces_of, Mark, plain, marks, up_to, is_whole, Rendition, IsStyle, plain_style, known, has_any, written_all, start, close_codes, close, close_if_any, style_at, styled, after_marks, show, past, carried, part_over, one_text, slice_range-none, slice_range-from_past, IsStyle-plain_style, IsStyle-style_at, spelled, AllStandAnywhere, pieces_stand, styled_through, style_through, styled_through-append, style_through-append, styled-pieces, AreCodes, close_codes_are, known-unset, GiveAlone, IsClosed, closed-spelled, Clears, dressed_pieces, spelled-dressed_pieces, dressed_pieces_stand, dressed_pieces_give, at_places, piece_when, shown_pieces, spelled-shown_pieces, shown_pieces_stand, style_through-shown_pieces, styled_through-shown_pieces}
 use Rattle.ansi_style.proofs.CloseLemmas.{close_codes_clear}
-use Rattle.ansi_style.proofs.UnsetLemmas.{known-unset}
-use Rattle.ansi_style.proofs.DressedLemmas.{GiveAlone, IsClosed, closed-spelled, Clears, dressed_pieces, spelled-dressed_pieces, dressed_pieces_stand, dressed_pieces_give}
-use Rattle.ansi_slice.proofs.ShownLemmas.{at_places, piece_when, shown_pieces, spelled-shown_pieces, shown_pieces_stand, style_through-shown_pieces, styled_through-shown_pieces}
 use Rattle.ansi_split.proofs.IntervalLemmas.{ComesAfter}
 
 -- The marks of the parts before, and then what a part shows, are what is shown with the marks of all.

@@ -1,22 +1,10 @@
 -- How many parts there are; and that the plain texts of all parts of a whole text are the slices between the matches.
-use Rattle.std.proofs.Common.{◌≡◌, ◌≢◌, ℕ, suc, ◌+◌, ◌≤◌, List, [], ◌∷◌, ◌++◌, map, length, filter_map, Option, Some, None, refl, sym, ◌∙◌, ap, ap₂, subst, arith, IsTrue, slice_range, slice_get, length-append, nat_le, if◌then◌else◌}
+use Rattle.ansi_split.proofs.Common.{◌≡◌, ◌≢◌, ℕ, suc, ◌+◌, ◌≤◌, List, [], ◌∷◌, ◌++◌, map, length, filter_map, Option, Some, None, refl, sym, ◌∙◌, ap, ap₂, subst, arith, IsTrue, slice_range, slice_get, length-append, nat_le, if◌then◌else◌, cons_option, range_with_len, cond_both, length-filter, count_by-le-length, encode_utf8, IsUtf8, chars, plain, is_whole, StyledByte, styled, bytes_of, is_match, match_places, apart, parts, end_before, part_over, part, all_parts, AreSplit, slices_over, slice_range-map, bytes_of-styled, IsUtf8-plain}
 use Rattle.std.specs.Prelude.{option_map}
-use Rattle.std.specs.List.{cons_option, range_with_len}
-use Rattle.std.proofs.lemmas.Bool.{cond_both}
 use Rattle.std.proofs.lemmas.List.FromFn.{length-range_with_len}
-use Rattle.std.proofs.lemmas.List.Sums.{length-filter, count_by-le-length}
 use Rattle.std.proofs.lemmas.Slice.Zip.{length-zip}
-use Rattle.std.specs.Char.{encode_utf8}
-use Rattle.std.specs.Str.{IsUtf8, chars}
-use Rattle.ansi_items.specs.Plain.{plain, is_whole}
-use Rattle.ansi_style.specs.Styled.{StyledByte, styled, bytes_of}
-use Rattle.ansi_slice.specs.Parts.{is_match, match_places, apart, parts, end_before, part_over, part, all_parts}
-use Rattle.ansi_split.specs.StdSplit.{AreSplit, slices_over}
-use Rattle.ansi_slice.proofs.SliceLemmas.{slice_range-map}
-use Rattle.ansi_style.proofs.StyledLemmas.{bytes_of-styled}
 use Rattle.ansi_split.proofs.IntervalLemmas.{ComesAfter, parts_come_after, end_after, end_after-suc, end_after-none}
 use Rattle.ansi_split.proofs.PartSliceLemmas.{part_over_is}
-use Rattle.ansi_items.proofs.Utf8Lemmas.{IsUtf8-plain}
 use Rattle.ansi_split.proofs.StdSplitLemmas.{parts_are_split}
 use Rattle.ansi_split.proofs.CharacterLemmas.{slices_over-parts-empty}
 

@@ -1,29 +1,8 @@
 -- A run of plain text at the front of a text, and a match that begins in it.
-use Rattle.std.proofs.Common.{◌≡◌, ◌≢◌, ℕ, ◌+◌, ◌-◌, ◌<◌, ◌≤◌, inl, inr, false, List, [], ◌∷◌, ◌++◌, length, take, drop, Option, Some, None, refl, sym, ◌∙◌, ap, ap₂, subst, arith, IsFalse, is_some, slice_index, append_assoc, length-append, nat_eq}
-use Rattle.std.specs.Prelude.{◌==◌, unwrap_or}
-use Rattle.std.proofs.lemmas.Bool.{or_parts, and_parts, cases_lt, eq-eqb}
-use Rattle.std.proofs.lemmas.List.{take-append-drop, take-take, drop-drop, length-take-le, length-drop, get_or-drop, get_or_append_left}
-use Rattle.std.proofs.lemmas.List.Folds.{list_any-append}
-use Rattle.std.specs.List.{starts_with, slice_range}
-use Rattle.std.specs.Str.{IsUtf8, IsCharBoundary}
-use Rattle.memchr.specs.Find.{Nowhere, NoneBefore, IsFirst, Passes, is_byte}
-use Rattle.ansi_items.specs.Bytes.{escape}
-use Rattle.ansi_items.specs.Pieces.{Piece, Text, after_text, pieces_of, ArePieces}
-use Rattle.ansi_items.specs.Plain.{plain_of, plain, has_escape}
-use Rattle.ansi_style.specs.declared.state.rendition.Rendition.{Rendition}
-use Rattle.ansi_style.specs.Reading.{after_marks, style_after_from}
-use Rattle.ansi_slice.specs.Positions.{is_char_boundary, is_good_position}
-use Rattle.ansi_slice.specs.Parts.{first_match_from}
-use Rattle.ansi_split.specs.Spans.{IsCutAtMatch}
-use Rattle.ansi_items.proofs.PieceLemmas.{pieces_are, pieces_of-unique}
-use Rattle.ansi_items.proofs.PlainLemmas.{all_plain_bytes, no_escape}
-use Rattle.ansi_items.proofs.JoinLemmas.{after_text_are}
-use Rattle.ansi_style.proofs.MarkLemmas.{marks-bare}
-use Rattle.ansi_slice.proofs.MatchLemmas.{IsMatch, match_fits, first_in_front, is_match-front, first_match_from-first, first_match_from-is, starts_with-splits}
-use Rattle.ansi_slice.specs.Offsets.{bytes_before}
-use Rattle.ansi_slice.proofs.OffsetLemmas.{bytes_before-last}
+use Rattle.ansi_split.proofs.Common.{◌≡◌, ◌≢◌, ℕ, ◌+◌, ◌-◌, ◌<◌, ◌≤◌, inl, inr, false, List, [], ◌∷◌, ◌++◌, length, take, drop, Option, Some, None, refl, sym, ◌∙◌, ap, ap₂, subst, arith, IsFalse, is_some, slice_index, append_assoc, length-append, nat_eq, unwrap_or, or_parts, and_parts, cases_lt, eq-eqb, take-append-drop, take-take, drop-drop, length-take-le, length-drop, get_or-drop, get_or_append_left, list_any-append, starts_with, IsUtf8, IsCharBoundary, Nowhere, NoneBefore, IsFirst, Passes, is_byte, escape, Piece, Text, after_text, pieces_of, ArePieces, plain_of, plain, has_escape, Rendition, after_marks, style_after_from, is_char_boundary, is_good_position, first_match_from, IsCutAtMatch, pieces_are, pieces_of-unique, all_plain_bytes, no_escape, after_text_are, marks-bare, IsMatch, match_fits, first_in_front, is_match-front, first_match_from-first, first_match_from-is, starts_with-splits, bytes_before, bytes_before-last, is_good_position-append, good_is_boundary}
+use Rattle.std.specs.Prelude.{◌==◌}
+use Rattle.std.specs.List.{slice_range}
 use Rattle.ansi_split.proofs.AfterLemmas.{drop-take, is_cut_after}
-use Rattle.ansi_slice.proofs.PositionLemmas.{is_good_position-append, good_is_boundary}
 use Rattle.ansi_split.proofs.SpanLemmas.{is_cut_at_match, match_is_good}
 
 -- A run at the front joins the text after it.

@@ -1,31 +1,6 @@
 -- The parts that are left of a text: the first one, which is written from what stands up to its end, and those of what follows.
-use Rattle.std.proofs.Common.{◌≡◌, ℕ, ◌+◌, ◌-◌, ◌≤◌, max, inl, inr, Bool, not, ◌&&◌, ◌||◌, ◌==◌, List, [], ◌∷◌, ◌++◌, length, map, take, drop, Option, Some, None, refl, sym, ◌∙◌, ap, ap₂, subst, arith, IsTrue, if◌then◌else◌, nat_eq, nat_lt, nat_le, length-append}
-use Rattle.std.proofs.lemmas.Bool.{cases_lt, and_parts, and_from, le-leb}
-use Rattle.std.proofs.lemmas.Bool.Decides.{nat_tests}
-use Rattle.std.proofs.lemmas.List.{length-map, length-drop, length-take-le, get_or-take, take_at, take-append-drop}
-use Rattle.std.proofs.lemmas.List.Elements.{filter_agree}
-use Rattle.std.proofs.lemmas.Str.{IsUtf8-drop, IsCharBoundary-from_take, IsCharBoundary-start}
-use Rattle.std.specs.List.{starts_with}
-use Rattle.std.specs.Str.{IsUtf8}
-use Rattle.ansi_items.specs.Pieces.{pieces_of}
-use Rattle.ansi_items.specs.Plain.{Mark, plain, marks, up_to}
-use Rattle.ansi_slice.specs.Positions.{is_good_position, is_char_boundary}
-use Rattle.ansi_style.specs.declared.state.rendition.Rendition.{Rendition}
-use Rattle.ansi_style.specs.Rendition.{has_any}
-use Rattle.ansi_style.specs.Written.{start, close_if_any}
-use Rattle.ansi_style.specs.Reading.{after_marks, style_after_from, style_within}
-use Rattle.ansi_slice.specs.Cut.{show}
-use Rattle.ansi_slice.specs.Parts.{match_places, first_match_from, apart, past}
-use Rattle.ansi_split.specs.Splits.{SplitPart}
-use Rattle.ansi_split.specs.Spans.{further_on, IsCutAfter, IsCutAtMatch, carried_from, part_from, parts_from, parts_left, span_part}
-use Rattle.ansi_slice.proofs.SliceLemmas.{slice_range-from_past}
-use Rattle.ansi_slice.proofs.CutLemmas.{up_to-past}
-use Rattle.ansi_slice.proofs.ShowLemmas.{show-text}
-use Rattle.ansi_items.proofs.Utf8Lemmas.{IsUtf8-plain}
-use Rattle.ansi_slice.proofs.ShownLemmas.{at_places, at_places-further}
+use Rattle.ansi_split.proofs.Common.{◌≡◌, ℕ, ◌+◌, ◌-◌, ◌≤◌, max, inl, inr, Bool, not, ◌&&◌, ◌||◌, ◌==◌, List, [], ◌∷◌, ◌++◌, length, map, take, drop, Option, Some, None, refl, sym, ◌∙◌, ap, ap₂, subst, arith, IsTrue, if◌then◌else◌, nat_eq, nat_lt, nat_le, length-append, cases_lt, and_parts, and_from, le-leb, nat_tests, length-map, length-drop, length-take-le, get_or-take, take_at, take-append-drop, filter_agree, IsUtf8-drop, IsCharBoundary-from_take, IsCharBoundary-start, starts_with, IsUtf8, pieces_of, Mark, plain, marks, up_to, is_good_position, is_char_boundary, Rendition, has_any, start, close_if_any, after_marks, style_after_from, style_within, show, match_places, first_match_from, apart, past, SplitPart, further_on, IsCutAfter, IsCutAtMatch, carried_from, part_from, parts_from, parts_left, span_part, slice_range-from_past, up_to-past, show-text, IsUtf8-plain, at_places, at_places-further, good_is_boundary, is_good_position-past, is_char_boundary-from, starts_with-splits}
 use Rattle.ansi_split.proofs.PartSliceLemmas.{own_places, past-places, at_places-at_places}
-use Rattle.ansi_slice.proofs.PositionLemmas.{good_is_boundary, is_good_position-past, is_char_boundary-from}
-use Rattle.ansi_slice.proofs.MatchLemmas.{starts_with-splits}
 use Rattle.ansi_split.proofs.TakenLemmas.{is_first_taken, apart-none, between, between-moved, moved_on}
 
 -- The marks of a part.

@@ -1,28 +1,7 @@
 -- How far a part that is written has come, and what a step of the walk is to it.
-use Rattle.std.proofs.Common.{◌≡◌, ℕ, ◌+◌, ◌-◌, ◌<◌, ◌≤◌, inl, inr, true, false, List, [], ◌∷◌, ◌++◌, length, drop, refl, sym, ◌∙◌, ap, ap₂, subst, arith, IsTrue, if◌then◌else◌, append_assoc, append-nil, length-append}
-use Rattle.std.proofs.lemmas.Bool.{cases_lt}
-use Rattle.std.proofs.lemmas.List.{drop_all, drop-drop, drop-append-le}
-use Rattle.std.specs.Str.{IsCharBoundary}
-use Rattle.ansi_items.specs.declared.ansitok.Kind.{Kind}
-use Rattle.ansi_items.specs.Bytes.{escape}
-use Rattle.ansi_items.specs.Pieces.{Piece, Text, Sequence, LoneEscape, spelling, ArePieces, pieces_of}
-use Rattle.ansi_items.specs.Plain.{plain_of, plain, marks_of}
-use Rattle.ansi_slice.specs.Positions.{is_good_position}
-use Rattle.ansi_style.specs.declared.state.rendition.Rendition.{Rendition}
-use Rattle.ansi_style.specs.Rendition.{has_any}
-use Rattle.ansi_style.specs.Written.{start, close, close_if_any}
-use Rattle.ansi_style.specs.Reading.{style_after_from}
-use Rattle.ansi_slice.specs.Cut.{show}
+use Rattle.ansi_split.proofs.Common.{◌≡◌, ℕ, ◌+◌, ◌-◌, ◌<◌, ◌≤◌, inl, inr, true, false, List, [], ◌∷◌, ◌++◌, length, drop, refl, sym, ◌∙◌, ap, ap₂, subst, arith, IsTrue, if◌then◌else◌, append_assoc, append-nil, length-append, cases_lt, drop_all, drop-drop, drop-append-le, IsCharBoundary, Kind, escape, Piece, Text, Sequence, LoneEscape, spelling, ArePieces, pieces_of, plain_of, plain, marks_of, is_good_position, Rendition, has_any, start, close, close_if_any, style_after_from, show, span_text, pieces_are, pieces_of-unique, is_mark, BeginsWithMark, plain_of-mark, marks_of-text, marks_of-sequence, marks_of-lone, slice_range-past, show-nil, show-text, show-mark, is_good_position-after, IsOverText}
 use Rattle.ansi_slice.specs.Kept.{kept}
-use Rattle.ansi_split.specs.Spans.{span_text}
-use Rattle.ansi_items.proofs.PieceLemmas.{pieces_are, pieces_of-unique}
-use Rattle.ansi_items.proofs.StepLemmas.{is_mark, BeginsWithMark, plain_of-mark}
-use Rattle.ansi_style.proofs.MarkLemmas.{marks_of-text, marks_of-sequence, marks_of-lone}
-use Rattle.ansi_slice.proofs.SliceLemmas.{slice_range-past}
-use Rattle.ansi_slice.proofs.ShowLemmas.{show-nil, show-text, show-mark}
-use Rattle.ansi_slice.proofs.PositionLemmas.{is_good_position-after}
 use Rattle.ansi_slice.proofs.KeptWalkLemmas.{kept-all}
-use Rattle.ansi_slice.proofs.OffsetLemmas.{IsOverText}
 use Rattle.ansi_split.proofs.AfterLemmas.{boundary_in_next}
 
 -- all of the pieces but for so many plain bytes at their front

@@ -1,31 +1,6 @@
 -- The parts that a split gives: those of the text, each by its index; and a part that is written or borrowed.
-use Rattle.std.proofs.Common.{◌≡◌, ℕ, zero, suc, ◌+◌, ◌≤◌, true, false, not, ◌&&◌, ◌||◌, ◌==◌, List, [], ◌∷◌, ◌++◌, length, map, drop, Option, Some, None, option_map, refl, sym, ◌∙◌, ap, ap₂, arith, IsTrue, IsFalse, if◌then◌else◌, slice_get, append-nil}
-use Rattle.std.proofs.lemmas.Bool.{eqb-true, eq-eqb, ne_eqb, true≢false, cond_both, or_from, and_parts, and_from}
-use Rattle.std.proofs.Math.Bool.{and-false, or-true}
-use Rattle.std.proofs.lemmas.Option.{none-some, same_Some}
-use Rattle.std.proofs.lemmas.List.{drop_all}
-use Rattle.std.proofs.lemmas.List.Folds.{list_any-append}
-use Rattle.std.specs.List.{range_with_len, list_all}
-use Rattle.std.specs.Option.{option_map_or}
-use Rattle.ansi_items.specs.Bytes.{escape}
-use Rattle.ansi_items.specs.Pieces.{Piece, Text, Sequence, LoneEscape, ArePieces, pieces_of}
-use Rattle.ansi_items.specs.Plain.{Mark, plain, marks_of, marks, up_to, has_escape}
-use Rattle.ansi_style.specs.declared.state.rendition.Rendition.{Rendition}
-use Rattle.ansi_style.specs.Rendition.{plain_style, has_any}
-use Rattle.ansi_style.specs.Written.{start, close_if_any}
-use Rattle.ansi_style.specs.Styled.{style_of, style_at}
-use Rattle.ansi_style.specs.Reading.{after_marks, style_within}
-use Rattle.ansi_slice.specs.Cut.{show}
-use Rattle.ansi_slice.specs.Parts.{parts, end_before, past, carried, part_over, part, all_parts, share_over, share, is_borrowed_over, is_part_borrowed}
-use Rattle.ansi_split.specs.Splits.{SplitPart}
-use Rattle.ansi_split.specs.Spans.{part_from, parts_from, parts_left, span_part, span_text, IsWritten, IsBare}
-use Rattle.ansi_items.proofs.PieceLemmas.{pieces_are}
-use Rattle.ansi_items.proofs.PlainLemmas.{no_escape, plain-bare}
-use Rattle.ansi_slice.proofs.SliceLemmas.{slice_range-past}
-use Rattle.ansi_style.proofs.MarkLemmas.{further, marks-bare, marks_of-text, marks_of-sequence, marks_of-lone}
-use Rattle.ansi_slice.proofs.CutLemmas.{up_to-past}
-use Rattle.ansi_slice.proofs.ShowLemmas.{show-bare}
-use Rattle.ansi_style.proofs.UnsetLemmas.{start-unset, close_if_any-unset}
+use Rattle.ansi_split.proofs.Common.{◌≡◌, ℕ, zero, suc, ◌+◌, ◌≤◌, true, false, not, ◌&&◌, ◌||◌, ◌==◌, List, [], ◌∷◌, ◌++◌, length, map, drop, Option, Some, None, option_map, refl, sym, ◌∙◌, ap, ap₂, arith, IsTrue, IsFalse, if◌then◌else◌, slice_get, append-nil, eqb-true, eq-eqb, ne_eqb, cond_both, or_from, and_parts, and_from, and-false, or-true, none-some, same_Some, drop_all, list_any-append, range_with_len, list_all, option_map_or, escape, Piece, Text, Sequence, LoneEscape, ArePieces, pieces_of, Mark, plain, marks_of, marks, up_to, has_escape, Rendition, plain_style, has_any, start, close_if_any, style_of, style_at, after_marks, style_within, show, parts, end_before, past, carried, part_over, part, all_parts, share_over, share, is_borrowed_over, is_part_borrowed, SplitPart, part_from, parts_from, parts_left, span_part, span_text, IsWritten, IsBare, pieces_are, no_escape, plain-bare, slice_range-past, further, marks-bare, marks_of-text, marks_of-sequence, marks_of-lone, up_to-past, show-bare, start-unset, close_if_any-unset}
+use Rattle.std.proofs.lemmas.Bool.{true≢false}
 use Rattle.ansi_split.proofs.IntervalLemmas.{end_after, end_after-suc, end_after-none}
 use Rattle.ansi_split.proofs.PartTextLemmas.{length-parts, parts_over, all_parts-over}
 use Rattle.ansi_split.proofs.SpanLemmas.{own-whole}

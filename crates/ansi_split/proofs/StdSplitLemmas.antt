@@ -1,11 +1,6 @@
 -- Between the first matches of a pattern stand the texts that std's `split` gives, and no others.
-use Rattle.std.proofs.Common.{◌≡◌, ◌≢◌, ℕ, ◌+◌, ◌-◌, ◌<◌, ◌≤◌, inl, inr, Bool, true, false, List, [], ◌∷◌, ◌++◌, take, drop, length, Option, Some, None, MatchOption, refl, sym, ◌∙◌, ap, ap₂, subst, arith, slice_index, slice_range, length-take, length-drop, true≢false}
-use Rattle.std.proofs.lemmas.Bool.{cases_order}
-use Rattle.std.proofs.lemmas.List.{drop-drop, get_or-drop, take_all}
-use Rattle.std.specs.Str.{IsUtf8, IsCharBoundary}
-use Rattle.std.specs.Str.Pattern.{FindsText, LacksTextAt, HasTextAt, IsSplitAtFirstMatch}
-use Rattle.ansi_slice.specs.Parts.{parts}
-use Rattle.ansi_split.specs.StdSplit.{GoesOn, AreSplit, AreBetween, slices_over}
+use Rattle.ansi_split.proofs.Common.{◌≡◌, ◌≢◌, ℕ, ◌+◌, ◌-◌, ◌<◌, ◌≤◌, inl, inr, Bool, true, false, List, [], ◌∷◌, ◌++◌, take, drop, length, Option, Some, None, refl, sym, ◌∙◌, ap, ap₂, subst, arith, slice_index, slice_range, length-take, true≢false, cases_order, drop-drop, get_or-drop, take_all, IsUtf8, IsCharBoundary, FindsText, LacksTextAt, HasTextAt, IsSplitAtFirstMatch, parts, GoesOn, AreSplit, AreBetween, slices_over}
+use Rattle.std.proofs.Common.{MatchOption, length-drop}
 use Rattle.ansi_split.proofs.BetweenLemmas.{filled, parts_are_between}
 
 -- the last text, with no match

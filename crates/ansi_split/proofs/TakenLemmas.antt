@@ -1,11 +1,5 @@
 -- The matches of a pattern after one of them, and the intervals between them.
-use Rattle.std.proofs.Common.{◌≡◌, ℕ, zero, suc, ◌+◌, ◌<◌, ◌≤◌, max, inl, inr, Bool, true, false, List, [], ◌∷◌, ◌++◌, length, map, filter, zip, drop, Some, None, refl, sym, ◌∙◌, ap, ap₂, subst, arith, if◌then◌else◌, nat_le, slice_get}
-use Rattle.std.proofs.lemmas.Bool.{cases_lt, le-leb, lt-leb}
-use Rattle.std.proofs.lemmas.Option.{none-some, same_Some}
-use Rattle.std.proofs.lemmas.List.{length-drop}
-use Rattle.std.specs.List.{range_with_len}
-use Rattle.ansi_slice.specs.Parts.{is_match, match_places, first_match_from, apart}
-use Rattle.ansi_slice.proofs.MatchLemmas.{is_match-drop}
+use Rattle.ansi_split.proofs.Common.{◌≡◌, ℕ, zero, suc, ◌+◌, ◌<◌, ◌≤◌, max, inl, inr, Bool, true, false, List, [], ◌∷◌, ◌++◌, length, map, filter, zip, drop, Some, None, refl, sym, ◌∙◌, ap, ap₂, subst, arith, if◌then◌else◌, nat_le, slice_get, cases_lt, le-leb, lt-leb, none-some, same_Some, length-drop, range_with_len, is_match, match_places, first_match_from, apart, is_match-drop}
 
 -- The matches after the first m bytes are those of the text.
 

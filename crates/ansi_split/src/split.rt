@@ -61,10 +61,8 @@ pub fn split_in<'a, A: Allocator>(alloc: A, text: &'a str, pat: &'a str) -> Ansi
     ensures within { sum_by (λ p. p.share) result ≤ length text.now }
     ensures takes_no_memory { IsFalse (has_escape text.now) → IsTrue (list_all (λ p. p.borrowed) result) }
 {
-    AnsiSplit {
-        alloc,
-        spans: Spans::new(text, pat),
-    }
+    let spans = Spans::new(text, pat);
+    AnsiSplit { alloc, spans }
 }
 
 impl<'a, A: Allocator + Copy> Iterator for AnsiSplit<'a, A> {

@@ -1,40 +1,13 @@
 -- Of a text without ESC each answer is the slice, as std has it.
-use Rattle.std.proofs.Common.{◌≡◌, ◌≢◌, ℕ, ◌-◌, min, Bool, true, false, not, ◌&&◌, ◌||◌, ◌==◌, List, [], ◌∷◌, ◌++◌, map, take, drop, length, Option, Some, None, option_map, is_some, refl, sym, ◌∙◌, ap, ap₂, subst, arith, IsTrue, IsFalse, slice_range, slice_get, nat_eq, append-nil, if◌then◌else◌}
-use Rattle.std.specs.Prelude.{IfSome, option_and_then, unwrap_or}
-use Rattle.std.specs.List.{starts_with, ends_with}
-use Rattle.std.specs.Char.{encode_utf8}
-use Rattle.std.specs.Str.{IsUtf8, chars, trim}
+use Rattle.ansi_str.proofs.Common.{◌≡◌, ◌≢◌, ℕ, ◌-◌, min, Bool, true, false, not, ◌&&◌, ◌||◌, ◌==◌, List, [], ◌∷◌, ◌++◌, map, take, drop, length, Option, Some, None, option_map, is_some, refl, sym, ◌∙◌, ap, ap₂, subst, arith, IsTrue, IsFalse, slice_range, slice_get, nat_eq, append-nil, if◌then◌else◌, IfSome, option_and_then, unwrap_or, starts_with, ends_with, encode_utf8, IsUtf8, chars, trim, option_map_or, map-id, take_min, drop_min, cond_both, and_parts, and_from, eqb-true, Mark, plain, up_to, has_escape, is_whole, Rendition, start, close_if_any, styled, bytes_of, style_at, is_good_position, is_good_range, show, cut, left_side, right_side, kept, without_prefix, without_suffix, trim_interval, trimmed, parts, past, carried, part_over, end_before, part, all_parts, is_part_borrowed, Change, CutRange, LeftOf, RightOf, PartOf, WithoutPrefix, WithoutSuffix, Trimmed, interval_of, meaning, text_of, edited_by, edited, gives_borrow, stay_borrowed, slice_range-none, slice_range-past, slice_range-min, bytes_of-styled, slice_range-trim_interval, kept-bare, plain-kept, plain-without_prefix, plain-without_suffix, parts_are_split, slices_over-parts-empty, map-all_parts}
 use Rattle.std.specs.Str.Pattern.{FindsTextPrefix, FindsTextSuffix, StripsPrefix, StripsSuffix}
-use Rattle.std.specs.Option.{option_map_or}
-use Rattle.std.proofs.lemmas.List.{map-id, take_min, drop_min}
-use Rattle.std.proofs.lemmas.Bool.{cond_both, and_parts, and_from, eqb-true}
-use Rattle.ansi_items.specs.Plain.{Mark, plain, up_to, has_escape, is_whole}
-use Rattle.ansi_style.specs.declared.state.rendition.Rendition.{Rendition}
-use Rattle.ansi_style.specs.Written.{start, close_if_any}
-use Rattle.ansi_style.specs.Styled.{styled, bytes_of, style_at}
-use Rattle.ansi_slice.specs.Positions.{is_good_position, is_good_range}
-use Rattle.ansi_slice.specs.Cut.{show, cut}
-use Rattle.ansi_slice.specs.Sides.{left_side, right_side}
-use Rattle.ansi_slice.specs.Kept.{kept, without_prefix, without_suffix, trim_interval, trimmed}
-use Rattle.ansi_slice.specs.Parts.{parts, past, carried, part_over, end_before, part, all_parts, is_part_borrowed}
 use Rattle.ansi_split.specs.StdSplit.{AreSplit, slices_over}
-use Rattle.ansi_str.specs.Changes.{Change, CutRange, LeftOf, RightOf, PartOf, WithoutPrefix, WithoutSuffix, Trimmed, interval_of}
-use Rattle.ansi_str.specs.Edited.{meaning, text_of, edited_by, edited, gives_borrow, stay_borrowed}
 use Rattle.ansi_items.proofs.PlainLemmas.{plain-bare, has_escape-plain, is_whole-plain}
-use Rattle.ansi_slice.proofs.SliceLemmas.{slice_range-none, slice_range-past, slice_range-min}
 use Rattle.ansi_style.proofs.MarkLemmas.{marks-bare}
 use Rattle.ansi_slice.proofs.ShowLemmas.{show-bare}
 use Rattle.ansi_slice.proofs.CutLemmas.{cut_up_to-bare}
 use Rattle.ansi_slice.proofs.SideLemmas.{left_side-bare, right_side-bare}
-use Rattle.ansi_style.proofs.StyledLemmas.{bytes_of-styled}
-use Rattle.ansi_slice.proofs.TrimLemmas.{slice_range-trim_interval}
-use Rattle.ansi_slice.proofs.KeptWalkLemmas.{kept-bare}
-use Rattle.ansi_slice.proofs.KeptLemmas.{plain-kept}
-use Rattle.ansi_slice.proofs.KeptAsStdLemmas.{plain-without_prefix, plain-without_suffix}
 use Rattle.ansi_split.proofs.SplitLemmas.{style_at-bare, carried-bare}
-use Rattle.ansi_split.proofs.StdSplitLemmas.{parts_are_split}
-use Rattle.ansi_split.proofs.CharacterLemmas.{slices_over-parts-empty}
-use Rattle.ansi_split.proofs.PartTextLemmas.{map-all_parts}
 use Rattle.ansi_str.proofs.ChangeLemmas.{edited_by-part}
 use Rattle.ansi_str.proofs.EditLemmas.{edited_is_slice}
 

@@ -1,26 +1,7 @@
 -- What one change makes of a whole text is the slice of its styled bytes that it names, whole, and closed where the change closes.
-use Rattle.std.proofs.Common.{◌≡◌, ℕ, ◌-◌, Bool, true, false, List, [], length, take, Option, Some, None, option_map, is_some, refl, sym, ◌∙◌, ap, subst, arith, IsTrue, slice_range, slice_get, if◌then◌else◌, nat_eq}
-use Rattle.std.specs.Prelude.{IfSome, unwrap_or}
-use Rattle.std.specs.List.{starts_with, ends_with}
-use Rattle.std.proofs.lemmas.Bool.{cond-true}
-use Rattle.std.proofs.lemmas.List.{length-map}
+use Rattle.ansi_str.proofs.Common.{◌≡◌, ℕ, ◌-◌, Bool, true, false, List, [], length, take, Option, Some, None, option_map, is_some, refl, sym, ◌∙◌, ap, subst, arith, IsTrue, slice_range, slice_get, if◌then◌else◌, nat_eq, IfSome, unwrap_or, starts_with, ends_with, cond-true, length-map, plain, is_whole, plain_style, StyledByte, styled, bytes_of, residue, is_good_position, is_good_range, cut, left_side, right_side, kept, without_prefix, without_suffix, trim_interval, trimmed, parts, end_before, part_over, part, Change, CutRange, LeftOf, RightOf, PartOf, WithoutPrefix, WithoutSuffix, Trimmed, interval_of, slice_of, text_of, edited_by, closes, slice_range-past, slice_range-map, bytes_of-styled, styled-cut, is_whole-cut, residue-cut, left_side_is, right_side_is, styled-kept, is_whole-kept, residue-kept}
 use Rattle.std.proofs.lemmas.Option.{cond_some}
-use Rattle.ansi_items.specs.Plain.{plain, is_whole}
-use Rattle.ansi_style.specs.Rendition.{plain_style}
-use Rattle.ansi_style.specs.Styled.{StyledByte, styled, bytes_of, residue}
-use Rattle.ansi_slice.specs.Positions.{is_good_position, is_good_range}
-use Rattle.ansi_slice.specs.Cut.{cut}
-use Rattle.ansi_slice.specs.Sides.{left_side, right_side}
-use Rattle.ansi_slice.specs.Kept.{kept, without_prefix, without_suffix, trim_interval, trimmed}
-use Rattle.ansi_slice.specs.Parts.{parts, end_before, part_over, part}
-use Rattle.ansi_str.specs.Changes.{Change, CutRange, LeftOf, RightOf, PartOf, WithoutPrefix, WithoutSuffix, Trimmed, interval_of, slice_of}
-use Rattle.ansi_str.specs.Edited.{text_of, edited_by, closes}
-use Rattle.ansi_slice.proofs.SliceLemmas.{slice_range-past, slice_range-map}
-use Rattle.ansi_style.proofs.StyledLemmas.{bytes_of-styled}
 use Rattle.ansi_style.proofs.DressedLemmas.{IsClosed}
-use Rattle.ansi_slice.proofs.CutSliceLemmas.{styled-cut, is_whole-cut, residue-cut}
-use Rattle.ansi_slice.proofs.SideSliceLemmas.{left_side_is, right_side_is}
-use Rattle.ansi_slice.proofs.KeptLemmas.{styled-kept, is_whole-kept, residue-kept}
 use Rattle.ansi_split.proofs.IntervalLemmas.{parts_come_after}
 use Rattle.ansi_split.proofs.PartSliceLemmas.{part_over_is}
 

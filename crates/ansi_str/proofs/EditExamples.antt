@@ -1,16 +1,6 @@
 -- Worked examples of edits in turn, each by computation.
-use Rattle.std.proofs.Common.{◌≡◌, refl, codes, List, [], ◌∷◌, ℕ, true, false, Some, None}
-use Rattle.std.specs.Prelude.{encode_utf8_all}
-use Rattle.std.specs.Char.{encode_utf8}
-use Rattle.std.specs.Fmt.{digits}
-use Rattle.std.specs.Str.{chars, trim_start, trim_end}
+use Rattle.ansi_str.proofs.Common.{◌≡◌, refl, codes, List, [], ◌∷◌, ℕ, true, false, Some, None, encode_utf8_all, encode_utf8, digits, chars, trim_start, trim_end, cut, left_side, right_side, kept, part_over, is_borrowed_over, CutRange, LeftOf, RightOf, PartOf, WithoutPrefix, WithoutSuffix, Trimmed, edited, stay_borrowed}
 use Prim.Native.String.{String}
-use Rattle.ansi_slice.specs.Cut.{cut}
-use Rattle.ansi_slice.specs.Sides.{left_side, right_side}
-use Rattle.ansi_slice.specs.Kept.{kept}
-use Rattle.ansi_slice.specs.Parts.{part_over, is_borrowed_over}
-use Rattle.ansi_str.specs.Changes.{CutRange, LeftOf, RightOf, PartOf, WithoutPrefix, WithoutSuffix, Trimmed}
-use Rattle.ansi_str.specs.Edited.{edited, stay_borrowed}
 
 -- the bytes of a text
 abbrev utf8 : String → List ℕ

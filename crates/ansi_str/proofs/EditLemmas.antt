@@ -1,13 +1,5 @@
 -- What changes in turn make of a whole text is the slice of its styled bytes that they name, whole, and closed where one of them closes.
-use Rattle.std.proofs.Common.{◌≡◌, Bool, true, false, ◌||◌, List, [], ◌∷◌, ℕ, Option, Some, None, refl, sym, ◌∙◌, ap, subst, IsTrue, if◌then◌else◌}
-use Rattle.std.specs.Prelude.{IfSome, option_and_then}
-use Rattle.std.specs.List.{list_any}
-use Rattle.std.proofs.lemmas.Bool.{cond-true}
-use Rattle.ansi_items.specs.Plain.{is_whole}
-use Rattle.ansi_style.specs.Rendition.{plain_style}
-use Rattle.ansi_style.specs.Styled.{StyledByte, styled, residue}
-use Rattle.ansi_str.specs.Changes.{Change, slice_of}
-use Rattle.ansi_str.specs.Edited.{meaning, edited_by, edited, closes, IsSliceNamed}
+use Rattle.ansi_str.proofs.Common.{◌≡◌, Bool, true, false, ◌||◌, List, [], ◌∷◌, ℕ, Option, Some, None, refl, sym, ◌∙◌, ap, subst, IsTrue, if◌then◌else◌, IfSome, option_and_then, list_any, cond-true, is_whole, plain_style, StyledByte, styled, residue, Change, slice_of, meaning, edited_by, edited, closes, IsSliceNamed}
 use Rattle.ansi_str.proofs.ChangeLemmas.{IsAnswer, edited_by_answers}
 
 -- a change, and then others of what it gave

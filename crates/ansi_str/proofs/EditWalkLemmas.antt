@@ -1,13 +1,6 @@
 -- How far a list of edits has come, and what one edit more is to it.
-use Rattle.std.proofs.Common.{◌≡◌, ◌↔◌, ◌⊎◌, inl, inr, ℕ, ◌+◌, ◌<◌, ◌≤◌, suc, Bool, ◌&&◌, true, List, ◌∷◌, length, drop, get_or, drop-cons, Option, Some, None, refl, sym, ◌∙◌, ap, subst, arith, IsTrue, is_some, if◌then◌else◌}
-use Rattle.std.specs.Prelude.{option_and_then, IsNone}
-use Rattle.std.specs.Option.{option_map_or}
-use Rattle.std.proofs.lemmas.Bool.{and_parts, and_from}
-use Rattle.std.proofs.lemmas.List.{drop_all}
+use Rattle.ansi_str.proofs.Common.{◌≡◌, ◌↔◌, ◌⊎◌, inl, inr, ℕ, ◌+◌, ◌<◌, ◌≤◌, suc, Bool, ◌&&◌, true, List, ◌∷◌, length, drop, get_or, drop-cons, Option, Some, None, refl, sym, ◌∙◌, ap, subst, arith, IsTrue, option_and_then, IsNone, option_map_or, and_parts, and_from, drop_all, Change, edited_by, edited, gives_borrow, stay_borrowed, change_of, changes_of}
 use Rattle.ansi_str.specs.declared.edits.kinds.Edit.{Edit}
-use Rattle.ansi_str.specs.Changes.{Change}
-use Rattle.ansi_str.specs.Edited.{edited_by, edited, gives_borrow, stay_borrowed}
-use Rattle.ansi_str.specs.Edits.{change_of, changes_of}
 
 -- The text that was reached, edited by what is left, is the whole answer; and it stays a borrow to the end where it is one, and what is left leaves it one.
 pub record IsEditedSoFar (es : List Change) (t : List ℕ) (left : List Change) (Lent : Type 0) (u : List ℕ) : Type 0 where
@@ -61,7 +54,3 @@ pub so_far-end : {es : List Change} {t u : List ℕ} {Lent : Type 0} (edits : Li
 so_far-end {es} {t} {u} {Lent} edits i so_far end =
     let last = subst (λ es'. IsEditedSoFar es t (changes_of es') Lent u) (drop_all i edits end) so_far in
     (sym last.same, (λ lent. last.lent.1 (lent, refl), λ stays. (last.lent.0 stays).0))
-
--- one that isn't refused, where a test lets it through
-pub edited_if : {good : Bool} {u v : List ℕ} (i : ℕ × ℕ) → good ≡ true → u ≡ v → Some u ≡ (if is_some (if good then Some i else None) then Some v else None)
-edited_if {v = v} i is same = ap Some same ∙ ap (λ b. if is_some (if b then Some i else None) then Some v else None) (sym is)

@@ -1,23 +1,8 @@
 -- Worked examples of the laws, each by computation: what they say of small texts, and where they need their premises.
-use Rattle.std.proofs.Common.{◌≡◌, refl, codes, List, [], ◌∷◌, ◌++◌, ℕ, ◌+◌, true, Some, None, length}
-use Rattle.std.specs.Prelude.{option_map, encode_utf8_all}
-use Rattle.std.specs.Char.{encode_utf8}
-use Rattle.std.specs.Fmt.{digits}
-use Rattle.std.specs.Str.{byte, chars, trim_start, trim_end, trim}
+use Rattle.ansi_str.proofs.Common.{◌≡◌, refl, codes, List, [], ◌∷◌, ◌++◌, ℕ, ◌+◌, true, Some, None, length, encode_utf8_all, encode_utf8, digits, byte, chars, trim_start, trim_end, trim, pieces_of, Sequence, Text, merged, LoneEscape, plain, Rendition, plain_style, known, start, close, styled, bytes_of, residue, cut, right_side, left_side, kept, without_prefix, trimmed, parts, part_over, part, all_parts, slice_of, CutRange, LeftOf, RightOf, PartOf, WithoutPrefix, Trimmed, meaning}
+use Rattle.std.specs.Prelude.{option_map}
 use Rattle.ansi_items.specs.declared.ansitok.AnsiColor.TheVariants.{Bit4}
-use Rattle.ansi_items.specs.Pieces.{pieces_of, Sequence, Text, merged, LoneEscape}
-use Rattle.ansi_items.specs.Plain.{plain}
-use Rattle.ansi_style.specs.declared.state.rendition.Rendition.{Rendition}
-use Rattle.ansi_style.specs.Rendition.{plain_style, known}
-use Rattle.ansi_style.specs.Written.{start, close}
-use Rattle.ansi_style.specs.Styled.{styled, bytes_of, residue}
 use Rattle.ansi_style.specs.Reading.{style_after_from}
-use Rattle.ansi_slice.specs.Cut.{cut}
-use Rattle.ansi_slice.specs.Sides.{right_side, left_side}
-use Rattle.ansi_slice.specs.Kept.{kept, without_prefix, trimmed}
-use Rattle.ansi_slice.specs.Parts.{parts, part_over, part, all_parts}
-use Rattle.ansi_str.specs.Changes.{slice_of, CutRange, LeftOf, RightOf, PartOf, WithoutPrefix, Trimmed}
-use Rattle.ansi_str.specs.Edited.{meaning}
 
 abbrev bold_style : Rendition
 bold_style = record plain_style { bold = true }

@@ -1,3 +1,4 @@
+mod Common
 pub mod ChangeLemmas
 pub mod EditLemmas
 pub mod BareLemmas

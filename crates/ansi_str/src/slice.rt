@@ -42,7 +42,7 @@ pub trait AnsiStr {
     ghost text: { Self → List ℕ };
 
     /// The text itself, sequences included: a borrow that takes no memory. Every other call is one on
-    /// this text, so a further type needs no more than this one. (The Rust crate lacks it.)
+    /// this text and is `final`, so a further type needs no more than this one. (The Rust crate lacks it.)
     ///
     /// ```
     /// assert!(rt; "\x1b[1mbold".as_text() == "\x1b[1mbold");
@@ -56,9 +56,8 @@ pub trait AnsiStr {
     /// position lies inside a character, or the end below the start. (std's `get`, on the plain text;
     /// past the end, the Rust crate.)
     ///
-    /// It is a borrow where no ESC stands in the text. Then no memory is taken, and none for a `None`.
-    /// Else it is owned, and at most a close longer than the text, 88 bytes. `Err` means that memory is
-    /// wanting.
+    /// It is a borrow where no ESC stands in the text. Then no memory is taken, and none for a `None`. Else
+    /// it is owned, and at most a close longer than the text, 88 bytes. `Err` means that memory is wanting.
     ///
     /// ```
     /// let text = "\x1b[30mTEXT\x1b[39m";
@@ -66,7 +65,7 @@ pub trait AnsiStr {
     /// assert!(rt; matches!(&cut, Ok(Some(cut)) if cut.as_str() == "\x1b[30mEX\x1b[39m"));
     /// assert!(rt; matches!(&text.ansi_get(rt.alloc(), 3..1), Ok(None)));
     /// ```
-    fn ansi_get<R: AnsiRange>(
+    final fn ansi_get<R: AnsiRange>(
         &self,
         alloc: Global,
         range: R,
@@ -96,7 +95,11 @@ pub trait AnsiStr {
     /// let cut = "\x1b[30mTEXT\x1b[39m".ansi_cut(rt.alloc(), 1..3)?;
     /// assert!(rt; cut.as_str() == "\x1b[30mEX\x1b[39m");
     /// ```
-    fn ansi_cut<R: AnsiRange>(&self, alloc: Global, range: R) -> Result<CowStr<'_>, AllocError>
+    final fn ansi_cut<R: AnsiRange>(
+        &self,
+        alloc: Global,
+        range: R,
+    ) -> Result<CowStr<'_>, AllocError>
         requires { IsTrue (is_good_range (plain (text self.now)) (R.start range) (R.end range)) }
         ensures bytes { IfOk result (λ c. cow_str_bytes c ≡ cut (text self.now) (R.start range) (R.end range)) }
         ensures borrowed { IfOk result (λ c. IsBorrowedStr c ↔ IsFalse (has_escape (text self.now))) }
@@ -117,7 +120,7 @@ pub trait AnsiStr {
     /// assert!(rt; "\x1b[1mé\x1b[0m".ansi_is_char_boundary(2));
     /// assert!(rt; !"\x1b[1mé\x1b[0m".ansi_is_char_boundary(1));
     /// ```
-    fn ansi_is_char_boundary(&self, index: usize) -> bool
+    final fn ansi_is_char_boundary(&self, index: usize) -> bool
         ensures value { result ≡ is_char_boundary (plain (text self.now)) index }
         ensures boundary { IsTrue result ↔ IsCharBoundary (plain (text self.now)) index }
         ensures good_before { IsTrue result → IsTrue (is_good_range (plain (text self.now)) 0 (Some index)) }
@@ -138,7 +141,7 @@ pub trait AnsiStr {
     /// assert!(rt; "a\x1b[1mb\x1b[0mc".ansi_find("bc") == Some(1));
     /// assert!(rt; "a\x1b[1mb\x1b[0mc".ansi_find("cb").is_none());
     /// ```
-    fn ansi_find(&self, pat: &str) -> Option<usize>
+    final fn ansi_find(&self, pat: &str) -> Option<usize>
         ensures first { MatchOption result (FindsText pat.now (plain (text self.now)) None) (MatchBeginsAt (FindsText pat.now) (plain (text self.now))) }
         ensures good { IfSome result (λ i. IsTrue (is_good_range (plain (text self.now)) i (Some (i + length pat.now)))) }
         ensures good_before { IfSome result (λ i. IsTrue (is_good_range (plain (text self.now)) 0 (Some i))) }
@@ -148,8 +151,7 @@ pub trait AnsiStr {
         search::find(self.as_text(), pat)
     }
 
-    /// The text without a prefix of its plain text, or `None` where the plain text doesn't begin with
-    /// it.
+    /// The text without a prefix of its plain text, or `None` where the plain text doesn't begin with it.
     ///
     /// The prefix is met across sequences, and every sequence stays, at its place: also one that
     /// stands before the prefix or inside it. No style is opened or closed. An empty prefix takes
@@ -166,7 +168,7 @@ pub trait AnsiStr {
     /// assert!(rt; matches!(&rest, Ok(Some(rest)) if rest.as_str() == "\x1b[31m\x1b[39mand plain"));
     /// assert!(rt; matches!(&text.ansi_strip_prefix(rt.alloc(), "and"), Ok(None)));
     /// ```
-    fn ansi_strip_prefix(
+    final fn ansi_strip_prefix(
         &self,
         alloc: Global,
         prefix: &str,
@@ -180,8 +182,7 @@ pub trait AnsiStr {
         strip_prefix_in(alloc, self.as_text(), prefix)
     }
 
-    /// The text without a suffix of its plain text, or `None` where the plain text doesn't end with
-    /// it.
+    /// The text without a suffix of its plain text, or `None` where the plain text doesn't end with it.
     ///
     /// The suffix is met across sequences, and every sequence stays, at its place: also one that
     /// stands inside the suffix or after it. No style is opened or closed. An empty suffix takes
@@ -198,7 +199,7 @@ pub trait AnsiStr {
     /// assert!(rt; matches!(&rest, Ok(Some(rest)) if rest.as_str() == "plain and\x1b[31m\x1b[39m"));
     /// assert!(rt; matches!(&text.ansi_strip_suffix(rt.alloc(), "and"), Ok(None)));
     /// ```
-    fn ansi_strip_suffix(
+    final fn ansi_strip_suffix(
         &self,
         alloc: Global,
         suffix: &str,
@@ -221,12 +222,11 @@ pub trait AnsiStr {
     /// with the start of the style that the parts before it leave open, and ends with the close of
     /// its own, where these have anything; a part without text and sequences stays empty.
     ///
-    /// The iterator has at most two parts more than the plain text has bytes, and a `usize` counts them.
-    /// A part with no
-    /// sequence is a borrow where no style is carried into it or it is empty, so on a text without
-    /// ESC every part is one; a borrow takes no memory. Any other part is owned, and in its place
-    /// comes an `Err` where memory is wanting. After that there is nothing but `None`. (std; the
-    /// Rust crate splits the text with its sequences; where a sequence goes, own.)
+    /// The iterator has at most two parts more than the plain text has bytes, and a `usize` counts them. A
+    /// part with no sequence is a borrow where no style is carried into it or it is empty, so on a text
+    /// without ESC every part is one; a borrow takes no memory. Any other part is owned, and in its place
+    /// comes an `Err` where memory is wanting. After that there is nothing but `None`. (std; the Rust crate
+    /// splits the text with its sequences; where a sequence goes, own.)
     ///
     /// A part's share is how many bytes of the text it has, its plain bytes and its sequences. It is at
     /// most a start and a close longer, 163 + 88 bytes, and all shares together are within the text.
@@ -239,7 +239,7 @@ pub trait AnsiStr {
     /// }
     /// assert!(rt; cells.as_str() == "\x1b[31mlion\x1b[39m|\x1b[31mtiger\x1b[0m|");
     /// ```
-    fn ansi_split<'a>(&'a self, alloc: Global, pat: &'a str) -> AnsiSplit<'a>
+    final fn ansi_split<'a>(&'a self, alloc: Global, pat: &'a str) -> AnsiSplit<'a>
         ensures bytes { map (λ p. p.bytes) result ≡ all_parts (text self.now) pat.now }
         ensures borrowed { map (λ p. p.borrowed) result ≡ map (is_part_borrowed (text self.now) pat.now) (range_with_len 0 (length result)) }
         ensures len { length result ≤ length (plain (text self.now)) + 2 }
@@ -253,11 +253,10 @@ pub trait AnsiStr {
 
     /// The text before a position and the text from there on, each character in its style.
     ///
-    /// On each side every run of text stands between the start of its style and the close, so the
-    /// SGRs themselves aren't copied and nothing is left open. Any other sequence, and a lone
-    /// escape, goes left where it stands at or before the position, else right. The position counts
-    /// bytes of the plain text. It has to be a character boundary of it, or lie past its end, which
-    /// counts as the end.
+    /// On each side every run of text stands between the start of its style and the close, so the SGRs
+    /// themselves aren't copied and nothing is left open. Any other sequence, and a lone escape, goes left
+    /// where it stands at or before the position, else right. The position counts bytes of the plain text.
+    /// It has to be a character boundary of it, or lie past its end, which counts as the end.
     ///
     /// Both sides are borrows where no ESC stands in the text, and then no memory is taken. Else
     /// both are owned, an empty one too. `Err` means that memory is wanting. (The Rust crate.)
@@ -268,7 +267,7 @@ pub trait AnsiStr {
     /// assert!(rt; left.as_str() == "\x1b[30mTE\x1b[39m");
     /// assert!(rt; right.as_str() == "\x1b[30mXT\x1b[39m");
     /// ```
-    fn ansi_split_at(
+    final fn ansi_split_at(
         &self,
         alloc: Global,
         mid: usize,
@@ -293,7 +292,7 @@ pub trait AnsiStr {
     /// ```
     /// assert!(rt; "\x1b[31mred\x1b[39m and plain".ansi_starts_with("red and"));
     /// ```
-    fn ansi_starts_with(&self, pat: &str) -> bool
+    final fn ansi_starts_with(&self, pat: &str) -> bool
         ensures { result ≡ starts_with nat_eq (plain (text self.now)) pat.now }
     {
         search::starts_with(self.as_text(), pat)
@@ -307,7 +306,7 @@ pub trait AnsiStr {
     /// ```
     /// assert!(rt; "plain and \x1b[31mred\x1b[39m".ansi_ends_with("and red"));
     /// ```
-    fn ansi_ends_with(&self, pat: &str) -> bool
+    final fn ansi_ends_with(&self, pat: &str) -> bool
         ensures { result ≡ ends_with nat_eq (plain (text self.now)) pat.now }
     {
         search::ends_with(self.as_text(), pat)
@@ -326,7 +325,7 @@ pub trait AnsiStr {
     /// let trimmed = " \x1b[31m red \x1b[39m ".ansi_trim(rt.alloc())?;
     /// assert!(rt; trimmed.as_str() == "\x1b[31mred\x1b[39m");
     /// ```
-    fn ansi_trim(&self, alloc: Global) -> Result<CowStr<'_>, AllocError>
+    final fn ansi_trim(&self, alloc: Global) -> Result<CowStr<'_>, AllocError>
         ensures bytes { IfOk result (λ c. cow_str_bytes c ≡ trimmed (text self.now)) }
         ensures borrowed { IfOk result (λ c. IsBorrowedStr c ↔ IsFalse (has_escape (text self.now))) }
         ensures takes_no_memory { IsFalse (has_escape (text self.now)) → IsOk result }
@@ -343,7 +342,7 @@ pub trait AnsiStr {
     /// let plain = "\x1b[31mred\x1b[39m and plain".ansi_strip(rt.alloc())?;
     /// assert!(rt; plain.as_str() == "red and plain");
     /// ```
-    fn ansi_strip(&self, alloc: Global) -> Result<CowStr<'_>, AllocError>
+    final fn ansi_strip(&self, alloc: Global) -> Result<CowStr<'_>, AllocError>
         ensures bytes { IfOk result (λ c. cow_str_bytes c ≡ plain (text self.now)) }
         ensures borrowed { IfOk result (λ c. IsBorrowedStr c ↔ IsFalse (has_escape (text self.now))) }
         ensures takes_no_memory { IsFalse (has_escape (text self.now)) → IsOk result }
@@ -351,14 +350,13 @@ pub trait AnsiStr {
         strip_in(alloc, self.as_text())
     }
 
-    /// Whether an ESC stands in the text: a sequence, or a lone escape. Takes no memory. (The Rust
-    /// crate.)
+    /// Whether an ESC stands in the text: a sequence, or a lone escape. Takes no memory. (The Rust crate.)
     ///
     /// ```
     /// assert!(rt; "\x1b[31mred".ansi_has_any());
     /// assert!(rt; !"red".ansi_has_any());
     /// ```
-    fn ansi_has_any(&self) -> bool
+    final fn ansi_has_any(&self) -> bool
         ensures { result ≡ has_escape (text self.now) }
     {
         has_any(self.as_text())

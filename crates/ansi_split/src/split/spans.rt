@@ -1,11 +1,14 @@
 //! The stretches of a text that its parts are written from.
-ghost use Rattle.std.specs.Prelude.{◌≡◌, ◌↔◌, ◌≤◌, ◌+◌, ◌++◌, length, IsTrue, IsOk, IfOk, OnOk, string_bytes};
+ghost use Rattle.std.specs.Prelude.{◌≡◌, ◌↔◌, ◌≤◌, ◌+◌, ◌++◌, [], length, IsTrue, IsOk, IfOk, OnOk, string_bytes};
+ghost use Rattle.std.specs.Option.{MatchOption};
 ghost use Rattle.std.specs.Cow.{cow_str_bytes, IsBorrowedStr};
 ghost use Rattle.ansi_items.specs.Plain.{plain, marks, has_escape};
 ghost use Rattle.ansi_slice.specs.Cut.{show};
 ghost use Rattle.ansi_slice.specs.Positions.{is_char_boundary};
+ghost use Rattle.ansi_style.specs.Rendition.{plain_style};
 ghost use Rattle.ansi_style.specs.Reading.{style_after_from};
 ghost use Rattle.ansi_style.specs.States.{rendition_of};
+ghost use Rattle.ansi_split.specs.Spans.{parts_left, span_part, span_text, IsWritten, IsBare};
 
 use crate::split::rest::Rest;
 use ansi_items::ansitok::{Kind, Scanner};
@@ -15,10 +18,8 @@ use std::alloc::{AllocError, Allocator};
 use std::borrow::CowStr;
 use std::marker::Model;
 
-/// How many bytes most starts have, and most closes.
-const START_ROOM: usize = 24;
-
-const CLOSE_ROOM: usize = 16;
+/// How many bytes most starts have, with most closes.
+const STYLE_ROOM: usize = 24 + 16;
 
 /// What one part is written from.
 #[derive(Drop)]
@@ -39,11 +40,6 @@ pub(super) struct Span<'t> {
 }
 
 impl<'t> Span<'t> {
-    ghost use Rattle.std.specs.Prelude.{true, false};
-    ghost use Rattle.std.specs.Option.{MatchOption};
-    ghost use Rattle.ansi_style.specs.States.{rendition_of};
-    ghost use Rattle.ansi_split.specs.Spans.{span_part, span_text, IsWritten, IsBare};
-
     /// The part: a borrow where no sequence stands in it and no style has to be written.
     pub(super) fn write<A: Allocator>(&self, alloc: A) -> Result<CowStr<'t, A>, AllocError>
         ensures bytes { IfOk result (λ c. cow_str_bytes c ≡ (span_part (rendition_of self.now.carried) self.now.text.now self.now.skip).bytes) }
@@ -78,25 +74,18 @@ impl<'t> Span<'t> {
     fn written<A: Allocator>(&self, alloc: A) -> Result<String<A>, AllocError>
         ensures { IfOk result (λ s. string_bytes s ≡ span_text (rendition_of self.now.carried) self.now.text.now self.now.skip) }
     {
-        let mut part = String::with_capacity(alloc, self.room())?;
+        let room = self
+            .text
+            .len()
+            .saturating_sub(self.skip)
+            .saturating_add(STYLE_ROOM);
+        let mut part = String::with_capacity(alloc, room)?;
         styles::write_start(&self.carried, &mut part)?;
         self.write_text(&mut part)?;
         if styles::has_any(&self.after) {
             styles::write_close(&self.after, &mut part)?;
         }
         Ok(part)
-    }
-
-    /// How much memory the part takes, where its start and its close have the usual lengths.
-    fn room(&self) -> usize {
-        let mut room = self.text.len().saturating_sub(self.skip);
-        if styles::has_any(&self.carried) {
-            room = room.saturating_add(START_ROOM);
-        }
-        if styles::has_any(&self.after) {
-            room = room.saturating_add(CLOSE_ROOM);
-        }
-        room
     }
 
     /// Appends the text with its sequences, but for the plain bytes that are left out. An `Err` means that
@@ -153,10 +142,6 @@ impl<'t, 'p> Model for Spans<'t, 'p> {
 }
 
 impl<'t, 'p> Spans<'t, 'p> {
-    ghost use Rattle.std.specs.Prelude.{◌≡◌, []};
-    ghost use Rattle.ansi_style.specs.Rendition.{plain_style};
-    ghost use Rattle.ansi_split.specs.Spans.{parts_left};
-
     /// The spans of all parts of the text.
     pub(super) fn new(text: &'t str, pat: &'p str) -> Self
         ensures { result ≡ parts_left plain_style text.now pat.now 0 0 }

@@ -15,13 +15,11 @@ pub enum Edit<'p> {
     /// The text between two positions, or from a start on: [`ansi_cut`](crate::AnsiStr::ansi_cut).
     /// It is refused where a position lies inside a character, or the end below the start.
     Cut { start: usize, end: Option<usize> },
-    /// The text before a position: the left side of
-    /// [`ansi_split_at`](crate::AnsiStr::ansi_split_at). It is refused where the position lies inside
-    /// a character.
+    /// The text before a position: the left side of [`ansi_split_at`](crate::AnsiStr::ansi_split_at). It is
+    /// refused where the position lies inside a character.
     Left(usize),
-    /// The text from a position on: the right side of
-    /// [`ansi_split_at`](crate::AnsiStr::ansi_split_at). It is refused where the position lies inside
-    /// a character.
+    /// The text from a position on: the right side of [`ansi_split_at`](crate::AnsiStr::ansi_split_at). It
+    /// is refused where the position lies inside a character.
     Right(usize),
     /// The part of this index, counted from 0, between the matches of a pattern:
     /// [`ansi_split`](crate::AnsiStr::ansi_split). It is refused where there aren't so many parts.

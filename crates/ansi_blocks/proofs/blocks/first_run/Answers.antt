@@ -1,7 +1,4 @@
-use Rattle.std.proofs.Common.{rules, ◌≡◌, ◌∷◌, length, sym, ◌∙◌, ap, arith}
-use Rattle.ansi_items.specs.Pieces.{Text}
-use Rattle.ansi_style.specs.States.{rendition_of}
-use Rattle.ansi_items.proofs.StepLemmas.{gives_text, gives_rest, gives_mark}
+use Rattle.ansi_blocks.proofs.Common.{rules, ◌≡◌, ◌∷◌, length, sym, ◌∙◌, ap, arith, Text, rendition_of, gives_text, gives_rest, gives_mark}
 use Rattle.ansi_blocks.proofs.BlockWalkLemmas.{run-begin, run-sgr, run-other, run-text, run-end}
 use Rattle.ansi_blocks.proofs.blocks.first_run.Goals as goal
 

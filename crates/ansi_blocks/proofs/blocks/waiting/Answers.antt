@@ -1,5 +1,4 @@
-use Rattle.std.proofs.Common.{rules, ◌≡◌, refl, ◌∙◌, ap}
-use Rattle.ansi_items.proofs.StepLemmas.{gives_mark}
+use Rattle.ansi_blocks.proofs.Common.{rules, ◌≡◌, refl, ◌∙◌, ap, gives_mark}
 use Rattle.ansi_blocks.proofs.BlockLemmas.{waiting-front}
 use Rattle.ansi_blocks.proofs.BlockWalkLemmas.{joined-other, joined-sgr}
 use Rattle.ansi_blocks.proofs.blocks.waiting.Goals as goal

@@ -1,6 +1,4 @@
-use Rattle.std.proofs.Common.{◌≡◌, string_bytes}
-use Rattle.ansi_blocks.specs.Blocks.{waiting}
-use Rattle.ansi_items.specs.Scans.{pieces_left}
+use Rattle.ansi_blocks.proofs.Common.{◌≡◌, string_bytes, waiting, pieces_left}
 use Rattle.ansi_blocks.proofs.BlockWalkLemmas.{IsJoinedSoFar}
 use Rattle.ansi_blocks.proofs.blocks.waiting.Given as goal
 

@@ -1,12 +1,7 @@
-use Rattle.std.proofs.Common.{◌≡◌, ◌≤◌, ℕ, List, inl, inr, Option, Some, option_map, length, refl, sym, ◌∙◌, ap, slice_get, is_some, true≢false, arith}
-use Rattle.std.specs.Option.{MatchOption}
+use Rattle.ansi_split.proofs.Common.{◌≡◌, ◌≤◌, ℕ, List, inl, inr, Option, Some, option_map, length, refl, sym, ◌∙◌, ap, slice_get, is_some, true≢false, arith, MatchOption, plain_style, rendition_of, SplitPart, span_part, parts_left}
 use Rattle.std.specs.Iterator.{YieldsFirstBy, YieldsThen}
 use Rattle.std.proofs.lemmas.Iterator.Consumers.{nth_from_yields_List, YieldsList-from_first}
 use Rattle.ansi_split.specs.declared.split.spans.Span.{Span}
-use Rattle.ansi_style.specs.Rendition.{plain_style}
-use Rattle.ansi_style.specs.States.{rendition_of}
-use Rattle.ansi_split.specs.Splits.{SplitPart}
-use Rattle.ansi_split.specs.Spans.{span_part, parts_left}
 use Rattle.ansi_split.proofs.SplitLemmas.{part_at, no_part_at}
 use Rattle.ansi_split.proofs.PartLengthLemmas.{share_within}
 use Rattle.ansi_split.proofs.split.part_in.Goals as goal

@@ -1,30 +1,29 @@
-use Rattle.std.proofs.Common.{arith}
-use Rattle.ansi_items.proofs.PlainLemmas.{length-plain}
+use Rattle.ansi_split.proofs.Common.{arith, length-plain}
 use Rattle.ansi_split.proofs.SplitLemmas.{bytes-parts_left, borrowed-parts_left, length-parts_left, shares-parts_left, parts_left-bare}
 use Rattle.ansi_split.proofs.PartLengthLemmas.{shares_within}
 use Rattle.ansi_split.proofs.split.split_in.Goals as goal
 
 pub returns-clause-bytes : goal.returns-clause-bytes
-returns-clause-bytes g c = rw c.new.ensures (bytes-parts_left c.args.text.now c.args.pat.now)
+returns-clause-bytes g c = rw c.new-spans.ensures (bytes-parts_left c.args.text.now c.args.pat.now)
 
 pub returns-clause-borrowed : goal.returns-clause-borrowed
-returns-clause-borrowed g c = rw c.new.ensures (borrowed-parts_left c.args.text.now c.args.pat.now)
+returns-clause-borrowed g c = rw c.new-spans.ensures (borrowed-parts_left c.args.text.now c.args.pat.now)
 
 pub returns-clause-len : goal.returns-clause-len
-returns-clause-len g c = rw c.new.ensures (length-parts_left c.args.text.now c.args.pat.now)
+returns-clause-len g c = rw c.new-spans.ensures (length-parts_left c.args.text.now c.args.pat.now)
 
 pub returns-clause-takes_no_memory : goal.returns-clause-takes_no_memory
-returns-clause-takes_no_memory g c = λ none. rw c.new.ensures (parts_left-bare c.args.text.now c.args.pat.now none)
+returns-clause-takes_no_memory g c = λ none. rw c.new-spans.ensures (parts_left-bare c.args.text.now c.args.pat.now none)
 
 -- the plain text is no longer than the text, and no text in memory fills half of it
 pub returns-clause-fits : goal.returns-clause-fits
 returns-clause-fits g c =
     let t = c.args.text.now in
     let p = c.args.pat.now in
-    rw c.new.ensures (omega (arith, length-parts_left t p, length-plain t, c.well_formed.1.0.1))
+    rw c.new-spans.ensures (omega (arith, length-parts_left t p, length-plain t, c.well_formed.1.0.1))
 
 pub returns-clause-shares : goal.returns-clause-shares
-returns-clause-shares g c = rw c.new.ensures (shares-parts_left c.args.text.now c.args.pat.now)
+returns-clause-shares g c = rw c.new-spans.ensures (shares-parts_left c.args.text.now c.args.pat.now)
 
 pub returns-clause-within : goal.returns-clause-within
-returns-clause-within g c = rw c.new.ensures (shares_within c.args.text.now c.args.pat.now)
+returns-clause-within g c = rw c.new-spans.ensures (shares_within c.args.text.now c.args.pat.now)

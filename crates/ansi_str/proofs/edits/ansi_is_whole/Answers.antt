@@ -1,11 +1,8 @@
-use Rattle.std.proofs.Common.{◌≡◌, ℕ, not, ◌&&◌, List, ◌∷◌, refl, sym, ◌∙◌, ap}
+use Rattle.ansi_str.proofs.Common.{◌≡◌, ℕ, not, ◌&&◌, List, ◌∷◌, refl, sym, ◌∙◌, ap, Piece, are_whole, pieces_left, piece_of_kind}
 use denote.Enum.Bare.{sameb}
 use Rattle.ansi_items.specs.contracts.ansitok.Kind.{the_type}
 use Rattle.ansi_items.specs.declared.ansitok.Kind.{Kind}
 use Rattle.ansi_items.specs.declared.ansitok.Kind.TheVariants.{Lone}
-use Rattle.ansi_items.specs.Pieces.{Piece}
-use Rattle.ansi_items.specs.Plain.{are_whole}
-use Rattle.ansi_items.specs.Scans.{pieces_left, piece_of_kind}
 use Rattle.ansi_str.proofs.edits.ansi_is_whole.Goals as goal
 
 -- a piece in front counts only where it is a lone escape

@@ -1,6 +1,4 @@
-use Rattle.std.proofs.Common.{◌≡◌}
-use Rattle.ansi_items.specs.Plain.{are_whole, is_whole}
-use Rattle.ansi_items.specs.Scans.{pieces_left}
+use Rattle.ansi_str.proofs.Common.{◌≡◌, are_whole, is_whole, pieces_left}
 use Rattle.ansi_str.proofs.edits.ansi_is_whole.Given as goal
 
 -- the pieces that are left are whole exactly where all are

@@ -1,6 +1,4 @@
-use Rattle.std.proofs.Common.{Some, None, refl, sym, ◌∙◌, ap, is_some, true≢false}
-use Rattle.std.specs.Cow.{cow_str_bytes}
-use Rattle.ansi_str.specs.Edits.{changes_of}
+use Rattle.ansi_str.proofs.Common.{Some, None, refl, sym, ◌∙◌, ap, is_some, true≢false, cow_str_bytes, changes_of}
 use Rattle.ansi_str.proofs.EditLemmas.{is_slice_named}
 use Rattle.ansi_str.proofs.EditWalkLemmas.{so_far-more, so_far-refused, so_far-lent, so_far-end}
 use Rattle.ansi_str.proofs.edits.edit.Goals as goal

@@ -1,6 +1,4 @@
-use Rattle.std.proofs.Common.{drop}
-use Rattle.std.specs.Cow.{cow_str_bytes, IsBorrowedStr}
-use Rattle.ansi_str.specs.Edits.{changes_of}
+use Rattle.ansi_str.proofs.Common.{drop, cow_str_bytes, IsBorrowedStr, changes_of}
 use Rattle.ansi_str.proofs.EditWalkLemmas.{IsEditedSoFar}
 use Rattle.ansi_str.proofs.edits.edit.Given as goal
 

@@ -1,7 +1,5 @@
 use Rattle.ansi_items.proofs.JoinLemmas.{pieces_of-append, is_whole-append}
-use Rattle.ansi_slice.proofs.CutSliceLemmas.{is_whole-cut, residue-cut}
-use Rattle.ansi_slice.proofs.SideSliceLemmas.{left_side_is, right_side_is}
-use Rattle.ansi_slice.proofs.KeptLemmas.{is_whole-kept, residue-kept}
+use Rattle.ansi_str.proofs.Common.{is_whole-cut, residue-cut, left_side_is, right_side_is, is_whole-kept, residue-kept}
 use Rattle.ansi_str.proofs.ChangeLemmas.{is_whole-part, residue-part}
 use Rattle.ansi_str.proofs.laws.join.Goals as goal
 

@@ -1,7 +1,4 @@
-use Rattle.std.proofs.Common.{arith}
-use Rattle.ansi_items.specs.Plain.{plain}
-use Rattle.ansi_split.proofs.StdSplitLemmas.{split_is_one}
-use Rattle.ansi_split.proofs.PartTextLemmas.{length-parts, plain-all_parts, length-all_parts, plain_parts_are_split, plain-all_parts-empty}
+use Rattle.ansi_str.proofs.Common.{arith, plain, split_is_one, length-parts, plain-all_parts, length-all_parts, plain_parts_are_split, plain-all_parts-empty}
 use Rattle.ansi_str.proofs.laws.parts_are_std.Goals as goal
 
 pub returns-clause-split : goal.returns-clause-split

@@ -1,7 +1,5 @@
 use Rattle.ansi_split.proofs.BetweenLemmas.{parts_are_between}
-use Rattle.ansi_split.proofs.StdSplitLemmas.{parts_are_split}
-use Rattle.ansi_split.proofs.CharacterLemmas.{slices_over-parts-empty, parts_in_turn}
-use Rattle.ansi_split.proofs.PartTextLemmas.{length-parts}
+use Rattle.ansi_str.proofs.Common.{parts_are_split, slices_over-parts-empty, parts_in_turn, length-parts}
 use Rattle.ansi_str.proofs.laws.parts_lie_between_matches.Goals as goal
 
 pub returns-clause-between : goal.returns-clause-between

@@ -1,7 +1,5 @@
-use Rattle.ansi_slice.proofs.CutSliceLemmas.{styled-cut}
-use Rattle.ansi_slice.proofs.SideSliceLemmas.{left_side_is, right_side_is}
+use Rattle.ansi_str.proofs.Common.{styled-cut, left_side_is, right_side_is, styled-kept}
 use Rattle.ansi_str.proofs.ChangeLemmas.{slice_of-cut, slice_of-left_side, slice_of-right_side, slice_of-without_prefix, slice_of-without_suffix, slice_of-trimmed, slice_of-part}
-use Rattle.ansi_slice.proofs.KeptLemmas.{styled-kept}
 use Rattle.ansi_str.proofs.laws.slices.Goals as goal
 
 pub returns-clause-cut : goal.returns-clause-cut

@@ -1,9 +1,4 @@
-use Rattle.std.proofs.Common.{◌-◌, length, arith}
-use Rattle.ansi_items.specs.Plain.{plain}
-use Rattle.ansi_slice.proofs.KeptWalkLemmas.{kept-all}
-use Rattle.ansi_slice.proofs.KeptLemmas.{is_kept}
-use Rattle.ansi_slice.proofs.TrimLemmas.{slice_range-trim_interval, trim_interval_boundaries}
-use Rattle.ansi_slice.proofs.KeptAsStdLemmas.{plain-trimmed, plain-without_prefix, plain-without_suffix}
+use Rattle.ansi_str.proofs.Common.{◌-◌, length, arith, plain, kept-all, is_kept, slice_range-trim_interval, trim_interval_boundaries, plain-trimmed, plain-without_prefix, plain-without_suffix}
 use Rattle.ansi_str.proofs.laws.trim_is_std.Goals as goal
 
 pub returns-clause-trim : goal.returns-clause-trim

@@ -1,7 +1,4 @@
-use Rattle.std.proofs.Common.{ℕ, Bool, List, ◌∷◌, length, sym, ◌∙◌, ap, ap₂, arith}
-use Rattle.ansi_style.specs.declared.state.rendition.Rendition.{Rendition}
-use Rattle.ansi_style.specs.States.{rendition_of}
-use Rattle.ansi_blocks.specs.Blocks.{Block, blocks_from}
+use Rattle.ansi_blocks.proofs.Common.{ℕ, Bool, List, ◌∷◌, length, sym, ◌∙◌, ap, ap₂, arith, Rendition, rendition_of, Block, blocks_from}
 use Rattle.ansi_blocks.proofs.BlockLemmas.{blocks_from-nil}
 use Rattle.ansi_blocks.proofs.BlockWalkLemmas.{not_borrowed}
 use Rattle.ansi_blocks.proofs.blocks.AnsiBlockIterIterator.next.Goals as goal

@@ -1,16 +1,5 @@
-use Rattle.std.proofs.Common.{rules, ◌≡◌, ◌∷◌, ◌++◌, ◌+◌, ◌-◌, Some, length, take, drop, refl, sym, ◌∙◌, ap, ap₂, subst, arith, IsFalse}
-use Rattle.std.proofs.lemmas.Bool.{eqb-true, eqb-false}
-use Rattle.std.proofs.lemmas.Str.{IsCharBoundary-from_rest}
-use Rattle.std.specs.Str.{IsCharBoundary}
-use Rattle.ansi_items.specs.Pieces.{Text, pieces_of}
-use Rattle.ansi_items.specs.Plain.{plain_of, plain, has_escape}
-use Rattle.ansi_items.specs.Scans.{pieces_left}
-use Rattle.ansi_style.specs.States.{rendition_of}
-use Rattle.ansi_slice.specs.Parts.{first_match_from}
-use Rattle.ansi_split.specs.Spans.{IsCutAtMatch}
-use Rattle.ansi_items.proofs.StepLemmas.{gives_text}
+use Rattle.ansi_split.proofs.Common.{rules, ◌≡◌, ◌∷◌, ◌++◌, ◌+◌, ◌-◌, Some, length, take, drop, refl, sym, ◌∙◌, ap, ap₂, subst, arith, IsFalse, eqb-true, eqb-false, IsCharBoundary-from_rest, IsCharBoundary, Text, pieces_of, plain_of, plain, has_escape, pieces_left, rendition_of, first_match_from, IsCutAtMatch, gives_text, over_text, over_mark}
 use Rattle.ansi_style.proofs.SgrLemmas.{apply-no_sgr}
-use Rattle.ansi_slice.proofs.OffsetLemmas.{over_text, over_mark}
 use Rattle.ansi_split.proofs.RestLemmas.{boundary-drop, no_escape-later, no_escape-text}
 use Rattle.ansi_split.proofs.MatchWalkLemmas.{walked-begin, walked-text, walked-mark, walked-cut, walked-end, walked-none, walked-empty}
 use Rattle.ansi_split.proofs.split.rest.cut_from.Goals as goal

@@ -1,5 +1,4 @@
-use Rattle.std.proofs.Common.{◌≡◌, ◌<◌, ℕ, List, [], ◌∷◌, Some, None, ◌-◌, length, take, drop, refl, sym, ◌∙◌, ap, arith, slice_get, slice_index}
-use Rattle.std.proofs.lemmas.List.{take_rest}
+use Rattle.ansi_split.proofs.Common.{◌≡◌, ◌<◌, ℕ, List, [], ◌∷◌, Some, None, ◌-◌, length, take, drop, refl, sym, ◌∙◌, ap, arith, slice_get, slice_index, take_rest}
 use Rattle.ansi_split.proofs.RestLemmas.{ends_in_run}
 use Rattle.ansi_split.proofs.split.rest.may_go_on.Goals as goal
 

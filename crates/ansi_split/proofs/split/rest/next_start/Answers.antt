@@ -1,8 +1,4 @@
-use Rattle.std.proofs.Common.{◌≡◌, ◌<◌, ℕ, Some, length, sym, ◌∙◌, ap, arith}
-use Rattle.std.specs.Prelude.{unwrap_or}
-use Rattle.ansi_items.specs.Plain.{plain}
-use Rattle.ansi_slice.specs.Parts.{first_match_from}
-use Rattle.ansi_items.proofs.PlainLemmas.{length-plain}
+use Rattle.ansi_split.proofs.Common.{◌≡◌, ◌<◌, ℕ, Some, length, sym, ◌∙◌, ap, arith, unwrap_or, plain, first_match_from, length-plain}
 use Rattle.ansi_split.proofs.RestLemmas.{start_in_run, start_again, start_after_run, first_or_past, here_or_past, boundary_in_run, cut_in_run}
 use Rattle.ansi_split.proofs.split.rest.next_start.Goals as goal
 

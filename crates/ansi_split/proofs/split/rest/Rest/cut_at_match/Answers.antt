@@ -1,5 +1,4 @@
-use Rattle.std.proofs.Common.{◌≤◌, arith}
-use Rattle.ansi_style.specs.States.{rendition_of}
+use Rattle.ansi_split.proofs.Common.{◌≤◌, arith, rendition_of}
 use Rattle.ansi_split.proofs.RestLemmas.{boundary-drop, no_escape-drop, style-run, unmarked-run}
 use Rattle.ansi_split.proofs.split.rest.Rest.cut_at_match.Goals as goal
 

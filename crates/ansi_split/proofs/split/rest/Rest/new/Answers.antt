@@ -1,5 +1,4 @@
-use Rattle.std.proofs.Common.{refl}
-use Rattle.std.proofs.lemmas.Str.{IsCharBoundary-start}
+use Rattle.ansi_split.proofs.Common.{refl, IsCharBoundary-start}
 use Rattle.ansi_split.proofs.split.rest.Rest.new.Goals as goal
 
 -- nothing is known of the text

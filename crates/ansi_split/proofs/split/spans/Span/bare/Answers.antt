@@ -1,12 +1,4 @@
-use Rattle.std.proofs.Common.{◌≡◌, ◌≤◌, IsTrue, IsFalse, sym, ◌∙◌, ap, subst, arith, length, false, ◌==◌}
-use Rattle.std.proofs.lemmas.Bool.{and_parts, leb-true, eqb-true, eqb-false, ne_eqb}
-use Rattle.std.proofs.lemmas.List.{length-drop}
-use Rattle.ansi_items.specs.Plain.{has_escape}
-use Rattle.ansi_slice.specs.Positions.{is_char_boundary}
-use Rattle.ansi_style.specs.States.{rendition_of}
-use Rattle.ansi_items.proofs.PlainLemmas.{plain-bare}
-use Rattle.ansi_slice.proofs.PositionLemmas.{good_is_boundary}
-use Rattle.ansi_split.specs.Spans.{IsBare}
+use Rattle.ansi_split.proofs.Common.{◌≡◌, ◌≤◌, IsTrue, IsFalse, sym, ◌∙◌, ap, subst, arith, length, false, ◌==◌, and_parts, leb-true, eqb-true, eqb-false, ne_eqb, length-drop, has_escape, is_char_boundary, rendition_of, plain-bare, good_is_boundary, IsBare}
 use Rattle.ansi_split.proofs.SplitLemmas.{written-escape, written-styled, bare-empty, bare-unstyled}
 use Rattle.ansi_split.proofs.split.spans.Span.bare.Goals as goal
 use Rattle.ansi_split.proofs.split.spans.Span.bare.Goals.{then-is_empty-via-then-is_empty, then-is_empty-via-else-is_empty+then-not-has_any}

@@ -1,7 +1,4 @@
-use Rattle.std.proofs.Common.{None, ap, arith, length}
-use Rattle.ansi_items.specs.Plain.{plain}
-use Rattle.ansi_style.specs.States.{rendition_of}
-use Rattle.ansi_style.proofs.StyleLemmas.{IsStyle-rendition_of}
+use Rattle.ansi_split.proofs.Common.{None, ap, arith, length, plain, rendition_of, IsStyle-rendition_of}
 use Rattle.ansi_split.proofs.PartLengthLemmas.{length-part_from}
 use Rattle.ansi_split.proofs.split.spans.Span.write.Goals as goal
 

@@ -1,8 +1,4 @@
-use Rattle.std.proofs.Common.{rules, ◌≡◌, refl, ◌∙◌, ap, subst, arith}
-use Rattle.std.proofs.lemmas.Bool.{and_parts}
-use Rattle.std.specs.Str.{IsCharBoundary}
-use Rattle.ansi_items.proofs.StepLemmas.{is_text, gives_text, gives_mark}
-use Rattle.ansi_slice.proofs.OffsetLemmas.{over_text}
+use Rattle.ansi_split.proofs.Common.{rules, ◌≡◌, refl, ◌∙◌, ap, subst, arith, and_parts, IsCharBoundary, is_text, gives_text, gives_mark, over_text}
 use Rattle.ansi_split.proofs.SpanWalkLemmas.{shown-begin, shown-mark, shown-skip, shown-rest, shown-boundary, shown-end}
 use Rattle.ansi_split.proofs.split.spans.Span.write_text.Goals as goal
 

@@ -1,6 +1,4 @@
-use Rattle.std.proofs.Common.{◌≡◌, ◌++◌, string_bytes}
-use Rattle.ansi_items.specs.Pieces.{pieces_of}
-use Rattle.ansi_items.specs.Scans.{pieces_left}
+use Rattle.ansi_split.proofs.Common.{◌≡◌, ◌++◌, string_bytes, pieces_of, pieces_left}
 use Rattle.ansi_split.proofs.SpanWalkLemmas.{left_of, IsShownSoFar}
 use Rattle.ansi_split.proofs.split.spans.Span.write_text.Given as goal
 

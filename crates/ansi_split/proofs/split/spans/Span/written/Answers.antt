@@ -1,7 +1,4 @@
-use Rattle.std.proofs.Common.{◌≡◌, ◌++◌, sym, ◌∙◌, ap, string_bytes}
-use Rattle.ansi_items.specs.Pieces.{pieces_of}
-use Rattle.ansi_style.specs.Written.{start, close}
-use Rattle.ansi_style.specs.States.{rendition_of}
+use Rattle.ansi_split.proofs.Common.{◌≡◌, ◌++◌, sym, ◌∙◌, ap, string_bytes, pieces_of, start, close, rendition_of}
 use Rattle.ansi_split.proofs.SpanWalkLemmas.{left_of, span-closed, span-open}
 use Rattle.ansi_split.proofs.split.spans.Span.written.Goals as goal
 use Rattle.ansi_split.proofs.split.spans.Span.written.Goals.{then-has_any+in_ok-write_close, else-has_any}

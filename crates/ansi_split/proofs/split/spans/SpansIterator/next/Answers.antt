@@ -1,12 +1,5 @@
-use Rattle.std.proofs.Common.{◌≡◌, ◌≤◌, ℕ, List, ◌∷◌, [], Option, Some, None, sym, ◌∙◌, ap, ap₂, subst, arith, max, length, IsTrue, if◌then◌else◌}
-use Rattle.std.specs.Option.{MatchOption}
+use Rattle.ansi_split.proofs.Common.{◌≡◌, ◌≤◌, ℕ, List, ◌∷◌, [], Option, Some, None, sym, ◌∙◌, ap, ap₂, subst, arith, max, length, IsTrue, if◌then◌else◌, MatchOption, plain, first_match_from, is_char_boundary, style_after_from, rendition_of, IsCutAtMatch, span_part, parts_left}
 use Rattle.ansi_split.specs.declared.split.rest.Rest.{Rest}
-use Rattle.ansi_items.specs.Plain.{plain}
-use Rattle.ansi_slice.specs.Parts.{first_match_from}
-use Rattle.ansi_slice.specs.Positions.{is_char_boundary}
-use Rattle.ansi_style.specs.Reading.{style_after_from}
-use Rattle.ansi_style.specs.States.{rendition_of}
-use Rattle.ansi_split.specs.Spans.{IsCutAtMatch, span_part, parts_left}
 use Rattle.ansi_split.proofs.SpanLemmas.{parts_left-last, parts_left-first, skip_in_front}
 use Rattle.ansi_split.proofs.split.spans.SpansIterator.next.Goals as goal
 use Rattle.ansi_split.proofs.split.spans.SpansIterator.next.Goals.{in-Some, in-None}
@@ -26,6 +19,13 @@ invariant_of-span c =
       skip_is_boundary = skip_in s.rest.text.now s.pat.now s.skip s.from cut.result.front.now cut.result.rest cut.ensures.rest c.self.invariant.1 c.self.invariant.0;
       is_after = cut.ensures.style;
     }
+
+pub invariant_of-self : goal.invariant_of-self
+invariant_of-self c =
+    let s = c.self.inside in
+    let cut = c.cut_at_match-cut in
+    let at : IsCutAtMatch s.rest.text.now s.pat.now s.from cut.result.front.now c.in-Some.rest.text.now = rw c.in-Some.is at cut.ensures.rest in
+    (at.match_end, omega arith)
 
 pub returns-clause-steps : goal.returns-clause-steps
 returns-clause-steps c =
