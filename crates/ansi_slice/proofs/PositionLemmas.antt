@@ -120,14 +120,14 @@ pub good_before : (x : List ℕ) (n : ℕ) → IsUtf8 x → IsCharBoundary x n �
 good_before x n utf8 boundary = good_range_from x 0 n (omega arith) (IsCharBoundary-start x utf8) boundary
 
 -- a range without an end is as good as one up to a position past the end
-pub is_good_range-top : (x : List ℕ) (s : ℕ) (end : Option ℕ) (top : ℕ) → s ≤ top → length x ≤ top → is_good_range x s (Some (unwrap_or end top)) ≡ is_good_range x s end
-is_good_range-top x s None top below past =
-    ap₂ (λ a b. a && (is_good_position x s && b)) (le-leb s top below) (is_good_position-past x top past) ∙ and_true (is_good_position x s)
+pub is_good_range-top : (x : List ℕ) (s : ℕ) (end : Option ℕ) {e : ℕ} (top : ℕ) → e ≡ unwrap_or end top → s ≤ top → length x ≤ top → is_good_range x s (Some e) ≡ is_good_range x s end
+is_good_range-top x s None top is below past =
+    ap (λ n. is_good_range x s (Some n)) is ∙ ap₂ (λ a b. a && (is_good_position x s && b)) (le-leb s top below) (is_good_position-past x top past) ∙ and_true (is_good_position x s)
   where
     and_true : (b : Bool) → b && true ≡ b
     and_true true = refl
     and_true false = refl
-is_good_range-top x s (Some e) top below past = refl
+is_good_range-top x s (Some n) top is below past = ap (λ n. is_good_range x s (Some n)) is
 
 -- a range is good where its ends are, in order
 pub good_range_is : (x : List ℕ) (s e : ℕ) → IsTrue (is_good_range x s (Some e)) ↔ ((s ≤ e) × IsCharBoundary x (min s (length x)) × IsCharBoundary x (min e (length x)))

@@ -1,10 +1,10 @@
-use Rattle.std.proofs.Common.{rules, ◌≡◌, length, refl, sym, ◌∙◌, ap, subst, arith, drop, nat_eq, true, ◌-◌, IsTrue}
+use Rattle.std.proofs.Common.{◌≡◌, length, refl, sym, ◌∙◌, ap, subst, arith, drop, nat_eq, true, ◌-◌, IsTrue}
 use Rattle.std.specs.List.{starts_with}
 use Rattle.ansi_items.specs.Plain.{plain}
 use Rattle.ansi_items.proofs.StepLemmas.{is_text}
 use Rattle.ansi_slice.specs.Positions.{is_good_position}
 use Rattle.ansi_slice.specs.Offsets.{StandsIn}
-use Rattle.ansi_slice.proofs.OffsetLemmas.{over_text, over_mark}
+use Rattle.ansi_slice.proofs.OffsetLemmas.{over_text, over_mark, is_other}
 use Rattle.ansi_slice.proofs.EndLemmas.{tail-begin, tail-run, tail-text, tail-mark, tail-starts, tail-good, tail-keeps}
 use Rattle.ansi_slice.proofs.search.ends.suffix_offset.Goals as goal
 use Rattle.ansi_slice.proofs.search.ends.suffix_offset.Goals.{then-pat-run, else-pat-run}
@@ -43,7 +43,7 @@ loop-item-preserved c =
     record {
       text = gives.text ∙ c.loop-item.invariant.text;
       fits = omega (arith, c.loop-item.invariant.fits, gives.start, gives.end, gives.forward);
-      so_far = tail-mark c.loop-item.invariant.so_far (over_mark gives c.loop-item.invariant.text refl (search rules));
+      so_far = tail-mark c.loop-item.invariant.so_far (over_mark gives c.loop-item.invariant.text refl (is_other c.if-eq.ensures));
     }
 
 pub range_from-rest-requires : goal.range_from-rest-requires
