@@ -279,6 +279,10 @@ pub record IsOverMark (kind : Kind) (t w : List ℕ) (at next : ℕ) (old new : 
   pub count : next ≡ at + length w
   pub bytes : take next t ≡ take at t ++ w
 
+-- an item is a range of its text
+pub item_range : {old new : Scan} {item : Item} {t : List ℕ} → Gives old item new → old.text ≡ t → (item.start ≤ item.end) × IsCharBoundary t item.start × IsCharBoundary t item.end
+item_range {item = item} gives same = (omega (arith, gives.forward), subst (λ u. IsCharBoundary u item.start) same gives.start_boundary, subst (λ u. IsCharBoundary u item.end) same gives.end_boundary)
+
 item_count : {old new : Scan} {item : Item} {t w : List ℕ} → Gives old item new → old.text ≡ t → w ≡ slice_range t item.start item.end → new.offset ≡ old.offset + length w
 item_count {item = item} {t = t} gives same is =
     omega (arith, gives.start, gives.end, gives.forward, ap length is, length-slice_range t item.start item.end (omega (arith, gives.forward)) (omega (arith, gives.end_boundary.0, ap length same)))

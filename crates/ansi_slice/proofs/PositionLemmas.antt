@@ -96,7 +96,24 @@ good_position_is x n = (
   ],
 )
 
+-- by the test that the code makes of it
+pub position_test : (x : List ℕ) (n : ℕ) {i : ℕ} {b : Bool} → i ≡ min n (length x) → IsTrue b ↔ IsCharBoundary x i → b ≡ is_good_position x n
+position_test x n is test = both_ways _ _ (λ yes. (good_position_is x n).1 (subst (IsCharBoundary x) is (test.0 yes))) (λ good. test.1 (subst (IsCharBoundary x) (sym is) ((good_position_is x n).0 good)))
+
 -- Good ranges.
+
+pub good_range_tests : (x : List ℕ) (s e : ℕ) → s ≤ e → is_good_position x s ≡ true → is_good_position x e ≡ true → is_good_range x s (Some e) ≡ true
+good_range_tests x s e ordered from to = and_from _ _ (le-leb s e ordered) (and_from _ _ from to)
+
+and_false : (b : Bool) → b && false ≡ false
+and_false true = refl
+and_false false = refl
+
+pub is_good_range-bad_start : (x : List ℕ) (s e : ℕ) → is_good_position x s ≡ false → is_good_range x s (Some e) ≡ false
+is_good_range-bad_start x s e bad = ap (λ b. nat_le s e && (b && is_good_position x e)) bad ∙ and_false (nat_le s e)
+
+pub is_good_range-bad_end : (x : List ℕ) (s e : ℕ) → is_good_position x e ≡ false → is_good_range x s (Some e) ≡ false
+is_good_range-bad_end x s e bad = ap (λ b. nat_le s e && (is_good_position x s && b)) bad ∙ ap (λ b. nat_le s e && b) (and_false (is_good_position x s)) ∙ and_false (nat_le s e)
 
 pub good_range_parts : (x : List ℕ) (s e : ℕ) → IsTrue (is_good_range x s (Some e)) → (s ≤ e) × IsTrue (is_good_position x s) × IsTrue (is_good_position x e)
 good_range_parts x s e good =

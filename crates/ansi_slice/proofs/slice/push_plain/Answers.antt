@@ -3,8 +3,11 @@ use Rattle.ansi_items.specs.Pieces.{Text}
 use Rattle.ansi_items.specs.Plain.{plain_of}
 use Rattle.ansi_items.specs.Scans.{pieces_left}
 use Rattle.ansi_items.proofs.StepLemmas.{is_text, gives_text, gives_mark, plain_of-mark}
-use Rattle.ansi_slice.proofs.OffsetLemmas.{is_other}
+use Rattle.ansi_slice.proofs.OffsetLemmas.{item_range, is_other}
 use Rattle.ansi_slice.proofs.slice.push_plain.Goals as goal
+
+pub range-requires : goal.range-requires
+range-requires g c = (let range = item_range c.in-Some.ensures.steps c.loop-item.invariant.text in record { start_le_end = range.0; start_boundary = λ _. range.1; end_boundary = range.2 })
 
 -- over a text
 pub loop-item-preserved-in-Continue-1 : goal.loop-item-preserved-in-Continue-1

@@ -4,10 +4,13 @@ use Rattle.ansi_items.specs.Plain.{plain}
 use Rattle.ansi_items.proofs.StepLemmas.{is_text}
 use Rattle.ansi_slice.specs.Positions.{is_good_position}
 use Rattle.ansi_slice.specs.Offsets.{StandsIn}
-use Rattle.ansi_slice.proofs.OffsetLemmas.{over_text, over_mark, is_other}
+use Rattle.ansi_slice.proofs.OffsetLemmas.{item_range, over_text, over_mark, is_other}
 use Rattle.ansi_slice.proofs.EndLemmas.{tail-begin, tail-run, tail-text, tail-mark, tail-starts, tail-good, tail-keeps}
 use Rattle.ansi_slice.proofs.search.ends.suffix_offset.Goals as goal
 use Rattle.ansi_slice.proofs.search.ends.suffix_offset.Goals.{then-pat-run, else-pat-run}
+
+pub range-run-requires : goal.range-run-requires
+range-run-requires c = (let range = item_range c.in-Some.ensures.steps c.loop-item.invariant.text in record { start_le_end = range.0; start_boundary = λ _. range.1; end_boundary = range.2 })
 
 pub loop-item-init : goal.loop-item-init
 loop-item-init c =

@@ -3,8 +3,11 @@ use Rattle.std.proofs.lemmas.Str.{IsCharBoundary-end}
 use Rattle.ansi_items.proofs.StepLemmas.{is_text}
 use Rattle.ansi_style.specs.States.{rendition_of}
 use Rattle.ansi_style.proofs.SgrLemmas.{apply-no_sgr}
-use Rattle.ansi_slice.proofs.OffsetLemmas.{over_text, over_mark, is_other, way-begin, way-text, way-mark, way-last, way-end, way-test}
+use Rattle.ansi_slice.proofs.OffsetLemmas.{item_range, over_text, over_mark, is_other, way-begin, way-text, way-mark, way-last, way-end, way-test}
 use Rattle.ansi_slice.proofs.search.offsets.walk_to.Goals as goal
+
+pub range-piece-requires : goal.range-piece-requires
+range-piece-requires c = (let range = item_range c.in-Some.ensures.steps c.loop-item.invariant.text in record { start_le_end = range.0; start_boundary = λ _. range.1; end_boundary = range.2 })
 
 pub loop-item-init : goal.loop-item-init
 loop-item-init c =

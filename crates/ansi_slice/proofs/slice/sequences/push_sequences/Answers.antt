@@ -2,8 +2,11 @@ use Rattle.std.proofs.Common.{◌≡◌, ◌∷◌, refl, ◌∙◌, ap, string_
 use Rattle.ansi_items.specs.Pieces.{Text}
 use Rattle.ansi_items.specs.Scans.{pieces_left}
 use Rattle.ansi_items.proofs.StepLemmas.{BeginsWithMark, is_text, gives_text, gives_mark}
-use Rattle.ansi_slice.proofs.OffsetLemmas.{is_other, pushed-begin, pushed-text, pushed-mark}
+use Rattle.ansi_slice.proofs.OffsetLemmas.{item_range, is_other, pushed-begin, pushed-text, pushed-mark}
 use Rattle.ansi_slice.proofs.slice.sequences.push_sequences.Goals as goal
+
+pub range-piece-requires : goal.range-piece-requires
+range-piece-requires g c = (let range = item_range c.in-Some.ensures.steps c.loop-item.invariant.text in record { start_le_end = range.0; start_boundary = λ _. range.1; end_boundary = range.2 })
 
 pub loop-item-init : goal.loop-item-init
 loop-item-init g c =

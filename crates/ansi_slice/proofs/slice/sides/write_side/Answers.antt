@@ -2,9 +2,12 @@ use Rattle.std.proofs.Common.{◌≡◌, ◌+◌, length, refl, sym, ◌∙◌, 
 use Rattle.std.proofs.lemmas.Str.{IsCharBoundary-end}
 use Rattle.ansi_items.proofs.StepLemmas.{is_text, gives_mark}
 use Rattle.ansi_style.specs.States.{rendition_of}
-use Rattle.ansi_slice.proofs.OffsetLemmas.{over_text, over_mark, is_other, way-begin, way-text, way-mark, way-last, way-inside, way-end, way-boundary}
+use Rattle.ansi_slice.proofs.OffsetLemmas.{item_range, over_text, over_mark, is_other, way-begin, way-text, way-mark, way-last, way-inside, way-end, way-boundary}
 use Rattle.ansi_slice.proofs.SideWalkLemmas.{side-begin, side-text, side-mark, side-last, side-end}
 use Rattle.ansi_slice.proofs.slice.sides.write_side.Goals as goal
+
+pub range-piece-requires : goal.range-piece-requires
+range-piece-requires g c = (let range = item_range c.in-Some.ensures.steps c.loop-item.invariant.text in record { start_le_end = range.0; start_boundary = λ _. range.1; end_boundary = range.2 })
 
 pub loop-item-init : goal.loop-item-init
 loop-item-init g c =
