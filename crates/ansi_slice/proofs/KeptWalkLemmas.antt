@@ -1,5 +1,5 @@
 -- A kept text as one walk over the pieces, with what is left of its ends; and what is kept of all, and of a text without ESC.
-use Rattle.std.proofs.Common.{◌≡◌, ℕ, ◌-◌, ◌≤◌, true, List, [], ◌∷◌, ◌++◌, length, refl, sym, ◌∙◌, ap, ap₂, arith, slice_range, append-nil, length-append, IsFalse}
+use Rattle.std.proofs.Common.{◌≡◌, ℕ, ◌-◌, ◌≤◌, true, List, [], ◌∷◌, ◌++◌, length, refl, sym, ◌∙◌, ap, ap₂, arith, slice_range, append-nil, length-append, IsFalse, Bool, false, nat_eq, ◌⊎◌, inl, inr}
 use Rattle.ansi_items.specs.Bytes.{escape}
 use Rattle.ansi_items.specs.Pieces.{Piece, Text, Sequence, LoneEscape, ArePieces, spelling, pieces_of}
 use Rattle.ansi_items.specs.Plain.{plain_of, plain, has_escape}
@@ -45,3 +45,8 @@ pub shown_from-mark : (p : Piece) (s e : ℕ) (ps : List Piece) → is_mark p �
 shown_from-mark (Text w) s e ps is = absurd (cc is)
 shown_from-mark (Sequence w) s e ps is = refl
 shown_from-mark LoneEscape s e ps is = refl
+
+-- a text with ESC isn't lent, unless all of it is kept
+pub not_lent : (t p : List ℕ) {marked empty : Bool} → marked ≡ has_escape t → marked ≡ true → empty ≡ nat_eq (length p) 0 → empty ≡ false → IsFalse (has_escape t) ⊎ (p ≡ []) → ⊥
+not_lent t p marked_is marked empty_is empty (inl bare) = cc
+not_lent t p marked_is marked empty_is empty (inr none) = (let zero : nat_eq (length p) 0 ≡ true = ap (λ v. nat_eq (length v) 0) none in cc)

@@ -4,9 +4,11 @@ use Rattle.std.proofs.Math.Seq.{drop-nil, drop-append_seam}
 use Rattle.std.proofs.lemmas.Bool.{cases_lt, le-leb, lt-ltb, le-ltb}
 use Rattle.std.proofs.lemmas.Bool.Decides.{nat_tests}
 use Rattle.std.proofs.lemmas.List.{take_all, take-append-le, drop-append-le, length-drop, drop-drop, drop_all}
+use denote.Enum.Bare.{sameb, same_false}
 use Rattle.std.specs.List.{slice_range}
 use Rattle.std.proofs.lemmas.Str.{IsCharBoundary-from_rest}
 use Rattle.std.specs.Str.{IsCharBoundary}
+use Rattle.ansi_items.specs.contracts.ansitok.Kind.{the_type}
 use Rattle.ansi_items.specs.declared.ansitok.Kind.{Kind}
 use Rattle.ansi_items.specs.declared.ansitok.Kind.TheVariants.{Text as TextKind}
 use Rattle.ansi_items.specs.Bytes.{escape, is_plain_byte}
@@ -277,6 +279,10 @@ pub record IsOverMark (kind : Kind) (t w : List ℕ) (at next : ℕ) (old new : 
   pub count : next ≡ at + length w
   pub bytes : take next t ≡ take at t ++ w
 
+-- an item is a range of its text
+pub item_range : {old new : Scan} {item : Item} {t : List ℕ} → Gives old item new → old.text ≡ t → (item.start ≤ item.end) × IsCharBoundary t item.start × IsCharBoundary t item.end
+item_range {item = item} gives same = (omega (arith, gives.forward), subst (λ u. IsCharBoundary u item.start) same gives.start_boundary, subst (λ u. IsCharBoundary u item.end) same gives.end_boundary)
+
 item_count : {old new : Scan} {item : Item} {t w : List ℕ} → Gives old item new → old.text ≡ t → w ≡ slice_range t item.start item.end → new.offset ≡ old.offset + length w
 item_count {item = item} {t = t} gives same is =
     omega (arith, gives.start, gives.end, gives.forward, ap length is, length-slice_range t item.start item.end (omega (arith, gives.forward)) (omega (arith, gives.end_boundary.0, ap length same)))
@@ -297,6 +303,10 @@ over_text {old} {item = item} {t = t} gives same is kind = record {
   count = item_count gives same is;
   bytes = item_bytes t gives is;
 }
+
+-- by the test that the code makes
+pub is_other : {k other : Kind} → false ≡ sameb the_type k other → k ≢ other
+is_other same = same_false the_type _ _ (sym same)
 
 pub over_mark : {old new : Scan} {item : Item} {t w : List ℕ} → Gives old item new → old.text ≡ t → w ≡ slice_range t item.start item.end → item.kind ≢ TextKind
     → IsOverMark item.kind t w old.offset new.offset (pieces_left old) (pieces_left new)
@@ -374,6 +384,12 @@ way-good {t} {n} {passed} {left = left} {w = w} {ps = ps} way over last is = (
 pub way-test : {t : List ℕ} {n passed at left i : ℕ} {start style : Rendition} {w : List ℕ} {old ps : List Piece} {b : Bool} → IsOnTheWay t n start passed left style old → IsOverText t w passed at old ps → left < length w → i ≡ passed + left
     → IsTrue b ↔ IsCharBoundary t i → b ≡ is_good_position (plain t) n
 way-test {t} {i = i} {b = b} way over last is test = (let here = way-good way over last is in boundary_test t i b here.0 test ∙ here.1)
+
+pub way-inside : {t : List ℕ} {n passed at left : ℕ} {start style : Rendition} {w : List ℕ} {old ps : List Piece} → IsOnTheWay t n start passed left style old → IsOverText t w passed at old ps → left < length w
+    → IsTrue (is_good_position (plain t) n) → IsCharBoundary w left
+way-inside {left = left} {w = w} {ps = ps} way over last good =
+    good_is_boundary w left (omega (arith, last))
+    (sym (is_good_position-append w (plain_of ps) left last) ∙ ap (λ qs. is_good_position (plain_of qs) left) (sym over.first) ∙ way.good ∙ good)
 
 pub way-boundary : {t : List ℕ} {n passed at left i : ℕ} {start style : Rendition} {w : List ℕ} {old ps : List Piece} → IsOnTheWay t n start passed left style old → IsOverText t w passed at old ps → left < length w → i ≡ passed + left
     → IsTrue (is_good_position (plain t) n) → IsCharBoundary t i

@@ -96,7 +96,24 @@ good_position_is x n = (
   ],
 )
 
+-- by the test that the code makes of it
+pub position_test : (x : List ℕ) (n : ℕ) {i : ℕ} {b : Bool} → i ≡ min n (length x) → IsTrue b ↔ IsCharBoundary x i → b ≡ is_good_position x n
+position_test x n is test = both_ways _ _ (λ yes. (good_position_is x n).1 (subst (IsCharBoundary x) is (test.0 yes))) (λ good. test.1 (subst (IsCharBoundary x) (sym is) ((good_position_is x n).0 good)))
+
 -- Good ranges.
+
+pub good_range_tests : (x : List ℕ) (s e : ℕ) → s ≤ e → is_good_position x s ≡ true → is_good_position x e ≡ true → is_good_range x s (Some e) ≡ true
+good_range_tests x s e ordered from to = and_from _ _ (le-leb s e ordered) (and_from _ _ from to)
+
+and_false : (b : Bool) → b && false ≡ false
+and_false true = refl
+and_false false = refl
+
+pub is_good_range-bad_start : (x : List ℕ) (s e : ℕ) → is_good_position x s ≡ false → is_good_range x s (Some e) ≡ false
+is_good_range-bad_start x s e bad = ap (λ b. nat_le s e && (b && is_good_position x e)) bad ∙ and_false (nat_le s e)
+
+pub is_good_range-bad_end : (x : List ℕ) (s e : ℕ) → is_good_position x e ≡ false → is_good_range x s (Some e) ≡ false
+is_good_range-bad_end x s e bad = ap (λ b. nat_le s e && (is_good_position x s && b)) bad ∙ ap (λ b. nat_le s e && b) (and_false (is_good_position x s)) ∙ and_false (nat_le s e)
 
 pub good_range_parts : (x : List ℕ) (s e : ℕ) → IsTrue (is_good_range x s (Some e)) → (s ≤ e) × IsTrue (is_good_position x s) × IsTrue (is_good_position x e)
 good_range_parts x s e good =
@@ -120,14 +137,14 @@ pub good_before : (x : List ℕ) (n : ℕ) → IsUtf8 x → IsCharBoundary x n �
 good_before x n utf8 boundary = good_range_from x 0 n (omega arith) (IsCharBoundary-start x utf8) boundary
 
 -- a range without an end is as good as one up to a position past the end
-pub is_good_range-top : (x : List ℕ) (s : ℕ) (end : Option ℕ) (top : ℕ) → s ≤ top → length x ≤ top → is_good_range x s (Some (unwrap_or end top)) ≡ is_good_range x s end
-is_good_range-top x s None top below past =
-    ap₂ (λ a b. a && (is_good_position x s && b)) (le-leb s top below) (is_good_position-past x top past) ∙ and_true (is_good_position x s)
+pub is_good_range-top : (x : List ℕ) (s : ℕ) (end : Option ℕ) {e : ℕ} (top : ℕ) → e ≡ unwrap_or end top → s ≤ top → length x ≤ top → is_good_range x s (Some e) ≡ is_good_range x s end
+is_good_range-top x s None top is below past =
+    ap (λ n. is_good_range x s (Some n)) is ∙ ap₂ (λ a b. a && (is_good_position x s && b)) (le-leb s top below) (is_good_position-past x top past) ∙ and_true (is_good_position x s)
   where
     and_true : (b : Bool) → b && true ≡ b
     and_true true = refl
     and_true false = refl
-is_good_range-top x s (Some e) top below past = refl
+is_good_range-top x s (Some n) top is below past = ap (λ n. is_good_range x s (Some n)) is
 
 -- a range is good where its ends are, in order
 pub good_range_is : (x : List ℕ) (s e : ℕ) → IsTrue (is_good_range x s (Some e)) ↔ ((s ≤ e) × IsCharBoundary x (min s (length x)) × IsCharBoundary x (min e (length x)))

@@ -2,6 +2,7 @@
 use Rattle.std.proofs.Common.{◌≡◌, ℕ, ◌+◌, ◌-◌, ◌<◌, ◌≤◌, inl, inr, true, List, [], ◌∷◌, ◌++◌, length, take, drop, sym, ◌∙◌, refl, ap, ap₂, arith, append_assoc, append-nil, length-append, if◌then◌else◌}
 use Rattle.std.proofs.lemmas.Bool.{cases_lt, le-leb, lt-leb, lt-ltb, le-ltb}
 use Rattle.std.proofs.lemmas.List.{take_all, drop_all, length-drop}
+use Rattle.std.specs.List.{slice_range}
 use Rattle.ansi_items.specs.declared.ansitok.Kind.{Kind}
 use Rattle.ansi_items.specs.Pieces.{Piece, Text, Sequence, LoneEscape, spelling, pieces_of}
 use Rattle.ansi_items.specs.Plain.{plain_of, copied}
@@ -139,3 +140,16 @@ side-mark {whole} {written} {new} {style} {next} {n} {kind} {w} {left} {ps} so_f
     = ap (side_up_to style n) begins.pieces ∙ side_up_to-mark begins.mark style n ps begins.is_mark
     ∙ ap (λ v. copied (Sequence v) ++ side_up_to (apply style v) n ps) begins.bytes in
     rw (more, applied) (record { side = append_assoc written (copied (Sequence w)) (side_up_to (apply style w) n ps) ∙ ap (λ v. written ++ v) (sym here) ∙ so_far.side })
+
+-- the place stands in the text that comes next, or nothing is left
+
+pub side-last : {whole written new : List ℕ} {style : Rendition} {n : ℕ} {w v : List ℕ} {left ps : List Piece} → IsSideSoFar whole written style n left → left ≡ Text w ∷ ps → n < length w
+    → v ≡ slice_range w 0 n → new ≡ written ++ dressed style v → new ≡ whole
+side-last {written = written} {style = style} {n} {w} {ps = ps} so_far first last front more =
+    let all : n - 0 ≡ n = omega arith in
+    more
+    ∙ ap (λ u. written ++ dressed style u) (front ∙ ap (λ k. take k w) all)
+    ∙ ap (λ u. written ++ u) (sym (ap (side_up_to style n) first ∙ side_up_to-last style n w ps last)) ∙ so_far.side
+
+pub side-end : {whole written : List ℕ} {style : Rendition} {n : ℕ} {left : List Piece} → IsSideSoFar whole written style n left → left ≡ [] → written ≡ whole
+side-end {written = written} {style = style} {n} so_far none = sym (append-nil written) ∙ ap (λ ps. written ++ side_up_to style n ps) (sym none) ∙ so_far.side

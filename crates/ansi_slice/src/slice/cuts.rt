@@ -65,15 +65,15 @@ pub fn get_in<'t, A: Allocator>(
     // No position of a text lies past this one, so it stands for no end.
     let end = end.unwrap_or(usize::MAX);
     if !has_any(text) {
-        return match range_of(text, start, end) {
-            Some(range) => Ok(Some(CowStr::Borrowed(range))),
-            None => Ok(None),
+        let Some(range) = range_of(text, start, end) else {
+            return Ok(None);
         };
+        return Ok(Some(CowStr::Borrowed(range)));
     }
-    match cut_up_to(alloc, text, start, end)? {
-        Some(cut) => Ok(Some(CowStr::Owned(cut))),
-        None => Ok(None),
-    }
+    let Some(cut) = cut_up_to(alloc, text, start, end)? else {
+        return Ok(None);
+    };
+    Ok(Some(CowStr::Owned(cut)))
 }
 
 /// The bytes of a text in a range, or `None` where that is bad. A position past the end counts as the

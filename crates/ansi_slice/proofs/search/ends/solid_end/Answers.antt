@@ -1,9 +1,12 @@
-use Rattle.std.proofs.Common.{rules, ◌≡◌, refl, sym, ◌∙◌, ap, arith}
+use Rattle.std.proofs.Common.{◌≡◌, refl, sym, ◌∙◌, ap, arith}
 use Rattle.std.proofs.lemmas.Bool.{eqb-true, eqb-false}
 use Rattle.ansi_items.proofs.StepLemmas.{is_text}
-use Rattle.ansi_slice.proofs.OffsetLemmas.{over_text, over_mark}
+use Rattle.ansi_slice.proofs.OffsetLemmas.{item_range, over_text, over_mark, is_other}
 use Rattle.ansi_slice.proofs.TrimWalkLemmas.{solid-begin, solid-white, solid-other, solid-mark, solid-end}
 use Rattle.ansi_slice.proofs.search.ends.solid_end.Goals as goal
+
+pub range-run-requires : goal.range-run-requires
+range-run-requires c = (let range = item_range c.in-Some.ensures.steps c.loop-item.invariant.text in record { start_le_end = range.0; start_boundary = λ _. range.1; end_boundary = range.2 })
 
 pub loop-item-init : goal.loop-item-init
 loop-item-init c =
@@ -41,7 +44,7 @@ loop-item-preserved c =
     let gives = c.in-Some.ensures.steps in
     record {
       text = gives.text ∙ c.loop-item.invariant.text;
-      so_far = solid-mark c.loop-item.invariant.so_far (over_mark gives c.loop-item.invariant.text refl (search rules));
+      so_far = solid-mark c.loop-item.invariant.so_far (over_mark gives c.loop-item.invariant.text refl (is_other c.if-eq.ensures));
     }
 
 pub returns : goal.returns

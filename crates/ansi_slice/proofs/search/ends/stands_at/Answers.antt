@@ -4,7 +4,11 @@ use Rattle.ansi_items.specs.Scans.{pieces_left}
 use Rattle.ansi_slice.proofs.SliceLemmas.{slice_range-past, slice_range-rest}
 use Rattle.ansi_items.proofs.StepLemmas.{is_text, gives_text}
 use Rattle.ansi_slice.proofs.EndLemmas.{met-last, met-apart, met-more, met-end}
+use Rattle.ansi_slice.proofs.OffsetLemmas.{item_range}
 use Rattle.ansi_slice.proofs.search.ends.stands_at.Goals as goal
+
+pub range-requires : goal.range-requires
+range-requires c = (let range = item_range c.in-Some.ensures.steps c.loop-item.invariant.text in record { start_le_end = range.0; start_boundary = λ _. range.1; end_boundary = range.2 })
 
 -- over a run that is no shorter than what is left of the pattern
 pub returns-then-rest-run : goal.returns-then-rest-run

@@ -1,13 +1,16 @@
-use Rattle.std.proofs.Common.{rules, ◌≡◌, length, refl, sym, ◌∙◌, ap, subst, arith, drop, nat_eq, true, ◌-◌, IsTrue}
+use Rattle.std.proofs.Common.{◌≡◌, length, refl, sym, ◌∙◌, ap, subst, arith, drop, nat_eq, true, ◌-◌, IsTrue}
 use Rattle.std.specs.List.{starts_with}
 use Rattle.ansi_items.specs.Plain.{plain}
 use Rattle.ansi_items.proofs.StepLemmas.{is_text}
 use Rattle.ansi_slice.specs.Positions.{is_good_position}
 use Rattle.ansi_slice.specs.Offsets.{StandsIn}
-use Rattle.ansi_slice.proofs.OffsetLemmas.{over_text, over_mark}
+use Rattle.ansi_slice.proofs.OffsetLemmas.{item_range, over_text, over_mark, is_other}
 use Rattle.ansi_slice.proofs.EndLemmas.{tail-begin, tail-run, tail-text, tail-mark, tail-starts, tail-good, tail-keeps}
 use Rattle.ansi_slice.proofs.search.ends.suffix_offset.Goals as goal
 use Rattle.ansi_slice.proofs.search.ends.suffix_offset.Goals.{then-pat-run, else-pat-run}
+
+pub range-run-requires : goal.range-run-requires
+range-run-requires c = (let range = item_range c.in-Some.ensures.steps c.loop-item.invariant.text in record { start_le_end = range.0; start_boundary = λ _. range.1; end_boundary = range.2 })
 
 pub loop-item-init : goal.loop-item-init
 loop-item-init c =
@@ -43,7 +46,7 @@ loop-item-preserved c =
     record {
       text = gives.text ∙ c.loop-item.invariant.text;
       fits = omega (arith, c.loop-item.invariant.fits, gives.start, gives.end, gives.forward);
-      so_far = tail-mark c.loop-item.invariant.so_far (over_mark gives c.loop-item.invariant.text refl (search rules));
+      so_far = tail-mark c.loop-item.invariant.so_far (over_mark gives c.loop-item.invariant.text refl (is_other c.if-eq.ensures));
     }
 
 pub range_from-rest-requires : goal.range_from-rest-requires

@@ -5,7 +5,11 @@ use Rattle.ansi_items.specs.Plain.{plain, plain_of}
 use Rattle.ansi_items.specs.Scans.{pieces_left}
 use Rattle.ansi_items.proofs.StepLemmas.{is_text, gives_text}
 use Rattle.ansi_slice.proofs.MatchLemmas.{first_match_in, no_match_in, first_empty, empty_at_end, none_at_end}
+use Rattle.ansi_slice.proofs.OffsetLemmas.{item_range}
 use Rattle.ansi_slice.proofs.search.matches.boundary_from.Goals as goal
+
+pub range-run-requires : goal.range-run-requires
+range-run-requires c = (let range = item_range c.in-Some.ensures.steps c.loop-item.invariant.text in record { start_le_end = range.0; start_boundary = λ _. range.1; end_boundary = range.2 })
 
 -- a character begins in the run
 pub returns-in-Some-first_in_run : goal.returns-in-Some-first_in_run

@@ -1,4 +1,4 @@
-use Rattle.std.proofs.Common.{rules, ◌≡◌, ◌++◌, ◌∷◌, ◌+◌, ◌-◌, ◌≤◌, ◌<◌, ℕ, List, [], Some, take, drop, length, min, refl, sym, ◌∙◌, ap, subst, arith}
+use Rattle.std.proofs.Common.{◌≡◌, ◌++◌, ◌∷◌, ◌+◌, ◌-◌, ◌≤◌, ◌<◌, ℕ, List, [], Some, take, drop, length, min, refl, sym, ◌∙◌, ap, subst, arith}
 use Rattle.std.proofs.lemmas.List.{drop_at, drop-drop, length-append, length-drop}
 use Rattle.std.specs.List.{slice_range}
 use Rattle.ansi_items.specs.declared.ansitok.Item.{Item}
@@ -9,6 +9,7 @@ use Rattle.ansi_items.specs.Scans.{Scan, Gives, pieces_left}
 use Rattle.ansi_slice.specs.Searches.{IsRead, IsMatched, BeginsNowhere}
 use Rattle.ansi_items.proofs.StepLemmas.{BeginsWithMark, is_text, gives_text, gives_mark, gives_rest, plain_of-mark}
 use Rattle.ansi_slice.proofs.SliceLemmas.{length-slice_range}
+use Rattle.ansi_slice.proofs.OffsetLemmas.{is_other}
 use Rattle.ansi_slice.proofs.BorderLemmas.{follows, read-none, matched-first}
 use Rattle.ansi_slice.proofs.search.matches.find_across.Goals as goal
 
@@ -22,13 +23,14 @@ run_is {old} {new} {item} {t} x place gives same kind left =
     sym left ∙ ap plain_of run ∙ ap (λ v. w ++ v) (sym rest)
 
 -- and from a position on, what is left of the run
-from_here : (x t y : List ℕ) (from place d start end : ℕ) → drop place x ≡ slice_range t start end ++ y → d ≡ min (from - place) (end - start) → start < end → end ≤ length t
-    → start + d < end → drop (place - from) (drop from x) ≡ drop (start + d) (take end t ++ y)
-from_here x t y from place d start end is distance forward fits some =
-    let z = take end t ++ y in
-    let same : from + (place - from) ≡ place + d = omega (arith, distance, some) in
-    drop-drop (place - from) from x ∙ ap (λ n. drop n x) same ∙ sym (drop-drop d place x)
-    ∙ ap (drop d) (is ∙ sym (follows t y start end (omega (arith, forward)) fits)) ∙ drop-drop d start z
+from_here : {old new : Scan} {item : Item} {t : List ℕ} (x : List ℕ) (from place d : ℕ) → Gives old item new → old.text ≡ t → item.kind ≡ TextKind → plain_of (pieces_left old) ≡ drop place x
+    → d ≡ min (from - place) (item.end - item.start) → item.start + d < item.end → drop (place - from) (drop from x) ≡ drop (item.start + d) (take item.end t ++ plain (drop item.end t))
+from_here {item = item} {t} x from place d gives same kind left distance some =
+    let y = plain (drop item.end t) in
+    let sum : from + (place - from) ≡ place + d = omega (arith, distance, some) in
+    drop-drop (place - from) from x ∙ ap (λ n. drop n x) sum ∙ sym (drop-drop d place x)
+    ∙ ap (drop d) (run_is x place gives same kind left ∙ sym (follows t y item.start item.end (omega (arith, gives.forward)) (omega (arith, gives.end_boundary.0, ap length same))))
+    ∙ drop-drop d item.start (take item.end t ++ y)
 
 pub read-requires-clause-known : goal.read-requires-clause-known
 read-requires-clause-known c j low high is =
@@ -46,39 +48,30 @@ overflow_add-after c =
 pub overflow_sub-result : goal.overflow_sub-result
 overflow_sub-result c =
     let x = plain c.args.text.now in
-    let t = c.args.text.now in
     let front = c.new-pattern.result.front.now in
     let tail = c.new-pattern.result.tail.now in
     let steps = c.in-Some.ensures.steps in
     let so_far = c.loop-item.invariant in
     let item = c.in-Some.item in
     let place = c.loop-item.place in
-    let y = plain (drop item.end t) in
-    let is : drop place x ≡ slice_range t item.start item.end ++ y = run_is x place steps so_far.text (is_text c.if-eq.ensures) so_far.left in
-    let fits : item.end ≤ length t = omega (arith, steps.end_boundary.0, ap length so_far.text) in
     let skipped : c.min.result ≡ min (c.args.from - place) (item.end - item.start) = omega (arith, c.min.ensures, c.saturating_sub.ensures) in
     let from = item.start + c.min.result in
-    let here : from < item.end → drop (place - c.args.from) (drop c.args.from x) ≡ drop from (take item.end t ++ y) = from_here x t y c.args.from place c.min.result item.start item.end is skipped steps.forward fits in
-    let stops = c.in-Match.ensures.stops in
+    let here = from_here x c.args.from place c.min.result steps so_far.text (is_text c.if-eq.ensures) so_far.left skipped in
     let met : IsMatched (drop c.args.from x) front tail (place - c.args.from + (c.in-Match.end - from)) = c.in-Match.ensures.read (drop c.args.from x) (place - c.args.from) so_far.read here in
-    omega (arith, met.fits, stops.0, skipped, c.front_len.ensures)
+    omega (arith, met.fits, c.in-Match.ensures.stops.0, skipped, c.front_len.ensures)
 
 pub returns-in-Match : goal.returns-in-Match
 returns-in-Match c =
     let x = plain c.args.text.now in
-    let t = c.args.text.now in
     let front = c.new-pattern.result.front.now in
     let tail = c.new-pattern.result.tail.now in
     let steps = c.in-Some.ensures.steps in
     let so_far = c.loop-item.invariant in
     let item = c.in-Some.item in
     let place = c.loop-item.place in
-    let y = plain (drop item.end t) in
-    let is : drop place x ≡ slice_range t item.start item.end ++ y = run_is x place steps so_far.text (is_text c.if-eq.ensures) so_far.left in
-    let fits : item.end ≤ length t = omega (arith, steps.end_boundary.0, ap length so_far.text) in
     let skipped : c.min.result ≡ min (c.args.from - place) (item.end - item.start) = omega (arith, c.min.ensures, c.saturating_sub.ensures) in
     let from = item.start + c.min.result in
-    let here : from < item.end → drop (place - c.args.from) (drop c.args.from x) ≡ drop from (take item.end t ++ y) = from_here x t y c.args.from place c.min.result item.start item.end is skipped steps.forward fits in
+    let here = from_here x c.args.from place c.min.result steps so_far.text (is_text c.if-eq.ensures) so_far.left skipped in
     let stops = c.in-Match.ensures.stops in
     let met : IsMatched (drop c.args.from x) front tail (place - c.args.from + (c.in-Match.end - from)) = c.in-Match.ensures.read (drop c.args.from x) (place - c.args.from) so_far.read here in
     let e = place - c.args.from + (c.in-Match.end - from) in
@@ -102,7 +95,7 @@ loop-item-preserved-then-eq c =
     let fits : item.end ≤ length t = omega (arith, steps.end_boundary.0, ap length so_far.text) in
     let skipped : c.min.result ≡ min (c.args.from - place) (item.end - item.start) = omega (arith, c.min.ensures, c.saturating_sub.ensures) in
     let from = item.start + c.min.result in
-    let here : from < item.end → drop (place - c.args.from) (drop c.args.from x) ≡ drop from (take item.end t ++ y) = from_here x t y c.args.from place c.min.result item.start item.end is skipped steps.forward fits in
+    let here = from_here x c.args.from place c.min.result steps so_far.text (is_text c.if-eq.ensures) so_far.left skipped in
     let w = slice_range t item.start item.end in
     let len = item.end - item.start in
     let after : y ≡ plain_of (pieces_left c.next.new.self) = ap plain_of (gives_rest steps so_far.text refl) in
@@ -126,7 +119,7 @@ loop-item-preserved c =
     let steps = c.in-Some.ensures.steps in
     let item = c.in-Some.item in
     let so_far = c.loop-item.invariant in
-    let mark : BeginsWithMark item.kind (slice_range c.args.text.now item.start item.end) (pieces_left c.loop-item.item-iterator) (pieces_left c.next.new.self) = gives_mark steps so_far.text refl (search rules) in
+    let mark : BeginsWithMark item.kind (slice_range c.args.text.now item.start item.end) (pieces_left c.loop-item.item-iterator) (pieces_left c.next.new.self) = gives_mark steps so_far.text refl (is_other c.if-eq.ensures) in
     record {
       text = steps.text ∙ so_far.text;
       left = sym (ap plain_of mark.pieces ∙ plain_of-mark mark.mark (pieces_left c.next.new.self) mark.is_mark) ∙ so_far.left;

@@ -1,11 +1,13 @@
-use Rattle.std.proofs.Common.{rules, ◌≡◌, ◌+◌, ◌≢◌, length, refl, sym, ◌∙◌, ap}
+use Rattle.std.proofs.Common.{◌≡◌, ◌+◌, length, refl, sym, ◌∙◌, ap}
 use Rattle.std.proofs.lemmas.Str.{IsCharBoundary-end}
-use Rattle.ansi_items.specs.declared.ansitok.Kind.TheVariants.{Sgr}
 use Rattle.ansi_items.proofs.StepLemmas.{is_text}
 use Rattle.ansi_style.specs.States.{rendition_of}
 use Rattle.ansi_style.proofs.SgrLemmas.{apply-no_sgr}
-use Rattle.ansi_slice.proofs.OffsetLemmas.{over_text, over_mark, way-begin, way-text, way-mark, way-last, way-end, way-test}
+use Rattle.ansi_slice.proofs.OffsetLemmas.{item_range, over_text, over_mark, is_other, way-begin, way-text, way-mark, way-last, way-end, way-test}
 use Rattle.ansi_slice.proofs.search.offsets.walk_to.Goals as goal
+
+pub range-piece-requires : goal.range-piece-requires
+range-piece-requires c = (let range = item_range c.in-Some.ensures.steps c.loop-item.invariant.text in record { start_le_end = range.0; start_boundary = λ _. range.1; end_boundary = range.2 })
 
 pub loop-item-init : goal.loop-item-init
 loop-item-init c =
@@ -29,7 +31,7 @@ loop-item-preserved-then-eq c =
 pub loop-item-preserved-then-eq-2 : goal.loop-item-preserved-then-eq-2
 loop-item-preserved-then-eq-2 c =
     let gives = c.in-Some.ensures.steps in
-    let over = over_mark gives c.loop-item.invariant.text c.range-piece.ensures.value (search rules) in
+    let over = over_mark gives c.loop-item.invariant.text c.range-piece.ensures.value (is_other c.if-eq.ensures) in
     record {
       text = gives.text ∙ c.loop-item.invariant.text;
       way = way-mark c.loop-item.invariant.way over c.apply.ensures;
@@ -40,11 +42,10 @@ pub loop-item-preserved : goal.loop-item-preserved
 loop-item-preserved c =
     let w = c.range-piece.result.now in
     let gives = c.in-Some.ensures.steps in
-    let over = over_mark gives c.loop-item.invariant.text c.range-piece.ensures.value (search rules) in
-    let other : c.in-Some.item.kind ≢ Sgr = search rules in
+    let over = over_mark gives c.loop-item.invariant.text c.range-piece.ensures.value (is_other c.if-eq.ensures) in
     record {
       text = gives.text ∙ c.loop-item.invariant.text;
-      way = way-mark c.loop-item.invariant.way over (sym (apply-no_sgr _ w (over.first.no_sgr other)));
+      way = way-mark c.loop-item.invariant.way over (sym (apply-no_sgr _ w (over.first.no_sgr (is_other c.if-eq-2.ensures))));
     }
 
 -- the position stands in a text, at a boundary or not

@@ -11,7 +11,7 @@ use Rattle.ansi_slice.proofs.PositionLemmas.{boundary_is_good, none_if_bad, some
 use Rattle.ansi_slice.proofs.OffsetLemmas.{kept-rest}
 use Rattle.ansi_slice.proofs.EndLemmas.{starts_with-boundary}
 use Rattle.ansi_slice.proofs.SliceLemmas.{slice_range-past}
-use Rattle.ansi_slice.proofs.KeptWalkLemmas.{kept-all, kept-bare}
+use Rattle.ansi_slice.proofs.KeptWalkLemmas.{kept-all, kept-bare, not_lent}
 use Rattle.ansi_slice.proofs.slice.kept.strip_prefix_in.Goals as goal
 
 -- without an empty prefix all is kept
@@ -64,7 +64,7 @@ returns-then-not-has_any-clause-bytes g c =
     c.range_from.ensures.value ∙ sym (kept-bare t n (length (plain t)) none ∙ slice_range-past t n (length (plain t)) (omega (arith, ap length (plain-bare t none))))
 
 pub returns-clause-borrowed : goal.returns-clause-borrowed
-returns-clause-borrowed g c = grind (arith, common_steps)
+returns-clause-borrowed g c = (λ owned. absurd owned, λ either. absurd (not_lent c.args.text.now c.args.prefix.now c.has_any.ensures c.if-not-has_any.false c.is_empty.ensures c.if-is_empty.false either))
 
 pub returns-in_err-with_sequences-clause-takes_no_memory : goal.returns-in_err-with_sequences-clause-takes_no_memory
 returns-in_err-with_sequences-clause-takes_no_memory g c = grind (arith, common_steps)

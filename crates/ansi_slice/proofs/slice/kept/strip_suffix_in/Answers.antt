@@ -7,7 +7,7 @@ use Rattle.ansi_slice.specs.Kept.{kept}
 use Rattle.ansi_items.proofs.PlainLemmas.{plain-bare}
 use Rattle.ansi_slice.proofs.PositionLemmas.{none_if_bad, some_if_good}
 use Rattle.ansi_slice.proofs.EndLemmas.{ends_with-boundary}
-use Rattle.ansi_slice.proofs.KeptWalkLemmas.{kept-all, kept-bare}
+use Rattle.ansi_slice.proofs.KeptWalkLemmas.{kept-all, kept-bare, not_lent}
 use Rattle.ansi_slice.proofs.slice.kept.strip_suffix_in.Goals as goal
 
 -- without an empty suffix all is kept
@@ -46,7 +46,7 @@ returns-then-not-has_any-clause-bytes g c =
     c.range.ensures.value ∙ sym (kept-bare t 0 (length (plain t) - n) none ∙ ap (λ x. slice_range t 0 (length x - n)) (plain-bare t none))
 
 pub returns-clause-borrowed : goal.returns-clause-borrowed
-returns-clause-borrowed g c = grind (arith, common_steps)
+returns-clause-borrowed g c = (λ owned. absurd owned, λ either. absurd (not_lent c.args.text.now c.args.suffix.now c.has_any.ensures c.if-not-has_any.false c.is_empty.ensures c.if-is_empty.false either))
 
 pub returns-in_err-kept-clause-takes_no_memory : goal.returns-in_err-kept-clause-takes_no_memory
 returns-in_err-kept-clause-takes_no_memory g c = grind (arith, common_steps)

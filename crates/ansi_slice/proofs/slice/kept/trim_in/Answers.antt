@@ -1,4 +1,4 @@
-use Rattle.std.proofs.Common.{◌++◌, take, drop, sym, ◌∙◌, ap, IsTrue, IsFalse, subst}
+use Rattle.std.proofs.Common.{◌++◌, take, drop, sym, ◌∙◌, ap, IsTrue, IsFalse, refl, subst}
 use Rattle.std.specs.List.{slice_range}
 use Rattle.ansi_items.specs.Pieces.{pieces_of}
 use Rattle.ansi_items.specs.Plain.{plain, has_escape}
@@ -21,6 +21,12 @@ returns-then-not-has_any-clause-bytes g c =
     let i = trim_interval (plain t) in
     c.trim.ensures.trim
     ∙ sym (kept-bare t i.0 i.1 none ∙ ap (λ x. slice_range t (trim_interval x).0 (trim_interval x).1) (plain-bare t none) ∙ slice_range-trim_interval t c.utf8.text)
+
+pub returns-then-not-has_any-clause-borrowed : goal.returns-then-not-has_any-clause-borrowed
+returns-then-not-has_any-clause-borrowed g c = (λ _. sym c.has_any.ensures ∙ c.if-not-has_any.true, λ _. tt)
+
+pub returns-then-not-has_any-clause-takes_no_memory : goal.returns-then-not-has_any-clause-takes_no_memory
+returns-then-not-has_any-clause-takes_no_memory g c = λ _. refl
 
 -- a character begins after the white space at the front, or it is all
 pub offset_at-requires : goal.offset_at-requires

@@ -1,9 +1,12 @@
-use Rattle.std.proofs.Common.{rules, ◌≡◌, ◌∷◌, refl, ◌∙◌, ap, string_bytes}
+use Rattle.std.proofs.Common.{◌≡◌, ◌∷◌, refl, ◌∙◌, ap, string_bytes}
 use Rattle.ansi_items.specs.Pieces.{Text}
 use Rattle.ansi_items.specs.Scans.{pieces_left}
 use Rattle.ansi_items.proofs.StepLemmas.{BeginsWithMark, is_text, gives_text, gives_mark}
-use Rattle.ansi_slice.proofs.OffsetLemmas.{pushed-begin, pushed-text, pushed-mark}
+use Rattle.ansi_slice.proofs.OffsetLemmas.{item_range, is_other, pushed-begin, pushed-text, pushed-mark}
 use Rattle.ansi_slice.proofs.slice.sequences.push_sequences.Goals as goal
+
+pub range-piece-requires : goal.range-piece-requires
+range-piece-requires g c = (let range = item_range c.in-Some.ensures.steps c.loop-item.invariant.text in record { start_le_end = range.0; start_boundary = λ _. range.1; end_boundary = range.2 })
 
 pub loop-item-init : goal.loop-item-init
 loop-item-init g c =
@@ -21,5 +24,5 @@ loop-item-preserved-then-eq g c =
 pub loop-item-preserved : goal.loop-item-preserved
 loop-item-preserved g c =
     let gives = c.in-Some.ensures.steps in
-    let mark : BeginsWithMark c.in-Some.item.kind c.range-piece.result.now (pieces_left c.loop-item.item-iterator) (pieces_left c.next.new.self) = gives_mark gives c.loop-item.invariant.text c.range-piece.ensures.value (search rules) in
+    let mark : BeginsWithMark c.in-Some.item.kind c.range-piece.result.now (pieces_left c.loop-item.item-iterator) (pieces_left c.next.new.self) = gives_mark gives c.loop-item.invariant.text c.range-piece.ensures.value (is_other c.if-eq.ensures) in
     record { text = gives.text ∙ c.loop-item.invariant.text; so_far = pushed-mark c.loop-item.invariant.so_far mark c.in_ok-push_str.ensures.bytes }

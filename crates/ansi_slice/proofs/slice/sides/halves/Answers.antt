@@ -1,5 +1,5 @@
-use Rattle.std.proofs.Common.{arith, ◌≡◌, take, drop, sym, ◌∙◌, subst, IsTrue}
-use Rattle.std.proofs.lemmas.Grind.{common_steps}
+use Rattle.std.proofs.Common.{take, drop, sym, ◌∙◌, ap, subst, IsTrue}
+use Rattle.std.proofs.lemmas.List.{take_min, drop_min}
 use Rattle.std.specs.Str.{IsCharBoundary}
 use Rattle.ansi_items.proofs.PlainLemmas.{plain-bare}
 use Rattle.ansi_slice.specs.Positions.{is_good_position}
@@ -17,11 +17,9 @@ split_at-requires c =
 pub returns-clause-left : goal.returns-clause-left
 returns-clause-left c =
     let t = c.args.text.now in
-    let is : c.split_at.result.0.now ≡ take c.args.mid t = grind (arith, common_steps) in
-    is ∙ sym (left_side-bare t c.args.mid c.requires.bare)
+    c.split_at.ensures.front ∙ ap (λ n. take n t) c.min.ensures ∙ take_min c.args.mid t ∙ sym (left_side-bare t c.args.mid c.requires.bare)
 
 pub returns-clause-right : goal.returns-clause-right
 returns-clause-right c =
     let t = c.args.text.now in
-    let is : c.split_at.result.1.now ≡ drop c.args.mid t = grind (arith, common_steps) in
-    is ∙ sym (right_side-bare t c.args.mid c.requires.bare)
+    c.split_at.ensures.back ∙ ap (λ n. drop n t) c.min.ensures ∙ drop_min c.args.mid t ∙ sym (right_side-bare t c.args.mid c.requires.bare)

@@ -1,10 +1,26 @@
-use Rattle.std.proofs.Common.{◌++◌, sym, ◌∙◌, ap, ap₂, arith, length}
+use Rattle.std.proofs.Common.{◌++◌, refl, sym, ◌∙◌, ap, ap₂, arith, length}
 use Rattle.ansi_items.specs.Pieces.{pieces_of}
 use Rattle.ansi_style.specs.Reading.{style_within}
 use Rattle.ansi_slice.specs.Sides.{side_up_to}
 use Rattle.ansi_slice.proofs.SideWalkLemmas.{left_side-is, right_side-is}
 use Rattle.ansi_slice.proofs.LengthLemmas.{length-sides}
 use Rattle.ansi_slice.proofs.slice.sides.split_at_in.Goals as goal
+
+-- the sides of a text without ESC are slices
+
+pub returns-then-not-has_any-clause-left : goal.returns-then-not-has_any-clause-left
+returns-then-not-has_any-clause-left g c = c.halves.ensures.left
+
+pub returns-then-not-has_any-clause-right : goal.returns-then-not-has_any-clause-right
+returns-then-not-has_any-clause-right g c = c.halves.ensures.right
+
+pub returns-then-not-has_any-clause-borrowed : goal.returns-then-not-has_any-clause-borrowed
+returns-then-not-has_any-clause-borrowed g c =
+    let none = sym c.has_any.ensures ∙ c.if-not-has_any.true in
+    ((λ _. none, λ _. tt), (λ _. none, λ _. tt))
+
+pub returns-then-not-has_any-clause-takes_no_memory : goal.returns-then-not-has_any-clause-takes_no_memory
+returns-then-not-has_any-clause-takes_no_memory g c = λ _. refl
 
 -- both sides have their text, and a start and a close for each text item and for the one that is divided
 

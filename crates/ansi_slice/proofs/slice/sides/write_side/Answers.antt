@@ -1,9 +1,13 @@
-use Rattle.std.proofs.Common.{rules, ◌≡◌, ◌+◌, refl, ◌∙◌, ap, string_bytes}
+use Rattle.std.proofs.Common.{◌≡◌, ◌+◌, length, refl, sym, ◌∙◌, ap, string_bytes}
+use Rattle.std.proofs.lemmas.Str.{IsCharBoundary-end}
 use Rattle.ansi_items.proofs.StepLemmas.{is_text, gives_mark}
 use Rattle.ansi_style.specs.States.{rendition_of}
-use Rattle.ansi_slice.proofs.OffsetLemmas.{over_text, over_mark, way-begin, way-text, way-mark, way-last, way-boundary}
-use Rattle.ansi_slice.proofs.SideWalkLemmas.{side-begin, side-text, side-mark}
+use Rattle.ansi_slice.proofs.OffsetLemmas.{item_range, over_text, over_mark, is_other, way-begin, way-text, way-mark, way-last, way-inside, way-end, way-boundary}
+use Rattle.ansi_slice.proofs.SideWalkLemmas.{side-begin, side-text, side-mark, side-last, side-end}
 use Rattle.ansi_slice.proofs.slice.sides.write_side.Goals as goal
+
+pub range-piece-requires : goal.range-piece-requires
+range-piece-requires g c = (let range = item_range c.in-Some.ensures.steps c.loop-item.invariant.text in record { start_le_end = range.0; start_boundary = λ _. range.1; end_boundary = range.2 })
 
 pub loop-item-init : goal.loop-item-init
 loop-item-init g c =
@@ -28,15 +32,15 @@ loop-item-preserved-then-eq g c =
 -- over a mark
 
 pub write_mark-requires-clause-sgr : goal.write_mark-requires-clause-sgr
-write_mark-requires-clause-sgr g c = (gives_mark c.in-Some.ensures.steps c.loop-item.invariant.text c.range-piece.ensures.value (search rules)).sgr
+write_mark-requires-clause-sgr g c = (gives_mark c.in-Some.ensures.steps c.loop-item.invariant.text c.range-piece.ensures.value (is_other c.if-eq.ensures)).sgr
 
 pub write_mark-requires-clause-no_sgr : goal.write_mark-requires-clause-no_sgr
-write_mark-requires-clause-no_sgr g c = (gives_mark c.in-Some.ensures.steps c.loop-item.invariant.text c.range-piece.ensures.value (search rules)).no_sgr
+write_mark-requires-clause-no_sgr g c = (gives_mark c.in-Some.ensures.steps c.loop-item.invariant.text c.range-piece.ensures.value (is_other c.if-eq.ensures)).no_sgr
 
 pub loop-item-preserved : goal.loop-item-preserved
 loop-item-preserved g c =
     let gives = c.in-Some.ensures.steps in
-    let over = over_mark gives c.loop-item.invariant.text c.range-piece.ensures.value (search rules) in
+    let over = over_mark gives c.loop-item.invariant.text c.range-piece.ensures.value (is_other c.if-eq.ensures) in
     record {
       text = gives.text ∙ c.loop-item.invariant.text;
       way = way-mark c.loop-item.invariant.way over c.write_mark.ensures.style;
@@ -44,6 +48,17 @@ loop-item-preserved g c =
     }
 
 -- the position stands in a text
+
+pub range-requires-clause-end_boundary : goal.range-requires-clause-end_boundary
+range-requires-clause-end_boundary g c =
+    let over = over_text c.in-Some.ensures.steps c.loop-item.invariant.text c.range-piece.ensures.value (is_text c.if-eq.ensures) in
+    way-inside c.loop-item.invariant.way over c.if-remaining-piece.true c.requires
+
+pub returns-then-remaining-piece-clause-bytes : goal.returns-then-remaining-piece-clause-bytes
+returns-then-remaining-piece-clause-bytes g c =
+    let over = over_text c.in-Some.ensures.steps c.loop-item.invariant.text c.range-piece.ensures.value (is_text c.if-eq.ensures) in
+    side-last c.loop-item.invariant.so_far over.first c.if-remaining-piece.true c.range.ensures.value c.in_ok-write_dressed.ensures
+
 pub returns-then-remaining-piece-clause-style : goal.returns-then-remaining-piece-clause-style
 returns-then-remaining-piece-clause-style g c =
     let over = over_text c.in-Some.ensures.steps c.loop-item.invariant.text c.range-piece.ensures.value (is_text c.if-eq.ensures) in
@@ -59,3 +74,20 @@ returns-then-remaining-piece-clause-offset g c =
       offset = at ∙ (way-last c.loop-item.invariant.way over c.if-remaining-piece.true).0;
       boundary = way-boundary c.loop-item.invariant.way over c.if-remaining-piece.true at c.requires;
     }
+
+-- nothing is left
+
+pub returns-clause-bytes : goal.returns-clause-bytes
+returns-clause-bytes g c = side-end c.loop-item.invariant.so_far c.in-None.ensures.steps.2
+
+pub returns-clause-offset : goal.returns-clause-offset
+returns-clause-offset g c =
+    let end = c.in-None.ensures.steps in
+    record {
+      good = c.requires;
+      offset = sym (end.1 ∙ ap length c.loop-item.invariant.text) ∙ (way-end c.loop-item.invariant.way end.2).0;
+      boundary = IsCharBoundary-end c.args.text.now;
+    }
+
+pub returns-clause-style : goal.returns-clause-style
+returns-clause-style g c = (way-end c.loop-item.invariant.way c.in-None.ensures.steps.2).2
