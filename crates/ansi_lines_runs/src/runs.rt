@@ -1,5 +1,5 @@
 //! A run of the program, over any devices.
-ghost use Rattle.std.specs.Prelude.{◌≡◌, ◌≤◌, ◌+◌, ◌⊎◌, false, true, IfErr, IfOk, IfSome, IsErrOf, IsNone, IsSome, OnOk};
+ghost use Rattle.std.specs.Prelude.{◌≡◌, ◌≤◌, ◌+◌, ◌⊎◌, false, true, IfErr, IfOk, IfSome, IsErr, IsErrOf, IsNone, IsOk, IsSome, OnOk};
 ghost use Rattle.std.specs.Io.KnownBytes.{append_known};
 ghost use Rattle.ansi_lines_io.specs.Devices.{count_after};
 ghost use Rattle.ansi_lines_runs.specs.Jobs.{work_of};
@@ -11,9 +11,11 @@ ghost use Rattle.ansi_lines_io.specs.Stops.{refusal};
 use crate::lines::write_lines;
 use crate::words::{Job, parse};
 use ansi_lines_io::devices::{Sink, Source};
+use ansi_lines_io::host::HostOut;
 use ansi_lines_io::reading::read_text;
 use ansi_lines_io::stop::Stop;
 use std::alloc::Allocator;
+use std::io::{self, Write};
 
 /// Does what the words ask for with each line of the input, and answers the status.
 ///
@@ -108,6 +110,33 @@ pub fn run<A: Allocator, S: Source, W: Sink, V: Sink>(
         Ok(()) => 0,
         Err(stop) => stop.tell(faults),
     }
+}
+
+/// Runs into the buffer of an output of std. Words that can't be read are bad words, and a buffer that
+/// can't be had is want of memory.
+pub fn run_buffered<A: Allocator, S: Source, W: Write + Drop, V: Sink>(
+    alloc: A,
+    words: &io::Result<Vec<String>>,
+    input: &mut S,
+    buffer: io::Result<W>,
+    faults: &mut V,
+) -> u8
+    ensures statuses { result ≤ 5 }
+    ensures unread_words { IsErr words.now → result ≡ 2 }
+    ensures bad_words { result ≡ 2 → IfOk words.now (λ read. AreBadWords (words_of read.items)) }
+    ensures only_bad_words { IfOk words.now (λ read. AreBadWords (words_of read.items) → (result ≡ 2) ⊎ (result ≡ 5)) }
+    ensures no_buffer { IsOk words.now → IsErr buffer → result ≡ 5 }
+    ensures told { 2 ≤ result → V.failed faults.new ≡ false →
+        V.taken faults.new ≡ append_known (V.taken faults.old) (told result) }
+{
+    let Ok(words) = words else {
+        return Stop::BadWords.tell(faults);
+    };
+    let Ok(buffer) = buffer else {
+        return Stop::OutOfMemory.tell(faults);
+    };
+    let mut output = HostOut::new(buffer);
+    run(alloc, words.as_slice(), input, &mut output, faults)
 }
 
 // Does what the words ask for, and tells nothing.

@@ -1,4 +1,4 @@
-use Rattle.std.proofs.Common.{arith}
+use Rattle.std.proofs.Common.{arith, inl, inr}
 use Rattle.ansi_lines_io.proofs.Known.{all_read}
 use Rattle.ansi_lines_io.proofs.reading.read_bytes.Goals as goal
 
@@ -22,3 +22,14 @@ returns-then-len-gt-MAX_BYTES-clause-most_reads g c = omega arith
 
 pub returns-clause-most_reads : goal.returns-clause-most_reads
 returns-clause-most_reads g c = omega arith
+
+-- as many turns as may be were made, so one was interrupted
+pub returns-clause-stopped : goal.returns-clause-stopped
+returns-clause-stopped g c = inr (inr (record {
+  was_interrupted = elim c.loop-turn.invariant.turns [ | inl all ↦ absurd (omega arith) | inr was ↦ was ];
+  most_reads = omega arith;
+}))
+
+-- no more was read than may be
+pub returns-in_default-clause-short : goal.returns-in_default-clause-short
+returns-in_default-clause-short g c = omega arith
