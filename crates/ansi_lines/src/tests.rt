@@ -1,7 +1,8 @@
-//! Runs over pages: what a run writes, tells and answers where its devices or its memory fail. What it makes of words and
-//! input alone stands in rows.tsv, which the built program has to pass.
+//! Runs over pages: what a run writes, tells and answers where its devices or its memory fail, and what `Refusing` refuses.
+//! What a run makes of words and input alone stands in rows.tsv, which the built program has to pass.
 mod devices;
 mod memory;
+mod requests;
 
 use ansi_lines_io::page::{Outcome, Page};
 use ansi_lines_runs::runs::run;
@@ -56,79 +57,85 @@ struct Ran {
 }
 
 impl Ran {
-    fn over(
-        alloc: Global,
-        status: u8,
-        input: &Page,
-        output: &Page,
-        faults: &Page,
-    ) -> Result<Self, AllocError> {
+    fn over(alloc: Global, status: u8, pages: &Pages) -> Result<Self, AllocError> {
         Ok(Ran {
             status,
-            output: output.bytes().to_vec(alloc)?,
-            faults: faults.bytes().to_vec(alloc)?,
-            passed: output.passed(),
-            input_left: input.outcomes_left(),
-            output_left: output.outcomes_left(),
-            faults_left: faults.outcomes_left(),
+            output: pages.output.bytes().to_vec(alloc)?,
+            faults: pages.faults.bytes().to_vec(alloc)?,
+            passed: pages.output.passed(),
+            input_left: pages.input.outcomes_left(),
+            output_left: pages.output.outcomes_left(),
+            faults_left: pages.faults.outcomes_left(),
         })
     }
 }
 
-fn input_page(
-    alloc: Global,
-    bytes: &[u8],
-    chunk: usize,
-    schedule: Vec<Outcome>,
-) -> Result<Page, AllocError> {
-    let page = Page::of(alloc, bytes.to_vec(alloc)?);
-    Ok(page.in_chunks(chunk).with_schedule(schedule))
+// The devices of a run.
+#[derive(Drop)]
+struct Pages {
+    input: Page,
+    output: Page,
+    faults: Page,
 }
 
-fn empty_page(alloc: Global, room: usize, schedule: Vec<Outcome>) -> Result<Page, AllocError> {
-    Ok(Page::with_room(alloc, room)?.with_schedule(schedule))
+impl Pages {
+    // Devices that do as they are told.
+    fn new(alloc: Global, bytes: &[u8], plan: Plan) -> Result<Self, AllocError> {
+        let Plan {
+            input,
+            output,
+            faults,
+            chunk,
+            room,
+        } = plan;
+        let page = Page::of(alloc, bytes.to_vec(alloc)?);
+        Ok(Pages {
+            input: page.in_chunks(chunk).with_schedule(input),
+            output: Page::with_room(alloc, room)?.with_schedule(output),
+            faults: Page::with_room(alloc, ROOM)?.with_schedule(faults),
+        })
+    }
+}
+
+fn push_owned(given: &mut Vec<String>, alloc: Global, word: &str) -> Result<(), AllocError> {
+    given.push(String::from_str(alloc, word)?)
 }
 
 fn owned(alloc: Global, words: &[&str]) -> Result<Vec<String>, AllocError> {
     let mut given = Vec::new(alloc);
     for word in words {
-        given.push(String::from_str(alloc, word)?)?;
+        push_owned(&mut given, alloc, word)?;
     }
     Ok(given)
 }
 
 // The status of a run over pages. It says nothing of what the run does, so that its callers are quick to prove.
-fn status_of<A: Allocator>(
-    alloc: A,
-    words: &[String],
-    input: &mut Page,
-    output: &mut Page,
-    faults: &mut Page,
-) -> u8 {
-    run(alloc, words, input, output, faults)
+fn status_of<A: Allocator>(alloc: A, words: &[String], pages: &mut Pages) -> u8 {
+    run(
+        alloc,
+        words,
+        &mut pages.input,
+        &mut pages.output,
+        &mut pages.faults,
+    )
 }
 
-// Runs over devices that do as they are told.
+// Runs in the memory of a heap.
+fn run_in<A: Allocator + Copy>(
+    heap: A,
+    words: &[String],
+    bytes: &[u8],
+    plan: Plan,
+    alloc: Global,
+) -> Result<Ran, AllocError> {
+    let mut pages = Pages::new(alloc, bytes, plan)?;
+    let status = status_of(heap, words, &mut pages);
+    Ran::over(alloc, status, &pages)
+}
+
 fn run_with(alloc: Global, words: &[&str], bytes: &[u8], plan: Plan) -> Result<Ran, AllocError> {
     let given = owned(alloc, words)?;
-    let Plan {
-        input,
-        output,
-        faults,
-        chunk,
-        room,
-    } = plan;
-    let mut input = input_page(alloc, bytes, chunk, input)?;
-    let mut output = empty_page(alloc, room, output)?;
-    let mut faults = empty_page(alloc, ROOM, faults)?;
-    let status = status_of(
-        alloc,
-        given.as_slice(),
-        &mut input,
-        &mut output,
-        &mut faults,
-    );
-    Ran::over(alloc, status, &input, &output, &faults)
+    run_in(alloc, given.as_slice(), bytes, plan, alloc)
 }
 
 // So many calls that work, and then one that comes out as told.

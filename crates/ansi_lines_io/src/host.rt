@@ -99,11 +99,13 @@ impl<W: Write> Sink for HostOut<W> {
         ensures failed { self.new.failed ≡ (self.old.failed || is_err result) }
         ensures writer { OnOk result (Appends (W.contents (writer_of self.old)) (W.contents (writer_of self.new)) bytes.now) }
     {
-        if self.writer.write_all(bytes).is_err() {
-            self.failed = true;
-            return Err(WriteFault::Failed);
+        match self.writer.write_all(bytes) {
+            Ok(()) => Ok(()),
+            Err(_) => {
+                self.failed = true;
+                Err(WriteFault::Failed)
+            }
         }
-        Ok(())
     }
 
     // The last clause says of the writer what the device doesn't tell.

@@ -36,10 +36,11 @@ pub fn read_text<A: Allocator, S: Source>(alloc: A, input: &mut S) -> Result<Str
 
 // Reads all that is left, if it isn't too long.
 fn read_bytes<A: Allocator, S: Source>(alloc: A, input: &mut S) -> Result<Vec<u8, A>, Stop>
-    ensures all { IfOk result (λ read. IfSome (S.left input.old) (λ bytes. read.items ≡ bytes)) }
-    ensures short { IfOk result (λ read. vec_len read ≤ 1_048_576) }
+    ensures read { IfOk result (λ read.
+        IfSome (S.left input.old) (λ bytes. read.items ≡ bytes)
+        × (vec_len read ≤ 1_048_576)
+        × (S.failed input.new ≡ S.failed input.old)) }
     ensures most_reads { S.reads input.new ≤ S.reads input.old + 2_097_154 }
-    ensures unfailed { OnOk result (S.failed input.new ≡ S.failed input.old) }
     ensures stopped { IfErr result (StopsReading (S.left input.old) (S.failed input.new)
         (IsGivenUp (S.interrupted input.new) (S.reads input.old) (S.reads input.new))) }
 {
@@ -61,10 +62,10 @@ fn read_bytes<A: Allocator, S: Source>(alloc: A, input: &mut S) -> Result<Vec<u8
 fn read_once<S: Source>(input: &mut S, room: &mut [u8]) -> Result<Option<usize>, Stop>
     requires { 0 < length room.old }
     ensures end { IfOk result (λ given. IfNone given (IsAtEnd (S.left input.old))) }
-    ensures within { IfOk result (λ given. IfSome given (λ count. count ≤ length room.new)) }
-    ensures bytes { IfOk result (λ given. IfSome given (λ count.
-        S.left input.old ≡ prepend_known (take count room.new) (S.left input.new))) }
-    ensures progress { IfOk result (λ given. IfSome given (λ count. (0 < count) ⊎ (S.interrupted input.new ≡ true))) }
+    ensures given { IfOk result (λ given. IfSome given (λ count.
+        (count ≤ length room.new)
+        × (S.left input.old ≡ prepend_known (take count room.new) (S.left input.new))
+        × ((0 < count) ⊎ (S.interrupted input.new ≡ true)))) }
     ensures reads { S.reads input.new ≡ count_after (S.reads input.old) 1 }
     ensures interrupted { S.interrupted input.old ≡ true → S.interrupted input.new ≡ true }
     ensures unfailed { OnOk result (S.failed input.new ≡ S.failed input.old) }

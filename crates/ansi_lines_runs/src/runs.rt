@@ -1,5 +1,5 @@
 //! A run of the program, over any devices.
-ghost use Rattle.std.specs.Prelude.{◌≡◌, ◌≤◌, ◌+◌, ◌⊎◌, false, true, IfErr, IfOk, IfSome, IsErrOf, IsNone, IsSome, OnOk};
+ghost use Rattle.std.specs.Prelude.{◌≡◌, ◌≤◌, ◌+◌, ◌⊎◌, false, true, IfErr, IfOk, IfSome, IsErr, IsErrOf, IsNone, IsOk, IsSome, OnOk};
 ghost use Rattle.std.specs.Io.KnownBytes.{append_known};
 ghost use Rattle.ansi_lines_io.specs.Devices.{count_after};
 ghost use Rattle.ansi_lines_runs.specs.Jobs.{work_of};
@@ -11,9 +11,11 @@ ghost use Rattle.ansi_lines_io.specs.Stops.{refusal};
 use crate::lines::write_lines;
 use crate::words::{Job, parse};
 use ansi_lines_io::devices::{Sink, Source};
+use ansi_lines_io::host::HostOut;
 use ansi_lines_io::reading::read_text;
 use ansi_lines_io::stop::Stop;
 use std::alloc::Allocator;
+use std::io::{self, Write};
 
 /// Does what the words ask for with each line of the input, and answers the status.
 ///
@@ -110,6 +112,33 @@ pub fn run<A: Allocator, S: Source, W: Sink, V: Sink>(
     }
 }
 
+/// Runs into the buffer of an output of std. Words that can't be read are bad words, and a buffer that
+/// can't be had is want of memory.
+pub fn run_buffered<A: Allocator, S: Source, W: Write + Drop, V: Sink>(
+    alloc: A,
+    words: &io::Result<Vec<String>>,
+    input: &mut S,
+    buffer: io::Result<W>,
+    faults: &mut V,
+) -> u8
+    ensures statuses { result ≤ 5 }
+    ensures unread_words { IsErr words.now → result ≡ 2 }
+    ensures bad_words { result ≡ 2 → IfOk words.now (λ read. AreBadWords (words_of read.items)) }
+    ensures only_bad_words { IfOk words.now (λ read. AreBadWords (words_of read.items) → (result ≡ 2) ⊎ (result ≡ 5)) }
+    ensures no_buffer { IsOk words.now → IsErr buffer → result ≡ 5 }
+    ensures told { 2 ≤ result → V.failed faults.new ≡ false →
+        V.taken faults.new ≡ append_known (V.taken faults.old) (told result) }
+{
+    let Ok(words) = words else {
+        return Stop::BadWords.tell(faults);
+    };
+    let Ok(buffer) = buffer else {
+        return Stop::OutOfMemory.tell(faults);
+    };
+    let mut output = HostOut::new(buffer);
+    run(alloc, words.as_slice(), input, &mut output, faults)
+}
+
 // Does what the words ask for, and tells nothing.
 fn perform<A: Allocator, S: Source, W: Sink>(
     alloc: &A,
@@ -120,36 +149,35 @@ fn perform<A: Allocator, S: Source, W: Sink>(
     // All that the words make of the input, up to a refused line.
     ensures done { IfAnswered result (λ _. IfSome (S.left input.old) (λ bytes.
         W.taken output.new ≡ append_known (W.taken output.old) (output_of (words_of words.now) bytes))) }
-    ensures passed { IfAnswered result (λ _. W.passed output.new ≡ W.taken output.new) }
+    ensures passed { IfAnswered result (λ _.
+        (W.passed output.new ≡ W.taken output.new)
+        × (W.failed output.new ≡ W.failed output.old)
+        × (W.flushes output.new ≡ count_after (W.flushes output.old) 1)) }
     ensures refused { IfAnswered result (λ line. IfSome (S.left input.old) (λ bytes.
         line ≡ refused_line (words_of words.now) bytes)) }
 
     // Bad words.
     ensures good_words { OnOk result (AreGoodWords (words_of words.now)) }
     ensures words { IfErr result (λ stop. MatchesWords stop (words_of words.now)) }
-    ensures nothing_read { AreBadWords (words_of words.now) → input.new ≡ input.old }
-    ensures nothing_written { AreBadWords (words_of words.now) → output.new ≡ output.old }
+    ensures untouched { AreBadWords (words_of words.now) → (input.new ≡ input.old) × (output.new ≡ output.old) }
 
     // The input.
     ensures read { IfAnswered result (λ _. IsRead (S.left input.old) (S.failed input.old) (S.failed input.new)) }
-    ensures read_before_writing { IsErrOf result Stop.WriteFailed →
-        IsRead (S.left input.old) (S.failed input.old) (S.failed input.new) }
     ensures bad_input { IsErrOf result Stop.BadInput →
         IsBadInput (S.left input.old) (S.failed input.new)
-        (IsGivenUp (S.interrupted input.new) (S.reads input.old) (S.reads input.new)) }
+        (IsGivenUp (S.interrupted input.new) (S.reads input.old) (S.reads input.new))
+        × (output.new ≡ output.old) }
     ensures most_reads { S.reads input.new ≤ S.reads input.old + 2_097_154 }
-    ensures unwritten { IsErrOf result Stop.BadInput → output.new ≡ output.old }
 
     // The output.
-    ensures unfailed { IfAnswered result (λ _. W.failed output.new ≡ W.failed output.old) }
-    ensures write_failed { IsErrOf result Stop.WriteFailed → W.failed output.new ≡ true }
+    ensures write_failed { IsErrOf result Stop.WriteFailed →
+        IsRead (S.left input.old) (S.failed input.old) (S.failed input.new) × (W.failed output.new ≡ true) }
     ensures out_of_memory { IsErrOf result Stop.OutOfMemory → IfSome (S.left input.old) (λ bytes.
         WritesBeginning (W.taken output.old) (W.taken output.new) (output_of (words_of words.now) bytes)) }
-    ensures flushed_once { IfAnswered result (λ _. W.flushes output.new ≡ count_after (W.flushes output.old) 1) }
     ensures flushed_at_most_once { (W.flushes output.new ≡ W.flushes output.old) ⊎
         (W.flushes output.new ≡ count_after (W.flushes output.old) 1) }
-    ensures unflushed { IsErrOf result Stop.OutOfMemory → W.flushes output.new ≡ W.flushes output.old }
-    ensures unfailed_without_memory { IsErrOf result Stop.OutOfMemory → W.failed output.new ≡ W.failed output.old }
+    ensures unflushed { IsErrOf result Stop.OutOfMemory →
+        (W.flushes output.new ≡ W.flushes output.old) × (W.failed output.new ≡ W.failed output.old) }
 {
     let job = parse(alloc, words)?.ok_or(Stop::BadWords)?;
     let text = read_text(alloc, input)?;
@@ -164,10 +192,11 @@ fn answer_text<A: Allocator + Copy, W: Sink>(
     output: &mut W,
 ) -> Result<(), Stop>
     ensures done { IfAnswered result (λ _. W.taken output.new ≡ append_known (W.taken output.old) (answers (work_of job.now) text.now)) }
-    ensures passed { IfAnswered result (λ _. W.passed output.new ≡ W.taken output.new) }
+    ensures passed { IfAnswered result (λ _.
+        (W.passed output.new ≡ W.taken output.new)
+        × (W.failed output.new ≡ W.failed output.old)
+        × (W.flushes output.new ≡ count_after (W.flushes output.old) 1)) }
     ensures refused { IfAnswered result (λ line. line ≡ first_refused 1 (work_of job.now) text.now) }
-    ensures unfailed { IfAnswered result (λ _. W.failed output.new ≡ W.failed output.old) }
-    ensures flushed_once { IfAnswered result (λ _. W.flushes output.new ≡ count_after (W.flushes output.old) 1) }
     ensures flushed_at_most_once { (W.flushes output.new ≡ W.flushes output.old) ⊎
         (W.flushes output.new ≡ count_after (W.flushes output.old) 1) }
     ensures stopped { IfErr result (StopsAnswering (W.failed output.old) (W.failed output.new)
@@ -189,10 +218,11 @@ fn pass_on_lines<A: Allocator + Copy, W: Sink>(
     output: &mut W,
 ) -> Result<Option<usize>, Stop>
     ensures done { OnOk result (W.taken output.new ≡ append_known (W.taken output.old) (answers (work_of job.now) text.now)) }
-    ensures passed { OnOk result (W.passed output.new ≡ W.taken output.new) }
+    ensures passed { OnOk result (
+        (W.passed output.new ≡ W.taken output.new)
+        × (W.failed output.new ≡ W.failed output.old)
+        × (W.flushes output.new ≡ count_after (W.flushes output.old) 1)) }
     ensures refused { IfOk result (λ line. line ≡ first_refused 1 (work_of job.now) text.now) }
-    ensures unfailed { OnOk result (W.failed output.new ≡ W.failed output.old) }
-    ensures flushed_once { OnOk result (W.flushes output.new ≡ count_after (W.flushes output.old) 1) }
     ensures flushed_at_most_once { (W.flushes output.new ≡ W.flushes output.old) ⊎
         (W.flushes output.new ≡ count_after (W.flushes output.old) 1) }
     ensures stopped { IfErr result (StopsWriting (W.failed output.old) (W.failed output.new)

@@ -1,11 +1,10 @@
 //! An allocator for tests, which refuses each request for memory after the first few.
 #![tactic(auto)]
 
+ghost use Rattle.std.specs.Prelude.{◌≡◌, ◌+◌, min};
+
 use std::alloc::{AllocError, Allocator};
 use std::cell::Cell;
-
-#[cfg(test)]
-mod tests;
 
 /// An allocator that grants its first requests for memory and refuses every later one.
 ///
@@ -80,11 +79,18 @@ struct Requests {
 }
 
 impl Requests {
-    // Counts one request more, and says whether it is refused. At its limit the count stays, since
-    // a count that began again at 0 would grant again.
+    // Counts one request more, and says whether it is refused.
     fn refuses_next(&self) -> bool {
-        let number = self.so_far.get().saturating_add(1);
+        let number = number_after(self.so_far.get());
         self.so_far.set(number);
         number > self.granted
     }
+}
+
+// The number of the request after so many. At its limit the count stays, since a count that began
+// again at 0 would grant again.
+fn number_after(requests: u64) -> u64
+    ensures { result ≡ min (requests + 1) 18_446_744_073_709_551_615 }
+{
+    requests.saturating_add(1)
 }

@@ -1,5 +1,5 @@
 //! Runs over devices that fail or are interrupted.
-use super::{CHUNK, Plan, Ran, at_call, expect, expect_end, run_with};
+use super::{CHUNK, Plan, ROOM, Ran, at_call, expect, expect_end, run_with};
 use ansi_lines_io::page::Outcome;
 use std::alloc::{AllocError, Global};
 use std::process::Abort;
@@ -64,18 +64,31 @@ fn interrupted_each_once(alloc: Global, calls: usize) -> Result<Vec<Outcome>, Al
     Ok(schedule)
 }
 
+// Runs a case whose reads and whose output's calls come out as told.
+fn run_case(
+    alloc: Global,
+    case: &Case,
+    input: Vec<Outcome>,
+    output: Vec<Outcome>,
+) -> Result<Ran, AllocError> {
+    let plan = Plan {
+        input,
+        output,
+        faults: Vec::new(alloc),
+        chunk: CHUNK,
+        room: ROOM,
+    };
+    run_with(alloc, case.words, case.text.as_bytes(), plan)
+}
+
 // Runs a case whose reads come out as told.
 fn run_reading(alloc: Global, case: &Case, schedule: Vec<Outcome>) -> Result<Ran, AllocError> {
-    let mut plan = Plan::new(alloc);
-    plan.input = schedule;
-    run_with(alloc, case.words, case.text.as_bytes(), plan)
+    run_case(alloc, case, schedule, Vec::new(alloc))
 }
 
 // Runs a case whose output's calls come out as told.
 fn run_writing(alloc: Global, case: &Case, schedule: Vec<Outcome>) -> Result<Ran, AllocError> {
-    let mut plan = Plan::new(alloc);
-    plan.output = schedule;
-    run_with(alloc, case.words, case.text.as_bytes(), plan)
+    run_case(alloc, case, Vec::new(alloc), schedule)
 }
 
 // A run that ends as its case does.

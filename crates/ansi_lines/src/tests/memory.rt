@@ -1,5 +1,5 @@
 //! Each request for memory that a run makes, refused in turn.
-use super::{CHUNK, ROOM, Ran, empty_page, expect, expect_end, input_page, owned, status_of};
+use super::{Plan, Ran, expect, expect_end, owned, run_in};
 use refusing::Refusing;
 use std::alloc::{AllocError, Global};
 use std::process::Abort;
@@ -73,20 +73,6 @@ fn expect_ended(rt: &impl Abort, row: &Row, granted: u64, ran: &Ran) {
     expect(rt, 0 < granted, "memory", words);
 }
 
-// Runs in the memory of the heap.
-fn run_on_heap(
-    alloc: Global,
-    heap: &Refusing<Global>,
-    given: &[String],
-    text: &str,
-) -> Result<Ran, AllocError> {
-    let mut input = input_page(alloc, text.as_bytes(), CHUNK, Vec::new(alloc))?;
-    let mut output = empty_page(alloc, ROOM, Vec::new(alloc))?;
-    let mut faults = empty_page(alloc, ROOM, Vec::new(alloc))?;
-    let status = status_of(heap, given, &mut input, &mut output, &mut faults);
-    Ran::over(alloc, status, &input, &output, &faults)
-}
-
 // Runs with so many requests granted, and tells whether one was refused.
 fn run_is_refused(
     rt: &impl Abort,
@@ -97,7 +83,7 @@ fn run_is_refused(
 ) -> Result<bool, AllocError> {
     let (_, text, ..) = *row;
     let heap = Refusing::new(alloc, granted);
-    let ran = run_on_heap(alloc, &heap, given, text)?;
+    let ran = run_in(&heap, given, text.as_bytes(), Plan::new(alloc), alloc)?;
     if heap.has_refused() {
         expect_out_of_memory(rt, row, granted, &ran);
     } else {

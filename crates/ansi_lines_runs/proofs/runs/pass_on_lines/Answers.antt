@@ -10,9 +10,13 @@ returns-clause-flushed_at_most_once g c = inr (c.flush.ensures.flushes ∙ ap (�
 pub returns-in_err-flush-clause-flushed_at_most_once : goal.returns-in_err-flush-clause-flushed_at_most_once
 returns-in_err-flush-clause-flushed_at_most_once g c = inr (c.flush.ensures.flushes ∙ ap (λ flushes. count_after flushes 1) c.in_ok-refused.ensures.flushes)
 
--- the flush fails nothing, and takes nothing back
-pub returns-clause-unfailed : goal.returns-clause-unfailed
-returns-clause-unfailed g c = unfailed _ _ c.in_ok-flush.ensures.failed ∙ c.in_ok-refused.ensures.unfailed
+-- the flush passes all on, fails nothing and takes nothing back
+pub returns-clause-passed : goal.returns-clause-passed
+returns-clause-passed g c = (
+  c.in_ok-flush.ensures.passed,
+  unfailed _ _ c.in_ok-flush.ensures.failed ∙ c.in_ok-refused.ensures.unfailed,
+  c.flush.ensures.flushes ∙ ap (λ flushes. count_after flushes 1) c.in_ok-refused.ensures.flushes,
+)
 
 pub returns-clause-done : goal.returns-clause-done
 returns-clause-done g c = c.in_ok-flush.ensures.taken ∙ c.in_ok-refused.ensures.done

@@ -1,5 +1,5 @@
 use Rattle.std.proofs.Common.{inr}
-use Rattle.ansi_lines.proofs.run_on_host.Goals as goal
+use Rattle.ansi_lines_runs.proofs.runs.run_buffered.Goals as goal
 
 -- want of memory has a status of its own
 pub returns-in_default-buffer-clause-only_bad_words : goal.returns-in_default-buffer-clause-only_bad_words

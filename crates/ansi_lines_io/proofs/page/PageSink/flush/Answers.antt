@@ -1,0 +1,10 @@
+use Rattle.std.proofs.Common.{rules, ap, arith, Some}
+use Rattle.std.proofs.lemmas.List.{take_all}
+use Rattle.ansi_lines_io.proofs.page.PageSink.flush.Goals as goal
+
+-- all that is taken is passed on
+pub returns-then-eq-clause-passed : goal.returns-then-eq-clause-passed
+returns-then-eq-clause-passed c = ap Some (take_all _ _ (omega arith))
+
+pub returns-then-eq-clause-page : goal.returns-then-eq-clause-page
+returns-then-eq-clause-page c = search rules

@@ -1,0 +1,8 @@
+use Rattle.ansi_lines_io.proofs.reading.read_once.Goals as goal
+
+-- an interrupted read is no fault, and not the end
+pub returns-in-Err-Interrupted-clause-failed : goal.returns-in-Err-Interrupted-clause-failed
+returns-in-Err-Interrupted-clause-failed g c = tt
+
+pub returns-in-Err-Interrupted-clause-end : goal.returns-in-Err-Interrupted-clause-end
+returns-in-Err-Interrupted-clause-end g c = tt
