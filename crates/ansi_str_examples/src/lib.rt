@@ -1,9 +1,12 @@
-//! As tests, the examples of the docs of `ansi_str` and of README.md, and what no row of `ansi_rows` can ask for.
+//! As tests, the examples of the docs of `ansi_str` and of README.md, what no row of `ansi_rows` can ask for, and
+//! `ansi_str` compared with its definitions, computed slowly and plainly.
 #![tactic(auto)]
 
 #[cfg(test)]
 mod docs;
 #[cfg(test)]
 mod examples;
+#[cfg(test)]
+mod plain;
 #[cfg(test)]
 mod tests;

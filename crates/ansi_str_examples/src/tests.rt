@@ -7,6 +7,6 @@ use std::fmt::Debug;
 use std::process::Abort;
 
 /// Ends the test where this doesn't hold of the row.
-fn expect<R: Copy + Debug>(rt: &impl Abort, holds: bool, what: &str, row: R) {
+pub fn expect<R: Copy + Debug>(rt: &impl Abort, holds: bool, what: &str, row: R) {
     assert!(rt; holds, "{what}: {row:?}");
 }

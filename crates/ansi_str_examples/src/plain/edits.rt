@@ -1,6 +1,6 @@
 //! Lists of edits, by std on the plain text, compared with the library's.
 use super::{items, plain, text_at};
-use crate::checks::expect;
+use crate::tests::expect;
 use ansi_str::Edit::{self, Cut, Left, Part, Prefix, Right, Suffix, Trim};
 use ansi_str::{AnsiStr, ansi_is_whole, edit};
 use std::alloc::{AllocError, Global};
@@ -74,7 +74,7 @@ fn expect_whole(
     alloc: Global,
     text: &str,
     plain: &str,
-    name: (&str, &[Edit<'_>]),
+    name: (&str, usize, usize),
 ) {
     expect(rt, ansi_is_whole(text), "whole", name);
     let stripped = text.ansi_strip(alloc);
@@ -82,15 +82,16 @@ fn expect_whole(
     expect(rt, is_right, "the plain text", name);
 }
 
-/// Compares the plain text of what two edits in turn make of a whole text.
+/// Compares the plain text of what two edits in turn make of a whole text. The row is named by the text and the
+/// places of the edits in their list.
 fn expect_edited(
     rt: &impl Abort,
     alloc: Global,
     text: &str,
     want: Option<&str>,
     edits: &[Edit<'_>],
+    name: (&str, usize, usize),
 ) {
-    let name = (text, edits);
     match (&edit(alloc, text, edits), want) {
         (Ok(Some(got)), Some(want)) => expect_whole(rt, alloc, got.as_str(), want, name),
         (got, want) => {
@@ -107,10 +108,11 @@ const TEXTS: usize = 4_681;
 fn expect_pairs(rt: &impl Abort, alloc: Global, text: &str) -> Result<(), AllocError> {
     let items = items(alloc, text)?;
     let plain = plain(alloc, text, items.as_slice())?;
-    for first in &EDITS {
-        for second in &EDITS {
+    for (first_index, first) in EDITS.iter().enumerate() {
+        for (second_index, second) in EDITS.iter().enumerate() {
             let want = twice_edited(plain.as_str(), first, second);
-            expect_edited(rt, alloc, text, want, &[*first, *second]);
+            let name = (text, first_index, second_index);
+            expect_edited(rt, alloc, text, want, &[*first, *second], name);
         }
     }
     Ok(())

@@ -1,6 +1,6 @@
 //! Searches in the plain text, place by place, compared with those of the library.
 use super::{items, plain, text_at};
-use crate::checks::expect;
+use crate::tests::expect;
 use ansi_str::AnsiStr;
 use std::alloc::{AllocError, Global};
 use std::process::Abort;

@@ -1,7 +1,7 @@
 //! Prefixes, suffixes and white space, by std on the plain text, compared with the library's.
-use super::cut::kept_bytes;
-use super::{ESC, items, plain, text_at};
-use crate::checks::expect;
+use super::cut::kept_text;
+use super::{ESC, has_byte, items, plain, text_at};
+use crate::tests::expect;
 use ansi_str::AnsiStr;
 use ansi_str::ansitok::Item;
 use std::alloc::{AllocError, Global};
@@ -16,7 +16,7 @@ struct Text<'a> {
     plain: &'a str,
 }
 
-/// Compares an answer with the plain bytes between two positions and all sequences, where it has to
+/// Compares an answer with the plain text between two positions and all sequences, where it has to
 /// be there.
 fn expect_kept(
     rt: &impl Abort,
@@ -31,10 +31,10 @@ fn expect_kept(
         expect(rt, matches!(got, Ok(None)), "no answer", name);
         return Ok(());
     };
-    let want = kept_bytes(alloc, text.text, text.items, start, end)?;
-    let is_right = matches!(got, Ok(Some(got)) if got.as_bytes() == want.as_slice());
+    let want = kept_text(alloc, text.text, text.items, start, end)?;
+    let is_right = matches!(got, Ok(Some(got)) if got.as_str() == want.as_str());
     expect(rt, is_right, "the answer", name);
-    let is_borrow = takes.is_empty() || !text.text.as_bytes().contains(&ESC);
+    let is_borrow = takes.is_empty() || !has_byte(text.text.as_bytes(), ESC);
     let got_borrow = matches!(got, Ok(Some(CowStr::Borrowed(_))));
     expect(rt, got_borrow == is_borrow, "whether it is a borrow", name);
     Ok(())
@@ -85,7 +85,7 @@ fn expect_trimmed(rt: &impl Abort, alloc: Global, text: &Text<'_>) -> Result<(),
     let plain = text.plain;
     let start = plain.len().saturating_sub(plain.trim_start().len());
     let end = start.saturating_add(plain.trim().len());
-    let got = text.text.ansi_trim(alloc).map(Some);
+    let got = Ok(Some(text.text.ansi_trim(alloc)?));
     expect_kept(rt, alloc, text, Some((start, end)), &got, " ")
 }
 

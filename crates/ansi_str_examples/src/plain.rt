@@ -8,7 +8,7 @@ mod kept;
 mod split;
 mod style;
 
-use crate::checks::expect;
+use crate::tests::expect;
 use ansi_str::AnsiStr;
 use ansi_str::ansitok::{Item, Kind, Scanner};
 use std::alloc::{AllocError, Global};
@@ -19,11 +19,11 @@ const ESC: u8 = 0x1B;
 const BEL: u8 = 0x07;
 
 fn is_parameter_byte(b: &u8) -> bool {
-    (0x30..=0x3F).contains(b)
+    matches!(b, 0x30..=0x3F)
 }
 
 fn is_intermediate_byte(b: &u8) -> bool {
-    (0x20..=0x2F).contains(b)
+    matches!(b, 0x20..=0x2F)
 }
 
 /// Whether the bytes are parameter bytes, and then intermediate bytes.
@@ -34,11 +34,15 @@ fn are_control_bytes(bytes: &[u8]) -> bool {
         .all(is_intermediate_byte)
 }
 
+/// Whether a byte is among others.
+fn has_byte(bytes: &[u8], byte: u8) -> bool {
+    bytes.iter().any(|other| *other == byte)
+}
+
 /// Whether the bytes are the body of an operating system command and its terminator.
 fn ends_command(bytes: &[u8]) -> bool {
     match bytes {
-        [body @ .., BEL] => !body.contains(&ESC) && !body.contains(&BEL),
-        [body @ .., ESC, b'\\'] => !body.contains(&ESC) && !body.contains(&BEL),
+        [body @ .., BEL] | [body @ .., ESC, b'\\'] => !has_byte(body, ESC) && !has_byte(body, BEL),
         _ => false,
     }
 }
@@ -46,7 +50,7 @@ fn ends_command(bytes: &[u8]) -> bool {
 /// Whether the bytes are the body of another control string and its terminator.
 fn ends_string(bytes: &[u8]) -> bool {
     match bytes {
-        [body @ .., ESC, b'\\'] => !body.contains(&ESC),
+        [body @ .., ESC, b'\\'] => !has_byte(body, ESC),
         _ => false,
     }
 }
@@ -113,6 +117,13 @@ fn spelling<'t>(text: &'t str, item: &Item) -> &'t str {
     text.get(item.start..item.end).unwrap_or("")
 }
 
+/// What a run of plain text has between two positions, where it begins at a place.
+fn between(run: &str, place: usize, start: usize, end: usize) -> &str {
+    let from = start.saturating_sub(place).min(run.len());
+    let to = end.saturating_sub(place).min(run.len());
+    run.get(from..to).unwrap_or("")
+}
+
 /// The items that are texts, joined.
 fn plain(alloc: Global, text: &str, items: &[Item]) -> Result<String, AllocError> {
     let mut plain = String::new(alloc);
@@ -135,14 +146,16 @@ const MOST_PIECES: usize = 5;
 /// The text of a number, among all texts of some pieces from the empty one on, the shorter first.
 fn text_at(alloc: Global, pieces: &[&str], number: usize) -> Result<String, AllocError> {
     let mut text = String::new(alloc);
+    let count = pieces.len().max(1);
     let mut rest = number;
     for _ in 0..MOST_PIECES {
         let Some(digits) = rest.checked_sub(1) else {
             break;
         };
-        let piece = digits.checked_rem(pieces.len()).and_then(|n| pieces.get(n));
-        text.push_str(piece.copied().unwrap_or(""))?;
-        rest = digits / pieces.len().max(1);
+        if let Some(piece) = pieces.get(digits % count) {
+            text.push_str(piece)?;
+        }
+        rest = digits / count;
     }
     Ok(text)
 }
@@ -181,7 +194,7 @@ fn expect_read(rt: &impl Abort, alloc: Global, text: &str) -> Result<(), AllocEr
     let items = items(alloc, text)?;
     expect_items(rt, alloc, text, items.as_slice())?;
     expect_plain(rt, alloc, text, items.as_slice())?;
-    let has_any = text.as_bytes().contains(&ESC);
+    let has_any = has_byte(text.as_bytes(), ESC);
     expect(
         rt,
         text.ansi_has_any() == has_any,

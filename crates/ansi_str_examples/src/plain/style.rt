@@ -79,19 +79,20 @@ fn push_sgr(text: &mut String, code: &str) -> Result<(), AllocError> {
     text.push_str("m")
 }
 
-/// A style: the names that are set, each once and with the code that clears it.
-#[derive(Drop)]
+/// A style: the names that are set.
+#[derive(Clone, Copy)]
 pub struct NamedStyle {
-    names: Vec<(&'static str, &'static str)>,
+    /// Whether each of the names is set, in their order.
+    are_set: [bool; 26],
     is_reset: bool,
     is_unknown: bool,
 }
 
 impl NamedStyle {
     /// The plain style.
-    pub fn new(alloc: Global) -> Self {
+    pub fn new() -> Self {
         NamedStyle {
-            names: Vec::new(alloc),
+            are_set: [false; 26],
             is_reset: false,
             is_unknown: false,
         }
@@ -99,54 +100,47 @@ impl NamedStyle {
 
     /// Whether a name is set.
     fn has(&self, name: &str) -> bool {
-        self.names.iter().any(|(set, _)| *set == name)
+        NAMES
+            .iter()
+            .zip(&self.are_set)
+            .any(|((other, _, _), is_set)| *is_set && *other == name)
     }
 
-    /// Sets a name that this code clears.
-    fn set(&mut self, name: &'static str, clearing_code: &'static str) -> Result<(), AllocError> {
-        if !self.has(name) {
-            self.names.push((name, clearing_code))?;
+    /// Sets a name.
+    fn set(&mut self, name: &str) {
+        for ((other, _, _), is_set) in NAMES.iter().zip(self.are_set.iter_mut()) {
+            if *other == name {
+                *is_set = true;
+            }
         }
-        Ok(())
     }
 
-    /// Clears the style, and marks it.
-    fn reset(&mut self) {
-        self.names.clear();
-        self.is_reset = true;
-        self.is_unknown = false;
-    }
-
-    /// Sets or clears a name, and tells whether the code does that.
-    fn change(&mut self, name: &Name, code: &str) -> Result<bool, AllocError> {
-        let (name, setting_codes, clearing_code) = *name;
-        if has_code(setting_codes, code) {
-            self.set(name, clearing_code)?;
-            return Ok(true);
-        }
-        if clearing_code == code {
-            self.names.retain(|(set, _)| *set != name);
-            return Ok(true);
-        }
-        Ok(false)
-    }
-
-    /// Changes the style by a code that begins no color of several fields.
-    fn perform(&mut self, code: &str) -> Result<(), AllocError> {
-        if code == "0" {
-            self.reset();
-            return Ok(());
-        }
+    /// Sets and clears what a code sets and clears, and tells whether that is anything.
+    fn change(&mut self, code: &str) -> bool {
         let mut is_known = false;
-        for name in &NAMES {
-            if self.change(name, code)? {
+        for ((_, setting_codes, clearing_code), is_set) in NAMES
+            .iter()
+            .zip(self.are_set.iter_mut())
+        {
+            if has_code(setting_codes, code) {
+                *is_set = true;
+                is_known = true;
+            } else if *clearing_code == code {
+                *is_set = false;
                 is_known = true;
             }
         }
-        if !is_known {
+        is_known
+    }
+
+    /// Changes the style by a code that begins no color of several fields.
+    fn perform(&mut self, code: &str) {
+        if code == "0" {
+            *self = NamedStyle::new();
+            self.is_reset = true;
+        } else if !self.change(code) {
             self.is_unknown = true;
         }
-        Ok(())
     }
 
     /// Changes the style by the parameters of an SGR.
@@ -155,50 +149,45 @@ impl NamedStyle {
         let mut start = 0usize;
         for _ in 0..fields.len() {
             let rest = fields.get(start..).unwrap_or(&[]);
-            start = start.saturating_add(self.read(rest)?);
+            start = start.saturating_add(self.read(rest));
         }
         Ok(())
     }
 
     /// Changes the style by the first code of the fields, and gives the number of fields it took.
-    fn read(&mut self, fields: &[&str]) -> Result<usize, AllocError> {
+    fn read(&mut self, fields: &[&str]) -> usize {
         match fields {
-            [] => Ok(0),
-            ["38", ..] => self.read_color("foreground", "39", fields),
-            ["48", ..] => self.read_color("background", "49", fields),
-            ["58", ..] => self.read_color("underline color", "59", fields),
+            [] => 0,
+            ["38", ..] => self.read_color("foreground", fields),
+            ["48", ..] => self.read_color("background", fields),
+            ["58", ..] => self.read_color("underline color", fields),
             [code, ..] => {
-                self.perform(code)?;
-                Ok(1)
+                self.perform(code);
+                1
             }
         }
     }
 
     /// The same of a color of several fields.
-    fn read_color(
-        &mut self,
-        name: &'static str,
-        clearing_code: &'static str,
-        fields: &[&str],
-    ) -> Result<usize, AllocError> {
+    fn read_color(&mut self, name: &str, fields: &[&str]) -> usize {
         match fields {
             [_, "2", _, _, _, ..] => {
-                self.set(name, clearing_code)?;
-                Ok(5)
+                self.set(name);
+                5
             }
             [_, "5", _, ..] => {
-                self.set(name, clearing_code)?;
-                Ok(3)
+                self.set(name);
+                3
             }
             // A color that lacks a field takes all that there are, and a bad selector takes itself.
-            [_, "2" | "5", ..] => Ok(fields.len()),
-            _ => Ok(2),
+            [_, "2" | "5", ..] => fields.len(),
+            _ => 2,
         }
     }
 
     /// Whether there is something to end.
     pub fn has_any(&self) -> bool {
-        !self.names.is_empty() || (self.is_reset && self.is_unknown)
+        self.are_set.iter().any(|is_set| *is_set) || (self.is_reset && self.is_unknown)
     }
 
     /// The sequences that set the style, where these names and codes are all that a text sets.
@@ -214,7 +203,8 @@ impl NamedStyle {
 
     /// Whether a name is set that this code clears.
     fn is_closed_by(&self, code: &str) -> bool {
-        self.names.iter().any(|(_, clearing)| *clearing == code)
+        NAMES.iter().zip(&self.are_set).any(|((_, _, clearing_code), is_set)| *is_set
+            && *clearing_code == code)
     }
 
     /// The sequences that end the style.

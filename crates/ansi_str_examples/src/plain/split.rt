@@ -1,7 +1,7 @@
 //! Parts, item by item of a text, compared with those of the library.
 use super::style::NamedStyle;
-use super::{items, plain, spelling, text_at};
-use crate::checks::expect;
+use super::{between, items, plain, spelling, text_at};
+use crate::tests::expect;
 use ansi_str::AnsiStr;
 use ansi_str::ansitok::{Item, Kind};
 use std::alloc::{AllocError, Global};
@@ -33,8 +33,8 @@ struct Draft {
 impl Draft {
     fn new(alloc: Global) -> Self {
         Draft {
-            carried: NamedStyle::new(alloc),
-            last: NamedStyle::new(alloc),
+            carried: NamedStyle::new(),
+            last: NamedStyle::new(),
             content: String::new(alloc),
             has_sequence: false,
         }
@@ -92,12 +92,13 @@ fn part(
     for item in items {
         let spelled = spelling(text, item);
         if item.kind == Kind::Text {
-            let from = start.saturating_sub(place).min(spelled.len());
-            let to = end.saturating_sub(place).min(spelled.len());
-            part.content.push_str(spelled.get(from..to).unwrap_or(""))?;
+            part.content.push_str(between(spelled, place, start, end))?;
             place = place.saturating_add(spelled.len());
         } else if place <= end {
-            let is_own = before.is_none_or(|before| before < place);
+            let is_own = match before {
+                Some(before) => before < place,
+                None => true,
+            };
             part.take_sequence(alloc, spelled, item.kind, is_own)?;
         }
     }

@@ -1,7 +1,7 @@
-//! Cuts, byte by byte of a text, compared with those of the library.
+//! Cuts, item by item of a text, compared with those of the library.
 use super::style::NamedStyle;
-use super::{items, plain, spelling, text_at};
-use crate::checks::expect;
+use super::{between, items, plain, spelling, text_at};
+use crate::tests::expect;
 use ansi_str::AnsiStr;
 use ansi_str::ansitok::{Item, Kind};
 use std::alloc::{AllocError, Global};
@@ -33,26 +33,23 @@ fn kept_items(alloc: Global, items: &[Item], end: usize) -> Result<Vec<Item>, Al
     Ok(kept)
 }
 
-/// The bytes of the sequences among the items, and the plain bytes between two positions.
-pub(super) fn kept_bytes(
+/// The sequences among the items, and the plain text between two positions.
+pub(super) fn kept_text(
     alloc: Global,
     text: &str,
     items: &[Item],
     start: usize,
     end: usize,
-) -> Result<Vec<u8>, AllocError> {
-    let mut kept = Vec::with_capacity(alloc, text.len())?;
-    let mut position = 0usize;
+) -> Result<String, AllocError> {
+    let mut kept = String::new(alloc);
+    let mut place = 0usize;
     for item in items {
-        for byte in spelling(text, item).as_bytes() {
-            if item.kind != Kind::Text {
-                kept.push(*byte)?;
-                continue;
-            }
-            if start <= position && position < end {
-                kept.push(*byte)?;
-            }
-            position = position.saturating_add(1);
+        let spelled = spelling(text, item);
+        if item.kind == Kind::Text {
+            kept.push_str(between(spelled, place, start, end))?;
+            place = place.saturating_add(spelled.len());
+        } else {
+            kept.push_str(spelled)?;
         }
     }
     Ok(kept)
@@ -60,7 +57,7 @@ pub(super) fn kept_bytes(
 
 /// The close of the style after the SGRs among the items.
 fn close_after(alloc: Global, text: &str, items: &[Item]) -> Result<String, AllocError> {
-    let mut style = NamedStyle::new(alloc);
+    let mut style = NamedStyle::new();
     for item in items {
         if item.kind == Kind::Sgr {
             let sgr = spelling(text, item);
@@ -95,18 +92,18 @@ fn get<'t>(
     }
 }
 
-/// The bytes that a cut keeps of a text, and its close.
-fn closed_bytes(
+/// What a cut keeps of a text, and its close.
+fn closed_text(
     alloc: Global,
     text: &str,
     kept: &[Item],
     close: &str,
     start: usize,
     end: usize,
-) -> Result<Vec<u8>, AllocError> {
-    let mut bytes = kept_bytes(alloc, text, kept, start, end)?;
-    bytes.extend_from_slice(close.as_bytes())?;
-    Ok(bytes)
+) -> Result<String, AllocError> {
+    let mut closed = kept_text(alloc, text, kept, start, end)?;
+    closed.push_str(close)?;
+    Ok(closed)
 }
 
 /// Compares one range of a text, of which these items and this close are kept up to its end.
@@ -126,8 +123,8 @@ fn expect_cut(
         expect(rt, matches!(&got, Ok(None)), "a refusal", (range, text));
         return Ok(());
     }
-    let want = closed_bytes(alloc, text, kept, close, start, last)?;
-    let is_right = matches!(&got, Ok(Some(got)) if got.as_bytes() == want.as_slice());
+    let want = closed_text(alloc, text, kept, close, start, last)?;
+    let is_right = matches!(&got, Ok(Some(got)) if got.as_str() == want.as_str());
     expect(rt, is_right, "the cut", (range, text));
     Ok(())
 }
