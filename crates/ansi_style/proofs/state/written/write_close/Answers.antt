@@ -1,5 +1,4 @@
-use Rattle.std.proofs.Common.{true, ◌&&◌, [], refl, codes, if◌then◌else◌}
-use Rattle.std.specs.Fmt.{HasWritten}
+use Rattle.std.proofs.Common.{true, refl}
 use Rattle.std.proofs.lemmas.Grind.{put_five}
 use Rattle.ansi_style.specs.States.{rendition_of}
 use Rattle.ansi_style.proofs.WrittenLemmas.{close_by_rows}
@@ -8,8 +7,7 @@ use Rattle.ansi_style.proofs.state.written.write_close.Goals as goal
 pub returns : goal.returns
 unfolding rendition_of
 returns g c = λ plain ok.
-    let reset : HasWritten g.W.Write.write_str_gives c.args.f.now (if c.contains-is_unknown.result && c.contains.result then codes "\u{1b}[0m" else []) c.write_when.new.f
-    = c.in_ok-write_when.ensures plain (refl {a = true}) in
+    let reset = c.in_ok-write_when.ensures plain (refl {a = true}) in
     let font = c.in_ok-write_when-2.ensures reset.plain (refl {a = true}) in
     let intensity = c.in_ok-write_when-3.ensures font.plain (refl {a = true}) in
     let letters = c.in_ok-write_rows.ensures intensity.plain (refl {a = true}) in

@@ -1,4 +1,4 @@
-use Rattle.std.proofs.Common.{◌+◌, refl, arith}
+use Rattle.std.proofs.Common.{refl, arith}
 use Rattle.std.proofs.lemmas.Bool.Decides.{nat_tests}
 use Rattle.ansi_items.proofs.CountLemmas.{control_within}
 use Rattle.ansi_items.proofs.FrontLemmas.{not_alone, control_at-later, control_at-unended}
@@ -7,27 +7,18 @@ use Rattle.ansi_items.proofs.ansitok.grammar.Looks.sequence_with_intermediates.G
 -- the final byte follows the intermediate ones
 pub returns-in-64-to-126-clause-front : goal.returns-in-64-to-126-clause-front
 returns-in-64-to-126-clause-front c =
-    let t = c.args.bytes.now in
-    let n = c.args.parameters in
-    let m = c.intermediates_len-intermediates.result in
-    control_at-later t n m c.in_ok-byte.field-0 c.requires.parameters (not_alone t n _ m refl c.requires.inside c.requires.intermediate c.intermediates_len-intermediates.ensures.len)
+    control_at-later _ _ _ _ c.requires.parameters (not_alone _ _ _ _ refl c.requires.inside c.requires.intermediate c.intermediates_len-intermediates.ensures.len)
     c.in_ok-byte.ensures.some.0 (grind (arith, nat_tests))
 
 -- another byte does
 pub returns-in_default-clause-front : goal.returns-in_default-clause-front
 returns-in_default-clause-front c =
-    let t = c.args.bytes.now in
-    let n = c.args.parameters in
-    let m = c.intermediates_len-intermediates.result in
-    control_at-unended t n (1 + m) c.in_ok-byte.field-0 c.requires.parameters (not_alone t n _ m refl c.requires.inside c.requires.intermediate c.intermediates_len-intermediates.ensures.len)
+    control_at-unended _ _ _ _ c.requires.parameters (not_alone _ _ _ _ refl c.requires.inside c.requires.intermediate c.intermediates_len-intermediates.ensures.len)
     c.in_ok-byte.ensures.some.0 (grind (arith, nat_tests))
 
 pub returns-in_default-2-clause-front : goal.returns-in_default-2-clause-front
 returns-in_default-2-clause-front c =
-    let t = c.args.bytes.now in
-    let n = c.args.parameters in
-    let m = c.intermediates_len-intermediates.result in
-    control_at-unended t n (1 + m) c.in_ok-byte.field-0 c.requires.parameters (not_alone t n _ m refl c.requires.inside c.requires.intermediate c.intermediates_len-intermediates.ensures.len)
+    control_at-unended _ _ _ _ c.requires.parameters (not_alone _ _ _ _ refl c.requires.inside c.requires.intermediate c.intermediates_len-intermediates.ensures.len)
     c.in_ok-byte.ensures.some.0 (grind (arith, nat_tests))
 
 -- what was given up stands before the next ESC
