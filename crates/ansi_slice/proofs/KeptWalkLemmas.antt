@@ -50,3 +50,9 @@ shown_from-mark LoneEscape s e ps is = refl
 pub not_lent : (t p : List ℕ) {marked empty : Bool} → marked ≡ has_escape t → marked ≡ true → empty ≡ nat_eq (length p) 0 → empty ≡ false → IsFalse (has_escape t) ⊎ (p ≡ []) → ⊥
 not_lent t p marked_is marked empty_is empty (inl bare) = cc
 not_lent t p marked_is marked empty_is empty (inr none) = (let zero : nat_eq (length p) 0 ≡ true = ap (λ v. nat_eq (length v) 0) none in cc)
+
+-- and its test of an end holds
+pub not_refused : (t p : List ℕ) {marked empty test : Bool} → marked ≡ has_escape t → marked ≡ true → empty ≡ nat_eq (length p) 0 → empty ≡ false → test ≡ true → IsFalse (has_escape t) ⊎ (p ≡ []) ⊎ IsFalse test → ⊥
+not_refused t p marked_is marked empty_is empty holds (inl bare) = not_lent t p marked_is marked empty_is empty (inl bare)
+not_refused t p marked_is marked empty_is empty holds (inr (inl none)) = not_lent t p marked_is marked empty_is empty (inr none)
+not_refused t p marked_is marked empty_is empty holds (inr (inr bad)) = cc

@@ -280,8 +280,13 @@ pub record IsOverMark (kind : Kind) (t w : List ℕ) (at next : ℕ) (old new : 
   pub bytes : take next t ≡ take at t ++ w
 
 -- an item is a range of its text
-pub item_range : {old new : Scan} {item : Item} {t : List ℕ} → Gives old item new → old.text ≡ t → (item.start ≤ item.end) × IsCharBoundary t item.start × IsCharBoundary t item.end
-item_range {item = item} gives same = (omega (arith, gives.forward), subst (λ u. IsCharBoundary u item.start) same gives.start_boundary, subst (λ u. IsCharBoundary u item.end) same gives.end_boundary)
+pub item_range : {old new : Scan} {item : Item} {t : List ℕ} → Gives old item new → old.text ≡ t
+    → record { start_le_end : item.start ≤ item.end; start_boundary : 0 < item.start → IsCharBoundary t item.start; end_boundary : IsCharBoundary t item.end }
+item_range {item = item} gives same = record {
+  start_le_end = omega (arith, gives.forward);
+  start_boundary = λ _. subst (λ u. IsCharBoundary u item.start) same gives.start_boundary;
+  end_boundary = subst (λ u. IsCharBoundary u item.end) same gives.end_boundary;
+}
 
 item_count : {old new : Scan} {item : Item} {t w : List ℕ} → Gives old item new → old.text ≡ t → w ≡ slice_range t item.start item.end → new.offset ≡ old.offset + length w
 item_count {item = item} {t = t} gives same is =

@@ -122,7 +122,7 @@ good_range_parts x s e good =
     (leb-true s e both.0, ends.0, ends.1)
 
 pub good_range_from : (x : List ℕ) (s e : ℕ) → s ≤ e → IsCharBoundary x s → IsCharBoundary x e → is_good_range x s (Some e) ≡ true
-good_range_from x s e ordered from to = and_from _ _ (le-leb s e ordered) (and_from _ _ (boundary_is_good x s from) (boundary_is_good x e to))
+good_range_from x s e ordered from to = good_range_tests x s e ordered (boundary_is_good x s from) (boundary_is_good x e to)
 
 -- no range ends before its start
 pub is_good_range-disordered : (x : List ℕ) (s e : ℕ) → e < s → is_good_range x s (Some e) ≡ false
@@ -150,7 +150,7 @@ is_good_range-top x s (Some n) top is below past = ap (λ n. is_good_range x s (
 pub good_range_is : (x : List ℕ) (s e : ℕ) → IsTrue (is_good_range x s (Some e)) ↔ ((s ≤ e) × IsCharBoundary x (min s (length x)) × IsCharBoundary x (min e (length x)))
 good_range_is x s e = (
   λ good. (let parts = good_range_parts x s e good in (parts.0, boundary_inside x s parts.1, boundary_inside x e parts.2)),
-  λ ends. and_from _ _ (le-leb s e ends.0) (and_from _ _ ((good_position_is x s).1 ends.1) ((good_position_is x e).1 ends.2)),
+  λ ends. good_range_tests x s e ends.0 ((good_position_is x s).1 ends.1) ((good_position_is x e).1 ends.2),
 )
 
 -- Nothing is answered exactly where a test fails.

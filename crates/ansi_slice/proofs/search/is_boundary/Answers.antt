@@ -8,7 +8,7 @@ use Rattle.ansi_slice.proofs.OffsetLemmas.{item_range}
 use Rattle.ansi_slice.proofs.search.is_boundary.Goals as goal
 
 pub range-run-requires : goal.range-run-requires
-range-run-requires c = (let range = item_range c.in-Some.ensures.steps c.loop-item.invariant.text in record { start_le_end = range.0; start_boundary = λ _. range.1; end_boundary = range.2 })
+range-run-requires c = item_range c.in-Some.ensures.steps c.loop-item.invariant.text
 
 -- the position stands in a run
 pub returns-then-remaining-run : goal.returns-then-remaining-run

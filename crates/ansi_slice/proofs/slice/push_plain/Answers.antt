@@ -7,7 +7,7 @@ use Rattle.ansi_slice.proofs.OffsetLemmas.{item_range, is_other}
 use Rattle.ansi_slice.proofs.slice.push_plain.Goals as goal
 
 pub range-requires : goal.range-requires
-range-requires g c = (let range = item_range c.in-Some.ensures.steps c.loop-item.invariant.text in record { start_le_end = range.0; start_boundary = λ _. range.1; end_boundary = range.2 })
+range-requires g c = item_range c.in-Some.ensures.steps c.loop-item.invariant.text
 
 -- over a text
 pub loop-item-preserved-in-Continue-1 : goal.loop-item-preserved-in-Continue-1

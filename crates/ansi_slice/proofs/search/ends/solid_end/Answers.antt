@@ -6,7 +6,7 @@ use Rattle.ansi_slice.proofs.TrimWalkLemmas.{solid-begin, solid-white, solid-oth
 use Rattle.ansi_slice.proofs.search.ends.solid_end.Goals as goal
 
 pub range-run-requires : goal.range-run-requires
-range-run-requires c = (let range = item_range c.in-Some.ensures.steps c.loop-item.invariant.text in record { start_le_end = range.0; start_boundary = λ _. range.1; end_boundary = range.2 })
+range-run-requires c = item_range c.in-Some.ensures.steps c.loop-item.invariant.text
 
 pub loop-item-init : goal.loop-item-init
 loop-item-init c =

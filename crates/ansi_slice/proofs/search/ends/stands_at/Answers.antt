@@ -8,7 +8,7 @@ use Rattle.ansi_slice.proofs.OffsetLemmas.{item_range}
 use Rattle.ansi_slice.proofs.search.ends.stands_at.Goals as goal
 
 pub range-requires : goal.range-requires
-range-requires c = (let range = item_range c.in-Some.ensures.steps c.loop-item.invariant.text in record { start_le_end = range.0; start_boundary = λ _. range.1; end_boundary = range.2 })
+range-requires c = item_range c.in-Some.ensures.steps c.loop-item.invariant.text
 
 -- over a run that is no shorter than what is left of the pattern
 pub returns-then-rest-run : goal.returns-then-rest-run

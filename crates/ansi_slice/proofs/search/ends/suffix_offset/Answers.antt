@@ -10,7 +10,7 @@ use Rattle.ansi_slice.proofs.search.ends.suffix_offset.Goals as goal
 use Rattle.ansi_slice.proofs.search.ends.suffix_offset.Goals.{then-pat-run, else-pat-run}
 
 pub range-run-requires : goal.range-run-requires
-range-run-requires c = (let range = item_range c.in-Some.ensures.steps c.loop-item.invariant.text in record { start_le_end = range.0; start_boundary = λ _. range.1; end_boundary = range.2 })
+range-run-requires c = item_range c.in-Some.ensures.steps c.loop-item.invariant.text
 
 pub loop-item-init : goal.loop-item-init
 loop-item-init c =

@@ -8,7 +8,7 @@ use Rattle.ansi_slice.proofs.OffsetLemmas.{item_range}
 use Rattle.ansi_slice.proofs.search.ends.white_space_len.Goals as goal
 
 pub range-run-requires : goal.range-run-requires
-range-run-requires c = (let range = item_range c.in-Some.ensures.steps c.loop-item.invariant.text in record { start_le_end = range.0; start_boundary = λ _. range.1; end_boundary = range.2 })
+range-run-requires c = item_range c.in-Some.ensures.steps c.loop-item.invariant.text
 
 -- over a text of white space alone
 pub loop-item-preserved-else-not-is_empty : goal.loop-item-preserved-else-not-is_empty

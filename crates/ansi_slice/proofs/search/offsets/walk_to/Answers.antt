@@ -7,7 +7,7 @@ use Rattle.ansi_slice.proofs.OffsetLemmas.{item_range, over_text, over_mark, is_
 use Rattle.ansi_slice.proofs.search.offsets.walk_to.Goals as goal
 
 pub range-piece-requires : goal.range-piece-requires
-range-piece-requires c = (let range = item_range c.in-Some.ensures.steps c.loop-item.invariant.text in record { start_le_end = range.0; start_boundary = λ _. range.1; end_boundary = range.2 })
+range-piece-requires c = item_range c.in-Some.ensures.steps c.loop-item.invariant.text
 
 pub loop-item-init : goal.loop-item-init
 loop-item-init c =

@@ -1,4 +1,3 @@
-use Rattle.std.proofs.lemmas.Grind.{common_steps}
 use Rattle.std.proofs.Common.{◌≡◌, ℕ, true, List, sym, ◌∙◌, ap, ap₂, arith, length, IsFalse, nat_eq}
 use Rattle.std.proofs.lemmas.Bool.{eqb-true}
 use Rattle.std.specs.List.{starts_with}
@@ -11,7 +10,7 @@ use Rattle.ansi_slice.proofs.PositionLemmas.{boundary_is_good, none_if_bad, some
 use Rattle.ansi_slice.proofs.OffsetLemmas.{kept-rest}
 use Rattle.ansi_slice.proofs.EndLemmas.{starts_with-boundary}
 use Rattle.ansi_slice.proofs.SliceLemmas.{slice_range-past}
-use Rattle.ansi_slice.proofs.KeptWalkLemmas.{kept-all, kept-bare, not_lent}
+use Rattle.ansi_slice.proofs.KeptWalkLemmas.{kept-all, kept-bare, not_lent, not_refused}
 use Rattle.ansi_slice.proofs.slice.kept.strip_prefix_in.Goals as goal
 
 -- without an empty prefix all is kept
@@ -67,4 +66,5 @@ pub returns-clause-borrowed : goal.returns-clause-borrowed
 returns-clause-borrowed g c = (λ owned. absurd owned, λ either. absurd (not_lent c.args.text.now c.args.prefix.now c.has_any.ensures c.if-not-has_any.false c.is_empty.ensures c.if-is_empty.false either))
 
 pub returns-in_err-with_sequences-clause-takes_no_memory : goal.returns-in_err-with_sequences-clause-takes_no_memory
-returns-in_err-with_sequences-clause-takes_no_memory g c = grind (arith, common_steps)
+returns-in_err-with_sequences-clause-takes_no_memory g c =
+    λ why. absurd (not_refused c.args.text.now c.args.prefix.now c.has_any.ensures c.if-not-has_any.false c.is_empty.ensures c.if-is_empty.false (sym c.starts_with-2.ensures ∙ c.if-not-starts_with-2.false) why)

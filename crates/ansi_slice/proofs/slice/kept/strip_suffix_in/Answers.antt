@@ -1,4 +1,3 @@
-use Rattle.std.proofs.lemmas.Grind.{common_steps}
 use Rattle.std.proofs.Common.{◌-◌, sym, ◌∙◌, ap, ap₂, arith, length, IsFalse, nat_eq}
 use Rattle.std.proofs.lemmas.Bool.{eqb-true}
 use Rattle.std.specs.List.{ends_with, slice_range}
@@ -7,7 +6,7 @@ use Rattle.ansi_slice.specs.Kept.{kept}
 use Rattle.ansi_items.proofs.PlainLemmas.{plain-bare}
 use Rattle.ansi_slice.proofs.PositionLemmas.{none_if_bad, some_if_good}
 use Rattle.ansi_slice.proofs.EndLemmas.{ends_with-boundary}
-use Rattle.ansi_slice.proofs.KeptWalkLemmas.{kept-all, kept-bare, not_lent}
+use Rattle.ansi_slice.proofs.KeptWalkLemmas.{kept-all, kept-bare, not_lent, not_refused}
 use Rattle.ansi_slice.proofs.slice.kept.strip_suffix_in.Goals as goal
 
 -- without an empty suffix all is kept
@@ -49,7 +48,7 @@ pub returns-clause-borrowed : goal.returns-clause-borrowed
 returns-clause-borrowed g c = (λ owned. absurd owned, λ either. absurd (not_lent c.args.text.now c.args.suffix.now c.has_any.ensures c.if-not-has_any.false c.is_empty.ensures c.if-is_empty.false either))
 
 pub returns-in_err-kept-clause-takes_no_memory : goal.returns-in_err-kept-clause-takes_no_memory
-returns-in_err-kept-clause-takes_no_memory g c = grind (arith, common_steps)
+returns-in_err-kept-clause-takes_no_memory g c = λ why. absurd (not_refused c.args.text.now c.args.suffix.now c.has_any.ensures c.if-not-has_any.false c.is_empty.ensures c.if-is_empty.false c.in-Some.ensures.0 why)
 
 pub returns-in_err-push_up_to-clause-takes_no_memory : goal.returns-in_err-push_up_to-clause-takes_no_memory
-returns-in_err-push_up_to-clause-takes_no_memory g c = grind (arith, common_steps)
+returns-in_err-push_up_to-clause-takes_no_memory g c = λ why. absurd (not_refused c.args.text.now c.args.suffix.now c.has_any.ensures c.if-not-has_any.false c.is_empty.ensures c.if-is_empty.false c.in-Some.ensures.0 why)

@@ -7,7 +7,7 @@ use Rattle.ansi_slice.proofs.SideWalkLemmas.{side-begin, side-text, side-mark, s
 use Rattle.ansi_slice.proofs.slice.sides.write_side.Goals as goal
 
 pub range-piece-requires : goal.range-piece-requires
-range-piece-requires g c = (let range = item_range c.in-Some.ensures.steps c.loop-item.invariant.text in record { start_le_end = range.0; start_boundary = λ _. range.1; end_boundary = range.2 })
+range-piece-requires g c = item_range c.in-Some.ensures.steps c.loop-item.invariant.text
 
 pub loop-item-init : goal.loop-item-init
 loop-item-init g c =
