@@ -138,10 +138,19 @@ fn join_parts(alloc: Global, text: &str, pat: &str) -> Result<(String, Vec<usize
     let mut ends = Vec::new(alloc);
     for part in split_in(alloc, text, pat) {
         let part = part?;
-        texts.push_str(part.as_str())?;
-        ends.push(texts.len())?;
+        let end = push_part(&mut texts, part.as_str())?;
+        ends.push(end)?;
     }
     Ok((texts, ends))
+}
+
+/// Adds a part to texts, and gives where it ends.
+fn push_part(texts: &mut String, part: &str) -> Result<usize, AllocError>
+    ensures bytes { OnOk result (string_bytes texts.new ≡ string_bytes texts.old ++ part.now) }
+    ensures end { IfOk result (λ end. end ≡ length (string_bytes texts.new)) }
+{
+    texts.push_str(part)?;
+    Ok(texts.len())
 }
 
 /// The blocks of a text one after the other, and where each ends and its style.

@@ -1,4 +1,4 @@
-use Rattle.std.proofs.Common.{◌≡◌, ◌∙◌, ◌+◌, [], ◌∷◌, ◌++◌, length, map, sym, ap, string_bytes}
+use Rattle.std.proofs.Common.{◌≡◌, ◌∙◌, ◌+◌, [], ◌∷◌, length, map, sym, ap, string_bytes}
 use Rattle.ansi_str.specs.Parts.{all_parts}
 use Rattle.ansi_str.specs.Splits.{SplitPart}
 use Rattle.ansi_str_c.proofs.ListLemmas.{part-taken, texts-more, length-joined, entries-more}
@@ -19,11 +19,10 @@ loop-part-preserved-in_ok-push c =
     let taken = part-taken c.in-Some.ensures.steps c.in_ok-part.was in
     let left = ap (map (λ (p : SplitPart). p.bytes)) taken.1 in
     let bytes = c.as_str.ensures.value ∙ taken.2.0 in
-    let more = c.in_ok-push_str.ensures.bytes in
-    let pushed : c.push.new.self.items ≡ c.loop-part.ends.items ++ c.len.result ∷ [] = c.in_ok-push.ensures.items in
+    let more = c.in_ok-end.ensures.bytes in
     let ends = length-joined _ _ _ more ∙ ap (λ t. length (string_bytes c.loop-part.texts) + length t) bytes in
     record {
       texts = texts-more (λ t. t) _ _ _ _ taken.0.bytes _ (map (λ (p : SplitPart). p.bytes) c.next.new.self) left more bytes c.loop-part.invariant.texts;
       ends = entries-more (λ t. t) (λ begin end t. end) _ _ _ _ _ _ taken.0.bytes _ (map (λ (p : SplitPart). p.bytes) c.next.new.self) left ends
-          pushed (ap (λ n. n ∷ []) (sym (c.len.ensures ∙ c.push_str.new.self.bytes.ok.0 ∙ ends))) c.loop-part.invariant.ends;
+          c.in_ok-push.ensures.items (ap (λ n. n ∷ []) (sym (c.in_ok-end.ensures.end ∙ ends))) c.loop-part.invariant.ends;
     }
