@@ -24,17 +24,21 @@ texts-more text so_far after added all x left next is more adds joined =
     ap (λ u. u ++ rest) more ∙ append_assoc so_far added rest ∙ ap (λ u. so_far ++ (u ++ rest)) adds
     ∙ ap (λ u. so_far ++ u) (sym (flat_map-cons text x next)) ∙ ap (λ xs. so_far ++ flat_map text xs) (sym is) ∙ joined
 
+-- and it ends after those before it
+pub length-joined : (so_far added after : List ℕ) → after ≡ so_far ++ added → length after ≡ length so_far + length added
+length-joined so_far added after more = ap length more ∙ length-append so_far added
+
 -- and its entry
-pub entries-more : {X Y : Type 0} (text : X → List ℕ) (entry : ℕ → ℕ → X → Y) (so_far after added : List ℕ) (entries more_entries all : List Y) (e : Y) (x : X) (left next : List X)
-    → left ≡ x ∷ next → after ≡ so_far ++ added → added ≡ text x → more_entries ≡ entries ++ e ∷ [] → e ≡ entry (length so_far) (length after) x
+pub entries-more : {X Y : Type 0} (text : X → List ℕ) (entry : ℕ → ℕ → X → Y) (so_far after : List ℕ) (entries more_entries all : List Y) (e : Y) (x : X) (left next : List X)
+    → left ≡ x ∷ next → length after ≡ length so_far + length (text x) → more_entries ≡ entries ++ e ∷ [] → entries_of text entry (length so_far) (x ∷ []) ≡ e ∷ []
     → entries ++ entries_of text entry (length so_far) left ≡ all → more_entries ++ entries_of text entry (length after) next ≡ all
-entries-more text entry so_far after added entries more_entries all e x left next is more adds one_more is_entry listed =
+entries-more text entry so_far after entries more_entries all e x left next is ends one_more is_entry listed =
     let rest = entries_of text entry (length after) next in
-    let ends : length after ≡ length so_far + length (text x) = ap length more ∙ length-append so_far added ∙ ap (λ u. length so_far + length u) adds in
-    ap (λ u. u ++ rest) one_more ∙ append_assoc entries (e ∷ []) rest ∙ ap (λ u. entries ++ u ∷ rest) is_entry
-    ∙ ap (λ n. entries ++ entry (length so_far) n x ∷ entries_of text entry n next) ends
+    ap (λ u. u ++ rest) one_more ∙ append_assoc entries (e ∷ []) rest ∙ ap (λ es. entries ++ (es ++ rest)) (sym is_entry)
+    ∙ ap (λ n. entries ++ entry (length so_far) (length so_far + length (text x)) x ∷ entries_of text entry n next) ends
     ∙ ap (λ xs. entries ++ entries_of text entry (length so_far) xs) (sym is) ∙ listed
 
--- and the length is that of the bytes
-pub counted-more : (so_far after added : List ℕ) (n m : ℕ) → after ≡ so_far ++ added → m ≡ n + length added → n ≡ length so_far → m ≡ length after
-counted-more so_far after added n m more longer counted = longer ∙ ap (λ k. k + length added) counted ∙ sym (ap length more ∙ length-append so_far added)
+-- a text is joined between what stands before it and after it
+pub around-more : (so_far a b after before text end : List ℕ) → a ≡ so_far ++ before → b ≡ a ++ text → after ≡ b ++ end → after ≡ so_far ++ (before ++ text ++ end)
+around-more so_far a b after before text end begun more ended =
+    ended ∙ ap (λ u. u ++ end) (more ∙ ap (λ u. u ++ text) begun ∙ append_assoc so_far before text) ∙ append_assoc so_far (before ++ text) end

@@ -44,6 +44,15 @@ changes-more change steps k d edits after e all below is more so_far =
 pub gives-steps : (t : List ℕ) (ps : List (List ℕ)) (es cs : List Change) (answer : Answer) (old new : List ℕ)
     → list_all is_utf8 ps ≡ true → es ≡ cs → OnUtf8 (t ∷ []) (GivesEdited refused es t answer old new) (HasFailed not_utf8 answer old new)
     → OnUtf8 (t ∷ ps) (IsFound refused (edited cs t) answer old new) (HasFailed not_utf8 answer old new) ⊎ HasFailed out_of_memory answer old new
+unfolding GivesEdited
 gives-steps t ps es cs answer old new all is (inl (utf8, inl found)) = inl (inl (utf8, OnUtf8-all ps (IsFound refused (edited cs t) answer old new) (HasFailed not_utf8 answer old new) all (subst (λ cs. IsFound refused (edited cs t) answer old new) is found)))
 gives-steps t ps es cs answer old new all is (inl (utf8, inr (takes, failed))) = inr failed
 gives-steps t ps es cs answer old new all is (inr (bad, failed)) = inl (inr (bad, failed))
+
+-- edits that are the changes give what those give
+pub Edited-same : (t : List ℕ) (status absent : ℕ) (es cs : List Change) (answer : Answer) (old new : List ℕ)
+    → OnUtf8 (t ∷ []) (GivesEdited status es t answer old new) (HasFailed not_utf8 answer old new) → status ≡ absent → es ≡ cs
+    → OnUtf8 (t ∷ []) (GivesEdited absent cs t answer old new) (HasFailed not_utf8 answer old new)
+Edited-same t status absent es cs answer old new gives same is =
+    let call = λ (status : ℕ) (es : List Change). OnUtf8 (t ∷ []) (GivesEdited status es t answer old new) (HasFailed not_utf8 answer old new) in
+    subst (call absent) is (subst (λ status. call status es) same gives)

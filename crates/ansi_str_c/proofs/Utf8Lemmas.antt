@@ -1,10 +1,11 @@
--- What a call of texts does, by the test of each text.
-use Rattle.std.proofs.Common.{◌≡◌, ◌∙◌, Bool, true, false, ◌&&◌, ℕ, List, [], ◌∷◌, inl, inr, sym, refl}
+-- What a call of texts does, by the test of each text, and what it gives.
+use Rattle.std.proofs.Common.{◌≡◌, ◌∙◌, Bool, true, false, ◌&&◌, ℕ, List, [], ◌∷◌, Option, Some, inl, inr, sym, refl, subst}
 use Rattle.std.proofs.lemmas.Bool.{true≢false}
 use Rattle.std.proofs.lemmas.Str.{IsUtf8-from_is_utf8, is_utf8-from_IsUtf8}
 use Rattle.std.specs.List.{list_all}
 use Rattle.std.specs.Str.{is_utf8}
-use Rattle.ansi_str_c.specs.Answers.{OnUtf8}
+use Rattle.ansi_str_c.specs.declared.answers.Answer.{Answer}
+use Rattle.ansi_str_c.specs.Answers.{OnUtf8, IsFound, IsWritten, Gives}
 
 both-left : (a b : Bool) → (a && b) ≡ true → a ≡ true
 both-left true b both = refl
@@ -28,3 +29,8 @@ not-first t ts Done Failed false told not_all failed others = inr ((λ utf8. tru
 pub OnUtf8-not : (ts : List (List ℕ)) (Done Failed : Type 0) → list_all is_utf8 ts ≡ false → Failed → OnUtf8 ts Done Failed
 OnUtf8-not [] Done Failed not_all failed = cc
 OnUtf8-not (t ∷ ts) Done Failed not_all failed = not-first t ts Done Failed (is_utf8 t) refl not_all failed (λ others. OnUtf8-not ts Done Failed others failed)
+
+-- what is found is written
+pub Gives-written : (absent : ℕ) (takes_memory : Bool) (found : Option (List ℕ)) (bytes : List ℕ) (answer : Answer) (old new : List ℕ)
+    → Some bytes ≡ found → IsWritten bytes answer old new → Gives absent takes_memory found answer old new
+Gives-written absent takes_memory found bytes answer old new is written = inl (subst (λ found. IsFound absent found answer old new) is written)

@@ -61,7 +61,7 @@ Gives absent takes_memory found answer old new =
     IsFound absent found answer old new ⊎ (IsTrue takes_memory × HasFailed out_of_memory answer old new)
 
 -- a call gives what changes in turn make of a text, or fails with a status where one is refused
-abbrev pub GivesEdited : ℕ → List Change → List ℕ → Answer → List ℕ → List ℕ → Type 0
+unfoldable pub GivesEdited : ℕ → List Change → List ℕ → Answer → List ℕ → List ℕ → Type 0
 GivesEdited absent es t answer old new = Gives absent (not (stay_borrowed es t)) (edited es t) answer old new
 
 -- a call tells where p first stands in x, or that it stands nowhere

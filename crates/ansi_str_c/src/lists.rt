@@ -1,5 +1,5 @@
 //! Calls that give several texts: all parts, and all blocks.
-ghost use Rattle.std.specs.Prelude.{◌≡◌, ◌∷◌, [], flat_map, IfOk, string_bytes};
+ghost use Rattle.std.specs.Prelude.{◌≡◌, ◌∷◌, [], ◌++◌, length, flat_map, IfOk, OnOk, string_bytes};
 ghost use Rattle.ansi_str.specs.Parts.{all_parts};
 ghost use Rattle.ansi_str.specs.Blocks.{blocks};
 ghost use Rattle.ansi_str_c.specs.Answers.{not_utf8, OnUtf8};
@@ -7,8 +7,8 @@ ghost use Rattle.ansi_str_c.specs.Lists.{none, ends_from, entries_from, styled_t
 
 use crate::answers::{NOT_UTF8, OK, OUT_OF_MEMORY, TOO_SMALL};
 use crate::styles::StyleData;
-use ansi_str::get_blocks;
 use ansi_str::split::split_in;
+use ansi_str::{AnsiBlock, get_blocks};
 use std::alloc::{AllocError, Global};
 use std::fmt::Write;
 use std::str;
@@ -138,10 +138,19 @@ fn join_parts(alloc: Global, text: &str, pat: &str) -> Result<(String, Vec<usize
     let mut ends = Vec::new(alloc);
     for part in split_in(alloc, text, pat) {
         let part = part?;
-        texts.push_str(part.as_str())?;
-        ends.push(texts.len())?;
+        let end = push_part(&mut texts, part.as_str())?;
+        ends.push(end)?;
     }
     Ok((texts, ends))
+}
+
+/// Adds a part to texts, and gives where it ends.
+fn push_part(texts: &mut String, part: &str) -> Result<usize, AllocError>
+    ensures bytes { OnOk result (string_bytes texts.new ≡ string_bytes texts.old ++ part.now) }
+    ensures end { IfOk result (λ end. end ≡ length (string_bytes texts.new)) }
+{
+    texts.push_str(part)?;
+    Ok(texts.len())
 }
 
 /// The blocks of a text one after the other, and where each ends and its style.
@@ -153,13 +162,23 @@ fn join_blocks(alloc: Global, text: &str) -> Result<(String, Vec<BlockEntry>), A
     let mut entries = Vec::new(alloc);
     for block in get_blocks(alloc, text) {
         let block = block?;
-        texts.push_str(block.text())?;
-        entries.push(BlockEntry {
-            end: texts.len(),
-            style: StyleData::of(&block),
-        })?;
+        let entry = push_block(&mut texts, &block)?;
+        entries.push(entry)?;
     }
     Ok((texts, entries))
+}
+
+/// Adds a block to texts, and gives its entry.
+fn push_block(texts: &mut String, block: &AnsiBlock<'_>) -> Result<BlockEntry, AllocError>
+    ensures bytes { OnOk result (string_bytes texts.new ≡ string_bytes texts.old ++ block.now.text) }
+    ensures entry { IfOk result (λ entry. entries_from (length (string_bytes texts.old)) (block.now ∷ []) ≡ entry ∷ []) }
+{
+    let style = StyleData::of(block);
+    texts.push_str(block.text())?;
+    Ok(BlockEntry {
+        end: texts.len(),
+        style,
+    })
 }
 
 /// The blocks of a text one after the other, each between the start of its style and the end, and where
@@ -175,20 +194,32 @@ fn join_styled_blocks(
     let mut entries = Vec::new(alloc);
     for block in get_blocks(alloc, text) {
         let block = block?;
-        let style = StyleData::of(&block);
-        write!(texts, "{}", block.style().start())?;
-        let text_start = texts.len();
-        texts.push_str(block.text())?;
-        let text_end = texts.len();
-        write!(texts, "{}", block.style().end())?;
-        entries.push(StyledBlockEntry {
-            text_start,
-            text_end,
-            end: texts.len(),
-            style,
-        })?;
+        let entry = push_styled_block(&mut texts, &block)?;
+        entries.push(entry)?;
     }
     Ok((texts, entries))
+}
+
+/// Adds a block between the start of its style and the end to texts, and gives its entry.
+fn push_styled_block(
+    texts: &mut String,
+    block: &AnsiBlock<'_>,
+) -> Result<StyledBlockEntry, AllocError>
+    ensures bytes { OnOk result (string_bytes texts.new ≡ string_bytes texts.old ++ styled_text block.now) }
+    ensures entry { IfOk result (λ entry. styled_entries_from (length (string_bytes texts.old)) (block.now ∷ []) ≡ entry ∷ []) }
+{
+    let style = block.style();
+    write!(texts, "{}", style.start())?;
+    let text_start = texts.len();
+    texts.push_str(block.text())?;
+    let text_end = texts.len();
+    write!(texts, "{}", style.end())?;
+    Ok(StyledBlockEntry {
+        text_start,
+        text_end,
+        end: texts.len(),
+        style: StyleData::of(block),
+    })
 }
 
 /// Writes texts at the front of a buffer and their entries at the front of another, where there is room

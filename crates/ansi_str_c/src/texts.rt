@@ -152,6 +152,7 @@ pub extern "C" fn ansi_str_raw_part(
 }
 
 /// Writes what edits make of a text, or answers a status where one is refused.
+#[tactic(auto, unfolding(crate::specs::Answers::GivesEdited))]
 pub(crate) fn write_edited(
     alloc: Global,
     text: &[u8],

@@ -1,7 +1,7 @@
-use Rattle.std.proofs.Common.{◌≡◌, ◌∙◌, length, map, sym, ap}
+use Rattle.std.proofs.Common.{◌≡◌, ◌∙◌, ◌+◌, [], ◌∷◌, length, map, sym, ap, string_bytes}
 use Rattle.ansi_str.specs.Parts.{all_parts}
 use Rattle.ansi_str.specs.Splits.{SplitPart}
-use Rattle.ansi_str_c.proofs.ListLemmas.{part-taken, texts-more, entries-more, counted-more}
+use Rattle.ansi_str_c.proofs.ListLemmas.{part-taken, texts-more, length-joined, entries-more}
 use Rattle.ansi_str_c.proofs.lists.join_parts.Goals as goal
 
 -- no text is joined yet, and all parts are left
@@ -12,7 +12,6 @@ loop-part-init c =
     record {
       texts = rw (c.new-texts.ensures.bytes, left);
       ends = rw (c.new-texts.ensures.bytes, c.new-ends.ensures.items, left);
-      counted = c.new-texts.ensures.len ∙ sym (ap length c.new-texts.ensures.bytes);
     }
 
 pub loop-part-preserved-in_ok-push : goal.loop-part-preserved-in_ok-push
@@ -20,10 +19,10 @@ loop-part-preserved-in_ok-push c =
     let taken = part-taken c.in-Some.ensures.steps c.in_ok-part.was in
     let left = ap (map (λ (p : SplitPart). p.bytes)) taken.1 in
     let bytes = c.as_str.ensures.value ∙ taken.2.0 in
-    let counted = counted-more _ _ _ _ _ c.in_ok-push_str.ensures.bytes c.in_ok-push_str.ensures.len c.loop-part.invariant.counted in
+    let more = c.in_ok-end.ensures.bytes in
+    let ends = length-joined _ _ _ more ∙ ap (λ t. length (string_bytes c.loop-part.texts) + length t) bytes in
     record {
-      texts = texts-more (λ t. t) _ _ _ _ taken.0.bytes _ (map (λ (p : SplitPart). p.bytes) c.next.new.self) left c.in_ok-push_str.ensures.bytes bytes c.loop-part.invariant.texts;
-      ends = entries-more (λ t. t) (λ begin end t. end) _ _ _ _ _ _ _ taken.0.bytes _ (map (λ (p : SplitPart). p.bytes) c.next.new.self) left c.in_ok-push_str.ensures.bytes bytes
-          c.in_ok-push.ensures.items (c.len.ensures ∙ counted) c.loop-part.invariant.ends;
-      counted = counted;
+      texts = texts-more (λ t. t) _ _ _ _ taken.0.bytes _ (map (λ (p : SplitPart). p.bytes) c.next.new.self) left more bytes c.loop-part.invariant.texts;
+      ends = entries-more (λ t. t) (λ begin end t. end) _ _ _ _ _ _ taken.0.bytes _ (map (λ (p : SplitPart). p.bytes) c.next.new.self) left ends
+          c.in_ok-push.ensures.items (ap (λ n. n ∷ []) (sym (c.in_ok-end.ensures.end ∙ ends))) c.loop-part.invariant.ends;
     }

@@ -1,5 +1,5 @@
 use Rattle.std.proofs.Common.{◌≡◌, ◌++◌, length, map, string_bytes}
-use Rattle.std.specs.Prelude.{string_len, flat_map}
+use Rattle.std.specs.Prelude.{flat_map}
 use Rattle.ansi_str.specs.Parts.{all_parts}
 use Rattle.ansi_str.specs.Splits.{SplitPart}
 use Rattle.ansi_str_c.specs.Lists.{ends_from}
@@ -12,5 +12,4 @@ invariant-loop-part l =
     record {
       texts : string_bytes l.texts ++ flat_map (λ p. p) left ≡ flat_map (λ p. p) (all_parts l.text l.pat);
       ends : l.ends.items ++ ends_from (length (string_bytes l.texts)) left ≡ ends_from 0 (all_parts l.text l.pat);
-      counted : string_len l.texts ≡ length (string_bytes l.texts);
     }

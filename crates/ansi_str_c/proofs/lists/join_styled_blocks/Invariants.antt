@@ -1,5 +1,5 @@
 use Rattle.std.proofs.Common.{◌≡◌, ◌++◌, length, string_bytes}
-use Rattle.std.specs.Prelude.{string_len, flat_map}
+use Rattle.std.specs.Prelude.{flat_map}
 use Rattle.ansi_str.specs.Blocks.{blocks}
 use Rattle.ansi_str_c.specs.Lists.{styled_text, styled_entries_from}
 use Rattle.ansi_str_c.proofs.lists.join_styled_blocks.Given as goal
@@ -9,5 +9,4 @@ abbrev pub invariant-loop-block : goal.invariant-loop-block
 invariant-loop-block l = record {
   texts : string_bytes l.texts ++ flat_map styled_text l.block-iterator ≡ flat_map styled_text (blocks l.text);
   entries : l.entries.items ++ styled_entries_from (length (string_bytes l.texts)) l.block-iterator ≡ styled_entries_from 0 (blocks l.text);
-  counted : string_len l.texts ≡ length (string_bytes l.texts);
 }
