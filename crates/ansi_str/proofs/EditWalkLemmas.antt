@@ -1,5 +1,5 @@
 -- How far a list of edits has come, and what one edit more is to it.
-use Rattle.ansi_str.proofs.Common.{◌≡◌, ◌↔◌, ◌⊎◌, inl, inr, ℕ, ◌+◌, ◌<◌, ◌≤◌, suc, Bool, ◌&&◌, true, List, ◌∷◌, length, drop, get_or, drop-cons, Option, Some, None, refl, sym, ◌∙◌, ap, subst, arith, IsTrue, option_and_then, IsNone, option_map_or, and_parts, and_from, drop_all, Change, edited_by, edited, gives_borrow, stay_borrowed, change_of, changes_of}
+use Rattle.ansi_str.proofs.Common.{◌≡◌, ◌↔◌, ◌⊎◌, inl, inr, ℕ, ◌+◌, ◌<◌, ◌≤◌, suc, ◌&&◌, true, List, ◌∷◌, length, drop, get_or, drop-cons, Option, Some, None, refl, sym, ◌∙◌, ap, subst, arith, IsTrue, option_and_then, IsNone, option_map_or, and_parts, and_from, drop_all, Change, edited_by, edited, gives_borrow, stay_borrowed, change_of, changes_of}
 use Rattle.ansi_str.specs.declared.edits.kinds.Edit.{Edit}
 
 -- The text that was reached, edited by what is left, is the whole answer; and it stays a borrow to the end where it is one, and what is left leaves it one.
