@@ -98,7 +98,8 @@ impl Pages {
 }
 
 fn push_owned(given: &mut Vec<String>, alloc: Global, word: &str) -> Result<(), AllocError> {
-    given.push(String::from_str(alloc, word)?)
+    given.push(String::from_str(alloc, word)?)?;
+    Ok(())
 }
 
 fn owned(alloc: Global, words: &[&str]) -> Result<Vec<String>, AllocError> {
