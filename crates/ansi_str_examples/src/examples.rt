@@ -2,7 +2,6 @@
 //! wrapper and a progress printer.
 use ansi_str::{AnsiStr, Edit, edit, get_blocks};
 use ansi_str_uses::callers::searches::cut_match;
-use std::fmt::Write;
 use std::test::Fail;
 
 #[test]
@@ -85,12 +84,10 @@ fn a_line_is_wrapped_by_parts(rt: HostRuntime) -> Result<(), Fail> {
 // A progress printer writes words of its own in a style that it was given as a text.
 #[test]
 fn a_progress_line_is_written_in_a_style(rt: HostRuntime) -> Result<(), Fail> {
-    let mut line = String::new(rt.alloc());
-    for block in get_blocks(rt.alloc(), "\x1b[1;33mbar") {
-        let block = block?;
-        let style = block.style();
-        write!(&mut line, "{}42%{}", style.start(), style.end())?;
-    }
+    let sample = get_blocks(rt.alloc(), "\x1b[1;33mbar").next();
+    let block = sample.ok_or("no block")??;
+    let style = block.style();
+    let line = format!(in rt.alloc(); "{}42%{}", style.start(), style.end())?;
     assert!(rt; line.as_str() == "\x1b[1m\x1b[33m42%\x1b[22m\x1b[39m");
     Ok(())
 }
