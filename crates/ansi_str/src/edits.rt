@@ -91,8 +91,14 @@ fn edit_once<'t, A: Allocator + Copy>(
     match edit {
         Edit::Cut { start, end } => get_in(alloc, text, start, end),
         Edit::Left(mid) | Edit::Right(mid) if !search::is_good_position(text, mid) => Ok(None),
-        Edit::Left(mid) => Ok(Some(left_in(alloc, text, mid)?)),
-        Edit::Right(mid) => Ok(Some(right_in(alloc, text, mid)?)),
+        Edit::Left(mid) => {
+            let side = left_in(alloc, text, mid)?;
+            Ok(Some(side))
+        }
+        Edit::Right(mid) => {
+            let side = right_in(alloc, text, mid)?;
+            Ok(Some(side))
+        }
         Edit::Part { pat, index } => part_in(alloc, text, pat, index),
         Edit::Prefix(prefix) => strip_prefix_in(alloc, text, prefix),
         Edit::Suffix(suffix) => strip_suffix_in(alloc, text, suffix),
