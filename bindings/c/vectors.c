@@ -167,8 +167,9 @@ static void expect_text(const struct row *r, uint32_t status, const struct text 
     free(buffer);
 }
 
-/* The call with a buffer of the right size, with others, and with each request for memory refused in turn. */
-static void expect_writes(const struct row *r, uint32_t status, const struct text *wanted) {
+/* The call with a buffer of the right size, with others, and with each request for memory refused in turn but the first
+   `granted_before`. Answers how many requests the call makes. */
+static long expect_writes(const struct row *r, uint32_t status, const struct text *wanted, long granted_before) {
     expect_text(r, status, wanted, wanted->len);
     expect_text(r, status, wanted, wanted->len + 7);
     if (wanted->len > 0) {
@@ -177,14 +178,15 @@ static void expect_writes(const struct row *r, uint32_t status, const struct tex
     }
     char *buffer = guarded(wanted->len);
     ansi_str_answer answer;
-    long requests = 0;
+    long requests = granted_before - 1;
     do {
-        granted = requests++;
+        granted = ++requests;
         answer = call(r, buffer, wanted->len);
         expect("length with little memory", answer.status != ANSI_STR_OUT_OF_MEMORY || answer.len == 0);
     } while (is_wanting(answer.status, buffer, wanted->len));
     expect("status with little memory", answer.status == status);
     free(buffer);
+    return requests;
 }
 
 /* A call that only tells. */
@@ -212,8 +214,9 @@ static int expect_told(const struct row *r) {
     return 1;
 }
 
-/* A row of its own for one part or block of a row. */
-static void expect_one(const struct row *r, const char *name, uint32_t status, size_t index, const struct text *wanted) {
+/* A row of its own for one part or block of a row, as `expect_writes` has it. */
+static long expect_one(const struct row *r, const char *name, uint32_t status, size_t index, const struct text *wanted,
+                       long granted_before) {
     static struct row one;
     static char digits[32];
     one = *r;
@@ -223,7 +226,7 @@ static void expect_one(const struct row *r, const char *name, uint32_t status, s
     one.fields[at].bytes = digits;
     one.fields[at].len = strlen(digits);
     one.count = at + 1;
-    expect_writes(&one, status, wanted);
+    return expect_writes(&one, status, wanted, granted_before);
 }
 
 static const struct text EMPTY = {(char *)(uintptr_t)"", 0};
@@ -253,10 +256,10 @@ static void expect_parts(const struct row *r) {
     for (size_t i = 0; i < count; i++) {
         expect("part", ends[i] == start + parts[i].len && memcmp(buffer + start, parts[i].bytes, parts[i].len) == 0);
         start = ends[i];
-        expect_one(r, "part", status, i, &parts[i]);
+        expect_one(r, "part", status, i, &parts[i], 0);
     }
     if (status == ANSI_STR_OK) {
-        expect_one(r, "part", ANSI_STR_NO, count, &EMPTY);
+        expect_one(r, "part", ANSI_STR_NO, count, &EMPTY, 0);
         memset(buffer, GUARD, len);
         answer = ansi_str_split(TEXT(t), TEXT(pattern), buffer, len, ends, count - 1);
         expect("too few ends", answer.status == ANSI_STR_TOO_SMALL && answer.count == count && answer.len == len);
@@ -303,18 +306,20 @@ static void expect_blocks(const struct row *r) {
     expect("status", answer.status == status);
     expect("how many and how long", answer.count == count && answer.len == len && buffer[len] == GUARD);
     size_t start = 0;
+    /* (the call for a block begins with the requests of the one for the block before, and so each is refused once) */
+    requests = 0;
     for (size_t i = 0; i < count; i++) {
         const struct text *block = &r->fields[4 + 5 * i];
         expect("block", blocks[i].end == start + block->len && memcmp(buffer + start, block->bytes, block->len) == 0);
         start = blocks[i].end;
         expect("style", is_style(r, 5 + 5 * i, &blocks[i].style));
-        expect_one(r, "block", status, i, block);
+        requests = expect_one(r, "block", status, i, block, requests);
         ansi_str_style_answer style = ansi_str_block_style(TEXT(t), i);
         expect("its style", style.status == ANSI_STR_OK && is_style(r, 5 + 5 * i, &style.style));
     }
     uint32_t past = status == ANSI_STR_OK ? ANSI_STR_NO : status;
     expect("no style", ansi_str_block_style(TEXT(t), count).status == past);
-    expect_one(r, "block", past, count, &EMPTY);
+    expect_one(r, "block", past, count, &EMPTY, requests);
     if (count > 0) {
         answer = ansi_str_blocks(TEXT(t), buffer, len, blocks, count - 1);
         expect("too few entries", answer.status == ANSI_STR_TOO_SMALL && answer.count == count && answer.len == len);
@@ -362,9 +367,9 @@ static void expect_styled_blocks(const struct row *r) {
             expect("start, text and end", ends[k] == start + wanted[k].len && memcmp(buffer + start, wanted[k].bytes, wanted[k].len) == 0);
             start = ends[k];
         }
-        expect_one(r, "block_start", status, i, &wanted[0]);
-        expect_one(r, "block", status, i, &wanted[1]);
-        expect_one(r, "block_end", status, i, &wanted[2]);
+        expect_one(r, "block_start", status, i, &wanted[0], 0);
+        expect_one(r, "block", status, i, &wanted[1], 0);
+        expect_one(r, "block_end", status, i, &wanted[2], 0);
         ansi_str_style_answer style = ansi_str_block_style(TEXT(t), i);
         expect("its style", is_same_style(&style.style, &blocks[i].style));
     }
@@ -424,7 +429,7 @@ int main(void) {
         } else if (strcmp(r.fields[0].bytes, "styled_blocks") == 0) {
             expect_styled_blocks(&r);
         } else if (!expect_told(&r)) {
-            expect_writes(&r, status_of(&r), &r.fields[2]);
+            expect_writes(&r, status_of(&r), &r.fields[2], 0);
         }
     }
     free(line);

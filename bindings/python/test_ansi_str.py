@@ -17,7 +17,8 @@ def expanded(line):
 
 
 def bytes_of(field):
-    return re.sub(rb"\\x(..)", lambda digits: bytes([int(digits[1], 16)]), field)
+    # (a byte that isn't escaped, in ASCII or not, is the same byte in Latin-1)
+    return field.decode("unicode_escape").encode("latin-1")
 
 
 def rows():
