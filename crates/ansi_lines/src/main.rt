@@ -1,9 +1,6 @@
 //! Reads text and writes each line without its sequences, or edited as if they weren't there.
 #![tactic(auto)]
 
-#[cfg(test)]
-mod tests;
-
 use ansi_lines_io::host::{HostIn, HostOut};
 use ansi_lines_runs::runs::run_buffered;
 use std::env;

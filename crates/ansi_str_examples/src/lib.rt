@@ -9,4 +9,6 @@ mod examples;
 #[cfg(test)]
 mod plain;
 #[cfg(test)]
+mod runs;
+#[cfg(test)]
 mod tests;

@@ -2,6 +2,7 @@
 mod blocks;
 mod callers;
 mod colors;
+mod requests;
 
 use std::fmt::Debug;
 use std::process::Abort;

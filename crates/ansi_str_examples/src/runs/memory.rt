@@ -1,5 +1,6 @@
 //! Each request for memory that a run makes, refused in turn.
-use super::{Plan, Ran, expect, expect_end, owned, run_in};
+use super::{Plan, Ran, expect_end, owned, run_in};
+use crate::tests::expect;
 use refusing::Refusing;
 use std::alloc::{AllocError, Global};
 use std::process::Abort;

@@ -1,9 +1,9 @@
-//! Runs over pages: what a run writes, tells and answers where its devices or its memory fail, and what `Refusing` refuses.
-//! What a run makes of words and input alone stands in rows.tsv, which the built program has to pass.
+//! Runs over pages: what a run of `ansi_lines` writes, tells and answers where its devices or its memory fail.
+//! What a run makes of words and input alone stands in rows.tsv of `ansi_lines`, which the built program has to pass.
 mod devices;
 mod memory;
-mod requests;
 
+use crate::tests::expect;
 use ansi_lines_io::page::{Outcome, Page};
 use ansi_lines_runs::runs::run;
 use std::alloc::{AllocError, Allocator, Global};
@@ -144,11 +144,6 @@ fn at_call(alloc: Global, call: usize, outcome: Outcome) -> Result<Vec<Outcome>,
     let mut schedule = vec![in alloc; Outcome::Works; call]?;
     schedule.push(outcome)?;
     Ok(schedule)
-}
-
-// Ends the test where this doesn't hold of a run.
-fn expect<R: Copy + Debug>(rt: &impl Abort, holds: bool, what: &str, run: R) {
-    assert!(rt; holds, "{what} of {run:?}");
 }
 
 // A run ends so.
