@@ -1,7 +1,7 @@
 //! The first example of README.md, and one for each kind of caller: a table, a log viewer, a line
 //! wrapper and a progress printer.
+use crate::callers::searches::cut_match;
 use ansi_str::{AnsiStr, Edit, edit, get_blocks};
-use ansi_str_uses::callers::searches::cut_match;
 use std::test::Fail;
 
 #[test]

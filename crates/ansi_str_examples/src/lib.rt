@@ -1,7 +1,11 @@
-//! As tests, the examples of the docs of `ansi_str` and of README.md, what no row of `ansi_rows` can ask for, and
-//! `ansi_str` compared with its definitions, computed slowly and plainly.
+//! As tests, the examples of the docs of `ansi_str` and of README.md, callers that are proved by its contracts alone,
+//! what no row of `ansi_rows` can ask for, and `ansi_str` compared with its definitions, computed slowly and plainly.
 #![tactic(auto)]
 
+#[cfg(test)]
+mod callers;
+#[cfg(test)]
+mod clones;
 #[cfg(test)]
 mod docs;
 #[cfg(test)]

@@ -1,10 +1,8 @@
 //! The callers, each on worked texts.
 use super::expect;
+use crate::callers::blocks::{count_blocks, have_same_blocks, write_cell, write_status};
+use crate::callers::searches::{cut_around_match, cut_at_boundary, cut_match, split_at_boundary};
 use ansi_str::get_blocks;
-use ansi_str_uses::callers::blocks::{count_blocks, have_same_blocks, write_cell, write_status};
-use ansi_str_uses::callers::searches::{
-    cut_around_match, cut_at_boundary, cut_match, split_at_boundary,
-};
 use std::alloc::{AllocError, Global};
 use std::borrow::CowStr;
 use std::process::Abort;
