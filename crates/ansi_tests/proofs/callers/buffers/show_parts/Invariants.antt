@@ -1,7 +1,7 @@
 use Rattle.std.proofs.Common.{◌+◌, ◌≤◌, length}
 use Rattle.std.specs.List.{sum_by}
 use Rattle.ansi_str.specs.Splits.{SplitPart}
-use Rattle.ansi_str_examples.proofs.callers.buffers.show_parts.Given as goal
+use Rattle.ansi_tests.proofs.callers.buffers.show_parts.Given as goal
 
 -- the parts that are left have no more bytes of the text than it has, and the buffer stays as long
 abbrev pub invariant-loop-part : goal.invariant-loop-part

@@ -1,6 +1,6 @@
 use Rattle.std.proofs.Common.{◌∙◌, arith}
 use Rattle.std.proofs.lemmas.Grind.{common_steps}
-use Rattle.ansi_str_examples.proofs.callers.blocks.write_cell.Goals as goal
+use Rattle.ansi_tests.proofs.callers.blocks.write_cell.Goals as goal
 
 -- the start and the end are those of the block's style
 pub returns : goal.returns

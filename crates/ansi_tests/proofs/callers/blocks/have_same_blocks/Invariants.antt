@@ -2,7 +2,7 @@ use Rattle.std.proofs.Common.{◌≡◌}
 use Rattle.std.specs.Cmp.Lexicographic.{pointwise}
 use Rattle.ansi_str.specs.Blocks.{blocks}
 use Rattle.ansi_str.specs.Same.{are_same}
-use Rattle.ansi_str_examples.proofs.callers.blocks.have_same_blocks.Given as goal
+use Rattle.ansi_tests.proofs.callers.blocks.have_same_blocks.Given as goal
 
 -- where the blocks that are left are the same, all are
 abbrev pub invariant-loop-block : goal.invariant-loop-block

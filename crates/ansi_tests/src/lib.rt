@@ -1,5 +1,6 @@
 //! As tests, the examples of the docs of `ansi_str` and of README.md, callers that are proved by its contracts alone,
-//! what no row of `ansi_rows` can ask for, and `ansi_str` compared with its definitions, computed slowly and plainly.
+//! what no row of `ansi_rows` can ask for, `ansi_str` compared with its definitions, computed slowly and plainly, and
+//! runs of the program over devices and memory that fail.
 #![tactic(auto)]
 
 #[cfg(test)]

@@ -1,5 +1,5 @@
 use Rattle.std.proofs.Common.{arith}
-use Rattle.ansi_str_examples.proofs.callers.buffers.show_parts.Goals as goal
+use Rattle.ansi_tests.proofs.callers.buffers.show_parts.Goals as goal
 
 -- at first all parts are left, which have no more bytes of the text than it has
 pub loop-part-init : goal.loop-part-init

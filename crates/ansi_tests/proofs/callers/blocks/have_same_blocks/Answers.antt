@@ -2,7 +2,7 @@ use Rattle.std.proofs.Common.{◌≡◌, Bool, true, false, not, ◌&&◌, List,
 use Rattle.std.specs.Cmp.Lexicographic.{pointwise}
 use Rattle.ansi_str.specs.Blocks.{Block, GivesBlock}
 use Rattle.ansi_str.specs.Same.{are_same}
-use Rattle.ansi_str_examples.proofs.callers.blocks.have_same_blocks.Goals as goal
+use Rattle.ansi_tests.proofs.callers.blocks.have_same_blocks.Goals as goal
 
 -- the first blocks are compared, and then those after them
 first : {xs ys us vs : List Block} {x y : Block} (same : Bool) → xs ≡ x ∷ us → ys ≡ y ∷ vs → are_same x y ≡ same → pointwise are_same xs ys ≡ same && pointwise are_same us vs

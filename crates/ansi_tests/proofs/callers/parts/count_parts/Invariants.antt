@@ -1,7 +1,7 @@
 use Rattle.std.proofs.Common.{◌≡◌, ◌+◌, ◌≤◌, length}
 use Rattle.ansi_str.specs.Plain.{plain}
 use Rattle.ansi_str.specs.Parts.{all_parts}
-use Rattle.ansi_str_examples.proofs.callers.parts.count_parts.Given as goal
+use Rattle.ansi_tests.proofs.callers.parts.count_parts.Given as goal
 
 -- the parts that were given, and those left, are all of them, which are few
 abbrev pub invariant-loop-part : goal.invariant-loop-part
