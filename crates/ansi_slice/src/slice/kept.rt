@@ -44,9 +44,16 @@ pub fn strip_prefix_in<'t, A: Allocator>(
     if !search::starts_with(text, prefix) {
         return Ok(None);
     }
-    let start = prefix.len();
+    Ok(Some(CowStr::Owned(write_from(alloc, text, prefix.len())?)))
+}
+
+/// A text from a position on, written: the sequences up to there, and all that stands after them.
+fn write_from<A: Allocator>(alloc: A, text: &str, start: usize) -> Result<String<A>, AllocError>
+    requires { IsCharBoundary (plain text.now) start }
+    ensures { IfOk result (λ s. string_bytes s ≡ kept text.now start (length (plain text.now))) }
+{
     let rest = &text[offset_at(text, start)..];
-    Ok(Some(CowStr::Owned(with_sequences(alloc, text.len(), text, start, rest)?)))
+    with_sequences(alloc, text.len(), text, start, rest)
 }
 
 /// As `AnsiStr::ansi_strip_suffix`, with an answer that lives as long as the text, and its memory taken from any allocator.
@@ -99,12 +106,19 @@ pub fn trim_in<'t, A: Allocator>(alloc: A, text: &'t str) -> Result<CowStr<'t, A
     if !has_any(text) {
         return Ok(CowStr::Borrowed(text.trim()));
     }
+    Ok(CowStr::Owned(write_trimmed(alloc, text)?))
+}
+
+/// A text without the white space at its ends, written.
+fn write_trimmed<A: Allocator>(alloc: A, text: &str) -> Result<String<A>, AllocError>
+    ensures { IfOk result (λ s. string_bytes s ≡ trimmed text.now) }
+{
     let start = white_space_len(text);
     let rest = &text[offset_at(text, start)..];
     let mut kept = String::with_capacity(alloc, text.len())?;
     push_sequences(&mut kept, text, start)?;
     push_up_to(&mut kept, rest, solid_end(rest))?;
-    Ok(CowStr::Owned(kept))
+    Ok(kept)
 }
 
 /// Appends a text up to an offset, and then its sequences alone. An `Err` means that memory is wanting;

@@ -44,10 +44,7 @@ pub fn split_at_in<'t, A: Allocator + Copy>(
         let (left, right) = halves(text, mid);
         return Ok((CowStr::Borrowed(left), CowStr::Borrowed(right)));
     }
-    let mut style = styles::plain_style();
-    let mut left = String::new(alloc);
-    let end = write_side(&mut left, &mut style, text, mid)?;
-    let right = write_right(alloc, style, &text[end..])?;
+    let (left, right) = write_sides(alloc, text, mid)?;
     Ok((CowStr::Owned(left), CowStr::Owned(right)))
 }
 
@@ -103,6 +100,23 @@ fn halves(text: &str, mid: usize) -> (&str, &str)
     ensures right { result.1.now ≡ right_side text.now mid }
 {
     text.split_at(mid.min(text.len()))
+}
+
+/// The two sides of a text, written.
+fn write_sides<A: Allocator + Copy>(
+    alloc: A,
+    text: &str,
+    mid: usize,
+) -> Result<(String<A>, String<A>), AllocError>
+    requires { IsTrue (is_good_position (plain text.now) mid) }
+    ensures left { IfOk result (λ s. string_bytes s.0 ≡ left_side text.now mid) }
+    ensures right { IfOk result (λ s. string_bytes s.1 ≡ right_side text.now mid) }
+{
+    let mut style = styles::plain_style();
+    let mut left = String::new(alloc);
+    let end = write_side(&mut left, &mut style, text, mid)?;
+    let right = write_right(alloc, style, &text[end..])?;
+    Ok((left, right))
 }
 
 /// Appends what a text gives to a side before a position: each run of its plain text in the style there,

@@ -6,8 +6,7 @@ use Rattle.ansi_slice.specs.Kept.{kept}
 use Rattle.ansi_items.proofs.PlainLemmas.{plain-bare}
 use Rattle.ansi_items.proofs.Utf8Lemmas.{IsUtf8-plain}
 use Rattle.std.specs.Str.{IsUtf8, IsCharBoundary}
-use Rattle.ansi_slice.proofs.PositionLemmas.{boundary_is_good, none_if_bad, some_if_good}
-use Rattle.ansi_slice.proofs.OffsetLemmas.{kept-rest}
+use Rattle.ansi_slice.proofs.PositionLemmas.{none_if_bad, some_if_good}
 use Rattle.ansi_slice.proofs.EndLemmas.{starts_with-boundary}
 use Rattle.ansi_slice.proofs.SliceLemmas.{slice_range-past}
 use Rattle.ansi_slice.proofs.KeptWalkLemmas.{kept-all, kept-bare, not_lent, not_refused}
@@ -24,14 +23,8 @@ returns-then-is_empty-clause-bytes g c =
 after_prefix : (t p : List ℕ) → IsUtf8 t → IsUtf8 p → starts_with nat_eq (plain t) p ≡ true → IsCharBoundary (plain t) (length p)
 after_prefix t p utf8 prefix_utf8 starts = starts_with-boundary (plain t) p (IsUtf8-plain t utf8) prefix_utf8 starts
 
-pub offset_at-requires : goal.offset_at-requires
-offset_at-requires g c =
-    boundary_is_good _ _ (after_prefix c.args.text.now c.args.prefix.now c.utf8.text c.utf8.prefix (sym c.starts_with-2.ensures ∙ c.if-not-starts_with-2.false))
-
-pub returns-clause-bytes : goal.returns-clause-bytes
-returns-clause-bytes g c =
-    let boundary = after_prefix c.args.text.now c.args.prefix.now c.utf8.text c.utf8.prefix (sym c.starts_with-2.ensures ∙ c.if-not-starts_with-2.false) in
-    c.in_ok-with_sequences.ensures ∙ kept-rest boundary.0 c.offset_at.ensures c.range_from-rest.ensures.value
+pub write_from-requires : goal.write_from-requires
+write_from-requires g c = after_prefix c.args.text.now c.args.prefix.now c.utf8.text c.utf8.prefix (sym c.starts_with-2.ensures ∙ c.if-not-starts_with-2.false)
 
 -- a text without ESC is its own plain text, and what is left of it is a slice
 
@@ -65,6 +58,6 @@ returns-then-not-has_any-clause-bytes g c =
 pub returns-clause-borrowed : goal.returns-clause-borrowed
 returns-clause-borrowed g c = (λ owned. absurd owned, λ either. absurd (not_lent c.args.text.now c.args.prefix.now c.has_any.ensures c.if-not-has_any.false c.is_empty.ensures c.if-is_empty.false either))
 
-pub returns-in_err-with_sequences-clause-takes_no_memory : goal.returns-in_err-with_sequences-clause-takes_no_memory
-returns-in_err-with_sequences-clause-takes_no_memory g c =
+pub returns-in_err-write_from-clause-takes_no_memory : goal.returns-in_err-write_from-clause-takes_no_memory
+returns-in_err-write_from-clause-takes_no_memory g c =
     λ why. absurd (not_refused c.args.text.now c.args.prefix.now c.has_any.ensures c.if-not-has_any.false c.is_empty.ensures c.if-is_empty.false (sym c.starts_with-2.ensures ∙ c.if-not-starts_with-2.false) why)

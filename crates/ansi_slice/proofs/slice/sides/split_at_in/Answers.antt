@@ -1,8 +1,4 @@
-use Rattle.std.proofs.Common.{◌++◌, refl, sym, ◌∙◌, ap, ap₂, arith, length}
-use Rattle.ansi_items.specs.Pieces.{pieces_of}
-use Rattle.ansi_style.specs.Reading.{style_within}
-use Rattle.ansi_slice.specs.Sides.{side_up_to}
-use Rattle.ansi_slice.proofs.SideWalkLemmas.{left_side-is, right_side-is}
+use Rattle.std.proofs.Common.{refl, sym, ◌∙◌, ap, arith, length}
 use Rattle.ansi_slice.proofs.LengthLemmas.{length-sides}
 use Rattle.ansi_slice.proofs.slice.sides.split_at_in.Goals as goal
 
@@ -33,17 +29,6 @@ returns-then-not-has_any-clause-len g c =
       length-sides c.args.text.now c.args.mid,
     )
 
-pub returns-clause-left : goal.returns-clause-left
-returns-clause-left g c =
-    let t = c.args.text.now in
-    c.in_ok-end.ensures.bytes ∙ ap₂ (λ v r. v ++ side_up_to r c.args.mid (pieces_of t)) c.new-left.ensures.bytes c.plain_style-style.ensures ∙ sym (left_side-is t c.args.mid)
-
--- the right side goes on where the left one ends
-pub returns-clause-right : goal.returns-clause-right
-returns-clause-right g c =
-    let styled = c.in_ok-end.ensures.style ∙ ap (λ r. style_within r c.args.text.now c.args.mid) c.plain_style-style.ensures in
-    c.in_ok-right.ensures ∙ right_side-is c.in_ok-end.ensures.offset c.range_from.ensures.value styled (omega arith)
-
 pub returns-clause-len : goal.returns-clause-len
 returns-clause-len g c =
-    omega (arith, ap length (returns-clause-left g c), ap length (returns-clause-right g c), length-sides c.args.text.now c.args.mid)
+    omega (arith, ap length c.in_ok-left.ensures.left, ap length c.in_ok-left.ensures.right, length-sides c.args.text.now c.args.mid)
