@@ -10,7 +10,6 @@ use crate::answers::{Answer, NO, NOT_UTF8, OK, OUT_OF_MEMORY, write};
 use crate::styles::StyleData;
 use ansi_str::{AnsiBlock, get_blocks};
 use std::alloc::{AllocError, Global};
-use std::fmt::Write;
 use std::str;
 
 /// What a call answers that gives a style.
@@ -139,22 +138,18 @@ fn find_block(alloc: Global, text: &str, index: usize) -> Result<Option<AnsiBloc
 fn block_start(alloc: Global, text: &str, index: usize) -> Result<Option<String>, AllocError>
     ensures { IfOk result (λ found. option_map string_bytes found ≡ option_map (λ b. start b.style) (slice_get (blocks text.now) index)) }
 {
-    let Some(block) = find_block(alloc, text, index)? else {
-        return Ok(None);
-    };
-    let mut start = String::new(alloc);
-    write!(start, "{}", block.style().start())?;
-    Ok(Some(start))
+    match find_block(alloc, text, index)? {
+        Some(block) => Ok(Some(block.style().start().to_string(alloc)?)),
+        None => Ok(None),
+    }
 }
 
 /// The end of the style of the block of an index, or `None` where there are not so many blocks.
 fn block_end(alloc: Global, text: &str, index: usize) -> Result<Option<String>, AllocError>
     ensures { IfOk result (λ found. option_map string_bytes found ≡ option_map (λ b. close_if_any b.style) (slice_get (blocks text.now) index)) }
 {
-    let Some(block) = find_block(alloc, text, index)? else {
-        return Ok(None);
-    };
-    let mut end = String::new(alloc);
-    write!(end, "{}", block.style().end())?;
-    Ok(Some(end))
+    match find_block(alloc, text, index)? {
+        Some(block) => Ok(Some(block.style().end().to_string(alloc)?)),
+        None => Ok(None),
+    }
 }
