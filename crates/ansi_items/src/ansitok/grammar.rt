@@ -238,7 +238,8 @@ impl Looks {
         ensures bound { result ≤ length bytes.now }
         ensures looks { self.new.count ≡ self.old.count + min (result + 1) (length bytes.now) }
     {
-        if opener == b']' {
+        let is_command = opener == b']';
+        if is_command {
             let len = memchr2(ESC, BEL, bytes).unwrap_or(bytes.len());
             self.passed(bytes, len);
             len
