@@ -230,7 +230,7 @@ impl Looks {
     /// How many bytes of a control string's body stand at the front: those before the next ESC, or
     /// before the next BEL in an operating system command.
     #[inline(always)]
-    #[tactic(auto, using(crate::proofs::CountLemmas::body_found, crate::proofs::CountLemmas::text_is_body, crate::proofs::CountLemmas::body_within))]
+    #[tactic(auto, using(crate::proofs::CountLemmas::body_found, crate::proofs::CountLemmas::body_within))]
     fn body_len(&mut self, opener: u8, bytes: &[u8]) -> usize
         requires { self.old.count + length bytes.now < 2 ^ 128 }
         ensures len { result ≡ prefix_len (is_body_byte opener) bytes.now }

@@ -10,6 +10,7 @@ pub returns-then-is_command-clause-len : goal.returns-then-is_command-clause-len
 returns-then-is_command-clause-len c =
     c.unwrap_or-len.ensures ∙ body_found _ _ c.memchr2.ensures ∙ ap (λ o. prefix_len (is_body_byte o) c.args.bytes.now) (sym c.if-is_command.true)
 
+-- the search looked at these and at the byte that stopped it
 pub returns-then-is_command-clause-looks : goal.returns-then-is_command-clause-looks
 returns-then-is_command-clause-looks c = c.passed.ensures
 
