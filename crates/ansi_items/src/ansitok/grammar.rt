@@ -230,7 +230,7 @@ impl Looks {
     /// How many bytes of a control string's body stand at the front: those before the next ESC, or
     /// before the next BEL in an operating system command.
     #[inline(always)]
-    #[tactic(auto, using(crate::proofs::CountLemmas::body_found, crate::proofs::CountLemmas::text_is_body, crate::proofs::CountLemmas::body_within))]
+    #[tactic(auto, using(crate::proofs::CountLemmas::body_found, crate::proofs::CountLemmas::body_within))]
     fn body_len(&mut self, opener: u8, bytes: &[u8]) -> usize
         requires { self.old.count + length bytes.now < 2 ^ 128 }
         ensures len { result ≡ prefix_len (is_body_byte opener) bytes.now }
@@ -238,7 +238,8 @@ impl Looks {
         ensures bound { result ≤ length bytes.now }
         ensures looks { self.new.count ≡ self.old.count + min (result + 1) (length bytes.now) }
     {
-        if opener == b']' {
+        let is_command = opener == b']';
+        if is_command {
             let len = memchr2(ESC, BEL, bytes).unwrap_or(bytes.len());
             self.passed(bytes, len);
             len

@@ -1,12 +1,15 @@
--- The order of styles is that of their parts, in turn.
-use Rattle.std.proofs.Common.{◌≡◌, ℕ, Bool, true, false, Option, Some, None, refl, rules}
-use Rattle.std.specs.Ordering.{bool_cmp, nat_cmp}
+-- The order of styles is that of their parts, in turn, and that of colors by their names is that of their ranks.
+use Rattle.std.proofs.Common.{◌≡◌, ℕ, Bool, true, false, Option, Some, None, refl, ap}
+use Rattle.std.specs.Ordering.{ordering_then, bool_cmp, nat_cmp}
 use Rattle.std.specs.Option.{option_cmp}
 use Rattle.ansi_items.specs.declared.ansitok.AnsiColor.{AnsiColor}
 use Rattle.ansi_items.specs.declared.ansitok.AnsiColor.TheVariants.{Bit4, Bit8, Bit24}
 use Rattle.ansi_items.specs.contracts.ansitok.AnsiColorOrd.TheImpl.{ghosts}
 use Rattle.ansi_items.specs.AnsiColors.{compared}
-use Rattle.ansi_style.specs.Orders.{part_of_color, part_of_font, part_of_attribute}
+use Rattle.ansi_style.specs.declared.style.color.Color.{Color}
+use Rattle.ansi_style.specs.declared.style.color.Color.TheVariants.{Black, Fixed, Rgb}
+use Rattle.ansi_style.specs.contracts.style.color.ColorOrd.TheImpl.{ghosts as named}
+use Rattle.ansi_style.specs.Orders.{color_key, part_of_color, part_of_font, part_of_attribute}
 use Rattle.ansi_items.proofs.AnsiColorLemmas.{alone, same_ansi_color}
 use Rattle.ansi_style.proofs.laws.orders_go_by_parts.Goals as goal
 
@@ -32,8 +35,15 @@ same_color (Some (Bit8 n)) None = refl
 same_color (Some (Bit24 r g b)) None = refl
 same_color (Some x) (Some y) = same_ansi_color x y
 
+-- one by one: the line of `Black` is there so that both colors are split
+same_named : (x y : Color) → named.cmp x y ≡ compared (color_key x) (color_key y)
+same_named (Fixed n) (Fixed m) = alone (nat_cmp n m)
+same_named (Rgb r g b) (Rgb u v w) = ap (λ o. ordering_then (nat_cmp r u) (ordering_then (nat_cmp g v) o)) (alone (nat_cmp b w))
+same_named x Black = refl
+same_named x y = refl
+
 pub returns-clause-style : goal.returns-clause-style
 returns-clause-style c = λ a b. simp (same_color, same_font, same_attribute, ← alone)
 
 pub returns-clause-color : goal.returns-clause-color
-returns-clause-color c = search rules
+returns-clause-color c = same_named
