@@ -1,4 +1,4 @@
-use Rattle.std.proofs.Common.{◌∙◌, ap, inr}
+use Rattle.std.proofs.Common.{rules, ◌∙◌, ap, inr}
 use Rattle.ansi_lines_io.specs.Devices.{count_after}
 use Rattle.ansi_lines_runs.proofs.Written.{unfailed}
 use Rattle.ansi_lines_runs.proofs.runs.pass_on_lines.Goals as goal
@@ -13,7 +13,7 @@ returns-in_err-flush-clause-flushed_at_most_once g c = inr (c.flush.ensures.flus
 -- the flush passes all on, fails nothing and takes nothing back
 pub returns-clause-passed : goal.returns-clause-passed
 returns-clause-passed g c = (
-  c.in_ok-flush.ensures.passed,
+  search rules,
   unfailed _ _ c.in_ok-flush.ensures.failed ∙ c.in_ok-refused.ensures.unfailed,
   c.flush.ensures.flushes ∙ ap (λ flushes. count_after flushes 1) c.in_ok-refused.ensures.flushes,
 )
