@@ -1,7 +1,8 @@
 //! The first example of README.md, and one for each kind of caller: a table, a log viewer, a line
 //! wrapper and a progress printer.
 use crate::callers::searches::cut_match;
-use ansi_str::{AnsiStr, Edit, edit, get_blocks};
+use ansi_str::{AnsiStr, Edit, Style, edit, get_blocks};
+use std::alloc::{AllocError, Global};
 use std::test::Fail;
 
 #[test]
@@ -24,19 +25,15 @@ fn the_first_example_is_right(rt: HostRuntime) -> Result<(), Fail> {
 #[test]
 fn a_cut_is_stripped(rt: HostRuntime) -> Result<(), Fail> {
     let log = "\x1b[31mred\x1b[39m and plain";
-    assert!(rt;
-        log.ansi_cut(rt.alloc(), ..5)?
-            .as_str()
-            .ansi_strip(rt.alloc())?
-            .as_str()
-            == "red a"
-    );
+    let cut = log.ansi_cut(rt.alloc(), ..5)?;
+    let plain = cut.ansi_strip(rt.alloc());
+    assert!(rt; matches!(&plain, Ok(plain) if plain.as_str() == "red a"));
     Ok(())
 }
 
 // A table cuts a cell to a width in bytes. Nothing stays open after it.
 #[test]
-fn a_cell_is_cut_to_a_width(rt: HostRuntime) -> Result<(), Fail> {
+fn a_cell_is_cut_to_a_width(rt: HostRuntime) {
     let edits = [
         Edit::Trim,
         Edit::Cut {
@@ -44,19 +41,39 @@ fn a_cell_is_cut_to_a_width(rt: HostRuntime) -> Result<(), Fail> {
             end: Some(4),
         },
     ];
-    let cell = edit(rt.alloc(), " \x1b[1;32mansi_str\x1b[0m ", &edits)?.ok_or("refused")?;
-    assert!(rt; cell.as_str() == "\x1b[1;32mansi\x1b[22m\x1b[39m");
-    Ok(())
+    let cell = edit(rt.alloc(), " \x1b[1;32mansi_str\x1b[0m ", &edits);
+    assert!(rt;
+        matches!(&cell, Ok(Some(cell)) if cell.as_str() == "\x1b[1;32mansi\x1b[22m\x1b[39m")
+    );
 }
 
 // A log viewer searches a line as if it were plain, and shows what it found in its styles.
 #[test]
-fn a_log_line_is_searched_and_cut(rt: HostRuntime) -> Result<(), Fail> {
+fn a_log_line_is_searched_and_cut(rt: HostRuntime) {
     let line = "12:00 \x1b[31merror\x1b[0m: disk \x1b[1mfull\x1b[0m";
     assert!(rt; line.ansi_find("disk full") == Some(13));
-    let found = cut_match(rt.alloc(), &line, "disk full")?.ok_or("no match")?;
-    assert!(rt; found.as_str() == "\x1b[31m\x1b[0mdisk \x1b[1mfull\x1b[0m");
-    Ok(())
+    let found = cut_match(rt.alloc(), &line, "disk full");
+    let want = "\x1b[31m\x1b[0mdisk \x1b[1mfull\x1b[0m";
+    assert!(rt; matches!(&found, Ok(Some(found)) if found.as_str() == want));
+}
+
+/// Appends a word after a blank, or on the next line where this one has no room for it, and gives
+/// the column after it.
+fn wrap_word(
+    wrapped: &mut String,
+    column: usize,
+    word: &str,
+    width: usize,
+) -> Result<usize, AllocError> {
+    if column == 0 {
+        wrapped.push_str(word)?;
+        return Ok(width);
+    }
+    let after_blank = column.saturating_add(1).saturating_add(width);
+    let is_room = after_blank <= 8;
+    wrapped.push(if is_room { ' ' } else { '\n' })?;
+    wrapped.push_str(word)?;
+    Ok(if is_room { after_blank } else { width })
 }
 
 // A wrapper breaks a line between its words, each of which brings its style along.
@@ -66,19 +83,16 @@ fn a_line_is_wrapped_by_parts(rt: HostRuntime) -> Result<(), Fail> {
     let mut column = 0usize;
     for word in "\x1b[34mone two\x1b[0m three".ansi_split(rt.alloc(), " ") {
         let word = word?;
-        let width = word.as_str().ansi_strip(rt.alloc())?.len();
-        if column > 0 && column.saturating_add(width) >= 8 {
-            wrapped.push('\n')?;
-            column = 0;
-        } else if column > 0 {
-            wrapped.push(' ')?;
-            column = column.saturating_add(1);
-        }
-        wrapped.push_str(word.as_str())?;
-        column = column.saturating_add(width);
+        let width = word.ansi_strip(rt.alloc())?.len();
+        column = wrap_word(&mut wrapped, column, word.as_str(), width)?;
     }
     assert!(rt; wrapped.as_str() == "\x1b[34mone\x1b[39m \x1b[34mtwo\x1b[0m\nthree");
     Ok(())
+}
+
+/// A line of progress in a style.
+fn progress_line(alloc: Global, style: &Style) -> Result<String, AllocError> {
+    format!(in alloc; "{}42%{}", style.start(), style.end())
 }
 
 // A progress printer writes words of its own in a style that it was given as a text.
@@ -86,8 +100,7 @@ fn a_line_is_wrapped_by_parts(rt: HostRuntime) -> Result<(), Fail> {
 fn a_progress_line_is_written_in_a_style(rt: HostRuntime) -> Result<(), Fail> {
     let sample = get_blocks(rt.alloc(), "\x1b[1;33mbar").next();
     let block = sample.ok_or("no block")??;
-    let style = block.style();
-    let line = format!(in rt.alloc(); "{}42%{}", style.start(), style.end())?;
+    let line = progress_line(rt.alloc(), block.style())?;
     assert!(rt; line.as_str() == "\x1b[1m\x1b[33m42%\x1b[22m\x1b[39m");
     Ok(())
 }

@@ -36,7 +36,7 @@ fn are_control_bytes(bytes: &[u8]) -> bool {
 
 /// Whether a byte is among others.
 fn has_byte(bytes: &[u8], byte: u8) -> bool {
-    bytes.iter().any(|other| *other == byte)
+    bytes.contains(&byte)
 }
 
 /// Whether the bytes are the body of an operating system command and its terminator.

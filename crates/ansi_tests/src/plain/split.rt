@@ -8,18 +8,6 @@ use std::alloc::{AllocError, Global};
 use std::borrow::CowStr;
 use std::process::Abort;
 
-/// The parts of a plain text, by the ends of each.
-fn intervals(alloc: Global, plain: &str, pat: &str) -> Result<Vec<(usize, usize)>, AllocError> {
-    let mut intervals = Vec::new(alloc);
-    let mut start = 0usize;
-    for part in plain.split(pat) {
-        let end = start.saturating_add(part.len());
-        intervals.push((start, end))?;
-        start = end.saturating_add(pat.len());
-    }
-    Ok(intervals)
-}
-
 /// A part while it is made.
 #[derive(Drop)]
 struct Draft {
@@ -137,10 +125,13 @@ fn expect_parts<'t>(
 ) -> Result<(), AllocError> {
     let mut parts = text.ansi_split(alloc, pat);
     let mut before = None;
-    for interval in intervals(alloc, plain, pat)? {
-        let want = part(alloc, text, items, before, interval)?;
+    let mut start = 0usize;
+    for plain_part in plain.split(pat) {
+        let end = start.saturating_add(plain_part.len());
+        let want = part(alloc, text, items, before, (start, end))?;
         expect_part(rt, &parts.next(), &want, text, pat);
-        before = Some(interval.1);
+        before = Some(end);
+        start = end.saturating_add(pat.len());
     }
     expect(rt, parts.next().is_none(), "no part more", (text, pat));
     Ok(())

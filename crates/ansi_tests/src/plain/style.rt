@@ -1,7 +1,8 @@
 //! Styles by name: what the codes of an SGR set and clear, and what closes a style.
 use std::alloc::{AllocError, Global};
 
-/// What a style may have, the codes that set it, and the code that clears it.
+/// What a style may have, the codes that set it (38, 48 and 58 with the fields after them), and the
+/// code that clears it.
 type Name = (&'static str, &'static [&'static str], &'static str);
 
 static NAMES: [Name; 26] = [
@@ -25,20 +26,20 @@ static NAMES: [Name; 26] = [
     (
         "foreground",
         &[
-            "30", "31", "32", "33", "34", "35", "36", "37", "90", "91", "92", "93", "94", "95",
-            "96", "97",
+            "30", "31", "32", "33", "34", "35", "36", "37", "38", "90", "91", "92", "93", "94",
+            "95", "96", "97",
         ],
         "39",
     ),
     (
         "background",
         &[
-            "40", "41", "42", "43", "44", "45", "46", "47", "100", "101", "102", "103", "104",
-            "105", "106", "107",
+            "40", "41", "42", "43", "44", "45", "46", "47", "48", "100", "101", "102", "103",
+            "104", "105", "106", "107",
         ],
         "49",
     ),
-    ("underline color", &[], "59"),
+    ("underline color", &["58"], "59"),
     ("framed", &["51"], "54"),
     ("encircled", &["52"], "54"),
     ("overlined", &["53"], "55"),
@@ -70,7 +71,7 @@ fn code(field: &str) -> &str {
 
 /// Whether a code is among others.
 fn has_code(codes: &[&str], code: &str) -> bool {
-    codes.iter().any(|other| *other == code)
+    codes.contains(&code)
 }
 
 fn push_sgr(text: &mut String, code: &str) -> Result<(), AllocError> {
@@ -100,19 +101,12 @@ impl NamedStyle {
 
     /// Whether a name is set.
     fn has(&self, name: &str) -> bool {
-        NAMES
-            .iter()
-            .zip(&self.are_set)
-            .any(|((other, _, _), is_set)| *is_set && *other == name)
-    }
-
-    /// Sets a name.
-    fn set(&mut self, name: &str) {
-        for ((other, _, _), is_set) in NAMES.iter().zip(self.are_set.iter_mut()) {
-            if *other == name {
-                *is_set = true;
+        for ((other, _, _), is_set) in NAMES.iter().zip(&self.are_set) {
+            if *is_set && *other == name {
+                return true;
             }
         }
+        false
     }
 
     /// Sets and clears what a code sets and clears, and tells whether that is anything.
@@ -158,9 +152,7 @@ impl NamedStyle {
     fn read(&mut self, fields: &[&str]) -> usize {
         match fields {
             [] => 0,
-            ["38", ..] => self.read_color("foreground", fields),
-            ["48", ..] => self.read_color("background", fields),
-            ["58", ..] => self.read_color("underline color", fields),
+            ["38" | "48" | "58", ..] => self.read_color(fields),
             [code, ..] => {
                 self.perform(code);
                 1
@@ -169,14 +161,14 @@ impl NamedStyle {
     }
 
     /// The same of a color of several fields.
-    fn read_color(&mut self, name: &str, fields: &[&str]) -> usize {
+    fn read_color(&mut self, fields: &[&str]) -> usize {
         match fields {
-            [_, "2", _, _, _, ..] => {
-                self.set(name);
+            [code, "2", _, _, _, ..] => {
+                self.change(code);
                 5
             }
-            [_, "5", _, ..] => {
-                self.set(name);
+            [code, "5", _, ..] => {
+                self.change(code);
                 3
             }
             // A color that lacks a field takes all that there are, and a bad selector takes itself.
@@ -187,7 +179,7 @@ impl NamedStyle {
 
     /// Whether there is something to end.
     pub fn has_any(&self) -> bool {
-        self.are_set.iter().any(|is_set| *is_set) || (self.is_reset && self.is_unknown)
+        self.are_set.contains(&true) || (self.is_reset && self.is_unknown)
     }
 
     /// The sequences that set the style, where these names and codes are all that a text sets.
@@ -203,8 +195,12 @@ impl NamedStyle {
 
     /// Whether a name is set that this code clears.
     fn is_closed_by(&self, code: &str) -> bool {
-        NAMES.iter().zip(&self.are_set).any(|((_, _, clearing_code), is_set)| *is_set
-            && *clearing_code == code)
+        for ((_, _, clearing_code), is_set) in NAMES.iter().zip(&self.are_set) {
+            if *is_set && *clearing_code == code {
+                return true;
+            }
+        }
+        false
     }
 
     /// The sequences that end the style.
