@@ -2,7 +2,6 @@
 ghost use Rattle.std.specs.Prelude.{◌≡◌, ◌↔◌, ◌⊎◌, IsTrue, IsNone, IsOk, IfOk, IfSome, option_map};
 ghost use Rattle.std.specs.Cow.{cow_str_bytes, IsBorrowedStr};
 ghost use Rattle.ansi_items.specs.Plain.{is_whole};
-ghost use Rattle.ansi_str.specs.Changes.{LeftOf, RightOf};
 ghost use Rattle.ansi_str.specs.Edited.{edited_by, edited, gives_borrow, stay_borrowed, IsSliceNamed};
 ghost use Rattle.ansi_str.specs.Edits.{change_of, changes_of};
 
@@ -91,47 +90,20 @@ fn edit_once<'t, A: Allocator + Copy>(
 {
     match edit {
         Edit::Cut { start, end } => get_in(alloc, text, start, end),
-        Edit::Left(mid) => get_left(alloc, text, mid),
-        Edit::Right(mid) => get_right(alloc, text, mid),
+        Edit::Left(mid) | Edit::Right(mid) if !search::is_good_position(text, mid) => Ok(None),
+        Edit::Left(mid) => {
+            let side = left_in(alloc, text, mid)?;
+            Ok(Some(side))
+        }
+        Edit::Right(mid) => {
+            let side = right_in(alloc, text, mid)?;
+            Ok(Some(side))
+        }
         Edit::Part { pat, index } => part_in(alloc, text, pat, index),
         Edit::Prefix(prefix) => strip_prefix_in(alloc, text, prefix),
         Edit::Suffix(suffix) => strip_suffix_in(alloc, text, suffix),
         Edit::Trim => Ok(Some(trim_in(alloc, text)?)),
     }
-}
-
-/// The text before a position, or `None` where the position is bad, which takes no memory.
-fn get_left<'t, A: Allocator>(
-    alloc: A,
-    text: &'t str,
-    mid: usize,
-) -> Result<Option<CowStr<'t, A>>, AllocError>
-    ensures bytes { IfOk result (λ o. option_map cow_str_bytes o ≡ edited_by (LeftOf mid) text.now) }
-    ensures borrowed { IfOk result (λ o. IfSome o (λ c. IsBorrowedStr c ↔ IsTrue (gives_borrow (LeftOf mid) text.now))) }
-    ensures takes_no_memory { IsNone (edited_by (LeftOf mid) text.now) ⊎ IsTrue (gives_borrow (LeftOf mid) text.now) → IsOk result }
-{
-    if !search::is_good_position(text, mid) {
-        return Ok(None);
-    }
-    let side = left_in(alloc, text, mid)?;
-    Ok(Some(side))
-}
-
-/// The text from a position on, or `None` where the position is bad, which takes no memory.
-fn get_right<'t, A: Allocator>(
-    alloc: A,
-    text: &'t str,
-    mid: usize,
-) -> Result<Option<CowStr<'t, A>>, AllocError>
-    ensures bytes { IfOk result (λ o. option_map cow_str_bytes o ≡ edited_by (RightOf mid) text.now) }
-    ensures borrowed { IfOk result (λ o. IfSome o (λ c. IsBorrowedStr c ↔ IsTrue (gives_borrow (RightOf mid) text.now))) }
-    ensures takes_no_memory { IsNone (edited_by (RightOf mid) text.now) ⊎ IsTrue (gives_borrow (RightOf mid) text.now) → IsOk result }
-{
-    if search::is_good_position(text, mid) {
-        let side = right_in(alloc, text, mid)?;
-        return Ok(Some(side));
-    }
-    Ok(None)
 }
 
 /// What one edit makes of what the edits before it gave, or `None` where it is refused, which takes no
