@@ -1,5 +1,5 @@
 //! Calls that give the block of an index, or its style.
-ghost use Rattle.std.specs.Prelude.{◌≡◌, ◌∷◌, [], slice_get, option_map, true, IsFalse, IsOk, IfOk, OnOk, string_bytes};
+ghost use Rattle.std.specs.Prelude.{◌≡◌, ◌∷◌, [], slice_get, option_map, true, IsFalse, IsOk, IfOk, string_bytes};
 ghost use Rattle.ansi_str.specs.Plain.{has_escape};
 ghost use Rattle.ansi_str.specs.Written.{start, close_if_any};
 ghost use Rattle.ansi_str.specs.Blocks.{blocks};

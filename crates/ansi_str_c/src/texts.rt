@@ -1,5 +1,5 @@
 //! Calls that give one text: what is made of the text that they take.
-ghost use Rattle.std.specs.Prelude.{◌≡◌, ◌∷◌, [], Some};
+ghost use Rattle.std.specs.Prelude.{◌∷◌, [], Some};
 ghost use Rattle.ansi_str.specs.Plain.{plain, has_escape};
 ghost use Rattle.ansi_str.specs.Changes.{CutRange, LeftOf, RightOf, PartOf, WithoutPrefix, WithoutSuffix, Trimmed};
 ghost use Rattle.ansi_str.specs.Edits.{changes_of};

@@ -57,25 +57,6 @@ fn a_log_line_is_searched_and_cut(rt: HostRuntime) {
     assert!(rt; matches!(&found, Ok(Some(found)) if found.as_str() == want));
 }
 
-/// Appends a word after a blank, or on the next line where this one has no room for it, and gives
-/// the column after it.
-fn wrap_word(
-    wrapped: &mut String,
-    column: usize,
-    word: &str,
-    width: usize,
-) -> Result<usize, AllocError> {
-    if column == 0 {
-        wrapped.push_str(word)?;
-        return Ok(width);
-    }
-    let after_blank = column.saturating_add(1).saturating_add(width);
-    let is_room = after_blank <= 8;
-    wrapped.push(if is_room { ' ' } else { '\n' })?;
-    wrapped.push_str(word)?;
-    Ok(if is_room { after_blank } else { width })
-}
-
 // A wrapper breaks a line between its words, each of which brings its style along.
 #[test]
 fn a_line_is_wrapped_by_parts(rt: HostRuntime) -> Result<(), Fail> {
@@ -84,7 +65,15 @@ fn a_line_is_wrapped_by_parts(rt: HostRuntime) -> Result<(), Fail> {
     for word in "\x1b[34mone two\x1b[0m three".ansi_split(rt.alloc(), " ") {
         let word = word?;
         let width = word.ansi_strip(rt.alloc())?.len();
-        column = wrap_word(&mut wrapped, column, word.as_str(), width)?;
+        if column > 0 && column.saturating_add(width) >= 8 {
+            wrapped.push('\n')?;
+            column = 0;
+        } else if column > 0 {
+            wrapped.push(' ')?;
+            column = column.saturating_add(1);
+        }
+        wrapped.push_str(word.as_str())?;
+        column = column.saturating_add(width);
     }
     assert!(rt; wrapped.as_str() == "\x1b[34mone\x1b[39m \x1b[34mtwo\x1b[0m\nthree");
     Ok(())
