@@ -6,7 +6,8 @@
    it is how many there are, and what they give follows what they take.
 
    Each text is also asked for with a buffer that is one byte too small, with one that is larger, and with each request
-   for memory refused in turn: then nothing may be written, past the answer's length or at all. */
+   for memory refused in turn: then nothing may be written, past the answer's length or at all. Of the calls for one block
+   of a row, each request is refused once. */
 #include "ansi_str.h"
 
 #include <stdio.h>
