@@ -15,3 +15,4 @@ pub mod CloseLemmas
 pub mod UnsetLemmas
 pub mod DressedLemmas
 mod StyleExamples
+mod TableExamples
