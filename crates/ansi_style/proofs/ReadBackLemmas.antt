@@ -18,7 +18,7 @@ use Rattle.ansi_items.specs.Sequences.{IsSequence}
 use Rattle.ansi_items.specs.Pieces.{Piece, Sequence}
 use Rattle.ansi_style.specs.Rendition.{Rendition, IsStyle}
 use Rattle.ansi_style.specs.Sgr.{apply_all, apply}
-use Rattle.ansi_style.specs.Written.{written, written_all, when, color_code, color_codes, font_codes, start_codes, close_codes}
+use Rattle.ansi_style.specs.Written.{written, written_all, when, color_code, color_codes, font_codes, start_codes, close_codes, longest_start, longest_close}
 use Rattle.ansi_style.specs.Reading.{style_after_from}
 use Rattle.ansi_items.proofs.JoinLemmas.{spelled, AllStandAnywhere}
 use Rattle.ansi_style.proofs.StyledLemmas.{style_through, styled_through}
@@ -80,8 +80,8 @@ font_code_of (Some n) is =
     let short : length (decimal n) ≤ 2 = length-decimal-le 2 n (omega arith) (omega (arith, bounds.1)) (omega (arith, bounds.1)) in
     one_code (decimal n) 5 (code_bytes-decimal n (omega (arith, bounds.1))) (omega (arith, short))
 
--- 9 codes of one digit, a font, 13 codes of two, and three colors: 9 · 4 + 5 + 13 · 5 + 3 · 19 = 163
-pub start_codes_are : (s : Rendition) → IsStyle s → AreCodes (start_codes s) 163
+-- 9 codes of one digit, a font, 13 codes of two, and three colors: 9 · 4 + 5 + 13 · 5 + 3 · 19
+pub start_codes_are : (s : Rendition) → IsStyle s → AreCodes (start_codes s) longest_start
 start_codes_are s is =
     let font = font_code_of s.font is.font in
     let foreground = color_code_of (codes "38") s.foreground refl refl (IfSome_then s.foreground is.foreground IsByteColor-foreground) in
@@ -92,8 +92,8 @@ start_codes_are s is =
       short = simp (flat_map-append, length-append) (omega (arith, length-when, font.short, foreground.short, background.short, underline_color.short));
     }
 
--- 2 codes of one digit and 16 of two: 2 · 4 + 16 · 5 = 88
-pub close_codes_are : (s : Rendition) → AreCodes (close_codes s) 88
+-- 2 codes of one digit and 16 of two: 2 · 4 + 16 · 5
+pub close_codes_are : (s : Rendition) → AreCodes (close_codes s) longest_close
 close_codes_are s = record {
   each = simp (list_all-append, each-when, or-true);
   short = simp (flat_map-append, length-append) (omega (arith, length-when));

@@ -1,11 +1,11 @@
 -- Worked examples of the SGR table, of starts and of closes, each by computation.
-use Rattle.std.proofs.Common.{◌≡◌, ℕ, [], ◌∷◌, map, refl, codes, Bool, filter, ◌++◌, true, false, Some, length}
+use Rattle.std.proofs.Common.{◌≡◌, ℕ, [], ◌∷◌, map, refl, codes, ◌+◌, Bool, filter, ◌++◌, true, false, Some, length}
 use Rattle.std.specs.List.{range_with_len}
 use Rattle.std.specs.Fmt.{digits}
 use Rattle.ansi_items.specs.declared.ansitok.AnsiColor.TheVariants.{Bit4, Bit8, Bit24}
 use Rattle.ansi_style.specs.Rendition.{Rendition, plain_style, has_any}
 use Rattle.ansi_style.specs.Sgr.{effect_of_code, perform, apply_parameters, apply}
-use Rattle.ansi_style.specs.Written.{start, close}
+use Rattle.ansi_style.specs.Written.{start, close, longest_start, longest_close, longest_start_and_close}
 
 -- The table.
 
@@ -137,14 +137,15 @@ full_start = refl
 full_close : close full_style ≡ codes "\u{1b}[0m\u{1b}[10m\u{1b}[22m\u{1b}[23m\u{1b}[24m\u{1b}[25m\u{1b}[27m\u{1b}[28m\u{1b}[29m\u{1b}[39m\u{1b}[49m\u{1b}[50m\u{1b}[54m\u{1b}[55m\u{1b}[65m\u{1b}[59m\u{1b}[75m\u{1b}[0m"
 full_close = refl
 
--- 9 codes of 4 bytes, 14 of 5 and three colors of 19
-longest_start : length (start full_style) ≡ 163
+full_start_is_longest : length (start full_style) ≡ longest_start
 unfolding digits
-longest_start = refl
+full_start_is_longest = refl
 
--- 16 codes of 5 bytes and two of 4
-longest_close : length (close full_style) ≡ 88
-longest_close = refl
+full_close_is_longest : length (close full_style) ≡ longest_close
+full_close_is_longest = refl
+
+both_lengths_together : longest_start + longest_close ≡ longest_start_and_close
+both_lengths_together = refl
 
 start_of_colors : start (record plain_style { font = Some 19; foreground = Some (Bit4 97); background = Some (Bit8 7) }) ≡ codes "\u{1b}[19m\u{1b}[97m\u{1b}[48;5;7m"
 unfolding digits

@@ -95,3 +95,15 @@ close s = written_all (close_codes s)
 -- the close of a style in which anything is set that a reader could see, else nothing (the Rust crate)
 abbrev pub close_if_any : Rendition → List ℕ
 close_if_any s = if has_any s then close s else []
+
+-- the longest start has 9 codes of 4 bytes, 14 of 5, and three colors of 19
+abbrev pub longest_start : ℕ
+longest_start = 163
+
+-- the longest close has 16 codes of 5 bytes and two of 4
+abbrev pub longest_close : ℕ
+longest_close = 88
+
+-- the longest start and the longest close together
+abbrev pub longest_start_and_close : ℕ
+longest_start_and_close = 251
