@@ -26,7 +26,7 @@ ghost use Rattle.ansi_str.specs.Edited.{meaning, edited_by, edited, closes, stay
 ghost use Rattle.ansi_blocks.specs.Blocks.{waiting, runs, without_sgrs, blocks};
 ghost use Rattle.ansi_split.specs.StdSplit.{AreSplit, AreBetween, AreInTurn, slices_over};
 
-pub use ansi_style::laws::{orders_go_by_parts, reset_all_clears};
+pub use ansi_style::laws::{orders_go_by_parts, reset_all_clears, styles_are_in_range};
 
 /// A text is read in one way: no whole sequence is a proper beginning of another, and each text has
 /// one list of pieces.

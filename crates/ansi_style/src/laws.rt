@@ -3,7 +3,7 @@
 //! Each function carries one law as its contract, does nothing and answers nothing.
 ghost use Rattle.std.specs.Prelude.{◌≡◌, codes};
 ghost use Rattle.ansi_items.specs.AnsiColors.{compared, ansi_color_key};
-ghost use Rattle.ansi_style.specs.Rendition.{Rendition, plain_style, known};
+ghost use Rattle.ansi_style.specs.Rendition.{Rendition, IsStyle, plain_style, known};
 ghost use Rattle.ansi_style.specs.Reading.{style_after_from};
 ghost use Rattle.ansi_style.specs.Orders.{compared_in_turn, parts_in_order, color_key};
 ghost use Rattle.ansi_style.specs.States.{rendition_of};
@@ -11,6 +11,12 @@ ghost use Rattle.ansi_style.specs.States.{rendition_of};
 use crate::state::{AnsiSequenceEnd, Style};
 use crate::style::Color;
 use ansi_items::ansitok::AnsiColor;
+
+/// The colors and the font of each style that a program holds are in their ranges, so that its start sets it
+/// and has its greatest length at most.
+pub fn styles_are_in_range()
+    ensures { (s : Style) → IsStyle (rendition_of s) }
+{}
 
 /// `AnsiSequenceEnd::RESET_ALL` is `\e[0m`, which leaves nothing known of any style.
 pub fn reset_all_clears()

@@ -7,3 +7,4 @@ pub mod matches;
 pub mod parts;
 pub mod scans;
 pub mod searches;
+pub mod styles;
