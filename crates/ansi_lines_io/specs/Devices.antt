@@ -1,8 +1,15 @@
 -- What a read does to what a source tells, and how calls are counted.
 use Rattle.std.specs.Prelude.{◌≡◌, ◌<◌, ◌+◌, ℕ, List, length, take, min, ⊤, Bool, true, false, Option, Result, Ok, Err}
 use Rattle.std.specs.Io.KnownBytes.{prepend_known, IsAtEnd}
+use Rattle.std.specs.declared.io.ErrorKind.{ErrorKind}
+use Rattle.std.specs.declared.io.ErrorKind.TheVariants as kind
 use Rattle.ansi_lines_io.specs.declared.devices.ReadFault.{ReadFault}
 use Rattle.ansi_lines_io.specs.declared.devices.ReadFault.TheVariants.{Interrupted, Failed}
+
+-- an error of a reader of std is an interruption by its kind, and otherwise a failure
+abbrev pub fault_of : ErrorKind → ReadFault
+fault_of kind.Interrupted = Interrupted
+fault_of _ = Failed
 
 -- an answer tells whether the read was interrupted
 abbrev pub was_interrupted : Result ℕ ReadFault → Bool

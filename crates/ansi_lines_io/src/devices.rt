@@ -1,7 +1,9 @@
 //! What the program reads from and writes to.
 ghost use Rattle.std.specs.Prelude.{◌≡◌, ◌≤◌, ◌||◌, Bool, ℕ, List, Option, length, is_err, IfOk, OnOk};
 ghost use Rattle.std.specs.Io.KnownBytes.{append_known};
-ghost use Rattle.ansi_lines_io.specs.Devices.{Reads, count_after, was_interrupted, was_failed};
+ghost use Rattle.ansi_lines_io.specs.Devices.{Reads, count_after, fault_of, was_interrupted, was_failed};
+
+use std::io::ErrorKind;
 
 /// Why a read gave nothing.
 #[derive(Clone, Copy, Debug, PartialEq, Eq)]
@@ -10,6 +12,18 @@ pub enum ReadFault {
     Interrupted,
     /// The device failed.
     Failed,
+}
+
+/// The fault of a reader of std whose error has this kind: interrupted for `ErrorKind::Interrupted`, failed for any other.
+impl From<ErrorKind> for ReadFault {
+    ghost from_gives = { λ kind fault. fault ≡ fault_of kind };
+
+    fn from(kind: ErrorKind) -> Self {
+        match kind {
+            ErrorKind::Interrupted => ReadFault::Interrupted,
+            _ => ReadFault::Failed,
+        }
+    }
 }
 
 /// Why a write or a flush wasn't done.

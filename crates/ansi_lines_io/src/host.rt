@@ -5,7 +5,7 @@ ghost use Rattle.ansi_lines_io.specs.Devices.{Reads, count_after, was_interrupte
 ghost use Rattle.ansi_lines_io.specs.Hosts.{reader_of, writer_of, IsFreshSource, IsFreshSink};
 
 use crate::devices::{ReadFault, Sink, Source, WriteFault};
-use std::io::{ErrorKind, Read, Write};
+use std::io::{Read, Write};
 
 /// A source over a reader of std.
 #[derive(Drop)]
@@ -51,13 +51,11 @@ impl<R: Read> Source for HostIn<R> {
         self.reads = self.reads.saturating_add(1);
         match self.reader.read(room) {
             Ok(count) => Ok(count),
-            Err(error) if error.kind() == ErrorKind::Interrupted => {
-                self.interrupted = true;
-                Err(ReadFault::Interrupted)
-            }
-            Err(_) => {
-                self.failed = true;
-                Err(ReadFault::Failed)
+            Err(error) => {
+                let fault = ReadFault::from(error.kind());
+                self.interrupted |= fault == ReadFault::Interrupted;
+                self.failed |= fault == ReadFault::Failed;
+                Err(fault)
             }
         }
     }
