@@ -10,7 +10,7 @@ use Rattle.ansi_items.specs.Plain.{plain, is_text, plain_bytes, copied}
 use Rattle.ansi_style.specs.declared.state.rendition.Rendition.{Rendition}
 use Rattle.ansi_style.specs.Rendition.{IsStyle, plain_style}
 use Rattle.ansi_style.specs.Sgr.{apply}
-use Rattle.ansi_style.specs.Written.{close, start, close_codes}
+use Rattle.ansi_style.specs.Written.{close, start, close_codes, longest_start, longest_close, longest_start_and_close}
 use Rattle.ansi_style.specs.Styled.{style_at}
 use Rattle.ansi_slice.specs.Cut.{cut}
 use Rattle.ansi_slice.specs.Kept.{kept}
@@ -61,13 +61,13 @@ length-shown_pieces (LoneEscape ∷ ps) test a b =
     (λ goes. omega (arith, shown))
     (λ stays. omega (arith, shown))
 
-pub length-close : (s : Rendition) → length (close s) ≤ 88
+pub length-close : (s : Rendition) → length (close s) ≤ longest_close
 length-close s = (close_codes_are s).short
 
-pub length-start : (s : Rendition) → IsStyle s → length (start s) ≤ 163
+pub length-start : (s : Rendition) → IsStyle s → length (start s) ≤ longest_start
 length-start s is = (start_codes_are s is).short
 
-pub length-cut : (t : List ℕ) (s : ℕ) (e : Option ℕ) → length (cut t s e) ≤ length t + 88
+pub length-cut : (t : List ℕ) (s : ℕ) (e : Option ℕ) → length (cut t s e) ≤ length t + longest_close
 unfolding cut
 length-cut t s e =
     let end = unwrap_or e (length (plain t)) in
@@ -93,11 +93,11 @@ length-kept t a b =
       ap length (spelled-pieces_of t),
     )
 
--- The sides: a start and a close have at most 163 + 88 = 251 bytes.
+-- The sides: a start and a close have at most `longest_start_and_close` bytes.
 
-length-dressed : (s : Rendition) (w : List ℕ) → IsStyle s → length (dressed s w) ≤ length w + 251
+length-dressed : (s : Rendition) (w : List ℕ) → IsStyle s → length (dressed s w) ≤ length w + longest_start_and_close
 length-dressed s w is =
-    cond_both (length w == 0) [] (start s ++ w ++ close s) (λ v. length v ≤ length w + 251)
+    cond_both (length w == 0) [] (start s ++ w ++ close s) (λ v. length v ≤ length w + longest_start_and_close)
     (λ none. omega arith)
     (λ some. omega (arith, length-append (start s ++ w) (close s), length-append (start s) w, length-start s is, length-close s))
 
@@ -133,7 +133,7 @@ sides_len-first mid n s p ps =
     omega (arith, length-append (left_part mid n s p) left, length-append (right_part mid n s p) right)
 
 -- after the position each text is dressed once
-length-sides_past : (mid n : ℕ) (s : Rendition) (ps : List Piece) → IsStyle s → mid ≤ n → sides_len mid n s ps ≤ length (spelled ps) + 251 * text_count ps
+length-sides_past : (mid n : ℕ) (s : Rendition) (ps : List Piece) → IsStyle s → mid ≤ n → sides_len mid n s ps ≤ length (spelled ps) + longest_start_and_close * text_count ps
 length-sides_past mid n s [] is past = omega arith
 length-sides_past mid n s (Text w ∷ ps) is past =
     let none : length (take (mid - n) w) ≡ 0 = omega (arith, length-take (mid - n) w) in
@@ -158,7 +158,7 @@ length-sides_past mid n s (LoneEscape ∷ ps) is past =
     omega (arith, length-sides_past mid (n + 0) s ps is (omega arith), sides_len-first mid n s LoneEscape ps, copied_once mid n LoneEscape)
 
 -- before it, one text more is dressed: the one that the position divides
-length-sides_from : (mid n : ℕ) (s : Rendition) (ps : List Piece) → IsStyle s → sides_len mid n s ps ≤ length (spelled ps) + 251 * (text_count ps + 1)
+length-sides_from : (mid n : ℕ) (s : Rendition) (ps : List Piece) → IsStyle s → sides_len mid n s ps ≤ length (spelled ps) + longest_start_and_close * (text_count ps + 1)
 length-sides_from mid n s [] is = omega arith
 length-sides_from mid n s (Text w ∷ ps) is =
     let first = sides_len-first mid n s (Text w) ps in
@@ -184,7 +184,7 @@ length-sides_from mid n s (Sequence w ∷ ps) is =
 length-sides_from mid n s (LoneEscape ∷ ps) is =
     omega (arith, length-sides_from mid (n + 0) s ps is, sides_len-first mid n s LoneEscape ps, copied_once mid n LoneEscape)
 
-pub length-sides : (t : List ℕ) (mid : ℕ) → length (left_side t mid) + length (right_side t mid) ≤ length t + 251 * (length (filter is_text (pieces_of t)) + 1)
+pub length-sides : (t : List ℕ) (mid : ℕ) → length (left_side t mid) + length (right_side t mid) ≤ length t + longest_start_and_close * (length (filter is_text (pieces_of t)) + 1)
 length-sides t mid =
     omega (
       arith,

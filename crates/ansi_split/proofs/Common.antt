@@ -31,7 +31,7 @@ pub use Rattle.ansi_style.specs.Sgr.{apply, apply_all}
 pub use Rattle.ansi_style.specs.Reading.{after_marks, style_after_from, style_within}
 pub use Rattle.ansi_style.specs.declared.state.rendition.Rendition.{Rendition}
 pub use Rattle.ansi_style.specs.Rendition.{IsStyle, plain_style, has_any, known}
-pub use Rattle.ansi_style.specs.Written.{close, start, close_if_any, written, start_codes, written_all, close_codes}
+pub use Rattle.ansi_style.specs.Written.{close, start, close_if_any, written, start_codes, written_all, close_codes, longest_close, longest_start_and_close}
 pub use Rattle.ansi_style.specs.Styled.{style_at, styled, StyledByte, bytes_of, style_of}
 pub use Rattle.ansi_style.specs.States.{rendition_of}
 pub use Rattle.ansi_style.proofs.MarkLemmas.{further, marks_of-text, marks_of-sequence, marks_of-lone, up_to-none, up_to-further, after_marks-further, style_by_marks, style_by_marks-before, style_by_marks-text, style_by_marks-sequence, style_by_marks-lone, marks-bare}

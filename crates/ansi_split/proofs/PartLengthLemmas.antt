@@ -1,5 +1,5 @@
 -- How long a part may be, and what it takes of its text.
-use Rattle.ansi_split.proofs.Common.{◌≡◌, ℕ, ◌+◌, ◌-◌, ◌≤◌, Bool, true, false, ◌==◌, List, [], ◌∷◌, ◌++◌, length, map, drop, refl, ◌∙◌, sym, ap, subst, arith, length-append, length-take, if◌then◌else◌, IfSome, cond_both, nat_tests, sum_by-cons, sum_by, option_map_or, Piece, spelling, Text, Sequence, LoneEscape, pieces_of, Mark, plain, plain_of, marks, marks_of, up_to, joined, Rendition, IsStyle, plain_style, has_any, close, start, close_if_any, show, style_within, parts, end_before, past, part_over, part, share_over, share, SplitPart, carried_from, part_from, parts_from, parts_left, one_text, slice_range-append, further, marks_of-text, marks_of-sequence, marks_of-lone, spelled, spelled-pieces_of, shown_pieces, piece_when, at_places, at_places-further}
+use Rattle.ansi_split.proofs.Common.{◌≡◌, ℕ, ◌+◌, ◌-◌, ◌≤◌, Bool, true, false, ◌==◌, List, [], ◌∷◌, ◌++◌, length, map, drop, refl, ◌∙◌, sym, ap, subst, arith, length-append, length-take, if◌then◌else◌, IfSome, cond_both, nat_tests, sum_by-cons, sum_by, option_map_or, Piece, spelling, Text, Sequence, LoneEscape, pieces_of, Mark, plain, plain_of, marks, marks_of, up_to, joined, Rendition, IsStyle, plain_style, has_any, close, start, close_if_any, show, style_within, parts, end_before, past, part_over, part, share_over, share, SplitPart, carried_from, part_from, parts_from, parts_left, one_text, slice_range-append, further, marks_of-text, marks_of-sequence, marks_of-lone, spelled, spelled-pieces_of, shown_pieces, piece_when, at_places, at_places-further, longest_close, longest_start_and_close}
 use Rattle.std.proofs.Common.{length-drop}
 use Rattle.std.specs.Prelude.{Option, Some, None, option_map, slice_get, ◌&&◌, nat_lt}
 use Rattle.std.proofs.lemmas.Bool.{true≢false}
@@ -47,18 +47,18 @@ length-shown_taken (LoneEscape ∷ ps) test a b =
     subst (λ ms. length (spelled (piece_when (test 0) LoneEscape ++ shown)) ≤ length taken + length (joined (at_places test ms))) (sym (marks_of-lone ps))
     (length-mark LoneEscape (test 0) shown (at_places test (marks_of ps)) (length taken) (length-shown_taken ps test a b))
 
-length-close_if_any : (s : Rendition) → length (close_if_any s) ≤ 88
-length-close_if_any s = cond_both (has_any s) (close s) [] (λ w. length w ≤ 88) (λ any. length-close s) (λ none. omega arith)
+length-close_if_any : (s : Rendition) → length (close_if_any s) ≤ longest_close
+length-close_if_any s = cond_both (has_any s) (close s) [] (λ w. length w ≤ longest_close) (λ any. length-close s) (λ none. omega arith)
 
--- a part is its share of the text, a start and a close, or nothing: 163 + 88 = 251
-pub length-part_from : (c : Rendition) (t : List ℕ) (before : Option ℕ) (i : ℕ × ℕ) → IsStyle (carried_from c t before) → length (part_from c t before i).bytes ≤ (part_from c t before i).share + 251
+-- a part is its share of the text, a start and a close, or nothing
+pub length-part_from : (c : Rendition) (t : List ℕ) (before : Option ℕ) (i : ℕ × ℕ) → IsStyle (carried_from c t before) → length (part_from c t before i).bytes ≤ (part_from c t before i).share + longest_start_and_close
 unfolding part_from
 length-part_from c t before i is =
     let own = past before (up_to i.1 (marks t)) in
     let shown = show (plain t) i.0 i.1 own in
     let from = start (carried_from c t before) in
     let to = close_if_any (style_within c t i.1) in
-    cond_both (i.0 == i.1 && length own == 0) [] (from ++ shown ++ to) (λ w. length w ≤ length shown + 251)
+    cond_both (i.0 == i.1 && length own == 0) [] (from ++ shown ++ to) (λ w. length w ≤ length shown + longest_start_and_close)
     (λ none. omega arith)
     (λ some. omega (
       arith,
@@ -68,7 +68,7 @@ length-part_from c t before i is =
       length-close_if_any (style_within c t i.1),
     ))
 
-length-dressed_part : (t : List ℕ) (before : Option ℕ) (i : ℕ × ℕ) → length (part_over t before i) ≤ share_over t before i + 251
+length-dressed_part : (t : List ℕ) (before : Option ℕ) (i : ℕ × ℕ) → length (part_over t before i) ≤ share_over t before i + longest_start_and_close
 unfolding part_from part_over share_over
 length-dressed_part t before i = length-part_from plain_style t before i (IsStyle-carried t before)
 
@@ -95,13 +95,13 @@ share_within t p k = by_interval (slice_get (parts (plain t) p) k)
     by_interval (Some i) = share_over_within t (end_before (parts (plain t) p) k) i
 
 pub length-part_over : (t : List ℕ) (before : Option ℕ) (i : ℕ × ℕ)
-    → length (part_over t before i) ≤ length (slice_range (plain t) i.0 i.1) + length (joined (past before (up_to i.1 (marks t)))) + 251
+    → length (part_over t before i) ≤ length (slice_range (plain t) i.0 i.1) + length (joined (past before (up_to i.1 (marks t)))) + longest_start_and_close
 length-part_over t before i = omega (arith, length-dressed_part t before i, share_by_marks t before i)
 
-pub length-part : (t p : List ℕ) (k : ℕ) (u : List ℕ) → part t p k ≡ Some u → length u ≤ length t + 251
-length-part t p k u found = subst (λ o. IfSome o (λ u. length u ≤ length t + 251)) found (by_interval (slice_get (parts (plain t) p) k))
+pub length-part : (t p : List ℕ) (k : ℕ) (u : List ℕ) → part t p k ≡ Some u → length u ≤ length t + longest_start_and_close
+length-part t p k u found = subst (λ o. IfSome o (λ u. length u ≤ length t + longest_start_and_close)) found (by_interval (slice_get (parts (plain t) p) k))
   where
-    by_interval : (o : Option (ℕ × ℕ)) → IfSome (option_map (part_over t (end_before (parts (plain t) p) k)) o) (λ u. length u ≤ length t + 251)
+    by_interval : (o : Option (ℕ × ℕ)) → IfSome (option_map (part_over t (end_before (parts (plain t) p) k)) o) (λ u. length u ≤ length t + longest_start_and_close)
     by_interval None = tt
     by_interval (Some i) =
         let before = end_before (parts (plain t) p) k in

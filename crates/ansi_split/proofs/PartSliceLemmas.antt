@@ -1,5 +1,5 @@
 -- A part of a whole text is whole, has the slice of its styled bytes, and leaves nothing known open.
-use Rattle.ansi_split.proofs.Common.{◌≡◌, ℕ, ◌+◌, ◌-◌, ◌<◌, ◌≤◌, inl, inr, Bool, true, false, ◌&&◌, ◌==◌, List, [], ◌∷◌, ◌++◌, length, nat_le, nat_lt, refl, sym, ◌∙◌, ap, ap₂, subst, arith, slice_range, Option, Some, None, IsTrue, if◌then◌else◌, option_map_or, cond_both, and_parts, eqb-true, cases_lt, le-leb, nat_tests, Piece, Text, pieces_of, Mark, plain, marks, up_to, is_whole, Rendition, IsStyle, plain_style, known, has_any, written_all, start, close_codes, close, close_if_any, style_at, styled, after_marks, show, past, carried, part_over, one_text, slice_range-none, slice_range-from_past, IsStyle-plain_style, IsStyle-style_at, spelled, AllStandAnywhere, pieces_stand, styled_through, style_through, styled_through-append, style_through-append, styled-pieces, AreCodes, close_codes_are, known-unset, GiveAlone, IsClosed, closed-spelled, Clears, dressed_pieces, spelled-dressed_pieces, dressed_pieces_stand, dressed_pieces_give, at_places, piece_when, shown_pieces, spelled-shown_pieces, shown_pieces_stand, style_through-shown_pieces, styled_through-shown_pieces}
+use Rattle.ansi_split.proofs.Common.{◌≡◌, ℕ, ◌+◌, ◌-◌, ◌<◌, ◌≤◌, inl, inr, Bool, true, false, ◌&&◌, ◌==◌, List, [], ◌∷◌, ◌++◌, length, nat_le, nat_lt, refl, sym, ◌∙◌, ap, ap₂, subst, arith, slice_range, Option, Some, None, IsTrue, if◌then◌else◌, option_map_or, cond_both, and_parts, eqb-true, cases_lt, le-leb, nat_tests, Piece, Text, pieces_of, Mark, plain, marks, up_to, is_whole, Rendition, IsStyle, plain_style, known, has_any, written_all, start, close_codes, close, close_if_any, style_at, styled, after_marks, show, past, carried, part_over, one_text, slice_range-none, slice_range-from_past, IsStyle-plain_style, IsStyle-style_at, spelled, AllStandAnywhere, pieces_stand, styled_through, style_through, styled_through-append, style_through-append, styled-pieces, AreCodes, close_codes_are, known-unset, GiveAlone, IsClosed, closed-spelled, Clears, dressed_pieces, spelled-dressed_pieces, dressed_pieces_stand, dressed_pieces_give, at_places, piece_when, shown_pieces, spelled-shown_pieces, shown_pieces_stand, style_through-shown_pieces, styled_through-shown_pieces, longest_close}
 use Rattle.ansi_style.proofs.CloseLemmas.{close_codes_clear}
 use Rattle.ansi_split.proofs.IntervalLemmas.{ComesAfter}
 
@@ -166,8 +166,8 @@ style_through-own_pieces t before i after =
 abbrev pub closing_codes : Rendition → List (List ℕ)
 closing_codes q = if has_any q then close_codes q else []
 
-pub closing_codes_are : (q : Rendition) → AreCodes (closing_codes q) 88
-closing_codes_are q = cond_both (has_any q) (close_codes q) [] (λ xs. AreCodes xs 88) (λ any. close_codes_are q) (λ none. record { each = refl; short = omega arith })
+pub closing_codes_are : (q : Rendition) → AreCodes (closing_codes q) longest_close
+closing_codes_are q = cond_both (has_any q) (close_codes q) [] (λ xs. AreCodes xs longest_close) (λ any. close_codes_are q) (λ none. record { each = refl; short = omega arith })
 
 closing_codes_clear : (q : Rendition) → Clears q (closing_codes q)
 closing_codes_clear q =

@@ -4,6 +4,7 @@ ghost use Rattle.std.specs.List.{range_with_len, list_all, sum_by};
 ghost use Rattle.std.specs.Cow.{cow_str_bytes, IsBorrowedStr};
 ghost use Rattle.ansi_items.specs.Plain.{plain, has_escape};
 ghost use Rattle.ansi_slice.specs.Parts.{parts, part, all_parts, share, is_part_borrowed};
+ghost use Rattle.ansi_style.specs.Written.{longest_start_and_close};
 
 mod rest;
 mod spans;
@@ -109,7 +110,7 @@ pub fn part_in<'t, A: Allocator>(
     ensures none { IfOk result (λ o. IsNone o ↔ IsNone (slice_get (parts (plain text.now) pat.now) index)) }
     ensures bytes { IfOk result (λ o. IfSome o (λ c. part text.now pat.now index ≡ Some (cow_str_bytes c))) }
     ensures borrowed { IfOk result (λ o. IfSome o (λ c. IsBorrowedStr c ↔ (IsFalse (has_escape text.now) ⊎ IsTrue (is_part_borrowed text.now pat.now index)))) }
-    ensures len { IfOk result (λ o. IfSome o (λ c. length (cow_str_bytes c) ≤ share text.now pat.now index + 251)) }
+    ensures len { IfOk result (λ o. IfSome o (λ c. length (cow_str_bytes c) ≤ share text.now pat.now index + longest_start_and_close)) }
     ensures within { share text.now pat.now index ≤ length text.now }
     ensures takes_no_memory { IsFalse (has_escape text.now) ⊎ IsTrue (is_part_borrowed text.now pat.now index) ⊎ IsNone (slice_get (parts (plain text.now) pat.now) index) → IsOk result }
 {

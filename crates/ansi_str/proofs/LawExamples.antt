@@ -171,7 +171,7 @@ parts_at_the_empty_pattern = refl
 most_parts : length (parts (codes "ab") []) ≡ 4
 most_parts = refl
 
--- a part of one byte in the style with the longest start, 163 bytes, and the longest close, 88
+-- a part of one byte in the style with the longest start and the longest close
 
 longest_part_of_a_byte : option_map length (part (codes "\u{1b}[0;99;1;2;3;4;5;6;7;8;9;11;20;21;26;38;2;255;255;255;48;2;255;255;255;58;2;255;255;255;51;52;53;60;61;62;63;64;73;74ma,b") (codes ",") 1) ≡ Some (1 + 251)
 unfolding digits part_over

@@ -15,7 +15,7 @@ ghost use Rattle.ansi_style.specs.Rendition.{IsStyle, plain_style, known, has_an
 ghost use Rattle.ansi_style.specs.Sgr.{apply};
 ghost use Rattle.ansi_style.specs.Styled.{style_at, style_after, styled, bytes_of, residue};
 ghost use Rattle.ansi_style.specs.Reading.{style_after_from, styled_from};
-ghost use Rattle.ansi_style.specs.Written.{start, close, close_if_any};
+ghost use Rattle.ansi_style.specs.Written.{start, close, close_if_any, longest_start, longest_close, longest_start_and_close};
 ghost use Rattle.ansi_slice.specs.Positions.{is_good_position, is_char_boundary, is_good_range};
 ghost use Rattle.ansi_slice.specs.Cut.{cut};
 ghost use Rattle.ansi_slice.specs.Sides.{left_side, right_side};
@@ -193,18 +193,18 @@ pub fn parts_are_std()
     ensures few { (t p : List ℕ) → length (all_parts t p) ≤ length (plain t) + 2 }
 {}
 
-/// A start has at most 163 bytes, a close 88, and a cut no more than its text and a close. A text without
-/// a prefix, a suffix or the white space at its ends is no longer than it was. A part has no more than
-/// the text of its interval, its sequences, and a start and a close, 251 bytes. The two sides have no more
-/// than their text and 251 bytes for each text piece and for the one that is divided.
+/// A start has at most `longest_start` bytes, a close `longest_close`, and a cut no more than its text and
+/// a close. A text without a prefix, a suffix or the white space at its ends is no longer than it was. A
+/// part has no more than the text of its interval, its sequences, and `longest_start_and_close`. The two
+/// sides have no more than their text and that for each text piece and for the one that is divided.
 pub fn written_texts_are_short()
-    ensures start { (s : Rendition) → IsStyle s → length (start s) ≤ 163 }
-    ensures close { (s : Rendition) → length (close s) ≤ 88 }
-    ensures cut { (t : List ℕ) (s : ℕ) (e : Option ℕ) → length (cut t s e) ≤ length t + 88 }
+    ensures start { (s : Rendition) → IsStyle s → length (start s) ≤ longest_start }
+    ensures close { (s : Rendition) → length (close s) ≤ longest_close }
+    ensures cut { (t : List ℕ) (s : ℕ) (e : Option ℕ) → length (cut t s e) ≤ length t + longest_close }
     ensures kept { (t : List ℕ) (a b : ℕ) → length (kept t a b) ≤ length t }
-    ensures part_over { (t : List ℕ) (before : Option ℕ) (i : ℕ × ℕ) → length (part_over t before i) ≤ length (slice_range (plain t) i.0 i.1) + length (joined (past before (up_to i.1 (marks t)))) + 251 }
-    ensures part { (t p : List ℕ) (k : ℕ) (u : List ℕ) → part t p k ≡ Some u → length u ≤ length t + 251 }
-    ensures sides { (t : List ℕ) (mid : ℕ) → length (left_side t mid) + length (right_side t mid) ≤ length t + 251 * (length (filter is_text (pieces_of t)) + 1) }
+    ensures part_over { (t : List ℕ) (before : Option ℕ) (i : ℕ × ℕ) → length (part_over t before i) ≤ length (slice_range (plain t) i.0 i.1) + length (joined (past before (up_to i.1 (marks t)))) + longest_start_and_close }
+    ensures part { (t p : List ℕ) (k : ℕ) (u : List ℕ) → part t p k ≡ Some u → length u ≤ length t + longest_start_and_close }
+    ensures sides { (t : List ℕ) (mid : ℕ) → length (left_side t mid) + length (right_side t mid) ≤ length t + longest_start_and_close * (length (filter is_text (pieces_of t)) + 1) }
 {}
 
 /// Character boundaries are std's. A good position is one, or lies past the end, which counts as the end;

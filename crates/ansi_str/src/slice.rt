@@ -12,6 +12,7 @@ ghost use Rattle.ansi_slice.specs.Cut.{cut};
 ghost use Rattle.ansi_slice.specs.Sides.{left_side, right_side};
 ghost use Rattle.ansi_slice.specs.Kept.{without_prefix, without_suffix, trimmed};
 ghost use Rattle.ansi_slice.specs.Parts.{all_parts, share, is_part_borrowed};
+ghost use Rattle.ansi_style.specs.Written.{longest_close, longest_start_and_close};
 
 use crate::split::{AnsiSplit, split_in};
 use ansi_slice::search;
@@ -57,7 +58,8 @@ pub trait AnsiStr {
     /// past the end, the Rust crate.)
     ///
     /// It is a borrow where no ESC stands in the text. Then no memory is taken, and none for a `None`. Else
-    /// it is owned, and at most a close longer than the text, 88 bytes. `Err` means that memory is wanting.
+    /// it is owned, and at most a close longer than the text, `longest_close`, 88 bytes. `Err` means that
+    /// memory is wanting.
     ///
     /// ```
     /// let text = "\x1b[30mTEXT\x1b[39m";
@@ -73,7 +75,7 @@ pub trait AnsiStr {
         ensures none { IfOk result (λ o. IsNone o ↔ IsFalse (is_good_range (plain (text self.now)) (R.start range) (R.end range))) }
         ensures bytes { IfOk result (λ o. IfSome o (λ c. cow_str_bytes c ≡ cut (text self.now) (R.start range) (R.end range))) }
         ensures borrowed { IfOk result (λ o. IfSome o (λ c. IsBorrowedStr c ↔ IsFalse (has_escape (text self.now)))) }
-        ensures len { IfOk result (λ o. IfSome o (λ c. length (cow_str_bytes c) ≤ length (text self.now) + 88)) }
+        ensures len { IfOk result (λ o. IfSome o (λ c. length (cow_str_bytes c) ≤ length (text self.now) + longest_close)) }
         ensures takes_no_memory { IsFalse (has_escape (text self.now))
             ⊎ IsFalse (is_good_range (plain (text self.now)) (R.start range) (R.end range)) → IsOk result }
     {
@@ -88,8 +90,8 @@ pub trait AnsiStr {
     /// end, which counts as the end; and no end may lie below the start.
     ///
     /// It is a borrow where no ESC stands in the text, and then no memory is taken. Else it is
-    /// owned, and at most a close longer than the text, 88 bytes. `Err` means that memory is wanting.
-    /// (The Rust crate.)
+    /// owned, and at most a close longer than the text, `longest_close`, 88 bytes. `Err` means that
+    /// memory is wanting. (The Rust crate.)
     ///
     /// ```
     /// let cut = "\x1b[30mTEXT\x1b[39m".ansi_cut(rt.alloc(), 1..3)?;
@@ -103,7 +105,7 @@ pub trait AnsiStr {
         requires { IsTrue (is_good_range (plain (text self.now)) (R.start range) (R.end range)) }
         ensures bytes { IfOk result (λ c. cow_str_bytes c ≡ cut (text self.now) (R.start range) (R.end range)) }
         ensures borrowed { IfOk result (λ c. IsBorrowedStr c ↔ IsFalse (has_escape (text self.now))) }
-        ensures len { IfOk result (λ c. length (cow_str_bytes c) ≤ length (text self.now) + 88) }
+        ensures len { IfOk result (λ c. length (cow_str_bytes c) ≤ length (text self.now) + longest_close) }
         ensures takes_no_memory { IsFalse (has_escape (text self.now)) → IsOk result }
     {
         cut_in(alloc, self.as_text(), range.start(), range.end())
@@ -229,7 +231,8 @@ pub trait AnsiStr {
     /// splits the text with its sequences; where a sequence goes, own.)
     ///
     /// A part's share is how many bytes of the text it has, its plain bytes and its sequences. It is at
-    /// most a start and a close longer, 163 + 88 bytes, and all shares together are within the text.
+    /// most a start and a close longer, `longest_start_and_close`, 251 bytes, and all shares together are
+    /// within the text.
     ///
     /// ```
     /// let mut cells = String::new(rt.alloc());
@@ -278,7 +281,7 @@ pub trait AnsiStr {
         ensures borrowed { IfOk result (λ c. (IsBorrowedStr c.0 ↔ IsFalse (has_escape (text self.now)))
             × (IsBorrowedStr c.1 ↔ IsFalse (has_escape (text self.now)))) }
         ensures len { IfOk result (λ c. length (cow_str_bytes c.0) + length (cow_str_bytes c.1)
-            ≤ length (text self.now) + 251 * (length (filter is_text (pieces_of (text self.now))) + 1)) }
+            ≤ length (text self.now) + longest_start_and_close * (length (filter is_text (pieces_of (text self.now))) + 1)) }
         ensures takes_no_memory { IsFalse (has_escape (text self.now)) → IsOk result }
     {
         split_at_in(alloc, self.as_text(), mid)

@@ -7,7 +7,7 @@ ghost use Rattle.ansi_slice.specs.Positions.{is_good_range};
 ghost use Rattle.ansi_slice.specs.Cut.{cut, cut_up_to};
 ghost use Rattle.ansi_slice.specs.Offsets.{sequences_up_to};
 ghost use Rattle.ansi_style.specs.States.{rendition_of};
-ghost use Rattle.ansi_style.specs.Written.{close};
+ghost use Rattle.ansi_style.specs.Written.{close, longest_close};
 
 use crate::search::offsets::walk_to;
 use crate::slice::has_any;
@@ -17,7 +17,7 @@ use ansi_style::styles;
 use std::alloc::{AllocError, Allocator};
 use std::borrow::CowStr;
 
-/// A close has at most so many bytes.
+/// A close has at most so many bytes, `longest_close`.
 const LONGEST_CLOSE: usize = 88;
 
 /// As `AnsiStr::ansi_cut`, from `start` up to `end`, or to the end of the text where that is `None`,
@@ -36,7 +36,7 @@ pub fn cut_in<'t, A: Allocator>(
     requires { IsTrue (is_good_range (plain text.now) start end) }
     ensures bytes { IfOk result (λ c. cow_str_bytes c ≡ cut text.now start end) }
     ensures borrowed { IfOk result (λ c. IsBorrowedStr c ↔ IsFalse (has_escape text.now)) }
-    ensures len { IfOk result (λ c. length (cow_str_bytes c) ≤ length text.now + 88) }
+    ensures len { IfOk result (λ c. length (cow_str_bytes c) ≤ length text.now + longest_close) }
     ensures takes_no_memory { IsFalse (has_escape text.now) → IsOk result }
 {
     Ok(get_in(alloc, text, start, end)?.unwrap())
@@ -59,7 +59,7 @@ pub fn get_in<'t, A: Allocator>(
     ensures none { IfOk result (λ o. IsNone o ↔ IsFalse (is_good_range (plain text.now) start end)) }
     ensures bytes { IfOk result (λ o. IfSome o (λ c. cow_str_bytes c ≡ cut text.now start end)) }
     ensures borrowed { IfOk result (λ o. IfSome o (λ c. IsBorrowedStr c ↔ IsFalse (has_escape text.now))) }
-    ensures len { IfOk result (λ o. IfSome o (λ c. length (cow_str_bytes c) ≤ length text.now + 88)) }
+    ensures len { IfOk result (λ o. IfSome o (λ c. length (cow_str_bytes c) ≤ length text.now + longest_close)) }
     ensures takes_no_memory { IsFalse (has_escape text.now) ⊎ IsFalse (is_good_range (plain text.now) start end) → IsOk result }
 {
     // No position of a text lies past this one, so it stands for no end.

@@ -11,6 +11,7 @@ ghost use Rattle.ansi_slice.specs.Offsets.{StandsIn};
 ghost use Rattle.ansi_style.specs.Reading.{style_within};
 ghost use Rattle.ansi_style.specs.Sgr.{apply};
 ghost use Rattle.ansi_style.specs.States.{rendition_of};
+ghost use Rattle.ansi_style.specs.Written.{longest_start_and_close};
 
 use crate::search::offsets::walk_to;
 use crate::slice::has_any;
@@ -37,7 +38,7 @@ pub fn split_at_in<'t, A: Allocator + Copy>(
     ensures left { IfOk result (λ c. cow_str_bytes c.0 ≡ left_side text.now mid) }
     ensures right { IfOk result (λ c. cow_str_bytes c.1 ≡ right_side text.now mid) }
     ensures borrowed { IfOk result (λ c. (IsBorrowedStr c.0 ↔ IsFalse (has_escape text.now)) × (IsBorrowedStr c.1 ↔ IsFalse (has_escape text.now))) }
-    ensures len { IfOk result (λ c. length (cow_str_bytes c.0) + length (cow_str_bytes c.1) ≤ length text.now + 251 * (length (filter is_text (pieces_of text.now)) + 1)) }
+    ensures len { IfOk result (λ c. length (cow_str_bytes c.0) + length (cow_str_bytes c.1) ≤ length text.now + longest_start_and_close * (length (filter is_text (pieces_of text.now)) + 1)) }
     ensures takes_no_memory { IsFalse (has_escape text.now) → IsOk result }
 {
     if !has_any(text) {
@@ -57,7 +58,7 @@ pub fn left_in<'t, A: Allocator>(
     requires { IsTrue (is_good_position (plain text.now) mid) }
     ensures bytes { IfOk result (λ c. cow_str_bytes c ≡ left_side text.now mid) }
     ensures borrowed { IfOk result (λ c. IsBorrowedStr c ↔ IsFalse (has_escape text.now)) }
-    ensures len { IfOk result (λ c. length (cow_str_bytes c) ≤ length text.now + 251 * (length (filter is_text (pieces_of text.now)) + 1)) }
+    ensures len { IfOk result (λ c. length (cow_str_bytes c) ≤ length text.now + longest_start_and_close * (length (filter is_text (pieces_of text.now)) + 1)) }
     ensures takes_no_memory { IsFalse (has_escape text.now) → IsOk result }
 {
     if !has_any(text) {
@@ -79,7 +80,7 @@ pub fn right_in<'t, A: Allocator>(
     requires { IsTrue (is_good_position (plain text.now) mid) }
     ensures bytes { IfOk result (λ c. cow_str_bytes c ≡ right_side text.now mid) }
     ensures borrowed { IfOk result (λ c. IsBorrowedStr c ↔ IsFalse (has_escape text.now)) }
-    ensures len { IfOk result (λ c. length (cow_str_bytes c) ≤ length text.now + 251 * (length (filter is_text (pieces_of text.now)) + 1)) }
+    ensures len { IfOk result (λ c. length (cow_str_bytes c) ≤ length text.now + longest_start_and_close * (length (filter is_text (pieces_of text.now)) + 1)) }
     ensures takes_no_memory { IsFalse (has_escape text.now) → IsOk result }
 {
     if !has_any(text) {

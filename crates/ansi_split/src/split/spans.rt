@@ -8,6 +8,7 @@ ghost use Rattle.ansi_slice.specs.Positions.{is_char_boundary};
 ghost use Rattle.ansi_style.specs.Rendition.{plain_style};
 ghost use Rattle.ansi_style.specs.Reading.{style_after_from};
 ghost use Rattle.ansi_style.specs.States.{rendition_of};
+ghost use Rattle.ansi_style.specs.Written.{longest_start_and_close};
 ghost use Rattle.ansi_split.specs.Spans.{parts_left, span_part, span_text, IsWritten, IsBare};
 
 use crate::split::rest::Rest;
@@ -44,7 +45,7 @@ impl<'t> Span<'t> {
     pub(super) fn write<A: Allocator>(&self, alloc: A) -> Result<CowStr<'t, A>, AllocError>
         ensures bytes { IfOk result (λ c. cow_str_bytes c ≡ (span_part (rendition_of self.now.carried) self.now.text.now self.now.skip).bytes) }
         ensures borrowed { IfOk result (λ c. IsBorrowedStr c ↔ IsTrue (span_part (rendition_of self.now.carried) self.now.text.now self.now.skip).borrowed) }
-        ensures len { IfOk result (λ c. length (cow_str_bytes c) ≤ (span_part (rendition_of self.now.carried) self.now.text.now self.now.skip).share + 251) }
+        ensures len { IfOk result (λ c. length (cow_str_bytes c) ≤ (span_part (rendition_of self.now.carried) self.now.text.now self.now.skip).share + longest_start_and_close) }
         ensures takes_no_memory { IsTrue (span_part (rendition_of self.now.carried) self.now.text.now self.now.skip).borrowed → IsOk result }
     {
         match self.bare() {

@@ -13,8 +13,8 @@ use std::fmt;
 use std::marker::Model;
 
 /// Prints the start of a style: the sequences that set it, each code in one of its own. What is
-/// printed has 163 bytes at most. Printing takes no memory, and an `Err` is the writer's. (The Rust
-/// crate.)
+/// printed has `longest_start` bytes at most, 163. Printing takes no memory, and an `Err` is the
+/// writer's. (The Rust crate.)
 ///
 /// ```
 /// let block = get_blocks(rt.alloc(), "\x1b[31;1mred").next().ok_or("no block")??;
@@ -25,8 +25,8 @@ use std::marker::Model;
 pub struct AnsiSequenceStart<'a>(pub(super) &'a Style);
 
 /// Prints the close of a style, the sequences that end it, where the style has something to end, and
-/// else nothing. What is printed has 88 bytes at most. Printing takes no memory, and an `Err` is the
-/// writer's. (The Rust crate, the font counted.)
+/// else nothing. What is printed has `longest_close` bytes at most, 88. Printing takes no memory, and an
+/// `Err` is the writer's. (The Rust crate, the font counted.)
 ///
 /// ```
 /// let block = get_blocks(rt.alloc(), "\x1b[31;1mred").next().ok_or("no block")??;

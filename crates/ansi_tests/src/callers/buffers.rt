@@ -4,12 +4,13 @@ ghost use Rattle.ansi_str.specs.Plain.{plain};
 ghost use Rattle.ansi_str.specs.Positions.{is_good_range};
 ghost use Rattle.ansi_str.specs.Cut.{cut};
 ghost use Rattle.ansi_str.specs.Parts.{part};
+ghost use Rattle.ansi_str.specs.Written.{longest_close, longest_start_and_close};
 
 use ansi_str::AnsiStr;
 use ansi_str::split::part_in;
 use std::alloc::{AllocError, Global};
 
-/// Copies the cut of a text to the front of a buffer, and gives its length. A buffer that is 88 bytes
+/// Copies the cut of a text to the front of a buffer, and gives its length. A buffer that is `longest_close`
 /// longer than the text has room for every cut.
 pub fn cut_into(
     alloc: Global,
@@ -19,7 +20,7 @@ pub fn cut_into(
     buffer: &mut [u8],
 ) -> Result<usize, AllocError>
     requires good { IsTrue (is_good_range (plain text.now) start (Some end)) }
-    requires room { length text.now + 88 ≤ length buffer.old }
+    requires room { length text.now + longest_close ≤ length buffer.old }
     ensures { IfOk result (λ n. take n buffer.new ≡ cut text.now start (Some end)) }
 {
     let cut = text.ansi_cut(alloc, start..end)?;
@@ -28,7 +29,8 @@ pub fn cut_into(
 }
 
 /// Copies the part of an index to the front of a buffer, and gives its length, or `None` where there
-/// are not so many parts. A buffer that is 251 bytes longer than the text has room for every part.
+/// are not so many parts. A buffer that is `longest_start_and_close` longer than the text has room for
+/// every part.
 pub fn part_into(
     alloc: Global,
     text: &str,
@@ -36,7 +38,7 @@ pub fn part_into(
     index: usize,
     buffer: &mut [u8],
 ) -> Result<Option<usize>, AllocError>
-    requires { length text.now + 251 ≤ length buffer.old }
+    requires { length text.now + longest_start_and_close ≤ length buffer.old }
     ensures { IfOk result (λ o. IfSome o (λ n. part text.now pat.now index ≡ Some (take n buffer.new))) }
 {
     let Some(part) = part_in(alloc, text, pat, index)? else {
@@ -47,15 +49,16 @@ pub fn part_into(
 }
 
 /// Copies each part of a text in turn to the front of a buffer, as one who shows a part at a time, and
-/// gives the length of the longest. A buffer that is 251 bytes longer than the text has room for each.
+/// gives the length of the longest. A buffer that is `longest_start_and_close` longer than the text has
+/// room for each.
 pub fn show_parts<'x>(
     alloc: Global,
     text: &'x str,
     pat: &'x str,
     buffer: &mut [u8],
 ) -> Result<usize, AllocError>
-    requires { length text.now + 251 ≤ length buffer.old }
-    ensures { IfOk result (λ n. n ≤ length text.now + 251) }
+    requires { length text.now + longest_start_and_close ≤ length buffer.old }
+    ensures { IfOk result (λ n. n ≤ length text.now + longest_start_and_close) }
 {
     let mut longest = 0;
     for part in text.ansi_split(alloc, pat) {
