@@ -1,8 +1,10 @@
-/* Prints, for each call and input, the time of 1 MiB and of 128 KiB, the one over the other, the
-   nanoseconds a byte of 1 MiB, and the allocations there. A plain copy of the same bytes stands beside
-   them. A time is the shortest of some runs. Ends with 1 where a growth is above 12: an input eight times
-   as long may take at most one and a half times eight times as long, with room for noise; and where a search
-   for a long pattern takes more than 4 times as long as one for `xyz`. */
+/* calls: prints, for each call and input, the time of 1 MiB, the nanoseconds a byte, and the allocations. A plain copy of the
+   same bytes stands beside them. A time is the shortest of some runs.
+
+   calls ROW LENGTH: makes the call of one row, counted from 0, on so many bytes of its input, in the function `judged`, so that
+   its instructions can be counted, and prints the names of the row. Ends with 2 where there are not so many rows.
+
+   Both end with 1 where a call fails. */
 #include "lengths.h"
 
 #include <stddef.h>
@@ -12,7 +14,7 @@
 #include <string.h>
 #include <time.h>
 
-enum { LONG = 1 << 20, SHORT = 1 << 17, RUNS = 15, MOST = 12, MOST_OF_SHORT = 4 };
+enum { LONG = 1 << 20, RUNS = 15 };
 
 /* a text, its plain text, and a pattern to be searched */
 struct text {
@@ -175,6 +177,13 @@ static void set_pattern(const struct call *call, struct text *t) {
     }
 }
 
+static void expect_done(const struct call *call, size_t answer) {
+    if (answer == SIZE_MAX) {
+        fprintf(stderr, "%s failed\n", call->name);
+        exit(1);
+    }
+}
+
 /* the shortest time of some runs */
 static double measured(const struct call *call, struct text *t) {
     set_pattern(call, t);
@@ -182,95 +191,80 @@ static double measured(const struct call *call, struct text *t) {
     for (int run = 0; run < RUNS; run++) {
         allocations = 0;
         double begin = now();
-        if (call->run(t) == SIZE_MAX) {
-            fprintf(stderr, "%s failed\n", call->name);
-            exit(1);
-        }
+        expect_done(call, call->run(t));
         double took = now() - begin;
         shortest = took < shortest ? took : shortest;
     }
     return shortest;
 }
 
-/* prints a row, gives the time of 1 MiB, and tells whether the growth is above the most that is allowed */
-static int timed_row(const struct call *call, const struct input *input, double *took) {
-    struct text t = made(input, LONG);
-    double of_long = measured(call, &t);
-    size_t len = t.len, count = allocations;
-    t = made(input, SHORT);
-    double of_short = measured(call, &t), growth = of_long / of_short;
-    printf("%-16s %-28s %9.3f ms %9.3f ms %8.2f %8.3f %12zu\n", call->name, input->name, of_long / 1e6,
-           of_short / 1e6, growth, of_long / (double)len, count);
-    *took = of_long;
-    return growth > MOST;
+static const struct call COPY = {"copy", copy, NONE, NULL};
+static const struct call STRIP = {"strip", strip, NONE, NULL};
+static const struct call CUT = {"cut", cut, NONE, NULL};
+static const struct call STARTS_WITH = {"starts_with", starts_with, FIRST_HALF, NULL};
+static const struct call ENDS_WITH = {"ends_with", ends_with, LAST_HALF, NULL};
+static const struct call STRIP_PREFIX = {"strip_prefix", strip_prefix, FIRST_HALF, NULL};
+static const struct call STRIP_SUFFIX = {"strip_suffix", strip_suffix, LAST_HALF, NULL};
+static const struct call TRIM = {"trim", trim, NONE, NULL};
+static const struct call FIND_END = {"find, at the end", find, WORD, "END"};
+static const struct call FIND_ABSENT = {"find, absent", find_absent, WORD, "absent"};
+static const struct call FIND_SHORT = {"find, xyz", find_absent, WORD, "xyz"};
+static const struct call FIND_X = {"find, 256 x", find_absent, WORD, X64 X64 X64 X64};
+static const struct call FIND_A = {"find, 255 a, b", find_absent, WORD, A64 A64 A64 A16 A16 A16 "aaaaaaaaaaaaaaa" "b"};
+static const struct call SPLIT = {"split", split, WORD, " "};
+static const struct call BLOCKS = {"blocks", blocks, NONE, NULL};
+
+static const struct row {
+    const struct call *call;
+    const struct input *input;
+} ROWS[] = {
+    {&COPY, &LOG},
+    {&STRIP, &PLAIN}, {&STRIP, &LOG}, {&STRIP, &SHORT_SEQUENCES}, {&STRIP, &UNFINISHED}, {&STRIP, &FIELDS},
+    {&CUT, &PLAIN}, {&CUT, &LOG}, {&CUT, &SHORT_SEQUENCES}, {&CUT, &UNFINISHED}, {&CUT, &FIELDS},
+    {&STARTS_WITH, &LOG}, {&STARTS_WITH, &SHORT_SEQUENCES}, {&STARTS_WITH, &TAIL},
+    {&ENDS_WITH, &LOG}, {&ENDS_WITH, &SHORT_SEQUENCES}, {&ENDS_WITH, &TAIL},
+    {&STRIP_PREFIX, &LOG}, {&STRIP_PREFIX, &SHORT_SEQUENCES}, {&STRIP_PREFIX, &TAIL},
+    {&STRIP_SUFFIX, &LOG}, {&STRIP_SUFFIX, &SHORT_SEQUENCES}, {&STRIP_SUFFIX, &TAIL},
+    {&TRIM, &LOG}, {&TRIM, &SHORT_SEQUENCES}, {&TRIM, &TAIL}, {&TRIM, &BLANKS},
+    {&FIND_END, &MARKED},
+    {&FIND_ABSENT, &LOG}, {&FIND_ABSENT, &SHORT_SEQUENCES},
+    {&FIND_SHORT, &SHORT_SEQUENCES}, {&FIND_X, &SHORT_SEQUENCES}, {&FIND_A, &SHORT_SEQUENCES},
+    {&FIND_SHORT, &LETTERS}, {&FIND_X, &LETTERS}, {&FIND_A, &LETTERS},
+    {&SPLIT, &PLAIN}, {&SPLIT, &LOG}, {&SPLIT, &WORDS},
+    {&BLOCKS, &LOG}, {&BLOCKS, &SHORT_SEQUENCES}, {&BLOCKS, &TAIL},
+};
+
+enum { ROW_COUNT = sizeof ROWS / sizeof ROWS[0] };
+
+static void print_time(const struct row *row) {
+    struct text t = made(row->input, LONG);
+    double took = measured(row->call, &t);
+    printf("%-16s %-28s %9.3f ms %8.3f %12zu\n", row->call->name, row->input->name, took / 1e6, took / (double)t.len, allocations);
 }
 
-static int row(const struct call *call, const struct input *input) {
-    double took;
-    return timed_row(call, input, &took);
+/* a function of its own, which the call returns to */
+size_t judged(const struct row *row, const struct text *t);
+__attribute__((noinline)) size_t judged(const struct row *row, const struct text *t) {
+    volatile size_t answer = row->call->run(t);
+    return answer;
 }
 
-static int rows(const struct call *call, const struct input *const *inputs) {
-    int above = 0;
-    for (; *inputs != NULL; inputs++) {
-        above |= row(call, *inputs);
-    }
-    return above;
-}
-
-int main(void) {
-    static const struct input *const SCANNED[] = {&PLAIN, &LOG, &SHORT_SEQUENCES, &UNFINISHED, &FIELDS, NULL};
-    static const struct input *const MATCHED[] = {&LOG, &SHORT_SEQUENCES, &TAIL, NULL};
-    static const struct input *const TRIMMED[] = {&LOG, &SHORT_SEQUENCES, &TAIL, &BLANKS, NULL};
-    static const struct input *const SEARCHED[] = {&LOG, &SHORT_SEQUENCES, NULL};
-    static const struct input *const ENDED[] = {&MARKED, NULL};
-    static const struct input *const HOSTILE[] = {&SHORT_SEQUENCES, &LETTERS, NULL};
-    static const struct input *const PARTED[] = {&PLAIN, &LOG, &WORDS, NULL};
-    static const struct input *const WALKED[] = {&LOG, &SHORT_SEQUENCES, &TAIL, NULL};
-    static const struct call COPY = {"copy", copy, NONE, NULL};
-    static const struct call SCANS[] = {{"strip", strip, NONE, NULL}, {"cut", cut, NONE, NULL}};
-    static const struct call MATCHES[] = {{"starts_with", starts_with, FIRST_HALF, NULL},
-                                          {"ends_with", ends_with, LAST_HALF, NULL},
-                                          {"strip_prefix", strip_prefix, FIRST_HALF, NULL},
-                                          {"strip_suffix", strip_suffix, LAST_HALF, NULL}};
-    static const struct call TRIM = {"trim", trim, NONE, NULL};
-    static const struct call FIND_END = {"find, at the end", find, WORD, "END"};
-    static const struct call FIND_ABSENT = {"find, absent", find_absent, WORD, "absent"};
-    static const struct call FIND_SHORT = {"find, xyz", find_absent, WORD, "xyz"};
-    static const struct call FIND_LONG[] = {
-        {"find, 256 x", find_absent, WORD, X64 X64 X64 X64},
-        {"find, 255 a, b", find_absent, WORD, A64 A64 A64 A16 A16 A16 "aaaaaaaaaaaaaaa" "b"}};
-    static const struct call SPLIT = {"split", split, WORD, " "};
-    static const struct call BLOCKS = {"blocks", blocks, NONE, NULL};
-    int above = 0;
-    printf("%-16s %-28s %12s %12s %8s %8s %12s\n", "call", "input", "1 MiB", "128 KiB", "growth",
-           "ns/byte", "allocations");
-    row(&COPY, &LOG);
-    for (size_t i = 0; i < sizeof SCANS / sizeof SCANS[0]; i++) {
-        above |= rows(&SCANS[i], SCANNED);
-    }
-    for (size_t i = 0; i < sizeof MATCHES / sizeof MATCHES[0]; i++) {
-        above |= rows(&MATCHES[i], MATCHED);
-    }
-    above |= rows(&TRIM, TRIMMED);
-    above |= rows(&FIND_END, ENDED);
-    above |= rows(&FIND_ABSENT, SEARCHED);
-    for (const struct input *const *input = HOSTILE; *input != NULL; input++) {
-        double of_short = 0;
-        above |= timed_row(&FIND_SHORT, *input, &of_short);
-        for (size_t i = 0; i < sizeof FIND_LONG / sizeof FIND_LONG[0]; i++) {
-            double took = 0;
-            above |= timed_row(&FIND_LONG[i], *input, &took);
-            if (took > MOST_OF_SHORT * of_short) {
-                fprintf(stderr, "%s takes more than %d times %s\n", FIND_LONG[i].name, MOST_OF_SHORT, FIND_SHORT.name);
-                above = 1;
-            }
+int main(int count, char **words) {
+    if (count == 3) {
+        unsigned long index = strtoul(words[1], NULL, 10);
+        if (index >= ROW_COUNT) {
+            return 2;
         }
+        const struct row *row = &ROWS[index];
+        struct text t = made(row->input, strtoul(words[2], NULL, 10));
+        set_pattern(row->call, &t);
+        expect_done(row->call, judged(row, &t));
+        printf("%-16s %-28s\n", row->call->name, row->input->name);
+        return 0;
     }
-    above |= rows(&SPLIT, PARTED);
-    above |= rows(&BLOCKS, WALKED);
-    if (above) {
-        fprintf(stderr, "a growth is above %d\n", MOST);
+    printf("%-16s %-28s %12s %8s %12s\n", "call", "input", "1 MiB", "ns/byte", "allocations");
+    for (size_t i = 0; i < ROW_COUNT; i++) {
+        print_time(&ROWS[i]);
     }
-    return above;
+    return 0;
 }

@@ -410,7 +410,8 @@ static inline ansi_str_edit_step ansi_str_edit_trim(void) {
 
 /* What edits make of the text, each done on what the one before gave. ANSI_STR_REFUSED: one of them is refused at its
    turn, since its positions are bad, its pattern isn't there, there is no such part, or its kind is none of those above.
-   Each pattern has to be UTF-8, also that of an edit which takes none. Takes memory also on a text without ESC. */
+   Each pattern has to be UTF-8, also that of an edit which takes none. Takes no memory on a text without ESC, for no
+   edits, where the first is refused, and wherever each edit leaves the text as it is or takes a part that stands in it. */
 static inline ansi_str_answer ansi_str_edit(const char *text, size_t text_len, const ansi_str_edit_step *edits,
                                             size_t edits_len, char *buffer, size_t buffer_len) {
     ansi_str_edit_step none = ansi_str_edit_trim();

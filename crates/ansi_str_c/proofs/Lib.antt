@@ -1,3 +1,4 @@
 pub mod Utf8Lemmas
 pub mod StepLemmas
 pub mod ListLemmas
+mod StyleExamples

@@ -1,11 +1,14 @@
 -- What a call of texts does, by the test of each text, and what it gives.
-use Rattle.std.proofs.Common.{◌≡◌, ◌∙◌, Bool, true, false, ◌&&◌, ℕ, List, [], ◌∷◌, Option, Some, inl, inr, sym, refl, subst}
+use Rattle.std.proofs.Common.{◌≡◌, ◌∙◌, Bool, true, false, not, ◌&&◌, ℕ, List, [], ◌∷◌, Option, Some, Result, Ok, Err, IsTrue, inl, inr, sym, refl, subst}
+use Rattle.std.specs.Prelude.{IsOk, IfOk, option_map, MatchResult}
+use Rattle.std.specs.Cow.{cow_str_bytes}
+use Rattle.std.specs.declared.borrow.CowStr.{CowStr}
 use Rattle.std.proofs.lemmas.Bool.{true≢false}
 use Rattle.std.proofs.lemmas.Str.{IsUtf8-from_is_utf8, is_utf8-from_IsUtf8}
 use Rattle.std.specs.List.{list_all}
 use Rattle.std.specs.Str.{is_utf8}
 use Rattle.ansi_str_c.specs.declared.answers.Answer.{Answer}
-use Rattle.ansi_str_c.specs.Answers.{OnUtf8, IsFound, IsWritten, Gives}
+use Rattle.ansi_str_c.specs.Answers.{out_of_memory, OnUtf8, HasFailed, IsFound, IsWritten, Gives}
 
 both-left : (a b : Bool) → (a && b) ≡ true → a ≡ true
 both-left true b both = refl
@@ -34,3 +37,12 @@ OnUtf8-not (t ∷ ts) Done Failed not_all failed = not-first t ts Done Failed (i
 pub Gives-written : (absent : ℕ) (takes_memory : Bool) (found : Option (List ℕ)) (bytes : List ℕ) (answer : Answer) (old new : List ℕ)
     → Some bytes ≡ found → IsWritten bytes answer old new → Gives absent takes_memory found answer old new
 Gives-written absent takes_memory found bytes answer old new is written = inl (subst (λ found. IsFound absent found answer old new) is written)
+
+-- what a call gave is written or refused, and memory is wanting only where it takes some
+pub Gives-found : {A E : Type 0} (absent : ℕ) (stays : Bool) (found : Option (List ℕ)) (gave : Result (Option (CowStr A)) E) (answer : Answer) (old new : List ℕ)
+    → IfOk gave (λ o. option_map cow_str_bytes o ≡ found) → (IsTrue stays → IsOk gave)
+    → MatchResult gave (λ o. IsFound absent (option_map cow_str_bytes o) answer old new) (λ e. HasFailed out_of_memory answer old new)
+    → Gives absent (not stays) found answer old new
+Gives-found absent stays found (Ok o) answer old new is fits told = inl (subst (λ found. IsFound absent found answer old new) is told)
+Gives-found absent true found (Err e) answer old new is fits told = absurd (true≢false (sym (fits refl)))
+Gives-found absent false found (Err e) answer old new is fits told = inr (refl, told)

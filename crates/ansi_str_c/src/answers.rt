@@ -1,6 +1,10 @@
 //! What a call answers, and how it writes into a buffer.
-ghost use Rattle.std.specs.Prelude.{◌≡◌};
-ghost use Rattle.ansi_str_c.specs.Answers.{done, failed, told, IsWritten};
+ghost use Rattle.std.specs.Prelude.{◌≡◌, option_map, MatchResult};
+ghost use Rattle.std.specs.Cow.{cow_str_bytes};
+ghost use Rattle.ansi_str_c.specs.Answers.{done, failed, told, out_of_memory, HasFailed, IsWritten, IsFound};
+
+use std::alloc::AllocError;
+use std::borrow::CowStr;
 
 /// It is done, or it is so.
 pub const OK: u32 = 0;
@@ -60,4 +64,21 @@ pub fn write(text: &[u8], buffer: &mut [u8]) -> Answer
     }
     buffer[..len].copy_from_slice(text);
     Answer::done(len)
+}
+
+/// Writes a text that was found, or answers a status where there is none, or that memory is wanting.
+pub fn write_found(
+    found: Result<Option<CowStr<'_>>, AllocError>,
+    absent: u32,
+    buffer: &mut [u8],
+) -> Answer
+    ensures { MatchResult found.entry
+        (λ found. IsFound absent (option_map cow_str_bytes found) result buffer.old buffer.new)
+        (λ e. HasFailed out_of_memory result buffer.old buffer.new) }
+{
+    match found {
+        Ok(Some(text)) => write(text.as_bytes(), buffer),
+        Ok(None) => Answer::failed(absent),
+        Err(_) => Answer::failed(OUT_OF_MEMORY),
+    }
 }

@@ -1,16 +1,18 @@
 //! Edits in turn.
-ghost use Rattle.std.specs.Prelude.{◌≡◌, ◌⊎◌, ◌∷◌, [], map, IfOk, MatchOption, true, false};
+ghost use Rattle.std.specs.Prelude.{◌≡◌, ◌↔◌, ◌⊎◌, ◌∷◌, [], map, option_map, IsTrue, IsNone, IsOk, IfOk, IfSome, IsUtf8};
 ghost use Rattle.std.specs.List.{list_all};
 ghost use Rattle.std.specs.Str.{is_utf8};
-ghost use Rattle.ansi_str.specs.Edited.{edited};
-ghost use Rattle.ansi_str.specs.Edits.{change_of, changes_of};
-ghost use Rattle.ansi_str_c.specs.Answers.{no, refused, not_utf8, out_of_memory, OnUtf8, HasFailed, IsFound, GivesEdited};
+ghost use Rattle.std.specs.Cow.{cow_str_bytes, IsBorrowedStr};
+ghost use Rattle.ansi_str.specs.Edited.{edited_by, edited, gives_borrow, stay_borrowed};
+ghost use Rattle.ansi_str.specs.Edits.{change_of};
+ghost use Rattle.ansi_str_c.specs.Answers.{no, refused, not_utf8, OnUtf8, HasFailed, GivesEdited};
 ghost use Rattle.ansi_str_c.specs.Steps.{change_of_step, patterns_of};
 
-use crate::answers::{Answer, NO, NOT_UTF8, OUT_OF_MEMORY, REFUSED};
+use crate::answers::{Answer, NO, NOT_UTF8, REFUSED, write_found};
 use crate::texts::write_edited;
-use ansi_str::Edit;
+use ansi_str::{Edit, edit};
 use std::alloc::{AllocError, Global};
+use std::borrow::CowStr;
 use std::str;
 
 const CUT: u32 = 0;
@@ -46,15 +48,16 @@ pub extern "C" fn ansi_str_raw_edit(
     buffer: &mut [u8],
 ) -> Answer
     ensures { OnUtf8 (text.now ∷ patterns_of steps.now)
-        (IsFound refused (edited (map change_of_step steps.now) text.now) result buffer.old buffer.new)
-        (HasFailed not_utf8 result buffer.old buffer.new)
-        ⊎ HasFailed out_of_memory result buffer.old buffer.new }
+        (GivesEdited refused (map change_of_step steps.now) text.now result buffer.old buffer.new)
+        (HasFailed not_utf8 result buffer.old buffer.new) }
 {
-    match edits_of(alloc, steps) {
-        Ok(Some(edits)) => write_edited(alloc, text, edits.as_slice(), REFUSED, buffer),
-        Ok(None) => Answer::failed(NOT_UTF8),
-        Err(_) => Answer::failed(OUT_OF_MEMORY),
+    let Ok(text) = str::from_utf8(text) else {
+        return Answer::failed(NOT_UTF8);
+    };
+    if !are_patterns_utf8(steps) {
+        return Answer::failed(NOT_UTF8);
     }
+    write_found(edit_in_turn(alloc, text, steps), REFUSED, buffer)
 }
 
 /// Writes what one step makes of a text, or answers that its pattern isn't there or has no such part.
@@ -68,26 +71,68 @@ pub(crate) fn write_step(
         (GivesEdited no (change_of_step step.now ∷ []) text.now result buffer.old buffer.new)
         (HasFailed not_utf8 result buffer.old buffer.new) }
 {
-    let Ok(pat) = str::from_utf8(step.pattern) else {
-        return Answer::failed(NOT_UTF8);
-    };
-    write_edited(alloc, text, &[edit_of(step, pat)], NO, buffer)
+    match str::from_utf8(step.pattern) {
+        Ok(pat) => write_edited(alloc, text, &[edit_of(step, pat)], NO, buffer),
+        Err(_) => Answer::failed(NOT_UTF8),
+    }
 }
 
-/// The edits that steps are, or `None` where a pattern isn't UTF-8.
-fn edits_of<'a>(alloc: Global, steps: &[EditStep<'a>]) -> Result<Option<Vec<Edit<'a>>>, AllocError>
-    ensures { IfOk result (λ found. MatchOption found
-        (list_all is_utf8 (patterns_of steps.now) ≡ false)
-        (λ edits. (list_all is_utf8 (patterns_of steps.now) ≡ true) × (changes_of edits.items ≡ map change_of_step steps.now))) }
+/// Whether the pattern of each step is UTF-8.
+fn are_patterns_utf8(steps: &[EditStep<'_>]) -> bool
+    ensures { result ≡ list_all is_utf8 (patterns_of steps.now) }
 {
-    let mut edits = Vec::new(alloc);
     for step in steps {
-        let Ok(pat) = str::from_utf8(step.pattern) else {
-            return Ok(None);
+        let Ok(_) = str::from_utf8(step.pattern) else {
+            return false;
         };
-        edits.push(edit_of(step, pat))?;
     }
-    Ok(Some(edits))
+    true
+}
+
+/// What steps make of a text, each done on what the one before gave, or `None` where one is refused.
+fn edit_in_turn<'t>(
+    alloc: Global,
+    text: &'t str,
+    steps: &[EditStep<'_>],
+) -> Result<Option<CowStr<'t>>, AllocError>
+    requires { IsTrue (list_all is_utf8 (patterns_of steps.now)) }
+    ensures bytes { IfOk result (λ o. option_map cow_str_bytes o ≡ edited (map change_of_step steps.now) text.now) }
+    ensures takes_no_memory { IsTrue (stay_borrowed (map change_of_step steps.now) text.now) → IsOk result }
+{
+    let mut edited = CowStr::Borrowed(text);
+    for step in steps {
+        match edit_given(alloc, edited, step)? {
+            Some(next) => edited = next,
+            None => return Ok(None),
+        }
+    }
+    Ok(Some(edited))
+}
+
+/// What one step makes of what the steps before it gave, or `None` where it is refused. What is owned
+/// stays owned.
+fn edit_given<'t>(
+    alloc: Global,
+    given: CowStr<'t>,
+    step: &EditStep<'_>,
+) -> Result<Option<CowStr<'t>>, AllocError>
+    requires { IsUtf8 step.now.pattern.now }
+    ensures bytes { IfOk result (λ o. option_map cow_str_bytes o ≡ edited_by (change_of_step step.now) (cow_str_bytes given.entry)) }
+    ensures borrowed { IfOk result (λ o. IfSome o (λ c. IsBorrowedStr c ↔ (IsBorrowedStr given.entry × IsTrue (gives_borrow (change_of_step step.now) (cow_str_bytes given.entry))))) }
+    ensures takes_no_memory { IsNone (edited_by (change_of_step step.now) (cow_str_bytes given.entry))
+        ⊎ (IsBorrowedStr given.entry × IsTrue (gives_borrow (change_of_step step.now) (cow_str_bytes given.entry))) → IsOk result }
+{
+    let Ok(pat) = str::from_utf8(step.pattern) else {
+        return Ok(None);
+    };
+    let edits = [edit_of(step, pat)];
+    match given {
+        CowStr::Borrowed(text) => edit(alloc, text, &edits),
+        CowStr::Owned(text) => match edit(alloc, text.as_str(), &edits)? {
+            Some(edited) => Ok(Some(CowStr::Owned(edited.into_owned(alloc)?))),
+            None => Ok(None),
+        },
+    }
 }
 
 /// The edit that a step is. A step of no kind is a range that every text refuses.

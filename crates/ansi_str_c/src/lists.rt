@@ -1,8 +1,8 @@
 //! Calls that give several texts: all parts, and all blocks.
-ghost use Rattle.std.specs.Prelude.{◌≡◌, ◌∷◌, [], ◌++◌, length, flat_map, IfOk, OnOk, string_bytes};
+ghost use Rattle.std.specs.Prelude.{◌≡◌, ◌∷◌, [], ◌++◌, length, flat_map, IfOk, OnOk, MatchResult, string_bytes};
 ghost use Rattle.ansi_str.specs.Parts.{all_parts};
 ghost use Rattle.ansi_str.specs.Blocks.{blocks};
-ghost use Rattle.ansi_str_c.specs.Answers.{not_utf8, OnUtf8};
+ghost use Rattle.ansi_str_c.specs.Answers.{not_utf8, out_of_memory, OnUtf8};
 ghost use Rattle.ansi_str_c.specs.Lists.{none, ends_from, entries_from, styled_text, styled_entries_from, AreWritten, HaveFailed, GivesAll};
 
 use crate::answers::{NOT_UTF8, OK, OUT_OF_MEMORY, TOO_SMALL};
@@ -74,12 +74,7 @@ pub extern "C" fn ansi_str_raw_split(
     let Ok(pat) = str::from_utf8(pattern) else {
         return ListAnswer::failed(NOT_UTF8);
     };
-    match join_parts(alloc, text, pat) {
-        Ok((texts, their_ends)) => {
-            write_list(texts.as_bytes(), their_ends.as_slice(), buffer, ends)
-        }
-        Err(_) => ListAnswer::failed(OUT_OF_MEMORY),
-    }
+    write_joined(join_parts(alloc, text, pat), buffer, ends)
 }
 
 /// All blocks of a text, and where each ends and its style.
@@ -97,12 +92,7 @@ pub extern "C" fn ansi_str_raw_blocks(
     let Ok(text) = str::from_utf8(text) else {
         return ListAnswer::failed(NOT_UTF8);
     };
-    match join_blocks(alloc, text) {
-        Ok((texts, their_entries)) => {
-            write_list(texts.as_bytes(), their_entries.as_slice(), buffer, entries)
-        }
-        Err(_) => ListAnswer::failed(OUT_OF_MEMORY),
-    }
+    write_joined(join_blocks(alloc, text), buffer, entries)
 }
 
 /// All blocks of a text, each between the start of its style and the end, and where these stand and its
@@ -121,12 +111,7 @@ pub extern "C" fn ansi_str_raw_styled_blocks(
     let Ok(text) = str::from_utf8(text) else {
         return ListAnswer::failed(NOT_UTF8);
     };
-    match join_styled_blocks(alloc, text) {
-        Ok((texts, their_entries)) => {
-            write_list(texts.as_bytes(), their_entries.as_slice(), buffer, entries)
-        }
-        Err(_) => ListAnswer::failed(OUT_OF_MEMORY),
-    }
+    write_joined(join_styled_blocks(alloc, text), buffer, entries)
 }
 
 /// The parts of a text one after the other, and where each ends.
@@ -220,6 +205,24 @@ fn push_styled_block(
         end: texts.len(),
         style: StyleData::of(block),
     })
+}
+
+/// Writes texts that were joined and their entries, or answers that memory is wanting.
+fn write_joined<T: Copy>(
+    joined: Result<(String, Vec<T>), AllocError>,
+    buffer: &mut [u8],
+    entries: &mut [T],
+) -> ListAnswer
+    ensures { MatchResult joined
+        (λ joined. AreWritten (string_bytes joined.0) joined.1.items result buffer.old buffer.new entries.old entries.new)
+        (λ e. HaveFailed out_of_memory result buffer.old buffer.new entries.old entries.new) }
+{
+    match joined {
+        Ok((texts, their_entries)) => {
+            write_list(texts.as_bytes(), their_entries.as_slice(), buffer, entries)
+        }
+        Err(_) => ListAnswer::failed(OUT_OF_MEMORY),
+    }
 }
 
 /// Writes texts at the front of a buffer and their entries at the front of another, where there is room

@@ -5,7 +5,7 @@ ghost use Rattle.ansi_str.specs.Changes.{CutRange, LeftOf, RightOf, PartOf, With
 ghost use Rattle.ansi_str.specs.Edits.{changes_of};
 ghost use Rattle.ansi_str_c.specs.Answers.{no, refused, not_utf8, OnUtf8, HasFailed, Gives, GivesEdited};
 
-use crate::answers::{Answer, NOT_UTF8, OUT_OF_MEMORY, REFUSED, write};
+use crate::answers::{Answer, NOT_UTF8, OUT_OF_MEMORY, REFUSED, write, write_found};
 use crate::edits::{EditStep, PART, PREFIX, SUFFIX, write_step};
 use ansi_str::{AnsiStr, Edit, edit};
 use std::alloc::Global;
@@ -167,9 +167,5 @@ pub(crate) fn write_edited(
     let Ok(text) = str::from_utf8(text) else {
         return Answer::failed(NOT_UTF8);
     };
-    match edit(alloc, text, edits) {
-        Ok(Some(edited)) => write(edited.as_bytes(), buffer),
-        Ok(None) => Answer::failed(absent),
-        Err(_) => Answer::failed(OUT_OF_MEMORY),
-    }
+    write_found(edit(alloc, text, edits), absent, buffer)
 }
