@@ -9,8 +9,8 @@ ghost use Rattle.ansi_str_c.specs.Styles.{no_style, TellsStyle};
 use crate::answers::{Answer, NO, NOT_UTF8, OK, OUT_OF_MEMORY, write};
 use crate::styles::StyleData;
 use ansi_str::{AnsiBlock, get_blocks};
+use simdutf8::compat::from_utf8;
 use std::alloc::{AllocError, Global};
-use std::str;
 
 /// What a call answers that gives a style.
 #[repr(C)]
@@ -44,7 +44,7 @@ pub extern "C" fn ansi_str_raw_block(
         (Gives no (has_escape text.now) (option_map (λ b. b.text) (slice_get (blocks text.now) index)) result buffer.old buffer.new)
         (HasFailed not_utf8 result buffer.old buffer.new) }
 {
-    let Ok(text) = str::from_utf8(text) else {
+    let Ok(text) = from_utf8(text) else {
         return Answer::failed(NOT_UTF8);
     };
     match find_block(alloc, text, index) {
@@ -66,7 +66,7 @@ pub extern "C" fn ansi_str_raw_block_start(
         (Gives no true (option_map (λ b. start b.style) (slice_get (blocks text.now) index)) result buffer.old buffer.new)
         (HasFailed not_utf8 result buffer.old buffer.new) }
 {
-    let Ok(text) = str::from_utf8(text) else {
+    let Ok(text) = from_utf8(text) else {
         return Answer::failed(NOT_UTF8);
     };
     match block_start(alloc, text, index) {
@@ -88,7 +88,7 @@ pub extern "C" fn ansi_str_raw_block_end(
         (Gives no true (option_map (λ b. close_if_any b.style) (slice_get (blocks text.now) index)) result buffer.old buffer.new)
         (HasFailed not_utf8 result buffer.old buffer.new) }
 {
-    let Ok(text) = str::from_utf8(text) else {
+    let Ok(text) = from_utf8(text) else {
         return Answer::failed(NOT_UTF8);
     };
     match block_end(alloc, text, index) {
@@ -105,7 +105,7 @@ pub extern "C" fn ansi_str_raw_block_style(alloc: Global, text: &[u8], index: us
         (TellsStyle (has_escape text.now) (option_map (λ b. b.style) (slice_get (blocks text.now) index)) result)
         (result ≡ no_style not_utf8) }
 {
-    let Ok(text) = str::from_utf8(text) else {
+    let Ok(text) = from_utf8(text) else {
         return StyleAnswer::failed(NOT_UTF8);
     };
     match find_block(alloc, text, index) {

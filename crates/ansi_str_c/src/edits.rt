@@ -11,9 +11,9 @@ ghost use Rattle.ansi_str_c.specs.Steps.{change_of_step, patterns_of};
 use crate::answers::{Answer, NO, NOT_UTF8, REFUSED, write_found};
 use crate::texts::write_edited;
 use ansi_str::{Edit, edit};
+use simdutf8::compat::from_utf8;
 use std::alloc::{AllocError, Global};
 use std::borrow::CowStr;
-use std::str;
 
 const CUT: u32 = 0;
 
@@ -51,7 +51,7 @@ pub extern "C" fn ansi_str_raw_edit(
         (GivesEdited refused (map change_of_step steps.now) text.now result buffer.old buffer.new)
         (HasFailed not_utf8 result buffer.old buffer.new) }
 {
-    let Ok(text) = str::from_utf8(text) else {
+    let Ok(text) = from_utf8(text) else {
         return Answer::failed(NOT_UTF8);
     };
     if !are_patterns_utf8(steps) {
@@ -71,7 +71,7 @@ pub(crate) fn write_step(
         (GivesEdited no (change_of_step step.now ∷ []) text.now result buffer.old buffer.new)
         (HasFailed not_utf8 result buffer.old buffer.new) }
 {
-    match str::from_utf8(step.pattern) {
+    match from_utf8(step.pattern) {
         Ok(pat) => write_edited(alloc, text, &[edit_of(step, pat)], NO, buffer),
         Err(_) => Answer::failed(NOT_UTF8),
     }
@@ -82,7 +82,7 @@ fn are_patterns_utf8(steps: &[EditStep<'_>]) -> bool
     ensures { result ≡ list_all is_utf8 (patterns_of steps.now) }
 {
     for step in steps {
-        let Ok(_) = str::from_utf8(step.pattern) else {
+        let Ok(_) = from_utf8(step.pattern) else {
             return false;
         };
     }
@@ -122,7 +122,7 @@ fn edit_given<'t>(
     ensures takes_no_memory { IsNone (edited_by (change_of_step step.now) (cow_str_bytes given.entry))
         ⊎ (IsBorrowedStr given.entry × IsTrue (gives_borrow (change_of_step step.now) (cow_str_bytes given.entry))) → IsOk result }
 {
-    let Ok(pat) = str::from_utf8(step.pattern) else {
+    let Ok(pat) = from_utf8(step.pattern) else {
         return Ok(None);
     };
     let edits = [edit_of(step, pat)];

@@ -9,9 +9,9 @@ use crate::answers::{NOT_UTF8, OK, OUT_OF_MEMORY, TOO_SMALL};
 use crate::styles::StyleData;
 use ansi_str::split::split_in;
 use ansi_str::{AnsiBlock, get_blocks};
+use simdutf8::compat::from_utf8;
 use std::alloc::{AllocError, Global};
 use std::fmt::Write;
-use std::str;
 
 /// What a call answers that gives several texts: a status, how many they are, and their length
 /// together.
@@ -68,10 +68,10 @@ pub extern "C" fn ansi_str_raw_split(
         (GivesAll (flat_map (λ p. p) (all_parts text.now pattern.now)) (ends_from 0 (all_parts text.now pattern.now)) result buffer.old buffer.new ends.old ends.new)
         (HaveFailed not_utf8 result buffer.old buffer.new ends.old ends.new) }
 {
-    let Ok(text) = str::from_utf8(text) else {
+    let Ok(text) = from_utf8(text) else {
         return ListAnswer::failed(NOT_UTF8);
     };
-    let Ok(pat) = str::from_utf8(pattern) else {
+    let Ok(pat) = from_utf8(pattern) else {
         return ListAnswer::failed(NOT_UTF8);
     };
     write_joined(join_parts(alloc, text, pat), buffer, ends)
@@ -89,7 +89,7 @@ pub extern "C" fn ansi_str_raw_blocks(
         (GivesAll (flat_map (λ b. b.text) (blocks text.now)) (entries_from 0 (blocks text.now)) result buffer.old buffer.new entries.old entries.new)
         (HaveFailed not_utf8 result buffer.old buffer.new entries.old entries.new) }
 {
-    let Ok(text) = str::from_utf8(text) else {
+    let Ok(text) = from_utf8(text) else {
         return ListAnswer::failed(NOT_UTF8);
     };
     write_joined(join_blocks(alloc, text), buffer, entries)
@@ -108,7 +108,7 @@ pub extern "C" fn ansi_str_raw_styled_blocks(
         (GivesAll (flat_map styled_text (blocks text.now)) (styled_entries_from 0 (blocks text.now)) result buffer.old buffer.new entries.old entries.new)
         (HaveFailed not_utf8 result buffer.old buffer.new entries.old entries.new) }
 {
-    let Ok(text) = str::from_utf8(text) else {
+    let Ok(text) = from_utf8(text) else {
         return ListAnswer::failed(NOT_UTF8);
     };
     write_joined(join_styled_blocks(alloc, text), buffer, entries)

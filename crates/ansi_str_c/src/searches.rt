@@ -7,17 +7,17 @@ ghost use Rattle.ansi_str_c.specs.Answers.{not_utf8, failed, told, OnUtf8, Tells
 
 use crate::answers::{Answer, NO, NOT_UTF8};
 use ansi_str::{AnsiStr, ansi_is_whole};
-use std::str;
+use simdutf8::compat::from_utf8;
 
 /// Where the pattern first stands in the plain text.
 #[unsafe(no_mangle)]
 pub extern "C" fn ansi_str_raw_find(text: &[u8], pattern: &[u8]) -> Answer
     ensures { OnUtf8 (text.now ∷ pattern.now ∷ []) (TellsPlace pattern.now (plain text.now) result) (result ≡ failed not_utf8) }
 {
-    let Ok(text) = str::from_utf8(text) else {
+    let Ok(text) = from_utf8(text) else {
         return Answer::failed(NOT_UTF8);
     };
-    let Ok(pat) = str::from_utf8(pattern) else {
+    let Ok(pat) = from_utf8(pattern) else {
         return Answer::failed(NOT_UTF8);
     };
     match text.ansi_find(pat) {
@@ -33,10 +33,10 @@ pub extern "C" fn ansi_str_raw_starts_with(text: &[u8], pattern: &[u8]) -> Answe
         (result ≡ told (starts_with nat_eq (plain text.now) pattern.now))
         (result ≡ failed not_utf8) }
 {
-    let Ok(text) = str::from_utf8(text) else {
+    let Ok(text) = from_utf8(text) else {
         return Answer::failed(NOT_UTF8);
     };
-    let Ok(pat) = str::from_utf8(pattern) else {
+    let Ok(pat) = from_utf8(pattern) else {
         return Answer::failed(NOT_UTF8);
     };
     Answer::told(text.ansi_starts_with(pat))
@@ -49,10 +49,10 @@ pub extern "C" fn ansi_str_raw_ends_with(text: &[u8], pattern: &[u8]) -> Answer
         (result ≡ told (ends_with nat_eq (plain text.now) pattern.now))
         (result ≡ failed not_utf8) }
 {
-    let Ok(text) = str::from_utf8(text) else {
+    let Ok(text) = from_utf8(text) else {
         return Answer::failed(NOT_UTF8);
     };
-    let Ok(pat) = str::from_utf8(pattern) else {
+    let Ok(pat) = from_utf8(pattern) else {
         return Answer::failed(NOT_UTF8);
     };
     Answer::told(text.ansi_ends_with(pat))
@@ -65,7 +65,7 @@ pub extern "C" fn ansi_str_raw_is_char_boundary(text: &[u8], index: usize) -> An
         (result ≡ told (is_char_boundary (plain text.now) index))
         (result ≡ failed not_utf8) }
 {
-    match str::from_utf8(text) {
+    match from_utf8(text) {
         Ok(text) => Answer::told(text.ansi_is_char_boundary(index)),
         Err(_) => Answer::failed(NOT_UTF8),
     }
@@ -78,7 +78,7 @@ pub extern "C" fn ansi_str_raw_is_whole(text: &[u8]) -> Answer
         (result ≡ told (is_whole text.now))
         (result ≡ failed not_utf8) }
 {
-    match str::from_utf8(text) {
+    match from_utf8(text) {
         Ok(text) => Answer::told(ansi_is_whole(text)),
         Err(_) => Answer::failed(NOT_UTF8),
     }
@@ -91,7 +91,7 @@ pub extern "C" fn ansi_str_raw_has_any(text: &[u8]) -> Answer
         (result ≡ told (has_escape text.now))
         (result ≡ failed not_utf8) }
 {
-    match str::from_utf8(text) {
+    match from_utf8(text) {
         Ok(text) => Answer::told(text.ansi_has_any()),
         Err(_) => Answer::failed(NOT_UTF8),
     }

@@ -8,8 +8,8 @@ ghost use Rattle.ansi_str_c.specs.Answers.{no, refused, not_utf8, OnUtf8, HasFai
 use crate::answers::{Answer, NOT_UTF8, OUT_OF_MEMORY, REFUSED, write, write_found};
 use crate::edits::{EditStep, PART, PREFIX, SUFFIX, write_step};
 use ansi_str::{AnsiStr, Edit, edit};
+use simdutf8::compat::from_utf8;
 use std::alloc::Global;
-use std::str;
 
 /// The plain text.
 #[unsafe(no_mangle)]
@@ -18,7 +18,7 @@ pub extern "C" fn ansi_str_raw_strip(alloc: Global, text: &[u8], buffer: &mut [u
         (Gives no (has_escape text.now) (Some (plain text.now)) result buffer.old buffer.new)
         (HasFailed not_utf8 result buffer.old buffer.new) }
 {
-    let Ok(text) = str::from_utf8(text) else {
+    let Ok(text) = from_utf8(text) else {
         return Answer::failed(NOT_UTF8);
     };
     match text.ansi_strip(alloc) {
@@ -164,7 +164,7 @@ pub(crate) fn write_edited(
         (GivesEdited absent (changes_of edits.now) text.now result buffer.old buffer.new)
         (HasFailed not_utf8 result buffer.old buffer.new) }
 {
-    let Ok(text) = str::from_utf8(text) else {
+    let Ok(text) = from_utf8(text) else {
         return Answer::failed(NOT_UTF8);
     };
     write_found(edit(alloc, text, edits), absent, buffer)
