@@ -11,8 +11,8 @@ fn main(rt: HostRuntime) -> ExitCode {
     let mut input = HostIn::new(rt.stdin());
     let mut faults = HostOut::new(rt.stderr());
     let words = words_given(&rt);
-    let buffer = BufWriter::new(rt.alloc(), rt.stdout());
-    let status = run_buffered(rt.alloc(), &words, &mut input, buffer, &mut faults);
+    let mut output = BufWriter::new(rt.alloc(), rt.stdout()).map(HostOut::new);
+    let status = run_buffered(rt.alloc(), &words, &mut input, &mut output, &mut faults);
     ExitCode::from(status)
 }
 

@@ -1,6 +1,6 @@
 -- What is known of a device's bytes, from one call to the next.
-use Rattle.std.proofs.Common.{◌≡◌, ℕ, List, [], ◌++◌, Option, None, Some, IfSome, refl, ap, ◌∙◌, append_assoc, append-nil}
-use Rattle.std.specs.Io.KnownBytes.{prepend_known, append_known, IsAtEnd}
+use Rattle.std.proofs.Common.{◌≡◌, ℕ, List, [], ◌++◌, Option, None, Some, IfSome, is_some, refl, ap, ◌∙◌, append_assoc, append-nil}
+use Rattle.std.specs.Io.KnownBytes.{prepend_known, append_known, Appends, Keeps, IsAtEnd}
 
 -- nothing more is appended
 pub append_known-nil : (known : Option (List ℕ)) → append_known known [] ≡ known
@@ -22,3 +22,17 @@ pub all_read : (left now : Option (List ℕ)) (read : List ℕ) → left ≡ pre
 all_read None now read taken ended = tt
 all_read (Some bytes) None read taken ended = cc
 all_read (Some bytes) (Some more) read taken ended = let joined = append-nil read in cc
+
+-- bytes that were known and are known, or neither, and grow
+pub appends-alike : (old new : Option (List ℕ)) (more : List ℕ) → is_some old ≡ is_some new → Appends old new more → new ≡ append_known old more
+appends-alike None None more alike grew = refl
+appends-alike None (Some bytes) more alike grew = cc
+appends-alike (Some front) None more alike grew = absurd grew
+appends-alike (Some front) (Some bytes) more alike grew = ap Some grew
+
+-- bytes that were known and are known, or neither, and stay
+pub keeps-alike : (old new : Option (List ℕ)) → is_some old ≡ is_some new → Keeps old new → new ≡ old
+keeps-alike None None alike kept = refl
+keeps-alike None (Some bytes) alike kept = cc
+keeps-alike (Some bytes) None alike kept = absurd kept
+keeps-alike (Some bytes) (Some now) alike kept = ap Some kept

@@ -1,5 +1,5 @@
 -- What the devices over std's readers and writers stand over.
-use Rattle.std.specs.Prelude.{◌≡◌, false}
+use Rattle.std.specs.Prelude.{◌≡◌, ℕ, List, Option, None, false, if◌then◌else◌}
 use Rattle.ansi_lines_io.specs.declared.host.HostIn.{HostIn}
 use Rattle.ansi_lines_io.specs.declared.host.HostOut.{HostOut}
 
@@ -10,6 +10,10 @@ reader_of device = device.reader
 -- the writer that a sink stands over
 abbrev pub writer_of : {W : Type 0} → HostOut W → W
 writer_of device = device.writer
+
+-- a sink has passed on what its writer holds, where the last that it was asked for is a flush that was done, and otherwise doesn't tell
+abbrev pub passed_by : {W : Type 0} → (W → Option (List ℕ)) → HostOut W → Option (List ℕ)
+passed_by contents device = if device.passed then contents (writer_of device) else None
 
 -- a fresh source stands over its reader, was asked for no read, and none was interrupted or has failed
 pub record IsFreshSource {R : Type 0} (reader : R) (device : HostIn R) : Type 0 where

@@ -4,3 +4,4 @@ pub mod PageStates
 pub mod Pages
 pub mod Reading
 pub mod Stops
+pub mod Writers

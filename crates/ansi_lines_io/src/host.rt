@@ -1,11 +1,13 @@
-//! The devices over std's readers and writers. They tell nothing of their bytes.
-ghost use Rattle.std.specs.Prelude.{◌≡◌, ◌≤◌, ◌||◌, None, length, is_err, IfOk, OnOk};
+//! The devices over std's readers and writers. A sink tells the bytes that its writer tells, and a source none.
+ghost use Rattle.std.specs.Prelude.{◌≡◌, ◌≤◌, ◌||◌, None, length, is_err, is_some, refl, IfOk, OnOk};
 ghost use Rattle.std.specs.Io.KnownBytes.{append_known, Appends, Keeps, ReadConsumes};
 ghost use Rattle.ansi_lines_io.specs.Devices.{Reads, count_after, was_interrupted, was_failed};
-ghost use Rattle.ansi_lines_io.specs.Hosts.{reader_of, writer_of, IsFreshSource, IsFreshSink};
+ghost use Rattle.ansi_lines_io.specs.Hosts.{reader_of, writer_of, passed_by, IsFreshSource, IsFreshSink};
+ghost use Rattle.ansi_lines_io.specs.Writers.{buffered_tell_alike};
 
 use crate::devices::{ReadFault, Sink, Source, WriteFault};
-use std::io::{Read, Write};
+use std::alloc::Allocator;
+use std::io::{BufWriter, Read, Stderr, Stdout, Write};
 
 /// A source over a reader of std.
 #[derive(Drop)]
@@ -61,11 +63,39 @@ impl<R: Read> Source for HostIn<R> {
     }
 }
 
+/// A writer of std that tells its bytes always or never, so that a sink over it can tell them.
+pub trait SteadyWrite: Write {
+    /// Where one writer of this type tells its bytes, each does.
+    ghost tell_alike: { (one other : Self) → is_some (Self.contents one) ≡ is_some (Self.contents other) };
+}
+
+impl SteadyWrite for Stdout {
+    ghost tell_alike = { λ _ _. refl };
+}
+
+impl SteadyWrite for Stderr {
+    ghost tell_alike = { λ _ _. refl };
+}
+
+impl<A: Allocator> SteadyWrite for Vec<u8, A> {
+    ghost tell_alike = { λ _ _. refl };
+}
+
+impl<W: SteadyWrite> SteadyWrite for &mut W {
+    ghost tell_alike = { λ one other. W.tell_alike one.now other.now };
+}
+
+impl<W: SteadyWrite + Drop, A: Allocator> SteadyWrite for BufWriter<W, A> {
+    ghost tell_alike = { λ one other. buffered_tell_alike W.contents W.tell_alike one other };
+}
+
 /// A sink over a writer of std.
 #[derive(Drop)]
 pub struct HostOut<W> {
     writer: W,
     flushes: u32,
+    // Whether all that the writer has taken is passed on.
+    passed: bool,
     failed: bool,
 }
 
@@ -77,26 +107,29 @@ impl<W: Write> HostOut<W> {
         HostOut {
             writer,
             flushes: 0,
+            passed: false,
             failed: false,
         }
     }
 }
 
-impl<W: Write> Sink for HostOut<W> {
-    ghost taken = { λ _. None };
+// The clauses `writer` say, in std's words, what the writer did.
+impl<W: SteadyWrite> Sink for HostOut<W> {
+    ghost taken = { λ device. W.contents (writer_of device) };
 
-    ghost passed = { λ _. None };
+    ghost passed = { λ device. passed_by W.contents device };
 
     ghost flushes = { λ device. device.flushes };
 
     ghost failed = { λ device. device.failed };
 
-    // The last clause says of the writer what the device doesn't tell.
     fn write(&mut self, bytes: &[u8]) -> Result<(), WriteFault>
+        ensures taken { OnOk result (W.contents (writer_of self.new) ≡ append_known (W.contents (writer_of self.old)) bytes.now) }
         ensures flushes { self.new.flushes ≡ self.old.flushes }
         ensures failed { self.new.failed ≡ (self.old.failed || is_err result) }
         ensures writer { OnOk result (Appends (W.contents (writer_of self.old)) (W.contents (writer_of self.new)) bytes.now) }
     {
+        self.passed = false;
         match self.writer.write_all(bytes) {
             Ok(()) => Ok(()),
             Err(_) => {
@@ -106,17 +139,19 @@ impl<W: Write> Sink for HostOut<W> {
         }
     }
 
-    // The last clause says of the writer what the device doesn't tell.
     fn flush(&mut self) -> Result<(), WriteFault>
+        ensures taken { OnOk result (W.contents (writer_of self.new) ≡ W.contents (writer_of self.old)) }
+        ensures passed { OnOk result (passed_by W.contents self.new ≡ W.contents (writer_of self.new)) }
         ensures flushes { self.new.flushes ≡ count_after self.old.flushes 1 }
         ensures failed { self.new.failed ≡ (self.old.failed || is_err result) }
         ensures writer { Keeps (W.contents (writer_of self.old)) (W.contents (writer_of self.new)) }
     {
         self.flushes = self.flushes.saturating_add(1);
-        if self.writer.flush().is_err() {
-            self.failed = true;
-            return Err(WriteFault::Failed);
+        self.passed = self.writer.flush().is_ok();
+        if self.passed {
+            return Ok(());
         }
-        Ok(())
+        self.failed = true;
+        Err(WriteFault::Failed)
     }
 }

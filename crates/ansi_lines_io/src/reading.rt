@@ -2,7 +2,7 @@
 ghost use Rattle.std.specs.Prelude.{◌≡◌, ◌≤◌, ◌<◌, ◌+◌, ◌⊎◌, true, length, take, OnOk, IfOk, IfNone, IfSome, IfErr, string_bytes, string_len, vec_len};
 ghost use Rattle.std.specs.Io.KnownBytes.{prepend_known, IsAtEnd};
 ghost use Rattle.ansi_lines_io.specs.Devices.{count_after};
-ghost use Rattle.ansi_lines_io.specs.Reading.{IsGivenUp, StopsReading};
+ghost use Rattle.ansi_lines_io.specs.Reading.{max_bytes, max_reads, IsGivenUp, StopsReading};
 
 use crate::devices::{ReadFault, Source};
 use crate::stop::Stop;
@@ -24,8 +24,8 @@ const ROOM: usize = 65_536;
 /// for a bad input, or for want of memory.
 pub fn read_text<A: Allocator, S: Source>(alloc: A, input: &mut S) -> Result<String<A>, Stop>
     ensures all { IfOk result (λ text. IfSome (S.left input.old) (λ bytes. string_bytes text ≡ bytes)) }
-    ensures short { IfOk result (λ text. string_len text ≤ 1_048_576) }
-    ensures most_reads { S.reads input.new ≤ S.reads input.old + 2_097_154 }
+    ensures short { IfOk result (λ text. string_len text ≤ max_bytes) }
+    ensures most_reads { S.reads input.new ≤ S.reads input.old + max_reads }
     ensures unfailed { OnOk result (S.failed input.new ≡ S.failed input.old) }
     ensures stopped { IfErr result (StopsReading (S.left input.old) (S.failed input.new)
         (IsGivenUp (S.interrupted input.new) (S.reads input.old) (S.reads input.new))) }
@@ -38,9 +38,9 @@ pub fn read_text<A: Allocator, S: Source>(alloc: A, input: &mut S) -> Result<Str
 fn read_bytes<A: Allocator, S: Source>(alloc: A, input: &mut S) -> Result<Vec<u8, A>, Stop>
     ensures read { IfOk result (λ read.
         IfSome (S.left input.old) (λ bytes. read.items ≡ bytes)
-        × (vec_len read ≤ 1_048_576)
+        × (vec_len read ≤ max_bytes)
         × (S.failed input.new ≡ S.failed input.old)) }
-    ensures most_reads { S.reads input.new ≤ S.reads input.old + 2_097_154 }
+    ensures most_reads { S.reads input.new ≤ S.reads input.old + max_reads }
     ensures stopped { IfErr result (StopsReading (S.left input.old) (S.failed input.new)
         (IsGivenUp (S.interrupted input.new) (S.reads input.old) (S.reads input.new))) }
 {

@@ -4,18 +4,17 @@ ghost use Rattle.std.specs.Io.KnownBytes.{append_known};
 ghost use Rattle.ansi_lines_io.specs.Devices.{count_after};
 ghost use Rattle.ansi_lines_runs.specs.Jobs.{work_of};
 ghost use Rattle.ansi_lines_runs.specs.Lines.{answers, first_refused, StopsAnswering, StopsWriting, WritesBeginning};
-ghost use Rattle.ansi_lines_io.specs.Reading.{IsBadInput, IsGivenUp, IsRead, IsUnfit};
-ghost use Rattle.ansi_lines_runs.specs.Runs.{AreBadWords, AreGoodWords, IfAnswered, MatchesWords, output_of, refused_line, told, words_of};
+ghost use Rattle.ansi_lines_io.specs.Reading.{max_reads, IsBadInput, IsGivenUp, IsRead, IsUnfit};
+ghost use Rattle.ansi_lines_runs.specs.Runs.{AreBadWords, AreGoodWords, IfAnswered, IfOutput, IfRun, MatchesWords, output_of, refused_line, told, words_of};
 ghost use Rattle.ansi_lines_io.specs.Stops.{refusal};
 
 use crate::lines::write_lines;
 use crate::words::{Job, parse};
 use ansi_lines_io::devices::{Sink, Source};
-use ansi_lines_io::host::HostOut;
 use ansi_lines_io::reading::read_text;
 use ansi_lines_io::stop::Stop;
 use std::alloc::Allocator;
-use std::io::{self, Write};
+use std::io;
 
 /// Does what the words ask for with each line of the input, and answers the status.
 ///
@@ -75,7 +74,7 @@ pub fn run<A: Allocator, S: Source, W: Sink, V: Sink>(
     // A bad input is told of before anything is written.
     ensures bad_input { result ≡ 3 → IsBadInput (S.left input.old) (S.failed input.new)
         (IsGivenUp (S.interrupted input.new) (S.reads input.old) (S.reads input.new)) }
-    ensures most_reads { S.reads input.new ≤ S.reads input.old + 2_097_154 }
+    ensures most_reads { S.reads input.new ≤ S.reads input.old + max_reads }
     ensures good_words { result ≡ 3 → AreGoodWords (words_of words.now) }
     ensures unwritten { result ≡ 3 → output.new ≡ output.old }
     ensures unfit { AreGoodWords (words_of words.now) → IfSome (S.left input.old) (λ bytes.
@@ -112,31 +111,88 @@ pub fn run<A: Allocator, S: Source, W: Sink, V: Sink>(
     }
 }
 
-/// Runs into the buffer of an output of std. Words that can't be read are bad words, and a buffer that
-/// can't be had is want of memory.
-pub fn run_buffered<A: Allocator, S: Source, W: Write + Drop, V: Sink>(
+/// Runs with words and into an output that may not be had, and answers the status. Words that can't be read
+/// are bad words, and an output that can't be had is want of memory; nothing is read then.
+///
+/// Of each status it promises what `run` does.
+pub fn run_buffered<A: Allocator, S: Source, W: Sink, V: Sink>(
     alloc: A,
     words: &io::Result<Vec<String>>,
     input: &mut S,
-    buffer: io::Result<W>,
+    output: &mut io::Result<W>,
     faults: &mut V,
 ) -> u8
     ensures statuses { result ≤ 5 }
+
+    // All that the words make of the input is written and passed on.
+    ensures done { result ≡ 0 → IfRun words.now output.old output.new (S.left input.old) (λ words bytes old new.
+        W.taken new ≡ append_known (W.taken old) (output_of words bytes)) }
+    ensures passed { result ≡ 0 → IfOutput output.old output.new (λ old new. W.passed new ≡ W.taken new) }
+    ensures none_refused { result ≡ 0 → IfRun words.now output.old output.new (S.left input.old) (λ words bytes old new.
+        IsNone (refused_line words bytes)) }
+
+    // Before a refused line is told of, all that comes of the lines before it is written and passed on.
+    ensures refused { result ≡ 1 → IfRun words.now output.old output.new (S.left input.old) (λ words bytes old new.
+        IsSome (refused_line words bytes)) }
+    ensures done_before { result ≡ 1 → IfRun words.now output.old output.new (S.left input.old) (λ words bytes old new.
+        W.taken new ≡ append_known (W.taken old) (output_of words bytes)) }
+    ensures passed_before { result ≡ 1 → IfOutput output.old output.new (λ old new. W.passed new ≡ W.taken new) }
+
+    // Words that are bad, or can't be read, are told of before anything is read or written.
     ensures unread_words { IsErr words.now → result ≡ 2 }
     ensures bad_words { result ≡ 2 → IfOk words.now (λ read. AreBadWords (words_of read.items)) }
     ensures only_bad_words { IfOk words.now (λ read. AreBadWords (words_of read.items) → (result ≡ 2) ⊎ (result ≡ 5)) }
-    ensures no_buffer { IsOk words.now → IsErr buffer → result ≡ 5 }
+    ensures nothing_read { IfOk words.now (λ read. AreBadWords (words_of read.items)) → input.new ≡ input.old }
+    ensures nothing_written { IfOk words.now (λ read. AreBadWords (words_of read.items)) → output.new ≡ output.old }
+
+    // An output that can't be had is told of before anything is read.
+    ensures no_buffer { IsOk words.now → IsErr output.old → result ≡ 5 }
+    ensures read_for_no_buffer { IsErr output.old → input.new ≡ input.old }
+
+    // A bad input is told of before anything is written.
+    ensures bad_input { result ≡ 3 → IsBadInput (S.left input.old) (S.failed input.new)
+        (IsGivenUp (S.interrupted input.new) (S.reads input.old) (S.reads input.new)) }
+    ensures most_reads { S.reads input.new ≤ S.reads input.old + max_reads }
+    ensures good_words { result ≡ 3 → IfOk words.now (λ read. AreGoodWords (words_of read.items)) }
+    ensures unwritten { result ≡ 3 → output.new ≡ output.old }
+    ensures unfit { IfOk words.now (λ read. AreGoodWords (words_of read.items) → IfSome (S.left input.old) (λ bytes.
+        IsUnfit bytes → (result ≡ 3) ⊎ (result ≡ 5))) }
+    ensures unread { IfOk words.now (λ read. AreGoodWords (words_of read.items) → S.failed input.old ≡ false →
+        S.failed input.new ≡ true → (result ≡ 3) ⊎ (result ≡ 5)) }
+
+    // A failed write or flush is told of.
+    ensures write_failed { result ≡ 4 → IfOutput output.old output.new (λ old new. W.failed new ≡ true) }
+    ensures only_write_failed { IfOutput output.old output.new (λ old new.
+        W.failed old ≡ false → W.failed new ≡ true → result ≡ 4) }
+
+    // For want of memory a beginning is written.
+    ensures out_of_memory { result ≡ 5 → IfRun words.now output.old output.new (S.left input.old) (λ words bytes old new.
+        WritesBeginning (W.taken old) (W.taken new) (output_of words bytes)) }
+
+    // The output is flushed once, after all is written, and the fault writer never.
+    ensures flushed_once { result ≤ 1 → IfOutput output.old output.new (λ old new.
+        W.flushes new ≡ count_after (W.flushes old) 1) }
+    ensures flushed_at_most_once { IfOutput output.old output.new (λ old new.
+        (W.flushes new ≡ W.flushes old) ⊎ (W.flushes new ≡ count_after (W.flushes old) 1)) }
+    ensures unflushed { result ≡ 5 → IfOutput output.old output.new (λ old new. W.flushes new ≡ W.flushes old) }
+    ensures faults_unflushed { V.flushes faults.new ≡ V.flushes faults.old }
+
+    // What ends a run early is told of, and nothing else.
+    ensures quiet { result ≡ 0 → faults.new ≡ faults.old }
     ensures told { 2 ≤ result → V.failed faults.new ≡ false →
         V.taken faults.new ≡ append_known (V.taken faults.old) (told result) }
+    ensures told_line { result ≡ 1 → V.failed faults.new ≡ false →
+        IfRun words.now output.old output.new (S.left input.old) (λ words bytes old new.
+        IfSome (refused_line words bytes) (λ line.
+        V.taken faults.new ≡ append_known (V.taken faults.old) (refusal line))) }
 {
     let Ok(words) = words else {
         return Stop::BadWords.tell(faults);
     };
-    let Ok(buffer) = buffer else {
+    let Ok(output) = output else {
         return Stop::OutOfMemory.tell(faults);
     };
-    let mut output = HostOut::new(buffer);
-    run(alloc, words.as_slice(), input, &mut output, faults)
+    run(alloc, words.as_slice(), input, output, faults)
 }
 
 // Does what the words ask for, and tells nothing.
@@ -167,7 +223,7 @@ fn perform<A: Allocator, S: Source, W: Sink>(
         IsBadInput (S.left input.old) (S.failed input.new)
         (IsGivenUp (S.interrupted input.new) (S.reads input.old) (S.reads input.new))
         × (output.new ≡ output.old) }
-    ensures most_reads { S.reads input.new ≤ S.reads input.old + 2_097_154 }
+    ensures most_reads { S.reads input.new ≤ S.reads input.old + max_reads }
 
     // The output.
     ensures write_failed { IsErrOf result Stop.WriteFailed →
