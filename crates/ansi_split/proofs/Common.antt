@@ -52,8 +52,8 @@ pub use Rattle.ansi_slice.proofs.CutLemmas.{up_to-past}
 pub use Rattle.ansi_slice.proofs.OffsetLemmas.{bytes_before-last, bytes_before-text, after_of, after_of-last, after_of-text, take-after, pieces_of-after, plain-after, IsOverText, IsOverMark, over_text, over_mark}
 pub use Rattle.ansi_slice.proofs.MatchLemmas.{boundary_at, IsMatch, is_match-drop, is_match-after, first_match_from-first, first_match_from-is, empty_at_end, none_at_end, match_fits, first_in_front, is_match-front, starts_with-splits}
 pub use Rattle.ansi_slice.proofs.ShownLemmas.{shown_pieces, piece_when, at_places, at_places-further, spelled-shown_pieces, shown_pieces_stand, style_through-shown_pieces, styled_through-shown_pieces}
-pub use Rattle.ansi_split.specs.Spans.{further_on, IsCutAfter, IsCutAtMatch, carried_from, parts_from, span_part, IsWritten, IsBare}
+pub use Rattle.ansi_split.specs.Spans.{further_on, IsCutAfter, IsCutAtMatch, carried_from, parts_from, span_part, IsSpan}
 unfoldable pub use Rattle.ansi_split.specs.Spans.{part_from, parts_left, span_text}
 pub use Rattle.ansi_split.specs.StdSplit.{AreBetween, AreInTurn, slices_over, AreSplit, GoesOn}
 pub use Rattle.memchr.specs.Find.{NoneBefore, IsFirst, Nowhere, Passes, is_byte}
-pub use Rattle.ansi_split.specs.Splits.{SplitPart}
+pub use Rattle.ansi_split.specs.Splits.{SplitPart, split_part, split_parts}

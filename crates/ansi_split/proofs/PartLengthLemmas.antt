@@ -1,5 +1,5 @@
 -- How long a part may be, and what it takes of its text.
-use Rattle.ansi_split.proofs.Common.{◌≡◌, ℕ, ◌+◌, ◌-◌, ◌≤◌, Bool, true, false, ◌==◌, List, [], ◌∷◌, ◌++◌, length, map, drop, refl, ◌∙◌, sym, ap, subst, arith, length-append, length-take, if◌then◌else◌, IfSome, cond_both, nat_tests, sum_by-cons, sum_by, option_map_or, Piece, spelling, Text, Sequence, LoneEscape, pieces_of, Mark, plain, plain_of, marks, marks_of, up_to, joined, Rendition, IsStyle, plain_style, has_any, close, start, close_if_any, show, style_within, parts, end_before, past, part_over, part, share_over, share, SplitPart, carried_from, part_from, parts_from, parts_left, one_text, slice_range-append, further, marks_of-text, marks_of-sequence, marks_of-lone, spelled, spelled-pieces_of, shown_pieces, piece_when, at_places, at_places-further, longest_close, longest_start_and_close}
+use Rattle.ansi_split.proofs.Common.{◌≡◌, ℕ, ◌+◌, ◌-◌, ◌≤◌, Bool, true, false, ◌==◌, List, [], ◌∷◌, ◌++◌, length, map, drop, refl, ◌∙◌, sym, ap, subst, arith, length-append, length-take, if◌then◌else◌, IfSome, cond_both, nat_tests, sum_by-cons, sum_by, option_map_or, Piece, spelling, Text, Sequence, LoneEscape, pieces_of, Mark, plain, plain_of, marks, marks_of, up_to, joined, Rendition, IsStyle, plain_style, has_any, close, start, close_if_any, show, style_within, parts, end_before, past, part_over, part, share_over, share, SplitPart, carried_from, part_from, parts_from, parts_left, span_part, one_text, slice_range-append, further, marks_of-text, marks_of-sequence, marks_of-lone, spelled, spelled-pieces_of, shown_pieces, piece_when, at_places, at_places-further, longest_close, longest_start_and_close}
 use Rattle.std.proofs.Common.{length-drop}
 use Rattle.std.specs.Prelude.{Option, Some, None, option_map, slice_get, ◌&&◌, nat_lt}
 use Rattle.std.proofs.lemmas.Bool.{true≢false}
@@ -67,6 +67,9 @@ length-part_from c t before i is =
       length-start (carried_from c t before) is,
       length-close_if_any (style_within c t i.1),
     ))
+
+pub length-span_part : {q : SplitPart} (c : Rendition) (t : List ℕ) (skip : ℕ) → IsStyle c → span_part c t skip ≡ q → length q.bytes ≤ q.share + longest_start_and_close
+length-span_part c t skip style is = subst (λ (q : SplitPart). length q.bytes ≤ q.share + longest_start_and_close) is (length-part_from c t None (skip, length (plain t)) style)
 
 length-dressed_part : (t : List ℕ) (before : Option ℕ) (i : ℕ × ℕ) → length (part_over t before i) ≤ share_over t before i + longest_start_and_close
 unfolding part_from part_over share_over

@@ -1,5 +1,5 @@
 -- The parts that a split gives: those of the text, each by its index; and a part that is written or borrowed.
-use Rattle.ansi_split.proofs.Common.{◌≡◌, ℕ, zero, suc, ◌+◌, ◌≤◌, true, false, not, ◌&&◌, ◌||◌, ◌==◌, List, [], ◌∷◌, ◌++◌, length, map, drop, Option, Some, None, option_map, refl, sym, ◌∙◌, ap, ap₂, arith, IsTrue, IsFalse, if◌then◌else◌, slice_get, append-nil, eqb-true, eq-eqb, ne_eqb, cond_both, or_from, and_parts, and_from, and-false, or-true, none-some, same_Some, drop_all, list_any-append, range_with_len, list_all, option_map_or, escape, Piece, Text, Sequence, LoneEscape, ArePieces, pieces_of, Mark, plain, marks_of, marks, up_to, has_escape, Rendition, plain_style, has_any, start, close_if_any, style_of, style_at, after_marks, style_within, show, parts, end_before, past, carried, part_over, part, all_parts, share_over, share, is_borrowed_over, is_part_borrowed, SplitPart, part_from, parts_from, parts_left, span_part, span_text, IsWritten, IsBare, pieces_are, no_escape, plain-bare, slice_range-past, further, marks-bare, marks_of-text, marks_of-sequence, marks_of-lone, up_to-past, show-bare, start-unset, close_if_any-unset}
+use Rattle.ansi_split.proofs.Common.{◌≡◌, Bool, unwrap_or, ℕ, zero, suc, ◌+◌, ◌≤◌, true, false, not, ◌&&◌, ◌||◌, ◌==◌, List, [], ◌∷◌, ◌++◌, length, map, drop, Option, Some, None, option_map, refl, sym, ◌∙◌, ap, ap₂, arith, IsTrue, IsFalse, if◌then◌else◌, slice_get, append-nil, eqb-true, eq-eqb, ne_eqb, cond_both, or_from, and_parts, and_from, and-false, or-true, none-some, same_Some, drop_all, list_any-append, range_with_len, list_all, option_map_or, escape, Piece, Text, Sequence, LoneEscape, ArePieces, pieces_of, Mark, plain, marks_of, marks, up_to, has_escape, Rendition, plain_style, has_any, start, close_if_any, style_of, style_at, after_marks, style_within, show, parts, end_before, past, carried, part_over, part, all_parts, share_over, share, is_borrowed_over, is_part_borrowed, SplitPart, split_part, split_parts, part_from, parts_from, parts_left, span_part, span_text, pieces_are, no_escape, plain-bare, slice_range-past, further, marks-bare, marks_of-text, marks_of-sequence, marks_of-lone, up_to-past, show-bare, start-unset, close_if_any-unset}
 use Rattle.std.proofs.lemmas.Bool.{true≢false}
 use Rattle.ansi_split.proofs.IntervalLemmas.{end_after, end_after-suc, end_after-none}
 use Rattle.ansi_split.proofs.PartTextLemmas.{length-parts, parts_over, all_parts-over}
@@ -52,36 +52,6 @@ pub share-part_from : (t : List ℕ) (before : Option ℕ) (i : ℕ × ℕ) → 
 unfolding part_from share_over
 share-part_from t before i = refl
 
--- what is read of the part of an index, as of each part by its interval
-read-parts_left : {Y : Type 0} (read : SplitPart → Y) (g : List ℕ → Option ℕ → ℕ × ℕ → Y) (none : Y) → ((t : List ℕ) (before : Option ℕ) (i : ℕ × ℕ) → read (part_from plain_style t before i) ≡ g t before i) → (t p : List ℕ) (k : ℕ)
-    → option_map_or (g t (end_before (parts (plain t) p) k)) (slice_get (parts (plain t) p) k) none ≡ option_map_or read (slice_get (parts_left plain_style t p 0 0) k) none
-read-parts_left read g none same t p k = by_interval (slice_get (parts (plain t) p) k) ∙ ap (λ o. option_map_or read o none) (sym (slice_get-parts_left t p k))
-  where
-    by_interval : (o : Option (ℕ × ℕ)) → option_map_or (g t (end_before (parts (plain t) p) k)) o none ≡ option_map_or read (option_map (part_from plain_style t (end_before (parts (plain t) p) k)) o) none
-    by_interval None = refl
-    by_interval (Some i) = sym (same t (end_before (parts (plain t) p) k) i)
-
--- where h gives of each index, from a on, what f is of the element
-map-by_index : {X Y : Type 0} (f : X → Y) (none : Y) (h : ℕ → Y) (xs : List X) (a : ℕ) → ((j : ℕ) → h (a + j) ≡ option_map_or f (slice_get xs j) none) → map f xs ≡ map h (range_with_len a (length xs))
-map-by_index f none h [] a gives = refl
-map-by_index f none h (x ∷ xs) a gives =
-    let same : a ≡ a + 0 = omega arith in
-    let next : (j : ℕ) → a + 1 + j ≡ a + suc j = λ j. omega arith in
-    ap₂ (λ b bs. b ∷ bs) (sym (ap h same ∙ gives 0)) (map-by_index f none h xs (a + 1) (λ j. ap h (next j) ∙ gives (suc j)))
-
-read-all_parts : {Y : Type 0} (read : SplitPart → Y) (g : List ℕ → Option ℕ → ℕ × ℕ → Y) (none : Y) → ((t : List ℕ) (before : Option ℕ) (i : ℕ × ℕ) → read (part_from plain_style t before i) ≡ g t before i) → (t p : List ℕ)
-    → map read (parts_left plain_style t p 0 0) ≡ map (λ k. option_map_or (g t (end_before (parts (plain t) p) k)) (slice_get (parts (plain t) p) k) none) (range_with_len 0 (length (parts_left plain_style t p 0 0)))
-read-all_parts {Y} read g none same t p =
-    let by_interval : ℕ → Y = λ k. option_map_or (g t (end_before (parts (plain t) p) k)) (slice_get (parts (plain t) p) k) none in
-    let first : (j : ℕ) → 0 + j ≡ j = λ j. omega arith in
-    map-by_index read none by_interval (parts_left plain_style t p 0 0) 0 (λ j. ap by_interval (first j) ∙ read-parts_left read g none same t p j)
-
-pub shares-parts_left : (t p : List ℕ) → map (λ (q : SplitPart). q.share) (parts_left plain_style t p 0 0) ≡ map (share t p) (range_with_len 0 (length (parts_left plain_style t p 0 0)))
-shares-parts_left t p = read-all_parts (λ (q : SplitPart). q.share) share_over 0 share-part_from t p
-
-pub borrowed-parts_left : (t p : List ℕ) → map (λ (q : SplitPart). q.borrowed) (parts_left plain_style t p 0 0) ≡ map (is_part_borrowed t p) (range_with_len 0 (length (parts_left plain_style t p 0 0)))
-borrowed-parts_left t p = read-all_parts (λ (q : SplitPart). q.borrowed) is_borrowed_over false borrowed-part_from t p
-
 -- Where no ESC stands, each part is a borrow.
 
 pub style_at-bare : (t : List ℕ) (i : ℕ) → IsFalse (has_escape t) → style_at t i ≡ plain_style
@@ -126,39 +96,41 @@ escape_is_marked t some = by_marks (marks t) (λ none. no_escape_after t (pieces
     by_marks [] bare = absurd (true≢false (sym some ∙ bare refl))
     by_marks (m ∷ ms) bare = ne_eqb (length (m ∷ ms)) 0 (λ e. omega (arith, e))
 
--- A part that is all of a text but its first bytes: as it is written,
-
-span_part-else : (c : Rendition) (t : List ℕ) (skip : ℕ) → (skip == length (plain t) && length (marks t) == 0) ≡ false → (span_part c t skip).bytes ≡ span_text c t skip
-unfolding part_from span_text
-span_part-else c t skip filled =
-    let x = plain t in
-    let all : style_within c t (length x) ≡ after_marks c (marks t) = ap (after_marks c) (up_to-past (length x) (pieces_of t) (omega arith)) in
-    let bytes : List Mark → Rendition → List ℕ = λ own last. if skip == length x && length own == 0 then [] else start c ++ show x skip (length x) own ++ close_if_any last in
-    ap₂ bytes (own-whole t) all ∙ ap (λ b. if b then [] else start c ++ show x skip (length x) (marks t) ++ close_if_any (after_marks c (marks t))) filled
+-- A part that is all of a text but its first bytes: whether it is a borrow, and what is written where it is none.
 
 span_part-borrowed : (c : Rendition) (t : List ℕ) (skip : ℕ) → (span_part c t skip).borrowed ≡ (length (marks t) == 0 && (skip == length (plain t) || not (has_any c)))
 unfolding part_from
 span_part-borrowed c t skip = ap (λ (own : List Mark). length own == 0 && (skip == length (plain t) || not (has_any c))) (own-whole t)
 
--- where a sequence stands in it, or it isn't empty and a style is carried,
+pub bytes-owned : (c : Rendition) (t : List ℕ) (skip : ℕ) → (span_part c t skip).borrowed ≡ false → (span_part c t skip).bytes ≡ span_text c t skip
+unfolding part_from span_text
+bytes-owned c t skip owned =
+    let x = plain t in
+    let all : style_within c t (length x) ≡ after_marks c (marks t) = ap (after_marks c) (up_to-past (length x) (pieces_of t) (omega arith)) in
+    let bytes : List Mark → Rendition → List ℕ = λ own last. if skip == length x && length own == 0 then [] else start c ++ show x skip (length x) own ++ close_if_any last in
+    let filled : (skip == length x && length (marks t) == 0) ≡ false = not_both (skip == length x) (length (marks t) == 0) (not (has_any c)) (sym (span_part-borrowed c t skip) ∙ owned) in
+    ap₂ bytes (own-whole t) all ∙ ap (λ b. if b then [] else start c ++ show x skip (length x) (marks t) ++ close_if_any (after_marks c (marks t))) filled
+  where
+    not_both : (b n a : Bool) → (n && (b || a)) ≡ false → (b && n) ≡ false
+    not_both true true a either = absurd (true≢false either)
+    not_both true false a either = refl
+    not_both false n a either = refl
 
-pub written-escape : (c : Rendition) (t : List ℕ) (skip : ℕ) → has_escape t ≡ true → IsWritten c t skip
-written-escape c t skip some =
-    let marked = escape_is_marked t some in
-    record {
-      bytes = span_part-else c t skip (ap (λ b. skip == length (plain t) && b) marked ∙ and-false (skip == length (plain t)));
-      owned = span_part-borrowed c t skip ∙ ap (λ b. b && (skip == length (plain t) || not (has_any c))) marked;
-    }
+-- It is none where a sequence stands in it, or it isn't empty and a style is carried,
 
-pub written-styled : (c : Rendition) (t : List ℕ) (skip : ℕ) → has_escape t ≡ false → (skip == length t) ≡ false → has_any c ≡ true → IsWritten c t skip
-written-styled c t skip none filled any =
+pub owned-escape : (c : Rendition) (t : List ℕ) (skip : ℕ) → has_escape t ≡ true → (span_part c t skip).borrowed ≡ false
+owned-escape c t skip some = span_part-borrowed c t skip ∙ ap (λ b. b && (skip == length (plain t) || not (has_any c))) (escape_is_marked t some)
+
+pub owned-styled : (c : Rendition) (t : List ℕ) (skip : ℕ) → has_escape t ≡ false → (skip == length t) ≡ false → has_any c ≡ true → (span_part c t skip).borrowed ≡ false
+owned-styled c t skip none filled any =
     let more : (skip == length (plain t)) ≡ false = ap (λ x. skip == length x) (plain-bare t none) ∙ filled in
-    record {
-      bytes = span_part-else c t skip (ap (λ b. b && length (marks t) == 0) more);
-      owned = span_part-borrowed c t skip ∙ ap₂ (λ a b. length (marks t) == 0 && (a || not b)) more any ∙ and-false (length (marks t) == 0);
-    }
+    span_part-borrowed c t skip ∙ ap₂ (λ a b. length (marks t) == 0 && (a || not b)) more any ∙ and-false (length (marks t) == 0)
 
--- and as it stands in the text, where it is empty or no style is carried.
+-- and else it stands in the text as it is.
+
+pub record IsBare (c : Rendition) (t : List ℕ) (skip : ℕ) : Type 0 where
+  pub bytes : (span_part c t skip).bytes ≡ drop skip t
+  pub borrowed : (span_part c t skip).borrowed ≡ true
 
 bare_part : (c : Rendition) (t : List ℕ) (skip : ℕ) → has_escape t ≡ false → (span_part c t skip).bytes ≡ (if skip == length t && true then [] else start c ++ drop skip t ++ close_if_any c)
 unfolding part_from
@@ -168,7 +140,7 @@ bare_part c t skip none =
     ap₂ bytes (plain-bare t none) (marks-bare t none)
     ∙ ap (λ u. if skip == length t && true then [] else start c ++ u ++ close_if_any c) (show-bare t skip (length t) ∙ slice_range-past t skip (length t) (omega arith))
 
-pub bare-empty : (c : Rendition) (t : List ℕ) (skip : ℕ) → has_escape t ≡ false → skip ≡ length t → IsBare c t skip (drop skip t)
+pub bare-empty : (c : Rendition) (t : List ℕ) (skip : ℕ) → has_escape t ≡ false → skip ≡ length t → IsBare c t skip
 bare-empty c t skip none end =
     let same : (skip == length t) ≡ true = eq-eqb skip (length t) end in
     record {
@@ -177,7 +149,7 @@ bare-empty c t skip none end =
           ∙ ap (λ b. b || not (has_any c)) same;
     }
 
-pub bare-unstyled : (c : Rendition) (t : List ℕ) (skip : ℕ) → has_escape t ≡ false → skip ≤ length t → has_any c ≡ false → IsBare c t skip (drop skip t)
+pub bare-unstyled : (c : Rendition) (t : List ℕ) (skip : ℕ) → has_escape t ≡ false → skip ≤ length t → has_any c ≡ false → IsBare c t skip
 bare-unstyled c t skip none inside unset =
     record {
       bytes = bare_part c t skip none
@@ -225,3 +197,25 @@ no_part_at t p k none = by_interval (slice_get (parts (plain t) p) k) (sym (slic
     by_interval : (o : Option (ℕ × ℕ)) → option_map (part_from plain_style t (end_before (parts (plain t) p) k)) o ≡ None → o ≡ None
     by_interval None is = refl
     by_interval (Some i) is = absurd (none-some _ (sym is))
+
+-- The parts left at first are all of them.
+
+-- a list is what h gives of each index, from a on, where h gives of that of an element the element
+by_index : {X : Type 0} (h : ℕ → X) (xs : List X) (a : ℕ) → ((j : ℕ) (x : X) → slice_get xs j ≡ Some x → h (a + j) ≡ x) → xs ≡ map h (range_with_len a (length xs))
+by_index h [] a gives = refl
+by_index h (x ∷ xs) a gives =
+    let same : a ≡ a + 0 = omega arith in
+    let next : (j : ℕ) → a + 1 + j ≡ a + suc j = λ j. omega arith in
+    ap₂ (λ b bs. b ∷ bs) (sym (ap h same ∙ gives 0 x refl)) (by_index h xs (a + 1) (λ j y at. ap h (next j) ∙ gives (suc j) y at))
+
+split_part-at : (t p : List ℕ) (k : ℕ) (q : SplitPart) → slice_get (parts_left plain_style t p 0 0) k ≡ Some q → split_part t p k ≡ q
+split_part-at t p k q at =
+    let is = part_at t p k q at in
+    let made : Option (List ℕ) → Bool → ℕ → SplitPart = λ bytes borrowed share. record { bytes = unwrap_or bytes []; borrowed = borrowed; share = share } in
+    ap₂ (λ bytes borrowed. made bytes borrowed (share t p k)) is.bytes is.borrowed ∙ ap (made (Some q.bytes) q.borrowed) is.share
+
+pub parts_left-parts : (t p : List ℕ) → parts_left plain_style t p 0 0 ≡ split_parts t p
+parts_left-parts t p =
+    let first : (j : ℕ) → 0 + j ≡ j = λ j. omega arith in
+    by_index (split_part t p) (parts_left plain_style t p 0 0) 0 (λ j q at. ap (split_part t p) (first j) ∙ split_part-at t p j q at)
+    ∙ ap (λ n. map (split_part t p) (range_with_len 0 n)) (ap length (parts_left-begin t p) ∙ length-parts_from plain_style t None (parts (plain t) p))

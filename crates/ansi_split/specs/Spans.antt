@@ -1,9 +1,9 @@
 -- The parts of a text that is read where a style is already open, and after the match before.
-use Rattle.std.specs.Prelude.{◌≡◌, ℕ, ◌+◌, ◌==◌, true, false, not, ◌&&◌, ◌||◌, List, [], ◌∷◌, ◌++◌, length, map, zip, drop, take, Option, Some, None, if◌then◌else◌, IsTrue}
+use Rattle.std.specs.Prelude.{◌≡◌, ℕ, ◌+◌, ◌==◌, Bool, not, ◌&&◌, ◌||◌, List, [], ◌∷◌, ◌++◌, length, map, zip, drop, take, Option, Some, None, if◌then◌else◌, IsTrue}
 use Rattle.std.specs.Option.{option_map_or}
 use Rattle.ansi_style.specs.declared.state.rendition.Rendition.{Rendition}
 use Rattle.ansi_style.specs.Rendition.{has_any}
-use Rattle.ansi_items.specs.Plain.{Mark, plain, marks, up_to}
+use Rattle.ansi_items.specs.Plain.{Mark, plain, marks, up_to, has_escape}
 use Rattle.ansi_style.specs.Written.{start, close_if_any}
 use Rattle.ansi_style.specs.Reading.{style_after_from, style_within}
 use Rattle.ansi_slice.specs.Cut.{show}
@@ -65,12 +65,8 @@ span_text c t skip = start c ++ show (plain t) skip (length (plain t)) (marks t)
 abbrev pub span_part : Rendition → List ℕ → ℕ → SplitPart
 span_part c t skip = part_from c t None (skip, length (plain t))
 
--- that part has to be written
-pub record IsWritten (c : Rendition) (t : List ℕ) (skip : ℕ) : Type 0 where
-  pub bytes : (span_part c t skip).bytes ≡ span_text c t skip
-  pub owned : (span_part c t skip).borrowed ≡ false
-
--- that part is u, as it stands in t
-pub record IsBare (c : Rendition) (t : List ℕ) (skip : ℕ) (u : List ℕ) : Type 0 where
-  pub bytes : (span_part c t skip).bytes ≡ u
-  pub borrowed : (span_part c t skip).borrowed ≡ true
+-- What is kept of that part besides says whether an ESC stands in t, and the style after it; and its first bytes that are left out end at a character.
+pub record IsSpan (c : Rendition) (t : List ℕ) (skip : ℕ) (is_marked : Bool) (after : Rendition) : Type 0 where
+  pub marked : is_marked ≡ has_escape t
+  pub skip_is_boundary : IsTrue (is_char_boundary (plain t) skip)
+  pub is_after : after ≡ style_after_from c t

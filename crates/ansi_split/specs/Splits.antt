@@ -1,14 +1,25 @@
--- The parts that a split has left, and what it gives of them.
-use Rattle.std.specs.Prelude.{◌≡◌, ℕ, ◌+◌, ◌≤◌, Bool, List, [], ◌∷◌, length, Option, Some, None, Result, Ok, Err, IsTrue, IsFalse, ◌↔◌}
+-- The parts of a text as a split gives them, and what it gives of those that it has left.
+use Rattle.std.specs.Prelude.{◌≡◌, ℕ, ◌+◌, ◌≤◌, Bool, List, [], ◌∷◌, length, map, unwrap_or, Option, Some, None, Result, Ok, Err, IsTrue, IsFalse, ◌↔◌}
+use Rattle.std.specs.List.{range_with_len}
 use Rattle.std.specs.Cow.{cow_str_bytes, IsBorrowedStr}
 use Rattle.std.specs.declared.borrow.CowStr.{CowStr}
 use Rattle.ansi_style.specs.Written.{longest_start_and_close}
+use Rattle.ansi_items.specs.Plain.{plain}
+use Rattle.ansi_slice.specs.Parts.{parts, part, share, is_part_borrowed}
 
 -- a part as a split gives it: its bytes, whether it is a borrow, and how many bytes of the text it has
 pub record SplitPart : Type 0 where
   pub bytes : List ℕ
   pub borrowed : Bool
   pub share : ℕ
+
+-- the part of index k as a split gives it
+abbrev pub split_part : List ℕ → List ℕ → ℕ → SplitPart
+split_part t p k = record { bytes = unwrap_or (part t p k) []; borrowed = is_part_borrowed t p k; share = share t p k }
+
+-- all parts of t between the matches of p as a split gives them, in order
+abbrev pub split_parts : List ℕ → List ℕ → List SplitPart
+split_parts t p = map (split_part t p) (range_with_len 0 (length (parts (plain t) p)))
 
 -- the text is this part; beside its share of the text split, a start and a close stand in it at most
 abbrev pub IsPart : {A : Type 0} → SplitPart → CowStr A → Type 0

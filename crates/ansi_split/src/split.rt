@@ -1,10 +1,11 @@
 //! The parts of a text between the matches of a pattern.
 ghost use Rattle.std.specs.Prelude.{◌≡◌, ◌↔◌, ◌⊎◌, ◌+◌, ◌≤◌, ◌<◌, ◌^◌, Some, length, map, slice_get, IsTrue, IsFalse, IsNone, IsOk, IfOk, IfSome};
-ghost use Rattle.std.specs.List.{range_with_len, list_all, sum_by};
+ghost use Rattle.std.specs.List.{list_all, sum_by};
 ghost use Rattle.std.specs.Cow.{cow_str_bytes, IsBorrowedStr};
 ghost use Rattle.ansi_items.specs.Plain.{plain, has_escape};
 ghost use Rattle.ansi_slice.specs.Parts.{parts, part, all_parts, share, is_part_borrowed};
 ghost use Rattle.ansi_style.specs.Written.{longest_start_and_close};
+ghost use Rattle.ansi_split.specs.Splits.{split_parts};
 
 mod rest;
 mod spans;
@@ -54,11 +55,10 @@ impl<'a, A: Allocator> Model for AnsiSplit<'a, A> {
 /// assert!(rt; matches!(&first, Some(Ok(part)) if part.as_str() == "\x1b[1mlion\x1b[22m"));
 /// ```
 pub fn split_in<'a, A: Allocator>(alloc: A, text: &'a str, pat: &'a str) -> AnsiSplit<'a, A>
+    ensures parts { result ≡ split_parts text.now pat.now }
     ensures bytes { map (λ p. p.bytes) result ≡ all_parts text.now pat.now }
-    ensures borrowed { map (λ p. p.borrowed) result ≡ map (is_part_borrowed text.now pat.now) (range_with_len 0 (length result)) }
     ensures len { length result ≤ length (plain text.now) + 2 }
     ensures fits { length result < 2 ^ 64 }
-    ensures shares { map (λ p. p.share) result ≡ map (share text.now pat.now) (range_with_len 0 (length result)) }
     ensures within { sum_by (λ p. p.share) result ≤ length text.now }
     ensures takes_no_memory { IsFalse (has_escape text.now) → IsTrue (list_all (λ p. p.borrowed) result) }
 {

@@ -1,6 +1,6 @@
 //! The calls on a text that take it as if its sequences weren't there.
 ghost use Rattle.std.specs.Prelude.{◌≡◌, ◌↔◌, ◌⊎◌, ℕ, List, [], IsTrue, IsFalse, IsNone, IsOk, IfOk, IfSome, nat_eq, string_bytes, ◌+◌, ◌*◌, ◌<◌, ◌^◌, length, filter, None, Some, MatchOption, ◌≤◌, map};
-ghost use Rattle.std.specs.List.{list_all, range_with_len, sum_by};
+ghost use Rattle.std.specs.List.{list_all, sum_by};
 ghost use Rattle.std.specs.Cow.{cow_str_bytes, IsBorrowedStr};
 ghost use Rattle.std.specs.List.{starts_with, ends_with};
 ghost use Rattle.std.specs.Str.{IsCharBoundary};
@@ -11,8 +11,9 @@ ghost use Rattle.ansi_slice.specs.Positions.{is_good_position, is_char_boundary,
 ghost use Rattle.ansi_slice.specs.Cut.{cut};
 ghost use Rattle.ansi_slice.specs.Sides.{left_side, right_side};
 ghost use Rattle.ansi_slice.specs.Kept.{without_prefix, without_suffix, trimmed};
-ghost use Rattle.ansi_slice.specs.Parts.{all_parts, share, is_part_borrowed};
+ghost use Rattle.ansi_slice.specs.Parts.{all_parts};
 ghost use Rattle.ansi_style.specs.Written.{longest_close, longest_start_and_close};
+ghost use Rattle.ansi_split.specs.Splits.{split_parts};
 
 use crate::split::{AnsiSplit, split_in};
 use ansi_slice::search;
@@ -243,11 +244,10 @@ pub trait AnsiStr {
     /// assert!(rt; cells.as_str() == "\x1b[31mlion\x1b[39m|\x1b[31mtiger\x1b[0m|");
     /// ```
     final fn ansi_split<'a>(&'a self, alloc: Global, pat: &'a str) -> AnsiSplit<'a>
+        ensures parts { result ≡ split_parts (text self.now) pat.now }
         ensures bytes { map (λ p. p.bytes) result ≡ all_parts (text self.now) pat.now }
-        ensures borrowed { map (λ p. p.borrowed) result ≡ map (is_part_borrowed (text self.now) pat.now) (range_with_len 0 (length result)) }
         ensures len { length result ≤ length (plain (text self.now)) + 2 }
         ensures fits { length result < 2 ^ 64 }
-        ensures shares { map (λ p. p.share) result ≡ map (share (text self.now) pat.now) (range_with_len 0 (length result)) }
         ensures within { sum_by (λ p. p.share) result ≤ length (text self.now) }
         ensures takes_no_memory { IsFalse (has_escape (text self.now)) → IsTrue (list_all (λ p. p.borrowed) result) }
     {

@@ -1,15 +1,12 @@
 //! The stretches of a text that its parts are written from.
-ghost use Rattle.std.specs.Prelude.{◌≡◌, ◌↔◌, ◌≤◌, ◌+◌, ◌++◌, [], length, IsTrue, IsOk, IfOk, OnOk, string_bytes};
+ghost use Rattle.std.specs.Prelude.{◌≡◌, ◌≤◌, ◌+◌, ◌++◌, [], length, IsTrue, IsFalse, IsOk, IfOk, OnOk, string_bytes};
 ghost use Rattle.std.specs.Option.{MatchOption};
-ghost use Rattle.std.specs.Cow.{cow_str_bytes, IsBorrowedStr};
-ghost use Rattle.ansi_items.specs.Plain.{plain, marks, has_escape};
+ghost use Rattle.ansi_items.specs.Plain.{plain, marks};
 ghost use Rattle.ansi_slice.specs.Cut.{show};
 ghost use Rattle.ansi_slice.specs.Positions.{is_char_boundary};
 ghost use Rattle.ansi_style.specs.Rendition.{plain_style};
-ghost use Rattle.ansi_style.specs.Reading.{style_after_from};
-ghost use Rattle.ansi_style.specs.States.{rendition_of};
-ghost use Rattle.ansi_style.specs.Written.{longest_start_and_close};
-ghost use Rattle.ansi_split.specs.Spans.{parts_left, span_part, span_text, IsWritten, IsBare};
+ghost use Rattle.ansi_split.specs.Splits.{IsPart};
+ghost use Rattle.ansi_split.specs.Spans.{parts_left};
 
 use crate::split::rest::Rest;
 use ansi_items::ansitok::{Kind, Scanner};
@@ -19,10 +16,11 @@ use std::alloc::{AllocError, Allocator};
 use std::borrow::CowStr;
 use std::marker::Model;
 
-/// How many bytes most starts have, with most closes.
+/// A guess at how many bytes a start and a close have together: 24 and 16 are enough for most. It is
+/// room alone, asked for before they are written, and a longer one gets more.
 const STYLE_ROOM: usize = 24 + 16;
 
-/// What one part is written from.
+/// What one part is written from. Contracts see it as that part.
 #[derive(Drop)]
 pub(super) struct Span<'t> {
     /// The text from the match before up to after the last sequence at the end of the part.
@@ -35,18 +33,25 @@ pub(super) struct Span<'t> {
     carried: Style,
     /// The style after the text.
     after: Style,
-    ghost marked: { is_marked ≡ has_escape text.now },
-    ghost skip_is_boundary: { IsTrue (is_char_boundary (plain text.now) skip) },
-    ghost is_after: { rendition_of after ≡ style_after_from (rendition_of carried) text.now },
+}
+
+impl<'t> Model for Span<'t> {
+    ghost use Rattle.ansi_style.specs.States.{rendition_of};
+    ghost use Rattle.ansi_split.specs.Splits.{SplitPart};
+    ghost use Rattle.ansi_split.specs.Spans.{span_part, IsSpan};
+
+    ghost Value = { SplitPart };
+
+    ghost view = { λ s. span_part (rendition_of s.carried) s.text.now s.skip };
+
+    ghost invariant = { λ s. IsSpan (rendition_of s.carried) s.text.now s.skip s.is_marked (rendition_of s.after) };
 }
 
 impl<'t> Span<'t> {
     /// The part: a borrow where no sequence stands in it and no style has to be written.
     pub(super) fn write<A: Allocator>(&self, alloc: A) -> Result<CowStr<'t, A>, AllocError>
-        ensures bytes { IfOk result (λ c. cow_str_bytes c ≡ (span_part (rendition_of self.now.carried) self.now.text.now self.now.skip).bytes) }
-        ensures borrowed { IfOk result (λ c. IsBorrowedStr c ↔ IsTrue (span_part (rendition_of self.now.carried) self.now.text.now self.now.skip).borrowed) }
-        ensures len { IfOk result (λ c. length (cow_str_bytes c) ≤ (span_part (rendition_of self.now.carried) self.now.text.now self.now.skip).share + longest_start_and_close) }
-        ensures takes_no_memory { IsTrue (span_part (rendition_of self.now.carried) self.now.text.now self.now.skip).borrowed → IsOk result }
+        ensures part { IfOk result (IsPart self.now) }
+        ensures takes_no_memory { IsTrue self.now.borrowed → IsOk result }
     {
         match self.bare() {
             Some(bare) => Ok(CowStr::Borrowed(bare)),
@@ -57,8 +62,8 @@ impl<'t> Span<'t> {
     /// The part as it stands in the text, where no sequence stands in it, and it is empty or no style
     /// is carried.
     fn bare(&self) -> Option<&'t str>
-        ensures { MatchOption result (IsWritten (rendition_of self.now.carried) self.now.text.now self.now.skip)
-            (λ bare. IsBare (rendition_of self.now.carried) self.now.text.now self.now.skip bare.now) }
+        ensures part { MatchOption result (IsFalse self.now.borrowed) (λ bare. (bare.now ≡ self.now.bytes) × IsTrue self.now.borrowed) }
+        ensures len { length self.now.bytes ≤ self.now.share + 251 }
     {
         if self.is_marked {
             return None;
@@ -73,7 +78,8 @@ impl<'t> Span<'t> {
     /// The part, written: the start of the style that is carried, the text with its sequences, and the
     /// close of the style then, where that has any.
     fn written<A: Allocator>(&self, alloc: A) -> Result<String<A>, AllocError>
-        ensures { IfOk result (λ s. string_bytes s ≡ span_text (rendition_of self.now.carried) self.now.text.now self.now.skip) }
+        requires { IsFalse self.now.borrowed }
+        ensures { IfOk result (λ s. string_bytes s ≡ self.now.bytes) }
     {
         let room = self
             .text
@@ -82,34 +88,38 @@ impl<'t> Span<'t> {
             .saturating_add(STYLE_ROOM);
         let mut part = String::with_capacity(alloc, room)?;
         styles::write_start(&self.carried, &mut part)?;
-        self.write_text(&mut part)?;
+        write_text(self.text, self.skip, &mut part)?;
         if styles::has_any(&self.after) {
             styles::write_close(&self.after, &mut part)?;
         }
         Ok(part)
     }
+}
 
-    /// Appends the text with its sequences, but for the plain bytes that are left out. An `Err` means that
-    /// memory is wanting; what was appended up to there stands.
-    fn write_text<A: Allocator>(&self, part: &mut String<A>) -> Result<(), AllocError>
-        ensures { OnOk result (string_bytes part.new ≡ string_bytes part.old ++ show (plain self.now.text.now) self.now.skip (length (plain self.now.text.now)) (marks self.now.text.now)) }
-    {
-        let mut skip = self.skip;
-        for item in Scanner::new(self.text) {
-            let piece = &self.text[item.start..item.end];
-            if item.kind == Kind::Text {
-                if skip <= piece.len() {
-                    // What follows is written as it stands.
-                    part.push_str(&self.text[item.start + skip..])?;
-                    return Ok(());
-                }
-                skip -= piece.len();
-            } else {
-                part.push_str(piece)?;
+/// Appends a text with its sequences, but for its first `skip` plain bytes. An `Err` means that memory
+/// is wanting; what was appended up to there stands.
+fn write_text<A: Allocator>(
+    text: &str,
+    mut skip: usize,
+    part: &mut String<A>,
+) -> Result<(), AllocError>
+    requires { IsTrue (is_char_boundary (plain text.now) skip) }
+    ensures { OnOk result (string_bytes part.new ≡ string_bytes part.old ++ show (plain text.now) skip (length (plain text.now)) (marks text.now)) }
+{
+    for item in Scanner::new(text) {
+        let piece = &text[item.start..item.end];
+        if item.kind == Kind::Text {
+            if skip <= piece.len() {
+                // What follows is written as it stands.
+                part.push_str(&text[item.start + skip..])?;
+                return Ok(());
             }
+            skip -= piece.len();
+        } else {
+            part.push_str(piece)?;
         }
-        Ok(())
     }
+    Ok(())
 }
 
 /// The spans of a text between the matches of a pattern, in order: an iterator that takes no memory.
@@ -166,13 +176,11 @@ impl<'t, 'p> Spans<'t, 'p> {
 }
 
 impl<'t, 'p> Iterator for Spans<'t, 'p> {
-    ghost use Rattle.std.specs.Iterator.{YieldsFirstBy, item_count};
-    ghost use Rattle.ansi_style.specs.States.{rendition_of};
-    ghost use Rattle.ansi_split.specs.Spans.{span_part};
+    ghost use Rattle.std.specs.Iterator.{YieldsFirst, item_count};
 
     type Item = Span<'t>;
 
-    ghost next_gives = { YieldsFirstBy (λ s. span_part (rendition_of s.carried) s.text.now s.skip) (λ s. s) };
+    ghost next_gives = { YieldsFirst (λ s. s) };
 
     ghost remaining = { item_count (λ s. s) };
 

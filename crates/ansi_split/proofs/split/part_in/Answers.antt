@@ -1,30 +1,29 @@
-use Rattle.ansi_split.proofs.Common.{◌≡◌, ◌≤◌, ℕ, List, inl, inr, Option, Some, option_map, length, refl, sym, ◌∙◌, ap, slice_get, is_some, true≢false, arith, MatchOption, plain_style, rendition_of, SplitPart, span_part, parts_left}
-use Rattle.std.specs.Iterator.{YieldsFirstBy, YieldsThen}
+use Rattle.ansi_split.proofs.Common.{◌≡◌, ◌≤◌, ℕ, List, inl, inr, Option, None, Some, option_map, length, refl, sym, ◌∙◌, ap, slice_get, is_some, true≢false, arith, MatchOption, plain_style, SplitPart, parts_left}
+use Rattle.std.specs.Iterator.{YieldsFirst, YieldsThen}
 use Rattle.std.proofs.lemmas.Iterator.Consumers.{nth_from_yields_List, YieldsList-from_first}
-use Rattle.ansi_split.specs.declared.split.spans.Span.{Span}
 use Rattle.ansi_split.proofs.SplitLemmas.{part_at, no_part_at}
 use Rattle.ansi_split.proofs.PartLengthLemmas.{share_within}
 use Rattle.ansi_split.proofs.split.part_in.Goals as goal
 
--- the part that a span is written as
-abbrev written_as : Span → SplitPart
-written_as s = span_part (rendition_of s.carried) s.text.now s.skip
-
-at_index : {first : List SplitPart} (left : List SplitPart) (t p : List ℕ) (k : ℕ) (r : Option Span) → (xs : List Span) × YieldsThen (YieldsFirstBy written_as (λ s. s)) first xs r left × MatchOption r (length xs ≤ k) (λ _. length xs ≡ k)
-    → first ≡ parts_left plain_style t p 0 0 → slice_get (parts_left plain_style t p 0 0) k ≡ option_map written_as r
-at_index left t p k r ran begins = sym (nth_from_yields_List r left k ran (YieldsList-from_first written_as (λ s. s) (parts_left plain_style t p 0 0) begins))
+at_index : {first : List SplitPart} (left : List SplitPart) (t p : List ℕ) (k : ℕ) (r : Option SplitPart) → (xs : List SplitPart) × YieldsThen (YieldsFirst (λ s. s)) first xs r left × MatchOption r (length xs ≤ k) (λ _. length xs ≡ k)
+    → first ≡ parts_left plain_style t p 0 0 → slice_get (parts_left plain_style t p 0 0) k ≡ r
+at_index left t p k r ran begins = sym (nth_from_yields_List r left k ran (YieldsList-from_first (λ q. q) (λ s. s) (parts_left plain_style t p 0 0) begins)) ∙ itself r
+  where
+    itself : (r : Option SplitPart) → option_map (λ q. q) r ≡ r
+    itself None = refl
+    itself (Some q) = refl
 
 pub returns-in_ok-write-in-Some : goal.returns-in_ok-write-in-Some
 returns-in_ok-write-in-Some g c =
     let t = c.args.text.now in
     let p = c.args.pat.now in
-    let part = part_at t p c.args.index (written_as c.in-Some.span) (at_index _ t p c.args.index c.nth.result c.nth.ensures.ran c.new.ensures ∙ ap (option_map written_as) c.in-Some.is) in
+    let part = part_at t p c.args.index c.in-Some.span (at_index _ t p c.args.index c.nth.result c.nth.ensures.ran c.new.ensures ∙ c.in-Some.is) in
     let written = c.in_ok-write-in-Some.ensures in
     record {
       none = (λ e. absurd (true≢false e), λ nothing. sym (ap is_some part.found) ∙ nothing);
-      bytes = part.bytes ∙ ap Some (sym written.bytes);
-      borrowed = (λ borrowed. inr (part.borrowed ∙ written.borrowed.0 borrowed), λ any. written.borrowed.1 (elim any [ inl none ↦ part.bare none | inr borrowed ↦ sym part.borrowed ∙ borrowed ]));
-      len = omega (arith, written.len, part.share);
+      bytes = part.bytes ∙ ap Some (sym written.part.0);
+      borrowed = (λ borrowed. inr (part.borrowed ∙ written.part.1.0 borrowed), λ any. written.part.1.1 (elim any [ inl none ↦ part.bare none | inr borrowed ↦ sym part.borrowed ∙ borrowed ]));
+      len = omega (arith, written.part.2, part.share);
       within = share_within t p c.args.index;
       takes_no_memory = λ _. refl;
     }
@@ -34,7 +33,7 @@ pub returns-in_err-write-in-Some-clause-takes_no_memory : goal.returns-in_err-wr
 returns-in_err-write-in-Some-clause-takes_no_memory g c =
     let t = c.args.text.now in
     let p = c.args.pat.now in
-    let part = part_at t p c.args.index (written_as c.in-Some.span) (at_index _ t p c.args.index c.nth.result c.nth.ensures.ran c.new.ensures ∙ ap (option_map written_as) c.in-Some.is) in
+    let part = part_at t p c.args.index c.in-Some.span (at_index _ t p c.args.index c.nth.result c.nth.ensures.ran c.new.ensures ∙ c.in-Some.is) in
     λ any. absurd (true≢false (sym (c.in_err-write-in-Some.ensures.takes_no_memory (elim any [
       | inl none ↦ part.bare none
       | inr (inl borrowed) ↦ sym part.borrowed ∙ borrowed
@@ -48,7 +47,7 @@ pub returns-in-None-clause-none : goal.returns-in-None-clause-none
 returns-in-None-clause-none g c =
     let t = c.args.text.now in
     let p = c.args.pat.now in
-    let none = no_part_at t p c.args.index (at_index _ t p c.args.index c.nth.result c.nth.ensures.ran c.new.ensures ∙ ap (option_map written_as) c.in-None.is) in
+    let none = no_part_at t p c.args.index (at_index _ t p c.args.index c.nth.result c.nth.ensures.ran c.new.ensures ∙ c.in-None.is) in
     (λ e. ap is_some none, λ e. refl)
 
 pub returns-in-None-clause-within : goal.returns-in-None-clause-within

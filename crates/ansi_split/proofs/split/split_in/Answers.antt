@@ -1,13 +1,13 @@
 use Rattle.ansi_split.proofs.Common.{arith, length-plain}
-use Rattle.ansi_split.proofs.SplitLemmas.{bytes-parts_left, borrowed-parts_left, length-parts_left, shares-parts_left, parts_left-bare}
+use Rattle.ansi_split.proofs.SplitLemmas.{parts_left-parts, bytes-parts_left, length-parts_left, parts_left-bare}
 use Rattle.ansi_split.proofs.PartLengthLemmas.{shares_within}
 use Rattle.ansi_split.proofs.split.split_in.Goals as goal
 
+pub returns-clause-parts : goal.returns-clause-parts
+returns-clause-parts g c = rw c.new-spans.ensures (parts_left-parts c.args.text.now c.args.pat.now)
+
 pub returns-clause-bytes : goal.returns-clause-bytes
 returns-clause-bytes g c = rw c.new-spans.ensures (bytes-parts_left c.args.text.now c.args.pat.now)
-
-pub returns-clause-borrowed : goal.returns-clause-borrowed
-returns-clause-borrowed g c = rw c.new-spans.ensures (borrowed-parts_left c.args.text.now c.args.pat.now)
 
 pub returns-clause-len : goal.returns-clause-len
 returns-clause-len g c = rw c.new-spans.ensures (length-parts_left c.args.text.now c.args.pat.now)
@@ -21,9 +21,6 @@ returns-clause-fits g c =
     let t = c.args.text.now in
     let p = c.args.pat.now in
     rw c.new-spans.ensures (omega (arith, length-parts_left t p, length-plain t, c.well_formed.1.0.1))
-
-pub returns-clause-shares : goal.returns-clause-shares
-returns-clause-shares g c = rw c.new-spans.ensures (shares-parts_left c.args.text.now c.args.pat.now)
 
 pub returns-clause-within : goal.returns-clause-within
 returns-clause-within g c = rw c.new-spans.ensures (shares_within c.args.text.now c.args.pat.now)

@@ -1,41 +1,54 @@
-use Rattle.ansi_split.proofs.Common.{◌≡◌, ◌≤◌, IsTrue, IsFalse, sym, ◌∙◌, ap, subst, arith, length, false, ◌==◌, and_parts, leb-true, eqb-true, eqb-false, ne_eqb, length-drop, has_escape, is_char_boundary, rendition_of, plain-bare, good_is_boundary, IsBare}
-use Rattle.ansi_split.proofs.SplitLemmas.{written-escape, written-styled, bare-empty, bare-unstyled}
+use Rattle.ansi_split.proofs.Common.{◌≡◌, ◌≤◌, ◌==◌, false, IsTrue, IsFalse, sym, ◌∙◌, ap, subst, arith, length, and_parts, leb-true, eqb-true, eqb-false, ne_eqb, length-drop, has_escape, is_char_boundary, rendition_of, IsStyle-rendition_of, plain-bare, good_is_boundary, SplitPart}
+use Rattle.ansi_split.proofs.SplitLemmas.{IsBare, owned-escape, owned-styled, bare-empty, bare-unstyled}
+use Rattle.ansi_split.proofs.PartLengthLemmas.{length-span_part}
 use Rattle.ansi_split.proofs.split.spans.Span.bare.Goals as goal
 use Rattle.ansi_split.proofs.split.spans.Span.bare.Goals.{then-is_empty-via-then-is_empty, then-is_empty-via-else-is_empty+then-not-has_any}
 
+-- a part is its share of the text, a start and a close at most
+
 pub returns-then-self : goal.returns-then-self
 returns-then-self c =
-    let s = c.args.self.now in
-    written-escape (rendition_of s.carried) s.text.now s.skip (sym s.marked ∙ c.if-self.true)
+    let s = c.self.inside in
+    record {
+      part = sym (ap (λ (q : SplitPart). q.borrowed) c.self.view_is) ∙ owned-escape (rendition_of s.carried) s.text.now s.skip (sym c.self.invariant.marked ∙ c.if-self.true);
+      len = length-span_part (rendition_of s.carried) s.text.now s.skip (IsStyle-rendition_of s.carried) c.self.view_is;
+    }
 
 -- a text without ESC is its own plain text
 pub range_from-bare-requires : goal.range_from-bare-requires
 range_from-bare-requires c =
-    let s = c.args.self.now in
-    let none : IsFalse (has_escape s.text.now) = sym s.marked ∙ c.if-self.false in
-    let both = and_parts _ _ (subst (λ x. IsTrue (is_char_boundary x s.skip)) (plain-bare s.text.now none) s.skip_is_boundary) in
+    let s = c.self.inside in
+    let none : IsFalse (has_escape s.text.now) = sym c.self.invariant.marked ∙ c.if-self.false in
+    let both = and_parts _ _ (subst (λ x. IsTrue (is_char_boundary x s.skip)) (plain-bare s.text.now none) c.self.invariant.skip_is_boundary) in
     λ some. good_is_boundary s.text.now s.skip (leb-true s.skip (length s.text.now) both.0) both.1
 
 pub returns-then-is_empty : goal.returns-then-is_empty
 returns-then-is_empty c =
-    let s = c.args.self.now in
+    let s = c.self.inside in
     let style = rendition_of s.carried in
-    let none : IsFalse (has_escape s.text.now) = sym s.marked ∙ c.if-self.false in
-    let both = and_parts _ _ (subst (λ x. IsTrue (is_char_boundary x s.skip)) (plain-bare s.text.now none) s.skip_is_boundary) in
-    let inside : s.skip ≤ length s.text.now = leb-true s.skip (length s.text.now) both.0 in
-    subst (IsBare style s.text.now s.skip) (sym c.range_from-bare.ensures.value) (elim c.then-is_empty.branch [
+    let t = s.text.now in
+    let none : IsFalse (has_escape t) = sym c.self.invariant.marked ∙ c.if-self.false in
+    let both = and_parts _ _ (subst (λ x. IsTrue (is_char_boundary x s.skip)) (plain-bare t none) c.self.invariant.skip_is_boundary) in
+    let inside : s.skip ≤ length t = leb-true s.skip (length t) both.0 in
+    let bare : IsBare style t s.skip = elim c.then-is_empty.branch [
       | then-is_empty-via-then-is_empty empty ↦ (
           let nothing : length c.range_from-bare.result.now ≡ 0 = eqb-true _ 0 (sym c.is_empty.ensures ∙ empty.if-is_empty.true) in
-          bare-empty style s.text.now s.skip none (omega (arith, inside, nothing, ap length c.range_from-bare.ensures.value, length-drop s.skip s.text.now)))
-      | then-is_empty-via-else-is_empty+then-not-has_any plain ↦
-          bare-unstyled style s.text.now s.skip none inside (sym plain.has_any.ensures ∙ plain.if-not-has_any.true)
-    ])
+          bare-empty style t s.skip none (omega (arith, inside, nothing, ap length c.range_from-bare.ensures.value, length-drop s.skip t)))
+      | then-is_empty-via-else-is_empty+then-not-has_any plain ↦ bare-unstyled style t s.skip none inside (sym plain.has_any.ensures ∙ plain.if-not-has_any.true)
+    ] in
+    record {
+      part = (c.range_from-bare.ensures.value ∙ sym bare.bytes ∙ ap (λ (q : SplitPart). q.bytes) c.self.view_is, sym (ap (λ (q : SplitPart). q.borrowed) c.self.view_is) ∙ bare.borrowed);
+      len = length-span_part style t s.skip (IsStyle-rendition_of s.carried) c.self.view_is;
+    }
 
 pub returns : goal.returns
 returns c =
-    let s = c.args.self.now in
-    let none : IsFalse (has_escape s.text.now) = sym s.marked ∙ c.if-self.false in
+    let s = c.self.inside in
+    let none : IsFalse (has_escape s.text.now) = sym c.self.invariant.marked ∙ c.if-self.false in
     let filled : (s.skip == length s.text.now) ≡ false
     = ne_eqb s.skip (length s.text.now) (λ end.
     omega (arith, end, eqb-false _ 0 (sym c.is_empty.ensures ∙ c.if-is_empty.false), ap length c.range_from-bare.ensures.value, length-drop s.skip s.text.now)) in
-    written-styled (rendition_of s.carried) s.text.now s.skip none filled (sym c.has_any.ensures ∙ c.if-not-has_any.false)
+    record {
+      part = sym (ap (λ (q : SplitPart). q.borrowed) c.self.view_is) ∙ owned-styled (rendition_of s.carried) s.text.now s.skip none filled (sym c.has_any.ensures ∙ c.if-not-has_any.false);
+      len = length-span_part (rendition_of s.carried) s.text.now s.skip (IsStyle-rendition_of s.carried) c.self.view_is;
+    }

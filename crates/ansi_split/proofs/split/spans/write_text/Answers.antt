@@ -1,19 +1,19 @@
 use Rattle.ansi_split.proofs.Common.{rules, ◌≡◌, refl, ◌∙◌, ap, subst, arith, and_parts, IsCharBoundary, is_text, gives_text, gives_mark, over_text}
 use Rattle.ansi_split.proofs.SpanWalkLemmas.{shown-begin, shown-mark, shown-skip, shown-rest, shown-boundary, shown-end}
-use Rattle.ansi_split.proofs.split.spans.Span.write_text.Goals as goal
+use Rattle.ansi_split.proofs.split.spans.write_text.Goals as goal
 
 pub loop-item-init : goal.loop-item-init
 loop-item-init g c =
-    let begins : c.into_iter-item-iterator.result ≡ record { text = c.args.self.now.text.now; offset = 0 } = c.into_iter-item-iterator.ensures.into_iter_gives ∙ c.new-item-items.ensures.start in
+    let begins : c.into_iter-item-iterator.result ≡ record { text = c.args.text.now; offset = 0 } = c.into_iter-item-iterator.ensures.into_iter_gives ∙ c.new-item-items.ensures.start in
     record {
       text = ap (λ s. s.text) begins;
-      so_far = rw begins (shown-begin _ c.args.self.now.skip _ (and_parts _ _ c.args.self.now.skip_is_boundary).1);
+      so_far = rw begins (shown-begin _ c.args.skip _ (and_parts _ _ c.requires).1);
     }
 
 -- the plain bytes that are left out end at a character
 pub range_from-requires : goal.range_from-requires
 range_from-requires g c =
-    let t = c.args.self.now.text.now in
+    let t = c.args.text.now in
     let gives = c.in-Some.ensures.steps in
     let over = over_text gives c.loop-item.invariant.text c.range-piece.ensures.value (is_text c.if-eq.ensures) in
     let boundary : IsCharBoundary t c.next.new.self.offset = subst (λ v. IsCharBoundary v c.next.new.self.offset) c.loop-item.invariant.text (subst (IsCharBoundary c.loop-item.item-iterator.text) gives.end gives.end_boundary) in
