@@ -1,11 +1,66 @@
 -- Worked examples of the definitions, each by computation.
-use Rattle.std.proofs.Common.{◌≡◌, refl, codes, [], ◌∷◌, Some, None, true, false, replicate, length}
-use Rattle.std.specs.List.{repeat}
-use Rattle.ansi_items.specs.Sequences.{sgr_parameters}
+use Rattle.std.proofs.Common.{◌≡◌, refl, codes, [], ◌∷◌, Some, None, true, false, not, filter, replicate, length}
+use Rattle.std.specs.List.{repeat, range_with_len}
+use Rattle.ansi_items.specs.Bytes.{is_parameter_byte, is_intermediate_byte, is_final_byte, is_escape_final_byte, opens_control_sequence, opens_control_string, opens_command, is_body_byte, is_plain_byte}
+use Rattle.ansi_items.specs.Sequences.{are_private, sgr_parameters}
 use Rattle.ansi_items.specs.Pieces.{Text, Sequence, LoneEscape, pieces_of}
 use Rattle.ansi_items.specs.Plain.{plain, marks, is_whole}
 
+-- Classes of bytes: of each the first, the last and the byte on either side, or what there is of it among all bytes.
+
+parameter_bytes : filter is_parameter_byte (0x2F ∷ 0x30 ∷ 0x3F ∷ 0x40 ∷ []) ≡ 0x30 ∷ 0x3F ∷ []
+parameter_bytes = refl
+
+private_parameter_bytes : filter (λ b. are_private (b ∷ [])) (0x3B ∷ 0x3C ∷ 0x3F ∷ 0x40 ∷ []) ≡ 0x3C ∷ 0x3F ∷ []
+private_parameter_bytes = refl
+
+intermediate_bytes : filter is_intermediate_byte (0x1F ∷ 0x20 ∷ 0x2F ∷ 0x30 ∷ []) ≡ 0x20 ∷ 0x2F ∷ []
+intermediate_bytes = refl
+
+final_bytes : filter is_final_byte (0x3F ∷ 0x40 ∷ 0x7E ∷ 0x7F ∷ []) ≡ 0x40 ∷ 0x7E ∷ []
+final_bytes = refl
+
+escape_final_bytes : filter is_escape_final_byte (0x2F ∷ 0x30 ∷ 0x7E ∷ 0x7F ∷ []) ≡ 0x30 ∷ 0x7E ∷ []
+escape_final_bytes = refl
+
+one_opens_a_control_sequence : filter opens_control_sequence (range_with_len 0 256) ≡ 0x5B ∷ []
+one_opens_a_control_sequence = refl
+
+five_open_control_strings : filter opens_control_string (range_with_len 0 256) ≡ 0x50 ∷ 0x58 ∷ 0x5D ∷ 0x5E ∷ 0x5F ∷ []
+five_open_control_strings = refl
+
+one_opens_a_command : filter opens_command (range_with_len 0 256) ≡ 0x5D ∷ []
+one_opens_a_command = refl
+
+two_end_the_body_of_a_command : filter (λ b. not (is_body_byte 0x5D b)) (range_with_len 0 256) ≡ 0x07 ∷ 0x1B ∷ []
+two_end_the_body_of_a_command = refl
+
+bell_in_a_body : filter (λ opener. is_body_byte opener 0x07) (0x50 ∷ 0x58 ∷ 0x5D ∷ 0x5E ∷ 0x5F ∷ []) ≡ 0x50 ∷ 0x58 ∷ 0x5E ∷ 0x5F ∷ []
+bell_in_a_body = refl
+
+one_ends_the_body_of_another_string : filter (λ b. not (is_body_byte 0x58 b)) (range_with_len 0 256) ≡ 0x1B ∷ []
+one_ends_the_body_of_another_string = refl
+
+one_is_not_plain : filter (λ b. not (is_plain_byte b)) (range_with_len 0 256) ≡ 0x1B ∷ []
+one_is_not_plain = refl
+
+terminator_after_escape : filter (λ b. is_whole (0x1B ∷ 0x50 ∷ 0x1B ∷ b ∷ [])) (range_with_len 0 256) ≡ 0x5C ∷ []
+terminator_after_escape = refl
+
+terminator_of_a_command : filter (λ b. is_whole (0x1B ∷ 0x5D ∷ b ∷ [])) (range_with_len 0 256) ≡ 0x07 ∷ []
+terminator_of_a_command = refl
+
 -- Pieces.
+
+every_control_string : pieces_of (codes "\u{1b}Pa\u{1b}\\\u{1b}Xb\u{1b}\\\u{1b}]c\u{1b}\\\u{1b}^d\u{1b}\\\u{1b}_e\u{1b}\\")
+    ≡ Sequence (codes "\u{1b}Pa\u{1b}\\") ∷ Sequence (codes "\u{1b}Xb\u{1b}\\") ∷ Sequence (codes "\u{1b}]c\u{1b}\\") ∷ Sequence (codes "\u{1b}^d\u{1b}\\") ∷ Sequence (codes "\u{1b}_e\u{1b}\\") ∷ []
+every_control_string = refl
+
+every_unfinished_string : plain (codes "\u{1b}Pa\u{1b}Xb\u{1b}]c\u{1b}^d\u{1b}_e") ≡ codes "PaXb]c^d_e"
+every_unfinished_string = refl
+
+openings_after_an_intermediate_byte : plain (codes "\u{1b} P\u{1b} X\u{1b} [\u{1b} ]\u{1b} ^\u{1b} _x") ≡ codes "x"
+openings_after_an_intermediate_byte = refl
 
 every_kind : pieces_of (codes "a\u{1b}[31mb\u{1b}(B\u{1b}\u{1b}[1 m\u{1b}")
     ≡ Text (codes "a") ∷ Sequence (codes "\u{1b}[31m") ∷ Text (codes "b") ∷ Sequence (codes "\u{1b}(B") ∷ LoneEscape ∷ Sequence (codes "\u{1b}[1 m") ∷ LoneEscape ∷ []
