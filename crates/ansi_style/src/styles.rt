@@ -3,13 +3,13 @@
 ghost use Rattle.std.specs.Prelude.{◌≡◌, ◌++◌, IsTrue, OnOk, string_bytes};
 ghost use Rattle.ansi_items.specs.Sequences.{is_sgr};
 ghost use Rattle.ansi_style.specs.Rendition.{plain_style, has_any};
-ghost use Rattle.ansi_style.specs.Sgr.{apply};
+ghost use Rattle.ansi_style.specs.Sgr.{apply, apply_parameters};
 ghost use Rattle.ansi_style.specs.Written.{start, close};
 ghost use Rattle.ansi_style.specs.States.{rendition_of};
 
 use crate::state::Style;
 use crate::state::attributes::Attributes;
-use crate::state::fields::{Fields, parameters};
+use crate::state::fields::{Fields, lone_code, parameters};
 use crate::state::written::Close;
 use bitflags::Flags;
 use std::alloc::{AllocError, Allocator};
@@ -30,11 +30,23 @@ pub fn plain_style() -> Style
 }
 
 /// Does what the codes of an SGR, a whole sequence, ask for, one after another.
+#[inline]
 pub fn apply(style: &mut Style, sequence: &str)
     requires { IsTrue (is_sgr sequence.now) }
     ensures { rendition_of style.new ≡ apply (rendition_of style.old) sequence.now }
 {
-    let mut fields = Fields::new(parameters(sequence));
+    let parameters = parameters(sequence);
+    match lone_code(parameters) {
+        Some(code) => style.perform(code, &mut Fields::none()),
+        None => apply_fields(style, parameters),
+    }
+}
+
+/// Does what the codes of these parameter bytes ask for, one after another.
+fn apply_fields(style: &mut Style, parameters: &[u8])
+    ensures { rendition_of style.new ≡ apply_parameters (rendition_of style.old) parameters.now }
+{
+    let mut fields = Fields::new(parameters);
     while let Some(code) = fields.next_code() {
         style.step(code, &mut fields);
     }

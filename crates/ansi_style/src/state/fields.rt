@@ -1,5 +1,5 @@
 //! The fields of an SGR's parameter bytes, and the numbers that they write.
-ghost use Rattle.std.specs.Prelude.{◌≡◌, Some, None, IsTrue, nat_le, if◌then◌else◌};
+ghost use Rattle.std.specs.Prelude.{◌≡◌, [], ◌∷◌, Some, None, IsTrue, IfSome, nat_le, if◌then◌else◌};
 ghost use Rattle.ansi_items.specs.Sequences.{is_sgr, sgr_parameters};
 ghost use Rattle.ansi_style.specs.Sgr.{fields_of, code_of, color_number};
 ghost use Rattle.ansi_style.specs.Fields.{first_field, with_digit};
@@ -33,6 +33,13 @@ impl<'a> Fields<'a> {
         }
     }
 
+    /// No fields.
+    pub(crate) fn none() -> Self
+        ensures { result ≡ [] }
+    {
+        Fields { rest: None }
+    }
+
     /// The next field as a code, or `None` after the last field. An empty field is 0, and leading
     /// zeros change nothing.
     #[inline(always)]
@@ -60,6 +67,22 @@ impl<'a> Fields<'a> {
     {
         let code = self.next_code()?;
         Some(code.unwrap_or(0))
+    }
+}
+
+/// The code of parameter bytes that are one field of at most two digits, as most are.
+#[inline(always)]
+pub(crate) fn lone_code(parameters: &[u8]) -> Option<u8>
+    ensures field { IfSome result (λ _. fields_of parameters.now ≡ parameters.now ∷ []) }
+    ensures code { IfSome result (λ code. code_of parameters.now ≡ Some code) }
+{
+    match parameters {
+        [] => Some(0),
+        [digit] if digit.is_ascii_digit() => Some(digit - b'0'),
+        [tens, digit] if tens.is_ascii_digit() && digit.is_ascii_digit() => {
+            Some((tens - b'0') * 10 + (digit - b'0'))
+        }
+        _ => None,
     }
 }
 

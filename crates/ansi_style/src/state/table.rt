@@ -14,7 +14,7 @@ use bitflags::Flags;
 impl Style {
     /// Does what the code asks for; where that is a color, it is read from the fields.
     #[tactic(auto, unfolding(crate::specs::States::rendition_of))]
-    pub(super) fn perform(&mut self, code: u8, fields: &mut Fields<'_>)
+    pub(crate) fn perform(&mut self, code: u8, fields: &mut Fields<'_>)
         ensures { (rendition_of self.new, fields.new) ≡ perform (effect_of_code code) (rendition_of self.old) fields.old }
     {
         match code {

@@ -1,7 +1,7 @@
 use Rattle.std.proofs.Common.{◌≡◌, length}
 use Rattle.ansi_style.specs.States.{rendition_of}
 use Rattle.ansi_style.proofs.StateLemmas.{after_fields}
-use Rattle.ansi_style.proofs.styles.apply.Given as goal
+use Rattle.ansi_style.proofs.styles.apply_fields.Given as goal
 
 -- the fields that are left lead from the style so far to the style after all
 abbrev pub invariant-loop-code : goal.invariant-loop-code

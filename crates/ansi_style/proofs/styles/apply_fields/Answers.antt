@@ -1,7 +1,7 @@
 use Rattle.std.proofs.Common.{◌∙◌}
 use Rattle.ansi_style.specs.States.{rendition_of}
 use Rattle.ansi_style.proofs.StateLemmas.{after_fields-code}
-use Rattle.ansi_style.proofs.styles.apply.Goals as goal
+use Rattle.ansi_style.proofs.styles.apply_fields.Goals as goal
 
 -- a step reads the field that was next, and leaves fewer
 pub loop-code-smaller : goal.loop-code-smaller
