@@ -77,6 +77,7 @@ impl<'a, A: Allocator + Copy> Iterator for AnsiSplit<'a, A> {
     ghost remaining = { item_count (λ s. s) };
 
     /// The next part, or `None` after the last one and after an `Err`, then and ever after.
+    #[inline(always)]
     fn next(&mut self) -> Option<Result<CowStr<'a, A>, AllocError>> {
         let span = self.spans.next()?;
         match span.write(self.alloc) {

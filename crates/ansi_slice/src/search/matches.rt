@@ -1,7 +1,7 @@
 //! Where a pattern stands in a plain text. A match may run across sequences.
 ghost use Rattle.std.specs.Prelude.{◌≡◌, ◌<◌, ◌+◌, ◌^◌, [], length, None, Some, MatchOption, IfSome, IsTrue};
 ghost use Rattle.std.specs.Str.Pattern.{FindsText, MatchBeginsAt};
-ghost use Rattle.memchr.specs.Find.{IsFirst};
+ghost use Rattle.memchr.specs.Find.{IsFirst, FindsNeedle};
 ghost use Rattle.ansi_items.specs.Plain.{plain};
 ghost use Rattle.ansi_slice.specs.Positions.{is_good_range};
 ghost use Rattle.ansi_slice.specs.Parts.{is_match, first_match_from};
@@ -65,6 +65,7 @@ fn boundary_from(text: &str, from: usize) -> Option<usize>
 }
 
 /// The first match at or past `from` that begins in the run and ends in it.
+#[inline]
 pub fn first_in_run(run: &str, pat: &str, from: usize) -> Option<usize>
     ensures { IsFirst (λ i. IsTrue (is_match run.now pat.now i)) from (length run.now) result }
 {
@@ -76,7 +77,18 @@ pub fn first_in_run(run: &str, pat: &str, from: usize) -> Option<usize>
     if rest.len() < pat.len() {
         return None;
     }
-    Some(from + memmem::find(rest, pat.as_bytes())?)
+    Some(from + find_bytes(rest, pat.as_bytes())?)
+}
+
+/// Where the bytes of a pattern that isn't empty first stand in those of a run.
+#[inline(always)]
+fn find_bytes(run: &[u8], pat: &[u8]) -> Option<usize>
+    ensures { FindsNeedle run.now pat.now 0 result }
+{
+    match pat {
+        [byte] => memchr(*byte, run),
+        _ => memmem::find(run, pat),
+    }
 }
 
 /// As [`find_from`], by a walk over the items, for a pattern that isn't empty.

@@ -46,6 +46,7 @@ impl<'t> Rest<'t> {
     }
 
     /// The text in two at the first match that doesn't begin before `from`, read on from a style.
+    #[inline(always)]
     pub(super) fn cut_at_match(&self, pat: &str, from: usize, style: Style) -> Cut<'t>
         ensures rest { MatchOption result.rest ((first_match_from (plain self.now.text.now) pat.now from ≡ None) × (result.front.now ≡ self.now.text.now))
             (λ rest. IsCutAtMatch self.now.text.now pat.now from result.front.now rest.text.now) }
@@ -124,6 +125,7 @@ fn cut_from<'t>(
 
 /// From where on the first match is still to be looked for that doesn't begin before `from`, once the run
 /// at the front of a text was searched. Where that is in the run, the match begins there.
+#[inline(always)]
 fn next_start(text: &str, run: usize, pat: &str, from: usize) -> usize
     requires ends { IsCharBoundary text.now run }
     requires plain { IsFalse (has_escape (take run text.now)) }

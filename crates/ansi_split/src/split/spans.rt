@@ -16,9 +16,9 @@ use std::alloc::{AllocError, Allocator};
 use std::borrow::CowStr;
 use std::marker::Model;
 
-/// A guess at how many bytes a start and a close have together: 24 and 16 are enough for most. It is
-/// room alone, asked for before they are written, and a longer one gets more.
-const STYLE_ROOM: usize = 24 + 16;
+/// The most bytes that a start and a close have together. It is room alone, asked for before they are
+/// written: so a part never grows, and keeps no more than this beyond its length.
+const STYLE_ROOM: usize = 163 + 88;
 
 /// What one part is written from. Contracts see it as that part.
 #[derive(Drop)]
@@ -184,6 +184,7 @@ impl<'t, 'p> Iterator for Spans<'t, 'p> {
 
     ghost remaining = { item_count (λ s. s) };
 
+    #[inline(always)]
     fn next(&mut self) -> Option<Span<'t>> {
         if self.finished {
             return None;
