@@ -188,7 +188,7 @@ match-from x p from i utf8 some low =
     let sum : from + (i - from) ≡ i = omega (arith, low) in
     is_match-utf8 x p i utf8 some ∙ ap (λ v. starts_with nat_eq v p) (ap (λ n. drop n x) (sym sum) ∙ sym (drop-drop (i - from) from x))
 
-starts_with-occurs : (x p : List ℕ) (s : ℕ) → 0 < length p → starts_with nat_eq (drop s x) p ≡ true → OccursAt x p s
+pub starts_with-occurs : (x p : List ℕ) (s : ℕ) → 0 < length p → starts_with nat_eq (drop s x) p ≡ true → OccursAt x p s
 starts_with-occurs x p s some starts =
     let splits : drop s x ≡ p ++ drop (length p) (drop s x) = starts_with-splits (drop s x) p starts in
     let fits : s + length p ≤ length x = omega (arith, some, ap length splits, length-append p (drop (length p) (drop s x)), length-drop s x) in

@@ -112,9 +112,20 @@ fn next_start(bytes: &[u8], at: usize, first: u8, met: usize, next: usize) -> us
     if at <= next {
         return next;
     }
-    match memchr(first, &bytes[at..]) {
+    first_of(first, bytes, at)
+}
+
+/// Where a byte stands first in a run, from a place on, or where the run ends.
+#[inline(always)]
+pub(super) fn first_of(byte: u8, run: &[u8], at: usize) -> usize
+    requires { at ≤ length run.now }
+    ensures forward { at ≤ result }
+    ensures within { result ≤ length run.now }
+    ensures passed { (i : ℕ) → at ≤ i → i < result → slice_index run.now i ≢ byte }
+{
+    match memchr(byte, &run[at..]) {
         Some(distance) => at + distance,
-        None => bytes.len(),
+        None => run.len(),
     }
 }
 
