@@ -1,5 +1,5 @@
 -- A search that reads a text once: with how much of a pattern the bytes read end, and where a match may still begin.
-use Rattle.std.specs.Prelude.{◌≡◌, ◌≢◌, ℕ, ◌+◌, ◌-◌, ◌<◌, ◌≤◌, List, ◌++◌, length, drop, nat_eq, slice_index, IsTrue, IsFalse}
+use Rattle.std.specs.Prelude.{◌≡◌, ◌≢◌, ℕ, ◌+◌, ◌-◌, ◌<◌, ◌≤◌, List, length, drop, nat_eq, slice_index, IsTrue, IsFalse}
 use Rattle.std.specs.List.{starts_with}
 use Rattle.std.specs.Prelude.{Bool, true, false}
 use Rattle.std.specs.Str.{IsCharBoundary}
@@ -38,36 +38,36 @@ pub record IsNext (p : List ℕ) (k c r : ℕ) : Type 0 where
   pub ends : 0 < r → GoesOn p k c (r - 1)
   pub longest : (n : ℕ) → r ≤ n → n ≤ k → ¬ (GoesOn p k c n)
 
--- the front and then the tail stand in x at j
-abbrev pub IsFound : List ℕ → List ℕ → List ℕ → ℕ → Type 0
-IsFound x front tail j = IsTrue (starts_with nat_eq (drop j x) (front ++ tail))
+-- p stands in x at j
+abbrev pub IsFound : List ℕ → List ℕ → ℕ → Type 0
+IsFound x p j = IsTrue (starts_with nat_eq (drop j x) p)
 
--- i bytes of x are read: they end with the first k of the front, and before those no match begins
-pub record IsRead (x front tail : List ℕ) (i k : ℕ) : Type 0 where
+-- i bytes of x are read: they end with the first k of p, and before those no match begins
+pub record IsRead (x p : List ℕ) (i k : ℕ) : Type 0 where
   pub within : k ≤ i
-  pub short : k < length front
-  pub stands : StandsAt x front (i - k) k
-  pub none : Nowhere (IsFound x front tail) 0 (i - k)
+  pub short : k < length p
+  pub stands : StandsAt x p (i - k) k
+  pub none : Nowhere (IsFound x p) 0 (i - k)
 
--- the first match in x is the one whose front ends at i
-pub record IsMatched (x front tail : List ℕ) (i : ℕ) : Type 0 where
-  pub fits : length front ≤ i
-  pub found : IsFound x front tail (i - length front)
-  pub none : Nowhere (IsFound x front tail) 0 (i - length front)
+-- the first match in x is the one that ends at i
+pub record IsMatched (x p : List ℕ) (i : ℕ) : Type 0 where
+  pub fits : length p ≤ i
+  pub found : IsFound x p (i - length p)
+  pub none : Nowhere (IsFound x p) 0 (i - length p)
 
 -- after i bytes of x a run was read, which stands in a text from the offset `from` up to n
-abbrev pub Reads : List ℕ → List ℕ → List ℕ → ℕ → ℕ → ℕ → Reading → Type 0
-Reads x front tail i n from (Match end) = IsMatched x front tail (i + (end - from))
-Reads x front tail i n from (Open reached) = IsRead x front tail (i + (n - from)) reached.met
+abbrev pub Reads : List ℕ → List ℕ → ℕ → ℕ → ℕ → Reading → Type 0
+Reads x p i n from (Match end) = IsMatched x p (i + (end - from))
+Reads x p i n from (Open reached) = IsRead x p (i + (n - from)) reached.met
 
--- the front's first byte stands nowhere in the text t from the offset m up to n
+-- the first byte of p stands nowhere in the text t from the offset m up to n
 abbrev pub BeginsNowhere : List ℕ → List ℕ → ℕ → ℕ → Type 0
-BeginsNowhere front t m n = (j : ℕ) → m ≤ j → j < n → slice_index t j ≢ slice_index front 0
+BeginsNowhere p t m n = (j : ℕ) → m ≤ j → j < n → slice_index t j ≢ slice_index p 0
 
 -- the offset at which the reading of that run ends: that of a match in the run, or one up to which no other begins after it
 abbrev pub Stops : List ℕ → List ℕ → ℕ → ℕ → Reading → Type 0
-Stops front t n from (Match end) = (from ≤ end) × (end ≤ n)
-Stops front t n from (Open reached) = BeginsNowhere front t n reached.next
+Stops p t n from (Match end) = (from ≤ end) × (end ≤ n)
+Stops p t n from (Open reached) = BeginsNowhere p t n reached.next
 
 -- the order of bytes, and the opposite one
 unfoldable pub Precedes : Bool → ℕ → ℕ → Type 0

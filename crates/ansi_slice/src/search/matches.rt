@@ -1,5 +1,5 @@
 //! Where a pattern stands in a plain text. A match may run across sequences.
-ghost use Rattle.std.specs.Prelude.{◌≡◌, ◌<◌, ◌+◌, ◌^◌, [], length, None, Some, MatchOption, IfSome, IsTrue};
+ghost use Rattle.std.specs.Prelude.{◌≡◌, ◌<◌, ◌≤◌, ◌+◌, ◌^◌, [], length, None, Some, MatchOption, IfSome, IsTrue};
 ghost use Rattle.std.specs.Str.Pattern.{FindsText, MatchBeginsAt};
 ghost use Rattle.memchr.specs.Find.{IsFirst};
 ghost use Rattle.ansi_items.specs.Plain.{plain};
@@ -81,9 +81,10 @@ pub fn first_in_run(run: &str, pat: &str, from: usize) -> Option<usize>
     Some(from + memmem::find(rest, pat.as_bytes())?)
 }
 
-/// As [`find_from`], by a walk over the items, for a pattern that isn't empty.
+/// As [`find_from`], by a walk over the items, for a pattern of 1 to 256 bytes.
 fn find_across(text: &str, pat: &str, from: usize) -> Option<usize>
-    requires { 0 < length pat.now }
+    requires some { 0 < length pat.now }
+    requires most { length pat.now ≤ 256 }
     ensures { result ≡ first_match_from (plain text.now) pat.now from }
 {
     let pattern = Pattern::new(pat);
@@ -96,7 +97,7 @@ fn find_across(text: &str, pat: &str, from: usize) -> Option<usize>
             match pattern.read(text, start, item.end, reached) {
                 Reading::Match(end) => {
                     let after = place + (end - item.start);
-                    return Some(after - pattern.front_len());
+                    return Some(after - pat.len());
                 }
                 Reading::Open(further) => reached = further,
             }
