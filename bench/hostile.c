@@ -226,7 +226,7 @@ static struct bytes made(const struct kind *kind) {
     return t;
 }
 
-/* with long patterns too where these are asked for: a search for more than 256 bytes may take time by both lengths */
+/* with long patterns too where these are asked for */
 static int long_texts(int has_long_patterns) {
     enum { MANY = 255, HALF = LONG / 8 };
     static const char *const NAMES[] = {"empty", "a", "ESC", "255 a, b", "131,072 a", "131,072 a, b"};

@@ -1,6 +1,6 @@
 -- The borders of a pattern, and a search that goes forward by them.
-use Rattle.std.proofs.Common.{◌≡◌, ◌≢◌, ℕ, zero, suc, ◌+◌, ◌-◌, ◌<◌, ◌≤◌, inl, inr, false, List, ◌++◌, take, drop, length, nat_eq, IsTrue, Some, None, sym, ◌∙◌, ap, ap₂, subst, arith, slice_index, set, get_or-set_same, get_or-set_other}
-use Rattle.std.proofs.lemmas.Bool.{cases_lt, cases_eq, true≢false}
+use Rattle.std.proofs.Common.{◌≡◌, ◌≢◌, ℕ, zero, suc, ◌+◌, ◌-◌, ◌<◌, ◌≤◌, inl, inr, List, ◌++◌, take, drop, length, nat_eq, Some, None, sym, ◌∙◌, ap, subst, arith, slice_index, set, get_or-set_same, get_or-set_other}
+use Rattle.std.proofs.lemmas.Bool.{cases_lt, cases_eq}
 use Rattle.std.proofs.lemmas.List.{get_or-drop, get_or-take, get_or_append_left, length-append, length-drop, length-take-le, drop-drop, drop-take, drop-append-le}
 use Rattle.std.specs.List.{starts_with, slice_range}
 use Rattle.memchr.specs.Find.{Nowhere}
@@ -8,7 +8,7 @@ use Rattle.memchr.proofs.lemmas.MatchLemmas.{OccursAt-split}
 use Rattle.std.specs.Str.{IsUtf8}
 use Rattle.ansi_slice.specs.Parts.{first_match_from}
 use Rattle.ansi_slice.specs.Searches.{StandsAt, IsBorder, AreBorders, GoesOn, IsNext, IsFound, IsRead, IsMatched, BeginsNowhere}
-use Rattle.ansi_slice.proofs.MatchLemmas.{IsMatch, starts_with-splits, starts_with-append, match_fits, match-from, first_match_from-is}
+use Rattle.ansi_slice.proofs.MatchLemmas.{IsMatch, starts_with-splits, starts_with-from, match_fits, match-from, first_match_from-is}
 
 -- What stands at a place.
 
@@ -168,92 +168,62 @@ borders-more p bs i b inside known last k some upto = elim (cases_lt i (k - 1)) 
 
 -- What is read.
 
--- at a place where front and tail stand, so do the front's bytes
-found-reads : (x front tail : List ℕ) (j m : ℕ) → IsFound x front tail j → m < length front → slice_index x (j + m) ≡ slice_index front m
-found-reads x front tail j m found inside =
-    let whole = front ++ tail in
-    let splits : drop j x ≡ whole ++ drop (length whole) (drop j x) = starts_with-splits (drop j x) whole found in
-    let longer : m < length whole = omega (arith, inside, length-append front tail) in
-    sym (get_or-drop j x m 0) ∙ ap (λ v. slice_index v m) splits ∙ get_or_append_left whole (drop (length whole) (drop j x)) 0 m longer ∙ get_or_append_left front tail 0 m inside
+-- at a place where p stands, so do its bytes
+found-reads : (x p : List ℕ) (j m : ℕ) → IsFound x p j → m < length p → slice_index x (j + m) ≡ slice_index p m
+found-reads x p j m found inside =
+    sym (get_or-drop j x m 0) ∙ ap (λ v. slice_index v m) (starts_with-splits (drop j x) p found) ∙ get_or_append_left p (drop (length p) (drop j x)) 0 m inside
 
 -- bytes with which no match begins, where none was begun
-pub read-over : (x front tail : List ℕ) (i d : ℕ) → IsRead x front tail i 0 → ((m : ℕ) → m < d → slice_index x (i + m) ≢ slice_index front 0) → IsRead x front tail (i + d) 0
-read-over x front tail i d read others = record {
+pub read-over : (x p : List ℕ) (i d : ℕ) → IsRead x p i 0 → ((m : ℕ) → m < d → slice_index x (i + m) ≢ slice_index p 0) → IsRead x p (i + d) 0
+read-over x p i d read others = record {
   within = omega arith;
   short = read.short;
-  stands = stands-none x front (i + d - 0);
+  stands = stands-none x p (i + d - 0);
   none = λ k low high found. elim (cases_lt k i) [
     | inl before ↦ read.none k low (omega (arith, before)) found
     | inr past ↦ (
         let sum : i + (k - i) ≡ k + 0 = omega (arith, past) in
-        others (k - i) (omega (arith, high, past)) (ap (slice_index x) sum ∙ found-reads x front tail k 0 found read.short))
+        others (k - i) (omega (arith, high, past)) (ap (slice_index x) sum ∙ found-reads x p k 0 found read.short))
   ];
 }
 
--- what may be met after one byte more: k bytes of the front
-pub record IsMet (x front tail : List ℕ) (i k : ℕ) : Type 0 where
+-- what may be met after one byte more: k bytes of p
+pub record IsMet (x p : List ℕ) (i k : ℕ) : Type 0 where
   pub within : k ≤ i
-  pub stands : StandsAt x front (i - k) k
-  pub none : Nowhere (IsFound x front tail) 0 (i - k)
+  pub stands : StandsAt x p (i - k) k
+  pub none : Nowhere (IsFound x p) 0 (i - k)
 
-pub met-next : (x front tail : List ℕ) (i k r : ℕ) → IsRead x front tail i k → IsNext front k (slice_index x i) r → IsMet x front tail (i + 1) r
-met-next x front tail i k r read next =
+pub met-next : (x p : List ℕ) (i k r : ℕ) → IsRead x p i k → IsNext p k (slice_index x i) r → IsMet x p (i + 1) r
+met-next x p i k r read next =
     let within : k ≤ i = read.within in
     let fits : r ≤ k + 1 = next.within in
     record {
       within = omega (arith, within, fits);
-      stands = stands-next x front i k r within read.stands next;
+      stands = stands-next x p i k r within read.stands next;
       none = λ j low high found. elim (cases_lt j (i - k)) [
         | inl before ↦ read.none j low before found
         | inr past ↦ (
             let n = i - j in
             let same : j ≡ i - n = omega (arith, high) in
-            let short : k < length front = read.short in
-            none-next x front i k r n within read.stands next (omega (arith, high)) (omega (arith, past, within))
-            (λ m inside. found-reads x front tail (i - n) m (subst (IsFound x front tail) same found) (omega (arith, inside, past, within, short))))
+            let short : k < length p = read.short in
+            none-next x p i k r n within read.stands next (omega (arith, high)) (omega (arith, past, within))
+            (λ m inside. found-reads x p (i - n) m (subst (IsFound x p) same found) (omega (arith, inside, past, within, short))))
       ];
     }
 
-pub read-short : (x front tail : List ℕ) (i k : ℕ) → IsMet x front tail i k → k < length front → IsRead x front tail i k
-read-short x front tail i k met short = record { within = met.within; short = short; stands = met.stands; none = met.none }
+pub read-short : (x p : List ℕ) (i k : ℕ) → IsMet x p i k → k < length p → IsRead x p i k
+read-short x p i k met short = record { within = met.within; short = short; stands = met.stands; none = met.none }
 
--- all of the front is met, and what follows is the tail or isn't
-
-met-splits : (x front tail : List ℕ) (i : ℕ) → IsMet x front tail i (length front) → i ≤ length x → drop (i - length front) x ≡ front ++ drop i x
-met-splits x front tail i met inside =
-    let within : length front ≤ i = met.within in
-    let end : i - length front + length front ≡ i = omega (arith, within) in
-    OccursAt-split x front (i - length front) (record { fits = omega (arith, end, inside); reads = met.stands })
-    ∙ ap (λ n. front ++ drop n x) end
-
-met-found : (x front tail : List ℕ) (i : ℕ) → IsMet x front tail i (length front) → i ≤ length x → starts_with nat_eq (drop (i - length front) x) (front ++ tail) ≡ starts_with nat_eq (drop i x) tail
-met-found x front tail i met inside = ap (λ v. starts_with nat_eq v (front ++ tail)) (met-splits x front tail i met inside) ∙ starts_with-append front (drop i x) tail
-
-pub met-matched : (x front tail : List ℕ) (i : ℕ) → IsMet x front tail i (length front) → i ≤ length x → IsTrue (starts_with nat_eq (drop i x) tail) → IsMatched x front tail i
-met-matched x front tail i met inside goes_on = record { fits = met.within; found = met-found x front tail i met inside ∙ goes_on; none = met.none }
-
-pub met-apart : (x front tail : List ℕ) (i b : ℕ) → IsMet x front tail i (length front) → i ≤ length x → ¬ (IsTrue (starts_with nat_eq (drop i x) tail)) → IsBorder front (length front) b → IsRead x front tail i b
-met-apart x front tail i b met inside other border =
-    let within : length front ≤ i = met.within in
-    let shorter : b < length front = border.shorter in
+-- all of p is met
+pub met-matched : (x p : List ℕ) (i : ℕ) → IsMet x p i (length p) → i ≤ length x → IsMatched x p i
+met-matched x p i met inside =
+    let within : length p ≤ i = met.within in
+    let end : i - length p + length p ≡ i = omega (arith, within) in
     record {
-      within = omega (arith, within, shorter);
-      short = shorter;
-      stands = stands-end x front (i - length front) (length front) b (i - b) met.stands border.stands (omega (arith, shorter)) (omega (arith, within, shorter));
-      none = λ j low high found. elim (cases_lt j (i - length front)) [
-        | inl before ↦ met.none j low before found
-        | inr past ↦ elim (cases_eq j (i - length front)) [
-          | inl here ↦ other (sym (met-found x front tail i met inside) ∙ subst (IsFound x front tail) here found)
-          | inr later ↦ none (i - j) (omega (arith, high)) (omega (arith, past, later, within)) (subst (IsFound x front tail) (let same : j ≡ i - (i - j) = omega (arith, high) in same) found)
-        ]
-      ];
+      fits = within;
+      found = starts_with-from (drop (i - length p) x) p _ (OccursAt-split x p (i - length p) (record { fits = omega (arith, end, inside); reads = met.stands }));
+      none = met.none;
     }
-  where
-    none : (n : ℕ) → b < n → n < length front → ¬ (IsFound x front tail (i - n))
-    none n low high found =
-        let within : length front ≤ i = met.within in
-        let here : StandsAt x front (i - n) n = λ j before. found-reads x front tail (i - n) j found (omega (arith, before, high)) in
-        border.longest n low high (stands-inner x front (i - length front) (length front) n (i - n) met.stands here (omega (arith, high)) (omega (arith, within, high)))
 
 -- A run, which ends at the offset `end` of a text t and is followed by y, is read on from the offset `from`.
 
@@ -279,49 +249,49 @@ stands-on x t y i from at m end forward inside fits is =
     sym (get_or-drop (i + (at - from)) x m 0) ∙ ap (λ v. slice_index v m) (goes-on x z i from at forward is) ∙ get_or-drop at z m 0 ∙ in_run t y end (at + m) inside fits
 
 -- whatever was read before, up to `at` all is read
-pub record ReadsTo (front tail t y : List ℕ) (from met end at k : ℕ) : Type 0 where
+pub record ReadsTo (p t y : List ℕ) (from met end at k : ℕ) : Type 0 where
   pub forward : from ≤ at
   pub within : at ≤ end
   pub fits : end ≤ length t
-  pub reads : (x : List ℕ) (i : ℕ) → IsRead x front tail i met → (from < at → drop i x ≡ drop from (take end t ++ y)) → IsRead x front tail (i + (at - from)) k
+  pub reads : (x : List ℕ) (i : ℕ) → IsRead x p i met → (from < at → drop i x ≡ drop from (take end t ++ y)) → IsRead x p (i + (at - from)) k
 
--- the same where k bytes of the front are met, which may be all
-pub record MeetsAt (front tail t y : List ℕ) (from met end at k : ℕ) : Type 0 where
+-- the same where k bytes of p are met, which may be all
+pub record MeetsAt (p t y : List ℕ) (from met end at k : ℕ) : Type 0 where
   pub forward : from < at
   pub within : at ≤ end
   pub fits : end ≤ length t
-  pub meets : (x : List ℕ) (i : ℕ) → IsRead x front tail i met → drop i x ≡ drop from (take end t ++ y) → IsMet x front tail (i + (at - from)) k
+  pub meets : (x : List ℕ) (i : ℕ) → IsRead x p i met → drop i x ≡ drop from (take end t ++ y) → IsMet x p (i + (at - from)) k
 
-pub reads-start : {front tail t y : List ℕ} {from met end : ℕ} → from ≤ end → end ≤ length t → ReadsTo front tail t y from met end from met
-reads-start {front} {tail} {from = from} {met = met} ordered fits = record {
+pub reads-start : {p t y : List ℕ} {from met end : ℕ} → from ≤ end → end ≤ length t → ReadsTo p t y from met end from met
+reads-start {p} {from = from} {met = met} ordered fits = record {
   forward = omega arith;
   within = ordered;
   fits = fits;
-  reads = λ x i read is. (let sum : i ≡ i + (from - from) = omega arith in subst (λ (n : ℕ). IsRead x front tail n met) sum read);
+  reads = λ x i read is. (let sum : i ≡ i + (from - from) = omega arith in subst (λ (n : ℕ). IsRead x p n met) sum read);
 }
 
 -- over bytes with which no match begins, where none is begun
-pub reads-over : {front tail t y : List ℕ} {from met end at : ℕ} (k n : ℕ) → ReadsTo front tail t y from met end at k → at ≤ n → n ≤ end → (0 < k → n ≡ at) → BeginsNowhere front t at n
-    → ReadsTo front tail t y from met end n k
-reads-over {front} {tail} {t} {y} {from} {met} {end} {at} (suc k) n so_far past inside here others =
+pub reads-over : {p t y : List ℕ} {from met end at : ℕ} (k n : ℕ) → ReadsTo p t y from met end at k → at ≤ n → n ≤ end → (0 < k → n ≡ at) → BeginsNowhere p t at n
+    → ReadsTo p t y from met end n k
+reads-over {p} {t} {y} {from} {met} {end} {at} (suc k) n so_far past inside here others =
     let same : at ≡ n = sym (here (omega arith)) in
-    subst (λ (m : ℕ). ReadsTo front tail t y from met end m (suc k)) same so_far
-reads-over {front} {tail} {t} {y} {from} {met} {end} {at} zero n so_far past inside here others = record {
+    subst (λ (m : ℕ). ReadsTo p t y from met end m (suc k)) same so_far
+reads-over {p} {t} {y} {from} {met} {end} {at} zero n so_far past inside here others = record {
   forward = omega (arith, so_far.forward, past);
   within = inside;
   fits = so_far.fits;
   reads = λ x i read is.
       let sum : i + (at - from) + (n - at) ≡ i + (n - from) = omega (arith, so_far.forward, past) in
-      subst (λ (m : ℕ). IsRead x front tail m 0) sum
-      (read-over x front tail (i + (at - from)) (n - at) (so_far.reads x i read (λ some. is (omega (arith, some, past)))) (λ m low same.
+      subst (λ (m : ℕ). IsRead x p m 0) sum
+      (read-over x p (i + (at - from)) (n - at) (so_far.reads x i read (λ some. is (omega (arith, some, past)))) (λ m low same.
       let below : at + m < n = omega (arith, low) in
       others (at + m) (omega arith) below (sym (stands-on x t y i from at m end so_far.forward (omega (arith, below, inside)) so_far.fits (is (omega (arith, below, so_far.forward)))) ∙ same)));
 }
 
 -- over those, and one byte more
-pub reads-on : {front tail t y : List ℕ} {from met end at k r : ℕ} (n : ℕ) → ReadsTo front tail t y from met end at k → at ≤ n → n < end → (0 < k → n ≡ at) → BeginsNowhere front t at n → IsNext front k (slice_index t n) r
-    → MeetsAt front tail t y from met end (n + 1) r
-reads-on {front} {tail} {t} {y} {from} {met} {end} {at} {k} {r} n so_far past inside here others next =
+pub reads-on : {p t y : List ℕ} {from met end at k r : ℕ} (n : ℕ) → ReadsTo p t y from met end at k → at ≤ n → n < end → (0 < k → n ≡ at) → BeginsNowhere p t at n → IsNext p k (slice_index t n) r
+    → MeetsAt p t y from met end (n + 1) r
+reads-on {p} {t} {y} {from} {met} {end} {at} {k} {r} n so_far past inside here others next =
     let over = reads-over k n so_far past (omega (arith, inside)) here others in
     let forward : from ≤ n = over.forward in
     record {
@@ -334,68 +304,46 @@ reads-on {front} {tail} {t} {y} {from} {met} {end} {at} {k} {r} n so_far past in
           let place : e ≡ e + 0 = omega arith in
           let start : n + 0 ≡ n = omega arith in
           let same : slice_index x e ≡ slice_index t n = ap (slice_index x) place ∙ stands-on x t y i from n 0 end forward (omega (arith, inside)) so_far.fits is ∙ ap (slice_index t) start in
-          subst (λ (m : ℕ). IsMet x front tail m r) sum (met-next x front tail e k r (over.reads x i read (λ _. is)) (subst (λ (b : ℕ). IsNext front k b r) (sym same) next));
+          subst (λ (m : ℕ). IsMet x p m r) sum (met-next x p e k r (over.reads x i read (λ _. is)) (subst (λ (b : ℕ). IsNext p k b r) (sym same) next));
     }
 
-pub meets-short : {front tail t y : List ℕ} {from met end at k : ℕ} → MeetsAt front tail t y from met end at k → k < length front → ReadsTo front tail t y from met end at k
-meets-short {front} {tail} {from = from} {at = at} {k = k} met short = record {
+pub meets-short : {p t y : List ℕ} {from met end at k : ℕ} → MeetsAt p t y from met end at k → k < length p → ReadsTo p t y from met end at k
+meets-short {p} {from = from} {at = at} {k = k} met short = record {
   forward = omega (arith, met.forward);
   within = met.within;
   fits = met.fits;
-  reads = λ x i read is. read-short x front tail (i + (at - from)) k (met.meets x i read (is met.forward)) short;
+  reads = λ x i read is. read-short x p (i + (at - from)) k (met.meets x i read (is met.forward)) short;
 }
 
--- all of the front is met, and the tail follows or doesn't
+-- all of p is met
+pub meets-all : {p t y : List ℕ} {from met end at k : ℕ} → MeetsAt p t y from met end at k → k ≡ length p → (x : List ℕ) (i : ℕ) → IsRead x p i met → drop i x ≡ drop from (take end t ++ y) → IsMatched x p (i + (at - from))
+meets-all {p} {t} {y} {from} {met} {end} {at} meets all x i read is =
+    let z = take end t ++ y in
+    met-matched x p (i + (at - from)) (subst (IsMet x p (i + (at - from))) all (meets.meets x i read is))
+    (omega (arith, ap length is, length-drop i x, length-drop from z, meets.forward, meets.within, length-append (take end t) y, length-take-le end t meets.fits))
 
-meets-rest : {front tail t y : List ℕ} {from met end at k : ℕ} → MeetsAt front tail t y from met end at k → (x : List ℕ) (i : ℕ) → drop i x ≡ drop from (take end t ++ y)
-    → (drop (i + (at - from)) x ≡ slice_range t at end ++ y) × (i + (at - from) ≤ length x)
-meets-rest {t = t} {y = y} {from = from} {end = end} {at = at} met x i is =
-    let z = take end t ++ y in (
-      goes-on x z i from at (omega (arith, met.forward)) is ∙ follows t y at end met.within met.fits,
-      omega (arith, ap length is, length-drop i x, length-drop from z, met.forward, met.within, length-append (take end t) y, length-take-le end t met.fits),
-    )
+-- A text x, read from the position `from` on.
 
-pub meets-all : {front tail t y : List ℕ} {from met end at k : ℕ} → MeetsAt front tail t y from met end at k → k ≡ length front → IsTrue (starts_with nat_eq (slice_range t at end ++ y) tail)
-    → (x : List ℕ) (i : ℕ) → IsRead x front tail i met → drop i x ≡ drop from (take end t ++ y) → IsMatched x front tail (i + (at - from))
-meets-all {front} {tail} {from = from} {at = at} met all goes x i read is =
-    let rest = meets-rest met x i is in
-    met-matched x front tail (i + (at - from)) (subst (IsMet x front tail (i + (at - from))) all (met.meets x i read is)) rest.1 (ap (λ v. starts_with nat_eq v tail) rest.0 ∙ goes)
-
-pub meets-apart : {front tail t y : List ℕ} {from met end at k b : ℕ} → MeetsAt front tail t y from met end at k → k ≡ length front → starts_with nat_eq (slice_range t at end ++ y) tail ≡ false → IsBorder front (length front) b
-    → ReadsTo front tail t y from met end at b
-meets-apart {front} {tail} {from = from} {at = at} {b = b} met all other border = record {
-  forward = omega (arith, met.forward);
-  within = met.within;
-  fits = met.fits;
-  reads = λ x i read is.
-      let rest = meets-rest met x i (is met.forward) in
-      met-apart x front tail (i + (at - from)) b (subst (IsMet x front tail (i + (at - from))) all (met.meets x i read (is met.forward))) rest.1 (λ found. true≢false (sym found ∙ ap (λ v. starts_with nat_eq v tail) rest.0 ∙ other)) border;
-}
-
--- A text x, read from the position `from` on, for a pattern p that is the front and the tail.
-
-pub matched-first : (x p front tail : List ℕ) (from e : ℕ) → IsUtf8 p → front ++ tail ≡ p → 0 < length front → IsMatched (drop from x) front tail e → Some (from + (e - length front)) ≡ first_match_from x p from
-matched-first x p front tail from e utf8 spelled some matched =
-    let s = e - length front in
-    let size : 0 < length p = omega (arith, some, ap length spelled, length-append front tail) in
+pub matched-first : (x p : List ℕ) (from e : ℕ) → IsUtf8 p → 0 < length p → IsMatched (drop from x) p e → Some (from + (e - length p)) ≡ first_match_from x p from
+matched-first x p from e utf8 some matched =
+    let s = e - length p in
     let same : from + s - from ≡ s = omega arith in
     let is : IsMatch x p (from + s)
-    = match-from x p from (from + s) utf8 size (omega arith) ∙ ap₂ (λ n v. starts_with nat_eq (drop n (drop from x)) v) same (sym spelled) ∙ matched.found in
-    let fits : from + s + length p ≤ length x = match_fits x p (from + s) size is in
+    = match-from x p from (from + s) utf8 some (omega arith) ∙ ap (λ n. starts_with nat_eq (drop n (drop from x)) p) same ∙ matched.found in
+    let fits : from + s + length p ≤ length x = match_fits x p (from + s) some is in
     first_match_from-is x p from (Some (from + s)) (
       record {
         low = omega arith;
         high = omega (arith, fits);
-        before = λ k low high found. matched.none (k - from) (omega arith) (omega (arith, low, high)) (ap (starts_with nat_eq (drop (k - from) (drop from x))) spelled ∙ sym (match-from x p from k utf8 size low) ∙ found);
+        before = λ k low high found. matched.none (k - from) (omega arith) (omega (arith, low, high)) (sym (match-from x p from k utf8 some low) ∙ found);
       },
       is,
     )
 
-pub read-none : (x p front tail : List ℕ) (from k : ℕ) → IsUtf8 p → front ++ tail ≡ p → IsRead (drop from x) front tail (length x - from) k → None ≡ first_match_from x p from
-read-none x p front tail from k utf8 spelled read =
+pub read-none : (x p : List ℕ) (from k : ℕ) → IsUtf8 p → IsRead (drop from x) p (length x - from) k → None ≡ first_match_from x p from
+read-none x p from k utf8 read =
     first_match_from-is x p from None (λ i low high found.
-    let short : k < length front = read.short in
-    let size : length p ≡ length front + length tail = sym (ap length spelled) ∙ length-append front tail in
-    let some : 0 < length p = omega (arith, short, size) in
+    let short : k < length p = read.short in
+    let some : 0 < length p = omega (arith, short) in
     let fits : i + length p ≤ length x = match_fits x p i some found in
-    read.none (i - from) (omega arith) (omega (arith, low, fits, size, short)) (ap (starts_with nat_eq (drop (i - from) (drop from x))) spelled ∙ sym (match-from x p from i utf8 some low) ∙ found))
+    read.none (i - from) (omega arith) (omega (arith, low, fits, short)) (sym (match-from x p from i utf8 some low) ∙ found))

@@ -4,6 +4,8 @@ pub mod PositionLemmas
 pub mod MatchLemmas
 pub mod FindLemmas
 pub mod BorderLemmas
+pub mod TwoWayLemmas
+pub mod WindowLemmas
 pub mod CutLemmas
 pub mod TrimLemmas
 pub mod WalkLemmas

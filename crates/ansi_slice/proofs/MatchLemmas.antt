@@ -1,6 +1,6 @@
 -- Where a pattern stands in a text, and where it stands first.
 use Rattle.std.proofs.Common.{◌≡◌, ℕ, zero, suc, ◌+◌, ◌-◌, ◌<◌, ◌≤◌, max, inl, inr, Bool, true, false, ◌&&◌, ◌||◌, List, [], ◌∷◌, ◌++◌, take, drop, length, filter, nat_eq, nat_le, IsTrue, IsFalse, Option, Some, None, refl, sym, ◌∙◌, ap, ap₂, subst, arith, slice_get, slice_index}
-use Rattle.std.proofs.lemmas.Bool.{and_parts, and_from, cond_both, cases_lt, cases_eq, le-leb, leb-true, leb-false, eq-eqb, true≢false}
+use Rattle.std.proofs.lemmas.Bool.{and_parts, and_from, cond_both, cases_lt, cases_eq, le-leb, leb-true, leb-false, true≢false}
 use Rattle.std.proofs.lemmas.List.{take-append-drop, take_at, drop-drop, take-append-le, get_or_append_left, get_or-drop, length-append, length-drop, drop-append-le}
 use Rattle.std.proofs.lemmas.Slice.Eq.{bytes_eq-Decides}
 use Rattle.std.proofs.lemmas.Str.{IsCharBoundary-start, IsCharBoundary-from_rest}
@@ -23,11 +23,6 @@ starts_with-from x p rest is = (bytes_eq-Decides p (take (length p) x)).1 (sym (
 
 pub starts_with-splits : (x p : List ℕ) → starts_with nat_eq x p ≡ true → x ≡ p ++ drop (length p) x
 starts_with-splits x p h = sym (take-append-drop (length p) x) ∙ ap (λ v. v ++ drop (length p) x) (sym ((bytes_eq-Decides p (take (length p) x)).0 h))
-
--- what both begin with says nothing
-pub starts_with-append : (w x p : List ℕ) → starts_with nat_eq (w ++ x) (w ++ p) ≡ starts_with nat_eq x p
-starts_with-append [] x p = refl
-starts_with-append (b ∷ w) x p = ap (λ t. t && starts_with nat_eq (w ++ x) (w ++ p)) (eq-eqb b b refl) ∙ starts_with-append w x p
 
 -- A pattern that is a text stands at character boundaries alone.
 
@@ -188,7 +183,7 @@ match-from x p from i utf8 some low =
     let sum : from + (i - from) ≡ i = omega (arith, low) in
     is_match-utf8 x p i utf8 some ∙ ap (λ v. starts_with nat_eq v p) (ap (λ n. drop n x) (sym sum) ∙ sym (drop-drop (i - from) from x))
 
-starts_with-occurs : (x p : List ℕ) (s : ℕ) → 0 < length p → starts_with nat_eq (drop s x) p ≡ true → OccursAt x p s
+pub starts_with-occurs : (x p : List ℕ) (s : ℕ) → 0 < length p → starts_with nat_eq (drop s x) p ≡ true → OccursAt x p s
 starts_with-occurs x p s some starts =
     let splits : drop s x ≡ p ++ drop (length p) (drop s x) = starts_with-splits (drop s x) p starts in
     let fits : s + length p ≤ length x = omega (arith, some, ap length splits, length-append p (drop (length p) (drop s x)), length-drop s x) in

@@ -4,10 +4,12 @@ ghost use Rattle.std.specs.Str.{IsCharBoundary};
 ghost use Rattle.ansi_items.specs.Plain.{plain};
 ghost use Rattle.ansi_slice.specs.Positions.{is_good_position, is_char_boundary, is_good_range};
 
+mod critical;
 pub(crate) mod ends;
 mod matches;
 pub(crate) mod offsets;
 mod pattern;
+mod two_way;
 
 use ansi_items::ansitok::{Kind, Scanner};
 pub use ends::{ends_with, starts_with};

@@ -1,41 +1,38 @@
 //! A pattern that is looked for in a plain text whose runs are read once, in order. (Knuth, Morris and
 //! Pratt, Fast Pattern Matching in Strings, 1977.)
-ghost use Rattle.std.specs.Prelude.{◌≡◌, ◌≢◌, ◌++◌, ◌<◌, ◌≤◌, ℕ, List, length, take, drop, nat_eq, slice_index};
-ghost use Rattle.std.specs.List.{starts_with};
+ghost use Rattle.std.specs.Prelude.{◌≡◌, ◌≢◌, ◌++◌, ◌<◌, ◌≤◌, ℕ, List, length, take, drop, slice_index};
 ghost use Rattle.ansi_items.specs.Plain.{plain};
 ghost use Rattle.std.specs.Str.{IsCharBoundary};
 ghost use Rattle.ansi_slice.specs.Searches.{AreBorders, BeginsNowhere, IsNext, IsRead, Reads, Stops};
 
-use crate::search::ends::stands_at;
 use memchr::memchr;
 
-/// A pattern: its first bytes, 256 at most, with their borders, and the rest of it.
+/// A pattern of at most 256 bytes, with the borders of its first bytes.
 ///
 /// A border of some bytes is what they begin and end with, and that isn't all of them. Where a byte
 /// doesn't go on with the bytes that were met, it may go on with their longest border.
 #[derive(Drop)]
 pub(super) struct Pattern<'p> {
-    front: &'p [u8],
-    tail: &'p [u8],
+    bytes: &'p [u8],
     // of the first n bytes, at n - 1, the length of their longest border
     borders: [u8; 256],
-    ghost some: { 0 < length front.now },
-    ghost most: { length front.now ≤ 256 },
-    ghost are_borders: { AreBorders front.now borders (length front.now) },
+    ghost some: { 0 < length bytes.now },
+    ghost most: { length bytes.now ≤ 256 },
+    ghost are_borders: { AreBorders bytes.now borders (length bytes.now) },
 }
 
 /// How far a search has come in a text.
 #[derive(Clone, Copy)]
 pub(super) struct Reached {
-    /// The plain text that was read ends with so many bytes of the front, which may go on after it.
+    /// The plain text that was read ends with so many bytes of the pattern, which may go on after it.
     pub(super) met: usize,
-    /// From there up to this offset of the text, the front's first byte stands nowhere.
+    /// From there up to this offset of the text, the pattern's first byte stands nowhere.
     pub(super) next: usize,
 }
 
 /// How a run was read.
 pub(super) enum Reading {
-    /// The front of a match ends in the run, at this offset of the text.
+    /// A match ends in the run, at this offset of the text.
     Match(usize),
     /// No match ends in the run.
     Open(Reached),
@@ -44,23 +41,16 @@ pub(super) enum Reading {
 impl<'p> Pattern<'p> {
     /// A pattern that isn't empty.
     pub(super) fn new(pat: &'p str) -> Self
-        requires { 0 < length pat.now }
-        ensures some { 0 < length result.front.now }
-        ensures bytes { result.front.now ++ result.tail.now ≡ pat.entry.now }
+        requires some { 0 < length pat.now }
+        requires most { length pat.now ≤ 256 }
+        ensures some { 0 < length result.bytes.now }
+        ensures bytes { result.bytes.now ≡ pat.entry.now }
     {
-        let (front, tail) = pat.as_bytes().split_at(pat.len().min(256));
+        let bytes = pat.as_bytes();
         Pattern {
-            front,
-            tail,
-            borders: borders(front),
+            bytes,
+            borders: borders(bytes),
         }
-    }
-
-    /// The length of the front.
-    pub(super) fn front_len(&self) -> usize
-        ensures { result ≡ length self.now.front.now }
-    {
-        self.front.len()
     }
 
     /// Reads a run of a text, which ends at the offset `end`, from the offset `from` on, after a search
@@ -68,13 +58,13 @@ impl<'p> Pattern<'p> {
     pub(super) fn read(&self, text: &str, from: usize, end: usize, reached: Reached) -> Reading
         requires ordered { from ≤ end }
         requires boundary { IsCharBoundary text.now end }
-        requires short { reached.met < length self.now.front.now }
-        requires known { BeginsNowhere self.now.front.now text.now from reached.next }
-        ensures read { (x : List ℕ) (i : ℕ) → IsRead x self.now.front.now self.now.tail.now i reached.met → (from < end → drop i x ≡ drop from (take end text.now ++ plain (drop end text.now))) → Reads x self.now.front.now self.now.tail.now i end from result }
-        ensures stops { Stops self.now.front.now text.now end from result }
+        requires short { reached.met < length self.now.bytes.now }
+        requires known { BeginsNowhere self.now.bytes.now text.now from reached.next }
+        ensures read { (x : List ℕ) (i : ℕ) → IsRead x self.now.bytes.now i reached.met → (from < end → drop i x ≡ drop from (take end text.now ++ plain (drop end text.now))) → Reads x self.now.bytes.now i end from result }
+        ensures stops { Stops self.now.bytes.now text.now end from result }
     {
         let bytes = text.as_bytes();
-        let first = self.front[0];
+        let first = self.bytes[0];
         let mut met = reached.met;
         let mut at = from;
         while at < end {
@@ -82,21 +72,17 @@ impl<'p> Pattern<'p> {
             if at >= end {
                 return Reading::Open(Reached { met, next: at });
             }
-            met = met_with(self.front, &self.borders, met, bytes[at]);
+            met = met_with(self.bytes, &self.borders, met, bytes[at]);
             at += 1;
-            if met == self.front.len() {
-                let after = &text[end..];
-                if goes_on(&bytes[at..end], after, self.tail) {
-                    return Reading::Match(at);
-                }
-                met = self.borders[met - 1] as usize;
+            if met == self.bytes.len() {
+                return Reading::Match(at);
             }
         }
         Reading::Open(Reached { met, next: end })
     }
 }
 
-/// Where the front goes on, or where it may begin: at its first byte, or at the end of the bytes. Before
+/// Where the pattern goes on, or where it may begin: at its first byte, or at the end of the bytes. Before
 /// the offset `next` that byte stands nowhere.
 #[inline(always)]
 fn next_start(bytes: &[u8], at: usize, first: u8, met: usize, next: usize) -> usize
@@ -112,20 +98,21 @@ fn next_start(bytes: &[u8], at: usize, first: u8, met: usize, next: usize) -> us
     if at <= next {
         return next;
     }
-    match memchr(first, &bytes[at..]) {
-        Some(distance) => at + distance,
-        None => bytes.len(),
-    }
+    first_of(first, bytes, at)
 }
 
-/// Whether a plain text begins with some bytes: a run, and what follows it.
-fn goes_on(run: &[u8], after: &str, bytes: &[u8]) -> bool
-    ensures { result ≡ starts_with nat_eq (run.now ++ plain after.now) bytes.now }
+/// Where a byte stands first in a run, from a place on, or where the run ends.
+#[inline(always)]
+pub(super) fn first_of(byte: u8, run: &[u8], at: usize) -> usize
+    requires { at ≤ length run.now }
+    ensures forward { at ≤ result }
+    ensures within { result ≤ length run.now }
+    ensures passed { (i : ℕ) → at ≤ i → i < result → slice_index run.now i ≢ byte }
 {
-    if bytes.len() <= run.len() {
-        return run.starts_with(bytes);
+    match memchr(byte, &run[at..]) {
+        Some(distance) => at + distance,
+        None => run.len(),
     }
-    bytes.starts_with(run) && stands_at(after, &bytes[run.len()..], 0)
 }
 
 /// The lengths of the longest borders of the first bytes, from one byte up to all of them.

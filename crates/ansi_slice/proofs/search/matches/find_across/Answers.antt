@@ -6,6 +6,8 @@ use Rattle.ansi_items.specs.declared.ansitok.Kind.TheVariants.{Text as TextKind}
 use Rattle.ansi_items.specs.Pieces.{Text}
 use Rattle.ansi_items.specs.Plain.{plain, plain_of}
 use Rattle.ansi_items.specs.Scans.{Scan, Gives, pieces_left}
+use Rattle.std.specs.Str.{IsUtf8}
+use Rattle.ansi_slice.specs.Parts.{first_match_from}
 use Rattle.ansi_slice.specs.Searches.{IsRead, IsMatched, BeginsNowhere}
 use Rattle.ansi_items.proofs.StepLemmas.{BeginsWithMark, is_text, gives_text, gives_mark, gives_rest, plain_of-mark}
 use Rattle.ansi_slice.proofs.SliceLemmas.{length-slice_range}
@@ -48,8 +50,7 @@ overflow_add-after c =
 pub overflow_sub-result : goal.overflow_sub-result
 overflow_sub-result c =
     let x = plain c.args.text.now in
-    let front = c.new-pattern.result.front.now in
-    let tail = c.new-pattern.result.tail.now in
+    let p = c.new-pattern.result.bytes.now in
     let steps = c.in-Some.ensures.steps in
     let so_far = c.loop-item.invariant in
     let item = c.in-Some.item in
@@ -57,14 +58,13 @@ overflow_sub-result c =
     let skipped : c.min.result ≡ min (c.args.from - place) (item.end - item.start) = omega (arith, c.min.ensures, c.saturating_sub.ensures) in
     let from = item.start + c.min.result in
     let here = from_here x c.args.from place c.min.result steps so_far.text (is_text c.if-eq.ensures) so_far.left skipped in
-    let met : IsMatched (drop c.args.from x) front tail (place - c.args.from + (c.in-Match.end - from)) = c.in-Match.ensures.read (drop c.args.from x) (place - c.args.from) so_far.read here in
-    omega (arith, met.fits, c.in-Match.ensures.stops.0, skipped, c.front_len.ensures)
+    let met : IsMatched (drop c.args.from x) p (place - c.args.from + (c.in-Match.end - from)) = c.in-Match.ensures.read (drop c.args.from x) (place - c.args.from) so_far.read here in
+    omega (arith, met.fits, c.in-Match.ensures.stops.0, skipped, ap length c.new-pattern.ensures.bytes)
 
 pub returns-in-Match : goal.returns-in-Match
 returns-in-Match c =
     let x = plain c.args.text.now in
-    let front = c.new-pattern.result.front.now in
-    let tail = c.new-pattern.result.tail.now in
+    let p = c.new-pattern.result.bytes.now in
     let steps = c.in-Some.ensures.steps in
     let so_far = c.loop-item.invariant in
     let item = c.in-Some.item in
@@ -73,19 +73,19 @@ returns-in-Match c =
     let from = item.start + c.min.result in
     let here = from_here x c.args.from place c.min.result steps so_far.text (is_text c.if-eq.ensures) so_far.left skipped in
     let stops = c.in-Match.ensures.stops in
-    let met : IsMatched (drop c.args.from x) front tail (place - c.args.from + (c.in-Match.end - from)) = c.in-Match.ensures.read (drop c.args.from x) (place - c.args.from) so_far.read here in
+    let met : IsMatched (drop c.args.from x) p (place - c.args.from + (c.in-Match.end - from)) = c.in-Match.ensures.read (drop c.args.from x) (place - c.args.from) so_far.read here in
     let e = place - c.args.from + (c.in-Match.end - from) in
-    let some : 0 < length front = c.new-pattern.ensures.some in
-    let same : place + (c.in-Match.end - item.start) - c.front_len.result ≡ c.args.from + (e - length front) = omega (arith, c.front_len.ensures, skipped, met.fits, stops.0, stops.1, steps.forward, some) in
-    ap (λ n. Some n) same ∙ matched-first x c.args.pat.now front tail c.args.from e c.utf8.pat c.new-pattern.ensures.bytes some met
+    let some : 0 < length p = c.new-pattern.ensures.some in
+    let whole = c.new-pattern.ensures.bytes in
+    let same : place + (c.in-Match.end - item.start) - length c.args.pat.now ≡ c.args.from + (e - length p) = omega (arith, ap length whole, skipped, met.fits, stops.0, stops.1, steps.forward, some) in
+    ap (λ n. Some n) same ∙ matched-first x p c.args.from e (subst IsUtf8 (sym whole) c.utf8.pat) some met ∙ ap (λ q. first_match_from x q c.args.from) whole
 
 -- no match ends in it
 pub loop-item-preserved-then-eq : goal.loop-item-preserved-then-eq
 loop-item-preserved-then-eq c =
     let x = plain c.args.text.now in
     let t = c.args.text.now in
-    let front = c.new-pattern.result.front.now in
-    let tail = c.new-pattern.result.tail.now in
+    let p = c.new-pattern.result.bytes.now in
     let steps = c.in-Some.ensures.steps in
     let so_far = c.loop-item.invariant in
     let item = c.in-Some.item in
@@ -101,7 +101,7 @@ loop-item-preserved-then-eq c =
     let after : y ≡ plain_of (pieces_left c.next.new.self) = ap plain_of (gives_rest steps so_far.text refl) in
     let size : length w ≡ len = length-slice_range t item.start item.end (omega (arith, steps.forward)) fits in
     let rest : length x - place ≡ length (w ++ y) = sym (length-drop place x) ∙ ap length is in
-    let read : IsRead (drop c.args.from x) front tail (place - c.args.from + (item.end - from)) c.in-Open.further.met
+    let read : IsRead (drop c.args.from x) p (place - c.args.from + (item.end - from)) c.in-Open.further.met
     = c.in-Open.ensures.read (drop c.args.from x) (place - c.args.from) so_far.read here in
     let sum : place - c.args.from + (item.end - from) ≡ place + len - c.args.from = omega (arith, skipped, steps.forward) in
     record {
@@ -109,8 +109,8 @@ loop-item-preserved-then-eq c =
       left = sym after ∙ sym (drop_at w y len size) ∙ ap (drop len) (sym is) ∙ drop-drop len place x;
       within = omega (arith, rest, length-append w y, size, so_far.within);
       bounded = omega (arith, so_far.bounded, steps.start, steps.end, steps.forward);
-      read = subst (λ (n : ℕ). IsRead (drop c.args.from x) front tail n c.in-Open.further.met) sum read;
-      known = subst (λ (n : ℕ). BeginsNowhere front t n c.in-Open.further.next) steps.end c.in-Open.ensures.stops;
+      read = subst (λ (n : ℕ). IsRead (drop c.args.from x) p n c.in-Open.further.met) sum read;
+      known = subst (λ (n : ℕ). BeginsNowhere p t n c.in-Open.further.next) steps.end c.in-Open.ensures.stops;
     }
 
 -- over a sequence
@@ -133,9 +133,10 @@ pub returns : goal.returns
 returns c =
     let x = plain c.args.text.now in
     let place = c.loop-item.place in
-    let front = c.new-pattern.result.front.now in
-    let tail = c.new-pattern.result.tail.now in
+    let p = c.new-pattern.result.bytes.now in
     let rest : drop place x ≡ [] = sym c.loop-item.invariant.left ∙ ap plain_of c.in-None.ensures.steps.2 in
     let end : place ≡ length x = omega (arith, ap length rest, length-drop place x, c.loop-item.invariant.within) in
-    read-none x c.args.pat.now front tail c.args.from c.loop-item.reached.met c.utf8.pat c.new-pattern.ensures.bytes
-    (subst (λ (n : ℕ). IsRead (drop c.args.from x) front tail (n - c.args.from) c.loop-item.reached.met) end c.loop-item.invariant.read)
+    let whole = c.new-pattern.ensures.bytes in
+    read-none x p c.args.from c.loop-item.reached.met (subst IsUtf8 (sym whole) c.utf8.pat)
+    (subst (λ (n : ℕ). IsRead (drop c.args.from x) p (n - c.args.from) c.loop-item.reached.met) end c.loop-item.invariant.read)
+    ∙ ap (λ q. first_match_from x q c.args.from) whole

@@ -11,6 +11,6 @@ invariant-loop-item l = record {
   left : plain_of (pieces_left l.item-iterator) ≡ drop l.place (plain l.text);
   within : l.place ≤ length (plain l.text);
   bounded : l.place ≤ l.item-iterator.offset;
-  read : IsRead (drop l.from (plain l.text)) l.pattern.front.now l.pattern.tail.now (l.place - l.from) l.reached.met;
-  known : BeginsNowhere l.pattern.front.now l.text l.item-iterator.offset l.reached.next;
+  read : IsRead (drop l.from (plain l.text)) l.pattern.bytes.now (l.place - l.from) l.reached.met;
+  known : BeginsNowhere l.pattern.bytes.now l.text l.item-iterator.offset l.reached.next;
 }

@@ -1,0 +1,15 @@
+use Rattle.std.proofs.Common.{◌≡◌, ◌≤◌, ◌+◌, length, drop}
+use Rattle.ansi_items.specs.Plain.{plain, plain_of}
+use Rattle.ansi_items.specs.Scans.{pieces_left}
+use Rattle.ansi_slice.specs.Searches.{Comes}
+use Rattle.ansi_slice.proofs.search.matches.find_long.Given as goal
+
+-- what is left is the plain text from the place on, and up to there it is read
+abbrev pub invariant-loop-item : goal.invariant-loop-item
+invariant-loop-item l = record {
+  text : l.item-iterator.text ≡ l.text;
+  left : plain_of (pieces_left l.item-iterator) ≡ drop l.place (plain l.text);
+  within : l.place ≤ length (plain l.text);
+  comes : Comes l.text l.pattern.bytes.now l.pattern.cut.at l.from l.window;
+  read : l.place ≤ l.window.position + l.window.met;
+}

@@ -1,0 +1,12 @@
+use Rattle.std.proofs.Common.{◌≡◌, ◌≤◌, drop}
+use Rattle.ansi_items.specs.Plain.{plain, plain_of}
+use Rattle.ansi_items.specs.Scans.{pieces_left}
+use Rattle.ansi_slice.proofs.search.two_way.point_before.Given as goal
+
+-- what is left is the plain text from the place on
+abbrev pub invariant-loop-item : goal.invariant-loop-item
+invariant-loop-item l = record {
+  text : l.item-iterator.text ≡ drop l.point.offset l.text;
+  left : plain_of (pieces_left l.item-iterator) ≡ drop l.place (plain l.text);
+  before : l.place ≤ l.position;
+}
