@@ -140,6 +140,9 @@ static CHARACTERS: [&str; 13] = [
     "\x1b", "[", "]", "P", "\\", "\x07", "0", "?", "!", "m", "G", "\x7f", "é",
 ];
 
+/// The characters that control strings are made of, with each opening.
+static STRING_CHARACTERS: [&str; 8] = ["\x1b", "P", "X", "]", "^", "_", "\\", "\x07"];
+
 /// The most pieces that a text has.
 const MOST_PIECES: usize = 5;
 
@@ -160,8 +163,11 @@ fn text_at(alloc: Global, pieces: &[&str], number: usize) -> Result<String, Allo
     Ok(text)
 }
 
-/// How many texts have at most five of these characters.
+/// How many texts have at most five of the thirteen characters.
 const TEXTS: usize = 402_234;
+
+/// How many have at most five of the eight.
+const STRING_TEXTS: usize = 37_449;
 
 /// Compares the items of a text.
 fn expect_items(
@@ -208,6 +214,15 @@ fn expect_read(rt: &impl Abort, alloc: Global, text: &str) -> Result<(), AllocEr
 fn short_texts_are_read_as_defined(rt: HostRuntime) -> Result<(), AllocError> {
     for number in 0..TEXTS {
         let text = text_at(rt.alloc(), &CHARACTERS, number)?;
+        expect_read(&rt, rt.alloc(), text.as_str())?;
+    }
+    Ok(())
+}
+
+#[test]
+fn short_control_strings_are_read_as_defined(rt: HostRuntime) -> Result<(), AllocError> {
+    for number in 0..STRING_TEXTS {
+        let text = text_at(rt.alloc(), &STRING_CHARACTERS, number)?;
         expect_read(&rt, rt.alloc(), text.as_str())?;
     }
     Ok(())

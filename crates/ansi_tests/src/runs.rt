@@ -1,6 +1,7 @@
 //! Runs over pages: what a run of `ansi_lines` writes, tells and answers where its devices or its memory fail.
 //! What a run makes of words and input alone stands in rows.tsv of `ansi_lines`, which the built program has to pass.
 mod devices;
+mod hosts;
 mod memory;
 
 use crate::tests::expect;
