@@ -1,8 +1,9 @@
 //! A caller of a split, which knows what it was given.
-ghost use Rattle.std.specs.Prelude.{◌≡◌, length, IfOk};
-ghost use Rattle.ansi_str.specs.Parts.{all_parts};
+ghost use Rattle.std.specs.Prelude.{◌≡◌, length, map, IfOk};
+ghost use Rattle.std.specs.List.{range_with_len};
+ghost use Rattle.ansi_str.specs.Parts.{all_parts, share, is_part_borrowed};
 
-use ansi_str::split::split_in;
+use ansi_str::split::{AnsiSplit, split_in};
 use std::alloc::{AllocError, Allocator};
 
 /// The number of parts of a text, each of which is given. An `Err` means that memory is wanting.
@@ -19,4 +20,13 @@ pub fn count_parts<'x, A: Allocator + Copy>(
         count += 1;
     }
     Ok(count)
+}
+
+/// The parts of a text, of which it is known by index which are borrows, and how many bytes of the text
+/// each has.
+pub fn parts_by_index<'x, A: Allocator>(alloc: A, text: &'x str, pat: &'x str) -> AnsiSplit<'x, A>
+    ensures borrowed { map (λ p. p.borrowed) result ≡ map (is_part_borrowed text.now pat.now) (range_with_len 0 (length result)) }
+    ensures shares { map (λ p. p.share) result ≡ map (share text.now pat.now) (range_with_len 0 (length result)) }
+{
+    split_in(alloc, text, pat)
 }
