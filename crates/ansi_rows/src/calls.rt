@@ -28,6 +28,7 @@ pub enum Call<'r> {
     StartsWith(&'r str),
     EndsWith(&'r str),
     IsCharBoundary(usize),
+    FloorCharBoundary(usize),
     HasAny,
     Part(&'r str, usize),
     Edit(Edit<'r>),
@@ -93,6 +94,7 @@ impl<'r> Call<'r> {
             "starts_with" => Call::StartsWith(row.argument(0)?),
             "ends_with" => Call::EndsWith(row.argument(0)?),
             "is_char_boundary" => Call::IsCharBoundary(row.number(0)?),
+            "floor_char_boundary" => Call::FloorCharBoundary(row.number(0)?),
             _ => return None,
         })
     }

@@ -62,6 +62,7 @@ pub fn say<T: AnsiStr>(trial: &mut Trial<'_>, text: &T, call: &Call<'_>) {
         Call::StartsWith(pat) => trial.test(text.ansi_starts_with(pat)),
         Call::EndsWith(pat) => trial.test(text.ansi_ends_with(pat)),
         Call::IsCharBoundary(index) => trial.test(text.ansi_is_char_boundary(index)),
+        Call::FloorCharBoundary(index) => trial.told(Some(text.ansi_floor_char_boundary(index))),
         Call::HasAny => trial.test(text.ansi_has_any()),
         _ => {}
     }

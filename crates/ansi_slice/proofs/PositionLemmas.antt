@@ -1,13 +1,16 @@
 -- Good positions, in a text at the front and after it, and as std's character boundaries.
-use Rattle.std.proofs.Common.{◌≡◌, ℕ, ◌-◌, ◌<◌, ◌≤◌, inl, inr, not, true, false, List, ◌++◌, length, drop, IsTrue, Some, None, Option, ◌&&◌, ◌||◌, refl, sym, ◌∙◌, ap, ap₂, subst, arith, ◌+◌, ◌↔◌, Bool, min, nat_le, slice_index}
-use Rattle.std.proofs.lemmas.Bool.{leb-true, leb-false, le-leb, and_parts, and_from, lt-leb, cases_lt, not-true, not_from_false, and_left, and_right, and_cases}
-use Rattle.std.proofs.lemmas.List.{get_or_append_left, get_or_past, get_or-append_right, get_or-drop, length-append}
+use Rattle.std.proofs.Common.{◌≡◌, ℕ, ◌-◌, ◌<◌, ◌≤◌, inl, inr, not, true, false, List, ◌++◌, length, drop, IsTrue, Some, None, Option, ◌&&◌, ◌||◌, ◌==◌, refl, sym, ◌∙◌, ap, ap₂, subst, arith, ◌+◌, ◌↔◌, Bool, min, nat_le, slice_index}
+use Rattle.std.proofs.lemmas.Bool.{eqb-true, leb-true, leb-false, le-leb, and_parts, and_from, lt-leb, cases_lt, not-true, not_from_false, and_left, and_right, and_cases}
+use Rattle.std.proofs.lemmas.List.{get_or_append_left, get_or_past, get_or-append_right, get_or-drop, length-append, length-drop}
 use Rattle.std.proofs.lemmas.Bool.Decides.{nat_tests}
 use Rattle.std.specs.Cmp.{both_ways}
 use Rattle.std.proofs.lemmas.Str.{IsCharBoundary-start, IsCharBoundary-end}
 use Rattle.std.specs.Prelude.{unwrap_or}
 use Rattle.std.specs.Str.{IsUtf8, IsCharBoundary}
-use Rattle.ansi_slice.specs.Positions.{is_continuation_byte, is_good_position, is_char_boundary, is_good_range}
+use Rattle.ansi_items.specs.Plain.{plain}
+use Rattle.ansi_items.proofs.PlainLemmas.{length-plain}
+use Rattle.ansi_items.proofs.Utf8Lemmas.{IsUtf8-plain}
+use Rattle.ansi_slice.specs.Positions.{is_continuation_byte, is_good_position, is_char_boundary, is_good_range, is_position_in, is_range_in}
 
 pub is_good_position-past : (x : List ℕ) (n : ℕ) → length x ≤ n → is_good_position x n ≡ true
 is_good_position-past x n past = ap (λ b. not (is_continuation_byte b)) (get_or_past x n 0 past)
@@ -100,6 +103,17 @@ good_position_is x n = (
 pub position_test : (x : List ℕ) (n : ℕ) {i : ℕ} {b : Bool} → i ≡ min n (length x) → IsTrue b ↔ IsCharBoundary x i → b ≡ is_good_position x n
 position_test x n is test = both_ways _ _ (λ yes. (good_position_is x n).1 (subst (IsCharBoundary x) is (test.0 yes))) (λ good. test.1 (subst (IsCharBoundary x) (sym is) ((good_position_is x n).0 good)))
 
+-- Boundaries of a run within a plain text.
+
+pub boundary_in_run : (x w y : List ℕ) (place k : ℕ) → drop place x ≡ w ++ y → place ≤ length x → k < length w → IsCharBoundary w k ↔ IsCharBoundary x (place + k)
+boundary_in_run x w y place k left within short =
+    let inside : place + k ≤ length x = omega (arith, ap length left, length-drop place x, length-append w y) in
+    let same : is_good_position x (place + k) ≡ is_good_position w k =
+    sym (is_good_position-drop x place k) ∙ ap (λ v. is_good_position v k) left ∙ is_good_position-append w y k short in (
+      λ boundary. good_is_boundary x (place + k) inside (same ∙ boundary_is_good w k boundary),
+      λ boundary. good_is_boundary w k (omega arith) (sym same ∙ boundary_is_good x (place + k) boundary),
+    )
+
 -- Good ranges.
 
 pub good_range_tests : (x : List ℕ) (s e : ℕ) → s ≤ e → is_good_position x s ≡ true → is_good_position x e ≡ true → is_good_range x s (Some e) ≡ true
@@ -152,6 +166,23 @@ good_range_is x s e = (
   λ good. (let parts = good_range_parts x s e good in (parts.0, boundary_inside x s parts.1, boundary_inside x e parts.2)),
   λ ends. good_range_tests x s e ends.0 ((good_position_is x s).1 ends.1) ((good_position_is x e).1 ends.2),
 )
+
+-- Where a text may be divided and cut, its plain text is.
+
+pub is_position_in-good : (t : List ℕ) (n : ℕ) → IsUtf8 t → is_position_in t n ≡ is_good_position (plain t) n
+is_position_in-good t n utf8 =
+    either (n == 0) (nat_le (length t) n) (is_good_position (plain t) n)
+    (λ zero. subst (λ k. is_good_position (plain t) k ≡ true) (sym (eqb-true n 0 zero)) (boundary_is_good (plain t) 0 (IsCharBoundary-start (plain t) (IsUtf8-plain t utf8))))
+    (λ past. is_good_position-past (plain t) n (omega (arith, length-plain t, leb-true (length t) n past)))
+  where
+    either : (front past good : Bool) → (front ≡ true → good ≡ true) → (past ≡ true → good ≡ true) → (front || (past || good)) ≡ good
+    either true past good at_front at_end = sym (at_front refl)
+    either false true good at_front at_end = sym (at_end refl)
+    either false false good at_front at_end = refl
+
+pub is_range_in-good : (t : List ℕ) (s : ℕ) (e : Option ℕ) → IsUtf8 t → is_range_in t s e ≡ is_good_range (plain t) s e
+is_range_in-good t s None utf8 = is_position_in-good t s utf8
+is_range_in-good t s (Some e) utf8 = ap₂ (λ a b. nat_le s e && (a && b)) (is_position_in-good t s utf8) (is_position_in-good t e utf8)
 
 -- Nothing is answered exactly where a test fails.
 

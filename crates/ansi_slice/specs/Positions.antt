@@ -1,6 +1,7 @@
 -- Positions of a plain text at which it may be cut.
-use Rattle.std.specs.Prelude.{ℕ, Bool, ◌&&◌, not, List, length, nat_le, Option, Some, None, slice_index}
+use Rattle.std.specs.Prelude.{ℕ, Bool, ◌&&◌, ◌||◌, not, List, length, nat_le, ◌==◌, Option, Some, None, slice_index}
 use Rattle.std.specs.Int.{is_in_range}
+use Rattle.ansi_items.specs.Plain.{plain}
 
 -- a continuation byte goes on with the character before it (UTF-8)
 abbrev pub is_continuation_byte : ℕ → Bool
@@ -18,3 +19,12 @@ is_char_boundary x n = nat_le n (length x) && is_good_position x n
 abbrev pub is_good_range : List ℕ → ℕ → Option ℕ → Bool
 is_good_range x s None = is_good_position x s
 is_good_range x s (Some e) = nat_le s e && (is_good_position x s && is_good_position x e)
+
+-- a text t may be divided at 0, at its own length and past that, and else at the good positions of its plain text; all of these are good ones, where t is UTF-8 (own)
+abbrev pub is_position_in : List ℕ → ℕ → Bool
+is_position_in t n = n == 0 || (nat_le (length t) n || is_good_position (plain t) n)
+
+-- a text t may be cut between such positions, in order
+abbrev pub is_range_in : List ℕ → ℕ → Option ℕ → Bool
+is_range_in t s None = is_position_in t s
+is_range_in t s (Some e) = nat_le s e && (is_position_in t s && is_position_in t e)

@@ -1,5 +1,5 @@
 //! Searches in a plain text, over the items of its text and without memory.
-ghost use Rattle.std.specs.Prelude.{◌≡◌, ◌↔◌, ◌&&◌, ◌||◌, length, nat_le, None, Some, IsTrue};
+ghost use Rattle.std.specs.Prelude.{◌≡◌, ◌↔◌, ◌<◌, ◌≤◌, ◌&&◌, ◌||◌, ℕ, length, nat_le, None, Some, IsTrue};
 ghost use Rattle.std.specs.Str.{IsCharBoundary};
 ghost use Rattle.ansi_items.specs.Plain.{plain};
 ghost use Rattle.ansi_slice.specs.Positions.{is_good_position, is_char_boundary, is_good_range};
@@ -31,6 +31,28 @@ pub fn is_char_boundary(text: &str, index: usize) -> bool
     ensures good_after { IsTrue result → IsTrue (is_good_range (plain text.now) index None) }
 {
     is_boundary(text, index, false)
+}
+
+/// As `AnsiStr::ansi_floor_char_boundary`.
+pub fn floor_char_boundary(text: &str, index: usize) -> usize
+    ensures bound { result ≤ index }
+    ensures boundary { IsCharBoundary (plain text.now) result }
+    ensures nearest { (i : ℕ) → result < i → i ≤ index → ¬ (IsCharBoundary (plain text.now) i) }
+    ensures good_before { IsTrue (is_good_range (plain text.now) 0 (Some result)) }
+    ensures good_after { IsTrue (is_good_range (plain text.now) result None) }
+{
+    let mut place = 0;
+    for item in Scanner::new(text) {
+        if item.kind == Kind::Text {
+            let run = &text[item.start..item.end];
+            let remaining = index - place;
+            if remaining < run.len() {
+                return place + run.floor_char_boundary(remaining);
+            }
+            place += run.len();
+        }
+    }
+    place
 }
 
 /// Whether a character of the plain text begins at the position, or it is the end, or it lies past the

@@ -16,7 +16,7 @@ ghost use Rattle.ansi_style.specs.Sgr.{apply};
 ghost use Rattle.ansi_style.specs.Styled.{style_at, style_after, styled, bytes_of, residue};
 ghost use Rattle.ansi_style.specs.Reading.{style_after_from, styled_from};
 ghost use Rattle.ansi_style.specs.Written.{start, close, close_if_any};
-ghost use Rattle.ansi_slice.specs.Positions.{is_good_position, is_char_boundary, is_good_range};
+ghost use Rattle.ansi_slice.specs.Positions.{is_good_position, is_char_boundary, is_good_range, is_position_in, is_range_in};
 ghost use Rattle.ansi_slice.specs.Cut.{cut};
 ghost use Rattle.ansi_slice.specs.Sides.{left_side, right_side};
 ghost use Rattle.ansi_slice.specs.Kept.{kept, IsKept, without_prefix, without_suffix, trim_interval, trimmed};
@@ -208,12 +208,15 @@ pub fn written_texts_are_short()
 {}
 
 /// Character boundaries are std's. A good position is one, or lies past the end, which counts as the end;
-/// a range is good where its ends are, and they are in order.
+/// a range is good where its ends are, and they are in order. A text can be divided and cut exactly where
+/// its plain text has good positions and ranges.
 pub fn positions_are_std()
     ensures boundary { (x : List ℕ) (n : ℕ) → IsTrue (is_char_boundary x n) ↔ IsCharBoundary x n }
     ensures position { (x : List ℕ) (n : ℕ) → IsTrue (is_good_position x n) ↔ IsCharBoundary x (min n (length x)) }
     ensures range { (x : List ℕ) (s e : ℕ) → IsTrue (is_good_range x s (Some e)) ↔ ((s ≤ e) × IsCharBoundary x (min s (length x)) × IsCharBoundary x (min e (length x))) }
     ensures open_range { (x : List ℕ) (s : ℕ) → IsTrue (is_good_range x s None) ↔ IsCharBoundary x (min s (length x)) }
+    ensures position_in { (t : List ℕ) (n : ℕ) → IsUtf8 t → is_position_in t n ≡ is_good_position (plain t) n }
+    ensures range_in { (t : List ℕ) (s : ℕ) (e : Option ℕ) → IsUtf8 t → is_range_in t s e ≡ is_good_range (plain t) s e }
 {}
 
 /// Of a text without ESC each answer that std has too is std's, where a position past the end counts as

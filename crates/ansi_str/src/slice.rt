@@ -7,7 +7,7 @@ ghost use Rattle.std.specs.Str.{IsCharBoundary};
 ghost use Rattle.std.specs.Str.Pattern.{FindsText, MatchBeginsAt};
 ghost use Rattle.ansi_items.specs.Pieces.{pieces_of};
 ghost use Rattle.ansi_items.specs.Plain.{plain, is_text, has_escape};
-ghost use Rattle.ansi_slice.specs.Positions.{is_good_position, is_char_boundary, is_good_range};
+ghost use Rattle.ansi_slice.specs.Positions.{is_char_boundary, is_good_range, is_position_in, is_range_in};
 ghost use Rattle.ansi_slice.specs.Cut.{cut};
 ghost use Rattle.ansi_slice.specs.Sides.{left_side, right_side};
 ghost use Rattle.ansi_slice.specs.Kept.{without_prefix, without_suffix, trimmed};
@@ -100,7 +100,7 @@ pub trait AnsiStr {
         alloc: Global,
         range: R,
     ) -> Result<CowStr<'_>, AllocError>
-        requires { IsTrue (is_good_range (plain (text self.now)) (R.start range) (R.end range)) }
+        requires { IsTrue (is_range_in (text self.now) (R.start range) (R.end range)) }
         ensures bytes { IfOk result (λ c. cow_str_bytes c ≡ cut (text self.now) (R.start range) (R.end range)) }
         ensures borrowed { IfOk result (λ c. IsBorrowedStr c ↔ IsFalse (has_escape (text self.now))) }
         ensures len { IfOk result (λ c. length (cow_str_bytes c) ≤ length (text self.now) + 88) }
@@ -127,6 +127,30 @@ pub trait AnsiStr {
         ensures good_after { IsTrue result → IsTrue (is_good_range (plain (text self.now)) index None) }
     {
         search::is_char_boundary(self.as_text(), index)
+    }
+
+    /// The last character boundary of the plain text that isn't past the index. (std's
+    /// `floor_char_boundary`, on the plain text.)
+    ///
+    /// Index and answer count bytes of the plain text. Where the index lies past the end, the answer is
+    /// the end. The answer is a good position, and `..answer` and `answer..` are good ranges, so a text
+    /// can be cut to as many whole characters as fit in so many bytes. Takes no memory. (The Rust crate
+    /// lacks it.)
+    ///
+    /// ```
+    /// let text = "\x1b[1mLöwe\x1b[0m";
+    /// assert!(rt; text.ansi_floor_char_boundary(2) == 1);
+    /// let cut = text.ansi_cut(rt.alloc(), ..text.ansi_floor_char_boundary(2))?;
+    /// assert!(rt; cut.as_str() == "\x1b[1mL\x1b[22m");
+    /// ```
+    final fn ansi_floor_char_boundary(&self, index: usize) -> usize
+        ensures bound { result ≤ index }
+        ensures boundary { IsCharBoundary (plain (text self.now)) result }
+        ensures nearest { (i : ℕ) → result < i → i ≤ index → ¬ (IsCharBoundary (plain (text self.now)) i) }
+        ensures good_before { IsTrue (is_good_range (plain (text self.now)) 0 (Some result)) }
+        ensures good_after { IsTrue (is_good_range (plain (text self.now)) result None) }
+    {
+        search::floor_char_boundary(self.as_text(), index)
     }
 
     /// Where the pattern first stands in the plain text, in bytes from its start. (std's `find`, on
@@ -272,7 +296,7 @@ pub trait AnsiStr {
         alloc: Global,
         mid: usize,
     ) -> Result<(CowStr<'_>, CowStr<'_>), AllocError>
-        requires { IsTrue (is_good_position (plain (text self.now)) mid) }
+        requires { IsTrue (is_position_in (text self.now) mid) }
         ensures left { IfOk result (λ c. cow_str_bytes c.0 ≡ left_side (text self.now) mid) }
         ensures right { IfOk result (λ c. cow_str_bytes c.1 ≡ right_side (text self.now) mid) }
         ensures borrowed { IfOk result (λ c. (IsBorrowedStr c.0 ↔ IsFalse (has_escape (text self.now)))

@@ -5,5 +5,6 @@ pub mod chains;
 pub mod laws;
 pub mod matches;
 pub mod parts;
+pub mod positions;
 pub mod scans;
 pub mod searches;

@@ -3,7 +3,7 @@ ghost use Rattle.std.specs.Prelude.{◌≡◌, ◌↔◌, ◌⊎◌, ◌≤◌, 
 ghost use Rattle.std.specs.Cow.{cow_str_bytes, IsBorrowedStr};
 ghost use Rattle.ansi_items.specs.Pieces.{pieces_of};
 ghost use Rattle.ansi_items.specs.Plain.{plain, has_escape};
-ghost use Rattle.ansi_slice.specs.Positions.{is_good_range};
+ghost use Rattle.ansi_slice.specs.Positions.{is_good_range, is_range_in};
 ghost use Rattle.ansi_slice.specs.Cut.{cut, cut_up_to};
 ghost use Rattle.ansi_slice.specs.Offsets.{sequences_up_to};
 ghost use Rattle.ansi_style.specs.States.{rendition_of};
@@ -33,7 +33,7 @@ pub fn cut_in<'t, A: Allocator>(
     start: usize,
     end: Option<usize>,
 ) -> Result<CowStr<'t, A>, AllocError>
-    requires { IsTrue (is_good_range (plain text.now) start end) }
+    requires { IsTrue (is_range_in text.now start end) }
     ensures bytes { IfOk result (λ c. cow_str_bytes c ≡ cut text.now start end) }
     ensures borrowed { IfOk result (λ c. IsBorrowedStr c ↔ IsFalse (has_escape text.now)) }
     ensures len { IfOk result (λ c. length (cow_str_bytes c) ≤ length text.now + 88) }

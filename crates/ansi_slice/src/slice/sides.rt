@@ -5,7 +5,7 @@ ghost use Rattle.ansi_items.specs.declared.ansitok.Kind.TheVariants.{Sgr};
 ghost use Rattle.ansi_items.specs.Pieces.{Sequence, pieces_of};
 ghost use Rattle.ansi_items.specs.Plain.{plain, is_text, has_escape, copied};
 ghost use Rattle.ansi_items.specs.Sequences.{is_sgr};
-ghost use Rattle.ansi_slice.specs.Positions.{is_good_position};
+ghost use Rattle.ansi_slice.specs.Positions.{is_good_position, is_position_in};
 ghost use Rattle.ansi_slice.specs.Sides.{dressed, left_side, right_side, side_up_to};
 ghost use Rattle.ansi_slice.specs.Offsets.{StandsIn};
 ghost use Rattle.ansi_style.specs.Reading.{style_within};
@@ -33,7 +33,7 @@ pub fn split_at_in<'t, A: Allocator + Copy>(
     text: &'t str,
     mid: usize,
 ) -> Result<(CowStr<'t, A>, CowStr<'t, A>), AllocError>
-    requires { IsTrue (is_good_position (plain text.now) mid) }
+    requires { IsTrue (is_position_in text.now mid) }
     ensures left { IfOk result (λ c. cow_str_bytes c.0 ≡ left_side text.now mid) }
     ensures right { IfOk result (λ c. cow_str_bytes c.1 ≡ right_side text.now mid) }
     ensures borrowed { IfOk result (λ c. (IsBorrowedStr c.0 ↔ IsFalse (has_escape text.now)) × (IsBorrowedStr c.1 ↔ IsFalse (has_escape text.now))) }

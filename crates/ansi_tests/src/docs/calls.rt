@@ -40,6 +40,15 @@ fn ansi_is_char_boundary_example(rt: HostRuntime) {
 }
 
 #[test]
+fn ansi_floor_char_boundary_example(rt: HostRuntime) -> Result<(), Fail> {
+    let text = "\x1b[1mLöwe\x1b[0m";
+    assert!(rt; text.ansi_floor_char_boundary(2) == 1);
+    let cut = text.ansi_cut(rt.alloc(), ..text.ansi_floor_char_boundary(2))?;
+    assert!(rt; cut.as_str() == "\x1b[1mL\x1b[22m");
+    Ok(())
+}
+
+#[test]
 fn ansi_find_example(rt: HostRuntime) {
     assert!(rt; "a\x1b[1mb\x1b[0mc".ansi_find("bc") == Some(1));
     assert!(rt; "a\x1b[1mb\x1b[0mc".ansi_find("cb").is_none());

@@ -37,6 +37,9 @@ fn expect_boundaries(rt: &impl Abort, text: &str, plain: &str) {
         let got = text.ansi_is_char_boundary(*index);
         let want = plain.is_char_boundary(*index);
         expect(rt, got == want, "the boundary", (index, text));
+        let got = text.ansi_floor_char_boundary(*index);
+        let want = plain.floor_char_boundary(*index);
+        expect(rt, got == want, "the last boundary", (index, text));
     }
 }
 

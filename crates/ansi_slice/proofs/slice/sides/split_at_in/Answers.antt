@@ -1,6 +1,15 @@
 use Rattle.std.proofs.Common.{refl, sym, ◌∙◌, ap, arith, length}
 use Rattle.ansi_slice.proofs.LengthLemmas.{length-sides}
+use Rattle.ansi_slice.proofs.PositionLemmas.{is_position_in-good}
 use Rattle.ansi_slice.proofs.slice.sides.split_at_in.Goals as goal
+
+-- where the text may be divided its plain text may be
+
+pub halves-requires-clause-good : goal.halves-requires-clause-good
+halves-requires-clause-good g c = sym (is_position_in-good c.args.text.now c.args.mid c.utf8.text) ∙ c.requires
+
+pub write_sides-requires : goal.write_sides-requires
+write_sides-requires g c = sym (is_position_in-good c.args.text.now c.args.mid c.utf8.text) ∙ c.requires
 
 -- the sides of a text without ESC are slices
 
