@@ -9,7 +9,7 @@ ghost use Rattle.ansi_str_c.specs.Styles.{no_style, TellsStyle};
 use crate::answers::{Answer, NO, NOT_UTF8, OK, OUT_OF_MEMORY, write};
 use crate::styles::StyleData;
 use ansi_str::{AnsiBlock, get_blocks};
-use simdutf8::compat::from_utf8;
+use simdutf8::basic::from_utf8;
 use std::alloc::{AllocError, Global};
 
 /// What a call answers that gives a style.

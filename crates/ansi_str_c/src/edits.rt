@@ -11,7 +11,7 @@ ghost use Rattle.ansi_str_c.specs.Steps.{change_of_step, patterns_of};
 use crate::answers::{Answer, NO, NOT_UTF8, REFUSED, write_found};
 use crate::texts::write_edited;
 use ansi_str::{Edit, edit};
-use simdutf8::compat::from_utf8;
+use simdutf8::basic::from_utf8;
 use std::alloc::{AllocError, Global};
 use std::borrow::CowStr;
 

@@ -9,7 +9,7 @@ use crate::answers::{NOT_UTF8, OK, OUT_OF_MEMORY, TOO_SMALL};
 use crate::styles::StyleData;
 use ansi_str::split::split_in;
 use ansi_str::{AnsiBlock, get_blocks};
-use simdutf8::compat::from_utf8;
+use simdutf8::basic::from_utf8;
 use std::alloc::{AllocError, Global};
 use std::fmt::Write;
 

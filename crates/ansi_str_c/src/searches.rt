@@ -7,7 +7,7 @@ ghost use Rattle.ansi_str_c.specs.Answers.{not_utf8, failed, told, OnUtf8, Tells
 
 use crate::answers::{Answer, NO, NOT_UTF8};
 use ansi_str::{AnsiStr, ansi_is_whole};
-use simdutf8::compat::from_utf8;
+use simdutf8::basic::from_utf8;
 
 /// Where the pattern first stands in the plain text.
 #[unsafe(no_mangle)]

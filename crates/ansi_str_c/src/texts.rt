@@ -8,7 +8,7 @@ ghost use Rattle.ansi_str_c.specs.Answers.{no, refused, not_utf8, OnUtf8, HasFai
 use crate::answers::{Answer, NOT_UTF8, OUT_OF_MEMORY, REFUSED, write, write_found};
 use crate::edits::{EditStep, PART, PREFIX, SUFFIX, write_step};
 use ansi_str::{AnsiStr, Edit, edit};
-use simdutf8::compat::from_utf8;
+use simdutf8::basic::from_utf8;
 use std::alloc::Global;
 
 /// The plain text.

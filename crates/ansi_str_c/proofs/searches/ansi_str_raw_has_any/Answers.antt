@@ -9,4 +9,4 @@ told-same a b answer is same = is ∙ ap told same
 
 -- what is told is whether an ESC stands in the text
 pub returns-in-Ok : goal.returns-in-Ok
-returns-in-Ok c = inl (c.in-Ok.ensures.cases.1, told-same _ (has_escape c.args.text.now) _ c.told.ensures (cc c.in-Ok.ensures.cases.0))
+returns-in-Ok c = inl (c.in-Ok.ensures.1, told-same _ (has_escape c.args.text.now) _ c.told.ensures (cc c.in-Ok.ensures.0))
