@@ -42,7 +42,7 @@ struct call {
     }
 
 TEXT(strip) TEXT(trim) TEXT(strip_prefix, p.at, p.len) TEXT(strip_suffix, p.at, p.len) TEXT(part, p.at, p.len, n)
-QUESTION(has_any) QUESTION(is_whole) QUESTION(is_char_boundary, n)
+QUESTION(has_any) QUESTION(is_whole) QUESTION(is_char_boundary, n) QUESTION(floor_char_boundary, n)
 QUESTION(starts_with, p.at, p.len) QUESTION(ends_with, p.at, p.len) QUESTION(find, p.at, p.len)
 
 /* from a position to the end, and from the start to a position */
@@ -79,7 +79,8 @@ static size_t blocks(struct bytes t, size_t n, struct bytes p) {
 static const struct call CALLS[] = {
     {"strip", strip, 0, 0, 0}, {"trim", trim, 0, 0, 0}, {"has_any", has_any, 0, 0, 0}, {"is_whole", is_whole, 0, 0, 0},
     {"blocks", blocks, 0, 0, 1}, {"cut from", cut_from, 1, 0, 0}, {"cut to", cut_to, 1, 0, 0}, {"both sides", sides, 1, 0, 0},
-    {"edit", edit, 1, 0, 0}, {"is_char_boundary", is_char_boundary, 1, 0, 0}, {"starts_with", starts_with, 0, 1, 0},
+    {"edit", edit, 1, 0, 0}, {"is_char_boundary", is_char_boundary, 1, 0, 0},
+    {"floor_char_boundary", floor_char_boundary, 1, 0, 0}, {"starts_with", starts_with, 0, 1, 0},
     {"ends_with", ends_with, 0, 1, 0}, {"strip_prefix", strip_prefix, 0, 1, 0}, {"strip_suffix", strip_suffix, 0, 1, 0},
     {"find", find, 0, 1, 0}, {"split", split, 0, 1, 1}, {"part", part, 1, 1, 0},
 };

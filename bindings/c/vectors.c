@@ -203,6 +203,8 @@ static int expect_told(const struct row *r) {
         answer = ansi_str_ends_with(TEXT(t), TEXT(argument(r, 0)));
     } else if (strcmp(name, "is_char_boundary") == 0) {
         answer = ansi_str_is_char_boundary(TEXT(t), position(r, 0));
+    } else if (strcmp(name, "floor_char_boundary") == 0) {
+        answer = ansi_str_floor_char_boundary(TEXT(t), position(r, 0));
     } else if (strcmp(name, "is_whole") == 0) {
         answer = ansi_str_is_whole(TEXT(t));
     } else if (strcmp(name, "has_any") == 0) {

@@ -85,6 +85,7 @@ extern "C" {
     fn ansi_str_raw_starts_with(t: Bytes, n: usize, p: Bytes, k: usize) -> Answer;
     fn ansi_str_raw_ends_with(t: Bytes, n: usize, p: Bytes, k: usize) -> Answer;
     fn ansi_str_raw_is_char_boundary(t: Bytes, n: usize, index: usize) -> Answer;
+    fn ansi_str_raw_floor_char_boundary(t: Bytes, n: usize, index: usize) -> Answer;
     fn ansi_str_raw_has_any(t: Bytes, n: usize) -> Answer;
     fn ansi_str_raw_split(
         t: Bytes,
@@ -232,6 +233,10 @@ pub(crate) fn ends_with(text: &str, pat: &str) -> bool {
 
 pub(crate) fn is_char_boundary(text: &str, index: usize) -> bool {
     is_so(unsafe { ansi_str_raw_is_char_boundary(text.as_ptr(), text.len(), index) })
+}
+
+pub(crate) fn floor_char_boundary(text: &str, index: usize) -> usize {
+    unsafe { ansi_str_raw_floor_char_boundary(text.as_ptr(), text.len(), index) }.len
 }
 
 pub(crate) fn has_any(text: &str) -> bool {

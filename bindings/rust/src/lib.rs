@@ -53,6 +53,9 @@ pub trait AnsiStr {
     /// Whether a character of the plain text begins at the index, or the plain text ends there.
     fn ansi_is_char_boundary(&self, index: usize) -> bool;
 
+    /// The last character boundary of the plain text that isn't past the index. The Rust crate lacks it.
+    fn ansi_floor_char_boundary(&self, index: usize) -> usize;
+
     /// Where the pattern first stands in the plain text.
     fn ansi_find(&self, pat: &str) -> Option<usize>;
 
@@ -118,6 +121,10 @@ impl<T: AsRef<str> + ?Sized> AnsiStr for T {
 
     fn ansi_is_char_boundary(&self, index: usize) -> bool {
         calls::is_char_boundary(self.as_ref(), index)
+    }
+
+    fn ansi_floor_char_boundary(&self, index: usize) -> usize {
+        calls::floor_char_boundary(self.as_ref(), index)
     }
 
     fn ansi_find(&self, pat: &str) -> Option<usize> {

@@ -167,6 +167,11 @@ fn pass(row: &str) -> bool {
         "starts_with" => assert_eq!(text.ansi_starts_with(&argument(0)), is_ok, "{row}"),
         "ends_with" => assert_eq!(text.ansi_ends_with(&argument(0)), is_ok, "{row}"),
         "is_char_boundary" => assert_eq!(text.ansi_is_char_boundary(position(0)), is_ok, "{row}"),
+        "floor_char_boundary" => assert_eq!(
+            text.ansi_floor_char_boundary(position(0)),
+            number(want),
+            "{row}"
+        ),
         "has_any" => assert_eq!(text.ansi_has_any(), is_ok, "{row}"),
         "split" => {
             let pat = argument(0);

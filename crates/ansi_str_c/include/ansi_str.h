@@ -183,6 +183,7 @@ ansi_str_answer ansi_str_raw_starts_with(const uint8_t *text, size_t text_len, c
 ansi_str_answer ansi_str_raw_ends_with(const uint8_t *text, size_t text_len, const uint8_t *pattern,
                                        size_t pattern_len);
 ansi_str_answer ansi_str_raw_is_char_boundary(const uint8_t *text, size_t text_len, size_t index);
+ansi_str_answer ansi_str_raw_floor_char_boundary(const uint8_t *text, size_t text_len, size_t index);
 ansi_str_answer ansi_str_raw_is_whole(const uint8_t *text, size_t text_len);
 ansi_str_answer ansi_str_raw_has_any(const uint8_t *text, size_t text_len);
 ansi_str_answer ansi_str_raw_block(const uint8_t *text, size_t text_len, size_t index, uint8_t *buffer,
@@ -293,6 +294,13 @@ static inline ansi_str_answer ansi_str_ends_with(const char *text, size_t text_l
    Takes no memory. */
 static inline ansi_str_answer ansi_str_is_char_boundary(const char *text, size_t text_len, size_t index) {
     return ansi_str_raw_is_char_boundary(ansi_str_bytes(text), text_len, index);
+}
+
+/* The last position up to the index where a character of the plain text begins, or the plain text ends: the answer's length is
+   that position. So a cut from 0 up to it has as many whole characters as fit in `index` bytes, and is never refused. Takes
+   no memory. Of "\x1b[1mL\xc3\xb6we" 2 gives 1. */
+static inline ansi_str_answer ansi_str_floor_char_boundary(const char *text, size_t text_len, size_t index) {
+    return ansi_str_raw_floor_char_boundary(ansi_str_bytes(text), text_len, index);
 }
 
 /* Whether no ESC in the text begins an unfinished sequence: ANSI_STR_OK or ANSI_STR_NO. Takes no memory. */

@@ -1,5 +1,6 @@
 -- What a call answers, and what its buffer then holds.
 use Rattle.std.specs.Prelude.{◌≡◌, ◌⊎◌, ◌<◌, ◌≤◌, ℕ, Bool, not, List, [], ◌∷◌, ◌++◌, drop, length, Option, None, Some, IsTrue, IsUtf8, if◌then◌else◌}
+use Rattle.std.specs.Str.{IsCharBoundary}
 use Rattle.std.specs.Str.Pattern.{FindsText, MatchBeginsAt}
 use Rattle.ansi_str.specs.Changes.{Change}
 use Rattle.ansi_str.specs.Edited.{edited, stay_borrowed}
@@ -63,6 +64,11 @@ Gives absent takes_memory found answer old new =
 -- a call gives what changes in turn make of a text, or fails with a status where one is refused
 unfoldable pub GivesEdited : ℕ → List Change → List ℕ → Answer → List ℕ → List ℕ → Type 0
 GivesEdited absent es t answer old new = Gives absent (not (stay_borrowed es t)) (edited es t) answer old new
+
+-- a call tells the last character boundary of x that isn't past the index (std's `floor_char_boundary`)
+abbrev pub TellsBoundary : List ℕ → ℕ → Answer → Type 0
+TellsBoundary x index answer = (place : ℕ) × (answer ≡ done place) × (place ≤ index) × IsCharBoundary x place
+    × ((i : ℕ) → place < i → i ≤ index → ¬ (IsCharBoundary x i))
 
 -- a call tells where p first stands in x, or that it stands nowhere
 abbrev pub TellsPlace : List ℕ → List ℕ → Answer → Type 0

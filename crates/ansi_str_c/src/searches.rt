@@ -3,7 +3,7 @@ ghost use Rattle.std.specs.Prelude.{◌≡◌, ◌∷◌, [], nat_eq};
 ghost use Rattle.std.specs.List.{starts_with, ends_with};
 ghost use Rattle.ansi_str.specs.Plain.{plain, has_escape, is_whole};
 ghost use Rattle.ansi_str.specs.Positions.{is_char_boundary};
-ghost use Rattle.ansi_str_c.specs.Answers.{not_utf8, failed, told, OnUtf8, TellsPlace};
+ghost use Rattle.ansi_str_c.specs.Answers.{not_utf8, failed, told, OnUtf8, TellsBoundary, TellsPlace};
 
 use crate::answers::{Answer, NO, NOT_UTF8};
 use ansi_str::{AnsiStr, ansi_is_whole};
@@ -67,6 +67,17 @@ pub extern "C" fn ansi_str_raw_is_char_boundary(text: &[u8], index: usize) -> An
 {
     match from_utf8(text) {
         Ok(text) => Answer::told(text.ansi_is_char_boundary(index)),
+        Err(_) => Answer::failed(NOT_UTF8),
+    }
+}
+
+/// The last character boundary of the plain text that isn't past the index.
+#[unsafe(no_mangle)]
+pub extern "C" fn ansi_str_raw_floor_char_boundary(text: &[u8], index: usize) -> Answer
+    ensures { OnUtf8 (text.now ∷ []) (TellsBoundary (plain text.now) index result) (result ≡ failed not_utf8) }
+{
+    match from_utf8(text) {
+        Ok(text) => Answer::done(text.ansi_floor_char_boundary(index)),
         Err(_) => Answer::failed(NOT_UTF8),
     }
 }
