@@ -6,6 +6,7 @@ ghost use Rattle.ansi_lines_io.specs.Reading.{max_bytes, max_reads, IsGivenUp, S
 
 use crate::devices::{ReadFault, Source};
 use crate::stop::Stop;
+use simdutf8::is_utf8;
 use std::alloc::Allocator;
 
 /// The most bytes that an input may have.
@@ -31,7 +32,10 @@ pub fn read_text<A: Allocator, S: Source>(alloc: A, input: &mut S) -> Result<Str
         (IsGivenUp (S.interrupted input.new) (S.reads input.old) (S.reads input.new))) }
 {
     let bytes = read_bytes(alloc, input)?;
-    String::from_utf8(bytes).map_err(|_| Stop::BadInput)
+    if !is_utf8(bytes.as_slice()) {
+        return Err(Stop::BadInput);
+    }
+    Ok(unsafe { String::from_utf8_unchecked(bytes) })
 }
 
 // Reads all that is left, if it isn't too long.

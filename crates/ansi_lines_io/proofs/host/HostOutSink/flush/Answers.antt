@@ -1,7 +1,6 @@
-use Rattle.ansi_lines_io.specs.Hosts.{writer_of}
 use Rattle.ansi_lines_io.proofs.Known.{keeps-alike}
 use Rattle.ansi_lines_io.proofs.host.HostOutSink.flush.Goals as goal
 
 -- the writer keeps what it has taken
 pub returns-then-self-clause-taken : goal.returns-then-self-clause-taken
-returns-then-self-clause-taken g c = keeps-alike _ _ (g.met.W.SteadyWrite.tell_alike (writer_of c.args.self.now) c.flush.new.self) c.flush.ensures.bytes
+returns-then-self-clause-taken g c = keeps-alike _ _ (g.met.W.SteadyWrite.tell_alike _ _) c.flush.ensures.bytes

@@ -1,10 +1,9 @@
-use Rattle.ansi_lines_io.specs.Hosts.{writer_of}
 use Rattle.ansi_lines_io.proofs.Known.{appends-alike}
 use Rattle.ansi_lines_io.proofs.host.HostOutSink.write.Goals as goal
 
 -- the writer has taken all of the bytes
 pub returns-in-Ok-clause-taken : goal.returns-in-Ok-clause-taken
-returns-in-Ok-clause-taken g c = appends-alike _ _ c.args.bytes.now (g.met.W.SteadyWrite.tell_alike (writer_of c.args.self.now) c.write_all.new.self) c.in-Ok.ensures.bytes
+returns-in-Ok-clause-taken g c = appends-alike _ _ c.args.bytes.now (g.met.W.SteadyWrite.tell_alike _ _) c.in-Ok.ensures.bytes
 
 pub returns-in-Ok-clause-writer : goal.returns-in-Ok-clause-writer
 returns-in-Ok-clause-writer g c = c.in-Ok.ensures.bytes
