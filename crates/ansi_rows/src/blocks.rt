@@ -94,14 +94,17 @@ fn say_block(trial: &mut Trial<'_>, heap: &Heap, block: &AnsiBlock<'_, &Heap>, i
 fn say_next(trial: &mut Trial<'_>, heap: &Heap, blocks: &mut AnsiBlockIter<'_, &Heap>) -> bool {
     let before = heap.requests();
     match blocks.next() {
-        None => return false,
-        Some(Err(_)) => trial.is_err = true,
+        None => false,
+        Some(Err(_)) => {
+            trial.is_err = true;
+            false
+        }
         Some(Ok(block)) => {
             let is_borrow = heap.requests() == before;
             say_block(trial, heap, &block, is_borrow);
+            true
         }
     }
-    !trial.is_err
 }
 
 fn expect_end(trial: &mut Trial<'_>, blocks: &mut AnsiBlockIter<'_, &Heap>) {
@@ -112,7 +115,7 @@ fn expect_end(trial: &mut Trial<'_>, blocks: &mut AnsiBlockIter<'_, &Heap>) {
     }
 }
 
-/// All blocks, or how many there are. After the last one there are none.
+/// All blocks, or how many there are. After an `Err`, and after the last one, there are none.
 pub fn say_blocks(trial: &mut Trial<'_>, heap: &Heap) {
     let mut blocks = get_blocks(heap, trial.row.text);
     let mut count = 0usize;
@@ -122,10 +125,8 @@ pub fn say_blocks(trial: &mut Trial<'_>, heap: &Heap) {
         }
         count = count.saturating_add(1);
     }
-    if !trial.is_err {
-        expect_end(trial, &mut blocks);
-        trial.count(count);
-    }
+    expect_end(trial, &mut blocks);
+    trial.count(count);
 }
 
 /// Each block between what sets its style and what ends that.
