@@ -16,7 +16,7 @@ use std::borrow::CowStr;
 use std::marker::Model;
 
 /// The parts of a text between the matches of a pattern, in order: the iterator that
-/// [`AnsiStr::ansi_split`](crate::AnsiStr::ansi_split) makes.
+/// `AnsiStr::ansi_split` makes.
 ///
 /// A part with no sequence is a borrow where no style is carried into it or it is empty. Any other
 /// part is owned. An `Err` means that memory is wanting; after it, as after the last part, there is
@@ -47,7 +47,7 @@ impl<'a, A: Allocator> Model for AnsiSplit<'a, A> {
     ghost view = { λ s. s.spans };
 }
 
-/// As [`AnsiStr::ansi_split`](crate::AnsiStr::ansi_split), with parts that live as long as the text and the pattern, and their memory taken from any allocator.
+/// As `AnsiStr::ansi_split`, with parts that live as long as the text and the pattern, and their memory taken from any allocator.
 /// (Own.)
 ///
 /// ```
