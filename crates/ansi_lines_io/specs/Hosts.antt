@@ -22,8 +22,9 @@ pub record IsFreshSource {R : Type 0} (reader : R) (device : HostIn R) : Type 0 
   pub uninterrupted : device.interrupted ≡ false
   pub unfailed : device.failed ≡ false
 
--- a fresh sink stands over its writer, was asked for no flush, and no write of it has failed
+-- a fresh sink stands over its writer, was asked for no flush, tells nothing that it has passed on, and no write of it has failed
 pub record IsFreshSink {W : Type 0} (writer : W) (device : HostOut W) : Type 0 where
   pub same_writer : writer_of device ≡ writer
   pub unflushed : device.flushes ≡ 0
+  pub untold : (contents : W → Option (List ℕ)) → passed_by contents device ≡ None
   pub unfailed : device.failed ≡ false

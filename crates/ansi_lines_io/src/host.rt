@@ -1,5 +1,5 @@
 //! The devices over std's readers and writers. A sink tells the bytes that its writer tells, and a source none.
-ghost use Rattle.std.specs.Prelude.{◌≡◌, ◌≤◌, ◌||◌, None, length, is_err, is_some, refl, IfOk, OnOk};
+ghost use Rattle.std.specs.Prelude.{◌≡◌, ◌≤◌, ◌||◌, None, length, is_err, is_some, refl, IfOk, OnErr, OnOk};
 ghost use Rattle.std.specs.Io.KnownBytes.{append_known, Appends, Keeps, ReadConsumes};
 ghost use Rattle.ansi_lines_io.specs.Devices.{Reads, count_after, was_interrupted, was_failed};
 ghost use Rattle.ansi_lines_io.specs.Hosts.{reader_of, writer_of, passed_by, IsFreshSource, IsFreshSink};
@@ -113,7 +113,8 @@ impl<W: Write> HostOut<W> {
     }
 }
 
-// The clauses `writer` say, in std's words, what the writer did.
+// The clauses `writer` say, in std's words, what the writer did, and the clauses `untold` when a sink doesn't tell what it has
+// passed on.
 impl<W: SteadyWrite> Sink for HostOut<W> {
     ghost taken = { λ device. W.contents (writer_of device) };
 
@@ -127,6 +128,7 @@ impl<W: SteadyWrite> Sink for HostOut<W> {
         ensures taken { OnOk result (W.contents (writer_of self.new) ≡ append_known (W.contents (writer_of self.old)) bytes.now) }
         ensures flushes { self.new.flushes ≡ self.old.flushes }
         ensures failed { self.new.failed ≡ (self.old.failed || is_err result) }
+        ensures untold { passed_by W.contents self.new ≡ None }
         ensures writer { OnOk result (Appends (W.contents (writer_of self.old)) (W.contents (writer_of self.new)) bytes.now) }
     {
         self.passed = false;
@@ -144,6 +146,7 @@ impl<W: SteadyWrite> Sink for HostOut<W> {
         ensures passed { OnOk result (passed_by W.contents self.new ≡ W.contents (writer_of self.new)) }
         ensures flushes { self.new.flushes ≡ count_after self.old.flushes 1 }
         ensures failed { self.new.failed ≡ (self.old.failed || is_err result) }
+        ensures untold { OnErr result (passed_by W.contents self.new ≡ None) }
         ensures writer { Keeps (W.contents (writer_of self.old)) (W.contents (writer_of self.new)) }
     {
         self.flushes = self.flushes.saturating_add(1);

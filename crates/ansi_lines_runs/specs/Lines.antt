@@ -1,5 +1,5 @@
 -- The lines of a text, and what is written for them.
-use Rattle.std.specs.Prelude.{◌≡◌, ◌==◌, ℕ, List, [], ◌∷◌, ◌++◌, Bool, true, false, Option, None, Some, is_none, unwrap_or, if◌then◌else◌, ⊤}
+use Rattle.std.specs.Prelude.{◌≡◌, ◌==◌, ℕ, List, [], ◌∷◌, ◌++◌, Bool, true, false, Option, None, Some, is_none, unwrap_or, if◌then◌else◌}
 use Rattle.std.specs.List.{slice_split, flat_map, before_first, position_from}
 use Rattle.std.specs.Io.KnownBytes.{append_known}
 use Rattle.ansi_str.specs.Plain.{plain}
@@ -73,18 +73,10 @@ pub record WritesBeginning (old new : Option (List ℕ)) (all : List ℕ) : Type
   pub taken : new ≡ append_known old part
   pub whole : all ≡ part ++ rest
 
--- writing stops since a write or flush failed, or for want of memory, where this much is so and none has failed
+-- writing stops since a write failed, or for want of memory, where this much is so and none has failed
 abbrev pub StopsWriting : Bool → Bool → Type 0 → Stop → Type 0
 StopsWriting failed_before failed_after so_far WriteFailed = failed_after ≡ true
 StopsWriting failed_before failed_after so_far OutOfMemory = so_far × (failed_after ≡ failed_before)
 StopsWriting failed_before failed_after so_far BadInput = ⊥
 StopsWriting failed_before failed_after so_far BadWords = ⊥
 StopsWriting failed_before failed_after so_far (Refused line) = ⊥
-
--- answering a text stops as writing does, or at a refused line
-abbrev pub StopsAnswering : Bool → Bool → Type 0 → Stop → Type 0
-StopsAnswering failed_before failed_after so_far WriteFailed = failed_after ≡ true
-StopsAnswering failed_before failed_after so_far OutOfMemory = so_far × (failed_after ≡ failed_before)
-StopsAnswering failed_before failed_after so_far (Refused line) = ⊤
-StopsAnswering failed_before failed_after so_far BadInput = ⊥
-StopsAnswering failed_before failed_after so_far BadWords = ⊥

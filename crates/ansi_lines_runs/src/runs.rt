@@ -2,14 +2,13 @@
 ghost use Rattle.std.specs.Prelude.{◌≡◌, ◌≤◌, ◌+◌, ◌⊎◌, false, true, IfErr, IfOk, IfSome, IsErr, IsErrOf, IsNone, IsOk, IsSome, OnOk};
 ghost use Rattle.std.specs.Io.KnownBytes.{append_known};
 ghost use Rattle.ansi_lines_io.specs.Devices.{count_after};
-ghost use Rattle.ansi_lines_runs.specs.Jobs.{work_of};
-ghost use Rattle.ansi_lines_runs.specs.Lines.{answers, first_refused, StopsAnswering, StopsWriting, WritesBeginning};
+ghost use Rattle.ansi_lines_runs.specs.Lines.{WritesBeginning};
 ghost use Rattle.ansi_lines_io.specs.Reading.{max_reads, IsBadInput, IsGivenUp, IsRead, IsUnfit};
 ghost use Rattle.ansi_lines_runs.specs.Runs.{AreBadWords, AreGoodWords, IfAnswered, IfOutput, IfRun, MatchesWords, output_of, refused_line, told, words_of};
 ghost use Rattle.ansi_lines_io.specs.Stops.{refusal};
 
 use crate::lines::write_lines;
-use crate::words::{Job, parse};
+use crate::words::parse;
 use ansi_lines_io::devices::{Sink, Source};
 use ansi_lines_io::reading::read_text;
 use ansi_lines_io::stop::Stop;
@@ -51,19 +50,14 @@ pub fn run<A: Allocator, S: Source, W: Sink, V: Sink>(
 ) -> u8
     ensures statuses { result ≤ 5 }
 
-    // All that the words make of the input is written and passed on.
-    ensures done { result ≡ 0 → IfSome (S.left input.old) (λ bytes.
+    // All that the words make of the input, up to a refused line, is written and passed on.
+    ensures done { result ≤ 1 → IfSome (S.left input.old) (λ bytes.
         W.taken output.new ≡ append_known (W.taken output.old) (output_of (words_of words.now) bytes)) }
-    ensures passed { result ≡ 0 → W.passed output.new ≡ W.taken output.new }
+    ensures passed { result ≤ 1 → W.passed output.new ≡ W.taken output.new }
     ensures none_refused { result ≡ 0 → IfSome (S.left input.old) (λ bytes.
         IsNone (refused_line (words_of words.now) bytes)) }
-
-    // Before a refused line is told of, all that comes of the lines before it is written and passed on.
     ensures refused { result ≡ 1 → IfSome (S.left input.old) (λ bytes.
         IsSome (refused_line (words_of words.now) bytes)) }
-    ensures done_before { result ≡ 1 → IfSome (S.left input.old) (λ bytes.
-        W.taken output.new ≡ append_known (W.taken output.old) (output_of (words_of words.now) bytes)) }
-    ensures passed_before { result ≡ 1 → W.passed output.new ≡ W.taken output.new }
 
     // Bad words are told of before anything is read or written.
     ensures bad_words { result ≡ 2 → AreBadWords (words_of words.now) }
@@ -124,19 +118,14 @@ pub fn run_buffered<A: Allocator, S: Source, W: Sink, V: Sink>(
 ) -> u8
     ensures statuses { result ≤ 5 }
 
-    // All that the words make of the input is written and passed on.
-    ensures done { result ≡ 0 → IfRun words.now output.old output.new (S.left input.old) (λ words bytes old new.
+    // All that the words make of the input, up to a refused line, is written and passed on.
+    ensures done { result ≤ 1 → IfRun words.now output.old output.new (S.left input.old) (λ words bytes old new.
         W.taken new ≡ append_known (W.taken old) (output_of words bytes)) }
-    ensures passed { result ≡ 0 → IfOutput output.old output.new (λ old new. W.passed new ≡ W.taken new) }
+    ensures passed { result ≤ 1 → IfOutput output.old output.new (λ old new. W.passed new ≡ W.taken new) }
     ensures none_refused { result ≡ 0 → IfRun words.now output.old output.new (S.left input.old) (λ words bytes old new.
         IsNone (refused_line words bytes)) }
-
-    // Before a refused line is told of, all that comes of the lines before it is written and passed on.
     ensures refused { result ≡ 1 → IfRun words.now output.old output.new (S.left input.old) (λ words bytes old new.
         IsSome (refused_line words bytes)) }
-    ensures done_before { result ≡ 1 → IfRun words.now output.old output.new (S.left input.old) (λ words bytes old new.
-        W.taken new ≡ append_known (W.taken old) (output_of words bytes)) }
-    ensures passed_before { result ≡ 1 → IfOutput output.old output.new (λ old new. W.passed new ≡ W.taken new) }
 
     // Words that are bad, or can't be read, are told of before anything is read or written.
     ensures unread_words { IsErr words.now → result ≡ 2 }
@@ -237,55 +226,10 @@ fn perform<A: Allocator, S: Source, W: Sink>(
 {
     let job = parse(alloc, words)?.ok_or(Stop::BadWords)?;
     let text = read_text(alloc, input)?;
-    answer_text(alloc, &job, text.as_str(), output)
-}
-
-// Writes what the job makes of each line, up to one that is refused, and passes it on.
-fn answer_text<A: Allocator + Copy, W: Sink>(
-    alloc: A,
-    job: &Job<'_, A>,
-    text: &str,
-    output: &mut W,
-) -> Result<(), Stop>
-    ensures done { IfAnswered result (λ _. W.taken output.new ≡ append_known (W.taken output.old) (answers (work_of job.now) text.now)) }
-    ensures passed { IfAnswered result (λ _.
-        (W.passed output.new ≡ W.taken output.new)
-        × (W.failed output.new ≡ W.failed output.old)
-        × (W.flushes output.new ≡ count_after (W.flushes output.old) 1)) }
-    ensures refused { IfAnswered result (λ line. line ≡ first_refused 1 (work_of job.now) text.now) }
-    ensures flushed_at_most_once { (W.flushes output.new ≡ W.flushes output.old) ⊎
-        (W.flushes output.new ≡ count_after (W.flushes output.old) 1) }
-    ensures stopped { IfErr result (StopsAnswering (W.failed output.old) (W.failed output.new)
-        (WritesBeginning (W.taken output.old) (W.taken output.new) (answers (work_of job.now) text.now) ×
-        (W.flushes output.new ≡ W.flushes output.old))) }
-{
-    let refused = pass_on_lines(alloc, job, text, output)?;
+    let refused = write_lines(alloc, &job, text.as_str(), output)?;
+    output.flush()?;
     match refused {
         Some(line) => Err(Stop::Refused(line)),
         None => Ok(()),
     }
-}
-
-// Writes and flushes what the job makes of each line, and answers the number of the one that is refused.
-fn pass_on_lines<A: Allocator + Copy, W: Sink>(
-    alloc: A,
-    job: &Job<'_, A>,
-    text: &str,
-    output: &mut W,
-) -> Result<Option<usize>, Stop>
-    ensures done { OnOk result (W.taken output.new ≡ append_known (W.taken output.old) (answers (work_of job.now) text.now)) }
-    ensures passed { OnOk result (
-        (W.passed output.new ≡ W.taken output.new)
-        × (W.failed output.new ≡ W.failed output.old)
-        × (W.flushes output.new ≡ count_after (W.flushes output.old) 1)) }
-    ensures refused { IfOk result (λ line. line ≡ first_refused 1 (work_of job.now) text.now) }
-    ensures flushed_at_most_once { (W.flushes output.new ≡ W.flushes output.old) ⊎
-        (W.flushes output.new ≡ count_after (W.flushes output.old) 1) }
-    ensures stopped { IfErr result (StopsWriting (W.failed output.old) (W.failed output.new)
-        (WritesBeginning (W.taken output.old) (W.taken output.new) (answers (work_of job.now) text.now) ×
-        (W.flushes output.new ≡ W.flushes output.old))) }
-{
-    let refused = write_lines(alloc, job, text, output)?;
-    output.flush()?;
-    Ok(refused)
 }

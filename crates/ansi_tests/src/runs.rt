@@ -3,6 +3,7 @@
 mod devices;
 mod hosts;
 mod memory;
+pub mod statuses;
 
 use crate::tests::expect;
 use ansi_lines_io::page::{Outcome, Page};

@@ -1,130 +1,115 @@
-//! Runs over readers and writers of std that fail: what no clause can say of them, since std's say nothing of an error.
-use super::{ROOM, owned};
+//! The devices over readers and writers of std that fail: what no clause can say of them, since std's say nothing of an error.
 use crate::tests::expect;
+use ansi_lines_io::devices::{ReadFault, Sink, Source};
 use ansi_lines_io::host::{HostIn, HostOut, SteadyWrite};
-use ansi_lines_io::page::Page;
-use ansi_lines_runs::runs::run_buffered;
-use std::alloc::{AllocError, Global};
 use std::io::{self, Error, ErrorKind, Read, Write};
 use std::process::Abort;
-use std::test::Fail;
 
-// A reader whose first reads fail with errors of these kinds, and which is then at its end.
+// The kinds of the errors that a reader's reads end with in turn, and the fault that each is.
+static FAULTS: [(ErrorKind, ReadFault); 7] = [
+    (ErrorKind::Interrupted, ReadFault::Interrupted),
+    (ErrorKind::Interrupted, ReadFault::Interrupted),
+    (ErrorKind::WouldBlock, ReadFault::Failed),
+    (ErrorKind::Interrupted, ReadFault::Interrupted),
+    (ErrorKind::BrokenPipe, ReadFault::Failed),
+    (ErrorKind::TimedOut, ReadFault::Failed),
+    (ErrorKind::Other, ReadFault::Failed),
+];
+
+// A reader whose reads fail so, and which is then at its end.
 #[derive(Drop)]
 struct Failing {
-    kinds: &'static [ErrorKind],
     reads: usize,
 }
 
 impl Read for Failing {
     fn read(&mut self, _: &mut [u8]) -> io::Result<usize> {
-        let kind = self.kinds.get(self.reads);
+        let failure = FAULTS.get(self.reads);
         self.reads = self.reads.saturating_add(1);
-        match kind {
-            Some(kind) => Err(Error::from(*kind)),
+        match failure {
+            Some((kind, _)) => Err(Error::from(*kind)),
             None => Ok(0),
         }
     }
 }
 
-// A writer that takes all bytes, counts its flushes, and may fail each.
-#[derive(Drop)]
-struct Flushing {
-    fails: bool,
-    flushes: usize,
+fn expect_fault(rt: &impl Abort, device: &mut HostIn<Failing>, row: &(ErrorKind, ReadFault)) {
+    let (kind, fault) = *row;
+    let read = device.read(&mut [0]);
+    expect(rt, read == Err(fault), "the fault of a read", kind);
 }
 
-impl Write for Flushing {
-    fn write(&mut self, bytes: &[u8]) -> io::Result<usize> {
-        Ok(bytes.len())
+#[test]
+fn a_reader_of_std_fails_by_the_kind_of_its_error(rt: HostRuntime) {
+    let mut device = HostIn::new(Failing { reads: 0 });
+    for row in &FAULTS {
+        expect_fault(&rt, &mut device, row);
     }
+    let read = device.read(&mut [0]);
+    expect(&rt, read == Ok(0), "a read at the end", FAULTS.len());
+}
 
-    fn flush(&mut self) -> io::Result<()> {
-        self.flushes = self.flushes.saturating_add(1);
-        if self.fails {
+// A writer whose first calls work or fail as told.
+#[derive(Drop)]
+struct Told {
+    works: [bool; 3],
+    calls: usize,
+}
+
+impl Told {
+    fn end_call(&mut self) -> io::Result<()> {
+        let works = self.works.get(self.calls).copied();
+        self.calls = self.calls.saturating_add(1);
+        if works == Some(false) {
             return Err(Error::from(ErrorKind::StorageFull));
         }
         Ok(())
     }
 }
 
-impl SteadyWrite for Flushing {
+impl Write for Told {
+    fn write(&mut self, bytes: &[u8]) -> io::Result<usize> {
+        self.end_call()?;
+        Ok(bytes.len())
+    }
+
+    fn flush(&mut self) -> io::Result<()> {
+        self.end_call()
+    }
+}
+
+impl SteadyWrite for Told {
     ghost use Rattle.std.specs.Prelude.{refl};
 
     ghost tell_alike = { λ _ _. refl };
 }
 
-// The status of a run of `strip` from a reader into a writer. It says nothing of what the run does, so that its callers are
-// quick to prove.
-fn status_over(
-    alloc: Global,
-    reader: &mut Failing,
-    writer: &mut Flushing,
-) -> Result<u8, AllocError> {
-    let words = Ok(owned(alloc, &["strip"])?);
-    let mut output = Ok(HostOut::new(writer));
-    let mut faults = Page::with_room(alloc, ROOM)?;
-    Ok(run_buffered(
-        alloc,
-        &words,
-        &mut HostIn::new(reader),
-        &mut output,
-        &mut faults,
-    ))
-}
-
-// The kinds of the errors of the first reads, the status, and how many reads are made.
-type ReadRow = (&'static [ErrorKind], u8, usize);
-
-static READ_ROWS: [ReadRow; 5] = [
-    (&[], 0, 1),
-    (&[ErrorKind::Interrupted, ErrorKind::Interrupted], 0, 3),
-    (&[ErrorKind::WouldBlock], 3, 1),
-    (&[ErrorKind::BrokenPipe], 3, 1),
-    (&[ErrorKind::Interrupted, ErrorKind::TimedOut], 3, 2),
+// Whether a write works, and two flushes after it.
+static WORKS: [[bool; 3]; 8] = [
+    [true, true, true],
+    [true, true, false],
+    [true, false, true],
+    [true, false, false],
+    [false, true, true],
+    [false, true, false],
+    [false, false, true],
+    [false, false, false],
 ];
 
-fn expect_reads(rt: &impl Abort, alloc: Global, row: &ReadRow) -> Result<(), Fail> {
-    let (kinds, status, reads) = *row;
-    let mut reader = Failing { kinds, reads: 0 };
-    let mut writer = Flushing {
-        fails: false,
-        flushes: 0,
-    };
-    let ended = status_over(alloc, &mut reader, &mut writer)?;
-    expect(rt, ended == status, "status", kinds);
-    expect(rt, reader.reads == reads, "reads", kinds);
-    Ok(())
+fn expect_calls(rt: &impl Abort, works: [bool; 3]) {
+    let mut writer = Told { works, calls: 0 };
+    let mut device = HostOut::new(&mut writer);
+    let written = device.write(b"a").is_ok();
+    let flushed = device.flush().is_ok();
+    let flushed_again = device.flush().is_ok();
+    let ended = [written, flushed, flushed_again];
+    expect(rt, ended == works, "the calls of the device", works);
+    expect(rt, writer.calls == 3, "the calls of the writer", works);
 }
 
 #[test]
-fn a_reader_of_std_is_read_again_after_an_interruption_alone(rt: HostRuntime) -> Result<(), Fail> {
-    for row in &READ_ROWS {
-        expect_reads(&rt, rt.alloc(), row)?;
+fn a_writer_of_std_is_asked_once_a_call(rt: HostRuntime) {
+    for works in &WORKS {
+        expect_calls(&rt, *works);
     }
-    Ok(())
-}
-
-// Whether flushes fail, and the status.
-static FLUSH_ROWS: [(bool, u8); 2] = [(false, 0), (true, 4)];
-
-fn expect_flush(rt: &impl Abort, alloc: Global, row: &(bool, u8)) -> Result<(), Fail> {
-    let (fails, status) = *row;
-    let mut reader = Failing {
-        kinds: &[],
-        reads: 0,
-    };
-    let mut writer = Flushing { fails, flushes: 0 };
-    let ended = status_over(alloc, &mut reader, &mut writer)?;
-    expect(rt, ended == status, "status", fails);
-    expect(rt, writer.flushes == 1, "flushes", fails);
-    Ok(())
-}
-
-#[test]
-fn a_writer_of_std_is_flushed_once(rt: HostRuntime) -> Result<(), Fail> {
-    for row in &FLUSH_ROWS {
-        expect_flush(&rt, rt.alloc(), row)?;
-    }
-    Ok(())
 }
