@@ -1,22 +1,21 @@
 //! Answers a text line by line.
-ghost use Rattle.std.specs.Prelude.{◌≡◌, ◌<◌, [], length, IfErr, IfNone, IfOk, IfSome, OnOk};
-ghost use Rattle.std.specs.Option.{option_map};
-ghost use Rattle.std.specs.Cow.{cow_str_bytes};
+ghost use Rattle.std.specs.Prelude.{◌≡◌, ◌<◌, ◌||◌, [], is_err, length, IfErr, IfNone, IfOk, IfSome, OnOk};
 ghost use Rattle.std.specs.Io.KnownBytes.{append_known};
+ghost use Rattle.ansi_str.specs.Plain.{plain};
 ghost use Rattle.ansi_lines_runs.specs.Jobs.{work_of};
 ghost use Rattle.ansi_lines_runs.specs.Lines.{answer_of, answers, first_refused, lines, HasFirstLine, StopsWriting, WritesAnswer, WritesBeginning};
 
 use crate::words::Job;
-use ansi_lines_io::devices::Sink;
+use ansi_lines_io::devices::{Sink, WriteFault};
 use ansi_lines_io::stop::Stop;
+use ansi_str::ansitok::{Kind, Scanner};
 use memchr::memchr;
-use std::alloc::{AllocError, Allocator};
-use std::borrow::CowStr;
+use std::alloc::Allocator;
 
 /// Writes the answer to each line, in order, and a line feed after each that had one. It ends
 /// before the first line that is refused, and answers that line's number, counted from 1.
 ///
-/// The memory that one line's answer takes is given back before the next.
+/// Plain text takes no memory. What an edited line takes is given back before the next.
 pub fn write_lines<A: Allocator + Copy, W: Sink>(
     alloc: A,
     job: &Job<'_, A>,
@@ -74,23 +73,31 @@ fn write_answer<A: Allocator + Copy, W: Sink>(
     ensures stopped { IfErr result (StopsWriting (W.failed output.old) (W.failed output.new)
         (W.taken output.new ≡ W.taken output.old)) }
 {
-    let Some(answer) = answer(alloc, job, line)? else {
-        return Ok(false);
-    };
-    output.write(answer.as_bytes())?;
-    Ok(true)
+    match job {
+        Job::Strip => {
+            write_plain(line, output)?;
+            Ok(true)
+        }
+        Job::Edits(edits) => {
+            let Some(edited) = ansi_str::edit(alloc, line, edits.as_slice())? else {
+                return Ok(false);
+            };
+            output.write(edited.as_bytes())?;
+            Ok(true)
+        }
+    }
 }
 
-// What the job makes of a line's text, or `None` where the line is refused.
-fn answer<'t, A: Allocator + Copy>(
-    alloc: A,
-    job: &Job<'_, A>,
-    line: &'t str,
-) -> Result<Option<CowStr<'t, A>>, AllocError>
-    ensures { IfOk result (λ found. option_map cow_str_bytes found ≡ answer_of (work_of job.now) line.now) }
+// Writes the plain text of a line run by run, so that it takes no memory.
+fn write_plain<W: Sink>(line: &str, output: &mut W) -> Result<(), WriteFault>
+    ensures taken { OnOk result (W.taken output.new ≡ append_known (W.taken output.old) (plain line.now)) }
+    ensures flushes { W.flushes output.new ≡ W.flushes output.old }
+    ensures failed { W.failed output.new ≡ (W.failed output.old || is_err result) }
 {
-    match job {
-        Job::Strip => Ok(Some(ansi_str::slice::strip_in(alloc, line)?)),
-        Job::Edits(edits) => ansi_str::edit(alloc, line, edits.as_slice()),
+    for item in Scanner::new(line) {
+        if item.kind == Kind::Text {
+            output.write(line[item.start..item.end].as_bytes())?;
+        }
     }
+    Ok(())
 }
