@@ -195,16 +195,16 @@ impl<'a, A: Allocator + Copy> Iterator for AnsiBlockIter<'a, A> {
     ghost remaining = { item_count (λ blocks. blocks) };
 
     /// The next block; or an `Err` where memory is wanting; or `None`.
+    #[inline(always)]
     fn next(&mut self) -> Option<Result<AnsiBlock<'a, A>, AllocError>> {
         let text = self.rest;
         // Nothing is left, unless a block is made.
         self.rest = "";
-        let run = first_run(text, self.style)?;
+        let run = first_run(text, &mut self.style)?;
         match block_text(self.alloc, text, &run) {
             Ok(text) => {
                 self.rest = run.rest;
-                self.style = run.style;
-                let style = run.style;
+                let style = self.style;
                 Some(Ok(AnsiBlock { text, style }))
             }
             Err(e) => Some(Err(e)),
@@ -216,18 +216,18 @@ impl<'a, A: Allocator + Copy> Iterator for AnsiBlockIter<'a, A> {
 #[derive(Clone, Copy)]
 struct Run<'a> {
     text: &'a str,
-    style: Style,
     /// Whether a sequence that is no SGR waits for it.
     is_awaited: bool,
     /// The text after it.
     rest: &'a str,
 }
 
-/// The first run of a text, where `style` is the style before the text.
-fn first_run(text: &str, mut style: Style) -> Option<Run<'_>>
-    ensures none { IfNone result (blocks_from (rendition_of style) text.now ≡ []) }
-    ensures first { IfSome result (λ run. blocks_from (rendition_of style) text.now
-        ≡ block_after (waiting text.now 0) run.text.now (rendition_of run.style) ∷ blocks_from (rendition_of run.style) run.rest.now) }
+/// The first run of a text. `style` is the style before the text, and becomes that of the run.
+#[inline(always)]
+fn first_run<'a>(text: &'a str, style: &mut Style) -> Option<Run<'a>>
+    ensures none { IfNone result (blocks_from (rendition_of style.old) text.now ≡ []) }
+    ensures first { IfSome result (λ run. blocks_from (rendition_of style.old) text.now
+        ≡ block_after (waiting text.now 0) run.text.now (rendition_of style.new) ∷ blocks_from (rendition_of style.new) run.rest.now) }
     ensures awaited { IfSome result (λ run. run.is_awaited ≡ not (length (waiting text.now 0) == 0)) }
 {
     let mut is_awaited = false;
@@ -237,12 +237,11 @@ fn first_run(text: &str, mut style: Style) -> Option<Run<'_>>
             Kind::Text => {
                 return Some(Run {
                     text: piece,
-                    style,
                     is_awaited,
                     rest: &text[item.end..],
                 });
             }
-            Kind::Sgr => styles::apply(&mut style, piece),
+            Kind::Sgr => styles::apply(style, piece),
             Kind::Other | Kind::Lone => is_awaited = true,
         }
     }

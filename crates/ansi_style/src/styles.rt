@@ -30,7 +30,7 @@ pub fn plain_style() -> Style
 }
 
 /// Does what the codes of an SGR, a whole sequence, ask for, one after another.
-#[inline]
+#[inline(always)]
 pub fn apply(style: &mut Style, sequence: &str)
     requires { IsTrue (is_sgr sequence.now) }
     ensures { rendition_of style.new ≡ apply (rendition_of style.old) sequence.now }
@@ -42,7 +42,9 @@ pub fn apply(style: &mut Style, sequence: &str)
     }
 }
 
-/// Does what the codes of these parameter bytes ask for, one after another.
+/// Does what the codes of these parameter bytes ask for, one after another. It stands apart from the quick
+/// way of one short field.
+#[inline(never)]
 fn apply_fields(style: &mut Style, parameters: &[u8])
     ensures { rendition_of style.new ≡ apply_parameters (rendition_of style.old) parameters.now }
 {

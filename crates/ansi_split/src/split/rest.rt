@@ -21,8 +21,6 @@ pub(super) struct Cut<'t> {
     pub(super) front: &'t str,
     /// Whether an ESC stands in the front.
     pub(super) is_marked: bool,
-    /// The style after the front.
-    pub(super) style: Style,
     /// The match and all that follows.
     pub(super) rest: Option<Rest<'t>>,
 }
@@ -45,13 +43,14 @@ impl<'t> Rest<'t> {
         Rest { text, run: 0 }
     }
 
-    /// The text in two at the first match that doesn't begin before `from`, read on from a style.
+    /// The text in two at the first match that doesn't begin before `from`. `style` is the style before the
+    /// front, and becomes that after it.
     #[inline(always)]
-    pub(super) fn cut_at_match(&self, pat: &str, from: usize, style: Style) -> Cut<'t>
+    pub(super) fn cut_at_match(&self, pat: &str, from: usize, style: &mut Style) -> Cut<'t>
         ensures rest { MatchOption result.rest ((first_match_from (plain self.now.text.now) pat.now from ≡ None) × (result.front.now ≡ self.now.text.now))
             (λ rest. IsCutAtMatch self.now.text.now pat.now from result.front.now rest.text.now) }
         ensures marked { result.is_marked ≡ has_escape result.front.now }
-        ensures style { rendition_of result.style ≡ style_after_from (rendition_of style) result.front.now }
+        ensures style { rendition_of style.new ≡ style_after_from (rendition_of style.old) result.front.now }
     {
         let start = next_start(self.text, self.run, pat, from);
         if start < self.run {
@@ -60,7 +59,6 @@ impl<'t> Rest<'t> {
             return Cut {
                 front,
                 is_marked: false,
-                style,
                 rest: Some(Rest { text, run }),
             };
         }
@@ -69,18 +67,19 @@ impl<'t> Rest<'t> {
 }
 
 /// The same, by a walk over the items, where no match begins before `ahead`.
+#[inline(never)]
 fn cut_from<'t>(
     text: &'t str,
     pat: &str,
     from: usize,
     mut ahead: usize,
-    mut style: Style,
+    style: &mut Style,
 ) -> Cut<'t>
     requires { first_match_from (plain text.now) pat.now ahead ≡ first_match_from (plain text.now) pat.now from }
     ensures rest { MatchOption result.rest ((first_match_from (plain text.now) pat.now from ≡ None) × (result.front.now ≡ text.now))
         (λ rest. IsCutAtMatch text.now pat.now from result.front.now rest.text.now) }
     ensures marked { result.is_marked ≡ has_escape result.front.now }
-    ensures style { rendition_of result.style ≡ style_after_from (rendition_of style) result.front.now }
+    ensures style { rendition_of style.new ≡ style_after_from (rendition_of style.old) result.front.now }
 {
     let mut is_marked = false;
     // `ahead` counts plain bytes of what is left.
@@ -96,14 +95,13 @@ fn cut_from<'t>(
                     return Cut {
                         front,
                         is_marked,
-                        style,
                         rest: Some(Rest { text: rest, run }),
                     };
                 }
                 ahead -= piece.len();
             }
             Kind::Sgr => {
-                styles::apply(&mut style, piece);
+                styles::apply(style, piece);
                 is_marked = true;
             }
             Kind::Other | Kind::Lone => is_marked = true,
@@ -118,7 +116,6 @@ fn cut_from<'t>(
     Cut {
         front: text,
         is_marked,
-        style,
         rest,
     }
 }

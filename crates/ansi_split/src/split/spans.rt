@@ -1,7 +1,7 @@
 //! The stretches of a text that its parts are written from.
 ghost use Rattle.std.specs.Prelude.{◌≡◌, ◌≤◌, ◌+◌, ◌++◌, [], length, IsTrue, IsFalse, IsOk, IfOk, OnOk, string_bytes};
 ghost use Rattle.std.specs.Option.{MatchOption};
-ghost use Rattle.ansi_items.specs.Plain.{plain, marks};
+ghost use Rattle.ansi_items.specs.Plain.{plain, marks, has_escape};
 ghost use Rattle.ansi_slice.specs.Cut.{show};
 ghost use Rattle.ansi_slice.specs.Positions.{is_char_boundary};
 ghost use Rattle.ansi_style.specs.Rendition.{plain_style};
@@ -76,7 +76,9 @@ impl<'t> Span<'t> {
     }
 
     /// The part, written: the start of the style that is carried, the text with its sequences, and the
-    /// close of the style then, where that has any.
+    /// close of the style then, where that has any. It is called by reference, so that a part that is
+    /// borrowed copies no style.
+    #[inline(never)]
     fn written<A: Allocator>(&self, alloc: A) -> Result<String<A>, AllocError>
         requires { IsFalse self.now.borrowed }
         ensures { IfOk result (λ s. string_bytes s ≡ self.now.bytes) }
@@ -88,7 +90,7 @@ impl<'t> Span<'t> {
             .saturating_add(STYLE_ROOM);
         let mut part = String::with_capacity(alloc, room)?;
         styles::write_start(&self.carried, &mut part)?;
-        write_text(self.text, self.skip, &mut part)?;
+        write_text(self.text, self.is_marked, self.skip, &mut part)?;
         if styles::has_any(&self.after) {
             styles::write_close(&self.after, &mut part)?;
         }
@@ -100,12 +102,17 @@ impl<'t> Span<'t> {
 /// is wanting; what was appended up to there stands.
 fn write_text<A: Allocator>(
     text: &str,
+    is_marked: bool,
     mut skip: usize,
     part: &mut String<A>,
 ) -> Result<(), AllocError>
-    requires { IsTrue (is_char_boundary (plain text.now) skip) }
+    requires marked { is_marked ≡ has_escape text.now }
+    requires boundary { IsTrue (is_char_boundary (plain text.now) skip) }
     ensures { OnOk result (string_bytes part.new ≡ string_bytes part.old ++ show (plain text.now) skip (length (plain text.now)) (marks text.now)) }
 {
+    if !is_marked {
+        return part.push_str(&text[skip..]);
+    }
     for item in Scanner::new(text) {
         let piece = &text[item.start..item.end];
         if item.kind == Kind::Text {
@@ -189,20 +196,22 @@ impl<'t, 'p> Iterator for Spans<'t, 'p> {
         if self.finished {
             return None;
         }
-        let cut = self.rest.cut_at_match(self.pat, self.from, self.carried);
+        let carried = self.carried;
+        let cut = self
+            .rest
+            .cut_at_match(self.pat, self.from, &mut self.carried);
         let span = Span {
             text: cut.front,
             is_marked: cut.is_marked,
             skip: self.skip,
-            carried: self.carried,
-            after: cut.style,
+            carried,
+            after: self.carried,
         };
         match cut.rest {
             Some(rest) => {
                 self.rest = rest;
                 self.skip = self.pat.len();
                 self.from = self.pat.len().max(1);
-                self.carried = cut.style;
             }
             None => self.finished = true,
         }

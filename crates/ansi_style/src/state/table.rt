@@ -1,5 +1,5 @@
 //! The table of SGR codes (ECMA-48, section 8.3.117, and what is used beside it).
-ghost use Rattle.std.specs.Prelude.{◌≡◌, IfSome, IsTrue};
+ghost use Rattle.std.specs.Prelude.{◌≡◌, ◌⊎◌, IfSome, IsTrue};
 ghost use Rattle.ansi_style.specs.Rendition.{is_extended_color};
 ghost use Rattle.ansi_style.specs.Sgr.{effect_of_code, perform, read_color, color_by_parts, color_by_number};
 ghost use Rattle.ansi_style.specs.States.{rendition_of};
@@ -44,18 +44,9 @@ impl Style {
             28 => self.clear(Attributes::HIDE),
             29 => self.clear(Attributes::CROSSED_OUT),
             30..=37 | 90..=97 => self.foreground = Some(AnsiColor::Bit4(code)),
-            38 => {
-                if let Some(color) = read_color(fields) {
-                    self.foreground = Some(color);
-                }
-            }
+            38 | 48 | 58 => self.set_color(code, fields),
             39 => self.foreground = None,
             40..=47 | 100..=107 => self.background = Some(AnsiColor::Bit4(code)),
-            48 => {
-                if let Some(color) = read_color(fields) {
-                    self.background = Some(color);
-                }
-            }
             49 => self.background = None,
             50 => self.clear(Attributes::PROPORTIONAL_SPACING),
             51 => self.set(Attributes::FRAMED),
@@ -63,11 +54,6 @@ impl Style {
             53 => self.set(Attributes::OVERLINED),
             54 => self.clear(Attributes::FRAME),
             55 => self.clear(Attributes::OVERLINED),
-            58 => {
-                if let Some(color) = read_color(fields) {
-                    self.underline_color = Some(color);
-                }
-            }
             59 => self.underline_color = None,
             60 => self.set(Attributes::IDEOGRAM_UNDERLINE),
             61 => self.set(Attributes::IDEOGRAM_DOUBLE_UNDERLINE),
@@ -79,6 +65,22 @@ impl Style {
             74 => self.set(Attributes::SUBSCRIPT),
             75 => self.clear(Attributes::SCRIPT),
             _ => self.set(Attributes::UNKNOWN),
+        }
+    }
+
+    /// Sets the color that the code stands for to the one that the fields begin with, if they do.
+    #[inline(never)]
+    #[tactic(auto, unfolding(crate::specs::States::rendition_of))]
+    fn set_color(&mut self, code: u8, fields: &mut Fields<'_>)
+        requires { (code ≡ 38) ⊎ (code ≡ 48) ⊎ (code ≡ 58) }
+        ensures { (rendition_of self.new, fields.new) ≡ perform (effect_of_code code) (rendition_of self.old) fields.old }
+    {
+        if let Some(color) = read_color(fields) {
+            match code {
+                38 => self.foreground = Some(color),
+                48 => self.background = Some(color),
+                _ => self.underline_color = Some(color),
+            }
         }
     }
 }

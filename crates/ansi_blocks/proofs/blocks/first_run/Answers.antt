@@ -7,7 +7,7 @@ loop-item-init c =
     let begins : c.into_iter-item-iterator.result ≡ record { text = c.args.text.now; offset = 0 } = c.into_iter-item-iterator.ensures.into_iter_gives ∙ c.new-item-items.ensures.start in
     record {
       text = ap (λ s. s.text) begins;
-      so_far = rw begins (run-begin (rendition_of c.args.style) c.args.text.now);
+      so_far = rw begins (run-begin (rendition_of c.args.style.now) c.args.text.now);
     }
 
 -- over an SGR

@@ -10,7 +10,7 @@ block u s b = record { text = u; style = s; is_borrow = b }
 pub returns-in-Ok-clause-steps : goal.returns-in-Ok-clause-steps
 returns-in-Ok-clause-steps g c =
     let run = c.in_ok-run.run' in
-    let s = rendition_of run.style in
+    let s = rendition_of c.first_run.new.style in
     sym c.self.view_is ∙ c.in_ok-run.ensures.first ∙ ap₂ (λ u b. block u s b ∷ blocks_from s run.rest.now) (sym c.in-Ok.ensures.bytes) (sym c.in-Ok.ensures.borrowed)
 
 pub returns-in-Ok-clause-goes : goal.returns-in-Ok-clause-goes
@@ -20,16 +20,16 @@ returns-in-Ok-clause-goes g c =
 
 -- where no run is found no block is left, and an empty text has none
 pub returns-in_err-run-clause-steps : goal.returns-in_err-run-clause-steps
-returns-in_err-run-clause-steps g c = rw (c.from_residual.ensures, ← c.self.view_is) (c.in_err-run.ensures.none, blocks_from-nil (rendition_of c.self.inside.style))
+returns-in_err-run-clause-steps g c = rw (c.from_residual.ensures, ← c.self.view_is) (c.in_err-run.ensures.none, blocks_from-nil (rendition_of c.first_run.new.style))
 
 -- where memory is wanting the first block that was left is no borrow
 pub returns-in-Err-clause-steps : goal.returns-in-Err-clause-steps
 returns-in-Err-clause-steps g c =
-    rw (← c.self.view_is) ((_, _, c.in_ok-run.ensures.first, not_borrowed _ _ c.in_ok-run.ensures.awaited c.in-Err.ensures.takes_no_memory), blocks_from-nil (rendition_of c.self.inside.style))
+    rw (← c.self.view_is) ((_, _, c.in_ok-run.ensures.first, not_borrowed _ _ c.in_ok-run.ensures.awaited c.in-Err.ensures.takes_no_memory), blocks_from-nil (rendition_of c.first_run.new.style))
 
 -- nothing is left after an error
 pub returns-in-Err-clause-goes : goal.returns-in-Err-clause-goes
 returns-in-Err-clause-goes g c =
     let some = ap length c.in_ok-run.ensures.first in
-    let none = ap length (blocks_from-nil (rendition_of c.self.inside.style)) in
+    let none = ap length (blocks_from-nil (rendition_of c.first_run.new.style)) in
     rw (← c.self.view_is) (record { on = λ _. (tt, tt, omega arith); keeps = tt; rests = λ _. tt })

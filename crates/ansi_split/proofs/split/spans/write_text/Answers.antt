@@ -1,18 +1,33 @@
-use Rattle.ansi_split.proofs.Common.{rules, ◌≡◌, refl, ◌∙◌, ap, subst, arith, and_parts, IsCharBoundary, is_text, gives_text, gives_mark, over_text}
-use Rattle.ansi_split.proofs.SpanWalkLemmas.{shown-begin, shown-mark, shown-skip, shown-rest, shown-boundary, shown-end}
+use Rattle.ansi_split.proofs.Common.{rules, ◌≡◌, ℕ, List, ◌++◌, if◌then◌else◌, string_bytes, sym, refl, ◌∙◌, ap, subst, arith, and_parts, IsCharBoundary, is_text, gives_text, gives_mark, over_text}
+use Rattle.std.specs.Prelude.{Result, Ok, Err}
+use Rattle.std.specs.Result.{OnOk, is_ok}
+use Rattle.ansi_split.proofs.SpanWalkLemmas.{shown-bare, boundary-bare, shown-begin, shown-mark, shown-skip, shown-rest, shown-boundary, shown-end}
 use Rattle.ansi_split.proofs.split.spans.write_text.Goals as goal
+
+-- without a sequence, what follows the plain bytes that are left out stands as it is
+pub range_from-requires : goal.range_from-requires
+range_from-requires g c = λ some. boundary-bare c.args.text.now c.args.skip (sym c.requires.marked ∙ c.if-not-is_marked.true) c.requires.boundary
+
+pushed : {E : Type 0} (old new more all : List ℕ) (r : Result (Unit {0}) E) → new ≡ (if is_ok r then more else old) → more ≡ all → OnOk r (new ≡ all)
+pushed old new more all (Ok x) is same = is ∙ same
+pushed old new more all (Err e) is same = tt
+
+pub returns-then-not-is_marked : goal.returns-then-not-is_marked
+returns-then-not-is_marked g c =
+    pushed _ _ _ _ c.push_str.result c.push_str.ensures.bytes
+    (ap (λ v. string_bytes c.args.part.now ++ v) (c.range_from.ensures.value ∙ sym (shown-bare c.args.text.now c.args.skip (sym c.requires.marked ∙ c.if-not-is_marked.true))))
 
 pub loop-item-init : goal.loop-item-init
 loop-item-init g c =
     let begins : c.into_iter-item-iterator.result ≡ record { text = c.args.text.now; offset = 0 } = c.into_iter-item-iterator.ensures.into_iter_gives ∙ c.new-item-items.ensures.start in
     record {
       text = ap (λ s. s.text) begins;
-      so_far = rw begins (shown-begin _ c.args.skip _ (and_parts _ _ c.requires).1);
+      so_far = rw begins (shown-begin _ c.args.skip _ (and_parts _ _ c.requires.boundary).1);
     }
 
 -- the plain bytes that are left out end at a character
-pub range_from-requires : goal.range_from-requires
-range_from-requires g c =
+pub range_from-requires-then-skip-piece : goal.range_from-requires-then-skip-piece
+range_from-requires-then-skip-piece g c =
     let t = c.args.text.now in
     let gives = c.in-Some.ensures.steps in
     let over = over_text gives c.loop-item.invariant.text c.range-piece.ensures.value (is_text c.if-eq.ensures) in
@@ -24,7 +39,7 @@ pub returns-then-skip-piece : goal.returns-then-skip-piece
 returns-then-skip-piece g c =
     let gives = c.in-Some.ensures.steps in
     let over = over_text gives c.loop-item.invariant.text c.range-piece.ensures.value (is_text c.if-eq.ensures) in
-    shown-rest c.loop-item.invariant.so_far over (omega arith) gives.start c.range_from.ensures.value c.in_ok-push_str.ensures.bytes
+    shown-rest c.loop-item.invariant.so_far over (omega arith) gives.start c.range_from-then-skip-piece.ensures.value c.in_ok-push_str.ensures.bytes
 
 -- over a text that is left out
 pub loop-item-preserved-then-eq : goal.loop-item-preserved-then-eq

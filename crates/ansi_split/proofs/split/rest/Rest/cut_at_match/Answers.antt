@@ -21,5 +21,5 @@ returns-then-start-self c =
     record {
       rest = rw (c.split_at.ensures.front, c.split_at.ensures.back) (c.next_start-start.ensures.cut c.if-start-self.true);
       marked = rw c.split_at.ensures.front (unmarked-run s.text.now start s.run before s.run_is_plain);
-      style = rw c.split_at.ensures.front (style-run (rendition_of c.args.style) s.text.now start s.run before s.run_is_plain);
+      style = rw c.split_at.ensures.front (style-run (rendition_of c.args.style.now) s.text.now start s.run before s.run_is_plain);
     }

@@ -1,4 +1,5 @@
-use Rattle.ansi_split.proofs.Common.{◌≡◌, ◌≤◌, ◌==◌, false, IsTrue, IsFalse, sym, ◌∙◌, ap, subst, arith, length, and_parts, leb-true, eqb-true, eqb-false, ne_eqb, length-drop, has_escape, is_char_boundary, rendition_of, IsStyle-rendition_of, plain-bare, good_is_boundary, SplitPart}
+use Rattle.ansi_split.proofs.Common.{◌≡◌, ◌≤◌, ◌==◌, false, IsFalse, sym, ◌∙◌, ap, arith, length, eqb-true, eqb-false, ne_eqb, length-drop, has_escape, rendition_of, IsStyle-rendition_of, SplitPart}
+use Rattle.ansi_split.proofs.SpanWalkLemmas.{boundary-bare}
 use Rattle.ansi_split.proofs.SplitLemmas.{IsBare, owned-escape, owned-styled, bare-empty, bare-unstyled}
 use Rattle.ansi_split.proofs.PartLengthLemmas.{length-span_part}
 use Rattle.ansi_split.proofs.split.spans.Span.bare.Goals as goal
@@ -18,9 +19,7 @@ returns-then-self c =
 pub range_from-bare-requires : goal.range_from-bare-requires
 range_from-bare-requires c =
     let s = c.self.inside in
-    let none : IsFalse (has_escape s.text.now) = sym c.self.invariant.marked ∙ c.if-self.false in
-    let both = and_parts _ _ (subst (λ x. IsTrue (is_char_boundary x s.skip)) (plain-bare s.text.now none) c.self.invariant.skip_is_boundary) in
-    λ some. good_is_boundary s.text.now s.skip (leb-true s.skip (length s.text.now) both.0) both.1
+    λ some. boundary-bare s.text.now s.skip (sym c.self.invariant.marked ∙ c.if-self.false) c.self.invariant.skip_is_boundary
 
 pub returns-then-is_empty : goal.returns-then-is_empty
 returns-then-is_empty c =
@@ -28,8 +27,8 @@ returns-then-is_empty c =
     let style = rendition_of s.carried in
     let t = s.text.now in
     let none : IsFalse (has_escape t) = sym c.self.invariant.marked ∙ c.if-self.false in
-    let both = and_parts _ _ (subst (λ x. IsTrue (is_char_boundary x s.skip)) (plain-bare t none) c.self.invariant.skip_is_boundary) in
-    let inside : s.skip ≤ length t = leb-true s.skip (length t) both.0 in
+    let boundary = boundary-bare t s.skip none c.self.invariant.skip_is_boundary in
+    let inside : s.skip ≤ length t = boundary.0 in
     let bare : IsBare style t s.skip = elim c.then-is_empty.branch [
       | then-is_empty-via-then-is_empty empty ↦ (
           let nothing : length c.range_from-bare.result.now ≡ 0 = eqb-true _ 0 (sym c.is_empty.ensures ∙ empty.if-is_empty.true) in

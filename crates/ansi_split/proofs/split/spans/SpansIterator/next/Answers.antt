@@ -41,7 +41,7 @@ returns-clause-steps c =
       | in-Some w ↦ (
           let after = w.in-Some.rest.text.now in
           let at : IsCutAtMatch t p s.from front after = rw w.in-Some.is at cut.ensures.rest in
-          let later = parts_left (rendition_of cut.result.style) after p (length p) w.max-self-inside.result in
+          let later = parts_left (rendition_of cut.new.style) after p (length p) w.max-self-inside.result in
           let goes_on : parts_left (style_after_from style front) after p (length p) (max (length p) 1) ≡ (if s.finished then [] else later)
           = ap₂ (λ r n. parts_left r after p (length p) n) (sym cut.ensures.style) (sym w.max-self-inside.ensures) ∙ sym (ap (λ b. if b then [] else later) c.if-self.false) in
           left ∙ parts_left-first style t p s.skip s.from front after at ∙ ap (λ ps. span_part style front s.skip ∷ ps) (goes_on ∙ sym w.self-is))
