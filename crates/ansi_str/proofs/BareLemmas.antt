@@ -153,7 +153,7 @@ edited_has_no_escape (e ∷ es) t none = next (edited_by e t) (edited_by_has_no_
 -- the bytes of the slice that they name
 pub edited-bare : (es : List Change) (t : List ℕ) → IsFalse (has_escape t) → edited es t ≡ option_map bytes_of (meaning es (styled t))
 edited-bare es t none =
-    sym (ap (option_map bytes_of) (edited_is_slice es t (is_whole-bare t none)).0 ∙ over (edited es t) (edited_has_no_escape es t none))
+    sym (ap (option_map bytes_of) (edited_is_slice es t (is_whole-bare t none)).slice ∙ over (edited es t) (edited_has_no_escape es t none))
   where
     over : (o : Option (List ℕ)) → IfSome o (λ u. IsFalse (has_escape u)) → option_map bytes_of (option_map styled o) ≡ o
     over None is = refl

@@ -1,5 +1,5 @@
 -- What changes in turn make of a whole text is the slice of its styled bytes that they name, whole, and closed where one of them closes.
-use Rattle.ansi_str.proofs.Common.{◌≡◌, Bool, true, false, ◌||◌, List, [], ◌∷◌, ℕ, Option, Some, None, refl, sym, ◌∙◌, ap, subst, IsTrue, if◌then◌else◌, IfSome, option_and_then, list_any, cond-true, is_whole, plain_style, StyledByte, styled, residue, Change, slice_of, meaning, edited_by, edited, closes, IsSliceNamed}
+use Rattle.ansi_str.proofs.Common.{◌≡◌, Bool, true, false, ◌||◌, List, [], ◌∷◌, ℕ, Option, Some, None, refl, sym, ◌∙◌, ap, subst, IsTrue, if◌then◌else◌, IfSome, option_map, option_and_then, list_any, cond-true, is_whole, plain_style, StyledByte, styled, residue, Change, slice_of, meaning, edited_by, edited, closes, IsSliceNamed}
 use Rattle.ansi_str.proofs.ChangeLemmas.{IsAnswer, edited_by_answers}
 
 -- a change, and then others of what it gave
@@ -30,12 +30,11 @@ edited_answers (e ∷ es) t whole =
 -- Of changes in turn.
 
 pub edited_is_slice : (es : List Change) (t : List ℕ) → IsTrue (is_whole t) → IsSliceNamed es t (edited es t)
-edited_is_slice es t whole = (let answers = edited_answers es t whole in (answers.0, closed (edited es t) answers.1))
+edited_is_slice es t whole = (let answers = edited_answers es t whole in named (edited es t) answers.0 answers.1)
   where
-    closed : (o : Option (List ℕ)) → IfSome o (λ u. IsTrue (is_whole u) × (residue u ≡ (if list_any closes es then plain_style else residue t)))
-        → IfSome o (λ u. IsTrue (is_whole u) × (IsTrue (list_any closes es) → residue u ≡ plain_style))
-    closed None is = tt
-    closed (Some u) is = (is.0, λ any. is.1 ∙ cond-true (list_any closes es) plain_style (residue t) any)
+    named : (o : Option (List ℕ)) → meaning es (styled t) ≡ option_map styled o → IfSome o (λ u. IsTrue (is_whole u) × (residue u ≡ (if list_any closes es then plain_style else residue t))) → IsSliceNamed es t o
+    named None slice is = record { slice = slice; whole = tt; closed = tt }
+    named (Some u) slice is = record { slice = slice; whole = is.0; closed = λ any. is.1 ∙ cond-true (list_any closes es) plain_style (residue t) any }
 
 -- what is known at the end: nothing where one of them closes, else what the text leaves open
 pub residue-edited : (es : List Change) (t u : List ℕ) → IsTrue (is_whole t) → edited es t ≡ Some u → residue u ≡ (if list_any closes es then plain_style else residue t)

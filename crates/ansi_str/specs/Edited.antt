@@ -57,7 +57,8 @@ abbrev pub stay_borrowed : List Change → List ℕ → Bool
 stay_borrowed [] t = true
 stay_borrowed (e ∷ es) t = option_map_or (λ u. gives_borrow e t && stay_borrowed es u) (edited_by e t) true
 
--- the headline: the answer is None exactly where the changes are refused; else it is a whole text, its styled bytes are the slice that the changes name, and after a cut, a side or a part no known style is open at its end (own)
-abbrev pub IsSliceNamed : List Change → List ℕ → Option (List ℕ) → Type 0
-IsSliceNamed es t answer = (meaning es (styled t) ≡ option_map styled answer)
-    × IfSome answer (λ u. IsTrue (is_whole u) × (IsTrue (list_any closes es) → residue u ≡ plain_style))
+-- the headline: the answer is None exactly where the changes are refused, and else its styled bytes are the slice that the changes name; it is a whole text; and after a cut, a side or a part no known style is open at its end (own)
+pub record IsSliceNamed (es : List Change) (t : List ℕ) (answer : Option (List ℕ)) : Type 0 where
+  pub slice : meaning es (styled t) ≡ option_map styled answer
+  pub whole : IfSome answer (λ u. IsTrue (is_whole u))
+  pub closed : IfSome answer (λ u. IsTrue (list_any closes es) → residue u ≡ plain_style)

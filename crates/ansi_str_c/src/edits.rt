@@ -5,11 +5,10 @@ ghost use Rattle.std.specs.Str.{is_utf8};
 ghost use Rattle.std.specs.Cow.{cow_str_bytes, IsBorrowedStr};
 ghost use Rattle.ansi_str.specs.Edited.{edited_by, edited, gives_borrow, stay_borrowed};
 ghost use Rattle.ansi_str.specs.Edits.{change_of};
-ghost use Rattle.ansi_str_c.specs.Answers.{no, refused, not_utf8, OnUtf8, HasFailed, GivesEdited};
+ghost use Rattle.ansi_str_c.specs.Answers.{refused, not_utf8, OnUtf8, HasFailed, GivesEdited};
 ghost use Rattle.ansi_str_c.specs.Steps.{change_of_step, patterns_of};
 
-use crate::answers::{Answer, NO, NOT_UTF8, REFUSED, write_found};
-use crate::texts::write_edited;
+use crate::answers::{Answer, NOT_UTF8, REFUSED, write_found};
 use ansi_str::{Edit, edit};
 use simdutf8::basic::from_utf8;
 use std::alloc::{AllocError, Global};
@@ -21,11 +20,11 @@ const LEFT: u32 = 1;
 
 const RIGHT: u32 = 2;
 
-pub(crate) const PART: u32 = 3;
+const PART: u32 = 3;
 
-pub(crate) const PREFIX: u32 = 4;
+const PREFIX: u32 = 4;
 
-pub(crate) const SUFFIX: u32 = 5;
+const SUFFIX: u32 = 5;
 
 const TRIM: u32 = 6;
 
@@ -58,23 +57,6 @@ pub extern "C" fn ansi_str_raw_edit(
         return Answer::failed(NOT_UTF8);
     }
     write_found(edit_in_turn(alloc, text, steps), REFUSED, buffer)
-}
-
-/// Writes what one step makes of a text, or answers that its pattern isn't there or has no such part.
-pub(crate) fn write_step(
-    alloc: Global,
-    text: &[u8],
-    step: &EditStep<'_>,
-    buffer: &mut [u8],
-) -> Answer
-    ensures { OnUtf8 (step.now.pattern.now ∷ text.now ∷ [])
-        (GivesEdited no (change_of_step step.now ∷ []) text.now result buffer.old buffer.new)
-        (HasFailed not_utf8 result buffer.old buffer.new) }
-{
-    match from_utf8(step.pattern) {
-        Ok(pat) => write_edited(alloc, text, &[edit_of(step, pat)], NO, buffer),
-        Err(_) => Answer::failed(NOT_UTF8),
-    }
 }
 
 /// Whether the pattern of each step is UTF-8.

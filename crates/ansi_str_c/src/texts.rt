@@ -5,8 +5,7 @@ ghost use Rattle.ansi_str.specs.Changes.{CutRange, LeftOf, RightOf, PartOf, With
 ghost use Rattle.ansi_str.specs.Edits.{changes_of};
 ghost use Rattle.ansi_str_c.specs.Answers.{no, refused, not_utf8, OnUtf8, HasFailed, Gives, GivesEdited};
 
-use crate::answers::{Answer, NOT_UTF8, OUT_OF_MEMORY, REFUSED, write, write_found};
-use crate::edits::{EditStep, PART, PREFIX, SUFFIX, write_step};
+use crate::answers::{Answer, NO, NOT_UTF8, OUT_OF_MEMORY, REFUSED, write, write_found};
 use ansi_str::{AnsiStr, Edit, edit};
 use simdutf8::basic::from_utf8;
 use std::alloc::Global;
@@ -99,13 +98,10 @@ pub extern "C" fn ansi_str_raw_strip_prefix(
         (GivesEdited no (WithoutPrefix pattern.now ∷ []) text.now result buffer.old buffer.new)
         (HasFailed not_utf8 result buffer.old buffer.new) }
 {
-    let step = EditStep {
-        kind: PREFIX,
-        first: 0,
-        second: 0,
-        pattern,
-    };
-    write_step(alloc, text, &step, buffer)
+    match from_utf8(pattern) {
+        Ok(pat) => write_edited(alloc, text, &[Edit::Prefix(pat)], NO, buffer),
+        Err(_) => Answer::failed(NOT_UTF8),
+    }
 }
 
 /// The text without a suffix.
@@ -120,13 +116,10 @@ pub extern "C" fn ansi_str_raw_strip_suffix(
         (GivesEdited no (WithoutSuffix pattern.now ∷ []) text.now result buffer.old buffer.new)
         (HasFailed not_utf8 result buffer.old buffer.new) }
 {
-    let step = EditStep {
-        kind: SUFFIX,
-        first: 0,
-        second: 0,
-        pattern,
-    };
-    write_step(alloc, text, &step, buffer)
+    match from_utf8(pattern) {
+        Ok(pat) => write_edited(alloc, text, &[Edit::Suffix(pat)], NO, buffer),
+        Err(_) => Answer::failed(NOT_UTF8),
+    }
 }
 
 /// The part of an index between the matches of a pattern.
@@ -142,18 +135,15 @@ pub extern "C" fn ansi_str_raw_part(
         (GivesEdited no (PartOf pattern.now index ∷ []) text.now result buffer.old buffer.new)
         (HasFailed not_utf8 result buffer.old buffer.new) }
 {
-    let step = EditStep {
-        kind: PART,
-        first: index,
-        second: 0,
-        pattern,
-    };
-    write_step(alloc, text, &step, buffer)
+    match from_utf8(pattern) {
+        Ok(pat) => write_edited(alloc, text, &[Edit::Part { pat, index }], NO, buffer),
+        Err(_) => Answer::failed(NOT_UTF8),
+    }
 }
 
 /// Writes what edits make of a text, or answers a status where one is refused.
 #[tactic(auto, unfolding(crate::specs::Answers::GivesEdited))]
-pub(crate) fn write_edited(
+fn write_edited(
     alloc: Global,
     text: &[u8],
     edits: &[Edit<'_>],

@@ -2,6 +2,7 @@
 pub mod blocks;
 pub mod buffers;
 pub mod chains;
+pub mod edits;
 pub mod laws;
 pub mod matches;
 pub mod parts;

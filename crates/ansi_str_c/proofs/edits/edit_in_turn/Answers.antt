@@ -1,6 +1,8 @@
 use Rattle.std.proofs.Common.{refl, sym}
 use Rattle.std.proofs.lemmas.Bool.{true≢false}
-use Rattle.ansi_str_c.proofs.StepLemmas.{pattern-at, steps-more, steps-refused, steps-lent, steps-end}
+use Rattle.ansi_str.proofs.EditWalkLemmas.{so_far-more, so_far-refused, so_far-lent, so_far-end}
+use Rattle.ansi_str_c.specs.Steps.{change_of_step}
+use Rattle.ansi_str_c.proofs.StepLemmas.{pattern-at}
 use Rattle.ansi_str_c.proofs.edits.edit_in_turn.Goals as goal
 
 pub edit_given-requires : goal.edit_given-requires
@@ -8,24 +10,24 @@ edit_given-requires c = pattern-at c.args.steps.now c.loop-step.step-index _ c.l
 
 pub loop-step-preserved : goal.loop-step-preserved
 loop-step-preserved c =
-    steps-more c.args.steps.now c.loop-step.step-index _ c.loop-step.invariant c.loop-step-test.true
+    so_far-more change_of_step c.args.steps.now c.loop-step.step-index _ c.loop-step.invariant c.loop-step-test.true
     (rw c.in-Some.is at c.in_ok-next.ensures.bytes) (rw c.in-Some.is at c.in_ok-next.ensures.borrowed)
 
 -- where all steps leave a borrow, no memory is asked for
 pub returns-in_err-next-clause-takes_no_memory : goal.returns-in_err-next-clause-takes_no_memory
 returns-in_err-next-clause-takes_no_memory c = λ stays.
-    absurd (true≢false (sym (c.in_err-next.ensures.takes_no_memory (steps-lent c.args.steps.now c.loop-step.step-index _ c.loop-step.invariant c.loop-step-test.true stays))))
+    absurd (true≢false (sym (c.in_err-next.ensures.takes_no_memory (so_far-lent change_of_step c.args.steps.now c.loop-step.step-index _ c.loop-step.invariant c.loop-step-test.true stays))))
 
 -- a step that is refused
 pub returns-in-None : goal.returns-in-None
 returns-in-None c = record {
-  bytes = steps-refused c.args.steps.now c.loop-step.step-index _ c.loop-step.invariant c.loop-step-test.true (rw c.in-None.is at c.in_ok-next.ensures.bytes);
+  bytes = so_far-refused change_of_step c.args.steps.now c.loop-step.step-index _ c.loop-step.invariant c.loop-step-test.true (rw c.in-None.is at c.in_ok-next.ensures.bytes);
   takes_no_memory = λ stays. refl;
 }
 
 -- all are done
 pub returns : goal.returns
 returns c = record {
-  bytes = steps-end c.args.steps.now c.loop-step.step-index c.loop-step.invariant c.loop-step-test.false;
+  bytes = (so_far-end change_of_step c.args.steps.now c.loop-step.step-index c.loop-step.invariant c.loop-step-test.false).0;
   takes_no_memory = λ stays. refl;
 }
