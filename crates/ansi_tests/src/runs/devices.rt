@@ -16,7 +16,7 @@ struct Case {
     output_calls: usize,
 }
 
-// A line's answer and its line feed are a write each, and the flush comes last.
+// Each run of plain text that `strip` writes, each answer of edits and each line feed is a write, and the flush comes last.
 static CASES: [Case; 4] = [
     Case {
         words: &["strip"],
