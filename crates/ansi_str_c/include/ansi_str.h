@@ -345,7 +345,7 @@ static inline ansi_str_style_answer ansi_str_block_style(const char *text, size_
 /* All parts of the text between the matches of a pattern, as ansi_str_part gives each. They stand one after the other in
    the buffer; part i ends at ends[i], and begins where the one before ends, the first at 0. There are at most two parts
    more than the plain text has bytes. ANSI_STR_TOO_SMALL: the buffer or `ends` is too small, and the answer
-   says how many bytes and how many ends there are. Takes memory also on a text without ESC. */
+   says how many bytes and how many ends there are. */
 static inline ansi_str_answers ansi_str_split(const char *text, size_t text_len, const char *pattern,
                                               size_t pattern_len, char *buffer, size_t buffer_len, size_t *ends,
                                               size_t ends_len) {
@@ -356,8 +356,7 @@ static inline ansi_str_answers ansi_str_split(const char *text, size_t text_len,
 
 /* All blocks of the text, as ansi_str_block and ansi_str_block_style give each. Their texts stand one after the other in
    the buffer, and are never longer than the text together. There is at most one block for each byte.
-   ANSI_STR_TOO_SMALL: the buffer or `blocks` is too small, and the answer says how many bytes and how many blocks there are.
-   Takes memory also on a text without ESC. */
+   ANSI_STR_TOO_SMALL: the buffer or `blocks` is too small, and the answer says how many bytes and how many blocks there are. */
 static inline ansi_str_answers ansi_str_blocks(const char *text, size_t text_len, char *buffer, size_t buffer_len,
                                                ansi_str_block_entry *blocks, size_t blocks_len) {
     ansi_str_block_entry none;
