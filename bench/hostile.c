@@ -13,7 +13,7 @@
 #include <time.h>
 #include <unistd.h>
 
-enum { LONG = 1 << 20, PIECES = 6, CLOSE = 88, START_AND_CLOSE = 251, MOST_SECONDS = 1, MOST_OF_LIST = 2, ALARM = 60 };
+enum { LONG = 1 << 20, PIECES = 6, MOST_SECONDS = 1, MOST_OF_LIST = 2, ALARM = 60 };
 
 struct bytes {
     const char *at;
@@ -125,9 +125,10 @@ static int is_short(struct bytes t, size_t len, size_t more) { return len == SIZ
 
 static int is_bounded(struct bytes t, size_t position, struct bytes p) {
     size_t runs = blocks(t, position, p);
-    return is_short(t, cut_from(t, position, p), CLOSE) && is_short(t, cut_to(t, position, p), CLOSE) &&
-           is_short(t, part(t, position, p), START_AND_CLOSE) &&
-           is_short(t, sides(t, position, p), START_AND_CLOSE * (runs + 1));
+    return is_short(t, cut_from(t, position, p), ANSI_STR_LONGEST_CLOSE) &&
+           is_short(t, cut_to(t, position, p), ANSI_STR_LONGEST_CLOSE) &&
+           is_short(t, part(t, position, p), ANSI_STR_LONGEST_START_AND_CLOSE) &&
+           is_short(t, sides(t, position, p), ANSI_STR_LONGEST_START_AND_CLOSE * (runs + 1));
 }
 
 static const size_t POSITIONS[] = {0, 1, 2, SIZE_MAX};

@@ -5,7 +5,7 @@
 
 /* Whether both give the same. */
 static int are_same(const struct call *call, const struct text *t) {
-    room = t->len + 88;
+    room = t->len + ANSI_STR_LONGEST_CLOSE;
     buffer = calloc(room, 1);
     hand_written = calloc(room, 1);
     int is_same = buffer != NULL && hand_written != NULL && call->run(t) == call->by_hand(t) &&

@@ -158,8 +158,26 @@ static void expect_edits(void) {
     expect("an edit of no kind", ansi_str_edit(TEXT("a"), &unknown, 1, buffer, sizeof buffer).status, ANSI_STR_REFUSED);
 }
 
+/* The lengths, by a style in which everything is set: its start, its close, a text that is cut, and a part in which the style
+   is carried. */
+static void expect_lengths(void) {
+    static const char SGR[] = "\x1b[0;99;1;2;3;4;5;6;7;8;9;19;20;21;26;38;2;255;255;255;48;2;255;255;255;58;2;255;255;255;51;52;53;"
+                              "60;61;62;63;64;73;74m";
+    char text[256], buffer[512];
+    uint32_t len = (uint32_t)snprintf(text, sizeof text, "%sa,b", SGR);
+    EXPECT_NUMBER(ANSI_STR_LONGEST_START, 163);
+    EXPECT_NUMBER(ANSI_STR_LONGEST_CLOSE, 88);
+    EXPECT_NUMBER(ANSI_STR_LONGEST_START_AND_CLOSE, 251);
+    expect("a start", (uint32_t)ansi_str_block_start(text, len, 0, buffer, sizeof buffer).len, ANSI_STR_LONGEST_START);
+    expect("a close", (uint32_t)ansi_str_block_end(text, len, 0, buffer, sizeof buffer).len, ANSI_STR_LONGEST_CLOSE);
+    expect("a cut", (uint32_t)ansi_str_cut(text, len, 0, 3, buffer, sizeof buffer).len, len + ANSI_STR_LONGEST_CLOSE);
+    expect("a part", (uint32_t)ansi_str_part(text, len, TEXT(","), 1, buffer, sizeof buffer).len,
+           1 + ANSI_STR_LONGEST_START_AND_CLOSE);
+}
+
 int main(void) {
     expect_statuses();
+    expect_lengths();
     expect_attributes();
     expect_colors();
     expect_edits();

@@ -1,54 +1,57 @@
 -- Worked examples of the definitions, each by computation.
-use Rattle.std.proofs.Common.{◌≡◌, refl, codes, [], ◌∷◌, Some, None, true, false, not, filter, replicate, length}
+use Rattle.std.proofs.Common.{◌≡◌, ℕ, List, refl, codes, [], ◌∷◌, Some, None, true, false, not, map, filter, replicate, length}
 use Rattle.std.specs.List.{repeat, range_with_len}
 use Rattle.ansi_items.specs.Bytes.{is_parameter_byte, is_intermediate_byte, is_final_byte, is_escape_final_byte, opens_control_sequence, opens_control_string, opens_command, is_body_byte, is_plain_byte}
-use Rattle.ansi_items.specs.Sequences.{are_private, sgr_parameters}
+use Rattle.ansi_items.specs.Sequences.{are_private, sgr_parameters, is_sgr}
 use Rattle.ansi_items.specs.Pieces.{Text, Sequence, LoneEscape, pieces_of}
 use Rattle.ansi_items.specs.Plain.{plain, marks, is_whole}
 
--- Classes of bytes: of each the first, the last and the byte on either side, or what there is of it among all bytes.
+-- Classes of bytes: of each what there is among all bytes, and of what differs by the opener of a control string, for each opener.
 
-parameter_bytes : filter is_parameter_byte (0x2F ∷ 0x30 ∷ 0x3F ∷ 0x40 ∷ []) ≡ 0x30 ∷ 0x3F ∷ []
+abbrev all_bytes : List ℕ
+all_bytes = range_with_len 0 256
+
+abbrev openers : List ℕ
+openers = codes "PX]^_"
+
+parameter_bytes : filter is_parameter_byte all_bytes ≡ range_with_len 0x30 16
 parameter_bytes = refl
 
-private_parameter_bytes : filter (λ b. are_private (b ∷ [])) (0x3B ∷ 0x3C ∷ 0x3F ∷ 0x40 ∷ []) ≡ 0x3C ∷ 0x3F ∷ []
+private_parameter_bytes : filter (λ b. are_private (b ∷ [])) all_bytes ≡ range_with_len 0x3C 4
 private_parameter_bytes = refl
 
-intermediate_bytes : filter is_intermediate_byte (0x1F ∷ 0x20 ∷ 0x2F ∷ 0x30 ∷ []) ≡ 0x20 ∷ 0x2F ∷ []
+intermediate_bytes : filter is_intermediate_byte all_bytes ≡ range_with_len 0x20 16
 intermediate_bytes = refl
 
-final_bytes : filter is_final_byte (0x3F ∷ 0x40 ∷ 0x7E ∷ 0x7F ∷ []) ≡ 0x40 ∷ 0x7E ∷ []
+final_bytes : filter is_final_byte all_bytes ≡ range_with_len 0x40 63
 final_bytes = refl
 
-escape_final_bytes : filter is_escape_final_byte (0x2F ∷ 0x30 ∷ 0x7E ∷ 0x7F ∷ []) ≡ 0x30 ∷ 0x7E ∷ []
+escape_final_bytes : filter is_escape_final_byte all_bytes ≡ range_with_len 0x30 79
 escape_final_bytes = refl
 
-one_opens_a_control_sequence : filter opens_control_sequence (range_with_len 0 256) ≡ 0x5B ∷ []
+one_opens_a_control_sequence : filter opens_control_sequence all_bytes ≡ 0x5B ∷ []
 one_opens_a_control_sequence = refl
 
-five_open_control_strings : filter opens_control_string (range_with_len 0 256) ≡ 0x50 ∷ 0x58 ∷ 0x5D ∷ 0x5E ∷ 0x5F ∷ []
+five_open_control_strings : filter opens_control_string all_bytes ≡ 0x50 ∷ 0x58 ∷ 0x5D ∷ 0x5E ∷ 0x5F ∷ []
 five_open_control_strings = refl
 
-one_opens_a_command : filter opens_command (range_with_len 0 256) ≡ 0x5D ∷ []
+one_opens_a_command : filter opens_command all_bytes ≡ 0x5D ∷ []
 one_opens_a_command = refl
 
-two_end_the_body_of_a_command : filter (λ b. not (is_body_byte 0x5D b)) (range_with_len 0 256) ≡ 0x07 ∷ 0x1B ∷ []
-two_end_the_body_of_a_command = refl
+what_ends_a_body : map (λ opener. filter (λ b. not (is_body_byte opener b)) all_bytes) openers ≡ (0x1B ∷ []) ∷ (0x1B ∷ []) ∷ (0x07 ∷ 0x1B ∷ []) ∷ (0x1B ∷ []) ∷ (0x1B ∷ []) ∷ []
+what_ends_a_body = refl
 
-bell_in_a_body : filter (λ opener. is_body_byte opener 0x07) (0x50 ∷ 0x58 ∷ 0x5D ∷ 0x5E ∷ 0x5F ∷ []) ≡ 0x50 ∷ 0x58 ∷ 0x5E ∷ 0x5F ∷ []
-bell_in_a_body = refl
-
-one_ends_the_body_of_another_string : filter (λ b. not (is_body_byte 0x58 b)) (range_with_len 0 256) ≡ 0x1B ∷ []
-one_ends_the_body_of_another_string = refl
-
-one_is_not_plain : filter (λ b. not (is_plain_byte b)) (range_with_len 0 256) ≡ 0x1B ∷ []
+one_is_not_plain : filter (λ b. not (is_plain_byte b)) all_bytes ≡ 0x1B ∷ []
 one_is_not_plain = refl
 
-terminator_after_escape : filter (λ b. is_whole (0x1B ∷ 0x50 ∷ 0x1B ∷ b ∷ [])) (range_with_len 0 256) ≡ 0x5C ∷ []
-terminator_after_escape = refl
+terminators_after_escape : map (λ opener. filter (λ b. is_whole (0x1B ∷ opener ∷ 0x1B ∷ b ∷ [])) all_bytes) openers ≡ replicate 5 (0x5C ∷ [])
+terminators_after_escape = refl
 
-terminator_of_a_command : filter (λ b. is_whole (0x1B ∷ 0x5D ∷ b ∷ [])) (range_with_len 0 256) ≡ 0x07 ∷ []
-terminator_of_a_command = refl
+terminators_of_one_byte : map (λ opener. filter (λ b. is_whole (0x1B ∷ opener ∷ b ∷ [])) all_bytes) openers ≡ [] ∷ [] ∷ (0x07 ∷ []) ∷ [] ∷ [] ∷ []
+terminators_of_one_byte = refl
+
+one_final_byte_makes_an_sgr : filter (λ b. is_sgr (0x1B ∷ 0x5B ∷ b ∷ [])) all_bytes ≡ 0x6D ∷ []
+one_final_byte_makes_an_sgr = refl
 
 -- Pieces.
 
@@ -89,8 +92,8 @@ private_parameters_are_no_sgr = refl
 parameters_from_a_colon_on_are_sgr : sgr_parameters (codes "\u{1b}[:1m") ≡ Some (codes ":1")
 parameters_from_a_colon_on_are_sgr = refl
 
-private_byte_later_is_sgr : sgr_parameters (codes "\u{1b}[1;?2m") ≡ Some (codes "1;?2")
-private_byte_later_is_sgr = refl
+private_bytes_later_are_sgr : sgr_parameters (codes "\u{1b}[1<=>?;?2m") ≡ Some (codes "1<=>?;?2")
+private_bytes_later_are_sgr = refl
 
 intermediate_byte_is_no_sgr : sgr_parameters (codes "\u{1b}[1 m") ≡ None
 intermediate_byte_is_no_sgr = refl

@@ -72,6 +72,13 @@ enum {
     ANSI_STR_FRAKTUR = 1 << 9
 };
 
+/* The most bytes that the sequences have which set a style, those which end it, and both. */
+enum {
+    ANSI_STR_LONGEST_START = 163,
+    ANSI_STR_LONGEST_CLOSE = 88,
+    ANSI_STR_LONGEST_START_AND_CLOSE = 251
+};
+
 /* The kinds of colors: none is set, one of the names, one of 256 by its number, or one by its red, green and blue. */
 enum {
     ANSI_STR_NO_COLOR = 0,
@@ -218,8 +225,8 @@ static inline ansi_str_answer ansi_str_strip(const char *text, size_t text_len, 
 }
 
 /* The text from one position up to another, each character in its style: every sequence up to the end stays, at its
-   place, and at last stands the close of the style, so that nothing is left open. It is at most 88 bytes longer than
-   the text. ANSI_STR_REFUSED: a position lies inside a character, or `end` is below `start`.
+   place, and at last stands the close of the style, so that nothing is left open. It is at most
+   ANSI_STR_LONGEST_CLOSE bytes longer than the text. ANSI_STR_REFUSED: a position lies inside a character, or `end` is below `start`.
    "\x1b[30mTEXT\x1b[39m" from 1 up to 3 gives "\x1b[30mEX\x1b[39m". */
 static inline ansi_str_answer ansi_str_cut(const char *text, size_t text_len, size_t start, size_t end, char *buffer,
                                            size_t buffer_len) {
@@ -262,7 +269,7 @@ static inline ansi_str_answer ansi_str_strip_suffix(const char *text, size_t tex
 }
 
 /* The part of an index, counted from 0, between the matches of a pattern, with its sequences and in its style. It is at
-   most 251 bytes longer than the text. ANSI_STR_NO: there are not so many parts. A loop over all indices reads the
+   most ANSI_STR_LONGEST_START_AND_CLOSE bytes longer than the text. ANSI_STR_NO: there are not so many parts. A loop over all indices reads the
    text once for each; ansi_str_split gives all parts in one call.
    Of "\x1b[31mlion::tiger\x1b[0m" at "::" 1 gives "\x1b[31mtiger\x1b[0m". */
 static inline ansi_str_answer ansi_str_part(const char *text, size_t text_len, const char *pattern, size_t pattern_len,
@@ -322,16 +329,16 @@ static inline ansi_str_answer ansi_str_block(const char *text, size_t text_len, 
     return ansi_str_raw_block(ansi_str_bytes(text), text_len, index, ansi_str_room(buffer), buffer_len);
 }
 
-/* The sequences that set the style of the block of an index: 163 bytes at most. ANSI_STR_NO: there are not so many
-   blocks. Takes memory also on a text without ESC. A loop over all indices reads the text once for each;
+/* The sequences that set the style of the block of an index: ANSI_STR_LONGEST_START bytes at most.
+   ANSI_STR_NO: there are not so many blocks. Takes memory also on a text without ESC. A loop over all indices reads the text once for each;
    ansi_str_styled_blocks gives all starts and ends in one call. */
 static inline ansi_str_answer ansi_str_block_start(const char *text, size_t text_len, size_t index, char *buffer,
                                                    size_t buffer_len) {
     return ansi_str_raw_block_start(ansi_str_bytes(text), text_len, index, ansi_str_room(buffer), buffer_len);
 }
 
-/* The sequences that end the style of the block of an index: 88 bytes at most. ANSI_STR_NO: there are not so many
-   blocks. Takes memory also on a text without ESC. */
+/* The sequences that end the style of the block of an index: ANSI_STR_LONGEST_CLOSE bytes at most.
+   ANSI_STR_NO: there are not so many blocks. Takes memory also on a text without ESC. */
 static inline ansi_str_answer ansi_str_block_end(const char *text, size_t text_len, size_t index, char *buffer,
                                                  size_t buffer_len) {
     return ansi_str_raw_block_end(ansi_str_bytes(text), text_len, index, ansi_str_room(buffer), buffer_len);
@@ -345,7 +352,7 @@ static inline ansi_str_style_answer ansi_str_block_style(const char *text, size_
 /* All parts of the text between the matches of a pattern, as ansi_str_part gives each. They stand one after the other in
    the buffer; part i ends at ends[i], and begins where the one before ends, the first at 0. There are at most two parts
    more than the plain text has bytes. ANSI_STR_TOO_SMALL: the buffer or `ends` is too small, and the answer
-   says how many bytes and how many ends there are. Takes memory also on a text without ESC. */
+   says how many bytes and how many ends there are. */
 static inline ansi_str_answers ansi_str_split(const char *text, size_t text_len, const char *pattern,
                                               size_t pattern_len, char *buffer, size_t buffer_len, size_t *ends,
                                               size_t ends_len) {
@@ -356,8 +363,7 @@ static inline ansi_str_answers ansi_str_split(const char *text, size_t text_len,
 
 /* All blocks of the text, as ansi_str_block and ansi_str_block_style give each. Their texts stand one after the other in
    the buffer, and are never longer than the text together. There is at most one block for each byte.
-   ANSI_STR_TOO_SMALL: the buffer or `blocks` is too small, and the answer says how many bytes and how many blocks there are.
-   Takes memory also on a text without ESC. */
+   ANSI_STR_TOO_SMALL: the buffer or `blocks` is too small, and the answer says how many bytes and how many blocks there are. */
 static inline ansi_str_answers ansi_str_blocks(const char *text, size_t text_len, char *buffer, size_t buffer_len,
                                                ansi_str_block_entry *blocks, size_t blocks_len) {
     ansi_str_block_entry none;
@@ -366,7 +372,8 @@ static inline ansi_str_answers ansi_str_blocks(const char *text, size_t text_len
 }
 
 /* All blocks of the text, as ansi_str_blocks, each with what sets its style before it and what ends it after it, as
-   ansi_str_block_start and ansi_str_block_end give them: at most 251 bytes more for each block.
+   ansi_str_block_start and ansi_str_block_end give them: at most ANSI_STR_LONGEST_START_AND_CLOSE bytes more for
+   each block.
    Of "a\x1b[31mb" it gives "a" and "\x1b[31mb\x1b[39m". */
 static inline ansi_str_answers ansi_str_styled_blocks(const char *text, size_t text_len, char *buffer,
                                                       size_t buffer_len, ansi_str_styled_block_entry *blocks,

@@ -1,5 +1,5 @@
 -- Several texts in one buffer, and an entry for each in another.
-use Rattle.std.specs.Prelude.{◌≡◌, ◌⊎◌, ◌<◌, ◌≤◌, ◌+◌, ℕ, List, [], ◌∷◌, ◌++◌, drop, length}
+use Rattle.std.specs.Prelude.{◌≡◌, ◌⊎◌, ◌<◌, ◌≤◌, ◌+◌, ℕ, Bool, List, [], ◌∷◌, ◌++◌, drop, length, IsTrue}
 use Rattle.ansi_str.specs.Blocks.{Block}
 use Rattle.ansi_str_c.specs.declared.lists.ListAnswer.{ListAnswer}
 use Rattle.ansi_str.specs.Written.{start, close_if_any}
@@ -52,7 +52,8 @@ AreWritten bytes entries answer old new old_entries new_entries =
     × (answer ≡ record { status = too_small; count = length entries; len = length bytes })
     × (new ≡ old) × (new_entries ≡ old_entries))
 
--- a call gives all texts, or memory is wanting
-abbrev pub GivesAll : {T : Type 0} → List ℕ → List T → ListAnswer → List ℕ → List ℕ → List T → List T → Type 0
-GivesAll bytes entries answer old new old_entries new_entries =
-    AreWritten bytes entries answer old new old_entries new_entries ⊎ HaveFailed out_of_memory answer old new old_entries new_entries
+-- a call gives all texts; or memory is wanting, where the call takes any
+abbrev pub GivesAll : {T : Type 0} → Bool → List ℕ → List T → ListAnswer → List ℕ → List ℕ → List T → List T → Type 0
+GivesAll takes_memory bytes entries answer old new old_entries new_entries =
+    AreWritten bytes entries answer old new old_entries new_entries
+    ⊎ (IsTrue takes_memory × HaveFailed out_of_memory answer old new old_entries new_entries)

@@ -1,5 +1,6 @@
 //! Calls that give several texts: all parts, and all blocks.
-ghost use Rattle.std.specs.Prelude.{◌≡◌, ◌∷◌, [], ◌++◌, length, flat_map, IfOk, OnOk, MatchResult, string_bytes};
+ghost use Rattle.std.specs.Prelude.{◌≡◌, ◌⊎◌, ◌≤◌, ◌<◌, ◌+◌, ◌^◌, ◌==◌, ◌∷◌, [], ◌++◌, length, take, drop, flat_map, if◌then◌else◌, IsFalse, IfNone, IfSome, IfOk, OnOk, MatchResult, string_bytes};
+ghost use Rattle.ansi_str.specs.Plain.{has_escape};
 ghost use Rattle.ansi_str.specs.Parts.{all_parts};
 ghost use Rattle.ansi_str.specs.Blocks.{blocks};
 ghost use Rattle.ansi_str_c.specs.Answers.{not_utf8, out_of_memory, OnUtf8};
@@ -8,7 +9,7 @@ ghost use Rattle.ansi_str_c.specs.Lists.{none, ends_from, entries_from, styled_t
 use crate::answers::{NOT_UTF8, OK, OUT_OF_MEMORY, TOO_SMALL};
 use crate::styles::StyleData;
 use ansi_str::split::split_in;
-use ansi_str::{AnsiBlock, get_blocks};
+use ansi_str::{AnsiBlock, AnsiStr, get_blocks, laws};
 use simdutf8::basic::from_utf8;
 use std::alloc::{AllocError, Global};
 use std::fmt::Write;
@@ -65,7 +66,7 @@ pub extern "C" fn ansi_str_raw_split(
     ends: &mut [usize],
 ) -> ListAnswer
     ensures { OnUtf8 (text.now ∷ pattern.now ∷ [])
-        (GivesAll (flat_map (λ p. p) (all_parts text.now pattern.now)) (ends_from 0 (all_parts text.now pattern.now)) result buffer.old buffer.new ends.old ends.new)
+        (GivesAll (has_escape text.now) (flat_map (λ p. p) (all_parts text.now pattern.now)) (ends_from 0 (all_parts text.now pattern.now)) result buffer.old buffer.new ends.old ends.new)
         (HaveFailed not_utf8 result buffer.old buffer.new ends.old ends.new) }
 {
     let Ok(text) = from_utf8(text) else {
@@ -74,6 +75,9 @@ pub extern "C" fn ansi_str_raw_split(
     let Ok(pat) = from_utf8(pattern) else {
         return ListAnswer::failed(NOT_UTF8);
     };
+    if !text.ansi_has_any() {
+        return write_bare_parts(alloc, text, pat, buffer, ends);
+    }
     write_joined(join_parts(alloc, text, pat), buffer, ends)
 }
 
@@ -86,12 +90,19 @@ pub extern "C" fn ansi_str_raw_blocks(
     entries: &mut [BlockEntry],
 ) -> ListAnswer
     ensures { OnUtf8 (text.now ∷ [])
-        (GivesAll (flat_map (λ b. b.text) (blocks text.now)) (entries_from 0 (blocks text.now)) result buffer.old buffer.new entries.old entries.new)
+        (GivesAll (has_escape text.now) (flat_map (λ b. b.text) (blocks text.now)) (entries_from 0 (blocks text.now)) result buffer.old buffer.new entries.old entries.new)
         (HaveFailed not_utf8 result buffer.old buffer.new entries.old entries.new) }
 {
     let Ok(text) = from_utf8(text) else {
         return ListAnswer::failed(NOT_UTF8);
     };
+    if !text.ansi_has_any() {
+        let entry = BlockEntry {
+            end: text.len(),
+            style: StyleData::empty(),
+        };
+        return write_one_block(text, &[entry], buffer, entries);
+    }
     write_joined(join_blocks(alloc, text), buffer, entries)
 }
 
@@ -105,13 +116,129 @@ pub extern "C" fn ansi_str_raw_styled_blocks(
     entries: &mut [StyledBlockEntry],
 ) -> ListAnswer
     ensures { OnUtf8 (text.now ∷ [])
-        (GivesAll (flat_map styled_text (blocks text.now)) (styled_entries_from 0 (blocks text.now)) result buffer.old buffer.new entries.old entries.new)
+        (GivesAll (has_escape text.now) (flat_map styled_text (blocks text.now)) (styled_entries_from 0 (blocks text.now)) result buffer.old buffer.new entries.old entries.new)
         (HaveFailed not_utf8 result buffer.old buffer.new entries.old entries.new) }
 {
     let Ok(text) = from_utf8(text) else {
         return ListAnswer::failed(NOT_UTF8);
     };
+    if !text.ansi_has_any() {
+        let entry = StyledBlockEntry {
+            text_start: 0,
+            text_end: text.len(),
+            end: text.len(),
+            style: StyleData::empty(),
+        };
+        return write_one_block(text, &[entry], buffer, entries);
+    }
     write_joined(join_styled_blocks(alloc, text), buffer, entries)
+}
+
+/// Writes the parts of a text without ESC, and where each ends, where there is room for all of them. Takes
+/// no memory.
+fn write_bare_parts(
+    alloc: Global,
+    text: &str,
+    pat: &str,
+    buffer: &mut [u8],
+    ends: &mut [usize],
+) -> ListAnswer
+    requires { IsFalse (has_escape text.now) }
+    ensures { AreWritten (flat_map (λ p. p) (all_parts text.now pat.now)) (ends_from 0 (all_parts text.now pat.now)) result buffer.old buffer.new ends.old ends.new }
+{
+    if let Some((count, len)) = parts_without_room(alloc, text, pat, buffer.len(), ends.len()) {
+        return ListAnswer {
+            status: TOO_SMALL,
+            count,
+            len,
+        };
+    }
+    let (count, len) = copy_bare_parts(alloc, text, pat, buffer, ends);
+    ListAnswer {
+        status: OK,
+        count,
+        len,
+    }
+}
+
+/// How many parts a text without ESC has and their length together, where there is no room for so many bytes
+/// or so many ends. They are counted only where there might be none.
+fn parts_without_room(
+    alloc: Global,
+    text: &str,
+    pat: &str,
+    bytes: usize,
+    ends: usize,
+) -> Option<(usize, usize)>
+    requires { IsFalse (has_escape text.now) }
+    ensures none { IfNone result ((length (flat_map (λ p. p) (all_parts text.now pat.now)) ≤ bytes) × (length (all_parts text.now pat.now) ≤ ends)) }
+    ensures small { IfSome result (λ r. (bytes < length (flat_map (λ p. p) (all_parts text.now pat.now))) ⊎ (ends < length (all_parts text.now pat.now))) }
+    ensures needed { IfSome result (λ r. (r.0 ≡ length (all_parts text.now pat.now)) × (r.1 ≡ length (flat_map (λ p. p) (all_parts text.now pat.now)))) }
+{
+    laws::bare_texts_are_std();
+    laws::parts_lie_between_matches();
+    if text.len() <= bytes && text.len() + 2 <= ends {
+        return None;
+    }
+    let (count, len) = copy_bare_parts(alloc, text, pat, &mut [], &mut []);
+    if len > bytes || count > ends {
+        Some((count, len))
+    } else {
+        None
+    }
+}
+
+/// Writes the parts of a text without ESC, and where each ends, as far as there is room, and gives how many
+/// they are and their length together.
+fn copy_bare_parts(
+    alloc: Global,
+    text: &str,
+    pat: &str,
+    buffer: &mut [u8],
+    ends: &mut [usize],
+) -> (usize, usize)
+    requires { IsFalse (has_escape text.now) }
+    ensures count { result.0 ≡ length (all_parts text.now pat.now) }
+    ensures len { result.1 ≡ length (flat_map (λ p. p) (all_parts text.now pat.now)) }
+    ensures bytes { length (flat_map (λ p. p) (all_parts text.now pat.now)) ≤ length buffer.old → buffer.new ≡ flat_map (λ p. p) (all_parts text.now pat.now) ++ drop (length (flat_map (λ p. p) (all_parts text.now pat.now))) buffer.old }
+    ensures ends { length (all_parts text.now pat.now) ≤ length ends.old → ends.new ≡ ends_from 0 (all_parts text.now pat.now) ++ drop (length (all_parts text.now pat.now)) ends.old }
+{
+    laws::bare_texts_are_std();
+    laws::parts_lie_between_matches();
+    let mut count = 0;
+    let mut len = 0;
+    for part in split_in(alloc, text, pat) {
+        len = put(part.unwrap().as_bytes(), len, buffer);
+        count = put(&[len], count, ends);
+    }
+    (count, len)
+}
+
+/// Copies items to a place in a slice, where there is room for them, and gives the place after them.
+fn put<T: Copy>(items: &[T], place: usize, slots: &mut [T]) -> usize
+    requires { place + length items.now < 2 ^ 64 }
+    ensures slots { place + length items.now ≤ length slots.old → slots.new ≡ take place slots.old ++ items.now ++ drop (place + length items.now) slots.old }
+    ensures same_len { length slots.new ≡ length slots.old }
+    ensures after { result ≡ place + length items.now }
+{
+    let after = place + items.len();
+    if after <= slots.len() {
+        slots[place..after].copy_from_slice(items);
+    }
+    after
+}
+
+/// Writes a text without ESC, which is one block, and its entry; or no entry where it is empty.
+fn write_one_block<T: Copy>(
+    text: &str,
+    entry: &[T],
+    buffer: &mut [u8],
+    entries: &mut [T],
+) -> ListAnswer
+    ensures { AreWritten text.now (if length text.now == 0 then [] else entry.now) result buffer.old buffer.new entries.old entries.new }
+{
+    let entry = if text.is_empty() { &[] } else { entry };
+    write_list(text.as_bytes(), entry, buffer, entries)
 }
 
 /// The parts of a text one after the other, and where each ends.

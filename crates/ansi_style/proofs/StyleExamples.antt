@@ -3,7 +3,7 @@ use Rattle.std.proofs.Common.{◌≡◌, ℕ, [], ◌∷◌, map, refl, codes, �
 use Rattle.std.specs.List.{range_with_len}
 use Rattle.std.specs.Fmt.{digits}
 use Rattle.ansi_items.specs.declared.ansitok.AnsiColor.TheVariants.{Bit4, Bit8, Bit24}
-use Rattle.ansi_style.specs.Rendition.{Rendition, plain_style, has_any}
+use Rattle.ansi_style.specs.Rendition.{Rendition, plain_style, known, has_any}
 use Rattle.ansi_style.specs.Sgr.{effect_of_code, perform, apply_parameters, apply}
 use Rattle.ansi_style.specs.Written.{start, close, longest_start, longest_close, longest_start_and_close}
 
@@ -38,7 +38,7 @@ color_without_number = refl
 color_of_two_numbers : apply_parameters plain_style (codes "38;2;1;2") ≡ plain_style
 color_of_two_numbers = refl
 
-color_number_too_large : apply_parameters plain_style (codes "38;5;300") ≡ record plain_style { foreground = Some (Bit8 0) }
+color_number_too_large : apply_parameters plain_style (codes "38;5;256") ≡ record plain_style { foreground = Some (Bit8 0) }
 color_number_too_large = refl
 
 background_with_leading_zeros : apply_parameters plain_style (codes "48;2;023;011;100") ≡ record plain_style { background = Some (Bit24 23 11 100) }
@@ -162,3 +162,6 @@ unknown_alone_is_closed = refl
 
 reset_and_unknown_are_closed_twice : close (record plain_style { reset = true; unknown = true }) ≡ codes "\u{1b}[0m\u{1b}[0m"
 reset_and_unknown_are_closed_twice = refl
+
+known_forgets_the_two_marks : known (record full_style { bold = false }) ≡ record full_style { bold = false; reset = false; unknown = false }
+known_forgets_the_two_marks = refl

@@ -1,12 +1,13 @@
 -- Worked examples of each row of the three tables, by computation: what a code sets, how a style is written, and what a color is called.
-use Rattle.std.proofs.Common.{◌≡◌, ℕ, List, [], ◌∷◌, map, refl, codes, true, false, Some, None}
+use Rattle.std.proofs.Common.{◌≡◌, ℕ, List, [], ◌∷◌, ◌++◌, map, filter, not, refl, codes, true, false, Some, None}
+use Rattle.std.specs.List.{range_with_len}
 use Rattle.std.specs.Fmt.{digits}
 use Rattle.ansi_items.specs.declared.ansitok.AnsiColor.{AnsiColor}
 use Rattle.ansi_items.specs.declared.ansitok.AnsiColor.TheVariants.{Bit4, Bit8, Bit24}
 use Rattle.ansi_style.specs.declared.style.color.Color.{Color}
 use Rattle.ansi_style.specs.declared.style.color.Color.TheVariants.{Black, BrightBlack, Red, BrightRed, Green, BrightGreen, Yellow, BrightYellow, Blue, BrightBlue, Magenta, BrightMagenta, Cyan, BrightCyan, White, BrightWhite, Fixed, Rgb}
-use Rattle.ansi_style.specs.Rendition.{Rendition, plain_style}
-use Rattle.ansi_style.specs.Sgr.{apply_parameters}
+use Rattle.ansi_style.specs.Rendition.{Rendition, plain_style, has_any}
+use Rattle.ansi_style.specs.Sgr.{effect_of_code, perform, apply_parameters}
 use Rattle.ansi_style.specs.Written.{start, close}
 use Rattle.ansi_style.specs.Colors.{color_of}
 
@@ -84,6 +85,26 @@ codes_read s =
 each_code_is_read : (s : Rendition) → map (λ (row : List ℕ × Rendition). apply_parameters s row.0) (codes_read s) ≡ map (λ (row : List ℕ × Rendition). row.1) (codes_read s)
 each_code_is_read s = refl
 
+-- the style after each code of a range
+abbrev after_each : Rendition → List ℕ → List Rendition
+after_each s all = map (λ code. (perform (effect_of_code code) s []).0) all
+
+each_font_is_read : (s : Rendition) → after_each s (range_with_len 11 9) ≡ map (λ code. record s { font = Some code }) (range_with_len 11 9)
+each_font_is_read s = refl
+
+-- the sixteen colors, by the codes of a foreground and of a background
+abbrev foreground_codes : List ℕ
+foreground_codes = range_with_len 30 8 ++ range_with_len 90 8
+
+abbrev background_codes : List ℕ
+background_codes = range_with_len 40 8 ++ range_with_len 100 8
+
+each_foreground_is_read : (s : Rendition) → after_each s foreground_codes ≡ map (λ code. record s { foreground = Some (Bit4 code) }) foreground_codes
+each_foreground_is_read s = refl
+
+each_background_is_read : (s : Rendition) → after_each s background_codes ≡ map (λ code. record s { background = Some (Bit4 code) }) background_codes
+each_background_is_read s = refl
+
 -- Starts and closes.
 
 -- a style in which one part is set, with its start and its close
@@ -135,6 +156,10 @@ styles_written =
 each_style_is_written : map (λ (row : Rendition × List ℕ × List ℕ). (row.0, start row.0, close row.0)) styles_written ≡ styles_written
 unfolding digits
 each_style_is_written = refl
+
+-- of these styles two have nothing to end, in which a mark alone is set that no code reads
+two_have_nothing_to_end : filter (λ s. not (has_any s)) (map (λ (row : Rendition × List ℕ × List ℕ). row.0) styles_written) ≡ record plain_style { reset = true } ∷ record plain_style { unknown = true } ∷ []
+two_have_nothing_to_end = refl
 
 -- The names of colors.
 
