@@ -1,8 +1,6 @@
--- A pattern at the front and at the end of a text, met over the texts that are left.
-use Rattle.std.proofs.Common.{◌≡◌, ◌==◌, ℕ, ◌+◌, ◌-◌, ◌≤◌, ◌⊎◌, inl, inr, IsTrue, Bool, true, false, ◌&&◌, List, [], ◌∷◌, ◌++◌, length, take, drop, nat_eq, refl, sym, ◌∙◌, ap, ap₂, subst, arith}
+-- A pattern at the front and at the end of a text.
+use Rattle.std.proofs.Common.{◌≡◌, ℕ, ◌+◌, ◌-◌, ◌≤◌, ◌⊎◌, inl, inr, IsTrue, true, ◌&&◌, List, [], ◌∷◌, ◌++◌, length, take, drop, nat_eq, refl, sym, ◌∙◌, ap, ap₂, subst, arith}
 use Rattle.std.proofs.Math.Bool.{and_assoc}
-use Rattle.std.proofs.Math.Seq.{drop-nil}
-use Rattle.std.proofs.lemmas.Bool.Decides.{nat_tests}
 use Rattle.std.proofs.lemmas.Cmp.{nat_eq_equiv}
 use Rattle.std.proofs.lemmas.List.{take-append-le, take_all, drop-drop, length-drop, length-take}
 use Rattle.std.proofs.lemmas.Str.{IsCharBoundary-start, IsCharBoundary-from_take, IsCharBoundary-from_drop}
@@ -10,13 +8,12 @@ use Rattle.std.specs.Cmp.Lexicographic.{pointwise, same_text}
 use Rattle.std.specs.List.{starts_with, ends_with}
 use Rattle.std.specs.Str.{IsUtf8, IsCharBoundary}
 use Rattle.ansi_items.specs.declared.ansitok.Kind.{Kind}
-use Rattle.ansi_items.specs.Pieces.{Piece, Text, pieces_of}
+use Rattle.ansi_items.specs.Pieces.{Piece, pieces_of}
 use Rattle.ansi_items.specs.Plain.{plain_of, plain}
 use Rattle.ansi_slice.specs.Positions.{is_good_position}
 use Rattle.ansi_slice.specs.Offsets.{StandsIn, KeepsUpTo}
 use Rattle.ansi_slice.proofs.PositionLemmas.{boundary_is_good}
 use Rattle.ansi_slice.proofs.OffsetLemmas.{IsOverText, IsOverMark, IsPassed, passed-begin, passed-text, passed-mark, keeps-after}
-use Rattle.ansi_slice.proofs.SliceLemmas.{drop-append}
 
 -- a pattern that is no longer than the text at the front stands in that
 pub starts_with-within : (p w y : List ℕ) → length p ≤ length w → starts_with nat_eq (w ++ y) p ≡ starts_with nat_eq w p
@@ -35,52 +32,6 @@ pub ends_with-starts_with : (x p : List ℕ) → starts_with nat_eq (drop (lengt
 ends_with-starts_with x p =
     let end = drop (length x - length p) x in
     ap (pointwise nat_eq p) (take_all (length p) end (omega (arith, length-drop (length x - length p) x)))
-
--- Whether what is left of a pattern stands in the plain text of the pieces that are left, after so many bytes, is the whole answer.
-pub record IsMetSoFar (whole : Bool) (before : ℕ) (pat : List ℕ) (left : List Piece) : Type 0 where
-  pub met : starts_with nat_eq (drop before (plain_of left)) pat ≡ whole
-
--- the run is what is left of a text after so many bytes
-met-run : {whole : Bool} {before : ℕ} {pat w run : List ℕ} {left ps : List Piece} → IsMetSoFar whole before pat left → left ≡ Text w ∷ ps → run ≡ drop before w
-    → starts_with nat_eq (run ++ drop (before - length w) (plain_of ps)) pat ≡ whole
-met-run {whole} {before} {pat} {w} {run} {left} {ps} so_far is run_is =
-    let first = subst (IsMetSoFar whole before pat) is so_far in
-    ap (λ v. starts_with nat_eq v pat) (ap (λ v. v ++ drop (before - length w) (plain_of ps)) run_is ∙ sym (drop-append before w (plain_of ps))) ∙ first.met
-
--- over a run that is no shorter than the pattern
-pub met-last : {whole : Bool} {before : ℕ} {pat w run : List ℕ} {left ps : List Piece} → IsMetSoFar whole before pat left → left ≡ Text w ∷ ps → run ≡ drop before w
-    → length pat ≤ length run → starts_with nat_eq run pat ≡ whole
-met-last {whole} {before} {pat} {w} {run} {left} {ps} so_far is run_is fits =
-    sym (starts_with-within pat run (drop (before - length w) (plain_of ps)) fits) ∙ met-run so_far is run_is
-
--- over a run that is no longer, and isn't how the pattern begins
-pub met-apart : {whole : Bool} {before : ℕ} {pat w run : List ℕ} {left ps : List Piece} → IsMetSoFar whole before pat left → left ≡ Text w ∷ ps → run ≡ drop before w
-    → length run ≤ length pat → starts_with nat_eq pat run ≡ false → false ≡ whole
-met-apart {whole} {before} {pat} {w} {run} {left} {ps} so_far is run_is fits other =
-    let y = drop (before - length w) (plain_of ps) in
-    ap (λ b. b && starts_with nat_eq y (drop (length run) pat)) (sym other) ∙ sym (starts_with-across pat run y fits)
-    ∙ met-run so_far is run_is
-
--- over one that is how it begins
-pub met-more : {whole : Bool} {before next : ℕ} {pat rest w run : List ℕ} {left ps : List Piece} → IsMetSoFar whole before pat left → left ≡ Text w ∷ ps → run ≡ drop before w
-    → length run ≤ length pat → starts_with nat_eq pat run ≡ true → next ≡ before - length w → rest ≡ drop (length run) pat → IsMetSoFar whole next rest ps
-met-more {whole} {before} {next} {pat} {rest} {w} {run} {left} {ps} so_far is run_is fits same next_is rest_is =
-    let y = drop (before - length w) (plain_of ps) in
-    let step : IsMetSoFar whole (before - length w) (drop (length run) pat) ps = record {
-      met = ap (λ b. b && starts_with nat_eq y (drop (length run) pat)) (sym same) ∙ sym (starts_with-across pat run y fits)
-          ∙ met-run so_far is run_is;
-    } in
-    rw (next_is, rest_is) step
-
--- at the end
-pub met-end : {whole : Bool} {before : ℕ} {pat : List ℕ} {left : List Piece} → IsMetSoFar whole before pat left → left ≡ [] → (length pat == 0) ≡ whole
-met-end {whole} {before} {pat} so_far none =
-    let last = subst (IsMetSoFar whole before pat) none so_far in
-    empty pat ∙ ap (λ v. starts_with nat_eq v pat) (sym (drop-nil before)) ∙ last.met
-  where
-    empty : (p : List ℕ) → (length p == 0) ≡ starts_with nat_eq [] p
-    empty [] = refl
-    empty (b ∷ p) = (let some : (length (b ∷ p) == 0) ≡ false = grind (arith, nat_tests) in some)
 
 -- A text may be cut after what it begins with, and before what it ends with.
 

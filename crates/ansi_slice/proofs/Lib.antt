@@ -3,7 +3,6 @@ pub mod ShowLemmas
 pub mod PositionLemmas
 pub mod MatchLemmas
 pub mod FindLemmas
-pub mod BorderLemmas
 pub mod TwoWayLemmas
 pub mod WindowLemmas
 pub mod CutLemmas
@@ -15,6 +14,7 @@ pub mod OffsetLemmas
 pub mod SideWalkLemmas
 pub mod TrimWalkLemmas
 pub mod EndLemmas
+pub mod PrefixLemmas
 pub mod ShownLemmas
 pub mod CutSliceLemmas
 pub mod SideSliceLemmas

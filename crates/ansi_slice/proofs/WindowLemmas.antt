@@ -1,27 +1,31 @@
--- A search that goes forward by the cut of a long pattern, a window at a time.
-use Rattle.std.proofs.Common.{◌≡◌, ◌≢◌, ℕ, ◌+◌, ◌-◌, ◌<◌, ◌≤◌, inl, inr, true, false, List, ◌++◌, take, drop, length, nat_eq, IsTrue, Some, None, refl, sym, ◌∙◌, ap, subst, arith, slice_index}
-use Rattle.std.proofs.lemmas.Bool.{and_parts, cases_lt, true≢false}
-use Rattle.std.proofs.lemmas.List.{get_or-take, length-take-le, length-drop, length-append, drop-drop, drop-append-le, drop_at, take_at}
+-- A search that goes forward by the cut of a pattern, a window at a time.
+use Rattle.std.proofs.Common.{◌≡◌, ◌≢◌, ℕ, ◌+◌, ◌-◌, ◌<◌, ◌≤◌, inl, inr, true, false, List, [], ◌∷◌, ◌++◌, take, drop, length, nat_eq, IsTrue, Some, None, refl, sym, ◌∙◌, ap, subst, arith, slice_index}
+use Rattle.std.proofs.Math.Seq.{get_or-append_right}
+use Rattle.std.proofs.lemmas.Bool.{and_parts, cases_lt, eq-eqb, true≢false}
+use Rattle.std.proofs.lemmas.List.{get_or-take, get_or_append_left, get_or-append-add, length-take-le, length-drop, length-append, drop-drop, drop-append-le, drop_at, take_at}
 use Rattle.std.proofs.lemmas.Str.{IsCharBoundary-start, IsCharBoundary-from_rest}
 use Rattle.std.specs.List.{starts_with, slice_range}
 use Rattle.std.specs.Str.{IsUtf8, IsCharBoundary}
-use Rattle.memchr.specs.Find.{Nowhere, OccursAt}
+use Rattle.memchr.specs.Find.{Nowhere, OccursAt, Passes, is_byte}
 use Rattle.memchr.specs.TwoWay.{OccursIn}
 use Rattle.memchr.proofs.lemmas.FindLemmas.{Nowhere-then}
 use Rattle.memchr.proofs.lemmas.MatchLemmas.{OccursAt-split, OccursAt-from_part}
 use Rattle.memchr.proofs.lemmas.SearchLemmas.{Nowhere-right, Nowhere-left, known-next}
+use Rattle.ansi_items.specs.Bytes.{escape}
 use Rattle.ansi_items.specs.declared.ansitok.Item.{Item}
 use Rattle.ansi_items.specs.declared.ansitok.Kind.TheVariants.{Text as TextKind}
+use Rattle.ansi_items.specs.Pieces.{Piece, Text, Sequence, LoneEscape, ArePieces, pieces_of}
 use Rattle.ansi_items.specs.Plain.{plain, plain_of}
 use Rattle.ansi_items.specs.Scans.{Scan, Gives, pieces_left}
 use Rattle.ansi_items.proofs.StepLemmas.{BeginsWithMark, gives_text, gives_mark, plain_of-mark}
+use Rattle.ansi_items.proofs.PieceLemmas.{pieces_are}
 use Rattle.ansi_items.proofs.PlainLemmas.{length-plain}
 use Rattle.ansi_slice.specs.declared.search.critical.Cut.{Cut}
 use Rattle.ansi_slice.specs.declared.search.two_way.Point.{Point}
 use Rattle.ansi_slice.specs.declared.search.two_way.Window.{Window}
 use Rattle.ansi_slice.specs.Parts.{first_match_from}
 use Rattle.ansi_slice.specs.Positions.{is_char_boundary}
-use Rattle.ansi_slice.specs.Searches.{IsCut, Meets, IsReached, IsPoint, Comes, IsApart}
+use Rattle.ansi_slice.specs.Searches.{IsCut, Meets, IsReached, IsPoint, Comes, IsApart, StandsNowhere, IsAhead}
 use Rattle.ansi_slice.proofs.MatchLemmas.{IsMatch, is_match-utf8, starts_with-occurs, starts_with-from, first_match_from-is}
 use Rattle.ansi_slice.proofs.SliceLemmas.{length-slice_range}
 use Rattle.ansi_slice.proofs.EndLemmas.{starts_with-within}
@@ -67,31 +71,45 @@ apart-both x p i c within other occurs =
 nowhere : (x p : List ℕ) (i j : ℕ) → Nowhere (OccursIn (slice_index p) (length p) (slice_index x) (length x)) i j → Nowhere (OccursAt x p) i j
 nowhere x p i j none k low high occurs = none k low high (record { fits = occurs.fits; reads = occurs.reads })
 
--- another byte than the next one, after which the first byte past the cut stands first at n in the run
-pub reached-mismatch : {t p : List ℕ} {cut : Cut} {start : ℕ} {w : Window} (run : List ℕ) (place n : ℕ) → IsCut p cut → Comes t p cut.at start w → OccursAt (plain t) run place
+-- another byte than the next one, where the byte of p at the place r stands in no match before n
+pub reached-mismatch : {t p : List ℕ} {cut : Cut} {start : ℕ} {w : Window} (run : List ℕ) (place r n : ℕ) → IsCut p cut → r ≤ cut.at → Comes t p cut.at start w → OccursAt (plain t) run place
     → place ≤ w.position + w.met → w.position + w.met < place + length run → slice_index run (w.position + w.met - place) ≢ slice_index p w.met
-    → w.position + w.met - place + 1 ≤ n → n ≤ length run → ((i : ℕ) → w.position + w.met - place + 1 ≤ i → i < n → slice_index run i ≢ slice_index p cut.at)
-    → IsReached t p start (place + n - cut.at)
-reached-mismatch {t} {p} {cut} {start} {w} run place n is_cut comes occurs past inside other forward within passed =
+    → w.position + (w.met - cut.at) + 1 ≤ n → n + r ≤ place + length run → ((k : ℕ) → w.position + (w.met - cut.at) + 1 ≤ k → k < n → slice_index (plain t) (k + r) ≢ slice_index p r)
+    → IsReached t p start n
+reached-mismatch {t} {p} {cut} {start} {w} run place r n is_cut upto comes occurs past inside other forward within passed =
     let x = plain t in
     let c = cut.at in
     let pos = w.position in
     let met = w.met in
     let from : c ≤ met = comes.cut in
     let low : w.low ≤ c = comes.low in
+    let below : c < length p = is_cut.below in
     let fits : place + length run ≤ length x = occurs.fits in
     let begins : start ≤ pos = comes.reached.forward in
     let here : Nowhere (OccursAt x p) pos (pos + (met - c + 1))
     = nowhere x p pos (pos + (met - c + 1)) (Nowhere-right (slice_index p) (length p) (slice_index x) (length x) c is_cut.critical pos met from comes.short (meets-from x p pos w.low c met low comes.meets)
     (λ same. other (sym (in-run x run place (pos + met) occurs past inside) ∙ sym same))) in
-    let there : Nowhere (OccursAt x p) (pos + (met - c + 1)) (place + n - c) = λ k above below stands.
-    passed (k + c - place) (omega (arith, above, past, from)) (omega (arith, below, above, past, from))
-    (sym (in-run x run place (k + c) occurs (omega (arith, above, past, from)) (omega (arith, below, within, above, past, from))) ∙ stands.reads c is_cut.below) in
+    let there : Nowhere (OccursAt x p) (pos + (met - c + 1)) n = λ k above before stands. passed k (omega (arith, above)) before (stands.reads r (omega (arith, upto, below))) in
     record {
-      forward = omega (arith, begins, forward, past, from);
+      forward = omega (arith, begins, forward);
       within = omega (arith, fits, within, length-plain t);
       none = Nowhere-then comes.reached.none (Nowhere-then here there);
     }
+
+-- a byte that stands nowhere in the text from an offset of the run on, at which it would stand in a match at m
+pub passed-in-run : {t run : List ℕ} {here : Point} (b m r from next n : ℕ) → OccursAt (plain t) run here.position → OccursAt t run here.offset
+    → here.position ≤ m + r → from ≡ here.offset + (m + r - here.position) → n + r ≤ here.position + length run → n + from ≤ m + next
+    → StandsNowhere b t from next → (k : ℕ) → m ≤ k → k < n → slice_index (plain t) (k + r) ≢ b
+passed-in-run {t} {run} {here} b m r from next n occurs bytes past is inside before none k low high same =
+    let j = from + (k - m) in
+    let at : j - here.offset ≡ k + r - here.position = omega (arith, past, is, low) in
+    none j (omega arith) (omega (arith, before, low, high))
+    (in-run t run here.offset j bytes (omega (arith, is)) (omega (arith, past, is, low, high, inside)) ∙ ap (slice_index run) at
+    ∙ sym (in-run (plain t) run here.position (k + r) occurs (omega (arith, past, low)) (omega (arith, high, inside))) ∙ same)
+
+-- the window moves on in the run
+pub ahead-later : (t p : List ℕ) (r : ℕ) (here : Point) (w v : Window) → IsAhead t p r here w → v.next ≡ w.next → w.position ≤ v.position → IsAhead t p r here v
+ahead-later t p r here w v ahead same later j from before = ahead j (omega (arith, later, from)) (omega (arith, same, before))
 
 -- the next byte
 pub comes-next : {t p : List ℕ} {c start : ℕ} {w : Window} (run : List ℕ) (place : ℕ) → Comes t p c start w → OccursAt (plain t) run place
@@ -131,7 +149,7 @@ reached-apart {t} {p} {cut} {start} {w} is_cut apart =
 
 -- and what was met is known a period on
 pub comes-repeats : {t p : List ℕ} {cut : Cut} {start : ℕ} {w : Window} → IsCut p cut → IsTrue cut.repeats → IsApart t p cut.at start w
-    → Comes t p cut.at start (record { position = w.position + cut.shift; low = 0; met = length p - cut.shift; point = w.point })
+    → Comes t p cut.at start (record { position = w.position + cut.shift; low = 0; met = length p - cut.shift; point = w.point; next = w.next })
 comes-repeats {t} {p} {cut} {start} {w} is_cut repeats apart =
     let x = plain t in
     let period = is_cut.period repeats in
@@ -195,6 +213,12 @@ run-occurs {new = new} {w = w} x place gives same kind left is within =
 pub run-length : {old new : Scan} {item : Item} {u : List ℕ} → Gives old item new → old.text ≡ u → length (slice_range u item.start item.end) ≡ item.end - item.start
 run-length {item = item} {u = u} gives same = length-slice_range u item.start item.end (omega (arith, gives.forward)) (omega (arith, gives.end_boundary.0, ap length same))
 
+-- it stands in the text too
+pub run-stands : {old new : Scan} {item : Item} {u w : List ℕ} → Gives old item new → old.text ≡ u → w ≡ slice_range u item.start item.end → OccursAt u w item.start
+run-stands {item = item} {u = u} {w = w} gives same is =
+    let size : length w ≡ item.end - item.start = ap length is ∙ run-length gives same in
+    OccursAt-from_part u w item.start (omega (arith, size, gives.forward, gives.end_boundary.0, ap length same)) (ap (λ n. take n (drop item.start u)) size ∙ sym is)
+
 -- what is left after a sequence
 pub mark-left : {old new : Scan} {item : Item} {u : List ℕ} (x : List ℕ) (place : ℕ) → Gives old item new → old.text ≡ u → item.kind ≢ TextKind → plain_of (pieces_left old) ≡ drop place x → plain_of (pieces_left new) ≡ drop place x
 mark-left {old} {new} {item} {u} x place gives same kind left =
@@ -218,6 +242,31 @@ front-from-point t f point i is =
     ap (λ v. starts_with nat_eq (drop (i - point.position) v) f) is.rest
     ∙ ap (λ v. starts_with nat_eq v f) (drop-drop (i - point.position) point.position (plain t) ∙ ap (λ n. drop n (plain t)) sum)
 
+-- A byte that stands nowhere in a text stands nowhere in its plain text.
+
+abbrev Lacks : ℕ → List ℕ → Type 0
+Lacks b x = StandsNowhere b x 0 (length x)
+
+lacks-front : (b : ℕ) (x u v : List ℕ) → x ≡ u ++ v → Lacks b x → Lacks b u
+lacks-front b x u v is none j low inside same =
+    none j low (omega (arith, ap length is, length-append u v, inside)) (ap (λ y. slice_index y j) is ∙ get_or_append_left u v 0 j inside ∙ same)
+
+lacks-rest : (b : ℕ) (x u v : List ℕ) → x ≡ u ++ v → Lacks b x → Lacks b v
+lacks-rest b x u v is none j low inside same =
+    none (length u + j) (omega arith) (omega (arith, ap length is, length-append u v, inside)) (ap (λ y. slice_index y (length u + j)) is ∙ get_or-append-add u v j 0 ∙ same)
+
+lacks-append : (b : ℕ) (u v : List ℕ) → Lacks b u → Lacks b v → Lacks b (u ++ v)
+lacks-append b u v front rest j low inside same = elim (cases_lt j (length u)) [
+  | inl before ↦ front j low before (sym (get_or_append_left u v 0 j before) ∙ same)
+  | inr past ↦ rest (j - length u) (omega arith) (omega (arith, inside, length-append u v, past)) (sym (get_or-append_right u v j 0 past) ∙ same)
+]
+
+lacks-plain_of : (b : ℕ) (t : List ℕ) (ps : List Piece) → ArePieces t ps → Lacks b t → Lacks b (plain_of ps)
+lacks-plain_of b t [] are none = λ j low inside _. omega (arith, low, inside)
+lacks-plain_of b t (Text w ∷ ps) are none = lacks-append b w (plain_of ps) (lacks-front b t w are.0 are.1 none) (lacks-plain_of b are.0 ps are.3 (lacks-rest b t w are.0 are.1 none))
+lacks-plain_of b t (Sequence w ∷ ps) are none = lacks-plain_of b are.0 ps are.3 (lacks-rest b t w are.0 are.1 none)
+lacks-plain_of b t (LoneEscape ∷ ps) are none = lacks-plain_of b are.0 ps are.3 (lacks-rest b t (escape ∷ []) are.0 are.1 none)
+
 -- The first match.
 
 match-occurs : (x p : List ℕ) (i : ℕ) → 0 < length p → IsMatch x p i → OccursAt x p i
@@ -237,6 +286,13 @@ reached-match {t} {p} {from} {i} utf8 some reached occurs =
 
 pub none-past : (x p : List ℕ) (from : ℕ) → length x < from → None ≡ first_match_from x p from
 none-past x p from past = first_match_from-is x p from None (λ k low high _. omega (arith, past, low, high))
+
+pub none-without : (t p : List ℕ) (from r : ℕ) → r < length p → Nowhere (Passes (is_byte (slice_index p r)) t) 0 (length t) → None ≡ first_match_from (plain t) p from
+none-without t p from r inside none =
+    let lacks = lacks-plain_of (slice_index p r) t (pieces_of t) (pieces_are t) (λ j low before same. none j low before (eq-eqb _ _ same)) in
+    first_match_from-is (plain t) p from None (λ k low high found.
+    let occurs = match-occurs (plain t) p k (omega (arith, inside)) found in
+    lacks (k + r) (omega arith) (omega (arith, inside, occurs.fits)) (occurs.reads r inside))
 
 pub reached-end : {t p : List ℕ} {c from : ℕ} {w : Window} → 0 < length p → Comes t p c from w → length (plain t) ≤ w.position + w.met → None ≡ first_match_from (plain t) p from
 reached-end {t} {p} {c} {from} {w} some comes end =

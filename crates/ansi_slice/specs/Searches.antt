@@ -1,73 +1,15 @@
--- A search that reads a text once: with how much of a pattern the bytes read end, and where a match may still begin.
-use Rattle.std.specs.Prelude.{◌≡◌, ◌≢◌, ℕ, ◌+◌, ◌-◌, ◌<◌, ◌≤◌, List, length, drop, nat_eq, slice_index, IsTrue, IsFalse}
-use Rattle.std.specs.List.{starts_with}
+-- A search that reads a text once: where a pattern is cut, and which bytes of it stand where a match may still begin.
+use Rattle.std.specs.Prelude.{◌≡◌, ◌≢◌, ℕ, ◌+◌, ◌<◌, ◌≤◌, List, length, drop, slice_index, IsTrue, IsFalse}
 use Rattle.std.specs.Prelude.{Bool, true, false}
 use Rattle.std.specs.Str.{IsCharBoundary}
 use Rattle.memchr.specs.Critical.{IsPeriod, IsCritical, NoPeriodBelow}
 use Rattle.memchr.specs.Find.{Nowhere, OccursAt}
 use Rattle.ansi_items.specs.Plain.{plain}
-use Rattle.ansi_slice.specs.declared.search.pattern.Reading.{Reading}
-use Rattle.ansi_slice.specs.declared.search.pattern.Reading.TheVariants.{Match, Open}
 use Rattle.ansi_slice.specs.declared.search.critical.Cut.{Cut}
 use Rattle.ansi_slice.specs.declared.search.two_way.Point.{Point}
 use Rattle.ansi_slice.specs.declared.search.two_way.Window.{Window}
 use Rattle.ansi_slice.specs.declared.search.two_way.Sight.{Sight}
-use Rattle.ansi_slice.specs.declared.search.two_way.Sight.TheVariants.{Match as At, Open as Further}
-
--- the first n bytes of p stand in x at s
-abbrev pub StandsAt : List ℕ → List ℕ → ℕ → ℕ → Type 0
-StandsAt x p s n = (j : ℕ) → j < n → slice_index x (s + j) ≡ slice_index p j
-
--- b bytes are the longest border of the first k bytes of p: what those begin and end with, and that isn't all of them (Knuth, Morris and Pratt, 1977)
-pub record IsBorder (p : List ℕ) (k b : ℕ) : Type 0 where
-  pub shorter : b < k
-  pub stands : StandsAt p p (k - b) b
-  pub longest : (n : ℕ) → b < n → n < k → ¬ (StandsAt p p (k - n) n)
-
--- the borders of the first bytes of p, from one byte up to n
-abbrev pub AreBorders : List ℕ → List ℕ → ℕ → Type 0
-AreBorders p borders n = (k : ℕ) → 0 < k → k ≤ n → IsBorder p k (slice_index borders (k - 1))
-
--- the first k bytes of p end with its first n, which the byte c follows in p
-abbrev pub GoesOn : List ℕ → ℕ → ℕ → ℕ → Type 0
-GoesOn p k c n = StandsAt p p (k - n) n × (slice_index p n ≡ c)
-
--- the first k bytes of p and then the byte c end with the first r bytes of p, and with no more of them
-pub record IsNext (p : List ℕ) (k c r : ℕ) : Type 0 where
-  pub within : r ≤ k + 1
-  pub ends : 0 < r → GoesOn p k c (r - 1)
-  pub longest : (n : ℕ) → r ≤ n → n ≤ k → ¬ (GoesOn p k c n)
-
--- p stands in x at j
-abbrev pub IsFound : List ℕ → List ℕ → ℕ → Type 0
-IsFound x p j = IsTrue (starts_with nat_eq (drop j x) p)
-
--- i bytes of x are read: they end with the first k of p, and before those no match begins
-pub record IsRead (x p : List ℕ) (i k : ℕ) : Type 0 where
-  pub within : k ≤ i
-  pub short : k < length p
-  pub stands : StandsAt x p (i - k) k
-  pub none : Nowhere (IsFound x p) 0 (i - k)
-
--- the first match in x is the one that ends at i
-pub record IsMatched (x p : List ℕ) (i : ℕ) : Type 0 where
-  pub fits : length p ≤ i
-  pub found : IsFound x p (i - length p)
-  pub none : Nowhere (IsFound x p) 0 (i - length p)
-
--- after i bytes of x a run was read, which stands in a text from the offset `from` up to n
-abbrev pub Reads : List ℕ → List ℕ → ℕ → ℕ → ℕ → Reading → Type 0
-Reads x p i n from (Match end) = IsMatched x p (i + (end - from))
-Reads x p i n from (Open reached) = IsRead x p (i + (n - from)) reached.met
-
--- the first byte of p stands nowhere in the text t from the offset m up to n
-abbrev pub BeginsNowhere : List ℕ → List ℕ → ℕ → ℕ → Type 0
-BeginsNowhere p t m n = (j : ℕ) → m ≤ j → j < n → slice_index t j ≢ slice_index p 0
-
--- the offset at which the reading of that run ends: that of a match in the run, or one up to which no other begins after it
-abbrev pub Stops : List ℕ → List ℕ → ℕ → ℕ → Reading → Type 0
-Stops p t n from (Match end) = (from ≤ end) × (end ≤ n)
-Stops p t n from (Open reached) = BeginsNowhere p t n reached.next
+use Rattle.ansi_slice.specs.declared.search.two_way.Sight.TheVariants.{Match, Open}
 
 -- the order of bytes, and the opposite one
 unfoldable pub Precedes : Bool → ℕ → ℕ → Type 0
@@ -117,7 +59,15 @@ pub record IsApart (t p : List ℕ) (c start : ℕ) (w : Window) : Type 0 where
   pub fits : w.position + length p ≤ length (plain t)
   pub other : ¬ (OccursAt (plain t) p w.position)
 
--- what a run showed that ends at the position n
-abbrev pub Seeks : List ℕ → List ℕ → ℕ → ℕ → ℕ → Sight → Type 0
-Seeks t p c start n (At i) = IsReached t p start i × OccursAt (plain t) p i
-Seeks t p c start n (Further w) = Comes t p c start w × (n ≤ w.position + w.met)
+-- the byte b stands nowhere in x from the place m up to n
+abbrev pub StandsNowhere : ℕ → List ℕ → ℕ → ℕ → Type 0
+StandsNowhere b x m n = (j : ℕ) → m ≤ j → j < n → slice_index x j ≢ b
+
+-- the byte of p at the place r stands nowhere in t before w.next, from where it would stand in a match at the window, where that lies in a run that begins at the point or later
+abbrev pub IsAhead : List ℕ → List ℕ → ℕ → Point → Window → Type 0
+IsAhead t p r here w = (j : ℕ) → w.position + r + here.offset ≤ here.position + j → j < w.next → slice_index t j ≢ slice_index p r
+
+-- what a run showed that begins at the point and ends at the position n
+abbrev pub Seeks : List ℕ → List ℕ → ℕ → ℕ → ℕ → Point → ℕ → Sight → Type 0
+Seeks t p c r start here n (Match i) = IsReached t p start i × OccursAt (plain t) p i
+Seeks t p c r start here n (Open w) = Comes t p c start w × (n ≤ w.position + w.met) × IsAhead t p r here w

@@ -8,12 +8,13 @@ mod critical;
 pub(crate) mod ends;
 mod matches;
 pub(crate) mod offsets;
-mod pattern;
+mod prefix;
 mod two_way;
 
 use ansi_items::ansitok::{Kind, Scanner};
-pub use ends::{ends_with, starts_with};
+pub use ends::ends_with;
 pub use matches::{find, find_from, first_in_run};
+pub use prefix::starts_with;
 
 /// Whether the position is good: a character of the plain text begins there, or it is the end of the
 /// plain text or lies past it. (std; past the end, the Rust crate.)

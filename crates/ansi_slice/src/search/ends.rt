@@ -1,21 +1,13 @@
-//! What a plain text begins and ends with, and its white space at both ends.
-ghost use Rattle.std.specs.Prelude.{◌≡◌, ◌-◌, MatchOption, length, drop, nat_eq, IsTrue, IsFalse};
-ghost use Rattle.std.specs.List.{starts_with, ends_with};
+//! What a plain text ends with, and its white space at both ends.
+ghost use Rattle.std.specs.Prelude.{◌≡◌, ◌-◌, MatchOption, length, nat_eq, IsTrue, IsFalse};
+ghost use Rattle.std.specs.List.{ends_with};
 ghost use Rattle.std.specs.Str.{trim_start, trim_end};
 ghost use Rattle.ansi_items.specs.Plain.{plain};
 ghost use Rattle.ansi_slice.specs.Offsets.{KeepsUpTo};
 
 use crate::search::offsets::offset_at;
+use crate::search::prefix::stands_at;
 use ansi_items::ansitok::{Kind, Scanner};
-
-/// Whether the plain text begins with the pattern. (std.)
-///
-/// The pattern is met across sequences. Takes no memory.
-pub fn starts_with(text: &str, pat: &str) -> bool
-    ensures { result ≡ starts_with nat_eq (plain text.now) pat.now }
-{
-    stands_at(text, pat.as_bytes(), 0)
-}
 
 /// Whether the plain text ends with the pattern. (std.)
 ///
@@ -54,29 +46,6 @@ pub(crate) fn suffix_offset(text: &str, pat: &str) -> Option<usize>
         return None;
     }
     Some(last + offset_at(rest, place))
-}
-
-/// Whether the plain text goes on with the pattern from a place on.
-pub(super) fn stands_at(text: &str, pat: &[u8], place: usize) -> bool
-    ensures { result ≡ starts_with nat_eq (drop place (plain text.now)) pat.now }
-{
-    let mut before = place;
-    let mut rest = pat;
-    for item in Scanner::new(text) {
-        if item.kind == Kind::Text {
-            let piece = text[item.start..item.end].as_bytes();
-            let run = &piece[before.min(piece.len())..];
-            if rest.len() <= run.len() {
-                return run.starts_with(rest);
-            }
-            if !rest.starts_with(run) {
-                return false;
-            }
-            rest = &rest[run.len()..];
-            before = before.saturating_sub(piece.len());
-        }
-    }
-    rest.is_empty()
 }
 
 /// How many bytes the white space at the front of the plain text takes.

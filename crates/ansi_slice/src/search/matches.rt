@@ -6,8 +6,7 @@ ghost use Rattle.ansi_items.specs.Plain.{plain};
 ghost use Rattle.ansi_slice.specs.Positions.{is_good_range};
 ghost use Rattle.ansi_slice.specs.Parts.{is_match, first_match_from};
 
-use crate::search::pattern::{Pattern, Reached, Reading};
-use crate::search::two_way::{LongPattern, Sight};
+use crate::search::two_way::{Pattern, Point, Sight};
 use ansi_items::ESC;
 use ansi_items::ansitok::{Kind, Scanner};
 use memchr::{memchr, memmem};
@@ -30,9 +29,8 @@ pub fn find(text: &str, pat: &str) -> Option<usize>
 /// A match may run across sequences. An empty pattern stands at each character boundary, and a
 /// pattern with an ESC nowhere. Positions count bytes of the plain text. Takes no memory.
 ///
-/// A text without ESC is searched as one. Any other is read once; for a pattern of more than 256 bytes,
-/// twice where a first part of it may stand. So a search takes time in proportion to the text and the
-/// pattern.
+/// A text without ESC is searched as one. Any other is read once, and twice where a first part of the
+/// pattern may stand. So a search takes time in proportion to the text and the pattern.
 pub fn find_from(text: &str, pat: &str, from: usize) -> Option<usize>
     ensures { result ≡ first_match_from (plain text.now) pat.now from }
 {
@@ -43,8 +41,7 @@ pub fn find_from(text: &str, pat: &str, from: usize) -> Option<usize>
         return None;
     }
     match memchr(ESC, text.as_bytes()) {
-        Some(_) if pat.len() <= 256 => find_across(text, pat, from),
-        Some(_) => find_long(text, pat, from),
+        Some(_) => find_across(text, pat, from),
         None => first_in_run(text, pat, from),
     }
 }
@@ -93,48 +90,26 @@ fn find_bytes(run: &[u8], pat: &[u8]) -> Option<usize>
     }
 }
 
-/// As [`find_from`], by a walk over the items, for a pattern of 1 to 256 bytes.
+/// As [`find_from`], by a walk over the items, for a pattern that isn't empty.
 fn find_across(text: &str, pat: &str, from: usize) -> Option<usize>
-    requires some { 0 < length pat.now }
-    requires most { length pat.now ≤ 256 }
-    ensures { result ≡ first_match_from (plain text.now) pat.now from }
-{
-    let pattern = Pattern::new(pat);
-    let mut place = 0;
-    let mut reached = Reached { met: 0, next: 0 };
-    for item in Scanner::new(text) {
-        if item.kind == Kind::Text {
-            let len = item.end - item.start;
-            let start = item.start + from.saturating_sub(place).min(len);
-            match pattern.read(text, start, item.end, reached) {
-                Reading::Match(end) => {
-                    let after = place + (end - item.start);
-                    return Some(after - pat.len());
-                }
-                Reading::Open(further) => reached = further,
-            }
-            place += len;
-        }
-    }
-    None
-}
-
-/// As [`find_from`], by Two-Way and a walk over the items, for a pattern that isn't empty nor longer than the
-/// text.
-fn find_long(text: &str, pat: &str, from: usize) -> Option<usize>
     requires some { 0 < length pat.now }
     ensures { result ≡ first_match_from (plain text.now) pat.now from }
 {
     if text.len() < from {
         return None;
     }
-    let pattern = LongPattern::new(pat);
+    let pattern = Pattern::new(pat);
+    let next = memchr(pattern.rare_byte(), text.as_bytes())?;
     let mut place = 0;
-    let mut window = pattern.first_window(from);
+    let mut window = pattern.first_window(from, next);
     for item in Scanner::new(text) {
         if item.kind == Kind::Text {
             let run = text[item.start..item.end].as_bytes();
-            match pattern.read(text, run, place, window) {
+            let here = Point {
+                offset: item.start,
+                position: place,
+            };
+            match pattern.read(text, run, here, window) {
                 Sight::Match(position) => return Some(position),
                 Sight::Open(further) => window = further,
             }

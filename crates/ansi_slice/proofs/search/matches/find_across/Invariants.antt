@@ -1,7 +1,7 @@
-use Rattle.std.proofs.Common.{◌≡◌, ◌-◌, ◌≤◌, length, drop}
+use Rattle.std.proofs.Common.{◌≡◌, ◌≤◌, ◌+◌, length, drop}
 use Rattle.ansi_items.specs.Plain.{plain, plain_of}
 use Rattle.ansi_items.specs.Scans.{pieces_left}
-use Rattle.ansi_slice.specs.Searches.{IsRead, BeginsNowhere}
+use Rattle.ansi_slice.specs.Searches.{Comes, IsAhead}
 use Rattle.ansi_slice.proofs.search.matches.find_across.Given as goal
 
 -- what is left is the plain text from the place on, and up to there it is read
@@ -10,7 +10,7 @@ invariant-loop-item l = record {
   text : l.item-iterator.text ≡ l.text;
   left : plain_of (pieces_left l.item-iterator) ≡ drop l.place (plain l.text);
   within : l.place ≤ length (plain l.text);
-  bounded : l.place ≤ l.item-iterator.offset;
-  read : IsRead (drop l.from (plain l.text)) l.pattern.bytes.now (l.place - l.from) l.reached.met;
-  known : BeginsNowhere l.pattern.bytes.now l.text l.item-iterator.offset l.reached.next;
+  comes : Comes l.text l.pattern.bytes.now l.pattern.cut.at l.from l.window;
+  read : l.place ≤ l.window.position + l.window.met;
+  ahead : IsAhead l.text l.pattern.bytes.now l.pattern.rare (record { offset = l.item-iterator.offset; position = l.place }) l.window;
 }

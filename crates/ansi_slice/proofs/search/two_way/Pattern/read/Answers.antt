@@ -2,26 +2,21 @@ use Rattle.std.proofs.Common.{◌≤◌, ◌+◌, length, sym, ◌∙◌, arith}
 use Rattle.ansi_items.specs.Plain.{plain}
 use Rattle.ansi_items.proofs.PlainLemmas.{length-plain}
 use Rattle.ansi_slice.specs.Searches.{IsCut, IsApart}
-use Rattle.ansi_slice.proofs.WindowLemmas.{reached-mismatch, meets-from, meets-last, stands-both, apart-both, point-later}
-use Rattle.ansi_slice.proofs.search.two_way.LongPattern.read.Goals as goal
+use Rattle.ansi_slice.proofs.WindowLemmas.{comes-then, ahead-later, meets-from, meets-last, stands-both, apart-both}
+use Rattle.ansi_slice.proofs.search.two_way.Pattern.read.Goals as goal
 
 pub overflow_add-end : goal.overflow_add-end
 overflow_add-end c = omega (arith, c.requires.run.fits, length-plain c.args.text.now, c.well_formed.1.0)
 
-pub overflow_add-place : goal.overflow_add-place
-overflow_add-place c = omega (arith, c.requires.run.fits, length-plain c.args.text.now, c.well_formed.1.0, c.first_of-start.ensures.within)
-
 -- another byte than the next one
 pub loop-window-preserved-then-run-at : goal.loop-window-preserved-then-run-at
 loop-window-preserved-then-run-at c =
-    let w = c.loop-window.window in
-    let comes = c.loop-window.invariant.comes in
-    let next = c.first_of-start.ensures in
-    let past = c.loop-window.invariant.place in
-    let reached = reached-mismatch c.args.run.now c.args.place c.first_of-start.result c.args.self.now.is_cut comes c.requires.run past c.loop-window-test.true c.if-run-at.true next.forward next.within next.passed in
+    let so_far = c.loop-window.invariant in
+    let moved = c.after_mismatch-window.ensures in
     record {
-      comes = c.window_at-window.ensures.comes c.args.text.now c.args.window.position reached (point-later comes.point (omega (arith, next.forward, comes.cut, past)));
-      place = omega (arith, c.window_at-window.ensures.position, c.window_at-window.ensures.met, next.forward, comes.cut, past);
+      comes = comes-then so_far.comes.reached moved.comes;
+      place = omega (arith, moved.forward, so_far.place);
+      ahead = moved.ahead;
     }
 
 -- what follows the cut stands, and what stands before it
@@ -33,7 +28,7 @@ returns-then-front_stands c =
     let comes = c.loop-window.invariant.comes in
     let is_cut : IsCut p c.args.self.now.cut = c.args.self.now.is_cut in
     let last : length p ≤ w.met + 1 = omega (arith, c.if-window-self.false) in
-    let meets = meets-last c.args.run.now c.args.place comes c.requires.run c.loop-window.invariant.place c.loop-window-test.true c.if-run-at.false last in (
+    let meets = meets-last c.args.run.now c.args.here.position comes c.requires.run c.loop-window.invariant.place c.loop-window-test.true c.if-run-at.false last in (
       comes.reached,
       stands-both x p w.position w.low c.args.self.now.cut.at meets comes.low (omega (arith, is_cut.below)) (sym c.front_stands.ensures ∙ c.if-front_stands.true)
           (omega (arith, last, c.loop-window-test.true, c.requires.run.fits)),
@@ -49,8 +44,8 @@ loop-window-preserved c =
     let comes = c.loop-window.invariant.comes in
     let is_cut : IsCut p cut = c.args.self.now.is_cut in
     let last : length p ≤ w.met + 1 = omega (arith, c.if-window-self.false) in
-    let meets = meets-last c.args.run.now c.args.place comes c.requires.run c.loop-window.invariant.place c.loop-window-test.true c.if-run-at.false last in
-    let apart : IsApart t p cut.at c.args.window.position (record { position = w.position; low = w.low; met = w.met; point = c.point_before-window.result }) = record {
+    let meets = meets-last c.args.run.now c.args.here.position comes c.requires.run c.loop-window.invariant.place c.loop-window-test.true c.if-run-at.false last in
+    let apart : IsApart t p cut.at c.args.window.position (record { position = w.position; low = w.low; met = w.met; point = c.point_before-window.result; next = w.next }) = record {
       reached = comes.reached;
       point = c.point_before-window.ensures;
       meets = meets-from (plain t) p w.position w.low cut.at (length p) comes.low meets;
@@ -60,4 +55,5 @@ loop-window-preserved c =
     record {
       comes = c.after_front-window.ensures.comes t c.args.window.position apart;
       place = omega (arith, c.after_front-window.ensures.forward, c.loop-window.invariant.place, comes.short);
+      ahead = ahead-later t p c.args.self.now.rare c.args.here w c.after_front-window.result c.loop-window.invariant.ahead c.after_front-window.ensures.next (omega (arith, c.after_front-window.ensures.past));
     }

@@ -1,12 +1,13 @@
 use Rattle.std.proofs.Common.{◌≤◌, ◌+◌, ◌-◌, length, ◌*◌}
-use Rattle.ansi_slice.specs.Searches.{Comes}
-use Rattle.ansi_slice.proofs.search.two_way.LongPattern.read.Given as goal
+use Rattle.ansi_slice.specs.Searches.{Comes, IsAhead}
+use Rattle.ansi_slice.proofs.search.two_way.Pattern.read.Given as goal
 
 -- the search has come up to the window
 abbrev pub invariant-loop-window : goal.invariant-loop-window
 invariant-loop-window l = record {
   comes : Comes l.text l.self.bytes.now l.self.cut.at l.initial.window.position l.window;
-  place : l.place ≤ l.window.position + l.window.met;
+  place : l.here.position ≤ l.window.position + l.window.met;
+  ahead : IsAhead l.text l.self.bytes.now l.self.rare l.here l.window;
 }
 
 -- one more place of the run is read, or the window moves on

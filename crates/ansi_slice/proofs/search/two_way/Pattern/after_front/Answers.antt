@@ -1,7 +1,7 @@
 use Rattle.std.proofs.Common.{◌≤◌, ◌+◌, length, arith}
 use Rattle.ansi_slice.specs.Searches.{IsCut}
 use Rattle.ansi_slice.proofs.WindowLemmas.{reached-apart, comes-repeats, point-later}
-use Rattle.ansi_slice.proofs.search.two_way.LongPattern.after_front.Goals as goal
+use Rattle.ansi_slice.proofs.search.two_way.Pattern.after_front.Goals as goal
 
 -- the shift is no period
 pub returns-then-not-self-clause-forward : goal.returns-then-not-self-clause-forward

@@ -4,7 +4,7 @@ use Rattle.std.proofs.lemmas.Bool.{eq-eqb}
 use Rattle.std.proofs.lemmas.List.{get_or-drop, length-drop}
 use Rattle.memchr.specs.Find.{Nowhere, Passes, is_byte}
 use Rattle.ansi_slice.proofs.SliceLemmas.{slice_range-past}
-use Rattle.ansi_slice.proofs.search.pattern.first_of.Goals as goal
+use Rattle.ansi_slice.proofs.search.two_way.next_of.Goals as goal
 
 -- what isn't found from an offset on
 passed : (w : List ℕ) (at b d : ℕ) → Nowhere (Passes (is_byte b) (slice_range w at (length w))) 0 d → (i : ℕ) → at ≤ i → i < at + d → slice_index w i ≢ b
@@ -15,10 +15,10 @@ passed w at b d nowhere i low high same =
     nowhere (i - at) (omega arith) (omega (arith, low, high)) (eq-eqb _ b here)
 
 pub returns-in-Some-clause-passed : goal.returns-in-Some-clause-passed
-returns-in-Some-clause-passed c = passed c.args.run.now c.args.at c.args.byte c.in-Some.distance c.in-Some.ensures.0.before
+returns-in-Some-clause-passed c = passed c.args.bytes.now c.args.from c.args.byte c.in-Some.distance c.in-Some.ensures.0.before
 
 pub returns-in-None-clause-passed : goal.returns-in-None-clause-passed
 returns-in-None-clause-passed c i low high =
-    let w = c.args.run.now in
-    let size : length (slice_range w c.args.at (length w)) ≡ length w - c.args.at = ap length (slice_range-past w c.args.at (length w) (omega arith)) ∙ length-drop c.args.at w in
-    passed w c.args.at c.args.byte (length (slice_range w c.args.at (length w))) c.in-None.ensures i low (omega (arith, size, low, high))
+    let w = c.args.bytes.now in
+    let size : length (slice_range w c.args.from (length w)) ≡ length w - c.args.from = ap length (slice_range-past w c.args.from (length w) (omega arith)) ∙ length-drop c.args.from w in
+    passed w c.args.from c.args.byte (length (slice_range w c.args.from (length w))) c.in-None.ensures i low (omega (arith, size, low, high))

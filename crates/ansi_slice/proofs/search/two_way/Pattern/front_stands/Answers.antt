@@ -5,7 +5,7 @@ use Rattle.ansi_items.specs.Plain.{plain}
 use Rattle.ansi_slice.specs.Searches.{IsCut}
 use Rattle.ansi_slice.proofs.SliceLemmas.{slice_range-past}
 use Rattle.ansi_slice.proofs.WindowLemmas.{front-in-run}
-use Rattle.ansi_slice.proofs.search.two_way.LongPattern.front_stands.Goals as goal
+use Rattle.ansi_slice.proofs.search.two_way.Pattern.front_stands.Goals as goal
 
 -- all of it stands in the run, or doesn't
 pub returns-then-place-window : goal.returns-then-place-window

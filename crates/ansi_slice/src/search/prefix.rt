@@ -1,0 +1,70 @@
+//! What a plain text begins with, and goes on with from a place on.
+ghost use Rattle.std.specs.Prelude.{◌≡◌, ◌++◌, ◌+◌, ◌<◌, ◌≤◌, length, take, drop, nat_eq, slice_index};
+ghost use Rattle.std.specs.List.{starts_with};
+ghost use Rattle.ansi_items.specs.Bytes.{escape};
+ghost use Rattle.ansi_items.specs.Plain.{plain};
+
+use ansi_items::ESC;
+use ansi_items::ansitok::Scanner;
+use memchr::memchr;
+
+/// Whether the plain text begins with the pattern. (std.)
+///
+/// The pattern is met across sequences. No run is read past the pattern's end. Takes no memory.
+pub fn starts_with(text: &str, pat: &str) -> bool
+    ensures { result ≡ starts_with nat_eq (plain text.now) pat.now }
+{
+    stands_at(text, pat.as_bytes(), 0)
+}
+
+/// Whether the plain text goes on with the pattern from a place on. No run is read past the pattern's end.
+pub(super) fn stands_at(text: &str, pat: &[u8], place: usize) -> bool
+    ensures { result ≡ starts_with nat_eq (drop place (plain text.now)) pat.now }
+{
+    let mut before = place;
+    let mut wanted = pat;
+    let mut rest = text;
+    while !wanted.is_empty() {
+        if rest.is_empty() {
+            return false;
+        }
+        let (run, after) = first_run(rest, before.saturating_add(wanted.len()));
+        let front = &run[before.min(run.len())..];
+        if !wanted.starts_with(front) {
+            return false;
+        }
+        wanted = &wanted[front.len()..];
+        before = before.saturating_sub(run.len());
+        rest = after;
+    }
+    true
+}
+
+/// The run at the front of a text and what follows the mark after it; where no mark begins in so many bytes,
+/// these bytes alone.
+fn first_run<'t>(text: &'t str, most: usize) -> (&'t [u8], &'t str)
+    ensures front { take most (plain text.now) ≡ take most (result.0.now ++ plain result.1.now) }
+    ensures most { length result.0.now ≤ most }
+    ensures within { length result.0.now + length result.1.now ≤ length text.now }
+    ensures shorter { 0 < length text.now → length result.1.now < length text.now }
+{
+    let bytes = text.as_bytes();
+    let front = &bytes[..most.min(bytes.len())];
+    match memchr(ESC, front) {
+        Some(len) => (&bytes[..len], after_mark(&text[len..])),
+        None => (front, ""),
+    }
+}
+
+/// What follows the mark at the front of a text.
+fn after_mark(text: &str) -> &str
+    requires some { 0 < length text.now }
+    requires begins { slice_index text.now 0 ≡ escape }
+    ensures plain { plain result.now ≡ plain text.now }
+    ensures shorter { length result.now < length text.now }
+{
+    match Scanner::new(text).next() {
+        Some(mark) => &text[mark.end..],
+        None => "",
+    }
+}
