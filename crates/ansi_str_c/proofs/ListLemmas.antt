@@ -1,4 +1,4 @@
--- Texts that are joined in turn, and an entry for each.
+-- Texts that are joined in turn or written where they belong, and an entry for each; the parts and the block of a text without ESC.
 use Rattle.std.proofs.Common.{◌≡◌, ◌∙◌, ℕ, ◌+◌, ◌≤◌, ◌==◌, List, [], ◌∷◌, ◌++◌, length, take, drop, Some, Result, Ok, Err, refl, sym, ap, ap₂, subst, arith, append_assoc, append-nil, length-append, length-take, length-drop, ◌-◌, slice_range, true, false, IsTrue, if◌then◌else◌}
 use Rattle.std.specs.Prelude.{flat_map, IsFalse, IsOk}
 use Rattle.std.specs.List.{list_all}
