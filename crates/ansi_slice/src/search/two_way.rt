@@ -109,6 +109,7 @@ impl<'p> Pattern<'p> {
         requires run { OccursAt (plain text.now) run.now here.position }
         requires bytes { OccursAt text.now run.now here.offset }
         requires comes { Comes text.now self.now.bytes.now self.now.cut.at window.position window }
+        requires here { IsPoint text.now here here.position }
         requires place { here.position ≤ window.position + window.met }
         requires ahead { IsAhead text.now self.now.bytes.now self.now.rare here window }
         ensures { Seeks text.now self.now.bytes.now self.now.cut.at self.now.rare window.position here (here.position + length run.now) result }
@@ -142,6 +143,7 @@ impl<'p> Pattern<'p> {
         requires run { OccursAt (plain text.now) run.now here.position }
         requires bytes { OccursAt text.now run.now here.offset }
         requires comes { Comes text.now self.now.bytes.now self.now.cut.at window.position window }
+        requires here { IsPoint text.now here here.position }
         requires place { here.position ≤ window.position + window.met }
         requires inside { window.position + window.met < here.position + length run.now }
         requires other { slice_index run.now (window.position + window.met - here.position) ≢ slice_index self.now.bytes.now window.met }
@@ -159,7 +161,9 @@ impl<'p> Pattern<'p> {
         let from = here.offset + (place - here.position);
         let next = next_of(self.rare_byte(), text.as_bytes(), from, window.next);
         let passed = next.min(here.offset + run.len()) - from;
-        self.window_at(position + passed, window.point, next)
+        let begin = position + passed;
+        let point = last_point(window.point, here, begin);
+        self.window_at(begin, point, next)
     }
 
     /// Whether what stands before the cut stands in the plain text too, where what follows it ends in the run.
@@ -222,6 +226,17 @@ fn point_before(text: &str, point: Point, position: usize, end: usize) -> Point
         }
     }
     point
+}
+
+/// The second of two places where it isn't past a position, and else the first.
+#[inline(always)]
+fn last_point(point: Point, here: Point, position: usize) -> Point
+    ensures { (t : List ℕ) → IsPoint t point position → IsPoint t here here.position → IsPoint t result position }
+{
+    if position < here.position {
+        return point;
+    }
+    here
 }
 
 /// The place of a byte that is rare in most texts, by the ranks of `memchr`.

@@ -1,6 +1,7 @@
 use Rattle.std.proofs.Common.{◌≡◌, ◌≤◌, [], drop, length, sym, ◌∙◌, ap, ap₂, subst, arith, slice_index}
 use Rattle.std.proofs.lemmas.Bool.{eq-eqb}
 use Rattle.std.proofs.lemmas.List.{length-drop}
+use Rattle.std.specs.Str.{IsCharBoundary}
 use Rattle.memchr.specs.Find.{OccursAt, is_byte}
 use Rattle.ansi_items.specs.Plain.{plain, plain_of}
 use Rattle.ansi_items.specs.Scans.{pieces_left}
@@ -46,6 +47,16 @@ read-requires-clause-run c =
 
 pub read-requires-clause-bytes : goal.read-requires-clause-bytes
 read-requires-clause-bytes c = run-stands c.in-Some.ensures.steps c.loop-item.invariant.text (c.as_bytes-run.ensures.value ∙ c.range.ensures.value)
+
+pub read-requires-clause-here : goal.read-requires-clause-here
+read-requires-clause-here c =
+    let steps = c.in-Some.ensures.steps in
+    let so_far = c.loop-item.invariant in
+    record {
+      boundary = subst (λ u. IsCharBoundary u c.in-Some.item.start) so_far.text steps.start_boundary;
+      rest = ap₂ (λ n u. plain (drop n u)) steps.start (sym so_far.text) ∙ so_far.left;
+      before = omega arith;
+    }
 
 pub read-requires-clause-ahead : goal.read-requires-clause-ahead
 read-requires-clause-ahead c = λ j low high. c.loop-item.invariant.ahead j (omega (arith, low, c.in-Some.ensures.steps.start)) high

@@ -4,8 +4,8 @@ use Rattle.ansi_slice.specs.Searches.{StandsNowhere}
 use Rattle.ansi_slice.proofs.WindowLemmas.{reached-mismatch, passed-in-run, ahead-later, point-later}
 use Rattle.ansi_slice.proofs.search.two_way.Pattern.after_mismatch.Goals as goal
 
-pub overflow_add-position-3 : goal.overflow_add-position-3
-overflow_add-position-3 c =
+pub overflow_add-begin : goal.overflow_add-begin
+overflow_add-begin c =
     let within : c.args.self.now.rare ≤ c.args.self.now.cut.at = c.args.self.now.rare_within in
     omega (arith, within, c.requires.comes.cut, c.requires.inside, c.requires.run.fits, length-plain c.args.text.now, c.well_formed.1.0, c.min.ensures, c.requires.bytes.fits, c.if-place-here.false)
 
@@ -56,7 +56,7 @@ returns c =
     (passed-in-run {here = here} (slice_index p rare) m rare from next n c.requires.run c.requires.bytes past (omega arith) fits (omega (arith, least, forward)) nowhere) in
     let moved = c.window_at-2.ensures in
     record {
-      comes = moved.comes t w.position reached (point-later comes.point (omega arith));
+      comes = moved.comes t w.position reached (c.last_point-point.ensures t (point-later comes.point (omega arith)) c.requires.here);
       past = omega (arith, moved.position);
       forward = omega (arith, moved.position, moved.met, met);
       ahead = λ j low high. nowhere j (omega (arith, low, moved.position, past)) (omega (arith, high, moved.next));
