@@ -249,6 +249,7 @@ fn first_run<'a>(text: &'a str, style: &mut Style) -> Option<Run<'a>>
 }
 
 /// The text of the block of a run, the first in a text.
+#[inline(always)]
 fn block_text<'a, A: Allocator>(
     alloc: A,
     text: &str,
@@ -268,6 +269,7 @@ fn block_text<'a, A: Allocator>(
 }
 
 /// The sequences before the first run of a text that are no SGR, joined.
+#[inline(never)]
 fn waiting<A: Allocator>(alloc: A, text: &str) -> Result<String<A>, AllocError>
     ensures { IfOk result (λ s. string_bytes s ≡ waiting text.now 0) }
 {

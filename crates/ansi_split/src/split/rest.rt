@@ -67,7 +67,7 @@ impl<'t> Rest<'t> {
 }
 
 /// The same, by a walk over the items, where no match begins before `ahead`.
-#[inline(never)]
+#[inline(always)]
 fn cut_from<'t>(
     text: &'t str,
     pat: &str,
