@@ -12,7 +12,7 @@ ghost use Rattle.std.specs.Int.{is_in_range};
 ghost use Rattle.ansi_style.specs.Rendition.{is_foreground, is_background, is_extended_color};
 
 use crate::state::attributes::Attributes;
-use crate::state::fields::Fields;
+use crate::state::fields::{Field, Fields};
 pub use crate::state::rendition::Rendition;
 pub use crate::state::written::{AnsiSequenceEnd, AnsiSequenceStart};
 use ansi_items::ansitok::AnsiColor;
@@ -53,11 +53,11 @@ impl Style {
     /// Does what a field asks for, as the code that it is, if it is one. A code that reads a color takes
     /// fields off those left.
     #[tactic(auto, unfolding(crate::specs::States::rendition_of))]
-    pub(crate) fn step(&mut self, code: Option<u8>, rest: &mut Fields<'_>)
+    pub(crate) fn step(&mut self, field: Field, rest: &mut Fields<'_>)
         ensures { (rendition_of self.new, rest.new)
-            ≡ perform (option_map_or effect_of_code code unknown_code) (rendition_of self.old) rest.old }
+            ≡ perform (option_map_or effect_of_code field.code unknown_code) (rendition_of self.old) rest.old }
     {
-        match code {
+        match field.code {
             Some(code) => self.perform(code, rest),
             None => self.set(Attributes::UNKNOWN),
         }
@@ -129,6 +129,7 @@ impl Style {
     pub(crate) fn has_known(&self) -> bool
         ensures { result ≡ has_known (rendition_of self.now) }
     {
+        // `|`: all five are asked at once, without a branch for each
         self.foreground.is_some()
             | self.background.is_some()
             | self.underline_color.is_some()

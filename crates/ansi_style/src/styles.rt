@@ -49,8 +49,8 @@ fn apply_fields(style: &mut Style, parameters: &[u8])
     ensures { rendition_of style.new ≡ apply_parameters (rendition_of style.old) parameters.now }
 {
     let mut fields = Fields::new(parameters);
-    while let Some(code) = fields.next_code() {
-        style.step(code, &mut fields);
+    while let Some(field) = fields.next_field() {
+        style.step(field, &mut fields);
     }
 }
 
@@ -83,7 +83,7 @@ pub fn write_start<A: Allocator>(style: &Style, out: &mut String<A>) -> Result<(
 pub fn write_close<A: Allocator>(style: &Style, out: &mut String<A>) -> Result<(), AllocError>
     ensures { OnOk result (string_bytes out.new ≡ string_bytes out.old ++ close (rendition_of style.now)) }
 {
-    // also before a formatter is made
+    // also before a formatter is made; `|`, as in `has_known`
     if !(style.has_known() | style.attributes.contains(Attributes::UNKNOWN)) {
         return Ok(());
     }

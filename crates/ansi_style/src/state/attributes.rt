@@ -77,30 +77,64 @@ impl Attributes {
 
     pub(crate) const UNKNOWN: Attributes = Attributes(0x800000);
 
-    /// All but `RESET` and `UNKNOWN`, which no sequence sets or ends.
+    /// All but `RESET` and `UNKNOWN`: what a terminal could show.
     pub(crate) const KNOWN: Attributes = Attributes(0x3fffff);
 
-    /// Bold and faint, which one code ends, as it does those of the groups after this.
-    pub(crate) const INTENSITY: Attributes = Attributes(0x3);
+    /// What the code 22 ends.
+    pub(crate) const INTENSITY: Attributes = Attributes(Self::BOLD.0 | Self::FAINT.0);
 
-    pub(crate) const SHAPE: Attributes = Attributes(0x1004);
+    /// What the code 23 ends.
+    pub(crate) const ITALIC_OR_FRAKTUR: Attributes = Attributes(Self::ITALIC.0 | Self::FRAKTUR.0);
 
-    pub(crate) const UNDERLINES: Attributes = Attributes(0x18);
+    /// What the code 24 ends.
+    pub(crate) const UNDERLINES: Attributes = Attributes(
+        Self::UNDERLINE.0 | Self::DOUBLE_UNDERLINE.0,
+    );
 
-    pub(crate) const BLINK: Attributes = Attributes(0x60);
+    /// What the code 25 ends.
+    pub(crate) const BLINK: Attributes = Attributes(Self::SLOW_BLINK.0 | Self::RAPID_BLINK.0);
 
-    pub(crate) const FRAME: Attributes = Attributes(0xc00);
+    /// What the code 54 ends.
+    pub(crate) const FRAMED_OR_ENCIRCLED: Attributes = Attributes(
+        Self::FRAMED.0 | Self::ENCIRCLED.0,
+    );
 
-    pub(crate) const IDEOGRAM: Attributes = Attributes(0xf8000);
+    /// What the code 65 ends.
+    pub(crate) const IDEOGRAM: Attributes = Attributes(
+        Self::IDEOGRAM_UNDERLINE.0
+            | Self::IDEOGRAM_DOUBLE_UNDERLINE.0
+            | Self::IDEOGRAM_OVERLINE.0
+            | Self::IDEOGRAM_DOUBLE_OVERLINE.0
+            | Self::IDEOGRAM_STRESS_MARKING.0,
+    );
 
-    pub(crate) const SCRIPT: Attributes = Attributes(0x300000);
+    /// What the code 75 ends.
+    pub(crate) const SCRIPT: Attributes = Attributes(Self::SUPERSCRIPT.0 | Self::SUBSCRIPT.0);
 
-    /// Those with codes from 3 to 9, and the other one that the code of italic's end ends.
-    pub(crate) const LETTERS: Attributes = Attributes(0x13fc);
+    /// What the codes from 3 to 9 set, and what the codes from 23 to 29 end.
+    pub(crate) const LETTERS: Attributes = Attributes(
+        Self::ITALIC_OR_FRAKTUR.0
+            | Self::UNDERLINES.0
+            | Self::BLINK.0
+            | Self::INVERSE.0
+            | Self::HIDE.0
+            | Self::CROSSED_OUT.0,
+    );
 
-    pub(crate) const SHAPES: Attributes = Attributes(0x3010);
+    /// What the codes from 20 to 26 set.
+    pub(crate) const SHAPES: Attributes = Attributes(
+        Self::FRAKTUR.0 | Self::DOUBLE_UNDERLINE.0 | Self::PROPORTIONAL_SPACING.0,
+    );
 
-    pub(crate) const FRAMES: Attributes = Attributes(0x3fec00);
+    /// What the codes from 51 to 74 set, and what the codes from 50 to 65 end.
+    pub(crate) const FRAMES: Attributes = Attributes(
+        Self::FRAMED_OR_ENCIRCLED.0
+            | Self::PROPORTIONAL_SPACING.0
+            | Self::OVERLINED.0
+            | Self::IDEOGRAM.0
+            | Self::SCRIPT.0,
+    );
 
-    pub(crate) const ENDS: Attributes = Attributes(0xb00000);
+    /// What is ended last.
+    pub(crate) const ENDS: Attributes = Attributes(Self::SCRIPT.0 | Self::UNKNOWN.0);
 }

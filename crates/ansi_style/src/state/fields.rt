@@ -1,10 +1,18 @@
 //! The fields of an SGR's parameter bytes, and the numbers that they write.
-ghost use Rattle.std.specs.Prelude.{◌≡◌, [], ◌∷◌, Some, None, IsTrue, IfSome, nat_le, if◌then◌else◌};
+ghost use Rattle.std.specs.Prelude.{◌≡◌, [], ◌∷◌, Some, None, IsTrue, IfSome, option_map, nat_le, if◌then◌else◌};
 ghost use Rattle.ansi_items.specs.Sequences.{is_sgr, sgr_parameters};
 ghost use Rattle.ansi_style.specs.Sgr.{fields_of, code_of, color_number};
 ghost use Rattle.ansi_style.specs.Fields.{first_field, with_digit};
 
 use std::marker::Model;
+
+/// A field of some parameter bytes.
+#[derive(Clone, Copy)]
+pub(crate) struct Field {
+    /// The code that the field is, or `None` where it is no number of at most 255. An empty field is
+    /// 0, and leading zeros change nothing.
+    pub(crate) code: Option<u8>,
+}
 
 /// The fields that are left of some parameter bytes.
 #[derive(Drop)]
@@ -40,23 +48,22 @@ impl<'a> Fields<'a> {
         Fields { rest: None }
     }
 
-    /// The next field as a code, or `None` after the last field. An empty field is 0, and leading
-    /// zeros change nothing.
+    /// The next field, or `None` after the last one.
     #[inline(always)]
-    pub(crate) fn next_code(&mut self) -> Option<Option<u8>>
-        ensures { (result, self.new) ≡ first_field code_of self.old }
+    pub(crate) fn next_field(&mut self) -> Option<Field>
+        ensures { (option_map (λ field. field.code) result, self.new) ≡ first_field code_of self.old }
     {
         let bytes = self.rest?;
-        let mut number = 0;
+        let mut number = Number::ZERO;
         for (i, byte) in bytes.iter().enumerate() {
             if *byte == b';' {
                 self.rest = Some(&bytes[i + 1..]);
-                return Some(byte_of(number));
+                return Some(number.field());
             }
-            number = with_digit(number, *byte);
+            number = number.with_digit(*byte);
         }
         self.rest = None;
-        Some(byte_of(number))
+        Some(number.field())
     }
 
     /// The number that the next field gives a color, 0 where it is none, or `None` after the last
@@ -65,8 +72,8 @@ impl<'a> Fields<'a> {
     pub(crate) fn next_number(&mut self) -> Option<u8>
         ensures { (result, self.new) ≡ first_field color_number self.old }
     {
-        let code = self.next_code()?;
-        Some(code.unwrap_or(0))
+        let field = self.next_field()?;
+        Some(field.code.unwrap_or(0))
     }
 }
 
@@ -86,24 +93,38 @@ pub(crate) fn lone_code(parameters: &[u8]) -> Option<u8>
     }
 }
 
-/// The number with a digit after it; after any other byte, and after a number above 255, it is 256.
-#[inline(always)]
-fn with_digit(number: u32, byte: u8) -> u32
-    ensures { result ≡ with_digit number byte }
-{
-    if byte.is_ascii_digit() && number <= 255 {
-        number * 10 + u32::from(byte - b'0')
-    } else {
-        256
-    }
-}
+/// The number that bytes write, as far as it is read.
+#[derive(Clone, Copy)]
+struct Number(u32);
 
-/// The number where it is at most 255.
-#[inline(always)]
-fn byte_of(number: u32) -> Option<u8>
-    ensures { result ≡ if nat_le number 255 then Some number else None }
-{
-    u8::try_from(number).ok()
+impl Number {
+    /// What no bytes write.
+    const ZERO: Number = Number(0);
+
+    /// No number of at most 255, whatever follows.
+    const NONE: Number = Number(256);
+
+    /// The number with a digit after it, or none after any other byte.
+    #[inline(always)]
+    fn with_digit(self, byte: u8) -> Number
+        ensures { result.0 ≡ with_digit self.0 byte }
+    {
+        if byte.is_ascii_digit() && self.0 <= 255 {
+            Number(self.0 * 10 + u32::from(byte - b'0'))
+        } else {
+            Number::NONE
+        }
+    }
+
+    /// The field that writes the number.
+    #[inline(always)]
+    fn field(self) -> Field
+        ensures { result.code ≡ if nat_le self.0 255 then Some self.0 else None }
+    {
+        Field {
+            code: u8::try_from(self.0).ok(),
+        }
+    }
 }
 
 /// The parameter bytes of an SGR: all but ESC `[` and the final byte.

@@ -36,7 +36,7 @@ impl Style {
             20 => self.set(Attributes::FRAKTUR),
             21 => self.set(Attributes::DOUBLE_UNDERLINE),
             22 => self.clear(Attributes::INTENSITY),
-            23 => self.clear(Attributes::SHAPE),
+            23 => self.clear(Attributes::ITALIC_OR_FRAKTUR),
             24 => self.clear(Attributes::UNDERLINES),
             25 => self.clear(Attributes::BLINK),
             26 => self.set(Attributes::PROPORTIONAL_SPACING),
@@ -52,7 +52,7 @@ impl Style {
             51 => self.set(Attributes::FRAMED),
             52 => self.set(Attributes::ENCIRCLED),
             53 => self.set(Attributes::OVERLINED),
-            54 => self.clear(Attributes::FRAME),
+            54 => self.clear(Attributes::FRAMED_OR_ENCIRCLED),
             55 => self.clear(Attributes::OVERLINED),
             59 => self.underline_color = None,
             60 => self.set(Attributes::IDEOGRAM_UNDERLINE),
@@ -90,7 +90,7 @@ fn read_color(fields: &mut Fields<'_>) -> Option<AnsiColor>
     ensures read { (result, fields.new) ≡ read_color fields.old }
     ensures extended { IfSome result (λ c. IsTrue (is_extended_color c)) }
 {
-    match fields.next_code()? {
+    match fields.next_field()?.code {
         Some(2) => color_by_parts(fields),
         Some(5) => color_by_number(fields),
         _ => None,

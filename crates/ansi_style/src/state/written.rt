@@ -142,7 +142,7 @@ const START_FRAMES: Rows = &[
 ];
 
 const CLOSE_LETTERS: Rows = &[
-    (Attributes::SHAPE, "\u{1b}[23m"),
+    (Attributes::ITALIC_OR_FRAKTUR, "\u{1b}[23m"),
     (Attributes::UNDERLINES, "\u{1b}[24m"),
     (Attributes::BLINK, "\u{1b}[25m"),
     (Attributes::INVERSE, "\u{1b}[27m"),
@@ -152,7 +152,7 @@ const CLOSE_LETTERS: Rows = &[
 
 const CLOSE_FRAMES: Rows = &[
     (Attributes::PROPORTIONAL_SPACING, "\u{1b}[50m"),
-    (Attributes::FRAME, "\u{1b}[54m"),
+    (Attributes::FRAMED_OR_ENCIRCLED, "\u{1b}[54m"),
     (Attributes::OVERLINED, "\u{1b}[55m"),
     (Attributes::IDEOGRAM, "\u{1b}[65m"),
 ];

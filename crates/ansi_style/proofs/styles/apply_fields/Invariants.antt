@@ -4,8 +4,8 @@ use Rattle.ansi_style.proofs.StateLemmas.{after_fields}
 use Rattle.ansi_style.proofs.styles.apply_fields.Given as goal
 
 -- the fields that are left lead from the style so far to the style after all
-abbrev pub invariant-loop-code : goal.invariant-loop-code
-invariant-loop-code l = after_fields (rendition_of l.style) l.fields ≡ after_fields (rendition_of l.initial.style) l.initial.fields
+abbrev pub invariant-loop-field : goal.invariant-loop-field
+invariant-loop-field l = after_fields (rendition_of l.style) l.fields ≡ after_fields (rendition_of l.initial.style) l.initial.fields
 
-abbrev pub decreases-loop-code : goal.decreases-loop-code
-decreases-loop-code l = length l.fields
+abbrev pub decreases-loop-field : goal.decreases-loop-field
+decreases-loop-field l = length l.fields

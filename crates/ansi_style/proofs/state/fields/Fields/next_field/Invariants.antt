@@ -1,11 +1,11 @@
 use Rattle.std.proofs.Common.{◌≡◌, ◌≢◌, ℕ, ◌<◌, fold, take, get_or}
 use Rattle.std.specs.Str.{byte}
 use Rattle.ansi_style.specs.Fields.{with_digit}
-use Rattle.ansi_style.proofs.state.fields.Fields.next_code.Given as goal
+use Rattle.ansi_style.proofs.state.fields.Fields.next_field.Given as goal
 
 -- no semicolon so far, and the digits so far are read
 abbrev pub invariant-loop-i : goal.invariant-loop-i
 invariant-loop-i l = record {
-  number : l.number ≡ fold with_digit 0 (take l.i l.bytes);
+  number : l.number.0 ≡ fold with_digit 0 (take l.i l.bytes);
   none : (k : ℕ) → k < l.i → get_or l.bytes k 0 ≢ byte ";";
 }
