@@ -101,7 +101,7 @@ static void do_edits(void) {
     expect("an edit that is refused", edited.status == ANSI_STR_REFUSED);
 }
 
-/* Each of the statuses but two, which are met above and, for want of memory, in vectors.c. */
+/* Each of the statuses but two, which are met above and, for lack of memory, in vectors.c. */
 static void fail(void) {
     char buffer[8] = "as it is";
     expect("no such part", ansi_str_part("a:b", 3, ":", 1, 2, buffer, 8).status == ANSI_STR_NO);

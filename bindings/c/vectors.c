@@ -19,7 +19,7 @@ enum { MOST_FIELDS = 8192, GUARD = 0x5a };
 /* Requests for memory that are still granted; a negative number grants all. */
 static long granted = -1;
 
-/* How many calls have told of want of memory. */
+/* How many calls have told of lack of memory. */
 static long wanting = 0;
 
 void *__real_malloc(size_t size);
@@ -141,7 +141,7 @@ static int is_guard(const char *buffer, size_t start, size_t end) {
     return 1;
 }
 
-/* After a call with few requests granted: whether it tells of want of memory, and then it has written nothing. */
+/* After a call with few requests granted: whether it tells of lack of memory, and then it has written nothing. */
 static int is_wanting(uint32_t status, const char *buffer, size_t len) {
     granted = -1;
     if (status != ANSI_STR_OUT_OF_MEMORY) {
@@ -436,7 +436,7 @@ int main(void) {
         }
     }
     free(line);
-    expect("memory was wanting", wanting > 0);
-    printf("vectors: %ld rows are as they should be, and %ld calls told of want of memory\n", line_number, wanting);
+    expect("memory was missing", wanting > 0);
+    printf("vectors: %ld rows are as they should be, and %ld calls told of lack of memory\n", line_number, wanting);
     return 0;
 }

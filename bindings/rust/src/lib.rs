@@ -7,7 +7,7 @@
 //! the text without its sequences; a position past its end counts as the end.
 //!
 //! Where no ESC stands in a text, every answer is a borrow of it, and std gives it. Every other text that is answered is
-//! owned, but for an empty prefix or suffix. A call panics where memory is wanting, as std's do.
+//! owned, but for an empty prefix or suffix. A call panics where memory has run out, as std's do.
 //!
 //! ```
 //! use ansi_str::AnsiStr;

@@ -83,8 +83,8 @@ impl<'a, A: Allocator> AnsiBlock<'a, A> {
 impl<'a, A: Allocator + Clone> AnsiBlock<'a, A> {
     /// The same block again.
     ///
-    /// Its text is a borrow where this block's is, and then no memory is taken. `Err` means that
-    /// memory is wanting. (The Rust crate.)
+    /// Its text is a borrow where this block's is, and then no memory is taken. `Err` means
+    /// out of memory. (The Rust crate.)
     ///
     /// ```
     /// let block = get_blocks(rt.alloc(), "\x1b[1mx").next().ok_or("no block")??;
@@ -129,7 +129,7 @@ impl<'a, A: Allocator> Eq for AnsiBlock<'a, A> {
 
 /// The blocks of a text, in order: an iterator, of which each item may be an `Err`.
 ///
-/// An `Err` means that memory is wanting. After it, and after the last block, the iterator gives
+/// An `Err` means out of memory. After it, and after the last block, the iterator gives
 /// `None`, then and ever after. (The Rust crate; that an item may be an `Err`, own.)
 ///
 /// ```
@@ -162,8 +162,8 @@ impl<'a, A: Allocator> Model for AnsiBlockIter<'a, A> {
 ///
 /// There is one for each run of text between sequences. A block's text is the sequences before the run
 /// that are no SGR, joined, and then the run; it is a borrow where there are none, and then no memory
-/// is taken: so on a text without ESC. Sequences after the last run are in no block. An item is an `Err` where memory is
-/// wanting, and it is the last. Memory may come from any allocator. (The Rust crate.)
+/// is taken: so on a text without ESC. Sequences after the last run are in no block. An item is an `Err` where memory has
+/// run out, and it is the last. Memory may come from any allocator. (The Rust crate.)
 ///
 /// ```
 /// let mut blocks = get_blocks(rt.alloc(), "\x1b[31mred\x1b[39m and");
@@ -194,7 +194,7 @@ impl<'a, A: Allocator + Copy> Iterator for AnsiBlockIter<'a, A> {
 
     ghost remaining = { item_count (λ blocks. blocks) };
 
-    /// The next block; or an `Err` where memory is wanting; or `None`.
+    /// The next block; or an `Err` where memory has run out; or `None`.
     #[inline(always)]
     fn next(&mut self) -> Option<Result<AnsiBlock<'a, A>, AllocError>> {
         let text = self.rest;

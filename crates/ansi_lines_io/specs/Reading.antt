@@ -40,7 +40,7 @@ pub record IsRead (left : Option (List ℕ)) (failed_before failed_after : Bool)
   pub fit : IfSome left (λ bytes. ¬ (IsUnfit bytes))
   pub unfailed : failed_after ≡ failed_before
 
--- reading stops for want of memory, or since the input is bad
+-- reading stops for lack of memory, or since the input is bad
 abbrev pub StopsReading : Option (List ℕ) → Bool → Type 0 → Stop → Type 0
 StopsReading left failed given_up OutOfMemory = ⊤
 StopsReading left failed given_up BadInput = IsBadInput left failed given_up

@@ -88,7 +88,7 @@ impl Page {
         }
     }
 
-    /// An empty page, with room for so many bytes. An `Err` is want of memory for them.
+    /// An empty page, with room for so many bytes. An `Err` is lack of memory for them.
     pub fn with_room(alloc: Global, room: usize) -> Result<Self, AllocError>
         ensures { IfOk result (λ page. page ≡ fresh_page [] room) }
     {

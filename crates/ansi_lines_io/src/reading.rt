@@ -22,7 +22,7 @@ const ROOM: usize = 65_536;
 /// Reads all that is left, which has to be a text of no more than `MAX_BYTES` bytes.
 ///
 /// An interrupted read is made again, but no more than `MAX_READS` reads are made in all. It stops
-/// for a bad input, or for want of memory.
+/// for a bad input, or for lack of memory.
 pub fn read_text<A: Allocator, S: Source>(alloc: A, input: &mut S) -> Result<String<A>, Stop>
     ensures all { IfOk result (λ text. IfSome (S.left input.old) (λ bytes. string_bytes text ≡ bytes)) }
     ensures short { IfOk result (λ text. string_len text ≤ max_bytes) }

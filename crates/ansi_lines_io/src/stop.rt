@@ -19,7 +19,7 @@ pub enum Stop {
     BadInput,
     /// A write or a flush of the output failed.
     WriteFailed,
-    /// Memory is wanting.
+    /// Memory has run out.
     OutOfMemory,
 }
 

@@ -19,7 +19,7 @@ AreGoodWords words = IsSome (work_asked words)
 abbrev pub AreBadWords : List (List ℕ) → Type 0
 AreBadWords words = IsNone (work_asked words)
 
--- a run ends for bad words where they are bad, and for another reason where they are good; want of memory may end it with either
+-- a run ends for bad words where they are bad, and for another reason where they are good; lack of memory may end it with either
 abbrev pub MatchesWords : Stop → List (List ℕ) → Type 0
 MatchesWords BadWords words = AreBadWords words
 MatchesWords (Refused line) words = AreGoodWords words

@@ -59,7 +59,7 @@ fn first_line(text: &str) -> Option<(&str, bool, &str)>
     }
 }
 
-// Writes the answer to a line's text, all of it or, for want of memory, nothing. It is false where
+// Writes the answer to a line's text, all of it or, for lack of memory, nothing. It is false where
 // the line is refused, and then nothing is written.
 fn write_answer<A: Allocator + Copy, W: Sink>(
     alloc: A,

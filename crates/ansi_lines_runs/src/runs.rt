@@ -29,7 +29,7 @@ use std::io;
 /// | 2 | bad words; nothing is read | `bad words\n` |
 /// | 3 | the input is longer than `MAX_BYTES`, isn't UTF-8, or failed; nothing is written | `bad input\n` |
 /// | 4 | a write or a flush of the output failed | `write failed\n` |
-/// | 5 | want of memory; what is written is a beginning of what would have been | `out of memory\n` |
+/// | 5 | lack of memory; what is written is a beginning of what would have been | `out of memory\n` |
 ///
 /// Memory comes from the allocator, the program's own or any other. The first of these that is met is the status. A read that is interrupted is made again; more than
 /// `MAX_READS` reads are a failed input. A fault of the fault writer is passed over.
@@ -80,7 +80,7 @@ pub fn run<A: Allocator, S: Source, W: Sink, V: Sink>(
     ensures write_failed { result ≡ 4 → W.failed output.new ≡ true }
     ensures only_write_failed { W.failed output.old ≡ false → W.failed output.new ≡ true → result ≡ 4 }
 
-    // For want of memory a beginning is written.
+    // For lack of memory a beginning is written.
     ensures out_of_memory { result ≡ 5 → IfSome (S.left input.old) (λ bytes.
         WritesBeginning (W.taken output.old) (W.taken output.new) (output_of (words_of words.now) bytes)) }
 
@@ -106,7 +106,7 @@ pub fn run<A: Allocator, S: Source, W: Sink, V: Sink>(
 }
 
 /// Runs with words and into an output that may not be had, and answers the status. Words that can't be read
-/// are bad words, and an output that can't be had is want of memory; nothing is read then.
+/// are bad words, and an output that can't be had is lack of memory; nothing is read then.
 ///
 /// Of each status it promises what `run` does.
 pub fn run_buffered<A: Allocator, S: Source, W: Sink, V: Sink>(
@@ -154,7 +154,7 @@ pub fn run_buffered<A: Allocator, S: Source, W: Sink, V: Sink>(
     ensures only_write_failed { IfOutput output.old output.new (λ old new.
         W.failed old ≡ false → W.failed new ≡ true → result ≡ 4) }
 
-    // For want of memory a beginning is written.
+    // For lack of memory a beginning is written.
     ensures out_of_memory { result ≡ 5 → IfRun words.now output.old output.new (S.left input.old) (λ words bytes old new.
         WritesBeginning (W.taken old) (W.taken new) (output_of words bytes)) }
 

@@ -20,7 +20,7 @@ pub enum Job<'w, A: Allocator> {
 
 /// What the words ask for, or `None` where they are bad.
 ///
-/// The list of edits takes memory, and `Err` means that it is wanting.
+/// The list of edits takes memory, and `Err` means that it has run out.
 ///
 /// ```
 /// assert!(parse(alloc, &[])?.is_none());

@@ -17,7 +17,7 @@ pub enum Line {
     Fields(Vec<String>),
     /// A field isn't UTF-8.
     NotUtf8,
-    /// An escape is malformed, or memory is wanting.
+    /// An escape is malformed, or memory has run out.
     Unread,
 }
 

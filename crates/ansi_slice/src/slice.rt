@@ -50,7 +50,7 @@ pub fn strip_in<'t, A: Allocator>(alloc: A, text: &'t str) -> Result<CowStr<'t, 
     Ok(CowStr::Owned(plain))
 }
 
-/// Appends the plain text of a text. An `Err` means that memory is wanting; what was appended up to there
+/// Appends the plain text of a text. An `Err` means out of memory; what was appended up to there
 /// stands.
 fn push_plain<A: Allocator>(out: &mut String<A>, text: &str) -> Result<(), AllocError>
     ensures { OnOk result (string_bytes out.new ≡ string_bytes out.old ++ plain text.now) }

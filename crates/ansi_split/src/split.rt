@@ -19,7 +19,7 @@ use std::marker::Model;
 /// `AnsiStr::ansi_split` makes.
 ///
 /// A part with no sequence is a borrow where no style is carried into it or it is empty. Any other
-/// part is owned. An `Err` means that memory is wanting; after it, as after the last part, there is
+/// part is owned. An `Err` means out of memory; after it, as after the last part, there is
 /// nothing but `None`. A part lives as long as the text and the pattern, and may outlive the iterator.
 /// (The Rust crate; that an item may be an `Err`, own.)
 ///
@@ -95,7 +95,7 @@ impl<'a, A: Allocator + Copy> Iterator for AnsiSplit<'a, A> {
 ///
 /// It is `None` exactly where there are not so many parts. It is a borrow where no ESC stands in the
 /// text, or where the part is one that `split_in` borrows. Then no memory is taken, and none for a
-/// `None`. Else it is owned. `Err` means that memory is wanting. (Own.)
+/// `None`. Else it is owned. `Err` means out of memory. (Own.)
 ///
 /// ```
 /// let part = part_in(rt.alloc(), "\x1b[1mlion,tiger", ",", 1);

@@ -48,7 +48,7 @@ pub fn ansi_is_whole(text: &str) -> bool
 ///
 /// It is a borrow of the text until an edit gives an owned text, and owned from then on. Where it
 /// stays a borrow no memory is taken and there is no `Err`: for no edits, on a text without ESC, and
-/// where the first edit is refused. Else `Err` means that memory is wanting. It may come from any
+/// where the first edit is refused. Else `Err` means out of memory. It may come from any
 /// allocator. (The Rust crate lacks it.)
 ///
 /// ```

@@ -59,8 +59,8 @@ pub trait AnsiStr {
     /// past the end, the Rust crate.)
     ///
     /// It is a borrow where no ESC stands in the text. Then no memory is taken, and none for a `None`. Else
-    /// it is owned, and at most a close longer than the text, `longest_close`, 88 bytes. `Err` means that
-    /// memory is wanting.
+    /// it is owned, and at most a close longer than the text, `longest_close`, 88 bytes. `Err` means
+    /// out of memory.
     ///
     /// ```
     /// let text = "\x1b[30mTEXT\x1b[39m";
@@ -91,8 +91,8 @@ pub trait AnsiStr {
     /// end, which counts as the end; and no end may lie below the start.
     ///
     /// It is a borrow where no ESC stands in the text, and then no memory is taken. Else it is
-    /// owned, and at most a close longer than the text, `longest_close`, 88 bytes. `Err` means that
-    /// memory is wanting. (The Rust crate.)
+    /// owned, and at most a close longer than the text, `longest_close`, 88 bytes. `Err` means
+    /// out of memory. (The Rust crate.)
     ///
     /// ```
     /// let cut = "\x1b[30mTEXT\x1b[39m".ansi_cut(rt.alloc(), 1..3)?;
@@ -186,8 +186,8 @@ pub trait AnsiStr {
     /// text; the sequences, the Rust crate.)
     ///
     /// It is a borrow where no ESC stands in the text, and a borrow of all of it where the prefix is
-    /// empty. Then no memory is taken, and none for a `None`. Else it is owned. `Err` means that
-    /// memory is wanting.
+    /// empty. Then no memory is taken, and none for a `None`. Else it is owned. `Err` means
+    /// out of memory.
     ///
     /// ```
     /// let text = "\x1b[31mred\x1b[39m and plain";
@@ -217,8 +217,8 @@ pub trait AnsiStr {
     /// text; the sequences, the Rust crate.)
     ///
     /// It is a borrow where no ESC stands in the text, and a borrow of all of it where the suffix is
-    /// empty. Then no memory is taken, and none for a `None`. Else it is owned. `Err` means that
-    /// memory is wanting.
+    /// empty. Then no memory is taken, and none for a `None`. Else it is owned. `Err` means
+    /// out of memory.
     ///
     /// ```
     /// let text = "plain and \x1b[31mred\x1b[39m";
@@ -252,7 +252,7 @@ pub trait AnsiStr {
     /// The iterator has at most two parts more than the plain text has bytes, and a `usize` counts them. A
     /// part with no sequence is a borrow where no style is carried into it or it is empty, so on a text
     /// without ESC every part is one; a borrow takes no memory. Any other part is owned, and in its place
-    /// comes an `Err` where memory is wanting. After that there is nothing but `None`. (std; the Rust crate
+    /// comes an `Err` where memory has run out. After that there is nothing but `None`. (std; the Rust crate
     /// splits the text with its sequences; where a sequence goes, own.)
     ///
     /// A part's share is how many bytes of the text it has, its plain bytes and its sequences. It is at
@@ -286,7 +286,7 @@ pub trait AnsiStr {
     /// It has to be a character boundary of it, or lie past its end, which counts as the end.
     ///
     /// Both sides are borrows where no ESC stands in the text, and then no memory is taken. Else
-    /// both are owned, an empty one too. `Err` means that memory is wanting. (The Rust crate.)
+    /// both are owned, an empty one too. `Err` means out of memory. (The Rust crate.)
     ///
     /// ```
     /// let text = "\x1b[30mTEXT\x1b[39m";
@@ -346,7 +346,7 @@ pub trait AnsiStr {
     /// closed. (std's `trim`, on the plain text; the sequences, the Rust crate.)
     ///
     /// It is a borrow where no ESC stands in the text, and then no memory is taken. Else it is owned.
-    /// `Err` means that memory is wanting.
+    /// `Err` means out of memory.
     ///
     /// ```
     /// let trimmed = " \x1b[31m red \x1b[39m ".ansi_trim(rt.alloc())?;
@@ -363,7 +363,7 @@ pub trait AnsiStr {
     /// The plain text: the text without its sequences and lone escapes.
     ///
     /// It is a borrow of the whole text where no ESC stands in that, and then no memory is taken.
-    /// Else it is owned. `Err` means that memory is wanting. (The Rust crate.)
+    /// Else it is owned. `Err` means out of memory. (The Rust crate.)
     ///
     /// ```
     /// let plain = "\x1b[31mred\x1b[39m and plain".ansi_strip(rt.alloc())?;

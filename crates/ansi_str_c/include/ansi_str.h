@@ -38,7 +38,7 @@ enum {
     ANSI_STR_NOT_UTF8 = 3,
     /* the buffer is too small: nothing was written, and the answer says how much is needed */
     ANSI_STR_TOO_SMALL = 4,
-    /* memory is wanting: nothing was written */
+    /* memory has run out: nothing was written */
     ANSI_STR_OUT_OF_MEMORY = 5
 };
 

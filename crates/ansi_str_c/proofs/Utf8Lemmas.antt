@@ -38,7 +38,7 @@ pub Gives-written : (absent : ℕ) (takes_memory : Bool) (found : Option (List �
     → Some bytes ≡ found → IsWritten bytes answer old new → Gives absent takes_memory found answer old new
 Gives-written absent takes_memory found bytes answer old new is written = inl (subst (λ found. IsFound absent found answer old new) is written)
 
--- what a call gave is written or refused, and memory is wanting only where it takes some
+-- what a call gave is written or refused, and memory has run out only where it takes some
 pub Gives-found : {A E : Type 0} (absent : ℕ) (stays : Bool) (found : Option (List ℕ)) (gave : Result (Option (CowStr A)) E) (answer : Answer) (old new : List ℕ)
     → IfOk gave (λ o. option_map cow_str_bytes o ≡ found) → (IsTrue stays → IsOk gave)
     → MatchResult gave (λ o. IsFound absent (option_map cow_str_bytes o) answer old new) (λ e. HasFailed out_of_memory answer old new)

@@ -56,7 +56,7 @@ abbrev pub IsFound : ℕ → Option (List ℕ) → Answer → List ℕ → List 
 IsFound absent None answer old new = HasFailed absent answer old new
 IsFound absent (Some text) answer old new = IsWritten text answer old new
 
--- or memory is wanting, where the call takes any
+-- or memory has run out, where the call takes any
 abbrev pub Gives : ℕ → Bool → Option (List ℕ) → Answer → List ℕ → List ℕ → Type 0
 Gives absent takes_memory found answer old new =
     IsFound absent found answer old new ⊎ (IsTrue takes_memory × HasFailed out_of_memory answer old new)

@@ -52,7 +52,7 @@ AreWritten bytes entries answer old new old_entries new_entries =
     × (answer ≡ record { status = too_small; count = length entries; len = length bytes })
     × (new ≡ old) × (new_entries ≡ old_entries))
 
--- a call gives all texts; or memory is wanting, where the call takes any
+-- a call gives all texts; or memory has run out, where the call takes any
 abbrev pub GivesAll : {T : Type 0} → Bool → List ℕ → List T → ListAnswer → List ℕ → List ℕ → List T → List T → Type 0
 GivesAll takes_memory bytes entries answer old new old_entries new_entries =
     AreWritten bytes entries answer old new old_entries new_entries

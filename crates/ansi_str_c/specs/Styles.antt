@@ -79,6 +79,6 @@ abbrev pub style_found : Option Rendition → StyleAnswer
 style_found None = no_style no
 style_found (Some s) = record { status = ok; style = style_data s }
 
--- or memory is wanting, where the call takes any
+-- or memory has run out, where the call takes any
 abbrev pub TellsStyle : Bool → Option Rendition → StyleAnswer → Type 0
 TellsStyle takes_memory found answer = (answer ≡ style_found found) ⊎ (IsTrue takes_memory × (answer ≡ no_style out_of_memory))

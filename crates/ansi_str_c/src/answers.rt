@@ -16,7 +16,7 @@ pub const REFUSED: u32 = 2;
 pub const NOT_UTF8: u32 = 3;
 /// The buffer is too small.
 pub const TOO_SMALL: u32 = 4;
-/// Memory is wanting.
+/// Memory has run out.
 pub const OUT_OF_MEMORY: u32 = 5;
 
 /// What a call answers: a status, and the length of what was written or found, or of what is too long
@@ -66,7 +66,7 @@ pub fn write(text: &[u8], buffer: &mut [u8]) -> Answer
     Answer::done(len)
 }
 
-/// Writes a text that was found, or answers a status where there is none, or that memory is wanting.
+/// Writes a text that was found, or answers a status where there is none, or that memory has run out.
 pub fn write_found(
     found: Result<Option<CowStr<'_>>, AllocError>,
     absent: u32,

@@ -334,7 +334,7 @@ fn push_styled_block(
     })
 }
 
-/// Writes texts that were joined and their entries, or answers that memory is wanting.
+/// Writes texts that were joined and their entries, or answers that memory has run out.
 fn write_joined<T: Copy>(
     joined: Result<(String, Vec<T>), AllocError>,
     buffer: &mut [u8],

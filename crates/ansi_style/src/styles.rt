@@ -65,7 +65,7 @@ pub fn has_any(style: &Style) -> bool
             && style.attributes.contains(Attributes::UNKNOWN)
 }
 
-/// Appends the start of the style. An `Err` means that memory is wanting; what was appended up to
+/// Appends the start of the style. An `Err` means out of memory; what was appended up to
 /// there stands.
 pub fn write_start<A: Allocator>(style: &Style, out: &mut String<A>) -> Result<(), AllocError>
     ensures { OnOk result (string_bytes out.new ≡ string_bytes out.old ++ start (rendition_of style.now)) }
@@ -77,7 +77,7 @@ pub fn write_start<A: Allocator>(style: &Style, out: &mut String<A>) -> Result<(
     write!(out, "{}", style.start())
 }
 
-/// Appends the close of the style. An `Err` means that memory is wanting; what was appended up to
+/// Appends the close of the style. An `Err` means out of memory; what was appended up to
 /// there stands.
 #[tactic(auto, using(crate::proofs::UnsetLemmas::unset_styles), unfolding(crate::specs::States::rendition_of))]
 pub fn write_close<A: Allocator>(style: &Style, out: &mut String<A>) -> Result<(), AllocError>

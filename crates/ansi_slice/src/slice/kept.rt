@@ -121,7 +121,7 @@ fn write_trimmed<A: Allocator>(alloc: A, text: &str) -> Result<String<A>, AllocE
     Ok(kept)
 }
 
-/// Appends a text up to an offset, and then its sequences alone. An `Err` means that memory is wanting;
+/// Appends a text up to an offset, and then its sequences alone. An `Err` means out of memory;
 /// what was appended up to there stands.
 fn push_up_to<A: Allocator>(out: &mut String<A>, text: &str, end: usize) -> Result<(), AllocError>
     requires { IsCharBoundary text.now end }

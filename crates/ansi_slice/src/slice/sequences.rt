@@ -6,7 +6,7 @@ ghost use Rattle.ansi_slice.specs.Offsets.{sequences_up_to};
 use ansi_items::ansitok::{Kind, Scanner};
 use std::alloc::{AllocError, Allocator};
 
-/// Appends every sequence of a text up to a position. An `Err` means that memory is wanting; what was
+/// Appends every sequence of a text up to a position. An `Err` means out of memory; what was
 /// appended up to there stands.
 pub(super) fn push_sequences<A: Allocator>(
     out: &mut String<A>,

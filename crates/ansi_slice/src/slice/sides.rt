@@ -122,7 +122,7 @@ fn write_sides<A: Allocator + Copy>(
 
 /// Appends what a text gives to a side before a position: each run of its plain text in the style there,
 /// and each sequence but the SGRs, which change the style. Gives where the position stands in the text.
-/// An `Err` means that memory is wanting; what was appended up to there stands.
+/// An `Err` means out of memory; what was appended up to there stands.
 fn write_side<A: Allocator>(
     out: &mut String<A>,
     style: &mut Style,
@@ -152,7 +152,7 @@ fn write_side<A: Allocator>(
 }
 
 /// Appends a sequence, or a lone escape, that is no SGR. An SGR changes the style instead. An `Err` means
-/// that memory is wanting, and nothing is appended.
+/// that memory has run out, and nothing is appended.
 fn write_mark<A: Allocator>(
     out: &mut String<A>,
     style: &mut Style,
@@ -183,7 +183,7 @@ fn write_right<A: Allocator>(alloc: A, style: Style, text: &str) -> Result<Strin
 }
 
 /// Appends a piece of text in a style: its start, the piece and its close, or nothing for an empty
-/// piece. An `Err` means that memory is wanting; what was appended up to there stands.
+/// piece. An `Err` means out of memory; what was appended up to there stands.
 fn write_dressed<A: Allocator>(
     out: &mut String<A>,
     style: &Style,

@@ -98,8 +98,8 @@ impl<'t> Span<'t> {
     }
 }
 
-/// Appends a text with its sequences, but for its first `skip` plain bytes. An `Err` means that memory
-/// is wanting; what was appended up to there stands.
+/// Appends a text with its sequences, but for its first `skip` plain bytes. An `Err` means out of
+/// memory; what was appended up to there stands.
 fn write_text<A: Allocator>(
     text: &str,
     is_marked: bool,

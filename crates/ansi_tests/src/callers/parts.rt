@@ -6,7 +6,7 @@ ghost use Rattle.ansi_str.specs.Parts.{all_parts, share, is_part_borrowed};
 use ansi_str::split::{AnsiSplit, split_in};
 use std::alloc::{AllocError, Allocator};
 
-/// The number of parts of a text, each of which is given. An `Err` means that memory is wanting.
+/// The number of parts of a text, each of which is given. An `Err` means out of memory.
 pub fn count_parts<'x, A: Allocator + Copy>(
     alloc: A,
     text: &'x str,

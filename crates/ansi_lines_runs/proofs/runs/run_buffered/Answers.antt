@@ -1,7 +1,7 @@
 use Rattle.std.proofs.Common.{inr}
 use Rattle.ansi_lines_runs.proofs.runs.run_buffered.Goals as goal
 
--- want of memory has a status of its own
+-- lack of memory has a status of its own
 pub returns-in_default-output-clause-only_bad_words : goal.returns-in_default-output-clause-only_bad_words
 returns-in_default-output-clause-only_bad_words g c = rw c.in-Ok.is (λ bad. inr c.tell-in_default-output.ensures.status)
 
