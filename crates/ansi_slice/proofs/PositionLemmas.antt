@@ -2,7 +2,6 @@
 use Rattle.std.proofs.Common.{◌≡◌, ℕ, ◌-◌, ◌<◌, ◌≤◌, inl, inr, not, true, false, List, ◌++◌, length, drop, IsTrue, Some, None, Option, ◌&&◌, ◌||◌, ◌==◌, refl, sym, ◌∙◌, ap, ap₂, subst, arith, ◌+◌, ◌↔◌, Bool, min, nat_le, slice_index}
 use Rattle.std.proofs.lemmas.Bool.{eqb-true, leb-true, leb-false, le-leb, and_parts, and_from, lt-leb, cases_lt, not-true, not_from_false, and_left, and_right, and_cases}
 use Rattle.std.proofs.lemmas.List.{get_or_append_left, get_or_past, get_or-append_right, get_or-drop, length-append, length-drop}
-use Rattle.std.proofs.lemmas.Bool.Decides.{nat_tests}
 use Rattle.std.specs.Cmp.{both_ways}
 use Rattle.std.proofs.lemmas.Str.{IsCharBoundary-start, IsCharBoundary-end}
 use Rattle.std.specs.Prelude.{unwrap_or}
@@ -62,29 +61,11 @@ is_char_boundary-is x n h =
     let both = and_parts (nat_le n (length x)) (is_good_position x n) h in
     good_is_boundary x n (leb-true n (length x) both.0) both.1
 
-pub is_char_boundary-decides : (x : List ℕ) (n : ℕ) (b : Bool) → b ≡ is_char_boundary x n → IsTrue b ↔ IsCharBoundary x n
-is_char_boundary-decides x n b is = (λ yes. is_char_boundary-is x n (sym is ∙ yes), λ boundary. is ∙ is_char_boundary-from x n boundary)
+pub is_char_boundary-decided : (x : List ℕ) (n : ℕ) (b : Bool) → IsTrue b ↔ IsCharBoundary x n → b ≡ is_char_boundary x n
+is_char_boundary-decided x n b test = both_ways _ _ (λ yes. is_char_boundary-from x n (test.0 yes)) (λ is. test.1 (is_char_boundary-is x n is))
 
 pub boundary_test : (x : List ℕ) (n : ℕ) (b : Bool) → n ≤ length x → IsTrue b ↔ IsCharBoundary x n → b ≡ is_good_position x n
 boundary_test x n b within test = both_ways _ _ (λ yes. boundary_is_good x n (test.0 yes)) (λ good. test.1 (good_is_boundary x n within good))
-
--- n is a boundary of x or, where `past` says so, lies past its end
-abbrev pub is_boundary : Bool → List ℕ → ℕ → Bool
-is_boundary past x n = (past || nat_le n (length x)) && is_good_position x n
-
--- in a text at the front, and after it
-pub is_boundary-append : (past : Bool) (w y : List ℕ) (n : ℕ) → n < length w → is_boundary past (w ++ y) n ≡ is_good_position w n
-is_boundary-append past w y n within =
-    ap₂ (λ s t. (past || s) && t) (le-leb n (length (w ++ y)) (omega (arith, length-append w y))) (is_good_position-append w y n within) ∙ either past
-  where
-    either : (b : Bool) → (b || true) && is_good_position w n ≡ is_good_position w n
-    either true = refl
-    either false = refl
-
-pub is_boundary-after : (past : Bool) (w y : List ℕ) (n : ℕ) → length w ≤ n → is_boundary past (w ++ y) n ≡ is_boundary past y (n - length w)
-is_boundary-after past w y n beyond =
-    let inside : nat_le n (length (w ++ y)) ≡ nat_le (n - length w) (length y) = grind (arith, nat_tests, length-append w y) in
-    ap₂ (λ s t. (past || s) && t) inside (is_good_position-after w y n beyond)
 
 pub char_boundary_is : (x : List ℕ) (n : ℕ) → IsTrue (is_char_boundary x n) ↔ IsCharBoundary x n
 char_boundary_is x n = (is_char_boundary-is x n, is_char_boundary-from x n)

@@ -1,5 +1,5 @@
 //! Searches in a plain text, over the items of its text and without memory.
-ghost use Rattle.std.specs.Prelude.{◌≡◌, ◌↔◌, ◌<◌, ◌≤◌, ◌&&◌, ◌||◌, ℕ, length, nat_le, None, Some, IsTrue};
+ghost use Rattle.std.specs.Prelude.{◌≡◌, ◌↔◌, ◌<◌, ◌≤◌, ℕ, None, Some, IsTrue};
 ghost use Rattle.std.specs.Str.{IsCharBoundary};
 ghost use Rattle.ansi_items.specs.Plain.{plain};
 ghost use Rattle.ansi_slice.specs.Positions.{is_good_position, is_char_boundary, is_good_range};
@@ -20,10 +20,20 @@ pub use prefix::starts_with;
 /// plain text or lies past it. (std; past the end, the Rust crate.)
 ///
 /// It counts bytes of the plain text. Takes no memory.
-pub fn is_good_position(text: &str, position: usize) -> bool
+pub(crate) fn is_good_position(text: &str, position: usize) -> bool
     ensures { result ≡ is_good_position (plain text.now) position }
 {
-    is_boundary(text, position, true)
+    let mut remaining = position;
+    for item in Scanner::new(text) {
+        if item.kind == Kind::Text {
+            let run = &text[item.start..item.end];
+            if remaining < run.len() {
+                return run.is_char_boundary(remaining);
+            }
+            remaining -= run.len();
+        }
+    }
+    true
 }
 
 /// As `AnsiStr::ansi_is_char_boundary`.
@@ -33,7 +43,7 @@ pub fn is_char_boundary(text: &str, index: usize) -> bool
     ensures good_before { IsTrue result → IsTrue (is_good_range (plain text.now) 0 (Some index)) }
     ensures good_after { IsTrue result → IsTrue (is_good_range (plain text.now) index None) }
 {
-    is_boundary(text, index, false)
+    floor_char_boundary(text, index) == index
 }
 
 /// As `AnsiStr::ansi_floor_char_boundary`.
@@ -56,22 +66,4 @@ pub fn floor_char_boundary(text: &str, index: usize) -> usize
         }
     }
     place
-}
-
-/// Whether a character of the plain text begins at the position, or it is the end, or it lies past the
-/// end and that is good too.
-fn is_boundary(text: &str, position: usize, is_past_good: bool) -> bool
-    ensures { result ≡ ((is_past_good || nat_le position (length (plain text.now))) && is_good_position (plain text.now) position) }
-{
-    let mut remaining = position;
-    for item in Scanner::new(text) {
-        if item.kind == Kind::Text {
-            let run = &text[item.start..item.end];
-            if remaining < run.len() {
-                return run.is_char_boundary(remaining);
-            }
-            remaining -= run.len();
-        }
-    }
-    is_past_good || remaining == 0
 }

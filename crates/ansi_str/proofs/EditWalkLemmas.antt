@@ -1,8 +1,7 @@
 -- How far a list of edits has come, and what one edit more is to it.
-use Rattle.ansi_str.proofs.Common.{◌≡◌, ◌↔◌, ◌⊎◌, inl, inr, ℕ, ◌+◌, ◌<◌, ◌≤◌, ◌&&◌, true, List, ◌∷◌, length, map, drop, get_or, Option, Some, None, refl, sym, ◌∙◌, ap, subst, IsTrue, option_and_then, IsNone, option_map_or, and_parts, and_from, drop_all, Change, edited_by, edited, gives_borrow, stay_borrowed, change_of, false, plain, is_good_position, right_side}
+use Rattle.ansi_str.proofs.Common.{◌≡◌, ◌↔◌, ◌⊎◌, inl, inr, ℕ, ◌+◌, ◌<◌, ◌≤◌, ◌&&◌, true, List, ◌∷◌, length, map, drop, get_or, Option, Some, None, refl, sym, ◌∙◌, ap, subst, IsTrue, option_and_then, IsNone, option_map_or, and_parts, and_from, drop_all, Change, edited_by, edited, gives_borrow, stay_borrowed, change_of}
 use Rattle.std.proofs.lemmas.List.{drop_more}
 use Rattle.ansi_str.specs.declared.edits.kinds.Edit.{Edit}
-use Rattle.ansi_str.specs.declared.edits.kinds.Edit.TheVariants.{Left, Right}
 
 -- The text that was reached, edited by what is left, is the whole answer; and it stays a borrow to the end where it is one, and what is left leaves it one.
 pub record IsEditedSoFar (es : List Change) (t : List ℕ) (left : List Change) (Lent : Type 0) (u : List ℕ) : Type 0 where
@@ -57,14 +56,3 @@ pub so_far-end : {E : Type 0} (change : E → Change) {es : List Change} {t u : 
 so_far-end change {es} {t} {u} {Lent} edits i so_far end =
     let last = subst (λ left. IsEditedSoFar es t (map change left) Lent u) (drop_all i edits end) so_far in
     (sym last.same, (λ lent. last.lent.1 (lent, refl), λ stays. (last.lent.0 stays).0))
-
--- a side at a bad position is refused, and at a good one it is written
-pub side-refused : (t : List ℕ) {edit : Edit} {n m : ℕ} → (edit ≡ Left m) ⊎ (edit ≡ Right m) → false ≡ is_good_position (plain t) n → n ≡ m → None ≡ edited_by (change_of edit) t
-side-refused t (inl is) bad same = rw (is, sym same, sym bad) refl
-side-refused t (inr is) bad same = rw (is, sym same, sym bad) refl
-
-pub right-edited : (t : List ℕ) {u : List ℕ} {edit : Edit} {n k m : ℕ} → (edit ≡ Left k) ⊎ (edit ≡ Right k) → n ≡ k → edit ≡ Right m → true ≡ is_good_position (plain t) n → u ≡ right_side t m → Some u ≡ edited_by (change_of edit) t
-right-edited t (inl left) same is good written = cc
-right-edited t {k = k} {m = m} (inr right) same is good written =
-    let place : k ≡ m = cc in
-    rw (is, written, sym (same ∙ place), sym good) refl

@@ -10,7 +10,6 @@ mod kinds;
 use crate::ansitok::{Kind, Scanner};
 use crate::slice::{get_in, strip_prefix_in, strip_suffix_in, trim_in};
 use crate::split::part_in;
-use ansi_slice::search;
 use ansi_slice::slice::{left_in, right_in};
 pub use kinds::Edit;
 use std::alloc::{AllocError, Allocator};
@@ -90,15 +89,8 @@ fn edit_once<'t, A: Allocator + Copy>(
 {
     match edit {
         Edit::Cut { start, end } => get_in(alloc, text, start, end),
-        Edit::Left(mid) | Edit::Right(mid) if !search::is_good_position(text, mid) => Ok(None),
-        Edit::Left(mid) => {
-            let side = left_in(alloc, text, mid)?;
-            Ok(Some(side))
-        }
-        Edit::Right(mid) => {
-            let side = right_in(alloc, text, mid)?;
-            Ok(Some(side))
-        }
+        Edit::Left(mid) => left_in(alloc, text, mid),
+        Edit::Right(mid) => right_in(alloc, text, mid),
         Edit::Part { pat, index } => part_in(alloc, text, pat, index),
         Edit::Prefix(prefix) => strip_prefix_in(alloc, text, prefix),
         Edit::Suffix(suffix) => strip_suffix_in(alloc, text, suffix),

@@ -3,7 +3,7 @@ ghost use Rattle.std.specs.Prelude.{◌≡◌, ◌↔◌, ◌⊎◌, ◌≤◌, 
 ghost use Rattle.std.specs.Cow.{cow_str_bytes, IsBorrowedStr};
 ghost use Rattle.ansi_items.specs.Pieces.{pieces_of};
 ghost use Rattle.ansi_items.specs.Plain.{plain, has_escape};
-ghost use Rattle.ansi_slice.specs.Positions.{is_good_range, is_range_in};
+ghost use Rattle.ansi_slice.specs.Positions.{is_good_position, is_good_range, is_range_in};
 ghost use Rattle.ansi_slice.specs.Cut.{cut, cut_up_to};
 ghost use Rattle.ansi_slice.specs.Offsets.{sequences_up_to};
 ghost use Rattle.ansi_style.specs.States.{rendition_of};
@@ -11,7 +11,7 @@ ghost use Rattle.ansi_style.specs.Written.{close, longest_close};
 
 use crate::search::offsets::walk_to;
 use crate::slice::has_any;
-use crate::slice::sequences::with_sequences;
+use crate::slice::sequences::push_sequences;
 use ansi_style::state::Style;
 use ansi_style::styles;
 use std::alloc::{AllocError, Allocator};
@@ -151,7 +151,7 @@ fn cut_range<A: Allocator>(
     Ok(Some(closed(alloc, most, text, start, &rest[..to], &style)?))
 }
 
-/// Every sequence of a text up to a position, a stretch after it, and the close of the style then, in a
+/// Every sequence of a text up to a good position, a stretch after it, and the close of the style then, in a
 /// text that has room for so many bytes.
 fn closed<A: Allocator>(
     alloc: A,
@@ -161,9 +161,12 @@ fn closed<A: Allocator>(
     stretch: &str,
     style: &Style,
 ) -> Result<String<A>, AllocError>
+    requires { IsTrue (is_good_position (plain text.now) position) }
     ensures { IfOk result (λ s. string_bytes s ≡ (sequences_up_to position (pieces_of text.now) ++ stretch.now) ++ close (rendition_of style.now)) }
 {
-    let mut out = with_sequences(alloc, capacity, text, position, stretch)?;
+    let mut out = String::with_capacity(alloc, capacity)?;
+    push_sequences(&mut out, text, position)?;
+    out.push_str(stretch)?;
     styles::write_close(style, &mut out)?;
     Ok(out)
 }

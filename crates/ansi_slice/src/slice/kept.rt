@@ -8,9 +8,8 @@ ghost use Rattle.ansi_slice.specs.Kept.{kept, without_prefix, without_suffix, tr
 
 use crate::search;
 use crate::search::ends::{solid_end, suffix_offset, white_space_len};
-use crate::search::offsets::offset_at;
 use crate::slice::has_any;
-use crate::slice::sequences::{push_sequences, with_sequences};
+use crate::slice::sequences::push_sequences;
 use std::alloc::{AllocError, Allocator};
 use std::borrow::CowStr;
 
@@ -52,8 +51,10 @@ fn write_from<A: Allocator>(alloc: A, text: &str, start: usize) -> Result<String
     requires { IsCharBoundary (plain text.now) start }
     ensures { IfOk result (λ s. string_bytes s ≡ kept text.now start (length (plain text.now))) }
 {
-    let rest = &text[offset_at(text, start)..];
-    with_sequences(alloc, text.len(), text, start, rest)
+    let mut kept = String::with_capacity(alloc, text.len())?;
+    let from = push_sequences(&mut kept, text, start)?;
+    kept.push_str(&text[from..])?;
+    Ok(kept)
 }
 
 /// As `AnsiStr::ansi_strip_suffix`, with an answer that lives as long as the text, and its memory taken from any allocator.
@@ -114,9 +115,9 @@ fn write_trimmed<A: Allocator>(alloc: A, text: &str) -> Result<String<A>, AllocE
     ensures { IfOk result (λ s. string_bytes s ≡ trimmed text.now) }
 {
     let start = white_space_len(text);
-    let rest = &text[offset_at(text, start)..];
     let mut kept = String::with_capacity(alloc, text.len())?;
-    push_sequences(&mut kept, text, start)?;
+    let from = push_sequences(&mut kept, text, start)?;
+    let rest = &text[from..];
     push_up_to(&mut kept, rest, solid_end(rest))?;
     Ok(kept)
 }
@@ -130,5 +131,6 @@ fn push_up_to<A: Allocator>(out: &mut String<A>, text: &str, end: usize) -> Resu
     let (front, rest) = text.split_at(end);
     out.push_str(front)?;
     // No position of a text lies past this one, so all sequences stand up to there.
-    push_sequences(out, rest, usize::MAX)
+    push_sequences(out, rest, usize::MAX)?;
+    Ok(())
 }

@@ -1,5 +1,5 @@
 //! The two sides of a text.
-ghost use Rattle.std.specs.Prelude.{◌≡◌, ◌≢◌, ◌++◌, ◌↔◌, ◌≤◌, ◌+◌, ◌*◌, length, filter, IsTrue, IsFalse, IsOk, IfOk, OnOk, string_bytes};
+ghost use Rattle.std.specs.Prelude.{◌≡◌, ◌≢◌, ◌++◌, ◌↔◌, ◌⊎◌, ◌≤◌, ◌+◌, ◌*◌, length, filter, IsTrue, IsFalse, IsNone, IsOk, IfOk, OnOk, IfSome, string_bytes};
 ghost use Rattle.std.specs.Cow.{cow_str_bytes, IsBorrowedStr};
 ghost use Rattle.ansi_items.specs.declared.ansitok.Kind.TheVariants.{Sgr};
 ghost use Rattle.ansi_items.specs.Pieces.{Sequence, pieces_of};
@@ -13,6 +13,7 @@ ghost use Rattle.ansi_style.specs.Sgr.{apply};
 ghost use Rattle.ansi_style.specs.States.{rendition_of};
 ghost use Rattle.ansi_style.specs.Written.{longest_start_and_close};
 
+use crate::search;
 use crate::search::offsets::walk_to;
 use crate::slice::has_any;
 use ansi_items::ansitok::{Kind, Scanner};
@@ -49,47 +50,52 @@ pub fn split_at_in<'t, A: Allocator + Copy>(
     Ok((CowStr::Owned(left), CowStr::Owned(right)))
 }
 
-/// As the left of `split_at_in`, alone.
+/// As the left of `split_at_in`, alone, or `None` where the position isn't good.
 pub fn left_in<'t, A: Allocator>(
     alloc: A,
     text: &'t str,
     mid: usize,
-) -> Result<CowStr<'t, A>, AllocError>
-    requires { IsTrue (is_good_position (plain text.now) mid) }
-    ensures bytes { IfOk result (λ c. cow_str_bytes c ≡ left_side text.now mid) }
-    ensures borrowed { IfOk result (λ c. IsBorrowedStr c ↔ IsFalse (has_escape text.now)) }
-    ensures len { IfOk result (λ c. length (cow_str_bytes c) ≤ length text.now + longest_start_and_close * (length (filter is_text (pieces_of text.now)) + 1)) }
-    ensures takes_no_memory { IsFalse (has_escape text.now) → IsOk result }
+) -> Result<Option<CowStr<'t, A>>, AllocError>
+    ensures none { IfOk result (λ o. IsNone o ↔ IsFalse (is_good_position (plain text.now) mid)) }
+    ensures bytes { IfOk result (λ o. IfSome o (λ c. cow_str_bytes c ≡ left_side text.now mid)) }
+    ensures borrowed { IfOk result (λ o. IfSome o (λ c. IsBorrowedStr c ↔ IsFalse (has_escape text.now))) }
+    ensures len { IfOk result (λ o. IfSome o (λ c. length (cow_str_bytes c) ≤ length text.now + longest_start_and_close * (length (filter is_text (pieces_of text.now)) + 1))) }
+    ensures takes_no_memory { IsFalse (has_escape text.now) ⊎ IsFalse (is_good_position (plain text.now) mid) → IsOk result }
 {
+    if !search::is_good_position(text, mid) {
+        return Ok(None);
+    }
     if !has_any(text) {
         let (left, _) = halves(text, mid);
-        return Ok(CowStr::Borrowed(left));
+        return Ok(Some(CowStr::Borrowed(left)));
     }
     let mut style = styles::plain_style();
     let mut left = String::new(alloc);
     write_side(&mut left, &mut style, text, mid)?;
-    Ok(CowStr::Owned(left))
+    Ok(Some(CowStr::Owned(left)))
 }
 
-/// As the right of `split_at_in`, alone.
+/// As the right of `split_at_in`, alone, or `None` where the position isn't good.
 pub fn right_in<'t, A: Allocator>(
     alloc: A,
     text: &'t str,
     mid: usize,
-) -> Result<CowStr<'t, A>, AllocError>
-    requires { IsTrue (is_good_position (plain text.now) mid) }
-    ensures bytes { IfOk result (λ c. cow_str_bytes c ≡ right_side text.now mid) }
-    ensures borrowed { IfOk result (λ c. IsBorrowedStr c ↔ IsFalse (has_escape text.now)) }
-    ensures len { IfOk result (λ c. length (cow_str_bytes c) ≤ length text.now + longest_start_and_close * (length (filter is_text (pieces_of text.now)) + 1)) }
-    ensures takes_no_memory { IsFalse (has_escape text.now) → IsOk result }
+) -> Result<Option<CowStr<'t, A>>, AllocError>
+    ensures none { IfOk result (λ o. IsNone o ↔ IsFalse (is_good_position (plain text.now) mid)) }
+    ensures bytes { IfOk result (λ o. IfSome o (λ c. cow_str_bytes c ≡ right_side text.now mid)) }
+    ensures borrowed { IfOk result (λ o. IfSome o (λ c. IsBorrowedStr c ↔ IsFalse (has_escape text.now))) }
+    ensures len { IfOk result (λ o. IfSome o (λ c. length (cow_str_bytes c) ≤ length text.now + longest_start_and_close * (length (filter is_text (pieces_of text.now)) + 1))) }
+    ensures takes_no_memory { IsFalse (has_escape text.now) ⊎ IsFalse (is_good_position (plain text.now) mid) → IsOk result }
 {
+    let mut style = styles::plain_style();
+    let Some(from) = walk_to(&mut style, text, mid) else {
+        return Ok(None);
+    };
     if !has_any(text) {
         let (_, right) = halves(text, mid);
-        return Ok(CowStr::Borrowed(right));
+        return Ok(Some(CowStr::Borrowed(right)));
     }
-    let mut style = styles::plain_style();
-    let from = walk_to(&mut style, text, mid).unwrap();
-    Ok(CowStr::Owned(write_right(alloc, style, &text[from..])?))
+    Ok(Some(CowStr::Owned(write_right(alloc, style, &text[from..])?)))
 }
 
 /// The two sides of a text without ESC: its bytes before the position, and those from there on. A

@@ -1,15 +1,24 @@
+use Rattle.std.proofs.Common.{subst, arith, inl, inr}
+use Rattle.std.proofs.lemmas.Bool.{cases_lt, eqb-true, eq-eqb}
+use Rattle.std.specs.Str.{IsCharBoundary}
 use Rattle.ansi_items.specs.Plain.{plain}
-use Rattle.ansi_slice.proofs.PositionLemmas.{is_char_boundary-decides, boundary_is_good, good_before}
 use Rattle.ansi_items.proofs.Utf8Lemmas.{IsUtf8-plain}
+use Rattle.ansi_slice.proofs.PositionLemmas.{is_char_boundary-decided, boundary_is_good, good_before}
 use Rattle.ansi_slice.proofs.search.is_char_boundary.Goals as goal
 
--- the test is the definition's, which decides std's word
+-- the last boundary up to the index is the index, or that is none
+pub returns-clause-boundary : goal.returns-clause-boundary
+returns-clause-boundary c =
+    let floor = c.floor_char_boundary in (
+      λ yes. subst (IsCharBoundary (plain c.args.text.now)) (eqb-true floor.result c.args.index yes) floor.ensures.boundary,
+      λ boundary. elim (cases_lt floor.result c.args.index) [
+        | inl below ↦ absurd (floor.ensures.nearest c.args.index below (omega arith) boundary)
+        | inr past ↦ eq-eqb _ _ (omega (arith, past, floor.ensures.bound))
+      ],
+    )
 
 pub returns-clause-value : goal.returns-clause-value
-returns-clause-value c = c.is_boundary.ensures
-
-pub returns-clause-boundary : goal.returns-clause-boundary
-returns-clause-boundary c = is_char_boundary-decides (plain c.args.text.now) c.args.index _ c.is_boundary.ensures
+returns-clause-value c = is_char_boundary-decided (plain c.args.text.now) c.args.index _ (returns-clause-boundary c)
 
 -- all before a boundary is a good range, and all after it
 

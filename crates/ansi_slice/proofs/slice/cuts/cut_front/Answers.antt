@@ -1,4 +1,4 @@
-use Rattle.std.proofs.Common.{◌≡◌, ◌++◌, ◌-◌, ◌∙◌, ap, arith, take}
+use Rattle.std.proofs.Common.{◌≡◌, ◌++◌, ◌-◌, ◌∙◌, ap, arith, take, refl}
 use Rattle.ansi_items.specs.Plain.{plain}
 use Rattle.ansi_items.proofs.Utf8Lemmas.{IsUtf8-plain}
 use Rattle.ansi_style.specs.Reading.{style_within}
@@ -7,6 +7,9 @@ use Rattle.ansi_style.specs.States.{rendition_of}
 use Rattle.ansi_slice.proofs.OffsetLemmas.{cut-front}
 use Rattle.ansi_slice.proofs.PositionLemmas.{is_good_range-front}
 use Rattle.ansi_slice.proofs.slice.cuts.cut_front.Goals as goal
+
+pub closed-requires : goal.closed-requires
+closed-requires g c = refl
 
 -- memory is asked for where the range is good
 pub returns-in_err-closed-clause-takes_no_memory : goal.returns-in_err-closed-clause-takes_no_memory

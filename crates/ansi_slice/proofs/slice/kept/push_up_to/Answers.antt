@@ -1,7 +1,14 @@
-use Rattle.std.proofs.Common.{◌≡◌, ◌++◌, ◌∙◌, sym, ap₂, subst, arith, append_assoc, string_bytes, OnOk}
+use Rattle.std.proofs.Common.{◌++◌, ◌∙◌, sym, ap₂, arith, append_assoc, string_bytes}
+use Rattle.ansi_items.specs.Plain.{plain}
+use Rattle.ansi_items.proofs.PlainLemmas.{length-plain}
 use Rattle.ansi_slice.specs.Kept.{kept}
+use Rattle.ansi_slice.proofs.PositionLemmas.{is_good_position-past}
 use Rattle.ansi_slice.proofs.OffsetLemmas.{kept-none}
 use Rattle.ansi_slice.proofs.slice.kept.push_up_to.Goals as goal
+
+-- the largest position lies past the end of each text
+pub push_sequences-requires : goal.push_sequences-requires
+push_sequences-requires g c = is_good_position-past (plain c.split_at.result.1.now) _ (omega (arith, length-plain c.split_at.result.1.now))
 
 -- all sequences of what follows
 pub returns : goal.returns
@@ -9,7 +16,7 @@ returns g c =
     let old = string_bytes c.args.out.now in
     let front = c.split_at.result.0.now in
     let rest = c.split_at.result.1.now in
-    let all = ap₂ (λ u v. u ++ v) c.in_ok-push_str.ensures.bytes (sym (kept-none rest _ (omega arith)))
+    c.in_ok-push_sequences.ensures.bytes
+    ∙ ap₂ (λ u v. u ++ v) c.in_ok-push_str.ensures.bytes (sym (kept-none rest _ (omega arith)))
     ∙ append_assoc old front (kept rest 0 0)
-    ∙ ap₂ (λ u v. old ++ (u ++ kept v 0 0)) c.split_at.ensures.front c.split_at.ensures.back in
-    subst (λ v. OnOk c.push_sequences.result (string_bytes c.push_sequences.new.out ≡ v)) all c.push_sequences.ensures
+    ∙ ap₂ (λ u v. old ++ (u ++ kept v 0 0)) c.split_at.ensures.front c.split_at.ensures.back

@@ -11,8 +11,8 @@ use Rattle.ansi_slice.proofs.TrimWalkLemmas.{trimmed-stretch}
 use Rattle.ansi_slice.proofs.slice.kept.write_trimmed.Goals as goal
 
 -- a character begins after the white space at the front, or it is all
-pub offset_at-requires : goal.offset_at-requires
-offset_at-requires g c =
+pub push_sequences-requires : goal.push_sequences-requires
+push_sequences-requires g c =
     let x = plain c.args.text.now in
     subst (λ n. IsTrue (is_good_position x n)) (sym c.white_space_len-start.ensures)
     (boundary_is_good x (trim_interval x).0 (trim_interval_boundaries x (IsUtf8-plain c.args.text.now c.utf8.text)).0)
@@ -24,5 +24,5 @@ returns g c =
     let end = c.solid_end.result in
     let front = sequences_up_to c.white_space_len-start.result (pieces_of c.args.text.now) in
     c.in_ok-push_up_to.ensures
-    ∙ ap (λ v. v ++ (take end rest ++ kept (drop end rest) 0 0)) (c.in_ok-push_sequences.ensures ∙ ap (λ v. v ++ front) c.in_ok-kept.ensures.bytes)
-    ∙ trimmed-stretch c.utf8.text c.white_space_len-start.ensures c.offset_at.ensures c.range_from-rest.ensures.value c.solid_end.ensures
+    ∙ ap (λ v. v ++ (take end rest ++ kept (drop end rest) 0 0)) (c.in_ok-from.ensures.bytes ∙ ap (λ v. v ++ front) c.in_ok-kept.ensures.bytes)
+    ∙ trimmed-stretch c.utf8.text c.white_space_len-start.ensures c.in_ok-from.ensures.offset c.range_from-rest.ensures.value c.solid_end.ensures

@@ -1,16 +1,26 @@
 use Rattle.std.proofs.Common.{◌∙◌, ap, arith, length}
 use Rattle.ansi_style.specs.Reading.{style_within}
+use Rattle.ansi_slice.proofs.PositionLemmas.{none_if_bad, some_if_good}
 use Rattle.ansi_slice.proofs.SideWalkLemmas.{right_side-is}
 use Rattle.ansi_slice.proofs.LengthLemmas.{length-sides}
 use Rattle.ansi_slice.proofs.slice.sides.right_in.Goals as goal
 
+-- by the walk to the position
+
+pub returns-in_default-clause-none : goal.returns-in_default-clause-none
+returns-in_default-clause-none g c = none_if_bad c.in_default.ensures.offset
+
+pub returns-then-not-has_any-clause-none : goal.returns-then-not-has_any-clause-none
+returns-then-not-has_any-clause-none g c = some_if_good c.in-Some.ensures.offset.good
+
+pub returns-clause-none : goal.returns-clause-none
+returns-clause-none g c = some_if_good c.in-Some.ensures.offset.good
+
 pub returns-clause-bytes : goal.returns-clause-bytes
 returns-clause-bytes g c =
     let t = c.args.text.now in
-    let found = rw c.unwrap-from.ensures at c.walk_to.ensures.offset in
-    let styled = rw c.unwrap-from.ensures at c.walk_to.ensures.style in
     c.in_ok-write_right.ensures
-    ∙ right_side-is found c.range_from.ensures.value (styled ∙ ap (λ r. style_within r t c.args.mid) c.plain_style-style.ensures) (omega arith)
+    ∙ right_side-is c.in-Some.ensures.offset c.range_from.ensures.value (c.in-Some.ensures.style ∙ ap (λ r. style_within r t c.args.mid) c.plain_style-style.ensures) (omega arith)
 
 pub returns-then-not-has_any-clause-len : goal.returns-then-not-has_any-clause-len
 returns-then-not-has_any-clause-len g c = omega (arith, ap length c.halves.ensures.right, length-sides c.args.text.now c.args.mid)
