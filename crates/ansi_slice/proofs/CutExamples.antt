@@ -1,12 +1,5 @@
 -- Worked examples of cuts, each by computation.
-use Rattle.std.proofs.Common.{◌≡◌, refl, codes, [], List, Some, None, ℕ, true, false}
-use Rattle.std.specs.Prelude.{encode_utf8_all}
-use Rattle.std.specs.Char.{encode_utf8}
-use Prim.Native.String.{String}
-use Rattle.ansi_items.specs.Plain.{plain}
-use Rattle.ansi_slice.specs.Positions.{is_good_range}
-use Rattle.ansi_slice.specs.Ranges.{past_inclusive}
-use Rattle.ansi_slice.specs.Cut.{cut}
+use Rattle.ansi_slice.proofs.Common.{◌≡◌, refl, codes, [], List, Some, None, ℕ, true, false, encode_utf8_all, encode_utf8, String, plain, is_good_range, past_inclusive, cut}
 
 -- the bytes of a text
 abbrev utf8 : String → List ℕ

@@ -1,19 +1,5 @@
 -- A cut of a whole text is whole, has the slice of its styled bytes, and leaves nothing known open.
-use Rattle.std.proofs.Common.{◌≡◌, ℕ, sym, ◌∙◌, ap, ap₂, arith, List, ◌++◌, append-nil, slice_range, IsTrue, length, nat_le}
-use Rattle.std.specs.Prelude.{Option, unwrap_or}
-use Rattle.std.proofs.lemmas.Bool.{le-leb}
-use Rattle.std.proofs.lemmas.Grind.{flat_map-append}
-use Rattle.ansi_items.specs.Pieces.{Piece, pieces_of, spelling}
-use Rattle.ansi_items.specs.Plain.{is_whole, plain}
-use Rattle.ansi_style.specs.Rendition.{plain_style, known}
-use Rattle.ansi_style.specs.Written.{close_codes}
-use Rattle.ansi_style.specs.Styled.{style_at, styled, residue}
-use Rattle.ansi_slice.specs.Cut.{cut_up_to, cut}
-use Rattle.ansi_items.proofs.JoinLemmas.{spelled, AllStandAnywhere, stand-append, pieces_stand, is_whole-spelled}
-use Rattle.ansi_style.proofs.StyledLemmas.{styled_through-append, style_through, styled_through, styled-pieces, style_through-append}
-use Rattle.ansi_style.proofs.SpelledLemmas.{styled-spelled, residue-spelled}
-use Rattle.ansi_style.proofs.ReadBackLemmas.{code_pieces, spelled-code_pieces, code_pieces_stand, close_codes_are, styled_through-codes, style_through-codes}
-use Rattle.ansi_style.proofs.CloseLemmas.{close_codes_clear}
+use Rattle.ansi_slice.proofs.Common.{◌≡◌, ℕ, sym, ◌∙◌, ap, ap₂, arith, List, ◌++◌, append-nil, slice_range, IsTrue, length, nat_le, Option, unwrap_or, le-leb, flat_map-append, Piece, pieces_of, spelling, is_whole, plain, plain_style, known, close_codes, style_at, styled, residue, cut_up_to, cut, spelled, AllStandAnywhere, stand-append, pieces_stand, is_whole-spelled, styled_through-append, style_through, styled_through, styled-pieces, style_through-append, styled-spelled, residue-spelled, code_pieces, spelled-code_pieces, code_pieces_stand, close_codes_are, styled_through-codes, style_through-codes, close_codes_clear}
 use Rattle.ansi_slice.proofs.ShownLemmas.{shown_pieces, spelled-shown_pieces, shown_pieces_stand, styled_through-shown_pieces, style_through-shown_pieces}
 
 abbrev pub cut_pieces : List ℕ → ℕ → ℕ → List Piece

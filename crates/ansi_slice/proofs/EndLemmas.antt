@@ -1,17 +1,5 @@
 -- A pattern at the front and at the end of a text.
-use Rattle.std.proofs.Common.{◌≡◌, ℕ, ◌+◌, ◌-◌, ◌≤◌, ◌⊎◌, inl, inr, IsTrue, true, ◌&&◌, List, [], ◌∷◌, ◌++◌, length, take, drop, nat_eq, refl, sym, ◌∙◌, ap, ap₂, subst, arith}
-use Rattle.std.proofs.Math.Bool.{and_assoc}
-use Rattle.std.proofs.lemmas.Cmp.{nat_eq_equiv}
-use Rattle.std.proofs.lemmas.List.{take-append-le, take_all, drop-drop, length-drop, length-take}
-use Rattle.std.proofs.lemmas.Str.{IsCharBoundary-start, IsCharBoundary-from_take, IsCharBoundary-from_drop}
-use Rattle.std.specs.Cmp.Lexicographic.{pointwise, same_text}
-use Rattle.std.specs.List.{starts_with, ends_with}
-use Rattle.std.specs.Str.{IsUtf8, IsCharBoundary}
-use Rattle.ansi_items.specs.declared.ansitok.Kind.{Kind}
-use Rattle.ansi_items.specs.Pieces.{Piece, pieces_of}
-use Rattle.ansi_items.specs.Plain.{plain_of, plain}
-use Rattle.ansi_slice.specs.Positions.{is_good_position}
-use Rattle.ansi_slice.specs.Offsets.{StandsIn, KeepsUpTo}
+use Rattle.ansi_slice.proofs.Common.{◌≡◌, ℕ, ◌+◌, ◌-◌, ◌≤◌, ◌⊎◌, inl, inr, IsTrue, true, ◌&&◌, List, [], ◌∷◌, ◌++◌, length, take, drop, nat_eq, refl, sym, ◌∙◌, ap, ap₂, subst, arith, and_assoc, nat_eq_equiv, take-append-le, take_all, drop-drop, length-drop, length-take, IsCharBoundary-start, IsCharBoundary-from_take, IsCharBoundary-from_drop, pointwise, same_text, starts_with, ends_with, IsUtf8, IsCharBoundary, Kind, Piece, pieces_of, plain_of, plain, is_good_position, StandsIn, KeepsUpTo}
 use Rattle.ansi_slice.proofs.PositionLemmas.{boundary_is_good}
 use Rattle.ansi_slice.proofs.OffsetLemmas.{IsOverText, IsOverMark, IsPassed, passed-begin, passed-text, passed-mark, keeps-after}
 

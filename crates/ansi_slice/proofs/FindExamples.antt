@@ -1,11 +1,5 @@
 -- Worked examples of searches and of boundaries, each by computation.
-use Rattle.std.proofs.Common.{◌≡◌, refl, codes, [], List, Some, None, ℕ, true, false}
-use Rattle.std.specs.Prelude.{encode_utf8_all}
-use Rattle.std.specs.Char.{encode_utf8}
-use Prim.Native.String.{String}
-use Rattle.ansi_items.specs.Plain.{plain}
-use Rattle.ansi_slice.specs.Positions.{is_char_boundary}
-use Rattle.ansi_slice.specs.Parts.{first_match_from}
+use Rattle.ansi_slice.proofs.Common.{◌≡◌, refl, codes, [], List, Some, None, ℕ, true, false, encode_utf8_all, encode_utf8, String, plain, is_char_boundary, first_match_from}
 
 -- the bytes of a text
 abbrev utf8 : String → List ℕ

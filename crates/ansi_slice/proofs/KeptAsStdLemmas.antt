@@ -1,16 +1,6 @@
 -- The plain text of what is kept of a whole text is what std's `trim`, `strip_prefix` and `strip_suffix` leave.
-use Rattle.std.proofs.Common.{◌≡◌, ℕ, ◌-◌, List, ◌++◌, take, drop, length, refl, sym, ◌∙◌, ap, subst, arith, length-append, length-take, nat_eq, IsTrue}
-use Rattle.std.proofs.lemmas.Bool.Decides.{Decides-eqb}
-use Rattle.std.proofs.lemmas.Slice.Eq.{ends_is}
-use Rattle.std.proofs.lemmas.Str.{IsCharBoundary-from_take, IsCharBoundary-from_drop}
-use Rattle.std.proofs.Math.Seq.{take-append_seam, drop-append_seam}
-use Rattle.std.specs.List.{starts_with, ends_with}
-use Rattle.std.specs.Str.{IsUtf8, IsCharBoundary, trim}
-use Rattle.std.specs.Str.Pattern.{FindsTextPrefix, FindsTextSuffix, StripsPrefix, StripsSuffix}
-use Rattle.ansi_items.specs.Plain.{plain, is_whole}
-use Rattle.ansi_slice.specs.Kept.{without_prefix, without_suffix, trim_interval, trimmed}
+use Rattle.ansi_slice.proofs.Common.{◌≡◌, ℕ, ◌-◌, List, ◌++◌, take, drop, length, refl, sym, ◌∙◌, ap, subst, arith, length-append, length-take, nat_eq, IsTrue, Decides-eqb, ends_is, IsCharBoundary-from_take, IsCharBoundary-from_drop, take-append_seam, drop-append_seam, starts_with, ends_with, IsUtf8, IsCharBoundary, trim, FindsTextPrefix, FindsTextSuffix, StripsPrefix, StripsSuffix, plain, is_whole, without_prefix, without_suffix, trim_interval, trimmed, IsUtf8-plain}
 use Rattle.ansi_slice.proofs.SliceLemmas.{slice_range-past}
-use Rattle.ansi_items.proofs.Utf8Lemmas.{IsUtf8-plain}
 use Rattle.ansi_slice.proofs.TrimLemmas.{slice_range-trim_interval}
 use Rattle.ansi_slice.proofs.MatchLemmas.{starts_with-splits}
 use Rattle.ansi_slice.proofs.KeptLemmas.{plain-kept}

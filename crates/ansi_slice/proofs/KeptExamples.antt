@@ -1,12 +1,5 @@
 -- Worked examples of texts without a prefix, without a suffix and without the white space at their ends, each by computation.
-use Rattle.std.proofs.Common.{◌≡◌, refl, codes, List, ℕ, true, false, nat_eq}
-use Rattle.std.specs.Prelude.{encode_utf8_all}
-use Rattle.std.specs.Char.{encode_utf8}
-use Rattle.std.specs.List.{starts_with, ends_with}
-use Rattle.std.specs.Str.{chars, trim_start, trim_end}
-use Prim.Native.String.{String}
-use Rattle.ansi_items.specs.Plain.{plain}
-use Rattle.ansi_slice.specs.Kept.{kept, without_prefix, without_suffix, trim_interval, trimmed}
+use Rattle.ansi_slice.proofs.Common.{◌≡◌, refl, codes, List, ℕ, true, false, nat_eq, encode_utf8_all, encode_utf8, starts_with, ends_with, chars, trim_start, trim_end, String, plain, kept, without_prefix, without_suffix, trim_interval, trimmed}
 
 -- the bytes of a text
 abbrev utf8 : String → List ℕ

@@ -1,18 +1,6 @@
 -- What is kept of a text: all its marks, and of a whole text the slice of its styled bytes; it is whole, and leaves open what the text does.
-use Rattle.std.proofs.Common.{◌≡◌, ℕ, ◌-◌, true, List, [], ◌∷◌, ◌++◌, map, length, refl, sym, ◌∙◌, ap, arith, slice_range, IsTrue}
-use Rattle.ansi_items.specs.Bytes.{escape}
-use Rattle.ansi_items.specs.Pieces.{Piece, Text, Sequence, LoneEscape, pieces_of}
-use Rattle.ansi_items.specs.Plain.{plain_of, plain, Mark, marks_of, marks, is_whole}
-use Rattle.ansi_style.specs.Rendition.{plain_style, known}
-use Rattle.ansi_style.specs.Styled.{StyledByte, styled, bytes_of, style_of, residue}
-use Rattle.ansi_slice.specs.Cut.{show}
-use Rattle.ansi_slice.specs.Kept.{kept, IsKept}
-use Rattle.ansi_items.proofs.PlainLemmas.{one_text}
+use Rattle.ansi_slice.proofs.Common.{◌≡◌, ℕ, ◌-◌, true, List, [], ◌∷◌, ◌++◌, map, length, refl, sym, ◌∙◌, ap, arith, slice_range, IsTrue, escape, Piece, Text, Sequence, LoneEscape, pieces_of, plain_of, plain, Mark, marks_of, marks, is_whole, plain_style, known, StyledByte, styled, bytes_of, style_of, residue, show, kept, IsKept, one_text, bytes-further, marks_of-text, marks_of-sequence, marks_of-lone, spelled, pieces_stand, is_whole-spelled, styled-pieces, bytes_of-styled, styled-spelled, residue-spelled}
 use Rattle.ansi_slice.proofs.SliceLemmas.{slice_range-from_past, slice_range-map, slice_range-append}
-use Rattle.ansi_style.proofs.MarkLemmas.{bytes-further, marks_of-text, marks_of-sequence, marks_of-lone}
-use Rattle.ansi_items.proofs.JoinLemmas.{spelled, pieces_stand, is_whole-spelled}
-use Rattle.ansi_style.proofs.StyledLemmas.{styled-pieces, bytes_of-styled}
-use Rattle.ansi_style.proofs.SpelledLemmas.{styled-spelled, residue-spelled}
 use Rattle.ansi_slice.proofs.ShownLemmas.{at_places, shown_pieces, spelled-shown_pieces, shown_pieces_stand, styled_through-shown_pieces, style_through-shown_pieces}
 
 -- the pieces of what is kept

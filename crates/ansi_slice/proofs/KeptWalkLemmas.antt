@@ -1,12 +1,5 @@
 -- A kept text as one walk over the pieces, with what is left of its ends; and what is kept of all, and of a text without ESC.
-use Rattle.std.proofs.Common.{◌≡◌, ℕ, ◌-◌, ◌≤◌, true, List, [], ◌∷◌, ◌++◌, length, refl, sym, ◌∙◌, ap, ap₂, arith, slice_range, append-nil, length-append, IsFalse, Bool, false, nat_eq, ◌⊎◌, inl, inr}
-use Rattle.ansi_items.specs.Bytes.{escape}
-use Rattle.ansi_items.specs.Pieces.{Piece, Text, Sequence, LoneEscape, ArePieces, spelling, pieces_of}
-use Rattle.ansi_items.specs.Plain.{plain_of, plain, has_escape}
-use Rattle.ansi_slice.specs.Kept.{kept}
-use Rattle.ansi_items.proofs.PieceLemmas.{pieces_are}
-use Rattle.ansi_items.proofs.PlainLemmas.{one_text, pieces_of-bare}
-use Rattle.ansi_items.proofs.StepLemmas.{is_mark}
+use Rattle.ansi_slice.proofs.Common.{◌≡◌, ℕ, ◌-◌, ◌≤◌, true, List, [], ◌∷◌, ◌++◌, length, refl, sym, ◌∙◌, ap, ap₂, arith, slice_range, append-nil, length-append, IsFalse, Bool, false, nat_eq, ◌⊎◌, inl, inr, escape, Piece, Text, Sequence, LoneEscape, ArePieces, spelling, pieces_of, plain_of, plain, has_escape, kept, pieces_are, one_text, pieces_of-bare, is_mark}
 use Rattle.ansi_slice.proofs.SliceLemmas.{slice_range-past, slice_range-from_past}
 use Rattle.ansi_slice.proofs.CutLemmas.{shown_from, show-all}
 

@@ -1,27 +1,8 @@
 -- How long a cut may be, what is kept of a text, and its two sides.
-use Rattle.std.proofs.Common.{◌≡◌, ℕ, ◌+◌, ◌-◌, ◌*◌, ◌≤◌, inl, inr, Bool, true, false, ◌==◌, List, [], ◌∷◌, ◌++◌, length, take, drop, filter, refl, ◌∙◌, sym, ap, arith, length-append, length-take, length-drop, nat_le, if◌then◌else◌}
-use Rattle.std.specs.Prelude.{Option, unwrap_or}
-use Rattle.std.proofs.lemmas.Bool.{cond_both, cases_lt}
-use Rattle.std.proofs.lemmas.Grind.{flat_map-append}
-use Rattle.std.specs.List.{slice_range}
-use Rattle.ansi_items.specs.Sequences.{is_sgr}
-use Rattle.ansi_items.specs.Pieces.{Piece, spelling, Text, Sequence, LoneEscape, pieces_of}
-use Rattle.ansi_items.specs.Plain.{plain, is_text, plain_bytes, copied}
-use Rattle.ansi_style.specs.declared.state.rendition.Rendition.{Rendition}
-use Rattle.ansi_style.specs.Rendition.{IsStyle, plain_style}
-use Rattle.ansi_style.specs.Sgr.{apply}
-use Rattle.ansi_style.specs.Written.{close, start, close_codes, longest_start, longest_close, longest_start_and_close}
-use Rattle.ansi_style.specs.Styled.{style_at}
-use Rattle.ansi_slice.specs.Cut.{cut}
-use Rattle.ansi_slice.specs.Kept.{kept}
-use Rattle.ansi_slice.specs.Parts.{past}
-use Rattle.ansi_slice.specs.Sides.{dressed, left_part, right_part, left_side, right_side}
-use Rattle.ansi_items.proofs.PlainLemmas.{one_text}
+use Rattle.ansi_slice.proofs.Common.{◌≡◌, ℕ, ◌+◌, ◌-◌, ◌*◌, ◌≤◌, inl, inr, Bool, true, false, ◌==◌, List, [], ◌∷◌, ◌++◌, length, take, drop, filter, refl, ◌∙◌, sym, ap, arith, length-append, length-take, length-drop, nat_le, if◌then◌else◌, Option, unwrap_or, cond_both, cases_lt, flat_map-append, slice_range, is_sgr, Piece, spelling, Text, Sequence, LoneEscape, pieces_of, plain, plain_bytes, copied, Rendition, IsStyle, plain_style, apply, close, start, close_codes, longest_start, longest_close, longest_start_and_close, style_at, cut, kept, past, dressed, left_part, right_part, left_side, right_side, one_text, IsStyle-apply, IsStyle-plain_style, spelled, spelled-pieces_of, close_codes_are, start_codes_are, code_pieces, spelled-code_pieces}
+use Rattle.ansi_items.specs.Plain.{is_text}
 use Rattle.ansi_slice.proofs.WalkLemmas.{walked, style_past}
 use Rattle.ansi_slice.proofs.SideLemmas.{left_side-walked, right_side-walked}
-use Rattle.ansi_style.proofs.StyleLemmas.{IsStyle-apply, IsStyle-plain_style}
-use Rattle.ansi_items.proofs.JoinLemmas.{spelled, spelled-pieces_of}
-use Rattle.ansi_style.proofs.ReadBackLemmas.{close_codes_are, start_codes_are, code_pieces, spelled-code_pieces}
 use Rattle.ansi_slice.proofs.ShownLemmas.{spelled-one_text, shown_pieces}
 use Rattle.ansi_slice.proofs.CutSliceLemmas.{spelled-cut_pieces}
 use Rattle.ansi_slice.proofs.KeptLemmas.{spelled-kept_pieces}

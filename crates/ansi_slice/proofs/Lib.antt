@@ -1,3 +1,4 @@
+mod Common
 pub mod SliceLemmas
 pub mod ShowLemmas
 pub mod PositionLemmas

@@ -1,19 +1,5 @@
 -- Where a pattern stands in a text, and where it stands first.
-use Rattle.std.proofs.Common.{◌≡◌, ℕ, zero, suc, ◌+◌, ◌-◌, ◌<◌, ◌≤◌, max, inl, inr, Bool, true, false, ◌&&◌, ◌||◌, List, [], ◌∷◌, ◌++◌, take, drop, length, filter, nat_eq, nat_le, IsTrue, IsFalse, Option, Some, None, refl, sym, ◌∙◌, ap, ap₂, subst, arith, slice_get, slice_index}
-use Rattle.std.proofs.lemmas.Bool.{and_parts, and_from, cond_both, cases_lt, cases_eq, le-leb, leb-true, leb-false, true≢false}
-use Rattle.std.proofs.lemmas.List.{take-append-drop, take_at, drop-drop, take-append-le, get_or_append_left, get_or-drop, length-append, length-drop, drop-append-le}
-use Rattle.std.proofs.lemmas.Slice.Eq.{bytes_eq-Decides}
-use Rattle.std.proofs.lemmas.Str.{IsCharBoundary-start, IsCharBoundary-from_rest}
-use Rattle.std.specs.Cmp.{both_ways}
-use Rattle.std.specs.List.{range_with_len, starts_with}
-use Rattle.std.specs.Str.{IsUtf8, IsCharBoundary, bytes_eq}
-use Rattle.memchr.specs.Find.{Nowhere, IsFirst, OccursAt, FindsNeedle, Passes, is_byte}
-use Rattle.memchr.proofs.lemmas.MatchLemmas.{OccursAt-split, OccursAt-from_part}
-use Rattle.std.specs.Prelude.{◌==◌}
-use Rattle.ansi_items.specs.Bytes.{escape}
-use Rattle.ansi_items.specs.Plain.{has_escape}
-use Rattle.ansi_slice.specs.Positions.{is_good_position, is_char_boundary}
-use Rattle.ansi_slice.specs.Parts.{is_match, first_match_from}
+use Rattle.ansi_slice.proofs.Common.{◌≡◌, ℕ, zero, suc, ◌+◌, ◌-◌, ◌<◌, ◌≤◌, max, inl, inr, Bool, true, false, ◌&&◌, ◌||◌, List, [], ◌∷◌, ◌++◌, take, drop, length, filter, nat_eq, nat_le, IsTrue, IsFalse, Option, Some, None, refl, sym, ◌∙◌, ap, ap₂, subst, arith, slice_get, slice_index, and_parts, and_from, cond_both, cases_lt, cases_eq, le-leb, leb-true, leb-false, true≢false, take-append-drop, take_at, drop-drop, take-append-le, get_or_append_left, get_or-drop, length-append, length-drop, drop-append-le, bytes_eq-Decides, IsCharBoundary-start, IsCharBoundary-from_rest, both_ways, range_with_len, starts_with, IsUtf8, IsCharBoundary, bytes_eq, Nowhere, IsFirst, OccursAt, FindsNeedle, Passes, is_byte, OccursAt-split, OccursAt-from_part, ◌==◌, escape, has_escape, is_good_position, is_char_boundary, is_match, first_match_from}
 use Rattle.ansi_slice.proofs.PositionLemmas.{is_good_position-past, is_char_boundary-from}
 
 -- Whether a text begins with a pattern.

@@ -1,8 +1,5 @@
 -- Worked examples of parts, each by computation.
-use Rattle.std.proofs.Common.{◌≡◌, refl, codes, [], ◌∷◌, true, false, map}
-use Rattle.std.specs.Fmt.{digits}
-use Rattle.std.specs.List.{range_with_len}
-use Rattle.ansi_slice.specs.Parts.{part_over, all_parts, is_borrowed_over, is_part_borrowed}
+use Rattle.ansi_slice.proofs.Common.{◌≡◌, refl, codes, [], ◌∷◌, true, false, map, digits, range_with_len, part_over, all_parts, is_borrowed_over, is_part_borrowed}
 
 -- Texts without ESC.
 

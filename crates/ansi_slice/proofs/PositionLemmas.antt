@@ -1,15 +1,5 @@
 -- Good positions, in a text at the front and after it, and as std's character boundaries.
-use Rattle.std.proofs.Common.{◌≡◌, ℕ, ◌-◌, ◌<◌, ◌≤◌, inl, inr, not, true, false, List, ◌++◌, length, drop, IsTrue, Some, None, Option, ◌&&◌, ◌||◌, ◌==◌, refl, sym, ◌∙◌, ap, ap₂, subst, arith, ◌+◌, ◌↔◌, Bool, min, nat_le, slice_index}
-use Rattle.std.proofs.lemmas.Bool.{eqb-true, leb-true, leb-false, le-leb, and_parts, and_from, lt-leb, cases_lt, not-true, not_from_false, and_left, and_right, and_cases}
-use Rattle.std.proofs.lemmas.List.{get_or_append_left, get_or_past, get_or-append_right, get_or-drop, length-append, length-drop}
-use Rattle.std.specs.Cmp.{both_ways}
-use Rattle.std.proofs.lemmas.Str.{IsCharBoundary-start, IsCharBoundary-end}
-use Rattle.std.specs.Prelude.{unwrap_or}
-use Rattle.std.specs.Str.{IsUtf8, IsCharBoundary}
-use Rattle.ansi_items.specs.Plain.{plain}
-use Rattle.ansi_items.proofs.PlainLemmas.{length-plain}
-use Rattle.ansi_items.proofs.Utf8Lemmas.{IsUtf8-plain}
-use Rattle.ansi_slice.specs.Positions.{is_continuation_byte, is_good_position, is_char_boundary, is_good_range, is_position_in, is_range_in}
+use Rattle.ansi_slice.proofs.Common.{◌≡◌, ℕ, ◌-◌, ◌<◌, ◌≤◌, inl, inr, not, true, false, List, ◌++◌, length, drop, IsTrue, Some, None, Option, ◌&&◌, ◌||◌, ◌==◌, refl, sym, ◌∙◌, ap, ap₂, subst, arith, ◌+◌, ◌↔◌, Bool, min, nat_le, slice_index, eqb-true, leb-true, leb-false, le-leb, and_parts, and_from, lt-leb, cases_lt, not-true, not_from_false, and_left, and_right, and_cases, get_or_append_left, get_or_past, get_or-append_right, get_or-drop, length-append, length-drop, both_ways, IsCharBoundary-start, IsCharBoundary-end, unwrap_or, IsUtf8, IsCharBoundary, plain, length-plain, IsUtf8-plain, is_continuation_byte, is_good_position, is_char_boundary, is_good_range, is_position_in, is_range_in}
 
 pub is_good_position-past : (x : List ℕ) (n : ℕ) → length x ≤ n → is_good_position x n ≡ true
 is_good_position-past x n past = ap (λ b. not (is_continuation_byte b)) (get_or_past x n 0 past)

@@ -1,20 +1,6 @@
 -- A pattern that a plain text goes on with from a place on, met run by run.
-use Rattle.std.proofs.Common.{◌≡◌, ◌≢◌, ℕ, ◌+◌, ◌-◌, ◌<◌, ◌≤◌, inl, inr, min, ◌&&◌, List, [], ◌∷◌, ◌++◌, length, take, drop, nat_eq, refl, sym, ◌∙◌, ap, subst, arith, append_assoc, IsFalse, slice_index}
-use Rattle.std.proofs.lemmas.Bool.{and_parts, cases_lt, eqb-true, true≢false}
-use Rattle.std.proofs.lemmas.List.{take-append-drop, take-append-le, take_all, drop-take, drop_all, get_or-take, get_or-drop, length-drop, length-append, length-take-le}
-use Rattle.std.specs.Cmp.Lexicographic.{pointwise}
-use Rattle.std.specs.List.{starts_with, list_all, slice_range}
-use Rattle.memchr.specs.Find.{Nowhere, Passes, is_byte}
-use Rattle.ansi_items.specs.Bytes.{escape, is_plain_byte}
-use Rattle.ansi_items.specs.declared.ansitok.Item.{Item}
+use Rattle.ansi_slice.proofs.Common.{◌≡◌, ◌≢◌, ℕ, ◌+◌, ◌-◌, ◌<◌, ◌≤◌, inl, inr, min, ◌&&◌, List, [], ◌∷◌, ◌++◌, length, take, drop, nat_eq, refl, sym, ◌∙◌, ap, subst, arith, append_assoc, IsFalse, slice_index, and_parts, cases_lt, eqb-true, true≢false, take-append-drop, take-append-le, take_all, drop-take, drop_all, get_or-take, get_or-drop, length-drop, length-append, length-take-le, pointwise, starts_with, list_all, slice_range, Nowhere, Passes, is_byte, escape, is_plain_byte, Item, Piece, Text, after_text, pieces_of, ArePieces, plain_of, plain, has_escape, Scan, Gives, pieces_left, after_text_are, pieces_are, pieces_of-unique, all_plain_bytes, gives_text}
 use Rattle.ansi_items.specs.declared.ansitok.Kind.TheVariants.{Text as TextKind}
-use Rattle.ansi_items.specs.Pieces.{Piece, Text, after_text, pieces_of, ArePieces}
-use Rattle.ansi_items.specs.Plain.{plain_of, plain, has_escape}
-use Rattle.ansi_items.specs.Scans.{Scan, Gives, pieces_left}
-use Rattle.ansi_items.proofs.JoinLemmas.{after_text_are}
-use Rattle.ansi_items.proofs.PieceLemmas.{pieces_are, pieces_of-unique}
-use Rattle.ansi_items.proofs.PlainLemmas.{all_plain_bytes}
-use Rattle.ansi_items.proofs.StepLemmas.{gives_text}
 use Rattle.ansi_slice.proofs.EndLemmas.{starts_with-across}
 use Rattle.ansi_slice.proofs.MatchLemmas.{no_escape-found}
 use Rattle.ansi_slice.proofs.SliceLemmas.{drop-append}

@@ -1,23 +1,7 @@
 -- What is shown of a plain text with some of its marks, as pieces; their styled bytes, and the style after them.
-use Rattle.std.proofs.Common.{◌≡◌, ◌≢◌, ℕ, ◌+◌, ◌-◌, ◌<◌, ◌≤◌, inl, inr, Bool, true, false, List, [], ◌∷◌, ◌++◌, map, length, drop, filter, refl, sym, ◌∙◌, ap, ap₂, arith, append-nil, slice_range, if◌then◌else◌}
-use Rattle.std.proofs.lemmas.Bool.{cond_both, cases_lt}
-use Rattle.std.proofs.lemmas.Grind.{flat_map-append}
-use Rattle.std.proofs.lemmas.List.{length-map}
-use Rattle.std.specs.List.{list_all}
-use Rattle.ansi_items.specs.Bytes.{is_plain_byte}
-use Rattle.ansi_items.specs.Pieces.{Piece, Text, Sequence, LoneEscape, spelling}
-use Rattle.ansi_items.specs.Plain.{Mark, plain_of, marks_of}
-use Rattle.ansi_style.specs.declared.state.rendition.Rendition.{Rendition}
-use Rattle.ansi_style.specs.Rendition.{known}
-use Rattle.ansi_style.specs.Sgr.{apply}
-use Rattle.ansi_style.specs.Reading.{after_marks}
-use Rattle.ansi_slice.specs.Cut.{show}
-use Rattle.ansi_items.proofs.PlainLemmas.{one_text}
+use Rattle.ansi_slice.proofs.Common.{◌≡◌, ◌≢◌, ℕ, ◌+◌, ◌-◌, ◌<◌, ◌≤◌, inl, inr, Bool, true, false, List, [], ◌∷◌, ◌++◌, map, length, drop, filter, refl, sym, ◌∙◌, ap, ap₂, arith, append-nil, slice_range, if◌then◌else◌, cond_both, cases_lt, flat_map-append, length-map, list_all, is_plain_byte, Piece, Text, Sequence, LoneEscape, spelling, Mark, plain_of, marks_of, Rendition, known, apply, after_marks, show, one_text, further, marks_of-text, marks_of-sequence, marks_of-lone, after_marks-further, spelled, AllStandAnywhere, stand-append, style_through, style_through-append, styled_through, in_style, styled_through-append}
 use Rattle.ansi_slice.proofs.SliceLemmas.{slice_range-none, slice_range-from_past, slice_range-map, slice_range-append, list_all-parts}
-use Rattle.ansi_style.proofs.MarkLemmas.{further, marks_of-text, marks_of-sequence, marks_of-lone, after_marks-further}
 use Rattle.ansi_slice.proofs.ShowLemmas.{show-mark, show-nil, show-text}
-use Rattle.ansi_items.proofs.JoinLemmas.{spelled, AllStandAnywhere, stand-append}
-use Rattle.ansi_style.proofs.StyledLemmas.{style_through, style_through-append, styled_through, in_style, styled_through-append}
 
 -- the marks at places that pass the test
 abbrev pub at_places : (ℕ → Bool) → List Mark → List Mark

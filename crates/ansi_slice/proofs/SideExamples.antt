@@ -1,11 +1,5 @@
 -- Worked examples of the two sides of a text, and of whole texts, each by computation.
-use Rattle.std.proofs.Common.{◌≡◌, refl, codes, [], List, ℕ, false}
-use Rattle.std.specs.Prelude.{encode_utf8_all}
-use Rattle.std.specs.Char.{encode_utf8}
-use Prim.Native.String.{String}
-use Rattle.std.specs.Fmt.{digits}
-use Rattle.ansi_items.specs.Plain.{is_whole}
-use Rattle.ansi_slice.specs.Sides.{left_side, right_side}
+use Rattle.ansi_slice.proofs.Common.{◌≡◌, refl, codes, [], List, ℕ, false, encode_utf8_all, encode_utf8, String, digits, is_whole, left_side, right_side}
 
 -- the bytes of a text
 abbrev utf8 : String → List ℕ

@@ -1,12 +1,5 @@
 -- The sides of a text as one walk over its pieces; and of a text without ESC.
-use Rattle.std.proofs.Common.{◌≡◌, ℕ, ◌-◌, List, [], ◌∷◌, ◌++◌, ◌==◌, false, if◌then◌else◌, length, take, drop, refl, sym, ◌∙◌, ap, arith, append-nil, IsFalse}
-use Rattle.std.proofs.lemmas.Bool.{ne_eqb}
-use Rattle.std.proofs.Math.Seq.{take-nil, drop-nil}
-use Rattle.ansi_items.specs.Pieces.{pieces_of}
-use Rattle.ansi_items.specs.Plain.{has_escape}
-use Rattle.ansi_style.specs.Rendition.{plain_style}
-use Rattle.ansi_slice.specs.Sides.{dressed, left_part, right_part, left_side, right_side}
-use Rattle.ansi_items.proofs.PlainLemmas.{one_text, pieces_of-bare}
+use Rattle.ansi_slice.proofs.Common.{◌≡◌, ℕ, ◌-◌, List, [], ◌∷◌, ◌++◌, ◌==◌, false, if◌then◌else◌, length, take, drop, refl, sym, ◌∙◌, ap, arith, append-nil, IsFalse, ne_eqb, take-nil, drop-nil, pieces_of, has_escape, plain_style, dressed, left_part, right_part, left_side, right_side, one_text, pieces_of-bare}
 use Rattle.ansi_slice.proofs.WalkLemmas.{walked, walked-all}
 
 pub left_side-walked : (t : List ℕ) (mid : ℕ) → left_side t mid ≡ walked (left_part mid) 0 plain_style (pieces_of t)

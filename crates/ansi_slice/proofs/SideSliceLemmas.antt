@@ -1,31 +1,8 @@
 -- A side of a whole text is whole, has the slice of its styled bytes, and leaves nothing known open.
-use Rattle.std.proofs.Common.{◌≡◌, ℕ, ◌+◌, ◌-◌, Bool, true, false, not, ◌==◌, List, [], ◌∷◌, ◌++◌, length, take, drop, nat_le, refl, sym, ◌∙◌, ap, ap₂, subst, arith, IsTrue, append-nil, if◌then◌else◌}
-use Rattle.std.proofs.lemmas.Bool.{cond_both, cond-false, ne_eqb, eqb-false}
-use Rattle.std.proofs.lemmas.Grind.{flat_map-append}
-use Rattle.std.proofs.Math.Seq.{take-nil, drop-nil}
-use Rattle.std.proofs.lemmas.List.{length-map, take-append-drop, take-map, drop-map}
-use Rattle.std.specs.List.{list_all}
-use Rattle.ansi_items.specs.Bytes.{is_plain_byte}
-use Rattle.ansi_items.specs.Sequences.{is_sgr}
-use Rattle.ansi_items.specs.Pieces.{Piece, Text, spelling, Sequence, LoneEscape, pieces_of}
-use Rattle.ansi_items.specs.Plain.{plain, plain_bytes, is_whole, copied}
-use Rattle.ansi_style.specs.declared.state.rendition.Rendition.{Rendition}
-use Rattle.ansi_style.specs.Rendition.{known, plain_style, IsStyle}
-use Rattle.ansi_style.specs.Sgr.{apply}
-use Rattle.ansi_style.specs.Written.{close_codes, start, close}
-use Rattle.ansi_style.specs.Styled.{StyledByte, styled}
-use Rattle.ansi_slice.specs.Sides.{dressed, left_part, right_part, left_side, right_side}
+use Rattle.ansi_slice.proofs.Common.{◌≡◌, ℕ, ◌+◌, ◌-◌, Bool, true, false, not, ◌==◌, List, [], ◌∷◌, ◌++◌, length, take, drop, nat_le, refl, sym, ◌∙◌, ap, ap₂, subst, arith, IsTrue, append-nil, if◌then◌else◌, cond_both, cond-false, ne_eqb, eqb-false, flat_map-append, take-nil, drop-nil, length-map, take-append-drop, take-map, drop-map, list_all, is_plain_byte, is_sgr, Piece, Text, spelling, Sequence, LoneEscape, pieces_of, plain, plain_bytes, is_whole, copied, Rendition, known, plain_style, IsStyle, apply, close_codes, start, close, StyledByte, styled, dressed, left_part, right_part, left_side, right_side, apply-no_sgr, IsStyle-apply, IsStyle-plain_style, spelled, AllStandAnywhere, stand-append, pieces_stand, styled_through, in_style, styled-pieces, styled-append, close_codes_are, GiveAlone, give-nothing, give-append, IsClosed, closed-spelled, dressed_pieces, spelled-dressed_pieces, dressed_pieces_stand, dressed_pieces_give, close_codes_clear}
 use Rattle.ansi_slice.proofs.SliceLemmas.{take-append, drop-append, list_all-parts}
-use Rattle.ansi_style.proofs.SgrLemmas.{apply-no_sgr}
 use Rattle.ansi_slice.proofs.WalkLemmas.{walked, style_past}
 use Rattle.ansi_slice.proofs.SideLemmas.{left_side-walked, right_side-walked}
-use Rattle.ansi_style.proofs.StyleLemmas.{IsStyle-apply, IsStyle-plain_style}
-use Rattle.ansi_items.proofs.JoinLemmas.{spelled, AllStandAnywhere, stand-append, pieces_stand}
-use Rattle.ansi_style.proofs.StyledLemmas.{styled_through, in_style, styled-pieces}
-use Rattle.ansi_style.proofs.SpelledLemmas.{styled-append}
-use Rattle.ansi_style.proofs.ReadBackLemmas.{close_codes_are}
-use Rattle.ansi_style.proofs.DressedLemmas.{GiveAlone, give-nothing, give-append, IsClosed, closed-spelled, dressed_pieces, spelled-dressed_pieces, dressed_pieces_stand, dressed_pieces_give}
-use Rattle.ansi_style.proofs.CloseLemmas.{close_codes_clear}
 
 -- A text between the start and the close of a style.
 

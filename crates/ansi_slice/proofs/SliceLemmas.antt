@@ -1,10 +1,5 @@
 -- Slices of a list whose ends lie at its end or past it, and of two lists in a row.
-use Rattle.std.proofs.Common.{◌≡◌, ℕ, zero, suc, ◌-◌, ◌≤◌, min, inl, inr, Bool, true, List, [], ◌∷◌, ◌++◌, map, length, take, drop, sym, ◌∙◌, ap, ap₂, arith}
-use Rattle.std.proofs.lemmas.Bool.{cases_lt, and_parts}
-use Rattle.std.proofs.lemmas.List.Folds.{list_all-append}
-use Rattle.std.proofs.Math.Seq.{take-nil, drop-nil}
-use Rattle.std.proofs.lemmas.List.{length-drop, length-take-le, drop_all, take_all, take-append-drop, take-map, drop-map}
-use Rattle.std.specs.List.{slice_range, list_all}
+use Rattle.ansi_slice.proofs.Common.{◌≡◌, ℕ, zero, suc, ◌-◌, ◌≤◌, min, inl, inr, Bool, true, List, [], ◌∷◌, ◌++◌, map, length, take, drop, sym, ◌∙◌, ap, ap₂, arith, cases_lt, and_parts, list_all-append, take-nil, drop-nil, length-drop, length-take-le, drop_all, take_all, take-append-drop, take-map, drop-map, slice_range, list_all}
 
 pub slice_range-none : {X : Type 0} (x : List X) (a b : ℕ) → b ≤ a → slice_range x a b ≡ []
 slice_range-none x a b none = (let size : b - a ≡ 0 = omega arith in ap (λ n. take n (drop a x)) size)

@@ -1,11 +1,5 @@
 -- What is left of a text without the white space at its ends is the slice over an interval.
-use Rattle.std.proofs.Common.{◌≡◌, ℕ, ◌+◌, ◌-◌, true, ◌&&◌, ◌==◌, List, [], ◌∷◌, ◌++◌, take, drop, length, refl, sym, ◌∙◌, ap, ap₂, subst, arith, slice_range, length-append, append_assoc}
-use Rattle.std.proofs.lemmas.Bool.{cond_both, and_parts}
-use Rattle.std.proofs.lemmas.Str.{encodes-append, chars-encodes, IsCharBoundary-at_seam}
-use Rattle.std.proofs.Math.Seq.{take-append_seam, drop-append_seam}
-use Rattle.std.specs.Str.{IsUtf8, IsCharBoundary, chars, trim_start, trim_end, trim, skip_leading_whitespace, drop_trailing_whitespace, encode_utf8_all, all_scalars}
-use Rattle.std.specs.Char.{is_whitespace}
-use Rattle.ansi_slice.specs.Kept.{trim_interval}
+use Rattle.ansi_slice.proofs.Common.{◌≡◌, ℕ, ◌+◌, ◌-◌, true, ◌&&◌, ◌==◌, List, [], ◌∷◌, ◌++◌, take, drop, length, refl, sym, ◌∙◌, ap, ap₂, subst, arith, slice_range, length-append, append_assoc, cond_both, and_parts, encodes-append, chars-encodes, IsCharBoundary-at_seam, take-append_seam, drop-append_seam, IsUtf8, IsCharBoundary, chars, trim_start, trim_end, trim, skip_leading_whitespace, drop_trailing_whitespace, encode_utf8_all, all_scalars, is_whitespace, trim_interval}
 
 -- The characters that are taken off stand at the front, and at the end.
 

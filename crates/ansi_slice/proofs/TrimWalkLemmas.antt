@@ -1,21 +1,5 @@
 -- White space at the front and at the end of a text, over the texts that are left.
-use Rattle.std.proofs.Common.{◌≡◌, ℕ, ◌+◌, ◌-◌, ◌<◌, ◌≤◌, Bool, true, false, ◌&&◌, ◌==◌, List, [], ◌∷◌, ◌++◌, length, take, drop, take-add, refl, sym, ◌∙◌, ap, ap₂, subst, arith, cond, length-append}
-use Rattle.std.proofs.lemmas.Bool.Decides.{nat_tests}
-use Rattle.std.proofs.lemmas.List.{take-append-le, length-take}
-use Rattle.std.proofs.lemmas.Str.{chars-nil, encodes-append, encodes-chars, chars-append, length-le-encodes, IsUtf8-drop, IsUtf8-append, IsUtf8-take, IsCharBoundary-start, IsCharBoundary-from_take}
-use Rattle.std.proofs.Math.Seq.{take-append_seam}
-use Rattle.std.specs.Str.{IsUtf8, chars, trim_start, trim_end, trim, skip_leading_whitespace, drop_trailing_whitespace, encode_utf8_all}
-use Rattle.std.specs.Char.{is_whitespace}
-use Rattle.ansi_items.specs.declared.ansitok.Item.{Item}
-use Rattle.ansi_items.specs.declared.ansitok.Kind.{Kind}
-use Rattle.ansi_items.specs.Pieces.{Piece, Text, ArePieces, pieces_of}
-use Rattle.ansi_items.specs.Plain.{plain_of, plain}
-use Rattle.ansi_slice.specs.Kept.{kept, trim_interval, trimmed}
-use Rattle.ansi_slice.specs.Offsets.{sequences_up_to, offset_of, StandsIn, KeepsUpTo}
-use Rattle.ansi_items.specs.Scans.{Scan, Gives, pieces_left}
-use Rattle.ansi_items.proofs.Utf8Lemmas.{IsUtf8-plain}
-use Rattle.ansi_items.proofs.PieceLemmas.{pieces_are}
-use Rattle.ansi_items.proofs.StepLemmas.{BeginsWithMark, plain_of-mark}
+use Rattle.ansi_slice.proofs.Common.{◌≡◌, ℕ, ◌+◌, ◌-◌, ◌<◌, ◌≤◌, Bool, true, false, ◌&&◌, ◌==◌, List, [], ◌∷◌, ◌++◌, length, take, drop, take-add, refl, sym, ◌∙◌, ap, ap₂, subst, arith, cond, length-append, nat_tests, take-append-le, length-take, chars-nil, encodes-append, encodes-chars, chars-append, length-le-encodes, IsUtf8-drop, IsUtf8-append, IsUtf8-take, IsCharBoundary-start, IsCharBoundary-from_take, take-append_seam, IsUtf8, chars, trim_start, trim_end, trim, skip_leading_whitespace, drop_trailing_whitespace, encode_utf8_all, is_whitespace, Item, Kind, Piece, Text, ArePieces, pieces_of, plain_of, plain, kept, trim_interval, trimmed, sequences_up_to, offset_of, StandsIn, KeepsUpTo, Scan, Gives, pieces_left, IsUtf8-plain, pieces_are, BeginsWithMark, plain_of-mark}
 use Rattle.ansi_slice.proofs.TrimLemmas.{dropped, drop-trim_interval}
 use Rattle.ansi_slice.proofs.OffsetLemmas.{IsOverText, IsOverMark, IsPassed, passed-begin, passed-text, passed-mark, keeps-inside, plain-after, kept-front}
 

@@ -1,12 +1,5 @@
 -- Where a long pattern is cut, and a search that goes forward by the cut.
-use Rattle.std.proofs.Common.{◌≡◌, ℕ, ◌+◌, ◌-◌, ◌<◌, ◌≤◌, max, inl, inr, Bool, true, false, List, take, drop, length, nat_eq, sym, ◌∙◌, ap, arith, slice_index}
-use Rattle.std.proofs.lemmas.Bool.{cases_lt, true≢false}
-use Rattle.std.proofs.lemmas.List.{get_or-take, length-take-le}
-use Rattle.std.specs.List.{starts_with}
-use Rattle.memchr.specs.Critical.{IsPeriod, IsCutPlace}
-use Rattle.memchr.proofs.lemmas.CriticalLemmas.{NoPeriodBelow-least, NoPeriodBelow-rest}
-use Rattle.memchr.proofs.lemmas.MatchLemmas.{OccursAt-split}
-use Rattle.ansi_slice.specs.Searches.{IsCut, Precedes}
+use Rattle.ansi_slice.proofs.Common.{◌≡◌, ℕ, ◌+◌, ◌-◌, ◌<◌, ◌≤◌, max, inl, inr, Bool, true, false, List, take, drop, length, nat_eq, sym, ◌∙◌, ap, arith, slice_index, cases_lt, true≢false, get_or-take, length-take-le, starts_with, IsPeriod, IsCutPlace, NoPeriodBelow-least, NoPeriodBelow-rest, OccursAt-split, IsCut, Precedes}
 use Rattle.ansi_slice.proofs.MatchLemmas.{starts_with-occurs, starts_with-from}
 
 -- The two orders of bytes.

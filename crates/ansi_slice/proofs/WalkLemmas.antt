@@ -1,13 +1,5 @@
 -- What is made of each piece at its place and in the style there, by one walk with a running place and a running style.
-use Rattle.std.proofs.Common.{◌≡◌, ◌≢◌, ℕ, ◌+◌, List, [], ◌∷◌, ◌++◌, map, flat_map, length, refl, ◌∙◌, ap, ap₂, arith}
-use Rattle.ansi_items.specs.Pieces.{Piece, Text, Sequence, LoneEscape, ArePieces, pieces_of}
-use Rattle.ansi_items.specs.Plain.{plain_bytes, Placed, moved, places}
-use Rattle.ansi_style.specs.declared.state.rendition.Rendition.{Rendition}
-use Rattle.ansi_style.specs.Rendition.{plain_style}
-use Rattle.ansi_style.specs.Sgr.{apply}
-use Rattle.ansi_style.specs.Styled.{style_at}
-use Rattle.ansi_items.proofs.PieceLemmas.{pieces_are}
-use Rattle.ansi_style.proofs.MarkLemmas.{style_by_marks, style_by_marks-text, style_by_marks-before, style_by_marks-sequence, style_by_marks-lone}
+use Rattle.ansi_slice.proofs.Common.{◌≡◌, ◌≢◌, ℕ, ◌+◌, List, [], ◌∷◌, ◌++◌, map, flat_map, length, refl, ◌∙◌, ap, ap₂, arith, Piece, Text, Sequence, LoneEscape, ArePieces, pieces_of, plain_bytes, Placed, moved, places, Rendition, plain_style, apply, style_at, pieces_are, style_by_marks, style_by_marks-text, style_by_marks-before, style_by_marks-sequence, style_by_marks-lone}
 
 -- the style after a piece
 abbrev pub style_past : Rendition → Piece → Rendition

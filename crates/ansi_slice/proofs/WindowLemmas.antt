@@ -1,31 +1,7 @@
 -- A search that goes forward by the cut of a pattern, a window at a time.
-use Rattle.std.proofs.Common.{◌≡◌, ◌≢◌, ℕ, ◌+◌, ◌-◌, ◌<◌, ◌≤◌, inl, inr, true, false, List, [], ◌∷◌, ◌++◌, take, drop, length, nat_eq, IsTrue, Some, None, refl, sym, ◌∙◌, ap, subst, arith, slice_index}
+use Rattle.ansi_slice.proofs.Common.{◌≡◌, ◌≢◌, ℕ, ◌+◌, ◌-◌, ◌<◌, ◌≤◌, inl, inr, true, false, List, [], ◌∷◌, ◌++◌, take, drop, length, nat_eq, IsTrue, Some, None, refl, sym, ◌∙◌, ap, subst, arith, slice_index, and_parts, cases_lt, eq-eqb, true≢false, get_or-take, get_or_append_left, get_or-append-add, length-take-le, length-drop, length-append, drop-drop, drop-append-le, drop_at, take_at, IsCharBoundary-start, IsCharBoundary-from_rest, starts_with, slice_range, IsUtf8, IsCharBoundary, Nowhere, OccursAt, Passes, is_byte, OccursIn, Nowhere-then, OccursAt-split, OccursAt-from_part, Nowhere-right, Nowhere-left, known-next, escape, Item, Piece, Text, Sequence, LoneEscape, ArePieces, pieces_of, plain, plain_of, Scan, Gives, pieces_left, BeginsWithMark, gives_text, gives_mark, plain_of-mark, pieces_are, length-plain, Cut, Point, Window, first_match_from, is_char_boundary, IsCut, Meets, IsReached, IsPoint, Comes, IsApart, StandsNowhere, IsAhead}
 use Rattle.std.proofs.Math.Seq.{get_or-append_right}
-use Rattle.std.proofs.lemmas.Bool.{and_parts, cases_lt, eq-eqb, true≢false}
-use Rattle.std.proofs.lemmas.List.{get_or-take, get_or_append_left, get_or-append-add, length-take-le, length-drop, length-append, drop-drop, drop-append-le, drop_at, take_at}
-use Rattle.std.proofs.lemmas.Str.{IsCharBoundary-start, IsCharBoundary-from_rest}
-use Rattle.std.specs.List.{starts_with, slice_range}
-use Rattle.std.specs.Str.{IsUtf8, IsCharBoundary}
-use Rattle.memchr.specs.Find.{Nowhere, OccursAt, Passes, is_byte}
-use Rattle.memchr.specs.TwoWay.{OccursIn}
-use Rattle.memchr.proofs.lemmas.FindLemmas.{Nowhere-then}
-use Rattle.memchr.proofs.lemmas.MatchLemmas.{OccursAt-split, OccursAt-from_part}
-use Rattle.memchr.proofs.lemmas.SearchLemmas.{Nowhere-right, Nowhere-left, known-next}
-use Rattle.ansi_items.specs.Bytes.{escape}
-use Rattle.ansi_items.specs.declared.ansitok.Item.{Item}
 use Rattle.ansi_items.specs.declared.ansitok.Kind.TheVariants.{Text as TextKind}
-use Rattle.ansi_items.specs.Pieces.{Piece, Text, Sequence, LoneEscape, ArePieces, pieces_of}
-use Rattle.ansi_items.specs.Plain.{plain, plain_of}
-use Rattle.ansi_items.specs.Scans.{Scan, Gives, pieces_left}
-use Rattle.ansi_items.proofs.StepLemmas.{BeginsWithMark, gives_text, gives_mark, plain_of-mark}
-use Rattle.ansi_items.proofs.PieceLemmas.{pieces_are}
-use Rattle.ansi_items.proofs.PlainLemmas.{length-plain}
-use Rattle.ansi_slice.specs.declared.search.critical.Cut.{Cut}
-use Rattle.ansi_slice.specs.declared.search.two_way.Point.{Point}
-use Rattle.ansi_slice.specs.declared.search.two_way.Window.{Window}
-use Rattle.ansi_slice.specs.Parts.{first_match_from}
-use Rattle.ansi_slice.specs.Positions.{is_char_boundary}
-use Rattle.ansi_slice.specs.Searches.{IsCut, Meets, IsReached, IsPoint, Comes, IsApart, StandsNowhere, IsAhead}
 use Rattle.ansi_slice.proofs.MatchLemmas.{IsMatch, is_match-utf8, starts_with-occurs, starts_with-from, first_match_from-is}
 use Rattle.ansi_slice.proofs.SliceLemmas.{length-slice_range}
 use Rattle.ansi_slice.proofs.EndLemmas.{starts_with-within}

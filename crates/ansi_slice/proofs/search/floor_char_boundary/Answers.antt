@@ -1,12 +1,4 @@
-use Rattle.std.proofs.Common.{◌≡◌, ◌++◌, ◌∷◌, ◌+◌, ◌-◌, [], drop, length, refl, sym, ◌∙◌, ap, subst, arith}
-use Rattle.std.proofs.lemmas.List.{drop_at, drop-drop, length-append, length-drop}
-use Rattle.std.proofs.lemmas.Str.{IsCharBoundary-end}
-use Rattle.std.specs.Str.{IsCharBoundary}
-use Rattle.ansi_items.specs.Pieces.{Text}
-use Rattle.ansi_items.specs.Plain.{plain, plain_of}
-use Rattle.ansi_items.specs.Scans.{pieces_left}
-use Rattle.ansi_items.proofs.StepLemmas.{is_text, gives_text}
-use Rattle.ansi_items.proofs.Utf8Lemmas.{IsUtf8-plain}
+use Rattle.ansi_slice.proofs.Common.{◌≡◌, ◌++◌, ◌∷◌, ◌+◌, ◌-◌, [], drop, length, refl, sym, ◌∙◌, ap, subst, arith, drop_at, drop-drop, length-append, length-drop, IsCharBoundary-end, IsCharBoundary, Text, plain, plain_of, pieces_left, is_text, gives_text, IsUtf8-plain}
 use Rattle.ansi_slice.proofs.PositionLemmas.{boundary_in_run, boundary_is_good, good_before}
 use Rattle.ansi_slice.proofs.OffsetLemmas.{item_range}
 use Rattle.ansi_slice.proofs.search.floor_char_boundary.Goals as goal

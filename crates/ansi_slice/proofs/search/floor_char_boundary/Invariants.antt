@@ -1,6 +1,4 @@
-use Rattle.std.proofs.Common.{◌≡◌, ◌≤◌, drop, length}
-use Rattle.ansi_items.specs.Plain.{plain, plain_of}
-use Rattle.ansi_items.specs.Scans.{pieces_left}
+use Rattle.ansi_slice.proofs.Common.{◌≡◌, ◌≤◌, drop, length, plain, plain_of, pieces_left}
 use Rattle.ansi_slice.proofs.search.floor_char_boundary.Given as goal
 
 -- what is left is the plain text from the place on, which isn't past the index

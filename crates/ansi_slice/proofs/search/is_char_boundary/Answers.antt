@@ -1,8 +1,4 @@
-use Rattle.std.proofs.Common.{subst, arith, inl, inr}
-use Rattle.std.proofs.lemmas.Bool.{cases_lt, eqb-true, eq-eqb}
-use Rattle.std.specs.Str.{IsCharBoundary}
-use Rattle.ansi_items.specs.Plain.{plain}
-use Rattle.ansi_items.proofs.Utf8Lemmas.{IsUtf8-plain}
+use Rattle.ansi_slice.proofs.Common.{subst, arith, inl, inr, cases_lt, eqb-true, eq-eqb, IsCharBoundary, plain, IsUtf8-plain}
 use Rattle.ansi_slice.proofs.PositionLemmas.{is_char_boundary-decided, boundary_is_good, good_before}
 use Rattle.ansi_slice.proofs.search.is_char_boundary.Goals as goal
 

@@ -1,9 +1,4 @@
-use Rattle.std.proofs.Common.{arith, ◌≡◌, ◌∷◌, sym, ◌∙◌, ap, length}
-use Rattle.ansi_items.specs.Pieces.{Text}
-use Rattle.ansi_items.specs.Plain.{plain_of}
-use Rattle.ansi_items.specs.Scans.{pieces_left}
-use Rattle.ansi_slice.specs.Positions.{is_good_position}
-use Rattle.ansi_items.proofs.StepLemmas.{is_text, gives_text}
+use Rattle.ansi_slice.proofs.Common.{arith, ◌≡◌, ◌∷◌, sym, ◌∙◌, ap, length, Text, plain_of, pieces_left, is_good_position, is_text, gives_text}
 use Rattle.ansi_slice.proofs.PositionLemmas.{boundary_test, is_good_position-append, is_good_position-after, is_good_position-past}
 use Rattle.ansi_slice.proofs.OffsetLemmas.{item_range}
 use Rattle.ansi_slice.proofs.search.is_good_position.Goals as goal

@@ -1,7 +1,4 @@
-use Rattle.std.proofs.Common.{◌≡◌}
-use Rattle.ansi_items.specs.Plain.{plain, plain_of}
-use Rattle.ansi_items.specs.Scans.{pieces_left}
-use Rattle.ansi_slice.specs.Positions.{is_good_position}
+use Rattle.ansi_slice.proofs.Common.{◌≡◌, plain, plain_of, pieces_left, is_good_position}
 use Rattle.ansi_slice.proofs.search.is_good_position.Given as goal
 
 -- what is left of the position stands in what is left as the position does in all

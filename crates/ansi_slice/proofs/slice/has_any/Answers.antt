@@ -1,6 +1,4 @@
-use Rattle.std.proofs.Common.{◌==◌, ◌∙◌, ap}
-use Rattle.std.specs.List.{list_any}
-use Rattle.ansi_items.specs.Bytes.{escape}
+use Rattle.ansi_slice.proofs.Common.{◌==◌, ◌∙◌, ap, list_any, escape}
 use Rattle.ansi_slice.proofs.slice.has_any.Goals as goal
 
 -- an ESC stands in the bytes

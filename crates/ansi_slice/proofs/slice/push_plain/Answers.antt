@@ -1,8 +1,4 @@
-use Rattle.std.proofs.Common.{◌≡◌, ◌∷◌, ◌++◌, refl, sym, ◌∙◌, ap, append_assoc, string_bytes}
-use Rattle.ansi_items.specs.Pieces.{Text}
-use Rattle.ansi_items.specs.Plain.{plain_of}
-use Rattle.ansi_items.specs.Scans.{pieces_left}
-use Rattle.ansi_items.proofs.StepLemmas.{is_text, gives_text, gives_mark, plain_of-mark}
+use Rattle.ansi_slice.proofs.Common.{◌≡◌, ◌∷◌, ◌++◌, refl, sym, ◌∙◌, ap, append_assoc, string_bytes, Text, plain_of, pieces_left, is_text, gives_text, gives_mark, plain_of-mark}
 use Rattle.ansi_slice.proofs.OffsetLemmas.{item_range, is_other}
 use Rattle.ansi_slice.proofs.slice.push_plain.Goals as goal
 

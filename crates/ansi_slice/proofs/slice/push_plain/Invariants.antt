@@ -1,6 +1,4 @@
-use Rattle.std.proofs.Common.{◌≡◌, ◌++◌, string_bytes}
-use Rattle.ansi_items.specs.Plain.{plain, plain_of}
-use Rattle.ansi_items.specs.Scans.{pieces_left}
+use Rattle.ansi_slice.proofs.Common.{◌≡◌, ◌++◌, string_bytes, plain, plain_of, pieces_left}
 use Rattle.ansi_slice.proofs.slice.push_plain.Given as goal
 
 -- what is written and the plain text of what is left are what was there and the plain text of all

@@ -1,6 +1,4 @@
-use Rattle.std.proofs.Common.{◌++◌, sym, ◌∙◌, ap, IsFalse, refl}
-use Rattle.ansi_items.specs.Plain.{plain, has_escape}
-use Rattle.ansi_items.proofs.PlainLemmas.{plain-bare}
+use Rattle.ansi_slice.proofs.Common.{◌++◌, sym, ◌∙◌, ap, IsFalse, refl, plain, has_escape, plain-bare}
 use Rattle.ansi_slice.proofs.slice.strip_in.Goals as goal
 
 -- a text without ESC is its own plain text

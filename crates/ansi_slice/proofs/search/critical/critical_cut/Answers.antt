@@ -1,6 +1,4 @@
-use Rattle.std.proofs.Common.{true, false, arith}
-use Rattle.memchr.proofs.lemmas.CriticalLemmas.{IsCutPlace-of}
-use Rattle.ansi_slice.specs.Searches.{Precedes}
+use Rattle.ansi_slice.proofs.Common.{true, false, arith, IsCutPlace-of, Precedes}
 use Rattle.ansi_slice.proofs.TwoWayLemmas.{Precedes-trans, Precedes-irrefl, Precedes-opposed}
 use Rattle.ansi_slice.proofs.search.critical.critical_cut.Goals as goal
 

@@ -1,5 +1,4 @@
-use Rattle.std.proofs.Common.{take, length, nat_eq, sym, ◌∙◌, ap, arith}
-use Rattle.std.specs.List.{starts_with}
+use Rattle.ansi_slice.proofs.Common.{take, length, nat_eq, sym, ◌∙◌, ap, arith, starts_with}
 use Rattle.ansi_slice.proofs.SliceLemmas.{slice_range-past}
 use Rattle.ansi_slice.proofs.TwoWayLemmas.{cut-repeats, cut-apart}
 use Rattle.ansi_slice.proofs.search.critical.cut_at.Goals as goal

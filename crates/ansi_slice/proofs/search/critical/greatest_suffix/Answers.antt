@@ -1,6 +1,4 @@
-use Rattle.std.proofs.Common.{◌≡◌, ◌+◌, ◌-◌, length, slice_index, subst, arith}
-use Rattle.memchr.proofs.lemmas.SuffixLemmas.{IsScan, IsScan-start, IsScan-accept, IsScan-skip, IsScan-push, IsScan-block, IsScan-end}
-use Rattle.ansi_slice.specs.Searches.{Precedes}
+use Rattle.ansi_slice.proofs.Common.{◌≡◌, ◌+◌, ◌-◌, length, slice_index, subst, arith, IsScan, IsScan-start, IsScan-accept, IsScan-skip, IsScan-push, IsScan-block, IsScan-end, Precedes}
 use Rattle.ansi_slice.proofs.TwoWayLemmas.{Precedes-trans, Precedes-irrefl}
 use Rattle.ansi_slice.proofs.search.critical.greatest_suffix.Goals as goal
 

@@ -1,6 +1,4 @@
-use Rattle.std.proofs.Common.{◌+◌, ◌-◌, ◌*◌, length, slice_index}
-use Rattle.memchr.proofs.lemmas.SuffixLemmas.{IsScan}
-use Rattle.ansi_slice.specs.Searches.{Precedes}
+use Rattle.ansi_slice.proofs.Common.{◌+◌, ◌-◌, ◌*◌, length, slice_index, IsScan, Precedes}
 use Rattle.ansi_slice.proofs.search.critical.greatest_suffix.Given as goal
 
 -- the greatest suffix of the bytes before the candidate, and how much of it the candidate begins with

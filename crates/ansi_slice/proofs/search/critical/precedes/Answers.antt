@@ -1,5 +1,4 @@
-use Rattle.std.proofs.Common.{◌≤◌, arith}
-use Rattle.std.proofs.lemmas.Bool.{ltb-true, ltb-false}
+use Rattle.ansi_slice.proofs.Common.{◌≤◌, arith, ltb-true, ltb-false}
 use Rattle.ansi_slice.proofs.TwoWayLemmas.{Precedes-rising, Precedes-falling}
 use Rattle.ansi_slice.proofs.search.critical.precedes.Goals as goal
 

@@ -1,6 +1,4 @@
-use Rattle.std.proofs.Common.{◌≡◌, refl, sym, ◌∙◌, ap, arith}
-use Rattle.std.proofs.lemmas.Bool.{eqb-true, eqb-false}
-use Rattle.ansi_items.proofs.StepLemmas.{is_text}
+use Rattle.ansi_slice.proofs.Common.{◌≡◌, refl, sym, ◌∙◌, ap, arith, eqb-true, eqb-false, is_text}
 use Rattle.ansi_slice.proofs.OffsetLemmas.{item_range, over_text, over_mark, is_other}
 use Rattle.ansi_slice.proofs.TrimWalkLemmas.{solid-begin, solid-white, solid-other, solid-mark, solid-end}
 use Rattle.ansi_slice.proofs.search.ends.solid_end.Goals as goal

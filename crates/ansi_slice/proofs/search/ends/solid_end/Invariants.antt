@@ -1,5 +1,4 @@
-use Rattle.std.proofs.Common.{◌≡◌}
-use Rattle.ansi_items.specs.Scans.{pieces_left}
+use Rattle.ansi_slice.proofs.Common.{◌≡◌, pieces_left}
 use Rattle.ansi_slice.proofs.TrimWalkLemmas.{IsSolidSoFar}
 use Rattle.ansi_slice.proofs.search.ends.solid_end.Given as goal
 

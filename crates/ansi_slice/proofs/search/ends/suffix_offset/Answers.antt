@@ -1,9 +1,4 @@
-use Rattle.std.proofs.Common.{◌≡◌, length, refl, sym, ◌∙◌, ap, subst, arith, drop, nat_eq, true, ◌-◌, IsTrue}
-use Rattle.std.specs.List.{starts_with}
-use Rattle.ansi_items.specs.Plain.{plain}
-use Rattle.ansi_items.proofs.StepLemmas.{is_text}
-use Rattle.ansi_slice.specs.Positions.{is_good_position}
-use Rattle.ansi_slice.specs.Offsets.{StandsIn}
+use Rattle.ansi_slice.proofs.Common.{◌≡◌, length, refl, sym, ◌∙◌, ap, subst, arith, drop, nat_eq, true, ◌-◌, IsTrue, starts_with, plain, is_text, is_good_position, StandsIn}
 use Rattle.ansi_slice.proofs.OffsetLemmas.{item_range, over_text, over_mark, is_other}
 use Rattle.ansi_slice.proofs.EndLemmas.{tail-begin, tail-run, tail-text, tail-mark, tail-starts, tail-good, tail-keeps}
 use Rattle.ansi_slice.proofs.search.ends.suffix_offset.Goals as goal

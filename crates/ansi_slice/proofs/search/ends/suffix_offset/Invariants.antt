@@ -1,5 +1,4 @@
-use Rattle.std.proofs.Common.{◌≡◌, ◌≤◌, length}
-use Rattle.ansi_items.specs.Scans.{pieces_left}
+use Rattle.ansi_slice.proofs.Common.{◌≡◌, ◌≤◌, length, pieces_left}
 use Rattle.ansi_slice.proofs.EndLemmas.{IsTailSoFar}
 use Rattle.ansi_slice.proofs.search.ends.suffix_offset.Given as goal
 

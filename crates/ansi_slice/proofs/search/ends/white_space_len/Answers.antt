@@ -1,8 +1,4 @@
-use Rattle.std.proofs.Common.{◌≡◌, ◌∷◌, ◌∙◌, sym, arith}
-use Rattle.std.proofs.lemmas.Bool.{eqb-true, eqb-false}
-use Rattle.ansi_items.specs.Pieces.{Text}
-use Rattle.ansi_items.specs.Scans.{pieces_left}
-use Rattle.ansi_items.proofs.StepLemmas.{is_text, gives_text}
+use Rattle.ansi_slice.proofs.Common.{◌≡◌, ◌∷◌, ◌∙◌, sym, arith, eqb-true, eqb-false, Text, pieces_left, is_text, gives_text}
 use Rattle.ansi_slice.proofs.TrimWalkLemmas.{IsUtf8-left, white-text, white-last, white-end}
 use Rattle.ansi_slice.proofs.OffsetLemmas.{item_range}
 use Rattle.ansi_slice.proofs.search.ends.white_space_len.Goals as goal

@@ -1,7 +1,4 @@
-use Rattle.std.proofs.Common.{◌≡◌, ◌-◌, ◌≤◌, length}
-use Rattle.std.specs.Str.{trim_start}
-use Rattle.ansi_items.specs.Plain.{plain}
-use Rattle.ansi_items.specs.Scans.{pieces_left}
+use Rattle.ansi_slice.proofs.Common.{◌≡◌, ◌-◌, ◌≤◌, length, trim_start, plain, pieces_left}
 use Rattle.ansi_slice.proofs.TrimWalkLemmas.{IsWhiteSoFar}
 use Rattle.ansi_slice.proofs.search.ends.white_space_len.Given as goal
 

@@ -1,9 +1,4 @@
-use Rattle.std.proofs.Common.{◌≡◌, ◌++◌, ◌∷◌, ◌+◌, ◌-◌, ◌≤◌, [], Some, None, drop, length, refl, sym, ◌∙◌, ap, arith}
-use Rattle.std.proofs.lemmas.List.{drop_at, drop-drop, length-append, length-drop}
-use Rattle.ansi_items.specs.Pieces.{Text}
-use Rattle.ansi_items.specs.Plain.{plain, plain_of}
-use Rattle.ansi_items.specs.Scans.{pieces_left}
-use Rattle.ansi_items.proofs.StepLemmas.{is_text, gives_text}
+use Rattle.ansi_slice.proofs.Common.{◌≡◌, ◌++◌, ◌∷◌, ◌+◌, ◌-◌, ◌≤◌, [], Some, None, drop, length, refl, sym, ◌∙◌, ap, arith, drop_at, drop-drop, length-append, length-drop, Text, plain, plain_of, pieces_left, is_text, gives_text}
 use Rattle.ansi_slice.proofs.MatchLemmas.{first_match_in, no_match_in, first_empty, empty_at_end, none_at_end}
 use Rattle.ansi_slice.proofs.OffsetLemmas.{item_range}
 use Rattle.ansi_slice.proofs.search.matches.boundary_from.Goals as goal

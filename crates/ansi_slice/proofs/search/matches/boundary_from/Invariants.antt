@@ -1,8 +1,4 @@
-use Rattle.std.proofs.Common.{◌≡◌, ◌≤◌, [], length, drop, IsTrue}
-use Rattle.memchr.specs.Find.{Nowhere}
-use Rattle.ansi_items.specs.Plain.{plain, plain_of}
-use Rattle.ansi_slice.specs.Parts.{is_match}
-use Rattle.ansi_items.specs.Scans.{pieces_left}
+use Rattle.ansi_slice.proofs.Common.{◌≡◌, ◌≤◌, [], length, drop, IsTrue, Nowhere, plain, plain_of, is_match, pieces_left}
 use Rattle.ansi_slice.proofs.search.matches.boundary_from.Given as goal
 
 -- what is left is the plain text from the place on, and no match begins before it

@@ -1,10 +1,4 @@
-use Rattle.std.proofs.Common.{◌≡◌, ℕ, ◌+◌, ◌≤◌, ◌<◌, ◌^◌, List, length, Option, Some, None, sym, subst, arith}
-use Rattle.std.specs.Prelude.{IfSome}
-use Rattle.memchr.specs.Find.{IsFirst}
-use Rattle.ansi_items.specs.Plain.{plain}
-use Rattle.ansi_items.proofs.PlainLemmas.{length-plain}
-use Rattle.ansi_items.proofs.Utf8Lemmas.{IsUtf8-plain}
-use Rattle.ansi_slice.specs.Parts.{first_match_from}
+use Rattle.ansi_slice.proofs.Common.{◌≡◌, ℕ, ◌+◌, ◌≤◌, ◌<◌, ◌^◌, List, length, Option, Some, None, sym, subst, arith, IfSome, IsFirst, plain, length-plain, IsUtf8-plain, first_match_from}
 use Rattle.ansi_slice.proofs.MatchLemmas.{IsMatch, first_match_from-first}
 use Rattle.ansi_slice.proofs.FindLemmas.{finds_text, finds_good_range, finds_good_before, finds_good_after, finds_within}
 use Rattle.ansi_slice.proofs.search.matches.find.Goals as goal

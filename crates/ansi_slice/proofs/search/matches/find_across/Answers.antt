@@ -1,14 +1,4 @@
-use Rattle.std.proofs.Common.{◌≡◌, ◌≤◌, [], drop, length, sym, ◌∙◌, ap, ap₂, subst, arith, slice_index}
-use Rattle.std.proofs.lemmas.Bool.{eq-eqb}
-use Rattle.std.proofs.lemmas.List.{length-drop}
-use Rattle.std.specs.Str.{IsCharBoundary}
-use Rattle.memchr.specs.Find.{OccursAt, is_byte}
-use Rattle.ansi_items.specs.Plain.{plain, plain_of}
-use Rattle.ansi_items.specs.Scans.{pieces_left}
-use Rattle.ansi_items.proofs.PlainLemmas.{length-plain}
-use Rattle.ansi_items.proofs.StepLemmas.{is_text}
-use Rattle.ansi_slice.specs.Searches.{IsCut, IsReached, Comes}
-use Rattle.ansi_slice.specs.Parts.{first_match_from}
+use Rattle.ansi_slice.proofs.Common.{◌≡◌, ◌≤◌, [], drop, length, sym, ◌∙◌, ap, ap₂, subst, arith, slice_index, eq-eqb, length-drop, IsCharBoundary, OccursAt, is_byte, plain, plain_of, pieces_left, length-plain, is_text, IsCut, IsReached, Comes, first_match_from}
 use Rattle.ansi_slice.proofs.OffsetLemmas.{is_other}
 use Rattle.ansi_slice.proofs.WindowLemmas.{none-past, none-without, run-occurs, run-left, run-length, run-stands, mark-left, reached-then, comes-then, reached-match, reached-end}
 use Rattle.ansi_slice.proofs.search.matches.find_across.Goals as goal

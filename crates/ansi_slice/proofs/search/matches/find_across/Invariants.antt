@@ -1,7 +1,4 @@
-use Rattle.std.proofs.Common.{◌≡◌, ◌≤◌, ◌+◌, length, drop}
-use Rattle.ansi_items.specs.Plain.{plain, plain_of}
-use Rattle.ansi_items.specs.Scans.{pieces_left}
-use Rattle.ansi_slice.specs.Searches.{Comes, IsAhead}
+use Rattle.ansi_slice.proofs.Common.{◌≡◌, ◌≤◌, ◌+◌, length, drop, plain, plain_of, pieces_left, Comes, IsAhead}
 use Rattle.ansi_slice.proofs.search.matches.find_across.Given as goal
 
 -- what is left is the plain text from the place on, and up to there it is read

@@ -1,6 +1,4 @@
-use Rattle.std.proofs.Common.{◌≡◌, ◌+◌, length, slice_index, arith}
-use Rattle.memchr.specs.Find.{OccursAt, Passes, is_byte}
-use Rattle.memchr.proofs.lemmas.FindLemmas.{IsFirst-agree, IsFirst-wider, OccursAt-byte, byte-OccursAt}
+use Rattle.ansi_slice.proofs.Common.{◌≡◌, ◌+◌, length, slice_index, arith, OccursAt, Passes, is_byte, IsFirst-agree, IsFirst-wider, OccursAt-byte, byte-OccursAt}
 use Rattle.ansi_slice.proofs.search.matches.find_bytes.Goals as goal
 
 -- a pattern of one byte stands where that byte does

@@ -1,8 +1,4 @@
-use Rattle.std.proofs.Common.{◌≢◌, length, sym, ◌∙◌, ap, arith, IsFalse}
-use Rattle.std.proofs.lemmas.Bool.{eqb-false}
-use Rattle.ansi_items.specs.Plain.{plain, has_escape}
-use Rattle.ansi_slice.specs.Parts.{first_match_from}
-use Rattle.ansi_items.proofs.PlainLemmas.{plain-bare, length-plain}
+use Rattle.ansi_slice.proofs.Common.{◌≢◌, length, sym, ◌∙◌, ap, arith, IsFalse, eqb-false, plain, has_escape, first_match_from, plain-bare, length-plain}
 use Rattle.ansi_slice.proofs.MatchLemmas.{none-longer, first_of_all, no_escape-found}
 use Rattle.ansi_slice.proofs.search.matches.find_from.Goals as goal
 

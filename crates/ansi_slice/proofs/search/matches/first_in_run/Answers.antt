@@ -1,7 +1,4 @@
-use Rattle.std.proofs.Common.{◌≡◌, ◌≢◌, None, Some, drop, length, ◌∙◌, ap, sym, arith}
-use Rattle.std.proofs.lemmas.Bool.{eqb-false}
-use Rattle.std.proofs.lemmas.List.{take_rest, length-drop}
-use Rattle.memchr.specs.Find.{FindsNeedle}
+use Rattle.ansi_slice.proofs.Common.{◌≡◌, ◌≢◌, None, Some, drop, length, ◌∙◌, ap, sym, arith, eqb-false, take_rest, length-drop, FindsNeedle}
 use Rattle.ansi_slice.proofs.MatchLemmas.{found_inside, none_inside, no_match-short}
 use Rattle.ansi_slice.proofs.search.matches.first_in_run.Goals as goal
 

@@ -1,8 +1,4 @@
-use Rattle.std.proofs.Common.{◌≡◌, ◌+◌, length, refl, sym, ◌∙◌, ap}
-use Rattle.std.proofs.lemmas.Str.{IsCharBoundary-end}
-use Rattle.ansi_items.proofs.StepLemmas.{is_text}
-use Rattle.ansi_style.specs.States.{rendition_of}
-use Rattle.ansi_style.proofs.SgrLemmas.{apply-no_sgr}
+use Rattle.ansi_slice.proofs.Common.{◌≡◌, ◌+◌, length, refl, sym, ◌∙◌, ap, IsCharBoundary-end, is_text, rendition_of, apply-no_sgr}
 use Rattle.ansi_slice.proofs.OffsetLemmas.{item_range, over_text, over_mark, is_other, way-begin, way-text, way-mark, way-last, way-end, way-test}
 use Rattle.ansi_slice.proofs.search.offsets.walk_to.Goals as goal
 

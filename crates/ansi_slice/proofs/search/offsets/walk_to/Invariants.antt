@@ -1,6 +1,4 @@
-use Rattle.std.proofs.Common.{◌≡◌}
-use Rattle.ansi_style.specs.States.{rendition_of}
-use Rattle.ansi_items.specs.Scans.{pieces_left}
+use Rattle.ansi_slice.proofs.Common.{◌≡◌, rendition_of, pieces_left}
 use Rattle.ansi_slice.proofs.OffsetLemmas.{IsOnTheWay}
 use Rattle.ansi_slice.proofs.search.offsets.walk_to.Given as goal
 

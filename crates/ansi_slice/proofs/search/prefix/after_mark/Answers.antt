@@ -1,7 +1,4 @@
-use Rattle.std.proofs.Common.{sym, ◌∙◌, ap}
-use Rattle.ansi_items.specs.Plain.{plain, plain_of}
-use Rattle.ansi_items.specs.Scans.{pieces_left}
-use Rattle.ansi_items.proofs.StepLemmas.{gives_rest}
+use Rattle.ansi_slice.proofs.Common.{sym, ◌∙◌, ap, plain, plain_of, pieces_left, gives_rest}
 use Rattle.ansi_slice.proofs.PrefixLemmas.{mark_at_escape}
 use Rattle.ansi_slice.proofs.WindowLemmas.{mark-left}
 use Rattle.ansi_slice.proofs.search.prefix.after_mark.Goals as goal

@@ -1,6 +1,4 @@
-use Rattle.std.proofs.Common.{◌<◌, ◌++◌, length, take, drop, sym, ◌∙◌, ap, arith, slice_index, IsFalse}
-use Rattle.std.proofs.lemmas.List.{length-take-le}
-use Rattle.ansi_items.specs.Plain.{plain, has_escape}
+use Rattle.ansi_slice.proofs.Common.{◌<◌, ◌++◌, length, take, drop, sym, ◌∙◌, ap, arith, slice_index, IsFalse, length-take-le, plain, has_escape}
 use Rattle.ansi_slice.proofs.MatchLemmas.{no_escape-found}
 use Rattle.ansi_slice.proofs.PrefixLemmas.{plain-front, front-bare, bare_before, escape_at}
 use Rattle.ansi_slice.proofs.search.prefix.first_run.Goals as goal

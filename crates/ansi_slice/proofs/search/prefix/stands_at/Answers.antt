@@ -1,7 +1,4 @@
-use Rattle.std.proofs.Common.{rules, ◌≤◌, ◌&&◌, ◌-◌, ◌^◌, length, drop, nat_eq, sym, ◌∙◌, ap, ap₂, arith}
-use Rattle.std.specs.List.{starts_with, slice_range}
-use Rattle.ansi_items.specs.Plain.{plain}
-use Rattle.ansi_items.proofs.PlainLemmas.{length-plain}
+use Rattle.ansi_slice.proofs.Common.{rules, ◌≤◌, ◌&&◌, ◌-◌, ◌^◌, length, drop, nat_eq, sym, ◌∙◌, ap, ap₂, arith, starts_with, slice_range, plain, length-plain}
 use Rattle.ansi_slice.proofs.PrefixLemmas.{starts_with-run}
 use Rattle.ansi_slice.proofs.SliceLemmas.{slice_range-rest, slice_range-past}
 use Rattle.ansi_slice.proofs.search.prefix.stands_at.Goals as goal

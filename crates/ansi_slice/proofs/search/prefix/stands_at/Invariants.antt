@@ -1,8 +1,4 @@
-use Rattle.std.proofs.Common.{◌≡◌, ◌≤◌, length, drop, nat_eq}
-use denote.Shadow.{shadow}
-use denote.Text.{Utf8}
-use Rattle.std.specs.List.{starts_with}
-use Rattle.ansi_items.specs.Plain.{plain}
+use Rattle.ansi_slice.proofs.Common.{◌≡◌, ◌≤◌, length, drop, nat_eq, shadow, Utf8, starts_with, plain}
 use Rattle.ansi_slice.proofs.search.prefix.stands_at.Given as goal
 
 -- what is left of the pattern stands in what is left of the plain text exactly where all of it stands in all

@@ -1,6 +1,4 @@
-use Rattle.std.proofs.Common.{◌∙◌, ap, nat_eq}
-use Rattle.std.specs.List.{starts_with}
-use Rattle.ansi_items.specs.Plain.{plain}
+use Rattle.ansi_slice.proofs.Common.{◌∙◌, ap, nat_eq, starts_with, plain}
 use Rattle.ansi_slice.proofs.search.prefix.starts_with.Goals as goal
 
 -- the pattern stands at the front

@@ -1,8 +1,4 @@
-use Rattle.std.proofs.Common.{◌≡◌, ◌≢◌, ℕ, ◌+◌, ◌-◌, ◌≤◌, ◌<◌, List, length, ◌∙◌, ap, arith, slice_index}
-use Rattle.std.specs.List.{slice_range}
-use Rattle.std.proofs.lemmas.Bool.{eq-eqb}
-use Rattle.std.proofs.lemmas.List.{get_or-drop, length-drop}
-use Rattle.memchr.specs.Find.{Nowhere, Passes, is_byte}
+use Rattle.ansi_slice.proofs.Common.{◌≡◌, ◌≢◌, ℕ, ◌+◌, ◌-◌, ◌≤◌, ◌<◌, List, length, ◌∙◌, ap, arith, slice_index, slice_range, eq-eqb, get_or-drop, length-drop, Nowhere, Passes, is_byte}
 use Rattle.ansi_slice.proofs.SliceLemmas.{slice_range-past}
 use Rattle.ansi_slice.proofs.search.two_way.next_of.Goals as goal
 

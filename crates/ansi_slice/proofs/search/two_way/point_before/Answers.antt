@@ -1,7 +1,4 @@
-use Rattle.std.proofs.Common.{◌≡◌, ◌+◌, drop, refl, ◌∙◌, subst, arith}
-use Rattle.ansi_items.specs.Plain.{plain, plain_of}
-use Rattle.ansi_items.specs.Scans.{pieces_left}
-use Rattle.ansi_items.proofs.StepLemmas.{is_text}
+use Rattle.ansi_slice.proofs.Common.{◌≡◌, ◌+◌, drop, refl, ◌∙◌, subst, arith, plain, plain_of, pieces_left, is_text}
 use Rattle.ansi_slice.proofs.WindowLemmas.{run-left, run-length}
 use Rattle.ansi_slice.proofs.search.two_way.point_before.Goals as goal
 

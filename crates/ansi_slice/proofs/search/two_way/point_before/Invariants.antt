@@ -1,6 +1,4 @@
-use Rattle.std.proofs.Common.{◌≡◌, ◌≤◌, drop}
-use Rattle.ansi_items.specs.Plain.{plain, plain_of}
-use Rattle.ansi_items.specs.Scans.{pieces_left}
+use Rattle.ansi_slice.proofs.Common.{◌≡◌, ◌≤◌, drop, plain, plain_of, pieces_left}
 use Rattle.ansi_slice.proofs.search.two_way.point_before.Given as goal
 
 -- what is left is the plain text from the place on

@@ -1,8 +1,4 @@
-use Rattle.std.proofs.Common.{◌++◌, ◌∙◌, ap}
-use Rattle.ansi_items.specs.Pieces.{pieces_of}
-use Rattle.ansi_style.specs.States.{rendition_of}
-use Rattle.ansi_style.specs.Written.{close}
-use Rattle.ansi_slice.specs.Offsets.{sequences_up_to}
+use Rattle.ansi_slice.proofs.Common.{◌++◌, ◌∙◌, ap, pieces_of, rendition_of, close, sequences_up_to}
 use Rattle.ansi_slice.proofs.slice.cuts.closed.Goals as goal
 
 -- the close stands after the stretch

@@ -1,9 +1,4 @@
-use Rattle.std.proofs.Common.{◌≡◌, ◌++◌, ◌-◌, ◌∙◌, ap, arith, take, refl}
-use Rattle.ansi_items.specs.Plain.{plain}
-use Rattle.ansi_items.proofs.Utf8Lemmas.{IsUtf8-plain}
-use Rattle.ansi_style.specs.Reading.{style_within}
-use Rattle.ansi_style.specs.Written.{close}
-use Rattle.ansi_style.specs.States.{rendition_of}
+use Rattle.ansi_slice.proofs.Common.{◌≡◌, ◌++◌, ◌-◌, ◌∙◌, ap, arith, take, refl, plain, IsUtf8-plain, style_within, close, rendition_of}
 use Rattle.ansi_slice.proofs.OffsetLemmas.{cut-front}
 use Rattle.ansi_slice.proofs.PositionLemmas.{is_good_range-front}
 use Rattle.ansi_slice.proofs.slice.cuts.cut_front.Goals as goal

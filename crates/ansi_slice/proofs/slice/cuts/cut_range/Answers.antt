@@ -1,9 +1,4 @@
-use Rattle.std.proofs.Common.{◌≡◌, ◌++◌, ◌-◌, ◌∙◌, ap, arith, take}
-use Rattle.ansi_items.specs.Pieces.{pieces_of}
-use Rattle.ansi_style.specs.Reading.{style_within}
-use Rattle.ansi_style.specs.Written.{close}
-use Rattle.ansi_style.specs.States.{rendition_of}
-use Rattle.ansi_slice.specs.Offsets.{sequences_up_to}
+use Rattle.ansi_slice.proofs.Common.{◌≡◌, ◌++◌, ◌-◌, ◌∙◌, ap, arith, take, pieces_of, style_within, close, rendition_of, sequences_up_to}
 use Rattle.ansi_slice.proofs.OffsetLemmas.{cut-stretch, range-by_offset}
 use Rattle.ansi_slice.proofs.slice.cuts.cut_range.Goals as goal
 

@@ -1,8 +1,4 @@
-use Rattle.std.proofs.Common.{sym, ◌∙◌, ap, arith, length}
-use Rattle.ansi_items.specs.Plain.{plain}
-use Rattle.ansi_slice.specs.Positions.{is_good_range}
-use Rattle.ansi_slice.specs.Cut.{cut_up_to}
-use Rattle.ansi_items.proofs.PlainLemmas.{plain-bare, length-plain}
+use Rattle.ansi_slice.proofs.Common.{sym, ◌∙◌, ap, arith, length, plain, is_good_range, cut_up_to, plain-bare, length-plain}
 use Rattle.ansi_slice.proofs.PositionLemmas.{is_good_range-top, none_if_bad, some_if_good}
 use Rattle.ansi_slice.proofs.CutLemmas.{cut_up_to-unwrap_or, cut_up_to-bare}
 use Rattle.ansi_slice.proofs.LengthLemmas.{length-cut}

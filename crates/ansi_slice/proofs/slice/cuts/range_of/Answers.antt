@@ -1,5 +1,4 @@
-use Rattle.std.proofs.Common.{arith, ap₂, sym, ◌∙◌}
-use Rattle.std.specs.List.{slice_range}
+use Rattle.ansi_slice.proofs.Common.{arith, ap₂, sym, ◌∙◌, slice_range}
 use Rattle.ansi_slice.proofs.PositionLemmas.{good_range_tests, is_good_range-disordered, is_good_range-bad_start, is_good_range-bad_end, position_test}
 use Rattle.ansi_slice.proofs.SliceLemmas.{slice_range-min}
 use Rattle.ansi_slice.proofs.slice.cuts.range_of.Goals as goal

@@ -1,7 +1,4 @@
-use Rattle.std.proofs.Common.{◌++◌, ◌∙◌, sym, ap₂, arith, append_assoc, string_bytes}
-use Rattle.ansi_items.specs.Plain.{plain}
-use Rattle.ansi_items.proofs.PlainLemmas.{length-plain}
-use Rattle.ansi_slice.specs.Kept.{kept}
+use Rattle.ansi_slice.proofs.Common.{◌++◌, ◌∙◌, sym, ap₂, arith, append_assoc, string_bytes, plain, length-plain, kept}
 use Rattle.ansi_slice.proofs.PositionLemmas.{is_good_position-past}
 use Rattle.ansi_slice.proofs.OffsetLemmas.{kept-none}
 use Rattle.ansi_slice.proofs.slice.kept.push_up_to.Goals as goal

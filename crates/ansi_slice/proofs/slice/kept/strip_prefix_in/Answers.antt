@@ -1,11 +1,4 @@
-use Rattle.std.proofs.Common.{◌≡◌, ℕ, true, List, sym, ◌∙◌, ap, ap₂, arith, length, IsFalse, nat_eq}
-use Rattle.std.proofs.lemmas.Bool.{eqb-true}
-use Rattle.std.specs.List.{starts_with}
-use Rattle.ansi_items.specs.Plain.{plain, has_escape}
-use Rattle.ansi_slice.specs.Kept.{kept}
-use Rattle.ansi_items.proofs.PlainLemmas.{plain-bare}
-use Rattle.ansi_items.proofs.Utf8Lemmas.{IsUtf8-plain}
-use Rattle.std.specs.Str.{IsUtf8, IsCharBoundary}
+use Rattle.ansi_slice.proofs.Common.{◌≡◌, ℕ, true, List, sym, ◌∙◌, ap, ap₂, arith, length, IsFalse, nat_eq, eqb-true, starts_with, plain, has_escape, kept, plain-bare, IsUtf8-plain, IsUtf8, IsCharBoundary}
 use Rattle.ansi_slice.proofs.PositionLemmas.{none_if_bad, some_if_good}
 use Rattle.ansi_slice.proofs.EndLemmas.{starts_with-boundary}
 use Rattle.ansi_slice.proofs.SliceLemmas.{slice_range-past}

@@ -1,9 +1,4 @@
-use Rattle.std.proofs.Common.{◌-◌, sym, ◌∙◌, ap, ap₂, arith, length, IsFalse, nat_eq}
-use Rattle.std.proofs.lemmas.Bool.{eqb-true}
-use Rattle.std.specs.List.{ends_with, slice_range}
-use Rattle.ansi_items.specs.Plain.{plain, has_escape}
-use Rattle.ansi_slice.specs.Kept.{kept}
-use Rattle.ansi_items.proofs.PlainLemmas.{plain-bare}
+use Rattle.ansi_slice.proofs.Common.{◌-◌, sym, ◌∙◌, ap, ap₂, arith, length, IsFalse, nat_eq, eqb-true, ends_with, slice_range, plain, has_escape, kept, plain-bare}
 use Rattle.ansi_slice.proofs.PositionLemmas.{none_if_bad, some_if_good}
 use Rattle.ansi_slice.proofs.EndLemmas.{ends_with-boundary}
 use Rattle.ansi_slice.proofs.KeptWalkLemmas.{kept-all, kept-bare, not_lent, not_refused}

@@ -1,8 +1,4 @@
-use Rattle.std.proofs.Common.{sym, ◌∙◌, ap, IsFalse, refl}
-use Rattle.std.specs.List.{slice_range}
-use Rattle.ansi_items.specs.Plain.{plain, has_escape}
-use Rattle.ansi_items.proofs.PlainLemmas.{plain-bare}
-use Rattle.ansi_slice.specs.Kept.{trim_interval}
+use Rattle.ansi_slice.proofs.Common.{sym, ◌∙◌, ap, IsFalse, refl, slice_range, plain, has_escape, plain-bare, trim_interval}
 use Rattle.ansi_slice.proofs.KeptWalkLemmas.{kept-bare}
 use Rattle.ansi_slice.proofs.TrimLemmas.{slice_range-trim_interval}
 use Rattle.ansi_slice.proofs.slice.kept.trim_in.Goals as goal

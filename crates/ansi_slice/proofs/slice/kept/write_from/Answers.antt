@@ -1,6 +1,4 @@
-use Rattle.std.proofs.Common.{◌++◌, ◌∙◌, ap}
-use Rattle.ansi_items.specs.Pieces.{pieces_of}
-use Rattle.ansi_slice.specs.Offsets.{sequences_up_to}
+use Rattle.ansi_slice.proofs.Common.{◌++◌, ◌∙◌, ap, pieces_of, sequences_up_to}
 use Rattle.ansi_slice.proofs.PositionLemmas.{boundary_is_good}
 use Rattle.ansi_slice.proofs.OffsetLemmas.{kept-rest}
 use Rattle.ansi_slice.proofs.slice.kept.write_from.Goals as goal

@@ -1,10 +1,4 @@
-use Rattle.std.proofs.Common.{◌++◌, take, drop, sym, ◌∙◌, ap, IsTrue, subst}
-use Rattle.ansi_items.specs.Pieces.{pieces_of}
-use Rattle.ansi_items.specs.Plain.{plain}
-use Rattle.ansi_items.proofs.Utf8Lemmas.{IsUtf8-plain}
-use Rattle.ansi_slice.specs.Positions.{is_good_position}
-use Rattle.ansi_slice.specs.Kept.{kept, trim_interval}
-use Rattle.ansi_slice.specs.Offsets.{sequences_up_to}
+use Rattle.ansi_slice.proofs.Common.{◌++◌, take, drop, sym, ◌∙◌, ap, IsTrue, subst, pieces_of, plain, IsUtf8-plain, is_good_position, kept, trim_interval, sequences_up_to}
 use Rattle.ansi_slice.proofs.PositionLemmas.{boundary_is_good}
 use Rattle.ansi_slice.proofs.TrimLemmas.{trim_interval_boundaries}
 use Rattle.ansi_slice.proofs.TrimWalkLemmas.{trimmed-stretch}

@@ -1,8 +1,4 @@
-use Rattle.std.proofs.Common.{◌≡◌, ◌+◌, length, refl, sym, ◌∙◌, ap, string_bytes}
-use Rattle.std.proofs.lemmas.Str.{IsCharBoundary-end}
-use Rattle.ansi_items.proofs.StepLemmas.{is_text}
-use Rattle.ansi_style.specs.Rendition.{plain_style}
-use Rattle.ansi_style.specs.Sgr.{apply}
+use Rattle.ansi_slice.proofs.Common.{◌≡◌, ◌+◌, length, refl, sym, ◌∙◌, ap, string_bytes, IsCharBoundary-end, is_text, plain_style, apply}
 use Rattle.ansi_slice.proofs.OffsetLemmas.{item_range, over_text, over_mark, is_other, pushed-begin, pushed-text, pushed-mark, way-begin, way-text, way-mark, way-last, way-end, way-boundary}
 use Rattle.ansi_slice.proofs.slice.sequences.push_sequences.Goals as goal
 

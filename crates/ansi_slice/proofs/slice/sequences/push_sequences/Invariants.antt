@@ -1,9 +1,4 @@
-use Rattle.std.proofs.Common.{◌≡◌, ◌++◌, string_bytes}
-use Rattle.ansi_style.specs.declared.state.rendition.Rendition.{Rendition}
-use Rattle.ansi_style.specs.Rendition.{plain_style}
-use Rattle.ansi_items.specs.Pieces.{pieces_of}
-use Rattle.ansi_items.specs.Scans.{pieces_left}
-use Rattle.ansi_slice.specs.Offsets.{sequences_up_to}
+use Rattle.ansi_slice.proofs.Common.{◌≡◌, ◌++◌, string_bytes, Rendition, plain_style, pieces_of, pieces_left, sequences_up_to}
 use Rattle.ansi_slice.proofs.OffsetLemmas.{IsPushedSoFar, IsOnTheWay}
 use Rattle.ansi_slice.proofs.slice.sequences.push_sequences.Given as goal
 

@@ -1,8 +1,4 @@
-use Rattle.std.proofs.Common.{take, drop, sym, ◌∙◌, ap, subst, IsTrue}
-use Rattle.std.proofs.lemmas.List.{take_min, drop_min}
-use Rattle.std.specs.Str.{IsCharBoundary}
-use Rattle.ansi_items.proofs.PlainLemmas.{plain-bare}
-use Rattle.ansi_slice.specs.Positions.{is_good_position}
+use Rattle.ansi_slice.proofs.Common.{take, drop, sym, ◌∙◌, ap, subst, IsTrue, take_min, drop_min, IsCharBoundary, plain-bare, is_good_position}
 use Rattle.ansi_slice.proofs.PositionLemmas.{boundary_inside}
 use Rattle.ansi_slice.proofs.SideLemmas.{left_side-bare, right_side-bare}
 use Rattle.ansi_slice.proofs.slice.sides.halves.Goals as goal

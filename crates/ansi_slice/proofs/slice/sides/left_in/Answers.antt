@@ -1,6 +1,4 @@
-use Rattle.std.proofs.Common.{◌++◌, sym, ◌∙◌, ap, ap₂, arith, length}
-use Rattle.ansi_items.specs.Pieces.{pieces_of}
-use Rattle.ansi_slice.specs.Sides.{side_up_to}
+use Rattle.ansi_slice.proofs.Common.{◌++◌, sym, ◌∙◌, ap, ap₂, arith, length, pieces_of, side_up_to}
 use Rattle.ansi_slice.proofs.PositionLemmas.{none_if_bad, some_if_good}
 use Rattle.ansi_slice.proofs.SideWalkLemmas.{left_side-is}
 use Rattle.ansi_slice.proofs.LengthLemmas.{length-sides}

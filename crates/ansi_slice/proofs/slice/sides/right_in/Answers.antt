@@ -1,5 +1,4 @@
-use Rattle.std.proofs.Common.{◌∙◌, ap, arith, length}
-use Rattle.ansi_style.specs.Reading.{style_within}
+use Rattle.ansi_slice.proofs.Common.{◌∙◌, ap, arith, length, style_within}
 use Rattle.ansi_slice.proofs.PositionLemmas.{none_if_bad, some_if_good}
 use Rattle.ansi_slice.proofs.SideWalkLemmas.{right_side-is}
 use Rattle.ansi_slice.proofs.LengthLemmas.{length-sides}

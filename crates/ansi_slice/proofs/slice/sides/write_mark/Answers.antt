@@ -1,9 +1,4 @@
-use Rattle.std.proofs.Common.{rules, ◌≡◌, [], List, ℕ, ◌++◌, sym, ap, append-nil, if◌then◌else◌, is_ok, string_bytes, Result, Ok, Err, OnOk}
-use Rattle.ansi_items.specs.declared.ansitok.Kind.TheVariants.{Sgr}
-use Rattle.ansi_items.specs.Pieces.{Sequence}
-use Rattle.ansi_style.specs.States.{rendition_of}
-use Rattle.ansi_items.specs.Plain.{copied}
-use Rattle.ansi_style.proofs.SgrLemmas.{apply-no_sgr}
+use Rattle.ansi_slice.proofs.Common.{rules, ◌≡◌, [], List, ℕ, ◌++◌, sym, ap, append-nil, if◌then◌else◌, is_ok, string_bytes, Result, Ok, Err, OnOk, Sgr, Sequence, rendition_of, copied, apply-no_sgr}
 use Rattle.ansi_slice.proofs.OffsetLemmas.{is_other}
 use Rattle.ansi_slice.proofs.slice.sides.write_mark.Goals as goal
 

@@ -1,6 +1,4 @@
-use Rattle.std.proofs.Common.{arith}
-use Rattle.ansi_items.specs.Plain.{plain}
-use Rattle.ansi_items.proofs.PlainLemmas.{length-plain}
+use Rattle.ansi_slice.proofs.Common.{arith, plain, length-plain}
 use Rattle.ansi_slice.proofs.PositionLemmas.{is_good_position-past}
 use Rattle.ansi_slice.proofs.slice.sides.write_right.Goals as goal
 

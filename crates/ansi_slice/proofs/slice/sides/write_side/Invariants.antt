@@ -1,8 +1,4 @@
-use Rattle.std.proofs.Common.{◌≡◌, ◌++◌, string_bytes}
-use Rattle.ansi_items.specs.Pieces.{pieces_of}
-use Rattle.ansi_items.specs.Scans.{pieces_left}
-use Rattle.ansi_style.specs.States.{rendition_of}
-use Rattle.ansi_slice.specs.Sides.{side_up_to}
+use Rattle.ansi_slice.proofs.Common.{◌≡◌, ◌++◌, string_bytes, pieces_of, pieces_left, rendition_of, side_up_to}
 use Rattle.ansi_slice.proofs.OffsetLemmas.{IsOnTheWay}
 use Rattle.ansi_slice.proofs.SideWalkLemmas.{IsSideSoFar}
 use Rattle.ansi_slice.proofs.slice.sides.write_side.Given as goal

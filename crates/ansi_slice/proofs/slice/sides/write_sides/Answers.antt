@@ -1,7 +1,4 @@
-use Rattle.std.proofs.Common.{◌++◌, sym, ◌∙◌, ap, ap₂, arith}
-use Rattle.ansi_items.specs.Pieces.{pieces_of}
-use Rattle.ansi_style.specs.Reading.{style_within}
-use Rattle.ansi_slice.specs.Sides.{side_up_to}
+use Rattle.ansi_slice.proofs.Common.{◌++◌, sym, ◌∙◌, ap, ap₂, arith, pieces_of, style_within, side_up_to}
 use Rattle.ansi_slice.proofs.SideWalkLemmas.{left_side-is, right_side-is}
 use Rattle.ansi_slice.proofs.slice.sides.write_sides.Goals as goal
 

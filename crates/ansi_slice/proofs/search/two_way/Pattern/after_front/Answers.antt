@@ -1,5 +1,4 @@
-use Rattle.std.proofs.Common.{◌≤◌, ◌+◌, length, arith}
-use Rattle.ansi_slice.specs.Searches.{IsCut}
+use Rattle.ansi_slice.proofs.Common.{◌≤◌, ◌+◌, length, arith, IsCut}
 use Rattle.ansi_slice.proofs.WindowLemmas.{reached-apart, comes-repeats, point-later}
 use Rattle.ansi_slice.proofs.search.two_way.Pattern.after_front.Goals as goal
 

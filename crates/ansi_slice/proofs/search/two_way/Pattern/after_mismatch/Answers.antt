@@ -1,6 +1,4 @@
-use Rattle.std.proofs.Common.{◌≡◌, ◌≤◌, ◌+◌, ◌-◌, length, min, slice_index, sym, ◌∙◌, ap, arith}
-use Rattle.ansi_items.proofs.PlainLemmas.{length-plain}
-use Rattle.ansi_slice.specs.Searches.{StandsNowhere}
+use Rattle.ansi_slice.proofs.Common.{◌≡◌, ◌≤◌, ◌+◌, ◌-◌, length, min, slice_index, sym, ◌∙◌, ap, arith, length-plain, StandsNowhere}
 use Rattle.ansi_slice.proofs.WindowLemmas.{reached-mismatch, passed-in-run, ahead-later, point-later}
 use Rattle.ansi_slice.proofs.search.two_way.Pattern.after_mismatch.Goals as goal
 

@@ -1,8 +1,4 @@
-use Rattle.std.proofs.Common.{◌≤◌, ◌-◌, take, length, nat_eq, ◌∙◌, ap, arith}
-use Rattle.std.specs.List.{starts_with}
-use Rattle.std.proofs.lemmas.List.{length-take-le}
-use Rattle.ansi_items.specs.Plain.{plain}
-use Rattle.ansi_slice.specs.Searches.{IsCut}
+use Rattle.ansi_slice.proofs.Common.{◌≤◌, ◌-◌, take, length, nat_eq, ◌∙◌, ap, arith, starts_with, length-take-le, plain, IsCut}
 use Rattle.ansi_slice.proofs.SliceLemmas.{slice_range-past}
 use Rattle.ansi_slice.proofs.WindowLemmas.{front-in-run}
 use Rattle.ansi_slice.proofs.search.two_way.Pattern.front_stands.Goals as goal

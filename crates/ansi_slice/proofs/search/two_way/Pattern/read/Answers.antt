@@ -1,7 +1,4 @@
-use Rattle.std.proofs.Common.{◌≤◌, ◌+◌, length, sym, ◌∙◌, arith}
-use Rattle.ansi_items.specs.Plain.{plain}
-use Rattle.ansi_items.proofs.PlainLemmas.{length-plain}
-use Rattle.ansi_slice.specs.Searches.{IsCut, IsApart}
+use Rattle.ansi_slice.proofs.Common.{◌≤◌, ◌+◌, length, sym, ◌∙◌, arith, plain, length-plain, IsCut, IsApart}
 use Rattle.ansi_slice.proofs.WindowLemmas.{comes-then, ahead-later, meets-from, meets-last, stands-both, apart-both}
 use Rattle.ansi_slice.proofs.search.two_way.Pattern.read.Goals as goal
 

@@ -1,5 +1,4 @@
-use Rattle.std.proofs.Common.{◌≤◌, ◌+◌, ◌-◌, length, ◌*◌}
-use Rattle.ansi_slice.specs.Searches.{Comes, IsAhead}
+use Rattle.ansi_slice.proofs.Common.{◌≤◌, ◌+◌, ◌-◌, length, ◌*◌, Comes, IsAhead}
 use Rattle.ansi_slice.proofs.search.two_way.Pattern.read.Given as goal
 
 -- the search has come up to the window
