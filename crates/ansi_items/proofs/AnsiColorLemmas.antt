@@ -1,12 +1,6 @@
 -- The order of colors as SGR codes write them.
-use Rattle.std.proofs.Common.{◌≡◌, refl, ap}
-use Rattle.std.specs.Ordering.{ordering_then, nat_cmp}
-use Rattle.std.specs.declared.cmp.Ordering.{Ordering}
-use Rattle.std.specs.declared.cmp.Ordering.TheVariants.{Less, Equal, Greater}
-use Rattle.ansi_items.specs.declared.ansitok.AnsiColor.{AnsiColor}
-use Rattle.ansi_items.specs.declared.ansitok.AnsiColor.TheVariants.{Bit4, Bit8, Bit24}
+use Rattle.ansi_items.proofs.Common.{◌≡◌, refl, ap, ordering_then, nat_cmp, Ordering, Less, Equal, Greater, AnsiColor, Bit4, Bit8, Bit24, compared, ansi_color_key}
 use Rattle.ansi_items.specs.contracts.ansitok.AnsiColorOrd.TheImpl.{ghosts}
-use Rattle.ansi_items.specs.AnsiColors.{compared, ansi_color_key}
 
 -- what nothing follows decides alone
 pub alone : (o : Ordering) → o ≡ ordering_then o Equal

@@ -1,18 +1,5 @@
 -- How many looks at a text its items take.
-use Rattle.std.proofs.Common.{◌≡◌, ℕ, ◌+◌, ◌-◌, ◌*◌, ◌<◌, ◌≤◌, Bool, true, false, List, [], ◌∷◌, length, take, drop, get_or, slice_index, Option, Some, None, refl, sym, ◌∙◌, ap, subst, arith, one-add}
-use Rattle.std.proofs.lemmas.Bool.{false_from_ne_true, cond-true, cond_both}
-use Rattle.std.proofs.lemmas.Bool.Decides.{nat_tests}
-use Rattle.std.proofs.lemmas.List.{take_rest, length-drop, drop-drop}
-use Rattle.std.proofs.lemmas.List.Sums.{prefix_len_is, prefix_len-le-length}
-use Rattle.std.specs.List.{prefix_len}
-use Rattle.std.specs.Str.{IsCharBoundary}
-use Rattle.std.specs.Prelude.{unwrap_or}
-use Rattle.memchr.specs.Find.{IsFirstByte, is_byte, is_byte2}
-use Rattle.ansi_items.specs.declared.ansitok.Kind.TheVariants.{Lone}
-use Rattle.ansi_items.specs.declared.ansitok.grammar.Front.{Front}
-use Rattle.ansi_items.specs.Bytes.{is_parameter_byte, is_intermediate_byte, is_body_byte, is_plain_byte, opens_command}
-use Rattle.ansi_items.specs.Fronts.{front_of, escape_at, sequence_at, front_at}
-use Rattle.ansi_items.specs.Counts.{before_escape, CostsFound, CostsFront, IsCounted}
+use Rattle.ansi_items.proofs.Common.{◌≡◌, ℕ, ◌+◌, ◌-◌, ◌*◌, ◌<◌, ◌≤◌, Bool, true, false, List, [], ◌∷◌, length, take, drop, get_or, slice_index, Option, Some, None, refl, sym, ◌∙◌, ap, subst, arith, one-add, false_from_ne_true, cond-true, cond_both, nat_tests, take_rest, length-drop, drop-drop, prefix_len_is, prefix_len-le-length, prefix_len, IsCharBoundary, unwrap_or, IsFirstByte, is_byte, is_byte2, Lone, Front, is_parameter_byte, is_intermediate_byte, is_body_byte, is_plain_byte, opens_command, front_of, escape_at, sequence_at, front_at, before_escape, CostsFound, CostsFront, IsCounted}
 use Rattle.ansi_items.proofs.PieceLemmas.{first_piece_splits}
 use Rattle.ansi_items.proofs.FrontLemmas.{not_alone, front_is_first}
 

@@ -1,10 +1,5 @@
 -- Worked examples of the definitions, each by computation.
-use Rattle.std.proofs.Common.{◌≡◌, ℕ, List, refl, codes, [], ◌∷◌, Some, None, true, false, not, map, filter, replicate, length}
-use Rattle.std.specs.List.{repeat, range_with_len}
-use Rattle.ansi_items.specs.Bytes.{is_parameter_byte, is_intermediate_byte, is_final_byte, is_escape_final_byte, opens_control_sequence, opens_control_string, opens_command, is_body_byte, is_plain_byte}
-use Rattle.ansi_items.specs.Sequences.{are_private, sgr_parameters, is_sgr}
-use Rattle.ansi_items.specs.Pieces.{Text, Sequence, LoneEscape, pieces_of}
-use Rattle.ansi_items.specs.Plain.{plain, marks, is_whole}
+use Rattle.ansi_items.proofs.Common.{◌≡◌, ℕ, List, refl, codes, [], ◌∷◌, Some, None, true, false, not, map, filter, replicate, length, repeat, range_with_len, is_parameter_byte, is_intermediate_byte, is_final_byte, is_escape_final_byte, opens_control_sequence, opens_control_string, opens_command, is_body_byte, is_plain_byte, are_private, sgr_parameters, is_sgr, Text, Sequence, LoneEscape, pieces_of, plain, marks, is_whole}
 
 -- Classes of bytes: of each what there is among all bytes, and of what differs by the opener of a control string, for each opener.
 

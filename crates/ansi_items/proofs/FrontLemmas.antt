@@ -1,22 +1,6 @@
 -- What the code reads at the front of a text is its first piece.
-use Rattle.std.proofs.Common.{◌≡◌, ℕ, zero, suc, ◌+◌, ◌-◌, ◌<◌, ◌≤◌, inl, inr, ⊎_elim, Bool, true, false, not, ◌&&◌, ◌==◌, List, [], ◌∷◌, ◌++◌, take, drop, length, Option, Some, None, refl, sym, ◌∙◌, ap, ap₂, subst, append_assoc, arith, slice_index, length-append}
-use Rattle.std.proofs.lemmas.Bool.{cond-true, cond-false, cases_Bool, eqb-true, and_parts, both_ways, cases_lt, not-false, or_cases, ne_eqb}
-use Rattle.std.proofs.lemmas.Bool.Decides.{nat_tests}
-use Rattle.std.proofs.lemmas.List.{take_rest, get_or_past, drop_more, drop_all, drop-drop, drop_at, take_at, length-drop, take-append-drop}
-use Rattle.std.proofs.lemmas.List.Sums.{prefix_len-le-length, prefix_len_stops, prefix_len-drop_yes, prefix_len-drop_no, prefix_len-drop_all}
-use Rattle.std.proofs.lemmas.List.Folds.{list_all-append, length-prefix_len}
-use Rattle.std.specs.List.{list_all, prefix_len, ends_with}
-use Rattle.std.specs.Cmp.Lexicographic.{pointwise}
-use Rattle.std.specs.Option.{option_map_or}
-use Rattle.std.specs.Prelude.{unwrap_or, if◌then◌else◌, nat_eq, codes, is_some, slice_range}
-use Rattle.std.specs.Str.{byte}
-use Rattle.ansi_items.specs.declared.ansitok.Kind.TheVariants.{Text, Sgr, Other, Lone}
-use Rattle.ansi_items.specs.declared.ansitok.grammar.Front.{Front}
-use Rattle.ansi_items.specs.Bytes.{escape, bell, is_parameter_byte, is_intermediate_byte, is_final_byte, is_escape_final_byte, opens_control_string, opens_command, opens_control_sequence, is_body_byte, is_plain_byte}
-use Rattle.ansi_items.specs.Sequences.{after_one, after_control_sequence, after_terminator, after_control_string, after_escape_sequence, after_sequence, is_sgr, are_private}
-use Rattle.ansi_items.specs.Pieces.{Piece, Text, Sequence, spelling, text_or_lone, first_piece}
-use Rattle.ansi_items.specs.Scans.{kind_of}
-use Rattle.ansi_items.specs.Fronts.{front_of, control_at, string_at, escape_at, sequence_at, front_at}
+use Rattle.ansi_items.proofs.Common.{◌≡◌, ℕ, zero, suc, ◌+◌, ◌-◌, ◌<◌, ◌≤◌, inl, inr, ⊎_elim, Bool, true, false, not, ◌&&◌, ◌==◌, List, [], ◌∷◌, ◌++◌, take, drop, length, Option, Some, None, refl, sym, ◌∙◌, ap, ap₂, subst, append_assoc, arith, slice_index, length-append, cond-true, cond-false, cases_Bool, eqb-true, and_parts, both_ways, cases_lt, not-false, or_cases, ne_eqb, nat_tests, take_rest, get_or_past, drop_more, drop_all, drop-drop, drop_at, take_at, length-drop, take-append-drop, prefix_len-le-length, prefix_len_stops, prefix_len-drop_yes, prefix_len-drop_no, prefix_len-drop_all, list_all-append, length-prefix_len, list_all, prefix_len, ends_with, pointwise, option_map_or, unwrap_or, if◌then◌else◌, nat_eq, codes, is_some, slice_range, byte, Sgr, Other, Lone, Front, escape, bell, is_parameter_byte, is_intermediate_byte, is_final_byte, is_escape_final_byte, opens_control_string, opens_command, opens_control_sequence, is_body_byte, is_plain_byte, after_one, after_control_sequence, after_terminator, after_control_string, after_escape_sequence, after_sequence, is_sgr, are_private, Piece, Text, Sequence, spelling, text_or_lone, first_piece, kind_of, front_of, control_at, string_at, escape_at, sequence_at, front_at}
+use Rattle.ansi_items.specs.declared.ansitok.Kind.TheVariants.{Text}
 use Rattle.ansi_items.proofs.SequenceLemmas.{all-run, intermediate_stops}
 
 -- After one byte at a place.

@@ -1,13 +1,5 @@
 -- Pieces that may stand anywhere: the text that they spell has these pieces, with texts that touch joined.
-use Rattle.std.proofs.Common.{◌≡◌, ◌≢◌, ℕ, true, List, [], ◌∷◌, ◌++◌, refl, sym, ◌∙◌, ap, ap₂, append_assoc, IsTrue, flat_map, slice_index}
-use Rattle.std.proofs.lemmas.Bool.{and_from}
-use Rattle.std.proofs.lemmas.List.Folds.{list_all-append}
-use Rattle.std.proofs.lemmas.Grind.{flat_map-append}
-use Rattle.std.specs.List.{list_all, AllByRecursion}
-use Rattle.ansi_items.specs.Bytes.{is_plain_byte}
-use Rattle.ansi_items.specs.Sequences.{IsSequence}
-use Rattle.ansi_items.specs.Pieces.{Piece, spelling, Text, Sequence, LoneEscape, ArePieces, after_text, merged, pieces_of}
-use Rattle.ansi_items.specs.Plain.{are_whole, is_whole}
+use Rattle.ansi_items.proofs.Common.{◌≡◌, ◌≢◌, ℕ, true, List, [], ◌∷◌, ◌++◌, refl, sym, ◌∙◌, ap, ap₂, append_assoc, IsTrue, flat_map, slice_index, and_from, list_all-append, flat_map-append, list_all, AllByRecursion, is_plain_byte, IsSequence, Piece, spelling, Text, Sequence, LoneEscape, ArePieces, after_text, merged, pieces_of, are_whole, is_whole}
 use Rattle.ansi_items.proofs.PieceLemmas.{sequence_front, pieces_of-unique, pieces_are}
 
 -- the bytes that pieces spell

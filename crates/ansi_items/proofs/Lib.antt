@@ -1,3 +1,4 @@
+mod Common
 pub mod SequenceLemmas
 pub mod PieceLemmas
 pub mod FrontLemmas

@@ -1,15 +1,5 @@
 -- `pieces_of` gives the pieces of a text, and a text has no others.
-use Rattle.std.proofs.Common.{◌≡◌, ◌≢◌, ℕ, zero, suc, ◌-◌, ◌≤◌, ◌⊎◌, inl, inr, true, false, ◌==◌, List, [], ◌∷◌, ◌++◌, take, drop, length, Option, Some, None, refl, sym, ◌∙◌, ap, ap₂, subst, arith, one-add, slice_index, length-append}
-use Rattle.std.proofs.lemmas.Bool.{cond-true, cond-false, and_parts, cases_Bool, eqb-true, not-true, not-false}
-use Rattle.std.proofs.lemmas.Option.{none-some}
-use Rattle.std.proofs.Math.Seq.{take-append_seam}
-use Rattle.std.proofs.lemmas.List.{take-append-drop}
-use Rattle.std.specs.Prelude.{◌↔◌}
-use Rattle.std.specs.List.{list_all, prefix_len}
-use Rattle.std.specs.Option.{option_map_or}
-use Rattle.ansi_items.specs.Bytes.{escape, is_plain_byte}
-use Rattle.ansi_items.specs.Sequences.{IsSequence, after_sequence, skip}
-use Rattle.ansi_items.specs.Pieces.{Piece, Text, Sequence, LoneEscape, spelling, StandsBefore, ArePieces, text_or_lone, first_piece, first_pieces, pieces_of}
+use Rattle.ansi_items.proofs.Common.{◌≡◌, ◌≢◌, ℕ, zero, suc, ◌-◌, ◌≤◌, ◌⊎◌, inl, inr, true, false, ◌==◌, List, [], ◌∷◌, ◌++◌, take, drop, length, Option, Some, None, refl, sym, ◌∙◌, ap, ap₂, subst, arith, one-add, slice_index, length-append, cond-true, cond-false, and_parts, cases_Bool, eqb-true, not-true, not-false, none-some, take-append_seam, take-append-drop, ◌↔◌, list_all, prefix_len, option_map_or, escape, is_plain_byte, IsSequence, after_sequence, skip, Piece, Text, Sequence, LoneEscape, spelling, StandsBefore, ArePieces, text_or_lone, first_piece, first_pieces, pieces_of}
 use Rattle.ansi_items.proofs.SequenceLemmas.{Stops, prefix_len-run, skip-run, all-run, stops-skip, run-skip, after_sequence-whole, after_sequence_found}
 
 pub front_is : (t w rest : List ℕ) → t ≡ w ++ rest → take (length t - length rest) t ≡ w

@@ -1,12 +1,5 @@
 -- A text without ESC is its own plain text, and a plain text is one.
-use Rattle.std.proofs.Common.{◌≡◌, ◌≢◌, ℕ, ◌≤◌, true, false, List, [], ◌∷◌, length, refl, sym, ◌∙◌, ap, arith, append-nil, length-append}
-use Rattle.std.proofs.lemmas.Bool.{and_from, and_parts, or_parts, or_from, not-true, not_from_false}
-use Rattle.std.proofs.lemmas.List.Folds.{list_all-append}
-use Rattle.std.specs.Prelude.{◌==◌}
-use Rattle.std.specs.List.{list_all}
-use Rattle.ansi_items.specs.Bytes.{escape, is_plain_byte}
-use Rattle.ansi_items.specs.Pieces.{Piece, Text, Sequence, LoneEscape, ArePieces, pieces_of}
-use Rattle.ansi_items.specs.Plain.{plain_of, plain, are_whole, is_whole, has_escape}
+use Rattle.ansi_items.proofs.Common.{◌≡◌, ◌≢◌, ℕ, ◌≤◌, true, false, List, [], ◌∷◌, length, refl, sym, ◌∙◌, ap, arith, append-nil, length-append, and_from, and_parts, or_parts, or_from, not-true, not_from_false, list_all-append, ◌==◌, list_all, escape, is_plain_byte, Piece, Text, Sequence, LoneEscape, ArePieces, pieces_of, plain_of, plain, are_whole, is_whole, has_escape}
 use Rattle.ansi_items.proofs.PieceLemmas.{pieces_are, pieces_of-unique}
 
 -- No ESC stands in a list of plain bytes alone.

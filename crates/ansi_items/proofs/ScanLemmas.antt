@@ -1,20 +1,5 @@
 -- One step of a scanner.
-use Rattle.std.proofs.Common.{◌≡◌, ◌≢◌, ℕ, ◌+◌, ◌-◌, ◌<◌, ◌≤◌, inl, inr, true, false, List, [], ◌∷◌, ◌++◌, length, take, drop, slice_index, refl, sym, ◌∙◌, ap, ap₂, subst, arith, eqb}
-use Rattle.std.specs.Prelude.{if◌then◌else◌}
-use Rattle.std.proofs.lemmas.Bool.{eqb-true, eqb-false}
-use Rattle.std.proofs.lemmas.Bool.Decides.{nat_tests}
-use Rattle.std.proofs.lemmas.List.{get_or_at, length-append, length-drop, length-take-le, append_assoc, drop-drop, take_rest, drop_all}
-use Rattle.std.proofs.lemmas.Str.{IsCharBoundary-after_ascii, IsCharBoundary-before_ascii, IsCharBoundary-end, IsCharBoundary-from_rest, IsUtf8-drop}
-use Rattle.std.specs.List.{slice_range}
-use Rattle.std.specs.Str.{IsUtf8, IsCharBoundary, byte}
-use Rattle.ansi_items.specs.declared.ansitok.Kind.TheVariants.{Sgr, Other}
-use Rattle.ansi_items.specs.declared.ansitok.Item.{Item}
-use Rattle.ansi_items.specs.declared.ansitok.grammar.Front.{Front}
-use Rattle.ansi_items.specs.Bytes.{escape, bell, is_final_byte, is_escape_final_byte}
-use Rattle.ansi_items.specs.Sequences.{IsSequence, is_sgr}
-use Rattle.ansi_items.specs.Pieces.{Piece, Text, Sequence, LoneEscape, spelling, StandsBefore, first_piece, pieces_of}
-use Rattle.ansi_items.specs.Scans.{kind_of, piece_of, piece_of_kind}
-use Rattle.ansi_items.specs.Fronts.{front_at}
+use Rattle.ansi_items.proofs.Common.{◌≡◌, ◌≢◌, ℕ, ◌+◌, ◌-◌, ◌<◌, ◌≤◌, inl, inr, true, false, List, [], ◌∷◌, ◌++◌, length, take, drop, slice_index, refl, sym, ◌∙◌, ap, ap₂, subst, arith, eqb, if◌then◌else◌, eqb-true, eqb-false, nat_tests, get_or_at, length-append, length-drop, length-take-le, append_assoc, drop-drop, take_rest, drop_all, IsCharBoundary-after_ascii, IsCharBoundary-before_ascii, IsCharBoundary-end, IsCharBoundary-from_rest, IsUtf8-drop, slice_range, IsUtf8, IsCharBoundary, byte, Sgr, Other, Item, Front, escape, bell, is_final_byte, is_escape_final_byte, IsSequence, is_sgr, Piece, Text, Sequence, LoneEscape, spelling, StandsBefore, first_piece, pieces_of, kind_of, piece_of, piece_of_kind, front_at}
 use Rattle.ansi_items.proofs.PieceLemmas.{first_piece_splits, pieces_are, pieces_of-unique}
 use Rattle.ansi_items.proofs.FrontLemmas.{front_is_first}
 

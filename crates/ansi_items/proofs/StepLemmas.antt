@@ -1,15 +1,7 @@
 -- A step of a scanner: over a text, or over a mark, which is a sequence or a lone escape.
-use Rattle.std.proofs.Common.{rules, ◌≡◌, ◌≢◌, ℕ, Bool, true, false, List, ◌∷◌, drop, refl, sym, ◌∙◌, ap, ap₂, subst, is_some, if◌then◌else◌}
-use denote.Enum.Bare.{sameb, same_true}
-use Rattle.std.specs.List.{slice_range}
+use Rattle.ansi_items.proofs.Common.{rules, ◌≡◌, ◌≢◌, ℕ, Bool, true, false, List, ◌∷◌, drop, refl, sym, ◌∙◌, ap, ap₂, subst, is_some, if◌then◌else◌, sameb, same_true, slice_range, Item, Kind, Sgr, Other, Lone, is_sgr, Piece, Text, Sequence, LoneEscape, spelling, pieces_of, plain_of, mark_of, Scan, Gives, pieces_left, kind_of, piece_of_kind}
 use Rattle.ansi_items.specs.contracts.ansitok.Kind.{the_type}
-use Rattle.ansi_items.specs.declared.ansitok.Item.{Item}
-use Rattle.ansi_items.specs.declared.ansitok.Kind.{Kind}
-use Rattle.ansi_items.specs.declared.ansitok.Kind.TheVariants.{Text as TextKind, Sgr, Other, Lone}
-use Rattle.ansi_items.specs.Sequences.{is_sgr}
-use Rattle.ansi_items.specs.Pieces.{Piece, Text, Sequence, LoneEscape, spelling, pieces_of}
-use Rattle.ansi_items.specs.Plain.{plain_of, mark_of}
-use Rattle.ansi_items.specs.Scans.{Scan, Gives, pieces_left, kind_of, piece_of_kind}
+use Rattle.ansi_items.specs.declared.ansitok.Kind.TheVariants.{Text as TextKind}
 
 -- the piece is a mark: it is no text
 abbrev pub is_mark : Piece → Bool

@@ -1,10 +1,5 @@
 -- The plain text of a UTF-8 text is UTF-8.
-use Rattle.std.proofs.Common.{ℕ, List, [], ◌∷◌, ◌++◌, length, refl, subst}
-use Rattle.std.proofs.lemmas.Str.{IsUtf8-append, IsUtf8-take, IsUtf8-drop, IsUtf8-nil}
-use Rattle.std.proofs.Math.Seq.{take-append_seam, drop-append_seam}
-use Rattle.std.specs.Str.{IsUtf8}
-use Rattle.ansi_items.specs.Pieces.{Piece, Text, Sequence, LoneEscape, spelling, StandsBefore, ArePieces, pieces_of}
-use Rattle.ansi_items.specs.Plain.{plain_bytes, plain_of, plain}
+use Rattle.ansi_items.proofs.Common.{ℕ, List, [], ◌∷◌, ◌++◌, length, refl, subst, IsUtf8-append, IsUtf8-take, IsUtf8-drop, IsUtf8-nil, take-append_seam, drop-append_seam, IsUtf8, Piece, Text, Sequence, LoneEscape, spelling, StandsBefore, ArePieces, pieces_of, plain_bytes, plain_of, plain}
 use Rattle.ansi_items.proofs.PieceLemmas.{pieces_are}
 use Rattle.ansi_items.proofs.ScanLemmas.{piece_ends}
 

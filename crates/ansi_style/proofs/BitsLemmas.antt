@@ -1,14 +1,5 @@
 -- The bits of a set of attributes, after some are set or cleared, and whether it has one of some.
-use Rattle.std.proofs.Common.{◌≡◌, ◌∙◌, ℕ, zero, suc, ◌-◌, ◌*◌, ◌^◌, ◌<◌, Bool, true, false, not, ◌&&◌, ◌||◌, ◌==◌, inl, inr, refl, ap, arith, min, max, bit_and, bit_or, w32, nat_lt}
-use Rattle.std.specs.Bool.{Decides}
-use Rattle.std.specs.Int.{bit_at}
-use Rattle.std.proofs.Math.Bool.{not-not}
-use Rattle.std.proofs.Math.Nat.{zero-mul, one-mul}
-use Rattle.std.proofs.lemmas.Bool.{eq-eqb, ne_eqb, ltb-true, cases_lt}
-use Rattle.std.proofs.lemmas.Bool.Decides.{same_from_decides, Decides-eqb, Decides-like, Decides-below_and}
-use Rattle.std.proofs.lemmas.Nat.{pow_pos}
-use Rattle.std.proofs.lemmas.Nat.Bits.{and_pow, bit_at_or, bit_at_and, bit_at-lt, bit_at_not, bit_at_above, bit_at-zero, same_from_bits}
-use Rattle.ansi_style.specs.States.{has, has_one}
+use Rattle.ansi_style.proofs.Common.{◌≡◌, ◌∙◌, ℕ, zero, suc, ◌-◌, ◌*◌, ◌^◌, ◌<◌, Bool, true, false, not, ◌&&◌, ◌||◌, ◌==◌, inl, inr, refl, ap, arith, min, max, bit_and, bit_or, w32, nat_lt, Decides, bit_at, not-not, zero-mul, one-mul, eq-eqb, ne_eqb, ltb-true, cases_lt, same_from_decides, Decides-eqb, Decides-like, Decides-below_and, pow_pos, and_pow, bit_at_or, bit_at_and, bit_at-lt, bit_at_not, bit_at_above, bit_at-zero, same_from_bits, has, has_one}
 
 has-bit : (n k : ℕ) → has n k ≡ (bit_at n k == 1)
 has-bit n k = rw (and_pow n k) (whole (bit_at n k) (2 ^ k) (bit_at-lt n k) (pow_pos k))

@@ -1,10 +1,5 @@
 -- The close of a style clears it: read from what is known of the style, it leaves nothing known.
-use Rattle.std.proofs.Common.{◌≡◌, ℕ, inl, inr, Bool, true, false, ◌&&◌, ◌||◌, List, ◌++◌, map, is_some, refl, ◌∙◌, ap, arith, append_assoc, codes}
-use Rattle.std.proofs.lemmas.Bool.{cases_Bool}
-use Rattle.ansi_style.specs.Rendition.{Rendition, plain_style, has_ideogram_attribute, known}
-use Rattle.ansi_style.specs.Sgr.{apply}
-use Rattle.ansi_style.specs.Written.{written, when, close_codes, close}
-use Rattle.ansi_style.specs.Reading.{style_after_from}
+use Rattle.ansi_style.proofs.Common.{◌≡◌, ℕ, inl, inr, Bool, true, false, ◌&&◌, ◌||◌, List, ◌++◌, map, is_some, refl, ◌∙◌, ap, arith, append_assoc, codes, cases_Bool, Rendition, plain_style, has_ideogram_attribute, known, apply, written, when, close_codes, close, style_after_from}
 use Rattle.ansi_style.proofs.SgrLemmas.{apply_all-alike}
 use Rattle.ansi_style.proofs.ReadBackLemmas.{◌next◌, LeadFrom, lead_when, apply_codes, followed, style_after_from-codes, close_codes_are}
 

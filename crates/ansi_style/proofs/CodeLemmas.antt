@@ -1,13 +1,5 @@
 -- The numbers of the table of SGR codes: those of its ranges, and those that have no row.
-use Rattle.std.proofs.Common.{◌≡◌, ℕ, zero, suc, ◌+◌, ◌<◌, ◌≤◌, inl, inr, Bool, true, false, ◌||◌, refl, sym, ◌∙◌, subst, arith, Option, Some, None, is_some, rules}
-use Rattle.std.proofs.lemmas.Bool.{agree_below_at, cases_eq, and_parts, or_cases, leb-true, true≢false}
-use Rattle.std.proofs.lemmas.Bool.Decides.{nat_tests}
-use Rattle.std.specs.Prelude.{find}
-use Rattle.std.specs.Int.{is_in_range}
-use Rattle.std.specs.Option.{option_map_or}
-use Rattle.ansi_items.specs.declared.ansitok.AnsiColor.TheVariants.{Bit4}
-use Rattle.ansi_style.specs.Rendition.{Rendition, is_foreground, is_background}
-use Rattle.ansi_style.specs.Sgr.{Changes, Rows, table, effect_of_code, unknown_code}
+use Rattle.ansi_style.proofs.Common.{◌≡◌, ℕ, zero, suc, ◌+◌, ◌<◌, ◌≤◌, inl, inr, Bool, true, false, ◌||◌, refl, sym, ◌∙◌, subst, arith, Option, Some, None, is_some, rules, agree_below_at, cases_eq, and_parts, or_cases, leb-true, true≢false, nat_tests, find, is_in_range, option_map_or, Bit4, Rendition, is_foreground, is_background, Changes, Rows, table, effect_of_code, unknown_code}
 
 pub in_range : (lo hi c : ℕ) → is_in_range lo hi c ≡ true → (lo ≤ c) × (c ≤ hi)
 in_range lo hi c h =

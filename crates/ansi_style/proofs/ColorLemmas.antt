@@ -1,23 +1,5 @@
 -- The code of a color or a font is written in parameter bytes, and what is written sets that color or font.
-use Rattle.std.proofs.Common.{◌≡◌, ℕ, suc, ◌+◌, ◌-◌, ◌<◌, Bool, true, false, cond, not, ◌&&◌, ◌==◌, nat_eq, nat_lt, List, [], ◌∷◌, ◌++◌, take, drop, length, Option, Some, None, refl, sym, ◌∙◌, ap, ap₂, arith, codes, decimal, IsTrue, length-append, bytes_eq, append_assoc, true≢false}
-use Rattle.std.proofs.lemmas.Bool.{agree_below_at, and_parts, and_from, eqb-true, ltb-true, cond-true, not-true}
-use Rattle.std.proofs.lemmas.Bool.Decides.{nat_tests}
-use Rattle.std.proofs.Math.Seq.{take-append_seam, drop-append_seam}
-use Rattle.std.proofs.lemmas.List.Folds.{list_all-append}
-use Rattle.std.proofs.lemmas.List.Sums.{AllPass-from_list_all}
-use Rattle.std.proofs.lemmas.List.Splits.{slice_split_at, slice_split_none}
-use Rattle.std.specs.Fmt.{digits}
-use Rattle.std.specs.Int.{is_in_range}
-use Rattle.std.specs.List.{list_all, ends_with, All, slice_index_or}
-use Rattle.std.specs.Option.{option_map_or}
-use Rattle.std.specs.Str.{byte}
-use Rattle.ansi_items.specs.declared.ansitok.AnsiColor.{AnsiColor}
-use Rattle.ansi_items.specs.declared.ansitok.AnsiColor.TheVariants.{Bit4, Bit8, Bit24}
-use Rattle.ansi_items.specs.Bytes.{is_parameter_byte}
-use Rattle.ansi_items.specs.Sequences.{sgr_parameters, are_private}
-use Rattle.ansi_style.specs.Rendition.{Rendition, is_extended_color, is_foreground, is_background}
-use Rattle.ansi_style.specs.Sgr.{Changes, ReadsColor, color_number, code_of, is_code, effect_of_code, unknown_code, fields_of, effect_of, apply, perform}
-use Rattle.ansi_style.specs.Written.{color_code, written}
+use Rattle.ansi_style.proofs.Common.{◌≡◌, ℕ, suc, ◌+◌, ◌-◌, ◌<◌, Bool, true, false, cond, not, ◌&&◌, ◌==◌, nat_eq, nat_lt, List, [], ◌∷◌, ◌++◌, take, drop, length, Option, Some, None, refl, sym, ◌∙◌, ap, ap₂, arith, codes, decimal, IsTrue, length-append, bytes_eq, append_assoc, true≢false, agree_below_at, and_parts, and_from, eqb-true, ltb-true, cond-true, not-true, nat_tests, take-append_seam, drop-append_seam, list_all-append, AllPass-from_list_all, slice_split_at, slice_split_none, digits, is_in_range, list_all, ends_with, All, slice_index_or, option_map_or, byte, AnsiColor, Bit4, Bit8, Bit24, is_parameter_byte, sgr_parameters, are_private, Rendition, is_extended_color, is_foreground, is_background, Changes, ReadsColor, color_number, code_of, is_code, effect_of_code, unknown_code, fields_of, effect_of, apply, perform, color_code, written}
 use Rattle.ansi_style.proofs.CodeLemmas.{in_range, effect_of_code-font, effect_of_code-foreground, effect_of_code-background}
 use Rattle.ansi_style.proofs.StateLemmas.{apply-parameters, after_fields, after_fields-step}
 

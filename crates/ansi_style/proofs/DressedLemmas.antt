@@ -1,14 +1,6 @@
 -- Pieces between the start of a style and its close: read where nothing is known, they have their styled bytes, and leave nothing known.
-use Rattle.std.proofs.Common.{◌≡◌, ℕ, List, [], ◌∷◌, ◌++◌, refl, ◌∙◌, ap, ap₂, append-nil, IsTrue}
-use Rattle.std.proofs.lemmas.Grind.{flat_map-append}
-use Rattle.ansi_items.specs.Pieces.{Piece, Text, Sequence, LoneEscape, spelling}
-use Rattle.ansi_items.specs.Plain.{is_whole}
-use Rattle.ansi_style.specs.Rendition.{Rendition, IsStyle, plain_style, known}
-use Rattle.ansi_style.specs.Sgr.{apply}
-use Rattle.ansi_style.specs.Written.{written_all, start_codes, start}
-use Rattle.ansi_style.specs.Styled.{StyledByte, styled, residue}
+use Rattle.ansi_style.proofs.Common.{◌≡◌, ℕ, List, [], ◌∷◌, ◌++◌, refl, ◌∙◌, ap, ap₂, append-nil, IsTrue, flat_map-append, Piece, Text, Sequence, LoneEscape, spelling, is_whole, Rendition, IsStyle, plain_style, known, apply, written_all, start_codes, start, StyledByte, styled, residue, spelled, AllStandAnywhere, stand-append, is_whole-spelled}
 use Rattle.ansi_style.proofs.SgrLemmas.{apply-alike}
-use Rattle.ansi_items.proofs.JoinLemmas.{spelled, AllStandAnywhere, stand-append, is_whole-spelled}
 use Rattle.ansi_style.proofs.StyledLemmas.{styled_through, style_through, styled_through-append, style_through-append, styled_through-alike}
 use Rattle.ansi_style.proofs.SpelledLemmas.{styled-spelled, residue-spelled}
 use Rattle.ansi_style.proofs.ReadBackLemmas.{AreCodes, apply_codes, code_pieces, spelled-code_pieces, code_pieces_stand, start_codes_are, styled_through-codes, style_through-codes}

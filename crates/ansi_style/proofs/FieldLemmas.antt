@@ -1,17 +1,5 @@
 -- The fields of parameter bytes, one after another, and the numbers that they are.
-use Rattle.std.proofs.Common.{◌≡◌, ◌≢◌, ℕ, zero, suc, ◌+◌, ◌-◌, ◌*◌, ◌<◌, ◌≤◌, Bool, true, ◌&&◌, ◌==◌, List, [], ◌∷◌, length, take, drop, get_or, fold, refl, sym, ◌∙◌, ap, ap₂, arith, Option, Some, None, if◌then◌else◌}
-use Rattle.std.specs.Prelude.{nat_le}
-use Rattle.std.specs.Option.{unwrap_or, option_map}
-use Rattle.std.specs.List.{onto_first}
-use Rattle.std.specs.Char.{digit_value, is_ascii_digit}
-use Rattle.std.specs.Str.{byte, all_ascii_digits}
-use Rattle.std.specs.Str.Parse.{digits_value_after}
-use Rattle.std.proofs.lemmas.Bool.{cond_both, and_parts, leb-true, lt-ltb, ne_eqb, eq-eqb}
-use Rattle.std.proofs.lemmas.Bool.Decides.{nat_tests}
-use Rattle.std.proofs.lemmas.List.Splits.{slice_split-cons_yes, slice_split-cons_no}
-use Rattle.std.proofs.lemmas.Str.{digit_value_digit}
-use Rattle.ansi_style.specs.Sgr.{fields_of, code_of, color_number}
-use Rattle.ansi_style.specs.Fields.{first_field, with_digit}
+use Rattle.ansi_style.proofs.Common.{◌≡◌, ◌≢◌, ℕ, zero, suc, ◌+◌, ◌-◌, ◌*◌, ◌<◌, ◌≤◌, Bool, true, ◌&&◌, ◌==◌, List, [], ◌∷◌, length, take, drop, get_or, fold, refl, sym, ◌∙◌, ap, ap₂, arith, Option, Some, None, if◌then◌else◌, nat_le, unwrap_or, option_map, onto_first, digit_value, is_ascii_digit, byte, all_ascii_digits, digits_value_after, cond_both, and_parts, leb-true, lt-ltb, ne_eqb, eq-eqb, nat_tests, slice_split-cons_yes, slice_split-cons_no, digit_value_digit, fields_of, code_of, color_number, first_field, with_digit}
 
 -- a field that a semicolon ends, and those after it
 pub fields_of-cut : (t : List ℕ) (i : ℕ) → i < length t → get_or t i 0 ≡ byte ";" → ((k : ℕ) → k < i → get_or t k 0 ≢ byte ";") → fields_of t ≡ take i t ∷ fields_of (drop (suc i) t)

@@ -1,3 +1,4 @@
+mod Common
 pub mod BitsLemmas
 pub mod CodeLemmas
 pub mod FieldLemmas

@@ -1,14 +1,5 @@
 -- The marks of pieces, one piece at a time, and those up to a place.
-use Rattle.std.proofs.Common.{◌≡◌, ℕ, suc, ◌+◌, ◌-◌, ◌<◌, ◌≤◌, Bool, true, false, List, [], ◌∷◌, length, map, filter_map, Option, refl, ◌∙◌, ap, ap₂, arith, nat_le, if◌then◌else◌, IsFalse}
-use Rattle.std.proofs.lemmas.Bool.{le-leb, lt-leb}
-use Rattle.std.proofs.lemmas.Bool.Decides.{nat_tests}
-use Rattle.ansi_items.specs.Bytes.{escape}
-use Rattle.ansi_items.specs.Pieces.{Piece, Text, Sequence, LoneEscape}
-use Rattle.ansi_items.specs.Plain.{Mark, Placed, mark_of, moved, marks_of, marks, places, up_to, has_escape}
-use Rattle.ansi_style.specs.Rendition.{Rendition}
-use Rattle.ansi_style.specs.Sgr.{apply_all, apply}
-use Rattle.ansi_style.specs.Reading.{after_marks}
-use Rattle.ansi_items.proofs.PlainLemmas.{one_text, pieces_of-bare}
+use Rattle.ansi_style.proofs.Common.{◌≡◌, ℕ, suc, ◌+◌, ◌-◌, ◌<◌, ◌≤◌, Bool, true, false, List, [], ◌∷◌, length, map, filter_map, Option, refl, ◌∙◌, ap, ap₂, arith, nat_le, if◌then◌else◌, IsFalse, le-leb, lt-leb, nat_tests, escape, Piece, Text, Sequence, LoneEscape, Mark, Placed, mark_of, moved, marks_of, marks, places, up_to, has_escape, Rendition, apply_all, apply, after_marks, one_text, pieces_of-bare}
 
 -- n plain bytes more stand before the mark
 abbrev pub further : ℕ → Mark → Mark

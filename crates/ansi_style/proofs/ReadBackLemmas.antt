@@ -1,26 +1,5 @@
 -- What is written for codes: how long it is, its pieces, and what it does to a style.
-use Rattle.std.proofs.Common.{◌≡◌, ℕ, ◌+◌, ◌<◌, ◌≤◌, inl, Bool, true, false, not, ◌||◌, List, [], ◌∷◌, ◌++◌, length, map, fold, Option, Some, None, refl, sym, ◌∙◌, ap, arith, codes, decimal, IsTrue, IfSome, length-append, append-nil}
-use Rattle.std.proofs.Math.Bool.{and-true, or-true}
-use Rattle.std.proofs.lemmas.Bool.{and_from, and_parts}
-use Rattle.std.proofs.lemmas.Fmt.{length-decimal-le}
-use Rattle.std.proofs.lemmas.Grind.{flat_map-append}
-use Rattle.std.proofs.lemmas.List.{map-append}
-use Rattle.std.proofs.lemmas.List.Folds.{list_all-append}
-use Rattle.std.proofs.lemmas.List.Sums.{fold-append}
-use Rattle.std.proofs.lemmas.Option.{IfSome_then}
-use Rattle.std.specs.Int.{is_in_range}
-use Rattle.std.specs.List.{list_all}
-use Rattle.std.specs.Str.{byte}
-use Rattle.ansi_items.specs.declared.ansitok.AnsiColor.{AnsiColor}
-use Rattle.ansi_items.specs.declared.ansitok.AnsiColor.TheVariants.{Bit4, Bit8, Bit24}
-use Rattle.ansi_items.specs.Bytes.{escape}
-use Rattle.ansi_items.specs.Sequences.{IsSequence}
-use Rattle.ansi_items.specs.Pieces.{Piece, Sequence}
-use Rattle.ansi_style.specs.Rendition.{Rendition, IsStyle}
-use Rattle.ansi_style.specs.Sgr.{apply_all, apply}
-use Rattle.ansi_style.specs.Written.{written, written_all, when, color_code, color_codes, font_codes, start_codes, close_codes, longest_start, longest_close}
-use Rattle.ansi_style.specs.Reading.{style_after_from}
-use Rattle.ansi_items.proofs.JoinLemmas.{spelled, AllStandAnywhere}
+use Rattle.ansi_style.proofs.Common.{◌≡◌, ℕ, ◌+◌, ◌<◌, ◌≤◌, inl, Bool, true, false, not, ◌||◌, List, [], ◌∷◌, ◌++◌, length, map, fold, Option, Some, None, refl, sym, ◌∙◌, ap, arith, codes, decimal, IsTrue, IfSome, length-append, append-nil, and-true, or-true, and_from, and_parts, length-decimal-le, flat_map-append, map-append, list_all-append, fold-append, IfSome_then, is_in_range, list_all, byte, AnsiColor, Bit4, Bit8, Bit24, escape, IsSequence, Piece, Sequence, Rendition, IsStyle, apply_all, apply, written, written_all, when, color_code, color_codes, font_codes, start_codes, close_codes, longest_start, longest_close, style_after_from, spelled, AllStandAnywhere}
 use Rattle.ansi_style.proofs.StyledLemmas.{style_through, styled_through}
 use Rattle.ansi_style.proofs.SpelledLemmas.{style_after_from-spelled}
 use Rattle.ansi_style.proofs.CodeLemmas.{in_range}

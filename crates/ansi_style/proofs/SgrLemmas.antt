@@ -1,13 +1,6 @@
 -- What is known of a style after a sequence depends on what was known before, and on the sequence.
-use Rattle.std.proofs.Common.{◌≡◌, ℕ, zero, suc, true, false, List, [], ◌∷◌, length, Option, Some, None, is_some, refl, sym, ◌∙◌, ap, find, rules}
-use Rattle.std.proofs.lemmas.Bool.{cond_both}
-use Rattle.std.specs.List.{AllByRecursion}
-use Rattle.std.specs.Option.{option_map_or}
-use Rattle.std.specs.Int.{is_in_range}
-use Rattle.ansi_items.specs.declared.ansitok.AnsiColor.{AnsiColor}
-use Rattle.ansi_items.specs.Sequences.{is_sgr, sgr_parameters}
-use Rattle.ansi_style.specs.Rendition.{Rendition, known}
-use Rattle.ansi_style.specs.Sgr.{Effect, Changes, ReadsColor, Rows, table, rows, unknown_code, effect_of, code_of, effect_of_code, perform, read_color, steps, apply, apply_parameters, fields_of, apply_all}
+use Rattle.ansi_style.proofs.Common.{◌≡◌, ℕ, zero, suc, true, false, List, [], ◌∷◌, length, Option, Some, None, is_some, refl, sym, ◌∙◌, ap, rules, cond_both, AllByRecursion, option_map_or, is_in_range, AnsiColor, is_sgr, sgr_parameters, Rendition, known, Effect, Changes, ReadsColor, Rows, table, rows, unknown_code, effect_of, code_of, effect_of_code, perform, read_color, steps, apply, apply_parameters, fields_of, apply_all}
+use Rattle.std.proofs.Common.{find}
 
 -- what holds of an unknown code, and of each row for the codes in its range, holds of each field
 pub effect_holds : (P : Effect → Type 0) → P unknown_code → AllByRecursion (λ (r : Rows). (n : ℕ) → is_in_range r.first r.last n ≡ true → P (r.effect n)) table → (field : List ℕ) → P (effect_of field)

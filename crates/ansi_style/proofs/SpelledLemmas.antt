@@ -1,12 +1,6 @@
 -- What pieces that stand anywhere spell has their styled bytes; and two whole texts are read in turn.
-use Rattle.std.proofs.Common.{◌≡◌, ℕ, List, ◌++◌, map, sym, ◌∙◌, ap, ap₂, IsTrue}
-use Rattle.ansi_items.specs.Pieces.{Piece, pieces_of}
-use Rattle.ansi_items.specs.Plain.{is_whole, Mark, marks}
-use Rattle.ansi_style.specs.Rendition.{Rendition, plain_style, known}
-use Rattle.ansi_style.specs.Styled.{styled, residue}
-use Rattle.ansi_style.specs.Reading.{styled_from, style_after_from}
+use Rattle.ansi_style.proofs.Common.{◌≡◌, ℕ, List, ◌++◌, map, sym, ◌∙◌, ap, ap₂, IsTrue, Piece, pieces_of, is_whole, Mark, marks, Rendition, plain_style, known, styled, residue, styled_from, style_after_from, AllStandAnywhere, spelled, pieces_of-spelled, pieces_of-append}
 use Rattle.ansi_style.proofs.SgrLemmas.{apply_all-alike}
-use Rattle.ansi_items.proofs.JoinLemmas.{AllStandAnywhere, spelled, pieces_of-spelled, pieces_of-append}
 use Rattle.ansi_style.proofs.StyledLemmas.{styled_through, styled_from-pieces, styled_through-merged, style_through, style_after_from-pieces, style_through-merged, styled_through-append, style_through-append, styled_through-alike}
 
 pub styled_from-spelled : (s : Rendition) (ps : List Piece) → AllStandAnywhere ps → styled_from s (spelled ps) ≡ styled_through s ps

@@ -1,12 +1,5 @@
 -- The start of a style sets it: read from the plain style, and from the style itself.
-use Rattle.std.proofs.Common.{◌≡◌, ℕ, Bool, true, ◌||◌, List, [], ◌++◌, map, Option, Some, None, refl, sym, ◌∙◌, ap, codes, IfSome, IsTrue}
-use Rattle.std.specs.Int.{is_in_range}
-use Rattle.std.proofs.Math.Bool.{or-false, or_self}
-use Rattle.ansi_items.specs.declared.ansitok.AnsiColor.{AnsiColor}
-use Rattle.ansi_style.specs.Rendition.{Rendition, IsStyle, plain_style, known, is_foreground, is_background, is_extended_color}
-use Rattle.ansi_style.specs.Sgr.{apply}
-use Rattle.ansi_style.specs.Written.{written, when, start_codes, font_codes, color_codes, start}
-use Rattle.ansi_style.specs.Reading.{style_after_from}
+use Rattle.ansi_style.proofs.Common.{◌≡◌, ℕ, Bool, true, ◌||◌, List, [], ◌++◌, map, Option, Some, None, refl, sym, ◌∙◌, ap, codes, IfSome, IsTrue, is_in_range, or-false, or_self, AnsiColor, Rendition, IsStyle, plain_style, known, is_foreground, is_background, is_extended_color, apply, written, when, start_codes, font_codes, color_codes, start, style_after_from}
 use Rattle.ansi_style.proofs.SgrLemmas.{apply_all-alike}
 use Rattle.ansi_style.proofs.ColorLemmas.{apply-foreground, apply-background, apply-underline_color, apply-font}
 use Rattle.ansi_style.proofs.ReadBackLemmas.{◌next◌, LeadFrom, lead_when, lead_on, apply_codes, style_after_from-codes, start_codes_are}

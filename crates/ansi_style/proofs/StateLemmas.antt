@@ -1,13 +1,5 @@
 -- The steps of the table, one field after another.
-use Rattle.std.proofs.Common.{◌≡◌, ℕ, zero, suc, ◌<◌, ◌≤◌, List, [], ◌∷◌, length, refl, sym, ◌∙◌, ap, ap₂, arith}
-use Rattle.std.specs.Prelude.{Option, Some, None}
-use Rattle.std.specs.Option.{option_map_or}
-use Rattle.std.proofs.lemmas.Bool.{cond_both}
-use Rattle.ansi_items.specs.declared.ansitok.AnsiColor.{AnsiColor}
-use Rattle.ansi_style.specs.Rendition.{Rendition}
-use Rattle.ansi_items.specs.Sequences.{sgr_parameters}
-use Rattle.ansi_style.specs.Sgr.{Effect, Changes, ReadsColor, unknown_code, effect_of_code, code_of, is_code, color_by_parts, color_by_number, effect_of, perform, step, steps, fields_of, apply_parameters, apply}
-use Rattle.ansi_style.specs.Fields.{first_field}
+use Rattle.ansi_style.proofs.Common.{◌≡◌, ℕ, zero, suc, ◌<◌, ◌≤◌, List, [], ◌∷◌, length, refl, sym, ◌∙◌, ap, ap₂, arith, Option, Some, None, option_map_or, cond_both, AnsiColor, Rendition, sgr_parameters, Effect, Changes, ReadsColor, unknown_code, effect_of_code, code_of, is_code, color_by_parts, color_by_number, effect_of, perform, step, steps, fields_of, apply_parameters, apply, first_field}
 
 -- no more than n fields are left
 abbrev LeavesUpTo : ℕ → Option AnsiColor × List (List ℕ) → Type 0

@@ -1,11 +1,5 @@
 -- Worked examples of the SGR table, of starts and of closes, each by computation.
-use Rattle.std.proofs.Common.{◌≡◌, ℕ, [], ◌∷◌, map, refl, codes, ◌+◌, Bool, filter, ◌++◌, true, false, Some, length}
-use Rattle.std.specs.List.{range_with_len}
-use Rattle.std.specs.Fmt.{digits}
-use Rattle.ansi_items.specs.declared.ansitok.AnsiColor.TheVariants.{Bit4, Bit8, Bit24}
-use Rattle.ansi_style.specs.Rendition.{Rendition, plain_style, known, has_any}
-use Rattle.ansi_style.specs.Sgr.{effect_of_code, perform, apply_parameters, apply}
-use Rattle.ansi_style.specs.Written.{start, close, longest_start, longest_close, longest_start_and_close}
+use Rattle.ansi_style.proofs.Common.{◌≡◌, ℕ, [], ◌∷◌, map, refl, codes, ◌+◌, Bool, filter, ◌++◌, true, false, Some, length, range_with_len, digits, Bit4, Bit8, Bit24, Rendition, plain_style, known, has_any, effect_of_code, perform, apply_parameters, apply, start, close, longest_start, longest_close, longest_start_and_close}
 
 -- The table.
 

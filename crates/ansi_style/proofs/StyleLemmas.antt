@@ -1,22 +1,6 @@
 -- Sequences make styles of styles: each color and font that they select is in its range.
-use Rattle.std.proofs.Common.{◌≡◌, ℕ, zero, suc, Bool, true, ◌&&◌, List, [], ◌∷◌, length, Option, Some, None, refl, sym, IsTrue, IfSome, nat_le, nat_lt, arith, map, true≢false, rules, if◌then◌else◌}
-use Rattle.std.proofs.lemmas.Bool.{cond_both, and_from, or_left, or_right}
-use Rattle.std.proofs.lemmas.Bool.Decides.{nat_tests}
+use Rattle.ansi_style.proofs.Common.{◌≡◌, ℕ, zero, suc, Bool, true, ◌&&◌, List, [], ◌∷◌, length, Option, Some, None, refl, sym, IsTrue, IfSome, nat_le, nat_lt, arith, map, true≢false, rules, if◌then◌else◌, cond_both, and_from, or_left, or_right, nat_tests, option_map_or, ForSome, is_in_range, all_ascii_digits, digits_value, AnsiColor, Bit4, Bit8, Bit24, Style, rendition_of, sgr_parameters, Mark, marks, up_to, Rendition, is_foreground, is_background, is_extended_color, IsStyle, plain_style, known, Effect, Changes, ReadsColor, effect_of, color_number, color_by_parts, color_by_number, read_color, is_code, perform, steps, step, apply, apply_parameters, fields_of, apply_all, style_at, style_after, style_after_from}
 use Rattle.std.specs.Prelude.{unwrap_or}
-use Rattle.std.specs.Option.{option_map_or, ForSome}
-use Rattle.std.specs.Int.{is_in_range}
-use Rattle.std.specs.Str.{all_ascii_digits}
-use Rattle.std.specs.Str.Parse.{digits_value}
-use Rattle.ansi_items.specs.declared.ansitok.AnsiColor.{AnsiColor}
-use Rattle.ansi_items.specs.declared.ansitok.AnsiColor.TheVariants.{Bit4, Bit8, Bit24}
-use Rattle.ansi_style.specs.declared.state.Style.{Style}
-use Rattle.ansi_style.specs.States.{rendition_of}
-use Rattle.ansi_items.specs.Sequences.{sgr_parameters}
-use Rattle.ansi_items.specs.Plain.{Mark, marks, up_to}
-use Rattle.ansi_style.specs.Rendition.{Rendition, is_foreground, is_background, is_extended_color, IsStyle, plain_style, known}
-use Rattle.ansi_style.specs.Sgr.{Effect, Changes, ReadsColor, effect_of, color_number, color_by_parts, color_by_number, read_color, is_code, perform, steps, step, apply, apply_parameters, fields_of, apply_all}
-use Rattle.ansi_style.specs.Styled.{style_at, style_after}
-use Rattle.ansi_style.specs.Reading.{style_after_from}
 use Rattle.ansi_style.proofs.SgrLemmas.{effect_holds}
 
 -- the ranges, field by field

@@ -1,13 +1,5 @@
 -- The styled bytes of a text, from its pieces in turn.
-use Rattle.std.proofs.Common.{◌≡◌, ℕ, zero, suc, ◌+◌, ◌<◌, List, [], ◌∷◌, ◌++◌, map, length, refl, sym, ◌∙◌, ap, ap₂, arith, append_assoc, slice_index}
-use Rattle.std.proofs.lemmas.List.{map-append}
-use Rattle.std.specs.List.{range_with_len}
-use Rattle.ansi_items.specs.Pieces.{Piece, Text, Sequence, LoneEscape, after_text, merged, pieces_of}
-use Rattle.ansi_items.specs.Plain.{plain_of, marks_of, plain}
-use Rattle.ansi_style.specs.Rendition.{Rendition, known, plain_style}
-use Rattle.ansi_style.specs.Sgr.{apply}
-use Rattle.ansi_style.specs.Styled.{StyledByte, styled, bytes_of}
-use Rattle.ansi_style.specs.Reading.{after_marks, styled_from, style_after_from}
+use Rattle.ansi_style.proofs.Common.{◌≡◌, ℕ, zero, suc, ◌+◌, ◌<◌, List, [], ◌∷◌, ◌++◌, map, length, refl, sym, ◌∙◌, ap, ap₂, arith, append_assoc, slice_index, map-append, range_with_len, Piece, Text, Sequence, LoneEscape, after_text, merged, pieces_of, plain_of, marks_of, plain, Rendition, known, plain_style, apply, StyledByte, styled, bytes_of, after_marks, styled_from, style_after_from}
 use Rattle.ansi_style.proofs.MarkLemmas.{style_by_marks, style_by_marks-before, style_by_marks-text, style_by_marks-sequence, style_by_marks-lone, marks_of-text, after_marks-further, marks_of-sequence, marks_of-lone}
 use Rattle.ansi_style.proofs.SgrLemmas.{apply-alike}
 

@@ -1,15 +1,5 @@
 -- Worked examples of each row of the three tables, by computation: what a code sets, how a style is written, and what a color is called.
-use Rattle.std.proofs.Common.{◌≡◌, ℕ, List, [], ◌∷◌, ◌++◌, map, filter, not, refl, codes, true, false, Some, None}
-use Rattle.std.specs.List.{range_with_len}
-use Rattle.std.specs.Fmt.{digits}
-use Rattle.ansi_items.specs.declared.ansitok.AnsiColor.{AnsiColor}
-use Rattle.ansi_items.specs.declared.ansitok.AnsiColor.TheVariants.{Bit4, Bit8, Bit24}
-use Rattle.ansi_style.specs.declared.style.color.Color.{Color}
-use Rattle.ansi_style.specs.declared.style.color.Color.TheVariants.{Black, BrightBlack, Red, BrightRed, Green, BrightGreen, Yellow, BrightYellow, Blue, BrightBlue, Magenta, BrightMagenta, Cyan, BrightCyan, White, BrightWhite, Fixed, Rgb}
-use Rattle.ansi_style.specs.Rendition.{Rendition, plain_style, has_any}
-use Rattle.ansi_style.specs.Sgr.{effect_of_code, perform, apply_parameters}
-use Rattle.ansi_style.specs.Written.{start, close}
-use Rattle.ansi_style.specs.Colors.{color_of}
+use Rattle.ansi_style.proofs.Common.{◌≡◌, ℕ, List, [], ◌∷◌, ◌++◌, map, filter, not, refl, codes, true, false, Some, None, range_with_len, digits, AnsiColor, Bit4, Bit8, Bit24, Color, Black, BrightBlack, Red, BrightRed, Green, BrightGreen, Yellow, BrightYellow, Blue, BrightBlue, Magenta, BrightMagenta, Cyan, BrightCyan, White, BrightWhite, Fixed, Rgb, Rendition, plain_style, has_any, effect_of_code, perform, apply_parameters, start, close, color_of}
 
 -- The SGR table.
 

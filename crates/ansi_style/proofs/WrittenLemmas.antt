@@ -1,15 +1,5 @@
 -- What the code writes for a start and a close, row by row, as the definitions have it.
-use Rattle.std.proofs.Common.{◌≡◌, ℕ, Bool, true, false, List, [], ◌∷◌, ◌++◌, ◌&&◌, ◌||◌, ◌==◌, ◌+◌, ◌^◌, not, is_some, codes, refl, sym, ◌∙◌, ap, ap₂, append_assoc, append-nil, bit_and, nat_lt, if◌then◌else◌}
-use Rattle.std.proofs.Math.Bool.{or-false}
-use Rattle.std.proofs.lemmas.Grind.{flat_map-append}
-use Rattle.std.proofs.lemmas.Nat.{and_assoc}
-use Rattle.std.specs.Prelude.{flat_map}
-use Rattle.ansi_style.specs.declared.state.Style.{Style}
-use Rattle.ansi_style.specs.declared.state.attributes.Attributes.{Attributes}
-use Rattle.ansi_style.specs.declared.state.attributes.TheConstants.Attributes.{INTENSITY, LETTERS, SHAPES, FRAMES, ENDS, IDEOGRAM}
-use Rattle.ansi_style.specs.declared.state.written.TheConstants.{START_INTENSITY, START_LETTERS, START_SHAPES, START_FRAMES, CLOSE_LETTERS, CLOSE_FRAMES, CLOSE_ENDS}
-use Rattle.ansi_style.specs.States.{has, has_one, rendition_of}
-use Rattle.ansi_style.specs.Written.{written, written_all, when, color_codes, font_codes, start_codes, close_codes, start, close}
+use Rattle.ansi_style.proofs.Common.{◌≡◌, ℕ, Bool, true, false, List, [], ◌∷◌, ◌++◌, ◌&&◌, ◌||◌, ◌==◌, ◌+◌, ◌^◌, not, is_some, codes, refl, sym, ◌∙◌, ap, ap₂, append_assoc, append-nil, bit_and, nat_lt, if◌then◌else◌, or-false, flat_map-append, and_assoc, flat_map, Style, Attributes, INTENSITY, LETTERS, SHAPES, FRAMES, ENDS, IDEOGRAM, START_INTENSITY, START_LETTERS, START_SHAPES, START_FRAMES, CLOSE_LETTERS, CLOSE_FRAMES, CLOSE_ENDS, has, has_one, rendition_of, written, written_all, when, color_codes, font_codes, start_codes, close_codes, start, close}
 use Rattle.ansi_style.proofs.BitsLemmas.{has_one-places, has_one_in_last}
 
 -- Whether a set has one of some attributes.

@@ -1,16 +1,6 @@
 -- The order of styles is that of their parts, in turn, and that of colors by their names is that of their ranks.
-use Rattle.std.proofs.Common.{◌≡◌, ℕ, Bool, true, false, Option, Some, None, refl, ap}
-use Rattle.std.specs.Ordering.{ordering_then, bool_cmp, nat_cmp}
-use Rattle.std.specs.Option.{option_cmp}
-use Rattle.ansi_items.specs.declared.ansitok.AnsiColor.{AnsiColor}
-use Rattle.ansi_items.specs.declared.ansitok.AnsiColor.TheVariants.{Bit4, Bit8, Bit24}
-use Rattle.ansi_items.specs.contracts.ansitok.AnsiColorOrd.TheImpl.{ghosts}
-use Rattle.ansi_items.specs.AnsiColors.{compared}
-use Rattle.ansi_style.specs.declared.style.color.Color.{Color}
-use Rattle.ansi_style.specs.declared.style.color.Color.TheVariants.{Black, Fixed, Rgb}
+use Rattle.ansi_style.proofs.Common.{◌≡◌, ℕ, Bool, true, false, Option, Some, None, refl, ap, ordering_then, bool_cmp, nat_cmp, option_cmp, AnsiColor, Bit4, Bit8, Bit24, ghosts, compared, Color, Black, Fixed, Rgb, color_key, part_of_color, part_of_font, part_of_attribute, alone, same_ansi_color}
 use Rattle.ansi_style.specs.contracts.style.color.ColorOrd.TheImpl.{ghosts as named}
-use Rattle.ansi_style.specs.Orders.{color_key, part_of_color, part_of_font, part_of_attribute}
-use Rattle.ansi_items.proofs.AnsiColorLemmas.{alone, same_ansi_color}
 use Rattle.ansi_style.proofs.laws.orders_go_by_parts.Goals as goal
 
 same_attribute : (x y : Bool) → bool_cmp x y ≡ compared (part_of_attribute x) (part_of_attribute y)

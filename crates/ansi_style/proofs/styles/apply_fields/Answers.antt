@@ -1,5 +1,4 @@
-use Rattle.std.proofs.Common.{◌∙◌}
-use Rattle.ansi_style.specs.States.{rendition_of}
+use Rattle.ansi_style.proofs.Common.{◌∙◌, rendition_of}
 use Rattle.ansi_style.proofs.StateLemmas.{after_fields-code}
 use Rattle.ansi_style.proofs.styles.apply_fields.Goals as goal
 

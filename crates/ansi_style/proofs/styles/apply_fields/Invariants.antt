@@ -1,5 +1,4 @@
-use Rattle.std.proofs.Common.{◌≡◌, length}
-use Rattle.ansi_style.specs.States.{rendition_of}
+use Rattle.ansi_style.proofs.Common.{◌≡◌, length, rendition_of}
 use Rattle.ansi_style.proofs.StateLemmas.{after_fields}
 use Rattle.ansi_style.proofs.styles.apply_fields.Given as goal
 

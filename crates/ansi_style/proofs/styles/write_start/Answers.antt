@@ -1,5 +1,4 @@
-use Rattle.std.proofs.Common.{sym, ◌∙◌, refl, append-nil}
-use Rattle.ansi_style.specs.States.{rendition_of}
+use Rattle.ansi_style.proofs.Common.{sym, ◌∙◌, refl, append-nil, rendition_of}
 use Rattle.ansi_style.proofs.UnsetLemmas.{start-unknown}
 use Rattle.ansi_style.proofs.styles.write_start.Goals as goal
 

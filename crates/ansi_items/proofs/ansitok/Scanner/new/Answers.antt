@@ -1,5 +1,4 @@
-use Rattle.std.proofs.Common.{arith}
-use Rattle.std.proofs.lemmas.Str.{IsCharBoundary-start}
+use Rattle.ansi_items.proofs.Common.{arith, IsCharBoundary-start}
 use Rattle.ansi_items.proofs.PieceLemmas.{are_pieces}
 use Rattle.ansi_items.proofs.ansitok.Scanner.new.Goals as goal
 

@@ -1,5 +1,4 @@
-use Rattle.std.proofs.Common.{◌<◌, ◌^◌, min, arith}
-use Rattle.ansi_style.specs.States.{rendition_of, with_attributes}
+use Rattle.ansi_style.proofs.Common.{◌<◌, ◌^◌, min, arith, rendition_of, with_attributes}
 use Rattle.ansi_style.proofs.BitsLemmas.{has-without}
 use Rattle.ansi_style.proofs.state.Style.clear.Goals as goal
 

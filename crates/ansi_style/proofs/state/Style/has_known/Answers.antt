@@ -1,5 +1,4 @@
-use Rattle.std.proofs.Math.Bool.{or_assoc, or-false}
-use Rattle.ansi_style.specs.States.{rendition_of}
+use Rattle.ansi_style.proofs.Common.{or_assoc, or-false, rendition_of}
 use Rattle.ansi_style.proofs.BitsLemmas.{has_one-places}
 use Rattle.ansi_style.proofs.state.Style.has_known.Goals as goal
 

@@ -1,8 +1,4 @@
-use Rattle.std.proofs.Common.{◌≡◌, ◌∙◌, true, false, not, ◌&&◌, ap, arith}
-use Rattle.std.proofs.lemmas.Bool.Decides.{nat_tests}
-use Rattle.ansi_style.specs.Rendition.{Rendition}
-use Rattle.ansi_style.specs.States.{has, rendition_of, with_attributes}
-use Rattle.ansi_style.specs.declared.state.attributes.TheConstants.Attributes.{ITALIC_OR_FRAKTUR}
+use Rattle.ansi_style.proofs.Common.{◌≡◌, ◌∙◌, true, false, not, ◌&&◌, ap, arith, nat_tests, Rendition, has, rendition_of, with_attributes, ITALIC_OR_FRAKTUR}
 use Rattle.ansi_style.proofs.CodeLemmas.{effect_of_code-foreground, effect_of_code-background, is_in_table, effect_of_code-outside}
 use Rattle.ansi_style.proofs.state.Style.perform.Goals as goal
 use Rattle.ansi_style.proofs.state.Style.perform.Goals.{then-code-lt38, else-code-lt38+else-code-lt48+else-code-lt90+then-code-lt98, then-code-lt48, else-code-lt48+else-code-lt90+else-code-lt98+else-code-lt100+then-code-lt108, in_default-via-then-code-lt90, in_default-via-else-code-lt90+else-code-lt98+then-code-lt100, in_default-via-else-code-lt90+else-code-lt98+else-code-lt100+else-code-lt108}

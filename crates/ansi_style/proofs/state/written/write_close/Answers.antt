@@ -1,6 +1,4 @@
-use Rattle.std.proofs.Common.{true, refl}
-use Rattle.std.proofs.lemmas.Grind.{put_five}
-use Rattle.ansi_style.specs.States.{rendition_of}
+use Rattle.ansi_style.proofs.Common.{true, refl, put_five, rendition_of}
 use Rattle.ansi_style.proofs.WrittenLemmas.{close_by_rows}
 use Rattle.ansi_style.proofs.state.written.write_close.Goals as goal
 

@@ -1,6 +1,4 @@
-use Rattle.std.proofs.Common.{true, refl, append_assoc}
-use Rattle.std.proofs.lemmas.Grind.{put_three, flat_map-append}
-use Rattle.ansi_style.specs.States.{rendition_of}
+use Rattle.ansi_style.proofs.Common.{true, refl, append_assoc, put_three, flat_map-append, rendition_of}
 use Rattle.ansi_style.proofs.state.written.write_colors.Goals as goal
 
 -- the three colors, one after another

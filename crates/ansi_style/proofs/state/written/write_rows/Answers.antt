@@ -1,6 +1,4 @@
-use Rattle.std.proofs.Common.{◌≡◌, ℕ, List, [], ◌∷◌, refl, sym, ◌∙◌, flat_map, arith}
-use Rattle.std.proofs.lemmas.Bool.{eqb-true}
-use Rattle.std.proofs.lemmas.Grind.{common_steps}
+use Rattle.ansi_style.proofs.Common.{◌≡◌, ℕ, List, [], ◌∷◌, refl, sym, ◌∙◌, flat_map, arith, eqb-true, common_steps}
 use Rattle.ansi_style.proofs.state.written.write_rows.Goals as goal
 
 nothing : {X : Type 0} (rows : List X) → flat_map {A = ℕ} (λ (row : X). []) rows ≡ []

@@ -1,6 +1,4 @@
-use Rattle.std.proofs.Common.{[], flat_map, take, if◌then◌else◌}
-use Rattle.std.specs.Fmt.{HasWritten, IsPlainFormatter}
-use Rattle.ansi_style.specs.States.{has_one}
+use Rattle.ansi_style.proofs.Common.{[], flat_map, take, if◌then◌else◌, HasWritten, IsPlainFormatter, has_one}
 use Rattle.ansi_style.proofs.state.written.write_rows.Given as goal
 
 -- the rows so far are written

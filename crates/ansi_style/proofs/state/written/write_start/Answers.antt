@@ -1,6 +1,4 @@
-use Rattle.std.proofs.Common.{true, refl}
-use Rattle.std.proofs.lemmas.Grind.{put_six}
-use Rattle.ansi_style.specs.States.{rendition_of}
+use Rattle.ansi_style.proofs.Common.{true, refl, put_six, rendition_of}
 use Rattle.ansi_style.proofs.WrittenLemmas.{start_by_rows}
 use Rattle.ansi_style.proofs.state.written.write_start.Goals as goal
 

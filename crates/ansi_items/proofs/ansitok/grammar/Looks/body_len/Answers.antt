@@ -1,7 +1,4 @@
-use Rattle.std.proofs.Common.{sym, ◌∙◌, ap}
-use Rattle.std.proofs.lemmas.Bool.{ne_eqb}
-use Rattle.std.specs.List.{prefix_len}
-use Rattle.ansi_items.specs.Bytes.{is_body_byte}
+use Rattle.ansi_items.proofs.Common.{sym, ◌∙◌, ap, ne_eqb, prefix_len, is_body_byte}
 use Rattle.ansi_items.proofs.CountLemmas.{body_found, text_is_body}
 use Rattle.ansi_items.proofs.ansitok.grammar.Looks.body_len.Goals as goal
 

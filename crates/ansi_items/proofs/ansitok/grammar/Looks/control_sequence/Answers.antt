@@ -1,7 +1,4 @@
-use Rattle.std.proofs.Common.{◌≡◌, ◌+◌, ◌==◌, ◌&&◌, not, false, Some, ◌∙◌, ap, arith}
-use Rattle.std.proofs.lemmas.Bool.Decides.{nat_tests}
-use Rattle.ansi_items.specs.Sequences.{are_private}
-use Rattle.ansi_items.specs.Fronts.{front_of}
+use Rattle.ansi_items.proofs.Common.{◌≡◌, ◌+◌, ◌==◌, ◌&&◌, not, false, Some, ◌∙◌, ap, arith, nat_tests, are_private, front_of}
 use Rattle.ansi_items.proofs.FrontLemmas.{control_at-final, control_at-other, unless_private}
 use Rattle.ansi_items.proofs.ansitok.grammar.Looks.control_sequence.Goals as goal
 

@@ -1,7 +1,4 @@
-use Rattle.std.proofs.Common.{◌+◌, sym, ◌∙◌, subst}
-use Rattle.std.specs.Prelude.{drop}
-use Rattle.ansi_items.specs.declared.ansitok.grammar.Front.{Front}
-use Rattle.ansi_items.specs.Counts.{CostsFound, CostsFront}
+use Rattle.ansi_items.proofs.Common.{◌+◌, sym, ◌∙◌, subst, drop, Front, CostsFound, CostsFront}
 use Rattle.ansi_items.proofs.CountLemmas.{front_cost}
 use Rattle.ansi_items.proofs.ansitok.grammar.Looks.first_front.Goals as goal
 

@@ -1,6 +1,4 @@
-use Rattle.std.proofs.Common.{arith}
-use Rattle.std.proofs.lemmas.Grind.{common_steps}
-use Rattle.ansi_items.specs.Fronts.{sequence_at}
+use Rattle.ansi_items.proofs.Common.{arith, common_steps, sequence_at}
 use Rattle.ansi_items.proofs.ansitok.grammar.Looks.sequence.Goals as goal
 
 pub returns-in-91-clause-front : goal.returns-in-91-clause-front

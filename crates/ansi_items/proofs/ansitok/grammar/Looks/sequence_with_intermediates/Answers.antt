@@ -1,5 +1,4 @@
-use Rattle.std.proofs.Common.{refl, arith}
-use Rattle.std.proofs.lemmas.Bool.Decides.{nat_tests}
+use Rattle.ansi_items.proofs.Common.{refl, arith, nat_tests}
 use Rattle.ansi_items.proofs.CountLemmas.{control_within}
 use Rattle.ansi_items.proofs.FrontLemmas.{not_alone, control_at-later, control_at-unended}
 use Rattle.ansi_items.proofs.ansitok.grammar.Looks.sequence_with_intermediates.Goals as goal

@@ -1,8 +1,4 @@
-use Rattle.std.proofs.Common.{◌≡◌, ◌+◌, suc, true, [], sym, ◌∙◌, ap, ap₂, fold, take, drop, Some, arith}
-use Rattle.std.specs.Option.{option_map_or}
-use Rattle.std.proofs.lemmas.List.{take_rest, take_all}
-use Rattle.ansi_style.specs.Sgr.{fields_of, code_of}
-use Rattle.ansi_style.specs.Fields.{first_field, with_digit}
+use Rattle.ansi_style.proofs.Common.{◌≡◌, ◌+◌, suc, true, [], sym, ◌∙◌, ap, ap₂, fold, take, drop, Some, arith, option_map_or, take_rest, take_all, fields_of, code_of, first_field, with_digit}
 use Rattle.ansi_style.proofs.FieldLemmas.{fields_of-cut, fields_of-uncut, if_small, code_of-read}
 use Rattle.ansi_style.proofs.state.fields.Fields.next_field.Goals as goal
 

@@ -1,6 +1,4 @@
-use Rattle.std.proofs.Common.{◌≡◌, ◌≢◌, ℕ, ◌<◌, fold, take, get_or}
-use Rattle.std.specs.Str.{byte}
-use Rattle.ansi_style.specs.Fields.{with_digit}
+use Rattle.ansi_style.proofs.Common.{◌≡◌, ◌≢◌, ℕ, ◌<◌, fold, take, get_or, byte, with_digit}
 use Rattle.ansi_style.proofs.state.fields.Fields.next_field.Given as goal
 
 -- no semicolon so far, and the digits so far are read
