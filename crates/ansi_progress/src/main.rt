@@ -6,12 +6,16 @@
 
 ghost use Rattle.std.specs.Prelude.{◌≤◌};
 
+use ansi_columns::AnsiColumns;
 use ansi_str::{AnsiBlock, get_blocks};
 use anyhow::Context;
 use std::alloc::{AllocError, Global};
 use std::env;
 
 const STEPS: u32 = 20;
+
+// Names end at this column.
+const NAME_COLUMNS: usize = 8;
 
 #[derive(Drop)]
 struct Task<'t> {
@@ -63,8 +67,9 @@ fn main(rt: HostRuntime) -> anyhow::Result<()> {
         let count = task.done_of(STEPS);
         let steps_done = steps_of(alloc, &done, count)?;
         let steps_left = steps_of(alloc, &left, STEPS - count)?;
+        let blanks = " ".repeat(alloc, NAME_COLUMNS.saturating_sub(task.name.ansi_width()))?;
         println!(rt;
-            "{:>8} {steps_done}{steps_left} {:>3}%",
+            "{blanks}{} {steps_done}{steps_left} {:>3}%",
             task.name,
             task.done_of(100)
         )?;

@@ -4,36 +4,18 @@
 //! cell that is too wide is cut, one that is too narrow is filled up with blanks, and its styles end with it.
 #![tactic(auto)]
 
+use ansi_columns::AnsiColumns;
 use ansi_str::AnsiStr;
 use anyhow::Context;
 use std::alloc::{AllocError, Global};
 use std::env;
 use std::fmt::Write;
-use unicode_width::UnicodeWidthStr;
 
-// The longest beginning of a plain text that fits into so many columns: how many bytes it has, and how
-// many columns it takes.
-fn fitting(plain: &str, width: usize) -> (usize, usize) {
-    let mut fits = (0, 0);
-    for (start, character) in plain.char_indices() {
-        let end = start + character.len_utf8();
-        let columns = plain.get(..end).map_or(0, |front| front.width());
-        if columns > width {
-            break;
-        }
-        fits = (end, columns);
-    }
-    fits
-}
-
-// Appends a cell, cut or filled up to the width. It is cut between two characters, so the range is good.
+// Appends a cell, cut or filled up to the width. The position up to which it fits is a good one to cut at.
 fn push_cell(alloc: Global, row: &mut String, cell: &str, width: usize) -> Result<(), AllocError> {
-    let plain = cell.ansi_strip(alloc)?;
-    let (end, columns) = fitting(plain.as_str(), width);
-    let blanks = " ".repeat(alloc, width.saturating_sub(columns))?;
-    if let Some(shown) = cell.ansi_get(alloc, ..end)? {
-        write!(row, " {shown}{blanks} |")?;
-    }
+    let shown = cell.ansi_cut(alloc, ..cell.ansi_fitting(width))?;
+    let blanks = " ".repeat(alloc, width.saturating_sub(shown.ansi_width()))?;
+    write!(row, " {shown}{blanks} |")?;
     Ok(())
 }
 

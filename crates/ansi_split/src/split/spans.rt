@@ -5,6 +5,7 @@ ghost use Rattle.ansi_items.specs.Plain.{plain, marks, has_escape};
 ghost use Rattle.ansi_slice.specs.Cut.{show};
 ghost use Rattle.ansi_slice.specs.Positions.{is_char_boundary};
 ghost use Rattle.ansi_style.specs.Rendition.{plain_style};
+ghost use Rattle.ansi_style.specs.Written.{longest_start_and_close};
 ghost use Rattle.ansi_split.specs.Splits.{IsPart};
 ghost use Rattle.ansi_split.specs.Spans.{parts_left};
 
@@ -16,9 +17,9 @@ use std::alloc::{AllocError, Allocator};
 use std::borrow::CowStr;
 use std::marker::Model;
 
-/// The most bytes that a start and a close have together. It is room alone, asked for before they are
-/// written: so a part never grows, and keeps no more than this beyond its length.
-const STYLE_ROOM: usize = 163 + 88;
+/// A start and a close have at most so many bytes together, `longest_start_and_close`. It is room alone,
+/// asked for before they are written: so a part never grows, and keeps no more than this beyond its length.
+const STYLE_ROOM: usize = 251;
 
 /// What one part is written from. Contracts see it as that part.
 #[derive(Drop)]
@@ -63,7 +64,7 @@ impl<'t> Span<'t> {
     /// is carried.
     fn bare(&self) -> Option<&'t str>
         ensures part { MatchOption result (IsFalse self.now.borrowed) (λ bare. (bare.now ≡ self.now.bytes) × IsTrue self.now.borrowed) }
-        ensures len { length self.now.bytes ≤ self.now.share + 251 }
+        ensures len { length self.now.bytes ≤ self.now.share + longest_start_and_close }
     {
         if self.is_marked {
             return None;
