@@ -14,7 +14,7 @@
    `free` before it returns, where it has to: never on a text without ESC, unless that is said of it. It must not
    run in a signal handler, nor in the forked child of a process with threads.
 
-   Link with libansi_str_c.a and, after it, with liblibc_c.a of the kit (docs/BINDINGS.md says where they lie). */
+   A program is C99 or C++11, or later. `pkg-config --cflags --libs ansi_str` says how to link it with what is installed. */
 #ifndef ANSI_STR_H
 #define ANSI_STR_H
 
