@@ -37,6 +37,11 @@ struct Sequences<const MOST: usize> {
 }
 
 impl<const MOST: usize> Sequences<MOST> {
+    const EMPTY: Self = Sequences {
+        len: 0,
+        bytes: [0; MOST],
+    };
+
     fn of(text: &str) -> Self {
         let mut bytes = [0; MOST];
         bytes[..text.len()].copy_from_slice(text.as_bytes());
@@ -67,6 +72,16 @@ pub struct Style {
 }
 
 impl Style {
+    /// That of a text without ESC.
+    pub(crate) const EMPTY: Style = Style {
+        attributes: 0,
+        foreground: None,
+        background: None,
+        has_any: false,
+        start: Sequences::EMPTY,
+        end: Sequences::EMPTY,
+    };
+
     pub(crate) fn new(
         attributes: u32,
         (foreground, background): (Option<Color>, Option<Color>),
