@@ -23,6 +23,14 @@ pub fn get_blocks(text: &str) -> AnsiBlockIter<'_> {
 }
 
 /// A run of text in one style, after the sequences before it that set no style.
+///
+/// ```
+/// use ansi_str::get_blocks;
+/// for block in get_blocks("\x1b[31mred\x1b[39m fox") {
+///     let style = block.style();
+///     println!("{}{}{}", style.start(), block.text(), style.end());
+/// }
+/// ```
 #[derive(Debug, Clone, PartialEq, Eq)]
 pub struct AnsiBlock<'a> {
     text: Cow<'a, str>,
@@ -31,22 +39,49 @@ pub struct AnsiBlock<'a> {
 
 impl AnsiBlock<'_> {
     /// The text, with those sequences.
+    ///
+    /// ```
+    /// use ansi_str::get_blocks;
+    /// let block = get_blocks("\x1b[31mred\x1b[39m").next().unwrap();
+    /// assert_eq!(block.text(), "red");
+    /// ```
+    #[must_use]
     pub fn text(&self) -> &str {
         &self.text
     }
 
     /// Whether the style has something to end.
+    ///
+    /// ```
+    /// use ansi_str::get_blocks;
+    /// let blocks = get_blocks("\x1b[31mred\x1b[39m fox");
+    /// assert!(blocks.map(|block| block.has_ansi()).eq([true, false]));
+    /// ```
+    #[must_use]
     pub fn has_ansi(&self) -> bool {
         self.style.has_any()
     }
 
     /// The style of the run.
+    ///
+    /// ```
+    /// use ansi_str::get_blocks;
+    /// let block = get_blocks("\x1b[1mbold").next().unwrap();
+    /// assert!(block.style().is_bold());
+    /// ```
+    #[must_use]
     pub fn style(&self) -> &Style {
         &self.style
     }
 }
 
 /// The blocks of a text, in order, which [`get_blocks`] gives.
+///
+/// ```
+/// use ansi_str::get_blocks;
+/// let blocks = get_blocks("\x1b[31mred\x1b[39m fox");
+/// assert_eq!(blocks.size_hint(), (2, Some(2)));
+/// ```
 #[derive(Debug, Clone)]
 #[must_use = "iterators are lazy and do nothing unless consumed"]
 pub struct AnsiBlockIter<'a>(Blocks<'a>);

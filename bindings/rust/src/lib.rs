@@ -18,6 +18,8 @@
 //! assert_eq!(log.ansi_find("d and"), Some(2));
 //! ```
 
+#![warn(missing_docs)]
+
 mod blocks;
 mod calls;
 mod style;
@@ -37,6 +39,13 @@ const ESC: u8 = 0x1b;
 pub trait AnsiStr {
     /// The text of a range, as [`ansi_cut`](AnsiStr::ansi_cut) gives it, or `None` where a position lies inside a
     /// character or the end below the start.
+    ///
+    /// ```
+    /// use ansi_str::AnsiStr;
+    /// assert_eq!("\x1b[31mred\x1b[39m".ansi_get(1..).unwrap(), "\x1b[31med\x1b[39m");
+    /// assert_eq!("\u{e9}".ansi_get(1..), None);
+    /// ```
+    #[must_use]
     fn ansi_get<R: RangeBounds<usize>>(&self, range: R) -> Option<Cow<'_, str>>;
 
     /// The text of a range: its plain bytes, every sequence up to its end, each at its place, and the close of the style
@@ -50,22 +59,59 @@ pub trait AnsiStr {
     /// use ansi_str::AnsiStr;
     /// assert_eq!("\x1b[30mTEXT\x1b[39m".ansi_cut(1..3), "\x1b[30mEX\x1b[39m");
     /// ```
+    #[must_use]
     #[track_caller]
     fn ansi_cut<R: RangeBounds<usize>>(&self, range: R) -> Cow<'_, str>;
 
     /// Whether a character of the plain text begins at the index, or the plain text ends there.
+    ///
+    /// ```
+    /// use ansi_str::AnsiStr;
+    /// let text = "\x1b[31m\u{e9}a\x1b[39m";
+    /// assert!(text.ansi_is_char_boundary(2));
+    /// assert!(!text.ansi_is_char_boundary(1));
+    /// ```
+    #[must_use]
     fn ansi_is_char_boundary(&self, index: usize) -> bool;
 
     /// The last character boundary of the plain text that isn't past the index. The Rust crate lacks it.
+    ///
+    /// ```
+    /// use ansi_str::AnsiStr;
+    /// assert_eq!("\x1b[1mL\u{f6}we".ansi_floor_char_boundary(2), 1);
+    /// ```
+    #[must_use]
     fn ansi_floor_char_boundary(&self, index: usize) -> usize;
 
     /// Where the pattern first stands in the plain text.
+    ///
+    /// ```
+    /// use ansi_str::AnsiStr;
+    /// assert_eq!("\x1b[31mred\x1b[39m fox".ansi_find("d f"), Some(2));
+    /// ```
+    #[must_use]
     fn ansi_find(&self, pat: &str) -> Option<usize>;
 
     /// The text without a prefix of its plain text, every sequence at its place, or `None` where it isn't there.
+    ///
+    /// ```
+    /// use ansi_str::AnsiStr;
+    /// let text = "\x1b[31mred\x1b[39m";
+    /// assert_eq!(text.ansi_strip_prefix("re").unwrap(), "\x1b[31md\x1b[39m");
+    /// assert_eq!(text.ansi_strip_prefix("d"), None);
+    /// ```
+    #[must_use]
     fn ansi_strip_prefix(&self, prefix: &str) -> Option<Cow<'_, str>>;
 
     /// The text without a suffix of its plain text, every sequence at its place, or `None` where it isn't there.
+    ///
+    /// ```
+    /// use ansi_str::AnsiStr;
+    /// let text = "\x1b[31mred\x1b[39m";
+    /// assert_eq!(text.ansi_strip_suffix("ed").unwrap(), "\x1b[31mr\x1b[39m");
+    /// assert_eq!(text.ansi_strip_suffix("r"), None);
+    /// ```
+    #[must_use]
     fn ansi_strip_suffix(&self, suffix: &str) -> Option<Cow<'_, str>>;
 
     /// The parts of the text between the matches of a pattern in the plain text, each with its sequences and in its
@@ -84,22 +130,61 @@ pub trait AnsiStr {
     /// # Panics
     ///
     /// Where the position lies inside a character.
+    ///
+    /// ```
+    /// use ansi_str::AnsiStr;
+    /// let (left, right) = "\x1b[30mTEXT\x1b[39m".ansi_split_at(2);
+    /// assert_eq!(left, "\x1b[30mTE\x1b[39m");
+    /// assert_eq!(right, "\x1b[30mXT\x1b[39m");
+    /// ```
+    #[must_use]
     #[track_caller]
     fn ansi_split_at(&self, mid: usize) -> (Cow<'_, str>, Cow<'_, str>);
 
     /// Whether the plain text begins with the pattern.
+    ///
+    /// ```
+    /// use ansi_str::AnsiStr;
+    /// assert!("\x1b[31mred\x1b[39m fox".ansi_starts_with("red f"));
+    /// ```
+    #[must_use]
     fn ansi_starts_with(&self, pat: &str) -> bool;
 
     /// Whether the plain text ends with the pattern.
+    ///
+    /// ```
+    /// use ansi_str::AnsiStr;
+    /// assert!("a \x1b[31mred\x1b[39m".ansi_ends_with("a red"));
+    /// ```
+    #[must_use]
     fn ansi_ends_with(&self, pat: &str) -> bool;
 
     /// The text without the white space at the ends of its plain text, every sequence at its place.
+    ///
+    /// ```
+    /// use ansi_str::AnsiStr;
+    /// assert_eq!(" \x1b[31m red \x1b[39m ".ansi_trim(), "\x1b[31mred\x1b[39m");
+    /// ```
+    #[must_use]
     fn ansi_trim(&self) -> Cow<'_, str>;
 
     /// The plain text.
+    ///
+    /// ```
+    /// use ansi_str::AnsiStr;
+    /// assert_eq!("\x1b[31mred\x1b[39m fox".ansi_strip(), "red fox");
+    /// ```
+    #[must_use]
     fn ansi_strip(&self) -> Cow<'_, str>;
 
     /// Whether an ESC stands in the text.
+    ///
+    /// ```
+    /// use ansi_str::AnsiStr;
+    /// assert!("\x1b[31mred\x1b[39m".ansi_has_any());
+    /// assert!(!"red".ansi_has_any());
+    /// ```
+    #[must_use]
     fn ansi_has_any(&self) -> bool;
 }
 
@@ -290,6 +375,13 @@ fn refuse_position(mid: usize) -> ! {
 }
 
 /// The parts of a text, in order, which [`AnsiStr::ansi_split`] gives.
+///
+/// ```
+/// use ansi_str::AnsiStr;
+/// let mut parts = "\x1b[1ma,b\x1b[0m".ansi_split(",");
+/// assert_eq!(parts.nth(1).unwrap(), "\x1b[1mb\x1b[0m");
+/// assert_eq!(parts.next(), None);
+/// ```
 #[derive(Debug, Clone)]
 #[must_use = "iterators are lazy and do nothing unless consumed"]
 pub struct AnsiSplit<'a>(Parts<'a>);
