@@ -126,6 +126,10 @@ class Arguments(unittest.TestCase):
         for name in ansi_str.__all__ + ["__version__"]:
             getattr(ansi_str, name)
 
+    def test_version(self):
+        with open(os.path.join(os.path.dirname(os.path.abspath(__file__)), "pyproject.toml")) as file:
+            self.assertIn('\nversion = "%s"\n' % ansi_str.__version__, file.read())
+
     def test_a_text_that_is_none(self):
         for wrong in (b"abc", None, 1.5, ["a"], bytearray(b"a"), "a\ud800", "\x1b[1m\udfff"):
             surrogate = isinstance(wrong, str)
