@@ -15,6 +15,7 @@ which is the text without its sequences: one past the end counts as the end, how
 """
 
 import ctypes
+import functools
 import mmap
 import operator
 import os
@@ -91,16 +92,19 @@ _split = _call("split", _TEXT, _TEXT, _ROOM, _ROOM, answer=_Answers)
 _blocks = _call("styled_blocks", _TEXT, _ROOM, _ROOM, answer=_Answers)
 
 
-class _Room:
+class _Room(NamedTuple):
     """Memory that a call writes into: given by the system as it is written to, and no other process's after a fork."""
-    __slots__ = ("memory", "address", "size")
+    memory: mmap.mmap
+    address: int
+    size: int
 
-    def __init__(self, size: int) -> None:
-        try:
-            self.memory = mmap.mmap(-1, size, flags=mmap.MAP_PRIVATE | mmap.MAP_ANONYMOUS)
-        except OSError:
-            raise MemoryError from None
-        self.address, self.size = ctypes.addressof(ctypes.c_char.from_buffer(self.memory)), size
+
+def _new(size: int) -> _Room:
+    try:
+        memory = mmap.mmap(-1, size, flags=mmap.MAP_PRIVATE | mmap.MAP_ANONYMOUS)
+    except OSError:
+        raise MemoryError from None
+    return _Room(memory, ctypes.addressof(ctypes.c_char.from_buffer(memory)), size)
 
 
 # The rooms of _SHORT bytes that no call has now. A list's `pop` and `append` are whole in threads and in signal handlers.
@@ -110,27 +114,24 @@ _free: List[_Room] = []
 
 def _taken(size: int) -> _Room:
     if size > _SHORT:
-        return _Room(size)
+        return _new(size)
     try:
         return _free.pop()
     except IndexError:
-        return _Room(_SHORT)
-
-
-def _given_back(room: _Room) -> None:
-    if room.size == _SHORT:
-        _free.append(room)
+        return _new(_SHORT)
 
 
 def _written(call: Callable[..., Any], size: int, *words: Union[bytes, int]) -> Optional[bytes]:
     """What a call writes, with so much room at first, and then with as much as it asks for; None where it is refused."""
     room = _taken(size)
-    answer = call(*words, room.address, room.size)
-    status, length = answer.status, answer.len
-    written = room.memory[:length] if status == _OK else None
-    _given_back(room)
+    memory, address, size = room
+    answer = call(*words, address, size)
+    status = answer.status
+    written = memory[:answer.len] if status == _OK else None
+    if size == _SHORT:
+        _free.append(room)
     if status == _TOO_SMALL:
-        return _written(call, length, *words)
+        return _written(call, answer.len, *words)
     if status == _OUT_OF_MEMORY:
         raise MemoryError
     return written
@@ -138,12 +139,15 @@ def _written(call: Callable[..., Any], size: int, *words: Union[bytes, int]) -> 
 
 def _listed(call: Callable[..., Any], size: int, entry: struct.Struct, count: int, *words: Union[bytes, int]) -> Tuple[bytes, bytes]:
     """What a call writes that gives several texts: their bytes one after the other, and an entry of each."""
-    room, entries = _taken(size), _taken(count * entry.size)
-    answer = call(*words, room.address, room.size, entries.address, entries.size // entry.size)
+    # (the entries stand before the texts)
+    before = count * entry.size
+    room = _taken(before + size)
+    memory, address, whole = room
+    answer = call(*words, address + before, whole - before, address, count)
     status = answer.status
-    listed = (room.memory[:answer.len], entries.memory[:answer.count * entry.size]) if status == _OK else (b"", b"")
-    _given_back(room)
-    _given_back(entries)
+    listed = (memory[before:before + answer.len], memory[:answer.count * entry.size]) if status == _OK else (b"", b"")
+    if whole == _SHORT:
+        _free.append(room)
     if status == _TOO_SMALL:
         return _listed(call, max(size, answer.len), entry, max(count, answer.count), *words)
     if status == _OUT_OF_MEMORY:
@@ -165,6 +169,8 @@ def _bytes(name: str, text: str) -> bytes:
 
 
 def _position(name: str, position: int) -> int:
+    if type(position) is int and position >= 0:
+        return position
     try:
         position = operator.index(position)
     except TypeError:
@@ -191,12 +197,12 @@ def _stripped(data: bytes) -> bytes:
 def _cut_of(data: bytes, ascii: bool, start: int, end: Optional[int]) -> Optional[bytes]:
     size = len(data)
     if end is None:
-        start, last = (_in_bytes(data, ascii, start)[0] if start else 0), size
+        end = size
     elif end < start:
         return None
-    else:
-        start, last = _in_bytes(data, ascii, start, end)
-    return _written(_cut, size + _LONGEST_CLOSE, data, size, start, last)
+    if not ascii:
+        start, end = _in_bytes(data, ascii, start, end)
+    return _written(_cut, size + _LONGEST_CLOSE, data, size, start if start < size else size, end if end < size else size)
 
 
 def _left_of(data: bytes, ascii: bool, mid: int) -> Optional[bytes]:
@@ -508,6 +514,7 @@ def _color_of(kind: int, number: int, red: int, green: int, blue: int) -> Union[
     return COLORS[kind - 1] if kind else None
 
 
+@functools.lru_cache(maxsize=256)
 def _style_of(style: bytes, start: bytes, end: bytes) -> Style:
     attributes, *colors, has_any = _STYLE.unpack(style)
     names = frozenset(name for bit, name in enumerate(ATTRIBUTES) if attributes >> bit & 1)
@@ -515,13 +522,9 @@ def _style_of(style: bytes, start: bytes, end: bytes) -> Style:
 
 
 def _blocks_of(texts: bytes, entries: bytes) -> Iterator[Block]:
-    styles = {}  # each once
     start = 0
     for text_start, text_end, end, style in _BLOCK.iter_unpack(entries):
-        key = style, texts[start:text_start], texts[text_end:end]
-        if key not in styles:
-            styles[key] = _style_of(*key)
-        yield Block(texts[text_start:text_end].decode(), styles[key])
+        yield Block(texts[text_start:text_end].decode(), _style_of(style, texts[start:text_start], texts[text_end:end]))
         start = end
 
 
