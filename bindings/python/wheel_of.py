@@ -1,0 +1,53 @@
+"""Builds the wheel, as pip asks for it: the package, and the shared library that `build` beside this file links."""
+
+import base64
+import hashlib
+import os
+import re
+import subprocess
+import sysconfig
+import tempfile
+import zipfile
+
+HERE = os.path.dirname(os.path.abspath(__file__))
+
+
+def _read(*names):
+    with open(os.path.join(HERE, *names), "rb") as file:
+        return file.read()
+
+
+def _library():
+    with tempfile.TemporaryDirectory() as folder:
+        name = os.path.join(folder, "libansi_str.so")
+        subprocess.run([os.path.join(HERE, "build"), name], check=True)
+        return _read(name)
+
+
+def _line(name, data):
+    """A file's line in RECORD: its name, its hash and its length."""
+    digest = base64.urlsafe_b64encode(hashlib.sha256(data).digest()).rstrip(b"=").decode()
+    return "{},sha256={},{}\n".format(name, digest, len(data))
+
+
+def build_wheel(wheel_directory, config_settings=None, metadata_directory=None):
+    project = dict(re.findall(r'^([\w-]+) = "(.*)"$', _read("pyproject.toml").decode(), flags=re.M))
+    stem = "{}-{}".format(project["name"].replace("-", "_"), project["version"])
+    # (any Python 3, on this system alone)
+    tag = "py3-none-" + re.sub(r"[-.]", "_", sysconfig.get_platform())
+    info = stem + ".dist-info/"
+    metadata = "Metadata-Version: 2.1\nName: {name}\nVersion: {version}\nSummary: {description}\nRequires-Python: {requires-python}\n"
+    files = {"ansi_str/" + name: _read("src", "ansi_str", name) for name in ("__init__.py", "py.typed")}
+    files["ansi_str/libansi_str.so"] = _library()
+    files[info + "LICENSE"] = _read("..", "..", "LICENSE")
+    files[info + "METADATA"] = metadata.format(**project).encode()
+    files[info + "WHEEL"] = "Wheel-Version: 1.0\nGenerator: ansi_str\nRoot-Is-Purelib: false\nTag: {}\n".format(tag).encode()
+    record = "".join(_line(name, data) for name, data in files.items())
+    files[info + "RECORD"] = (record + info + "RECORD,,\n").encode()
+    wheel = "{}-{}.whl".format(stem, tag)
+    with zipfile.ZipFile(os.path.join(wheel_directory, wheel), "w", zipfile.ZIP_DEFLATED) as archive:
+        for name, data in files.items():
+            entry = zipfile.ZipInfo(name)
+            entry.compress_type, entry.external_attr = zipfile.ZIP_DEFLATED, 0o100644 << 16
+            archive.writestr(entry, data)
+    return wheel
