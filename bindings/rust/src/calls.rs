@@ -282,17 +282,18 @@ pub(crate) fn floor_char_boundary(text: &str, index: usize) -> usize {
     unsafe { ansi_str_raw_floor_char_boundary(text.as_ptr(), text.len(), index) }.len
 }
 
-/// What a call gives that writes several texts one after the other, each with an entry: the bytes and the entries, with
-/// so much room for each at first, and then with as much as it asks for.
+/// What a call gives that writes several texts one after the other, each with an entry: the bytes, with so
+/// much room at first and then with as much as the call asks for, and the entries, which are never more than `most`.
 fn listed<E>(
     room: usize,
-    count: usize,
+    most: usize,
     call: impl Fn(&mut [MaybeUninit<u8>], &mut [MaybeUninit<E>]) -> Answers,
 ) -> (String, vec::IntoIter<E>) {
     let mut buffer = Vec::with_capacity(room);
-    let mut entries = Vec::with_capacity(count);
+    let mut entries = Vec::with_capacity(most);
     loop {
         let answer = call(buffer.spare_capacity_mut(), entries.spare_capacity_mut());
+        debug_assert!(answer.count <= most, "no list has more entries");
         match outcome(answer.status, answer.len) {
             Ok(len) => {
                 // SAFETY: the call has set so many entries
