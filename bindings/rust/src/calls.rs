@@ -4,6 +4,7 @@ use crate::style::{Color, Style};
 use crate::ESC;
 use std::mem::MaybeUninit;
 use std::vec;
+use std::{ptr, str};
 
 /// What `include/ansi_str.h` says of a status.
 const OK: u32 = 0;
@@ -130,7 +131,7 @@ fn outcome(status: u32, len: usize) -> Result<usize, Unfinished> {
     }
 }
 
-/// The text that a call has written at the front of a buffer.
+/// The text that a call has written at the front of a vector's room.
 ///
 /// # Safety
 ///
@@ -138,13 +139,36 @@ fn outcome(status: u32, len: usize) -> Result<usize, Unfinished> {
 /// or a `String` of its own, which are UTF-8 by their types.
 unsafe fn text_of(mut buffer: Vec<u8>, len: usize) -> String {
     buffer.set_len(len);
-    debug_assert!(std::str::from_utf8(&buffer).is_ok());
+    debug_assert!(str::from_utf8(&buffer).is_ok());
     String::from_utf8_unchecked(buffer)
 }
+
+/// So much room is taken from the stack.
+const SMALL: usize = 512;
 
 /// What a call writes, with so much room for it at first, and then with as much as it asks for. The room isn't set before:
 /// a call doesn't read it.
 fn written(room: usize, call: impl Fn(Room, usize) -> Answer) -> Result<String, Unfinished> {
+    if room > SMALL {
+        return written_from(room, call);
+    }
+    let mut small = [MaybeUninit::<u8>::uninit(); SMALL];
+    let answer = call(small.as_mut_ptr().cast(), SMALL);
+    match outcome(answer.status, answer.len) {
+        Err(Unfinished::TooSmall(needed)) => written_from(needed, call),
+        ended => ended.map(|len| {
+            let mut buffer = Vec::with_capacity(len);
+            // SAFETY: the call has set so many bytes, and there is room for them; for the text, as `text_of` says
+            unsafe {
+                ptr::copy_nonoverlapping(small.as_ptr().cast(), buffer.as_mut_ptr(), len);
+                text_of(buffer, len)
+            }
+        }),
+    }
+}
+
+/// The same without the stack.
+fn written_from(room: usize, call: impl Fn(Room, usize) -> Answer) -> Result<String, Unfinished> {
     let mut buffer = Vec::with_capacity(room);
     loop {
         let free = buffer.spare_capacity_mut();
@@ -258,17 +282,18 @@ pub(crate) fn floor_char_boundary(text: &str, index: usize) -> usize {
     unsafe { ansi_str_raw_floor_char_boundary(text.as_ptr(), text.len(), index) }.len
 }
 
-/// What a call gives that writes several texts one after the other, each with an entry: the bytes and the entries, with
-/// so much room for each at first, and then with as much as it asks for.
+/// What a call gives that writes several texts one after the other, each with an entry: the bytes, with so
+/// much room at first and then with as much as the call asks for, and the entries, which are never more than `most`.
 fn listed<E>(
     room: usize,
-    count: usize,
+    most: usize,
     call: impl Fn(&mut [MaybeUninit<u8>], &mut [MaybeUninit<E>]) -> Answers,
 ) -> (String, vec::IntoIter<E>) {
     let mut buffer = Vec::with_capacity(room);
-    let mut entries = Vec::with_capacity(count);
+    let mut entries = Vec::with_capacity(most);
     loop {
         let answer = call(buffer.spare_capacity_mut(), entries.spare_capacity_mut());
+        debug_assert!(answer.count <= most, "no list has more entries");
         match outcome(answer.status, answer.len) {
             Ok(len) => {
                 // SAFETY: the call has set so many entries

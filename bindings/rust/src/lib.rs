@@ -321,7 +321,9 @@ impl<T: AsRef<str> + ?Sized> AnsiStr for T {
 
 /// Whether no ESC stands in the first bytes of a text, so many or all of it: so far it is its own plain text.
 fn is_bare(text: &str, len: usize) -> bool {
-    !text.as_bytes()[..len.min(text.len())].contains(&ESC)
+    let front = &text.as_bytes()[..len.min(text.len())];
+    // a text with sequences often begins with one
+    front.first() != Some(&ESC) && !front.contains(&ESC)
 }
 
 /// The start of a range and its end; no end is `usize::MAX`, which is past every text.

@@ -50,3 +50,18 @@ fn blocks_have_styles() {
     assert!(!blocks[1].has_ansi());
     assert_eq!(AnsiSequenceEnd::RESET_ALL, "\x1b[0m");
 }
+
+#[test]
+fn an_answer_keeps_little_more_room_than_it_needs() {
+    for count in [1, 200, 100_000] {
+        let text = "\x1b[1mlong\x1b[0m text ".repeat(count);
+        for answer in [
+            text.ansi_cut(..3),
+            text.ansi_strip(),
+            text.ansi_split_at(20).0,
+        ] {
+            let answer = answer.into_owned();
+            assert!(answer.capacity() <= 2 * answer.len() + 1);
+        }
+    }
+}
