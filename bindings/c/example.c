@@ -46,7 +46,7 @@ static void give_room(void) {
     size_t len = strlen(LOG);
     ansi_str_answer needed = ansi_str_strip(LOG, len, NULL, 0);
     expect("too small", needed.status == ANSI_STR_TOO_SMALL && needed.len == 16);
-    char *buffer = malloc(needed.len);
+    char *buffer = (char *)malloc(needed.len);
     expect("malloc", buffer != NULL);
     ansi_str_answer plain = ansi_str_strip(LOG, len, buffer, needed.len);
     expect("strip", wrote(plain, buffer, "error: disk full"));
@@ -103,7 +103,7 @@ static void do_edits(void) {
 
 /* Each of the statuses but two, which are met above and, for lack of memory, in vectors.c. */
 static void fail(void) {
-    char buffer[8] = "as it is";
+    char buffer[] = "as it is";
     expect("no such part", ansi_str_part("a:b", 3, ":", 1, 2, buffer, 8).status == ANSI_STR_NO);
     expect("inside a character", ansi_str_cut("\xc3\xa9", 2, 1, 2, buffer, 8).status == ANSI_STR_REFUSED);
     expect("end below start", ansi_str_cut("abc", 3, 2, 1, buffer, 8).status == ANSI_STR_REFUSED);

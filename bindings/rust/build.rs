@@ -1,21 +1,31 @@
 //! Says where the library for C lies, and the kit's C library that it needs: in the folders of `ANSI_STR_C` and of
-//! `RATTLE_C`, else where the repository and the kit have them.
+//! `RATTLE_C`, else where the repository and the kit have them. Where one isn't there, says what to run.
 
 use std::env;
 use std::path::{Path, PathBuf};
+use std::process;
 
-fn folder_of(variable: &str, usual: PathBuf) -> PathBuf {
+fn link(name: &str, variable: &str, usual: PathBuf, to_run: &str) {
+    let folder = env::var_os(variable).map_or(usual, PathBuf::from);
+    let library = folder.join(format!("lib{name}.a"));
     println!("cargo:rerun-if-env-changed={variable}");
-    env::var_os(variable).map_or(usual, PathBuf::from)
+    println!("cargo:rerun-if-changed={}", library.display());
+    if !library.is_file() {
+        eprintln!(
+            "ansi-str: there is no {}. Run `{to_run}`, or name its folder in {variable}.",
+            library.display()
+        );
+        process::exit(1);
+    }
+    println!("cargo:rustc-link-search=native={}", folder.display());
+    println!("cargo:rustc-link-lib=static={name}");
 }
 
 fn main() {
-    let crates = Path::new(env!("CARGO_MANIFEST_DIR")).join("../../crates");
-    let library = folder_of("ANSI_STR_C", crates.join("ansi_str_c/out"));
-    let kit = folder_of("RATTLE_C", PathBuf::from("/opt/rattle/c"));
-    for (folder, name) in [(library, "ansi_str_c"), (kit, "libc_c")] {
-        println!("cargo:rerun-if-changed={}/lib{name}.a", folder.display());
-        println!("cargo:rustc-link-search=native={}", folder.display());
-        println!("cargo:rustc-link-lib=static={name}");
-    }
+    let library = Path::new(env!("CARGO_MANIFEST_DIR")).join("../../crates/ansi_str_c");
+    let to_build = format!("cd {} && rt lib", library.display());
+    link("ansi_str_c", "ANSI_STR_C", library.join("out"), &to_build);
+    let kit = PathBuf::from("/opt/rattle/c");
+    let to_find = "export RATTLE_C=$(dirname \"$(rt doc)\")/c";
+    link("libc_c", "RATTLE_C", kit, to_find);
 }

@@ -5,7 +5,7 @@ use crate::style::Style;
 use crate::AnsiStr;
 use std::borrow::Cow;
 use std::iter::FusedIterator;
-use std::vec;
+use std::option;
 
 /// The blocks of a text, in order: a run of text between sequences each, after those before it that set no style.
 ///
@@ -15,25 +15,22 @@ use std::vec;
 /// assert_eq!((block.text(), block.style().foreground()), ("red", Some(Color::Red)));
 /// ```
 pub fn get_blocks(text: &str) -> AnsiBlockIter<'_> {
-    let borrows = !text.ansi_has_any();
-    let blocks: Vec<_> = calls::blocks(text)
-        .into_iter()
-        .map(|(owned, style)| AnsiBlock {
-            // a text without ESC has one block, which is all of it
-            text: if borrows {
-                Cow::Borrowed(text)
-            } else {
-                Cow::Owned(owned)
-            },
-            style,
-        })
-        .collect();
-    AnsiBlockIter {
-        blocks: blocks.into_iter(),
-    }
+    AnsiBlockIter(if text.ansi_has_any() {
+        Blocks::Styled(calls::blocks(text))
+    } else {
+        Blocks::Bare(Some(text).filter(|text| !text.is_empty()).into_iter())
+    })
 }
 
 /// A run of text in one style, after the sequences before it that set no style.
+///
+/// ```
+/// use ansi_str::get_blocks;
+/// for block in get_blocks("\x1b[31mred\x1b[39m fox") {
+///     let style = block.style();
+///     println!("{}{}{}", style.start(), block.text(), style.end());
+/// }
+/// ```
 #[derive(Debug, Clone, PartialEq, Eq)]
 pub struct AnsiBlock<'a> {
     text: Cow<'a, str>,
@@ -42,35 +39,79 @@ pub struct AnsiBlock<'a> {
 
 impl AnsiBlock<'_> {
     /// The text, with those sequences.
+    ///
+    /// ```
+    /// use ansi_str::get_blocks;
+    /// let block = get_blocks("\x1b[31mred\x1b[39m").next().unwrap();
+    /// assert_eq!(block.text(), "red");
+    /// ```
+    #[must_use]
     pub fn text(&self) -> &str {
         &self.text
     }
 
     /// Whether the style has something to end.
+    ///
+    /// ```
+    /// use ansi_str::get_blocks;
+    /// let blocks = get_blocks("\x1b[31mred\x1b[39m fox");
+    /// assert!(blocks.map(|block| block.has_ansi()).eq([true, false]));
+    /// ```
+    #[must_use]
     pub fn has_ansi(&self) -> bool {
         self.style.has_any()
     }
 
     /// The style of the run.
+    ///
+    /// ```
+    /// use ansi_str::get_blocks;
+    /// let block = get_blocks("\x1b[1mbold").next().unwrap();
+    /// assert!(block.style().is_bold());
+    /// ```
+    #[must_use]
     pub fn style(&self) -> &Style {
         &self.style
     }
 }
 
 /// The blocks of a text, in order, which [`get_blocks`] gives.
-pub struct AnsiBlockIter<'a> {
-    blocks: vec::IntoIter<AnsiBlock<'a>>,
+///
+/// ```
+/// use ansi_str::get_blocks;
+/// let blocks = get_blocks("\x1b[31mred\x1b[39m fox");
+/// assert_eq!(blocks.size_hint(), (2, Some(2)));
+/// ```
+#[derive(Debug, Clone)]
+#[must_use = "iterators are lazy and do nothing unless consumed"]
+pub struct AnsiBlockIter<'a>(Blocks<'a>);
+
+#[derive(Debug, Clone)]
+enum Blocks<'a> {
+    /// all of a text without ESC, or nothing
+    Bare(option::IntoIter<&'a str>),
+    Styled(calls::Blocks),
 }
 
 impl<'a> Iterator for AnsiBlockIter<'a> {
     type Item = AnsiBlock<'a>;
 
     fn next(&mut self) -> Option<Self::Item> {
-        self.blocks.next()
+        let (text, style) = match &mut self.0 {
+            Blocks::Bare(text) => (Cow::Borrowed(text.next()?), Style::EMPTY),
+            Blocks::Styled(blocks) => {
+                let (text, style) = blocks.next()?;
+                (Cow::Owned(text), style)
+            }
+        };
+        Some(AnsiBlock { text, style })
     }
 
     fn size_hint(&self) -> (usize, Option<usize>) {
-        self.blocks.size_hint()
+        match &self.0 {
+            Blocks::Bare(text) => text.size_hint(),
+            Blocks::Styled(blocks) => blocks.size_hint(),
+        }
     }
 }
 

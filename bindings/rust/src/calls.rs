@@ -1,6 +1,9 @@
 //! The calls of the library for C, over texts: the one module that isn't safe.
 
 use crate::style::{Color, Style};
+use crate::ESC;
+use std::mem::MaybeUninit;
+use std::vec;
 
 /// What `include/ansi_str.h` says of a status.
 const OK: u32 = 0;
@@ -28,7 +31,7 @@ struct Answers {
 }
 
 #[repr(C)]
-#[derive(Clone, Copy, Default)]
+#[derive(Debug, Clone, Copy)]
 struct RawColor {
     kind: u32,
     number: u8,
@@ -38,7 +41,7 @@ struct RawColor {
 }
 
 #[repr(C)]
-#[derive(Clone, Copy, Default)]
+#[derive(Debug, Clone, Copy)]
 struct RawStyle {
     attributes: u32,
     foreground: RawColor,
@@ -47,7 +50,7 @@ struct RawStyle {
 }
 
 #[repr(C)]
-#[derive(Clone, Copy, Default)]
+#[derive(Debug, Clone, Copy)]
 struct RawBlock {
     text_start: usize,
     text_end: usize,
@@ -86,7 +89,6 @@ extern "C" {
     fn ansi_str_raw_ends_with(t: Bytes, n: usize, p: Bytes, k: usize) -> Answer;
     fn ansi_str_raw_is_char_boundary(t: Bytes, n: usize, index: usize) -> Answer;
     fn ansi_str_raw_floor_char_boundary(t: Bytes, n: usize, index: usize) -> Answer;
-    fn ansi_str_raw_has_any(t: Bytes, n: usize) -> Answer;
     fn ansi_str_raw_split(
         t: Bytes,
         n: usize,
@@ -128,21 +130,38 @@ fn outcome(status: u32, len: usize) -> Result<usize, Unfinished> {
     }
 }
 
-fn text_of(mut bytes: Vec<u8>, len: usize) -> String {
-    bytes.truncate(len);
-    String::from_utf8(bytes).expect("the library writes UTF-8")
+/// The text that a call has written at the front of a buffer.
+///
+/// # Safety
+///
+/// A call has answered `OK` and this length. So it has set these bytes, and they are UTF-8: it copies them out of a `str`
+/// or a `String` of its own, which are UTF-8 by their types.
+unsafe fn text_of(mut buffer: Vec<u8>, len: usize) -> String {
+    buffer.set_len(len);
+    debug_assert!(std::str::from_utf8(&buffer).is_ok());
+    String::from_utf8_unchecked(buffer)
 }
 
-/// What a call writes, with so much room for it at first, and then with as much as it asks for.
+/// What a call writes, with so much room for it at first, and then with as much as it asks for. The room isn't set before:
+/// a call doesn't read it.
 fn written(room: usize, call: impl Fn(Room, usize) -> Answer) -> Result<String, Unfinished> {
-    let mut buffer = vec![0; room];
+    let mut buffer = Vec::with_capacity(room);
     loop {
-        let answer = call(buffer.as_mut_ptr(), buffer.len());
+        let free = buffer.spare_capacity_mut();
+        let answer = call(free.as_mut_ptr().cast(), free.len());
         match outcome(answer.status, answer.len) {
-            Err(Unfinished::TooSmall(needed)) => buffer.resize(needed, 0),
-            ended => return ended.map(|len| text_of(buffer, len)),
+            Err(Unfinished::TooSmall(needed)) => buffer.reserve_exact(needed),
+            ended => return ended.map(|len| kept(unsafe { text_of(buffer, len) })),
         }
     }
+}
+
+/// A text that keeps no more than twice the room that it needs.
+fn kept(mut text: String) -> String {
+    if text.len() < text.capacity() / 2 {
+        text.shrink_to_fit();
+    }
+    text
 }
 
 /// What a call gives that has an answer for every text.
@@ -154,8 +173,8 @@ fn is_so(answer: Answer) -> bool {
     outcome(answer.status, answer.len).is_ok()
 }
 
-// SAFETY, of every call below: a text, a pattern and a buffer are given by the pointer and the length of a slice that
-// lives until the call returns; a buffer is this module's own, so it overlaps no text.
+// SAFETY, of every call below: a text and a pattern are given by the pointer and the length of a slice that lives until
+// the call returns, a buffer by those of a vector's spare room, which is this module's own and so overlaps no text.
 
 pub(crate) fn strip(text: &str) -> String {
     always(written(text.len(), |b, m| unsafe {
@@ -239,89 +258,133 @@ pub(crate) fn floor_char_boundary(text: &str, index: usize) -> usize {
     unsafe { ansi_str_raw_floor_char_boundary(text.as_ptr(), text.len(), index) }.len
 }
 
-pub(crate) fn has_any(text: &str) -> bool {
-    is_so(unsafe { ansi_str_raw_has_any(text.as_ptr(), text.len()) })
-}
-
 /// What a call gives that writes several texts one after the other, each with an entry: the bytes and the entries, with
-/// so much room for both at first, and then with as much as it asks for.
-fn listed<E: Clone + Default>(
+/// so much room for each at first, and then with as much as it asks for.
+fn listed<E>(
     room: usize,
-    call: impl Fn(&mut [u8], &mut [E]) -> Answers,
-) -> (String, Vec<E>) {
-    let mut buffer = vec![0; room];
-    let mut entries = vec![E::default(); room];
+    count: usize,
+    call: impl Fn(&mut [MaybeUninit<u8>], &mut [MaybeUninit<E>]) -> Answers,
+) -> (String, vec::IntoIter<E>) {
+    let mut buffer = Vec::with_capacity(room);
+    let mut entries = Vec::with_capacity(count);
     loop {
-        let answer = call(&mut buffer, &mut entries);
+        let answer = call(buffer.spare_capacity_mut(), entries.spare_capacity_mut());
         match outcome(answer.status, answer.len) {
             Ok(len) => {
-                entries.truncate(answer.count);
-                return (text_of(buffer, len), entries);
+                // SAFETY: the call has set so many entries
+                unsafe { entries.set_len(answer.count) };
+                return (unsafe { text_of(buffer, len) }, entries.into_iter());
             }
             Err(Unfinished::TooSmall(needed)) => {
-                buffer.resize(needed.max(buffer.len()), 0);
-                entries.resize(answer.count.max(entries.len()), E::default());
+                buffer.reserve_exact(needed);
+                entries.reserve_exact(answer.count);
             }
             Err(_) => unreachable!("this call is never refused"),
         }
     }
 }
 
-/// The texts that stand one after the other in a text, of which these are the ends.
-fn texts_at(all: &str, ends: impl Iterator<Item = usize>) -> Vec<&str> {
-    let mut start = 0;
-    ends.map(|end| {
-        let text = &all[start..end];
-        start = end;
-        text
-    })
-    .collect()
+/// Room that most lists of a text's parts or blocks need no more of, each between a start and a close.
+fn room_of_list(text: &str) -> usize {
+    2 * text.len() + LONGEST_START_AND_CLOSE
 }
 
-pub(crate) fn split(text: &str, pat: &str) -> Vec<String> {
-    let room = text.len() + 2;
-    let (all, ends) = listed(room, |buffer, ends| unsafe {
+fn count_of(text: &str, byte: u8) -> usize {
+    text.bytes().filter(|each| *each == byte).count()
+}
+
+/// The parts of a text, which stand one after the other in a text, and their ends.
+#[derive(Debug, Clone)]
+pub(crate) struct Parts {
+    all: String,
+    start: usize,
+    ends: vec::IntoIter<usize>,
+}
+
+pub(crate) fn split(text: &str, pat: &str) -> Parts {
+    // a match begins with the pattern's first byte, and an empty pattern matches before each character and at the end
+    let most = match pat.bytes().next() {
+        Some(first) => count_of(text, first) + 1,
+        None => text.len() + 2,
+    };
+    let (all, ends) = listed(room_of_list(text), most, |buffer, ends| unsafe {
         ansi_str_raw_split(
             text.as_ptr(),
             text.len(),
             pat.as_ptr(),
             pat.len(),
-            buffer.as_mut_ptr(),
+            buffer.as_mut_ptr().cast(),
             buffer.len(),
-            ends.as_mut_ptr(),
+            ends.as_mut_ptr().cast(),
             ends.len(),
         )
     });
-    texts_at(&all, ends.into_iter())
-        .into_iter()
-        .map(str::to_owned)
-        .collect()
+    Parts {
+        all,
+        start: 0,
+        ends,
+    }
 }
 
-/// The blocks of a text, each by its text and its style.
-pub(crate) fn blocks(text: &str) -> Vec<(String, Style)> {
-    let room = text.len() + LONGEST_START_AND_CLOSE;
-    let (all, entries) = listed(room, |buffer, entries: &mut [RawBlock]| unsafe {
+impl Iterator for Parts {
+    type Item = String;
+
+    fn next(&mut self) -> Option<String> {
+        let end = self.ends.next()?;
+        let part = self.all[self.start..end].to_owned();
+        self.start = end;
+        Some(part)
+    }
+
+    fn size_hint(&self) -> (usize, Option<usize>) {
+        self.ends.size_hint()
+    }
+}
+
+/// The blocks of a text, each by its text and its style: they stand one after the other in a text, each between the start
+/// of its style and the end.
+#[derive(Debug, Clone)]
+pub(crate) struct Blocks {
+    all: String,
+    start: usize,
+    entries: vec::IntoIter<RawBlock>,
+}
+
+pub(crate) fn blocks(text: &str) -> Blocks {
+    // a block is a run of text, which ends at an ESC or where the text ends
+    let most = count_of(text, ESC) + 1;
+    let (all, entries) = listed(room_of_list(text), most, |buffer, entries| unsafe {
         ansi_str_raw_styled_blocks(
             text.as_ptr(),
             text.len(),
-            buffer.as_mut_ptr(),
+            buffer.as_mut_ptr().cast(),
             buffer.len(),
-            entries.as_mut_ptr(),
+            entries.as_mut_ptr().cast(),
             entries.len(),
         )
     });
-    let ends = entries
-        .iter()
-        .flat_map(|entry| [entry.text_start, entry.text_end, entry.end]);
-    entries
-        .iter()
-        .zip(texts_at(&all, ends).chunks(3))
-        .map(|(entry, texts)| {
-            let style = style_of(&entry.style, texts[0], texts[2]);
-            (texts[1].to_owned(), style)
-        })
-        .collect()
+    Blocks {
+        all,
+        start: 0,
+        entries,
+    }
+}
+
+impl Iterator for Blocks {
+    type Item = (String, Style);
+
+    fn next(&mut self) -> Option<(String, Style)> {
+        let entry = self.entries.next()?;
+        let start = &self.all[self.start..entry.text_start];
+        let end = &self.all[entry.text_end..entry.end];
+        let text = &self.all[entry.text_start..entry.text_end];
+        self.start = entry.end;
+        Some((text.to_owned(), style_of(&entry.style, start, end)))
+    }
+
+    fn size_hint(&self) -> (usize, Option<usize>) {
+        self.entries.size_hint()
+    }
 }
 
 fn style_of(style: &RawStyle, start: &str, end: &str) -> Style {

@@ -1,4 +1,4 @@
-//! Which answers are borrows, what panics, and which types can be asked.
+//! Which answers are borrows, and which types can be asked.
 
 use ansi_str::{get_blocks, AnsiSequenceEnd, AnsiStr};
 use std::borrow::Cow;
@@ -28,18 +28,6 @@ fn an_empty_prefix_takes_nothing_off() {
     assert!(is_borrow(&text.ansi_strip_suffix("").unwrap()));
     assert!(!is_borrow(&text.ansi_strip()));
     assert_eq!(text.ansi_strip_prefix("e"), None);
-}
-
-#[test]
-#[should_panic(expected = "no range of the plain text")]
-fn a_cut_inside_a_character_panics() {
-    let _ = "\x1b[1mé\x1b[0m".ansi_cut(1..);
-}
-
-#[test]
-#[should_panic(expected = "inside a character of the plain text")]
-fn a_split_inside_a_character_panics() {
-    let _ = "\x1b[1mé\x1b[0m".ansi_split_at(1);
 }
 
 #[test]

@@ -119,11 +119,12 @@ fn expect_styled_blocks(text: &str, count: usize, fields: &[&str], row: &str) {
 fn pass(row: &str) -> bool {
     let fields: Vec<&str> = row.split('\t').collect();
     // a row whose texts aren't UTF-8 can't be asked for in Rust
-    let ([_memory, call, status, want, text, more @ ..], true) = (
-        &fields[..],
-        fields.iter().all(|field| text_of(field).is_some()),
-    ) else {
+    if fields.iter().any(|field| text_of(field).is_none()) {
         return false;
+    }
+    let (call, status, want, text, more) = match &fields[..] {
+        [_memory, call, status, want, text, more @ ..] => (call, status, want, text, more),
+        _ => return false,
     };
     let text = text_of(text).unwrap();
     let is_ok = *status == "0";

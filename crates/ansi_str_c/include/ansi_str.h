@@ -14,7 +14,13 @@
    `free` before it returns, where it has to: never on a text without ESC, unless that is said of it. It must not
    run in a signal handler, nor in the forked child of a process with threads.
 
-   Link with libansi_str_c.a and, after it, with liblibc_c.a of the kit (docs/BINDINGS.md says where they lie). */
+   A call that takes the index of a part or a block goes to it from the front of the text, each time. So a loop over all
+   indices takes time in proportion to their number times the text's length: of n blocks of a few bytes about n/4 times that of
+   ansi_str_blocks, and of n such parts about n/6 times that of ansi_str_split. These two give all in one walk, and
+   ansi_str_styled_blocks gives also what sets and ends the style of each block. On a text with ESC a buffer that is too small
+   saves no work: to ask for the length first takes twice the time, and most calls say how much room is always enough.
+
+   A program is C99 or C++11, or later. `pkg-config --cflags --libs ansi_str` says how to link it with what is installed. */
 #ifndef ANSI_STR_H
 #define ANSI_STR_H
 
@@ -269,8 +275,8 @@ static inline ansi_str_answer ansi_str_strip_suffix(const char *text, size_t tex
 }
 
 /* The part of an index, counted from 0, between the matches of a pattern, with its sequences and in its style. It is at
-   most ANSI_STR_LONGEST_START_AND_CLOSE bytes longer than the text. ANSI_STR_NO: there are not so many parts. A loop over all indices reads the
-   text once for each; ansi_str_split gives all parts in one call.
+   most ANSI_STR_LONGEST_START_AND_CLOSE bytes longer than the text. ANSI_STR_NO: there are not so many parts. In a loop over all
+   indices each call goes up to its part anew; ansi_str_split gives all parts in one walk.
    Of "\x1b[31mlion::tiger\x1b[0m" at "::" 1 gives "\x1b[31mtiger\x1b[0m". */
 static inline ansi_str_answer ansi_str_part(const char *text, size_t text_len, const char *pattern, size_t pattern_len,
                                             size_t index, char *buffer, size_t buffer_len) {
@@ -321,8 +327,8 @@ static inline ansi_str_answer ansi_str_has_any(const char *text, size_t text_len
 }
 
 /* The text of the block of an index, counted from 0: a run of text in one style, after the sequences before it that are
-   no SGR. ANSI_STR_NO: there are not so many blocks. A loop over all indices reads the text once for each;
-   ansi_str_blocks gives all blocks in one call.
+   no SGR. ANSI_STR_NO: there are not so many blocks. In a loop over all indices each call of ansi_str_block, _start,
+   _end or _style goes up to its block anew; ansi_str_blocks gives all texts and styles in one walk.
    Of "\x1b[31mred\x1b[39m and plain" 0 gives "red", and 1 " and plain". */
 static inline ansi_str_answer ansi_str_block(const char *text, size_t text_len, size_t index, char *buffer,
                                              size_t buffer_len) {
@@ -330,21 +336,22 @@ static inline ansi_str_answer ansi_str_block(const char *text, size_t text_len, 
 }
 
 /* The sequences that set the style of the block of an index: ANSI_STR_LONGEST_START bytes at most.
-   ANSI_STR_NO: there are not so many blocks. Takes memory also on a text without ESC. A loop over all indices reads the text once for each;
-   ansi_str_styled_blocks gives all starts and ends in one call. */
+   ANSI_STR_NO: there are not so many blocks. Takes memory also on a text without ESC. All starts and ends
+   in one walk: ansi_str_styled_blocks. */
 static inline ansi_str_answer ansi_str_block_start(const char *text, size_t text_len, size_t index, char *buffer,
                                                    size_t buffer_len) {
     return ansi_str_raw_block_start(ansi_str_bytes(text), text_len, index, ansi_str_room(buffer), buffer_len);
 }
 
 /* The sequences that end the style of the block of an index: ANSI_STR_LONGEST_CLOSE bytes at most.
-   ANSI_STR_NO: there are not so many blocks. Takes memory also on a text without ESC. */
+   ANSI_STR_NO: there are not so many blocks. Takes memory also on a text without ESC. All in one walk, as for the starts. */
 static inline ansi_str_answer ansi_str_block_end(const char *text, size_t text_len, size_t index, char *buffer,
                                                  size_t buffer_len) {
     return ansi_str_raw_block_end(ansi_str_bytes(text), text_len, index, ansi_str_room(buffer), buffer_len);
 }
 
-/* The style of the block of an index, as data. ANSI_STR_NO: there are not so many blocks. */
+/* The style of the block of an index, as data. ANSI_STR_NO: there are not so many blocks. All styles in one walk:
+   ansi_str_blocks. */
 static inline ansi_str_style_answer ansi_str_block_style(const char *text, size_t text_len, size_t index) {
     return ansi_str_raw_block_style(ansi_str_bytes(text), text_len, index);
 }

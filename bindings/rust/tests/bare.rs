@@ -1,0 +1,77 @@
+//! Texts without ESC, which std alone answers: `bindings/test` runs this over a library each of whose calls stops the program.
+
+use ansi_str::{get_blocks, AnsiStr};
+
+const TEXTS: [&str; 5] = ["", "a", " b\u{e9}ta, beta\n", "\u{2003}", "m[31m"];
+const PATTERNS: [&str; 5] = ["", "a", "\u{e9}ta", "\x1b", "m[31mm"];
+
+#[test]
+fn a_position_is_that_of_std() {
+    for text in TEXTS {
+        for index in (0..text.len() + 3).chain([usize::MAX]) {
+            let within = index.min(text.len());
+            let is_boundary = text.is_char_boundary(within);
+            assert_eq!(
+                text.ansi_is_char_boundary(index),
+                text.is_char_boundary(index)
+            );
+            let floor = (0..=within).rfind(|place| text.is_char_boundary(*place));
+            assert_eq!(Some(text.ansi_floor_char_boundary(index)), floor);
+            assert_eq!(text.ansi_get(index..).as_deref(), text.get(within..));
+            assert_eq!(text.ansi_get(..index).as_deref(), text.get(..within));
+            if is_boundary {
+                let (left, right) = text.ansi_split_at(index);
+                assert_eq!((&*left, &*right), text.split_at(within));
+            }
+        }
+    }
+}
+
+#[test]
+fn a_search_is_that_of_std() {
+    for text in TEXTS {
+        for pat in PATTERNS {
+            assert_eq!(text.ansi_find(pat), text.find(pat));
+            assert_eq!(text.ansi_starts_with(pat), text.starts_with(pat));
+            assert_eq!(text.ansi_ends_with(pat), text.ends_with(pat));
+            assert_eq!(
+                text.ansi_strip_prefix(pat).as_deref(),
+                text.strip_prefix(pat)
+            );
+            assert_eq!(
+                text.ansi_strip_suffix(pat).as_deref(),
+                text.strip_suffix(pat)
+            );
+            assert!(text.ansi_split(pat).eq(text.split(pat)));
+        }
+    }
+}
+
+#[test]
+fn all_of_a_text_is_one_block_without_a_style() {
+    for text in TEXTS {
+        assert!(!text.ansi_has_any());
+        assert_eq!(
+            (&*text.ansi_strip(), &*text.ansi_trim()),
+            (text, text.trim())
+        );
+        let blocks: Vec<_> = get_blocks(text).collect();
+        assert_eq!(blocks.len(), usize::from(!text.is_empty()));
+        for block in blocks {
+            assert_eq!((block.text(), block.has_ansi()), (text, false));
+            let style = block.style();
+            assert_eq!((style.foreground(), style.background()), (None, None));
+            assert_eq!(style.start().to_string() + &style.end().to_string(), "");
+        }
+    }
+}
+
+#[test]
+fn a_start_without_escapes_is_enough_for_a_prefix() {
+    let text = "ab\u{e9}\x1b[1md";
+    assert!(text.ansi_starts_with("ab\u{e9}"));
+    assert!(!text.ansi_starts_with("abc"));
+    assert!(text.ansi_is_char_boundary(2));
+    assert!(!text.ansi_is_char_boundary(3));
+    assert_eq!(text.ansi_floor_char_boundary(3), 2);
+}
