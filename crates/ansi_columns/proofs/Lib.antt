@@ -1,0 +1,10 @@
+pub mod SeamLemmas
+pub mod ClusterLemmas
+pub mod PlaceLemmas
+pub mod WalkLemmas
+pub mod ReverseLemmas
+pub mod LastMarkLemmas
+pub mod WidthLemmas
+pub mod ColumnLemmas
+pub mod FromEndLemmas
+pub mod ClusterWalkLemmas

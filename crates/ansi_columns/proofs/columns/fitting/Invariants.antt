@@ -1,0 +1,14 @@
+use Rattle.std.proofs.Common.{length}
+use Rattle.ansi_columns.specs.Walks.{clusters_from, IsWalk}
+use Rattle.ansi_columns.proofs.ColumnLemmas.{IsFittingTo}
+use Rattle.ansi_columns.proofs.columns.fitting.Given as goal
+
+-- what stands before the walk fits, and leaves so many columns
+abbrev pub invariant-clusters : goal.invariant-clusters
+invariant-clusters l = record {
+  walk : IsWalk l.text l.walk;
+  fitting : IsFittingTo l.text l.fn.width l.walk.position l.left;
+}
+
+abbrev pub decreases-clusters : goal.decreases-clusters
+decreases-clusters l = length (clusters_from l.text l.walk.position)

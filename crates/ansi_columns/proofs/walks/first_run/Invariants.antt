@@ -1,0 +1,13 @@
+use Rattle.std.proofs.Common.{◌≡◌}
+use Rattle.ansi_items.specs.Scans.{pieces_left}
+use Rattle.ansi_style.specs.declared.state.rendition.Rendition.{Rendition}
+use Rattle.ansi_style.specs.Rendition.{plain_style}
+use Rattle.ansi_slice.proofs.OffsetLemmas.{IsOnTheWay}
+use Rattle.ansi_columns.proofs.walks.first_run.Given as goal
+
+-- what has been passed are marks, which stand before the first plain byte
+abbrev pub invariant-loop-item : goal.invariant-loop-item
+invariant-loop-item l = record {
+  text : l.item-iterator.text ≡ l.text;
+  way : (style : Rendition) × IsOnTheWay l.text 0 plain_style l.item-iterator.offset 0 style (pieces_left l.item-iterator);
+}

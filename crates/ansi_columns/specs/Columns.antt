@@ -1,0 +1,33 @@
+-- The columns of a text: the clusters of its plain text, and how wide each of them is.
+use Rattle.std.specs.Prelude.{◌≡◌, ℕ, ◌+◌, ◌<◌, ◌≤◌, true, false, List, [], length, take, flat_map, encode_utf8_all, chars}
+use Rattle.std.specs.List.{sum_by}
+use Rattle.unicode_segmentation.specs.Grapheme.{is_grapheme_break}
+use Rattle.unicode_segmentation.specs.Segments.{cut}
+use Rattle.unicode_width.specs.Width.{str_width}
+
+-- the extended grapheme clusters of the text x, each by its characters (UAX #29)
+abbrev pub clusters : List ℕ → List (List ℕ)
+clusters x = cut (is_grapheme_break true) [] (chars x) []
+
+-- the columns of a cluster, in a context that isn't East Asian (UAX #11, as the crate `unicode_width` reads it)
+abbrev pub cluster_width : List ℕ → ℕ
+cluster_width cluster = str_width false cluster
+
+-- the columns of clusters in a row
+abbrev pub columns_of : List (List ℕ) → ℕ
+columns_of clusters = sum_by cluster_width clusters
+
+-- the columns of the text x are those of its clusters
+abbrev pub columns : List ℕ → ℕ
+columns x = columns_of (clusters x)
+
+-- how many bytes of UTF-8 clusters have
+abbrev pub bytes_of : List (List ℕ) → ℕ
+bytes_of clusters = length (flat_map encode_utf8_all clusters)
+
+-- The clusters of x up to the byte `end` have at most `width` columns, and with the next one they would have more.
+pub record FitsUpTo (x : List ℕ) (width end : ℕ) : Type 0 where
+  pub count : ℕ
+  pub boundary : end ≡ bytes_of (take count (clusters x))
+  pub fits : columns_of (take count (clusters x)) ≤ width
+  pub greatest : count < length (clusters x) → width < columns_of (take (count + 1) (clusters x))

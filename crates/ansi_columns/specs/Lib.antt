@@ -1,0 +1,4 @@
+pub mod Columns
+pub mod Seams
+pub mod Walks
+pub mod Reverse

@@ -1,0 +1,51 @@
+-- How far a walk over the characters of a plain text has come. No public contract cites it.
+use Rattle.std.specs.Prelude.{◌≡◌, ℕ, ◌≤◌, true, List, [], ◌++◌, length, take, drop, reverse, slice_range, encode_utf8, chars, IsTrue}
+use Rattle.std.specs.List.{list_all}
+use Rattle.std.specs.Str.{IsCharBoundary}
+use Rattle.ansi_items.specs.Bytes.{is_plain_byte}
+use Rattle.ansi_items.specs.Plain.{plain}
+use Rattle.ansi_slice.specs.Offsets.{offset_of}
+use Rattle.unicode_segmentation.specs.Grapheme.{is_grapheme_break}
+use Rattle.unicode_segmentation.specs.Segments.{cut}
+use Rattle.ansi_columns.specs.declared.walks.Walk.{Walk}
+use Rattle.ansi_columns.specs.Seams.{seam_of}
+
+-- the characters of the plain text of t before the position n, the nearest first
+abbrev pub before : List ℕ → ℕ → List ℕ
+before t n = reverse (chars (take n (plain t)))
+
+-- those from there on
+abbrev pub after : List ℕ → ℕ → List ℕ
+after t n = chars (drop n (plain t))
+
+-- the characters between two positions, as those of one cluster
+abbrev pub cluster : List ℕ → ℕ → ℕ → List ℕ
+cluster t i j = chars (slice_range (plain t) i j)
+
+-- the clusters of the characters cs, after others, the nearest first
+abbrev pub clusters_after : List ℕ → List ℕ → List (List ℕ)
+clusters_after before cs = cut (is_grapheme_break true) before cs []
+
+-- the clusters of the plain text of t from a position on
+abbrev pub clusters_from : List ℕ → ℕ → List (List ℕ)
+clusters_from t n = clusters_after (before t n) (after t n)
+
+-- between two offsets of t stand plain bytes alone
+pub record IsRun (t : List ℕ) (start end : ℕ) : Type 0 where
+  pub ordered : start ≤ end
+  pub start_boundary : IsCharBoundary t start
+  pub end_boundary : IsCharBoundary t end
+  pub bytes : IsTrue (list_all is_plain_byte (slice_range t start end))
+
+-- A walk over t stands at a position of its plain text. A run begins there, which is empty only at the end of t.
+pub record IsWalk (t : List ℕ) (walk : Walk) : Type 0 where
+  pub offset : walk.offset ≡ offset_of t walk.position
+  pub run : IsRun t walk.offset walk.run_end
+  pub end : walk.offset ≡ walk.run_end → walk.offset ≡ length t
+  pub seam : walk.seam ≡ seam_of (before t walk.position)
+  pub within : walk.position ≤ length (plain t)
+
+-- the character c stands next
+pub record IsNext (t : List ℕ) (walk : Walk) (c : ℕ) : Type 0 where
+  pub rest : List ℕ
+  pub bytes : slice_range t walk.offset walk.run_end ≡ encode_utf8 c ++ rest

@@ -1,0 +1,137 @@
+//! The columns of a cluster that runs across sequences: its characters are read from its end.
+ghost use Rattle.std.specs.Prelude.{◌≡◌, ◌+◌, ◌*◌, ◌<◌, ◌≤◌, List, [], ◌∷◌, ◌++◌, length, chars, IfSome, MatchOption};
+ghost use Rattle.std.specs.Str.{IsCharBoundary, IsUtf8};
+ghost use Rattle.ansi_items.specs.Pieces.{Piece, pieces_of, spelling};
+ghost use Rattle.ansi_items.specs.Plain.{plain};
+ghost use Rattle.ansi_columns.specs.Columns.{cluster_width};
+ghost use Rattle.ansi_columns.specs.Reverse.{IsLastMark};
+
+use crate::walks::first_run;
+use ansi_items::ESC;
+use ansi_items::ansitok::Scanner;
+use memchr::memrchr;
+use unicode_width::char_iter_width;
+
+/// The columns of the plain text of a text, as one cluster.
+///
+/// Takes time in proportion to the text, and no memory.
+pub(crate) fn width(text: &str) -> usize
+    ensures value { result ≡ cluster_width (chars (plain text.now)) }
+    ensures bound { result ≤ 2 * length (plain text.now) }
+{
+    char_iter_width(PlainChars {
+        rest: text,
+        run: "",
+    })
+}
+
+/// The characters of a plain text, from either end.
+#[derive(Drop)]
+struct PlainChars<'t> {
+    /// What is left of the text before the run.
+    rest: &'t str,
+    /// What is left of the run at the end.
+    run: &'t str,
+}
+
+impl<'t> Iterator for PlainChars<'t> {
+    ghost use Rattle.std.specs.Prelude.{◌+◌, length};
+    ghost use Rattle.std.specs.Iterator.{at_most};
+
+    type Item = char;
+
+    ghost remaining = { λ s. at_most (length s.rest.now + length s.run.now) };
+
+    fn next(&mut self) -> Option<char> {
+        if let Some((first, rest)) = split_first_char(self.rest) {
+            self.rest = rest;
+            return Some(first);
+        }
+        self.rest = "";
+        let (first, run) = split_first_char(self.run)?;
+        self.run = run;
+        Some(first)
+    }
+}
+
+impl<'t> DoubleEndedIterator for PlainChars<'t> {
+    ghost use Rattle.std.specs.Prelude.{◌++◌, chars};
+    ghost use Rattle.std.specs.Iterator.{YieldsLast};
+    ghost use Rattle.ansi_items.specs.Plain.{plain};
+
+    ghost next_back_gives = { YieldsLast (λ s. chars (plain s.rest.now ++ s.run.now)) };
+
+    fn next_back(&mut self) -> Option<char> {
+        let (last, rest, run) = split_last_char(self.rest, self.run)?;
+        self.rest = rest;
+        self.run = run;
+        Some(last)
+    }
+}
+
+/// The first plain character of a text, and what stands after it.
+fn split_first_char(text: &str) -> Option<(char, &str)>
+    ensures { IfSome result (λ (first, rest). length rest.now < length text.now) }
+{
+    let (start, end) = first_run(text);
+    let first = text[start..end].chars().next()?;
+    Some((first, &text[start + first.len_utf8()..]))
+}
+
+/// The last character of the plain text of a text and a run after it, and what is left of both.
+fn split_last_char<'t>(text: &'t str, end: &'t str) -> Option<(char, &'t str, &'t str)>
+    ensures chars { MatchOption result (chars (plain text.entry.now ++ end.entry.now) ≡ [])
+        (λ (last, rest, run). chars (plain text.entry.now ++ end.entry.now) ≡ chars (plain rest.now ++ run.now) ++ last ∷ []) }
+    ensures shorter { IfSome result (λ (last, rest, run). length rest.now + length run.now < length text.entry.now + length end.entry.now) }
+{
+    let mut rest = text;
+    let mut run = end;
+    'runs: while run.is_empty() && !rest.is_empty() {
+        (rest, run) = split_last_run(rest);
+    }
+    let mut chars = run.chars();
+    let last = chars.next_back()?;
+    Some((last, rest, chars.as_str()))
+}
+
+/// What stands before the last mark of a text, a sequence or a lone escape, and the run after it.
+fn split_last_run(text: &str) -> (&str, &str)
+    ensures plain { plain text.now ≡ plain result.0.now ++ result.1.now }
+    ensures shorter { 0 < length text.now → length result.0.now < length text.now }
+    ensures within { length result.0.now + length result.1.now ≤ length text.now }
+    ensures front_utf8 { IsUtf8 result.0.now }
+    ensures run_utf8 { IsUtf8 result.1.now }
+{
+    match last_mark(text) {
+        Some((start, end)) => (&text[..start], &text[end..]),
+        None => ("", text),
+    }
+}
+
+/// Where the last mark of a text begins and ends.
+///
+/// An ESC inside a sequence is the one that ends a control string, whose own ESC is the one before.
+fn last_mark(text: &str) -> Option<(usize, usize)>
+    ensures { MatchOption result (plain text.now ≡ text.now) (λ (start, end). IsLastMark text.now start end) }
+{
+    let bytes = text.as_bytes();
+    let last = memrchr(ESC, bytes)?;
+    let start = match memrchr(ESC, &bytes[..last]) {
+        Some(opening) if last < opening + first_len(&text[opening..]) => opening,
+        _ => last,
+    };
+    Some((start, start + first_len(&text[start..])))
+}
+
+/// The length of the first item of a text.
+fn first_len(text: &str) -> usize
+    requires { 0 < length text.now }
+    ensures first { (p : Piece) × (ps : List Piece) × (pieces_of text.now ≡ p ∷ ps) × (result ≡ length (spelling p)) }
+    ensures some { 0 < result }
+    ensures boundary { IsCharBoundary text.now result }
+{
+    match Scanner::new(text).next() {
+        Some(item) => item.end,
+        None => 0,
+    }
+}

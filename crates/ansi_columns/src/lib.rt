@@ -1,0 +1,14 @@
+//! Columns of a terminal: how wide a text is shown, taken as if its ANSI control sequences weren't
+//! there, and up to where it fits.
+//!
+//! The columns of a text are those of the extended grapheme clusters of its plain text. Positions count
+//! the bytes of the plain text, as those of `ansi_str` do. `CALLING.md` beside this folder says how a
+//! crate depends on this one and calls it.
+#![tactic(auto)]
+
+pub mod columns;
+mod from_end;
+mod seams;
+mod walks;
+
+pub use columns::AnsiColumns;

@@ -1,0 +1,124 @@
+//! Whether a cluster ends between two characters, as UAX #29 says, by what is kept of those before.
+ghost use Rattle.std.specs.Prelude.{◌≡◌, ◌≢◌, ℕ, List, true, [], ◌∷◌};
+ghost use Rattle.unicode_segmentation.specs.Grapheme.{is_grapheme_break, break_by_pair, is_extend, is_zwj, is_regional, is_consonant};
+ghost use Rattle.ucd_derived.specs.IndicConjunctBreak.{indic_conjunct_break};
+ghost use Rattle.ansi_columns.specs.Seams.{seam_of, links};
+
+use ucd_breaks::GraphemeClusterBreak;
+use ucd_breaks::GraphemeClusterBreak::*;
+use ucd_derived::IndicConjunctBreak;
+use ucd_emoji::is_extended_pictographic;
+
+/// What stands before a place, as far as the rules look back at it.
+#[derive(Clone, Copy)]
+pub(crate) struct Seam {
+    /// The value of the last character.
+    last: GraphemeClusterBreak,
+    /// Whether it ends in a linker, after which a consonant goes on (GB9c).
+    is_linked: bool,
+    /// Whether it ends in a pictograph and what extends it.
+    is_pictograph: bool,
+    /// Whether it ends in a pictograph, what extends it, and a joiner (GB11).
+    is_joined: bool,
+    /// Whether it ends in an odd number of regional indicators (GB12 and GB13).
+    is_half_flag: bool,
+}
+
+impl Seam {
+    /// Nothing stands before.
+    pub(crate) fn start() -> Seam
+        ensures { result ≡ seam_of [] }
+    {
+        Seam {
+            last: Other,
+            is_linked: false,
+            is_pictograph: false,
+            is_joined: false,
+            is_half_flag: false,
+        }
+    }
+
+    /// What stands before the place after one more character.
+    #[inline]
+    pub(crate) fn after(self, c: char) -> Seam
+        ensures { (before : List ℕ) → self ≡ seam_of before → result ≡ seam_of (c ∷ before) }
+    {
+        let value = GraphemeClusterBreak::for_char(c);
+        Seam {
+            last: value,
+            is_linked: links(c, self.is_linked),
+            is_pictograph: is_extended_pictographic(c) || (is_extend(value) && self.is_pictograph),
+            is_joined: is_zwj(value) && self.is_pictograph,
+            is_half_flag: is_regional(value) && !self.is_half_flag,
+        }
+    }
+
+    /// Whether a cluster ends before the next character, where one stands before it.
+    #[inline]
+    pub(crate) fn ends_before(self, next: char) -> bool
+        ensures { (before after : List ℕ) → before ≢ [] → self ≡ seam_of before → result ≡ is_grapheme_break true before (next ∷ after) }
+    {
+        let value = GraphemeClusterBreak::for_char(next);
+        if let Some(is_break) = break_by_pair(self.last, value) {
+            return is_break;
+        }
+        let joins_conjunct = self.is_linked && is_consonant(next);
+        let joins_emoji = self.is_joined && is_extended_pictographic(next);
+        let joins_flag = self.is_half_flag && is_regional(value);
+        !(joins_conjunct || joins_emoji || joins_flag)
+    }
+}
+
+/// What the values of two neighbors say, where they decide (GB3 to GB9b).
+#[inline]
+fn break_by_pair(left: GraphemeClusterBreak, right: GraphemeClusterBreak) -> Option<bool>
+    ensures { result ≡ break_by_pair true left right }
+{
+    match (left, right) {
+        (Cr, Lf) => Some(false),
+        (Control | Cr | Lf, _) | (_, Control | Cr | Lf) => Some(true),
+        (L, L | V | Lv | Lvt) | (Lv | V, V | T) | (Lvt | T, T) => Some(false),
+        (_, Extend | Zwj | SpacingMark) | (Prepend, _) => Some(false),
+        _ => None,
+    }
+}
+
+/// Whether a linker, and what extends it, ends with the character.
+#[inline]
+fn links(c: char, is_linked: bool) -> bool
+    ensures { result ≡ links (indic_conjunct_break c) is_linked }
+{
+    match IndicConjunctBreak::for_char(c) {
+        IndicConjunctBreak::Linker => true,
+        IndicConjunctBreak::Extend => is_linked,
+        _ => false,
+    }
+}
+
+#[inline]
+fn is_consonant(c: char) -> bool
+    ensures { result ≡ is_consonant (indic_conjunct_break c) }
+{
+    IndicConjunctBreak::for_char(c) == IndicConjunctBreak::Consonant
+}
+
+#[inline]
+fn is_extend(value: GraphemeClusterBreak) -> bool
+    ensures { result ≡ is_extend value }
+{
+    matches!(value, Extend)
+}
+
+#[inline]
+fn is_zwj(value: GraphemeClusterBreak) -> bool
+    ensures { result ≡ is_zwj value }
+{
+    matches!(value, Zwj)
+}
+
+#[inline]
+fn is_regional(value: GraphemeClusterBreak) -> bool
+    ensures { result ≡ is_regional value }
+{
+    matches!(value, RegionalIndicator)
+}

@@ -1,0 +1,124 @@
+//! A walk over the clusters of a plain text, and how wide each is.
+ghost use Rattle.std.specs.Prelude.{◌≡◌, ◌+◌, ◌*◌, ◌-◌, ◌<◌, ◌≤◌, [], ◌∷◌, length, encode_utf8, MatchOption};
+ghost use Rattle.ansi_slice.specs.Offsets.{offset_of};
+ghost use Rattle.ansi_columns.specs.Columns.{cluster_width};
+ghost use Rattle.ansi_columns.specs.Walks.{before, after, cluster, clusters_from, IsRun, IsWalk, IsNext};
+
+use crate::from_end;
+use crate::seams::Seam;
+use ansi_items::ansitok::{Kind, Scanner};
+use unicode_width::UnicodeWidthStr;
+
+/// How far a walk over the characters of a plain text has come.
+#[derive(Clone, Copy)]
+pub(crate) struct Walk {
+    /// How many plain bytes stand before it.
+    pub(crate) position: usize,
+    /// Where the next character stands in the text, or the length of the text.
+    pub(crate) offset: usize,
+    /// Up to where at least plain bytes alone follow there.
+    run_end: usize,
+    seam: Seam,
+}
+
+impl Walk {
+    /// A walk that stands before the first character.
+    pub(crate) fn start(text: &str) -> Walk
+        ensures walk { IsWalk text.now result }
+        ensures position { result.position ≡ 0 }
+    {
+        let (offset, run_end) = first_run(text);
+        Walk {
+            position: 0,
+            offset,
+            run_end,
+            seam: Seam::start(),
+        }
+    }
+
+    /// The walk after the next cluster, and the columns of that, or `None` where nothing is left.
+    pub(crate) fn next_cluster(self, text: &str) -> Option<(Walk, usize)>
+        requires { IsWalk text.now self }
+        ensures { MatchOption result (after text.now self.position ≡ []) (λ (walk, width). IsWalk text.now walk
+            × (self.position < walk.position)
+            × (clusters_from text.now self.position ≡ cluster text.now self.position walk.position ∷ clusters_from text.now walk.position)
+            × (width ≡ cluster_width (cluster text.now self.position walk.position))
+            × (width ≤ 2 * (walk.position - self.position))) }
+    {
+        let first = self.next_char(text)?;
+        let mut walk = self.past(text, first);
+        'cluster: while let Some(next) = walk.next_char(text) {
+            if walk.seam.ends_before(next) {
+                break;
+            }
+            walk = walk.past(text, next);
+        }
+        let width = self.width_up_to(text, &walk);
+        Some((walk, width))
+    }
+
+    /// The columns of the characters from here up to a later walk, as one cluster.
+    fn width_up_to(self, text: &str, walk: &Walk) -> usize
+        requires here { IsWalk text.now self }
+        requires later { IsWalk text.now walk.now }
+        requires ordered { self.position ≤ walk.now.position }
+        ensures value { result ≡ cluster_width (cluster text.now self.position walk.now.position) }
+        ensures bound { result ≤ 2 * (walk.now.position - self.position) }
+    {
+        let len = walk.position - self.position;
+        if len <= self.run_end - self.offset {
+            text[self.offset..self.offset + len].width()
+        } else {
+            from_end::width(&text[self.offset..walk.offset])
+        }
+    }
+
+    /// The character that stands next.
+    #[inline]
+    fn next_char(self, text: &str) -> Option<char>
+        requires { IsWalk text.now self }
+        ensures { MatchOption result (after text.now self.position ≡ []) (IsNext text.now self) }
+    {
+        text[self.offset..self.run_end].chars().next()
+    }
+
+    /// The walk after the character that stands next.
+    #[inline]
+    fn past(self, text: &str, next: char) -> Walk
+        requires walk { IsWalk text.now self }
+        requires next { IsNext text.now self next }
+        ensures walk { IsWalk text.now result }
+        ensures position { result.position ≡ self.position + length (encode_utf8 next) }
+        ensures before { before text.now result.position ≡ next ∷ before text.now self.position }
+        ensures after { after text.now self.position ≡ next ∷ after text.now result.position }
+    {
+        let len = next.len_utf8();
+        let mut offset = self.offset + len;
+        let mut run_end = self.run_end;
+        if offset == run_end {
+            let (start, end) = first_run(&text[offset..]);
+            run_end = offset + end;
+            offset += start;
+        }
+        Walk {
+            position: self.position + len,
+            offset,
+            run_end,
+            seam: self.seam.after(next),
+        }
+    }
+}
+
+/// Where the first run of a text begins and ends, or its length twice where it has none.
+pub(crate) fn first_run(text: &str) -> (usize, usize)
+    ensures start { result.0 ≡ offset_of text.now 0 }
+    ensures run { IsRun text.now result.0 result.1 }
+    ensures none { result.0 ≡ result.1 → result.0 ≡ length text.now }
+{
+    for item in Scanner::new(text) {
+        if item.kind == Kind::Text {
+            return (item.start, item.end);
+        }
+    }
+    (text.len(), text.len())
+}

@@ -1,0 +1,103 @@
+//! Makes the call of each row of its standard input, and tells of each row whose call answers otherwise than
+//! the row says. At the end it tells how many rows passed.
+//!
+//! A row is a line of fields between TABs: the call, the text, what else the call takes, and the answer. What
+//! follows is a note. `\e` stands for ESC, `\a` for BEL, `\n`, `\r` and `\t` for a line's end and a TAB, `\\` for `\`.
+//! A line that is empty or begins with `#` is none.
+#![tactic(auto)]
+
+use ansi_columns::AnsiColumns;
+use ansi_str::AnsiStr;
+use std::alloc::{AllocError, Global};
+use std::borrow::CowStr;
+use std::io;
+
+/// The front of a text that fits into so many columns. Where it ends is a good position, so it can be cut there.
+fn fitting_front<'t>(
+    alloc: Global,
+    text: &'t &str,
+    width: usize,
+) -> Result<CowStr<'t>, AllocError> {
+    text.ansi_cut(alloc, ..text.ansi_fitting(width))
+}
+
+/// A field with each of its escapes as the character that it stands for.
+fn unescaped(alloc: Global, field: &str) -> Result<String, AllocError> {
+    let mut text = String::new(alloc);
+    let mut is_escape = false;
+    for c in field.chars() {
+        if !is_escape && c == '\\' {
+            is_escape = true;
+            continue;
+        }
+        text.push(match c {
+            'e' if is_escape => '\x1b',
+            'a' if is_escape => '\x07',
+            'n' if is_escape => '\n',
+            'r' if is_escape => '\r',
+            't' if is_escape => '\t',
+            c => c,
+        })?;
+        is_escape = false;
+    }
+    Ok(text)
+}
+
+/// What the call of a row answers, or `None` where there is no such call.
+fn answered(
+    alloc: Global,
+    call: &str,
+    text: &str,
+    argument: &str,
+) -> Result<Option<String>, AllocError> {
+    match call {
+        "width" => Ok(Some(format!(in alloc; "{}", text.ansi_width())?)),
+        "fitting" => match argument.parse() {
+            Ok(width) => Ok(Some(format!(in alloc; "{}", text.ansi_fitting(width))?)),
+            Err(_) => Ok(None),
+        },
+        "front" => match argument.parse() {
+            Ok(width) => Ok(Some(String::from_str(
+                alloc,
+                fitting_front(alloc, &text, width)?.as_str(),
+            )?)),
+            Err(_) => Ok(None),
+        },
+        _ => Ok(None),
+    }
+}
+
+/// Whether the call of a row answers what the row says.
+fn passes(alloc: Global, line: &str) -> Result<bool, AllocError> {
+    let mut fields = line.split('\t');
+    let (Some(call), Some(text), Some(argument), Some(answer)) = (
+        fields.next(),
+        fields.next(),
+        fields.next(),
+        fields.next(),
+    ) else {
+        return Ok(false);
+    };
+    let text = unescaped(alloc, text)?;
+    let answer = unescaped(alloc, answer)?;
+    let answered = answered(alloc, call, text.as_str(), argument)?;
+    Ok(matches!(&answered, Some(said) if said.as_str() == answer.as_str()))
+}
+
+fn main(rt: HostRuntime) -> io::Result<()> {
+    let alloc = rt.alloc();
+    let mut passed: u64 = 0;
+    for (index, line) in rt.lines(alloc).enumerate() {
+        let line = line?;
+        if line.is_empty() || line.starts_with('#') {
+            continue;
+        }
+        if passes(alloc, line.as_str())? {
+            passed = passed.saturating_add(1);
+        } else {
+            println!(rt; "line {}: {line}", index + 1)?;
+        }
+    }
+    println!(rt; "passed: {passed}")?;
+    Ok(())
+}
