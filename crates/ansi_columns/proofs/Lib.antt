@@ -1,3 +1,4 @@
+pub mod TableLemmas
 pub mod SeamLemmas
 pub mod ClusterLemmas
 pub mod PlaceLemmas

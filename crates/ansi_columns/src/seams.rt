@@ -1,13 +1,14 @@
 //! Whether a cluster ends between two characters, as UAX #29 says, by what is kept of those before.
 ghost use Rattle.std.specs.Prelude.{◌≡◌, ◌≢◌, ℕ, List, true, [], ◌∷◌};
 ghost use Rattle.unicode_segmentation.specs.Grapheme.{is_grapheme_break, break_by_pair, is_extend, is_zwj, is_regional, is_consonant};
+ghost use Rattle.ucd_breaks.specs.GraphemeClusterBreak.{grapheme_cluster_break};
 ghost use Rattle.ucd_derived.specs.IndicConjunctBreak.{indic_conjunct_break};
+ghost use Rattle.ucd_emoji.specs.Binary.{is_extended_pictographic};
 ghost use Rattle.ansi_columns.specs.Seams.{seam_of, links};
 
 use ucd_breaks::GraphemeClusterBreak;
 use ucd_breaks::GraphemeClusterBreak::*;
 use ucd_derived::IndicConjunctBreak;
-use ucd_emoji::is_extended_pictographic;
 
 /// What stands before a place, as far as the rules look back at it.
 #[derive(Clone, Copy)]
@@ -43,7 +44,7 @@ impl Seam {
     pub(crate) fn after(self, c: char) -> Seam
         ensures { (before : List ℕ) → self ≡ seam_of before → result ≡ seam_of (c ∷ before) }
     {
-        let value = GraphemeClusterBreak::for_char(c);
+        let value = grapheme_cluster_break(c);
         Seam {
             last: value,
             is_linked: links(c, self.is_linked),
@@ -58,7 +59,7 @@ impl Seam {
     pub(crate) fn ends_before(self, next: char) -> bool
         ensures { (before after : List ℕ) → before ≢ [] → self ≡ seam_of before → result ≡ is_grapheme_break true before (next ∷ after) }
     {
-        let value = GraphemeClusterBreak::for_char(next);
+        let value = grapheme_cluster_break(next);
         if let Some(is_break) = break_by_pair(self.last, value) {
             return is_break;
         }
@@ -88,7 +89,7 @@ fn break_by_pair(left: GraphemeClusterBreak, right: GraphemeClusterBreak) -> Opt
 fn links(c: char, is_linked: bool) -> bool
     ensures { result ≡ links (indic_conjunct_break c) is_linked }
 {
-    match IndicConjunctBreak::for_char(c) {
+    match indic_conjunct_break(c) {
         IndicConjunctBreak::Linker => true,
         IndicConjunctBreak::Extend => is_linked,
         _ => false,
@@ -99,7 +100,7 @@ fn links(c: char, is_linked: bool) -> bool
 fn is_consonant(c: char) -> bool
     ensures { result ≡ is_consonant (indic_conjunct_break c) }
 {
-    IndicConjunctBreak::for_char(c) == IndicConjunctBreak::Consonant
+    indic_conjunct_break(c) == IndicConjunctBreak::Consonant
 }
 
 #[inline]
@@ -121,4 +122,36 @@ fn is_regional(value: GraphemeClusterBreak) -> bool
     ensures { result ≡ is_regional value }
 {
     matches!(value, RegionalIndicator)
+}
+
+// The beginnings of the tables: most text is ASCII, which needs no look into them.
+
+/// The value of a character in the rules on two neighbors.
+#[inline]
+fn grapheme_cluster_break(c: char) -> GraphemeClusterBreak
+    ensures { result ≡ grapheme_cluster_break c }
+{
+    match c {
+        ' '..='~' => Other,
+        _ => GraphemeClusterBreak::for_char(c),
+    }
+}
+
+/// What a character is in a conjunct (GB9c). The first one of any is U+0300.
+#[inline]
+fn indic_conjunct_break(c: char) -> IndicConjunctBreak
+    ensures { result ≡ indic_conjunct_break c }
+{
+    match c {
+        ..'\u{300}' => IndicConjunctBreak::None,
+        _ => IndicConjunctBreak::for_char(c),
+    }
+}
+
+/// Whether a character is a pictograph (GB11). The first one is U+00A9.
+#[inline]
+fn is_extended_pictographic(c: char) -> bool
+    ensures { result ≡ is_extended_pictographic c }
+{
+    '\u{a9}' <= c && ucd_emoji::is_extended_pictographic(c)
 }

@@ -7,7 +7,7 @@ use Rattle.ansi_columns.proofs.seams.Seam.after.Goals as goal
 
 pub returns-then-is_regional : goal.returns-then-is_regional
 returns-then-is_regional c before is =
-    let v = c.for_char-value.result in
+    let v = c.grapheme_cluster_break-value.result in
     let s = c.args.self in
     let pictograph : c.if-is_extended_pictographic.result ≡ (is_extended_pictographic c.args.c || (is_extend v && s.is_pictograph))
     = elim c.if-is_extended_pictographic.branch [
@@ -20,11 +20,11 @@ returns-then-is_regional c before is =
       | then-is_zwj w ↦ and-then _ (is_zwj v) s.is_pictograph (cc) (cc)
       | else-is_zwj w ↦ and-else _ (is_zwj v) s.is_pictograph (cc) (cc)
     ] in
-    seam-push c.args.c s before is v _ _ _ _ c.for_char-value.ensures c.links.ensures pictograph joined (and-then _ (is_regional v) (not s.is_half_flag) (cc) cc)
+    seam-push c.args.c s before is v _ _ _ _ c.grapheme_cluster_break-value.ensures c.links.ensures pictograph joined (and-then _ (is_regional v) (not s.is_half_flag) (cc) cc)
 
 pub returns-else-is_regional : goal.returns-else-is_regional
 returns-else-is_regional c before is =
-    let v = c.for_char-value.result in
+    let v = c.grapheme_cluster_break-value.result in
     let s = c.args.self in
     let pictograph : c.if-is_extended_pictographic.result ≡ (is_extended_pictographic c.args.c || (is_extend v && s.is_pictograph))
     = elim c.if-is_extended_pictographic.branch [
@@ -37,4 +37,4 @@ returns-else-is_regional c before is =
       | then-is_zwj w ↦ and-then _ (is_zwj v) s.is_pictograph (cc) (cc)
       | else-is_zwj w ↦ and-else _ (is_zwj v) s.is_pictograph (cc) (cc)
     ] in
-    seam-push c.args.c s before is v _ _ _ _ c.for_char-value.ensures c.links.ensures pictograph joined (and-else _ (is_regional v) (not s.is_half_flag) (cc) (cc))
+    seam-push c.args.c s before is v _ _ _ _ c.grapheme_cluster_break-value.ensures c.links.ensures pictograph joined (and-else _ (is_regional v) (not s.is_half_flag) (cc) (cc))

@@ -8,13 +8,13 @@ use Rattle.ansi_columns.proofs.seams.Seam.ends_before.Goals as goal
 
 pub returns-in-Some : goal.returns-in-Some
 returns-in-Some c before after some is =
-    decided c.args.self before c.args.next after some is c.for_char-value.result c.for_char-value.ensures (Some c.in-Some.is_break) (sym c.break_by_pair.ensures ∙ c.in-Some.is)
+    decided c.args.self before c.args.next after some is c.grapheme_cluster_break-value.result c.grapheme_cluster_break-value.ensures (Some c.in-Some.is_break) (sym c.break_by_pair.ensures ∙ c.in-Some.is)
 
 pub returns : goal.returns
 returns c before after some is =
     let s = c.args.self in
     let next = c.args.next in
-    let v = c.for_char-value.result in
+    let v = c.grapheme_cluster_break-value.result in
     let conjunct = s.is_linked && is_consonant (indic_conjunct_break next) in
     let emoji = s.is_joined && is_extended_pictographic next in
     let flag = s.is_half_flag && is_regional v in
@@ -38,4 +38,4 @@ returns c before after some is =
       | then-joins_emoji w ↦ or-then _ (conjunct || emoji) flag (cc) (sym one ∙ w.if-joins_emoji.true)
       | else-joins_emoji w ↦ or-else _ (conjunct || emoji) flag (w.result-is ∙ third) (sym one ∙ w.if-joins_emoji.false)
     ] in
-    ap not all ∙ decided s before next after some is v c.for_char-value.ensures None (sym c.break_by_pair.ensures ∙ c.in_default.is)
+    ap not all ∙ decided s before next after some is v c.grapheme_cluster_break-value.ensures None (sym c.break_by_pair.ensures ∙ c.in_default.is)
