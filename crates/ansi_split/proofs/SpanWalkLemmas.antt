@@ -1,18 +1,18 @@
 -- How far a part that is written has come, and what a step of the walk is to it.
-use Rattle.ansi_split.proofs.Common.{has_escape, plain-bare, marks-bare, show-bare, is_char_boundary, and_parts, good_is_boundary, leb-true, ◌≡◌, ℕ, ◌+◌, ◌-◌, ◌<◌, ◌≤◌, inl, inr, true, false, List, [], ◌∷◌, ◌++◌, length, drop, refl, sym, ◌∙◌, ap, ap₂, subst, arith, IsTrue, if◌then◌else◌, append_assoc, append-nil, length-append, cases_lt, drop_all, drop-drop, drop-append-le, IsCharBoundary, Kind, escape, Piece, Text, Sequence, LoneEscape, spelling, ArePieces, pieces_of, plain_of, plain, marks_of, is_good_position, Rendition, has_any, start, close, close_if_any, style_after_from, show, span_text, pieces_are, pieces_of-unique, is_mark, BeginsWithMark, plain_of-mark, marks_of-text, marks_of-sequence, marks_of-lone, slice_range-past, show-nil, show-text, show-mark, is_good_position-after, IsOverText}
-use Rattle.ansi_slice.specs.Kept.{kept}
-use Rattle.ansi_slice.proofs.KeptWalkLemmas.{kept-all}
+use Rattle.ansi_split.proofs.Common.{has_escape, plain-bare, is_char_boundary, and_parts, good_is_boundary, leb-true, ◌≡◌, ℕ, ◌+◌, ◌-◌, ◌<◌, ◌≤◌, inl, inr, true, false, List, [], ◌∷◌, ◌++◌, length, drop, refl, sym, ◌∙◌, ap, ap₂, subst, arith, IsTrue, if◌then◌else◌, append_assoc, append-nil, length-append, cases_lt, drop_all, drop-drop, drop-append-le, IsCharBoundary, Kind, Piece, Text, spelling, ArePieces, pieces_of, plain_of, plain, is_good_position, Rendition, has_any, start, close, close_if_any, style_after_from, span_text, pieces_are, pieces_of-unique, is_mark, BeginsWithMark, plain_of-mark, slice_range-past, is_good_position-after, IsOverText}
+use Rattle.ansi_slice.proofs.CutLemmas.{shown_from, show-all}
+use Rattle.ansi_slice.proofs.KeptWalkLemmas.{kept-walk, kept-bare, kept-all, shown_from-mark}
 use Rattle.ansi_split.proofs.AfterLemmas.{boundary_in_next}
 
 -- all of the pieces but for so many plain bytes at their front
 abbrev pub left_of : ℕ → List Piece → List ℕ
-left_of skip ps = show (plain_of ps) skip (length (plain_of ps)) (marks_of ps)
+left_of skip ps = shown_from true skip (length (plain_of ps)) ps
 
 -- a text without a sequence stands as it is
 pub shown-bare : (t : List ℕ) (skip : ℕ) → has_escape t ≡ false → left_of skip (pieces_of t) ≡ drop skip t
 shown-bare t skip none =
-    ap₂ (λ x ms. show x skip (length x) ms) (plain-bare t none) (marks-bare t none)
-    ∙ show-bare t skip (length t) ∙ slice_range-past t skip (length t) (omega arith)
+    let n = length (plain t) in
+    sym (kept-walk t skip n) ∙ kept-bare t skip n none ∙ slice_range-past t skip n (omega (arith, ap length (plain-bare t none)))
 
 pub boundary-bare : (t : List ℕ) (skip : ℕ) → has_escape t ≡ false → IsTrue (is_char_boundary (plain t) skip) → IsCharBoundary t skip
 boundary-bare t skip none boundary =
@@ -33,8 +33,7 @@ show-front w ps a =
     let x = plain_of ps in
     let all : length (w ++ x) ≡ length w + length x = length-append w x in
     let rest : length (w ++ x) - length w ≡ length x = omega (arith, all) in
-    ap (show (w ++ x) a (length (w ++ x))) (marks_of-text w ps) ∙ show-text w x a (length (w ++ x)) (marks_of ps)
-    ∙ ap₂ (λ u b. u ++ show x (a - length w) b (marks_of ps)) (slice_range-past w a (length (w ++ x)) (omega (arith, all))) rest
+    ap₂ (λ u b. u ++ shown_from true (a - length w) b ps) (slice_range-past w a (length (w ++ x)) (omega (arith, all))) rest
 
 -- over a text that is left out
 pub shown-skip : {whole written : List ℕ} {skip later : ℕ} {w : List ℕ} {left ps : List Piece} → IsShownSoFar whole written skip left → left ≡ Text w ∷ ps → length w < skip → later ≡ skip - length w
@@ -48,8 +47,7 @@ shown-skip {whole} {written} {skip} {later} {w} {left} {ps} so_far is out later_
     rw later_is step
 
 left_of-rest : (t : List ℕ) → left_of 0 (pieces_of t) ≡ t
-unfolding kept
-left_of-rest t = kept-all t (length (plain t)) (omega arith)
+left_of-rest t = sym (kept-walk t 0 (length (plain t))) ∙ kept-all t (length (plain t)) (omega arith)
 
 -- in a text, what follows stands as it is
 pub shown-rest : {t whole written last v : List ℕ} {skip begin at next : ℕ} {w : List ℕ} {left ps : List Piece} → IsShownSoFar whole written skip left → IsOverText t w at next left ps → skip ≤ length w
@@ -70,33 +68,28 @@ shown-boundary {t} {begin} {at} {next} {w} {left} {ps} skip good over inside beg
   | inr past ↦ (let same : next ≡ at + skip = omega (arith, past, inside, over.count) in subst (IsCharBoundary t) same boundary)
 ])
 
-show-piece : (p : Piece) (ps : List Piece) (a : ℕ) → is_mark p ≡ true
-    → left_of a (p ∷ ps) ≡ spelling p ++ left_of a ps
-show-piece (Text w) ps a is = absurd (cc is)
-show-piece (Sequence w) ps a is = ap (show (plain_of ps) a (length (plain_of ps))) (marks_of-sequence w ps) ∙ show-mark w (plain_of ps) a (length (plain_of ps)) (marks_of ps)
-show-piece LoneEscape ps a is = ap (show (plain_of ps) a (length (plain_of ps))) (marks_of-lone ps) ∙ show-mark (escape ∷ []) (plain_of ps) a (length (plain_of ps)) (marks_of ps)
-
 -- over a mark
 pub shown-mark : {whole old new : List ℕ} {skip : ℕ} {kind : Kind} {w : List ℕ} {left ps : List Piece} → IsShownSoFar whole old skip left → BeginsWithMark kind w left ps → new ≡ old ++ w
     → IsShownSoFar whole new skip ps
 shown-mark {whole} {old} {new} {skip} {kind} {w} {left} {ps} so_far begins more =
     let first = subst (IsShownSoFar whole old skip) begins.pieces so_far in
     let bytes = spelling begins.mark in
+    let same = plain_of-mark begins.mark ps begins.is_mark in
     let step : IsShownSoFar whole (old ++ bytes) skip ps = record {
-      shown = append_assoc old bytes (left_of skip ps) ∙ ap (λ u. old ++ u) (sym (show-piece begins.mark ps skip begins.is_mark)) ∙ first.shown;
-      good = ap (λ x. is_good_position x skip) (sym (plain_of-mark begins.mark ps begins.is_mark)) ∙ first.good;
+      shown = append_assoc old bytes (left_of skip ps) ∙ ap (λ u. old ++ u) (sym (shown_from-mark begins.mark skip (length (plain_of (begins.mark ∷ ps))) ps begins.is_mark ∙ ap (λ x. bytes ++ shown_from true skip (length x) ps) same)) ∙ first.shown;
+      good = ap (λ x. is_good_position x skip) (sym same) ∙ first.good;
     } in
     rw (more, ← begins.bytes) step
 
 pub shown-end : {whole written : List ℕ} {skip : ℕ} {left : List Piece} → IsShownSoFar whole written skip left → left ≡ [] → written ≡ whole
 shown-end {whole} {written} {skip} so_far none =
-    sym (append-nil written) ∙ ap (λ u. written ++ u) (sym (show-nil skip 0)) ∙ (subst (IsShownSoFar whole written skip) none so_far).shown
+    sym (append-nil written) ∙ (subst (IsShownSoFar whole written skip) none so_far).shown
 
 -- The start, the text and the close where the style has any are the part.
 
 span_text-is : (c : Rendition) (t : List ℕ) (skip : ℕ) (after : Rendition) → after ≡ style_after_from c t → (start c ++ left_of skip (pieces_of t)) ++ close_if_any after ≡ span_text c t skip
 unfolding span_text
-span_text-is c t skip after is = ap (λ r. (start c ++ left_of skip (pieces_of t)) ++ close_if_any r) is
+span_text-is c t skip after is = ap₂ (λ u r. (start c ++ u) ++ close_if_any r) (sym (show-all (pieces_of t) skip (length (plain t)))) is
 
 pub span-closed : {whole : List ℕ} (c : Rendition) (t : List ℕ) (skip : ℕ) (after : Rendition) → after ≡ style_after_from c t → has_any after ≡ true
     → whole ≡ (start c ++ left_of skip (pieces_of t)) ++ close after → whole ≡ span_text c t skip
