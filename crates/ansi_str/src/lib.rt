@@ -3,7 +3,7 @@
 //! Positions count the bytes of the plain text: the text without its sequences.
 //!
 //! `CALLING.md` beside this folder says how a crate depends on this one and calls it, and quotes the
-//! contracts. Each example of these docs stands in `ansi_tests` as a test.
+//! contracts. Each example of these docs stands in `ansi_doc_tests` as a test.
 #![tactic(auto)]
 
 mod edits;

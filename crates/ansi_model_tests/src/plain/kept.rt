@@ -1,7 +1,6 @@
 //! Prefixes, suffixes and white space, by std on the plain text, compared with the library's.
 use super::cut::kept_text;
-use super::{ESC, has_byte, items, plain, text_at};
-use crate::tests::expect;
+use super::{ESC, expect, has_byte, items, plain, text_at};
 use ansi_str::AnsiStr;
 use ansi_str::ansitok::Item;
 use std::alloc::{AllocError, Global};

@@ -1,6 +1,5 @@
 //! Lists of edits, by std on the plain text, compared with the library's.
-use super::{items, plain, text_at};
-use crate::tests::expect;
+use super::{expect, items, plain, text_at};
 use ansi_str::Edit::{self, Cut, Left, Part, Prefix, Right, Suffix, Trim};
 use ansi_str::{AnsiStr, ansi_is_whole, edit};
 use std::alloc::{AllocError, Global};

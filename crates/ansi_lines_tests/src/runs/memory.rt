@@ -1,6 +1,5 @@
 //! Each request for memory that a run makes, refused in turn.
-use super::{Plan, Ran, expect_end, owned, run_in};
-use crate::tests::expect;
+use super::{Plan, Ran, expect, expect_end, owned, run_in};
 use refusing::Refusing;
 use std::alloc::{AllocError, Global};
 use std::process::Abort;

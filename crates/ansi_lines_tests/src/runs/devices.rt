@@ -1,6 +1,5 @@
 //! Runs over devices that fail or are interrupted.
-use super::{CHUNK, Plan, ROOM, Ran, at_call, expect_end, run_with};
-use crate::tests::expect;
+use super::{CHUNK, Plan, ROOM, Ran, at_call, expect, expect_end, run_with};
 use ansi_lines_io::page::Outcome;
 use std::alloc::{AllocError, Global};
 use std::process::Abort;

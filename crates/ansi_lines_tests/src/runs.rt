@@ -5,7 +5,6 @@ mod hosts;
 mod memory;
 pub mod statuses;
 
-use crate::tests::expect;
 use ansi_lines_io::page::{Outcome, Page};
 use ansi_lines_runs::runs::run;
 use std::alloc::{AllocError, Allocator, Global};
@@ -146,6 +145,11 @@ fn at_call(alloc: Global, call: usize, outcome: Outcome) -> Result<Vec<Outcome>,
     let mut schedule = vec![in alloc; Outcome::Works; call]?;
     schedule.push(outcome)?;
     Ok(schedule)
+}
+
+// Ends the test where this doesn't hold of the row.
+fn expect<R: Copy + Debug>(rt: &impl Abort, holds: bool, what: &str, row: R) {
+    assert!(rt; holds, "{what}: {row:?}");
 }
 
 // A run ends so.

@@ -1,6 +1,5 @@
 //! Searches in the plain text, place by place, compared with those of the library.
-use super::{items, plain, text_at};
-use crate::tests::expect;
+use super::{expect, items, plain, text_at};
 use ansi_str::AnsiStr;
 use std::alloc::{AllocError, Global};
 use std::process::Abort;

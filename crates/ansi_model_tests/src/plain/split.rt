@@ -1,7 +1,6 @@
 //! Parts, item by item of a text, compared with those of the library.
 use super::style::NamedStyle;
-use super::{between, items, plain, spelling, text_at};
-use crate::tests::expect;
+use super::{between, expect, items, plain, spelling, text_at};
 use ansi_str::AnsiStr;
 use ansi_str::ansitok::{Item, Kind};
 use std::alloc::{AllocError, Global};

@@ -1,5 +1,5 @@
 //! The devices over readers and writers of std that fail: what no clause can say of them, since std's say nothing of an error.
-use crate::tests::expect;
+use super::expect;
 use ansi_lines_io::devices::{ReadFault, Sink, Source};
 use ansi_lines_io::host::{HostIn, HostOut, SteadyWrite};
 use std::io::{self, Error, ErrorKind, Read, Write};

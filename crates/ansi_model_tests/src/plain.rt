@@ -8,10 +8,10 @@ mod kept;
 mod split;
 mod style;
 
-use crate::tests::expect;
 use ansi_str::AnsiStr;
 use ansi_str::ansitok::{Item, Kind, Scanner};
 use std::alloc::{AllocError, Global};
+use std::fmt::Debug;
 use std::process::Abort;
 
 const ESC: u8 = 0x1B;
@@ -168,6 +168,11 @@ const TEXTS: usize = 402_234;
 
 /// How many have at most five of the eight.
 const STRING_TEXTS: usize = 37_449;
+
+/// Ends the test where this doesn't hold of the row.
+fn expect<R: Copy + Debug>(rt: &impl Abort, holds: bool, what: &str, row: R) {
+    assert!(rt; holds, "{what}: {row:?}");
+}
 
 /// Compares the items of a text.
 fn expect_items(
