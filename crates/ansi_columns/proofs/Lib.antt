@@ -1,4 +1,5 @@
 pub mod SeamLemmas
+pub mod AsciiLemmas
 pub mod ClusterLemmas
 pub mod PlaceLemmas
 pub mod WalkLemmas

@@ -1,5 +1,6 @@
 //! Whether a cluster ends between two characters, as UAX #29 says, by what is kept of those before.
 ghost use Rattle.std.specs.Prelude.{◌≡◌, ◌≢◌, ℕ, List, true, [], ◌∷◌};
+ghost use Rattle.std.specs.Int.{is_in_range};
 ghost use Rattle.unicode_segmentation.specs.Grapheme.{is_grapheme_break, break_by_pair, is_extend, is_zwj, is_regional, is_consonant};
 ghost use Rattle.ucd_derived.specs.IndicConjunctBreak.{indic_conjunct_break};
 ghost use Rattle.ansi_columns.specs.Seams.{seam_of, links};
@@ -43,6 +44,9 @@ impl Seam {
     pub(crate) fn after(self, c: char) -> Seam
         ensures { (before : List ℕ) → self ≡ seam_of before → result ≡ seam_of (c ∷ before) }
     {
+        if is_printable(c) {
+            return Seam::start();
+        }
         let value = GraphemeClusterBreak::for_char(c);
         Seam {
             last: value,
@@ -58,6 +62,9 @@ impl Seam {
     pub(crate) fn ends_before(self, next: char) -> bool
         ensures { (before after : List ℕ) → before ≢ [] → self ≡ seam_of before → result ≡ is_grapheme_break true before (next ∷ after) }
     {
+        if is_printable(next) {
+            return break_by_pair(self.last, Other).unwrap_or(true);
+        }
         let value = GraphemeClusterBreak::for_char(next);
         if let Some(is_break) = break_by_pair(self.last, value) {
             return is_break;
@@ -67,6 +74,14 @@ impl Seam {
         let joins_flag = self.is_half_flag && is_regional(value);
         !(joins_conjunct || joins_emoji || joins_flag)
     }
+}
+
+/// Whether the character is printable ASCII, which has no value of its own in any of the tables.
+#[inline]
+fn is_printable(c: char) -> bool
+    ensures { result ≡ is_in_range 0x20 0x7E c }
+{
+    matches!(c, ' '..='~')
 }
 
 /// What the values of two neighbors say, where they decide (GB3 to GB9b).

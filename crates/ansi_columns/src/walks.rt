@@ -1,5 +1,5 @@
 //! A walk over the clusters of a plain text, and how wide each is.
-ghost use Rattle.std.specs.Prelude.{◌≡◌, ◌+◌, ◌*◌, ◌-◌, ◌<◌, ◌≤◌, [], ◌∷◌, length, encode_utf8, MatchOption};
+ghost use Rattle.std.specs.Prelude.{◌≡◌, ◌+◌, ◌*◌, ◌-◌, ◌<◌, ◌≤◌, [], ◌∷◌, length, encode_utf8, chars, MatchOption};
 ghost use Rattle.ansi_slice.specs.Offsets.{offset_of};
 ghost use Rattle.ansi_columns.specs.Columns.{cluster_width};
 ghost use Rattle.ansi_columns.specs.Walks.{before, after, cluster, clusters_from, IsRun, IsWalk, IsNext};
@@ -67,7 +67,7 @@ impl Walk {
     {
         let len = walk.position - self.position;
         if len <= self.run_end - self.offset {
-            text[self.offset..self.offset + len].width()
+            run_width(&text[self.offset..self.offset + len])
         } else {
             from_end::width(&text[self.offset..walk.offset])
         }
@@ -107,6 +107,19 @@ impl Walk {
             seam: self.seam.after(next),
         }
     }
+}
+
+/// The columns of a run of plain bytes, as one cluster.
+#[inline]
+fn run_width(run: &str) -> usize
+    ensures value { result ≡ cluster_width (chars run.now) }
+    ensures bound { result ≤ 2 * length run.now }
+{
+    let bytes = run.as_bytes();
+    if bytes.len() == 1 && b' ' <= bytes[0] && bytes[0] <= b'~' {
+        return 1;
+    }
+    run.width()
 }
 
 /// Where the first run of a text begins and ends, or its length twice where it has none.

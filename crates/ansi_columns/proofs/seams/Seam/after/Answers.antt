@@ -1,9 +1,13 @@
-use Rattle.std.proofs.Common.{◌≡◌, not, ◌&&◌, ◌||◌}
+use Rattle.std.proofs.Common.{◌≡◌, not, ◌&&◌, ◌||◌, sym, ◌∙◌}
 use Rattle.ucd_emoji.specs.Binary.{is_extended_pictographic}
 use Rattle.unicode_segmentation.specs.Grapheme.{is_extend, is_zwj, is_regional}
 use Rattle.ansi_columns.proofs.SeamLemmas.{or-then, or-else, and-then, and-else, seam-push}
+use Rattle.ansi_columns.proofs.AsciiLemmas.{seam-printable}
 use Rattle.ansi_columns.proofs.seams.Seam.after.Goals.{then-is_extended_pictographic, else-is_extended_pictographic+then-is_extend, else-is_extended_pictographic+else-is_extend, then-is_zwj, else-is_zwj}
 use Rattle.ansi_columns.proofs.seams.Seam.after.Goals as goal
+
+pub returns-then-is_printable : goal.returns-then-is_printable
+returns-then-is_printable c before is = c.start.ensures ∙ seam-printable c.args.c before (sym c.is_printable.ensures ∙ c.if-is_printable.true)
 
 pub returns-then-is_regional : goal.returns-then-is_regional
 returns-then-is_regional c before is =

@@ -1,0 +1,91 @@
+-- Printable ASCII in the tables of the rules on clusters, and its columns.
+use Rattle.std.proofs.Common.{◌≡◌, ◌≢◌, ℕ, ◌<◌, ◌≤◌, Bool, true, false, not, ◌&&◌, ◌||◌, ◌==◌, List, [], ◌∷◌, length, slice_index, chars, Option, unwrap_or, eqb-true, refl, sym, ap, ◌∙◌, arith, append-nil, encode_utf8}
+use Rattle.std.specs.Int.{is_in_range}
+use Rattle.std.proofs.lemmas.Bool.Decides.{nat_tests}
+use Rattle.std.proofs.lemmas.Str.{encode_ascii, chars-nil, chars_past_char}
+use Rattle.std.specs.Str.{IsUtf8}
+use Rattle.ucd_table.proofs.Facts.{Stepped-below}
+use Rattle.ucd_breaks.specs.GraphemeClusterBreak.{grapheme_cluster_break, grapheme_cluster_break_number}
+use Rattle.ucd_breaks.specs.declared.GraphemeClusterBreak.{GraphemeClusterBreak}
+use Rattle.ucd_breaks.specs.declared.GraphemeClusterBreak.TheVariants.{Other}
+use Rattle.ucd_breaks.proofs.Computing.{ucd_breaks}
+use Rattle.ucd_breaks.proofs.GraphemeClusterBreakLemmas.{grapheme_cluster_break_stepped, grapheme_cluster_break_number_injective}
+use Rattle.ucd_derived.specs.IndicConjunctBreak.{indic_conjunct_break, indic_conjunct_break_number}
+use Rattle.ucd_derived.specs.declared.IndicConjunctBreak.{IndicConjunctBreak}
+use Rattle.ucd_derived.specs.declared.IndicConjunctBreak.TheVariants as InCb
+use Rattle.ucd_derived.proofs.Computing.{ucd_derived}
+use Rattle.ucd_derived.proofs.IndicConjunctBreakLemmas.{indic_conjunct_break_stepped, indic_conjunct_break_number_injective}
+use Rattle.ucd_emoji.specs.Binary.{is_extended_pictographic}
+use Rattle.ucd_emoji.proofs.BinaryLemmas.{is_extended_pictographic_stepped}
+use Rattle.ucd_emoji.proofs.Computing.{ucd_emoji}
+use Rattle.unicode_segmentation.specs.Grapheme.{is_grapheme_break, break_by_pair, is_consonant, ends_in_linker, ends_in_pictograph, ends_in_half_flag}
+use Rattle.unicode_width.proofs.Rules.{str_width-printable}
+use Rattle.ansi_columns.specs.Columns.{cluster_width}
+use Rattle.ansi_columns.specs.Seams.{links, seam_of}
+use Rattle.ansi_columns.specs.declared.seams.Seam.{Seam}
+use Rattle.ansi_columns.proofs.SeamLemmas.{seam-push, joins, decided}
+
+abbrev is_printable : ℕ → Bool
+is_printable = is_in_range 0x20 0x7E
+
+below : (c : ℕ) → is_printable c ≡ true → c < 0x7F
+below c printable = grind (arith, nat_tests)
+
+no_value : (c : ℕ) → is_printable c ≡ true → Other ≡ grapheme_cluster_break c
+unfolding ucd_breaks
+no_value c printable =
+    let test = Stepped-below grapheme_cluster_break grapheme_cluster_break_stepped (λ x v. not (is_printable x) || (grapheme_cluster_break_number Other == grapheme_cluster_break_number v)) 0x7F refl c (below c printable) in
+    grapheme_cluster_break_number_injective _ _ (eqb-true _ _ (rw printable at test))
+
+no_conjunct : (c : ℕ) → is_printable c ≡ true → InCb.None ≡ indic_conjunct_break c
+unfolding ucd_derived
+no_conjunct c printable =
+    indic_conjunct_break_number_injective _ _ (eqb-true _ _
+    (Stepped-below indic_conjunct_break indic_conjunct_break_stepped (λ x v. indic_conjunct_break_number InCb.None == indic_conjunct_break_number v) 0x7F refl c (below c printable)))
+
+not-false : (b : Bool) → not b ≡ true → false ≡ b
+not-false true e = cc
+not-false false e = refl
+
+no_pictograph : (c : ℕ) → is_printable c ≡ true → false ≡ is_extended_pictographic c
+unfolding ucd_emoji
+no_pictograph c printable = not-false _ (Stepped-below is_extended_pictographic is_extended_pictographic_stepped (λ x v. not v) 0x7F refl c (below c printable))
+
+-- after it, as after nothing
+pub seam-printable : (c : ℕ) (before : List ℕ) → is_printable c ≡ true → seam_of [] ≡ seam_of (c ∷ before)
+unfolding ends_in_linker ends_in_pictograph ends_in_half_flag
+seam-printable c before printable =
+    seam-push c (seam_of before) before refl Other false false false false (no_value c printable)
+    (ap (λ v. links v (seam_of before).is_linked) (no_conjunct c printable))
+    (ap (λ b. b || false) (no_pictograph c printable)) refl refl
+
+no_join : (a b d : Bool) → (((a && false) || (b && false)) || (d && false)) ≡ false
+no_join true true true = refl
+no_join true true false = refl
+no_join true false true = refl
+no_join true false false = refl
+no_join false true true = refl
+no_join false true false = refl
+no_join false false true = refl
+no_join false false false = refl
+
+-- before it, the value of the character there decides alone
+pub ends-printable : (s : Seam) (before : List ℕ) (next : ℕ) (after : List ℕ) → before ≢ [] → s ≡ seam_of before → is_printable next ≡ true
+    → unwrap_or (break_by_pair true s.last Other) true ≡ is_grapheme_break true before (next ∷ after)
+ends-printable s before next after some is printable =
+    let joins_none : joins s Other next ≡ false =
+        ap (λ (v : IndicConjunctBreak). ((s.is_linked && is_consonant v) || (s.is_joined && is_extended_pictographic next)) || (s.is_half_flag && false)) (sym (no_conjunct next printable))
+        ∙ ap (λ b. ((s.is_linked && false) || (s.is_joined && b)) || (s.is_half_flag && false)) (sym (no_pictograph next printable))
+        ∙ no_join s.is_linked s.is_joined s.is_half_flag in
+    ap (λ b. unwrap_or (break_by_pair true s.last Other) (not b)) (sym joins_none)
+    ∙ decided s before next after some is Other (no_value next printable) (break_by_pair true s.last Other) refl
+
+-- alone, it has one column
+pub width-one : (x : List ℕ) → IsUtf8 x → length x ≡ 1 → 0x20 ≤ slice_index x 0 → slice_index x 0 ≤ 0x7E → 1 ≡ cluster_width (chars x)
+width-one [] utf8 one low high = absurd (omega arith)
+width-one (b ∷ c ∷ x) utf8 one low high = absurd (omega (arith, one))
+width-one (b ∷ []) utf8 one low high =
+    let printable : is_printable b ≡ true = grind (arith, nat_tests) in
+    let ascii : b < 128 = omega (arith, high) in
+    let char : chars (b ∷ []) ≡ b ∷ [] = chars_past_char (b ∷ []) [] b utf8 (sym (append-nil (encode_utf8 b) ∙ encode_ascii b ascii)) ∙ ap (λ cs. b ∷ cs) chars-nil in
+    sym (str_width-printable false (b ∷ []) (rw printable refl)) ∙ ap cluster_width (sym char)
