@@ -1,8 +1,13 @@
 -- Printable ASCII in the tables of the rules on clusters, and its columns.
-use Rattle.std.proofs.Common.{◌≡◌, ◌≢◌, ℕ, ◌<◌, ◌≤◌, Bool, true, false, not, ◌&&◌, ◌||◌, ◌==◌, List, [], ◌∷◌, length, slice_index, chars, Option, unwrap_or, eqb-true, refl, sym, ap, ◌∙◌, arith, append-nil, encode_utf8}
+use Rattle.std.proofs.Common.{◌≡◌, ◌≢◌, ℕ, ◌+◌, ◌<◌, ◌≤◌, Bool, true, false, not, ◌&&◌, ◌||◌, ◌==◌, List, [], ◌∷◌, length, slice_index, chars, Option, unwrap_or, IsTrue, eqb-true, refl, sym, ap, ◌∙◌, arith, append-nil, encode_utf8}
 use Rattle.std.specs.Int.{is_in_range}
+use Rattle.std.specs.List.{All, list_all}
+use Rattle.std.proofs.lemmas.Bool.{and_parts}
 use Rattle.std.proofs.lemmas.Bool.Decides.{nat_tests}
-use Rattle.std.proofs.lemmas.Str.{encode_ascii, chars-nil, chars_past_char}
+use Rattle.std.proofs.lemmas.List.Elements.{All-nil, All-cons}
+use Rattle.std.proofs.lemmas.List.Sums.{sum_by-cons}
+use Rattle.std.proofs.lemmas.Str.Ascii.{IsAscii-from_all}
+use Rattle.std.proofs.lemmas.Str.{encode_ascii, chars-nil, chars_past_char, chars-IsAscii}
 use Rattle.std.specs.Str.{IsUtf8}
 use Rattle.ucd_table.proofs.Facts.{Stepped-below}
 use Rattle.ucd_breaks.specs.GraphemeClusterBreak.{grapheme_cluster_break, grapheme_cluster_break_number}
@@ -20,9 +25,11 @@ use Rattle.ucd_emoji.proofs.BinaryLemmas.{is_extended_pictographic_stepped}
 use Rattle.ucd_emoji.proofs.Computing.{ucd_emoji}
 use Rattle.unicode_segmentation.specs.Grapheme.{is_grapheme_break, break_by_pair, is_consonant, ends_in_linker, ends_in_pictograph, ends_in_half_flag}
 use Rattle.unicode_width.proofs.Rules.{str_width-printable}
-use Rattle.ansi_columns.specs.Columns.{cluster_width}
+use Rattle.ansi_columns.specs.Columns.{cluster_width, columns_of, columns}
 use Rattle.ansi_columns.specs.Seams.{links, seam_of}
+use Rattle.ansi_columns.specs.Walks.{clusters_after}
 use Rattle.ansi_columns.specs.declared.seams.Seam.{Seam}
+use Rattle.ansi_columns.proofs.ClusterLemmas.{cluster-begins, cluster-ends, cluster-last, clusters-none}
 use Rattle.ansi_columns.proofs.SeamLemmas.{seam-push, joins, decided}
 
 abbrev is_printable : ℕ → Bool
@@ -89,3 +96,33 @@ width-one (b ∷ []) utf8 one low high =
     let ascii : b < 128 = omega (arith, high) in
     let char : chars (b ∷ []) ≡ b ∷ [] = chars_past_char (b ∷ []) [] b utf8 (sym (append-nil (encode_utf8 b) ∙ encode_ascii b ascii)) ∙ ap (λ cs. b ∷ cs) chars-nil in
     sym (str_width-printable false (b ∷ []) (rw printable refl)) ∙ ap cluster_width (sym char)
+
+-- ---- a text of printable ASCII
+
+width-single : (c : ℕ) → is_printable c ≡ true → cluster_width (c ∷ []) ≡ 1
+width-single c printable = str_width-printable false (c ∷ []) (rw printable refl)
+
+breaks-between : (before : List ℕ) (c d : ℕ) (cs : List ℕ) → is_printable c ≡ true → is_printable d ≡ true → is_grapheme_break true (c ∷ before) (d ∷ cs) ≡ true
+breaks-between before c d cs first second =
+    sym (ends-printable (seam_of (c ∷ before)) (c ∷ before) d cs (λ none. cc) refl second)
+    ∙ ap (λ v. unwrap_or (break_by_pair true v Other) true) (sym (no_value c first))
+
+columns-from : (before cs : List ℕ) → list_all is_printable cs ≡ true → columns_of (clusters_after before cs) ≡ length cs
+columns-from before [] all = ap columns_of (clusters-none before)
+columns-from before (c ∷ []) all =
+    ap columns_of (cluster-begins before c [] ∙ cluster-last (c ∷ []) (c ∷ before) (λ none. cc))
+    ∙ sum_by-cons cluster_width (c ∷ []) [] ∙ ap (λ n. n + 0) (width-single c (and_parts _ _ all).0)
+columns-from before (c ∷ d ∷ cs) all =
+    let first = (and_parts _ _ all).0 in
+    let rest = (and_parts _ _ all).1 in
+    let split : columns_of (clusters_after before (c ∷ d ∷ cs)) ≡ cluster_width (c ∷ []) + columns_of (clusters_after (c ∷ before) (d ∷ cs)) =
+        ap columns_of (cluster-begins before c (d ∷ cs) ∙ cluster-ends (c ∷ []) (c ∷ before) (d ∷ cs) (breaks-between before c d cs first (and_parts _ _ rest).0))
+        ∙ sum_by-cons cluster_width (c ∷ []) (clusters_after (c ∷ before) (d ∷ cs)) in
+    omega (arith, split, width-single c first, columns-from (c ∷ before) (d ∷ cs) rest)
+
+are_ascii : (x : List ℕ) → list_all is_printable x ≡ true → All (λ b. b < 128) x
+are_ascii [] all = All-nil _
+are_ascii (b ∷ x) all = All-cons (λ b. b < 128) b x (omega (arith, below b (and_parts _ _ all).0)) (are_ascii x (and_parts _ _ all).1)
+
+pub columns-printable : (x : List ℕ) → IsTrue (list_all is_printable x) → columns x ≡ length x
+columns-printable x all = ap (λ cs. columns_of (clusters_after [] cs)) (chars-IsAscii x (IsAscii-from_all x (are_ascii x all))) ∙ columns-from [] x all

@@ -1,6 +1,6 @@
 pub mod SeamLemmas
-pub mod AsciiLemmas
 pub mod ClusterLemmas
+pub mod AsciiLemmas
 pub mod PlaceLemmas
 pub mod WalkLemmas
 pub mod ReverseLemmas
