@@ -6,6 +6,9 @@
 //! A line that is empty or begins with `#` is none.
 #![tactic(auto)]
 
+#[cfg(test)]
+mod docs;
+
 use ansi_columns::AnsiColumns;
 use ansi_str::AnsiStr;
 use std::alloc::{AllocError, Global};
