@@ -79,13 +79,35 @@ static size_t position(const struct row *r, size_t i) { return number(r, 4 + i);
 
 #define TEXT(t) (t)->bytes, (t)->len
 
-/* The edits of a row, each of a kind, two numbers and a pattern. */
+/* One edit of a row, which has its kind, two numbers and a pattern from there on. */
+static ansi_str_edit_step edit_of(const struct row *r, size_t i) {
+    uint32_t kind = (uint32_t)position(r, i);
+    size_t first = position(r, i + 1), second = position(r, i + 2);
+    const struct text *pattern = argument(r, i + 3);
+    switch (kind) {
+    case ANSI_STR_EDIT_CUT:
+        return ansi_str_edit_cut(first, second);
+    case ANSI_STR_EDIT_LEFT:
+        return ansi_str_edit_left(first);
+    case ANSI_STR_EDIT_RIGHT:
+        return ansi_str_edit_right(first);
+    case ANSI_STR_EDIT_PART:
+        return ansi_str_edit_part(TEXT(pattern), first);
+    case ANSI_STR_EDIT_PREFIX:
+        return ansi_str_edit_prefix(TEXT(pattern));
+    case ANSI_STR_EDIT_SUFFIX:
+        return ansi_str_edit_suffix(TEXT(pattern));
+    default:
+        return ansi_str_edit_of(kind, first, second, TEXT(pattern));
+    }
+}
+
+/* The edits of a row. */
 static ansi_str_edit_step *edits_of(const struct row *r, size_t *count) {
     *count = (r->count - 4) / 4;
     ansi_str_edit_step *edits = __real_malloc((*count + 1) * sizeof *edits);
     for (size_t i = 0; i < *count; i++) {
-        edits[i] = ansi_str_edit_of((uint32_t)position(r, 4 * i), position(r, 4 * i + 1), position(r, 4 * i + 2),
-                                    TEXT(argument(r, 4 * i + 3)));
+        edits[i] = edit_of(r, 4 * i);
     }
     return edits;
 }
@@ -322,10 +344,15 @@ static void expect_blocks(const struct row *r) {
     }
     uint32_t past = status == ANSI_STR_OK ? ANSI_STR_NO : status;
     expect("no style", ansi_str_block_style(TEXT(t), count).status == past);
+    expect("no style past 32 bits", ansi_str_block_style(TEXT(t), (size_t)UINT32_MAX + 1).status == past);
     expect_one(r, "block", past, count, &EMPTY, requests);
     if (count > 0) {
+        memset(buffer, GUARD, len);
         answer = ansi_str_blocks(TEXT(t), buffer, len, blocks, count - 1);
         expect("too few entries", answer.status == ANSI_STR_TOO_SMALL && answer.count == count && answer.len == len);
+        answer = ansi_str_blocks(TEXT(t), buffer, len - 1, blocks, count);
+        expect("too small a buffer", answer.status == ANSI_STR_TOO_SMALL && answer.count == count && answer.len == len);
+        expect("nothing is written", is_guard(buffer, 0, len + 1));
     }
     free(buffer);
     free(blocks);

@@ -2,18 +2,56 @@
 use super::expect;
 use ansi_lines_io::devices::{ReadFault, Sink, Source};
 use ansi_lines_io::host::{HostIn, HostOut, SteadyWrite};
+use ansi_lines_io::reading::{MAX_BYTES, read_text};
 use std::io::{self, Error, ErrorKind, Read, Write};
 use std::process::Abort;
 
-// The kinds of the errors that a reader's reads end with in turn, and the fault that each is.
-static FAULTS: [(ErrorKind, ReadFault); 7] = [
+// The kinds of the errors that a reader's reads end with in turn, each kind of std among them, and the fault that each is.
+static FAULTS: [(ErrorKind, ReadFault); 44] = [
     (ErrorKind::Interrupted, ReadFault::Interrupted),
     (ErrorKind::Interrupted, ReadFault::Interrupted),
     (ErrorKind::WouldBlock, ReadFault::Failed),
     (ErrorKind::Interrupted, ReadFault::Interrupted),
+    (ErrorKind::NotFound, ReadFault::Failed),
+    (ErrorKind::PermissionDenied, ReadFault::Failed),
+    (ErrorKind::ConnectionRefused, ReadFault::Failed),
+    (ErrorKind::ConnectionReset, ReadFault::Failed),
+    (ErrorKind::HostUnreachable, ReadFault::Failed),
+    (ErrorKind::NetworkUnreachable, ReadFault::Failed),
+    (ErrorKind::ConnectionAborted, ReadFault::Failed),
+    (ErrorKind::NotConnected, ReadFault::Failed),
+    (ErrorKind::AddrInUse, ReadFault::Failed),
+    (ErrorKind::AddrNotAvailable, ReadFault::Failed),
+    (ErrorKind::NetworkDown, ReadFault::Failed),
     (ErrorKind::BrokenPipe, ReadFault::Failed),
+    (ErrorKind::AlreadyExists, ReadFault::Failed),
+    (ErrorKind::NotADirectory, ReadFault::Failed),
+    (ErrorKind::IsADirectory, ReadFault::Failed),
+    (ErrorKind::DirectoryNotEmpty, ReadFault::Failed),
+    (ErrorKind::ReadOnlyFilesystem, ReadFault::Failed),
+    (ErrorKind::FilesystemLoop, ReadFault::Failed),
+    (ErrorKind::StaleNetworkFileHandle, ReadFault::Failed),
+    (ErrorKind::InvalidInput, ReadFault::Failed),
+    (ErrorKind::InvalidData, ReadFault::Failed),
     (ErrorKind::TimedOut, ReadFault::Failed),
+    (ErrorKind::WriteZero, ReadFault::Failed),
+    (ErrorKind::StorageFull, ReadFault::Failed),
+    (ErrorKind::NotSeekable, ReadFault::Failed),
+    (ErrorKind::QuotaExceeded, ReadFault::Failed),
+    (ErrorKind::FileTooLarge, ReadFault::Failed),
+    (ErrorKind::ResourceBusy, ReadFault::Failed),
+    (ErrorKind::ExecutableFileBusy, ReadFault::Failed),
+    (ErrorKind::Deadlock, ReadFault::Failed),
+    (ErrorKind::CrossesDevices, ReadFault::Failed),
+    (ErrorKind::TooManyLinks, ReadFault::Failed),
+    (ErrorKind::InvalidFilename, ReadFault::Failed),
+    (ErrorKind::ArgumentListTooLong, ReadFault::Failed),
+    (ErrorKind::Unsupported, ReadFault::Failed),
+    (ErrorKind::UnexpectedEof, ReadFault::Failed),
+    (ErrorKind::OutOfMemory, ReadFault::Failed),
+    (ErrorKind::InProgress, ReadFault::Failed),
     (ErrorKind::Other, ReadFault::Failed),
+    (ErrorKind::Uncategorized, ReadFault::Failed),
 ];
 
 // A reader whose reads fail so, and which is then at its end.
@@ -47,6 +85,42 @@ fn a_reader_of_std_fails_by_the_kind_of_its_error(rt: HostRuntime) {
     }
     let read = device.read(&mut [0]);
     expect(&rt, read == Ok(0), "a read at the end", FAULTS.len());
+}
+
+// A reader of so many bytes, one at a read, and each read after one that is interrupted.
+#[derive(Drop)]
+struct Slow {
+    left: usize,
+    is_interrupted: bool,
+}
+
+impl Read for Slow {
+    fn read(&mut self, room: &mut [u8]) -> io::Result<usize> {
+        self.is_interrupted = !self.is_interrupted;
+        if self.is_interrupted {
+            return Err(Error::from(ErrorKind::Interrupted));
+        }
+        let Some(first) = room.first_mut() else {
+            return Ok(0);
+        };
+        if self.left == 0 {
+            return Ok(0);
+        }
+        self.left -= 1;
+        *first = b'a';
+        Ok(1)
+    }
+}
+
+#[test]
+fn a_reader_of_std_is_asked_up_to_the_last_read(rt: HostRuntime) {
+    let mut device = HostIn::new(Slow {
+        left: MAX_BYTES,
+        is_interrupted: false,
+    });
+    let text = read_text(rt.alloc(), &mut device);
+    let is_whole = text.is_ok_and(|text| text.len() == MAX_BYTES);
+    expect(&rt, is_whole, "the longest input", "a byte a read");
 }
 
 // A writer whose first calls work or fail as told.
