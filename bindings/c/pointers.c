@@ -1,16 +1,18 @@
-/* Tries that the header passes no NULL on, where a caller gives NULL with a length of 0. The calls themselves are those below, and
-   look at their pointers alone. Ends with 1 where one is NULL. */
+/* Tries that the header passes no NULL on, where a caller gives NULL with a length of 0, and every other pointer, length and number
+   as it is. The calls themselves are those below, and look at what they are given alone. Ends with 1 where something doesn't
+   hold. */
 #include "ansi_str.h"
 
 #include <stdio.h>
 #include <stdlib.h>
+#include <string.h>
 
 static long tried = 0;
 
-static void expect(const char *what, const void *pointer) {
+static void expect(const char *what, const char *of, int is_so) {
     tried++;
-    if (pointer == NULL) {
-        fprintf(stderr, "pointers: %s: NULL\n", what);
+    if (!is_so) {
+        fprintf(stderr, "pointers: %s: %s\n", of, what);
         exit(1);
     }
 }
@@ -19,30 +21,54 @@ static const ansi_str_answer ANSWER;
 static const ansi_str_answers ANSWERS;
 static const ansi_str_style_answer STYLE;
 
+/* What a caller gives: NULL and 0 alone, or pointers, and lengths and numbers that are past 32 bits. */
+static int is_given = 0;
+static char text_bytes[1], pattern_bytes[1], room[1];
+static size_t ends_given[1];
+static ansi_str_block_entry blocks_given[1];
+static ansi_str_styled_block_entry styled_blocks_given[1];
+
+#define GIVEN(pointer) (is_given ? (pointer) : NULL)
+#define NUMBER(n) (is_given ? ((size_t)1 << 32) + (n) : 0)
+
+/* A pointer and a length, as a call gets them. */
+static void expect_pointer(const char *call, const char *name, const void *pointer, const void *given, size_t len, size_t wanted) {
+    expect(name, call, pointer != NULL && (!is_given || pointer == given));
+    expect(name, call, len == wanted);
+}
+
 #define TEXT const uint8_t *text, size_t text_len
 #define PATTERN const uint8_t *pattern, size_t pattern_len
 #define BUFFER uint8_t *buffer, size_t buffer_len
-#define EXPECT_TEXT (expect(__func__, text), (void)text_len)
-#define EXPECT_PATTERN (expect(__func__, pattern), (void)pattern_len)
-#define EXPECT_BUFFER (expect(__func__, buffer), (void)buffer_len)
+#define EXPECT_TEXT expect_pointer(__func__, "the text", text, text_bytes, text_len, NUMBER(1))
+#define EXPECT_PATTERN expect_pointer(__func__, "the pattern", pattern, pattern_bytes, pattern_len, NUMBER(2))
+#define EXPECT_BUFFER expect_pointer(__func__, "the buffer", buffer, room, buffer_len, NUMBER(3))
+#define EXPECT_NONE (void)0
+#define EXPECT_ONE expect("the number", __func__, i == NUMBER(4))
+#define EXPECT_TWO (EXPECT_ONE, expect("the second number", __func__, k == NUMBER(5)))
 
-#define ASKS(name, number) \
-    ansi_str_answer ansi_str_raw_##name(TEXT number) { return EXPECT_TEXT, ANSWER; }
+#define ASKS(name, numbers) \
+    ansi_str_answer ansi_str_raw_##name(TEXT numbers) { return EXPECT_TEXT, EXPECT_##numbers, ANSWER; }
 #define SEARCHES(name) \
     ansi_str_answer ansi_str_raw_##name(TEXT, PATTERN) { return EXPECT_TEXT, EXPECT_PATTERN, ANSWER; }
 #define WRITES(name, numbers) \
-    ansi_str_answer ansi_str_raw_##name(TEXT numbers, BUFFER) { return EXPECT_TEXT, EXPECT_BUFFER, ANSWER; }
-#define WRITES_BY_PATTERN(name, number) \
-    ansi_str_answer ansi_str_raw_##name(TEXT, PATTERN number, BUFFER) { return EXPECT_TEXT, EXPECT_PATTERN, EXPECT_BUFFER, ANSWER; }
-#define LISTS_BLOCKS(name, entry) \
-    ansi_str_answers ansi_str_raw_##name(TEXT, BUFFER, entry *blocks, size_t blocks_len) { \
-        return EXPECT_TEXT, EXPECT_BUFFER, expect(__func__, blocks), (void)blocks_len, ANSWERS; \
+    ansi_str_answer ansi_str_raw_##name(TEXT numbers, BUFFER) { return EXPECT_TEXT, EXPECT_##numbers, EXPECT_BUFFER, ANSWER; }
+#define WRITES_BY_PATTERN(name, numbers) \
+    ansi_str_answer ansi_str_raw_##name(TEXT, PATTERN numbers, BUFFER) { \
+        return EXPECT_TEXT, EXPECT_PATTERN, EXPECT_##numbers, EXPECT_BUFFER, ANSWER; \
     }
+#define LISTS_BLOCKS(name) \
+    ansi_str_answers ansi_str_raw_##name(TEXT, BUFFER, ENTRY(name) *entries, size_t count) { \
+        expect_pointer(__func__, "the blocks", entries, name##_given, count, NUMBER(6)); \
+        return EXPECT_TEXT, EXPECT_BUFFER, ANSWERS; \
+    }
+#define ENTRY(name) ENTRY_OF_##name
+#define ENTRY_OF_blocks ansi_str_block_entry
+#define ENTRY_OF_styled_blocks ansi_str_styled_block_entry
 #define NONE
 #define ONE , size_t i
 #define TWO , size_t i, size_t k
 
-#pragma GCC diagnostic ignored "-Wunused-parameter"
 ASKS(is_char_boundary, ONE)
 ASKS(floor_char_boundary, ONE)
 ASKS(is_whole, NONE)
@@ -61,52 +87,73 @@ WRITES(block_end, ONE)
 WRITES_BY_PATTERN(strip_prefix, NONE)
 WRITES_BY_PATTERN(strip_suffix, NONE)
 WRITES_BY_PATTERN(part, ONE)
-LISTS_BLOCKS(blocks, ansi_str_block_entry)
-LISTS_BLOCKS(styled_blocks, ansi_str_styled_block_entry)
+LISTS_BLOCKS(blocks)
+LISTS_BLOCKS(styled_blocks)
 
-ansi_str_style_answer ansi_str_raw_block_style(TEXT, size_t i) { return EXPECT_TEXT, STYLE; }
+ansi_str_style_answer ansi_str_raw_block_style(TEXT, size_t i) { return EXPECT_TEXT, EXPECT_ONE, STYLE; }
 
 ansi_str_answers ansi_str_raw_split(TEXT, PATTERN, BUFFER, size_t *ends, size_t ends_len) {
-    return EXPECT_TEXT, EXPECT_PATTERN, EXPECT_BUFFER, expect(__func__, ends), ANSWERS;
+    expect_pointer(__func__, "the ends", ends, ends_given, ends_len, NUMBER(6));
+    return EXPECT_TEXT, EXPECT_PATTERN, EXPECT_BUFFER, ANSWERS;
 }
 
+/* The edits of which one call is made, and what each takes: two numbers and a pattern. */
+enum { EDITS = 7 };
+static ansi_str_edit_step edits_given[EDITS];
+static const size_t TAKEN[EDITS][3] = {{4, 5, 0}, {4, 0, 0}, {4, 0, 0}, {4, 0, 2}, {0, 0, 2}, {0, 0, 2}, {0, 0, 0}};
+
+static size_t number(size_t n) { return n == 0 ? 0 : NUMBER(n); }
+
 ansi_str_answer ansi_str_raw_edit(TEXT, const ansi_str_edit_step *edits, size_t edits_len, BUFFER) {
-    expect(__func__, edits);
-    for (size_t i = 0; i < edits_len; i++) {
-        expect("the pattern of an edit", edits[i].pattern);
+    expect("the edits", __func__, edits != NULL && edits_len == (edits == edits_given ? EDITS : NUMBER(6)));
+    for (size_t i = 0; edits == edits_given && i < EDITS; i++) {
+        expect("the pattern of an edit", __func__, edits[i].pattern != NULL && edits[i].pattern_len == number(TAKEN[i][2]));
+        expect("the numbers of an edit", __func__, edits[i].first == number(TAKEN[i][0]) && edits[i].second == number(TAKEN[i][1]));
     }
     return EXPECT_TEXT, EXPECT_BUFFER, ANSWER;
 }
 
-int main(void) {
-    const ansi_str_edit_step edits[] = {
-        ansi_str_edit_cut(0, 0),       ansi_str_edit_left(0),         ansi_str_edit_right(0), ansi_str_edit_part(NULL, 0, 0),
-        ansi_str_edit_prefix(NULL, 0), ansi_str_edit_suffix(NULL, 0), ansi_str_edit_trim(),
+#define GIVE_TEXT GIVEN(text_bytes), NUMBER(1)
+#define GIVE_PATTERN GIVEN(pattern_bytes), NUMBER(2)
+#define GIVE_BUFFER GIVEN(room), NUMBER(3)
+
+static void call_each(void) {
+    const ansi_str_edit_step edits[EDITS] = {
+        ansi_str_edit_cut(NUMBER(4), NUMBER(5)),  ansi_str_edit_left(NUMBER(4)),      ansi_str_edit_right(NUMBER(4)),
+        ansi_str_edit_part(GIVE_PATTERN, NUMBER(4)), ansi_str_edit_prefix(GIVE_PATTERN), ansi_str_edit_suffix(GIVE_PATTERN),
+        ansi_str_edit_trim(),
     };
-    ansi_str_is_char_boundary(NULL, 0, 0);
-    ansi_str_floor_char_boundary(NULL, 0, 0);
-    ansi_str_is_whole(NULL, 0);
-    ansi_str_has_any(NULL, 0);
-    ansi_str_find(NULL, 0, NULL, 0);
-    ansi_str_starts_with(NULL, 0, NULL, 0);
-    ansi_str_ends_with(NULL, 0, NULL, 0);
-    ansi_str_strip(NULL, 0, NULL, 0);
-    ansi_str_trim(NULL, 0, NULL, 0);
-    ansi_str_cut(NULL, 0, 0, 0, NULL, 0);
-    ansi_str_left(NULL, 0, 0, NULL, 0);
-    ansi_str_right(NULL, 0, 0, NULL, 0);
-    ansi_str_block(NULL, 0, 0, NULL, 0);
-    ansi_str_block_start(NULL, 0, 0, NULL, 0);
-    ansi_str_block_end(NULL, 0, 0, NULL, 0);
-    ansi_str_strip_prefix(NULL, 0, NULL, 0, NULL, 0);
-    ansi_str_strip_suffix(NULL, 0, NULL, 0, NULL, 0);
-    ansi_str_part(NULL, 0, NULL, 0, 0, NULL, 0);
-    ansi_str_blocks(NULL, 0, NULL, 0, NULL, 0);
-    ansi_str_styled_blocks(NULL, 0, NULL, 0, NULL, 0);
-    ansi_str_block_style(NULL, 0, 0);
-    ansi_str_split(NULL, 0, NULL, 0, NULL, 0, NULL, 0);
-    ansi_str_edit(NULL, 0, NULL, 0, NULL, 0);
-    ansi_str_edit(NULL, 0, edits, sizeof edits / sizeof edits[0], NULL, 0);
+    memcpy(edits_given, edits, sizeof edits);
+    ansi_str_is_char_boundary(GIVE_TEXT, NUMBER(4));
+    ansi_str_floor_char_boundary(GIVE_TEXT, NUMBER(4));
+    ansi_str_is_whole(GIVE_TEXT);
+    ansi_str_has_any(GIVE_TEXT);
+    ansi_str_find(GIVE_TEXT, GIVE_PATTERN);
+    ansi_str_starts_with(GIVE_TEXT, GIVE_PATTERN);
+    ansi_str_ends_with(GIVE_TEXT, GIVE_PATTERN);
+    ansi_str_strip(GIVE_TEXT, GIVE_BUFFER);
+    ansi_str_trim(GIVE_TEXT, GIVE_BUFFER);
+    ansi_str_cut(GIVE_TEXT, NUMBER(4), NUMBER(5), GIVE_BUFFER);
+    ansi_str_left(GIVE_TEXT, NUMBER(4), GIVE_BUFFER);
+    ansi_str_right(GIVE_TEXT, NUMBER(4), GIVE_BUFFER);
+    ansi_str_block(GIVE_TEXT, NUMBER(4), GIVE_BUFFER);
+    ansi_str_block_start(GIVE_TEXT, NUMBER(4), GIVE_BUFFER);
+    ansi_str_block_end(GIVE_TEXT, NUMBER(4), GIVE_BUFFER);
+    ansi_str_strip_prefix(GIVE_TEXT, GIVE_PATTERN, GIVE_BUFFER);
+    ansi_str_strip_suffix(GIVE_TEXT, GIVE_PATTERN, GIVE_BUFFER);
+    ansi_str_part(GIVE_TEXT, GIVE_PATTERN, NUMBER(4), GIVE_BUFFER);
+    ansi_str_blocks(GIVE_TEXT, GIVE_BUFFER, GIVEN(blocks_given), NUMBER(6));
+    ansi_str_styled_blocks(GIVE_TEXT, GIVE_BUFFER, GIVEN(styled_blocks_given), NUMBER(6));
+    ansi_str_block_style(GIVE_TEXT, NUMBER(4));
+    ansi_str_split(GIVE_TEXT, GIVE_PATTERN, GIVE_BUFFER, GIVEN(ends_given), NUMBER(6));
+    ansi_str_edit(GIVE_TEXT, NULL, NUMBER(6), GIVE_BUFFER);
+    ansi_str_edit(GIVE_TEXT, edits_given, EDITS, GIVE_BUFFER);
+}
+
+int main(void) {
+    call_each();
+    is_given = 1;
+    call_each();
     printf("pointers: %ld are as they should be\n", tried);
     return 0;
 }

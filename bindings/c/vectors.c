@@ -344,7 +344,6 @@ static void expect_blocks(const struct row *r) {
     }
     uint32_t past = status == ANSI_STR_OK ? ANSI_STR_NO : status;
     expect("no style", ansi_str_block_style(TEXT(t), count).status == past);
-    expect("no style past 32 bits", ansi_str_block_style(TEXT(t), (size_t)UINT32_MAX + 1).status == past);
     expect_one(r, "block", past, count, &EMPTY, requests);
     if (count > 0) {
         memset(buffer, GUARD, len);
