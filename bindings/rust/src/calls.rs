@@ -13,9 +13,10 @@ const REFUSED: u32 = 2;
 const TOO_SMALL: u32 = 4;
 const OUT_OF_MEMORY: u32 = 5;
 
-/// No close of a style is longer, and no start and close together.
-const LONGEST_CLOSE: usize = 88;
-const LONGEST_START_AND_CLOSE: usize = 251;
+/// No start of a style is longer, no close, and not both together.
+pub(crate) const LONGEST_START: usize = 163;
+pub(crate) const LONGEST_CLOSE: usize = 88;
+const LONGEST_START_AND_CLOSE: usize = LONGEST_START + LONGEST_CLOSE;
 
 #[repr(C)]
 #[derive(Clone, Copy)]

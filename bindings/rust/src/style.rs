@@ -1,5 +1,6 @@
 //! The style of a block, and its colors.
 
+use crate::calls::{LONGEST_CLOSE, LONGEST_START};
 use std::fmt::{self, Debug, Display, Formatter};
 
 /// A color by its name, by its number among 256, or by its red, green and blue.
@@ -100,8 +101,8 @@ pub struct Style {
     foreground: Option<Color>,
     background: Option<Color>,
     has_any: bool,
-    start: Sequences<163>,
-    end: Sequences<88>,
+    start: Sequences<LONGEST_START>,
+    end: Sequences<LONGEST_CLOSE>,
 }
 
 impl Style {
