@@ -44,6 +44,10 @@ static size_t find_frequent(const struct text *t) {
 static size_t starts_with(const struct text *t) {
     return ansi_str_starts_with(t->bytes, t->len, "zqzq", 4).status == ANSI_STR_NO ? 0 : SIZE_MAX;
 }
+/* the test of UTF-8 alone, since every text begins with no bytes */
+static size_t is_utf8(const struct text *t) {
+    return ansi_str_starts_with(t->bytes, t->len, "", 0).status == ANSI_STR_OK ? 0 : SIZE_MAX;
+}
 static size_t trim(const struct text *t) { return len_of(ansi_str_trim(t->bytes, t->len, buffer, room)); }
 static size_t hand_trim_all(const struct text *t) { return hand_trim(t->bytes, t->len); }
 static size_t strip_prefix(const struct text *t) {
@@ -92,6 +96,7 @@ static const struct call CALLS[] = {
     {"find", find_absent, NULL},
     {"find_frequent", find_frequent, NULL},
     {"starts_with", starts_with, NULL},
+    {"is_utf8", is_utf8, NULL},
     {"split", split, NULL},
     {"blocks", blocks, hand_walk},
     {"block_list", block_list, NULL},
