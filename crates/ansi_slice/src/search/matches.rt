@@ -64,7 +64,7 @@ fn boundary_from(text: &str, from: usize) -> Option<usize>
 }
 
 /// The first match at or past `from` that begins in the run and ends in it.
-#[inline]
+#[inline(always)]
 pub fn first_in_run(run: &str, pat: &str, from: usize) -> Option<usize>
     ensures { IsFirst (λ i. IsTrue (is_match run.now pat.now i)) from (length run.now) result }
 {
