@@ -1,18 +1,14 @@
 //! Cuts of a text.
-ghost use Rattle.std.specs.Prelude.{◌≡◌, ◌↔◌, ◌⊎◌, ◌≤◌, ◌+◌, ◌++◌, length, Some, MatchOption, slice_range, IsTrue, IsFalse, IsNone, IsOk, IfOk, IfSome, string_bytes};
+ghost use Rattle.std.specs.Prelude.{◌≡◌, ◌↔◌, ◌⊎◌, ◌≤◌, ◌+◌, length, Some, MatchOption, slice_range, IsTrue, IsFalse, IsNone, IsOk, IfOk, IfSome, string_bytes};
 ghost use Rattle.std.specs.Cow.{cow_str_bytes, IsBorrowedStr};
-ghost use Rattle.ansi_items.specs.Pieces.{pieces_of};
 ghost use Rattle.ansi_items.specs.Plain.{plain, has_escape};
-ghost use Rattle.ansi_slice.specs.Positions.{is_good_position, is_good_range, is_range_in};
+ghost use Rattle.ansi_slice.specs.Positions.{is_good_range, is_range_in};
 ghost use Rattle.ansi_slice.specs.Cut.{cut, cut_up_to};
-ghost use Rattle.ansi_slice.specs.Offsets.{sequences_up_to};
-ghost use Rattle.ansi_style.specs.States.{rendition_of};
-ghost use Rattle.ansi_style.specs.Written.{close, longest_close};
+ghost use Rattle.ansi_style.specs.Written.{longest_close};
 
 use crate::search::offsets::walk_to;
 use crate::slice::has_any;
 use crate::slice::sequences::push_sequences;
-use ansi_style::state::Style;
 use ansi_style::styles;
 use std::alloc::{AllocError, Allocator};
 use std::borrow::CowStr;
@@ -122,8 +118,10 @@ fn cut_front<A: Allocator>(
     let Some(to) = walk_to(&mut style, text, end) else {
         return Ok(None);
     };
-    let most = to + LONGEST_CLOSE;
-    Ok(Some(closed(alloc, most, "", 0, &text[..to], &style)?))
+    let mut cut = String::with_capacity(alloc, to + LONGEST_CLOSE)?;
+    cut.push_str(&text[..to])?;
+    styles::write_close(&style, &mut cut)?;
+    Ok(Some(cut))
 }
 
 /// The cut of a range in order, written, or `None` where the range is bad: the sequences up to its start,
@@ -148,25 +146,9 @@ fn cut_range<A: Allocator>(
     };
     // The sequences up to the start are what stands before it but for the plain bytes there.
     let most = from.saturating_sub(start) + to + LONGEST_CLOSE;
-    Ok(Some(closed(alloc, most, text, start, &rest[..to], &style)?))
-}
-
-/// Every sequence of a text up to a good position, a stretch after it, and the close of the style then, in a
-/// text that has room for so many bytes.
-fn closed<A: Allocator>(
-    alloc: A,
-    capacity: usize,
-    text: &str,
-    position: usize,
-    stretch: &str,
-    style: &Style,
-) -> Result<String<A>, AllocError>
-    requires { IsTrue (is_good_position (plain text.now) position) }
-    ensures { IfOk result (λ s. string_bytes s ≡ (sequences_up_to position (pieces_of text.now) ++ stretch.now) ++ close (rendition_of style.now)) }
-{
-    let mut out = String::with_capacity(alloc, capacity)?;
-    push_sequences(&mut out, text, position)?;
-    out.push_str(stretch)?;
-    styles::write_close(style, &mut out)?;
-    Ok(out)
+    let mut cut = String::with_capacity(alloc, most)?;
+    push_sequences(&mut cut, text, start)?;
+    cut.push_str(&rest[..to])?;
+    styles::write_close(&style, &mut cut)?;
+    Ok(Some(cut))
 }

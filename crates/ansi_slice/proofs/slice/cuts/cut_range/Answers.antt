@@ -6,23 +6,41 @@ use Rattle.ansi_slice.proofs.slice.cuts.cut_range.Goals as goal
 pub returns-in_default-walk_to-clause-cut : goal.returns-in_default-walk_to-clause-cut
 returns-in_default-walk_to-clause-cut g c = range-by_offset c.requires c.in-Some.ensures.offset c.range_from-rest.ensures.value ∙ c.in_default-walk_to.ensures.offset
 
-pub closed-requires : goal.closed-requires
-closed-requires g c = c.in-Some.ensures.offset.good
+pub push_sequences-requires : goal.push_sequences-requires
+push_sequences-requires g c = c.in-Some.ensures.offset.good
 
 -- memory is asked for where the range is good
 
-pub returns-in_err-closed-clause-takes_no_memory : goal.returns-in_err-closed-clause-takes_no_memory
-returns-in_err-closed-clause-takes_no_memory g c = λ bad.
+pub returns-in_err-cut-clause-takes_no_memory : goal.returns-in_err-cut-clause-takes_no_memory
+returns-in_err-cut-clause-takes_no_memory g c = λ bad.
+    let good = range-by_offset c.requires c.in-Some.ensures.offset c.range_from-rest.ensures.value ∙ c.in-Some-walk_to.ensures.offset.good in
+    absurd (cc (good, bad))
+
+pub returns-in_err-push_sequences-clause-takes_no_memory : goal.returns-in_err-push_sequences-clause-takes_no_memory
+returns-in_err-push_sequences-clause-takes_no_memory g c = λ bad.
+    let good = range-by_offset c.requires c.in-Some.ensures.offset c.range_from-rest.ensures.value ∙ c.in-Some-walk_to.ensures.offset.good in
+    absurd (cc (good, bad))
+
+pub returns-in_err-push_str-clause-takes_no_memory : goal.returns-in_err-push_str-clause-takes_no_memory
+returns-in_err-push_str-clause-takes_no_memory g c = λ bad.
+    let good = range-by_offset c.requires c.in-Some.ensures.offset c.range_from-rest.ensures.value ∙ c.in-Some-walk_to.ensures.offset.good in
+    absurd (cc (good, bad))
+
+pub returns-in_err-write_close-clause-takes_no_memory : goal.returns-in_err-write_close-clause-takes_no_memory
+returns-in_err-write_close-clause-takes_no_memory g c = λ bad.
     let good = range-by_offset c.requires c.in-Some.ensures.offset c.range_from-rest.ensures.value ∙ c.in-Some-walk_to.ensures.offset.good in
     absurd (cc (good, bad))
 
 -- the sequences up to the start, the stretch and the close are the cut
 pub returns-clause-cut : goal.returns-clause-cut
 returns-clause-cut g c =
+    let front = sequences_up_to c.args.start (pieces_of c.args.text.now) in
+    let pushed = c.in_ok-push_sequences.ensures.bytes ∙ ap (λ v. v ++ front) c.in_ok-cut.ensures.bytes in
     let all : c.in-Some-walk_to.to - 0 ≡ c.in-Some-walk_to.to = omega arith in
     let styled : rendition_of c.walk_to.new.style ≡ style_within _ c.args.text.now c.args.start = c.in-Some.ensures.style ∙ ap (λ r. style_within r c.args.text.now c.args.start) c.plain_style-style.ensures in (
       range-by_offset c.requires c.in-Some.ensures.offset c.range_from-rest.ensures.value ∙ c.in-Some-walk_to.ensures.offset.good,
-      c.in_ok-closed.ensures
-          ∙ ap (λ v. (sequences_up_to c.args.start (pieces_of c.args.text.now) ++ v) ++ close (rendition_of c.walk_to-2.new.style)) (c.range.ensures.value ∙ ap (λ n. take n c.range_from-rest.result.now) all)
+      c.in_ok-write_close.ensures
+          ∙ ap (λ v. v ++ close (rendition_of c.walk_to-2.new.style)) (c.in_ok-push_str.ensures.bytes ∙ ap (λ v. v ++ c.range.result.now) pushed)
+          ∙ ap (λ v. (front ++ v) ++ close (rendition_of c.walk_to-2.new.style)) (c.range.ensures.value ∙ ap (λ n. take n c.range_from-rest.result.now) all)
           ∙ cut-stretch c.requires c.in-Some.ensures.offset c.range_from-rest.ensures.value c.in-Some-walk_to.ensures.offset styled c.in-Some-walk_to.ensures.style,
     )
