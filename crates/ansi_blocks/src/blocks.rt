@@ -212,19 +212,19 @@ impl<'a, A: Allocator + Copy> Iterator for AnsiBlockIter<'a, A> {
     }
 }
 
-/// The first run of text in a text.
+/// The first run of text in a text. (Own.)
 #[derive(Clone, Copy)]
-struct Run<'a> {
-    text: &'a str,
+pub struct Run<'a> {
+    pub text: &'a str,
     /// Whether a sequence that is no SGR waits for it.
-    is_awaited: bool,
+    pub is_awaited: bool,
     /// The text after it.
-    rest: &'a str,
+    pub rest: &'a str,
 }
 
-/// The first run of a text. `style` is the style before the text, and becomes that of the run.
+/// The first run of a text. `style` is the style before the text, and becomes that of the run. (Own.)
 #[inline(always)]
-fn first_run<'a>(text: &'a str, style: &mut Style) -> Option<Run<'a>>
+pub fn first_run<'a>(text: &'a str, style: &mut Style) -> Option<Run<'a>>
     ensures none { IfNone result (blocks_from (rendition_of style.old) text.now ≡ []) }
     ensures first { IfSome result (λ run. blocks_from (rendition_of style.old) text.now
         ≡ block_after (waiting text.now 0) run.text.now (rendition_of style.new) ∷ blocks_from (rendition_of style.new) run.rest.now) }
@@ -268,9 +268,9 @@ fn block_text<'a, A: Allocator>(
     Ok(CowStr::Owned(joined))
 }
 
-/// The sequences before the first run of a text that are no SGR, joined.
+/// The sequences before the first run of a text that are no SGR, joined. `Err` means out of memory. (Own.)
 #[inline(never)]
-fn waiting<A: Allocator>(alloc: A, text: &str) -> Result<String<A>, AllocError>
+pub fn waiting<A: Allocator>(alloc: A, text: &str) -> Result<String<A>, AllocError>
     ensures { IfOk result (λ s. string_bytes s ≡ waiting text.now 0) }
 {
     let mut joined = String::new(alloc);

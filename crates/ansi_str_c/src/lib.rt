@@ -7,6 +7,8 @@ pub mod answers;
 pub mod blocks;
 pub mod edits;
 pub mod lists;
+pub mod next;
 pub mod searches;
 pub mod styles;
 pub mod texts;
+pub mod walks;

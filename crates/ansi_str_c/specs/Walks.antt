@@ -1,0 +1,31 @@
+-- Blocks that are taken off a text one by one.
+use Rattle.std.specs.Prelude.{◌≡◌, ◌⊎◌, ℕ, Bool, not, List, [], ◌∷◌, ◌==◌, length, Some}
+use Rattle.ansi_style.specs.declared.state.rendition.Rendition.{Rendition}
+use Rattle.ansi_str.specs.States.{rendition_of_numbers}
+use Rattle.ansi_str.specs.Blocks.{Block, blocks_from, block_after, waiting}
+use Rattle.ansi_str_c.specs.declared.answers.Answer.{Answer}
+use Rattle.ansi_str_c.specs.declared.walks.BlockWalk.{BlockWalk}
+use Rattle.ansi_str_c.specs.declared.walks.NextBlock.{NextBlock}
+use Rattle.ansi_str_c.specs.Answers.{ok, no, HasFailed, Gives}
+use Rattle.ansi_str_c.specs.Styles.{style_data}
+
+-- the blocks that a walk has left
+abbrev pub blocks_left : BlockWalk → List Block
+blocks_left w = blocks_from (rendition_of_numbers w.style) w.rest.now
+
+-- the sequences in the first of them, before its run
+abbrev pub sequences_left : BlockWalk → List ℕ
+sequences_left w = waiting w.rest.now 0
+
+-- a run in a style is told, and these blocks are left
+abbrev pub IsTold : List ℕ → Rendition → List Block → BlockWalk → NextBlock → Type 0
+IsTold w s bs walk block =
+    (block.text.now ≡ w) × (block.style ≡ style_data s) × (rendition_of_numbers walk.style ≡ s) × (blocks_left walk ≡ bs)
+
+-- a call gives the first of the blocks that are left: it writes the sequences in it and tells its run and its style, and the others are left; where there is no such block, no room or no memory, all is as it was
+abbrev pub GivesNext : BlockWalk → BlockWalk → NextBlock → NextBlock → Answer → List ℕ → List ℕ → Type 0
+GivesNext old new old_block block answer old_buffer buffer =
+    ((blocks_left old ≡ []) × HasFailed no answer old_buffer buffer × (new ≡ old) × (block ≡ old_block))
+    ⊎ ((w : List ℕ) × (s : Rendition) × (bs : List Block) × (blocks_left old ≡ block_after (sequences_left old) w s ∷ bs)
+    × Gives no (not (length (sequences_left old) == 0)) (Some (sequences_left old)) answer old_buffer buffer
+    × (((answer.status ≡ ok) × IsTold w s bs new block) ⊎ ((¬ (answer.status ≡ ok)) × (new ≡ old) × (block ≡ old_block))))
