@@ -1,10 +1,10 @@
 //! The calls of the library for C, over texts: the one module that isn't safe.
 
 use crate::style::{Color, Style};
-use crate::ESC;
+use std::borrow::Cow;
 use std::mem::MaybeUninit;
 use std::vec;
-use std::{ptr, str};
+use std::{ptr, slice, str};
 
 /// What `include/ansi_str.h` says of a status.
 const OK: u32 = 0;
@@ -50,12 +50,44 @@ struct RawStyle {
     has_any: bool,
 }
 
+/// A color, a font and a style as the library keeps them: their fields are its own.
 #[repr(C)]
-#[derive(Debug, Clone, Copy)]
+#[derive(Debug, Clone, Copy, PartialEq, Eq)]
+struct ColorNumbers {
+    kind: u8,
+    first: u8,
+    second: u8,
+    third: u8,
+}
+
+#[repr(C)]
+#[derive(Debug, Clone, Copy, PartialEq, Eq)]
+struct FontNumbers {
+    is_set: bool,
+    number: u8,
+}
+
+#[repr(C)]
+#[derive(Debug, Clone, Copy, PartialEq, Eq)]
+pub(crate) struct Numbers {
+    attributes: u32,
+    foreground: ColorNumbers,
+    background: ColorNumbers,
+    underline_color: ColorNumbers,
+    font: FontNumbers,
+}
+
+#[repr(C)]
+struct RawWalk {
+    rest: Bytes,
+    len: usize,
+    style: Numbers,
+}
+
+#[repr(C)]
 struct RawBlock {
-    text_start: usize,
-    text_end: usize,
-    end: usize,
+    text: Bytes,
+    len: usize,
     style: RawStyle,
 }
 
@@ -100,14 +132,15 @@ extern "C" {
         ends: *mut usize,
         count: usize,
     ) -> Answers;
-    fn ansi_str_raw_styled_blocks(
-        t: Bytes,
-        n: usize,
+    fn ansi_str_raw_blocks_begin_unchecked(t: Bytes, n: usize, walk: *mut RawWalk);
+    fn ansi_str_raw_blocks_next(
+        walk: *mut RawWalk,
+        block: *mut RawBlock,
         b: Room,
         m: usize,
-        blocks: *mut RawBlock,
-        count: usize,
-    ) -> Answers;
+    ) -> Answer;
+    fn ansi_str_raw_style_start(style: *const Numbers, b: Room, m: usize) -> Answer;
+    fn ansi_str_raw_style_end(style: *const Numbers, b: Room, m: usize) -> Answer;
 }
 
 /// A call is refused: a position lies inside a character, or the end of a range below its start.
@@ -148,7 +181,7 @@ const SMALL: usize = 512;
 
 /// What a call writes, with so much room for it at first, and then with as much as it asks for. The room isn't set before:
 /// a call doesn't read it.
-fn written(room: usize, call: impl Fn(Room, usize) -> Answer) -> Result<String, Unfinished> {
+fn written(room: usize, mut call: impl FnMut(Room, usize) -> Answer) -> Result<String, Unfinished> {
     if room > SMALL {
         return written_from(room, call);
     }
@@ -168,7 +201,10 @@ fn written(room: usize, call: impl Fn(Room, usize) -> Answer) -> Result<String, 
 }
 
 /// The same without the stack.
-fn written_from(room: usize, call: impl Fn(Room, usize) -> Answer) -> Result<String, Unfinished> {
+fn written_from(
+    room: usize,
+    mut call: impl FnMut(Room, usize) -> Answer,
+) -> Result<String, Unfinished> {
     let mut buffer = Vec::with_capacity(room);
     loop {
         let free = buffer.spare_capacity_mut();
@@ -366,55 +402,130 @@ impl Iterator for Parts {
     }
 }
 
-/// The blocks of a text, each by its text and its style: they stand one after the other in a text, each between the start
-/// of its style and the end.
+/// The blocks that are left of a text, each by its text and its style.
 #[derive(Debug, Clone)]
-pub(crate) struct Blocks {
-    all: String,
-    start: usize,
-    entries: vec::IntoIter<RawBlock>,
+pub(crate) struct Blocks<'a> {
+    rest: &'a str,
+    style: Numbers,
 }
 
-pub(crate) fn blocks(text: &str) -> Blocks {
-    // a block is a run of text, which ends at an ESC or where the text ends
-    let most = count_of(text, ESC) + 1;
-    let (all, entries) = listed(room_of_list(text), most, |buffer, entries| unsafe {
-        ansi_str_raw_styled_blocks(
-            text.as_ptr(),
-            text.len(),
-            buffer.as_mut_ptr().cast(),
-            buffer.len(),
-            entries.as_mut_ptr().cast(),
-            entries.len(),
-        )
-    });
+pub(crate) fn blocks(text: &str) -> Blocks<'_> {
+    let mut walk = walk_of("", Numbers::PLAIN);
+    // SAFETY: and a `str` is UTF-8
+    unsafe { ansi_str_raw_blocks_begin_unchecked(text.as_ptr(), text.len(), &mut walk) };
     Blocks {
-        all,
-        start: 0,
-        entries,
+        rest: text,
+        style: walk.style,
     }
 }
 
-impl Iterator for Blocks {
-    type Item = (String, Style);
-
-    fn next(&mut self) -> Option<(String, Style)> {
-        let entry = self.entries.next()?;
-        let start = &self.all[self.start..entry.text_start];
-        let end = &self.all[entry.text_end..entry.end];
-        let text = &self.all[entry.text_start..entry.text_end];
-        self.start = entry.end;
-        Some((text.to_owned(), style_of(&entry.style, start, end)))
-    }
-
-    fn size_hint(&self) -> (usize, Option<usize>) {
-        self.entries.size_hint()
+fn walk_of(rest: &str, style: Numbers) -> RawWalk {
+    RawWalk {
+        rest: rest.as_ptr(),
+        len: rest.len(),
+        style,
     }
 }
 
-fn style_of(style: &RawStyle, start: &str, end: &str) -> Style {
+/// What a call told of a text.
+///
+/// # Safety
+///
+/// The pointer and the length are those of a stretch of the text that a walk or a block has from the library: it is
+/// UTF-8.
+unsafe fn told<'a>(bytes: Bytes, len: usize) -> &'a str {
+    let told = slice::from_raw_parts(bytes, len);
+    debug_assert!(str::from_utf8(told).is_ok());
+    str::from_utf8_unchecked(told)
+}
+
+impl<'a> Iterator for Blocks<'a> {
+    type Item = (Cow<'a, str>, Style);
+
+    fn next(&mut self) -> Option<(Cow<'a, str>, Style)> {
+        let mut walk = walk_of(self.rest, self.style);
+        let mut block = RawBlock {
+            text: "".as_ptr(),
+            len: 0,
+            style: RawStyle::EMPTY,
+        };
+        let sequences = written(0, |b, m| unsafe {
+            ansi_str_raw_blocks_next(&mut walk, &mut block, b, m)
+        });
+        let mut sequences = sequences.ok()?;
+        // SAFETY: the call has told both, and the text lives as long as `self.rest` says
+        let run = unsafe { told(block.text, block.len) };
+        self.rest = unsafe { told(walk.rest, walk.len) };
+        self.style = walk.style;
+        let text = if sequences.is_empty() {
+            Cow::Borrowed(run)
+        } else {
+            sequences.push_str(run);
+            Cow::Owned(sequences)
+        };
+        Some((text, style_of(&block.style, walk.style)))
+    }
+}
+
+fn style_of(style: &RawStyle, numbers: Numbers) -> Style {
     let colors = (color_of(&style.foreground), color_of(&style.background));
-    Style::new(style.attributes, colors, style.has_any, start, end)
+    Style::new(style.attributes, colors, style.has_any, numbers)
+}
+
+impl Numbers {
+    /// Those of a style in which nothing is set.
+    pub(crate) const PLAIN: Numbers = Numbers {
+        attributes: 0,
+        foreground: ColorNumbers::NONE,
+        background: ColorNumbers::NONE,
+        underline_color: ColorNumbers::NONE,
+        font: FontNumbers {
+            is_set: false,
+            number: 0,
+        },
+    };
+
+    /// The sequences that set the style.
+    pub(crate) fn start(&self) -> String {
+        always(written(0, |b, m| unsafe {
+            ansi_str_raw_style_start(self, b, m)
+        }))
+    }
+
+    /// The sequences that end the style.
+    pub(crate) fn end(&self) -> String {
+        always(written(0, |b, m| unsafe {
+            ansi_str_raw_style_end(self, b, m)
+        }))
+    }
+}
+
+impl ColorNumbers {
+    const NONE: ColorNumbers = ColorNumbers {
+        kind: 0,
+        first: 0,
+        second: 0,
+        third: 0,
+    };
+}
+
+impl RawStyle {
+    const EMPTY: RawStyle = RawStyle {
+        attributes: 0,
+        foreground: RawColor::NONE,
+        background: RawColor::NONE,
+        has_any: false,
+    };
+}
+
+impl RawColor {
+    const NONE: RawColor = RawColor {
+        kind: 0,
+        number: 0,
+        red: 0,
+        green: 0,
+        blue: 0,
+    };
 }
 
 /// The names of colors, as the header numbers them from 1 on.
