@@ -66,6 +66,20 @@ LISTS_BLOCKS(styled_blocks, ansi_str_styled_block_entry)
 
 ansi_str_style_answer ansi_str_raw_block_style(TEXT, size_t i) { return EXPECT_TEXT, STYLE; }
 
+ansi_str_answer ansi_str_raw_blocks_begin(TEXT, ansi_str_block_walk *walk) {
+    return EXPECT_TEXT, expect(__func__, walk->rest), ANSWER;
+}
+
+void ansi_str_raw_blocks_begin_unchecked(TEXT, ansi_str_block_walk *walk) { EXPECT_TEXT, expect(__func__, walk->rest); }
+
+ansi_str_answer ansi_str_raw_blocks_next(ansi_str_block_walk *walk, ansi_str_next_block *block, BUFFER) {
+    return expect(__func__, walk->rest), expect(__func__, block->text), EXPECT_BUFFER, ANSWER;
+}
+
+ansi_str_answer ansi_str_raw_style_start(const ansi_str_style_numbers *style, BUFFER) { return EXPECT_BUFFER, ANSWER; }
+
+ansi_str_answer ansi_str_raw_style_end(const ansi_str_style_numbers *style, BUFFER) { return EXPECT_BUFFER, ANSWER; }
+
 ansi_str_answers ansi_str_raw_split(TEXT, PATTERN, BUFFER, size_t *ends, size_t ends_len) {
     return EXPECT_TEXT, EXPECT_PATTERN, EXPECT_BUFFER, expect(__func__, ends), ANSWERS;
 }
@@ -83,6 +97,13 @@ int main(void) {
         ansi_str_edit_cut(0, 0),       ansi_str_edit_left(0),         ansi_str_edit_right(0), ansi_str_edit_part(NULL, 0, 0),
         ansi_str_edit_prefix(NULL, 0), ansi_str_edit_suffix(NULL, 0), ansi_str_edit_trim(),
     };
+    ansi_str_block_walk walk;
+    ansi_str_next_block block;
+    ansi_str_blocks_begin(NULL, 0, &walk);
+    ansi_str_blocks_begin_unchecked(NULL, 0, &walk);
+    ansi_str_blocks_next(&walk, &block, NULL, 0);
+    ansi_str_style_start(&walk.style, NULL, 0);
+    ansi_str_style_end(&walk.style, NULL, 0);
     ansi_str_is_char_boundary(NULL, 0, 0);
     ansi_str_floor_char_boundary(NULL, 0, 0);
     ansi_str_is_whole(NULL, 0);

@@ -1,6 +1,7 @@
 -- Blocks that are taken off a text one by one.
-use Rattle.std.specs.Prelude.{◌≡◌, ◌⊎◌, ℕ, Bool, not, List, [], ◌∷◌, ◌==◌, length, Some}
+use Rattle.std.specs.Prelude.{◌≡◌, ◌⊎◌, ℕ, Bool, not, List, [], ◌∷◌, ◌==◌, length, Some, IsUtf8}
 use Rattle.ansi_style.specs.declared.state.rendition.Rendition.{Rendition}
+use Rattle.ansi_str.specs.Rendition.{plain_style}
 use Rattle.ansi_str.specs.States.{rendition_of_numbers}
 use Rattle.ansi_str.specs.Blocks.{Block, blocks_from, block_after, waiting}
 use Rattle.ansi_str_c.specs.declared.answers.Answer.{Answer}
@@ -13,6 +14,10 @@ use Rattle.ansi_str_c.specs.Styles.{style_data}
 abbrev pub blocks_left : BlockWalk → List Block
 blocks_left w = blocks_from (rendition_of_numbers w.style) w.rest.now
 
+-- a walk has all of a text left
+abbrev pub IsOver : List ℕ → BlockWalk → Type 0
+IsOver t w = (w.rest.now ≡ t) × (rendition_of_numbers w.style ≡ plain_style)
+
 -- the sequences in the first of them, before its run
 abbrev pub sequences_left : BlockWalk → List ℕ
 sequences_left w = waiting w.rest.now 0
@@ -20,7 +25,7 @@ sequences_left w = waiting w.rest.now 0
 -- a run in a style is told, and these blocks are left
 abbrev pub IsTold : List ℕ → Rendition → List Block → BlockWalk → NextBlock → Type 0
 IsTold w s bs walk block =
-    (block.text.now ≡ w) × (block.style ≡ style_data s) × (rendition_of_numbers walk.style ≡ s) × (blocks_left walk ≡ bs)
+    (block.text.now ≡ w) × IsUtf8 w × (block.style ≡ style_data s) × (rendition_of_numbers walk.style ≡ s) × (blocks_left walk ≡ bs)
 
 -- a call gives the first of the blocks that are left: it writes the sequences in it and tells its run and its style, and the others are left; where there is no such block, no room or no memory, all is as it was
 abbrev pub GivesNext : BlockWalk → BlockWalk → NextBlock → NextBlock → Answer → List ℕ → List ℕ → Type 0

@@ -2,9 +2,9 @@
 ghost use Rattle.std.specs.Prelude.{◌≡◌, ◌∷◌, [], not, true, ◌==◌, length, IsUtf8, Some};
 ghost use Rattle.ansi_str.specs.States.{rendition_of_numbers};
 ghost use Rattle.ansi_str.specs.Written.{start, close_if_any};
-ghost use Rattle.ansi_str.specs.Blocks.{blocks, waiting};
+ghost use Rattle.ansi_str.specs.Blocks.{waiting};
 ghost use Rattle.ansi_str_c.specs.Answers.{done, failed, no, not_utf8, OnUtf8, Gives};
-ghost use Rattle.ansi_str_c.specs.Walks.{blocks_left, GivesNext};
+ghost use Rattle.ansi_str_c.specs.Walks.{IsOver, GivesNext};
 
 use crate::answers::{Answer, NO, NOT_UTF8, OK, OUT_OF_MEMORY, write};
 use crate::styles::StyleData;
@@ -20,7 +20,7 @@ use std::str::from_utf8_unchecked;
 #[unsafe(no_mangle)]
 pub extern "C" fn ansi_str_raw_blocks_begin<'a>(text: &'a [u8], walk: &mut BlockWalk<'a>) -> Answer
     ensures { OnUtf8 (text.now ∷ [])
-        ((result ≡ done 0) × (blocks_left walk.new ≡ blocks text.now))
+        ((result ≡ done 0) × IsOver text.now walk.new)
         ((result ≡ failed not_utf8) × (walk.new ≡ walk.old)) }
 {
     let Ok(text) = from_utf8(text) else {
@@ -34,7 +34,7 @@ pub extern "C" fn ansi_str_raw_blocks_begin<'a>(text: &'a [u8], walk: &mut Block
 #[unsafe(no_mangle)]
 pub extern "C" fn ansi_str_raw_blocks_begin_unchecked<'a>(text: &'a [u8], walk: &mut BlockWalk<'a>)
     requires { IsUtf8 text.now }
-    ensures { blocks_left walk.new ≡ blocks text.now }
+    ensures { IsOver text.now walk.new }
 {
     let text = unsafe { from_utf8_unchecked(text) };
     *walk = walk_over(text);
@@ -48,7 +48,9 @@ pub extern "C" fn ansi_str_raw_blocks_next<'a>(
     block: &mut NextBlock<'a>,
     buffer: &mut [u8],
 ) -> Answer
-    ensures { GivesNext walk.old walk.new block.old block.new result buffer.old buffer.new }
+    requires { IsUtf8 walk.old.rest.now }
+    ensures utf8 { IsUtf8 walk.new.rest.now }
+    ensures next { GivesNext walk.old walk.new block.old block.new result buffer.old buffer.new }
 {
     let text = unsafe { from_utf8_unchecked(walk.rest) };
     let mut style = walk.style.style();
@@ -115,7 +117,7 @@ pub extern "C" fn ansi_str_raw_style_end(
 
 /// A walk that has all blocks of a text left.
 fn walk_over(text: &str) -> BlockWalk<'_>
-    ensures { blocks_left result ≡ blocks text.now }
+    ensures { IsOver text.now result }
 {
     BlockWalk {
         rest: text.as_bytes(),

@@ -1,5 +1,4 @@
 //! A walk over the blocks of a text, in the caller's memory.
-ghost use Rattle.std.specs.Prelude.{IsUtf8};
 
 use crate::styles::StyleData;
 use ansi_style::numbers::StyleNumbers;
@@ -11,7 +10,6 @@ use ansi_style::numbers::StyleNumbers;
 pub struct BlockWalk<'a> {
     pub rest: &'a [u8],
     pub style: StyleNumbers,
-    ghost is_text: { IsUtf8 rest.now },
 }
 
 /// A block: its run, which stands in the text, and its style. The sequences before the run are told apart.
@@ -20,5 +18,4 @@ pub struct BlockWalk<'a> {
 pub struct NextBlock<'a> {
     pub text: &'a [u8],
     pub style: StyleData,
-    ghost is_text: { IsUtf8 text.now },
 }
