@@ -70,8 +70,6 @@ ansi_str_answer ansi_str_raw_blocks_begin(TEXT, ansi_str_block_walk *walk) {
     return EXPECT_TEXT, expect(__func__, walk->rest), ANSWER;
 }
 
-void ansi_str_raw_blocks_begin_unchecked(TEXT, ansi_str_block_walk *walk) { EXPECT_TEXT, expect(__func__, walk->rest); }
-
 ansi_str_answer ansi_str_raw_blocks_next(ansi_str_block_walk *walk, ansi_str_next_block *block, BUFFER) {
     return expect(__func__, walk->rest), expect(__func__, block->text), EXPECT_BUFFER, ANSWER;
 }
@@ -100,7 +98,6 @@ int main(void) {
     ansi_str_block_walk walk;
     ansi_str_next_block block;
     ansi_str_blocks_begin(NULL, 0, &walk);
-    ansi_str_blocks_begin_unchecked(NULL, 0, &walk);
     ansi_str_blocks_next(&walk, &block, NULL, 0);
     ansi_str_style_start(&walk.style, NULL, 0);
     ansi_str_style_end(&walk.style, NULL, 0);

@@ -341,7 +341,7 @@ static ansi_str_block_walk walk_over(const struct text *t, uint32_t status) {
     ansi_str_block_walk walk;
     expect("a walk", ansi_str_blocks_begin(TEXT(t), &walk).status == status);
     if (status == ANSI_STR_OK) {
-        ansi_str_blocks_begin_unchecked(TEXT(t), &walk);
+        ansi_str_raw_blocks_begin_unchecked((const uint8_t *)t->bytes, t->len, &walk);
     }
     return walk;
 }

@@ -96,7 +96,7 @@ type Bytes = *const u8;
 type Room = *mut u8;
 
 extern "C" {
-    fn ansi_str_raw_strip(t: Bytes, n: usize, b: Room, m: usize) -> Answer;
+    fn ansi_str_raw_strip_unchecked(t: Bytes, n: usize, b: Room, m: usize) -> Answer;
     fn ansi_str_raw_cut(t: Bytes, n: usize, start: usize, end: usize, b: Room, m: usize) -> Answer;
     fn ansi_str_raw_left(t: Bytes, n: usize, mid: usize, b: Room, m: usize) -> Answer;
     fn ansi_str_raw_right(t: Bytes, n: usize, mid: usize, b: Room, m: usize) -> Answer;
@@ -117,11 +117,11 @@ extern "C" {
         b: Room,
         m: usize,
     ) -> Answer;
-    fn ansi_str_raw_find(t: Bytes, n: usize, p: Bytes, k: usize) -> Answer;
-    fn ansi_str_raw_starts_with(t: Bytes, n: usize, p: Bytes, k: usize) -> Answer;
-    fn ansi_str_raw_ends_with(t: Bytes, n: usize, p: Bytes, k: usize) -> Answer;
-    fn ansi_str_raw_is_char_boundary(t: Bytes, n: usize, index: usize) -> Answer;
-    fn ansi_str_raw_floor_char_boundary(t: Bytes, n: usize, index: usize) -> Answer;
+    fn ansi_str_raw_find_unchecked(t: Bytes, n: usize, p: Bytes, k: usize) -> Answer;
+    fn ansi_str_raw_starts_with_unchecked(t: Bytes, n: usize, p: Bytes, k: usize) -> Answer;
+    fn ansi_str_raw_ends_with_unchecked(t: Bytes, n: usize, p: Bytes, k: usize) -> Answer;
+    fn ansi_str_raw_is_char_boundary_unchecked(t: Bytes, n: usize, index: usize) -> Answer;
+    fn ansi_str_raw_floor_char_boundary_unchecked(t: Bytes, n: usize, index: usize) -> Answer;
     fn ansi_str_raw_split(
         t: Bytes,
         n: usize,
@@ -233,12 +233,12 @@ fn is_so(answer: Answer) -> bool {
     outcome(answer.status, answer.len).is_ok()
 }
 
-// SAFETY, of every call below: a text and a pattern are given by the pointer and the length of a slice that lives until
+// SAFETY, of every call below: a text and a pattern are given by the pointer and the length of a `str`, which is UTF-8 and lives until
 // the call returns, a buffer by those of a vector's spare room, which is this module's own and so overlaps no text.
 
 pub(crate) fn strip(text: &str) -> String {
     always(written(text.len(), |b, m| unsafe {
-        ansi_str_raw_strip(text.as_ptr(), text.len(), b, m)
+        ansi_str_raw_strip_unchecked(text.as_ptr(), text.len(), b, m)
     }))
 }
 
@@ -298,24 +298,29 @@ pub(crate) fn strip_suffix(text: &str, suffix: &str) -> Option<String> {
 }
 
 pub(crate) fn find(text: &str, pat: &str) -> Option<usize> {
-    let answer = unsafe { ansi_str_raw_find(text.as_ptr(), text.len(), pat.as_ptr(), pat.len()) };
+    let answer =
+        unsafe { ansi_str_raw_find_unchecked(text.as_ptr(), text.len(), pat.as_ptr(), pat.len()) };
     outcome(answer.status, answer.len).ok()
 }
 
 pub(crate) fn starts_with(text: &str, pat: &str) -> bool {
-    is_so(unsafe { ansi_str_raw_starts_with(text.as_ptr(), text.len(), pat.as_ptr(), pat.len()) })
+    is_so(unsafe {
+        ansi_str_raw_starts_with_unchecked(text.as_ptr(), text.len(), pat.as_ptr(), pat.len())
+    })
 }
 
 pub(crate) fn ends_with(text: &str, pat: &str) -> bool {
-    is_so(unsafe { ansi_str_raw_ends_with(text.as_ptr(), text.len(), pat.as_ptr(), pat.len()) })
+    is_so(unsafe {
+        ansi_str_raw_ends_with_unchecked(text.as_ptr(), text.len(), pat.as_ptr(), pat.len())
+    })
 }
 
 pub(crate) fn is_char_boundary(text: &str, index: usize) -> bool {
-    is_so(unsafe { ansi_str_raw_is_char_boundary(text.as_ptr(), text.len(), index) })
+    is_so(unsafe { ansi_str_raw_is_char_boundary_unchecked(text.as_ptr(), text.len(), index) })
 }
 
 pub(crate) fn floor_char_boundary(text: &str, index: usize) -> usize {
-    unsafe { ansi_str_raw_floor_char_boundary(text.as_ptr(), text.len(), index) }.len
+    unsafe { ansi_str_raw_floor_char_boundary_unchecked(text.as_ptr(), text.len(), index) }.len
 }
 
 /// What a call gives that writes several texts one after the other, each with an entry: the bytes, with so

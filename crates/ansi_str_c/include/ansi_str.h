@@ -254,11 +254,23 @@ ansi_str_answers ansi_str_raw_styled_blocks(const uint8_t *text, size_t text_len
                                             ansi_str_styled_block_entry *blocks, size_t blocks_len);
 /* (a walk and a block need good pointers too: `ansi_str_no_walk` and `ansi_str_no_block` make such) */
 ansi_str_answer ansi_str_raw_blocks_begin(const uint8_t *text, size_t text_len, ansi_str_block_walk *walk);
-void ansi_str_raw_blocks_begin_unchecked(const uint8_t *text, size_t text_len, ansi_str_block_walk *walk);
 ansi_str_answer ansi_str_raw_blocks_next(ansi_str_block_walk *walk, ansi_str_next_block *block, uint8_t *buffer,
                                          size_t buffer_len);
 ansi_str_answer ansi_str_raw_style_start(const ansi_str_style_numbers *style, uint8_t *buffer, size_t buffer_len);
 ansi_str_answer ansi_str_raw_style_end(const ansi_str_style_numbers *style, uint8_t *buffer, size_t buffer_len);
+
+/* The same for a caller who promises that each text and each pattern is UTF-8, as one has it by its type: they aren't
+   looked at. Of any other bytes nothing is said, and anything may be done. */
+ansi_str_answer ansi_str_raw_strip_unchecked(const uint8_t *text, size_t text_len, uint8_t *buffer, size_t buffer_len);
+ansi_str_answer ansi_str_raw_find_unchecked(const uint8_t *text, size_t text_len, const uint8_t *pattern,
+                                            size_t pattern_len);
+ansi_str_answer ansi_str_raw_starts_with_unchecked(const uint8_t *text, size_t text_len, const uint8_t *pattern,
+                                                   size_t pattern_len);
+ansi_str_answer ansi_str_raw_ends_with_unchecked(const uint8_t *text, size_t text_len, const uint8_t *pattern,
+                                                 size_t pattern_len);
+ansi_str_answer ansi_str_raw_is_char_boundary_unchecked(const uint8_t *text, size_t text_len, size_t index);
+ansi_str_answer ansi_str_raw_floor_char_boundary_unchecked(const uint8_t *text, size_t text_len, size_t index);
+void ansi_str_raw_blocks_begin_unchecked(const uint8_t *text, size_t text_len, ansi_str_block_walk *walk);
 
 /* A pointer for a length of 0. */
 static inline const uint8_t *ansi_str_bytes(const char *bytes) {
@@ -456,12 +468,6 @@ static inline ansi_str_next_block ansi_str_no_block(void) {
 static inline ansi_str_answer ansi_str_blocks_begin(const char *text, size_t text_len, ansi_str_block_walk *walk) {
     *walk = ansi_str_no_walk();
     return ansi_str_raw_blocks_begin(ansi_str_bytes(text), text_len, walk);
-}
-
-/* The same, where the caller promises that the text is UTF-8: it isn't looked at. Of any other text nothing is said. */
-static inline void ansi_str_blocks_begin_unchecked(const char *text, size_t text_len, ansi_str_block_walk *walk) {
-    *walk = ansi_str_no_walk();
-    ansi_str_raw_blocks_begin_unchecked(ansi_str_bytes(text), text_len, walk);
 }
 
 /* The next block of a walk: its run and its style are in `block`, and in the buffer stand the sequences before the run that

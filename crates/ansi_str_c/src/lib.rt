@@ -11,4 +11,5 @@ pub mod next;
 pub mod searches;
 pub mod styles;
 pub mod texts;
+pub mod unchecked;
 pub mod walks;
