@@ -8,6 +8,7 @@ pub mod blocks;
 pub mod edits;
 pub mod lists;
 pub mod next;
+pub mod parts;
 pub mod searches;
 pub mod styles;
 pub mod texts;

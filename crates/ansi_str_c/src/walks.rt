@@ -1,4 +1,4 @@
-//! A walk over the blocks of a text, in the caller's memory.
+//! A walk over the blocks of a text, in the caller's memory, and what a walk over blocks or parts tells.
 
 use crate::styles::StyleData;
 use ansi_style::numbers::StyleNumbers;
@@ -18,4 +18,11 @@ pub struct BlockWalk<'a> {
 pub struct NextBlock<'a> {
     pub text: &'a [u8],
     pub style: StyleData,
+}
+
+/// A part that stands in the text as it is.
+#[repr(C)]
+#[derive(Clone, Copy)]
+pub struct NextPart<'a> {
+    pub text: &'a [u8],
 }

@@ -10,12 +10,15 @@ ghost use Rattle.ansi_split.specs.Splits.{IsPart};
 ghost use Rattle.ansi_split.specs.Spans.{parts_left};
 
 use crate::split::rest::Rest;
+use crate::split::walk::PartWalk;
 use ansi_items::ansitok::{Kind, Scanner};
+use ansi_style::numbers::StyleNumbers;
 use ansi_style::state::Style;
 use ansi_style::styles;
 use std::alloc::{AllocError, Allocator};
 use std::borrow::CowStr;
 use std::marker::Model;
+use std::str::from_utf8_unchecked;
 
 /// A start and a close have at most so many bytes together, `longest_start_and_close`. It is room alone,
 /// asked for before they are written: so a part never grows, and keeps no more than this beyond its length.
@@ -180,6 +183,43 @@ impl<'t, 'p> Spans<'t, 'p> {
         ensures { self.new ≡ [] }
     {
         self.finished = true;
+    }
+}
+
+impl<'t> Spans<'t, 't> {
+    ghost use Rattle.ansi_split.specs.Walks.{parts_of_walk, IsPartWalk};
+
+    /// The spans that a walk has left.
+    pub(super) fn of(walk: &PartWalk<'t>) -> Self
+        requires { IsPartWalk walk.now }
+        ensures { result ≡ parts_of_walk walk.now }
+    {
+        let text = unsafe { from_utf8_unchecked(walk.rest) };
+        let pat = unsafe { from_utf8_unchecked(walk.pattern) };
+        Spans {
+            rest: Rest::with_run(text, walk.run),
+            pat,
+            skip: walk.skip,
+            from: walk.from,
+            carried: walk.carried.style(),
+            finished: walk.finished,
+        }
+    }
+
+    /// A walk that has the same left.
+    pub(super) fn walk(&self) -> PartWalk<'t>
+        ensures walk { IsPartWalk result }
+        ensures left { parts_of_walk result ≡ self.now }
+    {
+        PartWalk {
+            rest: self.rest.text().as_bytes(),
+            pattern: self.pat.as_bytes(),
+            run: self.rest.run(),
+            skip: self.skip,
+            from: self.from,
+            carried: StyleNumbers::of(&self.carried),
+            finished: self.finished,
+        }
     }
 }
 
