@@ -6,7 +6,7 @@ use Rattle.ansi_slice.specs.Positions.{is_char_boundary}
 use Rattle.ansi_style.specs.States.{rendition_of_numbers}
 use Rattle.ansi_split.specs.Splits.{SplitPart}
 use Rattle.ansi_split.specs.Spans.{parts_left}
-use Rattle.ansi_split.specs.declared.split.walk.PartWalk.{PartWalk}
+use Rattle.ansi_split.specs.declared.walks.PartWalk.{PartWalk}
 
 -- the parts that a walk has left
 abbrev pub parts_of_walk : PartWalk → List SplitPart

@@ -5,15 +5,12 @@ ghost use Rattle.std.specs.Cow.{cow_str_bytes, IsBorrowedStr};
 ghost use Rattle.ansi_items.specs.Plain.{plain, has_escape};
 ghost use Rattle.ansi_slice.specs.Parts.{parts, part, all_parts, share, is_part_borrowed};
 ghost use Rattle.ansi_style.specs.Written.{longest_start_and_close};
-ghost use Rattle.ansi_split.specs.Splits.{split_parts, GivesPart};
-ghost use Rattle.ansi_split.specs.Walks.{parts_of_walk, IsPartWalk};
+ghost use Rattle.ansi_split.specs.Splits.{split_parts};
 
 mod rest;
-mod spans;
-pub mod walk;
+pub(crate) mod spans;
 
 use crate::split::spans::Spans;
-use crate::split::walk::PartWalk;
 use std::alloc::{AllocError, Allocator, Global};
 use std::borrow::CowStr;
 use std::marker::Model;
@@ -37,8 +34,8 @@ use std::marker::Model;
 /// ```
 #[derive(Drop)]
 pub struct AnsiSplit<'a, A: Allocator = Global> {
-    alloc: A,
-    spans: Spans<'a, 'a>,
+    pub(crate) alloc: A,
+    pub(crate) spans: Spans<'a, 'a>,
 }
 
 impl<'a, A: Allocator> Model for AnsiSplit<'a, A> {
@@ -122,28 +119,4 @@ pub fn part_in<'t, A: Allocator>(
         Some(span) => Ok(Some(span.write(alloc)?)),
         None => Ok(None),
     }
-}
-
-/// A walk that has all parts left. (Own.)
-pub fn walk_in<'a>(text: &'a str, pat: &'a str) -> PartWalk<'a>
-    ensures walk { IsPartWalk result }
-    ensures parts { parts_of_walk result ≡ split_parts text.now pat.now }
-{
-    Spans::new(text, pat).walk()
-}
-
-/// The next part of a walk, as [`split_in`] gives it. (Own.)
-pub fn next_in<'a, A: Allocator + Copy>(
-    alloc: A,
-    walk: &mut PartWalk<'a>,
-) -> Option<Result<CowStr<'a, A>, AllocError>>
-    requires { IsPartWalk walk.old }
-    ensures walk { IsPartWalk walk.new }
-    ensures next { GivesPart (parts_of_walk walk.old) result (parts_of_walk walk.new) }
-{
-    let spans = Spans::of(walk);
-    let mut parts = AnsiSplit { alloc, spans };
-    let part = parts.next();
-    *walk = parts.spans.walk();
-    part
 }

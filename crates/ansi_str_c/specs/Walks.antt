@@ -6,7 +6,7 @@ use Rattle.ansi_str.specs.States.{rendition_of_numbers}
 use Rattle.ansi_str.specs.Blocks.{Block, blocks_from, block_after, waiting}
 use Rattle.ansi_str.specs.Splits.{SplitPart}
 use Rattle.ansi_split.specs.Walks.{parts_of_walk}
-use Rattle.ansi_split.specs.declared.split.walk.PartWalk.{PartWalk}
+use Rattle.ansi_split.specs.declared.walks.PartWalk.{PartWalk}
 use Rattle.ansi_str_c.specs.declared.walks.NextPart.{NextPart}
 use Rattle.ansi_str_c.specs.declared.answers.Answer.{Answer}
 use Rattle.ansi_str_c.specs.declared.walks.BlockWalk.{BlockWalk}

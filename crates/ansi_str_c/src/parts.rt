@@ -7,8 +7,7 @@ ghost use Rattle.ansi_str_c.specs.Walks.{GivesNextPart};
 
 use crate::answers::{Answer, NO, NOT_UTF8, OK, OUT_OF_MEMORY, write};
 use crate::walks::NextPart;
-use ansi_split::split::walk::PartWalk;
-use ansi_split::split::{next_in, walk_in};
+use ansi_split::walks::{PartWalk, next_in, walk_in};
 use simdutf8::basic::from_utf8;
 use std::alloc::Global;
 use std::borrow::CowStr;

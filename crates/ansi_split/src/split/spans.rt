@@ -10,7 +10,7 @@ ghost use Rattle.ansi_split.specs.Splits.{IsPart};
 ghost use Rattle.ansi_split.specs.Spans.{parts_left};
 
 use crate::split::rest::Rest;
-use crate::split::walk::PartWalk;
+use crate::walks::PartWalk;
 use ansi_items::ansitok::{Kind, Scanner};
 use ansi_style::numbers::StyleNumbers;
 use ansi_style::state::Style;
@@ -26,7 +26,7 @@ const STYLE_ROOM: usize = 251;
 
 /// What one part is written from. Contracts see it as that part.
 #[derive(Drop)]
-pub(super) struct Span<'t> {
+pub(crate) struct Span<'t> {
     /// The text from the match before up to after the last sequence at the end of the part.
     text: &'t str,
     /// Whether an ESC stands in it.
@@ -53,7 +53,7 @@ impl<'t> Model for Span<'t> {
 
 impl<'t> Span<'t> {
     /// The part: a borrow where no sequence stands in it and no style has to be written.
-    pub(super) fn write<A: Allocator>(&self, alloc: A) -> Result<CowStr<'t, A>, AllocError>
+    pub(crate) fn write<A: Allocator>(&self, alloc: A) -> Result<CowStr<'t, A>, AllocError>
         ensures part { IfOk result (IsPart self.now) }
         ensures takes_no_memory { IsTrue self.now.borrowed → IsOk result }
     {
@@ -135,7 +135,7 @@ fn write_text<A: Allocator>(
 
 /// The spans of a text between the matches of a pattern, in order: an iterator that takes no memory.
 #[derive(Drop)]
-pub(super) struct Spans<'t, 'p> {
+pub(crate) struct Spans<'t, 'p> {
     /// What is left of the text: the match before and all after it.
     rest: Rest<'t>,
     pat: &'p str,
@@ -165,7 +165,7 @@ impl<'t, 'p> Model for Spans<'t, 'p> {
 
 impl<'t, 'p> Spans<'t, 'p> {
     /// The spans of all parts of the text.
-    pub(super) fn new(text: &'t str, pat: &'p str) -> Self
+    pub(crate) fn new(text: &'t str, pat: &'p str) -> Self
         ensures { result ≡ parts_left plain_style text.now pat.now 0 0 }
     {
         Spans {
@@ -179,7 +179,7 @@ impl<'t, 'p> Spans<'t, 'p> {
     }
 
     /// Leaves nothing.
-    pub(super) fn finish(&mut self)
+    pub(crate) fn finish(&mut self)
         ensures { self.new ≡ [] }
     {
         self.finished = true;
@@ -190,7 +190,7 @@ impl<'t> Spans<'t, 't> {
     ghost use Rattle.ansi_split.specs.Walks.{parts_of_walk, IsPartWalk};
 
     /// The spans that a walk has left.
-    pub(super) fn of(walk: &PartWalk<'t>) -> Self
+    pub(crate) fn of(walk: &PartWalk<'t>) -> Self
         requires { IsPartWalk walk.now }
         ensures { result ≡ parts_of_walk walk.now }
     {
@@ -207,7 +207,7 @@ impl<'t> Spans<'t, 't> {
     }
 
     /// A walk that has the same left.
-    pub(super) fn walk(&self) -> PartWalk<'t>
+    pub(crate) fn walk(&self) -> PartWalk<'t>
         ensures walk { IsPartWalk result }
         ensures left { parts_of_walk result ≡ self.now }
     {

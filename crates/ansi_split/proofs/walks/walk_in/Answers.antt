@@ -1,6 +1,6 @@
 use Rattle.std.proofs.Common.{◌∙◌}
 use Rattle.ansi_split.proofs.SplitLemmas.{parts_left-parts}
-use Rattle.ansi_split.proofs.split.walk_in.Goals as goal
+use Rattle.ansi_split.proofs.walks.walk_in.Goals as goal
 
 -- all parts are left
 pub returns-clause-parts : goal.returns-clause-parts
