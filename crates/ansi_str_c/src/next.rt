@@ -9,7 +9,7 @@ ghost use Rattle.ansi_str_c.specs.Walks.{IsOver, GivesNext};
 use crate::answers::{Answer, NO, NOT_UTF8, OK, OUT_OF_MEMORY, write};
 use crate::styles::StyleData;
 use crate::walks::{BlockWalk, NextBlock};
-use ansi_blocks::blocks::{Run, first_run, waiting};
+use ansi_blocks::runs::{Run, first_run, waiting};
 use ansi_style::numbers::StyleNumbers;
 use ansi_style::styles;
 use simdutf8::basic::from_utf8;
