@@ -74,6 +74,14 @@ ansi_str_answer ansi_str_raw_blocks_next(ansi_str_block_walk *walk, ansi_str_nex
     return expect(__func__, walk->rest), expect(__func__, block->text), EXPECT_BUFFER, ANSWER;
 }
 
+ansi_str_answer ansi_str_raw_parts_begin(TEXT, PATTERN, ansi_str_part_walk *walk) {
+    return EXPECT_TEXT, EXPECT_PATTERN, expect(__func__, walk->rest), expect(__func__, walk->pattern), ANSWER;
+}
+
+ansi_str_answer ansi_str_raw_parts_next(ansi_str_part_walk *walk, ansi_str_next_part *part, BUFFER) {
+    return expect(__func__, walk->rest), expect(__func__, walk->pattern), expect(__func__, part->text), EXPECT_BUFFER, ANSWER;
+}
+
 ansi_str_answer ansi_str_raw_style_start(const ansi_str_style_numbers *style, BUFFER) { return EXPECT_BUFFER, ANSWER; }
 
 ansi_str_answer ansi_str_raw_style_end(const ansi_str_style_numbers *style, BUFFER) { return EXPECT_BUFFER, ANSWER; }
@@ -99,6 +107,10 @@ int main(void) {
     ansi_str_next_block block;
     ansi_str_blocks_begin(NULL, 0, &walk);
     ansi_str_blocks_next(&walk, &block, NULL, 0);
+    ansi_str_part_walk parts;
+    ansi_str_next_part part;
+    ansi_str_parts_begin(NULL, 0, NULL, 0, &parts);
+    ansi_str_parts_next(&parts, &part, NULL, 0);
     ansi_str_style_start(&walk.style, NULL, 0);
     ansi_str_style_end(&walk.style, NULL, 0);
     ansi_str_is_char_boundary(NULL, 0, 0);

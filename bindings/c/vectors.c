@@ -234,7 +234,33 @@ static long expect_one(const struct row *r, const char *name, uint32_t status, s
 
 static const struct text EMPTY = {(char *)(uintptr_t)"", 0};
 
-/* All parts, in one call and by their index. */
+/* The next part of a walk is this text. Where memory or room is wanting, the walk is as it was. */
+static void expect_next_part(ansi_str_part_walk *walk, const struct text *wanted) {
+    char *buffer = guarded(wanted->len);
+    ansi_str_next_part part;
+    ansi_str_answer answer;
+    ansi_str_part_walk copy = *walk;
+    long requests = 0;
+    do {
+        granted = requests++;
+        answer = ansi_str_parts_next(walk, &part, buffer, wanted->len);
+    } while (is_wanting(answer.status, buffer, wanted->len));
+    size_t len = answer.len;
+    expect("the next part", answer.status == ANSI_STR_OK && len + part.text_len == wanted->len && (len == 0 || part.text_len == 0));
+    expect("its text", memcmp(buffer, wanted->bytes, len) == 0 && memcmp(part.text, wanted->bytes, part.text_len) == 0);
+    expect("nothing more is written", is_guard(buffer, len, wanted->len + 1));
+    if (len > 0) {
+        memset(buffer, GUARD, wanted->len);
+        answer = ansi_str_parts_next(&copy, &part, buffer, len - 1);
+        expect("too small for a part", answer.status == ANSI_STR_TOO_SMALL && answer.len == len && part.text_len == 0);
+        expect("nothing is written", is_guard(buffer, 0, wanted->len + 1));
+        answer = ansi_str_parts_next(&copy, &part, buffer, len);
+        expect("the part again", answer.status == ANSI_STR_OK && answer.len == len && part.text_len == 0);
+    }
+    free(buffer);
+}
+
+/* All parts, in one call, one after the other and by their index. */
 static void expect_parts(const struct row *r) {
     const struct text *t = text_of(r), *pattern = argument(r, 0);
     size_t count = number(r, 2), len = 0;
@@ -256,10 +282,21 @@ static void expect_parts(const struct row *r) {
     expect("status", answer.status == status);
     expect("how many and how long", answer.count == count && answer.len == len && buffer[len] == GUARD && ends[count] == 0);
     size_t start = 0;
+    ansi_str_part_walk walk;
+    expect("a walk", ansi_str_parts_begin(TEXT(t), TEXT(pattern), &walk).status == status);
+    if (status == ANSI_STR_OK) {
+        ansi_str_raw_parts_begin_unchecked((const uint8_t *)t->bytes, t->len, (const uint8_t *)pattern->bytes, pattern->len, &walk);
+    }
     for (size_t i = 0; i < count; i++) {
+        expect_next_part(&walk, &parts[i]);
         expect("part", ends[i] == start + parts[i].len && memcmp(buffer + start, parts[i].bytes, parts[i].len) == 0);
         start = ends[i];
         expect_one(r, "part", status, i, &parts[i], 0);
+    }
+    for (int i = 0; i < 2; i++) {
+        ansi_str_next_part part;
+        ansi_str_answer past = ansi_str_parts_next(&walk, &part, NULL, 0);
+        expect("no part is left", past.status == ANSI_STR_NO && past.len == 0 && part.text_len == 0);
     }
     if (status == ANSI_STR_OK) {
         expect_one(r, "part", ANSI_STR_NO, count, &EMPTY, 0);

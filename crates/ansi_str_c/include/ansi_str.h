@@ -189,6 +189,26 @@ typedef struct {
     ansi_str_style style;
 } ansi_str_next_block;
 
+/* A walk over the parts of a text between the matches of a pattern, with which both have to live and stay as they are. A
+   caller reads no field and sets none. */
+typedef struct {
+    const uint8_t *rest;
+    size_t rest_len;
+    const uint8_t *pattern;
+    size_t pattern_len;
+    size_t run;
+    size_t skip;
+    size_t from;
+    ansi_str_style_numbers carried;
+    bool finished;
+} ansi_str_part_walk;
+
+/* A part of a walk that stands in the text of the walk. */
+typedef struct {
+    const uint8_t *text;
+    size_t text_len;
+} ansi_str_next_part;
+
 /* The kinds of edits. */
 enum {
     /* ansi_str_cut from `first` up to `second` */
@@ -252,10 +272,14 @@ ansi_str_answers ansi_str_raw_blocks(const uint8_t *text, size_t text_len, uint8
                                      ansi_str_block_entry *blocks, size_t blocks_len);
 ansi_str_answers ansi_str_raw_styled_blocks(const uint8_t *text, size_t text_len, uint8_t *buffer, size_t buffer_len,
                                             ansi_str_styled_block_entry *blocks, size_t blocks_len);
-/* (a walk and a block need good pointers too: `ansi_str_no_walk` and `ansi_str_no_block` make such) */
+/* (walks, blocks and parts need good pointers too, which those have that `ansi_str_no_walk` and the like make) */
 ansi_str_answer ansi_str_raw_blocks_begin(const uint8_t *text, size_t text_len, ansi_str_block_walk *walk);
 ansi_str_answer ansi_str_raw_blocks_next(ansi_str_block_walk *walk, ansi_str_next_block *block, uint8_t *buffer,
                                          size_t buffer_len);
+ansi_str_answer ansi_str_raw_parts_begin(const uint8_t *text, size_t text_len, const uint8_t *pattern, size_t pattern_len,
+                                         ansi_str_part_walk *walk);
+ansi_str_answer ansi_str_raw_parts_next(ansi_str_part_walk *walk, ansi_str_next_part *part, uint8_t *buffer,
+                                        size_t buffer_len);
 ansi_str_answer ansi_str_raw_style_start(const ansi_str_style_numbers *style, uint8_t *buffer, size_t buffer_len);
 ansi_str_answer ansi_str_raw_style_end(const ansi_str_style_numbers *style, uint8_t *buffer, size_t buffer_len);
 
@@ -271,6 +295,8 @@ ansi_str_answer ansi_str_raw_ends_with_unchecked(const uint8_t *text, size_t tex
 ansi_str_answer ansi_str_raw_is_char_boundary_unchecked(const uint8_t *text, size_t text_len, size_t index);
 ansi_str_answer ansi_str_raw_floor_char_boundary_unchecked(const uint8_t *text, size_t text_len, size_t index);
 void ansi_str_raw_blocks_begin_unchecked(const uint8_t *text, size_t text_len, ansi_str_block_walk *walk);
+void ansi_str_raw_parts_begin_unchecked(const uint8_t *text, size_t text_len, const uint8_t *pattern, size_t pattern_len,
+                                        ansi_str_part_walk *walk);
 
 /* A pointer for a length of 0. */
 static inline const uint8_t *ansi_str_bytes(const char *bytes) {
@@ -489,6 +515,42 @@ static inline ansi_str_answer ansi_str_style_start(const ansi_str_style_numbers 
 
 static inline ansi_str_answer ansi_str_style_end(const ansi_str_style_numbers *style, char *buffer, size_t buffer_len) {
     return ansi_str_raw_style_end(style, ansi_str_room(buffer), buffer_len);
+}
+
+/* A walk with no part left, and a part without text. */
+static inline ansi_str_part_walk ansi_str_no_part_walk(void) {
+    ansi_str_part_walk walk;
+    memset(&walk, 0, sizeof walk);
+    walk.rest = ansi_str_bytes(NULL);
+    walk.pattern = ansi_str_bytes(NULL);
+    walk.finished = true;
+    return walk;
+}
+
+static inline ansi_str_next_part ansi_str_no_part(void) {
+    ansi_str_next_part part;
+    memset(&part, 0, sizeof part);
+    part.text = ansi_str_bytes(NULL);
+    return part;
+}
+
+/* Begins a walk over the parts of the text, of which ansi_str_parts_next gives one after the other. With any status but
+   ANSI_STR_OK the walk has none left. */
+static inline ansi_str_answer ansi_str_parts_begin(const char *text, size_t text_len, const char *pattern,
+                                                   size_t pattern_len, ansi_str_part_walk *walk) {
+    *walk = ansi_str_no_part_walk();
+    return ansi_str_raw_parts_begin(ansi_str_bytes(text), text_len, ansi_str_bytes(pattern), pattern_len, walk);
+}
+
+/* The next part of a walk, as ansi_str_split gives it: `part` where it stands in the text as it is, and what the buffer holds
+   where it is written; the other is empty. ANSI_STR_NO: there is none left. With any status but ANSI_STR_OK `part` is
+   empty and the walk is as it was, so the call can be made again. It costs what stands before the end of the part, and all
+   parts cost one walk. A part that is written takes memory, and is at most ANSI_STR_LONGEST_START_AND_CLOSE bytes longer than
+   its stretch of the text. */
+static inline ansi_str_answer ansi_str_parts_next(ansi_str_part_walk *walk, ansi_str_next_part *part, char *buffer,
+                                                  size_t buffer_len) {
+    *part = ansi_str_no_part();
+    return ansi_str_raw_parts_next(walk, part, ansi_str_room(buffer), buffer_len);
 }
 
 /* One edit each, for ansi_str_edit. */

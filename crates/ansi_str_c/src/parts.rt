@@ -1,5 +1,5 @@
 //! Calls that take parts off a text one by one.
-ghost use Rattle.std.specs.Prelude.{◌≡◌, ◌∷◌, []};
+ghost use Rattle.std.specs.Prelude.{◌≡◌, ◌∷◌, [], IsUtf8};
 ghost use Rattle.ansi_str.specs.Splits.{split_parts};
 ghost use Rattle.ansi_split.specs.Walks.{parts_of_walk, IsPartWalk};
 ghost use Rattle.ansi_str_c.specs.Answers.{done, failed, not_utf8, OnUtf8};
@@ -11,6 +11,7 @@ use ansi_split::walks::{PartWalk, next_in, walk_in};
 use simdutf8::basic::from_utf8;
 use std::alloc::Global;
 use std::borrow::CowStr;
+use std::str::from_utf8_unchecked;
 
 /// Begins a walk over the parts of a text between the matches of a pattern.
 #[unsafe(no_mangle)]
@@ -31,6 +32,23 @@ pub extern "C" fn ansi_str_raw_parts_begin<'a>(
     };
     *walk = walk_in(text, pat);
     Answer::done(0)
+}
+
+/// The same, of a text and a pattern that are UTF-8, which aren't looked at.
+#[unsafe(no_mangle)]
+pub extern "C" fn ansi_str_raw_parts_begin_unchecked<'a>(
+    text: &'a [u8],
+    pattern: &'a [u8],
+    walk: &mut PartWalk<'a>,
+)
+    requires text { IsUtf8 text.now }
+    requires pattern { IsUtf8 pattern.now }
+    ensures walk { IsPartWalk walk.new }
+    ensures parts { parts_of_walk walk.new ≡ split_parts text.now pattern.now }
+{
+    let text = unsafe { from_utf8_unchecked(text) };
+    let pat = unsafe { from_utf8_unchecked(pattern) };
+    *walk = walk_in(text, pat);
 }
 
 /// Takes the next part off a walk.
