@@ -3,7 +3,6 @@
 use crate::style::{Color, Style};
 use std::borrow::Cow;
 use std::mem::MaybeUninit;
-use std::vec;
 use std::{ptr, slice, str};
 
 /// What `include/ansi_str.h` says of a status.
@@ -21,13 +20,6 @@ const LONGEST_START_AND_CLOSE: usize = 251;
 #[derive(Clone, Copy)]
 struct Answer {
     status: u32,
-    len: usize,
-}
-
-#[repr(C)]
-struct Answers {
-    status: u32,
-    count: usize,
     len: usize,
 }
 
@@ -84,6 +76,42 @@ struct RawWalk {
     style: Numbers,
 }
 
+/// Where a walk over parts stands: its fields are the library's own.
+#[repr(C)]
+#[derive(Debug, Clone, Copy)]
+struct Place {
+    run: usize,
+    skip: usize,
+    from: usize,
+    carried: Numbers,
+    finished: bool,
+}
+
+impl Place {
+    const END: Place = Place {
+        run: 0,
+        skip: 0,
+        from: 0,
+        carried: Numbers::PLAIN,
+        finished: true,
+    };
+}
+
+#[repr(C)]
+struct RawPartWalk {
+    rest: Bytes,
+    len: usize,
+    pat: Bytes,
+    pat_len: usize,
+    place: Place,
+}
+
+#[repr(C)]
+struct RawPart {
+    text: Bytes,
+    len: usize,
+}
+
 #[repr(C)]
 struct RawBlock {
     text: Bytes,
@@ -122,16 +150,19 @@ extern "C" {
     fn ansi_str_raw_ends_with_unchecked(t: Bytes, n: usize, p: Bytes, k: usize) -> Answer;
     fn ansi_str_raw_is_char_boundary_unchecked(t: Bytes, n: usize, index: usize) -> Answer;
     fn ansi_str_raw_floor_char_boundary_unchecked(t: Bytes, n: usize, index: usize) -> Answer;
-    fn ansi_str_raw_split(
+    fn ansi_str_raw_parts_begin_unchecked(
         t: Bytes,
         n: usize,
         p: Bytes,
         k: usize,
+        walk: *mut RawPartWalk,
+    );
+    fn ansi_str_raw_parts_next(
+        walk: *mut RawPartWalk,
+        part: *mut RawPart,
         b: Room,
         m: usize,
-        ends: *mut usize,
-        count: usize,
-    ) -> Answers;
+    ) -> Answer;
     fn ansi_str_raw_blocks_begin_unchecked(t: Bytes, n: usize, walk: *mut RawWalk);
     fn ansi_str_raw_blocks_next(
         walk: *mut RawWalk,
@@ -323,87 +354,65 @@ pub(crate) fn floor_char_boundary(text: &str, index: usize) -> usize {
     unsafe { ansi_str_raw_floor_char_boundary_unchecked(text.as_ptr(), text.len(), index) }.len
 }
 
-/// What a call gives that writes several texts one after the other, each with an entry: the bytes, with so
-/// much room at first and then with as much as the call asks for, and the entries, which are never more than `most`.
-fn listed<E>(
-    room: usize,
-    most: usize,
-    call: impl Fn(&mut [MaybeUninit<u8>], &mut [MaybeUninit<E>]) -> Answers,
-) -> (String, vec::IntoIter<E>) {
-    let mut buffer = Vec::with_capacity(room);
-    let mut entries = Vec::with_capacity(most);
-    loop {
-        let answer = call(buffer.spare_capacity_mut(), entries.spare_capacity_mut());
-        debug_assert!(answer.count <= most, "no list has more entries");
-        match outcome(answer.status, answer.len) {
-            Ok(len) => {
-                // SAFETY: the call has set so many entries
-                unsafe { entries.set_len(answer.count) };
-                return (unsafe { text_of(buffer, len) }, entries.into_iter());
-            }
-            Err(Unfinished::TooSmall(needed)) => {
-                buffer.reserve_exact(needed);
-                entries.reserve_exact(answer.count);
-            }
-            Err(_) => unreachable!("this call is never refused"),
-        }
-    }
-}
-
-/// Room that most lists of a text's parts or blocks need no more of, each between a start and a close.
-fn room_of_list(text: &str) -> usize {
-    2 * text.len() + LONGEST_START_AND_CLOSE
-}
-
-fn count_of(text: &str, byte: u8) -> usize {
-    text.bytes().filter(|each| *each == byte).count()
-}
-
-/// The parts of a text, which stand one after the other in a text, and their ends.
+/// The parts that are left of a text.
 #[derive(Debug, Clone)]
-pub(crate) struct Parts {
-    all: String,
-    start: usize,
-    ends: vec::IntoIter<usize>,
+pub(crate) struct Parts<'a> {
+    rest: &'a str,
+    pat: &'a str,
+    place: Place,
 }
 
-pub(crate) fn split(text: &str, pat: &str) -> Parts {
-    // a match begins with the pattern's first byte, and an empty pattern matches before each character and at the end
-    let most = match pat.bytes().next() {
-        Some(first) => count_of(text, first) + 1,
-        None => text.len() + 2,
-    };
-    let (all, ends) = listed(room_of_list(text), most, |buffer, ends| unsafe {
-        ansi_str_raw_split(
+pub(crate) fn split<'a>(text: &'a str, pat: &'a str) -> Parts<'a> {
+    let mut walk = part_walk_of("", "", Place::END);
+    // SAFETY: and a `str` is UTF-8
+    unsafe {
+        ansi_str_raw_parts_begin_unchecked(
             text.as_ptr(),
             text.len(),
             pat.as_ptr(),
             pat.len(),
-            buffer.as_mut_ptr().cast(),
-            buffer.len(),
-            ends.as_mut_ptr().cast(),
-            ends.len(),
+            &mut walk,
         )
-    });
+    };
     Parts {
-        all,
-        start: 0,
-        ends,
+        rest: text,
+        pat,
+        place: walk.place,
     }
 }
 
-impl Iterator for Parts {
-    type Item = String;
-
-    fn next(&mut self) -> Option<String> {
-        let end = self.ends.next()?;
-        let part = self.all[self.start..end].to_owned();
-        self.start = end;
-        Some(part)
+fn part_walk_of(rest: &str, pat: &str, place: Place) -> RawPartWalk {
+    RawPartWalk {
+        rest: rest.as_ptr(),
+        len: rest.len(),
+        pat: pat.as_ptr(),
+        pat_len: pat.len(),
+        place,
     }
+}
 
-    fn size_hint(&self) -> (usize, Option<usize>) {
-        self.ends.size_hint()
+impl<'a> Iterator for Parts<'a> {
+    type Item = Cow<'a, str>;
+
+    fn next(&mut self) -> Option<Cow<'a, str>> {
+        let mut walk = part_walk_of(self.rest, self.pat, self.place);
+        let mut part = RawPart {
+            text: "".as_ptr(),
+            len: 0,
+        };
+        let written = written(0, |b, m| unsafe {
+            ansi_str_raw_parts_next(&mut walk, &mut part, b, m)
+        });
+        let written = written.ok()?;
+        // SAFETY: the call has told both, and the text lives as long as `self.rest` says
+        let bare = unsafe { told(part.text, part.len) };
+        self.rest = unsafe { told(walk.rest, walk.len) };
+        self.place = walk.place;
+        Some(if written.is_empty() {
+            Cow::Borrowed(bare)
+        } else {
+            Cow::Owned(written)
+        })
     }
 }
 
