@@ -127,6 +127,19 @@ static size_t walk(const struct text *t) {
     return answer.status == ANSI_STR_NO ? count : SIZE_MAX;
 }
 
+static size_t parts(const struct text *t) {
+    static char buffer[1 << 21];
+    ansi_str_part_walk walk;
+    ansi_str_next_part part;
+    ansi_str_answer answer = ansi_str_parts_begin(t->bytes, t->len, t->pattern, t->pattern_len, &walk);
+    size_t count = 0;
+    while (answer.status == ANSI_STR_OK) {
+        answer = ansi_str_parts_next(&walk, &part, buffer, sizeof buffer);
+        count += answer.status == ANSI_STR_OK;
+    }
+    return answer.status == ANSI_STR_NO ? count : SIZE_MAX;
+}
+
 /* appends a piece, and its plain bytes, while it fits into so many bytes */
 static void append(struct text *t, const char *piece, size_t limit) {
     size_t len = strlen(piece);
@@ -224,6 +237,7 @@ static const struct call FIND_SHORT = {"find, xyz", find_absent, WORD, "xyz"};
 static const struct call FIND_X = {"find, 256 x", find_absent, WORD, X64 X64 X64 X64};
 static const struct call FIND_A = {"find, 255 a, b", find_absent, WORD, A64 A64 A64 A16 A16 A16 "aaaaaaaaaaaaaaa" "b"};
 static const struct call SPLIT = {"split", split, WORD, " "};
+static const struct call PARTS = {"parts one by one", parts, WORD, " "};
 static const struct call BLOCKS = {"blocks", blocks, NONE, NULL};
 static const struct call WALK = {"blocks one by one", walk, NONE, NULL};
 
@@ -244,6 +258,7 @@ static const struct row {
     {&FIND_SHORT, &SHORT_SEQUENCES}, {&FIND_X, &SHORT_SEQUENCES}, {&FIND_A, &SHORT_SEQUENCES},
     {&FIND_SHORT, &LETTERS}, {&FIND_X, &LETTERS}, {&FIND_A, &LETTERS},
     {&SPLIT, &PLAIN}, {&SPLIT, &LOG}, {&SPLIT, &WORDS},
+    {&PARTS, &PLAIN}, {&PARTS, &LOG}, {&PARTS, &WORDS},
     {&BLOCKS, &LOG}, {&BLOCKS, &SHORT_SEQUENCES}, {&BLOCKS, &TAIL},
     {&WALK, &LOG}, {&WALK, &SHORT_SEQUENCES}, {&WALK, &TAIL},
 };
