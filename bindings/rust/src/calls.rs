@@ -499,8 +499,11 @@ impl Numbers {
         },
     };
 
-    /// The sequences that set the style.
+    /// The sequences that set the style: none where nothing is set.
     pub(crate) fn start(&self) -> String {
+        if *self == Numbers::PLAIN {
+            return String::new();
+        }
         always(written(0, |b, m| unsafe {
             ansi_str_raw_style_start(self, b, m)
         }))
@@ -508,6 +511,9 @@ impl Numbers {
 
     /// The sequences that end the style.
     pub(crate) fn end(&self) -> String {
+        if *self == Numbers::PLAIN {
+            return String::new();
+        }
         always(written(0, |b, m| unsafe {
             ansi_str_raw_style_end(self, b, m)
         }))
