@@ -114,6 +114,31 @@ static size_t split(const struct text *t) {
     return count_of(ansi_str_split(t->bytes, t->len, t->pattern, t->pattern_len, NULL, 0, NULL, 0));
 }
 static size_t blocks(const struct text *t) { return count_of(ansi_str_blocks(t->bytes, t->len, NULL, 0, NULL, 0)); }
+static size_t walk(const struct text *t) {
+    char sequences[256];
+    ansi_str_block_walk walk;
+    ansi_str_next_block block;
+    ansi_str_answer answer = ansi_str_blocks_begin(t->bytes, t->len, &walk);
+    size_t count = 0;
+    while (answer.status == ANSI_STR_OK) {
+        answer = ansi_str_blocks_next(&walk, &block, sequences, sizeof sequences);
+        count += answer.status == ANSI_STR_OK;
+    }
+    return answer.status == ANSI_STR_NO ? count : SIZE_MAX;
+}
+
+static size_t parts(const struct text *t) {
+    static char buffer[1 << 21];
+    ansi_str_part_walk walk;
+    ansi_str_next_part part;
+    ansi_str_answer answer = ansi_str_parts_begin(t->bytes, t->len, t->pattern, t->pattern_len, &walk);
+    size_t count = 0;
+    while (answer.status == ANSI_STR_OK) {
+        answer = ansi_str_parts_next(&walk, &part, buffer, sizeof buffer);
+        count += answer.status == ANSI_STR_OK;
+    }
+    return answer.status == ANSI_STR_NO ? count : SIZE_MAX;
+}
 
 /* appends a piece, and its plain bytes, while it fits into so many bytes */
 static void append(struct text *t, const char *piece, size_t limit) {
@@ -212,7 +237,9 @@ static const struct call FIND_SHORT = {"find, xyz", find_absent, WORD, "xyz"};
 static const struct call FIND_X = {"find, 256 x", find_absent, WORD, X64 X64 X64 X64};
 static const struct call FIND_A = {"find, 255 a, b", find_absent, WORD, A64 A64 A64 A16 A16 A16 "aaaaaaaaaaaaaaa" "b"};
 static const struct call SPLIT = {"split", split, WORD, " "};
+static const struct call PARTS = {"parts one by one", parts, WORD, " "};
 static const struct call BLOCKS = {"blocks", blocks, NONE, NULL};
+static const struct call WALK = {"blocks one by one", walk, NONE, NULL};
 
 static const struct row {
     const struct call *call;
@@ -231,7 +258,9 @@ static const struct row {
     {&FIND_SHORT, &SHORT_SEQUENCES}, {&FIND_X, &SHORT_SEQUENCES}, {&FIND_A, &SHORT_SEQUENCES},
     {&FIND_SHORT, &LETTERS}, {&FIND_X, &LETTERS}, {&FIND_A, &LETTERS},
     {&SPLIT, &PLAIN}, {&SPLIT, &LOG}, {&SPLIT, &WORDS},
+    {&PARTS, &PLAIN}, {&PARTS, &LOG}, {&PARTS, &WORDS},
     {&BLOCKS, &LOG}, {&BLOCKS, &SHORT_SEQUENCES}, {&BLOCKS, &TAIL},
+    {&WALK, &LOG}, {&WALK, &SHORT_SEQUENCES}, {&WALK, &TAIL},
 };
 
 enum { ROW_COUNT = sizeof ROWS / sizeof ROWS[0] };
@@ -239,7 +268,7 @@ enum { ROW_COUNT = sizeof ROWS / sizeof ROWS[0] };
 static void print_time(const struct row *row) {
     struct text t = made(row->input, LONG);
     double took = measured(row->call, &t);
-    printf("%-16s %-28s %9.3f ms %8.3f %12zu\n", row->call->name, row->input->name, took / 1e6, took / (double)t.len, allocations);
+    printf("%-17s %-28s %9.3f ms %8.3f %12zu\n", row->call->name, row->input->name, took / 1e6, took / (double)t.len, allocations);
 }
 
 /* a function of its own, which the call returns to */
@@ -259,10 +288,10 @@ int main(int count, char **words) {
         struct text t = made(row->input, strtoul(words[2], NULL, 10));
         set_pattern(row->call, &t);
         expect_done(row->call, judged(row, &t));
-        printf("%-16s %-28s\n", row->call->name, row->input->name);
+        printf("%-17s %-28s\n", row->call->name, row->input->name);
         return 0;
     }
-    printf("%-16s %-28s %12s %8s %12s\n", "call", "input", "1 MiB", "ns/byte", "allocations");
+    printf("%-17s %-28s %12s %8s %12s\n", "call", "input", "1 MiB", "ns/byte", "allocations");
     for (size_t i = 0; i < ROW_COUNT; i++) {
         print_time(&ROWS[i]);
     }

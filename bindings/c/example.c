@@ -88,6 +88,24 @@ static void give_all_blocks(void) {
     expect("its style", first.status == ANSI_STR_OK && first.style.foreground.kind == ANSI_STR_RED);
 }
 
+static void walk_over_blocks(void) {
+    char sequences[64];
+    ansi_str_block_walk walk;
+    ansi_str_next_block block;
+    expect("a walk", ansi_str_blocks_begin(LOG, strlen(LOG), &walk).status == ANSI_STR_OK);
+    ansi_str_answer answer = ansi_str_blocks_next(&walk, &block, sequences, sizeof sequences);
+    expect("the first", answer.status == ANSI_STR_OK && answer.len == 0);
+    expect("its run", block.text_len == 5 && memcmp(block.text, "error", 5) == 0);
+    expect("its color", block.style.foreground.kind == ANSI_STR_RED);
+    answer = ansi_str_style_start(&walk.style, sequences, sizeof sequences);
+    expect("its start", answer.len == 5 && memcmp(sequences, "\x1b[31m", 5) == 0);
+    size_t left = 0;
+    while (ansi_str_blocks_next(&walk, &block, sequences, sizeof sequences).status == ANSI_STR_OK) {
+        left++;
+    }
+    expect("the others", left == 2);
+}
+
 static void do_edits(void) {
     char buffer[128];
     ansi_str_edit_step edits[3];
@@ -127,6 +145,7 @@ int main(void) {
     give_room();
     give_all_parts();
     give_all_blocks();
+    walk_over_blocks();
     do_edits();
     fail();
     take_nothing();

@@ -92,6 +92,43 @@ LISTS_BLOCKS(styled_blocks)
 
 ansi_str_style_answer ansi_str_raw_block_style(TEXT, size_t i) { return EXPECT_TEXT, EXPECT_ONE, STYLE; }
 
+/* The walks and what they fill are the caller's own, and stand where it has them. */
+static ansi_str_block_walk block_walk;
+static ansi_str_next_block next_block;
+static ansi_str_part_walk part_walk;
+static ansi_str_next_part next_part;
+static ansi_str_style_numbers style_numbers;
+
+#define EXPECT_SAME(pointer, given) expect("what is the caller's own", __func__, (pointer) == (given))
+#define EXPECT_SOME(pointer) expect("an empty text", __func__, (pointer) != NULL)
+
+ansi_str_answer ansi_str_raw_blocks_begin(TEXT, ansi_str_block_walk *walk) {
+    return EXPECT_TEXT, EXPECT_SAME(walk, &block_walk), EXPECT_SOME(walk->rest), ANSWER;
+}
+
+ansi_str_answer ansi_str_raw_blocks_next(ansi_str_block_walk *walk, ansi_str_next_block *block, BUFFER) {
+    EXPECT_SAME(walk, &block_walk), EXPECT_SAME(block, &next_block), EXPECT_SOME(walk->rest), EXPECT_SOME(block->text);
+    return EXPECT_BUFFER, ANSWER;
+}
+
+ansi_str_answer ansi_str_raw_parts_begin(TEXT, PATTERN, ansi_str_part_walk *walk) {
+    EXPECT_SAME(walk, &part_walk), EXPECT_SOME(walk->rest), EXPECT_SOME(walk->pattern);
+    return EXPECT_TEXT, EXPECT_PATTERN, ANSWER;
+}
+
+ansi_str_answer ansi_str_raw_parts_next(ansi_str_part_walk *walk, ansi_str_next_part *part, BUFFER) {
+    EXPECT_SAME(walk, &part_walk), EXPECT_SAME(part, &next_part), EXPECT_SOME(walk->rest), EXPECT_SOME(part->text);
+    return EXPECT_SOME(walk->pattern), EXPECT_BUFFER, ANSWER;
+}
+
+ansi_str_answer ansi_str_raw_style_start(const ansi_str_style_numbers *style, BUFFER) {
+    return EXPECT_SAME(style, &style_numbers), EXPECT_BUFFER, ANSWER;
+}
+
+ansi_str_answer ansi_str_raw_style_end(const ansi_str_style_numbers *style, BUFFER) {
+    return EXPECT_SAME(style, &style_numbers), EXPECT_BUFFER, ANSWER;
+}
+
 ansi_str_answers ansi_str_raw_split(TEXT, PATTERN, BUFFER, size_t *ends, size_t ends_len) {
     expect_pointer(__func__, "the ends", ends, ends_given, ends_len, NUMBER(6));
     return EXPECT_TEXT, EXPECT_PATTERN, EXPECT_BUFFER, ANSWERS;
@@ -145,6 +182,12 @@ static void call_each(void) {
     ansi_str_blocks(GIVE_TEXT, GIVE_BUFFER, GIVEN(blocks_given), NUMBER(6));
     ansi_str_styled_blocks(GIVE_TEXT, GIVE_BUFFER, GIVEN(styled_blocks_given), NUMBER(6));
     ansi_str_block_style(GIVE_TEXT, NUMBER(4));
+    ansi_str_blocks_begin(GIVE_TEXT, &block_walk);
+    ansi_str_blocks_next(&block_walk, &next_block, GIVE_BUFFER);
+    ansi_str_parts_begin(GIVE_TEXT, GIVE_PATTERN, &part_walk);
+    ansi_str_parts_next(&part_walk, &next_part, GIVE_BUFFER);
+    ansi_str_style_start(&style_numbers, GIVE_BUFFER);
+    ansi_str_style_end(&style_numbers, GIVE_BUFFER);
     ansi_str_split(GIVE_TEXT, GIVE_PATTERN, GIVE_BUFFER, GIVEN(ends_given), NUMBER(6));
     ansi_str_edit(GIVE_TEXT, NULL, NUMBER(6), GIVE_BUFFER);
     ansi_str_edit(GIVE_TEXT, edits_given, EDITS, GIVE_BUFFER);

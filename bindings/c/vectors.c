@@ -256,7 +256,33 @@ static long expect_one(const struct row *r, const char *name, uint32_t status, s
 
 static const struct text EMPTY = {(char *)(uintptr_t)"", 0};
 
-/* All parts, in one call and by their index. */
+/* The next part of a walk is this text. Where memory or room is wanting, the walk is as it was. */
+static void expect_next_part(ansi_str_part_walk *walk, const struct text *wanted) {
+    char *buffer = guarded(wanted->len);
+    ansi_str_next_part part;
+    ansi_str_answer answer;
+    ansi_str_part_walk copy = *walk;
+    long requests = 0;
+    do {
+        granted = requests++;
+        answer = ansi_str_parts_next(walk, &part, buffer, wanted->len);
+    } while (is_wanting(answer.status, buffer, wanted->len));
+    size_t len = answer.len;
+    expect("the next part", answer.status == ANSI_STR_OK && len + part.text_len == wanted->len && (len == 0 || part.text_len == 0));
+    expect("its text", memcmp(buffer, wanted->bytes, len) == 0 && memcmp(part.text, wanted->bytes, part.text_len) == 0);
+    expect("nothing more is written", is_guard(buffer, len, wanted->len + 1));
+    if (len > 0) {
+        memset(buffer, GUARD, wanted->len);
+        answer = ansi_str_parts_next(&copy, &part, buffer, len - 1);
+        expect("too small for a part", answer.status == ANSI_STR_TOO_SMALL && answer.len == len && part.text_len == 0);
+        expect("nothing is written", is_guard(buffer, 0, wanted->len + 1));
+        answer = ansi_str_parts_next(&copy, &part, buffer, len);
+        expect("the part again", answer.status == ANSI_STR_OK && answer.len == len && part.text_len == 0);
+    }
+    free(buffer);
+}
+
+/* All parts, in one call, one after the other and by their index. */
 static void expect_parts(const struct row *r) {
     const struct text *t = text_of(r), *pattern = argument(r, 0);
     size_t count = number(r, 2), len = 0;
@@ -278,10 +304,21 @@ static void expect_parts(const struct row *r) {
     expect("status", answer.status == status);
     expect("how many and how long", answer.count == count && answer.len == len && buffer[len] == GUARD && ends[count] == 0);
     size_t start = 0;
+    ansi_str_part_walk walk;
+    expect("a walk", ansi_str_parts_begin(TEXT(t), TEXT(pattern), &walk).status == status);
+    if (status == ANSI_STR_OK) {
+        ansi_str_raw_parts_begin_unchecked((const uint8_t *)t->bytes, t->len, (const uint8_t *)pattern->bytes, pattern->len, &walk);
+    }
     for (size_t i = 0; i < count; i++) {
+        expect_next_part(&walk, &parts[i]);
         expect("part", ends[i] == start + parts[i].len && memcmp(buffer + start, parts[i].bytes, parts[i].len) == 0);
         start = ends[i];
         expect_one(r, "part", status, i, &parts[i], 0);
+    }
+    for (int i = 0; i < 2; i++) {
+        ansi_str_next_part part;
+        ansi_str_answer past = ansi_str_parts_next(&walk, &part, NULL, 0);
+        expect("no part is left", past.status == ANSI_STR_NO && past.len == 0 && part.text_len == 0);
     }
     if (status == ANSI_STR_OK) {
         expect_one(r, "part", ANSI_STR_NO, count, &EMPTY, 0);
@@ -311,7 +348,73 @@ static int is_style(const struct row *r, size_t i, const ansi_str_style *style) 
            is_color(&style->background, &r->fields[i + 2]) && (size_t)style->has_any == number(r, i + 3);
 }
 
-/* All blocks, in one call and by their index. */
+static int is_same_style(const ansi_str_style *a, const ansi_str_style *b) {
+    return a->attributes == b->attributes && memcmp(&a->foreground, &b->foreground, sizeof a->foreground) == 0 &&
+           memcmp(&a->background, &b->background, sizeof a->background) == 0 && a->has_any == b->has_any;
+}
+
+/* A call of a style writes these sequences. */
+static void expect_sequences(ansi_str_answer (*call_of)(const ansi_str_style_numbers *, char *, size_t),
+                             const ansi_str_style_numbers *style, const struct text *wanted) {
+    char *buffer = guarded(wanted->len);
+    ansi_str_answer answer;
+    long requests = 0;
+    do {
+        granted = requests++;
+        answer = call_of(style, buffer, wanted->len);
+    } while (is_wanting(answer.status, buffer, wanted->len));
+    expect("sequences of a style", answer.status == ANSI_STR_OK && answer.len == wanted->len &&
+                                       memcmp(buffer, wanted->bytes, wanted->len) == 0 && is_guard(buffer, wanted->len, wanted->len + 1));
+    free(buffer);
+}
+
+/* The next block of a walk is this text in this style. Where memory or room is wanting, the walk is as it was. */
+static void expect_next(ansi_str_block_walk *walk, const struct text *wanted, const ansi_str_style *style) {
+    char *buffer = guarded(wanted->len);
+    ansi_str_next_block block;
+    ansi_str_answer answer;
+    ansi_str_block_walk copy = *walk;
+    long requests = 0;
+    do {
+        granted = requests++;
+        answer = ansi_str_blocks_next(walk, &block, buffer, wanted->len);
+    } while (is_wanting(answer.status, buffer, wanted->len));
+    size_t len = answer.len;
+    expect("the next block", answer.status == ANSI_STR_OK && len + block.text_len == wanted->len);
+    expect("its text", memcmp(buffer, wanted->bytes, len) == 0 && memcmp(block.text, wanted->bytes + len, block.text_len) == 0);
+    expect("its style", is_same_style(&block.style, style));
+    expect("nothing more is written", is_guard(buffer, len, wanted->len + 1));
+    if (len > 0) {
+        memset(buffer, GUARD, wanted->len);
+        answer = ansi_str_blocks_next(&copy, &block, buffer, len - 1);
+        expect("too small for sequences", answer.status == ANSI_STR_TOO_SMALL && answer.len == len && block.text_len == 0);
+        expect("nothing is written", is_guard(buffer, 0, wanted->len + 1));
+        answer = ansi_str_blocks_next(&copy, &block, buffer, len);
+        expect("the block again", answer.status == ANSI_STR_OK && answer.len == len && len + block.text_len == wanted->len);
+    }
+    free(buffer);
+}
+
+/* A walk over the blocks of a text begins with this status. */
+static ansi_str_block_walk walk_over(const struct text *t, uint32_t status) {
+    ansi_str_block_walk walk;
+    expect("a walk", ansi_str_blocks_begin(TEXT(t), &walk).status == status);
+    if (status == ANSI_STR_OK) {
+        ansi_str_raw_blocks_begin_unchecked((const uint8_t *)t->bytes, t->len, &walk);
+    }
+    return walk;
+}
+
+/* No block is left of a walk, now and ever after. */
+static void expect_end(ansi_str_block_walk *walk) {
+    ansi_str_next_block block;
+    for (int i = 0; i < 2; i++) {
+        ansi_str_answer answer = ansi_str_blocks_next(walk, &block, NULL, 0);
+        expect("no block is left", answer.status == ANSI_STR_NO && answer.len == 0 && block.text_len == 0);
+    }
+}
+
+/* All blocks, in one call, one after the other and by their index. */
 static void expect_blocks(const struct row *r) {
     const struct text *t = text_of(r);
     size_t count = number(r, 2), len = 0;
@@ -333,15 +436,18 @@ static void expect_blocks(const struct row *r) {
     size_t start = 0;
     /* (the call for a block begins with the requests of the one for the block before, and so each is refused once) */
     requests = 0;
+    ansi_str_block_walk walk = walk_over(t, status);
     for (size_t i = 0; i < count; i++) {
         const struct text *block = &r->fields[4 + 5 * i];
         expect("block", blocks[i].end == start + block->len && memcmp(buffer + start, block->bytes, block->len) == 0);
         start = blocks[i].end;
         expect("style", is_style(r, 5 + 5 * i, &blocks[i].style));
+        expect_next(&walk, block, &blocks[i].style);
         requests = expect_one(r, "block", status, i, block, requests);
         ansi_str_style_answer style = ansi_str_block_style(TEXT(t), i);
         expect("its style", style.status == ANSI_STR_OK && is_style(r, 5 + 5 * i, &style.style));
     }
+    expect_end(&walk);
     uint32_t past = status == ANSI_STR_OK ? ANSI_STR_NO : status;
     expect("no style", ansi_str_block_style(TEXT(t), count).status == past);
     expect_one(r, "block", past, count, &EMPTY, requests);
@@ -355,11 +461,6 @@ static void expect_blocks(const struct row *r) {
     }
     free(buffer);
     free(blocks);
-}
-
-static int is_same_style(const ansi_str_style *a, const ansi_str_style *b) {
-    return a->attributes == b->attributes && memcmp(&a->foreground, &b->foreground, sizeof a->foreground) == 0 &&
-           memcmp(&a->background, &b->background, sizeof a->background) == 0 && a->has_any == b->has_any;
 }
 
 /* All blocks in one call with the starts and the ends of their styles, which a row has before and after each text. */
@@ -389,6 +490,7 @@ static void expect_styled_blocks(const struct row *r) {
     expect("status", answer.status == status);
     expect("how many and how long", answer.count == count && answer.len == len && buffer[len] == GUARD);
     size_t start = 0;
+    ansi_str_block_walk walk = walk_over(t, status);
     for (size_t i = 0; i < count; i++) {
         const struct text *wanted = &r->fields[4 + 3 * i];
         const size_t ends[3] = {blocks[i].text_start, blocks[i].text_end, blocks[i].end};
@@ -396,12 +498,16 @@ static void expect_styled_blocks(const struct row *r) {
             expect("start, text and end", ends[k] == start + wanted[k].len && memcmp(buffer + start, wanted[k].bytes, wanted[k].len) == 0);
             start = ends[k];
         }
+        expect_next(&walk, &wanted[1], &blocks[i].style);
+        expect_sequences(ansi_str_style_start, &walk.style, &wanted[0]);
+        expect_sequences(ansi_str_style_end, &walk.style, &wanted[2]);
         expect_one(r, "block_start", status, i, &wanted[0], 0);
         expect_one(r, "block", status, i, &wanted[1], 0);
         expect_one(r, "block_end", status, i, &wanted[2], 0);
         ansi_str_style_answer style = ansi_str_block_style(TEXT(t), i);
         expect("its style", is_same_style(&style.style, &blocks[i].style));
     }
+    expect_end(&walk);
     free(buffer);
     free(blocks);
 }

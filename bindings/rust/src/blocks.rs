@@ -80,7 +80,7 @@ impl AnsiBlock<'_> {
 /// ```
 /// use ansi_str::get_blocks;
 /// let blocks = get_blocks("\x1b[31mred\x1b[39m fox");
-/// assert_eq!(blocks.size_hint(), (2, Some(2)));
+/// assert_eq!(blocks.count(), 2);
 /// ```
 #[derive(Debug, Clone)]
 #[must_use = "iterators are lazy and do nothing unless consumed"]
@@ -90,7 +90,7 @@ pub struct AnsiBlockIter<'a>(Blocks<'a>);
 enum Blocks<'a> {
     /// all of a text without ESC, or nothing
     Bare(option::IntoIter<&'a str>),
-    Styled(calls::Blocks),
+    Styled(calls::Blocks<'a>),
 }
 
 impl<'a> Iterator for AnsiBlockIter<'a> {
@@ -99,10 +99,7 @@ impl<'a> Iterator for AnsiBlockIter<'a> {
     fn next(&mut self) -> Option<Self::Item> {
         let (text, style) = match &mut self.0 {
             Blocks::Bare(text) => (Cow::Borrowed(text.next()?), Style::EMPTY),
-            Blocks::Styled(blocks) => {
-                let (text, style) = blocks.next()?;
-                (Cow::Owned(text), style)
-            }
+            Blocks::Styled(blocks) => blocks.next()?,
         };
         Some(AnsiBlock { text, style })
     }

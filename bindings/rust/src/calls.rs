@@ -1,10 +1,9 @@
 //! The calls of the library for C, over texts: the one module that isn't safe.
 
 use crate::style::{Color, Style};
-use crate::ESC;
+use std::borrow::Cow;
 use std::mem::MaybeUninit;
-use std::vec;
-use std::{ptr, str};
+use std::{ptr, slice, str};
 
 /// What `include/ansi_str.h` says of a status.
 const OK: u32 = 0;
@@ -22,13 +21,6 @@ const LONGEST_START_AND_CLOSE: usize = LONGEST_START + LONGEST_CLOSE;
 #[derive(Clone, Copy)]
 struct Answer {
     status: u32,
-    len: usize,
-}
-
-#[repr(C)]
-struct Answers {
-    status: u32,
-    count: usize,
     len: usize,
 }
 
@@ -51,12 +43,80 @@ struct RawStyle {
     has_any: bool,
 }
 
+/// A color, a font and a style as the library keeps them: their fields are its own.
+#[repr(C)]
+#[derive(Debug, Clone, Copy, PartialEq, Eq)]
+struct ColorNumbers {
+    kind: u8,
+    first: u8,
+    second: u8,
+    third: u8,
+}
+
+#[repr(C)]
+#[derive(Debug, Clone, Copy, PartialEq, Eq)]
+struct FontNumbers {
+    is_set: bool,
+    number: u8,
+}
+
+#[repr(C)]
+#[derive(Debug, Clone, Copy, PartialEq, Eq)]
+pub(crate) struct Numbers {
+    attributes: u32,
+    foreground: ColorNumbers,
+    background: ColorNumbers,
+    underline_color: ColorNumbers,
+    font: FontNumbers,
+}
+
+#[repr(C)]
+struct RawWalk {
+    rest: Bytes,
+    len: usize,
+    style: Numbers,
+}
+
+/// Where a walk over parts stands: its fields are the library's own.
 #[repr(C)]
 #[derive(Debug, Clone, Copy)]
+struct Place {
+    run: usize,
+    skip: usize,
+    from: usize,
+    carried: Numbers,
+    finished: bool,
+}
+
+impl Place {
+    const END: Place = Place {
+        run: 0,
+        skip: 0,
+        from: 0,
+        carried: Numbers::PLAIN,
+        finished: true,
+    };
+}
+
+#[repr(C)]
+struct RawPartWalk {
+    rest: Bytes,
+    len: usize,
+    pat: Bytes,
+    pat_len: usize,
+    place: Place,
+}
+
+#[repr(C)]
+struct RawPart {
+    text: Bytes,
+    len: usize,
+}
+
+#[repr(C)]
 struct RawBlock {
-    text_start: usize,
-    text_end: usize,
-    end: usize,
+    text: Bytes,
+    len: usize,
     style: RawStyle,
 }
 
@@ -65,7 +125,7 @@ type Bytes = *const u8;
 type Room = *mut u8;
 
 extern "C" {
-    fn ansi_str_raw_strip(t: Bytes, n: usize, b: Room, m: usize) -> Answer;
+    fn ansi_str_raw_strip_unchecked(t: Bytes, n: usize, b: Room, m: usize) -> Answer;
     fn ansi_str_raw_cut(t: Bytes, n: usize, start: usize, end: usize, b: Room, m: usize) -> Answer;
     fn ansi_str_raw_left(t: Bytes, n: usize, mid: usize, b: Room, m: usize) -> Answer;
     fn ansi_str_raw_right(t: Bytes, n: usize, mid: usize, b: Room, m: usize) -> Answer;
@@ -86,29 +146,33 @@ extern "C" {
         b: Room,
         m: usize,
     ) -> Answer;
-    fn ansi_str_raw_find(t: Bytes, n: usize, p: Bytes, k: usize) -> Answer;
-    fn ansi_str_raw_starts_with(t: Bytes, n: usize, p: Bytes, k: usize) -> Answer;
-    fn ansi_str_raw_ends_with(t: Bytes, n: usize, p: Bytes, k: usize) -> Answer;
-    fn ansi_str_raw_is_char_boundary(t: Bytes, n: usize, index: usize) -> Answer;
-    fn ansi_str_raw_floor_char_boundary(t: Bytes, n: usize, index: usize) -> Answer;
-    fn ansi_str_raw_split(
+    fn ansi_str_raw_find_unchecked(t: Bytes, n: usize, p: Bytes, k: usize) -> Answer;
+    fn ansi_str_raw_starts_with_unchecked(t: Bytes, n: usize, p: Bytes, k: usize) -> Answer;
+    fn ansi_str_raw_ends_with_unchecked(t: Bytes, n: usize, p: Bytes, k: usize) -> Answer;
+    fn ansi_str_raw_is_char_boundary_unchecked(t: Bytes, n: usize, index: usize) -> Answer;
+    fn ansi_str_raw_floor_char_boundary_unchecked(t: Bytes, n: usize, index: usize) -> Answer;
+    fn ansi_str_raw_parts_begin_unchecked(
         t: Bytes,
         n: usize,
         p: Bytes,
         k: usize,
+        walk: *mut RawPartWalk,
+    );
+    fn ansi_str_raw_parts_next(
+        walk: *mut RawPartWalk,
+        part: *mut RawPart,
         b: Room,
         m: usize,
-        ends: *mut usize,
-        count: usize,
-    ) -> Answers;
-    fn ansi_str_raw_styled_blocks(
-        t: Bytes,
-        n: usize,
+    ) -> Answer;
+    fn ansi_str_raw_blocks_begin_unchecked(t: Bytes, n: usize, walk: *mut RawWalk);
+    fn ansi_str_raw_blocks_next(
+        walk: *mut RawWalk,
+        block: *mut RawBlock,
         b: Room,
         m: usize,
-        blocks: *mut RawBlock,
-        count: usize,
-    ) -> Answers;
+    ) -> Answer;
+    fn ansi_str_raw_style_start(style: *const Numbers, b: Room, m: usize) -> Answer;
+    fn ansi_str_raw_style_end(style: *const Numbers, b: Room, m: usize) -> Answer;
 }
 
 /// A call is refused: a position lies inside a character, or the end of a range below its start.
@@ -149,7 +213,7 @@ const SMALL: usize = 512;
 
 /// What a call writes, with so much room for it at first, and then with as much as it asks for. The room isn't set before:
 /// a call doesn't read it.
-fn written(room: usize, call: impl Fn(Room, usize) -> Answer) -> Result<String, Unfinished> {
+fn written(room: usize, mut call: impl FnMut(Room, usize) -> Answer) -> Result<String, Unfinished> {
     if room > SMALL {
         return written_from(room, call);
     }
@@ -169,7 +233,10 @@ fn written(room: usize, call: impl Fn(Room, usize) -> Answer) -> Result<String, 
 }
 
 /// The same without the stack.
-fn written_from(room: usize, call: impl Fn(Room, usize) -> Answer) -> Result<String, Unfinished> {
+fn written_from(
+    room: usize,
+    mut call: impl FnMut(Room, usize) -> Answer,
+) -> Result<String, Unfinished> {
     let mut buffer = Vec::with_capacity(room);
     loop {
         let free = buffer.spare_capacity_mut();
@@ -198,12 +265,12 @@ fn is_so(answer: Answer) -> bool {
     outcome(answer.status, answer.len).is_ok()
 }
 
-// SAFETY, of every call below: a text and a pattern are given by the pointer and the length of a slice that lives until
+// SAFETY, of every call below: a text and a pattern are given by the pointer and the length of a `str`, which is UTF-8 and lives until
 // the call returns, a buffer by those of a vector's spare room, which is this module's own and so overlaps no text.
 
 pub(crate) fn strip(text: &str) -> String {
     always(written(text.len(), |b, m| unsafe {
-        ansi_str_raw_strip(text.as_ptr(), text.len(), b, m)
+        ansi_str_raw_strip_unchecked(text.as_ptr(), text.len(), b, m)
     }))
 }
 
@@ -263,159 +330,223 @@ pub(crate) fn strip_suffix(text: &str, suffix: &str) -> Option<String> {
 }
 
 pub(crate) fn find(text: &str, pat: &str) -> Option<usize> {
-    let answer = unsafe { ansi_str_raw_find(text.as_ptr(), text.len(), pat.as_ptr(), pat.len()) };
+    let answer =
+        unsafe { ansi_str_raw_find_unchecked(text.as_ptr(), text.len(), pat.as_ptr(), pat.len()) };
     outcome(answer.status, answer.len).ok()
 }
 
 pub(crate) fn starts_with(text: &str, pat: &str) -> bool {
-    is_so(unsafe { ansi_str_raw_starts_with(text.as_ptr(), text.len(), pat.as_ptr(), pat.len()) })
+    is_so(unsafe {
+        ansi_str_raw_starts_with_unchecked(text.as_ptr(), text.len(), pat.as_ptr(), pat.len())
+    })
 }
 
 pub(crate) fn ends_with(text: &str, pat: &str) -> bool {
-    is_so(unsafe { ansi_str_raw_ends_with(text.as_ptr(), text.len(), pat.as_ptr(), pat.len()) })
+    is_so(unsafe {
+        ansi_str_raw_ends_with_unchecked(text.as_ptr(), text.len(), pat.as_ptr(), pat.len())
+    })
 }
 
 pub(crate) fn is_char_boundary(text: &str, index: usize) -> bool {
-    is_so(unsafe { ansi_str_raw_is_char_boundary(text.as_ptr(), text.len(), index) })
+    is_so(unsafe { ansi_str_raw_is_char_boundary_unchecked(text.as_ptr(), text.len(), index) })
 }
 
 pub(crate) fn floor_char_boundary(text: &str, index: usize) -> usize {
-    unsafe { ansi_str_raw_floor_char_boundary(text.as_ptr(), text.len(), index) }.len
+    unsafe { ansi_str_raw_floor_char_boundary_unchecked(text.as_ptr(), text.len(), index) }.len
 }
 
-/// What a call gives that writes several texts one after the other, each with an entry: the bytes, with so
-/// much room at first and then with as much as the call asks for, and the entries, which are never more than `most`.
-fn listed<E>(
-    room: usize,
-    most: usize,
-    call: impl Fn(&mut [MaybeUninit<u8>], &mut [MaybeUninit<E>]) -> Answers,
-) -> (String, vec::IntoIter<E>) {
-    let mut buffer = Vec::with_capacity(room);
-    let mut entries = Vec::with_capacity(most);
-    loop {
-        let answer = call(buffer.spare_capacity_mut(), entries.spare_capacity_mut());
-        debug_assert!(answer.count <= most, "no list has more entries");
-        match outcome(answer.status, answer.len) {
-            Ok(len) => {
-                // SAFETY: the call has set so many entries
-                unsafe { entries.set_len(answer.count) };
-                return (unsafe { text_of(buffer, len) }, entries.into_iter());
-            }
-            Err(Unfinished::TooSmall(needed)) => {
-                buffer.reserve_exact(needed);
-                entries.reserve_exact(answer.count);
-            }
-            Err(_) => unreachable!("this call is never refused"),
-        }
-    }
-}
-
-/// Room that most lists of a text's parts or blocks need no more of, each between a start and a close.
-fn room_of_list(text: &str) -> usize {
-    2 * text.len() + LONGEST_START_AND_CLOSE
-}
-
-fn count_of(text: &str, byte: u8) -> usize {
-    text.bytes().filter(|each| *each == byte).count()
-}
-
-/// The parts of a text, which stand one after the other in a text, and their ends.
+/// The parts that are left of a text.
 #[derive(Debug, Clone)]
-pub(crate) struct Parts {
-    all: String,
-    start: usize,
-    ends: vec::IntoIter<usize>,
+pub(crate) struct Parts<'a> {
+    rest: &'a str,
+    pat: &'a str,
+    place: Place,
 }
 
-pub(crate) fn split(text: &str, pat: &str) -> Parts {
-    // a match begins with the pattern's first byte, and an empty pattern matches before each character and at the end
-    let most = match pat.bytes().next() {
-        Some(first) => count_of(text, first) + 1,
-        None => text.len() + 2,
-    };
-    let (all, ends) = listed(room_of_list(text), most, |buffer, ends| unsafe {
-        ansi_str_raw_split(
+pub(crate) fn split<'a>(text: &'a str, pat: &'a str) -> Parts<'a> {
+    let mut walk = part_walk_of("", "", Place::END);
+    // SAFETY: and a `str` is UTF-8
+    unsafe {
+        ansi_str_raw_parts_begin_unchecked(
             text.as_ptr(),
             text.len(),
             pat.as_ptr(),
             pat.len(),
-            buffer.as_mut_ptr().cast(),
-            buffer.len(),
-            ends.as_mut_ptr().cast(),
-            ends.len(),
+            &mut walk,
         )
-    });
+    };
     Parts {
-        all,
-        start: 0,
-        ends,
+        rest: text,
+        pat,
+        place: walk.place,
     }
 }
 
-impl Iterator for Parts {
-    type Item = String;
-
-    fn next(&mut self) -> Option<String> {
-        let end = self.ends.next()?;
-        let part = self.all[self.start..end].to_owned();
-        self.start = end;
-        Some(part)
-    }
-
-    fn size_hint(&self) -> (usize, Option<usize>) {
-        self.ends.size_hint()
+fn part_walk_of(rest: &str, pat: &str, place: Place) -> RawPartWalk {
+    RawPartWalk {
+        rest: rest.as_ptr(),
+        len: rest.len(),
+        pat: pat.as_ptr(),
+        pat_len: pat.len(),
+        place,
     }
 }
 
-/// The blocks of a text, each by its text and its style: they stand one after the other in a text, each between the start
-/// of its style and the end.
+impl<'a> Iterator for Parts<'a> {
+    type Item = Cow<'a, str>;
+
+    fn next(&mut self) -> Option<Cow<'a, str>> {
+        let mut walk = part_walk_of(self.rest, self.pat, self.place);
+        let mut part = RawPart {
+            text: "".as_ptr(),
+            len: 0,
+        };
+        let written = written(0, |b, m| unsafe {
+            ansi_str_raw_parts_next(&mut walk, &mut part, b, m)
+        });
+        let written = written.ok()?;
+        // SAFETY: the call has told both, and the text lives as long as `self.rest` says
+        let bare = unsafe { told(part.text, part.len) };
+        self.rest = unsafe { told(walk.rest, walk.len) };
+        self.place = walk.place;
+        Some(if written.is_empty() {
+            Cow::Borrowed(bare)
+        } else {
+            Cow::Owned(written)
+        })
+    }
+}
+
+/// The blocks that are left of a text, each by its text and its style.
 #[derive(Debug, Clone)]
-pub(crate) struct Blocks {
-    all: String,
-    start: usize,
-    entries: vec::IntoIter<RawBlock>,
+pub(crate) struct Blocks<'a> {
+    rest: &'a str,
+    style: Numbers,
 }
 
-pub(crate) fn blocks(text: &str) -> Blocks {
-    // a block is a run of text, which ends at an ESC or where the text ends
-    let most = count_of(text, ESC) + 1;
-    let (all, entries) = listed(room_of_list(text), most, |buffer, entries| unsafe {
-        ansi_str_raw_styled_blocks(
-            text.as_ptr(),
-            text.len(),
-            buffer.as_mut_ptr().cast(),
-            buffer.len(),
-            entries.as_mut_ptr().cast(),
-            entries.len(),
-        )
-    });
+pub(crate) fn blocks(text: &str) -> Blocks<'_> {
+    let mut walk = walk_of("", Numbers::PLAIN);
+    // SAFETY: and a `str` is UTF-8
+    unsafe { ansi_str_raw_blocks_begin_unchecked(text.as_ptr(), text.len(), &mut walk) };
     Blocks {
-        all,
-        start: 0,
-        entries,
+        rest: text,
+        style: walk.style,
     }
 }
 
-impl Iterator for Blocks {
-    type Item = (String, Style);
-
-    fn next(&mut self) -> Option<(String, Style)> {
-        let entry = self.entries.next()?;
-        let start = &self.all[self.start..entry.text_start];
-        let end = &self.all[entry.text_end..entry.end];
-        let text = &self.all[entry.text_start..entry.text_end];
-        self.start = entry.end;
-        Some((text.to_owned(), style_of(&entry.style, start, end)))
-    }
-
-    fn size_hint(&self) -> (usize, Option<usize>) {
-        self.entries.size_hint()
+fn walk_of(rest: &str, style: Numbers) -> RawWalk {
+    RawWalk {
+        rest: rest.as_ptr(),
+        len: rest.len(),
+        style,
     }
 }
 
-fn style_of(style: &RawStyle, start: &str, end: &str) -> Style {
+/// What a call told of a text.
+///
+/// # Safety
+///
+/// The pointer and the length are those of a stretch of the text that a walk or a block has from the library: it is
+/// UTF-8.
+unsafe fn told<'a>(bytes: Bytes, len: usize) -> &'a str {
+    let told = slice::from_raw_parts(bytes, len);
+    debug_assert!(str::from_utf8(told).is_ok());
+    str::from_utf8_unchecked(told)
+}
+
+impl<'a> Iterator for Blocks<'a> {
+    type Item = (Cow<'a, str>, Style);
+
+    fn next(&mut self) -> Option<(Cow<'a, str>, Style)> {
+        let mut walk = walk_of(self.rest, self.style);
+        let mut block = RawBlock {
+            text: "".as_ptr(),
+            len: 0,
+            style: RawStyle::EMPTY,
+        };
+        let sequences = written(0, |b, m| unsafe {
+            ansi_str_raw_blocks_next(&mut walk, &mut block, b, m)
+        });
+        let mut sequences = sequences.ok()?;
+        // SAFETY: the call has told both, and the text lives as long as `self.rest` says
+        let run = unsafe { told(block.text, block.len) };
+        self.rest = unsafe { told(walk.rest, walk.len) };
+        self.style = walk.style;
+        let text = if sequences.is_empty() {
+            Cow::Borrowed(run)
+        } else {
+            sequences.push_str(run);
+            Cow::Owned(sequences)
+        };
+        Some((text, style_of(&block.style, walk.style)))
+    }
+}
+
+fn style_of(style: &RawStyle, numbers: Numbers) -> Style {
     let colors = (color_of(&style.foreground), color_of(&style.background));
-    Style::new(style.attributes, colors, style.has_any, start, end)
+    Style::new(style.attributes, colors, style.has_any, numbers)
+}
+
+impl Numbers {
+    /// Those of a style in which nothing is set.
+    pub(crate) const PLAIN: Numbers = Numbers {
+        attributes: 0,
+        foreground: ColorNumbers::NONE,
+        background: ColorNumbers::NONE,
+        underline_color: ColorNumbers::NONE,
+        font: FontNumbers {
+            is_set: false,
+            number: 0,
+        },
+    };
+
+    /// The sequences that set the style: none where nothing is set.
+    pub(crate) fn start(&self) -> String {
+        if *self == Numbers::PLAIN {
+            return String::new();
+        }
+        always(written(0, |b, m| unsafe {
+            ansi_str_raw_style_start(self, b, m)
+        }))
+    }
+
+    /// The sequences that end the style.
+    pub(crate) fn end(&self) -> String {
+        if *self == Numbers::PLAIN {
+            return String::new();
+        }
+        always(written(0, |b, m| unsafe {
+            ansi_str_raw_style_end(self, b, m)
+        }))
+    }
+}
+
+impl ColorNumbers {
+    const NONE: ColorNumbers = ColorNumbers {
+        kind: 0,
+        first: 0,
+        second: 0,
+        third: 0,
+    };
+}
+
+impl RawStyle {
+    const EMPTY: RawStyle = RawStyle {
+        attributes: 0,
+        foreground: RawColor::NONE,
+        background: RawColor::NONE,
+        has_any: false,
+    };
+}
+
+impl RawColor {
+    const NONE: RawColor = RawColor {
+        kind: 0,
+        number: 0,
+        red: 0,
+        green: 0,
+        blue: 0,
+    };
 }
 
 /// The names of colors, as the header numbers them from 1 on.

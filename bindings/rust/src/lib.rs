@@ -7,7 +7,7 @@
 //! the text without its sequences; a position past its end counts as the end.
 //!
 //! Where no ESC stands in a text, every answer is a borrow of it, and std gives it. Every other text that is answered is
-//! owned, but for an empty prefix or suffix. A call panics where memory has run out, as std's do.
+//! owned, but for an empty prefix or suffix, and for parts and blocks that stand in the text as they are. A call panics where memory has run out, as std's do.
 //!
 //! ```
 //! use ansi_str::AnsiStr;
@@ -392,7 +392,7 @@ pub struct AnsiSplit<'a>(Parts<'a>);
 enum Parts<'a> {
     /// those of a text without ESC
     Bare(str::Split<'a, &'a str>),
-    Styled(calls::Parts),
+    Styled(calls::Parts<'a>),
 }
 
 impl<'a> Iterator for AnsiSplit<'a> {
@@ -401,7 +401,7 @@ impl<'a> Iterator for AnsiSplit<'a> {
     fn next(&mut self) -> Option<Self::Item> {
         match &mut self.0 {
             Parts::Bare(parts) => parts.next().map(Cow::Borrowed),
-            Parts::Styled(parts) => parts.next().map(Cow::Owned),
+            Parts::Styled(parts) => parts.next(),
         }
     }
 

@@ -1,7 +1,9 @@
 //! The style of a block, and its colors.
 
-use crate::calls::{LONGEST_CLOSE, LONGEST_START};
+use crate::calls::Numbers;
+use std::cmp::Ordering;
 use std::fmt::{self, Debug, Display, Formatter};
+use std::hash::{Hash, Hasher};
 
 /// A color by its name, by its number among 256, or by its red, green and blue.
 ///
@@ -56,36 +58,6 @@ pub enum Color {
     Rgb(u8, u8, u8),
 }
 
-/// A few bytes of sequences, kept where they are so that a style stays `Copy`.
-#[derive(Clone, Copy, PartialEq, Eq, PartialOrd, Ord, Hash)]
-struct Sequences<const MOST: usize> {
-    len: usize,
-    bytes: [u8; MOST],
-}
-
-impl<const MOST: usize> Sequences<MOST> {
-    const EMPTY: Self = Sequences {
-        len: 0,
-        bytes: [0; MOST],
-    };
-
-    fn of(text: &str) -> Self {
-        let mut bytes = [0; MOST];
-        bytes[..text.len()].copy_from_slice(text.as_bytes());
-        Sequences {
-            len: text.len(),
-            bytes,
-        }
-    }
-}
-
-impl<const MOST: usize> Display for Sequences<MOST> {
-    fn fmt(&self, formatter: &mut Formatter<'_>) -> fmt::Result {
-        let text = std::str::from_utf8(&self.bytes[..self.len]).map_err(|_| fmt::Error)?;
-        formatter.write_str(text)
-    }
-}
-
 /// The style of a run of text. Two styles are equal where the sequences that set them are; which of two comes first is
 /// left open.
 ///
@@ -95,14 +67,13 @@ impl<const MOST: usize> Display for Sequences<MOST> {
 /// assert_eq!(styles[0], styles[2]);
 /// assert_ne!(styles[0], styles[1]);
 /// ```
-#[derive(Clone, Copy, PartialEq, Eq, PartialOrd, Ord, Hash)]
+#[derive(Clone, Copy)]
 pub struct Style {
     attributes: u32,
     foreground: Option<Color>,
     background: Option<Color>,
     has_any: bool,
-    start: Sequences<LONGEST_START>,
-    end: Sequences<LONGEST_CLOSE>,
+    numbers: Numbers,
 }
 
 impl Style {
@@ -112,29 +83,33 @@ impl Style {
         foreground: None,
         background: None,
         has_any: false,
-        start: Sequences::EMPTY,
-        end: Sequences::EMPTY,
+        numbers: Numbers::PLAIN,
     };
 
     pub(crate) fn new(
         attributes: u32,
         (foreground, background): (Option<Color>, Option<Color>),
         has_any: bool,
-        start: &str,
-        end: &str,
+        numbers: Numbers,
     ) -> Self {
         Style {
             attributes,
             foreground,
             background,
             has_any,
-            start: Sequences::of(start),
-            end: Sequences::of(end),
+            numbers,
         }
     }
 
     pub(crate) fn has_any(&self) -> bool {
         self.has_any
+    }
+
+    /// What of it can be seen, by which styles compare.
+    fn seen(&self) -> impl Ord + Hash {
+        let colors = (self.foreground, self.background);
+        let sequences = (self.numbers.start(), self.numbers.end());
+        (self.attributes, colors, self.has_any, sequences)
     }
 
     /// Prints the sequences that set the style.
@@ -211,12 +186,38 @@ attributes!(
     6 is_inverse "7", 7 is_hide "8", 8 is_crossedout "9", 9 is_fraktur "20"
 );
 
+impl PartialEq for Style {
+    fn eq(&self, other: &Self) -> bool {
+        self.numbers == other.numbers || self.seen() == other.seen()
+    }
+}
+
+impl Eq for Style {}
+
+impl PartialOrd for Style {
+    fn partial_cmp(&self, other: &Self) -> Option<Ordering> {
+        Some(self.cmp(other))
+    }
+}
+
+impl Ord for Style {
+    fn cmp(&self, other: &Self) -> Ordering {
+        self.seen().cmp(&other.seen())
+    }
+}
+
+impl Hash for Style {
+    fn hash<H: Hasher>(&self, state: &mut H) {
+        self.seen().hash(state);
+    }
+}
+
 impl Debug for Style {
     fn fmt(&self, formatter: &mut Formatter<'_>) -> fmt::Result {
         formatter
             .debug_struct("Style")
-            .field("start", &self.start.to_string())
-            .field("end", &self.end.to_string())
+            .field("start", &self.numbers.start())
+            .field("end", &self.numbers.end())
             .finish()
     }
 }
@@ -232,7 +233,7 @@ pub struct AnsiSequenceStart<'a>(&'a Style);
 
 impl Display for AnsiSequenceStart<'_> {
     fn fmt(&self, formatter: &mut Formatter<'_>) -> fmt::Result {
-        Display::fmt(&self.0.start, formatter)
+        formatter.write_str(&self.0.numbers.start())
     }
 }
 
@@ -258,6 +259,6 @@ impl AnsiSequenceEnd<'_> {
 
 impl Display for AnsiSequenceEnd<'_> {
     fn fmt(&self, formatter: &mut Formatter<'_>) -> fmt::Result {
-        Display::fmt(&self.0.end, formatter)
+        formatter.write_str(&self.0.numbers.end())
     }
 }

@@ -1,13 +1,13 @@
 //! The blocks of a text: its runs of one style.
-ghost use Rattle.std.specs.Prelude.{◌≡◌, ◌∷◌, [], ◌++◌, ◌≤◌, IsTrue, IsFalse, IsNone, IsOk, IfOk, IfSome, IfNone, not, ◌==◌, length, string_bytes};
+ghost use Rattle.std.specs.Prelude.{◌≡◌, ◌++◌, ◌≤◌, IsTrue, IsFalse, IsNone, IsOk, IfOk, not, ◌==◌, length};
 ghost use Rattle.std.specs.List.{list_all};
 ghost use Rattle.std.specs.Cow.{cow_str_bytes};
 ghost use Rattle.ansi_items.specs.Plain.{has_escape};
 ghost use Rattle.ansi_style.specs.Rendition.{has_any};
 ghost use Rattle.ansi_style.specs.States.{rendition_of};
-ghost use Rattle.ansi_blocks.specs.Blocks.{waiting, block_after, blocks, blocks_from, runs, is_borrow};
+ghost use Rattle.ansi_blocks.specs.Blocks.{waiting, blocks, runs, is_borrow};
 
-use ansi_items::ansitok::{Kind, Scanner};
+use crate::runs::{Run, first_run, waiting};
 use ansi_style::state::{Rendition, Style};
 use ansi_style::styles;
 use std::alloc::{AllocError, Allocator, Global};
@@ -212,42 +212,6 @@ impl<'a, A: Allocator + Copy> Iterator for AnsiBlockIter<'a, A> {
     }
 }
 
-/// The first run of text in a text.
-#[derive(Clone, Copy)]
-struct Run<'a> {
-    text: &'a str,
-    /// Whether a sequence that is no SGR waits for it.
-    is_awaited: bool,
-    /// The text after it.
-    rest: &'a str,
-}
-
-/// The first run of a text. `style` is the style before the text, and becomes that of the run.
-#[inline(always)]
-fn first_run<'a>(text: &'a str, style: &mut Style) -> Option<Run<'a>>
-    ensures none { IfNone result (blocks_from (rendition_of style.old) text.now ≡ []) }
-    ensures first { IfSome result (λ run. blocks_from (rendition_of style.old) text.now
-        ≡ block_after (waiting text.now 0) run.text.now (rendition_of style.new) ∷ blocks_from (rendition_of style.new) run.rest.now) }
-    ensures awaited { IfSome result (λ run. run.is_awaited ≡ not (length (waiting text.now 0) == 0)) }
-{
-    let mut is_awaited = false;
-    for item in Scanner::new(text) {
-        let piece = &text[item.start..item.end];
-        match item.kind {
-            Kind::Text => {
-                return Some(Run {
-                    text: piece,
-                    is_awaited,
-                    rest: &text[item.end..],
-                });
-            }
-            Kind::Sgr => styles::apply(style, piece),
-            Kind::Other | Kind::Lone => is_awaited = true,
-        }
-    }
-    None
-}
-
 /// The text of the block of a run, the first in a text.
 #[inline(always)]
 fn block_text<'a, A: Allocator>(
@@ -266,20 +230,4 @@ fn block_text<'a, A: Allocator>(
     let mut joined = waiting(alloc, text)?;
     joined.push_str(run.text)?;
     Ok(CowStr::Owned(joined))
-}
-
-/// The sequences before the first run of a text that are no SGR, joined.
-#[inline(never)]
-fn waiting<A: Allocator>(alloc: A, text: &str) -> Result<String<A>, AllocError>
-    ensures { IfOk result (λ s. string_bytes s ≡ waiting text.now 0) }
-{
-    let mut joined = String::new(alloc);
-    for item in Scanner::new(text) {
-        match item.kind {
-            Kind::Text => break,
-            Kind::Sgr => {}
-            Kind::Other | Kind::Lone => joined.push_str(&text[item.start..item.end])?,
-        }
-    }
-    Ok(joined)
 }

@@ -1,3 +1,4 @@
 pub mod StdSplit
 pub mod Splits
 pub mod Spans
+pub mod Walks

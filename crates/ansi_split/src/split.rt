@@ -8,7 +8,7 @@ ghost use Rattle.ansi_style.specs.Written.{longest_start_and_close};
 ghost use Rattle.ansi_split.specs.Splits.{split_parts};
 
 mod rest;
-mod spans;
+pub(crate) mod spans;
 
 use crate::split::spans::Spans;
 use std::alloc::{AllocError, Allocator, Global};
@@ -34,8 +34,8 @@ use std::marker::Model;
 /// ```
 #[derive(Drop)]
 pub struct AnsiSplit<'a, A: Allocator = Global> {
-    alloc: A,
-    spans: Spans<'a, 'a>,
+    pub(crate) alloc: A,
+    pub(crate) spans: Spans<'a, 'a>,
 }
 
 impl<'a, A: Allocator> Model for AnsiSplit<'a, A> {

@@ -27,6 +27,7 @@
 #include <stdbool.h>
 #include <stddef.h>
 #include <stdint.h>
+#include <string.h>
 
 #ifdef __cplusplus
 extern "C" {
@@ -151,6 +152,63 @@ typedef struct {
     ansi_str_style style;
 } ansi_str_styled_block_entry;
 
+/* A style as the library keeps it: a caller reads no field and sets none. */
+typedef struct {
+    uint8_t kind;
+    uint8_t first;
+    uint8_t second;
+    uint8_t third;
+} ansi_str_color_numbers;
+
+typedef struct {
+    bool is_set;
+    uint8_t number;
+} ansi_str_font_numbers;
+
+typedef struct {
+    uint32_t attributes;
+    ansi_str_color_numbers foreground;
+    ansi_str_color_numbers background;
+    ansi_str_color_numbers underline_color;
+    ansi_str_font_numbers font;
+} ansi_str_style_numbers;
+
+/* A walk over the blocks of a text: what is left of the text, and the style of the block before. A caller reads no field but
+   `style`, and sets none. The text has to live and stay as it is as long as the walk is used. A copy of a walk goes on by
+   itself. */
+typedef struct {
+    const uint8_t *rest;
+    size_t rest_len;
+    ansi_str_style_numbers style;
+} ansi_str_block_walk;
+
+/* A block of a walk: its run of text, which stands in the text of the walk, and its style. */
+typedef struct {
+    const uint8_t *text;
+    size_t text_len;
+    ansi_str_style style;
+} ansi_str_next_block;
+
+/* A walk over the parts of a text between the matches of a pattern, with which both have to live and stay as they are. A
+   caller reads no field and sets none. */
+typedef struct {
+    const uint8_t *rest;
+    size_t rest_len;
+    const uint8_t *pattern;
+    size_t pattern_len;
+    size_t run;
+    size_t skip;
+    size_t from;
+    ansi_str_style_numbers carried;
+    bool finished;
+} ansi_str_part_walk;
+
+/* A part of a walk that stands in the text of the walk. */
+typedef struct {
+    const uint8_t *text;
+    size_t text_len;
+} ansi_str_next_part;
+
 /* The kinds of edits. */
 enum {
     /* ansi_str_cut from `first` up to `second` */
@@ -214,6 +272,31 @@ ansi_str_answers ansi_str_raw_blocks(const uint8_t *text, size_t text_len, uint8
                                      ansi_str_block_entry *blocks, size_t blocks_len);
 ansi_str_answers ansi_str_raw_styled_blocks(const uint8_t *text, size_t text_len, uint8_t *buffer, size_t buffer_len,
                                             ansi_str_styled_block_entry *blocks, size_t blocks_len);
+/* (walks, blocks and parts need good pointers too, which those have that `ansi_str_no_walk` and the like make) */
+ansi_str_answer ansi_str_raw_blocks_begin(const uint8_t *text, size_t text_len, ansi_str_block_walk *walk);
+ansi_str_answer ansi_str_raw_blocks_next(ansi_str_block_walk *walk, ansi_str_next_block *block, uint8_t *buffer,
+                                         size_t buffer_len);
+ansi_str_answer ansi_str_raw_parts_begin(const uint8_t *text, size_t text_len, const uint8_t *pattern, size_t pattern_len,
+                                         ansi_str_part_walk *walk);
+ansi_str_answer ansi_str_raw_parts_next(ansi_str_part_walk *walk, ansi_str_next_part *part, uint8_t *buffer,
+                                        size_t buffer_len);
+ansi_str_answer ansi_str_raw_style_start(const ansi_str_style_numbers *style, uint8_t *buffer, size_t buffer_len);
+ansi_str_answer ansi_str_raw_style_end(const ansi_str_style_numbers *style, uint8_t *buffer, size_t buffer_len);
+
+/* The same for a caller who promises that each text and each pattern is UTF-8, as one has it by its type: they aren't
+   looked at. Of any other bytes nothing is said, and anything may be done. */
+ansi_str_answer ansi_str_raw_strip_unchecked(const uint8_t *text, size_t text_len, uint8_t *buffer, size_t buffer_len);
+ansi_str_answer ansi_str_raw_find_unchecked(const uint8_t *text, size_t text_len, const uint8_t *pattern,
+                                            size_t pattern_len);
+ansi_str_answer ansi_str_raw_starts_with_unchecked(const uint8_t *text, size_t text_len, const uint8_t *pattern,
+                                                   size_t pattern_len);
+ansi_str_answer ansi_str_raw_ends_with_unchecked(const uint8_t *text, size_t text_len, const uint8_t *pattern,
+                                                 size_t pattern_len);
+ansi_str_answer ansi_str_raw_is_char_boundary_unchecked(const uint8_t *text, size_t text_len, size_t index);
+ansi_str_answer ansi_str_raw_floor_char_boundary_unchecked(const uint8_t *text, size_t text_len, size_t index);
+void ansi_str_raw_blocks_begin_unchecked(const uint8_t *text, size_t text_len, ansi_str_block_walk *walk);
+void ansi_str_raw_parts_begin_unchecked(const uint8_t *text, size_t text_len, const uint8_t *pattern, size_t pattern_len,
+                                        ansi_str_part_walk *walk);
 
 /* A pointer for a length of 0. */
 static inline const uint8_t *ansi_str_bytes(const char *bytes) {
@@ -328,7 +411,8 @@ static inline ansi_str_answer ansi_str_has_any(const char *text, size_t text_len
 
 /* The text of the block of an index, counted from 0: a run of text in one style, after the sequences before it that are
    no SGR. ANSI_STR_NO: there are not so many blocks. In a loop over all indices each call of ansi_str_block, _start,
-   _end or _style goes up to its block anew; ansi_str_blocks gives all texts and styles in one walk.
+   _end or _style goes up to its block anew; ansi_str_blocks gives all texts and styles in one walk, and
+   ansi_str_blocks_next one after the other.
    Of "\x1b[31mred\x1b[39m and plain" 0 gives "red", and 1 " and plain". */
 static inline ansi_str_answer ansi_str_block(const char *text, size_t text_len, size_t index, char *buffer,
                                              size_t buffer_len) {
@@ -388,6 +472,85 @@ static inline ansi_str_answers ansi_str_styled_blocks(const char *text, size_t t
     ansi_str_styled_block_entry none;
     return ansi_str_raw_styled_blocks(ansi_str_bytes(text), text_len, ansi_str_room(buffer), buffer_len,
                                       blocks == NULL ? &none : blocks, blocks_len);
+}
+
+/* A walk with no block left, and a block without text. */
+static inline ansi_str_block_walk ansi_str_no_walk(void) {
+    ansi_str_block_walk walk;
+    memset(&walk, 0, sizeof walk);
+    walk.rest = ansi_str_bytes(NULL);
+    return walk;
+}
+
+static inline ansi_str_next_block ansi_str_no_block(void) {
+    ansi_str_next_block block;
+    memset(&block, 0, sizeof block);
+    block.text = ansi_str_bytes(NULL);
+    return block;
+}
+
+/* Begins a walk over the blocks of the text, of which ansi_str_blocks_next gives one after the other. With any status but
+   ANSI_STR_OK the walk has none left. */
+static inline ansi_str_answer ansi_str_blocks_begin(const char *text, size_t text_len, ansi_str_block_walk *walk) {
+    *walk = ansi_str_no_walk();
+    return ansi_str_raw_blocks_begin(ansi_str_bytes(text), text_len, walk);
+}
+
+/* The next block of a walk: its run and its style are in `block`, and in the buffer stand the sequences before the run that
+   are no SGR, which most blocks have none of. So the text of ansi_str_block is what the buffer holds and then the run.
+   ANSI_STR_NO: there is none left. With any status but ANSI_STR_OK `block` is empty and the walk is as it was, so the call
+   can be made again. It costs what stands before the end of the block, and all blocks cost one walk. Takes memory
+   where there are such sequences. */
+static inline ansi_str_answer ansi_str_blocks_next(ansi_str_block_walk *walk, ansi_str_next_block *block, char *buffer,
+                                                   size_t buffer_len) {
+    *block = ansi_str_no_block();
+    return ansi_str_raw_blocks_next(walk, block, ansi_str_room(buffer), buffer_len);
+}
+
+/* The sequences that set and end the style of the block that a walk gave last, as ansi_str_block_start and
+   ansi_str_block_end: for `&walk.style`, or a copy. Takes memory. */
+static inline ansi_str_answer ansi_str_style_start(const ansi_str_style_numbers *style, char *buffer, size_t buffer_len) {
+    return ansi_str_raw_style_start(style, ansi_str_room(buffer), buffer_len);
+}
+
+static inline ansi_str_answer ansi_str_style_end(const ansi_str_style_numbers *style, char *buffer, size_t buffer_len) {
+    return ansi_str_raw_style_end(style, ansi_str_room(buffer), buffer_len);
+}
+
+/* A walk with no part left, and a part without text. */
+static inline ansi_str_part_walk ansi_str_no_part_walk(void) {
+    ansi_str_part_walk walk;
+    memset(&walk, 0, sizeof walk);
+    walk.rest = ansi_str_bytes(NULL);
+    walk.pattern = ansi_str_bytes(NULL);
+    walk.finished = true;
+    return walk;
+}
+
+static inline ansi_str_next_part ansi_str_no_part(void) {
+    ansi_str_next_part part;
+    memset(&part, 0, sizeof part);
+    part.text = ansi_str_bytes(NULL);
+    return part;
+}
+
+/* Begins a walk over the parts of the text, of which ansi_str_parts_next gives one after the other. With any status but
+   ANSI_STR_OK the walk has none left. */
+static inline ansi_str_answer ansi_str_parts_begin(const char *text, size_t text_len, const char *pattern,
+                                                   size_t pattern_len, ansi_str_part_walk *walk) {
+    *walk = ansi_str_no_part_walk();
+    return ansi_str_raw_parts_begin(ansi_str_bytes(text), text_len, ansi_str_bytes(pattern), pattern_len, walk);
+}
+
+/* The next part of a walk, as ansi_str_split gives it: `part` where it stands in the text as it is, and what the buffer holds
+   where it is written; the other is empty. ANSI_STR_NO: there is none left. With any status but ANSI_STR_OK `part` is
+   empty and the walk is as it was, so the call can be made again. It costs what stands before the end of the part, and all
+   parts cost one walk. A part that is written takes memory, and is at most ANSI_STR_LONGEST_START_AND_CLOSE bytes longer than
+   its stretch of the text. */
+static inline ansi_str_answer ansi_str_parts_next(ansi_str_part_walk *walk, ansi_str_next_part *part, char *buffer,
+                                                  size_t buffer_len) {
+    *part = ansi_str_no_part();
+    return ansi_str_raw_parts_next(walk, part, ansi_str_room(buffer), buffer_len);
 }
 
 /* One edit each, for ansi_str_edit. */

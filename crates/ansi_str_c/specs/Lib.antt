@@ -2,3 +2,4 @@ pub mod Answers
 pub mod Styles
 pub mod Lists
 pub mod Steps
+pub mod Walks

@@ -111,7 +111,7 @@ pub extern "C" fn ansi_str_raw_block_style(alloc: Global, text: &[u8], index: us
     match find_block(alloc, text, index) {
         Ok(Some(block)) => StyleAnswer {
             status: OK,
-            style: StyleData::of(&block),
+            style: StyleData::of(block.style()),
         },
         Ok(None) => StyleAnswer::failed(NO),
         Err(_) => StyleAnswer::failed(OUT_OF_MEMORY),

@@ -285,7 +285,7 @@ fn push_block(texts: &mut String, block: &AnsiBlock<'_>) -> Result<BlockEntry, A
     ensures bytes { OnOk result (string_bytes texts.new ≡ string_bytes texts.old ++ block.now.text) }
     ensures entry { IfOk result (λ entry. entries_from (length (string_bytes texts.old)) (block.now ∷ []) ≡ entry ∷ []) }
 {
-    let style = StyleData::of(block);
+    let style = StyleData::of(block.style());
     texts.push_str(block.text())?;
     Ok(BlockEntry {
         end: texts.len(),
@@ -330,7 +330,7 @@ fn push_styled_block(
         text_start,
         text_end,
         end: texts.len(),
-        style: StyleData::of(block),
+        style: StyleData::of(style),
     })
 }
 

@@ -4,7 +4,8 @@ ghost use Rattle.ansi_str.specs.Rendition.{plain_style};
 ghost use Rattle.ansi_str.specs.States.{rendition_of};
 ghost use Rattle.ansi_str_c.specs.Styles.{color_data, style_data, attributes_of};
 
-use ansi_str::{AnsiBlock, Color, Style};
+use ansi_str::{Color, Style};
+use ansi_style::styles;
 
 const BOLD: u32 = 1;
 
@@ -100,16 +101,15 @@ pub struct StyleData {
 }
 
 impl StyleData {
-    /// The style of a block.
-    pub fn of(block: &AnsiBlock<'_>) -> StyleData
-        ensures { result ≡ style_data block.now.style }
+    /// A style as data.
+    pub fn of(style: &Style) -> StyleData
+        ensures { result ≡ style_data (rendition_of style.now) }
     {
-        let style = block.style();
         StyleData {
             attributes: attributes(style),
             foreground: ColorData::of(style.foreground()),
             background: ColorData::of(style.background()),
-            has_any: block.has_ansi(),
+            has_any: styles::has_any(style),
         }
     }
 

@@ -11,6 +11,7 @@ pub mod Written
 pub mod Colors
 pub mod Styled
 pub mod Reading
+pub mod Numbers
 pub mod States
 pub mod Fields
 pub mod Orders

@@ -2,7 +2,9 @@
 use Rattle.std.specs.Prelude.{ℕ, Bool, not, ◌==◌, ◌^◌}
 use Rattle.std.specs.Int.RustNames.{bit_and}
 use Rattle.ansi_style.specs.Rendition.{Rendition, plain_style}
+use Rattle.ansi_style.specs.Numbers.{color_of_numbers, font_of_numbers}
 use Rattle.ansi_style.specs.declared.state.Style.{Style}
+use Rattle.ansi_style.specs.declared.numbers.StyleNumbers.{StyleNumbers}
 
 -- a set of attributes has the one at this place: its bit there is 1
 abbrev pub has : ℕ → ℕ → Bool
@@ -48,4 +50,13 @@ rendition_of s = with_attributes (has s.attributes.0) (record plain_style {
   background = s.background;
   underline_color = s.underline_color;
   font = s.font;
+})
+
+-- the rendition that numbers are, each attribute by its bit
+abbrev pub rendition_of_numbers : StyleNumbers → Rendition
+rendition_of_numbers n = with_attributes (has n.attributes) (record plain_style {
+  foreground = color_of_numbers n.foreground;
+  background = color_of_numbers n.background;
+  underline_color = color_of_numbers n.underline_color;
+  font = font_of_numbers n.font;
 })

@@ -2,6 +2,7 @@
 #![tactic(auto)]
 
 pub mod laws;
+pub mod numbers;
 pub mod state;
 mod style;
 pub mod styles;

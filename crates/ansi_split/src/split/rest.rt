@@ -43,6 +43,29 @@ impl<'t> Rest<'t> {
         Rest { text, run: 0 }
     }
 
+    /// The text, of which so many bytes at the front are known to be plain.
+    pub(super) fn with_run(text: &'t str, run: usize) -> Self
+        requires ends { IsCharBoundary text.now run }
+        requires plain { IsFalse (has_escape (take run text.now)) }
+        ensures { result.text.now ≡ text.entry.now }
+    {
+        Rest { text, run }
+    }
+
+    pub(super) fn text(&self) -> &'t str
+        ensures { result.now ≡ self.now.text.now }
+    {
+        self.text
+    }
+
+    /// How many bytes at the front are known to be plain.
+    pub(super) fn run(&self) -> usize
+        ensures ends { IsCharBoundary self.now.text.now result }
+        ensures plain { IsFalse (has_escape (take result self.now.text.now)) }
+    {
+        self.run
+    }
+
     /// The text in two at the first match that doesn't begin before `from`. `style` is the style before the
     /// front, and becomes that after it.
     #[inline(always)]

@@ -10,12 +10,15 @@ ghost use Rattle.ansi_split.specs.Splits.{IsPart};
 ghost use Rattle.ansi_split.specs.Spans.{parts_left};
 
 use crate::split::rest::Rest;
+use crate::walks::PartWalk;
 use ansi_items::ansitok::{Kind, Scanner};
+use ansi_style::numbers::StyleNumbers;
 use ansi_style::state::Style;
 use ansi_style::styles;
 use std::alloc::{AllocError, Allocator};
 use std::borrow::CowStr;
 use std::marker::Model;
+use std::str::from_utf8_unchecked;
 
 /// A start and a close have at most so many bytes together, `longest_start_and_close`. It is room alone,
 /// asked for before they are written: so a part never grows, and keeps no more than this beyond its length.
@@ -23,7 +26,7 @@ const STYLE_ROOM: usize = 251;
 
 /// What one part is written from. Contracts see it as that part.
 #[derive(Drop)]
-pub(super) struct Span<'t> {
+pub(crate) struct Span<'t> {
     /// The text from the match before up to after the last sequence at the end of the part.
     text: &'t str,
     /// Whether an ESC stands in it.
@@ -50,7 +53,7 @@ impl<'t> Model for Span<'t> {
 
 impl<'t> Span<'t> {
     /// The part: a borrow where no sequence stands in it and no style has to be written.
-    pub(super) fn write<A: Allocator>(&self, alloc: A) -> Result<CowStr<'t, A>, AllocError>
+    pub(crate) fn write<A: Allocator>(&self, alloc: A) -> Result<CowStr<'t, A>, AllocError>
         ensures part { IfOk result (IsPart self.now) }
         ensures takes_no_memory { IsTrue self.now.borrowed → IsOk result }
     {
@@ -132,7 +135,7 @@ fn write_text<A: Allocator>(
 
 /// The spans of a text between the matches of a pattern, in order: an iterator that takes no memory.
 #[derive(Drop)]
-pub(super) struct Spans<'t, 'p> {
+pub(crate) struct Spans<'t, 'p> {
     /// What is left of the text: the match before and all after it.
     rest: Rest<'t>,
     pat: &'p str,
@@ -162,7 +165,7 @@ impl<'t, 'p> Model for Spans<'t, 'p> {
 
 impl<'t, 'p> Spans<'t, 'p> {
     /// The spans of all parts of the text.
-    pub(super) fn new(text: &'t str, pat: &'p str) -> Self
+    pub(crate) fn new(text: &'t str, pat: &'p str) -> Self
         ensures { result ≡ parts_left plain_style text.now pat.now 0 0 }
     {
         Spans {
@@ -176,10 +179,47 @@ impl<'t, 'p> Spans<'t, 'p> {
     }
 
     /// Leaves nothing.
-    pub(super) fn finish(&mut self)
+    pub(crate) fn finish(&mut self)
         ensures { self.new ≡ [] }
     {
         self.finished = true;
+    }
+}
+
+impl<'t> Spans<'t, 't> {
+    ghost use Rattle.ansi_split.specs.Walks.{parts_of_walk, IsPartWalk};
+
+    /// The spans that a walk has left.
+    pub(crate) fn of(walk: &PartWalk<'t>) -> Self
+        requires { IsPartWalk walk.now }
+        ensures { result ≡ parts_of_walk walk.now }
+    {
+        let text = unsafe { from_utf8_unchecked(walk.rest) };
+        let pat = unsafe { from_utf8_unchecked(walk.pattern) };
+        Spans {
+            rest: Rest::with_run(text, walk.run),
+            pat,
+            skip: walk.skip,
+            from: walk.from,
+            carried: walk.carried.style(),
+            finished: walk.finished,
+        }
+    }
+
+    /// A walk that has the same left.
+    pub(crate) fn walk(&self) -> PartWalk<'t>
+        ensures walk { IsPartWalk result }
+        ensures left { parts_of_walk result ≡ self.now }
+    {
+        PartWalk {
+            rest: self.rest.text().as_bytes(),
+            pattern: self.pat.as_bytes(),
+            run: self.rest.run(),
+            skip: self.skip,
+            from: self.from,
+            carried: StyleNumbers::of(&self.carried),
+            finished: self.finished,
+        }
     }
 }
 

@@ -9,4 +9,4 @@ returns c =
     let text = c.args.block.now.text in
     let bytes : string_bytes c.push_str.new.self ≡ old ++ text = c.in_ok-push_str.ensures.bytes ∙ ap (λ t. old ++ t) c.text.ensures in
     let end : c.len.result ≡ length old + length text = c.len.ensures ∙ c.push_str.new.self.bytes.ok.0 ∙ length-joined _ _ _ bytes in
-    record { bytes = bytes; entry = rw (end, c.of-style.ensures) }
+    record { bytes = bytes; entry = rw (end, c.of-style.ensures, c.style.ensures) }

@@ -1,6 +1,6 @@
 use Rattle.ansi_blocks.proofs.Common.{◌≡◌, rendition_of, pieces_left}
 use Rattle.ansi_blocks.proofs.BlockWalkLemmas.{IsRunSoFar}
-use Rattle.ansi_blocks.proofs.blocks.first_run.Given as goal
+use Rattle.ansi_blocks.proofs.runs.first_run.Given as goal
 
 -- the blocks are those of the pieces that are left, with what waits and the style so far
 abbrev pub invariant-loop-item : goal.invariant-loop-item

@@ -1,7 +1,7 @@
 use Rattle.ansi_blocks.proofs.Common.{rules, ◌≡◌, refl, ◌∙◌, ap, gives_mark}
 use Rattle.ansi_blocks.proofs.BlockLemmas.{waiting-front}
 use Rattle.ansi_blocks.proofs.BlockWalkLemmas.{joined-other, joined-sgr}
-use Rattle.ansi_blocks.proofs.blocks.waiting.Goals as goal
+use Rattle.ansi_blocks.proofs.runs.waiting.Goals as goal
 
 pub loop-item-init : goal.loop-item-init
 loop-item-init g c =

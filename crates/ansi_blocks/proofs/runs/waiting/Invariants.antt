@@ -1,6 +1,6 @@
 use Rattle.ansi_blocks.proofs.Common.{◌≡◌, string_bytes, waiting, pieces_left}
 use Rattle.ansi_blocks.proofs.BlockWalkLemmas.{IsJoinedSoFar}
-use Rattle.ansi_blocks.proofs.blocks.waiting.Given as goal
+use Rattle.ansi_blocks.proofs.runs.waiting.Given as goal
 
 -- what is joined, and what waits before the first run among the pieces that are left, are all that waits
 abbrev pub invariant-loop-item : goal.invariant-loop-item

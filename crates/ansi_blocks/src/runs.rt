@@ -1,0 +1,62 @@
+//! The first run of a text, and what waits for it. They stand apart from the blocks, so that `ansi_str::blocks` doesn't
+//! pass them on.
+ghost use Rattle.std.specs.Prelude.{◌≡◌, ◌∷◌, [], IfNone, IfSome, IfOk, not, ◌==◌, length, string_bytes};
+ghost use Rattle.ansi_style.specs.States.{rendition_of};
+ghost use Rattle.ansi_blocks.specs.Blocks.{waiting, block_after, blocks_from};
+
+use ansi_items::ansitok::{Kind, Scanner};
+use ansi_style::state::Style;
+use ansi_style::styles;
+use std::alloc::{AllocError, Allocator};
+
+/// The first run of text in a text. (Own.)
+#[derive(Clone, Copy)]
+pub struct Run<'a> {
+    pub text: &'a str,
+    /// Whether a sequence that is no SGR waits for it.
+    pub is_awaited: bool,
+    /// The text after it.
+    pub rest: &'a str,
+}
+
+/// The first run of a text. `style` is the style before the text, and becomes that of the run. (Own.)
+#[inline(always)]
+pub fn first_run<'a>(text: &'a str, style: &mut Style) -> Option<Run<'a>>
+    ensures none { IfNone result (blocks_from (rendition_of style.old) text.now ≡ []) }
+    ensures first { IfSome result (λ run. blocks_from (rendition_of style.old) text.now
+        ≡ block_after (waiting text.now 0) run.text.now (rendition_of style.new) ∷ blocks_from (rendition_of style.new) run.rest.now) }
+    ensures awaited { IfSome result (λ run. run.is_awaited ≡ not (length (waiting text.now 0) == 0)) }
+{
+    let mut is_awaited = false;
+    for item in Scanner::new(text) {
+        let piece = &text[item.start..item.end];
+        match item.kind {
+            Kind::Text => {
+                return Some(Run {
+                    text: piece,
+                    is_awaited,
+                    rest: &text[item.end..],
+                });
+            }
+            Kind::Sgr => styles::apply(style, piece),
+            Kind::Other | Kind::Lone => is_awaited = true,
+        }
+    }
+    None
+}
+
+/// The sequences before the first run of a text that are no SGR, joined. `Err` means out of memory. (Own.)
+#[inline(never)]
+pub fn waiting<A: Allocator>(alloc: A, text: &str) -> Result<String<A>, AllocError>
+    ensures { IfOk result (λ s. string_bytes s ≡ waiting text.now 0) }
+{
+    let mut joined = String::new(alloc);
+    for item in Scanner::new(text) {
+        match item.kind {
+            Kind::Text => break,
+            Kind::Sgr => {}
+            Kind::Other | Kind::Lone => joined.push_str(&text[item.start..item.end])?,
+        }
+    }
+    Ok(joined)
+}

@@ -1,0 +1,22 @@
+-- What is left of a text that is split, as plain data.
+use Rattle.std.specs.Prelude.{ℕ, ◌≤◌, List, [], take, IsTrue, IsFalse, IsUtf8, if◌then◌else◌}
+use Rattle.std.specs.Str.{IsCharBoundary}
+use Rattle.ansi_items.specs.Plain.{plain, has_escape}
+use Rattle.ansi_slice.specs.Positions.{is_char_boundary}
+use Rattle.ansi_style.specs.States.{rendition_of_numbers}
+use Rattle.ansi_split.specs.Splits.{SplitPart}
+use Rattle.ansi_split.specs.Spans.{parts_left}
+use Rattle.ansi_split.specs.declared.walks.PartWalk.{PartWalk}
+
+-- the parts that a walk has left
+abbrev pub parts_of_walk : PartWalk → List SplitPart
+parts_of_walk w = if w.finished then [] else parts_left (rendition_of_numbers w.carried) w.rest.now w.pattern.now w.skip w.from
+
+-- a walk as a split leaves it: of texts, with a plain run at the front and places between characters
+pub record IsPartWalk (w : PartWalk) : Type 0 where
+  pub text : IsUtf8 w.rest.now
+  pub pattern : IsUtf8 w.pattern.now
+  pub run_ends : IsCharBoundary w.rest.now w.run
+  pub run_is_plain : IsFalse (has_escape (take w.run w.rest.now))
+  pub skip_ends : IsTrue (is_char_boundary (plain w.rest.now) w.skip)
+  pub skip_before : w.skip ≤ w.from
