@@ -2,3 +2,4 @@ pub mod Columns
 pub mod Seams
 pub mod Walks
 pub mod Reverse
+pub mod Links
