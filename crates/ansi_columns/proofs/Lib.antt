@@ -8,3 +8,4 @@ pub mod WidthLemmas
 pub mod ColumnLemmas
 pub mod FromEndLemmas
 pub mod ClusterWalkLemmas
+pub mod LinkExamples
