@@ -8,4 +8,5 @@ pub mod WidthLemmas
 pub mod ColumnLemmas
 pub mod FromEndLemmas
 pub mod ClusterWalkLemmas
-pub mod LinkExamples
+pub mod LinkLemmas
+mod LinkExamples

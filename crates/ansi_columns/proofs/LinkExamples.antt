@@ -1,7 +1,7 @@
 -- Examples of what is a link sequence, and of what ends a link.
-use Rattle.std.specs.Prelude.{◌≡◌, Some, None, [], codes, true, false}
+use Rattle.std.specs.Prelude.{◌≡◌, Some, None, [], codes, false}
 use Rattle.std.proofs.Common.{refl}
-use Rattle.ansi_columns.specs.Links.{address_of, opens_link, link_at, link_end}
+use Rattle.ansi_columns.specs.Links.{address_of, opens_link, link_at}
 
 pub address-by-st : address_of (codes "\u{1b}]8;;http://x\u{1b}\\") ≡ Some (codes "http://x")
 address-by-st = refl

@@ -32,6 +32,10 @@ link_of ms =
     let last = unwrap_or (slice_get (reverse (filter is_link (map (λ (m : Mark). m.bytes) ms))) 0) [] in
     if opens_link last then last else []
 
+-- the link after the sequence w, where this link is open before it
+abbrev pub link_after : List ℕ → List ℕ → List ℕ
+link_after link w = if is_link w then (if opens_link w then w else []) else link
+
 -- the link at the place i of t is that after every mark at a place up to i (own)
 abbrev pub link_at : List ℕ → ℕ → List ℕ
 link_at t i = link_of (up_to i (marks t))

@@ -8,6 +8,7 @@
 
 pub mod columns;
 mod from_end;
+mod links;
 mod seams;
 mod walks;
 
