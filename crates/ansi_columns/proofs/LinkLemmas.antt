@@ -59,9 +59,9 @@ address-found w fields n begins is first =
     (λ inside. semicolon_stops (get_or fields n 0) first.1) in
     ap Some (take_all (length fields - (n + 1)) (drop (n + 1) fields) (omega (arith, length-drop (n + 1) fields)))
     ∙ sym (
-      ap₂ address_in begins (sym is)
-      ∙ ap (λ k. if nat_lt k (length fields) then Some (drop (k + 1) fields) else None) parameters
-      ∙ ap (λ b. if b then Some (drop (n + 1) fields) else None) (lt-ltb n (length fields) first.0.high))
+    ap₂ address_in begins (sym is)
+    ∙ ap (λ k. if nat_lt k (length fields) then Some (drop (k + 1) fields) else None) parameters
+    ∙ ap (λ b. if b then Some (drop (n + 1) fields) else None) (lt-ltb n (length fields) first.0.high))
 
 pub address-none : (w fields : List ℕ) → starts_with nat_eq w (codes "\u{1b}]8;") ≡ true → fields ≡ fields_of w → IsFirstByte (is_byte 59) fields None → None ≡ address_of w
 address-none w fields begins is none =
@@ -70,9 +70,9 @@ address-none w fields begins is none =
     (λ j below. no_semicolon (get_or fields j 0) (false_from_ne_true _ (none j (omega arith) below)))
     (λ inside. absurd (omega arith)) in
     sym (
-      ap₂ address_in begins (sym is)
-      ∙ ap (λ k. if nat_lt k (length fields) then Some (drop (k + 1) fields) else None) parameters
-      ∙ ap (λ b. if b then Some (drop (length fields + 1) fields) else None) (le-ltb (length fields) (length fields) (omega arith)))
+    ap₂ address_in begins (sym is)
+    ∙ ap (λ k. if nat_lt k (length fields) then Some (drop (k + 1) fields) else None) parameters
+    ∙ ap (λ b. if b then Some (drop (length fields + 1) fields) else None) (le-ltb (length fields) (length fields) (omega arith)))
 
 -- An SGR is no link sequence.
 

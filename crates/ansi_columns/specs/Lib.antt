@@ -3,3 +3,4 @@ pub mod Seams
 pub mod Walks
 pub mod Reverse
 pub mod Links
+pub mod Shown

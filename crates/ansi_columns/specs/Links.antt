@@ -44,6 +44,10 @@ link_at t i = link_of (up_to i (marks t))
 abbrev pub link_end : List ℕ → List ℕ
 link_end link = if length link == 0 then [] else codes "\u{1b}]8;;\u{1b}\\"
 
+-- the end of a link has at most so many bytes
+abbrev pub longest_link_end : ℕ
+longest_link_end = 7
+
 -- what ends the pen at the place i of t: the end of the link, and then the close of the style (own)
 abbrev pub pen_close : List ℕ → ℕ → List ℕ
 pen_close t i = link_end (link_at t i) ++ close (style_at t i)
