@@ -8,4 +8,8 @@ pub mod LastMarkLemmas
 pub mod WidthLemmas
 pub mod ColumnLemmas
 pub mod FromEndLemmas
+pub mod FitLemmas
+pub mod ShownLemmas
 pub mod ClusterWalkLemmas
+pub mod LinkLemmas
+mod LinkExamples

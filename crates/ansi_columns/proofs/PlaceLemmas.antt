@@ -1,15 +1,16 @@
 -- Where the plain bytes of a text stand in it, from one place to a later one.
-use Rattle.std.proofs.Common.{◌≡◌, ◌≢◌, ℕ, zero, suc, ◌+◌, ◌-◌, ◌≤◌, inl, inr, true, List, [], ◌∷◌, ◌++◌, length, take, drop, refl, sym, ◌∙◌, ap, ap₂, subst, arith, length-append, append_assoc, slice_index}
+use Rattle.std.proofs.Common.{◌≡◌, ◌≢◌, ℕ, zero, suc, ◌+◌, ◌-◌, ◌≤◌, inl, inr, true, List, [], ◌∷◌, ◌++◌, map, length, take, drop, refl, sym, ◌∙◌, ap, ap₂, subst, arith, length-append, append_assoc, slice_index}
 use Rattle.std.specs.List.{list_all}
 use Rattle.std.proofs.lemmas.Bool.{cases_lt, and_from}
 use Rattle.std.proofs.lemmas.List.{take-append-le, length-drop}
 use Rattle.ansi_items.specs.Bytes.{escape, is_plain_byte}
 use Rattle.ansi_items.specs.Sequences.{IsSequence}
 use Rattle.ansi_items.specs.Pieces.{Piece, Text, Sequence, LoneEscape, ArePieces, pieces_of, after_text}
-use Rattle.ansi_items.specs.Plain.{plain_of, plain}
+use Rattle.ansi_items.specs.Plain.{marks_of, marks, up_to, plain_of, plain}
 use Rattle.ansi_items.proofs.PieceLemmas.{pieces_are, pieces_of-unique}
 use Rattle.ansi_items.proofs.PlainLemmas.{one_text, one_text_are, plain_of-one_text}
 use Rattle.ansi_items.proofs.JoinLemmas.{after_text_are}
+use Rattle.ansi_style.proofs.MarkLemmas.{further, marks_of-text, marks_of-sequence, marks_of-lone, up_to-none, up_to-further, up_to-here}
 use Rattle.ansi_slice.specs.Offsets.{bytes_before, offset_of}
 use Rattle.ansi_slice.proofs.SliceLemmas.{list_all-parts}
 use Rattle.ansi_slice.proofs.OffsetLemmas.{bytes_before-last, bytes_before-text, after_of, after_of-last, after_of-text, take-after, pieces_of-after}
@@ -47,7 +48,7 @@ bytes_before-add n m (LoneEscape ∷ ps) = omega (arith, bytes_before-add n m ps
 pub offset_of-add : (t : List ℕ) (n m : ℕ) → offset_of t (n + m) ≡ offset_of t n + offset_of (drop (offset_of t n) t) m
 offset_of-add t n m = bytes_before-add n m (pieces_of t) ∙ ap (λ ps. offset_of t n + bytes_before m ps) (sym (pieces_of-after t n))
 
--- What stands before a place has the plain bytes up to there.
+-- What stands before a place has the plain bytes and the marks up to there.
 
 first_of_front : (k : ℕ) (rest : List ℕ) → (rest ≢ [] → slice_index rest 0 ≡ escape) → take k rest ≢ [] → slice_index (take k rest) 0 ≡ escape
 first_of_front zero rest after some = absurd (some refl)
@@ -81,9 +82,14 @@ pub record IsFront (n : ℕ) (t : List ℕ) (ps : List Piece) : Type 0 where
   pub pieces : List Piece
   pub are : ArePieces (take (bytes_before n ps) t) pieces
   pub plain : plain_of pieces ≡ take n (plain_of ps)
+  pub marks : marks_of pieces ≡ up_to n (marks_of ps)
+
+marks_of-one_text : (w : List ℕ) → marks_of (one_text w) ≡ []
+marks_of-one_text [] = refl
+marks_of-one_text (b ∷ w) = refl
 
 front : (n : ℕ) (t : List ℕ) (ps : List Piece) → ArePieces t ps → IsFront n t ps
-front n t [] are = record { pieces = []; are = refl; plain = sym (take-none n) }
+front n t [] are = record { pieces = []; are = refl; plain = sym (take-none n); marks = refl }
 front n t (Text w ∷ ps) are = elim (cases_lt n (length w)) [
   | inl last ↦
       let u = take n w in
@@ -92,6 +98,7 @@ front n t (Text w ∷ ps) are = elim (cases_lt n (length w)) [
         pieces = one_text u;
         are = subst (λ v. ArePieces v (one_text u)) (sym bytes) (one_text_are u (list_all-parts is_plain_byte n w are.2.1).0);
         plain = plain_of-one_text u ∙ sym (take-append-le n w (plain_of ps) (omega arith));
+        marks = marks_of-one_text u ∙ sym (ap (up_to n) (marks_of-text w ps) ∙ up_to-none n (length w) (marks_of ps) last);
       }
   | inr within ↦
       let k = n - length w in
@@ -106,6 +113,7 @@ front n t (Text w ∷ ps) are = elim (cases_lt n (length w)) [
           more.are,
         );
         plain = ap (λ v. w ++ v) more.plain ∙ sym (ap (λ i. take i (w ++ plain_of ps)) all ∙ take-after w (plain_of ps) k);
+        marks = marks_of-text w more.pieces ∙ ap (map (further (length w))) more.marks ∙ sym (ap (up_to n) (marks_of-text w ps) ∙ up_to-further n (length w) (marks_of ps) within);
       }
 ]
 front n t (Sequence w ∷ ps) are =
@@ -114,6 +122,7 @@ front n t (Sequence w ∷ ps) are =
       pieces = Sequence w ∷ more.pieces;
       are = (take (bytes_before n ps) are.0, ap (take (length w + bytes_before n ps)) are.1 ∙ take-after w are.0 (bytes_before n ps), are.2, more.are);
       plain = more.plain;
+      marks = marks_of-sequence w more.pieces ∙ ap (λ ms. record { place = 0; bytes = w } ∷ ms) more.marks ∙ sym (ap (up_to n) (marks_of-sequence w ps) ∙ up_to-here n w (marks_of ps));
     }
 front n t (LoneEscape ∷ ps) are =
     let more = front n are.0 ps are.3 in
@@ -121,12 +130,18 @@ front n t (LoneEscape ∷ ps) are =
       pieces = LoneEscape ∷ more.pieces;
       are = (take (bytes_before n ps) are.0, ap (take (1 + bytes_before n ps)) are.1 ∙ take-after (escape ∷ []) are.0 (bytes_before n ps), alone_in_front (bytes_before n ps) are.0 are.2, more.are);
       plain = more.plain;
+      marks = marks_of-lone more.pieces ∙ ap (λ ms. record { place = 0; bytes = escape ∷ [] } ∷ ms) more.marks ∙ sym (ap (up_to n) (marks_of-lone ps) ∙ up_to-here n (escape ∷ []) (marks_of ps));
     }
 
 pub plain-before : (t : List ℕ) (n : ℕ) → plain (take (offset_of t n) t) ≡ take n (plain t)
 plain-before t n =
     let f = front n t (pieces_of t) (pieces_are t) in
     ap plain_of (sym (pieces_of-unique (take (offset_of t n) t) f.pieces f.are)) ∙ f.plain
+
+pub marks-before : (t : List ℕ) (n : ℕ) → marks (take (offset_of t n) t) ≡ up_to n (marks t)
+marks-before t n =
+    let f = front n t (pieces_of t) (pieces_are t) in
+    ap marks_of (sym (pieces_of-unique (take (offset_of t n) t) f.pieces f.are)) ∙ f.marks
 
 -- A text that begins with plain bytes.
 

@@ -2,3 +2,5 @@ pub mod Columns
 pub mod Seams
 pub mod Walks
 pub mod Reverse
+pub mod Links
+pub mod Shown

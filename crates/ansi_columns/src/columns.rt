@@ -1,12 +1,20 @@
 //! The calls on columns: over any text, and over `&str`.
-ghost use Rattle.std.specs.Prelude.{◌≡◌, ◌*◌, ◌≤◌, Some, None, length, IsTrue};
+ghost use Rattle.std.specs.Prelude.{◌≡◌, ◌↔◌, ◌+◌, ◌≤◌, Some, None, [], length, IsTrue, IsOk, IfOk};
+ghost use Rattle.std.specs.Cow.{cow_str_bytes, IsBorrowedStr};
 ghost use Rattle.std.specs.Str.{IsCharBoundary};
 ghost use Rattle.ansi_items.specs.Plain.{plain};
 ghost use Rattle.ansi_slice.specs.Positions.{is_good_range};
+ghost use Rattle.ansi_style.specs.Written.{longest_close};
 ghost use Rattle.ansi_columns.specs.Columns.{columns, FitsUpTo};
+ghost use Rattle.ansi_columns.specs.Links.{longest_link_end};
+ghost use Rattle.ansi_columns.specs.Shown.{truncated_ending, truncated, missing, closing, padded};
 
+use crate::fits::fitting_front;
+use crate::shown::{Alignment, pad, truncate};
 use crate::walks::Walk;
 use ansi_str::AnsiStr;
+use std::alloc::{AllocError, Global};
+use std::borrow::CowStr;
 
 /// The columns of a text, taken as if its sequences weren't there.
 ///
@@ -50,6 +58,62 @@ pub trait AnsiColumns: AnsiStr {
     {
         fitting(self.as_text(), width)
     }
+
+    /// The text cut to so many columns, to be shown: a tail, as `…`, stands where it is cut.
+    ///
+    /// A text that fits is itself; else it goes up to where it fits beside the tail, as `ansi_cut` has it, and
+    /// the tail stands after it as it is. A tail that is wider than `width` is left out. What is open at the
+    /// end of the text is ended before the tail: its link, and then its style.
+    ///
+    /// It is a borrow where nothing has to be written after what stays of the text, and then no memory is
+    /// taken. Else it has at most the bytes of the text and the tail, 7 for the link and 88 for the style.
+    /// `Err` means out of memory. Reads of the text no more than `ansi_fitting(width)`, as often as twice, and then
+    /// what stays of it. (`console`, which doesn't end what is open.)
+    ///
+    /// ```
+    /// let cut = "\x1b[31m日本語\x1b[39m".ansi_truncate(rt.alloc(), 5, "…")?;
+    /// assert!(rt; cut.as_str() == "\x1b[31m日本\x1b[39m…");
+    /// ```
+    final fn ansi_truncate(
+        &self,
+        alloc: Global,
+        width: usize,
+        tail: &str,
+    ) -> Result<CowStr<'_>, AllocError>
+        ensures bytes { IfOk result (λ c. cow_str_bytes c ≡ truncated (Self.text self.now) width tail.now) }
+        ensures borrowed { IfOk result (λ c. IsBorrowedStr c ↔ (truncated_ending (Self.text self.now) width tail.now ≡ [])) }
+        ensures len { IfOk result (λ c. length (cow_str_bytes c) ≤ length (Self.text self.now) + length tail.now + longest_link_end + longest_close) }
+        ensures takes_no_memory { truncated_ending (Self.text self.now) width tail.now ≡ [] → IsOk result }
+    {
+        truncate(alloc, self.as_text(), width, tail)
+    }
+
+    /// The text, filled up with blanks to so many columns, to be shown.
+    ///
+    /// What is open at its end is ended before the blanks: its link, and then its style. A text that is as
+    /// wide or wider gets no blanks.
+    ///
+    /// It is a borrow where no blank is missing and nothing is open, and then no memory is taken. Else it has at
+    /// most the bytes of the text, a blank for each column that is missing, 7 for the link and 88 for the style. `Err` means out
+    /// of memory. (`console`, which doesn't end what is open.)
+    ///
+    /// ```
+    /// let padded = "\x1b[41mab".ansi_pad(rt.alloc(), 5, Alignment::Center)?;
+    /// assert!(rt; padded.as_str() == " \x1b[41mab\x1b[49m  ");
+    /// ```
+    final fn ansi_pad(
+        &self,
+        alloc: Global,
+        width: usize,
+        alignment: Alignment,
+    ) -> Result<CowStr<'_>, AllocError>
+        ensures bytes { IfOk result (λ c. cow_str_bytes c ≡ padded (Self.text self.now) width alignment) }
+        ensures borrowed { IfOk result (λ c. IsBorrowedStr c ↔ ((missing (Self.text self.now) width ≡ 0) × (closing (Self.text self.now) ≡ []))) }
+        ensures len { IfOk result (λ c. length (cow_str_bytes c) ≤ length (Self.text self.now) + missing (Self.text self.now) width + longest_link_end + longest_close) }
+        ensures takes_no_memory { (missing (Self.text self.now) width ≡ 0) × (closing (Self.text self.now) ≡ []) → IsOk result }
+    {
+        pad(alloc, self.as_text(), width, alignment)
+    }
 }
 
 impl<T: AnsiStr> AnsiColumns for T {}
@@ -74,14 +138,5 @@ pub fn fitting(text: &str, width: usize) -> usize
     ensures good_before { IsTrue (is_good_range (plain text.now) 0 (Some result)) }
     ensures good_after { IsTrue (is_good_range (plain text.now) result None) }
 {
-    let mut walk = Walk::start(text);
-    let mut left = width;
-    'clusters: while let Some((next, columns)) = walk.next_cluster(text) {
-        if left < columns {
-            break;
-        }
-        left -= columns;
-        walk = next;
-    }
-    walk.position
+    fitting_front(text, width).walk.position
 }

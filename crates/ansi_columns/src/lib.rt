@@ -7,9 +7,13 @@
 #![tactic(auto)]
 
 pub mod columns;
+mod fits;
 mod from_end;
 pub mod laws;
+mod links;
 mod seams;
+pub mod shown;
 mod walks;
 
 pub use columns::AnsiColumns;
+pub use shown::Alignment;

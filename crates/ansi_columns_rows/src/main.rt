@@ -1,15 +1,15 @@
 //! Makes the call of each row of its standard input, and tells of each row whose call answers otherwise than
 //! the row says. At the end it tells how many rows passed.
 //!
-//! A row is a line of fields between TABs: the call, the text, what else the call takes, and the answer. What
-//! follows is a note. `\e` stands for ESC, `\a` for BEL, `\n`, `\r` and `\t` for a line's end and a TAB, `\\` for `\`.
+//! A row is a line of fields between TABs: the call, the text, what else the call takes, between blanks, and the
+//! answer. What follows is a note. `\e` stands for ESC, `\a` for BEL, `\n`, `\r` and `\t` for a line's end and a TAB, `\\` for `\`.
 //! A line that is empty or begins with `#` is none.
 #![tactic(auto)]
 
 #[cfg(test)]
 mod docs;
 
-use ansi_columns::AnsiColumns;
+use ansi_columns::{Alignment, AnsiColumns};
 use ansi_str::AnsiStr;
 use std::alloc::{AllocError, Global};
 use std::borrow::CowStr;
@@ -46,6 +46,43 @@ fn unescaped(alloc: Global, field: &str) -> Result<String, AllocError> {
     Ok(text)
 }
 
+/// A width and the word after it, where `""` stands for an empty one.
+fn width_and_word(argument: &str) -> Option<(usize, &str)> {
+    let (width, word) = argument.split_once(' ')?;
+    let word = if word == "\"\"" { "" } else { word };
+    Some((width.parse().ok()?, word))
+}
+
+fn alignment_of(word: &str) -> Option<Alignment> {
+    match word {
+        "Left" => Some(Alignment::Left),
+        "Center" => Some(Alignment::Center),
+        "Right" => Some(Alignment::Right),
+        _ => None,
+    }
+}
+
+/// A text cut as the argument says.
+fn truncated(alloc: Global, text: &str, argument: &str) -> Result<Option<String>, AllocError> {
+    let Some((width, tail)) = width_and_word(argument) else {
+        return Ok(None);
+    };
+    let cut = text.ansi_truncate(alloc, width, tail)?;
+    Ok(Some(String::from_str(alloc, cut.as_str())?))
+}
+
+/// A text filled up as the argument says.
+fn padded(alloc: Global, text: &str, argument: &str) -> Result<Option<String>, AllocError> {
+    let Some((width, word)) = width_and_word(argument) else {
+        return Ok(None);
+    };
+    let Some(alignment) = alignment_of(word) else {
+        return Ok(None);
+    };
+    let padded = text.ansi_pad(alloc, width, alignment)?;
+    Ok(Some(String::from_str(alloc, padded.as_str())?))
+}
+
 /// What the call of a row answers, or `None` where there is no such call.
 fn answered(
     alloc: Global,
@@ -66,6 +103,8 @@ fn answered(
             )?)),
             Err(_) => Ok(None),
         },
+        "truncate" => truncated(alloc, text, argument),
+        "pad" => padded(alloc, text, argument),
         _ => Ok(None),
     }
 }

@@ -1,8 +1,8 @@
 //! What the layers above do with a style. They are free functions, so that `Style` has no public method
 //! but those that a caller of `ansi_str` is to see.
-ghost use Rattle.std.specs.Prelude.{◌≡◌, ◌++◌, IsTrue, OnOk, string_bytes};
+ghost use Rattle.std.specs.Prelude.{◌≡◌, ◌||◌, ◌++◌, IsTrue, OnOk, string_bytes};
 ghost use Rattle.ansi_items.specs.Sequences.{is_sgr};
-ghost use Rattle.ansi_style.specs.Rendition.{plain_style, has_any};
+ghost use Rattle.ansi_style.specs.Rendition.{plain_style, has_known, has_any};
 ghost use Rattle.ansi_style.specs.Sgr.{apply, apply_parameters};
 ghost use Rattle.ansi_style.specs.Written.{start, close};
 ghost use Rattle.ansi_style.specs.States.{rendition_of};
@@ -65,6 +65,16 @@ pub fn has_any(style: &Style) -> bool
             && style.attributes.contains(Attributes::UNKNOWN)
 }
 
+/// Whether the close of the style has something to write: a known attribute, a color or a font is set, or
+/// `unknown` is.
+#[tactic(auto, unfolding(crate::specs::States::rendition_of))]
+pub fn has_close(style: &Style) -> bool
+    ensures { result ≡ (has_known (rendition_of style.now) || (rendition_of style.now).unknown) }
+{
+    // `|`, as in `has_known`
+    style.has_known() | style.attributes.contains(Attributes::UNKNOWN)
+}
+
 /// Appends the start of the style. An `Err` means out of memory; what was appended up to
 /// there stands.
 pub fn write_start<A: Allocator>(style: &Style, out: &mut String<A>) -> Result<(), AllocError>
@@ -83,8 +93,8 @@ pub fn write_start<A: Allocator>(style: &Style, out: &mut String<A>) -> Result<(
 pub fn write_close<A: Allocator>(style: &Style, out: &mut String<A>) -> Result<(), AllocError>
     ensures { OnOk result (string_bytes out.new ≡ string_bytes out.old ++ close (rendition_of style.now)) }
 {
-    // also before a formatter is made; `|`, as in `has_known`
-    if !(style.has_known() | style.attributes.contains(Attributes::UNKNOWN)) {
+    // also before a formatter is made
+    if !has_close(style) {
         return Ok(());
     }
     write!(out, "{}", Close(style))

@@ -1,7 +1,7 @@
 use Rattle.std.proofs.Common.{length}
 use Rattle.ansi_columns.specs.Walks.{clusters_from, IsWalk}
 use Rattle.ansi_columns.proofs.ColumnLemmas.{IsFittingTo}
-use Rattle.ansi_columns.proofs.columns.fitting.Given as goal
+use Rattle.ansi_columns.proofs.fits.fitting_front.Given as goal
 
 -- what stands before the walk fits, and leaves so many columns
 abbrev pub invariant-clusters : goal.invariant-clusters

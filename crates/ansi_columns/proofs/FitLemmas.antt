@@ -1,0 +1,42 @@
+-- What fits of a text into so many columns: all of it or not, and its end as a function.
+use Rattle.std.proofs.Common.{◌≡◌, ℕ, zero, suc, ◌+◌, ◌-◌, ◌<◌, ◌≤◌, true, false, List, [], ◌∷◌, ◌++◌, length, take, flat_map, encode_utf8_all, nat_le, if◌then◌else◌, refl, sym, ◌∙◌, ap, arith, append-nil, length-append}
+use Rattle.std.proofs.lemmas.Bool.{le-leb, lt-leb}
+use Rattle.std.proofs.lemmas.List.Sums.{sum_by-cons, sum_by-append}
+use Rattle.ansi_items.specs.Plain.{plain}
+use Rattle.ansi_columns.specs.Columns.{clusters, cluster_width, columns_of, columns, bytes_of, FitsUpTo}
+use Rattle.ansi_columns.specs.Walks.{after, cluster, clusters_from}
+use Rattle.ansi_columns.specs.Shown.{fitting_end}
+use Rattle.ansi_columns.proofs.ColumnLemmas.{IsFittingTo, clusters_from-end}
+
+pub all_fit : {t : List ℕ} {width n left : ℕ} → IsFittingTo t width n left → after t n ≡ [] → true ≡ nat_le (columns (plain t)) width
+all_fit {t} {width} {n} fitting none =
+    let all = fitting.all ∙ ap (λ ks. fitting.front ++ ks) (clusters_from-end t n none) ∙ append-nil fitting.front in
+    sym (le-leb (columns (plain t)) width (omega (arith, fitting.columns, ap columns_of all)))
+
+pub not_all_fit : {t : List ℕ} {width n left k : ℕ} (m : ℕ) → IsFittingTo t width n left → clusters_from t n ≡ cluster t n m ∷ clusters_from t m → k ≡ cluster_width (cluster t n m) → left < k
+    → false ≡ nat_le (columns (plain t)) width
+not_all_fit {t} {width} {n} m fitting first is less =
+    let all = ap columns_of (fitting.all ∙ ap (λ ks. fitting.front ++ ks) first) ∙ sum_by-append cluster_width fitting.front (cluster t n m ∷ clusters_from t m) in
+    sym (lt-leb (columns (plain t)) width (omega (arith, fitting.columns, is, less, all, sum_by-cons cluster_width (cluster t n m) (clusters_from t m))))
+
+-- The end of what fits is the one that the function gives.
+
+bytes_of-cons : (k : List ℕ) (ks : List (List ℕ)) → bytes_of (k ∷ ks) ≡ length (encode_utf8_all k) + bytes_of ks
+bytes_of-cons k ks = length-append (encode_utf8_all k) (flat_map encode_utf8_all ks)
+
+fitting_end-count : (ks : List (List ℕ)) (width count : ℕ) → columns_of (take count ks) ≤ width → (count < length ks → width < columns_of (take (count + 1) ks)) → bytes_of (take count ks) ≡ fitting_end width ks
+fitting_end-count [] width zero fits greatest = refl
+fitting_end-count [] width (suc count) fits greatest = refl
+fitting_end-count (k ∷ ks) width zero fits greatest =
+    let wide : width < cluster_width k = omega (arith, greatest (omega arith), sum_by-cons cluster_width k []) in
+    sym (ap (λ b. if b then length (encode_utf8_all k) + fitting_end (width - cluster_width k) ks else 0) (lt-leb (cluster_width k) width wide))
+fitting_end-count (k ∷ ks) width (suc count) fits greatest =
+    let front = sum_by-cons cluster_width k (take count ks) in
+    let more : suc count + 1 ≡ suc (count + 1) = omega arith in
+    let longer = ap (λ n. columns_of (take n (k ∷ ks))) more ∙ sum_by-cons cluster_width k (take (count + 1) ks) in
+    bytes_of-cons k (take count ks)
+    ∙ ap (λ n. length (encode_utf8_all k) + n) (fitting_end-count ks (width - cluster_width k) count (omega (arith, fits, front)) (λ less. omega (arith, fits, front, greatest (omega arith), longer)))
+    ∙ sym (ap (λ b. if b then length (encode_utf8_all k) + fitting_end (width - cluster_width k) ks else 0) (le-leb (cluster_width k) width (omega (arith, fits, front))))
+
+pub fitting_end-fits : {x : List ℕ} {width end : ℕ} → FitsUpTo x width end → end ≡ fitting_end width (clusters x)
+fitting_end-fits {x} {width} fit = fit.boundary ∙ fitting_end-count (clusters x) width fit.count fit.fits fit.greatest

@@ -1,0 +1,37 @@
+use Rattle.std.proofs.Common.{sym, subst}
+use Rattle.ansi_columns.proofs.WalkLemmas.{walk_boundary}
+use Rattle.ansi_columns.proofs.ColumnLemmas.{IsFittingTo, fitting-begin, fitting-more, fitting-all, fitting-stop}
+use Rattle.ansi_columns.proofs.FitLemmas.{all_fit, not_all_fit}
+use Rattle.ansi_columns.proofs.fits.fitting_front.Goals as goal
+
+pub clusters-init : goal.clusters-init
+clusters-init c =
+    let t = c.args.text.now in
+    let width = c.args.width in
+    record { walk = c.start-walk.ensures.walk; fitting = subst (λ n. IsFittingTo t width n width) (sym c.start-walk.ensures.position) (fitting-begin t width) }
+
+pub clusters-preserved : goal.clusters-preserved
+clusters-preserved c =
+    let t = c.args.text.now in
+    let inv = c.clusters.invariant in
+    let got = c.in-Some.ensures in
+    record {
+      walk = got.0;
+      fitting = fitting-more inv.fitting c.utf8.text (walk_boundary t c.utf8.text c.clusters.walk inv.walk) (walk_boundary t c.utf8.text c.in-Some.next got.0) got.1 got.2 got.3 c.if-left-columns.false;
+    }
+
+-- the next cluster doesn't fit
+
+pub returns-then-left-columns-clause-fits : goal.returns-then-left-columns-clause-fits
+returns-then-left-columns-clause-fits c = (let got = c.in-Some.ensures in fitting-stop c.in-Some.next.position c.clusters.invariant.fitting got.2 got.3 c.if-left-columns.true)
+
+pub returns-then-left-columns-clause-all : goal.returns-then-left-columns-clause-all
+returns-then-left-columns-clause-all c = (let got = c.in-Some.ensures in not_all_fit c.in-Some.next.position c.clusters.invariant.fitting got.2 got.3 c.if-left-columns.true)
+
+-- there is none
+
+pub returns-clause-fits : goal.returns-clause-fits
+returns-clause-fits c = fitting-all c.clusters.invariant.fitting (rw c.in_default.is at c.next_cluster.ensures)
+
+pub returns-clause-all : goal.returns-clause-all
+returns-clause-all c = all_fit c.clusters.invariant.fitting (rw c.in_default.is at c.next_cluster.ensures)

@@ -1,0 +1,37 @@
+//! Up to where a text fits into so many columns.
+ghost use Rattle.std.specs.Prelude.{◌≡◌, nat_le};
+ghost use Rattle.ansi_items.specs.Plain.{plain};
+ghost use Rattle.ansi_columns.specs.Columns.{columns, FitsUpTo};
+ghost use Rattle.ansi_columns.specs.Walks.{IsWalk};
+
+use crate::walks::Walk;
+
+/// What fits of a text, from its front.
+#[derive(Clone, Copy)]
+pub(crate) struct Front {
+    /// The walk that stands there.
+    pub(crate) walk: Walk,
+    /// Whether the whole text fits.
+    pub(crate) is_all: bool,
+}
+
+/// Up to where a text fits into so many columns.
+pub(crate) fn fitting_front(text: &str, width: usize) -> Front
+    ensures walk { IsWalk text.now result.walk }
+    ensures fits { FitsUpTo (plain text.now) width result.walk.position }
+    ensures all { result.is_all ≡ nat_le (columns (plain text.now)) width }
+{
+    let mut walk = Walk::start(text);
+    let mut left = width;
+    'clusters: while let Some((next, columns)) = walk.next_cluster(text) {
+        if left < columns {
+            return Front {
+                walk,
+                is_all: false,
+            };
+        }
+        left -= columns;
+        walk = next;
+    }
+    Front { walk, is_all: true }
+}

@@ -1,0 +1,69 @@
+//! The link and the style that are open after a text, and what ends both.
+ghost use Rattle.std.specs.Prelude.{◌≡◌, ◌++◌, Option, length, OnOk, IsTrue, IsFalse, ◌↔◌, [], string_bytes};
+ghost use Rattle.std.specs.Option.{option_map};
+ghost use Rattle.ansi_items.specs.Plain.{marks};
+ghost use Rattle.ansi_style.specs.States.{rendition_of};
+ghost use Rattle.ansi_style.specs.Styled.{style_after};
+ghost use Rattle.ansi_columns.specs.Links.{terminator_len, address_of, link_of, link_after};
+
+use ansi_items::ansitok::{Kind, Scanner};
+use ansi_style::state::Style;
+use ansi_style::styles;
+use memchr::memchr;
+
+/// What is open after a text: its style, and the sequence that opened its link, which is empty where no
+/// link is open.
+#[derive(Drop)]
+pub(crate) struct Pen<'t> {
+    pub(crate) style: Style,
+    pub(crate) link: &'t str,
+}
+
+/// What is open after a text. Takes no memory.
+pub(crate) fn pen_after(text: &str) -> Pen<'_>
+    ensures style { rendition_of result.style ≡ style_after text.now }
+    ensures link { result.link.now ≡ link_of (marks text.now) }
+{
+    let mut style = styles::plain_style();
+    let mut link = "";
+    for item in Scanner::new(text) {
+        let piece = &text[item.start..item.end];
+        if item.kind == Kind::Sgr {
+            styles::apply(&mut style, piece);
+        } else if item.kind == Kind::Other {
+            link = link_after(link, piece);
+        }
+    }
+    Pen { style, link }
+}
+
+/// The link after a whole sequence, where this one is open before it.
+pub(crate) fn link_after<'t>(link: &'t str, sequence: &'t str) -> &'t str
+    ensures { result.now ≡ link_after link.now sequence.now }
+{
+    match address_of(sequence.as_bytes()) {
+        None => link,
+        Some(address) if address.is_empty() => "",
+        Some(_) => sequence,
+    }
+}
+
+/// The address of a whole sequence, where that is a link sequence (OSC 8).
+fn address_of(sequence: &[u8]) -> Option<&[u8]>
+    ensures { option_map (λ a. a.now) result ≡ address_of sequence.now }
+{
+    if !sequence.starts_with(b"\x1b]8;") {
+        return None;
+    }
+    let end = sequence.len() - terminator_len(sequence);
+    let fields = sequence.get(4..end)?;
+    let parameters = memchr(b';', fields)?;
+    Some(&fields[parameters + 1..])
+}
+
+/// How many bytes end an operating system command.
+fn terminator_len(sequence: &[u8]) -> usize
+    ensures { result ≡ terminator_len sequence.now }
+{
+    if sequence.ends_with(b"\x07") { 1 } else { 2 }
+}
