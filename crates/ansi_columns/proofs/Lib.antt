@@ -8,3 +8,8 @@ pub mod WidthLemmas
 pub mod ColumnLemmas
 pub mod FromEndLemmas
 pub mod ClusterWalkLemmas
+pub mod KindLemmas
+pub mod LineLemmas
+pub mod LineWalkLemmas
+pub mod LineLawLemmas
+mod LineExamples

@@ -8,6 +8,7 @@
 
 pub mod columns;
 mod from_end;
+pub mod lines;
 mod seams;
 mod walks;
 
