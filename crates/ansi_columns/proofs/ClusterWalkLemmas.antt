@@ -19,7 +19,7 @@ pub record IsClusterTo (t : List ℕ) (n m : ℕ) : Type 0 where
 not_empty : {x y : List ℕ} {c : ℕ} → x ≡ c ∷ y → x ≢ []
 not_empty e none = (let f = sym e ∙ none in cc)
 
-cluster-none : (t : List ℕ) (n : ℕ) → cluster t n n ≡ []
+pub cluster-none : (t : List ℕ) (n : ℕ) → cluster t n n ≡ []
 cluster-none t n = (let none : n - n ≡ 0 = omega arith in ap (λ i. chars (take i (drop n (plain t)))) none ∙ chars-nil)
 
 module _ (t : List ℕ) (utf8 : IsUtf8 t) (w : Walk) (walk : IsWalk t w) (c : ℕ) (next : IsNext t w c) (m : ℕ) (position : m ≡ w.position + length (encode_utf8 c))

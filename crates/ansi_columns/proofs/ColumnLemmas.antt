@@ -46,15 +46,15 @@ pub record IsFittingTo (t : List ℕ) (width n left : ℕ) : Type 0 where
 pub fitting-begin : (t : List ℕ) (width : ℕ) → IsFittingTo t width 0 width
 fitting-begin t width = record { front = []; all = sym (clusters_from-start t); boundary = refl; columns = zero-add width }
 
-bytes_of-push : (front : List (List ℕ)) (k : List ℕ) → bytes_of (front ++ k ∷ []) ≡ bytes_of front + length (encode_utf8_all k)
+pub bytes_of-push : (front : List (List ℕ)) (k : List ℕ) → bytes_of (front ++ k ∷ []) ≡ bytes_of front + length (encode_utf8_all k)
 bytes_of-push front k =
     ap length (flat_map-append encode_utf8_all front (k ∷ [])) ∙ length-append (flat_map encode_utf8_all front) (flat_map encode_utf8_all (k ∷ []))
     ∙ ap (λ u. bytes_of front + length u) (append-nil (encode_utf8_all k))
 
-columns_of-push : (front : List (List ℕ)) (k : List ℕ) → columns_of (front ++ k ∷ []) ≡ columns_of front + cluster_width k
+pub columns_of-push : (front : List (List ℕ)) (k : List ℕ) → columns_of (front ++ k ∷ []) ≡ columns_of front + cluster_width k
 columns_of-push front k = sum_by-append cluster_width front (k ∷ []) ∙ ap (λ n. columns_of front + n) (zero-add (cluster_width k))
 
-cluster-bytes : (t : List ℕ) (n m : ℕ) → IsUtf8 t → n ≤ m → IsCharBoundary (plain t) n → IsCharBoundary (plain t) m → length (encode_utf8_all (cluster t n m)) ≡ m - n
+pub cluster-bytes : (t : List ℕ) (n m : ℕ) → IsUtf8 t → n ≤ m → IsCharBoundary (plain t) n → IsCharBoundary (plain t) m → length (encode_utf8_all (cluster t n m)) ≡ m - n
 cluster-bytes t n m utf8 ordered start end =
     ap length (encodes-chars (slice_range (plain t) n m) (IsUtf8-between (plain t) n m (IsUtf8-plain t utf8) ordered start end)) ∙ length-slice_range (plain t) n m ordered end.0
 

@@ -13,3 +13,8 @@ pub mod ShownLemmas
 pub mod ClusterWalkLemmas
 pub mod LinkLemmas
 mod LinkExamples
+pub mod KindLemmas
+pub mod LineLemmas
+pub mod LineWalkLemmas
+pub mod LineLawLemmas
+mod LineExamples

@@ -1,4 +1,5 @@
 pub mod Columns
+pub mod Lines
 pub mod Seams
 pub mod Walks
 pub mod Reverse

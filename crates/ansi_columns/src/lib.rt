@@ -10,6 +10,7 @@ pub mod columns;
 mod fits;
 mod from_end;
 pub mod laws;
+pub mod lines;
 mod links;
 mod seams;
 pub mod shown;

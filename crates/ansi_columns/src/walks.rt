@@ -75,7 +75,7 @@ impl Walk {
 
     /// The character that stands next.
     #[inline]
-    fn next_char(self, text: &str) -> Option<char>
+    pub(crate) fn next_char(self, text: &str) -> Option<char>
         requires { IsWalk text.now self }
         ensures { MatchOption result (after text.now self.position ≡ []) (IsNext text.now self) }
     {
@@ -84,7 +84,7 @@ impl Walk {
 
     /// The walk after the character that stands next.
     #[inline]
-    fn past(self, text: &str, next: char) -> Walk
+    pub(crate) fn past(self, text: &str, next: char) -> Walk
         requires walk { IsWalk text.now self }
         requires next { IsNext text.now self next }
         ensures walk { IsWalk text.now result }

@@ -1,5 +1,7 @@
 //! The examples of the docs of `ansi_columns`, in the same words.
-use ansi_columns::AnsiColumns;
+use ansi_columns::lines::Lines;
+use ansi_columns::shown::{pad, truncate};
+use ansi_columns::{Alignment, AnsiColumns};
 use std::test::Fail;
 
 #[test]
@@ -17,4 +19,46 @@ fn ansi_width_example(rt: HostRuntime) {
 #[test]
 fn ansi_fitting_example(rt: HostRuntime) {
     assert!(rt; "a\x1b[1m日本".ansi_fitting(4) == 4);
+}
+
+#[test]
+fn ansi_truncate_example(rt: HostRuntime) -> Result<(), Fail> {
+    let cut = "\x1b[31m日本語\x1b[39m".ansi_truncate(rt.alloc(), 5, "…")?;
+    assert!(rt; cut.as_str() == "\x1b[31m日本\x1b[39m…");
+    Ok(())
+}
+
+#[test]
+fn ansi_pad_example(rt: HostRuntime) -> Result<(), Fail> {
+    let padded = "\x1b[41mab".ansi_pad(rt.alloc(), 5, Alignment::Center)?;
+    assert!(rt; padded.as_str() == " \x1b[41mab\x1b[49m  ");
+    Ok(())
+}
+
+#[test]
+fn alignment_example(rt: HostRuntime) -> Result<(), Fail> {
+    assert!(rt; "ab".ansi_pad(rt.alloc(), 5, Alignment::Center)?.as_str() == " ab  ");
+    Ok(())
+}
+
+#[test]
+fn truncate_example(rt: HostRuntime) -> Result<(), Fail> {
+    let cut = truncate(rt.alloc(), "\x1b[31m日本語\x1b[39m", 5, "…")?;
+    assert!(rt; cut.as_str() == "\x1b[31m日本\x1b[39m…");
+    Ok(())
+}
+
+#[test]
+fn pad_example(rt: HostRuntime) -> Result<(), Fail> {
+    let padded = pad(rt.alloc(), "\x1b[31m日本", 6, Alignment::Right)?;
+    assert!(rt; padded.as_str() == "  \x1b[31m日本\x1b[39m");
+    Ok(())
+}
+
+#[test]
+fn lines_example(rt: HostRuntime) {
+    let mut lines = Lines::new("ab \x1b[1mcd  efg", 5);
+    assert!(rt; lines.next() == Some((0, 5)));
+    assert!(rt; lines.next() == Some((7, 10)));
+    assert!(rt; lines.next() == None);
 }

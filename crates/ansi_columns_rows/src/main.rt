@@ -9,7 +9,9 @@
 #[cfg(test)]
 mod docs;
 
-use ansi_columns::{Alignment, AnsiColumns};
+use ansi_columns::Alignment;
+use ansi_columns::AnsiColumns;
+use ansi_columns::lines::Lines;
 use ansi_str::AnsiStr;
 use std::alloc::{AllocError, Global};
 use std::borrow::CowStr;
@@ -22,6 +24,18 @@ fn fitting_front<'t>(
     width: usize,
 ) -> Result<CowStr<'t>, AllocError> {
     text.ansi_cut(alloc, ..text.ansi_fitting(width))
+}
+
+/// Where each line of a wrapped text begins and ends, between blanks.
+fn places(alloc: Global, text: &str, width: usize) -> Result<String, AllocError> {
+    let mut places = String::new(alloc);
+    for (start, end) in Lines::new(text, width) {
+        if !places.is_empty() {
+            places.push(' ')?;
+        }
+        places.push_str(format!(in alloc; "{start}-{end}")?.as_str())?;
+    }
+    Ok(places)
 }
 
 /// A field with each of its escapes as the character that it stands for.
@@ -94,6 +108,10 @@ fn answered(
         "width" => Ok(Some(format!(in alloc; "{}", text.ansi_width())?)),
         "fitting" => match argument.parse() {
             Ok(width) => Ok(Some(format!(in alloc; "{}", text.ansi_fitting(width))?)),
+            Err(_) => Ok(None),
+        },
+        "lines" => match argument.parse() {
+            Ok(width) => Ok(Some(places(alloc, text, width)?)),
             Err(_) => Ok(None),
         },
         "front" => match argument.parse() {

@@ -1,0 +1,44 @@
+use Rattle.std.proofs.Common.{sym, subst, arith}
+use Rattle.std.proofs.lemmas.Bool.Decides.{nat_tests}
+use Rattle.ansi_columns.specs.Walks.{IsNext}
+use Rattle.ansi_columns.proofs.KindLemmas.{line_end-none, line_end-other, line_end-feed, return-len, return-none, return-other, return-feed}
+use Rattle.ansi_columns.proofs.lines.is_line_end.Goals as goal
+
+pub returns-in-Some-eq10 : goal.returns-in-Some-eq10
+returns-in-Some-eq10 c =
+    sym (line_end-feed c.args.text.now c.utf8.text c.args.here.now c.requires.here c.args.next.now c.requires.next c.requires.ordered
+    (subst (IsNext c.args.text.now c.args.here.now) (omega (arith, c.in-Some-eq10.field-0-is, c.in-Some-eq10.field-0-test)) c.in-Some-eq10.ensures))
+
+pub returns-in-Some-eq10-matches : goal.returns-in-Some-eq10-matches
+returns-in-Some-eq10-matches c =
+    sym (return-feed c.args.text.now c.utf8.text c.args.here.now c.requires.here c.args.next.now c.requires.next c.requires.ordered
+    (subst (IsNext c.args.text.now c.args.here.now) (omega (arith, c.in-Some-eq13.field-0-is, c.in-Some-eq13.field-0-test)) c.in-Some-eq13.ensures) c.past.result c.past.ensures.walk c.past.ensures.position c.past.ensures.after
+    (subst (IsNext c.args.text.now c.past.result) (omega (arith, c.in-Some-eq10-matches.field-0-is, c.in-Some-eq10-matches.field-0-test)) c.in-Some-eq10-matches.ensures)
+    (grind (arith, nat_tests, c.if-len-eq2.true)))
+
+pub returns-in_default-matches : goal.returns-in_default-matches
+returns-in_default-matches c =
+    sym (return-other c.args.text.now c.utf8.text c.args.here.now c.requires.here c.args.next.now c.requires.next c.requires.ordered
+    (subst (IsNext c.args.text.now c.args.here.now) (omega (arith, c.in-Some-eq13.field-0-is, c.in-Some-eq13.field-0-test)) c.in-Some-eq13.ensures) c.past.result c.past.ensures.walk c.past.ensures.position c.past.ensures.after
+    _ c.in_default-matches.ensures
+    (λ e. grind (arith, nat_tests, c.in_default-matches.field-0-is, c.in_default-matches.field-0-test, e)))
+
+pub returns-in_default-matches-2 : goal.returns-in_default-matches-2
+returns-in_default-matches-2 c =
+    sym (return-none c.args.text.now c.utf8.text c.args.here.now c.requires.here c.args.next.now c.requires.next c.requires.ordered
+    (subst (IsNext c.args.text.now c.args.here.now) (omega (arith, c.in-Some-eq13.field-0-is, c.in-Some-eq13.field-0-test)) c.in-Some-eq13.ensures) c.past.result c.past.ensures.walk c.past.ensures.position c.past.ensures.after
+    (rw c.in_default-matches.is at c.next_char-in-Some-eq13.ensures))
+
+pub returns-in_default : goal.returns-in_default
+returns-in_default c =
+    sym (return-len c.args.text.now c.utf8.text c.args.here.now c.requires.here c.args.next.now c.requires.next c.requires.ordered
+    (subst (IsNext c.args.text.now c.args.here.now) (omega (arith, c.in-Some-eq13.field-0-is, c.in-Some-eq13.field-0-test)) c.in-Some-eq13.ensures) (λ e. grind (arith, nat_tests, c.if-len-eq2.false, e)))
+
+pub returns-in_default-2 : goal.returns-in_default-2
+returns-in_default-2 c =
+    sym (line_end-other c.args.text.now c.utf8.text c.args.here.now c.requires.here c.args.next.now c.requires.next c.requires.ordered _ c.in_default.ensures
+    (λ e. grind (arith, nat_tests, c.in_default.field-0-is, c.in_default.field-0-test, e))
+    (λ e. grind (arith, nat_tests, c.in_default.field-0-is, c.in_default.field-0-test, e)))
+
+pub returns-in_default-3 : goal.returns-in_default-3
+returns-in_default-3 c = sym (line_end-none c.args.text.now c.utf8.text c.args.here.now c.requires.here c.args.next.now c.requires.next c.requires.ordered (rw c.in_default.is at c.next_char.ensures))

@@ -1,0 +1,61 @@
+-- The lines of a text that is wrapped at a width: how far each word reaches, and where the lines begin and end.
+use Rattle.std.specs.Prelude.{◌≡◌, ℕ, ◌+◌, ◌≤◌, max, ◌⊎◌, Bool, true, false, ◌||◌, ◌==◌, nat_le, List, [], ◌∷◌, ◌++◌, length, Option, Some, None, codes, bytes_eq, encode_utf8_all, IsTrue, if◌then◌else◌}
+use Rattle.ansi_slice.specs.Positions.{is_good_range}
+use Rattle.ansi_columns.specs.Columns.{clusters, cluster_width, columns_of, bytes_of}
+use Rattle.ansi_columns.specs.Walks.{clusters_from}
+use Rattle.ansi_columns.specs.declared.walks.Walk.{Walk}
+
+-- a cluster is the end of a line: a line feed, or a carriage return and a line feed (as std's `lines`)
+unfoldable pub is_line_end : List ℕ → Bool
+is_line_end cluster = bytes_eq cluster (codes "\n") || bytes_eq cluster (codes "\r\n")
+
+-- a cluster is a blank, U+0020 alone
+unfoldable pub is_blank : List ℕ → Bool
+is_blank cluster = bytes_eq cluster (codes " ")
+
+-- the columns of the word at the front of clusters
+unfoldable pub word_columns : List (List ℕ) → ℕ
+word_columns [] = 0
+word_columns (c ∷ cs) = if is_blank c || is_line_end c then 0 else cluster_width c + word_columns cs
+
+-- The lines of the clusters from the position `here` on, where the last line so far begins at `start`, its last word ends at
+-- `end`, and `columns` columns stand from its beginning up to here. After a blank, a word goes on on the line where all of it
+-- fits there; inside a word, a cluster does where it fits. Another line begins else. (First fit; own.)
+unfoldable pub lines_from : ℕ → ℕ → ℕ → ℕ → ℕ → List (List ℕ) → List (ℕ × ℕ)
+lines_from width start end here columns [] = (start, end) ∷ []
+lines_from width start end here columns (c ∷ cs) =
+    let next = here + length (encode_utf8_all c) in
+    let more = if here == end then cluster_width c else word_columns (c ∷ cs) in
+    elim (is_line_end c) [
+      | true ↦ (start, end) ∷ lines_from width next next next 0 cs
+      | false ↦ elim (is_blank c) [
+        | true ↦ lines_from width start end next (columns + cluster_width c) cs
+        | false ↦ elim ((here == start) || nat_le (columns + more) width) [
+          | true ↦ lines_from width start next next (columns + cluster_width c) cs
+          | false ↦ (start, end) ∷ lines_from width here next next (cluster_width c) cs
+        ]
+      ]
+    ]
+
+-- the lines of the text x, each by the bytes between which it stands; a width of 0 is as one of 1
+abbrev pub lines : ℕ → List ℕ → List (ℕ × ℕ)
+lines width x = lines_from (max width 1) 0 0 0 0 (clusters x)
+
+-- the lines of the plain text of t that begin where the walk stands, or none
+abbrev pub lines_left : List ℕ → ℕ → Option Walk → List (ℕ × ℕ)
+lines_left t width None = []
+lines_left t width (Some walk) = lines_from width walk.position walk.position walk.position 0 (clusters_from t walk.position)
+
+-- A line is an interval of the clusters of x, and has at most `width` columns, or is one cluster.
+pub record IsLine (x : List ℕ) (width : ℕ) (line : ℕ × ℕ) : Type 0 where
+  pub before : List (List ℕ)
+  pub shown : List (List ℕ)
+  pub after : List (List ℕ)
+  pub all : clusters x ≡ before ++ shown ++ after
+  pub start : line.0 ≡ bytes_of before
+  pub end : line.1 ≡ bytes_of (before ++ shown)
+  pub fits : (columns_of shown ≤ max width 1) ⊎ (length shown ≡ 1)
+
+-- x may be cut where a line begins and ends
+abbrev pub IsGoodLine : List ℕ → ℕ × ℕ → Type 0
+IsGoodLine x line = IsTrue (is_good_range x line.0 (Some line.1))

@@ -1,0 +1,143 @@
+//! Where the lines of a text begin and end, when it is wrapped at a width.
+ghost use Rattle.std.specs.Prelude.{◌≡◌, ◌<◌, ◌∷◌, Some, IfSome, All};
+ghost use Rattle.ansi_items.specs.Plain.{plain};
+ghost use Rattle.ansi_columns.specs.Lines.{lines, lines_left, is_line_end, is_blank, IsLine, IsGoodLine};
+ghost use Rattle.ansi_columns.specs.Walks.{IsWalk, cluster};
+
+use crate::walks::Walk;
+use std::marker::Model;
+
+/// The lines of a text that is wrapped, in order: where each begins and ends, in bytes of the plain text.
+///
+/// After the last line it gives `None`, then and ever after.
+#[derive(Drop)]
+pub struct Lines<'t> {
+    text: &'t str,
+    /// How many columns a line has at most, unless one cluster has more.
+    width: usize,
+    /// Where the next line begins.
+    next: Option<Walk>,
+}
+
+impl<'t> Model for Lines<'t> {
+    ghost use Rattle.std.specs.Prelude.{ℕ, List, IfSome};
+    ghost use Rattle.ansi_columns.specs.Lines.{lines_left};
+    ghost use Rattle.ansi_columns.specs.Walks.{IsWalk};
+
+    ghost Value = { List (ℕ × ℕ) };
+
+    ghost view = { λ s. lines_left s.text.now s.width s.next };
+
+    ghost invariant = { λ s. IfSome s.next (IsWalk s.text.now) };
+}
+
+impl<'t> Lines<'t> {
+    /// The lines of a text at a width, in order: where each begins and ends.
+    ///
+    /// A line ends at a line end, a cluster `\n` or `\r\n`, which is left out, and where the next word
+    /// doesn't fit. A word is a run of clusters other than line ends and U+0020, and blanks at a line's
+    /// end are left out. Blanks at the beginning of the text or after a line end stay where the first word
+    /// fits after them; otherwise an empty line stands in their place. A word that is wider than the width
+    /// begins a line and is broken into pieces as wide as fit, of one cluster at least; what is left of it
+    /// is followed by further words. A text that ends with a line end has an empty line last. Width 0 is
+    /// as 1. Positions count bytes of the plain text, and are good ones, so that each line can be cut from
+    /// the text. Takes no memory. (First fit; own.)
+    ///
+    /// ```
+    /// let mut lines = Lines::new("ab \x1b[1mcd  efg", 5);
+    /// assert!(rt; lines.next() == Some((0, 5)));
+    /// assert!(rt; lines.next() == Some((7, 10)));
+    /// assert!(rt; lines.next() == None);
+    /// ```
+    pub fn new(text: &'t str, width: usize) -> Lines<'t>
+        ensures lines { result ≡ lines width (plain text.now) }
+        ensures each { All (IsLine (plain text.now) width) result }
+        ensures good { All (IsGoodLine (plain text.now)) result }
+    {
+        Lines {
+            text,
+            width: width.max(1),
+            next: Some(Walk::start(text)),
+        }
+    }
+}
+
+impl<'t> Iterator for Lines<'t> {
+    ghost use Rattle.std.specs.Iterator.{YieldsFirst, item_count};
+
+    type Item = (usize, usize);
+
+    ghost next_gives = { YieldsFirst (λ s. s) };
+
+    ghost remaining = { item_count (λ s. s) };
+
+    fn next(&mut self) -> Option<(usize, usize)> {
+        let start = self.next?;
+        let (end, next) = first_line(self.text, start, self.width);
+        self.next = next;
+        Some((start.position, end))
+    }
+}
+
+/// Where the line ends that begins at a walk, and where the one after it begins.
+///
+/// It is read up to the first cluster that doesn't fit.
+fn first_line(text: &str, start: Walk, width: usize) -> (usize, Option<Walk>)
+    requires { IsWalk text.now start }
+    ensures next { IfSome result.1 (IsWalk text.now) }
+    ensures lines { lines_left text.now width (Some start) ≡ (start.position, result.0) ∷ lines_left text.now width result.1 }
+{
+    let mut here = start;
+    // Where the word begins that is read, and where the ones before it end.
+    let mut word = start;
+    let mut end_before = start.position;
+    // Where the words end that have been read.
+    let mut end = start.position;
+    let mut columns = 0;
+    'clusters: while let Some((next, more)) = here.next_cluster(text) {
+        if is_line_end(text, &here, &next) {
+            return (end, Some(next));
+        }
+        if is_blank(text, &here, &next) {
+            end_before = end;
+            word = next;
+        } else if here.position == start.position || columns + more <= width {
+            end = next.position;
+        } else if word.position == start.position {
+            return (end, Some(here));
+        } else {
+            return (end_before, Some(word));
+        }
+        columns += more;
+        here = next;
+    }
+    (end, None)
+}
+
+/// Whether the cluster between two walks is the end of a line.
+fn is_line_end(text: &str, here: &Walk, next: &Walk) -> bool
+    requires here { IsWalk text.now here.now }
+    requires next { IsWalk text.now next.now }
+    requires ordered { here.now.position < next.now.position }
+    ensures { result ≡ is_line_end (cluster text.now here.now.position next.now.position) }
+{
+    let len = next.position - here.position;
+    match here.next_char(text) {
+        Some('\n') => len == 1,
+        Some('\r') if len == 2 => matches!(here.past(text, '\r').next_char(text), Some('\n')),
+        _ => false,
+    }
+}
+
+/// Whether the cluster between two walks is a blank.
+fn is_blank(text: &str, here: &Walk, next: &Walk) -> bool
+    requires here { IsWalk text.now here.now }
+    requires next { IsWalk text.now next.now }
+    requires ordered { here.now.position < next.now.position }
+    ensures { result ≡ is_blank (cluster text.now here.now.position next.now.position) }
+{
+    match here.next_char(text) {
+        Some(' ') => next.position - here.position == 1,
+        _ => false,
+    }
+}
