@@ -1,29 +1,38 @@
 //! Prints lines of cells as a table, each cell in a column of its own width.
 //!
 //! Cells are separated by tabs. The words after the program's name are the widths, in columns of a terminal. A
-//! cell that is too wide is cut, one that is too narrow is filled up with blanks, and its styles end with it.
+//! cell that is too wide is cut, with an ellipsis, one that is too narrow or isn't there is filled up with blanks,
+//! and its styles and its link end with it. Numbers stand at the right.
 #![tactic(auto)]
 
-use ansi_columns::AnsiColumns;
+use ansi_columns::{Alignment, AnsiColumns};
 use ansi_str::AnsiStr;
 use anyhow::Context;
 use std::alloc::{AllocError, Global};
 use std::env;
 use std::fmt::Write;
 
-// Appends a cell, cut or filled up to the width. The position up to which it fits is a good one to cut at.
+// Appends a cell, cut or filled up to the width.
 fn push_cell(alloc: Global, row: &mut String, cell: &str, width: usize) -> Result<(), AllocError> {
-    let shown = cell.ansi_cut(alloc, ..cell.ansi_fitting(width))?;
-    let blanks = " ".repeat(alloc, width.saturating_sub(shown.ansi_width()))?;
-    write!(row, " {shown}{blanks} |")?;
+    let alignment = match cell.ansi_strip(alloc)?.as_str().parse::<u64>() {
+        Ok(_) => Alignment::Right,
+        Err(_) => Alignment::Left,
+    };
+    let shown = cell.ansi_truncate(alloc, width, "…")?;
+    let filled = shown.ansi_pad(alloc, width, alignment)?;
+    write!(row, " {filled} |")?;
     Ok(())
 }
 
-// The row of a line: as many of its cells as there are widths.
+// The row of a line: as many cells as there are widths.
 fn row_of(alloc: Global, line: &str, widths: &[usize]) -> Result<String, AllocError> {
     let mut row = String::from_str(alloc, "|")?;
-    for (cell, width) in line.ansi_split(alloc, "\t").zip(widths) {
-        push_cell(alloc, &mut row, cell?.as_str(), *width)?;
+    let mut cells = line.ansi_split(alloc, "\t");
+    for width in widths {
+        match cells.next() {
+            Some(cell) => push_cell(alloc, &mut row, cell?.as_str(), *width)?,
+            None => push_cell(alloc, &mut row, "", *width)?,
+        }
     }
     Ok(row)
 }
