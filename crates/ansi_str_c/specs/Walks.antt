@@ -45,5 +45,5 @@ GivesNextPart old new old_part part answer old_buffer buffer =
     ((parts_of_walk old ≡ []) × HasFailed no answer old_buffer buffer × (new ≡ old) × (part ≡ old_part))
     ⊎ ((p : SplitPart) × (ps : List SplitPart) × (parts_of_walk old ≡ p ∷ ps)
     × ((IsTrue p.borrowed × (part.text.now ≡ p.bytes) × IsUtf8 p.bytes × (answer ≡ done 0) × (buffer ≡ old_buffer) × (parts_of_walk new ≡ ps))
-      ⊎ (IsFalse p.borrowed × (part ≡ old_part) × Gives no true (Some p.bytes) answer old_buffer buffer
-        × (((answer.status ≡ ok) × (parts_of_walk new ≡ ps)) ⊎ ((¬ (answer.status ≡ ok)) × (new ≡ old))))))
+    ⊎ (IsFalse p.borrowed × (part ≡ old_part) × Gives no true (Some p.bytes) answer old_buffer buffer
+    × (((answer.status ≡ ok) × (parts_of_walk new ≡ ps)) ⊎ ((¬ (answer.status ≡ ok)) × (new ≡ old))))))
