@@ -6,8 +6,8 @@
 //! A line that is empty or begins with `#` is none.
 #![tactic(auto)]
 
-use ansi_columns::Alignment;
 use ansi_columns::AnsiColumns;
+use ansi_columns::shown::Alignment;
 use ansi_str::AnsiStr;
 use std::alloc::{AllocError, Global};
 use std::borrow::CowStr;
