@@ -67,8 +67,8 @@ pub trait AnsiColumns: AnsiStr {
     ///
     /// It is a borrow where nothing has to be written after what stays of the text, and then no memory is
     /// taken. Else it has at most the bytes of the text and the tail, 7 for the link and 88 for the style.
-    /// `Err` means out of memory. Reads of the text no more than `ansi_fitting(width)`, as often as twice, and then
-    /// what stays of it. (`console`, which doesn't end what is open.)
+    /// `Err` means out of memory. Reads of the text no more than `ansi_fitting(width)`, as often as twice,
+    /// and then what stays of it. (`truncate_str` of `console`; that links and styles are ended, own.)
     ///
     /// ```
     /// let cut = "\x1b[31m日本語\x1b[39m".ansi_truncate(rt.alloc(), 5, "…")?;
@@ -93,9 +93,10 @@ pub trait AnsiColumns: AnsiStr {
     /// What is open at its end is ended before the blanks: its link, and then its style. A text that is as
     /// wide or wider gets no blanks.
     ///
-    /// It is a borrow where no blank is missing and nothing is open, and then no memory is taken. Else it has at
-    /// most the bytes of the text, a blank for each column that is missing, 7 for the link and 88 for the style. `Err` means out
-    /// of memory. (`console`, which doesn't end what is open.)
+    /// It is a borrow where no blank is missing and nothing is open, and then no memory is taken. Else it
+    /// has at most the bytes of the text, a blank for each column that is missing, 7 for the link and 88
+    /// for the style. `Err` means out of memory. (`pad_str` of `console`; that links and styles are ended,
+    /// own.)
     ///
     /// ```
     /// let padded = "\x1b[41mab".ansi_pad(rt.alloc(), 5, Alignment::Center)?;
