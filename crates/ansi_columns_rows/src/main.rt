@@ -9,8 +9,9 @@
 #[cfg(test)]
 mod docs;
 
+use ansi_columns::AnsiColumns;
 use ansi_columns::lines::Lines;
-use ansi_columns::{Alignment, AnsiColumns};
+use ansi_columns::shown::Alignment;
 use ansi_str::AnsiStr;
 use std::alloc::{AllocError, Global};
 use std::borrow::CowStr;
