@@ -81,9 +81,9 @@ pub ends-printable : (s : Seam) (before : List ℕ) (next : ℕ) (after : List �
     → unwrap_or (break_by_pair true s.last Other) true ≡ is_grapheme_break true before (next ∷ after)
 ends-printable s before next after some is printable =
     let joins_none : joins s Other next ≡ false =
-        ap (λ (v : IndicConjunctBreak). ((s.is_linked && is_consonant v) || (s.is_joined && is_extended_pictographic next)) || (s.is_half_flag && false)) (sym (no_conjunct next printable))
-        ∙ ap (λ b. ((s.is_linked && false) || (s.is_joined && b)) || (s.is_half_flag && false)) (sym (no_pictograph next printable))
-        ∙ no_join s.is_linked s.is_joined s.is_half_flag in
+    ap (λ (v : IndicConjunctBreak). ((s.is_linked && is_consonant v) || (s.is_joined && is_extended_pictographic next)) || (s.is_half_flag && false)) (sym (no_conjunct next printable))
+    ∙ ap (λ b. ((s.is_linked && false) || (s.is_joined && b)) || (s.is_half_flag && false)) (sym (no_pictograph next printable))
+    ∙ no_join s.is_linked s.is_joined s.is_half_flag in
     ap (λ b. unwrap_or (break_by_pair true s.last Other) (not b)) (sym joins_none)
     ∙ decided s before next after some is Other (no_value next printable) (break_by_pair true s.last Other) refl
 
@@ -116,8 +116,8 @@ columns-from before (c ∷ d ∷ cs) all =
     let first = (and_parts _ _ all).0 in
     let rest = (and_parts _ _ all).1 in
     let split : columns_of (clusters_after before (c ∷ d ∷ cs)) ≡ cluster_width (c ∷ []) + columns_of (clusters_after (c ∷ before) (d ∷ cs)) =
-        ap columns_of (cluster-begins before c (d ∷ cs) ∙ cluster-ends (c ∷ []) (c ∷ before) (d ∷ cs) (breaks-between before c d cs first (and_parts _ _ rest).0))
-        ∙ sum_by-cons cluster_width (c ∷ []) (clusters_after (c ∷ before) (d ∷ cs)) in
+    ap columns_of (cluster-begins before c (d ∷ cs) ∙ cluster-ends (c ∷ []) (c ∷ before) (d ∷ cs) (breaks-between before c d cs first (and_parts _ _ rest).0))
+    ∙ sum_by-cons cluster_width (c ∷ []) (clusters_after (c ∷ before) (d ∷ cs)) in
     omega (arith, split, width-single c first, columns-from (c ∷ before) (d ∷ cs) rest)
 
 are_ascii : (x : List ℕ) → list_all is_printable x ≡ true → All (λ b. b < 128) x

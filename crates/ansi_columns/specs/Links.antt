@@ -1,8 +1,8 @@
 -- The hyperlink at a place of a text, and what ends it.
-use Rattle.std.specs.Prelude.{ℕ, ◌+◌, ◌-◌, ◌==◌, Bool, not, ◌&&◌, List, [], ◌++◌, length, map, drop, filter, reverse, slice_range, slice_index, slice_get, nat_eq, nat_lt, Option, Some, None, is_some, unwrap_or, if◌then◌else◌, codes}
-use Rattle.std.specs.List.{prefix_len, starts_with, ends_with, range_with_len}
+use Rattle.std.specs.Prelude.{ℕ, ◌+◌, ◌-◌, ◌==◌, Bool, not, ◌&&◌, List, [], ◌++◌, length, map, drop, filter, reverse, slice_range, slice_get, nat_eq, nat_lt, Option, Some, None, is_some, unwrap_or, if◌then◌else◌, codes}
+use Rattle.std.specs.List.{prefix_len, starts_with, ends_with}
 use Rattle.std.specs.Str.{byte}
-use Rattle.ansi_items.specs.Plain.{Mark, plain, marks, up_to}
+use Rattle.ansi_items.specs.Plain.{Mark, marks, up_to}
 use Rattle.ansi_style.specs.Styled.{style_at}
 use Rattle.ansi_style.specs.Written.{close}
 
@@ -51,14 +51,3 @@ longest_link_end = 7
 -- what ends the pen at the place i of t: the end of the link, and then the close of the style (own)
 abbrev pub pen_close : List ℕ → ℕ → List ℕ
 pen_close t i = link_end (link_at t i) ++ close (style_at t i)
-
--- a linked byte is a plain byte and its link
-pub record LinkedByte : Type 0 where
-  pub byte : ℕ
-  pub link : List ℕ
-
--- the linked bytes of t are its plain bytes, each with its link (own)
-abbrev pub linked : List ℕ → List LinkedByte
-linked t =
-    let x = plain t in
-    map (λ i. record { byte = slice_index x i; link = link_at t i }) (range_with_len 0 (length x))
