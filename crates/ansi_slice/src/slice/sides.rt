@@ -22,10 +22,6 @@ use ansi_style::styles;
 use std::alloc::{AllocError, Allocator};
 use std::borrow::CowStr;
 
-/// A start and a close have at most so many bytes together, `longest_start_and_close`. It is room alone, for
-/// the first run of a left side.
-const STYLE_ROOM: usize = 251;
-
 /// As `AnsiStr::ansi_split_at`, with answers that live as long as the text, and their memory taken from any allocator.
 /// (Own.)
 ///
@@ -74,8 +70,7 @@ pub fn left_in<'t, A: Allocator>(
         return Ok(Some(CowStr::Borrowed(left)));
     }
     let mut style = styles::plain_style();
-    let room = text.len().min(mid.saturating_add(STYLE_ROOM));
-    let mut left = String::with_capacity(alloc, room)?;
+    let mut left = String::new(alloc);
     write_side(&mut left, &mut style, text, mid)?;
     Ok(Some(CowStr::Owned(left)))
 }
@@ -125,8 +120,7 @@ fn write_sides<A: Allocator + Copy>(
     ensures right { IfOk result (λ s. string_bytes s.1 ≡ right_side text.now mid) }
 {
     let mut style = styles::plain_style();
-    let room = text.len().min(mid.saturating_add(STYLE_ROOM));
-    let mut left = String::with_capacity(alloc, room)?;
+    let mut left = String::new(alloc);
     let end = write_side(&mut left, &mut style, text, mid)?;
     let right = write_right(alloc, style, &text[end..])?;
     Ok((left, right))
@@ -188,7 +182,7 @@ fn write_right<A: Allocator>(alloc: A, style: Style, text: &str) -> Result<Strin
     ensures { IfOk result (λ s. string_bytes s ≡ side_up_to (rendition_of style) usize.MAX (pieces_of text.now)) }
 {
     let mut style = style;
-    let mut right = String::with_capacity(alloc, text.len())?;
+    let mut right = String::new(alloc);
     // No position of a text lies past this one, so it stands for the end.
     write_side(&mut right, &mut style, text, usize::MAX)?;
     Ok(right)

@@ -18,7 +18,7 @@ returns-clause-none g c = some_if_good (sym c.is_good_position.ensures ∙ c.if-
 pub returns-clause-bytes : goal.returns-clause-bytes
 returns-clause-bytes g c =
     let t = c.args.text.now in
-    c.in_ok-write_side.ensures.bytes ∙ ap₂ (λ v r. v ++ side_up_to r c.args.mid (pieces_of t)) c.in_ok-left.ensures.bytes c.plain_style-style.ensures ∙ sym (left_side-is t c.args.mid)
+    c.in_ok-write_side.ensures.bytes ∙ ap₂ (λ v r. v ++ side_up_to r c.args.mid (pieces_of t)) c.new-left.ensures.bytes c.plain_style-style.ensures ∙ sym (left_side-is t c.args.mid)
 
 pub returns-then-not-has_any-clause-len : goal.returns-then-not-has_any-clause-len
 returns-then-not-has_any-clause-len g c = omega (arith, ap length c.halves.ensures.left, length-sides c.args.text.now c.args.mid)
