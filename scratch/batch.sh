@@ -1,0 +1,4 @@
+cd /work/h/wasm
+echo "== one_block $(date +%T)"; (cd crates/one_block; rt check 2>&1 | grep -v "modules loaded")
+echo "== ansi_str_wasm $(date +%T)"; (cd crates/ansi_str_wasm; rt lib 2>&1 | grep -v "modules loaded"; ls -la out)
+echo "END $(date +%T)"

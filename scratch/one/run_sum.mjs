@@ -1,0 +1,16 @@
+import { readFileSync } from 'node:fs';
+const m = new WebAssembly.Module(readFileSync('crates/sum/out/sum.wasm'));
+console.log(WebAssembly.Module.exports(m), WebAssembly.Module.imports(m));
+const i = new WebAssembly.Instance(m, {});
+const { memory, count, is_utf8, count_as_answer, first, __heap_base } = i.exports;
+const base = Number(__heap_base.value);
+console.log('heap base', __heap_base.value, 'bytes', memory.buffer.byteLength, 'lengths', count.length, count_as_answer.length, first.length);
+const mem = new Uint8Array(memory.buffer);
+const text = new TextEncoder().encode('h\u00e9llo');
+mem.set(text, base + 64);
+console.log('count', count(BigInt(base + 64), BigInt(text.length)));
+console.log('utf8', is_utf8(BigInt(base + 64), BigInt(text.length)), is_utf8(BigInt(base + 64), 2n));
+count_as_answer(BigInt(base), BigInt(base + 64), BigInt(text.length));
+const v = new DataView(memory.buffer);
+console.log('answer', v.getUint32(base, true), v.getBigUint64(base + 8, true));
+console.log('first', first(BigInt(base + 64), BigInt(text.length), BigInt(base + 128), 10n), Buffer.from(mem.slice(base + 128, base + 128 + text.length)).toString());
