@@ -27,6 +27,16 @@ impl Model for Block {
     ghost also_owns = { λ b. bytes_at b.ptr b.size };
 }
 
+impl Block {
+    /// The block's size, and the block again.
+    pub fn with_size(self) -> (usize, Block)
+        ensures { (result.0 ≡ self.size) × (result.1 ≡ self) }
+    {
+        let Block { ptr, size } = self;
+        (size, Block { ptr, size })
+    }
+}
+
 /// An allocator that has one block.
 #[derive(Drop)]
 pub struct OneBlock {
@@ -43,8 +53,9 @@ fn align_size(size: usize) -> usize
 
 impl OneBlock {
     pub fn new(block: Block) -> OneBlock {
+        let (size, block) = block.with_size();
         OneBlock {
-            size: block.size,
+            size,
             free: Cell::new(Some(block)),
         }
     }
@@ -66,8 +77,8 @@ impl OneBlock {
         if align > UNIT || size > isize::MAX as usize {
             return None;
         }
-        let block = self.free.replace(None)?;
-        if block.size == align_size(size) {
+        let (found, block) = self.free.replace(None)?.with_size();
+        if found == align_size(size) {
             Some(block)
         } else {
             self.free.set(Some(block));
