@@ -15,7 +15,7 @@ use denote.RattleType.{RattleType}
 use denote.RawPtr.{Ptr, block_ptr}
 use denote.Shadow.{pure_l}
 use denote.Steps.{only}
-use Rattle.core.specs.contracts.option.Option as option
+use Rattle.std.specs.contracts.option.Option as option
 use Rattle.linked_list_allocator.specs.Region.{Region, block_size, IsBlock}
 use Rattle.linked_list_allocator.specs.Ownership.{bytes_at, block_token}
 use Rattle.one_block.specs.contracts.Block as block

@@ -18,9 +18,9 @@ use denote.Steps.{nothing}
 use denote.Struct.Tuple.{Tuple}
 use denote.Triple.Entry.{alive}
 use denote.Triple.Walked.{Stays, stay_dropped, walk_of}
-use Rattle.core.proofs.alloc.Calls.{Goes-blank}
-use Rattle.std_alloc.proofs.ResultValues.{and_tt}
-use Rattle.std_alloc.proofs.Pairs.{pair_of, pair_val}
+use Rattle.std.proofs.alloc.Calls.{Goes-blank}
+use Rattle.std.proofs.ResultValues.{and_tt}
+use Rattle.one_block.proofs.Pairs.{pair_of, pair_val}
 use Rattle.std.proofs.raw_atomic.Walks.{proved_at, leaves}
 use Rattle.linked_list_allocator.proofs.Values.{ptr_typed, sized_val, sized_own, sized_told, sized_made}
 use Rattle.linked_list_allocator.proofs.Walks.{slot_at}

@@ -21,9 +21,9 @@ use denote.Triple.Entry.{alive}
 use denote.Triple.Spec.{triple_of}
 use denote.Triple.Clauses.{Lasts, lasts}
 use denote.Triple.Walked.{Stays, stay_dropped, walk_of, Goes-dropped}
-use Rattle.core.proofs.alloc.Calls.{Answer, answer_val, Answer-Ok, Answer-err}
-use Rattle.core.proofs.alloc.Shapes.{after, head, arm_body}
-use Rattle.core.proofs.atomic.Steps.{fm}
+use Rattle.std.proofs.alloc.Calls.{Answer, answer_val, Answer-Ok, Answer-err}
+use Rattle.std.proofs.alloc.Shapes.{after, head, arm_body}
+use denote.Triple.Table.{framed}
 use Rattle.std.proofs.raw_atomic.Walks.{proved_at, leaves}
 use Rattle.linked_list_allocator.proofs.Walks.{slot_at, then_runs}
 use Rattle.linked_list_allocator.specs.Region.{Region}
@@ -64,7 +64,7 @@ allocate_spec 𝓤 𝓛 𝓜 𝓡 wired =
     regoal ! (λ (us : List Val). prop (WpFn 𝓤 H C Λ fn us Post)) told refl $
     enter ! C Λ fn vs Post $
     alloc_all ! (λ l. pass_all ! refl ((tt, tt), ((tt, record { fits = are.1.0.1 }), ((tt, record { fits = are.1.1.0.1 }), tt))) $ let En : Env 𝓤 𝓛.H = env fn.locals l in
-    calls_from ! (fm 𝓛 𝓜 𝓡) (raw (k.pre y)) vs (k.post y) (subst (λ (us : List Val). ent 𝓤 (k.pre y) (C take_key.name us (k.post y))) told (takes 𝓤 𝓛 𝓜 𝓡 (compiled.calls-one_block::OneBlock::take 𝓡.env wired) y)) (and_then ! (get ! refl) (and_then ! (get ! refl) (and_then ! (get ! refl) (no_more !)))) (λ v.
+    calls_from ! (framed 𝓤 H 𝓜 (tables 𝓤 H 𝓜 𝓡 𝓡.env)) (raw (k.pre y)) vs (k.post y) (subst (λ (us : List Val). ent 𝓤 (k.pre y) (C take_key.name us (k.post y))) told (takes 𝓤 𝓛 𝓜 𝓡 (compiled.calls-one_block::OneBlock::take 𝓡.env wired) y)) (and_then ! (get ! refl) (and_then ! (get ! refl) (and_then ! (get ! refl) (no_more !)))) (λ v.
     use1 𝓛 (later (some (λ (x : Taken.Denot). (raw (alive 𝓛 En₀.signature z.0.0 z.0.1) ⊛ ‵ (Taken.own_val x (v ∷ []))) ⊛ some (λ (ls : Lasts callee.ended z.0.0 a). ‵ (lasts callee.ended z.0.0 a ls) ⊛ raw (fact 𝓤 (Told n al x)))))) (id⊢ 𝓤 (k.post y v)) $
     await ! tt $ pick ! (λ x. split ! $ move ! (1 ∷ []) $ pick ! (λ _. split ! $ drop ! $ heard ! (Told n al x) (λ said. split ! $ move ! (1 ∷ []) $
     taken ! n al x v said
