@@ -4,7 +4,7 @@ use seplogic.Ra.Ura.{Ura}
 use mir.Syntax.{Ty, Width, w8, w16, w32, w64, w128}
 use mir.Val.{Val, vcons, vnil, of_list, bytes}
 use base.Logic.{ent, sep}
-use base.Fml.{fex, fwand, froom}
+use base.Fml.{Fml, fex, fwand, froom}
 use prog.Memory.{size, align, capped}
 use prog.Align.{Dv, align_w, align-bytes}
 use prog.Capped.{capped_is, capped_small}
