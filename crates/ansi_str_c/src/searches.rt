@@ -3,9 +3,10 @@ ghost use Rattle.std.specs.Prelude.{◌≡◌, ◌∷◌, [], nat_eq};
 ghost use Rattle.std.specs.List.{starts_with, ends_with};
 ghost use Rattle.ansi_str.specs.Plain.{plain, has_escape, is_whole};
 ghost use Rattle.ansi_str.specs.Positions.{is_char_boundary};
-ghost use Rattle.ansi_str_c.specs.Answers.{not_utf8, failed, told, OnUtf8, TellsBoundary, TellsPlace};
+ghost use Rattle.ansi_answers.specs.Answers.{not_utf8, failed, told, OnUtf8, TellsBoundary, TellsPlace};
 
-use crate::answers::{Answer, NO, NOT_UTF8};
+use ansi_answers::answers::{Answer, NOT_UTF8};
+use ansi_answers::texts::find;
 use ansi_str::{AnsiStr, ansi_is_whole};
 use simdutf8::basic::from_utf8;
 
@@ -20,10 +21,7 @@ pub extern "C" fn ansi_str_raw_find(text: &[u8], pattern: &[u8]) -> Answer
     let Ok(pat) = from_utf8(pattern) else {
         return Answer::failed(NOT_UTF8);
     };
-    match text.ansi_find(pat) {
-        Some(place) => Answer::done(place),
-        None => Answer::failed(NO),
-    }
+    find(text, pat)
 }
 
 /// Whether the plain text begins with the pattern.

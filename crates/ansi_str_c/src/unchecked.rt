@@ -3,9 +3,10 @@ ghost use Rattle.std.specs.Prelude.{◌≡◌, IsUtf8, Some, nat_eq};
 ghost use Rattle.std.specs.List.{starts_with, ends_with};
 ghost use Rattle.ansi_str.specs.Plain.{plain, has_escape};
 ghost use Rattle.ansi_str.specs.Positions.{is_char_boundary};
-ghost use Rattle.ansi_str_c.specs.Answers.{no, told, TellsBoundary, TellsPlace, Gives};
+ghost use Rattle.ansi_answers.specs.Answers.{no, told, TellsBoundary, TellsPlace, Gives};
 
-use crate::answers::{Answer, NO, OUT_OF_MEMORY, write};
+use ansi_answers::answers::Answer;
+use ansi_answers::texts::{find, strip};
 use ansi_str::AnsiStr;
 use std::alloc::Global;
 use std::str::from_utf8_unchecked;
@@ -21,10 +22,7 @@ pub extern "C" fn ansi_str_raw_strip_unchecked(
     ensures { Gives no (has_escape text.now) (Some (plain text.now)) result buffer.old buffer.new }
 {
     let text = unsafe { from_utf8_unchecked(text) };
-    match text.ansi_strip(alloc) {
-        Ok(plain) => write(plain.as_bytes(), buffer),
-        Err(_) => Answer::failed(OUT_OF_MEMORY),
-    }
+    strip(alloc, text, buffer)
 }
 
 /// Where the pattern first stands in the plain text.
@@ -36,10 +34,7 @@ pub extern "C" fn ansi_str_raw_find_unchecked(text: &[u8], pattern: &[u8]) -> An
 {
     let text = unsafe { from_utf8_unchecked(text) };
     let pat = unsafe { from_utf8_unchecked(pattern) };
-    match text.ansi_find(pat) {
-        Some(place) => Answer::done(place),
-        None => Answer::failed(NO),
-    }
+    find(text, pat)
 }
 
 /// Whether the plain text begins with the pattern.

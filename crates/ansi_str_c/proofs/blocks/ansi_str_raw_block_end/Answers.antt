@@ -1,6 +1,6 @@
 use Rattle.std.proofs.Common.{◌≡◌, List, ℕ, inl, subst, string_bytes}
-use Rattle.ansi_str_c.specs.Answers.{IsWritten}
-use Rattle.ansi_str_c.proofs.Utf8Lemmas.{Gives-written}
+use Rattle.ansi_answers.specs.Answers.{IsWritten}
+use Rattle.ansi_answers.proofs.Utf8Lemmas.{Gives-written}
 use Rattle.ansi_str_c.proofs.blocks.ansi_str_raw_block_end.Goals as goal
 
 -- what is found is written

@@ -2,8 +2,8 @@ use Rattle.std.proofs.Common.{◌≡◌, List, ℕ, Some, inl, subst, refl, stri
 use Rattle.std.specs.Prelude.{option_map}
 use Rattle.ansi_str.specs.Written.{start}
 use Rattle.ansi_str.specs.Blocks.{Block, blocks}
-use Rattle.ansi_str_c.specs.Answers.{IsWritten}
-use Rattle.ansi_str_c.proofs.Utf8Lemmas.{Gives-written}
+use Rattle.ansi_answers.specs.Answers.{IsWritten}
+use Rattle.ansi_answers.proofs.Utf8Lemmas.{Gives-written}
 use Rattle.ansi_str_c.proofs.blocks.ansi_str_raw_block_start.Goals as goal
 
 at-index : (P : ℕ → Type 0) (i j : ℕ) → P i → i ≡ j → P j

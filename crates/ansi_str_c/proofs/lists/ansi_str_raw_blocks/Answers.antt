@@ -1,10 +1,10 @@
 use Rattle.std.proofs.Common.{◌≡◌, ◌∙◌, ℕ, [], ◌∷◌, length, false, sym, ap, refl, inl}
 use Rattle.ansi_str.specs.Plain.{has_escape}
 use Rattle.ansi_str.specs.Blocks.{Block}
-use Rattle.ansi_str_c.specs.declared.lists.BlockEntry.{BlockEntry}
-use Rattle.ansi_str_c.specs.declared.styles.StyleData.{StyleData}
-use Rattle.ansi_str_c.specs.Styles.{style_data}
-use Rattle.ansi_str_c.proofs.ListLemmas.{one_block_written}
+use Rattle.ansi_answers.specs.declared.lists.BlockEntry.{BlockEntry}
+use Rattle.ansi_answers.specs.declared.styles.StyleData.{StyleData}
+use Rattle.ansi_answers.specs.Styles.{style_data}
+use Rattle.ansi_answers.proofs.ListLemmas.{one_block_written}
 use Rattle.ansi_str_c.proofs.lists.ansi_str_raw_blocks.Goals as goal
 
 -- a text without ESC is one block

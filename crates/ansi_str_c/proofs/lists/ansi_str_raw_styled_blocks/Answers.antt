@@ -2,11 +2,11 @@ use Rattle.std.proofs.Common.{◌≡◌, ◌∙◌, ℕ, ◌+◌, [], ◌∷◌,
 use Rattle.ansi_str.specs.Plain.{has_escape}
 use Rattle.ansi_str.specs.Written.{start}
 use Rattle.ansi_str.specs.Blocks.{Block}
-use Rattle.ansi_str_c.specs.declared.lists.StyledBlockEntry.{StyledBlockEntry}
-use Rattle.ansi_str_c.specs.declared.styles.StyleData.{StyleData}
-use Rattle.ansi_str_c.specs.Lists.{styled_text}
-use Rattle.ansi_str_c.specs.Styles.{style_data}
-use Rattle.ansi_str_c.proofs.ListLemmas.{one_block_written}
+use Rattle.ansi_answers.specs.declared.lists.StyledBlockEntry.{StyledBlockEntry}
+use Rattle.ansi_answers.specs.declared.styles.StyleData.{StyleData}
+use Rattle.ansi_answers.specs.Lists.{styled_text}
+use Rattle.ansi_answers.specs.Styles.{style_data}
+use Rattle.ansi_answers.proofs.ListLemmas.{one_block_written}
 use Rattle.ansi_str_c.proofs.lists.ansi_str_raw_styled_blocks.Goals as goal
 
 -- a text without ESC is one block, of which nothing stands before its text or after it
