@@ -2,30 +2,75 @@
 //! stands.
 //!
 //! The first word after the program's name is the text. It is found as if the log had no colors, so also where a
-//! color begins or ends inside it.
+//! color begins or ends inside it. As with `grep`, the status is 0 where a line has it, 1 where none has, and 2
+//! after an error.
 #![tactic(auto)]
 
-use ansi_str::AnsiStr;
+use ansi_str::ansitok::{Kind, Scanner};
+use ansi_str::{AnsiStr, get_blocks};
 use anyhow::Context;
 use std::alloc::{AllocError, Global};
-use std::env;
+use std::process::ExitCode;
+use std::{env, iter};
 
-// The line with each match of the pattern in inverse. What stands between the matches keeps its styles.
+// The line with each match of the pattern marked: inverse in text that isn't, and not inverse in text that is. All
+// sequences stay as they are, and a mark ends before each.
 fn marked(alloc: Global, line: &str, pattern: &str) -> Result<String, AllocError> {
-    let mark = format!(in alloc; "\x1b[7m{pattern}\x1b[27m")?;
-    let parts: Vec<_> = line.ansi_split(alloc, pattern).try_collect(alloc)?;
-    parts.join(alloc, mark.as_str())
+    let plain = line.ansi_strip(alloc)?;
+    // for each character of the plain text, whether it stands in a match
+    let mut matched = plain.as_str().split(pattern).flat_map(|part| {
+        let unmatched = iter::repeat_n(false, part.chars().count());
+        unmatched.chain(iter::repeat_n(true, pattern.chars().count()))
+    });
+    let mut blocks = get_blocks(alloc, line);
+    let mut shown = String::new(alloc);
+    for item in Scanner::new(line) {
+        let piece = &line[item.start..item.end];
+        if item.kind != Kind::Text {
+            shown.push_str(piece)?;
+        } else if let Some(block) = blocks.next() {
+            let (mark, unmark) = match block?.style().is_inverse() {
+                true => ("\x1b[27m", "\x1b[7m"),
+                false => ("\x1b[7m", "\x1b[27m"),
+            };
+            let mut is_marked = false;
+            for (character, is_matched) in piece.chars().zip(matched.by_ref()) {
+                if is_matched != is_marked {
+                    shown.push_str(if is_matched { mark } else { unmark })?;
+                    is_marked = is_matched;
+                }
+                shown.push(character)?;
+            }
+            if is_marked {
+                shown.push_str(unmark)?;
+            }
+        }
+    }
+    Ok(shown)
 }
 
-fn main(rt: HostRuntime) -> anyhow::Result<()> {
+// Prints the lines that have the text. Gives whether there are any.
+fn print_found(rt: &HostRuntime) -> anyhow::Result<bool> {
     let alloc = rt.alloc();
-    let pattern = env::args(&rt)?.nth(1).context("no text to find is given")?;
+    let pattern = env::args(rt)?.nth(1).context("no text to find is given")?;
+    let mut is_found = false;
     for (index, line) in rt.lines(alloc).enumerate() {
         let line = line?;
         if line.ansi_find(pattern.as_str()).is_some() {
             let shown = marked(alloc, line.as_str(), pattern.as_str())?;
             println!(rt; "{}: {shown}", index + 1)?;
+            is_found = true;
         }
     }
-    Ok(())
+    Ok(is_found)
+}
+
+fn main(rt: HostRuntime) -> ExitCode {
+    match print_found(&rt) {
+        Ok(is_found) => ExitCode::from(u8::from(!is_found)),
+        Err(error) => {
+            let _ = eprintln!(rt; "Error: {error:?}");
+            ExitCode::from(2)
+        }
+    }
 }
