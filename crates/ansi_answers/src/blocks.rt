@@ -1,15 +1,12 @@
-//! Calls that give the block of an index, or its style.
-ghost use Rattle.std.specs.Prelude.{◌≡◌, ◌∷◌, [], slice_get, option_map, true, IsFalse, IsOk, IfOk, string_bytes};
+//! The block of an index, and its style.
+ghost use Rattle.std.specs.Prelude.{◌≡◌, slice_get, option_map, IsFalse, IsOk, IfOk, string_bytes};
 ghost use Rattle.ansi_str.specs.Plain.{has_escape};
 ghost use Rattle.ansi_str.specs.Written.{start, close_if_any};
 ghost use Rattle.ansi_str.specs.Blocks.{blocks};
-ghost use Rattle.ansi_answers.specs.Answers.{no, not_utf8, OnUtf8, HasFailed, Gives};
-ghost use Rattle.ansi_answers.specs.Styles.{no_style, TellsStyle};
+ghost use Rattle.ansi_answers.specs.Styles.{no_style};
 
-use crate::answers::{Answer, NO, NOT_UTF8, OK, OUT_OF_MEMORY, write};
 use crate::styles::StyleData;
 use ansi_str::{AnsiBlock, get_blocks};
-use simdutf8::basic::from_utf8;
 use std::alloc::{AllocError, Global};
 
 /// What a call answers that gives a style.

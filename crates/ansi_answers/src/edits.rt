@@ -1,14 +1,12 @@
 //! Edits in turn.
-ghost use Rattle.std.specs.Prelude.{◌≡◌, ◌↔◌, ◌⊎◌, ◌∷◌, [], map, option_map, IsTrue, IsNone, IsOk, IfOk, IfSome, IsUtf8};
+ghost use Rattle.std.specs.Prelude.{◌≡◌, ◌↔◌, ◌⊎◌, map, option_map, IsTrue, IsNone, IsOk, IfOk, IfSome, IsUtf8};
 ghost use Rattle.std.specs.List.{list_all};
 ghost use Rattle.std.specs.Str.{is_utf8};
 ghost use Rattle.std.specs.Cow.{cow_str_bytes, IsBorrowedStr};
 ghost use Rattle.ansi_str.specs.Edited.{edited_by, edited, gives_borrow, stay_borrowed};
 ghost use Rattle.ansi_str.specs.Edits.{change_of};
-ghost use Rattle.ansi_answers.specs.Answers.{refused, not_utf8, OnUtf8, HasFailed, GivesEdited};
 ghost use Rattle.ansi_answers.specs.Steps.{change_of_step, patterns_of};
 
-use crate::answers::{Answer, NOT_UTF8, REFUSED, write_found};
 use ansi_str::{Edit, edit};
 use simdutf8::basic::from_utf8;
 use std::alloc::{AllocError, Global};

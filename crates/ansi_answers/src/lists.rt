@@ -1,16 +1,15 @@
-//! Calls that give several texts: all parts, and all blocks.
+//! Several texts and an entry for each: all parts, and all blocks.
 ghost use Rattle.std.specs.Prelude.{◌≡◌, ◌⊎◌, ◌≤◌, ◌<◌, ◌+◌, ◌^◌, ◌==◌, ◌∷◌, [], ◌++◌, length, take, drop, flat_map, if◌then◌else◌, IsFalse, IfNone, IfSome, IfOk, OnOk, MatchResult, string_bytes};
 ghost use Rattle.ansi_str.specs.Plain.{has_escape};
 ghost use Rattle.ansi_str.specs.Parts.{all_parts};
 ghost use Rattle.ansi_str.specs.Blocks.{blocks};
-ghost use Rattle.ansi_answers.specs.Answers.{not_utf8, out_of_memory, OnUtf8};
-ghost use Rattle.ansi_answers.specs.Lists.{none, ends_from, entries_from, styled_text, styled_entries_from, AreWritten, HaveFailed, GivesAll};
+ghost use Rattle.ansi_answers.specs.Answers.{out_of_memory};
+ghost use Rattle.ansi_answers.specs.Lists.{none, ends_from, entries_from, styled_text, styled_entries_from, AreWritten, HaveFailed};
 
-use crate::answers::{NOT_UTF8, OK, OUT_OF_MEMORY, TOO_SMALL};
+use crate::answers::{OK, OUT_OF_MEMORY, TOO_SMALL};
 use crate::styles::StyleData;
 use ansi_str::split::split_in;
-use ansi_str::{AnsiBlock, AnsiStr, get_blocks, laws};
-use simdutf8::basic::from_utf8;
+use ansi_str::{AnsiBlock, get_blocks, laws};
 use std::alloc::{AllocError, Global};
 use std::fmt::Write;
 

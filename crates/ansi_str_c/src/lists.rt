@@ -1,5 +1,5 @@
 //! Calls that give several texts: all parts, and all blocks.
-ghost use Rattle.std.specs.Prelude.{◌≡◌, ◌∷◌, [], flat_map};
+ghost use Rattle.std.specs.Prelude.{◌∷◌, [], flat_map};
 ghost use Rattle.ansi_str.specs.Plain.{has_escape};
 ghost use Rattle.ansi_str.specs.Parts.{all_parts};
 ghost use Rattle.ansi_str.specs.Blocks.{blocks};
