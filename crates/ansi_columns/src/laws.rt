@@ -2,12 +2,20 @@
 //!
 //! Each function carries one law as its contract, does nothing and answers nothing. A body that needs the
 //! law calls it. (Own.)
-ghost use Rattle.std.specs.Prelude.{◌≡◌, ℕ, List, length, IsTrue};
+ghost use Rattle.std.specs.Prelude.{◌≡◌, ◌<◌, ◌≤◌, ℕ, List, length, take, IsTrue};
 ghost use Rattle.std.specs.List.{list_all};
 ghost use Rattle.std.specs.Int.{is_in_range};
-ghost use Rattle.ansi_columns.specs.Columns.{columns};
+ghost use Rattle.std.specs.Str.{IsUtf8};
+ghost use Rattle.ansi_columns.specs.Columns.{columns, FitsUpTo, IsClusterBoundary};
 
 /// Printable ASCII is as wide as it is long.
 pub fn printable_is_as_wide_as_long()
     ensures { (x : List ℕ) → IsTrue (list_all (is_in_range 0x20 0x7E) x) → columns x ≡ length x }
+{}
+
+/// What fits of a text has no more columns than it may have, and all that ends between two clusters
+/// further on has more.
+pub fn what_fits_is_the_longest()
+    ensures within { (x : List ℕ) (width end : ℕ) → IsUtf8 x → FitsUpTo x width end → columns (take end x) ≤ width }
+    ensures greatest { (x : List ℕ) (width end later : ℕ) → IsUtf8 x → FitsUpTo x width end → IsClusterBoundary x later → end < later → width < columns (take later x) }
 {}
