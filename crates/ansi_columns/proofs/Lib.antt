@@ -19,3 +19,4 @@ pub mod LineWalkLemmas
 pub mod LineLawLemmas
 mod LineExamples
 pub mod ClusterLawLemmas
+pub mod SeamLawLemmas

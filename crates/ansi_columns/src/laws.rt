@@ -2,11 +2,11 @@
 //!
 //! Each function carries one law as its contract, does nothing and answers nothing. A body that needs the
 //! law calls it. (Own.)
-ghost use Rattle.std.specs.Prelude.{◌≡◌, ◌<◌, ◌≤◌, ℕ, List, length, take, IsTrue};
+ghost use Rattle.std.specs.Prelude.{◌≡◌, ◌<◌, ◌≤◌, ◌+◌, ◌++◌, ℕ, List, length, take, IsTrue};
 ghost use Rattle.std.specs.List.{list_all};
 ghost use Rattle.std.specs.Int.{is_in_range};
 ghost use Rattle.std.specs.Str.{IsUtf8};
-ghost use Rattle.ansi_columns.specs.Columns.{columns, FitsUpTo, IsClusterBoundary};
+ghost use Rattle.ansi_columns.specs.Columns.{clusters, columns, FitsUpTo, IsClusterBoundary};
 
 /// Printable ASCII is as wide as it is long.
 pub fn printable_is_as_wide_as_long()
@@ -18,4 +18,11 @@ pub fn printable_is_as_wide_as_long()
 pub fn what_fits_is_the_longest()
     ensures within { (x : List ℕ) (width end : ℕ) → IsUtf8 x → FitsUpTo x width end → columns (take end x) ≤ width }
     ensures greatest { (x : List ℕ) (width end later : ℕ) → IsUtf8 x → FitsUpTo x width end → IsClusterBoundary x later → end < later → width < columns (take later x) }
+{}
+
+/// Two texts in a row have the clusters of both, one after the other, and the columns of both, where a
+/// cluster of the whole ends with the first text.
+pub fn columns_add_up()
+    ensures clusters { (x y : List ℕ) → IsUtf8 x → IsUtf8 y → IsClusterBoundary (x ++ y) (length x) → clusters (x ++ y) ≡ clusters x ++ clusters y }
+    ensures columns { (x y : List ℕ) → IsUtf8 x → IsUtf8 y → IsClusterBoundary (x ++ y) (length x) → columns (x ++ y) ≡ columns x + columns y }
 {}
