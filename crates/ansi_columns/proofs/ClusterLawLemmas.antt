@@ -124,7 +124,7 @@ prepend-spells : (part : List ℕ) (ks : List (List ℕ)) → flat_map encode_ut
 prepend-spells part [] = refl
 prepend-spells part (k ∷ ks) = ap (λ u. u ++ flat_map encode_utf8_all ks) (encodes-append part k) ∙ append_assoc (encode_utf8_all part) (encode_utf8_all k) (flat_map encode_utf8_all ks)
 
-spells : (before cs : List ℕ) → flat_map encode_utf8_all (clusters_after before cs) ≡ encode_utf8_all cs
+pub spells : (before cs : List ℕ) → flat_map encode_utf8_all (clusters_after before cs) ≡ encode_utf8_all cs
 spells before [] = ap (flat_map encode_utf8_all) (clusters-none before)
 spells before (c ∷ cs) = elim (cases_Bool (is_grapheme_break true (c ∷ before) cs)) [
   | inl breaks ↦ ap (flat_map encode_utf8_all) (cluster-alone before c cs breaks) ∙ ap (λ u. encode_utf8_all (c ∷ []) ++ u) (spells (c ∷ before) cs) ∙ sym (encodes-append (c ∷ []) cs)

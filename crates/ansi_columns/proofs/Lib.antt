@@ -20,3 +20,4 @@ pub mod LineLawLemmas
 mod LineExamples
 pub mod ClusterLawLemmas
 pub mod SeamLawLemmas
+pub mod LeftOutLawLemmas

@@ -2,11 +2,12 @@
 //!
 //! Each function carries one law as its contract, does nothing and answers nothing. A body that needs the
 //! law calls it. (Own.)
-ghost use Rattle.std.specs.Prelude.{◌≡◌, ◌<◌, ◌≤◌, ◌+◌, ◌++◌, ℕ, List, length, take, IsTrue};
+ghost use Rattle.std.specs.Prelude.{◌≡◌, ◌<◌, ◌≤◌, ◌+◌, ◌++◌, ℕ, List, length, take, slice_get, Some, option_map, IsTrue};
 ghost use Rattle.std.specs.List.{list_all};
 ghost use Rattle.std.specs.Int.{is_in_range};
 ghost use Rattle.std.specs.Str.{IsUtf8};
 ghost use Rattle.ansi_columns.specs.Columns.{clusters, columns, FitsUpTo, IsClusterBoundary};
+ghost use Rattle.ansi_columns.specs.Lines.{lines, AreLinesFrom, put_back};
 
 /// Printable ASCII is as wide as it is long.
 pub fn printable_is_as_wide_as_long()
@@ -25,4 +26,13 @@ pub fn what_fits_is_the_longest()
 pub fn columns_add_up()
     ensures clusters { (x y : List ℕ) → IsUtf8 x → IsUtf8 y → IsClusterBoundary (x ++ y) (length x) → clusters (x ++ y) ≡ clusters x ++ clusters y }
     ensures columns { (x y : List ℕ) → IsUtf8 x → IsUtf8 y → IsClusterBoundary (x ++ y) (length x) → columns (x ++ y) ≡ columns x + columns y }
+{}
+
+/// The lines of a text stand in it in turn, from its beginning on. What is left out between two of them
+/// is blanks, and then one line end or none, and after the last blanks alone. With that put back they are
+/// the text.
+pub fn lines_lose_blanks_and_line_ends()
+    ensures begin { (x : List ℕ) (width : ℕ) → option_map (λ (line : ℕ × ℕ). line.0) (slice_get (lines width x) 0) ≡ Some 0 }
+    ensures left_out { (x : List ℕ) (width : ℕ) → IsUtf8 x → AreLinesFrom x 0 (lines width x) }
+    ensures text { (x : List ℕ) (width : ℕ) → IsUtf8 x → put_back x 0 (lines width x) ≡ x }
 {}
