@@ -18,3 +18,6 @@ pub mod LineLemmas
 pub mod LineWalkLemmas
 pub mod LineLawLemmas
 mod LineExamples
+pub mod ClusterLawLemmas
+pub mod SeamLawLemmas
+pub mod LeftOutLawLemmas

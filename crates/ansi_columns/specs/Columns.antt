@@ -31,3 +31,7 @@ pub record FitsUpTo (x : List ℕ) (width end : ℕ) : Type 0 where
   pub boundary : end ≡ bytes_of (take count (clusters x))
   pub fits : columns_of (take count (clusters x)) ≤ width
   pub greatest : count < length (clusters x) → width < columns_of (take (count + 1) (clusters x))
+
+-- the place i of x is between two of its clusters, or before or after all of them
+abbrev pub IsClusterBoundary : List ℕ → ℕ → Type 0
+IsClusterBoundary x i = (n : ℕ) × (i ≡ bytes_of (take n (clusters x)))

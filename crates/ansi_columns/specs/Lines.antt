@@ -1,7 +1,8 @@
 -- The lines of a text that is wrapped at a width: how far each word reaches, and where the lines begin and end.
-use Rattle.std.specs.Prelude.{◌≡◌, ℕ, ◌+◌, ◌≤◌, max, ◌⊎◌, Bool, true, false, ◌||◌, ◌==◌, nat_le, List, [], ◌∷◌, ◌++◌, length, Option, Some, None, codes, bytes_eq, encode_utf8_all, IsTrue, if◌then◌else◌}
+use Rattle.std.specs.Prelude.{◌≡◌, ℕ, ◌+◌, ◌≤◌, max, ◌⊎◌, Bool, true, false, ◌||◌, ◌==◌, nat_le, List, [], ◌∷◌, ◌++◌, length, drop, slice_range, Option, Some, None, codes, bytes_eq, encode_utf8_all, IsTrue, if◌then◌else◌}
 use Rattle.ansi_slice.specs.Positions.{is_good_range}
 use Rattle.ansi_columns.specs.Columns.{clusters, cluster_width, columns_of, bytes_of}
+use Rattle.ansi_columns.specs.Shown.{blanks}
 use Rattle.ansi_columns.specs.Walks.{clusters_from}
 use Rattle.ansi_columns.specs.declared.walks.Walk.{Walk}
 
@@ -59,3 +60,17 @@ pub record IsLine (x : List ℕ) (width : ℕ) (line : ℕ × ℕ) : Type 0 wher
 -- x may be cut where a line begins and ends
 abbrev pub IsGoodLine : List ℕ → ℕ × ℕ → Type 0
 IsGoodLine x line = IsTrue (is_good_range x line.0 (Some line.1))
+
+-- what may be left out between two lines: n blanks, and then a line end or none
+abbrev pub IsLeftOut : List ℕ → Type 0
+IsLeftOut x = (n : ℕ) × ((x ≡ blanks n) ⊎ (x ≡ blanks n ++ codes "\n") ⊎ (x ≡ blanks n ++ codes "\r\n"))
+
+-- The lines stand in x in turn, from the place e on. Before each stands what may be left out, and after the last are blanks alone.
+abbrev pub AreLinesFrom : List ℕ → ℕ → List (ℕ × ℕ) → Type 0
+AreLinesFrom x e [] = (n : ℕ) × (drop e x ≡ blanks n)
+AreLinesFrom x e (line ∷ lines) = (e ≤ line.0) × (line.0 ≤ line.1) × (line.1 ≤ length x) × IsLeftOut (slice_range x e line.0) × AreLinesFrom x line.1 lines
+
+-- what of x stands on lines, with what stands before each from the place e on, and after the last
+abbrev pub put_back : List ℕ → ℕ → List (ℕ × ℕ) → List ℕ
+put_back x e [] = drop e x
+put_back x e (line ∷ lines) = slice_range x e line.0 ++ slice_range x line.0 line.1 ++ put_back x line.1 lines
