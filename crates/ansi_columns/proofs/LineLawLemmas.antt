@@ -10,7 +10,7 @@ use Rattle.std.proofs.lemmas.Str.{IsUtf8-past_char, IsCharBoundary-at_seam}
 use Rattle.unicode_segmentation.specs.Grapheme.{is_grapheme_break}
 use Rattle.unicode_segmentation.specs.Segments.{segments}
 use Rattle.unicode_segmentation.proofs.SegmentsLemmas.{AllPieces, concat-segments, segments_nonempty}
-use Rattle.ansi_slice.proofs.PositionLemmas.{boundary_is_good}
+use Rattle.ansi_search.proofs.PositionLemmas.{boundary_is_good}
 use Rattle.ansi_columns.specs.Columns.{clusters, cluster_width, columns_of, bytes_of}
 use Rattle.ansi_columns.specs.Lines.{is_line_end, is_blank, lines_from, lines, IsLine, IsGoodLine}
 use Rattle.ansi_columns.proofs.ColumnLemmas.{bytes_of-push, columns_of-push}

@@ -11,9 +11,9 @@ use Rattle.ansi_items.proofs.PieceLemmas.{pieces_are, pieces_of-unique}
 use Rattle.ansi_items.proofs.PlainLemmas.{one_text, one_text_are, plain_of-one_text}
 use Rattle.ansi_items.proofs.JoinLemmas.{after_text_are}
 use Rattle.ansi_style.proofs.MarkLemmas.{further, marks_of-text, marks_of-sequence, marks_of-lone, up_to-none, up_to-further, up_to-here}
-use Rattle.ansi_slice.specs.Offsets.{bytes_before, offset_of}
-use Rattle.ansi_slice.proofs.SliceLemmas.{list_all-parts}
-use Rattle.ansi_slice.proofs.OffsetLemmas.{bytes_before-last, bytes_before-text, after_of, after_of-last, after_of-text, take-after, pieces_of-after}
+use Rattle.ansi_search.specs.Offsets.{bytes_before, offset_of}
+use Rattle.ansi_search.proofs.SliceLemmas.{list_all-parts}
+use Rattle.ansi_search.proofs.OffsetLemmas.{bytes_before-last, bytes_before-text, after_of, after_of-last, after_of-text, take-after, pieces_of-after}
 
 -- The bytes before a place, and from there to a later one.
 

@@ -13,7 +13,7 @@ use Rattle.ansi_items.specs.Pieces.{Piece, Text, Sequence, LoneEscape, spelling,
 use Rattle.ansi_items.specs.Plain.{plain_of, plain, plain_bytes}
 use Rattle.ansi_items.proofs.PieceLemmas.{pieces_are, pieces_of-unique}
 use Rattle.ansi_items.proofs.PlainLemmas.{no_escape, plain-bare}
-use Rattle.ansi_slice.proofs.OffsetLemmas.{take-after}
+use Rattle.ansi_search.proofs.OffsetLemmas.{take-after}
 
 -- An ESC inside a sequence is the terminator of a control string.
 

@@ -12,11 +12,11 @@ use Rattle.ansi_style.specs.Styled.{style_at, style_of, style_after}
 use Rattle.ansi_style.specs.Written.{close, close_codes, written_all, when, longest_close}
 use Rattle.ansi_style.proofs.UnsetLemmas.{close-unknown}
 use Rattle.ansi_slice.specs.Cut.{show}
-use Rattle.ansi_slice.specs.Offsets.{StandsIn}
+use Rattle.ansi_search.specs.Offsets.{StandsIn}
 use Rattle.ansi_slice.proofs.CutLemmas.{up_to-past}
 use Rattle.ansi_slice.proofs.LengthLemmas.{length-close}
-use Rattle.ansi_slice.proofs.OffsetLemmas.{cut-front}
-use Rattle.ansi_slice.proofs.PositionLemmas.{boundary_is_good}
+use Rattle.ansi_slice.proofs.StretchLemmas.{cut-front}
+use Rattle.ansi_search.proofs.PositionLemmas.{boundary_is_good}
 use Rattle.ansi_columns.specs.declared.walks.Walk.{Walk}
 use Rattle.ansi_columns.specs.Columns.{columns, clusters, FitsUpTo}
 use Rattle.ansi_columns.specs.Walks.{IsWalk}

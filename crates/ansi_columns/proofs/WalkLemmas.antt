@@ -11,9 +11,9 @@ use Rattle.unicode_segmentation.proofs.TextLemmas.{slice_range_split, IsCharAt-f
 use Rattle.ansi_items.specs.Bytes.{is_plain_byte}
 use Rattle.ansi_items.specs.Plain.{plain}
 use Rattle.ansi_items.proofs.Utf8Lemmas.{IsUtf8-plain}
-use Rattle.ansi_slice.specs.Offsets.{offset_of}
-use Rattle.ansi_slice.proofs.SliceLemmas.{length-slice_range}
-use Rattle.ansi_slice.proofs.OffsetLemmas.{plain-after}
+use Rattle.ansi_search.specs.Offsets.{offset_of}
+use Rattle.ansi_search.proofs.SliceLemmas.{length-slice_range}
+use Rattle.ansi_search.proofs.OffsetLemmas.{plain-after}
 use Rattle.ansi_columns.specs.declared.walks.Walk.{Walk}
 use Rattle.ansi_columns.specs.Seams.{seam_of}
 use Rattle.ansi_columns.specs.Walks.{before, after, cluster, IsRun, IsWalk, IsNext}

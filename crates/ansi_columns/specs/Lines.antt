@@ -1,6 +1,6 @@
 -- The lines of a text that is wrapped at a width: how far each word reaches, and where the lines begin and end.
 use Rattle.std.specs.Prelude.{◌≡◌, ℕ, ◌+◌, ◌≤◌, max, ◌⊎◌, Bool, true, false, ◌||◌, ◌==◌, nat_le, List, [], ◌∷◌, ◌++◌, length, drop, slice_range, Option, Some, None, codes, bytes_eq, encode_utf8_all, IsTrue, if◌then◌else◌}
-use Rattle.ansi_slice.specs.Positions.{is_good_range}
+use Rattle.ansi_search.specs.Positions.{is_good_range}
 use Rattle.ansi_columns.specs.Columns.{clusters, cluster_width, columns_of, bytes_of}
 use Rattle.ansi_columns.specs.Shown.{blanks}
 use Rattle.ansi_columns.specs.Walks.{clusters_from}

@@ -4,7 +4,7 @@ use Rattle.std.specs.List.{list_all}
 use Rattle.std.specs.Str.{IsCharBoundary}
 use Rattle.ansi_items.specs.Bytes.{is_plain_byte}
 use Rattle.ansi_items.specs.Plain.{plain}
-use Rattle.ansi_slice.specs.Offsets.{offset_of}
+use Rattle.ansi_search.specs.Offsets.{offset_of}
 use Rattle.unicode_segmentation.specs.Grapheme.{is_grapheme_break}
 use Rattle.unicode_segmentation.specs.Segments.{cut}
 use Rattle.ansi_columns.specs.declared.walks.Walk.{Walk}

@@ -3,7 +3,7 @@ ghost use Rattle.std.specs.Prelude.{◌≡◌, ◌↔◌, ◌+◌, ◌≤◌, So
 ghost use Rattle.std.specs.Cow.{cow_str_bytes, IsBorrowedStr};
 ghost use Rattle.std.specs.Str.{IsCharBoundary};
 ghost use Rattle.ansi_items.specs.Plain.{plain};
-ghost use Rattle.ansi_slice.specs.Positions.{is_good_range};
+ghost use Rattle.ansi_search.specs.Positions.{is_good_range};
 ghost use Rattle.ansi_style.specs.Written.{longest_close};
 ghost use Rattle.ansi_columns.specs.Columns.{columns, FitsUpTo};
 ghost use Rattle.ansi_columns.specs.Links.{longest_link_end};

@@ -1,6 +1,6 @@
 //! A walk over the clusters of a plain text, and how wide each is.
 ghost use Rattle.std.specs.Prelude.{◌≡◌, ◌+◌, ◌*◌, ◌-◌, ◌<◌, ◌≤◌, [], ◌∷◌, length, encode_utf8, chars, MatchOption};
-ghost use Rattle.ansi_slice.specs.Offsets.{offset_of};
+ghost use Rattle.ansi_search.specs.Offsets.{offset_of};
 ghost use Rattle.ansi_columns.specs.Columns.{cluster_width};
 ghost use Rattle.ansi_columns.specs.Walks.{before, after, cluster, clusters_from, IsRun, IsWalk, IsNext};
 

@@ -1,8 +1,8 @@
 -- The plain text of what is kept of a whole text is what std's `trim`, `strip_prefix` and `strip_suffix` leave.
 use Rattle.ansi_slice.proofs.Common.{◌≡◌, ℕ, ◌-◌, List, ◌++◌, take, drop, length, refl, sym, ◌∙◌, ap, subst, arith, length-append, length-take, nat_eq, IsTrue, Decides-eqb, ends_is, IsCharBoundary-from_take, IsCharBoundary-from_drop, take-append_seam, drop-append_seam, starts_with, ends_with, IsUtf8, IsCharBoundary, trim, FindsTextPrefix, FindsTextSuffix, StripsPrefix, StripsSuffix, plain, is_whole, without_prefix, without_suffix, trim_interval, trimmed, IsUtf8-plain}
-use Rattle.ansi_slice.proofs.SliceLemmas.{slice_range-past}
+use Rattle.ansi_search.proofs.SliceLemmas.{slice_range-past}
 use Rattle.ansi_slice.proofs.TrimLemmas.{slice_range-trim_interval}
-use Rattle.ansi_slice.proofs.MatchLemmas.{starts_with-splits}
+use Rattle.ansi_search.proofs.MatchLemmas.{starts_with-splits}
 use Rattle.ansi_slice.proofs.KeptLemmas.{plain-kept}
 
 pub ends_in : (x p : List ℕ) → IsTrue (ends_with nat_eq x p) → x ≡ take (length x - length p) x ++ p

@@ -1,6 +1,6 @@
 -- A kept text as one walk over the pieces, with what is left of its ends; and what is kept of all, and of a text without ESC.
-use Rattle.ansi_slice.proofs.Common.{◌≡◌, ℕ, ◌-◌, ◌≤◌, true, List, [], ◌∷◌, ◌++◌, length, refl, sym, ◌∙◌, ap, ap₂, arith, slice_range, append-nil, length-append, IsFalse, Bool, false, nat_eq, ◌⊎◌, inl, inr, escape, Piece, Text, Sequence, LoneEscape, ArePieces, spelling, pieces_of, plain_of, plain, has_escape, kept, pieces_are, one_text, pieces_of-bare, is_mark}
-use Rattle.ansi_slice.proofs.SliceLemmas.{slice_range-past, slice_range-from_past}
+use Rattle.ansi_slice.proofs.Common.{◌≡◌, ℕ, ◌-◌, ◌≤◌, true, List, [], ◌∷◌, ◌++◌, length, sym, ◌∙◌, ap, ap₂, arith, slice_range, append-nil, length-append, IsFalse, Bool, false, nat_eq, ◌⊎◌, inl, inr, escape, Piece, Text, Sequence, LoneEscape, ArePieces, pieces_of, plain_of, plain, has_escape, kept, pieces_are, one_text, pieces_of-bare}
+use Rattle.ansi_search.proofs.SliceLemmas.{slice_range-past, slice_range-from_past}
 use Rattle.ansi_slice.proofs.CutLemmas.{shown_from, show-all}
 
 -- a kept text is the walk over all pieces
@@ -32,12 +32,6 @@ shown_from-one_text (b ∷ bs) s e = append-nil (slice_range (b ∷ bs) s e)
 
 pub kept-bare : (t : List ℕ) (s e : ℕ) → IsFalse (has_escape t) → kept t s e ≡ slice_range t s e
 kept-bare t s e none = kept-walk t s e ∙ ap (shown_from true s e) (pieces_of-bare t none) ∙ shown_from-one_text t s e
-
--- over a mark
-pub shown_from-mark : (p : Piece) (s e : ℕ) (ps : List Piece) → is_mark p ≡ true → shown_from true s e (p ∷ ps) ≡ spelling p ++ shown_from true s e ps
-shown_from-mark (Text w) s e ps is = absurd (cc is)
-shown_from-mark (Sequence w) s e ps is = refl
-shown_from-mark LoneEscape s e ps is = refl
 
 -- a text with ESC isn't lent, unless all of it is kept
 pub not_lent : (t p : List ℕ) {marked empty : Bool} → marked ≡ has_escape t → marked ≡ true → empty ≡ nat_eq (length p) 0 → empty ≡ false → IsFalse (has_escape t) ⊎ (p ≡ []) → ⊥

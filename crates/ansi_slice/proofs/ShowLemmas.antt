@@ -1,6 +1,6 @@
 -- What is shown of a plain text, after a text or a mark at its front.
 use Rattle.ansi_slice.proofs.Common.{◌≡◌, ℕ, zero, suc, ◌+◌, ◌-◌, Bool, true, false, ◌&&◌, ◌==◌, List, [], ◌∷◌, ◌++◌, map, length, take, drop, refl, sym, ◌∙◌, ap, ap₂, arith, flat_map, slice_range, if◌then◌else◌, nat_le, nat_lt, append_assoc, append-nil, nat_tests, range_with_len, Mark, joined, at_place, shown_at, show, further, map-further-0, map-further-suc}
-use Rattle.ansi_slice.proofs.SliceLemmas.{slice_range-from_past}
+use Rattle.ansi_search.proofs.SliceLemmas.{slice_range-from_past}
 
 -- functions that agree one place apart
 flat_map-range-suc : (f g : ℕ → List ℕ) → ((j : ℕ) → f (j + 1) ≡ g j) → (n i : ℕ) → flat_map f (range_with_len (i + 1) n) ≡ flat_map g (range_with_len i n)

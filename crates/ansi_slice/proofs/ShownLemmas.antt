@@ -1,6 +1,6 @@
 -- What is shown of a plain text with some of its marks, as pieces; their styled bytes, and the style after them.
 use Rattle.ansi_slice.proofs.Common.{◌≡◌, ◌≢◌, ℕ, ◌+◌, ◌-◌, ◌<◌, ◌≤◌, inl, inr, Bool, true, false, List, [], ◌∷◌, ◌++◌, map, length, drop, filter, refl, sym, ◌∙◌, ap, ap₂, arith, append-nil, slice_range, if◌then◌else◌, cond_both, cases_lt, flat_map-append, length-map, list_all, is_plain_byte, Piece, Text, Sequence, LoneEscape, spelling, Mark, plain_of, marks_of, Rendition, known, apply, after_marks, show, one_text, further, marks_of-text, marks_of-sequence, marks_of-lone, after_marks-further, spelled, AllStandAnywhere, stand-append, style_through, style_through-append, styled_through, in_style, styled_through-append}
-use Rattle.ansi_slice.proofs.SliceLemmas.{slice_range-none, slice_range-from_past, slice_range-map, slice_range-append, list_all-parts}
+use Rattle.ansi_search.proofs.SliceLemmas.{slice_range-none, slice_range-from_past, slice_range-map, slice_range-append, list_all-parts}
 use Rattle.ansi_slice.proofs.ShowLemmas.{show-mark, show-nil, show-text}
 
 -- the marks at places that pass the test

@@ -1,6 +1,6 @@
 -- A side of a whole text is whole, has the slice of its styled bytes, and leaves nothing known open.
 use Rattle.ansi_slice.proofs.Common.{◌≡◌, ℕ, ◌+◌, ◌-◌, Bool, true, false, not, ◌==◌, List, [], ◌∷◌, ◌++◌, length, take, drop, nat_le, refl, sym, ◌∙◌, ap, ap₂, subst, arith, IsTrue, append-nil, if◌then◌else◌, cond_both, cond-false, ne_eqb, eqb-false, flat_map-append, take-nil, drop-nil, length-map, take-append-drop, take-map, drop-map, list_all, is_plain_byte, is_sgr, Piece, Text, spelling, Sequence, LoneEscape, pieces_of, plain, plain_bytes, is_whole, copied, Rendition, known, plain_style, IsStyle, apply, close_codes, start, close, StyledByte, styled, dressed, left_part, right_part, left_side, right_side, apply-no_sgr, IsStyle-apply, IsStyle-plain_style, spelled, AllStandAnywhere, stand-append, pieces_stand, styled_through, in_style, styled-pieces, styled-append, close_codes_are, GiveAlone, give-nothing, give-append, IsClosed, closed-spelled, dressed_pieces, spelled-dressed_pieces, dressed_pieces_stand, dressed_pieces_give, close_codes_clear}
-use Rattle.ansi_slice.proofs.SliceLemmas.{take-append, drop-append, list_all-parts}
+use Rattle.ansi_search.proofs.SliceLemmas.{take-append, drop-append, list_all-parts}
 use Rattle.ansi_slice.proofs.WalkLemmas.{walked, style_past}
 use Rattle.ansi_slice.proofs.SideLemmas.{left_side-walked, right_side-walked}
 

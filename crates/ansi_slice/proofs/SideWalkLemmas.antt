@@ -2,7 +2,7 @@
 use Rattle.ansi_slice.proofs.Common.{◌≡◌, ℕ, ◌+◌, ◌-◌, ◌<◌, ◌≤◌, inl, inr, true, List, [], ◌∷◌, ◌++◌, length, take, drop, sym, ◌∙◌, refl, ap, ap₂, arith, append_assoc, append-nil, length-append, if◌then◌else◌, cases_lt, le-leb, lt-leb, lt-ltb, le-ltb, take_all, drop_all, length-drop, slice_range, Kind, Piece, Text, Sequence, LoneEscape, spelling, pieces_of, plain_of, copied, length-plain, is_mark, BeginsWithMark, Rendition, plain_style, apply, style_within, style_by_marks, style_by_marks-before, style_by_marks-sequence, style_by_marks-lone, dressed, left_part, right_part, left_side, right_side, side_up_to, StandsIn}
 use Rattle.ansi_slice.proofs.WalkLemmas.{walked}
 use Rattle.ansi_slice.proofs.SideLemmas.{left_side-walked, right_side-walked}
-use Rattle.ansi_slice.proofs.OffsetLemmas.{after_of, after_of-last, after_of-text, style-text, pieces_of-after}
+use Rattle.ansi_search.proofs.OffsetLemmas.{after_of, after_of-last, after_of-text, style-text, pieces_of-after}
 
 side_up_to-last : (s : Rendition) (n : ℕ) (w : List ℕ) (ps : List Piece) → n < length w → side_up_to s n (Text w ∷ ps) ≡ dressed s (take n w)
 side_up_to-last s n w ps last = ap (λ b. if b then dressed s (take n w) else dressed s w ++ side_up_to s (n - length w) ps) (lt-ltb n (length w) last)

@@ -14,11 +14,13 @@ pub use Rattle.ansi_style.specs.Reading
 pub use Rattle.ansi_style.specs.States
 pub use Rattle.ansi_style.specs.Orders
 pub use Rattle.ansi_style.specs.Fields
-pub mod Positions
+pub use Rattle.ansi_search.specs.Positions
+pub use Rattle.ansi_search.specs.Matches
+pub use Rattle.ansi_search.specs.Searches
+pub use Rattle.ansi_search.specs.Offsets
 pub mod Ranges
 pub mod Cut
 pub mod Sides
 pub mod Kept
 pub mod Parts
-pub mod Searches
-pub mod Offsets
+pub mod Stretches

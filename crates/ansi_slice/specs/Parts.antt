@@ -1,26 +1,14 @@
 -- The parts of a text between the matches of a pattern.
-use Rattle.std.specs.Prelude.{ℕ, zero, suc, ◌+◌, ◌==◌, Bool, true, false, not, ◌&&◌, ◌||◌, List, [], ◌∷◌, ◌++◌, map, length, drop, filter, filter_map, zip, nat_eq, nat_le, nat_lt, Option, None, option_map, if◌then◌else◌, slice_get}
-use Rattle.std.specs.List.{range_with_len, starts_with}
+use Rattle.std.specs.Prelude.{ℕ, zero, suc, ◌+◌, ◌==◌, Bool, true, false, not, ◌&&◌, ◌||◌, List, [], ◌∷◌, ◌++◌, map, length, filter, filter_map, zip, nat_le, nat_lt, Option, None, option_map, if◌then◌else◌, slice_get}
+use Rattle.std.specs.List.{range_with_len}
 use Rattle.std.specs.Option.{option_map_or}
 use Rattle.ansi_style.specs.declared.state.rendition.Rendition.{Rendition}
 use Rattle.ansi_style.specs.Rendition.{plain_style, has_any}
 use Rattle.ansi_items.specs.Plain.{Mark, plain, marks, up_to}
-use Rattle.ansi_slice.specs.Positions.{is_char_boundary}
 use Rattle.ansi_style.specs.Styled.{style_at}
 use Rattle.ansi_style.specs.Written.{start, close_if_any}
+use Rattle.ansi_search.specs.Matches.{match_places}
 use Rattle.ansi_slice.specs.Cut.{show}
-
--- the pattern p stands in x at the character boundary i
-abbrev pub is_match : List ℕ → List ℕ → ℕ → Bool
-is_match x p i = is_char_boundary x i && starts_with nat_eq (drop i x) p
-
--- every place at which p stands in x
-abbrev pub match_places : List ℕ → List ℕ → List ℕ
-match_places x p = filter (is_match x p) (range_with_len 0 (length x + 1))
-
--- the first match of p in x that doesn't begin before `from`, if there is one
-abbrev pub first_match_from : List ℕ → List ℕ → ℕ → Option ℕ
-first_match_from x p from = slice_get (filter (nat_le from) (match_places x p)) 0
 
 -- of matches of n bytes, in order, those that don't begin before the end of the one taken before, which is `end`
 abbrev pub apart : ℕ → ℕ → List ℕ → List ℕ

@@ -8,6 +8,7 @@ mod kept;
 mod range;
 mod sequences;
 mod sides;
+mod white_space;
 
 use ansi_items::ESC;
 use ansi_items::ansitok::{Kind, Scanner};

@@ -1,6 +1,6 @@
 -- The parts of a text are the intervals between the first matches of a pattern that isn't empty.
 use Rattle.ansi_split.proofs.Common.{◌≡◌, ◌≢◌, ℕ, zero, suc, ◌+◌, ◌<◌, ◌≤◌, inl, inr, Bool, List, [], ◌∷◌, ◌++◌, drop, length, map, filter, zip, refl, sym, ◌∙◌, ap, subst, arith, true≢false, if◌then◌else◌, cond_both, cases_lt, le-leb, lt-leb, IsCharBoundary-start, IsCharBoundary-end, range_with_len, IsUtf8, IsCharBoundary, LacksTextAt, HasTextAt, is_match, apart, parts, AreBetween, AreInTurn, boundary_at}
-use Rattle.ansi_slice.proofs.FindLemmas.{match_stands, no_match_lacks}
+use Rattle.ansi_search.proofs.FindLemmas.{match_stands, no_match_lacks}
 
 pub filled : (p : List ℕ) → p ≢ [] → 0 < length p
 filled [] some = absurd (some refl)

@@ -40,17 +40,18 @@ pub use Rattle.ansi_style.proofs.DressedLemmas.{dressed_pieces, GiveAlone, IsClo
 pub use Rattle.ansi_style.proofs.StyleLemmas.{IsStyle-plain_style, IsStyle-style_at, IsStyle-rendition_of}
 pub use Rattle.ansi_style.proofs.StyledLemmas.{styled_through, style_through, styled_through-append, style_through-append, styled-pieces, bytes_of-styled}
 pub use Rattle.ansi_style.proofs.UnsetLemmas.{known-unset, start-unset, close_if_any-unset}
-pub use Rattle.ansi_slice.specs.Positions.{is_good_position, is_char_boundary, is_continuation_byte}
+pub use Rattle.ansi_search.specs.Positions.{is_good_position, is_char_boundary, is_continuation_byte}
 pub use Rattle.ansi_slice.specs.Cut.{show}
-pub use Rattle.ansi_slice.specs.Parts.{past, is_match, apart, parts, match_places, end_before, first_match_from, part, share, carried, all_parts, is_part_borrowed}
+pub use Rattle.ansi_slice.specs.Parts.{past, apart, parts, end_before, part, share, carried, all_parts, is_part_borrowed}
+pub use Rattle.ansi_search.specs.Matches.{is_match, match_places, first_match_from}
 unfoldable pub use Rattle.ansi_slice.specs.Parts.{part_over, share_over, is_borrowed_over}
-pub use Rattle.ansi_slice.specs.Offsets.{bytes_before, offset_of}
-pub use Rattle.ansi_slice.proofs.SliceLemmas.{list_all-parts, take-append, slice_range-none, slice_range-from_past, slice_range-append, slice_range-map, slice_range-past}
+pub use Rattle.ansi_search.specs.Offsets.{bytes_before, offset_of}
+pub use Rattle.ansi_search.proofs.SliceLemmas.{list_all-parts, take-append, slice_range-none, slice_range-from_past, slice_range-append, slice_range-map, slice_range-past}
 pub use Rattle.ansi_slice.proofs.ShowLemmas.{show-bare, show-text, show-mark, show-nil}
-pub use Rattle.ansi_slice.proofs.PositionLemmas.{is_good_position-append, good_is_boundary, char_boundary_is, is_good_position-past, is_char_boundary-from, is_good_position-after}
+pub use Rattle.ansi_search.proofs.PositionLemmas.{is_good_position-append, good_is_boundary, char_boundary_is, is_good_position-past, is_char_boundary-from, is_good_position-after}
 pub use Rattle.ansi_slice.proofs.CutLemmas.{up_to-past}
-pub use Rattle.ansi_slice.proofs.OffsetLemmas.{bytes_before-last, bytes_before-text, after_of, after_of-last, after_of-text, take-after, pieces_of-after, plain-after, IsOverText, IsOverMark, over_text, over_mark}
-pub use Rattle.ansi_slice.proofs.MatchLemmas.{boundary_at, IsMatch, is_match-drop, is_match-after, first_match_from-first, first_match_from-is, empty_at_end, none_at_end, match_fits, first_in_front, is_match-front, starts_with-splits}
+pub use Rattle.ansi_search.proofs.OffsetLemmas.{bytes_before-last, bytes_before-text, after_of, after_of-last, after_of-text, take-after, pieces_of-after, plain-after, IsOverText, IsOverMark, over_text, over_mark}
+pub use Rattle.ansi_search.proofs.MatchLemmas.{boundary_at, IsMatch, is_match-drop, is_match-after, first_match_from-first, first_match_from-is, empty_at_end, none_at_end, match_fits, first_in_front, is_match-front, starts_with-splits}
 pub use Rattle.ansi_slice.proofs.ShownLemmas.{shown_pieces, piece_when, at_places, at_places-further, spelled-shown_pieces, shown_pieces_stand, style_through-shown_pieces, styled_through-shown_pieces}
 pub use Rattle.ansi_split.specs.Spans.{further_on, IsCutAfter, IsCutAtMatch, carried_from, parts_from, span_part, IsSpan}
 unfoldable pub use Rattle.ansi_split.specs.Spans.{part_from, parts_left, span_text}

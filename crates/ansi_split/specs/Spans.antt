@@ -7,8 +7,9 @@ use Rattle.ansi_items.specs.Plain.{Mark, plain, marks, up_to, has_escape}
 use Rattle.ansi_style.specs.Written.{start, close_if_any}
 use Rattle.ansi_style.specs.Reading.{style_after_from, style_within}
 use Rattle.ansi_slice.specs.Cut.{show}
-use Rattle.ansi_slice.specs.Positions.{is_char_boundary}
-use Rattle.ansi_slice.specs.Parts.{match_places, first_match_from, apart, past}
+use Rattle.ansi_search.specs.Positions.{is_char_boundary}
+use Rattle.ansi_search.specs.Matches.{match_places, first_match_from}
+use Rattle.ansi_slice.specs.Parts.{apart, past}
 use Rattle.ansi_split.specs.Splits.{SplitPart}
 
 -- marks with n plain bytes more before each

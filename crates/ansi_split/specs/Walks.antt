@@ -2,7 +2,7 @@
 use Rattle.std.specs.Prelude.{ℕ, ◌≤◌, List, [], take, IsTrue, IsFalse, IsUtf8, if◌then◌else◌}
 use Rattle.std.specs.Str.{IsCharBoundary}
 use Rattle.ansi_items.specs.Plain.{plain, has_escape}
-use Rattle.ansi_slice.specs.Positions.{is_char_boundary}
+use Rattle.ansi_search.specs.Positions.{is_char_boundary}
 use Rattle.ansi_style.specs.States.{rendition_of_numbers}
 use Rattle.ansi_split.specs.Splits.{SplitPart}
 use Rattle.ansi_split.specs.Spans.{parts_left}

@@ -18,7 +18,7 @@ pub use Rattle.ansi_style.specs.Written.{start, close_if_any, close}
 pub use Rattle.ansi_style.specs.Styled.{styled, bytes_of, style_at, StyledByte, residue}
 pub use Rattle.ansi_style.specs.Rendition.{plain_style, known}
 pub use Rattle.ansi_style.proofs.StyledLemmas.{bytes_of-styled}
-pub use Rattle.ansi_slice.specs.Positions.{is_good_position, is_good_range}
+pub use Rattle.ansi_search.specs.Positions.{is_good_position, is_good_range}
 pub use Rattle.ansi_slice.specs.Cut.{show}
 unfoldable pub use Rattle.ansi_slice.specs.Cut.{cut}
 unfoldable pub use Rattle.ansi_slice.specs.Sides.{left_side, right_side}
@@ -26,7 +26,7 @@ pub use Rattle.ansi_slice.specs.Kept.{without_prefix, without_suffix, trim_inter
 unfoldable pub use Rattle.ansi_slice.specs.Kept.{kept}
 pub use Rattle.ansi_slice.specs.Parts.{parts, past, carried, end_before, part, all_parts, is_part_borrowed}
 unfoldable pub use Rattle.ansi_slice.specs.Parts.{part_over, is_borrowed_over}
-pub use Rattle.ansi_slice.proofs.SliceLemmas.{slice_range-none, slice_range-past, slice_range-min, slice_range-map}
+pub use Rattle.ansi_search.proofs.SliceLemmas.{slice_range-none, slice_range-past, slice_range-min, slice_range-map}
 pub use Rattle.ansi_slice.proofs.TrimLemmas.{slice_range-trim_interval, trim_interval_boundaries}
 pub use Rattle.ansi_slice.proofs.KeptWalkLemmas.{kept-bare, kept-all}
 pub use Rattle.ansi_slice.proofs.KeptLemmas.{plain-kept, styled-kept, is_whole-kept, residue-kept, is_kept}

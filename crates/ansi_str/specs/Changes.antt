@@ -2,7 +2,7 @@
 use Rattle.std.specs.Prelude.{ℕ, ◌-◌, List, length, nat_eq, Option, Some, None, option_map, unwrap_or, slice_get, slice_range, if◌then◌else◌}
 use Rattle.std.specs.List.{starts_with, ends_with}
 use Rattle.ansi_style.specs.Styled.{StyledByte, bytes_of}
-use Rattle.ansi_slice.specs.Positions.{is_good_position, is_good_range}
+use Rattle.ansi_search.specs.Positions.{is_good_position, is_good_range}
 use Rattle.ansi_slice.specs.Kept.{trim_interval}
 use Rattle.ansi_slice.specs.Parts.{parts}
 

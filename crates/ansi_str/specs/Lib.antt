@@ -14,13 +14,14 @@ pub use Rattle.ansi_style.specs.Reading
 pub use Rattle.ansi_style.specs.States
 pub use Rattle.ansi_style.specs.Orders
 pub use Rattle.ansi_style.specs.Fields
-pub use Rattle.ansi_slice.specs.Positions
+pub use Rattle.ansi_search.specs.Positions
+pub use Rattle.ansi_search.specs.Matches
+pub use Rattle.ansi_search.specs.Searches
 pub use Rattle.ansi_slice.specs.Ranges
 pub use Rattle.ansi_slice.specs.Cut
 pub use Rattle.ansi_slice.specs.Sides
 pub use Rattle.ansi_slice.specs.Kept
 pub use Rattle.ansi_slice.specs.Parts
-pub use Rattle.ansi_slice.specs.Searches
 pub use Rattle.ansi_blocks.specs.Blocks
 pub use Rattle.ansi_blocks.specs.Same
 pub use Rattle.ansi_split.specs.StdSplit

@@ -16,7 +16,7 @@ ghost use Rattle.ansi_style.specs.Sgr.{apply};
 ghost use Rattle.ansi_style.specs.Styled.{style_at, style_after, styled, bytes_of, residue};
 ghost use Rattle.ansi_style.specs.Reading.{style_after_from, styled_from};
 ghost use Rattle.ansi_style.specs.Written.{start, close, close_if_any, longest_start, longest_close, longest_start_and_close};
-ghost use Rattle.ansi_slice.specs.Positions.{is_good_position, is_char_boundary, is_good_range, is_position_in, is_range_in};
+ghost use Rattle.ansi_search.specs.Positions.{is_good_position, is_char_boundary, is_good_range, is_position_in, is_range_in};
 ghost use Rattle.ansi_slice.specs.Cut.{cut};
 ghost use Rattle.ansi_slice.specs.Sides.{left_side, right_side};
 ghost use Rattle.ansi_slice.specs.Kept.{kept, IsKept, without_prefix, without_suffix, trim_interval, trimmed};

@@ -7,7 +7,7 @@ ghost use Rattle.std.specs.Str.{IsCharBoundary};
 ghost use Rattle.std.specs.Str.Pattern.{FindsText, MatchBeginsAt};
 ghost use Rattle.ansi_items.specs.Pieces.{pieces_of};
 ghost use Rattle.ansi_items.specs.Plain.{plain, is_text, has_escape};
-ghost use Rattle.ansi_slice.specs.Positions.{is_char_boundary, is_good_range, is_position_in, is_range_in};
+ghost use Rattle.ansi_search.specs.Positions.{is_char_boundary, is_good_range, is_position_in, is_range_in};
 ghost use Rattle.ansi_slice.specs.Cut.{cut};
 ghost use Rattle.ansi_slice.specs.Sides.{left_side, right_side};
 ghost use Rattle.ansi_slice.specs.Kept.{without_prefix, without_suffix, trimmed};
@@ -16,7 +16,7 @@ ghost use Rattle.ansi_style.specs.Written.{longest_close, longest_start_and_clos
 ghost use Rattle.ansi_split.specs.Splits.{split_parts};
 
 use crate::split::{AnsiSplit, split_in};
-use ansi_slice::search;
+use ansi_search::search;
 pub use ansi_slice::slice::{
     AnsiRange, cut_in, get_in, has_any, split_at_in, strip_in, strip_prefix_in, strip_suffix_in,
     trim_in,

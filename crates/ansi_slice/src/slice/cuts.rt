@@ -2,13 +2,13 @@
 ghost use Rattle.std.specs.Prelude.{◌≡◌, ◌↔◌, ◌⊎◌, ◌≤◌, ◌+◌, length, Some, MatchOption, slice_range, IsTrue, IsFalse, IsNone, IsOk, IfOk, IfSome, string_bytes};
 ghost use Rattle.std.specs.Cow.{cow_str_bytes, IsBorrowedStr};
 ghost use Rattle.ansi_items.specs.Plain.{plain, has_escape};
-ghost use Rattle.ansi_slice.specs.Positions.{is_good_range, is_range_in};
+ghost use Rattle.ansi_search.specs.Positions.{is_good_range, is_range_in};
 ghost use Rattle.ansi_slice.specs.Cut.{cut, cut_up_to};
 ghost use Rattle.ansi_style.specs.Written.{longest_close};
 
-use crate::search::offsets::walk_to;
 use crate::slice::has_any;
 use crate::slice::sequences::push_sequences;
+use ansi_search::search::walk_to;
 use ansi_style::styles;
 use std::alloc::{AllocError, Allocator};
 use std::borrow::CowStr;

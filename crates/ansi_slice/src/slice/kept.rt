@@ -6,10 +6,10 @@ ghost use Rattle.std.specs.Str.{IsCharBoundary};
 ghost use Rattle.ansi_items.specs.Plain.{plain, has_escape};
 ghost use Rattle.ansi_slice.specs.Kept.{kept, without_prefix, without_suffix, trimmed};
 
-use crate::search;
-use crate::search::ends::{solid_end, suffix_offset, white_space_len};
 use crate::slice::has_any;
 use crate::slice::sequences::push_sequences;
+use crate::slice::white_space::{solid_end, white_space_len};
+use ansi_search::search;
 use std::alloc::{AllocError, Allocator};
 use std::borrow::CowStr;
 
@@ -84,7 +84,7 @@ pub fn strip_suffix_in<'t, A: Allocator>(
         }
         return Ok(Some(CowStr::Borrowed(&text[..text.len() - suffix.len()])));
     }
-    let Some(end) = suffix_offset(text, suffix) else {
+    let Some(end) = search::suffix_offset(text, suffix) else {
         return Ok(None);
     };
     let mut kept = String::with_capacity(alloc, text.len())?;

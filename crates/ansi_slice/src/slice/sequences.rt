@@ -2,8 +2,9 @@
 ghost use Rattle.std.specs.Prelude.{◌≡◌, ◌++◌, IsTrue, IfOk, OnOk, string_bytes};
 ghost use Rattle.ansi_items.specs.Pieces.{pieces_of};
 ghost use Rattle.ansi_items.specs.Plain.{plain};
-ghost use Rattle.ansi_slice.specs.Positions.{is_good_position};
-ghost use Rattle.ansi_slice.specs.Offsets.{sequences_up_to, StandsIn};
+ghost use Rattle.ansi_search.specs.Positions.{is_good_position};
+ghost use Rattle.ansi_slice.specs.Stretches.{sequences_up_to};
+ghost use Rattle.ansi_search.specs.Offsets.{StandsIn};
 
 use ansi_items::ansitok::{Kind, Scanner};
 use std::alloc::{AllocError, Allocator};

@@ -3,13 +3,13 @@ ghost use Rattle.std.specs.Prelude.{◌≡◌, ℕ, List, ◌++◌, ◌<◌, ◌
 ghost use Rattle.std.specs.Option.{MatchOption};
 ghost use Rattle.std.specs.Str.{IsCharBoundary};
 ghost use Rattle.ansi_items.specs.Plain.{plain, has_escape};
-ghost use Rattle.ansi_slice.specs.Parts.{is_match, first_match_from};
+ghost use Rattle.ansi_search.specs.Matches.{is_match, first_match_from};
 ghost use Rattle.ansi_style.specs.Reading.{style_after_from};
 ghost use Rattle.ansi_style.specs.States.{rendition_of};
 ghost use Rattle.ansi_split.specs.Spans.{IsCutAtMatch};
 
 use ansi_items::ansitok::{Kind, Scanner};
-use ansi_slice::search;
+use ansi_search::search;
 use ansi_style::state::Style;
 use ansi_style::styles;
 use memchr::memchr;

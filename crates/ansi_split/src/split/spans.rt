@@ -3,7 +3,7 @@ ghost use Rattle.std.specs.Prelude.{◌≡◌, ◌≤◌, ◌+◌, ◌++◌, [],
 ghost use Rattle.std.specs.Option.{MatchOption};
 ghost use Rattle.ansi_items.specs.Plain.{plain, marks, has_escape};
 ghost use Rattle.ansi_slice.specs.Cut.{show};
-ghost use Rattle.ansi_slice.specs.Positions.{is_char_boundary};
+ghost use Rattle.ansi_search.specs.Positions.{is_char_boundary};
 ghost use Rattle.ansi_style.specs.Rendition.{plain_style};
 ghost use Rattle.ansi_style.specs.Written.{longest_start_and_close};
 ghost use Rattle.ansi_split.specs.Splits.{IsPart};
@@ -151,7 +151,7 @@ pub(crate) struct Spans<'t, 'p> {
 impl<'t, 'p> Model for Spans<'t, 'p> {
     ghost use Rattle.std.specs.Prelude.{◌≤◌, List, [], if◌then◌else◌, IsTrue};
     ghost use Rattle.ansi_items.specs.Plain.{plain};
-    ghost use Rattle.ansi_slice.specs.Positions.{is_char_boundary};
+    ghost use Rattle.ansi_search.specs.Positions.{is_char_boundary};
     ghost use Rattle.ansi_style.specs.States.{rendition_of};
     ghost use Rattle.ansi_split.specs.Splits.{SplitPart};
     ghost use Rattle.ansi_split.specs.Spans.{parts_left};

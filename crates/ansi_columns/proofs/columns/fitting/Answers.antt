@@ -1,6 +1,6 @@
 use Rattle.ansi_items.specs.Plain.{plain}
 use Rattle.ansi_items.proofs.Utf8Lemmas.{IsUtf8-plain}
-use Rattle.ansi_slice.proofs.PositionLemmas.{good_before, boundary_is_good}
+use Rattle.ansi_search.proofs.PositionLemmas.{good_before, boundary_is_good}
 use Rattle.ansi_columns.proofs.WalkLemmas.{walk_boundary}
 use Rattle.ansi_columns.proofs.columns.fitting.Goals as goal
 

@@ -1,6 +1,6 @@
 use Rattle.std.proofs.Common.{length, subst, ap, arith}
 use Rattle.ansi_items.specs.Scans.{Scan, Gives, piece_of, pieces_left}
-use Rattle.ansi_slice.proofs.SliceLemmas.{length-slice_range}
+use Rattle.ansi_search.proofs.SliceLemmas.{length-slice_range}
 use Rattle.ansi_columns.proofs.from_end.first_len.Goals as goal
 
 pub returns-in-Some-clause-first : goal.returns-in-Some-clause-first

@@ -1,7 +1,7 @@
 use Rattle.std.proofs.Common.{◌≡◌, ◌+◌, ◌-◌, ◌++◌, length, slice_range, encode_utf8, sym, ◌∙◌, ap, subst, arith, length-append}
 use Rattle.std.specs.Str.{IsCharBoundary}
 use Rattle.unicode_segmentation.proofs.TextLemmas.{IsCharAt-first}
-use Rattle.ansi_slice.proofs.SliceLemmas.{length-slice_range}
+use Rattle.ansi_search.proofs.SliceLemmas.{length-slice_range}
 use Rattle.ansi_columns.proofs.from_end.split_first_char.Goals as goal
 
 pub range_from-requires : goal.range_from-requires

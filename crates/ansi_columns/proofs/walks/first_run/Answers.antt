@@ -5,8 +5,8 @@ use Rattle.ansi_items.proofs.PieceLemmas.{pieces_are}
 use Rattle.ansi_items.proofs.StepLemmas.{is_text}
 use Rattle.ansi_style.specs.Rendition.{plain_style}
 use Rattle.ansi_style.specs.Sgr.{apply}
-use Rattle.ansi_slice.proofs.SliceLemmas.{length-slice_range}
-use Rattle.ansi_slice.proofs.OffsetLemmas.{over_text, over_mark, is_other, way-begin, way-mark, way-last, way-end}
+use Rattle.ansi_search.proofs.SliceLemmas.{length-slice_range}
+use Rattle.ansi_search.proofs.OffsetLemmas.{over_text, over_mark, is_other, way-begin, way-mark, way-last, way-end}
 use Rattle.ansi_columns.proofs.WalkLemmas.{no_run}
 use Rattle.ansi_columns.proofs.walks.first_run.Goals as goal
 

@@ -2,7 +2,7 @@ use Rattle.std.proofs.Common.{◌≡◌}
 use Rattle.ansi_items.specs.Scans.{pieces_left}
 use Rattle.ansi_style.specs.declared.state.rendition.Rendition.{Rendition}
 use Rattle.ansi_style.specs.Rendition.{plain_style}
-use Rattle.ansi_slice.proofs.OffsetLemmas.{IsOnTheWay}
+use Rattle.ansi_search.proofs.OffsetLemmas.{IsOnTheWay}
 use Rattle.ansi_columns.proofs.walks.first_run.Given as goal
 
 -- what has been passed are marks, which stand before the first plain byte

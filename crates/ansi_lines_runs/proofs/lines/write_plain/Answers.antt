@@ -4,7 +4,7 @@ use Rattle.ansi_str.specs.Pieces.{Text}
 use Rattle.ansi_str.specs.Plain.{plain_of}
 use Rattle.ansi_str.specs.Scans.{pieces_left}
 use Rattle.ansi_items.proofs.StepLemmas.{is_text, gives_text, gives_mark, plain_of-mark}
-use Rattle.ansi_slice.proofs.OffsetLemmas.{item_range, is_other}
+use Rattle.ansi_search.proofs.OffsetLemmas.{item_range, is_other}
 use Rattle.ansi_lines_io.proofs.Known.{append_known-append}
 use Rattle.ansi_lines_runs.proofs.Written.{unfailed}
 use Rattle.ansi_lines_runs.proofs.lines.write_plain.Goals as goal

@@ -1,5 +1,5 @@
 use Rattle.ansi_slice.proofs.Common.{◌≡◌, ◌∷◌, ◌++◌, refl, sym, ◌∙◌, ap, append_assoc, string_bytes, Text, plain_of, pieces_left, is_text, gives_text, gives_mark, plain_of-mark}
-use Rattle.ansi_slice.proofs.OffsetLemmas.{item_range, is_other}
+use Rattle.ansi_search.proofs.OffsetLemmas.{item_range, is_other}
 use Rattle.ansi_slice.proofs.slice.push_plain.Goals as goal
 
 pub range-requires : goal.range-requires

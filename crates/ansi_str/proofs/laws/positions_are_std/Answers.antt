@@ -1,4 +1,4 @@
-use Rattle.ansi_slice.proofs.PositionLemmas.{char_boundary_is, good_position_is, good_range_is, is_position_in-good, is_range_in-good}
+use Rattle.ansi_search.proofs.PositionLemmas.{char_boundary_is, good_position_is, good_range_is, is_position_in-good, is_range_in-good}
 use Rattle.ansi_str.proofs.laws.positions_are_std.Goals as goal
 
 pub returns-clause-boundary : goal.returns-clause-boundary

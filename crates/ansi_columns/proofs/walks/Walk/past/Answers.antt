@@ -1,6 +1,6 @@
 use Rattle.std.proofs.Common.{◌≡◌, ◌+◌, ◌^◌, ◌<◌, ◌∷◌, length, drop, encode_utf8, sym, ◌∙◌, ap, subst, arith, rules}
 use Rattle.ansi_items.proofs.PlainLemmas.{length-plain}
-use Rattle.ansi_slice.specs.Offsets.{offset_of}
+use Rattle.ansi_search.specs.Offsets.{offset_of}
 use Rattle.ansi_columns.specs.Walks.{before, after, IsRun}
 use Rattle.ansi_columns.proofs.WalkLemmas.{position_within, after-past, before-past, walk-on, walk-over}
 use Rattle.ansi_columns.proofs.walks.Walk.past.Goals.{then-offset-run_end, else-offset-run_end}

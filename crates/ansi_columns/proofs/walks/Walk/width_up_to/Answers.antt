@@ -1,7 +1,7 @@
 use Rattle.std.proofs.Common.{length, ◌∙◌, ap, arith}
 use Rattle.std.specs.Str.{chars}
 use Rattle.ansi_items.specs.Plain.{plain}
-use Rattle.ansi_slice.proofs.SliceLemmas.{length-slice_range}
+use Rattle.ansi_search.proofs.SliceLemmas.{length-slice_range}
 use Rattle.ansi_columns.specs.Columns.{cluster_width}
 use Rattle.ansi_columns.proofs.WalkLemmas.{offsets_ordered, plain-between, run-between, boundary-between}
 use Rattle.ansi_columns.proofs.walks.Walk.width_up_to.Goals as goal

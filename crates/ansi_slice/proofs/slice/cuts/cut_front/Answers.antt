@@ -1,6 +1,6 @@
 use Rattle.ansi_slice.proofs.Common.{◌≡◌, ◌++◌, ◌-◌, ◌∙◌, ap, arith, take, plain, IsUtf8-plain, style_within, close, rendition_of}
-use Rattle.ansi_slice.proofs.OffsetLemmas.{cut-front}
-use Rattle.ansi_slice.proofs.PositionLemmas.{is_good_range-front}
+use Rattle.ansi_slice.proofs.StretchLemmas.{cut-front}
+use Rattle.ansi_search.proofs.PositionLemmas.{is_good_range-front}
 use Rattle.ansi_slice.proofs.slice.cuts.cut_front.Goals as goal
 
 -- memory is asked for where the range is good

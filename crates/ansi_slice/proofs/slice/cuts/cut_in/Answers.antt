@@ -1,5 +1,5 @@
 use Rattle.std.proofs.Common.{Bool, Option, Some, None, ◌↔◌, refl, sym, ◌∙◌, IsTrue, IsFalse, IsSome, IsNone}
-use Rattle.ansi_slice.proofs.PositionLemmas.{is_range_in-good}
+use Rattle.ansi_search.proofs.PositionLemmas.{is_range_in-good}
 use Rattle.ansi_slice.proofs.slice.cuts.cut_in.Goals as goal
 
 some_if_good : {T : Type 0} (o : Option T) (good : Bool) → IsNone o ↔ IsFalse good → IsTrue good → IsSome o

@@ -1,5 +1,5 @@
 use Rattle.ansi_slice.proofs.Common.{◌≡◌, ◌++◌, ◌-◌, ◌∙◌, ap, arith, take, pieces_of, style_within, close, rendition_of, sequences_up_to}
-use Rattle.ansi_slice.proofs.OffsetLemmas.{cut-stretch, range-by_offset}
+use Rattle.ansi_slice.proofs.StretchLemmas.{cut-stretch, range-by_offset}
 use Rattle.ansi_slice.proofs.slice.cuts.cut_range.Goals as goal
 
 -- the end isn't good in what follows the start

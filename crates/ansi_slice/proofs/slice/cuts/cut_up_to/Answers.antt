@@ -1,5 +1,5 @@
 use Rattle.ansi_items.specs.Plain.{plain}
-use Rattle.ansi_slice.proofs.PositionLemmas.{is_good_range-disordered}
+use Rattle.ansi_search.proofs.PositionLemmas.{is_good_range-disordered}
 use Rattle.ansi_slice.proofs.slice.cuts.cut_up_to.Goals as goal
 
 -- no range ends before its start

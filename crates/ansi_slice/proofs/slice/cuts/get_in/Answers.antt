@@ -1,5 +1,5 @@
 use Rattle.ansi_slice.proofs.Common.{sym, ◌∙◌, ap, arith, length, plain, is_good_range, cut_up_to, plain-bare, length-plain}
-use Rattle.ansi_slice.proofs.PositionLemmas.{is_good_range-top, none_if_bad, some_if_good}
+use Rattle.ansi_search.proofs.PositionLemmas.{is_good_range-top, none_if_bad, some_if_good}
 use Rattle.ansi_slice.proofs.CutLemmas.{cut_up_to-unwrap_or, cut_up_to-bare}
 use Rattle.ansi_slice.proofs.LengthLemmas.{length-cut}
 use Rattle.ansi_slice.proofs.slice.cuts.get_in.Goals as goal

@@ -1,6 +1,6 @@
 use Rattle.ansi_slice.proofs.Common.{arith, ap₂, sym, ◌∙◌, slice_range}
-use Rattle.ansi_slice.proofs.PositionLemmas.{good_range_tests, is_good_range-disordered, is_good_range-bad_start, is_good_range-bad_end, position_test}
-use Rattle.ansi_slice.proofs.SliceLemmas.{slice_range-min}
+use Rattle.ansi_search.proofs.PositionLemmas.{good_range_tests, is_good_range-disordered, is_good_range-bad_start, is_good_range-bad_end, position_test}
+use Rattle.ansi_search.proofs.SliceLemmas.{slice_range-min}
 use Rattle.ansi_slice.proofs.slice.cuts.range_of.Goals as goal
 use Rattle.ansi_slice.proofs.slice.cuts.range_of.Goals.{then-end-start-via-then-end-start, then-end-start-via-else-end-start+then-not-is_char_boundary, then-end-start-via-else-end-start+else-not-is_char_boundary+then-not-is_char_boundary-2}
 

@@ -1,6 +1,6 @@
 use Rattle.ansi_slice.proofs.Common.{◌++◌, ◌∙◌, sym, ap₂, arith, append_assoc, string_bytes, plain, length-plain, kept}
-use Rattle.ansi_slice.proofs.PositionLemmas.{is_good_position-past}
-use Rattle.ansi_slice.proofs.OffsetLemmas.{kept-none}
+use Rattle.ansi_search.proofs.PositionLemmas.{is_good_position-past}
+use Rattle.ansi_slice.proofs.StretchLemmas.{kept-none}
 use Rattle.ansi_slice.proofs.slice.kept.push_up_to.Goals as goal
 
 -- the largest position lies past the end of each text

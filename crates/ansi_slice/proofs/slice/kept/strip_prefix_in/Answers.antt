@@ -1,7 +1,7 @@
 use Rattle.ansi_slice.proofs.Common.{◌≡◌, ℕ, true, List, sym, ◌∙◌, ap, ap₂, arith, length, IsFalse, nat_eq, eqb-true, starts_with, plain, has_escape, kept, plain-bare, IsUtf8-plain, IsUtf8, IsCharBoundary}
-use Rattle.ansi_slice.proofs.PositionLemmas.{none_if_bad, some_if_good}
-use Rattle.ansi_slice.proofs.EndLemmas.{starts_with-boundary}
-use Rattle.ansi_slice.proofs.SliceLemmas.{slice_range-past}
+use Rattle.ansi_search.proofs.PositionLemmas.{none_if_bad, some_if_good}
+use Rattle.ansi_search.proofs.EndLemmas.{starts_with-boundary}
+use Rattle.ansi_search.proofs.SliceLemmas.{slice_range-past}
 use Rattle.ansi_slice.proofs.KeptWalkLemmas.{kept-all, kept-bare, not_lent, not_refused}
 use Rattle.ansi_slice.proofs.slice.kept.strip_prefix_in.Goals as goal
 

@@ -1,6 +1,7 @@
-use Rattle.ansi_slice.proofs.Common.{◌-◌, sym, ◌∙◌, ap, ap₂, arith, length, IsFalse, nat_eq, eqb-true, ends_with, slice_range, plain, has_escape, kept, plain-bare}
-use Rattle.ansi_slice.proofs.PositionLemmas.{none_if_bad, some_if_good}
-use Rattle.ansi_slice.proofs.EndLemmas.{ends_with-boundary}
+use Rattle.ansi_slice.proofs.Common.{◌++◌, ◌-◌, sym, ◌∙◌, ap, ap₂, arith, length, IsFalse, nat_eq, eqb-true, ends_with, slice_range, plain, has_escape, kept, plain-bare}
+use Rattle.ansi_search.proofs.PositionLemmas.{none_if_bad, some_if_good}
+use Rattle.ansi_search.proofs.EndLemmas.{ends_with-boundary}
+use Rattle.ansi_slice.proofs.StretchLemmas.{keeps-at}
 use Rattle.ansi_slice.proofs.KeptWalkLemmas.{kept-all, kept-bare, not_lent, not_refused}
 use Rattle.ansi_slice.proofs.slice.kept.strip_suffix_in.Goals as goal
 
@@ -47,3 +48,7 @@ returns-in_err-kept-clause-takes_no_memory g c = λ why. absurd (not_refused c.a
 
 pub returns-in_err-push_up_to-clause-takes_no_memory : goal.returns-in_err-push_up_to-clause-takes_no_memory
 returns-in_err-push_up_to-clause-takes_no_memory g c = λ why. absurd (not_refused c.args.text.now c.args.suffix.now c.has_any.ensures c.if-not-has_any.false c.is_empty.ensures c.if-is_empty.false c.in-Some.ensures.0 why)
+
+-- where the suffix begins, all before it is kept, and the sequences after it
+pub returns-clause-bytes : goal.returns-clause-bytes
+returns-clause-bytes g c = c.in_ok-push_up_to.ensures ∙ ap₂ (λ u v. u ++ v) c.in_ok-kept.ensures.bytes (sym (keeps-at c.in-Some.ensures.1).bytes)

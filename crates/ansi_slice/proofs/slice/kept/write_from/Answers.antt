@@ -1,6 +1,6 @@
 use Rattle.ansi_slice.proofs.Common.{◌++◌, ◌∙◌, ap, pieces_of, sequences_up_to}
-use Rattle.ansi_slice.proofs.PositionLemmas.{boundary_is_good}
-use Rattle.ansi_slice.proofs.OffsetLemmas.{kept-rest}
+use Rattle.ansi_search.proofs.PositionLemmas.{boundary_is_good}
+use Rattle.ansi_slice.proofs.StretchLemmas.{kept-rest}
 use Rattle.ansi_slice.proofs.slice.kept.write_from.Goals as goal
 
 -- a character begins there, or it is the end

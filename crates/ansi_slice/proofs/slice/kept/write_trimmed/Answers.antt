@@ -1,5 +1,5 @@
 use Rattle.ansi_slice.proofs.Common.{◌++◌, take, drop, sym, ◌∙◌, ap, IsTrue, subst, pieces_of, plain, IsUtf8-plain, is_good_position, kept, trim_interval, sequences_up_to}
-use Rattle.ansi_slice.proofs.PositionLemmas.{boundary_is_good}
+use Rattle.ansi_search.proofs.PositionLemmas.{boundary_is_good}
 use Rattle.ansi_slice.proofs.TrimLemmas.{trim_interval_boundaries}
 use Rattle.ansi_slice.proofs.TrimWalkLemmas.{trimmed-stretch}
 use Rattle.ansi_slice.proofs.slice.kept.write_trimmed.Goals as goal

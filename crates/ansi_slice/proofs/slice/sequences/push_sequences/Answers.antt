@@ -1,5 +1,6 @@
 use Rattle.ansi_slice.proofs.Common.{◌≡◌, ◌+◌, length, refl, sym, ◌∙◌, ap, string_bytes, IsCharBoundary-end, is_text, plain_style, apply}
-use Rattle.ansi_slice.proofs.OffsetLemmas.{item_range, over_text, over_mark, is_other, pushed-begin, pushed-text, pushed-mark, way-begin, way-text, way-mark, way-last, way-end, way-boundary}
+use Rattle.ansi_search.proofs.OffsetLemmas.{item_range, over_text, over_mark, is_other, way-begin, way-text, way-mark, way-last, way-end, way-boundary}
+use Rattle.ansi_slice.proofs.StretchLemmas.{pushed-begin, pushed-text, pushed-mark}
 use Rattle.ansi_slice.proofs.slice.sequences.push_sequences.Goals as goal
 
 pub range-piece-requires : goal.range-piece-requires

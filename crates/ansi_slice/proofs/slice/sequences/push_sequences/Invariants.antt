@@ -1,5 +1,6 @@
 use Rattle.ansi_slice.proofs.Common.{◌≡◌, ◌++◌, string_bytes, Rendition, plain_style, pieces_of, pieces_left, sequences_up_to}
-use Rattle.ansi_slice.proofs.OffsetLemmas.{IsPushedSoFar, IsOnTheWay}
+use Rattle.ansi_slice.proofs.StretchLemmas.{IsPushedSoFar}
+use Rattle.ansi_search.proofs.OffsetLemmas.{IsOnTheWay}
 use Rattle.ansi_slice.proofs.slice.sequences.push_sequences.Given as goal
 
 -- what has been appended, and the sequences up to the position in what is left, are all; and where the position stands

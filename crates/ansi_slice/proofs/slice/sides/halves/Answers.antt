@@ -1,5 +1,5 @@
 use Rattle.ansi_slice.proofs.Common.{take, drop, sym, ◌∙◌, ap, subst, IsTrue, take_min, drop_min, IsCharBoundary, plain-bare, is_good_position}
-use Rattle.ansi_slice.proofs.PositionLemmas.{boundary_inside}
+use Rattle.ansi_search.proofs.PositionLemmas.{boundary_inside}
 use Rattle.ansi_slice.proofs.SideLemmas.{left_side-bare, right_side-bare}
 use Rattle.ansi_slice.proofs.slice.sides.halves.Goals as goal
 

@@ -1,5 +1,5 @@
 use Rattle.ansi_slice.proofs.Common.{◌++◌, sym, ◌∙◌, ap, ap₂, arith, length, pieces_of, side_up_to}
-use Rattle.ansi_slice.proofs.PositionLemmas.{none_if_bad, some_if_good}
+use Rattle.ansi_search.proofs.PositionLemmas.{none_if_bad, some_if_good}
 use Rattle.ansi_slice.proofs.SideWalkLemmas.{left_side-is}
 use Rattle.ansi_slice.proofs.LengthLemmas.{length-sides}
 use Rattle.ansi_slice.proofs.slice.sides.left_in.Goals as goal

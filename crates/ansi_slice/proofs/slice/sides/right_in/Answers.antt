@@ -1,5 +1,5 @@
 use Rattle.ansi_slice.proofs.Common.{◌∙◌, ap, arith, length, style_within}
-use Rattle.ansi_slice.proofs.PositionLemmas.{none_if_bad, some_if_good}
+use Rattle.ansi_search.proofs.PositionLemmas.{none_if_bad, some_if_good}
 use Rattle.ansi_slice.proofs.SideWalkLemmas.{right_side-is}
 use Rattle.ansi_slice.proofs.LengthLemmas.{length-sides}
 use Rattle.ansi_slice.proofs.slice.sides.right_in.Goals as goal

@@ -1,6 +1,6 @@
 use Rattle.std.proofs.Common.{refl, sym, ◌∙◌, ap, arith, length}
 use Rattle.ansi_slice.proofs.LengthLemmas.{length-sides}
-use Rattle.ansi_slice.proofs.PositionLemmas.{is_position_in-good}
+use Rattle.ansi_search.proofs.PositionLemmas.{is_position_in-good}
 use Rattle.ansi_slice.proofs.slice.sides.split_at_in.Goals as goal
 
 -- where the text may be divided its plain text may be

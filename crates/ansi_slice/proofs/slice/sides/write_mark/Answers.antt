@@ -1,5 +1,5 @@
 use Rattle.ansi_slice.proofs.Common.{rules, ◌≡◌, [], List, ℕ, ◌++◌, sym, ap, append-nil, if◌then◌else◌, is_ok, string_bytes, Result, Ok, Err, OnOk, Sgr, Sequence, rendition_of, copied, apply-no_sgr}
-use Rattle.ansi_slice.proofs.OffsetLemmas.{is_other}
+use Rattle.ansi_search.proofs.OffsetLemmas.{is_other}
 use Rattle.ansi_slice.proofs.slice.sides.write_mark.Goals as goal
 
 -- an SGR is not copied

@@ -1,5 +1,5 @@
 use Rattle.ansi_slice.proofs.Common.{arith, plain, length-plain}
-use Rattle.ansi_slice.proofs.PositionLemmas.{is_good_position-past}
+use Rattle.ansi_search.proofs.PositionLemmas.{is_good_position-past}
 use Rattle.ansi_slice.proofs.slice.sides.write_right.Goals as goal
 
 -- the largest position lies past the end of each text

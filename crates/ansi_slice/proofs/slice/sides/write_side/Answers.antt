@@ -1,5 +1,5 @@
 use Rattle.ansi_slice.proofs.Common.{◌≡◌, ◌+◌, length, refl, sym, ◌∙◌, ap, string_bytes, IsCharBoundary-end, is_text, gives_mark, rendition_of}
-use Rattle.ansi_slice.proofs.OffsetLemmas.{item_range, over_text, over_mark, is_other, way-begin, way-text, way-mark, way-last, way-inside, way-end, way-boundary}
+use Rattle.ansi_search.proofs.OffsetLemmas.{item_range, over_text, over_mark, is_other, way-begin, way-text, way-mark, way-last, way-inside, way-end, way-boundary}
 use Rattle.ansi_slice.proofs.SideWalkLemmas.{side-begin, side-text, side-mark, side-last, side-end}
 use Rattle.ansi_slice.proofs.slice.sides.write_side.Goals as goal
 

@@ -1,5 +1,5 @@
 use Rattle.ansi_slice.proofs.Common.{◌≡◌, ◌++◌, string_bytes, pieces_of, pieces_left, rendition_of, side_up_to}
-use Rattle.ansi_slice.proofs.OffsetLemmas.{IsOnTheWay}
+use Rattle.ansi_search.proofs.OffsetLemmas.{IsOnTheWay}
 use Rattle.ansi_slice.proofs.SideWalkLemmas.{IsSideSoFar}
 use Rattle.ansi_slice.proofs.slice.sides.write_side.Given as goal
 

@@ -1,0 +1,11 @@
+mod Common
+pub mod SliceLemmas
+pub mod PositionLemmas
+pub mod MatchLemmas
+pub mod FindLemmas
+pub mod TwoWayLemmas
+pub mod OffsetLemmas
+pub mod EndLemmas
+pub mod WindowLemmas
+pub mod PrefixLemmas
+mod FindExamples

@@ -1,0 +1,86 @@
+-- A pattern that a plain text goes on with from a place on, met run by run.
+use Rattle.ansi_search.proofs.Common.{◌≡◌, ◌≢◌, ℕ, ◌+◌, ◌-◌, ◌<◌, ◌≤◌, inl, inr, min, ◌&&◌, List, [], ◌∷◌, ◌++◌, length, take, drop, nat_eq, refl, sym, ◌∙◌, ap, subst, arith, append_assoc, IsFalse, slice_index, and_parts, cases_lt, eqb-true, true≢false, take-append-drop, take-append-le, take_all, drop-take, drop_all, get_or-take, get_or-drop, length-drop, length-append, length-take-le, pointwise, starts_with, list_all, slice_range, Nowhere, Passes, is_byte, escape, is_plain_byte, Item, Piece, Text, after_text, pieces_of, ArePieces, plain_of, plain, has_escape, Scan, Gives, pieces_left, after_text_are, pieces_are, pieces_of-unique, all_plain_bytes, gives_text}
+use Rattle.ansi_items.specs.declared.ansitok.Kind.TheVariants.{Text as TextKind}
+use Rattle.ansi_search.proofs.EndLemmas.{starts_with-across}
+use Rattle.ansi_search.proofs.MatchLemmas.{no_escape-found}
+use Rattle.ansi_search.proofs.SliceLemmas.{drop-append}
+
+-- A run at the front of a text.
+
+pieces_of-run : (w rest : List ℕ) → w ≢ [] → IsFalse (has_escape w) → pieces_of (w ++ rest) ≡ after_text w (pieces_of rest)
+pieces_of-run w rest filled none = sym (pieces_of-unique (w ++ rest) (after_text w (pieces_of rest)) (after_text_are w rest (pieces_of rest) filled (all_plain_bytes w none) (pieces_are rest)))
+
+plain_of-after_text : (w : List ℕ) (ps : List Piece) → plain_of (after_text w ps) ≡ w ++ plain_of ps
+plain_of-after_text w (Text v ∷ ps) = append_assoc w v (plain_of ps)
+plain_of-after_text w ps = refl
+
+plain-run : (t w rest : List ℕ) → t ≡ w ++ rest → IsFalse (has_escape w) → plain t ≡ w ++ plain rest
+plain-run t [] rest spelled none = ap plain spelled
+plain-run t (b ∷ w) rest spelled none = ap plain spelled ∙ ap plain_of (pieces_of-run (b ∷ w) rest (λ e. cc) none) ∙ plain_of-after_text (b ∷ w) (pieces_of rest)
+
+pub plain-front : (t w : List ℕ) (run : ℕ) → w ≡ take run t → IsFalse (has_escape (take run t)) → plain t ≡ w ++ plain (drop run t)
+plain-front t w run is none = plain-run t w (drop run t) (sym (ap (λ u. u ++ drop run t) is ∙ take-append-drop run t)) (ap has_escape is ∙ none)
+
+-- no ESC stands in the first bytes
+pub front-bare : (t w : List ℕ) (n most : ℕ) → w ≡ take n t → n ≡ min most (length t) → IsFalse (has_escape w) → take most (plain t) ≡ take most (w ++ plain [])
+front-bare t w n most is size none = elim (cases_lt most (length t)) [
+  | inl short ↦ (
+      let len : most ≤ length w = omega (arith, ap length is, length-take-le n t (omega (arith, size)), size, short) in
+      ap (take most) (plain-front t w n is (ap has_escape (sym is) ∙ none)) ∙ take-append-le most w (plain (drop n t)) len ∙ sym (take-append-le most w (plain []) len)
+      )
+  | inr all ↦ (
+      let nothing : drop n t ≡ [] = drop_all n t (omega (arith, size, all)) in
+      ap (take most) (plain-front t w n is (ap has_escape (sym is) ∙ none) ∙ ap (λ u. w ++ plain u) nothing)
+      )
+]
+
+-- none is found before an offset
+pub bare_before : (t : List ℕ) (n len : ℕ) → len ≤ n → len ≤ length t → Nowhere (Passes (is_byte escape) (take n t)) 0 len → IsFalse (has_escape (take len t))
+bare_before t n len within inside none =
+    let size : length (take len t) ≡ len = length-take-le len t inside in
+    no_escape-found (take len t) (λ k low high passes.
+    let below : k < len = omega (arith, high, size) in
+    none k low below (ap (is_byte escape) (get_or-take n t k 0 (omega (arith, below, within)) ∙ sym (get_or-take len t k 0 below)) ∙ passes))
+
+pub escape_at : (t : List ℕ) (n len : ℕ) → len < n → Passes (is_byte escape) (take n t) len → slice_index (drop len t) 0 ≡ escape
+escape_at t n len inside passes =
+    let same : len + 0 ≡ len = omega arith in
+    get_or-drop len t 0 0 ∙ ap (slice_index t) same ∙ sym (get_or-take n t len 0 inside) ∙ eqb-true _ _ passes
+
+no_text : (u w : List ℕ) (ps : List Piece) → ArePieces u (Text w ∷ ps) → slice_index u 0 ≢ escape
+no_text u [] ps are escapes = are.2.0 refl
+no_text u (b ∷ w) ps are escapes =
+    let first : b ≡ escape = sym (ap (λ v. slice_index v 0) are.1) ∙ escapes in
+    true≢false (sym (and_parts (is_plain_byte b) (list_all is_plain_byte w) are.2.1).0 ∙ ap is_plain_byte first)
+
+-- a scanner at an ESC gives a mark
+pub mark_at_escape : {old new : Scan} {item : Item} {u : List ℕ} → Gives old item new → old ≡ record { text = u; offset = 0 } → slice_index u 0 ≡ escape → item.kind ≢ TextKind
+mark_at_escape {old} {new} {item} {u} gives begins escapes kind =
+    let pieces = gives_text gives (ap (λ s. s.text) begins) refl kind in
+    no_text u (slice_range u item.start item.end) (pieces_left new) (subst (ArePieces u) (sym (ap pieces_left begins) ∙ pieces) (pieces_are u)) escapes
+
+-- Whether the pattern stands there.
+
+-- it depends on the bytes up to the pattern's end alone
+starts_with-front : (x z p : List ℕ) (k n top : ℕ) → n ≡ min (k + length p) top → length x ≤ top → length z ≤ top → take n x ≡ take n z → starts_with nat_eq (drop k x) p ≡ starts_with nat_eq (drop k z) p
+starts_with-front x z p k n top is inside within same = elim (cases_lt top (k + length p)) [
+  | inl long ↦ (
+      let all : x ≡ z = sym (take_all n x (omega (arith, is, long, inside))) ∙ same ∙ take_all n z (omega (arith, is, long, within)) in
+      ap (λ v. starts_with nat_eq (drop k v) p) all
+      )
+  | inr fits ↦ (
+      let sum : n ≡ k + length p = omega (arith, is, fits) in
+      let front : take (length p) (drop k x) ≡ take (length p) (drop k z)
+      = sym (drop-take k (length p) x) ∙ ap (λ m. drop k (take m x)) (sym sum) ∙ ap (drop k) same ∙ ap (λ m. drop k (take m z)) sum ∙ drop-take k (length p) z in
+      ap (pointwise nat_eq p) front
+      )
+]
+
+-- over a run, of which the first bytes aren't counted
+pub starts_with-run : (x w y p front : List ℕ) (k n top : ℕ) → n ≡ min (k + length p) top → length x ≤ top → length w + length y ≤ top → take n x ≡ take n (w ++ y) → length w ≤ n → front ≡ drop k w
+    → starts_with nat_eq (drop k x) p ≡ (starts_with nat_eq p front && starts_with nat_eq (drop (k - length w) y) (drop (length front) p))
+starts_with-run x w y p front k n top is inside within same most front_is =
+    let size : length front ≡ length w - k = ap length front_is ∙ length-drop k w in
+    starts_with-front x (w ++ y) p k n top is inside (omega (arith, length-append w y, within)) same
+    ∙ ap (λ v. starts_with nat_eq v p) (drop-append k w y ∙ ap (λ v. v ++ drop (k - length w) y) (sym front_is))
+    ∙ starts_with-across p front (drop (k - length w) y) (omega (arith, size, most, is))

@@ -1,0 +1,104 @@
+use Rattle.ansi_search.proofs.Common.{◌≡◌, ◌≤◌, [], drop, length, sym, ◌∙◌, ap, ap₂, subst, arith, slice_index, eq-eqb, length-drop, IsCharBoundary, OccursAt, is_byte, plain, plain_of, pieces_left, length-plain, is_text, IsCut, IsReached, Comes, first_match_from}
+use Rattle.ansi_search.proofs.OffsetLemmas.{is_other}
+use Rattle.ansi_search.proofs.WindowLemmas.{none-past, none-without, run-occurs, run-left, run-length, run-stands, mark-left, reached-then, comes-then, reached-match, reached-end}
+use Rattle.ansi_search.proofs.search.matches.find_across.Goals as goal
+
+pub returns-then-text-from : goal.returns-then-text-from
+returns-then-text-from c = none-past (plain c.args.text.now) c.args.pat.now c.args.from (omega (arith, c.if-text-from.true, length-plain c.args.text.now))
+
+-- the rare byte stands nowhere
+pub returns-in_err-next : goal.returns-in_err-next
+returns-in_err-next c =
+    let p = c.new-pattern.result.bytes.now in
+    let is_cut : IsCut p c.new-pattern.result.cut = c.new-pattern.result.is_cut in
+    let within : c.new-pattern.result.rare ≤ c.new-pattern.result.cut.at = c.new-pattern.result.rare_within in
+    rw c.from_residual.ensures
+    (none-without c.args.text.now p c.args.from c.new-pattern.result.rare (omega (arith, within, is_cut.below))
+    (λ j low high passes. c.in_err-next.ensures j low (omega (arith, high, ap length c.as_bytes.ensures.value)) (ap₂ (λ b v. is_byte b (slice_index v j)) c.rare_byte.ensures c.as_bytes.ensures.value ∙ passes))
+    ∙ ap (λ q. first_match_from (plain c.args.text.now) q c.args.from) c.new-pattern.ensures)
+
+pub loop-item-init : goal.loop-item-init
+loop-item-init c =
+    let begins : c.into_iter-item-iterator.result ≡ record { text = c.args.text.now; offset = 0 } = c.into_iter-item-iterator.ensures.into_iter_gives ∙ c.new-item-items.ensures.start in
+    record {
+      text = ap (λ s. s.text) begins;
+      left = ap (λ s. plain_of (pieces_left s)) begins;
+      within = omega arith;
+      comes = c.first_window-window.ensures.comes c.args.text.now c.utf8.text (omega (arith, c.if-text-from.false));
+      read = omega arith;
+      ahead = λ j low high same. c.in_ok-next.ensures.0.before j (omega arith) (omega (arith, high, c.first_window-window.ensures.next))
+          (eq-eqb _ _ (ap (λ v. slice_index v j) c.as_bytes.ensures.value ∙ same ∙ sym c.rare_byte.ensures));
+    }
+
+pub read-requires-clause-run : goal.read-requires-clause-run
+read-requires-clause-run c =
+    let so_far = c.loop-item.invariant in
+    run-occurs (plain c.args.text.now) c.loop-item.place c.in-Some.ensures.steps so_far.text (is_text c.if-eq.ensures) so_far.left (c.as_bytes-run.ensures.value ∙ c.range.ensures.value) so_far.within
+
+pub read-requires-clause-bytes : goal.read-requires-clause-bytes
+read-requires-clause-bytes c = run-stands c.in-Some.ensures.steps c.loop-item.invariant.text (c.as_bytes-run.ensures.value ∙ c.range.ensures.value)
+
+pub read-requires-clause-here : goal.read-requires-clause-here
+read-requires-clause-here c =
+    let steps = c.in-Some.ensures.steps in
+    let so_far = c.loop-item.invariant in
+    record {
+      boundary = subst (λ u. IsCharBoundary u c.in-Some.item.start) so_far.text steps.start_boundary;
+      rest = ap₂ (λ n u. plain (drop n u)) steps.start (sym so_far.text) ∙ so_far.left;
+      before = omega arith;
+    }
+
+pub read-requires-clause-ahead : goal.read-requires-clause-ahead
+read-requires-clause-ahead c = λ j low high. c.loop-item.invariant.ahead j (omega (arith, low, c.in-Some.ensures.steps.start)) high
+
+-- a match ends in the run
+pub returns-in-Match : goal.returns-in-Match
+returns-in-Match c =
+    let t = c.args.text.now in
+    let p = c.args.pat.now in
+    let same = c.new-pattern.ensures in
+    let from = c.args.from in
+    let i = c.in-Match.position in
+    reached-match c.utf8.pat c.requires.some (subst (λ q. IsReached t q from i) same (reached-then c.loop-item.invariant.comes.reached c.in-Match.ensures.0)) (subst (λ q. OccursAt (plain t) q i) same c.in-Match.ensures.1)
+
+-- no match ends in it
+pub loop-item-preserved-then-eq : goal.loop-item-preserved-then-eq
+loop-item-preserved-then-eq c =
+    let so_far = c.loop-item.invariant in
+    let gives = c.in-Some.ensures.steps in
+    let is = c.as_bytes-run.ensures.value ∙ c.range.ensures.value in
+    let x = plain c.args.text.now in
+    let occurs = run-occurs x c.loop-item.place gives so_far.text (is_text c.if-eq.ensures) so_far.left is so_far.within in
+    let size = run-length gives so_far.text in
+    record {
+      text = gives.text ∙ so_far.text;
+      left = run-left x c.loop-item.place gives so_far.text (is_text c.if-eq.ensures) so_far.left is;
+      within = occurs.fits;
+      comes = comes-then so_far.comes.reached c.in-Open.ensures.0;
+      read = c.in-Open.ensures.1;
+      ahead = λ j low high. c.in-Open.ensures.2 j (omega (arith, low, gives.start, gives.end, gives.forward, size, ap length is)) high;
+    }
+
+-- over a sequence
+pub loop-item-preserved : goal.loop-item-preserved
+loop-item-preserved c =
+    let so_far = c.loop-item.invariant in
+    let gives = c.in-Some.ensures.steps in
+    record {
+      text = gives.text ∙ so_far.text;
+      left = mark-left (plain c.args.text.now) c.loop-item.place gives so_far.text (is_other c.if-eq.ensures) so_far.left;
+      within = so_far.within;
+      comes = so_far.comes;
+      read = so_far.read;
+      ahead = λ j low high. so_far.ahead j (omega (arith, low, gives.start, gives.end, gives.forward)) high;
+    }
+
+-- nothing is left
+pub returns : goal.returns
+returns c =
+    let x = plain c.args.text.now in
+    let so_far = c.loop-item.invariant in
+    let place = c.loop-item.place in
+    let rest : drop place x ≡ [] = sym so_far.left ∙ ap plain_of c.in-None.ensures.steps.2 in
+    let end : place ≡ length x = omega (arith, ap length rest, length-drop place x, so_far.within) in
+    reached-end c.requires.some (subst (λ q. Comes c.args.text.now q c.new-pattern.result.cut.at c.args.from c.loop-item.window) c.new-pattern.ensures so_far.comes) (omega (arith, end, so_far.read))

@@ -1,0 +1,86 @@
+use Rattle.ansi_search.proofs.Common.{◌≡◌, ◌+◌, length, refl, sym, ◌∙◌, ap, IsCharBoundary-end, is_text, rendition_of, apply-no_sgr}
+use Rattle.ansi_search.proofs.OffsetLemmas.{item_range, over_text, over_mark, is_other, way-begin, way-text, way-mark, way-last, way-end, way-test}
+use Rattle.ansi_search.proofs.search.offsets.walk_to.Goals as goal
+
+pub range-piece-requires : goal.range-piece-requires
+range-piece-requires c = item_range c.in-Some.ensures.steps c.loop-item.invariant.text
+
+pub loop-item-init : goal.loop-item-init
+loop-item-init c =
+    let begins : c.into_iter-item-iterator.result ≡ record { text = c.args.text.now; offset = 0 } = c.into_iter-item-iterator.ensures.into_iter_gives ∙ c.new-item-items.ensures.start in
+    record {
+      text = ap (λ s. s.text) begins;
+      way = rw begins (way-begin c.args.text.now c.args.position (rendition_of c.args.style.now));
+    }
+
+-- over a text
+pub loop-item-preserved-then-eq : goal.loop-item-preserved-then-eq
+loop-item-preserved-then-eq c =
+    let gives = c.in-Some.ensures.steps in
+    let over = over_text gives c.loop-item.invariant.text c.range-piece.ensures.value (is_text c.if-eq.ensures) in
+    record {
+      text = gives.text ∙ c.loop-item.invariant.text;
+      way = way-text c.loop-item.invariant.way over c.if-remaining-piece.false refl;
+    }
+
+-- over an SGR
+pub loop-item-preserved-then-eq-2 : goal.loop-item-preserved-then-eq-2
+loop-item-preserved-then-eq-2 c =
+    let gives = c.in-Some.ensures.steps in
+    let over = over_mark gives c.loop-item.invariant.text c.range-piece.ensures.value (is_other c.if-eq.ensures) in
+    record {
+      text = gives.text ∙ c.loop-item.invariant.text;
+      way = way-mark c.loop-item.invariant.way over c.apply.ensures;
+    }
+
+-- over another sequence, or a lone escape
+pub loop-item-preserved : goal.loop-item-preserved
+loop-item-preserved c =
+    let w = c.range-piece.result.now in
+    let gives = c.in-Some.ensures.steps in
+    let over = over_mark gives c.loop-item.invariant.text c.range-piece.ensures.value (is_other c.if-eq.ensures) in
+    record {
+      text = gives.text ∙ c.loop-item.invariant.text;
+      way = way-mark c.loop-item.invariant.way over (sym (apply-no_sgr _ w (over.first.no_sgr (is_other c.if-eq-2.ensures))));
+    }
+
+-- the position stands in a text, at a boundary or not
+
+pub returns-then-not-is_char_boundary-clause-offset : goal.returns-then-not-is_char_boundary-clause-offset
+returns-then-not-is_char_boundary-clause-offset c =
+    let gives = c.in-Some.ensures.steps in
+    let over = over_text gives c.loop-item.invariant.text c.range-piece.ensures.value (is_text c.if-eq.ensures) in
+    sym (way-test c.loop-item.invariant.way over c.if-remaining-piece.true (ap (λ n. n + c.loop-item.remaining) gives.start) c.is_char_boundary.ensures.test)
+    ∙ c.if-not-is_char_boundary.true
+
+pub returns-then-remaining-piece-clause-offset : goal.returns-then-remaining-piece-clause-offset
+returns-then-remaining-piece-clause-offset c =
+    let gives = c.in-Some.ensures.steps in
+    let at = ap (λ n. n + c.loop-item.remaining) gives.start in
+    let over = over_text gives c.loop-item.invariant.text c.range-piece.ensures.value (is_text c.if-eq.ensures) in
+    record {
+      good = sym (way-test c.loop-item.invariant.way over c.if-remaining-piece.true at c.is_char_boundary.ensures.test)
+          ∙ c.if-not-is_char_boundary.false;
+      offset = at ∙ (way-last c.loop-item.invariant.way over c.if-remaining-piece.true).0;
+      boundary = c.is_char_boundary.ensures.test.0 c.if-not-is_char_boundary.false;
+    }
+
+pub returns-then-remaining-piece-clause-style : goal.returns-then-remaining-piece-clause-style
+returns-then-remaining-piece-clause-style c =
+    let over = over_text c.in-Some.ensures.steps c.loop-item.invariant.text c.range-piece.ensures.value (is_text c.if-eq.ensures) in
+    (way-last c.loop-item.invariant.way over c.if-remaining-piece.true).1
+
+-- nothing is left
+
+pub returns-clause-offset : goal.returns-clause-offset
+returns-clause-offset c =
+    let end = c.in-None.ensures.steps in
+    let there = way-end c.loop-item.invariant.way end.2 in
+    record {
+      good = sym there.1;
+      offset = sym (end.1 ∙ ap length c.loop-item.invariant.text) ∙ there.0;
+      boundary = IsCharBoundary-end c.args.text.now;
+    }
+
+pub returns-clause-style : goal.returns-clause-style
+returns-clause-style c = (way-end c.loop-item.invariant.way c.in-None.ensures.steps.2).2

@@ -1,0 +1,31 @@
+use Rattle.ansi_search.proofs.Common.{◌<◌, ◌++◌, length, take, drop, sym, ◌∙◌, ap, arith, slice_index, IsFalse, length-take-le, plain, has_escape}
+use Rattle.ansi_search.proofs.MatchLemmas.{no_escape-found}
+use Rattle.ansi_search.proofs.PrefixLemmas.{plain-front, front-bare, bare_before, escape_at}
+use Rattle.ansi_search.proofs.search.prefix.first_run.Goals as goal
+
+-- an ESC is found
+pub after_mark-requires-clause-begins : goal.after_mark-requires-clause-begins
+after_mark-requires-clause-begins c =
+    let bytes = c.as_bytes-bytes.result.now in
+    let len = c.in-Some.len in
+    let size = length-take-le c.min.result bytes (omega (arith, c.min.ensures)) in
+    ap (λ v. slice_index v 0) (c.range_from.ensures.value ∙ ap (drop len) (sym c.as_bytes-bytes.ensures.value))
+    ∙ escape_at bytes c.min.result len (omega (arith, c.in-Some.ensures.0.high, size)) c.in-Some.ensures.1
+
+pub returns-in-Some-clause-front : goal.returns-in-Some-clause-front
+returns-in-Some-clause-front c =
+    let t = c.args.text.now in
+    let bytes = c.as_bytes-bytes.result.now in
+    let len = c.in-Some.len in
+    let size = length-take-le c.min.result bytes (omega (arith, c.min.ensures)) in
+    let high : len < length (take c.min.result bytes) = c.in-Some.ensures.0.high in
+    let none : IsFalse (has_escape (take len bytes)) = bare_before bytes c.min.result len (omega (arith, high, size)) (omega (arith, high, size, c.min.ensures)) c.in-Some.ensures.0.before in
+    ap (take c.args.most) (plain-front t (take len bytes) len (ap (take len) c.as_bytes-bytes.ensures.value) (ap (λ v. has_escape (take len v)) (sym c.as_bytes-bytes.ensures.value) ∙ none)
+    ∙ ap (λ u. take len bytes ++ u) (sym (c.after_mark.ensures.plain ∙ ap plain c.range_from.ensures.value)))
+
+-- none is
+pub returns-in-None-clause-front : goal.returns-in-None-clause-front
+returns-in-None-clause-front c =
+    let w = take c.min.result c.as_bytes-bytes.result.now in
+    front-bare c.args.text.now w c.min.result c.args.most (ap (take c.min.result) c.as_bytes-bytes.ensures.value)
+    (omega (arith, c.min.ensures, ap length c.as_bytes-bytes.ensures.value)) (no_escape-found w c.in-None.ensures)

@@ -1,0 +1,6 @@
+//! Positions and searches in a text taken as if its sequences weren't there.
+//!
+//! Positions count the bytes of the plain text: the text without its sequences.
+#![tactic(auto)]
+
+pub mod search;

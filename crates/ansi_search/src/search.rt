@@ -1,0 +1,70 @@
+//! Searches in a plain text, over the items of its text and without memory.
+ghost use Rattle.std.specs.Prelude.{◌≡◌, ◌↔◌, ◌<◌, ◌≤◌, ℕ, None, Some, IsTrue};
+ghost use Rattle.std.specs.Str.{IsCharBoundary};
+ghost use Rattle.ansi_items.specs.Plain.{plain};
+ghost use Rattle.ansi_search.specs.Positions.{is_good_position, is_char_boundary, is_good_range};
+
+mod critical;
+mod ends;
+mod matches;
+mod offsets;
+mod prefix;
+mod two_way;
+
+use ansi_items::ansitok::{Kind, Scanner};
+pub use ends::{ends_with, suffix_offset};
+pub use matches::{find, find_from, first_in_run};
+pub use offsets::walk_to;
+pub use prefix::starts_with;
+
+/// Whether the position is good: a character of the plain text begins there, or it is the end of the
+/// plain text or lies past it. (std; past the end, the Rust crate.)
+///
+/// It counts bytes of the plain text. Takes no memory.
+pub fn is_good_position(text: &str, position: usize) -> bool
+    ensures { result ≡ is_good_position (plain text.now) position }
+{
+    let mut remaining = position;
+    for item in Scanner::new(text) {
+        if item.kind == Kind::Text {
+            let run = &text[item.start..item.end];
+            if remaining < run.len() {
+                return run.is_char_boundary(remaining);
+            }
+            remaining -= run.len();
+        }
+    }
+    true
+}
+
+/// As `AnsiStr::ansi_is_char_boundary`.
+pub fn is_char_boundary(text: &str, index: usize) -> bool
+    ensures value { result ≡ is_char_boundary (plain text.now) index }
+    ensures boundary { IsTrue result ↔ IsCharBoundary (plain text.now) index }
+    ensures good_before { IsTrue result → IsTrue (is_good_range (plain text.now) 0 (Some index)) }
+    ensures good_after { IsTrue result → IsTrue (is_good_range (plain text.now) index None) }
+{
+    floor_char_boundary(text, index) == index
+}
+
+/// As `AnsiStr::ansi_floor_char_boundary`.
+pub fn floor_char_boundary(text: &str, index: usize) -> usize
+    ensures bound { result ≤ index }
+    ensures boundary { IsCharBoundary (plain text.now) result }
+    ensures nearest { (i : ℕ) → result < i → i ≤ index → ¬ (IsCharBoundary (plain text.now) i) }
+    ensures good_before { IsTrue (is_good_range (plain text.now) 0 (Some result)) }
+    ensures good_after { IsTrue (is_good_range (plain text.now) result None) }
+{
+    let mut place = 0;
+    for item in Scanner::new(text) {
+        if item.kind == Kind::Text {
+            let run = &text[item.start..item.end];
+            let remaining = index - place;
+            if remaining < run.len() {
+                return place + run.floor_char_boundary(remaining);
+            }
+            place += run.len();
+        }
+    }
+    place
+}

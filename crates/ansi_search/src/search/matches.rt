@@ -1,0 +1,120 @@
+//! Where a pattern stands in a plain text. A match may run across sequences.
+ghost use Rattle.std.specs.Prelude.{◌≡◌, ◌<◌, ◌≤◌, ◌+◌, ◌^◌, [], length, None, Some, MatchOption, IfSome, IsTrue};
+ghost use Rattle.std.specs.Str.Pattern.{FindsText, MatchBeginsAt};
+ghost use Rattle.memchr.specs.Find.{IsFirst, FindsNeedle};
+ghost use Rattle.ansi_items.specs.Plain.{plain};
+ghost use Rattle.ansi_search.specs.Positions.{is_good_range};
+ghost use Rattle.ansi_search.specs.Matches.{is_match, first_match_from};
+
+use crate::search::two_way::{Pattern, Point, Sight};
+use ansi_items::ESC;
+use ansi_items::ansitok::{Kind, Scanner};
+use memchr::{memchr, memmem};
+
+/// As `AnsiStr::ansi_find`.
+pub fn find(text: &str, pat: &str) -> Option<usize>
+    ensures first { MatchOption result (FindsText pat.now (plain text.now) None) (MatchBeginsAt (FindsText pat.now) (plain text.now)) }
+    ensures good { IfSome result (λ i. IsTrue (is_good_range (plain text.now) i (Some (i + length pat.now)))) }
+    ensures good_before { IfSome result (λ i. IsTrue (is_good_range (plain text.now) 0 (Some i))) }
+    ensures good_after { IfSome result (λ i. IsTrue (is_good_range (plain text.now) (i + length pat.now) None)) }
+    ensures fits { IfSome result (λ i. i + length pat.now < 2 ^ 64) }
+{
+    find_from(text, pat, 0)
+}
+
+/// The first match of the pattern in the plain text that doesn't begin before `from`, if there is
+/// one: the least position at or past `from` where a character of the plain text begins, or the
+/// plain text ends, and the pattern stands.
+///
+/// A match may run across sequences. An empty pattern stands at each character boundary, and a
+/// pattern with an ESC nowhere. Positions count bytes of the plain text. Takes no memory.
+///
+/// A text without ESC is searched as one. Any other is read once, and twice where a first part of the
+/// pattern may stand. So a search takes time in proportion to the text and the pattern.
+pub fn find_from(text: &str, pat: &str, from: usize) -> Option<usize>
+    ensures { result ≡ first_match_from (plain text.now) pat.now from }
+{
+    if pat.is_empty() {
+        return boundary_from(text, from);
+    }
+    if text.len() < pat.len() {
+        return None;
+    }
+    match memchr(ESC, text.as_bytes()) {
+        Some(_) => find_across(text, pat, from),
+        None => first_in_run(text, pat, from),
+    }
+}
+
+/// The first character boundary of the plain text at or past `from`, if there is one.
+fn boundary_from(text: &str, from: usize) -> Option<usize>
+    ensures { result ≡ first_match_from (plain text.now) [] from }
+{
+    let mut place = 0;
+    for item in Scanner::new(text) {
+        if item.kind == Kind::Text {
+            let run = &text[item.start..item.end];
+            if let Some(start) = first_in_run(run, "", from.saturating_sub(place)) {
+                return Some(place + start);
+            }
+            place += run.len();
+        }
+    }
+    if from <= place { Some(place) } else { None }
+}
+
+/// The first match at or past `from` that begins in the run and ends in it.
+#[inline(always)]
+pub fn first_in_run(run: &str, pat: &str, from: usize) -> Option<usize>
+    ensures { IsFirst (λ i. IsTrue (is_match run.now pat.now i)) from (length run.now) result }
+{
+    if pat.is_empty() {
+        let start = run.ceil_char_boundary(from);
+        return (start < run.len()).then_some(start);
+    }
+    let rest = run.as_bytes().get(from..)?;
+    if rest.len() < pat.len() {
+        return None;
+    }
+    Some(from + find_bytes(rest, pat.as_bytes())?)
+}
+
+/// Where the bytes of a pattern that isn't empty first stand in those of a run.
+#[inline(always)]
+fn find_bytes(run: &[u8], pat: &[u8]) -> Option<usize>
+    ensures { FindsNeedle run.now pat.now 0 result }
+{
+    match pat {
+        [byte] => memchr(*byte, run),
+        _ => memmem::find(run, pat),
+    }
+}
+
+/// As [`find_from`], by a walk over the items, for a pattern that isn't empty.
+fn find_across(text: &str, pat: &str, from: usize) -> Option<usize>
+    requires some { 0 < length pat.now }
+    ensures { result ≡ first_match_from (plain text.now) pat.now from }
+{
+    if text.len() < from {
+        return None;
+    }
+    let pattern = Pattern::new(pat);
+    let next = memchr(pattern.rare_byte(), text.as_bytes())?;
+    let mut place = 0;
+    let mut window = pattern.first_window(from, next);
+    for item in Scanner::new(text) {
+        if item.kind == Kind::Text {
+            let run = text[item.start..item.end].as_bytes();
+            let here = Point {
+                offset: item.start,
+                position: place,
+            };
+            match pattern.read(text, run, here, window) {
+                Sight::Match(position) => return Some(position),
+                Sight::Open(further) => window = further,
+            }
+            place += run.len();
+        }
+    }
+    None
+}

@@ -1,0 +1,230 @@
+-- A cut and a kept text as a stretch of the text, by where its plain bytes stand, and the sequences outside of it.
+use Rattle.ansi_slice.proofs.Common.{◌≡◌, ℕ, ◌+◌, ◌-◌, ◌<◌, ◌≤◌, inl, inr, Bool, true, List, [], ◌∷◌, ◌++◌, length, take, drop, take-add, refl, sym, ◌∙◌, ap, ap₂, subst, arith, if◌then◌else◌, nat_lt, length-append, append_assoc, append-nil, not, false, ◌&&◌, Some, drop-append_seam, cases_lt, le-leb, lt-ltb, le-ltb, nat_tests, take-append-le, length-drop, drop-drop, slice_range, IsCharBoundary, Kind, escape, Piece, Text, Sequence, LoneEscape, spelling, ArePieces, pieces_of, plain_of, plain, pieces_are, pieces_of-unique, length-plain, spelled, spelled-pieces_of, is_mark, BeginsWithMark, Rendition, plain_style, apply, style_within, close, style_by_marks, style_by_marks-before, style_by_marks-sequence, style_by_marks-lone, is_good_position, is_good_range, cut_up_to, kept, bytes_before, sequences_up_to, offset_of, StandsIn, KeepsUpTo}
+use Rattle.ansi_search.proofs.SliceLemmas.{slice_range-past, slice_range-from_past}
+use Rattle.ansi_search.proofs.OffsetLemmas.{bytes_before-last, bytes_before-text, style-text, after_of, after_of-last, after_of-text, take-after, inside_are, pieces_of-after, plain-after, IsOverText, IsPassed}
+use Rattle.ansi_search.proofs.PositionLemmas.{is_good_position-drop}
+use Rattle.ansi_slice.proofs.CutLemmas.{shown_from, shown_from-text, cut_up_to-walk}
+use Rattle.ansi_slice.proofs.KeptWalkLemmas.{kept-walk, kept-all}
+
+sequences_up_to-last : (n : ℕ) (w : List ℕ) (ps : List Piece) → n < length w → sequences_up_to n (Text w ∷ ps) ≡ []
+sequences_up_to-last n w ps last = ap (λ b. if b then [] else sequences_up_to (n - length w) ps) (lt-ltb n (length w) last)
+
+sequences_up_to-text : (n : ℕ) (w : List ℕ) (ps : List Piece) → length w ≤ n → sequences_up_to n (Text w ∷ ps) ≡ sequences_up_to (n - length w) ps
+sequences_up_to-text n w ps within = ap (λ b. if b then [] else sequences_up_to (n - length w) ps) (le-ltb n (length w) within)
+
+take-more : (w rest more : List ℕ) (n : ℕ) → take (length w + n) (w ++ rest) ++ more ≡ w ++ (take n rest ++ more)
+take-more w rest more n = ap (λ u. u ++ more) (take-after w rest n) ∙ append_assoc w (take n rest) more
+
+-- A cut, and a kept text, begin with the sequences up to their start, and go on as one stretch.
+
+shown_from-front : (all : Bool) (ps : List Piece) (s e : ℕ) → s ≤ e → shown_from all s e ps ≡ sequences_up_to s ps ++ shown_from all 0 (e - s) (after_of s ps)
+shown_from-front all [] s e ordered = refl
+shown_from-front all (Text w ∷ ps) s e ordered = elim (cases_lt s (length w)) [
+  | inl last ↦ (
+      let v = drop s w in
+      let left : length v ≡ length w - s = length-drop s w in
+      let test : nat_lt e (length w) ≡ nat_lt (e - s) (length v) = grind (arith, nat_tests) in
+      let count : e - s ≡ e - s - 0 = omega arith in
+      let from : s - length w ≡ 0 - length v = omega arith in
+      let to : e - length w ≡ e - s - length v = omega arith in
+      ap₂ (λ n b. take n v ++ (if not all && b then [] else shown_from all (s - length w) (e - length w) ps)) count test
+      ∙ ap₂ (λ i j. slice_range v 0 (e - s) ++ (if not all && nat_lt (e - s) (length v) then [] else shown_from all i j ps)) from to
+      ∙ sym (ap₂ (λ u qs. u ++ shown_from all 0 (e - s) qs) (sequences_up_to-last s w ps last) (after_of-last s w ps last)))
+  | inr within ↦ (
+      let n = length w in
+      let count : e - n - (s - n) ≡ e - s = omega arith in
+      shown_from-text all s e w ps (omega arith)
+      ∙ ap (λ u. u ++ shown_from all (s - n) (e - n) ps) (slice_range-from_past w s e within)
+      ∙ shown_from-front all ps (s - n) (e - n) (omega arith)
+      ∙ ap (λ k. sequences_up_to (s - n) ps ++ shown_from all 0 k (after_of (s - n) ps)) count
+      ∙ sym (ap₂ (λ u qs. u ++ shown_from all 0 (e - s) qs) (sequences_up_to-text s w ps within) (after_of-text s w ps within)))
+]
+shown_from-front all (Sequence w ∷ ps) s e ordered =
+    ap (λ v. w ++ v) (shown_from-front all ps s e ordered) ∙ sym (append_assoc w (sequences_up_to s ps) (shown_from all 0 (e - s) (after_of s ps)))
+shown_from-front all (LoneEscape ∷ ps) s e ordered = ap (λ v. escape ∷ v) (shown_from-front all ps s e ordered)
+
+-- the marks past the end, where all are shown
+abbrev later : Bool → ℕ → List Piece → List ℕ
+later all e ps = if all then shown_from true 0 0 (after_of e ps) else []
+
+shown_from-stretch : (all : Bool) (ps : List Piece) (e : ℕ) → shown_from all 0 e ps ≡ take (bytes_before e ps) (spelled ps) ++ later all e ps
+shown_from-stretch true [] e = refl
+shown_from-stretch false [] e = refl
+shown_from-stretch all (Text w ∷ ps) e = elim (cases_lt e (length w)) [
+  | inl last ↦ (
+      let count : e - 0 ≡ e = omega arith in
+      ap₂ (λ n b. take n w ++ (if not all && b then [] else shown_from all (0 - length w) (e - length w) ps)) count (lt-ltb e (length w) last)
+      ∙ ap (λ v. take e w ++ v) (past all last)
+      ∙ sym (ap₂ (λ n qs. take n (w ++ spelled ps) ++ (if all then shown_from true 0 0 qs else [])) (bytes_before-last e w ps last) (after_of-last e w ps last)
+      ∙ ap (λ u. u ++ (if all then shown_from true 0 0 (Text (drop e w) ∷ ps) else [])) (take-append-le e w (spelled ps) (omega arith))))
+  | inr within ↦ (
+      let n = length w in
+      let front : 0 - n ≡ 0 = omega arith in
+      shown_from-text all 0 e w ps within
+      ∙ ap₂ (λ u k. u ++ shown_from all k (e - n) ps) (slice_range-past w 0 e within) front
+      ∙ ap (λ v. w ++ v) (shown_from-stretch all ps (e - n))
+      ∙ sym (ap₂ (λ k qs. take k (w ++ spelled ps) ++ (if all then shown_from true 0 0 qs else [])) (bytes_before-text e w ps within) (after_of-text e w ps within)
+      ∙ take-more w (spelled ps) (later all (e - n) ps) (bytes_before (e - n) ps)))
+]
+  where
+    past : (b : Bool) → e < length w → (if not b && true then [] else shown_from b (0 - length w) (e - length w) ps) ≡ (if b then shown_from true 0 0 (Text (drop e w) ∷ ps) else [])
+    past true last = ap₂ (λ i j. shown_from true i j ps) (omega arith) (omega arith)
+    past false last = refl
+shown_from-stretch all (Sequence w ∷ ps) e = ap (λ v. w ++ v) (shown_from-stretch all ps e) ∙ sym (take-more w (spelled ps) (later all e ps) (bytes_before e ps))
+shown_from-stretch all (LoneEscape ∷ ps) e = ap (λ v. escape ∷ v) (shown_from-stretch all ps e) ∙ sym (take-more (escape ∷ []) (spelled ps) (later all e ps) (bytes_before e ps))
+
+-- the style at the end is that after the marks from the start on
+style-after : (ps : List Piece) (c : Rendition) (s e : ℕ) → s ≤ e → style_by_marks (style_by_marks c ps s) (after_of s ps) (e - s) ≡ style_by_marks c ps e
+style-after [] c s e ordered = refl
+style-after (Text w ∷ ps) c s e ordered = elim (cases_lt s (length w)) [
+  | inl last ↦ (
+      let v = drop s w in
+      let left : length v ≡ length w - s = length-drop s w in
+      let same : e - s - length v ≡ e - length w = omega arith in
+      ap₂ (λ r qs. style_by_marks r qs (e - s)) (style_by_marks-before c w ps s last) (after_of-last s w ps last)
+      ∙ elim (cases_lt e (length w)) [
+        | inl before ↦ style_by_marks-before c v ps (e - s) (omega arith) ∙ sym (style_by_marks-before c w ps e before)
+        | inr past ↦ style-text c (e - s) v ps (omega arith) ∙ ap (style_by_marks c ps) same ∙ sym (style-text c e w ps past)
+      ])
+  | inr within ↦ (
+      let n = length w in
+      let count : e - s ≡ e - n - (s - n) = omega arith in
+      ap₂ (λ r qs. style_by_marks r qs (e - s)) (style-text c s w ps within) (after_of-text s w ps within)
+      ∙ ap (style_by_marks (style_by_marks c ps (s - n)) (after_of (s - n) ps)) count
+      ∙ style-after ps c (s - n) (e - n) (omega arith) ∙ sym (style-text c e w ps (omega arith)))
+]
+style-after (Sequence w ∷ ps) c s e ordered =
+    ap (λ r. style_by_marks r (after_of s ps) (e - s)) (style_by_marks-sequence c w ps s) ∙ style-after ps (apply c w) s e ordered ∙ sym (style_by_marks-sequence c w ps e)
+style-after (LoneEscape ∷ ps) c s e ordered =
+    ap (λ r. style_by_marks r (after_of s ps) (e - s)) (style_by_marks-lone c ps s) ∙ style-after ps c s e ordered ∙ sym (style_by_marks-lone c ps e)
+
+-- a front that is one stretch
+front-stretch : {t : List ℕ} {e to : ℕ} → StandsIn t e to → take to t ≡ shown_from false 0 e (pieces_of t)
+front-stretch {t} {e} end = ap₂ (λ i u. take i u) end.offset (sym (spelled-pieces_of t)) ∙ sym (shown_from-stretch false (pieces_of t) e ∙ append-nil _)
+
+-- a cut from the front, by the offset of its end
+pub cut-front : {t : List ℕ} {e to : ℕ} {style : Rendition} → StandsIn t e to → style ≡ style_within plain_style t e → take to t ++ close style ≡ cut_up_to t 0 e
+cut-front {t} {e} end style_is = ap₂ (λ u r. u ++ close r) (front-stretch end) style_is ∙ sym (cut_up_to-walk t 0 e)
+
+-- a cut, by the offsets of its start, and of its end in what follows that
+pub cut-stretch : {t rest : List ℕ} {s e from to : ℕ} {c style : Rendition} → s ≤ e → StandsIn t s from → rest ≡ drop from t → StandsIn rest (e - s) to
+    → c ≡ style_within plain_style t s → style ≡ style_within c rest (e - s) → (sequences_up_to s (pieces_of t) ++ take to rest) ++ close style ≡ cut_up_to t s e
+cut-stretch {t} {rest} {s} {e} {from} {to} {c} {style} ordered start rest_is end c_is style_is =
+    let ps = pieces_of t in
+    let after : pieces_of rest ≡ after_of s ps = ap pieces_of rest_is ∙ ap (λ i. pieces_of (drop i t)) start.offset ∙ pieces_of-after t s in
+    ap₂ (λ u r. (sequences_up_to s ps ++ u) ++ close r) (front-stretch end ∙ ap (shown_from false 0 (e - s)) after)
+    (style_is ∙ ap₂ (λ r qs. style_by_marks r qs (e - s)) c_is after ∙ style-after ps plain_style s e ordered)
+    ∙ sym (cut_up_to-walk t s e ∙ ap (λ u. u ++ close (style_by_marks plain_style ps e)) (shown_from-front false ps s e ordered))
+
+-- the range of a cut, by those
+pub range-by_offset : {t rest : List ℕ} {s e from : ℕ} → s ≤ e → StandsIn t s from → rest ≡ drop from t → is_good_range (plain t) s (Some e) ≡ is_good_position (plain rest) (e - s)
+range-by_offset {t} {rest} {s} {e} {from} ordered start rest_is =
+    let x = plain t in
+    let all : s + (e - s) ≡ e = omega arith in
+    let after : plain rest ≡ drop s x = ap plain rest_is ∙ ap (λ i. plain (drop i t)) start.offset ∙ plain-after t s in
+    ap₂ (λ a b. a && (b && is_good_position x e)) (le-leb s e ordered) start.good
+    ∙ sym (ap (λ y. is_good_position y (e - s)) after ∙ is_good_position-drop x s (e - s) ∙ ap (is_good_position x) all)
+
+-- what is kept from s on
+pub kept-front : (t : List ℕ) (s e : ℕ) → s ≤ e → kept t s e ≡ sequences_up_to s (pieces_of t) ++ kept (drop (offset_of t s) t) 0 (e - s)
+kept-front t s e ordered =
+    kept-walk t s e ∙ shown_from-front true (pieces_of t) s e ordered
+    ∙ ap (λ v. sequences_up_to s (pieces_of t) ++ v) (ap (shown_from true 0 (e - s)) (sym (pieces_of-after t s)) ∙ sym (kept-walk (drop (offset_of t s) t) 0 (e - s)))
+
+-- all from s on
+pub kept-rest : {t rest : List ℕ} {s from : ℕ} → s ≤ length (plain t) → StandsIn t s from → rest ≡ drop from t → sequences_up_to s (pieces_of t) ++ rest ≡ kept t s (length (plain t))
+kept-rest {t} {rest} {s} {from} inside stands is =
+    let x = plain t in
+    let after : rest ≡ drop (offset_of t s) t = is ∙ ap (λ n. drop n t) stands.offset in
+    let size : length (plain rest) ≡ length x - s = ap length (ap plain after ∙ plain-after t s) ∙ length-drop s x in
+    sym (kept-front t s (length x) inside
+    ∙ ap (λ v. sequences_up_to s (pieces_of t) ++ v) (ap (λ u. kept u 0 (length x - s)) (sym after) ∙ kept-all rest (length x - s) (omega (arith, size))))
+
+-- what is kept up to e: all before its offset, and the sequences after that
+pub kept-stretch : (t : List ℕ) (e : ℕ) → kept t 0 e ≡ take (offset_of t e) t ++ kept (drop (offset_of t e) t) 0 0
+kept-stretch t e =
+    kept-walk t 0 e ∙ shown_from-stretch true (pieces_of t) e
+    ∙ ap₂ (λ u v. take (offset_of t e) u ++ v) (spelled-pieces_of t)
+    (ap (shown_from true 0 0) (sym (pieces_of-after t e)) ∙ sym (kept-walk (drop (offset_of t e) t) 0 0))
+
+-- so it is at a place in the text, and where that stands
+pub keeps-at : {t : List ℕ} {n i : ℕ} → StandsIn t n i → KeepsUpTo t n i
+keeps-at {t} {n} stands = record {
+  boundary = stands.boundary;
+  bytes = kept-stretch t n ∙ ap (λ k. take k t ++ kept (drop k t) 0 0) (sym stands.offset);
+}
+
+-- where no plain byte is kept, all sequences are
+shown_from-none : (ps : List Piece) (top : ℕ) → length (plain_of ps) ≤ top → shown_from true 0 0 ps ≡ sequences_up_to top ps
+shown_from-none [] top past = refl
+shown_from-none (Text w ∷ ps) top past =
+    let n = length w in
+    let none : 0 - n ≡ 0 = omega arith in
+    let size : length (w ++ plain_of ps) ≡ n + length (plain_of ps) = length-append w (plain_of ps) in
+    ap (λ k. shown_from true k k ps) none ∙ shown_from-none ps (top - n) (omega (arith, size, past)) ∙ sym (sequences_up_to-text top w ps (omega (arith, size, past)))
+shown_from-none (Sequence w ∷ ps) top past = ap (λ v. w ++ v) (shown_from-none ps top past)
+shown_from-none (LoneEscape ∷ ps) top past = ap (λ v. escape ∷ v) (shown_from-none ps top past)
+
+pub kept-none : (t : List ℕ) (top : ℕ) → length t ≤ top → kept t 0 0 ≡ sequences_up_to top (pieces_of t)
+kept-none t top past = kept-walk t 0 0 ∙ shown_from-none (pieces_of t) top (omega (arith, length-plain t))
+
+-- What has been appended, and the sequences up to a place in what is left, are all.
+pub record IsPushedSoFar (whole written : List ℕ) (n : ℕ) (left : List Piece) : Type 0 where
+  pub pushed : written ++ sequences_up_to n left ≡ whole
+
+pub pushed-begin : (out t : List ℕ) (n : ℕ) → IsPushedSoFar (out ++ sequences_up_to n (pieces_of t)) out n (pieces_of t)
+pushed-begin out t n = record { pushed = refl }
+
+pub pushed-text : {whole written : List ℕ} {n next : ℕ} {w : List ℕ} {old ps : List Piece} → IsPushedSoFar whole written n old → old ≡ Text w ∷ ps → length w ≤ n → next ≡ n - length w
+    → IsPushedSoFar whole written next ps
+pushed-text {whole} {written} {n} {next} {w} {old} {ps} so_far first within is =
+    rw is (record { pushed = ap (λ v. written ++ v) (sym (ap (sequences_up_to n) first ∙ sequences_up_to-text n w ps within)) ∙ so_far.pushed })
+
+pub pushed-mark : {whole written new : List ℕ} {n : ℕ} {kind : Kind} {w : List ℕ} {old ps : List Piece} → IsPushedSoFar whole written n old → BeginsWithMark kind w old ps → new ≡ written ++ w
+    → IsPushedSoFar whole new n ps
+pushed-mark {whole} {written} {new} {n} {w = w} {ps = ps} so_far begins is =
+    let more : sequences_up_to n (begins.mark ∷ ps) ≡ w ++ sequences_up_to n ps = by_piece begins.mark begins.is_mark ∙ ap (λ v. v ++ sequences_up_to n ps) begins.bytes in
+    record {
+      pushed = ap (λ v. v ++ sequences_up_to n ps) is ∙ append_assoc written w (sequences_up_to n ps)
+          ∙ ap (λ v. written ++ v) (sym (ap (sequences_up_to n) begins.pieces ∙ more)) ∙ so_far.pushed;
+    }
+  where
+    by_piece : (p : Piece) → is_mark p ≡ true → sequences_up_to n (p ∷ ps) ≡ spelling p ++ sequences_up_to n ps
+    by_piece (Text v) is = absurd (cc is)
+    by_piece (Sequence v) is = refl
+    by_piece LoneEscape is = refl
+
+-- A place inside a text that comes next, or its end.
+
+before-inside : (k : ℕ) (t w : List ℕ) (ps : List Piece) → ArePieces t (Text w ∷ ps) → k ≤ length w → bytes_before k (Text w ∷ ps) ≡ k + offset_of (drop k t) 0
+before-inside k t w ps are within = elim (cases_lt k (length w)) [
+  | inl last ↦ (
+      let size : length (drop k w) ≡ length w - k = length-drop k w in
+      let first : pieces_of (drop k t) ≡ Text (drop k w) ∷ ps = sym (pieces_of-unique (drop k t) (Text (drop k w) ∷ ps) (inside_are k t w ps are last)) in
+      omega (arith, bytes_before-last k w ps last, ap (bytes_before 0) first, bytes_before-last 0 (drop k w) ps (omega (arith, size, last))))
+  | inr past ↦ (
+      let all : k ≡ length w = omega (arith, within, past) in
+      let none : k - length w ≡ 0 = omega (arith, all) in
+      let rest : drop k t ≡ are.0 = ap (drop k) are.1 ∙ ap (λ n. drop n (w ++ are.0)) all ∙ drop-append_seam w are.0 in
+      let after : pieces_of (drop k t) ≡ ps = ap pieces_of rest ∙ sym (pieces_of-unique are.0 ps are.3) in
+      omega (arith, bytes_before-text k w ps past, all, ap (bytes_before 0) after, ap (λ n. bytes_before n ps) none))
+]
+
+pub keeps-inside : {t : List ℕ} {place passed at k : ℕ} {w : List ℕ} {left ps : List Piece} → IsPassed t place passed left → IsOverText t w passed at left ps → k ≤ length w → IsCharBoundary t (passed + k)
+    → KeepsUpTo t (place + k) (passed + k)
+keeps-inside {t} {place} {passed} {k = k} {w = w} {ps = ps} way over within boundary =
+    let i = passed + k in
+    let u = drop i t in
+    let m = offset_of u 0 in
+    let here = subst (IsPassed t place passed) over.first way in
+    let are = subst (ArePieces (drop passed t)) (over.there ∙ over.first) (pieces_are (drop passed t)) in
+    let same : offset_of (drop k (drop passed t)) 0 ≡ m = ap (λ v. offset_of v 0) (drop-drop k passed t) in
+    let offset : offset_of t (place + k) ≡ i + m = omega (arith, here.offset k, before-inside k (drop passed t) w ps are within, same) in
+    record {
+      boundary = boundary;
+      bytes = kept-stretch t (place + k)
+          ∙ ap (λ j. take j t ++ kept (drop j t) 0 0) offset
+          ∙ ap₂ (λ a b. a ++ kept b 0 0) (take-add i m t) (sym (drop-drop m i t))
+          ∙ append_assoc (take i t) (take m u) (kept (drop m u) 0 0)
+          ∙ ap (λ v. take i t ++ v) (sym (kept-stretch u 0));
+    }

@@ -1,9 +1,0 @@
-use Rattle.ansi_slice.proofs.Common.{◌≡◌, plain, plain_of, pieces_left, is_good_position}
-use Rattle.ansi_slice.proofs.search.is_good_position.Given as goal
-
--- what is left of the position stands in what is left as the position does in all
-abbrev pub invariant-loop-item : goal.invariant-loop-item
-invariant-loop-item l = record {
-  text : l.item-iterator.text ≡ l.text;
-  stands : is_good_position (plain_of (pieces_left l.item-iterator)) l.remaining ≡ is_good_position (plain l.text) l.position;
-}
