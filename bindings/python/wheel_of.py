@@ -1,10 +1,11 @@
-"""Builds the wheel, as pip asks for it: the package, and the shared library that `build` beside this file links."""
+"""Builds the wheel, as pip asks for it: the package, and the module in C that `build` beside this file builds."""
 
 import base64
 import hashlib
 import os
 import re
 import subprocess
+import sys
 import sysconfig
 import tempfile
 import zipfile
@@ -17,10 +18,10 @@ def _read(*names):
         return file.read()
 
 
-def _library():
+def _module():
     with tempfile.TemporaryDirectory() as folder:
-        name = os.path.join(folder, "libansi_str.so")
-        subprocess.run([os.path.join(HERE, "build"), name], check=True)
+        name = os.path.join(folder, "_ansi_str.abi3.so")
+        subprocess.run([os.path.join(HERE, "build"), name], check=True, env=dict(os.environ, PYTHON=sys.executable))
         return _read(name)
 
 
@@ -33,12 +34,13 @@ def _line(name, data):
 def build_wheel(wheel_directory, config_settings=None, metadata_directory=None):
     project = dict(re.findall(r'^([\w-]+) = "(.*)"$', _read("pyproject.toml").decode(), flags=re.M))
     stem = "{}-{}".format(project["name"].replace("-", "_"), project["version"])
-    # (any Python 3, on this system alone)
-    tag = "py3-none-" + re.sub(r"[-.]", "_", sysconfig.get_platform())
+    # (any CPython from 3.6 on, on this system alone)
+    tag = "cp36-abi3-" + re.sub(r"[-.]", "_", sysconfig.get_platform())
     info = stem + ".dist-info/"
-    metadata = "Metadata-Version: 2.1\nName: {name}\nVersion: {version}\nSummary: {description}\nRequires-Python: {requires-python}\n"
+    metadata = ("Metadata-Version: 2.1\nName: {name}\nVersion: {version}\nSummary: {description}\nLicense-File: LICENSE\n"
+                "Requires-Python: {requires-python}\n")
     files = {"ansi_str/" + name: _read("src", "ansi_str", name) for name in ("__init__.py", "py.typed")}
-    files["ansi_str/libansi_str.so"] = _library()
+    files["ansi_str/_ansi_str.abi3.so"] = _module()
     files[info + "LICENSE"] = _read("..", "..", "LICENSE")
     files[info + "METADATA"] = metadata.format(**project).encode()
     files[info + "WHEEL"] = "Wheel-Version: 1.0\nGenerator: ansi_str\nRoot-Is-Purelib: false\nTag: {}\n".format(tag).encode()
