@@ -1,15 +1,16 @@
 -- The plain text of a text that is cut or filled up, and how wide it is where that is printable ASCII.
-use Rattle.std.proofs.Common.{◌≡◌, ℕ, suc, zero, ◌+◌, ◌-◌, ◌<◌, ◌≤◌, min, max, Bool, true, false, not, ◌&&◌, ◌==◌, inl, inr, List, [], ◌∷◌, ◌++◌, length, map, flat_map, take, replicate, slice_range, nat_eq, nat_le, codes, unwrap_or, encode_utf8_all, if◌then◌else◌, IsTrue, refl, sym, ◌∙◌, ap, ap₂, subst, arith, append_assoc, append-nil, length-append, length-take-le, leb-true, leb-false}
+use Rattle.std.proofs.Common.{◌≡◌, ℕ, suc, zero, ◌+◌, ◌-◌, ◌<◌, ◌≤◌, min, max, Bool, true, false, not, ◌&&◌, ◌==◌, inl, inr, List, [], ◌∷◌, ◌++◌, length, map, flat_map, take, drop, take-append-drop, replicate, slice_range, nat_eq, nat_le, codes, unwrap_or, encode_utf8_all, if◌then◌else◌, IsTrue, refl, sym, ◌∙◌, ap, ap₂, subst, arith, append_assoc, append-nil, length-append, length-take-le, leb-true, leb-false}
 use Rattle.std.specs.Int.{is_in_range}
 use Rattle.std.specs.List.{All, list_all}
-use Rattle.std.specs.Str.{byte, chars}
-use Rattle.std.proofs.lemmas.Bool.{cases_Bool, and_parts, and_from, not-true, le-leb, lt-leb}
+use Rattle.std.specs.Str.{byte, chars, IsUtf8, IsCharBoundary}
+use Rattle.std.proofs.lemmas.Bool.{cases_Bool, cases_lt, and_parts, and_from, not-true, le-leb, lt-leb}
 use Rattle.std.proofs.lemmas.Bool.Decides.{nat_tests}
 use Rattle.std.proofs.lemmas.List.{length-replicate}
+use Rattle.std.proofs.lemmas.List.Sums.{sum_by-cons}
 use Rattle.std.proofs.lemmas.List.Elements.{All-nil, All-cons}
 use Rattle.std.proofs.lemmas.List.Folds.{list_all-append}
 use Rattle.std.proofs.lemmas.Grind.{flat_map-append}
-use Rattle.std.proofs.lemmas.Str.{chars-IsAscii, encode_ascii}
+use Rattle.std.proofs.lemmas.Str.{chars-nil, chars-IsAscii, encode_ascii, IsUtf8-nil, IsUtf8-take}
 use Rattle.std.proofs.lemmas.Str.Ascii.{IsAscii-from_all}
 use Rattle.ucd_breaks.specs.declared.GraphemeClusterBreak.TheVariants.{Other}
 use Rattle.unicode_segmentation.specs.Grapheme.{break_by_pair, is_grapheme_break}
@@ -19,6 +20,7 @@ use Rattle.ansi_items.specs.Pieces.{Piece, Text, Sequence, LoneEscape, after_tex
 use Rattle.ansi_items.specs.Plain.{plain, plain_bytes, plain_of, marks, up_to, is_whole}
 use Rattle.ansi_items.proofs.JoinLemmas.{pieces_of-append, is_whole-append, is_whole-spelled, pieces_stand, spelled}
 use Rattle.ansi_items.proofs.PlainLemmas.{no_escape, plain-bare, is_whole-plain}
+use Rattle.ansi_items.proofs.Utf8Lemmas.{IsUtf8-plain}
 use Rattle.ansi_style.specs.declared.state.rendition.Rendition.{Rendition}
 use Rattle.ansi_style.specs.Rendition.{plain_style}
 use Rattle.ansi_style.specs.Styled.{StyledByte, bytes_of, styled, style_at}
@@ -31,7 +33,7 @@ use Rattle.ansi_slice.proofs.ShownLemmas.{shown_pieces, shown_pieces_stand, spel
 use Rattle.ansi_slice.proofs.SliceLemmas.{list_all-parts, slice_range-map}
 use Rattle.ansi_columns.specs.declared.shown.Alignment.{Alignment}
 use Rattle.ansi_columns.specs.declared.shown.Alignment.TheVariants.{Left, Right, Center}
-use Rattle.ansi_columns.specs.Columns.{clusters, cluster_width, columns}
+use Rattle.ansi_columns.specs.Columns.{clusters, cluster_width, columns_of, columns, bytes_of, FitsUpTo, IsClusterBoundary}
 use Rattle.ansi_columns.specs.Links.{link_end, link_at, pen_close}
 use Rattle.ansi_columns.specs.Seams.{seam_of}
 use Rattle.ansi_columns.specs.Shown.{fitting_end, has_tail, truncated_end, truncated_ending, truncated, missing, before_text, blanks, closing, padded}
@@ -39,6 +41,9 @@ use Rattle.ansi_columns.specs.Walks.{clusters_after}
 use Rattle.ansi_columns.specs.declared.seams.Seam.{Seam}
 use Rattle.ansi_columns.proofs.AsciiLemmas.{columns-printable, ends-printable, seam-printable}
 use Rattle.ansi_columns.proofs.ClusterLemmas.{cluster-begins, cluster-ends, cluster-last, clusters-none}
+use Rattle.ansi_columns.proofs.ClusterLawLemmas.{fits-within}
+use Rattle.ansi_columns.proofs.LineLawLemmas.{boundary_between}
+use Rattle.ansi_columns.proofs.SeamLawLemmas.{columns-add_up}
 use Rattle.ansi_columns.proofs.ShownLemmas.{link_end-open, link_end-shut}
 
 -- ---- the plain text of whole texts in a row
@@ -151,6 +156,74 @@ padded-whole t width alignment whole = (padded_is t width alignment whole).whole
 pub padded-plain : (t : List ℕ) (width : ℕ) (alignment : Alignment) → IsTrue (is_whole t)
     → plain (padded t width alignment) ≡ blanks (before_text alignment (missing t width)) ++ plain t ++ blanks (missing t width - before_text alignment (missing t width))
 padded-plain t width alignment whole = (padded_is t width alignment whole).plain
+
+-- ---- how wide a text is that is cut
+
+-- so many clusters fit
+record IsCount (width : ℕ) (ks : List (List ℕ)) : Type 0 where
+  count : ℕ
+  boundary : fitting_end width ks ≡ bytes_of (take count ks)
+  fits : columns_of (take count ks) ≤ width
+  greatest : count < length ks → width < columns_of (take (count + 1) ks)
+
+counted : (width : ℕ) (ks : List (List ℕ)) → IsCount width ks
+counted width [] = record { count = 0; boundary = refl; fits = omega arith; greatest = λ less. absurd (omega (arith, less)) }
+counted width (k ∷ ks) =
+    let rest = fitting_end (width - cluster_width k) ks in
+    let either : (b : Bool) → nat_le (cluster_width k) width ≡ b → fitting_end width (k ∷ ks) ≡ (if b then length (encode_utf8_all k) + rest else 0) = λ b is. ap (λ b. if b then length (encode_utf8_all k) + rest else 0) is in
+    elim (cases_lt width (cluster_width k)) [
+      | inl wide ↦ record {
+        count = 0;
+        boundary = either false (lt-leb (cluster_width k) width wide);
+        fits = omega arith;
+        greatest = λ less. omega (arith, wide, sum_by-cons cluster_width k []);
+      }
+      | inr room ↦ (
+          let more = counted (width - cluster_width k) ks in
+          let next : suc more.count + 1 ≡ suc (more.count + 1) = omega arith in
+          record {
+            count = suc more.count;
+            boundary = either true (le-leb (cluster_width k) width room) ∙ ap (λ n. length (encode_utf8_all k) + n) more.boundary
+                ∙ sym (length-append (encode_utf8_all k) (flat_map encode_utf8_all (take more.count ks)));
+            fits = omega (arith, room, more.fits, sum_by-cons cluster_width k (take more.count ks));
+            greatest = λ less. omega (arith, room, more.greatest (omega (arith, less)), ap (λ n. columns_of (take n (k ∷ ks))) next, sum_by-cons cluster_width k (take (more.count + 1) ks));
+          })
+    ]
+
+fitting_end-is : (x : List ℕ) (width : ℕ) → FitsUpTo x width (fitting_end width (clusters x))
+fitting_end-is x width = (let is = counted width (clusters x) in record { count = is.count; boundary = is.boundary; fits = is.fits; greatest = is.greatest })
+
+module _ (x y : List ℕ) (left : IsUtf8 x) (right : IsUtf8 y) (width : ℕ) where
+  abbrev end : ℕ
+  end = fitting_end width (clusters x)
+
+  end_boundary : IsCharBoundary x end
+  end_boundary =
+      let is = counted width (clusters x) in
+      subst (IsCharBoundary x) (sym is.boundary) (boundary_between x left (take is.count (clusters x)) (drop is.count (clusters x)) (sym (take-append-drop is.count (clusters x))))
+
+  fitting-followed : IsClusterBoundary (take end x ++ y) end → columns (take end x ++ y) ≤ width + columns y
+  fitting-followed at =
+      let size : length (take end x) ≡ end = length-take-le end x end_boundary.0 in
+      let sum = columns-add_up (take end x) y (IsUtf8-take x end left end_boundary) right (subst (IsClusterBoundary (take end x ++ y)) (sym size) at) in
+      omega (arith, sum, fits-within x width end left (fitting_end-is x width))
+
+module _ (t : List ℕ) (width : ℕ) (tail : List ℕ) (utf8 : IsUtf8 t) (tail_utf8 : IsUtf8 tail) where
+  within-width : (b : Bool) → b ≡ has_tail t width tail → (let end = fitting_end (if b then width - columns (plain tail) else width) (clusters (plain t)) in
+      IsClusterBoundary (take end (plain t) ++ (if b then plain tail else [])) end → columns (take end (plain t) ++ (if b then plain tail else [])) ≤ width)
+  within-width true is = λ at.
+      let narrow = leb-true (columns (plain tail)) width (and_parts _ _ (sym is)).1 in
+      let bound = fitting-followed (plain t) (plain tail) (IsUtf8-plain t utf8) (IsUtf8-plain tail tail_utf8) (width - columns (plain tail)) at in
+      omega (arith, narrow, bound)
+  within-width false is = λ at.
+      let bound = fitting-followed (plain t) [] (IsUtf8-plain t utf8) IsUtf8-nil width at in
+      let none : columns [] ≡ 0 = ap columns_of (ap (clusters_after []) chars-nil ∙ clusters-none []) in
+      omega (arith, bound, none)
+
+  pub truncated-within : IsTrue (is_whole t) → IsTrue (is_whole tail) → IsClusterBoundary (plain (truncated t width tail)) (truncated_end t width tail) → columns (plain (truncated t width tail)) ≤ width
+  truncated-within whole tail_whole at =
+      let is = truncated-plain t width tail whole tail_whole in
+      subst (λ x. columns x ≤ width) (sym is) (within-width (has_tail t width tail) refl (subst (λ x. IsClusterBoundary x (truncated_end t width tail)) is at))
 
 -- ---- how wide printable ASCII is
 
