@@ -18,3 +18,4 @@ pub mod LineLemmas
 pub mod LineWalkLemmas
 pub mod LineLawLemmas
 mod LineExamples
+pub mod WrapLemmas
