@@ -3,6 +3,10 @@
 //!
 //! An attempt at a sequence is given up at the first byte that can't belong to it, an ESC above
 //! all, so that a text is looked at no more than four times for each of its bytes.
+ghost use Rattle.std.specs.Prelude.{◌≡◌, ◌+◌, ◌≤◌, length, IfSome};
+ghost use Rattle.std.specs.List.{prefix_len};
+ghost use Rattle.ansi_items.specs.Bytes.{is_plain_byte};
+
 use crate::ansitok::Kind;
 use memchr::{memchr, memchr2};
 
@@ -257,7 +261,11 @@ impl Looks {
         ensures bound { result ≤ length bytes.now }
         ensures looks { self.new.count ≡ self.old.count + min (result + 1) (length bytes.now) }
     {
-        let len = memchr(ESC, bytes).unwrap_or(bytes.len());
+        let len = if bytes.len() < 32 {
+            short_text_len(bytes)
+        } else {
+            memchr(ESC, bytes).unwrap_or(bytes.len())
+        };
         self.passed(bytes, len);
         len
     }
@@ -275,4 +283,42 @@ impl Looks {
             self.count += 1;
         }
     }
+}
+
+/// How many bytes stand before the next ESC. Few bytes are looked at eight at a time, since `memchr` goes over
+/// fewer than 32 one by one.
+#[inline(never)]
+fn short_text_len(bytes: &[u8]) -> usize
+    ensures len { result ≡ prefix_len is_plain_byte bytes.now }
+    ensures bound { result ≤ length bytes.now }
+{
+    let mut rest = bytes;
+    while let Some(after) = after_eight(rest) {
+        rest = after;
+    }
+    bytes.len() - rest.len() + plain_len(rest)
+}
+
+/// The same, one byte at a time.
+#[inline(always)]
+fn plain_len(bytes: &[u8]) -> usize
+    ensures len { result ≡ prefix_len is_plain_byte bytes.now }
+    ensures bound { result ≤ length bytes.now }
+{
+    bytes.iter().take_while(|b| **b != ESC).count()
+}
+
+/// The bytes after the first eight, where no ESC stands in those.
+#[inline(always)]
+fn after_eight(bytes: &[u8]) -> Option<&[u8]>
+    ensures len { IfSome result (λ rest. length bytes.now ≡ 8 + length rest.now) }
+    ensures plain { IfSome result (λ rest. prefix_len is_plain_byte bytes.now ≡ 8 + prefix_len is_plain_byte rest.now) }
+{
+    let [a, b, c, d, e, f, g, h, rest @ ..] = bytes else {
+        return None;
+    };
+    // `&`: all eight are asked at once, without a branch for each
+    let front = (*a != ESC) & (*b != ESC) & (*c != ESC) & (*d != ESC);
+    let back = (*e != ESC) & (*f != ESC) & (*g != ESC) & (*h != ESC);
+    if front & back { Some(rest) } else { None }
 }
