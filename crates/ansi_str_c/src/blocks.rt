@@ -1,36 +1,17 @@
 //! Calls that give the block of an index, or its style.
-ghost use Rattle.std.specs.Prelude.{◌≡◌, ◌∷◌, [], slice_get, option_map, true, IsFalse, IsOk, IfOk, string_bytes};
+ghost use Rattle.std.specs.Prelude.{◌≡◌, ◌∷◌, [], slice_get, option_map, true};
 ghost use Rattle.ansi_str.specs.Plain.{has_escape};
 ghost use Rattle.ansi_str.specs.Written.{start, close_if_any};
 ghost use Rattle.ansi_str.specs.Blocks.{blocks};
-ghost use Rattle.ansi_str_c.specs.Answers.{no, not_utf8, OnUtf8, HasFailed, Gives};
-ghost use Rattle.ansi_str_c.specs.Styles.{no_style, TellsStyle};
+ghost use Rattle.ansi_answers.specs.Answers.{no, not_utf8, OnUtf8, HasFailed, Gives};
+ghost use Rattle.ansi_answers.specs.Styles.{no_style, TellsStyle};
 
-use crate::answers::{Answer, NO, NOT_UTF8, OK, OUT_OF_MEMORY, write};
-use crate::styles::StyleData;
-use ansi_str::{AnsiBlock, get_blocks};
+use ansi_answers::answers::{Answer, NOT_UTF8};
+use ansi_answers::blocks::{
+    StyleAnswer, tells_block_style, write_block, write_block_end, write_block_start,
+};
 use simdutf8::basic::from_utf8;
-use std::alloc::{AllocError, Global};
-
-/// What a call answers that gives a style.
-#[repr(C)]
-#[derive(Clone, Copy)]
-pub struct StyleAnswer {
-    pub status: u32,
-    pub style: StyleData,
-}
-
-impl StyleAnswer {
-    /// The answer of a call that gives none.
-    fn failed(status: u32) -> StyleAnswer
-        ensures { result ≡ no_style status }
-    {
-        StyleAnswer {
-            status,
-            style: StyleData::empty(),
-        }
-    }
-}
+use std::alloc::Global;
 
 /// The text of the block of an index.
 #[unsafe(no_mangle)]
@@ -44,13 +25,9 @@ pub extern "C" fn ansi_str_raw_block(
         (Gives no (has_escape text.now) (option_map (λ b. b.text) (slice_get (blocks text.now) index)) result buffer.old buffer.new)
         (HasFailed not_utf8 result buffer.old buffer.new) }
 {
-    let Ok(text) = from_utf8(text) else {
-        return Answer::failed(NOT_UTF8);
-    };
-    match find_block(alloc, text, index) {
-        Ok(Some(block)) => write(block.text().as_bytes(), buffer),
-        Ok(None) => Answer::failed(NO),
-        Err(_) => Answer::failed(OUT_OF_MEMORY),
+    match from_utf8(text) {
+        Ok(text) => write_block(alloc, text, index, buffer),
+        Err(_) => Answer::failed(NOT_UTF8),
     }
 }
 
@@ -66,13 +43,9 @@ pub extern "C" fn ansi_str_raw_block_start(
         (Gives no true (option_map (λ b. start b.style) (slice_get (blocks text.now) index)) result buffer.old buffer.new)
         (HasFailed not_utf8 result buffer.old buffer.new) }
 {
-    let Ok(text) = from_utf8(text) else {
-        return Answer::failed(NOT_UTF8);
-    };
-    match block_start(alloc, text, index) {
-        Ok(Some(start)) => write(start.as_bytes(), buffer),
-        Ok(None) => Answer::failed(NO),
-        Err(_) => Answer::failed(OUT_OF_MEMORY),
+    match from_utf8(text) {
+        Ok(text) => write_block_start(alloc, text, index, buffer),
+        Err(_) => Answer::failed(NOT_UTF8),
     }
 }
 
@@ -88,13 +61,9 @@ pub extern "C" fn ansi_str_raw_block_end(
         (Gives no true (option_map (λ b. close_if_any b.style) (slice_get (blocks text.now) index)) result buffer.old buffer.new)
         (HasFailed not_utf8 result buffer.old buffer.new) }
 {
-    let Ok(text) = from_utf8(text) else {
-        return Answer::failed(NOT_UTF8);
-    };
-    match block_end(alloc, text, index) {
-        Ok(Some(end)) => write(end.as_bytes(), buffer),
-        Ok(None) => Answer::failed(NO),
-        Err(_) => Answer::failed(OUT_OF_MEMORY),
+    match from_utf8(text) {
+        Ok(text) => write_block_end(alloc, text, index, buffer),
+        Err(_) => Answer::failed(NOT_UTF8),
     }
 }
 
@@ -105,51 +74,8 @@ pub extern "C" fn ansi_str_raw_block_style(alloc: Global, text: &[u8], index: us
         (TellsStyle (has_escape text.now) (option_map (λ b. b.style) (slice_get (blocks text.now) index)) result)
         (result ≡ no_style not_utf8) }
 {
-    let Ok(text) = from_utf8(text) else {
-        return StyleAnswer::failed(NOT_UTF8);
-    };
-    match find_block(alloc, text, index) {
-        Ok(Some(block)) => StyleAnswer {
-            status: OK,
-            style: StyleData::of(block.style()),
-        },
-        Ok(None) => StyleAnswer::failed(NO),
-        Err(_) => StyleAnswer::failed(OUT_OF_MEMORY),
-    }
-}
-
-/// The block of an index, or `None` where there are not so many blocks.
-fn find_block(alloc: Global, text: &str, index: usize) -> Result<Option<AnsiBlock<'_>>, AllocError>
-    ensures found { IfOk result (λ found. found ≡ slice_get (blocks text.now) index) }
-    ensures takes_no_memory { IsFalse (has_escape text.now) → IsOk result }
-{
-    let mut before = index;
-    for block in get_blocks(alloc, text) {
-        let block = block?;
-        if before == 0 {
-            return Ok(Some(block));
-        }
-        before -= 1;
-    }
-    Ok(None)
-}
-
-/// The start of the style of the block of an index, or `None` where there are not so many blocks.
-fn block_start(alloc: Global, text: &str, index: usize) -> Result<Option<String>, AllocError>
-    ensures { IfOk result (λ found. option_map string_bytes found ≡ option_map (λ b. start b.style) (slice_get (blocks text.now) index)) }
-{
-    match find_block(alloc, text, index)? {
-        Some(block) => Ok(Some(block.style().start().to_string(alloc)?)),
-        None => Ok(None),
-    }
-}
-
-/// The end of the style of the block of an index, or `None` where there are not so many blocks.
-fn block_end(alloc: Global, text: &str, index: usize) -> Result<Option<String>, AllocError>
-    ensures { IfOk result (λ found. option_map string_bytes found ≡ option_map (λ b. close_if_any b.style) (slice_get (blocks text.now) index)) }
-{
-    match find_block(alloc, text, index)? {
-        Some(block) => Ok(Some(block.style().end().to_string(alloc)?)),
-        None => Ok(None),
+    match from_utf8(text) {
+        Ok(text) => tells_block_style(alloc, text, index),
+        Err(_) => StyleAnswer::failed(NOT_UTF8),
     }
 }

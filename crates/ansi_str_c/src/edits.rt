@@ -1,42 +1,12 @@
 //! Edits in turn.
-ghost use Rattle.std.specs.Prelude.{◌≡◌, ◌↔◌, ◌⊎◌, ◌∷◌, [], map, option_map, IsTrue, IsNone, IsOk, IfOk, IfSome, IsUtf8};
-ghost use Rattle.std.specs.List.{list_all};
-ghost use Rattle.std.specs.Str.{is_utf8};
-ghost use Rattle.std.specs.Cow.{cow_str_bytes, IsBorrowedStr};
-ghost use Rattle.ansi_str.specs.Edited.{edited_by, edited, gives_borrow, stay_borrowed};
-ghost use Rattle.ansi_str.specs.Edits.{change_of};
-ghost use Rattle.ansi_str_c.specs.Answers.{refused, not_utf8, OnUtf8, HasFailed, GivesEdited};
-ghost use Rattle.ansi_str_c.specs.Steps.{change_of_step, patterns_of};
+ghost use Rattle.std.specs.Prelude.{◌∷◌, map};
+ghost use Rattle.ansi_answers.specs.Answers.{refused, not_utf8, OnUtf8, HasFailed, GivesEdited};
+ghost use Rattle.ansi_answers.specs.Steps.{change_of_step, patterns_of};
 
-use crate::answers::{Answer, NOT_UTF8, REFUSED, write_found};
-use ansi_str::{Edit, edit};
+use ansi_answers::answers::{Answer, NOT_UTF8, REFUSED, write_found};
+use ansi_answers::edits::{EditStep, are_patterns_utf8, edit_in_turn};
 use simdutf8::basic::from_utf8;
-use std::alloc::{AllocError, Global};
-use std::borrow::CowStr;
-
-const CUT: u32 = 0;
-
-const LEFT: u32 = 1;
-
-const RIGHT: u32 = 2;
-
-const PART: u32 = 3;
-
-const PREFIX: u32 = 4;
-
-const SUFFIX: u32 = 5;
-
-const TRIM: u32 = 6;
-
-/// One edit of a text: its kind, and two numbers and a pattern, of which the kind says what it takes.
-#[repr(C)]
-#[derive(Clone, Copy)]
-pub struct EditStep<'a> {
-    pub kind: u32,
-    pub first: usize,
-    pub second: usize,
-    pub pattern: &'a [u8],
-}
+use std::alloc::Global;
 
 /// What edits make of a text, each done on what the one before gave.
 #[unsafe(no_mangle)]
@@ -57,88 +27,4 @@ pub extern "C" fn ansi_str_raw_edit(
         return Answer::failed(NOT_UTF8);
     }
     write_found(edit_in_turn(alloc, text, steps), REFUSED, buffer)
-}
-
-/// Whether the pattern of each step is UTF-8.
-fn are_patterns_utf8(steps: &[EditStep<'_>]) -> bool
-    ensures { result ≡ list_all is_utf8 (patterns_of steps.now) }
-{
-    for step in steps {
-        let Ok(_) = from_utf8(step.pattern) else {
-            return false;
-        };
-    }
-    true
-}
-
-/// What steps make of a text, each done on what the one before gave, or `None` where one is refused.
-fn edit_in_turn<'t>(
-    alloc: Global,
-    text: &'t str,
-    steps: &[EditStep<'_>],
-) -> Result<Option<CowStr<'t>>, AllocError>
-    requires { IsTrue (list_all is_utf8 (patterns_of steps.now)) }
-    ensures bytes { IfOk result (λ o. option_map cow_str_bytes o ≡ edited (map change_of_step steps.now) text.now) }
-    ensures takes_no_memory { IsTrue (stay_borrowed (map change_of_step steps.now) text.now) → IsOk result }
-{
-    let mut edited = CowStr::Borrowed(text);
-    for step in steps {
-        match edit_given(alloc, edited, step)? {
-            Some(next) => edited = next,
-            None => return Ok(None),
-        }
-    }
-    Ok(Some(edited))
-}
-
-/// What one step makes of what the steps before it gave, or `None` where it is refused. What is owned
-/// stays owned.
-fn edit_given<'t>(
-    alloc: Global,
-    given: CowStr<'t>,
-    step: &EditStep<'_>,
-) -> Result<Option<CowStr<'t>>, AllocError>
-    requires { IsUtf8 step.now.pattern.now }
-    ensures bytes { IfOk result (λ o. option_map cow_str_bytes o ≡ edited_by (change_of_step step.now) (cow_str_bytes given.entry)) }
-    ensures borrowed { IfOk result (λ o. IfSome o (λ c. IsBorrowedStr c ↔ (IsBorrowedStr given.entry × IsTrue (gives_borrow (change_of_step step.now) (cow_str_bytes given.entry))))) }
-    ensures takes_no_memory { IsNone (edited_by (change_of_step step.now) (cow_str_bytes given.entry))
-        ⊎ (IsBorrowedStr given.entry × IsTrue (gives_borrow (change_of_step step.now) (cow_str_bytes given.entry))) → IsOk result }
-{
-    let Ok(pat) = from_utf8(step.pattern) else {
-        return Ok(None);
-    };
-    let edits = [edit_of(step, pat)];
-    match given {
-        CowStr::Borrowed(text) => edit(alloc, text, &edits),
-        CowStr::Owned(text) => match edit(alloc, text.as_str(), &edits)? {
-            Some(edited) => Ok(Some(CowStr::Owned(edited.into_owned(alloc)?))),
-            None => Ok(None),
-        },
-    }
-}
-
-/// The edit that a step is. A step of no kind is a range that every text refuses.
-fn edit_of<'a>(step: &EditStep<'_>, pat: &'a str) -> Edit<'a>
-    requires { pat.now ≡ step.now.pattern.now }
-    ensures { change_of result ≡ change_of_step step.now }
-{
-    match step.kind {
-        CUT => Edit::Cut {
-            start: step.first,
-            end: Some(step.second),
-        },
-        LEFT => Edit::Left(step.first),
-        RIGHT => Edit::Right(step.first),
-        PART => Edit::Part {
-            pat,
-            index: step.first,
-        },
-        PREFIX => Edit::Prefix(pat),
-        SUFFIX => Edit::Suffix(pat),
-        TRIM => Edit::Trim,
-        _ => Edit::Cut {
-            start: 1,
-            end: Some(0),
-        },
-    }
 }

@@ -3,14 +3,11 @@
 //! A call takes texts as bytes, and writes what it gives into a buffer of the caller's.
 #![tactic(auto)]
 
-pub mod answers;
 pub mod blocks;
 pub mod edits;
 pub mod lists;
 pub mod next;
 pub mod parts;
 pub mod searches;
-pub mod styles;
 pub mod texts;
 pub mod unchecked;
-pub mod walks;

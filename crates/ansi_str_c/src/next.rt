@@ -1,17 +1,15 @@
 //! Calls that take blocks off a text one by one.
-ghost use Rattle.std.specs.Prelude.{◌≡◌, ◌∷◌, [], not, true, ◌==◌, length, IsUtf8, Some};
+ghost use Rattle.std.specs.Prelude.{◌≡◌, ◌∷◌, [], true, IsUtf8, Some};
 ghost use Rattle.ansi_str.specs.States.{rendition_of_numbers};
 ghost use Rattle.ansi_str.specs.Written.{start, close_if_any};
-ghost use Rattle.ansi_str.specs.Blocks.{waiting};
-ghost use Rattle.ansi_str_c.specs.Answers.{done, failed, no, not_utf8, OnUtf8, Gives};
-ghost use Rattle.ansi_str_c.specs.Walks.{IsOver, GivesNext};
+ghost use Rattle.ansi_answers.specs.Answers.{done, failed, no, not_utf8, OnUtf8, Gives};
+ghost use Rattle.ansi_answers.specs.Walks.{IsOver, GivesNext};
 
-use crate::answers::{Answer, NO, NOT_UTF8, OK, OUT_OF_MEMORY, write};
-use crate::styles::StyleData;
-use crate::walks::{BlockWalk, NextBlock};
-use ansi_blocks::runs::{Run, first_run, waiting};
+use ansi_answers::answers::{Answer, NO, NOT_UTF8, OK, OUT_OF_MEMORY, write};
+use ansi_answers::styles::StyleData;
+use ansi_answers::walks::{BlockWalk, NextBlock, walk_over, write_waiting};
+use ansi_blocks::runs::first_run;
 use ansi_style::numbers::StyleNumbers;
-use ansi_style::styles;
 use simdutf8::basic::from_utf8;
 use std::alloc::Global;
 use std::str::from_utf8_unchecked;
@@ -71,20 +69,6 @@ pub extern "C" fn ansi_str_raw_blocks_next<'a>(
     answer
 }
 
-/// Writes the sequences that wait for the first run of a text. Takes memory only where there are any.
-fn write_waiting(alloc: Global, text: &str, run: &Run<'_>, buffer: &mut [u8]) -> Answer
-    requires { run.now.is_awaited ≡ not (length (waiting text.now 0) == 0) }
-    ensures { Gives no (not (length (waiting text.now 0) == 0)) (Some (waiting text.now 0)) result buffer.old buffer.new }
-{
-    if !run.is_awaited {
-        return Answer::done(0);
-    }
-    match waiting(alloc, text) {
-        Ok(sequences) => write(sequences.as_bytes(), buffer),
-        Err(_) => Answer::failed(OUT_OF_MEMORY),
-    }
-}
-
 /// The sequences that set a style.
 #[unsafe(no_mangle)]
 pub extern "C" fn ansi_str_raw_style_start(
@@ -112,15 +96,5 @@ pub extern "C" fn ansi_str_raw_style_end(
     match style.style().end().to_string(alloc) {
         Ok(end) => write(end.as_bytes(), buffer),
         Err(_) => Answer::failed(OUT_OF_MEMORY),
-    }
-}
-
-/// A walk that has all blocks of a text left.
-fn walk_over(text: &str) -> BlockWalk<'_>
-    ensures { IsOver text.now result }
-{
-    BlockWalk {
-        rest: text.as_bytes(),
-        style: StyleNumbers::of(&styles::plain_style()),
     }
 }

@@ -2,11 +2,11 @@
 ghost use Rattle.std.specs.Prelude.{◌≡◌, ◌∷◌, [], IsUtf8};
 ghost use Rattle.ansi_str.specs.Splits.{split_parts};
 ghost use Rattle.ansi_split.specs.Walks.{parts_of_walk, IsPartWalk};
-ghost use Rattle.ansi_str_c.specs.Answers.{done, failed, not_utf8, OnUtf8};
-ghost use Rattle.ansi_str_c.specs.Walks.{GivesNextPart};
+ghost use Rattle.ansi_answers.specs.Answers.{done, failed, not_utf8, OnUtf8};
+ghost use Rattle.ansi_answers.specs.Walks.{GivesNextPart};
 
-use crate::answers::{Answer, NO, NOT_UTF8, OK, OUT_OF_MEMORY, write};
-use crate::walks::NextPart;
+use ansi_answers::answers::{Answer, NO, NOT_UTF8, OK, OUT_OF_MEMORY, write};
+use ansi_answers::walks::NextPart;
 use ansi_split::walks::{PartWalk, next_in, walk_in};
 use simdutf8::basic::from_utf8;
 use std::alloc::Global;

@@ -3,9 +3,10 @@ ghost use Rattle.std.specs.Prelude.{◌≡◌, ◌∷◌, [], nat_eq};
 ghost use Rattle.std.specs.List.{starts_with, ends_with};
 ghost use Rattle.ansi_str.specs.Plain.{plain, has_escape, is_whole};
 ghost use Rattle.ansi_str.specs.Positions.{is_char_boundary};
-ghost use Rattle.ansi_str_c.specs.Answers.{not_utf8, failed, told, OnUtf8, TellsBoundary, TellsPlace};
+ghost use Rattle.ansi_answers.specs.Answers.{not_utf8, failed, told, OnUtf8, TellsBoundary, TellsPlace};
 
-use crate::answers::{Answer, NO, NOT_UTF8};
+use ansi_answers::answers::{Answer, NOT_UTF8};
+use ansi_answers::searches::{tells_boundary, tells_end, tells_floor, tells_front, tells_place};
 use ansi_str::{AnsiStr, ansi_is_whole};
 use simdutf8::basic::from_utf8;
 
@@ -20,10 +21,7 @@ pub extern "C" fn ansi_str_raw_find(text: &[u8], pattern: &[u8]) -> Answer
     let Ok(pat) = from_utf8(pattern) else {
         return Answer::failed(NOT_UTF8);
     };
-    match text.ansi_find(pat) {
-        Some(place) => Answer::done(place),
-        None => Answer::failed(NO),
-    }
+    tells_place(text, pat)
 }
 
 /// Whether the plain text begins with the pattern.
@@ -39,7 +37,7 @@ pub extern "C" fn ansi_str_raw_starts_with(text: &[u8], pattern: &[u8]) -> Answe
     let Ok(pat) = from_utf8(pattern) else {
         return Answer::failed(NOT_UTF8);
     };
-    Answer::told(text.ansi_starts_with(pat))
+    tells_front(text, pat)
 }
 
 /// Whether the plain text ends with the pattern.
@@ -55,7 +53,7 @@ pub extern "C" fn ansi_str_raw_ends_with(text: &[u8], pattern: &[u8]) -> Answer
     let Ok(pat) = from_utf8(pattern) else {
         return Answer::failed(NOT_UTF8);
     };
-    Answer::told(text.ansi_ends_with(pat))
+    tells_end(text, pat)
 }
 
 /// Whether a character of the plain text begins at the index, or it ends there.
@@ -66,7 +64,7 @@ pub extern "C" fn ansi_str_raw_is_char_boundary(text: &[u8], index: usize) -> An
         (result ≡ failed not_utf8) }
 {
     match from_utf8(text) {
-        Ok(text) => Answer::told(text.ansi_is_char_boundary(index)),
+        Ok(text) => tells_boundary(text, index),
         Err(_) => Answer::failed(NOT_UTF8),
     }
 }
@@ -77,7 +75,7 @@ pub extern "C" fn ansi_str_raw_floor_char_boundary(text: &[u8], index: usize) ->
     ensures { OnUtf8 (text.now ∷ []) (TellsBoundary (plain text.now) index result) (result ≡ failed not_utf8) }
 {
     match from_utf8(text) {
-        Ok(text) => Answer::done(text.ansi_floor_char_boundary(index)),
+        Ok(text) => tells_floor(text, index),
         Err(_) => Answer::failed(NOT_UTF8),
     }
 }

@@ -2,11 +2,11 @@
 ghost use Rattle.std.specs.Prelude.{◌∷◌, [], Some};
 ghost use Rattle.ansi_str.specs.Plain.{plain, has_escape};
 ghost use Rattle.ansi_str.specs.Changes.{CutRange, LeftOf, RightOf, PartOf, WithoutPrefix, WithoutSuffix, Trimmed};
-ghost use Rattle.ansi_str.specs.Edits.{changes_of};
-ghost use Rattle.ansi_str_c.specs.Answers.{no, refused, not_utf8, OnUtf8, HasFailed, Gives, GivesEdited};
+ghost use Rattle.ansi_answers.specs.Answers.{no, refused, not_utf8, OnUtf8, HasFailed, Gives, GivesEdited};
 
-use crate::answers::{Answer, NO, NOT_UTF8, OUT_OF_MEMORY, REFUSED, write, write_found};
-use ansi_str::{AnsiStr, Edit, edit};
+use ansi_answers::answers::{Answer, NO, NOT_UTF8, REFUSED};
+use ansi_answers::texts::{write_edited, write_plain};
+use ansi_str::Edit;
 use simdutf8::basic::from_utf8;
 use std::alloc::Global;
 
@@ -17,12 +17,9 @@ pub extern "C" fn ansi_str_raw_strip(alloc: Global, text: &[u8], buffer: &mut [u
         (Gives no (has_escape text.now) (Some (plain text.now)) result buffer.old buffer.new)
         (HasFailed not_utf8 result buffer.old buffer.new) }
 {
-    let Ok(text) = from_utf8(text) else {
-        return Answer::failed(NOT_UTF8);
-    };
-    match text.ansi_strip(alloc) {
-        Ok(plain) => write(plain.as_bytes(), buffer),
-        Err(_) => Answer::failed(OUT_OF_MEMORY),
+    match from_utf8(text) {
+        Ok(text) => write_plain(alloc, text, buffer),
+        Err(_) => Answer::failed(NOT_UTF8),
     }
 }
 
@@ -139,23 +136,4 @@ pub extern "C" fn ansi_str_raw_part(
         Ok(pat) => write_edited(alloc, text, &[Edit::Part { pat, index }], NO, buffer),
         Err(_) => Answer::failed(NOT_UTF8),
     }
-}
-
-/// Writes what edits make of a text, or answers a status where one is refused.
-#[tactic(auto, unfolding(crate::specs::Answers::GivesEdited))]
-fn write_edited(
-    alloc: Global,
-    text: &[u8],
-    edits: &[Edit<'_>],
-    absent: u32,
-    buffer: &mut [u8],
-) -> Answer
-    ensures { OnUtf8 (text.now ∷ [])
-        (GivesEdited absent (changes_of edits.now) text.now result buffer.old buffer.new)
-        (HasFailed not_utf8 result buffer.old buffer.new) }
-{
-    let Ok(text) = from_utf8(text) else {
-        return Answer::failed(NOT_UTF8);
-    };
-    write_found(edit(alloc, text, edits), absent, buffer)
 }

@@ -3,10 +3,11 @@ ghost use Rattle.std.specs.Prelude.{◌≡◌, IsUtf8, Some, nat_eq};
 ghost use Rattle.std.specs.List.{starts_with, ends_with};
 ghost use Rattle.ansi_str.specs.Plain.{plain, has_escape};
 ghost use Rattle.ansi_str.specs.Positions.{is_char_boundary};
-ghost use Rattle.ansi_str_c.specs.Answers.{no, told, TellsBoundary, TellsPlace, Gives};
+ghost use Rattle.ansi_answers.specs.Answers.{no, told, TellsBoundary, TellsPlace, Gives};
 
-use crate::answers::{Answer, NO, OUT_OF_MEMORY, write};
-use ansi_str::AnsiStr;
+use ansi_answers::answers::Answer;
+use ansi_answers::searches::{tells_boundary, tells_end, tells_floor, tells_front, tells_place};
+use ansi_answers::texts::write_plain;
 use std::alloc::Global;
 use std::str::from_utf8_unchecked;
 
@@ -21,10 +22,7 @@ pub extern "C" fn ansi_str_raw_strip_unchecked(
     ensures { Gives no (has_escape text.now) (Some (plain text.now)) result buffer.old buffer.new }
 {
     let text = unsafe { from_utf8_unchecked(text) };
-    match text.ansi_strip(alloc) {
-        Ok(plain) => write(plain.as_bytes(), buffer),
-        Err(_) => Answer::failed(OUT_OF_MEMORY),
-    }
+    write_plain(alloc, text, buffer)
 }
 
 /// Where the pattern first stands in the plain text.
@@ -36,10 +34,7 @@ pub extern "C" fn ansi_str_raw_find_unchecked(text: &[u8], pattern: &[u8]) -> An
 {
     let text = unsafe { from_utf8_unchecked(text) };
     let pat = unsafe { from_utf8_unchecked(pattern) };
-    match text.ansi_find(pat) {
-        Some(place) => Answer::done(place),
-        None => Answer::failed(NO),
-    }
+    tells_place(text, pat)
 }
 
 /// Whether the plain text begins with the pattern.
@@ -51,7 +46,7 @@ pub extern "C" fn ansi_str_raw_starts_with_unchecked(text: &[u8], pattern: &[u8]
 {
     let text = unsafe { from_utf8_unchecked(text) };
     let pat = unsafe { from_utf8_unchecked(pattern) };
-    Answer::told(text.ansi_starts_with(pat))
+    tells_front(text, pat)
 }
 
 /// Whether the plain text ends with the pattern.
@@ -63,7 +58,7 @@ pub extern "C" fn ansi_str_raw_ends_with_unchecked(text: &[u8], pattern: &[u8]) 
 {
     let text = unsafe { from_utf8_unchecked(text) };
     let pat = unsafe { from_utf8_unchecked(pattern) };
-    Answer::told(text.ansi_ends_with(pat))
+    tells_end(text, pat)
 }
 
 /// Whether a character of the plain text begins at the index, or it ends there.
@@ -73,7 +68,7 @@ pub extern "C" fn ansi_str_raw_is_char_boundary_unchecked(text: &[u8], index: us
     ensures { result ≡ told (is_char_boundary (plain text.now) index) }
 {
     let text = unsafe { from_utf8_unchecked(text) };
-    Answer::told(text.ansi_is_char_boundary(index))
+    tells_boundary(text, index)
 }
 
 /// The last character boundary of the plain text that isn't past the index.
@@ -83,5 +78,5 @@ pub extern "C" fn ansi_str_raw_floor_char_boundary_unchecked(text: &[u8], index:
     ensures { TellsBoundary (plain text.now) index result }
 {
     let text = unsafe { from_utf8_unchecked(text) };
-    Answer::done(text.ansi_floor_char_boundary(index))
+    tells_floor(text, index)
 }

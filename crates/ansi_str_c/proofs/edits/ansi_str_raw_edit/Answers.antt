@@ -1,8 +1,8 @@
 use Rattle.std.proofs.Common.{inl, map, refl, sym, ◌∙◌}
 use Rattle.ansi_str.specs.Edited.{stay_borrowed}
-use Rattle.ansi_str_c.specs.Answers.{GivesEdited}
-use Rattle.ansi_str_c.specs.Steps.{change_of_step, patterns_of}
-use Rattle.ansi_str_c.proofs.Utf8Lemmas.{OnUtf8-all, OnUtf8-not, Gives-found}
+use Rattle.ansi_answers.specs.Answers.{GivesEdited}
+use Rattle.ansi_answers.specs.Steps.{change_of_step, patterns_of}
+use Rattle.ansi_answers.proofs.Utf8Lemmas.{OnUtf8-all, OnUtf8-not, Gives-found}
 use Rattle.ansi_str_c.proofs.edits.ansi_str_raw_edit.Goals as goal
 
 -- a pattern isn't UTF-8

@@ -1,7 +1,7 @@
 use Rattle.std.proofs.Common.{◌≡◌, ◌∙◌, Bool, ap, inl}
 use Rattle.ansi_str.specs.Plain.{has_escape}
-use Rattle.ansi_str_c.specs.declared.answers.Answer.{Answer}
-use Rattle.ansi_str_c.specs.Answers.{told}
+use Rattle.ansi_answers.specs.declared.answers.Answer.{Answer}
+use Rattle.ansi_answers.specs.Answers.{told}
 use Rattle.ansi_str_c.proofs.searches.ansi_str_raw_has_any.Goals as goal
 
 told-same : (a b : Bool) (answer : Answer) → answer ≡ told a → a ≡ b → answer ≡ told b

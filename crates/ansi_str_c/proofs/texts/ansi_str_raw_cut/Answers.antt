@@ -1,7 +1,7 @@
 use Rattle.std.proofs.Common.{◌∷◌, [], Some, refl}
 use Rattle.ansi_str.specs.Changes.{CutRange}
-use Rattle.ansi_str_c.specs.Answers.{refused}
-use Rattle.ansi_str_c.proofs.StepLemmas.{Edited-same}
+use Rattle.ansi_answers.specs.Answers.{refused}
+use Rattle.ansi_answers.proofs.StepLemmas.{Edited-same}
 use Rattle.ansi_str_c.proofs.texts.ansi_str_raw_cut.Goals as goal
 
 pub returns : goal.returns

@@ -1,7 +1,7 @@
 use Rattle.std.proofs.Common.{◌∷◌, [], ap, inl, inr, refl}
 use Rattle.ansi_str.specs.Changes.{PartOf}
-use Rattle.ansi_str_c.specs.Answers.{no}
-use Rattle.ansi_str_c.proofs.StepLemmas.{Edited-same}
+use Rattle.ansi_answers.specs.Answers.{no}
+use Rattle.ansi_answers.proofs.StepLemmas.{Edited-same}
 use Rattle.ansi_str_c.proofs.texts.ansi_str_raw_part.Goals as goal
 
 pub returns-in-Ok : goal.returns-in-Ok

@@ -1,6 +1,6 @@
 use Rattle.std.proofs.Common.{◌≡◌, ℕ, List, inl, subst}
 use Rattle.ansi_str.specs.Plain.{plain}
-use Rattle.ansi_str_c.specs.Answers.{IsWritten}
+use Rattle.ansi_answers.specs.Answers.{IsWritten}
 use Rattle.ansi_str_c.proofs.texts.ansi_str_raw_strip.Goals as goal
 
 -- the plain text is written

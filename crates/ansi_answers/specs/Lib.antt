@@ -1,0 +1,4 @@
+pub mod Answers
+pub mod Styles
+pub mod Steps
+pub mod Walks

@@ -1,0 +1,65 @@
+//! A walk over the blocks of a text, in the caller's memory, and what a walk over blocks or parts tells.
+ghost use Rattle.std.specs.Prelude.{◌≡◌, not, ◌==◌, length, Some};
+ghost use Rattle.ansi_str.specs.Blocks.{waiting};
+ghost use Rattle.ansi_answers.specs.Answers.{no, Gives};
+ghost use Rattle.ansi_answers.specs.Walks.{IsOver};
+
+use crate::answers::{Answer, OUT_OF_MEMORY, write};
+use crate::styles::StyleData;
+use ansi_blocks::runs::{Run, waiting};
+use ansi_style::numbers::StyleNumbers;
+use ansi_style::styles;
+use std::alloc::Allocator;
+
+/// What is left of a text whose blocks are taken one by one, and the style there, which is that of the
+/// block before.
+#[repr(C)]
+#[derive(Clone, Copy)]
+pub struct BlockWalk<'a> {
+    pub rest: &'a [u8],
+    pub style: StyleNumbers,
+}
+
+/// A block: its run, which stands in the text, and its style. The sequences before the run are told apart.
+#[repr(C)]
+#[derive(Clone, Copy)]
+pub struct NextBlock<'a> {
+    pub text: &'a [u8],
+    pub style: StyleData,
+}
+
+/// A part that stands in the text as it is.
+#[repr(C)]
+#[derive(Clone, Copy)]
+pub struct NextPart<'a> {
+    pub text: &'a [u8],
+}
+
+/// A walk that has all blocks of a text left.
+pub fn walk_over(text: &str) -> BlockWalk<'_>
+    ensures { IsOver text.now result }
+{
+    BlockWalk {
+        rest: text.as_bytes(),
+        style: StyleNumbers::of(&styles::plain_style()),
+    }
+}
+
+/// Writes the sequences that wait for the first run of a text. Takes memory only where there are any.
+pub fn write_waiting<A: Allocator>(
+    alloc: A,
+    text: &str,
+    run: &Run<'_>,
+    buffer: &mut [u8],
+) -> Answer
+    requires { run.now.is_awaited ≡ not (length (waiting text.now 0) == 0) }
+    ensures { Gives no (not (length (waiting text.now 0) == 0)) (Some (waiting text.now 0)) result buffer.old buffer.new }
+{
+    if !run.is_awaited {
+        return Answer::done(0);
+    }
+    match waiting(alloc, text) {
+        Ok(sequences) => write(sequences.as_bytes(), buffer),
+        Err(_) => Answer::failed(OUT_OF_MEMORY),
+    }
+}

@@ -1,0 +1,142 @@
+-- Texts that are joined in turn or written where they belong, and an entry for each; the parts and the block of a text without ESC.
+use Rattle.std.proofs.Common.{◌≡◌, ◌∙◌, ℕ, ◌+◌, ◌≤◌, ◌==◌, List, [], ◌∷◌, ◌++◌, length, take, drop, Some, Result, Ok, Err, refl, sym, ap, ap₂, subst, arith, append_assoc, append-nil, length-append, length-take, length-drop, ◌-◌, slice_range, true, false, IsTrue, if◌then◌else◌}
+use Rattle.std.specs.Prelude.{flat_map, IsFalse, IsOk}
+use Rattle.std.specs.List.{list_all}
+use Rattle.std.proofs.lemmas.Bool.{and_parts, ne_eqb}
+use Rattle.std.proofs.lemmas.List.{take-append-drop, length-take-le, length-map}
+use Rattle.std.proofs.lemmas.Slice.{drop-append-drop}
+use Rattle.ansi_items.proofs.PlainLemmas.{pieces_of-bare, one_text}
+use Rattle.ansi_blocks.proofs.BlockLemmas.{blocks_from-walked, blocks_through}
+use Rattle.ansi_str.specs.Plain.{has_escape}
+use Rattle.ansi_str.specs.Rendition.{plain_style}
+use Rattle.ansi_str.specs.StdSplit.{AreInTurn, slices_over}
+use Rattle.std.proofs.Math.Seq.{take-append_seam, drop-append_seam, take-append-add, drop-append-add}
+use Rattle.std.specs.declared.borrow.CowStr.{CowStr}
+use Rattle.std.proofs.lemmas.List.Concat.{flat_map-cons}
+use Rattle.ansi_str.specs.Blocks.{Block, GivesBlock, blocks}
+use Rattle.ansi_str.specs.Splits.{SplitPart, IsPart, GivesPart}
+use Rattle.ansi_str.specs.Parts.{parts, all_parts}
+use Rattle.ansi_lists.specs.declared.lists.ListAnswer.{ListAnswer}
+use Rattle.ansi_lists.specs.Lists.{entries_of, AreWritten}
+
+-- a part was taken off those that were left
+pub part-taken : {A E : Type 0} {xs us : List SplitPart} {r : Result (CowStr A) E} {c : CowStr A} → GivesPart xs (Some r) us → r ≡ Ok c
+    → (p : SplitPart) × (xs ≡ p ∷ us) × IsPart p c
+part-taken {A} {E} {xs} {us} gives is = subst (λ r. GivesPart {A = A} {E = E} xs (Some r) us) is gives
+
+-- one more text is joined
+pub texts-more : {X : Type 0} (text : X → List ℕ) (so_far after added all : List ℕ) (x : X) (left next : List X)
+    → left ≡ x ∷ next → after ≡ so_far ++ added → added ≡ text x → so_far ++ flat_map text left ≡ all → after ++ flat_map text next ≡ all
+texts-more text so_far after added all x left next is more adds joined =
+    let rest = flat_map text next in
+    ap (λ u. u ++ rest) more ∙ append_assoc so_far added rest ∙ ap (λ u. so_far ++ (u ++ rest)) adds
+    ∙ ap (λ u. so_far ++ u) (sym (flat_map-cons text x next)) ∙ ap (λ xs. so_far ++ flat_map text xs) (sym is) ∙ joined
+
+-- and it ends after those before it
+pub length-joined : (so_far added after : List ℕ) → after ≡ so_far ++ added → length after ≡ length so_far + length added
+length-joined so_far added after more = ap length more ∙ length-append so_far added
+
+-- and its entry
+pub entries-more : {X Y : Type 0} (text : X → List ℕ) (entry : ℕ → ℕ → X → Y) (so_far after : List ℕ) (entries more_entries all : List Y) (e : Y) (x : X) (left next : List X)
+    → left ≡ x ∷ next → length after ≡ length so_far + length (text x) → more_entries ≡ entries ++ e ∷ [] → entries_of text entry (length so_far) (x ∷ []) ≡ e ∷ []
+    → entries ++ entries_of text entry (length so_far) left ≡ all → more_entries ++ entries_of text entry (length after) next ≡ all
+entries-more text entry so_far after entries more_entries all e x left next is ends one_more is_entry listed =
+    let rest = entries_of text entry (length after) next in
+    ap (λ u. u ++ rest) one_more ∙ append_assoc entries (e ∷ []) rest ∙ ap (λ es. entries ++ (es ++ rest)) (sym is_entry)
+    ∙ ap (λ n. entries ++ entry (length so_far) (length so_far + length (text x)) x ∷ entries_of text entry n next) ends
+    ∙ ap (λ xs. entries ++ entries_of text entry (length so_far) xs) (sym is) ∙ listed
+
+-- a text is joined between what stands before it and after it
+pub around-more : (so_far a b after before text end : List ℕ) → a ≡ so_far ++ before → b ≡ a ++ text → after ≡ b ++ end → after ≡ so_far ++ (before ++ text ++ end)
+around-more so_far a b after before text end begun more ended =
+    ended ∙ ap (λ u. u ++ end) (more ∙ ap (λ u. u ++ text) begun ∙ append_assoc so_far before text) ∙ append_assoc so_far (before ++ text) end
+
+-- Texts that are written where they belong.
+
+-- a part that is a borrow is no error, and the parts after one are borrows too
+pub borrowed-part : {A E : Type 0} (xs us : List SplitPart) (r : Result (CowStr A) E) → GivesPart {A = A} {E = E} xs (Some r) us → IsTrue (list_all (λ (p : SplitPart). p.borrowed) xs) → IsOk r
+borrowed-part xs us (Ok c) gives all = refl
+borrowed-part xs us (Err e) gives all =
+    let both = and_parts gives.0.borrowed (list_all (λ (p : SplitPart). p.borrowed) gives.1) (subst (λ ps. IsTrue (list_all (λ (p : SplitPart). p.borrowed) ps)) gives.2 all) in
+    absurd (cc (both.0, gives.3))
+
+pub borrowed-rest : {xs us : List SplitPart} {p : SplitPart} → xs ≡ p ∷ us → IsTrue (list_all (λ (p : SplitPart). p.borrowed) xs) → IsTrue (list_all (λ (p : SplitPart). p.borrowed) us)
+borrowed-rest {xs} {us} {p} is all = (and_parts p.borrowed (list_all (λ (p : SplitPart). p.borrowed) us) (subst (λ ps. IsTrue (list_all (λ (p : SplitPart). p.borrowed) ps)) is all)).1
+
+-- one item more stands in its place, and what follows it is left
+pub placed-more : {T : Type 0} (all old now after : List T) (n : ℕ) (x next : List T) → now ≡ take n all ++ drop n old → drop n all ≡ x ++ next → n ≤ length all
+    → after ≡ take n now ++ x ++ drop (n + length x) now → after ≡ take (n + length x) all ++ drop (n + length x) old
+placed-more all old now after n x next is rest inside more =
+    let d = take n all in
+    let size : length d ≡ n = length-take-le n all inside in
+    let front : take n now ≡ d = ap (take n) is ∙ ap (λ k. take k (d ++ drop n old)) (sym size) ∙ take-append_seam d (drop n old) in
+    let back : drop (n + length x) now ≡ drop (n + length x) old = ap (drop (n + length x)) is ∙ drop-append-drop n old d (n + length x) (omega arith) size in
+    let taken : take (n + length x) all ≡ d ++ x =
+    ap (take (n + length x)) (sym (take-append-drop n all) ∙ ap (λ u. d ++ u) rest) ∙ ap (λ k. take (k + length x) (d ++ (x ++ next))) (sym size)
+    ∙ take-append-add d (x ++ next) (length x) ∙ ap (λ u. d ++ u) (take-append_seam x next) in
+    more ∙ ap₂ (λ u v. u ++ x ++ v) front back ∙ ap (λ u. u ++ drop (n + length x) old) (sym taken)
+
+pub left-more : {T : Type 0} (all : List T) (n : ℕ) (x next : List T) → drop n all ≡ x ++ next → n ≤ length all → drop (n + length x) all ≡ next
+left-more all n x next rest inside =
+    let d = take n all in
+    let size : length d ≡ n = length-take-le n all inside in
+    ap (drop (n + length x)) (sym (take-append-drop n all) ∙ ap (λ u. d ++ u) rest) ∙ ap (λ k. drop (k + length x) (d ++ (x ++ next))) (sym size)
+    ∙ drop-append-add d (x ++ next) (length x) ∙ drop-append_seam x next
+
+-- and ends within the whole
+pub left-within : {T : Type 0} (all : List T) (n : ℕ) (x next : List T) → drop n all ≡ x ++ next → n ≤ length all → n + length x ≤ length all
+left-within all n x next rest inside = omega (arith, inside, ap length rest, length-drop n all, length-append x next)
+
+-- there is an entry for each
+pub length-entries : {X Y : Type 0} (text : X → List ℕ) (entry : ℕ → ℕ → X → Y) (n : ℕ) (xs : List X) → length (entries_of text entry n xs) ≡ length xs
+length-entries text entry n [] = refl
+length-entries text entry n (x ∷ xs) = omega (arith, length-entries text entry (n + length (text x)) xs)
+
+-- what stands in intervals in turn has no more bytes than what follows the place e
+pub length-slices_over : (x : List ℕ) (e : ℕ) (is : List (ℕ × ℕ)) → AreInTurn x e is → length (flat_map (λ u. u) (slices_over x is)) ≤ length x - e
+length-slices_over x e [] turn = omega arith
+length-slices_over x e (i ∷ is) turn =
+    omega (
+      arith,
+      turn.0,
+      turn.1,
+      length-slices_over x i.1 is turn.4,
+      length-append (slice_range x i.0 i.1) (flat_map (λ u. u) (slices_over x is)),
+      length-take (i.1 - i.0) (drop i.0 x),
+      length-drop i.0 x,
+    )
+
+-- A text without ESC is one block, or none where it is empty.
+
+abbrev pub whole_block : List ℕ → Block
+whole_block t = record { text = t; style = plain_style; is_borrow = true }
+
+-- what is written of it is written of its blocks
+pub one_block_written : {T : Type 0} (text : Block → List ℕ) (entry : ℕ → ℕ → Block → T) (only : List T) (t : List ℕ) (answer : ListAnswer) (old new : List ℕ) (old_entries new_entries : List T)
+    → IsFalse (has_escape t) → text (whole_block t) ≡ t → entry 0 (length t) (whole_block t) ∷ [] ≡ only
+    → AreWritten t (if length t == 0 then [] else only) answer old new old_entries new_entries
+    → AreWritten (flat_map text (blocks t)) (entries_of text entry 0 (blocks t)) answer old new old_entries new_entries
+one_block_written {T} text entry only t answer old new old_entries new_entries none same is written =
+    let one : blocks t ≡ blocks_through plain_style [] (one_text t) = blocks_from-walked plain_style t ∙ ap (blocks_through plain_style []) (pieces_of-bare t none) in
+    subst (λ (bs : List Block). AreWritten (flat_map text bs) (entries_of text entry 0 bs) answer old new old_entries new_entries) (sym one)
+    (by_text t same is written)
+  where
+    by_text : (t : List ℕ) → text (whole_block t) ≡ t → entry 0 (length t) (whole_block t) ∷ [] ≡ only
+        → AreWritten t (if length t == 0 then [] else only) answer old new old_entries new_entries
+        → AreWritten (flat_map text (blocks_through plain_style [] (one_text t))) (entries_of text entry 0 (blocks_through plain_style [] (one_text t))) answer old new old_entries new_entries
+    by_text [] same is written = written
+    by_text (b ∷ w) same is written =
+        let filled : (length (b ∷ w) == 0) ≡ false = ne_eqb (length (b ∷ w)) 0 (λ e. omega (arith, e)) in
+        let bytes : text (whole_block (b ∷ w)) ++ [] ≡ b ∷ w = append-nil (text (whole_block (b ∷ w))) ∙ same in
+        let entries : entry 0 (0 + length (text (whole_block (b ∷ w)))) (whole_block (b ∷ w)) ∷ [] ≡ (if length (b ∷ w) == 0 then [] else only)
+        = ap (λ n. entry 0 n (whole_block (b ∷ w)) ∷ []) (omega (arith, ap length same)) ∙ is ∙ ap (λ c. if c then [] else only) (sym filled) in
+        subst (λ u. AreWritten u (entry 0 (0 + length (text (whole_block (b ∷ w)))) (whole_block (b ∷ w)) ∷ []) answer old new old_entries new_entries) (sym bytes)
+        (subst (λ es. AreWritten (b ∷ w) es answer old new old_entries new_entries) (sym entries) written)
+
+-- the parts of a text without ESC have no more bytes than it
+pub length-bare_parts : (t p : List ℕ) → all_parts t p ≡ slices_over t (parts t p) → AreInTurn t 0 (parts t p) → length (flat_map (λ u. u) (all_parts t p)) ≤ length t
+length-bare_parts t p are turn = omega (arith, ap (λ us. length (flat_map (λ u. u) us)) are, length-slices_over t 0 (parts t p) turn)
+
+-- and there are at most two more than it has bytes
+pub few-bare_parts : (t p : List ℕ) → all_parts t p ≡ slices_over t (parts t p) → length (parts t p) ≤ length t + 2 → length (all_parts t p) ≤ length t + 2
+few-bare_parts t p are few = omega (arith, few, ap length are, length-map (parts t p) (λ (i : ℕ × ℕ). slice_range t i.0 i.1))

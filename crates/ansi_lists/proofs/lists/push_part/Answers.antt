@@ -1,0 +1,5 @@
+use Rattle.ansi_lists.proofs.lists.push_part.Goals as goal
+
+-- the length of the texts is that of their bytes
+pub returns : goal.returns
+returns c = record { bytes = c.in_ok-push_str.ensures.bytes; end = cc c.push_str.new.self.bytes.ok.0 }

@@ -1,0 +1,59 @@
+-- Several texts in one buffer, and an entry for each in another.
+use Rattle.std.specs.Prelude.{◌≡◌, ◌⊎◌, ◌<◌, ◌≤◌, ◌+◌, ℕ, Bool, List, [], ◌∷◌, ◌++◌, drop, length, IsTrue}
+use Rattle.ansi_str.specs.Blocks.{Block}
+use Rattle.ansi_lists.specs.declared.lists.ListAnswer.{ListAnswer}
+use Rattle.ansi_str.specs.Written.{start, close_if_any}
+use Rattle.ansi_lists.specs.declared.lists.BlockEntry.{BlockEntry}
+use Rattle.ansi_lists.specs.declared.lists.StyledBlockEntry.{StyledBlockEntry}
+use Rattle.ansi_answers.specs.Answers.{ok, too_small, out_of_memory}
+use Rattle.ansi_answers.specs.Styles.{style_data}
+
+-- an entry for each of texts in a row, made of where it begins and ends; the first begins at n
+abbrev pub entries_of : {X Y : Type 0} → (X → List ℕ) → (ℕ → ℕ → X → Y) → ℕ → List X → List Y
+entries_of text entry n [] = []
+entries_of text entry n (x ∷ xs) = entry n (n + length (text x)) x ∷ entries_of text entry (n + length (text x)) xs
+
+-- where each text ends, where the first begins at n
+abbrev pub ends_from : ℕ → List (List ℕ) → List ℕ
+ends_from n ts = entries_of (λ t. t) (λ begin end t. end) n ts
+
+-- where each block ends and its style, where the first begins at n
+abbrev pub entries_from : ℕ → List Block → List BlockEntry
+entries_from n bs = entries_of (λ b. b.text) (λ begin end b. record { end = end; style = style_data b.style }) n bs
+
+-- a block with the start of its style before its text and the end after it
+abbrev pub styled_text : Block → List ℕ
+styled_text b = start b.style ++ b.text ++ close_if_any b.style
+
+-- where of each such block the start, the text and the end come to an end, and its style, where the first begins at n
+abbrev pub styled_entries_from : ℕ → List Block → List StyledBlockEntry
+styled_entries_from n bs = entries_of styled_text (λ begin end b. record {
+  text_start = begin + length (start b.style);
+  text_end = begin + length (start b.style) + length b.text;
+  end = end;
+  style = style_data b.style;
+}) n bs
+
+-- the answer of a call that gives nothing
+abbrev pub none : ℕ → ListAnswer
+none status = record { status = status; count = 0; len = 0 }
+
+-- a call gives nothing, and both buffers are as they were
+abbrev pub HaveFailed : {T : Type 0} → ℕ → ListAnswer → List ℕ → List ℕ → List T → List T → Type 0
+HaveFailed status answer old new old_entries new_entries = (answer ≡ none status) × (new ≡ old) × (new_entries ≡ old_entries)
+
+-- the bytes stand at the front of the buffer and the entries at the front of theirs, which are else as they were; or there is no room for one of them, and both are as they were
+abbrev pub AreWritten : {T : Type 0} → List ℕ → List T → ListAnswer → List ℕ → List ℕ → List T → List T → Type 0
+AreWritten bytes entries answer old new old_entries new_entries =
+    ((length bytes ≤ length old) × (length entries ≤ length old_entries)
+    × (answer ≡ record { status = ok; count = length entries; len = length bytes })
+    × (new ≡ bytes ++ drop (length bytes) old) × (new_entries ≡ entries ++ drop (length entries) old_entries))
+    ⊎ (((length old < length bytes) ⊎ (length old_entries < length entries))
+    × (answer ≡ record { status = too_small; count = length entries; len = length bytes })
+    × (new ≡ old) × (new_entries ≡ old_entries))
+
+-- a call gives all texts; or memory has run out, where the call takes any
+abbrev pub GivesAll : {T : Type 0} → Bool → List ℕ → List T → ListAnswer → List ℕ → List ℕ → List T → List T → Type 0
+GivesAll takes_memory bytes entries answer old new old_entries new_entries =
+    AreWritten bytes entries answer old new old_entries new_entries
+    ⊎ (IsTrue takes_memory × HaveFailed out_of_memory answer old new old_entries new_entries)

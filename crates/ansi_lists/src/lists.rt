@@ -1,0 +1,369 @@
+//! All parts of a text, and all its blocks, written into a buffer, and an entry for each into another.
+ghost use Rattle.std.specs.Prelude.{◌≡◌, ◌⊎◌, ◌≤◌, ◌<◌, ◌+◌, ◌^◌, ◌==◌, ◌∷◌, [], ◌++◌, length, take, drop, flat_map, if◌then◌else◌, IsFalse, IfNone, IfSome, IfOk, OnOk, MatchResult, string_bytes};
+ghost use Rattle.ansi_str.specs.Plain.{has_escape};
+ghost use Rattle.ansi_str.specs.Parts.{all_parts};
+ghost use Rattle.ansi_str.specs.Blocks.{blocks};
+ghost use Rattle.ansi_answers.specs.Answers.{out_of_memory};
+ghost use Rattle.ansi_lists.specs.Lists.{none, ends_from, entries_from, styled_text, styled_entries_from, AreWritten, HaveFailed, GivesAll};
+
+use ansi_answers::answers::{OK, OUT_OF_MEMORY, TOO_SMALL};
+use ansi_answers::styles::StyleData;
+use ansi_str::split::split_in;
+use ansi_str::{AnsiBlock, AnsiStr, get_blocks, laws};
+use std::alloc::{AllocError, Allocator};
+use std::fmt::Write;
+
+/// What a call answers that gives several texts: a status, how many they are, and their length
+/// together.
+#[repr(C)]
+#[derive(Clone, Copy)]
+pub struct ListAnswer {
+    pub status: u32,
+    pub count: usize,
+    pub len: usize,
+}
+
+impl ListAnswer {
+    /// The answer of a call that gives nothing.
+    pub fn failed(status: u32) -> ListAnswer
+        ensures { result ≡ none status }
+    {
+        ListAnswer {
+            status,
+            count: 0,
+            len: 0,
+        }
+    }
+}
+
+/// A block among the blocks of a text: where its text ends among theirs, and its style.
+#[repr(C)]
+#[derive(Clone, Copy)]
+pub struct BlockEntry {
+    pub end: usize,
+    pub style: StyleData,
+}
+
+/// A block among the blocks of a text, each between the start of its style and the end: where its text
+/// starts and ends, where all of it ends, and its style.
+#[repr(C)]
+#[derive(Clone, Copy)]
+pub struct StyledBlockEntry {
+    pub text_start: usize,
+    pub text_end: usize,
+    pub end: usize,
+    pub style: StyleData,
+}
+
+/// Writes all parts of a text between the matches of a pattern, and where each ends.
+pub fn write_parts<A: Allocator + Copy>(
+    alloc: A,
+    text: &str,
+    pat: &str,
+    buffer: &mut [u8],
+    ends: &mut [usize],
+) -> ListAnswer
+    ensures { GivesAll (has_escape text.now) (flat_map (λ p. p) (all_parts text.now pat.now)) (ends_from 0 (all_parts text.now pat.now)) result buffer.old buffer.new ends.old ends.new }
+{
+    if !text.ansi_has_any() {
+        return write_bare_parts(alloc, text, pat, buffer, ends);
+    }
+    write_joined(join_parts(alloc, text, pat), buffer, ends)
+}
+
+/// Writes all blocks of a text, and where each ends and its style.
+pub fn write_blocks<A: Allocator + Copy>(
+    alloc: A,
+    text: &str,
+    buffer: &mut [u8],
+    entries: &mut [BlockEntry],
+) -> ListAnswer
+    ensures { GivesAll (has_escape text.now) (flat_map (λ b. b.text) (blocks text.now)) (entries_from 0 (blocks text.now)) result buffer.old buffer.new entries.old entries.new }
+{
+    if !text.ansi_has_any() {
+        let entry = BlockEntry {
+            end: text.len(),
+            style: StyleData::empty(),
+        };
+        return write_one_block(text, &[entry], buffer, entries);
+    }
+    write_joined(join_blocks(alloc, text), buffer, entries)
+}
+
+/// Writes all blocks of a text, each between the start of its style and the end, and where these stand and
+/// its style.
+pub fn write_styled_blocks<A: Allocator + Copy>(
+    alloc: A,
+    text: &str,
+    buffer: &mut [u8],
+    entries: &mut [StyledBlockEntry],
+) -> ListAnswer
+    ensures { GivesAll (has_escape text.now) (flat_map styled_text (blocks text.now)) (styled_entries_from 0 (blocks text.now)) result buffer.old buffer.new entries.old entries.new }
+{
+    if !text.ansi_has_any() {
+        let entry = StyledBlockEntry {
+            text_start: 0,
+            text_end: text.len(),
+            end: text.len(),
+            style: StyleData::empty(),
+        };
+        return write_one_block(text, &[entry], buffer, entries);
+    }
+    write_joined(join_styled_blocks(alloc, text), buffer, entries)
+}
+
+/// Writes the parts of a text without ESC, and where each ends, where there is room for all of them. Takes
+/// no memory.
+fn write_bare_parts<A: Allocator + Copy>(
+    alloc: A,
+    text: &str,
+    pat: &str,
+    buffer: &mut [u8],
+    ends: &mut [usize],
+) -> ListAnswer
+    requires { IsFalse (has_escape text.now) }
+    ensures { AreWritten (flat_map (λ p. p) (all_parts text.now pat.now)) (ends_from 0 (all_parts text.now pat.now)) result buffer.old buffer.new ends.old ends.new }
+{
+    if let Some((count, len)) = parts_without_room(alloc, text, pat, buffer.len(), ends.len()) {
+        return ListAnswer {
+            status: TOO_SMALL,
+            count,
+            len,
+        };
+    }
+    let (count, len) = copy_bare_parts(alloc, text, pat, buffer, ends);
+    ListAnswer {
+        status: OK,
+        count,
+        len,
+    }
+}
+
+/// How many parts a text without ESC has and their length together, where there is no room for so many bytes
+/// or so many ends. They are counted only where there might be none.
+fn parts_without_room<A: Allocator + Copy>(
+    alloc: A,
+    text: &str,
+    pat: &str,
+    bytes: usize,
+    ends: usize,
+) -> Option<(usize, usize)>
+    requires { IsFalse (has_escape text.now) }
+    ensures none { IfNone result ((length (flat_map (λ p. p) (all_parts text.now pat.now)) ≤ bytes) × (length (all_parts text.now pat.now) ≤ ends)) }
+    ensures small { IfSome result (λ r. (bytes < length (flat_map (λ p. p) (all_parts text.now pat.now))) ⊎ (ends < length (all_parts text.now pat.now))) }
+    ensures needed { IfSome result (λ r. (r.0 ≡ length (all_parts text.now pat.now)) × (r.1 ≡ length (flat_map (λ p. p) (all_parts text.now pat.now)))) }
+{
+    laws::bare_texts_are_std();
+    laws::parts_lie_between_matches();
+    if text.len() <= bytes && text.len() + 2 <= ends {
+        return None;
+    }
+    let (count, len) = copy_bare_parts(alloc, text, pat, &mut [], &mut []);
+    if len > bytes || count > ends {
+        Some((count, len))
+    } else {
+        None
+    }
+}
+
+/// Writes the parts of a text without ESC, and where each ends, as far as there is room, and gives how many
+/// they are and their length together.
+fn copy_bare_parts<A: Allocator + Copy>(
+    alloc: A,
+    text: &str,
+    pat: &str,
+    buffer: &mut [u8],
+    ends: &mut [usize],
+) -> (usize, usize)
+    requires { IsFalse (has_escape text.now) }
+    ensures count { result.0 ≡ length (all_parts text.now pat.now) }
+    ensures len { result.1 ≡ length (flat_map (λ p. p) (all_parts text.now pat.now)) }
+    ensures bytes { length (flat_map (λ p. p) (all_parts text.now pat.now)) ≤ length buffer.old → buffer.new ≡ flat_map (λ p. p) (all_parts text.now pat.now) ++ drop (length (flat_map (λ p. p) (all_parts text.now pat.now))) buffer.old }
+    ensures ends { length (all_parts text.now pat.now) ≤ length ends.old → ends.new ≡ ends_from 0 (all_parts text.now pat.now) ++ drop (length (all_parts text.now pat.now)) ends.old }
+{
+    laws::bare_texts_are_std();
+    laws::parts_lie_between_matches();
+    let mut count = 0;
+    let mut len = 0;
+    for part in split_in(alloc, text, pat) {
+        len = put(part.unwrap().as_bytes(), len, buffer);
+        count = put(&[len], count, ends);
+    }
+    (count, len)
+}
+
+/// Copies items to a place in a slice, where there is room for them, and gives the place after them.
+fn put<T: Copy>(items: &[T], place: usize, slots: &mut [T]) -> usize
+    requires { place + length items.now < 2 ^ 64 }
+    ensures slots { place + length items.now ≤ length slots.old → slots.new ≡ take place slots.old ++ items.now ++ drop (place + length items.now) slots.old }
+    ensures same_len { length slots.new ≡ length slots.old }
+    ensures after { result ≡ place + length items.now }
+{
+    let after = place + items.len();
+    if after <= slots.len() {
+        slots[place..after].copy_from_slice(items);
+    }
+    after
+}
+
+/// Writes a text without ESC, which is one block, and its entry; or no entry where it is empty.
+fn write_one_block<T: Copy>(
+    text: &str,
+    entry: &[T],
+    buffer: &mut [u8],
+    entries: &mut [T],
+) -> ListAnswer
+    ensures { AreWritten text.now (if length text.now == 0 then [] else entry.now) result buffer.old buffer.new entries.old entries.new }
+{
+    let entry = if text.is_empty() { &[] } else { entry };
+    write_list(text.as_bytes(), entry, buffer, entries)
+}
+
+/// The parts of a text one after the other, and where each ends.
+fn join_parts<A: Allocator + Copy>(
+    alloc: A,
+    text: &str,
+    pat: &str,
+) -> Result<(String<A>, Vec<usize, A>), AllocError>
+    ensures texts { IfOk result (λ joined. string_bytes joined.0 ≡ flat_map (λ p. p) (all_parts text.now pat.now)) }
+    ensures ends { IfOk result (λ joined. joined.1.items ≡ ends_from 0 (all_parts text.now pat.now)) }
+{
+    let mut texts = String::new(alloc);
+    let mut ends = Vec::new(alloc);
+    for part in split_in(alloc, text, pat) {
+        let part = part?;
+        let end = push_part(&mut texts, part.as_str())?;
+        ends.push(end)?;
+    }
+    Ok((texts, ends))
+}
+
+/// Adds a part to texts, and gives where it ends.
+fn push_part<A: Allocator>(texts: &mut String<A>, part: &str) -> Result<usize, AllocError>
+    ensures bytes { OnOk result (string_bytes texts.new ≡ string_bytes texts.old ++ part.now) }
+    ensures end { IfOk result (λ end. end ≡ length (string_bytes texts.new)) }
+{
+    texts.push_str(part)?;
+    Ok(texts.len())
+}
+
+/// The blocks of a text one after the other, and where each ends and its style.
+fn join_blocks<A: Allocator + Copy>(
+    alloc: A,
+    text: &str,
+) -> Result<(String<A>, Vec<BlockEntry, A>), AllocError>
+    ensures texts { IfOk result (λ joined. string_bytes joined.0 ≡ flat_map (λ b. b.text) (blocks text.now)) }
+    ensures entries { IfOk result (λ joined. joined.1.items ≡ entries_from 0 (blocks text.now)) }
+{
+    let mut texts = String::new(alloc);
+    let mut entries = Vec::new(alloc);
+    for block in get_blocks(alloc, text) {
+        let block = block?;
+        let entry = push_block(&mut texts, &block)?;
+        entries.push(entry)?;
+    }
+    Ok((texts, entries))
+}
+
+/// Adds a block to texts, and gives its entry.
+fn push_block<A: Allocator>(
+    texts: &mut String<A>,
+    block: &AnsiBlock<'_, A>,
+) -> Result<BlockEntry, AllocError>
+    ensures bytes { OnOk result (string_bytes texts.new ≡ string_bytes texts.old ++ block.now.text) }
+    ensures entry { IfOk result (λ entry. entries_from (length (string_bytes texts.old)) (block.now ∷ []) ≡ entry ∷ []) }
+{
+    let style = StyleData::of(block.style());
+    texts.push_str(block.text())?;
+    Ok(BlockEntry {
+        end: texts.len(),
+        style,
+    })
+}
+
+/// The blocks of a text one after the other, each between the start of its style and the end, and where
+/// these stand and its style.
+fn join_styled_blocks<A: Allocator + Copy>(
+    alloc: A,
+    text: &str,
+) -> Result<(String<A>, Vec<StyledBlockEntry, A>), AllocError>
+    ensures texts { IfOk result (λ joined. string_bytes joined.0 ≡ flat_map styled_text (blocks text.now)) }
+    ensures entries { IfOk result (λ joined. joined.1.items ≡ styled_entries_from 0 (blocks text.now)) }
+{
+    let mut texts = String::new(alloc);
+    let mut entries = Vec::new(alloc);
+    for block in get_blocks(alloc, text) {
+        let block = block?;
+        let entry = push_styled_block(&mut texts, &block)?;
+        entries.push(entry)?;
+    }
+    Ok((texts, entries))
+}
+
+/// Adds a block between the start of its style and the end to texts, and gives its entry.
+fn push_styled_block<A: Allocator>(
+    texts: &mut String<A>,
+    block: &AnsiBlock<'_, A>,
+) -> Result<StyledBlockEntry, AllocError>
+    ensures bytes { OnOk result (string_bytes texts.new ≡ string_bytes texts.old ++ styled_text block.now) }
+    ensures entry { IfOk result (λ entry. styled_entries_from (length (string_bytes texts.old)) (block.now ∷ []) ≡ entry ∷ []) }
+{
+    let style = block.style();
+    write!(texts, "{}", style.start())?;
+    let text_start = texts.len();
+    texts.push_str(block.text())?;
+    let text_end = texts.len();
+    write!(texts, "{}", style.end())?;
+    Ok(StyledBlockEntry {
+        text_start,
+        text_end,
+        end: texts.len(),
+        style: StyleData::of(style),
+    })
+}
+
+/// Writes texts that were joined and their entries, or answers that memory has run out.
+fn write_joined<T: Copy, A: Allocator>(
+    joined: Result<(String<A>, Vec<T, A>), AllocError>,
+    buffer: &mut [u8],
+    entries: &mut [T],
+) -> ListAnswer
+    ensures { MatchResult joined
+        (λ joined. AreWritten (string_bytes joined.0) joined.1.items result buffer.old buffer.new entries.old entries.new)
+        (λ e. HaveFailed out_of_memory result buffer.old buffer.new entries.old entries.new) }
+{
+    match joined {
+        Ok((texts, their_entries)) => {
+            write_list(texts.as_bytes(), their_entries.as_slice(), buffer, entries)
+        }
+        Err(_) => ListAnswer::failed(OUT_OF_MEMORY),
+    }
+}
+
+/// Writes texts at the front of a buffer and their entries at the front of another, where there is room
+/// for both.
+fn write_list<T: Copy>(
+    texts: &[u8],
+    their_entries: &[T],
+    buffer: &mut [u8],
+    entries: &mut [T],
+) -> ListAnswer
+    ensures { AreWritten texts.now their_entries.now result buffer.old buffer.new entries.old entries.new }
+{
+    let count = their_entries.len();
+    let len = texts.len();
+    if len > buffer.len() || count > entries.len() {
+        return ListAnswer {
+            status: TOO_SMALL,
+            count,
+            len,
+        };
+    }
+    buffer[..len].copy_from_slice(texts);
+    entries[..count].copy_from_slice(their_entries);
+    ListAnswer {
+        status: OK,
+        count,
+        len,
+    }
+}

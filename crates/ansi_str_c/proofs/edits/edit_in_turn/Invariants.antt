@@ -1,9 +1,0 @@
-use Rattle.std.proofs.Common.{drop, map}
-use Rattle.std.specs.Cow.{cow_str_bytes, IsBorrowedStr}
-use Rattle.ansi_str.proofs.EditWalkLemmas.{IsEditedSoFar}
-use Rattle.ansi_str_c.specs.Steps.{change_of_step}
-use Rattle.ansi_str_c.proofs.edits.edit_in_turn.Given as goal
-
--- so many steps are done, and the text that they gave is edited by those that are left
-abbrev pub invariant-loop-step : goal.invariant-loop-step
-invariant-loop-step l = IsEditedSoFar (map change_of_step l.steps) l.initial.text (map change_of_step (drop l.step-index l.steps)) (IsBorrowedStr l.edited) (cow_str_bytes l.edited)
