@@ -61,7 +61,7 @@ marks_left t before taken = further_on before (marks (drop taken t))
 
 -- the lines before the walk end at the position `before`, and have taken t up to the offset `taken`: all marks up to there, or nothing yet
 pub record IsTaken (t : List ℕ) (before taken : ℕ) (walk : Walk) : Type 0 where
-  pub walk : IsWalk t walk
+  pub is_walk : IsWalk t walk
   pub place : ((before ≡ 0) × (taken ≡ 0)) ⊎ (taken ≡ offset_of t before)
   pub boundary : IsCharBoundary t taken
   pub ordered : before ≤ walk.position

@@ -55,8 +55,8 @@ pub(crate) fn pen_after(text: &str) -> Pen<'_>
 
 /// What is open after a text, where this is open before it. Takes no memory.
 pub(crate) fn pen_after_from<'t>(before: Pen<'t>, text: &'t str) -> Pen<'t>
-    ensures style { rendition_of result.style ≡ style_after_from (rendition_of before.style) text.now }
-    ensures link { result.link.now ≡ link_after_all before.link.now (marks text.now) }
+    ensures style { rendition_of result.style ≡ style_after_from (rendition_of before.entry.style) text.now }
+    ensures link { result.link.now ≡ link_after_all before.entry.link.now (marks text.now) }
 {
     let mut style = before.style;
     let mut link = before.link;
