@@ -100,7 +100,7 @@ line-after style link x m a b ms inside =
 line-front : (style : Rendition) (link t front after : List ℕ) (a e : ℕ) → IsCutAfter t e front after → line_over style link (plain t) (marks front) (a, e) ≡ line_over style link (plain front) (marks front) (a, e)
 line-front style link t front after a e cut =
     line_over-made style link (plain t) (marks front) (a, e)
-    ∙ made_of-alike style link refl refl (ap (show (plain t) a e) cut.marks_front ∙ cut.shown_front a) refl refl
+    ∙ made_of-alike {last = after_marks style (marks front)} {last' = after_marks style (marks front)} style link refl refl (ap (show (plain t) a e) cut.marks_front ∙ cut.shown_front a) refl refl
     ∙ sym (line_over-made style link (plain front) (marks front) (a, e))
 
 -- There is a line from each place on.
@@ -109,12 +109,12 @@ pub lines_filled : (width start end here columns : ℕ) (cs : List (List ℕ)) �
 unfolding lines_from
 lines_filled width start end here columns [] = refl
 lines_filled width start end here columns (c ∷ cs) =
-    by_test (is_line_end c) (is_blank c) ((here == start) || nat_le (columns + (if here == end then cluster_width c else word_columns (c ∷ cs))) width)
+    by_test (lines_filled width start end next (columns + cluster_width c) cs) (lines_filled width start next next (columns + cluster_width c) cs) (is_line_end c) (is_blank c) ((here == start) || nat_le (columns + (if here == end then cluster_width c else word_columns (c ∷ cs))) width)
   where
     next : ℕ
     next = here + length (encode_utf8_all c)
 
-    by_test : (a b d : Bool) → (length (elim a [
+    by_test : (length (lines_from width start end next (columns + cluster_width c) cs) == 0) ≡ false → (length (lines_from width start next next (columns + cluster_width c) cs) == 0) ≡ false → (a b d : Bool) → (length (elim a [
       | true ↦ (start, end) ∷ lines_from width next next next 0 cs
       | false ↦ elim b [
         | true ↦ lines_from width start end next (columns + cluster_width c) cs
@@ -124,10 +124,10 @@ lines_filled width start end here columns (c ∷ cs) =
         ]
       ]
     ]) == 0) ≡ false
-    by_test true b d = refl
-    by_test false true d = lines_filled width start end next (columns + cluster_width c) cs
-    by_test false false true = lines_filled width start next next (columns + cluster_width c) cs
-    by_test false false false = refl
+    by_test blank stays true b d = refl
+    by_test blank stays false true d = blank
+    by_test blank stays false false true = stays
+    by_test blank stays false false false = refl
 
 -- all that follows an offset
 pub rest-is : (t : List ℕ) (n : ℕ) → slice_range t n (length t) ≡ drop n t
@@ -135,30 +135,34 @@ rest-is t n = take_all (length t - n) (drop n t) (omega (arith, length-drop n t)
 
 -- Where what the lines before have taken ends.
 
+plain-from : (t : List ℕ) (before taken : ℕ) → ((before ≡ 0) × (taken ≡ 0)) ⊎ (taken ≡ offset_of t before) → plain (drop taken t) ≡ drop before (plain t)
+plain-from t before taken (inl none) = ap (λ n. plain (drop n t)) none.1 ∙ sym (ap (λ n. drop n (plain t)) none.0)
+plain-from t before taken (inr at) = ap (λ n. plain (drop n t)) at ∙ plain-after t before
+
+offset-from : (t : List ℕ) (before taken e : ℕ) → before ≤ e → ((before ≡ 0) × (taken ≡ 0)) ⊎ (taken ≡ offset_of t before) → offset_of t e ≡ taken + offset_of (drop taken t) (e - before)
+offset-from t before taken e within (inl none) =
+    let all : e ≡ e - 0 = omega arith in
+    omega (arith, ap (offset_of t) all, ap₂ (λ k b. k + offset_of (drop k t) (e - b)) none.1 none.0)
+offset-from t before taken e within (inr at) =
+    let all : e ≡ before + (e - before) = omega (arith, within) in
+    ap (offset_of t) all ∙ offset_of-add t before (e - before) ∙ ap (λ n. n + offset_of (drop n t) (e - before)) (sym at)
+
 module _ (t : List ℕ) (before taken : ℕ) (walk : Walk) (is : IsTaken t before taken walk) where
-  pub rest : List ℕ
+  abbrev pub rest : List ℕ
   rest = drop taken t
 
   pub before-within : before ≤ length (plain t)
   before-within = omega (arith, is.ordered, is.is_walk.within)
 
   pub plain-rest : plain rest ≡ drop before (plain t)
-  plain-rest = elim is.place [
-    | inl none ↦ rw (none.0, none.1) refl
-    | inr at ↦ ap (λ n. plain (drop n t)) at ∙ plain-after t before
-  ]
+  plain-rest = plain-from t before taken is.place
 
   pub offset-rest : (e : ℕ) → before ≤ e → offset_of t e ≡ taken + offset_of rest (e - before)
-  offset-rest e within = elim is.place [
-    | inl none ↦ (let all : e ≡ e - 0 = omega arith in rw (none.0, none.1) (ap (offset_of t) all))
-    | inr at ↦ (
-        let all : e ≡ before + (e - before) = omega arith in
-        ap (offset_of t) all ∙ offset_of-add t before (e - before) ∙ ap (λ n. n + offset_of (drop n t) (e - before)) (sym at))
-  ]
+  offset-rest e within = offset-from t before taken e within is.place
 
   -- the next line ends at a place further on, which stands at an offset
   module _ (e offset : ℕ) (within : before ≤ e) (inside : e ≤ length (plain t)) (at : offset ≡ offset_of t e) where
-    n : ℕ
+    abbrev n : ℕ
     n = offset - taken
 
     count : n ≡ offset_of rest (e - before)
@@ -167,7 +171,7 @@ module _ (t : List ℕ) (before taken : ℕ) (walk : Walk) (is : IsTaken t befor
     pub ahead : taken ≤ offset
     ahead = omega (arith, at, offset-rest e within)
 
-    front : List ℕ
+    abbrev front : List ℕ
     front = slice_range t taken offset
 
     cut : IsCutAfter rest (e - before) front (drop n rest)
@@ -316,8 +320,7 @@ line-written {style} {after} {link} {link_end_of} {t} {a} {e} {offset} {from} {t
     let m = slice_range t from offset in
     let z = sequences_up_to top (pieces_of (drop offset t)) in
     let front = start style ++ link in
-    ap (λ u. u) refl
-    ∙ append_assoc (front ++ s) m (z ++ ending)
+    append_assoc (front ++ s) m (z ++ ending)
     ∙ append_assoc front s (m ++ (z ++ ending))
     ∙ append_assoc (start style) link (s ++ (m ++ (z ++ ending)))
     ∙ ap (λ u. start style ++ (link ++ u)) (ap (λ u. s ++ u) (sym (append_assoc m z ending)) ∙ sym (append_assoc s (m ++ z) ending) ∙ ap (λ u. u ++ ending) (sym shown))
@@ -336,7 +339,7 @@ none_carried style link holds = (let both = and_parts _ _ holds in (not-true (ha
   where
     no_bytes : (l : List ℕ) → (length l == 0) ≡ true → l ≡ []
     no_bytes [] h = refl
-    no_bytes (b ∷ l) h = absurd (cc h)
+    no_bytes (b ∷ l) h = absurd (omega (arith, eqb-true (length (b ∷ l)) 0 h))
 
 bare-bytes : (style : Rendition) (link x : List ℕ) (a e : ℕ) → (a ≡ e) ⊎ ((not (has_any style) && length link == 0) ≡ true)
     → slice_range x a e ≡ (if (a == e) && true then [] else start style ++ link ++ show x a e [] ++ link_end link ++ close_if_any style)
@@ -388,10 +391,16 @@ owned-carried style link t a e other some = ap₂ (λ b d. (length (marks t) == 
 
 further_on-none : (ms : List Mark) → further_on 0 ms ≡ ms
 further_on-none [] = refl
-further_on-none (m ∷ ms) = ap (λ ks. m ∷ ks) (further_on-none ms)
+further_on-none (m ∷ ms) = ap₂ (λ n ks. record m { place = n } ∷ ks) (omega arith) (further_on-none ms)
 
 pub marks_left-start : (t : List ℕ) → marks_left t 0 0 ≡ marks t
 marks_left-start t = further_on-none (marks t)
 
 pub lines_left-start : (t : List ℕ) (width : ℕ) (walk : Walk) → walk.position ≡ 0 → lines_left t width (Some walk) ≡ lines_from width 0 0 0 0 (clusters (plain t))
 lines_left-start t width walk none = ap (λ n. lines_from width n n n 0 (clusters_from t n)) none ∙ ap (lines_from width 0 0 0 0) (clusters_from-start t)
+
+-- where the text of a line begins, and where it ends
+pub line-ordered : {style after : Rendition} {link link_end_of t : List ℕ} {a e offset from : ℕ} {is_marked : Bool} → IsSpan style link t a e offset is_marked after link_end_of → StandsIn t a from → from ≤ offset
+line-ordered {t = t} {a = a} {e = e} span stands =
+    let all : e ≡ a + (e - a) = omega (arith, span.ordered) in
+    omega (arith, span.end_stands.offset, ap (offset_of t) all, offset_of-add t a (e - a), stands.offset)

@@ -1,6 +1,4 @@
-use Rattle.std.proofs.Common.{◌≡◌, inl, inr, sym, ◌∙◌, ap, arith}
-use Rattle.std.proofs.lemmas.Bool.{not-true, not_from_false}
-use Rattle.std.proofs.lemmas.Bool.Decides.{nat_tests}
+use Rattle.std.proofs.Common.{◌≡◌, inl, inr, sym, ◌∙◌, ap}
 use Rattle.ansi_style.specs.States.{rendition_of}
 use Rattle.ansi_columns.specs.Wrapped.{WrappedLine}
 use Rattle.ansi_columns.proofs.WrapLemmas.{line-bare, bare-boundary, owned-marked, owned-carried}
@@ -16,7 +14,7 @@ pub returns-then-not-is_none : goal.returns-then-not-is_none
 returns-then-not-is_none c =
     let s = c.self.inside in
     sym (ap (λ (l : WrappedLine). l.borrowed) c.self.view_is)
-    ∙ owned-carried (rendition_of s.carried.style) s.carried.link.now s.text.now s.start s.end c.if-self-2.true (sym c.is_none.ensures ∙ not-true c.is_none.result (c.if-not-is_none.true))
+    ∙ owned-carried (rendition_of s.carried.style) s.carried.link.now s.text.now s.start s.end c.if-self-2.true (sym c.is_none.ensures ∙ c.if-not-is_none.true)
 
 pub range-requires-clause-start_boundary : goal.range-requires-clause-start_boundary
 range-requires-clause-start_boundary c = λ some. (bare-boundary c.self.invariant c.if-self.false).0

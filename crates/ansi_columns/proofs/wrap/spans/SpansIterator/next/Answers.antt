@@ -1,5 +1,7 @@
-use Rattle.std.proofs.Common.{◌≡◌, ◌-◌, ◌==◌, false, ◌<◌, ◌∷◌, [], Some, length, drop, slice_range, IsTrue, sym, ◌∙◌, ap, ap₂, arith}
+use Rattle.std.proofs.Common.{List, Option, rules, ◌≡◌, ◌-◌, ◌==◌, false, ◌<◌, ◌∷◌, [], Some, length, drop, slice_range, IsTrue, sym, ◌∙◌, ap, ap₂, arith}
 use Rattle.std.proofs.lemmas.List.{take_all, length-drop}
+use Rattle.std.specs.Str.{IsUtf8}
+use Rattle.ansi_columns.specs.declared.walks.Walk.{Walk}
 use Rattle.ansi_items.specs.Plain.{plain, marks}
 use Rattle.ansi_style.specs.Reading.{style_after_from}
 use Rattle.ansi_style.specs.States.{rendition_of}
@@ -8,7 +10,7 @@ use Rattle.ansi_slice.proofs.PositionLemmas.{boundary_is_good}
 use Rattle.ansi_columns.specs.Lines.{lines_left}
 use Rattle.ansi_columns.specs.Links.{link_after_all}
 use Rattle.ansi_columns.specs.Walks.{clusters_from}
-use Rattle.ansi_columns.specs.Wrapped.{line_over, lines_over, marks_left, IsTaken}
+use Rattle.ansi_columns.specs.Wrapped.{WrappedLine, line_over, lines_over, marks_left, IsTaken}
 use Rattle.ansi_columns.proofs.WalkLemmas.{walk_boundary}
 use Rattle.ansi_columns.proofs.WrapLemmas.{ahead, lines-first, lines-last, span-first, span-last, lines_filled, rest-is}
 use Rattle.ansi_columns.proofs.wrap.spans.SpansIterator.next.Goals.{in-Some, in-None}
@@ -18,7 +20,7 @@ pub returns-in_err-start-clause-steps : goal.returns-in_err-start-clause-steps
 unfolding lines_over
 returns-in_err-start-clause-steps c =
     let s = c.self.inside in
-    let all = λ o. lines_over (rendition_of s.pen.style) s.pen.link.now (plain s.text.now) (marks_left s.text.now s.before s.taken) (lines_left s.text.now s.width o) in
+    let all : Option Walk → List WrappedLine = λ o. lines_over (rendition_of s.pen.style) s.pen.link.now (plain s.text.now) (marks_left s.text.now s.before s.taken) (lines_left s.text.now s.width o) in
     let none : c.args.self.now ≡ [] = sym c.self.view_is ∙ ap all c.in_err-start.was in
     rw c.from_residual.ensures (none, none)
 
@@ -51,8 +53,9 @@ invariant_of-span c =
     let is : IsTaken t s.before s.taken start = rw c.in_ok-start.was at c.self.invariant in
     let end = c.first_line-next.ensures.end in
     let ordered = c.first_line-next.ensures.ordered in
-    let good : IsTrue (is_good_position (plain t) start.position) = boundary_is_good (plain t) start.position (walk_boundary t c.utf8.self-inside-text start is.is_walk) in
-    let good_end : IsTrue (is_good_position (plain t) last.position) = boundary_is_good (plain t) last.position (walk_boundary t c.utf8.self-inside-text last end) in
+    let utf8 : IsUtf8 t = search rules in
+    let good : IsTrue (is_good_position (plain t) start.position) = boundary_is_good (plain t) start.position (walk_boundary t utf8 start is.is_walk) in
+    let good_end : IsTrue (is_good_position (plain t) last.position) = boundary_is_good (plain t) last.position (walk_boundary t utf8 last end) in
     let style = rendition_of s.pen.style in
     let after = c.pen_after_from-after.ensures in
     let text = c.range-text.result.now in
@@ -86,7 +89,7 @@ returns-clause-steps c =
     let text = c.range-text.result.now in
     let line = line_over style link (plain text) (marks text) (start.position - s.before, last.position - s.before) in
     let ms = marks_left t s.before s.taken in
-    let all = λ o. lines_over style link x ms (lines_left t s.width o) in
+    let all : Option Walk → List WrappedLine = λ o. lines_over style link x ms (lines_left t s.width o) in
     let left : c.args.self.now ≡ lines_over style link x ms ((start.position, last.position) ∷ lines_left t s.width next)
     = sym c.self.view_is ∙ ap all c.in_ok-start.was ∙ ap (lines_over style link x ms) c.first_line-next.ensures.lines in
     elim c.match-next.branch [
