@@ -18,13 +18,15 @@ use Rattle.ansi_style.proofs.MarkLemmas.{up_to-further, bytes-further, after_mar
 use Rattle.ansi_style.proofs.UnsetLemmas.{start-unset}
 use Rattle.ansi_slice.specs.Cut.{show}
 use Rattle.ansi_slice.specs.Kept.{kept}
-use Rattle.ansi_slice.specs.Offsets.{offset_of, bytes_before, sequences_up_to, StandsIn}
+use Rattle.ansi_search.specs.Offsets.{offset_of, bytes_before, StandsIn}
+use Rattle.ansi_slice.specs.Stretches.{sequences_up_to}
 use Rattle.ansi_slice.specs.Parts.{past}
-use Rattle.ansi_slice.specs.Positions.{is_good_position}
+use Rattle.ansi_search.specs.Positions.{is_good_position}
 use Rattle.ansi_slice.proofs.ShowLemmas.{show-text, show-bare}
-use Rattle.ansi_slice.proofs.SliceLemmas.{slice_range-none, slice_range-from_past}
-use Rattle.ansi_slice.proofs.OffsetLemmas.{plain-after, bytes_before-text, kept-front, kept-stretch, kept-none}
-use Rattle.ansi_slice.proofs.PositionLemmas.{is_good_position-past, is_good_position-drop, boundary_is_good, good_is_boundary}
+use Rattle.ansi_search.proofs.SliceLemmas.{slice_range-none, slice_range-from_past}
+use Rattle.ansi_search.proofs.OffsetLemmas.{plain-after, bytes_before-text}
+use Rattle.ansi_slice.proofs.StretchLemmas.{kept-front, kept-stretch, kept-none}
+use Rattle.ansi_search.proofs.PositionLemmas.{is_good_position-past, is_good_position-drop, boundary_is_good, good_is_boundary}
 use Rattle.ansi_split.specs.Spans.{further_on, IsCutAfter}
 use Rattle.ansi_split.proofs.AfterLemmas.{is_cut_after}
 use Rattle.ansi_split.proofs.RestLemmas.{boundary-drop}

@@ -9,9 +9,9 @@ use Rattle.ansi_style.specs.Rendition.{plain_style, has_any}
 use Rattle.ansi_style.specs.Reading.{after_marks, style_after_from}
 use Rattle.ansi_style.specs.Written.{start, close_if_any}
 use Rattle.ansi_slice.specs.Cut.{show}
-use Rattle.ansi_slice.specs.Offsets.{offset_of, StandsIn}
+use Rattle.ansi_search.specs.Offsets.{offset_of, StandsIn}
 use Rattle.ansi_slice.specs.Parts.{past}
-use Rattle.ansi_slice.specs.Positions.{is_good_position}
+use Rattle.ansi_search.specs.Positions.{is_good_position}
 use Rattle.ansi_split.specs.Spans.{further_on}
 use Rattle.ansi_columns.specs.declared.walks.Walk.{Walk}
 use Rattle.ansi_columns.specs.Lines.{lines}

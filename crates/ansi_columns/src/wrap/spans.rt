@@ -3,8 +3,9 @@ ghost use Rattle.std.specs.Prelude.{◌≡◌, ◌++◌, [], IsTrue, IsFalse, Is
 ghost use Rattle.std.specs.Option.{MatchOption};
 ghost use Rattle.ansi_items.specs.Pieces.{pieces_of};
 ghost use Rattle.ansi_items.specs.Plain.{plain};
-ghost use Rattle.ansi_slice.specs.Positions.{is_good_position};
-ghost use Rattle.ansi_slice.specs.Offsets.{sequences_up_to, StandsIn};
+ghost use Rattle.ansi_search.specs.Positions.{is_good_position};
+ghost use Rattle.ansi_slice.specs.Stretches.{sequences_up_to};
+ghost use Rattle.ansi_search.specs.Offsets.{StandsIn};
 ghost use Rattle.ansi_style.specs.States.{rendition_of};
 ghost use Rattle.ansi_style.specs.Written.{close_if_any};
 ghost use Rattle.ansi_columns.specs.Links.{link_end};

@@ -2,7 +2,7 @@ use Rattle.std.proofs.Common.{◌≡◌, ◌∙◌, ap, rules}
 use Rattle.ansi_items.specs.declared.ansitok.Kind.TheVariants.{Sgr, Other}
 use Rattle.ansi_style.specs.States.{rendition_of}
 use Rattle.ansi_items.proofs.StepLemmas.{gives_mark}
-use Rattle.ansi_slice.proofs.OffsetLemmas.{item_range, is_other}
+use Rattle.ansi_search.proofs.OffsetLemmas.{item_range, is_other}
 use Rattle.ansi_columns.proofs.LinkLemmas.{open-begin, open-sgr, open-other, open-rest, open-end, is_kind}
 use Rattle.ansi_columns.proofs.links.pen_after_from.Goals as goal
 

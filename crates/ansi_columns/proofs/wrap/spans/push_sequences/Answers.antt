@@ -3,7 +3,8 @@ use Rattle.std.proofs.lemmas.Str.{IsCharBoundary-end}
 use Rattle.ansi_items.proofs.StepLemmas.{is_text}
 use Rattle.ansi_style.specs.Rendition.{plain_style}
 use Rattle.ansi_style.specs.Sgr.{apply}
-use Rattle.ansi_slice.proofs.OffsetLemmas.{item_range, over_text, over_mark, is_other, pushed-begin, pushed-text, pushed-mark, way-begin, way-text, way-mark, way-last, way-end, way-boundary}
+use Rattle.ansi_search.proofs.OffsetLemmas.{item_range, over_text, over_mark, is_other, way-begin, way-text, way-mark, way-last, way-end, way-boundary}
+use Rattle.ansi_slice.proofs.StretchLemmas.{pushed-begin, pushed-text, pushed-mark}
 use Rattle.ansi_columns.proofs.wrap.spans.push_sequences.Goals as goal
 
 pub range-piece-requires : goal.range-piece-requires

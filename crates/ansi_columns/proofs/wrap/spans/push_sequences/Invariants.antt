@@ -3,8 +3,9 @@ use Rattle.ansi_style.specs.declared.state.rendition.Rendition.{Rendition}
 use Rattle.ansi_style.specs.Rendition.{plain_style}
 use Rattle.ansi_items.specs.Pieces.{pieces_of}
 use Rattle.ansi_items.specs.Scans.{pieces_left}
-use Rattle.ansi_slice.specs.Offsets.{sequences_up_to}
-use Rattle.ansi_slice.proofs.OffsetLemmas.{IsPushedSoFar, IsOnTheWay}
+use Rattle.ansi_slice.specs.Stretches.{sequences_up_to}
+use Rattle.ansi_slice.proofs.StretchLemmas.{IsPushedSoFar}
+use Rattle.ansi_search.proofs.OffsetLemmas.{IsOnTheWay}
 use Rattle.ansi_columns.proofs.wrap.spans.push_sequences.Given as goal
 
 -- what has been appended, and the sequences up to the position in what is left, are all; and where the position stands

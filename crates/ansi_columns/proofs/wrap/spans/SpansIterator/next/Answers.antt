@@ -5,8 +5,8 @@ use Rattle.ansi_columns.specs.declared.walks.Walk.{Walk}
 use Rattle.ansi_items.specs.Plain.{plain, marks}
 use Rattle.ansi_style.specs.Reading.{style_after_from}
 use Rattle.ansi_style.specs.States.{rendition_of}
-use Rattle.ansi_slice.specs.Positions.{is_good_position}
-use Rattle.ansi_slice.proofs.PositionLemmas.{boundary_is_good}
+use Rattle.ansi_search.specs.Positions.{is_good_position}
+use Rattle.ansi_search.proofs.PositionLemmas.{boundary_is_good}
 use Rattle.ansi_columns.specs.Lines.{lines_left}
 use Rattle.ansi_columns.specs.Links.{link_after_all}
 use Rattle.ansi_columns.specs.Walks.{clusters_from}
