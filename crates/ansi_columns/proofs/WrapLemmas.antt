@@ -2,7 +2,7 @@
 use Rattle.std.proofs.Common.{encode_utf8_all, ◌≡◌, ℕ, ◌+◌, ◌-◌, ◌≤◌, ◌<◌, ◌==◌, ◌⊎◌, inl, inr, Bool, true, false, not, ◌&&◌, ◌||◌, List, [], ◌∷◌, ◌++◌, length, map, take, drop, slice_range, nat_le, nat_lt, Option, Some, None, if◌then◌else◌, IsTrue, IsFalse, refl, sym, ◌∙◌, ap, ap₂, subst, arith, append_assoc, append-nil, length-append}
 use Rattle.std.specs.Prelude.{fold}
 use Rattle.std.specs.Str.{IsUtf8, IsCharBoundary}
-use Rattle.std.proofs.lemmas.Bool.{cases_lt, and_parts, and_from, and_right, or_right, eq-eqb, eqb-true, ne_eqb, not-true}
+use Rattle.std.proofs.lemmas.Bool.{cases_lt, cond_both, and_parts, and_from, and_right, or_right, eq-eqb, eqb-true, ne_eqb, not-true}
 use Rattle.std.proofs.lemmas.Bool.Decides.{nat_tests}
 use Rattle.std.proofs.lemmas.List.{length-map, length-drop, length-take-le, take_all, drop-drop, take-append-drop, get_or-take}
 use Rattle.std.proofs.lemmas.Str.{IsCharBoundary-end}
@@ -11,9 +11,9 @@ use Rattle.ansi_items.specs.Plain.{Mark, plain, plain_of, marks, up_to, has_esca
 use Rattle.ansi_items.proofs.JoinLemmas.{spelled, spelled-pieces_of}
 use Rattle.ansi_items.proofs.PlainLemmas.{plain-bare}
 use Rattle.ansi_style.specs.declared.state.rendition.Rendition.{Rendition}
-use Rattle.ansi_style.specs.Rendition.{has_any}
+use Rattle.ansi_style.specs.Rendition.{IsStyle, has_any}
 use Rattle.ansi_style.specs.Reading.{after_marks, style_after_from}
-use Rattle.ansi_style.specs.Written.{start, close, close_if_any}
+use Rattle.ansi_style.specs.Written.{start, close, close_if_any, longest_close, longest_start_and_close}
 use Rattle.ansi_style.proofs.MarkLemmas.{up_to-further, bytes-further, after_marks-further, marks-bare}
 use Rattle.ansi_style.proofs.UnsetLemmas.{start-unset}
 use Rattle.ansi_slice.specs.Cut.{show}
@@ -22,6 +22,7 @@ use Rattle.ansi_search.specs.Offsets.{offset_of, bytes_before, StandsIn}
 use Rattle.ansi_slice.specs.Stretches.{sequences_up_to}
 use Rattle.ansi_slice.specs.Parts.{past}
 use Rattle.ansi_search.specs.Positions.{is_good_position}
+use Rattle.ansi_slice.proofs.LengthLemmas.{length-start, length-close}
 use Rattle.ansi_slice.proofs.ShowLemmas.{show-text, show-bare}
 use Rattle.ansi_search.proofs.SliceLemmas.{slice_range-none, slice_range-from_past}
 use Rattle.ansi_search.proofs.OffsetLemmas.{plain-after, bytes_before-text}
@@ -34,11 +35,12 @@ use Rattle.ansi_split.proofs.SplitLemmas.{escape_is_marked}
 use Rattle.ansi_columns.specs.declared.walks.Walk.{Walk}
 use Rattle.ansi_columns.specs.Columns.{cluster_width, clusters}
 use Rattle.ansi_columns.specs.Lines.{lines_from, is_line_end, is_blank, word_columns, lines_left}
-use Rattle.ansi_columns.specs.Links.{link_after, link_after_all, link_end}
+use Rattle.ansi_columns.specs.Links.{link_after, link_after_all, link_end, longest_link_end}
 use Rattle.ansi_columns.specs.Walks.{IsWalk, clusters_from}
 use Rattle.ansi_columns.specs.Wrapped.{WrappedLine, line_over, lines_over, marks_left, IsTaken, IsSpan}
 use Rattle.ansi_columns.proofs.ColumnLemmas.{clusters_from-start}
 use Rattle.ansi_columns.proofs.PlaceLemmas.{offset_of-add}
+use Rattle.ansi_columns.proofs.ShownLemmas.{length-link_end}
 use Rattle.ansi_columns.proofs.WalkLemmas.{walk_boundary}
 
 -- A line by what it is made of.
@@ -47,6 +49,7 @@ abbrev made_of : Bool → ℕ → Rendition → List ℕ → List ℕ → List �
 made_of same n style link shown last_link last = record {
   bytes = if same && n == 0 then [] else start style ++ link ++ shown ++ link_end last_link ++ close_if_any last;
   borrowed = n == 0 && (same || (not (has_any style) && length link == 0));
+  share = length link + length shown;
 }
 
 line_over-made : (style : Rendition) (link x : List ℕ) (own : List Mark) (i : ℕ × ℕ)
@@ -107,29 +110,29 @@ line-front style link t front after a e cut =
 
 -- There is a line from each place on.
 
-pub lines_filled : (width start end here columns : ℕ) (cs : List (List ℕ)) → (length (lines_from width start end here columns cs) == 0) ≡ false
-unfolding lines_from
-lines_filled width start end here columns [] = refl
-lines_filled width start end here columns (c ∷ cs) =
-    by_test (lines_filled width start end next (columns + cluster_width c) cs) (lines_filled width start next next (columns + cluster_width c) cs) (is_line_end c) (is_blank c) ((here == start) || nat_le (columns + (if here == end then cluster_width c else word_columns (c ∷ cs))) width)
-  where
-    next : ℕ
-    next = here + length (encode_utf8_all c)
+abbrev is_none : List (ℕ × ℕ) → Bool
+is_none ls = length ls == 0
 
-    by_test : (length (lines_from width start end next (columns + cluster_width c) cs) == 0) ≡ false → (length (lines_from width start next next (columns + cluster_width c) cs) == 0) ≡ false → (a b d : Bool) → (length (elim a [
-      | true ↦ (start, end) ∷ lines_from width next next next 0 cs
-      | false ↦ elim b [
-        | true ↦ lines_from width start end next (columns + cluster_width c) cs
-        | false ↦ elim d [
-          | true ↦ lines_from width start next next (columns + cluster_width c) cs
-          | false ↦ (start, end) ∷ lines_from width here next next (cluster_width c) cs
-        ]
-      ]
-    ]) == 0) ≡ false
-    by_test blank stays true b d = refl
-    by_test blank stays false true d = blank
-    by_test blank stays false false true = stays
-    by_test blank stays false false false = refl
+filled : (i : ℕ × ℕ) (ls : List (ℕ × ℕ)) → is_none (i ∷ ls) ≡ false
+filled i ls = ne_eqb (length (i ∷ ls)) 0 (λ none. omega (arith, none))
+
+pub lines_filled : (width from end here columns : ℕ) (cs : List (List ℕ)) → is_none (lines_from width from end here columns cs) ≡ false
+unfolding lines_from
+lines_filled width from end here columns [] = refl
+lines_filled width from end here columns (c ∷ cs) =
+    let next = here + length (encode_utf8_all c) in
+    let blank = lines_from width from end next (columns + cluster_width c) cs in
+    let stays = lines_from width from next next (columns + cluster_width c) cs in
+    by_test blank stays (lines_from width next next next 0 cs) (lines_from width here next next (cluster_width c) cs)
+    (lines_filled width from end next (columns + cluster_width c) cs) (lines_filled width from next next (columns + cluster_width c) cs) (is_line_end c) (is_blank c)
+    ((here == from) || nat_le (columns + (if here == end then cluster_width c else word_columns (c ∷ cs))) width)
+  where
+    by_test : (blank stays ended left : List (ℕ × ℕ)) → is_none blank ≡ false → is_none stays ≡ false → (a b d : Bool)
+        → is_none (elim a [ | true ↦ (from, end) ∷ ended | false ↦ elim b [ | true ↦ blank | false ↦ elim d [ | true ↦ stays | false ↦ (from, end) ∷ left ] ] ]) ≡ false
+    by_test blank stays ended left some_blank some_stays true b d = filled (from, end) ended
+    by_test blank stays ended left some_blank some_stays false true d = some_blank
+    by_test blank stays ended left some_blank some_stays false false true = some_stays
+    by_test blank stays ended left some_blank some_stays false false false = filled (from, end) left
 
 -- all that follows an offset
 pub rest-is : (t : List ℕ) (n : ℕ) → slice_range t n (length t) ≡ drop n t
@@ -297,13 +300,16 @@ unborrowed true false c h = refl
 unborrowed false true c h = refl
 unborrowed false false c h = refl
 
+regrouped : (f s m z l c : List ℕ) → (f ++ s ++ m ++ z) ++ (l ++ c) ≡ f ++ (s ++ (m ++ z)) ++ l ++ c
+regrouped f s m z l c = simp append_assoc
+
 -- one that is written
 pub line-written : {style after : Rendition} {link link_end_of t : List ℕ} {a e offset from top : ℕ} {is_marked : Bool} → IsSpan style link t a e offset is_marked after link_end_of → StandsIn t a from → length t ≤ top
     → IsFalse (line_over style link (plain t) (marks t) (a, e)).borrowed
-    → (((start style ++ link) ++ sequences_up_to a (pieces_of t)) ++ slice_range t from offset) ++ sequences_up_to top (pieces_of (drop offset t)) ++ (link_end link_end_of ++ close_if_any after)
+    → (start style ++ link ++ sequences_up_to a (pieces_of t) ++ slice_range t from offset ++ sequences_up_to top (pieces_of (drop offset t))) ++ (link_end link_end_of ++ close_if_any after)
     ≡ (line_over style link (plain t) (marks t) (a, e)).bytes
 unfolding line_over kept
-line-written {style} {after} {link} {link_end_of} {t} {a} {e} {offset} {from} {top} span stands past owned =
+line-written {style} {after} {link} {link_end_of} {t} {a} {e} {offset} {from} {top} span stands fits owned =
     let rest = drop from t in
     let k = offset_of rest (e - a) in
     let all : e ≡ a + (e - a) = omega (arith, span.ordered) in
@@ -316,17 +322,10 @@ line-written {style} {after} {link} {link_end_of} {t} {a} {e} {offset} {from} {t
     ∙ ap (λ v. sequences_up_to a (pieces_of t) ++ v)
     (ap (λ i. kept (drop i t) 0 (e - a)) (sym stands.offset) ∙ kept-stretch rest (e - a)
     ∙ ap₂ (λ i v. take i rest ++ kept v 0 0) (sym size) last
-    ∙ ap (λ v. slice_range t from offset ++ v) (kept-none (drop offset t) top (omega (arith, length-drop offset t, past)))) in
-    let ending = link_end link_end_of ++ close_if_any after in
-    let s = sequences_up_to a (pieces_of t) in
-    let m = slice_range t from offset in
-    let z = sequences_up_to top (pieces_of (drop offset t)) in
-    let front = start style ++ link in
-    append_assoc (front ++ s) m (z ++ ending)
-    ∙ append_assoc front s (m ++ (z ++ ending))
-    ∙ append_assoc (start style) link (s ++ (m ++ (z ++ ending)))
-    ∙ ap (λ u. start style ++ (link ++ u)) (ap (λ u. s ++ u) (sym (append_assoc m z ending)) ∙ sym (append_assoc s (m ++ z) ending) ∙ ap (λ u. u ++ ending) (sym shown))
-    ∙ ap₂ (λ l r. start style ++ (link ++ (kept t a e ++ (link_end l ++ close_if_any r)))) span.linked span.styled
+    ∙ ap (λ v. slice_range t from offset ++ v) (kept-none (drop offset t) top (omega (arith, length-drop offset t, fits)))) in
+    regrouped (start style ++ link) (sequences_up_to a (pieces_of t)) (slice_range t from offset) (sequences_up_to top (pieces_of (drop offset t))) (link_end link_end_of) (close_if_any after)
+    ∙ ap (λ u. start style ++ link ++ u ++ link_end link_end_of ++ close_if_any after) (sym shown)
+    ∙ ap₂ (λ l r. start style ++ link ++ kept t a e ++ link_end l ++ close_if_any r) span.linked span.styled
     ∙ sym (ap (λ b. if b then [] else start style ++ link ++ show (plain t) a e (marks t) ++ link_end (link_after_all link (marks t)) ++ close_if_any (after_marks style (marks t)))
     (unborrowed (length (marks t) == 0) (a == e) (not (has_any style) && length link == 0) owned))
 
@@ -354,7 +353,7 @@ bare-bytes style link x a e holds = bare-if ((a == e) && true) (λ same. slice_r
         sym (
         ap (λ l. start style ++ l ++ show x a e [] ++ link_end l ++ close_if_any style) no.1
         ∙ ap₂ (λ u b. u ++ [] ++ show x a e [] ++ [] ++ (if b then close style else [])) (start-unset style no.0) no.0
-        ∙ append-nil (show x a e []) ∙ show-bare x a e)
+        ∙ append-nil (show x a e [] ++ []) ∙ append-nil (show x a e []) ∙ show-bare x a e)
 
 pub line-bare : {style after : Rendition} {link link_end_of t : List ℕ} {a e offset : ℕ} {is_marked : Bool} → IsSpan style link t a e offset is_marked after link_end_of → is_marked ≡ false → (a ≡ e) ⊎ ((not (has_any style) && length link == 0) ≡ true)
     → (slice_range t a e ≡ (line_over style link (plain t) (marks t) (a, e)).bytes) × IsTrue (line_over style link (plain t) (marks t) (a, e)).borrowed
@@ -406,3 +405,32 @@ pub line-ordered : {style after : Rendition} {link link_end_of t : List ℕ} {a 
 line-ordered {t = t} {a = a} {e = e} span stands =
     let all : e ≡ a + (e - a) = omega (arith, span.ordered) in
     omega (arith, span.end_stands.offset, ap (offset_of t) all, offset_of-add t a (e - a), stands.offset)
+
+-- A line is its share of the text, a start, a close and the end of a link, or nothing.
+
+length-close_if_any : (s : Rendition) → length (close_if_any s) ≤ longest_close
+length-close_if_any s = cond_both (has_any s) (close s) [] (λ w. length w ≤ longest_close) (λ any. length-close s) (λ none. omega arith)
+
+length-line_over : (style : Rendition) (link x : List ℕ) (own : List Mark) (i : ℕ × ℕ) → IsStyle style
+    → length (line_over style link x own i).bytes ≤ (line_over style link x own i).share + longest_start_and_close + longest_link_end
+unfolding line_over
+length-line_over style link x own i is =
+    let shown = show x i.0 i.1 own in
+    let last = link_after_all link own in
+    let after = after_marks style own in
+    cond_both (i.0 == i.1 && length own == 0) [] (start style ++ link ++ shown ++ link_end last ++ close_if_any after) (λ w. length w ≤ length link + length shown + longest_start_and_close + longest_link_end)
+    (λ none. omega arith)
+    (λ some. omega (
+      arith,
+      length-append (start style ++ link ++ shown ++ link_end last) (close_if_any after),
+      length-append (start style ++ link ++ shown) (link_end last),
+      length-append (start style ++ link) shown,
+      length-append (start style) link,
+      length-start style is,
+      length-link_end last,
+      length-close_if_any after,
+    ))
+
+pub length-line : {l : WrappedLine} (style : Rendition) (link x : List ℕ) (own : List Mark) (i : ℕ × ℕ) → IsStyle style → line_over style link x own i ≡ l
+    → length l.bytes ≤ l.share + longest_start_and_close + longest_link_end
+length-line style link x own i style_is is = subst (λ (l : WrappedLine). length l.bytes ≤ l.share + longest_start_and_close + longest_link_end) is (length-line_over style link x own i style_is)

@@ -7,7 +7,7 @@ use Rattle.ansi_items.specs.Plain.{Mark, plain, marks, up_to, has_escape}
 use Rattle.ansi_style.specs.declared.state.rendition.Rendition.{Rendition}
 use Rattle.ansi_style.specs.Rendition.{plain_style, has_any}
 use Rattle.ansi_style.specs.Reading.{after_marks, style_after_from}
-use Rattle.ansi_style.specs.Written.{start, close_if_any}
+use Rattle.ansi_style.specs.Written.{start, close_if_any, longest_start_and_close}
 use Rattle.ansi_slice.specs.Cut.{show}
 use Rattle.ansi_search.specs.Offsets.{offset_of, StandsIn}
 use Rattle.ansi_slice.specs.Parts.{past}
@@ -15,13 +15,14 @@ use Rattle.ansi_search.specs.Positions.{is_good_position}
 use Rattle.ansi_split.specs.Spans.{further_on}
 use Rattle.ansi_columns.specs.declared.walks.Walk.{Walk}
 use Rattle.ansi_columns.specs.Lines.{lines}
-use Rattle.ansi_columns.specs.Links.{link_after_all, link_end}
+use Rattle.ansi_columns.specs.Links.{link_after_all, link_end, longest_link_end}
 use Rattle.ansi_columns.specs.Walks.{IsWalk}
 
--- a line as a wrap gives it: its bytes, and whether it is a borrow
+-- a line as a wrap gives it: its bytes, whether it is a borrow, and how many bytes of the text it has, with the link that is carried into it
 pub record WrappedLine : Type 0 where
   pub bytes : List ℕ
   pub borrowed : Bool
+  pub share : ℕ
 
 -- The line over the interval i of the plain text x with these marks, where a style and a link are carried into it: the start of the style, the
 -- sequence that opened the link, the text with its marks, the end of the link and the close of the style then. It is a borrow
@@ -31,6 +32,7 @@ line_over style link x own i = record {
   bytes = if i.0 == i.1 && length own == 0 then [] else
       start style ++ link ++ show x i.0 i.1 own ++ link_end (link_after_all link own) ++ close_if_any (after_marks style own);
   borrowed = length own == 0 && (i.0 == i.1 || (not (has_any style) && length link == 0));
+  share = length link + length (show x i.0 i.1 own);
 }
 
 -- The lines over intervals of x in order, with the marks that are left. A mark belongs to the first line that doesn't end before
@@ -45,9 +47,9 @@ lines_over style link x ms (i ∷ is) =
 abbrev pub wrapped : List ℕ → ℕ → List WrappedLine
 wrapped t width = lines_over plain_style [] (plain t) (marks t) (lines width (plain t))
 
--- the text is this line
+-- the text is this line; beside its share of the text wrapped, a start, a close and the end of a link stand in it at most
 abbrev pub IsWrappedLine : {A : Type 0} → WrappedLine → CowStr A → Type 0
-IsWrappedLine l c = (cow_str_bytes c ≡ l.bytes) × (IsBorrowedStr c ↔ IsTrue l.borrowed)
+IsWrappedLine l c = (cow_str_bytes c ≡ l.bytes) × (IsBorrowedStr c ↔ IsTrue l.borrowed) × (length (cow_str_bytes c) ≤ l.share + longest_start_and_close + longest_link_end)
 
 -- One call of `next` gives the first of the lines left. Or it gives an `Err`, never where that line is a borrow, and then nothing is left. Or it gives None, where nothing is left.
 abbrev pub GivesLine : {A E : Type 0} → List WrappedLine → Option (Result (CowStr A) E) → List WrappedLine → Type 0

@@ -1,5 +1,5 @@
 //! The stretches of a text that the lines of a wrap are written from.
-ghost use Rattle.std.specs.Prelude.{◌≡◌, ◌++◌, [], IsTrue, IsFalse, IsOk, IfOk, OnOk, string_bytes};
+ghost use Rattle.std.specs.Prelude.{◌≡◌, ◌+◌, ◌≤◌, ◌++◌, [], length, IsTrue, IsFalse, IsOk, IfOk, OnOk, string_bytes};
 ghost use Rattle.std.specs.Option.{MatchOption};
 ghost use Rattle.ansi_items.specs.Pieces.{pieces_of};
 ghost use Rattle.ansi_items.specs.Plain.{plain};
@@ -7,8 +7,8 @@ ghost use Rattle.ansi_search.specs.Positions.{is_good_position};
 ghost use Rattle.ansi_slice.specs.Stretches.{sequences_up_to};
 ghost use Rattle.ansi_search.specs.Offsets.{StandsIn};
 ghost use Rattle.ansi_style.specs.States.{rendition_of};
-ghost use Rattle.ansi_style.specs.Written.{close_if_any};
-ghost use Rattle.ansi_columns.specs.Links.{link_end};
+ghost use Rattle.ansi_style.specs.Written.{close_if_any, longest_start_and_close};
+ghost use Rattle.ansi_columns.specs.Links.{link_end, longest_link_end};
 ghost use Rattle.ansi_columns.specs.Wrapped.{wrapped, IsWrappedLine};
 
 use crate::lines::first_line;
@@ -71,7 +71,8 @@ impl<'t> Span<'t> {
 
     /// The line as it stands in the text, where it is a borrow.
     fn bare(&self) -> Option<&'t str>
-        ensures { MatchOption result (IsFalse self.now.borrowed) (λ bare. (bare.now ≡ self.now.bytes) × IsTrue self.now.borrowed) }
+        ensures line { MatchOption result (IsFalse self.now.borrowed) (λ bare. (bare.now ≡ self.now.bytes) × IsTrue self.now.borrowed) }
+        ensures len { length self.now.bytes ≤ self.now.share + longest_start_and_close + longest_link_end }
     {
         if self.is_marked {
             return None;
