@@ -1,5 +1,6 @@
 -- The lines of a wrap that are left, one at a time: the first, by the stretch of the text that it is written from, and those after it.
 use Rattle.std.proofs.Common.{encode_utf8_all, ◌≡◌, ℕ, ◌+◌, ◌-◌, ◌≤◌, ◌<◌, ◌==◌, ◌⊎◌, inl, inr, Bool, true, false, not, ◌&&◌, ◌||◌, List, [], ◌∷◌, ◌++◌, length, map, take, drop, slice_range, nat_le, nat_lt, Option, Some, None, if◌then◌else◌, IsTrue, IsFalse, refl, sym, ◌∙◌, ap, ap₂, subst, arith, append_assoc, append-nil, length-append}
+use Rattle.std.specs.List.{list_all}
 use Rattle.std.specs.Prelude.{fold}
 use Rattle.std.specs.Str.{IsUtf8, IsCharBoundary}
 use Rattle.std.proofs.lemmas.Bool.{cases_lt, cond_both, and_parts, and_from, and_right, or_right, eq-eqb, eqb-true, ne_eqb, not-true}
@@ -11,7 +12,7 @@ use Rattle.ansi_items.specs.Plain.{Mark, plain, plain_of, marks, up_to, has_esca
 use Rattle.ansi_items.proofs.JoinLemmas.{spelled, spelled-pieces_of}
 use Rattle.ansi_items.proofs.PlainLemmas.{plain-bare}
 use Rattle.ansi_style.specs.declared.state.rendition.Rendition.{Rendition}
-use Rattle.ansi_style.specs.Rendition.{IsStyle, has_any}
+use Rattle.ansi_style.specs.Rendition.{IsStyle, plain_style, has_any}
 use Rattle.ansi_style.specs.Reading.{after_marks, style_after_from}
 use Rattle.ansi_style.specs.Written.{start, close, close_if_any, longest_close, longest_start_and_close}
 use Rattle.ansi_style.proofs.MarkLemmas.{up_to-further, bytes-further, after_marks-further, marks-bare}
@@ -34,10 +35,10 @@ use Rattle.ansi_split.proofs.RestLemmas.{boundary-drop}
 use Rattle.ansi_split.proofs.SplitLemmas.{escape_is_marked}
 use Rattle.ansi_columns.specs.declared.walks.Walk.{Walk}
 use Rattle.ansi_columns.specs.Columns.{cluster_width, clusters}
-use Rattle.ansi_columns.specs.Lines.{lines_from, is_line_end, is_blank, word_columns, lines_left}
+use Rattle.ansi_columns.specs.Lines.{lines, lines_from, is_line_end, is_blank, word_columns, lines_left}
 use Rattle.ansi_columns.specs.Links.{link_after, link_after_all, link_end, longest_link_end}
 use Rattle.ansi_columns.specs.Walks.{IsWalk, clusters_from}
-use Rattle.ansi_columns.specs.Wrapped.{WrappedLine, line_over, lines_over, marks_left, IsTaken, IsSpan}
+use Rattle.ansi_columns.specs.Wrapped.{WrappedLine, line_over, lines_over, wrapped, marks_left, IsTaken, IsSpan}
 use Rattle.ansi_columns.proofs.ColumnLemmas.{clusters_from-start}
 use Rattle.ansi_columns.proofs.PlaceLemmas.{offset_of-add}
 use Rattle.ansi_columns.proofs.ShownLemmas.{length-link_end}
@@ -434,3 +435,22 @@ length-line_over style link x own i is =
 pub length-line : {l : WrappedLine} (style : Rendition) (link x : List ℕ) (own : List Mark) (i : ℕ × ℕ) → IsStyle style → line_over style link x own i ≡ l
     → length l.bytes ≤ l.share + longest_start_and_close + longest_link_end
 length-line style link x own i style_is is = subst (λ (l : WrappedLine). length l.bytes ≤ l.share + longest_start_and_close + longest_link_end) is (length-line_over style link x own i style_is)
+
+-- A text without ESC has lines that are borrows alone.
+
+lines-bare : (x : List ℕ) (is : List (ℕ × ℕ)) → list_all (λ (l : WrappedLine). l.borrowed) (lines_over plain_style [] x [] is) ≡ true
+unfolding lines_over line_over
+lines-bare x [] = refl
+lines-bare x (i ∷ is) =
+    ap₂ (λ a b. a && b) (by_last (length is == 0) ∙ or_right (i.0 == i.1) _ refl) (by_next (lines-bare x is) (length is == 0))
+  where
+    by_last : (last : Bool) → (line_over plain_style [] x (if last then [] else up_to i.1 []) i).borrowed ≡ ((i.0 == i.1) || true)
+    by_last true = refl
+    by_last false = refl
+
+    by_next : list_all (λ (l : WrappedLine). l.borrowed) (lines_over plain_style [] x [] is) ≡ true → (last : Bool) → list_all (λ (l : WrappedLine). l.borrowed) (lines_over (after_marks plain_style (if last then [] else up_to i.1 [])) (link_after_all [] (if last then [] else up_to i.1 [])) x (past (Some i.1) []) is) ≡ true
+    by_next later true = later
+    by_next later false = later
+
+pub wrapped-bare : (t : List ℕ) (width : ℕ) → IsFalse (has_escape t) → IsTrue (list_all (λ (l : WrappedLine). l.borrowed) (wrapped t width))
+wrapped-bare t width none = ap (λ ms. list_all (λ (l : WrappedLine). l.borrowed) (lines_over plain_style [] (plain t) ms (lines width (plain t)))) (marks-bare t none) ∙ lines-bare (plain t) (lines width (plain t))

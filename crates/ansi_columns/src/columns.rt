@@ -1,8 +1,9 @@
 //! The calls on columns: over any text, and over `&str`.
-ghost use Rattle.std.specs.Prelude.{◌≡◌, ◌↔◌, ◌+◌, ◌≤◌, Some, None, [], length, IsTrue, IsOk, IfOk};
+ghost use Rattle.std.specs.Prelude.{◌≡◌, ◌↔◌, ◌+◌, ◌≤◌, Some, None, [], length, IsTrue, IsFalse, IsOk, IfOk};
+ghost use Rattle.std.specs.List.{list_all};
 ghost use Rattle.std.specs.Cow.{cow_str_bytes, IsBorrowedStr};
 ghost use Rattle.std.specs.Str.{IsCharBoundary};
-ghost use Rattle.ansi_items.specs.Plain.{plain};
+ghost use Rattle.ansi_items.specs.Plain.{plain, has_escape};
 ghost use Rattle.ansi_search.specs.Positions.{is_good_range};
 ghost use Rattle.ansi_style.specs.Written.{longest_close};
 ghost use Rattle.ansi_columns.specs.Columns.{columns, FitsUpTo};
@@ -132,7 +133,8 @@ pub trait AnsiColumns: AnsiStr {
     /// assert!(rt; matches!(&lines.next(), None));
     /// ```
     final fn ansi_wrap(&self, alloc: Global, width: usize) -> AnsiWrap<'_>
-        ensures { result ≡ wrapped (Self.text self.now) width }
+        ensures lines { result ≡ wrapped (Self.text self.now) width }
+        ensures takes_no_memory { IsFalse (has_escape (Self.text self.now)) → IsTrue (list_all (λ l. l.borrowed) result) }
     {
         wrap(alloc, self.as_text(), width)
     }

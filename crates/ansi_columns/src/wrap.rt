@@ -1,5 +1,7 @@
 //! The lines of a wrapped text as they are shown: each begins with what is open before it, and ends that.
-ghost use Rattle.std.specs.Prelude.{◌≡◌};
+ghost use Rattle.std.specs.Prelude.{◌≡◌, IsTrue, IsFalse};
+ghost use Rattle.std.specs.List.{list_all};
+ghost use Rattle.ansi_items.specs.Plain.{has_escape};
 ghost use Rattle.ansi_columns.specs.Wrapped.{wrapped};
 
 pub(crate) mod spans;
@@ -46,7 +48,8 @@ impl<'t, A: Allocator> Model for AnsiWrap<'t, A> {
 /// assert!(rt; matches!(&first, Some(Ok(line)) if line.as_str() == "\x1b[1mlion\x1b[22m"));
 /// ```
 pub fn wrap<'t, A: Allocator>(alloc: A, text: &'t str, width: usize) -> AnsiWrap<'t, A>
-    ensures { result ≡ wrapped text.now width }
+    ensures lines { result ≡ wrapped text.now width }
+    ensures takes_no_memory { IsFalse (has_escape text.now) → IsTrue (list_all (λ l. l.borrowed) result) }
 {
     let spans = Spans::new(text, width);
     AnsiWrap { alloc, spans }
