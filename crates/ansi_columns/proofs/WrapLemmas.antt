@@ -1,13 +1,13 @@
 -- The lines of a wrap that are left, one at a time: the first, by the stretch of the text that it is written from, and those after it.
-use Rattle.std.proofs.Common.{encode_utf8_all, ◌≡◌, ℕ, ◌+◌, ◌-◌, ◌≤◌, ◌<◌, ◌==◌, ◌⊎◌, inl, inr, Bool, true, false, not, ◌&&◌, ◌||◌, List, [], ◌∷◌, ◌++◌, length, map, take, drop, slice_range, nat_le, nat_lt, Option, Some, None, if◌then◌else◌, IsTrue, IsFalse, refl, sym, ◌∙◌, ap, ap₂, subst, arith, append_assoc, append-nil, length-append}
+use Rattle.std.proofs.Common.{encode_utf8_all, ◌≡◌, ℕ, ◌+◌, ◌-◌, ◌≤◌, ◌==◌, ◌⊎◌, inl, inr, Bool, true, false, not, ◌&&◌, ◌||◌, List, [], ◌∷◌, ◌++◌, length, take, drop, slice_range, nat_le, nat_lt, Some, if◌then◌else◌, IsTrue, IsFalse, refl, sym, ◌∙◌, ap, ap₂, subst, arith, append_assoc, append-nil, length-append}
 use Rattle.std.specs.List.{list_all}
 use Rattle.std.specs.Prelude.{fold}
-use Rattle.std.specs.Str.{IsUtf8, IsCharBoundary}
+use Rattle.std.specs.Str.{IsCharBoundary}
 use Rattle.std.proofs.lemmas.Bool.{cases_lt, cond_both, and_parts, and_from, and_right, or_right, eq-eqb, eqb-true, ne_eqb, not-true}
 use Rattle.std.proofs.lemmas.Bool.Decides.{nat_tests}
 use Rattle.std.proofs.lemmas.List.{length-map, length-drop, length-take-le, take_all, drop-drop, take-append-drop, get_or-take}
 use Rattle.std.proofs.lemmas.Str.{IsCharBoundary-end}
-use Rattle.ansi_items.specs.Pieces.{Piece, Text, Sequence, LoneEscape, spelling, pieces_of}
+use Rattle.ansi_items.specs.Pieces.{Piece, Text, Sequence, LoneEscape, pieces_of}
 use Rattle.ansi_items.specs.Plain.{Mark, plain, plain_of, marks, up_to, has_escape}
 use Rattle.ansi_items.proofs.JoinLemmas.{spelled, spelled-pieces_of}
 use Rattle.ansi_items.proofs.PlainLemmas.{plain-bare}
@@ -28,7 +28,7 @@ use Rattle.ansi_slice.proofs.ShowLemmas.{show-text, show-bare}
 use Rattle.ansi_search.proofs.SliceLemmas.{slice_range-none, slice_range-from_past}
 use Rattle.ansi_search.proofs.OffsetLemmas.{plain-after, bytes_before-text}
 use Rattle.ansi_slice.proofs.StretchLemmas.{kept-front, kept-stretch, kept-none}
-use Rattle.ansi_search.proofs.PositionLemmas.{is_good_position-past, is_good_position-drop, boundary_is_good, good_is_boundary}
+use Rattle.ansi_search.proofs.PositionLemmas.{is_good_position-past, is_good_position-drop, good_is_boundary}
 use Rattle.ansi_split.specs.Spans.{further_on, IsCutAfter}
 use Rattle.ansi_split.proofs.AfterLemmas.{is_cut_after}
 use Rattle.ansi_split.proofs.RestLemmas.{boundary-drop}
@@ -37,12 +37,11 @@ use Rattle.ansi_columns.specs.declared.walks.Walk.{Walk}
 use Rattle.ansi_columns.specs.Columns.{cluster_width, clusters}
 use Rattle.ansi_columns.specs.Lines.{lines, lines_from, is_line_end, is_blank, word_columns, lines_left}
 use Rattle.ansi_columns.specs.Links.{link_after, link_after_all, link_end, longest_link_end}
-use Rattle.ansi_columns.specs.Walks.{IsWalk, clusters_from}
+use Rattle.ansi_columns.specs.Walks.{clusters_from}
 use Rattle.ansi_columns.specs.Wrapped.{WrappedLine, line_over, lines_over, wrapped, marks_left, IsTaken, IsSpan}
 use Rattle.ansi_columns.proofs.ColumnLemmas.{clusters_from-start}
 use Rattle.ansi_columns.proofs.PlaceLemmas.{offset_of-add}
 use Rattle.ansi_columns.proofs.ShownLemmas.{length-link_end}
-use Rattle.ansi_columns.proofs.WalkLemmas.{walk_boundary}
 
 -- A line by what it is made of.
 
@@ -129,7 +128,7 @@ lines_filled width from end here columns (c ∷ cs) =
     ((here == from) || nat_le (columns + (if here == end then cluster_width c else word_columns (c ∷ cs))) width)
   where
     by_test : (blank stays ended left : List (ℕ × ℕ)) → is_none blank ≡ false → is_none stays ≡ false → (a b d : Bool)
-        → is_none (elim a [ | true ↦ (from, end) ∷ ended | false ↦ elim b [ | true ↦ blank | false ↦ elim d [ | true ↦ stays | false ↦ (from, end) ∷ left ] ] ]) ≡ false
+        → is_none (elim a [ true ↦ (from, end) ∷ ended | false ↦ elim b [ true ↦ blank | false ↦ elim d [ true ↦ stays | false ↦ (from, end) ∷ left ] ] ]) ≡ false
     by_test blank stays ended left some_blank some_stays true b d = filled (from, end) ended
     by_test blank stays ended left some_blank some_stays false true d = some_blank
     by_test blank stays ended left some_blank some_stays false false true = some_stays

@@ -1,4 +1,4 @@
-use Rattle.std.proofs.Common.{◌∙◌, ap, ap₂}
+use Rattle.std.proofs.Common.{◌∙◌, ap}
 use Rattle.ansi_items.specs.Plain.{marks}
 use Rattle.ansi_style.specs.Reading.{style_after_from}
 use Rattle.ansi_columns.specs.Links.{link_after_all}

@@ -1,4 +1,4 @@
-use Rattle.std.proofs.Common.{◌≡◌, sym, ◌∙◌, ap, subst, IsTrue, List}
+use Rattle.std.proofs.Common.{◌∙◌, ap, List}
 use Rattle.std.specs.List.{list_all}
 use Rattle.ansi_columns.specs.Wrapped.{WrappedLine}
 use Rattle.ansi_columns.proofs.WrapLemmas.{wrapped-bare}

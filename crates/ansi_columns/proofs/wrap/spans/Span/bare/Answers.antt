@@ -1,4 +1,4 @@
-use Rattle.std.proofs.Common.{◌≡◌, inl, inr, sym, ◌∙◌, ap}
+use Rattle.std.proofs.Common.{inl, inr, sym, ◌∙◌, ap}
 use Rattle.ansi_items.specs.Plain.{plain, marks}
 use Rattle.ansi_style.proofs.StyleLemmas.{IsStyle-rendition_of}
 use Rattle.ansi_style.specs.States.{rendition_of}
@@ -20,7 +20,7 @@ returns-then-not-is_none c =
     let s = c.self.inside in
     record {
       line = sym (ap (λ (l : WrappedLine). l.borrowed) c.self.view_is)
-      ∙ owned-carried (rendition_of s.carried.style) s.carried.link.now s.text.now s.start s.end c.if-self-2.true (sym c.is_none.ensures ∙ c.if-not-is_none.true);
+          ∙ owned-carried (rendition_of s.carried.style) s.carried.link.now s.text.now s.start s.end c.if-self-2.true (sym c.is_none.ensures ∙ c.if-not-is_none.true);
       len = length-line (rendition_of s.carried.style) s.carried.link.now (plain s.text.now) (marks s.text.now) (s.start, s.end) (IsStyle-rendition_of s.carried.style) c.self.view_is;
     }
 

@@ -1,7 +1,6 @@
 use Rattle.std.proofs.Common.{◌∙◌, ap, ap₂, [], Some}
 use Rattle.ansi_items.specs.Plain.{plain}
 use Rattle.ansi_style.specs.Rendition.{plain_style}
-use Rattle.ansi_style.specs.States.{rendition_of}
 use Rattle.ansi_columns.specs.Columns.{clusters}
 use Rattle.ansi_columns.specs.Lines.{lines_from, lines_left}
 use Rattle.ansi_columns.specs.Wrapped.{lines_over, marks_left}

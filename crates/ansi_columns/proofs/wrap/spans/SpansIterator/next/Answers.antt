@@ -1,5 +1,4 @@
-use Rattle.std.proofs.Common.{List, Option, rules, ◌≡◌, ◌-◌, ◌==◌, false, ◌<◌, ◌∷◌, [], Some, length, drop, slice_range, IsTrue, sym, ◌∙◌, ap, ap₂, arith}
-use Rattle.std.proofs.lemmas.List.{take_all, length-drop}
+use Rattle.std.proofs.Common.{List, Option, rules, ◌≡◌, ◌-◌, ◌==◌, false, ◌∷◌, [], length, slice_range, IsTrue, sym, ◌∙◌, ap, ap₂, arith}
 use Rattle.std.specs.Str.{IsUtf8}
 use Rattle.ansi_columns.specs.declared.walks.Walk.{Walk}
 use Rattle.ansi_items.specs.Plain.{plain, marks}
