@@ -18,14 +18,13 @@ use Rattle.ansi_items.specs.Pieces.{Piece, Text, Sequence, LoneEscape, spelling,
 use Rattle.ansi_items.specs.Plain.{Mark, marks_of, marks}
 use Rattle.ansi_items.specs.Scans.{Scan, Gives, pieces_left, piece_of_kind}
 use Rattle.ansi_items.proofs.StepLemmas.{BeginsWithMark, is_mark}
-use Rattle.ansi_style.specs.Rendition.{plain_style}
 use Rattle.ansi_style.specs.declared.state.rendition.Rendition.{Rendition}
 use Rattle.ansi_style.specs.Sgr.{apply}
-use Rattle.ansi_style.specs.Styled.{style_after}
+use Rattle.ansi_style.specs.Reading.{style_after_from}
 use Rattle.ansi_style.proofs.MarkLemmas.{marks_of-text, marks_of-sequence, marks_of-lone, bytes-further}
 use Rattle.ansi_style.proofs.SgrLemmas.{apply-no_sgr}
 use Rattle.ansi_style.proofs.StyledLemmas.{style_through, style_after_from-pieces}
-use Rattle.ansi_columns.specs.Links.{terminator_len, address_of, is_link, opens_link, link_of, link_after}
+use Rattle.ansi_columns.specs.Links.{terminator_len, address_of, is_link, opens_link, link_of, link_after, link_after_all}
 
 -- The address of a link sequence, by the place of its second semicolon.
 
@@ -135,17 +134,17 @@ link_of-last : (o : Option (List ℕ)) → opened (unwrap_or o []) ≡ option_ma
 link_of-last None = refl
 link_of-last (Some w) = refl
 
-pub link_of-pieces : (ps : List Piece) → link_of (marks_of ps) ≡ link_through [] ps
-link_of-pieces ps =
-    link_of-last (slice_get (reverse (filter is_link (bytes_of_all (marks_of ps)))) 0) ∙ sym (link_after-last [] (bytes_of_all (marks_of ps))) ∙ through-marks [] ps
+-- where none is open before them
+pub link_after_all-none : (ms : List Mark) → link_after_all [] ms ≡ link_of ms
+link_after_all-none ms = link_after-last [] (bytes_of_all ms) ∙ sym (link_of-last (slice_get (reverse (filter is_link (bytes_of_all ms))) 0))
 
--- How far a walk over t has come: what is open after the pieces that are left is what is open after t.
-pub record IsOpenSoFar (t : List ℕ) (style : Rendition) (link : List ℕ) (left : List Piece) : Type 0 where
-  pub styled : style_through style left ≡ style_after t
-  pub linked : link_through link left ≡ link_of (marks t)
+-- How far a walk over t has come, where a style and a link are open before it: what is open after the pieces that are left is what is open after t.
+pub record IsOpenSoFar (t : List ℕ) (before : Rendition) (open_before : List ℕ) (style : Rendition) (link : List ℕ) (left : List Piece) : Type 0 where
+  pub styled : style_through style left ≡ style_after_from before t
+  pub linked : link_through link left ≡ link_after_all open_before (marks t)
 
-pub open-begin : (t : List ℕ) → IsOpenSoFar t plain_style [] (pieces_of t)
-open-begin t = record { styled = sym (style_after_from-pieces plain_style t); linked = sym (link_of-pieces (pieces_of t)) }
+pub open-begin : (t : List ℕ) (before : Rendition) (open_before : List ℕ) → IsOpenSoFar t before open_before before open_before (pieces_of t)
+open-begin t before open_before = record { styled = sym (style_after_from-pieces before t); linked = sym (through-marks open_before (pieces_of t)) }
 
 through-mark : (style : Rendition) (link : List ℕ) (p : Piece) (ps : List Piece) → is_mark p ≡ true
     → (style_through style (p ∷ ps) ≡ style_through (apply style (spelling p)) ps) × (link_through link (p ∷ ps) ≡ link_through (link_after link (spelling p)) ps)
@@ -153,37 +152,37 @@ through-mark style link (Text w) ps is = absurd (cc is)
 through-mark style link (Sequence w) ps is = (refl, refl)
 through-mark style link LoneEscape ps is = (refl, refl)
 
-open-mark : {t w : List ℕ} {style : Rendition} {link : List ℕ} {kind : Kind} {old ps : List Piece} → IsOpenSoFar t style link old → BeginsWithMark kind w old ps → IsOpenSoFar t (apply style w) (link_after link w) ps
-open-mark {t} {w} {style} {link} {kind} {old} {ps} so_far mark =
-    let here = subst (IsOpenSoFar t style link) mark.pieces so_far in
+open-mark : {t w open_before : List ℕ} {before style : Rendition} {link : List ℕ} {kind : Kind} {old ps : List Piece} → IsOpenSoFar t before open_before style link old → BeginsWithMark kind w old ps → IsOpenSoFar t before open_before (apply style w) (link_after link w) ps
+open-mark {t} {w} {open_before} {before} {style} {link} {kind} {old} {ps} so_far mark =
+    let here = subst (IsOpenSoFar t before open_before style link) mark.pieces so_far in
     let through = through-mark style link mark.mark ps mark.is_mark in
-    subst (λ v. IsOpenSoFar t (apply style v) (link_after link v) ps) mark.bytes (record { styled = sym through.0 ∙ here.styled; linked = sym through.1 ∙ here.linked })
+    subst (λ v. IsOpenSoFar t before open_before (apply style v) (link_after link v) ps) mark.bytes (record { styled = sym through.0 ∙ here.styled; linked = sym through.1 ∙ here.linked })
 
 -- over an SGR
-pub open-sgr : {t w : List ℕ} {style next : Rendition} {link : List ℕ} {kind : Kind} {old ps : List Piece} → IsOpenSoFar t style link old → BeginsWithMark kind w old ps → kind ≡ Sgr → next ≡ apply style w → IsOpenSoFar t next link ps
-open-sgr {t} {w} {style} {next} {link} {ps = ps} so_far mark kind next_is =
+pub open-sgr : {t w open_before : List ℕ} {before style next : Rendition} {link : List ℕ} {kind : Kind} {old ps : List Piece} → IsOpenSoFar t before open_before style link old → BeginsWithMark kind w old ps → kind ≡ Sgr → next ≡ apply style w → IsOpenSoFar t before open_before next link ps
+open-sgr {t} {w} {open_before} {before} {style} {next} {link} {ps = ps} so_far mark kind next_is =
     let none : link_after link w ≡ link = ap (λ b. if b then opened w else link) (is_link-sgr w (mark.sgr kind)) in
-    subst (λ l. IsOpenSoFar t next l ps) none (subst (λ s. IsOpenSoFar t s (link_after link w) ps) (sym next_is) (open-mark so_far mark))
+    subst (λ l. IsOpenSoFar t before open_before next l ps) none (subst (λ s. IsOpenSoFar t before open_before s (link_after link w) ps) (sym next_is) (open-mark so_far mark))
 
 -- over another sequence
-pub open-other : {t w : List ℕ} {style : Rendition} {link next : List ℕ} {kind : Kind} {old ps : List Piece} → IsOpenSoFar t style link old → BeginsWithMark kind w old ps → kind ≢ Sgr → next ≡ link_after link w → IsOpenSoFar t style next ps
-open-other {t} {w} {style} {link} {next} {ps = ps} so_far mark kind next_is =
-    subst (λ l. IsOpenSoFar t style l ps) (sym next_is) (subst (λ s. IsOpenSoFar t s (link_after link w) ps) (apply-no_sgr style w (mark.no_sgr kind)) (open-mark so_far mark))
+pub open-other : {t w open_before : List ℕ} {before style : Rendition} {link next : List ℕ} {kind : Kind} {old ps : List Piece} → IsOpenSoFar t before open_before style link old → BeginsWithMark kind w old ps → kind ≢ Sgr → next ≡ link_after link w → IsOpenSoFar t before open_before style next ps
+open-other {t} {w} {open_before} {before} {style} {link} {next} {ps = ps} so_far mark kind next_is =
+    subst (λ l. IsOpenSoFar t before open_before style l ps) (sym next_is) (subst (λ s. IsOpenSoFar t before open_before s (link_after link w) ps) (apply-no_sgr style w (mark.no_sgr kind)) (open-mark so_far mark))
 
 -- over a text, or a lone escape
-pub open-rest : {t : List ℕ} {style : Rendition} {link : List ℕ} {old new : Scan} {item : Item} → IsOpenSoFar t style link (pieces_left old) → Gives old item new → item.kind ≢ Sgr → item.kind ≢ Other
-    → IsOpenSoFar t style link (pieces_left new)
-open-rest {t} {style} {link} {old} {new} {item} so_far gives no_sgr no_other =
-    by_kind item.kind (slice_range old.text item.start item.end) no_sgr no_other (subst (IsOpenSoFar t style link) gives.piece so_far)
+pub open-rest : {t open_before : List ℕ} {before style : Rendition} {link : List ℕ} {old new : Scan} {item : Item} → IsOpenSoFar t before open_before style link (pieces_left old) → Gives old item new → item.kind ≢ Sgr → item.kind ≢ Other
+    → IsOpenSoFar t before open_before style link (pieces_left new)
+open-rest {t} {open_before} {before} {style} {link} {old} {new} {item} so_far gives no_sgr no_other =
+    by_kind item.kind (slice_range old.text item.start item.end) no_sgr no_other (subst (IsOpenSoFar t before open_before style link) gives.piece so_far)
   where
-    by_kind : (k : Kind) (w : List ℕ) → k ≢ Sgr → k ≢ Other → IsOpenSoFar t style link (piece_of_kind k w ∷ pieces_left new) → IsOpenSoFar t style link (pieces_left new)
+    by_kind : (k : Kind) (w : List ℕ) → k ≢ Sgr → k ≢ Other → IsOpenSoFar t before open_before style link (piece_of_kind k w ∷ pieces_left new) → IsOpenSoFar t before open_before style link (pieces_left new)
     by_kind TextKind w no_sgr no_other here = record { styled = here.styled; linked = here.linked }
     by_kind Sgr w no_sgr no_other here = absurd (no_sgr refl)
     by_kind Other w no_sgr no_other here = absurd (no_other refl)
     by_kind Lone w no_sgr no_other here = record { styled = here.styled; linked = here.linked }
 
-pub open-end : {t : List ℕ} {style : Rendition} {link : List ℕ} {old : List Piece} → IsOpenSoFar t style link old → old ≡ [] → (style ≡ style_after t) × (link ≡ link_of (marks t))
-open-end {t} {style} {link} so_far none = (let here = subst (IsOpenSoFar t style link) none so_far in (here.styled, here.linked))
+pub open-end : {t open_before : List ℕ} {before style : Rendition} {link : List ℕ} {old : List Piece} → IsOpenSoFar t before open_before style link old → old ≡ [] → (style ≡ style_after_from before t) × (link ≡ link_after_all open_before (marks t))
+open-end {t} {open_before} {before} {style} {link} so_far none = (let here = subst (IsOpenSoFar t before open_before style link) none so_far in (here.styled, here.linked))
 
 -- by the test that the code makes
 pub is_kind : (kind : Kind) {k : Kind} → true ≡ sameb the_type k kind → k ≡ kind

@@ -125,7 +125,7 @@ ends_here-no link tail style none =
 
 -- How long what ends a pen is.
 
-length-link_end : (link : List ℕ) → length (link_end link) ≤ longest_link_end
+pub length-link_end : (link : List ℕ) → length (link_end link) ≤ longest_link_end
 length-link_end [] = omega arith
 length-link_end (b ∷ link) = omega (arith, link_end-length b link)
 

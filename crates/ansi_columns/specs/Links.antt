@@ -1,5 +1,5 @@
 -- The hyperlink at a place of a text, and what ends it.
-use Rattle.std.specs.Prelude.{ℕ, ◌+◌, ◌-◌, ◌==◌, Bool, not, ◌&&◌, List, [], ◌++◌, length, map, drop, filter, reverse, slice_range, slice_get, nat_eq, nat_lt, Option, Some, None, is_some, unwrap_or, if◌then◌else◌, codes}
+use Rattle.std.specs.Prelude.{ℕ, ◌+◌, ◌-◌, ◌==◌, Bool, not, ◌&&◌, List, [], ◌++◌, length, map, drop, filter, reverse, slice_range, slice_get, nat_eq, nat_lt, Option, Some, None, is_some, unwrap_or, fold, if◌then◌else◌, codes}
 use Rattle.std.specs.List.{prefix_len, starts_with, ends_with}
 use Rattle.std.specs.Str.{byte}
 use Rattle.ansi_items.specs.Plain.{Mark, marks, up_to}
@@ -35,6 +35,10 @@ link_of ms =
 -- the link after the sequence w, where this link is open before it
 abbrev pub link_after : List ℕ → List ℕ → List ℕ
 link_after link w = if is_link w then (if opens_link w then w else []) else link
+
+-- the link after marks, where this link is open before them
+abbrev pub link_after_all : List ℕ → List Mark → List ℕ
+link_after_all link ms = fold link_after link (map (λ (m : Mark). m.bytes) ms)
 
 -- the link at the place i of t is that after every mark at a place up to i (own)
 abbrev pub link_at : List ℕ → ℕ → List ℕ

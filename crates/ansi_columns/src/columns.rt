@@ -1,17 +1,20 @@
 //! The calls on columns: over any text, and over `&str`.
-ghost use Rattle.std.specs.Prelude.{◌≡◌, ◌↔◌, ◌+◌, ◌≤◌, Some, None, [], length, IsTrue, IsOk, IfOk};
+ghost use Rattle.std.specs.Prelude.{◌≡◌, ◌↔◌, ◌+◌, ◌≤◌, Some, None, [], length, IsTrue, IsFalse, IsOk, IfOk};
+ghost use Rattle.std.specs.List.{list_all};
 ghost use Rattle.std.specs.Cow.{cow_str_bytes, IsBorrowedStr};
 ghost use Rattle.std.specs.Str.{IsCharBoundary};
-ghost use Rattle.ansi_items.specs.Plain.{plain};
+ghost use Rattle.ansi_items.specs.Plain.{plain, has_escape};
 ghost use Rattle.ansi_search.specs.Positions.{is_good_range};
 ghost use Rattle.ansi_style.specs.Written.{longest_close};
 ghost use Rattle.ansi_columns.specs.Columns.{columns, FitsUpTo};
 ghost use Rattle.ansi_columns.specs.Links.{longest_link_end};
 ghost use Rattle.ansi_columns.specs.Shown.{truncated_ending, truncated, missing, closing, padded};
+ghost use Rattle.ansi_columns.specs.Wrapped.{wrapped};
 
 use crate::fits::fitting_front;
 use crate::shown::{Alignment, pad, truncate};
 use crate::walks::Walk;
+use crate::wrap::{AnsiWrap, wrap};
 use ansi_str::AnsiStr;
 use std::alloc::{AllocError, Global};
 use std::borrow::CowStr;
@@ -114,6 +117,26 @@ pub trait AnsiColumns: AnsiStr {
         ensures takes_no_memory { (missing (Self.text self.now) width ≡ 0) × (closing (Self.text self.now) ≡ []) → IsOk result }
     {
         pad(alloc, self.as_text(), width, alignment)
+    }
+
+    /// The lines of the text at a width, in order, as they are shown.
+    ///
+    /// They begin and end where `Lines::new` says. What a line leaves open is ended at its end, its link
+    /// and then its style, and opened at the beginning of the next: the start of the style, and then the
+    /// sequence that opened the link. A sequence belongs to the first line that doesn't end before it, and
+    /// one after the last line's end to the last line. A line with no text and no sequence is empty. (Own.)
+    ///
+    /// ```
+    /// let mut lines = "\x1b[31mlion tiger".ansi_wrap(rt.alloc(), 5);
+    /// assert!(rt; matches!(&lines.next(), Some(Ok(line)) if line.as_str() == "\x1b[31mlion\x1b[39m"));
+    /// assert!(rt; matches!(&lines.next(), Some(Ok(line)) if line.as_str() == "\x1b[31mtiger\x1b[39m"));
+    /// assert!(rt; matches!(&lines.next(), None));
+    /// ```
+    final fn ansi_wrap(&self, alloc: Global, width: usize) -> AnsiWrap<'_>
+        ensures lines { result ≡ wrapped (Self.text self.now) width }
+        ensures takes_no_memory { IsFalse (has_escape (Self.text self.now)) → IsTrue (list_all (λ l. l.borrowed) result) }
+    {
+        wrap(alloc, self.as_text(), width)
     }
 }
 

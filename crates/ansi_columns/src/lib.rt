@@ -15,6 +15,7 @@ mod links;
 mod seams;
 pub mod shown;
 mod walks;
+pub mod wrap;
 
 pub use columns::AnsiColumns;
 pub use shown::Alignment;

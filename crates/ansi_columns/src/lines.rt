@@ -1,5 +1,5 @@
 //! Where the lines of a text begin and end, when it is wrapped at a width.
-ghost use Rattle.std.specs.Prelude.{◌≡◌, ◌<◌, ◌∷◌, Some, IfSome, All};
+ghost use Rattle.std.specs.Prelude.{◌≡◌, ◌<◌, ◌≤◌, ◌∷◌, Some, IfSome, All};
 ghost use Rattle.ansi_items.specs.Plain.{plain};
 ghost use Rattle.ansi_columns.specs.Lines.{lines, lines_left, is_line_end, is_blank, IsLine, IsGoodLine};
 ghost use Rattle.ansi_columns.specs.Walks.{IsWalk, cluster};
@@ -75,24 +75,27 @@ impl<'t> Iterator for Lines<'t> {
         let start = self.next?;
         let (end, next) = first_line(self.text, start, self.width);
         self.next = next;
-        Some((start.position, end))
+        Some((start.position, end.position))
     }
 }
 
 /// Where the line ends that begins at a walk, and where the one after it begins.
 ///
 /// It is read up to the first cluster that doesn't fit.
-fn first_line(text: &str, start: Walk, width: usize) -> (usize, Option<Walk>)
+pub(crate) fn first_line(text: &str, start: Walk, width: usize) -> (Walk, Option<Walk>)
     requires { IsWalk text.now start }
+    ensures end { IsWalk text.now result.0 }
+    ensures ordered { start.position ≤ result.0.position }
     ensures next { IfSome result.1 (IsWalk text.now) }
-    ensures lines { lines_left text.now width (Some start) ≡ (start.position, result.0) ∷ lines_left text.now width result.1 }
+    ensures next_ordered { IfSome result.1 (λ next. result.0.position ≤ next.position) }
+    ensures lines { lines_left text.now width (Some start) ≡ (start.position, result.0.position) ∷ lines_left text.now width result.1 }
 {
     let mut here = start;
     // Where the word begins that is read, and where the ones before it end.
     let mut word = start;
-    let mut end_before = start.position;
+    let mut end_before = start;
     // Where the words end that have been read.
-    let mut end = start.position;
+    let mut end = start;
     let mut columns = 0;
     'clusters: while let Some((next, more)) = here.next_cluster(text) {
         if is_line_end(text, &here, &next) {
@@ -102,7 +105,7 @@ fn first_line(text: &str, start: Walk, width: usize) -> (usize, Option<Walk>)
             end_before = end;
             word = next;
         } else if here.position == start.position || columns + more <= width {
-            end = next.position;
+            end = next;
         } else if word.position == start.position {
             return (end, Some(here));
         } else {

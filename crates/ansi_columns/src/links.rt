@@ -3,8 +3,10 @@ ghost use Rattle.std.specs.Prelude.{◌≡◌, ◌++◌, Option, length, OnOk, I
 ghost use Rattle.std.specs.Option.{option_map};
 ghost use Rattle.ansi_items.specs.Plain.{marks};
 ghost use Rattle.ansi_style.specs.States.{rendition_of};
+ghost use Rattle.ansi_style.specs.Rendition.{plain_style};
 ghost use Rattle.ansi_style.specs.Styled.{style_after};
-ghost use Rattle.ansi_columns.specs.Links.{terminator_len, address_of, link_of, link_after};
+ghost use Rattle.ansi_style.specs.Reading.{style_after_from};
+ghost use Rattle.ansi_columns.specs.Links.{terminator_len, address_of, link_of, link_after, link_after_all};
 
 use ansi_items::ansitok::{Kind, Scanner};
 use ansi_style::state::Style;
@@ -13,10 +15,34 @@ use memchr::memchr;
 
 /// What is open after a text: its style, and the sequence that opened its link, which is empty where no
 /// link is open.
-#[derive(Drop)]
+#[derive(Clone, Copy)]
 pub(crate) struct Pen<'t> {
     pub(crate) style: Style,
     pub(crate) link: &'t str,
+}
+
+impl<'t> Pen<'t> {
+    ghost use Rattle.std.specs.Prelude.{◌≡◌, ◌==◌, not, ◌&&◌, length};
+    ghost use Rattle.ansi_style.specs.States.{rendition_of};
+    ghost use Rattle.ansi_style.specs.Rendition.{has_any};
+
+    /// Whether nothing is open.
+    pub(crate) fn is_none(&self) -> bool
+        ensures { result ≡ (not (has_any (rendition_of self.now.style)) && length self.now.link.now == 0) }
+    {
+        !styles::has_any(&self.style) && self.link.is_empty()
+    }
+}
+
+/// What is open before a text: nothing.
+pub(crate) fn no_pen() -> Pen<'static>
+    ensures style { rendition_of result.style ≡ plain_style }
+    ensures link { result.link.now ≡ [] }
+{
+    Pen {
+        style: styles::plain_style(),
+        link: "",
+    }
 }
 
 /// What is open after a text. Takes no memory.
@@ -24,8 +50,16 @@ pub(crate) fn pen_after(text: &str) -> Pen<'_>
     ensures style { rendition_of result.style ≡ style_after text.now }
     ensures link { result.link.now ≡ link_of (marks text.now) }
 {
-    let mut style = styles::plain_style();
-    let mut link = "";
+    pen_after_from(no_pen(), text)
+}
+
+/// What is open after a text, where this is open before it. Takes no memory.
+pub(crate) fn pen_after_from<'t>(before: Pen<'t>, text: &'t str) -> Pen<'t>
+    ensures style { rendition_of result.style ≡ style_after_from (rendition_of before.entry.style) text.now }
+    ensures link { result.link.now ≡ link_after_all before.entry.link.now (marks text.now) }
+{
+    let mut style = before.style;
+    let mut link = before.link;
     for item in Scanner::new(text) {
         let piece = &text[item.start..item.end];
         if item.kind == Kind::Sgr {

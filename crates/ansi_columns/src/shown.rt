@@ -16,7 +16,7 @@ use std::alloc::{AllocError, Allocator};
 use std::borrow::CowStr;
 
 /// What ends a link (OSC 8).
-const LINK_END: &str = "\u{1b}]8;;\u{1b}\\";
+pub(crate) const LINK_END: &str = "\u{1b}]8;;\u{1b}\\";
 
 /// What ends a link and a style has at most so many bytes, `longest_link_end` and `longest_close`.
 const LONGEST_CLOSING: usize = 95;

@@ -1,6 +1,7 @@
 //! The examples of the docs of `ansi_columns`, in the same words.
 use ansi_columns::lines::Lines;
 use ansi_columns::shown::{pad, truncate};
+use ansi_columns::wrap::wrap;
 use ansi_columns::{Alignment, AnsiColumns};
 use std::test::Fail;
 
@@ -61,4 +62,31 @@ fn lines_example(rt: HostRuntime) {
     assert!(rt; lines.next() == Some((0, 5)));
     assert!(rt; lines.next() == Some((7, 10)));
     assert!(rt; lines.next() == None);
+}
+
+#[test]
+fn ansi_wrap_example(rt: HostRuntime) -> Result<(), Fail> {
+    let mut lines = "\x1b[31mlion tiger".ansi_wrap(rt.alloc(), 5);
+    assert!(rt; matches!(&lines.next(), Some(Ok(line)) if line.as_str() == "\x1b[31mlion\x1b[39m"));
+    assert!(rt; matches!(&lines.next(), Some(Ok(line)) if line.as_str() == "\x1b[31mtiger\x1b[39m"));
+    assert!(rt; matches!(&lines.next(), None));
+    Ok(())
+}
+
+#[test]
+fn ansi_wrap_loop_example(rt: HostRuntime) -> Result<(), Fail> {
+    let mut lines = String::new(rt.alloc());
+    for line in "\x1b[1mlion tiger".ansi_wrap(rt.alloc(), 5) {
+        lines.push_str(line?.as_str())?;
+        lines.push('\n')?;
+    }
+    assert!(rt; lines.as_str() == "\x1b[1mlion\x1b[22m\n\x1b[1mtiger\x1b[22m\n");
+    Ok(())
+}
+
+#[test]
+fn wrap_example(rt: HostRuntime) -> Result<(), Fail> {
+    let first = wrap(rt.alloc(), "\x1b[1mlion tiger", 5).next();
+    assert!(rt; matches!(&first, Some(Ok(line)) if line.as_str() == "\x1b[1mlion\x1b[22m"));
+    Ok(())
 }

@@ -38,6 +38,20 @@ fn places(alloc: Global, text: &str, width: usize) -> Result<String, AllocError>
     Ok(places)
 }
 
+/// The lines of a wrapped text, each in brackets, between blanks.
+fn wrapped(alloc: Global, text: &str, width: usize) -> Result<String, AllocError> {
+    let mut lines = String::new(alloc);
+    for line in text.ansi_wrap(alloc, width) {
+        if !lines.is_empty() {
+            lines.push(' ')?;
+        }
+        lines.push('[')?;
+        lines.push_str(line?.as_str())?;
+        lines.push(']')?;
+    }
+    Ok(lines)
+}
+
 /// A field with each of its escapes as the character that it stands for.
 fn unescaped(alloc: Global, field: &str) -> Result<String, AllocError> {
     let mut text = String::new(alloc);
@@ -112,6 +126,10 @@ fn answered(
         },
         "lines" => match argument.parse() {
             Ok(width) => Ok(Some(places(alloc, text, width)?)),
+            Err(_) => Ok(None),
+        },
+        "wrap" => match argument.parse() {
+            Ok(width) => Ok(Some(wrapped(alloc, text, width)?)),
             Err(_) => Ok(None),
         },
         "front" => match argument.parse() {

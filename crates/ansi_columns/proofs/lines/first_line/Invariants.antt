@@ -8,9 +8,12 @@ abbrev pub invariant-clusters : goal.invariant-clusters
 invariant-clusters l = record {
   here : IsWalk l.text l.here;
   word : IsWalk l.text l.word;
+  end_before : IsWalk l.text l.end_before;
+  end : IsWalk l.text l.end;
+  ordered : (l.start.position ≤ l.end_before.position) × (l.end_before.position ≤ l.word.position) × (l.start.position ≤ l.end.position) × (l.end.position ≤ l.here.position);
   begun : l.start.position ≤ l.here.position;
   bound : l.columns ≤ 2 * l.here.position;
-  line : IsLineTo l.text l.width l.start.position l.end_before l.word.position l.end l.here.position l.columns;
+  line : IsLineTo l.text l.width l.start.position l.end_before.position l.word.position l.end.position l.here.position l.columns;
 }
 
 abbrev pub decreases-clusters : goal.decreases-clusters

@@ -1,0 +1,43 @@
+use Rattle.std.proofs.Common.{inl, inr, sym, ◌∙◌, ap}
+use Rattle.ansi_items.specs.Plain.{plain, marks}
+use Rattle.ansi_style.proofs.StyleLemmas.{IsStyle-rendition_of}
+use Rattle.ansi_style.specs.States.{rendition_of}
+use Rattle.ansi_columns.specs.Wrapped.{WrappedLine}
+use Rattle.ansi_columns.proofs.WrapLemmas.{line-bare, bare-boundary, owned-marked, owned-carried, length-line}
+use Rattle.ansi_columns.proofs.wrap.spans.Span.bare.Goals.{else-self-2-via-then-self-2+else-not-is_none, else-self-2-via-else-self-2}
+use Rattle.ansi_columns.proofs.wrap.spans.Span.bare.Goals as goal
+
+pub returns-then-self : goal.returns-then-self
+returns-then-self c =
+    let s = c.self.inside in
+    record {
+      line = sym (ap (λ (l : WrappedLine). l.borrowed) c.self.view_is) ∙ owned-marked (rendition_of s.carried.style) s.carried.link.now s.text.now s.start s.end (sym c.self.invariant.marked ∙ c.if-self.true);
+      len = length-line (rendition_of s.carried.style) s.carried.link.now (plain s.text.now) (marks s.text.now) (s.start, s.end) (IsStyle-rendition_of s.carried.style) c.self.view_is;
+    }
+
+pub returns-then-not-is_none : goal.returns-then-not-is_none
+returns-then-not-is_none c =
+    let s = c.self.inside in
+    record {
+      line = sym (ap (λ (l : WrappedLine). l.borrowed) c.self.view_is)
+          ∙ owned-carried (rendition_of s.carried.style) s.carried.link.now s.text.now s.start s.end c.if-self-2.true (sym c.is_none.ensures ∙ c.if-not-is_none.true);
+      len = length-line (rendition_of s.carried.style) s.carried.link.now (plain s.text.now) (marks s.text.now) (s.start, s.end) (IsStyle-rendition_of s.carried.style) c.self.view_is;
+    }
+
+pub range-requires-clause-start_boundary : goal.range-requires-clause-start_boundary
+range-requires-clause-start_boundary c = λ some. (bare-boundary c.self.invariant c.if-self.false).0
+
+pub range-requires-clause-end_boundary : goal.range-requires-clause-end_boundary
+range-requires-clause-end_boundary c = (bare-boundary c.self.invariant c.if-self.false).1
+
+pub returns : goal.returns
+returns c =
+    let s = c.self.inside in
+    let bare = line-bare c.self.invariant c.if-self.false (elim c.else-self-2.branch [
+      | else-self-2-via-then-self-2+else-not-is_none w ↦ inr (sym w.is_none.ensures ∙ w.if-not-is_none.false)
+      | else-self-2-via-else-self-2 w ↦ inl w.if-self-2.false
+    ]) in
+    record {
+      line = (c.range.ensures.value ∙ bare.0 ∙ ap (λ (l : WrappedLine). l.bytes) c.self.view_is, sym (ap (λ (l : WrappedLine). l.borrowed) c.self.view_is) ∙ bare.1);
+      len = length-line (rendition_of s.carried.style) s.carried.link.now (plain s.text.now) (marks s.text.now) (s.start, s.end) (IsStyle-rendition_of s.carried.style) c.self.view_is;
+    }

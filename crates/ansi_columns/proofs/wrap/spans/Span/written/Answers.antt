@@ -1,0 +1,43 @@
+use Rattle.std.proofs.Common.{◌≡◌, ℕ, ◌^◌, ◌<◌, ◌++◌, length, slice_range, ◌∙◌, ap, ap₂, arith, rules, string_bytes}
+use Rattle.ansi_items.specs.Pieces.{pieces_of}
+use Rattle.ansi_items.specs.Plain.{plain}
+use Rattle.ansi_style.specs.States.{rendition_of}
+use Rattle.ansi_style.specs.Written.{start, close_if_any}
+use Rattle.ansi_slice.specs.Stretches.{sequences_up_to}
+use Rattle.ansi_columns.specs.Links.{link_end}
+use Rattle.ansi_items.proofs.PlainLemmas.{length-plain}
+use Rattle.ansi_search.proofs.PositionLemmas.{is_good_position-past}
+use Rattle.ansi_columns.specs.Wrapped.{WrappedLine}
+use Rattle.ansi_columns.proofs.WrapLemmas.{line-written, line-ordered}
+use Rattle.ansi_columns.proofs.wrap.spans.Span.written.Goals as goal
+
+pub range-requires-clause-start_le_end : goal.range-requires-clause-start_le_end
+range-requires-clause-start_le_end g c = line-ordered c.self.invariant c.in_ok-start.ensures.offset
+
+-- a position past the end is good
+pub push_sequences-requires-2 : goal.push_sequences-requires-2
+push_sequences-requires-2 g c =
+    let rest = c.range_from.result.now in
+    let size : length rest < 2 ^ 63 = search rules in
+    is_good_position-past (plain rest) _ (omega (arith, size, length-plain rest))
+
+-- what is written, one part after another
+pub returns : goal.returns
+returns g c =
+    let s = c.self.inside in
+    let t = s.text.now in
+    let size : length t < 2 ^ 63 = search rules in
+    let view = c.self.view_is in
+    let style = rendition_of s.carried.style in
+    let link = s.carried.link.now in
+    let top : ℕ = 18446744073709551615 in
+    let from = sequences_up_to s.start (pieces_of t) in
+    let pen : string_bytes c.push_str.new.self ≡ start style ++ link
+    = c.in_ok-push_str.ensures.bytes ∙ ap (λ u. u ++ link) (c.in_ok-write_start.ensures ∙ ap (λ u. u ++ start style) c.in_ok-line.ensures.bytes) in
+    let text : string_bytes c.push_str-2.new.self ≡ start style ++ link ++ from ++ slice_range t c.in_ok-start.start s.end_offset
+    = c.in_ok-push_str-2.ensures.bytes ∙ ap₂ (λ u v. u ++ v) (c.in_ok-start.ensures.bytes ∙ ap (λ u. u ++ from) pen) c.range.ensures.value in
+    c.in_ok-push_end.ensures
+    ∙ ap (λ u. u ++ (link_end s.after.link.now ++ close_if_any (rendition_of s.after.style)))
+    (c.in_ok-push_sequences.ensures.bytes ∙ ap₂ (λ u v. u ++ sequences_up_to top (pieces_of v)) text c.range_from.ensures.value)
+    ∙ line-written {top = top} c.self.invariant c.in_ok-start.ensures.offset (omega (arith, size)) (ap (λ (l : WrappedLine). l.borrowed) view ∙ c.requires)
+    ∙ ap (λ (l : WrappedLine). l.bytes) view

@@ -1,0 +1,113 @@
+use Rattle.std.proofs.Common.{List, Option, rules, ◌≡◌, ◌-◌, ◌==◌, false, ◌∷◌, [], length, slice_range, IsTrue, sym, ◌∙◌, ap, ap₂, arith}
+use Rattle.std.specs.Str.{IsUtf8}
+use Rattle.ansi_columns.specs.declared.walks.Walk.{Walk}
+use Rattle.ansi_items.specs.Plain.{plain, marks}
+use Rattle.ansi_style.specs.Reading.{style_after_from}
+use Rattle.ansi_style.specs.States.{rendition_of}
+use Rattle.ansi_search.specs.Positions.{is_good_position}
+use Rattle.ansi_search.proofs.PositionLemmas.{boundary_is_good}
+use Rattle.ansi_columns.specs.Lines.{lines_left}
+use Rattle.ansi_columns.specs.Links.{link_after_all}
+use Rattle.ansi_columns.specs.Walks.{clusters_from}
+use Rattle.ansi_columns.specs.Wrapped.{WrappedLine, line_over, lines_over, marks_left, IsTaken}
+use Rattle.ansi_columns.proofs.WalkLemmas.{walk_boundary}
+use Rattle.ansi_columns.proofs.WrapLemmas.{ahead, lines-first, lines-last, span-first, span-last, lines_filled, rest-is}
+use Rattle.ansi_columns.proofs.wrap.spans.SpansIterator.next.Goals.{in-Some, in-None}
+use Rattle.ansi_columns.proofs.wrap.spans.SpansIterator.next.Goals as goal
+
+pub returns-in_err-start-clause-steps : goal.returns-in_err-start-clause-steps
+unfolding lines_over
+returns-in_err-start-clause-steps c =
+    let s = c.self.inside in
+    let all : Option Walk → List WrappedLine = λ o. lines_over (rendition_of s.pen.style) s.pen.link.now (plain s.text.now) (marks_left s.text.now s.before s.taken) (lines_left s.text.now s.width o) in
+    let none : c.args.self.now ≡ [] = sym c.self.view_is ∙ ap all c.in_err-start.was in
+    rw c.from_residual.ensures (none, none)
+
+pub range-text-requires-clause-start_le_end : goal.range-text-requires-clause-start_le_end
+range-text-requires-clause-start_le_end c =
+    let s = c.self.inside in
+    let is : IsTaken s.text.now s.before s.taken c.in_ok-start.start = rw c.in_ok-start.was at c.self.invariant in
+    let end = c.first_line-next.ensures.end in
+    let ordered = c.first_line-next.ensures.ordered in
+    let from = ahead s.text.now s.before s.taken c.in_ok-start.start is c.first_line-next.result.0.position c.first_line-next.result.0.offset (omega (arith, is.ordered, ordered)) end.within end.offset in
+    elim c.match-next.branch [
+      | in-Some w ↦ omega (arith, from, w.taken-is)
+      | in-None w ↦ omega (arith, is.boundary.0, w.taken-is)
+    ]
+
+pub overflow_sub-span-3 : goal.overflow_sub-span-3
+overflow_sub-span-3 c =
+    let s = c.self.inside in
+    let is : IsTaken s.text.now s.before s.taken c.in_ok-start.start = rw c.in_ok-start.was at c.self.invariant in
+    let end = c.first_line-next.ensures.end in
+    let ordered = c.first_line-next.ensures.ordered in
+    ahead s.text.now s.before s.taken c.in_ok-start.start is c.first_line-next.result.0.position c.first_line-next.result.0.offset (omega (arith, is.ordered, ordered)) end.within end.offset
+
+pub invariant_of-span : goal.invariant_of-span
+invariant_of-span c =
+    let s = c.self.inside in
+    let t = s.text.now in
+    let start = c.in_ok-start.start in
+    let last = c.first_line-next.result.0 in
+    let is : IsTaken t s.before s.taken start = rw c.in_ok-start.was at c.self.invariant in
+    let end = c.first_line-next.ensures.end in
+    let ordered = c.first_line-next.ensures.ordered in
+    let utf8 : IsUtf8 t = search rules in
+    let good : IsTrue (is_good_position (plain t) start.position) = boundary_is_good (plain t) start.position (walk_boundary t utf8 start is.is_walk) in
+    let good_end : IsTrue (is_good_position (plain t) last.position) = boundary_is_good (plain t) last.position (walk_boundary t utf8 last end) in
+    let style = rendition_of s.pen.style in
+    let after = c.pen_after_from-after.ensures in
+    let text = c.range-text.result.now in
+    elim c.match-next.branch [
+      | in-Some w ↦ (
+          let front : text ≡ slice_range t s.taken last.offset = c.range-text.ensures.value ∙ ap (slice_range t s.taken) w.taken-is in
+          rw front (span-first t s.before s.taken start is last.position last.offset (omega (arith, is.ordered, ordered)) end.within end.offset
+          style s.pen.link.now start.position c.has_any.result (rendition_of c.pen_after_from-after.result.style) c.pen_after_from-after.result.link.now end.run.start_boundary.0 is.ordered ordered good
+          (rw front at c.has_any.ensures) (rw front at after.style) (rw front at after.link)))
+      | in-None w ↦
+          span-last t s.before s.taken start is last.position last.offset (omega (arith, is.ordered, ordered)) end.within end.offset
+          style s.pen.link.now text start.position c.has_any.result (rendition_of c.pen_after_from-after.result.style) c.pen_after_from-after.result.link.now
+          (c.range-text.ensures.value ∙ ap (slice_range t s.taken) w.taken-is ∙ rest-is t s.taken) end.run.start_boundary is.ordered ordered good good_end c.has_any.ensures after.style after.link
+    ]
+
+pub returns-clause-steps : goal.returns-clause-steps
+unfolding lines_over
+returns-clause-steps c =
+    let s = c.self.inside in
+    let t = s.text.now in
+    let x = plain t in
+    let start = c.in_ok-start.start in
+    let last = c.first_line-next.result.0 in
+    let next = c.first_line-next.result.1 in
+    let is : IsTaken t s.before s.taken start = rw c.in_ok-start.was at c.self.invariant in
+    let end = c.first_line-next.ensures.end in
+    let ordered = c.first_line-next.ensures.ordered in
+    let style = rendition_of s.pen.style in
+    let link = s.pen.link.now in
+    let after = c.pen_after_from-after.ensures in
+    let text = c.range-text.result.now in
+    let line = line_over style link (plain text) (marks text) (start.position - s.before, last.position - s.before) in
+    let ms = marks_left t s.before s.taken in
+    let all : Option Walk → List WrappedLine = λ o. lines_over style link x ms (lines_left t s.width o) in
+    let left : c.args.self.now ≡ lines_over style link x ms ((start.position, last.position) ∷ lines_left t s.width next)
+    = sym c.self.view_is ∙ ap all c.in_ok-start.was ∙ ap (lines_over style link x ms) c.first_line-next.ensures.lines in
+    elim c.match-next.branch [
+      | in-Some w ↦ (
+          let front : text ≡ slice_range t s.taken last.offset = c.range-text.ensures.value ∙ ap (slice_range t s.taken) w.taken-is in
+          let some : (length (lines_left t s.width next) == 0) ≡ false = ap (λ o. length (lines_left t s.width o) == 0) w.in-Some.is ∙ lines_filled s.width w.in-Some.field-0.position w.in-Some.field-0.position w.in-Some.field-0.position 0 (clusters_from t w.in-Some.field-0.position) in
+          left
+          ∙ lines-first t s.before s.taken start is last.position last.offset (omega (arith, is.ordered, ordered)) end.within end.offset style link start.position (lines_left t s.width next) is.ordered some
+          ∙ ap (λ v. line_over style link (plain v) (marks v) (start.position - s.before, last.position - s.before) ∷ lines_over (style_after_from style v) (link_after_all link (marks v)) x (marks_left t last.position last.offset) (lines_left t s.width next)) (sym front)
+          ∙ ap₂ (λ r l. line ∷ lines_over r l x (marks_left t last.position last.offset) (lines_left t s.width next)) (sym after.style) (sym after.link)
+          ∙ ap (λ n. line ∷ lines_over (rendition_of c.pen_after_from-after.result.style) c.pen_after_from-after.result.link.now x (marks_left t last.position n) (lines_left t s.width next)) (sym w.taken-is))
+      | in-None w ↦
+          left ∙ ap (λ o. lines_over style link x ms ((start.position, last.position) ∷ lines_left t s.width o)) w.in-None.is
+          ∙ lines-last t s.before s.taken start is last.position last.offset (omega (arith, is.ordered, ordered)) end.within end.offset style link text start.position is.ordered
+          (c.range-text.ensures.value ∙ ap (slice_range t s.taken) w.taken-is ∙ rest-is t s.taken)
+          ∙ ap (λ o. line ∷ lines_over (rendition_of c.pen_after_from-after.result.style) c.pen_after_from-after.result.link.now x (marks_left t last.position c.match-next.taken) (lines_left t s.width o)) (sym w.in-None.is)
+    ]
+
+pub returns-clause-goes : goal.returns-clause-goes
+returns-clause-goes c =
+    let fewer = ap length (returns-clause-steps c) in
+    record { on = λ _. (tt, tt, omega (arith, fewer)); keeps = tt; rests = λ _. tt }

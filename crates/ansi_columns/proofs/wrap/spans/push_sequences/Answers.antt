@@ -1,0 +1,67 @@
+use Rattle.std.proofs.Common.{◌≡◌, ◌+◌, length, refl, sym, ◌∙◌, ap, string_bytes}
+use Rattle.std.proofs.lemmas.Str.{IsCharBoundary-end}
+use Rattle.ansi_items.proofs.StepLemmas.{is_text}
+use Rattle.ansi_style.specs.Rendition.{plain_style}
+use Rattle.ansi_style.specs.Sgr.{apply}
+use Rattle.ansi_search.proofs.OffsetLemmas.{item_range, over_text, over_mark, is_other, way-begin, way-text, way-mark, way-last, way-end, way-boundary}
+use Rattle.ansi_slice.proofs.StretchLemmas.{pushed-begin, pushed-text, pushed-mark}
+use Rattle.ansi_columns.proofs.wrap.spans.push_sequences.Goals as goal
+
+pub range-piece-requires : goal.range-piece-requires
+range-piece-requires g c = item_range c.in-Some.ensures.steps c.loop-item.invariant.text
+
+pub loop-item-init : goal.loop-item-init
+loop-item-init g c =
+    let begins : c.into_iter-item-iterator.result ≡ record { text = c.args.text.now; offset = 0 } = c.into_iter-item-iterator.ensures.into_iter_gives ∙ c.new-item-items.ensures.start in
+    record {
+      text = ap (λ s. s.text) begins;
+      way = rw begins (plain_style, way-begin c.args.text.now c.args.position plain_style);
+      so_far = rw begins (pushed-begin (string_bytes c.args.out.now) c.args.text.now c.args.position);
+    }
+
+-- over a text
+pub loop-item-preserved-then-eq : goal.loop-item-preserved-then-eq
+loop-item-preserved-then-eq g c =
+    let gives = c.in-Some.ensures.steps in
+    let over = over_text gives c.loop-item.invariant.text c.range-piece.ensures.value (is_text c.if-eq.ensures) in
+    let way = c.loop-item.invariant.way in
+    record {
+      text = gives.text ∙ c.loop-item.invariant.text;
+      way = (way.0, way-text way.1 over c.if-remaining-piece.false refl);
+      so_far = pushed-text c.loop-item.invariant.so_far over.first c.if-remaining-piece.false refl;
+    }
+
+-- over a sequence, or a lone escape
+pub loop-item-preserved : goal.loop-item-preserved
+loop-item-preserved g c =
+    let gives = c.in-Some.ensures.steps in
+    let over = over_mark gives c.loop-item.invariant.text c.range-piece.ensures.value (is_other c.if-eq.ensures) in
+    let way = c.loop-item.invariant.way in
+    record {
+      text = gives.text ∙ c.loop-item.invariant.text;
+      way = (apply way.0 c.range-piece.result.now, way-mark way.1 over refl);
+      so_far = pushed-mark c.loop-item.invariant.so_far over.first c.in_ok-push_str.ensures.bytes;
+    }
+
+-- the position stands in a text
+pub returns-then-remaining-piece-clause-offset : goal.returns-then-remaining-piece-clause-offset
+returns-then-remaining-piece-clause-offset g c =
+    let gives = c.in-Some.ensures.steps in
+    let at = ap (λ n. n + c.loop-item.remaining) gives.start in
+    let over = over_text gives c.loop-item.invariant.text c.range-piece.ensures.value (is_text c.if-eq.ensures) in
+    let way = c.loop-item.invariant.way.1 in
+    record {
+      good = c.requires;
+      offset = at ∙ (way-last way over c.if-remaining-piece.true).0;
+      boundary = way-boundary way over c.if-remaining-piece.true at c.requires;
+    }
+
+-- nothing is left
+pub returns-clause-offset : goal.returns-clause-offset
+returns-clause-offset g c =
+    let end = c.in-None.ensures.steps in
+    record {
+      good = c.requires;
+      offset = sym (end.1 ∙ ap length c.loop-item.invariant.text) ∙ (way-end c.loop-item.invariant.way.1 end.2).0;
+      boundary = IsCharBoundary-end c.args.text.now;
+    }

@@ -1,0 +1,17 @@
+use Rattle.std.proofs.Common.{◌≡◌, ◌++◌, string_bytes}
+use Rattle.ansi_style.specs.declared.state.rendition.Rendition.{Rendition}
+use Rattle.ansi_style.specs.Rendition.{plain_style}
+use Rattle.ansi_items.specs.Pieces.{pieces_of}
+use Rattle.ansi_items.specs.Scans.{pieces_left}
+use Rattle.ansi_slice.specs.Stretches.{sequences_up_to}
+use Rattle.ansi_slice.proofs.StretchLemmas.{IsPushedSoFar}
+use Rattle.ansi_search.proofs.OffsetLemmas.{IsOnTheWay}
+use Rattle.ansi_columns.proofs.wrap.spans.push_sequences.Given as goal
+
+-- what has been appended, and the sequences up to the position in what is left, are all; and where the position stands
+abbrev pub invariant-loop-item : goal.invariant-loop-item
+invariant-loop-item g l = record {
+  text : l.item-iterator.text ≡ l.text;
+  way : (style : Rendition) × IsOnTheWay l.text l.position plain_style l.item-iterator.offset l.remaining style (pieces_left l.item-iterator);
+  so_far : IsPushedSoFar (string_bytes l.initial.out ++ sequences_up_to l.position (pieces_of l.text)) (string_bytes l.out) l.remaining (pieces_left l.item-iterator);
+}

@@ -1,0 +1,79 @@
+-- The lines of a wrapped text as they are shown, and what a wrap gives of those that it has left.
+use Rattle.std.specs.Prelude.{◌≡◌, ℕ, ◌+◌, ◌≤◌, ◌==◌, ◌⊎◌, Bool, not, ◌&&◌, ◌||◌, List, [], ◌∷◌, ◌++◌, length, drop, Option, Some, None, Result, Ok, Err, if◌then◌else◌, IsTrue, IsFalse, ◌↔◌}
+use Rattle.std.specs.Cow.{cow_str_bytes, IsBorrowedStr}
+use Rattle.std.specs.Str.{IsCharBoundary}
+use Rattle.std.specs.declared.borrow.CowStr.{CowStr}
+use Rattle.ansi_items.specs.Plain.{Mark, plain, marks, up_to, has_escape}
+use Rattle.ansi_style.specs.declared.state.rendition.Rendition.{Rendition}
+use Rattle.ansi_style.specs.Rendition.{plain_style, has_any}
+use Rattle.ansi_style.specs.Reading.{after_marks, style_after_from}
+use Rattle.ansi_style.specs.Written.{start, close_if_any, longest_start_and_close}
+use Rattle.ansi_slice.specs.Cut.{show}
+use Rattle.ansi_search.specs.Offsets.{offset_of, StandsIn}
+use Rattle.ansi_slice.specs.Parts.{past}
+use Rattle.ansi_search.specs.Positions.{is_good_position}
+use Rattle.ansi_split.specs.Spans.{further_on}
+use Rattle.ansi_columns.specs.declared.walks.Walk.{Walk}
+use Rattle.ansi_columns.specs.Lines.{lines}
+use Rattle.ansi_columns.specs.Links.{link_after_all, link_end, longest_link_end}
+use Rattle.ansi_columns.specs.Walks.{IsWalk}
+
+-- a line as a wrap gives it: its bytes, whether it is a borrow, and how many bytes of the text it has, with the link that is carried into it
+pub record WrappedLine : Type 0 where
+  pub bytes : List ℕ
+  pub borrowed : Bool
+  pub share : ℕ
+
+-- The line over the interval i of the plain text x with these marks, where a style and a link are carried into it: the start of the style, the
+-- sequence that opened the link, the text with its marks, the end of the link and the close of the style then. It is a borrow
+-- where it has no mark, and is empty or nothing is carried. (What is carried, as the parts of a split; the rest, own.)
+unfoldable pub line_over : Rendition → List ℕ → List ℕ → List Mark → ℕ × ℕ → WrappedLine
+line_over style link x own i = record {
+  bytes = if i.0 == i.1 && length own == 0 then [] else
+      start style ++ link ++ show x i.0 i.1 own ++ link_end (link_after_all link own) ++ close_if_any (after_marks style own);
+  borrowed = length own == 0 && (i.0 == i.1 || (not (has_any style) && length link == 0));
+  share = length link + length (show x i.0 i.1 own);
+}
+
+-- The lines over intervals of x in order, with the marks that are left. A mark belongs to the first line that doesn't end before
+-- its place, and to the last one where each does. What is open after a line is carried into the next. (Own.)
+unfoldable pub lines_over : Rendition → List ℕ → List ℕ → List Mark → List (ℕ × ℕ) → List WrappedLine
+lines_over style link x ms [] = []
+lines_over style link x ms (i ∷ is) =
+    let own = if length is == 0 then ms else up_to i.1 ms in
+    line_over style link x own i ∷ lines_over (after_marks style own) (link_after_all link own) x (past (Some i.1) ms) is
+
+-- the lines of the text t, wrapped at a width
+abbrev pub wrapped : List ℕ → ℕ → List WrappedLine
+wrapped t width = lines_over plain_style [] (plain t) (marks t) (lines width (plain t))
+
+-- the text is this line; beside its share of the text wrapped, a start, a close and the end of a link stand in it at most
+abbrev pub IsWrappedLine : {A : Type 0} → WrappedLine → CowStr A → Type 0
+IsWrappedLine l c = (cow_str_bytes c ≡ l.bytes) × (IsBorrowedStr c ↔ IsTrue l.borrowed) × (length (cow_str_bytes c) ≤ l.share + longest_start_and_close + longest_link_end)
+
+-- One call of `next` gives the first of the lines left. Or it gives an `Err`, never where that line is a borrow, and then nothing is left. Or it gives None, where nothing is left.
+abbrev pub GivesLine : {A E : Type 0} → List WrappedLine → Option (Result (CowStr A) E) → List WrappedLine → Type 0
+GivesLine old None new = (old ≡ []) × (new ≡ [])
+GivesLine old (Some (Ok c)) new = (l : WrappedLine) × (old ≡ l ∷ new) × IsWrappedLine l c
+GivesLine old (Some (Err e)) new = (l : WrappedLine) × (ls : List WrappedLine) × (old ≡ l ∷ ls) × IsFalse l.borrowed × (new ≡ [])
+
+-- the marks of t from the offset `taken` on, at their places, where `before` plain bytes stand before it; no public contract cites what follows
+abbrev pub marks_left : List ℕ → ℕ → ℕ → List Mark
+marks_left t before taken = further_on before (marks (drop taken t))
+
+-- the lines before the walk end at the position `before`, and have taken t up to the offset `taken`: all marks up to there, or nothing yet
+pub record IsTaken (t : List ℕ) (before taken : ℕ) (walk : Walk) : Type 0 where
+  pub is_walk : IsWalk t walk
+  pub place : ((before ≡ 0) × (taken ≡ 0)) ⊎ (taken ≡ offset_of t before)
+  pub boundary : IsCharBoundary t taken
+  pub ordered : before ≤ walk.position
+
+-- the line over all marks of t and its plain bytes from `start` up to `end`, which stand up to an offset, and what is open after it
+pub record IsSpan (style : Rendition) (link t : List ℕ) (start end offset : ℕ) (is_marked : Bool) (style_after : Rendition) (link_after : List ℕ) : Type 0 where
+  pub marked : is_marked ≡ has_escape t
+  pub ordered : start ≤ end
+  pub start_good : IsTrue (is_good_position (plain t) start)
+  pub end_stands : StandsIn t end offset
+  pub within : end ≤ length (plain t)
+  pub styled : style_after ≡ style_after_from style t
+  pub linked : link_after ≡ link_after_all link (marks t)

@@ -1,0 +1,233 @@
+//! The stretches of a text that the lines of a wrap are written from.
+ghost use Rattle.std.specs.Prelude.{◌≡◌, ◌+◌, ◌≤◌, ◌++◌, [], length, IsTrue, IsFalse, IsOk, IfOk, OnOk, string_bytes};
+ghost use Rattle.std.specs.Option.{MatchOption};
+ghost use Rattle.ansi_items.specs.Pieces.{pieces_of};
+ghost use Rattle.ansi_items.specs.Plain.{plain};
+ghost use Rattle.ansi_search.specs.Positions.{is_good_position};
+ghost use Rattle.ansi_slice.specs.Stretches.{sequences_up_to};
+ghost use Rattle.ansi_search.specs.Offsets.{StandsIn};
+ghost use Rattle.ansi_style.specs.States.{rendition_of};
+ghost use Rattle.ansi_style.specs.Written.{close_if_any, longest_start_and_close};
+ghost use Rattle.ansi_columns.specs.Links.{link_end, longest_link_end};
+ghost use Rattle.ansi_columns.specs.Wrapped.{wrapped, IsWrappedLine};
+
+use crate::lines::first_line;
+use crate::links::{Pen, no_pen, pen_after_from};
+use crate::shown::LINK_END;
+use crate::walks::Walk;
+use ansi_items::ansitok::{Kind, Scanner};
+use ansi_slice::slice::has_any;
+use ansi_style::styles;
+use std::alloc::{AllocError, Allocator};
+use std::borrow::CowStr;
+use std::marker::Model;
+
+/// A start, the end of a link and a close have at most so many bytes together. It is room alone, asked for
+/// before they are written.
+const PEN_ROOM: usize = 258;
+
+/// What one line is written from. Contracts see it as that line.
+#[derive(Drop)]
+pub(crate) struct Span<'t> {
+    /// The text from after the last sequence of the line before up to after the last one of this line.
+    text: &'t str,
+    /// Whether an ESC stands in it.
+    is_marked: bool,
+    /// How many of its plain bytes stand before the line.
+    start: usize,
+    /// How many of its plain bytes stand before the end of the line.
+    end: usize,
+    /// Where the line ends in it, after the sequences there.
+    end_offset: usize,
+    /// What the lines before leave open.
+    carried: Pen<'t>,
+    /// What is open after the text.
+    after: Pen<'t>,
+}
+
+impl<'t> Model for Span<'t> {
+    ghost use Rattle.ansi_items.specs.Plain.{plain, marks};
+    ghost use Rattle.ansi_style.specs.States.{rendition_of};
+    ghost use Rattle.ansi_columns.specs.Wrapped.{WrappedLine, line_over, IsSpan};
+
+    ghost Value = { WrappedLine };
+
+    ghost view = { λ s. line_over (rendition_of s.carried.style) s.carried.link.now (plain s.text.now) (marks s.text.now) (s.start, s.end) };
+
+    ghost invariant = { λ s. IsSpan (rendition_of s.carried.style) s.carried.link.now s.text.now s.start s.end s.end_offset s.is_marked (rendition_of s.after.style) s.after.link.now };
+}
+
+impl<'t> Span<'t> {
+    /// The line: a borrow where no sequence stands in it, and it is empty or nothing is carried into it.
+    pub(crate) fn write<A: Allocator>(&self, alloc: A) -> Result<CowStr<'t, A>, AllocError>
+        ensures line { IfOk result (IsWrappedLine self.now) }
+        ensures takes_no_memory { IsTrue self.now.borrowed → IsOk result }
+    {
+        match self.bare() {
+            Some(bare) => Ok(CowStr::Borrowed(bare)),
+            None => Ok(CowStr::Owned(self.written(alloc)?)),
+        }
+    }
+
+    /// The line as it stands in the text, where it is a borrow.
+    fn bare(&self) -> Option<&'t str>
+        ensures line { MatchOption result (IsFalse self.now.borrowed) (λ bare. (bare.now ≡ self.now.bytes) × IsTrue self.now.borrowed) }
+        ensures len { length self.now.bytes ≤ self.now.share + longest_start_and_close + longest_link_end }
+    {
+        if self.is_marked {
+            return None;
+        }
+        if self.start != self.end && !self.carried.is_none() {
+            return None;
+        }
+        Some(&self.text[self.start..self.end])
+    }
+
+    /// The line, written: what is carried into it, its text with its sequences, and what ends the pen.
+    fn written<A: Allocator>(&self, alloc: A) -> Result<String<A>, AllocError>
+        requires { IsFalse self.now.borrowed }
+        ensures { IfOk result (λ s. string_bytes s ≡ self.now.bytes) }
+    {
+        let room = self.text.len().saturating_sub(self.start);
+        let room = room.saturating_add(self.carried.link.len());
+        let mut line = String::with_capacity(alloc, room.saturating_add(PEN_ROOM))?;
+        styles::write_start(&self.carried.style, &mut line)?;
+        line.push_str(self.carried.link)?;
+        let start = push_sequences(&mut line, self.text, self.start)?;
+        line.push_str(&self.text[start..self.end_offset])?;
+        // No position of a text lies past this one, so all sequences stand up to there.
+        push_sequences(&mut line, &self.text[self.end_offset..], usize::MAX)?;
+        push_end(&mut line, &self.after)?;
+        Ok(line)
+    }
+}
+
+/// Appends what ends a pen: the end of its link, and the close of its style. An `Err` means out of memory;
+/// what was appended up to there stands.
+fn push_end<A: Allocator>(out: &mut String<A>, pen: &Pen<'_>) -> Result<(), AllocError>
+    ensures { OnOk result (string_bytes out.new ≡ string_bytes out.old ++ (link_end pen.now.link.now ++ close_if_any (rendition_of pen.now.style))) }
+{
+    if !pen.link.is_empty() {
+        out.push_str(LINK_END)?;
+    }
+    if styles::has_any(&pen.style) {
+        styles::write_close(&pen.style, out)?;
+    }
+    Ok(())
+}
+
+/// Appends every sequence of a text up to a good position, and gives where that stands in the text, after
+/// them. An `Err` means out of memory; what was appended up to there stands.
+fn push_sequences<A: Allocator>(
+    out: &mut String<A>,
+    text: &str,
+    position: usize,
+) -> Result<usize, AllocError>
+    requires { IsTrue (is_good_position (plain text.now) position) }
+    ensures bytes { OnOk result (string_bytes out.new ≡ string_bytes out.old ++ sequences_up_to position (pieces_of text.now)) }
+    ensures offset { IfOk result (StandsIn text.now position) }
+{
+    let mut remaining = position;
+    for item in Scanner::new(text) {
+        let piece = &text[item.start..item.end];
+        if item.kind == Kind::Text {
+            if remaining < piece.len() {
+                return Ok(item.start + remaining);
+            }
+            remaining -= piece.len();
+        } else {
+            out.push_str(piece)?;
+        }
+    }
+    Ok(text.len())
+}
+
+/// The spans of the lines of a text, in order: an iterator that takes no memory.
+#[derive(Drop)]
+pub(crate) struct Spans<'t> {
+    text: &'t str,
+    /// How many columns a line has at most, unless one cluster has more.
+    width: usize,
+    /// Where the next line begins.
+    next: Option<Walk>,
+    /// Up to where the lines before have taken the text.
+    taken: usize,
+    /// How many plain bytes stand before that.
+    before: usize,
+    /// What the lines before leave open.
+    pen: Pen<'t>,
+}
+
+impl<'t> Model for Spans<'t> {
+    ghost use Rattle.std.specs.Prelude.{List, IfSome};
+    ghost use Rattle.ansi_items.specs.Plain.{plain};
+    ghost use Rattle.ansi_style.specs.States.{rendition_of};
+    ghost use Rattle.ansi_columns.specs.Lines.{lines_left};
+    ghost use Rattle.ansi_columns.specs.Wrapped.{WrappedLine, lines_over, marks_left, IsTaken};
+
+    ghost Value = { List WrappedLine };
+
+    ghost view = { λ s. lines_over (rendition_of s.pen.style) s.pen.link.now (plain s.text.now) (marks_left s.text.now s.before s.taken) (lines_left s.text.now s.width s.next) };
+
+    ghost invariant = { λ s. IfSome s.next (IsTaken s.text.now s.before s.taken) };
+}
+
+impl<'t> Spans<'t> {
+    /// The spans of all lines of the text.
+    pub(crate) fn new(text: &'t str, width: usize) -> Self
+        ensures { result ≡ wrapped text.now width }
+    {
+        Spans {
+            text,
+            width: width.max(1),
+            next: Some(Walk::start(text)),
+            taken: 0,
+            before: 0,
+            pen: no_pen(),
+        }
+    }
+
+    /// Leaves nothing.
+    pub(crate) fn finish(&mut self)
+        ensures { self.new ≡ [] }
+    {
+        self.next = None;
+    }
+}
+
+impl<'t> Iterator for Spans<'t> {
+    ghost use Rattle.std.specs.Iterator.{YieldsFirst, item_count};
+
+    type Item = Span<'t>;
+
+    ghost next_gives = { YieldsFirst (λ s. s) };
+
+    ghost remaining = { item_count (λ s. s) };
+
+    fn next(&mut self) -> Option<Span<'t>> {
+        let start = self.next?;
+        let (end, next) = first_line(self.text, start, self.width);
+        // The last line takes all that is left.
+        let taken = match next {
+            Some(_) => end.offset,
+            None => self.text.len(),
+        };
+        let text = &self.text[self.taken..taken];
+        let carried = self.pen;
+        let after = pen_after_from(carried, text);
+        let span = Span {
+            text,
+            is_marked: has_any(text),
+            start: start.position - self.before,
+            end: end.position - self.before,
+            end_offset: end.offset - self.taken,
+            carried,
+            after,
+        };
+        self.next = next;
+        self.taken = taken;
+        self.before = end.position;
+        self.pen = after;
+        Some(span)
+    }
+}
