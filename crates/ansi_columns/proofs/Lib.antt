@@ -21,3 +21,4 @@ mod LineExamples
 pub mod ClusterLawLemmas
 pub mod SeamLawLemmas
 pub mod LeftOutLawLemmas
+pub mod ShownLawLemmas
