@@ -212,7 +212,7 @@ module _ (t : List ℕ) (width : ℕ) (tail : List ℕ) (utf8 : IsUtf8 t) (tail_
   within-width : (b : Bool) → b ≡ has_tail t width tail → (let end = fitting_end (if b then width - columns (plain tail) else width) (clusters (plain t)) in
       IsClusterBoundary (take end (plain t) ++ (if b then plain tail else [])) end → columns (take end (plain t) ++ (if b then plain tail else [])) ≤ width)
   within-width true is = λ at.
-      let narrow : columns (plain tail) ≤ width = leb-true (columns (plain tail)) width (and_parts _ _ (sym is)).1 in
+      let narrow : columns (plain tail) ≤ width = leb-true (columns (plain tail)) width (and_parts (not (nat_le (columns (plain t)) width)) (nat_le (columns (plain tail)) width) (sym is)).1 in
       let bound = fitting-followed (plain t) (plain tail) (IsUtf8-plain t utf8) (IsUtf8-plain tail tail_utf8) (width - columns (plain tail)) at in
       omega (arith, narrow, bound)
   within-width false is = λ at.

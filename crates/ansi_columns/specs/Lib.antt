@@ -5,3 +5,4 @@ pub mod Walks
 pub mod Reverse
 pub mod Links
 pub mod Shown
+pub mod Addresses
