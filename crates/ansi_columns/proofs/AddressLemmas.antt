@@ -10,7 +10,7 @@ use Rattle.std.proofs.lemmas.List.{get_or-append-add, get_or-drop, get_or-take, 
 use Rattle.std.proofs.lemmas.List.Sums.{prefix_len_stops}
 use Rattle.std.proofs.Math.Seq.{drop-append_seam}
 use Rattle.std.proofs.lemmas.Str.{IsCharBoundary-before_ascii, IsCharBoundary-after_ascii}
-use Rattle.ansi_items.specs.Bytes.{escape, bell, is_intermediate_byte}
+use Rattle.ansi_items.specs.Bytes.{escape, is_intermediate_byte}
 use Rattle.ansi_items.specs.Sequences.{IsControlString, IsSequence, is_sgr}
 use Rattle.ansi_items.specs.Pieces.{Piece, Text, Sequence, LoneEscape, ArePieces, spelling, pieces_of}
 use Rattle.ansi_items.specs.Plain.{Mark, marks_of, marks, plain_of, plain, up_to}
@@ -20,7 +20,7 @@ use Rattle.ansi_items.specs.declared.ansitok.Kind.{Kind}
 use Rattle.ansi_items.specs.declared.ansitok.Kind.TheVariants.{Text as TextKind, Sgr, Other, Lone}
 use Rattle.ansi_items.proofs.PieceLemmas.{pieces_are}
 use Rattle.ansi_items.proofs.StepLemmas.{BeginsWithMark, is_mark, gives_mark, plain_of-mark}
-use Rattle.ansi_style.proofs.MarkLemmas.{further, marks_of-text, marks_of-sequence, marks_of-lone, up_to-none, up_to-further, up_to-here, bytes-further}
+use Rattle.ansi_style.proofs.MarkLemmas.{marks_of-text, marks_of-sequence, marks_of-lone, up_to-none, up_to-further, up_to-here, bytes-further}
 use Rattle.ansi_columns.specs.Addresses.{address_at}
 use Rattle.ansi_columns.specs.Links.{terminator_len, address_of, is_link, opens_link, link_of, link_after, link_at}
 use Rattle.ansi_columns.proofs.LinkLemmas.{link_of-fold, is_link-sgr}

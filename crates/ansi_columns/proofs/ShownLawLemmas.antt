@@ -1,5 +1,5 @@
 -- The plain text of a text that is cut or filled up, and how wide it is where that is printable ASCII.
-use Rattle.std.proofs.Common.{◌≡◌, ℕ, suc, zero, ◌+◌, ◌-◌, ◌<◌, ◌≤◌, min, max, Bool, true, false, inl, inr, List, [], ◌∷◌, ◌++◌, length, map, flat_map, take, drop, take-append-drop, slice_range, nat_eq, nat_le, codes, unwrap_or, encode_utf8_all, if◌then◌else◌, IsTrue, refl, sym, ◌∙◌, ap, ap₂, subst, arith, append_assoc, append-nil, length-append, length-take-le, take_all, leb-true, leb-false}
+use Rattle.std.proofs.Common.{◌≡◌, ℕ, suc, zero, ◌+◌, ◌-◌, ◌<◌, ◌≤◌, min, max, Bool, true, false, not, inl, inr, List, [], ◌∷◌, ◌++◌, length, map, flat_map, take, drop, take-append-drop, slice_range, nat_eq, nat_le, codes, unwrap_or, encode_utf8_all, if◌then◌else◌, IsTrue, refl, sym, ◌∙◌, ap, ap₂, subst, arith, append_assoc, append-nil, length-append, length-take-le, take_all, leb-true, leb-false}
 use Rattle.std.specs.Int.{is_in_range}
 use Rattle.std.specs.List.{All, list_all}
 use Rattle.std.specs.Str.{byte, chars, IsUtf8, IsCharBoundary}

@@ -1,5 +1,5 @@
 use Rattle.std.proofs.Common.{◌≡◌, ℕ, List, None, refl, ◌∙◌, ap, rules}
-use Rattle.ansi_items.specs.declared.ansitok.Kind.TheVariants.{Text, Other}
+use Rattle.ansi_items.specs.declared.ansitok.Kind.TheVariants.{Other}
 use Rattle.ansi_items.proofs.StepLemmas.{gives_text, gives_mark, is_text}
 use Rattle.ansi_search.proofs.OffsetLemmas.{item_range, is_other}
 use Rattle.ansi_columns.proofs.AddressLemmas.{way-begin, way-text, way-other, way-rest, way-last, way-end, none-exactly, other_is_sequence, unlinked}
