@@ -12,6 +12,7 @@ pub mod FitLemmas
 pub mod ShownLemmas
 pub mod ClusterWalkLemmas
 pub mod LinkLemmas
+pub mod AddressLemmas
 mod LinkExamples
 pub mod KindLemmas
 pub mod LineLemmas
@@ -22,3 +23,4 @@ pub mod ClusterLawLemmas
 pub mod SeamLawLemmas
 pub mod LeftOutLawLemmas
 pub mod WrapLemmas
+pub mod ShownLawLemmas

@@ -137,6 +137,11 @@ link_of-last (Some w) = refl
 -- where none is open before them
 pub link_after_all-none : (ms : List Mark) → link_after_all [] ms ≡ link_of ms
 link_after_all-none ms = link_after-last [] (bytes_of_all ms) ∙ sym (link_of-last (slice_get (reverse (filter is_link (bytes_of_all ms))) 0))
+pub link_of-fold : (ms : List Mark) → link_of ms ≡ fold link_after [] (map (λ (m : Mark). m.bytes) ms)
+link_of-fold ms = link_of-last (slice_get (reverse (filter is_link (bytes_of_all ms))) 0) ∙ sym (link_after-last [] (bytes_of_all ms))
+
+pub link_of-pieces : (ps : List Piece) → link_of (marks_of ps) ≡ link_through [] ps
+link_of-pieces ps = link_of-fold (marks_of ps) ∙ through-marks [] ps
 
 -- How far a walk over t has come, where a style and a link are open before it: what is open after the pieces that are left is what is open after t.
 pub record IsOpenSoFar (t : List ℕ) (before : Rendition) (open_before : List ℕ) (style : Rendition) (link : List ℕ) (left : List Piece) : Type 0 where

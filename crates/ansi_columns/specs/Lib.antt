@@ -6,3 +6,4 @@ pub mod Reverse
 pub mod Links
 pub mod Shown
 pub mod Wrapped
+pub mod Addresses

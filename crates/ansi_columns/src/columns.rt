@@ -1,16 +1,19 @@
 //! The calls on columns: over any text, and over `&str`.
-ghost use Rattle.std.specs.Prelude.{◌≡◌, ◌↔◌, ◌+◌, ◌≤◌, Some, None, [], length, IsTrue, IsFalse, IsOk, IfOk};
+ghost use Rattle.std.specs.Prelude.{◌≡◌, ◌↔◌, ◌+◌, ◌≤◌, ◌⊎◌, Some, None, [], length, IsTrue, IsFalse, IsNone, IsOk, IfOk};
 ghost use Rattle.std.specs.List.{list_all};
+ghost use Rattle.std.specs.Option.{option_map};
 ghost use Rattle.std.specs.Cow.{cow_str_bytes, IsBorrowedStr};
 ghost use Rattle.std.specs.Str.{IsCharBoundary};
 ghost use Rattle.ansi_items.specs.Plain.{plain, has_escape};
 ghost use Rattle.ansi_search.specs.Positions.{is_good_range};
 ghost use Rattle.ansi_style.specs.Written.{longest_close};
+ghost use Rattle.ansi_columns.specs.Addresses.{address_at};
 ghost use Rattle.ansi_columns.specs.Columns.{columns, FitsUpTo};
-ghost use Rattle.ansi_columns.specs.Links.{longest_link_end};
+ghost use Rattle.ansi_columns.specs.Links.{link_at, longest_link_end};
 ghost use Rattle.ansi_columns.specs.Shown.{truncated_ending, truncated, missing, closing, padded};
 ghost use Rattle.ansi_columns.specs.Wrapped.{wrapped};
 
+use crate::addresses::link_at;
 use crate::fits::fitting_front;
 use crate::shown::{Alignment, pad, truncate};
 use crate::walks::Walk;
@@ -137,6 +140,25 @@ pub trait AnsiColumns: AnsiStr {
         ensures takes_no_memory { IsFalse (has_escape (Self.text self.now)) → IsTrue (list_all (λ l. l.borrowed) result) }
     {
         wrap(alloc, self.as_text(), width)
+    }
+
+    /// The address of the hyperlink at a position, or `None` where no link is open there.
+    ///
+    /// It is the link in which the plain byte at the position stands, so a sequence at the place of that byte
+    /// comes before it. A position counts bytes of the plain text, and may lie inside a character; from the
+    /// end of the plain text on there is no link. An address isn't empty. The answer is a borrow. Reads no
+    /// further than up to the position. Takes no memory. (OSC 8; the positions, own.)
+    ///
+    /// ```
+    /// let text = "a \x1b]8;;http://x\x1b\\link\x1b]8;;\x1b\\.";
+    /// assert!(rt; text.ansi_link_at(2) == Some("http://x"));
+    /// assert!(rt; text.ansi_link_at(6) == None);
+    /// ```
+    final fn ansi_link_at(&self, index: usize) -> Option<&str>
+        ensures none { IsNone result ↔ ((length (plain (Self.text self.now)) ≤ index) ⊎ (link_at (Self.text self.now) index ≡ [])) }
+        ensures bytes { option_map (λ a. a.now) result ≡ address_at (Self.text self.now) index }
+    {
+        link_at(self.as_text(), index)
     }
 }
 

@@ -2,12 +2,15 @@
 //!
 //! Each function carries one law as its contract, does nothing and answers nothing. A body that needs the
 //! law calls it. (Own.)
-ghost use Rattle.std.specs.Prelude.{◌≡◌, ◌<◌, ◌≤◌, ◌+◌, ◌++◌, ℕ, List, length, take, slice_get, Some, option_map, IsTrue};
+ghost use Rattle.std.specs.Prelude.{◌≡◌, ◌<◌, ◌≤◌, ◌+◌, ◌-◌, ◌++◌, ℕ, min, max, List, [], length, take, slice_get, Some, option_map, if◌then◌else◌, IsTrue};
 ghost use Rattle.std.specs.List.{list_all};
 ghost use Rattle.std.specs.Int.{is_in_range};
 ghost use Rattle.std.specs.Str.{IsUtf8};
+ghost use Rattle.ansi_items.specs.Plain.{plain, is_whole};
+ghost use Rattle.ansi_columns.specs.declared.shown.Alignment.{Alignment};
 ghost use Rattle.ansi_columns.specs.Columns.{clusters, columns, FitsUpTo, IsClusterBoundary};
 ghost use Rattle.ansi_columns.specs.Lines.{lines, AreLinesFrom, put_back};
+ghost use Rattle.ansi_columns.specs.Shown.{has_tail, truncated_end, truncated, missing, before_text, blanks, padded};
 
 /// Printable ASCII is as wide as it is long.
 pub fn printable_is_as_wide_as_long()
@@ -35,4 +38,25 @@ pub fn lines_lose_blanks_and_line_ends()
     ensures begin { (x : List ℕ) (width : ℕ) → option_map (λ (line : ℕ × ℕ). line.0) (slice_get (lines width x) 0) ≡ Some 0 }
     ensures left_out { (x : List ℕ) (width : ℕ) → IsUtf8 x → AreLinesFrom x 0 (lines width x) }
     ensures text { (x : List ℕ) (width : ℕ) → IsUtf8 x → put_back x 0 (lines width x) ≡ x }
+{}
+
+/// A whole text that is cut with a whole tail is whole. Its plain text is the beginning of the text's, up
+/// to where that stands, and then that of the tail, where this is written. If both are printable ASCII it
+/// has as many columns as the text, or `width` where the text has more. Any text has at most `width`, where
+/// a cluster ends before the tail.
+pub fn truncated_fits()
+    ensures whole { (t : List ℕ) (width : ℕ) (tail : List ℕ) → IsTrue (is_whole t) → IsTrue (is_whole tail) → IsTrue (is_whole (truncated t width tail)) }
+    ensures plain { (t : List ℕ) (width : ℕ) (tail : List ℕ) → IsTrue (is_whole t) → IsTrue (is_whole tail) → plain (truncated t width tail) ≡ take (truncated_end t width tail) (plain t) ++ (if has_tail t width tail then plain tail else []) }
+    ensures columns { (t : List ℕ) (width : ℕ) (tail : List ℕ) → IsTrue (list_all (is_in_range 0x20 0x7E) (plain t)) → IsTrue (list_all (is_in_range 0x20 0x7E) (plain tail)) → IsTrue (is_whole t) → IsTrue (is_whole tail) → columns (plain (truncated t width tail)) ≡ min (columns (plain t)) width }
+    ensures within { (t : List ℕ) (width : ℕ) (tail : List ℕ) → IsUtf8 t → IsUtf8 tail → IsTrue (is_whole t) → IsTrue (is_whole tail) → IsClusterBoundary (plain (truncated t width tail)) (truncated_end t width tail) → columns (plain (truncated t width tail)) ≤ width }
+{}
+
+/// A whole text that is filled up is whole. Its plain text is the text's among blanks. It has as many
+/// columns as the text, or `width` where the text has fewer, if that is printable ASCII, and also where a
+/// cluster ends on both sides of the text.
+pub fn padded_fills()
+    ensures whole { (t : List ℕ) (width : ℕ) (alignment : Alignment) → IsTrue (is_whole t) → IsTrue (is_whole (padded t width alignment)) }
+    ensures plain { (t : List ℕ) (width : ℕ) (alignment : Alignment) → IsTrue (is_whole t) → plain (padded t width alignment) ≡ blanks (before_text alignment (missing t width)) ++ plain t ++ blanks (missing t width - before_text alignment (missing t width)) }
+    ensures columns { (t : List ℕ) (width : ℕ) (alignment : Alignment) → IsTrue (list_all (is_in_range 0x20 0x7E) (plain t)) → IsTrue (is_whole t) → columns (plain (padded t width alignment)) ≡ max (columns (plain t)) width }
+    ensures fills { (t : List ℕ) (width : ℕ) (alignment : Alignment) → IsUtf8 t → IsTrue (is_whole t) → IsClusterBoundary (plain (padded t width alignment)) (before_text alignment (missing t width)) → IsClusterBoundary (plain (padded t width alignment)) (before_text alignment (missing t width) + length (plain t)) → columns (plain (padded t width alignment)) ≡ max (columns (plain t)) width }
 {}

@@ -6,6 +6,7 @@
 //! crate depends on this one and calls it.
 #![tactic(auto)]
 
+pub mod addresses;
 pub mod columns;
 mod fits;
 mod from_end;

@@ -83,7 +83,7 @@ pub(crate) fn link_after<'t>(link: &'t str, sequence: &'t str) -> &'t str
 }
 
 /// The address of a whole sequence, where that is a link sequence (OSC 8).
-fn address_of(sequence: &[u8]) -> Option<&[u8]>
+pub(crate) fn address_of(sequence: &[u8]) -> Option<&[u8]>
     ensures { option_map (λ a. a.now) result ≡ address_of sequence.now }
 {
     if !sequence.starts_with(b"\x1b]8;") {
@@ -96,7 +96,7 @@ fn address_of(sequence: &[u8]) -> Option<&[u8]>
 }
 
 /// How many bytes end an operating system command.
-fn terminator_len(sequence: &[u8]) -> usize
+pub(crate) fn terminator_len(sequence: &[u8]) -> usize
     ensures { result ≡ terminator_len sequence.now }
 {
     if sequence.ends_with(b"\x07") { 1 } else { 2 }

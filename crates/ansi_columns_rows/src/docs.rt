@@ -1,4 +1,5 @@
 //! The examples of the docs of `ansi_columns`, in the same words.
+use ansi_columns::addresses::link_at;
 use ansi_columns::lines::Lines;
 use ansi_columns::shown::{pad, truncate};
 use ansi_columns::wrap::wrap;
@@ -37,6 +38,13 @@ fn ansi_pad_example(rt: HostRuntime) -> Result<(), Fail> {
 }
 
 #[test]
+fn ansi_link_at_example(rt: HostRuntime) {
+    let text = "a \x1b]8;;http://x\x1b\\link\x1b]8;;\x1b\\.";
+    assert!(rt; text.ansi_link_at(2) == Some("http://x"));
+    assert!(rt; text.ansi_link_at(6) == None);
+}
+
+#[test]
 fn alignment_example(rt: HostRuntime) -> Result<(), Fail> {
     assert!(rt; "ab".ansi_pad(rt.alloc(), 5, Alignment::Center)?.as_str() == " ab  ");
     Ok(())
@@ -54,6 +62,11 @@ fn pad_example(rt: HostRuntime) -> Result<(), Fail> {
     let padded = pad(rt.alloc(), "\x1b[31m日本", 6, Alignment::Right)?;
     assert!(rt; padded.as_str() == "  \x1b[31m日本\x1b[39m");
     Ok(())
+}
+
+#[test]
+fn link_at_example(rt: HostRuntime) {
+    assert!(rt; link_at("\x1b]8;;http://x\x1b\\ab\x1b]8;;\x1b\\c", 1) == Some("http://x"));
 }
 
 #[test]

@@ -1,0 +1,273 @@
+-- The link at a place, one piece at a time, and where its address stands in it.
+use Rattle.std.proofs.Common.{◌≡◌, ◌≢◌, ℕ, ◌+◌, ◌-◌, ◌<◌, ◌≤◌, ◌⊎◌, inl, inr, ◌==◌, Bool, true, false, not, ◌&&◌, List, [], ◌∷◌, ◌++◌, map, length, take, drop, get_or, slice_range, nat_eq, nat_lt, fold, filter, reverse, slice_get, unwrap_or, codes, IsNone, ◌↔◌, Option, Some, None, if◌then◌else◌, refl, sym, ◌∙◌, ap, ap₂, subst, arith, lit<, length-append, length-drop}
+use Rattle.std.specs.List.{prefix_len, starts_with, ends_with, list_all}
+use Rattle.std.specs.Cmp.Lexicographic.{pointwise}
+use Rattle.std.specs.Option.{option_map}
+use Rattle.std.specs.Str.{IsUtf8, IsCharBoundary}
+use Rattle.std.proofs.lemmas.Bool.{and_parts, eqb-true, ltb-true, ltb-false, lt-ltb, le-ltb}
+use Rattle.std.proofs.lemmas.Bool.Decides.{nat_tests}
+use Rattle.std.proofs.lemmas.List.{get_or-append-add, get_or-drop, get_or-take, drop-take, drop-drop, length-take}
+use Rattle.std.proofs.lemmas.List.Sums.{prefix_len_stops}
+use Rattle.std.proofs.Math.Seq.{drop-append_seam}
+use Rattle.std.proofs.lemmas.Str.{IsCharBoundary-before_ascii, IsCharBoundary-after_ascii}
+use Rattle.ansi_items.specs.Bytes.{escape, is_intermediate_byte}
+use Rattle.ansi_items.specs.Sequences.{IsControlString, IsSequence, is_sgr}
+use Rattle.ansi_items.specs.Pieces.{Piece, Text, Sequence, LoneEscape, ArePieces, spelling, pieces_of}
+use Rattle.ansi_items.specs.Plain.{Mark, marks_of, marks, plain_of, plain, up_to}
+use Rattle.ansi_items.specs.Scans.{Scan, Gives, pieces_left, piece_of_kind}
+use Rattle.ansi_items.specs.declared.ansitok.Item.{Item}
+use Rattle.ansi_items.specs.declared.ansitok.Kind.{Kind}
+use Rattle.ansi_items.specs.declared.ansitok.Kind.TheVariants.{Text as TextKind, Sgr, Other, Lone}
+use Rattle.ansi_items.proofs.PieceLemmas.{pieces_are}
+use Rattle.ansi_items.proofs.StepLemmas.{BeginsWithMark, is_mark, gives_mark, plain_of-mark}
+use Rattle.ansi_style.proofs.MarkLemmas.{marks_of-text, marks_of-sequence, marks_of-lone, up_to-none, up_to-further, up_to-here, bytes-further}
+use Rattle.ansi_columns.specs.Addresses.{address_at}
+use Rattle.ansi_columns.specs.Links.{terminator_len, address_of, is_link, opens_link, link_of, link_after, link_at}
+use Rattle.ansi_columns.proofs.LinkLemmas.{link_of-fold, is_link-sgr}
+
+-- ---- the link at a place of pieces, where this one is open before them
+
+abbrev link_by_marks : List ℕ → List Piece → ℕ → List ℕ
+link_by_marks link ps i = fold link_after link (map (λ (m : Mark). m.bytes) (up_to i (marks_of ps)))
+
+before-text : (link w : List ℕ) (ps : List Piece) (i : ℕ) → i < length w → link_by_marks link (Text w ∷ ps) i ≡ link
+before-text link w ps i below =
+    ap (λ ms. fold link_after link (map (λ (m : Mark). m.bytes) (up_to i ms))) (marks_of-text w ps)
+    ∙ ap (λ ms. fold link_after link (map (λ (m : Mark). m.bytes) ms)) (up_to-none i (length w) (marks_of ps) below)
+
+past-text : (link w : List ℕ) (ps : List Piece) (i : ℕ) → length w ≤ i → link_by_marks link (Text w ∷ ps) i ≡ link_by_marks link ps (i - length w)
+past-text link w ps i within =
+    let n = length w in
+    ap (λ ms. fold link_after link (map (λ (m : Mark). m.bytes) (up_to i ms))) (marks_of-text w ps)
+    ∙ ap (λ ms. fold link_after link (map (λ (m : Mark). m.bytes) ms)) (up_to-further i n (marks_of ps) within)
+    ∙ ap (fold link_after link) (bytes-further n (up_to (i - n) (marks_of ps)))
+
+past-mark : (link : List ℕ) (p : Piece) (ps : List Piece) (i : ℕ) → is_mark p ≡ true → link_by_marks link (p ∷ ps) i ≡ link_by_marks (link_after link (spelling p)) ps i
+past-mark link (Text w) ps i is = absurd (cc is)
+past-mark link (Sequence w) ps i is =
+    ap (λ ms. fold link_after link (map (λ (m : Mark). m.bytes) (up_to i ms))) (marks_of-sequence w ps)
+    ∙ ap (λ ms. fold link_after link (map (λ (m : Mark). m.bytes) ms)) (up_to-here i w (marks_of ps))
+past-mark link LoneEscape ps i is =
+    ap (λ ms. fold link_after link (map (λ (m : Mark). m.bytes) (up_to i ms))) (marks_of-lone ps)
+    ∙ ap (λ ms. fold link_after link (map (λ (m : Mark). m.bytes) ms)) (up_to-here i (escape ∷ []) (marks_of ps))
+
+-- a link is a whole sequence, or none is open
+abbrev pub IsNoneOrSequence : List ℕ → Type 0
+IsNoneOrSequence link = (link ≡ []) ⊎ IsSequence link
+
+still-sequence : (link w : List ℕ) → IsNoneOrSequence link → IsSequence w → IsNoneOrSequence (link_after link w)
+still-sequence link w before is = either (is_link w) (opens_link w)
+  where
+    either : (b c : Bool) → IsNoneOrSequence (if b then (if c then w else []) else link)
+    either true true = inr is
+    either true false = inl refl
+    either false c = before
+
+-- How far a walk to the plain byte n has come: the link so far, and where the byte stands in what is left.
+pub record IsOnTheWay (t : List ℕ) (n : ℕ) (link : List ℕ) (left : ℕ) (ps : List Piece) : Type 0 where
+  pub within : nat_lt left (length (plain_of ps)) ≡ nat_lt n (length (plain t))
+  pub linked : link_by_marks link ps left ≡ link_at t n
+  pub sequence : IsNoneOrSequence link
+
+pub way-begin : (t : List ℕ) (n : ℕ) → IsOnTheWay t n [] n (pieces_of t)
+way-begin t n = record { within = refl; linked = sym (link_of-fold (up_to n (marks t))); sequence = inl refl }
+
+lt-past : (n k m : ℕ) → k ≤ n → nat_lt n (k + m) ≡ nat_lt (n - k) m
+lt-past n k m le = grind (arith, nat_tests)
+
+-- past a text
+pub way-text : {t link w : List ℕ} {n left next : ℕ} {old ps : List Piece} → IsOnTheWay t n link left old → old ≡ Text w ∷ ps → length w ≤ left → next ≡ left - length w → IsOnTheWay t n link next ps
+way-text {t} {link} {w} {n} {left} {next} {old} {ps} way first within next_is =
+    let here = subst (IsOnTheWay t n link left) first way in
+    rw next_is (record {
+      within = sym (ap (nat_lt left) (length-append w (plain_of ps)) ∙ lt-past left (length w) (length (plain_of ps)) within) ∙ here.within;
+      linked = sym (past-text link w ps left within) ∙ here.linked;
+      sequence = here.sequence;
+    })
+
+-- past a sequence that may open a link or end one
+pub way-other : {t link w next : List ℕ} {n left : ℕ} {kind : Kind} {old ps : List Piece} → IsOnTheWay t n link left old → BeginsWithMark kind w old ps → IsSequence w → next ≡ link_after link w → IsOnTheWay t n next left ps
+way-other {t} {link} {w} {next} {n} {left} {kind} {old} {ps} way mark is next_is =
+    let here = subst (IsOnTheWay t n link left) mark.pieces way in
+    rw next_is (record {
+      within = ap (λ x. nat_lt left (length x)) (sym (plain_of-mark mark.mark ps mark.is_mark)) ∙ here.within;
+      linked = ap (λ v. link_by_marks (link_after link v) ps left) (sym mark.bytes) ∙ sym (past-mark link mark.mark ps left mark.is_mark) ∙ here.linked;
+      sequence = still-sequence link w here.sequence is;
+    })
+
+-- past a mark that does neither
+pub way-rest : {t link w : List ℕ} {n left : ℕ} {kind : Kind} {old ps : List Piece} → IsOnTheWay t n link left old → BeginsWithMark kind w old ps → is_link w ≡ false → IsOnTheWay t n link left ps
+way-rest {t} {link} {w} {n} {left} {kind} {old} {ps} way mark other =
+    let here = subst (IsOnTheWay t n link left) mark.pieces way in
+    let same : link_after link w ≡ link = ap (λ b. if b then (if opens_link w then w else []) else link) other in
+    record {
+      within = ap (λ x. nat_lt left (length x)) (sym (plain_of-mark mark.mark ps mark.is_mark)) ∙ here.within;
+      linked = ap (λ v. link_by_marks v ps left) (sym same) ∙ ap (λ v. link_by_marks (link_after link v) ps left) (sym mark.bytes) ∙ sym (past-mark link mark.mark ps left mark.is_mark) ∙ here.linked;
+      sequence = here.sequence;
+    }
+
+-- the byte stands in the text that comes next
+pub way-last : {t link w : List ℕ} {n left : ℕ} {old ps : List Piece} → IsOnTheWay t n link left old → old ≡ Text w ∷ ps → left < length w → address_of link ≡ address_at t n
+way-last {t} {link} {w} {n} {left} {old} {ps} way first last =
+    let here = subst (IsOnTheWay t n link left) first way in
+    let inside : nat_lt n (length (plain t)) ≡ true = sym here.within ∙ lt-ltb left (length (w ++ plain_of ps)) (omega (arith, last, length-append w (plain_of ps))) in
+    ap address_of (sym (before-text link w ps left last) ∙ here.linked) ∙ sym (ap (λ b. if b then address_of (link_at t n) else None) inside)
+
+-- or there is none
+pub way-end : {t link : List ℕ} {n left : ℕ} {old : List Piece} → IsOnTheWay t n link left old → old ≡ [] → None ≡ address_at t n
+way-end {t} {link} {n} {left} way none =
+    let here = subst (IsOnTheWay t n link left) none way in
+    let past : nat_lt n (length (plain t)) ≡ false = sym here.within ∙ le-ltb left 0 (omega arith) in
+    sym (ap (λ b. if b then address_of (link_at t n) else None) past)
+
+-- a link that is open has an address
+
+opened-address : (w : List ℕ) (b : Bool) → opens_link w ≡ b → address_of (if b then w else []) ≡ None → (if b then w else []) ≡ []
+opened-address w true opens none = absurd (let no : false ≡ true = sym (ap (λ o. nat_lt 0 (length (unwrap_or o []))) none) ∙ opens in cc no)
+opened-address w false opens none = refl
+
+link_of-address : (ms : List Mark) → address_of (link_of ms) ≡ None → link_of ms ≡ []
+link_of-address ms none = (let last = unwrap_or (slice_get (reverse (filter is_link (map (λ (m : Mark). m.bytes) ms))) 0) [] in opened-address last (opens_link last) refl none)
+
+-- so there is no address exactly past the end, and where no link is open
+pub none-exactly : {X : Type 0} (o : Option X) (f : X → List ℕ) (t : List ℕ) (n : ℕ) → option_map f o ≡ address_at t n → IsNone o ↔ ((length (plain t) ≤ n) ⊎ (link_at t n ≡ []))
+none-exactly None f t n is = (λ _. place (nat_lt n (length (plain t))) refl is, λ _. refl)
+  where
+    place : (b : Bool) → nat_lt n (length (plain t)) ≡ b → None ≡ (if b then address_of (link_at t n) else None) → (length (plain t) ≤ n) ⊎ (link_at t n ≡ [])
+    place true inside none = inr (link_of-address (up_to n (marks t)) (sym none))
+    place false past none = inl (ltb-false n (length (plain t)) past)
+none-exactly (Some x) f t n is = (λ no. absurd (cc no), λ why. absurd (some_or why))
+  where
+    some_or : (length (plain t) ≤ n) ⊎ (link_at t n ≡ []) → ⊥
+    some_or (inl past) = (let no : Some (f x) ≡ None = is ∙ ap (λ b. if b then address_of (link_at t n) else None) (le-ltb n (length (plain t)) past) in cc no)
+    some_or (inr none) = (let no : Some (f x) ≡ None = is ∙ ap (λ w. if nat_lt n (length (plain t)) then address_of w else None) none ∙ either (nat_lt n (length (plain t))) in cc no)
+      where
+        either : (b : Bool) → (if b then address_of [] else None) ≡ None
+        either true = refl
+        either false = refl
+
+-- what the scanner gives as another sequence is a whole one
+pub other_is_sequence : {old new : Scan} {item : Item} {t w : List ℕ} → Gives old item new → old.text ≡ t → w ≡ slice_range t item.start item.end → item.kind ≡ Other → IsSequence w
+other_is_sequence {old} {new} {item} {t} {w} gives same is kind =
+    let bytes : slice_range old.text item.start item.end ≡ w = ap (λ v. slice_range v item.start item.end) same ∙ sym is in
+    let named : pieces_left old ≡ piece_of_kind item.kind w ∷ pieces_left new = subst (λ v. pieces_left old ≡ piece_of_kind item.kind v ∷ pieces_left new) bytes gives.piece in
+    let first : pieces_left old ≡ Sequence w ∷ pieces_left new = subst (λ k. pieces_left old ≡ piece_of_kind k w ∷ pieces_left new) kind named in
+    (subst (ArePieces (drop old.offset old.text)) first (pieces_are (drop old.offset old.text))).2
+
+-- and what it gives as an SGR or a lone escape is no link sequence
+pub unlinked : {old new : Scan} {item : Item} {t w : List ℕ} → Gives old item new → old.text ≡ t → w ≡ slice_range t item.start item.end → item.kind ≢ TextKind → item.kind ≢ Other → is_link w ≡ false
+unlinked {old} {new} {item} {t} {w} gives same is no_text no_other =
+    let mark = gives_mark gives same is no_text in
+    let bytes : slice_range old.text item.start item.end ≡ w = ap (λ v. slice_range v item.start item.end) same ∙ sym is in
+    by_kind item.kind no_text no_other mark.sgr (sym bytes ∙ gives.bytes ∙ ap (λ v. spelling (piece_of_kind item.kind v)) bytes)
+  where
+    by_kind : (k : Kind) → k ≢ TextKind → k ≢ Other → (k ≡ Sgr → is_sgr w ≡ true) → w ≡ spelling (piece_of_kind k w) → is_link w ≡ false
+    by_kind TextKind no_text no_other sgr bytes = absurd (no_text refl)
+    by_kind Sgr no_text no_other sgr bytes = is_link-sgr w (sgr refl)
+    by_kind Other no_text no_other sgr bytes = absurd (no_other refl)
+    by_kind Lone no_text no_other sgr bytes = ap is_link bytes
+
+-- ---- where the address of a link sequence stands in it
+
+abbrev opening : List ℕ
+opening = codes "\u{1b}]8;"
+
+byte-at : (w u v : List ℕ) (n k : ℕ) → w ≡ u ++ v → n ≡ length u + k → get_or v k 0 < 128 → get_or w n 0 < 128
+byte-at w u v n k is at less = omega (arith, ap₂ (λ x i. get_or x i 0) is at, get_or-append-add u v k 0, less)
+
+-- its terminator begins with an ASCII byte
+record IsEnded (w : List ℕ) : Type 0 where
+  inside : length w - terminator_len w < length w
+  within : terminator_len w ≤ length w
+  ascii : get_or w (length w - terminator_len w) 0 < 128
+
+ended-st : (w u : List ℕ) → w ≡ u ++ 0x1B ∷ 0x5C ∷ [] → (b : Bool) → ends_with nat_eq w (codes "\u{7}") ≡ b → IsEnded w
+ended-st w u is true test =
+    let one : terminator_len w ≡ 1 = ap (λ b. if b then 1 else 2) test in
+    let size = ap length is ∙ length-append u (0x1B ∷ 0x5C ∷ []) in
+    record { inside = omega (arith, one, size); within = omega (arith, one, size); ascii = byte-at w u (0x1B ∷ 0x5C ∷ []) _ 1 is (omega (arith, one, size)) (lit< tt) }
+ended-st w u is false test =
+    let two : terminator_len w ≡ 2 = ap (λ b. if b then 1 else 2) test in
+    let size = ap length is ∙ length-append u (0x1B ∷ 0x5C ∷ []) in
+    record { inside = omega (arith, two, size); within = omega (arith, two, size); ascii = byte-at w u (0x1B ∷ 0x5C ∷ []) _ 0 is (omega (arith, two, size)) (lit< tt) }
+
+ended-bel : (w u : List ℕ) → w ≡ u ++ 7 ∷ [] → IsEnded w
+ended-bel w u is =
+    let size : length w ≡ length u + 1 = ap length is ∙ length-append u (7 ∷ []) in
+    let last : drop (length w - 1) w ≡ 7 ∷ [] = (let at : length w - 1 ≡ length u = omega (arith, size) in ap₂ drop at is ∙ drop-append_seam u (7 ∷ [])) in
+    let one : terminator_len w ≡ 1 = ap (λ v. if pointwise nat_eq (7 ∷ []) v then 1 else 2) last in
+    record { inside = omega (arith, one, size); within = omega (arith, one, size); ascii = byte-at w u (7 ∷ []) _ 0 is (omega (arith, one, size)) (lit< tt) }
+
+ended-string : (w : List ℕ) → IsControlString w → IsEnded w
+ended-string w s =
+    let u = escape ∷ s.opener ∷ s.body in
+    elim s.ends [
+      | inl st ↦ ended-st w u (s.spelled ∙ ap (λ v. u ++ v) st) (ends_with nat_eq w (codes "\u{7}")) refl
+      | inr bel ↦ ended-bel w u (s.spelled ∙ ap (λ v. u ++ v) bel.1)
+    ]
+
+no-control_sequence : (w v : List ℕ) → w ≡ escape ∷ 0x5B ∷ v → starts_with nat_eq w opening ≡ true → IsEnded w
+no-control_sequence w v is begins = absurd (let no : false ≡ true = subst (λ x. starts_with nat_eq x opening ≡ true) is begins in cc)
+
+no-escape_sequence : (w is : List ℕ) (final : ℕ) → w ≡ escape ∷ (is ++ final ∷ []) → list_all is_intermediate_byte is ≡ true → starts_with nat_eq w opening ≡ true → IsEnded w
+no-escape_sequence w [] final spelled all begins =
+    let tests = subst (λ x. starts_with nat_eq x opening ≡ true) spelled begins in
+    absurd (let no : false ≡ true = (and_parts (nat_eq 0x5D final) false tests).1 in cc no)
+no-escape_sequence w (i ∷ is) final spelled all begins =
+    let tests = subst (λ x. starts_with nat_eq x opening ≡ true) spelled begins in
+    let bracket : 0x5D ≡ i = eqb-true 0x5D i (and_parts _ _ tests).0 in
+    let no : false ≡ true = subst (λ b. is_intermediate_byte b ≡ true) (sym bracket) (and_parts (is_intermediate_byte i) (list_all is_intermediate_byte is) all).0 in
+    absurd (cc no)
+
+ended : (w : List ℕ) → IsSequence w → starts_with nat_eq w opening ≡ true → IsEnded w
+ended w (inl s) begins = no-control_sequence w _ s.spelled begins
+ended w (inr (inl s)) begins = ended-string w s
+ended w (inr (inr s)) begins = no-escape_sequence w s.intermediates s.final s.spelled s.are_intermediates begins
+
+-- so its address stands between two boundaries
+pub record IsAddressAt (w a : List ℕ) : Type 0 where
+  pub end : terminator_len w ≤ length w
+  pub begin : length a ≤ length w - terminator_len w
+  pub is : a ≡ slice_range w (length w - terminator_len w - length a) (length w - terminator_len w)
+  pub begins : IsCharBoundary w (length w - terminator_len w - length a)
+  pub ends : IsCharBoundary w (length w - terminator_len w)
+
+abbrev has_no_semicolon : ℕ → Bool
+has_no_semicolon b = not (b == 59)
+
+semicolon : (b : ℕ) → has_no_semicolon b ≡ false → b < 128
+semicolon b is = grind (arith, nat_tests)
+
+some_parts : {X : Type 0} (b c : Bool) (a x : X) → Some a ≡ (if b && c then Some x else None) → (b ≡ true) × (c ≡ true) × (a ≡ x)
+some_parts true true a x e = (refl, refl, cc)
+some_parts true false a x e = absurd (cc)
+some_parts false c a x e = absurd (cc)
+
+address-in : (w a : List ℕ) (p : ℕ) → IsUtf8 w → IsEnded w → (let fields = slice_range w 4 (length w - terminator_len w) in
+    p < length fields → get_or fields p 0 < 128 → a ≡ drop (p + 1) fields → IsAddressAt w a)
+address-in w a p utf8 ended = λ less ascii is.
+    let end = length w - terminator_len w in
+    let fields = slice_range w 4 end in
+    let size : length fields ≡ end - 4 = omega (arith, length-take (end - 4) (drop 4 w), length-drop 4 w) in
+    let own : length a ≡ end - 4 - (p + 1) = omega (arith, ap length is, length-drop (p + 1) fields, size) in
+    let from : end - length a ≡ 4 + (p + 1) = omega (arith, own, size, less) in
+    let count : end - (end - length a) ≡ length a = omega (arith, own, size, less) in
+    let all : end - 4 ≡ p + 1 + length a = omega (arith, own, size, less) in
+    let there : get_or w (4 + p) 0 < 128 = omega (arith, ascii, get_or-take (end - 4) (drop 4 w) p 0 (omega (arith, less, size)), get_or-drop 4 w p 0) in
+    let next : 4 + p + 1 ≡ end - length a = omega (arith, from) in
+    record {
+      end = ended.within;
+      begin = omega (arith, own);
+      is = is ∙ ap (λ n. drop (p + 1) (take n (drop 4 w))) all ∙ drop-take (p + 1) (length a) (drop 4 w) ∙ ap (take (length a)) (drop-drop (p + 1) 4 w) ∙ ap₂ (λ n k. take n (drop k w)) (sym count) (sym from);
+      begins = subst (IsCharBoundary w) next (IsCharBoundary-after_ascii w (4 + p) utf8 (omega (arith, size, less)) there);
+      ends = IsCharBoundary-before_ascii w end ended.inside ended.ascii;
+    }
+
+pub address-stands : (w a : List ℕ) → IsUtf8 w → IsNoneOrSequence w → Some a ≡ address_of w → IsAddressAt w a
+address-stands w a utf8 (inl none) is = absurd (let no : Some a ≡ None = is ∙ ap address_of none in cc)
+address-stands w a utf8 (inr sequence) is =
+    let fields = slice_range w 4 (length w - terminator_len w) in
+    let p = prefix_len has_no_semicolon fields in
+    let parts = some_parts (starts_with nat_eq w opening) (nat_lt p (length fields)) a (drop (p + 1) fields) is in
+    let less = ltb-true p (length fields) parts.1 in
+    address-in w a p utf8 (ended w sequence parts.0) less (semicolon _ (prefix_len_stops has_no_semicolon fields 0 less)) parts.2

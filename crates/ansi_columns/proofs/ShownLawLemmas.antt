@@ -1,0 +1,394 @@
+-- The plain text of a text that is cut or filled up, and how wide it is where that is printable ASCII.
+use Rattle.std.proofs.Common.{◌≡◌, ℕ, suc, zero, ◌+◌, ◌-◌, ◌<◌, ◌≤◌, min, max, Bool, true, false, not, inl, inr, List, [], ◌∷◌, ◌++◌, length, map, flat_map, take, drop, take-append-drop, slice_range, nat_eq, nat_le, codes, unwrap_or, encode_utf8_all, if◌then◌else◌, IsTrue, refl, sym, ◌∙◌, ap, ap₂, subst, arith, append_assoc, append-nil, length-append, length-take-le, take_all, leb-true, leb-false}
+use Rattle.std.specs.Int.{is_in_range}
+use Rattle.std.specs.List.{All, list_all}
+use Rattle.std.specs.Str.{byte, chars, IsUtf8, IsCharBoundary}
+use Rattle.std.proofs.lemmas.Bool.{cases_Bool, cases_lt, and_parts, and_from, not-true, le-leb, lt-leb}
+use Rattle.std.proofs.lemmas.Bool.Decides.{nat_tests}
+use Rattle.std.proofs.lemmas.List.{length-replicate}
+use Rattle.std.proofs.lemmas.List.Sums.{sum_by-cons}
+use Rattle.std.proofs.lemmas.List.Elements.{All-nil, All-cons}
+use Rattle.std.proofs.lemmas.List.Folds.{list_all-append}
+use Rattle.std.proofs.lemmas.Grind.{flat_map-append}
+use Rattle.std.proofs.lemmas.Str.{chars-nil, chars-IsAscii, encode_ascii, encodes-chars, IsUtf8-nil, IsUtf8-take, IsUtf8-append, IsUtf8-from_ascii}
+use Rattle.std.proofs.lemmas.Str.Ascii.{IsAscii-from_all}
+use Rattle.ucd_breaks.specs.declared.GraphemeClusterBreak.TheVariants.{Other}
+use Rattle.unicode_segmentation.specs.Grapheme.{break_by_pair, is_grapheme_break}
+use Rattle.unicode_width.proofs.Rules.{str_width-printable}
+use Rattle.ansi_items.specs.Bytes.{is_plain_byte}
+use Rattle.ansi_items.specs.Pieces.{Piece, Text, Sequence, LoneEscape, after_text, merged, pieces_of}
+use Rattle.ansi_items.specs.Plain.{plain, plain_bytes, plain_of, marks, up_to, is_whole}
+use Rattle.ansi_items.proofs.JoinLemmas.{pieces_of-append, is_whole-append, is_whole-spelled, pieces_stand, spelled}
+use Rattle.ansi_items.proofs.PlainLemmas.{no_escape, plain-bare, is_whole-plain}
+use Rattle.ansi_items.proofs.Utf8Lemmas.{IsUtf8-plain}
+use Rattle.ansi_style.specs.declared.state.rendition.Rendition.{Rendition}
+use Rattle.ansi_style.specs.Rendition.{plain_style}
+use Rattle.ansi_style.specs.Styled.{StyledByte, bytes_of as styled_bytes, styled, style_at}
+use Rattle.ansi_style.specs.Written.{close, close_codes}
+use Rattle.ansi_style.proofs.ReadBackLemmas.{close_codes_are, code_pieces, code_pieces_stand, spelled-code_pieces, styled_through-codes}
+use Rattle.ansi_style.proofs.SpelledLemmas.{styled-spelled}
+use Rattle.ansi_style.proofs.StyledLemmas.{bytes_of-styled, styled-pieces}
+use Rattle.ansi_slice.specs.Cut.{show}
+use Rattle.ansi_slice.proofs.ShownLemmas.{shown_pieces, shown_pieces_stand, spelled-shown_pieces, styled_through-shown_pieces}
+use Rattle.ansi_search.proofs.SliceLemmas.{list_all-parts, slice_range-map, take-append}
+use Rattle.ansi_columns.specs.declared.shown.Alignment.{Alignment}
+use Rattle.ansi_columns.specs.declared.shown.Alignment.TheVariants.{Left, Right, Center}
+use Rattle.ansi_columns.specs.Columns.{clusters, cluster_width, columns_of, columns, bytes_of, FitsUpTo, IsClusterBoundary}
+use Rattle.ansi_columns.specs.Links.{link_end, link_at, pen_close}
+use Rattle.ansi_columns.specs.Seams.{seam_of}
+use Rattle.ansi_columns.specs.Shown.{fitting_end, has_tail, truncated_end, truncated, missing, before_text, blanks, padded}
+use Rattle.ansi_columns.specs.Walks.{clusters_after}
+use Rattle.ansi_columns.specs.declared.seams.Seam.{Seam}
+use Rattle.ansi_columns.proofs.AsciiLemmas.{columns-printable, ends-printable, seam-printable}
+use Rattle.ansi_columns.proofs.ClusterLemmas.{cluster-begins, cluster-ends, cluster-last, clusters-none}
+use Rattle.ansi_columns.proofs.ClusterLawLemmas.{fits-within, spells}
+use Rattle.ansi_columns.proofs.LineLawLemmas.{boundary_between}
+use Rattle.ansi_columns.proofs.SeamLawLemmas.{clusters-add_up, columns-add_up}
+use Rattle.ansi_columns.proofs.ShownLemmas.{link_end-open, link_end-shut}
+
+-- ---- the plain text of whole texts in a row
+
+plain_of-after_text : (w : List ℕ) (ps : List Piece) → plain_of (after_text w ps) ≡ w ++ plain_of ps
+plain_of-after_text w [] = refl
+plain_of-after_text w (Text v ∷ ps) = append_assoc w v (plain_of ps)
+plain_of-after_text w (Sequence v ∷ ps) = refl
+plain_of-after_text w (LoneEscape ∷ ps) = refl
+
+plain_of-merged : (ps : List Piece) → plain_of (merged ps) ≡ plain_of ps
+plain_of-merged [] = refl
+plain_of-merged (Text w ∷ ps) = plain_of-after_text w (merged ps) ∙ ap (λ u. w ++ u) (plain_of-merged ps)
+plain_of-merged (Sequence w ∷ ps) = plain_of-merged ps
+plain_of-merged (LoneEscape ∷ ps) = plain_of-merged ps
+
+-- a whole text with this plain text
+record IsWholeOf (t x : List ℕ) : Type 0 where
+  whole : IsTrue (is_whole t)
+  plain : plain t ≡ x
+
+both : {u v x y : List ℕ} → IsWholeOf u x → IsWholeOf v y → IsWholeOf (u ++ v) (x ++ y)
+both {u} {v} first second = record {
+  whole = is_whole-append u v first.whole second.whole;
+  plain = ap plain_of (pieces_of-append u v first.whole second.whole) ∙ plain_of-merged (pieces_of u ++ pieces_of v)
+      ∙ flat_map-append plain_bytes (pieces_of u) (pieces_of v) ∙ ap₂ ◌++◌ first.plain second.plain;
+}
+
+-- sequences have none
+
+close_is : (s : Rendition) → IsWholeOf (close s) []
+close_is s =
+    let cs = close_codes s in
+    let stand = code_pieces_stand cs (close_codes_are s) in
+    record {
+      whole = ap is_whole (sym (spelled-code_pieces cs)) ∙ is_whole-spelled (code_pieces cs) stand;
+      plain = sym (bytes_of-styled (close s)) ∙ ap styled_bytes (ap styled (sym (spelled-code_pieces cs)) ∙ styled-spelled (code_pieces cs) stand ∙ styled_through-codes plain_style cs);
+    }
+
+shut : IsWholeOf [] []
+shut = record { whole = refl; plain = refl }
+
+link_end-written : IsWholeOf (codes "\u{1b}]8;;\u{1b}\\") []
+link_end-written = record { whole = refl; plain = refl }
+
+link_end_is : (link : List ℕ) → IsWholeOf (link_end link) []
+link_end_is link = elim (cases_Bool (nat_eq (length link) 0)) [
+  | inl none ↦ subst (λ w. IsWholeOf w []) (sym (link_end-shut link none)) shut
+  | inr some ↦ subst (λ w. IsWholeOf w []) (sym (link_end-open link some)) link_end-written
+]
+
+pen_close_is : (t : List ℕ) (i : ℕ) → IsWholeOf (pen_close t i) []
+pen_close_is t i = both (link_end_is (link_at t i)) (close_is (style_at t i))
+
+-- of what is shown it is the slice
+
+show_is : (t : List ℕ) (e : ℕ) → IsTrue (is_whole t) → IsWholeOf (show (plain t) 0 e (up_to e (marks t))) (take e (plain t))
+show_is t e whole =
+    let ps = shown_pieces (λ p. nat_le p e) 0 e (pieces_of t) in
+    let shown = spelled-shown_pieces (pieces_of t) (λ p. nat_le p e) 0 e in
+    let stand = shown_pieces_stand (pieces_of t) (λ p. nat_le p e) 0 e (pieces_stand t whole) in
+    let all : e - 0 ≡ e = omega arith in
+    record {
+      whole = ap is_whole (sym shown) ∙ is_whole-spelled ps stand;
+      plain = ap plain (sym shown) ∙ sym (bytes_of-styled (spelled ps))
+          ∙ ap styled_bytes (styled-spelled ps stand ∙ styled_through-shown_pieces (pieces_of t) plain_style (λ p. nat_le p e) 0 e (λ p below. le-leb p e (omega arith)) ∙ ap (λ bs. slice_range bs 0 e) (sym (styled-pieces t)))
+          ∙ sym (slice_range-map (λ (s : StyledByte). s.byte) (styled t) 0 e) ∙ ap (λ x. slice_range x 0 e) (bytes_of-styled t) ∙ ap (λ n. take n (plain t)) all;
+    }
+
+-- ---- of a text that is cut, and one that is filled up
+
+tail_is : (b : Bool) (tail : List ℕ) → IsTrue (is_whole tail) → IsWholeOf (if b then tail else []) (if b then plain tail else [])
+tail_is true tail whole = record { whole = whole; plain = refl }
+tail_is false tail whole = record { whole = refl; plain = refl }
+
+truncated_is : (t : List ℕ) (width : ℕ) (tail : List ℕ) → IsTrue (is_whole t) → IsTrue (is_whole tail) → IsWholeOf (truncated t width tail) (take (truncated_end t width tail) (plain t) ++ (if has_tail t width tail then plain tail else []))
+unfolding truncated
+truncated_is t width tail whole tail_whole =
+    let end = truncated_end t width tail in
+    both (show_is t end whole) (both (pen_close_is t end) (tail_is (has_tail t width tail) tail tail_whole))
+
+blanks_are_plain : (n : ℕ) → list_all is_plain_byte (blanks n) ≡ true
+blanks_are_plain zero = refl
+blanks_are_plain (suc n) = blanks_are_plain n
+
+blanks_is : (n : ℕ) → IsWholeOf (blanks n) (blanks n)
+blanks_is n =
+    let bare = plain-bare (blanks n) (no_escape (blanks n) (blanks_are_plain n)) in
+    record { whole = ap is_whole (sym bare) ∙ is_whole-plain (blanks n); plain = bare }
+
+padded_is : (t : List ℕ) (width : ℕ) (alignment : Alignment) → IsTrue (is_whole t)
+    → IsWholeOf (padded t width alignment) (blanks (before_text alignment (missing t width)) ++ plain t ++ blanks (missing t width - before_text alignment (missing t width)))
+unfolding padded
+padded_is t width alignment whole =
+    let lack = missing t width in
+    let before = before_text alignment lack in
+    let made = both (both (blanks_is before) (both (record { whole = whole; plain = refl }) (pen_close_is t (length (plain t))))) (blanks_is (lack - before)) in
+    record { whole = made.whole; plain = made.plain ∙ ap (λ u. (blanks before ++ u) ++ blanks (lack - before)) (append-nil (plain t)) }
+
+pub truncated-whole : (t : List ℕ) (width : ℕ) (tail : List ℕ) → IsTrue (is_whole t) → IsTrue (is_whole tail) → IsTrue (is_whole (truncated t width tail))
+truncated-whole t width tail whole tail_whole = (truncated_is t width tail whole tail_whole).whole
+
+pub truncated-plain : (t : List ℕ) (width : ℕ) (tail : List ℕ) → IsTrue (is_whole t) → IsTrue (is_whole tail)
+    → plain (truncated t width tail) ≡ take (truncated_end t width tail) (plain t) ++ (if has_tail t width tail then plain tail else [])
+truncated-plain t width tail whole tail_whole = (truncated_is t width tail whole tail_whole).plain
+
+pub padded-whole : (t : List ℕ) (width : ℕ) (alignment : Alignment) → IsTrue (is_whole t) → IsTrue (is_whole (padded t width alignment))
+padded-whole t width alignment whole = (padded_is t width alignment whole).whole
+
+pub padded-plain : (t : List ℕ) (width : ℕ) (alignment : Alignment) → IsTrue (is_whole t)
+    → plain (padded t width alignment) ≡ blanks (before_text alignment (missing t width)) ++ plain t ++ blanks (missing t width - before_text alignment (missing t width))
+padded-plain t width alignment whole = (padded_is t width alignment whole).plain
+
+-- ---- how wide a text is that is cut
+
+-- so many clusters fit
+record IsCount (width : ℕ) (ks : List (List ℕ)) : Type 0 where
+  count : ℕ
+  boundary : fitting_end width ks ≡ bytes_of (take count ks)
+  fits : columns_of (take count ks) ≤ width
+  greatest : count < length ks → width < columns_of (take (count + 1) ks)
+
+counted : (width : ℕ) (ks : List (List ℕ)) → IsCount width ks
+counted width [] = record { count = 0; boundary = refl; fits = omega arith; greatest = λ less. absurd (omega (arith, less)) }
+counted width (k ∷ ks) =
+    let rest = fitting_end (width - cluster_width k) ks in
+    let either : (b : Bool) → nat_le (cluster_width k) width ≡ b → fitting_end width (k ∷ ks) ≡ (if b then length (encode_utf8_all k) + rest else 0) = λ b is. ap (λ b. if b then length (encode_utf8_all k) + rest else 0) is in
+    elim (cases_lt width (cluster_width k)) [
+      | inl wide ↦ record {
+        count = 0;
+        boundary = either false (lt-leb (cluster_width k) width wide);
+        fits = omega arith;
+        greatest = λ less. omega (arith, wide, sum_by-cons cluster_width k []);
+      }
+      | inr room ↦ (
+          let more = counted (width - cluster_width k) ks in
+          let next : suc more.count + 1 ≡ suc (more.count + 1) = omega arith in
+          record {
+            count = suc more.count;
+            boundary = either true (le-leb (cluster_width k) width room) ∙ ap (λ n. length (encode_utf8_all k) + n) more.boundary
+                ∙ sym (length-append (encode_utf8_all k) (flat_map encode_utf8_all (take more.count ks)));
+            fits = omega (arith, room, more.fits, sum_by-cons cluster_width k (take more.count ks));
+            greatest = λ less. omega (arith, room, more.greatest (omega (arith, less)), ap (λ n. columns_of (take n (k ∷ ks))) next, sum_by-cons cluster_width k (take (more.count + 1) ks));
+          })
+    ]
+
+fitting_end-is : (x : List ℕ) (width : ℕ) → FitsUpTo x width (fitting_end width (clusters x))
+fitting_end-is x width = (let is = counted width (clusters x) in record { count = is.count; boundary = is.boundary; fits = is.fits; greatest = is.greatest })
+
+module _ (x y : List ℕ) (left : IsUtf8 x) (right : IsUtf8 y) (width : ℕ) where
+  abbrev end : ℕ
+  end = fitting_end width (clusters x)
+
+  end_boundary : IsCharBoundary x end
+  end_boundary =
+      let is = counted width (clusters x) in
+      subst (IsCharBoundary x) (sym is.boundary) (boundary_between x left (take is.count (clusters x)) (drop is.count (clusters x)) (sym (take-append-drop is.count (clusters x))))
+
+  fitting-followed : IsClusterBoundary (take end x ++ y) end → columns (take end x ++ y) ≤ width + columns y
+  fitting-followed at =
+      let size : length (take end x) ≡ end = length-take-le end x end_boundary.0 in
+      let sum = columns-add_up (take end x) y (IsUtf8-take x end left end_boundary) right (subst (IsClusterBoundary (take end x ++ y)) (sym size) at) in
+      omega (arith, sum, fits-within x width end left (fitting_end-is x width))
+
+module _ (t : List ℕ) (width : ℕ) (tail : List ℕ) (utf8 : IsUtf8 t) (tail_utf8 : IsUtf8 tail) where
+  within-width : (b : Bool) → b ≡ has_tail t width tail → (let end = fitting_end (if b then width - columns (plain tail) else width) (clusters (plain t)) in
+      IsClusterBoundary (take end (plain t) ++ (if b then plain tail else [])) end → columns (take end (plain t) ++ (if b then plain tail else [])) ≤ width)
+  within-width true is = λ at.
+      let narrow : columns (plain tail) ≤ width = leb-true (columns (plain tail)) width (and_parts (not (nat_le (columns (plain t)) width)) (nat_le (columns (plain tail)) width) (sym is)).1 in
+      let bound = fitting-followed (plain t) (plain tail) (IsUtf8-plain t utf8) (IsUtf8-plain tail tail_utf8) (width - columns (plain tail)) at in
+      omega (arith, narrow, bound)
+  within-width false is = λ at.
+      let bound = fitting-followed (plain t) [] (IsUtf8-plain t utf8) IsUtf8-nil width at in
+      let none : columns [] ≡ 0 = ap columns_of (ap (clusters_after []) chars-nil ∙ clusters-none []) in
+      omega (arith, bound, none)
+
+  pub truncated-within : IsTrue (is_whole t) → IsTrue (is_whole tail) → IsClusterBoundary (plain (truncated t width tail)) (truncated_end t width tail) → columns (plain (truncated t width tail)) ≤ width
+  truncated-within whole tail_whole at =
+      let is = truncated-plain t width tail whole tail_whole in
+      subst (λ x. columns x ≤ width) (sym is) (within-width (has_tail t width tail) refl (subst (λ x. IsClusterBoundary x (truncated_end t width tail)) is at))
+
+-- ---- how wide printable ASCII is
+
+abbrev is_printable : ℕ → Bool
+is_printable = is_in_range 0x20 0x7E
+
+breaks-between : (before : List ℕ) (c d : ℕ) (cs : List ℕ) → is_printable c ≡ true → is_printable d ≡ true → is_grapheme_break true (c ∷ before) (d ∷ cs) ≡ true
+breaks-between before c d cs first second =
+    sym (ends-printable (seam_of (c ∷ before)) (c ∷ before) d cs (λ none. cc) refl second)
+    ∙ ap (λ (s : Seam). unwrap_or (break_by_pair true s.last Other) true) (sym (seam-printable c before first))
+
+clusters-printable : (before cs : List ℕ) → list_all is_printable cs ≡ true → clusters_after before cs ≡ map (λ c. c ∷ []) cs
+clusters-printable before [] all = clusters-none before
+clusters-printable before (c ∷ []) all = cluster-begins before c [] ∙ cluster-last (c ∷ []) (c ∷ before) (λ none. cc)
+clusters-printable before (c ∷ d ∷ cs) all =
+    let first = and_parts _ _ all in
+    cluster-begins before c (d ∷ cs) ∙ cluster-ends (c ∷ []) (c ∷ before) (d ∷ cs) (breaks-between before c d cs first.0 (and_parts _ _ first.1).0)
+    ∙ ap (λ ks. (c ∷ []) ∷ ks) (clusters-printable (c ∷ before) (d ∷ cs) first.1)
+
+is_ascii : (c : ℕ) → is_printable c ≡ true → c < 128
+is_ascii c printable = grind (arith, nat_tests)
+
+are_ascii : (x : List ℕ) → list_all is_printable x ≡ true → All (λ b. b < 128) x
+are_ascii [] all = All-nil _
+are_ascii (b ∷ x) all = All-cons (λ b. b < 128) b x (is_ascii b (and_parts _ _ all).0) (are_ascii x (and_parts _ _ all).1)
+
+fitting-one : (width c : ℕ) (ks : List (List ℕ)) → is_printable c ≡ true → fitting_end (suc width) ((c ∷ []) ∷ ks) ≡ suc (fitting_end width ks)
+fitting-one width c ks printable =
+    let one : cluster_width (c ∷ []) ≡ 1 = str_width-printable false (c ∷ []) (rw printable refl) in
+    let size : length (encode_utf8_all (c ∷ [])) ≡ 1 = ap length (append-nil _ ∙ encode_ascii c (is_ascii c printable)) in
+    let less : suc width - 1 ≡ width = omega arith in
+    ap (λ w. if nat_le w (suc width) then length (encode_utf8_all (c ∷ [])) + fitting_end (suc width - w) ks else 0) one
+    ∙ ap (λ b. if b then length (encode_utf8_all (c ∷ [])) + fitting_end (suc width - 1) ks else 0) (le-leb 1 (suc width) (omega arith))
+    ∙ ap₂ (λ n w. n + fitting_end w ks) size less ∙ omega arith
+
+fitting-none : (c : ℕ) (ks : List (List ℕ)) → is_printable c ≡ true → fitting_end 0 ((c ∷ []) ∷ ks) ≡ 0
+fitting-none c ks printable =
+    let one : cluster_width (c ∷ []) ≡ 1 = str_width-printable false (c ∷ []) (rw printable refl) in
+    ap (λ w. if nat_le w 0 then length (encode_utf8_all (c ∷ [])) + fitting_end (0 - w) ks else 0) one
+
+fitting-singles : (width : ℕ) (cs : List ℕ) → list_all is_printable cs ≡ true → fitting_end width (map (λ c. c ∷ []) cs) ≡ min width (length cs)
+fitting-singles zero [] all = refl
+fitting-singles (suc width) [] all = omega arith
+fitting-singles zero (c ∷ cs) all = fitting-none c (map (λ c. c ∷ []) cs) (and_parts _ _ all).0 ∙ omega arith
+fitting-singles (suc width) (c ∷ cs) all =
+    let parts = and_parts _ _ all in
+    let more = fitting-singles width cs parts.1 in
+    let step = fitting-one width c (map (λ c. c ∷ []) cs) parts.0 in
+    omega (arith, more, step)
+
+fitting-printable : (width : ℕ) (x : List ℕ) → list_all is_printable x ≡ true → fitting_end width (clusters x) ≡ min width (length x)
+fitting-printable width x all =
+    ap (λ cs. fitting_end width (clusters_after [] cs)) (chars-IsAscii x (IsAscii-from_all x (are_ascii x all)))
+    ∙ ap (fitting_end width) (clusters-printable [] x all) ∙ fitting-singles width x all
+
+columns-two : (x y : List ℕ) → list_all is_printable x ≡ true → list_all is_printable y ≡ true → columns (x ++ y) ≡ length x + length y
+columns-two x y first second = columns-printable (x ++ y) (list_all-append is_printable x y ∙ and_from _ _ first second) ∙ length-append x y
+
+module _ (t : List ℕ) (width : ℕ) (tail : List ℕ) (printable : list_all is_printable (plain t) ≡ true) (tail_printable : list_all is_printable (plain tail) ≡ true) where
+  cut-columns : (b : Bool) → b ≡ has_tail t width tail
+      → columns (take (fitting_end (if b then width - columns (plain tail) else width) (clusters (plain t))) (plain t) ++ (if b then plain tail else [])) ≡ min (columns (plain t)) width
+  cut-columns true is =
+      let end = fitting_end (width - columns (plain tail)) (clusters (plain t)) in
+      let parts = and_parts _ _ (sym is) in
+      let end_is = fitting-printable (width - columns (plain tail)) (plain t) printable in
+      let wide = leb-false (columns (plain t)) width (not-true _ parts.0) in
+      let narrow = leb-true (columns (plain tail)) width parts.1 in
+      omega (
+        arith,
+        columns-two (take end (plain t)) (plain tail) (list_all-parts is_printable end (plain t) printable).0 tail_printable,
+        columns-printable (plain t) printable,
+        columns-printable (plain tail) tail_printable,
+        wide,
+        narrow,
+        end_is,
+        length-take-le end (plain t) (omega (arith, end_is)),
+      )
+  cut-columns false is =
+      let end = fitting_end width (clusters (plain t)) in
+      let end_is = fitting-printable width (plain t) printable in
+      omega (
+        arith,
+        columns-two (take end (plain t)) [] (list_all-parts is_printable end (plain t) printable).0 refl,
+        columns-printable (plain t) printable,
+        end_is,
+        length-take-le end (plain t) (omega (arith, end_is)),
+      )
+
+  pub truncated-columns : IsTrue (is_whole t) → IsTrue (is_whole tail) → columns (plain (truncated t width tail)) ≡ min (columns (plain t)) width
+  truncated-columns whole tail_whole = ap columns (truncated-plain t width tail whole tail_whole) ∙ cut-columns (has_tail t width tail) refl
+
+blanks_are_printable : (n : ℕ) → list_all is_printable (blanks n) ≡ true
+blanks_are_printable zero = refl
+blanks_are_printable (suc n) = blanks_are_printable n
+
+before-within : (alignment : Alignment) (n : ℕ) → before_text alignment n ≤ n
+before-within Left n = omega arith
+before-within Right n = omega arith
+before-within Center n = omega arith
+
+pub padded-columns : (t : List ℕ) (width : ℕ) (alignment : Alignment) → list_all is_printable (plain t) ≡ true → IsTrue (is_whole t) → columns (plain (padded t width alignment)) ≡ max (columns (plain t)) width
+padded-columns t width alignment printable whole =
+    let lack = missing t width in
+    let before = before_text alignment lack in
+    let front = blanks before ++ plain t in
+    let front_is = list_all-append is_printable (blanks before) (plain t) ∙ and_from _ _ (blanks_are_printable before) printable in
+    omega (
+      arith,
+      ap columns (padded-plain t width alignment whole),
+      columns-two front (blanks (lack - before)) front_is (blanks_are_printable (lack - before)),
+      length-append (blanks before) (plain t),
+      length-replicate before (byte " "),
+      length-replicate (lack - before) (byte " "),
+      before-within alignment lack,
+      columns-printable (plain t) printable,
+    )
+
+-- ---- how wide any text is that is filled up
+
+bytes_of-append : (ks ls : List (List ℕ)) → bytes_of (ks ++ ls) ≡ bytes_of ks + bytes_of ls
+bytes_of-append ks ls = ap length (flat_map-append encode_utf8_all ks ls) ∙ length-append (flat_map encode_utf8_all ks) (flat_map encode_utf8_all ls)
+
+bytes_of-clusters : (x : List ℕ) → IsUtf8 x → bytes_of (clusters x) ≡ length x
+bytes_of-clusters x utf8 = ap length (spells [] (chars x) ∙ encodes-chars x utf8)
+
+-- where clusters end between two texts, each place between clusters of the whole that stands in the first is one of the first
+boundary-front : (x y : List ℕ) (i : ℕ) → IsUtf8 x → clusters (x ++ y) ≡ clusters x ++ clusters y → i ≤ length x → IsClusterBoundary (x ++ y) i → IsClusterBoundary x i
+boundary-front x y i utf8 sum within at =
+    let n = at.0 in
+    let ks = clusters x in
+    let rest = take (n - length ks) (clusters y) in
+    let split : bytes_of (take n (clusters (x ++ y))) ≡ bytes_of (take n ks) + bytes_of rest = ap (λ ls. bytes_of (take n ls)) sum ∙ ap bytes_of (take-append n ks (clusters y)) ∙ bytes_of-append (take n ks) rest in
+    elim (cases_lt n (length ks)) [
+      | inl less ↦ (
+          let none : n - length ks ≡ 0 = omega (arith, less) in
+          let empty : bytes_of rest ≡ 0 = ap (λ k. bytes_of (take k (clusters y))) none in
+          (n, omega (arith, at.1, split, empty)))
+      | inr all ↦ (n, omega (arith, at.1, split, within, ap bytes_of (take_all n ks all), bytes_of-clusters x utf8))
+    ]
+
+IsUtf8-blanks : (n : ℕ) → IsUtf8 (blanks n)
+IsUtf8-blanks n = IsUtf8-from_ascii (blanks n) (IsAscii-from_all (blanks n) (are_ascii (blanks n) (blanks_are_printable n)))
+
+columns-blanks : (n : ℕ) → columns (blanks n) ≡ n
+columns-blanks n = columns-printable (blanks n) (blanks_are_printable n) ∙ length-replicate n (byte " ")
+
+-- a text between blanks, where clusters end at its own ends
+columns-between : (n m : ℕ) (x : List ℕ) → IsUtf8 x → IsClusterBoundary (blanks n ++ x ++ blanks m) n → IsClusterBoundary (blanks n ++ x ++ blanks m) (n + length x) → columns (blanks n ++ x ++ blanks m) ≡ n + columns x + m
+columns-between n m x utf8 before after =
+    let front = blanks n ++ x in
+    let front_utf8 = IsUtf8-append (blanks n) x (IsUtf8-blanks n) utf8 in
+    let size : length front ≡ n + length x = length-append (blanks n) x ∙ ap (λ k. k + length x) (length-replicate n (byte " ")) in
+    let at = subst (IsClusterBoundary (front ++ blanks m)) (sym size) after in
+    let inner = boundary-front front (blanks m) n front_utf8 (clusters-add_up front (blanks m) front_utf8 (IsUtf8-blanks m) at) (omega (arith, size)) before in
+    let begin = subst (IsClusterBoundary front) (sym (length-replicate n (byte " "))) inner in
+    omega (arith, columns-add_up front (blanks m) front_utf8 (IsUtf8-blanks m) at, columns-add_up (blanks n) x (IsUtf8-blanks n) utf8 begin, columns-blanks n, columns-blanks m)
+
+pub padded-fills : (t : List ℕ) (width : ℕ) (alignment : Alignment) → IsUtf8 t → IsTrue (is_whole t)
+    → IsClusterBoundary (plain (padded t width alignment)) (before_text alignment (missing t width))
+    → IsClusterBoundary (plain (padded t width alignment)) (before_text alignment (missing t width) + length (plain t))
+    → columns (plain (padded t width alignment)) ≡ max (columns (plain t)) width
+padded-fills t width alignment utf8 whole begin end =
+    let lack = missing t width in
+    let before = before_text alignment lack in
+    let is = padded-plain t width alignment whole in
+    let sum = columns-between before (lack - before) (plain t) (IsUtf8-plain t utf8)
+    (subst (λ x. IsClusterBoundary x before) is begin) (subst (λ x. IsClusterBoundary x (before + length (plain t))) is end) in
+    omega (arith, ap columns is, sum, before-within alignment lack)
