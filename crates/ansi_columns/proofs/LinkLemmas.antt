@@ -137,6 +137,7 @@ link_of-last (Some w) = refl
 -- where none is open before them
 pub link_after_all-none : (ms : List Mark) → link_after_all [] ms ≡ link_of ms
 link_after_all-none ms = link_after-last [] (bytes_of_all ms) ∙ sym (link_of-last (slice_get (reverse (filter is_link (bytes_of_all ms))) 0))
+
 pub link_of-fold : (ms : List Mark) → link_of ms ≡ fold link_after [] (map (λ (m : Mark). m.bytes) ms)
 link_of-fold ms = link_of-last (slice_get (reverse (filter is_link (bytes_of_all ms))) 0) ∙ sym (link_after-last [] (bytes_of_all ms))
 
