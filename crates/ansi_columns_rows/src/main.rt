@@ -142,10 +142,7 @@ fn answered(
         "truncate" => truncated(alloc, text, argument),
         "pad" => padded(alloc, text, argument),
         "link_at" => match argument.parse() {
-            Ok(index) => Ok(Some(String::from_str(
-                alloc,
-                text.ansi_link_at(index).unwrap_or(""),
-            )?)),
+            Ok(index) => Ok(Some(String::from_str(alloc, text.ansi_link_at(index).unwrap_or(""))?)),
             Err(_) => Ok(None),
         },
         _ => Ok(None),
