@@ -5,6 +5,7 @@
 #![tactic(auto)]
 
 pub mod blocks;
+pub mod columns;
 pub mod edits;
 pub mod lists;
 pub mod next;

@@ -1,0 +1,73 @@
+//! Calls on the columns of a text.
+ghost use Rattle.std.specs.Prelude.{◌≡◌, ◌∷◌, []};
+ghost use Rattle.ansi_str.specs.Plain.{plain};
+ghost use Rattle.ansi_answers.specs.Answers.{not_utf8, failed, OnUtf8, HasFailed};
+ghost use Rattle.ansi_columns_answers.specs.Columns.{alignment_of, TellsWidth, TellsFitting, GivesTruncated, GivesPadded};
+
+use ansi_answers::answers::{Answer, NOT_UTF8};
+use ansi_columns_answers::columns::{fitting, pad, truncate, width};
+use simdutf8::basic::from_utf8;
+use std::alloc::Global;
+
+/// The columns of the plain text.
+#[unsafe(no_mangle)]
+pub extern "C" fn ansi_str_raw_width(text: &[u8]) -> Answer
+    ensures { OnUtf8 (text.now ∷ []) (TellsWidth (plain text.now) result) (result ≡ failed not_utf8) }
+{
+    match from_utf8(text) {
+        Ok(text) => width(text),
+        Err(_) => Answer::failed(NOT_UTF8),
+    }
+}
+
+/// The position up to which the plain text fits into so many columns.
+#[unsafe(no_mangle)]
+pub extern "C" fn ansi_str_raw_fitting(text: &[u8], width: usize) -> Answer
+    ensures { OnUtf8 (text.now ∷ []) (TellsFitting (plain text.now) width result) (result ≡ failed not_utf8) }
+{
+    match from_utf8(text) {
+        Ok(text) => fitting(text, width),
+        Err(_) => Answer::failed(NOT_UTF8),
+    }
+}
+
+/// The text cut to so many columns.
+#[unsafe(no_mangle)]
+pub extern "C" fn ansi_str_raw_truncate(
+    alloc: Global,
+    text: &[u8],
+    width: usize,
+    tail: &[u8],
+    buffer: &mut [u8],
+) -> Answer
+    ensures { OnUtf8 (text.now ∷ tail.now ∷ [])
+        (GivesTruncated text.now width tail.now result buffer.old buffer.new)
+        (HasFailed not_utf8 result buffer.old buffer.new) }
+{
+    let Ok(text) = from_utf8(text) else {
+        return Answer::failed(NOT_UTF8);
+    };
+    let Ok(tail) = from_utf8(tail) else {
+        return Answer::failed(NOT_UTF8);
+    };
+    truncate(alloc, text, width, tail, buffer)
+}
+
+/// The text filled up to so many columns.
+#[unsafe(no_mangle)]
+pub extern "C" fn ansi_str_raw_pad(
+    alloc: Global,
+    text: &[u8],
+    width: usize,
+    alignment: u32,
+    buffer: &mut [u8],
+) -> Answer
+    ensures { OnUtf8 (text.now ∷ [])
+        (GivesPadded text.now width (alignment_of alignment) result buffer.old buffer.new)
+        (HasFailed not_utf8 result buffer.old buffer.new) }
+{
+    match from_utf8(text) {
+        Ok(text) => pad(alloc, text, width, alignment, buffer),
+        Err(_) => Answer::failed(NOT_UTF8),
+    }
+}
