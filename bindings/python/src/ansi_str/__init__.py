@@ -347,9 +347,10 @@ def _color_of(kind: int, number: int, red: int, green: int, blue: int) -> Union[
 
 @functools.lru_cache(maxsize=256)
 def _style_of(style: bytes) -> Style:
-    attributes, *colors, has_any = _STYLE.unpack_from(style)
-    names = frozenset(name for bit, name in enumerate(ATTRIBUTES) if attributes >> bit & 1)
-    return Style(names, _color_of(*colors[:5]), _color_of(*colors[5:]), has_any, *_library.sequences(style))
+    fields = _STYLE.unpack_from(style)
+    names = frozenset(name for bit, name in enumerate(ATTRIBUTES) if fields[0] >> bit & 1)
+    start, end = _library.sequences(style)
+    return Style(names, _color_of(*fields[1:6]), _color_of(*fields[6:11]), fields[11], start, end)
 
 
 def _blocks_of(blocks: Iterator[Tuple[str, bytes]]) -> Iterator[Block]:
