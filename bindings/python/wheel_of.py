@@ -13,6 +13,15 @@ import zipfile
 HERE = os.path.dirname(os.path.abspath(__file__))
 
 
+class UnsupportedOperation(Exception):
+    """What is raised, by PEP 517, for an archive of sources: it couldn't be built without the repository and its kit."""
+
+
+def build_sdist(sdist_directory, config_settings=None):
+    raise UnsupportedOperation("ansi-str has no archive of sources, since its library is proved and built in its repository: "
+                               "make a wheel there, by `pip wheel bindings/python`")
+
+
 def _read(*names):
     with open(os.path.join(HERE, *names), "rb") as file:
         return file.read()

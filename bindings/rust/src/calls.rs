@@ -2,6 +2,7 @@
 
 use crate::style::{Color, Style};
 use std::borrow::Cow;
+use std::marker::PhantomData;
 use std::mem::MaybeUninit;
 use std::{ptr, slice, str};
 
@@ -26,7 +27,7 @@ struct Answer {
 
 #[repr(C)]
 #[derive(Debug, Clone, Copy)]
-struct RawColor {
+pub(crate) struct RawColor {
     kind: u32,
     number: u8,
     red: u8,
@@ -34,13 +35,14 @@ struct RawColor {
     blue: u8,
 }
 
+/// What can be told of a style.
 #[repr(C)]
 #[derive(Debug, Clone, Copy)]
-struct RawStyle {
-    attributes: u32,
-    foreground: RawColor,
-    background: RawColor,
-    has_any: bool,
+pub(crate) struct RawStyle {
+    pub(crate) attributes: u32,
+    pub(crate) foreground: RawColor,
+    pub(crate) background: RawColor,
+    pub(crate) has_any: bool,
 }
 
 /// A color, a font and a style as the library keeps them: their fields are its own.
@@ -71,6 +73,7 @@ pub(crate) struct Numbers {
 }
 
 #[repr(C)]
+#[derive(Debug, Clone, Copy)]
 struct RawWalk {
     rest: Bytes,
     len: usize,
@@ -99,6 +102,7 @@ impl Place {
 }
 
 #[repr(C)]
+#[derive(Debug, Clone, Copy)]
 struct RawPartWalk {
     rest: Bytes,
     len: usize,
@@ -213,6 +217,7 @@ const SMALL: usize = 512;
 
 /// What a call writes, with so much room for it at first, and then with as much as it asks for. The room isn't set before:
 /// a call doesn't read it.
+#[inline]
 fn written(room: usize, mut call: impl FnMut(Room, usize) -> Answer) -> Result<String, Unfinished> {
     if room > SMALL {
         return written_from(room, call);
@@ -221,6 +226,8 @@ fn written(room: usize, mut call: impl FnMut(Room, usize) -> Answer) -> Result<S
     let answer = call(small.as_mut_ptr().cast(), SMALL);
     match outcome(answer.status, answer.len) {
         Err(Unfinished::TooSmall(needed)) => written_from(needed, call),
+        // (most parts and blocks stand in the text as they are)
+        Ok(0) => Ok(String::new()),
         ended => ended.map(|len| {
             let mut buffer = Vec::with_capacity(len);
             // SAFETY: the call has set so many bytes, and there is room for them; for the text, as `text_of` says
@@ -358,13 +365,22 @@ pub(crate) fn floor_char_boundary(text: &str, index: usize) -> usize {
 /// The parts that are left of a text.
 #[derive(Debug, Clone)]
 pub(crate) struct Parts<'a> {
-    rest: &'a str,
-    pat: &'a str,
-    place: Place,
+    walk: RawPartWalk,
+    texts: PhantomData<&'a str>,
 }
 
+// SAFETY: a walk reads the texts that it points to, which are shared, and no call keeps its pointers
+unsafe impl Send for Parts<'_> {}
+unsafe impl Sync for Parts<'_> {}
+
 pub(crate) fn split<'a>(text: &'a str, pat: &'a str) -> Parts<'a> {
-    let mut walk = part_walk_of("", "", Place::END);
+    let mut walk = RawPartWalk {
+        rest: text.as_ptr(),
+        len: 0,
+        pat: pat.as_ptr(),
+        pat_len: 0,
+        place: Place::END,
+    };
     // SAFETY: and a `str` is UTF-8
     unsafe {
         ansi_str_raw_parts_begin_unchecked(
@@ -376,19 +392,8 @@ pub(crate) fn split<'a>(text: &'a str, pat: &'a str) -> Parts<'a> {
         )
     };
     Parts {
-        rest: text,
-        pat,
-        place: walk.place,
-    }
-}
-
-fn part_walk_of(rest: &str, pat: &str, place: Place) -> RawPartWalk {
-    RawPartWalk {
-        rest: rest.as_ptr(),
-        len: rest.len(),
-        pat: pat.as_ptr(),
-        pat_len: pat.len(),
-        place,
+        walk,
+        texts: PhantomData,
     }
 }
 
@@ -396,21 +401,17 @@ impl<'a> Iterator for Parts<'a> {
     type Item = Cow<'a, str>;
 
     fn next(&mut self) -> Option<Cow<'a, str>> {
-        let mut walk = part_walk_of(self.rest, self.pat, self.place);
         let mut part = RawPart {
             text: "".as_ptr(),
             len: 0,
         };
         let written = written(0, |b, m| unsafe {
-            ansi_str_raw_parts_next(&mut walk, &mut part, b, m)
+            ansi_str_raw_parts_next(&mut self.walk, &mut part, b, m)
         });
         let written = written.ok()?;
-        // SAFETY: the call has told both, and the text lives as long as `self.rest` says
-        let bare = unsafe { told(part.text, part.len) };
-        self.rest = unsafe { told(walk.rest, walk.len) };
-        self.place = walk.place;
         Some(if written.is_empty() {
-            Cow::Borrowed(bare)
+            // SAFETY: the call has told it, and the text lives as long as `'a` says
+            Cow::Borrowed(unsafe { told(part.text, part.len) })
         } else {
             Cow::Owned(written)
         })
@@ -420,25 +421,25 @@ impl<'a> Iterator for Parts<'a> {
 /// The blocks that are left of a text, each by its text and its style.
 #[derive(Debug, Clone)]
 pub(crate) struct Blocks<'a> {
-    rest: &'a str,
-    style: Numbers,
+    walk: RawWalk,
+    text: PhantomData<&'a str>,
 }
 
+// SAFETY: as of parts
+unsafe impl Send for Blocks<'_> {}
+unsafe impl Sync for Blocks<'_> {}
+
 pub(crate) fn blocks(text: &str) -> Blocks<'_> {
-    let mut walk = walk_of("", Numbers::PLAIN);
+    let mut walk = RawWalk {
+        rest: text.as_ptr(),
+        len: 0,
+        style: Numbers::PLAIN,
+    };
     // SAFETY: and a `str` is UTF-8
     unsafe { ansi_str_raw_blocks_begin_unchecked(text.as_ptr(), text.len(), &mut walk) };
     Blocks {
-        rest: text,
-        style: walk.style,
-    }
-}
-
-fn walk_of(rest: &str, style: Numbers) -> RawWalk {
-    RawWalk {
-        rest: rest.as_ptr(),
-        len: rest.len(),
-        style,
+        walk,
+        text: PhantomData,
     }
 }
 
@@ -457,34 +458,27 @@ unsafe fn told<'a>(bytes: Bytes, len: usize) -> &'a str {
 impl<'a> Iterator for Blocks<'a> {
     type Item = (Cow<'a, str>, Style);
 
+    #[inline]
     fn next(&mut self) -> Option<(Cow<'a, str>, Style)> {
-        let mut walk = walk_of(self.rest, self.style);
         let mut block = RawBlock {
             text: "".as_ptr(),
             len: 0,
             style: RawStyle::EMPTY,
         };
         let sequences = written(0, |b, m| unsafe {
-            ansi_str_raw_blocks_next(&mut walk, &mut block, b, m)
+            ansi_str_raw_blocks_next(&mut self.walk, &mut block, b, m)
         });
         let mut sequences = sequences.ok()?;
-        // SAFETY: the call has told both, and the text lives as long as `self.rest` says
+        // SAFETY: the call has told it, and the text lives as long as `'a` says
         let run = unsafe { told(block.text, block.len) };
-        self.rest = unsafe { told(walk.rest, walk.len) };
-        self.style = walk.style;
         let text = if sequences.is_empty() {
             Cow::Borrowed(run)
         } else {
             sequences.push_str(run);
             Cow::Owned(sequences)
         };
-        Some((text, style_of(&block.style, walk.style)))
+        Some((text, Style::new(block.style, self.walk.style)))
     }
-}
-
-fn style_of(style: &RawStyle, numbers: Numbers) -> Style {
-    let colors = (color_of(&style.foreground), color_of(&style.background));
-    Style::new(style.attributes, colors, style.has_any, numbers)
 }
 
 impl Numbers {
@@ -531,7 +525,7 @@ impl ColorNumbers {
 }
 
 impl RawStyle {
-    const EMPTY: RawStyle = RawStyle {
+    pub(crate) const EMPTY: RawStyle = RawStyle {
         attributes: 0,
         foreground: RawColor::NONE,
         background: RawColor::NONE,
@@ -573,10 +567,12 @@ const NAMES: [Color; 18] = [
 const FIXED: u32 = 19;
 const RGB: u32 = 20;
 
-fn color_of(color: &RawColor) -> Option<Color> {
-    match color.kind {
-        FIXED => Some(Color::Fixed(color.number)),
-        RGB => Some(Color::Rgb(color.red, color.green, color.blue)),
-        kind => NAMES.get((kind as usize).checked_sub(1)?).copied(),
+impl RawColor {
+    pub(crate) fn color(&self) -> Option<Color> {
+        match self.kind {
+            FIXED => Some(Color::Fixed(self.number)),
+            RGB => Some(Color::Rgb(self.red, self.green, self.blue)),
+            kind => NAMES.get((kind as usize).checked_sub(1)?).copied(),
+        }
     }
 }

@@ -1,6 +1,6 @@
 //! The style of a block, and its colors.
 
-use crate::calls::Numbers;
+use crate::calls::{Numbers, RawStyle};
 use std::cmp::Ordering;
 use std::fmt::{self, Debug, Display, Formatter};
 use std::hash::{Hash, Hasher};
@@ -69,47 +69,27 @@ pub enum Color {
 /// ```
 #[derive(Clone, Copy)]
 pub struct Style {
-    attributes: u32,
-    foreground: Option<Color>,
-    background: Option<Color>,
-    has_any: bool,
+    told: RawStyle,
     numbers: Numbers,
 }
 
 impl Style {
     /// That of a text without ESC.
-    pub(crate) const EMPTY: Style = Style {
-        attributes: 0,
-        foreground: None,
-        background: None,
-        has_any: false,
-        numbers: Numbers::PLAIN,
-    };
+    pub(crate) const EMPTY: Style = Style::new(RawStyle::EMPTY, Numbers::PLAIN);
 
-    pub(crate) fn new(
-        attributes: u32,
-        (foreground, background): (Option<Color>, Option<Color>),
-        has_any: bool,
-        numbers: Numbers,
-    ) -> Self {
-        Style {
-            attributes,
-            foreground,
-            background,
-            has_any,
-            numbers,
-        }
+    pub(crate) const fn new(told: RawStyle, numbers: Numbers) -> Self {
+        Style { told, numbers }
     }
 
     pub(crate) fn has_any(&self) -> bool {
-        self.has_any
+        self.told.has_any
     }
 
     /// What of it can be seen, by which styles compare.
     fn seen(&self) -> impl Ord + Hash {
-        let colors = (self.foreground, self.background);
+        let colors = (self.foreground(), self.background());
         let sequences = (self.numbers.start(), self.numbers.end());
-        (self.attributes, colors, self.has_any, sequences)
+        (self.told.attributes, colors, self.told.has_any, sequences)
     }
 
     /// Prints the sequences that set the style.
@@ -145,7 +125,7 @@ impl Style {
     /// ```
     #[must_use]
     pub fn foreground(&self) -> Option<Color> {
-        self.foreground
+        self.told.foreground.color()
     }
 
     /// The color behind the text.
@@ -157,7 +137,7 @@ impl Style {
     /// ```
     #[must_use]
     pub fn background(&self) -> Option<Color> {
-        self.background
+        self.told.background.color()
     }
 }
 
@@ -174,7 +154,7 @@ macro_rules! attributes {
                 /// ```
                 #[must_use]
                 pub fn $name(&self) -> bool {
-                    self.attributes & (1 << $bit) != 0
+                    self.told.attributes & (1 << $bit) != 0
                 }
             )*
         }

@@ -36,13 +36,14 @@ COLORS = ("Black", "BrightBlack", "Red", "BrightRed", "Green", "BrightGreen", "Y
           "Purple", "BrightPurple", "Magenta", "BrightMagenta", "Cyan", "BrightCyan", "White", "BrightWhite")
 _FIXED, _RGB = 19, 20
 
-# the attributes, two colors of a kind, a number, red, green and blue, and whether there is something to end
-_STYLE = struct.Struct("=I I4B I4B ?3x")
+# the attributes, two colors of a kind, a number, red, green and blue, whether there is something to end, and more that is the
+# library's own
+_STYLE = struct.Struct("=I I4B I4B ?")
 
 # the kinds of edits, the last position, and what is told of a text
-_CUT, _LEFT, _RIGHT, _PART, _PREFIX, _SUFFIX, _TRIM = range(7)
+_CUT, _LEFT, _RIGHT, _PART, _PREFIX, _SUFFIX, _TRIM, _STRIP = range(8)
 _LAST = sys.maxsize
-_STARTS_WITH, _ENDS_WITH, _HAS_ANY, _IS_WHOLE = range(4)
+_STARTS_WITH, _ENDS_WITH, _HAS_ANY, _IS_WHOLE, _FIND = range(5)
 
 
 def _loaded() -> Any:
@@ -58,8 +59,16 @@ def _loaded() -> Any:
 
 
 _library = _loaded()
-_edit, _strip, _find, _tell, _split, _blocks, _pattern = (
-    _library.edit, _library.strip, _library.find, _library.tell, _library.split, _library.blocks, _library.pattern)
+
+
+def _utf8(name: str, text: str) -> bytes:
+    if not isinstance(text, str):
+        raise TypeError("{} must be a str, not {}".format(name, type(text).__name__))
+    try:
+        return text.encode()
+    except UnicodeEncodeError as fault:
+        fault.reason = name + " has a lone surrogate"
+        raise
 
 
 def _position(name: str, position: int) -> int:
@@ -87,13 +96,24 @@ def _cut_step(start: int, end: Optional[int]) -> _Step:
     return (_CUT, start, end, b"") if start <= end else (_CUT, 1, 0, b"")
 
 
+def _edited(text: str, *steps: _Step) -> Any:
+    data = _utf8("text", text)
+    return _library.edit(data, len(data) == len(text), steps)
+
+
+def _told(what: int, text: str, pattern: str = "") -> Any:
+    data = _utf8("text", text)
+    return _library.tell(what, data, len(data) == len(text), _utf8("pattern", pattern))
+
+
 def strip(text: str) -> str:
     """The plain text: the text without its sequences.
 
     >>> strip("a\\x1b]0;title\\x07b")
     'ab'
     """
-    return _strip(text)  # type: ignore[no-any-return]
+    data = _utf8("text", text)
+    return text if b"\x1b" not in data else _library.edit(data, True, ((_STRIP, 0, 0, b""),))  # type: ignore[no-any-return]
 
 
 def cut(text: str, start: int = 0, end: Optional[int] = None) -> str:
@@ -102,7 +122,7 @@ def cut(text: str, start: int = 0, end: Optional[int] = None) -> str:
     >>> cut("\\x1b[30mTEXT\\x1b[39m", 1, 3)
     '\\x1b[30mEX\\x1b[39m'
     """
-    edited = _edit(text, (_cut_step(start, end),))
+    edited = _edited(text, _cut_step(start, end))
     if edited is None:
         raise ValueError("the end lies before the start: {} is below {}".format(end, start))
     return edited  # type: ignore[no-any-return]
@@ -114,7 +134,7 @@ def left(text: str, mid: int) -> str:
     >>> left("\\x1b[30mTEXT\\x1b[39m", 2)
     '\\x1b[30mTE\\x1b[39m'
     """
-    return _edit(text, ((_LEFT, _position("mid", mid), 0, b""),))  # type: ignore[no-any-return]
+    return _edited(text, (_LEFT, _position("mid", mid), 0, b""))  # type: ignore[no-any-return]
 
 
 def right(text: str, mid: int) -> str:
@@ -123,7 +143,7 @@ def right(text: str, mid: int) -> str:
     >>> right("\\x1b[30mTEXT\\x1b[39m", 2)
     '\\x1b[30mXT\\x1b[39m'
     """
-    return _edit(text, ((_RIGHT, _position("mid", mid), 0, b""),))  # type: ignore[no-any-return]
+    return _edited(text, (_RIGHT, _position("mid", mid), 0, b""))  # type: ignore[no-any-return]
 
 
 def trim(text: str) -> str:
@@ -132,7 +152,7 @@ def trim(text: str) -> str:
     >>> trim(" \\x1b[31m red \\x1b[39m ")
     '\\x1b[31mred\\x1b[39m'
     """
-    return _edit(text, ((_TRIM, 0, 0, b""),))  # type: ignore[no-any-return]
+    return _edited(text, (_TRIM, 0, 0, b""))  # type: ignore[no-any-return]
 
 
 def strip_prefix(text: str, pattern: str) -> Optional[str]:
@@ -141,7 +161,7 @@ def strip_prefix(text: str, pattern: str) -> Optional[str]:
     >>> strip_prefix("\\x1b[31mred\\x1b[39m", "re")
     '\\x1b[31md\\x1b[39m'
     """
-    return _edit(text, ((_PREFIX, 0, 0, _pattern(pattern)),))  # type: ignore[no-any-return]
+    return _edited(text, (_PREFIX, 0, 0, _utf8("pattern", pattern)))  # type: ignore[no-any-return]
 
 
 def strip_suffix(text: str, pattern: str) -> Optional[str]:
@@ -150,7 +170,7 @@ def strip_suffix(text: str, pattern: str) -> Optional[str]:
     >>> strip_suffix("\\x1b[31mred\\x1b[39m", "ed")
     '\\x1b[31mr\\x1b[39m'
     """
-    return _edit(text, ((_SUFFIX, 0, 0, _pattern(pattern)),))  # type: ignore[no-any-return]
+    return _edited(text, (_SUFFIX, 0, 0, _utf8("pattern", pattern)))  # type: ignore[no-any-return]
 
 
 def part(text: str, pattern: str, index: int) -> Optional[str]:
@@ -159,7 +179,7 @@ def part(text: str, pattern: str, index: int) -> Optional[str]:
     >>> part("\\x1b[31mlion::tiger\\x1b[0m", "::", 1)
     '\\x1b[31mtiger\\x1b[0m'
     """
-    return _edit(text, ((_PART, _position("index", index), 0, _pattern(pattern)),))  # type: ignore[no-any-return]
+    return _edited(text, (_PART, _position("index", index), 0, _utf8("pattern", pattern)))  # type: ignore[no-any-return]
 
 
 def find(text: str, pattern: str) -> Optional[int]:
@@ -168,7 +188,7 @@ def find(text: str, pattern: str) -> Optional[int]:
     >>> find("\\x1b[1mé\\x1b[0mb", "b")
     1
     """
-    return _find(text, pattern)  # type: ignore[no-any-return]
+    return _told(_FIND, text, pattern)  # type: ignore[no-any-return]
 
 
 def starts_with(text: str, pattern: str) -> bool:
@@ -177,7 +197,7 @@ def starts_with(text: str, pattern: str) -> bool:
     >>> starts_with("\\x1b[31mred", "re")
     True
     """
-    return _tell(_STARTS_WITH, text, pattern)  # type: ignore[no-any-return]
+    return _told(_STARTS_WITH, text, pattern)  # type: ignore[no-any-return]
 
 
 def ends_with(text: str, pattern: str) -> bool:
@@ -186,7 +206,7 @@ def ends_with(text: str, pattern: str) -> bool:
     >>> ends_with("\\x1b[31mred\\x1b[39m", "ed")
     True
     """
-    return _tell(_ENDS_WITH, text, pattern)  # type: ignore[no-any-return]
+    return _told(_ENDS_WITH, text, pattern)  # type: ignore[no-any-return]
 
 
 def has_any(text: str) -> bool:
@@ -195,7 +215,7 @@ def has_any(text: str) -> bool:
     >>> has_any("red"), has_any("\\x1b[31mred")
     (False, True)
     """
-    return _tell(_HAS_ANY, text, "")  # type: ignore[no-any-return]
+    return _told(_HAS_ANY, text)  # type: ignore[no-any-return]
 
 
 def is_whole(text: str) -> bool:
@@ -204,7 +224,7 @@ def is_whole(text: str) -> bool:
     >>> is_whole("\\x1b[31mred"), is_whole("red\\x1b[3")
     (True, False)
     """
-    return _tell(_IS_WHOLE, text, "")  # type: ignore[no-any-return]
+    return _told(_IS_WHOLE, text)  # type: ignore[no-any-return]
 
 
 class Cut(NamedTuple):
@@ -255,11 +275,11 @@ def _step_of(edit: Edit) -> _Step:
     if isinstance(edit, Right):
         return _RIGHT, _position("mid", edit.mid), 0, b""
     if isinstance(edit, Part):
-        return _PART, _position("index", edit.index), 0, _pattern(edit.pattern)
+        return _PART, _position("index", edit.index), 0, _utf8("pattern", edit.pattern)
     if isinstance(edit, Prefix):
-        return _PREFIX, 0, 0, _pattern(edit.pattern)
+        return _PREFIX, 0, 0, _utf8("pattern", edit.pattern)
     if isinstance(edit, Suffix):
-        return _SUFFIX, 0, 0, _pattern(edit.pattern)
+        return _SUFFIX, 0, 0, _utf8("pattern", edit.pattern)
     if isinstance(edit, Trim):
         return _TRIM, 0, 0, b""
     raise TypeError("edits must hold edits, not {}".format(type(edit).__name__))
@@ -275,9 +295,9 @@ def edit(text: str, edits: Union[Edit, Iterable[Edit]]) -> Optional[str]:
     True
     """
     if isinstance(edits, _EDITS):
-        return _edit(text, (_step_of(edits),))  # type: ignore[no-any-return]
+        return _edited(text, _step_of(edits))  # type: ignore[no-any-return]
     if isinstance(edits, (list, tuple, Iterator)):
-        return _edit(text, tuple(map(_step_of, edits)))  # type: ignore[no-any-return]
+        return _edited(text, *map(_step_of, edits))  # type: ignore[no-any-return]
     raise TypeError("edits must be an edit or a list of edits, not {}".format(type(edits).__name__))
 
 
@@ -287,7 +307,7 @@ def iter_split(text: str, pattern: str) -> Iterator[str]:
     >>> next(iter_split("lion::tiger", "::"))
     'lion'
     """
-    return _split(text, pattern)  # type: ignore[no-any-return]
+    return _library.walk(_utf8("text", text), _utf8("pattern", pattern))  # type: ignore[no-any-return]
 
 
 def split(text: str, pattern: str) -> List[str]:
@@ -297,7 +317,7 @@ def split(text: str, pattern: str) -> List[str]:
     >>> split("\\x1b[31mlion::tiger\\x1b[0m", "::")
     ['\\x1b[31mlion\\x1b[39m', '\\x1b[31mtiger\\x1b[0m']
     """
-    return list(_split(text, pattern))
+    return list(iter_split(text, pattern))
 
 
 class Style(NamedTuple):
@@ -326,15 +346,16 @@ def _color_of(kind: int, number: int, red: int, green: int, blue: int) -> Union[
 
 
 @functools.lru_cache(maxsize=256)
-def _style_of(style: bytes, start: str, end: str) -> Style:
-    attributes, *colors, has_any = _STYLE.unpack(style)
-    names = frozenset(name for bit, name in enumerate(ATTRIBUTES) if attributes >> bit & 1)
-    return Style(names, _color_of(*colors[:5]), _color_of(*colors[5:]), has_any, start, end)
+def _style_of(style: bytes) -> Style:
+    fields = _STYLE.unpack_from(style)
+    names = frozenset(name for bit, name in enumerate(ATTRIBUTES) if fields[0] >> bit & 1)
+    start, end = _library.sequences(style)
+    return Style(names, _color_of(*fields[1:6]), _color_of(*fields[6:11]), fields[11], start, end)
 
 
-def _blocks_of(blocks: Iterator[Tuple[str, bytes, str, str]]) -> Iterator[Block]:
-    for text, style, start, end in blocks:
-        yield Block(text, _style_of(style, start, end))
+def _blocks_of(blocks: Iterator[Tuple[str, bytes]]) -> Iterator[Block]:
+    for text, style in blocks:
+        yield Block(text, _style_of(style))
 
 
 def iter_blocks(text: str) -> Iterator[Block]:
@@ -343,7 +364,7 @@ def iter_blocks(text: str) -> Iterator[Block]:
     >>> next(iter_blocks("\\x1b[31mred\\x1b[39m and plain")).text
     'red'
     """
-    return _blocks_of(_blocks(text))
+    return _blocks_of(_library.walk(_utf8("text", text)))
 
 
 def blocks(text: str) -> List[Block]:

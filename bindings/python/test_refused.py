@@ -1,0 +1,71 @@
+"""Makes each call of the module in C with each of its requests for memory refused in turn: it raises a MemoryError, then answers as
+before, and holds no memory. `bindings/test` runs it over refusing.c, with PYTHONMALLOC=malloc. (Python's own code between the
+calls isn't tried: some interpreters don't stand it.)"""
+
+import ctypes
+import gc
+
+from ansi_str import _library
+
+ALLOCATOR = ctypes.CDLL(None)
+ALLOCATOR.held.restype = ctypes.c_long
+TEXTS = ["", "red, fox", "\x1b[1;31mred\x1b]0;t\x07, \x1b[4mfox\x1b[0m", "\x1b[1mr\u00e9d\x1b[0m, \u65e5\x1b[31m", "\x1b[1m,\x1b[3ma" * 40]
+STYLES = [style for text in TEXTS for _, style in _library.walk(text.encode())]
+CUT, LEFT, RIGHT, PART, PREFIX, SUFFIX, TRIM, STRIP = range(8)
+STEPS = [(CUT, 1, 4, b""), (LEFT, 3, 0, b""), (RIGHT, 3, 0, b""), (PART, 1, 0, b","), (PREFIX, 0, 0, b"r"), (SUFFIX, 0, 0, b"x"),
+         (TRIM, 0, 0, b""), (STRIP, 0, 0, b"")]
+WHAT = range(5)
+# so often each request is refused, and what the interpreter may keep for later calls
+TIMES, KEPT = 40, 20
+
+
+def calls():
+    for text in TEXTS:
+        data = text.encode()
+        is_ascii = len(data) == len(text)
+        for steps in [(step,) for step in STEPS] + [(), tuple(STEPS[:1] + STEPS[2:3] + STEPS[6:])]:
+            yield lambda: _library.edit(data, is_ascii, steps)
+        for what in WHAT:
+            yield lambda: _library.tell(what, data, is_ascii, b"o")
+        for pattern in (b"", b",", b"fox"):
+            yield lambda: list(_library.walk(data, pattern))
+        yield lambda: list(_library.walk(data))
+    for style in STYLES:
+        yield lambda: _library.sequences(style)
+
+
+def answer(call, granted):
+    """The answer, or MemoryError where the request after so many is refused, and whether it was."""
+    ALLOCATOR.refuse(granted)
+    try:
+        got = call()
+    except MemoryError:
+        got = MemoryError
+    return got, ALLOCATOR.refused()
+
+
+def held():
+    gc.collect()
+    return ALLOCATOR.held()
+
+
+def refusals_of(call):
+    """How many requests a call makes, each of which was refused."""
+    want = call()
+    granted = 0
+    while True:
+        answer(call, granted)
+        before = held()
+        for _ in range(TIMES):
+            got, was_refused = answer(call, granted)
+            assert got == want or was_refused and got is MemoryError, (granted, got, want)
+        got = None
+        kept = held() - before
+        assert kept <= KEPT, (granted, kept)
+        if not was_refused:
+            return granted
+        granted += 1
+
+
+if __name__ == "__main__":
+    print("the module in C: %d requests were refused, each in turn" % sum(map(refusals_of, calls())))
