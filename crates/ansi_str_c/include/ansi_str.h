@@ -86,6 +86,16 @@ enum {
     ANSI_STR_LONGEST_START_AND_CLOSE = 251
 };
 
+/* The most bytes that end a link (OSC 8). */
+enum { ANSI_STR_LONGEST_LINK_END = 7 };
+
+/* Where a text stands among the blanks that fill it up: before them, between them, or after them. */
+enum {
+    ANSI_STR_LEFT = 0,
+    ANSI_STR_CENTER = 1,
+    ANSI_STR_RIGHT = 2
+};
+
 /* The kinds of colors: none is set, one of the names, one of 256 by its number, or one by its red, green and blue. */
 enum {
     ANSI_STR_NO_COLOR = 0,
@@ -282,6 +292,12 @@ ansi_str_answer ansi_str_raw_parts_next(ansi_str_part_walk *walk, ansi_str_next_
                                         size_t buffer_len);
 ansi_str_answer ansi_str_raw_style_start(const ansi_str_style_numbers *style, uint8_t *buffer, size_t buffer_len);
 ansi_str_answer ansi_str_raw_style_end(const ansi_str_style_numbers *style, uint8_t *buffer, size_t buffer_len);
+ansi_str_answer ansi_str_raw_width(const uint8_t *text, size_t text_len);
+ansi_str_answer ansi_str_raw_fitting(const uint8_t *text, size_t text_len, size_t width);
+ansi_str_answer ansi_str_raw_truncate(const uint8_t *text, size_t text_len, size_t width, const uint8_t *tail,
+                                      size_t tail_len, uint8_t *buffer, size_t buffer_len);
+ansi_str_answer ansi_str_raw_pad(const uint8_t *text, size_t text_len, size_t width, uint32_t alignment,
+                                 uint8_t *buffer, size_t buffer_len);
 
 /* The same for a caller who promises that each text and each pattern is UTF-8, as one has it by its type: they aren't
    looked at. Of any other bytes nothing is said, and anything may be done. */
@@ -602,6 +618,44 @@ static inline ansi_str_answer ansi_str_edit(const char *text, size_t text_len, c
     ansi_str_edit_step none = ansi_str_edit_trim();
     return ansi_str_raw_edit(ansi_str_bytes(text), text_len, edits == NULL ? &none : edits, edits_len,
                              ansi_str_room(buffer), buffer_len);
+}
+
+/* The columns that the text has in a terminal: the answer's length is their number. They are those of the extended
+   grapheme clusters of the plain text, added up. A cluster may run across sequences; a control character has one column, and
+   so has "\r\n" (UAX #29, UAX #11). Takes no memory.
+   "\x1b[31m\xe6\x97\xa5\xe6\x9c\xac\x1b[39m" has 4. */
+static inline ansi_str_answer ansi_str_width(const char *text, size_t text_len) {
+    return ansi_str_raw_width(ansi_str_bytes(text), text_len);
+}
+
+/* The position up to which the plain text fits into so many columns: the last end of a cluster such that what stands before
+   it has at most `width` columns. The answer's length is that position, in bytes of the plain text, at which the text can be
+   cut. Takes no memory.
+   "a\x1b[1m\xe6\x97\xa5\xe6\x9c\xac" in 4 columns fits up to 4. */
+static inline ansi_str_answer ansi_str_fitting(const char *text, size_t text_len, size_t width) {
+    return ansi_str_raw_fitting(ansi_str_bytes(text), text_len, width);
+}
+
+/* The text cut to so many columns, to be shown. A text that fits is itself; else it goes up to where it fits beside the tail, as
+   ansi_str_cut has it, and the tail stands after it as it is. A tail that is wider than `width` is left out. What is open
+   at the end of the text is ended before the tail: its link (OSC 8), and then its style. It is at most tail_len +
+   ANSI_STR_LONGEST_LINK_END + ANSI_STR_LONGEST_CLOSE bytes longer than the text. ANSI_STR_NOT_UTF8: the text or the tail
+   isn't UTF-8. Takes memory where something is written after what stays of the text.
+   "\x1b[31mabcdef\x1b[39m" in 4 columns with "..." gives "\x1b[31ma\x1b[39m...". */
+static inline ansi_str_answer ansi_str_truncate(const char *text, size_t text_len, size_t width, const char *tail,
+                                                size_t tail_len, char *buffer, size_t buffer_len) {
+    return ansi_str_raw_truncate(ansi_str_bytes(text), text_len, width, ansi_str_bytes(tail), tail_len,
+                                 ansi_str_room(buffer), buffer_len);
+}
+
+/* The text, filled up with blanks to so many columns, to be shown; of an odd number of blanks, ANSI_STR_CENTER puts one more
+   after the text. What is open at the end of the text is ended before the blanks: its link (OSC 8), and then its style. A
+   text that is as wide or wider gets no blanks. It is at most width + ANSI_STR_LONGEST_LINK_END + ANSI_STR_LONGEST_CLOSE
+   bytes longer than the text. ANSI_STR_REFUSED: there is no such alignment. Takes memory where blanks or an end are written.
+   "\x1b[41mab" in 5 columns with ANSI_STR_CENTER gives " \x1b[41mab\x1b[49m  ". */
+static inline ansi_str_answer ansi_str_pad(const char *text, size_t text_len, size_t width, uint32_t alignment,
+                                           char *buffer, size_t buffer_len) {
+    return ansi_str_raw_pad(ansi_str_bytes(text), text_len, width, alignment, ansi_str_room(buffer), buffer_len);
 }
 
 #ifdef __cplusplus
