@@ -159,6 +159,18 @@ static PyObject *edit(PyObject *module, PyObject *words) {
     return answer;
 }
 
+/* (text): its plain text. */
+static PyObject *strip(PyObject *module, PyObject *given) {
+    Text text = text_of(given), plain;
+    PyObject *answer = NULL;
+    (void)module;
+    if (make_plain(&text, &plain)) {
+        answer = decoded(plain.bytes, plain.size);
+        Py_DECREF(plain.object);
+    }
+    return answer;
+}
+
 static ansi_str_answer ask(int what, const Text *text, const Text *pattern) {
     switch (what) {
     case STARTS_WITH:
@@ -314,7 +326,7 @@ static PyObject *sequences(PyObject *module, PyObject *style) {
 
 static PyMethodDef calls[] = {
     {"edit", edit, METH_VARARGS, NULL}, {"tell", tell, METH_VARARGS, NULL},    {"walk", walk, METH_VARARGS, NULL},
-    {"sequences", sequences, METH_O, NULL}, {NULL, NULL, 0, NULL},
+    {"strip", strip, METH_O, NULL},     {"sequences", sequences, METH_O, NULL}, {NULL, NULL, 0, NULL},
 };
 
 static struct PyModuleDef definition = {PyModuleDef_HEAD_INIT, "_ansi_str", NULL, -1, calls, NULL, NULL, NULL, NULL};
