@@ -43,7 +43,7 @@ _FIXED, _RGB = 19, 20
 _STYLE = struct.Struct("=I I4B I4B ?")
 
 # the kinds of edits, the last position, and what is told of a text
-_CUT, _LEFT, _RIGHT, _PART, _PREFIX, _SUFFIX, _TRIM, _STRIP, _TRUNCATE, _PAD = range(10)
+_CUT, _LEFT, _RIGHT, _PART, _PREFIX, _SUFFIX, _TRIM, _TRUNCATE, _PAD = range(9)
 _LAST = sys.maxsize
 _STARTS_WITH, _ENDS_WITH, _HAS_ANY, _IS_WHOLE, _FIND, _FITTING, _WIDTH = range(7)
 
@@ -115,7 +115,7 @@ def strip(text: str) -> str:
     'ab'
     """
     data = _utf8("text", text)
-    return text if b"\x1b" not in data else _library.edit(data, True, ((_STRIP, 0, 0, b""),))  # type: ignore[no-any-return]
+    return text if b"\x1b" not in data else _library.strip(data)  # type: ignore[no-any-return]
 
 
 def cut(text: str, start: int = 0, end: Optional[int] = None) -> str:

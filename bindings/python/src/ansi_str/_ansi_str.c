@@ -10,7 +10,7 @@
 enum { LONG = 1 << 16 };
 
 /* kinds beside those of edits */
-enum { STRIP = ANSI_STR_EDIT_TRIM + 1, TRUNCATE, PAD };
+enum { TRUNCATE = ANSI_STR_EDIT_TRIM + 1, PAD, STRIP };
 
 /* what a call tells of a text: up to IS_WHOLE whether it is so, then a position, and its columns */
 enum { STARTS_WITH, ENDS_WITH, HAS_ANY, IS_WHOLE, FIND, FITTING, WIDTH };
@@ -161,6 +161,18 @@ static PyObject *edit(PyObject *module, PyObject *words) {
     }
     answer = decoded(text.bytes, text.size);
     Py_DECREF(text.object);
+    return answer;
+}
+
+/* (text): its plain text. */
+static PyObject *strip(PyObject *module, PyObject *given) {
+    Text text = text_of(given), plain;
+    PyObject *answer = NULL;
+    (void)module;
+    if (make_plain(&text, &plain)) {
+        answer = decoded(plain.bytes, plain.size);
+        Py_DECREF(plain.object);
+    }
     return answer;
 }
 
@@ -325,7 +337,7 @@ static PyObject *sequences(PyObject *module, PyObject *style) {
 
 static PyMethodDef calls[] = {
     {"edit", edit, METH_VARARGS, NULL}, {"tell", tell, METH_VARARGS, NULL},    {"walk", walk, METH_VARARGS, NULL},
-    {"sequences", sequences, METH_O, NULL}, {NULL, NULL, 0, NULL},
+    {"strip", strip, METH_O, NULL},     {"sequences", sequences, METH_O, NULL}, {NULL, NULL, 0, NULL},
 };
 
 static struct PyModuleDef definition = {PyModuleDef_HEAD_INIT, "_ansi_str", NULL, -1, calls, NULL, NULL, NULL, NULL};
