@@ -11,7 +11,11 @@ import unittest
 import ansi_str
 
 ROWS = os.path.join(os.path.dirname(os.path.abspath(__file__)), "../../crates/ansi_rows/stdin")
+COLUMNS = os.path.join(os.path.dirname(ROWS), "../ansi_columns_rows/stdin")
 KINDS = [ansi_str.Cut, ansi_str.Left, ansi_str.Right, ansi_str.Part, ansi_str.Prefix, ansi_str.Suffix, ansi_str.Trim]
+
+
+ESCAPES = {"e": "\x1b", "a": "\a", "n": "\n", "r": "\r", "t": "\t"}
 
 
 def expanded(line):
@@ -99,6 +103,31 @@ class Rows(unittest.TestCase):
             passed += 1
         self.assertGreater(passed, 150)
 
+    def test_columns(self):
+        passed = 0
+        with open(COLUMNS, encoding="utf-8") as file:
+            for line in file.read().split("\n"):
+                if not line or line.startswith("#"):
+                    continue
+                call, text, words, want = line.split("\t")[:4]
+                text, want = (re.sub(r"\\(.)", lambda found: ESCAPES.get(found[1], found[1]), field) for field in (text, want))
+                width, _, word = words.partition(" ")
+                word = "" if word == '""' else word
+                if call == "width":
+                    self.assertEqual(ansi_str.width(text), int(want), line)
+                elif call == "fitting":
+                    self.assertEqual(ansi_str.fitting(text, int(width)), in_characters(ansi_str.strip(text), int(want)), line)
+                elif call == "front":
+                    self.assertEqual(ansi_str.cut(text, 0, ansi_str.fitting(text, int(width))), want, line)
+                elif call == "truncate":
+                    self.assertEqual(ansi_str.truncate(text, int(width), word), want, line)
+                elif call == "pad":
+                    self.assertEqual(ansi_str.pad(text, int(width), word.lower()), want, line)
+                else:
+                    continue
+                passed += 1
+        self.assertGreater(passed, 60)
+
     def test_positions_count_characters(self):
         self.assertEqual(ansi_str.cut("\x1b[1méa\x1b[0m", 1), "\x1b[1ma\x1b[0m")
         self.assertEqual(ansi_str.cut("abc", 10), "")
@@ -108,7 +137,7 @@ class Rows(unittest.TestCase):
 
 # each call that takes a text, and what stands for its other arguments
 CALLS = {"strip": [], "cut": [0], "left": [0], "right": [0], "part": [",", 0], "strip_prefix": [""], "strip_suffix": [""],
-         "trim": [], "find": [""], "starts_with": [""], "ends_with": [""], "has_any": [], "is_whole": [], "split": [","],
+         "trim": [], "width": [], "fitting": [1], "truncate": [1], "pad": [1], "find": [""], "starts_with": [""], "ends_with": [""], "has_any": [], "is_whole": [], "split": [","],
          "iter_split": [","], "blocks": [], "iter_blocks": [], "edit": [[]]}
 PATTERNED = ["part", "strip_prefix", "strip_suffix", "find", "starts_with", "ends_with", "split", "iter_split"]
 HUGE = [2**31, 2**63 - 1, 2**63, 2**64 - 1, 2**64, 2**64 + 1, 2**200]
@@ -152,11 +181,16 @@ class Arguments(unittest.TestCase):
                 # (also after an edit that is refused)
                 self.refused(kind, "end " + words, ansi_str.edit, text, [ansi_str.Prefix("z"), ansi_str.Cut(0, wrong)])
                 self.refused(kind, "index " + words, ansi_str.part, text, ",", wrong)
+                for call in (ansi_str.fitting, ansi_str.truncate, ansi_str.pad):
+                    self.refused(kind, "width " + words, call, text, wrong)
                 self.refused(kind, "index " + words, ansi_str.edit, text, [ansi_str.Part(",", wrong)])
                 for name, step in (("left", ansi_str.Left), ("right", ansi_str.Right)):
                     self.refused(kind, "mid " + words, getattr(ansi_str, name), text, wrong)
                     self.refused(kind, "mid " + words, ansi_str.edit, text, step(wrong))
         self.refused(TypeError, "start must be an int, not NoneType", ansi_str.cut, "abc", None)
+        self.refused(TypeError, "tail must be a str, not bytes", ansi_str.truncate, "abc", 1, b"")
+        for wrong in ("Left", "", None, 0):
+            self.refused(ValueError, "alignment must be one of left, center, right", ansi_str.pad, "abc", 1, wrong)
 
     def test_positions_past_the_end(self):
         for plain in ("abc", "é", ""):
@@ -167,6 +201,10 @@ class Arguments(unittest.TestCase):
                     self.assertEqual(ansi_str.strip(ansi_str.cut(text, huge, huge)), "")
                     self.assertEqual(ansi_str.strip(ansi_str.left(text, huge)), plain)
                     self.assertEqual(ansi_str.strip(ansi_str.right(text, huge)), "")
+                    self.assertEqual(ansi_str.fitting(text, huge), len(plain))
+                    self.assertEqual(ansi_str.strip(ansi_str.truncate(text, huge)), plain)
+                    with self.assertRaises(MemoryError):
+                        ansi_str.pad(text, max(huge, 2**62))
                     self.assertIsNone(ansi_str.part(text, ",", huge))
                     self.assertIsNone(ansi_str.part(text, "", huge))
                     self.assertIsNone(ansi_str.edit(text, ansi_str.Cut(huge + 1, huge)))

@@ -11,10 +11,10 @@ ALLOCATOR = ctypes.CDLL(None)
 ALLOCATOR.held.restype = ctypes.c_long
 TEXTS = ["", "red, fox", "\x1b[1;31mred\x1b]0;t\x07, \x1b[4mfox\x1b[0m", "\x1b[1mr\u00e9d\x1b[0m, \u65e5\x1b[31m", "\x1b[1m,\x1b[3ma" * 40]
 STYLES = [style for text in TEXTS for _, style in _library.walk(text.encode())]
-CUT, LEFT, RIGHT, PART, PREFIX, SUFFIX, TRIM, STRIP = range(8)
+CUT, LEFT, RIGHT, PART, PREFIX, SUFFIX, TRIM, TRUNCATE, PAD = range(9)
 STEPS = [(CUT, 1, 4, b""), (LEFT, 3, 0, b""), (RIGHT, 3, 0, b""), (PART, 1, 0, b","), (PREFIX, 0, 0, b"r"), (SUFFIX, 0, 0, b"x"),
-         (TRIM, 0, 0, b""), (STRIP, 0, 0, b"")]
-WHAT = range(5)
+         (TRIM, 0, 0, b""), (TRUNCATE, 3, 0, b"..."), (PAD, 300, 1, b"")]
+WHAT = range(7)
 # so often each request is refused, and what the interpreter may keep for later calls
 TIMES, KEPT = 40, 20
 
@@ -25,8 +25,9 @@ def calls():
         is_ascii = len(data) == len(text)
         for steps in [(step,) for step in STEPS] + [(), tuple(STEPS[:1] + STEPS[2:3] + STEPS[6:])]:
             yield lambda: _library.edit(data, is_ascii, steps)
+        yield lambda: _library.strip(data)
         for what in WHAT:
-            yield lambda: _library.tell(what, data, is_ascii, b"o")
+            yield lambda: _library.tell(what, data, is_ascii, b"o", 3)
         for pattern in (b"", b",", b"fox"):
             yield lambda: list(_library.walk(data, pattern))
         yield lambda: list(_library.walk(data))

@@ -175,6 +175,25 @@ extern "C" {
         b: Room,
         m: usize,
     ) -> Answer;
+    fn ansi_str_raw_width(t: Bytes, n: usize) -> Answer;
+    fn ansi_str_raw_fitting(t: Bytes, n: usize, width: usize) -> Answer;
+    fn ansi_str_raw_truncate(
+        t: Bytes,
+        n: usize,
+        width: usize,
+        p: Bytes,
+        k: usize,
+        b: Room,
+        m: usize,
+    ) -> Answer;
+    fn ansi_str_raw_pad(
+        t: Bytes,
+        n: usize,
+        width: usize,
+        alignment: u32,
+        b: Room,
+        m: usize,
+    ) -> Answer;
     fn ansi_str_raw_style_start(style: *const Numbers, b: Room, m: usize) -> Answer;
     fn ansi_str_raw_style_end(style: *const Numbers, b: Room, m: usize) -> Answer;
 }
@@ -360,6 +379,27 @@ pub(crate) fn is_char_boundary(text: &str, index: usize) -> bool {
 
 pub(crate) fn floor_char_boundary(text: &str, index: usize) -> usize {
     unsafe { ansi_str_raw_floor_char_boundary_unchecked(text.as_ptr(), text.len(), index) }.len
+}
+
+pub(crate) fn width(text: &str) -> usize {
+    unsafe { ansi_str_raw_width(text.as_ptr(), text.len()) }.len
+}
+
+pub(crate) fn fitting(text: &str, width: usize) -> usize {
+    unsafe { ansi_str_raw_fitting(text.as_ptr(), text.len(), width) }.len
+}
+
+pub(crate) fn truncate(text: &str, width: usize, tail: &str) -> String {
+    let (tail, tail_len) = (tail.as_ptr(), tail.len());
+    always(written(text.len() + LONGEST_CLOSE, |b, m| unsafe {
+        ansi_str_raw_truncate(text.as_ptr(), text.len(), width, tail, tail_len, b, m)
+    }))
+}
+
+pub(crate) fn pad(text: &str, width: usize, alignment: u32) -> String {
+    always(written(text.len() + LONGEST_CLOSE, |b, m| unsafe {
+        ansi_str_raw_pad(text.as_ptr(), text.len(), width, alignment, b, m)
+    }))
 }
 
 /// The parts that are left of a text.

@@ -22,6 +22,7 @@
 
 mod blocks;
 mod calls;
+pub mod columns;
 mod style;
 
 pub use blocks::{get_blocks, AnsiBlock, AnsiBlockIter};

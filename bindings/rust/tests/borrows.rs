@@ -70,7 +70,7 @@ fn an_answer_keeps_little_more_room_than_it_needs() {
 fn iterators_pass_between_threads() {
     fn parts_and_blocks<T: Send + Sync + Clone>(_: &T) {}
     let text = "\x1b[1ma,b";
-    let (mut parts, mut blocks) = (text.ansi_split(","), get_blocks(text));
+    let (mut parts, blocks) = (text.ansi_split(","), get_blocks(text));
     parts_and_blocks(&parts);
     parts_and_blocks(&blocks);
     // a copy goes on by itself

@@ -26,6 +26,7 @@ from typing import Any, FrozenSet, Iterable, Iterator, List, NamedTuple, Optiona
 __version__ = "0.2.0"
 __all__ = [
     "strip", "cut", "left", "right", "part", "strip_prefix", "strip_suffix", "trim",
+    "width", "fitting", "truncate", "pad", "ALIGNMENTS",
     "find", "starts_with", "ends_with", "has_any", "is_whole",
     "split", "iter_split", "blocks", "iter_blocks", "Block", "Style", "ATTRIBUTES", "COLORS",
     "edit", "Edit", "Cut", "Left", "Right", "Part", "Prefix", "Suffix", "Trim",
@@ -34,6 +35,7 @@ __all__ = [
 ATTRIBUTES = ("bold", "faint", "italic", "underline", "slow_blink", "rapid_blink", "inverse", "hide", "crossedout", "fraktur")
 COLORS = ("Black", "BrightBlack", "Red", "BrightRed", "Green", "BrightGreen", "Yellow", "BrightYellow", "Blue", "BrightBlue",
           "Purple", "BrightPurple", "Magenta", "BrightMagenta", "Cyan", "BrightCyan", "White", "BrightWhite")
+ALIGNMENTS = ("left", "center", "right")
 _FIXED, _RGB = 19, 20
 
 # the attributes, two colors of a kind, a number, red, green and blue, whether there is something to end, and more that is the
@@ -41,9 +43,9 @@ _FIXED, _RGB = 19, 20
 _STYLE = struct.Struct("=I I4B I4B ?")
 
 # the kinds of edits, the last position, and what is told of a text
-_CUT, _LEFT, _RIGHT, _PART, _PREFIX, _SUFFIX, _TRIM, _STRIP = range(8)
+_CUT, _LEFT, _RIGHT, _PART, _PREFIX, _SUFFIX, _TRIM, _TRUNCATE, _PAD = range(9)
 _LAST = sys.maxsize
-_STARTS_WITH, _ENDS_WITH, _HAS_ANY, _IS_WHOLE, _FIND = range(5)
+_STARTS_WITH, _ENDS_WITH, _HAS_ANY, _IS_WHOLE, _FIND, _FITTING, _WIDTH = range(7)
 
 
 def _loaded() -> Any:
@@ -101,9 +103,9 @@ def _edited(text: str, *steps: _Step) -> Any:
     return _library.edit(data, len(data) == len(text), steps)
 
 
-def _told(what: int, text: str, pattern: str = "") -> Any:
+def _told(what: int, text: str, pattern: str = "", width: int = 0) -> Any:
     data = _utf8("text", text)
-    return _library.tell(what, data, len(data) == len(text), _utf8("pattern", pattern))
+    return _library.tell(what, data, len(data) == len(text), _utf8("pattern", pattern), _position("width", width))
 
 
 def strip(text: str) -> str:
@@ -113,7 +115,7 @@ def strip(text: str) -> str:
     'ab'
     """
     data = _utf8("text", text)
-    return text if b"\x1b" not in data else _library.edit(data, True, ((_STRIP, 0, 0, b""),))  # type: ignore[no-any-return]
+    return text if b"\x1b" not in data else _library.strip(data)  # type: ignore[no-any-return]
 
 
 def cut(text: str, start: int = 0, end: Optional[int] = None) -> str:
@@ -225,6 +227,47 @@ def is_whole(text: str) -> bool:
     (True, False)
     """
     return _told(_IS_WHOLE, text)  # type: ignore[no-any-return]
+
+
+def width(text: str) -> int:
+    """The columns that the text has in a terminal: those of the extended grapheme clusters of its plain text, added up.
+
+    >>> width("\\x1b[31m日本\\x1b[39m")
+    4
+    """
+    return _told(_WIDTH, text)  # type: ignore[no-any-return]
+
+
+def fitting(text: str, width: int) -> int:
+    """The position up to which the plain text fits into so many columns, at which the text can be cut.
+
+    >>> fitting("a\\x1b[1m日本", 4)
+    2
+    """
+    return _told(_FITTING, text, "", width)  # type: ignore[no-any-return]
+
+
+def truncate(text: str, width: int, tail: str = "") -> str:
+    """The text cut to so many columns, to be shown, and a tail where it is cut and the tail fits. What is open at the end of the
+    text is ended before the tail: its link (OSC 8), and then its style.
+
+    >>> truncate("\\x1b[31mabcdef\\x1b[39m", 4, "...")
+    '\\x1b[31ma\\x1b[39m...'
+    """
+    return _edited(text, (_TRUNCATE, _position("width", width), 0, _utf8("tail", tail)))  # type: ignore[no-any-return]
+
+
+def pad(text: str, width: int, alignment: str = "left") -> str:
+    """The text, filled up with blanks to so many columns, to be shown: it stands at the left, at the center or at the right of
+    them. What is open at its end is ended before the blanks. ValueError: the alignment is none of ALIGNMENTS.
+
+    >>> pad("\\x1b[41mab", 5, "center")
+    ' \\x1b[41mab\\x1b[49m  '
+    """
+    if alignment not in ALIGNMENTS:
+        raise ValueError("alignment must be one of {}, not {!r}".format(", ".join(ALIGNMENTS), alignment))
+    step = _PAD, _position("width", width), ALIGNMENTS.index(alignment), b""
+    return _edited(text, step)  # type: ignore[no-any-return]
 
 
 class Cut(NamedTuple):

@@ -9,11 +9,11 @@
 /* what other threads may run beside: texts of so many bytes, or more */
 enum { LONG = 1 << 16 };
 
-/* a kind beside those of edits */
-enum { STRIP = ANSI_STR_EDIT_TRIM + 1 };
+/* kinds beside those of edits */
+enum { TRUNCATE = ANSI_STR_EDIT_TRIM + 1, PAD, STRIP };
 
-/* what a call tells of a text: up to IS_WHOLE whether it is so, and then a position */
-enum { STARTS_WITH, ENDS_WITH, HAS_ANY, IS_WHOLE, FIND };
+/* what a call tells of a text: up to IS_WHOLE whether it is so, then a position, and its columns */
+enum { STARTS_WITH, ENDS_WITH, HAS_ANY, IS_WHOLE, FIND, FITTING, WIDTH };
 
 /* a text at the front of a `bytes` that holds it */
 typedef struct {
@@ -48,6 +48,11 @@ static ansi_str_answer write_step(const Text *text, const ansi_str_edit_step *st
     switch (step->kind) {
     case STRIP:
         return ansi_str_raw_strip_unchecked(text->bytes, text->size, room->bytes, room->size);
+    case TRUNCATE:
+        return ansi_str_raw_truncate(text->bytes, text->size, step->first, step->pattern, step->pattern_len, room->bytes,
+                                     room->size);
+    case PAD:
+        return ansi_str_raw_pad(text->bytes, text->size, step->first, (uint32_t)step->second, room->bytes, room->size);
     default:
         return ansi_str_raw_edit(text->bytes, text->size, step, 1, room->bytes, room->size);
     }
@@ -159,7 +164,19 @@ static PyObject *edit(PyObject *module, PyObject *words) {
     return answer;
 }
 
-static ansi_str_answer ask(int what, const Text *text, const Text *pattern) {
+/* (text): its plain text. */
+static PyObject *strip(PyObject *module, PyObject *given) {
+    Text text = text_of(given), plain;
+    PyObject *answer = NULL;
+    (void)module;
+    if (make_plain(&text, &plain)) {
+        answer = decoded(plain.bytes, plain.size);
+        Py_DECREF(plain.object);
+    }
+    return answer;
+}
+
+static ansi_str_answer ask(int what, const Text *text, const Text *pattern, size_t width) {
     switch (what) {
     case STARTS_WITH:
         return ansi_str_raw_starts_with_unchecked(text->bytes, text->size, pattern->bytes, pattern->size);
@@ -169,27 +186,33 @@ static ansi_str_answer ask(int what, const Text *text, const Text *pattern) {
         return ansi_str_raw_has_any(text->bytes, text->size);
     case IS_WHOLE:
         return ansi_str_raw_is_whole(text->bytes, text->size);
+    case FITTING:
+        return ansi_str_raw_fitting(text->bytes, text->size, width);
+    case WIDTH:
+        return ansi_str_raw_width(text->bytes, text->size);
     default:
         return ansi_str_raw_find_unchecked(text->bytes, text->size, pattern->bytes, pattern->size);
     }
 }
 
-/* (what, text, is_ascii, pattern): whether it is so, or a position in characters, or None. */
+/* (what, text, is_ascii, pattern, width): whether it is so, or a position in characters, or None, or columns. */
 static PyObject *tell(PyObject *module, PyObject *words) {
     int what, is_ascii;
-    PyObject *given, *sought;
+    PyObject *given, *sought, *width;
     Text text, pattern;
     ansi_str_answer answer;
     PyThreadState *thread;
     Py_ssize_t position;
+    size_t most;
     (void)module;
-    if (!PyArg_ParseTuple(words, "iSpS", &what, &given, &is_ascii, &sought)) {
+    if (!PyArg_ParseTuple(words, "iSpSO", &what, &given, &is_ascii, &sought, &width)) {
         return NULL;
     }
     text = text_of(given);
     pattern = text_of(sought);
+    most = (size_t)PyNumber_AsSsize_t(width, NULL);
     thread = let_others_run(text.size);
-    answer = ask(what, &text, &pattern);
+    answer = ask(what, &text, &pattern, most);
     run_alone(thread);
     if (what <= IS_WHOLE) {
         return PyBool_FromLong(answer.status == ANSI_STR_OK);
@@ -197,7 +220,7 @@ static PyObject *tell(PyObject *module, PyObject *words) {
     if (answer.status != ANSI_STR_OK) {
         return none_or_error();
     }
-    position = is_ascii ? (Py_ssize_t)answer.len : characters_before(&text, answer.len);
+    position = is_ascii || what == WIDTH ? (Py_ssize_t)answer.len : characters_before(&text, answer.len);
     return position < 0 ? NULL : PyLong_FromSsize_t(position);
 }
 
@@ -314,7 +337,7 @@ static PyObject *sequences(PyObject *module, PyObject *style) {
 
 static PyMethodDef calls[] = {
     {"edit", edit, METH_VARARGS, NULL}, {"tell", tell, METH_VARARGS, NULL},    {"walk", walk, METH_VARARGS, NULL},
-    {"sequences", sequences, METH_O, NULL}, {NULL, NULL, 0, NULL},
+    {"strip", strip, METH_O, NULL},     {"sequences", sequences, METH_O, NULL}, {NULL, NULL, 0, NULL},
 };
 
 static struct PyModuleDef definition = {PyModuleDef_HEAD_INIT, "_ansi_str", NULL, -1, calls, NULL, NULL, NULL, NULL};
