@@ -81,7 +81,9 @@ fn lines_example(rt: HostRuntime) {
 fn ansi_wrap_example(rt: HostRuntime) -> Result<(), Fail> {
     let mut lines = "\x1b[31mlion tiger".ansi_wrap(rt.alloc(), 5);
     assert!(rt; matches!(&lines.next(), Some(Ok(line)) if line.as_str() == "\x1b[31mlion\x1b[39m"));
-    assert!(rt; matches!(&lines.next(), Some(Ok(line)) if line.as_str() == "\x1b[31mtiger\x1b[39m"));
+    assert!(rt;
+        matches!(&lines.next(), Some(Ok(line)) if line.as_str() == "\x1b[31mtiger\x1b[39m")
+    );
     assert!(rt; matches!(&lines.next(), None));
     Ok(())
 }
