@@ -24,3 +24,4 @@ pub mod SeamLawLemmas
 pub mod LeftOutLawLemmas
 pub mod WrapLemmas
 pub mod ShownLawLemmas
+pub mod WrapLawLemmas

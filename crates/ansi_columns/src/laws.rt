@@ -2,15 +2,18 @@
 //!
 //! Each function carries one law as its contract, does nothing and answers nothing. A body that needs the
 //! law calls it. (Own.)
-ghost use Rattle.std.specs.Prelude.{◌≡◌, ◌<◌, ◌≤◌, ◌+◌, ◌-◌, ◌++◌, ℕ, min, max, List, [], length, take, slice_get, Some, option_map, if◌then◌else◌, IsTrue};
+ghost use Rattle.std.specs.Prelude.{◌≡◌, ◌<◌, ◌≤◌, ◌+◌, ◌-◌, ◌++◌, ℕ, min, max, List, [], length, take, slice_get, Some, option_map, if◌then◌else◌, IsTrue, All};
 ghost use Rattle.std.specs.List.{list_all};
 ghost use Rattle.std.specs.Int.{is_in_range};
 ghost use Rattle.std.specs.Str.{IsUtf8};
 ghost use Rattle.ansi_items.specs.Plain.{plain, is_whole};
+ghost use Rattle.ansi_style.specs.Rendition.{plain_style};
+ghost use Rattle.ansi_style.specs.Styled.{residue};
 ghost use Rattle.ansi_columns.specs.declared.shown.Alignment.{Alignment};
 ghost use Rattle.ansi_columns.specs.Columns.{clusters, columns, FitsUpTo, IsClusterBoundary};
 ghost use Rattle.ansi_columns.specs.Lines.{lines, AreLinesFrom, put_back};
 ghost use Rattle.ansi_columns.specs.Shown.{has_tail, truncated_end, truncated, missing, before_text, blanks, padded};
+ghost use Rattle.ansi_columns.specs.Wrapped.{wrapped};
 
 /// Printable ASCII is as wide as it is long.
 pub fn printable_is_as_wide_as_long()
@@ -59,4 +62,10 @@ pub fn padded_fills()
     ensures plain { (t : List ℕ) (width : ℕ) (alignment : Alignment) → IsTrue (is_whole t) → plain (padded t width alignment) ≡ blanks (before_text alignment (missing t width)) ++ plain t ++ blanks (missing t width - before_text alignment (missing t width)) }
     ensures columns { (t : List ℕ) (width : ℕ) (alignment : Alignment) → IsTrue (list_all (is_in_range 0x20 0x7E) (plain t)) → IsTrue (is_whole t) → columns (plain (padded t width alignment)) ≡ max (columns (plain t)) width }
     ensures fills { (t : List ℕ) (width : ℕ) (alignment : Alignment) → IsUtf8 t → IsTrue (is_whole t) → IsClusterBoundary (plain (padded t width alignment)) (before_text alignment (missing t width)) → IsClusterBoundary (plain (padded t width alignment)) (before_text alignment (missing t width) + length (plain t)) → columns (plain (padded t width alignment)) ≡ max (columns (plain t)) width }
+{}
+
+/// Each line of a wrapped whole text is whole, and leaves no known style open.
+pub fn wrapped_lines_are_whole()
+    ensures whole { (t : List ℕ) (width : ℕ) → IsTrue (is_whole t) → All (λ l. IsTrue (is_whole l.bytes)) (wrapped t width) }
+    ensures closed { (t : List ℕ) (width : ℕ) → IsTrue (is_whole t) → All (λ l. residue l.bytes ≡ plain_style) (wrapped t width) }
 {}
