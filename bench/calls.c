@@ -139,6 +139,14 @@ static size_t parts(const struct text *t) {
     }
     return answer.status == ANSI_STR_NO ? count : SIZE_MAX;
 }
+static size_t width(const struct text *t) { return len_of(ansi_str_width(t->bytes, t->len)); }
+static size_t fitting(const struct text *t) { return len_of(ansi_str_fitting(t->bytes, t->len, t->len)); }
+static size_t truncate_to(const struct text *t) {
+    return len_of(ansi_str_truncate(t->bytes, t->len, t->plain_len / 2, t->pattern, t->pattern_len, NULL, 0));
+}
+static size_t pad(const struct text *t) {
+    return len_of(ansi_str_pad(t->bytes, t->len, t->plain_len + 8, ANSI_STR_RIGHT, NULL, 0));
+}
 
 /* appends a piece, and its plain bytes, while it fits into so many bytes */
 static void append(struct text *t, const char *piece, size_t limit) {
@@ -240,6 +248,10 @@ static const struct call SPLIT = {"split", split, WORD, " "};
 static const struct call PARTS = {"parts one by one", parts, WORD, " "};
 static const struct call BLOCKS = {"blocks", blocks, NONE, NULL};
 static const struct call WALK = {"blocks one by one", walk, NONE, NULL};
+static const struct call WIDTH = {"width", width, NONE, NULL};
+static const struct call FITTING = {"fitting", fitting, NONE, NULL};
+static const struct call TRUNCATE = {"truncate", truncate_to, WORD, "..."};
+static const struct call PAD = {"pad", pad, NONE, NULL};
 
 static const struct row {
     const struct call *call;
@@ -261,6 +273,7 @@ static const struct row {
     {&PARTS, &PLAIN}, {&PARTS, &LOG}, {&PARTS, &WORDS},
     {&BLOCKS, &LOG}, {&BLOCKS, &SHORT_SEQUENCES}, {&BLOCKS, &TAIL},
     {&WALK, &LOG}, {&WALK, &SHORT_SEQUENCES}, {&WALK, &TAIL},
+    {&WIDTH, &PLAIN}, {&WIDTH, &LOG}, {&FITTING, &LOG}, {&TRUNCATE, &LOG}, {&PAD, &LOG},
 };
 
 enum { ROW_COUNT = sizeof ROWS / sizeof ROWS[0] };

@@ -43,8 +43,18 @@ struct call {
 
 TEXT(strip) TEXT(trim) TEXT(strip_prefix, p.at, p.len) TEXT(strip_suffix, p.at, p.len) TEXT(part, p.at, p.len, n)
 QUESTION(has_any) QUESTION(is_whole) QUESTION(is_char_boundary, n) QUESTION(floor_char_boundary, n)
+QUESTION(width) QUESTION(fitting, n)
 QUESTION(starts_with, p.at, p.len) QUESTION(ends_with, p.at, p.len) QUESTION(find, p.at, p.len)
 
+/* cut to as many columns as a position (`truncate` is a name of POSIX) */
+static size_t truncate_to(struct bytes t, size_t n, struct bytes p) {
+    return len_of(ansi_str_truncate(t.at, t.len, n, p.at, p.len, NULL, 0));
+}
+/* filled up to as many columns as a position, but to twice as many as LONG at most */
+static size_t pad(struct bytes t, size_t n, struct bytes p) {
+    (void)p;
+    return len_of(ansi_str_pad(t.at, t.len, n > 2 * LONG ? 2 * LONG : n, ANSI_STR_CENTER, NULL, 0));
+}
 /* from a position to the end, and from the start to a position */
 static size_t cut_from(struct bytes t, size_t n, struct bytes p) {
     (void)p;
@@ -82,6 +92,7 @@ static const struct call CALLS[] = {
     {"edit", edit, 1, 0, 0}, {"is_char_boundary", is_char_boundary, 1, 0, 0},
     {"floor_char_boundary", floor_char_boundary, 1, 0, 0}, {"starts_with", starts_with, 0, 1, 0},
     {"ends_with", ends_with, 0, 1, 0}, {"strip_prefix", strip_prefix, 0, 1, 0}, {"strip_suffix", strip_suffix, 0, 1, 0},
+    {"width", width, 0, 0, 0}, {"fitting", fitting, 1, 0, 0}, {"truncate", truncate_to, 1, 1, 0}, {"pad", pad, 1, 0, 0},
     {"find", find, 0, 1, 0}, {"split", split, 0, 1, 1}, {"part", part, 1, 1, 0},
 };
 enum { CALL_COUNT = sizeof CALLS / sizeof CALLS[0] };

@@ -73,6 +73,8 @@ ASKS(is_char_boundary, ONE)
 ASKS(floor_char_boundary, ONE)
 ASKS(is_whole, NONE)
 ASKS(has_any, NONE)
+ASKS(width, NONE)
+ASKS(fitting, ONE)
 SEARCHES(find)
 SEARCHES(starts_with)
 SEARCHES(ends_with)
@@ -89,6 +91,15 @@ WRITES_BY_PATTERN(strip_suffix, NONE)
 WRITES_BY_PATTERN(part, ONE)
 LISTS_BLOCKS(blocks)
 LISTS_BLOCKS(styled_blocks)
+
+ansi_str_answer ansi_str_raw_truncate(TEXT, size_t i, PATTERN, BUFFER) {
+    return EXPECT_TEXT, EXPECT_ONE, EXPECT_PATTERN, EXPECT_BUFFER, ANSWER;
+}
+
+ansi_str_answer ansi_str_raw_pad(TEXT, size_t i, uint32_t alignment, BUFFER) {
+    expect("the alignment", __func__, alignment == ANSI_STR_RIGHT);
+    return EXPECT_TEXT, EXPECT_ONE, EXPECT_BUFFER, ANSWER;
+}
 
 ansi_str_style_answer ansi_str_raw_block_style(TEXT, size_t i) { return EXPECT_TEXT, EXPECT_ONE, STYLE; }
 
@@ -168,6 +179,10 @@ static void call_each(void) {
     ansi_str_find(GIVE_TEXT, GIVE_PATTERN);
     ansi_str_starts_with(GIVE_TEXT, GIVE_PATTERN);
     ansi_str_ends_with(GIVE_TEXT, GIVE_PATTERN);
+    ansi_str_width(GIVE_TEXT);
+    ansi_str_fitting(GIVE_TEXT, NUMBER(4));
+    ansi_str_truncate(GIVE_TEXT, NUMBER(4), GIVE_PATTERN, GIVE_BUFFER);
+    ansi_str_pad(GIVE_TEXT, NUMBER(4), ANSI_STR_RIGHT, GIVE_BUFFER);
     ansi_str_strip(GIVE_TEXT, GIVE_BUFFER);
     ansi_str_trim(GIVE_TEXT, GIVE_BUFFER);
     ansi_str_cut(GIVE_TEXT, NUMBER(4), NUMBER(5), GIVE_BUFFER);
