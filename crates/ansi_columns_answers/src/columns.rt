@@ -33,13 +33,7 @@ pub fn fitting(text: &str, width: usize) -> Answer
 
 /// Writes the text cut to so many columns.
 #[tactic(auto, unfolding(crate::specs::Columns::GivesTruncated))]
-pub fn truncate(
-    alloc: Global,
-    text: &str,
-    width: usize,
-    tail: &str,
-    buffer: &mut [u8],
-) -> Answer
+pub fn truncate(alloc: Global, text: &str, width: usize, tail: &str, buffer: &mut [u8]) -> Answer
     ensures { GivesTruncated text.now width tail.now result buffer.old buffer.new }
 {
     write_shown(shown::truncate(alloc, text, width, tail), buffer)
@@ -47,13 +41,7 @@ pub fn truncate(
 
 /// Writes the text filled up to so many columns, or answers that there is no such alignment.
 #[tactic(auto, unfolding(crate::specs::Columns::GivesPadded))]
-pub fn pad(
-    alloc: Global,
-    text: &str,
-    width: usize,
-    alignment: u32,
-    buffer: &mut [u8],
-) -> Answer
+pub fn pad(alloc: Global, text: &str, width: usize, alignment: u32, buffer: &mut [u8]) -> Answer
     ensures { GivesPadded text.now width (alignment_of alignment) result buffer.old buffer.new }
 {
     match alignment_of(alignment) {
