@@ -71,6 +71,9 @@ static size_t block_list(const struct text *t) {
     return count_of(ansi_str_blocks(t->bytes, t->len, NULL, 0, NULL, 0));
 }
 /* three edits: without the first byte, the first half, and without white space at its ends */
+static size_t columns(const struct text *t) { return len_of(ansi_str_width(t->bytes, t->len)); }
+static size_t truncated(const struct text *t) { return len_of(ansi_str_truncate(t->bytes, t->len, 40, "...", 3, buffer, room)); }
+static size_t padded(const struct text *t) { return len_of(ansi_str_pad(t->bytes, t->len, t->len, ANSI_STR_LEFT, buffer, room)); }
 static size_t edits(const struct text *t) {
     const ansi_str_edit_step steps[] = {ansi_str_edit_prefix(&t->first, 1), ansi_str_edit_cut(0, t->half - 1),
                                         ansi_str_edit_trim()};
@@ -101,6 +104,9 @@ static const struct call CALLS[] = {
     {"blocks", blocks, hand_walk},
     {"block_list", block_list, NULL},
     {"edits", edits, NULL},
+    {"width", columns, NULL},
+    {"truncate", truncated, NULL},
+    {"pad", padded, NULL},
 };
 
 enum { CALL_COUNT = sizeof CALLS / sizeof CALLS[0] };
