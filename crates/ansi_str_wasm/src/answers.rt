@@ -1,0 +1,64 @@
+//! What a call answers, and how it writes into a buffer.
+ghost use Rattle.std.specs.Prelude.{◌≡◌};
+ghost use Rattle.ansi_str_wasm.specs.Answers.{done, failed, told, IsWritten};
+
+
+/// It is done, or it is so.
+pub const OK: u32 = 0;
+/// It is not so, or there is no such thing.
+pub const NO: u32 = 1;
+/// The positions are bad, or an edit is refused.
+pub const REFUSED: u32 = 2;
+/// A text or a pattern isn't UTF-8.
+pub const NOT_UTF8: u32 = 3;
+/// The buffer is too small.
+pub const TOO_SMALL: u32 = 4;
+/// Memory has run out.
+pub const OUT_OF_MEMORY: u32 = 5;
+
+/// What a call answers: a status, and the length of what was written or found, or of what is too long
+/// for the buffer.
+#[repr(C)]
+#[derive(Clone, Copy)]
+pub struct Answer {
+    pub status: u32,
+    pub len: usize,
+}
+
+impl Answer {
+    /// The answer of a call that is done.
+    pub fn done(len: usize) -> Answer
+        ensures { result ≡ done len }
+    {
+        Answer { status: OK, len }
+    }
+
+    /// The answer of a call that gives nothing.
+    pub fn failed(status: u32) -> Answer
+        ensures { result ≡ failed status }
+    {
+        Answer { status, len: 0 }
+    }
+
+    /// The answer to a question.
+    pub fn told(is_so: bool) -> Answer
+        ensures { result ≡ told is_so }
+    {
+        Answer::failed(if is_so { OK } else { NO })
+    }
+}
+
+/// Writes a text at the front of a buffer, where there is room for it.
+pub fn write(text: &[u8], buffer: &mut [u8]) -> Answer
+    ensures { IsWritten text.now result buffer.old buffer.new }
+{
+    let len = text.len();
+    if len > buffer.len() {
+        return Answer {
+            status: TOO_SMALL,
+            len,
+        };
+    }
+    buffer[..len].copy_from_slice(text);
+    Answer::done(len)
+}
