@@ -18,13 +18,13 @@ function textOf(name, value) {
 }
 
 function numberOf(name, value) {
-  if (!Number.isSafeInteger(value)) {
+  if (!Number.isInteger(value)) {
     throw new TypeError(`the ${name} must be a whole number`);
   }
   if (value < 0) {
     throw new RangeError(`the ${name} is below 0: ${value}`);
   }
-  return value;
+  return Math.min(value, END);
 }
 
 // (each character of ASCII is one byte and one unit, so a position in units is one in bytes)
@@ -42,7 +42,7 @@ function bytesOf(text) {
 /** A position in units of the plain text as one in its bytes. Between two surrogates it is one inside their character. */
 function placeOf(plain, position) {
   if (position >= plain.length) {
-    return Math.min(bytesOf(plain) + position - plain.length, END);
+    return bytesOf(plain) + position - plain.length;
   }
   const before = plain.slice(0, position);
   return before.isWellFormed() ? bytesOf(before) : bytesOf(before.slice(0, -1)) + 2;

@@ -50,6 +50,14 @@ if (!WebAssembly.validate(new Uint8Array([0, 97, 115, 109, 1, 0, 0, 0, 5, 3, 1, 
 const module = await compiled();
 let instance = null;
 
+// (Node 20 takes a number of pages)
+let pagesOf = BigInt;
+try {
+  new WebAssembly.Instance(module).exports.memory.grow(0n);
+} catch {
+  pagesOf = Number;
+}
+
 const padded = (size, unit) => Math.ceil(size / unit) * unit;
 
 /** The first byte of the module's memory that it doesn't use itself, and the memory, which has at least so many bytes after it. */
@@ -57,11 +65,7 @@ function memoryOf(exports, size) {
   const base = padded(Number(exports.__heap_base.value), 16);
   const lacks = base + size - exports.memory.buffer.byteLength;
   if (lacks > 0) {
-    try {
-      exports.memory.grow(BigInt(Math.ceil(lacks / PAGE)));
-    } catch {
-      throw new OutOfMemoryError();
-    }
+    exports.memory.grow(pagesOf(Math.ceil(lacks / PAGE)));
   }
   return base;
 }
@@ -113,8 +117,16 @@ class Frame {
     return this.view.getUint32(this.answer, true);
   }
 
+  /** A text of the buffer. */
   text(start, end) {
-    return decoder.decode(this.bytes.subarray(this.buffer + start, this.buffer + end));
+    return start === end ? '' : decoder.decode(this.bytes.subarray(this.buffer + start, this.buffer + end));
+  }
+
+  /** What gives the texts of a list, which has so many bytes: where these are ASCII, each is a slice of one string. */
+  get each() {
+    const length = this.word(this.answer + 16);
+    const whole = this.text(0, length);
+    return whole.length === length ? (start, end) => whole.slice(start, end) : (start, end) => this.text(start, end);
   }
 
   /** The pointers and lengths of the buffer for texts, and of the one for entries. */
@@ -194,9 +206,10 @@ export function split(text, pattern) {
     (exports, answer, block, frame) => exports.ansi_str_raw_split(answer, block, ...frame.texts[0], ...frame.texts[1], ...frame.out, ...frame.list),
     (frame) => {
       let start = 0;
+      const each = frame.each;
       return Array.from({ length: frame.word(frame.answer + 8) }, (_, index) => {
         const end = frame.word(frame.entries + index * END);
-        const part = frame.text(start, end);
+        const part = each(start, end);
         start = end;
         return part;
       });
@@ -232,12 +245,13 @@ export function blocks(text) {
   return called([text], [], room, (exports, answer, block, frame) => exports.ansi_str_raw_styled_blocks(answer, block, ...frame.texts[0], ...frame.out, ...frame.list),
     (frame) => {
       let begin = 0;
+      const each = frame.each;
       return Array.from({ length: frame.word(frame.answer + 8) }, (_, index) => {
         const at = frame.entries + index * ENTRY;
         const [textStart, textEnd, end] = [0, 8, 16].map((field) => frame.word(at + field));
         const block = {
-          text: frame.text(textStart, textEnd),
-          style: { ...styleAt(frame, at + 24), start: frame.text(begin, textStart), end: frame.text(textEnd, end) },
+          text: each(textStart, textEnd),
+          style: { ...styleAt(frame, at + 24), start: each(begin, textStart), end: each(textEnd, end) },
         };
         begin = end;
         return block;

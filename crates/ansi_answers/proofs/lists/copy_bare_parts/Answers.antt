@@ -88,7 +88,7 @@ returns-clause-len g c =
 pub returns-clause-bytes : goal.returns-clause-bytes
 returns-clause-bytes g c = λ room.
     let bytes = flat_map (λ p. p) (all_parts c.args.text.now c.args.pat.now) in
-    c.loop-part.invariant.buffer room ∙ ap (λ n. take n bytes ++ drop n c.args.buffer.now) (returns-clause-len c) ∙ ap (λ u. u ++ drop (length bytes) c.args.buffer.now) (take-length bytes)
+    c.loop-part.invariant.buffer room ∙ ap (λ n. take n bytes ++ drop n c.args.buffer.now) (returns-clause-len g c) ∙ ap (λ u. u ++ drop (length bytes) c.args.buffer.now) (take-length bytes)
 
 pub returns-clause-ends : goal.returns-clause-ends
 returns-clause-ends g c = λ room.
