@@ -60,7 +60,7 @@ function judge(name, isSame, row) {
     counts[2] = counts[2] === '' || shown.length < counts[2].length ? shown : counts[2];
   }
 }
-for (const [call, status, want, text, ...more] of rows()) {
+for (const [call, status, want, text, ...more] of await rows()) {
   if (call === 'strip') {
     judge('strip-ansi', stripAnsi(text) === want, [text, stripAnsi(text), want]);
   } else if (call === 'cut' && status === '0' && text.length < 10000) {

@@ -1,51 +1,12 @@
-// Passes the rows of texts and answers that the library for C is tested with.
+// Passes the rows of texts and answers that the library for C is tested with, and tries what only JavaScript has.
 import assert from 'node:assert/strict';
 import { test } from 'node:test';
-import { OutOfMemoryError, blocks, cut, edit, find, split, splitAt, strip, trim } from './index.js';
-import { inUnits, rows } from './rows.mjs';
+import { OutOfMemoryError, blocks, cut, edit, find, split, strip, trim } from './index.js';
+import { pass } from './rows.mjs';
 
-test('rows', () => {
-  const passed = {};
-  for (const [call, status, want, text, ...more] of rows()) {
-    const plain = strip(text);
-    const place = (index) => inUnits(plain, Number(more[index]));
-    const edits = (...one) => assert.equal(edit(text, [one]), status === '0' ? want : null);
-    if (call === 'strip') {
-      assert.equal(plain, want);
-    } else if (call === 'find') {
-      assert.equal(find(text, more[0]), status === '0' ? inUnits(plain, Number(want)) : -1);
-    } else if (call === 'cut') {
-      if (place(0) === null || place(1) === null) {
-        continue;
-      }
-      edits('cut', place(0), place(1));
-    } else if (call === 'left' || call === 'right') {
-      if (place(0) === null) {
-        continue;
-      }
-      edits(call, place(0));
-      assert.equal(splitAt(text, place(0))[call === 'left' ? 0 : 1], want);
-    } else if (call === 'part') {
-      edits('part', more[0], Math.min(Number(more[1]), Number.MAX_SAFE_INTEGER));
-    } else if (call === 'strip_prefix' || call === 'strip_suffix') {
-      edits(call.slice(6), more[0]);
-    } else if (call === 'trim') {
-      edits('trim');
-      assert.equal(trim(text), want);
-    } else if (call === 'split') {
-      assert.deepEqual(split(text, more[0]), more.slice(1));
-    } else if (call === 'blocks') {
-      assert.deepEqual(blocks(text).map((block) => block.text), more.filter((_, index) => index % 5 === 0));
-      assert.deepEqual(blocks(text).map((block) => block.style.hasAny), more.filter((_, index) => index % 5 === 4).map((has) => has === '1'));
-    } else if (call === 'styled_blocks') {
-      assert.deepEqual(blocks(text).flatMap(({ text, style }) => [style.start, text, style.end]), more);
-    } else {
-      continue;
-    }
-    passed[call] = (passed[call] ?? 0) + 1;
-  }
-  console.log(JSON.stringify(passed));
-  assert.ok(Object.values(passed).reduce((sum, each) => sum + each) > 400);
+test('rows', async () => {
+  const passed = await pass();
+  assert.ok(Object.values(passed).reduce((sum, each) => sum + each) > 400, JSON.stringify(passed));
 });
 
 test('positions count UTF-16 units', () => {
