@@ -27,22 +27,22 @@ use Rattle.ansi_columns.proofs.LinkLemmas.{link_of-fold, is_link-sgr}
 
 -- ---- the link at a place of pieces, where this one is open before them
 
-abbrev link_by_marks : List ℕ → List Piece → ℕ → List ℕ
+abbrev pub link_by_marks : List ℕ → List Piece → ℕ → List ℕ
 link_by_marks link ps i = fold link_after link (map (λ (m : Mark). m.bytes) (up_to i (marks_of ps)))
 
-before-text : (link w : List ℕ) (ps : List Piece) (i : ℕ) → i < length w → link_by_marks link (Text w ∷ ps) i ≡ link
+pub before-text : (link w : List ℕ) (ps : List Piece) (i : ℕ) → i < length w → link_by_marks link (Text w ∷ ps) i ≡ link
 before-text link w ps i below =
     ap (λ ms. fold link_after link (map (λ (m : Mark). m.bytes) (up_to i ms))) (marks_of-text w ps)
     ∙ ap (λ ms. fold link_after link (map (λ (m : Mark). m.bytes) ms)) (up_to-none i (length w) (marks_of ps) below)
 
-past-text : (link w : List ℕ) (ps : List Piece) (i : ℕ) → length w ≤ i → link_by_marks link (Text w ∷ ps) i ≡ link_by_marks link ps (i - length w)
+pub past-text : (link w : List ℕ) (ps : List Piece) (i : ℕ) → length w ≤ i → link_by_marks link (Text w ∷ ps) i ≡ link_by_marks link ps (i - length w)
 past-text link w ps i within =
     let n = length w in
     ap (λ ms. fold link_after link (map (λ (m : Mark). m.bytes) (up_to i ms))) (marks_of-text w ps)
     ∙ ap (λ ms. fold link_after link (map (λ (m : Mark). m.bytes) ms)) (up_to-further i n (marks_of ps) within)
     ∙ ap (fold link_after link) (bytes-further n (up_to (i - n) (marks_of ps)))
 
-past-mark : (link : List ℕ) (p : Piece) (ps : List Piece) (i : ℕ) → is_mark p ≡ true → link_by_marks link (p ∷ ps) i ≡ link_by_marks (link_after link (spelling p)) ps i
+pub past-mark : (link : List ℕ) (p : Piece) (ps : List Piece) (i : ℕ) → is_mark p ≡ true → link_by_marks link (p ∷ ps) i ≡ link_by_marks (link_after link (spelling p)) ps i
 past-mark link (Text w) ps i is = absurd (cc is)
 past-mark link (Sequence w) ps i is =
     ap (λ ms. fold link_after link (map (λ (m : Mark). m.bytes) (up_to i ms))) (marks_of-sequence w ps)

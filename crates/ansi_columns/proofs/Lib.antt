@@ -25,3 +25,4 @@ pub mod LeftOutLawLemmas
 pub mod WrapLemmas
 pub mod ShownLawLemmas
 pub mod WrapLawLemmas
+pub mod LinkedLawLemmas

@@ -6,12 +6,14 @@ ghost use Rattle.std.specs.Prelude.{◌≡◌, ◌<◌, ◌≤◌, ◌+◌, ◌-
 ghost use Rattle.std.specs.List.{list_all};
 ghost use Rattle.std.specs.Int.{is_in_range};
 ghost use Rattle.std.specs.Str.{IsUtf8};
-ghost use Rattle.ansi_items.specs.Plain.{plain, is_whole};
+ghost use Rattle.ansi_items.specs.Plain.{plain, marks, is_whole};
 ghost use Rattle.ansi_style.specs.Rendition.{plain_style};
 ghost use Rattle.ansi_style.specs.Styled.{residue};
 ghost use Rattle.ansi_columns.specs.declared.shown.Alignment.{Alignment};
+ghost use Rattle.ansi_columns.specs.Addresses.{linked, without_link};
 ghost use Rattle.ansi_columns.specs.Columns.{clusters, columns, FitsUpTo, IsClusterBoundary};
 ghost use Rattle.ansi_columns.specs.Lines.{lines, AreLinesFrom, put_back};
+ghost use Rattle.ansi_columns.specs.Links.{link_of};
 ghost use Rattle.ansi_columns.specs.Shown.{has_tail, truncated_end, truncated, missing, before_text, blanks, padded};
 ghost use Rattle.ansi_columns.specs.Wrapped.{wrapped};
 
@@ -68,4 +70,18 @@ pub fn padded_fills()
 pub fn wrapped_lines_are_whole()
     ensures whole { (t : List ℕ) (width : ℕ) → IsTrue (is_whole t) → All (λ l. IsTrue (is_whole l.bytes)) (wrapped t width) }
     ensures closed { (t : List ℕ) (width : ℕ) → IsTrue (is_whole t) → All (λ l. residue l.bytes ≡ plain_style) (wrapped t width) }
+{}
+
+/// A whole text that is cut has the linked bytes of the text, up to where that stands, and then those of
+/// the tail, where this is written. No link of the text is open at its end.
+pub fn truncated_ends_links()
+    ensures linked { (t : List ℕ) (width : ℕ) (tail : List ℕ) → IsTrue (is_whole t) → IsTrue (is_whole tail) → linked (truncated t width tail) ≡ take (truncated_end t width tail) (linked t) ++ (if has_tail t width tail then linked tail else []) }
+    ensures left_open { (t : List ℕ) (width : ℕ) (tail : List ℕ) → IsTrue (is_whole t) → IsTrue (is_whole tail) → link_of (marks (truncated t width tail)) ≡ (if has_tail t width tail then link_of (marks tail) else []) }
+{}
+
+/// A whole text that is filled up has the linked bytes of the text, among blanks that stand in no link.
+/// No link is open at its end.
+pub fn padded_ends_links()
+    ensures linked { (t : List ℕ) (width : ℕ) (alignment : Alignment) → IsTrue (is_whole t) → linked (padded t width alignment) ≡ without_link (blanks (before_text alignment (missing t width))) ++ linked t ++ without_link (blanks (missing t width - before_text alignment (missing t width))) }
+    ensures left_open { (t : List ℕ) (width : ℕ) (alignment : Alignment) → IsTrue (is_whole t) → link_of (marks (padded t width alignment)) ≡ [] }
 {}
