@@ -111,7 +111,7 @@ function placed(text, ...edits) {
 }
 
 export function strip(text) {
-  return raw.strip(textOf('text', text));
+  return textOf('text', text).includes('\x1b') ? raw.strip(text) : text;
 }
 
 export function cut(text, start, end) {
