@@ -45,6 +45,8 @@ static const struct input MARKED = {"colored log lines, END", "\x1b[2m12:00:00\x
 static const struct input WORDS = {"100,000 words, some bold", "\x1b[1mbold\x1b[0m and plain ", "", 0};
 static const struct input UNFINISHED = {"ESC ] unfinished", "\x1b]", "", 0};
 static const struct input FIELDS = {"ESC [ 1;1;.. unfinished", "1;", "", 0};
+static const struct input MARKS = {"combining marks", "\xcc\x81", "", 0};
+static const struct input FLAGS = {"flags", "\xf0\x9f\x87\xaf\xf0\x9f\x87\xb5", "", 0};
 
 #define A16 "aaaaaaaaaaaaaaaa"
 #define A64 A16 A16 A16 A16
@@ -114,6 +116,12 @@ static size_t split(const struct text *t) {
     return count_of(ansi_str_split(t->bytes, t->len, t->pattern, t->pattern_len, NULL, 0, NULL, 0));
 }
 static size_t blocks(const struct text *t) { return count_of(ansi_str_blocks(t->bytes, t->len, NULL, 0, NULL, 0)); }
+static size_t width(const struct text *t) { return len_of(ansi_str_width(t->bytes, t->len)); }
+static size_t truncate_to_40(const struct text *t) { return len_of(ansi_str_truncate(t->bytes, t->len, 40, "..", 2, NULL, 0)); }
+static size_t truncate_late(const struct text *t) {
+    return len_of(ansi_str_truncate(t->bytes, t->len, t->plain_len / 8, "..", 2, NULL, 0));
+}
+static size_t pad(const struct text *t) { return len_of(ansi_str_pad(t->bytes, t->len, 2 * t->len, ANSI_STR_CENTER, NULL, 0)); }
 static size_t walk(const struct text *t) {
     char sequences[256];
     ansi_str_block_walk walk;
@@ -240,6 +248,10 @@ static const struct call SPLIT = {"split", split, WORD, " "};
 static const struct call PARTS = {"parts one by one", parts, WORD, " "};
 static const struct call BLOCKS = {"blocks", blocks, NONE, NULL};
 static const struct call WALK = {"blocks one by one", walk, NONE, NULL};
+static const struct call WIDTH = {"width", width, NONE, NULL};
+static const struct call TRUNCATE = {"truncate to 40", truncate_to_40, NONE, NULL};
+static const struct call TRUNCATE_LATE = {"truncate, late", truncate_late, NONE, NULL};
+static const struct call PAD = {"pad", pad, NONE, NULL};
 
 static const struct row {
     const struct call *call;
@@ -261,6 +273,10 @@ static const struct row {
     {&PARTS, &PLAIN}, {&PARTS, &LOG}, {&PARTS, &WORDS},
     {&BLOCKS, &LOG}, {&BLOCKS, &SHORT_SEQUENCES}, {&BLOCKS, &TAIL},
     {&WALK, &LOG}, {&WALK, &SHORT_SEQUENCES}, {&WALK, &TAIL},
+    {&WIDTH, &LOG}, {&WIDTH, &SHORT_SEQUENCES}, {&WIDTH, &MARKS}, {&WIDTH, &FLAGS},
+    {&TRUNCATE, &LOG}, {&TRUNCATE, &SHORT_SEQUENCES}, {&TRUNCATE, &MARKS}, {&TRUNCATE, &FLAGS},
+    {&TRUNCATE_LATE, &LOG}, {&TRUNCATE_LATE, &SHORT_SEQUENCES}, {&TRUNCATE_LATE, &FLAGS},
+    {&PAD, &LOG}, {&PAD, &SHORT_SEQUENCES}, {&PAD, &MARKS}, {&PAD, &FLAGS},
 };
 
 enum { ROW_COUNT = sizeof ROWS / sizeof ROWS[0] };

@@ -13,7 +13,7 @@
 
 struct text {
     char *bytes;
-    size_t len, plain_len;
+    size_t len, plain_len, width;
     /* positions of the plain text: one and two thirds of it, and its half, each where a character begins */
     size_t third, two_thirds, half;
     /* the first and the last byte of the plain text */
@@ -77,6 +77,15 @@ static size_t edits(const struct text *t) {
     return len_of(ansi_str_edit(t->bytes, t->len, steps, 3, buffer, room));
 }
 
+/* how many columns the text takes, and its first 40 columns, and the text in 40 columns more than it takes */
+static size_t width(const struct text *t) { return len_of(ansi_str_width(t->bytes, t->len)); }
+static size_t truncate_to_40(const struct text *t) {
+    return len_of(ansi_str_truncate(t->bytes, t->len, 40, "..", 2, buffer, room));
+}
+static size_t pad(const struct text *t) {
+    return len_of(ansi_str_pad(t->bytes, t->len, t->width + 40, ANSI_STR_CENTER, buffer, room));
+}
+
 struct call {
     const char *name;
     size_t (*run)(const struct text *);
@@ -101,6 +110,9 @@ static const struct call CALLS[] = {
     {"blocks", blocks, hand_walk},
     {"block_list", block_list, NULL},
     {"edits", edits, NULL},
+    {"width", width, NULL},
+    {"truncate", truncate_to_40, NULL},
+    {"pad", pad, NULL},
 };
 
 enum { CALL_COUNT = sizeof CALLS / sizeof CALLS[0] };
@@ -128,6 +140,7 @@ static int is_read(struct text *t, const char *name) {
         return 0;
     }
     t->plain_len = strip(t);
+    t->width = width(t);
     t->third = boundary(t, t->plain_len / 3);
     t->two_thirds = boundary(t, t->plain_len / 3 * 2);
     t->half = boundary(t, t->plain_len / 2);
