@@ -1,12 +1,7 @@
 use Rattle.std.proofs.Common.{length, refl, sym, ◌∙◌, ap, arith}
-use Rattle.ansi_items.proofs.ScanLemmas.{scan_step, scan_end, IsStep}
+use Rattle.ansi_items.proofs.ScanLemmas.{scan_step, IsStep}
 use Rattle.ansi_items.proofs.CountLemmas.{counted_step, counted_bound}
 use Rattle.ansi_items.proofs.ansitok.ScannerIterator.next.Goals as goal
-
-pub returns-then-is_empty-clause-steps : goal.returns-then-is_empty-clause-steps
-returns-then-is_empty-clause-steps c =
-    let end = scan_end c.self.inside.text.now _ c.self.inside.offset c.as_bytes.ensures.value c.self.invariant.boundary (sym c.is_empty.ensures ∙ c.if-is_empty.true) in
-    (refl, rw (← c.self.view_is) end.0, rw (← c.self.view_is) end.1)
 
 pub overflow_add-self : goal.overflow_add-self
 overflow_add-self c =

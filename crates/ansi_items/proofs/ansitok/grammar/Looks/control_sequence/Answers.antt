@@ -1,5 +1,5 @@
 use Rattle.ansi_items.proofs.Common.{◌≡◌, ◌+◌, ◌==◌, ◌&&◌, not, false, Some, ◌∙◌, ap, arith, nat_tests, are_private, front_of}
-use Rattle.ansi_items.proofs.FrontLemmas.{control_at-final, control_at-other, unless_private}
+use Rattle.ansi_items.proofs.FrontLemmas.{control_at-final, unless_private}
 use Rattle.ansi_items.proofs.ansitok.grammar.Looks.control_sequence.Goals as goal
 
 -- the final byte follows the parameters
@@ -17,16 +17,3 @@ returns-in-64-to-126-clause-front c =
     let t = c.args.bytes.now in
     let no_sgr : false ≡ ((c.in_ok-byte.field-0 == 109) && not (are_private t)) = grind (arith, nat_tests) in
     control_at-final t c.parameters_len-parameters.result c.in_ok-byte.field-0 false c.parameters_len-parameters.ensures.len c.in_ok-byte.ensures.some.0 (grind (arith, nat_tests)) no_sgr
-
--- the byte after the parameters neither ends a control sequence nor is intermediate
-pub returns-in_default-clause-front : goal.returns-in_default-clause-front
-returns-in_default-clause-front c =
-    control_at-other c.args.bytes.now c.parameters_len-parameters.result c.in_ok-byte.field-0 c.parameters_len-parameters.ensures.len c.in_ok-byte.ensures.some.0 (grind (arith, nat_tests)) (grind (arith, nat_tests))
-
-pub returns-in_default-2-clause-front : goal.returns-in_default-2-clause-front
-returns-in_default-2-clause-front c =
-    control_at-other c.args.bytes.now c.parameters_len-parameters.result c.in_ok-byte.field-0 c.parameters_len-parameters.ensures.len c.in_ok-byte.ensures.some.0 (grind (arith, nat_tests)) (grind (arith, nat_tests))
-
-pub returns-in_default-3-clause-front : goal.returns-in_default-3-clause-front
-returns-in_default-3-clause-front c =
-    control_at-other c.args.bytes.now c.parameters_len-parameters.result c.in_ok-byte.field-0 c.parameters_len-parameters.ensures.len c.in_ok-byte.ensures.some.0 (grind (arith, nat_tests)) (grind (arith, nat_tests))

@@ -1,23 +1,12 @@
 use Rattle.ansi_items.proofs.Common.{refl, arith, nat_tests}
 use Rattle.ansi_items.proofs.CountLemmas.{control_within}
-use Rattle.ansi_items.proofs.FrontLemmas.{not_alone, control_at-later, control_at-unended}
+use Rattle.ansi_items.proofs.FrontLemmas.{not_alone, control_at-later}
 use Rattle.ansi_items.proofs.ansitok.grammar.Looks.sequence_with_intermediates.Goals as goal
 
 -- the final byte follows the intermediate ones
 pub returns-in-64-to-126-clause-front : goal.returns-in-64-to-126-clause-front
 returns-in-64-to-126-clause-front c =
     control_at-later _ _ _ _ c.requires.parameters (not_alone _ _ _ _ refl c.requires.inside c.requires.intermediate c.intermediates_len-intermediates.ensures.len)
-    c.in_ok-byte.ensures.some.0 (grind (arith, nat_tests))
-
--- another byte does
-pub returns-in_default-clause-front : goal.returns-in_default-clause-front
-returns-in_default-clause-front c =
-    control_at-unended _ _ _ _ c.requires.parameters (not_alone _ _ _ _ refl c.requires.inside c.requires.intermediate c.intermediates_len-intermediates.ensures.len)
-    c.in_ok-byte.ensures.some.0 (grind (arith, nat_tests))
-
-pub returns-in_default-2-clause-front : goal.returns-in_default-2-clause-front
-returns-in_default-2-clause-front c =
-    control_at-unended _ _ _ _ c.requires.parameters (not_alone _ _ _ _ refl c.requires.inside c.requires.intermediate c.intermediates_len-intermediates.ensures.len)
     c.in_ok-byte.ensures.some.0 (grind (arith, nat_tests))
 
 -- what was given up stands before the next ESC
