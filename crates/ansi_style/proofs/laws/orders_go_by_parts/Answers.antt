@@ -1,6 +1,5 @@
 -- The order of styles is that of their parts, in turn, and that of colors by their names is that of their ranks.
-use Rattle.ansi_style.proofs.Common.{◌≡◌, ℕ, Bool, true, false, Option, Some, None, refl, ap, ordering_then, bool_cmp, nat_cmp, option_cmp, AnsiColor, Bit4, Bit8, Bit24, ghosts, compared, Color, Black, Fixed, Rgb, color_key, part_of_color, part_of_font, part_of_attribute, alone, same_ansi_color}
-use Rattle.ansi_style.specs.contracts.style.color.ColorOrd.TheImpl.{ghosts as named}
+use Rattle.ansi_style.proofs.Common.{◌≡◌, ℕ, Bool, true, false, Option, Some, None, refl, bool_cmp, nat_cmp, option_cmp, AnsiColor, Bit4, Bit8, Bit24, ghosts, compared, part_of_color, part_of_font, part_of_attribute, alone, same_ansi_color}
 use Rattle.ansi_style.proofs.laws.orders_go_by_parts.Goals as goal
 
 same_attribute : (x y : Bool) → bool_cmp x y ≡ compared (part_of_attribute x) (part_of_attribute y)
@@ -25,15 +24,5 @@ same_color (Some (Bit8 n)) None = refl
 same_color (Some (Bit24 r g b)) None = refl
 same_color (Some x) (Some y) = same_ansi_color x y
 
--- one by one: the line of `Black` is there so that both colors are split
-same_named : (x y : Color) → named.cmp x y ≡ compared (color_key x) (color_key y)
-same_named (Fixed n) (Fixed m) = alone (nat_cmp n m)
-same_named (Rgb r g b) (Rgb u v w) = ap (λ o. ordering_then (nat_cmp r u) (ordering_then (nat_cmp g v) o)) (alone (nat_cmp b w))
-same_named x Black = refl
-same_named x y = refl
-
 pub returns-clause-style : goal.returns-clause-style
 returns-clause-style c = λ a b. simp (same_color, same_font, same_attribute, ← alone)
-
-pub returns-clause-color : goal.returns-clause-color
-returns-clause-color c = same_named

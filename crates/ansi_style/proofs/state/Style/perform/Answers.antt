@@ -1,14 +1,7 @@
-use Rattle.ansi_style.proofs.Common.{◌≡◌, ◌∙◌, true, false, not, ◌&&◌, ap, arith, nat_tests, Rendition, has, rendition_of, with_attributes, ITALIC_OR_FRAKTUR}
+use Rattle.ansi_style.proofs.Common.{◌≡◌, ◌∙◌, true, false, ap, arith, nat_tests, Rendition, rendition_of}
 use Rattle.ansi_style.proofs.CodeLemmas.{effect_of_code-foreground, effect_of_code-background, is_in_table, effect_of_code-outside}
 use Rattle.ansi_style.proofs.state.Style.perform.Goals as goal
 use Rattle.ansi_style.proofs.state.Style.perform.Goals.{then-code-lt38, else-code-lt38+else-code-lt48+else-code-lt90+then-code-lt98, then-code-lt48, else-code-lt48+else-code-lt90+else-code-lt98+else-code-lt100+then-code-lt108, in_default-via-then-code-lt90, in_default-via-else-code-lt90+else-code-lt98+then-code-lt100, in_default-via-else-code-lt90+else-code-lt98+else-code-lt100+else-code-lt108}
-
--- italic and Fraktur are cleared
-pub returns-in-23 : goal.returns-in-23
-unfolding rendition_of
-returns-in-23 c =
-    let cleared : rendition_of c.clear-in-23.new.self ≡ with_attributes (λ place. not (has ITALIC_OR_FRAKTUR.0 place) && has c.args.self.now.attributes.0 place) (rendition_of c.args.self.now) = c.clear-in-23.ensures in
-    rw c.in-23.is (ap (λ s. (s, c.args.fields.now)) cleared)
 
 pub returns-in-30-to-37 : goal.returns-in-30-to-37
 unfolding rendition_of
