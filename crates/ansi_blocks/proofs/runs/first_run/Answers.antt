@@ -1,5 +1,5 @@
 use Rattle.ansi_blocks.proofs.Common.{rules, ◌≡◌, ◌∷◌, length, sym, ◌∙◌, ap, arith, Text, rendition_of, gives_text, gives_rest, gives_mark}
-use Rattle.ansi_blocks.proofs.BlockWalkLemmas.{run-begin, run-sgr, run-other, run-text, run-end}
+use Rattle.ansi_blocks.proofs.BlockWalkLemmas.{run-begin, run-other, run-text}
 use Rattle.ansi_blocks.proofs.runs.first_run.Goals as goal
 
 pub loop-item-init : goal.loop-item-init
@@ -8,16 +8,6 @@ loop-item-init c =
     record {
       text = ap (λ s. s.text) begins;
       so_far = rw begins (run-begin (rendition_of c.args.style.now) c.args.text.now);
-    }
-
--- over an SGR
-pub loop-item-preserved-in-Sgr : goal.loop-item-preserved-in-Sgr
-loop-item-preserved-in-Sgr c =
-    let gives = c.in-Some.ensures.steps in
-    let same = c.loop-item.invariant.text in
-    record {
-      text = gives.text ∙ same;
-      so_far = run-sgr c.loop-item.invariant.so_far (gives_mark gives same c.range-piece.ensures.value (search rules)) c.in-Sgr.is c.apply.ensures;
     }
 
 -- over a sequence that is no SGR, or a lone escape
@@ -38,7 +28,3 @@ returns-in-Text c =
     let first = gives_text gives same c.range-piece.ensures.value c.in-Text.is in
     let run = run-text c.range_from.result.now c.loop-item.invariant.so_far (first ∙ ap (λ ps. Text c.range-piece.result.now ∷ ps) (sym (gives_rest gives same c.range_from.ensures.value))) in
     record { none = tt; first = run.0; awaited = run.1 }
-
--- nothing is left
-pub returns : goal.returns
-returns c = record { none = run-end c.loop-item.invariant.so_far c.in-None.ensures.steps.2; first = tt; awaited = tt }

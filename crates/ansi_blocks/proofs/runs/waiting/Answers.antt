@@ -1,6 +1,6 @@
-use Rattle.ansi_blocks.proofs.Common.{rules, ◌≡◌, refl, ◌∙◌, ap, gives_mark}
+use Rattle.ansi_blocks.proofs.Common.{rules, ◌≡◌, ◌∙◌, ap, gives_mark}
 use Rattle.ansi_blocks.proofs.BlockLemmas.{waiting-front}
-use Rattle.ansi_blocks.proofs.BlockWalkLemmas.{joined-other, joined-sgr}
+use Rattle.ansi_blocks.proofs.BlockWalkLemmas.{joined-other}
 use Rattle.ansi_blocks.proofs.runs.waiting.Goals as goal
 
 pub loop-item-init : goal.loop-item-init
@@ -9,15 +9,6 @@ loop-item-init g c =
     record {
       text = ap (λ s. s.text) begins;
       so_far = rw (c.new-joined.ensures.bytes, begins) (record { bytes = rw (waiting-front c.args.text.now) });
-    }
-
--- over an SGR
-pub loop-item-preserved-in-Sgr : goal.loop-item-preserved-in-Sgr
-loop-item-preserved-in-Sgr g c =
-    let gives = c.in-Some.ensures.steps in
-    record {
-      text = gives.text ∙ c.loop-item.invariant.text;
-      so_far = joined-sgr c.loop-item.invariant.so_far (gives_mark gives c.loop-item.invariant.text refl (search rules)) c.in-Sgr.is;
     }
 
 -- over another sequence, or a lone escape

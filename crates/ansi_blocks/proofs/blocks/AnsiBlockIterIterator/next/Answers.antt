@@ -1,22 +1,7 @@
-use Rattle.ansi_blocks.proofs.Common.{ℕ, Bool, List, ◌∷◌, length, sym, ◌∙◌, ap, ap₂, arith, Rendition, rendition_of, Block, blocks_from}
+use Rattle.ansi_blocks.proofs.Common.{length, ap, arith, rendition_of}
 use Rattle.ansi_blocks.proofs.BlockLemmas.{blocks_from-nil}
 use Rattle.ansi_blocks.proofs.BlockWalkLemmas.{not_borrowed}
 use Rattle.ansi_blocks.proofs.blocks.AnsiBlockIterIterator.next.Goals as goal
-
-abbrev block : List ℕ → Rendition → Bool → Block
-block u s b = record { text = u; style = s; is_borrow = b }
-
--- the block is the first that was left
-pub returns-in-Ok-clause-steps : goal.returns-in-Ok-clause-steps
-returns-in-Ok-clause-steps g c =
-    let run = c.in_ok-run.run' in
-    let s = rendition_of c.first_run.new.style in
-    sym c.self.view_is ∙ c.in_ok-run.ensures.first ∙ ap₂ (λ u b. block u s b ∷ blocks_from s run.rest.now) (sym c.in-Ok.ensures.bytes) (sym c.in-Ok.ensures.borrowed)
-
-pub returns-in-Ok-clause-goes : goal.returns-in-Ok-clause-goes
-returns-in-Ok-clause-goes g c =
-    let fewer = ap length (returns-in-Ok-clause-steps g c) in
-    record { on = λ _. (tt, tt, omega (arith, fewer)); keeps = tt; rests = λ _. tt }
 
 -- where no run is found no block is left, and an empty text has none
 pub returns-in_err-run-clause-steps : goal.returns-in_err-run-clause-steps
