@@ -1,10 +1,6 @@
-use Rattle.ansi_search.proofs.Common.{◌≡◌, ◌++◌, ◌∷◌, ◌+◌, ◌-◌, [], drop, length, refl, sym, ◌∙◌, ap, subst, arith, drop_at, drop-drop, length-append, length-drop, IsCharBoundary-end, IsCharBoundary, Text, plain, plain_of, pieces_left, is_text, gives_text, IsUtf8-plain}
-use Rattle.ansi_search.proofs.PositionLemmas.{boundary_in_run, boundary_is_good, good_before}
-use Rattle.ansi_search.proofs.OffsetLemmas.{item_range}
+use Rattle.ansi_search.proofs.Common.{[], ◌≡◌, ◌++◌, ◌∷◌, ◌+◌, ◌-◌, drop, length, refl, sym, ◌∙◌, ap, subst, arith, drop_at, drop-drop, length-append, length-drop, IsCharBoundary-end, IsCharBoundary, Text, plain, plain_of, pieces_left, is_text, gives_text, IsUtf8-plain}
+use Rattle.ansi_search.proofs.PositionLemmas.{boundary_in_run, good_before}
 use Rattle.ansi_search.proofs.search.floor_char_boundary.Goals as goal
-
-pub range-run-requires : goal.range-run-requires
-range-run-requires c = item_range c.in-Some.ensures.steps c.loop-item.invariant.text
 
 -- over a run before the index
 pub loop-item-preserved-then-eq : goal.loop-item-preserved-then-eq
@@ -45,9 +41,6 @@ returns-then-remaining-run-clause-nearest c i above below boundary =
 pub returns-then-remaining-run-clause-good_before : goal.returns-then-remaining-run-clause-good_before
 returns-then-remaining-run-clause-good_before c = good_before _ _ (IsUtf8-plain c.args.text.now c.utf8.text) (returns-then-remaining-run-clause-boundary c)
 
-pub returns-then-remaining-run-clause-good_after : goal.returns-then-remaining-run-clause-good_after
-returns-then-remaining-run-clause-good_after c = boundary_is_good _ _ (returns-then-remaining-run-clause-boundary c)
-
 -- the index lies past the end, or is it
 
 pub returns-clause-boundary : goal.returns-clause-boundary
@@ -57,14 +50,5 @@ returns-clause-boundary c =
     let end : length x ≡ c.loop-item.place = omega (arith, ap length rest, length-drop c.loop-item.place x, c.loop-item.invariant.within) in
     subst (IsCharBoundary x) end (IsCharBoundary-end x)
 
-pub returns-clause-nearest : goal.returns-clause-nearest
-returns-clause-nearest c i above below boundary =
-    let x = plain c.args.text.now in
-    let rest : drop c.loop-item.place x ≡ [] = sym c.loop-item.invariant.left ∙ ap plain_of c.in-None.ensures.steps.2 in
-    omega (arith, ap length rest, length-drop c.loop-item.place x, boundary.0)
-
 pub returns-clause-good_before : goal.returns-clause-good_before
 returns-clause-good_before c = good_before _ _ (IsUtf8-plain c.args.text.now c.utf8.text) (returns-clause-boundary c)
-
-pub returns-clause-good_after : goal.returns-clause-good_after
-returns-clause-good_after c = boundary_is_good _ _ (returns-clause-boundary c)

@@ -1,9 +1,6 @@
-use Rattle.ansi_search.proofs.Common.{◌≡◌, ◌+◌, ◌-◌, length, slice_index, subst, arith, IsScan, IsScan-start, IsScan-accept, IsScan-skip, IsScan-push, IsScan-block, IsScan-end, Precedes}
+use Rattle.ansi_search.proofs.Common.{◌≡◌, ◌+◌, ◌-◌, length, slice_index, subst, arith, IsScan, IsScan-accept, IsScan-skip, IsScan-push, IsScan-block, IsScan-end, Precedes}
 use Rattle.ansi_search.proofs.TwoWayLemmas.{Precedes-trans, Precedes-irrefl}
 use Rattle.ansi_search.proofs.search.critical.greatest_suffix.Goals as goal
-
-pub loop-candidate-init : goal.loop-candidate-init
-loop-candidate-init c = IsScan-start (Precedes c.args.is_rising) (Precedes-trans c.args.is_rising) (Precedes-irrefl c.args.is_rising) _ _ c.requires
 
 -- the candidate goes on as the suffix, for a whole period or not yet
 

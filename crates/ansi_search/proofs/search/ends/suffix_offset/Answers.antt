@@ -1,20 +1,8 @@
 use Rattle.ansi_search.proofs.Common.{◌≡◌, length, refl, sym, ◌∙◌, ap, subst, arith, drop, nat_eq, true, ◌-◌, IsTrue, starts_with, plain, is_text, is_good_position, StandsIn}
-use Rattle.ansi_search.proofs.OffsetLemmas.{item_range, over_text, over_mark, is_other}
-use Rattle.ansi_search.proofs.EndLemmas.{tail-begin, tail-run, tail-text, tail-mark, tail-starts, tail-good, tail-stands}
+use Rattle.ansi_search.proofs.OffsetLemmas.{over_text, over_mark, is_other}
+use Rattle.ansi_search.proofs.EndLemmas.{tail-run, tail-text, tail-mark, tail-starts, tail-good, tail-stands}
 use Rattle.ansi_search.proofs.search.ends.suffix_offset.Goals as goal
 use Rattle.ansi_search.proofs.search.ends.suffix_offset.Goals.{then-pat-run, else-pat-run}
-
-pub range-run-requires : goal.range-run-requires
-range-run-requires c = item_range c.in-Some.ensures.steps c.loop-item.invariant.text
-
-pub loop-item-init : goal.loop-item-init
-loop-item-init c =
-    let begins : c.into_iter-item-iterator.result ≡ record { text = c.args.text.now; offset = 0 } = c.into_iter-item-iterator.ensures.into_iter_gives ∙ c.new-item-items.ensures.start in
-    record {
-      text = ap (λ s. s.text) begins;
-      fits = omega arith;
-      so_far = rw begins (tail-begin c.args.text.now (length c.args.pat.now) c.utf8.text);
-    }
 
 -- over a run
 pub loop-item-preserved-then-eq : goal.loop-item-preserved-then-eq
@@ -43,15 +31,6 @@ loop-item-preserved c =
       fits = omega (arith, c.loop-item.invariant.fits, gives.start, gives.end, gives.forward);
       so_far = tail-mark c.loop-item.invariant.so_far (over_mark gives c.loop-item.invariant.text refl (is_other c.if-eq.ensures));
     }
-
-pub range_from-rest-requires : goal.range_from-rest-requires
-range_from-rest-requires c = λ some. c.loop-item.invariant.so_far.boundary
-
-pub returns-then-not-stands_at : goal.returns-then-not-stands_at
-returns-then-not-stands_at c =
-    sym (tail-starts c.args.pat.now c.loop-item.invariant.so_far c.in-None.ensures.steps.2 c.range_from-rest.ensures.value)
-    ∙ ap (λ n. starts_with nat_eq (drop n (plain c.range_from-rest.result.now)) c.args.pat.now) (sym c.saturating_sub-place.ensures)
-    ∙ sym (c.stands_at.ensures ∙ ap (starts_with nat_eq (drop c.saturating_sub-place.result (plain c.range_from-rest.result.now))) c.as_bytes.ensures.value) ∙ c.if-not-stands_at.true
 
 -- the pattern begins at a character
 pub offset_at-requires : goal.offset_at-requires

@@ -1,6 +1,5 @@
-use Rattle.ansi_search.proofs.Common.{◌≡◌, ◌≤◌, [], drop, length, sym, ◌∙◌, ap, ap₂, subst, arith, slice_index, eq-eqb, length-drop, IsCharBoundary, OccursAt, is_byte, plain, plain_of, pieces_left, length-plain, is_text, IsCut, IsReached, Comes, first_match_from}
-use Rattle.ansi_search.proofs.OffsetLemmas.{is_other}
-use Rattle.ansi_search.proofs.WindowLemmas.{none-past, none-without, run-occurs, run-left, run-length, run-stands, mark-left, reached-then, comes-then, reached-match, reached-end}
+use Rattle.ansi_search.proofs.Common.{[], ◌≡◌, ◌≤◌, drop, length, sym, ◌∙◌, ap, ap₂, subst, arith, slice_index, length-drop, OccursAt, is_byte, plain, plain_of, length-plain, is_text, IsCut, IsReached, Comes, first_match_from}
+use Rattle.ansi_search.proofs.WindowLemmas.{none-past, none-without, run-occurs, run-left, run-length, reached-then, comes-then, reached-match, reached-end}
 use Rattle.ansi_search.proofs.search.matches.find_across.Goals as goal
 
 pub returns-then-text-from : goal.returns-then-text-from
@@ -17,39 +16,10 @@ returns-in_err-next c =
     (λ j low high passes. c.in_err-next.ensures j low (omega (arith, high, ap length c.as_bytes.ensures.value)) (ap₂ (λ b v. is_byte b (slice_index v j)) c.rare_byte.ensures c.as_bytes.ensures.value ∙ passes))
     ∙ ap (λ q. first_match_from (plain c.args.text.now) q c.args.from) c.new-pattern.ensures)
 
-pub loop-item-init : goal.loop-item-init
-loop-item-init c =
-    let begins : c.into_iter-item-iterator.result ≡ record { text = c.args.text.now; offset = 0 } = c.into_iter-item-iterator.ensures.into_iter_gives ∙ c.new-item-items.ensures.start in
-    record {
-      text = ap (λ s. s.text) begins;
-      left = ap (λ s. plain_of (pieces_left s)) begins;
-      within = omega arith;
-      comes = c.first_window-window.ensures.comes c.args.text.now c.utf8.text (omega (arith, c.if-text-from.false));
-      read = omega arith;
-      ahead = λ j low high same. c.in_ok-next.ensures.0.before j (omega arith) (omega (arith, high, c.first_window-window.ensures.next))
-          (eq-eqb _ _ (ap (λ v. slice_index v j) c.as_bytes.ensures.value ∙ same ∙ sym c.rare_byte.ensures));
-    }
-
 pub read-requires-clause-run : goal.read-requires-clause-run
 read-requires-clause-run c =
     let so_far = c.loop-item.invariant in
     run-occurs (plain c.args.text.now) c.loop-item.place c.in-Some.ensures.steps so_far.text (is_text c.if-eq.ensures) so_far.left (c.as_bytes-run.ensures.value ∙ c.range.ensures.value) so_far.within
-
-pub read-requires-clause-bytes : goal.read-requires-clause-bytes
-read-requires-clause-bytes c = run-stands c.in-Some.ensures.steps c.loop-item.invariant.text (c.as_bytes-run.ensures.value ∙ c.range.ensures.value)
-
-pub read-requires-clause-here : goal.read-requires-clause-here
-read-requires-clause-here c =
-    let steps = c.in-Some.ensures.steps in
-    let so_far = c.loop-item.invariant in
-    record {
-      boundary = subst (λ u. IsCharBoundary u c.in-Some.item.start) so_far.text steps.start_boundary;
-      rest = ap₂ (λ n u. plain (drop n u)) steps.start (sym so_far.text) ∙ so_far.left;
-      before = omega arith;
-    }
-
-pub read-requires-clause-ahead : goal.read-requires-clause-ahead
-read-requires-clause-ahead c = λ j low high. c.loop-item.invariant.ahead j (omega (arith, low, c.in-Some.ensures.steps.start)) high
 
 -- a match ends in the run
 pub returns-in-Match : goal.returns-in-Match
@@ -77,20 +47,6 @@ loop-item-preserved-then-eq c =
       comes = comes-then so_far.comes.reached c.in-Open.ensures.0;
       read = c.in-Open.ensures.1;
       ahead = λ j low high. c.in-Open.ensures.2 j (omega (arith, low, gives.start, gives.end, gives.forward, size, ap length is)) high;
-    }
-
--- over a sequence
-pub loop-item-preserved : goal.loop-item-preserved
-loop-item-preserved c =
-    let so_far = c.loop-item.invariant in
-    let gives = c.in-Some.ensures.steps in
-    record {
-      text = gives.text ∙ so_far.text;
-      left = mark-left (plain c.args.text.now) c.loop-item.place gives so_far.text (is_other c.if-eq.ensures) so_far.left;
-      within = so_far.within;
-      comes = so_far.comes;
-      read = so_far.read;
-      ahead = λ j low high. so_far.ahead j (omega (arith, low, gives.start, gives.end, gives.forward)) high;
     }
 
 -- nothing is left

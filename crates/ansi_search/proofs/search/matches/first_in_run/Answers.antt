@@ -1,16 +1,6 @@
-use Rattle.ansi_search.proofs.Common.{◌≡◌, ◌≢◌, None, Some, drop, length, ◌∙◌, ap, sym, arith, eqb-false, take_rest, length-drop, FindsNeedle}
-use Rattle.ansi_search.proofs.MatchLemmas.{found_inside, none_inside, no_match-short}
+use Rattle.ansi_search.proofs.Common.{◌≡◌, ◌≢◌, None, Some, drop, length, ◌∙◌, ap, sym, arith, eqb-false, take_rest, FindsNeedle}
+use Rattle.ansi_search.proofs.MatchLemmas.{found_inside, none_inside}
 use Rattle.ansi_search.proofs.search.matches.first_in_run.Goals as goal
-
--- what is left of the run is shorter
-pub returns-then-rest-pat : goal.returns-then-rest-pat
-returns-then-rest-pat c =
-    let w = c.args.run.now in
-    let p = c.args.pat.now in
-    let lookup = c.in_ok-rest.ensures.lookup.0 in
-    let rest : c.in_ok-rest.rest.now ≡ drop c.args.from w = lookup.2 ∙ take_rest c.as_bytes.result.now c.args.from ∙ ap (drop c.args.from) c.as_bytes.ensures.value in
-    let filled : length p ≢ 0 = eqb-false (length p) 0 (sym c.if-is_empty.ensures) in
-    no_match-short w p c.args.from (length w) (omega (arith, filled)) (omega (arith, c.if-rest-pat.true, ap length rest, length-drop c.args.from w))
 
 -- a match is found
 pub returns : goal.returns

@@ -1,17 +1,6 @@
-use Rattle.ansi_search.proofs.Common.{◌≡◌, ◌+◌, length, refl, sym, ◌∙◌, ap, IsCharBoundary-end, is_text, rendition_of, apply-no_sgr}
-use Rattle.ansi_search.proofs.OffsetLemmas.{item_range, over_text, over_mark, is_other, way-begin, way-text, way-mark, way-last, way-end, way-test}
+use Rattle.ansi_search.proofs.Common.{◌+◌, refl, sym, ◌∙◌, ap, is_text, apply-no_sgr}
+use Rattle.ansi_search.proofs.OffsetLemmas.{over_text, over_mark, is_other, way-text, way-mark, way-last, way-test}
 use Rattle.ansi_search.proofs.search.offsets.walk_to.Goals as goal
-
-pub range-piece-requires : goal.range-piece-requires
-range-piece-requires c = item_range c.in-Some.ensures.steps c.loop-item.invariant.text
-
-pub loop-item-init : goal.loop-item-init
-loop-item-init c =
-    let begins : c.into_iter-item-iterator.result ≡ record { text = c.args.text.now; offset = 0 } = c.into_iter-item-iterator.ensures.into_iter_gives ∙ c.new-item-items.ensures.start in
-    record {
-      text = ap (λ s. s.text) begins;
-      way = rw begins (way-begin c.args.text.now c.args.position (rendition_of c.args.style.now));
-    }
 
 -- over a text
 pub loop-item-preserved-then-eq : goal.loop-item-preserved-then-eq
@@ -69,18 +58,3 @@ pub returns-then-remaining-piece-clause-style : goal.returns-then-remaining-piec
 returns-then-remaining-piece-clause-style c =
     let over = over_text c.in-Some.ensures.steps c.loop-item.invariant.text c.range-piece.ensures.value (is_text c.if-eq.ensures) in
     (way-last c.loop-item.invariant.way over c.if-remaining-piece.true).1
-
--- nothing is left
-
-pub returns-clause-offset : goal.returns-clause-offset
-returns-clause-offset c =
-    let end = c.in-None.ensures.steps in
-    let there = way-end c.loop-item.invariant.way end.2 in
-    record {
-      good = sym there.1;
-      offset = sym (end.1 ∙ ap length c.loop-item.invariant.text) ∙ there.0;
-      boundary = IsCharBoundary-end c.args.text.now;
-    }
-
-pub returns-clause-style : goal.returns-clause-style
-returns-clause-style c = (way-end c.loop-item.invariant.way c.in-None.ensures.steps.2).2

@@ -1,16 +1,7 @@
-use Rattle.ansi_search.proofs.Common.{◌<◌, ◌++◌, length, take, drop, sym, ◌∙◌, ap, arith, slice_index, IsFalse, length-take-le, plain, has_escape}
+use Rattle.ansi_search.proofs.Common.{◌<◌, ◌++◌, length, take, sym, ◌∙◌, ap, arith, IsFalse, length-take-le, plain, has_escape}
 use Rattle.ansi_search.proofs.MatchLemmas.{no_escape-found}
-use Rattle.ansi_search.proofs.PrefixLemmas.{plain-front, front-bare, bare_before, escape_at}
+use Rattle.ansi_search.proofs.PrefixLemmas.{plain-front, front-bare, bare_before}
 use Rattle.ansi_search.proofs.search.prefix.first_run.Goals as goal
-
--- an ESC is found
-pub after_mark-requires-clause-begins : goal.after_mark-requires-clause-begins
-after_mark-requires-clause-begins c =
-    let bytes = c.as_bytes-bytes.result.now in
-    let len = c.in-Some.len in
-    let size = length-take-le c.min.result bytes (omega (arith, c.min.ensures)) in
-    ap (λ v. slice_index v 0) (c.range_from.ensures.value ∙ ap (drop len) (sym c.as_bytes-bytes.ensures.value))
-    ∙ escape_at bytes c.min.result len (omega (arith, c.in-Some.ensures.0.high, size)) c.in-Some.ensures.1
 
 pub returns-in-Some-clause-front : goal.returns-in-Some-clause-front
 returns-in-Some-clause-front c =
