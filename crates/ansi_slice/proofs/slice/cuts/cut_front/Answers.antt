@@ -10,11 +10,6 @@ returns-in_err-cut-clause-takes_no_memory g c = λ bad.
     let good = is_good_range-front _ c.args.end (IsUtf8-plain c.args.text.now c.utf8.text) ∙ c.in-Some.ensures.offset.good in
     absurd (cc (good, bad))
 
-pub returns-in_err-push_str-clause-takes_no_memory : goal.returns-in_err-push_str-clause-takes_no_memory
-returns-in_err-push_str-clause-takes_no_memory g c = λ bad.
-    let good = is_good_range-front _ c.args.end (IsUtf8-plain c.args.text.now c.utf8.text) ∙ c.in-Some.ensures.offset.good in
-    absurd (cc (good, bad))
-
 pub returns-in_err-write_close-clause-takes_no_memory : goal.returns-in_err-write_close-clause-takes_no_memory
 returns-in_err-write_close-clause-takes_no_memory g c = λ bad.
     let good = is_good_range-front _ c.args.end (IsUtf8-plain c.args.text.now c.utf8.text) ∙ c.in-Some.ensures.offset.good in

@@ -6,9 +6,6 @@ use Rattle.ansi_slice.proofs.slice.cuts.cut_range.Goals as goal
 pub returns-in_default-walk_to-clause-cut : goal.returns-in_default-walk_to-clause-cut
 returns-in_default-walk_to-clause-cut g c = range-by_offset c.requires c.in-Some.ensures.offset c.range_from-rest.ensures.value ∙ c.in_default-walk_to.ensures.offset
 
-pub push_sequences-requires : goal.push_sequences-requires
-push_sequences-requires g c = c.in-Some.ensures.offset.good
-
 -- memory is asked for where the range is good
 
 pub returns-in_err-cut-clause-takes_no_memory : goal.returns-in_err-cut-clause-takes_no_memory

@@ -27,12 +27,6 @@ returns-then-not-has_any-clause-bytes g c =
     c.in-Some.ensures.1 ∙ sym (cut_up_to-bare t s c.unwrap_or-end.result (sym c.has_any.ensures ∙ c.if-not-has_any.true))
     ∙ ap (cut_up_to t s) c.unwrap_or-end.ensures ∙ cut_up_to-unwrap_or t s c.args.end _ (omega arith)
 
-pub returns-then-not-has_any-clause-borrowed : goal.returns-then-not-has_any-clause-borrowed
-returns-then-not-has_any-clause-borrowed g c = (λ _. sym c.has_any.ensures ∙ c.if-not-has_any.true, λ _. tt)
-
-pub returns-then-not-has_any-clause-len : goal.returns-then-not-has_any-clause-len
-returns-then-not-has_any-clause-len g c = omega (arith, ap length (returns-then-not-has_any-clause-bytes g c), length-cut c.args.text.now c.args.start c.args.end)
-
 -- the largest position lies past the end of each text
 
 pub returns-in_default-2-clause-none : goal.returns-in_default-2-clause-none
@@ -40,12 +34,6 @@ returns-in_default-2-clause-none g c =
     let t = c.args.text.now in
     let bad = rw c.in_default-2.is at c.in_ok-cut.ensures.cut in
     none_if_bad (sym (is_good_range-top (plain t) c.args.start c.args.end _ c.unwrap_or-end.ensures (omega (arith, c.ranges.start.fits)) (omega (arith, length-plain t))) ∙ bad)
-
-pub returns-clause-none : goal.returns-clause-none
-returns-clause-none g c =
-    let t = c.args.text.now in
-    let both = rw c.in-Some-2.is at c.in_ok-cut.ensures.cut in
-    some_if_good (sym (is_good_range-top (plain t) c.args.start c.args.end _ c.unwrap_or-end.ensures (omega (arith, c.ranges.start.fits)) (omega (arith, length-plain t))) ∙ both.0)
 
 pub returns-clause-bytes : goal.returns-clause-bytes
 returns-clause-bytes g c =

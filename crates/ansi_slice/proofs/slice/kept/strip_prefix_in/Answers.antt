@@ -2,7 +2,7 @@ use Rattle.ansi_slice.proofs.Common.{◌≡◌, ℕ, true, List, sym, ◌∙◌,
 use Rattle.ansi_search.proofs.PositionLemmas.{none_if_bad, some_if_good}
 use Rattle.ansi_search.proofs.EndLemmas.{starts_with-boundary}
 use Rattle.ansi_search.proofs.SliceLemmas.{slice_range-past}
-use Rattle.ansi_slice.proofs.KeptWalkLemmas.{kept-all, kept-bare, not_lent, not_refused}
+use Rattle.ansi_slice.proofs.KeptWalkLemmas.{kept-all, kept-bare}
 use Rattle.ansi_slice.proofs.slice.kept.strip_prefix_in.Goals as goal
 
 -- without an empty prefix all is kept
@@ -47,10 +47,3 @@ returns-then-not-has_any-clause-bytes g c =
     let n = length c.args.prefix.now in
     let none : IsFalse (has_escape t) = sym c.has_any.ensures ∙ c.if-not-has_any.true in
     c.range_from.ensures.value ∙ sym (kept-bare t n (length (plain t)) none ∙ slice_range-past t n (length (plain t)) (omega (arith, ap length (plain-bare t none))))
-
-pub returns-clause-borrowed : goal.returns-clause-borrowed
-returns-clause-borrowed g c = (λ owned. absurd owned, λ either. absurd (not_lent c.args.text.now c.args.prefix.now c.has_any.ensures c.if-not-has_any.false c.is_empty.ensures c.if-is_empty.false either))
-
-pub returns-in_err-write_from-clause-takes_no_memory : goal.returns-in_err-write_from-clause-takes_no_memory
-returns-in_err-write_from-clause-takes_no_memory g c =
-    λ why. absurd (not_refused c.args.text.now c.args.prefix.now c.has_any.ensures c.if-not-has_any.false c.is_empty.ensures c.if-is_empty.false (sym c.starts_with-2.ensures ∙ c.if-not-starts_with-2.false) why)

@@ -2,7 +2,7 @@ use Rattle.ansi_slice.proofs.Common.{◌++◌, ◌-◌, sym, ◌∙◌, ap, ap�
 use Rattle.ansi_search.proofs.PositionLemmas.{none_if_bad, some_if_good}
 use Rattle.ansi_search.proofs.EndLemmas.{ends_with-boundary}
 use Rattle.ansi_slice.proofs.StretchLemmas.{keeps-at}
-use Rattle.ansi_slice.proofs.KeptWalkLemmas.{kept-all, kept-bare, not_lent, not_refused}
+use Rattle.ansi_slice.proofs.KeptWalkLemmas.{kept-all, kept-bare}
 use Rattle.ansi_slice.proofs.slice.kept.strip_suffix_in.Goals as goal
 
 -- without an empty suffix all is kept
@@ -39,15 +39,6 @@ returns-then-not-has_any-clause-bytes g c =
     let n = length c.args.suffix.now in
     let none : IsFalse (has_escape t) = sym c.has_any.ensures ∙ c.if-not-has_any.true in
     c.range.ensures.value ∙ sym (kept-bare t 0 (length (plain t) - n) none ∙ ap (λ x. slice_range t 0 (length x - n)) (plain-bare t none))
-
-pub returns-clause-borrowed : goal.returns-clause-borrowed
-returns-clause-borrowed g c = (λ owned. absurd owned, λ either. absurd (not_lent c.args.text.now c.args.suffix.now c.has_any.ensures c.if-not-has_any.false c.is_empty.ensures c.if-is_empty.false either))
-
-pub returns-in_err-kept-clause-takes_no_memory : goal.returns-in_err-kept-clause-takes_no_memory
-returns-in_err-kept-clause-takes_no_memory g c = λ why. absurd (not_refused c.args.text.now c.args.suffix.now c.has_any.ensures c.if-not-has_any.false c.is_empty.ensures c.if-is_empty.false c.in-Some.ensures.0 why)
-
-pub returns-in_err-push_up_to-clause-takes_no_memory : goal.returns-in_err-push_up_to-clause-takes_no_memory
-returns-in_err-push_up_to-clause-takes_no_memory g c = λ why. absurd (not_refused c.args.text.now c.args.suffix.now c.has_any.ensures c.if-not-has_any.false c.is_empty.ensures c.if-is_empty.false c.in-Some.ensures.0 why)
 
 -- where the suffix begins, all before it is kept, and the sequences after it
 pub returns-clause-bytes : goal.returns-clause-bytes

@@ -1,4 +1,4 @@
-use Rattle.ansi_slice.proofs.Common.{sym, ◌∙◌, ap, IsFalse, refl, slice_range, plain, has_escape, plain-bare, trim_interval}
+use Rattle.ansi_slice.proofs.Common.{sym, ◌∙◌, ap, IsFalse, slice_range, plain, has_escape, plain-bare, trim_interval}
 use Rattle.ansi_slice.proofs.KeptWalkLemmas.{kept-bare}
 use Rattle.ansi_slice.proofs.TrimLemmas.{slice_range-trim_interval}
 use Rattle.ansi_slice.proofs.slice.kept.trim_in.Goals as goal
@@ -11,9 +11,3 @@ returns-then-not-has_any-clause-bytes g c =
     let i = trim_interval (plain t) in
     c.trim.ensures.trim
     ∙ sym (kept-bare t i.0 i.1 none ∙ ap (λ x. slice_range t (trim_interval x).0 (trim_interval x).1) (plain-bare t none) ∙ slice_range-trim_interval t c.utf8.text)
-
-pub returns-then-not-has_any-clause-borrowed : goal.returns-then-not-has_any-clause-borrowed
-returns-then-not-has_any-clause-borrowed g c = (λ _. sym c.has_any.ensures ∙ c.if-not-has_any.true, λ _. tt)
-
-pub returns-then-not-has_any-clause-takes_no_memory : goal.returns-then-not-has_any-clause-takes_no_memory
-returns-then-not-has_any-clause-takes_no_memory g c = λ _. refl

@@ -1,11 +1,6 @@
 use Rattle.ansi_slice.proofs.Common.{◌++◌, ◌∙◌, ap, pieces_of, sequences_up_to}
-use Rattle.ansi_search.proofs.PositionLemmas.{boundary_is_good}
 use Rattle.ansi_slice.proofs.StretchLemmas.{kept-rest}
 use Rattle.ansi_slice.proofs.slice.kept.write_from.Goals as goal
-
--- a character begins there, or it is the end
-pub push_sequences-requires : goal.push_sequences-requires
-push_sequences-requires g c = boundary_is_good _ _ c.requires
 
 -- the sequences up to there and the rest are what is kept from there on
 pub returns : goal.returns

@@ -1,10 +1,7 @@
-use Rattle.ansi_slice.proofs.Common.{◌≡◌, ◌+◌, length, refl, sym, ◌∙◌, ap, string_bytes, IsCharBoundary-end, is_text, plain_style, apply}
-use Rattle.ansi_search.proofs.OffsetLemmas.{item_range, over_text, over_mark, is_other, way-begin, way-text, way-mark, way-last, way-end, way-boundary}
+use Rattle.ansi_slice.proofs.Common.{◌≡◌, ◌+◌, refl, ◌∙◌, ap, string_bytes, is_text, plain_style, apply}
+use Rattle.ansi_search.proofs.OffsetLemmas.{over_text, over_mark, is_other, way-begin, way-text, way-mark, way-last, way-boundary}
 use Rattle.ansi_slice.proofs.StretchLemmas.{pushed-begin, pushed-text, pushed-mark}
 use Rattle.ansi_slice.proofs.slice.sequences.push_sequences.Goals as goal
-
-pub range-piece-requires : goal.range-piece-requires
-range-piece-requires g c = item_range c.in-Some.ensures.steps c.loop-item.invariant.text
 
 pub loop-item-init : goal.loop-item-init
 loop-item-init g c =
@@ -50,14 +47,4 @@ returns-then-remaining-piece-clause-offset g c =
       good = c.requires;
       offset = at ∙ (way-last way over c.if-remaining-piece.true).0;
       boundary = way-boundary way over c.if-remaining-piece.true at c.requires;
-    }
-
--- nothing is left
-pub returns-clause-offset : goal.returns-clause-offset
-returns-clause-offset g c =
-    let end = c.in-None.ensures.steps in
-    record {
-      good = c.requires;
-      offset = sym (end.1 ∙ ap length c.loop-item.invariant.text) ∙ (way-end c.loop-item.invariant.way.1 end.2).0;
-      boundary = IsCharBoundary-end c.args.text.now;
     }

@@ -1,19 +1,7 @@
 use Rattle.ansi_slice.proofs.Common.{◌++◌, sym, ◌∙◌, ap, ap₂, arith, length, pieces_of, side_up_to}
-use Rattle.ansi_search.proofs.PositionLemmas.{none_if_bad, some_if_good}
 use Rattle.ansi_slice.proofs.SideWalkLemmas.{left_side-is}
 use Rattle.ansi_slice.proofs.LengthLemmas.{length-sides}
 use Rattle.ansi_slice.proofs.slice.sides.left_in.Goals as goal
-
--- by the test of the position
-
-pub returns-then-not-is_good_position-clause-none : goal.returns-then-not-is_good_position-clause-none
-returns-then-not-is_good_position-clause-none g c = none_if_bad (sym c.is_good_position.ensures ∙ c.if-not-is_good_position.true)
-
-pub returns-then-not-has_any-clause-none : goal.returns-then-not-has_any-clause-none
-returns-then-not-has_any-clause-none g c = some_if_good (sym c.is_good_position.ensures ∙ c.if-not-is_good_position.false)
-
-pub returns-clause-none : goal.returns-clause-none
-returns-clause-none g c = some_if_good (sym c.is_good_position.ensures ∙ c.if-not-is_good_position.false)
 
 pub returns-clause-bytes : goal.returns-clause-bytes
 returns-clause-bytes g c =

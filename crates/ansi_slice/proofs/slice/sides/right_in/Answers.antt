@@ -1,19 +1,7 @@
 use Rattle.ansi_slice.proofs.Common.{◌∙◌, ap, arith, length, style_within}
-use Rattle.ansi_search.proofs.PositionLemmas.{none_if_bad, some_if_good}
 use Rattle.ansi_slice.proofs.SideWalkLemmas.{right_side-is}
 use Rattle.ansi_slice.proofs.LengthLemmas.{length-sides}
 use Rattle.ansi_slice.proofs.slice.sides.right_in.Goals as goal
-
--- by the walk to the position
-
-pub returns-in_default-clause-none : goal.returns-in_default-clause-none
-returns-in_default-clause-none g c = none_if_bad c.in_default.ensures.offset
-
-pub returns-then-not-has_any-clause-none : goal.returns-then-not-has_any-clause-none
-returns-then-not-has_any-clause-none g c = some_if_good c.in-Some.ensures.offset.good
-
-pub returns-clause-none : goal.returns-clause-none
-returns-clause-none g c = some_if_good c.in-Some.ensures.offset.good
 
 pub returns-clause-bytes : goal.returns-clause-bytes
 returns-clause-bytes g c =

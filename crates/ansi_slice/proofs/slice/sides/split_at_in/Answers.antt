@@ -1,4 +1,4 @@
-use Rattle.std.proofs.Common.{refl, sym, ◌∙◌, ap, arith, length}
+use Rattle.std.proofs.Common.{sym, ◌∙◌, ap, arith, length}
 use Rattle.ansi_slice.proofs.LengthLemmas.{length-sides}
 use Rattle.ansi_search.proofs.PositionLemmas.{is_position_in-good}
 use Rattle.ansi_slice.proofs.slice.sides.split_at_in.Goals as goal
@@ -10,22 +10,6 @@ halves-requires-clause-good g c = sym (is_position_in-good c.args.text.now c.arg
 
 pub write_sides-requires : goal.write_sides-requires
 write_sides-requires g c = sym (is_position_in-good c.args.text.now c.args.mid c.utf8.text) ∙ c.requires
-
--- the sides of a text without ESC are slices
-
-pub returns-then-not-has_any-clause-left : goal.returns-then-not-has_any-clause-left
-returns-then-not-has_any-clause-left g c = c.halves.ensures.left
-
-pub returns-then-not-has_any-clause-right : goal.returns-then-not-has_any-clause-right
-returns-then-not-has_any-clause-right g c = c.halves.ensures.right
-
-pub returns-then-not-has_any-clause-borrowed : goal.returns-then-not-has_any-clause-borrowed
-returns-then-not-has_any-clause-borrowed g c =
-    let none = sym c.has_any.ensures ∙ c.if-not-has_any.true in
-    ((λ _. none, λ _. tt), (λ _. none, λ _. tt))
-
-pub returns-then-not-has_any-clause-takes_no_memory : goal.returns-then-not-has_any-clause-takes_no_memory
-returns-then-not-has_any-clause-takes_no_memory g c = λ _. refl
 
 -- both sides have their text, and a start and a close for each text item and for the one that is divided
 

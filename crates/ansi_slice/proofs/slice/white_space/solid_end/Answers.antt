@@ -1,18 +1,7 @@
-use Rattle.ansi_slice.proofs.Common.{◌≡◌, refl, sym, ◌∙◌, ap, arith, eqb-true, eqb-false, is_text}
-use Rattle.ansi_search.proofs.OffsetLemmas.{item_range, over_text, over_mark, is_other}
-use Rattle.ansi_slice.proofs.TrimWalkLemmas.{solid-begin, solid-white, solid-other, solid-mark, solid-end}
+use Rattle.ansi_slice.proofs.Common.{refl, sym, ◌∙◌, arith, eqb-true, eqb-false, is_text}
+use Rattle.ansi_search.proofs.OffsetLemmas.{over_text, over_mark, is_other}
+use Rattle.ansi_slice.proofs.TrimWalkLemmas.{solid-white, solid-other, solid-mark, solid-end}
 use Rattle.ansi_slice.proofs.slice.white_space.solid_end.Goals as goal
-
-pub range-run-requires : goal.range-run-requires
-range-run-requires c = item_range c.in-Some.ensures.steps c.loop-item.invariant.text
-
-pub loop-item-init : goal.loop-item-init
-loop-item-init c =
-    let begins : c.into_iter-item-iterator.result ≡ record { text = c.args.text.now; offset = 0 } = c.into_iter-item-iterator.ensures.into_iter_gives ∙ c.new-item-items.ensures.start in
-    record {
-      text = ap (λ s. s.text) begins;
-      so_far = rw begins (solid-begin c.args.text.now c.utf8.text);
-    }
 
 -- over a text that is not white space alone
 pub loop-item-preserved-then-not-is_empty : goal.loop-item-preserved-then-not-is_empty

@@ -1,10 +1,6 @@
 use Rattle.ansi_slice.proofs.Common.{◌≡◌, ◌∷◌, ◌∙◌, sym, arith, eqb-true, eqb-false, Text, pieces_left, is_text, gives_text}
 use Rattle.ansi_slice.proofs.TrimWalkLemmas.{IsUtf8-left, white-text, white-last, white-end}
-use Rattle.ansi_search.proofs.OffsetLemmas.{item_range}
 use Rattle.ansi_slice.proofs.slice.white_space.white_space_len.Goals as goal
-
-pub range-run-requires : goal.range-run-requires
-range-run-requires c = item_range c.in-Some.ensures.steps c.loop-item.invariant.text
 
 -- over a text of white space alone
 pub loop-item-preserved-else-not-is_empty : goal.loop-item-preserved-else-not-is_empty

@@ -1,5 +1,0 @@
-use Rattle.std.proofs.Common.{rules}
-use Rattle.ansi_slice.proofs.slice.range.RangeToInclusiveUsizeAnsiRange.end.Goals as goal
-
-pub returns : goal.returns
-returns c = search rules
