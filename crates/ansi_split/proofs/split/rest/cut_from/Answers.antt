@@ -1,4 +1,4 @@
-use Rattle.ansi_split.proofs.Common.{rules, ◌≡◌, ◌∷◌, ◌++◌, ◌+◌, ◌-◌, Some, length, take, drop, refl, sym, ◌∙◌, ap, ap₂, subst, arith, IsFalse, eqb-true, eqb-false, IsCharBoundary-from_rest, IsCharBoundary, Text, pieces_of, plain_of, plain, has_escape, pieces_left, rendition_of, first_match_from, IsCutAtMatch, gives_text, over_text, over_mark}
+use Rattle.ansi_split.proofs.Common.{rules, ◌≡◌, ◌∷◌, ◌++◌, ◌+◌, ◌-◌, Some, length, take, drop, refl, sym, ◌∙◌, ap, ap₂, subst, arith, IsFalse, eqb-true, eqb-false, IsCharBoundary, Text, pieces_of, plain_of, plain, has_escape, pieces_left, rendition_of, first_match_from, IsCutAtMatch, gives_text, over_text, over_mark}
 use Rattle.ansi_style.proofs.SgrLemmas.{apply-no_sgr}
 use Rattle.ansi_split.proofs.RestLemmas.{boundary-drop, no_escape-later, no_escape-text}
 use Rattle.ansi_split.proofs.MatchWalkLemmas.{walked-begin, walked-text, walked-mark, walked-cut, walked-end, walked-none, walked-empty}
@@ -23,12 +23,6 @@ next_start-ahead-requires-clause-plain c =
     let s = c.loop-item.item-iterator in
     let size : length w ≡ c.in-Some.item.end - c.in-Some.item.start = omega (arith, c.range-piece.ensures.len, gives.forward) in
     ap has_escape (ap₂ (λ n v. take n v) size c.range_from.ensures.value ∙ sym c.range-piece.ensures.value) ∙ no_escape-text (drop s.offset s.text) w (pieces_left c.next.new.self) first
-
-pub split_at-requires : goal.split_at-requires
-split_at-requires c =
-    let gives = c.in-Some.ensures.steps in
-    IsCharBoundary-from_rest c.args.text.now c.in-Some.item.start c.next_start-ahead.result (omega (arith, gives.start_boundary.0, ap length c.loop-item.invariant.text))
-    (subst (λ v. IsCharBoundary v c.next_start-ahead.result) c.range_from.ensures.value (c.next_start-ahead.ensures.boundary c.if-ahead-piece.true))
 
 -- what is left of the run goes on after the cut
 pub invariant_of-result : goal.invariant_of-result

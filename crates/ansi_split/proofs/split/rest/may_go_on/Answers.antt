@@ -1,18 +1,10 @@
-use Rattle.ansi_split.proofs.Common.{◌≡◌, ◌<◌, ℕ, List, [], ◌∷◌, Some, None, ◌-◌, length, take, drop, refl, sym, ◌∙◌, ap, arith, slice_get, slice_index, take_rest}
+use Rattle.ansi_split.proofs.Common.{[], ◌≡◌, ◌<◌, ℕ, List, ◌∷◌, Some, ◌-◌, length, take, drop, sym, ◌∙◌, ap, arith, slice_get, slice_index, take_rest}
 use Rattle.ansi_split.proofs.RestLemmas.{ends_in_run}
 use Rattle.ansi_split.proofs.split.rest.may_go_on.Goals as goal
-
-empty : (p : List ℕ) → None ≡ slice_get p 0 → length p ≡ 0
-empty [] none = refl
-empty (b ∷ p) none = absurd (cc none)
 
 filled : (p : List ℕ) (b : ℕ) → Some b ≡ slice_get p 0 → (0 < length p) × (b ≡ slice_index p 0)
 filled [] b some = absurd (cc some)
 filled (a ∷ p) b some = (omega arith, cc some)
-
--- the empty pattern ends where it begins
-pub returns-in_default : goal.returns-in_default
-returns-in_default c = λ none y i inside match. (let len = empty c.args.pat.now (c.in_default.ensures.value ∙ ap (λ p. slice_get p 0) c.as_bytes.ensures.value) in omega (arith, inside, len))
 
 pub returns : goal.returns
 returns c =

@@ -1,7 +1,7 @@
-use Rattle.ansi_split.proofs.Common.{rules, ◌≡◌, ℕ, List, ◌++◌, if◌then◌else◌, string_bytes, sym, refl, ◌∙◌, ap, subst, arith, and_parts, IsCharBoundary, is_text, gives_text, gives_mark, over_text}
+use Rattle.ansi_split.proofs.Common.{rules, ◌≡◌, ℕ, List, ◌++◌, if◌then◌else◌, string_bytes, sym, refl, ◌∙◌, ap, subst, arith, IsCharBoundary, is_text, gives_text, gives_mark, over_text}
 use Rattle.std.specs.Prelude.{Result, Ok, Err}
 use Rattle.std.specs.Result.{OnOk, is_ok}
-use Rattle.ansi_split.proofs.SpanWalkLemmas.{shown-bare, boundary-bare, shown-begin, shown-mark, shown-skip, shown-rest, shown-boundary, shown-end}
+use Rattle.ansi_split.proofs.SpanWalkLemmas.{shown-bare, boundary-bare, shown-mark, shown-skip, shown-rest, shown-boundary}
 use Rattle.ansi_split.proofs.split.spans.write_text.Goals as goal
 
 -- without a sequence, what follows the plain bytes that are left out stands as it is
@@ -16,14 +16,6 @@ pub returns-then-not-is_marked : goal.returns-then-not-is_marked
 returns-then-not-is_marked g c =
     pushed _ _ _ _ c.push_str.result c.push_str.ensures.bytes
     (ap (λ v. string_bytes c.args.part.now ++ v) (c.range_from.ensures.value ∙ sym (shown-bare c.args.text.now c.args.skip (sym c.requires.marked ∙ c.if-not-is_marked.true))))
-
-pub loop-item-init : goal.loop-item-init
-loop-item-init g c =
-    let begins : c.into_iter-item-iterator.result ≡ record { text = c.args.text.now; offset = 0 } = c.into_iter-item-iterator.ensures.into_iter_gives ∙ c.new-item-items.ensures.start in
-    record {
-      text = ap (λ s. s.text) begins;
-      so_far = rw begins (shown-begin _ c.args.skip _ (and_parts _ _ c.requires.boundary).1);
-    }
 
 -- the plain bytes that are left out end at a character
 pub range_from-requires-then-skip-piece : goal.range_from-requires-then-skip-piece
@@ -60,7 +52,3 @@ loop-item-preserved g c =
       text = gives.text ∙ same;
       so_far = shown-mark c.loop-item.invariant.so_far (gives_mark gives same c.range-piece.ensures.value (search rules)) c.in_ok-push_str-2.ensures.bytes;
     }
-
--- nothing is left
-pub returns : goal.returns
-returns g c = shown-end c.loop-item.invariant.so_far c.in-None.ensures.steps.2
