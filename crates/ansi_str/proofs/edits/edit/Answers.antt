@@ -1,17 +1,7 @@
 use Rattle.ansi_str.proofs.Common.{Some, None, refl, sym, ◌∙◌, ap, is_some, true≢false, cow_str_bytes, change_of, changes_of}
 use Rattle.ansi_str.proofs.EditLemmas.{is_slice_named}
-use Rattle.ansi_str.proofs.EditWalkLemmas.{so_far-more, so_far-refused, so_far-lent, so_far-end}
+use Rattle.ansi_str.proofs.EditWalkLemmas.{so_far-refused, so_far-end}
 use Rattle.ansi_str.proofs.edits.edit.Goals as goal
-
-pub loop-edit-preserved : goal.loop-edit-preserved
-loop-edit-preserved g c =
-    so_far-more change_of c.args.edits.now c.loop-edit.edit-index _ c.loop-edit.invariant c.loop-edit-test.true
-    (rw c.in-Some.is at c.in_ok-next.ensures.bytes) (rw c.in-Some.is at c.in_ok-next.ensures.borrowed)
-
--- where all that is done stays a borrow, no memory is asked for
-pub returns-in_err-next-clause-takes_no_memory : goal.returns-in_err-next-clause-takes_no_memory
-returns-in_err-next-clause-takes_no_memory g c = λ stays.
-    absurd (true≢false (sym (c.in_err-next.ensures.takes_no_memory (so_far-lent change_of c.args.edits.now c.loop-edit.edit-index _ c.loop-edit.invariant c.loop-edit-test.true stays))))
 
 -- an edit that is refused
 pub returns-in-None : goal.returns-in-None

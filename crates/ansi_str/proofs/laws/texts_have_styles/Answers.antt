@@ -1,11 +1,5 @@
-use Rattle.ansi_style.proofs.StyleLemmas.{IsStyle-plain_style, IsStyle-known, IsStyle-apply, IsStyle-style_after_from, IsStyle-style_at, IsStyle-style_after}
+use Rattle.ansi_style.proofs.StyleLemmas.{IsStyle-apply, IsStyle-style_after_from, IsStyle-style_at, IsStyle-style_after}
 use Rattle.ansi_str.proofs.laws.texts_have_styles.Goals as goal
-
-pub returns-clause-plain : goal.returns-clause-plain
-returns-clause-plain c = IsStyle-plain_style
-
-pub returns-clause-known : goal.returns-clause-known
-returns-clause-known c = IsStyle-known
 
 pub returns-clause-sequence : goal.returns-clause-sequence
 returns-clause-sequence c = IsStyle-apply
