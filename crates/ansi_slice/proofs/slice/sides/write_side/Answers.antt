@@ -14,6 +14,7 @@ loop-item-preserved-then-eq g c =
       so_far = side-text c.loop-item.invariant.so_far over.first c.if-remaining-piece.false c.in_ok-write_dressed-2.ensures refl;
     }
 
+-- over a mark
 pub loop-item-preserved : goal.loop-item-preserved
 loop-item-preserved g c =
     let gives = c.in-Some.ensures.steps in
@@ -23,6 +24,8 @@ loop-item-preserved g c =
       way = way-mark c.loop-item.invariant.way over c.write_mark.ensures.style;
       so_far = side-mark c.loop-item.invariant.so_far over.first c.in_ok-write_mark.ensures.bytes c.write_mark.ensures.style;
     }
+
+-- the position stands in a text
 
 pub returns-then-remaining-piece-clause-style : goal.returns-then-remaining-piece-clause-style
 returns-then-remaining-piece-clause-style g c =
