@@ -9,7 +9,9 @@ ghost use Rattle.ansi_search.specs.Matches.{is_match, first_match_from};
 use crate::search::two_way::{Pattern, Point, Sight};
 use ansi_items::ESC;
 use ansi_items::ansitok::{Kind, Scanner};
-use memchr::{memchr, memmem};
+use memchr::memchr;
+use memchr::memmem::Finder;
+use std::mem;
 
 /// As `AnsiStr::ansi_find`.
 pub fn find(text: &str, pat: &str) -> Option<usize>
@@ -86,7 +88,13 @@ fn find_bytes(run: &[u8], pat: &[u8]) -> Option<usize>
 {
     match pat {
         [byte] => memchr(*byte, run),
-        _ => memmem::find(run, pat),
+        _ => {
+            let finder = Finder::new(pat);
+            let found = finder.find(run);
+            // (it owns nothing; a drop would need `Global`, which a module of WebAssembly lacks)
+            mem::forget(finder);
+            found
+        }
     }
 }
 
