@@ -57,13 +57,6 @@ around-more so_far a b after before text end begun more ended =
 
 -- Texts that are written where they belong.
 
--- a part that is a borrow is no error, and the parts after one are borrows too
-pub borrowed-part : {A E : Type 0} (xs us : List SplitPart) (r : Result (CowStr A) E) → GivesPart {A = A} {E = E} xs (Some r) us → IsTrue (list_all (λ (p : SplitPart). p.borrowed) xs) → IsOk r
-borrowed-part xs us (Ok c) gives all = refl
-borrowed-part xs us (Err e) gives all =
-    let both = and_parts gives.0.borrowed (list_all (λ (p : SplitPart). p.borrowed) gives.1) (subst (λ ps. IsTrue (list_all (λ (p : SplitPart). p.borrowed) ps)) gives.2 all) in
-    absurd (cc (both.0, gives.3))
-
 pub borrowed-rest : {xs us : List SplitPart} {p : SplitPart} → xs ≡ p ∷ us → IsTrue (list_all (λ (p : SplitPart). p.borrowed) xs) → IsTrue (list_all (λ (p : SplitPart). p.borrowed) us)
 borrowed-rest {xs} {us} {p} is all = (and_parts p.borrowed (list_all (λ (p : SplitPart). p.borrowed) us) (subst (λ ps. IsTrue (list_all (λ (p : SplitPart). p.borrowed) ps)) is all)).1
 

@@ -20,9 +20,6 @@ joined-mark {whole} {joined} {more} {w} {kind} {left} {ps} so_far begins is =
     let front = ap waiting_before begins.pieces ∙ (through-mark begins.mark w plain_style [] ps begins.is_mark begins.bytes).1 in
     record { bytes = ap (λ u. u ++ waiting_before ps) is ∙ append_assoc joined (copied (Sequence w)) (waiting_before ps) ∙ ap (λ u. joined ++ u) (sym front) ∙ so_far.bytes }
 
-pub joined-sgr : {whole joined w : List ℕ} {kind : Kind} {left ps : List Piece} → IsJoinedSoFar whole joined left → BeginsWithMark kind w left ps → kind ≡ Sgr → IsJoinedSoFar whole joined ps
-joined-sgr {joined = joined} {w = w} so_far begins is = joined-mark so_far begins (sym (ap (λ b. joined ++ (if b then [] else w)) (begins.sgr is) ∙ append-nil joined))
-
 pub joined-other : {whole joined more w : List ℕ} {kind : Kind} {left ps : List Piece} → IsJoinedSoFar whole joined left → BeginsWithMark kind w left ps → kind ≢ Sgr → more ≡ joined ++ w → IsJoinedSoFar whole more ps
 joined-other {joined = joined} {w = w} so_far begins other is = joined-mark so_far begins (is ∙ sym (ap (λ b. joined ++ (if b then [] else w)) (begins.no_sgr other)))
 
@@ -35,20 +32,6 @@ pub record IsRunSoFar (from : Rendition) (t : List ℕ) (s : Rendition) (waits :
 
 pub run-begin : (s : Rendition) (t : List ℕ) → IsRunSoFar s t s false (pieces_of t)
 run-begin s t = record { held = []; blocks = blocks_from-walked s t; front = waiting-front t; some = refl }
-
--- over an SGR
-pub run-sgr : {from s next : Rendition} {t : List ℕ} {waits : Bool} {kind : Kind} {w : List ℕ} {pieces ps : List Piece} → IsRunSoFar from t s waits pieces → BeginsWithMark kind w pieces ps
-    → kind ≡ Sgr → next ≡ apply s w → IsRunSoFar from t next waits ps
-run-sgr {from} {s} {next} {t} {waits} {kind} {w} {pieces} {ps} so_far begins is applied =
-    let first = subst (IsRunSoFar from t s waits) begins.pieces so_far in
-    let step = through-mark begins.mark w s first.held ps begins.is_mark begins.bytes in
-    let none : copied (Sequence w) ≡ [] = ap (λ b. if b then [] else w) (begins.sgr is) in
-    record {
-      held = first.held;
-      blocks = first.blocks ∙ step.0 ∙ ap₂ (λ r h. blocks_through r h ps) (sym applied) (ap (λ u. first.held ++ u) none ∙ append-nil first.held);
-      front = first.front ∙ ap (λ u. first.held ++ u) (step.1 ∙ ap (λ u. u ++ waiting_before ps) none);
-      some = first.some;
-    }
 
 -- over any other mark
 pub run-other : {from s : Rendition} {t : List ℕ} {waits : Bool} {kind : Kind} {w : List ℕ} {pieces ps : List Piece} → IsRunSoFar from t s waits pieces → BeginsWithMark kind w pieces ps
@@ -76,10 +59,6 @@ run-text {from} {s} {t} {waits} {w} {pieces} after so_far is =
     let first = subst (IsRunSoFar from t s waits) is so_far in
     let held : waiting t 0 ≡ first.held = first.front ∙ append-nil first.held in
     (first.blocks ∙ ap₂ (λ u bs. block_after u w s ∷ bs) (sym held) (sym (blocks_from-walked s after)), first.some ∙ ap (λ u. not (length u == 0)) (sym held))
-
--- nothing is left
-pub run-end : {from s : Rendition} {t : List ℕ} {waits : Bool} {pieces : List Piece} → IsRunSoFar from t s waits pieces → pieces ≡ [] → blocks_from from t ≡ []
-run-end {from} {s} {t} {waits} so_far is = (subst (IsRunSoFar from t s waits) is so_far).blocks
 
 -- a block that takes memory is no borrow
 pub not_borrowed : (waits none : Bool) → waits ≡ not none → (waits ≡ false → false ≡ true) → none ≡ false

@@ -27,12 +27,6 @@ pub record IsCountedTo (t : List ℕ) (n total : ℕ) : Type 0 where
 pub counted-begin : (t : List ℕ) → IsCountedTo t 0 0
 counted-begin t = record { all = zero-add _ ∙ ap columns_of (clusters_from-start t); bound = omega arith }
 
-pub counted-more : {t : List ℕ} {n m total width : ℕ} → IsCountedTo t n total → n < m → clusters_from t n ≡ cluster t n m ∷ clusters_from t m → width ≡ cluster_width (cluster t n m) → width ≤ 2 * (m - n) → IsCountedTo t m (total + width)
-counted-more {t} {n} {m} counted less first is bound = record {
-  all = omega (arith, counted.all, is, ap columns_of first, sum_by-cons cluster_width (cluster t n m) (clusters_from t m));
-  bound = omega (arith, counted.bound, bound, less);
-}
-
 pub counted-end : {t : List ℕ} {n total : ℕ} → IsCountedTo t n total → after t n ≡ [] → total ≡ columns (plain t)
 counted-end {t} {n} counted none = omega (arith, counted.all, ap columns_of (clusters_from-end t n none))
 

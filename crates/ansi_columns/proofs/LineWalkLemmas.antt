@@ -38,9 +38,6 @@ pub record IsLaterWord (t : List ℕ) (width start before word end here columns 
 abbrev pub IsLineTo : List ℕ → ℕ → ℕ → ℕ → ℕ → ℕ → ℕ → ℕ → Type 0
 IsLineTo t width start before word end here columns = IsFirstWord t width start word end here columns ⊎ IsLaterWord t width start before word end here columns
 
-pub line-start : (t : List ℕ) (width start before : ℕ) → IsLineTo t width start before start start start 0
-line-start t width start before = inl (record { begins = refl; ends = refl; lines = refl })
-
 module _ (t : List ℕ) (width start before word end here columns : ℕ) where
   abbrev rest : List (List ℕ)
   rest = clusters_from t here

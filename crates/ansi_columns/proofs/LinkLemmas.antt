@@ -40,9 +40,6 @@ address_in begins fields =
 abbrev fields_of : List ℕ → List ℕ
 fields_of w = slice_range w 4 (length w - terminator_len w)
 
-address_of-fields : (w : List ℕ) → address_of w ≡ address_in (starts_with nat_eq w (codes "\u{1b}]8;")) (fields_of w)
-address_of-fields w = refl
-
 no_semicolon : (b : ℕ) → is_byte 59 b ≡ false → has_no_semicolon b ≡ true
 no_semicolon b h = grind (arith, nat_tests)
 

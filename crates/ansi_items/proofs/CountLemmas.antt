@@ -54,20 +54,11 @@ intermediate_is_plain b h = grind (arith, nat_tests)
 body_is_plain : (o b : ℕ) → is_body_byte o b ≡ true → is_plain_byte b ≡ true
 body_is_plain o b h = grind (arith, nat_tests)
 
-plain_is_body : (o b : ℕ) → opens_command o ≡ false → is_plain_byte b ≡ true → is_body_byte o b ≡ true
-plain_is_body o b other h = grind (arith, nat_tests)
-
 pub intermediates_within : (bs : List ℕ) → prefix_len is_intermediate_byte bs ≤ before_escape bs
 intermediates_within bs = omega (arith, runs_on is_intermediate_byte is_plain_byte bs intermediate_is_plain)
 
 pub body_within : (o : ℕ) (bs : List ℕ) → prefix_len (is_body_byte o) bs ≤ before_escape bs
 body_within o bs = omega (arith, runs_on (is_body_byte o) is_plain_byte bs (body_is_plain o))
-
--- the body of a string that is no command goes on up to the next ESC
-pub text_is_body : (o : ℕ) (bs : List ℕ) → opens_command o ≡ false → prefix_len is_plain_byte bs ≡ prefix_len (is_body_byte o) bs
-text_is_body o bs other =
-    let below = runs_on is_plain_byte (is_body_byte o) bs (λ b h. plain_is_body o b other h) in
-    omega (arith, below, body_within o bs)
 
 pub parameters_within : (bs : List ℕ) → prefix_len is_parameter_byte bs ≤ before_escape bs
 parameters_within bs = omega (arith, runs_on is_parameter_byte is_plain_byte bs parameter_is_plain)

@@ -145,20 +145,6 @@ control_at-final t n final is_sgr parameters here passes tells =
     ap₂ (λ b k. Some (front_of (if b then Sgr else Other) k)) tells (omega arith)
     ∙ control_at-read t n 0 final parameters (alone t n final here other) last passes
 
--- the byte after the parameters and the intermediate bytes is no final one
-pub control_at-unended : (t : List ℕ) (n m b : ℕ) → n ≡ prefix_len is_parameter_byte t → m ≡ prefix_len is_intermediate_byte (drop n t) → b ≡ slice_index t (n + m)
-    → is_final_byte b ≡ false → None ≡ control_at t
-unfolding control_at
-control_at-unended t n m b parameters intermediates here not_final =
-    let last : prefix_len is_parameter_byte t + prefix_len is_intermediate_byte (drop (prefix_len is_parameter_byte t) t) ≡ n + m
-    = ap (λ k. k + prefix_len is_intermediate_byte (drop k t)) (sym parameters) ∙ ap (λ k. n + k) (sym intermediates) in
-    sym (cond-false _ _ _ (ap (λ k. is_final_byte (slice_index t k)) last ∙ ap is_final_byte (sym here) ∙ not_final))
-
--- it follows the parameters, and is no intermediate byte
-pub control_at-other : (t : List ℕ) (n b : ℕ) → n ≡ prefix_len is_parameter_byte t → b ≡ slice_index t n → is_intermediate_byte b ≡ false → is_final_byte b ≡ false → None ≡ control_at t
-control_at-other t n b parameters here other not_final =
-    control_at-unended t n 0 b parameters (alone t n b here other) (here ∙ ap (slice_index t) (omega arith)) not_final
-
 -- the final byte follows the intermediate ones
 pub control_at-later : (t : List ℕ) (n m final : ℕ) → n ≡ prefix_len is_parameter_byte t → 1 + m ≡ prefix_len is_intermediate_byte (drop n t) → final ≡ slice_index t (n + (1 + m)) → is_final_byte final ≡ true
     → Some (front_of Other (n + (1 + m) + 3)) ≡ control_at t

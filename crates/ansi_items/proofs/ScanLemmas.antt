@@ -122,10 +122,3 @@ scan_step t bytes offset f same utf8 here more e =
     let rest : take (length bytes - offset) (drop offset bytes) ≡ drop offset t = take_rest bytes offset ∙ ap (drop offset) same in
     let some : length (drop offset t) ≢ 0 = subst (λ (v : List ℕ). length v ≢ 0) rest (eqb-false _ 0 more) in
     subst (IsStep t offset) (sym (e ∙ ap front_at rest)) (step_at t offset (subst IsUtf8 same utf8) here (drop offset t) refl (omega (arith, some)))
-
-pub scan_end : (t bytes : List ℕ) (offset : ℕ) → bytes ≡ t → IsCharBoundary t offset → eqb (length (take (length bytes - offset) (drop offset bytes))) 0 ≡ true →
-    (offset ≡ length t) × (pieces_of (drop offset t) ≡ [])
-scan_end t bytes offset same here none =
-    let empty : length (take (length bytes - offset) (drop offset bytes)) ≡ 0 = eqb-true _ 0 none in
-    let past : length bytes ≤ offset = omega (arith, ap length (take_rest bytes offset), length-drop offset bytes) in
-    (omega (arith, ap length same, here.0), ap (λ v. pieces_of (drop offset v)) (sym same) ∙ ap pieces_of (drop_all offset bytes past))

@@ -205,12 +205,6 @@ pub way-test : {t : List ℕ} {n passed at left i : ℕ} {start style : Renditio
     → IsTrue b ↔ IsCharBoundary t i → b ≡ is_good_position (plain t) n
 way-test {t} {i = i} {b = b} way over last is test = (let here = way-good way over last is in boundary_test t i b here.0 test ∙ here.1)
 
-pub way-inside : {t : List ℕ} {n passed at left : ℕ} {start style : Rendition} {w : List ℕ} {old ps : List Piece} → IsOnTheWay t n start passed left style old → IsOverText t w passed at old ps → left < length w
-    → IsTrue (is_good_position (plain t) n) → IsCharBoundary w left
-way-inside {left = left} {w = w} {ps = ps} way over last good =
-    good_is_boundary w left (omega (arith, last))
-    (sym (is_good_position-append w (plain_of ps) left last) ∙ ap (λ qs. is_good_position (plain_of qs) left) (sym over.first) ∙ way.good ∙ good)
-
 pub way-boundary : {t : List ℕ} {n passed at left i : ℕ} {start style : Rendition} {w : List ℕ} {old ps : List Piece} → IsOnTheWay t n start passed left style old → IsOverText t w passed at old ps → left < length w → i ≡ passed + left
     → IsTrue (is_good_position (plain t) n) → IsCharBoundary t i
 way-boundary {t} {i = i} way over last is good = (let here = way-good way over last is in good_is_boundary t i here.0 (here.1 ∙ good))
@@ -220,13 +214,6 @@ pub record IsPassed (t : List ℕ) (place passed : ℕ) (left : List Piece) : Ty
   pub count : place + length (plain_of left) ≡ length (plain t)
   pub rest : drop place (plain t) ≡ plain_of left
   pub offset : (n : ℕ) → offset_of t (place + n) ≡ passed + bytes_before n left
-
-pub passed-begin : (t : List ℕ) → IsPassed t 0 0 (pieces_of t)
-passed-begin t = record {
-  count = omega arith;
-  rest = refl;
-  offset = λ n. (let all : 0 + n ≡ n = omega arith in omega (arith, ap (offset_of t) all));
-}
 
 pub passed-text : {t : List ℕ} {place passed at : ℕ} {w : List ℕ} {left ps : List Piece} → IsPassed t place passed left → IsOverText t w passed at left ps → IsPassed t (place + length w) at ps
 passed-text {t} {place} {passed} {w = w} {ps = ps} way over =

@@ -60,20 +60,6 @@ boundary_test x n b within test = both_ways _ _ (λ yes. boundary_is_good x n (t
 pub char_boundary_is : (x : List ℕ) (n : ℕ) → IsTrue (is_char_boundary x n) ↔ IsCharBoundary x n
 char_boundary_is x n = (is_char_boundary-is x n, is_char_boundary-from x n)
 
--- a position past the end counts as the end
-pub good_position_is : (x : List ℕ) (n : ℕ) → IsTrue (is_good_position x n) ↔ IsCharBoundary x (min n (length x))
-good_position_is x n = (
-  boundary_inside x n,
-  λ boundary. elim (cases_lt n (length x)) [
-    | inl within ↦ (let here : min n (length x) ≡ n = omega arith in boundary_is_good x n (subst (IsCharBoundary x) here boundary))
-    | inr past ↦ is_good_position-past x n past
-  ],
-)
-
--- by the test that the code makes of it
-pub position_test : (x : List ℕ) (n : ℕ) {i : ℕ} {b : Bool} → i ≡ min n (length x) → IsTrue b ↔ IsCharBoundary x i → b ≡ is_good_position x n
-position_test x n is test = both_ways _ _ (λ yes. (good_position_is x n).1 (subst (IsCharBoundary x) is (test.0 yes))) (λ good. test.1 (subst (IsCharBoundary x) (sym is) ((good_position_is x n).0 good)))
-
 -- Boundaries of a run within a plain text.
 
 pub boundary_in_run : (x w y : List ℕ) (place k : ℕ) → drop place x ≡ w ++ y → place ≤ length x → k < length w → IsCharBoundary w k ↔ IsCharBoundary x (place + k)
@@ -89,22 +75,6 @@ boundary_in_run x w y place k left within short =
 
 pub good_range_tests : (x : List ℕ) (s e : ℕ) → s ≤ e → is_good_position x s ≡ true → is_good_position x e ≡ true → is_good_range x s (Some e) ≡ true
 good_range_tests x s e ordered from to = and_from _ _ (le-leb s e ordered) (and_from _ _ from to)
-
-and_false : (b : Bool) → b && false ≡ false
-and_false true = refl
-and_false false = refl
-
-pub is_good_range-bad_start : (x : List ℕ) (s e : ℕ) → is_good_position x s ≡ false → is_good_range x s (Some e) ≡ false
-is_good_range-bad_start x s e bad = ap (λ b. nat_le s e && (b && is_good_position x e)) bad ∙ and_false (nat_le s e)
-
-pub is_good_range-bad_end : (x : List ℕ) (s e : ℕ) → is_good_position x e ≡ false → is_good_range x s (Some e) ≡ false
-is_good_range-bad_end x s e bad = ap (λ b. nat_le s e && (is_good_position x s && b)) bad ∙ ap (λ b. nat_le s e && b) (and_false (is_good_position x s)) ∙ and_false (nat_le s e)
-
-pub good_range_parts : (x : List ℕ) (s e : ℕ) → IsTrue (is_good_range x s (Some e)) → (s ≤ e) × IsTrue (is_good_position x s) × IsTrue (is_good_position x e)
-good_range_parts x s e good =
-    let both = and_parts (nat_le s e) (is_good_position x s && is_good_position x e) good in
-    let ends = and_parts (is_good_position x s) (is_good_position x e) both.1 in
-    (leb-true s e both.0, ends.0, ends.1)
 
 pub good_range_from : (x : List ℕ) (s e : ℕ) → s ≤ e → IsCharBoundary x s → IsCharBoundary x e → is_good_range x s (Some e) ≡ true
 good_range_from x s e ordered from to = good_range_tests x s e ordered (boundary_is_good x s from) (boundary_is_good x e to)
@@ -130,13 +100,6 @@ is_good_range-top x s None top is below past =
     and_true true = refl
     and_true false = refl
 is_good_range-top x s (Some n) top is below past = ap (λ n. is_good_range x s (Some n)) is
-
--- a range is good where its ends are, in order
-pub good_range_is : (x : List ℕ) (s e : ℕ) → IsTrue (is_good_range x s (Some e)) ↔ ((s ≤ e) × IsCharBoundary x (min s (length x)) × IsCharBoundary x (min e (length x)))
-good_range_is x s e = (
-  λ good. (let parts = good_range_parts x s e good in (parts.0, boundary_inside x s parts.1, boundary_inside x e parts.2)),
-  λ ends. good_range_tests x s e ends.0 ((good_position_is x s).1 ends.1) ((good_position_is x e).1 ends.2),
-)
 
 -- Where a text may be divided and cut, its plain text is.
 

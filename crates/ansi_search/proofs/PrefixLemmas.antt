@@ -53,12 +53,6 @@ no_text u (b ∷ w) ps are escapes =
     let first : b ≡ escape = sym (ap (λ v. slice_index v 0) are.1) ∙ escapes in
     true≢false (sym (and_parts (is_plain_byte b) (list_all is_plain_byte w) are.2.1).0 ∙ ap is_plain_byte first)
 
--- a scanner at an ESC gives a mark
-pub mark_at_escape : {old new : Scan} {item : Item} {u : List ℕ} → Gives old item new → old ≡ record { text = u; offset = 0 } → slice_index u 0 ≡ escape → item.kind ≢ TextKind
-mark_at_escape {old} {new} {item} {u} gives begins escapes kind =
-    let pieces = gives_text gives (ap (λ s. s.text) begins) refl kind in
-    no_text u (slice_range u item.start item.end) (pieces_left new) (subst (ArePieces u) (sym (ap pieces_left begins) ∙ pieces) (pieces_are u)) escapes
-
 -- Whether the pattern stands there.
 
 -- it depends on the bytes up to the pattern's end alone

@@ -161,18 +161,6 @@ run-occurs {new = new} {w = w} x place gives same kind left is within =
 pub run-length : {old new : Scan} {item : Item} {u : List ℕ} → Gives old item new → old.text ≡ u → length (slice_range u item.start item.end) ≡ item.end - item.start
 run-length {item = item} {u = u} gives same = length-slice_range u item.start item.end (omega (arith, gives.forward)) (omega (arith, gives.end_boundary.0, ap length same))
 
--- it stands in the text too
-pub run-stands : {old new : Scan} {item : Item} {u w : List ℕ} → Gives old item new → old.text ≡ u → w ≡ slice_range u item.start item.end → OccursAt u w item.start
-run-stands {item = item} {u = u} {w = w} gives same is =
-    let size : length w ≡ item.end - item.start = ap length is ∙ run-length gives same in
-    OccursAt-from_part u w item.start (omega (arith, size, gives.forward, gives.end_boundary.0, ap length same)) (ap (λ n. take n (drop item.start u)) size ∙ sym is)
-
--- what is left after a sequence
-pub mark-left : {old new : Scan} {item : Item} {u : List ℕ} (x : List ℕ) (place : ℕ) → Gives old item new → old.text ≡ u → item.kind ≢ TextKind → plain_of (pieces_left old) ≡ drop place x → plain_of (pieces_left new) ≡ drop place x
-mark-left {old} {new} {item} {u} x place gives same kind left =
-    let mark : BeginsWithMark item.kind (slice_range u item.start item.end) (pieces_left old) (pieces_left new) = gives_mark gives same refl kind in
-    sym (ap plain_of mark.pieces ∙ plain_of-mark mark.mark (pieces_left new) mark.is_mark) ∙ left
-
 -- Whether the front stands.
 
 pub front-in-run : (x run f : List ℕ) (place i : ℕ) → OccursAt x run place → place ≤ i → i + length f ≤ place + length run → starts_with nat_eq (drop (i - place) run) f ≡ starts_with nat_eq (drop i x) f

@@ -32,14 +32,3 @@ shown_from-one_text (b ∷ bs) s e = append-nil (slice_range (b ∷ bs) s e)
 
 pub kept-bare : (t : List ℕ) (s e : ℕ) → IsFalse (has_escape t) → kept t s e ≡ slice_range t s e
 kept-bare t s e none = kept-walk t s e ∙ ap (shown_from true s e) (pieces_of-bare t none) ∙ shown_from-one_text t s e
-
--- a text with ESC isn't lent, unless all of it is kept
-pub not_lent : (t p : List ℕ) {marked empty : Bool} → marked ≡ has_escape t → marked ≡ true → empty ≡ nat_eq (length p) 0 → empty ≡ false → IsFalse (has_escape t) ⊎ (p ≡ []) → ⊥
-not_lent t p marked_is marked empty_is empty (inl bare) = cc
-not_lent t p marked_is marked empty_is empty (inr none) = (let zero : nat_eq (length p) 0 ≡ true = ap (λ v. nat_eq (length v) 0) none in cc)
-
--- and its test of an end holds
-pub not_refused : (t p : List ℕ) {marked empty test : Bool} → marked ≡ has_escape t → marked ≡ true → empty ≡ nat_eq (length p) 0 → empty ≡ false → test ≡ true → IsFalse (has_escape t) ⊎ (p ≡ []) ⊎ IsFalse test → ⊥
-not_refused t p marked_is marked empty_is empty holds (inl bare) = not_lent t p marked_is marked empty_is empty (inl bare)
-not_refused t p marked_is marked empty_is empty holds (inr (inl none)) = not_lent t p marked_is marked empty_is empty (inr none)
-not_refused t p marked_is marked empty_is empty holds (inr (inr bad)) = cc

@@ -101,9 +101,6 @@ right_side-is {t} {rest} {mid} {i} {top} {style} stands is styled fits =
 pub record IsSideSoFar (whole written : List ℕ) (style : Rendition) (n : ℕ) (left : List Piece) : Type 0 where
   pub side : written ++ side_up_to style n left ≡ whole
 
-pub side-begin : (out : List ℕ) (s : Rendition) (n : ℕ) (t : List ℕ) → IsSideSoFar (out ++ side_up_to s n (pieces_of t)) out s n (pieces_of t)
-side-begin out s n t = record { side = refl }
-
 pub side-text : {whole written new : List ℕ} {style : Rendition} {n next : ℕ} {w : List ℕ} {left ps : List Piece} → IsSideSoFar whole written style n left → left ≡ Text w ∷ ps → length w ≤ n
     → new ≡ written ++ dressed style w → next ≡ n - length w → IsSideSoFar whole new style next ps
 side-text {whole} {written} {new} {style} {n} {next} {w} {left} {ps} so_far first within more is =
@@ -127,14 +124,3 @@ side-mark {whole} {written} {new} {style} {next} {n} {kind} {w} {left} {ps} so_f
     rw (more, applied) (record { side = append_assoc written (copied (Sequence w)) (side_up_to (apply style w) n ps) ∙ ap (λ v. written ++ v) (sym here) ∙ so_far.side })
 
 -- the place stands in the text that comes next, or nothing is left
-
-pub side-last : {whole written new : List ℕ} {style : Rendition} {n : ℕ} {w v : List ℕ} {left ps : List Piece} → IsSideSoFar whole written style n left → left ≡ Text w ∷ ps → n < length w
-    → v ≡ slice_range w 0 n → new ≡ written ++ dressed style v → new ≡ whole
-side-last {written = written} {style = style} {n} {w} {ps = ps} so_far first last front more =
-    let all : n - 0 ≡ n = omega arith in
-    more
-    ∙ ap (λ u. written ++ dressed style u) (front ∙ ap (λ k. take k w) all)
-    ∙ ap (λ u. written ++ u) (sym (ap (side_up_to style n) first ∙ side_up_to-last style n w ps last)) ∙ so_far.side
-
-pub side-end : {whole written : List ℕ} {style : Rendition} {n : ℕ} {left : List Piece} → IsSideSoFar whole written style n left → left ≡ [] → written ≡ whole
-side-end {written = written} {style = style} {n} so_far none = sym (append-nil written) ∙ ap (λ ps. written ++ side_up_to style n ps) (sym none) ∙ so_far.side

@@ -131,9 +131,6 @@ pub record IsEndSoFar (whole place end : ℕ) (left : List Piece) : Type 0 where
   pub white : length (trim_end (plain_of left)) ≡ 0 → end ≡ whole
   pub other : 0 < length (trim_end (plain_of left)) → place + length (trim_end (plain_of left)) ≡ whole
 
-end-begin : (t : List ℕ) → IsEndSoFar (length (trim_end (plain t))) 0 0 (pieces_of t)
-end-begin t = record { white = λ none. sym none; other = λ some. omega arith }
-
 -- what the texts after this one make of the end
 end-ahead : {whole place : ℕ} {end next : ℕ} (w : List ℕ) (ps : List Piece) → IsEndSoFar whole place end (Text w ∷ ps) → IsUtf8 w
     → (length (trim_end (plain_of ps)) ≡ 0 → next ≡ whole) → IsEndSoFar whole (place + length w) next ps
@@ -185,9 +182,6 @@ pub record IsSolidSoFar (t : List ℕ) (passed end : ℕ) (left : List Piece) : 
   pub ends : IsEndSoFar (length (trim_end (plain t))) place found left
   pub way : IsPassed t place passed left
   pub keeps : KeepsUpTo t found end
-
-pub solid-begin : (t : List ℕ) → IsUtf8 t → IsSolidSoFar t 0 0 (pieces_of t)
-solid-begin t utf8 = record { place = 0; found = 0; ends = end-begin t; way = passed-begin t; keeps = record { boundary = IsCharBoundary-start t utf8; bytes = refl } }
 
 pub solid-white : {t : List ℕ} {passed at end : ℕ} {w front : List ℕ} {left ps : List Piece} → IsSolidSoFar t passed end left → IsOverText t w passed at left ps
     → front ≡ trim_end w → IsUtf8 w → length front ≡ 0 → IsSolidSoFar t at end ps

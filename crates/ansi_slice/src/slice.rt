@@ -15,6 +15,7 @@ use ansi_items::ansitok::{Kind, Scanner};
 pub use cuts::{cut_in, get_in};
 pub use kept::{strip_prefix_in, strip_suffix_in, trim_in};
 pub use range::AnsiRange;
+pub use sequences::push_sequences;
 pub use sides::{left_in, right_in, split_at_in};
 use std::alloc::{AllocError, Allocator};
 use std::borrow::CowStr;

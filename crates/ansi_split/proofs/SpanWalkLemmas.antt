@@ -24,9 +24,6 @@ pub record IsShownSoFar (whole written : List ℕ) (skip : ℕ) (left : List Pie
   pub shown : written ++ left_of skip left ≡ whole
   pub good : IsTrue (is_good_position (plain_of left) skip)
 
-pub shown-begin : (written : List ℕ) (skip : ℕ) (ps : List Piece) → IsTrue (is_good_position (plain_of ps) skip) → IsShownSoFar (written ++ left_of skip ps) written skip ps
-shown-begin written skip ps good = record { shown = refl; good = good }
-
 -- a text in front
 show-front : (w : List ℕ) (ps : List Piece) (a : ℕ) → left_of a (Text w ∷ ps) ≡ drop a w ++ left_of (a - length w) ps
 show-front w ps a =
@@ -87,10 +84,6 @@ shown-mark {whole} {old} {new} {skip} {kind} {w} {left} {ps} so_far begins more 
       good = ap (λ x. is_good_position x skip) (sym (plain_of-mark begins.mark ps begins.is_mark)) ∙ first.good;
     } in
     rw (more, ← begins.bytes) step
-
-pub shown-end : {whole written : List ℕ} {skip : ℕ} {left : List Piece} → IsShownSoFar whole written skip left → left ≡ [] → written ≡ whole
-shown-end {whole} {written} {skip} so_far none =
-    sym (append-nil written) ∙ ap (λ u. written ++ u) (sym (show-nil skip 0)) ∙ (subst (IsShownSoFar whole written skip) none so_far).shown
 
 -- The start, the text and the close where the style has any are the part.
 

@@ -94,9 +94,6 @@ IsStyle-apply_all s (w ∷ ws) is = IsStyle-apply_all (apply s w) ws (IsStyle-ap
 pub IsStyle-plain_style : IsStyle plain_style
 IsStyle-plain_style = is_style plain_style (tt, tt, tt, tt)
 
-pub IsStyle-known : (s : Rendition) → IsStyle s → IsStyle (known s)
-IsStyle-known s is = is_style (known s) (has_ranges s is)
-
 pub IsStyle-style_after_from : (s : Rendition) (t : List ℕ) → IsStyle s → IsStyle (style_after_from s t)
 IsStyle-style_after_from s t is = IsStyle-apply_all s (map (λ (m : Mark). m.bytes) (marks t)) is
 

@@ -1,11 +1,7 @@
 //! The stretches of a text that the lines of a wrap are written from.
 ghost use Rattle.std.specs.Prelude.{◌≡◌, ◌+◌, ◌≤◌, ◌++◌, [], length, IsTrue, IsFalse, IsOk, IfOk, OnOk, string_bytes};
 ghost use Rattle.std.specs.Option.{MatchOption};
-ghost use Rattle.ansi_items.specs.Pieces.{pieces_of};
 ghost use Rattle.ansi_items.specs.Plain.{plain};
-ghost use Rattle.ansi_search.specs.Positions.{is_good_position};
-ghost use Rattle.ansi_slice.specs.Stretches.{sequences_up_to};
-ghost use Rattle.ansi_search.specs.Offsets.{StandsIn};
 ghost use Rattle.ansi_style.specs.States.{rendition_of};
 ghost use Rattle.ansi_style.specs.Written.{close_if_any, longest_start_and_close};
 ghost use Rattle.ansi_columns.specs.Links.{link_end, longest_link_end};
@@ -15,8 +11,7 @@ use crate::lines::first_line;
 use crate::links::{Pen, no_pen, pen_after_from};
 use crate::shown::LINK_END;
 use crate::walks::Walk;
-use ansi_items::ansitok::{Kind, Scanner};
-use ansi_slice::slice::has_any;
+use ansi_slice::slice::{has_any, push_sequences};
 use ansi_style::styles;
 use std::alloc::{AllocError, Allocator};
 use std::borrow::CowStr;
@@ -114,32 +109,6 @@ fn push_end<A: Allocator>(out: &mut String<A>, pen: &Pen<'_>) -> Result<(), Allo
         styles::write_close(&pen.style, out)?;
     }
     Ok(())
-}
-
-/// Appends every sequence of a text up to a good position, and gives where that stands in the text, after
-/// them. An `Err` means out of memory; what was appended up to there stands.
-fn push_sequences<A: Allocator>(
-    out: &mut String<A>,
-    text: &str,
-    position: usize,
-) -> Result<usize, AllocError>
-    requires { IsTrue (is_good_position (plain text.now) position) }
-    ensures bytes { OnOk result (string_bytes out.new ≡ string_bytes out.old ++ sequences_up_to position (pieces_of text.now)) }
-    ensures offset { IfOk result (StandsIn text.now position) }
-{
-    let mut remaining = position;
-    for item in Scanner::new(text) {
-        let piece = &text[item.start..item.end];
-        if item.kind == Kind::Text {
-            if remaining < piece.len() {
-                return Ok(item.start + remaining);
-            }
-            remaining -= piece.len();
-        } else {
-            out.push_str(piece)?;
-        }
-    }
-    Ok(text.len())
 }
 
 /// The spans of the lines of a text, in order: an iterator that takes no memory.
