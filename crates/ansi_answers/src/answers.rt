@@ -3,7 +3,7 @@ ghost use Rattle.std.specs.Prelude.{◌≡◌, option_map, MatchResult, string_b
 ghost use Rattle.std.specs.Cow.{cow_str_bytes};
 ghost use Rattle.ansi_answers.specs.Answers.{done, failed, told, out_of_memory, HasFailed, IsWritten, IsFound};
 
-use std::alloc::AllocError;
+use std::alloc::{AllocError, Allocator};
 use std::borrow::CowStr;
 
 /// It is done, or it is so.
@@ -67,8 +67,8 @@ pub fn write(text: &[u8], buffer: &mut [u8]) -> Answer
 }
 
 /// Writes a text that was found, or answers a status where there is none, or that memory has run out.
-pub fn write_found(
-    found: Result<Option<CowStr<'_>>, AllocError>,
+pub fn write_found<A: Allocator>(
+    found: Result<Option<CowStr<'_, A>>, AllocError>,
     absent: u32,
     buffer: &mut [u8],
 ) -> Answer
@@ -84,7 +84,7 @@ pub fn write_found(
 }
 
 /// Writes a text that was made, or answers that memory has run out.
-pub fn write_made(made: Result<String, AllocError>, buffer: &mut [u8]) -> Answer
+pub fn write_made<A: Allocator>(made: Result<String<A>, AllocError>, buffer: &mut [u8]) -> Answer
     ensures { MatchResult made
         (λ made. IsWritten (string_bytes made) result buffer.old buffer.new)
         (λ e. HasFailed out_of_memory result buffer.old buffer.new) }

@@ -9,7 +9,7 @@ ghost use Rattle.ansi_answers.specs.Steps.{change_of_step, patterns_of};
 
 use ansi_str::{Edit, edit};
 use simdutf8::basic::from_utf8;
-use std::alloc::{AllocError, Global};
+use std::alloc::{AllocError, Allocator};
 use std::borrow::CowStr;
 
 const CUT: u32 = 0;
@@ -49,11 +49,11 @@ pub fn are_patterns_utf8(steps: &[EditStep<'_>]) -> bool
 }
 
 /// What steps make of a text, each done on what the one before gave, or `None` where one is refused.
-pub fn edit_in_turn<'t>(
-    alloc: Global,
+pub fn edit_in_turn<'t, A: Allocator + Copy>(
+    alloc: A,
     text: &'t str,
     steps: &[EditStep<'_>],
-) -> Result<Option<CowStr<'t>>, AllocError>
+) -> Result<Option<CowStr<'t, A>>, AllocError>
     requires { IsTrue (list_all is_utf8 (patterns_of steps.now)) }
     ensures bytes { IfOk result (λ o. option_map cow_str_bytes o ≡ edited (map change_of_step steps.now) text.now) }
     ensures takes_no_memory { IsTrue (stay_borrowed (map change_of_step steps.now) text.now) → IsOk result }
@@ -70,11 +70,11 @@ pub fn edit_in_turn<'t>(
 
 /// What one step makes of what the steps before it gave, or `None` where it is refused. What is owned
 /// stays owned.
-fn edit_given<'t>(
-    alloc: Global,
-    given: CowStr<'t>,
+fn edit_given<'t, A: Allocator + Copy>(
+    alloc: A,
+    given: CowStr<'t, A>,
     step: &EditStep<'_>,
-) -> Result<Option<CowStr<'t>>, AllocError>
+) -> Result<Option<CowStr<'t, A>>, AllocError>
     requires { IsUtf8 step.now.pattern.now }
     ensures bytes { IfOk result (λ o. option_map cow_str_bytes o ≡ edited_by (change_of_step step.now) (cow_str_bytes given.entry)) }
     ensures borrowed { IfOk result (λ o. IfSome o (λ c. IsBorrowedStr c ↔ (IsBorrowedStr given.entry × IsTrue (gives_borrow (change_of_step step.now) (cow_str_bytes given.entry))))) }

@@ -10,7 +10,7 @@ use crate::answers::{OK, OUT_OF_MEMORY, TOO_SMALL};
 use crate::styles::StyleData;
 use ansi_str::split::split_in;
 use ansi_str::{AnsiBlock, get_blocks, laws};
-use std::alloc::{AllocError, Global};
+use std::alloc::{AllocError, Allocator};
 use std::fmt::Write;
 
 /// What a call answers that gives several texts: a status, how many they are, and their length
@@ -57,8 +57,8 @@ pub struct StyledBlockEntry {
 
 /// Writes the parts of a text without ESC, and where each ends, where there is room for all of them. Takes
 /// no memory.
-pub fn write_bare_parts(
-    alloc: Global,
+pub fn write_bare_parts<A: Allocator + Copy>(
+    alloc: A,
     text: &str,
     pat: &str,
     buffer: &mut [u8],
@@ -84,8 +84,8 @@ pub fn write_bare_parts(
 
 /// How many parts a text without ESC has and their length together, where there is no room for so many bytes
 /// or so many ends. They are counted only where there might be none.
-fn parts_without_room(
-    alloc: Global,
+fn parts_without_room<A: Allocator + Copy>(
+    alloc: A,
     text: &str,
     pat: &str,
     bytes: usize,
@@ -111,8 +111,8 @@ fn parts_without_room(
 
 /// Writes the parts of a text without ESC, and where each ends, as far as there is room, and gives how many
 /// they are and their length together.
-fn copy_bare_parts(
-    alloc: Global,
+fn copy_bare_parts<A: Allocator + Copy>(
+    alloc: A,
     text: &str,
     pat: &str,
     buffer: &mut [u8],
@@ -163,7 +163,11 @@ pub fn write_one_block<T: Copy>(
 }
 
 /// The parts of a text one after the other, and where each ends.
-pub fn join_parts(alloc: Global, text: &str, pat: &str) -> Result<(String, Vec<usize>), AllocError>
+pub fn join_parts<A: Allocator + Copy>(
+    alloc: A,
+    text: &str,
+    pat: &str,
+) -> Result<(String<A>, Vec<usize, A>), AllocError>
     ensures texts { IfOk result (λ joined. string_bytes joined.0 ≡ flat_map (λ p. p) (all_parts text.now pat.now)) }
     ensures ends { IfOk result (λ joined. joined.1.items ≡ ends_from 0 (all_parts text.now pat.now)) }
 {
@@ -178,7 +182,7 @@ pub fn join_parts(alloc: Global, text: &str, pat: &str) -> Result<(String, Vec<u
 }
 
 /// Adds a part to texts, and gives where it ends.
-fn push_part(texts: &mut String, part: &str) -> Result<usize, AllocError>
+fn push_part<A: Allocator>(texts: &mut String<A>, part: &str) -> Result<usize, AllocError>
     ensures bytes { OnOk result (string_bytes texts.new ≡ string_bytes texts.old ++ part.now) }
     ensures end { IfOk result (λ end. end ≡ length (string_bytes texts.new)) }
 {
@@ -187,7 +191,10 @@ fn push_part(texts: &mut String, part: &str) -> Result<usize, AllocError>
 }
 
 /// The blocks of a text one after the other, and where each ends and its style.
-pub fn join_blocks(alloc: Global, text: &str) -> Result<(String, Vec<BlockEntry>), AllocError>
+pub fn join_blocks<A: Allocator + Copy>(
+    alloc: A,
+    text: &str,
+) -> Result<(String<A>, Vec<BlockEntry, A>), AllocError>
     ensures texts { IfOk result (λ joined. string_bytes joined.0 ≡ flat_map (λ b. b.text) (blocks text.now)) }
     ensures entries { IfOk result (λ joined. joined.1.items ≡ entries_from 0 (blocks text.now)) }
 {
@@ -202,7 +209,10 @@ pub fn join_blocks(alloc: Global, text: &str) -> Result<(String, Vec<BlockEntry>
 }
 
 /// Adds a block to texts, and gives its entry.
-fn push_block(texts: &mut String, block: &AnsiBlock<'_>) -> Result<BlockEntry, AllocError>
+fn push_block<A: Allocator>(
+    texts: &mut String<A>,
+    block: &AnsiBlock<'_, A>,
+) -> Result<BlockEntry, AllocError>
     ensures bytes { OnOk result (string_bytes texts.new ≡ string_bytes texts.old ++ block.now.text) }
     ensures entry { IfOk result (λ entry. entries_from (length (string_bytes texts.old)) (block.now ∷ []) ≡ entry ∷ []) }
 {
@@ -216,10 +226,10 @@ fn push_block(texts: &mut String, block: &AnsiBlock<'_>) -> Result<BlockEntry, A
 
 /// The blocks of a text one after the other, each between the start of its style and the end, and where
 /// these stand and its style.
-pub fn join_styled_blocks(
-    alloc: Global,
+pub fn join_styled_blocks<A: Allocator + Copy>(
+    alloc: A,
     text: &str,
-) -> Result<(String, Vec<StyledBlockEntry>), AllocError>
+) -> Result<(String<A>, Vec<StyledBlockEntry, A>), AllocError>
     ensures texts { IfOk result (λ joined. string_bytes joined.0 ≡ flat_map styled_text (blocks text.now)) }
     ensures entries { IfOk result (λ joined. joined.1.items ≡ styled_entries_from 0 (blocks text.now)) }
 {
@@ -234,9 +244,9 @@ pub fn join_styled_blocks(
 }
 
 /// Adds a block between the start of its style and the end to texts, and gives its entry.
-fn push_styled_block(
-    texts: &mut String,
-    block: &AnsiBlock<'_>,
+fn push_styled_block<A: Allocator>(
+    texts: &mut String<A>,
+    block: &AnsiBlock<'_, A>,
 ) -> Result<StyledBlockEntry, AllocError>
     ensures bytes { OnOk result (string_bytes texts.new ≡ string_bytes texts.old ++ styled_text block.now) }
     ensures entry { IfOk result (λ entry. styled_entries_from (length (string_bytes texts.old)) (block.now ∷ []) ≡ entry ∷ []) }
@@ -256,8 +266,8 @@ fn push_styled_block(
 }
 
 /// Writes texts that were joined and their entries, or answers that memory has run out.
-pub fn write_joined<T: Copy>(
-    joined: Result<(String, Vec<T>), AllocError>,
+pub fn write_joined<T: Copy, A: Allocator>(
+    joined: Result<(String<A>, Vec<T, A>), AllocError>,
     buffer: &mut [u8],
     entries: &mut [T],
 ) -> ListAnswer

@@ -5,15 +5,16 @@ ghost use Rattle.ansi_str.specs.Edits.{changes_of};
 ghost use Rattle.ansi_answers.specs.Answers.{no, not_utf8, OnUtf8, HasFailed, Gives, GivesEdited, TellsPlace};
 
 use crate::answers::{Answer, NO, NOT_UTF8, OUT_OF_MEMORY, write, write_found};
+use ansi_str::slice::strip_in;
 use ansi_str::{AnsiStr, Edit, edit};
 use simdutf8::basic::from_utf8;
-use std::alloc::Global;
+use std::alloc::Allocator;
 
 /// Writes the plain text.
-pub fn strip(alloc: Global, text: &str, buffer: &mut [u8]) -> Answer
+pub fn strip<A: Allocator>(alloc: A, text: &str, buffer: &mut [u8]) -> Answer
     ensures { Gives no (has_escape text.now) (Some (plain text.now)) result buffer.old buffer.new }
 {
-    match text.ansi_strip(alloc) {
+    match strip_in(alloc, text) {
         Ok(plain) => write(plain.as_bytes(), buffer),
         Err(_) => Answer::failed(OUT_OF_MEMORY),
     }
@@ -31,8 +32,8 @@ pub fn find(text: &str, pat: &str) -> Answer
 
 /// Writes what edits make of a text, or answers a status where one is refused.
 #[tactic(auto, unfolding(crate::specs::Answers::GivesEdited))]
-pub fn write_edited(
-    alloc: Global,
+pub fn write_edited<A: Allocator + Copy>(
+    alloc: A,
     text: &[u8],
     edits: &[Edit<'_>],
     absent: u32,

@@ -9,7 +9,7 @@ use crate::styles::StyleData;
 use ansi_blocks::runs::{Run, waiting};
 use ansi_style::numbers::StyleNumbers;
 use ansi_style::styles;
-use std::alloc::Global;
+use std::alloc::Allocator;
 
 /// What is left of a text whose blocks are taken one by one, and the style there, which is that of the
 /// block before.
@@ -46,7 +46,7 @@ pub fn walk_over(text: &str) -> BlockWalk<'_>
 }
 
 /// Writes the sequences that wait for the first run of a text. Takes memory only where there are any.
-pub fn write_waiting(alloc: Global, text: &str, run: &Run<'_>, buffer: &mut [u8]) -> Answer
+pub fn write_waiting<A: Allocator>(alloc: A, text: &str, run: &Run<'_>, buffer: &mut [u8]) -> Answer
     requires { run.now.is_awaited ≡ not (length (waiting text.now 0) == 0) }
     ensures { Gives no (not (length (waiting text.now 0) == 0)) (Some (waiting text.now 0)) result buffer.old buffer.new }
 {

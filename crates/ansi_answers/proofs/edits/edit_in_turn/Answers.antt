@@ -6,28 +6,28 @@ use Rattle.ansi_answers.proofs.StepLemmas.{pattern-at}
 use Rattle.ansi_answers.proofs.edits.edit_in_turn.Goals as goal
 
 pub edit_given-requires : goal.edit_given-requires
-edit_given-requires c = pattern-at c.args.steps.now c.loop-step.step-index _ c.loop-step-test.true c.requires
+edit_given-requires g c = pattern-at c.args.steps.now c.loop-step.step-index _ c.loop-step-test.true c.requires
 
 pub loop-step-preserved : goal.loop-step-preserved
-loop-step-preserved c =
+loop-step-preserved g c =
     so_far-more change_of_step c.args.steps.now c.loop-step.step-index _ c.loop-step.invariant c.loop-step-test.true
     (rw c.in-Some.is at c.in_ok-next.ensures.bytes) (rw c.in-Some.is at c.in_ok-next.ensures.borrowed)
 
 -- where all steps leave a borrow, no memory is asked for
 pub returns-in_err-next-clause-takes_no_memory : goal.returns-in_err-next-clause-takes_no_memory
-returns-in_err-next-clause-takes_no_memory c = λ stays.
+returns-in_err-next-clause-takes_no_memory g c = λ stays.
     absurd (true≢false (sym (c.in_err-next.ensures.takes_no_memory (so_far-lent change_of_step c.args.steps.now c.loop-step.step-index _ c.loop-step.invariant c.loop-step-test.true stays))))
 
 -- a step that is refused
 pub returns-in-None : goal.returns-in-None
-returns-in-None c = record {
+returns-in-None g c = record {
   bytes = so_far-refused change_of_step c.args.steps.now c.loop-step.step-index _ c.loop-step.invariant c.loop-step-test.true (rw c.in-None.is at c.in_ok-next.ensures.bytes);
   takes_no_memory = λ stays. refl;
 }
 
 -- all are done
 pub returns : goal.returns
-returns c = record {
+returns g c = record {
   bytes = (so_far-end change_of_step c.args.steps.now c.loop-step.step-index c.loop-step.invariant c.loop-step-test.false).0;
   takes_no_memory = λ stays. refl;
 }

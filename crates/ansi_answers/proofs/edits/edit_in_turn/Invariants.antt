@@ -6,4 +6,4 @@ use Rattle.ansi_answers.proofs.edits.edit_in_turn.Given as goal
 
 -- so many steps are done, and the text that they gave is edited by those that are left
 abbrev pub invariant-loop-step : goal.invariant-loop-step
-invariant-loop-step l = IsEditedSoFar (map change_of_step l.steps) l.initial.text (map change_of_step (drop l.step-index l.steps)) (IsBorrowedStr l.edited) (cow_str_bytes l.edited)
+invariant-loop-step g l = IsEditedSoFar (map change_of_step l.steps) l.initial.text (map change_of_step (drop l.step-index l.steps)) (IsBorrowedStr l.edited) (cow_str_bytes l.edited)

@@ -9,7 +9,7 @@ use Rattle.ansi_answers.proofs.lists.copy_bare_parts.Goals as goal
 
 -- no part is written yet, and all are left
 pub loop-part-init : goal.loop-part-init
-loop-part-init c =
+loop-part-init g c =
     let left : map (λ (p : SplitPart). p.bytes) c.into_iter-part-iterator.result ≡ all_parts c.args.text.now c.args.pat.now =
     ap (map (λ (p : SplitPart). p.bytes)) c.into_iter-part-iterator.ensures.into_iter_gives ∙ c.split_in-part-items.ensures.bytes in
     record {
@@ -26,7 +26,7 @@ loop-part-init c =
 
 -- a part ends in the text
 pub put-len-requires : goal.put-len-requires
-put-len-requires c =
+put-len-requires g c =
     let t = c.args.text.now in
     let p = c.args.pat.now in
     let now = c.loop-part.invariant in
@@ -43,7 +43,7 @@ put-len-requires c =
 
 -- one part more is written, with its end
 pub loop-part-preserved : goal.loop-part-preserved
-loop-part-preserved c =
+loop-part-preserved g c =
     let all = all_parts c.args.text.now c.args.pat.now in
     let bytes = flat_map (λ p. p) all in
     let now = c.loop-part.invariant in
@@ -80,18 +80,18 @@ loop-part-preserved c =
 -- nothing is left
 
 pub returns-clause-len : goal.returns-clause-len
-returns-clause-len c =
+returns-clause-len g c =
     let bytes = flat_map (λ p. p) (all_parts c.args.text.now c.args.pat.now) in
     let none = c.loop-part.invariant.texts ∙ ap (λ ps. flat_map (λ p. p) (map (λ (p : SplitPart). p.bytes) ps)) c.in-None.ensures.steps.0 in
     omega (arith, c.loop-part.invariant.within, ap length none, length-drop c.loop-part.len bytes)
 
 pub returns-clause-bytes : goal.returns-clause-bytes
-returns-clause-bytes c = λ room.
+returns-clause-bytes g c = λ room.
     let bytes = flat_map (λ p. p) (all_parts c.args.text.now c.args.pat.now) in
-    c.loop-part.invariant.buffer room ∙ ap (λ n. take n bytes ++ drop n c.args.buffer.now) (returns-clause-len c) ∙ ap (λ u. u ++ drop (length bytes) c.args.buffer.now) (take-length bytes)
+    c.loop-part.invariant.buffer room ∙ ap (λ n. take n bytes ++ drop n c.args.buffer.now) (returns-clause-len g c) ∙ ap (λ u. u ++ drop (length bytes) c.args.buffer.now) (take-length bytes)
 
 pub returns-clause-ends : goal.returns-clause-ends
-returns-clause-ends c = λ room.
+returns-clause-ends g c = λ room.
     let all = all_parts c.args.text.now c.args.pat.now in
     let size : length (ends_from 0 all) ≡ length all = length-entries (λ t. t) (λ begin end t. end) 0 all in
     let counted : c.loop-part.count ≡ length all = omega (arith, c.loop-part.invariant.counted, ap (λ ps. length (map (λ (p : SplitPart). p.bytes) ps)) c.in-None.ensures.steps.0) in

@@ -8,7 +8,7 @@ use Rattle.ansi_answers.proofs.lists.copy_bare_parts.Given as goal
 
 -- the parts that are left are borrows, and follow the bytes and the ends so far, which are written where there is room for all
 abbrev pub invariant-loop-part : goal.invariant-loop-part
-invariant-loop-part l =
+invariant-loop-part g l =
     let all = all_parts l.text l.pat in
     let bytes = flat_map (λ p. p) all in
     let left = map (λ (p : SplitPart). p.bytes) l.part-iterator in

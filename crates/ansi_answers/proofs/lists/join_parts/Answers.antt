@@ -6,7 +6,7 @@ use Rattle.ansi_answers.proofs.lists.join_parts.Goals as goal
 
 -- no text is joined yet, and all parts are left
 pub loop-part-init : goal.loop-part-init
-loop-part-init c =
+loop-part-init g c =
     let left : map (λ (p : SplitPart). p.bytes) c.into_iter-part-iterator.result ≡ all_parts c.args.text.now c.args.pat.now =
     ap (map (λ (p : SplitPart). p.bytes)) c.into_iter-part-iterator.ensures.into_iter_gives ∙ c.split_in-part-items.ensures.bytes in
     record {
@@ -15,7 +15,7 @@ loop-part-init c =
     }
 
 pub loop-part-preserved-in_ok-push : goal.loop-part-preserved-in_ok-push
-loop-part-preserved-in_ok-push c =
+loop-part-preserved-in_ok-push g c =
     let taken = part-taken c.in-Some.ensures.steps c.in_ok-part.was in
     let left = ap (map (λ (p : SplitPart). p.bytes)) taken.1 in
     let bytes = c.as_str.ensures.value ∙ taken.2.0 in

@@ -7,7 +7,7 @@ use Rattle.ansi_answers.proofs.lists.join_parts.Given as goal
 
 -- the parts so far and those that are left are all, and so are their ends
 abbrev pub invariant-loop-part : goal.invariant-loop-part
-invariant-loop-part l =
+invariant-loop-part g l =
     let left = map (λ (p : SplitPart). p.bytes) l.part-iterator in
     record {
       texts : string_bytes l.texts ++ flat_map (λ p. p) left ≡ flat_map (λ p. p) (all_parts l.text l.pat);

@@ -8,7 +8,7 @@ use Rattle.ansi_answers.proofs.ListLemmas.{block-taken, texts-more, length-joine
 use Rattle.ansi_answers.proofs.lists.join_styled_blocks.Goals as goal
 
 pub loop-block-preserved-in_ok-push : goal.loop-block-preserved-in_ok-push
-loop-block-preserved-in_ok-push c =
+loop-block-preserved-in_ok-push g c =
     let taken = block-taken c.in-Some.ensures.steps c.in_ok-block.was in
     let more = c.in_ok-entry.ensures.bytes in
     record {

@@ -4,7 +4,7 @@ use Rattle.ansi_answers.proofs.lists.parts_without_room.Goals as goal
 
 -- the text has no fewer bytes than its parts, and no fewer than two less than there are parts
 pub returns-then-text-ends-clause-none : goal.returns-then-text-ends-clause-none
-returns-then-text-ends-clause-none c =
+returns-then-text-ends-clause-none g c =
     let t = c.args.text.now in
     let p = c.args.pat.now in
     let are = c.bare_texts_are_std.ensures.parts t p c.requires in (

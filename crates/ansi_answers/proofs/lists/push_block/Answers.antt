@@ -4,7 +4,7 @@ use Rattle.ansi_answers.proofs.lists.push_block.Goals as goal
 
 -- the text of the block is added, and the length of the texts is that of their bytes
 pub returns : goal.returns
-returns c =
+returns g c =
     let old = string_bytes c.args.texts.now in
     let text = c.args.block.now.text in
     let bytes : string_bytes c.push_str.new.self ≡ old ++ text = c.in_ok-push_str.ensures.bytes ∙ ap (λ t. old ++ t) c.text.ensures in

@@ -6,7 +6,7 @@ use Rattle.ansi_answers.proofs.lists.push_styled_block.Goals as goal
 
 -- the start, the text and the end are added in turn, and the length of the texts is that of their bytes
 pub returns : goal.returns
-returns c =
+returns g c =
     let old = string_bytes c.args.texts.now in
     let block = c.args.block.now in
     let style = c.style-style.ensures in

@@ -9,7 +9,7 @@ use Rattle.ansi_answers.proofs.lists.write_bare_parts.Goals as goal
 
 -- there is no room for the parts, or for their ends
 pub returns-in-Some : goal.returns-in-Some
-returns-in-Some c =
+returns-in-Some g c =
     let parts = all_parts c.args.text.now c.args.pat.now in
     let size : length (ends_from 0 parts) ≡ length parts = length-entries (λ t. t) (λ begin end t. end) 0 parts in
     let answer : ℕ → ℕ → ListAnswer = λ count len. record { status = too_small; count = count; len = len } in

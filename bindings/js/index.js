@@ -1,0 +1,144 @@
+// Text with ANSI control sequences, taken as if the sequences weren't there. index.d.ts says what each call does.
+import * as raw from './memory.js';
+
+export { OutOfMemoryError } from './memory.js';
+
+const KINDS = { cut: 0, left: 1, right: 2, part: 3, prefix: 4, suffix: 5, trim: 6 };
+/** To the end of any text. */
+const END = Number.MAX_SAFE_INTEGER;
+
+function textOf(name, value) {
+  if (typeof value !== 'string') {
+    throw new TypeError(`the ${name} must be a string`);
+  }
+  if (!value.isWellFormed()) {
+    throw new TypeError(`the ${name} has a lone surrogate`);
+  }
+  return value;
+}
+
+function numberOf(name, value) {
+  if (!Number.isInteger(value)) {
+    throw new TypeError(`the ${name} must be a whole number`);
+  }
+  if (value < 0) {
+    throw new RangeError(`the ${name} is below 0: ${value}`);
+  }
+  return Math.min(value, END);
+}
+
+// (each character of ASCII is one byte and one unit, so a position in units is one in bytes)
+const isAscii = (text) => /^[\0-\x7f]*$/.test(text);
+
+function bytesOf(text) {
+  let bytes = 0;
+  for (const character of text) {
+    const code = character.codePointAt(0);
+    bytes += code < 0x80 ? 1 : code < 0x800 ? 2 : code < 0x10000 ? 3 : 4;
+  }
+  return bytes;
+}
+
+/** A position in units of the plain text as one in its bytes. Between two surrogates it is one inside their character. */
+function placeOf(plain, position) {
+  if (position >= plain.length) {
+    return bytesOf(plain) + position - plain.length;
+  }
+  const before = plain.slice(0, position);
+  return before.isWellFormed() ? bytesOf(before) : bytesOf(before.slice(0, -1)) + 2;
+}
+
+/** The edit as a step of the library: its kind, its numbers, of which `places` says which are positions, and its pattern. */
+function stepOf(edit) {
+  if (!Array.isArray(edit) || !Object.hasOwn(KINDS, edit[0])) {
+    throw new TypeError('an edit must be an array that begins with the name of an edit');
+  }
+  const [name, ...more] = edit;
+  const step = { kind: KINDS[name], first: 0, second: 0, places: [], pattern: undefined };
+  if (name === 'cut') {
+    step.first = numberOf('start', more[0]);
+    step.second = more[1] === undefined ? END : numberOf('end', more[1]);
+    step.places = more[1] === undefined ? ['first'] : ['first', 'second'];
+  } else if (name === 'left' || name === 'right') {
+    step.first = numberOf('index', more[0]);
+    step.places = ['first'];
+  } else if (name === 'part') {
+    step.pattern = textOf('pattern', more[0]);
+    step.first = numberOf('index', more[1]);
+  } else if (name !== 'trim') {
+    step.pattern = textOf('pattern', more[0]);
+  }
+  return step;
+}
+
+function edited(text, steps) {
+  const patterns = [];
+  const numbered = steps.map((step) => ({ ...step, text: step.pattern === undefined ? undefined : patterns.push(step.pattern) }));
+  return raw.edit(text, patterns, numbered);
+}
+
+export function edit(text, edits) {
+  textOf('text', text);
+  const steps = Array.from(edits, stepOf);
+  if (isAscii(text)) {
+    return edited(text, steps);
+  }
+  // positions of a step count units of what the steps before it gave
+  let given = text;
+  for (const step of steps) {
+    const placed = { ...step };
+    if (step.places.length > 0) {
+      const plain = raw.strip(given);
+      for (const place of step.places) {
+        placed[place] = placeOf(plain, step[place]);
+      }
+    }
+    given = edited(given, [placed]);
+    if (given === null) {
+      return null;
+    }
+  }
+  return given;
+}
+
+/** An edit that is refused only for its positions. */
+function placed(text, ...edits) {
+  const given = edit(text, edits);
+  if (given === null) {
+    throw new RangeError('a position lies inside a character, or the end before the start');
+  }
+  return given;
+}
+
+export function strip(text) {
+  return textOf('text', text).includes('\x1b') ? raw.strip(text) : text;
+}
+
+export function cut(text, start, end) {
+  return placed(text, ['cut', start, end]);
+}
+
+export function splitAt(text, index) {
+  return [placed(text, ['left', index]), placed(text, ['right', index])];
+}
+
+export function trim(text) {
+  return placed(text, ['trim']);
+}
+
+export function find(text, pattern) {
+  textOf('text', text);
+  textOf('pattern', pattern);
+  if (!isAscii(text)) {
+    return raw.strip(text).indexOf(pattern);
+  }
+  return raw.find(text, pattern) ?? -1;
+}
+
+export function split(text, pattern) {
+  return raw.split(textOf('text', text), textOf('pattern', pattern));
+}
+
+export function blocks(text) {
+  return raw.blocks(textOf('text', text));
+}

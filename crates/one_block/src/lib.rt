@@ -1,0 +1,108 @@
+//! An allocator over one block of memory, which it gives to who asks for its very size.
+#![tactic(auto)]
+
+ghost use Rattle.std.specs.Prelude.{◌≡◌, ◌^◌, ◌<◌, ◌≤◌, ℕ, IfSome};
+ghost use base.Fml.{fex};
+ghost use Rattle.linked_list_allocator.specs.Region.{Region, IsBlock, block_size};
+ghost use Rattle.linked_list_allocator.specs.Ownership.{bytes_at, block_token};
+
+use std::alloc::{AllocError, Allocator};
+use std::cell::Cell;
+use std::marker::Model;
+
+const UNIT: usize = 16;
+
+/// Memory that nothing lies in, aligned to 16.
+#[repr(C)]
+#[derive(Drop)]
+pub struct Block {
+    ptr: *mut u8,
+    size: usize,
+    pub ghost region: { Region },
+    pub ghost at: { ℕ },
+    pub ghost placed: { IsBlock region ptr at size },
+}
+
+impl Model for Block {
+    ghost also_owns = { λ b. bytes_at b.ptr b.size };
+}
+
+impl Block {
+    /// The block's size, and the block again.
+    pub fn with_size(self) -> (usize, Block)
+        ensures { (result.0 ≡ self.size) × (result.1 ≡ self) }
+    {
+        let Block { ptr, size } = self;
+        (size, Block { ptr, size })
+    }
+}
+
+/// An allocator that has one block.
+#[derive(Drop)]
+pub struct OneBlock {
+    size: usize,
+    free: Cell<Option<Block>>,
+}
+
+fn align_size(size: usize) -> usize
+    requires { size < 2 ^ 63 }
+    ensures { result ≡ block_size size }
+{
+    size.max(UNIT).next_multiple_of(UNIT)
+}
+
+impl OneBlock {
+    pub fn new(block: Block) -> OneBlock {
+        let (size, block) = block.with_size();
+        OneBlock {
+            size,
+            free: Cell::new(Some(block)),
+        }
+    }
+
+    /// The size of the block.
+    pub fn size(&self) -> usize {
+        self.size
+    }
+
+    /// The block, where it is free.
+    pub fn into_block(self) -> Option<Block> {
+        let OneBlock { size: _, free } = self;
+        free.into_inner()
+    }
+
+    fn take(&self, size: usize, align: usize) -> Option<Block>
+        ensures { IfSome result (λ b. (b.size ≡ block_size size) × (size < 2 ^ 63) × (align ≤ 16)) }
+    {
+        if align > UNIT || size > isize::MAX as usize {
+            return None;
+        }
+        let (found, block) = self.free.replace(None)?.with_size();
+        if found == align_size(size) {
+            Some(block)
+        } else {
+            self.free.set(Some(block));
+            None
+        }
+    }
+
+    fn give(&self, block: Block) {
+        self.free.set(Some(block));
+    }
+}
+
+unsafe impl Allocator for OneBlock {
+    ghost dealloc_token = { λ _ ty p. fex Region (λ r. block_token r ty p) };
+
+    fn allocate(&self, size: usize, align: usize) -> Result<*mut u8, AllocError> {
+        match self.take(size, align) {
+            Some(Block { ptr, size: _ }) => Ok(ptr),
+            None => Err(AllocError),
+        }
+    }
+
+    unsafe fn deallocate(&self, ptr: *mut u8, size: usize, _align: usize) {
+        let size = align_size(size);
+        self.give(Block { ptr, size });
+    }
+}
