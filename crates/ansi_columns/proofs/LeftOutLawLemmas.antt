@@ -9,7 +9,7 @@ use Rattle.std.proofs.lemmas.Str.{encodes-chars}
 use Rattle.ansi_columns.specs.Columns.{clusters, cluster_width}
 use Rattle.ansi_columns.specs.Shown.{blanks}
 use Rattle.ansi_columns.specs.Lines.{is_line_end, is_blank, lines_from, lines, IsLeftOut, AreLinesFrom, put_back}
-use Rattle.ansi_columns.proofs.LineLemmas.{IsOfWord, more_at, line-ends, line-blank, line-stays, line-leaves, line-last}
+use Rattle.ansi_columns.proofs.LineLemmas.{IsOfWord, more_at, line-any, line-ends, line-blank, line-stays, line-leaves, line-last}
 use Rattle.ansi_columns.proofs.ClusterLawLemmas.{spells}
 
 -- what a blank and a line end are spelled with
@@ -142,23 +142,16 @@ module _ (x : List ℕ) where
   lines-put_back width utf8 = put_back-from 0 (lines width x) (lines-left_out width utf8)
 
 -- the first line begins where the one that is read does
-begins_at : (width start end here columns : ℕ) (cs : List (List ℕ)) → option_map (λ (line : ℕ × ℕ). line.0) (slice_get (lines_from width start end here columns cs) 0) ≡ Some start
-begins_at width start end here columns [] = ap (λ (ls : List (ℕ × ℕ)). option_map (λ (line : ℕ × ℕ). line.0) (slice_get ls 0)) (line-last width start end here columns)
+
+abbrev begins : List (ℕ × ℕ) → Option ℕ
+begins ls = option_map (λ (line : ℕ × ℕ). line.0) (slice_get ls 0)
+
+begins_at : (width start end here columns : ℕ) (cs : List (List ℕ)) → begins (lines_from width start end here columns cs) ≡ Some start
+begins_at width start end here columns [] = ap begins (line-last width start end here columns)
 begins_at width start end here columns (c ∷ cs) =
-    let first : List (ℕ × ℕ) → Option ℕ = λ ls. option_map (λ (line : ℕ × ℕ). line.0) (slice_get ls 0) in
-    let past = here + length (encode_utf8_all c) in
-    elim (cases_Bool (is_line_end c)) [
-      | inl ends ↦ ap first (line-ends width start end here columns c cs ends)
-      | inr inside ↦ elim (cases_Bool (is_blank c)) [
-        | inl blank ↦ ap first (line-blank width start end here columns c cs inside blank) ∙ begins_at width start end past (columns + cluster_width c) cs
-        | inr solid ↦ (
-            let word : IsOfWord c = record { inside = inside; solid = solid } in
-            elim (cases_Bool ((here == start) || nat_le (columns + more_at end here c cs) width)) [
-              | inl stays ↦ ap first (line-stays width start end here columns c cs word stays) ∙ begins_at width start past past (columns + cluster_width c) cs
-              | inr leaves ↦ ap first (line-leaves width start end here columns c cs word leaves)
-            ])
-      ]
-    ]
+    let next = here + length (encode_utf8_all c) in
+    let wider = columns + cluster_width c in
+    line-any width start end here columns c cs (λ ls. begins ls ≡ Some start) refl (begins_at width start end next wider cs) (begins_at width start next next wider cs) refl
 
 pub lines-begin : (x : List ℕ) (width : ℕ) → option_map (λ (line : ℕ × ℕ). line.0) (slice_get (lines width x) 0) ≡ Some 0
 lines-begin x width = begins_at (max width 1) 0 0 0 0 (clusters x)

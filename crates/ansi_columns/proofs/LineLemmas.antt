@@ -1,5 +1,5 @@
 -- The lines of clusters that are met one after another.
-use Rattle.std.proofs.Common.{◌≡◌, ℕ, ◌+◌, ◌<◌, ◌≤◌, Bool, true, false, ◌||◌, ◌==◌, nat_le, List, [], ◌∷◌, ◌++◌, length, encode_utf8_all, refl, sym, ◌∙◌, ap, arith, zero-add, if◌then◌else◌}
+use Rattle.std.proofs.Common.{◌≡◌, ℕ, ◌+◌, ◌<◌, ◌≤◌, Bool, true, false, ◌||◌, ◌==◌, nat_le, List, [], ◌∷◌, ◌++◌, length, encode_utf8_all, refl, sym, ◌∙◌, ap, subst, arith, zero-add, if◌then◌else◌}
 use Rattle.std.proofs.lemmas.Bool.{eq-eqb, ne_eqb, le-leb, lt-leb, or_right, or_from, cond_both}
 use Rattle.ansi_columns.specs.Columns.{cluster_width}
 use Rattle.ansi_columns.specs.Lines.{is_line_end, is_blank, word_columns, lines_from}
@@ -70,6 +70,16 @@ module _ (width start end here columns : ℕ) (c : List ℕ) (cs : List (List �
   opened : lines_from width start end here columns (c ∷ cs) ≡ by_kind (is_line_end c) (is_blank c) fits_here
   unfolding lines_from
   opened = refl
+
+  -- what is so of the lines of each of the four ways to go on is so of the lines
+  pub line-any : (P : List (ℕ × ℕ) → Type 0) → P ended → P blank → P stays → P leaves → P (lines_from width start end here columns (c ∷ cs))
+  line-any P if_ended if_blank if_stays if_leaves = subst P (sym opened) (either (is_line_end c) (is_blank c) fits_here)
+    where
+      either : (a b d : Bool) → P (by_kind a b d)
+      either true b d = if_ended
+      either false true d = if_blank
+      either false false true = if_stays
+      either false false false = if_leaves
 
   pub line-ends : is_line_end c ≡ true → lines_from width start end here columns (c ∷ cs) ≡ (start, end) ∷ lines_from width next next next 0 cs
   line-ends ends = opened ∙ ap (λ b. by_kind b (is_blank c) fits_here) ends

@@ -1,9 +1,9 @@
--- The plain text of a text that is cut or filled up, and how wide it is where that is printable ASCII.
-use Rattle.std.proofs.Common.{◌≡◌, ℕ, suc, zero, ◌+◌, ◌-◌, ◌<◌, ◌≤◌, min, max, Bool, true, false, not, inl, inr, List, [], ◌∷◌, ◌++◌, length, map, flat_map, take, drop, take-append-drop, slice_range, nat_eq, nat_le, codes, unwrap_or, encode_utf8_all, if◌then◌else◌, IsTrue, refl, sym, ◌∙◌, ap, ap₂, subst, arith, append_assoc, append-nil, length-append, length-take-le, take_all, leb-true, leb-false}
+-- How wide a text is that is cut or filled up.
+use Rattle.std.proofs.Common.{◌≡◌, ℕ, suc, zero, ◌+◌, ◌-◌, ◌<◌, ◌≤◌, min, max, Bool, true, false, not, inl, inr, List, [], ◌∷◌, ◌++◌, length, map, flat_map, take, drop, take-append-drop, nat_le, unwrap_or, encode_utf8_all, if◌then◌else◌, IsTrue, refl, sym, ◌∙◌, ap, ap₂, subst, arith, append-nil, length-append, length-take-le, take_all, leb-true, leb-false}
 use Rattle.std.specs.Int.{is_in_range}
 use Rattle.std.specs.List.{All, list_all}
 use Rattle.std.specs.Str.{byte, chars, IsUtf8, IsCharBoundary}
-use Rattle.std.proofs.lemmas.Bool.{cases_Bool, cases_lt, and_parts, and_from, not-true, le-leb, lt-leb}
+use Rattle.std.proofs.lemmas.Bool.{cases_lt, and_parts, and_from, not-true, le-leb, lt-leb}
 use Rattle.std.proofs.lemmas.Bool.Decides.{nat_tests}
 use Rattle.std.proofs.lemmas.List.{length-replicate}
 use Rattle.std.proofs.lemmas.List.Sums.{sum_by-cons}
@@ -15,26 +15,12 @@ use Rattle.std.proofs.lemmas.Str.Ascii.{IsAscii-from_all}
 use Rattle.ucd_breaks.specs.declared.GraphemeClusterBreak.TheVariants.{Other}
 use Rattle.unicode_segmentation.specs.Grapheme.{break_by_pair, is_grapheme_break}
 use Rattle.unicode_width.proofs.Rules.{str_width-printable}
-use Rattle.ansi_items.specs.Bytes.{is_plain_byte}
-use Rattle.ansi_items.specs.Pieces.{Piece, Text, Sequence, LoneEscape, after_text, merged, pieces_of}
-use Rattle.ansi_items.specs.Plain.{plain, plain_bytes, plain_of, marks, up_to, is_whole}
-use Rattle.ansi_items.proofs.JoinLemmas.{pieces_of-append, is_whole-append, is_whole-spelled, pieces_stand, spelled}
-use Rattle.ansi_items.proofs.PlainLemmas.{no_escape, plain-bare, is_whole-plain}
+use Rattle.ansi_items.specs.Plain.{plain, is_whole}
 use Rattle.ansi_items.proofs.Utf8Lemmas.{IsUtf8-plain}
-use Rattle.ansi_style.specs.declared.state.rendition.Rendition.{Rendition}
-use Rattle.ansi_style.specs.Rendition.{plain_style}
-use Rattle.ansi_style.specs.Styled.{StyledByte, bytes_of as styled_bytes, styled, style_at}
-use Rattle.ansi_style.specs.Written.{close, close_codes}
-use Rattle.ansi_style.proofs.ReadBackLemmas.{close_codes_are, code_pieces, code_pieces_stand, spelled-code_pieces, styled_through-codes}
-use Rattle.ansi_style.proofs.SpelledLemmas.{styled-spelled}
-use Rattle.ansi_style.proofs.StyledLemmas.{bytes_of-styled, styled-pieces}
-use Rattle.ansi_slice.specs.Cut.{show}
-use Rattle.ansi_slice.proofs.ShownLemmas.{shown_pieces, shown_pieces_stand, spelled-shown_pieces, styled_through-shown_pieces}
-use Rattle.ansi_search.proofs.SliceLemmas.{list_all-parts, slice_range-map, take-append}
+use Rattle.ansi_search.proofs.SliceLemmas.{list_all-parts, take-append}
 use Rattle.ansi_columns.specs.declared.shown.Alignment.{Alignment}
 use Rattle.ansi_columns.specs.declared.shown.Alignment.TheVariants.{Left, Right, Center}
 use Rattle.ansi_columns.specs.Columns.{clusters, cluster_width, columns_of, columns, bytes_of, FitsUpTo, IsClusterBoundary}
-use Rattle.ansi_columns.specs.Links.{link_end, link_at, pen_close}
 use Rattle.ansi_columns.specs.Seams.{seam_of}
 use Rattle.ansi_columns.specs.Shown.{fitting_end, has_tail, truncated_end, truncated, missing, before_text, blanks, padded}
 use Rattle.ansi_columns.specs.Walks.{clusters_after}
@@ -43,119 +29,8 @@ use Rattle.ansi_columns.proofs.AsciiLemmas.{columns-printable, ends-printable, s
 use Rattle.ansi_columns.proofs.ClusterLemmas.{cluster-begins, cluster-ends, cluster-last, clusters-none}
 use Rattle.ansi_columns.proofs.ClusterLawLemmas.{fits-within, spells}
 use Rattle.ansi_columns.proofs.LineLawLemmas.{boundary_between}
+use Rattle.ansi_columns.proofs.LinkedLawLemmas.{truncated-plain, padded-plain}
 use Rattle.ansi_columns.proofs.SeamLawLemmas.{clusters-add_up, columns-add_up}
-use Rattle.ansi_columns.proofs.ShownLemmas.{link_end-open, link_end-shut}
-
--- ---- the plain text of whole texts in a row
-
-plain_of-after_text : (w : List ℕ) (ps : List Piece) → plain_of (after_text w ps) ≡ w ++ plain_of ps
-plain_of-after_text w [] = refl
-plain_of-after_text w (Text v ∷ ps) = append_assoc w v (plain_of ps)
-plain_of-after_text w (Sequence v ∷ ps) = refl
-plain_of-after_text w (LoneEscape ∷ ps) = refl
-
-plain_of-merged : (ps : List Piece) → plain_of (merged ps) ≡ plain_of ps
-plain_of-merged [] = refl
-plain_of-merged (Text w ∷ ps) = plain_of-after_text w (merged ps) ∙ ap (λ u. w ++ u) (plain_of-merged ps)
-plain_of-merged (Sequence w ∷ ps) = plain_of-merged ps
-plain_of-merged (LoneEscape ∷ ps) = plain_of-merged ps
-
--- a whole text with this plain text
-record IsWholeOf (t x : List ℕ) : Type 0 where
-  whole : IsTrue (is_whole t)
-  plain : plain t ≡ x
-
-both : {u v x y : List ℕ} → IsWholeOf u x → IsWholeOf v y → IsWholeOf (u ++ v) (x ++ y)
-both {u} {v} first second = record {
-  whole = is_whole-append u v first.whole second.whole;
-  plain = ap plain_of (pieces_of-append u v first.whole second.whole) ∙ plain_of-merged (pieces_of u ++ pieces_of v)
-      ∙ flat_map-append plain_bytes (pieces_of u) (pieces_of v) ∙ ap₂ ◌++◌ first.plain second.plain;
-}
-
--- sequences have none
-
-close_is : (s : Rendition) → IsWholeOf (close s) []
-close_is s =
-    let cs = close_codes s in
-    let stand = code_pieces_stand cs (close_codes_are s) in
-    record {
-      whole = ap is_whole (sym (spelled-code_pieces cs)) ∙ is_whole-spelled (code_pieces cs) stand;
-      plain = sym (bytes_of-styled (close s)) ∙ ap styled_bytes (ap styled (sym (spelled-code_pieces cs)) ∙ styled-spelled (code_pieces cs) stand ∙ styled_through-codes plain_style cs);
-    }
-
-shut : IsWholeOf [] []
-shut = record { whole = refl; plain = refl }
-
-link_end-written : IsWholeOf (codes "\u{1b}]8;;\u{1b}\\") []
-link_end-written = record { whole = refl; plain = refl }
-
-link_end_is : (link : List ℕ) → IsWholeOf (link_end link) []
-link_end_is link = elim (cases_Bool (nat_eq (length link) 0)) [
-  | inl none ↦ subst (λ w. IsWholeOf w []) (sym (link_end-shut link none)) shut
-  | inr some ↦ subst (λ w. IsWholeOf w []) (sym (link_end-open link some)) link_end-written
-]
-
-pen_close_is : (t : List ℕ) (i : ℕ) → IsWholeOf (pen_close t i) []
-pen_close_is t i = both (link_end_is (link_at t i)) (close_is (style_at t i))
-
--- of what is shown it is the slice
-
-show_is : (t : List ℕ) (e : ℕ) → IsTrue (is_whole t) → IsWholeOf (show (plain t) 0 e (up_to e (marks t))) (take e (plain t))
-show_is t e whole =
-    let ps = shown_pieces (λ p. nat_le p e) 0 e (pieces_of t) in
-    let shown = spelled-shown_pieces (pieces_of t) (λ p. nat_le p e) 0 e in
-    let stand = shown_pieces_stand (pieces_of t) (λ p. nat_le p e) 0 e (pieces_stand t whole) in
-    let all : e - 0 ≡ e = omega arith in
-    record {
-      whole = ap is_whole (sym shown) ∙ is_whole-spelled ps stand;
-      plain = ap plain (sym shown) ∙ sym (bytes_of-styled (spelled ps))
-          ∙ ap styled_bytes (styled-spelled ps stand ∙ styled_through-shown_pieces (pieces_of t) plain_style (λ p. nat_le p e) 0 e (λ p below. le-leb p e (omega arith)) ∙ ap (λ bs. slice_range bs 0 e) (sym (styled-pieces t)))
-          ∙ sym (slice_range-map (λ (s : StyledByte). s.byte) (styled t) 0 e) ∙ ap (λ x. slice_range x 0 e) (bytes_of-styled t) ∙ ap (λ n. take n (plain t)) all;
-    }
-
--- ---- of a text that is cut, and one that is filled up
-
-tail_is : (b : Bool) (tail : List ℕ) → IsTrue (is_whole tail) → IsWholeOf (if b then tail else []) (if b then plain tail else [])
-tail_is true tail whole = record { whole = whole; plain = refl }
-tail_is false tail whole = record { whole = refl; plain = refl }
-
-truncated_is : (t : List ℕ) (width : ℕ) (tail : List ℕ) → IsTrue (is_whole t) → IsTrue (is_whole tail) → IsWholeOf (truncated t width tail) (take (truncated_end t width tail) (plain t) ++ (if has_tail t width tail then plain tail else []))
-unfolding truncated
-truncated_is t width tail whole tail_whole =
-    let end = truncated_end t width tail in
-    both (show_is t end whole) (both (pen_close_is t end) (tail_is (has_tail t width tail) tail tail_whole))
-
-blanks_are_plain : (n : ℕ) → list_all is_plain_byte (blanks n) ≡ true
-blanks_are_plain zero = refl
-blanks_are_plain (suc n) = blanks_are_plain n
-
-blanks_is : (n : ℕ) → IsWholeOf (blanks n) (blanks n)
-blanks_is n =
-    let bare = plain-bare (blanks n) (no_escape (blanks n) (blanks_are_plain n)) in
-    record { whole = ap is_whole (sym bare) ∙ is_whole-plain (blanks n); plain = bare }
-
-padded_is : (t : List ℕ) (width : ℕ) (alignment : Alignment) → IsTrue (is_whole t)
-    → IsWholeOf (padded t width alignment) (blanks (before_text alignment (missing t width)) ++ plain t ++ blanks (missing t width - before_text alignment (missing t width)))
-unfolding padded
-padded_is t width alignment whole =
-    let lack = missing t width in
-    let before = before_text alignment lack in
-    let made = both (both (blanks_is before) (both (record { whole = whole; plain = refl }) (pen_close_is t (length (plain t))))) (blanks_is (lack - before)) in
-    record { whole = made.whole; plain = made.plain ∙ ap (λ u. (blanks before ++ u) ++ blanks (lack - before)) (append-nil (plain t)) }
-
-pub truncated-whole : (t : List ℕ) (width : ℕ) (tail : List ℕ) → IsTrue (is_whole t) → IsTrue (is_whole tail) → IsTrue (is_whole (truncated t width tail))
-truncated-whole t width tail whole tail_whole = (truncated_is t width tail whole tail_whole).whole
-
-pub truncated-plain : (t : List ℕ) (width : ℕ) (tail : List ℕ) → IsTrue (is_whole t) → IsTrue (is_whole tail)
-    → plain (truncated t width tail) ≡ take (truncated_end t width tail) (plain t) ++ (if has_tail t width tail then plain tail else [])
-truncated-plain t width tail whole tail_whole = (truncated_is t width tail whole tail_whole).plain
-
-pub padded-whole : (t : List ℕ) (width : ℕ) (alignment : Alignment) → IsTrue (is_whole t) → IsTrue (is_whole (padded t width alignment))
-padded-whole t width alignment whole = (padded_is t width alignment whole).whole
-
-pub padded-plain : (t : List ℕ) (width : ℕ) (alignment : Alignment) → IsTrue (is_whole t)
-    → plain (padded t width alignment) ≡ blanks (before_text alignment (missing t width)) ++ plain t ++ blanks (missing t width - before_text alignment (missing t width))
-padded-plain t width alignment whole = (padded_is t width alignment whole).plain
 
 -- ---- how wide a text is that is cut
 

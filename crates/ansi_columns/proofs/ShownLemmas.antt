@@ -1,9 +1,9 @@
 -- What is written after a text that is shown: what ends its link and its style, a tail, and blanks.
 use Rattle.std.proofs.Common.{◌≡◌, ℕ, zero, suc, ◌+◌, ◌-◌, ◌<◌, ◌≤◌, Bool, true, false, not, ◌&&◌, ◌||◌, ◌↔◌, List, [], ◌∷◌, ◌++◌, length, take, is_some, nat_le, codes, if◌then◌else◌, nat_eq, refl, sym, ◌∙◌, ap, ap₂, subst, arith, append_assoc, append-nil, length-append}
 use Rattle.std.specs.Str.{IsUtf8, byte}
-use Rattle.std.proofs.lemmas.Bool.{or_parts, le-leb, lt-leb, and_right}
+use Rattle.std.proofs.lemmas.Bool.{eq-eqb, or_parts, le-leb, lt-leb, and_right}
 use Rattle.std.proofs.lemmas.Bool.Decides.{nat_tests}
-use Rattle.std.proofs.lemmas.List.{append_cancel_right, length-replicate}
+use Rattle.std.proofs.lemmas.List.{append_cancel_right, length-replicate, nil_from_length}
 use Rattle.ansi_items.specs.Pieces.{pieces_of}
 use Rattle.ansi_items.specs.Plain.{plain, marks, up_to}
 use Rattle.ansi_style.specs.declared.state.rendition.Rendition.{Rendition}
@@ -87,35 +87,24 @@ both_none : {X : Type 0} (x y : List X) → x ++ y ≡ [] → (x ≡ []) × (y �
 both_none [] y none = (refl, none)
 both_none (a ∷ x) y none = absurd (cc none)
 
-link_end-some : (b : ℕ) (link : List ℕ) → link_end (b ∷ link) ≡ codes "\u{1b}]8;;\u{1b}\\"
-link_end-some b link =
-    let some : nat_eq (length (b ∷ link)) 0 ≡ false = grind (arith, nat_tests) in
-    ap (λ t. if t then [] else codes "\u{1b}]8;;\u{1b}\\") some
-
-link_end-length : (b : ℕ) (link : List ℕ) → length (link_end (b ∷ link)) ≡ 7
-link_end-length b link = ap length (link_end-some b link)
-
-link_end-none : (link : List ℕ) → link_end link ≡ [] → length link ≡ 0
-link_end-none [] none = refl
-link_end-none (b ∷ link) none = absurd (omega (arith, link_end-length b link, ap length none))
-
-link_end-empty : (link : List ℕ) → length link ≡ 0 → link_end link ≡ []
-link_end-empty [] none = refl
-link_end-empty (b ∷ link) none = absurd (omega arith)
-
 pub link_end-open : (link : List ℕ) → nat_eq (length link) 0 ≡ false → link_end link ≡ codes "\u{1b}]8;;\u{1b}\\"
 link_end-open link some = ap (λ t. if t then [] else codes "\u{1b}]8;;\u{1b}\\") some
 
 pub link_end-shut : (link : List ℕ) → nat_eq (length link) 0 ≡ true → link_end link ≡ []
 link_end-shut link none = ap (λ t. if t then [] else codes "\u{1b}]8;;\u{1b}\\") none
 
-no_bytes : (x : List ℕ) → length x ≡ 0 → x ≡ []
-no_bytes [] none = refl
-no_bytes (b ∷ x) none = absurd (omega arith)
+link_end-length : (b : ℕ) (link : List ℕ) → length (link_end (b ∷ link)) ≡ 7
+link_end-length b link =
+    let some : nat_eq (length (b ∷ link)) 0 ≡ false = grind (arith, nat_tests) in
+    ap length (link_end-open (b ∷ link) some)
+
+link_end-none : (link : List ℕ) → link_end link ≡ [] → length link ≡ 0
+link_end-none [] none = refl
+link_end-none (b ∷ link) none = absurd (omega (arith, link_end-length b link, ap length none))
 
 pub ends_here-yes : (link tail : List ℕ) (style : Rendition) → length tail ≡ 0 → length link ≡ 0 → (has_known style || style.unknown) ≡ false → (link_end link ++ close style) ++ tail ≡ []
 ends_here-yes link tail style no_tail no_link no_style =
-    ap₂ (λ u v. u ++ v) (ap₂ (λ u v. u ++ v) (link_end-empty link no_link) (close-unknown style no_style)) (no_bytes tail no_tail)
+    ap₂ (λ u v. u ++ v) (ap₂ (λ u v. u ++ v) (link_end-shut link (eq-eqb (length link) 0 no_link)) (close-unknown style no_style)) (nil_from_length tail no_tail)
 
 pub ends_here-no : (link tail : List ℕ) (style : Rendition) → (link_end link ++ close style) ++ tail ≡ [] → (length tail ≡ 0) × (length link ≡ 0) × ((has_known style || style.unknown) ≡ false)
 ends_here-no link tail style none =

@@ -1,8 +1,9 @@
--- Each line of a wrapped whole text is whole, and leaves no known style open.
-use Rattle.std.proofs.Common.{◌≡◌, ℕ, ◌==◌, ◌⊎◌, inl, inr, Bool, true, false, ◌&&◌, List, [], ◌∷◌, ◌++◌, length, map, filter, nat_le, nat_lt, Some, codes, if◌then◌else◌, IsTrue, refl, sym, ◌∙◌, ap, ap₂, subst, arith, append_assoc, append-nil}
+-- Each line of a wrapped whole text is whole, has the slices of its styled and of its linked bytes, and leaves no known style and no link open.
+use Rattle.std.proofs.Common.{◌≡◌, ℕ, ◌+◌, ◌<◌, ◌≤◌, max, ◌==◌, ◌⊎◌, inl, inr, Bool, true, false, ◌&&◌, List, [], ◌∷◌, ◌++◌, length, map, filter, slice_range, nat_le, nat_lt, Some, codes, encode_utf8_all, if◌then◌else◌, IsTrue, refl, sym, ◌∙◌, ap, ap₂, subst, arith, append_assoc, append-nil}
 use Rattle.std.specs.List.{AllByRecursion, All}
 use Rattle.std.specs.Str.{byte}
-use Rattle.std.proofs.lemmas.Bool.{cond_both, false_from_ne_true}
+use Rattle.std.proofs.lemmas.Bool.{cond_both, and_parts, eqb-true, le-leb, false_from_ne_true}
+use Rattle.std.proofs.lemmas.Bool.Decides.{nat_tests}
 use Rattle.std.proofs.lemmas.Grind.{flat_map-append}
 use Rattle.std.proofs.lemmas.List.Elements.{All-from_recursion}
 use Rattle.ansi_items.specs.Bytes.{escape}
@@ -11,25 +12,30 @@ use Rattle.ansi_items.specs.Pieces.{Piece, Text, Sequence, LoneEscape, spelling,
 use Rattle.ansi_items.specs.Plain.{Mark, plain, marks_of, marks, up_to, is_whole}
 use Rattle.ansi_items.proofs.JoinLemmas.{spelled, AllStandAnywhere, stand-append, pieces_stand}
 use Rattle.ansi_style.specs.declared.state.rendition.Rendition.{Rendition}
-use Rattle.ansi_style.specs.Rendition.{IsStyle, plain_style, known, has_any}
+use Rattle.ansi_style.specs.Rendition.{IsStyle, plain_style, known}
 use Rattle.ansi_style.specs.Reading.{after_marks}
-use Rattle.ansi_style.specs.Styled.{residue}
-use Rattle.ansi_style.specs.Written.{start, close, close_codes, close_if_any, longest_close, written_all}
-use Rattle.ansi_style.proofs.CloseLemmas.{close_codes_clear}
-use Rattle.ansi_style.proofs.DressedLemmas.{closed-spelled, Clears, dressed_pieces, spelled-dressed_pieces, dressed_pieces_stand, dressed_pieces_give}
+use Rattle.ansi_style.specs.Styled.{StyledByte, styled, residue}
+use Rattle.ansi_style.specs.Written.{start, start_codes, close_if_any}
+use Rattle.ansi_style.proofs.DressedLemmas.{GiveAlone, IsClosed, closed-spelled, dressed_pieces, spelled-dressed_pieces, dressed_pieces_stand, dressed_pieces_give}
 use Rattle.ansi_style.proofs.MarkLemmas.{further, marks_of-text, marks_of-sequence}
-use Rattle.ansi_style.proofs.ReadBackLemmas.{AreCodes, close_codes_are}
+use Rattle.ansi_style.proofs.ReadBackLemmas.{start_codes_are}
 use Rattle.ansi_style.proofs.SgrLemmas.{apply-no_sgr}
 use Rattle.ansi_style.proofs.StyleLemmas.{IsStyle-apply_all, IsStyle-plain_style}
-use Rattle.ansi_style.proofs.StyledLemmas.{style_through, style_through-append, styled_through}
-use Rattle.ansi_style.proofs.UnsetLemmas.{known-unset}
+use Rattle.ansi_style.proofs.StyledLemmas.{style_through, style_through-append, styled_through, styled_through-append, styled-pieces}
+use Rattle.ansi_search.proofs.SliceLemmas.{slice_range-none}
 use Rattle.ansi_slice.specs.Cut.{show}
 use Rattle.ansi_slice.specs.Parts.{past}
-use Rattle.ansi_slice.proofs.ShownLemmas.{at_places, shown_pieces, spelled-shown_pieces, shown_pieces_stand, style_through-shown_pieces}
-use Rattle.ansi_columns.specs.Lines.{lines}
-use Rattle.ansi_columns.specs.Links.{is_link, opens_link, link_after, link_after_all, link_end}
+use Rattle.ansi_slice.proofs.ShownLemmas.{at_places, shown_pieces, spelled-shown_pieces, shown_pieces_stand, style_through-shown_pieces, styled_through-shown_pieces}
+use Rattle.ansi_split.proofs.PartSliceLemmas.{Divides, shown_pieces-divided, at_places-never, at_places-at_places, closing_codes, closing_codes_are, closing_codes_clear, written-closing_codes}
+use Rattle.ansi_columns.specs.Addresses.{LinkedByte, linked}
+use Rattle.ansi_columns.specs.Columns.{cluster_width, clusters}
+use Rattle.ansi_columns.specs.Lines.{lines, lines_from}
+use Rattle.ansi_columns.specs.Links.{is_link, opens_link, link_of, link_after, link_after_all, link_end}
 use Rattle.ansi_columns.specs.Wrapped.{WrappedLine, line_over, lines_over, wrapped}
-use Rattle.ansi_columns.proofs.LinkLemmas.{is_link-sgr}
+use Rattle.ansi_columns.proofs.LineLemmas.{line-any, line-last}
+use Rattle.ansi_columns.proofs.LinkLemmas.{is_link-sgr, link_of-pieces, link_through}
+use Rattle.ansi_columns.proofs.LinkedLawLemmas.{linked_through, link_through-append, linked_through-append, linked-pieces, link_through-shown_pieces, linked_through-shown_pieces, IsLinked, both, none_is, spelled_is, shown_is, codes_is, link_end_is}
+use Rattle.ansi_columns.proofs.WrapLemmas.{filled}
 
 -- Marks that are sequences.
 
@@ -51,20 +57,7 @@ marks_are_sequences (Text w ∷ ps) all = subst AreSequences (sym (marks_of-text
 marks_are_sequences (Sequence w ∷ ps) all = subst AreSequences (sym (marks_of-sequence w ps)) (all.0, marks_are_sequences ps all.1)
 marks_are_sequences (LoneEscape ∷ ps) all = absurd all.0
 
--- A link that is carried is none, or a link sequence.
-
-abbrev IsCarried : List ℕ → Type 0
-IsCarried link = (link ≡ []) ⊎ (IsSequence link × (is_link link ≡ true))
-
-carried-step : (link w : List ℕ) → IsSequence w → IsCarried link → IsCarried (link_after link w)
-carried-step link w is carried =
-    cond_both (is_link w) (if opens_link w then w else []) link IsCarried
-    (λ yes. cond_both (opens_link w) w [] IsCarried (λ opens. inr (is, yes)) (λ ends. inl refl))
-    (λ no. carried)
-
-carried-after : (link : List ℕ) (ms : List Mark) → AreSequences ms → IsCarried link → IsCarried (link_after_all link ms)
-carried-after link [] all carried = carried
-carried-after link (m ∷ ms) all carried = carried-after (link_after link m.bytes) ms all.1 (carried-step link m.bytes all.0 carried)
+-- A sequence that opens a link or ends one, or nothing.
 
 abbrev one_sequence : List ℕ → List Piece
 one_sequence [] = []
@@ -74,138 +67,346 @@ spelled-one_sequence : (w : List ℕ) → spelled (one_sequence w) ≡ w
 spelled-one_sequence [] = refl
 spelled-one_sequence (b ∷ w) = append-nil (b ∷ w)
 
-carried-stands : (link : List ℕ) → IsCarried link → AllStandAnywhere (one_sequence link)
-carried-stands [] carried = tt
-carried-stands (b ∷ link) (inl none) = absurd (cc none)
-carried-stands (b ∷ link) (inr is) = (is.0, tt)
+styled_through-one_sequence : (s : Rendition) (w : List ℕ) → styled_through s (one_sequence w) ≡ []
+styled_through-one_sequence s [] = refl
+styled_through-one_sequence s (b ∷ w) = refl
+
+linked_through-one_sequence : (w : List ℕ) → linked_through [] (one_sequence w) ≡ []
+linked_through-one_sequence [] = refl
+linked_through-one_sequence (b ∷ w) = refl
+
+abbrev IsNoneOrLink : List ℕ → Type 0
+IsNoneOrLink w = (w ≡ []) ⊎ (IsSequence w × (is_link w ≡ true))
+
+link_stands : (w : List ℕ) → IsNoneOrLink w → AllStandAnywhere (one_sequence w)
+link_stands [] is = tt
+link_stands (b ∷ w) (inl none) = absurd (cc none)
+link_stands (b ∷ w) (inr is) = (is.0, tt)
 
 -- it changes no style
-carried-keeps : (s : Rendition) (link : List ℕ) → IsCarried link → style_through s (one_sequence link) ≡ s
-carried-keeps s [] carried = refl
-carried-keeps s (b ∷ link) (inl none) = absurd (cc none)
-carried-keeps s (b ∷ link) (inr is) = apply-no_sgr s (b ∷ link) (false_from_ne_true _ (λ sgr. (let no = is_link-sgr (b ∷ link) sgr in cc (no, is.1))))
+link_keeps : (s : Rendition) (w : List ℕ) → IsNoneOrLink w → style_through s (one_sequence w) ≡ s
+link_keeps s [] is = refl
+link_keeps s (b ∷ w) (inl none) = absurd (cc none)
+link_keeps s (b ∷ w) (inr is) = apply-no_sgr s (b ∷ w) (false_from_ne_true _ (λ sgr. (let no = is_link-sgr (b ∷ w) sgr in cc (no, is.1))))
 
--- nor does the end of a link
 end_is : IsControlString (codes "\u{1b}]8;;\u{1b}\\")
 end_is = record { opener = byte "]"; body = codes "8;;"; terminator = escape ∷ byte "\\" ∷ []; spelled = refl; opens = refl; is_body = refl; ends = inl refl }
 
-end_carried : (link : List ℕ) → IsCarried (link_end link)
-end_carried link = cond_both (length link == 0) [] (codes "\u{1b}]8;;\u{1b}\\") IsCarried (λ none. inl refl) (λ some. inr (inr (inl end_is), refl))
+link_end_is_link : (link : List ℕ) → IsNoneOrLink (link_end link)
+link_end_is_link link = cond_both (length link == 0) [] (codes "\u{1b}]8;;\u{1b}\\") IsNoneOrLink (λ none. inl refl) (λ some. inr (inr (inl end_is), refl))
 
--- The codes that close a style, where anything is set.
+-- A link that is carried: it opens itself.
 
-abbrev closing_codes : Rendition → List (List ℕ)
-closing_codes q = if has_any q then close_codes q else []
+record IsCarried (link : List ℕ) : Type 0 where
+  is : IsNoneOrLink link
+  opens : link_after [] link ≡ link
 
-closing_codes_are : (q : Rendition) → AreCodes (closing_codes q) longest_close
-closing_codes_are q = cond_both (has_any q) (close_codes q) [] (λ xs. AreCodes xs longest_close) (λ any. close_codes_are q) (λ none. record { each = refl; short = omega arith })
+none_carried : IsCarried []
+none_carried = record { is = inl refl; opens = refl }
 
-closing_codes_clear : (q : Rendition) → Clears q (closing_codes q)
-closing_codes_clear q = cond_both (has_any q) (close_codes q) [] (Clears q) (λ any. λ p same. close_codes_clear p q same) (λ none. λ p same. same ∙ known-unset q none)
+carried-step : (link w : List ℕ) → IsSequence w → IsCarried link → IsCarried (link_after link w)
+carried-step link w is carried =
+    cond_both (is_link w) (if opens_link w then w else []) link IsCarried
+    (λ yes. cond_both (opens_link w) w [] IsCarried
+    (λ opens. record { is = inr (is, yes); opens = ap₂ (λ a b. if a then (if b then w else []) else []) yes opens })
+    (λ ends. none_carried))
+    (λ no. carried)
 
-written-closing_codes : (q : Rendition) → written_all (closing_codes q) ≡ close_if_any q
-written-closing_codes q = either (has_any q)
+carried-after : (link : List ℕ) (ms : List Mark) → AreSequences ms → IsCarried link → IsCarried (link_after_all link ms)
+carried-after link [] all carried = carried
+carried-after link (m ∷ ms) all carried = carried-after (link_after link m.bytes) ms all.1 (carried-step link m.bytes all.0 carried)
+
+carried_is : (link : List ℕ) → IsCarried link → IsLinked [] link [] link
+carried_is link carried =
+    let made = spelled_is [] (one_sequence link) link (spelled-one_sequence link) (link_stands link carried.is) in
+    record { whole = made.whole; bytes = made.bytes ∙ linked_through-one_sequence link; after = made.after ∙ through link ∙ carried.opens }
   where
-    either : (any : Bool) → written_all (if any then close_codes q else []) ≡ (if any then close q else [])
-    either true = refl
-    either false = refl
+    through : (w : List ℕ) → link_through [] (one_sequence w) ≡ link_after [] w
+    through [] = refl
+    through (b ∷ w) = refl
 
--- A line is a start, the link, what is shown, the end of the link and a close.
+-- ---- a line is a start, the link, what is shown, the end of the link and a close
+
+-- the text is whole, has these styled and these linked bytes, and leaves no known style and no link open
+record IsEnded (bs : List StyledByte) (ls : List LinkedByte) (u : List ℕ) : Type 0 where
+  closed : IsClosed bs u
+  linked : IsLinked [] u ls []
 
 regrouped : (s l v e c : List ℕ) → s ++ (l ++ (v ++ e)) ++ c ≡ s ++ l ++ v ++ e ++ c
 regrouped s l v e c = simp append_assoc
 
-abbrev Closed : List ℕ → Type 0
-Closed u = IsTrue (is_whole u) × (residue u ≡ plain_style)
+module _ (t : List ℕ) (style : Rendition) (link : List ℕ) (test : ℕ → Bool) (a b : ℕ) (whole : IsTrue (is_whole t)) (is_style : IsStyle style) (carried : IsCarried link) where
+  abbrev own : List Mark
+  own = at_places test (marks t)
 
-nothing_closed : Closed []
-nothing_closed = (refl, refl)
+  abbrev shown : List Piece
+  shown = shown_pieces test a b (pieces_of t)
 
-written_closed : (t : List ℕ) (style : Rendition) (link : List ℕ) (test : ℕ → Bool) (a b : ℕ) → IsTrue (is_whole t) → IsStyle style → IsCarried link
-    → Closed (start style ++ link ++ show (plain t) a b (at_places test (marks t)) ++ link_end (link_after_all link (at_places test (marks t))) ++ close_if_any (after_marks style (at_places test (marks t))))
-written_closed t style link test a b whole is carried =
-    let own = at_places test (marks t) in
-    let after = after_marks style own in
-    let last = link_after_all link own in
-    let shown = shown_pieces test a b (pieces_of t) in
-    let rest = shown ++ one_sequence (link_end last) in
-    let ps = one_sequence link ++ rest in
-    let xs = closing_codes after in
-    let stand : AllStandAnywhere ps
-    = stand-append (one_sequence link) rest (carried-stands link carried)
-    (stand-append shown (one_sequence (link_end last)) (shown_pieces_stand (pieces_of t) test a b (pieces_stand t whole)) (carried-stands (link_end last) (end_carried last))) in
-    let through : style_through style ps ≡ after
-    = style_through-append style (one_sequence link) rest ∙ ap (λ s. style_through s rest) (carried-keeps style link carried)
-    ∙ style_through-append style shown (one_sequence (link_end last))
-    ∙ carried-keeps (style_through style shown) (link_end last) (end_carried last)
-    ∙ style_through-shown_pieces (pieces_of t) style test a b in
-    let spell : spelled ps ≡ link ++ (show (plain t) a b own ++ link_end last)
-    = flat_map-append spelling (one_sequence link) rest
-    ∙ ap₂ (λ u v. u ++ v) (spelled-one_sequence link)
-    (flat_map-append spelling shown (one_sequence (link_end last)) ∙ ap₂ (λ u v. u ++ v) (spelled-shown_pieces (pieces_of t) test a b) (spelled-one_sequence (link_end last))) in
-    let all : spelled (dressed_pieces style ps xs) ≡ start style ++ link ++ show (plain t) a b own ++ link_end last ++ close_if_any after
-    = spelled-dressed_pieces style ps xs ∙ ap₂ (λ u v. start style ++ u ++ v) spell (written-closing_codes after)
-    ∙ regrouped (start style) link (show (plain t) a b own) (link_end last) (close_if_any after) in
-    let is_closed = closed-spelled (dressed_pieces style ps xs) (styled_through style ps)
-    (dressed_pieces_stand style ps xs is stand (closing_codes_are after))
-    (dressed_pieces_give style after ps xs is (ap known through) (closing_codes_clear after)) in
-    subst Closed all (is_closed.whole, is_closed.closed)
+  abbrev after : Rendition
+  after = after_marks style own
 
-line_closed : (t : List ℕ) (style : Rendition) (link : List ℕ) (test : ℕ → Bool) (i : ℕ × ℕ) → IsTrue (is_whole t) → IsStyle style → IsCarried link
-    → Closed (line_over style link (plain t) (at_places test (marks t)) i).bytes
-unfolding line_over
-line_closed t style link test i whole is carried =
-    cond_both (i.0 == i.1 && length (at_places test (marks t)) == 0) []
-    (start style ++ link ++ show (plain t) i.0 i.1 (at_places test (marks t)) ++ link_end (link_after_all link (at_places test (marks t))) ++ close_if_any (after_marks style (at_places test (marks t))))
-    Closed (λ none. nothing_closed) (λ some. written_closed t style link test i.0 i.1 whole is carried)
+  abbrev last : List ℕ
+  last = link_after_all link own
 
--- So is each line, whatever marks are left.
+  abbrev written : List ℕ
+  written = start style ++ link ++ show (plain t) a b own ++ link_end last ++ close_if_any after
 
-filter-filter : (p q : ℕ → Bool) (ms : List Mark) → at_places p (at_places q ms) ≡ at_places (λ k. q k && p k) ms
-filter-filter p q [] = refl
-filter-filter p q (m ∷ ms) = either (q m.place) (p m.place) (filter-filter p q ms)
+  abbrev rest : List Piece
+  rest = shown ++ one_sequence (link_end last)
+
+  abbrev inside : List Piece
+  inside = one_sequence link ++ rest
+
+  inside_stands : AllStandAnywhere inside
+  inside_stands =
+      stand-append (one_sequence link) rest (link_stands link carried.is)
+      (stand-append shown (one_sequence (link_end last)) (shown_pieces_stand (pieces_of t) test a b (pieces_stand t whole)) (link_stands (link_end last) (link_end_is_link last)))
+
+  style_inside : style_through style inside ≡ after
+  style_inside =
+      style_through-append style (one_sequence link) rest ∙ ap (λ s. style_through s rest) (link_keeps style link carried.is)
+      ∙ style_through-append style shown (one_sequence (link_end last))
+      ∙ link_keeps (style_through style shown) (link_end last) (link_end_is_link last)
+      ∙ style_through-shown_pieces (pieces_of t) style test a b
+
+  styled_inside : styled_through style inside ≡ styled_through style shown
+  styled_inside =
+      styled_through-append style (one_sequence link) rest
+      ∙ ap₂ (λ u s. u ++ styled_through s rest) (styled_through-one_sequence style link) (link_keeps style link carried.is)
+      ∙ styled_through-append style shown (one_sequence (link_end last))
+      ∙ ap (λ v. styled_through style shown ++ v) (styled_through-one_sequence (style_through style shown) (link_end last))
+      ∙ append-nil (styled_through style shown)
+
+  spelled_inside : spelled inside ≡ link ++ (show (plain t) a b own ++ link_end last)
+  spelled_inside =
+      flat_map-append spelling (one_sequence link) rest
+      ∙ ap₂ (λ u v. u ++ v) (spelled-one_sequence link)
+      (flat_map-append spelling shown (one_sequence (link_end last)) ∙ ap₂ (λ u v. u ++ v) (spelled-shown_pieces (pieces_of t) test a b) (spelled-one_sequence (link_end last)))
+
+  spelled_all : spelled (dressed_pieces style inside (closing_codes after)) ≡ written
+  spelled_all =
+      spelled-dressed_pieces style inside (closing_codes after) ∙ ap₂ (λ u v. start style ++ u ++ v) spelled_inside (written-closing_codes after)
+      ∙ regrouped (start style) link (show (plain t) a b own) (link_end last) (close_if_any after)
+
+  written_closed : IsClosed (styled_through style shown) written
+  written_closed =
+      let ps = dressed_pieces style inside (closing_codes after) in
+      subst (IsClosed (styled_through style shown)) spelled_all
+      (closed-spelled ps (styled_through style shown) (dressed_pieces_stand style inside (closing_codes after) is_style inside_stands (closing_codes_are after))
+      (subst (GiveAlone ps) styled_inside (dressed_pieces_give style after inside (closing_codes after) is_style (ap known style_inside) (closing_codes_clear after))))
+
+  written_linked : IsLinked [] written (linked_through link shown) []
+  written_linked =
+      let close = subst (λ w. IsLinked [] w [] []) (written-closing_codes after) (codes_is [] (closing_codes after) (closing_codes_are after)) in
+      let made = both (both (both (both (codes_is [] (start_codes style) (start_codes_are style is_style)) (carried_is link carried)) (shown_is t link test a b whole)) (link_end_is last)) close in
+      record { whole = made.whole; bytes = made.bytes ∙ append-nil (linked_through link shown ++ []) ∙ append-nil (linked_through link shown); after = made.after }
+
+  written_ended : IsEnded (styled_through style shown) (linked_through link shown) written
+  written_ended = record { closed = written_closed; linked = written_linked }
+
+-- ---- what a line shows, where marks at places that pass `early` stand before it, its own are at those that pass `here`, and `together` passes both
+
+-- this style and this link are open after the marks before it
+record AreOpen (t : List ℕ) (early : ℕ → Bool) (style : Rendition) (link : List ℕ) : Type 0 where
+  styled : style ≡ after_marks plain_style (at_places early (marks t))
+  linked : link ≡ link_after_all [] (at_places early (marks t))
+
+record IsNext (k : ℕ) (early here together : ℕ → Bool) (i : ℕ × ℕ) : Type 0 where
+  divides : Divides k early here together
+  after : k ≤ i.0 + 1
+  covers : (p : ℕ) → p < i.1 → together p ≡ true
+
+module _ (t : List ℕ) (k : ℕ) (early here together : ℕ → Bool) (style : Rendition) (link : List ℕ) (i : ℕ × ℕ) (here_open : AreOpen t early style link) (next : IsNext k early here together i) where
+  abbrev earlier : List Piece
+  earlier = shown_pieces early 0 0 (pieces_of t)
+
+  abbrev shown_here : List Piece
+  shown_here = shown_pieces here i.0 i.1 (pieces_of t)
+
+  joined : earlier ++ shown_here ≡ shown_pieces together i.0 i.1 (pieces_of t)
+  joined = shown_pieces-divided (pieces_of t) k early here together 0 i.0 i.1 next.divides next.after
+
+  style_before : style_through plain_style earlier ≡ style
+  style_before = style_through-shown_pieces (pieces_of t) plain_style early 0 0 ∙ sym here_open.styled
+
+  link_before : link_through [] earlier ≡ link
+  link_before = link_through-shown_pieces (pieces_of t) [] early 0 0 ∙ sym here_open.linked
+
+  styled_here : styled_through style shown_here ≡ slice_range (styled t) i.0 i.1
+  styled_here =
+      let none : styled_through plain_style earlier ≡ []
+      = styled_through-shown_pieces (pieces_of t) plain_style early 0 0 (λ p none. absurd (omega (arith, none))) ∙ slice_range-none (styled_through plain_style (pieces_of t)) 0 0 (omega arith) in
+      ap₂ (λ u s. u ++ styled_through s shown_here) (sym none) (sym style_before)
+      ∙ sym (styled_through-append plain_style earlier shown_here) ∙ ap (styled_through plain_style) joined
+      ∙ styled_through-shown_pieces (pieces_of t) plain_style together i.0 i.1 next.covers ∙ ap (λ bs. slice_range bs i.0 i.1) (sym (styled-pieces t))
+
+  linked_here : linked_through link shown_here ≡ slice_range (linked t) i.0 i.1
+  linked_here =
+      let none : linked_through [] earlier ≡ []
+      = linked_through-shown_pieces (pieces_of t) [] early 0 0 (λ p none. absurd (omega (arith, none))) ∙ slice_range-none (linked_through [] (pieces_of t)) 0 0 (omega arith) in
+      ap₂ (λ u l. u ++ linked_through l shown_here) (sym none) (sym link_before)
+      ∙ sym (linked_through-append [] earlier shown_here) ∙ ap (linked_through []) joined
+      ∙ linked_through-shown_pieces (pieces_of t) [] together i.0 i.1 next.covers ∙ ap (λ bs. slice_range bs i.0 i.1) (sym (linked-pieces t))
+
+  open_after : AreOpen t together (after_marks style (at_places here (marks t))) (link_after_all link (at_places here (marks t)))
+  open_after = record {
+    styled = sym (style_through-shown_pieces (pieces_of t) style here i.0 i.1) ∙ ap (λ s. style_through s shown_here) (sym style_before)
+        ∙ sym (style_through-append plain_style earlier shown_here) ∙ ap (style_through plain_style) joined ∙ style_through-shown_pieces (pieces_of t) plain_style together i.0 i.1;
+    linked = sym (link_through-shown_pieces (pieces_of t) link here i.0 i.1) ∙ ap (λ l. link_through l shown_here) (sym link_before)
+        ∙ sym (link_through-append [] earlier shown_here) ∙ ap (link_through []) joined ∙ link_through-shown_pieces (pieces_of t) [] together i.0 i.1;
+  }
+
+  is_style_before : IsStyle style
+  is_style_before = subst IsStyle (sym here_open.styled) (IsStyle-apply_all plain_style (map (λ (m : Mark). m.bytes) (at_places early (marks t))) IsStyle-plain_style)
+
+  carried_before : IsTrue (is_whole t) → IsCarried link
+  carried_before whole =
+      subst IsCarried (sym here_open.linked)
+      (carried-after [] (at_places early (marks t)) (sequences-filter (λ (m : Mark). early m.place) (marks t) (marks_are_sequences (pieces_of t) (pieces_stand t whole))) none_carried)
+
+  nothing_ended : i.0 ≡ i.1 → IsEnded (slice_range (styled t) i.0 i.1) (slice_range (linked t) i.0 i.1) []
+  nothing_ended same = record {
+    closed = record { styled_bytes = sym (slice_range-none (styled t) i.0 i.1 (omega (arith, same))); whole = refl; closed = refl };
+    linked = subst (λ ls. IsLinked [] [] ls []) (sym (slice_range-none (linked t) i.0 i.1 (omega (arith, same)))) (none_is []);
+  }
+
+  line_ended : IsTrue (is_whole t) → IsEnded (slice_range (styled t) i.0 i.1) (slice_range (linked t) i.0 i.1) (line_over style link (plain t) (at_places here (marks t)) i).bytes
+  unfolding line_over
+  line_ended whole =
+      let some_line = written t style link here i.0 i.1 whole is_style_before (carried_before whole) in
+      cond_both (i.0 == i.1 && length (at_places here (marks t)) == 0) [] some_line (IsEnded (slice_range (styled t) i.0 i.1) (slice_range (linked t) i.0 i.1))
+      (λ none. nothing_ended (eqb-true i.0 i.1 (and_parts (i.0 == i.1) (length (at_places here (marks t)) == 0) none).0))
+      (λ some. subst (λ bs. IsEnded bs (slice_range (linked t) i.0 i.1) some_line) styled_here
+      (subst (λ ls. IsEnded (styled_through style shown_here) ls some_line) linked_here (written_ended t style link here i.0 i.1 whole is_style_before (carried_before whole))))
+
+-- ---- so each line has the slices over its interval
+
+-- the intervals stand one after the other from the place e on
+abbrev AreInTurn : ℕ → List (ℕ × ℕ) → Type 0
+AreInTurn e [] = Unit
+AreInTurn e (i ∷ is) = (e ≤ i.0) × (i.0 ≤ i.1) × AreInTurn i.1 is
+
+lines_in_turn : (width e start end here columns : ℕ) (cs : List (List ℕ)) → e ≤ start → start ≤ end → end ≤ here → AreInTurn e (lines_from width start end here columns cs)
+lines_in_turn width e start end here columns [] after ordered read = subst (AreInTurn e) (sym (line-last width start end here columns)) (after, ordered, tt)
+lines_in_turn width e start end here columns (c ∷ cs) after ordered read =
+    let next = here + length (encode_utf8_all c) in
+    let wider = columns + cluster_width c in
+    line-any width start end here columns c cs (AreInTurn e)
+    (after, ordered, lines_in_turn width end next next next 0 cs (omega (arith, read)) (omega arith) (omega arith))
+    (lines_in_turn width e start end next wider cs after ordered (omega (arith, read)))
+    (lines_in_turn width e start next next wider cs after (omega (arith, ordered, read)) (omega arith))
+    (after, ordered, lines_in_turn width end here next next (cluster_width c) cs read (omega arith) (omega arith))
+
+abbrev AreEnded : List ℕ → List (ℕ × ℕ) → List WrappedLine → Type 0
+AreEnded t [] [] = Unit
+AreEnded t [] (l ∷ ls) = ⊥
+AreEnded t (i ∷ is) [] = ⊥
+AreEnded t (i ∷ is) (l ∷ ls) = IsEnded (slice_range (styled t) i.0 i.1) (slice_range (linked t) i.0 i.1) l.bytes × AreEnded t is ls
+
+-- the marks that are left before lines are those from the place k on
+record AreLeft (k : ℕ) (early late : ℕ → Bool) : Type 0 where
+  early_before : (p : ℕ) → p < k → early p ≡ true
+  early_from : (p : ℕ) → k ≤ p → early p ≡ false
+  late_before : (p : ℕ) → p < k → late p ≡ false
+  late_from : (p : ℕ) → k ≤ p → late p ≡ true
+
+up_to_end : (k e : ℕ) (early late : ℕ → Bool) → AreLeft k early late → k ≤ e + 1 → Divides k early (λ p. late p && nat_le p e) (λ p. nat_le p e)
+up_to_end k e early late left after = record {
+  early_before = left.early_before;
+  early_from = left.early_from;
+  late_before = λ p before. ap (λ b. b && nat_le p e) (left.late_before p before);
+  late_from = λ p from. ap (λ b. b && nat_le p e) (left.late_from p from);
+  both_before = λ p before. le-leb p e (omega (arith, before, after));
+}
+
+all_left : (k : ℕ) (early late : ℕ → Bool) → AreLeft k early late → Divides k early late (λ p. true)
+all_left k early late left = record { early_before = left.early_before; early_from = left.early_from; late_before = left.late_before; late_from = left.late_from; both_before = λ p before. refl }
+
+left_after : (k e : ℕ) (early late : ℕ → Bool) → AreLeft k early late → k ≤ e + 1 → AreLeft (e + 1) (λ p. nat_le p e) (λ p. late p && nat_lt e p)
+left_after k e early late left after = record {
+  early_before = λ p before. le-leb p e (omega (arith, before));
+  early_from = λ p from. grind (arith, nat_tests);
+  late_before = λ p before. (let none : nat_lt e p ≡ false = grind (arith, nat_tests) in and-none (late p) (nat_lt e p) none);
+  late_from = λ p from. (let some : nat_lt e p ≡ true = grind (arith, nat_tests) in ap₂ (λ a b. a && b) (left.late_from p (omega (arith, from, after))) some);
+}
   where
-    either : (a b : Bool) → at_places p (at_places q ms) ≡ at_places (λ k. q k && p k) ms
-        → filter (λ (n : Mark). p n.place) (if a then m ∷ at_places q ms else at_places q ms) ≡ (if a && p m.place then m ∷ at_places (λ k. q k && p k) ms else at_places (λ k. q k && p k) ms)
-    either true b same = ap (λ ks. if p m.place then m ∷ ks else ks) same
-    either false b same = same
+    and-none : (a b : Bool) → b ≡ false → (a && b) ≡ false
+    and-none true b none = none
+    and-none false b none = refl
 
-lines_closed : (t : List ℕ) (style : Rendition) (link : List ℕ) (test : ℕ → Bool) (ms : List Mark) (is : List (ℕ × ℕ)) → IsTrue (is_whole t) → IsStyle style → IsCarried link → ms ≡ at_places test (marks t)
-    → AllByRecursion (λ (l : WrappedLine). Closed l.bytes) (lines_over style link (plain t) ms is)
+lines_ended : (t : List ℕ) (k e : ℕ) (early late : ℕ → Bool) (style : Rendition) (link : List ℕ) (ms : List Mark) (is : List (ℕ × ℕ)) → IsTrue (is_whole t)
+    → ms ≡ at_places late (marks t) → AreOpen t early style link → AreLeft k early late → k ≤ e + 1 → AreInTurn e is → AreEnded t is (lines_over style link (plain t) ms is)
 unfolding lines_over
-lines_closed t style link test ms [] whole style_is carried left = tt
-lines_closed t style link test ms (i ∷ is) whole style_is carried left =
-    by_own (if length is == 0 then ms else up_to i.1 ms)
-    (cond_both (length is == 0) ms (up_to i.1 ms) (λ own. (here : ℕ → Bool) × (own ≡ at_places here (marks t)))
-    (λ last. (test, left))
-    (λ more. ((λ k. test k && nat_le k i.1), ap (up_to i.1) left ∙ filter-filter (λ k. nat_le k i.1) test (marks t))))
-    (λ style later_link style_is later_carried.
-    lines_closed t style later_link (λ k. test k && nat_lt i.1 k) (past (Some i.1) ms) is whole style_is later_carried (ap (past (Some i.1)) left ∙ filter-filter (λ k. nat_lt i.1 k) test (marks t)))
-  where
-    by_own : (own : List Mark) → (here : ℕ → Bool) × (own ≡ at_places here (marks t))
-        → ((later : Rendition) (later_link : List ℕ) → IsStyle later → IsCarried later_link → AllByRecursion (λ (l : WrappedLine). Closed l.bytes) (lines_over later later_link (plain t) (past (Some i.1) ms) is))
-        → Closed (line_over style link (plain t) own i).bytes × AllByRecursion (λ (l : WrappedLine). Closed l.bytes) (lines_over (after_marks style own) (link_after_all link own) (plain t) (past (Some i.1) ms) is)
-    by_own own some later = (
-      subst (λ ks. Closed (line_over style link (plain t) ks i).bytes) (sym some.1) (line_closed t style link some.0 i whole style_is carried),
-      later (after_marks style own) (link_after_all link own) (IsStyle-apply_all style (map (λ (m : Mark). m.bytes) own) style_is)
-          (carried-after link own (subst AreSequences (sym some.1) (sequences-filter (λ (m : Mark). some.0 m.place) (marks t) (marks_are_sequences (pieces_of t) (pieces_stand t whole)))) carried),
+lines_ended t k e early late style link ms [] whole ms_are here_open left after turn = tt
+lines_ended t k e early late style link ms (i ∷ []) whole ms_are here_open left after turn =
+    let next : IsNext k early late (λ p. true) i = record { divides = all_left k early late left; after = omega (arith, after, turn.0); covers = λ p below. refl } in (
+      subst (λ own. IsEnded (slice_range (styled t) i.0 i.1) (slice_range (linked t) i.0 i.1) (line_over style link (plain t) own i).bytes) (sym ms_are)
+          (line_ended t k early late (λ p. true) style link i here_open next whole),
+      tt,
+    )
+lines_ended t k e early late style link ms (i ∷ j ∷ is) whole ms_are here_open left after turn =
+    let here : ℕ → Bool = λ p. late p && nat_le p i.1 in
+    let end : k ≤ i.1 + 1 = omega (arith, after, turn.0, turn.1) in
+    let own_are : up_to i.1 ms ≡ at_places here (marks t) = ap (up_to i.1) ms_are ∙ at_places-at_places (λ p. nat_le p i.1) late (marks t) in
+    let rest_are : past (Some i.1) ms ≡ at_places (λ p. late p && nat_lt i.1 p) (marks t) = ap (past (Some i.1)) ms_are ∙ at_places-at_places (λ p. nat_lt i.1 p) late (marks t) in
+    let next : IsNext k early here (λ p. nat_le p i.1) i
+    = record { divides = up_to_end k i.1 early late left end; after = omega (arith, after, turn.0); covers = λ p below. le-leb p i.1 (omega (arith, below)) } in
+    subst (λ own. AreEnded t (i ∷ j ∷ is) (line_over style link (plain t) own i ∷ lines_over (after_marks style own) (link_after_all link own) (plain t) (past (Some i.1) ms) (j ∷ is)))
+    (sym (ap (λ b. if b then ms else up_to i.1 ms) (filled j is) ∙ own_are)) (
+      line_ended t k early here (λ p. nat_le p i.1) style link i here_open next whole,
+      lines_ended t (i.1 + 1) i.1 (λ p. nat_le p i.1) (λ p. late p && nat_lt i.1 p) (after_marks style (at_places here (marks t))) (link_after_all link (at_places here (marks t))) (past (Some i.1) ms) (j ∷ is) whole
+          rest_are (open_after t k early here (λ p. nat_le p i.1) style link i here_open next) (left_after k i.1 early late left end) (omega arith) turn.2,
     )
 
-all_places : (ms : List Mark) → ms ≡ at_places (λ k. true) ms
+all_places : (ms : List Mark) → ms ≡ at_places (λ p. true) ms
 all_places [] = refl
 all_places (m ∷ ms) = ap (λ ks. m ∷ ks) (all_places ms)
 
-wrapped_closed : (t : List ℕ) (width : ℕ) → IsTrue (is_whole t) → AllByRecursion (λ (l : WrappedLine). Closed l.bytes) (wrapped t width)
-wrapped_closed t width whole = lines_closed t plain_style [] (λ k. true) (marks t) (lines width (plain t)) whole IsStyle-plain_style (inl refl) (all_places (marks t))
+wrapped_ended : (t : List ℕ) (width : ℕ) → IsTrue (is_whole t) → AreEnded t (lines width (plain t)) (wrapped t width)
+wrapped_ended t width whole =
+    let none = at_places-never (marks t) in
+    lines_ended t 0 0 (λ p. false) (λ p. true) plain_style [] (marks t) (lines width (plain t)) whole (all_places (marks t))
+    (record { styled = ap (after_marks plain_style) (sym none); linked = ap (link_after_all []) (sym none) })
+    (record {
+      early_before = λ p below. absurd (omega (arith, below));
+      early_from = λ p from. refl;
+      late_before = λ p below. absurd (omega (arith, below));
+      late_from = λ p from. refl;
+    })
+    (omega arith) (lines_in_turn (max width 1) 0 0 0 0 0 (clusters (plain t)) (omega arith) (omega arith) (omega arith))
 
-each : (P Q : WrappedLine → Type 0) (ls : List WrappedLine) → ((l : WrappedLine) → P l → Q l) → AllByRecursion P ls → AllByRecursion Q ls
-each P Q [] weaker all = tt
-each P Q (l ∷ ls) weaker all = (weaker l all.0, each P Q ls weaker all.1)
+-- what is so of each such text is so of each line
+
+abbrev Ended : List ℕ → ℕ × ℕ → List ℕ → Type 0
+Ended t i u = IsEnded (slice_range (styled t) i.0 i.1) (slice_range (linked t) i.0 i.1) u
+
+each : (t : List ℕ) (P : List ℕ → Type 0) → ((i : ℕ × ℕ) (u : List ℕ) → Ended t i u → P u) → (is : List (ℕ × ℕ)) (ls : List WrappedLine) → AreEnded t is ls → AllByRecursion (λ (l : WrappedLine). P l.bytes) ls
+each t P so [] [] ended = tt
+each t P so [] (l ∷ ls) ended = absurd ended
+each t P so (i ∷ is) [] ended = absurd ended
+each t P so (i ∷ is) (l ∷ ls) ended = (so i l.bytes ended.0, each t P so is ls ended.1)
+
+each_wrapped : (t : List ℕ) (width : ℕ) (P : List ℕ → Type 0) → IsTrue (is_whole t) → ((i : ℕ × ℕ) (u : List ℕ) → Ended t i u → P u) → All (λ (l : WrappedLine). P l.bytes) (wrapped t width)
+each_wrapped t width P whole so = All-from_recursion _ (wrapped t width) (each t P so (lines width (plain t)) (wrapped t width) (wrapped_ended t width whole))
+
+slices : {X : Type 0} (t : List ℕ) (f : List ℕ → List X) (xs : List X) → ((i : ℕ × ℕ) (u : List ℕ) → Ended t i u → f u ≡ slice_range xs i.0 i.1) → (is : List (ℕ × ℕ)) (ls : List WrappedLine)
+    → AreEnded t is ls → map (λ (l : WrappedLine). f l.bytes) ls ≡ map (λ (i : ℕ × ℕ). slice_range xs i.0 i.1) is
+slices t f xs so [] [] ended = refl
+slices t f xs so [] (l ∷ ls) ended = absurd ended
+slices t f xs so (i ∷ is) [] ended = absurd ended
+slices t f xs so (i ∷ is) (l ∷ ls) ended = ap₂ (λ v vs. v ∷ vs) (so i l.bytes ended.0) (slices t f xs so is ls ended.1)
 
 pub wrapped_are_whole : (t : List ℕ) (width : ℕ) → IsTrue (is_whole t) → All (λ (l : WrappedLine). IsTrue (is_whole l.bytes)) (wrapped t width)
-wrapped_are_whole t width whole =
-    All-from_recursion _ (wrapped t width) (each (λ l. Closed l.bytes) (λ l. IsTrue (is_whole l.bytes)) (wrapped t width) (λ l closed. closed.0) (wrapped_closed t width whole))
+wrapped_are_whole t width whole = each_wrapped t width (λ u. IsTrue (is_whole u)) whole (λ i u ended. ended.closed.whole)
 
 pub wrapped_are_closed : (t : List ℕ) (width : ℕ) → IsTrue (is_whole t) → All (λ (l : WrappedLine). residue l.bytes ≡ plain_style) (wrapped t width)
-wrapped_are_closed t width whole =
-    All-from_recursion _ (wrapped t width) (each (λ l. Closed l.bytes) (λ l. residue l.bytes ≡ plain_style) (wrapped t width) (λ l closed. closed.1) (wrapped_closed t width whole))
+wrapped_are_closed t width whole = each_wrapped t width (λ u. residue u ≡ plain_style) whole (λ i u ended. ended.closed.closed)
+
+pub wrapped_end_links : (t : List ℕ) (width : ℕ) → IsTrue (is_whole t) → All (λ (l : WrappedLine). link_of (marks l.bytes) ≡ []) (wrapped t width)
+wrapped_end_links t width whole = each_wrapped t width (λ u. link_of (marks u) ≡ []) whole (λ i u ended. link_of-pieces (pieces_of u) ∙ ended.linked.after)
+
+pub wrapped-styled : (t : List ℕ) (width : ℕ) → IsTrue (is_whole t) → map (λ (l : WrappedLine). styled l.bytes) (wrapped t width) ≡ map (λ (i : ℕ × ℕ). slice_range (styled t) i.0 i.1) (lines width (plain t))
+wrapped-styled t width whole = slices t styled (styled t) (λ i u ended. ended.closed.styled_bytes) (lines width (plain t)) (wrapped t width) (wrapped_ended t width whole)
+
+pub wrapped-linked : (t : List ℕ) (width : ℕ) → IsTrue (is_whole t) → map (λ (l : WrappedLine). linked l.bytes) (wrapped t width) ≡ map (λ (i : ℕ × ℕ). slice_range (linked t) i.0 i.1) (lines width (plain t))
+wrapped-linked t width whole = slices t linked (linked t) (λ i u ended. linked-pieces u ∙ ended.linked.bytes) (lines width (plain t)) (wrapped t width) (wrapped_ended t width whole)

@@ -1,5 +1,5 @@
 -- The lines of a wrap that are left, one at a time: the first, by the stretch of the text that it is written from, and those after it.
-use Rattle.std.proofs.Common.{encode_utf8_all, ◌≡◌, ℕ, ◌+◌, ◌-◌, ◌≤◌, ◌==◌, ◌⊎◌, inl, inr, Bool, true, false, not, ◌&&◌, ◌||◌, List, [], ◌∷◌, ◌++◌, length, take, drop, slice_range, nat_le, nat_lt, Some, if◌then◌else◌, IsTrue, IsFalse, refl, sym, ◌∙◌, ap, ap₂, subst, arith, append_assoc, append-nil, length-append}
+use Rattle.std.proofs.Common.{encode_utf8_all, ◌≡◌, ℕ, ◌+◌, ◌-◌, ◌≤◌, ◌==◌, ◌⊎◌, inl, inr, Bool, true, false, not, ◌&&◌, ◌||◌, List, [], ◌∷◌, ◌++◌, length, take, drop, slice_range, nat_lt, Some, if◌then◌else◌, IsTrue, IsFalse, refl, sym, ◌∙◌, ap, ap₂, subst, arith, append_assoc, append-nil, length-append}
 use Rattle.std.specs.List.{list_all}
 use Rattle.std.specs.Prelude.{fold}
 use Rattle.std.specs.Str.{IsCharBoundary}
@@ -35,11 +35,12 @@ use Rattle.ansi_split.proofs.RestLemmas.{boundary-drop}
 use Rattle.ansi_split.proofs.SplitLemmas.{escape_is_marked}
 use Rattle.ansi_columns.specs.declared.walks.Walk.{Walk}
 use Rattle.ansi_columns.specs.Columns.{cluster_width, clusters}
-use Rattle.ansi_columns.specs.Lines.{lines, lines_from, is_line_end, is_blank, word_columns, lines_left}
+use Rattle.ansi_columns.specs.Lines.{lines, lines_from, lines_left}
 use Rattle.ansi_columns.specs.Links.{link_after, link_after_all, link_end, longest_link_end}
 use Rattle.ansi_columns.specs.Walks.{clusters_from}
 use Rattle.ansi_columns.specs.Wrapped.{WrappedLine, line_over, lines_over, wrapped, marks_left, IsTaken, IsSpan}
 use Rattle.ansi_columns.proofs.ColumnLemmas.{clusters_from-start}
+use Rattle.ansi_columns.proofs.LineLemmas.{line-any, line-last}
 use Rattle.ansi_columns.proofs.PlaceLemmas.{offset_of-add}
 use Rattle.ansi_columns.proofs.ShownLemmas.{length-link_end}
 
@@ -113,26 +114,16 @@ line-front style link t front after a e cut =
 abbrev is_none : List (ℕ × ℕ) → Bool
 is_none ls = length ls == 0
 
-filled : (i : ℕ × ℕ) (ls : List (ℕ × ℕ)) → is_none (i ∷ ls) ≡ false
+pub filled : (i : ℕ × ℕ) (ls : List (ℕ × ℕ)) → is_none (i ∷ ls) ≡ false
 filled i ls = ne_eqb (length (i ∷ ls)) 0 (λ none. omega (arith, none))
 
 pub lines_filled : (width from end here columns : ℕ) (cs : List (List ℕ)) → is_none (lines_from width from end here columns cs) ≡ false
-unfolding lines_from
-lines_filled width from end here columns [] = refl
+lines_filled width from end here columns [] = ap is_none (line-last width from end here columns)
 lines_filled width from end here columns (c ∷ cs) =
     let next = here + length (encode_utf8_all c) in
-    let blank = lines_from width from end next (columns + cluster_width c) cs in
-    let stays = lines_from width from next next (columns + cluster_width c) cs in
-    by_test blank stays (lines_from width next next next 0 cs) (lines_from width here next next (cluster_width c) cs)
-    (lines_filled width from end next (columns + cluster_width c) cs) (lines_filled width from next next (columns + cluster_width c) cs) (is_line_end c) (is_blank c)
-    ((here == from) || nat_le (columns + (if here == end then cluster_width c else word_columns (c ∷ cs))) width)
-  where
-    by_test : (blank stays ended left : List (ℕ × ℕ)) → is_none blank ≡ false → is_none stays ≡ false → (a b d : Bool)
-        → is_none (elim a [ true ↦ (from, end) ∷ ended | false ↦ elim b [ true ↦ blank | false ↦ elim d [ true ↦ stays | false ↦ (from, end) ∷ left ] ] ]) ≡ false
-    by_test blank stays ended left some_blank some_stays true b d = filled (from, end) ended
-    by_test blank stays ended left some_blank some_stays false true d = some_blank
-    by_test blank stays ended left some_blank some_stays false false true = some_stays
-    by_test blank stays ended left some_blank some_stays false false false = filled (from, end) left
+    let wider = columns + cluster_width c in
+    line-any width from end here columns c cs (λ ls. is_none ls ≡ false) (filled (from, end) (lines_from width next next next 0 cs))
+    (lines_filled width from end next wider cs) (lines_filled width from next next wider cs) (filled (from, end) (lines_from width here next next (cluster_width c) cs))
 
 -- all that follows an offset
 pub rest-is : (t : List ℕ) (n : ℕ) → slice_range t n (length t) ≡ drop n t
@@ -236,7 +227,7 @@ module _ (t : List ℕ) (before taken : ℕ) (walk : Walk) (is : IsTaken t befor
     good-front : (i : ℕ) → IsTrue (is_good_position (plain t) (before + i)) → IsTrue (is_good_position (plain front) i)
     good-front i good = ap (λ y. is_good_position y i) plain-front ∙ elim (cases_lt i (e - before)) [
       | inl less ↦ ap (λ b. is_good_position (b ∷ []) 0) (get_or-take (e - before) (plain rest) i 0 less) ∙ good-rest i ∙ good
-      | inr past ↦ is_good_position-past (take (e - before) (plain rest)) i (omega (arith, sym plain-front, size-front, ap length plain-front, past))
+      | inr past ↦ is_good_position-past (take (e - before) (plain rest)) i (omega (arith, size-front, ap length plain-front, past))
     ]
 
     pub span-first : (style : Rendition) (link : List ℕ) (s : ℕ) (is_marked : Bool) (after : Rendition) (link_after : List ℕ) → offset ≤ length t → before ≤ s → s ≤ e → IsTrue (is_good_position (plain t) s)

@@ -2,13 +2,13 @@
 //!
 //! Each function carries one law as its contract, does nothing and answers nothing. A body that needs the
 //! law calls it. (Own.)
-ghost use Rattle.std.specs.Prelude.{◌≡◌, ◌<◌, ◌≤◌, ◌+◌, ◌-◌, ◌++◌, ℕ, min, max, List, [], length, take, slice_get, Some, option_map, if◌then◌else◌, IsTrue, All};
+ghost use Rattle.std.specs.Prelude.{◌≡◌, ◌<◌, ◌≤◌, ◌+◌, ◌-◌, ◌++◌, ℕ, min, max, List, [], length, map, take, slice_range, slice_get, Some, option_map, if◌then◌else◌, IsTrue, All};
 ghost use Rattle.std.specs.List.{list_all};
 ghost use Rattle.std.specs.Int.{is_in_range};
 ghost use Rattle.std.specs.Str.{IsUtf8};
 ghost use Rattle.ansi_items.specs.Plain.{plain, marks, is_whole};
 ghost use Rattle.ansi_style.specs.Rendition.{plain_style};
-ghost use Rattle.ansi_style.specs.Styled.{residue};
+ghost use Rattle.ansi_style.specs.Styled.{styled, residue};
 ghost use Rattle.ansi_columns.specs.declared.shown.Alignment.{Alignment};
 ghost use Rattle.ansi_columns.specs.Addresses.{linked, without_link};
 ghost use Rattle.ansi_columns.specs.Columns.{clusters, columns, FitsUpTo, IsClusterBoundary};
@@ -70,6 +70,17 @@ pub fn padded_fills()
 pub fn wrapped_lines_are_whole()
     ensures whole { (t : List ℕ) (width : ℕ) → IsTrue (is_whole t) → All (λ l. IsTrue (is_whole l.bytes)) (wrapped t width) }
     ensures closed { (t : List ℕ) (width : ℕ) → IsTrue (is_whole t) → All (λ l. residue l.bytes ≡ plain_style) (wrapped t width) }
+{}
+
+/// The styled bytes of each line of a wrapped whole text are the slice of the text's over its interval.
+pub fn wrapped_lines_keep_styles()
+    ensures { (t : List ℕ) (width : ℕ) → IsTrue (is_whole t) → map (λ l. styled l.bytes) (wrapped t width) ≡ map (λ (i : ℕ × ℕ). slice_range (styled t) i.0 i.1) (lines width (plain t)) }
+{}
+
+/// So are its linked bytes, and no link is open at its end.
+pub fn wrapped_lines_keep_links()
+    ensures linked { (t : List ℕ) (width : ℕ) → IsTrue (is_whole t) → map (λ l. linked l.bytes) (wrapped t width) ≡ map (λ (i : ℕ × ℕ). slice_range (linked t) i.0 i.1) (lines width (plain t)) }
+    ensures left_open { (t : List ℕ) (width : ℕ) → IsTrue (is_whole t) → All (λ l. link_of (marks l.bytes) ≡ []) (wrapped t width) }
 {}
 
 /// A whole text that is cut has the linked bytes of the text, up to where that stands, and then those of

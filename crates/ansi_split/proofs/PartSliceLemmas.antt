@@ -13,12 +13,12 @@ shown_pieces-nothing test a b (Text w ∷ ps) never none =
 shown_pieces-nothing test a b (p ∷ ps) never none = ap₂ (λ c qs. piece_when c p ++ qs) (never 0) (shown_pieces-nothing test a b ps never none)
 
 -- places before k pass `early`, places from k on pass `late` where they pass `both`
-record Divides (k : ℕ) (early late both : ℕ → Bool) : Type 0 where
-  early_before : (p : ℕ) → p < k → early p ≡ true
-  early_from : (p : ℕ) → k ≤ p → early p ≡ false
-  late_before : (p : ℕ) → p < k → late p ≡ false
-  late_from : (p : ℕ) → k ≤ p → late p ≡ both p
-  both_before : (p : ℕ) → p < k → both p ≡ true
+pub record Divides (k : ℕ) (early late both : ℕ → Bool) : Type 0 where
+  pub early_before : (p : ℕ) → p < k → early p ≡ true
+  pub early_from : (p : ℕ) → k ≤ p → early p ≡ false
+  pub late_before : (p : ℕ) → p < k → late p ≡ false
+  pub late_from : (p : ℕ) → k ≤ p → late p ≡ both p
+  pub both_before : (p : ℕ) → p < k → both p ≡ true
 
 divides-further : (n k : ℕ) (early late both : ℕ → Bool) → Divides k early late both → Divides (k - n) (λ p. early (n + p)) (λ p. late (n + p)) (λ p. both (n + p))
 divides-further n k early late both divides = record {
@@ -41,7 +41,7 @@ mark-divided p k early late both es ls bs divides nothing later = elim (cases_lt
       ∙ ap₂ (λ x qs. piece_when x p ++ qs) (divides.late_from 0 from) (ap (λ qs. qs ++ ls) (sym none) ∙ later))
 ]
 
-shown_pieces-divided : (ps : List Piece) (k : ℕ) (early late both : ℕ → Bool) (c a b : ℕ) → Divides k early late both → k ≤ a + 1
+pub shown_pieces-divided : (ps : List Piece) (k : ℕ) (early late both : ℕ → Bool) (c a b : ℕ) → Divides k early late both → k ≤ a + 1
     → shown_pieces early c c ps ++ shown_pieces late a b ps ≡ shown_pieces both a b ps
 shown_pieces-divided [] k early late both c a b divides after = refl
 shown_pieces-divided (Text w ∷ ps) k early late both c a b divides after =
@@ -169,13 +169,13 @@ closing_codes q = if has_any q then close_codes q else []
 pub closing_codes_are : (q : Rendition) → AreCodes (closing_codes q) longest_close
 closing_codes_are q = cond_both (has_any q) (close_codes q) [] (λ xs. AreCodes xs longest_close) (λ any. close_codes_are q) (λ none. record { each = refl; short = omega arith })
 
-closing_codes_clear : (q : Rendition) → Clears q (closing_codes q)
+pub closing_codes_clear : (q : Rendition) → Clears q (closing_codes q)
 closing_codes_clear q =
     cond_both (has_any q) (close_codes q) [] (Clears q)
     (λ any. λ p same. close_codes_clear p q same)
     (λ none. λ p same. same ∙ known-unset q none)
 
-written-closing_codes : (q : Rendition) → written_all (closing_codes q) ≡ close_if_any q
+pub written-closing_codes : (q : Rendition) → written_all (closing_codes q) ≡ close_if_any q
 written-closing_codes q = either (has_any q)
   where
     either : (any : Bool) → written_all (if any then close_codes q else []) ≡ (if any then close q else [])

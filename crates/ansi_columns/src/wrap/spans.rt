@@ -17,9 +17,9 @@ use std::alloc::{AllocError, Allocator};
 use std::borrow::CowStr;
 use std::marker::Model;
 
-/// A start, the end of a link and a close have at most so many bytes together. It is room alone, asked for
-/// before they are written.
-const PEN_ROOM: usize = 258;
+/// A start and a close have at most 251 bytes together, `longest_start_and_close`, and the end of a link
+/// `longest_link_end`. It is room alone, asked for before they are written.
+const PEN_ROOM: usize = 251 + LINK_END.len();
 
 /// What one line is written from. Contracts see it as that line.
 #[derive(Drop)]

@@ -1,4 +1,5 @@
-use Rattle.ansi_columns.proofs.ShownLawLemmas.{padded-whole, padded-plain, padded-columns, padded-fills}
+use Rattle.ansi_columns.proofs.LinkedLawLemmas.{padded-whole, padded-plain}
+use Rattle.ansi_columns.proofs.ShownLawLemmas.{padded-columns, padded-fills}
 use Rattle.ansi_columns.proofs.laws.padded_fills.Goals as goal
 
 pub returns-clause-whole : goal.returns-clause-whole

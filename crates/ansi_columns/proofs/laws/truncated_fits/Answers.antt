@@ -1,4 +1,5 @@
-use Rattle.ansi_columns.proofs.ShownLawLemmas.{truncated-whole, truncated-plain, truncated-columns, truncated-within}
+use Rattle.ansi_columns.proofs.LinkedLawLemmas.{truncated-whole, truncated-plain}
+use Rattle.ansi_columns.proofs.ShownLawLemmas.{truncated-columns, truncated-within}
 use Rattle.ansi_columns.proofs.laws.truncated_fits.Goals as goal
 
 pub returns-clause-whole : goal.returns-clause-whole

@@ -1,0 +1,8 @@
+use Rattle.ansi_columns.proofs.WrapLawLemmas.{wrapped-linked, wrapped_end_links}
+use Rattle.ansi_columns.proofs.laws.wrapped_lines_keep_links.Goals as goal
+
+pub returns-clause-linked : goal.returns-clause-linked
+returns-clause-linked c = wrapped-linked
+
+pub returns-clause-left_open : goal.returns-clause-left_open
+returns-clause-left_open c = wrapped_end_links
