@@ -1,5 +1,5 @@
 -- The link at a place, one piece at a time, and where its address stands in it.
-use Rattle.std.proofs.Common.{◌≡◌, ◌≢◌, ℕ, ◌+◌, ◌-◌, ◌<◌, ◌≤◌, ◌⊎◌, inl, inr, ◌==◌, Bool, true, false, not, ◌&&◌, List, [], ◌∷◌, ◌++◌, map, length, take, drop, get_or, slice_range, nat_eq, nat_lt, fold, filter, reverse, slice_get, unwrap_or, codes, IsNone, ◌↔◌, Option, Some, None, if◌then◌else◌, refl, sym, ◌∙◌, ap, ap₂, subst, arith, lit<, length-append, length-drop}
+use Rattle.std.proofs.Common.{◌≡◌, ◌≢◌, ℕ, ◌+◌, ◌-◌, ◌<◌, ◌≤◌, ◌⊎◌, inl, inr, ◌==◌, Bool, true, false, not, ◌&&◌, List, [], ◌∷◌, ◌++◌, map, length, take, drop, get_or, slice_range, nat_eq, nat_lt, filter, reverse, slice_get, unwrap_or, codes, IsNone, ◌↔◌, Option, Some, None, if◌then◌else◌, refl, sym, ◌∙◌, ap, ap₂, subst, arith, lit<, length-append, length-drop}
 use Rattle.std.specs.List.{prefix_len, starts_with, ends_with, list_all}
 use Rattle.std.specs.Cmp.Lexicographic.{pointwise}
 use Rattle.std.specs.Option.{option_map}
@@ -13,14 +13,14 @@ use Rattle.std.proofs.lemmas.Str.{IsCharBoundary-before_ascii, IsCharBoundary-af
 use Rattle.ansi_items.specs.Bytes.{escape, is_intermediate_byte}
 use Rattle.ansi_items.specs.Sequences.{IsControlString, IsSequence, is_sgr}
 use Rattle.ansi_items.specs.Pieces.{Piece, Text, Sequence, LoneEscape, ArePieces, spelling, pieces_of}
-use Rattle.ansi_items.specs.Plain.{Mark, marks_of, marks, plain_of, plain, up_to}
+use Rattle.ansi_items.specs.Plain.{Mark, marks, plain_of, plain, up_to}
 use Rattle.ansi_items.specs.Scans.{Scan, Gives, pieces_left, piece_of_kind}
 use Rattle.ansi_items.specs.declared.ansitok.Item.{Item}
 use Rattle.ansi_items.specs.declared.ansitok.Kind.{Kind}
 use Rattle.ansi_items.specs.declared.ansitok.Kind.TheVariants.{Text as TextKind, Sgr, Other, Lone}
 use Rattle.ansi_items.proofs.PieceLemmas.{pieces_are}
 use Rattle.ansi_items.proofs.StepLemmas.{BeginsWithMark, is_mark, gives_mark, plain_of-mark}
-use Rattle.ansi_style.proofs.MarkLemmas.{marks_of-text, marks_of-sequence, marks_of-lone, up_to-none, up_to-further, up_to-here, bytes-further}
+use Rattle.ansi_style.proofs.MarkLemmas.{state_by_marks, state_by_marks-before, state_by_marks-text, state_by_marks-sequence, state_by_marks-lone}
 use Rattle.ansi_columns.specs.Addresses.{address_at}
 use Rattle.ansi_columns.specs.Links.{terminator_len, address_of, is_link, opens_link, link_of, link_after, link_at}
 use Rattle.ansi_columns.proofs.LinkLemmas.{link_of-fold, is_link-sgr}
@@ -28,28 +28,17 @@ use Rattle.ansi_columns.proofs.LinkLemmas.{link_of-fold, is_link-sgr}
 -- ---- the link at a place of pieces, where this one is open before them
 
 abbrev pub link_by_marks : List ℕ → List Piece → ℕ → List ℕ
-link_by_marks link ps i = fold link_after link (map (λ (m : Mark). m.bytes) (up_to i (marks_of ps)))
+link_by_marks link ps i = state_by_marks link_after link ps i
 
-pub before-text : (link w : List ℕ) (ps : List Piece) (i : ℕ) → i < length w → link_by_marks link (Text w ∷ ps) i ≡ link
-before-text link w ps i below =
-    ap (λ ms. fold link_after link (map (λ (m : Mark). m.bytes) (up_to i ms))) (marks_of-text w ps)
-    ∙ ap (λ ms. fold link_after link (map (λ (m : Mark). m.bytes) ms)) (up_to-none i (length w) (marks_of ps) below)
-
-pub past-text : (link w : List ℕ) (ps : List Piece) (i : ℕ) → length w ≤ i → link_by_marks link (Text w ∷ ps) i ≡ link_by_marks link ps (i - length w)
+past-text : (link w : List ℕ) (ps : List Piece) (i : ℕ) → length w ≤ i → link_by_marks link (Text w ∷ ps) i ≡ link_by_marks link ps (i - length w)
 past-text link w ps i within =
-    let n = length w in
-    ap (λ ms. fold link_after link (map (λ (m : Mark). m.bytes) (up_to i ms))) (marks_of-text w ps)
-    ∙ ap (λ ms. fold link_after link (map (λ (m : Mark). m.bytes) ms)) (up_to-further i n (marks_of ps) within)
-    ∙ ap (fold link_after link) (bytes-further n (up_to (i - n) (marks_of ps)))
+    let all : i ≡ length w + (i - length w) = omega arith in
+    ap (link_by_marks link (Text w ∷ ps)) all ∙ state_by_marks-text link_after link w ps (i - length w)
 
-pub past-mark : (link : List ℕ) (p : Piece) (ps : List Piece) (i : ℕ) → is_mark p ≡ true → link_by_marks link (p ∷ ps) i ≡ link_by_marks (link_after link (spelling p)) ps i
+past-mark : (link : List ℕ) (p : Piece) (ps : List Piece) (i : ℕ) → is_mark p ≡ true → link_by_marks link (p ∷ ps) i ≡ link_by_marks (link_after link (spelling p)) ps i
 past-mark link (Text w) ps i is = absurd (cc is)
-past-mark link (Sequence w) ps i is =
-    ap (λ ms. fold link_after link (map (λ (m : Mark). m.bytes) (up_to i ms))) (marks_of-sequence w ps)
-    ∙ ap (λ ms. fold link_after link (map (λ (m : Mark). m.bytes) ms)) (up_to-here i w (marks_of ps))
-past-mark link LoneEscape ps i is =
-    ap (λ ms. fold link_after link (map (λ (m : Mark). m.bytes) (up_to i ms))) (marks_of-lone ps)
-    ∙ ap (λ ms. fold link_after link (map (λ (m : Mark). m.bytes) ms)) (up_to-here i (escape ∷ []) (marks_of ps))
+past-mark link (Sequence w) ps i is = state_by_marks-sequence link_after link w ps i
+past-mark link LoneEscape ps i is = state_by_marks-lone link_after link ps i
 
 -- a link is a whole sequence, or none is open
 abbrev pub IsNoneOrSequence : List ℕ → Type 0
@@ -111,7 +100,7 @@ pub way-last : {t link w : List ℕ} {n left : ℕ} {old ps : List Piece} → Is
 way-last {t} {link} {w} {n} {left} {old} {ps} way first last =
     let here = subst (IsOnTheWay t n link left) first way in
     let inside : nat_lt n (length (plain t)) ≡ true = sym here.within ∙ lt-ltb left (length (w ++ plain_of ps)) (omega (arith, last, length-append w (plain_of ps))) in
-    ap address_of (sym (before-text link w ps left last) ∙ here.linked) ∙ sym (ap (λ b. if b then address_of (link_at t n) else None) inside)
+    ap address_of (sym (state_by_marks-before link_after link w ps left last) ∙ here.linked) ∙ sym (ap (λ b. if b then address_of (link_at t n) else None) inside)
 
 -- or there is none
 pub way-end : {t link : List ℕ} {n left : ℕ} {old : List Piece} → IsOnTheWay t n link left old → old ≡ [] → None ≡ address_at t n

@@ -21,9 +21,9 @@ use Rattle.ansi_items.proofs.StepLemmas.{BeginsWithMark, is_mark}
 use Rattle.ansi_style.specs.declared.state.rendition.Rendition.{Rendition}
 use Rattle.ansi_style.specs.Sgr.{apply}
 use Rattle.ansi_style.specs.Reading.{style_after_from}
-use Rattle.ansi_style.proofs.MarkLemmas.{marks_of-text, marks_of-sequence, marks_of-lone, bytes-further}
 use Rattle.ansi_style.proofs.SgrLemmas.{apply-no_sgr}
 use Rattle.ansi_style.proofs.StyledLemmas.{style_through, style_after_from-pieces}
+use Rattle.ansi_style.proofs.ThroughLemmas.{state_through, state_after-marks_of}
 use Rattle.ansi_columns.specs.Links.{terminator_len, address_of, is_link, opens_link, link_of, link_after, link_after_all}
 
 -- The address of a link sequence, by the place of its second semicolon.
@@ -94,19 +94,13 @@ is_link-sgr (a ∷ b ∷ w) is =
 -- The link after pieces, where this one is open before them.
 
 abbrev pub link_through : List ℕ → List Piece → List ℕ
-link_through link [] = link
-link_through link (Text w ∷ ps) = link_through link ps
-link_through link (Sequence w ∷ ps) = link_through (link_after link w) ps
-link_through link (LoneEscape ∷ ps) = link_through link ps
+link_through link ps = state_through link_after link ps
 
 abbrev bytes_of_all : List Mark → List (List ℕ)
 bytes_of_all ms = map (λ (m : Mark). m.bytes) ms
 
 through-marks : (link : List ℕ) (ps : List Piece) → fold link_after link (bytes_of_all (marks_of ps)) ≡ link_through link ps
-through-marks link [] = refl
-through-marks link (Text w ∷ ps) = ap (fold link_after link) (ap bytes_of_all (marks_of-text w ps) ∙ bytes-further (length w) (marks_of ps)) ∙ through-marks link ps
-through-marks link (Sequence w ∷ ps) = ap (λ ms. fold link_after link (bytes_of_all ms)) (marks_of-sequence w ps) ∙ through-marks (link_after link w) ps
-through-marks link (LoneEscape ∷ ps) = ap (λ ms. fold link_after link (bytes_of_all ms)) (marks_of-lone ps) ∙ through-marks link ps
+through-marks = state_after-marks_of link_after (λ link. refl)
 
 -- a link sequence, where it opens one
 abbrev opened : List ℕ → List ℕ

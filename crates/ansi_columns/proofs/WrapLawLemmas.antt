@@ -13,6 +13,7 @@ use Rattle.ansi_items.specs.Plain.{Mark, plain, marks_of, marks, up_to, is_whole
 use Rattle.ansi_items.proofs.JoinLemmas.{spelled, AllStandAnywhere, stand-append, pieces_stand}
 use Rattle.ansi_style.specs.declared.state.rendition.Rendition.{Rendition}
 use Rattle.ansi_style.specs.Rendition.{IsStyle, plain_style, known}
+use Rattle.ansi_style.specs.Sgr.{apply}
 use Rattle.ansi_style.specs.Reading.{after_marks}
 use Rattle.ansi_style.specs.Styled.{StyledByte, styled, residue}
 use Rattle.ansi_style.specs.Written.{start, start_codes, close_if_any}
@@ -21,12 +22,12 @@ use Rattle.ansi_style.proofs.MarkLemmas.{further, marks_of-text, marks_of-sequen
 use Rattle.ansi_style.proofs.ReadBackLemmas.{start_codes_are}
 use Rattle.ansi_style.proofs.SgrLemmas.{apply-no_sgr}
 use Rattle.ansi_style.proofs.StyleLemmas.{IsStyle-apply_all, IsStyle-plain_style}
-use Rattle.ansi_style.proofs.StyledLemmas.{style_through, style_through-append, styled_through, styled_through-append, styled-pieces}
+use Rattle.ansi_style.proofs.StyledLemmas.{styled_byte, style_through, style_through-append, styled_through, styled_through-append, styled-pieces}
 use Rattle.ansi_search.proofs.SliceLemmas.{slice_range-none}
 use Rattle.ansi_slice.specs.Cut.{show}
 use Rattle.ansi_slice.specs.Parts.{past}
-use Rattle.ansi_slice.proofs.ShownLemmas.{at_places, shown_pieces, spelled-shown_pieces, shown_pieces_stand, style_through-shown_pieces, styled_through-shown_pieces}
-use Rattle.ansi_split.proofs.PartSliceLemmas.{Divides, shown_pieces-divided, at_places-never, at_places-at_places, closing_codes, closing_codes_are, closing_codes_clear, written-closing_codes}
+use Rattle.ansi_slice.proofs.ShownLemmas.{at_places, shown_pieces, spelled-shown_pieces, shown_pieces_stand, style_through-shown_pieces, state_through-shown_pieces}
+use Rattle.ansi_split.proofs.PartSliceLemmas.{Divides, state-divided, seen-divided, at_places-never, at_places-at_places, closing_codes, closing_codes_are, closing_codes_clear, written-closing_codes}
 use Rattle.ansi_columns.specs.Addresses.{LinkedByte, linked}
 use Rattle.ansi_columns.specs.Columns.{cluster_width, clusters}
 use Rattle.ansi_columns.specs.Lines.{lines, lines_from}
@@ -34,7 +35,7 @@ use Rattle.ansi_columns.specs.Links.{is_link, opens_link, link_of, link_after, l
 use Rattle.ansi_columns.specs.Wrapped.{WrappedLine, line_over, lines_over, wrapped}
 use Rattle.ansi_columns.proofs.LineLemmas.{line-any, line-last}
 use Rattle.ansi_columns.proofs.LinkLemmas.{is_link-sgr, link_of-pieces, link_through}
-use Rattle.ansi_columns.proofs.LinkedLawLemmas.{linked_through, link_through-append, linked_through-append, linked-pieces, link_through-shown_pieces, linked_through-shown_pieces, IsLinked, both, none_is, spelled_is, shown_is, codes_is, link_end_is}
+use Rattle.ansi_columns.proofs.LinkedLawLemmas.{linked_byte, linked_through, linked-pieces, IsLinked, both, none_is, spelled_is, shown_is, codes_is, link_end_is}
 use Rattle.ansi_columns.proofs.WrapLemmas.{filled}
 
 -- Marks that are sequences.
@@ -217,43 +218,25 @@ record IsNext (k : ℕ) (early here together : ℕ → Bool) (i : ℕ × ℕ) : 
   covers : (p : ℕ) → p < i.1 → together p ≡ true
 
 module _ (t : List ℕ) (k : ℕ) (early here together : ℕ → Bool) (style : Rendition) (link : List ℕ) (i : ℕ × ℕ) (here_open : AreOpen t early style link) (next : IsNext k early here together i) where
-  abbrev earlier : List Piece
-  earlier = shown_pieces early 0 0 (pieces_of t)
-
   abbrev shown_here : List Piece
   shown_here = shown_pieces here i.0 i.1 (pieces_of t)
 
-  joined : earlier ++ shown_here ≡ shown_pieces together i.0 i.1 (pieces_of t)
-  joined = shown_pieces-divided (pieces_of t) k early here together 0 i.0 i.1 next.divides next.after
-
-  style_before : style_through plain_style earlier ≡ style
-  style_before = style_through-shown_pieces (pieces_of t) plain_style early 0 0 ∙ sym here_open.styled
-
-  link_before : link_through [] earlier ≡ link
-  link_before = link_through-shown_pieces (pieces_of t) [] early 0 0 ∙ sym here_open.linked
-
   styled_here : styled_through style shown_here ≡ slice_range (styled t) i.0 i.1
   styled_here =
-      let none : styled_through plain_style earlier ≡ []
-      = styled_through-shown_pieces (pieces_of t) plain_style early 0 0 (λ p none. absurd (omega (arith, none))) ∙ slice_range-none (styled_through plain_style (pieces_of t)) 0 0 (omega arith) in
-      ap₂ (λ u s. u ++ styled_through s shown_here) (sym none) (sym style_before)
-      ∙ sym (styled_through-append plain_style earlier shown_here) ∙ ap (styled_through plain_style) joined
-      ∙ styled_through-shown_pieces (pieces_of t) plain_style together i.0 i.1 next.covers ∙ ap (λ bs. slice_range bs i.0 i.1) (sym (styled-pieces t))
+      ap (λ s. styled_through s shown_here) here_open.styled ∙ seen-divided apply (λ s. refl) plain_style t k early here together i next.divides next.after styled_byte next.covers
+      ∙ ap (λ bs. slice_range bs i.0 i.1) (sym (styled-pieces t))
 
   linked_here : linked_through link shown_here ≡ slice_range (linked t) i.0 i.1
   linked_here =
-      let none : linked_through [] earlier ≡ []
-      = linked_through-shown_pieces (pieces_of t) [] early 0 0 (λ p none. absurd (omega (arith, none))) ∙ slice_range-none (linked_through [] (pieces_of t)) 0 0 (omega arith) in
-      ap₂ (λ u l. u ++ linked_through l shown_here) (sym none) (sym link_before)
-      ∙ sym (linked_through-append [] earlier shown_here) ∙ ap (linked_through []) joined
-      ∙ linked_through-shown_pieces (pieces_of t) [] together i.0 i.1 next.covers ∙ ap (λ bs. slice_range bs i.0 i.1) (sym (linked-pieces t))
+      ap (λ l. linked_through l shown_here) here_open.linked ∙ seen-divided link_after (λ l. refl) [] t k early here together i next.divides next.after linked_byte next.covers
+      ∙ ap (λ bs. slice_range bs i.0 i.1) (sym (linked-pieces t))
 
   open_after : AreOpen t together (after_marks style (at_places here (marks t))) (link_after_all link (at_places here (marks t)))
   open_after = record {
-    styled = sym (style_through-shown_pieces (pieces_of t) style here i.0 i.1) ∙ ap (λ s. style_through s shown_here) (sym style_before)
-        ∙ sym (style_through-append plain_style earlier shown_here) ∙ ap (style_through plain_style) joined ∙ style_through-shown_pieces (pieces_of t) plain_style together i.0 i.1;
-    linked = sym (link_through-shown_pieces (pieces_of t) link here i.0 i.1) ∙ ap (λ l. link_through l shown_here) (sym link_before)
-        ∙ sym (link_through-append [] earlier shown_here) ∙ ap (link_through []) joined ∙ link_through-shown_pieces (pieces_of t) [] together i.0 i.1;
+    styled = sym (style_through-shown_pieces (pieces_of t) style here i.0 i.1) ∙ ap (λ s. style_through s shown_here) here_open.styled
+        ∙ state-divided apply (λ s. refl) plain_style t k early here together i next.divides next.after;
+    linked = sym (state_through-shown_pieces link_after (λ l. refl) (pieces_of t) link here i.0 i.1) ∙ ap (λ l. link_through l shown_here) here_open.linked
+        ∙ state-divided link_after (λ l. refl) [] t k early here together i next.divides next.after;
   }
 
   is_style_before : IsStyle style
@@ -303,12 +286,9 @@ AreEnded t [] (l ∷ ls) = ⊥
 AreEnded t (i ∷ is) [] = ⊥
 AreEnded t (i ∷ is) (l ∷ ls) = IsEnded (slice_range (styled t) i.0 i.1) (slice_range (linked t) i.0 i.1) l.bytes × AreEnded t is ls
 
--- the marks that are left before lines are those from the place k on
-record AreLeft (k : ℕ) (early late : ℕ → Bool) : Type 0 where
-  early_before : (p : ℕ) → p < k → early p ≡ true
-  early_from : (p : ℕ) → k ≤ p → early p ≡ false
-  late_before : (p : ℕ) → p < k → late p ≡ false
-  late_from : (p : ℕ) → k ≤ p → late p ≡ true
+-- the marks that are left are those from the place k on
+abbrev AreLeft : ℕ → (ℕ → Bool) → (ℕ → Bool) → Type 0
+AreLeft k early late = Divides k early late (λ p. true)
 
 up_to_end : (k e : ℕ) (early late : ℕ → Bool) → AreLeft k early late → k ≤ e + 1 → Divides k early (λ p. late p && nat_le p e) (λ p. nat_le p e)
 up_to_end k e early late left after = record {
@@ -319,15 +299,13 @@ up_to_end k e early late left after = record {
   both_before = λ p before. le-leb p e (omega (arith, before, after));
 }
 
-all_left : (k : ℕ) (early late : ℕ → Bool) → AreLeft k early late → Divides k early late (λ p. true)
-all_left k early late left = record { early_before = left.early_before; early_from = left.early_from; late_before = left.late_before; late_from = left.late_from; both_before = λ p before. refl }
-
 left_after : (k e : ℕ) (early late : ℕ → Bool) → AreLeft k early late → k ≤ e + 1 → AreLeft (e + 1) (λ p. nat_le p e) (λ p. late p && nat_lt e p)
 left_after k e early late left after = record {
   early_before = λ p before. le-leb p e (omega (arith, before));
   early_from = λ p from. grind (arith, nat_tests);
   late_before = λ p before. (let none : nat_lt e p ≡ false = grind (arith, nat_tests) in and-none (late p) (nat_lt e p) none);
   late_from = λ p from. (let some : nat_lt e p ≡ true = grind (arith, nat_tests) in ap₂ (λ a b. a && b) (left.late_from p (omega (arith, from, after))) some);
+  both_before = λ p before. refl;
 }
   where
     and-none : (a b : Bool) → b ≡ false → (a && b) ≡ false
@@ -339,7 +317,7 @@ lines_ended : (t : List ℕ) (k e : ℕ) (early late : ℕ → Bool) (style : Re
 unfolding lines_over
 lines_ended t k e early late style link ms [] whole ms_are here_open left after turn = tt
 lines_ended t k e early late style link ms (i ∷ []) whole ms_are here_open left after turn =
-    let next : IsNext k early late (λ p. true) i = record { divides = all_left k early late left; after = omega (arith, after, turn.0); covers = λ p below. refl } in (
+    let next : IsNext k early late (λ p. true) i = record { divides = left; after = omega (arith, after, turn.0); covers = λ p below. refl } in (
       subst (λ own. IsEnded (slice_range (styled t) i.0 i.1) (slice_range (linked t) i.0 i.1) (line_over style link (plain t) own i).bytes) (sym ms_are)
           (line_ended t k early late (λ p. true) style link i here_open next whole),
       tt,
@@ -372,6 +350,7 @@ wrapped_ended t width whole =
       early_from = λ p from. refl;
       late_before = λ p below. absurd (omega (arith, below));
       late_from = λ p from. refl;
+      both_before = λ p below. refl;
     })
     (omega arith) (lines_in_turn (max width 1) 0 0 0 0 0 (clusters (plain t)) (omega arith) (omega arith) (omega arith))
 

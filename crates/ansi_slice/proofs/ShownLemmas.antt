@@ -1,5 +1,8 @@
--- What is shown of a plain text with some of its marks, as pieces; their styled bytes, and the style after them.
-use Rattle.ansi_slice.proofs.Common.{◌≡◌, ◌≢◌, ℕ, ◌+◌, ◌-◌, ◌<◌, ◌≤◌, inl, inr, Bool, true, false, List, [], ◌∷◌, ◌++◌, map, length, drop, filter, refl, sym, ◌∙◌, ap, ap₂, arith, append-nil, slice_range, if◌then◌else◌, cond_both, cases_lt, flat_map-append, length-map, list_all, is_plain_byte, Piece, Text, Sequence, LoneEscape, spelling, Mark, plain_of, marks_of, Rendition, known, apply, after_marks, show, one_text, further, marks_of-text, marks_of-sequence, marks_of-lone, after_marks-further, spelled, AllStandAnywhere, stand-append, style_through, style_through-append, styled_through, in_style, styled_through-append}
+-- What is shown of a plain text with some of its marks, as pieces; what is read of them, and the state after them.
+use Rattle.ansi_slice.proofs.Common.{◌≡◌, ◌≢◌, ℕ, ◌+◌, ◌-◌, ◌<◌, ◌≤◌, inl, inr, Bool, true, false, List, [], ◌∷◌, ◌++◌, map, length, drop, filter, refl, sym, ◌∙◌, ap, ap₂, arith, append-nil, slice_range, if◌then◌else◌, cond_both, cases_lt, flat_map-append, length-map, list_all, is_plain_byte, Piece, Text, Sequence, LoneEscape, spelling, Mark, plain_of, marks_of, escape, Rendition, apply, after_marks, show, one_text, further, marks_of-text, marks_of-sequence, marks_of-lone, spelled, AllStandAnywhere, stand-append, style_through, styled_through}
+use Rattle.ansi_style.proofs.MarkLemmas.{state_after, state_after-further}
+use Rattle.ansi_style.proofs.StyledLemmas.{styled_byte}
+use Rattle.ansi_style.proofs.ThroughLemmas.{state_through, state_through-append, seen_through, seen_through-append}
 use Rattle.ansi_search.proofs.SliceLemmas.{slice_range-none, slice_range-from_past, slice_range-map, slice_range-append, list_all-parts}
 use Rattle.ansi_slice.proofs.ShowLemmas.{show-mark, show-nil, show-text}
 
@@ -85,81 +88,92 @@ shown_pieces_stand (Sequence w ∷ ps) test a b all =
     (shown_pieces_stand ps test a b all.1)
 shown_pieces_stand (LoneEscape ∷ ps) test a b all = absurd all.0
 
--- The style after them is that after the marks that are shown.
+-- What is read of them, from a state that sequences change.
 
-style_through-one_text : (s : Rendition) (w : List ℕ) → style_through s (one_text w) ≡ s
-style_through-one_text s [] = refl
-style_through-one_text s (b ∷ w) = refl
+module _ {S : Type 0} (step : S → List ℕ → S) (idle : (s : S) → step s (escape ∷ []) ≡ s) where
+  state_through-one_text : (s : S) (w : List ℕ) → state_through step s (one_text w) ≡ s
+  state_through-one_text s [] = refl
+  state_through-one_text s (b ∷ w) = refl
 
-style_through-mark : (p : Piece) (s : Rendition) (c : Bool) (ms : List Mark) → style_through s (p ∷ []) ≡ apply s (spelling p)
-    → after_marks (style_through s (piece_when c p)) ms ≡ after_marks s (if c then record { place = 0; bytes = spelling p } ∷ ms else ms)
-style_through-mark p s true ms is = ap (λ q. after_marks q ms) is
-style_through-mark p s false ms is = refl
+  state_through-mark : (p : Piece) (s : S) (c : Bool) (ms : List Mark) → state_through step s (p ∷ []) ≡ step s (spelling p)
+      → state_after step (state_through step s (piece_when c p)) ms ≡ state_after step s (if c then record { place = 0; bytes = spelling p } ∷ ms else ms)
+  state_through-mark p s true ms is = ap (λ q. state_after step q ms) is
+  state_through-mark p s false ms is = refl
+
+  -- the state after them is that after the marks that are shown
+  pub state_through-shown_pieces : (ps : List Piece) (s : S) (test : ℕ → Bool) (a b : ℕ) → state_through step s (shown_pieces test a b ps) ≡ state_after step s (at_places test (marks_of ps))
+  state_through-shown_pieces [] s test a b = refl
+  state_through-shown_pieces (Text w ∷ ps) s test a b =
+      let n = length w in
+      let later : ℕ → Bool = λ p. test (n + p) in
+      let rest = shown_pieces later (a - n) (b - n) ps in
+      state_through-append step s (one_text (slice_range w a b)) rest
+      ∙ ap (λ q. state_through step q rest) (state_through-one_text s (slice_range w a b))
+      ∙ state_through-shown_pieces ps s later (a - n) (b - n)
+      ∙ sym (ap (state_after step s) (ap (at_places test) (marks_of-text w ps) ∙ at_places-further test n (marks_of ps)) ∙ state_after-further step s n (at_places later (marks_of ps)))
+  state_through-shown_pieces (Sequence w ∷ ps) s test a b =
+      state_through-append step s (piece_when (test 0) (Sequence w)) (shown_pieces test a b ps)
+      ∙ state_through-shown_pieces ps (state_through step s (piece_when (test 0) (Sequence w))) test a b
+      ∙ state_through-mark (Sequence w) s (test 0) (at_places test (marks_of ps)) refl
+      ∙ ap (λ ms. state_after step s (at_places test ms)) (sym (marks_of-sequence w ps))
+  state_through-shown_pieces (LoneEscape ∷ ps) s test a b =
+      state_through-append step s (piece_when (test 0) LoneEscape) (shown_pieces test a b ps)
+      ∙ state_through-shown_pieces ps (state_through step s (piece_when (test 0) LoneEscape)) test a b
+      ∙ state_through-mark LoneEscape s (test 0) (at_places test (marks_of ps)) (sym (idle s))
+      ∙ ap (λ ms. state_after step s (at_places test ms)) (sym (marks_of-lone ps))
+
+  module _ {B : Type 0} (seen : S → ℕ → B) where
+    seen_through-one_text : (s : S) (w : List ℕ) → seen_through step seen s (one_text w) ≡ map (seen s) w
+    seen_through-one_text s [] = refl
+    seen_through-one_text s (b ∷ w) = append-nil (map (seen s) (b ∷ w))
+
+    -- an end that isn't after the start shows no byte
+    seen_through-shown_none : (ps : List Piece) (s : S) (test : ℕ → Bool) (a b : ℕ) → b ≤ a → seen_through step seen s (shown_pieces test a b ps) ≡ []
+    seen_through-shown_none [] s test a b none = refl
+    seen_through-shown_none (Text w ∷ ps) s test a b none =
+        let later : ℕ → Bool = λ p. test (length w + p) in
+        ap (λ v. seen_through step seen s (one_text v ++ shown_pieces later (a - length w) (b - length w) ps)) (slice_range-none w a b none)
+        ∙ seen_through-shown_none ps s later (a - length w) (b - length w) (omega arith)
+    seen_through-shown_none (Sequence w ∷ ps) s test a b none =
+        cond_both (test 0) (Sequence w ∷ []) [] (λ qs. seen_through step seen s (qs ++ shown_pieces test a b ps) ≡ [])
+        (λ shown. seen_through-shown_none ps (step s w) test a b none)
+        (λ hidden. seen_through-shown_none ps s test a b none)
+    seen_through-shown_none (LoneEscape ∷ ps) s test a b none =
+        cond_both (test 0) (LoneEscape ∷ []) [] (λ qs. seen_through step seen s (qs ++ shown_pieces test a b ps) ≡ [])
+        (λ shown. seen_through-shown_none ps s test a b none)
+        (λ hidden. seen_through-shown_none ps s test a b none)
+
+    -- where each mark before the end is shown, their bytes are the slice
+    pub seen_through-shown_pieces : (ps : List Piece) (s : S) (test : ℕ → Bool) (a b : ℕ) → ((p : ℕ) → p < b → test p ≡ true)
+        → seen_through step seen s (shown_pieces test a b ps) ≡ slice_range (seen_through step seen s ps) a b
+    seen_through-shown_pieces [] s test a b before = sym (slice_range-from_past [] a b (omega arith))
+    seen_through-shown_pieces (Text w ∷ ps) s test a b before =
+        let n = length w in
+        let later : ℕ → Bool = λ p. test (n + p) in
+        let rest = shown_pieces later (a - n) (b - n) ps in
+        let size : length (map (seen s) w) ≡ n = length-map w _ in
+        seen_through-append step seen s (one_text (slice_range w a b)) rest
+        ∙ ap₂ (λ u v. u ++ v)
+        (seen_through-one_text s (slice_range w a b) ∙ sym (slice_range-map (seen s) w a b))
+        (ap (λ q. seen_through step seen q rest) (state_through-one_text s (slice_range w a b)) ∙ seen_through-shown_pieces ps s later (a - n) (b - n) (λ p below. before (n + p) (omega arith)))
+        ∙ sym (slice_range-append (map (seen s) w) (seen_through step seen s ps) a b
+        ∙ ap (λ k. slice_range (map (seen s) w) a b ++ slice_range (seen_through step seen s ps) (a - k) (b - k)) size)
+    seen_through-shown_pieces (Sequence w ∷ ps) s test a b before = elim (cases_lt 0 b) [
+      | inl some ↦ (
+          ap (λ c. seen_through step seen s (piece_when c (Sequence w) ++ shown_pieces test a b ps)) (before 0 some)
+          ∙ seen_through-shown_pieces ps (step s w) test a b before)
+      | inr none ↦ seen_through-shown_none (Sequence w ∷ ps) s test a b (omega arith) ∙ sym (slice_range-none (seen_through step seen (step s w) ps) a b (omega arith))
+    ]
+    seen_through-shown_pieces (LoneEscape ∷ ps) s test a b before =
+        cond_both (test 0) (LoneEscape ∷ []) [] (λ qs. seen_through step seen s (qs ++ shown_pieces test a b ps) ≡ slice_range (seen_through step seen s ps) a b)
+        (λ shown. seen_through-shown_pieces ps s test a b before)
+        (λ hidden. seen_through-shown_pieces ps s test a b before)
+
+-- A style.
 
 pub style_through-shown_pieces : (ps : List Piece) (s : Rendition) (test : ℕ → Bool) (a b : ℕ) → style_through s (shown_pieces test a b ps) ≡ after_marks s (at_places test (marks_of ps))
-style_through-shown_pieces [] s test a b = refl
-style_through-shown_pieces (Text w ∷ ps) s test a b =
-    let n = length w in
-    let later : ℕ → Bool = λ p. test (n + p) in
-    let rest = shown_pieces later (a - n) (b - n) ps in
-    style_through-append s (one_text (slice_range w a b)) rest
-    ∙ ap (λ q. style_through q rest) (style_through-one_text s (slice_range w a b))
-    ∙ style_through-shown_pieces ps s later (a - n) (b - n)
-    ∙ sym (ap (after_marks s) (ap (at_places test) (marks_of-text w ps) ∙ at_places-further test n (marks_of ps)) ∙ after_marks-further s n (at_places later (marks_of ps)))
-style_through-shown_pieces (Sequence w ∷ ps) s test a b =
-    style_through-append s (piece_when (test 0) (Sequence w)) (shown_pieces test a b ps)
-    ∙ style_through-shown_pieces ps (style_through s (piece_when (test 0) (Sequence w))) test a b
-    ∙ style_through-mark (Sequence w) s (test 0) (at_places test (marks_of ps)) refl
-    ∙ ap (λ ms. after_marks s (at_places test ms)) (sym (marks_of-sequence w ps))
-style_through-shown_pieces (LoneEscape ∷ ps) s test a b =
-    style_through-append s (piece_when (test 0) LoneEscape) (shown_pieces test a b ps)
-    ∙ style_through-shown_pieces ps (style_through s (piece_when (test 0) LoneEscape)) test a b
-    ∙ style_through-mark LoneEscape s (test 0) (at_places test (marks_of ps)) refl
-    ∙ ap (λ ms. after_marks s (at_places test ms)) (sym (marks_of-lone ps))
-
--- Where each mark before the end is shown, the styled bytes are the slice.
-
-styled_through-one_text : (s : Rendition) (w : List ℕ) → styled_through s (one_text w) ≡ in_style s w
-styled_through-one_text s [] = refl
-styled_through-one_text s (b ∷ w) = append-nil (in_style s (b ∷ w))
-
--- an end that isn't after the start shows no byte
-styled_through-shown_none : (ps : List Piece) (s : Rendition) (test : ℕ → Bool) (a b : ℕ) → b ≤ a → styled_through s (shown_pieces test a b ps) ≡ []
-styled_through-shown_none [] s test a b none = refl
-styled_through-shown_none (Text w ∷ ps) s test a b none =
-    let later : ℕ → Bool = λ p. test (length w + p) in
-    ap (λ v. styled_through s (one_text v ++ shown_pieces later (a - length w) (b - length w) ps)) (slice_range-none w a b none)
-    ∙ styled_through-shown_none ps s later (a - length w) (b - length w) (omega arith)
-styled_through-shown_none (Sequence w ∷ ps) s test a b none =
-    cond_both (test 0) (Sequence w ∷ []) [] (λ qs. styled_through s (qs ++ shown_pieces test a b ps) ≡ [])
-    (λ shown. styled_through-shown_none ps (apply s w) test a b none)
-    (λ hidden. styled_through-shown_none ps s test a b none)
-styled_through-shown_none (LoneEscape ∷ ps) s test a b none =
-    cond_both (test 0) (LoneEscape ∷ []) [] (λ qs. styled_through s (qs ++ shown_pieces test a b ps) ≡ [])
-    (λ shown. styled_through-shown_none ps s test a b none)
-    (λ hidden. styled_through-shown_none ps s test a b none)
+style_through-shown_pieces = state_through-shown_pieces apply (λ s. refl)
 
 pub styled_through-shown_pieces : (ps : List Piece) (s : Rendition) (test : ℕ → Bool) (a b : ℕ) → ((p : ℕ) → p < b → test p ≡ true)
     → styled_through s (shown_pieces test a b ps) ≡ slice_range (styled_through s ps) a b
-styled_through-shown_pieces [] s test a b before = sym (slice_range-from_past [] a b (omega arith))
-styled_through-shown_pieces (Text w ∷ ps) s test a b before =
-    let n = length w in
-    let later : ℕ → Bool = λ p. test (n + p) in
-    let rest = shown_pieces later (a - n) (b - n) ps in
-    let size : length (in_style s w) ≡ n = length-map w _ in
-    styled_through-append s (one_text (slice_range w a b)) rest
-    ∙ ap₂ (λ u v. u ++ v)
-    (styled_through-one_text s (slice_range w a b) ∙ sym (slice_range-map (λ b. record { byte = b; style = known s }) w a b))
-    (ap (λ q. styled_through q rest) (style_through-one_text s (slice_range w a b)) ∙ styled_through-shown_pieces ps s later (a - n) (b - n) (λ p below. before (n + p) (omega arith)))
-    ∙ sym (slice_range-append (in_style s w) (styled_through s ps) a b
-    ∙ ap (λ k. slice_range (in_style s w) a b ++ slice_range (styled_through s ps) (a - k) (b - k)) size)
-styled_through-shown_pieces (Sequence w ∷ ps) s test a b before = elim (cases_lt 0 b) [
-  | inl some ↦ (
-      ap (λ c. styled_through s (piece_when c (Sequence w) ++ shown_pieces test a b ps)) (before 0 some)
-      ∙ styled_through-shown_pieces ps (apply s w) test a b before)
-  | inr none ↦ styled_through-shown_none (Sequence w ∷ ps) s test a b (omega arith) ∙ sym (slice_range-none (styled_through (apply s w) ps) a b (omega arith))
-]
-styled_through-shown_pieces (LoneEscape ∷ ps) s test a b before =
-    cond_both (test 0) (LoneEscape ∷ []) [] (λ qs. styled_through s (qs ++ shown_pieces test a b ps) ≡ slice_range (styled_through s ps) a b)
-    (λ shown. styled_through-shown_pieces ps s test a b before)
-    (λ hidden. styled_through-shown_pieces ps s test a b before)
+styled_through-shown_pieces = seen_through-shown_pieces apply (λ s. refl) styled_byte

@@ -1,5 +1,9 @@
 -- A part of a whole text is whole, has the slice of its styled bytes, and leaves nothing known open.
-use Rattle.ansi_split.proofs.Common.{◌≡◌, ℕ, ◌+◌, ◌-◌, ◌<◌, ◌≤◌, inl, inr, Bool, true, false, ◌&&◌, ◌==◌, List, [], ◌∷◌, ◌++◌, length, nat_le, nat_lt, refl, sym, ◌∙◌, ap, ap₂, subst, arith, slice_range, Option, Some, None, IsTrue, if◌then◌else◌, option_map_or, cond_both, and_parts, eqb-true, cases_lt, le-leb, nat_tests, Piece, Text, pieces_of, Mark, plain, marks, up_to, is_whole, Rendition, IsStyle, plain_style, known, has_any, written_all, start, close_codes, close, close_if_any, style_at, styled, after_marks, show, past, carried, part_over, one_text, slice_range-none, slice_range-from_past, IsStyle-plain_style, IsStyle-style_at, spelled, AllStandAnywhere, pieces_stand, styled_through, style_through, styled_through-append, style_through-append, styled-pieces, AreCodes, close_codes_are, known-unset, GiveAlone, IsClosed, closed-spelled, Clears, dressed_pieces, spelled-dressed_pieces, dressed_pieces_stand, dressed_pieces_give, at_places, piece_when, shown_pieces, spelled-shown_pieces, shown_pieces_stand, style_through-shown_pieces, styled_through-shown_pieces, longest_close}
+use Rattle.ansi_split.proofs.Common.{◌≡◌, ℕ, ◌+◌, ◌-◌, ◌<◌, ◌≤◌, inl, inr, Bool, true, false, ◌&&◌, ◌==◌, List, [], ◌∷◌, ◌++◌, length, nat_le, nat_lt, refl, sym, ◌∙◌, ap, ap₂, subst, arith, slice_range, Option, Some, None, IsTrue, if◌then◌else◌, option_map_or, cond_both, and_parts, eqb-true, cases_lt, le-leb, nat_tests, Piece, Text, pieces_of, Mark, escape, plain, marks, up_to, is_whole, Rendition, apply, IsStyle, plain_style, known, has_any, written_all, start, close_codes, close, close_if_any, style_at, styled, after_marks, show, past, carried, part_over, one_text, slice_range-none, slice_range-from_past, IsStyle-plain_style, IsStyle-style_at, spelled, AllStandAnywhere, pieces_stand, styled_through, style_through, styled-pieces, AreCodes, close_codes_are, known-unset, GiveAlone, IsClosed, closed-spelled, Clears, dressed_pieces, spelled-dressed_pieces, dressed_pieces_stand, dressed_pieces_give, at_places, piece_when, shown_pieces, spelled-shown_pieces, shown_pieces_stand, longest_close}
+use Rattle.ansi_style.proofs.MarkLemmas.{state_after}
+use Rattle.ansi_style.proofs.StyledLemmas.{styled_byte}
+use Rattle.ansi_style.proofs.ThroughLemmas.{state_through, state_through-append, seen_through, seen_through-append}
+use Rattle.ansi_slice.proofs.ShownLemmas.{state_through-shown_pieces, seen_through-shown_pieces}
 use Rattle.ansi_style.proofs.CloseLemmas.{close_codes_clear}
 use Rattle.ansi_split.proofs.IntervalLemmas.{ComesAfter}
 
@@ -41,7 +45,7 @@ mark-divided p k early late both es ls bs divides nothing later = elim (cases_lt
       ∙ ap₂ (λ x qs. piece_when x p ++ qs) (divides.late_from 0 from) (ap (λ qs. qs ++ ls) (sym none) ∙ later))
 ]
 
-pub shown_pieces-divided : (ps : List Piece) (k : ℕ) (early late both : ℕ → Bool) (c a b : ℕ) → Divides k early late both → k ≤ a + 1
+shown_pieces-divided : (ps : List Piece) (k : ℕ) (early late both : ℕ → Bool) (c a b : ℕ) → Divides k early late both → k ≤ a + 1
     → shown_pieces early c c ps ++ shown_pieces late a b ps ≡ shown_pieces both a b ps
 shown_pieces-divided [] k early late both c a b divides after = refl
 shown_pieces-divided (Text w ∷ ps) k early late both c a b divides after =
@@ -65,6 +69,37 @@ shown_pieces-divided (p ∷ ps) k early late both c a b divides after =
     mark-divided p k early late both (shown_pieces early c c ps) (shown_pieces late a b ps) (shown_pieces both a b ps) divides
     (λ from. shown_pieces-nothing early c c ps (λ p. divides.early_from p (omega arith)) (omega arith))
     (shown_pieces-divided ps k early late both c a b divides after)
+
+-- So what is read of the latter, from the state after the former, is what is read of all.
+
+module _ {S : Type 0} (step : S → List ℕ → S) (idle : (s : S) → step s (escape ∷ []) ≡ s) (first : S) (t : List ℕ) (k : ℕ) (early late both : ℕ → Bool) (i : ℕ × ℕ) (divides : Divides k early late both) (after : k ≤ i.0 + 1) where
+  abbrev former : List Piece
+  former = shown_pieces early 0 0 (pieces_of t)
+
+  abbrev latter : List Piece
+  latter = shown_pieces late i.0 i.1 (pieces_of t)
+
+  abbrev between : S
+  between = state_after step first (at_places early (marks t))
+
+  joined : former ++ latter ≡ shown_pieces both i.0 i.1 (pieces_of t)
+  joined = shown_pieces-divided (pieces_of t) k early late both 0 i.0 i.1 divides after
+
+  through-former : state_through step first former ≡ between
+  through-former = state_through-shown_pieces step idle (pieces_of t) first early 0 0
+
+  pub state-divided : state_through step between latter ≡ state_after step first (at_places both (marks t))
+  state-divided =
+      ap (λ s. state_through step s latter) (sym through-former) ∙ sym (state_through-append step first former latter) ∙ ap (state_through step first) joined
+      ∙ state_through-shown_pieces step idle (pieces_of t) first both i.0 i.1
+
+  pub seen-divided : {B : Type 0} (seen : S → ℕ → B) → ((p : ℕ) → p < i.1 → both p ≡ true) → seen_through step seen between latter ≡ slice_range (seen_through step seen first (pieces_of t)) i.0 i.1
+  seen-divided seen covers =
+      let none : seen_through step seen first former ≡ []
+      = seen_through-shown_pieces step idle seen (pieces_of t) first early 0 0 (λ p none. absurd (omega (arith, none))) ∙ slice_range-none (seen_through step seen first (pieces_of t)) 0 0 (omega arith) in
+      ap₂ (λ u s. u ++ seen_through step seen s latter) (sym none) (sym through-former)
+      ∙ sym (seen_through-append step seen first former latter) ∙ ap (seen_through step seen first) joined
+      ∙ seen_through-shown_pieces step idle seen (pieces_of t) first both i.0 i.1 covers
 
 -- The marks that a part shows, those that the parts before have shown, and the marks of both.
 
@@ -133,33 +168,25 @@ spelled-own_pieces t before i =
 abbrev pub earlier_pieces : List ℕ → Option ℕ → List Piece
 earlier_pieces t before = shown_pieces (earlier_places before) 0 0 (pieces_of t)
 
-style_through-earlier_pieces : (t : List ℕ) (before : Option ℕ) → style_through plain_style (earlier_pieces t before) ≡ carried t before
-style_through-earlier_pieces t before = style_through-shown_pieces (pieces_of t) plain_style (earlier_places before) 0 0 ∙ sym (carried-places t before)
+own_from_after : (before : Option ℕ) (i : ℕ × ℕ) → ComesAfter before i → own_from before ≤ i.0 + 1
+own_from_after None i after = omega arith
+own_from_after (Some e) i after = omega (arith, after.0)
 
 pub all_pieces : (t : List ℕ) (before : Option ℕ) (i : ℕ × ℕ) → ComesAfter before i → earlier_pieces t before ++ own_pieces t before i ≡ shown_pieces (λ p. nat_le p i.1) i.0 i.1 (pieces_of t)
 all_pieces t before i after =
     shown_pieces-divided (pieces_of t) (own_from before) (earlier_places before) (own_places before i.1) (λ p. nat_le p i.1) 0 i.0 i.1 (part_divides before i after) (own_from_after before i after)
-  where
-    own_from_after : (before : Option ℕ) (i : ℕ × ℕ) → ComesAfter before i → own_from before ≤ i.0 + 1
-    own_from_after None i after = omega arith
-    own_from_after (Some e) i after = omega (arith, after.0)
 
 styled_through-own_pieces : (t : List ℕ) (before : Option ℕ) (i : ℕ × ℕ) → ComesAfter before i → styled_through (carried t before) (own_pieces t before i) ≡ slice_range (styled t) i.0 i.1
 styled_through-own_pieces t before i after =
-    ap₂ (λ u v. u ++ v)
-    (sym (styled_through-shown_pieces (pieces_of t) plain_style (earlier_places before) 0 0 (λ p none. absurd (omega (arith, none))) ∙ slice_range-none (styled_through plain_style (pieces_of t)) 0 0 (omega arith)))
-    (ap (λ s. styled_through s (own_pieces t before i)) (sym (style_through-earlier_pieces t before)))
-    ∙ sym (styled_through-append plain_style (earlier_pieces t before) (own_pieces t before i))
-    ∙ ap (styled_through plain_style) (all_pieces t before i after)
-    ∙ styled_through-shown_pieces (pieces_of t) plain_style (λ p. nat_le p i.1) i.0 i.1 (λ p below. le-leb p i.1 (omega arith))
+    ap (λ s. styled_through s (own_pieces t before i)) (carried-places t before)
+    ∙ seen-divided apply (λ s. refl) plain_style t (own_from before) (earlier_places before) (own_places before i.1) (λ p. nat_le p i.1) i (part_divides before i after) (own_from_after before i after)
+    styled_byte (λ p below. le-leb p i.1 (omega arith))
     ∙ ap (λ bs. slice_range bs i.0 i.1) (sym (styled-pieces t))
 
 style_through-own_pieces : (t : List ℕ) (before : Option ℕ) (i : ℕ × ℕ) → ComesAfter before i → style_through (carried t before) (own_pieces t before i) ≡ style_at t i.1
 style_through-own_pieces t before i after =
-    ap (λ s. style_through s (own_pieces t before i)) (sym (style_through-earlier_pieces t before))
-    ∙ sym (style_through-append plain_style (earlier_pieces t before) (own_pieces t before i))
-    ∙ ap (style_through plain_style) (all_pieces t before i after)
-    ∙ style_through-shown_pieces (pieces_of t) plain_style (λ p. nat_le p i.1) i.0 i.1
+    ap (λ s. style_through s (own_pieces t before i)) (carried-places t before)
+    ∙ state-divided apply (λ s. refl) plain_style t (own_from before) (earlier_places before) (own_places before i.1) (λ p. nat_le p i.1) i (part_divides before i after) (own_from_after before i after)
 
 -- The codes that close a style, where anything is set that a reader could see.
 

@@ -1,5 +1,5 @@
 -- What is left of a text that is split, as plain data.
-use Rattle.std.specs.Prelude.{ℕ, ◌≤◌, List, [], take, IsTrue, IsFalse, IsUtf8, if◌then◌else◌}
+use Rattle.std.specs.Prelude.{◌≤◌, List, [], take, IsTrue, IsFalse, IsUtf8, if◌then◌else◌}
 use Rattle.std.specs.Str.{IsCharBoundary}
 use Rattle.ansi_items.specs.Plain.{plain, has_escape}
 use Rattle.ansi_search.specs.Positions.{is_char_boundary}

@@ -7,6 +7,7 @@ pub mod WrittenLemmas
 pub mod MarkLemmas
 pub mod SgrLemmas
 pub mod StyleLemmas
+pub mod ThroughLemmas
 pub mod StyledLemmas
 pub mod SpelledLemmas
 pub mod ColorLemmas

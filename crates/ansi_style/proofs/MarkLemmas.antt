@@ -1,5 +1,5 @@
 -- The marks of pieces, one piece at a time, and those up to a place.
-use Rattle.ansi_style.proofs.Common.{◌≡◌, ℕ, suc, ◌+◌, ◌-◌, ◌<◌, ◌≤◌, Bool, true, false, List, [], ◌∷◌, length, map, filter_map, Option, refl, ◌∙◌, ap, ap₂, arith, nat_le, if◌then◌else◌, IsFalse, le-leb, lt-leb, nat_tests, escape, Piece, Text, Sequence, LoneEscape, Mark, Placed, mark_of, moved, marks_of, marks, places, up_to, has_escape, Rendition, apply_all, apply, after_marks, one_text, pieces_of-bare}
+use Rattle.ansi_style.proofs.Common.{◌≡◌, ℕ, suc, ◌+◌, ◌-◌, ◌<◌, ◌≤◌, Bool, true, false, List, [], ◌∷◌, length, map, filter_map, fold, Option, refl, ◌∙◌, ap, ap₂, arith, nat_le, if◌then◌else◌, IsFalse, le-leb, lt-leb, nat_tests, escape, Piece, Text, Sequence, LoneEscape, Mark, Placed, mark_of, moved, marks_of, marks, places, up_to, has_escape, Rendition, apply, after_marks, one_text, pieces_of-bare}
 
 -- n plain bytes more stand before the mark
 abbrev pub further : ℕ → Mark → Mark
@@ -66,37 +66,60 @@ up_to-here e w ms =
     let here : nat_le 0 e ≡ true = le-leb 0 e (omega arith) in
     ap (λ b. if b then record { place = 0; bytes = w } ∷ up_to e ms else up_to e ms) here
 
--- The style after marks, wherever they stand.
-
 pub bytes-further : (n : ℕ) (ms : List Mark) → map (λ (m : Mark). m.bytes) (map (further n) ms) ≡ map (λ (m : Mark). m.bytes) ms
 bytes-further n [] = refl
 bytes-further n (m ∷ ms) = ap (λ ws. m.bytes ∷ ws) (bytes-further n ms)
 
-pub after_marks-further : (s : Rendition) (n : ℕ) (ms : List Mark) → after_marks s (map (further n) ms) ≡ after_marks s ms
-after_marks-further s n ms = ap (apply_all s) (bytes-further n ms)
+-- What marks make, one after another, of a state that they change, as a style or a link.
 
--- The style at a place, by the marks of pieces.
+module _ {S : Type 0} (step : S → List ℕ → S) where
+  abbrev pub state_after : S → List Mark → S
+  state_after s ms = fold step s (map (λ (m : Mark). m.bytes) ms)
+
+  pub state_after-further : (s : S) (n : ℕ) (ms : List Mark) → state_after s (map (further n) ms) ≡ state_after s ms
+  state_after-further s n ms = ap (fold step s) (bytes-further n ms)
+
+  -- the state at a place, by the marks of pieces
+  abbrev pub state_by_marks : S → List Piece → ℕ → S
+  state_by_marks s ps i = state_after s (up_to i (marks_of ps))
+
+  pub state_by_marks-before : (s : S) (w : List ℕ) (ps : List Piece) (i : ℕ) → i < length w → state_by_marks s (Text w ∷ ps) i ≡ s
+  state_by_marks-before s w ps i below =
+      ap (λ ms. state_after s (up_to i ms)) (marks_of-text w ps) ∙ ap (state_after s) (up_to-none i (length w) (marks_of ps) below)
+
+  pub state_by_marks-text : (s : S) (w : List ℕ) (ps : List Piece) (i : ℕ) → state_by_marks s (Text w ∷ ps) (length w + i) ≡ state_by_marks s ps i
+  state_by_marks-text s w ps i =
+      let n = length w in
+      let left : n + i - n ≡ i = omega arith in
+      ap (λ ms. state_after s (up_to (n + i) ms)) (marks_of-text w ps)
+      ∙ ap (state_after s) (up_to-further (n + i) n (marks_of ps) (omega arith))
+      ∙ state_after-further s n (up_to (n + i - n) (marks_of ps))
+      ∙ ap (state_by_marks s ps) left
+
+  pub state_by_marks-sequence : (s : S) (w : List ℕ) (ps : List Piece) (i : ℕ) → state_by_marks s (Sequence w ∷ ps) i ≡ state_by_marks (step s w) ps i
+  state_by_marks-sequence s w ps i =
+      ap (λ ms. state_after s (up_to i ms)) (marks_of-sequence w ps) ∙ ap (state_after s) (up_to-here i w (marks_of ps))
+
+  pub state_by_marks-lone : (s : S) (ps : List Piece) (i : ℕ) → state_by_marks s (LoneEscape ∷ ps) i ≡ state_by_marks (step s (escape ∷ [])) ps i
+  state_by_marks-lone s ps i =
+      ap (λ ms. state_after s (up_to i ms)) (marks_of-lone ps) ∙ ap (state_after s) (up_to-here i (escape ∷ []) (marks_of ps))
+
+-- A style.
+
+pub after_marks-further : (s : Rendition) (n : ℕ) (ms : List Mark) → after_marks s (map (further n) ms) ≡ after_marks s ms
+after_marks-further = state_after-further apply
 
 abbrev pub style_by_marks : Rendition → List Piece → ℕ → Rendition
 style_by_marks s ps i = after_marks s (up_to i (marks_of ps))
 
 pub style_by_marks-before : (s : Rendition) (w : List ℕ) (ps : List Piece) (i : ℕ) → i < length w → style_by_marks s (Text w ∷ ps) i ≡ s
-style_by_marks-before s w ps i below =
-    ap (λ ms. after_marks s (up_to i ms)) (marks_of-text w ps) ∙ ap (after_marks s) (up_to-none i (length w) (marks_of ps) below)
+style_by_marks-before = state_by_marks-before apply
 
 pub style_by_marks-text : (s : Rendition) (w : List ℕ) (ps : List Piece) (i : ℕ) → style_by_marks s (Text w ∷ ps) (length w + i) ≡ style_by_marks s ps i
-style_by_marks-text s w ps i =
-    let n = length w in
-    let left : n + i - n ≡ i = omega arith in
-    ap (λ ms. after_marks s (up_to (n + i) ms)) (marks_of-text w ps)
-    ∙ ap (after_marks s) (up_to-further (n + i) n (marks_of ps) (omega arith))
-    ∙ after_marks-further s n (up_to (n + i - n) (marks_of ps))
-    ∙ ap (style_by_marks s ps) left
+style_by_marks-text = state_by_marks-text apply
 
 pub style_by_marks-sequence : (s : Rendition) (w : List ℕ) (ps : List Piece) (i : ℕ) → style_by_marks s (Sequence w ∷ ps) i ≡ style_by_marks (apply s w) ps i
-style_by_marks-sequence s w ps i =
-    ap (λ ms. after_marks s (up_to i ms)) (marks_of-sequence w ps) ∙ ap (after_marks s) (up_to-here i w (marks_of ps))
+style_by_marks-sequence = state_by_marks-sequence apply
 
 pub style_by_marks-lone : (s : Rendition) (ps : List Piece) (i : ℕ) → style_by_marks s (LoneEscape ∷ ps) i ≡ style_by_marks s ps i
-style_by_marks-lone s ps i =
-    ap (λ ms. after_marks s (up_to i ms)) (marks_of-lone ps) ∙ ap (after_marks s) (up_to-here i (escape ∷ []) (marks_of ps))
+style_by_marks-lone = state_by_marks-lone apply
