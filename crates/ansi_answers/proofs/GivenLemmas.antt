@@ -1,5 +1,5 @@
 -- Texts that an iterator gives, one more at a time, and all of them.
-use Rattle.std.proofs.Common.{◌≡◌, ◌∙◌, ℕ, ◌+◌, ◌<◌, ◌≤◌, ◌^◌, Bool, List, [], ◌∷◌, ◌++◌, length, take, drop, map, All, Option, None, Some, Result, Ok, Err, refl, sym, ap, ap₂, subst, arith, append-nil, length-append, IsTrue, IsOk}
+use Rattle.std.proofs.Common.{◌≡◌, ◌∙◌, ℕ, ◌+◌, ◌<◌, ◌^◌, Bool, List, [], ◌∷◌, ◌++◌, length, take, drop, map, All, Option, None, Some, Result, Ok, Err, refl, sym, ap, ap₂, subst, arith, append-nil, length-append, IsTrue, IsOk}
 use Rattle.std.specs.Prelude.{flat_map, IsFalse}
 use Rattle.std.specs.Cow.{cow_str_bytes}
 use Rattle.std.specs.Iterator.{Yields, Drains, HoldsAlong}

@@ -1,4 +1,4 @@
-use Rattle.std.proofs.Common.{rules, ◌∙◌, ◌<◌, ◌^◌, length, ap, refl, subst, arith}
+use Rattle.std.proofs.Common.{rules, ◌∙◌, length, ap, subst, arith}
 use Rattle.std.specs.declared.alloc.AllocError.{AllocError}
 use Rattle.ansi_str.specs.Splits.{SplitPart, GivesPart}
 use Rattle.ansi_answers.specs.Lists.{AreCopied}

@@ -1,4 +1,4 @@
-use Rattle.std.proofs.Common.{◌≡◌, ◌∙◌, ◌≤◌, ◌<◌, ◌+◌, ◌++◌, length, take, drop, map, IsOk, Some, [], ◌∷◌, refl, sym, ap, ap₂, arith, length-append}
+use Rattle.std.proofs.Common.{◌≡◌, ◌∙◌, ◌≤◌, ◌+◌, ◌++◌, length, take, drop, map, IsOk, Some, [], ◌∷◌, refl, sym, ap, ap₂, arith, length-append}
 use Rattle.std.proofs.lemmas.List.{length_push}
 use Rattle.std.proofs.lemmas.List.Elements.{All-pop}
 use Rattle.std.proofs.iter.Next.{Yields-more}

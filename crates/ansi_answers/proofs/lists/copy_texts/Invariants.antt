@@ -1,4 +1,4 @@
-use Rattle.std.proofs.Common.{◌≡◌, ◌≤◌, ◌+◌, ◌++◌, length, take, drop, map}
+use Rattle.std.proofs.Common.{◌≡◌, ◌≤◌, ◌++◌, length, drop, map}
 use Rattle.ansi_answers.specs.Lists.{given_bytes, ends_from}
 use Rattle.ansi_answers.proofs.GivenLemmas.{joined_texts}
 use Rattle.ansi_answers.proofs.lists.copy_texts.Given as goal

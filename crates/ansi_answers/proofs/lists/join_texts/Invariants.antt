@@ -1,4 +1,4 @@
-use Rattle.std.proofs.Common.{◌≡◌, ◌≤◌, ◌+◌, ◌++◌, length, take, drop, map, string_bytes, All, IsOk}
+use Rattle.std.proofs.Common.{◌≡◌, map, string_bytes, All, IsOk}
 use Rattle.ansi_answers.specs.Lists.{given_bytes, ends_from}
 use Rattle.ansi_answers.proofs.GivenLemmas.{joined_texts}
 use Rattle.ansi_answers.proofs.lists.join_texts.Given as goal
