@@ -1,5 +1,5 @@
 -- The lines of a text without ESC: they have no more bytes than it, and are at most one more than it has bytes.
-use Rattle.std.proofs.Common.{◌≡◌, ◌∙◌, ℕ, ◌+◌, ◌-◌, ◌<◌, ◌≤◌, max, ◌||◌, ◌==◌, nat_le, ◌&&◌, Bool, true, false, inl, inr, List, [], ◌∷◌, ◌++◌, length, take, drop, map, slice_range, Some, None, Option, Result, Ok, Err, encode_utf8_all, if◌then◌else◌, refl, sym, ap, subst, arith, append-nil, length-append, IsFalse}
+use Rattle.std.proofs.Common.{◌≡◌, ◌∙◌, ℕ, ◌+◌, ◌-◌, ◌<◌, ◌≤◌, max, ◌||◌, ◌==◌, nat_le, ◌&&◌, Bool, true, false, inl, inr, List, [], ◌∷◌, ◌++◌, length, drop, map, slice_range, Some, None, Option, Result, Ok, Err, encode_utf8_all, if◌then◌else◌, refl, ap, arith, append-nil, length-append, IsFalse}
 use Rattle.std.specs.Prelude.{flat_map}
 use Rattle.std.specs.Str.{chars, IsUtf8}
 use Rattle.std.proofs.lemmas.Bool.{cases_Bool, cond_both}
@@ -10,7 +10,7 @@ use Rattle.std.specs.declared.borrow.CowStr.{CowStr}
 use Rattle.unicode_segmentation.specs.Grapheme.{is_grapheme_break}
 use Rattle.unicode_segmentation.specs.Segments.{segments}
 use Rattle.unicode_segmentation.proofs.SegmentsLemmas.{AllPieces, segments_nonempty}
-use Rattle.ansi_items.specs.Plain.{Mark, plain, marks, up_to, has_escape}
+use Rattle.ansi_items.specs.Plain.{Mark, plain, up_to, has_escape}
 use Rattle.ansi_items.proofs.PlainLemmas.{plain-bare}
 use Rattle.ansi_style.specs.Rendition.{plain_style}
 use Rattle.ansi_style.specs.Reading.{after_marks}

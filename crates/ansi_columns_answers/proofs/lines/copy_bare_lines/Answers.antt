@@ -1,4 +1,4 @@
-use Rattle.std.proofs.Common.{rules, ◌∙◌, ◌<◌, ◌≤◌, List, length, map, ap, subst, arith}
+use Rattle.std.proofs.Common.{rules, ◌∙◌, List, length, map, ap, subst, arith}
 use Rattle.std.proofs.lemmas.List.{length-map}
 use Rattle.std.specs.declared.alloc.AllocError.{AllocError}
 use Rattle.ansi_columns.specs.Wrapped.{WrappedLine, GivesLine}
@@ -16,7 +16,7 @@ copy_texts-requires g c =
     let count = length-map c.wrap.result (λ (l : WrappedLine). l.bytes) in
     let same = ap (λ (ls : List WrappedLine). length (map (λ (l : WrappedLine). l.bytes) ls)) c.wrap.ensures.lines in
     let fits = given-fits {A = g.row.A.Denot} {E = AllocError} (λ (l : WrappedLine). l.bytes) (λ (l : WrappedLine). l.borrowed) GivesLine line-next c.wrap.result
-        (c.wrap.ensures.takes_no_memory c.requires) (omega (arith, bytes, short.0)) (omega (arith, count, same, short.1)) in
+    (c.wrap.ensures.takes_no_memory c.requires) (omega (arith, bytes, short.0)) (omega (arith, count, same, short.1)) in
     search (rules, fits)
 
 -- all of them are given
