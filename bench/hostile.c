@@ -1,6 +1,6 @@
 /* Makes every call on hostile texts and says how long the worst takes: on all texts of up to six of eight
    pieces, and on 1 MiB of each hostile kind. Ends with 1 where a call takes more than a second on 1 MiB, or one that
-   lists all parts or blocks more than two, or where a cut, a part or both sides are longer than their bound. A call
+   lists all parts, blocks or lines more than two, or where a cut, a part or both sides are longer than their bound. A call
    that doesn't return is ended by an alarm. */
 #include "lengths.h"
 
