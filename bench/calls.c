@@ -147,6 +147,7 @@ static size_t truncate_to(const struct text *t) {
 static size_t pad(const struct text *t) {
     return len_of(ansi_str_pad(t->bytes, t->len, t->plain_len + 8, ANSI_STR_RIGHT, NULL, 0));
 }
+static size_t wrap(const struct text *t) { return count_of(ansi_str_wrap(t->bytes, t->len, 80, NULL, 0, NULL, 0)); }
 
 /* appends a piece, and its plain bytes, while it fits into so many bytes */
 static void append(struct text *t, const char *piece, size_t limit) {
@@ -252,6 +253,7 @@ static const struct call WIDTH = {"width", width, NONE, NULL};
 static const struct call FITTING = {"fitting", fitting, NONE, NULL};
 static const struct call TRUNCATE = {"truncate", truncate_to, WORD, "..."};
 static const struct call PAD = {"pad", pad, NONE, NULL};
+static const struct call WRAP = {"wrap", wrap, NONE, NULL};
 
 static const struct row {
     const struct call *call;
@@ -274,6 +276,7 @@ static const struct row {
     {&BLOCKS, &LOG}, {&BLOCKS, &SHORT_SEQUENCES}, {&BLOCKS, &TAIL},
     {&WALK, &LOG}, {&WALK, &SHORT_SEQUENCES}, {&WALK, &TAIL},
     {&WIDTH, &PLAIN}, {&WIDTH, &LOG}, {&FITTING, &LOG}, {&TRUNCATE, &LOG}, {&PAD, &LOG},
+    {&WRAP, &PLAIN}, {&WRAP, &LOG},
 };
 
 enum { ROW_COUNT = sizeof ROWS / sizeof ROWS[0] };

@@ -1,6 +1,6 @@
 /* Makes every call on hostile texts and says how long the worst takes: on all texts of up to six of eight
    pieces, and on 1 MiB of each hostile kind. Ends with 1 where a call takes more than a second on 1 MiB, or one that
-   lists all parts or blocks more than two, or where a cut, a part or both sides are longer than their bound. A call
+   lists all parts, blocks or lines more than two, or where a cut, a part or both sides are longer than their bound. A call
    that doesn't return is ended by an alarm. */
 #include "lengths.h"
 
@@ -55,6 +55,11 @@ static size_t pad(struct bytes t, size_t n, struct bytes p) {
     (void)p;
     return len_of(ansi_str_pad(t.at, t.len, n > 2 * LONG ? 2 * LONG : n, ANSI_STR_CENTER, NULL, 0));
 }
+/* to as many columns as a position, which is 0 too: so there may be as many lines as bytes */
+static size_t wrap(struct bytes t, size_t n, struct bytes p) {
+    (void)p;
+    return count_of(ansi_str_wrap(t.at, t.len, n, NULL, 0, NULL, 0));
+}
 /* from a position to the end, and from the start to a position */
 static size_t cut_from(struct bytes t, size_t n, struct bytes p) {
     (void)p;
@@ -93,6 +98,7 @@ static const struct call CALLS[] = {
     {"floor_char_boundary", floor_char_boundary, 1, 0, 0}, {"starts_with", starts_with, 0, 1, 0},
     {"ends_with", ends_with, 0, 1, 0}, {"strip_prefix", strip_prefix, 0, 1, 0}, {"strip_suffix", strip_suffix, 0, 1, 0},
     {"width", width, 0, 0, 0}, {"fitting", fitting, 1, 0, 0}, {"truncate", truncate_to, 1, 1, 0}, {"pad", pad, 1, 0, 0},
+    {"wrap", wrap, 1, 0, 1},
     {"find", find, 0, 1, 0}, {"split", split, 0, 1, 1}, {"part", part, 1, 1, 0},
 };
 enum { CALL_COUNT = sizeof CALLS / sizeof CALLS[0] };

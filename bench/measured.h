@@ -70,10 +70,11 @@ static size_t hand_walk(const struct text *t) { return hand_blocks(t->bytes, t->
 static size_t block_list(const struct text *t) {
     return count_of(ansi_str_blocks(t->bytes, t->len, NULL, 0, NULL, 0));
 }
-/* three edits: without the first byte, the first half, and without white space at its ends */
 static size_t columns(const struct text *t) { return len_of(ansi_str_width(t->bytes, t->len)); }
 static size_t truncated(const struct text *t) { return len_of(ansi_str_truncate(t->bytes, t->len, 40, "...", 3, buffer, room)); }
 static size_t padded(const struct text *t) { return len_of(ansi_str_pad(t->bytes, t->len, t->len, ANSI_STR_LEFT, buffer, room)); }
+static size_t wrapped(const struct text *t) { return count_of(ansi_str_wrap(t->bytes, t->len, 80, NULL, 0, NULL, 0)); }
+/* three edits: without the first byte, the first half, and without white space at its ends */
 static size_t edits(const struct text *t) {
     const ansi_str_edit_step steps[] = {ansi_str_edit_prefix(&t->first, 1), ansi_str_edit_cut(0, t->half - 1),
                                         ansi_str_edit_trim()};
@@ -107,6 +108,7 @@ static const struct call CALLS[] = {
     {"width", columns, NULL},
     {"truncate", truncated, NULL},
     {"pad", padded, NULL},
+    {"wrap", wrapped, NULL},
 };
 
 enum { CALL_COUNT = sizeof CALLS / sizeof CALLS[0] };

@@ -1,8 +1,8 @@
 /* Passes the rows of crates/ansi_columns_rows/stdin through the calls on columns, and ends with 1 where one differs.
 
    A row is one line of standard input, its fields stand between TABs: a call, the text, what else the call takes, between blanks,
-   and the answer. `\e`, `\a`, `\n`, `\r` and `\t` stand for a control character, and `\\` for `\`. The rows of `lines`, `wrap` and `link_at` are
-   passed over, since C has no such call.
+   and the answer. `\e`, `\a`, `\n`, `\r` and `\t` stand for a control character, and `\\` for `\`. The rows of `lines` and
+   `link_at` are passed over, since C has no such call.
 
    Each text that is written is also asked for with a larger buffer, with one that is one byte too small, and with each request for
    memory refused in turn: then nothing may be written, past the answer's length or at all. */
@@ -12,7 +12,7 @@
 #include <stdlib.h>
 #include <string.h>
 
-enum { MOST_FIELDS = 8, LONGEST = 4096, GUARD = 0x5a };
+enum { MOST_FIELDS = 8, LONGEST = 4096, MOST_LINES = 16, GUARD = 0x5a };
 
 /* Requests for memory that are still granted; a negative number grants all. */
 static long granted = -1;
@@ -151,6 +151,58 @@ static void expect_writes(const struct row *r) {
     }
 }
 
+/* Whether lines are those of a row, where each stands in brackets, between blanks. */
+static int are_lines(const struct row *r, const char *lines, const size_t *ends, size_t count) {
+    static char listed[LONGEST];
+    size_t len = 0, start = 0;
+    for (size_t i = 0; i < count; i++) {
+        len += (size_t)snprintf(listed + len, LONGEST - len, "%s[%.*s]", i > 0 ? " " : "", (int)(ends[i] - start), lines + start);
+        start = ends[i];
+    }
+    return len == r->answer.len && memcmp(listed, r->answer.bytes, len) == 0;
+}
+
+/* A call with room for so many bytes and lines and so many requests granted writes the lines of the row, or says that room or
+   memory is wanting. */
+static ansi_str_answers lines_of(const struct row *r, size_t room, size_t most, long requests) {
+    static char buffer[LONGEST];
+    static size_t ends[MOST_LINES + 1];
+    memset(buffer, GUARD, LONGEST);
+    memset(ends, 0, sizeof ends);
+    granted = requests;
+    ansi_str_answers answer = ansi_str_wrap(TEXT(r->text), r->width, buffer, room, ends, most);
+    granted = -1;
+    int is_done = answer.status == ANSI_STR_OK, is_wanting = requests >= 0 && answer.status == ANSI_STR_OUT_OF_MEMORY;
+    wanting += is_wanting;
+    expect("status", is_done || is_wanting || (answer.status == ANSI_STR_TOO_SMALL && (room < answer.len || most < answer.count)));
+    expect("none", !is_wanting || (answer.len == 0 && answer.count == 0));
+    expect("the lines", !is_done || are_lines(r, buffer, ends, answer.count));
+    expect("nothing more is written", is_guard(buffer, is_done ? answer.len : 0));
+    for (size_t i = is_done ? answer.count : 0; i <= MOST_LINES; i++) {
+        expect("no end more is written", ends[i] == 0);
+    }
+    return answer;
+}
+
+/* With this room, which is too small, a call says how much all lines need. */
+static void expect_too_small(const struct row *r, ansi_str_answers all, size_t room, size_t most) {
+    ansi_str_answers answer = lines_of(r, room, most, -1);
+    expect("too small", answer.status == ANSI_STR_TOO_SMALL && answer.len == all.len && answer.count == all.count);
+}
+
+static void expect_lines(const struct row *r) {
+    ansi_str_answers all = lines_of(r, LONGEST, MOST_LINES, -1);
+    expect("all lines", all.status == ANSI_STR_OK);
+    expect("just the room", lines_of(r, all.len, all.count, -1).status == ANSI_STR_OK);
+    expect_too_small(r, all, all.len, all.count - 1);
+    if (all.len > 0) {
+        expect_too_small(r, all, all.len - 1, all.count);
+    }
+    for (long requests = 0; lines_of(r, all.len, all.count, requests).status == ANSI_STR_OUT_OF_MEMORY; requests++) {
+        expect("a text with ESC", memchr(r->text.bytes, '\x1b', r->text.len) != NULL);
+    }
+}
+
 /* A call that only tells. It takes no memory. */
 static int is_told(const struct row *r) {
     int is_width = strcmp(r->call, "width") == 0;
@@ -175,6 +227,11 @@ static void expect_failures(void) {
     for (size_t i = 0; i < sizeof answers / sizeof answers[0]; i++) {
         expect("no UTF-8", answers[i].status == ANSI_STR_NOT_UTF8 && answers[i].len == 0);
     }
+    size_t end = 0;
+    ansi_str_answers lines = ansi_str_wrap("\xff", 1, 4, buffer, 8, &end, 1);
+    expect("no UTF-8", lines.status == ANSI_STR_NOT_UTF8 && lines.count == 0 && lines.len == 0 && end == 0);
+    lines = ansi_str_wrap(NULL, 0, 0, NULL, 0, NULL, 0);
+    expect("one line", lines.status == ANSI_STR_TOO_SMALL && lines.count == 1 && lines.len == 0);
     ansi_str_answer answer = ansi_str_pad("ab", 2, 4, ANSI_STR_RIGHT + 1, buffer, 8);
     expect("an unknown alignment", answer.status == ANSI_STR_REFUSED && answer.len == 0);
     answer = ansi_str_pad("ab", 2, SIZE_MAX, ANSI_STR_LEFT, buffer, 8);
@@ -188,7 +245,7 @@ static void expect_failures(void) {
 
 /* Whether the row's call isn't there in C. */
 static bool is_left_out(const char *line) {
-    return strncmp(line, "lines\t", 6) == 0 || strncmp(line, "wrap\t", 5) == 0 || strncmp(line, "link_at\t", 8) == 0;
+    return strncmp(line, "lines\t", 6) == 0 || strncmp(line, "link_at\t", 8) == 0;
 }
 
 int main(void) {
@@ -201,7 +258,9 @@ int main(void) {
             continue;
         }
         struct row r = row_of(line);
-        if (!is_told(&r)) {
+        if (strcmp(r.call, "wrap") == 0) {
+            expect_lines(&r);
+        } else if (!is_told(&r)) {
             expect_writes(&r);
         }
         rows++;

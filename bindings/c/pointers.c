@@ -145,6 +145,11 @@ ansi_str_answers ansi_str_raw_split(TEXT, PATTERN, BUFFER, size_t *ends, size_t 
     return EXPECT_TEXT, EXPECT_PATTERN, EXPECT_BUFFER, ANSWERS;
 }
 
+ansi_str_answers ansi_str_raw_wrap(TEXT, size_t i, BUFFER, size_t *ends, size_t ends_len) {
+    expect_pointer(__func__, "the ends", ends, ends_given, ends_len, NUMBER(6));
+    return EXPECT_TEXT, EXPECT_ONE, EXPECT_BUFFER, ANSWERS;
+}
+
 /* The edits of which one call is made, and what each takes: two numbers and a pattern. */
 enum { EDITS = 7 };
 static ansi_str_edit_step edits_given[EDITS];
@@ -204,6 +209,7 @@ static void call_each(void) {
     ansi_str_style_start(&style_numbers, GIVE_BUFFER);
     ansi_str_style_end(&style_numbers, GIVE_BUFFER);
     ansi_str_split(GIVE_TEXT, GIVE_PATTERN, GIVE_BUFFER, GIVEN(ends_given), NUMBER(6));
+    ansi_str_wrap(GIVE_TEXT, NUMBER(4), GIVE_BUFFER, GIVEN(ends_given), NUMBER(6));
     ansi_str_edit(GIVE_TEXT, NULL, NUMBER(6), GIVE_BUFFER);
     ansi_str_edit(GIVE_TEXT, edits_given, EDITS, GIVE_BUFFER);
 }

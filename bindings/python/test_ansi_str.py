@@ -119,6 +119,8 @@ class Rows(unittest.TestCase):
                     self.assertEqual(ansi_str.fitting(text, int(width)), in_characters(ansi_str.strip(text), int(want)), line)
                 elif call == "front":
                     self.assertEqual(ansi_str.cut(text, 0, ansi_str.fitting(text, int(width))), want, line)
+                elif call == "wrap":
+                    self.assertEqual(" ".join("[" + shown + "]" for shown in ansi_str.wrap(text, int(width))), want, line)
                 elif call == "truncate":
                     self.assertEqual(ansi_str.truncate(text, int(width), word), want, line)
                 elif call == "pad":
@@ -126,7 +128,7 @@ class Rows(unittest.TestCase):
                 else:
                     continue
                 passed += 1
-        self.assertGreater(passed, 60)
+        self.assertGreater(passed, 85)
 
     def test_positions_count_characters(self):
         self.assertEqual(ansi_str.cut("\x1b[1méa\x1b[0m", 1), "\x1b[1ma\x1b[0m")
@@ -137,7 +139,7 @@ class Rows(unittest.TestCase):
 
 # each call that takes a text, and what stands for its other arguments
 CALLS = {"strip": [], "cut": [0], "left": [0], "right": [0], "part": [",", 0], "strip_prefix": [""], "strip_suffix": [""],
-         "trim": [], "width": [], "fitting": [1], "truncate": [1], "pad": [1], "find": [""], "starts_with": [""], "ends_with": [""], "has_any": [], "is_whole": [], "split": [","],
+         "trim": [], "width": [], "fitting": [1], "truncate": [1], "pad": [1], "wrap": [1], "find": [""], "starts_with": [""], "ends_with": [""], "has_any": [], "is_whole": [], "split": [","],
          "iter_split": [","], "blocks": [], "iter_blocks": [], "edit": [[]]}
 PATTERNED = ["part", "strip_prefix", "strip_suffix", "find", "starts_with", "ends_with", "split", "iter_split"]
 HUGE = [2**31, 2**63 - 1, 2**63, 2**64 - 1, 2**64, 2**64 + 1, 2**200]
@@ -181,7 +183,7 @@ class Arguments(unittest.TestCase):
                 # (also after an edit that is refused)
                 self.refused(kind, "end " + words, ansi_str.edit, text, [ansi_str.Prefix("z"), ansi_str.Cut(0, wrong)])
                 self.refused(kind, "index " + words, ansi_str.part, text, ",", wrong)
-                for call in (ansi_str.fitting, ansi_str.truncate, ansi_str.pad):
+                for call in (ansi_str.fitting, ansi_str.truncate, ansi_str.pad, ansi_str.wrap):
                     self.refused(kind, "width " + words, call, text, wrong)
                 self.refused(kind, "index " + words, ansi_str.edit, text, [ansi_str.Part(",", wrong)])
                 for name, step in (("left", ansi_str.Left), ("right", ansi_str.Right)):
@@ -203,6 +205,7 @@ class Arguments(unittest.TestCase):
                     self.assertEqual(ansi_str.strip(ansi_str.right(text, huge)), "")
                     self.assertEqual(ansi_str.fitting(text, huge), len(plain))
                     self.assertEqual(ansi_str.strip(ansi_str.truncate(text, huge)), plain)
+                    self.assertEqual("".join(ansi_str.wrap(text, huge)), "".join(ansi_str.wrap(text, 9)))
                     with self.assertRaises(MemoryError):
                         ansi_str.pad(text, max(huge, 2**62))
                     self.assertIsNone(ansi_str.part(text, ",", huge))

@@ -26,6 +26,7 @@ def calls():
         for steps in [(step,) for step in STEPS] + [(), tuple(STEPS[:1] + STEPS[2:3] + STEPS[6:])]:
             yield lambda: _library.edit(data, is_ascii, steps)
         yield lambda: _library.strip(data)
+        yield lambda: _library.wrap(data, 4)
         for what in WHAT:
             yield lambda: _library.tell(what, data, is_ascii, b"o", 3)
         for pattern in (b"", b",", b"fox"):

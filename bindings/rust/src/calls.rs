@@ -26,6 +26,14 @@ struct Answer {
 }
 
 #[repr(C)]
+#[derive(Clone, Copy)]
+struct Answers {
+    status: u32,
+    count: usize,
+    len: usize,
+}
+
+#[repr(C)]
 #[derive(Debug, Clone, Copy)]
 pub(crate) struct RawColor {
     kind: u32,
@@ -194,6 +202,15 @@ extern "C" {
         b: Room,
         m: usize,
     ) -> Answer;
+    fn ansi_str_raw_wrap(
+        t: Bytes,
+        n: usize,
+        width: usize,
+        b: Room,
+        m: usize,
+        ends: *mut usize,
+        k: usize,
+    ) -> Answers;
     fn ansi_str_raw_style_start(style: *const Numbers, b: Room, m: usize) -> Answer;
     fn ansi_str_raw_style_end(style: *const Numbers, b: Room, m: usize) -> Answer;
 }
@@ -400,6 +417,27 @@ pub(crate) fn pad(text: &str, width: usize, alignment: u32) -> String {
     always(written(text.len() + LONGEST_CLOSE, |b, m| unsafe {
         ansi_str_raw_pad(text.as_ptr(), text.len(), width, alignment, b, m)
     }))
+}
+
+/// The lines of a text one after the other, and where each ends.
+pub(crate) fn wrap(text: &str, width: usize) -> (String, Vec<usize>) {
+    // (there is at most one line more than the text has bytes)
+    let mut ends = Vec::with_capacity(text.len() + 1);
+    let lines = written(text.len() + LONGEST_START_AND_CLOSE, |b, m| {
+        let (t, n, free) = (text.as_ptr(), text.len(), ends.spare_capacity_mut());
+        // SAFETY: and the ends are given by the pointer and the length of a vector's spare room, of which so many are then set
+        unsafe {
+            let answer = ansi_str_raw_wrap(t, n, width, b, m, free.as_mut_ptr().cast(), free.len());
+            if answer.status == OK {
+                ends.set_len(answer.count);
+            }
+            Answer {
+                status: answer.status,
+                len: answer.len,
+            }
+        }
+    });
+    (always(lines), ends)
 }
 
 /// The parts that are left of a text.

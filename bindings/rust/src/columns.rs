@@ -1,10 +1,12 @@
-//! Columns of a terminal: how wide a text is shown, up to where it fits, and the text cut or filled up.
+//! Columns of a terminal: how wide a text is shown, up to where it fits, and the text cut, filled up or wrapped.
 //!
 //! The columns of a text are those of the extended grapheme clusters of its plain text, added up (UAX #29, UAX #11): also those of
 //! a text without ESC, which std can't tell. Positions count bytes of the plain text.
 
 use crate::{calls, AnsiStr};
 use std::borrow::Cow;
+use std::iter::FusedIterator;
+use std::vec;
 
 /// Where a text stands among the blanks that fill it up.
 ///
@@ -66,7 +68,46 @@ pub trait AnsiColumns: AnsiStr {
     /// ```
     #[must_use]
     fn ansi_pad(&self, width: usize, alignment: Alignment) -> Cow<'_, str>;
+
+    /// The lines of the text at a width, as they are shown. A line ends at a line end and where the next word doesn't fit, and
+    /// loses the blanks at its end; a word that is too wide is broken where a cluster ends. A width of 0 is as 1. What a line
+    /// leaves open is ended at its end, its link (OSC 8) and then its style, and opened at the beginning of the next.
+    ///
+    /// ```
+    /// use ansi_str::columns::AnsiColumns;
+    /// let lines: Vec<String> = "\x1b[31mlion tiger".ansi_wrap(5).collect();
+    /// assert_eq!(lines, ["\x1b[31mlion\x1b[39m", "\x1b[31mtiger\x1b[39m"]);
+    /// ```
+    #[must_use]
+    fn ansi_wrap(&self, width: usize) -> AnsiWrap;
 }
+
+/// The lines of a wrapped text, which [`AnsiColumns::ansi_wrap`] gives. The call makes all of them; the text isn't kept.
+#[derive(Debug, Clone)]
+pub struct AnsiWrap {
+    lines: String,
+    /// Where the next line begins, and where it and those after it end.
+    start: usize,
+    ends: vec::IntoIter<usize>,
+}
+
+impl Iterator for AnsiWrap {
+    type Item = String;
+
+    fn next(&mut self) -> Option<String> {
+        let end = self.ends.next()?;
+        let line = self.lines[self.start..end].to_owned();
+        self.start = end;
+        Some(line)
+    }
+
+    fn size_hint(&self) -> (usize, Option<usize>) {
+        self.ends.size_hint()
+    }
+}
+
+impl ExactSizeIterator for AnsiWrap {}
+impl FusedIterator for AnsiWrap {}
 
 impl<T: AsRef<str> + ?Sized> AnsiColumns for T {
     fn ansi_width(&self) -> usize {
@@ -85,6 +126,15 @@ impl<T: AsRef<str> + ?Sized> AnsiColumns for T {
     fn ansi_pad(&self, width: usize, alignment: Alignment) -> Cow<'_, str> {
         let text = self.as_ref();
         front_or_owned(text, calls::pad(text, width, alignment as u32))
+    }
+
+    fn ansi_wrap(&self, width: usize) -> AnsiWrap {
+        let (lines, ends) = calls::wrap(self.as_ref(), width);
+        AnsiWrap {
+            lines,
+            start: 0,
+            ends: ends.into_iter(),
+        }
     }
 }
 

@@ -37,6 +37,10 @@ fn pass(row: &str) -> bool {
         "width" => assert_eq!(text.ansi_width().to_string(), answer, "{row}"),
         "fitting" => assert_eq!(text.ansi_fitting(width()).to_string(), answer, "{row}"),
         "front" => assert_eq!(text.ansi_cut(..text.ansi_fitting(width())), answer, "{row}"),
+        "wrap" => {
+            let lines = text.ansi_wrap(width()).map(|line| format!("[{line}]"));
+            assert_eq!(lines.collect::<Vec<_>>().join(" "), answer, "{row}");
+        }
         "truncate" => assert_eq!(text.ansi_truncate(width(), word), answer, "{row}"),
         "pad" => {
             let alignment = match word {
@@ -57,7 +61,7 @@ fn rows_pass() {
         .lines()
         .filter(|row| !row.is_empty() && !row.starts_with('#'));
     let passed = rows.filter(|row| pass(row)).count();
-    assert!(passed >= 60, "only {passed} rows were tried");
+    assert!(passed >= 85, "only {passed} rows were tried");
 }
 
 #[test]

@@ -1,4 +1,5 @@
 pub mod Utf8Lemmas
 pub mod StepLemmas
+pub mod GivenLemmas
 pub mod ListLemmas
 mod StyleExamples

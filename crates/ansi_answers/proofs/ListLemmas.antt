@@ -1,20 +1,15 @@
--- Texts that are joined in turn or written where they belong, and an entry for each; the parts and the block of a text without ESC.
-use Rattle.std.proofs.Common.{◌≡◌, ◌∙◌, ℕ, ◌+◌, ◌≤◌, ◌==◌, List, [], ◌∷◌, ◌++◌, length, take, drop, Some, Result, Ok, Err, refl, sym, ap, ap₂, subst, arith, append_assoc, append-nil, length-append, length-take, length-drop, ◌-◌, slice_range, true, false, IsTrue, if◌then◌else◌}
-use Rattle.std.specs.Prelude.{flat_map, IsFalse, IsOk}
-use Rattle.std.specs.List.{list_all}
-use Rattle.std.proofs.lemmas.Bool.{and_parts, ne_eqb}
-use Rattle.std.proofs.lemmas.List.{take-append-drop, length-take-le, length-map}
-use Rattle.std.proofs.lemmas.Slice.{drop-append-drop}
+-- Texts that are joined in turn, and an entry for each; the parts and the block of a text without ESC.
+use Rattle.std.proofs.Common.{◌≡◌, ◌∙◌, ℕ, ◌+◌, ◌≤◌, ◌==◌, List, [], ◌∷◌, ◌++◌, length, drop, Some, Result, Ok, refl, sym, ap, subst, arith, append_assoc, append-nil, length-append, length-take, length-drop, ◌-◌, slice_range, true, false, if◌then◌else◌}
+use Rattle.std.specs.Prelude.{flat_map, IsFalse}
+use Rattle.std.proofs.lemmas.Bool.{ne_eqb}
+use Rattle.std.proofs.lemmas.List.{length-map}
 use Rattle.ansi_items.proofs.PlainLemmas.{pieces_of-bare, one_text}
 use Rattle.ansi_blocks.proofs.BlockLemmas.{blocks_from-walked, blocks_through}
 use Rattle.ansi_str.specs.Plain.{has_escape}
 use Rattle.ansi_str.specs.Rendition.{plain_style}
 use Rattle.ansi_str.specs.StdSplit.{AreInTurn, slices_over}
-use Rattle.std.proofs.Math.Seq.{take-append_seam, drop-append_seam, take-append-add, drop-append-add}
-use Rattle.std.specs.declared.borrow.CowStr.{CowStr}
 use Rattle.std.proofs.lemmas.List.Concat.{flat_map-cons}
 use Rattle.ansi_str.specs.Blocks.{Block, GivesBlock, blocks}
-use Rattle.ansi_str.specs.Splits.{SplitPart, IsPart, GivesPart}
 use Rattle.ansi_str.specs.Parts.{parts, all_parts}
 use Rattle.ansi_answers.specs.declared.lists.ListAnswer.{ListAnswer}
 use Rattle.ansi_answers.specs.Lists.{entries_of, AreWritten}
@@ -22,11 +17,6 @@ use Rattle.ansi_answers.specs.Lists.{entries_of, AreWritten}
 -- a block was taken off those that were left
 pub block-taken : {E : Type 0} {xs us : List Block} {r : Result Block E} {x : Block} → GivesBlock xs (Some r) us → r ≡ Ok x → xs ≡ x ∷ us
 block-taken {E} {xs} {us} gives is = subst (λ r. GivesBlock {E = E} xs (Some r) us) is gives
-
--- a part was taken off those that were left
-pub part-taken : {A E : Type 0} {xs us : List SplitPart} {r : Result (CowStr A) E} {c : CowStr A} → GivesPart xs (Some r) us → r ≡ Ok c
-    → (p : SplitPart) × (xs ≡ p ∷ us) × IsPart p c
-part-taken {A} {E} {xs} {us} gives is = subst (λ r. GivesPart {A = A} {E = E} xs (Some r) us) is gives
 
 -- one more text is joined
 pub texts-more : {X : Type 0} (text : X → List ℕ) (so_far after added all : List ℕ) (x : X) (left next : List X)
@@ -54,35 +44,6 @@ entries-more text entry so_far after entries more_entries all e x left next is e
 pub around-more : (so_far a b after before text end : List ℕ) → a ≡ so_far ++ before → b ≡ a ++ text → after ≡ b ++ end → after ≡ so_far ++ (before ++ text ++ end)
 around-more so_far a b after before text end begun more ended =
     ended ∙ ap (λ u. u ++ end) (more ∙ ap (λ u. u ++ text) begun ∙ append_assoc so_far before text) ∙ append_assoc so_far (before ++ text) end
-
--- Texts that are written where they belong.
-
-pub borrowed-rest : {xs us : List SplitPart} {p : SplitPart} → xs ≡ p ∷ us → IsTrue (list_all (λ (p : SplitPart). p.borrowed) xs) → IsTrue (list_all (λ (p : SplitPart). p.borrowed) us)
-borrowed-rest {xs} {us} {p} is all = (and_parts p.borrowed (list_all (λ (p : SplitPart). p.borrowed) us) (subst (λ ps. IsTrue (list_all (λ (p : SplitPart). p.borrowed) ps)) is all)).1
-
--- one item more stands in its place, and what follows it is left
-pub placed-more : {T : Type 0} (all old now after : List T) (n : ℕ) (x next : List T) → now ≡ take n all ++ drop n old → drop n all ≡ x ++ next → n ≤ length all
-    → after ≡ take n now ++ x ++ drop (n + length x) now → after ≡ take (n + length x) all ++ drop (n + length x) old
-placed-more all old now after n x next is rest inside more =
-    let d = take n all in
-    let size : length d ≡ n = length-take-le n all inside in
-    let front : take n now ≡ d = ap (take n) is ∙ ap (λ k. take k (d ++ drop n old)) (sym size) ∙ take-append_seam d (drop n old) in
-    let back : drop (n + length x) now ≡ drop (n + length x) old = ap (drop (n + length x)) is ∙ drop-append-drop n old d (n + length x) (omega arith) size in
-    let taken : take (n + length x) all ≡ d ++ x =
-    ap (take (n + length x)) (sym (take-append-drop n all) ∙ ap (λ u. d ++ u) rest) ∙ ap (λ k. take (k + length x) (d ++ (x ++ next))) (sym size)
-    ∙ take-append-add d (x ++ next) (length x) ∙ ap (λ u. d ++ u) (take-append_seam x next) in
-    more ∙ ap₂ (λ u v. u ++ x ++ v) front back ∙ ap (λ u. u ++ drop (n + length x) old) (sym taken)
-
-pub left-more : {T : Type 0} (all : List T) (n : ℕ) (x next : List T) → drop n all ≡ x ++ next → n ≤ length all → drop (n + length x) all ≡ next
-left-more all n x next rest inside =
-    let d = take n all in
-    let size : length d ≡ n = length-take-le n all inside in
-    ap (drop (n + length x)) (sym (take-append-drop n all) ∙ ap (λ u. d ++ u) rest) ∙ ap (λ k. drop (k + length x) (d ++ (x ++ next))) (sym size)
-    ∙ drop-append-add d (x ++ next) (length x) ∙ drop-append_seam x next
-
--- and ends within the whole
-pub left-within : {T : Type 0} (all : List T) (n : ℕ) (x next : List T) → drop n all ≡ x ++ next → n ≤ length all → n + length x ≤ length all
-left-within all n x next rest inside = omega (arith, inside, ap length rest, length-drop n all, length-append x next)
 
 -- there is an entry for each
 pub length-entries : {X Y : Type 0} (text : X → List ℕ) (entry : ℕ → ℕ → X → Y) (n : ℕ) (xs : List X) → length (entries_of text entry n xs) ≡ length xs

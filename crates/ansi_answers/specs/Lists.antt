@@ -1,5 +1,7 @@
 -- Several texts in one buffer, and an entry for each in another.
-use Rattle.std.specs.Prelude.{◌≡◌, ◌⊎◌, ◌<◌, ◌≤◌, ◌+◌, ℕ, Bool, List, [], ◌∷◌, ◌++◌, drop, length, IsTrue}
+use Rattle.std.specs.Prelude.{◌≡◌, ◌⊎◌, ◌<◌, ◌≤◌, ◌+◌, ℕ, Bool, List, [], ◌∷◌, ◌++◌, drop, length, flat_map, Result, Ok, Err, IsTrue}
+use Rattle.std.specs.Cow.{cow_str_bytes}
+use Rattle.std.specs.declared.borrow.CowStr.{CowStr}
 use Rattle.ansi_str.specs.Blocks.{Block}
 use Rattle.ansi_answers.specs.declared.lists.ListAnswer.{ListAnswer}
 use Rattle.ansi_str.specs.Written.{start, close_if_any}
@@ -51,6 +53,18 @@ AreWritten bytes entries answer old new old_entries new_entries =
     ⊎ (((length old < length bytes) ⊎ (length old_entries < length entries))
     × (answer ≡ record { status = too_small; count = length entries; len = length bytes })
     × (new ≡ old) × (new_entries ≡ old_entries))
+
+-- the bytes of a text that an iterator gives, and none of an error
+abbrev pub given_bytes : {A E : Type 0} → Result (CowStr A) E → List ℕ
+given_bytes (Ok text) = cow_str_bytes text
+given_bytes (Err e) = []
+
+-- texts are counted, with their length together, and written one after the other where there is room for them; and their ends where there is room for these
+abbrev pub AreCopied : List (List ℕ) → ℕ × ℕ → List ℕ → List ℕ → List ℕ → List ℕ → Type 0
+AreCopied texts answer old new old_ends new_ends =
+    (answer.0 ≡ length texts) × (answer.1 ≡ length (flat_map (λ t. t) texts))
+    × (length (flat_map (λ t. t) texts) ≤ length old → new ≡ flat_map (λ t. t) texts ++ drop (length (flat_map (λ t. t) texts)) old)
+    × (length texts ≤ length old_ends → new_ends ≡ ends_from 0 texts ++ drop (length texts) old_ends)
 
 -- a call gives all texts; or memory has run out, where the call takes any
 abbrev pub GivesAll : {T : Type 0} → Bool → List ℕ → List T → ListAnswer → List ℕ → List ℕ → List T → List T → Type 0

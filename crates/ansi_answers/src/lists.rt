@@ -1,16 +1,20 @@
 //! Several texts and an entry for each: all parts, and all blocks.
-ghost use Rattle.std.specs.Prelude.{◌≡◌, ◌⊎◌, ◌≤◌, ◌<◌, ◌+◌, ◌^◌, ◌==◌, ◌∷◌, [], ◌++◌, length, take, drop, flat_map, if◌then◌else◌, IsFalse, IfNone, IfSome, IfOk, OnOk, MatchResult, string_bytes};
+ghost use Rattle.std.specs.Prelude.{◌≡◌, ◌⊎◌, ◌≤◌, ◌<◌, ◌+◌, ◌^◌, ◌==◌, ◌∷◌, [], ◌++◌, ℕ, List, length, take, drop, map, flat_map, if◌then◌else◌, IsFalse, IfNone, IfSome, Result, IsOk, IfOk, OnOk, MatchResult, All, string_bytes};
+ghost use Rattle.std.specs.Iterator.{IsFinite, Drains, HoldsAlong};
+ghost use Rattle.std.specs.declared.alloc.AllocError.{AllocError};
+ghost use Rattle.std.specs.declared.borrow.CowStr.{CowStr};
 ghost use Rattle.ansi_str.specs.Plain.{has_escape};
 ghost use Rattle.ansi_str.specs.Parts.{all_parts};
 ghost use Rattle.ansi_str.specs.Blocks.{blocks};
 ghost use Rattle.ansi_answers.specs.Answers.{out_of_memory};
-ghost use Rattle.ansi_answers.specs.Lists.{none, ends_from, entries_from, styled_text, styled_entries_from, AreWritten, HaveFailed};
+ghost use Rattle.ansi_answers.specs.Lists.{none, ends_from, entries_from, styled_text, styled_entries_from, given_bytes, AreCopied, AreWritten, HaveFailed};
 
 use crate::answers::{OK, OUT_OF_MEMORY, TOO_SMALL};
 use crate::styles::StyleData;
 use ansi_str::split::split_in;
 use ansi_str::{AnsiBlock, get_blocks, laws};
 use std::alloc::{AllocError, Allocator};
+use std::borrow::CowStr;
 use std::fmt::Write;
 
 /// What a call answers that gives several texts: a status, how many they are, and their length
@@ -119,17 +123,29 @@ fn copy_bare_parts<A: Allocator + Copy>(
     ends: &mut [usize],
 ) -> (usize, usize)
     requires { IsFalse (has_escape text.now) }
-    ensures count { result.0 ≡ length (all_parts text.now pat.now) }
-    ensures len { result.1 ≡ length (flat_map (λ p. p) (all_parts text.now pat.now)) }
-    ensures bytes { length (flat_map (λ p. p) (all_parts text.now pat.now)) ≤ length buffer.old → buffer.new ≡ flat_map (λ p. p) (all_parts text.now pat.now) ++ drop (length (flat_map (λ p. p) (all_parts text.now pat.now))) buffer.old }
-    ensures ends { length (all_parts text.now pat.now) ≤ length ends.old → ends.new ≡ ends_from 0 (all_parts text.now pat.now) ++ drop (length (all_parts text.now pat.now)) ends.old }
+    ensures { AreCopied (all_parts text.now pat.now) result buffer.old buffer.new ends.old ends.new }
 {
     laws::bare_texts_are_std();
     laws::parts_lie_between_matches();
+    copy_texts(split_in(alloc, text, pat), buffer, ends)
+}
+
+/// Writes texts that an iterator gives, none of which takes memory, and where each ends, as far as there is
+/// room, and gives how many they are and their length together.
+pub fn copy_texts<'t, A: Allocator, I: Iterator<Item = Result<CowStr<'t, A>, AllocError>> + Drop>(
+    given: I,
+    buffer: &mut [u8],
+    ends: &mut [usize],
+) -> (usize, usize)
+    requires can { I.can_next given }
+    requires ends { IsFinite (I.remaining given) }
+    requires fits { HoldsAlong I.next_gives given (λ xs. All IsOk xs × (length (flat_map (λ t. t) (map given_bytes xs)) < 2 ^ 64) × (length xs < 2 ^ 64)) }
+    ensures { (xs : List (Result (CowStr A) AllocError)) × Drains I.next_gives given xs × AreCopied (map given_bytes xs) result buffer.old buffer.new ends.old ends.new }
+{
     let mut count = 0;
     let mut len = 0;
-    for part in split_in(alloc, text, pat) {
-        len = put(part.unwrap().as_bytes(), len, buffer);
+    for text in given {
+        len = put(text.unwrap().as_bytes(), len, buffer);
         count = put(&[len], count, ends);
     }
     (count, len)
@@ -171,22 +187,36 @@ pub fn join_parts<A: Allocator + Copy>(
     ensures texts { IfOk result (λ joined. string_bytes joined.0 ≡ flat_map (λ p. p) (all_parts text.now pat.now)) }
     ensures ends { IfOk result (λ joined. joined.1.items ≡ ends_from 0 (all_parts text.now pat.now)) }
 {
+    join_texts(alloc, split_in(alloc, text, pat))
+}
+
+/// Texts that an iterator gives, one after the other, and where each ends.
+pub fn join_texts<
+    't,
+    A: Allocator + Copy,
+    I: Iterator<Item = Result<CowStr<'t, A>, AllocError>> + Drop,
+>(alloc: A, given: I) -> Result<(String<A>, Vec<usize, A>), AllocError>
+    requires can { I.can_next given }
+    requires ends { IsFinite (I.remaining given) }
+    ensures { IfOk result (λ joined. (xs : List (Result (CowStr A) AllocError)) × Drains I.next_gives given xs × All IsOk xs
+        × (string_bytes joined.0 ≡ flat_map (λ t. t) (map given_bytes xs)) × (joined.1.items ≡ ends_from 0 (map given_bytes xs))) }
+{
     let mut texts = String::new(alloc);
     let mut ends = Vec::new(alloc);
-    for part in split_in(alloc, text, pat) {
-        let part = part?;
-        let end = push_part(&mut texts, part.as_str())?;
+    for text in given {
+        let text = text?;
+        let end = push_text(&mut texts, text.as_str())?;
         ends.push(end)?;
     }
     Ok((texts, ends))
 }
 
-/// Adds a part to texts, and gives where it ends.
-fn push_part<A: Allocator>(texts: &mut String<A>, part: &str) -> Result<usize, AllocError>
-    ensures bytes { OnOk result (string_bytes texts.new ≡ string_bytes texts.old ++ part.now) }
+/// Adds a text to texts, and gives where it ends.
+fn push_text<A: Allocator>(texts: &mut String<A>, text: &str) -> Result<usize, AllocError>
+    ensures bytes { OnOk result (string_bytes texts.new ≡ string_bytes texts.old ++ text.now) }
     ensures end { IfOk result (λ end. end ≡ length (string_bytes texts.new)) }
 {
-    texts.push_str(part)?;
+    texts.push_str(text)?;
     Ok(texts.len())
 }
 

@@ -8,7 +8,7 @@ ghost use Rattle.ansi_columns_answers.specs.Columns.{alignment_of, TellsWidth, T
 use ansi_answers::answers::{Answer, OUT_OF_MEMORY, REFUSED, write};
 use ansi_columns::shown::Alignment;
 use ansi_columns::{columns, shown};
-use std::alloc::{AllocError, Global};
+use std::alloc::{AllocError, Allocator};
 use std::borrow::CowStr;
 
 const LEFT: u32 = 0;
@@ -33,7 +33,13 @@ pub fn fitting(text: &str, width: usize) -> Answer
 
 /// Writes the text cut to so many columns.
 #[tactic(auto, unfolding(crate::specs::Columns::GivesTruncated))]
-pub fn truncate(alloc: Global, text: &str, width: usize, tail: &str, buffer: &mut [u8]) -> Answer
+pub fn truncate<A: Allocator>(
+    alloc: A,
+    text: &str,
+    width: usize,
+    tail: &str,
+    buffer: &mut [u8],
+) -> Answer
     ensures { GivesTruncated text.now width tail.now result buffer.old buffer.new }
 {
     write_shown(shown::truncate(alloc, text, width, tail), buffer)
@@ -41,7 +47,13 @@ pub fn truncate(alloc: Global, text: &str, width: usize, tail: &str, buffer: &mu
 
 /// Writes the text filled up to so many columns, or answers that there is no such alignment.
 #[tactic(auto, unfolding(crate::specs::Columns::GivesPadded))]
-pub fn pad(alloc: Global, text: &str, width: usize, alignment: u32, buffer: &mut [u8]) -> Answer
+pub fn pad<A: Allocator>(
+    alloc: A,
+    text: &str,
+    width: usize,
+    alignment: u32,
+    buffer: &mut [u8],
+) -> Answer
     ensures { GivesPadded text.now width (alignment_of alignment) result buffer.old buffer.new }
 {
     match alignment_of(alignment) {
@@ -63,7 +75,7 @@ fn alignment_of(number: u32) -> Option<Alignment>
 }
 
 /// Writes a text that is cut or filled up, or answers that memory has run out.
-fn write_shown(shown: Result<CowStr<'_>, AllocError>, buffer: &mut [u8]) -> Answer
+fn write_shown<A: Allocator>(shown: Result<CowStr<'_, A>, AllocError>, buffer: &mut [u8]) -> Answer
     ensures { MatchResult shown.entry
         (λ text. IsWritten (cow_str_bytes text) result buffer.old buffer.new)
         (λ e. HasFailed out_of_memory result buffer.old buffer.new) }

@@ -298,6 +298,8 @@ ansi_str_answer ansi_str_raw_truncate(const uint8_t *text, size_t text_len, size
                                       size_t tail_len, uint8_t *buffer, size_t buffer_len);
 ansi_str_answer ansi_str_raw_pad(const uint8_t *text, size_t text_len, size_t width, uint32_t alignment,
                                  uint8_t *buffer, size_t buffer_len);
+ansi_str_answers ansi_str_raw_wrap(const uint8_t *text, size_t text_len, size_t width, uint8_t *buffer, size_t buffer_len,
+                                   size_t *ends, size_t ends_len);
 
 /* The same for a caller who promises that each text and each pattern is UTF-8, as one has it by its type: they aren't
    looked at. Of any other bytes nothing is said, and anything may be done. */
@@ -656,6 +658,19 @@ static inline ansi_str_answer ansi_str_truncate(const char *text, size_t text_le
 static inline ansi_str_answer ansi_str_pad(const char *text, size_t text_len, size_t width, uint32_t alignment,
                                            char *buffer, size_t buffer_len) {
     return ansi_str_raw_pad(ansi_str_bytes(text), text_len, width, alignment, ansi_str_room(buffer), buffer_len);
+}
+
+/* The lines of the text at a width, as they are shown. They stand in the buffer as the parts of ansi_str_split do: line i ends at
+   ends[i]. A line ends at "\n" or "\r\n" and where the next word doesn't fit, and loses the blanks at its end; a word that is too
+   wide is broken where a cluster ends. A width of 0 is as 1. What a line leaves open is ended at its end, its link (OSC 8) and then
+   its style, and opened at the beginning of the next. There is at most one line more than the plain text has bytes.
+   ANSI_STR_TOO_SMALL: the buffer or `ends` is too small, and the answer says how many bytes and how many lines there are.
+   "\x1b[31mlion tiger" in 5 columns gives "\x1b[31mlion\x1b[39m" and "\x1b[31mtiger\x1b[39m". */
+static inline ansi_str_answers ansi_str_wrap(const char *text, size_t text_len, size_t width, char *buffer, size_t buffer_len,
+                                             size_t *ends, size_t ends_len) {
+    size_t none;
+    return ansi_str_raw_wrap(ansi_str_bytes(text), text_len, width, ansi_str_room(buffer), buffer_len,
+                             ends == NULL ? &none : ends, ends_len);
 }
 
 #ifdef __cplusplus

@@ -2,10 +2,13 @@
 ghost use Rattle.std.specs.Prelude.{◌≡◌, ◌∷◌, []};
 ghost use Rattle.ansi_str.specs.Plain.{plain};
 ghost use Rattle.ansi_answers.specs.Answers.{not_utf8, failed, OnUtf8, HasFailed};
-ghost use Rattle.ansi_columns_answers.specs.Columns.{alignment_of, TellsWidth, TellsFitting, GivesTruncated, GivesPadded};
+ghost use Rattle.ansi_answers.specs.Lists.{HaveFailed};
+ghost use Rattle.ansi_columns_answers.specs.Columns.{alignment_of, TellsWidth, TellsFitting, GivesTruncated, GivesPadded, GivesWrapped};
 
 use ansi_answers::answers::{Answer, NOT_UTF8};
+use ansi_answers::lists::ListAnswer;
 use ansi_columns_answers::columns::{fitting, pad, truncate, width};
+use ansi_columns_answers::lines::wrap;
 use simdutf8::basic::from_utf8;
 use std::alloc::Global;
 
@@ -69,5 +72,24 @@ pub extern "C" fn ansi_str_raw_pad(
     match from_utf8(text) {
         Ok(text) => pad(alloc, text, width, alignment, buffer),
         Err(_) => Answer::failed(NOT_UTF8),
+    }
+}
+
+/// The lines of the text at a width as they are shown, and where each ends.
+#[unsafe(no_mangle)]
+pub extern "C" fn ansi_str_raw_wrap(
+    alloc: Global,
+    text: &[u8],
+    width: usize,
+    buffer: &mut [u8],
+    ends: &mut [usize],
+) -> ListAnswer
+    ensures { OnUtf8 (text.now ∷ [])
+        (GivesWrapped text.now width result buffer.old buffer.new ends.old ends.new)
+        (HaveFailed not_utf8 result buffer.old buffer.new ends.old ends.new) }
+{
+    match from_utf8(text) {
+        Ok(text) => wrap(alloc, text, width, buffer, ends),
+        Err(_) => ListAnswer::failed(NOT_UTF8),
     }
 }

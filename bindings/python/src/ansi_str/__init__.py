@@ -26,7 +26,7 @@ from typing import Any, FrozenSet, Iterable, Iterator, List, NamedTuple, Optiona
 __version__ = "0.2.0"
 __all__ = [
     "strip", "cut", "left", "right", "part", "strip_prefix", "strip_suffix", "trim",
-    "width", "fitting", "truncate", "pad", "ALIGNMENTS",
+    "width", "fitting", "truncate", "pad", "wrap", "ALIGNMENTS",
     "find", "starts_with", "ends_with", "has_any", "is_whole",
     "split", "iter_split", "blocks", "iter_blocks", "Block", "Style", "ATTRIBUTES", "COLORS",
     "edit", "Edit", "Cut", "Left", "Right", "Part", "Prefix", "Suffix", "Trim",
@@ -268,6 +268,16 @@ def pad(text: str, width: int, alignment: str = "left") -> str:
         raise ValueError("alignment must be one of {}, not {!r}".format(", ".join(ALIGNMENTS), alignment))
     step = _PAD, _position("width", width), ALIGNMENTS.index(alignment), b""
     return _edited(text, step)  # type: ignore[no-any-return]
+
+
+def wrap(text: str, width: int) -> List[str]:
+    """The lines of the text at a width, as they are shown: what a line leaves open is ended at its end, and opened at the
+    beginning of the next. A line ends where the next word doesn't fit; a word that is too wide is broken. A width of 0 is as 1.
+
+    >>> wrap("\\x1b[31mlion tiger", 5)
+    ['\\x1b[31mlion\\x1b[39m', '\\x1b[31mtiger\\x1b[39m']
+    """
+    return _library.wrap(_utf8("text", text), _position("width", width))  # type: ignore[no-any-return]
 
 
 class Cut(NamedTuple):

@@ -224,6 +224,61 @@ static PyObject *tell(PyObject *module, PyObject *words) {
     return position < 0 ? NULL : PyLong_FromSsize_t(position);
 }
 
+/* The lines that end there in a text, as a list. */
+static PyObject *list_of(const char *lines, const size_t *ends, size_t count) {
+    PyObject *list = PyList_New((Py_ssize_t)count);
+    size_t start = 0, at;
+    for (at = 0; list != NULL && at < count; at++) {
+        PyObject *line = decoded(lines + start, ends[at] - start);
+        start = ends[at];
+        if (line == NULL) {
+            Py_DECREF(list);
+            return NULL;
+        }
+        PyList_SetItem(list, (Py_ssize_t)at, line);
+    }
+    return list;
+}
+
+/* (text, width): its lines. */
+static PyObject *wrap(PyObject *module, PyObject *words) {
+    PyObject *given, *width, *list = NULL;
+    Text text;
+    size_t most, size, *ends;
+    char *room = NULL;
+    ansi_str_answers answer;
+    (void)module;
+    if (!PyArg_ParseTuple(words, "SO", &given, &width)) {
+        return NULL;
+    }
+    text = text_of(given);
+    most = (size_t)PyNumber_AsSsize_t(width, NULL);
+    size = text.size + ANSI_STR_LONGEST_START_AND_CLOSE;
+    /* (there is at most one line more than the text has bytes) */
+    ends = PyMem_Malloc((text.size + 1) * sizeof *ends);
+    do {
+        char *more = ends == NULL ? NULL : PyMem_Realloc(room, size);
+        PyThreadState *thread;
+        if (more == NULL) {
+            answer.status = ANSI_STR_OUT_OF_MEMORY;
+            break;
+        }
+        room = more;
+        thread = let_others_run(text.size);
+        answer = ansi_str_raw_wrap(text.bytes, text.size, most, (uint8_t *)room, size, ends, text.size + 1);
+        run_alone(thread);
+        size = answer.len;
+    } while (answer.status == ANSI_STR_TOO_SMALL);
+    if (answer.status == ANSI_STR_OK) {
+        list = list_of(room, ends, answer.count);
+    } else {
+        PyErr_NoMemory();
+    }
+    PyMem_Free(room);
+    PyMem_Free(ends);
+    return list;
+}
+
 /* A walk over the parts of a text, or over its blocks where there is no pattern, and room for what a step writes. */
 typedef struct {
     PyObject_HEAD
@@ -337,7 +392,8 @@ static PyObject *sequences(PyObject *module, PyObject *style) {
 
 static PyMethodDef calls[] = {
     {"edit", edit, METH_VARARGS, NULL}, {"tell", tell, METH_VARARGS, NULL},    {"walk", walk, METH_VARARGS, NULL},
-    {"strip", strip, METH_O, NULL},     {"sequences", sequences, METH_O, NULL}, {NULL, NULL, 0, NULL},
+    {"strip", strip, METH_O, NULL},     {"wrap", wrap, METH_VARARGS, NULL}, {"sequences", sequences, METH_O, NULL},
+    {NULL, NULL, 0, NULL},
 };
 
 static struct PyModuleDef definition = {PyModuleDef_HEAD_INIT, "_ansi_str", NULL, -1, calls, NULL, NULL, NULL, NULL};

@@ -1,28 +1,20 @@
-use Rattle.std.proofs.Common.{◌≡◌, ◌∙◌, ◌+◌, [], ◌∷◌, length, map, sym, ap, string_bytes}
-use Rattle.ansi_str.specs.Parts.{all_parts}
-use Rattle.ansi_str.specs.Splits.{SplitPart}
-use Rattle.ansi_answers.proofs.ListLemmas.{part-taken, texts-more, length-joined, entries-more}
+use Rattle.std.proofs.Common.{◌∙◌, ap}
+use Rattle.std.proofs.lemmas.Result.{IfOk-weaker}
+use Rattle.ansi_str.specs.Splits.{SplitPart, GivesPart}
+use Rattle.ansi_answers.specs.Lists.{ends_from}
+use Rattle.ansi_answers.proofs.GivenLemmas.{joined_texts, part-next, all-given}
 use Rattle.ansi_answers.proofs.lists.join_parts.Goals as goal
 
--- no text is joined yet, and all parts are left
-pub loop-part-init : goal.loop-part-init
-loop-part-init g c =
-    let left : map (λ (p : SplitPart). p.bytes) c.into_iter-part-iterator.result ≡ all_parts c.args.text.now c.args.pat.now =
-    ap (map (λ (p : SplitPart). p.bytes)) c.into_iter-part-iterator.ensures.into_iter_gives ∙ c.split_in-part-items.ensures.bytes in
-    record {
-      texts = rw (c.new-texts.ensures.bytes, left);
-      ends = rw (c.new-texts.ensures.bytes, c.new-ends.ensures.items, left);
-    }
+-- all parts are given
 
-pub loop-part-preserved-in_ok-push : goal.loop-part-preserved-in_ok-push
-loop-part-preserved-in_ok-push g c =
-    let taken = part-taken c.in-Some.ensures.steps c.in_ok-part.was in
-    let left = ap (map (λ (p : SplitPart). p.bytes)) taken.1 in
-    let bytes = c.as_str.ensures.value ∙ taken.2.0 in
-    let more = c.in_ok-end.ensures.bytes in
-    let ends = length-joined _ _ _ more ∙ ap (λ t. length (string_bytes c.loop-part.texts) + length t) bytes in
-    record {
-      texts = texts-more (λ t. t) _ _ _ _ taken.0.bytes _ (map (λ (p : SplitPart). p.bytes) c.next.new.self) left more bytes c.loop-part.invariant.texts;
-      ends = entries-more (λ t. t) (λ begin end t. end) _ _ _ _ _ _ taken.0.bytes _ (map (λ (p : SplitPart). p.bytes) c.next.new.self) left ends
-          c.in_ok-push.ensures.items (ap (λ n. n ∷ []) (sym (c.in_ok-end.ensures.end ∙ ends))) c.loop-part.invariant.ends;
-    }
+pub returns-clause-texts : goal.returns-clause-texts
+returns-clause-texts g c =
+    IfOk-weaker c.join_texts.result _ _
+    (λ joined given. given.3 ∙ ap joined_texts (all-given (λ (p : SplitPart). p.bytes) (λ (p : SplitPart). p.borrowed) GivesPart part-next c.split_in.result given.0 given.2 given.1 ∙ c.split_in.ensures.bytes))
+    c.join_texts.ensures
+
+pub returns-clause-ends : goal.returns-clause-ends
+returns-clause-ends g c =
+    IfOk-weaker c.join_texts.result _ _
+    (λ joined given. given.4 ∙ ap (ends_from 0) (all-given (λ (p : SplitPart). p.bytes) (λ (p : SplitPart). p.borrowed) GivesPart part-next c.split_in.result given.0 given.2 given.1 ∙ c.split_in.ensures.bytes))
+    c.join_texts.ensures

@@ -1,0 +1,110 @@
+//! The lines of a wrapped text, one after the other, and where each ends.
+ghost use Rattle.std.specs.Prelude.{◌≡◌, ◌⊎◌, ◌<◌, ◌≤◌, length, flat_map, IsFalse, IfNone, IfSome, IfOk, string_bytes};
+ghost use Rattle.ansi_items.specs.Plain.{has_escape};
+ghost use Rattle.ansi_answers.specs.Lists.{ends_from, AreCopied, AreWritten};
+ghost use Rattle.ansi_columns_answers.specs.Columns.{wrapped_lines, GivesWrapped};
+
+use ansi_answers::answers::{OK, TOO_SMALL};
+use ansi_answers::lists::{ListAnswer, copy_texts, join_texts, write_joined};
+use ansi_columns::laws;
+use ansi_columns::wrap::wrap as wrapped;
+use ansi_str::AnsiStr;
+use std::alloc::{AllocError, Allocator};
+
+/// Writes the lines of a text at a width as they are shown, and where each ends.
+#[tactic(auto, unfolding(crate::specs::Columns::GivesWrapped))]
+pub fn wrap<A: Allocator + Copy>(
+    alloc: A,
+    text: &str,
+    width: usize,
+    buffer: &mut [u8],
+    ends: &mut [usize],
+) -> ListAnswer
+    ensures { GivesWrapped text.now width result buffer.old buffer.new ends.old ends.new }
+{
+    if !text.ansi_has_any() {
+        return write_bare_lines(alloc, text, width, buffer, ends);
+    }
+    write_joined(join_lines(alloc, text, width), buffer, ends)
+}
+
+/// The lines of a text one after the other, and where each ends.
+fn join_lines<A: Allocator + Copy>(
+    alloc: A,
+    text: &str,
+    width: usize,
+) -> Result<(String<A>, Vec<usize, A>), AllocError>
+    ensures texts { IfOk result (λ joined. string_bytes joined.0 ≡ flat_map (λ l. l) (wrapped_lines text.now width)) }
+    ensures ends { IfOk result (λ joined. joined.1.items ≡ ends_from 0 (wrapped_lines text.now width)) }
+{
+    join_texts(alloc, wrapped(alloc, text, width))
+}
+
+/// Writes the lines of a text without ESC, and where each ends, where there is room for all of them. Takes
+/// no memory.
+fn write_bare_lines<A: Allocator + Copy>(
+    alloc: A,
+    text: &str,
+    width: usize,
+    buffer: &mut [u8],
+    ends: &mut [usize],
+) -> ListAnswer
+    requires { IsFalse (has_escape text.now) }
+    ensures { AreWritten (flat_map (λ l. l) (wrapped_lines text.now width)) (ends_from 0 (wrapped_lines text.now width)) result buffer.old buffer.new ends.old ends.new }
+{
+    if let Some((count, len)) = lines_without_room(alloc, text, width, buffer.len(), ends.len()) {
+        return ListAnswer {
+            status: TOO_SMALL,
+            count,
+            len,
+        };
+    }
+    let (count, len) = copy_bare_lines(alloc, text, width, buffer, ends);
+    ListAnswer {
+        status: OK,
+        count,
+        len,
+    }
+}
+
+/// How many lines a text without ESC has and their length together, where there is no room for so many bytes
+/// or so many ends. They are counted only where there might be none.
+fn lines_without_room<A: Allocator + Copy>(
+    alloc: A,
+    text: &str,
+    width: usize,
+    bytes: usize,
+    ends: usize,
+) -> Option<(usize, usize)>
+    requires { IsFalse (has_escape text.now) }
+    ensures none { IfNone result ((length (flat_map (λ l. l) (wrapped_lines text.now width)) ≤ bytes) × (length (wrapped_lines text.now width) ≤ ends)) }
+    ensures small { IfSome result (λ r. (bytes < length (flat_map (λ l. l) (wrapped_lines text.now width))) ⊎ (ends < length (wrapped_lines text.now width))) }
+    ensures needed { IfSome result (λ r. (r.0 ≡ length (wrapped_lines text.now width)) × (r.1 ≡ length (flat_map (λ l. l) (wrapped_lines text.now width)))) }
+{
+    laws::lines_lose_blanks_and_line_ends();
+    if text.len() <= bytes && text.len() < ends {
+        return None;
+    }
+    let (count, len) = copy_bare_lines(alloc, text, width, &mut [], &mut []);
+    if len > bytes || count > ends {
+        Some((count, len))
+    } else {
+        None
+    }
+}
+
+/// Writes the lines of a text without ESC, and where each ends, as far as there is room, and gives how many
+/// they are and their length together.
+fn copy_bare_lines<A: Allocator + Copy>(
+    alloc: A,
+    text: &str,
+    width: usize,
+    buffer: &mut [u8],
+    ends: &mut [usize],
+) -> (usize, usize)
+    requires { IsFalse (has_escape text.now) }
+    ensures { AreCopied (wrapped_lines text.now width) result buffer.old buffer.new ends.old ends.new }
+{
+    laws::lines_lose_blanks_and_line_ends();
+    copy_texts(wrapped(alloc, text, width), buffer, ends)
+}
