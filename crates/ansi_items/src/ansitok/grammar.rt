@@ -5,7 +5,7 @@
 //! all, so that a text is looked at no more than four times for each of its bytes.
 ghost use Rattle.std.specs.Prelude.{◌≡◌, ◌≤◌, length, take};
 ghost use Rattle.std.specs.List.{prefix_len};
-ghost use Rattle.ansi_items.specs.Bytes.{is_plain_byte};
+ghost use Rattle.ansi_items.specs.Bytes.{is_parameter_byte, is_plain_byte};
 
 use crate::ansitok::Kind;
 use memchr::{memchr, memchr2};
@@ -208,10 +208,7 @@ impl Looks {
         ensures bound { result ≤ length bytes.now }
         ensures looks { self.new.count ≡ self.old.count + min (result + 1) (length bytes.now) }
     {
-        let len = bytes
-            .iter()
-            .take_while(|b| matches!(**b, 0x30..=0x3F))
-            .count();
+        let len = parameter_run_len(bytes);
         self.passed(bytes, len);
         len
     }
@@ -320,5 +317,39 @@ fn front_len(bytes: &[u8]) -> usize
         16
     } else {
         escapes.trailing_zeros() as usize
+    }
+}
+
+/// How many parameter bytes stand at the front. The first 16 bytes are looked at together.
+#[inline(always)]
+fn parameter_run_len(bytes: &[u8]) -> usize
+    ensures len { result ≡ prefix_len is_parameter_byte bytes.now }
+    ensures bound { result ≤ length bytes.now }
+{
+    if 16 <= bytes.len() {
+        let front = parameter_front_len(bytes);
+        if front < 16 {
+            return front;
+        }
+    }
+    bytes
+        .iter()
+        .take_while(|b| matches!(**b, 0x30..=0x3F))
+        .count()
+}
+
+/// How many of the first 16 bytes are parameter bytes before any other.
+#[inline(always)]
+fn parameter_front_len(bytes: &[u8]) -> usize
+    requires { 16 ≤ length bytes.now }
+    ensures { result ≡ prefix_len is_parameter_byte (take 16 bytes.now) }
+{
+    let others = (u8x16::from_slice(bytes) - u8x16::splat(0x30))
+        .simd_ge(u8x16::splat(0x10))
+        .to_bitmask();
+    if others == 0 {
+        16
+    } else {
+        others.trailing_zeros() as usize
     }
 }
