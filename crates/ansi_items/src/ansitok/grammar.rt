@@ -278,7 +278,8 @@ impl Looks {
     }
 }
 
-/// How many bytes stand before the next ESC. The first 16 are looked at together, where most runs end.
+/// How many bytes stand before the next ESC. The first 16, where most runs end, are looked at together, and so are the
+/// last 16 of fewer than 32, which `memchr` would look at one by one.
 #[inline(always)]
 fn run_len(bytes: &[u8]) -> usize
     ensures len { result ≡ prefix_len is_plain_byte bytes.now }
@@ -290,6 +291,10 @@ fn run_len(bytes: &[u8]) -> usize
     let front = front_len(bytes);
     if front < 16 {
         return front;
+    }
+    if bytes.len() < 32 {
+        let last = bytes.len() - 16;
+        return last + front_len(&bytes[last..]);
     }
     16 + rest_len(&bytes[16..])
 }
