@@ -171,7 +171,7 @@ pub fn join_parts<A: Allocator + Copy>(
     ensures texts { IfOk result (λ joined. string_bytes joined.0 ≡ flat_map (λ p. p) (all_parts text.now pat.now)) }
     ensures ends { IfOk result (λ joined. joined.1.items ≡ ends_from 0 (all_parts text.now pat.now)) }
 {
-    let mut texts = String::new(alloc);
+    let mut texts = String::with_capacity(alloc, text.len())?;
     let mut ends = Vec::new(alloc);
     for part in split_in(alloc, text, pat) {
         let part = part?;
@@ -198,7 +198,7 @@ pub fn join_blocks<A: Allocator + Copy>(
     ensures texts { IfOk result (λ joined. string_bytes joined.0 ≡ flat_map (λ b. b.text) (blocks text.now)) }
     ensures entries { IfOk result (λ joined. joined.1.items ≡ entries_from 0 (blocks text.now)) }
 {
-    let mut texts = String::new(alloc);
+    let mut texts = String::with_capacity(alloc, text.len())?;
     let mut entries = Vec::new(alloc);
     for block in get_blocks(alloc, text) {
         let block = block?;
@@ -233,7 +233,7 @@ pub fn join_styled_blocks<A: Allocator + Copy>(
     ensures texts { IfOk result (λ joined. string_bytes joined.0 ≡ flat_map styled_text (blocks text.now)) }
     ensures entries { IfOk result (λ joined. joined.1.items ≡ styled_entries_from 0 (blocks text.now)) }
 {
-    let mut texts = String::new(alloc);
+    let mut texts = String::with_capacity(alloc, text.len())?;
     let mut entries = Vec::new(alloc);
     for block in get_blocks(alloc, text) {
         let block = block?;

@@ -10,8 +10,8 @@ loop-part-init g c =
     let left : map (λ (p : SplitPart). p.bytes) c.into_iter-part-iterator.result ≡ all_parts c.args.text.now c.args.pat.now =
     ap (map (λ (p : SplitPart). p.bytes)) c.into_iter-part-iterator.ensures.into_iter_gives ∙ c.split_in-part-items.ensures.bytes in
     record {
-      texts = rw (c.new-texts.ensures.bytes, left);
-      ends = rw (c.new-texts.ensures.bytes, c.new-ends.ensures.items, left);
+      texts = rw (c.in_ok-texts.ensures.bytes, left);
+      ends = rw (c.in_ok-texts.ensures.bytes, c.new-ends.ensures.items, left);
     }
 
 pub loop-part-preserved-in_ok-push : goal.loop-part-preserved-in_ok-push
