@@ -187,21 +187,26 @@ pub fn join_parts<A: Allocator + Copy>(
     ensures texts { IfOk result (λ joined. string_bytes joined.0 ≡ flat_map (λ p. p) (all_parts text.now pat.now)) }
     ensures ends { IfOk result (λ joined. joined.1.items ≡ ends_from 0 (all_parts text.now pat.now)) }
 {
-    join_texts(alloc, split_in(alloc, text, pat))
+    join_texts(alloc, text.len(), split_in(alloc, text, pat))
 }
 
-/// Texts that an iterator gives, one after the other, and where each ends.
+/// Texts that an iterator gives, one after the other, and where each ends. Room for so many bytes is asked for
+/// at once.
 pub fn join_texts<
     't,
     A: Allocator + Copy,
     I: Iterator<Item = Result<CowStr<'t, A>, AllocError>> + Drop,
->(alloc: A, given: I) -> Result<(String<A>, Vec<usize, A>), AllocError>
+>(
+    alloc: A,
+    room: usize,
+    given: I,
+) -> Result<(String<A>, Vec<usize, A>), AllocError>
     requires can { I.can_next given }
     requires ends { IsFinite (I.remaining given) }
     ensures { IfOk result (λ joined. (xs : List (Result (CowStr A) AllocError)) × Drains I.next_gives given xs × All IsOk xs
         × (string_bytes joined.0 ≡ flat_map (λ t. t) (map given_bytes xs)) × (joined.1.items ≡ ends_from 0 (map given_bytes xs))) }
 {
-    let mut texts = String::new(alloc);
+    let mut texts = String::with_capacity(alloc, room)?;
     let mut ends = Vec::new(alloc);
     for text in given {
         let text = text?;
@@ -228,7 +233,7 @@ pub fn join_blocks<A: Allocator + Copy>(
     ensures texts { IfOk result (λ joined. string_bytes joined.0 ≡ flat_map (λ b. b.text) (blocks text.now)) }
     ensures entries { IfOk result (λ joined. joined.1.items ≡ entries_from 0 (blocks text.now)) }
 {
-    let mut texts = String::new(alloc);
+    let mut texts = String::with_capacity(alloc, text.len())?;
     let mut entries = Vec::new(alloc);
     for block in get_blocks(alloc, text) {
         let block = block?;
@@ -263,7 +268,7 @@ pub fn join_styled_blocks<A: Allocator + Copy>(
     ensures texts { IfOk result (λ joined. string_bytes joined.0 ≡ flat_map styled_text (blocks text.now)) }
     ensures entries { IfOk result (λ joined. joined.1.items ≡ styled_entries_from 0 (blocks text.now)) }
 {
-    let mut texts = String::new(alloc);
+    let mut texts = String::with_capacity(alloc, text.len())?;
     let mut entries = Vec::new(alloc);
     for block in get_blocks(alloc, text) {
         let block = block?;

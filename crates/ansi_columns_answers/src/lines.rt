@@ -37,7 +37,7 @@ fn join_lines<A: Allocator + Copy>(
     ensures texts { IfOk result (λ joined. string_bytes joined.0 ≡ flat_map (λ l. l) (wrapped_lines text.now width)) }
     ensures ends { IfOk result (λ joined. joined.1.items ≡ ends_from 0 (wrapped_lines text.now width)) }
 {
-    join_texts(alloc, wrapped(alloc, text, width))
+    join_texts(alloc, text.len(), wrapped(alloc, text, width))
 }
 
 /// Writes the lines of a text without ESC, and where each ends, where there is room for all of them. Takes

@@ -1,5 +1,5 @@
 -- How many looks at a text its items take.
-use Rattle.ansi_items.proofs.Common.{◌≡◌, ℕ, ◌+◌, ◌-◌, ◌*◌, ◌<◌, ◌≤◌, Bool, true, false, List, [], ◌∷◌, length, take, drop, get_or, slice_index, Option, Some, None, refl, sym, ◌∙◌, ap, subst, arith, one-add, false_from_ne_true, cond-true, cond_both, nat_tests, take_rest, length-drop, drop-drop, prefix_len_is, prefix_len-le-length, prefix_len, IsCharBoundary, unwrap_or, IsFirstByte, is_byte, is_byte2, Lone, Front, is_parameter_byte, is_intermediate_byte, is_body_byte, is_plain_byte, opens_command, front_of, escape_at, sequence_at, front_at, before_escape, CostsFound, CostsFront, IsCounted}
+use Rattle.ansi_items.proofs.Common.{◌≡◌, ℕ, ◌+◌, ◌-◌, ◌*◌, ◌<◌, ◌≤◌, Bool, true, false, List, [], ◌∷◌, length, take, drop, get_or, slice_index, Option, Some, None, refl, sym, ◌∙◌, ap, subst, arith, one-add, false_from_ne_true, cond-true, cond_both, nat_tests, take_rest, length-drop, drop-drop, prefix_len_is, prefix_len-le-length, prefix_len, IsCharBoundary, unwrap_or, IsFirstByte, is_byte, is_byte2, Lone, Front, is_parameter_byte, is_intermediate_byte, is_body_byte, is_plain_byte, front_of, escape_at, sequence_at, front_at, before_escape, CostsFound, CostsFront, IsCounted}
 use Rattle.ansi_items.proofs.PieceLemmas.{first_piece_splits}
 use Rattle.ansi_items.proofs.FrontLemmas.{not_alone, front_is_first}
 

@@ -1,5 +1,5 @@
 -- One step of a scanner.
-use Rattle.ansi_items.proofs.Common.{◌≡◌, ◌≢◌, ℕ, ◌+◌, ◌-◌, ◌<◌, ◌≤◌, inl, inr, true, false, List, [], ◌∷◌, ◌++◌, length, take, drop, slice_index, refl, sym, ◌∙◌, ap, ap₂, subst, arith, eqb, if◌then◌else◌, eqb-true, eqb-false, nat_tests, get_or_at, length-append, length-drop, length-take-le, append_assoc, drop-drop, take_rest, drop_all, IsCharBoundary-after_ascii, IsCharBoundary-before_ascii, IsCharBoundary-end, IsCharBoundary-from_rest, IsUtf8-drop, slice_range, IsUtf8, IsCharBoundary, byte, Sgr, Other, Item, Front, escape, bell, is_final_byte, is_escape_final_byte, IsSequence, is_sgr, Piece, Text, Sequence, LoneEscape, spelling, StandsBefore, first_piece, pieces_of, kind_of, piece_of, piece_of_kind, front_at}
+use Rattle.ansi_items.proofs.Common.{◌≡◌, ◌≢◌, ℕ, ◌+◌, ◌-◌, ◌<◌, ◌≤◌, inl, inr, true, false, List, [], ◌∷◌, ◌++◌, length, take, drop, slice_index, refl, sym, ◌∙◌, ap, ap₂, subst, arith, eqb, if◌then◌else◌, eqb-false, nat_tests, get_or_at, length-append, length-drop, length-take-le, append_assoc, drop-drop, take_rest, IsCharBoundary-after_ascii, IsCharBoundary-before_ascii, IsCharBoundary-end, IsCharBoundary-from_rest, IsUtf8-drop, slice_range, IsUtf8, IsCharBoundary, byte, Sgr, Other, Item, Front, escape, bell, is_final_byte, is_escape_final_byte, IsSequence, is_sgr, Piece, Text, Sequence, LoneEscape, spelling, StandsBefore, first_piece, pieces_of, kind_of, piece_of, piece_of_kind, front_at}
 use Rattle.ansi_items.proofs.PieceLemmas.{first_piece_splits, pieces_are, pieces_of-unique}
 use Rattle.ansi_items.proofs.FrontLemmas.{front_is_first}
 

@@ -3,8 +3,13 @@
 //!
 //! An attempt at a sequence is given up at the first byte that can't belong to it, an ESC above
 //! all, so that a text is looked at no more than four times for each of its bytes.
+ghost use Rattle.std.specs.Prelude.{◌≡◌, ◌≤◌, length, take};
+ghost use Rattle.std.specs.List.{prefix_len};
+ghost use Rattle.ansi_items.specs.Bytes.{is_parameter_byte, is_plain_byte};
+
 use crate::ansitok::Kind;
 use memchr::{memchr, memchr2};
+use std::simd::prelude::*;
 
 /// The byte that begins every sequence.
 pub const ESC: u8 = 0x1B;
@@ -203,10 +208,7 @@ impl Looks {
         ensures bound { result ≤ length bytes.now }
         ensures looks { self.new.count ≡ self.old.count + min (result + 1) (length bytes.now) }
     {
-        let len = bytes
-            .iter()
-            .take_while(|b| matches!(**b, 0x30..=0x3F))
-            .count();
+        let len = parameter_run_len(bytes);
         self.passed(bytes, len);
         len
     }
@@ -250,14 +252,13 @@ impl Looks {
 
     /// How many bytes stand before the next ESC.
     #[inline(always)]
-    #[tactic(auto, using(crate::proofs::CountLemmas::text_found))]
     fn text_len(&mut self, bytes: &[u8]) -> usize
         requires { self.old.count + length bytes.now < 2 ^ 128 }
         ensures len { result ≡ prefix_len is_plain_byte bytes.now }
         ensures bound { result ≤ length bytes.now }
         ensures looks { self.new.count ≡ self.old.count + min (result + 1) (length bytes.now) }
     {
-        let len = memchr(ESC, bytes).unwrap_or(bytes.len());
+        let len = run_len(bytes);
         self.passed(bytes, len);
         len
     }
@@ -274,5 +275,86 @@ impl Looks {
         if len < bytes.len() {
             self.count += 1;
         }
+    }
+}
+
+/// How many bytes stand before the next ESC. The first 16, where most runs end, are looked at together, and so are the
+/// last 16 of fewer than 32, which `memchr` would look at one by one.
+#[inline(always)]
+fn run_len(bytes: &[u8]) -> usize
+    ensures len { result ≡ prefix_len is_plain_byte bytes.now }
+    ensures bound { result ≤ length bytes.now }
+{
+    if bytes.len() < 16 {
+        return bytes.iter().take_while(|b| **b != ESC).count();
+    }
+    let front = front_len(bytes);
+    if front < 16 {
+        return front;
+    }
+    if bytes.len() < 32 {
+        let last = bytes.len() - 16;
+        return last + front_len(&bytes[last..]);
+    }
+    16 + rest_len(&bytes[16..])
+}
+
+/// How many bytes stand before the next ESC.
+#[inline(always)]
+#[tactic(auto, using(crate::proofs::CountLemmas::text_found))]
+fn rest_len(bytes: &[u8]) -> usize
+    ensures len { result ≡ prefix_len is_plain_byte bytes.now }
+    ensures bound { result ≤ length bytes.now }
+{
+    memchr(ESC, bytes).unwrap_or(bytes.len())
+}
+
+/// How many of the first 16 bytes stand before the next ESC.
+#[inline(always)]
+fn front_len(bytes: &[u8]) -> usize
+    requires { 16 ≤ length bytes.now }
+    ensures { result ≡ prefix_len is_plain_byte (take 16 bytes.now) }
+{
+    let escapes = u8x16::from_slice(bytes)
+        .simd_eq(u8x16::splat(ESC))
+        .to_bitmask();
+    if escapes == 0 {
+        16
+    } else {
+        escapes.trailing_zeros() as usize
+    }
+}
+
+/// How many parameter bytes stand at the front. The first 16 bytes are looked at together.
+#[inline(always)]
+fn parameter_run_len(bytes: &[u8]) -> usize
+    ensures len { result ≡ prefix_len is_parameter_byte bytes.now }
+    ensures bound { result ≤ length bytes.now }
+{
+    if 16 <= bytes.len() {
+        let front = parameter_front_len(bytes);
+        if front < 16 {
+            return front;
+        }
+    }
+    bytes
+        .iter()
+        .take_while(|b| matches!(**b, 0x30..=0x3F))
+        .count()
+}
+
+/// How many of the first 16 bytes are parameter bytes before any other.
+#[inline(always)]
+fn parameter_front_len(bytes: &[u8]) -> usize
+    requires { 16 ≤ length bytes.now }
+    ensures { result ≡ prefix_len is_parameter_byte (take 16 bytes.now) }
+{
+    let others = (u8x16::from_slice(bytes) - u8x16::splat(0x30))
+        .simd_ge(u8x16::splat(0x10))
+        .to_bitmask();
+    if others == 0 {
+        16
+    } else {
+        others.trailing_zeros() as usize
     }
 }
