@@ -1,7 +1,6 @@
 -- How far a list of edits has come, and what one edit more is to it.
-use Rattle.ansi_str.proofs.Common.{◌≡◌, ◌↔◌, ◌⊎◌, inl, inr, ℕ, ◌+◌, ◌<◌, ◌≤◌, ◌&&◌, true, List, ◌∷◌, length, map, drop, get_or, Option, Some, None, refl, sym, ◌∙◌, ap, subst, IsTrue, option_and_then, IsNone, option_map_or, and_parts, and_from, drop_all, Change, edited_by, edited, gives_borrow, stay_borrowed, change_of}
+use Rattle.ansi_str.proofs.Common.{◌≡◌, ◌↔◌, ◌⊎◌, inl, inr, ℕ, ◌+◌, ◌<◌, ◌≤◌, ◌&&◌, true, List, ◌∷◌, length, map, drop, get_or, Option, Some, None, refl, sym, ◌∙◌, ap, subst, IsTrue, option_and_then, IsNone, option_map_or, and_parts, and_from, drop_all, Change, edited_by, edited, gives_borrow, stay_borrowed}
 use Rattle.std.proofs.lemmas.List.{drop_more}
-use Rattle.ansi_str.specs.declared.edits.kinds.Edit.{Edit}
 
 -- The text that was reached, edited by what is left, is the whole answer; and it stays a borrow to the end where it is one, and what is left leaves it one.
 pub record IsEditedSoFar (es : List Change) (t : List ℕ) (left : List Change) (Lent : Type 0) (u : List ℕ) : Type 0 where
