@@ -47,7 +47,7 @@ code_of-read [] = refl
 code_of-read (b ∷ t) = rw (lt-ltb 0 (length (b ∷ t)) (omega arith)) (reads (b ∷ t) 0)
 
 -- the number that a field gives a color is its code, and 0 where it is none
-pub first_field-number : (fields rest : List (List ℕ)) (code : Option ℕ) → (Some code, rest) ≡ first_field code_of fields → (Some (unwrap_or code 0), rest) ≡ first_field color_number fields
-first_field-number [] rest code first = absurd (let none = ap (λ x. x.0) first in cc)
-first_field-number ([] ∷ fields) rest code first = ap (λ x. (option_map (λ o. unwrap_or o 0) x.0, x.1)) first
-first_field-number ((b ∷ field) ∷ fields) rest code first = ap (λ x. (option_map (λ o. unwrap_or o 0) x.0, x.1)) first
+pub number_is_first : (fields rest : List (List ℕ)) (code : Option ℕ) → (Some code, rest) ≡ first_field code_of fields → (Some (unwrap_or code 0), rest) ≡ first_field color_number fields
+number_is_first [] rest code first = absurd (let none = ap (λ x. x.0) first in cc)
+number_is_first ([] ∷ fields) rest code first = ap (λ x. (option_map (λ o. unwrap_or o 0) x.0, x.1)) first
+number_is_first ((b ∷ field) ∷ fields) rest code first = ap (λ x. (option_map (λ o. unwrap_or o 0) x.0, x.1)) first
