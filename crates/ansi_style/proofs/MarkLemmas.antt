@@ -1,5 +1,5 @@
 -- The marks of pieces, one piece at a time, and those up to a place.
-use Rattle.ansi_style.proofs.Common.{◌≡◌, ℕ, suc, ◌+◌, ◌-◌, ◌<◌, ◌≤◌, Bool, true, false, List, [], ◌∷◌, length, map, filter_map, Option, refl, ◌∙◌, ap, ap₂, arith, nat_le, if◌then◌else◌, IsFalse, le-leb, lt-leb, nat_tests, escape, Piece, Text, Sequence, LoneEscape, Mark, Placed, mark_of, moved, marks_of, marks, places, up_to, has_escape, Rendition, apply_all, apply, after_marks, one_text, pieces_of-bare}
+use Rattle.ansi_style.proofs.Common.{◌≡◌, ℕ, suc, ◌+◌, ◌-◌, ◌<◌, ◌≤◌, Bool, true, false, List, [], ◌∷◌, length, map, filter_map, Option, refl, ◌∙◌, ap, ap₂, arith, nat_le, if◌then◌else◌, IsFalse, lt-leb, nat_tests, escape, Piece, Text, Sequence, LoneEscape, Mark, Placed, mark_of, moved, marks_of, marks, places, up_to, has_escape, Rendition, apply_all, apply, after_marks, one_text, pieces_of-bare}
 
 -- n plain bytes more stand before the mark
 abbrev pub further : ℕ → Mark → Mark
@@ -62,9 +62,7 @@ up_to-further e n (m ∷ ms) within =
     either false = refl
 
 pub up_to-here : (e : ℕ) (w : List ℕ) (ms : List Mark) → up_to e (record { place = 0; bytes = w } ∷ ms) ≡ record { place = 0; bytes = w } ∷ up_to e ms
-up_to-here e w ms =
-    let here : nat_le 0 e ≡ true = le-leb 0 e (omega arith) in
-    ap (λ b. if b then record { place = 0; bytes = w } ∷ up_to e ms else up_to e ms) here
+up_to-here e w ms = grind arith
 
 -- The style after marks, wherever they stand.
 
@@ -85,13 +83,7 @@ style_by_marks-before s w ps i below =
     ap (λ ms. after_marks s (up_to i ms)) (marks_of-text w ps) ∙ ap (after_marks s) (up_to-none i (length w) (marks_of ps) below)
 
 pub style_by_marks-text : (s : Rendition) (w : List ℕ) (ps : List Piece) (i : ℕ) → style_by_marks s (Text w ∷ ps) (length w + i) ≡ style_by_marks s ps i
-style_by_marks-text s w ps i =
-    let n = length w in
-    let left : n + i - n ≡ i = omega arith in
-    ap (λ ms. after_marks s (up_to (n + i) ms)) (marks_of-text w ps)
-    ∙ ap (after_marks s) (up_to-further (n + i) n (marks_of ps) (omega arith))
-    ∙ after_marks-further s n (up_to (n + i - n) (marks_of ps))
-    ∙ ap (style_by_marks s ps) left
+style_by_marks-text s w ps i = grind (arith, after_marks-further, marks_of-text, up_to-further)
 
 pub style_by_marks-sequence : (s : Rendition) (w : List ℕ) (ps : List Piece) (i : ℕ) → style_by_marks s (Sequence w ∷ ps) i ≡ style_by_marks (apply s w) ps i
 style_by_marks-sequence s w ps i =

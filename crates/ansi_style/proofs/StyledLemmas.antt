@@ -48,10 +48,7 @@ styled_through-alike s t (LoneEscape ∷ ps) same = styled_through-alike s t ps 
 -- Texts that touch may be joined.
 
 style_through-after_text : (s : Rendition) (w : List ℕ) (ps : List Piece) → style_through s (after_text w ps) ≡ style_through s ps
-style_through-after_text s w [] = refl
-style_through-after_text s w (Text v ∷ ps) = refl
-style_through-after_text s w (Sequence v ∷ ps) = refl
-style_through-after_text s w (LoneEscape ∷ ps) = refl
+style_through-after_text s w ps = grind arith
 
 pub style_through-merged : (s : Rendition) (ps : List Piece) → style_through s (merged ps) ≡ style_through s ps
 style_through-merged s [] = refl
@@ -60,11 +57,7 @@ style_through-merged s (Sequence w ∷ ps) = style_through-merged (apply s w) ps
 style_through-merged s (LoneEscape ∷ ps) = style_through-merged s ps
 
 styled_through-after_text : (s : Rendition) (w : List ℕ) (ps : List Piece) → styled_through s (after_text w ps) ≡ in_style s w ++ styled_through s ps
-styled_through-after_text s w [] = refl
-styled_through-after_text s w (Text v ∷ ps) =
-    ap (λ u. u ++ styled_through s ps) (map-append _ w v) ∙ append_assoc (in_style s w) (in_style s v) (styled_through s ps)
-styled_through-after_text s w (Sequence v ∷ ps) = refl
-styled_through-after_text s w (LoneEscape ∷ ps) = refl
+styled_through-after_text s w ps = grind (arith, append_assoc, map-append)
 
 pub styled_through-merged : (s : Rendition) (ps : List Piece) → styled_through s (merged ps) ≡ styled_through s ps
 styled_through-merged s [] = refl
