@@ -84,7 +84,7 @@ tail-sum {left = left} so_far none =
 
 pub tail-starts : {t rest : List ℕ} (p : List ℕ) {last len passed : ℕ} {left : List Piece} → IsTailSoFar t (length p) last len passed left → left ≡ [] → rest ≡ drop last t
     → starts_with nat_eq (drop (len - length p) (plain rest)) p ≡ ends_with nat_eq (plain t) p
-tail-starts {t} {rest} p {last} {len} so_far none is = grind (arith, drop-drop, ends_with-starts_with, tail-sum)
+tail-starts p so_far none is = grind (arith, drop-drop, ends_with-starts_with, tail-sum)
 
 pub tail-good : {t rest : List ℕ} (p : List ℕ) {last len passed : ℕ} {left : List Piece} → IsTailSoFar t (length p) last len passed left → left ≡ [] → rest ≡ drop last t → IsUtf8 p
     → starts_with nat_eq (drop (len - length p) (plain rest)) p ≡ true → IsTrue (is_good_position (plain rest) (len - length p))

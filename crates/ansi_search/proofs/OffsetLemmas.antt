@@ -144,20 +144,20 @@ way-begin t n start = record { offset = omega arith; good = refl; styled = refl 
 
 pub way-text : {t : List ℕ} {n passed at left next : ℕ} {start style : Rendition} {w : List ℕ} {old ps : List Piece} → IsOnTheWay t n start passed left style old → IsOverText t w passed at old ps
     → length w ≤ left → next ≡ left - length w → IsOnTheWay t n start at next style ps
-way-text {t} {n} {passed} {at} {left} {next} {start} {style} {w} {old} {ps} way over within next_is = grind (arith, bytes_before-text, is_good_position-after, style-text)
+way-text way over within next_is = grind (arith, bytes_before-text, is_good_position-after, style-text)
 
 pub way-mark : {t : List ℕ} {n passed at left : ℕ} {start style next : Rendition} {kind : Kind} {w : List ℕ} {old ps : List Piece} → IsOnTheWay t n start passed left style old → IsOverMark kind t w passed at old ps
     → next ≡ apply style w → IsOnTheWay t n start at left next ps
-way-mark {t} {n} {passed} {at} {left} {start} {style} {next} {w = w} {ps = ps} way over next_is = grind (arith, bytes_before-mark, is_mark, plain_of-mark, style_by_marks, style_by_marks-lone, style_by_marks-sequence)
+way-mark way over next_is = grind (arith, bytes_before-mark, is_mark, plain_of-mark, style_by_marks, style_by_marks-lone, style_by_marks-sequence)
 
 -- the byte stands in the text that comes next, or there is none
 pub way-last : {t : List ℕ} {n passed at left : ℕ} {start style : Rendition} {w : List ℕ} {old ps : List Piece} → IsOnTheWay t n start passed left style old → IsOverText t w passed at old ps → left < length w
     → (passed + left ≡ offset_of t n) × (style ≡ style_within start t n)
-way-last {t} {n} {passed} {left = left} {start = start} {style = style} {w = w} {ps = ps} way over last = grind (arith, bytes_before-last, style_by_marks-before)
+way-last way over last = grind (arith, bytes_before-last, style_by_marks-before)
 
 pub way-end : {t : List ℕ} {n passed left : ℕ} {start style : Rendition} {old : List Piece} → IsOnTheWay t n start passed left style old → old ≡ []
     → (passed ≡ offset_of t n) × (true ≡ is_good_position (plain t) n) × (style ≡ style_within start t n)
-way-end {t} {n} {passed} {left} {start} {style} way none = grind (arith, is_good_position-past)
+way-end way none = grind (arith, is_good_position-past)
 
 -- a position in a text that comes next is good where it is a boundary of all
 good_in_next : (t : List ℕ) (at left : ℕ) (w : List ℕ) (ps : List Piece) → pieces_of (drop at t) ≡ Text w ∷ ps → left < length w
@@ -205,7 +205,7 @@ passed-text {t} {place} {passed} {w = w} {ps = ps} way over =
     }
 
 pub passed-mark : {t : List ℕ} {place passed at : ℕ} {kind : Kind} {w : List ℕ} {left ps : List Piece} → IsPassed t place passed left → IsOverMark kind t w passed at left ps → IsPassed t place at ps
-passed-mark {t} {place} {passed} {ps = ps} way over = grind (arith, bytes_before-mark, is_mark, plain_of-mark)
+passed-mark way over = grind (arith, bytes_before-mark, is_mark, plain_of-mark)
 
 -- a place in what follows a place that was passed
 pub stands-after : {t rest : List ℕ} {place passed n i : ℕ} → IsPassed t place passed (pieces_of rest) → rest ≡ drop passed t → passed ≤ length t → StandsIn rest n i → StandsIn t (place + n) (passed + i)

@@ -86,7 +86,7 @@ ahead-later t p r here w v ahead same later j from before = ahead j (omega (arit
 pub meets-last : {t p : List ℕ} {c start : ℕ} {w : Window} (run : List ℕ) (place : ℕ) → Comes t p c start w → OccursAt (plain t) run place
     → place ≤ w.position + w.met → w.position + w.met < place + length run → slice_index run (w.position + w.met - place) ≡ slice_index p w.met → length p ≤ w.met + 1
     → Meets (plain t) p w.position w.low (length p)
-meets-last {t} {p} {c} {start} {w} run place comes occurs past inside same last = grind (arith, in-run, meets-next)
+meets-last run place comes occurs past inside same last = grind (arith, in-run, meets-next)
 
 -- what follows the cut stands, but no match: no match begins in the next places up to the shift
 pub reached-apart : {t p : List ℕ} {cut : Cut} {start : ℕ} {w : Window} → IsCut p cut → IsApart t p cut.at start w → IsReached t p start (w.position + cut.shift)
