@@ -1,5 +1,5 @@
 -- A pattern at the front and at the end of a text.
-use Rattle.ansi_search.proofs.Common.{◌≡◌, ℕ, ◌+◌, ◌-◌, ◌≤◌, ◌⊎◌, inl, inr, IsTrue, true, ◌&&◌, List, ◌∷◌, ◌++◌, length, take, drop, nat_eq, refl, sym, ◌∙◌, ap, ap₂, subst, arith, and_assoc, nat_eq_equiv, take-append-le, take_all, drop-drop, length-drop, length-take, IsCharBoundary-from_take, IsCharBoundary-from_drop, pointwise, same_text, starts_with, ends_with, IsUtf8, IsCharBoundary, Kind, Piece, pieces_of, plain_of, plain, is_good_position, StandsIn}
+use Rattle.ansi_search.proofs.Common.{◌≡◌, ℕ, ◌+◌, ◌-◌, ◌≤◌, ◌⊎◌, inl, inr, IsTrue, true, ◌&&◌, List, ◌∷◌, ◌++◌, length, take, drop, nat_eq, refl, sym, ◌∙◌, ap, ap₂, subst, arith, and_assoc, nat_eq_equiv, take-append-le, take_all, drop-drop, length-drop, length-take, IsCharBoundary-from_take, IsCharBoundary-from_drop, pointwise, same_text, starts_with, ends_with, IsUtf8, IsCharBoundary, Kind, Piece, pieces_of, plain_of, plain, is_good_position, StandsIn, []}
 use Rattle.ansi_search.proofs.PositionLemmas.{boundary_is_good}
 use Rattle.ansi_search.proofs.OffsetLemmas.{IsOverText, IsOverMark, IsPassed, passed-text, passed-mark, stands-after}
 

@@ -1,5 +1,5 @@
 -- Where a pattern stands in a text, and where it stands first.
-use Rattle.ansi_search.proofs.Common.{◌≡◌, ℕ, zero, suc, ◌+◌, ◌-◌, ◌<◌, ◌≤◌, max, inl, inr, Bool, true, false, ◌&&◌, ◌||◌, List, ◌∷◌, ◌++◌, take, drop, length, filter, nat_eq, nat_le, IsTrue, IsFalse, Option, Some, None, refl, sym, ◌∙◌, ap, ap₂, subst, arith, slice_get, slice_index, and_parts, and_from, cond_both, cases_lt, cases_eq, le-leb, leb-true, leb-false, true≢false, take-append-drop, take_at, drop-drop, take-append-le, get_or_append_left, get_or-drop, length-append, length-drop, drop-append-le, bytes_eq-Decides, IsCharBoundary-start, IsCharBoundary-from_rest, both_ways, range_with_len, starts_with, IsUtf8, IsCharBoundary, Nowhere, IsFirst, OccursAt, FindsNeedle, Passes, is_byte, OccursAt-split, OccursAt-from_part, ◌==◌, escape, has_escape, is_char_boundary, is_match, first_match_from}
+use Rattle.ansi_search.proofs.Common.{◌≡◌, ℕ, zero, suc, ◌+◌, ◌-◌, ◌<◌, ◌≤◌, max, inl, inr, Bool, true, false, ◌&&◌, ◌||◌, List, ◌∷◌, ◌++◌, take, drop, length, filter, nat_eq, nat_le, IsTrue, IsFalse, Option, Some, None, refl, sym, ◌∙◌, ap, ap₂, subst, arith, slice_get, slice_index, and_parts, and_from, cond_both, cases_lt, cases_eq, le-leb, leb-true, leb-false, true≢false, take-append-drop, take_at, drop-drop, take-append-le, get_or_append_left, get_or-drop, length-append, length-drop, drop-append-le, bytes_eq-Decides, IsCharBoundary-start, IsCharBoundary-from_rest, both_ways, range_with_len, starts_with, IsUtf8, IsCharBoundary, Nowhere, IsFirst, OccursAt, FindsNeedle, Passes, is_byte, OccursAt-split, OccursAt-from_part, ◌==◌, escape, has_escape, is_char_boundary, is_match, first_match_from, []}
 use Rattle.ansi_search.proofs.PositionLemmas.{is_good_position-past, is_char_boundary-from}
 
 -- Whether a text begins with a pattern.

@@ -1,5 +1,5 @@
 -- Slices of a list whose ends lie at its end or past it, and of two lists in a row.
-use Rattle.ansi_search.proofs.Common.{◌≡◌, ℕ, zero, suc, ◌-◌, ◌≤◌, min, Bool, true, List, ◌∷◌, ◌++◌, map, length, take, drop, sym, ◌∙◌, ap, ap₂, arith, and_parts, list_all-append, take-nil, drop-nil, length-drop, length-take-le, drop_all, take_all, take-append-drop, take-map, drop-map, slice_range, list_all}
+use Rattle.ansi_search.proofs.Common.{◌≡◌, ℕ, zero, suc, ◌-◌, ◌≤◌, min, Bool, true, List, ◌∷◌, ◌++◌, map, length, take, drop, sym, ◌∙◌, ap, ap₂, arith, and_parts, list_all-append, take-nil, drop-nil, length-drop, length-take-le, drop_all, take_all, take-append-drop, take-map, drop-map, slice_range, list_all, []}
 
 pub slice_range-none : {X : Type 0} (x : List X) (a b : ℕ) → b ≤ a → slice_range x a b ≡ []
 slice_range-none x a b none = (let size : b - a ≡ 0 = omega arith in ap (λ n. take n (drop a x)) size)

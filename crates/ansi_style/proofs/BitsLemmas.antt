@@ -4,11 +4,7 @@ use Rattle.ansi_style.proofs.Common.{◌≡◌, ◌∙◌, ℕ, zero, suc, ◌-�
 has-bit : (n k : ℕ) → has n k ≡ (bit_at n k == 1)
 has-bit n k = grind (arith, and_pow, bit_at-lt, eq-eqb, ne_eqb, one-mul, pow_pos, zero-mul)
 
--- what holds of 0 and 1 holds of each bit
-each_bit : (P : ℕ → Type 0) → P 0 → P 1 → (b : ℕ) → b < 2 → P b
-each_bit P clear set b below = grind arith
-
--- and what holds of each two of them holds of the bits at a place of two numbers
+-- what holds of each two bits holds of those at a place of two numbers
 bits_of : (P : ℕ → ℕ → Type 0) → P 0 0 → P 0 1 → P 1 0 → P 1 1 → (n m k : ℕ) → P (bit_at n k) (bit_at m k)
 bits_of P neither right left both n m k = grind arith
 

@@ -1,15 +1,5 @@
 -- The steps of the table, one field after another.
-use Rattle.ansi_style.proofs.Common.{◌≡◌, ℕ, zero, suc, ◌<◌, ◌≤◌, List, [], ◌∷◌, length, refl, sym, ◌∙◌, ap, ap₂, arith, Option, Some, option_map_or, AnsiColor, Rendition, sgr_parameters, Effect, unknown_code, effect_of_code, code_of, color_by_parts, color_by_number, effect_of, perform, step, steps, fields_of, apply_parameters, apply, first_field}
-
--- no more than n fields are left
-abbrev LeavesUpTo : ℕ → Option AnsiColor × List (List ℕ) → Type 0
-LeavesUpTo n read = length read.1 ≤ n
-
-color_by_parts-left : (fields : List (List ℕ)) → LeavesUpTo (length fields) (color_by_parts fields)
-color_by_parts-left fields = grind arith
-
-color_by_number-left : (fields : List (List ℕ)) → LeavesUpTo (length fields) (color_by_number fields)
-color_by_number-left fields = grind arith
+use Rattle.ansi_style.proofs.Common.{◌≡◌, ℕ, zero, suc, ◌<◌, ◌≤◌, List, ◌∷◌, length, refl, sym, ◌∙◌, ap, ap₂, arith, Option, Some, option_map_or, Rendition, sgr_parameters, Effect, unknown_code, effect_of_code, code_of, effect_of, perform, step, steps, fields_of, apply_parameters, apply, first_field, []}
 
 perform-left : (e : Effect) (s : Rendition) (fields : List (List ℕ)) → length (perform e s fields).1 ≤ length fields
 perform-left e s fields = grind arith

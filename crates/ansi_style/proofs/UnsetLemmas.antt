@@ -1,5 +1,5 @@
 -- A style in which nothing is set that a reader could see needs no start and no close.
-use Rattle.ansi_style.proofs.Common.{◌≡◌, append-nil, false, ◌&&◌, ◌||◌, [], ap₂, ◌∙◌, ap, arith, if◌then◌else◌, or_parts, cond_both, Rendition, plain_style, known, has_known, has_any, start, close, close_if_any, style_after_from}
+use Rattle.ansi_style.proofs.Common.{◌≡◌, append-nil, false, ◌&&◌, ◌||◌, [], ◌∙◌, ap, arith, if◌then◌else◌, or_parts, cond_both, Rendition, plain_style, known, has_known, has_any, start, close, close_if_any, style_after_from}
 use Rattle.ansi_style.proofs.CloseLemmas.{close_clears}
 
 known-unknown : (s : Rendition) → has_known s ≡ false → known s ≡ plain_style

@@ -1,4 +1,4 @@
-use Rattle.ansi_search.proofs.Common.{◌≡◌, ◌≤◌, drop, length, sym, ◌∙◌, ap, ap₂, subst, arith, slice_index, length-drop, OccursAt, is_byte, plain, plain_of, length-plain, is_text, IsCut, IsReached, Comes, first_match_from}
+use Rattle.ansi_search.proofs.Common.{◌≡◌, ◌≤◌, drop, length, sym, ◌∙◌, ap, ap₂, subst, arith, slice_index, length-drop, OccursAt, is_byte, plain, plain_of, length-plain, is_text, IsCut, IsReached, Comes, first_match_from, []}
 use Rattle.ansi_search.proofs.WindowLemmas.{none-past, none-without, run-occurs, run-left, run-length, reached-then, comes-then, reached-match, reached-end}
 use Rattle.ansi_search.proofs.search.matches.find_across.Goals as goal
 
