@@ -1,5 +1,5 @@
 -- What is shown of a plain text with some of its marks, as pieces; their styled bytes, and the style after them.
-use Rattle.ansi_slice.proofs.Common.{◌≡◌, ◌≢◌, ℕ, ◌+◌, ◌-◌, ◌<◌, ◌≤◌, inl, inr, Bool, true, false, List, [], ◌∷◌, ◌++◌, map, length, drop, filter, refl, sym, ◌∙◌, ap, ap₂, arith, append-nil, slice_range, if◌then◌else◌, cond_both, cases_lt, flat_map-append, length-map, list_all, is_plain_byte, Piece, Text, Sequence, LoneEscape, spelling, Mark, plain_of, marks_of, Rendition, known, apply, after_marks, show, one_text, further, marks_of-text, marks_of-sequence, marks_of-lone, after_marks-further, spelled, AllStandAnywhere, stand-append, style_through, style_through-append, styled_through, in_style, styled_through-append}
+use Rattle.ansi_slice.proofs.Common.{◌≡◌, ℕ, ◌+◌, ◌-◌, ◌<◌, ◌≤◌, inl, inr, Bool, true, false, List, [], ◌∷◌, ◌++◌, map, length, drop, filter, refl, sym, ◌∙◌, ap, ap₂, arith, append-nil, slice_range, if◌then◌else◌, cond_both, cases_lt, flat_map-append, length-map, list_all, is_plain_byte, Piece, Text, Sequence, LoneEscape, spelling, Mark, plain_of, marks_of, Rendition, known, apply, after_marks, show, one_text, further, marks_of-text, marks_of-sequence, marks_of-lone, after_marks-further, spelled, AllStandAnywhere, stand-append, style_through, style_through-append, styled_through, in_style, styled_through-append}
 use Rattle.ansi_search.proofs.SliceLemmas.{slice_range-none, slice_range-from_past, slice_range-map, slice_range-append, list_all-parts}
 use Rattle.ansi_slice.proofs.ShowLemmas.{show-mark, show-nil, show-text}
 
@@ -9,11 +9,7 @@ at_places test ms = filter (λ (m : Mark). test m.place) ms
 
 pub at_places-further : (test : ℕ → Bool) (n : ℕ) (ms : List Mark) → at_places test (map (further n) ms) ≡ map (further n) (at_places (λ p. test (n + p)) ms)
 at_places-further test n [] = refl
-at_places-further test n (m ∷ ms) = ap (λ ks. if test (n + m.place) then further n m ∷ ks else ks) (at_places-further test n ms) ∙ either (test (n + m.place)) (at_places (λ p. test (n + p)) ms)
-  where
-    either : (b : Bool) (ks : List Mark) → (if b then further n m ∷ map (further n) ks else map (further n) ks) ≡ map (further n) (if b then m ∷ ks else ks)
-    either true ks = refl
-    either false ks = refl
+at_places-further test n (m ∷ ms) = grind (arith, further, at_places-further test n ms)
 
 -- a piece, where the test passes
 abbrev pub piece_when : Bool → Piece → List Piece
@@ -35,11 +31,7 @@ spelled-one_text (b ∷ w) = append-nil (b ∷ w)
 -- a mark at the front
 shown-mark : (p : Piece) (test : ℕ → Bool) (x : List ℕ) (a b : ℕ) (ms : List Mark)
     → spelled (piece_when (test 0) p) ++ show x a b (at_places test ms) ≡ show x a b (at_places test (record { place = 0; bytes = spelling p } ∷ ms))
-shown-mark p test x a b ms = either (test 0)
-  where
-    either : (c : Bool) → spelled (piece_when c p) ++ show x a b (at_places test ms) ≡ show x a b (if c then record { place = 0; bytes = spelling p } ∷ at_places test ms else at_places test ms)
-    either true = ap (λ v. v ++ show x a b (at_places test ms)) (append-nil (spelling p)) ∙ sym (show-mark (spelling p) x a b (at_places test ms))
-    either false = refl
+shown-mark p test x a b ms = grind (arith, append-nil, show-mark, spelled)
 
 pub spelled-shown_pieces : (ps : List Piece) (test : ℕ → Bool) (a b : ℕ) → spelled (shown_pieces test a b ps) ≡ show (plain_of ps) a b (at_places test (marks_of ps))
 spelled-shown_pieces [] test a b = sym (show-nil a b)
@@ -67,22 +59,12 @@ plain-slice_range : (x : List ℕ) (a b : ℕ) → list_all is_plain_byte x ≡ 
 plain-slice_range x a b all = (list_all-parts is_plain_byte (b - a) (drop a x) (list_all-parts is_plain_byte a x all).1).0
 
 one_text_stands : (w : List ℕ) → list_all is_plain_byte w ≡ true → AllStandAnywhere (one_text w)
-one_text_stands [] all = tt
-one_text_stands (b ∷ w) all =
-    let filled : (b ∷ w) ≢ [] = λ e. cc in
-    ((filled, all), tt)
+one_text_stands w all = grind arith
 
 pub shown_pieces_stand : (ps : List Piece) (test : ℕ → Bool) (a b : ℕ) → AllStandAnywhere ps → AllStandAnywhere (shown_pieces test a b ps)
 shown_pieces_stand [] test a b all = tt
-shown_pieces_stand (Text w ∷ ps) test a b all =
-    let later : ℕ → Bool = λ p. test (length w + p) in
-    stand-append (one_text (slice_range w a b)) (shown_pieces later (a - length w) (b - length w) ps)
-    (one_text_stands (slice_range w a b) (plain-slice_range w a b all.0.1))
-    (shown_pieces_stand ps later (a - length w) (b - length w) all.1)
-shown_pieces_stand (Sequence w ∷ ps) test a b all =
-    stand-append (piece_when (test 0) (Sequence w)) (shown_pieces test a b ps)
-    (cond_both (test 0) (Sequence w ∷ []) [] AllStandAnywhere (λ shown. (all.0, tt)) (λ hidden. tt))
-    (shown_pieces_stand ps test a b all.1)
+shown_pieces_stand (Text w ∷ ps) test a b all = grind (arith, one_text, one_text_stands, plain-slice_range, stand-append, shown_pieces_stand ps (λ p. test (length w + p)) (a - length w) (b - length w) all.1)
+shown_pieces_stand (Sequence w ∷ ps) test a b all = grind (arith, AllStandAnywhere, stand-append, shown_pieces_stand ps test a b all.1)
 shown_pieces_stand (LoneEscape ∷ ps) test a b all = absurd all.0
 
 -- The style after them is that after the marks that are shown.
@@ -98,24 +80,13 @@ style_through-mark p s false ms is = refl
 
 pub style_through-shown_pieces : (ps : List Piece) (s : Rendition) (test : ℕ → Bool) (a b : ℕ) → style_through s (shown_pieces test a b ps) ≡ after_marks s (at_places test (marks_of ps))
 style_through-shown_pieces [] s test a b = refl
-style_through-shown_pieces (Text w ∷ ps) s test a b =
-    let n = length w in
-    let later : ℕ → Bool = λ p. test (n + p) in
-    let rest = shown_pieces later (a - n) (b - n) ps in
-    style_through-append s (one_text (slice_range w a b)) rest
-    ∙ ap (λ q. style_through q rest) (style_through-one_text s (slice_range w a b))
-    ∙ style_through-shown_pieces ps s later (a - n) (b - n)
-    ∙ sym (ap (after_marks s) (ap (at_places test) (marks_of-text w ps) ∙ at_places-further test n (marks_of ps)) ∙ after_marks-further s n (at_places later (marks_of ps)))
+style_through-shown_pieces (Text w ∷ ps) s test a b = grind (arith, after_marks-further, at_places-further, marks_of-text, one_text, style_through, style_through-append, style_through-one_text, style_through-shown_pieces ps s (λ p. test ((length w) + p)) (a - (length w)) (b - (length w)))
 style_through-shown_pieces (Sequence w ∷ ps) s test a b =
     style_through-append s (piece_when (test 0) (Sequence w)) (shown_pieces test a b ps)
     ∙ style_through-shown_pieces ps (style_through s (piece_when (test 0) (Sequence w))) test a b
     ∙ style_through-mark (Sequence w) s (test 0) (at_places test (marks_of ps)) refl
     ∙ ap (λ ms. after_marks s (at_places test ms)) (sym (marks_of-sequence w ps))
-style_through-shown_pieces (LoneEscape ∷ ps) s test a b =
-    style_through-append s (piece_when (test 0) LoneEscape) (shown_pieces test a b ps)
-    ∙ style_through-shown_pieces ps (style_through s (piece_when (test 0) LoneEscape)) test a b
-    ∙ style_through-mark LoneEscape s (test 0) (at_places test (marks_of ps)) refl
-    ∙ ap (λ ms. after_marks s (at_places test ms)) (sym (marks_of-lone ps))
+style_through-shown_pieces (LoneEscape ∷ ps) s test a b = grind (arith, marks_of-lone, style_through, style_through-append, style_through-mark, style_through-shown_pieces ps (style_through s (piece_when (test 0) LoneEscape)) test a b)
 
 -- Where each mark before the end is shown, the styled bytes are the slice.
 
@@ -126,18 +97,9 @@ styled_through-one_text s (b ∷ w) = append-nil (in_style s (b ∷ w))
 -- an end that isn't after the start shows no byte
 styled_through-shown_none : (ps : List Piece) (s : Rendition) (test : ℕ → Bool) (a b : ℕ) → b ≤ a → styled_through s (shown_pieces test a b ps) ≡ []
 styled_through-shown_none [] s test a b none = refl
-styled_through-shown_none (Text w ∷ ps) s test a b none =
-    let later : ℕ → Bool = λ p. test (length w + p) in
-    ap (λ v. styled_through s (one_text v ++ shown_pieces later (a - length w) (b - length w) ps)) (slice_range-none w a b none)
-    ∙ styled_through-shown_none ps s later (a - length w) (b - length w) (omega arith)
-styled_through-shown_none (Sequence w ∷ ps) s test a b none =
-    cond_both (test 0) (Sequence w ∷ []) [] (λ qs. styled_through s (qs ++ shown_pieces test a b ps) ≡ [])
-    (λ shown. styled_through-shown_none ps (apply s w) test a b none)
-    (λ hidden. styled_through-shown_none ps s test a b none)
-styled_through-shown_none (LoneEscape ∷ ps) s test a b none =
-    cond_both (test 0) (LoneEscape ∷ []) [] (λ qs. styled_through s (qs ++ shown_pieces test a b ps) ≡ [])
-    (λ shown. styled_through-shown_none ps s test a b none)
-    (λ hidden. styled_through-shown_none ps s test a b none)
+styled_through-shown_none (Text w ∷ ps) s test a b none = grind (arith, one_text, slice_range-none, styled_through, styled_through-shown_none ps s (λ p. test (length w + p)) (a - length w) (b - length w) (omega arith))
+styled_through-shown_none (Sequence w ∷ ps) s test a b none = grind (arith, styled_through, styled_through-shown_none ps (apply s w) test a b none, styled_through-shown_none ps s test a b none)
+styled_through-shown_none (LoneEscape ∷ ps) s test a b none = grind (arith, styled_through, styled_through-shown_none ps s test a b none)
 
 pub styled_through-shown_pieces : (ps : List Piece) (s : Rendition) (test : ℕ → Bool) (a b : ℕ) → ((p : ℕ) → p < b → test p ≡ true)
     → styled_through s (shown_pieces test a b ps) ≡ slice_range (styled_through s ps) a b
