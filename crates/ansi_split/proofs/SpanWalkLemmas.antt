@@ -1,5 +1,5 @@
 -- How far a part that is written has come, and what a step of the walk is to it.
-use Rattle.ansi_split.proofs.Common.{has_escape, plain-bare, marks-bare, show-bare, is_char_boundary, and_parts, good_is_boundary, leb-true, ◌≡◌, ℕ, ◌+◌, ◌-◌, ◌<◌, ◌≤◌, inl, inr, true, false, List, [], ◌∷◌, ◌++◌, length, drop, refl, sym, ◌∙◌, ap, ap₂, subst, arith, IsTrue, if◌then◌else◌, append_assoc, append-nil, length-append, cases_lt, drop_all, drop-drop, drop-append-le, IsCharBoundary, Kind, escape, Piece, Text, Sequence, LoneEscape, spelling, ArePieces, pieces_of, plain_of, plain, marks_of, is_good_position, Rendition, has_any, start, close, close_if_any, style_after_from, show, span_text, pieces_are, pieces_of-unique, is_mark, BeginsWithMark, plain_of-mark, marks_of-text, marks_of-sequence, marks_of-lone, slice_range-past, show-nil, show-text, show-mark, is_good_position-after, IsOverText}
+use Rattle.ansi_split.proofs.Common.{has_escape, plain-bare, marks-bare, show-bare, is_char_boundary, and_parts, good_is_boundary, leb-true, ◌≡◌, ℕ, ◌+◌, ◌-◌, ◌<◌, ◌≤◌, inl, inr, true, false, List, [], ◌∷◌, ◌++◌, length, drop, sym, ◌∙◌, ap, ap₂, subst, arith, IsTrue, if◌then◌else◌, append_assoc, append-nil, length-append, cases_lt, drop_all, drop-drop, drop-append-le, IsCharBoundary, Kind, escape, Piece, Text, Sequence, LoneEscape, spelling, ArePieces, pieces_of, plain_of, plain, marks_of, is_good_position, Rendition, has_any, start, close, close_if_any, style_after_from, show, span_text, pieces_are, pieces_of-unique, is_mark, BeginsWithMark, plain_of-mark, marks_of-text, marks_of-sequence, marks_of-lone, slice_range-past, show-text, show-mark, is_good_position-after, IsOverText}
 use Rattle.ansi_slice.specs.Kept.{kept}
 use Rattle.ansi_slice.proofs.KeptWalkLemmas.{kept-all}
 use Rattle.ansi_split.proofs.AfterLemmas.{boundary_in_next}
@@ -15,9 +15,7 @@ shown-bare t skip none =
     ∙ show-bare t skip (length t) ∙ slice_range-past t skip (length t) (omega arith)
 
 pub boundary-bare : (t : List ℕ) (skip : ℕ) → has_escape t ≡ false → IsTrue (is_char_boundary (plain t) skip) → IsCharBoundary t skip
-boundary-bare t skip none boundary =
-    let both = and_parts _ _ (subst (λ x. IsTrue (is_char_boundary x skip)) (plain-bare t none) boundary) in
-    good_is_boundary t skip (leb-true skip (length t) both.0) both.1
+boundary-bare t skip none boundary = grind (arith, and_parts, good_is_boundary, leb-true, plain-bare)
 
 -- What is written, and what is left, are the whole. Plain bytes that are still to be left out end at a character of what is left.
 pub record IsShownSoFar (whole written : List ℕ) (skip : ℕ) (left : List Piece) : Type 0 where
