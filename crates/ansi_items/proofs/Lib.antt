@@ -9,4 +9,5 @@ pub mod Utf8Lemmas
 pub mod StepLemmas
 pub mod JoinLemmas
 pub mod AnsiColorLemmas
+pub mod Tables
 mod Examples

@@ -1,5 +1,5 @@
 -- A pattern at the front and at the end of a text.
-use Rattle.ansi_search.proofs.Common.{◌≡◌, ℕ, ◌+◌, ◌-◌, ◌≤◌, ◌⊎◌, inl, inr, IsTrue, true, ◌&&◌, List, [], ◌∷◌, ◌++◌, length, take, drop, nat_eq, refl, sym, ◌∙◌, ap, ap₂, subst, arith, and_assoc, nat_eq_equiv, take-append-le, take_all, drop-drop, length-drop, length-take, IsCharBoundary-start, IsCharBoundary-from_take, IsCharBoundary-from_drop, pointwise, same_text, starts_with, ends_with, IsUtf8, IsCharBoundary, Kind, Piece, pieces_of, plain_of, plain, is_good_position, StandsIn}
+use Rattle.ansi_search.proofs.Common.{◌≡◌, ℕ, ◌+◌, ◌-◌, ◌≤◌, ◌⊎◌, inl, inr, IsTrue, true, ◌&&◌, List, ◌∷◌, ◌++◌, length, take, drop, nat_eq, refl, sym, ◌∙◌, ap, ap₂, subst, arith, and_assoc, nat_eq_equiv, take-append-le, take_all, drop-drop, length-drop, length-take, IsCharBoundary-from_take, IsCharBoundary-from_drop, pointwise, same_text, starts_with, ends_with, IsUtf8, IsCharBoundary, Kind, Piece, pieces_of, plain_of, plain, is_good_position, StandsIn, []}
 use Rattle.ansi_search.proofs.PositionLemmas.{boundary_is_good}
 use Rattle.ansi_search.proofs.OffsetLemmas.{IsOverText, IsOverMark, IsPassed, passed-text, passed-mark, stands-after}
 
@@ -17,9 +17,7 @@ starts_with-across (c ∷ p) (b ∷ w) y fits =
 
 -- a text ends with what begins that many bytes before its end
 pub ends_with-starts_with : (x p : List ℕ) → starts_with nat_eq (drop (length x - length p) x) p ≡ ends_with nat_eq x p
-ends_with-starts_with x p =
-    let end = drop (length x - length p) x in
-    ap (pointwise nat_eq p) (take_all (length p) end (omega (arith, length-drop (length x - length p) x)))
+ends_with-starts_with x p = grind (arith, length-drop, take_all)
 
 -- A text may be cut after what it begins with, and before what it ends with.
 
@@ -86,11 +84,7 @@ tail-sum {left = left} so_far none =
 
 pub tail-starts : {t rest : List ℕ} (p : List ℕ) {last len passed : ℕ} {left : List Piece} → IsTailSoFar t (length p) last len passed left → left ≡ [] → rest ≡ drop last t
     → starts_with nat_eq (drop (len - length p) (plain rest)) p ≡ ends_with nat_eq (plain t) p
-tail-starts {t} {rest} p {last} {len} so_far none is =
-    let n = len - length p in
-    ap (λ u. starts_with nat_eq (drop n u) p) (ap plain is ∙ sym so_far.from.rest)
-    ∙ ap (λ u. starts_with nat_eq u p) (drop-drop n so_far.before (plain t) ∙ ap (λ k. drop k (plain t)) (tail-sum so_far none))
-    ∙ ends_with-starts_with (plain t) p
+tail-starts p so_far none is = grind (arith, drop-drop, ends_with-starts_with, tail-sum)
 
 pub tail-good : {t rest : List ℕ} (p : List ℕ) {last len passed : ℕ} {left : List Piece} → IsTailSoFar t (length p) last len passed left → left ≡ [] → rest ≡ drop last t → IsUtf8 p
     → starts_with nat_eq (drop (len - length p) (plain rest)) p ≡ true → IsTrue (is_good_position (plain rest) (len - length p))

@@ -1,5 +1,5 @@
 -- The first match is the one that std's `find` gives.
-use Rattle.ansi_search.proofs.Common.{◌≡◌, ℕ, ◌+◌, ◌<◌, ◌≤◌, List, [], ◌∷◌, ◌++◌, take, drop, length, nat_eq, IsTrue, Option, Some, None, MatchOption, refl, sym, ◌∙◌, ap, subst, arith, IfSome, and_parts, and_from, take_at, drop-drop, length-append, IsUtf8-drop, IsCharBoundary-start, IsCharBoundary-from_take, IsCharBoundary-from_rest, starts_with, IsUtf8, IsCharBoundary, FindsText, LacksTextAt, HasTextAt, MatchBeginsAt, IsFirst, is_char_boundary, is_good_range}
+use Rattle.ansi_search.proofs.Common.{◌≡◌, ℕ, ◌+◌, ◌<◌, ◌≤◌, List, ◌∷◌, ◌++◌, take, drop, length, nat_eq, IsTrue, Option, Some, None, MatchOption, refl, sym, ◌∙◌, ap, subst, arith, IfSome, and_parts, and_from, take_at, drop-drop, length-append, IsUtf8-drop, IsCharBoundary-start, IsCharBoundary-from_take, IsCharBoundary-from_rest, starts_with, IsUtf8, IsCharBoundary, FindsText, LacksTextAt, HasTextAt, MatchBeginsAt, IsFirst, is_char_boundary, is_good_range, []}
 use Rattle.ansi_search.proofs.PositionLemmas.{is_char_boundary-from, is_char_boundary-is, boundary_is_good, good_range_from, good_before}
 use Rattle.ansi_search.proofs.MatchLemmas.{IsMatch, is_match-utf8, starts_with-from, starts_with-splits}
 

@@ -1,5 +1,5 @@
 -- Where a pattern stands in a text, and where it stands first.
-use Rattle.ansi_search.proofs.Common.{◌≡◌, ℕ, zero, suc, ◌+◌, ◌-◌, ◌<◌, ◌≤◌, max, inl, inr, Bool, true, false, ◌&&◌, ◌||◌, List, [], ◌∷◌, ◌++◌, take, drop, length, filter, nat_eq, nat_le, IsTrue, IsFalse, Option, Some, None, refl, sym, ◌∙◌, ap, ap₂, subst, arith, slice_get, slice_index, and_parts, and_from, cond_both, cases_lt, cases_eq, le-leb, leb-true, leb-false, true≢false, take-append-drop, take_at, drop-drop, take-append-le, get_or_append_left, get_or-drop, length-append, length-drop, drop-append-le, bytes_eq-Decides, IsCharBoundary-start, IsCharBoundary-from_rest, both_ways, range_with_len, starts_with, IsUtf8, IsCharBoundary, bytes_eq, Nowhere, IsFirst, OccursAt, FindsNeedle, Passes, is_byte, OccursAt-split, OccursAt-from_part, ◌==◌, escape, has_escape, is_good_position, is_char_boundary, is_match, first_match_from}
+use Rattle.ansi_search.proofs.Common.{◌≡◌, ℕ, zero, suc, ◌+◌, ◌-◌, ◌<◌, ◌≤◌, max, inl, inr, Bool, true, false, ◌&&◌, ◌||◌, List, ◌∷◌, ◌++◌, take, drop, length, filter, nat_eq, nat_le, IsTrue, IsFalse, Option, Some, None, refl, sym, ◌∙◌, ap, ap₂, subst, arith, slice_get, slice_index, and_parts, and_from, cond_both, cases_lt, cases_eq, le-leb, leb-true, leb-false, true≢false, take-append-drop, take_at, drop-drop, take-append-le, get_or_append_left, get_or-drop, length-append, length-drop, drop-append-le, bytes_eq-Decides, IsCharBoundary-start, IsCharBoundary-from_rest, both_ways, range_with_len, starts_with, IsUtf8, IsCharBoundary, Nowhere, IsFirst, OccursAt, FindsNeedle, Passes, is_byte, OccursAt-split, OccursAt-from_part, ◌==◌, escape, has_escape, is_char_boundary, is_match, first_match_from, []}
 use Rattle.ansi_search.proofs.PositionLemmas.{is_good_position-past, is_char_boundary-from}
 
 -- Whether a text begins with a pattern.
@@ -31,13 +31,7 @@ is_match-utf8 x p i utf8 some =
 -- Where a text is passed over.
 
 is_char_boundary-drop : (x : List ℕ) (k i : ℕ) → k ≤ length x → is_char_boundary x (k + i) ≡ is_char_boundary (drop k x) i
-is_char_boundary-drop x k i within =
-    let left : length (drop k x) ≡ length x - k = length-drop k x in
-    let inside : nat_le (k + i) (length x) ≡ nat_le i (length (drop k x))
-    = both_ways _ _
-    (λ h. le-leb i (length (drop k x)) (omega (arith, leb-true (k + i) (length x) h, left)))
-    (λ h. le-leb (k + i) (length x) (omega (arith, leb-true i (length (drop k x)) h, left, within))) in
-    ap₂ (λ s b. s && is_good_position (b ∷ []) 0) inside (sym (get_or-drop k x i 0))
+is_char_boundary-drop x k i within = grind (arith, get_or-drop, le-leb, leb-true, length-drop)
 
 pub is_match-drop : (x p : List ℕ) (k i : ℕ) → k ≤ length x → is_match x p (k + i) ≡ is_match (drop k x) p i
 is_match-drop x p k i within = ap₂ (λ s v. s && starts_with nat_eq v p) (is_char_boundary-drop x k i within) (sym (drop-drop i k x))
@@ -165,9 +159,7 @@ none_at_end x p from place end passed before = first_match_from-is x p from None
 -- A text from a position on, searched for what isn't empty: a match is one that a search of the bytes finds.
 
 pub match-from : (x p : List ℕ) (from i : ℕ) → IsUtf8 p → 0 < length p → from ≤ i → is_match x p i ≡ starts_with nat_eq (drop (i - from) (drop from x)) p
-match-from x p from i utf8 some low =
-    let sum : from + (i - from) ≡ i = omega (arith, low) in
-    is_match-utf8 x p i utf8 some ∙ ap (λ v. starts_with nat_eq v p) (ap (λ n. drop n x) (sym sum) ∙ sym (drop-drop (i - from) from x))
+match-from x p from i utf8 some low = grind (arith, drop-drop, is_match-utf8)
 
 pub starts_with-occurs : (x p : List ℕ) (s : ℕ) → 0 < length p → starts_with nat_eq (drop s x) p ≡ true → OccursAt x p s
 starts_with-occurs x p s some starts =
@@ -217,28 +209,11 @@ none_inside w p from utf8 some inside finds k low high =
 
 -- a match in the run is one in all
 pub is_match-front : (w y p : List ℕ) (i : ℕ) → i < length w → i + length p ≤ length w → is_match (w ++ y) p i ≡ is_match w p i
-is_match-front w y p i inside fits =
-    let all : length (w ++ y) ≡ length w + length y = length-append w y in
-    let rest : length (drop i w) ≡ length w - i = length-drop i w in
-    let here : nat_le i (length (w ++ y)) ≡ nat_le i (length w) = le-leb i (length (w ++ y)) (omega (arith, all, inside)) ∙ sym (le-leb i (length w) (omega (arith, inside))) in
-    let stands : starts_with nat_eq (drop i (w ++ y)) p ≡ starts_with nat_eq (drop i w) p
-    = ap (λ v. starts_with nat_eq v p) (drop-append-le i w y (omega (arith, inside)))
-    ∙ ap (bytes_eq p) (take-append-le (length p) (drop i w) y (omega (arith, rest, fits))) in
-    ap₂ (λ s b. (s && is_good_position (b ∷ []) 0) && starts_with nat_eq (drop i (w ++ y)) p) here (get_or_append_left w y 0 i inside)
-    ∙ ap (λ t. is_char_boundary w i && t) stands
+is_match-front w y p i inside fits = grind (arith, drop-append-le, get_or_append_left, le-leb, length-append, length-drop, take-append-le)
 
 -- the first that begins and ends in the run is the first of all
 pub first_in_front : (w y p : List ℕ) (from s : ℕ) → s + length p ≤ length w → IsFirst (IsMatch w p) from (length w) (Some s) → IsFirst (IsMatch (w ++ y) p) from (length w) (Some s)
-first_in_front w y p from s fits first =
-    let found = first.0 in
-    let high : s < length w = found.high in (
-      record {
-        low = found.low;
-        high = high;
-        before = λ k low below match. found.before k low below (sym (is_match-front w y p k (omega (arith, below, high)) (omega (arith, below, fits))) ∙ match);
-      },
-      is_match-front w y p s high fits ∙ first.1,
-    )
+first_in_front w y p from s fits first = grind (arith, is_match-front)
 
 -- the empty pattern
 pub first_empty : (w y : List ℕ) (from : ℕ) (r : Option ℕ) → IsFirst (IsMatch w []) from (length w) r → IsFirst (IsMatch (w ++ y) []) from (length w) r

@@ -1,5 +1,5 @@
 -- Where the plain bytes of a text stand in it: what stands before them and after them, and how far a walk there has come.
-use Rattle.ansi_search.proofs.Common.{◌≡◌, ◌≢◌, ℕ, zero, suc, ◌+◌, ◌-◌, ◌<◌, ◌≤◌, inl, inr, Bool, true, ◌↔◌, List, [], ◌∷◌, ◌++◌, length, take, drop, take-add, refl, sym, ◌∙◌, ap, ap₂, subst, arith, IsTrue, if◌then◌else◌, nat_lt, length-append, false, drop-nil, drop-append_seam, cases_lt, lt-ltb, le-ltb, take_all, drop-append-le, drop-drop, drop_all, sameb, same_false, slice_range, IsCharBoundary-from_rest, IsCharBoundary, the_type, Kind, is_plain_byte, Piece, Text, Sequence, LoneEscape, spelling, ArePieces, pieces_of, plain_of, plain, pieces_are, pieces_of-unique, spelled, Item, Scan, Gives, pieces_left, is_mark, BeginsWithMark, gives_text, gives_mark, plain_of-mark, Rendition, apply, style_within, style_by_marks, style_by_marks-before, style_by_marks-text, style_by_marks-sequence, style_by_marks-lone, is_good_position, bytes_before, offset_of, StandsIn}
+use Rattle.ansi_search.proofs.Common.{◌≡◌, ◌≢◌, ℕ, zero, suc, ◌+◌, ◌-◌, ◌<◌, ◌≤◌, inl, inr, Bool, true, ◌↔◌, List, ◌∷◌, ◌++◌, length, take, drop, take-add, refl, sym, ◌∙◌, ap, subst, arith, IsTrue, if◌then◌else◌, nat_lt, length-append, false, drop-nil, drop-append_seam, cases_lt, lt-ltb, le-ltb, take_all, drop-append-le, drop-drop, drop_all, sameb, same_false, slice_range, IsCharBoundary-from_rest, IsCharBoundary, the_type, Kind, is_plain_byte, Piece, Text, Sequence, LoneEscape, spelling, ArePieces, pieces_of, plain_of, plain, pieces_are, pieces_of-unique, spelled, Item, Scan, Gives, pieces_left, is_mark, BeginsWithMark, gives_text, gives_mark, plain_of-mark, Rendition, apply, style_within, style_by_marks, style_by_marks-before, style_by_marks-text, style_by_marks-sequence, style_by_marks-lone, is_good_position, bytes_before, offset_of, StandsIn, []}
 use Rattle.ansi_items.specs.declared.ansitok.Kind.TheVariants.{Text as TextKind}
 use Rattle.ansi_search.proofs.SliceLemmas.{length-slice_range, take-append, drop-append, list_all-parts}
 use Rattle.ansi_search.proofs.PositionLemmas.{is_good_position-append, is_good_position-after, is_good_position-past, is_good_position-drop, good_is_boundary, boundary_test}
@@ -34,14 +34,10 @@ pub after_of-text : (n : ℕ) (w : List ℕ) (ps : List Piece) → length w ≤ 
 after_of-text n w ps within = ap (λ b. if b then Text (drop n w) ∷ ps else after_of (n - length w) ps) (le-ltb n (length w) within)
 
 pub take-after : (w rest : List ℕ) (n : ℕ) → take (length w + n) (w ++ rest) ≡ w ++ take n rest
-take-after w rest n =
-    let left : length w + n - length w ≡ n = omega arith in
-    take-append (length w + n) w rest ∙ ap₂ (λ u k. u ++ take k rest) (take_all (length w + n) w (omega arith)) left
+take-after w rest n = grind (arith, take-append, take_all)
 
 pub drop-after : (w rest : List ℕ) (n : ℕ) → drop (length w + n) (w ++ rest) ≡ drop n rest
-drop-after w rest n =
-    let left : length w + n - length w ≡ n = omega arith in
-    drop-append (length w + n) w rest ∙ ap₂ (λ u k. u ++ drop k rest) (drop_all (length w + n) w (omega arith)) left
+drop-after w rest n = grind (arith, drop-append, drop_all)
 
 pub drop_filled : (n : ℕ) (w : List ℕ) → n < length w → drop n w ≢ []
 drop_filled n [] last = absurd (omega arith)
@@ -148,43 +144,20 @@ way-begin t n start = record { offset = omega arith; good = refl; styled = refl 
 
 pub way-text : {t : List ℕ} {n passed at left next : ℕ} {start style : Rendition} {w : List ℕ} {old ps : List Piece} → IsOnTheWay t n start passed left style old → IsOverText t w passed at old ps
     → length w ≤ left → next ≡ left - length w → IsOnTheWay t n start at next style ps
-way-text {t} {n} {passed} {at} {left} {next} {start} {style} {w} {old} {ps} way over within next_is =
-    let here = subst (IsOnTheWay t n start passed left style) over.first way in
-    rw next_is (record {
-      offset = omega (arith, over.count, here.offset, bytes_before-text left w ps within);
-      good = sym (is_good_position-after w (plain_of ps) left within) ∙ here.good;
-      styled = sym (style-text style left w ps within) ∙ here.styled;
-    })
+way-text way over within next_is = grind (arith, bytes_before-text, is_good_position-after, style-text)
 
 pub way-mark : {t : List ℕ} {n passed at left : ℕ} {start style next : Rendition} {kind : Kind} {w : List ℕ} {old ps : List Piece} → IsOnTheWay t n start passed left style old → IsOverMark kind t w passed at old ps
     → next ≡ apply style w → IsOnTheWay t n start at left next ps
-way-mark {t} {n} {passed} {at} {left} {start} {style} {next} {w = w} {ps = ps} way over next_is =
-    let begins = over.first in
-    let here = subst (IsOnTheWay t n start passed left style) begins.pieces way in
-    let step : IsOnTheWay t n start at left (apply style (spelling begins.mark)) ps = record {
-      offset = omega (arith, over.count, ap length begins.bytes, here.offset, bytes_before-mark left begins.mark ps begins.is_mark);
-      good = ap (λ x. is_good_position x left) (sym (plain_of-mark begins.mark ps begins.is_mark)) ∙ here.good;
-      styled = sym (styles begins.mark begins.is_mark) ∙ here.styled;
-    } in
-    rw (next_is, ← begins.bytes) step
-  where
-    styles : (p : Piece) → is_mark p ≡ true → style_by_marks style (p ∷ ps) left ≡ style_by_marks (apply style (spelling p)) ps left
-    styles (Text v) is = absurd (cc is)
-    styles (Sequence v) is = style_by_marks-sequence style v ps left
-    styles LoneEscape is = style_by_marks-lone style ps left
+way-mark way over next_is = grind (arith, bytes_before-mark, is_mark, plain_of-mark, style_by_marks, style_by_marks-lone, style_by_marks-sequence)
 
 -- the byte stands in the text that comes next, or there is none
 pub way-last : {t : List ℕ} {n passed at left : ℕ} {start style : Rendition} {w : List ℕ} {old ps : List Piece} → IsOnTheWay t n start passed left style old → IsOverText t w passed at old ps → left < length w
     → (passed + left ≡ offset_of t n) × (style ≡ style_within start t n)
-way-last {t} {n} {passed} {left = left} {start = start} {style = style} {w = w} {ps = ps} way over last =
-    let here = subst (IsOnTheWay t n start passed left style) over.first way in
-    (omega (arith, here.offset, bytes_before-last left w ps last), sym (style_by_marks-before style w ps left last) ∙ here.styled)
+way-last way over last = grind (arith, bytes_before-last, style_by_marks-before)
 
 pub way-end : {t : List ℕ} {n passed left : ℕ} {start style : Rendition} {old : List Piece} → IsOnTheWay t n start passed left style old → old ≡ []
     → (passed ≡ offset_of t n) × (true ≡ is_good_position (plain t) n) × (style ≡ style_within start t n)
-way-end {t} {n} {passed} {left} {start} {style} way none =
-    let here = subst (IsOnTheWay t n start passed left style) none way in
-    (omega (arith, here.offset), sym (is_good_position-past [] left (omega arith)) ∙ here.good, here.styled)
+way-end way none = grind (arith, is_good_position-past)
 
 -- a position in a text that comes next is good where it is a boundary of all
 good_in_next : (t : List ℕ) (at left : ℕ) (w : List ℕ) (ps : List Piece) → pieces_of (drop at t) ≡ Text w ∷ ps → left < length w
@@ -232,15 +205,7 @@ passed-text {t} {place} {passed} {w = w} {ps = ps} way over =
     }
 
 pub passed-mark : {t : List ℕ} {place passed at : ℕ} {kind : Kind} {w : List ℕ} {left ps : List Piece} → IsPassed t place passed left → IsOverMark kind t w passed at left ps → IsPassed t place at ps
-passed-mark {t} {place} {passed} {ps = ps} way over =
-    let begins = over.first in
-    let here = subst (IsPassed t place passed) begins.pieces way in
-    let same = plain_of-mark begins.mark ps begins.is_mark in
-    record {
-      count = ap (λ x. place + length x) (sym same) ∙ here.count;
-      rest = here.rest ∙ same;
-      offset = λ n. omega (arith, over.count, ap length begins.bytes, here.offset n, bytes_before-mark n begins.mark ps begins.is_mark);
-    }
+passed-mark way over = grind (arith, bytes_before-mark, is_mark, plain_of-mark)
 
 -- a place in what follows a place that was passed
 pub stands-after : {t rest : List ℕ} {place passed n i : ℕ} → IsPassed t place passed (pieces_of rest) → rest ≡ drop passed t → passed ≤ length t → StandsIn rest n i → StandsIn t (place + n) (passed + i)

@@ -1,5 +1,5 @@
 -- Good positions, in a text at the front and after it, and as std's character boundaries.
-use Rattle.ansi_search.proofs.Common.{◌≡◌, ℕ, ◌-◌, ◌<◌, ◌≤◌, inl, inr, not, true, false, List, ◌++◌, length, drop, IsTrue, Some, None, Option, ◌&&◌, ◌||◌, ◌==◌, refl, sym, ◌∙◌, ap, ap₂, subst, arith, ◌+◌, ◌↔◌, Bool, min, nat_le, slice_index, eqb-true, leb-true, leb-false, le-leb, and_parts, and_from, lt-leb, cases_lt, not-true, not_from_false, and_left, and_right, and_cases, get_or_append_left, get_or_past, get_or-append_right, get_or-drop, length-append, length-drop, both_ways, IsCharBoundary-start, IsCharBoundary-end, unwrap_or, IsUtf8, IsCharBoundary, plain, length-plain, IsUtf8-plain, is_continuation_byte, is_good_position, is_char_boundary, is_good_range, is_position_in, is_range_in}
+use Rattle.ansi_search.proofs.Common.{◌≡◌, ℕ, ◌-◌, ◌<◌, ◌≤◌, inl, inr, not, true, false, List, ◌++◌, length, drop, IsTrue, Some, None, Option, ◌&&◌, refl, sym, ◌∙◌, ap, ap₂, subst, arith, ◌+◌, ◌↔◌, Bool, min, nat_le, eqb-true, leb-true, leb-false, le-leb, and_parts, and_from, lt-leb, cases_lt, not-true, not_from_false, and_left, and_right, and_cases, get_or_append_left, get_or_past, get_or-append_right, get_or-drop, length-append, length-drop, both_ways, IsCharBoundary-start, IsCharBoundary-end, unwrap_or, IsUtf8, IsCharBoundary, plain, length-plain, IsUtf8-plain, is_continuation_byte, is_good_position, is_char_boundary, is_good_range, is_position_in, is_range_in}
 
 pub is_good_position-past : (x : List ℕ) (n : ℕ) → length x ≤ n → is_good_position x n ≡ true
 is_good_position-past x n past = ap (λ b. not (is_continuation_byte b)) (get_or_past x n 0 past)
@@ -17,25 +17,10 @@ is_good_position-drop x k n = ap (λ b. not (is_continuation_byte b)) (get_or-dr
 -- Within a text, the good positions are std's boundaries.
 
 pub good_is_boundary : (x : List ℕ) (n : ℕ) → n ≤ length x → IsTrue (is_good_position x n) → IsCharBoundary x n
-good_is_boundary x n within good =
-    let b = slice_index x n in (
-      within,
-      λ inside high. elim (and_cases (nat_le 128 b) (nat_le b 191) (not-true (is_continuation_byte b) good)) [
-        | inl low ↦ (let below = leb-false 128 b low in absurd (omega (arith, below, high)))
-        | inr lead ↦ (let above = leb-false b 191 lead in omega (arith, above))
-      ],
-    )
+good_is_boundary x n within good = grind (arith, and_cases, leb-false, not-true)
 
 pub boundary_is_good : (x : List ℕ) (n : ℕ) → IsCharBoundary x n → IsTrue (is_good_position x n)
-boundary_is_good x n boundary =
-    let b = slice_index x n in
-    elim (cases_lt n (length x)) [
-      | inl within ↦ not_from_false (is_continuation_byte b) (elim (cases_lt b 128) [
-        | inl ascii ↦ and_left (nat_le 128 b) (nat_le b 191) (lt-leb 128 b ascii)
-        | inr high ↦ and_right (nat_le 128 b) (nat_le b 191) (let lead : 192 ≤ b = boundary.1 within high in lt-leb b 191 (omega (arith, lead)))
-      ])
-      | inr past ↦ is_good_position-past x n past
-    ]
+boundary_is_good x n boundary = grind (arith, and_left, and_right, is_good_position-past, lt-leb, not_from_false)
 
 pub boundary_inside : (x : List ℕ) (n : ℕ) → IsTrue (is_good_position x n) → IsCharBoundary x (min n (length x))
 boundary_inside x n good = elim (cases_lt n (length x)) [
@@ -47,9 +32,7 @@ pub is_char_boundary-from : (x : List ℕ) (n : ℕ) → IsCharBoundary x n → 
 is_char_boundary-from x n boundary = and_from _ _ (le-leb n (length x) boundary.0) (boundary_is_good x n boundary)
 
 pub is_char_boundary-is : (x : List ℕ) (n : ℕ) → is_char_boundary x n ≡ true → IsCharBoundary x n
-is_char_boundary-is x n h =
-    let both = and_parts (nat_le n (length x)) (is_good_position x n) h in
-    good_is_boundary x n (leb-true n (length x) both.0) both.1
+is_char_boundary-is x n h = grind (arith, and_parts, good_is_boundary, leb-true)
 
 pub is_char_boundary-decided : (x : List ℕ) (n : ℕ) (b : Bool) → IsTrue b ↔ IsCharBoundary x n → b ≡ is_char_boundary x n
 is_char_boundary-decided x n b test = both_ways _ _ (λ yes. is_char_boundary-from x n (test.0 yes)) (λ is. test.1 (is_char_boundary-is x n is))
@@ -93,26 +76,12 @@ good_before x n utf8 boundary = good_range_from x 0 n (omega arith) (IsCharBound
 
 -- a range without an end is as good as one up to a position past the end
 pub is_good_range-top : (x : List ℕ) (s : ℕ) (end : Option ℕ) {e : ℕ} (top : ℕ) → e ≡ unwrap_or end top → s ≤ top → length x ≤ top → is_good_range x s (Some e) ≡ is_good_range x s end
-is_good_range-top x s None top is below past =
-    ap (λ n. is_good_range x s (Some n)) is ∙ ap₂ (λ a b. a && (is_good_position x s && b)) (le-leb s top below) (is_good_position-past x top past) ∙ and_true (is_good_position x s)
-  where
-    and_true : (b : Bool) → b && true ≡ b
-    and_true true = refl
-    and_true false = refl
-is_good_range-top x s (Some n) top is below past = ap (λ n. is_good_range x s (Some n)) is
+is_good_range-top x s end top is below past = grind (arith, is_good_position-past, le-leb)
 
 -- Where a text may be divided and cut, its plain text is.
 
 pub is_position_in-good : (t : List ℕ) (n : ℕ) → IsUtf8 t → is_position_in t n ≡ is_good_position (plain t) n
-is_position_in-good t n utf8 =
-    either (n == 0) (nat_le (length t) n) (is_good_position (plain t) n)
-    (λ zero. subst (λ k. is_good_position (plain t) k ≡ true) (sym (eqb-true n 0 zero)) (boundary_is_good (plain t) 0 (IsCharBoundary-start (plain t) (IsUtf8-plain t utf8))))
-    (λ past. is_good_position-past (plain t) n (omega (arith, length-plain t, leb-true (length t) n past)))
-  where
-    either : (front past good : Bool) → (front ≡ true → good ≡ true) → (past ≡ true → good ≡ true) → (front || (past || good)) ≡ good
-    either true past good at_front at_end = sym (at_front refl)
-    either false true good at_front at_end = sym (at_end refl)
-    either false false good at_front at_end = refl
+is_position_in-good t n utf8 = grind (arith, IsCharBoundary-start, IsUtf8-plain, boundary_is_good, eqb-true, is_good_position-past, leb-true, length-plain)
 
 pub is_range_in-good : (t : List ℕ) (s : ℕ) (e : Option ℕ) → IsUtf8 t → is_range_in t s e ≡ is_good_range (plain t) s e
 is_range_in-good t s None utf8 = is_position_in-good t s utf8

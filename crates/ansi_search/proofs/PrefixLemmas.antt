@@ -1,6 +1,5 @@
 -- A pattern that a plain text goes on with from a place on, met run by run.
-use Rattle.ansi_search.proofs.Common.{◌≡◌, ◌≢◌, ℕ, ◌+◌, ◌-◌, ◌<◌, ◌≤◌, inl, inr, min, ◌&&◌, List, [], ◌∷◌, ◌++◌, length, take, drop, nat_eq, refl, sym, ◌∙◌, ap, subst, arith, append_assoc, IsFalse, slice_index, and_parts, cases_lt, eqb-true, true≢false, take-append-drop, take-append-le, take_all, drop-take, drop_all, get_or-take, get_or-drop, length-drop, length-append, length-take-le, pointwise, starts_with, list_all, slice_range, Nowhere, Passes, is_byte, escape, is_plain_byte, Item, Piece, Text, after_text, pieces_of, ArePieces, plain_of, plain, has_escape, Scan, Gives, pieces_left, after_text_are, pieces_are, pieces_of-unique, all_plain_bytes, gives_text}
-use Rattle.ansi_items.specs.declared.ansitok.Kind.TheVariants.{Text as TextKind}
+use Rattle.ansi_search.proofs.Common.{◌≡◌, ◌≢◌, ℕ, ◌+◌, ◌-◌, ◌<◌, ◌≤◌, inl, inr, min, ◌&&◌, List, ◌∷◌, ◌++◌, length, take, drop, nat_eq, refl, sym, ◌∙◌, ap, arith, append_assoc, IsFalse, slice_index, and_parts, cases_lt, eqb-true, true≢false, take-append-drop, take-append-le, take_all, drop-take, drop_all, get_or-take, get_or-drop, length-drop, length-append, length-take-le, pointwise, starts_with, list_all, Nowhere, Passes, is_byte, escape, is_plain_byte, Piece, Text, after_text, pieces_of, ArePieces, plain_of, plain, has_escape, after_text_are, pieces_are, pieces_of-unique, all_plain_bytes, []}
 use Rattle.ansi_search.proofs.EndLemmas.{starts_with-across}
 use Rattle.ansi_search.proofs.MatchLemmas.{no_escape-found}
 use Rattle.ansi_search.proofs.SliceLemmas.{drop-append}
@@ -36,16 +35,10 @@ front-bare t w n most is size none = elim (cases_lt most (length t)) [
 
 -- none is found before an offset
 pub bare_before : (t : List ℕ) (n len : ℕ) → len ≤ n → len ≤ length t → Nowhere (Passes (is_byte escape) (take n t)) 0 len → IsFalse (has_escape (take len t))
-bare_before t n len within inside none =
-    let size : length (take len t) ≡ len = length-take-le len t inside in
-    no_escape-found (take len t) (λ k low high passes.
-    let below : k < len = omega (arith, high, size) in
-    none k low below (ap (is_byte escape) (get_or-take n t k 0 (omega (arith, below, within)) ∙ sym (get_or-take len t k 0 below)) ∙ passes))
+bare_before t n len within inside none = grind (arith, get_or-take, length-take-le, no_escape-found)
 
 pub escape_at : (t : List ℕ) (n len : ℕ) → len < n → Passes (is_byte escape) (take n t) len → slice_index (drop len t) 0 ≡ escape
-escape_at t n len inside passes =
-    let same : len + 0 ≡ len = omega arith in
-    get_or-drop len t 0 0 ∙ ap (slice_index t) same ∙ sym (get_or-take n t len 0 inside) ∙ eqb-true _ _ passes
+escape_at t n len inside passes = grind (arith, eqb-true, get_or-drop, get_or-take)
 
 no_text : (u w : List ℕ) (ps : List Piece) → ArePieces u (Text w ∷ ps) → slice_index u 0 ≢ escape
 no_text u [] ps are escapes = are.2.0 refl

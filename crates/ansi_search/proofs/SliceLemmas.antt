@@ -1,13 +1,11 @@
 -- Slices of a list whose ends lie at its end or past it, and of two lists in a row.
-use Rattle.ansi_search.proofs.Common.{◌≡◌, ℕ, zero, suc, ◌-◌, ◌≤◌, min, inl, inr, Bool, true, List, [], ◌∷◌, ◌++◌, map, length, take, drop, sym, ◌∙◌, ap, ap₂, arith, cases_lt, and_parts, list_all-append, take-nil, drop-nil, length-drop, length-take-le, drop_all, take_all, take-append-drop, take-map, drop-map, slice_range, list_all}
+use Rattle.ansi_search.proofs.Common.{◌≡◌, ℕ, zero, suc, ◌-◌, ◌≤◌, min, Bool, true, List, ◌∷◌, ◌++◌, map, length, take, drop, sym, ◌∙◌, ap, ap₂, arith, and_parts, list_all-append, take-nil, drop-nil, length-drop, length-take-le, drop_all, take_all, take-append-drop, take-map, drop-map, slice_range, list_all, []}
 
 pub slice_range-none : {X : Type 0} (x : List X) (a b : ℕ) → b ≤ a → slice_range x a b ≡ []
 slice_range-none x a b none = (let size : b - a ≡ 0 = omega arith in ap (λ n. take n (drop a x)) size)
 
 pub slice_range-from_past : {X : Type 0} (x : List X) (a b : ℕ) → length x ≤ a → slice_range x a b ≡ []
-slice_range-from_past x a b past =
-    let empty : drop a x ≡ [] = drop_all a x past in
-    take_all (b - a) (drop a x) (omega (arith, ap length empty)) ∙ empty
+slice_range-from_past x a b past = grind (arith, drop_all, take_all)
 
 pub slice_range-past : {X : Type 0} (x : List X) (a b : ℕ) → length x ≤ b → slice_range x a b ≡ drop a x
 slice_range-past x a b past = take_all (b - a) (drop a x) (omega (arith, length-drop a x))
@@ -17,18 +15,7 @@ length-slice_range x a b ordered within = length-take-le (b - a) (drop a x) (ome
 
 -- the ends may be brought to the end of the list
 pub slice_range-min : {X : Type 0} (x : List X) (a b : ℕ) → slice_range x (min a (length x)) (min b (length x)) ≡ slice_range x a b
-slice_range-min x a b =
-    let n = length x in
-    elim (cases_lt a n) [
-      | inl from_inside ↦ elim (cases_lt b n) [
-        | inl inside ↦ ap₂ (slice_range x) (omega arith) (omega arith)
-        | inr past ↦ (
-            let from : min a n ≡ a = omega arith in
-            let to : min b n ≡ n = omega arith in
-            ap₂ (slice_range x) from to ∙ slice_range-past x a n (omega arith) ∙ sym (slice_range-past x a b past))
-      ]
-      | inr from_past ↦ slice_range-from_past x (min a n) (min b n) (omega arith) ∙ sym (slice_range-from_past x a b from_past)
-    ]
+slice_range-min x a b = grind (arith, slice_range-from_past, slice_range-past)
 
 -- what is left of a list after so many of its elements, or after all
 pub slice_range-rest : {X : Type 0} (x : List X) (n k : ℕ) → k ≡ min n (length x) → slice_range x k (length x) ≡ drop n x

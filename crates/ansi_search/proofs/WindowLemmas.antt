@@ -1,5 +1,5 @@
 -- A search that goes forward by the cut of a pattern, a window at a time.
-use Rattle.ansi_search.proofs.Common.{◌≡◌, ◌≢◌, ℕ, ◌+◌, ◌-◌, ◌<◌, ◌≤◌, inl, inr, true, false, List, [], ◌∷◌, ◌++◌, take, drop, length, nat_eq, IsTrue, Some, None, refl, sym, ◌∙◌, ap, subst, arith, slice_index, and_parts, cases_lt, eq-eqb, true≢false, get_or-take, get_or_append_left, get_or-append-add, length-take-le, length-drop, length-append, drop-drop, drop-append-le, drop_at, take_at, IsCharBoundary-start, starts_with, slice_range, IsUtf8, Nowhere, OccursAt, Passes, is_byte, OccursIn, Nowhere-then, OccursAt-split, OccursAt-from_part, Nowhere-right, Nowhere-left, known-next, escape, Item, Piece, Text, Sequence, LoneEscape, ArePieces, pieces_of, plain, plain_of, Scan, Gives, pieces_left, BeginsWithMark, gives_text, gives_mark, plain_of-mark, pieces_are, length-plain, Cut, Point, Window, first_match_from, is_char_boundary, IsCut, Meets, IsReached, IsPoint, Comes, IsApart, StandsNowhere, IsAhead}
+use Rattle.ansi_search.proofs.Common.{◌≡◌, ◌≢◌, ℕ, ◌+◌, ◌-◌, ◌<◌, ◌≤◌, inl, inr, true, false, List, ◌∷◌, ◌++◌, take, drop, length, nat_eq, IsTrue, Some, None, refl, sym, ◌∙◌, ap, arith, slice_index, and_parts, cases_lt, eq-eqb, true≢false, get_or-take, get_or_append_left, get_or-append-add, length-take-le, length-drop, length-append, drop-drop, drop-append-le, drop_at, take_at, IsCharBoundary-start, starts_with, slice_range, IsUtf8, Nowhere, OccursAt, Passes, is_byte, OccursIn, Nowhere-then, OccursAt-split, OccursAt-from_part, Nowhere-right, Nowhere-left, known-next, escape, Item, Piece, Text, Sequence, LoneEscape, ArePieces, pieces_of, plain, plain_of, Scan, Gives, pieces_left, gives_text, pieces_are, length-plain, Cut, Point, Window, first_match_from, is_char_boundary, IsCut, Meets, IsReached, IsPoint, Comes, IsApart, StandsNowhere, IsAhead, []}
 use Rattle.std.proofs.Math.Seq.{get_or-append_right}
 use Rattle.ansi_items.specs.declared.ansitok.Kind.TheVariants.{Text as TextKind}
 use Rattle.ansi_search.proofs.MatchLemmas.{IsMatch, is_match-utf8, starts_with-occurs, starts_with-from, first_match_from-is}
@@ -27,12 +27,7 @@ pub stands-all : (x p : List ℕ) (i : ℕ) → Meets x p i 0 (length p) → i +
 stands-all x p i meets fits = record { fits = fits; reads = λ k inside. sym (meets k (omega arith) inside) }
 
 pub stands-both : (x p : List ℕ) (i low c : ℕ) → Meets x p i low (length p) → low ≤ c → c ≤ length p → starts_with nat_eq (drop i x) (take c p) ≡ true → i + length p ≤ length x → OccursAt x p i
-stands-both x p i low c meets upto within starts fits =
-    let size : length (take c p) ≡ c = length-take-le c p within in
-    stands-all x p i (λ k from inside. elim (cases_lt k c) [
-      | inl before ↦ sym ((starts_with-occurs x (take c p) i (omega (arith, size, before)) starts).reads k (omega (arith, size, before)) ∙ get_or-take c p k 0 before)
-      | inr past ↦ meets k (omega (arith, upto, past)) inside
-    ]) fits
+stands-both x p i low c meets upto within starts fits = grind (arith, get_or-take, length-take-le, stands-all, starts_with-occurs)
 
 pub apart-both : (x p : List ℕ) (i c : ℕ) → c ≤ length p → starts_with nat_eq (drop i x) (take c p) ≡ false → ¬ (OccursAt x p i)
 apart-both x p i c within other occurs =
@@ -91,9 +86,7 @@ ahead-later t p r here w v ahead same later j from before = ahead j (omega (arit
 pub meets-last : {t p : List ℕ} {c start : ℕ} {w : Window} (run : List ℕ) (place : ℕ) → Comes t p c start w → OccursAt (plain t) run place
     → place ≤ w.position + w.met → w.position + w.met < place + length run → slice_index run (w.position + w.met - place) ≡ slice_index p w.met → length p ≤ w.met + 1
     → Meets (plain t) p w.position w.low (length p)
-meets-last {t} {p} {c} {start} {w} run place comes occurs past inside same last =
-    let all : w.met + 1 ≡ length p = omega (arith, comes.short, last) in
-    subst (λ (n : ℕ). Meets (plain t) p w.position w.low n) all (meets-next (plain t) p w.position w.low w.met comes.meets (in-run (plain t) run place (w.position + w.met) occurs past inside ∙ same))
+meets-last run place comes occurs past inside same last = grind (arith, in-run, meets-next)
 
 -- what follows the cut stands, but no match: no match begins in the next places up to the shift
 pub reached-apart : {t p : List ℕ} {cut : Cut} {start : ℕ} {w : Window} → IsCut p cut → IsApart t p cut.at start w → IsReached t p start (w.position + cut.shift)

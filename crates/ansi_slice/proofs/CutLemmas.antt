@@ -74,8 +74,7 @@ up_to-past e (Text w ∷ ps) past =
     ∙ ap (map (further (length w))) (up_to-past (e - length w) ps (omega arith)) ∙ sym (marks_of-text w ps)
 up_to-past e (Sequence w ∷ ps) past =
     ap (up_to e) (marks_of-sequence w ps) ∙ up_to-here e w (marks_of ps) ∙ ap (λ ms. record { place = 0; bytes = w } ∷ ms) (up_to-past e ps past) ∙ sym (marks_of-sequence w ps)
-up_to-past e (LoneEscape ∷ ps) past =
-    ap (up_to e) (marks_of-lone ps) ∙ up_to-here e (escape ∷ []) (marks_of ps) ∙ ap (λ ms. record { place = 0; bytes = escape ∷ [] } ∷ ms) (up_to-past e ps past) ∙ sym (marks_of-lone ps)
+up_to-past e (LoneEscape ∷ ps) past = grind (arith, marks_of-lone, up_to-here, up_to-past e ps past)
 
 -- no end is any end past the text
 pub cut_up_to-unwrap_or : (t : List ℕ) (s : ℕ) (end : Option ℕ) (top : ℕ) → length t ≤ top → cut_up_to t s (unwrap_or end top) ≡ cut t s end

@@ -11,9 +11,7 @@ ends_in x p ends = (ends_is Decides-eqb x p (ends_with nat_eq x p) refl).0 ends
 -- A prefix or suffix that is a text ends, or begins, at a character.
 
 pub after_prefix : (x p : List ℕ) → IsUtf8 x → IsUtf8 p → x ≡ p ++ drop (length p) x → IsCharBoundary x (length p)
-after_prefix x p utf8_x utf8_p split =
-    let front : take (length p) x ≡ p = ap (take (length p)) split ∙ take-append_seam p (drop (length p) x) in
-    IsCharBoundary-from_take x (length p) utf8_x (omega (arith, ap length split, length-append p (drop (length p) x))) (subst IsUtf8 (sym front) utf8_p)
+after_prefix x p utf8_x utf8_p split = grind (arith, IsCharBoundary-from_take, length-append, take-append_seam)
 
 pub before_suffix : (x p : List ℕ) → IsUtf8 p → x ≡ take (length x - length p) x ++ p → IsCharBoundary x (length x - length p)
 before_suffix x p utf8_p split =

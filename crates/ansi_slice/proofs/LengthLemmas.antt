@@ -1,5 +1,5 @@
 -- How long a cut may be, what is kept of a text, and its two sides.
-use Rattle.ansi_slice.proofs.Common.{◌≡◌, ℕ, ◌+◌, ◌-◌, ◌*◌, ◌≤◌, inl, inr, Bool, true, false, ◌==◌, List, [], ◌∷◌, ◌++◌, length, take, drop, filter, refl, ◌∙◌, sym, ap, arith, length-append, length-take, length-drop, nat_le, if◌then◌else◌, Option, unwrap_or, cond_both, cases_lt, flat_map-append, slice_range, is_sgr, Piece, spelling, Text, Sequence, LoneEscape, pieces_of, plain, plain_bytes, copied, Rendition, IsStyle, plain_style, apply, close, start, close_codes, longest_start, longest_close, longest_start_and_close, style_at, cut, kept, past, dressed, left_part, right_part, left_side, right_side, one_text, IsStyle-apply, IsStyle-plain_style, spelled, spelled-pieces_of, close_codes_are, start_codes_are, code_pieces, spelled-code_pieces}
+use Rattle.ansi_slice.proofs.Common.{◌≡◌, ℕ, ◌+◌, ◌-◌, ◌*◌, ◌≤◌, inl, inr, Bool, true, ◌==◌, List, [], ◌∷◌, ◌++◌, length, take, drop, filter, refl, ◌∙◌, sym, ap, arith, length-append, length-take, length-drop, nat_le, if◌then◌else◌, Option, unwrap_or, cond_both, cases_lt, flat_map-append, slice_range, is_sgr, Piece, spelling, Text, Sequence, LoneEscape, pieces_of, plain, plain_bytes, copied, Rendition, IsStyle, plain_style, apply, close, start, close_codes, longest_start, longest_close, longest_start_and_close, style_at, cut, kept, past, dressed, left_part, right_part, left_side, right_side, one_text, IsStyle-apply, IsStyle-plain_style, spelled, spelled-pieces_of, close_codes_are, start_codes_are, code_pieces, spelled-code_pieces}
 use Rattle.ansi_items.specs.Plain.{is_text}
 use Rattle.ansi_slice.proofs.WalkLemmas.{walked, style_past}
 use Rattle.ansi_slice.proofs.SideLemmas.{left_side-walked, right_side-walked}
@@ -21,26 +21,9 @@ length-spelled ps qs = ap length (flat_map-append spelling ps qs) ∙ length-app
 -- what is shown of pieces is no longer than they are
 pub length-shown_pieces : (ps : List Piece) (test : ℕ → Bool) (a b : ℕ) → length (spelled (shown_pieces test a b ps)) ≤ length (spelled ps)
 length-shown_pieces [] test a b = omega arith
-length-shown_pieces (Text w ∷ ps) test a b =
-    let later : ℕ → Bool = λ p. test (length w + p) in
-    omega (
-      arith,
-      length-spelled (one_text (slice_range w a b)) (shown_pieces later (a - length w) (b - length w) ps),
-      length-one_text (slice_range w a b),
-      length-slice_range w a b,
-      length-shown_pieces ps later (a - length w) (b - length w),
-      length-append w (spelled ps),
-    )
-length-shown_pieces (Sequence w ∷ ps) test a b =
-    let shown = length-shown_pieces ps test a b in
-    cond_both (test 0) (Sequence w ∷ []) [] (λ qs. length (spelled (qs ++ shown_pieces test a b ps)) ≤ length (w ++ spelled ps))
-    (λ goes. omega (arith, length-append w (spelled (shown_pieces test a b ps)), length-append w (spelled ps), shown))
-    (λ stays. omega (arith, length-append w (spelled ps), shown))
-length-shown_pieces (LoneEscape ∷ ps) test a b =
-    let shown = length-shown_pieces ps test a b in
-    cond_both (test 0) (LoneEscape ∷ []) [] (λ qs. length (spelled (qs ++ shown_pieces test a b ps)) ≤ length (spelled (LoneEscape ∷ ps)))
-    (λ goes. omega (arith, shown))
-    (λ stays. omega (arith, shown))
+length-shown_pieces (Text w ∷ ps) test a b = grind (arith, length-append, length-one_text, length-slice_range, length-spelled, one_text, shown_pieces, spelled, length-shown_pieces ps (λ p. test (length w + p)) (a - length w) (b - length w))
+length-shown_pieces (Sequence w ∷ ps) test a b = grind (arith, length-append, shown_pieces, spelled, length-shown_pieces ps test a b)
+length-shown_pieces (LoneEscape ∷ ps) test a b = grind (arith, shown_pieces, spelled, length-shown_pieces ps test a b)
 
 pub length-close : (s : Rendition) → length (close s) ≤ longest_close
 length-close s = (close_codes_are s).short
@@ -92,11 +75,7 @@ length-copied p =
 
 -- a mark is copied to one side at most
 copied_once : (mid n : ℕ) (p : Piece) → length (if nat_le n mid then copied p else []) + length (if nat_le n mid then [] else copied p) ≤ length (spelling p)
-copied_once mid n p = either (nat_le n mid)
-  where
-    either : (goes : Bool) → length (if goes then copied p else []) + length (if goes then [] else copied p) ≤ length (spelling p)
-    either true = omega (arith, length-copied p)
-    either false = omega (arith, length-copied p)
+copied_once mid n p = grind (arith, length-copied)
 
 -- how long both sides of the pieces are that are left, and how many of these are texts
 
@@ -108,35 +87,14 @@ text_count ps = length (filter is_text ps)
 
 sides_len-first : (mid n : ℕ) (s : Rendition) (p : Piece) (ps : List Piece)
     → sides_len mid n s (p ∷ ps) ≡ length (left_part mid n s p) + length (right_part mid n s p) + sides_len mid (n + length (plain_bytes p)) (style_past s p) ps
-sides_len-first mid n s p ps =
-    let left = walked (left_part mid) (n + length (plain_bytes p)) (style_past s p) ps in
-    let right = walked (right_part mid) (n + length (plain_bytes p)) (style_past s p) ps in
-    omega (arith, length-append (left_part mid n s p) left, length-append (right_part mid n s p) right)
+sides_len-first mid n s p ps = grind (arith, length-append, style_past, walked)
 
 -- after the position each text is dressed once
 length-sides_past : (mid n : ℕ) (s : Rendition) (ps : List Piece) → IsStyle s → mid ≤ n → sides_len mid n s ps ≤ length (spelled ps) + longest_start_and_close * text_count ps
 length-sides_past mid n s [] is past = omega arith
-length-sides_past mid n s (Text w ∷ ps) is past =
-    let none : length (take (mid - n) w) ≡ 0 = omega (arith, length-take (mid - n) w) in
-    omega (
-      arith,
-      length-sides_past mid (n + length w) s ps is (omega arith),
-      sides_len-first mid n s (Text w) ps,
-      dressed-nothing s (take (mid - n) w) none,
-      length-dressed s (drop (mid - n) w) is,
-      length-drop (mid - n) w,
-      length-append w (spelled ps),
-    )
-length-sides_past mid n s (Sequence w ∷ ps) is past =
-    omega (
-      arith,
-      length-sides_past mid (n + 0) (apply s w) ps (IsStyle-apply s w is) (omega arith),
-      sides_len-first mid n s (Sequence w) ps,
-      copied_once mid n (Sequence w),
-      length-append w (spelled ps),
-    )
-length-sides_past mid n s (LoneEscape ∷ ps) is past =
-    omega (arith, length-sides_past mid (n + 0) s ps is (omega arith), sides_len-first mid n s LoneEscape ps, copied_once mid n LoneEscape)
+length-sides_past mid n s (Text w ∷ ps) is past = grind (arith, dressed-nothing, length-append, length-dressed, length-drop, length-take, sides_len-first, spelled, length-sides_past mid (n + length w) s ps is (omega arith))
+length-sides_past mid n s (Sequence w ∷ ps) is past = grind (arith, IsStyle-apply, copied_once, length-append, sides_len-first, spelled, length-sides_past mid (n + 0) (apply s w) ps (IsStyle-apply s w is) (omega arith))
+length-sides_past mid n s (LoneEscape ∷ ps) is past = grind (arith, copied_once, sides_len-first, length-sides_past mid (n + 0) s ps is (omega arith))
 
 -- before it, one text more is dressed: the one that the position divides
 length-sides_from : (mid n : ℕ) (s : Rendition) (ps : List Piece) → IsStyle s → sides_len mid n s ps ≤ length (spelled ps) + longest_start_and_close * (text_count ps + 1)
@@ -154,16 +112,8 @@ length-sides_from mid n s (Text w ∷ ps) is =
           let none : length (drop (mid - n) w) ≡ 0 = omega (arith, before, length-drop (mid - n) w) in
           omega (arith, later, first, left, dressed-nothing s (drop (mid - n) w) none, length-take (mid - n) w, length-append w (spelled ps)))
     ]
-length-sides_from mid n s (Sequence w ∷ ps) is =
-    omega (
-      arith,
-      length-sides_from mid (n + 0) (apply s w) ps (IsStyle-apply s w is),
-      sides_len-first mid n s (Sequence w) ps,
-      copied_once mid n (Sequence w),
-      length-append w (spelled ps),
-    )
-length-sides_from mid n s (LoneEscape ∷ ps) is =
-    omega (arith, length-sides_from mid (n + 0) s ps is, sides_len-first mid n s LoneEscape ps, copied_once mid n LoneEscape)
+length-sides_from mid n s (Sequence w ∷ ps) is = grind (arith, IsStyle-apply, copied_once, length-append, sides_len-first, spelled, length-sides_from mid (n + 0) (apply s w) ps (IsStyle-apply s w is))
+length-sides_from mid n s (LoneEscape ∷ ps) is = grind (arith, copied_once, sides_len-first, length-sides_from mid (n + 0) s ps is)
 
 pub length-sides : (t : List ℕ) (mid : ℕ) → length (left_side t mid) + length (right_side t mid) ≤ length t + longest_start_and_close * (length (filter is_text (pieces_of t)) + 1)
 length-sides t mid =

@@ -1,5 +1,5 @@
 -- What is shown of a plain text, after a text or a mark at its front.
-use Rattle.ansi_slice.proofs.Common.{◌≡◌, ℕ, zero, suc, ◌+◌, ◌-◌, Bool, true, false, ◌&&◌, ◌==◌, List, [], ◌∷◌, ◌++◌, map, length, take, drop, refl, sym, ◌∙◌, ap, ap₂, arith, flat_map, slice_range, if◌then◌else◌, nat_le, nat_lt, append_assoc, append-nil, nat_tests, range_with_len, Mark, joined, at_place, shown_at, show, further, map-further-0, map-further-suc}
+use Rattle.ansi_slice.proofs.Common.{◌≡◌, ℕ, zero, suc, ◌+◌, ◌-◌, true, false, ◌&&◌, ◌==◌, List, [], ◌∷◌, ◌++◌, map, length, take, drop, refl, sym, ◌∙◌, ap, ap₂, arith, flat_map, slice_range, if◌then◌else◌, nat_le, nat_lt, append_assoc, append-nil, nat_tests, range_with_len, Mark, joined, at_place, shown_at, show, further, map-further-0, map-further-suc}
 use Rattle.ansi_search.proofs.SliceLemmas.{slice_range-from_past}
 
 -- functions that agree one place apart
@@ -23,15 +23,7 @@ joined-at_place-0 (m ∷ ms) = (let apart : (1 + m.place == 0) ≡ false = grind
 
 joined-at_place-suc : (i : ℕ) (ms : List Mark) → joined (at_place (i + 1) (map (further 1) ms)) ≡ joined (at_place i ms)
 joined-at_place-suc i [] = refl
-joined-at_place-suc i (m ∷ ms) =
-    let same : (1 + m.place == i + 1) ≡ (m.place == i) = grind (arith, nat_tests) in
-    let later = at_place (i + 1) (map (further 1) ms) in
-    ap (λ b. joined (if b then further 1 m ∷ later else later)) same
-    ∙ with_head (m.place == i) later (at_place i ms) (joined-at_place-suc i ms)
-  where
-    with_head : (b : Bool) (ks ls : List Mark) → joined ks ≡ joined ls → joined (if b then further 1 m ∷ ks else ks) ≡ joined (if b then m ∷ ls else ls)
-    with_head true ks ls later = ap (λ v. m.bytes ++ v) later
-    with_head false ks ls later = later
+joined-at_place-suc i (m ∷ ms) = grind (arith, further, joined-at_place-suc i ms)
 
 -- One byte of text at the front.
 
@@ -61,12 +53,7 @@ slice_range-cons zero (suc b) c w =
     ap (λ t. (if t then c ∷ [] else []) ++ slice_range w (0 - 1) (suc b - 1)) here
     ∙ ap₂ (λ n k. c ∷ take n (drop k w)) size from
     ∙ ap (λ n. take n (c ∷ w)) whole
-slice_range-cons (suc a) b c w =
-    let before : (nat_le (suc a) 0 && nat_lt 0 b) ≡ false = grind (arith, nat_tests) in
-    let size : b - 1 - (suc a - 1) ≡ b - suc a = omega arith in
-    let from : suc a - 1 ≡ a = omega arith in
-    ap (λ t. (if t then c ∷ [] else []) ++ slice_range w (suc a - 1) (b - 1)) before
-    ∙ ap₂ (λ n k. take n (drop k w)) size from
+slice_range-cons (suc a) b c w = grind arith
 
 -- A text at the front, a mark at the front, and nothing.
 
@@ -83,23 +70,10 @@ show-text (c ∷ w) x a b ms =
     ∙ ap₂ (λ u v. u ++ v) (slice_range-cons a b c w) (ap₂ (λ i j. show x i j ms) (omega arith) (omega arith))
 
 pub show-mark : (v x : List ℕ) (a b : ℕ) (ms : List Mark) → show x a b (record { place = 0; bytes = v } ∷ ms) ≡ v ++ show x a b ms
-show-mark v x a b ms =
-    let f = shown_at x a b (record { place = 0; bytes = v } ∷ ms) in
-    let g = shown_at x a b ms in
-    let shown = if nat_le a 0 && nat_lt 0 b then slice_range x 0 (0 + 1) else [] in
-    let first : f 0 ≡ v ++ g 0 = append_assoc v (joined (at_place 0 ms)) shown in
-    let after : (j : ℕ) → f (j + 1) ≡ g (j + 1) = λ j. (let apart : (0 == j + 1) ≡ false = grind (arith, nat_tests) in ap (λ t. joined (if t then record { place = 0; bytes = v } ∷ at_place (j + 1) ms else at_place (j + 1) ms) ++ (if nat_le a (j + 1) && nat_lt (j + 1) b then slice_range x (j + 1) (j + 1 + 1) else [])) apart) in
-    flat_map-range-0 f (length x)
-    ∙ ap₂ (λ u w. u ++ w) first (flat_map-range-1 f g after (length x))
-    ∙ append_assoc v (g 0) (flat_map g (range_with_len 1 (length x)))
-    ∙ ap (λ w. v ++ w) (sym (flat_map-range-0 g (length x)))
+show-mark v x a b ms = grind (arith, append_assoc, flat_map-range-0, flat_map-range-1)
 
 pub show-nil : (a b : ℕ) → show [] a b [] ≡ []
-show-nil a b = either (nat_le a 0 && nat_lt 0 b)
-  where
-    either : (t : Bool) → (if t then slice_range {X = ℕ} [] 0 1 else []) ++ [] ≡ []
-    either true = refl
-    either false = refl
+show-nil a b = grind arith
 
 -- without marks, what is shown is a slice
 pub show-bare : (x : List ℕ) (a b : ℕ) → show x a b [] ≡ slice_range x a b

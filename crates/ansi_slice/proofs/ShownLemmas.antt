@@ -12,11 +12,7 @@ at_places test ms = filter (λ (m : Mark). test m.place) ms
 
 pub at_places-further : (test : ℕ → Bool) (n : ℕ) (ms : List Mark) → at_places test (map (further n) ms) ≡ map (further n) (at_places (λ p. test (n + p)) ms)
 at_places-further test n [] = refl
-at_places-further test n (m ∷ ms) = ap (λ ks. if test (n + m.place) then further n m ∷ ks else ks) (at_places-further test n ms) ∙ either (test (n + m.place)) (at_places (λ p. test (n + p)) ms)
-  where
-    either : (b : Bool) (ks : List Mark) → (if b then further n m ∷ map (further n) ks else map (further n) ks) ≡ map (further n) (if b then m ∷ ks else ks)
-    either true ks = refl
-    either false ks = refl
+at_places-further test n (m ∷ ms) = grind (arith, further, at_places-further test n ms)
 
 -- a piece, where the test passes
 abbrev pub piece_when : Bool → Piece → List Piece
@@ -38,11 +34,7 @@ spelled-one_text (b ∷ w) = append-nil (b ∷ w)
 -- a mark at the front
 shown-mark : (p : Piece) (test : ℕ → Bool) (x : List ℕ) (a b : ℕ) (ms : List Mark)
     → spelled (piece_when (test 0) p) ++ show x a b (at_places test ms) ≡ show x a b (at_places test (record { place = 0; bytes = spelling p } ∷ ms))
-shown-mark p test x a b ms = either (test 0)
-  where
-    either : (c : Bool) → spelled (piece_when c p) ++ show x a b (at_places test ms) ≡ show x a b (if c then record { place = 0; bytes = spelling p } ∷ at_places test ms else at_places test ms)
-    either true = ap (λ v. v ++ show x a b (at_places test ms)) (append-nil (spelling p)) ∙ sym (show-mark (spelling p) x a b (at_places test ms))
-    either false = refl
+shown-mark p test x a b ms = grind (arith, append-nil, show-mark, spelled)
 
 pub spelled-shown_pieces : (ps : List Piece) (test : ℕ → Bool) (a b : ℕ) → spelled (shown_pieces test a b ps) ≡ show (plain_of ps) a b (at_places test (marks_of ps))
 spelled-shown_pieces [] test a b = sym (show-nil a b)
@@ -70,22 +62,12 @@ plain-slice_range : (x : List ℕ) (a b : ℕ) → list_all is_plain_byte x ≡ 
 plain-slice_range x a b all = (list_all-parts is_plain_byte (b - a) (drop a x) (list_all-parts is_plain_byte a x all).1).0
 
 one_text_stands : (w : List ℕ) → list_all is_plain_byte w ≡ true → AllStandAnywhere (one_text w)
-one_text_stands [] all = tt
-one_text_stands (b ∷ w) all =
-    let filled : (b ∷ w) ≢ [] = λ e. cc in
-    ((filled, all), tt)
+one_text_stands w all = grind arith
 
 pub shown_pieces_stand : (ps : List Piece) (test : ℕ → Bool) (a b : ℕ) → AllStandAnywhere ps → AllStandAnywhere (shown_pieces test a b ps)
 shown_pieces_stand [] test a b all = tt
-shown_pieces_stand (Text w ∷ ps) test a b all =
-    let later : ℕ → Bool = λ p. test (length w + p) in
-    stand-append (one_text (slice_range w a b)) (shown_pieces later (a - length w) (b - length w) ps)
-    (one_text_stands (slice_range w a b) (plain-slice_range w a b all.0.1))
-    (shown_pieces_stand ps later (a - length w) (b - length w) all.1)
-shown_pieces_stand (Sequence w ∷ ps) test a b all =
-    stand-append (piece_when (test 0) (Sequence w)) (shown_pieces test a b ps)
-    (cond_both (test 0) (Sequence w ∷ []) [] AllStandAnywhere (λ shown. (all.0, tt)) (λ hidden. tt))
-    (shown_pieces_stand ps test a b all.1)
+shown_pieces_stand (Text w ∷ ps) test a b all = grind (arith, one_text, one_text_stands, plain-slice_range, stand-append, shown_pieces_stand ps (λ p. test (length w + p)) (a - length w) (b - length w) all.1)
+shown_pieces_stand (Sequence w ∷ ps) test a b all = grind (arith, AllStandAnywhere, stand-append, shown_pieces_stand ps test a b all.1)
 shown_pieces_stand (LoneEscape ∷ ps) test a b all = absurd all.0
 
 -- What is read of them, from a state that sequences change.

@@ -1,5 +1,5 @@
 -- The sides of a text as one walk over its pieces; and of a text without ESC.
-use Rattle.ansi_slice.proofs.Common.{◌≡◌, ℕ, ◌-◌, List, [], ◌∷◌, ◌++◌, ◌==◌, false, if◌then◌else◌, length, take, drop, refl, sym, ◌∙◌, ap, arith, append-nil, IsFalse, ne_eqb, take-nil, drop-nil, pieces_of, has_escape, plain_style, dressed, left_part, right_part, left_side, right_side, one_text, pieces_of-bare}
+use Rattle.ansi_slice.proofs.Common.{◌≡◌, ℕ, ◌-◌, List, [], ◌∷◌, take, drop, refl, sym, ◌∙◌, ap, arith, append-nil, IsFalse, ne_eqb, take-nil, drop-nil, pieces_of, has_escape, plain_style, dressed, left_part, right_part, left_side, right_side, one_text, pieces_of-bare}
 use Rattle.ansi_slice.proofs.WalkLemmas.{walked, walked-all}
 
 pub left_side-walked : (t : List ℕ) (mid : ℕ) → left_side t mid ≡ walked (left_part mid) 0 plain_style (pieces_of t)
@@ -14,9 +14,7 @@ right_side-walked t mid = walked-all (right_part mid) (record { at_sequence = λ
 
 dressed-plain_style : (w : List ℕ) → dressed plain_style w ≡ w
 dressed-plain_style [] = refl
-dressed-plain_style (b ∷ w) =
-    let some : (length (b ∷ w) == 0) ≡ false = ne_eqb _ 0 (λ e. omega (arith, e)) in
-    ap (λ none. if none then [] else (b ∷ w) ++ []) some ∙ append-nil (b ∷ w)
+dressed-plain_style (b ∷ w) = grind (arith, append-nil, ne_eqb)
 
 pub left_side-bare : (t : List ℕ) (mid : ℕ) → IsFalse (has_escape t) → left_side t mid ≡ take mid t
 left_side-bare t mid none = left_side-walked t mid ∙ ap (walked (left_part mid) 0 plain_style) (pieces_of-bare t none) ∙ of_one t
@@ -28,10 +26,4 @@ left_side-bare t mid none = left_side-walked t mid ∙ ap (walked (left_part mid
         append-nil (dressed plain_style (take (mid - 0) (b ∷ x))) ∙ dressed-plain_style (take (mid - 0) (b ∷ x)) ∙ ap (λ n. take n (b ∷ x)) all
 
 pub right_side-bare : (t : List ℕ) (mid : ℕ) → IsFalse (has_escape t) → right_side t mid ≡ drop mid t
-right_side-bare t mid none = right_side-walked t mid ∙ ap (walked (right_part mid) 0 plain_style) (pieces_of-bare t none) ∙ of_one t
-  where
-    of_one : (x : List ℕ) → walked (right_part mid) 0 plain_style (one_text x) ≡ drop mid x
-    of_one [] = sym (drop-nil mid)
-    of_one (b ∷ x) =
-        let all : mid - 0 ≡ mid = omega arith in
-        append-nil (dressed plain_style (drop (mid - 0) (b ∷ x))) ∙ dressed-plain_style (drop (mid - 0) (b ∷ x)) ∙ ap (λ n. drop n (b ∷ x)) all
+right_side-bare t mid none = grind (arith, append-nil, dressed-plain_style, drop-nil, one_text, pieces_of-bare, right_side-walked, walked)

@@ -1,5 +1,5 @@
 -- A side of a whole text is whole, has the slice of its styled bytes, and leaves nothing known open.
-use Rattle.ansi_slice.proofs.Common.{◌≡◌, ℕ, ◌+◌, ◌-◌, Bool, true, false, not, ◌==◌, List, [], ◌∷◌, ◌++◌, length, take, drop, nat_le, refl, sym, ◌∙◌, ap, ap₂, subst, arith, IsTrue, append-nil, if◌then◌else◌, cond_both, cond-false, ne_eqb, eqb-false, flat_map-append, take-nil, drop-nil, length-map, take-append-drop, take-map, drop-map, list_all, is_plain_byte, is_sgr, Piece, Text, spelling, Sequence, LoneEscape, pieces_of, plain, plain_bytes, is_whole, copied, Rendition, known, plain_style, IsStyle, apply, close_codes, start, close, StyledByte, styled, dressed, left_part, right_part, left_side, right_side, apply-no_sgr, IsStyle-apply, IsStyle-plain_style, spelled, AllStandAnywhere, stand-append, pieces_stand, styled_through, in_style, styled-pieces, styled-append, close_codes_are, GiveAlone, give-nothing, give-append, IsClosed, closed-spelled, dressed_pieces, spelled-dressed_pieces, dressed_pieces_stand, dressed_pieces_give, close_codes_clear}
+use Rattle.ansi_slice.proofs.Common.{◌≡◌, ℕ, ◌+◌, ◌-◌, Bool, true, false, not, ◌==◌, List, [], ◌∷◌, ◌++◌, length, take, drop, nat_le, refl, sym, ◌∙◌, ap, ap₂, subst, arith, IsTrue, append-nil, if◌then◌else◌, cond_both, cond-false, ne_eqb, eqb-false, flat_map-append, take-nil, drop-nil, length-map, take-append-drop, take-map, drop-map, list_all, is_plain_byte, is_sgr, Piece, Text, spelling, Sequence, LoneEscape, pieces_of, plain, plain_bytes, is_whole, copied, Rendition, known, plain_style, IsStyle, apply, close_codes, StyledByte, styled, dressed, left_part, right_part, left_side, right_side, apply-no_sgr, IsStyle-apply, IsStyle-plain_style, spelled, AllStandAnywhere, stand-append, pieces_stand, styled_through, in_style, styled-pieces, styled-append, close_codes_are, GiveAlone, give-nothing, give-append, IsClosed, closed-spelled, dressed_pieces, spelled-dressed_pieces, dressed_pieces_stand, dressed_pieces_give, close_codes_clear}
 use Rattle.ansi_search.proofs.SliceLemmas.{take-append, drop-append, list_all-parts}
 use Rattle.ansi_slice.proofs.WalkLemmas.{walked, style_past}
 use Rattle.ansi_slice.proofs.SideLemmas.{left_side-walked, right_side-walked}
@@ -10,11 +10,7 @@ abbrev dressed_text : Rendition → List ℕ → List Piece
 dressed_text s w = if length w == 0 then [] else dressed_pieces s (Text w ∷ []) (close_codes s)
 
 spelled-dressed_text : (s : Rendition) (w : List ℕ) → spelled (dressed_text s w) ≡ dressed s w
-spelled-dressed_text s w = either (length w == 0)
-  where
-    either : (none : Bool) → spelled (if none then [] else dressed_pieces s (Text w ∷ []) (close_codes s)) ≡ (if none then [] else start s ++ w ++ close s)
-    either true = refl
-    either false = spelled-dressed_pieces s (Text w ∷ []) (close_codes s) ∙ ap (λ v. start s ++ v ++ close s) (append-nil w)
+spelled-dressed_text s w = grind (arith, append-nil, dressed_pieces, spelled, spelled-dressed_pieces)
 
 dressed_text_gives : (s : Rendition) (w : List ℕ) → IsStyle s → GiveAlone (dressed_text s w) (in_style s w)
 dressed_text_gives s [] is = give-nothing
@@ -46,11 +42,7 @@ side_pieces pick test mid place s (Sequence w) = if test place then (if is_sgr w
 side_pieces pick test mid place s LoneEscape = if test place then LoneEscape ∷ [] else []
 
 sequence_gives : (b : Bool) (w : List ℕ) → GiveAlone (if b then (if is_sgr w then [] else Sequence w ∷ []) else []) []
-sequence_gives b w =
-    cond_both b (if is_sgr w then [] else Sequence w ∷ []) [] (λ ps. GiveAlone ps [])
-    (λ goes. cond_both (is_sgr w) [] (Sequence w ∷ []) (λ ps. GiveAlone ps []) (λ sgr. give-nothing)
-    (λ other. record { given = λ p none. refl; cleared = λ p none. ap known (apply-no_sgr p w other) ∙ none }))
-    (λ stays. give-nothing)
+sequence_gives b w = grind (arith, GiveAlone, apply-no_sgr, give-nothing)
 
 side_pieces_give : (pick : ℕ → List ℕ → List ℕ) (among : ℕ → List StyledByte → List StyledByte) → Picks pick among → (test : ℕ → Bool) (mid : ℕ) (ps : List Piece) (n : ℕ) (s : Rendition) → IsStyle s
     → GiveAlone (walked (side_pieces pick test mid) n s ps) (among (mid - n) (styled_through s ps))
@@ -80,10 +72,7 @@ side_pieces_give pick among picks test mid (LoneEscape ∷ ps) n s is =
 side_pieces_stand : (pick : ℕ → List ℕ → List ℕ) (among : ℕ → List StyledByte → List StyledByte) → Picks pick among → (test : ℕ → Bool) (mid : ℕ) (ps : List Piece) (n : ℕ) (s : Rendition) → IsStyle s
     → AllStandAnywhere ps → AllStandAnywhere (walked (side_pieces pick test mid) n s ps)
 side_pieces_stand pick among picks test mid [] n s is all = tt
-side_pieces_stand pick among picks test mid (Text w ∷ ps) n s is all =
-    stand-append (dressed_text s (pick (mid - n) w)) (walked (side_pieces pick test mid) (n + length w) s ps)
-    (dressed_text_stands s (pick (mid - n) w) is (picks.stays_plain (mid - n) w all.0.1))
-    (side_pieces_stand pick among picks test mid ps (n + length w) s is all.1)
+side_pieces_stand pick among picks test mid (Text w ∷ ps) n s is all = grind (arith, dressed_text_stands, stand-append, walked, side_pieces_stand pick among picks test mid ps (n + length w) s is all.1)
 side_pieces_stand pick among picks test mid (Sequence w ∷ ps) n s is all =
     stand-append (side_pieces pick test mid n s (Sequence w)) (walked (side_pieces pick test mid) (n + 0) (apply s w) ps)
     (cond_both (test n) (if is_sgr w then [] else Sequence w ∷ []) [] AllStandAnywhere
@@ -95,9 +84,7 @@ side_pieces_stand pick among picks test mid (LoneEscape ∷ ps) n s is all = abs
 spelled-walked : (pieces : ℕ → Rendition → Piece → List Piece) (bytes : ℕ → Rendition → Piece → List ℕ) → ((n : ℕ) (s : Rendition) (p : Piece) → spelled (pieces n s p) ≡ bytes n s p)
     → (ps : List Piece) (n : ℕ) (s : Rendition) → spelled (walked pieces n s ps) ≡ walked bytes n s ps
 spelled-walked pieces bytes same [] n s = refl
-spelled-walked pieces bytes same (p ∷ ps) n s =
-    flat_map-append spelling (pieces n s p) (walked pieces (n + length (plain_bytes p)) (style_past s p) ps)
-    ∙ ap₂ (λ u v. u ++ v) (same n s p) (spelled-walked pieces bytes same ps (n + length (plain_bytes p)) (style_past s p))
+spelled-walked pieces bytes same (p ∷ ps) n s = grind (arith, flat_map-append, style_past, walked, spelled-walked pieces bytes same ps (n + length (plain_bytes p)) (style_past s p))
 
 is_side : (pick : ℕ → List ℕ → List ℕ) (among : ℕ → List StyledByte → List StyledByte) → Picks pick among → (test : ℕ → Bool) (part : ℕ → Rendition → Piece → List ℕ) (t : List ℕ) (mid : ℕ)
     → ((n : ℕ) (s : Rendition) (p : Piece) → spelled (side_pieces pick test mid n s p) ≡ part n s p) → IsTrue (is_whole t)
@@ -129,26 +116,17 @@ drop_picks = record {
 }
 
 spelled-mark : (goes : Bool) (p : Piece) → spelled (if goes then (if is_sgr (spelling p) then [] else p ∷ []) else []) ≡ (if goes then copied p else [])
-spelled-mark false p = refl
-spelled-mark true p = either (is_sgr (spelling p))
-  where
-    either : (sgr : Bool) → spelled (if sgr then [] else p ∷ []) ≡ (if sgr then [] else spelling p)
-    either true = refl
-    either false = append-nil (spelling p)
+spelled-mark goes p = grind (arith, append-nil, spelled)
 
 turned : (b : Bool) (v : List ℕ) → (if not b then v else []) ≡ (if b then [] else v)
 turned true v = refl
 turned false v = refl
 
 spelled-left : (mid n : ℕ) (s : Rendition) (p : Piece) → spelled (side_pieces (λ k w. take k w) (λ n. nat_le n mid) mid n s p) ≡ left_part mid n s p
-spelled-left mid n s (Text w) = spelled-dressed_text s (take (mid - n) w)
-spelled-left mid n s (Sequence w) = spelled-mark (nat_le n mid) (Sequence w)
-spelled-left mid n s LoneEscape = spelled-mark (nat_le n mid) LoneEscape
+spelled-left mid n s p = grind (arith, spelled-dressed_text, spelled-mark)
 
 spelled-right : (mid n : ℕ) (s : Rendition) (p : Piece) → spelled (side_pieces (λ k w. drop k w) (λ n. not (nat_le n mid)) mid n s p) ≡ right_part mid n s p
-spelled-right mid n s (Text w) = spelled-dressed_text s (drop (mid - n) w)
-spelled-right mid n s (Sequence w) = spelled-mark (not (nat_le n mid)) (Sequence w) ∙ turned (nat_le n mid) (copied (Sequence w))
-spelled-right mid n s LoneEscape = spelled-mark (not (nat_le n mid)) LoneEscape ∙ turned (nat_le n mid) (copied LoneEscape)
+spelled-right mid n s p = grind (arith, spelled-dressed_text, spelled-mark, turned)
 
 -- at every position, whether it is good or not
 pub left_side_is : (t : List ℕ) (mid : ℕ) → IsTrue (is_whole t) → IsClosed (take mid (styled t)) (left_side t mid)

@@ -14,13 +14,9 @@ side_up_to-text s n w ps within = ap (λ b. if b then dressed s (take n w) else 
 
 left-past : (mid n : ℕ) (s : Rendition) (ps : List Piece) → mid < n → walked (left_part mid) n s ps ≡ []
 left-past mid n s [] past = refl
-left-past mid n s (Text w ∷ ps) past =
-    let none : mid - n ≡ 0 = omega arith in
-    ap₂ (λ k v. dressed s (take k w) ++ v) none (left-past mid (n + length w) s ps (omega arith))
-left-past mid n s (Sequence w ∷ ps) past =
-    ap₂ (λ b v. (if b then copied (Sequence w) else []) ++ v) (lt-leb n mid past) (left-past mid (n + 0) (apply s w) ps (omega arith))
-left-past mid n s (LoneEscape ∷ ps) past =
-    ap₂ (λ b v. (if b then copied LoneEscape else []) ++ v) (lt-leb n mid past) (left-past mid (n + 0) s ps (omega arith))
+left-past mid n s (Text w ∷ ps) past = grind (arith, left-past mid (n + length w) s ps (omega arith))
+left-past mid n s (Sequence w ∷ ps) past = grind (arith, lt-leb, left-past mid (n + 0) (apply s w) ps (omega arith))
+left-past mid n s (LoneEscape ∷ ps) past = grind (arith, lt-leb, left-past mid (n + 0) s ps (omega arith))
 
 left-walk : (mid n : ℕ) (s : Rendition) (ps : List Piece) → n ≤ mid → walked (left_part mid) n s ps ≡ side_up_to s (mid - n) ps
 left-walk mid n s [] within = refl
@@ -41,23 +37,15 @@ left-walk mid n s (LoneEscape ∷ ps) within =
     ap₂ (λ b v. (if b then copied LoneEscape else []) ++ v) (le-leb n mid within) (left-walk mid (n + 0) s ps (omega arith) ∙ ap (λ k. side_up_to s k ps) same)
 
 pub left_side-is : (t : List ℕ) (mid : ℕ) → left_side t mid ≡ side_up_to plain_style mid (pieces_of t)
-left_side-is t mid =
-    let all : mid - 0 ≡ mid = omega arith in
-    left_side-walked t mid ∙ left-walk mid 0 plain_style (pieces_of t) (omega arith) ∙ ap (λ n. side_up_to plain_style n (pieces_of t)) all
+left_side-is t mid = grind (arith, left-walk, left_side-walked)
 
 -- On the right, those before it do.
 
 right-past : (mid n top : ℕ) (s : Rendition) (ps : List Piece) → mid < n → length (plain_of ps) ≤ top → walked (right_part mid) n s ps ≡ side_up_to s top ps
 right-past mid n top s [] past fits = refl
-right-past mid n top s (Text w ∷ ps) past fits =
-    let none : mid - n ≡ 0 = omega arith in
-    let size = length-append w (plain_of ps) in
-    ap₂ (λ k v. dressed s (drop k w) ++ v) none (right-past mid (n + length w) (top - length w) s ps (omega arith) (omega (arith, size, fits)))
-    ∙ sym (side_up_to-text s top w ps (omega (arith, size, fits)))
-right-past mid n top s (Sequence w ∷ ps) past fits =
-    ap₂ (λ b v. (if b then [] else copied (Sequence w)) ++ v) (lt-leb n mid past) (right-past mid (n + 0) top (apply s w) ps (omega arith) fits)
-right-past mid n top s (LoneEscape ∷ ps) past fits =
-    ap₂ (λ b v. (if b then [] else copied LoneEscape) ++ v) (lt-leb n mid past) (right-past mid (n + 0) top s ps (omega arith) fits)
+right-past mid n top s (Text w ∷ ps) past fits = grind (arith, length-append, side_up_to-text, right-past mid (n + length w) (top - length w) s ps (omega arith) (omega (arith, (length-append w (plain_of ps)), fits)))
+right-past mid n top s (Sequence w ∷ ps) past fits = grind (arith, lt-leb, right-past mid (n + 0) top (apply s w) ps (omega arith) fits)
+right-past mid n top s (LoneEscape ∷ ps) past fits = grind (arith, lt-leb, right-past mid (n + 0) top s ps (omega arith) fits)
 
 right-walk : (mid n top : ℕ) (s : Rendition) (ps : List Piece) → n ≤ mid → length (plain_of ps) ≤ top
     → walked (right_part mid) n s ps ≡ side_up_to (style_by_marks s ps (mid - n)) top (after_of (mid - n) ps)
@@ -78,16 +66,8 @@ right-walk mid n top s (Text w ∷ ps) within fits =
           ∙ ap (λ i. side_up_to (style_by_marks s ps i) top (after_of i ps)) rest
           ∙ sym (ap₂ (λ r qs. side_up_to r top qs) (style-text s k w ps all) (after_of-text k w ps all)))
     ]
-right-walk mid n top s (Sequence w ∷ ps) within fits =
-    let same : mid - (n + 0) ≡ mid - n = omega arith in
-    ap₂ (λ b v. (if b then [] else copied (Sequence w)) ++ v) (le-leb n mid within) (right-walk mid (n + 0) top (apply s w) ps (omega arith) fits)
-    ∙ ap (λ i. side_up_to (style_by_marks (apply s w) ps i) top (after_of i ps)) same
-    ∙ ap (λ r. side_up_to r top (after_of (mid - n) ps)) (sym (style_by_marks-sequence s w ps (mid - n)))
-right-walk mid n top s (LoneEscape ∷ ps) within fits =
-    let same : mid - (n + 0) ≡ mid - n = omega arith in
-    ap₂ (λ b v. (if b then [] else copied LoneEscape) ++ v) (le-leb n mid within) (right-walk mid (n + 0) top s ps (omega arith) fits)
-    ∙ ap (λ i. side_up_to (style_by_marks s ps i) top (after_of i ps)) same
-    ∙ ap (λ r. side_up_to r top (after_of (mid - n) ps)) (sym (style_by_marks-lone s ps (mid - n)))
+right-walk mid n top s (Sequence w ∷ ps) within fits = grind (arith, after_of, le-leb, style_by_marks, style_by_marks-sequence, right-walk mid (n + 0) top (apply s w) ps (omega arith) fits)
+right-walk mid n top s (LoneEscape ∷ ps) within fits = grind (arith, after_of, le-leb, style_by_marks, style_by_marks-lone, right-walk mid (n + 0) top s ps (omega arith) fits)
 
 pub right_side-is : {t rest : List ℕ} {mid i top : ℕ} {style : Rendition} → StandsIn t mid i → rest ≡ drop i t → style ≡ style_within plain_style t mid → length t ≤ top
     → side_up_to style top (pieces_of rest) ≡ right_side t mid
@@ -103,24 +83,14 @@ pub record IsSideSoFar (whole written : List ℕ) (style : Rendition) (n : ℕ) 
 
 pub side-text : {whole written new : List ℕ} {style : Rendition} {n next : ℕ} {w : List ℕ} {left ps : List Piece} → IsSideSoFar whole written style n left → left ≡ Text w ∷ ps → length w ≤ n
     → new ≡ written ++ dressed style w → next ≡ n - length w → IsSideSoFar whole new style next ps
-side-text {whole} {written} {new} {style} {n} {next} {w} {left} {ps} so_far first within more is =
-    rw (more, is) (record {
-      side = append_assoc written (dressed style w) (side_up_to style (n - length w) ps)
-          ∙ ap (λ v. written ++ v) (sym (ap (side_up_to style n) first ∙ side_up_to-text style n w ps within)) ∙ so_far.side;
-    })
+side-text so_far first within more is = grind (arith, append_assoc, side_up_to-text)
 
 side_up_to-mark : (p : Piece) (s : Rendition) (n : ℕ) (ps : List Piece) → is_mark p ≡ true → side_up_to s n (p ∷ ps) ≡ copied p ++ side_up_to (apply s (spelling p)) n ps
-side_up_to-mark (Text w) s n ps is = absurd (cc is)
-side_up_to-mark (Sequence w) s n ps is = refl
-side_up_to-mark LoneEscape s n ps is = refl
+side_up_to-mark p s n ps is = grind arith
 
 -- over a mark
 pub side-mark : {whole written new : List ℕ} {style next : Rendition} {n : ℕ} {kind : Kind} {w : List ℕ} {left ps : List Piece} → IsSideSoFar whole written style n left → BeginsWithMark kind w left ps
     → new ≡ written ++ copied (Sequence w) → next ≡ apply style w → IsSideSoFar whole new next n ps
-side-mark {whole} {written} {new} {style} {next} {n} {kind} {w} {left} {ps} so_far begins more applied =
-    let here : side_up_to style n left ≡ copied (Sequence w) ++ side_up_to (apply style w) n ps
-    = ap (side_up_to style n) begins.pieces ∙ side_up_to-mark begins.mark style n ps begins.is_mark
-    ∙ ap (λ v. copied (Sequence v) ++ side_up_to (apply style v) n ps) begins.bytes in
-    rw (more, applied) (record { side = append_assoc written (copied (Sequence w)) (side_up_to (apply style w) n ps) ∙ ap (λ v. written ++ v) (sym here) ∙ so_far.side })
+side-mark so_far begins more applied = grind (arith, append_assoc, side_up_to-mark)
 
 -- the place stands in the text that comes next, or nothing is left

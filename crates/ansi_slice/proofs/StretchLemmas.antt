@@ -1,5 +1,5 @@
 -- A cut and a kept text as a stretch of the text, by where its plain bytes stand, and the sequences outside of it.
-use Rattle.ansi_slice.proofs.Common.{◌≡◌, ℕ, ◌+◌, ◌-◌, ◌<◌, ◌≤◌, inl, inr, Bool, true, List, [], ◌∷◌, ◌++◌, length, take, drop, take-add, refl, sym, ◌∙◌, ap, ap₂, subst, arith, if◌then◌else◌, nat_lt, length-append, append_assoc, append-nil, not, false, ◌&&◌, Some, drop-append_seam, cases_lt, le-leb, lt-ltb, le-ltb, nat_tests, take-append-le, length-drop, drop-drop, slice_range, IsCharBoundary, Kind, escape, Piece, Text, Sequence, LoneEscape, spelling, ArePieces, pieces_of, plain_of, plain, pieces_are, pieces_of-unique, length-plain, spelled, spelled-pieces_of, is_mark, BeginsWithMark, Rendition, plain_style, apply, style_within, close, style_by_marks, style_by_marks-before, style_by_marks-sequence, style_by_marks-lone, is_good_position, is_good_range, cut_up_to, kept, bytes_before, sequences_up_to, offset_of, StandsIn, KeepsUpTo}
+use Rattle.ansi_slice.proofs.Common.{◌≡◌, ℕ, ◌+◌, ◌-◌, ◌<◌, ◌≤◌, inl, inr, Bool, true, List, [], ◌∷◌, ◌++◌, length, take, drop, take-add, refl, sym, ◌∙◌, ap, ap₂, subst, arith, if◌then◌else◌, nat_lt, length-append, append_assoc, append-nil, not, false, ◌&&◌, Some, drop-append_seam, cases_lt, le-leb, lt-ltb, le-ltb, nat_tests, take-append-le, length-drop, drop-drop, slice_range, IsCharBoundary, Kind, escape, Piece, Text, Sequence, LoneEscape, ArePieces, pieces_of, plain_of, plain, pieces_are, pieces_of-unique, length-plain, spelled, spelled-pieces_of, is_mark, BeginsWithMark, Rendition, plain_style, apply, style_within, close, style_by_marks, style_by_marks-before, style_by_marks-sequence, style_by_marks-lone, is_good_position, is_good_range, cut_up_to, kept, bytes_before, sequences_up_to, offset_of, StandsIn, KeepsUpTo}
 use Rattle.ansi_search.proofs.SliceLemmas.{slice_range-past, slice_range-from_past}
 use Rattle.ansi_search.proofs.OffsetLemmas.{bytes_before-last, bytes_before-text, style-text, after_of, after_of-last, after_of-text, take-after, inside_are, pieces_of-after, plain-after, IsOverText, IsPassed}
 use Rattle.ansi_search.proofs.PositionLemmas.{is_good_position-drop}
@@ -118,34 +118,19 @@ cut-stretch {t} {rest} {s} {e} {from} {to} {c} {style} ordered start rest_is end
 
 -- the range of a cut, by those
 pub range-by_offset : {t rest : List ℕ} {s e from : ℕ} → s ≤ e → StandsIn t s from → rest ≡ drop from t → is_good_range (plain t) s (Some e) ≡ is_good_position (plain rest) (e - s)
-range-by_offset {t} {rest} {s} {e} {from} ordered start rest_is =
-    let x = plain t in
-    let all : s + (e - s) ≡ e = omega arith in
-    let after : plain rest ≡ drop s x = ap plain rest_is ∙ ap (λ i. plain (drop i t)) start.offset ∙ plain-after t s in
-    ap₂ (λ a b. a && (b && is_good_position x e)) (le-leb s e ordered) start.good
-    ∙ sym (ap (λ y. is_good_position y (e - s)) after ∙ is_good_position-drop x s (e - s) ∙ ap (is_good_position x) all)
+range-by_offset ordered start rest_is = grind (arith, is_good_position-drop, le-leb, plain-after)
 
 -- what is kept from s on
 pub kept-front : (t : List ℕ) (s e : ℕ) → s ≤ e → kept t s e ≡ sequences_up_to s (pieces_of t) ++ kept (drop (offset_of t s) t) 0 (e - s)
-kept-front t s e ordered =
-    kept-walk t s e ∙ shown_from-front true (pieces_of t) s e ordered
-    ∙ ap (λ v. sequences_up_to s (pieces_of t) ++ v) (ap (shown_from true 0 (e - s)) (sym (pieces_of-after t s)) ∙ sym (kept-walk (drop (offset_of t s) t) 0 (e - s)))
+kept-front t s e ordered = grind (arith, kept-walk, pieces_of-after, shown_from, shown_from-front)
 
 -- all from s on
 pub kept-rest : {t rest : List ℕ} {s from : ℕ} → s ≤ length (plain t) → StandsIn t s from → rest ≡ drop from t → sequences_up_to s (pieces_of t) ++ rest ≡ kept t s (length (plain t))
-kept-rest {t} {rest} {s} {from} inside stands is =
-    let x = plain t in
-    let after : rest ≡ drop (offset_of t s) t = is ∙ ap (λ n. drop n t) stands.offset in
-    let size : length (plain rest) ≡ length x - s = ap length (ap plain after ∙ plain-after t s) ∙ length-drop s x in
-    sym (kept-front t s (length x) inside
-    ∙ ap (λ v. sequences_up_to s (pieces_of t) ++ v) (ap (λ u. kept u 0 (length x - s)) (sym after) ∙ kept-all rest (length x - s) (omega (arith, size))))
+kept-rest inside stands is = grind (arith, kept-all, kept-front, length-drop, plain-after)
 
 -- what is kept up to e: all before its offset, and the sequences after that
 pub kept-stretch : (t : List ℕ) (e : ℕ) → kept t 0 e ≡ take (offset_of t e) t ++ kept (drop (offset_of t e) t) 0 0
-kept-stretch t e =
-    kept-walk t 0 e ∙ shown_from-stretch true (pieces_of t) e
-    ∙ ap₂ (λ u v. take (offset_of t e) u ++ v) (spelled-pieces_of t)
-    (ap (shown_from true 0 0) (sym (pieces_of-after t e)) ∙ sym (kept-walk (drop (offset_of t e) t) 0 0))
+kept-stretch t e = grind (arith, kept-walk, pieces_of-after, shown_from, shown_from-stretch, spelled-pieces_of)
 
 -- so it is at a place in the text, and where that stands
 pub keeps-at : {t : List ℕ} {n i : ℕ} → StandsIn t n i → KeepsUpTo t n i
@@ -157,11 +142,7 @@ keeps-at {t} {n} stands = record {
 -- where no plain byte is kept, all sequences are
 shown_from-none : (ps : List Piece) (top : ℕ) → length (plain_of ps) ≤ top → shown_from true 0 0 ps ≡ sequences_up_to top ps
 shown_from-none [] top past = refl
-shown_from-none (Text w ∷ ps) top past =
-    let n = length w in
-    let none : 0 - n ≡ 0 = omega arith in
-    let size : length (w ++ plain_of ps) ≡ n + length (plain_of ps) = length-append w (plain_of ps) in
-    ap (λ k. shown_from true k k ps) none ∙ shown_from-none ps (top - n) (omega (arith, size, past)) ∙ sym (sequences_up_to-text top w ps (omega (arith, size, past)))
+shown_from-none (Text w ∷ ps) top past = grind (arith, length-append, sequences_up_to-text, shown_from, shown_from-none ps (top - (length w)) (omega (arith, (length-append w (plain_of ps)), past)))
 shown_from-none (Sequence w ∷ ps) top past = ap (λ v. w ++ v) (shown_from-none ps top past)
 shown_from-none (LoneEscape ∷ ps) top past = ap (λ v. escape ∷ v) (shown_from-none ps top past)
 
@@ -182,17 +163,7 @@ pushed-text {whole} {written} {n} {next} {w} {old} {ps} so_far first within is =
 
 pub pushed-mark : {whole written new : List ℕ} {n : ℕ} {kind : Kind} {w : List ℕ} {old ps : List Piece} → IsPushedSoFar whole written n old → BeginsWithMark kind w old ps → new ≡ written ++ w
     → IsPushedSoFar whole new n ps
-pushed-mark {whole} {written} {new} {n} {w = w} {ps = ps} so_far begins is =
-    let more : sequences_up_to n (begins.mark ∷ ps) ≡ w ++ sequences_up_to n ps = by_piece begins.mark begins.is_mark ∙ ap (λ v. v ++ sequences_up_to n ps) begins.bytes in
-    record {
-      pushed = ap (λ v. v ++ sequences_up_to n ps) is ∙ append_assoc written w (sequences_up_to n ps)
-          ∙ ap (λ v. written ++ v) (sym (ap (sequences_up_to n) begins.pieces ∙ more)) ∙ so_far.pushed;
-    }
-  where
-    by_piece : (p : Piece) → is_mark p ≡ true → sequences_up_to n (p ∷ ps) ≡ spelling p ++ sequences_up_to n ps
-    by_piece (Text v) is = absurd (cc is)
-    by_piece (Sequence v) is = refl
-    by_piece LoneEscape is = refl
+pushed-mark so_far begins is = grind (arith, append_assoc, is_mark)
 
 -- A place inside a text that comes next, or its end.
 

@@ -6,9 +6,7 @@ use Rattle.ansi_slice.proofs.StretchLemmas.{keeps-inside, kept-front}
 
 -- the plain text of what a scanner has left is UTF-8
 pub IsUtf8-left : {old new : Scan} {item : Item} {text : List ℕ} → Gives old item new → old.text ≡ text → IsUtf8 text → IsUtf8 (plain_of (pieces_left new))
-IsUtf8-left {old} {new} {item} {text} gives same utf8 =
-    let left : drop item.end old.text ≡ drop new.offset new.text = ap₂ drop gives.end (sym gives.text) in
-    IsUtf8-plain (drop new.offset new.text) (subst IsUtf8 left (IsUtf8-drop old.text item.end (subst IsUtf8 (sym same) utf8) gives.end_boundary))
+IsUtf8-left gives same utf8 = grind (arith, IsUtf8-drop, IsUtf8-plain)
 
 -- the characters of a text are none where it has no bytes
 no_chars : (cs : List ℕ) → length (encode_utf8_all cs) ≡ 0 → cs ≡ []
@@ -23,21 +21,11 @@ some_chars (c ∷ cs) some = omega arith
 
 skip-white : (cs ds : List ℕ) → skip_leading_whitespace cs ≡ [] → skip_leading_whitespace (cs ++ ds) ≡ skip_leading_whitespace ds
 skip-white [] ds none = refl
-skip-white (c ∷ cs) ds none = either (is_whitespace c) (skip-white cs ds) none
-  where
-    either : (b : Bool) → (skip_leading_whitespace cs ≡ [] → skip_leading_whitespace (cs ++ ds) ≡ skip_leading_whitespace ds)
-        → cond b (skip_leading_whitespace cs) (c ∷ cs) ≡ [] → cond b (skip_leading_whitespace (cs ++ ds)) (c ∷ cs ++ ds) ≡ skip_leading_whitespace ds
-    either true later none = later none
-    either false later none = absurd (cc none)
+skip-white (c ∷ cs) ds none = grind (arith, skip-white cs ds)
 
 skip-other : (cs ds : List ℕ) → 0 < length (skip_leading_whitespace cs) → skip_leading_whitespace (cs ++ ds) ≡ skip_leading_whitespace cs ++ ds
 skip-other [] ds some = absurd (omega (arith, some))
-skip-other (c ∷ cs) ds some = either (is_whitespace c) (skip-other cs ds) some
-  where
-    either : (b : Bool) → (0 < length (skip_leading_whitespace cs) → skip_leading_whitespace (cs ++ ds) ≡ skip_leading_whitespace cs ++ ds)
-        → 0 < length (cond b (skip_leading_whitespace cs) (c ∷ cs)) → cond b (skip_leading_whitespace (cs ++ ds)) (c ∷ cs ++ ds) ≡ cond b (skip_leading_whitespace cs) (c ∷ cs) ++ ds
-    either true later some = later some
-    either false later some = refl
+skip-other (c ∷ cs) ds some = grind (arith, skip-other cs ds)
 
 -- a text of white space alone
 pub trim_start-white : (w y : List ℕ) → IsUtf8 w → length (trim_start w) ≡ 0 → trim_start (w ++ y) ≡ trim_start y
@@ -76,9 +64,7 @@ drop-other (c ∷ cs) ds some =
 -- before white space alone
 pub trim_end-white : (w y : List ℕ) → IsUtf8 w → length (trim_end y) ≡ 0 → trim_end (w ++ y) ≡ trim_end w
 unfolding trim_end
-trim_end-white w y utf8 none =
-    ap (λ cs. encode_utf8_all (drop_trailing_whitespace cs)) (chars-append w y utf8)
-    ∙ ap encode_utf8_all (drop-white (chars w) (chars y) (no_chars (drop_trailing_whitespace (chars y)) none))
+trim_end-white w y utf8 none = grind (arith, chars-append, drop-white, no_chars)
 
 -- before anything else
 pub trim_end-other : (w y : List ℕ) → IsUtf8 w → 0 < length (trim_end y) → trim_end (w ++ y) ≡ w ++ trim_end y
@@ -105,26 +91,16 @@ pub record IsWhiteSoFar (whole len : ℕ) (left : List Piece) : Type 0 where
 -- over a text of white space alone
 pub white-text : {whole len : ℕ} {w rest : List ℕ} {left ps : List Piece} → IsWhiteSoFar whole len left → left ≡ Text w ∷ ps → rest ≡ trim_start w → IsUtf8 w
     → length rest ≡ 0 → IsWhiteSoFar whole (len + (length w - length rest)) ps
-white-text {whole} {len} {w} {rest} {left} {ps} so_far is rest_is utf8 none =
-    let first = (subst (IsWhiteSoFar whole len) is so_far).white in
-    let same = ap length (trim_start-white w (plain_of ps) utf8 (sym (ap length rest_is) ∙ none)) in
-    record { white = omega (arith, first, same, none, length-append w (plain_of ps)) }
+white-text so_far is rest_is utf8 none = grind (arith, length-append, trim_start-white)
 
 -- over a text of which more is left
 pub white-last : {whole len : ℕ} {w rest : List ℕ} {left ps : List Piece} → IsWhiteSoFar whole len left → left ≡ Text w ∷ ps → rest ≡ trim_start w → IsUtf8 w → IsUtf8 (plain_of ps)
     → 0 < length rest → length rest ≤ length w → len + (length w - length rest) ≡ whole
-white-last {whole} {len} {w} {rest} {left} {ps} so_far is rest_is utf8 rest_utf8 some fits =
-    let first = (subst (IsWhiteSoFar whole len) is so_far).white in
-    let same = ap length rest_is in
-    let other = ap length (trim_start-other w (plain_of ps) utf8 rest_utf8 (omega (arith, some, same))) in
-    omega (arith, first, same, other, fits, length-append w (plain_of ps), length-append (trim_start w) (plain_of ps))
+white-last so_far is rest_is utf8 rest_utf8 some fits = grind (arith, length-append, trim_start-other)
 
 pub white-end : {whole len : ℕ} {left : List Piece} → IsWhiteSoFar whole len left → left ≡ [] → len ≡ whole
 unfolding trim_start
-white-end {whole} {len} so_far none =
-    let first = (subst (IsWhiteSoFar whole len) none so_far).white in
-    let nothing = ap (λ cs. length (encode_utf8_all (skip_leading_whitespace cs))) chars-nil in
-    omega (arith, first, nothing)
+white-end so_far none = grind (arith, chars-nil)
 
 -- How far the walk for the end of what isn't white space has come: that end is ahead or, where white space alone is left, it is `end`.
 pub record IsEndSoFar (whole place end : ℕ) (left : List Piece) : Type 0 where
@@ -146,20 +122,12 @@ end-ahead {whole} {place} w ps so_far utf8 white = record {
 -- over a text of white space alone
 end-white : {whole place end : ℕ} {w front : List ℕ} {left ps : List Piece} → IsEndSoFar whole place end left → left ≡ Text w ∷ ps → front ≡ trim_end w → IsUtf8 w
     → length front ≡ 0 → IsEndSoFar whole (place + length w) end ps
-end-white {whole} {place} {end} {w} {front} {left} {ps} so_far is front_is utf8 none =
-    let first = subst (IsEndSoFar whole place end) is so_far in
-    end-ahead w ps first utf8 (λ after. first.white (ap length (trim_end-white w (plain_of ps) utf8 after) ∙ sym (ap length front_is) ∙ none))
+end-white so_far is front_is utf8 none = grind (arith, end-ahead, trim_end-white)
 
 -- over any other
 end-other : {whole place end : ℕ} {w front : List ℕ} {left ps : List Piece} → IsEndSoFar whole place end left → left ≡ Text w ∷ ps → front ≡ trim_end w → IsUtf8 w
     → 0 < length front → IsEndSoFar whole (place + length w) (place + length front) ps
-end-other {whole} {place} {end} {w} {front} {left} {ps} so_far is front_is utf8 some =
-    let first = subst (IsEndSoFar whole place end) is so_far in
-    end-ahead w ps first utf8 (λ after.
-    let here = ap length (trim_end-white w (plain_of ps) utf8 after) in
-    let same = ap length front_is in
-    let found : place + length (trim_end (w ++ plain_of ps)) ≡ whole = first.other (omega (arith, here, same, some)) in
-    omega (arith, here, same, found))
+end-other so_far is front_is utf8 some = grind (arith, end-ahead, trim_end-white)
 
 end-none : {whole place end : ℕ} {left : List Piece} → IsEndSoFar whole place end left → left ≡ [] → end ≡ whole
 unfolding trim_end
@@ -168,12 +136,7 @@ end-none {whole} {place} {end} so_far none =
 
 -- over a mark
 end-mark : {whole place end : ℕ} {kind : Kind} {w : List ℕ} {left ps : List Piece} → IsEndSoFar whole place end left → BeginsWithMark kind w left ps → IsEndSoFar whole place end ps
-end-mark {whole} {place} {end} {ps = ps} so_far begins =
-    let same = ap plain_of begins.pieces ∙ plain_of-mark begins.mark ps begins.is_mark in
-    record {
-      white = λ none. so_far.white (ap (λ x. length (trim_end x)) same ∙ none);
-      other = λ some. ap (λ x. place + length (trim_end x)) (sym same) ∙ so_far.other (subst (λ x. 0 < length (trim_end x)) (sym same) some);
-    }
+end-mark so_far begins = grind (arith, plain_of-mark)
 
 -- The same, with how far it is in the text, and the offset of the end there.
 pub record IsSolidSoFar (t : List ℕ) (passed end : ℕ) (left : List Piece) : Type 0 where
@@ -227,11 +190,4 @@ solid-end {t} {passed} {end} so_far none = subst (λ n. KeepsUpTo t n end) (end-
 -- What is left of a text, by these ends: the end is that of what follows the start.
 pub trimmed-stretch : {t rest : List ℕ} {start from end : ℕ} → IsUtf8 t → start ≡ (trim_interval (plain t)).0 → StandsIn t start from → rest ≡ drop from t → KeepsUpTo rest (length (trim_end (plain rest))) end
     → sequences_up_to start (pieces_of t) ++ (take end rest ++ kept (drop end rest) 0 0) ≡ trimmed t
-trimmed-stretch {t} {rest} {start} {from} {end} utf8 start_is stands is keeps =
-    let x = plain t in
-    let i = trim_interval x in
-    let after : rest ≡ drop (offset_of t i.0) t = is ∙ ap (λ n. drop n t) (stands.offset ∙ ap (offset_of t) start_is) in
-    let plain_rest : plain rest ≡ trim_start x = ap plain after ∙ plain-after t i.0 ∙ drop-trim_interval x (IsUtf8-plain t utf8) in
-    let count : i.1 - i.0 ≡ length (trim_end (plain rest)) = (let all : i.1 - i.0 ≡ length (trim x) = omega arith in all ∙ ap (λ u. length (trim_end u)) (sym plain_rest)) in
-    ap (λ n. sequences_up_to n (pieces_of t) ++ (take end rest ++ kept (drop end rest) 0 0)) start_is
-    ∙ sym (kept-front t i.0 i.1 (omega arith) ∙ ap (λ v. sequences_up_to i.0 (pieces_of t) ++ v) (ap₂ (λ u n. kept u 0 n) (sym after) count ∙ keeps.bytes))
+trimmed-stretch utf8 start_is stands is keeps = grind (arith, IsUtf8-plain, drop-trim_interval, kept-front, plain-after)

@@ -50,14 +50,8 @@ walk make no_style style (Text w ∷ ps) t are n s is =
     ap₂ (λ u v. u ++ v)
     (ap₂ (λ i r. make i r (Text w)) (omega arith) (follows-first style n s w ps are.2.0 is))
     (by_places-moved make style n (length w) (places ps) ∙ walk make no_style style ps are.0 are.3 (n + length w) s (follows-text style n s w ps is))
-walk make no_style style (Sequence w ∷ ps) t are n s is =
-    ap₂ (λ u v. u ++ v)
-    (no_style.at_sequence (n + 0) (style (n + 0)) s w ∙ ap (λ i. make i s (Sequence w)) (omega arith))
-    (by_places-moved make style n 0 (places ps) ∙ walk make no_style style ps are.0 are.3 (n + 0) (apply s w) (follows-sequence style n s w ps is))
-walk make no_style style (LoneEscape ∷ ps) t are n s is =
-    ap₂ (λ u v. u ++ v)
-    (no_style.at_lone (n + 0) (style (n + 0)) s ∙ ap (λ i. make i s LoneEscape) (omega arith))
-    (by_places-moved make style n 0 (places ps) ∙ walk make no_style style ps are.0 are.3 (n + 0) s (follows-lone style n s ps is))
+walk make no_style style (Sequence w ∷ ps) t are n s is = grind (arith, by_places-moved, follows-sequence, walk make no_style style ps are.0 are.3 (n + 0) (apply s w) (follows-sequence style n s w ps is))
+walk make no_style style (LoneEscape ∷ ps) t are n s is = grind (arith, by_places-moved, follows-lone, walk make no_style style ps are.0 are.3 (n + 0) s (follows-lone style n s ps is))
 
 by_places-0 : (make : ℕ → Rendition → Piece → List ℕ) (style : ℕ → Rendition) (qs : List Placed) → flat_map (λ (q : Placed). make q.place (style q.place) q.piece) qs ≡ by_places make style 0 qs
 by_places-0 make style [] = refl

@@ -1,5 +1,5 @@
 -- A text in two, after the last mark at a position.
-use Rattle.ansi_split.proofs.Common.{min, ◌≡◌, ◌≢◌, ℕ, zero, suc, ◌+◌, ◌-◌, ◌<◌, ◌≤◌, inl, inr, true, false, List, [], ◌∷◌, ◌++◌, length, map, take, drop, Some, refl, sym, ◌∙◌, ap, ap₂, subst, arith, IsTrue, if◌then◌else◌, nat_lt, nat_le, slice_index, slice_range, length-append, append_assoc, append-nil, take-nil, cases_lt, lt-ltb, le-ltb, nat_tests, take_all, take-take, take-append-le, take-append-drop, map-append, length-drop, filter-append, filter_agree, fold-append, IsCharBoundary-from_rest, IsCharBoundary, escape, is_plain_byte, IsSequence, Piece, Text, Sequence, LoneEscape, spelling, ArePieces, StandsBefore, pieces_of, Mark, plain_of, plain, marks_of, marks, up_to, pieces_are, pieces_of-unique, one_text, one_text_are, plain_of-one_text, apply, apply_all, after_marks, further, marks_of-text, marks_of-sequence, marks_of-lone, up_to-none, up_to-further, after_marks-further, is_good_position, show, past, bytes_before, offset_of, list_all-parts, take-append, slice_range-none, slice_range-from_past, show-bare, show-text, show-mark, show-nil, is_good_position-append, good_is_boundary, up_to-past, bytes_before-last, bytes_before-text, after_of, after_of-last, after_of-text, take-after, pieces_of-after, plain-after, further_on, IsCutAfter}
+use Rattle.ansi_split.proofs.Common.{min, ◌≡◌, ◌≢◌, ℕ, zero, suc, ◌+◌, ◌-◌, ◌<◌, ◌≤◌, inl, inr, false, List, [], ◌∷◌, ◌++◌, length, map, take, drop, Some, refl, sym, ◌∙◌, ap, ap₂, subst, arith, IsTrue, if◌then◌else◌, nat_lt, nat_le, slice_index, slice_range, length-append, append_assoc, append-nil, take-nil, cases_lt, lt-ltb, le-ltb, nat_tests, take_all, take-take, take-append-le, take-append-drop, map-append, length-drop, filter-append, filter_agree, fold-append, IsCharBoundary-from_rest, IsCharBoundary, escape, is_plain_byte, IsSequence, Piece, Text, Sequence, LoneEscape, spelling, ArePieces, StandsBefore, pieces_of, Mark, plain_of, plain, marks_of, marks, up_to, pieces_are, pieces_of-unique, one_text, one_text_are, plain_of-one_text, apply, apply_all, after_marks, further, marks_of-text, marks_of-sequence, marks_of-lone, up_to-none, up_to-further, after_marks-further, is_good_position, show, past, bytes_before, offset_of, list_all-parts, take-append, slice_range-none, slice_range-from_past, show-bare, show-text, show-mark, show-nil, is_good_position-append, good_is_boundary, up_to-past, bytes_before-last, bytes_before-text, after_of, after_of-last, after_of-text, take-after, pieces_of-after, plain-after, further_on, IsCutAfter}
 use Rattle.std.proofs.lemmas.List.{length-take}
 use Rattle.ansi_split.proofs.PartSliceLemmas.{own_places, at_places-never, past-places}
 
@@ -20,9 +20,7 @@ front_of-text e w ps within = ap (λ b. if b then one_text (take e w) else Text 
 -- They are the pieces of the text before.
 
 first_byte : (n : ℕ) (rest : List ℕ) → take n rest ≢ [] → (rest ≢ []) × (slice_index (take n rest) 0 ≡ slice_index rest 0)
-first_byte zero rest some = absurd (some refl)
-first_byte (suc n) [] some = absurd (some refl)
-first_byte (suc n) (b ∷ rest) some = ((λ e. cc), refl)
+first_byte n rest some = grind arith
 
 alone_before : (n : ℕ) (rest : List ℕ) → StandsBefore LoneEscape rest → StandsBefore LoneEscape (take n rest)
 alone_before n rest alone = λ m whole. elim (cases_lt (suc n) m) [
@@ -75,9 +73,7 @@ past-up_to e ms =
 
 past-all : (e n : ℕ) (ms : List Mark) → e < n → past (Some e) (further_on n ms) ≡ further_on n ms
 past-all e n [] below = refl
-past-all e n (m ∷ ms) below =
-    let there : nat_lt e (n + m.place) ≡ true = lt-ltb _ _ (omega arith) in
-    ap (λ b. if b then further n m ∷ past (Some e) (further_on n ms) else past (Some e) (further_on n ms)) there ∙ ap (λ ks. further n m ∷ ks) (past-all e n ms below)
+past-all e n (m ∷ ms) below = grind (arith, further, lt-ltb, past-all e n ms below)
 
 further_on-further_on : (a b : ℕ) (ms : List Mark) → further_on a (further_on b ms) ≡ further_on (a + b) ms
 further_on-further_on a b [] = refl

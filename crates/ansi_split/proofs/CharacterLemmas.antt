@@ -1,5 +1,5 @@
 -- The parts for the empty pattern are the characters of a text, between two empty parts.
-use Rattle.ansi_split.proofs.Common.{◌≡◌, ◌≢◌, ℕ, zero, suc, ◌+◌, ◌-◌, ◌/◌, ◌%◌, ◌≤◌, Bool, true, false, List, [], ◌∷◌, ◌++◌, take, drop, length, map, filter, zip, nat_lt, nat_le, refl, sym, ◌∙◌, ap, ap₂, subst, arith, slice_index, slice_range, length-append, and-true, and_parts, and_from, and_right, cond-true, cond-false, cond_both, le-leb, not_from_true, drop-drop, get_or-drop, filter-append, filter_agree, encodes-chars, scalars-chars, IsCharBoundary-from_drop, IsCharBoundary-start, IsCharBoundary-end, take-append_seam, drop-append_seam, encode_utf8, range_with_len, list_all, IsUtf8, IsCharBoundary, chars, encode_utf8_all, all_scalars, is_char_boundary, is_continuation_byte, is_good_position, is_match, apart, parts, AreInTurn, slices_over, char_boundary_is}
+use Rattle.ansi_split.proofs.Common.{◌≡◌, ◌≢◌, ℕ, zero, suc, ◌+◌, ◌-◌, ◌%◌, ◌≤◌, Bool, true, false, List, [], ◌∷◌, ◌++◌, take, drop, length, map, filter, zip, nat_le, refl, sym, ◌∙◌, ap, ap₂, subst, arith, slice_index, slice_range, length-append, and-true, and_parts, and_from, and_right, cond-true, cond-false, le-leb, not_from_true, drop-drop, get_or-drop, filter-append, filter_agree, encodes-chars, scalars-chars, IsCharBoundary-from_drop, IsCharBoundary-start, IsCharBoundary-end, take-append_seam, drop-append_seam, encode_utf8, range_with_len, list_all, IsUtf8, IsCharBoundary, chars, encode_utf8_all, all_scalars, is_char_boundary, is_continuation_byte, is_good_position, is_match, apart, parts, AreInTurn, slices_over, char_boundary_is}
 use Rattle.ansi_split.proofs.BetweenLemmas.{taken_with, filled_parts_in_turn}
 
 -- the bytes of a character after the first go on with it
@@ -14,14 +14,7 @@ next_goes_on n = and_from (nat_le 128 (128 + n % 64)) (nat_le (128 + n % 64) 191
 
 char_bytes : (c : ℕ) → IsCharBytes (encode_utf8 c)
 unfolding encode_utf8
-char_bytes c =
-    cond_both (nat_lt c 128) (c ∷ []) _ IsCharBytes
-    (λ one. record { first = c; more = []; spelled = refl; go_on = refl })
-    (λ longer. cond_both (nat_lt c 2048) _ _ IsCharBytes
-    (λ two. record { first = _; more = _; spelled = refl; go_on = and_from _ _ (next_goes_on c) refl })
-    (λ longer. cond_both (nat_lt c 65536) _ _ IsCharBytes
-    (λ three. record { first = _; more = _; spelled = refl; go_on = and_from _ _ (next_goes_on (c / 64)) (and_from _ _ (next_goes_on c) refl) })
-    (λ four. record { first = _; more = _; spelled = refl; go_on = and_from _ _ (next_goes_on (c / 4096)) (and_from _ _ (next_goes_on (c / 64)) (and_from _ _ (next_goes_on c) refl)) })))
+char_bytes c = grind (arith, and_from, next_goes_on)
 
 -- The boundaries of a text are where its characters begin, and its end.
 
@@ -41,10 +34,7 @@ no_boundaries x (b ∷ v) rest k at all =
     cond-false (is_char_boundary x k) _ _ inside ∙ no_boundaries x v rest (k + 1) next both.1
 
 range-append : (k m n : ℕ) → range_with_len k (m + n) ≡ range_with_len k m ++ range_with_len (k + m) n
-range-append k zero n =
-    let size : 0 + n ≡ n = omega arith in
-    let place : k ≡ k + 0 = omega arith in
-    ap₂ range_with_len place size
+range-append k zero n = grind arith
 range-append k (suc m) n =
     let size : suc m + n ≡ suc (m + n) = omega arith in
     let place : k + 1 + m ≡ k + suc m = omega arith in
@@ -86,11 +76,7 @@ boundaries_from x (c ∷ cs) k scalars at end =
 
 all_taken : (f : ℕ → Bool) (n k e : ℕ) → e ≤ k → apart 0 e (filter f (range_with_len k n)) ≡ filter f (range_with_len k n)
 all_taken f zero k e from = refl
-all_taken f (suc n) k e from =
-    let ms = filter f (range_with_len (k + 1) n) in
-    cond_both (f k) (k ∷ ms) ms (λ js. apart 0 e js ≡ js)
-    (λ passes. ap (taken_with 0 e k ms) (le-leb e k from) ∙ ap (λ js. k ∷ js) (all_taken f n (k + 1) (k + 0) (omega arith)))
-    (λ fails. all_taken f n (k + 1) e (omega (arith, from)))
+all_taken f (suc n) k e from = grind (arith, le-leb, taken_with, all_taken f n (k + 1) (k + 0) (omega arith), all_taken f n (k + 1) e (omega (arith, from)))
 
 -- the intervals before, between and after these places
 abbrev intervals : List ℕ → ℕ → List ℕ → List (ℕ × ℕ)
@@ -109,9 +95,7 @@ parts-empty x utf8 =
 
 slices_over-starts : (x cs : List ℕ) (k e : ℕ) → drop k x ≡ encode_utf8_all cs → k + length (encode_utf8_all cs) ≡ length x
     → slices_over x (intervals x e (starts k cs)) ≡ slice_range x e k ∷ (map encode_utf8 cs ++ [] ∷ [])
-slices_over-starts x [] k e at end =
-    let nothing : length x - (k + 0) ≡ 0 = omega (arith, end) in
-    ap (λ n. slice_range x e k ∷ take n (drop (k + 0) x) ∷ []) nothing
+slices_over-starts x [] k e at end = grind arith
 slices_over-starts x (c ∷ cs) k e at end =
     let later = encode_utf8_all cs in
     let n = length (encode_utf8 c) in
@@ -124,18 +108,13 @@ slices_over-starts x (c ∷ cs) k e at end =
     (slices_over-starts x cs (k + n) (k + 0) after (omega (arith, end, total)) ∙ ap (λ y. y ∷ (map encode_utf8 cs ++ [] ∷ [])) char)
 
 pub slices_over-parts-empty : (x : List ℕ) → IsUtf8 x → slices_over x (parts x []) ≡ [] ∷ (map encode_utf8 (chars x) ++ [] ∷ [])
-slices_over-parts-empty x utf8 =
-    let spelled : encode_utf8_all (chars x) ≡ x = encodes-chars x utf8 in
-    ap (slices_over x) (parts-empty x utf8) ∙ slices_over-starts x (chars x) 0 0 (sym spelled) (omega (arith, ap length spelled))
+slices_over-parts-empty x utf8 = grind (arith, encodes-chars, parts-empty, slices_over-starts)
 
 -- They stand in the text, in turn.
 
 starts_in_turn : (x cs : List ℕ) (k d e : ℕ) → all_scalars cs ≡ true → drop k x ≡ encode_utf8_all cs → k + length (encode_utf8_all cs) ≡ length x → d ≤ e → e ≤ k → IsCharBoundary x e
     → AreInTurn x d (intervals x e (starts k cs))
-starts_in_turn x [] k d e scalars at end before from boundary =
-    let here : IsCharBoundary x k = IsCharBoundary-from_drop x k (omega (arith, end)) ([], (refl, sym at)) in
-    let same : k ≡ k + 0 = omega arith in
-    (before, from, boundary, here, (omega arith, omega (arith, end), subst (IsCharBoundary x) same here, IsCharBoundary-end x, tt))
+starts_in_turn x [] k d e scalars at end before from boundary = grind (arith, IsCharBoundary-end, IsCharBoundary-from_drop)
 starts_in_turn x (c ∷ cs) k d e scalars at end before from boundary =
     let later = encode_utf8_all cs in
     let n = length (encode_utf8 c) in
@@ -151,10 +130,7 @@ starts_in_turn x (c ∷ cs) k d e scalars at end before from boundary =
     )
 
 empty_parts_in_turn : (x : List ℕ) → IsUtf8 x → AreInTurn x 0 (parts x [])
-empty_parts_in_turn x utf8 =
-    let spelled : encode_utf8_all (chars x) ≡ x = encodes-chars x utf8 in
-    subst (AreInTurn x 0) (sym (parts-empty x utf8))
-    (starts_in_turn x (chars x) 0 0 0 (scalars-chars x utf8) (sym spelled) (omega (arith, ap length spelled)) (omega arith) (omega arith) (IsCharBoundary-start x utf8))
+empty_parts_in_turn x utf8 = grind (arith, IsCharBoundary-start, encodes-chars, parts-empty, scalars-chars, starts_in_turn)
 
 -- whatever the pattern
 pub parts_in_turn : (x p : List ℕ) → IsUtf8 x → IsUtf8 p → AreInTurn x 0 (parts x p)

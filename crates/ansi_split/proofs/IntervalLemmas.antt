@@ -1,5 +1,5 @@
 -- Each part begins and ends at or after the end of the part before it.
-use Rattle.ansi_split.proofs.Common.{◌≡◌, ℕ, zero, suc, ◌+◌, ◌≤◌, Bool, true, false, List, [], ◌∷◌, ◌++◌, map, length, filter, zip, nat_le, Option, Some, None, option_map, refl, sym, subst, arith, slice_get, if◌then◌else◌, cond_both, leb-true, cond_some, none-some, range_with_len, AllByRecursion, is_match, match_places, apart, parts, end_before}
+use Rattle.ansi_split.proofs.Common.{◌≡◌, ℕ, zero, suc, ◌+◌, ◌≤◌, Bool, true, List, [], ◌∷◌, ◌++◌, map, length, filter, zip, Option, Some, None, option_map, refl, sym, subst, arith, slice_get, leb-true, cond_some, none-some, range_with_len, AllByRecursion, is_match, match_places, apart, parts, end_before}
 
 -- the interval begins and ends at or after the end of the one before, if there is one
 abbrev pub ComesAfter : Option ℕ → ℕ × ℕ → Type 0
@@ -17,13 +17,7 @@ AreAtMost last ms = AllByRecursion (λ m. m ≤ last) ms
 
 apart_rises : (n first end last : ℕ) (ms : List ℕ) → first ≤ end → first ≤ last → AreAtMost last ms → IsRising first last (apart n end ms)
 apart_rises n first end last [] before fits within = fits
-apart_rises n first end last (m ∷ ms) before fits within =
-    by_test (nat_le end m) refl (apart_rises n m (m + n) last ms (omega arith) within.0 within.1) (apart_rises n first end last ms before fits within.1)
-  where
-    by_test : (b : Bool) → nat_le end m ≡ b → IsRising m last (apart n (m + n) ms) → IsRising first last (apart n end ms)
-        → IsRising first last (let more = apart n (if b then m + n else end) ms in if b then m ∷ more else more)
-    by_test true is taken other = (let le = leb-true end m is in omega (arith, le), taken)
-    by_test false is taken other = other
+apart_rises n first end last (m ∷ ms) before fits within = grind (arith, leb-true, apart_rises n m (m + n) last ms (omega arith) within.0 within.1, apart_rises n first end last ms before fits within.1)
 
 range_at_most : (first n last : ℕ) → first + n ≤ last + 1 → AreAtMost last (range_with_len first n)
 range_at_most first zero last fits = tt
@@ -31,10 +25,7 @@ range_at_most first (suc n) last fits = (omega arith, range_at_most (first + 1) 
 
 filter_at_most : (test : ℕ → Bool) (last : ℕ) (ms : List ℕ) → AreAtMost last ms → AreAtMost last (filter test ms)
 filter_at_most test last [] within = tt
-filter_at_most test last (m ∷ ms) within =
-    cond_both (test m) (m ∷ filter test ms) (filter test ms) (AreAtMost last)
-    (λ passes. (within.0, filter_at_most test last ms within.1))
-    (λ fails. filter_at_most test last ms within.1)
+filter_at_most test last (m ∷ ms) within = grind (arith, filter_at_most test last ms within.1)
 
 -- So each interval comes after the one before it.
 

@@ -1,7 +1,7 @@
 -- How long a part may be, and what it takes of its text.
-use Rattle.ansi_split.proofs.Common.{◌≡◌, ℕ, ◌+◌, ◌-◌, ◌≤◌, Bool, true, false, ◌==◌, List, [], ◌∷◌, ◌++◌, length, map, drop, refl, ◌∙◌, sym, ap, subst, arith, length-append, length-take, if◌then◌else◌, IfSome, cond_both, nat_tests, sum_by-cons, sum_by, option_map_or, Piece, spelling, Text, Sequence, LoneEscape, pieces_of, Mark, plain, plain_of, marks, marks_of, up_to, joined, Rendition, IsStyle, plain_style, has_any, close, start, close_if_any, show, style_within, parts, end_before, past, part_over, part, share_over, share, SplitPart, carried_from, part_from, parts_from, parts_left, span_part, one_text, slice_range-append, further, marks_of-text, marks_of-sequence, marks_of-lone, spelled, spelled-pieces_of, shown_pieces, piece_when, at_places, at_places-further, longest_close, longest_start_and_close}
+use Rattle.ansi_split.proofs.Common.{◌≡◌, ℕ, ◌+◌, ◌-◌, ◌≤◌, Bool, true, false, ◌==◌, List, [], ◌∷◌, ◌++◌, length, map, drop, refl, sym, ap, subst, arith, length-append, length-take, if◌then◌else◌, cond_both, nat_tests, sum_by-cons, sum_by, Piece, spelling, Text, Sequence, LoneEscape, pieces_of, Mark, plain, plain_of, marks, marks_of, up_to, joined, Rendition, IsStyle, plain_style, has_any, close, start, close_if_any, show, style_within, parts, past, part_over, part, share_over, share, SplitPart, carried_from, part_from, parts_from, parts_left, span_part, one_text, slice_range-append, further, marks_of-text, marks_of-sequence, marks_of-lone, spelled, spelled-pieces_of, shown_pieces, piece_when, at_places, at_places-further, longest_close, longest_start_and_close}
 use Rattle.std.proofs.Common.{length-drop}
-use Rattle.std.specs.Prelude.{Option, Some, None, option_map, slice_get, ◌&&◌, nat_lt}
+use Rattle.std.specs.Prelude.{Option, Some, None, ◌&&◌, nat_lt}
 use Rattle.std.proofs.lemmas.Bool.{true≢false}
 use Rattle.std.specs.List.{slice_range}
 use Rattle.ansi_split.proofs.IntervalLemmas.{ComesAfter, ComeAfter, all_parts_come_after}
@@ -24,28 +24,13 @@ length-mark p false shown ms n within = within
 -- what is shown of pieces has no more than the bytes of the slice and the marks at these places
 length-shown_taken : (ps : List Piece) (test : ℕ → Bool) (a b : ℕ) → length (spelled (shown_pieces test a b ps)) ≤ length (slice_range (plain_of ps) a b) + length (joined (at_places test (marks_of ps)))
 length-shown_taken [] test a b = omega arith
-length-shown_taken (Text w ∷ ps) test a b =
-    let n = length w in
-    let later : ℕ → Bool = λ p. test (n + p) in
-    omega (
-      arith,
-      length-spelled (one_text (slice_range w a b)) (shown_pieces later (a - n) (b - n) ps),
-      length-one_text (slice_range w a b),
-      length-shown_taken ps later (a - n) (b - n),
-      ap length (slice_range-append w (plain_of ps) a b),
-      length-append (slice_range w a b) (slice_range (plain_of ps) (a - n) (b - n)),
-      ap length (ap joined (ap (at_places test) (marks_of-text w ps) ∙ at_places-further test n (marks_of ps)) ∙ joined-further n (at_places later (marks_of ps))),
-    )
+length-shown_taken (Text w ∷ ps) test a b = grind (arith, at_places, at_places-further, joined-further, length-append, length-one_text, length-spelled, marks_of-text, one_text, shown_pieces, slice_range-append, length-shown_taken ps (λ p. test ((length w) + p)) (a - (length w)) (b - (length w)))
 length-shown_taken (Sequence w ∷ ps) test a b =
     let shown = shown_pieces test a b ps in
     let taken = slice_range (plain_of ps) a b in
     subst (λ ms. length (spelled (piece_when (test 0) (Sequence w) ++ shown)) ≤ length taken + length (joined (at_places test ms))) (sym (marks_of-sequence w ps))
     (length-mark (Sequence w) (test 0) shown (at_places test (marks_of ps)) (length taken) (length-shown_taken ps test a b))
-length-shown_taken (LoneEscape ∷ ps) test a b =
-    let shown = shown_pieces test a b ps in
-    let taken = slice_range (plain_of ps) a b in
-    subst (λ ms. length (spelled (piece_when (test 0) LoneEscape ++ shown)) ≤ length taken + length (joined (at_places test ms))) (sym (marks_of-lone ps))
-    (length-mark LoneEscape (test 0) shown (at_places test (marks_of ps)) (length taken) (length-shown_taken ps test a b))
+length-shown_taken (LoneEscape ∷ ps) test a b = grind (arith, at_places, length-mark, marks_of-lone, piece_when, shown_pieces, spelled, length-shown_taken ps test a b)
 
 length-close_if_any : (s : Rendition) → length (close_if_any s) ≤ longest_close
 length-close_if_any s = cond_both (has_any s) (close s) [] (λ w. length w ≤ longest_close) (λ any. length-close s) (λ none. omega arith)
@@ -91,24 +76,14 @@ share_over_within t before i =
     omega (arith, ap length (spelled-own_pieces t before i), length-shown_pieces (pieces_of t) (own_places before i.1) i.0 i.1, ap length (spelled-pieces_of t))
 
 pub share_within : (t p : List ℕ) (k : ℕ) → share t p k ≤ length t
-share_within t p k = by_interval (slice_get (parts (plain t) p) k)
-  where
-    by_interval : (o : Option (ℕ × ℕ)) → option_map_or (share_over t (end_before (parts (plain t) p) k)) o 0 ≤ length t
-    by_interval None = omega arith
-    by_interval (Some i) = share_over_within t (end_before (parts (plain t) p) k) i
+share_within t p k = grind (arith, share_over_within)
 
 pub length-part_over : (t : List ℕ) (before : Option ℕ) (i : ℕ × ℕ)
     → length (part_over t before i) ≤ length (slice_range (plain t) i.0 i.1) + length (joined (past before (up_to i.1 (marks t)))) + longest_start_and_close
 length-part_over t before i = omega (arith, length-dressed_part t before i, share_by_marks t before i)
 
 pub length-part : (t p : List ℕ) (k : ℕ) (u : List ℕ) → part t p k ≡ Some u → length u ≤ length t + longest_start_and_close
-length-part t p k u found = subst (λ o. IfSome o (λ u. length u ≤ length t + longest_start_and_close)) found (by_interval (slice_get (parts (plain t) p) k))
-  where
-    by_interval : (o : Option (ℕ × ℕ)) → IfSome (option_map (part_over t (end_before (parts (plain t) p) k)) o) (λ u. length u ≤ length t + longest_start_and_close)
-    by_interval None = tt
-    by_interval (Some i) =
-        let before = end_before (parts (plain t) p) k in
-        omega (arith, length-dressed_part t before i, share_over_within t before i)
+length-part t p k u found = grind (arith, length-dressed_part, share_over_within)
 
 -- All parts: their shares have no byte of the text twice.
 
@@ -116,20 +91,13 @@ length-part t p k u found = subst (λ o. IfSome o (λ u. length u ≤ length t +
 joined_once : (m : Mark) (fs gs hs : List Mark) (a b c : Bool) → length (joined fs) + length (joined gs) ≤ length (joined hs)
     → (a ≡ true → (b ≡ false) × (c ≡ true)) → (b ≡ true → c ≡ true)
     → length (joined (if a then m ∷ fs else fs)) + length (joined (if b then m ∷ gs else gs)) ≤ length (joined (if c then m ∷ hs else hs))
-joined_once m fs gs hs true true c later one other = absurd (true≢false (one refl).0)
-joined_once m fs gs hs true false false later one other = absurd (true≢false (sym (one refl).1))
-joined_once m fs gs hs true false true later one other = omega (arith, later, length-append m.bytes (joined fs), length-append m.bytes (joined hs))
-joined_once m fs gs hs false true false later one other = absurd (true≢false (sym (other refl)))
-joined_once m fs gs hs false true true later one other = omega (arith, later, length-append m.bytes (joined gs), length-append m.bytes (joined hs))
-joined_once m fs gs hs false false true later one other = omega (arith, later, length-append m.bytes (joined hs))
-joined_once m fs gs hs false false false later one other = later
+joined_once m fs gs hs a b c later one other = grind (arith, length-append, true≢false)
 
 -- the bytes of marks at places of two kinds, where no place is of both, are among those at places of a third
 joined_among : (f g h : ℕ → Bool) (ms : List Mark) → ((p : ℕ) → f p ≡ true → (g p ≡ false) × (h p ≡ true)) → ((p : ℕ) → g p ≡ true → h p ≡ true)
     → length (joined (at_places f ms)) + length (joined (at_places g ms)) ≤ length (joined (at_places h ms))
 joined_among f g h [] first second = omega arith
-joined_among f g h (m ∷ ms) first second =
-    joined_once m (at_places f ms) (at_places g ms) (at_places h ms) (f m.place) (g m.place) (h m.place) (joined_among f g h ms first second) (first m.place) (second m.place)
+joined_among f g h (m ∷ ms) first second = grind (arith, at_places, joined_once, joined_among f g h ms first second)
 
 -- the marks of a part, and those past its end, are among those past the end of the part before
 marks_of_one : (before : Option ℕ) (i : ℕ × ℕ) (ms : List Mark) → ComesAfter before i
@@ -167,14 +135,7 @@ shares_over t before (i ∷ is) come =
 
 length-pieces : (ps : List Piece) → length (spelled ps) ≡ length (plain_of ps) + length (joined (marks_of ps))
 length-pieces [] = refl
-length-pieces (Text w ∷ ps) =
-    omega (
-      arith,
-      length-pieces ps,
-      length-append w (spelled ps),
-      length-append w (plain_of ps),
-      ap length (ap joined (marks_of-text w ps) ∙ joined-further (length w) (marks_of ps)),
-    )
+length-pieces (Text w ∷ ps) = grind (arith, joined-further, length-append, marks_of-text, spelled, length-pieces ps)
 length-pieces (Sequence w ∷ ps) =
     omega (arith, length-pieces ps, length-append w (spelled ps), ap (λ ms. length (joined ms)) (marks_of-sequence w ps), length-append w (joined (marks_of ps)))
 length-pieces (LoneEscape ∷ ps) = omega (arith, length-pieces ps, ap (λ ms. length (joined ms)) (marks_of-lone ps))

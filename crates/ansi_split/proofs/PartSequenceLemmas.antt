@@ -1,5 +1,5 @@
 -- Each sequence of a whole text that is no SGR stands in one of its parts, and they stay in order.
-use Rattle.ansi_split.proofs.Common.{◌≡◌, ℕ, ◌+◌, ◌-◌, ◌≤◌, Bool, true, not, ◌&&◌, ◌==◌, List, [], ◌∷◌, ◌++◌, map, flat_map, filter, zip, length, nat_le, Option, Some, None, is_some, refl, sym, ◌∙◌, ap, ap₂, arith, IsTrue, append-nil, append_assoc, length-append, slice_range, if◌then◌else◌, cond_both, cond-false, and_parts, eqb-true, le-leb, filter-append, list_all, is_sgr, Piece, Text, Sequence, after_text, merged, pieces_of, Mark, plain_of, plain, marks, up_to, is_whole, is_other, other_sequences, Rendition, IsStyle, written, start_codes, start, close_if_any, style_at, show, match_places, apart, parts, past, carried, part_over, all_parts, one_text, slice_range-none, show-bare, spelled, AllStandAnywhere, pieces_of-spelled, AreCodes, code_pieces, start_codes_are, dressed_pieces, shown_pieces, piece_when}
+use Rattle.ansi_split.proofs.Common.{◌≡◌, ℕ, ◌+◌, ◌-◌, ◌≤◌, Bool, true, not, ◌&&◌, ◌==◌, List, [], ◌∷◌, ◌++◌, map, flat_map, filter, zip, length, nat_le, Option, Some, None, is_some, refl, sym, ◌∙◌, ap, ap₂, arith, IsTrue, append-nil, append_assoc, length-append, if◌then◌else◌, cond_both, cond-false, and_parts, eqb-true, le-leb, filter-append, list_all, is_sgr, Piece, Text, Sequence, after_text, merged, pieces_of, Mark, plain_of, plain, marks, up_to, is_whole, is_other, other_sequences, Rendition, IsStyle, written, start_codes, start, close_if_any, style_at, show, match_places, apart, parts, past, carried, part_over, all_parts, one_text, slice_range-none, show-bare, spelled, AllStandAnywhere, pieces_of-spelled, AreCodes, code_pieces, start_codes_are, dressed_pieces, shown_pieces, piece_when}
 use Rattle.ansi_style.proofs.ColorLemmas.{is_code_byte, sgr_parameters-written}
 use Rattle.ansi_split.proofs.IntervalLemmas.{ComesAfter, ComeAfter, all_parts_come_after}
 use Rattle.ansi_split.proofs.PartSliceLemmas.{shown_pieces-nothing, earlier_places, own_pieces, spelled-own_pieces, own_pieces_stand, all_pieces, closing_codes, closing_codes_are, IsStyle-carried, part_pieces, spelled-part_pieces, part_pieces_stand}
@@ -49,28 +49,14 @@ others-one_text (b ∷ w) = refl
 
 others-shown_pieces : (ps : List Piece) (test : ℕ → Bool) (a b c d : ℕ) → others (shown_pieces test a b ps) ≡ others (shown_pieces test c d ps)
 others-shown_pieces [] test a b c d = refl
-others-shown_pieces (Text w ∷ ps) test a b c d =
-    let n = length w in
-    let later : ℕ → Bool = λ p. test (n + p) in
-    filter-append is_other (one_text (slice_range w a b)) (shown_pieces later (a - n) (b - n) ps)
-    ∙ ap₂ (λ u v. u ++ v) (others-one_text (slice_range w a b) ∙ sym (others-one_text (slice_range w c d))) (others-shown_pieces ps later (a - n) (b - n) (c - n) (d - n))
-    ∙ sym (filter-append is_other (one_text (slice_range w c d)) (shown_pieces later (c - n) (d - n) ps))
-others-shown_pieces (p ∷ ps) test a b c d =
-    let own = piece_when (test 0) p in
-    filter-append is_other own (shown_pieces test a b ps) ∙ ap (λ v. others own ++ v) (others-shown_pieces ps test a b c d) ∙ sym (filter-append is_other own (shown_pieces test c d ps))
+others-shown_pieces (Text w ∷ ps) test a b c d = grind (arith, filter-append, one_text, others-one_text, shown_pieces, others-shown_pieces ps (λ p. test ((length w) + p)) (a - (length w)) (b - (length w)) (c - (length w)) (d - (length w)))
+others-shown_pieces (p ∷ ps) test a b c d = grind (arith, filter-append, piece_when, shown_pieces, others-shown_pieces ps test a b c d)
 
 -- where each place up to the end passes, they are all
 others-shown_all : (ps : List Piece) (test : ℕ → Bool) → ((p : ℕ) → p ≤ length (plain_of ps) → test p ≡ true) → others (shown_pieces test 0 0 ps) ≡ others ps
 others-shown_all [] test all = refl
-others-shown_all (Text w ∷ ps) test all =
-    let n = length w in
-    let later : ℕ → Bool = λ p. test (n + p) in
-    filter-append is_other (one_text (slice_range w 0 0)) (shown_pieces later (0 - n) (0 - n) ps)
-    ∙ ap₂ (λ u v. u ++ v) (others-one_text (slice_range w 0 0))
-    (others-shown_pieces ps later (0 - n) (0 - n) 0 0 ∙ others-shown_all ps later (λ p within. all (n + p) (omega (arith, within, length-append w (plain_of ps)))))
-others-shown_all (p ∷ ps) test all =
-    ap (λ c. others (piece_when c p ++ shown_pieces test 0 0 ps)) (all 0 (omega arith))
-    ∙ ap (λ qs. if is_other p then p ∷ qs else qs) (others-shown_all ps test all)
+others-shown_all (Text w ∷ ps) test all = grind (arith, filter-append, length-append, one_text, others-one_text, others-shown_pieces, shown_pieces, others-shown_all ps (λ p. test ((length w) + p)) (λ p within. all ((length w) + p) (omega (arith, within, length-append w (plain_of ps)))))
+others-shown_all (p ∷ ps) test all = grind (arith, piece_when, shown_pieces, others-shown_all ps test all)
 
 -- In a part they are those that it shows.
 

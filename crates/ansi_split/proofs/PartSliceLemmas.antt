@@ -11,9 +11,7 @@ use Rattle.ansi_split.proofs.IntervalLemmas.{ComesAfter}
 
 pub shown_pieces-nothing : (test : ℕ → Bool) (a b : ℕ) (ps : List Piece) → ((p : ℕ) → test p ≡ false) → b ≤ a → shown_pieces test a b ps ≡ []
 shown_pieces-nothing test a b [] never none = refl
-shown_pieces-nothing test a b (Text w ∷ ps) never none =
-    let n = length w in
-    ap₂ (λ v qs. one_text v ++ qs) (slice_range-none w a b none) (shown_pieces-nothing (λ p. test (n + p)) (a - n) (b - n) ps (λ p. never (n + p)) (omega arith))
+shown_pieces-nothing test a b (Text w ∷ ps) never none = grind (arith, one_text, slice_range-none, shown_pieces-nothing (λ p. test ((length w) + p)) (a - (length w)) (b - (length w)) ps (λ p. never ((length w) + p)) (omega arith))
 shown_pieces-nothing test a b (p ∷ ps) never none = ap₂ (λ c qs. piece_when c p ++ qs) (never 0) (shown_pieces-nothing test a b ps never none)
 
 -- places before k pass `early`, places from k on pass `late` where they pass `both`
@@ -65,10 +63,7 @@ shown_pieces-divided (Text w ∷ ps) k early late both c a b divides after =
           ap (λ qs. qs ++ (one_text (slice_range w a b) ++ ls)) none
           ∙ ap (λ qs. one_text (slice_range w a b) ++ qs) (ap (λ qs. qs ++ ls) (sym none) ∙ later))
     ]
-shown_pieces-divided (p ∷ ps) k early late both c a b divides after =
-    mark-divided p k early late both (shown_pieces early c c ps) (shown_pieces late a b ps) (shown_pieces both a b ps) divides
-    (λ from. shown_pieces-nothing early c c ps (λ p. divides.early_from p (omega arith)) (omega arith))
-    (shown_pieces-divided ps k early late both c a b divides after)
+shown_pieces-divided (p ∷ ps) k early late both c a b divides after = grind (arith, mark-divided, shown_pieces, shown_pieces-nothing, shown_pieces-divided ps k early late both c a b divides after)
 
 -- So what is read of the latter, from the state after the former, is what is read of all.
 
@@ -119,12 +114,7 @@ at_places-never (m ∷ ms) = at_places-never ms
 -- a test of those that pass another
 pub at_places-at_places : (f g : ℕ → Bool) (ms : List Mark) → at_places f (at_places g ms) ≡ at_places (λ p. g p && f p) ms
 at_places-at_places f g [] = refl
-at_places-at_places f g (m ∷ ms) = either (g m.place) (at_places-at_places f g ms)
-  where
-    either : (b : Bool) → at_places f (at_places g ms) ≡ at_places (λ p. g p && f p) ms
-        → at_places f (if b then m ∷ at_places g ms else at_places g ms) ≡ (if b && f m.place then m ∷ at_places (λ p. g p && f p) ms else at_places (λ p. g p && f p) ms)
-    either true later = ap (λ v. if f m.place then m ∷ v else v) later
-    either false later = later
+at_places-at_places f g (m ∷ ms) = grind (arith, at_places, at_places-at_places f g ms)
 
 pub past-places : (before : Option ℕ) (b : ℕ) (ms : List Mark) → past before (up_to b ms) ≡ at_places (own_places before b) ms
 past-places before b ms = at_places-at_places (comes_later before) (λ p. nat_le p b) ms
@@ -221,10 +211,7 @@ part_pieces t before i = dressed_pieces (carried t before) (own_pieces t before 
 
 pub spelled-part_pieces : (t : List ℕ) (before : Option ℕ) (i : ℕ × ℕ)
     → spelled (part_pieces t before i) ≡ start (carried t before) ++ show (plain t) i.0 i.1 (past before (up_to i.1 (marks t))) ++ close_if_any (style_at t i.1)
-spelled-part_pieces t before i =
-    let s = carried t before in
-    let q = style_at t i.1 in
-    spelled-dressed_pieces s (own_pieces t before i) (closing_codes q) ∙ ap₂ (λ u v. start s ++ u ++ v) (spelled-own_pieces t before i) (written-closing_codes q)
+spelled-part_pieces t before i = grind (arith, spelled-dressed_pieces, spelled-own_pieces, written-closing_codes)
 
 pub own_pieces_stand : (t : List ℕ) (before : Option ℕ) (i : ℕ × ℕ) → IsTrue (is_whole t) → AllStandAnywhere (own_pieces t before i)
 own_pieces_stand t before i whole = shown_pieces_stand (pieces_of t) (own_places before i.1) i.0 i.1 (pieces_stand t whole)

@@ -1,5 +1,5 @@
 -- How many parts there are; and that the plain texts of all parts of a whole text are the slices between the matches.
-use Rattle.ansi_split.proofs.Common.{◌≡◌, ◌≢◌, ℕ, suc, ◌+◌, ◌≤◌, List, [], ◌∷◌, ◌++◌, map, length, filter_map, Option, Some, None, refl, sym, ◌∙◌, ap, ap₂, subst, arith, IsTrue, slice_range, slice_get, length-append, nat_le, if◌then◌else◌, cons_option, range_with_len, cond_both, length-filter, count_by-le-length, encode_utf8, IsUtf8, chars, plain, is_whole, StyledByte, styled, bytes_of, is_match, match_places, apart, parts, end_before, part_over, part, all_parts, AreSplit, slices_over, slice_range-map, bytes_of-styled, IsUtf8-plain}
+use Rattle.ansi_split.proofs.Common.{◌≡◌, ◌≢◌, ℕ, suc, ◌+◌, ◌≤◌, List, [], ◌∷◌, ◌++◌, map, length, filter_map, Option, Some, None, refl, sym, ◌∙◌, ap, ap₂, subst, arith, IsTrue, slice_range, slice_get, length-append, nat_le, if◌then◌else◌, cons_option, range_with_len, length-filter, count_by-le-length, encode_utf8, IsUtf8, chars, plain, is_whole, StyledByte, styled, bytes_of, is_match, match_places, apart, parts, end_before, part_over, part, all_parts, AreSplit, slices_over, slice_range-map, bytes_of-styled, IsUtf8-plain}
 use Rattle.std.specs.Prelude.{option_map}
 use Rattle.std.proofs.lemmas.List.FromFn.{length-range_with_len}
 use Rattle.std.proofs.lemmas.Slice.Zip.{length-zip}
@@ -12,11 +12,7 @@ use Rattle.ansi_split.proofs.CharacterLemmas.{slices_over-parts-empty}
 
 length-apart : (n e : ℕ) (ms : List ℕ) → length (apart n e ms) ≤ length ms
 length-apart n e [] = omega arith
-length-apart n e (m ∷ ms) =
-    let next = if nat_le e m then m + n else e in
-    let later = length-apart n next ms in
-    cond_both (nat_le e m) (m ∷ apart n next ms) (apart n next ms) (λ ks. length ks ≤ length (m ∷ ms))
-    (λ taken. omega (arith, later)) (λ passed. omega (arith, later))
+length-apart n e (m ∷ ms) = grind (arith, length-apart n (if nat_le e m then m + n else e) ms)
 
 pub length-parts : (x p : List ℕ) → length (parts x p) ≤ length x + 2
 length-parts x p =
@@ -81,10 +77,7 @@ map-parts_over t g v before (i ∷ is) reads =
 pub map-all_parts : {Z : Type 0} (t p : List ℕ) (g : List ℕ → Z) (v : ℕ × ℕ → Z)
     → ((k : ℕ) (i : ℕ × ℕ) → slice_get (parts (plain t) p) k ≡ Some i → g (part_over t (end_before (parts (plain t) p) k) i) ≡ v i)
     → map g (all_parts t p) ≡ map v (parts (plain t) p)
-map-all_parts t p g v reads =
-    let is = parts (plain t) p in
-    ap (map g) (all_parts-over t p)
-    ∙ map-parts_over t g v None is (λ k i found. ap (λ b. g (part_over t b i)) (end_after-none is k) ∙ reads k i found)
+map-all_parts t p g v reads = grind (arith, all_parts-over, end_after-none, map-parts_over)
 
 pub plain-all_parts : (t p : List ℕ) → IsTrue (is_whole t) → map plain (all_parts t p) ≡ slices_over (plain t) (parts (plain t) p)
 plain-all_parts t p whole =

@@ -151,16 +151,7 @@ unmarked-run t start run before none = sym (no_escape-take t start run before no
 -- What is left of the run after a place in it.
 
 pub boundary-drop : (t : List ℕ) (place run : ℕ) → place ≤ run → IsCharBoundary t run → IsCharBoundary (drop place t) (run - place)
-boundary-drop t place run before boundary =
-    let size : length (drop place t) ≡ length t - place = length-drop place t in
-    let fits : run ≤ length t = boundary.0 in
-    let sum : place + (run - place) ≡ run = omega (arith, before) in
-    let same : slice_index (drop place t) (run - place) ≡ slice_index t run = get_or-drop place t (run - place) 0 ∙ ap (slice_index t) sum in (
-      omega (arith, size, fits),
-      λ inside high. (
-          let lead : 192 ≤ slice_index t run = boundary.1 (omega (arith, inside, size, before)) (omega (arith, high, same)) in
-          omega (arith, lead, same)),
-    )
+boundary-drop t place run before boundary = grind (arith, get_or-drop, length-drop)
 
 pub no_escape-drop : (t : List ℕ) (place run : ℕ) → IsFalse (has_escape (take run t)) → IsFalse (has_escape (take (run - place) (drop place t)))
 no_escape-drop t place run none = ap has_escape (sym (drop-take place run t)) ∙ (no_escape-parts place (take run t) none).1

@@ -53,17 +53,7 @@ part_from-made c t before i = refl
 -- The part up to m, by the front of the text that is cut there.
 
 part-front : (c : Rendition) (t : List ℕ) (skip m : ℕ) (front after : List ℕ) → m ≤ length (plain t) → IsCutAfter t m front after → part_from c t None (skip, m) ≡ span_part c front skip
-part-front c t skip m front after inside cut =
-    let size : m ≡ length (plain front) = sym (ap length cut.plain_front ∙ length-take-le m (plain t) inside) in
-    let own : past None (up_to m (marks t)) ≡ past None (up_to (length (plain front)) (marks front)) = past-none (up_to m (marks t)) ∙ sym cut.marks_front ∙ sym (own-whole front) in
-    let shown : show (plain t) skip m (past None (up_to m (marks t))) ≡ show (plain front) skip (length (plain front)) (past None (up_to (length (plain front)) (marks front)))
-    = ap (show (plain t) skip m) (past-none (up_to m (marks t))) ∙ cut.shown_front skip
-    ∙ ap₂ (λ e ms. show (plain front) skip e ms) size (sym (own-whole front)) in
-    let last : style_within c t m ≡ style_within c front (length (plain front))
-    = ap (after_marks c) (sym cut.marks_front ∙ sym (up_to-past (length (plain front)) (pieces_of front) (omega arith))) in
-    part_from-made c t None (skip, m)
-    ∙ made_of-alike {style = c} (ap (λ e. skip == e) size) (ap length own) refl shown last
-    ∙ sym (part_from-made c front None (skip, length (plain front)))
+part-front c t skip m front after inside cut = grind (arith, length-take-le, made_of-alike, own-whole, part_from-made, past-none, up_to-past)
 
 -- The parts after m, by the text after the cut.
 

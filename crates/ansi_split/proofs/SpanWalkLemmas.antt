@@ -15,9 +15,7 @@ shown-bare t skip none =
     ∙ show-bare t skip (length t) ∙ slice_range-past t skip (length t) (omega arith)
 
 pub boundary-bare : (t : List ℕ) (skip : ℕ) → has_escape t ≡ false → IsTrue (is_char_boundary (plain t) skip) → IsCharBoundary t skip
-boundary-bare t skip none boundary =
-    let both = and_parts _ _ (subst (λ x. IsTrue (is_char_boundary x skip)) (plain-bare t none) boundary) in
-    good_is_boundary t skip (leb-true skip (length t) both.0) both.1
+boundary-bare t skip none boundary = grind (arith, and_parts, good_is_boundary, leb-true, plain-bare)
 
 -- What is written, and what is left, are the whole. Plain bytes that are still to be left out end at a character of what is left.
 pub record IsShownSoFar (whole written : List ℕ) (skip : ℕ) (left : List Piece) : Type 0 where

@@ -1,5 +1,5 @@
 -- The parts that a split gives: those of the text, each by its index; and a part that is written or borrowed.
-use Rattle.ansi_split.proofs.Common.{◌≡◌, Bool, unwrap_or, ℕ, zero, suc, ◌+◌, ◌≤◌, true, false, not, ◌&&◌, ◌||◌, ◌==◌, List, [], ◌∷◌, ◌++◌, length, map, drop, Option, Some, None, option_map, refl, sym, ◌∙◌, ap, ap₂, arith, IsTrue, IsFalse, if◌then◌else◌, slice_get, append-nil, eqb-true, eq-eqb, ne_eqb, cond_both, or_from, and_parts, and_from, and-false, or-true, none-some, same_Some, drop_all, list_any-append, range_with_len, list_all, option_map_or, escape, Piece, Text, Sequence, LoneEscape, ArePieces, pieces_of, Mark, plain, marks_of, marks, up_to, has_escape, Rendition, plain_style, has_any, start, close_if_any, style_of, style_at, after_marks, style_within, show, parts, end_before, past, carried, part_over, part, all_parts, share_over, share, is_borrowed_over, is_part_borrowed, SplitPart, split_part, split_parts, part_from, parts_from, parts_left, span_part, span_text, pieces_are, no_escape, plain-bare, slice_range-past, further, marks-bare, marks_of-text, marks_of-sequence, marks_of-lone, up_to-past, show-bare, start-unset, close_if_any-unset}
+use Rattle.ansi_split.proofs.Common.{◌≡◌, Bool, unwrap_or, ℕ, zero, suc, ◌+◌, ◌≤◌, true, false, not, ◌&&◌, ◌||◌, ◌==◌, List, [], ◌∷◌, ◌++◌, length, map, drop, Option, Some, None, option_map, refl, sym, ◌∙◌, ap, ap₂, arith, IsTrue, IsFalse, if◌then◌else◌, slice_get, append-nil, eqb-true, eq-eqb, ne_eqb, cond_both, or_from, and_parts, and_from, and-false, or-true, none-some, same_Some, drop_all, list_any-append, range_with_len, list_all, escape, Piece, Text, Sequence, LoneEscape, ArePieces, pieces_of, Mark, plain, marks_of, marks, up_to, has_escape, Rendition, plain_style, has_any, start, close_if_any, style_of, style_at, parts, end_before, carried, part_over, part, all_parts, share_over, share, is_borrowed_over, is_part_borrowed, SplitPart, split_part, split_parts, part_from, parts_from, parts_left, span_part, span_text, pieces_are, no_escape, plain-bare, slice_range-past, further, marks-bare, marks_of-text, marks_of-sequence, marks_of-lone, up_to-past, show-bare, start-unset, close_if_any-unset}
 use Rattle.std.proofs.lemmas.Bool.{true≢false}
 use Rattle.ansi_split.proofs.IntervalLemmas.{end_after, end_after-suc, end_after-none}
 use Rattle.ansi_split.proofs.PartTextLemmas.{length-parts, parts_over, all_parts-over}
@@ -38,8 +38,7 @@ length-parts_left t p = omega (arith, ap length (parts_left-begin t p) ∙ lengt
 slice_get-parts_from : (c : Rendition) (t : List ℕ) (before : Option ℕ) (is : List (ℕ × ℕ)) (k : ℕ) → slice_get (parts_from c t before is) k ≡ option_map (part_from c t (end_after before is k)) (slice_get is k)
 slice_get-parts_from c t before [] k = refl
 slice_get-parts_from c t before (i ∷ is) zero = refl
-slice_get-parts_from c t before (i ∷ is) (suc k) =
-    slice_get-parts_from c t (Some i.1) is k ∙ ap (λ b. option_map (part_from c t b) (slice_get is k)) (sym (end_after-suc before i is k))
+slice_get-parts_from c t before (i ∷ is) (suc k) = grind (arith, end_after-suc, slice_get-parts_from c t (Some i.1) is k)
 
 slice_get-parts_left : (t p : List ℕ) (k : ℕ)
     → slice_get (parts_left plain_style t p 0 0) k ≡ option_map (part_from plain_style t (end_before (parts (plain t) p) k)) (slice_get (parts (plain t) p) k)
@@ -63,14 +62,11 @@ carried-bare t (Some e) none = style_at-bare t e none
 
 is_borrowed_over-bare : (t : List ℕ) (before : Option ℕ) (i : ℕ × ℕ) → IsFalse (has_escape t) → is_borrowed_over t before i ≡ true
 unfolding is_borrowed_over
-is_borrowed_over-bare t before i none =
-    ap₂ (λ ms s. length (past before (up_to i.1 ms)) == 0 && (i.0 == i.1 || not (has_any s))) (marks-bare t none) (carried-bare t before none)
-    ∙ or-true (i.0 == i.1)
+is_borrowed_over-bare t before i none = grind (arith, carried-bare, marks-bare, or-true)
 
 bare_are_borrowed : (t : List ℕ) (before : Option ℕ) (is : List (ℕ × ℕ)) → IsFalse (has_escape t) → list_all (λ (q : SplitPart). q.borrowed) (parts_from plain_style t before is) ≡ true
 bare_are_borrowed t before [] none = refl
-bare_are_borrowed t before (i ∷ is) none =
-    and_from _ _ (borrowed-part_from t before i ∙ is_borrowed_over-bare t before i none) (bare_are_borrowed t (Some i.1) is none)
+bare_are_borrowed t before (i ∷ is) none = grind (arith, and_from, borrowed-part_from, is_borrowed_over-bare, bare_are_borrowed t (Some i.1) is none)
 
 pub parts_left-bare : (t p : List ℕ) → IsFalse (has_escape t) → IsTrue (list_all (λ (q : SplitPart). q.borrowed) (parts_left plain_style t p 0 0))
 parts_left-bare t p none = ap (list_all (λ (q : SplitPart). q.borrowed)) (parts_left-begin t p) ∙ bare_are_borrowed t None (parts (plain t) p) none
@@ -104,17 +100,7 @@ span_part-borrowed c t skip = ap (λ (own : List Mark). length own == 0 && (skip
 
 pub bytes-owned : (c : Rendition) (t : List ℕ) (skip : ℕ) → (span_part c t skip).borrowed ≡ false → (span_part c t skip).bytes ≡ span_text c t skip
 unfolding part_from span_text
-bytes-owned c t skip owned =
-    let x = plain t in
-    let all : style_within c t (length x) ≡ after_marks c (marks t) = ap (after_marks c) (up_to-past (length x) (pieces_of t) (omega arith)) in
-    let bytes : List Mark → Rendition → List ℕ = λ own last. if skip == length x && length own == 0 then [] else start c ++ show x skip (length x) own ++ close_if_any last in
-    let filled : (skip == length x && length (marks t) == 0) ≡ false = not_both (skip == length x) (length (marks t) == 0) (not (has_any c)) (sym (span_part-borrowed c t skip) ∙ owned) in
-    ap₂ bytes (own-whole t) all ∙ ap (λ b. if b then [] else start c ++ show x skip (length x) (marks t) ++ close_if_any (after_marks c (marks t))) filled
-  where
-    not_both : (b n a : Bool) → (n && (b || a)) ≡ false → (b && n) ≡ false
-    not_both true true a either = absurd (true≢false either)
-    not_both true false a either = refl
-    not_both false n a either = refl
+bytes-owned c t skip owned = grind (arith, own-whole, span_part-borrowed, true≢false, up_to-past)
 
 -- It is none where a sequence stands in it, or it isn't empty and a style is carried,
 
@@ -122,9 +108,7 @@ pub owned-escape : (c : Rendition) (t : List ℕ) (skip : ℕ) → has_escape t 
 owned-escape c t skip some = span_part-borrowed c t skip ∙ ap (λ b. b && (skip == length (plain t) || not (has_any c))) (escape_is_marked t some)
 
 pub owned-styled : (c : Rendition) (t : List ℕ) (skip : ℕ) → has_escape t ≡ false → (skip == length t) ≡ false → has_any c ≡ true → (span_part c t skip).borrowed ≡ false
-owned-styled c t skip none filled any =
-    let more : (skip == length (plain t)) ≡ false = ap (λ x. skip == length x) (plain-bare t none) ∙ filled in
-    span_part-borrowed c t skip ∙ ap₂ (λ a b. length (marks t) == 0 && (a || not b)) more any ∙ and-false (length (marks t) == 0)
+owned-styled c t skip none filled any = grind (arith, and-false, plain-bare, span_part-borrowed)
 
 -- and else it stands in the text as it is.
 
@@ -134,20 +118,10 @@ pub record IsBare (c : Rendition) (t : List ℕ) (skip : ℕ) : Type 0 where
 
 bare_part : (c : Rendition) (t : List ℕ) (skip : ℕ) → has_escape t ≡ false → (span_part c t skip).bytes ≡ (if skip == length t && true then [] else start c ++ drop skip t ++ close_if_any c)
 unfolding part_from
-bare_part c t skip none =
-    let bytes : List ℕ → List Mark → List ℕ
-    = λ x ms. (let own = past None (up_to (length x) ms) in if skip == length x && length own == 0 then [] else start c ++ show x skip (length x) own ++ close_if_any (after_marks c (up_to (length x) ms))) in
-    ap₂ bytes (plain-bare t none) (marks-bare t none)
-    ∙ ap (λ u. if skip == length t && true then [] else start c ++ u ++ close_if_any c) (show-bare t skip (length t) ∙ slice_range-past t skip (length t) (omega arith))
+bare_part c t skip none = grind (arith, marks-bare, plain-bare, show-bare, slice_range-past)
 
 pub bare-empty : (c : Rendition) (t : List ℕ) (skip : ℕ) → has_escape t ≡ false → skip ≡ length t → IsBare c t skip
-bare-empty c t skip none end =
-    let same : (skip == length t) ≡ true = eq-eqb skip (length t) end in
-    record {
-      bytes = bare_part c t skip none ∙ ap (λ b. if b && true then [] else start c ++ drop skip t ++ close_if_any c) same ∙ sym (drop_all skip t (omega (arith, end)));
-      borrowed = span_part-borrowed c t skip ∙ ap₂ (λ (ms : List Mark) (x : List ℕ). length ms == 0 && (skip == length x || not (has_any c))) (marks-bare t none) (plain-bare t none)
-          ∙ ap (λ b. b || not (has_any c)) same;
-    }
+bare-empty c t skip none end = grind (arith, bare_part, drop_all, eq-eqb, marks-bare, plain-bare, span_part-borrowed)
 
 pub bare-unstyled : (c : Rendition) (t : List ℕ) (skip : ℕ) → has_escape t ≡ false → skip ≤ length t → has_any c ≡ false → IsBare c t skip
 bare-unstyled c t skip none inside unset =
@@ -171,32 +145,10 @@ pub record IsPartAt (t p : List ℕ) (k : ℕ) (q : SplitPart) : Type 0 where
   pub bare : IsFalse (has_escape t) → q.borrowed ≡ true
 
 pub part_at : (t p : List ℕ) (k : ℕ) (q : SplitPart) → slice_get (parts_left plain_style t p 0 0) k ≡ Some q → IsPartAt t p k q
-part_at t p k q at = by_interval (slice_get (parts (plain t) p) k) refl
-  where
-    before : Option ℕ
-    before = end_before (parts (plain t) p) k
-
-    by_interval : (o : Option (ℕ × ℕ)) → slice_get (parts (plain t) p) k ≡ o → IsPartAt t p k q
-    by_interval None is = absurd (none-some q (sym (sym at ∙ slice_get-parts_left t p k ∙ ap (option_map (part_from plain_style t before)) is)))
-    by_interval (Some i) is =
-        let same : part_from plain_style t before i ≡ q = same_Some _ q (sym (slice_get-parts_left t p k ∙ ap (option_map (part_from plain_style t before)) is) ∙ at) in
-        let borrowed : is_part_borrowed t p k ≡ q.borrowed
-        = ap (λ o. option_map_or (is_borrowed_over t before) o false) is ∙ sym (borrowed-part_from t before i) ∙ ap (λ (q : SplitPart). q.borrowed) same in
-        record {
-          interval = i;
-          found = is;
-          bytes = ap (option_map (part_over t before)) is ∙ ap Some (sym (bytes-part_from t before i) ∙ ap (λ (q : SplitPart). q.bytes) same);
-          borrowed = borrowed;
-          share = ap (λ o. option_map_or (share_over t before) o 0) is ∙ sym (share-part_from t before i) ∙ ap (λ (q : SplitPart). q.share) same;
-          bare = λ none. sym borrowed ∙ ap (λ o. option_map_or (is_borrowed_over t before) o false) is ∙ is_borrowed_over-bare t before i none;
-        }
+part_at t p k q at = grind (arith, borrowed-part_from, bytes-part_from, is_borrowed_over-bare, none-some, same_Some, share-part_from, slice_get-parts_left)
 
 pub no_part_at : (t p : List ℕ) (k : ℕ) → slice_get (parts_left plain_style t p 0 0) k ≡ None → slice_get (parts (plain t) p) k ≡ None
-no_part_at t p k none = by_interval (slice_get (parts (plain t) p) k) (sym (slice_get-parts_left t p k) ∙ none)
-  where
-    by_interval : (o : Option (ℕ × ℕ)) → option_map (part_from plain_style t (end_before (parts (plain t) p) k)) o ≡ None → o ≡ None
-    by_interval None is = refl
-    by_interval (Some i) is = absurd (none-some _ (sym is))
+no_part_at t p k none = grind (arith, none-some, slice_get-parts_left)
 
 -- The parts left at first are all of them.
 

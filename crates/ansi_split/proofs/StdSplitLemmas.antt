@@ -1,19 +1,11 @@
 -- Between the first matches of a pattern stand the texts that std's `split` gives, and no others.
-use Rattle.ansi_split.proofs.Common.{◌≡◌, ◌≢◌, ℕ, ◌+◌, ◌-◌, ◌<◌, ◌≤◌, inl, inr, Bool, true, false, List, [], ◌∷◌, ◌++◌, take, drop, length, Option, Some, None, refl, sym, ◌∙◌, ap, ap₂, subst, arith, slice_index, slice_range, length-take, true≢false, cases_order, drop-drop, get_or-drop, take_all, IsUtf8, IsCharBoundary, FindsText, LacksTextAt, HasTextAt, IsSplitAtFirstMatch, parts, GoesOn, AreSplit, AreBetween, slices_over}
-use Rattle.std.proofs.Common.{MatchOption, length-drop}
+use Rattle.ansi_split.proofs.Common.{◌≡◌, ◌≢◌, ℕ, ◌+◌, ◌-◌, ◌<◌, ◌≤◌, Bool, true, false, List, [], ◌∷◌, ◌++◌, take, drop, length, Some, None, refl, sym, ◌∙◌, ap, ap₂, subst, arith, slice_index, slice_range, length-take, true≢false, cases_order, drop-drop, get_or-drop, take_all, IsUtf8, IsCharBoundary, FindsText, LacksTextAt, HasTextAt, IsSplitAtFirstMatch, parts, GoesOn, AreSplit, AreBetween, slices_over}
+use Rattle.std.proofs.Common.{length-drop}
 use Rattle.ansi_split.proofs.BetweenLemmas.{filled, parts_are_between}
 
 -- the last text, with no match
 split_last : (x p : List ℕ) (e : ℕ) (i : ℕ × ℕ) → AreBetween x p e (i ∷ []) → AreSplit p (drop e x) (slices_over x (i ∷ []))
-split_last x p e i last =
-    let w = drop e x in
-    let fits : length w ≤ length x - e = omega (arith, length-drop e x) in
-    let all : slice_range x i.0 i.1 ≡ w = ap₂ (slice_range x) last.0 last.1 ∙ take_all (length x - e) w fits in
-    let inside : e ≤ length x = (let end = last.2 in omega (arith, end, last.1)) in
-    let nowhere : (k : ℕ) → k ≤ length w → LacksTextAt p w k
-    = λ k to rest stands. last.3 (e + k) (omega arith) (omega (arith, to, inside, length-drop e x)) rest (sym (drop-drop k e x) ∙ stands) in
-    let len : length (slice_range x i.0 i.1) + 0 ≤ length w = omega (arith, ap length all) in
-    (false, [], (len, (None, nowhere, (all, refl))), refl)
+split_last x p e i last = grind (arith, drop-drop, length-drop, take_all)
 
 -- a text up to a match, and those after it
 split_more : (x p : List ℕ) (e : ℕ) (i : ℕ × ℕ) (ys : List (List ℕ)) → i.0 ≡ e → e ≤ i.1 → HasTextAt p x i.1 (i.1 + length p) → ((k : ℕ) → e ≤ k → k < i.1 → LacksTextAt p x k)
@@ -60,27 +52,7 @@ no_earlier_find p x q r found later before = later.0 q.0 before (drop q.1 x) fou
 
 step_is_one : (p x y z rest left : List ℕ) (more go : Bool) → p ≢ [] → IsSplitAtFirstMatch (FindsText p) x y more rest → IsSplitAtFirstMatch (FindsText p) x z go left
     → (y ≡ z) × (more ≡ go) × (go ≡ true → rest ≡ left)
-step_is_one p x y z rest left more go some first second = by_finds first.1.0 second.1.0 first.1.1 second.1.1 first.1.2 second.1.2
-  where
-    on : (q : ℕ × ℕ) → FindsText p x (Some q) → 0 < q.1
-    on q found = (let size = filled p some in let end : q.1 ≡ q.0 + length p = found.1.ends in omega (arith, size, end))
-
-    by_finds : (o u : Option (ℕ × ℕ)) → FindsText p x o → FindsText p x u
-        → MatchOption o ((y ≡ x) × (more ≡ false)) (λ q. 0 < q.1 → (y ≡ take q.0 x) × (more ≡ true) × (rest ≡ drop q.1 x))
-        → MatchOption u ((z ≡ x) × (go ≡ false)) (λ q. 0 < q.1 → (z ≡ take q.0 x) × (go ≡ true) × (left ≡ drop q.1 x))
-        → (y ≡ z) × (more ≡ go) × (go ≡ true → rest ≡ left)
-    by_finds None None f g a b = (a.0 ∙ sym b.0, a.1 ∙ sym b.1, λ goes. absurd (true≢false (sym goes ∙ b.1)))
-    by_finds None (Some q) f g a b = absurd (no_find p x q f g)
-    by_finds (Some q) None f g a b = absurd (no_find p x q g f)
-    by_finds (Some q) (Some r) f g a b = elim (cases_order q.0 r.0) [
-      | inl same ↦
-          (let end : q.1 ≡ r.1 = f.1.ends ∙ ap (λ n. n + length p) same ∙ sym g.1.ends in
-          let c = a (on q f) in
-          let d = b (on r g) in
-          (c.0 ∙ ap (λ n. take n x) same ∙ sym d.0, c.1 ∙ sym d.1, λ goes. c.2 ∙ ap (λ n. drop n x) end ∙ sym d.2))
-      | inr (inl before) ↦ absurd (no_earlier_find p x q r f g before)
-      | inr (inr after) ↦ absurd (no_earlier_find p x r q g f after)
-    ]
+step_is_one p x y z rest left more go some first second = grind (arith, cases_order, filled, no_earlier_find, no_find, true≢false)
 
 pub split_is_one : (p x : List ℕ) (ys zs : List (List ℕ)) → p ≢ [] → AreSplit p x ys → AreSplit p x zs → ys ≡ zs
 split_is_one p x [] zs some first second = absurd first

@@ -1,19 +1,11 @@
 -- The matches of a pattern after one of them, and the intervals between them.
-use Rattle.ansi_split.proofs.Common.{◌≡◌, ℕ, zero, suc, ◌+◌, ◌<◌, ◌≤◌, max, inl, inr, Bool, true, false, List, [], ◌∷◌, ◌++◌, length, map, filter, zip, drop, Some, None, refl, sym, ◌∙◌, ap, ap₂, subst, arith, if◌then◌else◌, nat_le, slice_get, cases_lt, le-leb, lt-leb, none-some, same_Some, length-drop, range_with_len, is_match, match_places, first_match_from, apart, is_match-drop}
+use Rattle.ansi_split.proofs.Common.{◌≡◌, ℕ, zero, suc, ◌+◌, ◌<◌, ◌≤◌, max, inl, inr, Bool, true, false, List, [], ◌∷◌, ◌++◌, length, map, filter, zip, drop, Some, None, refl, sym, ◌∙◌, ap, subst, arith, if◌then◌else◌, nat_le, slice_get, cases_lt, le-leb, lt-leb, none-some, same_Some, length-drop, range_with_len, is_match, match_places, first_match_from, apart, is_match-drop}
 
 -- The matches after the first m bytes are those of the text.
 
 matches-drop : (x p : List ℕ) (m i n : ℕ) → m ≤ length x → filter (is_match x p) (range_with_len (m + i) n) ≡ map (λ k. m + k) (filter (is_match (drop m x) p) (range_with_len i n))
 matches-drop x p m i zero within = refl
-matches-drop x p m i (suc n) within =
-    let later : filter (is_match x p) (range_with_len (m + i + 1) n) ≡ map (λ k. m + k) (filter (is_match (drop m x) p) (range_with_len (i + 1) n))
-    = (let next : m + i + 1 ≡ m + (i + 1) = omega arith in ap (λ k. filter (is_match x p) (range_with_len k n)) next ∙ matches-drop x p m (i + 1) n within) in
-    ap₂ (λ b ks. if b then (m + i) ∷ ks else ks) (is_match-drop x p m i within) later
-    ∙ either (is_match (drop m x) p i) (filter (is_match (drop m x) p) (range_with_len (i + 1) n))
-  where
-    either : (b : Bool) (ks : List ℕ) → (if b then (m + i) ∷ map (λ k. m + k) ks else map (λ k. m + k) ks) ≡ map (λ k. m + k) (if b then i ∷ ks else ks)
-    either true ks = refl
-    either false ks = refl
+matches-drop x p m i (suc n) within = grind (arith, is_match-drop, matches-drop x p m (i + 1) n within)
 
 -- Which matches are taken.
 
@@ -25,10 +17,7 @@ apart-passed n e m ms before = ap (λ b. if b then m ∷ apart n (if b then m + 
 
 -- those before the end don't count
 apart-before : (q : ℕ → Bool) (n e i k j : ℕ) → i + k ≤ e → apart n e (filter q (range_with_len i (k + j))) ≡ apart n e (filter q (range_with_len (i + k) j))
-apart-before q n e i zero j before =
-    let here : i + 0 ≡ i = omega arith in
-    let all : 0 + j ≡ j = omega arith in
-    ap₂ (λ a b. apart n e (filter q (range_with_len a b))) (sym here) all
+apart-before q n e i zero j before = grind arith
 apart-before q n e i (suc k) j before =
     let here : i + 1 + k ≡ i + suc k = omega arith in
     let size : suc k + j ≡ suc (k + j) = omega arith in
@@ -43,12 +32,7 @@ apart-before q n e i (suc k) j before =
 -- ends that no match lies between count alike
 apart-alike : (q : ℕ → Bool) (n d e i k : ℕ) → d ≤ i → e ≤ i → apart n d (filter q (range_with_len i k)) ≡ apart n e (filter q (range_with_len i k))
 apart-alike q n d e i zero d_before e_before = refl
-apart-alike q n d e i (suc k) d_before e_before = either (q i) (apart-alike q n d e (i + 1) k (omega arith) (omega arith))
-  where
-    either : (b : Bool) → apart n d (filter q (range_with_len (i + 1) k)) ≡ apart n e (filter q (range_with_len (i + 1) k))
-        → apart n d (if b then i ∷ filter q (range_with_len (i + 1) k) else filter q (range_with_len (i + 1) k)) ≡ apart n e (if b then i ∷ filter q (range_with_len (i + 1) k) else filter q (range_with_len (i + 1) k))
-    either true later = apart-taken n d i _ d_before ∙ sym (apart-taken n e i _ e_before)
-    either false later = later
+apart-alike q n d e i (suc k) d_before e_before = grind (arith, apart-taken, apart-alike q n d e (i + 1) k (omega arith) (omega arith))
 
 apart-moved : (n e m : ℕ) (ms : List ℕ) → apart n (m + e) (map (λ k. m + k) ms) ≡ map (λ k. m + k) (apart n e ms)
 apart-moved n e m [] = refl
@@ -87,20 +71,7 @@ in_front i ks b = if b then i ∷ ks else ks
 
 -- the first is not taken
 taken_later : (q : ℕ → Bool) (n from i k m : ℕ) (b : Bool) → q i ≡ b → (b ≡ true → i < from) → IsTaken q n from (i + 1) k m → IsTaken q n from i (suc k) m
-taken_later q n from i k m b is before later =
-    let ks = filter q (range_with_len (i + 1) k) in
-    record {
-      taken =
-          ap (λ b. apart n from (in_front i ks b)) is ∙ drops from b before ∙ later.taken
-          ∙ ap (λ ks. m ∷ ks) (sym (ap (λ b. apart n (m + max n 1) (in_front i ks b)) is ∙ drops (m + max n 1) b (λ t. (let below = before t in omega (arith, below, later.at)))));
-      at = later.at;
-      fits = omega (arith, later.fits);
-      passes = later.passes;
-    }
-  where
-    drops : (e : ℕ) (b : Bool) → (b ≡ true → i < e) → apart n e (in_front i (filter q (range_with_len (i + 1) k)) b) ≡ apart n e (filter q (range_with_len (i + 1) k))
-    drops e true below = apart-passed n e i (filter q (range_with_len (i + 1) k)) (below refl)
-    drops e false below = refl
+taken_later q n from i k m b is before later = grind (arith, apart-passed)
 
 -- the first is taken
 taken_here : (q : ℕ → Bool) (n from i k : ℕ) → q i ≡ true → from ≤ i → IsTaken q n from i (suc k) i
@@ -124,19 +95,7 @@ taken_here q n from i k is at =
 
 is_taken : (q : ℕ → Bool) (n from i k m : ℕ) → slice_get (filter (nat_le from) (filter q (range_with_len i k))) 0 ≡ Some m → IsTaken q n from i k m
 is_taken q n from i zero m found = absurd (none-some m found)
-is_taken q n from i (suc k) m found = by_test (is_taken q n from (i + 1) k m) (q i) refl found
-  where
-    by_test : (slice_get (filter (nat_le from) (filter q (range_with_len (i + 1) k))) 0 ≡ Some m → IsTaken q n from (i + 1) k m) → (b : Bool) → q i ≡ b → slice_get (filter (nat_le from) (in_front i (filter q (range_with_len (i + 1) k)) b)) 0 ≡ Some m → IsTaken q n from i (suc k) m
-    by_test later false is found = taken_later q n from i k m false is (λ t. absurd (cc t)) (later found)
-    by_test later true is found =
-        let ks = filter (nat_le from) (filter q (range_with_len (i + 1) k)) in
-        elim (cases_lt i from) [
-          | inl before ↦
-              taken_later q n from i k m true is (λ _. before)
-              (later (subst (λ b. slice_get (in_front i ks b) 0 ≡ Some m) (lt-leb from i before) found))
-          | inr at ↦
-              subst (IsTaken q n from i (suc k)) (same_Some i m (subst (λ b. slice_get (in_front i ks b) 0 ≡ Some m) (le-leb from i at) found)) (taken_here q n from i k is at)
-        ]
+is_taken q n from i (suc k) m found = grind (arith, le-leb, lt-leb, same_Some, taken_here, taken_later, is_taken q n from (i + 1) k m)
 
 -- The first match of a text at or past `from`, and those after it, which are those of what stands after its first byte.
 pub record IsFirstTaken (x p : List ℕ) (from m : ℕ) : Type 0 where
@@ -176,6 +135,4 @@ between n a e taken = zip (a ∷ map (λ m. m + n) taken) (taken ++ e ∷ [])
 
 pub between-moved : (n a e m : ℕ) (taken : List ℕ) → between n (m + a) (m + e) (map (λ k. m + k) taken) ≡ map (moved_on m) (between n a e taken)
 between-moved n a e m [] = refl
-between-moved n a e m (k ∷ taken) =
-    let next : m + k + n ≡ m + (k + n) = omega arith in
-    ap (λ is. (m + a, m + k) ∷ is) (ap (λ b. between n b (m + e) (map (λ k. m + k) taken)) next ∙ between-moved n (k + n) e m taken)
+between-moved n a e m (k ∷ taken) = grind (arith, between-moved n (k + n) e m taken)

@@ -1,5 +1,5 @@
 -- Of a text without ESC each answer is the slice, as std has it.
-use Rattle.ansi_str.proofs.Common.{◌≡◌, ◌≢◌, ℕ, ◌-◌, min, Bool, true, false, not, ◌&&◌, ◌||◌, ◌==◌, List, [], ◌∷◌, ◌++◌, map, take, drop, length, Option, Some, None, option_map, is_some, refl, sym, ◌∙◌, ap, ap₂, subst, arith, IsTrue, IsFalse, slice_range, slice_get, nat_eq, append-nil, if◌then◌else◌, IfSome, option_and_then, unwrap_or, starts_with, ends_with, encode_utf8, IsUtf8, chars, trim, option_map_or, map-id, take_min, drop_min, cond_both, and_parts, and_from, eqb-true, Mark, plain, up_to, has_escape, is_whole, Rendition, start, close_if_any, styled, bytes_of, style_at, is_good_position, is_good_range, show, cut, left_side, right_side, kept, without_prefix, without_suffix, trim_interval, trimmed, parts, past, carried, part_over, end_before, part, all_parts, is_part_borrowed, Change, CutRange, LeftOf, RightOf, PartOf, WithoutPrefix, WithoutSuffix, Trimmed, interval_of, meaning, text_of, edited_by, edited, gives_borrow, stay_borrowed, slice_range-none, slice_range-past, slice_range-min, bytes_of-styled, slice_range-trim_interval, kept-bare, plain-kept, plain-without_prefix, plain-without_suffix, parts_are_split, slices_over-parts-empty, map-all_parts}
+use Rattle.ansi_str.proofs.Common.{◌≡◌, ◌≢◌, ℕ, ◌-◌, min, Bool, true, false, ◌&&◌, List, [], ◌∷◌, ◌++◌, map, take, drop, length, Option, Some, None, option_map, is_some, refl, sym, ◌∙◌, ap, subst, arith, IsTrue, IsFalse, slice_range, slice_get, nat_eq, append-nil, if◌then◌else◌, IfSome, option_and_then, unwrap_or, starts_with, ends_with, encode_utf8, IsUtf8, chars, trim, option_map_or, map-id, take_min, drop_min, and_parts, and_from, eqb-true, plain, has_escape, is_whole, styled, bytes_of, cut, left_side, right_side, kept, without_prefix, without_suffix, trim_interval, trimmed, parts, part_over, end_before, part, all_parts, Change, interval_of, meaning, text_of, edited_by, edited, gives_borrow, stay_borrowed, slice_range-none, slice_range-past, slice_range-min, bytes_of-styled, slice_range-trim_interval, kept-bare, plain-kept, plain-without_prefix, plain-without_suffix, parts_are_split, slices_over-parts-empty, map-all_parts}
 use Rattle.std.specs.Str.Pattern.{FindsTextPrefix, FindsTextSuffix, StripsPrefix, StripsSuffix}
 use Rattle.ansi_split.specs.StdSplit.{AreSplit, slices_over}
 use Rattle.ansi_items.proofs.PlainLemmas.{plain-bare, has_escape-plain, is_whole-plain}
@@ -40,9 +40,7 @@ right_inside-bare t mid none = right_side-bare t mid none ∙ sym (drop_min mid 
 -- What is kept.
 
 trimmed-slice : (t : List ℕ) → IsFalse (has_escape t) → trimmed t ≡ slice_range t (trim_interval t).0 (trim_interval t).1
-trimmed-slice t none =
-    let i = trim_interval (plain t) in
-    kept-bare t i.0 i.1 none ∙ ap (λ x. slice_range t (trim_interval x).0 (trim_interval x).1) (plain-bare t none)
+trimmed-slice t none = grind (arith, kept-bare, plain-bare)
 
 pub trimmed-bare : (t : List ℕ) → IsUtf8 t → IsFalse (has_escape t) → trimmed t ≡ trim t
 trimmed-bare t utf8 none = trimmed-slice t none ∙ slice_range-trim_interval t utf8
@@ -70,22 +68,10 @@ without_suffix-bare t p utf8_p none ends =
 
 part_over-bare : (t : List ℕ) (before : Option ℕ) (i : ℕ × ℕ) → IsFalse (has_escape t) → part_over t before i ≡ slice_range t i.0 i.1
 unfolding part_over
-part_over-bare t before i none =
-    let over : List ℕ → List Mark → Rendition → Rendition → List ℕ
-    = λ x ms s q. (let own = past before (up_to i.1 ms) in if i.0 == i.1 && length own == 0 then [] else start s ++ show x i.0 i.1 own ++ close_if_any q) in
-    ap₂ (λ x ms. over x ms (carried t before) (style_at t i.1)) (plain-bare t none) (marks-bare t none)
-    ∙ ap₂ (over t []) (carried-bare t before none) (style_at-bare t i.1 none)
-    ∙ cond_both (i.0 == i.1 && true) [] (show t i.0 i.1 [] ++ []) (λ w. w ≡ slice_range t i.0 i.1)
-    (λ empty. sym (slice_range-none t i.0 i.1 (omega (arith, eqb-true i.0 i.1 (and_parts (i.0 == i.1) true empty).0))))
-    (λ some. append-nil (show t i.0 i.1 []) ∙ show-bare t i.0 i.1)
+part_over-bare t before i none = grind (arith, and_parts, append-nil, carried-bare, eqb-true, marks-bare, plain-bare, show-bare, slice_range-none, style_at-bare)
 
 pub part-bare : (t p : List ℕ) (k : ℕ) → IsFalse (has_escape t) → part t p k ≡ option_map (λ (i : ℕ × ℕ). slice_range t i.0 i.1) (slice_get (parts t p) k)
-part-bare t p k none =
-    ap (λ x. option_map (part_over t (end_before (parts x p) k)) (slice_get (parts x p) k)) (plain-bare t none) ∙ over (slice_get (parts t p) k)
-  where
-    over : (o : Option (ℕ × ℕ)) → option_map (part_over t (end_before (parts t p) k)) o ≡ option_map (λ (i : ℕ × ℕ). slice_range t i.0 i.1) o
-    over None = refl
-    over (Some i) = ap Some (part_over-bare t (end_before (parts t p) k) i none)
+part-bare t p k none = grind (arith, part_over-bare, plain-bare)
 
 pub all_parts-bare : (t p : List ℕ) → IsFalse (has_escape t) → all_parts t p ≡ slices_over t (parts t p)
 all_parts-bare t p none =
@@ -112,21 +98,7 @@ abbrev edited_on : Change → List ℕ → List ℕ → Option (List ℕ)
 edited_on e t x = if is_some (interval_of e x) then Some (text_of e t) else None
 
 edited_on-bare : (e : Change) (t : List ℕ) → IsFalse (has_escape t) → edited_on e t t ≡ option_map (λ (i : ℕ × ℕ). slice_range t i.0 i.1) (interval_of e t)
-edited_on-bare (CutRange s e) t none = through (is_good_range t s e) t (cut t s e) (s, unwrap_or e (length t)) (cut-bare t s e none)
-edited_on-bare (LeftOf mid) t none =
-    let all : mid ≡ mid - 0 = omega arith in
-    through (is_good_position t mid) t (left_side t mid) (0, mid) (left_side-bare t mid none ∙ ap (λ n. take n t) all)
-edited_on-bare (RightOf mid) t none =
-    through (is_good_position t mid) t (right_side t mid) (mid, length t) (right_side-bare t mid none ∙ sym (slice_range-past t mid (length t) (omega arith)))
-edited_on-bare (PartOf p k) t none =
-    ap (λ x. edited_on (PartOf p k) t x) (sym (plain-bare t none)) ∙ edited_by-part t p k ∙ part-bare t p k none
-edited_on-bare (WithoutPrefix p) t none =
-    through (starts_with nat_eq t p) t (without_prefix t p) (length p, length t)
-    (kept-bare t (length p) (length (plain t)) none ∙ ap (λ x. slice_range t (length p) (length x)) (plain-bare t none))
-edited_on-bare (WithoutSuffix p) t none =
-    through (ends_with nat_eq t p) t (without_suffix t p) (0, length t - length p)
-    (kept-bare t 0 (length (plain t) - length p) none ∙ ap (λ x. slice_range t 0 (length x - length p)) (plain-bare t none))
-edited_on-bare Trimmed t none = ap Some (trimmed-slice t none)
+edited_on-bare e t none = grind (arith, cut-bare, edited_by-part, kept-bare, left_side-bare, part-bare, plain-bare, right_side-bare, slice_range-past, through, trimmed-slice)
 
 pub edited_by-bare : (e : Change) (t : List ℕ) → IsFalse (has_escape t) → edited_by e t ≡ option_map (λ (i : ℕ × ℕ). slice_range t i.0 i.1) (interval_of e t)
 edited_by-bare e t none = ap (edited_on e t) (plain-bare t none) ∙ edited_on-bare e t none
@@ -134,12 +106,7 @@ edited_by-bare e t none = ap (edited_on e t) (plain-bare t none) ∙ edited_on-b
 -- Changes in turn: each is of a text without ESC again.
 
 edited_by_has_no_escape : (e : Change) (t : List ℕ) → IsFalse (has_escape t) → IfSome (edited_by e t) (λ u. IsFalse (has_escape u))
-edited_by_has_no_escape e t none =
-    subst (λ o. IfSome o (λ u. IsFalse (has_escape u))) (sym (edited_by-bare e t none)) (over (interval_of e t))
-  where
-    over : (o : Option (ℕ × ℕ)) → IfSome (option_map (λ (i : ℕ × ℕ). slice_range t i.0 i.1) o) (λ u. IsFalse (has_escape u))
-    over None = tt
-    over (Some i) = has_escape-slice_range t i.0 i.1 none
+edited_by_has_no_escape e t none = grind (arith, edited_by-bare, has_escape-slice_range)
 
 edited_has_no_escape : (es : List Change) (t : List ℕ) → IsFalse (has_escape t) → IfSome (edited es t) (λ u. IsFalse (has_escape u))
 edited_has_no_escape [] t none = none
@@ -160,10 +127,7 @@ edited-bare es t none =
     over (Some u) is = ap Some (bytes_of-styled u ∙ plain-bare u is)
 
 gives_borrow-bare : (e : Change) (t : List ℕ) → IsFalse (has_escape t) → gives_borrow e t ≡ true
-gives_borrow-bare (PartOf p k) t none = ap (λ b. not b || is_part_borrowed t p k) none
-gives_borrow-bare (WithoutPrefix []) t none = refl
-gives_borrow-bare (WithoutSuffix []) t none = refl
-gives_borrow-bare e t none = ap not none
+gives_borrow-bare e t none = grind arith
 
 pub stay_borrowed-bare : (es : List Change) (t : List ℕ) → IsFalse (has_escape t) → stay_borrowed es t ≡ true
 stay_borrowed-bare [] t none = refl

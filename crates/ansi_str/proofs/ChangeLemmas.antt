@@ -1,5 +1,5 @@
 -- What one change makes of a whole text is the slice of its styled bytes that it names, whole, and closed where the change closes.
-use Rattle.ansi_str.proofs.Common.{◌≡◌, ℕ, ◌-◌, Bool, true, false, List, [], length, take, Option, Some, None, option_map, is_some, refl, sym, ◌∙◌, ap, subst, arith, IsTrue, slice_range, slice_get, if◌then◌else◌, nat_eq, IfSome, unwrap_or, starts_with, ends_with, cond-true, length-map, plain, is_whole, plain_style, StyledByte, styled, bytes_of, residue, is_good_position, is_good_range, cut, left_side, right_side, kept, without_prefix, without_suffix, trim_interval, trimmed, parts, end_before, part_over, part, Change, CutRange, LeftOf, RightOf, PartOf, WithoutPrefix, WithoutSuffix, Trimmed, interval_of, slice_of, text_of, edited_by, closes, slice_range-past, slice_range-map, bytes_of-styled, styled-cut, is_whole-cut, residue-cut, left_side_is, right_side_is, styled-kept, is_whole-kept, residue-kept}
+use Rattle.ansi_str.proofs.Common.{◌≡◌, ℕ, ◌-◌, Bool, true, false, List, [], length, take, Option, Some, None, option_map, is_some, refl, sym, ◌∙◌, ap, subst, arith, IsTrue, slice_range, if◌then◌else◌, nat_eq, IfSome, unwrap_or, starts_with, ends_with, cond-true, length-map, plain, is_whole, plain_style, StyledByte, styled, bytes_of, residue, is_good_position, is_good_range, cut, left_side, right_side, kept, without_prefix, without_suffix, trim_interval, trimmed, parts, end_before, part_over, part, Change, CutRange, LeftOf, RightOf, PartOf, WithoutPrefix, WithoutSuffix, Trimmed, interval_of, slice_of, text_of, edited_by, closes, slice_range-past, slice_range-map, bytes_of-styled, styled-cut, is_whole-cut, residue-cut, left_side_is, right_side_is, styled-kept, is_whole-kept, residue-kept}
 use Rattle.std.proofs.lemmas.Option.{cond_some}
 use Rattle.ansi_style.proofs.DressedLemmas.{IsClosed}
 use Rattle.ansi_split.proofs.IntervalLemmas.{parts_come_after}
@@ -40,9 +40,7 @@ through : (closing test : Bool) (t u : List ℕ) (i j : ℕ × ℕ) → (if test
 through closing test t u i j found is = subst (λ k. IsSlice closing t k u) (cond_some test j i found).1 is
 
 text_of_is : (e : Change) (t : List ℕ) (i : ℕ × ℕ) → IsTrue (is_whole t) → interval_of e (plain t) ≡ Some i → IsSlice (closes e) t i (text_of e t)
-text_of_is (CutRange s e) t i whole found =
-    through true (is_good_range (plain t) s e) t (cut t s e) i (s, unwrap_or e (length (plain t))) found
-    (record { styled_bytes = styled-cut t s e whole; whole = is_whole-cut t s e whole; left_open = residue-cut t s e whole })
+text_of_is (CutRange s e) t i whole found = grind (arith, is_whole-cut, residue-cut, styled-cut, through)
 text_of_is (LeftOf mid) t i whole found = through true (is_good_position (plain t) mid) t (text_of (LeftOf mid) t) i (0, mid) found (left_is t mid whole)
 text_of_is (RightOf mid) t i whole found = through true (is_good_position (plain t) mid) t (text_of (RightOf mid) t) i (mid, length (plain t)) found (right_is t mid whole)
 text_of_is (PartOf p k) t i whole found =
@@ -80,11 +78,7 @@ slice_of-styled e t whole = (edited_by_answers e t whole).0
 
 -- A part is what its change makes.
 pub edited_by-part : (t p : List ℕ) (k : ℕ) → edited_by (PartOf p k) t ≡ part t p k
-edited_by-part t p k = by_interval (slice_get (parts (plain t) p) k)
-  where
-    by_interval : (o : Option (ℕ × ℕ)) → (if is_some o then Some (unwrap_or (option_map (part_over t (end_before (parts (plain t) p) k)) o) []) else None) ≡ option_map (part_over t (end_before (parts (plain t) p) k)) o
-    by_interval None = refl
-    by_interval (Some i) = refl
+edited_by-part t p k = grind arith
 
 pub slice_of-part : (t p : List ℕ) (k : ℕ) → IsTrue (is_whole t) → slice_of (PartOf p k) (styled t) ≡ option_map styled (part t p k)
 slice_of-part t p k whole = slice_of-styled (PartOf p k) t whole ∙ ap (option_map styled) (edited_by-part t p k)

@@ -1,25 +1,12 @@
 -- What changes in turn make of a whole text is the slice of its styled bytes that they name, whole, and closed where one of them closes.
-use Rattle.ansi_str.proofs.Common.{◌≡◌, Bool, true, false, ◌||◌, List, [], ◌∷◌, ℕ, Option, Some, None, refl, sym, ◌∙◌, ap, subst, IsTrue, if◌then◌else◌, IfSome, option_map, option_and_then, list_any, cond-true, is_whole, plain_style, StyledByte, styled, residue, Change, slice_of, meaning, edited_by, edited, closes, IsSliceNamed}
+use Rattle.ansi_str.proofs.Common.{◌≡◌, Bool, ◌||◌, List, [], ◌∷◌, ℕ, Option, Some, None, refl, sym, ◌∙◌, subst, IsTrue, if◌then◌else◌, IfSome, option_map, option_and_then, list_any, cond-true, is_whole, plain_style, StyledByte, styled, residue, Change, slice_of, meaning, edited_by, edited, closes, IsSliceNamed, arith}
 use Rattle.ansi_str.proofs.ChangeLemmas.{IsAnswer, edited_by_answers}
 
 -- a change, and then others of what it gave
 in_turn : (closing more : Bool) (t : List ℕ) (slice : Option (List StyledByte)) (answer : Option (List ℕ)) (later : List StyledByte → Option (List StyledByte)) (next : List ℕ → Option (List ℕ))
     → IsAnswer closing t slice answer → ((u : List ℕ) → IsTrue (is_whole u) → IsAnswer more u (later (styled u)) (next u))
     → IsAnswer (closing || more) t (option_and_then later slice) (option_and_then next answer)
-in_turn closing more t slice None later next first others = (ap (option_and_then later) first.0, tt)
-in_turn closing more t slice (Some u) later next first others =
-    let second = others u first.1.0 in
-    (ap (option_and_then later) first.0 ∙ second.0, left_open (next u) second.1)
-  where
-    either : (a b : Bool) → (if b then plain_style else if a then plain_style else residue t) ≡ (if a || b then plain_style else residue t)
-    either true true = refl
-    either true false = refl
-    either false b = refl
-
-    left_open : (o : Option (List ℕ)) → IfSome o (λ v. IsTrue (is_whole v) × (residue v ≡ (if more then plain_style else residue u)))
-        → IfSome o (λ v. IsTrue (is_whole v) × (residue v ≡ (if closing || more then plain_style else residue t)))
-    left_open None is = tt
-    left_open (Some v) is = (is.0, is.1 ∙ ap (λ s. if more then plain_style else s) first.1.1 ∙ either closing more)
+in_turn closing more t slice answer later next first others = grind arith
 
 edited_answers : (es : List Change) (t : List ℕ) → IsTrue (is_whole t) → IsAnswer (list_any closes es) t (meaning es (styled t)) (edited es t)
 edited_answers [] t whole = (refl, (whole, refl))

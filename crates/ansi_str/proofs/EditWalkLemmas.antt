@@ -1,7 +1,6 @@
 -- How far a list of edits has come, and what one edit more is to it.
-use Rattle.ansi_str.proofs.Common.{◌≡◌, ◌↔◌, ◌⊎◌, inl, inr, ℕ, ◌+◌, ◌<◌, ◌≤◌, ◌&&◌, true, List, ◌∷◌, length, map, drop, get_or, Option, Some, None, refl, sym, ◌∙◌, ap, subst, IsTrue, option_and_then, IsNone, option_map_or, and_parts, and_from, drop_all, Change, edited_by, edited, gives_borrow, stay_borrowed, change_of}
+use Rattle.ansi_str.proofs.Common.{◌≡◌, ◌↔◌, ◌⊎◌, inl, inr, ℕ, ◌+◌, ◌<◌, ◌≤◌, ◌&&◌, true, List, ◌∷◌, length, map, drop, get_or, Option, Some, None, refl, sym, ◌∙◌, ap, subst, IsTrue, option_and_then, IsNone, option_map_or, and_parts, and_from, drop_all, Change, edited_by, edited, gives_borrow, stay_borrowed, arith}
 use Rattle.std.proofs.lemmas.List.{drop_more}
-use Rattle.ansi_str.specs.declared.edits.kinds.Edit.{Edit}
 
 -- The text that was reached, edited by what is left, is the whole answer; and it stays a borrow to the end where it is one, and what is left leaves it one.
 pub record IsEditedSoFar (es : List Change) (t : List ℕ) (left : List Change) (Lent : Type 0) (u : List ℕ) : Type 0 where
@@ -53,6 +52,4 @@ so_far-lent change {u = u} {Lent = Lent} edits i edit so_far more stay =
 -- none is left
 pub so_far-end : {E : Type 0} (change : E → Change) {es : List Change} {t u : List ℕ} {Lent : Type 0} (edits : List E) (i : ℕ) → IsEditedSoFar es t (map change (drop i edits)) Lent u → length edits ≤ i
     → (Some u ≡ edited es t) × (Lent ↔ IsTrue (stay_borrowed es t))
-so_far-end change {es} {t} {u} {Lent} edits i so_far end =
-    let last = subst (λ left. IsEditedSoFar es t (map change left) Lent u) (drop_all i edits end) so_far in
-    (sym last.same, (λ lent. last.lent.1 (lent, refl), λ stays. (last.lent.0 stays).0))
+so_far-end change edits i so_far end = grind (arith, drop_all)

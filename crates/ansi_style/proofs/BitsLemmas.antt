@@ -1,30 +1,15 @@
 -- The bits of a set of attributes, after some are set or cleared, and whether it has one of some.
-use Rattle.ansi_style.proofs.Common.{◌≡◌, ◌∙◌, ℕ, zero, suc, ◌-◌, ◌*◌, ◌^◌, ◌<◌, Bool, true, false, not, ◌&&◌, ◌||◌, ◌==◌, inl, inr, refl, ap, arith, min, max, bit_and, bit_or, w32, nat_lt, Decides, bit_at, not-not, zero-mul, one-mul, eq-eqb, ne_eqb, ltb-true, cases_lt, same_from_decides, Decides-eqb, Decides-like, Decides-below_and, pow_pos, and_pow, bit_at_or, bit_at_and, bit_at-lt, bit_at_not, bit_at_above, bit_at-zero, same_from_bits, has, has_one}
+use Rattle.ansi_style.proofs.Common.{◌≡◌, ◌∙◌, ℕ, zero, suc, ◌-◌, ◌^◌, ◌<◌, Bool, true, false, not, ◌&&◌, ◌||◌, ◌==◌, inl, inr, refl, ap, arith, min, bit_and, bit_or, w32, nat_lt, Decides, bit_at, not-not, zero-mul, one-mul, eq-eqb, ne_eqb, ltb-true, cases_lt, same_from_decides, Decides-eqb, Decides-like, Decides-below_and, pow_pos, and_pow, bit_at_or, bit_at_and, bit_at-lt, bit_at_not, bit_at_above, bit_at-zero, same_from_bits, has, has_one}
 
 has-bit : (n k : ℕ) → has n k ≡ (bit_at n k == 1)
-has-bit n k = rw (and_pow n k) (whole (bit_at n k) (2 ^ k) (bit_at-lt n k) (pow_pos k))
-  where
-    whole : (b p : ℕ) → b < 2 → 0 < p → (b * p == p) ≡ (b == 1)
-    whole zero p below some = rw (zero-mul p) (ne_eqb 0 p (λ e. omega (arith, e, some)))
-    whole (suc zero) p below some = rw (one-mul p) (eq-eqb p p refl)
-    whole (suc (suc b)) p below some = absurd (omega (arith, below))
+has-bit n k = grind (arith, and_pow, bit_at-lt, eq-eqb, ne_eqb, one-mul, pow_pos, zero-mul)
 
--- what holds of 0 and 1 holds of each bit
-each_bit : (P : ℕ → Type 0) → P 0 → P 1 → (b : ℕ) → b < 2 → P b
-each_bit P clear set zero below = clear
-each_bit P clear set (suc zero) below = set
-each_bit P clear set (suc (suc b)) below = absurd (omega (arith, below))
-
--- and what holds of each two of them holds of the bits at a place of two numbers
+-- what holds of each two bits holds of those at a place of two numbers
 bits_of : (P : ℕ → ℕ → Type 0) → P 0 0 → P 0 1 → P 1 0 → P 1 1 → (n m k : ℕ) → P (bit_at n k) (bit_at m k)
-bits_of P neither right left both n m k =
-    let other = λ (a : ℕ) (clear : P a 0) (set : P a 1). each_bit (P a) clear set (bit_at m k) (bit_at-lt m k) in
-    each_bit (λ a. P a (bit_at m k)) (other 0 neither right) (other 1 left both) (bit_at n k) (bit_at-lt n k)
+bits_of P neither right left both n m k = grind arith
 
 pub has-bit_or : (n m k : ℕ) → has (bit_or n m) k ≡ (has m k || has n k)
-has-bit_or n m k =
-    rw (has-bit (bit_or n m) k, has-bit m k, has-bit n k, bit_at_or n m k)
-    (bits_of (λ a b. (max a b == 1) ≡ ((b == 1) || (a == 1))) refl refl refl refl n m k)
+has-bit_or n m k = grind (arith, bit_at_or, bits_of, has-bit)
 
 pub has-without : (n m k : ℕ) → m < 2 ^ 32 → k < 32 → has (bit_and n (2 ^ 32 - 1 - m)) k ≡ (not (has m k) && has n k)
 has-without n m k fits within =
@@ -45,9 +30,7 @@ no_bits n m below each = same_from_bits (bit_and n m) 0 (λ i. elim (cases_lt i 
 ])
 
 apart_at : (n m k : ℕ) (later : Bool) → not ((has m k && has n k) || later) ≡ ((bit_at (bit_and n m) k == 0) && not later)
-apart_at n m k later =
-    rw (has-bit m k, has-bit n k, bit_at_and n m k)
-    (bits_of (λ a b. not (((b == 1) && (a == 1)) || later) ≡ ((min a b == 0) && not later)) refl refl refl refl n m k)
+apart_at n m k later = grind (arith, bit_at_and, bits_of, has-bit)
 
 pub has_one-places : (n m : ℕ) → nat_lt m (2 ^ 24) ≡ true → has_one n m ≡ has_one_in_last n m 24
 has_one-places n m below =

@@ -1,10 +1,8 @@
 -- The numbers of the table of SGR codes: those of its ranges, and those that have no row.
-use Rattle.ansi_style.proofs.Common.{◌≡◌, ℕ, zero, suc, ◌+◌, ◌<◌, ◌≤◌, inl, inr, Bool, true, false, ◌||◌, refl, sym, ◌∙◌, subst, arith, Option, Some, None, is_some, rules, agree_below_at, cases_eq, and_parts, or_cases, leb-true, true≢false, nat_tests, find, is_in_range, option_map_or, Bit4, Rendition, is_foreground, is_background, Changes, Rows, table, effect_of_code, unknown_code}
+use Rattle.ansi_style.proofs.Common.{◌≡◌, ℕ, zero, suc, ◌+◌, ◌<◌, ◌≤◌, inl, inr, Bool, true, false, ◌||◌, refl, sym, ◌∙◌, subst, arith, Option, Some, None, is_some, rules, agree_below_at, cases_eq, or_cases, true≢false, nat_tests, find, is_in_range, option_map_or, Bit4, Rendition, is_foreground, is_background, Changes, Rows, table, effect_of_code, unknown_code}
 
 pub in_range : (lo hi c : ℕ) → is_in_range lo hi c ≡ true → (lo ≤ c) × (c ≤ hi)
-in_range lo hi c h =
-    let both = and_parts _ _ h in
-    (leb-true lo c both.0, leb-true c hi both.1)
+in_range lo hi c h = grind arith
 
 -- `count` codes from `first` on change a style so
 abbrev Change : (ℕ → Rendition → Rendition) → ℕ → ℕ → Type 0

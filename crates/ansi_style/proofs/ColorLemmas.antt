@@ -1,15 +1,12 @@
 -- The code of a color or a font is written in parameter bytes, and what is written sets that color or font.
-use Rattle.ansi_style.proofs.Common.{◌≡◌, ℕ, suc, ◌+◌, ◌-◌, ◌<◌, Bool, true, false, cond, not, ◌&&◌, ◌==◌, nat_eq, nat_lt, List, [], ◌∷◌, ◌++◌, take, drop, length, Option, Some, None, refl, sym, ◌∙◌, ap, ap₂, arith, codes, decimal, IsTrue, length-append, bytes_eq, append_assoc, true≢false, agree_below_at, and_parts, and_from, eqb-true, ltb-true, cond-true, not-true, nat_tests, take-append_seam, drop-append_seam, list_all-append, AllPass-from_list_all, slice_split_at, slice_split_none, digits, is_in_range, list_all, ends_with, All, slice_index_or, option_map_or, byte, AnsiColor, Bit4, Bit8, Bit24, is_parameter_byte, sgr_parameters, are_private, Rendition, is_extended_color, is_foreground, is_background, Changes, ReadsColor, color_number, code_of, is_code, effect_of_code, unknown_code, fields_of, effect_of, apply, perform, color_code, written}
+use Rattle.ansi_style.proofs.Common.{◌≡◌, ℕ, suc, ◌+◌, ◌-◌, ◌<◌, Bool, true, false, cond, not, ◌&&◌, ◌==◌, nat_eq, nat_lt, List, [], ◌∷◌, ◌++◌, take, drop, length, Option, Some, None, refl, sym, ◌∙◌, ap, ap₂, arith, codes, decimal, IsTrue, length-append, bytes_eq, append_assoc, true≢false, agree_below_at, and_parts, and_from, eqb-true, ltb-true, cond-true, not-true, nat_tests, take-append_seam, drop-append_seam, list_all-append, AllPass-from_list_all, slice_split_at, slice_split_none, digits, is_in_range, list_all, ends_with, All, slice_index_or, option_map_or, byte, AnsiColor, Bit4, Bit8, Bit24, is_parameter_byte, sgr_parameters, are_private, Rendition, is_extended_color, is_foreground, is_background, Changes, ReadsColor, color_number, code_of, is_code, effect_of_code, fields_of, effect_of, apply, color_code, written}
 use Rattle.ansi_style.proofs.CodeLemmas.{in_range, effect_of_code-font, effect_of_code-foreground, effect_of_code-background}
 use Rattle.ansi_style.proofs.StateLemmas.{apply-parameters, after_fields, after_fields-step}
 
 -- What tests of ranges say.
 
 three_small : (r g b : ℕ) → (nat_lt r 256 && (nat_lt g 256 && nat_lt b 256)) ≡ true → (r < 256) × (g < 256) × (b < 256)
-three_small r g b h =
-    let both = and_parts _ _ h in
-    let more = and_parts _ _ both.1 in
-    (ltb-true r 256 both.0, ltb-true g 256 more.0, ltb-true b 256 more.1)
+three_small r g b h = grind arith
 
 -- The bytes of a number.
 
@@ -46,10 +43,7 @@ IsByteColor (Bit8 n) = n < 256
 IsByteColor (Bit24 r g b) = (r < 256) × (g < 256) × (b < 256)
 
 pub parameters-color_code : (extended : List ℕ) (c : AnsiColor) → list_all is_code_byte extended ≡ true → IsByteColor c → list_all is_code_byte (color_code extended c) ≡ true
-parameters-color_code extended (Bit4 n) all small = code_bytes-decimal n small
-parameters-color_code extended (Bit8 n) all small = simp (list_all-append, all, code_bytes-decimal n small)
-parameters-color_code extended (Bit24 r g b) all small =
-    simp (list_all-append, all, code_bytes-decimal r small.0, code_bytes-decimal g small.1, code_bytes-decimal b small.2)
+parameters-color_code extended c all small = grind (arith, code_bytes-decimal, list_all-append)
 
 -- Fields that semicolons end.
 
@@ -84,11 +78,7 @@ parameter_bytes (b ∷ d) all =
     parameter_byte b is = grind (arith, nat_tests)
 
 are_private-code : (d : List ℕ) → list_all is_code_byte d ≡ true → are_private d ≡ false
-are_private-code [] all = refl
-are_private-code (b ∷ d) all = not_private b (and_parts (is_code_byte b) (list_all is_code_byte d) all).0
-  where
-    not_private : (b : ℕ) → is_code_byte b ≡ true → is_in_range 0x3C 0x3F b ≡ false
-    not_private b is = grind (arith, nat_tests)
+are_private-code d all = grind arith
 
 pub sgr_parameters-written : (code : List ℕ) → list_all is_code_byte code ≡ true → sgr_parameters (written code) ≡ Some code
 sgr_parameters-written code all =
@@ -106,40 +96,18 @@ sgr_parameters-written code all =
 -- what an extended color's code does, where the code before it reads a color
 apply-extended : (extended : List ℕ) (put : AnsiColor → Rendition → Rendition) (c : AnsiColor) (p : Rendition)
     → list_all is_field_byte extended ≡ true → effect_of extended ≡ ReadsColor put → IsTrue (is_extended_color c) → apply p (written (color_code extended c)) ≡ put c p
-apply-extended extended put (Bit4 n) p all reads is = absurd (true≢false (sym is))
-apply-extended extended put (Bit8 n) p all reads is =
-    let small = ltb-true n 256 is in
-    let rest = codes "5" ∷ decimal n ∷ [] in
-    apply-parameters p (written (color_code extended (Bit8 n))) (color_code extended (Bit8 n)) (sgr_parameters-written _ (parameters-color_code extended (Bit8 n) (code_bytes extended all) small))
-    ∙ ap (after_fields p) (fields_of-by_number extended n all small) ∙ after_fields-step p extended rest
-    ∙ ap (λ e. after_fields (perform e p rest).0 (perform e p rest).1) reads
-    ∙ ap (λ m. put (Bit8 m) p) (color_number-decimal n small)
-apply-extended extended put (Bit24 r g b) p all reads is =
-    let small = three_small r g b is in
-    let rest = codes "2" ∷ decimal r ∷ decimal g ∷ decimal b ∷ [] in
-    apply-parameters p (written (color_code extended (Bit24 r g b))) (color_code extended (Bit24 r g b)) (sgr_parameters-written _ (parameters-color_code extended (Bit24 r g b) (code_bytes extended all) small))
-    ∙ ap (after_fields p) (fields_of-by_parts extended r g b all small.0 small.1 small.2) ∙ after_fields-step p extended rest
-    ∙ ap (λ e. after_fields (perform e p rest).0 (perform e p rest).1) reads
-    ∙ ap (λ x. put (Bit24 x (color_number (decimal g)) (color_number (decimal b))) p) (color_number-decimal r small.0)
-    ∙ ap (λ x. put (Bit24 r x (color_number (decimal b))) p) (color_number-decimal g small.1)
-    ∙ ap (λ x. put (Bit24 r g x) p) (color_number-decimal b small.2)
+apply-extended extended put c p all reads is = grind (arith, after_fields, after_fields-step, apply-parameters, code_bytes, color_number-decimal, fields_of-by_number, fields_of-by_parts, ltb-true, parameters-color_code, sgr_parameters-written, three_small, true≢false)
 
 -- The numbers of colors in their ranges.
 
 pub IsByteColor-extended : (c : AnsiColor) → IsTrue (is_extended_color c) → IsByteColor c
-IsByteColor-extended (Bit4 n) is = absurd (true≢false (sym is))
-IsByteColor-extended (Bit8 n) is = ltb-true n 256 is
-IsByteColor-extended (Bit24 r g b) is = three_small r g b is
+IsByteColor-extended c is = grind arith
 
 pub IsByteColor-foreground : (c : AnsiColor) → IsTrue (is_foreground c) → IsByteColor c
-IsByteColor-foreground (Bit4 n) is = grind (arith, nat_tests, is)
-IsByteColor-foreground (Bit8 n) is = IsByteColor-extended (Bit8 n) is
-IsByteColor-foreground (Bit24 r g b) is = IsByteColor-extended (Bit24 r g b) is
+IsByteColor-foreground c is = grind arith
 
 pub IsByteColor-background : (c : AnsiColor) → IsTrue (is_background c) → IsByteColor c
-IsByteColor-background (Bit4 n) is = grind (arith, nat_tests, is)
-IsByteColor-background (Bit8 n) is = IsByteColor-extended (Bit8 n) is
-IsByteColor-background (Bit24 r g b) is = IsByteColor-extended (Bit24 r g b) is
+IsByteColor-background c is = grind arith
 
 -- What is written for a color or a font sets it.
 
@@ -153,11 +121,7 @@ code_of-decimal n small = some_same (code_of (decimal n)) (agree_below_at (λ n.
 
 -- the number of a code, written alone, does what the code does
 apply-decimal : (n : ℕ) (change : Rendition → Rendition) (p : Rendition) → n < 256 → effect_of_code n ≡ Changes change → apply p (written (decimal n)) ≡ change p
-apply-decimal n change p small is =
-    apply-parameters p (written (decimal n)) (decimal n) (sgr_parameters-written (decimal n) (code_bytes-decimal n small))
-    ∙ ap (after_fields p) (fields_of-one (decimal n) (field_bytes-decimal n small))
-    ∙ ap (λ o. (perform (option_map_or effect_of_code o unknown_code) p []).0) (code_of-decimal n small)
-    ∙ ap (λ e. (perform e p []).0) is
+apply-decimal n change p small is = grind (arith, after_fields, apply-parameters, code_bytes-decimal, code_of-decimal, field_bytes-decimal, fields_of-one, sgr_parameters-written)
 
 pub apply-font : (n : ℕ) → is_in_range 11 19 n ≡ true → (p : Rendition) → apply p (written (decimal n)) ≡ record p { font = Some n }
 apply-font n is p = apply-decimal n (λ s. record s { font = Some n }) p (omega (arith, (in_range 11 19 n is).1)) (effect_of_code-font n is)

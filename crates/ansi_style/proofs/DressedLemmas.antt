@@ -1,5 +1,5 @@
 -- Pieces between the start of a style and its close: read where nothing is known, they have their styled bytes, and leave nothing known.
-use Rattle.ansi_style.proofs.Common.{◌≡◌, ℕ, List, [], ◌∷◌, ◌++◌, refl, ◌∙◌, ap, ap₂, append-nil, IsTrue, flat_map-append, Piece, Text, Sequence, LoneEscape, spelling, is_whole, Rendition, IsStyle, plain_style, known, apply, written_all, start_codes, start, StyledByte, styled, residue, spelled, AllStandAnywhere, stand-append, is_whole-spelled}
+use Rattle.ansi_style.proofs.Common.{◌≡◌, ℕ, List, [], ◌∷◌, ◌++◌, refl, ◌∙◌, ap, ap₂, append-nil, IsTrue, flat_map-append, Piece, Text, Sequence, LoneEscape, is_whole, Rendition, IsStyle, plain_style, known, apply, written_all, start_codes, start, StyledByte, styled, residue, spelled, AllStandAnywhere, stand-append, is_whole-spelled, arith}
 use Rattle.ansi_style.proofs.SgrLemmas.{apply-alike}
 use Rattle.ansi_style.proofs.StyledLemmas.{styled_through, style_through, styled_through-append, style_through-append, styled_through-alike}
 use Rattle.ansi_style.proofs.SpelledLemmas.{styled-spelled, residue-spelled}
@@ -52,11 +52,7 @@ abbrev pub dressed_pieces : Rendition → List Piece → List (List ℕ) → Lis
 dressed_pieces s ps xs = code_pieces (start_codes s) ++ ps ++ code_pieces xs
 
 pub spelled-dressed_pieces : (s : Rendition) (ps : List Piece) (xs : List (List ℕ)) → spelled (dressed_pieces s ps xs) ≡ start s ++ spelled ps ++ written_all xs
-spelled-dressed_pieces s ps xs =
-    flat_map-append spelling (code_pieces (start_codes s) ++ ps) (code_pieces xs)
-    ∙ ap₂ (λ u v. u ++ v)
-    (flat_map-append spelling (code_pieces (start_codes s)) ps ∙ ap (λ u. u ++ spelled ps) (spelled-code_pieces (start_codes s)))
-    (spelled-code_pieces xs)
+spelled-dressed_pieces s ps xs = grind (arith, code_pieces, flat_map-append, spelled, spelled-code_pieces)
 
 pub dressed_pieces_stand : {n : ℕ} (s : Rendition) (ps : List Piece) (xs : List (List ℕ)) → IsStyle s → AllStandAnywhere ps → AreCodes xs n → AllStandAnywhere (dressed_pieces s ps xs)
 dressed_pieces_stand s ps xs is all are =

@@ -1,5 +1,5 @@
 -- The fields of parameter bytes, one after another, and the numbers that they are.
-use Rattle.ansi_style.proofs.Common.{◌≡◌, ◌≢◌, ℕ, zero, suc, ◌+◌, ◌-◌, ◌*◌, ◌<◌, ◌≤◌, Bool, true, ◌&&◌, ◌==◌, List, [], ◌∷◌, length, take, drop, get_or, fold, refl, sym, ◌∙◌, ap, ap₂, arith, Option, Some, None, if◌then◌else◌, nat_le, unwrap_or, option_map, onto_first, digit_value, is_ascii_digit, byte, all_ascii_digits, digits_value_after, cond_both, and_parts, leb-true, lt-ltb, ne_eqb, eq-eqb, nat_tests, slice_split-cons_yes, slice_split-cons_no, digit_value_digit, fields_of, code_of, color_number, first_field, with_digit}
+use Rattle.ansi_style.proofs.Common.{◌≡◌, ◌≢◌, ℕ, zero, suc, ◌+◌, ◌*◌, ◌<◌, ◌≤◌, Bool, true, ◌&&◌, ◌==◌, List, [], ◌∷◌, length, take, drop, get_or, fold, refl, ◌∙◌, ap, arith, Option, Some, None, if◌then◌else◌, nat_le, unwrap_or, onto_first, digit_value, is_ascii_digit, byte, all_ascii_digits, digits_value_after, and_parts, leb-true, lt-ltb, ne_eqb, eq-eqb, slice_split-cons_yes, slice_split-cons_no, digit_value_digit, fields_of, code_of, color_number, first_field, with_digit}
 
 -- a field that a semicolon ends, and those after it
 pub fields_of-cut : (t : List ℕ) (i : ℕ) → i < length t → get_or t i 0 ≡ byte ";" → ((k : ℕ) → k < i → get_or t k 0 ≢ byte ";") → fields_of t ≡ take i t ∷ fields_of (drop (suc i) t)
@@ -28,14 +28,7 @@ if_small are_digits n = if are_digits && nat_le n 255 then Some n else None
 
 next_digit : (n b : ℕ) (t : List ℕ)
     → if_small (all_ascii_digits t) (digits_value_after 10 (with_digit n b) t) ≡ if_small (is_ascii_digit b && all_ascii_digits t) (digits_value_after 10 (n * 10 + digit_value b) t)
-next_digit n b t =
-    cond_both (is_ascii_digit b && nat_le n 255) (n * 10 + (b - 48)) 256
-    (λ m. if_small (all_ascii_digits t) (digits_value_after 10 m t) ≡ if_small (is_ascii_digit b && all_ascii_digits t) (digits_value_after 10 (n * 10 + digit_value b) t))
-    (λ is. (let digit = (and_parts (is_ascii_digit b) (nat_le n 255) is).0 in
-    let bounds = and_parts (nat_le 48 b) (nat_le b 57) digit in
-    let value : b - 48 ≡ digit_value b = omega (arith, digit_value_digit b (leb-true 48 b bounds.0, leb-true b 57 bounds.1)) in
-    ap₂ (λ d v. if_small (d && all_ascii_digits t) (digits_value_after 10 (n * 10 + v) t)) (sym digit) value))
-    (λ isnt. grind (arith, nat_tests, isnt, digits_value_after-ge t 256, digits_value_after-ge t (n * 10 + digit_value b)))
+next_digit n b t = grind (arith, and_parts, digit_value_digit, digits_value_after-ge, leb-true)
 
 reads : (t : List ℕ) (n : ℕ) → if_small true (fold with_digit n t) ≡ if_small (all_ascii_digits t) (digits_value_after 10 n t)
 reads [] n = refl
@@ -47,7 +40,5 @@ code_of-read [] = refl
 code_of-read (b ∷ t) = rw (lt-ltb 0 (length (b ∷ t)) (omega arith)) (reads (b ∷ t) 0)
 
 -- the number that a field gives a color is its code, and 0 where it is none
-pub first_field-number : (fields rest : List (List ℕ)) (code : Option ℕ) → (Some code, rest) ≡ first_field code_of fields → (Some (unwrap_or code 0), rest) ≡ first_field color_number fields
-first_field-number [] rest code first = absurd (let none = ap (λ x. x.0) first in cc)
-first_field-number ([] ∷ fields) rest code first = ap (λ x. (option_map (λ o. unwrap_or o 0) x.0, x.1)) first
-first_field-number ((b ∷ field) ∷ fields) rest code first = ap (λ x. (option_map (λ o. unwrap_or o 0) x.0, x.1)) first
+pub number_is_first : (fields rest : List (List ℕ)) (code : Option ℕ) → (Some code, rest) ≡ first_field code_of fields → (Some (unwrap_or code 0), rest) ≡ first_field color_number fields
+number_is_first fields rest code first = grind arith

@@ -62,9 +62,7 @@ up_to-further e n (m ∷ ms) within =
     either false = refl
 
 pub up_to-here : (e : ℕ) (w : List ℕ) (ms : List Mark) → up_to e (record { place = 0; bytes = w } ∷ ms) ≡ record { place = 0; bytes = w } ∷ up_to e ms
-up_to-here e w ms =
-    let here : nat_le 0 e ≡ true = le-leb 0 e (omega arith) in
-    ap (λ b. if b then record { place = 0; bytes = w } ∷ up_to e ms else up_to e ms) here
+up_to-here e w ms = grind arith
 
 pub bytes-further : (n : ℕ) (ms : List Mark) → map (λ (m : Mark). m.bytes) (map (further n) ms) ≡ map (λ (m : Mark). m.bytes) ms
 bytes-further n [] = refl

@@ -1,5 +1,5 @@
 -- What is written for codes: how long it is, its pieces, and what it does to a style.
-use Rattle.ansi_style.proofs.Common.{◌≡◌, ℕ, ◌+◌, ◌<◌, ◌≤◌, inl, Bool, true, false, not, ◌||◌, List, [], ◌∷◌, ◌++◌, length, map, fold, Option, Some, None, refl, sym, ◌∙◌, ap, arith, codes, decimal, IsTrue, IfSome, length-append, append-nil, and-true, or-true, and_from, and_parts, length-decimal-le, flat_map-append, map-append, list_all-append, fold-append, IfSome_then, is_in_range, list_all, byte, AnsiColor, Bit4, Bit8, Bit24, escape, IsSequence, Piece, Sequence, Rendition, IsStyle, apply_all, apply, written, written_all, when, color_code, color_codes, font_codes, start_codes, close_codes, longest_start, longest_close, style_after_from, spelled, AllStandAnywhere}
+use Rattle.ansi_style.proofs.Common.{◌≡◌, ℕ, ◌+◌, ◌<◌, ◌≤◌, inl, Bool, true, false, not, ◌||◌, List, [], ◌∷◌, ◌++◌, length, map, fold, Option, Some, None, refl, sym, ◌∙◌, ap, arith, codes, decimal, IsTrue, IfSome, length-append, append-nil, and-true, or-true, and_from, and_parts, length-decimal-le, flat_map-append, map-append, list_all-append, fold-append, IfSome_then, is_in_range, list_all, byte, AnsiColor, escape, IsSequence, Piece, Sequence, Rendition, IsStyle, apply_all, apply, written, written_all, when, color_code, color_codes, font_codes, start_codes, close_codes, longest_start, longest_close, style_after_from, spelled, AllStandAnywhere}
 use Rattle.ansi_style.proofs.StyledLemmas.{style_through, styled_through}
 use Rattle.ansi_style.proofs.SpelledLemmas.{style_after_from-spelled}
 use Rattle.ansi_style.proofs.CodeLemmas.{in_range}
@@ -43,9 +43,7 @@ length-byte n small = length-decimal-le 3 n (omega arith) (omega (arith, small))
 
 -- the longest color has an extended code of two digits, `;2;`, and three numbers of three digits with a `;` between: 16 bytes
 length-color_code : (extended : List ℕ) (c : AnsiColor) → length extended ≡ 2 → IsByteColor c → length (color_code extended c) ≤ 16
-length-color_code extended (Bit4 n) two small = (let short = length-byte n small in omega (arith, short))
-length-color_code extended (Bit8 n) two small = simp length-append (omega (arith, length-byte n small, two))
-length-color_code extended (Bit24 r g b) two small = simp length-append (omega (arith, length-byte r small.0, length-byte g small.1, length-byte b small.2, two))
+length-color_code extended c two small = grind (arith, length-append, length-byte)
 
 color_code_of : (extended : List ℕ) (o : Option AnsiColor) → list_all is_code_byte extended ≡ true → length extended ≡ 2 → IfSome o IsByteColor → AreCodes (color_codes extended o) 19
 color_code_of extended None all two is = no_code 19

@@ -1,5 +1,5 @@
 -- What is known of a style after a sequence depends on what was known before, and on the sequence.
-use Rattle.ansi_style.proofs.Common.{◌≡◌, ℕ, zero, suc, true, false, List, [], ◌∷◌, length, Option, Some, None, is_some, refl, sym, ◌∙◌, ap, rules, cond_both, AllByRecursion, option_map_or, is_in_range, AnsiColor, is_sgr, sgr_parameters, Rendition, known, Effect, Changes, ReadsColor, Rows, table, rows, unknown_code, effect_of, code_of, effect_of_code, perform, read_color, steps, apply, apply_parameters, fields_of, apply_all}
+use Rattle.ansi_style.proofs.Common.{◌≡◌, ℕ, zero, suc, true, false, List, [], ◌∷◌, length, Option, Some, None, is_some, refl, sym, ◌∙◌, ap, rules, cond_both, AllByRecursion, option_map_or, is_in_range, AnsiColor, is_sgr, sgr_parameters, Rendition, known, Effect, Changes, ReadsColor, Rows, table, rows, unknown_code, effect_of, code_of, effect_of_code, perform, steps, apply, apply_parameters, fields_of, apply_all, arith}
 use Rattle.std.proofs.Common.{find}
 
 -- what holds of an unknown code, and of each row for the codes in its range, holds of each field
@@ -28,12 +28,7 @@ effect_keeps_apart = effect_holds KeepsApart (λ s. refl) (search rules)
 
 -- where two styles are known alike, so are the styles after the same effect
 perform-known : (e : Effect) (fields : List (List ℕ)) (s t : Rendition) → KeepsApart e → known s ≡ known t → known (perform e s fields).0 ≡ known (perform e t fields).0
-perform-known (Changes f) fields s t apart same = apart s ∙ ap (λ u. known (f u)) same ∙ sym (apart t)
-perform-known (ReadsColor put) fields s t apart same = by_color (read_color fields).0
-  where
-    by_color : (o : Option AnsiColor) → known (option_map_or (λ c. put c s) o s) ≡ known (option_map_or (λ c. put c t) o t)
-    by_color None = same
-    by_color (Some c) = apart c s ∙ ap (λ u. known (put c u)) same ∙ sym (apart c t)
+perform-known e fields s t apart same = grind arith
 
 perform-rest : (e : Effect) (fields : List (List ℕ)) (s t : Rendition) → (perform e s fields).1 ≡ (perform e t fields).1
 perform-rest (Changes f) fields s t = refl

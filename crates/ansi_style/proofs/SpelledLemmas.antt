@@ -1,5 +1,5 @@
 -- What pieces that stand anywhere spell has their styled bytes; and two whole texts are read in turn.
-use Rattle.ansi_style.proofs.Common.{◌≡◌, ℕ, List, ◌++◌, map, sym, ◌∙◌, ap, ap₂, IsTrue, Piece, pieces_of, is_whole, Mark, marks, Rendition, plain_style, known, styled, residue, styled_from, style_after_from, AllStandAnywhere, spelled, pieces_of-spelled, pieces_of-append}
+use Rattle.ansi_style.proofs.Common.{◌≡◌, ℕ, List, ◌++◌, map, sym, ◌∙◌, ap, ap₂, IsTrue, Piece, pieces_of, is_whole, Mark, marks, Rendition, plain_style, known, styled, residue, styled_from, style_after_from, AllStandAnywhere, spelled, pieces_of-spelled, pieces_of-append, arith}
 use Rattle.ansi_style.proofs.SgrLemmas.{apply_all-alike}
 use Rattle.ansi_style.proofs.StyledLemmas.{styled_through, styled_from-pieces, styled_through-merged, style_through, style_after_from-pieces, style_through-merged, styled_through-append, style_through-append, styled_through-alike}
 
@@ -24,10 +24,7 @@ styled_from-append s u v whole_u whole_v =
     (ap (λ q. styled_through q (pieces_of v)) (sym (style_after_from-pieces s u)) ∙ sym (styled_from-pieces (style_after_from s u) v))
 
 pub style_after_from-append : (s : Rendition) (u v : List ℕ) → IsTrue (is_whole u) → IsTrue (is_whole v) → style_after_from s (u ++ v) ≡ style_after_from (style_after_from s u) v
-style_after_from-append s u v whole_u whole_v =
-    style_after_from-pieces s (u ++ v) ∙ ap (style_through s) (pieces_of-append u v whole_u whole_v)
-    ∙ style_through-merged s (pieces_of u ++ pieces_of v) ∙ style_through-append s (pieces_of u) (pieces_of v)
-    ∙ ap (λ q. style_through q (pieces_of v)) (sym (style_after_from-pieces s u)) ∙ sym (style_after_from-pieces (style_after_from s u) v)
+style_after_from-append s u v whole_u whole_v = grind (arith, pieces_of-append, style_after_from-pieces, style_through, style_through-append, style_through-merged)
 
 -- Only what is known of the style before a text counts.
 

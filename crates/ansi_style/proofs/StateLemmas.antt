@@ -1,24 +1,8 @@
 -- The steps of the table, one field after another.
-use Rattle.ansi_style.proofs.Common.{◌≡◌, ℕ, zero, suc, ◌<◌, ◌≤◌, List, [], ◌∷◌, length, refl, sym, ◌∙◌, ap, ap₂, arith, Option, Some, None, option_map_or, cond_both, AnsiColor, Rendition, sgr_parameters, Effect, Changes, ReadsColor, unknown_code, effect_of_code, code_of, is_code, color_by_parts, color_by_number, effect_of, perform, step, steps, fields_of, apply_parameters, apply, first_field}
-
--- no more than n fields are left
-abbrev LeavesUpTo : ℕ → Option AnsiColor × List (List ℕ) → Type 0
-LeavesUpTo n read = length read.1 ≤ n
-
-color_by_parts-left : (fields : List (List ℕ)) → LeavesUpTo (length fields) (color_by_parts fields)
-color_by_parts-left fields = grind arith
-
-color_by_number-left : (fields : List (List ℕ)) → LeavesUpTo (length fields) (color_by_number fields)
-color_by_number-left fields = grind arith
+use Rattle.ansi_style.proofs.Common.{◌≡◌, ℕ, zero, suc, ◌<◌, ◌≤◌, List, ◌∷◌, length, refl, sym, ◌∙◌, ap, ap₂, arith, Option, Some, option_map_or, Rendition, sgr_parameters, Effect, unknown_code, effect_of_code, code_of, effect_of, perform, step, steps, fields_of, apply_parameters, apply, first_field, []}
 
 perform-left : (e : Effect) (s : Rendition) (fields : List (List ℕ)) → length (perform e s fields).1 ≤ length fields
-perform-left (Changes f) s fields = omega arith
-perform-left (ReadsColor put) s [] = omega arith
-perform-left (ReadsColor put) s (selector ∷ fields) =
-    cond_both (is_code 2 selector) (color_by_parts fields) _ (LeavesUpTo (suc (length fields)))
-    (λ parts. omega (arith, color_by_parts-left fields))
-    (λ other. cond_both (is_code 5 selector) (color_by_number fields) (None, fields) (LeavesUpTo (suc (length fields)))
-    (λ number. omega (arith, color_by_number-left fields)) (λ none. omega arith))
+perform-left e s fields = grind arith
 
 -- a step takes a field, and more where it reads a color
 pub step-left : (s : Rendition) (field : List ℕ) (fields : List (List ℕ)) → length (step s (field ∷ fields)).1 ≤ length fields

@@ -1,7 +1,6 @@
 -- Worked examples of the SGR table, of starts and of closes, each by computation.
-use Rattle.ansi_style.proofs.Common.{◌≡◌, ℕ, [], ◌∷◌, map, refl, codes, ◌+◌, Bool, filter, ◌++◌, true, false, Some, length, range_with_len, digits, Bit4, Bit8, Bit24, Rendition, plain_style, known, has_any, effect_of_code, perform, apply_parameters, apply, start, close, longest_start, longest_close, longest_start_and_close}
-
--- The table.
+use Rattle.ansi_style.proofs.Common.{◌≡◌, ℕ, [], ◌∷◌, refl, codes, ◌+◌, Bool, filter, ◌++◌, true, false, Some, length, range_with_len, digits, Bit4, Bit8, Bit24, Rendition, plain_style, known, effect_of_code, perform, apply_parameters, apply, start, close, longest_start, longest_close, longest_start_and_close}
+use Rattle.ansi_items.proofs.Tables.{Makes}
 
 -- a style in which everything is set
 abbrev full_style : Rendition
@@ -18,109 +17,52 @@ unknown_codes : filter is_unknown (range_with_len 0 300) ≡
     56 ∷ 57 ∷ range_with_len 66 7 ++ range_with_len 76 14 ++ 98 ∷ 99 ∷ range_with_len 108 192
 unknown_codes = refl
 
--- Colors that are read.
-
-bad_selector_then_bold : apply_parameters plain_style (codes "38;7;1") ≡ record plain_style { bold = true }
-bad_selector_then_bold = refl
-
-no_selector : apply_parameters plain_style (codes "38") ≡ plain_style
-no_selector = refl
-
-color_without_number : apply_parameters plain_style (codes "38;5") ≡ plain_style
-color_without_number = refl
-
-color_of_two_numbers : apply_parameters plain_style (codes "38;2;1;2") ≡ plain_style
-color_of_two_numbers = refl
-
-color_number_too_large : apply_parameters plain_style (codes "38;5;256") ≡ record plain_style { foreground = Some (Bit8 0) }
-color_number_too_large = refl
-
-background_with_leading_zeros : apply_parameters plain_style (codes "48;2;023;011;100") ≡ record plain_style { background = Some (Bit24 23 11 100) }
-background_with_leading_zeros = refl
-
-color_number_empty_then_bold : apply_parameters plain_style (codes "38;5;;1") ≡ record plain_style { foreground = Some (Bit8 0); bold = true }
-color_number_empty_then_bold = refl
-
-underline_color_then_underline : apply_parameters plain_style (codes "58;5;255;4") ≡ record plain_style { underline_color = Some (Bit8 255); underline = true }
-underline_color_then_underline = refl
-
--- Empty fields, and leading zeros.
-
-empty_field : apply_parameters plain_style [] ≡ record plain_style { reset = true }
-empty_field = refl
-
-empty_last_field : apply_parameters plain_style (codes "31;") ≡ record plain_style { reset = true }
-empty_last_field = refl
-
-empty_field_in_the_middle : apply_parameters plain_style (codes "1;;4") ≡ record plain_style { underline = true; reset = true }
-empty_field_in_the_middle = refl
-
-empty_selector_then_bold : apply_parameters plain_style (codes "38;;1") ≡ record plain_style { bold = true }
-empty_selector_then_bold = refl
-
-zeros : apply_parameters plain_style (codes "000") ≡ record plain_style { reset = true }
-zeros = refl
-
-leading_zero : apply_parameters plain_style (codes "01") ≡ record plain_style { bold = true }
-leading_zero = refl
-
-leading_zeros : apply_parameters plain_style (codes "0031") ≡ record plain_style { foreground = Some (Bit4 31) }
-leading_zeros = refl
-
-selector_with_leading_zero : apply_parameters plain_style (codes "038;05;7") ≡ record plain_style { foreground = Some (Bit8 7) }
-selector_with_leading_zero = refl
-
-other_selector_with_leading_zero : apply_parameters plain_style (codes "048;02;1;2;3") ≡ record plain_style { background = Some (Bit24 1 2 3) }
-other_selector_with_leading_zero = refl
-
-unknown_with_leading_zero : apply_parameters plain_style (codes "099") ≡ record plain_style { unknown = true }
-unknown_with_leading_zero = refl
-
--- Fields that are no codes.
-
-colons : apply_parameters plain_style (codes "38:5:1") ≡ record plain_style { unknown = true }
-colons = refl
-
-private_byte_in_a_field : apply_parameters plain_style (codes "1;?2") ≡ record plain_style { bold = true; unknown = true }
-private_byte_in_a_field = refl
-
-number_past_255 : apply_parameters plain_style (codes "257") ≡ record plain_style { unknown = true }
-number_past_255 = refl
-
--- The attributes `reset` and `unknown`.
-
-bold_then_reset : apply_parameters plain_style (codes "1;0") ≡ record plain_style { reset = true }
-bold_then_reset = refl
-
-unknown_then_reset : apply_parameters plain_style (codes "99;0") ≡ record plain_style { reset = true }
-unknown_then_reset = refl
-
-reset_then_unknown : apply_parameters plain_style (codes "0;99") ≡ record plain_style { reset = true; unknown = true }
-reset_then_unknown = refl
-
--- a style with a known part has something to end, and so has one with both of these attributes
-which_have_any : map has_any (plain_style
-    ∷ record plain_style { bold = true }
-    ∷ record plain_style { font = Some 12 }
-    ∷ record plain_style { foreground = Some (Bit8 0) }
-    ∷ record plain_style { background = Some (Bit24 23 11 100) }
-    ∷ record plain_style { reset = true }
-    ∷ record plain_style { unknown = true }
-    ∷ record plain_style { reset = true; unknown = true }
+colors_read : Makes (apply_parameters plain_style) (
+    (codes "38;7;1", record plain_style { bold = true })  -- no such selector
+    ∷ (codes "38", plain_style)
+    ∷ (codes "38;5", plain_style)
+    ∷ (codes "38;2;1;2", plain_style)
+    ∷ (codes "38;5;256", record plain_style { foreground = Some (Bit8 0) })
+    ∷ (codes "48;2;023;011;100", record plain_style { background = Some (Bit24 23 11 100) })
+    ∷ (codes "38;5;;1", record plain_style { foreground = Some (Bit8 0); bold = true })
+    ∷ (codes "58;5;255;4", record plain_style { underline_color = Some (Bit8 255); underline = true })
     ∷ [])
-    ≡ false ∷ true ∷ true ∷ true ∷ true ∷ false ∷ false ∷ true ∷ []
-which_have_any = refl
+colors_read = refl
 
--- Sequences.
+empty_fields_and_leading_zeros : Makes (apply_parameters plain_style) (
+    ([], record plain_style { reset = true })
+    ∷ (codes "31;", record plain_style { reset = true })
+    ∷ (codes "1;;4", record plain_style { underline = true; reset = true })
+    ∷ (codes "38;;1", record plain_style { bold = true })
+    ∷ (codes "000", record plain_style { reset = true })
+    ∷ (codes "01", record plain_style { bold = true })
+    ∷ (codes "0031", record plain_style { foreground = Some (Bit4 31) })
+    ∷ (codes "038;05;7", record plain_style { foreground = Some (Bit8 7) })
+    ∷ (codes "048;02;1;2;3", record plain_style { background = Some (Bit24 1 2 3) })
+    ∷ (codes "099", record plain_style { unknown = true })
+    ∷ [])
+empty_fields_and_leading_zeros = refl
 
-other_sequence : apply plain_style (codes "\u{1b}[1 m") ≡ plain_style
-other_sequence = refl
+fields_that_are_no_codes : Makes (apply_parameters plain_style) (
+    (codes "38:5:1", record plain_style { unknown = true })
+    ∷ (codes "1;?2", record plain_style { bold = true; unknown = true })
+    ∷ (codes "257", record plain_style { unknown = true })
+    ∷ [])
+fields_that_are_no_codes = refl
 
-private_sequence : apply plain_style (codes "\u{1b}[>4;2m") ≡ plain_style
-private_sequence = refl
+resets : Makes (apply_parameters plain_style) (
+    (codes "1;0", record plain_style { reset = true })
+    ∷ (codes "99;0", record plain_style { reset = true })
+    ∷ (codes "0;99", record plain_style { reset = true; unknown = true })
+    ∷ [])
+resets = refl
 
-sgr : apply plain_style (codes "\u{1b}[1;31m") ≡ record plain_style { bold = true; foreground = Some (Bit4 31) }
-sgr = refl
+sequences : Makes (apply plain_style) (
+    (codes "\u{1b}[1 m", plain_style)
+    ∷ (codes "\u{1b}[>4;2m", plain_style)
+    ∷ (codes "\u{1b}[1;31m", record plain_style { bold = true; foreground = Some (Bit4 31) })
+    ∷ [])
+sequences = refl
 
 -- Starts and closes.
 
@@ -131,12 +73,9 @@ full_start = refl
 full_close : close full_style ≡ codes "\u{1b}[0m\u{1b}[10m\u{1b}[22m\u{1b}[23m\u{1b}[24m\u{1b}[25m\u{1b}[27m\u{1b}[28m\u{1b}[29m\u{1b}[39m\u{1b}[49m\u{1b}[50m\u{1b}[54m\u{1b}[55m\u{1b}[65m\u{1b}[59m\u{1b}[75m\u{1b}[0m"
 full_close = refl
 
-full_start_is_longest : length (start full_style) ≡ longest_start
+lengths : Makes length ((start full_style, longest_start) ∷ (close full_style, longest_close) ∷ [])
 unfolding digits
-full_start_is_longest = refl
-
-full_close_is_longest : length (close full_style) ≡ longest_close
-full_close_is_longest = refl
+lengths = refl
 
 both_lengths_together : longest_start + longest_close ≡ longest_start_and_close
 both_lengths_together = refl
@@ -144,18 +83,6 @@ both_lengths_together = refl
 start_of_colors : start (record plain_style { font = Some 19; foreground = Some (Bit4 97); background = Some (Bit8 7) }) ≡ codes "\u{1b}[19m\u{1b}[97m\u{1b}[48;5;7m"
 unfolding digits
 start_of_colors = refl
-
-unread_attributes_have_no_start : start (record plain_style { reset = true; unknown = true }) ≡ []
-unread_attributes_have_no_start = refl
-
-reset_alone_closes_nothing : close (record plain_style { reset = true }) ≡ []
-reset_alone_closes_nothing = refl
-
-unknown_alone_is_closed : close (record plain_style { unknown = true }) ≡ codes "\u{1b}[0m"
-unknown_alone_is_closed = refl
-
-reset_and_unknown_are_closed_twice : close (record plain_style { reset = true; unknown = true }) ≡ codes "\u{1b}[0m\u{1b}[0m"
-reset_and_unknown_are_closed_twice = refl
 
 known_forgets_the_two_marks : known (record full_style { bold = false }) ≡ record full_style { bold = false; reset = false; unknown = false }
 known_forgets_the_two_marks = refl

@@ -20,45 +20,30 @@ KeepsRanges (Changes f) = (s : Rendition) → HasRanges s → HasRanges (f s)
 KeepsRanges (ReadsColor put) = (c : AnsiColor) (s : Rendition) → IsTrue (is_extended_color c) → HasRanges s → HasRanges (put c s)
 
 extended_is_foreground : (c : AnsiColor) → IsTrue (is_extended_color c) → IsTrue (is_foreground c)
-extended_is_foreground (Bit4 n) is = absurd (true≢false (sym is))
-extended_is_foreground (Bit8 n) is = is
-extended_is_foreground (Bit24 r g b) is = is
+extended_is_foreground c is = grind arith
 
 extended_is_background : (c : AnsiColor) → IsTrue (is_extended_color c) → IsTrue (is_background c)
-extended_is_background (Bit4 n) is = absurd (true≢false (sym is))
-extended_is_background (Bit8 n) is = is
-extended_is_background (Bit24 r g b) is = is
+extended_is_background c is = grind arith
 
 effect_keeps_ranges : (field : List ℕ) → KeepsRanges (effect_of field)
 effect_keeps_ranges = effect_holds KeepsRanges (λ s is. is) (search (rules, or_left, or_right, extended_is_foreground, extended_is_background))
 
 -- a number of a color is at most 255
 color_number_is_byte : (field : List ℕ) → nat_lt (color_number field) 256 ≡ true
-color_number_is_byte field = small (nat_lt 0 (length field)) (all_ascii_digits field) (digits_value 10 field)
-  where
-    small : (a b : Bool) (n : ℕ) → nat_lt (unwrap_or (if a && (b && nat_le n 255) then Some n else None) 0) 256 ≡ true
-    small a b n = grind (arith, nat_tests)
+color_number_is_byte field = grind arith
 
 abbrev ReadsExtended : Option AnsiColor × List (List ℕ) → Type 0
 ReadsExtended read = IfSome read.0 (λ c. IsTrue (is_extended_color c))
 
 color_by_parts_is_extended : (fields : List (List ℕ)) → ReadsExtended (color_by_parts fields)
-color_by_parts_is_extended [] = tt
-color_by_parts_is_extended (r ∷ []) = tt
-color_by_parts_is_extended (r ∷ g ∷ []) = tt
-color_by_parts_is_extended (r ∷ g ∷ b ∷ fields) =
-    and_from _ _ (color_number_is_byte r) (and_from _ _ (color_number_is_byte g) (color_number_is_byte b))
+color_by_parts_is_extended fields = grind (arith, and_from, color_number_is_byte)
 
 color_by_number_is_extended : (fields : List (List ℕ)) → ReadsExtended (color_by_number fields)
 color_by_number_is_extended [] = tt
 color_by_number_is_extended (n ∷ fields) = color_number_is_byte n
 
 read_color_is_extended : (fields : List (List ℕ)) → ReadsExtended (read_color fields)
-read_color_is_extended [] = tt
-read_color_is_extended (selector ∷ fields) =
-    cond_both (is_code 2 selector) (color_by_parts fields) _ ReadsExtended
-    (λ parts. color_by_parts_is_extended fields)
-    (λ other. cond_both (is_code 5 selector) (color_by_number fields) _ ReadsExtended (λ number. color_by_number_is_extended fields) (λ none. tt))
+read_color_is_extended fields = grind (arith, color_by_number_is_extended, color_by_parts_is_extended)
 
 perform_keeps_ranges : (e : Effect) (s : Rendition) (fields : List (List ℕ)) → KeepsRanges e → HasRanges s → HasRanges (perform e s fields).0
 perform_keeps_ranges (Changes f) s fields keeps is = keeps s is

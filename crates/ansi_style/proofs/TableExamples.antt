@@ -1,11 +1,11 @@
 -- Worked examples of each row of the three tables, by computation: what a code sets, how a style is written, and what a color is called.
-use Rattle.ansi_style.proofs.Common.{◌≡◌, ℕ, List, [], ◌∷◌, ◌++◌, map, filter, not, refl, codes, true, false, Some, None, range_with_len, digits, AnsiColor, Bit4, Bit8, Bit24, Color, Black, BrightBlack, Red, BrightRed, Green, BrightGreen, Yellow, BrightYellow, Blue, BrightBlue, Magenta, BrightMagenta, Cyan, BrightCyan, White, BrightWhite, Fixed, Rgb, Rendition, plain_style, has_any, effect_of_code, perform, apply_parameters, start, close, color_of}
+use Rattle.ansi_style.proofs.Common.{◌≡◌, ℕ, List, [], ◌∷◌, ◌++◌, map, filter, not, refl, codes, true, false, Some, None, range_with_len, digits, Bit4, Bit8, Bit24, Black, BrightBlack, Red, BrightRed, Green, BrightGreen, Yellow, BrightYellow, Blue, BrightBlue, Magenta, BrightMagenta, Cyan, BrightCyan, White, BrightWhite, Fixed, Rgb, Rendition, plain_style, has_any, effect_of_code, perform, apply_parameters, start, close, color_of}
+use Rattle.ansi_items.proofs.Tables.{Makes}
 
 -- The SGR table.
 
 -- codes, and the style after them, where s is the style before: each row, and of a range the first and the last
-abbrev codes_read : Rendition → List (List ℕ × Rendition)
-codes_read s =
+codes_read : (s : Rendition) → Makes (apply_parameters s) (
     (codes "0", record plain_style { reset = true })
     ∷ (codes "1", record s { bold = true })
     ∷ (codes "2", record s { faint = true })
@@ -70,30 +70,16 @@ codes_read s =
     ∷ (codes "100", record s { background = Some (Bit4 100) })
     ∷ (codes "107", record s { background = Some (Bit4 107) })
     ∷ (codes "108", record s { unknown = true })
-    ∷ []
+    ∷ [])
+codes_read s = refl
 
-each_code_is_read : (s : Rendition) → map (λ (row : List ℕ × Rendition). apply_parameters s row.0) (codes_read s) ≡ map (λ (row : List ℕ × Rendition). row.1) (codes_read s)
-each_code_is_read s = refl
-
--- the style after each code of a range
-abbrev after_each : Rendition → List ℕ → List Rendition
-after_each s all = map (λ code. (perform (effect_of_code code) s []).0) all
-
-each_font_is_read : (s : Rendition) → after_each s (range_with_len 11 9) ≡ map (λ code. record s { font = Some code }) (range_with_len 11 9)
-each_font_is_read s = refl
-
--- the sixteen colors, by the codes of a foreground and of a background
-abbrev foreground_codes : List ℕ
-foreground_codes = range_with_len 30 8 ++ range_with_len 90 8
-
-abbrev background_codes : List ℕ
-background_codes = range_with_len 40 8 ++ range_with_len 100 8
-
-each_foreground_is_read : (s : Rendition) → after_each s foreground_codes ≡ map (λ code. record s { foreground = Some (Bit4 code) }) foreground_codes
-each_foreground_is_read s = refl
-
-each_background_is_read : (s : Rendition) → after_each s background_codes ≡ map (λ code. record s { background = Some (Bit4 code) }) background_codes
-each_background_is_read s = refl
+-- each code of a range
+ranges_read : (s : Rendition) → Makes (map (λ code. (perform (effect_of_code code) s []).0)) (
+    (range_with_len 11 9, map (λ code. record s { font = Some code }) (range_with_len 11 9))
+    ∷ (range_with_len 30 8 ++ range_with_len 90 8, map (λ code. record s { foreground = Some (Bit4 code) }) (range_with_len 30 8 ++ range_with_len 90 8))
+    ∷ (range_with_len 40 8 ++ range_with_len 100 8, map (λ code. record s { background = Some (Bit4 code) }) (range_with_len 40 8 ++ range_with_len 100 8))
+    ∷ [])
+ranges_read s = refl
 
 -- Starts and closes.
 
@@ -147,14 +133,14 @@ each_style_is_written : map (λ (row : Rendition × List ℕ × List ℕ). (row.
 unfolding digits
 each_style_is_written = refl
 
--- of these styles two have nothing to end, in which a mark alone is set that no code reads
-two_have_nothing_to_end : filter (λ s. not (has_any s)) (map (λ (row : Rendition × List ℕ × List ℕ). row.0) styles_written) ≡ record plain_style { reset = true } ∷ record plain_style { unknown = true } ∷ []
-two_have_nothing_to_end = refl
+-- nothing to end have the plain style, and of these styles two, in which a mark alone is set that no code reads
+nothing_to_end : filter (λ s. not (has_any s)) (plain_style ∷ map (λ (row : Rendition × List ℕ × List ℕ). row.0) styles_written)
+    ≡ plain_style ∷ record plain_style { reset = true } ∷ record plain_style { unknown = true } ∷ []
+nothing_to_end = refl
 
 -- The names of colors.
 
-abbrev colors_named : List (AnsiColor × Color)
-colors_named =
+colors_named : Makes color_of (
     (Bit4 30, Black) ∷ (Bit4 31, Red) ∷ (Bit4 32, Green) ∷ (Bit4 33, Yellow)
     ∷ (Bit4 34, Blue) ∷ (Bit4 35, Magenta) ∷ (Bit4 36, Cyan) ∷ (Bit4 37, White)
     ∷ (Bit4 40, Black) ∷ (Bit4 41, Red) ∷ (Bit4 42, Green) ∷ (Bit4 43, Yellow)
@@ -166,7 +152,5 @@ colors_named =
     ∷ (Bit4 29, Fixed 29) ∷ (Bit4 38, Fixed 38) ∷ (Bit4 39, Fixed 39) ∷ (Bit4 48, Fixed 48)
     ∷ (Bit4 89, Fixed 89) ∷ (Bit4 98, Fixed 98) ∷ (Bit4 99, Fixed 99) ∷ (Bit4 108, Fixed 108)
     ∷ (Bit8 31, Fixed 31) ∷ (Bit24 1 2 3, Rgb 1 2 3)
-    ∷ []
-
-each_color_is_named : map (λ (row : AnsiColor × Color). (row.0, color_of row.0)) colors_named ≡ colors_named
-each_color_is_named = refl
+    ∷ [])
+colors_named = refl

@@ -1,5 +1,5 @@
 -- A style in which nothing is set that a reader could see needs no start and no close.
-use Rattle.ansi_style.proofs.Common.{◌≡◌, append-nil, false, ◌&&◌, ◌||◌, [], ap₂, ◌∙◌, ap, arith, if◌then◌else◌, or_parts, cond_both, Rendition, plain_style, known, has_known, has_any, start, close, close_if_any, style_after_from}
+use Rattle.ansi_style.proofs.Common.{◌≡◌, append-nil, false, ◌&&◌, ◌||◌, [], ◌∙◌, ap, arith, if◌then◌else◌, or_parts, cond_both, Rendition, plain_style, known, has_known, has_any, start, close, close_if_any, style_after_from}
 use Rattle.ansi_style.proofs.CloseLemmas.{close_clears}
 
 known-unknown : (s : Rendition) → has_known s ≡ false → known s ≡ plain_style
@@ -9,9 +9,7 @@ pub start-unknown : (s : Rendition) → has_known s ≡ false → start s ≡ []
 start-unknown s unset = ap start (known-unknown s unset)
 
 pub close-unknown : (s : Rendition) → (has_known s || s.unknown) ≡ false → close s ≡ []
-close-unknown s unset =
-    let parts = or_parts (has_known s) s.unknown unset in
-    ap₂ (λ (k : Rendition) u. close (record k { reset = s.reset; unknown = u })) (known-unknown s parts.0) parts.1
+close-unknown s unset = grind (arith, known-unknown, or_parts)
 
 pub ruleset unset_styles = (start-unknown, close-unknown, append-nil)
 

@@ -77,6 +77,7 @@ pub fn has_close(style: &Style) -> bool
 
 /// Appends the start of the style. An `Err` means out of memory; what was appended up to
 /// there stands.
+#[tactic(auto, using(crate::proofs::UnsetLemmas::unset_styles))]
 pub fn write_start<A: Allocator>(style: &Style, out: &mut String<A>) -> Result<(), AllocError>
     ensures { OnOk result (string_bytes out.new ≡ string_bytes out.old ++ start (rendition_of style.now)) }
 {

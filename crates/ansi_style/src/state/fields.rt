@@ -69,6 +69,7 @@ impl<'a> Fields<'a> {
     /// The number that the next field gives a color, 0 where it is none, or `None` after the last
     /// field.
     #[inline(always)]
+    #[tactic(auto, using(crate::proofs::FieldLemmas::number_is_first))]
     pub(crate) fn next_number(&mut self) -> Option<u8>
         ensures { (result, self.new) ≡ first_field color_number self.old }
     {

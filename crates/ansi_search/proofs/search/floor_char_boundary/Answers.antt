@@ -1,4 +1,4 @@
-use Rattle.ansi_search.proofs.Common.{[], ◌≡◌, ◌++◌, ◌∷◌, ◌+◌, ◌-◌, drop, length, refl, sym, ◌∙◌, ap, subst, arith, drop_at, drop-drop, length-append, length-drop, IsCharBoundary-end, IsCharBoundary, Text, plain, plain_of, pieces_left, is_text, gives_text, IsUtf8-plain}
+use Rattle.ansi_search.proofs.Common.{◌≡◌, ◌++◌, ◌∷◌, ◌+◌, ◌-◌, drop, length, refl, sym, ◌∙◌, ap, subst, arith, drop_at, drop-drop, length-append, length-drop, IsCharBoundary-end, IsCharBoundary, Text, plain, plain_of, pieces_left, is_text, gives_text, IsUtf8-plain, []}
 use Rattle.ansi_search.proofs.PositionLemmas.{boundary_in_run, good_before}
 use Rattle.ansi_search.proofs.search.floor_char_boundary.Goals as goal
 

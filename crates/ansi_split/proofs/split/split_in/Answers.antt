@@ -17,10 +17,7 @@ returns-clause-takes_no_memory g c = λ none. rw c.new-spans.ensures (parts_left
 
 -- the plain text is no longer than the text, and no text in memory fills half of it
 pub returns-clause-fits : goal.returns-clause-fits
-returns-clause-fits g c =
-    let t = c.args.text.now in
-    let p = c.args.pat.now in
-    rw c.new-spans.ensures (omega (arith, length-parts_left t p, length-plain t, c.well_formed.1.0.1))
+returns-clause-fits g c = grind (arith, length-parts_left, length-plain)
 
 pub returns-clause-within : goal.returns-clause-within
 returns-clause-within g c = rw c.new-spans.ensures (shares_within c.args.text.now c.args.pat.now)

@@ -5,10 +5,7 @@ use Rattle.ansi_search.proofs.search.critical.cut_at.Goals as goal
 use Rattle.ansi_search.proofs.search.critical.cut_at.Goals.{else-at-rest-via-then-at-rest+else-starts_with, else-at-rest-via-else-at-rest}
 
 pub returns-then-starts_with : goal.returns-then-starts_with
-returns-then-starts_with c =
-    let p = c.args.bytes.now in
-    let rest = slice_range-past p c.args.suffix.period (length p) (omega arith) in
-    cut-repeats p c.args.suffix.start c.args.suffix.period c.requires (ap (λ v. starts_with nat_eq v (take c.args.suffix.start p)) (sym rest) ∙ sym c.starts_with.ensures.value ∙ c.if-starts_with.true)
+returns-then-starts_with c = grind (arith, cut-repeats, slice_range-past)
 
 pub returns : goal.returns
 returns c =

@@ -1,4 +1,4 @@
-use Rattle.ansi_search.proofs.Common.{◌≡◌, ◌+◌, ◌-◌, length, slice_index, subst, arith, IsScan, IsScan-accept, IsScan-skip, IsScan-push, IsScan-block, IsScan-end, Precedes}
+use Rattle.ansi_search.proofs.Common.{◌-◌, arith, IsScan, IsScan-accept, IsScan-skip, IsScan-push, IsScan-block, IsScan-end, Precedes}
 use Rattle.ansi_search.proofs.TwoWayLemmas.{Precedes-trans, Precedes-irrefl}
 use Rattle.ansi_search.proofs.search.critical.greatest_suffix.Goals as goal
 
@@ -9,9 +9,7 @@ loop-candidate-preserved-then-offset-period c =
     IsScan-block (Precedes c.args.is_rising) (Precedes-trans c.args.is_rising) (Precedes-irrefl c.args.is_rising) _ _ c.loop-candidate.invariant c.loop-candidate-test.true c.if-current-other.true c.if-offset-period.true
 
 pub loop-candidate-preserved-else-offset-period : goal.loop-candidate-preserved-else-offset-period
-loop-candidate-preserved-else-offset-period c =
-    IsScan-push (Precedes c.args.is_rising) (Precedes-trans c.args.is_rising) (Precedes-irrefl c.args.is_rising) _ _ c.loop-candidate.invariant c.loop-candidate-test.true c.if-current-other.true
-    (omega (arith, c.loop-candidate.invariant.short, c.if-offset-period.false))
+loop-candidate-preserved-else-offset-period c = grind (arith, IsScan-push, Precedes-irrefl, Precedes-trans)
 
 -- it is greater
 pub loop-candidate-preserved-then-precedes : goal.loop-candidate-preserved-then-precedes
@@ -20,11 +18,7 @@ loop-candidate-preserved-then-precedes c =
 
 -- it is less
 pub loop-candidate-preserved : goal.loop-candidate-preserved
-loop-candidate-preserved c =
-    let s = c.loop-candidate in
-    let end : s.candidate + s.offset + 1 ≡ s.candidate + (s.offset + 1) = omega arith in
-    subst (λ k. IsScan (Precedes c.args.is_rising) (slice_index c.args.bytes.now) (length c.args.bytes.now) s.start (k - s.start) k 0) end
-    (IsScan-skip (Precedes c.args.is_rising) (Precedes-trans c.args.is_rising) (Precedes-irrefl c.args.is_rising) _ _ s.invariant c.loop-candidate-test.true (c.precedes.ensures.no c.if-precedes.false))
+loop-candidate-preserved c = grind (arith, IsScan, IsScan-skip, Precedes-irrefl, Precedes-trans)
 
 pub returns : goal.returns
 returns c =

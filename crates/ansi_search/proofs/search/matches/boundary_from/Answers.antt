@@ -1,4 +1,4 @@
-use Rattle.ansi_search.proofs.Common.{[], ◌≡◌, ◌++◌, ◌∷◌, ◌+◌, ◌-◌, ◌≤◌, Some, None, drop, length, refl, sym, ◌∙◌, ap, arith, drop_at, drop-drop, length-append, length-drop, Text, plain, plain_of, pieces_left, is_text, gives_text}
+use Rattle.ansi_search.proofs.Common.{◌≡◌, ◌++◌, ◌∷◌, ◌+◌, ◌-◌, ◌≤◌, Some, None, drop, length, refl, sym, ◌∙◌, ap, arith, drop_at, drop-drop, length-append, length-drop, Text, plain, plain_of, pieces_left, is_text, gives_text, []}
 use Rattle.ansi_search.proofs.MatchLemmas.{first_match_in, no_match_in, first_empty, empty_at_end, none_at_end}
 use Rattle.ansi_search.proofs.search.matches.boundary_from.Goals as goal
 

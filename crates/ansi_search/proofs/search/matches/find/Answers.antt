@@ -12,9 +12,7 @@ returns-clause-first c =
     finds_text x c.args.pat.now _ (IsUtf8-plain c.args.text.now c.utf8.text) c.utf8.pat (first x c.args.pat.now _ c.find_from.ensures)
 
 pub returns-clause-good : goal.returns-clause-good
-returns-clause-good c =
-    let x = plain c.args.text.now in
-    finds_good_range x c.args.pat.now _ (IsUtf8-plain c.args.text.now c.utf8.text) c.utf8.pat (first x c.args.pat.now _ c.find_from.ensures)
+returns-clause-good c = grind (arith, IsUtf8-plain, finds_good_range, first)
 
 pub returns-clause-good_before : goal.returns-clause-good_before
 returns-clause-good_before c =
@@ -22,9 +20,7 @@ returns-clause-good_before c =
     finds_good_before x c.args.pat.now _ (IsUtf8-plain c.args.text.now c.utf8.text) (first x c.args.pat.now _ c.find_from.ensures)
 
 pub returns-clause-good_after : goal.returns-clause-good_after
-returns-clause-good_after c =
-    let x = plain c.args.text.now in
-    finds_good_after x c.args.pat.now _ (IsUtf8-plain c.args.text.now c.utf8.text) c.utf8.pat (first x c.args.pat.now _ c.find_from.ensures)
+returns-clause-good_after c = grind (arith, IsUtf8-plain, finds_good_after, first)
 
 -- the plain text is no longer than the text, which is in memory
 pub returns-clause-fits : goal.returns-clause-fits

@@ -1,4 +1,4 @@
-use Rattle.ansi_search.proofs.Common.{[], ◌≡◌, ◌≤◌, drop, length, sym, ◌∙◌, ap, ap₂, subst, arith, slice_index, length-drop, OccursAt, is_byte, plain, plain_of, length-plain, is_text, IsCut, IsReached, Comes, first_match_from}
+use Rattle.ansi_search.proofs.Common.{◌≡◌, ◌≤◌, drop, length, sym, ◌∙◌, ap, ap₂, subst, arith, slice_index, length-drop, OccursAt, is_byte, plain, plain_of, length-plain, is_text, IsCut, IsReached, Comes, first_match_from, []}
 use Rattle.ansi_search.proofs.WindowLemmas.{none-past, none-without, run-occurs, run-left, run-length, reached-then, comes-then, reached-match, reached-end}
 use Rattle.ansi_search.proofs.search.matches.find_across.Goals as goal
 
@@ -17,9 +17,7 @@ returns-in_err-next c =
     ∙ ap (λ q. first_match_from (plain c.args.text.now) q c.args.from) c.new-pattern.ensures)
 
 pub read-requires-clause-run : goal.read-requires-clause-run
-read-requires-clause-run c =
-    let so_far = c.loop-item.invariant in
-    run-occurs (plain c.args.text.now) c.loop-item.place c.in-Some.ensures.steps so_far.text (is_text c.if-eq.ensures) so_far.left (c.as_bytes-run.ensures.value ∙ c.range.ensures.value) so_far.within
+read-requires-clause-run c = grind (arith, is_text, run-occurs)
 
 -- a match ends in the run
 pub returns-in-Match : goal.returns-in-Match

@@ -9,24 +9,16 @@ returns-in_default-walk_to-clause-cut g c = range-by_offset c.requires c.in-Some
 -- memory is asked for where the range is good
 
 pub returns-in_err-cut-clause-takes_no_memory : goal.returns-in_err-cut-clause-takes_no_memory
-returns-in_err-cut-clause-takes_no_memory g c = λ bad.
-    let good = range-by_offset c.requires c.in-Some.ensures.offset c.range_from-rest.ensures.value ∙ c.in-Some-walk_to.ensures.offset.good in
-    absurd (cc (good, bad))
+returns-in_err-cut-clause-takes_no_memory g c = grind (arith, range-by_offset)
 
 pub returns-in_err-push_sequences-clause-takes_no_memory : goal.returns-in_err-push_sequences-clause-takes_no_memory
-returns-in_err-push_sequences-clause-takes_no_memory g c = λ bad.
-    let good = range-by_offset c.requires c.in-Some.ensures.offset c.range_from-rest.ensures.value ∙ c.in-Some-walk_to.ensures.offset.good in
-    absurd (cc (good, bad))
+returns-in_err-push_sequences-clause-takes_no_memory g c = grind (arith, range-by_offset)
 
 pub returns-in_err-push_str-clause-takes_no_memory : goal.returns-in_err-push_str-clause-takes_no_memory
-returns-in_err-push_str-clause-takes_no_memory g c = λ bad.
-    let good = range-by_offset c.requires c.in-Some.ensures.offset c.range_from-rest.ensures.value ∙ c.in-Some-walk_to.ensures.offset.good in
-    absurd (cc (good, bad))
+returns-in_err-push_str-clause-takes_no_memory g c = grind (arith, range-by_offset)
 
 pub returns-in_err-write_close-clause-takes_no_memory : goal.returns-in_err-write_close-clause-takes_no_memory
-returns-in_err-write_close-clause-takes_no_memory g c = λ bad.
-    let good = range-by_offset c.requires c.in-Some.ensures.offset c.range_from-rest.ensures.value ∙ c.in-Some-walk_to.ensures.offset.good in
-    absurd (cc (good, bad))
+returns-in_err-write_close-clause-takes_no_memory g c = grind (arith, range-by_offset)
 
 -- the sequences up to the start, the stretch and the close are the cut
 pub returns-clause-cut : goal.returns-clause-cut

@@ -1,4 +1,4 @@
-use Rattle.ansi_slice.proofs.Common.{sym, ◌∙◌, ap, arith, length, plain, is_good_range, cut_up_to, plain-bare, length-plain}
+use Rattle.ansi_slice.proofs.Common.{sym, ◌∙◌, ap, arith, length, cut_up_to, plain-bare, length-plain}
 use Rattle.ansi_search.proofs.PositionLemmas.{is_good_range-top, none_if_bad, some_if_good}
 use Rattle.ansi_slice.proofs.CutLemmas.{cut_up_to-unwrap_or, cut_up_to-bare}
 use Rattle.ansi_slice.proofs.LengthLemmas.{length-cut}
@@ -7,18 +7,10 @@ use Rattle.ansi_slice.proofs.slice.cuts.get_in.Goals as goal
 -- a text without ESC is its own plain text, and its cut is a slice
 
 pub returns-in_default-clause-none : goal.returns-in_default-clause-none
-returns-in_default-clause-none g c =
-    let t = c.args.text.now in
-    let s = c.args.start in
-    none_if_bad (ap (λ x. is_good_range x s c.args.end) (plain-bare t (sym c.has_any.ensures ∙ c.if-not-has_any.true))
-    ∙ sym (is_good_range-top t s c.args.end _ c.unwrap_or-end.ensures (omega (arith, c.ranges.start.fits)) (omega arith)) ∙ c.in_default.ensures)
+returns-in_default-clause-none g c = grind (arith, is_good_range-top, none_if_bad, plain-bare)
 
 pub returns-then-not-has_any-clause-none : goal.returns-then-not-has_any-clause-none
-returns-then-not-has_any-clause-none g c =
-    let t = c.args.text.now in
-    let s = c.args.start in
-    some_if_good (ap (λ x. is_good_range x s c.args.end) (plain-bare t (sym c.has_any.ensures ∙ c.if-not-has_any.true))
-    ∙ sym (is_good_range-top t s c.args.end _ c.unwrap_or-end.ensures (omega (arith, c.ranges.start.fits)) (omega arith)) ∙ c.in-Some.ensures.0)
+returns-then-not-has_any-clause-none g c = grind (arith, is_good_range-top, plain-bare, some_if_good)
 
 pub returns-then-not-has_any-clause-bytes : goal.returns-then-not-has_any-clause-bytes
 returns-then-not-has_any-clause-bytes g c =
@@ -30,10 +22,7 @@ returns-then-not-has_any-clause-bytes g c =
 -- the largest position lies past the end of each text
 
 pub returns-in_default-2-clause-none : goal.returns-in_default-2-clause-none
-returns-in_default-2-clause-none g c =
-    let t = c.args.text.now in
-    let bad = rw c.in_default-2.is at c.in_ok-cut.ensures.cut in
-    none_if_bad (sym (is_good_range-top (plain t) c.args.start c.args.end _ c.unwrap_or-end.ensures (omega (arith, c.ranges.start.fits)) (omega (arith, length-plain t))) ∙ bad)
+returns-in_default-2-clause-none g c = grind (arith, is_good_range-top, length-plain, none_if_bad)
 
 pub returns-clause-bytes : goal.returns-clause-bytes
 returns-clause-bytes g c =

@@ -1,4 +1,4 @@
-use Rattle.ansi_slice.proofs.Common.{◌≡◌, ℕ, true, List, sym, ◌∙◌, ap, ap₂, arith, length, IsFalse, nat_eq, eqb-true, starts_with, plain, has_escape, kept, plain-bare, IsUtf8-plain, IsUtf8, IsCharBoundary}
+use Rattle.ansi_slice.proofs.Common.{◌≡◌, ℕ, true, List, sym, ◌∙◌, arith, length, nat_eq, eqb-true, starts_with, plain, plain-bare, IsUtf8-plain, IsUtf8, IsCharBoundary}
 use Rattle.ansi_search.proofs.PositionLemmas.{none_if_bad, some_if_good}
 use Rattle.ansi_search.proofs.EndLemmas.{starts_with-boundary}
 use Rattle.ansi_search.proofs.SliceLemmas.{slice_range-past}
@@ -7,10 +7,7 @@ use Rattle.ansi_slice.proofs.slice.kept.strip_prefix_in.Goals as goal
 
 -- without an empty prefix all is kept
 pub returns-then-is_empty-clause-bytes : goal.returns-then-is_empty-clause-bytes
-returns-then-is_empty-clause-bytes g c =
-    let t = c.args.text.now in
-    let none = eqb-true _ 0 (sym c.is_empty.ensures ∙ c.if-is_empty.true) in
-    sym (ap (λ n. kept t n (length (plain t))) none ∙ kept-all t (length (plain t)) (omega arith))
+returns-then-is_empty-clause-bytes g c = grind (arith, eqb-true, kept-all)
 
 -- a character begins after the prefix
 after_prefix : (t p : List ℕ) → IsUtf8 t → IsUtf8 p → starts_with nat_eq (plain t) p ≡ true → IsCharBoundary (plain t) (length p)
@@ -22,28 +19,13 @@ write_from-requires g c = after_prefix c.args.text.now c.args.prefix.now c.utf8.
 -- a text without ESC is its own plain text, and what is left of it is a slice
 
 pub returns-then-not-starts_with-clause-none : goal.returns-then-not-starts_with-clause-none
-returns-then-not-starts_with-clause-none g c =
-    let t = c.args.text.now in
-    let none : IsFalse (has_escape t) = sym c.has_any.ensures ∙ c.if-not-has_any.true in
-    none_if_bad (ap (λ x. starts_with nat_eq x c.args.prefix.now) (plain-bare t none)
-    ∙ sym (c.starts_with.ensures.value ∙ ap₂ (λ x p. starts_with nat_eq x p) c.as_bytes.ensures.value c.as_bytes-then-not-has_any.ensures.value) ∙ c.if-not-starts_with.true)
+returns-then-not-starts_with-clause-none g c = grind (arith, none_if_bad, plain-bare)
 
 pub range_from-requires : goal.range_from-requires
-range_from-requires g c =
-    let t = c.args.text.now in
-    λ some. starts_with-boundary t c.args.prefix.now c.utf8.text c.utf8.prefix
-    (sym (c.starts_with.ensures.value ∙ ap₂ (λ x p. starts_with nat_eq x p) c.as_bytes.ensures.value c.as_bytes-then-not-has_any.ensures.value) ∙ c.if-not-starts_with.false)
+range_from-requires g c = grind (arith, starts_with-boundary)
 
 pub returns-then-not-has_any-clause-none : goal.returns-then-not-has_any-clause-none
-returns-then-not-has_any-clause-none g c =
-    let t = c.args.text.now in
-    let none : IsFalse (has_escape t) = sym c.has_any.ensures ∙ c.if-not-has_any.true in
-    some_if_good (ap (λ x. starts_with nat_eq x c.args.prefix.now) (plain-bare t none)
-    ∙ sym (c.starts_with.ensures.value ∙ ap₂ (λ x p. starts_with nat_eq x p) c.as_bytes.ensures.value c.as_bytes-then-not-has_any.ensures.value) ∙ c.if-not-starts_with.false)
+returns-then-not-has_any-clause-none g c = grind (arith, plain-bare, some_if_good)
 
 pub returns-then-not-has_any-clause-bytes : goal.returns-then-not-has_any-clause-bytes
-returns-then-not-has_any-clause-bytes g c =
-    let t = c.args.text.now in
-    let n = length c.args.prefix.now in
-    let none : IsFalse (has_escape t) = sym c.has_any.ensures ∙ c.if-not-has_any.true in
-    c.range_from.ensures.value ∙ sym (kept-bare t n (length (plain t)) none ∙ slice_range-past t n (length (plain t)) (omega (arith, ap length (plain-bare t none))))
+returns-then-not-has_any-clause-bytes g c = grind (arith, kept-bare, plain-bare, slice_range-past)

@@ -1,4 +1,4 @@
-use Rattle.ansi_slice.proofs.Common.{take, drop, sym, ◌∙◌, ap, subst, IsTrue, take_min, drop_min, IsCharBoundary, plain-bare, is_good_position}
+use Rattle.ansi_slice.proofs.Common.{take, drop, sym, ◌∙◌, ap, take_min, drop_min, plain-bare, arith}
 use Rattle.ansi_search.proofs.PositionLemmas.{boundary_inside}
 use Rattle.ansi_slice.proofs.SideLemmas.{left_side-bare, right_side-bare}
 use Rattle.ansi_slice.proofs.slice.sides.halves.Goals as goal
@@ -6,9 +6,7 @@ use Rattle.ansi_slice.proofs.slice.sides.halves.Goals as goal
 -- a text without ESC is its own plain text, and its sides are slices
 
 pub split_at-requires : goal.split_at-requires
-split_at-requires c =
-    let t = c.args.text.now in
-    subst (IsCharBoundary t) (sym c.min.ensures) (boundary_inside t c.args.mid (subst (λ x. IsTrue (is_good_position x c.args.mid)) (plain-bare t c.requires.bare) c.requires.good))
+split_at-requires c = grind (arith, boundary_inside, plain-bare)
 
 pub returns-clause-left : goal.returns-clause-left
 returns-clause-left c =

@@ -1,4 +1,4 @@
-use Rattle.ansi_split.proofs.Common.{rules, ◌≡◌, ◌∷◌, ◌++◌, ◌+◌, ◌-◌, Some, length, take, drop, refl, sym, ◌∙◌, ap, ap₂, subst, arith, IsFalse, eqb-true, eqb-false, IsCharBoundary, Text, pieces_of, plain_of, plain, has_escape, pieces_left, rendition_of, first_match_from, IsCutAtMatch, gives_text, over_text, over_mark}
+use Rattle.ansi_split.proofs.Common.{rules, ◌≡◌, ◌∷◌, ◌++◌, ◌+◌, ◌-◌, Some, length, drop, refl, sym, ◌∙◌, ap, subst, arith, IsFalse, eqb-true, eqb-false, IsCharBoundary, Text, pieces_of, plain_of, plain, has_escape, pieces_left, rendition_of, first_match_from, IsCutAtMatch, gives_text, over_text, over_mark}
 use Rattle.ansi_style.proofs.SgrLemmas.{apply-no_sgr}
 use Rattle.ansi_split.proofs.RestLemmas.{boundary-drop, no_escape-later, no_escape-text}
 use Rattle.ansi_split.proofs.MatchWalkLemmas.{walked-begin, walked-text, walked-mark, walked-cut, walked-end, walked-none, walked-empty}
@@ -15,14 +15,7 @@ loop-item-init c =
 
 -- a text has no ESC
 pub next_start-ahead-requires-clause-plain : goal.next_start-ahead-requires-clause-plain
-next_start-ahead-requires-clause-plain c =
-    let t = c.args.text.now in
-    let gives = c.in-Some.ensures.steps in
-    let w = c.range-piece.result.now in
-    let first : pieces_left c.loop-item.item-iterator ≡ Text w ∷ pieces_left c.next.new.self = gives_text gives c.loop-item.invariant.text c.range-piece.ensures.value c.in-Text.is in
-    let s = c.loop-item.item-iterator in
-    let size : length w ≡ c.in-Some.item.end - c.in-Some.item.start = omega (arith, c.range-piece.ensures.len, gives.forward) in
-    ap has_escape (ap₂ (λ n v. take n v) size c.range_from.ensures.value ∙ sym c.range-piece.ensures.value) ∙ no_escape-text (drop s.offset s.text) w (pieces_left c.next.new.self) first
+next_start-ahead-requires-clause-plain c = grind (arith, gives_text, no_escape-text)
 
 -- what is left of the run goes on after the cut
 pub invariant_of-result : goal.invariant_of-result

@@ -3,9 +3,7 @@ use Rattle.ansi_search.proofs.WindowLemmas.{reached-mismatch, passed-in-run, ahe
 use Rattle.ansi_search.proofs.search.two_way.Pattern.after_mismatch.Goals as goal
 
 pub overflow_add-begin : goal.overflow_add-begin
-overflow_add-begin c =
-    let within : c.args.self.now.rare ≤ c.args.self.now.cut.at = c.args.self.now.rare_within in
-    omega (arith, within, c.requires.comes.cut, c.requires.inside, c.requires.run.fits, length-plain c.args.text.now, c.well_formed.1.0, c.min.ensures, c.requires.bytes.fits, c.if-place-here.false)
+overflow_add-begin c = grind (arith, length-plain)
 
 -- the rare byte would stand in an earlier run
 pub returns-then-place-here : goal.returns-then-place-here

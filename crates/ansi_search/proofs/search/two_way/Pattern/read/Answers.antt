@@ -18,18 +18,7 @@ loop-window-preserved-then-run-at c =
 
 -- what follows the cut stands, and what stands before it
 pub returns-then-front_stands : goal.returns-then-front_stands
-returns-then-front_stands c =
-    let x = plain c.args.text.now in
-    let p = c.args.self.now.bytes.now in
-    let w = c.loop-window.window in
-    let comes = c.loop-window.invariant.comes in
-    let is_cut : IsCut p c.args.self.now.cut = c.args.self.now.is_cut in
-    let last : length p ≤ w.met + 1 = omega (arith, c.if-window-self.false) in
-    let meets = meets-last c.args.run.now c.args.here.position comes c.requires.run c.loop-window.invariant.place c.loop-window-test.true c.if-run-at.false last in (
-      comes.reached,
-      stands-both x p w.position w.low c.args.self.now.cut.at meets comes.low (omega (arith, is_cut.below)) (sym c.front_stands.ensures ∙ c.if-front_stands.true)
-          (omega (arith, last, c.loop-window-test.true, c.requires.run.fits)),
-    )
+returns-then-front_stands c = grind (arith, meets-last, stands-both)
 
 -- or it doesn't
 pub loop-window-preserved : goal.loop-window-preserved
