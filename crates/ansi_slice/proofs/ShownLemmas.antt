@@ -9,7 +9,7 @@ at_places test ms = filter (λ (m : Mark). test m.place) ms
 
 pub at_places-further : (test : ℕ → Bool) (n : ℕ) (ms : List Mark) → at_places test (map (further n) ms) ≡ map (further n) (at_places (λ p. test (n + p)) ms)
 at_places-further test n [] = refl
-at_places-further test n (m ∷ ms) = grind (arith, further, at_places-further test n ms)
+at_places-further test n (m ∷ ms) = grind (arith, at_places-further test n ms)
 
 -- a piece, where the test passes
 abbrev pub piece_when : Bool → Piece → List Piece
@@ -31,7 +31,7 @@ spelled-one_text (b ∷ w) = append-nil (b ∷ w)
 -- a mark at the front
 shown-mark : (p : Piece) (test : ℕ → Bool) (x : List ℕ) (a b : ℕ) (ms : List Mark)
     → spelled (piece_when (test 0) p) ++ show x a b (at_places test ms) ≡ show x a b (at_places test (record { place = 0; bytes = spelling p } ∷ ms))
-shown-mark p test x a b ms = grind (arith, append-nil, show-mark, spelled)
+shown-mark p test x a b ms = grind (arith, append-nil, show-mark)
 
 pub spelled-shown_pieces : (ps : List Piece) (test : ℕ → Bool) (a b : ℕ) → spelled (shown_pieces test a b ps) ≡ show (plain_of ps) a b (at_places test (marks_of ps))
 spelled-shown_pieces [] test a b = sym (show-nil a b)
@@ -63,8 +63,8 @@ one_text_stands w all = grind arith
 
 pub shown_pieces_stand : (ps : List Piece) (test : ℕ → Bool) (a b : ℕ) → AllStandAnywhere ps → AllStandAnywhere (shown_pieces test a b ps)
 shown_pieces_stand [] test a b all = tt
-shown_pieces_stand (Text w ∷ ps) test a b all = grind (arith, one_text, one_text_stands, plain-slice_range, stand-append, shown_pieces_stand ps (λ p. test (length w + p)) (a - length w) (b - length w) all.1)
-shown_pieces_stand (Sequence w ∷ ps) test a b all = grind (arith, AllStandAnywhere, stand-append, shown_pieces_stand ps test a b all.1)
+shown_pieces_stand (Text w ∷ ps) test a b all = grind (arith, one_text_stands, plain-slice_range, stand-append, shown_pieces_stand ps (λ p. test (length w + p)) (a - length w) (b - length w) all.1)
+shown_pieces_stand (Sequence w ∷ ps) test a b all = grind (arith, stand-append, shown_pieces_stand ps test a b all.1)
 shown_pieces_stand (LoneEscape ∷ ps) test a b all = absurd all.0
 
 -- The style after them is that after the marks that are shown.
@@ -80,13 +80,13 @@ style_through-mark p s false ms is = refl
 
 pub style_through-shown_pieces : (ps : List Piece) (s : Rendition) (test : ℕ → Bool) (a b : ℕ) → style_through s (shown_pieces test a b ps) ≡ after_marks s (at_places test (marks_of ps))
 style_through-shown_pieces [] s test a b = refl
-style_through-shown_pieces (Text w ∷ ps) s test a b = grind (arith, after_marks-further, at_places-further, marks_of-text, one_text, style_through, style_through-append, style_through-one_text, style_through-shown_pieces ps s (λ p. test ((length w) + p)) (a - (length w)) (b - (length w)))
+style_through-shown_pieces (Text w ∷ ps) s test a b = grind (arith, after_marks-further, at_places-further, marks_of-text, style_through-append, style_through-one_text, style_through-shown_pieces ps s (λ p. test (length w + p)) (a - length w) (b - length w))
 style_through-shown_pieces (Sequence w ∷ ps) s test a b =
     style_through-append s (piece_when (test 0) (Sequence w)) (shown_pieces test a b ps)
     ∙ style_through-shown_pieces ps (style_through s (piece_when (test 0) (Sequence w))) test a b
     ∙ style_through-mark (Sequence w) s (test 0) (at_places test (marks_of ps)) refl
     ∙ ap (λ ms. after_marks s (at_places test ms)) (sym (marks_of-sequence w ps))
-style_through-shown_pieces (LoneEscape ∷ ps) s test a b = grind (arith, marks_of-lone, style_through, style_through-append, style_through-mark, style_through-shown_pieces ps (style_through s (piece_when (test 0) LoneEscape)) test a b)
+style_through-shown_pieces (LoneEscape ∷ ps) s test a b = grind (arith, marks_of-lone, style_through-append, style_through-mark, style_through-shown_pieces ps (style_through s (piece_when (test 0) LoneEscape)) test a b)
 
 -- Where each mark before the end is shown, the styled bytes are the slice.
 
@@ -97,9 +97,9 @@ styled_through-one_text s (b ∷ w) = append-nil (in_style s (b ∷ w))
 -- an end that isn't after the start shows no byte
 styled_through-shown_none : (ps : List Piece) (s : Rendition) (test : ℕ → Bool) (a b : ℕ) → b ≤ a → styled_through s (shown_pieces test a b ps) ≡ []
 styled_through-shown_none [] s test a b none = refl
-styled_through-shown_none (Text w ∷ ps) s test a b none = grind (arith, one_text, slice_range-none, styled_through, styled_through-shown_none ps s (λ p. test (length w + p)) (a - length w) (b - length w) (omega arith))
-styled_through-shown_none (Sequence w ∷ ps) s test a b none = grind (arith, styled_through, styled_through-shown_none ps (apply s w) test a b none, styled_through-shown_none ps s test a b none)
-styled_through-shown_none (LoneEscape ∷ ps) s test a b none = grind (arith, styled_through, styled_through-shown_none ps s test a b none)
+styled_through-shown_none (Text w ∷ ps) s test a b none = grind (arith, slice_range-none, styled_through-shown_none ps s (λ p. test (length w + p)) (a - length w) (b - length w) (omega arith))
+styled_through-shown_none (Sequence w ∷ ps) s test a b none = grind (arith, styled_through-shown_none ps (apply s w) test a b none, styled_through-shown_none ps s test a b none)
+styled_through-shown_none (LoneEscape ∷ ps) s test a b none = grind (arith, styled_through-shown_none ps s test a b none)
 
 pub styled_through-shown_pieces : (ps : List Piece) (s : Rendition) (test : ℕ → Bool) (a b : ℕ) → ((p : ℕ) → p < b → test p ≡ true)
     → styled_through s (shown_pieces test a b ps) ≡ slice_range (styled_through s ps) a b
