@@ -15,21 +15,21 @@ unfoldable pub use Rattle.std.specs.Char.{encode_utf8}
 pub use Rattle.std.specs.Cmp.{both_ways}
 pub use Rattle.std.specs.Cmp.Lexicographic.{pointwise, same_text}
 pub use Rattle.std.specs.List.{ends_with, list_all, range_with_len, slice_range, starts_with}
-pub use Rattle.std.specs.Prelude.{IfSome, encode_utf8_all, unwrap_or}
-pub use Rattle.std.specs.Str.{IsCharBoundary, IsUtf8, bytes_eq}
+pub use Rattle.std.specs.Prelude.{IfSome, unwrap_or}
+pub use Rattle.std.specs.Str.{IsCharBoundary, IsUtf8}
 pub use Rattle.std.specs.Str.Pattern.{FindsText, HasTextAt, LacksTextAt, MatchBeginsAt}
 pub use Rattle.memchr.proofs.lemmas.CriticalLemmas.{IsCutPlace-of, NoPeriodBelow-least, NoPeriodBelow-rest}
 pub use Rattle.memchr.proofs.lemmas.FindLemmas.{IsFirst-agree, IsFirst-wider, Nowhere-then, OccursAt-byte, byte-OccursAt}
 pub use Rattle.memchr.proofs.lemmas.MatchLemmas.{OccursAt-from_part, OccursAt-split}
 pub use Rattle.memchr.proofs.lemmas.SearchLemmas.{Nowhere-left, Nowhere-right, known-next}
-pub use Rattle.memchr.proofs.lemmas.SuffixLemmas.{IsScan, IsScan-accept, IsScan-block, IsScan-end, IsScan-push, IsScan-skip, IsScan-start}
+pub use Rattle.memchr.proofs.lemmas.SuffixLemmas.{IsScan, IsScan-accept, IsScan-block, IsScan-end, IsScan-push, IsScan-skip}
 pub use Rattle.memchr.specs.Critical.{IsCutPlace, IsPeriod}
 pub use Rattle.memchr.specs.Find.{FindsNeedle, IsFirst, Nowhere, OccursAt, Passes, is_byte}
 pub use Rattle.memchr.specs.TwoWay.{OccursIn}
 pub use Rattle.ansi_items.proofs.JoinLemmas.{after_text_are, spelled}
 pub use Rattle.ansi_items.proofs.PieceLemmas.{pieces_are, pieces_of-unique}
 pub use Rattle.ansi_items.proofs.PlainLemmas.{all_plain_bytes, length-plain, plain-bare}
-pub use Rattle.ansi_items.proofs.StepLemmas.{BeginsWithMark, gives_mark, gives_rest, gives_text, is_mark, is_text, plain_of-mark}
+pub use Rattle.ansi_items.proofs.StepLemmas.{BeginsWithMark, gives_mark, gives_text, is_mark, is_text, plain_of-mark}
 pub use Rattle.ansi_items.proofs.Utf8Lemmas.{IsUtf8-plain}
 pub use Rattle.ansi_items.specs.Bytes.{escape, is_plain_byte}
 pub use Rattle.ansi_items.specs.Pieces.{ArePieces, LoneEscape, Piece, Sequence, Text, after_text, pieces_of, spelling}
@@ -44,7 +44,6 @@ pub use Rattle.ansi_style.specs.Reading.{style_within}
 pub use Rattle.ansi_style.specs.Sgr.{apply}
 pub use Rattle.ansi_style.specs.States.{rendition_of}
 pub use Rattle.ansi_style.specs.declared.state.rendition.Rendition.{Rendition}
-pub use Prim.Native.String.{String}
 pub use Rattle.ansi_search.specs.Offsets.{StandsIn, bytes_before, offset_of}
 pub use Rattle.ansi_search.specs.Matches.{first_match_from, is_match}
 pub use Rattle.ansi_search.specs.Positions.{is_char_boundary, is_continuation_byte, is_good_position, is_good_range, is_position_in, is_range_in}

@@ -148,7 +148,7 @@ way-text way over within next_is = grind (arith, bytes_before-text, is_good_posi
 
 pub way-mark : {t : List ℕ} {n passed at left : ℕ} {start style next : Rendition} {kind : Kind} {w : List ℕ} {old ps : List Piece} → IsOnTheWay t n start passed left style old → IsOverMark kind t w passed at old ps
     → next ≡ apply style w → IsOnTheWay t n start at left next ps
-way-mark way over next_is = grind (arith, bytes_before-mark, is_mark, plain_of-mark, style_by_marks, style_by_marks-lone, style_by_marks-sequence)
+way-mark way over next_is = grind (arith, bytes_before-mark, plain_of-mark, style_by_marks-lone, style_by_marks-sequence)
 
 -- the byte stands in the text that comes next, or there is none
 pub way-last : {t : List ℕ} {n passed at left : ℕ} {start style : Rendition} {w : List ℕ} {old ps : List Piece} → IsOnTheWay t n start passed left style old → IsOverText t w passed at old ps → left < length w
@@ -205,7 +205,7 @@ passed-text {t} {place} {passed} {w = w} {ps = ps} way over =
     }
 
 pub passed-mark : {t : List ℕ} {place passed at : ℕ} {kind : Kind} {w : List ℕ} {left ps : List Piece} → IsPassed t place passed left → IsOverMark kind t w passed at left ps → IsPassed t place at ps
-passed-mark way over = grind (arith, bytes_before-mark, is_mark, plain_of-mark)
+passed-mark way over = grind (arith, bytes_before-mark, plain_of-mark)
 
 -- a place in what follows a place that was passed
 pub stands-after : {t rest : List ℕ} {place passed n i : ℕ} → IsPassed t place passed (pieces_of rest) → rest ≡ drop passed t → passed ≤ length t → StandsIn rest n i → StandsIn t (place + n) (passed + i)

@@ -1,16 +1,16 @@
 -- The names that most proofs here cite, passed on from one place.
-pub use Rattle.std.proofs.Common.{Bool, Err, IsFalse, IsTrue, List, None, Ok, OnOk, Option, Result, Some, [], ap, append-nil, append_assoc, ap₂, arith, codes, cond, drop, false, filter, flat_map, if◌then◌else◌, inl, inr, is_ok, length, length-append, map, nat_eq, nat_le, nat_lt, not, refl, rules, string_bytes, subst, suc, sym, take, take-add, true, zero, ℕ, ◌&&◌, ◌*◌, ◌++◌, ◌+◌, ◌-◌, ◌<◌, ◌==◌, ◌∙◌, ◌∷◌, ◌≡◌, ◌≢◌, ◌≤◌, ◌⊎◌}
+pub use Rattle.std.proofs.Common.{Bool, IsFalse, IsTrue, List, None, Option, Some, [], ap, append-nil, append_assoc, ap₂, arith, codes, cond, drop, false, filter, flat_map, if◌then◌else◌, inl, inr, length, length-append, map, nat_eq, nat_le, nat_lt, not, refl, string_bytes, subst, suc, sym, take, take-add, true, zero, ℕ, ◌&&◌, ◌*◌, ◌++◌, ◌+◌, ◌-◌, ◌<◌, ◌==◌, ◌∙◌, ◌∷◌, ◌≡◌, ◌≢◌, ◌≤◌}
 pub use Rattle.std.proofs.Math.Seq.{drop-append_seam, drop-nil, take-append_seam, take-nil}
 pub use Rattle.std.proofs.lemmas.Bool.{and_parts, cases_lt, cond-false, cond_both, eqb-false, eqb-true, le-leb, le-ltb, lt-leb, lt-ltb, ne_eqb}
 pub use Rattle.std.proofs.lemmas.Bool.Decides.{Decides-eqb, nat_tests}
 pub use Rattle.std.proofs.lemmas.Grind.{flat_map-append}
 pub use Rattle.std.proofs.lemmas.List.{drop-drop, drop-map, drop_all, drop_min, length-drop, length-map, length-take, take-append-drop, take-append-le, take-map, take_all, take_min}
 pub use Rattle.std.proofs.lemmas.Slice.Eq.{ends_is}
-pub use Rattle.std.proofs.lemmas.Str.{IsCharBoundary-at_seam, IsCharBoundary-end, IsCharBoundary-from_drop, IsCharBoundary-from_take, IsCharBoundary-start, IsUtf8-append, IsUtf8-drop, IsUtf8-take, chars-append, chars-encodes, chars-nil, encodes-append, encodes-chars, length-le-encodes}
+pub use Rattle.std.proofs.lemmas.Str.{IsCharBoundary-at_seam, IsCharBoundary-from_drop, IsCharBoundary-from_take, IsUtf8-append, IsUtf8-drop, IsUtf8-take, chars-append, chars-encodes, chars-nil, encodes-append, encodes-chars, length-le-encodes}
 pub use Rattle.std.specs.Char.{is_whitespace}
 unfoldable pub use Rattle.std.specs.Char.{encode_utf8}
 unfoldable pub use Rattle.std.specs.Fmt.{digits}
-pub use Rattle.std.specs.List.{ends_with, list_all, list_any, range_with_len, slice_range, starts_with}
+pub use Rattle.std.specs.List.{ends_with, list_all, range_with_len, slice_range, starts_with}
 pub use Rattle.std.specs.Prelude.{encode_utf8_all, unwrap_or}
 pub use Rattle.std.specs.Str.{IsCharBoundary, IsUtf8, all_scalars, drop_trailing_whitespace, skip_leading_whitespace, trim}
 unfoldable pub use Rattle.std.specs.Str.{chars, trim_end, trim_start}
@@ -18,7 +18,7 @@ pub use Rattle.std.specs.Str.Pattern.{FindsTextPrefix, FindsTextSuffix, StripsPr
 pub use Rattle.ansi_items.proofs.JoinLemmas.{AllStandAnywhere, is_whole-spelled, pieces_stand, spelled, spelled-pieces_of, stand-append}
 pub use Rattle.ansi_items.proofs.PieceLemmas.{pieces_are, pieces_of-unique}
 pub use Rattle.ansi_items.proofs.PlainLemmas.{length-plain, one_text, pieces_of-bare, plain-bare}
-pub use Rattle.ansi_items.proofs.StepLemmas.{BeginsWithMark, gives_mark, gives_text, is_mark, is_text, plain_of-mark}
+pub use Rattle.ansi_items.proofs.StepLemmas.{BeginsWithMark, gives_text, is_mark, is_text, plain_of-mark}
 pub use Rattle.ansi_items.proofs.Utf8Lemmas.{IsUtf8-plain}
 pub use Rattle.ansi_items.specs.Bytes.{escape, is_plain_byte}
 pub use Rattle.ansi_items.specs.Pieces.{ArePieces, LoneEscape, Piece, Sequence, Text, pieces_of, spelling}
@@ -27,7 +27,6 @@ pub use Rattle.ansi_items.specs.Scans.{Gives, Scan, pieces_left}
 pub use Rattle.ansi_items.specs.Sequences.{is_sgr}
 pub use Rattle.ansi_items.specs.declared.ansitok.Item.{Item}
 pub use Rattle.ansi_items.specs.declared.ansitok.Kind.{Kind}
-pub use Rattle.ansi_items.specs.declared.ansitok.Kind.TheVariants.{Sgr}
 pub use Rattle.ansi_style.proofs.CloseLemmas.{close_codes_clear}
 pub use Rattle.ansi_style.proofs.DressedLemmas.{GiveAlone, IsClosed, closed-spelled, dressed_pieces, dressed_pieces_give, dressed_pieces_stand, give-append, give-nothing, spelled-dressed_pieces}
 pub use Rattle.ansi_style.proofs.MarkLemmas.{after_marks-further, bytes-further, further, map-further-0, map-further-suc, marks-bare, marks_of-lone, marks_of-sequence, marks_of-text, style_by_marks, style_by_marks-before, style_by_marks-lone, style_by_marks-sequence, style_by_marks-text, up_to-further, up_to-here, up_to-none}
@@ -43,7 +42,6 @@ pub use Rattle.ansi_style.specs.States.{rendition_of}
 pub use Rattle.ansi_style.specs.Styled.{StyledByte, bytes_of, residue, style_at, style_of, styled}
 pub use Rattle.ansi_style.specs.Written.{close, close_codes, longest_close, longest_start, longest_start_and_close, start}
 pub use Rattle.ansi_style.specs.declared.state.rendition.Rendition.{Rendition}
-pub use Prim.Native.String.{String}
 pub use Rattle.ansi_slice.specs.Cut.{cut_up_to, show, shown_at}
 unfoldable pub use Rattle.ansi_slice.specs.Cut.{cut}
 pub use Rattle.ansi_slice.specs.Kept.{IsKept, trim_interval, trimmed, without_prefix, without_suffix}

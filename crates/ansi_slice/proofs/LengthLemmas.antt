@@ -21,9 +21,9 @@ length-spelled ps qs = ap length (flat_map-append spelling ps qs) ∙ length-app
 -- what is shown of pieces is no longer than they are
 pub length-shown_pieces : (ps : List Piece) (test : ℕ → Bool) (a b : ℕ) → length (spelled (shown_pieces test a b ps)) ≤ length (spelled ps)
 length-shown_pieces [] test a b = omega arith
-length-shown_pieces (Text w ∷ ps) test a b = grind (arith, length-append, length-one_text, length-slice_range, length-spelled, one_text, shown_pieces, spelled, length-shown_pieces ps (λ p. test (length w + p)) (a - length w) (b - length w))
-length-shown_pieces (Sequence w ∷ ps) test a b = grind (arith, length-append, shown_pieces, spelled, length-shown_pieces ps test a b)
-length-shown_pieces (LoneEscape ∷ ps) test a b = grind (arith, shown_pieces, spelled, length-shown_pieces ps test a b)
+length-shown_pieces (Text w ∷ ps) test a b = grind (arith, length-append, length-one_text, length-slice_range, length-spelled, length-shown_pieces ps (λ p. test (length w + p)) (a - length w) (b - length w))
+length-shown_pieces (Sequence w ∷ ps) test a b = grind (arith, length-append, length-shown_pieces ps test a b)
+length-shown_pieces (LoneEscape ∷ ps) test a b = grind (arith, length-shown_pieces ps test a b)
 
 pub length-close : (s : Rendition) → length (close s) ≤ longest_close
 length-close s = (close_codes_are s).short
@@ -87,13 +87,13 @@ text_count ps = length (filter is_text ps)
 
 sides_len-first : (mid n : ℕ) (s : Rendition) (p : Piece) (ps : List Piece)
     → sides_len mid n s (p ∷ ps) ≡ length (left_part mid n s p) + length (right_part mid n s p) + sides_len mid (n + length (plain_bytes p)) (style_past s p) ps
-sides_len-first mid n s p ps = grind (arith, length-append, style_past, walked)
+sides_len-first mid n s p ps = grind (arith, length-append)
 
 -- after the position each text is dressed once
 length-sides_past : (mid n : ℕ) (s : Rendition) (ps : List Piece) → IsStyle s → mid ≤ n → sides_len mid n s ps ≤ length (spelled ps) + longest_start_and_close * text_count ps
 length-sides_past mid n s [] is past = omega arith
-length-sides_past mid n s (Text w ∷ ps) is past = grind (arith, dressed-nothing, length-append, length-dressed, length-drop, length-take, sides_len-first, spelled, length-sides_past mid (n + length w) s ps is (omega arith))
-length-sides_past mid n s (Sequence w ∷ ps) is past = grind (arith, IsStyle-apply, copied_once, length-append, sides_len-first, spelled, length-sides_past mid (n + 0) (apply s w) ps (IsStyle-apply s w is) (omega arith))
+length-sides_past mid n s (Text w ∷ ps) is past = grind (arith, dressed-nothing, length-append, length-dressed, length-drop, length-take, sides_len-first, length-sides_past mid (n + length w) s ps is (omega arith))
+length-sides_past mid n s (Sequence w ∷ ps) is past = grind (arith, IsStyle-apply, copied_once, length-append, sides_len-first, length-sides_past mid (n + 0) (apply s w) ps (IsStyle-apply s w is) (omega arith))
 length-sides_past mid n s (LoneEscape ∷ ps) is past = grind (arith, copied_once, sides_len-first, length-sides_past mid (n + 0) s ps is (omega arith))
 
 -- before it, one text more is dressed: the one that the position divides
@@ -112,7 +112,7 @@ length-sides_from mid n s (Text w ∷ ps) is =
           let none : length (drop (mid - n) w) ≡ 0 = omega (arith, before, length-drop (mid - n) w) in
           omega (arith, later, first, left, dressed-nothing s (drop (mid - n) w) none, length-take (mid - n) w, length-append w (spelled ps)))
     ]
-length-sides_from mid n s (Sequence w ∷ ps) is = grind (arith, IsStyle-apply, copied_once, length-append, sides_len-first, spelled, length-sides_from mid (n + 0) (apply s w) ps (IsStyle-apply s w is))
+length-sides_from mid n s (Sequence w ∷ ps) is = grind (arith, IsStyle-apply, copied_once, length-append, sides_len-first, length-sides_from mid (n + 0) (apply s w) ps (IsStyle-apply s w is))
 length-sides_from mid n s (LoneEscape ∷ ps) is = grind (arith, copied_once, sides_len-first, length-sides_from mid (n + 0) s ps is)
 
 pub length-sides : (t : List ℕ) (mid : ℕ) → length (left_side t mid) + length (right_side t mid) ≤ length t + longest_start_and_close * (length (filter is_text (pieces_of t)) + 1)

@@ -23,7 +23,7 @@ joined-at_place-0 (m ∷ ms) = (let apart : (1 + m.place == 0) ≡ false = grind
 
 joined-at_place-suc : (i : ℕ) (ms : List Mark) → joined (at_place (i + 1) (map (further 1) ms)) ≡ joined (at_place i ms)
 joined-at_place-suc i [] = refl
-joined-at_place-suc i (m ∷ ms) = grind (arith, further, joined-at_place-suc i ms)
+joined-at_place-suc i (m ∷ ms) = grind (arith, joined-at_place-suc i ms)
 
 -- One byte of text at the front.
 

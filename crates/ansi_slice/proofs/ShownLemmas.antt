@@ -12,7 +12,7 @@ at_places test ms = filter (λ (m : Mark). test m.place) ms
 
 pub at_places-further : (test : ℕ → Bool) (n : ℕ) (ms : List Mark) → at_places test (map (further n) ms) ≡ map (further n) (at_places (λ p. test (n + p)) ms)
 at_places-further test n [] = refl
-at_places-further test n (m ∷ ms) = grind (arith, further, at_places-further test n ms)
+at_places-further test n (m ∷ ms) = grind (arith, at_places-further test n ms)
 
 -- a piece, where the test passes
 abbrev pub piece_when : Bool → Piece → List Piece
@@ -34,7 +34,7 @@ spelled-one_text (b ∷ w) = append-nil (b ∷ w)
 -- a mark at the front
 shown-mark : (p : Piece) (test : ℕ → Bool) (x : List ℕ) (a b : ℕ) (ms : List Mark)
     → spelled (piece_when (test 0) p) ++ show x a b (at_places test ms) ≡ show x a b (at_places test (record { place = 0; bytes = spelling p } ∷ ms))
-shown-mark p test x a b ms = grind (arith, append-nil, show-mark, spelled)
+shown-mark p test x a b ms = grind (arith, append-nil, show-mark)
 
 pub spelled-shown_pieces : (ps : List Piece) (test : ℕ → Bool) (a b : ℕ) → spelled (shown_pieces test a b ps) ≡ show (plain_of ps) a b (at_places test (marks_of ps))
 spelled-shown_pieces [] test a b = sym (show-nil a b)
@@ -66,8 +66,8 @@ one_text_stands w all = grind arith
 
 pub shown_pieces_stand : (ps : List Piece) (test : ℕ → Bool) (a b : ℕ) → AllStandAnywhere ps → AllStandAnywhere (shown_pieces test a b ps)
 shown_pieces_stand [] test a b all = tt
-shown_pieces_stand (Text w ∷ ps) test a b all = grind (arith, one_text, one_text_stands, plain-slice_range, stand-append, shown_pieces_stand ps (λ p. test (length w + p)) (a - length w) (b - length w) all.1)
-shown_pieces_stand (Sequence w ∷ ps) test a b all = grind (arith, AllStandAnywhere, stand-append, shown_pieces_stand ps test a b all.1)
+shown_pieces_stand (Text w ∷ ps) test a b all = grind (arith, one_text_stands, plain-slice_range, stand-append, shown_pieces_stand ps (λ p. test (length w + p)) (a - length w) (b - length w) all.1)
+shown_pieces_stand (Sequence w ∷ ps) test a b all = grind (arith, stand-append, shown_pieces_stand ps test a b all.1)
 shown_pieces_stand (LoneEscape ∷ ps) test a b all = absurd all.0
 
 -- What is read of them, from a state that sequences change.

@@ -26,4 +26,4 @@ left_side-bare t mid none = left_side-walked t mid ∙ ap (walked (left_part mid
         append-nil (dressed plain_style (take (mid - 0) (b ∷ x))) ∙ dressed-plain_style (take (mid - 0) (b ∷ x)) ∙ ap (λ n. take n (b ∷ x)) all
 
 pub right_side-bare : (t : List ℕ) (mid : ℕ) → IsFalse (has_escape t) → right_side t mid ≡ drop mid t
-right_side-bare t mid none = grind (arith, append-nil, dressed-plain_style, drop-nil, one_text, pieces_of-bare, right_side-walked, walked)
+right_side-bare t mid none = grind (arith, append-nil, dressed-plain_style, drop-nil, pieces_of-bare, right_side-walked)

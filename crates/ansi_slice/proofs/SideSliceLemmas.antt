@@ -10,7 +10,7 @@ abbrev dressed_text : Rendition → List ℕ → List Piece
 dressed_text s w = if length w == 0 then [] else dressed_pieces s (Text w ∷ []) (close_codes s)
 
 spelled-dressed_text : (s : Rendition) (w : List ℕ) → spelled (dressed_text s w) ≡ dressed s w
-spelled-dressed_text s w = grind (arith, append-nil, dressed_pieces, spelled, spelled-dressed_pieces)
+spelled-dressed_text s w = grind (arith, append-nil, spelled-dressed_pieces)
 
 dressed_text_gives : (s : Rendition) (w : List ℕ) → IsStyle s → GiveAlone (dressed_text s w) (in_style s w)
 dressed_text_gives s [] is = give-nothing
@@ -72,7 +72,7 @@ side_pieces_give pick among picks test mid (LoneEscape ∷ ps) n s is =
 side_pieces_stand : (pick : ℕ → List ℕ → List ℕ) (among : ℕ → List StyledByte → List StyledByte) → Picks pick among → (test : ℕ → Bool) (mid : ℕ) (ps : List Piece) (n : ℕ) (s : Rendition) → IsStyle s
     → AllStandAnywhere ps → AllStandAnywhere (walked (side_pieces pick test mid) n s ps)
 side_pieces_stand pick among picks test mid [] n s is all = tt
-side_pieces_stand pick among picks test mid (Text w ∷ ps) n s is all = grind (arith, dressed_text_stands, stand-append, walked, side_pieces_stand pick among picks test mid ps (n + length w) s is all.1)
+side_pieces_stand pick among picks test mid (Text w ∷ ps) n s is all = grind (arith, dressed_text_stands, stand-append, side_pieces_stand pick among picks test mid ps (n + length w) s is all.1)
 side_pieces_stand pick among picks test mid (Sequence w ∷ ps) n s is all =
     stand-append (side_pieces pick test mid n s (Sequence w)) (walked (side_pieces pick test mid) (n + 0) (apply s w) ps)
     (cond_both (test n) (if is_sgr w then [] else Sequence w ∷ []) [] AllStandAnywhere
@@ -84,7 +84,7 @@ side_pieces_stand pick among picks test mid (LoneEscape ∷ ps) n s is all = abs
 spelled-walked : (pieces : ℕ → Rendition → Piece → List Piece) (bytes : ℕ → Rendition → Piece → List ℕ) → ((n : ℕ) (s : Rendition) (p : Piece) → spelled (pieces n s p) ≡ bytes n s p)
     → (ps : List Piece) (n : ℕ) (s : Rendition) → spelled (walked pieces n s ps) ≡ walked bytes n s ps
 spelled-walked pieces bytes same [] n s = refl
-spelled-walked pieces bytes same (p ∷ ps) n s = grind (arith, flat_map-append, style_past, walked, spelled-walked pieces bytes same ps (n + length (plain_bytes p)) (style_past s p))
+spelled-walked pieces bytes same (p ∷ ps) n s = grind (arith, flat_map-append, spelled-walked pieces bytes same ps (n + length (plain_bytes p)) (style_past s p))
 
 is_side : (pick : ℕ → List ℕ → List ℕ) (among : ℕ → List StyledByte → List StyledByte) → Picks pick among → (test : ℕ → Bool) (part : ℕ → Rendition → Piece → List ℕ) (t : List ℕ) (mid : ℕ)
     → ((n : ℕ) (s : Rendition) (p : Piece) → spelled (side_pieces pick test mid n s p) ≡ part n s p) → IsTrue (is_whole t)
@@ -116,7 +116,7 @@ drop_picks = record {
 }
 
 spelled-mark : (goes : Bool) (p : Piece) → spelled (if goes then (if is_sgr (spelling p) then [] else p ∷ []) else []) ≡ (if goes then copied p else [])
-spelled-mark goes p = grind (arith, append-nil, spelled)
+spelled-mark goes p = grind (arith, append-nil)
 
 turned : (b : Bool) (v : List ℕ) → (if not b then v else []) ≡ (if b then [] else v)
 turned true v = refl

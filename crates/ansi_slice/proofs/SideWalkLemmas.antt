@@ -66,8 +66,8 @@ right-walk mid n top s (Text w ∷ ps) within fits =
           ∙ ap (λ i. side_up_to (style_by_marks s ps i) top (after_of i ps)) rest
           ∙ sym (ap₂ (λ r qs. side_up_to r top qs) (style-text s k w ps all) (after_of-text k w ps all)))
     ]
-right-walk mid n top s (Sequence w ∷ ps) within fits = grind (arith, after_of, le-leb, style_by_marks, style_by_marks-sequence, right-walk mid (n + 0) top (apply s w) ps (omega arith) fits)
-right-walk mid n top s (LoneEscape ∷ ps) within fits = grind (arith, after_of, le-leb, style_by_marks, style_by_marks-lone, right-walk mid (n + 0) top s ps (omega arith) fits)
+right-walk mid n top s (Sequence w ∷ ps) within fits = grind (arith, le-leb, style_by_marks-sequence, right-walk mid (n + 0) top (apply s w) ps (omega arith) fits)
+right-walk mid n top s (LoneEscape ∷ ps) within fits = grind (arith, le-leb, style_by_marks-lone, right-walk mid (n + 0) top s ps (omega arith) fits)
 
 pub right_side-is : {t rest : List ℕ} {mid i top : ℕ} {style : Rendition} → StandsIn t mid i → rest ≡ drop i t → style ≡ style_within plain_style t mid → length t ≤ top
     → side_up_to style top (pieces_of rest) ≡ right_side t mid

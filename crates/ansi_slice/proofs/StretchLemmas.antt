@@ -122,7 +122,7 @@ range-by_offset ordered start rest_is = grind (arith, is_good_position-drop, le-
 
 -- what is kept from s on
 pub kept-front : (t : List ℕ) (s e : ℕ) → s ≤ e → kept t s e ≡ sequences_up_to s (pieces_of t) ++ kept (drop (offset_of t s) t) 0 (e - s)
-kept-front t s e ordered = grind (arith, kept-walk, pieces_of-after, shown_from, shown_from-front)
+kept-front t s e ordered = grind (arith, kept-walk, pieces_of-after, shown_from-front)
 
 -- all from s on
 pub kept-rest : {t rest : List ℕ} {s from : ℕ} → s ≤ length (plain t) → StandsIn t s from → rest ≡ drop from t → sequences_up_to s (pieces_of t) ++ rest ≡ kept t s (length (plain t))
@@ -130,7 +130,7 @@ kept-rest inside stands is = grind (arith, kept-all, kept-front, length-drop, pl
 
 -- what is kept up to e: all before its offset, and the sequences after that
 pub kept-stretch : (t : List ℕ) (e : ℕ) → kept t 0 e ≡ take (offset_of t e) t ++ kept (drop (offset_of t e) t) 0 0
-kept-stretch t e = grind (arith, kept-walk, pieces_of-after, shown_from, shown_from-stretch, spelled-pieces_of)
+kept-stretch t e = grind (arith, kept-walk, pieces_of-after, shown_from-stretch, spelled-pieces_of)
 
 -- so it is at a place in the text, and where that stands
 pub keeps-at : {t : List ℕ} {n i : ℕ} → StandsIn t n i → KeepsUpTo t n i
@@ -142,7 +142,7 @@ keeps-at {t} {n} stands = record {
 -- where no plain byte is kept, all sequences are
 shown_from-none : (ps : List Piece) (top : ℕ) → length (plain_of ps) ≤ top → shown_from true 0 0 ps ≡ sequences_up_to top ps
 shown_from-none [] top past = refl
-shown_from-none (Text w ∷ ps) top past = grind (arith, length-append, sequences_up_to-text, shown_from, shown_from-none ps (top - (length w)) (omega (arith, (length-append w (plain_of ps)), past)))
+shown_from-none (Text w ∷ ps) top past = grind (arith, length-append, sequences_up_to-text, shown_from-none ps (top - length w) (omega (arith, (length-append w (plain_of ps)), past)))
 shown_from-none (Sequence w ∷ ps) top past = ap (λ v. w ++ v) (shown_from-none ps top past)
 shown_from-none (LoneEscape ∷ ps) top past = ap (λ v. escape ∷ v) (shown_from-none ps top past)
 
@@ -163,7 +163,7 @@ pushed-text {whole} {written} {n} {next} {w} {old} {ps} so_far first within is =
 
 pub pushed-mark : {whole written new : List ℕ} {n : ℕ} {kind : Kind} {w : List ℕ} {old ps : List Piece} → IsPushedSoFar whole written n old → BeginsWithMark kind w old ps → new ≡ written ++ w
     → IsPushedSoFar whole new n ps
-pushed-mark so_far begins is = grind (arith, append_assoc, is_mark)
+pushed-mark so_far begins is = grind (arith, append_assoc)
 
 -- A place inside a text that comes next, or its end.
 

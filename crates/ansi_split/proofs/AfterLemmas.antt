@@ -73,7 +73,7 @@ past-up_to e ms =
 
 past-all : (e n : ℕ) (ms : List Mark) → e < n → past (Some e) (further_on n ms) ≡ further_on n ms
 past-all e n [] below = refl
-past-all e n (m ∷ ms) below = grind (arith, further, lt-ltb, past-all e n ms below)
+past-all e n (m ∷ ms) below = grind (arith, lt-ltb, past-all e n ms below)
 
 further_on-further_on : (a b : ℕ) (ms : List Mark) → further_on a (further_on b ms) ≡ further_on (a + b) ms
 further_on-further_on a b [] = refl

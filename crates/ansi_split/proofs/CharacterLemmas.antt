@@ -76,7 +76,7 @@ boundaries_from x (c ∷ cs) k scalars at end =
 
 all_taken : (f : ℕ → Bool) (n k e : ℕ) → e ≤ k → apart 0 e (filter f (range_with_len k n)) ≡ filter f (range_with_len k n)
 all_taken f zero k e from = refl
-all_taken f (suc n) k e from = grind (arith, le-leb, taken_with, all_taken f n (k + 1) (k + 0) (omega arith), all_taken f n (k + 1) e (omega (arith, from)))
+all_taken f (suc n) k e from = grind (arith, le-leb, all_taken f n (k + 1) (k + 0) (omega arith), all_taken f n (k + 1) e (omega (arith, from)))
 
 -- the intervals before, between and after these places
 abbrev intervals : List ℕ → ℕ → List ℕ → List (ℕ × ℕ)

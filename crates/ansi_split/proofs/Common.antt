@@ -1,10 +1,10 @@
 -- The names that most proofs here cite, passed on from one place.
-pub use Rattle.std.proofs.Common.{min, ◌≡◌, ◌≢◌, ℕ, zero, suc, ◌+◌, ◌-◌, ◌<◌, ◌≤◌, inl, inr, true, false, List, [], ◌∷◌, ◌++◌, length, map, take, drop, Some, refl, sym, ◌∙◌, ap, ap₂, subst, arith, IsTrue, if◌then◌else◌, nat_lt, nat_le, slice_index, slice_range, length-append, append_assoc, append-nil, Bool, filter, zip, true≢false, ◌/◌, ◌%◌, Option, None, option_map, slice_get, ◌||◌, ◌==◌, IsFalse, length-take, not, ◌&&◌, flat_map, is_some, filter_map, nat_eq, max, rules, string_bytes}
+pub use Rattle.std.proofs.Common.{min, ◌≡◌, ◌≢◌, ℕ, zero, suc, ◌+◌, ◌-◌, ◌<◌, ◌≤◌, inl, inr, true, false, List, [], ◌∷◌, ◌++◌, length, map, take, drop, Some, refl, sym, ◌∙◌, ap, ap₂, subst, arith, IsTrue, if◌then◌else◌, nat_lt, nat_le, slice_index, slice_range, length-append, append_assoc, append-nil, Bool, filter, zip, true≢false, ◌%◌, Option, None, option_map, slice_get, ◌||◌, ◌==◌, IsFalse, length-take, not, ◌&&◌, flat_map, is_some, filter_map, nat_eq, max, rules, string_bytes}
 pub use Rattle.std.specs.Str.{IsCharBoundary, IsUtf8, chars, encode_utf8_all, all_scalars}
 pub use Rattle.std.specs.List.{range_with_len, list_all, AllByRecursion, sum_by, cons_option, starts_with}
 pub use Rattle.std.specs.Str.Pattern.{LacksTextAt, HasTextAt, FindsText, IsSplitAtFirstMatch}
 unfoldable pub use Rattle.std.specs.Char.{encode_utf8}
-pub use Rattle.std.specs.Prelude.{IfSome, unwrap_or}
+pub use Rattle.std.specs.Prelude.{unwrap_or}
 pub use Rattle.std.specs.Option.{option_map_or, MatchOption}
 pub use Rattle.std.proofs.Math.Seq.{take-nil, take-append_seam, drop-append_seam, take-add}
 pub use Rattle.std.proofs.lemmas.Bool.{cases_lt, lt-ltb, le-ltb, cond_both, le-leb, lt-leb, and_parts, and_from, and_right, cond-true, cond-false, not_from_true, leb-true, eqb-true, or_parts, eq-eqb, ne_eqb, or_from, cases_order, eqb-false}
@@ -53,7 +53,7 @@ pub use Rattle.ansi_slice.proofs.CutLemmas.{up_to-past}
 pub use Rattle.ansi_search.proofs.OffsetLemmas.{bytes_before-last, bytes_before-text, after_of, after_of-last, after_of-text, take-after, pieces_of-after, plain-after, IsOverText, IsOverMark, over_text, over_mark}
 pub use Rattle.ansi_search.proofs.MatchLemmas.{boundary_at, IsMatch, is_match-drop, is_match-after, first_match_from-first, first_match_from-is, empty_at_end, none_at_end, match_fits, first_in_front, is_match-front, starts_with-splits}
 pub use Rattle.ansi_slice.proofs.ShownLemmas.{shown_pieces, piece_when, at_places, at_places-further, spelled-shown_pieces, shown_pieces_stand, style_through-shown_pieces, styled_through-shown_pieces}
-pub use Rattle.ansi_split.specs.Spans.{further_on, IsCutAfter, IsCutAtMatch, carried_from, parts_from, span_part, IsSpan}
+pub use Rattle.ansi_split.specs.Spans.{further_on, IsCutAfter, IsCutAtMatch, carried_from, parts_from, span_part}
 unfoldable pub use Rattle.ansi_split.specs.Spans.{part_from, parts_left, span_text}
 pub use Rattle.ansi_split.specs.StdSplit.{AreBetween, AreInTurn, slices_over, AreSplit, GoesOn}
 pub use Rattle.memchr.specs.Find.{NoneBefore, IsFirst, Nowhere, Passes, is_byte}

@@ -24,13 +24,13 @@ length-mark p false shown ms n within = within
 -- what is shown of pieces has no more than the bytes of the slice and the marks at these places
 length-shown_taken : (ps : List Piece) (test : ℕ → Bool) (a b : ℕ) → length (spelled (shown_pieces test a b ps)) ≤ length (slice_range (plain_of ps) a b) + length (joined (at_places test (marks_of ps)))
 length-shown_taken [] test a b = omega arith
-length-shown_taken (Text w ∷ ps) test a b = grind (arith, at_places, at_places-further, joined-further, length-append, length-one_text, length-spelled, marks_of-text, one_text, shown_pieces, slice_range-append, length-shown_taken ps (λ p. test ((length w) + p)) (a - (length w)) (b - (length w)))
+length-shown_taken (Text w ∷ ps) test a b = grind (arith, at_places-further, joined-further, length-append, length-one_text, length-spelled, marks_of-text, slice_range-append, length-shown_taken ps (λ p. test (length w + p)) (a - length w) (b - length w))
 length-shown_taken (Sequence w ∷ ps) test a b =
     let shown = shown_pieces test a b ps in
     let taken = slice_range (plain_of ps) a b in
     subst (λ ms. length (spelled (piece_when (test 0) (Sequence w) ++ shown)) ≤ length taken + length (joined (at_places test ms))) (sym (marks_of-sequence w ps))
     (length-mark (Sequence w) (test 0) shown (at_places test (marks_of ps)) (length taken) (length-shown_taken ps test a b))
-length-shown_taken (LoneEscape ∷ ps) test a b = grind (arith, at_places, length-mark, marks_of-lone, piece_when, shown_pieces, spelled, length-shown_taken ps test a b)
+length-shown_taken (LoneEscape ∷ ps) test a b = grind (arith, length-mark, marks_of-lone, length-shown_taken ps test a b)
 
 length-close_if_any : (s : Rendition) → length (close_if_any s) ≤ longest_close
 length-close_if_any s = cond_both (has_any s) (close s) [] (λ w. length w ≤ longest_close) (λ any. length-close s) (λ none. omega arith)
@@ -97,7 +97,7 @@ joined_once m fs gs hs a b c later one other = grind (arith, length-append, true
 joined_among : (f g h : ℕ → Bool) (ms : List Mark) → ((p : ℕ) → f p ≡ true → (g p ≡ false) × (h p ≡ true)) → ((p : ℕ) → g p ≡ true → h p ≡ true)
     → length (joined (at_places f ms)) + length (joined (at_places g ms)) ≤ length (joined (at_places h ms))
 joined_among f g h [] first second = omega arith
-joined_among f g h (m ∷ ms) first second = grind (arith, at_places, joined_once, joined_among f g h ms first second)
+joined_among f g h (m ∷ ms) first second = grind (arith, joined_once, joined_among f g h ms first second)
 
 -- the marks of a part, and those past its end, are among those past the end of the part before
 marks_of_one : (before : Option ℕ) (i : ℕ × ℕ) (ms : List Mark) → ComesAfter before i
@@ -135,7 +135,7 @@ shares_over t before (i ∷ is) come =
 
 length-pieces : (ps : List Piece) → length (spelled ps) ≡ length (plain_of ps) + length (joined (marks_of ps))
 length-pieces [] = refl
-length-pieces (Text w ∷ ps) = grind (arith, joined-further, length-append, marks_of-text, spelled, length-pieces ps)
+length-pieces (Text w ∷ ps) = grind (arith, joined-further, length-append, marks_of-text, length-pieces ps)
 length-pieces (Sequence w ∷ ps) =
     omega (arith, length-pieces ps, length-append w (spelled ps), ap (λ ms. length (joined ms)) (marks_of-sequence w ps), length-append w (joined (marks_of ps)))
 length-pieces (LoneEscape ∷ ps) = omega (arith, length-pieces ps, ap (λ ms. length (joined ms)) (marks_of-lone ps))

@@ -49,14 +49,14 @@ others-one_text (b ∷ w) = refl
 
 others-shown_pieces : (ps : List Piece) (test : ℕ → Bool) (a b c d : ℕ) → others (shown_pieces test a b ps) ≡ others (shown_pieces test c d ps)
 others-shown_pieces [] test a b c d = refl
-others-shown_pieces (Text w ∷ ps) test a b c d = grind (arith, filter-append, one_text, others-one_text, shown_pieces, others-shown_pieces ps (λ p. test ((length w) + p)) (a - (length w)) (b - (length w)) (c - (length w)) (d - (length w)))
-others-shown_pieces (p ∷ ps) test a b c d = grind (arith, filter-append, piece_when, shown_pieces, others-shown_pieces ps test a b c d)
+others-shown_pieces (Text w ∷ ps) test a b c d = grind (arith, filter-append, others-one_text, others-shown_pieces ps (λ p. test (length w + p)) (a - length w) (b - length w) (c - length w) (d - length w))
+others-shown_pieces (p ∷ ps) test a b c d = grind (arith, filter-append, others-shown_pieces ps test a b c d)
 
 -- where each place up to the end passes, they are all
 others-shown_all : (ps : List Piece) (test : ℕ → Bool) → ((p : ℕ) → p ≤ length (plain_of ps) → test p ≡ true) → others (shown_pieces test 0 0 ps) ≡ others ps
 others-shown_all [] test all = refl
-others-shown_all (Text w ∷ ps) test all = grind (arith, filter-append, length-append, one_text, others-one_text, others-shown_pieces, shown_pieces, others-shown_all ps (λ p. test ((length w) + p)) (λ p within. all ((length w) + p) (omega (arith, within, length-append w (plain_of ps)))))
-others-shown_all (p ∷ ps) test all = grind (arith, piece_when, shown_pieces, others-shown_all ps test all)
+others-shown_all (Text w ∷ ps) test all = grind (arith, filter-append, length-append, others-one_text, others-shown_pieces, others-shown_all ps (λ p. test (length w + p)) (λ p within. all (length w + p) (omega (arith, within, length-append w (plain_of ps)))))
+others-shown_all (p ∷ ps) test all = grind (arith, others-shown_all ps test all)
 
 -- In a part they are those that it shows.
 

@@ -11,7 +11,7 @@ use Rattle.ansi_split.proofs.IntervalLemmas.{ComesAfter}
 
 pub shown_pieces-nothing : (test : ℕ → Bool) (a b : ℕ) (ps : List Piece) → ((p : ℕ) → test p ≡ false) → b ≤ a → shown_pieces test a b ps ≡ []
 shown_pieces-nothing test a b [] never none = refl
-shown_pieces-nothing test a b (Text w ∷ ps) never none = grind (arith, one_text, slice_range-none, shown_pieces-nothing (λ p. test ((length w) + p)) (a - (length w)) (b - (length w)) ps (λ p. never ((length w) + p)) (omega arith))
+shown_pieces-nothing test a b (Text w ∷ ps) never none = grind (arith, slice_range-none, shown_pieces-nothing (λ p. test (length w + p)) (a - length w) (b - length w) ps (λ p. never (length w + p)) (omega arith))
 shown_pieces-nothing test a b (p ∷ ps) never none = ap₂ (λ c qs. piece_when c p ++ qs) (never 0) (shown_pieces-nothing test a b ps never none)
 
 -- places before k pass `early`, places from k on pass `late` where they pass `both`
@@ -63,7 +63,7 @@ shown_pieces-divided (Text w ∷ ps) k early late both c a b divides after =
           ap (λ qs. qs ++ (one_text (slice_range w a b) ++ ls)) none
           ∙ ap (λ qs. one_text (slice_range w a b) ++ qs) (ap (λ qs. qs ++ ls) (sym none) ∙ later))
     ]
-shown_pieces-divided (p ∷ ps) k early late both c a b divides after = grind (arith, mark-divided, shown_pieces, shown_pieces-nothing, shown_pieces-divided ps k early late both c a b divides after)
+shown_pieces-divided (p ∷ ps) k early late both c a b divides after = grind (arith, mark-divided, shown_pieces-nothing, shown_pieces-divided ps k early late both c a b divides after)
 
 -- So what is read of the latter, from the state after the former, is what is read of all.
 
@@ -114,7 +114,7 @@ at_places-never (m ∷ ms) = at_places-never ms
 -- a test of those that pass another
 pub at_places-at_places : (f g : ℕ → Bool) (ms : List Mark) → at_places f (at_places g ms) ≡ at_places (λ p. g p && f p) ms
 at_places-at_places f g [] = refl
-at_places-at_places f g (m ∷ ms) = grind (arith, at_places, at_places-at_places f g ms)
+at_places-at_places f g (m ∷ ms) = grind (arith, at_places-at_places f g ms)
 
 pub past-places : (before : Option ℕ) (b : ℕ) (ms : List Mark) → past before (up_to b ms) ≡ at_places (own_places before b) ms
 past-places before b ms = at_places-at_places (comes_later before) (λ p. nat_le p b) ms

@@ -1,30 +1,29 @@
 -- The names that most proofs here cite, passed on from one place.
-pub use Rattle.std.proofs.Common.{◌≡◌, ◌≢◌, ℕ, ◌-◌, min, Bool, true, false, not, ◌&&◌, ◌||◌, ◌==◌, List, [], ◌∷◌, ◌++◌, map, take, drop, length, Option, Some, None, option_map, is_some, refl, sym, ◌∙◌, ap, ap₂, subst, arith, IsTrue, IsFalse, slice_range, slice_get, nat_eq, append-nil, if◌then◌else◌, codes, ◌↔◌, ◌⊎◌, inl, inr, ◌+◌, ◌<◌, ◌≤◌, suc, get_or, drop-cons, true≢false}
-pub use Rattle.std.specs.Prelude.{IfSome, option_and_then, unwrap_or, encode_utf8_all, IsNone}
+pub use Rattle.std.proofs.Common.{◌≡◌, ◌≢◌, ℕ, ◌-◌, min, Bool, true, false, ◌&&◌, ◌||◌, List, [], ◌∷◌, ◌++◌, map, take, drop, length, Option, Some, None, option_map, is_some, refl, sym, ◌∙◌, ap, subst, arith, IsTrue, IsFalse, slice_range, slice_get, nat_eq, append-nil, if◌then◌else◌, codes, ◌↔◌, ◌⊎◌, inl, inr, ◌+◌, ◌<◌, ◌≤◌, get_or, true≢false}
+pub use Rattle.std.specs.Prelude.{IfSome, option_and_then, unwrap_or, IsNone}
 pub use Rattle.std.specs.List.{starts_with, ends_with, list_any}
 unfoldable pub use Rattle.std.specs.Char.{encode_utf8}
-pub use Rattle.std.specs.Str.{IsUtf8, trim, byte}
+pub use Rattle.std.specs.Str.{IsUtf8, trim}
 unfoldable pub use Rattle.std.specs.Str.{chars, trim_start, trim_end}
 pub use Rattle.std.specs.Option.{option_map_or}
 unfoldable pub use Rattle.std.specs.Fmt.{digits}
 pub use Rattle.std.specs.Cow.{cow_str_bytes, IsBorrowedStr}
 pub use Rattle.std.proofs.lemmas.List.{map-id, take_min, drop_min, length-map, drop_all}
-pub use Rattle.std.proofs.lemmas.Bool.{cond_both, and_parts, and_from, eqb-true, cond-true}
-pub use Rattle.ansi_items.specs.Plain.{Mark, plain, up_to, has_escape, is_whole, are_whole}
-pub use Rattle.ansi_items.specs.Pieces.{pieces_of, Sequence, Text, merged, LoneEscape, Piece}
-pub use Rattle.ansi_items.specs.Scans.{pieces_left, piece_of_kind}
+pub use Rattle.std.proofs.lemmas.Bool.{and_parts, and_from, eqb-true, cond-true}
+pub use Rattle.ansi_items.specs.Plain.{plain, has_escape, is_whole, are_whole}
+pub use Rattle.ansi_items.specs.Pieces.{pieces_of, Sequence, Text, merged, LoneEscape}
+pub use Rattle.ansi_items.specs.Scans.{pieces_left}
 pub use Rattle.ansi_style.specs.declared.state.rendition.Rendition.{Rendition}
-pub use Rattle.ansi_style.specs.Written.{start, close_if_any, close}
-pub use Rattle.ansi_style.specs.Styled.{styled, bytes_of, style_at, StyledByte, residue}
-pub use Rattle.ansi_style.specs.Rendition.{plain_style, known}
+pub use Rattle.ansi_style.specs.Written.{start, close}
+pub use Rattle.ansi_style.specs.Styled.{styled, bytes_of, StyledByte, residue}
+pub use Rattle.ansi_style.specs.Rendition.{plain_style}
 pub use Rattle.ansi_style.proofs.StyledLemmas.{bytes_of-styled}
 pub use Rattle.ansi_search.specs.Positions.{is_good_position, is_good_range}
-pub use Rattle.ansi_slice.specs.Cut.{show}
 unfoldable pub use Rattle.ansi_slice.specs.Cut.{cut}
 unfoldable pub use Rattle.ansi_slice.specs.Sides.{left_side, right_side}
 pub use Rattle.ansi_slice.specs.Kept.{without_prefix, without_suffix, trim_interval, trimmed}
 unfoldable pub use Rattle.ansi_slice.specs.Kept.{kept}
-pub use Rattle.ansi_slice.specs.Parts.{parts, past, carried, end_before, part, all_parts, is_part_borrowed}
+pub use Rattle.ansi_slice.specs.Parts.{parts, end_before, part, all_parts}
 unfoldable pub use Rattle.ansi_slice.specs.Parts.{part_over, is_borrowed_over}
 pub use Rattle.ansi_search.proofs.SliceLemmas.{slice_range-none, slice_range-past, slice_range-min, slice_range-map}
 pub use Rattle.ansi_slice.proofs.TrimLemmas.{slice_range-trim_interval, trim_interval_boundaries}

@@ -96,7 +96,7 @@ sgr_parameters-written code all =
 -- what an extended color's code does, where the code before it reads a color
 apply-extended : (extended : List ℕ) (put : AnsiColor → Rendition → Rendition) (c : AnsiColor) (p : Rendition)
     → list_all is_field_byte extended ≡ true → effect_of extended ≡ ReadsColor put → IsTrue (is_extended_color c) → apply p (written (color_code extended c)) ≡ put c p
-apply-extended extended put c p all reads is = grind (arith, after_fields, after_fields-step, apply-parameters, code_bytes, color_number-decimal, fields_of-by_number, fields_of-by_parts, ltb-true, parameters-color_code, sgr_parameters-written, three_small, true≢false)
+apply-extended extended put c p all reads is = grind (arith, after_fields-step, apply-parameters, code_bytes, color_number-decimal, fields_of-by_number, fields_of-by_parts, ltb-true, parameters-color_code, sgr_parameters-written, three_small, true≢false)
 
 -- The numbers of colors in their ranges.
 
@@ -121,7 +121,7 @@ code_of-decimal n small = some_same (code_of (decimal n)) (agree_below_at (λ n.
 
 -- the number of a code, written alone, does what the code does
 apply-decimal : (n : ℕ) (change : Rendition → Rendition) (p : Rendition) → n < 256 → effect_of_code n ≡ Changes change → apply p (written (decimal n)) ≡ change p
-apply-decimal n change p small is = grind (arith, after_fields, apply-parameters, code_bytes-decimal, code_of-decimal, field_bytes-decimal, fields_of-one, sgr_parameters-written)
+apply-decimal n change p small is = grind (arith, apply-parameters, code_bytes-decimal, code_of-decimal, field_bytes-decimal, fields_of-one, sgr_parameters-written)
 
 pub apply-font : (n : ℕ) → is_in_range 11 19 n ≡ true → (p : Rendition) → apply p (written (decimal n)) ≡ record p { font = Some n }
 apply-font n is p = apply-decimal n (λ s. record s { font = Some n }) p (omega (arith, (in_range 11 19 n is).1)) (effect_of_code-font n is)

@@ -52,7 +52,7 @@ abbrev pub dressed_pieces : Rendition → List Piece → List (List ℕ) → Lis
 dressed_pieces s ps xs = code_pieces (start_codes s) ++ ps ++ code_pieces xs
 
 pub spelled-dressed_pieces : (s : Rendition) (ps : List Piece) (xs : List (List ℕ)) → spelled (dressed_pieces s ps xs) ≡ start s ++ spelled ps ++ written_all xs
-spelled-dressed_pieces s ps xs = grind (arith, code_pieces, flat_map-append, spelled, spelled-code_pieces)
+spelled-dressed_pieces s ps xs = grind (arith, flat_map-append, spelled-code_pieces)
 
 pub dressed_pieces_stand : {n : ℕ} (s : Rendition) (ps : List Piece) (xs : List (List ℕ)) → IsStyle s → AllStandAnywhere ps → AreCodes xs n → AllStandAnywhere (dressed_pieces s ps xs)
 dressed_pieces_stand s ps xs is all are =

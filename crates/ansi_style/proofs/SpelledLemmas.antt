@@ -24,7 +24,7 @@ styled_from-append s u v whole_u whole_v =
     (ap (λ q. styled_through q (pieces_of v)) (sym (style_after_from-pieces s u)) ∙ sym (styled_from-pieces (style_after_from s u) v))
 
 pub style_after_from-append : (s : Rendition) (u v : List ℕ) → IsTrue (is_whole u) → IsTrue (is_whole v) → style_after_from s (u ++ v) ≡ style_after_from (style_after_from s u) v
-style_after_from-append s u v whole_u whole_v = grind (arith, pieces_of-append, style_after_from-pieces, style_through, style_through-append, style_through-merged)
+style_after_from-append s u v whole_u whole_v = grind (arith, pieces_of-append, style_after_from-pieces, style_through-append, style_through-merged)
 
 -- Only what is known of the style before a text counts.
 

@@ -17,7 +17,7 @@ returns-in_err-next c =
     ∙ ap (λ q. first_match_from (plain c.args.text.now) q c.args.from) c.new-pattern.ensures)
 
 pub read-requires-clause-run : goal.read-requires-clause-run
-read-requires-clause-run c = grind (arith, is_text, run-occurs)
+read-requires-clause-run c = grind (arith, run-occurs)
 
 -- a match ends in the run
 pub returns-in-Match : goal.returns-in-Match
