@@ -1,5 +1,5 @@
 -- The marks of pieces, one piece at a time, and those up to a place.
-use Rattle.ansi_style.proofs.Common.{◌≡◌, ℕ, suc, ◌+◌, ◌-◌, ◌<◌, ◌≤◌, Bool, true, false, List, [], ◌∷◌, length, map, filter_map, fold, Option, refl, ◌∙◌, ap, ap₂, arith, nat_le, if◌then◌else◌, IsFalse, le-leb, lt-leb, nat_tests, escape, Piece, Text, Sequence, LoneEscape, Mark, Placed, mark_of, moved, marks_of, marks, places, up_to, has_escape, Rendition, apply, after_marks, one_text, pieces_of-bare}
+use Rattle.ansi_style.proofs.Common.{◌≡◌, ℕ, suc, ◌+◌, ◌-◌, ◌<◌, ◌≤◌, Bool, true, false, List, [], ◌∷◌, length, map, filter_map, fold, Option, refl, ◌∙◌, ap, ap₂, arith, nat_le, if◌then◌else◌, IsFalse, lt-leb, nat_tests, escape, Piece, Text, Sequence, LoneEscape, Mark, Placed, mark_of, moved, marks_of, marks, places, up_to, has_escape, Rendition, apply, after_marks, one_text, pieces_of-bare}
 
 -- n plain bytes more stand before the mark
 abbrev pub further : ℕ → Mark → Mark

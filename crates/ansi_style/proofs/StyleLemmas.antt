@@ -1,6 +1,5 @@
 -- Sequences make styles of styles: each color and font that they select is in its range.
-use Rattle.ansi_style.proofs.Common.{◌≡◌, ℕ, zero, suc, Bool, true, ◌&&◌, List, [], ◌∷◌, length, Option, Some, None, refl, sym, IsTrue, IfSome, nat_le, nat_lt, arith, map, true≢false, rules, if◌then◌else◌, cond_both, and_from, or_left, or_right, nat_tests, option_map_or, ForSome, is_in_range, all_ascii_digits, digits_value, AnsiColor, Bit4, Bit8, Bit24, Style, rendition_of, sgr_parameters, Mark, marks, up_to, Rendition, is_foreground, is_background, is_extended_color, IsStyle, plain_style, Effect, Changes, ReadsColor, effect_of, color_number, color_by_parts, color_by_number, read_color, is_code, perform, steps, step, apply, apply_parameters, fields_of, apply_all, style_at, style_after, style_after_from}
-use Rattle.std.specs.Prelude.{unwrap_or}
+use Rattle.ansi_style.proofs.Common.{◌≡◌, ℕ, zero, suc, true, List, [], ◌∷◌, length, Option, Some, None, refl, IsTrue, IfSome, nat_lt, arith, map, rules, and_from, or_left, or_right, option_map_or, ForSome, is_in_range, AnsiColor, Style, rendition_of, sgr_parameters, Mark, marks, up_to, Rendition, is_foreground, is_background, is_extended_color, IsStyle, plain_style, Effect, Changes, ReadsColor, effect_of, color_number, color_by_parts, color_by_number, read_color, perform, steps, step, apply, apply_parameters, fields_of, apply_all, style_at, style_after, style_after_from}
 use Rattle.ansi_style.proofs.SgrLemmas.{effect_holds}
 
 -- the ranges, field by field
