@@ -1,76 +1,145 @@
-// Times strip and cut beside Debian's strip-ansi and slice-ansi, in one run, and counts the rows that these answer otherwise.
-// NODE_PATH=/usr/share/nodejs node compare.mjs
-import { statSync } from 'node:fs';
+// Times strip, cut, wrap and width beside Debian's strip-ansi, slice-ansi, wrap-ansi and string-width, in one run, and tells which
+// rows of texts and answers these get wrong, and in what. NODE_PATH=/usr/share/nodejs node compare.mjs
+import { execFileSync } from 'node:child_process';
+import { mkdtempSync, readFileSync, rmSync, statSync } from 'node:fs';
 import { createRequire } from 'node:module';
-import { rows, inUnits } from './rows.mjs';
+import { tmpdir } from 'node:os';
+import { fileURLToPath } from 'node:url';
 
 const start = performance.now();
-const { cut, strip } = await import('./index.js');
+const { blocks, cut, strip, width, wrap } = await import('./index.js');
 strip('\x1b[1ma');
 const started = performance.now() - start;
+const { columnRows, inUnits, rows } = await import('./rows.mjs');
 const require = createRequire(import.meta.url);
-const [stripAnsi, sliceAnsi] = ['strip-ansi', 'slice-ansi'].map((name) => require(name).default ?? require(name));
+const [stripAnsi, sliceAnsi, wrapAnsi, stringWidth] = ['strip-ansi', 'slice-ansi', 'wrap-ansi', 'string-width'].map((name) => require(name).default ?? require(name));
 
-console.log(`module: ${statSync(new URL('ansi_str.wasm', import.meta.url)).size} bytes, ${started.toFixed(1)} ms from import to the end of the first call`);
+const { size } = statSync(new URL('ansi_str.wasm', import.meta.url));
+console.log(`module: ${size} bytes, ${started.toFixed(1)} ms from import to the end of the first call`);
 
-/** The median time of a call in microseconds, of 15 rounds that take 20 ms or so. */
+/** The processor's time up to now, in microseconds. */
+function clock() {
+  const { user, system } = process.cpuUsage();
+  return user + system;
+}
+
+/** The least time of a call in microseconds, of 25 rounds of 20 ms or so, after a second; or of one call that takes longer. */
 function timed(call) {
-  call();
-  const once = performance.now();
-  call();
-  const runs = Math.max(1, Math.min(20000, Math.round(20 / Math.max(performance.now() - once, 0.001))));
-  const rounds = [];
-  for (let round = 0; round < 15; round++) {
-    const from = performance.now();
+  const start = clock();
+  let [calls, from] = [0, start];
+  for (; clock() - start < 1e6; calls++) {
+    from = clock();
+    call();
+  }
+  if (calls < 3) {
+    return clock() - from;
+  }
+  const runs = Math.ceil(calls / 50);
+  let least = Infinity;
+  for (let round = 0; round < 25; round++) {
+    from = clock();
     for (let run = 0; run < runs; run++) {
       call();
     }
-    rounds.push(((performance.now() - from) / runs) * 1000);
+    least = Math.min(least, (clock() - from) / runs);
   }
-  return rounds.sort((a, b) => a - b)[7];
+  return least;
 }
 
-const line = '\x1b[32m2026-11-24\x1b[39m \x1b[1;31merror\x1b[0m disk full on sda1, 3 files left\n';
-const texts = { cell: '\x1b[1;31m  disk full on sda1  \x1b[0m', 'plain cell': '  disk full on sda1  ', '1 MB': line.repeat(Math.round(2 ** 20 / line.length)) };
-console.log('microseconds a call');
+const folder = mkdtempSync(`${tmpdir()}/`);
+execFileSync('python3', [fileURLToPath(new URL('../../bench/corpora.py', import.meta.url)), folder]);
+const texts = { cell: '\x1b[1;31m  disk full on sda1  \x1b[0m', 'log of 1 MB': readFileSync(`${folder}/log.1M`, 'utf8') };
+rmSync(folder, { recursive: true });
+console.log('microseconds of the processor a call');
 for (const [name, text] of Object.entries(texts)) {
   const middle = strip(text).length >> 1;
   const from = middle >> 1;
-  const calls = { strip: () => strip(text), 'strip-ansi': () => stripAnsi(text), cut: () => cut(text, from, middle), 'slice-ansi': () => sliceAnsi(text, from, middle) };
+  const columns = name === 'cell' ? 10 : 80;
+  const calls = {
+    strip: () => strip(text),
+    'strip-ansi': () => stripAnsi(text),
+    cut: () => cut(text, from, middle),
+    'slice-ansi': () => sliceAnsi(text, from, middle),
+    wrap: () => wrap(text, columns),
+    'wrap-ansi': () => wrapAnsi(text, columns, { hard: true, trim: false }),
+    width: () => width(text),
+    'string-width': () => stringWidth(text),
+  };
   for (const [call, run] of Object.entries(calls)) {
-    // (slice-ansi takes minutes on 1 MB)
-    if (call === 'slice-ansi' && text.length > 100000) {
-      const part = text.slice(0, 65536);
-      const from_ = performance.now();
-      sliceAnsi(part, 10000, 20000);
-      console.log(`${name}\t${call}\t(64 KB, once) ${((performance.now() - from_) * 1000).toFixed(0)}`);
-    } else {
-      console.log(`${name}\t${call}\t${timed(run).toFixed(2)}`);
-    }
+    console.log(`${name}\t${call}\t${timed(run).toFixed(2)}`);
   }
 }
 
-const other = { 'strip-ansi': [0, 0, ''], 'slice-ansi, by its plain text': [0, 0, ''] };
-function judge(name, isSame, row) {
-  const counts = other[name];
-  counts[0] += 1;
-  if (!isSame) {
-    counts[1] += 1;
+/** What is seen of a text: each stretch of its plain text with its style. */
+function seen(text, edit = (stretch) => stretch) {
+  const stretches = [];
+  for (const { text: given, style } of blocks(text)) {
+    const look = JSON.stringify([style.attributes, style.foreground, style.background]);
+    const stretch = edit(strip(given));
+    if (stretches.at(-1)?.[1] === look) {
+      stretches.at(-1)[0] += stretch;
+    } else if (stretch !== '') {
+      stretches.push([stretch, look]);
+    }
+  }
+  return JSON.stringify(stretches);
+}
+
+const withoutBlanks = (text) => text.replace(/\s/g, '');
+
+/** Whether the text, shown alone, leaves a style open. */
+const isOpen = (text) => blocks(`${text}x`).at(-1).style.hasAny;
+
+const judged = {};
+function judge(name, kind, row) {
+  judged[name] ??= { asked: 0, kinds: {} };
+  judged[name].asked += 1;
+  if (kind !== null) {
+    const kinds = judged[name].kinds;
     const shown = JSON.stringify(row);
-    counts[2] = counts[2] === '' || shown.length < counts[2].length ? shown : counts[2];
+    kinds[kind] ??= [0, shown];
+    kinds[kind][0] += 1;
+    kinds[kind][1] = shown.length < kinds[kind][1].length ? shown : kinds[kind][1];
   }
 }
+
 for (const [call, status, want, text, ...more] of await rows()) {
   if (call === 'strip') {
-    judge('strip-ansi', stripAnsi(text) === want, [text, stripAnsi(text), want]);
+    const got = stripAnsi(text);
+    const kind = got === want ? null : got.length < want.length ? 'takes off what is no sequence' : 'leaves some of a sequence';
+    judge('strip-ansi', kind, [text, got, want]);
   } else if (call === 'cut' && status === '0' && text.length < 10000) {
-    const [start, end] = more.map((position) => inUnits(strip(text), Number(position)));
-    if (start !== null && end !== null) {
-      const got = sliceAnsi(text, start, end);
-      judge('slice-ansi, by its plain text', strip(got) === strip(want), [text, start, end, got, want]);
+    const plain = strip(text);
+    const [from, to] = more.map((position) => inUnits(plain, Number(position)));
+    // (slice-ansi counts columns)
+    if (from !== null && to !== null && [...plain].every((character) => character.length === 1 && width(character) === 1)) {
+      const got = sliceAnsi(text, from, to);
+      const kind = strip(got) !== strip(want) ? 'another text' : seen(got) !== seen(want) ? 'another style' : isOpen(got) ? 'a style is left open' : null;
+      judge('slice-ansi', kind, [text, from, to, got, want]);
     }
   }
 }
-for (const [name, [asked, wrong, least]] of Object.entries(other)) {
-  console.log(`${name}: ${wrong} of ${asked} rows otherwise; the shortest: ${least}`);
+for (const [call, text, columns, , want] of await columnRows()) {
+  if (call === 'wrap') {
+    const got = wrapAnsi(text, columns, { hard: true });
+    const lines = got.split('\n');
+    const kind = withoutBlanks(strip(got)) !== withoutBlanks(strip(text)) ? 'other characters'
+      : lines.some(isOpen) ? 'a line leaves a style open'
+        : seen(got, withoutBlanks) !== seen(text, withoutBlanks) ? 'another style'
+          : lines.some((line) => (line.match(/\x1b]8;;/g) ?? []).length % 2 === 1) ? 'a line leaves a link open'
+            : /^ +\S/.test(strip(text)) && !/^ +\S/.test(strip(got)) ? 'an indent is lost'
+              : lines.map((line) => `[${line}]`).join(' ') !== want ? 'lines that end elsewhere' : null;
+    judge('wrap-ansi', kind, [text, columns, lines, want]);
+  } else if (call === 'width') {
+    const got = stringWidth(text);
+    const kind = got === Number(want) ? null : /[\r\n\t\x07]/.test(strip(text)) ? 'control characters' : text.includes('\x1b') ? 'a cluster that a sequence divides' : 'a cluster';
+    judge('string-width', kind, [text, got, Number(want)]);
+  }
+}
+for (const [name, { asked, kinds }] of Object.entries(judged)) {
+  const wrong = Object.values(kinds).reduce((sum, [count]) => sum + count, 0);
+  console.log(`${name}: ${wrong} of ${asked} rows otherwise`);
+  for (const [kind, [count, shortest]] of Object.entries(kinds)) {
+    console.log(`  ${kind}: ${count}, as ${shortest}`);
+  }
 }

@@ -73,3 +73,21 @@ export interface Block {
 
 /** The blocks of the text: the runs of plain text between SGR sequences, each with its style. */
 export function blocks(text: string): Block[];
+
+/** The columns of the text in a terminal: those of the extended grapheme clusters of its plain text, added up. */
+export function width(text: string): number;
+
+/** The position up to which the plain text fits into so many columns. The text can be cut there. */
+export function fitting(text: string, width: number): number;
+
+/**
+ * The text cut to so many columns, with a tail, as `…`, where it is cut and the tail fits. What is open at the end of the text is
+ * ended before the tail: its link (OSC 8), and then its style.
+ */
+export function truncate(text: string, width: number, tail?: string): string;
+
+/** The text, filled up with blanks to so many columns. What is open at its end is ended before those after it. */
+export function pad(text: string, width: number, alignment?: 'left' | 'center' | 'right'): string;
+
+/** The lines of the text at a width. Each ends what it leaves open, and the next opens it again. */
+export function wrap(text: string, width: number): string[];

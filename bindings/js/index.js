@@ -3,6 +3,7 @@ import * as raw from './memory.js';
 
 export { OutOfMemoryError } from './memory.js';
 
+const ALIGNMENTS = ['left', 'center', 'right'];
 const KINDS = { cut: 0, left: 1, right: 2, part: 3, prefix: 4, suffix: 5, trim: 6 };
 /** To the end of any text. */
 const END = Number.MAX_SAFE_INTEGER;
@@ -48,13 +49,26 @@ function placeOf(plain, position) {
   return before.isWellFormed() ? bytesOf(before) : bytesOf(before.slice(0, -1)) + 2;
 }
 
+/** A position in bytes of the plain text as one in its units. */
+function unitsOf(plain, position) {
+  let [bytes, units] = [0, 0];
+  for (const character of plain) {
+    if (bytes >= position) {
+      break;
+    }
+    bytes += bytesOf(character);
+    units += character.length;
+  }
+  return units;
+}
+
 /** The edit as a step of the library: its kind, its numbers, of which `places` says which are positions, and its pattern. */
 function stepOf(edit) {
   if (!Array.isArray(edit) || !Object.hasOwn(KINDS, edit[0])) {
     throw new TypeError('an edit must be an array that begins with the name of an edit');
   }
   const [name, ...more] = edit;
-  const step = { kind: KINDS[name], first: 0, second: 0, places: [], pattern: undefined };
+  const step = { kind: KINDS[name], first: 0, second: 0, places: [], pattern: '' };
   if (name === 'cut') {
     step.first = numberOf('start', more[0]);
     step.second = more[1] === undefined ? END : numberOf('end', more[1]);
@@ -71,17 +85,11 @@ function stepOf(edit) {
   return step;
 }
 
-function edited(text, steps) {
-  const patterns = [];
-  const numbered = steps.map((step) => ({ ...step, text: step.pattern === undefined ? undefined : patterns.push(step.pattern) }));
-  return raw.edit(text, patterns, numbered);
-}
-
 export function edit(text, edits) {
   textOf('text', text);
-  const steps = Array.from(edits, stepOf);
+  const steps = [...edits].map(stepOf);
   if (isAscii(text)) {
-    return edited(text, steps);
+    return raw.edit(text, steps);
   }
   // positions of a step count units of what the steps before it gave
   let given = text;
@@ -93,7 +101,7 @@ export function edit(text, edits) {
         placed[place] = placeOf(plain, step[place]);
       }
     }
-    given = edited(given, [placed]);
+    given = raw.edit(given, [placed]);
     if (given === null) {
       return null;
     }
@@ -141,4 +149,28 @@ export function split(text, pattern) {
 
 export function blocks(text) {
   return raw.blocks(textOf('text', text));
+}
+
+export function width(text) {
+  return raw.width(textOf('text', text));
+}
+
+export function fitting(text, width) {
+  const position = raw.fitting(textOf('text', text), numberOf('width', width));
+  return isAscii(text) ? position : unitsOf(raw.strip(text), position);
+}
+
+export function truncate(text, width, tail = '') {
+  return raw.truncate(textOf('text', text), numberOf('width', width), textOf('tail', tail));
+}
+
+export function pad(text, width, alignment = 'left') {
+  if (!ALIGNMENTS.includes(alignment)) {
+    throw new TypeError(`the alignment must be one of ${ALIGNMENTS.join(', ')}`);
+  }
+  return raw.pad(textOf('text', text), numberOf('width', width), ALIGNMENTS.indexOf(alignment));
+}
+
+export function wrap(text, width) {
+  return raw.wrap(textOf('text', text), numberOf('width', width));
 }

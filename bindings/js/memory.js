@@ -7,10 +7,14 @@ const TOO_SMALL = 4;
 const OUT_OF_MEMORY = 5;
 
 const PAGE = 65536;
+/** No memory has so many pages. */
+const ANY_PAGES = 2 ** 31;
 /** An arena is so many bytes short of whole pages, as the module's arena leaves them to the system. */
 const SHORT = 16;
 /** A memory that has grown past so many bytes is given back after the call. */
 const KEPT = 16 * 2 ** 20;
+/** A text of ASCII of fewer units is sooner copied one by one. */
+const FEW = 64;
 
 /** The bytes of the numbers and pointers that a call passes by memory, ahead of texts. */
 const ANSWER = 32;
@@ -48,7 +52,6 @@ if (!WebAssembly.validate(new Uint8Array([0, 97, 115, 109, 1, 0, 0, 0, 5, 3, 1, 
   throw new Error('ansi_str needs WebAssembly with memory of 64 bits: Node 24, or an older one with --experimental-wasm-memory64');
 }
 const module = await compiled();
-let instance = null;
 
 // (Node 20 takes a number of pages)
 let pagesOf = BigInt;
@@ -60,49 +63,80 @@ try {
 
 const padded = (size, unit) => Math.ceil(size / unit) * unit;
 
-/** The first byte of the module's memory that it doesn't use itself, and the memory, which has at least so many bytes after it. */
-function memoryOf(exports, size) {
-  const base = padded(Number(exports.__heap_base.value), 16);
-  const lacks = base + size - exports.memory.buffer.byteLength;
-  if (lacks > 0) {
-    exports.memory.grow(pagesOf(Math.ceil(lacks / PAGE)));
+/** An instance of the module, and its memory as it is read and written. */
+class Instance {
+  constructor() {
+    this.exports = new WebAssembly.Instance(module).exports;
+    /** The first byte that the module doesn't use itself. */
+    this.base = padded(Number(this.exports.__heap_base.value), 16);
+    this.look();
   }
-  return base;
+
+  /** Sees all of the memory: growth takes what was seen before. */
+  look() {
+    this.bytes = new Uint8Array(this.exports.memory.buffer);
+    this.view = new DataView(this.exports.memory.buffer);
+  }
+
+  /** Has at least so many bytes from the base on. */
+  reserve(size) {
+    const lacks = this.base + size - this.bytes.length;
+    if (lacks > 0) {
+      this.exports.memory.grow(pagesOf(Math.min(Math.ceil(lacks / PAGE), ANY_PAGES)));
+      this.look();
+    }
+  }
 }
 
-/** Where the texts and buffers of a call lie in the memory, and what reads and writes them there. */
+/** What a call takes and gives, in the memory of an instance. */
 class Frame {
-  constructor(exports, texts, steps, room, arena) {
-    const encoded = texts.map((text) => encoder.encode(text));
-    const sizes = [ANSWER, BLOCK, steps.length * STEP, ...encoded.map((bytes) => bytes.length), room.bytes, room.entries * room.entry];
-    const size = sizes.reduce((sum, each) => sum + padded(each, 16), 0);
-    let place = memoryOf(exports, size + arena);
-    const places = sizes.map((each) => {
-      const at = place;
-      place += padded(each, 16);
-      return at;
-    });
-    this.bytes = new Uint8Array(exports.memory.buffer);
-    this.view = new DataView(exports.memory.buffer);
-    [this.answer, this.block, this.steps] = places;
-    this.texts = encoded.map((bytes, index) => {
-      this.bytes.set(bytes, places[3 + index]);
-      return [BigInt(places[3 + index]), BigInt(bytes.length)];
-    });
-    [this.buffer, this.entries] = places.slice(-2);
+  constructor(instance, texts, steps, room, arena) {
+    const size = ANSWER + BLOCK + steps.length * STEP + room.bytes + room.entries * room.entry + 16 * texts.length + 64;
+    // (a unit of UTF-16 has at most 3 bytes)
+    instance.reserve(texts.reduce((sum, text) => sum + 3 * text.length, size) + arena);
+    this.bytes = instance.bytes;
+    this.view = instance.view;
     this.room = room;
-    this.setWord(this.block, BigInt(place));
+    this.free = instance.base;
+    this.answer = this.take(ANSWER);
+    this.block = this.take(BLOCK);
+    this.steps = this.take(steps.length * STEP);
+    this.texts = texts.map((text) => this.put(text));
+    this.buffer = this.take(room.bytes);
+    this.entries = this.take(room.entries * room.entry);
+    this.setWord(this.block, BigInt(this.take(arena)));
     this.setWord(this.block + 8, BigInt(arena - SHORT));
-    steps.forEach(({ kind, first, second, text }, index) => {
+    steps.forEach(({ kind, first, second }, index) => {
       const at = this.steps + index * STEP;
       this.view.setUint32(at, kind, true);
       this.setWord(at + 8, BigInt(first));
       this.setWord(at + 16, BigInt(second));
-      // (a step without a pattern has an empty one)
-      const [from, length] = text === undefined ? [BigInt(this.steps), 0n] : this.texts[text];
-      this.setWord(at + 24, from);
-      this.setWord(at + 32, length);
+      // (the text before the patterns of the steps)
+      this.setWord(at + 24, this.texts[index + 1][0]);
+      this.setWord(at + 32, this.texts[index + 1][1]);
     });
+  }
+
+  /** The place of so many bytes that are free. */
+  take(size) {
+    const place = this.free;
+    this.free += padded(size, 16);
+    return place;
+  }
+
+  /** Writes a text, and gives its place and length. */
+  put(text) {
+    const place = this.take(3 * text.length);
+    let length = 0;
+    if (text.length < FEW) {
+      for (let unit; length < text.length && (unit = text.charCodeAt(length)) < 0x80; length++) {
+        this.bytes[place + length] = unit;
+      }
+    }
+    if (length < text.length) {
+      length = encoder.encodeInto(text, this.bytes.subarray(place)).written;
+    }
+    return [BigInt(place), BigInt(length)];
   }
 
   setWord(at, value) {
@@ -129,7 +163,11 @@ class Frame {
     return whole.length === length ? (start, end) => whole.slice(start, end) : (start, end) => this.text(start, end);
   }
 
-  /** The pointers and lengths of the buffer for texts, and of the one for entries. */
+  /** The pointers and lengths that a call takes, as an export has them: of its answer and memory, its buffer and its entries. */
+  get head() {
+    return [BigInt(this.answer), BigInt(this.block)];
+  }
+
   get out() {
     return [BigInt(this.buffer), BigInt(this.room.bytes)];
   }
@@ -139,18 +177,22 @@ class Frame {
   }
 }
 
+/** The instance of the next call, or null where there is none yet or the last one took much memory. */
+let kept = null;
+
 /**
  * Makes a call until its answer has room and it has memory enough, and gives what `read` makes of the frame, or null where
  * the call gives nothing.
  */
 function called(texts, steps, room, ask, read) {
-  let arena = padded(4 * texts.reduce((sum, text) => sum + text.length, 0) + PAGE, PAGE);
+  const size = texts.reduce((sum, text) => sum + text.length, room.bytes);
+  // (the texts of a list are put together there, of texts that stay)
+  let arena = padded((room.entry > 0 ? 4 : 1) * size + PAGE, PAGE);
   try {
     for (;;) {
-      instance ??= new WebAssembly.Instance(module);
-      const exports = instance.exports;
-      const frame = new Frame(exports, texts, steps, room, arena);
-      ask(exports, BigInt(frame.answer), BigInt(frame.block), frame);
+      kept ??= new Instance();
+      const frame = new Frame(kept, texts, steps, room, arena);
+      ask(kept.exports, frame);
       const status = frame.status;
       if (status === OK) {
         return read(frame);
@@ -170,50 +212,77 @@ function called(texts, steps, room, ask, read) {
       }
     }
   } catch (error) {
-    instance = null;
-    throw error instanceof RangeError ? new OutOfMemoryError() : error;
+    kept = null;
+    throw error instanceof RangeError || error.code === 'ERR_STRING_TOO_LONG' ? new OutOfMemoryError() : error;
   } finally {
-    if (instance !== null && instance.exports.memory.buffer.byteLength > KEPT) {
-      instance = null;
+    if (kept !== null && kept.bytes.length > KEPT) {
+      kept = null;
     }
   }
 }
 
-const written = (frame) => frame.text(0, frame.word(frame.answer + 8));
+const roomFor = (bytes) => ({ bytes, entries: 0, entry: 0 });
+const roomForOne = (text) => roomFor(3 * text.length + 1024);
+const roomForList = (text, entry) => ({ bytes: 3 * text.length + 4096, entries: 256 + Math.floor(text.length / 8), entry });
+
+const told = (frame) => frame.word(frame.answer + 8);
+const written = (frame) => frame.text(0, told(frame));
+
+function listed(frame) {
+  let start = 0;
+  const each = frame.each;
+  return Array.from({ length: told(frame) }, (_, index) => {
+    const end = frame.word(frame.entries + index * END);
+    const text = each(start, end);
+    start = end;
+    return text;
+  });
+}
 
 export function strip(text) {
-  const room = { bytes: 3 * text.length, entries: 0, entry: 0 };
-  return called([text], [], room, (exports, answer, block, frame) => exports.ansi_str_raw_strip(answer, block, ...frame.texts[0], ...frame.out), written);
+  return called([text], [], roomForOne(text), (exports, frame) => exports.ansi_str_raw_strip(...frame.head, ...frame.texts[0], ...frame.out), written);
 }
 
 /** The first match in bytes of the plain text, or null. */
 export function find(text, pattern) {
-  const room = { bytes: 0, entries: 0, entry: 0 };
-  return called([text, pattern], [], room, (exports, answer, block, frame) => exports.ansi_str_raw_find(answer, ...frame.texts[0], ...frame.texts[1]),
-    (frame) => frame.word(frame.answer + 8));
+  return called([text, pattern], [], roomFor(0), (exports, frame) => exports.ansi_str_raw_find(frame.head[0], ...frame.texts[0], ...frame.texts[1]), told);
 }
 
-/** What steps make of a text, or null where one is refused. The text of a step is an index into the patterns, from 1 on. */
-export function edit(text, patterns, steps) {
-  const room = { bytes: 3 * text.length + 1024, entries: 0, entry: 0 };
-  return called([text, ...patterns], steps, room,
-    (exports, answer, block, frame) => exports.ansi_str_raw_edit(answer, block, ...frame.texts[0], BigInt(frame.steps), BigInt(steps.length), ...frame.out), written);
+/** What steps make of a text, or null where one is refused. */
+export function edit(text, steps) {
+  const texts = [text, ...steps.map((step) => step.pattern)];
+  return called(texts, steps, roomForOne(text),
+    (exports, frame) => exports.ansi_str_raw_edit(...frame.head, ...frame.texts[0], BigInt(frame.steps), BigInt(steps.length), ...frame.out), written);
 }
 
 export function split(text, pattern) {
-  const room = { bytes: 3 * text.length + 1024, entries: 1024, entry: END };
-  return called([text, pattern], [], room,
-    (exports, answer, block, frame) => exports.ansi_str_raw_split(answer, block, ...frame.texts[0], ...frame.texts[1], ...frame.out, ...frame.list),
-    (frame) => {
-      let start = 0;
-      const each = frame.each;
-      return Array.from({ length: frame.word(frame.answer + 8) }, (_, index) => {
-        const end = frame.word(frame.entries + index * END);
-        const part = each(start, end);
-        start = end;
-        return part;
-      });
-    });
+  return called([text, pattern], [], roomForList(text, END),
+    (exports, frame) => exports.ansi_str_raw_split(...frame.head, ...frame.texts[0], ...frame.texts[1], ...frame.out, ...frame.list), listed);
+}
+
+/** The columns of the plain text. */
+export function width(text) {
+  return called([text], [], roomFor(0), (exports, frame) => exports.ansi_str_raw_width(frame.head[0], ...frame.texts[0]), told);
+}
+
+/** Up to which position in bytes of the plain text it fits. */
+export function fitting(text, width) {
+  return called([text], [], roomFor(0), (exports, frame) => exports.ansi_str_raw_fitting(frame.head[0], ...frame.texts[0], BigInt(width)), told);
+}
+
+export function truncate(text, width, tail) {
+  return called([text, tail], [], roomForOne(text + tail),
+    (exports, frame) => exports.ansi_str_raw_truncate(...frame.head, ...frame.texts[0], BigInt(width), ...frame.texts[1], ...frame.out), written);
+}
+
+export function pad(text, width, alignment) {
+  return called([text], [], roomFor(3 * text.length + width + 1024),
+    (exports, frame) => exports.ansi_str_raw_pad(...frame.head, ...frame.texts[0], BigInt(width), alignment, ...frame.out), written);
+}
+
+export function wrap(text, width) {
+  return called([text], [], roomForList(text, END),
+    (exports, frame) => exports.ansi_str_raw_wrap(...frame.head, ...frame.texts[0], BigInt(width), ...frame.out, ...frame.list), listed);
 }
 
 const ATTRIBUTES = ['bold', 'faint', 'italic', 'underline', 'slowBlink', 'rapidBlink', 'inverse', 'hide', 'crossedOut', 'fraktur'];
@@ -241,12 +310,12 @@ function styleAt(frame, at) {
 }
 
 export function blocks(text) {
-  const room = { bytes: 3 * text.length + 4096, entries: 256, entry: ENTRY };
-  return called([text], [], room, (exports, answer, block, frame) => exports.ansi_str_raw_styled_blocks(answer, block, ...frame.texts[0], ...frame.out, ...frame.list),
+  return called([text], [], roomForList(text, ENTRY),
+    (exports, frame) => exports.ansi_str_raw_styled_blocks(...frame.head, ...frame.texts[0], ...frame.out, ...frame.list),
     (frame) => {
       let begin = 0;
       const each = frame.each;
-      return Array.from({ length: frame.word(frame.answer + 8) }, (_, index) => {
+      return Array.from({ length: told(frame) }, (_, index) => {
         const at = frame.entries + index * ENTRY;
         const [textStart, textEnd, end] = [0, 8, 16].map((field) => frame.word(at + field));
         const block = {

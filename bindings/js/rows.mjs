@@ -1,9 +1,10 @@
 // The rows of texts and answers that the library for C is tested with, in Node and in a page.
-import { blocks, edit, find, split, splitAt, strip, trim } from './index.js';
+import { blocks, cut, edit, find, fitting, pad, split, splitAt, strip, trim, truncate, width, wrap } from './index.js';
 
-const ROWS = new URL('../../crates/ansi_rows/stdin', import.meta.url);
 /** The calls whose arguments are positions. */
 const PLACED = ['cut', 'left', 'right'];
+/** What stands for a character in a row on columns, after `\`. */
+const ESCAPES = { e: '\x1b', a: '\x07', n: '\n', r: '\r', t: '\t' };
 
 async function read(url) {
   if (url.protocol === 'file:') {
@@ -31,17 +32,40 @@ function decoded(bytes) {
   }
 }
 
-/** A field with each `\xHH` as the byte HH, or null where it isn't UTF-8. */
-function textOf(field) {
-  const units = field.replace(/\\x(..)/g, (_, digits) => String.fromCharCode(parseInt(digits, 16)));
-  return decoded(Uint8Array.from(units, (unit) => unit.charCodeAt(0)));
+/** The text of a string of one unit for each byte, or null where they aren't UTF-8. */
+const textOf = (units) => (/^[\0-\x7f]*$/.test(units) ? units : decoded(Uint8Array.from(units, (unit) => unit.charCodeAt(0))));
+
+/** The lines of a file of rows, as strings of one unit for each byte. */
+async function linesOf(crate) {
+  const bytes = await read(new URL(`../../crates/${crate}/stdin`, import.meta.url));
+  return unitsOf(bytes).split('\n').filter((line) => line !== '' && !line.startsWith('#'));
 }
 
-/** The rows of which every text is one, each `\{N:TEXT}` as TEXT N times, without what they say of memory. */
+/** A field of a row: `\xHH` is a byte, and `\{N:TEXT}` is TEXT N times. */
+function fieldOf(field) {
+  const byteOf = (_, digits) => String.fromCharCode(parseInt(digits, 16));
+  const repeated = (count, text) => text.replace(/\\x(..)/g, byteOf).repeat(Number(count));
+  return textOf(field.replace(/\\\{(\d+):(.*?)\}|\\x(..)/g, (all, count, text, digits) => (count === undefined ? byteOf(all, digits) : repeated(count, text))));
+}
+
+/**
+ * The rows of which every field is text, without what they say of memory: a call, its status, its answer, a text, and what else the
+ * call takes or gives.
+ */
 export async function rows() {
-  return unitsOf(await read(ROWS)).split('\n').filter((line) => line !== '' && !line.startsWith('#'))
-    .map((line) => line.replace(/\\\{(\d+):(.*?)\}/g, (_, count, text) => text.repeat(Number(count))).split('\t').slice(1).map(textOf))
+  const lines = await linesOf('ansi_rows');
+  return lines.map((line) => line.replace(/\\\{(\d+):([^}]*\t[^}]*)\}/g, (_, count, fields) => fields.repeat(Number(count))).split('\t').slice(1).map(fieldOf))
     .filter((row) => !row.includes(null));
+}
+
+/** The rows on columns: a call, a text, a width, a word and an answer. */
+export async function columnRows() {
+  const lines = await linesOf('ansi_columns_rows');
+  return lines.map((line) => {
+    const [call, text, argument, answer] = line.split('\t').map((field) => textOf(field.replace(/\\(.)/g, (_, letter) => ESCAPES[letter] ?? letter)));
+    const [width, word] = argument.split(' ');
+    return [call, text, Number(width), word === '""' ? '' : word, answer];
+  });
 }
 
 /** A position among bytes as one among units, or null where it lies inside a character. */
@@ -51,45 +75,76 @@ export function inUnits(plain, position) {
   return before === null ? null : before.length + Math.max(position - bytes.length, 0);
 }
 
-/** Makes the call of each row, and gives how many of each call passed. Throws where one answers anything else. */
+/** What the calls of a row give, each beside what the row says. There is none where JavaScript has no such call or position. */
+function answersOf([call, status, want, text, ...more]) {
+  const found = status === '0' ? want : null;
+  const [first, second] = PLACED.includes(call) ? more.map((position) => inUnits(strip(text), Number(position))) : [];
+  if (first === null || second === null) {
+    return [];
+  }
+  switch (call) {
+    case 'strip':
+      return [[strip(text), want]];
+    case 'find':
+      return [[find(text, more[0]), found === null ? -1 : inUnits(strip(text), Number(want))]];
+    case 'cut':
+      return [[edit(text, [['cut', first, second]]), found]];
+    case 'left':
+    case 'right':
+      return [[edit(text, [[call, first]]), found], [splitAt(text, first)[call === 'left' ? 0 : 1], want]];
+    case 'part':
+      return [[edit(text, [['part', more[0], Math.min(Number(more[1]), Number.MAX_SAFE_INTEGER)]]), found]];
+    case 'strip_prefix':
+    case 'strip_suffix':
+      return [[edit(text, [[call.slice(6), more[0]]]), found]];
+    case 'trim':
+      return [[edit(text, [['trim']]), want], [trim(text), want]];
+    case 'split':
+      return [[split(text, more[0]), more.slice(1)]];
+    case 'blocks':
+      return [[blocks(text).flatMap(({ text, style }) => [text, style.hasAny ? '1' : '0']), more.filter((_, index) => index % 5 === 0 || index % 5 === 4)]];
+    case 'styled_blocks':
+      return [[blocks(text).flatMap(({ text, style }) => [style.start, text, style.end]), more]];
+    default:
+      return [];
+  }
+}
+
+/** The same of a row on columns. */
+function columnAnswersOf([call, text, columns, word, want]) {
+  switch (call) {
+    case 'width':
+      return [[width(text), Number(want)]];
+    case 'fitting':
+      return [[fitting(text, columns), inUnits(strip(text), Number(want))]];
+    case 'front':
+      return [[cut(text, 0, fitting(text, columns)), want]];
+    case 'truncate':
+      return [[truncate(text, columns, word), want]];
+    case 'pad':
+      return [[pad(text, columns, word.toLowerCase()), want]];
+    case 'wrap':
+      return [[wrap(text, columns).map((line) => `[${line}]`).join(' '), want]];
+    default:
+      return [];
+  }
+}
+
+/** Makes the calls of each row, and gives how many rows of each call passed. Throws where one answers anything else. */
 export async function pass() {
   const passed = {};
-  for (const [call, status, want, text, ...more] of await rows()) {
-    const same = (got, wanted) => {
-      if (JSON.stringify(got) !== JSON.stringify(wanted)) {
-        throw new Error(`${JSON.stringify([call, text, ...more])}: ${JSON.stringify(got)}, and not ${JSON.stringify(wanted)}`);
+  for (const [rowsOf, answers] of [[rows, answersOf], [columnRows, columnAnswersOf]]) {
+    for (const row of await rowsOf()) {
+      const given = answers(row);
+      for (const [got, want] of given.map((each) => each.map((answer) => JSON.stringify(answer)))) {
+        if (got !== want) {
+          throw new Error(`${JSON.stringify(row)}: ${got}, and not ${want}`);
+        }
       }
-    };
-    const plain = strip(text);
-    const [first, second] = PLACED.includes(call) ? more.map((position) => inUnits(plain, Number(position))) : [];
-    const edits = (...one) => same(edit(text, [one]), status === '0' ? want : null);
-    if (call === 'strip') {
-      same(plain, want);
-    } else if (call === 'find') {
-      same(find(text, more[0]), status === '0' ? inUnits(plain, Number(want)) : -1);
-    } else if (call === 'cut' && first !== null && second !== null) {
-      edits('cut', first, second);
-    } else if ((call === 'left' || call === 'right') && first !== null) {
-      edits(call, first);
-      same(splitAt(text, first)[call === 'left' ? 0 : 1], want);
-    } else if (call === 'part') {
-      edits('part', more[0], Math.min(Number(more[1]), Number.MAX_SAFE_INTEGER));
-    } else if (call === 'strip_prefix' || call === 'strip_suffix') {
-      edits(call.slice(6), more[0]);
-    } else if (call === 'trim') {
-      edits('trim');
-      same(trim(text), want);
-    } else if (call === 'split') {
-      same(split(text, more[0]), more.slice(1));
-    } else if (call === 'blocks') {
-      same(blocks(text).map((block) => block.text), more.filter((_, index) => index % 5 === 0));
-      same(blocks(text).map((block) => block.style.hasAny), more.filter((_, index) => index % 5 === 4).map((has) => has === '1'));
-    } else if (call === 'styled_blocks') {
-      same(blocks(text).flatMap(({ text, style }) => [style.start, text, style.end]), more);
-    } else {
-      continue;
+      if (given.length > 0) {
+        passed[row[0]] = (passed[row[0]] ?? 0) + 1;
+      }
     }
-    passed[call] = (passed[call] ?? 0) + 1;
   }
   return passed;
 }

@@ -1,12 +1,12 @@
 // Passes the rows of texts and answers that the library for C is tested with, and tries what only JavaScript has.
 import assert from 'node:assert/strict';
 import { test } from 'node:test';
-import { OutOfMemoryError, blocks, cut, edit, find, split, strip, trim } from './index.js';
+import { OutOfMemoryError, blocks, cut, edit, find, fitting, pad, split, strip, trim, truncate, width, wrap } from './index.js';
 import { pass } from './rows.mjs';
 
 test('rows', async () => {
   const passed = await pass();
-  assert.ok(Object.values(passed).reduce((sum, each) => sum + each) > 400, JSON.stringify(passed));
+  assert.ok(Object.values(passed).reduce((sum, each) => sum + each) > 500, JSON.stringify(passed));
 });
 
 test('positions count UTF-16 units', () => {
@@ -14,18 +14,26 @@ test('positions count UTF-16 units', () => {
   assert.throws(() => cut('😀', 1), RangeError);
   assert.throws(() => cut('abc', 2, 1), RangeError);
   assert.equal(find('\x1b[1m😀a', 'a'), 2);
+  assert.equal(fitting('\x1b[1m😀éab', 4), 4);
   assert.equal(cut('abc', 10), '');
   assert.equal(edit('> \x1b[1m😀éa', [['prefix', '> '], ['cut', 2], ['left', 1]]), '\x1b[1mé\x1b[22m');
 });
 
 test('what is no text or no position is refused', () => {
-  for (const call of [strip, trim, blocks, (text) => find(text, ''), (text) => find('', text), (text) => split('', text), (text) => edit('', [['suffix', text]])]) {
+  const calls = [strip, trim, blocks, width, (text) => find(text, ''), (text) => find('', text), (text) => split('', text), (text) => edit('', [['suffix', text]]),
+    (text) => fitting(text, 1), (text) => truncate(text, 1), (text) => truncate('', 1, text), (text) => pad(text, 1), (text) => wrap(text, 1)];
+  for (const call of calls) {
     assert.throws(() => call('a\ud800'), /lone surrogate/);
     assert.throws(() => call(null), /must be a string/);
   }
   assert.throws(() => cut('abc', -1), RangeError);
   assert.throws(() => cut('abc', 1.5), TypeError);
   assert.throws(() => edit('abc', [['cuts', 1]]), TypeError);
+  for (const call of [fitting, truncate, pad, wrap]) {
+    assert.throws(() => call('abc'), /the width must be a whole number/);
+    assert.throws(() => call('abc', -1), RangeError);
+  }
+  assert.throws(() => pad('abc', 5, 'middle'), /left, center, right/);
 });
 
 test('a style has names', () => {
@@ -49,10 +57,16 @@ test('memory is asked for and given back, and lack of it leaves the module fit f
     return grow.call(this, pages);
   };
   try {
-    assert.throws(() => strip(long), OutOfMemoryError);
-    assert.equal(strip('\x1b[1ma'), 'a');
+    for (const call of [strip, blocks, (text) => split(text, ' '), (text) => wrap(text, 5)]) {
+      assert.throws(() => call(long), OutOfMemoryError);
+      assert.equal(strip('\x1b[1ma'), 'a');
+    }
   } finally {
     WebAssembly.Memory.prototype.grow = grow;
   }
   assert.equal(strip(long).length, 14 * repeats);
+  for (const columns of [2 ** 36, 2 ** 40, Number.MAX_SAFE_INTEGER, Number.MAX_VALUE]) {
+    assert.throws(() => pad('abc', columns), OutOfMemoryError);
+    assert.equal(pad('abc', 5, 'center'), ' abc ');
+  }
 });

@@ -1,5 +1,5 @@
-// The page: what edits make of a text, shown from its blocks.
-import { blocks, edit, strip } from '../index.js';
+// The page: what edits make of a text, and its lines at a width, shown from its blocks.
+import { blocks, edit, strip, wrap } from '../index.js';
 
 const element = (id) => document.getElementById(id);
 
@@ -7,7 +7,7 @@ const element = (id) => document.getElementById(id);
 const read = (typed) => typed.replace(/\\(e|x1[bB]|033)/g, '\x1b').replace(/\\n/g, '\n');
 
 /** A text with each control character written out. */
-const written = (text) => text.replace(/\x1b/g, '\\e').replace(/[\0-\x1f\x7f]/g, (each) => `\\x${each.charCodeAt(0).toString(16).padStart(2, '0')}`);
+const written = (text) => text.replace(/\x1b/g, '\\e').replace(/\n/g, '\\n').replace(/[\0-\x1f\x7f]/g, (each) => `\\x${each.charCodeAt(0).toString(16).padStart(2, '0')}`);
 
 const number = (word, name) => {
   if (!/^\d+$/.test(word ?? '')) {
@@ -110,13 +110,15 @@ function update() {
     if (edited === null) {
       throw new Error('an edit is refused');
     }
-    show(edited);
+    const columns = element('columns').value;
+    show(columns === '' ? edited : wrap(edited, number(columns, 'a width')).join('\n'));
   } catch (error) {
     show('');
     element('error').textContent = error.message;
   }
 }
 
-element('text').addEventListener('input', update);
-element('edits').addEventListener('input', update);
+for (const id of ['text', 'edits', 'columns']) {
+  element(id).addEventListener('input', update);
+}
 update();

@@ -4,6 +4,7 @@
 //! buffer there. What memory it needs meanwhile it takes from the block that is passed to it.
 #![tactic(auto)]
 
+pub mod columns;
 pub mod lists;
 mod memory;
 pub mod texts;
