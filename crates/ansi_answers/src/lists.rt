@@ -196,11 +196,7 @@ pub fn join_texts<
     't,
     A: Allocator + Copy,
     I: Iterator<Item = Result<CowStr<'t, A>, AllocError>> + Drop,
->(
-    alloc: A,
-    room: usize,
-    given: I,
-) -> Result<(String<A>, Vec<usize, A>), AllocError>
+>(alloc: A, room: usize, given: I) -> Result<(String<A>, Vec<usize, A>), AllocError>
     requires can { I.can_next given }
     requires ends { IsFinite (I.remaining given) }
     ensures { IfOk result (λ joined. (xs : List (Result (CowStr A) AllocError)) × Drains I.next_gives given xs × All IsOk xs
