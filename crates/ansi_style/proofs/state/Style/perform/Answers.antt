@@ -1,7 +1,12 @@
-use Rattle.ansi_style.proofs.Common.{◌≡◌, ◌∙◌, true, false, ap, arith, nat_tests, Rendition, rendition_of}
+use Rattle.ansi_style.proofs.Common.{◌≡◌, ◌∙◌, true, false, ap, arith, rules, nat_tests, Rendition, rendition_of}
 use Rattle.ansi_style.proofs.CodeLemmas.{effect_of_code-foreground, effect_of_code-background, is_in_table, effect_of_code-outside}
 use Rattle.ansi_style.proofs.state.Style.perform.Goals as goal
 use Rattle.ansi_style.proofs.state.Style.perform.Goals.{then-code-lt38, else-code-lt38+else-code-lt48+else-code-lt90+then-code-lt98, then-code-lt48, else-code-lt48+else-code-lt90+else-code-lt98+else-code-lt100+then-code-lt108, in_default-via-then-code-lt90, in_default-via-else-code-lt90+else-code-lt98+then-code-lt100, in_default-via-else-code-lt90+else-code-lt98+else-code-lt100+else-code-lt108}
+
+-- the bits of two attributes are cleared
+pub returns-in-23 : goal.returns-in-23
+unfolding rendition_of
+returns-in-23 c = search rules
 
 pub returns-in-30-to-37 : goal.returns-in-30-to-37
 unfolding rendition_of
