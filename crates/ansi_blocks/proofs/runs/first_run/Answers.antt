@@ -28,3 +28,7 @@ returns-in-Text c =
     let first = gives_text gives same c.range-piece.ensures.value c.in-Text.is in
     let run = run-text c.range_from.result.now c.loop-item.invariant.so_far (first ∙ ap (λ ps. Text c.range-piece.result.now ∷ ps) (sym (gives_rest gives same c.range_from.ensures.value))) in
     record { none = tt; first = run.0; awaited = run.1 }
+
+-- at the end there is none
+pub returns-clause-first : goal.returns-clause-first
+returns-clause-first c = tt

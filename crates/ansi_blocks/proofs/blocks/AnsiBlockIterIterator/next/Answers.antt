@@ -1,4 +1,4 @@
-use Rattle.ansi_blocks.proofs.Common.{length, ap, arith, rendition_of}
+use Rattle.ansi_blocks.proofs.Common.{length, ap, arith, rules, rendition_of}
 use Rattle.ansi_blocks.proofs.BlockLemmas.{blocks_from-nil}
 use Rattle.ansi_blocks.proofs.BlockWalkLemmas.{not_borrowed}
 use Rattle.ansi_blocks.proofs.blocks.AnsiBlockIterIterator.next.Goals as goal
@@ -18,3 +18,7 @@ returns-in-Err-clause-goes g c =
     let some = ap length c.in_ok-run.ensures.first in
     let none = ap length (blocks_from-nil (rendition_of c.first_run.new.style)) in
     rw (← c.self.view_is) (record { on = λ _. (tt, tt, omega arith); keeps = tt; rests = λ _. tt })
+
+-- the block is the first that was left, in the style that the run is in
+pub returns-in-Ok-clause-steps : goal.returns-in-Ok-clause-steps
+returns-in-Ok-clause-steps g c = search rules
