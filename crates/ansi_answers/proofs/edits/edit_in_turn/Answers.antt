@@ -1,9 +1,13 @@
-use Rattle.std.proofs.Common.{refl, sym}
+use Rattle.std.proofs.Common.{rules, refl, sym}
 use Rattle.std.proofs.lemmas.Bool.{true≢false}
 use Rattle.ansi_str.proofs.EditWalkLemmas.{so_far-more, so_far-refused, so_far-lent, so_far-end}
 use Rattle.ansi_answers.specs.Steps.{change_of_step}
 use Rattle.ansi_answers.proofs.StepLemmas.{pattern-at}
 use Rattle.ansi_answers.proofs.edits.edit_in_turn.Goals as goal
+
+-- the text is a borrow
+pub loop-step-init : goal.loop-step-init
+loop-step-init g c = search rules
 
 pub edit_given-requires : goal.edit_given-requires
 edit_given-requires g c = pattern-at c.args.steps.now c.loop-step.step-index _ c.loop-step-test.true c.requires

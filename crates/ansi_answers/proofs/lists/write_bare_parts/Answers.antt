@@ -1,4 +1,4 @@
-use Rattle.std.proofs.Common.{◌≡◌, ◌∙◌, ℕ, ◌<◌, ◌⊎◌, length, sym, refl, ap₂, subst, inr}
+use Rattle.std.proofs.Common.{rules, ◌≡◌, ◌∙◌, ℕ, ◌<◌, ◌⊎◌, length, sym, refl, ap₂, subst, inr}
 use Rattle.std.specs.Prelude.{flat_map}
 use Rattle.ansi_str.specs.Parts.{all_parts}
 use Rattle.ansi_answers.specs.declared.lists.ListAnswer.{ListAnswer}
@@ -20,3 +20,9 @@ returns-in-Some g c =
       refl,
       refl,
     )
+
+-- there is room, so that what is copied is all of it
+pub returns : goal.returns
+returns g c =
+    let size = length-entries (λ t. t) (λ begin end t. end) 0 (all_parts c.args.text.now c.args.pat.now) in
+    search (rules, size)
