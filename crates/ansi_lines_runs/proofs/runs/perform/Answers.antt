@@ -23,3 +23,7 @@ returns-in_err-text-clause-words g c = search rules
 
 pub returns-in_err-text-clause-untouched : goal.returns-in_err-text-clause-untouched
 returns-in_err-text-clause-untouched g c = search rules
+
+-- all that is written is passed on, by one flush
+pub returns-clause-passed : goal.returns-clause-passed
+returns-clause-passed g c = search rules

@@ -7,3 +7,7 @@ returns-in_default-output-clause-only_bad_words g c = rw c.in-Ok.is (λ bad. inr
 
 pub returns-in_default-output-clause-no_buffer : goal.returns-in_default-output-clause-no_buffer
 returns-in_default-output-clause-no_buffer g c = λ read failed. c.tell-in_default-output.ensures.status
+
+-- a run that is done has told nothing
+pub returns-clause-quiet : goal.returns-clause-quiet
+returns-clause-quiet g c = c.run.ensures.quiet
