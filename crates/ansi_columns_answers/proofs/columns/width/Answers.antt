@@ -1,0 +1,6 @@
+use Rattle.std.proofs.Common.{rules}
+use Rattle.ansi_columns_answers.proofs.columns.width.Goals as goal
+
+-- the columns are told
+pub returns : goal.returns
+returns c = search rules
