@@ -1,4 +1,4 @@
-use Rattle.ansi_blocks.proofs.Common.{length, ap, arith, rules, rendition_of}
+use Rattle.ansi_blocks.proofs.Common.{length, ap, arith, rendition_of}
 use Rattle.ansi_blocks.proofs.BlockLemmas.{blocks_from-nil}
 use Rattle.ansi_blocks.proofs.BlockWalkLemmas.{not_borrowed}
 use Rattle.ansi_blocks.proofs.blocks.AnsiBlockIterIterator.next.Goals as goal
@@ -21,4 +21,4 @@ returns-in-Err-clause-goes g c =
 
 -- the block is the first that was left, in the style that the run is in
 pub returns-in-Ok-clause-steps : goal.returns-in-Ok-clause-steps
-returns-in-Ok-clause-steps g c = search rules
+returns-in-Ok-clause-steps g c = rw (← c.self.view_is, c.in-Ok.ensures.bytes, c.in-Ok.ensures.borrowed) c.in_ok-run.ensures.first
