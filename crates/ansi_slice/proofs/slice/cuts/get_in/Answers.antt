@@ -1,3 +1,4 @@
+use Rattle.std.proofs.Common.{rules}
 use Rattle.ansi_slice.proofs.Common.{sym, ◌∙◌, ap, arith, length, cut_up_to, plain-bare, length-plain}
 use Rattle.ansi_search.proofs.PositionLemmas.{is_good_range-top, none_if_bad, some_if_good}
 use Rattle.ansi_slice.proofs.CutLemmas.{cut_up_to-unwrap_or, cut_up_to-bare}
@@ -11,6 +12,9 @@ returns-in_default-clause-none g c = grind (arith, is_good_range-top, none_if_ba
 
 pub returns-then-not-has_any-clause-none : goal.returns-then-not-has_any-clause-none
 returns-then-not-has_any-clause-none g c = grind (arith, is_good_range-top, plain-bare, some_if_good)
+
+pub returns-then-not-has_any-clause-borrowed : goal.returns-then-not-has_any-clause-borrowed
+returns-then-not-has_any-clause-borrowed g c = search rules
 
 pub returns-then-not-has_any-clause-bytes : goal.returns-then-not-has_any-clause-bytes
 returns-then-not-has_any-clause-bytes g c =
