@@ -1,0 +1,7 @@
+use Rattle.std.proofs.Common.{arith}
+use Rattle.std.proofs.lemmas.Grind.{common_steps}
+use Rattle.ansi_search.proofs.search.is_good_position.Goals as goal
+
+-- the position stands in this run
+pub returns-then-remaining-run : goal.returns-then-remaining-run
+returns-then-remaining-run c = grind (arith, common_steps)
