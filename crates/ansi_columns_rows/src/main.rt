@@ -6,9 +6,6 @@
 //! A line that is empty or begins with `#` is none.
 #![tactic(auto)]
 
-#[cfg(test)]
-mod docs;
-
 use ansi_columns::AnsiColumns;
 use ansi_columns::lines::Lines;
 use ansi_columns::shown::Alignment;

@@ -1,7 +1,8 @@
-//! The examples of the library's docs, each in the same words, as `docs/check-quotes` sees to.
+//! The examples of the docs, each in the same words, as `docs/check-quotes` sees to.
 mod blocks;
 mod calls;
 mod colors;
+mod columns;
 mod edits;
 mod parts;
 mod ranges;
