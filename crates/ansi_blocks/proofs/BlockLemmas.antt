@@ -1,5 +1,5 @@
 -- The blocks of a text, by one walk over its pieces with what waits for the next run, and a running style.
-use Rattle.ansi_blocks.proofs.Common.{◌≡◌, ℕ, IsTrue, zero, suc, ◌≤◌, ◌+◌, ◌<◌, Bool, true, false, not, ◌==◌, List, [], ◌∷◌, ◌++◌, map, filter, filter_map, length, refl, sym, ◌∙◌, ap, ap₂, subst, arith, if◌then◌else◌, append_assoc, append-nil, nat_tests, list_all, escape, is_sgr, Piece, Text, Sequence, LoneEscape, ArePieces, first_piece, first_pieces, pieces_of, Mark, Placed, moved, places, marks_of, joined, has_escape, at_place, copied, Rendition, plain_style, apply, style_within, Block, waiting, block_after, block_of, blocks_from, blocks, pieces_are, further, marks_of-text, marks_of-sequence, marks_of-lone, style_by_marks, style_by_marks-before, style_by_marks-text, style_by_marks-sequence, style_by_marks-lone}
+use Rattle.ansi_blocks.proofs.Common.{◌≡◌, ℕ, IsTrue, zero, suc, ◌≤◌, ◌+◌, ◌<◌, Bool, true, false, not, ◌==◌, List, [], ◌∷◌, ◌++◌, map, filter, filter_map, length, refl, sym, ◌∙◌, ap, ap₂, subst, arith, if◌then◌else◌, append_assoc, append-nil, nat_tests, list_all, is_sgr, Piece, Text, spelling, ArePieces, first_piece, first_pieces, pieces_of, Mark, Placed, moved, places, marks_of, joined, has_escape, at_place, copied, Rendition, plain_style, apply, style_within, Block, waiting, block_after, block_of, blocks_from, blocks, pieces_are, further, marks_of-text, marks_of-mark, style_by_marks, style_by_marks-before, style_by_marks-text, style_by_marks-mark}
 use Rattle.std.specs.Prelude.{IsFalse}
 use Rattle.ansi_items.proofs.PlainLemmas.{one_text, pieces_of-bare}
 
@@ -7,15 +7,13 @@ use Rattle.ansi_items.proofs.PlainLemmas.{one_text, pieces_of-bare}
 abbrev pub blocks_through : Rendition → List ℕ → List Piece → List Block
 blocks_through s held [] = []
 blocks_through s held (Text w ∷ ps) = block_after held w s ∷ blocks_through s [] ps
-blocks_through s held (Sequence w ∷ ps) = blocks_through (apply s w) (held ++ copied (Sequence w)) ps
-blocks_through s held (LoneEscape ∷ ps) = blocks_through s (held ++ copied LoneEscape) ps
+blocks_through s held (p ∷ ps) = blocks_through (apply s (spelling p)) (held ++ copied p) ps
 
 -- the sequences before the first run that are no SGR
 abbrev pub waiting_before : List Piece → List ℕ
 waiting_before [] = []
 waiting_before (Text w ∷ ps) = []
-waiting_before (Sequence w ∷ ps) = copied (Sequence w) ++ waiting_before ps
-waiting_before (LoneEscape ∷ ps) = copied LoneEscape ++ waiting_before ps
+waiting_before (p ∷ ps) = copied p ++ waiting_before ps
 
 -- What waits at a place, by the marks.
 
@@ -101,23 +99,14 @@ walk (Text (c ∷ w) ∷ ps) t are wait style held s follows =
       later = λ i some. beyond i;
       styles = λ i. follows.styles (n + i) ∙ style_by_marks-text s (c ∷ w) ps i;
     }))
-walk (Sequence w ∷ ps) t are wait style held s follows =
+walk (p ∷ ps) t are wait style held s follows =
     by_places-moved wait style 0 (places ps)
-    ∙ walk ps are.0 are.3 (λ i. wait (0 + i)) (λ i. style (0 + i)) (held ++ copied (Sequence w)) (apply s w) (record {
+    ∙ walk ps are.0 are.3 (λ i. wait (0 + i)) (λ i. style (0 + i)) (held ++ copied p) (apply s (spelling p)) (record {
       first = ap wait (omega arith) ∙ follows.first
-          ∙ ap (λ v. held ++ v) (ap (λ ms. others (at_place 0 ms)) (marks_of-sequence w ps) ∙ others-here w (marks_of ps))
-          ∙ sym (append_assoc held (copied (Sequence w)) (waiting_at ps 0));
-      later = λ i some. ap wait (omega arith) ∙ follows.later i some ∙ ap (λ ms. others (at_place i ms)) (marks_of-sequence w ps) ∙ others-after w (marks_of ps) i some;
-      styles = λ i. ap style (omega arith) ∙ follows.styles i ∙ style_by_marks-sequence s w ps i;
-    })
-walk (LoneEscape ∷ ps) t are wait style held s follows =
-    by_places-moved wait style 0 (places ps)
-    ∙ walk ps are.0 are.3 (λ i. wait (0 + i)) (λ i. style (0 + i)) (held ++ copied LoneEscape) s (record {
-      first = ap wait (omega arith) ∙ follows.first
-          ∙ ap (λ v. held ++ v) (ap (λ ms. others (at_place 0 ms)) (marks_of-lone ps) ∙ others-here (escape ∷ []) (marks_of ps))
-          ∙ sym (append_assoc held (copied LoneEscape) (waiting_at ps 0));
-      later = λ i some. ap wait (omega arith) ∙ follows.later i some ∙ ap (λ ms. others (at_place i ms)) (marks_of-lone ps) ∙ others-after (escape ∷ []) (marks_of ps) i some;
-      styles = λ i. ap style (omega arith) ∙ follows.styles i ∙ style_by_marks-lone s ps i;
+          ∙ ap (λ v. held ++ v) (ap (λ ms. others (at_place 0 ms)) (marks_of-mark p ps refl) ∙ others-here (spelling p) (marks_of ps))
+          ∙ sym (append_assoc held (copied p) (waiting_at ps 0));
+      later = λ i some. ap wait (omega arith) ∙ follows.later i some ∙ ap (λ ms. others (at_place i ms)) (marks_of-mark p ps refl) ∙ others-after (spelling p) (marks_of ps) i some;
+      styles = λ i. ap style (omega arith) ∙ follows.styles i ∙ style_by_marks-mark s p ps i refl;
     })
 
 pub blocks_from-walked : (s : Rendition) (t : List ℕ) → blocks_from s t ≡ blocks_through s [] (pieces_of t)
@@ -133,10 +122,8 @@ waiting_at-front [] t are = refl
 waiting_at-front (Text [] ∷ ps) t are = absurd (are.2.0 refl)
 waiting_at-front (Text (c ∷ w) ∷ ps) t are =
     ap (λ ms. others (at_place 0 ms)) (marks_of-text (c ∷ w) ps) ∙ others-front (length (c ∷ w)) (marks_of ps) (omega arith)
-waiting_at-front (Sequence w ∷ ps) t are =
-    ap (λ ms. others (at_place 0 ms)) (marks_of-sequence w ps) ∙ others-here w (marks_of ps) ∙ ap (λ v. copied (Sequence w) ++ v) (waiting_at-front ps are.0 are.3)
-waiting_at-front (LoneEscape ∷ ps) t are =
-    ap (λ ms. others (at_place 0 ms)) (marks_of-lone ps) ∙ others-here (escape ∷ []) (marks_of ps) ∙ ap (λ v. copied LoneEscape ++ v) (waiting_at-front ps are.0 are.3)
+waiting_at-front (p ∷ ps) t are =
+    ap (λ ms. others (at_place 0 ms)) (marks_of-mark p ps refl) ∙ others-here (spelling p) (marks_of ps) ∙ ap (λ v. copied p ++ v) (waiting_at-front ps are.0 are.3)
 
 pub waiting-front : (t : List ℕ) → waiting t 0 ≡ waiting_before (pieces_of t)
 waiting-front t = waiting_at-front (pieces_of t) t (pieces_are t)
@@ -151,8 +138,7 @@ length-first_pieces (suc n) (b ∷ bs) = omega (arith, length-first_pieces n (fi
 length-blocks_through : (s : Rendition) (held : List ℕ) (ps : List Piece) → length (blocks_through s held ps) ≤ length ps
 length-blocks_through s held [] = omega arith
 length-blocks_through s held (Text w ∷ ps) = omega (arith, length-blocks_through s [] ps)
-length-blocks_through s held (Sequence w ∷ ps) = omega (arith, length-blocks_through (apply s w) (held ++ copied (Sequence w)) ps)
-length-blocks_through s held (LoneEscape ∷ ps) = omega (arith, length-blocks_through s (held ++ copied LoneEscape) ps)
+length-blocks_through s held (p ∷ ps) = omega (arith, length-blocks_through (apply s (spelling p)) (held ++ copied p) ps)
 
 pub length-blocks_from : (s : Rendition) (t : List ℕ) → length (blocks_from s t) ≤ length t
 length-blocks_from s t =

@@ -1,5 +1,5 @@
 -- The blocks of a text, as its runs: their number, their texts joined, and their styles.
-use Rattle.ansi_blocks.proofs.Common.{◌≡◌, ◌≢◌, ℕ, zero, suc, ◌+◌, Bool, true, false, not, ◌==◌, List, [], ◌∷◌, ◌++◌, map, filter, flat_map, length, IsTrue, refl, sym, ◌∙◌, ap, ap₂, arith, if◌then◌else◌, append_assoc, append-nil, length-append, and_parts, nat_tests, list_all, escape, is_plain_byte, is_sgr, Piece, Text, Sequence, LoneEscape, ArePieces, spelling, pieces_of, Mark, Placed, places, marks_of, plain_of, plain, is_text, at_place, copied, Rendition, plain_style, apply, style_within, Block, waiting, blocks_from, blocks, runs, without_sgrs, pieces_are, marks_of-text, marks_of-sequence, marks_of-lone}
+use Rattle.ansi_blocks.proofs.Common.{◌≡◌, ◌≢◌, ℕ, zero, suc, ◌+◌, Bool, true, false, not, ◌==◌, List, [], ◌∷◌, ◌++◌, map, filter, flat_map, length, IsTrue, refl, sym, ◌∙◌, ap, ap₂, arith, if◌then◌else◌, append_assoc, append-nil, length-append, and_parts, nat_tests, list_all, escape, is_plain_byte, is_sgr, Piece, Text, ArePieces, spelling, pieces_of, Mark, Placed, places, marks_of, plain_of, plain, is_text, at_place, copied, Rendition, plain_style, apply, style_within, Block, waiting, blocks_from, blocks, runs, without_sgrs, pieces_are, marks_of-text, marks_of-mark}
 use Rattle.std.proofs.lemmas.List.{length-map}
 use Rattle.ansi_style.specs.Styled.{style_at}
 use Rattle.ansi_blocks.proofs.BlockLemmas.{by_places, blocks_through, blocks_from-walked, others, waiting_at, others-further, others-here, others-after}
@@ -51,8 +51,7 @@ without_sgrs-copied (p ∷ ps) = by_kind (is_sgr (spelling p)) (without_sgrs-cop
 abbrev waiting_after : List ℕ → List Piece → List ℕ
 waiting_after held [] = held
 waiting_after held (Text w ∷ ps) = waiting_after [] ps
-waiting_after held (Sequence w ∷ ps) = waiting_after (held ++ copied (Sequence w)) ps
-waiting_after held (LoneEscape ∷ ps) = waiting_after (held ++ copied LoneEscape) ps
+waiting_after held (p ∷ ps) = waiting_after (held ++ copied p) ps
 
 abbrev texts_of : List Block → List ℕ
 texts_of bs = flat_map (λ (b : Block). b.text) bs
@@ -65,10 +64,8 @@ texts-through s held (Text w ∷ ps) t are =
     ∙ ap (λ v. (held ++ w) ++ v) more
     ∙ append_assoc held w (flat_map copied ps)
     ∙ ap (λ v. held ++ (v ++ flat_map copied ps)) (sym (copied-text w are.2.0 are.2.1))
-texts-through s held (Sequence w ∷ ps) t are =
-    texts-through (apply s w) (held ++ copied (Sequence w)) ps are.0 are.3 ∙ append_assoc held (copied (Sequence w)) (flat_map copied ps)
-texts-through s held (LoneEscape ∷ ps) t are =
-    texts-through s (held ++ copied LoneEscape) ps are.0 are.3 ∙ append_assoc held (copied LoneEscape) (flat_map copied ps)
+texts-through s held (p ∷ ps) t are =
+    texts-through (apply s (spelling p)) (held ++ copied p) ps are.0 are.3 ∙ append_assoc held (copied p) (flat_map copied ps)
 
 -- these sequences, at the front
 abbrev at_front : ℕ → List ℕ → List ℕ
@@ -102,16 +99,11 @@ waiting_after-end held (Text (c ∷ w) ∷ ps) t are =
     ∙ ap (λ v. v ++ waiting_at ps len) (at_front-nil len)
     ∙ sym (ap (λ k. at_front k held ++ waiting_at (Text (c ∷ w) ∷ ps) k) all
     ∙ ap₂ (λ b v. (if b then held else []) ++ v) past (ap (λ ms. others (at_place (n + len) ms)) (marks_of-text (c ∷ w) ps) ∙ others-further n len (marks_of ps)))
-waiting_after-end held (Sequence w ∷ ps) t are =
+waiting_after-end held (p ∷ ps) t are =
     let len = length (plain_of ps) in
-    waiting_after-end (held ++ copied (Sequence w)) ps are.0 are.3
-    ∙ at_front-mark held w (marks_of ps) len
-    ∙ ap (λ ms. at_front len held ++ others (at_place len ms)) (sym (marks_of-sequence w ps))
-waiting_after-end held (LoneEscape ∷ ps) t are =
-    let len = length (plain_of ps) in
-    waiting_after-end (held ++ copied LoneEscape) ps are.0 are.3
-    ∙ at_front-mark held (escape ∷ []) (marks_of ps) len
-    ∙ ap (λ ms. at_front len held ++ others (at_place len ms)) (sym (marks_of-lone ps))
+    waiting_after-end (held ++ copied p) ps are.0 are.3
+    ∙ at_front-mark held (spelling p) (marks_of ps) len
+    ∙ ap (λ ms. at_front len held ++ others (at_place len ms)) (sym (marks_of-mark p ps refl))
 
 pub texts-blocks : (t : List ℕ) → texts_of (blocks t) ++ waiting t (length (plain t)) ≡ without_sgrs t
 texts-blocks t =

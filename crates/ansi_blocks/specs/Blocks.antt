@@ -5,7 +5,7 @@ use Rattle.std.specs.declared.borrow.CowStr.TheVariants.{Borrowed, Owned}
 use Rattle.ansi_items.specs.Sequences.{is_sgr}
 use Rattle.ansi_style.specs.declared.state.rendition.Rendition.{Rendition}
 use Rattle.ansi_style.specs.Rendition.{plain_style}
-use Rattle.ansi_items.specs.Pieces.{Piece, Text, Sequence, LoneEscape, spelling, pieces_of}
+use Rattle.ansi_items.specs.Pieces.{Piece, Text, spelling, pieces_of}
 use Rattle.ansi_items.specs.Plain.{Placed, places, marks, joined, is_text, at_place}
 use Rattle.ansi_style.specs.Reading.{style_within}
 
@@ -26,8 +26,7 @@ block_after sequences w s = record { text = sequences ++ w; style = s; is_borrow
 -- the block of a piece, after these sequences and in this style: a text gives one, a sequence or a lone escape none
 abbrev pub block_of : List ℕ → Rendition → Piece → Option Block
 block_of sequences s (Text w) = Some (block_after sequences w s)
-block_of sequences s (Sequence w) = None
-block_of sequences s LoneEscape = None
+block_of sequences s _ = None
 
 -- the blocks of t, in order, where s is the style before it
 unfoldable pub blocks_from : Rendition → List ℕ → List Block

@@ -20,7 +20,7 @@ use Rattle.ansi_items.specs.declared.ansitok.Kind.{Kind}
 use Rattle.ansi_items.specs.declared.ansitok.Kind.TheVariants.{Text as TextKind, Sgr, Other, Lone}
 use Rattle.ansi_items.proofs.PieceLemmas.{pieces_are}
 use Rattle.ansi_items.proofs.StepLemmas.{BeginsWithMark, is_mark, gives_mark, plain_of-mark}
-use Rattle.ansi_style.proofs.MarkLemmas.{state_by_marks, state_by_marks-before, state_by_marks-text, state_by_marks-sequence, state_by_marks-lone}
+use Rattle.ansi_style.proofs.MarkLemmas.{state_by_marks, state_by_marks-before, state_by_marks-text, state_by_marks-mark}
 use Rattle.ansi_columns.specs.Addresses.{address_at}
 use Rattle.ansi_columns.specs.Links.{terminator_len, address_of, is_link, opens_link, link_of, link_after, link_at}
 use Rattle.ansi_columns.proofs.LinkLemmas.{link_of-fold, is_link-sgr}
@@ -34,11 +34,6 @@ past-text : (link w : List ℕ) (ps : List Piece) (i : ℕ) → length w ≤ i �
 past-text link w ps i within =
     let all : i ≡ length w + (i - length w) = omega arith in
     ap (link_by_marks link (Text w ∷ ps)) all ∙ state_by_marks-text link_after link w ps (i - length w)
-
-past-mark : (link : List ℕ) (p : Piece) (ps : List Piece) (i : ℕ) → is_mark p ≡ true → link_by_marks link (p ∷ ps) i ≡ link_by_marks (link_after link (spelling p)) ps i
-past-mark link (Text w) ps i is = absurd (cc is)
-past-mark link (Sequence w) ps i is = state_by_marks-sequence link_after link w ps i
-past-mark link LoneEscape ps i is = state_by_marks-lone link_after link ps i
 
 -- a link is a whole sequence, or none is open
 abbrev pub IsNoneOrSequence : List ℕ → Type 0
@@ -80,7 +75,7 @@ way-other {t} {link} {w} {next} {n} {left} {kind} {old} {ps} way mark is next_is
     let here = subst (IsOnTheWay t n link left) mark.pieces way in
     rw next_is (record {
       within = ap (λ x. nat_lt left (length x)) (sym (plain_of-mark mark.mark ps mark.is_mark)) ∙ here.within;
-      linked = ap (λ v. link_by_marks (link_after link v) ps left) (sym mark.bytes) ∙ sym (past-mark link mark.mark ps left mark.is_mark) ∙ here.linked;
+      linked = ap (λ v. link_by_marks (link_after link v) ps left) (sym mark.bytes) ∙ sym (state_by_marks-mark link_after link mark.mark ps left mark.is_mark) ∙ here.linked;
       sequence = still-sequence link w here.sequence is;
     })
 
@@ -91,7 +86,7 @@ way-rest {t} {link} {w} {n} {left} {kind} {old} {ps} way mark other =
     let same : link_after link w ≡ link = ap (λ b. if b then (if opens_link w then w else []) else link) other in
     record {
       within = ap (λ x. nat_lt left (length x)) (sym (plain_of-mark mark.mark ps mark.is_mark)) ∙ here.within;
-      linked = ap (λ v. link_by_marks v ps left) (sym same) ∙ ap (λ v. link_by_marks (link_after link v) ps left) (sym mark.bytes) ∙ sym (past-mark link mark.mark ps left mark.is_mark) ∙ here.linked;
+      linked = ap (λ v. link_by_marks v ps left) (sym same) ∙ ap (λ v. link_by_marks (link_after link v) ps left) (sym mark.bytes) ∙ sym (state_by_marks-mark link_after link mark.mark ps left mark.is_mark) ∙ here.linked;
       sequence = here.sequence;
     }
 

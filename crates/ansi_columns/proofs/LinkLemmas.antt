@@ -100,7 +100,7 @@ abbrev bytes_of_all : List Mark → List (List ℕ)
 bytes_of_all ms = map (λ (m : Mark). m.bytes) ms
 
 through-marks : (link : List ℕ) (ps : List Piece) → fold link_after link (bytes_of_all (marks_of ps)) ≡ link_through link ps
-through-marks = state_after-marks_of link_after (λ link. refl)
+through-marks = state_after-marks_of link_after
 
 -- a link sequence, where it opens one
 abbrev opened : List ℕ → List ℕ
@@ -146,8 +146,7 @@ open-begin t before open_before = record { styled = sym (style_after_from-pieces
 through-mark : (style : Rendition) (link : List ℕ) (p : Piece) (ps : List Piece) → is_mark p ≡ true
     → (style_through style (p ∷ ps) ≡ style_through (apply style (spelling p)) ps) × (link_through link (p ∷ ps) ≡ link_through (link_after link (spelling p)) ps)
 through-mark style link (Text w) ps is = absurd (cc is)
-through-mark style link (Sequence w) ps is = (refl, refl)
-through-mark style link LoneEscape ps is = (refl, refl)
+through-mark style link p ps is = (refl, refl)
 
 open-mark : {t w open_before : List ℕ} {before style : Rendition} {link : List ℕ} {kind : Kind} {old ps : List Piece} → IsOpenSoFar t before open_before style link old → BeginsWithMark kind w old ps → IsOpenSoFar t before open_before (apply style w) (link_after link w) ps
 open-mark {t} {w} {open_before} {before} {style} {link} {kind} {old} {ps} so_far mark =

@@ -33,7 +33,7 @@ linked_through link ps = seen_through link_after linked_byte link ps
 pub linked-pieces : (t : List ℕ) → linked t ≡ linked_through [] (pieces_of t)
 linked-pieces t =
     seen_by-alike link_after linked_byte (plain t) (link_at t) (link_by_marks [] (pieces_of t)) (λ i below. link_of-fold (up_to i (marks t)))
-    ∙ seen_by-pieces link_after linked_byte (λ link. refl) [] (pieces_of t)
+    ∙ seen_by-pieces link_after linked_byte [] (pieces_of t)
 
 -- without their links they are the plain text
 
@@ -80,7 +80,7 @@ pub shown_is : (t link : List ℕ) (test : ℕ → Bool) (a b : ℕ) → IsTrue 
     → IsLinked link (show (plain t) a b (at_places test (marks t))) (linked_through link (shown_pieces test a b (pieces_of t))) (link_after_all link (at_places test (marks t)))
 shown_is t link test a b whole =
     let made = spelled_is link (shown_pieces test a b (pieces_of t)) (show (plain t) a b (at_places test (marks t))) (spelled-shown_pieces (pieces_of t) test a b) (shown_pieces_stand (pieces_of t) test a b (pieces_stand t whole)) in
-    record { whole = made.whole; bytes = made.bytes; after = made.after ∙ state_through-shown_pieces link_after (λ l. refl) (pieces_of t) link test a b }
+    record { whole = made.whole; bytes = made.bytes; after = made.after ∙ state_through-shown_pieces link_after (pieces_of t) link test a b }
 
 -- of a front they are the slice
 front_is : (t : List ℕ) (e : ℕ) → IsTrue (is_whole t) → IsLinked [] (show (plain t) 0 e (up_to e (marks t))) (take e (linked t)) (link_at t e)
@@ -89,7 +89,7 @@ front_is t e whole =
     let all : e - 0 ≡ e = omega arith in
     record {
       whole = made.whole;
-      bytes = made.bytes ∙ seen_through-shown_pieces link_after (λ l. refl) linked_byte (pieces_of t) [] (λ p. nat_le p e) 0 e (λ p below. le-leb p e (omega arith)) ∙ ap (λ bs. slice_range bs 0 e) (sym (linked-pieces t)) ∙ ap (λ n. take n (linked t)) all;
+      bytes = made.bytes ∙ seen_through-shown_pieces link_after linked_byte (pieces_of t) [] (λ p. nat_le p e) 0 e (λ p below. le-leb p e (omega arith)) ∙ ap (λ bs. slice_range bs 0 e) (sym (linked-pieces t)) ∙ ap (λ n. take n (linked t)) all;
       after = made.after ∙ sym (link_of-fold (up_to e (marks t)));
     }
 

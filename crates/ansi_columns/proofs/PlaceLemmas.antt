@@ -10,8 +10,9 @@ use Rattle.ansi_items.specs.Plain.{marks_of, marks, up_to, plain_of, plain}
 use Rattle.ansi_items.proofs.PieceLemmas.{pieces_are, pieces_of-unique}
 use Rattle.ansi_items.proofs.PlainLemmas.{one_text, one_text_are, plain_of-one_text}
 use Rattle.ansi_items.proofs.JoinLemmas.{after_text_are}
-use Rattle.ansi_style.proofs.MarkLemmas.{further, marks_of-text, marks_of-sequence, marks_of-lone, up_to-none, up_to-further, up_to-here}
+use Rattle.ansi_style.proofs.MarkLemmas.{further, marks_of-text, marks_of-mark, up_to-none, up_to-further, up_to-here}
 use Rattle.ansi_search.specs.Offsets.{bytes_before, offset_of}
+use Rattle.ansi_split.proofs.AfterLemmas.{is_cut_after}
 use Rattle.ansi_search.proofs.SliceLemmas.{list_all-parts}
 use Rattle.ansi_search.proofs.OffsetLemmas.{bytes_before-last, bytes_before-text, after_of, after_of-last, after_of-text, take-after, pieces_of-after}
 
@@ -41,8 +42,7 @@ bytes_before-add n m (Text w ∷ ps) = elim (cases_lt n (length w)) [
         bytes_before-add (n - length w) m ps,
       )
 ]
-bytes_before-add n m (Sequence w ∷ ps) = omega (arith, bytes_before-add n m ps)
-bytes_before-add n m (LoneEscape ∷ ps) = omega (arith, bytes_before-add n m ps)
+bytes_before-add n m (p ∷ ps) = omega (arith, bytes_before-add n m ps)
 
 -- a later place, by the text from the earlier one on
 pub offset_of-add : (t : List ℕ) (n m : ℕ) → offset_of t (n + m) ≡ offset_of t n + offset_of (drop (offset_of t n) t) m
@@ -50,98 +50,11 @@ offset_of-add t n m = bytes_before-add n m (pieces_of t) ∙ ap (λ ps. offset_o
 
 -- What stands before a place has the plain bytes and the marks up to there.
 
-first_of_front : (k : ℕ) (rest : List ℕ) → (rest ≢ [] → slice_index rest 0 ≡ escape) → take k rest ≢ [] → slice_index (take k rest) 0 ≡ escape
-first_of_front zero rest after some = absurd (some refl)
-first_of_front (suc k) [] after some = absurd (some refl)
-first_of_front (suc k) (b ∷ rest) after some = after (λ e. cc)
-
-take-take : (n k : ℕ) (x : List ℕ) → n ≤ k → take n (take k x) ≡ take n x
-take-take zero k x within = refl
-take-take (suc n) zero x within = absurd (omega arith)
-take-take (suc n) (suc k) [] within = refl
-take-take (suc n) (suc k) (b ∷ x) within = ap (λ y. b ∷ y) (take-take n k x (omega arith))
-
-take-none : (n : ℕ) → take {A = ℕ} n [] ≡ []
-take-none zero = refl
-take-none (suc n) = refl
-
-take-past : (n k : ℕ) (x : List ℕ) → k ≤ n → take n (take k x) ≡ take k x
-take-past n zero x within = take-none n
-take-past zero (suc k) x within = absurd (omega arith)
-take-past (suc n) (suc k) [] within = refl
-take-past (suc n) (suc k) (b ∷ x) within = ap (λ y. b ∷ y) (take-past n k x (omega arith))
-
-alone_in_front : (k : ℕ) (rest : List ℕ) → ((n : ℕ) → ¬ (IsSequence (take n (escape ∷ rest)))) → (n : ℕ) → ¬ (IsSequence (take n (escape ∷ take k rest)))
-alone_in_front k rest alone n whole = elim (cases_lt n (suc k)) [
-  | inl less ↦ alone n (subst IsSequence (take-take n (suc k) (escape ∷ rest) (omega arith)) whole)
-  | inr past ↦ alone (suc k) (subst IsSequence (take-past n (suc k) (escape ∷ rest) past) whole)
-]
-
--- the text t up to its plain byte n
-pub record IsFront (n : ℕ) (t : List ℕ) (ps : List Piece) : Type 0 where
-  pub pieces : List Piece
-  pub are : ArePieces (take (bytes_before n ps) t) pieces
-  pub plain : plain_of pieces ≡ take n (plain_of ps)
-  pub marks : marks_of pieces ≡ up_to n (marks_of ps)
-
-marks_of-one_text : (w : List ℕ) → marks_of (one_text w) ≡ []
-marks_of-one_text [] = refl
-marks_of-one_text (b ∷ w) = refl
-
-front : (n : ℕ) (t : List ℕ) (ps : List Piece) → ArePieces t ps → IsFront n t ps
-front n t [] are = record { pieces = []; are = refl; plain = sym (take-none n); marks = refl }
-front n t (Text w ∷ ps) are = elim (cases_lt n (length w)) [
-  | inl last ↦
-      let u = take n w in
-      let bytes : take (bytes_before n (Text w ∷ ps)) t ≡ u = ap₂ take (bytes_before-last n w ps last) are.1 ∙ take-append-le n w are.0 (omega arith) in
-      record {
-        pieces = one_text u;
-        are = subst (λ v. ArePieces v (one_text u)) (sym bytes) (one_text_are u (list_all-parts is_plain_byte n w are.2.1).0);
-        plain = plain_of-one_text u ∙ sym (take-append-le n w (plain_of ps) (omega arith));
-        marks = marks_of-one_text u ∙ sym (ap (up_to n) (marks_of-text w ps) ∙ up_to-none n (length w) (marks_of ps) last);
-      }
-  | inr within ↦
-      let k = n - length w in
-      let more = front k are.0 ps are.3 in
-      let all : n ≡ length w + k = omega arith in
-      record {
-        pieces = Text w ∷ more.pieces;
-        are = (
-          take (bytes_before k ps) are.0,
-          ap₂ take (bytes_before-text n w ps within) are.1 ∙ take-after w are.0 (bytes_before k ps),
-          (are.2.0, are.2.1, first_of_front (bytes_before k ps) are.0 are.2.2),
-          more.are,
-        );
-        plain = ap (λ v. w ++ v) more.plain ∙ sym (ap (λ i. take i (w ++ plain_of ps)) all ∙ take-after w (plain_of ps) k);
-        marks = marks_of-text w more.pieces ∙ ap (map (further (length w))) more.marks ∙ sym (ap (up_to n) (marks_of-text w ps) ∙ up_to-further n (length w) (marks_of ps) within);
-      }
-]
-front n t (Sequence w ∷ ps) are =
-    let more = front n are.0 ps are.3 in
-    record {
-      pieces = Sequence w ∷ more.pieces;
-      are = (take (bytes_before n ps) are.0, ap (take (length w + bytes_before n ps)) are.1 ∙ take-after w are.0 (bytes_before n ps), are.2, more.are);
-      plain = more.plain;
-      marks = marks_of-sequence w more.pieces ∙ ap (λ ms. record { place = 0; bytes = w } ∷ ms) more.marks ∙ sym (ap (up_to n) (marks_of-sequence w ps) ∙ up_to-here n w (marks_of ps));
-    }
-front n t (LoneEscape ∷ ps) are =
-    let more = front n are.0 ps are.3 in
-    record {
-      pieces = LoneEscape ∷ more.pieces;
-      are = (take (bytes_before n ps) are.0, ap (take (1 + bytes_before n ps)) are.1 ∙ take-after (escape ∷ []) are.0 (bytes_before n ps), alone_in_front (bytes_before n ps) are.0 are.2, more.are);
-      plain = more.plain;
-      marks = marks_of-lone more.pieces ∙ ap (λ ms. record { place = 0; bytes = escape ∷ [] } ∷ ms) more.marks ∙ sym (ap (up_to n) (marks_of-lone ps) ∙ up_to-here n (escape ∷ []) (marks_of ps));
-    }
-
 pub plain-before : (t : List ℕ) (n : ℕ) → plain (take (offset_of t n) t) ≡ take n (plain t)
-plain-before t n =
-    let f = front n t (pieces_of t) (pieces_are t) in
-    ap plain_of (sym (pieces_of-unique (take (offset_of t n) t) f.pieces f.are)) ∙ f.plain
+plain-before t n = (is_cut_after t n (offset_of t n) refl).plain_front
 
 pub marks-before : (t : List ℕ) (n : ℕ) → marks (take (offset_of t n) t) ≡ up_to n (marks t)
-marks-before t n =
-    let f = front n t (pieces_of t) (pieces_are t) in
-    ap marks_of (sym (pieces_of-unique (take (offset_of t n) t) f.pieces f.are)) ∙ f.marks
+marks-before t n = (is_cut_after t n (offset_of t n) refl).marks_front
 
 -- A text that begins with plain bytes.
 
@@ -149,10 +62,8 @@ pieces_of-run : (w v : List ℕ) → w ≢ [] → list_all is_plain_byte w ≡ t
 pieces_of-run w v some all = sym (pieces_of-unique (w ++ v) (after_text w (pieces_of v)) (after_text_are w v (pieces_of v) some all (pieces_are v)))
 
 plain_of-after_text : (w : List ℕ) (ps : List Piece) → plain_of (after_text w ps) ≡ w ++ plain_of ps
-plain_of-after_text w [] = refl
 plain_of-after_text w (Text v ∷ ps) = append_assoc w v (plain_of ps)
-plain_of-after_text w (Sequence v ∷ ps) = refl
-plain_of-after_text w (LoneEscape ∷ ps) = refl
+plain_of-after_text w ps = refl
 
 pub plain-run : (w v : List ℕ) → list_all is_plain_byte w ≡ true → plain (w ++ v) ≡ w ++ plain v
 plain-run [] v all = refl
@@ -160,12 +71,10 @@ plain-run (b ∷ w) v all = ap plain_of (pieces_of-run (b ∷ w) v (λ e. cc) al
 
 -- the place after these bytes
 bytes_before-after_text : (w v : List ℕ) (ps : List Piece) → ArePieces v ps → bytes_before (length w) (after_text w ps) ≡ length w + bytes_before 0 ps
-bytes_before-after_text w v [] are = let none : length w - length w ≡ 0 = omega arith in bytes_before-text (length w) w [] (omega arith) ∙ ap (λ k. length w + bytes_before k []) none
 bytes_before-after_text w v (Text [] ∷ ps) are = absurd (are.2.0 refl)
 bytes_before-after_text w v (Text (b ∷ u) ∷ ps) are =
     omega (arith, bytes_before-last (length w) (w ++ b ∷ u) ps (omega (arith, length-append w (b ∷ u))), bytes_before-last 0 (b ∷ u) ps (omega arith))
-bytes_before-after_text w v (Sequence u ∷ ps) are = let none : length w - length w ≡ 0 = omega arith in bytes_before-text (length w) w (Sequence u ∷ ps) (omega arith) ∙ ap (λ k. length w + bytes_before k (Sequence u ∷ ps)) none
-bytes_before-after_text w v (LoneEscape ∷ ps) are = let none : length w - length w ≡ 0 = omega arith in bytes_before-text (length w) w (LoneEscape ∷ ps) (omega arith) ∙ ap (λ k. length w + bytes_before k (LoneEscape ∷ ps)) none
+bytes_before-after_text w v ps are = (let none : length w - length w ≡ 0 = omega arith in bytes_before-text (length w) w ps (omega arith) ∙ ap (λ k. length w + bytes_before k ps) none)
 
 pub offset_of-run : (w v : List ℕ) → w ≢ [] → list_all is_plain_byte w ≡ true → offset_of (w ++ v) (length w) ≡ length w + offset_of v 0
 offset_of-run w v some all = ap (bytes_before (length w)) (pieces_of-run w v some all) ∙ bytes_before-after_text w v (pieces_of v) (pieces_are v)
@@ -177,7 +86,5 @@ offset_of-plain b v is =
     ap (bytes_before 0) e ∙ first (pieces_of v)
   where
     first : (ps : List Piece) → bytes_before 0 (after_text (b ∷ []) ps) ≡ 0
-    first [] = refl
     first (Text u ∷ ps) = bytes_before-last 0 (b ∷ u) ps (omega arith)
-    first (Sequence u ∷ ps) = bytes_before-last 0 (b ∷ []) (Sequence u ∷ ps) (omega arith)
-    first (LoneEscape ∷ ps) = bytes_before-last 0 (b ∷ []) (LoneEscape ∷ ps) (omega arith)
+    first ps = bytes_before-last 0 (b ∷ []) ps (omega arith)

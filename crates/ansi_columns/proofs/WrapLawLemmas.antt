@@ -18,7 +18,7 @@ use Rattle.ansi_style.specs.Reading.{after_marks}
 use Rattle.ansi_style.specs.Styled.{StyledByte, styled, residue}
 use Rattle.ansi_style.specs.Written.{start, start_codes, close_if_any}
 use Rattle.ansi_style.proofs.DressedLemmas.{GiveAlone, IsClosed, closed-spelled, dressed_pieces, spelled-dressed_pieces, dressed_pieces_stand, dressed_pieces_give}
-use Rattle.ansi_style.proofs.MarkLemmas.{further, marks_of-text, marks_of-sequence}
+use Rattle.ansi_style.proofs.MarkLemmas.{further, marks_of-text, marks_of-mark}
 use Rattle.ansi_style.proofs.ReadBackLemmas.{start_codes_are}
 use Rattle.ansi_style.proofs.SgrLemmas.{apply-no_sgr}
 use Rattle.ansi_style.proofs.StyleLemmas.{IsStyle-apply_all, IsStyle-plain_style}
@@ -55,7 +55,7 @@ sequences-filter test (m ∷ ms) all =
 marks_are_sequences : (ps : List Piece) → AllStandAnywhere ps → AreSequences (marks_of ps)
 marks_are_sequences [] all = tt
 marks_are_sequences (Text w ∷ ps) all = subst AreSequences (sym (marks_of-text w ps)) (sequences-further (length w) (marks_of ps) (marks_are_sequences ps all.1))
-marks_are_sequences (Sequence w ∷ ps) all = subst AreSequences (sym (marks_of-sequence w ps)) (all.0, marks_are_sequences ps all.1)
+marks_are_sequences (Sequence w ∷ ps) all = subst AreSequences (sym (marks_of-mark (Sequence w) ps refl)) (all.0, marks_are_sequences ps all.1)
 marks_are_sequences (LoneEscape ∷ ps) all = absurd all.0
 
 -- A sequence that opens a link or ends one, or nothing.
@@ -223,20 +223,20 @@ module _ (t : List ℕ) (k : ℕ) (early here together : ℕ → Bool) (style : 
 
   styled_here : styled_through style shown_here ≡ slice_range (styled t) i.0 i.1
   styled_here =
-      ap (λ s. styled_through s shown_here) here_open.styled ∙ seen-divided apply (λ s. refl) plain_style t k early here together i next.divides next.after styled_byte next.covers
+      ap (λ s. styled_through s shown_here) here_open.styled ∙ seen-divided apply plain_style t k early here together i next.divides next.after styled_byte next.covers
       ∙ ap (λ bs. slice_range bs i.0 i.1) (sym (styled-pieces t))
 
   linked_here : linked_through link shown_here ≡ slice_range (linked t) i.0 i.1
   linked_here =
-      ap (λ l. linked_through l shown_here) here_open.linked ∙ seen-divided link_after (λ l. refl) [] t k early here together i next.divides next.after linked_byte next.covers
+      ap (λ l. linked_through l shown_here) here_open.linked ∙ seen-divided link_after [] t k early here together i next.divides next.after linked_byte next.covers
       ∙ ap (λ bs. slice_range bs i.0 i.1) (sym (linked-pieces t))
 
   open_after : AreOpen t together (after_marks style (at_places here (marks t))) (link_after_all link (at_places here (marks t)))
   open_after = record {
     styled = sym (style_through-shown_pieces (pieces_of t) style here i.0 i.1) ∙ ap (λ s. style_through s shown_here) here_open.styled
-        ∙ state-divided apply (λ s. refl) plain_style t k early here together i next.divides next.after;
-    linked = sym (state_through-shown_pieces link_after (λ l. refl) (pieces_of t) link here i.0 i.1) ∙ ap (λ l. link_through l shown_here) here_open.linked
-        ∙ state-divided link_after (λ l. refl) [] t k early here together i next.divides next.after;
+        ∙ state-divided apply plain_style t k early here together i next.divides next.after;
+    linked = sym (state_through-shown_pieces link_after (pieces_of t) link here i.0 i.1) ∙ ap (λ l. link_through l shown_here) here_open.linked
+        ∙ state-divided link_after [] t k early here together i next.divides next.after;
   }
 
   is_style_before : IsStyle style

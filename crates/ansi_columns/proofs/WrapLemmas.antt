@@ -7,7 +7,7 @@ use Rattle.std.proofs.lemmas.Bool.{cases_lt, cond_both, and_parts, and_from, and
 use Rattle.std.proofs.lemmas.Bool.Decides.{nat_tests}
 use Rattle.std.proofs.lemmas.List.{length-map, length-drop, length-take-le, take_all, drop-drop, take-append-drop, get_or-take}
 use Rattle.std.proofs.lemmas.Str.{IsCharBoundary-end}
-use Rattle.ansi_items.specs.Pieces.{Piece, Text, Sequence, LoneEscape, pieces_of}
+use Rattle.ansi_items.specs.Pieces.{Piece, Text, Sequence, LoneEscape, pieces_of, spelling}
 use Rattle.ansi_items.specs.Plain.{Mark, plain, plain_of, marks, up_to, has_escape}
 use Rattle.ansi_items.proofs.JoinLemmas.{spelled, spelled-pieces_of}
 use Rattle.ansi_items.proofs.PlainLemmas.{plain-bare}
@@ -209,8 +209,7 @@ module _ (t : List ℕ) (before taken : ℕ) (walk : Walk) (is : IsTaken t befor
     all_before k (Text w ∷ ps) past =
         let size = length-append w (plain_of ps) in
         omega (arith, bytes_before-text k w ps (omega (arith, size, past)), length-append w (spelled ps), all_before (k - length w) ps (omega (arith, size, past)))
-    all_before k (Sequence w ∷ ps) past = omega (arith, length-append w (spelled ps), all_before k ps past)
-    all_before k (LoneEscape ∷ ps) past = omega (arith, all_before k ps past)
+    all_before k (p ∷ ps) past = omega (arith, length-append (spelling p) (spelled ps), all_before k ps past)
 
     plain-front : plain front ≡ take (e - before) (plain rest)
     plain-front = cut.plain_front

@@ -46,10 +46,8 @@ pub pieces_of-spelled : (ps : List Piece) → AllStandAnywhere ps → pieces_of 
 pieces_of-spelled ps all = sym (pieces_of-unique (spelled ps) (merged ps) (merged_are ps all))
 
 are_whole-after_text : (w : List ℕ) (ps : List Piece) → are_whole ps ≡ true → are_whole (after_text w ps) ≡ true
-are_whole-after_text w [] whole = refl
 are_whole-after_text w (Text v ∷ ps) whole = whole
-are_whole-after_text w (Sequence v ∷ ps) whole = whole
-are_whole-after_text w (LoneEscape ∷ ps) whole = whole
+are_whole-after_text w ps whole = whole
 
 are_whole-merged : (ps : List Piece) → AllStandAnywhere ps → are_whole (merged ps) ≡ true
 are_whole-merged [] all = refl

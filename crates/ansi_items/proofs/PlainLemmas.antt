@@ -1,5 +1,5 @@
 -- A text without ESC is its own plain text, and a plain text is one.
-use Rattle.ansi_items.proofs.Common.{◌≡◌, ◌≢◌, ℕ, ◌≤◌, true, false, List, [], ◌∷◌, length, refl, sym, ◌∙◌, ap, arith, append-nil, length-append, and_from, and_parts, or_parts, or_from, not-true, not_from_false, list_all-append, ◌==◌, list_all, escape, is_plain_byte, Piece, Text, Sequence, LoneEscape, ArePieces, pieces_of, plain_of, plain, are_whole, is_whole, has_escape}
+use Rattle.ansi_items.proofs.Common.{◌≡◌, ◌≢◌, ℕ, ◌≤◌, true, false, List, [], ◌∷◌, length, refl, sym, ◌∙◌, ap, arith, append-nil, length-append, and_from, and_parts, or_parts, or_from, not-true, not_from_false, list_all-append, ◌==◌, list_all, escape, is_plain_byte, Piece, Text, spelling, ArePieces, pieces_of, plain_of, plain, are_whole, is_whole, has_escape}
 use Rattle.ansi_items.proofs.PieceLemmas.{pieces_are, pieces_of-unique}
 
 -- No ESC stands in a list of plain bytes alone.
@@ -48,8 +48,7 @@ all_plain : (t : List ℕ) (ps : List Piece) → ArePieces t ps → list_all is_
 all_plain t [] are = refl
 all_plain t (Text w ∷ ps) are =
     list_all-append is_plain_byte w (plain_of ps) ∙ and_from _ _ are.2.1 (all_plain are.0 ps are.3)
-all_plain t (Sequence w ∷ ps) are = all_plain are.0 ps are.3
-all_plain t (LoneEscape ∷ ps) are = all_plain are.0 ps are.3
+all_plain t (p ∷ ps) are = all_plain are.0 ps are.3
 
 pub has_escape-plain : (t : List ℕ) → has_escape (plain t) ≡ false
 has_escape-plain t = no_escape (plain t) (all_plain t (pieces_of t) (pieces_are t))
@@ -66,8 +65,7 @@ length-plain_of : (t : List ℕ) (ps : List Piece) → ArePieces t ps → length
 length-plain_of t [] are = omega arith
 length-plain_of t (Text w ∷ ps) are =
     omega (arith, length-append w (plain_of ps), ap length are.1, length-append w are.0, length-plain_of are.0 ps are.3)
-length-plain_of t (Sequence w ∷ ps) are = omega (arith, ap length are.1, length-append w are.0, length-plain_of are.0 ps are.3)
-length-plain_of t (LoneEscape ∷ ps) are = omega (arith, ap length are.1, length-plain_of are.0 ps are.3)
+length-plain_of t (p ∷ ps) are = omega (arith, ap length are.1, length-append (spelling p) are.0, length-plain_of are.0 ps are.3)
 
 pub length-plain : (t : List ℕ) → length (plain t) ≤ length t
 length-plain t = length-plain_of t (pieces_of t) (pieces_are t)

@@ -63,5 +63,4 @@ gives_mark {old} {new} {item} {text} {w} gives same is other =
 
 pub plain_of-mark : (p : Piece) (ps : List Piece) → is_mark p ≡ true → plain_of (p ∷ ps) ≡ plain_of ps
 plain_of-mark (Text w) ps is = absurd (cc is)
-plain_of-mark (Sequence w) ps is = refl
-plain_of-mark LoneEscape ps is = refl
+plain_of-mark p ps is = refl

@@ -1,5 +1,5 @@
 -- The plain text of a UTF-8 text is UTF-8.
-use Rattle.ansi_items.proofs.Common.{ℕ, List, [], ◌∷◌, ◌++◌, length, refl, subst, IsUtf8-append, IsUtf8-take, IsUtf8-drop, IsUtf8-nil, take-append_seam, drop-append_seam, IsUtf8, Piece, Text, Sequence, LoneEscape, spelling, StandsBefore, ArePieces, pieces_of, plain_bytes, plain_of, plain}
+use Rattle.ansi_items.proofs.Common.{ℕ, List, [], ◌∷◌, ◌++◌, length, refl, subst, IsUtf8-append, IsUtf8-take, IsUtf8-drop, IsUtf8-nil, take-append_seam, drop-append_seam, IsUtf8, Piece, Text, spelling, StandsBefore, ArePieces, pieces_of, plain_bytes, plain_of, plain}
 use Rattle.ansi_items.proofs.PieceLemmas.{pieces_are}
 use Rattle.ansi_items.proofs.ScanLemmas.{piece_ends}
 
@@ -15,8 +15,7 @@ piece_and_rest p rest stands utf8 =
 
 IsUtf8-plain_bytes : (p : Piece) → IsUtf8 (spelling p) → IsUtf8 (plain_bytes p)
 IsUtf8-plain_bytes (Text w) utf8 = utf8
-IsUtf8-plain_bytes (Sequence w) utf8 = IsUtf8-nil
-IsUtf8-plain_bytes LoneEscape utf8 = IsUtf8-nil
+IsUtf8-plain_bytes p utf8 = IsUtf8-nil
 
 IsUtf8-plain_of : (t : List ℕ) (ps : List Piece) → ArePieces t ps → IsUtf8 t → IsUtf8 (plain_of ps)
 IsUtf8-plain_of t [] are utf8 = IsUtf8-nil

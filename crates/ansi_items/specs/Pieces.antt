@@ -56,14 +56,11 @@ pieces_of t = first_pieces (length t) t
 
 -- a text before pieces, of which the first may be a text that it joins
 abbrev pub after_text : List ℕ → List Piece → List Piece
-after_text w [] = Text w ∷ []
 after_text w (Text v ∷ ps) = Text (w ++ v) ∷ ps
-after_text w (Sequence v ∷ ps) = Text w ∷ Sequence v ∷ ps
-after_text w (LoneEscape ∷ ps) = Text w ∷ LoneEscape ∷ ps
+after_text w ps = Text w ∷ ps
 
 -- the pieces with texts that touch joined
 abbrev pub merged : List Piece → List Piece
 merged [] = []
 merged (Text w ∷ ps) = after_text w (merged ps)
-merged (Sequence w ∷ ps) = Sequence w ∷ merged ps
-merged (LoneEscape ∷ ps) = LoneEscape ∷ merged ps
+merged (p ∷ ps) = p ∷ merged ps

@@ -3,13 +3,12 @@ use Rattle.std.specs.Prelude.{ℕ, ◌+◌, Bool, true, false, not, ◌&&◌, Li
 use Rattle.std.specs.List.{list_all, list_any}
 use Rattle.ansi_items.specs.Bytes.{escape}
 use Rattle.ansi_items.specs.Sequences.{is_sgr}
-use Rattle.ansi_items.specs.Pieces.{Piece, Text, Sequence, LoneEscape, spelling, pieces_of}
+use Rattle.ansi_items.specs.Pieces.{Piece, Text, LoneEscape, spelling, pieces_of}
 
 -- the plain bytes of a piece are those of a text
 abbrev pub plain_bytes : Piece → List ℕ
 plain_bytes (Text w) = w
-plain_bytes (Sequence w) = []
-plain_bytes LoneEscape = []
+plain_bytes _ = []
 
 -- the plain bytes of pieces in a row
 abbrev pub plain_of : List Piece → List ℕ
@@ -41,8 +40,7 @@ pub record Mark : Type 0 where
 -- a text is no mark, any other piece is one
 abbrev pub mark_of : ℕ → Piece → Option Mark
 mark_of place (Text w) = None
-mark_of place (Sequence w) = Some (record { place = place; bytes = w })
-mark_of place LoneEscape = Some (record { place = place; bytes = escape ∷ [] })
+mark_of place p = Some (record { place = place; bytes = spelling p })
 
 -- the marks among pieces, in order
 abbrev pub marks_of : List Piece → List Mark
@@ -67,14 +65,12 @@ joined ms = flat_map (λ m. m.bytes) ms
 -- the piece is a text
 abbrev pub is_text : Piece → Bool
 is_text (Text w) = true
-is_text (Sequence w) = false
-is_text LoneEscape = false
+is_text _ = false
 
 -- the piece is a lone escape
 abbrev pub is_lone : Piece → Bool
-is_lone (Text w) = false
-is_lone (Sequence w) = false
 is_lone LoneEscape = true
+is_lone _ = false
 
 -- none of the pieces is a lone escape
 abbrev pub are_whole : List Piece → Bool

@@ -38,7 +38,7 @@ pub use Rattle.ansi_items.specs.Scans.{Gives, Scan, pieces_left}
 pub use Rattle.ansi_items.specs.contracts.ansitok.Kind.{the_type}
 pub use Rattle.ansi_items.specs.declared.ansitok.Item.{Item}
 pub use Rattle.ansi_items.specs.declared.ansitok.Kind.{Kind}
-pub use Rattle.ansi_style.proofs.MarkLemmas.{style_by_marks, style_by_marks-before, style_by_marks-lone, style_by_marks-sequence, style_by_marks-text}
+pub use Rattle.ansi_style.proofs.MarkLemmas.{style_by_marks, style_by_marks-before, style_by_marks-mark, style_by_marks-text}
 pub use Rattle.ansi_style.proofs.SgrLemmas.{apply-no_sgr}
 pub use Rattle.ansi_style.specs.Reading.{style_within}
 pub use Rattle.ansi_style.specs.Sgr.{apply}

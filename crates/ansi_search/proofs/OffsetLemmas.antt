@@ -1,5 +1,5 @@
 -- Where the plain bytes of a text stand in it: what stands before them and after them, and how far a walk there has come.
-use Rattle.ansi_search.proofs.Common.{◌≡◌, ◌≢◌, ℕ, zero, suc, ◌+◌, ◌-◌, ◌<◌, ◌≤◌, inl, inr, Bool, true, ◌↔◌, List, ◌∷◌, ◌++◌, length, take, drop, take-add, refl, sym, ◌∙◌, ap, subst, arith, IsTrue, if◌then◌else◌, nat_lt, length-append, false, drop-nil, drop-append_seam, cases_lt, lt-ltb, le-ltb, take_all, drop-append-le, drop-drop, drop_all, sameb, same_false, slice_range, IsCharBoundary-from_rest, IsCharBoundary, the_type, Kind, is_plain_byte, Piece, Text, Sequence, LoneEscape, spelling, ArePieces, pieces_of, plain_of, plain, pieces_are, pieces_of-unique, spelled, Item, Scan, Gives, pieces_left, is_mark, BeginsWithMark, gives_text, gives_mark, plain_of-mark, Rendition, apply, style_within, style_by_marks, style_by_marks-before, style_by_marks-text, style_by_marks-sequence, style_by_marks-lone, is_good_position, bytes_before, offset_of, StandsIn, []}
+use Rattle.ansi_search.proofs.Common.{◌≡◌, ◌≢◌, ℕ, zero, suc, ◌+◌, ◌-◌, ◌<◌, ◌≤◌, inl, inr, Bool, true, ◌↔◌, List, ◌∷◌, ◌++◌, length, take, drop, take-add, refl, sym, ◌∙◌, ap, subst, arith, IsTrue, if◌then◌else◌, nat_lt, length-append, false, drop-nil, drop-append_seam, cases_lt, lt-ltb, le-ltb, take_all, drop-append-le, drop-drop, drop_all, sameb, same_false, slice_range, IsCharBoundary-from_rest, IsCharBoundary, the_type, Kind, is_plain_byte, Piece, Text, spelling, ArePieces, pieces_of, plain_of, plain, pieces_are, pieces_of-unique, spelled, Item, Scan, Gives, pieces_left, is_mark, BeginsWithMark, gives_text, gives_mark, plain_of-mark, Rendition, apply, style_within, style_by_marks, style_by_marks-before, style_by_marks-text, style_by_marks-mark, is_good_position, bytes_before, offset_of, StandsIn, []}
 use Rattle.ansi_items.specs.declared.ansitok.Kind.TheVariants.{Text as TextKind}
 use Rattle.ansi_search.proofs.SliceLemmas.{length-slice_range, take-append, drop-append, list_all-parts}
 use Rattle.ansi_search.proofs.PositionLemmas.{is_good_position-append, is_good_position-after, is_good_position-past, is_good_position-drop, good_is_boundary, boundary_test}
@@ -11,10 +11,9 @@ pub bytes_before-text : (n : ℕ) (w : List ℕ) (ps : List Piece) → length w 
 bytes_before-text n w ps within = ap (λ b. if b then n else length w + bytes_before (n - length w) ps) (le-ltb n (length w) within)
 
 -- over a mark
-bytes_before-mark : (n : ℕ) (p : Piece) (ps : List Piece) → is_mark p ≡ true → bytes_before n (p ∷ ps) ≡ length (spelling p) + bytes_before n ps
+pub bytes_before-mark : (n : ℕ) (p : Piece) (ps : List Piece) → is_mark p ≡ true → bytes_before n (p ∷ ps) ≡ length (spelling p) + bytes_before n ps
 bytes_before-mark n (Text w) ps is = absurd (cc is)
-bytes_before-mark n (Sequence w) ps is = refl
-bytes_before-mark n LoneEscape ps is = refl
+bytes_before-mark n p ps is = refl
 
 pub style-text : (c : Rendition) (n : ℕ) (w : List ℕ) (ps : List Piece) → length w ≤ n → style_by_marks c (Text w ∷ ps) n ≡ style_by_marks c ps (n - length w)
 style-text c n w ps within = (let all : n ≡ length w + (n - length w) = omega arith in ap (style_by_marks c (Text w ∷ ps)) all ∙ style_by_marks-text c w ps (n - length w))
@@ -24,8 +23,7 @@ style-text c n w ps within = (let all : n ≡ length w + (n - length w) = omega 
 abbrev pub after_of : ℕ → List Piece → List Piece
 after_of n [] = []
 after_of n (Text w ∷ ps) = if nat_lt n (length w) then Text (drop n w) ∷ ps else after_of (n - length w) ps
-after_of n (Sequence w ∷ ps) = after_of n ps
-after_of n (LoneEscape ∷ ps) = after_of n ps
+after_of n (p ∷ ps) = after_of n ps
 
 pub after_of-last : (n : ℕ) (w : List ℕ) (ps : List Piece) → n < length w → after_of n (Text w ∷ ps) ≡ Text (drop n w) ∷ ps
 after_of-last n w ps last = ap (λ b. if b then Text (drop n w) ∷ ps else after_of (n - length w) ps) (lt-ltb n (length w) last)
@@ -60,8 +58,7 @@ after_are n t (Text w ∷ ps) are = elim (cases_lt n (length w)) [
       rw (bytes_before-text n w ps within, after_of-text n w ps within)
       (after_more t (Text w) are.0 (bytes_before (n - length w) ps) (after_of (n - length w) ps) are.1 (after_are (n - length w) are.0 ps are.3))
 ]
-after_are n t (Sequence w ∷ ps) are = after_more t (Sequence w) are.0 (bytes_before n ps) (after_of n ps) are.1 (after_are n are.0 ps are.3)
-after_are n t (LoneEscape ∷ ps) are = after_more t LoneEscape are.0 (bytes_before n ps) (after_of n ps) are.1 (after_are n are.0 ps are.3)
+after_are n t (p ∷ ps) are = after_more t p are.0 (bytes_before n ps) (after_of n ps) are.1 (after_are n are.0 ps are.3)
 
 pub pieces_of-after : (t : List ℕ) (n : ℕ) → pieces_of (drop (offset_of t n) t) ≡ after_of n (pieces_of t)
 pieces_of-after t n = sym (pieces_of-unique _ _ (after_are n t (pieces_of t) (pieces_are t)))
@@ -74,8 +71,7 @@ plain_of-after n (Text w ∷ ps) = elim (cases_lt n (length w)) [
       ap plain_of (after_of-text n w ps within) ∙ plain_of-after (n - length w) ps
       ∙ sym (drop-append n w (plain_of ps) ∙ ap (λ u. u ++ drop (n - length w) (plain_of ps)) (drop_all n w within))
 ]
-plain_of-after n (Sequence w ∷ ps) = plain_of-after n ps
-plain_of-after n (LoneEscape ∷ ps) = plain_of-after n ps
+plain_of-after n (p ∷ ps) = plain_of-after n ps
 
 pub plain-after : (t : List ℕ) (n : ℕ) → plain (drop (offset_of t n) t) ≡ drop n (plain t)
 plain-after t n = ap plain_of (pieces_of-after t n) ∙ plain_of-after n (pieces_of t)
@@ -148,7 +144,7 @@ way-text way over within next_is = grind (arith, bytes_before-text, is_good_posi
 
 pub way-mark : {t : List ℕ} {n passed at left : ℕ} {start style next : Rendition} {kind : Kind} {w : List ℕ} {old ps : List Piece} → IsOnTheWay t n start passed left style old → IsOverMark kind t w passed at old ps
     → next ≡ apply style w → IsOnTheWay t n start at left next ps
-way-mark way over next_is = grind (arith, bytes_before-mark, plain_of-mark, style_by_marks-lone, style_by_marks-sequence)
+way-mark way over next_is = grind (arith, bytes_before-mark, plain_of-mark, style_by_marks-mark)
 
 -- the byte stands in the text that comes next, or there is none
 pub way-last : {t : List ℕ} {n passed at left : ℕ} {start style : Rendition} {w : List ℕ} {old ps : List Piece} → IsOnTheWay t n start passed left style old → IsOverText t w passed at old ps → left < length w

@@ -1,7 +1,7 @@
 -- Where the plain bytes of a text stand in it. No contract of AnsiStr cites it.
 use Rattle.std.specs.Prelude.{◌≡◌, ℕ, ◌+◌, ◌-◌, List, [], ◌∷◌, length, nat_lt, IsTrue, if◌then◌else◌}
 use Rattle.std.specs.Str.{IsCharBoundary}
-use Rattle.ansi_items.specs.Pieces.{Piece, Text, Sequence, LoneEscape, pieces_of}
+use Rattle.ansi_items.specs.Pieces.{Piece, Text, spelling, pieces_of}
 use Rattle.ansi_items.specs.Plain.{plain}
 use Rattle.ansi_search.specs.Positions.{is_good_position}
 
@@ -9,8 +9,7 @@ use Rattle.ansi_search.specs.Positions.{is_good_position}
 abbrev pub bytes_before : ℕ → List Piece → ℕ
 bytes_before n [] = 0
 bytes_before n (Text w ∷ ps) = if nat_lt n (length w) then n else length w + bytes_before (n - length w) ps
-bytes_before n (Sequence w ∷ ps) = length w + bytes_before n ps
-bytes_before n (LoneEscape ∷ ps) = 1 + bytes_before n ps
+bytes_before n (p ∷ ps) = length (spelling p) + bytes_before n ps
 
 -- where the plain byte n of t stands in t
 abbrev pub offset_of : List ℕ → ℕ → ℕ

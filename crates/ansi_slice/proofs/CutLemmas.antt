@@ -1,5 +1,5 @@
 -- What is shown of a text as one walk over its pieces, with what is left of its ends; a cut, also of a text without ESC.
-use Rattle.ansi_slice.proofs.Common.{◌≡◌, ℕ, ◌-◌, ◌≤◌, inl, inr, Bool, true, false, not, ◌&&◌, List, [], ◌∷◌, ◌++◌, map, length, Option, Some, None, refl, sym, ◌∙◌, ap, ap₂, arith, slice_range, if◌then◌else◌, nat_lt, append-nil, length-append, IsFalse, unwrap_or, cases_lt, lt-ltb, le-ltb, escape, Piece, Text, Sequence, LoneEscape, pieces_of, plain_of, plain, marks_of, up_to, has_escape, plain_style, close, after_marks, style_at, show, cut_up_to, cut, plain-bare, length-plain, further, marks-bare, marks_of-text, marks_of-sequence, marks_of-lone, up_to-none, up_to-further, up_to-here}
+use Rattle.ansi_slice.proofs.Common.{◌≡◌, ℕ, ◌-◌, ◌≤◌, inl, inr, Bool, true, false, not, ◌&&◌, List, [], ◌∷◌, ◌++◌, map, length, Option, Some, None, refl, sym, ◌∙◌, ap, ap₂, arith, slice_range, if◌then◌else◌, nat_lt, append-nil, length-append, IsFalse, unwrap_or, cases_lt, lt-ltb, le-ltb, escape, Piece, Text, Sequence, LoneEscape, pieces_of, plain_of, plain, marks_of, up_to, has_escape, plain_style, close, after_marks, style_at, show, cut_up_to, cut, plain-bare, length-plain, further, marks-bare, marks_of-text, marks_of-mark, up_to-none, up_to-further, up_to-here, spelling}
 use Rattle.ansi_search.proofs.SliceLemmas.{slice_range-none, slice_range-past, slice_range-append}
 use Rattle.ansi_slice.proofs.ShowLemmas.{show-nil, show-bare, show-text, show-mark}
 
@@ -7,8 +7,7 @@ use Rattle.ansi_slice.proofs.ShowLemmas.{show-nil, show-bare, show-text, show-ma
 abbrev pub shown_from : Bool → ℕ → ℕ → List Piece → List ℕ
 shown_from all s e [] = []
 shown_from all s e (Text w ∷ ps) = slice_range w s e ++ (if not all && nat_lt e (length w) then [] else shown_from all (s - length w) (e - length w) ps)
-shown_from all s e (Sequence w ∷ ps) = w ++ shown_from all s e ps
-shown_from all s e (LoneEscape ∷ ps) = escape ∷ shown_from all s e ps
+shown_from all s e (p ∷ ps) = spelling p ++ shown_from all s e ps
 
 pub shown_from-text : (all : Bool) (s e : ℕ) (w : List ℕ) (ps : List Piece) → length w ≤ e → shown_from all s e (Text w ∷ ps) ≡ slice_range w s e ++ shown_from all (s - length w) (e - length w) ps
 shown_from-text true s e w ps within = refl
@@ -21,10 +20,8 @@ show-all (Text w ∷ ps) s e =
     ap (show (w ++ plain_of ps) s e) (marks_of-text w ps)
     ∙ show-text w (plain_of ps) s e (marks_of ps)
     ∙ ap (λ v. slice_range w s e ++ v) (show-all ps (s - length w) (e - length w))
-show-all (Sequence w ∷ ps) s e =
-    ap (show (plain_of ps) s e) (marks_of-sequence w ps) ∙ show-mark w (plain_of ps) s e (marks_of ps) ∙ ap (λ v. w ++ v) (show-all ps s e)
-show-all (LoneEscape ∷ ps) s e =
-    ap (show (plain_of ps) s e) (marks_of-lone ps) ∙ show-mark (escape ∷ []) (plain_of ps) s e (marks_of ps) ∙ ap (λ v. escape ∷ v) (show-all ps s e)
+show-all (p ∷ ps) s e =
+    ap (show (plain_of ps) s e) (marks_of-mark p ps refl) ∙ show-mark (spelling p) (plain_of ps) s e (marks_of ps) ∙ ap (λ v. spelling p ++ v) (show-all ps s e)
 
 -- with those up to the end: a text that goes on past it is the last to be shown
 show-up_to : (ps : List Piece) (s e : ℕ) → show (plain_of ps) s e (up_to e (marks_of ps)) ≡ shown_from false s e ps
@@ -40,12 +37,9 @@ show-up_to (Text w ∷ ps) s e = elim (cases_lt e (length w)) [
       ∙ show-text w (plain_of ps) s e (up_to (e - length w) (marks_of ps))
       ∙ ap (λ v. slice_range w s e ++ v) (show-up_to ps (s - length w) (e - length w)) ∙ sym (shown_from-text false s e w ps within))
 ]
-show-up_to (Sequence w ∷ ps) s e =
-    ap (show (plain_of ps) s e) (ap (up_to e) (marks_of-sequence w ps) ∙ up_to-here e w (marks_of ps))
-    ∙ show-mark w (plain_of ps) s e (up_to e (marks_of ps)) ∙ ap (λ v. w ++ v) (show-up_to ps s e)
-show-up_to (LoneEscape ∷ ps) s e =
-    ap (show (plain_of ps) s e) (ap (up_to e) (marks_of-lone ps) ∙ up_to-here e (escape ∷ []) (marks_of ps))
-    ∙ show-mark (escape ∷ []) (plain_of ps) s e (up_to e (marks_of ps)) ∙ ap (λ v. escape ∷ v) (show-up_to ps s e)
+show-up_to (p ∷ ps) s e =
+    ap (show (plain_of ps) s e) (ap (up_to e) (marks_of-mark p ps refl) ∙ up_to-here e (spelling p) (marks_of ps))
+    ∙ show-mark (spelling p) (plain_of ps) s e (up_to e (marks_of ps)) ∙ ap (λ v. spelling p ++ v) (show-up_to ps s e)
 
 -- a cut is the walk over all pieces, and a close
 pub cut_up_to-walk : (t : List ℕ) (s e : ℕ) → cut_up_to t s e ≡ shown_from false s e (pieces_of t) ++ close (style_at t e)
@@ -62,8 +56,7 @@ shown_from-past (Text w ∷ ps) s d e past_d past_e =
     (slice_range-past w s d (omega arith) ∙ sym (slice_range-past w s e (omega arith)))
     (shown_from-past ps (s - length w) (d - length w) (e - length w) (omega arith) (omega arith))
     ∙ sym (shown_from-text false s e w ps (omega arith))
-shown_from-past (Sequence w ∷ ps) s d e past_d past_e = ap (λ v. w ++ v) (shown_from-past ps s d e past_d past_e)
-shown_from-past (LoneEscape ∷ ps) s d e past_d past_e = ap (λ v. escape ∷ v) (shown_from-past ps s d e past_d past_e)
+shown_from-past (p ∷ ps) s d e past_d past_e = ap (λ v. spelling p ++ v) (shown_from-past ps s d e past_d past_e)
 
 -- all marks stand up to there
 pub up_to-past : (e : ℕ) (ps : List Piece) → length (plain_of ps) ≤ e → up_to e (marks_of ps) ≡ marks_of ps
@@ -72,9 +65,9 @@ up_to-past e (Text w ∷ ps) past =
     let size = length-append w (plain_of ps) in
     ap (up_to e) (marks_of-text w ps) ∙ up_to-further e (length w) (marks_of ps) (omega arith)
     ∙ ap (map (further (length w))) (up_to-past (e - length w) ps (omega arith)) ∙ sym (marks_of-text w ps)
-up_to-past e (Sequence w ∷ ps) past =
-    ap (up_to e) (marks_of-sequence w ps) ∙ up_to-here e w (marks_of ps) ∙ ap (λ ms. record { place = 0; bytes = w } ∷ ms) (up_to-past e ps past) ∙ sym (marks_of-sequence w ps)
-up_to-past e (LoneEscape ∷ ps) past = grind (arith, marks_of-lone, up_to-here, up_to-past e ps past)
+up_to-past e (p ∷ ps) past =
+    let mark = marks_of-mark p ps refl in
+    ap (up_to e) mark ∙ up_to-here e (spelling p) (marks_of ps) ∙ ap (λ ms. record { place = 0; bytes = spelling p } ∷ ms) (up_to-past e ps past) ∙ sym mark
 
 -- no end is any end past the text
 pub cut_up_to-unwrap_or : (t : List ℕ) (s : ℕ) (end : Option ℕ) (top : ℕ) → length t ≤ top → cut_up_to t s (unwrap_or end top) ≡ cut t s end

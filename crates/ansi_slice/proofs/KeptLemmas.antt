@@ -1,5 +1,5 @@
 -- What is kept of a text: all its marks, and of a whole text the slice of its styled bytes; it is whole, and leaves open what the text does.
-use Rattle.ansi_slice.proofs.Common.{◌≡◌, ℕ, ◌-◌, true, List, [], ◌∷◌, ◌++◌, map, length, refl, sym, ◌∙◌, ap, arith, slice_range, IsTrue, Piece, Text, Sequence, LoneEscape, pieces_of, plain_of, plain, Mark, marks_of, marks, is_whole, plain_style, known, StyledByte, styled, bytes_of, style_of, residue, show, kept, IsKept, one_text, bytes-further, marks_of-text, marks_of-sequence, marks_of-lone, spelled, pieces_stand, is_whole-spelled, styled-pieces, bytes_of-styled, styled-spelled, residue-spelled}
+use Rattle.ansi_slice.proofs.Common.{◌≡◌, ℕ, ◌-◌, true, List, [], ◌∷◌, ◌++◌, map, length, refl, sym, ◌∙◌, ap, arith, slice_range, IsTrue, Piece, Text, Sequence, LoneEscape, pieces_of, plain_of, plain, Mark, marks_of, marks, is_whole, plain_style, known, StyledByte, styled, bytes_of, style_of, residue, show, kept, IsKept, one_text, bytes-further, marks_of-text, marks_of-mark, spelled, pieces_stand, is_whole-spelled, styled-pieces, bytes_of-styled, styled-spelled, residue-spelled, spelling}
 use Rattle.ansi_search.proofs.SliceLemmas.{slice_range-from_past, slice_range-map, slice_range-append}
 use Rattle.ansi_slice.proofs.ShownLemmas.{at_places, shown_pieces, spelled-shown_pieces, shown_pieces_stand, styled_through-shown_pieces, style_through-shown_pieces}
 
@@ -24,8 +24,7 @@ plain_of-one_text (b ∷ w) ps = refl
 plain_of-kept_pieces : (ps : List Piece) (a b : ℕ) → plain_of (kept_pieces a b ps) ≡ slice_range (plain_of ps) a b
 plain_of-kept_pieces [] a b = sym (slice_range-from_past [] a b (omega arith))
 plain_of-kept_pieces (Text w ∷ ps) a b = grind (arith, plain_of-one_text, slice_range-append, plain_of-kept_pieces ps (a - length w) (b - length w))
-plain_of-kept_pieces (Sequence w ∷ ps) a b = plain_of-kept_pieces ps a b
-plain_of-kept_pieces (LoneEscape ∷ ps) a b = plain_of-kept_pieces ps a b
+plain_of-kept_pieces (p ∷ ps) a b = plain_of-kept_pieces ps a b
 
 abbrev bytes_of_marks : List Piece → List (List ℕ)
 bytes_of_marks ps = map (λ (m : Mark). m.bytes) (marks_of ps)
@@ -40,11 +39,10 @@ bytes_of_marks-one_text (b ∷ w) ps = bytes_of_marks-text (b ∷ w) ps
 bytes_of_marks-kept_pieces : (ps : List Piece) (a b : ℕ) → bytes_of_marks (kept_pieces a b ps) ≡ bytes_of_marks ps
 bytes_of_marks-kept_pieces [] a b = refl
 bytes_of_marks-kept_pieces (Text w ∷ ps) a b = grind (arith, bytes_of_marks-one_text, bytes_of_marks-text, bytes_of_marks-kept_pieces ps (a - length w) (b - length w))
-bytes_of_marks-kept_pieces (Sequence w ∷ ps) a b =
-    ap (map (λ (m : Mark). m.bytes)) (marks_of-sequence w (kept_pieces a b ps))
-    ∙ ap (λ ws. w ∷ ws) (bytes_of_marks-kept_pieces ps a b)
-    ∙ sym (ap (map (λ (m : Mark). m.bytes)) (marks_of-sequence w ps))
-bytes_of_marks-kept_pieces (LoneEscape ∷ ps) a b = grind (arith, marks_of-lone, bytes_of_marks-kept_pieces ps a b)
+bytes_of_marks-kept_pieces (p ∷ ps) a b =
+    ap (map (λ (m : Mark). m.bytes)) (marks_of-mark p (kept_pieces a b ps) refl)
+    ∙ ap (λ ws. spelling p ∷ ws) (bytes_of_marks-kept_pieces ps a b)
+    ∙ sym (ap (map (λ (m : Mark). m.bytes)) (marks_of-mark p ps refl))
 
 -- of every text, whole or not
 pub is_kept : (t : List ℕ) (a b : ℕ) → IsKept t a b (kept t a b)

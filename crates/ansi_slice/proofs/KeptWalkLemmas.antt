@@ -1,5 +1,5 @@
 -- A kept text as one walk over the pieces, with what is left of its ends; and what is kept of all, and of a text without ESC.
-use Rattle.ansi_slice.proofs.Common.{◌≡◌, ℕ, ◌-◌, ◌≤◌, true, List, [], ◌∷◌, ◌++◌, length, sym, ◌∙◌, ap, ap₂, arith, slice_range, append-nil, length-append, IsFalse, escape, Piece, Text, Sequence, LoneEscape, ArePieces, pieces_of, plain_of, plain, has_escape, kept, pieces_are, one_text, pieces_of-bare}
+use Rattle.ansi_slice.proofs.Common.{◌≡◌, ℕ, ◌-◌, ◌≤◌, true, List, [], ◌∷◌, ◌++◌, length, sym, ◌∙◌, ap, ap₂, arith, slice_range, append-nil, length-append, IsFalse, escape, Piece, Text, Sequence, LoneEscape, ArePieces, pieces_of, plain_of, plain, has_escape, kept, pieces_are, one_text, pieces_of-bare, spelling}
 use Rattle.ansi_search.proofs.SliceLemmas.{slice_range-past, slice_range-from_past}
 use Rattle.ansi_slice.proofs.CutLemmas.{shown_from, show-all}
 
@@ -18,8 +18,7 @@ shown_from-all t (Text w ∷ ps) e are past =
     (slice_range-past w 0 e (omega arith))
     (ap (λ s. shown_from true s (e - length w) ps) (omega arith) ∙ shown_from-all are.0 ps (e - length w) are.3 (omega arith))
     ∙ sym are.1
-shown_from-all t (Sequence w ∷ ps) e are past = ap (λ v. w ++ v) (shown_from-all are.0 ps e are.3 past) ∙ sym are.1
-shown_from-all t (LoneEscape ∷ ps) e are past = ap (λ v. escape ∷ v) (shown_from-all are.0 ps e are.3 past) ∙ sym are.1
+shown_from-all t (p ∷ ps) e are past = ap (λ v. spelling p ++ v) (shown_from-all are.0 ps e are.3 past) ∙ sym are.1
 
 pub kept-all : (t : List ℕ) (e : ℕ) → length (plain t) ≤ e → kept t 0 e ≡ t
 kept-all t e past = kept-walk t 0 e ∙ shown_from-all t (pieces_of t) e (pieces_are t) past

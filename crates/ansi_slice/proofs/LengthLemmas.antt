@@ -22,8 +22,7 @@ length-spelled ps qs = ap length (flat_map-append spelling ps qs) ∙ length-app
 pub length-shown_pieces : (ps : List Piece) (test : ℕ → Bool) (a b : ℕ) → length (spelled (shown_pieces test a b ps)) ≤ length (spelled ps)
 length-shown_pieces [] test a b = omega arith
 length-shown_pieces (Text w ∷ ps) test a b = grind (arith, length-append, length-one_text, length-slice_range, length-spelled, length-shown_pieces ps (λ p. test (length w + p)) (a - length w) (b - length w))
-length-shown_pieces (Sequence w ∷ ps) test a b = grind (arith, length-append, length-shown_pieces ps test a b)
-length-shown_pieces (LoneEscape ∷ ps) test a b = grind (arith, length-shown_pieces ps test a b)
+length-shown_pieces (p ∷ ps) test a b = grind (arith, length-append, length-shown_pieces ps test a b)
 
 pub length-close : (s : Rendition) → length (close s) ≤ longest_close
 length-close s = (close_codes_are s).short
@@ -93,8 +92,7 @@ sides_len-first mid n s p ps = grind (arith, length-append)
 length-sides_past : (mid n : ℕ) (s : Rendition) (ps : List Piece) → IsStyle s → mid ≤ n → sides_len mid n s ps ≤ length (spelled ps) + longest_start_and_close * text_count ps
 length-sides_past mid n s [] is past = omega arith
 length-sides_past mid n s (Text w ∷ ps) is past = grind (arith, dressed-nothing, length-append, length-dressed, length-drop, length-take, sides_len-first, length-sides_past mid (n + length w) s ps is (omega arith))
-length-sides_past mid n s (Sequence w ∷ ps) is past = grind (arith, IsStyle-apply, copied_once, length-append, sides_len-first, length-sides_past mid (n + 0) (apply s w) ps (IsStyle-apply s w is) (omega arith))
-length-sides_past mid n s (LoneEscape ∷ ps) is past = grind (arith, copied_once, sides_len-first, length-sides_past mid (n + 0) s ps is (omega arith))
+length-sides_past mid n s (p ∷ ps) is past = grind (arith, copied_once, length-append, sides_len-first, length-sides_past mid (n + 0) (apply s (spelling p)) ps (IsStyle-apply s (spelling p) is) (omega arith))
 
 -- before it, one text more is dressed: the one that the position divides
 length-sides_from : (mid n : ℕ) (s : Rendition) (ps : List Piece) → IsStyle s → sides_len mid n s ps ≤ length (spelled ps) + longest_start_and_close * (text_count ps + 1)
@@ -112,8 +110,7 @@ length-sides_from mid n s (Text w ∷ ps) is =
           let none : length (drop (mid - n) w) ≡ 0 = omega (arith, before, length-drop (mid - n) w) in
           omega (arith, later, first, left, dressed-nothing s (drop (mid - n) w) none, length-take (mid - n) w, length-append w (spelled ps)))
     ]
-length-sides_from mid n s (Sequence w ∷ ps) is = grind (arith, IsStyle-apply, copied_once, length-append, sides_len-first, length-sides_from mid (n + 0) (apply s w) ps (IsStyle-apply s w is))
-length-sides_from mid n s (LoneEscape ∷ ps) is = grind (arith, copied_once, sides_len-first, length-sides_from mid (n + 0) s ps is)
+length-sides_from mid n s (p ∷ ps) is = grind (arith, copied_once, length-append, sides_len-first, length-sides_from mid (n + 0) (apply s (spelling p)) ps (IsStyle-apply s (spelling p) is))
 
 pub length-sides : (t : List ℕ) (mid : ℕ) → length (left_side t mid) + length (right_side t mid) ≤ length t + longest_start_and_close * (length (filter is_text (pieces_of t)) + 1)
 length-sides t mid =

@@ -1,5 +1,5 @@
 -- What is shown of a plain text with some of its marks, as pieces; what is read of them, and the state after them.
-use Rattle.ansi_slice.proofs.Common.{◌≡◌, ◌≢◌, ℕ, ◌+◌, ◌-◌, ◌<◌, ◌≤◌, inl, inr, Bool, true, false, List, [], ◌∷◌, ◌++◌, map, length, drop, filter, refl, sym, ◌∙◌, ap, ap₂, arith, append-nil, slice_range, if◌then◌else◌, cond_both, cases_lt, flat_map-append, length-map, list_all, is_plain_byte, Piece, Text, Sequence, LoneEscape, spelling, Mark, plain_of, marks_of, escape, Rendition, apply, after_marks, show, one_text, further, marks_of-text, marks_of-sequence, marks_of-lone, spelled, AllStandAnywhere, stand-append, style_through, styled_through}
+use Rattle.ansi_slice.proofs.Common.{◌≡◌, ◌≢◌, ℕ, ◌+◌, ◌-◌, ◌<◌, ◌≤◌, inl, inr, Bool, true, false, List, [], ◌∷◌, ◌++◌, map, length, drop, filter, refl, sym, ◌∙◌, ap, ap₂, arith, append-nil, slice_range, if◌then◌else◌, cond_both, cases_lt, flat_map-append, length-map, list_all, is_plain_byte, Piece, Text, Sequence, LoneEscape, spelling, Mark, plain_of, marks_of, escape, Rendition, apply, after_marks, show, one_text, further, marks_of-text, marks_of-mark, spelled, AllStandAnywhere, stand-append, style_through, styled_through}
 use Rattle.ansi_style.proofs.MarkLemmas.{state_after, state_after-further}
 use Rattle.ansi_style.proofs.StyledLemmas.{styled_byte}
 use Rattle.ansi_style.proofs.ThroughLemmas.{state_through, state_through-append, seen_through, seen_through-append}
@@ -22,8 +22,7 @@ piece_when b p = if b then p ∷ [] else []
 abbrev pub shown_pieces : (ℕ → Bool) → ℕ → ℕ → List Piece → List Piece
 shown_pieces test a b [] = []
 shown_pieces test a b (Text w ∷ ps) = one_text (slice_range w a b) ++ shown_pieces (λ p. test (length w + p)) (a - length w) (b - length w) ps
-shown_pieces test a b (Sequence w ∷ ps) = piece_when (test 0) (Sequence w) ++ shown_pieces test a b ps
-shown_pieces test a b (LoneEscape ∷ ps) = piece_when (test 0) LoneEscape ++ shown_pieces test a b ps
+shown_pieces test a b (p ∷ ps) = piece_when (test 0) p ++ shown_pieces test a b ps
 
 -- They spell what is shown.
 
@@ -45,16 +44,11 @@ spelled-shown_pieces (Text w ∷ ps) test a b =
     ∙ ap₂ (λ u v. u ++ v) (spelled-one_text (slice_range w a b)) (spelled-shown_pieces ps later (a - n) (b - n))
     ∙ sym (show-text w (plain_of ps) a b (at_places later (marks_of ps)))
     ∙ ap (show (w ++ plain_of ps) a b) (sym (ap (at_places test) (marks_of-text w ps) ∙ at_places-further test n (marks_of ps)))
-spelled-shown_pieces (Sequence w ∷ ps) test a b =
-    flat_map-append spelling (piece_when (test 0) (Sequence w)) (shown_pieces test a b ps)
-    ∙ ap (λ v. spelled (piece_when (test 0) (Sequence w)) ++ v) (spelled-shown_pieces ps test a b)
-    ∙ shown-mark (Sequence w) test (plain_of ps) a b (marks_of ps)
-    ∙ ap (λ ms. show (plain_of ps) a b (at_places test ms)) (sym (marks_of-sequence w ps))
-spelled-shown_pieces (LoneEscape ∷ ps) test a b =
-    flat_map-append spelling (piece_when (test 0) LoneEscape) (shown_pieces test a b ps)
-    ∙ ap (λ v. spelled (piece_when (test 0) LoneEscape) ++ v) (spelled-shown_pieces ps test a b)
-    ∙ shown-mark LoneEscape test (plain_of ps) a b (marks_of ps)
-    ∙ ap (λ ms. show (plain_of ps) a b (at_places test ms)) (sym (marks_of-lone ps))
+spelled-shown_pieces (p ∷ ps) test a b =
+    flat_map-append spelling (piece_when (test 0) p) (shown_pieces test a b ps)
+    ∙ ap (λ v. spelled (piece_when (test 0) p) ++ v) (spelled-shown_pieces ps test a b)
+    ∙ shown-mark p test (plain_of ps) a b (marks_of ps)
+    ∙ ap (λ ms. show (plain_of ps) a b (at_places test ms)) (sym (marks_of-mark p ps refl))
 
 -- Where the pieces stand anywhere, so does what is shown of them.
 
@@ -72,7 +66,7 @@ shown_pieces_stand (LoneEscape ∷ ps) test a b all = absurd all.0
 
 -- What is read of them, from a state that sequences change.
 
-module _ {S : Type 0} (step : S → List ℕ → S) (idle : (s : S) → step s (escape ∷ []) ≡ s) where
+module _ {S : Type 0} (step : S → List ℕ → S) where
   state_through-one_text : (s : S) (w : List ℕ) → state_through step s (one_text w) ≡ s
   state_through-one_text s [] = refl
   state_through-one_text s (b ∷ w) = refl
@@ -93,16 +87,11 @@ module _ {S : Type 0} (step : S → List ℕ → S) (idle : (s : S) → step s (
       ∙ ap (λ q. state_through step q rest) (state_through-one_text s (slice_range w a b))
       ∙ state_through-shown_pieces ps s later (a - n) (b - n)
       ∙ sym (ap (state_after step s) (ap (at_places test) (marks_of-text w ps) ∙ at_places-further test n (marks_of ps)) ∙ state_after-further step s n (at_places later (marks_of ps)))
-  state_through-shown_pieces (Sequence w ∷ ps) s test a b =
-      state_through-append step s (piece_when (test 0) (Sequence w)) (shown_pieces test a b ps)
-      ∙ state_through-shown_pieces ps (state_through step s (piece_when (test 0) (Sequence w))) test a b
-      ∙ state_through-mark (Sequence w) s (test 0) (at_places test (marks_of ps)) refl
-      ∙ ap (λ ms. state_after step s (at_places test ms)) (sym (marks_of-sequence w ps))
-  state_through-shown_pieces (LoneEscape ∷ ps) s test a b =
-      state_through-append step s (piece_when (test 0) LoneEscape) (shown_pieces test a b ps)
-      ∙ state_through-shown_pieces ps (state_through step s (piece_when (test 0) LoneEscape)) test a b
-      ∙ state_through-mark LoneEscape s (test 0) (at_places test (marks_of ps)) (sym (idle s))
-      ∙ ap (λ ms. state_after step s (at_places test ms)) (sym (marks_of-lone ps))
+  state_through-shown_pieces (p ∷ ps) s test a b =
+      state_through-append step s (piece_when (test 0) p) (shown_pieces test a b ps)
+      ∙ state_through-shown_pieces ps (state_through step s (piece_when (test 0) p)) test a b
+      ∙ state_through-mark p s (test 0) (at_places test (marks_of ps)) refl
+      ∙ ap (λ ms. state_after step s (at_places test ms)) (sym (marks_of-mark p ps refl))
 
   module _ {B : Type 0} (seen : S → ℕ → B) where
     seen_through-one_text : (s : S) (w : List ℕ) → seen_through step seen s (one_text w) ≡ map (seen s) w
@@ -116,13 +105,9 @@ module _ {S : Type 0} (step : S → List ℕ → S) (idle : (s : S) → step s (
         let later : ℕ → Bool = λ p. test (length w + p) in
         ap (λ v. seen_through step seen s (one_text v ++ shown_pieces later (a - length w) (b - length w) ps)) (slice_range-none w a b none)
         ∙ seen_through-shown_none ps s later (a - length w) (b - length w) (omega arith)
-    seen_through-shown_none (Sequence w ∷ ps) s test a b none =
-        cond_both (test 0) (Sequence w ∷ []) [] (λ qs. seen_through step seen s (qs ++ shown_pieces test a b ps) ≡ [])
-        (λ shown. seen_through-shown_none ps (step s w) test a b none)
-        (λ hidden. seen_through-shown_none ps s test a b none)
-    seen_through-shown_none (LoneEscape ∷ ps) s test a b none =
-        cond_both (test 0) (LoneEscape ∷ []) [] (λ qs. seen_through step seen s (qs ++ shown_pieces test a b ps) ≡ [])
-        (λ shown. seen_through-shown_none ps s test a b none)
+    seen_through-shown_none (p ∷ ps) s test a b none =
+        cond_both (test 0) (p ∷ []) [] (λ qs. seen_through step seen s (qs ++ shown_pieces test a b ps) ≡ [])
+        (λ shown. seen_through-shown_none ps (step s (spelling p)) test a b none)
         (λ hidden. seen_through-shown_none ps s test a b none)
 
     -- where each mark before the end is shown, their bytes are the slice
@@ -140,22 +125,18 @@ module _ {S : Type 0} (step : S → List ℕ → S) (idle : (s : S) → step s (
         (ap (λ q. seen_through step seen q rest) (state_through-one_text s (slice_range w a b)) ∙ seen_through-shown_pieces ps s later (a - n) (b - n) (λ p below. before (n + p) (omega arith)))
         ∙ sym (slice_range-append (map (seen s) w) (seen_through step seen s ps) a b
         ∙ ap (λ k. slice_range (map (seen s) w) a b ++ slice_range (seen_through step seen s ps) (a - k) (b - k)) size)
-    seen_through-shown_pieces (Sequence w ∷ ps) s test a b before = elim (cases_lt 0 b) [
+    seen_through-shown_pieces (p ∷ ps) s test a b before = elim (cases_lt 0 b) [
       | inl some ↦ (
-          ap (λ c. seen_through step seen s (piece_when c (Sequence w) ++ shown_pieces test a b ps)) (before 0 some)
-          ∙ seen_through-shown_pieces ps (step s w) test a b before)
-      | inr none ↦ seen_through-shown_none (Sequence w ∷ ps) s test a b (omega arith) ∙ sym (slice_range-none (seen_through step seen (step s w) ps) a b (omega arith))
+          ap (λ c. seen_through step seen s (piece_when c p ++ shown_pieces test a b ps)) (before 0 some)
+          ∙ seen_through-shown_pieces ps (step s (spelling p)) test a b before)
+      | inr none ↦ seen_through-shown_none (p ∷ ps) s test a b (omega arith) ∙ sym (slice_range-none (seen_through step seen (step s (spelling p)) ps) a b (omega arith))
     ]
-    seen_through-shown_pieces (LoneEscape ∷ ps) s test a b before =
-        cond_both (test 0) (LoneEscape ∷ []) [] (λ qs. seen_through step seen s (qs ++ shown_pieces test a b ps) ≡ slice_range (seen_through step seen s ps) a b)
-        (λ shown. seen_through-shown_pieces ps s test a b before)
-        (λ hidden. seen_through-shown_pieces ps s test a b before)
 
 -- A style.
 
 pub style_through-shown_pieces : (ps : List Piece) (s : Rendition) (test : ℕ → Bool) (a b : ℕ) → style_through s (shown_pieces test a b ps) ≡ after_marks s (at_places test (marks_of ps))
-style_through-shown_pieces = state_through-shown_pieces apply (λ s. refl)
+style_through-shown_pieces = state_through-shown_pieces apply
 
 pub styled_through-shown_pieces : (ps : List Piece) (s : Rendition) (test : ℕ → Bool) (a b : ℕ) → ((p : ℕ) → p < b → test p ≡ true)
     → styled_through s (shown_pieces test a b ps) ≡ slice_range (styled_through s ps) a b
-styled_through-shown_pieces = seen_through-shown_pieces apply (λ s. refl) styled_byte
+styled_through-shown_pieces = seen_through-shown_pieces apply styled_byte

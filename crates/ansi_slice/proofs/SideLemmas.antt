@@ -1,14 +1,22 @@
 -- The sides of a text as one walk over its pieces; and of a text without ESC.
-use Rattle.ansi_slice.proofs.Common.{◌≡◌, ℕ, ◌-◌, List, [], ◌∷◌, take, drop, refl, sym, ◌∙◌, ap, arith, append-nil, IsFalse, ne_eqb, take-nil, drop-nil, pieces_of, has_escape, plain_style, dressed, left_part, right_part, left_side, right_side, one_text, pieces_of-bare}
+use Rattle.ansi_slice.proofs.Common.{◌≡◌, ℕ, ◌-◌, List, [], ◌∷◌, take, drop, refl, sym, ◌∙◌, ap, arith, append-nil, IsFalse, ne_eqb, take-nil, drop-nil, true, Piece, Text, is_mark, pieces_of, has_escape, Rendition, plain_style, dressed, left_part, right_part, left_side, right_side, one_text, pieces_of-bare}
 use Rattle.ansi_slice.proofs.WalkLemmas.{walked, walked-all}
+
+left_part-mark : (mid n : ℕ) (r s : Rendition) (p : Piece) → is_mark p ≡ true → left_part mid n r p ≡ left_part mid n s p
+left_part-mark mid n r s (Text w) is = absurd (cc is)
+left_part-mark mid n r s p is = refl
+
+right_part-mark : (mid n : ℕ) (r s : Rendition) (p : Piece) → is_mark p ≡ true → right_part mid n r p ≡ right_part mid n s p
+right_part-mark mid n r s (Text w) is = absurd (cc is)
+right_part-mark mid n r s p is = refl
 
 pub left_side-walked : (t : List ℕ) (mid : ℕ) → left_side t mid ≡ walked (left_part mid) 0 plain_style (pieces_of t)
 unfolding left_side
-left_side-walked t mid = walked-all (left_part mid) (record { at_sequence = λ n r s w. refl; at_lone = λ n r s. refl }) t
+left_side-walked t mid = walked-all (left_part mid) (left_part-mark mid) t
 
 pub right_side-walked : (t : List ℕ) (mid : ℕ) → right_side t mid ≡ walked (right_part mid) 0 plain_style (pieces_of t)
 unfolding right_side
-right_side-walked t mid = walked-all (right_part mid) (record { at_sequence = λ n r s w. refl; at_lone = λ n r s. refl }) t
+right_side-walked t mid = walked-all (right_part mid) (right_part-mark mid) t
 
 -- In the plain style nothing is written but the bytes themselves.
 

@@ -1,5 +1,5 @@
 -- A side of a whole text is whole, has the slice of its styled bytes, and leaves nothing known open.
-use Rattle.ansi_slice.proofs.Common.{◌≡◌, ℕ, ◌+◌, ◌-◌, Bool, true, false, not, ◌==◌, List, [], ◌∷◌, ◌++◌, length, take, drop, nat_le, refl, sym, ◌∙◌, ap, ap₂, subst, arith, IsTrue, append-nil, if◌then◌else◌, cond_both, cond-false, ne_eqb, eqb-false, flat_map-append, take-nil, drop-nil, length-map, take-append-drop, take-map, drop-map, list_all, is_plain_byte, is_sgr, Piece, Text, spelling, Sequence, LoneEscape, pieces_of, plain, plain_bytes, is_whole, copied, Rendition, known, plain_style, IsStyle, apply, close_codes, StyledByte, styled, dressed, left_part, right_part, left_side, right_side, apply-no_sgr, IsStyle-apply, IsStyle-plain_style, spelled, AllStandAnywhere, stand-append, pieces_stand, styled_through, in_style, styled-pieces, styled-append, close_codes_are, GiveAlone, give-nothing, give-append, IsClosed, closed-spelled, dressed_pieces, spelled-dressed_pieces, dressed_pieces_stand, dressed_pieces_give, close_codes_clear}
+use Rattle.ansi_slice.proofs.Common.{◌≡◌, ℕ, ◌+◌, ◌-◌, Bool, true, false, not, ◌==◌, List, [], ◌∷◌, ◌++◌, length, take, drop, nat_le, refl, sym, ◌∙◌, ap, ap₂, subst, arith, IsTrue, append-nil, if◌then◌else◌, cond_both, cond-false, ne_eqb, eqb-false, flat_map-append, take-nil, drop-nil, length-map, take-append-drop, take-map, drop-map, list_all, is_plain_byte, is_sgr, Piece, Text, spelling, Sequence, LoneEscape, pieces_of, plain, plain_bytes, is_whole, copied, Rendition, known, plain_style, IsStyle, apply, close_codes, StyledByte, styled, dressed, left_part, right_part, left_side, right_side, apply-no_sgr, IsStyle-apply, IsStyle-plain_style, spelled, AllStandAnywhere, stand-append, pieces_stand, styled_through, in_style, styled-pieces, styled-append, close_codes_are, GiveAlone, give-nothing, give-append, IsClosed, closed-spelled, dressed_pieces, spelled-dressed_pieces, dressed_pieces_stand, dressed_pieces_give, close_codes_clear, is_mark}
 use Rattle.ansi_search.proofs.SliceLemmas.{take-append, drop-append, list_all-parts}
 use Rattle.ansi_slice.proofs.WalkLemmas.{walked, style_past}
 use Rattle.ansi_slice.proofs.SideLemmas.{left_side-walked, right_side-walked}
@@ -38,11 +38,11 @@ record Picks (pick : ℕ → List ℕ → List ℕ) (among : ℕ → List Styled
 -- the pieces that a piece gives to a side
 abbrev side_pieces : (ℕ → List ℕ → List ℕ) → (ℕ → Bool) → ℕ → ℕ → Rendition → Piece → List Piece
 side_pieces pick test mid place s (Text w) = dressed_text s (pick (mid - place) w)
-side_pieces pick test mid place s (Sequence w) = if test place then (if is_sgr w then [] else Sequence w ∷ []) else []
-side_pieces pick test mid place s LoneEscape = if test place then LoneEscape ∷ [] else []
+side_pieces pick test mid place s p = if test place then (if is_sgr (spelling p) then [] else p ∷ []) else []
 
-sequence_gives : (b : Bool) (w : List ℕ) → GiveAlone (if b then (if is_sgr w then [] else Sequence w ∷ []) else []) []
-sequence_gives b w = grind (arith, GiveAlone, apply-no_sgr, give-nothing)
+mark_gives : (b : Bool) (p : Piece) → is_mark p ≡ true → GiveAlone (if b then (if is_sgr (spelling p) then [] else p ∷ []) else []) []
+mark_gives b (Text w) is = absurd (cc is)
+mark_gives b p is = grind (arith, GiveAlone, apply-no_sgr, give-nothing)
 
 side_pieces_give : (pick : ℕ → List ℕ → List ℕ) (among : ℕ → List StyledByte → List StyledByte) → Picks pick among → (test : ℕ → Bool) (mid : ℕ) (ps : List Piece) (n : ℕ) (s : Rendition) → IsStyle s
     → GiveAlone (walked (side_pieces pick test mid) n s ps) (among (mid - n) (styled_through s ps))
@@ -55,19 +55,13 @@ side_pieces_give pick among picks test mid (Text w ∷ ps) n s is =
     subst (GiveAlone (own ++ walked (side_pieces pick test mid) (n + length w) s ps))
     (ap₂ (λ u k. u ++ among k (styled_through s ps)) (picks.as_styled (mid - n) s w) left ∙ sym (picks.of_both (mid - n) (in_style s w) (styled_through s ps)))
     (give-append own (walked (side_pieces pick test mid) (n + length w) s ps) (in_style s (pick (mid - n) w)) (among (mid - (n + length w)) (styled_through s ps)) (dressed_text_gives s (pick (mid - n) w) is) later)
-side_pieces_give pick among picks test mid (Sequence w ∷ ps) n s is =
-    let later = side_pieces_give pick among picks test mid ps (n + 0) (apply s w) (IsStyle-apply s w is) in
-    let rest = walked (side_pieces pick test mid) (n + 0) (apply s w) ps in
+side_pieces_give pick among picks test mid (p ∷ ps) n s is =
+    let next = apply s (spelling p) in
+    let later = side_pieces_give pick among picks test mid ps (n + 0) next (IsStyle-apply s (spelling p) is) in
+    let rest = walked (side_pieces pick test mid) (n + 0) next ps in
     let same : mid - (n + 0) ≡ mid - n = omega arith in
-    give-append (side_pieces pick test mid n s (Sequence w)) rest [] (among (mid - n) (styled_through (apply s w) ps)) (sequence_gives (test n) w)
-    (subst (λ k. GiveAlone rest (among k (styled_through (apply s w) ps))) same later)
-side_pieces_give pick among picks test mid (LoneEscape ∷ ps) n s is =
-    let later = side_pieces_give pick among picks test mid ps (n + 0) s is in
-    let rest = walked (side_pieces pick test mid) (n + 0) s ps in
-    let same : mid - (n + 0) ≡ mid - n = omega arith in
-    give-append (side_pieces pick test mid n s LoneEscape) rest [] (among (mid - n) (styled_through s ps))
-    (cond_both (test n) (LoneEscape ∷ []) [] (λ qs. GiveAlone qs []) (λ goes. record { given = λ p none. refl; cleared = λ p none. none }) (λ stays. give-nothing))
-    (subst (λ k. GiveAlone rest (among k (styled_through s ps))) same later)
+    give-append (side_pieces pick test mid n s p) rest [] (among (mid - n) (styled_through next ps)) (mark_gives (test n) p refl)
+    (subst (λ k. GiveAlone rest (among k (styled_through next ps))) same later)
 
 side_pieces_stand : (pick : ℕ → List ℕ → List ℕ) (among : ℕ → List StyledByte → List StyledByte) → Picks pick among → (test : ℕ → Bool) (mid : ℕ) (ps : List Piece) (n : ℕ) (s : Rendition) → IsStyle s
     → AllStandAnywhere ps → AllStandAnywhere (walked (side_pieces pick test mid) n s ps)

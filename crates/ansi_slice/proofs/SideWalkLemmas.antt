@@ -1,5 +1,5 @@
 -- A side of a text as what its pieces give before a place, or after it; and how far the walk over them has come.
-use Rattle.ansi_slice.proofs.Common.{◌≡◌, ℕ, ◌+◌, ◌-◌, ◌<◌, ◌≤◌, inl, inr, true, List, [], ◌∷◌, ◌++◌, length, take, drop, sym, ◌∙◌, refl, ap, ap₂, arith, append_assoc, append-nil, length-append, if◌then◌else◌, cases_lt, le-leb, lt-leb, lt-ltb, le-ltb, take_all, drop_all, length-drop, Kind, Piece, Text, Sequence, LoneEscape, spelling, pieces_of, plain_of, copied, length-plain, is_mark, BeginsWithMark, Rendition, plain_style, apply, style_within, style_by_marks, style_by_marks-before, style_by_marks-sequence, style_by_marks-lone, dressed, left_part, right_part, left_side, right_side, side_up_to, StandsIn}
+use Rattle.ansi_slice.proofs.Common.{◌≡◌, ℕ, ◌+◌, ◌-◌, ◌<◌, ◌≤◌, inl, inr, true, List, [], ◌∷◌, ◌++◌, length, take, drop, sym, ◌∙◌, refl, ap, ap₂, arith, append_assoc, append-nil, length-append, if◌then◌else◌, cases_lt, le-leb, lt-leb, lt-ltb, le-ltb, take_all, drop_all, length-drop, Kind, Piece, Text, Sequence, LoneEscape, spelling, pieces_of, plain_of, copied, length-plain, is_mark, BeginsWithMark, Rendition, plain_style, apply, style_within, style_by_marks, style_by_marks-before, style_by_marks-mark, dressed, left_part, right_part, left_side, right_side, side_up_to, StandsIn}
 use Rattle.ansi_slice.proofs.WalkLemmas.{walked}
 use Rattle.ansi_slice.proofs.SideLemmas.{left_side-walked, right_side-walked}
 use Rattle.ansi_search.proofs.OffsetLemmas.{after_of, after_of-last, after_of-text, style-text, pieces_of-after}
@@ -15,8 +15,7 @@ side_up_to-text s n w ps within = ap (λ b. if b then dressed s (take n w) else 
 left-past : (mid n : ℕ) (s : Rendition) (ps : List Piece) → mid < n → walked (left_part mid) n s ps ≡ []
 left-past mid n s [] past = refl
 left-past mid n s (Text w ∷ ps) past = grind (arith, left-past mid (n + length w) s ps (omega arith))
-left-past mid n s (Sequence w ∷ ps) past = grind (arith, lt-leb, left-past mid (n + 0) (apply s w) ps (omega arith))
-left-past mid n s (LoneEscape ∷ ps) past = grind (arith, lt-leb, left-past mid (n + 0) s ps (omega arith))
+left-past mid n s (p ∷ ps) past = grind (arith, lt-leb, left-past mid (n + 0) (apply s (spelling p)) ps (omega arith))
 
 left-walk : (mid n : ℕ) (s : Rendition) (ps : List Piece) → n ≤ mid → walked (left_part mid) n s ps ≡ side_up_to s (mid - n) ps
 left-walk mid n s [] within = refl
@@ -29,12 +28,10 @@ left-walk mid n s (Text w ∷ ps) within = elim (cases_lt (mid - n) (length w)) 
       ap₂ (λ u v. dressed s u ++ v) (take_all (mid - n) w all) (left-walk mid (n + length w) s ps (omega arith) ∙ ap (λ k. side_up_to s k ps) left)
       ∙ sym (side_up_to-text s (mid - n) w ps all))
 ]
-left-walk mid n s (Sequence w ∷ ps) within =
+left-walk mid n s (p ∷ ps) within =
     let same : mid - (n + 0) ≡ mid - n = omega arith in
-    ap₂ (λ b v. (if b then copied (Sequence w) else []) ++ v) (le-leb n mid within) (left-walk mid (n + 0) (apply s w) ps (omega arith) ∙ ap (λ k. side_up_to (apply s w) k ps) same)
-left-walk mid n s (LoneEscape ∷ ps) within =
-    let same : mid - (n + 0) ≡ mid - n = omega arith in
-    ap₂ (λ b v. (if b then copied LoneEscape else []) ++ v) (le-leb n mid within) (left-walk mid (n + 0) s ps (omega arith) ∙ ap (λ k. side_up_to s k ps) same)
+    let next = apply s (spelling p) in
+    ap₂ (λ b v. (if b then copied p else []) ++ v) (le-leb n mid within) (left-walk mid (n + 0) next ps (omega arith) ∙ ap (λ k. side_up_to next k ps) same)
 
 pub left_side-is : (t : List ℕ) (mid : ℕ) → left_side t mid ≡ side_up_to plain_style mid (pieces_of t)
 left_side-is t mid = grind (arith, left-walk, left_side-walked)
@@ -44,8 +41,7 @@ left_side-is t mid = grind (arith, left-walk, left_side-walked)
 right-past : (mid n top : ℕ) (s : Rendition) (ps : List Piece) → mid < n → length (plain_of ps) ≤ top → walked (right_part mid) n s ps ≡ side_up_to s top ps
 right-past mid n top s [] past fits = refl
 right-past mid n top s (Text w ∷ ps) past fits = grind (arith, length-append, side_up_to-text, right-past mid (n + length w) (top - length w) s ps (omega arith) (omega (arith, (length-append w (plain_of ps)), fits)))
-right-past mid n top s (Sequence w ∷ ps) past fits = grind (arith, lt-leb, right-past mid (n + 0) top (apply s w) ps (omega arith) fits)
-right-past mid n top s (LoneEscape ∷ ps) past fits = grind (arith, lt-leb, right-past mid (n + 0) top s ps (omega arith) fits)
+right-past mid n top s (p ∷ ps) past fits = grind (arith, lt-leb, right-past mid (n + 0) top (apply s (spelling p)) ps (omega arith) fits)
 
 right-walk : (mid n top : ℕ) (s : Rendition) (ps : List Piece) → n ≤ mid → length (plain_of ps) ≤ top
     → walked (right_part mid) n s ps ≡ side_up_to (style_by_marks s ps (mid - n)) top (after_of (mid - n) ps)
@@ -66,8 +62,7 @@ right-walk mid n top s (Text w ∷ ps) within fits =
           ∙ ap (λ i. side_up_to (style_by_marks s ps i) top (after_of i ps)) rest
           ∙ sym (ap₂ (λ r qs. side_up_to r top qs) (style-text s k w ps all) (after_of-text k w ps all)))
     ]
-right-walk mid n top s (Sequence w ∷ ps) within fits = grind (arith, le-leb, style_by_marks-sequence, right-walk mid (n + 0) top (apply s w) ps (omega arith) fits)
-right-walk mid n top s (LoneEscape ∷ ps) within fits = grind (arith, le-leb, style_by_marks-lone, right-walk mid (n + 0) top s ps (omega arith) fits)
+right-walk mid n top s (p ∷ ps) within fits = grind (arith, le-leb, style_by_marks-mark s p ps (mid - n) refl, right-walk mid (n + 0) top (apply s (spelling p)) ps (omega arith) fits)
 
 pub right_side-is : {t rest : List ℕ} {mid i top : ℕ} {style : Rendition} → StandsIn t mid i → rest ≡ drop i t → style ≡ style_within plain_style t mid → length t ≤ top
     → side_up_to style top (pieces_of rest) ≡ right_side t mid

@@ -1,5 +1,5 @@
 -- A cut and a kept text as a stretch of the text, by where its plain bytes stand, and the sequences outside of it.
-use Rattle.ansi_slice.proofs.Common.{◌≡◌, ℕ, ◌+◌, ◌-◌, ◌<◌, ◌≤◌, inl, inr, Bool, true, List, [], ◌∷◌, ◌++◌, length, take, drop, take-add, refl, sym, ◌∙◌, ap, ap₂, subst, arith, if◌then◌else◌, nat_lt, length-append, append_assoc, append-nil, not, false, ◌&&◌, Some, drop-append_seam, cases_lt, le-leb, lt-ltb, le-ltb, nat_tests, take-append-le, length-drop, drop-drop, slice_range, IsCharBoundary, Kind, escape, Piece, Text, Sequence, LoneEscape, ArePieces, pieces_of, plain_of, plain, pieces_are, pieces_of-unique, length-plain, spelled, spelled-pieces_of, is_mark, BeginsWithMark, Rendition, plain_style, apply, style_within, close, style_by_marks, style_by_marks-before, style_by_marks-sequence, style_by_marks-lone, is_good_position, is_good_range, cut_up_to, kept, bytes_before, sequences_up_to, offset_of, StandsIn, KeepsUpTo}
+use Rattle.ansi_slice.proofs.Common.{◌≡◌, ℕ, ◌+◌, ◌-◌, ◌<◌, ◌≤◌, inl, inr, Bool, true, List, [], ◌∷◌, ◌++◌, length, take, drop, take-add, refl, sym, ◌∙◌, ap, ap₂, subst, arith, if◌then◌else◌, nat_lt, length-append, append_assoc, append-nil, not, false, ◌&&◌, Some, drop-append_seam, cases_lt, le-leb, lt-ltb, le-ltb, nat_tests, take-append-le, length-drop, drop-drop, slice_range, IsCharBoundary, Kind, escape, Piece, Text, Sequence, LoneEscape, ArePieces, pieces_of, plain_of, plain, pieces_are, pieces_of-unique, length-plain, spelled, spelled-pieces_of, is_mark, BeginsWithMark, Rendition, plain_style, apply, style_within, close, style_by_marks, style_by_marks-before, style_by_marks-mark, is_good_position, is_good_range, cut_up_to, kept, bytes_before, sequences_up_to, offset_of, StandsIn, KeepsUpTo, spelling}
 use Rattle.ansi_search.proofs.SliceLemmas.{slice_range-past, slice_range-from_past}
 use Rattle.ansi_search.proofs.OffsetLemmas.{bytes_before-last, bytes_before-text, style-text, after_of, after_of-last, after_of-text, take-after, inside_are, pieces_of-after, plain-after, IsOverText, IsPassed}
 use Rattle.ansi_search.proofs.PositionLemmas.{is_good_position-drop}
@@ -39,9 +39,8 @@ shown_from-front all (Text w ∷ ps) s e ordered = elim (cases_lt s (length w)) 
       ∙ ap (λ k. sequences_up_to (s - n) ps ++ shown_from all 0 k (after_of (s - n) ps)) count
       ∙ sym (ap₂ (λ u qs. u ++ shown_from all 0 (e - s) qs) (sequences_up_to-text s w ps within) (after_of-text s w ps within)))
 ]
-shown_from-front all (Sequence w ∷ ps) s e ordered =
-    ap (λ v. w ++ v) (shown_from-front all ps s e ordered) ∙ sym (append_assoc w (sequences_up_to s ps) (shown_from all 0 (e - s) (after_of s ps)))
-shown_from-front all (LoneEscape ∷ ps) s e ordered = ap (λ v. escape ∷ v) (shown_from-front all ps s e ordered)
+shown_from-front all (p ∷ ps) s e ordered =
+    ap (λ v. spelling p ++ v) (shown_from-front all ps s e ordered) ∙ sym (append_assoc (spelling p) (sequences_up_to s ps) (shown_from all 0 (e - s) (after_of s ps)))
 
 -- the marks past the end, where all are shown
 abbrev later : Bool → ℕ → List Piece → List ℕ
@@ -70,8 +69,7 @@ shown_from-stretch all (Text w ∷ ps) e = elim (cases_lt e (length w)) [
     past : (b : Bool) → e < length w → (if not b && true then [] else shown_from b (0 - length w) (e - length w) ps) ≡ (if b then shown_from true 0 0 (Text (drop e w) ∷ ps) else [])
     past true last = ap₂ (λ i j. shown_from true i j ps) (omega arith) (omega arith)
     past false last = refl
-shown_from-stretch all (Sequence w ∷ ps) e = ap (λ v. w ++ v) (shown_from-stretch all ps e) ∙ sym (take-more w (spelled ps) (later all e ps) (bytes_before e ps))
-shown_from-stretch all (LoneEscape ∷ ps) e = ap (λ v. escape ∷ v) (shown_from-stretch all ps e) ∙ sym (take-more (escape ∷ []) (spelled ps) (later all e ps) (bytes_before e ps))
+shown_from-stretch all (p ∷ ps) e = ap (λ v. spelling p ++ v) (shown_from-stretch all ps e) ∙ sym (take-more (spelling p) (spelled ps) (later all e ps) (bytes_before e ps))
 
 -- the style at the end is that after the marks from the start on
 style-after : (ps : List Piece) (c : Rendition) (s e : ℕ) → s ≤ e → style_by_marks (style_by_marks c ps s) (after_of s ps) (e - s) ≡ style_by_marks c ps e
@@ -93,10 +91,8 @@ style-after (Text w ∷ ps) c s e ordered = elim (cases_lt s (length w)) [
       ∙ ap (style_by_marks (style_by_marks c ps (s - n)) (after_of (s - n) ps)) count
       ∙ style-after ps c (s - n) (e - n) (omega arith) ∙ sym (style-text c e w ps (omega arith)))
 ]
-style-after (Sequence w ∷ ps) c s e ordered =
-    ap (λ r. style_by_marks r (after_of s ps) (e - s)) (style_by_marks-sequence c w ps s) ∙ style-after ps (apply c w) s e ordered ∙ sym (style_by_marks-sequence c w ps e)
-style-after (LoneEscape ∷ ps) c s e ordered =
-    ap (λ r. style_by_marks r (after_of s ps) (e - s)) (style_by_marks-lone c ps s) ∙ style-after ps c s e ordered ∙ sym (style_by_marks-lone c ps e)
+style-after (p ∷ ps) c s e ordered =
+    ap (λ r. style_by_marks r (after_of s ps) (e - s)) (style_by_marks-mark c p ps s refl) ∙ style-after ps (apply c (spelling p)) s e ordered ∙ sym (style_by_marks-mark c p ps e refl)
 
 -- a front that is one stretch
 front-stretch : {t : List ℕ} {e to : ℕ} → StandsIn t e to → take to t ≡ shown_from false 0 e (pieces_of t)
@@ -143,8 +139,7 @@ keeps-at {t} {n} stands = record {
 shown_from-none : (ps : List Piece) (top : ℕ) → length (plain_of ps) ≤ top → shown_from true 0 0 ps ≡ sequences_up_to top ps
 shown_from-none [] top past = refl
 shown_from-none (Text w ∷ ps) top past = grind (arith, length-append, sequences_up_to-text, shown_from-none ps (top - length w) (omega (arith, (length-append w (plain_of ps)), past)))
-shown_from-none (Sequence w ∷ ps) top past = ap (λ v. w ++ v) (shown_from-none ps top past)
-shown_from-none (LoneEscape ∷ ps) top past = ap (λ v. escape ∷ v) (shown_from-none ps top past)
+shown_from-none (p ∷ ps) top past = ap (λ v. spelling p ++ v) (shown_from-none ps top past)
 
 pub kept-none : (t : List ℕ) (top : ℕ) → length t ≤ top → kept t 0 0 ≡ sequences_up_to top (pieces_of t)
 kept-none t top past = kept-walk t 0 0 ∙ shown_from-none (pieces_of t) top (omega (arith, length-plain t))

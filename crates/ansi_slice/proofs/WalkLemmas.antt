@@ -1,11 +1,10 @@
 -- What is made of each piece at its place and in the style there, by one walk with a running place and a running style.
-use Rattle.ansi_slice.proofs.Common.{◌≡◌, ◌≢◌, ℕ, ◌+◌, List, [], ◌∷◌, ◌++◌, map, flat_map, length, refl, ◌∙◌, ap, ap₂, arith, Piece, Text, Sequence, LoneEscape, ArePieces, pieces_of, plain_bytes, Placed, moved, places, Rendition, plain_style, apply, style_at, pieces_are, style_by_marks, style_by_marks-text, style_by_marks-before, style_by_marks-sequence, style_by_marks-lone}
+use Rattle.ansi_slice.proofs.Common.{◌≡◌, ◌≢◌, ℕ, ◌+◌, List, [], ◌∷◌, ◌++◌, map, flat_map, length, refl, ◌∙◌, ap, ap₂, arith, Piece, Text, spelling, is_mark, true, ArePieces, pieces_of, plain_bytes, Placed, moved, places, Rendition, plain_style, apply, style_at, pieces_are, style_by_marks, style_by_marks-text, style_by_marks-before, style_by_marks-mark}
 
 -- the style after a piece
 abbrev pub style_past : Rendition → Piece → Rendition
 style_past s (Text w) = s
-style_past s (Sequence w) = apply s w
-style_past s LoneEscape = s
+style_past s p = apply s (spelling p)
 
 -- what `make` makes of the pieces, of which the first is at the place n and in the style s
 abbrev pub walked : {X : Type 0} → (ℕ → Rendition → Piece → List X) → ℕ → Rendition → List Piece → List X
@@ -13,9 +12,8 @@ walked make n s [] = []
 walked make n s (p ∷ ps) = make n s p ++ walked make (n + length (plain_bytes p)) (style_past s p) ps
 
 -- what is made of a mark doesn't hang on the style
-pub record NeedsNoStyle (make : ℕ → Rendition → Piece → List ℕ) : Type 0 where
-  pub at_sequence : (n : ℕ) (r s : Rendition) (w : List ℕ) → make n r (Sequence w) ≡ make n s (Sequence w)
-  pub at_lone : (n : ℕ) (r s : Rendition) → make n r LoneEscape ≡ make n s LoneEscape
+abbrev pub NeedsNoStyle : (ℕ → Rendition → Piece → List ℕ) → Type 0
+NeedsNoStyle make = (n : ℕ) (r s : Rendition) (p : Piece) → is_mark p ≡ true → make n r p ≡ make n s p
 
 -- the same by places: `style` is the style at each place
 abbrev by_places : (ℕ → Rendition → Piece → List ℕ) → (ℕ → Rendition) → ℕ → List Placed → List ℕ
@@ -37,11 +35,8 @@ follows-first : (style : ℕ → Rendition) (n : ℕ) (s : Rendition) (w : List 
 follows-first style n s [] ps filled follows = absurd (filled refl)
 follows-first style n s (b ∷ w) ps filled follows = follows 0 ∙ style_by_marks-before s (b ∷ w) ps 0 (omega arith)
 
-follows-sequence : (style : ℕ → Rendition) (n : ℕ) (s : Rendition) (w : List ℕ) (ps : List Piece) → FollowsMarks style n s (Sequence w ∷ ps) → FollowsMarks style (n + 0) (apply s w) ps
-follows-sequence style n s w ps follows i = ap style (omega arith) ∙ follows i ∙ style_by_marks-sequence s w ps i
-
-follows-lone : (style : ℕ → Rendition) (n : ℕ) (s : Rendition) (ps : List Piece) → FollowsMarks style n s (LoneEscape ∷ ps) → FollowsMarks style (n + 0) s ps
-follows-lone style n s ps follows i = ap style (omega arith) ∙ follows i ∙ style_by_marks-lone s ps i
+follows-mark : (style : ℕ → Rendition) (n : ℕ) (s : Rendition) (p : Piece) (ps : List Piece) → is_mark p ≡ true → FollowsMarks style n s (p ∷ ps) → FollowsMarks style (n + 0) (apply s (spelling p)) ps
+follows-mark style n s p ps is follows i = ap style (omega arith) ∙ follows i ∙ style_by_marks-mark s p ps i is
 
 walk : (make : ℕ → Rendition → Piece → List ℕ) → NeedsNoStyle make → (style : ℕ → Rendition) (ps : List Piece) (t : List ℕ) → ArePieces t ps → (n : ℕ) (s : Rendition) → FollowsMarks style n s ps
     → by_places make style n (places ps) ≡ walked make n s ps
@@ -50,8 +45,10 @@ walk make no_style style (Text w ∷ ps) t are n s is =
     ap₂ (λ u v. u ++ v)
     (ap₂ (λ i r. make i r (Text w)) (omega arith) (follows-first style n s w ps are.2.0 is))
     (by_places-moved make style n (length w) (places ps) ∙ walk make no_style style ps are.0 are.3 (n + length w) s (follows-text style n s w ps is))
-walk make no_style style (Sequence w ∷ ps) t are n s is = grind (arith, by_places-moved, follows-sequence, walk make no_style style ps are.0 are.3 (n + 0) (apply s w) (follows-sequence style n s w ps is))
-walk make no_style style (LoneEscape ∷ ps) t are n s is = grind (arith, by_places-moved, follows-lone, walk make no_style style ps are.0 are.3 (n + 0) s (follows-lone style n s ps is))
+walk make no_style style (p ∷ ps) t are n s is =
+    ap₂ (λ u v. u ++ v)
+    (ap (λ i. make i (style i) p) (omega arith) ∙ no_style n (style n) s p refl)
+    (by_places-moved make style n 0 (places ps) ∙ walk make no_style style ps are.0 are.3 (n + 0) (apply s (spelling p)) (follows-mark style n s p ps refl is))
 
 by_places-0 : (make : ℕ → Rendition → Piece → List ℕ) (style : ℕ → Rendition) (qs : List Placed) → flat_map (λ (q : Placed). make q.place (style q.place) q.piece) qs ≡ by_places make style 0 qs
 by_places-0 make style [] = refl

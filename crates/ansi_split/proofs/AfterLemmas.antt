@@ -1,5 +1,5 @@
 -- A text in two, after the last mark at a position.
-use Rattle.ansi_split.proofs.Common.{min, ◌≡◌, ◌≢◌, ℕ, zero, suc, ◌+◌, ◌-◌, ◌<◌, ◌≤◌, inl, inr, false, List, [], ◌∷◌, ◌++◌, length, map, take, drop, Some, refl, sym, ◌∙◌, ap, ap₂, subst, arith, IsTrue, if◌then◌else◌, nat_lt, nat_le, slice_index, slice_range, length-append, append_assoc, append-nil, take-nil, cases_lt, lt-ltb, le-ltb, nat_tests, take_all, take-take, take-append-le, take-append-drop, map-append, length-drop, filter-append, filter_agree, fold-append, IsCharBoundary-from_rest, IsCharBoundary, escape, is_plain_byte, IsSequence, Piece, Text, Sequence, LoneEscape, spelling, ArePieces, StandsBefore, pieces_of, Mark, plain_of, plain, marks_of, marks, up_to, pieces_are, pieces_of-unique, one_text, one_text_are, plain_of-one_text, apply, apply_all, after_marks, further, marks_of-text, marks_of-sequence, marks_of-lone, up_to-none, up_to-further, after_marks-further, is_good_position, show, past, bytes_before, offset_of, list_all-parts, take-append, slice_range-none, slice_range-from_past, show-bare, show-text, show-mark, show-nil, is_good_position-append, good_is_boundary, up_to-past, bytes_before-last, bytes_before-text, after_of, after_of-last, after_of-text, take-after, pieces_of-after, plain-after, further_on, IsCutAfter}
+use Rattle.ansi_split.proofs.Common.{min, ◌≡◌, ◌≢◌, ℕ, zero, suc, ◌+◌, ◌-◌, ◌<◌, ◌≤◌, inl, inr, false, List, [], ◌∷◌, ◌++◌, length, map, take, drop, Some, refl, sym, ◌∙◌, ap, ap₂, subst, arith, IsTrue, if◌then◌else◌, nat_lt, nat_le, slice_index, slice_range, length-append, append_assoc, append-nil, take-nil, cases_lt, lt-ltb, le-ltb, nat_tests, take_all, take-take, take-append-le, take-append-drop, map-append, length-drop, filter-append, filter_agree, fold-append, IsCharBoundary-from_rest, IsCharBoundary, escape, is_plain_byte, IsSequence, Piece, Text, Sequence, LoneEscape, spelling, ArePieces, StandsBefore, pieces_of, Mark, plain_of, plain, marks_of, marks, up_to, pieces_are, pieces_of-unique, one_text, one_text_are, plain_of-one_text, apply, apply_all, after_marks, further, marks_of-text, marks_of-mark, up_to-none, up_to-further, after_marks-further, is_good_position, show, past, bytes_before, offset_of, list_all-parts, take-append, slice_range-none, slice_range-from_past, show-bare, show-text, show-mark, show-nil, is_good_position-append, good_is_boundary, up_to-past, bytes_before-last, bytes_before-text, after_of, after_of-last, after_of-text, take-after, pieces_of-after, plain-after, further_on, IsCutAfter}
 use Rattle.std.proofs.lemmas.List.{length-take}
 use Rattle.ansi_split.proofs.PartSliceLemmas.{own_places, at_places-never, past-places}
 
@@ -8,8 +8,7 @@ use Rattle.ansi_split.proofs.PartSliceLemmas.{own_places, at_places-never, past-
 abbrev front_of : ℕ → List Piece → List Piece
 front_of e [] = []
 front_of e (Text w ∷ ps) = if nat_lt e (length w) then one_text (take e w) else Text w ∷ front_of (e - length w) ps
-front_of e (Sequence w ∷ ps) = Sequence w ∷ front_of e ps
-front_of e (LoneEscape ∷ ps) = LoneEscape ∷ front_of e ps
+front_of e (p ∷ ps) = p ∷ front_of e ps
 
 front_of-last : (e : ℕ) (w : List ℕ) (ps : List Piece) → e < length w → front_of e (Text w ∷ ps) ≡ one_text (take e w)
 front_of-last e w ps last = ap (λ b. if b then one_text (take e w) else Text w ∷ front_of (e - length w) ps) (lt-ltb e (length w) last)
@@ -120,12 +119,16 @@ marks_cut e (Text w ∷ ps) = elim (cases_lt e (length w)) [
             ∙ ap (further_on k) cut.after ∙ moved;
       })
 ]
-marks_cut e (Sequence w ∷ ps) =
+marks_cut e (p ∷ ps) =
     let cut = marks_cut e ps in
-    record { n = cut.n; far = cut.far; others = cut.others; after = cut.after; all = marks_of-sequence w ps ∙ ap (λ ms. record { place = 0; bytes = w } ∷ ms) cut.all ∙ ap (λ ms. ms ++ further_on cut.n cut.others) (sym (marks_of-sequence w (front_of e ps))) }
-marks_cut e (LoneEscape ∷ ps) =
-    let cut = marks_cut e ps in
-    record { n = cut.n; far = cut.far; others = cut.others; after = cut.after; all = marks_of-lone ps ∙ ap (λ ms. record { place = 0; bytes = escape ∷ [] } ∷ ms) cut.all ∙ ap (λ ms. ms ++ further_on cut.n cut.others) (sym (marks_of-lone (front_of e ps))) }
+    record {
+      n = cut.n;
+      far = cut.far;
+      others = cut.others;
+      all = marks_of-mark p ps refl ∙ ap (λ ms. record { place = 0; bytes = spelling p } ∷ ms) cut.all
+          ∙ ap (λ ms. ms ++ further_on cut.n cut.others) (sym (marks_of-mark p (front_of e ps) refl));
+      after = cut.after;
+    }
 
 -- What is shown of pieces, where nothing of the text y after them is.
 show-front : (ps : List Piece) (y : List ℕ) (a e : ℕ) → slice_range y (a - length (plain_of ps)) (e - length (plain_of ps)) ≡ [] → show (plain_of ps ++ y) a e (marks_of ps) ≡ show (plain_of ps) a e (marks_of ps)
@@ -137,15 +140,11 @@ show-front (Text w ∷ ps) y a e none =
     ap₂ (λ u ms. show u a e ms) (append_assoc w x y) (marks_of-text w ps) ∙ show-text w (x ++ y) a e (marks_of ps)
     ∙ ap (λ u. slice_range w a e ++ u) (show-front ps y (a - n) (e - n) (ap₂ (slice_range y) (omega (arith, size)) (omega (arith, size)) ∙ none))
     ∙ sym (ap (show (w ++ x) a e) (marks_of-text w ps) ∙ show-text w x a e (marks_of ps))
-show-front (Sequence w ∷ ps) y a e none =
+show-front (p ∷ ps) y a e none =
     let x = plain_of ps in
-    ap (show (x ++ y) a e) (marks_of-sequence w ps) ∙ show-mark w (x ++ y) a e (marks_of ps) ∙ ap (λ u. w ++ u) (show-front ps y a e none)
-    ∙ sym (ap (show x a e) (marks_of-sequence w ps) ∙ show-mark w x a e (marks_of ps))
-show-front (LoneEscape ∷ ps) y a e none =
-    let x = plain_of ps in
-    let w = escape ∷ [] in
-    ap (show (x ++ y) a e) (marks_of-lone ps) ∙ show-mark w (x ++ y) a e (marks_of ps) ∙ ap (λ u. w ++ u) (show-front ps y a e none)
-    ∙ sym (ap (show x a e) (marks_of-lone ps) ∙ show-mark w x a e (marks_of ps))
+    let mark = marks_of-mark p ps refl in
+    ap (show (x ++ y) a e) mark ∙ show-mark (spelling p) (x ++ y) a e (marks_of ps) ∙ ap (λ u. spelling p ++ u) (show-front ps y a e none)
+    ∙ sym (ap (show x a e) mark ∙ show-mark (spelling p) x a e (marks_of ps))
 
 -- So the text is cut there.
 

@@ -34,7 +34,7 @@ pub use Rattle.ansi_style.specs.Rendition.{IsStyle, plain_style, has_any, known}
 pub use Rattle.ansi_style.specs.Written.{close, start, close_if_any, written, start_codes, written_all, close_codes, longest_close, longest_start_and_close}
 pub use Rattle.ansi_style.specs.Styled.{style_at, styled, StyledByte, bytes_of, style_of}
 pub use Rattle.ansi_style.specs.States.{rendition_of}
-pub use Rattle.ansi_style.proofs.MarkLemmas.{further, marks_of-text, marks_of-sequence, marks_of-lone, up_to-none, up_to-further, after_marks-further, style_by_marks, style_by_marks-before, style_by_marks-text, style_by_marks-sequence, style_by_marks-lone, marks-bare}
+pub use Rattle.ansi_style.proofs.MarkLemmas.{further, marks_of-text, marks_of-mark, up_to-none, up_to-further, after_marks-further, style_by_marks, style_by_marks-before, style_by_marks-text, style_by_marks-mark, marks-bare}
 pub use Rattle.ansi_style.proofs.ReadBackLemmas.{AreCodes, code_pieces, start_codes_are, close_codes_are}
 pub use Rattle.ansi_style.proofs.DressedLemmas.{dressed_pieces, GiveAlone, IsClosed, closed-spelled, Clears, spelled-dressed_pieces, dressed_pieces_stand, dressed_pieces_give}
 pub use Rattle.ansi_style.proofs.StyleLemmas.{IsStyle-plain_style, IsStyle-style_at, IsStyle-rendition_of}
@@ -50,7 +50,7 @@ pub use Rattle.ansi_search.proofs.SliceLemmas.{list_all-parts, take-append, slic
 pub use Rattle.ansi_slice.proofs.ShowLemmas.{show-bare, show-text, show-mark, show-nil}
 pub use Rattle.ansi_search.proofs.PositionLemmas.{is_good_position-append, good_is_boundary, char_boundary_is, is_good_position-past, is_char_boundary-from, is_good_position-after}
 pub use Rattle.ansi_slice.proofs.CutLemmas.{up_to-past}
-pub use Rattle.ansi_search.proofs.OffsetLemmas.{bytes_before-last, bytes_before-text, after_of, after_of-last, after_of-text, take-after, pieces_of-after, plain-after, IsOverText, IsOverMark, over_text, over_mark}
+pub use Rattle.ansi_search.proofs.OffsetLemmas.{bytes_before-last, bytes_before-mark, bytes_before-text, after_of, after_of-last, after_of-text, take-after, pieces_of-after, plain-after, IsOverText, IsOverMark, over_text, over_mark}
 pub use Rattle.ansi_search.proofs.MatchLemmas.{boundary_at, IsMatch, is_match-drop, is_match-after, first_match_from-first, first_match_from-is, empty_at_end, none_at_end, match_fits, first_in_front, is_match-front, starts_with-splits}
 pub use Rattle.ansi_slice.proofs.ShownLemmas.{shown_pieces, piece_when, at_places, at_places-further, spelled-shown_pieces, shown_pieces_stand, style_through-shown_pieces, styled_through-shown_pieces}
 pub use Rattle.ansi_split.specs.Spans.{further_on, IsCutAfter, IsCutAtMatch, carried_from, parts_from, span_part}

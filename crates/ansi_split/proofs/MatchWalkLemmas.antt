@@ -1,5 +1,5 @@
 -- How far a walk to the first match of a pattern has come, and what a step of it is.
-use Rattle.ansi_split.proofs.Common.{◌≡◌, ◌≢◌, ℕ, ◌+◌, ◌-◌, ◌<◌, ◌≤◌, Bool, true, false, ◌||◌, ◌==◌, List, [], ◌∷◌, ◌++◌, length, take, drop, Option, Some, None, option_map, refl, sym, ◌∙◌, ap, subst, arith, length-append, IsFalse, or-false, or-true, take-add, length-drop, drop-drop, drop_at, take_all, drop_all, take-append-le, list_any-append, IsUtf8, NoneBefore, IsFirst, Kind, escape, Piece, Text, Sequence, LoneEscape, spelling, StandsBefore, ArePieces, pieces_of, plain_of, plain, has_escape, Rendition, apply, after_marks, style_after_from, style_within, is_match, first_match_from, IsCutAfter, IsCutAtMatch, pieces_are, sequence_front, no_escape, is_mark, plain_of-mark, style_by_marks, style_by_marks-before, style_by_marks-text, style_by_marks-sequence, style_by_marks-lone, IsMatch, is_match-drop, is_match-after, first_match_from-first, first_match_from-is, empty_at_end, none_at_end, bytes_before, up_to-past, IsOverText, IsOverMark, bytes_before-last, bytes_before-text}
+use Rattle.ansi_split.proofs.Common.{◌≡◌, ◌≢◌, ℕ, ◌+◌, ◌-◌, ◌<◌, ◌≤◌, Bool, true, false, ◌||◌, ◌==◌, List, [], ◌∷◌, ◌++◌, length, take, drop, Option, Some, None, option_map, refl, sym, ◌∙◌, ap, subst, arith, length-append, IsFalse, or-false, or-true, take-add, length-drop, drop-drop, drop_at, take_all, drop_all, take-append-le, list_any-append, IsUtf8, NoneBefore, IsFirst, Kind, escape, Piece, Text, Sequence, LoneEscape, spelling, StandsBefore, ArePieces, pieces_of, plain_of, plain, has_escape, Rendition, apply, after_marks, style_after_from, style_within, is_match, first_match_from, IsCutAfter, IsCutAtMatch, pieces_are, sequence_front, no_escape, is_mark, plain_of-mark, style_by_marks, style_by_marks-before, style_by_marks-text, style_by_marks-mark, IsMatch, is_match-drop, is_match-after, first_match_from-first, first_match_from-is, empty_at_end, none_at_end, bytes_before, up_to-past, IsOverText, IsOverMark, bytes_before-last, bytes_before-mark, bytes_before-text}
 use Rattle.ansi_split.proofs.AfterLemmas.{is_cut_after}
 use Rattle.ansi_split.proofs.RestLemmas.{no_escape-parts, no_escape-text}
 use Rattle.ansi_split.proofs.SpanLemmas.{is_cut_at_match}
@@ -102,8 +102,8 @@ walked-mark {c} {t} {p} {from} {offset} {ahead} {after} {style} {next} {marked} 
       within = first.within;
       rest = first.rest ∙ plain_of-mark begins.mark ps begins.is_mark;
       found = first.found;
-      lens = λ d. first.lens d ∙ ap (λ k. offset + k) (len begins.mark d begins.is_mark) ∙ omega (arith, count);
-      styles = λ d. first.styles d ∙ read begins.mark d begins.is_mark ∙ ap (λ s. style_by_marks s ps d) (sym (applied ∙ ap (apply style) (sym begins.bytes)));
+      lens = λ d. first.lens d ∙ ap (λ k. offset + k) (bytes_before-mark d begins.mark ps begins.is_mark) ∙ omega (arith, count);
+      styles = λ d. first.styles d ∙ style_by_marks-mark style begins.mark ps d begins.is_mark ∙ ap (λ s. style_by_marks s ps d) (sym (applied ∙ ap (apply style) (sym begins.bytes)));
       is_marked = sym (ap has_escape over.bytes ∙ list_any-append (λ b. b == escape) (take offset t) w ∙ ap (λ b. has_escape (take offset t) || b) some ∙ or-true (has_escape (take offset t)));
     }
   where
@@ -111,15 +111,6 @@ walked-mark {c} {t} {p} {from} {offset} {ahead} {after} {style} {next} {marked} 
     escaped (Text v) rest is stands = absurd (cc is)
     escaped (Sequence v) rest is stands = ap has_escape (sequence_front v stands).1
     escaped LoneEscape rest is stands = refl
-
-    len : (q : Piece) (d : ℕ) → is_mark q ≡ true → bytes_before d (q ∷ ps) ≡ length (spelling q) + bytes_before d ps
-    len (Text v) d is = absurd (cc is)
-    len q d is = refl
-
-    read : (q : Piece) (d : ℕ) → is_mark q ≡ true → style_by_marks style (q ∷ ps) d ≡ style_by_marks (apply style (spelling q)) ps d
-    read (Text v) d is = absurd (cc is)
-    read (Sequence v) d is = style_by_marks-sequence style v ps d
-    read LoneEscape d is = style_by_marks-lone style ps d
 
 -- the match begins in a text
 pub walked-cut : {c : Rendition} {t p : List ℕ} {from offset ahead start n after : ℕ} {style : Rendition} {marked : Bool} {w : List ℕ} {left ps : List Piece}

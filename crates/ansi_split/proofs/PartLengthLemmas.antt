@@ -1,5 +1,5 @@
 -- How long a part may be, and what it takes of its text.
-use Rattle.ansi_split.proofs.Common.{◌≡◌, ℕ, ◌+◌, ◌-◌, ◌≤◌, Bool, true, false, ◌==◌, List, [], ◌∷◌, ◌++◌, length, map, drop, refl, sym, ap, subst, arith, length-append, length-take, if◌then◌else◌, cond_both, nat_tests, sum_by-cons, sum_by, Piece, spelling, Text, Sequence, LoneEscape, pieces_of, Mark, plain, plain_of, marks, marks_of, up_to, joined, Rendition, IsStyle, plain_style, has_any, close, start, close_if_any, show, style_within, parts, past, part_over, part, share_over, share, SplitPart, carried_from, part_from, parts_from, parts_left, span_part, one_text, slice_range-append, further, marks_of-text, marks_of-sequence, marks_of-lone, spelled, spelled-pieces_of, shown_pieces, piece_when, at_places, at_places-further, longest_close, longest_start_and_close}
+use Rattle.ansi_split.proofs.Common.{◌≡◌, ℕ, ◌+◌, ◌-◌, ◌≤◌, Bool, true, false, ◌==◌, List, [], ◌∷◌, ◌++◌, length, map, drop, refl, sym, ap, subst, arith, length-append, length-take, if◌then◌else◌, cond_both, nat_tests, sum_by-cons, sum_by, Piece, spelling, Text, Sequence, LoneEscape, pieces_of, Mark, plain, plain_of, marks, marks_of, up_to, joined, Rendition, IsStyle, plain_style, has_any, close, start, close_if_any, show, style_within, parts, past, part_over, part, share_over, share, SplitPart, carried_from, part_from, parts_from, parts_left, span_part, one_text, slice_range-append, further, marks_of-text, marks_of-mark, spelled, spelled-pieces_of, shown_pieces, piece_when, at_places, at_places-further, longest_close, longest_start_and_close}
 use Rattle.std.proofs.Common.{length-drop}
 use Rattle.std.specs.Prelude.{Option, Some, None, ◌&&◌, nat_lt}
 use Rattle.std.proofs.lemmas.Bool.{true≢false}
@@ -25,12 +25,11 @@ length-mark p false shown ms n within = within
 length-shown_taken : (ps : List Piece) (test : ℕ → Bool) (a b : ℕ) → length (spelled (shown_pieces test a b ps)) ≤ length (slice_range (plain_of ps) a b) + length (joined (at_places test (marks_of ps)))
 length-shown_taken [] test a b = omega arith
 length-shown_taken (Text w ∷ ps) test a b = grind (arith, at_places-further, joined-further, length-append, length-one_text, length-spelled, marks_of-text, slice_range-append, length-shown_taken ps (λ p. test (length w + p)) (a - length w) (b - length w))
-length-shown_taken (Sequence w ∷ ps) test a b =
+length-shown_taken (p ∷ ps) test a b =
     let shown = shown_pieces test a b ps in
     let taken = slice_range (plain_of ps) a b in
-    subst (λ ms. length (spelled (piece_when (test 0) (Sequence w) ++ shown)) ≤ length taken + length (joined (at_places test ms))) (sym (marks_of-sequence w ps))
-    (length-mark (Sequence w) (test 0) shown (at_places test (marks_of ps)) (length taken) (length-shown_taken ps test a b))
-length-shown_taken (LoneEscape ∷ ps) test a b = grind (arith, length-mark, marks_of-lone, length-shown_taken ps test a b)
+    subst (λ ms. length (spelled (piece_when (test 0) p ++ shown)) ≤ length taken + length (joined (at_places test ms))) (sym (marks_of-mark p ps refl))
+    (length-mark p (test 0) shown (at_places test (marks_of ps)) (length taken) (length-shown_taken ps test a b))
 
 length-close_if_any : (s : Rendition) → length (close_if_any s) ≤ longest_close
 length-close_if_any s = cond_both (has_any s) (close s) [] (λ w. length w ≤ longest_close) (λ any. length-close s) (λ none. omega arith)
@@ -136,9 +135,8 @@ shares_over t before (i ∷ is) come =
 length-pieces : (ps : List Piece) → length (spelled ps) ≡ length (plain_of ps) + length (joined (marks_of ps))
 length-pieces [] = refl
 length-pieces (Text w ∷ ps) = grind (arith, joined-further, length-append, marks_of-text, length-pieces ps)
-length-pieces (Sequence w ∷ ps) =
-    omega (arith, length-pieces ps, length-append w (spelled ps), ap (λ ms. length (joined ms)) (marks_of-sequence w ps), length-append w (joined (marks_of ps)))
-length-pieces (LoneEscape ∷ ps) = omega (arith, length-pieces ps, ap (λ ms. length (joined ms)) (marks_of-lone ps))
+length-pieces (p ∷ ps) =
+    omega (arith, length-pieces ps, length-append (spelling p) (spelled ps), ap (λ ms. length (joined ms)) (marks_of-mark p ps refl), length-append (spelling p) (joined (marks_of ps)))
 
 pub shares_within : (t p : List ℕ) → sum_by (λ (q : SplitPart). q.share) (parts_left plain_style t p 0 0) ≤ length t
 shares_within t p =

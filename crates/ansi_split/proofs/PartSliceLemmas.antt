@@ -67,7 +67,7 @@ shown_pieces-divided (p ∷ ps) k early late both c a b divides after = grind (a
 
 -- So what is read of the latter, from the state after the former, is what is read of all.
 
-module _ {S : Type 0} (step : S → List ℕ → S) (idle : (s : S) → step s (escape ∷ []) ≡ s) (first : S) (t : List ℕ) (k : ℕ) (early late both : ℕ → Bool) (i : ℕ × ℕ) (divides : Divides k early late both) (after : k ≤ i.0 + 1) where
+module _ {S : Type 0} (step : S → List ℕ → S) (first : S) (t : List ℕ) (k : ℕ) (early late both : ℕ → Bool) (i : ℕ × ℕ) (divides : Divides k early late both) (after : k ≤ i.0 + 1) where
   abbrev former : List Piece
   former = shown_pieces early 0 0 (pieces_of t)
 
@@ -81,20 +81,20 @@ module _ {S : Type 0} (step : S → List ℕ → S) (idle : (s : S) → step s (
   joined = shown_pieces-divided (pieces_of t) k early late both 0 i.0 i.1 divides after
 
   through-former : state_through step first former ≡ between
-  through-former = state_through-shown_pieces step idle (pieces_of t) first early 0 0
+  through-former = state_through-shown_pieces step (pieces_of t) first early 0 0
 
   pub state-divided : state_through step between latter ≡ state_after step first (at_places both (marks t))
   state-divided =
       ap (λ s. state_through step s latter) (sym through-former) ∙ sym (state_through-append step first former latter) ∙ ap (state_through step first) joined
-      ∙ state_through-shown_pieces step idle (pieces_of t) first both i.0 i.1
+      ∙ state_through-shown_pieces step (pieces_of t) first both i.0 i.1
 
   pub seen-divided : {B : Type 0} (seen : S → ℕ → B) → ((p : ℕ) → p < i.1 → both p ≡ true) → seen_through step seen between latter ≡ slice_range (seen_through step seen first (pieces_of t)) i.0 i.1
   seen-divided seen covers =
       let none : seen_through step seen first former ≡ []
-      = seen_through-shown_pieces step idle seen (pieces_of t) first early 0 0 (λ p none. absurd (omega (arith, none))) ∙ slice_range-none (seen_through step seen first (pieces_of t)) 0 0 (omega arith) in
+      = seen_through-shown_pieces step seen (pieces_of t) first early 0 0 (λ p none. absurd (omega (arith, none))) ∙ slice_range-none (seen_through step seen first (pieces_of t)) 0 0 (omega arith) in
       ap₂ (λ u s. u ++ seen_through step seen s latter) (sym none) (sym through-former)
       ∙ sym (seen_through-append step seen first former latter) ∙ ap (seen_through step seen first) joined
-      ∙ seen_through-shown_pieces step idle seen (pieces_of t) first both i.0 i.1 covers
+      ∙ seen_through-shown_pieces step seen (pieces_of t) first both i.0 i.1 covers
 
 -- The marks that a part shows, those that the parts before have shown, and the marks of both.
 
@@ -169,14 +169,14 @@ all_pieces t before i after =
 styled_through-own_pieces : (t : List ℕ) (before : Option ℕ) (i : ℕ × ℕ) → ComesAfter before i → styled_through (carried t before) (own_pieces t before i) ≡ slice_range (styled t) i.0 i.1
 styled_through-own_pieces t before i after =
     ap (λ s. styled_through s (own_pieces t before i)) (carried-places t before)
-    ∙ seen-divided apply (λ s. refl) plain_style t (own_from before) (earlier_places before) (own_places before i.1) (λ p. nat_le p i.1) i (part_divides before i after) (own_from_after before i after)
+    ∙ seen-divided apply plain_style t (own_from before) (earlier_places before) (own_places before i.1) (λ p. nat_le p i.1) i (part_divides before i after) (own_from_after before i after)
     styled_byte (λ p below. le-leb p i.1 (omega arith))
     ∙ ap (λ bs. slice_range bs i.0 i.1) (sym (styled-pieces t))
 
 style_through-own_pieces : (t : List ℕ) (before : Option ℕ) (i : ℕ × ℕ) → ComesAfter before i → style_through (carried t before) (own_pieces t before i) ≡ style_at t i.1
 style_through-own_pieces t before i after =
     ap (λ s. style_through s (own_pieces t before i)) (carried-places t before)
-    ∙ state-divided apply (λ s. refl) plain_style t (own_from before) (earlier_places before) (own_places before i.1) (λ p. nat_le p i.1) i (part_divides before i after) (own_from_after before i after)
+    ∙ state-divided apply plain_style t (own_from before) (earlier_places before) (own_places before i.1) (λ p. nat_le p i.1) i (part_divides before i after) (own_from_after before i after)
 
 -- The codes that close a style, where anything is set that a reader could see.
 

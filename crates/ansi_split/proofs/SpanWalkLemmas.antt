@@ -1,5 +1,5 @@
 -- How far a part that is written has come, and what a step of the walk is to it.
-use Rattle.ansi_split.proofs.Common.{has_escape, plain-bare, marks-bare, show-bare, is_char_boundary, and_parts, good_is_boundary, leb-true, ◌≡◌, ℕ, ◌+◌, ◌-◌, ◌<◌, ◌≤◌, inl, inr, true, false, List, [], ◌∷◌, ◌++◌, length, drop, sym, ◌∙◌, ap, ap₂, subst, arith, IsTrue, if◌then◌else◌, append_assoc, append-nil, length-append, cases_lt, drop_all, drop-drop, drop-append-le, IsCharBoundary, Kind, escape, Piece, Text, Sequence, LoneEscape, spelling, ArePieces, pieces_of, plain_of, plain, marks_of, is_good_position, Rendition, has_any, start, close, close_if_any, style_after_from, show, span_text, pieces_are, pieces_of-unique, is_mark, BeginsWithMark, plain_of-mark, marks_of-text, marks_of-sequence, marks_of-lone, slice_range-past, show-text, show-mark, is_good_position-after, IsOverText}
+use Rattle.ansi_split.proofs.Common.{has_escape, plain-bare, marks-bare, show-bare, is_char_boundary, and_parts, good_is_boundary, leb-true, ◌≡◌, ℕ, ◌+◌, ◌-◌, ◌<◌, ◌≤◌, inl, inr, true, false, List, [], ◌∷◌, ◌++◌, length, drop, sym, ◌∙◌, ap, ap₂, subst, arith, IsTrue, if◌then◌else◌, append_assoc, append-nil, length-append, cases_lt, drop_all, drop-drop, drop-append-le, IsCharBoundary, Kind, escape, Piece, Text, Sequence, LoneEscape, spelling, ArePieces, pieces_of, plain_of, plain, marks_of, is_good_position, Rendition, has_any, start, close, close_if_any, style_after_from, show, span_text, pieces_are, pieces_of-unique, is_mark, BeginsWithMark, plain_of-mark, marks_of-text, marks_of-mark, slice_range-past, show-text, show-mark, is_good_position-after, IsOverText}
 use Rattle.ansi_slice.specs.Kept.{kept}
 use Rattle.ansi_slice.proofs.KeptWalkLemmas.{kept-all}
 use Rattle.ansi_split.proofs.AfterLemmas.{boundary_in_next}
@@ -65,11 +65,10 @@ shown-boundary {t} {begin} {at} {next} {w} {left} {ps} skip good over inside beg
   | inr past ↦ (let same : next ≡ at + skip = omega (arith, past, inside, over.count) in subst (IsCharBoundary t) same boundary)
 ])
 
-show-piece : (p : Piece) (ps : List Piece) (a : ℕ) → is_mark p ≡ true
-    → left_of a (p ∷ ps) ≡ spelling p ++ left_of a ps
-show-piece (Text w) ps a is = absurd (cc is)
-show-piece (Sequence w) ps a is = ap (show (plain_of ps) a (length (plain_of ps))) (marks_of-sequence w ps) ∙ show-mark w (plain_of ps) a (length (plain_of ps)) (marks_of ps)
-show-piece LoneEscape ps a is = ap (show (plain_of ps) a (length (plain_of ps))) (marks_of-lone ps) ∙ show-mark (escape ∷ []) (plain_of ps) a (length (plain_of ps)) (marks_of ps)
+show-piece : (p : Piece) (ps : List Piece) (a : ℕ) → is_mark p ≡ true → left_of a (p ∷ ps) ≡ spelling p ++ left_of a ps
+show-piece p ps a is =
+    let x = plain_of ps in
+    ap₂ (λ y ms. show y a (length y) ms) (plain_of-mark p ps is) (marks_of-mark p ps is) ∙ show-mark (spelling p) x a (length x) (marks_of ps)
 
 -- over a mark
 pub shown-mark : {whole old new : List ℕ} {skip : ℕ} {kind : Kind} {w : List ℕ} {left ps : List Piece} → IsShownSoFar whole old skip left → BeginsWithMark kind w left ps → new ≡ old ++ w

@@ -1,5 +1,5 @@
 -- The parts that a split gives: those of the text, each by its index; and a part that is written or borrowed.
-use Rattle.ansi_split.proofs.Common.{◌≡◌, Bool, unwrap_or, ℕ, zero, suc, ◌+◌, ◌≤◌, true, false, not, ◌&&◌, ◌||◌, ◌==◌, List, [], ◌∷◌, ◌++◌, length, map, drop, Option, Some, None, option_map, refl, sym, ◌∙◌, ap, ap₂, arith, IsTrue, IsFalse, if◌then◌else◌, slice_get, append-nil, eqb-true, eq-eqb, ne_eqb, cond_both, or_from, and_parts, and_from, and-false, or-true, none-some, same_Some, drop_all, list_any-append, range_with_len, list_all, escape, Piece, Text, Sequence, LoneEscape, ArePieces, pieces_of, Mark, plain, marks_of, marks, up_to, has_escape, Rendition, plain_style, has_any, start, close_if_any, style_of, style_at, parts, end_before, carried, part_over, part, all_parts, share_over, share, is_borrowed_over, is_part_borrowed, SplitPart, split_part, split_parts, part_from, parts_from, parts_left, span_part, span_text, pieces_are, no_escape, plain-bare, slice_range-past, further, marks-bare, marks_of-text, marks_of-sequence, marks_of-lone, up_to-past, show-bare, start-unset, close_if_any-unset}
+use Rattle.ansi_split.proofs.Common.{◌≡◌, Bool, unwrap_or, ℕ, zero, suc, ◌+◌, ◌≤◌, true, false, not, ◌&&◌, ◌||◌, ◌==◌, List, [], ◌∷◌, ◌++◌, length, map, drop, Option, Some, None, option_map, refl, sym, ◌∙◌, ap, ap₂, arith, IsTrue, IsFalse, if◌then◌else◌, slice_get, append-nil, eqb-true, eq-eqb, ne_eqb, cond_both, or_from, and_parts, and_from, and-false, or-true, none-some, same_Some, drop_all, list_any-append, range_with_len, list_all, escape, Piece, Text, Sequence, LoneEscape, ArePieces, pieces_of, Mark, plain, marks_of, marks, up_to, has_escape, Rendition, plain_style, has_any, start, close_if_any, style_of, style_at, parts, end_before, carried, part_over, part, all_parts, share_over, share, is_borrowed_over, is_part_borrowed, SplitPart, split_part, split_parts, part_from, parts_from, parts_left, span_part, span_text, pieces_are, no_escape, plain-bare, slice_range-past, further, marks-bare, marks_of-text, marks_of-mark, up_to-past, show-bare, start-unset, close_if_any-unset}
 use Rattle.std.proofs.lemmas.Bool.{true≢false}
 use Rattle.ansi_split.proofs.IntervalLemmas.{end_after, end_after-suc, end_after-none}
 use Rattle.ansi_split.proofs.PartTextLemmas.{length-parts, parts_over, all_parts-over}
@@ -82,8 +82,7 @@ no_escape_after t (Text w ∷ ps) are none =
     no_marks : (ms : List Mark) → map (further (length w)) ms ≡ [] → ms ≡ []
     no_marks [] none = refl
     no_marks (m ∷ ms) none = absurd (cc none)
-no_escape_after t (Sequence w ∷ ps) are none = (let mark = sym (marks_of-sequence w ps) ∙ none in absurd (cc mark))
-no_escape_after t (LoneEscape ∷ ps) are none = (let mark = sym (marks_of-lone ps) ∙ none in absurd (cc mark))
+no_escape_after t (p ∷ ps) are none = (let mark = sym (marks_of-mark p ps refl) ∙ none in absurd (cc mark))
 
 pub escape_is_marked : (t : List ℕ) → has_escape t ≡ true → (length (marks t) == 0) ≡ false
 escape_is_marked t some = by_marks (marks t) (λ none. no_escape_after t (pieces_of t) (pieces_are t) none)

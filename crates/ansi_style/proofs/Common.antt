@@ -29,9 +29,10 @@ pub use Rattle.std.specs.Str.Parse.{digits_value_after}
 pub use Rattle.ansi_items.proofs.AnsiColorLemmas.{alone, same_ansi_color}
 pub use Rattle.ansi_items.proofs.JoinLemmas.{AllStandAnywhere, is_whole-spelled, pieces_of-append, pieces_of-spelled, spelled, stand-append}
 pub use Rattle.ansi_items.proofs.PlainLemmas.{one_text, pieces_of-bare}
+pub use Rattle.ansi_items.proofs.StepLemmas.{is_mark}
 pub use Rattle.ansi_items.specs.AnsiColors.{compared}
 pub use Rattle.ansi_items.specs.Bytes.{escape, is_parameter_byte}
-pub use Rattle.ansi_items.specs.Pieces.{LoneEscape, Piece, Sequence, Text, after_text, merged, pieces_of}
+pub use Rattle.ansi_items.specs.Pieces.{LoneEscape, Piece, Sequence, Text, after_text, merged, pieces_of, spelling}
 pub use Rattle.ansi_items.specs.Plain.{Mark, Placed, has_escape, is_whole, mark_of, marks, marks_of, moved, places, plain, plain_of, up_to}
 pub use Rattle.ansi_items.specs.Sequences.{IsSequence, are_private, is_sgr, sgr_parameters}
 pub use Rattle.ansi_items.specs.contracts.ansitok.AnsiColorOrd.TheImpl.{ghosts}

@@ -1,5 +1,5 @@
 -- Pieces between the start of a style and its close: read where nothing is known, they have their styled bytes, and leave nothing known.
-use Rattle.ansi_style.proofs.Common.{◌≡◌, ℕ, List, [], ◌∷◌, ◌++◌, refl, ◌∙◌, ap, ap₂, append-nil, IsTrue, flat_map-append, Piece, Text, Sequence, LoneEscape, is_whole, Rendition, IsStyle, plain_style, known, apply, written_all, start_codes, start, StyledByte, styled, residue, spelled, AllStandAnywhere, stand-append, is_whole-spelled, arith}
+use Rattle.ansi_style.proofs.Common.{◌≡◌, ℕ, List, [], ◌∷◌, ◌++◌, refl, ◌∙◌, ap, ap₂, append-nil, IsTrue, flat_map-append, Piece, Text, spelling, is_whole, Rendition, IsStyle, plain_style, known, apply, written_all, start_codes, start, StyledByte, styled, residue, spelled, AllStandAnywhere, stand-append, is_whole-spelled, arith}
 use Rattle.ansi_style.proofs.SgrLemmas.{apply-alike}
 use Rattle.ansi_style.proofs.StyledLemmas.{styled_through, style_through, styled_through-append, style_through-append, styled_through-alike}
 use Rattle.ansi_style.proofs.SpelledLemmas.{styled-spelled, residue-spelled}
@@ -39,8 +39,7 @@ closed-spelled ps bs stand give = record {
 style_through-alike : (s q : Rendition) (ps : List Piece) → known s ≡ known q → known (style_through s ps) ≡ known (style_through q ps)
 style_through-alike s q [] same = same
 style_through-alike s q (Text w ∷ ps) same = style_through-alike s q ps same
-style_through-alike s q (Sequence w ∷ ps) same = style_through-alike (apply s w) (apply q w) ps (apply-alike s q w same)
-style_through-alike s q (LoneEscape ∷ ps) same = style_through-alike s q ps same
+style_through-alike s q (p ∷ ps) same = style_through-alike (apply s (spelling p)) (apply q (spelling p)) ps (apply-alike s q (spelling p) same)
 
 -- Pieces after the start of s and before codes that close q.
 

@@ -1,5 +1,5 @@
 -- The marks of pieces, one piece at a time, and those up to a place.
-use Rattle.ansi_style.proofs.Common.{◌≡◌, ℕ, suc, ◌+◌, ◌-◌, ◌<◌, ◌≤◌, Bool, true, false, List, [], ◌∷◌, length, map, filter_map, fold, Option, refl, ◌∙◌, ap, ap₂, arith, nat_le, if◌then◌else◌, IsFalse, lt-leb, nat_tests, escape, Piece, Text, Sequence, LoneEscape, Mark, Placed, mark_of, moved, marks_of, marks, places, up_to, has_escape, Rendition, apply, after_marks, one_text, pieces_of-bare}
+use Rattle.ansi_style.proofs.Common.{◌≡◌, ℕ, suc, ◌+◌, ◌-◌, ◌<◌, ◌≤◌, Bool, true, false, List, [], ◌∷◌, length, map, filter_map, fold, Option, refl, ◌∙◌, ap, ap₂, arith, nat_le, if◌then◌else◌, IsFalse, lt-leb, nat_tests, Piece, Text, spelling, is_mark, Mark, Placed, mark_of, moved, marks_of, marks, places, up_to, has_escape, Rendition, apply, after_marks, one_text, pieces_of-bare}
 
 -- n plain bytes more stand before the mark
 abbrev pub further : ℕ → Mark → Mark
@@ -24,17 +24,14 @@ marks-moved n (q ∷ qs) = by_piece q.piece (marks-moved n qs)
     by_piece : (p : Piece) → filter_map mark_at (map (moved n) qs) ≡ map (further n) (filter_map mark_at qs)
         → filter_map mark_at (map (moved n) (record q { piece = p } ∷ qs)) ≡ map (further n) (filter_map mark_at (record q { piece = p } ∷ qs))
     by_piece (Text w) later = later
-    by_piece (Sequence w) later = ap (λ ms. record { place = n + q.place; bytes = w } ∷ ms) later
-    by_piece LoneEscape later = ap (λ ms. record { place = n + q.place; bytes = escape ∷ [] } ∷ ms) later
+    by_piece p later = ap (λ ms. record { place = n + q.place; bytes = spelling p } ∷ ms) later
 
 pub marks_of-text : (w : List ℕ) (ps : List Piece) → marks_of (Text w ∷ ps) ≡ map (further (length w)) (marks_of ps)
 marks_of-text w ps = marks-moved (length w) (places ps)
 
-pub marks_of-sequence : (w : List ℕ) (ps : List Piece) → marks_of (Sequence w ∷ ps) ≡ record { place = 0; bytes = w } ∷ marks_of ps
-marks_of-sequence w ps = ap (λ ms. record { place = 0; bytes = w } ∷ ms) (marks-moved 0 (places ps) ∙ map-further-0 (marks_of ps))
-
-pub marks_of-lone : (ps : List Piece) → marks_of (LoneEscape ∷ ps) ≡ record { place = 0; bytes = escape ∷ [] } ∷ marks_of ps
-marks_of-lone ps = ap (λ ms. record { place = 0; bytes = escape ∷ [] } ∷ ms) (marks-moved 0 (places ps) ∙ map-further-0 (marks_of ps))
+pub marks_of-mark : (p : Piece) (ps : List Piece) → is_mark p ≡ true → marks_of (p ∷ ps) ≡ record { place = 0; bytes = spelling p } ∷ marks_of ps
+marks_of-mark (Text w) ps is = absurd (cc is)
+marks_of-mark p ps is = ap (λ ms. record { place = 0; bytes = spelling p } ∷ ms) (marks-moved 0 (places ps) ∙ map-further-0 (marks_of ps))
 
 -- a text without ESC has no marks
 pub marks-bare : (t : List ℕ) → IsFalse (has_escape t) → marks t ≡ []
@@ -94,13 +91,9 @@ module _ {S : Type 0} (step : S → List ℕ → S) where
       ∙ state_after-further s n (up_to (n + i - n) (marks_of ps))
       ∙ ap (state_by_marks s ps) left
 
-  pub state_by_marks-sequence : (s : S) (w : List ℕ) (ps : List Piece) (i : ℕ) → state_by_marks s (Sequence w ∷ ps) i ≡ state_by_marks (step s w) ps i
-  state_by_marks-sequence s w ps i =
-      ap (λ ms. state_after s (up_to i ms)) (marks_of-sequence w ps) ∙ ap (state_after s) (up_to-here i w (marks_of ps))
-
-  pub state_by_marks-lone : (s : S) (ps : List Piece) (i : ℕ) → state_by_marks s (LoneEscape ∷ ps) i ≡ state_by_marks (step s (escape ∷ [])) ps i
-  state_by_marks-lone s ps i =
-      ap (λ ms. state_after s (up_to i ms)) (marks_of-lone ps) ∙ ap (state_after s) (up_to-here i (escape ∷ []) (marks_of ps))
+  pub state_by_marks-mark : (s : S) (p : Piece) (ps : List Piece) (i : ℕ) → is_mark p ≡ true → state_by_marks s (p ∷ ps) i ≡ state_by_marks (step s (spelling p)) ps i
+  state_by_marks-mark s p ps i is =
+      ap (λ ms. state_after s (up_to i ms)) (marks_of-mark p ps is) ∙ ap (state_after s) (up_to-here i (spelling p) (marks_of ps))
 
 -- A style.
 
@@ -116,8 +109,5 @@ style_by_marks-before = state_by_marks-before apply
 pub style_by_marks-text : (s : Rendition) (w : List ℕ) (ps : List Piece) (i : ℕ) → style_by_marks s (Text w ∷ ps) (length w + i) ≡ style_by_marks s ps i
 style_by_marks-text = state_by_marks-text apply
 
-pub style_by_marks-sequence : (s : Rendition) (w : List ℕ) (ps : List Piece) (i : ℕ) → style_by_marks s (Sequence w ∷ ps) i ≡ style_by_marks (apply s w) ps i
-style_by_marks-sequence = state_by_marks-sequence apply
-
-pub style_by_marks-lone : (s : Rendition) (ps : List Piece) (i : ℕ) → style_by_marks s (LoneEscape ∷ ps) i ≡ style_by_marks s ps i
-style_by_marks-lone = state_by_marks-lone apply
+pub style_by_marks-mark : (s : Rendition) (p : Piece) (ps : List Piece) (i : ℕ) → is_mark p ≡ true → style_by_marks s (p ∷ ps) i ≡ style_by_marks (apply s (spelling p)) ps i
+style_by_marks-mark = state_by_marks-mark apply

@@ -1,5 +1,5 @@
 -- The styled bytes of a text, from its pieces in turn.
-use Rattle.ansi_style.proofs.Common.{◌≡◌, ℕ, List, [], ◌∷◌, ◌++◌, map, refl, ◌∙◌, ap, ap₂, Piece, Text, Sequence, LoneEscape, merged, pieces_of, plain, Rendition, known, plain_style, apply, StyledByte, styled, bytes_of, styled_from, style_after_from}
+use Rattle.ansi_style.proofs.Common.{◌≡◌, ℕ, List, [], ◌∷◌, ◌++◌, map, refl, ◌∙◌, ap, ap₂, Piece, Text, spelling, merged, pieces_of, plain, Rendition, known, plain_style, apply, StyledByte, styled, bytes_of, styled_from, style_after_from}
 use Rattle.ansi_style.proofs.SgrLemmas.{apply-alike}
 use Rattle.ansi_style.proofs.ThroughLemmas.{state_through, state_through-append, state_through-merged, state_after-marks_of, seen_through, seen_through-append, seen_through-merged, seen_by-pieces, bytes-seen_through}
 
@@ -32,8 +32,7 @@ pub styled_through-alike : (s t : Rendition) (ps : List Piece) → known s ≡ k
 styled_through-alike s t [] same = refl
 styled_through-alike s t (Text w ∷ ps) same =
     ap₂ (λ u v. u ++ v) (ap (λ k. map (λ b. record { byte = b; style = k }) w) same) (styled_through-alike s t ps same)
-styled_through-alike s t (Sequence w ∷ ps) same = styled_through-alike (apply s w) (apply t w) ps (apply-alike s t w same)
-styled_through-alike s t (LoneEscape ∷ ps) same = styled_through-alike s t ps same
+styled_through-alike s t (p ∷ ps) same = styled_through-alike (apply s (spelling p)) (apply t (spelling p)) ps (apply-alike s t (spelling p) same)
 
 -- Texts that touch may be joined.
 
@@ -46,13 +45,13 @@ styled_through-merged = seen_through-merged apply styled_byte
 -- So the styled bytes of a text are those of its pieces in turn.
 
 pub styled_from-pieces : (s : Rendition) (t : List ℕ) → styled_from s t ≡ styled_through s (pieces_of t)
-styled_from-pieces s t = seen_by-pieces apply styled_byte (λ s. refl) s (pieces_of t)
+styled_from-pieces s t = seen_by-pieces apply styled_byte s (pieces_of t)
 
 pub styled-pieces : (t : List ℕ) → styled t ≡ styled_through plain_style (pieces_of t)
-styled-pieces t = seen_by-pieces apply styled_byte (λ s. refl) plain_style (pieces_of t)
+styled-pieces t = seen_by-pieces apply styled_byte plain_style (pieces_of t)
 
 pub style_after_from-pieces : (s : Rendition) (t : List ℕ) → style_after_from s t ≡ style_through s (pieces_of t)
-style_after_from-pieces s t = state_after-marks_of apply (λ s. refl) s (pieces_of t)
+style_after_from-pieces s t = state_after-marks_of apply s (pieces_of t)
 
 -- The bytes of the styled bytes are the plain text.
 

@@ -1,6 +1,6 @@
 -- What pieces make, one after another, of a state that sequences change, and their plain bytes, each with what is seen of the state there. A style is such a state, and so is a link.
-use Rattle.ansi_style.proofs.Common.{◌≡◌, ℕ, zero, suc, ◌+◌, ◌<◌, List, [], ◌∷◌, ◌++◌, map, length, refl, sym, ◌∙◌, ap, ap₂, arith, append_assoc, slice_index, map-append, range_with_len, escape, Piece, Text, Sequence, LoneEscape, after_text, merged, plain_of, marks_of}
-use Rattle.ansi_style.proofs.MarkLemmas.{state_after, state_after-further, state_by_marks, state_by_marks-before, state_by_marks-text, state_by_marks-sequence, state_by_marks-lone, marks_of-text, marks_of-sequence, marks_of-lone}
+use Rattle.ansi_style.proofs.Common.{◌≡◌, ℕ, zero, suc, ◌+◌, ◌<◌, List, [], ◌∷◌, ◌++◌, map, length, refl, sym, ◌∙◌, ap, ap₂, arith, append_assoc, slice_index, map-append, range_with_len, Piece, Text, spelling, after_text, merged, plain_of, marks_of}
+use Rattle.ansi_style.proofs.MarkLemmas.{state_after, state_after-further, state_by_marks, state_by_marks-before, state_by_marks-text, state_by_marks-mark, marks_of-text, marks_of-mark}
 
 map-range-suc : {X : Type 0} (f : ℕ → X) (a n : ℕ) → map f (range_with_len (suc a) n) ≡ map (λ i. f (suc i)) (range_with_len a n)
 map-range-suc f a zero = refl
@@ -13,63 +13,50 @@ module _ {S : Type 0} (step : S → List ℕ → S) where
   abbrev pub state_through : S → List Piece → S
   state_through s [] = s
   state_through s (Text w ∷ ps) = state_through s ps
-  state_through s (Sequence w ∷ ps) = state_through (step s w) ps
-  state_through s (LoneEscape ∷ ps) = state_through s ps
+  state_through s (p ∷ ps) = state_through (step s (spelling p)) ps
 
   pub state_through-append : (s : S) (ps qs : List Piece) → state_through s (ps ++ qs) ≡ state_through (state_through s ps) qs
   state_through-append s [] qs = refl
   state_through-append s (Text w ∷ ps) qs = state_through-append s ps qs
-  state_through-append s (Sequence w ∷ ps) qs = state_through-append (step s w) ps qs
-  state_through-append s (LoneEscape ∷ ps) qs = state_through-append s ps qs
+  state_through-append s (p ∷ ps) qs = state_through-append (step s (spelling p)) ps qs
 
   -- texts that touch may be joined
   state_through-after_text : (s : S) (w : List ℕ) (ps : List Piece) → state_through s (after_text w ps) ≡ state_through s ps
-  state_through-after_text s w [] = refl
   state_through-after_text s w (Text v ∷ ps) = refl
-  state_through-after_text s w (Sequence v ∷ ps) = refl
-  state_through-after_text s w (LoneEscape ∷ ps) = refl
+  state_through-after_text s w ps = refl
 
   pub state_through-merged : (s : S) (ps : List Piece) → state_through s (merged ps) ≡ state_through s ps
   state_through-merged s [] = refl
   state_through-merged s (Text w ∷ ps) = state_through-after_text s w (merged ps) ∙ state_through-merged s ps
-  state_through-merged s (Sequence w ∷ ps) = state_through-merged (step s w) ps
-  state_through-merged s (LoneEscape ∷ ps) = state_through-merged s ps
+  state_through-merged s (p ∷ ps) = state_through-merged (step s (spelling p)) ps
 
-  -- a lone escape is a mark that does nothing
-  module _ (idle : (s : S) → step s (escape ∷ []) ≡ s) where
-    pub state_after-marks_of : (s : S) (ps : List Piece) → state_after step s (marks_of ps) ≡ state_through s ps
-    state_after-marks_of s [] = refl
-    state_after-marks_of s (Text w ∷ ps) = ap (state_after step s) (marks_of-text w ps) ∙ state_after-further step s (length w) (marks_of ps) ∙ state_after-marks_of s ps
-    state_after-marks_of s (Sequence w ∷ ps) = ap (state_after step s) (marks_of-sequence w ps) ∙ state_after-marks_of (step s w) ps
-    state_after-marks_of s (LoneEscape ∷ ps) = ap (state_after step s) (marks_of-lone ps) ∙ ap (λ q. state_after step q (marks_of ps)) (idle s) ∙ state_after-marks_of s ps
+  pub state_after-marks_of : (s : S) (ps : List Piece) → state_after step s (marks_of ps) ≡ state_through s ps
+  state_after-marks_of s [] = refl
+  state_after-marks_of s (Text w ∷ ps) = ap (state_after step s) (marks_of-text w ps) ∙ state_after-further step s (length w) (marks_of ps) ∙ state_after-marks_of s ps
+  state_after-marks_of s (p ∷ ps) = ap (state_after step s) (marks_of-mark p ps refl) ∙ state_after-marks_of (step s (spelling p)) ps
 
   module _ {B : Type 0} (seen : S → ℕ → B) where
     -- the plain bytes of the pieces, from the state s on
     abbrev pub seen_through : S → List Piece → List B
     seen_through s [] = []
     seen_through s (Text w ∷ ps) = map (seen s) w ++ seen_through s ps
-    seen_through s (Sequence w ∷ ps) = seen_through (step s w) ps
-    seen_through s (LoneEscape ∷ ps) = seen_through s ps
+    seen_through s (p ∷ ps) = seen_through (step s (spelling p)) ps
 
     pub seen_through-append : (s : S) (ps qs : List Piece) → seen_through s (ps ++ qs) ≡ seen_through s ps ++ seen_through (state_through s ps) qs
     seen_through-append s [] qs = refl
     seen_through-append s (Text w ∷ ps) qs =
         ap (λ v. map (seen s) w ++ v) (seen_through-append s ps qs) ∙ sym (append_assoc (map (seen s) w) (seen_through s ps) (seen_through (state_through s ps) qs))
-    seen_through-append s (Sequence w ∷ ps) qs = seen_through-append (step s w) ps qs
-    seen_through-append s (LoneEscape ∷ ps) qs = seen_through-append s ps qs
+    seen_through-append s (p ∷ ps) qs = seen_through-append (step s (spelling p)) ps qs
 
     seen_through-after_text : (s : S) (w : List ℕ) (ps : List Piece) → seen_through s (after_text w ps) ≡ map (seen s) w ++ seen_through s ps
-    seen_through-after_text s w [] = refl
     seen_through-after_text s w (Text v ∷ ps) =
         ap (λ u. u ++ seen_through s ps) (map-append (seen s) w v) ∙ append_assoc (map (seen s) w) (map (seen s) v) (seen_through s ps)
-    seen_through-after_text s w (Sequence v ∷ ps) = refl
-    seen_through-after_text s w (LoneEscape ∷ ps) = refl
+    seen_through-after_text s w ps = refl
 
     pub seen_through-merged : (s : S) (ps : List Piece) → seen_through s (merged ps) ≡ seen_through s ps
     seen_through-merged s [] = refl
     seen_through-merged s (Text w ∷ ps) = seen_through-after_text s w (merged ps) ∙ ap (λ u. map (seen s) w ++ u) (seen_through-merged s ps)
-    seen_through-merged s (Sequence w ∷ ps) = seen_through-merged (step s w) ps
-    seen_through-merged s (LoneEscape ∷ ps) = seen_through-merged s ps
+    seen_through-merged s (p ∷ ps) = seen_through-merged (step s (spelling p)) ps
 
     -- the bytes of x, each with what is seen of the state at its index
     abbrev pub seen_by : (ℕ → S) → List ℕ → List B
@@ -95,21 +82,17 @@ module _ {S : Type 0} (step : S → List ℕ → S) where
         ∙ ap (λ v. map (seen s) w ++ v) (seen_by-alike x (λ i. state (suc (length w + i))) (λ i. state (length (b ∷ w) + i)) (λ i below. ap state (omega arith))))
 
     -- so they are those of the pieces in turn
-    pub seen_by-pieces : ((s : S) → step s (escape ∷ []) ≡ s) → (s : S) (ps : List Piece) → seen_by (state_by_marks step s ps) (plain_of ps) ≡ seen_through s ps
-    seen_by-pieces idle s [] = refl
-    seen_by-pieces idle s (Text w ∷ ps) =
+    pub seen_by-pieces : (s : S) (ps : List Piece) → seen_by (state_by_marks step s ps) (plain_of ps) ≡ seen_through s ps
+    seen_by-pieces s [] = refl
+    seen_by-pieces s (Text w ∷ ps) =
         let x = plain_of ps in
         seen_by-append s w x (state_by_marks step s (Text w ∷ ps)) (λ i below. state_by_marks-before step s w ps i below)
         ∙ ap (λ v. map (seen s) w ++ v)
         (seen_by-alike x (λ i. state_by_marks step s (Text w ∷ ps) (length w + i)) (state_by_marks step s ps) (λ i below. state_by_marks-text step s w ps i)
-        ∙ seen_by-pieces idle s ps)
-    seen_by-pieces idle s (Sequence w ∷ ps) =
-        seen_by-alike (plain_of ps) (state_by_marks step s (Sequence w ∷ ps)) (state_by_marks step (step s w) ps) (λ i below. state_by_marks-sequence step s w ps i)
-        ∙ seen_by-pieces idle (step s w) ps
-    seen_by-pieces idle s (LoneEscape ∷ ps) =
-        seen_by-alike (plain_of ps) (state_by_marks step s (LoneEscape ∷ ps)) (state_by_marks step s ps)
-        (λ i below. state_by_marks-lone step s ps i ∙ ap (λ q. state_by_marks step q ps i) (idle s))
-        ∙ seen_by-pieces idle s ps
+        ∙ seen_by-pieces s ps)
+    seen_by-pieces s (p ∷ ps) =
+        seen_by-alike (plain_of ps) (state_by_marks step s (p ∷ ps)) (state_by_marks step (step s (spelling p)) ps) (λ i below. state_by_marks-mark step s p ps i refl)
+        ∙ seen_by-pieces (step s (spelling p)) ps
 
     -- without what is seen they are the plain bytes
     module _ (byte_of : B → ℕ) (is_byte : (s : S) (b : ℕ) → byte_of (seen s b) ≡ b) where
@@ -120,5 +103,4 @@ module _ {S : Type 0} (step : S → List ℕ → S) where
       pub bytes-seen_through : (s : S) (ps : List Piece) → map byte_of (seen_through s ps) ≡ plain_of ps
       bytes-seen_through s [] = refl
       bytes-seen_through s (Text w ∷ ps) = map-append byte_of (map (seen s) w) (seen_through s ps) ∙ ap₂ (λ u v. u ++ v) (bytes-seen s w) (bytes-seen_through s ps)
-      bytes-seen_through s (Sequence w ∷ ps) = bytes-seen_through (step s w) ps
-      bytes-seen_through s (LoneEscape ∷ ps) = bytes-seen_through s ps
+      bytes-seen_through s (p ∷ ps) = bytes-seen_through (step s (spelling p)) ps
