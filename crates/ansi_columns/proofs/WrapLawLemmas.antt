@@ -25,7 +25,7 @@ use Rattle.ansi_style.proofs.StyleLemmas.{IsStyle-apply_all, IsStyle-plain_style
 use Rattle.ansi_style.proofs.StyledLemmas.{styled_byte, style_through, style_through-append, styled_through, styled_through-append, styled-pieces}
 use Rattle.ansi_search.proofs.SliceLemmas.{slice_range-none}
 use Rattle.ansi_slice.specs.Cut.{show}
-use Rattle.ansi_slice.specs.Parts.{past}
+use Rattle.ansi_split.specs.Parts.{past}
 use Rattle.ansi_slice.proofs.ShownLemmas.{at_places, shown_pieces, spelled-shown_pieces, shown_pieces_stand, style_through-shown_pieces, state_through-shown_pieces}
 use Rattle.ansi_split.proofs.PartSliceLemmas.{Divides, state-divided, seen-divided, at_places-never, at_places-at_places, closing_codes, closing_codes_are, closing_codes_clear, written-closing_codes}
 use Rattle.ansi_columns.specs.Addresses.{LinkedByte, linked}

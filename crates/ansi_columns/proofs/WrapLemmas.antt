@@ -21,7 +21,7 @@ use Rattle.ansi_slice.specs.Cut.{show}
 use Rattle.ansi_slice.specs.Kept.{kept}
 use Rattle.ansi_search.specs.Offsets.{offset_of, bytes_before, StandsIn}
 use Rattle.ansi_slice.specs.Stretches.{sequences_up_to}
-use Rattle.ansi_slice.specs.Parts.{past}
+use Rattle.ansi_split.specs.Parts.{past}
 use Rattle.ansi_search.specs.Positions.{is_good_position}
 use Rattle.ansi_slice.proofs.LengthLemmas.{length-start, length-close}
 use Rattle.ansi_slice.proofs.ShowLemmas.{show-text, show-bare}

@@ -10,7 +10,7 @@ use Rattle.ansi_style.specs.Reading.{after_marks, style_after_from}
 use Rattle.ansi_style.specs.Written.{start, close_if_any, longest_start_and_close}
 use Rattle.ansi_slice.specs.Cut.{show}
 use Rattle.ansi_search.specs.Offsets.{offset_of, StandsIn}
-use Rattle.ansi_slice.specs.Parts.{past}
+use Rattle.ansi_split.specs.Parts.{past}
 use Rattle.ansi_search.specs.Positions.{is_good_position}
 use Rattle.ansi_split.specs.Spans.{further_on}
 use Rattle.ansi_columns.specs.declared.walks.Walk.{Walk}

@@ -18,7 +18,7 @@ use Rattle.ansi_style.specs.Written.{start, close_if_any}
 use Rattle.ansi_style.proofs.MarkLemmas.{marks-bare}
 use Rattle.ansi_style.proofs.UnsetLemmas.{start-unset}
 use Rattle.ansi_slice.specs.Cut.{show}
-use Rattle.ansi_slice.specs.Parts.{past}
+use Rattle.ansi_str.specs.Parts.{past}
 use Rattle.ansi_slice.proofs.ShowLemmas.{show-bare}
 use Rattle.ansi_columns.specs.Columns.{clusters, cluster_width}
 use Rattle.ansi_columns.specs.Links.{link_after_all, link_end}

@@ -9,7 +9,7 @@ use Rattle.ansi_lines_runs.specs.Runs.{output_of, refused_line}
 use Rattle.ansi_lines_runs.specs.Lines.{answers, first_refused}
 use Rattle.ansi_str.specs.Cut.{cut}
 use Rattle.ansi_str.specs.Kept.{kept}
-use Rattle.ansi_str.specs.Parts.{part_over}
+use Rattle.ansi_str.specs.Parts.{part_from}
 use Rattle.ansi_str.specs.Changes.{CutRange, LeftOf, RightOf, PartOf, WithoutPrefix, WithoutSuffix, Trimmed}
 use Rattle.ansi_lines_runs.specs.Words.{Changed, changes_asked, work_asked}
 
@@ -78,7 +78,7 @@ cut-and-trim = refl
 
 -- between matches of the empty pattern stand the characters, and before the first one the empty part
 pub part-of_empty_pattern : output_of (codes "part:1:" ∷ []) (codes "ab") ≡ codes "a"
-unfolding answers work_asked changes_asked part_over
+unfolding answers work_asked changes_asked part_from
 part-of_empty_pattern = refl
 
 -- a prefix with a colon
@@ -98,23 +98,23 @@ cell-cut = refl
 
 -- what a line of a log says after its kind, in the color that it had there
 pub log-part : output_of (codes "prefix:error" ∷ codes "part:1:: " ∷ []) (codes "\u{1b}[31merror: disk full\u{1b}[39m\n") ≡ codes "\u{1b}[31mdisk full\u{1b}[39m\n"
-unfolding answers work_asked changes_asked kept part_over digits
+unfolding answers work_asked changes_asked kept part_from digits
 log-part = refl
 
 -- and its first four bytes
 pub log-part-cut : output_of (codes "prefix:error" ∷ codes "part:1:: " ∷ codes "cut:0:4" ∷ []) (codes "\u{1b}[31merror: disk full\u{1b}[39m\n") ≡ codes "\u{1b}[31mdisk\u{1b}[39m\n"
-unfolding answers work_asked changes_asked kept part_over cut digits
+unfolding answers work_asked changes_asked kept part_from cut digits
 log-part-cut = refl
 
 -- the words of a line, each in its style
 pub words-first : output_of (codes "part:0: " ∷ []) (codes "\u{1b}[1mone two\u{1b}[22m three\n") ≡ codes "\u{1b}[1mone\u{1b}[22m\n"
-unfolding answers work_asked changes_asked part_over
+unfolding answers work_asked changes_asked part_from
 words-first = refl
 
 pub words-second : output_of (codes "part:1: " ∷ []) (codes "\u{1b}[1mone two\u{1b}[22m three\n") ≡ codes "\u{1b}[1mtwo\u{1b}[22m\n"
-unfolding answers work_asked changes_asked part_over
+unfolding answers work_asked changes_asked part_from
 words-second = refl
 
 pub words-third : output_of (codes "part:2: " ∷ []) (codes "\u{1b}[1mone two\u{1b}[22m three\n") ≡ codes "three\n"
-unfolding answers work_asked changes_asked part_over
+unfolding answers work_asked changes_asked part_from
 words-third = refl

@@ -17,4 +17,3 @@ pub mod LengthLemmas
 mod CutExamples
 mod KeptExamples
 mod SideExamples
-mod PartExamples

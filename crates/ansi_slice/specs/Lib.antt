@@ -22,5 +22,4 @@ pub mod Ranges
 pub mod Cut
 pub mod Sides
 pub mod Kept
-pub mod Parts
 pub mod Stretches

@@ -42,9 +42,9 @@ pub use Rattle.ansi_style.proofs.StyledLemmas.{styled_through, style_through, st
 pub use Rattle.ansi_style.proofs.UnsetLemmas.{known-unset, start-unset, close_if_any-unset}
 pub use Rattle.ansi_search.specs.Positions.{is_good_position, is_char_boundary, is_continuation_byte}
 pub use Rattle.ansi_slice.specs.Cut.{show}
-pub use Rattle.ansi_slice.specs.Parts.{past, apart, parts, end_before, part, share, carried, all_parts, is_part_borrowed}
+pub use Rattle.ansi_split.specs.Parts.{past, apart, parts, end_before, part, part_over, share, carried, all_parts, is_part_borrowed}
 pub use Rattle.ansi_search.specs.Matches.{is_match, match_places, first_match_from}
-unfoldable pub use Rattle.ansi_slice.specs.Parts.{part_over, share_over, is_borrowed_over}
+unfoldable pub use Rattle.ansi_split.specs.Parts.{part_from}
 pub use Rattle.ansi_search.specs.Offsets.{bytes_before, offset_of}
 pub use Rattle.ansi_search.proofs.SliceLemmas.{list_all-parts, take-append, slice_range-none, slice_range-from_past, slice_range-append, slice_range-map, slice_range-past}
 pub use Rattle.ansi_slice.proofs.ShowLemmas.{show-bare, show-text, show-mark, show-nil}
@@ -53,8 +53,8 @@ pub use Rattle.ansi_slice.proofs.CutLemmas.{up_to-past}
 pub use Rattle.ansi_search.proofs.OffsetLemmas.{bytes_before-last, bytes_before-mark, bytes_before-text, after_of, after_of-last, after_of-text, take-after, pieces_of-after, plain-after, IsOverText, IsOverMark, over_text, over_mark}
 pub use Rattle.ansi_search.proofs.MatchLemmas.{boundary_at, IsMatch, is_match-drop, is_match-after, first_match_from-first, first_match_from-is, empty_at_end, none_at_end, match_fits, first_in_front, is_match-front, starts_with-splits}
 pub use Rattle.ansi_slice.proofs.ShownLemmas.{shown_pieces, piece_when, at_places, at_places-further, spelled-shown_pieces, shown_pieces_stand, style_through-shown_pieces, styled_through-shown_pieces}
-pub use Rattle.ansi_split.specs.Spans.{further_on, IsCutAfter, IsCutAtMatch, carried_from, parts_from, span_part}
-unfoldable pub use Rattle.ansi_split.specs.Spans.{part_from, parts_left, span_text}
+pub use Rattle.ansi_split.specs.Spans.{further_on, IsCutAfter, IsCutAtMatch, parts_from, span_part}
+unfoldable pub use Rattle.ansi_split.specs.Spans.{parts_left, span_text}
 pub use Rattle.ansi_split.specs.StdSplit.{AreBetween, AreInTurn, slices_over, AreSplit, GoesOn}
 pub use Rattle.memchr.specs.Find.{NoneBefore, IsFirst, Nowhere, Passes, is_byte}
 pub use Rattle.ansi_split.specs.Splits.{SplitPart, split_part, split_parts}

@@ -5,6 +5,7 @@ pub mod BetweenLemmas
 pub mod StdSplitLemmas
 pub mod CharacterLemmas
 pub mod PartTextLemmas
+mod PartExamples
 pub mod PartSequenceLemmas
 pub mod AfterLemmas
 pub mod TakenLemmas

@@ -1,5 +1,5 @@
 -- How long a part may be, and what it takes of its text.
-use Rattle.ansi_split.proofs.Common.{◌≡◌, ℕ, ◌+◌, ◌-◌, ◌≤◌, Bool, true, false, ◌==◌, List, [], ◌∷◌, ◌++◌, length, map, drop, refl, sym, ap, subst, arith, length-append, length-take, if◌then◌else◌, cond_both, nat_tests, sum_by-cons, sum_by, Piece, spelling, Text, Sequence, LoneEscape, pieces_of, Mark, plain, plain_of, marks, marks_of, up_to, joined, Rendition, IsStyle, plain_style, has_any, close, start, close_if_any, show, style_within, parts, past, part_over, part, share_over, share, SplitPart, carried_from, part_from, parts_from, parts_left, span_part, one_text, slice_range-append, further, marks_of-text, marks_of-mark, spelled, spelled-pieces_of, shown_pieces, piece_when, at_places, at_places-further, longest_close, longest_start_and_close}
+use Rattle.ansi_split.proofs.Common.{◌≡◌, ℕ, ◌+◌, ◌-◌, ◌≤◌, Bool, true, false, ◌==◌, List, [], ◌∷◌, ◌++◌, length, map, drop, refl, sym, ap, subst, arith, length-append, length-take, if◌then◌else◌, cond_both, nat_tests, sum_by-cons, sum_by, Piece, spelling, Text, Sequence, LoneEscape, pieces_of, Mark, plain, plain_of, marks, marks_of, up_to, joined, Rendition, IsStyle, plain_style, has_any, close, start, close_if_any, show, style_within, parts, past, part_over, part, part_from, share, SplitPart, carried, parts_from, parts_left, span_part, one_text, slice_range-append, further, marks_of-text, marks_of-mark, spelled, spelled-pieces_of, shown_pieces, piece_when, at_places, at_places-further, longest_close, longest_start_and_close}
 use Rattle.std.proofs.Common.{length-drop}
 use Rattle.std.specs.Prelude.{Option, Some, None, ◌&&◌, nat_lt}
 use Rattle.std.proofs.lemmas.Bool.{true≢false}
@@ -7,7 +7,7 @@ use Rattle.std.specs.List.{slice_range}
 use Rattle.ansi_split.proofs.IntervalLemmas.{ComesAfter, ComeAfter, all_parts_come_after}
 use Rattle.ansi_split.proofs.PartSliceLemmas.{past-places, own_places, spelled-own_pieces, IsStyle-carried}
 use Rattle.ansi_split.proofs.SpanLemmas.{past-none}
-use Rattle.ansi_split.proofs.SplitLemmas.{parts_left-begin, share-part_from}
+use Rattle.ansi_split.proofs.SplitLemmas.{parts_left-begin}
 use Rattle.ansi_slice.proofs.LengthLemmas.{length-one_text, length-spelled, length-shown_pieces, length-close, length-start}
 
 -- A part: the bytes of its interval, its marks, a start and a close.
@@ -35,12 +35,12 @@ length-close_if_any : (s : Rendition) → length (close_if_any s) ≤ longest_cl
 length-close_if_any s = cond_both (has_any s) (close s) [] (λ w. length w ≤ longest_close) (λ any. length-close s) (λ none. omega arith)
 
 -- a part is its share of the text, a start and a close, or nothing
-pub length-part_from : (c : Rendition) (t : List ℕ) (before : Option ℕ) (i : ℕ × ℕ) → IsStyle (carried_from c t before) → length (part_from c t before i).bytes ≤ (part_from c t before i).share + longest_start_and_close
+pub length-part_from : (c : Rendition) (t : List ℕ) (before : Option ℕ) (i : ℕ × ℕ) → IsStyle (carried c t before) → length (part_from c t before i).bytes ≤ (part_from c t before i).share + longest_start_and_close
 unfolding part_from
 length-part_from c t before i is =
     let own = past before (up_to i.1 (marks t)) in
     let shown = show (plain t) i.0 i.1 own in
-    let from = start (carried_from c t before) in
+    let from = start (carried c t before) in
     let to = close_if_any (style_within c t i.1) in
     cond_both (i.0 == i.1 && length own == 0) [] (from ++ shown ++ to) (λ w. length w ≤ length shown + longest_start_and_close)
     (λ none. omega arith)
@@ -48,19 +48,19 @@ length-part_from c t before i is =
       arith,
       length-append (from ++ shown) to,
       length-append from shown,
-      length-start (carried_from c t before) is,
+      length-start (carried c t before) is,
       length-close_if_any (style_within c t i.1),
     ))
 
 pub length-span_part : {q : SplitPart} (c : Rendition) (t : List ℕ) (skip : ℕ) → IsStyle c → span_part c t skip ≡ q → length q.bytes ≤ q.share + longest_start_and_close
 length-span_part c t skip style is = subst (λ (q : SplitPart). length q.bytes ≤ q.share + longest_start_and_close) is (length-part_from c t None (skip, length (plain t)) style)
 
-length-dressed_part : (t : List ℕ) (before : Option ℕ) (i : ℕ × ℕ) → length (part_over t before i) ≤ share_over t before i + longest_start_and_close
-unfolding part_from part_over share_over
+length-dressed_part : (t : List ℕ) (before : Option ℕ) (i : ℕ × ℕ) → length (part_over t before i) ≤ (part_from plain_style t before i).share + longest_start_and_close
+unfolding part_from
 length-dressed_part t before i = length-part_from plain_style t before i (IsStyle-carried t before)
 
-share_by_marks : (t : List ℕ) (before : Option ℕ) (i : ℕ × ℕ) → share_over t before i ≤ length (slice_range (plain t) i.0 i.1) + length (joined (past before (up_to i.1 (marks t))))
-unfolding share_over
+share_by_marks : (t : List ℕ) (before : Option ℕ) (i : ℕ × ℕ) → (part_from plain_style t before i).share ≤ length (slice_range (plain t) i.0 i.1) + length (joined (past before (up_to i.1 (marks t))))
+unfolding part_from
 share_by_marks t before i =
     omega (
       arith,
@@ -69,8 +69,8 @@ share_by_marks t before i =
       ap (λ ms. length (joined ms)) (past-places before i.1 (marks t)),
     )
 
-share_over_within : (t : List ℕ) (before : Option ℕ) (i : ℕ × ℕ) → share_over t before i ≤ length t
-unfolding share_over
+share_over_within : (t : List ℕ) (before : Option ℕ) (i : ℕ × ℕ) → (part_from plain_style t before i).share ≤ length t
+unfolding part_from
 share_over_within t before i =
     omega (arith, ap length (spelled-own_pieces t before i), length-shown_pieces (pieces_of t) (own_places before i.1) i.0 i.1, ap length (spelled-pieces_of t))
 
@@ -125,7 +125,6 @@ shares_over t before (i ∷ is) come =
     omega (
       arith,
       sum_by-cons (λ (q : SplitPart). q.share) (part_from plain_style t before i) (parts_from plain_style t (Some i.1) is),
-      share-part_from t before i,
       share_by_marks t before i,
       bytes_of_one before i (plain t) come.0,
       marks_of_one before i (marks t) come.0,

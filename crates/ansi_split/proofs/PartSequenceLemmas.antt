@@ -1,5 +1,5 @@
 -- Each sequence of a whole text that is no SGR stands in one of its parts, and they stay in order.
-use Rattle.ansi_split.proofs.Common.{◌≡◌, ℕ, ◌+◌, ◌-◌, ◌≤◌, Bool, true, not, ◌&&◌, ◌==◌, List, [], ◌∷◌, ◌++◌, map, flat_map, filter, zip, length, nat_le, Option, Some, None, is_some, refl, sym, ◌∙◌, ap, ap₂, arith, IsTrue, append-nil, append_assoc, length-append, if◌then◌else◌, cond_both, cond-false, and_parts, eqb-true, le-leb, filter-append, list_all, is_sgr, Piece, Text, Sequence, after_text, merged, pieces_of, Mark, plain_of, plain, marks, up_to, is_whole, is_other, other_sequences, Rendition, IsStyle, written, start_codes, start, close_if_any, style_at, show, match_places, apart, parts, past, carried, part_over, all_parts, one_text, slice_range-none, show-bare, spelled, AllStandAnywhere, pieces_of-spelled, AreCodes, code_pieces, start_codes_are, dressed_pieces, shown_pieces, piece_when}
+use Rattle.ansi_split.proofs.Common.{◌≡◌, ℕ, ◌+◌, ◌-◌, ◌≤◌, Bool, true, not, ◌&&◌, ◌==◌, List, [], ◌∷◌, ◌++◌, map, flat_map, filter, zip, length, nat_le, Option, Some, None, is_some, refl, sym, ◌∙◌, ap, ap₂, arith, IsTrue, append-nil, append_assoc, length-append, if◌then◌else◌, cond_both, cond-false, and_parts, eqb-true, le-leb, filter-append, list_all, is_sgr, Piece, Text, Sequence, after_text, merged, pieces_of, Mark, plain_of, plain, marks, up_to, is_whole, is_other, other_sequences, Rendition, IsStyle, written, start_codes, start, close_if_any, style_at, show, match_places, apart, parts, past, carried, part_over, all_parts, one_text, slice_range-none, show-bare, spelled, AllStandAnywhere, pieces_of-spelled, AreCodes, code_pieces, start_codes_are, dressed_pieces, shown_pieces, piece_when, part_from, plain_style}
 use Rattle.ansi_style.proofs.ColorLemmas.{is_code_byte, sgr_parameters-written}
 use Rattle.ansi_split.proofs.IntervalLemmas.{ComesAfter, ComeAfter, all_parts_come_after}
 use Rattle.ansi_split.proofs.PartSliceLemmas.{shown_pieces-nothing, earlier_places, own_pieces, spelled-own_pieces, own_pieces_stand, all_pieces, closing_codes, closing_codes_are, IsStyle-carried, part_pieces, spelled-part_pieces, part_pieces_stand}
@@ -65,12 +65,12 @@ no_marks [] none = refl
 no_marks (m ∷ ms) none = absurd (omega (arith, none))
 
 other_sequences-part_over : (t : List ℕ) (before : Option ℕ) (i : ℕ × ℕ) → IsTrue (is_whole t) → other_sequences (part_over t before i) ≡ others (own_pieces t before i)
-unfolding part_over
+unfolding part_from
 other_sequences-part_over t before i whole =
     let x = plain t in
     let own = past before (up_to i.1 (marks t)) in
     let q = style_at t i.1 in
-    cond_both (i.0 == i.1 && length own == 0) [] (start (carried t before) ++ show x i.0 i.1 own ++ close_if_any q) (λ u. other_sequences u ≡ others (own_pieces t before i))
+    cond_both (i.0 == i.1 && length own == 0) [] (start (carried plain_style t before) ++ show x i.0 i.1 own ++ close_if_any q) (λ u. other_sequences u ≡ others (own_pieces t before i))
     (λ none.
     let both = and_parts (i.0 == i.1) (length own == 0) none in
     let same : i.0 ≡ i.1 = eqb-true i.0 i.1 both.0 in
@@ -79,7 +79,7 @@ other_sequences-part_over t before i whole =
     ap other_sequences (sym nothing) ∙ other_sequences-spelled (own_pieces t before i) (own_pieces_stand t before i whole))
     (λ some. ap other_sequences (sym (spelled-part_pieces t before i))
     ∙ other_sequences-spelled (part_pieces t before i) (part_pieces_stand t before i whole)
-    ∙ others-dressed_pieces (carried t before) (own_pieces t before i) (closing_codes q) (IsStyle-carried t before) (closing_codes_are q))
+    ∙ others-dressed_pieces (carried plain_style t before) (own_pieces t before i) (closing_codes q) (IsStyle-carried t before) (closing_codes_are q))
 
 -- So in the parts in turn, after those of the parts before, they are those up to the end of the last.
 

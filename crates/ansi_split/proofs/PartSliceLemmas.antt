@@ -1,5 +1,5 @@
 -- A part of a whole text is whole, has the slice of its styled bytes, and leaves nothing known open.
-use Rattle.ansi_split.proofs.Common.{◌≡◌, ℕ, ◌+◌, ◌-◌, ◌<◌, ◌≤◌, inl, inr, Bool, true, false, ◌&&◌, ◌==◌, List, [], ◌∷◌, ◌++◌, length, nat_le, nat_lt, refl, sym, ◌∙◌, ap, ap₂, subst, arith, slice_range, Option, Some, None, IsTrue, if◌then◌else◌, option_map_or, cond_both, and_parts, eqb-true, cases_lt, le-leb, nat_tests, Piece, Text, pieces_of, Mark, escape, plain, marks, up_to, is_whole, Rendition, apply, IsStyle, plain_style, known, has_any, written_all, start, close_codes, close, close_if_any, style_at, styled, after_marks, show, past, carried, part_over, one_text, slice_range-none, slice_range-from_past, IsStyle-plain_style, IsStyle-style_at, spelled, AllStandAnywhere, pieces_stand, styled_through, style_through, styled-pieces, AreCodes, close_codes_are, known-unset, GiveAlone, IsClosed, closed-spelled, Clears, dressed_pieces, spelled-dressed_pieces, dressed_pieces_stand, dressed_pieces_give, at_places, piece_when, shown_pieces, spelled-shown_pieces, shown_pieces_stand, longest_close}
+use Rattle.ansi_split.proofs.Common.{◌≡◌, ℕ, ◌+◌, ◌-◌, ◌<◌, ◌≤◌, inl, inr, Bool, true, false, ◌&&◌, ◌==◌, List, [], ◌∷◌, ◌++◌, length, nat_le, nat_lt, refl, sym, ◌∙◌, ap, ap₂, subst, arith, slice_range, Option, Some, None, IsTrue, if◌then◌else◌, option_map_or, cond_both, and_parts, eqb-true, cases_lt, le-leb, nat_tests, Piece, Text, pieces_of, Mark, escape, plain, marks, up_to, is_whole, Rendition, apply, IsStyle, plain_style, known, has_any, written_all, start, close_codes, close, close_if_any, style_at, styled, after_marks, show, past, carried, part_over, one_text, slice_range-none, slice_range-from_past, IsStyle-plain_style, IsStyle-style_at, spelled, AllStandAnywhere, pieces_stand, styled_through, style_through, styled-pieces, AreCodes, close_codes_are, known-unset, GiveAlone, IsClosed, closed-spelled, Clears, dressed_pieces, spelled-dressed_pieces, dressed_pieces_stand, dressed_pieces_give, at_places, piece_when, shown_pieces, spelled-shown_pieces, shown_pieces_stand, longest_close, part_from}
 use Rattle.ansi_style.proofs.MarkLemmas.{state_after}
 use Rattle.ansi_style.proofs.StyledLemmas.{styled_byte}
 use Rattle.ansi_style.proofs.ThroughLemmas.{state_through, state_through-append, seen_through, seen_through-append}
@@ -119,7 +119,7 @@ at_places-at_places f g (m ∷ ms) = grind (arith, at_places-at_places f g ms)
 pub past-places : (before : Option ℕ) (b : ℕ) (ms : List Mark) → past before (up_to b ms) ≡ at_places (own_places before b) ms
 past-places before b ms = at_places-at_places (comes_later before) (λ p. nat_le p b) ms
 
-carried-places : (t : List ℕ) (before : Option ℕ) → carried t before ≡ after_marks plain_style (at_places (earlier_places before) (marks t))
+carried-places : (t : List ℕ) (before : Option ℕ) → carried plain_style t before ≡ after_marks plain_style (at_places (earlier_places before) (marks t))
 carried-places t None = ap (after_marks plain_style) (sym (at_places-never (marks t)))
 carried-places t (Some e) = refl
 
@@ -166,14 +166,14 @@ pub all_pieces : (t : List ℕ) (before : Option ℕ) (i : ℕ × ℕ) → Comes
 all_pieces t before i after =
     shown_pieces-divided (pieces_of t) (own_from before) (earlier_places before) (own_places before i.1) (λ p. nat_le p i.1) 0 i.0 i.1 (part_divides before i after) (own_from_after before i after)
 
-styled_through-own_pieces : (t : List ℕ) (before : Option ℕ) (i : ℕ × ℕ) → ComesAfter before i → styled_through (carried t before) (own_pieces t before i) ≡ slice_range (styled t) i.0 i.1
+styled_through-own_pieces : (t : List ℕ) (before : Option ℕ) (i : ℕ × ℕ) → ComesAfter before i → styled_through (carried plain_style t before) (own_pieces t before i) ≡ slice_range (styled t) i.0 i.1
 styled_through-own_pieces t before i after =
     ap (λ s. styled_through s (own_pieces t before i)) (carried-places t before)
     ∙ seen-divided apply plain_style t (own_from before) (earlier_places before) (own_places before i.1) (λ p. nat_le p i.1) i (part_divides before i after) (own_from_after before i after)
     styled_byte (λ p below. le-leb p i.1 (omega arith))
     ∙ ap (λ bs. slice_range bs i.0 i.1) (sym (styled-pieces t))
 
-style_through-own_pieces : (t : List ℕ) (before : Option ℕ) (i : ℕ × ℕ) → ComesAfter before i → style_through (carried t before) (own_pieces t before i) ≡ style_at t i.1
+style_through-own_pieces : (t : List ℕ) (before : Option ℕ) (i : ℕ × ℕ) → ComesAfter before i → style_through (carried plain_style t before) (own_pieces t before i) ≡ style_at t i.1
 style_through-own_pieces t before i after =
     ap (λ s. style_through s (own_pieces t before i)) (carried-places t before)
     ∙ state-divided apply plain_style t (own_from before) (earlier_places before) (own_places before i.1) (λ p. nat_le p i.1) i (part_divides before i after) (own_from_after before i after)
@@ -201,16 +201,16 @@ written-closing_codes q = either (has_any q)
 
 -- So a part is closed, and has the slice over its interval.
 
-pub IsStyle-carried : (t : List ℕ) (before : Option ℕ) → IsStyle (carried t before)
+pub IsStyle-carried : (t : List ℕ) (before : Option ℕ) → IsStyle (carried plain_style t before)
 IsStyle-carried t None = IsStyle-plain_style
 IsStyle-carried t (Some e) = IsStyle-style_at t e
 
 -- the pieces of a part that isn't empty
 abbrev pub part_pieces : List ℕ → Option ℕ → ℕ × ℕ → List Piece
-part_pieces t before i = dressed_pieces (carried t before) (own_pieces t before i) (closing_codes (style_at t i.1))
+part_pieces t before i = dressed_pieces (carried plain_style t before) (own_pieces t before i) (closing_codes (style_at t i.1))
 
 pub spelled-part_pieces : (t : List ℕ) (before : Option ℕ) (i : ℕ × ℕ)
-    → spelled (part_pieces t before i) ≡ start (carried t before) ++ show (plain t) i.0 i.1 (past before (up_to i.1 (marks t))) ++ close_if_any (style_at t i.1)
+    → spelled (part_pieces t before i) ≡ start (carried plain_style t before) ++ show (plain t) i.0 i.1 (past before (up_to i.1 (marks t))) ++ close_if_any (style_at t i.1)
 spelled-part_pieces t before i = grind (arith, spelled-dressed_pieces, spelled-own_pieces, written-closing_codes)
 
 pub own_pieces_stand : (t : List ℕ) (before : Option ℕ) (i : ℕ × ℕ) → IsTrue (is_whole t) → AllStandAnywhere (own_pieces t before i)
@@ -219,12 +219,12 @@ own_pieces_stand t before i whole = shown_pieces_stand (pieces_of t) (own_places
 pub part_pieces_stand : (t : List ℕ) (before : Option ℕ) (i : ℕ × ℕ) → IsTrue (is_whole t) → AllStandAnywhere (part_pieces t before i)
 part_pieces_stand t before i whole =
     let q = style_at t i.1 in
-    dressed_pieces_stand (carried t before) (own_pieces t before i) (closing_codes q) (IsStyle-carried t before) (own_pieces_stand t before i whole) (closing_codes_are q)
+    dressed_pieces_stand (carried plain_style t before) (own_pieces t before i) (closing_codes q) (IsStyle-carried t before) (own_pieces_stand t before i whole) (closing_codes_are q)
 
 some_part_is : (t : List ℕ) (before : Option ℕ) (i : ℕ × ℕ) → IsTrue (is_whole t) → ComesAfter before i
-    → IsClosed (slice_range (styled t) i.0 i.1) (start (carried t before) ++ show (plain t) i.0 i.1 (past before (up_to i.1 (marks t))) ++ close_if_any (style_at t i.1))
+    → IsClosed (slice_range (styled t) i.0 i.1) (start (carried plain_style t before) ++ show (plain t) i.0 i.1 (past before (up_to i.1 (marks t))) ++ close_if_any (style_at t i.1))
 some_part_is t before i whole after =
-    let s = carried t before in
+    let s = carried plain_style t before in
     let q = style_at t i.1 in
     let ps = part_pieces t before i in
     let give = dressed_pieces_give s q (own_pieces t before i) (closing_codes q) (IsStyle-carried t before) (ap known (style_through-own_pieces t before i after)) (closing_codes_clear q) in
@@ -236,9 +236,9 @@ no_part_is t a b same = record { styled_bytes = sym (slice_range-none (styled t)
 
 -- the part over any interval that comes after the part before
 pub part_over_is : (t : List ℕ) (before : Option ℕ) (i : ℕ × ℕ) → IsTrue (is_whole t) → ComesAfter before i → IsClosed (slice_range (styled t) i.0 i.1) (part_over t before i)
-unfolding part_over
+unfolding part_from
 part_over_is t before i whole after =
     let own = past before (up_to i.1 (marks t)) in
-    cond_both (i.0 == i.1 && length own == 0) [] (start (carried t before) ++ show (plain t) i.0 i.1 own ++ close_if_any (style_at t i.1)) (IsClosed (slice_range (styled t) i.0 i.1))
+    cond_both (i.0 == i.1 && length own == 0) [] (start (carried plain_style t before) ++ show (plain t) i.0 i.1 own ++ close_if_any (style_at t i.1)) (IsClosed (slice_range (styled t) i.0 i.1))
     (λ none. no_part_is t i.0 i.1 (eqb-true i.0 i.1 (and_parts (i.0 == i.1) (length own == 0) none).0))
     (λ some. some_part_is t before i whole after)

@@ -1,5 +1,5 @@
 -- The parts that are left of a text: the first one, which is written from what stands up to its end, and those of what follows.
-use Rattle.ansi_split.proofs.Common.{◌≡◌, ℕ, ◌+◌, ◌-◌, ◌≤◌, max, inl, inr, Bool, not, ◌&&◌, ◌||◌, ◌==◌, List, [], ◌∷◌, ◌++◌, length, map, take, drop, Option, Some, None, refl, sym, ◌∙◌, ap, ap₂, subst, arith, IsTrue, if◌then◌else◌, nat_eq, nat_lt, nat_le, length-append, cases_lt, and_parts, and_from, le-leb, nat_tests, length-map, length-drop, length-take-le, get_or-take, take_at, take-append-drop, filter_agree, IsUtf8-drop, IsCharBoundary-from_take, IsCharBoundary-start, starts_with, IsUtf8, pieces_of, Mark, plain, marks, up_to, is_good_position, is_char_boundary, Rendition, has_any, start, close_if_any, after_marks, style_after_from, style_within, show, match_places, first_match_from, apart, past, SplitPart, further_on, IsCutAfter, IsCutAtMatch, carried_from, part_from, parts_from, parts_left, span_part, slice_range-from_past, up_to-past, show-text, IsUtf8-plain, at_places, at_places-further, good_is_boundary, is_good_position-past, is_char_boundary-from, starts_with-splits}
+use Rattle.ansi_split.proofs.Common.{◌≡◌, ℕ, ◌+◌, ◌-◌, ◌≤◌, max, inl, inr, Bool, not, ◌&&◌, ◌||◌, ◌==◌, List, [], ◌∷◌, ◌++◌, length, map, take, drop, Option, Some, None, refl, sym, ◌∙◌, ap, ap₂, subst, arith, IsTrue, if◌then◌else◌, nat_eq, nat_lt, nat_le, length-append, cases_lt, and_parts, and_from, le-leb, nat_tests, length-map, length-drop, length-take-le, get_or-take, take_at, take-append-drop, filter_agree, IsUtf8-drop, IsCharBoundary-from_take, IsCharBoundary-start, starts_with, IsUtf8, pieces_of, Mark, plain, marks, up_to, is_good_position, is_char_boundary, Rendition, has_any, start, close_if_any, after_marks, style_after_from, style_within, show, match_places, first_match_from, apart, past, SplitPart, further_on, IsCutAfter, IsCutAtMatch, carried, part_from, parts_from, parts_left, span_part, slice_range-from_past, up_to-past, show-text, IsUtf8-plain, at_places, at_places-further, good_is_boundary, is_good_position-past, is_char_boundary-from, starts_with-splits}
 use Rattle.ansi_split.proofs.PartSliceLemmas.{own_places, past-places, at_places-at_places}
 use Rattle.ansi_split.proofs.TakenLemmas.{is_first_taken, apart-none, between, between-moved, moved_on}
 
@@ -46,7 +46,7 @@ made_of-alike {same} {same'} {n} {n'} {style} {style'} {last} {last'} {shown} {s
     ap₂ (λ s k. made_of s k style shown last) a b ∙ ap₂ (λ r v. made_of same' n' r v last) c d ∙ ap (made_of same' n' style' shown') e
 
 part_from-made : (c : Rendition) (t : List ℕ) (before : Option ℕ) (i : ℕ × ℕ) → part_from c t before i
-    ≡ made_of (i.0 == i.1) (length (past before (up_to i.1 (marks t)))) (carried_from c t before) (show (plain t) i.0 i.1 (past before (up_to i.1 (marks t)))) (style_within c t i.1)
+    ≡ made_of (i.0 == i.1) (length (past before (up_to i.1 (marks t)))) (carried c t before) (show (plain t) i.0 i.1 (past before (up_to i.1 (marks t)))) (style_within c t i.1)
 unfolding part_from
 part_from-made c t before i = refl
 
@@ -68,7 +68,7 @@ show-after x m a b ms inside =
     ∙ ap (λ u. u ++ show (drop m x) (m + a - length w) (m + b - length w) ms) (slice_range-from_past w (m + a) (m + b) (omega (arith, size)))
     ∙ ap₂ (λ i j. show (drop m x) i j ms) from to
 
-carried-after : (c : Rendition) (t : List ℕ) (m : ℕ) (front after : List ℕ) (later : Option ℕ) → IsCutAfter t m front after → carried_from c t (moved_end m later) ≡ carried_from (style_within c t m) after later
+carried-after : (c : Rendition) (t : List ℕ) (m : ℕ) (front after : List ℕ) (later : Option ℕ) → IsCutAfter t m front after → carried c t (moved_end m later) ≡ carried (style_within c t m) after later
 carried-after c t m front after None cut = refl
 carried-after c t m front after (Some e) cut = cut.styles_after_from c e
 

@@ -1,5 +1,5 @@
 -- The parts that a split gives: those of the text, each by its index; and a part that is written or borrowed.
-use Rattle.ansi_split.proofs.Common.{◌≡◌, Bool, unwrap_or, ℕ, zero, suc, ◌+◌, ◌≤◌, true, false, not, ◌&&◌, ◌||◌, ◌==◌, List, [], ◌∷◌, ◌++◌, length, map, drop, Option, Some, None, option_map, refl, sym, ◌∙◌, ap, ap₂, arith, IsTrue, IsFalse, if◌then◌else◌, slice_get, append-nil, eqb-true, eq-eqb, ne_eqb, cond_both, or_from, and_parts, and_from, and-false, or-true, none-some, same_Some, drop_all, list_any-append, range_with_len, list_all, escape, Piece, Text, Sequence, LoneEscape, ArePieces, pieces_of, Mark, plain, marks_of, marks, up_to, has_escape, Rendition, plain_style, has_any, start, close_if_any, style_of, style_at, parts, end_before, carried, part_over, part, all_parts, share_over, share, is_borrowed_over, is_part_borrowed, SplitPart, split_part, split_parts, part_from, parts_from, parts_left, span_part, span_text, pieces_are, no_escape, plain-bare, slice_range-past, further, marks-bare, marks_of-text, marks_of-mark, up_to-past, show-bare, start-unset, close_if_any-unset}
+use Rattle.ansi_split.proofs.Common.{◌≡◌, Bool, unwrap_or, ℕ, zero, suc, ◌+◌, ◌≤◌, true, false, not, ◌&&◌, ◌||◌, ◌==◌, List, [], ◌∷◌, ◌++◌, length, map, drop, Option, Some, None, option_map, refl, sym, ◌∙◌, ap, ap₂, arith, IsTrue, IsFalse, if◌then◌else◌, slice_get, append-nil, eqb-true, eq-eqb, ne_eqb, cond_both, or_from, and_parts, and_from, and-false, or-true, none-some, same_Some, drop_all, list_any-append, range_with_len, list_all, escape, Piece, Text, Sequence, LoneEscape, ArePieces, pieces_of, Mark, plain, marks_of, marks, up_to, has_escape, Rendition, plain_style, has_any, start, close_if_any, style_of, style_at, parts, end_before, carried, part_over, part, all_parts, part_from, share, is_part_borrowed, SplitPart, split_part, split_parts, parts_from, parts_left, span_part, span_text, pieces_are, no_escape, plain-bare, slice_range-past, further, marks-bare, marks_of-text, marks_of-mark, up_to-past, show-bare, start-unset, close_if_any-unset}
 use Rattle.std.proofs.lemmas.Bool.{true≢false}
 use Rattle.ansi_split.proofs.IntervalLemmas.{end_after, end_after-suc, end_after-none}
 use Rattle.ansi_split.proofs.PartTextLemmas.{length-parts, parts_over, all_parts-over}
@@ -11,20 +11,8 @@ pub parts_left-begin : (t p : List ℕ) → parts_left plain_style t p 0 0 ≡ p
 unfolding parts_left
 parts_left-begin t p = refl
 
-bytes-part_from : (t : List ℕ) (before : Option ℕ) (i : ℕ × ℕ) → (part_from plain_style t before i).bytes ≡ part_over t before i
-unfolding part_from part_over
-bytes-part_from t before i = refl
-
-borrowed-part_from : (t : List ℕ) (before : Option ℕ) (i : ℕ × ℕ) → (part_from plain_style t before i).borrowed ≡ is_borrowed_over t before i
-unfolding part_from is_borrowed_over
-borrowed-part_from t before i = refl
-
-bytes-parts_from : (t : List ℕ) (before : Option ℕ) (is : List (ℕ × ℕ)) → map (λ (q : SplitPart). q.bytes) (parts_from plain_style t before is) ≡ parts_over t before is
-bytes-parts_from t before [] = refl
-bytes-parts_from t before (i ∷ is) = ap₂ (λ u us. u ∷ us) (bytes-part_from t before i) (bytes-parts_from t (Some i.1) is)
-
 pub bytes-parts_left : (t p : List ℕ) → map (λ (q : SplitPart). q.bytes) (parts_left plain_style t p 0 0) ≡ all_parts t p
-bytes-parts_left t p = ap (map (λ (q : SplitPart). q.bytes)) (parts_left-begin t p) ∙ bytes-parts_from t None (parts (plain t) p) ∙ sym (all_parts-over t p)
+bytes-parts_left t p = ap (map (λ (q : SplitPart). q.bytes)) (parts_left-begin t p) ∙ sym (all_parts-over t p)
 
 length-parts_from : (c : Rendition) (t : List ℕ) (before : Option ℕ) (is : List (ℕ × ℕ)) → length (parts_from c t before is) ≡ length is
 length-parts_from c t before [] = refl
@@ -47,26 +35,22 @@ slice_get-parts_left t p k =
     ap (λ qs. slice_get qs k) (parts_left-begin t p) ∙ slice_get-parts_from plain_style t None is k
     ∙ ap (λ b. option_map (part_from plain_style t b) (slice_get is k)) (end_after-none is k)
 
-pub share-part_from : (t : List ℕ) (before : Option ℕ) (i : ℕ × ℕ) → (part_from plain_style t before i).share ≡ share_over t before i
-unfolding part_from share_over
-share-part_from t before i = refl
-
 -- Where no ESC stands, each part is a borrow.
 
 pub style_at-bare : (t : List ℕ) (i : ℕ) → IsFalse (has_escape t) → style_at t i ≡ plain_style
 style_at-bare t i none = ap (λ ms. style_of (up_to i ms)) (marks-bare t none)
 
-pub carried-bare : (t : List ℕ) (before : Option ℕ) → IsFalse (has_escape t) → carried t before ≡ plain_style
+pub carried-bare : (t : List ℕ) (before : Option ℕ) → IsFalse (has_escape t) → carried plain_style t before ≡ plain_style
 carried-bare t None none = refl
 carried-bare t (Some e) none = style_at-bare t e none
 
-is_borrowed_over-bare : (t : List ℕ) (before : Option ℕ) (i : ℕ × ℕ) → IsFalse (has_escape t) → is_borrowed_over t before i ≡ true
-unfolding is_borrowed_over
-is_borrowed_over-bare t before i none = grind (arith, carried-bare, marks-bare, or-true)
+borrowed-bare : (t : List ℕ) (before : Option ℕ) (i : ℕ × ℕ) → IsFalse (has_escape t) → (part_from plain_style t before i).borrowed ≡ true
+unfolding part_from
+borrowed-bare t before i none = grind (arith, carried-bare, marks-bare, or-true)
 
 bare_are_borrowed : (t : List ℕ) (before : Option ℕ) (is : List (ℕ × ℕ)) → IsFalse (has_escape t) → list_all (λ (q : SplitPart). q.borrowed) (parts_from plain_style t before is) ≡ true
 bare_are_borrowed t before [] none = refl
-bare_are_borrowed t before (i ∷ is) none = grind (arith, and_from, borrowed-part_from, is_borrowed_over-bare, bare_are_borrowed t (Some i.1) is none)
+bare_are_borrowed t before (i ∷ is) none = grind (arith, and_from, borrowed-bare, bare_are_borrowed t (Some i.1) is none)
 
 pub parts_left-bare : (t p : List ℕ) → IsFalse (has_escape t) → IsTrue (list_all (λ (q : SplitPart). q.borrowed) (parts_left plain_style t p 0 0))
 parts_left-bare t p none = ap (list_all (λ (q : SplitPart). q.borrowed)) (parts_left-begin t p) ∙ bare_are_borrowed t None (parts (plain t) p) none
@@ -144,7 +128,7 @@ pub record IsPartAt (t p : List ℕ) (k : ℕ) (q : SplitPart) : Type 0 where
   pub bare : IsFalse (has_escape t) → q.borrowed ≡ true
 
 pub part_at : (t p : List ℕ) (k : ℕ) (q : SplitPart) → slice_get (parts_left plain_style t p 0 0) k ≡ Some q → IsPartAt t p k q
-part_at t p k q at = grind (arith, borrowed-part_from, bytes-part_from, is_borrowed_over-bare, none-some, same_Some, share-part_from, slice_get-parts_left)
+part_at t p k q at = grind (arith, borrowed-bare, none-some, same_Some, slice_get-parts_left)
 
 pub no_part_at : (t p : List ℕ) (k : ℕ) → slice_get (parts_left plain_style t p 0 0) k ≡ None → slice_get (parts (plain t) p) k ≡ None
 no_part_at t p k none = grind (arith, none-some, slice_get-parts_left)

@@ -9,8 +9,7 @@ use Rattle.ansi_style.specs.Reading.{style_after_from, style_within}
 use Rattle.ansi_slice.specs.Cut.{show}
 use Rattle.ansi_search.specs.Positions.{is_char_boundary}
 use Rattle.ansi_search.specs.Matches.{match_places, first_match_from}
-use Rattle.ansi_slice.specs.Parts.{apart, past}
-use Rattle.ansi_split.specs.Splits.{SplitPart}
+use Rattle.ansi_split.specs.Parts.{apart, past, SplitPart, part_from}
 
 -- marks with n plain bytes more before each
 abbrev pub further_on : ℕ → List Mark → List Mark
@@ -31,21 +30,6 @@ pub record IsCutAtMatch (t p : List ℕ) (from : ℕ) (front after : List ℕ) :
   pub first : first_match_from (plain t) p from ≡ Some place
   pub cut : IsCutAfter t place front after
   pub match_end : IsTrue (is_char_boundary (plain after) (length p))
-
--- the style that is carried after a part that ends at `before`, where c is the style before t
-abbrev pub carried_from : Rendition → List ℕ → Option ℕ → Rendition
-carried_from c t before = option_map_or (style_within c t) before c
-
--- the part over the interval i of t, after a part that ends at `before`, where c is the style before t
-unfoldable pub part_from : Rendition → List ℕ → Option ℕ → ℕ × ℕ → SplitPart
-part_from c t before i =
-    let own = past before (up_to i.1 (marks t)) in
-    let style = carried_from c t before in
-    record {
-      bytes = if i.0 == i.1 && length own == 0 then [] else start style ++ show (plain t) i.0 i.1 own ++ close_if_any (style_within c t i.1);
-      borrowed = length own == 0 && (i.0 == i.1 || not (has_any style));
-      share = length (show (plain t) i.0 i.1 own);
-    }
 
 -- the parts over intervals of t in order, the first after a part that ends at `before`
 abbrev pub parts_from : Rendition → List ℕ → Option ℕ → List (ℕ × ℕ) → List SplitPart

@@ -5,13 +5,8 @@ use Rattle.std.specs.Cow.{cow_str_bytes, IsBorrowedStr}
 use Rattle.std.specs.declared.borrow.CowStr.{CowStr}
 use Rattle.ansi_style.specs.Written.{longest_start_and_close}
 use Rattle.ansi_items.specs.Plain.{plain}
-use Rattle.ansi_slice.specs.Parts.{parts, part, share, is_part_borrowed}
-
--- a part as a split gives it: its bytes, whether it is a borrow, and how many bytes of the text it has
-pub record SplitPart : Type 0 where
-  pub bytes : List ℕ
-  pub borrowed : Bool
-  pub share : ℕ
+pub use Rattle.ansi_split.specs.Parts.{SplitPart}
+use Rattle.ansi_split.specs.Parts.{parts, part, share, is_part_borrowed}
 
 -- the part of index k as a split gives it
 abbrev pub split_part : List ℕ → List ℕ → ℕ → SplitPart

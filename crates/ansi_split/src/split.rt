@@ -3,7 +3,7 @@ ghost use Rattle.std.specs.Prelude.{◌≡◌, ◌↔◌, ◌⊎◌, ◌+◌, �
 ghost use Rattle.std.specs.List.{list_all, sum_by};
 ghost use Rattle.std.specs.Cow.{cow_str_bytes, IsBorrowedStr};
 ghost use Rattle.ansi_items.specs.Plain.{plain, has_escape};
-ghost use Rattle.ansi_slice.specs.Parts.{parts, part, all_parts, share, is_part_borrowed};
+ghost use Rattle.ansi_split.specs.Parts.{parts, part, all_parts, share, is_part_borrowed};
 ghost use Rattle.ansi_style.specs.Written.{longest_start_and_close};
 ghost use Rattle.ansi_split.specs.Splits.{split_parts};
 

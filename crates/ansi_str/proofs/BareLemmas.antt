@@ -1,5 +1,5 @@
 -- Of a text without ESC each answer is the slice, as std has it.
-use Rattle.ansi_str.proofs.Common.{◌≡◌, ◌≢◌, ℕ, ◌-◌, min, Bool, true, false, ◌&&◌, List, [], ◌∷◌, ◌++◌, map, take, drop, length, Option, Some, None, option_map, is_some, refl, sym, ◌∙◌, ap, subst, arith, IsTrue, IsFalse, slice_range, slice_get, nat_eq, append-nil, if◌then◌else◌, IfSome, option_and_then, unwrap_or, starts_with, ends_with, encode_utf8, IsUtf8, chars, trim, option_map_or, map-id, take_min, drop_min, and_parts, and_from, eqb-true, plain, has_escape, is_whole, styled, bytes_of, cut, left_side, right_side, kept, without_prefix, without_suffix, trim_interval, trimmed, parts, part_over, end_before, part, all_parts, Change, interval_of, meaning, text_of, edited_by, edited, gives_borrow, stay_borrowed, slice_range-none, slice_range-past, slice_range-min, bytes_of-styled, slice_range-trim_interval, kept-bare, plain-kept, plain-without_prefix, plain-without_suffix, parts_are_split, slices_over-parts-empty, map-all_parts}
+use Rattle.ansi_str.proofs.Common.{◌≡◌, ◌≢◌, ℕ, ◌-◌, min, Bool, true, false, ◌&&◌, List, [], ◌∷◌, ◌++◌, map, take, drop, length, Option, Some, None, option_map, is_some, refl, sym, ◌∙◌, ap, subst, arith, IsTrue, IsFalse, slice_range, slice_get, nat_eq, append-nil, if◌then◌else◌, IfSome, option_and_then, unwrap_or, starts_with, ends_with, encode_utf8, IsUtf8, chars, trim, option_map_or, map-id, take_min, drop_min, and_parts, and_from, eqb-true, plain, has_escape, is_whole, styled, bytes_of, cut, left_side, right_side, kept, without_prefix, without_suffix, trim_interval, trimmed, parts, part_over, part_from, end_before, part, all_parts, Change, interval_of, meaning, text_of, edited_by, edited, gives_borrow, stay_borrowed, slice_range-none, slice_range-past, slice_range-min, bytes_of-styled, slice_range-trim_interval, kept-bare, plain-kept, plain-without_prefix, plain-without_suffix, parts_are_split, slices_over-parts-empty, map-all_parts}
 use Rattle.std.specs.Str.Pattern.{FindsTextPrefix, FindsTextSuffix, StripsPrefix, StripsSuffix}
 use Rattle.ansi_split.specs.StdSplit.{AreSplit, slices_over}
 use Rattle.ansi_items.proofs.PlainLemmas.{plain-bare, has_escape-plain, is_whole-plain}
@@ -67,7 +67,7 @@ without_suffix-bare t p utf8_p none ends =
 -- Parts.
 
 part_over-bare : (t : List ℕ) (before : Option ℕ) (i : ℕ × ℕ) → IsFalse (has_escape t) → part_over t before i ≡ slice_range t i.0 i.1
-unfolding part_over
+unfolding part_from
 part_over-bare t before i none = grind (arith, and_parts, append-nil, carried-bare, eqb-true, marks-bare, plain-bare, show-bare, slice_range-none, style_at-bare)
 
 pub part-bare : (t p : List ℕ) (k : ℕ) → IsFalse (has_escape t) → part t p k ≡ option_map (λ (i : ℕ × ℕ). slice_range t i.0 i.1) (slice_get (parts t p) k)

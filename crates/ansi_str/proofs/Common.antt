@@ -23,8 +23,8 @@ unfoldable pub use Rattle.ansi_slice.specs.Cut.{cut}
 unfoldable pub use Rattle.ansi_slice.specs.Sides.{left_side, right_side}
 pub use Rattle.ansi_slice.specs.Kept.{without_prefix, without_suffix, trim_interval, trimmed}
 unfoldable pub use Rattle.ansi_slice.specs.Kept.{kept}
-pub use Rattle.ansi_slice.specs.Parts.{parts, end_before, part, all_parts}
-unfoldable pub use Rattle.ansi_slice.specs.Parts.{part_over, is_borrowed_over}
+pub use Rattle.ansi_split.specs.Parts.{parts, end_before, part, part_over, all_parts}
+unfoldable pub use Rattle.ansi_split.specs.Parts.{part_from}
 pub use Rattle.ansi_search.proofs.SliceLemmas.{slice_range-none, slice_range-past, slice_range-min, slice_range-map}
 pub use Rattle.ansi_slice.proofs.TrimLemmas.{slice_range-trim_interval, trim_interval_boundaries}
 pub use Rattle.ansi_slice.proofs.KeptWalkLemmas.{kept-bare, kept-all}

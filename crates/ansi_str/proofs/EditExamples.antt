@@ -1,5 +1,5 @@
 -- Worked examples of edits in turn, each by computation.
-use Rattle.ansi_str.proofs.Common.{codes, List, [], ◌∷◌, ℕ, true, false, Some, None, refl, encode_utf8, digits, chars, trim_start, trim_end, cut, left_side, right_side, kept, part_over, is_borrowed_over, CutRange, LeftOf, RightOf, PartOf, WithoutPrefix, WithoutSuffix, Trimmed, Change, edited, stay_borrowed}
+use Rattle.ansi_str.proofs.Common.{codes, List, [], ◌∷◌, ℕ, true, false, Some, None, refl, encode_utf8, digits, chars, trim_start, trim_end, cut, left_side, right_side, kept, part_over, part_from, CutRange, LeftOf, RightOf, PartOf, WithoutPrefix, WithoutSuffix, Trimmed, Change, edited, stay_borrowed}
 use Rattle.ansi_items.proofs.Tables.{Makes, utf8}
 
 edits : Makes (λ (x : List Change × List ℕ). edited x.0 x.1) (
@@ -20,7 +20,7 @@ edits : Makes (λ (x : List Change × List ℕ). edited x.0 x.1) (
     ∷ ((WithoutSuffix [] ∷ PartOf (codes ",") 0 ∷ WithoutPrefix (codes "x") ∷ [], codes "a,\u{1b}[1mb"), None)
     ∷ ((PartOf (codes "\u{1b}") 1 ∷ [], codes "\u{1b}[1ma"), None)
     ∷ [])
-unfolding encode_utf8 chars trim_start trim_end digits cut left_side right_side kept part_over
+unfolding encode_utf8 chars trim_start trim_end digits cut left_side right_side kept part_from
 edits = refl
 
 -- nothing taken off, and a part that stands in the text as it is, stay borrows of a text with an ESC
@@ -29,5 +29,5 @@ borrows : Makes (λ (x : List Change × List ℕ). stay_borrowed x.0 x.1) (
     ∷ ((WithoutSuffix [] ∷ PartOf (codes ",") 0 ∷ [], codes "a,\u{1b}[1mb"), true)
     ∷ ((LeftOf 1 ∷ WithoutSuffix (codes "a") ∷ [], codes "a\u{1b}]0;t\u{7}b"), false)
     ∷ [])
-unfolding digits left_side kept part_over is_borrowed_over
+unfolding digits left_side kept part_from
 borrows = refl

@@ -1,5 +1,5 @@
 -- Worked examples of the laws, each by computation: what they say of small texts, and where they need their premises.
-use Rattle.ansi_str.proofs.Common.{◌≡◌, refl, codes, List, [], ◌∷◌, ◌++◌, ℕ, ◌+◌, true, Some, None, length, encode_utf8, digits, chars, trim_start, trim_end, trim, pieces_of, Sequence, Text, merged, LoneEscape, plain, Rendition, plain_style, start, close, styled, bytes_of, residue, cut, right_side, left_side, kept, without_prefix, trimmed, parts, part_over, part, all_parts, slice_of, CutRange, LeftOf, RightOf, PartOf, WithoutPrefix, Trimmed, Change, meaning}
+use Rattle.ansi_str.proofs.Common.{◌≡◌, refl, codes, List, [], ◌∷◌, ◌++◌, ℕ, ◌+◌, true, Some, None, length, encode_utf8, digits, chars, trim_start, trim_end, trim, pieces_of, Sequence, Text, merged, LoneEscape, plain, Rendition, plain_style, start, close, styled, bytes_of, residue, cut, right_side, left_side, kept, without_prefix, trimmed, parts, part_over, part_from, part, all_parts, slice_of, CutRange, LeftOf, RightOf, PartOf, WithoutPrefix, Trimmed, Change, meaning}
 use Rattle.std.specs.Prelude.{option_map}
 use Rattle.ansi_items.proofs.Tables.{Makes, utf8}
 use Rattle.ansi_items.specs.declared.ansitok.AnsiColor.TheVariants.{Bit4}
@@ -94,16 +94,16 @@ parts_of_texts : Makes (λ (x : List ℕ × List ℕ). all_parts x.0 x.1) (
     ∷ ((codes "a:\u{1b}]0;t\u{7}:b", codes "::"), codes "a" ∷ codes "\u{1b}]0;t\u{7}b" ∷ [])
     ∷ ((utf8 "\u{1b}[1maé\u{1b}[0m", []), codes "\u{1b}[1m\u{1b}[22m" ∷ codes "\u{1b}[1ma\u{1b}[22m" ∷ utf8 "\u{1b}[1mé\u{1b}[0m" ∷ [] ∷ [])
     ∷ [])
-unfolding digits part_over encode_utf8
+unfolding digits part_from encode_utf8
 parts_of_texts = refl
 
 -- a part is whole, and leaves nothing known open
 part_of_a_list : option_map styled (part list_in_two_styles (codes ",") 2) ≡ Some (in_style bold_style (codes "c") ++ in_style plain_style (codes "d"))
-unfolding digits part_over
+unfolding digits part_from
 part_of_a_list = refl
 
 part_that_ends_in_bold_leaves_nothing_open : option_map residue (part list_in_two_styles (codes ",") 1) ≡ Some plain_style
-unfolding digits part_over
+unfolding digits part_from
 part_that_ends_in_bold_leaves_nothing_open = refl
 
 -- a lone escape within a match may begin a sequence with what follows the match, so only of whole texts is a part the slice
@@ -112,7 +112,7 @@ abbrev lone_within_a_match : List ℕ
 lone_within_a_match = codes "a\n\u{1b}\n[1m"
 
 part_after_a_lone_escape : part lone_within_a_match (codes "\n\n") 1 ≡ Some (codes "\u{1b}[1m")
-unfolding digits part_over
+unfolding digits part_from
 part_after_a_lone_escape = refl
 
 slice_after_a_lone_escape : option_map bytes_of (slice_of (PartOf (codes "\n\n") 1) (styled lone_within_a_match)) ≡ Some (codes "[1m")
@@ -128,7 +128,7 @@ intervals = refl
 
 -- a part of one byte in the style with the longest start and the longest close
 longest_part_of_a_byte : option_map length (part (codes "\u{1b}[0;99;1;2;3;4;5;6;7;8;9;11;20;21;26;38;2;255;255;255;48;2;255;255;255;58;2;255;255;255;51;52;53;60;61;62;63;64;73;74ma,b") (codes ",") 1) ≡ Some (1 + 251)
-unfolding digits part_over
+unfolding digits part_from
 longest_part_of_a_byte = refl
 
 -- changes in turn: each is judged by what the one before has left

@@ -4,7 +4,7 @@ use Rattle.std.specs.List.{starts_with, ends_with}
 use Rattle.ansi_style.specs.Styled.{StyledByte, bytes_of}
 use Rattle.ansi_search.specs.Positions.{is_good_position, is_good_range}
 use Rattle.ansi_slice.specs.Kept.{trim_interval}
-use Rattle.ansi_slice.specs.Parts.{parts}
+use Rattle.ansi_split.specs.Parts.{parts}
 
 -- a change is an edit as the definitions see it: a range that is cut, the side on the left or on the right of a position, the part of an index, what is left without a prefix or a suffix, or what is left without the white space at the ends
 pub data Change : Type 0 where

@@ -7,7 +7,7 @@ use Rattle.ansi_style.specs.Rendition.{plain_style}
 use Rattle.ansi_style.specs.Styled.{StyledByte, styled, residue}
 use Rattle.ansi_slice.specs.Cut.{cut}
 use Rattle.ansi_slice.specs.Sides.{left_side, right_side}
-use Rattle.ansi_slice.specs.Parts.{part, is_part_borrowed}
+use Rattle.ansi_split.specs.Parts.{part, is_part_borrowed}
 use Rattle.ansi_slice.specs.Kept.{without_prefix, without_suffix, trimmed}
 use Rattle.ansi_str.specs.Changes.{Change, CutRange, LeftOf, RightOf, PartOf, WithoutPrefix, WithoutSuffix, Trimmed, interval_of, slice_of}
 

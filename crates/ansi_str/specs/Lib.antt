@@ -21,10 +21,10 @@ pub use Rattle.ansi_slice.specs.Ranges
 pub use Rattle.ansi_slice.specs.Cut
 pub use Rattle.ansi_slice.specs.Sides
 pub use Rattle.ansi_slice.specs.Kept
-pub use Rattle.ansi_slice.specs.Parts
 pub use Rattle.ansi_blocks.specs.Blocks
 pub use Rattle.ansi_blocks.specs.Same
 pub use Rattle.ansi_split.specs.StdSplit
+pub use Rattle.ansi_split.specs.Parts
 pub use Rattle.ansi_split.specs.Splits
 pub use Rattle.ansi_split.specs.Spans
 pub mod Changes

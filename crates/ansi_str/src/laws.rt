@@ -20,7 +20,7 @@ ghost use Rattle.ansi_search.specs.Positions.{is_good_position, is_char_boundary
 ghost use Rattle.ansi_slice.specs.Cut.{cut};
 ghost use Rattle.ansi_slice.specs.Sides.{left_side, right_side};
 ghost use Rattle.ansi_slice.specs.Kept.{kept, IsKept, without_prefix, without_suffix, trim_interval, trimmed};
-ghost use Rattle.ansi_slice.specs.Parts.{parts, part, past, part_over, all_parts};
+ghost use Rattle.ansi_split.specs.Parts.{parts, part, past, part_over, all_parts};
 ghost use Rattle.ansi_str.specs.Changes.{Change, CutRange, LeftOf, RightOf, PartOf, WithoutPrefix, WithoutSuffix, Trimmed, interval_of, slice_of};
 ghost use Rattle.ansi_str.specs.Edited.{meaning, edited_by, edited, closes, stay_borrowed, IsSliceNamed};
 ghost use Rattle.ansi_blocks.specs.Blocks.{waiting, runs, without_sgrs, blocks};

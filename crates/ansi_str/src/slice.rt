@@ -11,7 +11,7 @@ ghost use Rattle.ansi_search.specs.Positions.{is_char_boundary, is_good_range, i
 ghost use Rattle.ansi_slice.specs.Cut.{cut};
 ghost use Rattle.ansi_slice.specs.Sides.{left_side, right_side};
 ghost use Rattle.ansi_slice.specs.Kept.{without_prefix, without_suffix, trimmed};
-ghost use Rattle.ansi_slice.specs.Parts.{all_parts};
+ghost use Rattle.ansi_split.specs.Parts.{all_parts};
 ghost use Rattle.ansi_style.specs.Written.{longest_close, longest_start_and_close};
 ghost use Rattle.ansi_split.specs.Splits.{split_parts};
 

@@ -1,5 +1,7 @@
 -- Worked examples of parts, each by computation.
-use Rattle.ansi_slice.proofs.Common.{refl, codes, [], ◌∷◌, List, ℕ, true, false, map, digits, range_with_len, part_over, all_parts, is_borrowed_over, is_part_borrowed}
+use Rattle.std.proofs.Common.{refl, codes, [], ◌∷◌, List, ℕ, true, false, map}
+unfoldable use Rattle.std.specs.Fmt.{digits}
+use Rattle.ansi_split.proofs.Common.{range_with_len, part_from, all_parts, is_part_borrowed}
 use Rattle.ansi_items.proofs.Tables.{Makes}
 
 parts_of_texts : Makes (λ (x : List ℕ × List ℕ). all_parts x.0 x.1) (
@@ -20,7 +22,7 @@ parts_of_texts : Makes (λ (x : List ℕ × List ℕ). all_parts x.0 x.1) (
     ∷ ((codes "a:\u{1b}[31m:b", codes "::"), codes "a" ∷ codes "\u{1b}[31mb\u{1b}[39m" ∷ [])
     ∷ ((codes "a\u{1b}]0;t\u{7},b", codes ","), codes "a\u{1b}]0;t\u{7}" ∷ codes "b" ∷ [])
     ∷ [])
-unfolding digits part_over
+unfolding digits part_from
 parts_of_texts = refl
 
 -- a part is a borrow where no sequence stands in it, and it is empty or no style is carried
@@ -28,5 +30,5 @@ borrowed_parts : Makes (λ (x : List ℕ × List ℕ × ℕ). map (is_part_borro
     ((codes "\u{1b}[31mlionXXtigerXleopard\u{1b}[0m", codes "X", 4), false ∷ true ∷ false ∷ false ∷ [])
     ∷ ((codes "\u{1b}[99ma,b", codes ",", 2), false ∷ true ∷ [])
     ∷ [])
-unfolding is_borrowed_over
+unfolding part_from
 borrowed_parts = refl

@@ -5,7 +5,7 @@ use Rattle.std.specs.Option.{option_map_or}
 use Rattle.ansi_style.specs.declared.state.rendition.Rendition.{Rendition}
 use Rattle.ansi_style.specs.Rendition.{plain_style, has_any}
 use Rattle.ansi_items.specs.Plain.{Mark, plain, marks, up_to}
-use Rattle.ansi_style.specs.Styled.{style_at}
+use Rattle.ansi_style.specs.Reading.{style_within}
 use Rattle.ansi_style.specs.Written.{start, close_if_any}
 use Rattle.ansi_search.specs.Matches.{match_places}
 use Rattle.ansi_slice.specs.Cut.{show}
@@ -32,16 +32,31 @@ end_before intervals (suc k) = option_map (λ (i : ℕ × ℕ). i.1) (slice_get 
 abbrev pub past : Option ℕ → List Mark → List Mark
 past before ms = filter (λ m. option_map_or (λ e. nat_lt e m.place) before true) ms
 
--- the style that the parts up to the end of the one before leave open
-abbrev pub carried : List ℕ → Option ℕ → Rendition
-carried t before = option_map_or (style_at t) before plain_style
+-- a part as a split gives it: its bytes, whether it is a borrow, and its share, how many bytes of the text it has without those that are written for its style
+pub record SplitPart : Type 0 where
+  pub bytes : List ℕ
+  pub borrowed : Bool
+  pub share : ℕ
 
--- the part over the interval i, after a part that ends at `before`: the start of the style that is carried, the text with its marks, and the close of the style then. A mark belongs to the first part whose end isn't before its place. (The Rust crate; the places, own)
-unfoldable pub part_over : List ℕ → Option ℕ → ℕ × ℕ → List ℕ
-part_over t before i =
+-- the style that the parts up to the end of the one before leave open, where c is the style before t
+abbrev pub carried : Rendition → List ℕ → Option ℕ → Rendition
+carried c t before = option_map_or (style_within c t) before c
+
+-- The part over the interval i, after a part that ends at `before`, where c is the style before t: the start of the style that is carried, the text with its marks, and the close of the style then. A mark belongs to the first part whose end isn't before its place. A part is a borrow, and stands in t as it is, where it holds no mark, and is empty or carries no style. (The Rust crate; the places, own)
+unfoldable pub part_from : Rendition → List ℕ → Option ℕ → ℕ × ℕ → SplitPart
+part_from c t before i =
     let own = past before (up_to i.1 (marks t)) in
-    if i.0 == i.1 && length own == 0 then []
-    else start (carried t before) ++ show (plain t) i.0 i.1 own ++ close_if_any (style_at t i.1)
+    let style = carried c t before in
+    let shown = show (plain t) i.0 i.1 own in
+    record {
+      bytes = if i.0 == i.1 && length own == 0 then [] else start style ++ shown ++ close_if_any (style_within c t i.1);
+      borrowed = length own == 0 && (i.0 == i.1 || not (has_any style));
+      share = length shown;
+    }
+
+-- the bytes of a part of t alone, before which the style is plain
+abbrev pub part_over : List ℕ → Option ℕ → ℕ × ℕ → List ℕ
+part_over t before i = (part_from plain_style t before i).bytes
 
 -- the part of index k, if there are so many
 abbrev pub part : List ℕ → List ℕ → ℕ → Option (List ℕ)
@@ -53,22 +68,14 @@ part t p k =
 abbrev pub all_parts : List ℕ → List ℕ → List (List ℕ)
 all_parts t p = filter_map (part t p) (range_with_len 0 (length (parts (plain t) p)))
 
--- how many bytes of t the part over the interval i has, after a part that ends at `before`: its plain bytes and its marks
-unfoldable pub share_over : List ℕ → Option ℕ → ℕ × ℕ → ℕ
-share_over t before i = length (show (plain t) i.0 i.1 (past before (up_to i.1 (marks t))))
-
--- the share of the part of index k: how many bytes of t it has, without those that are written for its style
+-- the share of the part of index k
 abbrev pub share : List ℕ → List ℕ → ℕ → ℕ
 share t p k =
     let intervals = parts (plain t) p in
-    option_map_or (share_over t (end_before intervals k)) (slice_get intervals k) 0
-
--- the part over the interval i holds no mark, and is empty or carries no style: it stands in t as it is
-unfoldable pub is_borrowed_over : List ℕ → Option ℕ → ℕ × ℕ → Bool
-is_borrowed_over t before i = length (past before (up_to i.1 (marks t))) == 0 && (i.0 == i.1 || not (has_any (carried t before)))
+    option_map_or (λ i. (part_from plain_style t (end_before intervals k) i).share) (slice_get intervals k) 0
 
 -- the part of index k stands in t as it is
 abbrev pub is_part_borrowed : List ℕ → List ℕ → ℕ → Bool
 is_part_borrowed t p k =
     let intervals = parts (plain t) p in
-    option_map_or (is_borrowed_over t (end_before intervals k)) (slice_get intervals k) false
+    option_map_or (λ i. (part_from plain_style t (end_before intervals k) i).borrowed) (slice_get intervals k) false
