@@ -1,5 +1,6 @@
 -- A cut and a kept text as a stretch of the text, by where its plain bytes stand, and the sequences outside of it.
-use Rattle.ansi_slice.proofs.Common.{◌≡◌, ℕ, ◌+◌, ◌-◌, ◌<◌, ◌≤◌, inl, inr, Bool, true, List, [], ◌∷◌, ◌++◌, length, take, drop, take-add, refl, sym, ◌∙◌, ap, ap₂, subst, arith, if◌then◌else◌, nat_lt, length-append, append_assoc, append-nil, not, false, ◌&&◌, Some, drop-append_seam, cases_lt, le-leb, lt-ltb, le-ltb, nat_tests, take-append-le, length-drop, drop-drop, slice_range, IsCharBoundary, Kind, escape, Piece, Text, Sequence, LoneEscape, ArePieces, pieces_of, plain_of, plain, pieces_are, pieces_of-unique, length-plain, spelled, spelled-pieces_of, is_mark, BeginsWithMark, Rendition, plain_style, apply, style_within, close, style_by_marks, style_by_marks-before, style_by_marks-mark, is_good_position, is_good_range, cut_up_to, kept, bytes_before, sequences_up_to, offset_of, StandsIn, KeepsUpTo, spelling}
+use Rattle.ansi_slice.proofs.Common.{◌≡◌, ℕ, ◌+◌, ◌-◌, ◌<◌, ◌≤◌, inl, inr, Bool, true, List, [], ◌∷◌, ◌++◌, length, take, drop, take-add, refl, sym, ◌∙◌, ap, ap₂, subst, arith, if◌then◌else◌, nat_lt, length-append, append_assoc, append-nil, not, false, ◌&&◌, Some, drop-append_seam, cases_lt, le-leb, lt-ltb, le-ltb, nat_tests, take-append-le, length-drop, drop-drop, slice_range, IsCharBoundary, Kind, escape, Piece, Text, Sequence, LoneEscape, ArePieces, pieces_of, plain_of, plain, pieces_are, pieces_of-unique, length-plain, spelled, spelled-pieces_of, is_mark, BeginsWithMark, Rendition, plain_style, apply, style_within, close, style_by_marks, style_by_marks-before, style_by_marks-mark, is_good_position, is_good_range, cut_up_to, kept, bytes_before, sequences_up_to, offset_of, StandsIn, KeepsUpTo, spelling, joined, marks_of, up_to, marks_of-text, marks_of-mark, up_to-none, up_to-further, up_to-here}
+use Rattle.ansi_style.proofs.MarkLemmas.{joined-further}
 use Rattle.ansi_search.proofs.SliceLemmas.{slice_range-past, slice_range-from_past}
 use Rattle.ansi_search.proofs.OffsetLemmas.{bytes_before-last, bytes_before-text, style-text, after_of, after_of-last, after_of-text, take-after, inside_are, pieces_of-after, plain-after, IsOverText, IsPassed}
 use Rattle.ansi_search.proofs.PositionLemmas.{is_good_position-drop}
@@ -7,10 +8,15 @@ use Rattle.ansi_slice.proofs.CutLemmas.{shown_from, shown_from-text, cut_up_to-w
 use Rattle.ansi_slice.proofs.KeptWalkLemmas.{kept-walk, kept-all}
 
 sequences_up_to-last : (n : ℕ) (w : List ℕ) (ps : List Piece) → n < length w → sequences_up_to n (Text w ∷ ps) ≡ []
-sequences_up_to-last n w ps last = ap (λ b. if b then [] else sequences_up_to (n - length w) ps) (lt-ltb n (length w) last)
+sequences_up_to-last n w ps last = ap (λ ms. joined (up_to n ms)) (marks_of-text w ps) ∙ ap joined (up_to-none n (length w) (marks_of ps) last)
 
 sequences_up_to-text : (n : ℕ) (w : List ℕ) (ps : List Piece) → length w ≤ n → sequences_up_to n (Text w ∷ ps) ≡ sequences_up_to (n - length w) ps
-sequences_up_to-text n w ps within = ap (λ b. if b then [] else sequences_up_to (n - length w) ps) (le-ltb n (length w) within)
+sequences_up_to-text n w ps within =
+    ap (λ ms. joined (up_to n ms)) (marks_of-text w ps) ∙ ap joined (up_to-further n (length w) (marks_of ps) within)
+    ∙ joined-further (length w) (up_to (n - length w) (marks_of ps))
+
+sequences_up_to-mark : (n : ℕ) (p : Piece) (ps : List Piece) → is_mark p ≡ true → sequences_up_to n (p ∷ ps) ≡ spelling p ++ sequences_up_to n ps
+sequences_up_to-mark n p ps is = ap (λ ms. joined (up_to n ms)) (marks_of-mark p ps is) ∙ ap joined (up_to-here n (spelling p) (marks_of ps))
 
 take-more : (w rest more : List ℕ) (n : ℕ) → take (length w + n) (w ++ rest) ++ more ≡ w ++ (take n rest ++ more)
 take-more w rest more n = ap (λ u. u ++ more) (take-after w rest n) ∙ append_assoc w (take n rest) more
@@ -40,7 +46,9 @@ shown_from-front all (Text w ∷ ps) s e ordered = elim (cases_lt s (length w)) 
       ∙ sym (ap₂ (λ u qs. u ++ shown_from all 0 (e - s) qs) (sequences_up_to-text s w ps within) (after_of-text s w ps within)))
 ]
 shown_from-front all (p ∷ ps) s e ordered =
-    ap (λ v. spelling p ++ v) (shown_from-front all ps s e ordered) ∙ sym (append_assoc (spelling p) (sequences_up_to s ps) (shown_from all 0 (e - s) (after_of s ps)))
+    let rest = shown_from all 0 (e - s) (after_of s ps) in
+    ap (λ v. spelling p ++ v) (shown_from-front all ps s e ordered) ∙ sym (append_assoc (spelling p) (sequences_up_to s ps) rest)
+    ∙ ap (λ u. u ++ rest) (sym (sequences_up_to-mark s p ps refl))
 
 -- the marks past the end, where all are shown
 abbrev later : Bool → ℕ → List Piece → List ℕ
@@ -139,7 +147,7 @@ keeps-at {t} {n} stands = record {
 shown_from-none : (ps : List Piece) (top : ℕ) → length (plain_of ps) ≤ top → shown_from true 0 0 ps ≡ sequences_up_to top ps
 shown_from-none [] top past = refl
 shown_from-none (Text w ∷ ps) top past = grind (arith, length-append, sequences_up_to-text, shown_from-none ps (top - length w) (omega (arith, (length-append w (plain_of ps)), past)))
-shown_from-none (p ∷ ps) top past = ap (λ v. spelling p ++ v) (shown_from-none ps top past)
+shown_from-none (p ∷ ps) top past = ap (λ v. spelling p ++ v) (shown_from-none ps top past) ∙ sym (sequences_up_to-mark top p ps refl)
 
 pub kept-none : (t : List ℕ) (top : ℕ) → length t ≤ top → kept t 0 0 ≡ sequences_up_to top (pieces_of t)
 kept-none t top past = kept-walk t 0 0 ∙ shown_from-none (pieces_of t) top (omega (arith, length-plain t))
@@ -158,7 +166,10 @@ pushed-text {whole} {written} {n} {next} {w} {old} {ps} so_far first within is =
 
 pub pushed-mark : {whole written new : List ℕ} {n : ℕ} {kind : Kind} {w : List ℕ} {old ps : List Piece} → IsPushedSoFar whole written n old → BeginsWithMark kind w old ps → new ≡ written ++ w
     → IsPushedSoFar whole new n ps
-pushed-mark so_far begins is = grind (arith, append_assoc)
+pushed-mark so_far begins is = grind (arith, append_assoc, sequences_up_to-mark)
+
+pub pushed-last : {whole written w : List ℕ} {n : ℕ} {old ps : List Piece} → IsPushedSoFar whole written n old → old ≡ Text w ∷ ps → n < length w → written ≡ whole
+pushed-last so_far first last = grind (arith, append-nil, sequences_up_to-last)
 
 -- A place inside a text that comes next, or its end.
 

@@ -1,6 +1,7 @@
 -- How long a part may be, and what it takes of its text.
 use Rattle.ansi_split.proofs.Common.{◌≡◌, ℕ, ◌+◌, ◌-◌, ◌≤◌, Bool, true, false, ◌==◌, List, [], ◌∷◌, ◌++◌, length, map, drop, refl, sym, ap, subst, arith, length-append, length-take, if◌then◌else◌, cond_both, nat_tests, sum_by-cons, sum_by, Piece, spelling, Text, Sequence, LoneEscape, pieces_of, Mark, plain, plain_of, marks, marks_of, up_to, joined, Rendition, IsStyle, plain_style, has_any, close, start, close_if_any, show, style_within, parts, past, part_over, part, part_from, share, SplitPart, carried, parts_from, parts_left, span_part, one_text, slice_range-append, further, marks_of-text, marks_of-mark, spelled, spelled-pieces_of, shown_pieces, piece_when, at_places, at_places-further, longest_close, longest_start_and_close}
 use Rattle.std.proofs.Common.{length-drop}
+use Rattle.ansi_style.proofs.MarkLemmas.{joined-further}
 use Rattle.std.specs.Prelude.{Option, Some, None, ◌&&◌, nat_lt}
 use Rattle.std.proofs.lemmas.Bool.{true≢false}
 use Rattle.std.specs.List.{slice_range}
@@ -11,10 +12,6 @@ use Rattle.ansi_split.proofs.SplitLemmas.{parts_left-begin}
 use Rattle.ansi_slice.proofs.LengthLemmas.{length-one_text, length-spelled, length-shown_pieces, length-close, length-start}
 
 -- A part: the bytes of its interval, its marks, a start and a close.
-
-joined-further : (n : ℕ) (ms : List Mark) → joined (map (further n) ms) ≡ joined ms
-joined-further n [] = refl
-joined-further n (m ∷ ms) = ap (λ v. m.bytes ++ v) (joined-further n ms)
 
 length-mark : (p : Piece) (c : Bool) (shown : List Piece) (ms : List Mark) (n : ℕ) → length (spelled shown) ≤ n + length (joined ms)
     → length (spelled (piece_when c p ++ shown)) ≤ n + length (joined (if c then record { place = 0; bytes = spelling p } ∷ ms else ms))

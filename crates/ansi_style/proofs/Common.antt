@@ -33,7 +33,7 @@ pub use Rattle.ansi_items.proofs.StepLemmas.{is_mark}
 pub use Rattle.ansi_items.specs.AnsiColors.{compared}
 pub use Rattle.ansi_items.specs.Bytes.{escape, is_parameter_byte}
 pub use Rattle.ansi_items.specs.Pieces.{LoneEscape, Piece, Sequence, Text, after_text, merged, pieces_of, spelling}
-pub use Rattle.ansi_items.specs.Plain.{Mark, Placed, has_escape, is_whole, mark_of, marks, marks_of, moved, places, plain, plain_of, up_to}
+pub use Rattle.ansi_items.specs.Plain.{Mark, Placed, has_escape, is_whole, joined, mark_of, marks, marks_of, moved, places, plain, plain_of, up_to}
 pub use Rattle.ansi_items.specs.Sequences.{IsSequence, are_private, is_sgr, sgr_parameters}
 pub use Rattle.ansi_items.specs.contracts.ansitok.AnsiColorOrd.TheImpl.{ghosts}
 pub use Rattle.ansi_items.specs.declared.ansitok.AnsiColor.{AnsiColor}

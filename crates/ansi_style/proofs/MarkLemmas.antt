@@ -1,5 +1,5 @@
 -- The marks of pieces, one piece at a time, and those up to a place.
-use Rattle.ansi_style.proofs.Common.{◌≡◌, ℕ, suc, ◌+◌, ◌-◌, ◌<◌, ◌≤◌, Bool, true, false, List, [], ◌∷◌, length, map, filter_map, fold, Option, refl, ◌∙◌, ap, ap₂, arith, nat_le, if◌then◌else◌, IsFalse, lt-leb, nat_tests, Piece, Text, spelling, is_mark, Mark, Placed, mark_of, moved, marks_of, marks, places, up_to, has_escape, Rendition, apply, after_marks, one_text, pieces_of-bare}
+use Rattle.ansi_style.proofs.Common.{◌≡◌, ℕ, suc, ◌+◌, ◌-◌, ◌<◌, ◌≤◌, Bool, true, false, List, [], ◌∷◌, ◌++◌, length, map, filter_map, fold, Option, refl, ◌∙◌, ap, ap₂, arith, nat_le, if◌then◌else◌, IsFalse, lt-leb, nat_tests, Piece, Text, spelling, is_mark, Mark, Placed, mark_of, moved, marks_of, marks, places, up_to, joined, has_escape, Rendition, apply, after_marks, one_text, pieces_of-bare}
 
 -- n plain bytes more stand before the mark
 abbrev pub further : ℕ → Mark → Mark
@@ -64,6 +64,10 @@ up_to-here e w ms = grind arith
 pub bytes-further : (n : ℕ) (ms : List Mark) → map (λ (m : Mark). m.bytes) (map (further n) ms) ≡ map (λ (m : Mark). m.bytes) ms
 bytes-further n [] = refl
 bytes-further n (m ∷ ms) = ap (λ ws. m.bytes ∷ ws) (bytes-further n ms)
+
+pub joined-further : (n : ℕ) (ms : List Mark) → joined (map (further n) ms) ≡ joined ms
+joined-further n [] = refl
+joined-further n (m ∷ ms) = ap (λ v. m.bytes ++ v) (joined-further n ms)
 
 -- What marks make, one after another, of a state that they change, as a style or a link.
 

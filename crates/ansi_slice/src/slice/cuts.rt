@@ -85,25 +85,6 @@ fn range_of(text: &str, start: usize, end: usize) -> Option<&str>
     Some(&text[from..to])
 }
 
-/// The cut of a text, written, or `None` where the range is bad.
-fn cut_up_to<A: Allocator>(
-    alloc: A,
-    text: &str,
-    start: usize,
-    end: usize,
-) -> Result<Option<String<A>>, AllocError>
-    ensures cut { IfOk result (λ o. MatchOption o (IsFalse (is_good_range (plain text.now) start (Some end))) (λ s. IsTrue (is_good_range (plain text.now) start (Some end)) × (string_bytes s ≡ cut_up_to text.now start end))) }
-    ensures takes_no_memory { IsFalse (is_good_range (plain text.now) start (Some end)) → IsOk result }
-{
-    if end < start {
-        return Ok(None);
-    }
-    if start == 0 {
-        return cut_front(alloc, text, end);
-    }
-    cut_range(alloc, text, start, end)
-}
-
 /// The cut of a text from its front, written, or `None` where the end isn't good: the text up to there as
 /// it stands, and the close of the style then.
 fn cut_front<A: Allocator>(
@@ -124,18 +105,23 @@ fn cut_front<A: Allocator>(
     Ok(Some(cut))
 }
 
-/// The cut of a range in order, written, or `None` where the range is bad: the sequences up to its start,
-/// the stretch of the text from there on with the sequences up to its end, and the close of the style then.
-fn cut_range<A: Allocator>(
+/// The cut of a range, written, or `None` where that is bad: the sequences up to its start, the stretch of
+/// the text from there on with the sequences up to its end, and the close of the style then.
+fn cut_up_to<A: Allocator>(
     alloc: A,
     text: &str,
     start: usize,
     end: usize,
 ) -> Result<Option<String<A>>, AllocError>
-    requires { start ≤ end }
     ensures cut { IfOk result (λ o. MatchOption o (IsFalse (is_good_range (plain text.now) start (Some end))) (λ s. IsTrue (is_good_range (plain text.now) start (Some end)) × (string_bytes s ≡ cut_up_to text.now start end))) }
     ensures takes_no_memory { IsFalse (is_good_range (plain text.now) start (Some end)) → IsOk result }
 {
+    if end < start {
+        return Ok(None);
+    }
+    if start == 0 {
+        return cut_front(alloc, text, end);
+    }
     let mut style = styles::plain_style();
     let Some(from) = walk_to(&mut style, text, start) else {
         return Ok(None);

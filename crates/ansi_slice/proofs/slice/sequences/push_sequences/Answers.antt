@@ -1,6 +1,6 @@
 use Rattle.ansi_slice.proofs.Common.{◌≡◌, ◌+◌, refl, ◌∙◌, ap, string_bytes, is_text, plain_style, apply}
 use Rattle.ansi_search.proofs.OffsetLemmas.{over_text, over_mark, is_other, way-begin, way-text, way-mark, way-last, way-boundary}
-use Rattle.ansi_slice.proofs.StretchLemmas.{pushed-begin, pushed-text, pushed-mark}
+use Rattle.ansi_slice.proofs.StretchLemmas.{pushed-begin, pushed-text, pushed-mark, pushed-last}
 use Rattle.ansi_slice.proofs.slice.sequences.push_sequences.Goals as goal
 
 pub loop-item-init : goal.loop-item-init
@@ -37,6 +37,12 @@ loop-item-preserved g c =
     }
 
 -- the position stands in a text
+
+pub returns-then-remaining-piece-clause-bytes : goal.returns-then-remaining-piece-clause-bytes
+returns-then-remaining-piece-clause-bytes g c =
+    let over = over_text c.in-Some.ensures.steps c.loop-item.invariant.text c.range-piece.ensures.value (is_text c.if-eq.ensures) in
+    pushed-last c.loop-item.invariant.so_far over.first c.if-remaining-piece.true
+
 pub returns-then-remaining-piece-clause-offset : goal.returns-then-remaining-piece-clause-offset
 returns-then-remaining-piece-clause-offset g c =
     let gives = c.in-Some.ensures.steps in
