@@ -12,14 +12,14 @@ use Rattle.std.proofs.Math.Seq.{drop-append_seam}
 use Rattle.std.proofs.lemmas.Str.{IsCharBoundary-before_ascii, IsCharBoundary-after_ascii}
 use Rattle.ansi_items.specs.Bytes.{escape, is_intermediate_byte}
 use Rattle.ansi_items.specs.Sequences.{IsControlString, IsSequence, is_sgr}
-use Rattle.ansi_items.specs.Pieces.{Piece, Text, Sequence, LoneEscape, ArePieces, spelling, pieces_of}
+use Rattle.ansi_items.specs.Pieces.{Piece, Text, Sequence, ArePieces, spelling, pieces_of}
 use Rattle.ansi_items.specs.Plain.{Mark, marks, plain_of, plain, up_to}
 use Rattle.ansi_items.specs.Scans.{Scan, Gives, pieces_left, piece_of_kind}
 use Rattle.ansi_items.specs.declared.ansitok.Item.{Item}
 use Rattle.ansi_items.specs.declared.ansitok.Kind.{Kind}
 use Rattle.ansi_items.specs.declared.ansitok.Kind.TheVariants.{Text as TextKind, Sgr, Other, Lone}
 use Rattle.ansi_items.proofs.PieceLemmas.{pieces_are}
-use Rattle.ansi_items.proofs.StepLemmas.{BeginsWithMark, is_mark, gives_mark, plain_of-mark}
+use Rattle.ansi_items.proofs.StepLemmas.{BeginsWithMark, gives_mark, plain_of-mark}
 use Rattle.ansi_style.proofs.MarkLemmas.{state_by_marks, state_by_marks-before, state_by_marks-text, state_by_marks-mark}
 use Rattle.ansi_columns.specs.Addresses.{address_at}
 use Rattle.ansi_columns.specs.Links.{terminator_len, address_of, is_link, opens_link, link_of, link_after, link_at}

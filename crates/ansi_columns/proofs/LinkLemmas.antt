@@ -14,7 +14,7 @@ use Rattle.ansi_items.specs.declared.ansitok.Item.{Item}
 use Rattle.ansi_items.specs.declared.ansitok.Kind.{Kind}
 use Rattle.ansi_items.specs.declared.ansitok.Kind.TheVariants.{Text as TextKind, Sgr, Other, Lone}
 use Rattle.ansi_items.specs.Sequences.{is_sgr}
-use Rattle.ansi_items.specs.Pieces.{Piece, Text, Sequence, LoneEscape, spelling, pieces_of}
+use Rattle.ansi_items.specs.Pieces.{Piece, Text, spelling, pieces_of}
 use Rattle.ansi_items.specs.Plain.{Mark, marks_of, marks}
 use Rattle.ansi_items.specs.Scans.{Scan, Gives, pieces_left, piece_of_kind}
 use Rattle.ansi_items.proofs.StepLemmas.{BeginsWithMark, is_mark}

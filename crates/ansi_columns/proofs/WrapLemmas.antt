@@ -7,7 +7,7 @@ use Rattle.std.proofs.lemmas.Bool.{cases_lt, cond_both, and_parts, and_from, and
 use Rattle.std.proofs.lemmas.Bool.Decides.{nat_tests}
 use Rattle.std.proofs.lemmas.List.{length-map, length-drop, length-take-le, take_all, drop-drop, take-append-drop, get_or-take}
 use Rattle.std.proofs.lemmas.Str.{IsCharBoundary-end}
-use Rattle.ansi_items.specs.Pieces.{Piece, Text, Sequence, LoneEscape, pieces_of, spelling}
+use Rattle.ansi_items.specs.Pieces.{Piece, Text, pieces_of, spelling}
 use Rattle.ansi_items.specs.Plain.{Mark, plain, plain_of, marks, up_to, has_escape}
 use Rattle.ansi_items.proofs.JoinLemmas.{spelled, spelled-pieces_of}
 use Rattle.ansi_items.proofs.PlainLemmas.{plain-bare}

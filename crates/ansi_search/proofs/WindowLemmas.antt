@@ -1,5 +1,5 @@
 -- A search that goes forward by the cut of a pattern, a window at a time.
-use Rattle.ansi_search.proofs.Common.{◌≡◌, ◌≢◌, ℕ, ◌+◌, ◌-◌, ◌<◌, ◌≤◌, inl, inr, true, false, List, ◌∷◌, ◌++◌, take, drop, length, nat_eq, IsTrue, Some, None, refl, sym, ◌∙◌, ap, arith, slice_index, and_parts, cases_lt, eq-eqb, true≢false, get_or-take, get_or_append_left, get_or-append-add, length-take-le, length-drop, length-append, drop-drop, drop-append-le, drop_at, take_at, IsCharBoundary-start, starts_with, slice_range, IsUtf8, Nowhere, OccursAt, Passes, is_byte, OccursIn, Nowhere-then, OccursAt-split, OccursAt-from_part, Nowhere-right, Nowhere-left, known-next, escape, Item, Piece, Text, spelling, ArePieces, pieces_of, plain, plain_of, Scan, Gives, pieces_left, gives_text, pieces_are, length-plain, Cut, Point, Window, first_match_from, is_char_boundary, IsCut, Meets, IsReached, IsPoint, Comes, IsApart, StandsNowhere, IsAhead, []}
+use Rattle.ansi_search.proofs.Common.{◌≡◌, ◌≢◌, ℕ, ◌+◌, ◌-◌, ◌<◌, ◌≤◌, inl, inr, true, false, List, ◌∷◌, ◌++◌, take, drop, length, nat_eq, IsTrue, Some, None, refl, sym, ◌∙◌, ap, arith, slice_index, and_parts, cases_lt, eq-eqb, true≢false, get_or-take, get_or_append_left, get_or-append-add, length-take-le, length-drop, length-append, drop-drop, drop-append-le, drop_at, take_at, IsCharBoundary-start, starts_with, slice_range, IsUtf8, Nowhere, OccursAt, Passes, is_byte, OccursIn, Nowhere-then, OccursAt-split, OccursAt-from_part, Nowhere-right, Nowhere-left, known-next, Item, Piece, Text, spelling, ArePieces, pieces_of, plain, plain_of, Scan, Gives, pieces_left, gives_text, pieces_are, length-plain, Cut, Point, Window, first_match_from, is_char_boundary, IsCut, Meets, IsReached, IsPoint, Comes, IsApart, StandsNowhere, IsAhead, []}
 use Rattle.std.proofs.Math.Seq.{get_or-append_right}
 use Rattle.ansi_items.specs.declared.ansitok.Kind.TheVariants.{Text as TextKind}
 use Rattle.ansi_search.proofs.MatchLemmas.{IsMatch, is_match-utf8, starts_with-occurs, starts_with-from, first_match_from-is}

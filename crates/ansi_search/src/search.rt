@@ -17,6 +17,9 @@ pub use matches::{find, find_from, first_in_run};
 pub use offsets::walk_to;
 pub use prefix::starts_with;
 
+/// A position past the end of every text: no end, or no match.
+pub const PAST_THE_END: usize = usize::MAX;
+
 /// Whether the position is good: a character of the plain text begins there, or it is the end of the
 /// plain text or lies past it. (std; past the end, the Rust crate.)
 ///

@@ -1,5 +1,5 @@
 -- What is shown of a text as one walk over its pieces, with what is left of its ends; a cut, also of a text without ESC.
-use Rattle.ansi_slice.proofs.Common.{◌≡◌, ℕ, ◌-◌, ◌≤◌, inl, inr, Bool, true, false, not, ◌&&◌, List, [], ◌∷◌, ◌++◌, map, length, Option, Some, None, refl, sym, ◌∙◌, ap, ap₂, arith, slice_range, if◌then◌else◌, nat_lt, append-nil, length-append, IsFalse, unwrap_or, cases_lt, lt-ltb, le-ltb, escape, Piece, Text, Sequence, LoneEscape, pieces_of, plain_of, plain, marks_of, up_to, has_escape, plain_style, close, after_marks, style_at, show, cut_up_to, cut, plain-bare, length-plain, further, marks-bare, marks_of-text, marks_of-mark, up_to-none, up_to-further, up_to-here, spelling}
+use Rattle.ansi_slice.proofs.Common.{◌≡◌, ℕ, ◌-◌, ◌≤◌, inl, inr, Bool, true, false, not, ◌&&◌, List, [], ◌∷◌, ◌++◌, map, length, Option, Some, None, refl, sym, ◌∙◌, ap, ap₂, arith, slice_range, if◌then◌else◌, nat_lt, append-nil, length-append, IsFalse, unwrap_or, cases_lt, lt-ltb, le-ltb, Piece, Text, pieces_of, plain_of, plain, marks_of, up_to, has_escape, plain_style, close, after_marks, style_at, show, cut_up_to, cut, plain-bare, length-plain, further, marks-bare, marks_of-text, marks_of-mark, up_to-none, up_to-further, up_to-here, spelling}
 use Rattle.ansi_search.proofs.SliceLemmas.{slice_range-none, slice_range-past, slice_range-append}
 use Rattle.ansi_slice.proofs.ShowLemmas.{show-nil, show-bare, show-text, show-mark}
 

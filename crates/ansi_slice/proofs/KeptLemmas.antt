@@ -1,5 +1,5 @@
 -- What is kept of a text: all its marks, and of a whole text the slice of its styled bytes; it is whole, and leaves open what the text does.
-use Rattle.ansi_slice.proofs.Common.{◌≡◌, ℕ, ◌-◌, true, List, [], ◌∷◌, ◌++◌, map, length, refl, sym, ◌∙◌, ap, arith, slice_range, IsTrue, Piece, Text, Sequence, LoneEscape, pieces_of, plain_of, plain, Mark, marks_of, marks, is_whole, plain_style, known, StyledByte, styled, bytes_of, style_of, residue, show, kept, IsKept, one_text, bytes-further, marks_of-text, marks_of-mark, spelled, pieces_stand, is_whole-spelled, styled-pieces, bytes_of-styled, styled-spelled, residue-spelled, spelling}
+use Rattle.ansi_slice.proofs.Common.{◌≡◌, ℕ, ◌-◌, true, List, [], ◌∷◌, ◌++◌, map, length, refl, sym, ◌∙◌, ap, arith, slice_range, IsTrue, Piece, Text, pieces_of, plain_of, plain, Mark, marks_of, marks, is_whole, plain_style, known, StyledByte, styled, bytes_of, style_of, residue, show, kept, IsKept, one_text, bytes-further, marks_of-text, marks_of-mark, spelled, pieces_stand, is_whole-spelled, styled-pieces, bytes_of-styled, styled-spelled, residue-spelled, spelling}
 use Rattle.ansi_search.proofs.SliceLemmas.{slice_range-from_past, slice_range-map, slice_range-append}
 use Rattle.ansi_slice.proofs.ShownLemmas.{at_places, shown_pieces, spelled-shown_pieces, shown_pieces_stand, styled_through-shown_pieces, style_through-shown_pieces}
 

@@ -1,5 +1,5 @@
 -- A kept text as one walk over the pieces, with what is left of its ends; and what is kept of all, and of a text without ESC.
-use Rattle.ansi_slice.proofs.Common.{◌≡◌, ℕ, ◌-◌, ◌≤◌, true, List, [], ◌∷◌, ◌++◌, length, sym, ◌∙◌, ap, ap₂, arith, slice_range, append-nil, length-append, IsFalse, escape, Piece, Text, Sequence, LoneEscape, ArePieces, pieces_of, plain_of, plain, has_escape, kept, pieces_are, one_text, pieces_of-bare, spelling}
+use Rattle.ansi_slice.proofs.Common.{◌≡◌, ℕ, ◌-◌, ◌≤◌, true, List, [], ◌∷◌, ◌++◌, length, sym, ◌∙◌, ap, ap₂, arith, slice_range, append-nil, length-append, IsFalse, Piece, Text, ArePieces, pieces_of, plain_of, plain, has_escape, kept, pieces_are, one_text, pieces_of-bare, spelling}
 use Rattle.ansi_search.proofs.SliceLemmas.{slice_range-past, slice_range-from_past}
 use Rattle.ansi_slice.proofs.CutLemmas.{shown_from, show-all}
 

@@ -1,5 +1,5 @@
 -- How long a cut may be, what is kept of a text, and its two sides.
-use Rattle.ansi_slice.proofs.Common.{◌≡◌, ℕ, ◌+◌, ◌-◌, ◌*◌, ◌≤◌, inl, inr, Bool, true, ◌==◌, List, [], ◌∷◌, ◌++◌, length, take, drop, filter, refl, ◌∙◌, sym, ap, arith, length-append, length-take, length-drop, nat_le, if◌then◌else◌, Option, unwrap_or, cond_both, cases_lt, flat_map-append, slice_range, is_sgr, Piece, spelling, Text, Sequence, LoneEscape, pieces_of, plain, plain_bytes, copied, Rendition, IsStyle, plain_style, apply, close, start, close_codes, longest_start, longest_close, longest_start_and_close, style_at, cut, kept, dressed, left_part, right_part, left_side, right_side, one_text, IsStyle-apply, IsStyle-plain_style, spelled, spelled-pieces_of, close_codes_are, start_codes_are, code_pieces, spelled-code_pieces}
+use Rattle.ansi_slice.proofs.Common.{◌≡◌, ℕ, ◌+◌, ◌-◌, ◌*◌, ◌≤◌, inl, inr, Bool, true, ◌==◌, List, [], ◌∷◌, ◌++◌, length, take, drop, filter, refl, ◌∙◌, sym, ap, arith, length-append, length-take, length-drop, nat_le, if◌then◌else◌, Option, unwrap_or, cond_both, cases_lt, flat_map-append, slice_range, is_sgr, Piece, spelling, Text, pieces_of, plain, plain_bytes, copied, Rendition, IsStyle, plain_style, apply, close, start, close_codes, longest_start, longest_close, longest_start_and_close, style_at, cut, kept, dressed, left_part, right_part, left_side, right_side, one_text, IsStyle-apply, IsStyle-plain_style, spelled, spelled-pieces_of, close_codes_are, start_codes_are, code_pieces, spelled-code_pieces}
 use Rattle.ansi_items.specs.Plain.{is_text}
 use Rattle.ansi_slice.proofs.WalkLemmas.{walked, style_past}
 use Rattle.ansi_slice.proofs.SideLemmas.{left_side-walked, right_side-walked}

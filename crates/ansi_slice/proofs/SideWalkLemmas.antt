@@ -1,5 +1,5 @@
 -- A side of a text as what its pieces give before a place, or after it; and how far the walk over them has come.
-use Rattle.ansi_slice.proofs.Common.{◌≡◌, ℕ, ◌+◌, ◌-◌, ◌<◌, ◌≤◌, inl, inr, true, List, [], ◌∷◌, ◌++◌, length, take, drop, sym, ◌∙◌, refl, ap, ap₂, arith, append_assoc, append-nil, length-append, if◌then◌else◌, cases_lt, le-leb, lt-leb, lt-ltb, le-ltb, take_all, drop_all, length-drop, Kind, Piece, Text, Sequence, LoneEscape, spelling, pieces_of, plain_of, copied, length-plain, is_mark, BeginsWithMark, Rendition, plain_style, apply, style_within, style_by_marks, style_by_marks-before, style_by_marks-mark, dressed, left_part, right_part, left_side, right_side, side_up_to, StandsIn}
+use Rattle.ansi_slice.proofs.Common.{◌≡◌, ℕ, ◌+◌, ◌-◌, ◌<◌, ◌≤◌, inl, inr, true, List, [], ◌∷◌, ◌++◌, length, take, drop, sym, ◌∙◌, refl, ap, ap₂, arith, append_assoc, append-nil, length-append, if◌then◌else◌, cases_lt, le-leb, lt-leb, lt-ltb, le-ltb, take_all, drop_all, length-drop, Kind, Piece, Text, Sequence, spelling, pieces_of, plain_of, copied, length-plain, is_mark, BeginsWithMark, Rendition, plain_style, apply, style_within, style_by_marks, style_by_marks-before, style_by_marks-mark, dressed, left_part, right_part, left_side, right_side, side_up_to, StandsIn}
 use Rattle.ansi_slice.proofs.WalkLemmas.{walked}
 use Rattle.ansi_slice.proofs.SideLemmas.{left_side-walked, right_side-walked}
 use Rattle.ansi_search.proofs.OffsetLemmas.{after_of, after_of-last, after_of-text, style-text, pieces_of-after}

@@ -1,5 +1,5 @@
 -- A cut and a kept text as a stretch of the text, by where its plain bytes stand, and the sequences outside of it.
-use Rattle.ansi_slice.proofs.Common.{◌≡◌, ℕ, ◌+◌, ◌-◌, ◌<◌, ◌≤◌, inl, inr, Bool, true, List, [], ◌∷◌, ◌++◌, length, take, drop, take-add, refl, sym, ◌∙◌, ap, ap₂, subst, arith, if◌then◌else◌, nat_lt, length-append, append_assoc, append-nil, not, false, ◌&&◌, Some, drop-append_seam, cases_lt, le-leb, lt-ltb, le-ltb, nat_tests, take-append-le, length-drop, drop-drop, slice_range, IsCharBoundary, Kind, escape, Piece, Text, Sequence, LoneEscape, ArePieces, pieces_of, plain_of, plain, pieces_are, pieces_of-unique, length-plain, spelled, spelled-pieces_of, is_mark, BeginsWithMark, Rendition, plain_style, apply, style_within, close, style_by_marks, style_by_marks-before, style_by_marks-mark, is_good_position, is_good_range, cut_up_to, kept, bytes_before, sequences_up_to, offset_of, StandsIn, KeepsUpTo, spelling, joined, marks_of, up_to, marks_of-text, marks_of-mark, up_to-none, up_to-further, up_to-here}
+use Rattle.ansi_slice.proofs.Common.{◌≡◌, ℕ, ◌+◌, ◌-◌, ◌<◌, ◌≤◌, inl, inr, Bool, true, List, [], ◌∷◌, ◌++◌, length, take, drop, take-add, refl, sym, ◌∙◌, ap, ap₂, subst, arith, if◌then◌else◌, nat_lt, length-append, append_assoc, append-nil, not, false, ◌&&◌, Some, drop-append_seam, cases_lt, le-leb, lt-ltb, nat_tests, take-append-le, length-drop, drop-drop, slice_range, IsCharBoundary, Kind, Piece, Text, ArePieces, pieces_of, plain_of, plain, pieces_are, pieces_of-unique, length-plain, spelled, spelled-pieces_of, is_mark, BeginsWithMark, Rendition, plain_style, apply, style_within, close, style_by_marks, style_by_marks-before, style_by_marks-mark, is_good_position, is_good_range, cut_up_to, kept, bytes_before, sequences_up_to, offset_of, StandsIn, KeepsUpTo, spelling, joined, marks_of, up_to, marks_of-text, marks_of-mark, up_to-none, up_to-further, up_to-here}
 use Rattle.ansi_style.proofs.MarkLemmas.{joined-further}
 use Rattle.ansi_search.proofs.SliceLemmas.{slice_range-past, slice_range-from_past}
 use Rattle.ansi_search.proofs.OffsetLemmas.{bytes_before-last, bytes_before-text, style-text, after_of, after_of-last, after_of-text, take-after, inside_are, pieces_of-after, plain-after, IsOverText, IsPassed}

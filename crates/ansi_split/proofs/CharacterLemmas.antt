@@ -1,6 +1,6 @@
 -- The parts for the empty pattern are the characters of a text, between two empty parts.
 use Rattle.ansi_split.proofs.Common.{◌≡◌, ◌≢◌, ℕ, zero, suc, ◌+◌, ◌-◌, ◌%◌, ◌≤◌, Bool, true, false, List, [], ◌∷◌, ◌++◌, take, drop, length, map, filter, zip, nat_le, refl, sym, ◌∙◌, ap, ap₂, subst, arith, slice_index, slice_range, length-append, and-true, and_parts, and_from, and_right, cond-true, cond-false, le-leb, not_from_true, drop-drop, get_or-drop, filter-append, filter_agree, encodes-chars, scalars-chars, IsCharBoundary-from_drop, IsCharBoundary-start, IsCharBoundary-end, take-append_seam, drop-append_seam, encode_utf8, range_with_len, list_all, IsUtf8, IsCharBoundary, chars, encode_utf8_all, all_scalars, is_char_boundary, is_continuation_byte, is_good_position, is_match, apart, parts, AreInTurn, slices_over, char_boundary_is}
-use Rattle.ansi_split.proofs.BetweenLemmas.{taken_with, filled_parts_in_turn}
+use Rattle.ansi_split.proofs.BetweenLemmas.{filled_parts_in_turn}
 
 -- the bytes of a character after the first go on with it
 record IsCharBytes (w : List ℕ) : Type 0 where

@@ -1,5 +1,5 @@
 -- How far a walk to the first match of a pattern has come, and what a step of it is.
-use Rattle.ansi_split.proofs.Common.{◌≡◌, ◌≢◌, ℕ, ◌+◌, ◌-◌, ◌<◌, ◌≤◌, Bool, true, false, ◌||◌, ◌==◌, List, [], ◌∷◌, ◌++◌, length, take, drop, Option, Some, None, option_map, refl, sym, ◌∙◌, ap, subst, arith, length-append, IsFalse, or-false, or-true, take-add, length-drop, drop-drop, drop_at, take_all, drop_all, take-append-le, list_any-append, IsUtf8, NoneBefore, IsFirst, Kind, escape, Piece, Text, Sequence, LoneEscape, spelling, StandsBefore, ArePieces, pieces_of, plain_of, plain, has_escape, Rendition, apply, after_marks, style_after_from, style_within, is_match, first_match_from, IsCutAfter, IsCutAtMatch, pieces_are, sequence_front, no_escape, is_mark, plain_of-mark, style_by_marks, style_by_marks-before, style_by_marks-text, style_by_marks-mark, IsMatch, is_match-drop, is_match-after, first_match_from-first, first_match_from-is, empty_at_end, none_at_end, bytes_before, up_to-past, IsOverText, IsOverMark, bytes_before-last, bytes_before-mark, bytes_before-text}
+use Rattle.ansi_split.proofs.Common.{◌≡◌, ◌≢◌, ℕ, ◌+◌, ◌-◌, ◌<◌, ◌≤◌, Bool, true, false, ◌||◌, ◌==◌, List, [], ◌++◌, length, take, drop, Option, Some, None, option_map, refl, sym, ◌∙◌, ap, subst, arith, length-append, IsFalse, or-false, or-true, take-add, length-drop, drop-drop, drop_at, take_all, drop_all, take-append-le, list_any-append, IsUtf8, NoneBefore, IsFirst, Kind, escape, Piece, Text, Sequence, LoneEscape, spelling, StandsBefore, ArePieces, pieces_of, plain_of, plain, has_escape, Rendition, apply, after_marks, style_after_from, style_within, is_match, first_match_from, IsCutAfter, IsCutAtMatch, pieces_are, sequence_front, no_escape, is_mark, plain_of-mark, style_by_marks, style_by_marks-before, style_by_marks-text, style_by_marks-mark, IsMatch, is_match-drop, is_match-after, first_match_from-first, first_match_from-is, empty_at_end, none_at_end, bytes_before, up_to-past, IsOverText, IsOverMark, bytes_before-last, bytes_before-mark, bytes_before-text}
 use Rattle.ansi_split.proofs.AfterLemmas.{is_cut_after}
 use Rattle.ansi_split.proofs.RestLemmas.{no_escape-parts, no_escape-text}
 use Rattle.ansi_split.proofs.SpanLemmas.{is_cut_at_match}

@@ -1,5 +1,5 @@
 -- Each sequence of a whole text that is no SGR stands in one of its parts, and they stay in order.
-use Rattle.ansi_split.proofs.Common.{◌≡◌, ℕ, ◌+◌, ◌-◌, ◌≤◌, Bool, true, not, ◌&&◌, ◌==◌, List, [], ◌∷◌, ◌++◌, map, flat_map, filter, zip, length, nat_le, Option, Some, None, is_some, refl, sym, ◌∙◌, ap, ap₂, arith, IsTrue, append-nil, append_assoc, length-append, if◌then◌else◌, cond_both, cond-false, and_parts, eqb-true, le-leb, filter-append, list_all, is_sgr, Piece, Text, Sequence, after_text, merged, pieces_of, Mark, plain_of, plain, marks, up_to, is_whole, is_other, other_sequences, Rendition, IsStyle, written, start_codes, start, close_if_any, style_at, show, match_places, apart, parts, past, carried, part_over, all_parts, one_text, slice_range-none, show-bare, spelled, AllStandAnywhere, pieces_of-spelled, AreCodes, code_pieces, start_codes_are, dressed_pieces, shown_pieces, piece_when, part_from, plain_style}
+use Rattle.ansi_split.proofs.Common.{◌≡◌, ℕ, ◌+◌, ◌-◌, ◌≤◌, Bool, true, not, ◌&&◌, ◌==◌, List, [], ◌∷◌, ◌++◌, map, flat_map, filter, zip, length, nat_le, Option, Some, None, is_some, refl, sym, ◌∙◌, ap, ap₂, arith, IsTrue, append-nil, append_assoc, length-append, if◌then◌else◌, cond_both, cond-false, and_parts, eqb-true, le-leb, filter-append, list_all, is_sgr, Piece, Text, Sequence, after_text, merged, pieces_of, Mark, plain_of, plain, marks, up_to, is_whole, is_other, other_sequences, Rendition, IsStyle, written, start_codes, start, close_if_any, style_at, show, match_places, apart, parts, past, carried, part_over, all_parts, one_text, slice_range-none, show-bare, spelled, AllStandAnywhere, pieces_of-spelled, AreCodes, code_pieces, start_codes_are, dressed_pieces, shown_pieces, part_from, plain_style}
 use Rattle.ansi_style.proofs.ColorLemmas.{is_code_byte, sgr_parameters-written}
 use Rattle.ansi_split.proofs.IntervalLemmas.{ComesAfter, ComeAfter, all_parts_come_after}
 use Rattle.ansi_split.proofs.PartSliceLemmas.{shown_pieces-nothing, earlier_places, own_pieces, spelled-own_pieces, own_pieces_stand, all_pieces, closing_codes, closing_codes_are, IsStyle-carried, part_pieces, spelled-part_pieces, part_pieces_stand}

@@ -1,5 +1,5 @@
 -- A part of a whole text is whole, has the slice of its styled bytes, and leaves nothing known open.
-use Rattle.ansi_split.proofs.Common.{◌≡◌, ℕ, ◌+◌, ◌-◌, ◌<◌, ◌≤◌, inl, inr, Bool, true, false, ◌&&◌, ◌==◌, List, [], ◌∷◌, ◌++◌, length, nat_le, nat_lt, refl, sym, ◌∙◌, ap, ap₂, subst, arith, slice_range, Option, Some, None, IsTrue, if◌then◌else◌, option_map_or, cond_both, and_parts, eqb-true, cases_lt, le-leb, nat_tests, Piece, Text, pieces_of, Mark, escape, plain, marks, up_to, is_whole, Rendition, apply, IsStyle, plain_style, known, has_any, written_all, start, close_codes, close, close_if_any, style_at, styled, after_marks, show, past, carried, part_over, one_text, slice_range-none, slice_range-from_past, IsStyle-plain_style, IsStyle-style_at, spelled, AllStandAnywhere, pieces_stand, styled_through, style_through, styled-pieces, AreCodes, close_codes_are, known-unset, GiveAlone, IsClosed, closed-spelled, Clears, dressed_pieces, spelled-dressed_pieces, dressed_pieces_stand, dressed_pieces_give, at_places, piece_when, shown_pieces, spelled-shown_pieces, shown_pieces_stand, longest_close, part_from}
+use Rattle.ansi_split.proofs.Common.{◌≡◌, ℕ, ◌+◌, ◌-◌, ◌<◌, ◌≤◌, inl, inr, Bool, true, false, ◌&&◌, ◌==◌, List, [], ◌∷◌, ◌++◌, length, nat_le, nat_lt, refl, sym, ◌∙◌, ap, ap₂, subst, arith, slice_range, Option, Some, None, IsTrue, if◌then◌else◌, option_map_or, cond_both, and_parts, eqb-true, cases_lt, le-leb, nat_tests, Piece, Text, pieces_of, Mark, plain, marks, up_to, is_whole, Rendition, apply, IsStyle, plain_style, known, has_any, written_all, start, close_codes, close, close_if_any, style_at, styled, after_marks, show, past, carried, part_over, one_text, slice_range-none, slice_range-from_past, IsStyle-plain_style, IsStyle-style_at, spelled, AllStandAnywhere, pieces_stand, styled_through, style_through, styled-pieces, AreCodes, close_codes_are, known-unset, GiveAlone, IsClosed, closed-spelled, Clears, dressed_pieces, spelled-dressed_pieces, dressed_pieces_stand, dressed_pieces_give, at_places, piece_when, shown_pieces, spelled-shown_pieces, shown_pieces_stand, longest_close, part_from}
 use Rattle.ansi_style.proofs.MarkLemmas.{state_after}
 use Rattle.ansi_style.proofs.StyledLemmas.{styled_byte}
 use Rattle.ansi_style.proofs.ThroughLemmas.{state_through, state_through-append, seen_through, seen_through-append}

@@ -1,5 +1,5 @@
 -- How far a part that is written has come, and what a step of the walk is to it.
-use Rattle.ansi_split.proofs.Common.{has_escape, plain-bare, marks-bare, show-bare, is_char_boundary, and_parts, good_is_boundary, leb-true, ◌≡◌, ℕ, ◌+◌, ◌-◌, ◌<◌, ◌≤◌, inl, inr, true, false, List, [], ◌∷◌, ◌++◌, length, drop, sym, ◌∙◌, ap, ap₂, subst, arith, IsTrue, if◌then◌else◌, append_assoc, append-nil, length-append, cases_lt, drop_all, drop-drop, drop-append-le, IsCharBoundary, Kind, escape, Piece, Text, Sequence, LoneEscape, spelling, ArePieces, pieces_of, plain_of, plain, marks_of, is_good_position, Rendition, has_any, start, close, close_if_any, style_after_from, show, span_text, pieces_are, pieces_of-unique, is_mark, BeginsWithMark, plain_of-mark, marks_of-text, marks_of-mark, slice_range-past, show-text, show-mark, is_good_position-after, IsOverText}
+use Rattle.ansi_split.proofs.Common.{has_escape, plain-bare, marks-bare, show-bare, is_char_boundary, and_parts, good_is_boundary, leb-true, ◌≡◌, ℕ, ◌+◌, ◌-◌, ◌<◌, ◌≤◌, inl, inr, true, false, List, [], ◌∷◌, ◌++◌, length, drop, sym, ◌∙◌, ap, ap₂, subst, arith, IsTrue, if◌then◌else◌, append_assoc, append-nil, length-append, cases_lt, drop_all, drop-drop, drop-append-le, IsCharBoundary, Kind, Piece, Text, spelling, ArePieces, pieces_of, plain_of, plain, marks_of, is_good_position, Rendition, has_any, start, close, close_if_any, style_after_from, show, span_text, pieces_are, pieces_of-unique, is_mark, BeginsWithMark, plain_of-mark, marks_of-text, marks_of-mark, slice_range-past, show-text, show-mark, is_good_position-after, IsOverText}
 use Rattle.ansi_slice.specs.Kept.{kept}
 use Rattle.ansi_slice.proofs.KeptWalkLemmas.{kept-all}
 use Rattle.ansi_split.proofs.AfterLemmas.{boundary_in_next}

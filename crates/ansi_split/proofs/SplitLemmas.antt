@@ -1,8 +1,8 @@
 -- The parts that a split gives: those of the text, each by its index; and a part that is written or borrowed.
-use Rattle.ansi_split.proofs.Common.{◌≡◌, Bool, unwrap_or, ℕ, zero, suc, ◌+◌, ◌≤◌, true, false, not, ◌&&◌, ◌||◌, ◌==◌, List, [], ◌∷◌, ◌++◌, length, map, drop, Option, Some, None, option_map, refl, sym, ◌∙◌, ap, ap₂, arith, IsTrue, IsFalse, if◌then◌else◌, slice_get, append-nil, eqb-true, eq-eqb, ne_eqb, cond_both, or_from, and_parts, and_from, and-false, or-true, none-some, same_Some, drop_all, list_any-append, range_with_len, list_all, escape, Piece, Text, Sequence, LoneEscape, ArePieces, pieces_of, Mark, plain, marks_of, marks, up_to, has_escape, Rendition, plain_style, has_any, start, close_if_any, style_of, style_at, parts, end_before, carried, part_over, part, all_parts, part_from, share, is_part_borrowed, SplitPart, split_part, split_parts, parts_from, parts_left, span_part, span_text, pieces_are, no_escape, plain-bare, slice_range-past, further, marks-bare, marks_of-text, marks_of-mark, up_to-past, show-bare, start-unset, close_if_any-unset}
+use Rattle.ansi_split.proofs.Common.{◌≡◌, Bool, unwrap_or, ℕ, zero, suc, ◌+◌, ◌≤◌, true, false, not, ◌&&◌, ◌||◌, ◌==◌, List, [], ◌∷◌, ◌++◌, length, map, drop, Option, Some, None, option_map, refl, sym, ◌∙◌, ap, ap₂, arith, IsTrue, IsFalse, if◌then◌else◌, slice_get, append-nil, eqb-true, eq-eqb, ne_eqb, cond_both, or_from, and_parts, and_from, and-false, or-true, none-some, same_Some, drop_all, list_any-append, range_with_len, list_all, escape, Piece, Text, ArePieces, pieces_of, Mark, plain, marks_of, marks, up_to, has_escape, Rendition, plain_style, has_any, start, close_if_any, style_of, style_at, parts, end_before, carried, part, all_parts, part_from, share, is_part_borrowed, SplitPart, split_part, split_parts, parts_from, parts_left, span_part, span_text, pieces_are, no_escape, plain-bare, slice_range-past, further, marks-bare, marks_of-text, marks_of-mark, up_to-past, show-bare, start-unset, close_if_any-unset}
 use Rattle.std.proofs.lemmas.Bool.{true≢false}
 use Rattle.ansi_split.proofs.IntervalLemmas.{end_after, end_after-suc, end_after-none}
-use Rattle.ansi_split.proofs.PartTextLemmas.{length-parts, parts_over, all_parts-over}
+use Rattle.ansi_split.proofs.PartTextLemmas.{length-parts, all_parts-over}
 use Rattle.ansi_split.proofs.SpanLemmas.{own-whole}
 
 -- What a split has left at first are the parts of the text.

@@ -1,8 +1,6 @@
 -- The parts of a text that is read where a style is already open, and after the match before.
-use Rattle.std.specs.Prelude.{◌≡◌, ℕ, ◌+◌, ◌==◌, Bool, not, ◌&&◌, ◌||◌, List, [], ◌∷◌, ◌++◌, length, map, zip, drop, take, Option, Some, None, if◌then◌else◌, IsTrue}
-use Rattle.std.specs.Option.{option_map_or}
+use Rattle.std.specs.Prelude.{◌≡◌, ℕ, ◌+◌, Bool, List, [], ◌∷◌, ◌++◌, length, map, zip, drop, take, Option, Some, None, IsTrue}
 use Rattle.ansi_style.specs.declared.state.rendition.Rendition.{Rendition}
-use Rattle.ansi_style.specs.Rendition.{has_any}
 use Rattle.ansi_items.specs.Plain.{Mark, plain, marks, up_to, has_escape}
 use Rattle.ansi_style.specs.Written.{start, close_if_any}
 use Rattle.ansi_style.specs.Reading.{style_after_from, style_within}

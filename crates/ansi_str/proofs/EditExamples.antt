@@ -1,5 +1,5 @@
 -- Worked examples of edits in turn, each by computation.
-use Rattle.ansi_str.proofs.Common.{codes, List, [], ◌∷◌, ℕ, true, false, Some, None, refl, encode_utf8, digits, chars, trim_start, trim_end, cut, left_side, right_side, kept, part_over, part_from, CutRange, LeftOf, RightOf, PartOf, WithoutPrefix, WithoutSuffix, Trimmed, Change, edited, stay_borrowed}
+use Rattle.ansi_str.proofs.Common.{codes, List, [], ◌∷◌, ℕ, true, false, Some, None, refl, encode_utf8, digits, chars, trim_start, trim_end, cut, left_side, right_side, kept, part_from, CutRange, LeftOf, RightOf, PartOf, WithoutPrefix, WithoutSuffix, Trimmed, Change, edited, stay_borrowed}
 use Rattle.ansi_items.proofs.Tables.{Makes, utf8}
 
 edits : Makes (λ (x : List Change × List ℕ). edited x.0 x.1) (

@@ -1,5 +1,5 @@
 -- Worked examples of the laws, each by computation: what they say of small texts, and where they need their premises.
-use Rattle.ansi_str.proofs.Common.{◌≡◌, refl, codes, List, [], ◌∷◌, ◌++◌, ℕ, ◌+◌, true, Some, None, length, encode_utf8, digits, chars, trim_start, trim_end, trim, pieces_of, Sequence, Text, merged, LoneEscape, plain, Rendition, plain_style, start, close, styled, bytes_of, residue, cut, right_side, left_side, kept, without_prefix, trimmed, parts, part_over, part_from, part, all_parts, slice_of, CutRange, LeftOf, RightOf, PartOf, WithoutPrefix, Trimmed, Change, meaning}
+use Rattle.ansi_str.proofs.Common.{◌≡◌, refl, codes, List, [], ◌∷◌, ◌++◌, ℕ, ◌+◌, true, Some, None, length, encode_utf8, digits, chars, trim_start, trim_end, trim, pieces_of, Sequence, Text, merged, LoneEscape, plain, Rendition, plain_style, start, close, styled, bytes_of, residue, cut, right_side, left_side, kept, without_prefix, trimmed, parts, part_from, part, all_parts, slice_of, CutRange, LeftOf, RightOf, PartOf, WithoutPrefix, Trimmed, Change, meaning}
 use Rattle.std.specs.Prelude.{option_map}
 use Rattle.ansi_items.proofs.Tables.{Makes, utf8}
 use Rattle.ansi_items.specs.declared.ansitok.AnsiColor.TheVariants.{Bit4}

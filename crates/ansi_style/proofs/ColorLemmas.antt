@@ -1,7 +1,7 @@
 -- The code of a color or a font is written in parameter bytes, and what is written sets that color or font.
 use Rattle.ansi_style.proofs.Common.{◌≡◌, ℕ, suc, ◌+◌, ◌-◌, ◌<◌, Bool, true, false, cond, not, ◌&&◌, ◌==◌, nat_eq, nat_lt, List, [], ◌∷◌, ◌++◌, take, drop, length, Option, Some, None, refl, sym, ◌∙◌, ap, ap₂, arith, codes, decimal, IsTrue, length-append, bytes_eq, append_assoc, true≢false, agree_below_at, and_parts, and_from, eqb-true, ltb-true, cond-true, not-true, nat_tests, take-append_seam, drop-append_seam, list_all-append, AllPass-from_list_all, slice_split_at, slice_split_none, digits, is_in_range, list_all, ends_with, All, slice_index_or, option_map_or, byte, AnsiColor, Bit4, Bit8, Bit24, is_parameter_byte, sgr_parameters, are_private, Rendition, is_extended_color, is_foreground, is_background, Changes, ReadsColor, color_number, code_of, is_code, effect_of_code, fields_of, effect_of, apply, color_code, written}
 use Rattle.ansi_style.proofs.CodeLemmas.{in_range, effect_of_code-font, effect_of_code-foreground, effect_of_code-background}
-use Rattle.ansi_style.proofs.StateLemmas.{apply-parameters, after_fields, after_fields-step}
+use Rattle.ansi_style.proofs.StateLemmas.{apply-parameters, after_fields-step}
 
 -- What tests of ranges say.
 

@@ -11,6 +11,7 @@ use crate::lines::first_line;
 use crate::links::{Pen, no_pen, pen_after_from};
 use crate::shown::LINK_END;
 use crate::walks::Walk;
+use ansi_search::search::PAST_THE_END;
 use ansi_slice::slice::{has_any, push_sequences};
 use ansi_style::styles;
 use std::alloc::{AllocError, Allocator};
@@ -90,8 +91,7 @@ impl<'t> Span<'t> {
         line.push_str(self.carried.link)?;
         let start = push_sequences(&mut line, self.text, self.start)?;
         line.push_str(&self.text[start..self.end_offset])?;
-        // No position of a text lies past this one, so all sequences stand up to there.
-        push_sequences(&mut line, &self.text[self.end_offset..], usize::MAX)?;
+        push_sequences(&mut line, &self.text[self.end_offset..], PAST_THE_END)?;
         push_end(&mut line, &self.after)?;
         Ok(line)
     }

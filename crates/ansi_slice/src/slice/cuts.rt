@@ -8,7 +8,7 @@ ghost use Rattle.ansi_style.specs.Written.{longest_close};
 
 use crate::slice::has_any;
 use crate::slice::sequences::push_sequences;
-use ansi_search::search::walk_to;
+use ansi_search::search::{PAST_THE_END, walk_to};
 use ansi_style::styles;
 use std::alloc::{AllocError, Allocator};
 use std::borrow::CowStr;
@@ -58,8 +58,7 @@ pub fn get_in<'t, A: Allocator>(
     ensures len { IfOk result (λ o. IfSome o (λ c. length (cow_str_bytes c) ≤ length text.now + longest_close)) }
     ensures takes_no_memory { IsFalse (has_escape text.now) ⊎ IsFalse (is_good_range (plain text.now) start end) → IsOk result }
 {
-    // No position of a text lies past this one, so it stands for no end.
-    let end = end.unwrap_or(usize::MAX);
+    let end = end.unwrap_or(PAST_THE_END);
     if !has_any(text) {
         let Some(range) = range_of(text, start, end) else {
             return Ok(None);

@@ -9,7 +9,7 @@ ghost use Rattle.ansi_slice.specs.Kept.{kept, without_prefix, without_suffix, tr
 use crate::slice::has_any;
 use crate::slice::sequences::push_sequences;
 use crate::slice::white_space::{solid_end, white_space_len};
-use ansi_search::search;
+use ansi_search::search::{self, PAST_THE_END};
 use std::alloc::{AllocError, Allocator};
 use std::borrow::CowStr;
 
@@ -130,7 +130,6 @@ fn push_up_to<A: Allocator>(out: &mut String<A>, text: &str, end: usize) -> Resu
 {
     let (front, rest) = text.split_at(end);
     out.push_str(front)?;
-    // No position of a text lies past this one, so all sequences stand up to there.
-    push_sequences(out, rest, usize::MAX)?;
+    push_sequences(out, rest, PAST_THE_END)?;
     Ok(())
 }

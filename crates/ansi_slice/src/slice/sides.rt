@@ -15,7 +15,7 @@ ghost use Rattle.ansi_style.specs.Written.{longest_start_and_close};
 
 use crate::slice::has_any;
 use ansi_items::ansitok::{Kind, Scanner};
-use ansi_search::search::{self, walk_to};
+use ansi_search::search::{self, PAST_THE_END, walk_to};
 use ansi_style::state::Style;
 use ansi_style::styles;
 use std::alloc::{AllocError, Allocator};
@@ -178,12 +178,11 @@ fn write_mark<A: Allocator>(
 
 /// What a text gives to a side, written, where the style is that before it.
 fn write_right<A: Allocator>(alloc: A, style: Style, text: &str) -> Result<String<A>, AllocError>
-    ensures { IfOk result (λ s. string_bytes s ≡ side_up_to (rendition_of style) usize.MAX (pieces_of text.now)) }
+    ensures { IfOk result (λ s. string_bytes s ≡ side_up_to (rendition_of style) PAST_THE_END (pieces_of text.now)) }
 {
     let mut style = style;
     let mut right = String::new(alloc);
-    // No position of a text lies past this one, so it stands for the end.
-    write_side(&mut right, &mut style, text, usize::MAX)?;
+    write_side(&mut right, &mut style, text, PAST_THE_END)?;
     Ok(right)
 }
 

@@ -162,8 +162,7 @@ fn next_start(text: &str, run: usize, pat: &str, from: usize) -> usize
         return start;
     }
     if may_go_on(front, pat) {
-        // No position of a text lies past this one, so it stands for no match.
-        return search::find_from(text, pat, from).unwrap_or(usize::MAX);
+        return search::find_from(text, pat, from).unwrap_or(search::PAST_THE_END);
     }
     run
 }

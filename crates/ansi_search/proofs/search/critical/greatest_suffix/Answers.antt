@@ -1,4 +1,4 @@
-use Rattle.ansi_search.proofs.Common.{◌-◌, arith, IsScan, IsScan-accept, IsScan-skip, IsScan-push, IsScan-block, IsScan-end, Precedes}
+use Rattle.ansi_search.proofs.Common.{arith, IsScan, IsScan-accept, IsScan-skip, IsScan-push, IsScan-block, IsScan-end, Precedes}
 use Rattle.ansi_search.proofs.TwoWayLemmas.{Precedes-trans, Precedes-irrefl}
 use Rattle.ansi_search.proofs.search.critical.greatest_suffix.Goals as goal
 

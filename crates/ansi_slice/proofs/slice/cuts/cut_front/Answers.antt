@@ -1,4 +1,4 @@
-use Rattle.ansi_slice.proofs.Common.{◌-◌, arith, IsUtf8-plain}
+use Rattle.ansi_slice.proofs.Common.{arith, IsUtf8-plain}
 use Rattle.ansi_slice.proofs.StretchLemmas.{cut-front}
 use Rattle.ansi_search.proofs.PositionLemmas.{is_good_range-front}
 use Rattle.ansi_slice.proofs.slice.cuts.cut_front.Goals as goal

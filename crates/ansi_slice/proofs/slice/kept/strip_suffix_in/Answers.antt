@@ -1,4 +1,4 @@
-use Rattle.ansi_slice.proofs.Common.{◌++◌, ◌-◌, sym, ◌∙◌, ap₂, arith, eqb-true, plain-bare}
+use Rattle.ansi_slice.proofs.Common.{◌++◌, sym, ◌∙◌, ap₂, arith, eqb-true, plain-bare}
 use Rattle.ansi_search.proofs.PositionLemmas.{none_if_bad, some_if_good}
 use Rattle.ansi_search.proofs.EndLemmas.{ends_with-boundary}
 use Rattle.ansi_slice.proofs.StretchLemmas.{keeps-at}

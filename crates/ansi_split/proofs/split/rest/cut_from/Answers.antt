@@ -1,4 +1,4 @@
-use Rattle.ansi_split.proofs.Common.{rules, ◌≡◌, ◌∷◌, ◌++◌, ◌+◌, ◌-◌, Some, length, drop, refl, sym, ◌∙◌, ap, subst, arith, IsFalse, eqb-true, eqb-false, IsCharBoundary, Text, pieces_of, plain_of, plain, has_escape, pieces_left, rendition_of, first_match_from, IsCutAtMatch, gives_text, over_text, over_mark}
+use Rattle.ansi_split.proofs.Common.{rules, ◌≡◌, ◌∷◌, ◌++◌, ◌+◌, Some, length, drop, refl, sym, ◌∙◌, ap, subst, arith, IsFalse, eqb-true, eqb-false, IsCharBoundary, Text, pieces_of, plain_of, plain, has_escape, pieces_left, rendition_of, first_match_from, IsCutAtMatch, gives_text, over_text, over_mark}
 use Rattle.ansi_style.proofs.SgrLemmas.{apply-no_sgr}
 use Rattle.ansi_split.proofs.RestLemmas.{boundary-drop, no_escape-later, no_escape-text}
 use Rattle.ansi_split.proofs.MatchWalkLemmas.{walked-begin, walked-text, walked-mark, walked-cut, walked-end, walked-none, walked-empty}

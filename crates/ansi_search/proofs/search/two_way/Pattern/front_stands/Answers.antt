@@ -1,4 +1,4 @@
-use Rattle.ansi_search.proofs.Common.{◌-◌, arith, length-take-le}
+use Rattle.ansi_search.proofs.Common.{arith, length-take-le}
 use Rattle.ansi_search.proofs.SliceLemmas.{slice_range-past}
 use Rattle.ansi_search.proofs.WindowLemmas.{front-in-run}
 use Rattle.ansi_search.proofs.search.two_way.Pattern.front_stands.Goals as goal
