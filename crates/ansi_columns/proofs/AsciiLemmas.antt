@@ -31,7 +31,7 @@ use Rattle.ansi_columns.specs.declared.seams.Seam.{Seam}
 use Rattle.ansi_columns.proofs.ClusterLemmas.{cluster-begins, cluster-ends, cluster-last, clusters-none}
 use Rattle.ansi_columns.proofs.SeamLemmas.{seam-push, joins, decided}
 
-abbrev is_printable : ℕ → Bool
+abbrev pub is_printable : ℕ → Bool
 is_printable = is_in_range 0x20 0x7E
 
 below : (c : ℕ) → is_printable c ≡ true → c < 0x7F
@@ -101,7 +101,7 @@ width-one (b ∷ []) utf8 one low high =
 width-single : (c : ℕ) → is_printable c ≡ true → cluster_width (c ∷ []) ≡ 1
 width-single c printable = str_width-printable false (c ∷ []) (rw printable refl)
 
-breaks-between : (before : List ℕ) (c d : ℕ) (cs : List ℕ) → is_printable c ≡ true → is_printable d ≡ true → is_grapheme_break true (c ∷ before) (d ∷ cs) ≡ true
+pub breaks-between : (before : List ℕ) (c d : ℕ) (cs : List ℕ) → is_printable c ≡ true → is_printable d ≡ true → is_grapheme_break true (c ∷ before) (d ∷ cs) ≡ true
 breaks-between before c d cs first second =
     sym (ends-printable (seam_of (c ∷ before)) (c ∷ before) d cs (λ none. cc) refl second)
     ∙ ap (λ v. unwrap_or (break_by_pair true v Other) true) (sym (no_value c first))
@@ -119,7 +119,7 @@ columns-from before (c ∷ d ∷ cs) all =
     ∙ sum_by-cons cluster_width (c ∷ []) (clusters_after (c ∷ before) (d ∷ cs)) in
     omega (arith, split, width-single c first, columns-from (c ∷ before) (d ∷ cs) rest)
 
-are_ascii : (x : List ℕ) → list_all is_printable x ≡ true → All (λ b. b < 128) x
+pub are_ascii : (x : List ℕ) → list_all is_printable x ≡ true → All (λ b. b < 128) x
 are_ascii [] all = All-nil _
 are_ascii (b ∷ x) all = All-cons (λ b. b < 128) b x (omega (arith, below b (and_parts _ _ all).0)) (are_ascii x (and_parts _ _ all).1)
 

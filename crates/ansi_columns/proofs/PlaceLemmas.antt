@@ -7,7 +7,7 @@ use Rattle.ansi_items.specs.Bytes.{is_plain_byte}
 use Rattle.ansi_items.specs.Pieces.{Piece, Text, ArePieces, pieces_of, after_text}
 use Rattle.ansi_items.specs.Plain.{marks, up_to, plain_of, plain}
 use Rattle.ansi_items.proofs.PieceLemmas.{pieces_are, pieces_of-unique}
-use Rattle.ansi_items.proofs.JoinLemmas.{after_text_are}
+use Rattle.ansi_items.proofs.JoinLemmas.{after_text_are, pieces_of-run}
 use Rattle.ansi_search.specs.Offsets.{bytes_before, offset_of}
 use Rattle.ansi_split.proofs.AfterLemmas.{is_cut_after}
 use Rattle.ansi_search.proofs.OffsetLemmas.{bytes_before-last, bytes_before-text, after_of, after_of-last, after_of-text, pieces_of-after}
@@ -53,17 +53,6 @@ pub marks-before : (t : List ℕ) (n : ℕ) → marks (take (offset_of t n) t) �
 marks-before t n = (is_cut_after t n (offset_of t n) refl).marks_front
 
 -- A text that begins with plain bytes.
-
-pieces_of-run : (w v : List ℕ) → w ≢ [] → list_all is_plain_byte w ≡ true → pieces_of (w ++ v) ≡ after_text w (pieces_of v)
-pieces_of-run w v some all = sym (pieces_of-unique (w ++ v) (after_text w (pieces_of v)) (after_text_are w v (pieces_of v) some all (pieces_are v)))
-
-plain_of-after_text : (w : List ℕ) (ps : List Piece) → plain_of (after_text w ps) ≡ w ++ plain_of ps
-plain_of-after_text w (Text v ∷ ps) = append_assoc w v (plain_of ps)
-plain_of-after_text w ps = refl
-
-pub plain-run : (w v : List ℕ) → list_all is_plain_byte w ≡ true → plain (w ++ v) ≡ w ++ plain v
-plain-run [] v all = refl
-plain-run (b ∷ w) v all = ap plain_of (pieces_of-run (b ∷ w) v (λ e. cc) all) ∙ plain_of-after_text (b ∷ w) (pieces_of v)
 
 -- the place after these bytes
 bytes_before-after_text : (w v : List ℕ) (ps : List Piece) → ArePieces v ps → bytes_before (length w) (after_text w ps) ≡ length w + bytes_before 0 ps

@@ -14,6 +14,7 @@ use Rattle.ansi_items.specs.Plain.{plain_of, plain, plain_bytes}
 use Rattle.ansi_items.proofs.PieceLemmas.{pieces_are, pieces_of-unique}
 use Rattle.ansi_items.proofs.PlainLemmas.{no_escape, plain-bare}
 use Rattle.ansi_search.proofs.OffsetLemmas.{take-after}
+use Rattle.ansi_items.proofs.CountLemmas.{parameter_is_plain, intermediate_is_plain, body_is_plain}
 
 -- An ESC inside a sequence is the terminator of a control string.
 
@@ -60,12 +61,6 @@ pub record EndsAString (s more : List ℕ) : Type 0 where
   pub begins : s ≡ opener ∷ body
   pub opens : opens_control_string opener ≡ true
 
-parameter_is_plain : (b : ℕ) → is_parameter_byte b ≡ true → is_plain_byte b ≡ true
-parameter_is_plain b is = grind (arith, nat_tests)
-
-intermediate_is_plain : (b : ℕ) → is_intermediate_byte b ≡ true → is_plain_byte b ≡ true
-intermediate_is_plain b is = grind (arith, nat_tests)
-
 final_is_plain : (b : ℕ) → is_final_byte b ≡ true → is_plain_byte b ≡ true
 final_is_plain b is = grind (arith, nat_tests)
 
@@ -74,13 +69,6 @@ escape_final_is_plain b is = grind (arith, nat_tests)
 
 opener_is_plain : (o : ℕ) → opens_control_string o ≡ true → is_plain_byte o ≡ true
 opener_is_plain o is = grind (arith, nat_tests)
-
-body_is_plain : (o b : ℕ) → is_body_byte o b ≡ true → is_plain_byte b ≡ true
-body_is_plain o b is = by_test (b == escape) _ is
-  where
-    by_test : (x y : Bool) → not (x || y) ≡ true → not x ≡ true
-    by_test true y h = h
-    by_test false y h = refl
 
 plain-append : (x y : List ℕ) → list_all is_plain_byte x ≡ true → list_all is_plain_byte y ≡ true → list_all is_plain_byte (x ++ y) ≡ true
 plain-append x y px py = list_all-append is_plain_byte x y ∙ and_from _ _ px py

@@ -25,7 +25,7 @@ use Rattle.ansi_columns.specs.Seams.{seam_of}
 use Rattle.ansi_columns.specs.Shown.{fitting_end, has_tail, truncated_end, truncated, missing, before_text, blanks, padded}
 use Rattle.ansi_columns.specs.Walks.{clusters_after}
 use Rattle.ansi_columns.specs.declared.seams.Seam.{Seam}
-use Rattle.ansi_columns.proofs.AsciiLemmas.{columns-printable, ends-printable, seam-printable}
+use Rattle.ansi_columns.proofs.AsciiLemmas.{columns-printable, ends-printable, seam-printable, is_printable, breaks-between, are_ascii}
 use Rattle.ansi_columns.proofs.ClusterLemmas.{cluster-begins, cluster-ends, cluster-last, clusters-none}
 use Rattle.ansi_columns.proofs.ClusterLawLemmas.{fits-within, spells}
 use Rattle.ansi_columns.proofs.LineLawLemmas.{boundary_between}
@@ -102,14 +102,6 @@ module _ (t : List ℕ) (width : ℕ) (tail : List ℕ) (utf8 : IsUtf8 t) (tail_
 
 -- ---- how wide printable ASCII is
 
-abbrev is_printable : ℕ → Bool
-is_printable = is_in_range 0x20 0x7E
-
-breaks-between : (before : List ℕ) (c d : ℕ) (cs : List ℕ) → is_printable c ≡ true → is_printable d ≡ true → is_grapheme_break true (c ∷ before) (d ∷ cs) ≡ true
-breaks-between before c d cs first second =
-    sym (ends-printable (seam_of (c ∷ before)) (c ∷ before) d cs (λ none. cc) refl second)
-    ∙ ap (λ (s : Seam). unwrap_or (break_by_pair true s.last Other) true) (sym (seam-printable c before first))
-
 clusters-printable : (before cs : List ℕ) → list_all is_printable cs ≡ true → clusters_after before cs ≡ map (λ c. c ∷ []) cs
 clusters-printable before [] all = clusters-none before
 clusters-printable before (c ∷ []) all = cluster-begins before c [] ∙ cluster-last (c ∷ []) (c ∷ before) (λ none. cc)
@@ -120,10 +112,6 @@ clusters-printable before (c ∷ d ∷ cs) all =
 
 is_ascii : (c : ℕ) → is_printable c ≡ true → c < 128
 is_ascii c printable = grind (arith, nat_tests)
-
-are_ascii : (x : List ℕ) → list_all is_printable x ≡ true → All (λ b. b < 128) x
-are_ascii [] all = All-nil _
-are_ascii (b ∷ x) all = All-cons (λ b. b < 128) b x (is_ascii b (and_parts _ _ all).0) (are_ascii x (and_parts _ _ all).1)
 
 fitting-one : (width c : ℕ) (ks : List (List ℕ)) → is_printable c ≡ true → fitting_end (suc width) ((c ∷ []) ∷ ks) ≡ suc (fitting_end width ks)
 fitting-one width c ks printable =

@@ -17,7 +17,8 @@ use Rattle.ansi_search.proofs.OffsetLemmas.{plain-after}
 use Rattle.ansi_columns.specs.declared.walks.Walk.{Walk}
 use Rattle.ansi_columns.specs.Seams.{seam_of}
 use Rattle.ansi_columns.specs.Walks.{before, after, cluster, IsRun, IsWalk, IsNext}
-use Rattle.ansi_columns.proofs.PlaceLemmas.{offset_of-add, offset_of-run, offset_of-plain, plain-before, plain-run}
+use Rattle.ansi_columns.proofs.PlaceLemmas.{offset_of-add, offset_of-run, offset_of-plain, plain-before}
+use Rattle.ansi_items.proofs.JoinLemmas.{plain-run}
 
 pub before-start : (t : List ℕ) → before t 0 ≡ []
 before-start t = ap reverse chars-nil

@@ -30,7 +30,7 @@ use Rattle.ansi_search.proofs.OffsetLemmas.{plain-after, bytes_before-text}
 use Rattle.ansi_slice.proofs.StretchLemmas.{kept-front, kept-stretch, kept-none}
 use Rattle.ansi_search.proofs.PositionLemmas.{is_good_position-past, is_good_position-drop, good_is_boundary}
 use Rattle.ansi_split.specs.Spans.{further_on, IsCutAfter}
-use Rattle.ansi_split.proofs.AfterLemmas.{is_cut_after}
+use Rattle.ansi_split.proofs.AfterLemmas.{is_cut_after, further_on-further_on}
 use Rattle.ansi_split.proofs.RestLemmas.{boundary-drop}
 use Rattle.ansi_split.proofs.SplitLemmas.{escape_is_marked}
 use Rattle.ansi_columns.specs.declared.walks.Walk.{Walk}
@@ -43,6 +43,8 @@ use Rattle.ansi_columns.proofs.ColumnLemmas.{clusters_from-start}
 use Rattle.ansi_columns.proofs.LineLemmas.{line-any, line-last}
 use Rattle.ansi_columns.proofs.PlaceLemmas.{offset_of-add}
 use Rattle.ansi_columns.proofs.ShownLemmas.{length-link_end}
+use Rattle.ansi_split.proofs.SpanLemmas.{show-after}
+use Rattle.ansi_split.proofs.PartLengthLemmas.{length-close_if_any}
 
 -- A line by what it is made of.
 
@@ -65,17 +67,6 @@ made_of-alike {same} {same'} {n} {n'} {shown} {shown'} {last_link} {last_link'} 
 
 -- Marks that stand further on.
 
-show-after : (x : List ℕ) (m a b : ℕ) (ms : List Mark) → m ≤ length x → show x (m + a) (m + b) (further_on m ms) ≡ show (drop m x) a b ms
-show-after x m a b ms inside =
-    let w = take m x in
-    let size : length w ≡ m = length-take-le m x inside in
-    let from : m + a - length w ≡ a = omega (arith, size) in
-    let to : m + b - length w ≡ b = omega (arith, size) in
-    ap₂ (λ u n. show u (m + a) (m + b) (further_on n ms)) (sym (take-append-drop m x)) (sym size)
-    ∙ show-text w (drop m x) (m + a) (m + b) ms
-    ∙ ap (λ u. u ++ show (drop m x) (m + a - length w) (m + b - length w) ms) (slice_range-from_past w (m + a) (m + b) (omega (arith, size)))
-    ∙ ap₂ (λ i j. show (drop m x) i j ms) from to
-
 past-further : (e n : ℕ) (ms : List Mark) → n ≤ e → past (Some e) (further_on n ms) ≡ further_on n (past (Some (e - n)) ms)
 past-further e n [] within = refl
 past-further e n (m ∷ ms) within =
@@ -86,10 +77,6 @@ past-further e n (m ∷ ms) within =
     either : (b : Bool) → (if b then (record m { place = n + m.place }) ∷ further_on n (past (Some (e - n)) ms) else further_on n (past (Some (e - n)) ms)) ≡ further_on n (if b then m ∷ past (Some (e - n)) ms else past (Some (e - n)) ms)
     either true = refl
     either false = refl
-
-further_on-further_on : (a b : ℕ) (ms : List Mark) → further_on a (further_on b ms) ≡ further_on (a + b) ms
-further_on-further_on a b [] = refl
-further_on-further_on a b (m ∷ ms) = ap₂ (λ n ks. record m { place = n } ∷ ks) (omega arith) (further_on-further_on a b ms)
 
 link-further : (link : List ℕ) (n : ℕ) (ms : List Mark) → link_after_all link (further_on n ms) ≡ link_after_all link ms
 link-further link n ms = ap (fold link_after link) (bytes-further n ms)
@@ -397,9 +384,6 @@ line-ordered {t = t} {a = a} {e = e} span stands =
     omega (arith, span.end_stands.offset, ap (offset_of t) all, offset_of-add t a (e - a), stands.offset)
 
 -- A line is its share of the text, a start, a close and the end of a link, or nothing.
-
-length-close_if_any : (s : Rendition) → length (close_if_any s) ≤ longest_close
-length-close_if_any s = cond_both (has_any s) (close s) [] (λ w. length w ≤ longest_close) (λ any. length-close s) (λ none. omega arith)
 
 length-line_over : (style : Rendition) (link x : List ℕ) (own : List Mark) (i : ℕ × ℕ) → IsStyle style
     → length (line_over style link x own i).bytes ≤ (line_over style link x own i).share + longest_start_and_close + longest_link_end

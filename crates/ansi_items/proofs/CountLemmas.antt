@@ -45,13 +45,13 @@ runs_on p q (x ∷ xs) f =
     (λ yes. subst P (sym (one-add (prefix_len p xs))) (omega (arith, runs_on p q xs f, cond-true (q x) (1 + prefix_len q xs) 0 (f x yes))))
     (λ no. omega arith)
 
-parameter_is_plain : (b : ℕ) → is_parameter_byte b ≡ true → is_plain_byte b ≡ true
+pub parameter_is_plain : (b : ℕ) → is_parameter_byte b ≡ true → is_plain_byte b ≡ true
 parameter_is_plain b h = grind (arith, nat_tests)
 
-intermediate_is_plain : (b : ℕ) → is_intermediate_byte b ≡ true → is_plain_byte b ≡ true
+pub intermediate_is_plain : (b : ℕ) → is_intermediate_byte b ≡ true → is_plain_byte b ≡ true
 intermediate_is_plain b h = grind (arith, nat_tests)
 
-body_is_plain : (o b : ℕ) → is_body_byte o b ≡ true → is_plain_byte b ≡ true
+pub body_is_plain : (o b : ℕ) → is_body_byte o b ≡ true → is_plain_byte b ≡ true
 body_is_plain o b h = grind (arith, nat_tests)
 
 pub intermediates_within : (bs : List ℕ) → prefix_len is_intermediate_byte bs ≤ before_escape bs

@@ -1,6 +1,7 @@
 -- Pieces that may stand anywhere: the text that they spell has these pieces, with texts that touch joined.
-use Rattle.ansi_items.proofs.Common.{◌≡◌, ◌≢◌, ℕ, true, List, [], ◌∷◌, ◌++◌, refl, sym, ◌∙◌, ap, ap₂, append_assoc, IsTrue, flat_map, slice_index, and_from, list_all-append, flat_map-append, list_all, AllByRecursion, is_plain_byte, IsSequence, Piece, spelling, Text, Sequence, LoneEscape, ArePieces, after_text, merged, pieces_of, are_whole, is_whole}
+use Rattle.ansi_items.proofs.Common.{◌≡◌, ◌≢◌, ℕ, true, List, [], ◌∷◌, ◌++◌, refl, sym, ◌∙◌, ap, ap₂, append_assoc, IsTrue, flat_map, slice_index, and_from, list_all-append, flat_map-append, list_all, AllByRecursion, is_plain_byte, IsSequence, Piece, spelling, Text, Sequence, LoneEscape, ArePieces, after_text, merged, pieces_of, are_whole, is_whole, take, drop, take-append-drop, false, plain_of, plain, has_escape}
 use Rattle.ansi_items.proofs.PieceLemmas.{sequence_front, pieces_of-unique, pieces_are}
+use Rattle.ansi_items.proofs.PlainLemmas.{all_plain_bytes}
 
 -- the bytes that pieces spell
 abbrev pub spelled : List Piece → List ℕ
@@ -75,6 +76,23 @@ stand_where_whole t (LoneEscape ∷ ps) are whole = absurd (cc whole)
 
 pub pieces_stand : (t : List ℕ) → IsTrue (is_whole t) → AllStandAnywhere (pieces_of t)
 pieces_stand t whole = stand_where_whole t (pieces_of t) (pieces_are t) whole
+
+-- A run at the front joins the text after it.
+
+pub pieces_of-run : (w rest : List ℕ) → w ≢ [] → list_all is_plain_byte w ≡ true → pieces_of (w ++ rest) ≡ after_text w (pieces_of rest)
+pieces_of-run w rest filled all = sym (pieces_of-unique (w ++ rest) (after_text w (pieces_of rest)) (after_text_are w rest (pieces_of rest) filled all (pieces_are rest)))
+
+plain_of-after_text : (w : List ℕ) (ps : List Piece) → plain_of (after_text w ps) ≡ w ++ plain_of ps
+plain_of-after_text w (Text v ∷ ps) = append_assoc w v (plain_of ps)
+plain_of-after_text w ps = refl
+
+pub plain-run : (w rest : List ℕ) → list_all is_plain_byte w ≡ true → plain (w ++ rest) ≡ w ++ plain rest
+plain-run [] rest all = refl
+plain-run (b ∷ w) rest all = ap plain_of (pieces_of-run (b ∷ w) rest (λ e. cc) all) ∙ plain_of-after_text (b ∷ w) (pieces_of rest)
+
+pub plain-front : (t w : List ℕ) (run : ℕ) → w ≡ take run t → has_escape (take run t) ≡ false → plain t ≡ w ++ plain (drop run t)
+plain-front t w run is none =
+    ap plain (sym (ap (λ u. u ++ drop run t) is ∙ take-append-drop run t)) ∙ plain-run w (drop run t) (all_plain_bytes w (ap has_escape is ∙ none))
 
 -- Two whole texts in a row.
 

@@ -3,22 +3,7 @@ use Rattle.ansi_search.proofs.Common.{◌≡◌, ◌≢◌, ℕ, ◌+◌, ◌-�
 use Rattle.ansi_search.proofs.EndLemmas.{starts_with-across}
 use Rattle.ansi_search.proofs.MatchLemmas.{no_escape-found}
 use Rattle.ansi_search.proofs.SliceLemmas.{drop-append}
-
--- A run at the front of a text.
-
-pieces_of-run : (w rest : List ℕ) → w ≢ [] → IsFalse (has_escape w) → pieces_of (w ++ rest) ≡ after_text w (pieces_of rest)
-pieces_of-run w rest filled none = sym (pieces_of-unique (w ++ rest) (after_text w (pieces_of rest)) (after_text_are w rest (pieces_of rest) filled (all_plain_bytes w none) (pieces_are rest)))
-
-plain_of-after_text : (w : List ℕ) (ps : List Piece) → plain_of (after_text w ps) ≡ w ++ plain_of ps
-plain_of-after_text w (Text v ∷ ps) = append_assoc w v (plain_of ps)
-plain_of-after_text w ps = refl
-
-plain-run : (t w rest : List ℕ) → t ≡ w ++ rest → IsFalse (has_escape w) → plain t ≡ w ++ plain rest
-plain-run t [] rest spelled none = ap plain spelled
-plain-run t (b ∷ w) rest spelled none = ap plain spelled ∙ ap plain_of (pieces_of-run (b ∷ w) rest (λ e. cc) none) ∙ plain_of-after_text (b ∷ w) (pieces_of rest)
-
-pub plain-front : (t w : List ℕ) (run : ℕ) → w ≡ take run t → IsFalse (has_escape (take run t)) → plain t ≡ w ++ plain (drop run t)
-plain-front t w run is none = plain-run t w (drop run t) (sym (ap (λ u. u ++ drop run t) is ∙ take-append-drop run t)) (ap has_escape is ∙ none)
+use Rattle.ansi_items.proofs.JoinLemmas.{plain-front}
 
 -- no ESC stands in the first bytes
 pub front-bare : (t w : List ℕ) (n most : ℕ) → w ≡ take n t → n ≡ min most (length t) → IsFalse (has_escape w) → take most (plain t) ≡ take most (w ++ plain [])

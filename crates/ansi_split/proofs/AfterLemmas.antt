@@ -74,7 +74,7 @@ past-all : (e n : ℕ) (ms : List Mark) → e < n → past (Some e) (further_on 
 past-all e n [] below = refl
 past-all e n (m ∷ ms) below = grind (arith, lt-ltb, past-all e n ms below)
 
-further_on-further_on : (a b : ℕ) (ms : List Mark) → further_on a (further_on b ms) ≡ further_on (a + b) ms
+pub further_on-further_on : (a b : ℕ) (ms : List Mark) → further_on a (further_on b ms) ≡ further_on (a + b) ms
 further_on-further_on a b [] = refl
 further_on-further_on a b (m ∷ ms) = ap₂ (λ n ks. record m { place = n } ∷ ks) (omega arith) (further_on-further_on a b ms)
 

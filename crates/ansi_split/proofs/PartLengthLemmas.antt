@@ -28,7 +28,7 @@ length-shown_taken (p ∷ ps) test a b =
     subst (λ ms. length (spelled (piece_when (test 0) p ++ shown)) ≤ length taken + length (joined (at_places test ms))) (sym (marks_of-mark p ps refl))
     (length-mark p (test 0) shown (at_places test (marks_of ps)) (length taken) (length-shown_taken ps test a b))
 
-length-close_if_any : (s : Rendition) → length (close_if_any s) ≤ longest_close
+pub length-close_if_any : (s : Rendition) → length (close_if_any s) ≤ longest_close
 length-close_if_any s = cond_both (has_any s) (close s) [] (λ w. length w ≤ longest_close) (λ any. length-close s) (λ none. omega arith)
 
 -- a part is its share of the text, a start and a close, or nothing

@@ -4,15 +4,9 @@ use Rattle.std.specs.Prelude.{◌==◌}
 use Rattle.std.specs.List.{slice_range}
 use Rattle.ansi_split.proofs.AfterLemmas.{drop-take, is_cut_after}
 use Rattle.ansi_split.proofs.SpanLemmas.{is_cut_at_match, match_is_good}
+use Rattle.ansi_items.proofs.JoinLemmas.{pieces_of-run, plain-front}
 
 -- A run at the front joins the text after it.
-
-pieces_of-run : (w rest : List ℕ) → w ≢ [] → IsFalse (has_escape w) → pieces_of (w ++ rest) ≡ after_text w (pieces_of rest)
-pieces_of-run w rest filled none = sym (pieces_of-unique (w ++ rest) (after_text w (pieces_of rest)) (after_text_are w rest (pieces_of rest) filled (all_plain_bytes w none) (pieces_are rest)))
-
-plain_of-after_text : (w : List ℕ) (ps : List Piece) → plain_of (after_text w ps) ≡ w ++ plain_of ps
-plain_of-after_text w (Text v ∷ ps) = append_assoc w v (plain_of ps)
-plain_of-after_text w ps = refl
 
 bytes_before-after_text : (e : ℕ) (w : List ℕ) (ps : List Piece) → e < length w → bytes_before e (after_text w ps) ≡ e
 bytes_before-after_text e w (Text v ∷ ps) inside = bytes_before-last e (w ++ v) ps (omega (arith, length-append w v))
@@ -48,13 +42,6 @@ pub start_again : (x p : List ℕ) (from m : ℕ) → first_match_from x p from 
 start_again x p from m found = first_again x p from m found ∙ sym found
 
 -- A match that begins in the run, which is a front of x.
-
-plain-run : (t w rest : List ℕ) → t ≡ w ++ rest → IsFalse (has_escape w) → plain t ≡ w ++ plain rest
-plain-run t [] rest spelled none = ap plain spelled
-plain-run t (b ∷ w) rest spelled none = ap plain spelled ∙ ap plain_of (pieces_of-run (b ∷ w) rest (λ e. cc) none) ∙ plain_of-after_text (b ∷ w) (pieces_of rest)
-
-plain-front : (t w : List ℕ) (run : ℕ) → w ≡ take run t → IsFalse (has_escape (take run t)) → plain t ≡ w ++ plain (drop run t)
-plain-front t w run is none = plain-run t w (drop run t) (sym (ap (λ u. u ++ drop run t) is ∙ take-append-drop run t)) (ap has_escape is ∙ none)
 
 -- a search of the run alone finds it
 pub start_in_run : (t w p : List ℕ) (run from start : ℕ) → w ≡ take run t → IsFalse (has_escape (take run t)) → IsFirst (IsMatch w p) from (length w) (Some start) → first_match_from (plain t) p from ≡ Some start
@@ -127,7 +114,7 @@ cut_in_run t p from run start utf8 utf8_p inside none before found =
     let rest = drop run t in
     let size : length w ≡ run = length-take-le run t inside in
     let pieces : pieces_of t ≡ after_text w (pieces_of rest)
-    = ap pieces_of (sym (take-append-drop run t)) ∙ pieces_of-run w rest (filled w start (omega (arith, size, before))) none in
+    = ap pieces_of (sym (take-append-drop run t)) ∙ pieces_of-run w rest (filled w start (omega (arith, size, before))) (all_plain_bytes w none) in
     is_cut_at_match t p from start (take start t) (drop start t) utf8 utf8_p found
     (is_cut_after t start start (sym (ap (bytes_before start) pieces ∙ bytes_before-after_text start w (pieces_of rest) (omega (arith, size, before)))))
 

@@ -57,7 +57,7 @@ part-front c t skip m front after inside cut = grind (arith, length-take-le, mad
 
 -- The parts after m, by the text after the cut.
 
-show-after : (x : List ℕ) (m a b : ℕ) (ms : List Mark) → m ≤ length x → show x (m + a) (m + b) (further_on m ms) ≡ show (drop m x) a b ms
+pub show-after : (x : List ℕ) (m a b : ℕ) (ms : List Mark) → m ≤ length x → show x (m + a) (m + b) (further_on m ms) ≡ show (drop m x) a b ms
 show-after x m a b ms inside =
     let w = take m x in
     let size : length w ≡ m = length-take-le m x inside in

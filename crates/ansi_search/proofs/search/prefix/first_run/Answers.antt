@@ -1,6 +1,7 @@
 use Rattle.ansi_search.proofs.Common.{◌<◌, ◌++◌, length, take, sym, ◌∙◌, ap, arith, IsFalse, length-take-le, plain, has_escape}
 use Rattle.ansi_search.proofs.MatchLemmas.{no_escape-found}
-use Rattle.ansi_search.proofs.PrefixLemmas.{plain-front, front-bare, bare_before}
+use Rattle.ansi_items.proofs.JoinLemmas.{plain-front}
+use Rattle.ansi_search.proofs.PrefixLemmas.{front-bare, bare_before}
 use Rattle.ansi_search.proofs.search.prefix.first_run.Goals as goal
 
 pub returns-in-Some-clause-front : goal.returns-in-Some-clause-front
