@@ -1,5 +1,5 @@
 -- The last run of a text: what stands before the mark that it follows.
-use Rattle.std.proofs.Common.{◌≡◌, ◌≢◌, ℕ, zero, suc, ◌+◌, ◌-◌, ◌<◌, ◌≤◌, ◌⊎◌, inl, inr, Bool, true, false, ◌||◌, ◌==◌, not, List, [], ◌∷◌, ◌++◌, length, take, drop, refl, sym, ◌∙◌, ap, ap₂, subst, arith, length-append, append_assoc, IsTrue, slice_index}
+use Rattle.std.proofs.Common.{◌≡◌, ◌≢◌, ℕ, zero, suc, ◌+◌, ◌-◌, ◌<◌, ◌≤◌, ◌⊎◌, inl, inr, Bool, true, List, [], ◌∷◌, ◌++◌, length, take, drop, refl, sym, ◌∙◌, ap, ap₂, subst, arith, length-append, append_assoc, IsTrue, slice_index}
 use Rattle.std.specs.Str.{byte}
 use Rattle.std.specs.List.{list_all}
 use Rattle.std.proofs.lemmas.Bool.{cases_lt, and_parts, and_from}
@@ -7,7 +7,7 @@ use Rattle.std.proofs.lemmas.Bool.Decides.{nat_tests}
 use Rattle.std.proofs.lemmas.List.Folds.{list_all-append}
 use Rattle.std.proofs.lemmas.Grind.{flat_map-append}
 use Rattle.std.proofs.lemmas.List.{take-append-le, take-append-drop, drop_at, drop-drop}
-use Rattle.ansi_items.specs.Bytes.{escape, bell, is_plain_byte, is_parameter_byte, is_intermediate_byte, is_final_byte, is_escape_final_byte, opens_control_string, opens_command, is_body_byte}
+use Rattle.ansi_items.specs.Bytes.{escape, bell, is_plain_byte, is_final_byte, is_escape_final_byte, opens_control_string, opens_command}
 use Rattle.ansi_items.specs.Sequences.{IsSequence}
 use Rattle.ansi_items.specs.Pieces.{Piece, Text, Sequence, LoneEscape, spelling, StandsBefore, ArePieces, pieces_of}
 use Rattle.ansi_items.specs.Plain.{plain_of, plain, plain_bytes}

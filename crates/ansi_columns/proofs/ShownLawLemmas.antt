@@ -1,19 +1,15 @@
 -- How wide a text is that is cut or filled up.
-use Rattle.std.proofs.Common.{◌≡◌, ℕ, suc, zero, ◌+◌, ◌-◌, ◌<◌, ◌≤◌, min, max, Bool, true, false, not, inl, inr, List, [], ◌∷◌, ◌++◌, length, map, flat_map, take, drop, take-append-drop, nat_le, unwrap_or, encode_utf8_all, if◌then◌else◌, IsTrue, refl, sym, ◌∙◌, ap, ap₂, subst, arith, append-nil, length-append, length-take-le, take_all, leb-true, leb-false}
-use Rattle.std.specs.Int.{is_in_range}
-use Rattle.std.specs.List.{All, list_all}
+use Rattle.std.proofs.Common.{◌≡◌, ℕ, suc, zero, ◌+◌, ◌-◌, ◌<◌, ◌≤◌, min, max, Bool, true, false, not, inl, inr, List, [], ◌∷◌, ◌++◌, length, map, flat_map, take, drop, take-append-drop, nat_le, encode_utf8_all, if◌then◌else◌, IsTrue, refl, sym, ◌∙◌, ap, ap₂, subst, arith, append-nil, length-append, length-take-le, take_all, leb-true, leb-false}
+use Rattle.std.specs.List.{list_all}
 use Rattle.std.specs.Str.{byte, chars, IsUtf8, IsCharBoundary}
 use Rattle.std.proofs.lemmas.Bool.{cases_lt, and_parts, and_from, not-true, le-leb, lt-leb}
 use Rattle.std.proofs.lemmas.Bool.Decides.{nat_tests}
 use Rattle.std.proofs.lemmas.List.{length-replicate}
 use Rattle.std.proofs.lemmas.List.Sums.{sum_by-cons}
-use Rattle.std.proofs.lemmas.List.Elements.{All-nil, All-cons}
 use Rattle.std.proofs.lemmas.List.Folds.{list_all-append}
 use Rattle.std.proofs.lemmas.Grind.{flat_map-append}
 use Rattle.std.proofs.lemmas.Str.{chars-nil, chars-IsAscii, encode_ascii, encodes-chars, IsUtf8-nil, IsUtf8-take, IsUtf8-append, IsUtf8-from_ascii}
 use Rattle.std.proofs.lemmas.Str.Ascii.{IsAscii-from_all}
-use Rattle.ucd_breaks.specs.declared.GraphemeClusterBreak.TheVariants.{Other}
-use Rattle.unicode_segmentation.specs.Grapheme.{break_by_pair, is_grapheme_break}
 use Rattle.unicode_width.proofs.Rules.{str_width-printable}
 use Rattle.ansi_items.specs.Plain.{plain, is_whole}
 use Rattle.ansi_items.proofs.Utf8Lemmas.{IsUtf8-plain}
@@ -21,11 +17,9 @@ use Rattle.ansi_search.proofs.SliceLemmas.{list_all-parts, take-append}
 use Rattle.ansi_columns.specs.declared.shown.Alignment.{Alignment}
 use Rattle.ansi_columns.specs.declared.shown.Alignment.TheVariants.{Left, Right, Center}
 use Rattle.ansi_columns.specs.Columns.{clusters, cluster_width, columns_of, columns, bytes_of, FitsUpTo, IsClusterBoundary}
-use Rattle.ansi_columns.specs.Seams.{seam_of}
 use Rattle.ansi_columns.specs.Shown.{fitting_end, has_tail, truncated_end, truncated, missing, before_text, blanks, padded}
 use Rattle.ansi_columns.specs.Walks.{clusters_after}
-use Rattle.ansi_columns.specs.declared.seams.Seam.{Seam}
-use Rattle.ansi_columns.proofs.AsciiLemmas.{columns-printable, ends-printable, seam-printable, is_printable, breaks-between, are_ascii}
+use Rattle.ansi_columns.proofs.AsciiLemmas.{columns-printable, is_printable, breaks-between, are_ascii}
 use Rattle.ansi_columns.proofs.ClusterLemmas.{cluster-begins, cluster-ends, cluster-last, clusters-none}
 use Rattle.ansi_columns.proofs.ClusterLawLemmas.{fits-within, spells}
 use Rattle.ansi_columns.proofs.LineLawLemmas.{boundary_between}

@@ -5,7 +5,7 @@ use Rattle.std.specs.Prelude.{fold}
 use Rattle.std.specs.Str.{IsCharBoundary}
 use Rattle.std.proofs.lemmas.Bool.{cases_lt, cond_both, and_parts, and_from, and_right, or_right, eq-eqb, eqb-true, ne_eqb, not-true}
 use Rattle.std.proofs.lemmas.Bool.Decides.{nat_tests}
-use Rattle.std.proofs.lemmas.List.{length-map, length-drop, length-take-le, take_all, drop-drop, take-append-drop, get_or-take}
+use Rattle.std.proofs.lemmas.List.{length-map, length-drop, length-take-le, take_all, drop-drop, get_or-take}
 use Rattle.std.proofs.lemmas.Str.{IsCharBoundary-end}
 use Rattle.ansi_items.specs.Pieces.{Piece, Text, pieces_of, spelling}
 use Rattle.ansi_items.specs.Plain.{Mark, plain, plain_of, marks, up_to, has_escape}
@@ -14,7 +14,7 @@ use Rattle.ansi_items.proofs.PlainLemmas.{plain-bare}
 use Rattle.ansi_style.specs.declared.state.rendition.Rendition.{Rendition}
 use Rattle.ansi_style.specs.Rendition.{IsStyle, plain_style, has_any}
 use Rattle.ansi_style.specs.Reading.{after_marks, style_after_from}
-use Rattle.ansi_style.specs.Written.{start, close, close_if_any, longest_close, longest_start_and_close}
+use Rattle.ansi_style.specs.Written.{start, close, close_if_any, longest_start_and_close}
 use Rattle.ansi_style.proofs.MarkLemmas.{up_to-further, bytes-further, after_marks-further, marks-bare}
 use Rattle.ansi_style.proofs.UnsetLemmas.{start-unset}
 use Rattle.ansi_slice.specs.Cut.{show}
@@ -23,9 +23,9 @@ use Rattle.ansi_search.specs.Offsets.{offset_of, bytes_before, StandsIn}
 use Rattle.ansi_slice.specs.Stretches.{sequences_up_to}
 use Rattle.ansi_split.specs.Parts.{past}
 use Rattle.ansi_search.specs.Positions.{is_good_position}
-use Rattle.ansi_slice.proofs.LengthLemmas.{length-start, length-close}
-use Rattle.ansi_slice.proofs.ShowLemmas.{show-text, show-bare}
-use Rattle.ansi_search.proofs.SliceLemmas.{slice_range-none, slice_range-from_past}
+use Rattle.ansi_slice.proofs.LengthLemmas.{length-start}
+use Rattle.ansi_slice.proofs.ShowLemmas.{show-bare}
+use Rattle.ansi_search.proofs.SliceLemmas.{slice_range-none}
 use Rattle.ansi_search.proofs.OffsetLemmas.{plain-after, bytes_before-text}
 use Rattle.ansi_slice.proofs.StretchLemmas.{kept-front, kept-stretch, kept-none}
 use Rattle.ansi_search.proofs.PositionLemmas.{is_good_position-past, is_good_position-drop, good_is_boundary}

@@ -1,5 +1,5 @@
 -- A pattern that a plain text goes on with from a place on, met run by run.
-use Rattle.ansi_search.proofs.Common.{◌≡◌, ◌≢◌, ℕ, ◌+◌, ◌-◌, ◌<◌, ◌≤◌, inl, inr, min, ◌&&◌, List, ◌∷◌, ◌++◌, length, take, drop, nat_eq, refl, sym, ◌∙◌, ap, arith, append_assoc, IsFalse, slice_index, and_parts, cases_lt, eqb-true, true≢false, take-append-drop, take-append-le, take_all, drop-take, drop_all, get_or-take, get_or-drop, length-drop, length-append, length-take-le, pointwise, starts_with, list_all, Nowhere, Passes, is_byte, escape, is_plain_byte, Piece, Text, after_text, pieces_of, ArePieces, plain_of, plain, has_escape, after_text_are, pieces_are, pieces_of-unique, all_plain_bytes, []}
+use Rattle.ansi_search.proofs.Common.{◌≡◌, ◌≢◌, ℕ, ◌+◌, ◌-◌, ◌<◌, ◌≤◌, inl, inr, min, ◌&&◌, List, ◌∷◌, ◌++◌, length, take, drop, nat_eq, refl, sym, ◌∙◌, ap, arith, IsFalse, slice_index, and_parts, cases_lt, eqb-true, true≢false, take-append-le, take_all, drop-take, drop_all, get_or-take, get_or-drop, length-drop, length-append, length-take-le, pointwise, starts_with, list_all, Nowhere, Passes, is_byte, escape, is_plain_byte, Piece, Text, ArePieces, plain, has_escape, []}
 use Rattle.ansi_search.proofs.EndLemmas.{starts_with-across}
 use Rattle.ansi_search.proofs.MatchLemmas.{no_escape-found}
 use Rattle.ansi_search.proofs.SliceLemmas.{drop-append}

@@ -1,5 +1,5 @@
 -- A run of plain text at the front of a text, and a match that begins in it.
-use Rattle.ansi_split.proofs.Common.{◌≡◌, ◌≢◌, ℕ, ◌+◌, ◌-◌, ◌<◌, ◌≤◌, inl, inr, false, List, [], ◌∷◌, ◌++◌, length, take, drop, Option, Some, None, refl, sym, ◌∙◌, ap, ap₂, subst, arith, IsFalse, is_some, slice_index, append_assoc, length-append, nat_eq, unwrap_or, or_parts, and_parts, cases_lt, eq-eqb, take-append-drop, take-take, drop-drop, length-take-le, length-drop, get_or-drop, get_or_append_left, list_any-append, starts_with, IsUtf8, IsCharBoundary, Nowhere, NoneBefore, IsFirst, Passes, is_byte, escape, Piece, Text, after_text, pieces_of, ArePieces, plain_of, plain, has_escape, Rendition, after_marks, style_after_from, is_char_boundary, is_good_position, first_match_from, IsCutAtMatch, pieces_are, pieces_of-unique, all_plain_bytes, no_escape, after_text_are, marks-bare, IsMatch, match_fits, first_in_front, is_match-front, first_match_from-first, first_match_from-is, starts_with-splits, bytes_before, bytes_before-last, is_good_position-append, good_is_boundary}
+use Rattle.ansi_split.proofs.Common.{◌≡◌, ◌≢◌, ℕ, ◌+◌, ◌-◌, ◌<◌, ◌≤◌, inl, inr, false, List, [], ◌∷◌, ◌++◌, length, take, drop, Option, Some, None, refl, sym, ◌∙◌, ap, ap₂, subst, arith, IsFalse, is_some, slice_index, length-append, nat_eq, unwrap_or, or_parts, and_parts, cases_lt, eq-eqb, take-append-drop, take-take, drop-drop, length-take-le, length-drop, get_or-drop, get_or_append_left, list_any-append, starts_with, IsUtf8, IsCharBoundary, Nowhere, NoneBefore, IsFirst, Passes, is_byte, escape, Piece, Text, after_text, pieces_of, ArePieces, plain, has_escape, Rendition, after_marks, style_after_from, is_char_boundary, is_good_position, first_match_from, IsCutAtMatch, pieces_are, all_plain_bytes, no_escape, marks-bare, IsMatch, match_fits, first_in_front, is_match-front, first_match_from-first, first_match_from-is, starts_with-splits, bytes_before, bytes_before-last, is_good_position-append, good_is_boundary}
 use Rattle.std.specs.Prelude.{◌==◌}
 use Rattle.std.specs.List.{slice_range}
 use Rattle.ansi_split.proofs.AfterLemmas.{drop-take, is_cut_after}
