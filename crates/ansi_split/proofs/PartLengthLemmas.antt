@@ -66,20 +66,20 @@ share_by_marks t before i =
       ap (λ ms. length (joined ms)) (past-places before i.1 (marks t)),
     )
 
-share_over_within : (t : List ℕ) (before : Option ℕ) (i : ℕ × ℕ) → (part_from plain_style t before i).share ≤ length t
+part_share_within : (t : List ℕ) (before : Option ℕ) (i : ℕ × ℕ) → (part_from plain_style t before i).share ≤ length t
 unfolding part_from
-share_over_within t before i =
+part_share_within t before i =
     omega (arith, ap length (spelled-own_pieces t before i), length-shown_pieces (pieces_of t) (own_places before i.1) i.0 i.1, ap length (spelled-pieces_of t))
 
 pub share_within : (t p : List ℕ) (k : ℕ) → share t p k ≤ length t
-share_within t p k = grind (arith, share_over_within)
+share_within t p k = grind (arith, part_share_within)
 
 pub length-part_over : (t : List ℕ) (before : Option ℕ) (i : ℕ × ℕ)
     → length (part_over t before i) ≤ length (slice_range (plain t) i.0 i.1) + length (joined (past before (up_to i.1 (marks t)))) + longest_start_and_close
 length-part_over t before i = omega (arith, length-dressed_part t before i, share_by_marks t before i)
 
 pub length-part : (t p : List ℕ) (k : ℕ) (u : List ℕ) → part t p k ≡ Some u → length u ≤ length t + longest_start_and_close
-length-part t p k u found = grind (arith, length-dressed_part, share_over_within)
+length-part t p k u found = grind (arith, length-dressed_part, part_share_within)
 
 -- All parts: their shares have no byte of the text twice.
 
