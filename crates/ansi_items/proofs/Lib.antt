@@ -2,8 +2,9 @@ mod Common
 pub mod SequenceLemmas
 pub mod PieceLemmas
 pub mod FrontLemmas
+pub mod EscapeLemmas
 pub mod ScanLemmas
-pub mod CountLemmas
+pub mod BetweenLemmas
 pub mod PlainLemmas
 pub mod Utf8Lemmas
 pub mod StepLemmas

@@ -1,5 +1,8 @@
 -- One step of a scanner.
-use Rattle.ansi_items.proofs.Common.{◌≡◌, ◌≢◌, ℕ, ◌+◌, ◌-◌, ◌<◌, ◌≤◌, inl, inr, true, false, List, [], ◌∷◌, ◌++◌, length, take, drop, slice_index, refl, sym, ◌∙◌, ap, ap₂, subst, arith, eqb, if◌then◌else◌, eqb-false, nat_tests, get_or_at, length-append, length-drop, length-take-le, append_assoc, drop-drop, take_rest, IsCharBoundary-after_ascii, IsCharBoundary-before_ascii, IsCharBoundary-end, IsCharBoundary-from_rest, IsUtf8-drop, slice_range, IsUtf8, IsCharBoundary, byte, Sgr, Other, Item, Front, escape, bell, is_final_byte, is_escape_final_byte, IsSequence, is_sgr, Piece, Text, Sequence, LoneEscape, spelling, StandsBefore, first_piece, pieces_of, kind_of, piece_of, piece_of_kind, front_at}
+use Rattle.ansi_items.proofs.Common.{◌≡◌, ◌≢◌, ℕ, ◌+◌, ◌-◌, ◌<◌, ◌≤◌, inl, inr, ⊎_elim, true, false, not, ◌==◌, List, [], ◌∷◌, ◌++◌, length, take, drop, slice_index, refl, sym, ◌∙◌, ap, ap₂, subst, arith, if◌then◌else◌, cond-true, cond-false, not-true, eqb-true, cases_Bool, cases_lt, append-nil, drop_more, get_or_at, get_or_past, get_or-drop, length-append, length-drop, length-take-le, append_assoc, take-append-drop, drop-drop, take_rest, prefix_len_passes, prefix_len-le-length, prefix_len-drop_yes, nat_tests, IsCharBoundary-after_ascii, IsCharBoundary-before_ascii, IsCharBoundary-end, IsCharBoundary-from_rest, IsUtf8-drop, slice_range, IsUtf8, IsCharBoundary, byte, Sgr, Other, Item, Front, escape, bell, is_plain_byte, is_final_byte, is_escape_final_byte, IsSequence, is_sgr, Piece, Text, Sequence, LoneEscape, spelling, StandsBefore, first_piece, pieces_of, kind_of, piece_of, piece_of_kind, Gives, front_of, front_at, EndsBy, before_escape}
+use Rattle.ansi_items.specs.declared.ansitok.Kind.TheVariants.{Text as TextKind}
+use Rattle.ansi_items.proofs.SequenceLemmas.{all-run, prefix_len-run}
+use Rattle.ansi_items.proofs.EscapeLemmas.{at_next}
 use Rattle.ansi_items.proofs.PieceLemmas.{first_piece_splits, pieces_are, pieces_of-unique}
 use Rattle.ansi_items.proofs.FrontLemmas.{front_is_first}
 
@@ -61,16 +64,16 @@ ascii_end t w rest utf8 split e =
     let last : slice_index t (length e.front) ≡ e.last = ap (λ v. slice_index v (length e.front)) whole ∙ get_or_at e.front e.last rest 0 (length e.front) refl in
     subst (IsCharBoundary t) len (IsCharBoundary-after_ascii t (length e.front) utf8 inside (omega (arith, last, e.ascii)))
 
-before_escape : (t w rest : List ℕ) → t ≡ w ++ rest → (rest ≢ [] → slice_index rest 0 ≡ escape) → IsCharBoundary t (length w)
-before_escape t w [] split h = subst (IsCharBoundary t) (ap length split ∙ length-append w [] ∙ omega arith) (IsCharBoundary-end t)
-before_escape t w (b ∷ rest) split h =
+boundary_before_escape : (t w rest : List ℕ) → t ≡ w ++ rest → (rest ≢ [] → slice_index rest 0 ≡ escape) → IsCharBoundary t (length w)
+boundary_before_escape t w [] split h = subst (IsCharBoundary t) (ap length split ∙ length-append w [] ∙ omega arith) (IsCharBoundary-end t)
+boundary_before_escape t w (b ∷ rest) split h =
     let some : (b ∷ rest) ≢ [] = λ e. cc in
     let inside : length w < length t = omega (arith, ap length split, length-append w (b ∷ rest)) in
     let here : slice_index t (length w) ≡ b = ap (λ v. slice_index v (length w)) split ∙ get_or_at w b rest 0 (length w) refl in
     IsCharBoundary-before_ascii t (length w) inside (omega (arith, here, h some))
 
 pub piece_ends : (t : List ℕ) (p : Piece) (rest : List ℕ) → IsUtf8 t → t ≡ spelling p ++ rest → StandsBefore p rest → IsCharBoundary t (length (spelling p))
-piece_ends t (Text w) rest utf8 split stands = before_escape t w rest split stands.2
+piece_ends t (Text w) rest utf8 split stands = boundary_before_escape t w rest split stands.2
 piece_ends t (Sequence w) rest utf8 split stands = ascii_end t w rest utf8 split (sequence_ends w stands)
 piece_ends t LoneEscape rest utf8 split stands = ascii_end t (escape ∷ []) rest utf8 split (record { front = []; last = escape; spelled = refl; ascii = omega arith })
 
@@ -115,10 +118,73 @@ step_at : (t : List ℕ) (offset : ℕ) → IsUtf8 t → IsCharBoundary t offset
 step_at t offset utf8 here [] is some = absurd (omega arith)
 step_at t offset utf8 here (b ∷ bs) is some = step_over t offset b bs utf8 here is
 
--- the same, by what `next` reads: the bytes from the place on
-pub scan_step : (t bytes : List ℕ) (offset : ℕ) (f : Front) → bytes ≡ t → IsUtf8 bytes → IsCharBoundary t offset →
-    eqb (length (take (length bytes - offset) (drop offset bytes))) 0 ≡ false → f ≡ front_at (take (length bytes - offset) (drop offset bytes)) → IsStep t offset f
-scan_step t bytes offset f same utf8 here more e =
-    let rest : take (length bytes - offset) (drop offset bytes) ≡ drop offset t = take_rest bytes offset ∙ ap (drop offset) same in
-    let some : length (drop offset t) ≢ 0 = subst (λ (v : List ℕ). length v ≢ 0) rest (eqb-false _ 0 more) in
-    subst (IsStep t offset) (sym (e ∙ ap front_at rest)) (step_at t offset (subst IsUtf8 same utf8) here (drop offset t) refl (omega (arith, some)))
+-- the same, by the front that the code read
+front_step : (t : List ℕ) (offset : ℕ) (f : Front) → IsUtf8 t → IsCharBoundary t offset → offset < length t → f ≡ front_at (drop offset t) → IsStep t offset f
+front_step t offset f utf8 here inside e = subst (IsStep t offset) (sym e) (step_at t offset utf8 here (drop offset t) refl (omega (arith, length-drop offset t)))
+
+-- up to the next ESC
+pub text_step : (t : List ℕ) (offset place : ℕ) → IsUtf8 t → IsCharBoundary t offset → place ≡ offset + before_escape (drop offset t) → offset < place
+    → IsStep t offset (front_of TextKind (place - offset))
+unfolding front_at
+text_step t offset place utf8 here is some =
+    let u = drop offset t in
+    let plain : is_plain_byte (slice_index u 0) ≡ true = prefix_len_passes is_plain_byte u 0 0 (omega arith) in
+    let len : place - offset ≡ before_escape u = omega arith in
+    front_step t offset (front_of TextKind (place - offset)) utf8 here (omega (arith, prefix_len-le-length is_plain_byte u, length-drop offset t))
+    (ap (front_of TextKind) len ∙ sym (cond-false _ _ _ (not-true _ plain)))
+
+-- Between an ESC at a place and the next one.
+module _ (t : List ℕ) (offset place : ℕ) (next : place ≡ offset + 1 + before_escape (drop (offset + 1) t)) where
+  abbrev pub between : List ℕ
+  between = take (place - (offset + 1)) (drop (offset + 1) t)
+
+  abbrev pub after : List ℕ
+  after = take (length t - place) (drop place t)
+
+  place_within : offset < length t → place ≤ length t
+  place_within inside = omega (arith, prefix_len-le-length is_plain_byte (drop (offset + 1) t), length-drop (offset + 1) t)
+
+  pub between_is_plain : before_escape between ≡ length between
+  between_is_plain =
+      let u = drop (offset + 1) t in
+      let len : place - (offset + 1) ≡ before_escape u = omega arith in
+      let run = take (before_escape u) u in
+      ap (λ n. before_escape (take n u)) len ∙ ap before_escape (sym (append-nil run)) ∙ prefix_len-run is_plain_byte run [] (all-run is_plain_byte u) tt ∙ ap (λ n. length (take n u)) (sym len)
+
+  pub after_is_next : before_escape after ≡ 0
+  after_is_next = ap before_escape (take_rest t place) ∙ at_next t (offset + 1) place next
+
+  spelled : offset < length t → before_escape (drop offset t) ≡ 0 → drop offset t ≡ escape ∷ (between ++ after)
+  spelled inside here =
+      let u = drop (offset + 1) t in
+      let first : slice_index t offset ≡ escape = stops (drop_more t offset 0 inside) in
+      let rest : drop (place - (offset + 1)) u ≡ after = drop-drop (place - (offset + 1)) (offset + 1) t ∙ ap (λ k. drop k t) (omega arith) ∙ sym (take_rest t place) in
+      drop_more t offset 0 inside ∙ ap₂ (λ b v. b ∷ v) first (sym (take-append-drop (place - (offset + 1)) u) ∙ ap (λ v. between ++ v) rest)
+    where
+      stops : drop offset t ≡ slice_index t offset ∷ drop (offset + 1) t → slice_index t offset ≡ escape
+      stops split = ⊎_elim
+          (λ is. eqb-true _ _ is)
+          (λ other. absurd (let more : before_escape (slice_index t offset ∷ drop (offset + 1) t) ≡ 1 + before_escape (drop (offset + 1) t) = cond-true _ _ _ (ap not other) in omega (arith, here, more, ap before_escape split)))
+          (cases_Bool (slice_index t offset == escape))
+
+  pub mark_step : (f : Front) → offset < length t → before_escape (drop offset t) ≡ 0 → IsUtf8 t → IsCharBoundary t offset → f ≡ front_at (escape ∷ (between ++ after)) → IsStep t offset f
+  mark_step f inside here utf8 at e = front_step t offset f utf8 at inside (e ∙ ap front_at (sym (spelled inside here)))
+
+  -- a control string may end with that ESC and a `\`, which is no ESC
+  pub next_after_end : (f : Front) (later : ℕ) → offset < length t → EndsBy (length between + 1) after f → place < offset + f.len → later ≡ place + 1 + before_escape (drop (place + 1) t)
+      → later ≡ offset + f.len + before_escape (drop (offset + f.len) t)
+  next_after_end f later inside end past is =
+      let size : length between ≡ place - (offset + 1) = length-take-le (place - (offset + 1)) (drop (offset + 1) t) (omega (arith, length-drop (offset + 1) t, place_within inside)) in
+      let ends = end (omega (arith, size)) in
+      let slash : slice_index t (place + 1) ≡ byte "\\" = sym (ap (λ v. slice_index v 1) (take_rest t place) ∙ get_or-drop place t 1 0) ∙ ends.1 in
+      let inside_too : place + 1 < length t = ⊎_elim (λ below. below) (λ over. absurd (omega (arith, slash, get_or_past t (place + 1) 0 over))) (cases_lt (place + 1) (length t)) in
+      let run : before_escape (drop (place + 1) t) ≡ 1 + before_escape (drop (place + 1 + 1) t) = prefix_len-drop_yes is_plain_byte t (place + 1) 0 inside_too (ap is_plain_byte slash) in
+      let same : place + 1 + 1 ≡ offset + f.len = omega (arith, ends.0, size) in
+      omega (arith, is, run, same, ap (λ k. before_escape (drop k t)) same)
+
+-- What a scanner gives by a step.
+pub step_gives : (t : List ℕ) (offset place : ℕ) (f : Front) → IsCharBoundary t offset → IsStep t offset f → place ≡ offset + f.len
+    → Gives (record { text = t; offset = offset }) (record { kind = f.kind; start = offset; end = place }) (record { text = t; offset = place })
+step_gives t offset place f here step e =
+    subst (λ p. Gives (record { text = t; offset = offset }) (record { kind = f.kind; start = offset; end = p }) (record { text = t; offset = p })) (sym e)
+    (record { text = refl; start = refl; end = refl; forward = omega (arith, step.positive); piece = step.piece; kind = step.kind; bytes = step.bytes; start_boundary = here; end_boundary = step.boundary })

@@ -1,7 +1,8 @@
 //! The items of a text: texts, whole sequences and lone escapes.
 pub(crate) mod grammar;
 
-use grammar::Looks;
+use grammar::{ESC, Looks};
+use memchr::{Memchr, memchr_iter};
 use std::marker::Model;
 
 /// A color, as SGR codes write it. (ECMA-48, section 8.3.117, and the codes 90 to 97 and 100 to 107,
@@ -75,18 +76,22 @@ pub struct Item {
 pub struct Scanner<'a> {
     text: &'a str,
     offset: usize,
+    /// Where the next ESC is, at the offset or after it, or the text's length.
+    escape: usize,
+    /// The ESCs after that one.
+    escapes: Memchr<'a>,
     reads: u128,
 }
 
 impl<'a> Model for Scanner<'a> {
     ghost use Rattle.ansi_items.specs.Scans.{Scan};
-    ghost use Rattle.ansi_items.specs.Counts.{IsCounted};
+    ghost use Rattle.ansi_items.specs.Counts.{IsScanning};
 
     ghost Value = { Scan };
 
     ghost view = { λ s. record { text = s.text.now; offset = s.offset } };
 
-    ghost invariant = { λ s. IsCounted s.text.now s.offset s.reads };
+    ghost invariant = { λ s. IsScanning s.text.now s.offset s.escape s.escapes s.reads };
 }
 
 impl<'a> Scanner<'a> {
@@ -105,10 +110,16 @@ impl<'a> Scanner<'a> {
         // What it has left are the pieces of the text, and no others.
         ensures pieces { (ps : List Piece) → ArePieces text.entry.now ps ↔ (ps ≡ pieces_left result) }
     {
+        let bytes = text.as_bytes();
+        let mut looks = Looks { count: 0 };
+        let mut escapes = memchr_iter(ESC, bytes);
+        let escape = looks.next_escape(&mut escapes, bytes, 0);
         Scanner {
             text,
             offset: 0,
-            reads: 0,
+            escape,
+            escapes,
+            reads: looks.count,
         }
     }
 
@@ -125,8 +136,9 @@ impl<'a> Scanner<'a> {
     /// assert!(rt; 2 <= items.reads() && items.reads() <= 8);
     /// ```
     pub fn reads(&self) -> u128
-        // At every moment there are at most four looks for each byte of the text.
+        // At every moment there are at most four looks for each byte of the text, and even three.
         ensures at_most { result ≤ 4 * length self.now.text }
+        ensures at_most_three { result ≤ 3 * length self.now.text }
 
         // Each byte of the items so far was looked at: where nothing is left, each byte of the text.
         ensures at_least { self.now.offset ≤ result }
@@ -148,14 +160,25 @@ impl<'a> Iterator for Scanner<'a> {
     /// The next item, or `None` at the end of the text, then and ever after.
     #[inline(always)]
     fn next(&mut self) -> Option<Item> {
-        let rest = &self.text.as_bytes()[self.offset..];
-        if rest.is_empty() {
+        let bytes = self.text.as_bytes();
+        let start = self.offset;
+        if start < self.escape {
+            self.offset = self.escape;
+            return Some(Item {
+                kind: Kind::Text,
+                start,
+                end: self.escape,
+            });
+        }
+        if start == bytes.len() {
             return None;
         }
+        // An ESC is here. What it begins goes up to the next one, or ends with that one and a `\`.
         let mut looks = Looks { count: 0 };
-        let front = looks.first_front(rest);
-        let start = self.offset;
+        let escape = looks.next_escape(&mut self.escapes, bytes, start + 1);
+        let front = looks.mark(&bytes[start + 1..escape], &bytes[escape..]);
         self.offset += front.len;
+        self.escape = looks.escape_after(&mut self.escapes, bytes, escape, self.offset);
         self.reads += looks.count;
         Some(Item {
             kind: front.kind,

@@ -1,14 +1,14 @@
-//! What stands at the front of a text, by ECMA-48 and ECMA-35 in this profile, and how many looks at
-//! its bytes that takes.
+//! What an ESC begins, by ECMA-48 and ECMA-35 in this profile, and how many looks at the bytes of a
+//! text that takes.
 //!
-//! An attempt at a sequence is given up at the first byte that can't belong to it, an ESC above
-//! all, so that a text is looked at no more than four times for each of its bytes.
+//! One search over the text finds each ESC once. An attempt at a sequence never passes the next ESC, so
+//! a scan looks at no byte more than three times on average.
 ghost use Rattle.std.specs.Prelude.{◌≡◌, ◌≤◌, length, take};
 ghost use Rattle.std.specs.List.{prefix_len};
-ghost use Rattle.ansi_items.specs.Bytes.{is_parameter_byte, is_plain_byte};
+ghost use Rattle.ansi_items.specs.Bytes.{is_parameter_byte};
 
 use crate::ansitok::Kind;
-use memchr::{memchr, memchr2};
+use memchr::{Memchr, memchr};
 use std::simd::prelude::*;
 
 /// The byte that begins every sequence.
@@ -31,62 +31,60 @@ pub(crate) struct Looks {
 }
 
 impl Looks {
-    ghost use Rattle.std.specs.Prelude.{◌≡◌, ◌+◌, ◌*◌, ◌^◌, ◌<◌, ◌≤◌, length, drop, slice_index, min, IfSome, IfNone, if◌then◌else◌, IsTrue};
+    ghost use Rattle.std.specs.Prelude.{◌≡◌, ◌+◌, ◌*◌, ◌^◌, ◌<◌, ◌≤◌, ◌∷◌, ◌++◌, length, take, drop, slice_index, min, IfSome, IfNone, if◌then◌else◌, IsTrue};
     ghost use Rattle.std.specs.List.{prefix_len};
-    ghost use Rattle.ansi_items.specs.Bytes.{is_parameter_byte, is_intermediate_byte, is_body_byte, is_plain_byte};
+    ghost use Rattle.ansi_items.specs.Bytes.{escape, bell, is_parameter_byte, is_intermediate_byte};
     ghost use Rattle.ansi_items.specs.Sequences.{are_private};
     ghost use Rattle.ansi_items.specs.declared.ansitok.Kind.TheVariants.{Sgr, Other};
-    ghost use Rattle.ansi_items.specs.Fronts.{control_at, string_at, escape_at, sequence_at, front_at};
-    ghost use Rattle.ansi_items.specs.Counts.{before_escape, CostsSequence, CostsFound, CostsFront};
+    ghost use Rattle.ansi_items.specs.Fronts.{control_at, escape_at, string_at, sequence_at, front_at, EndsBy};
+    ghost use Rattle.ansi_items.specs.Counts.{before_escape, before_bell, escapes_from};
 
-    /// The item that the bytes begin with.
+    /// The mark that an ESC begins: a whole sequence, or the lone escape. `between` is what is between
+    /// that ESC and the next one, and `after` is the text from the next one on.
     #[inline(always)]
-    #[tactic(auto, unfolding(crate::specs::Fronts::front_at))]
-    pub(crate) fn first_front(&mut self, bytes: &[u8]) -> Front
-        requires some { 0 < length bytes.now }
-        requires room { self.old.count + 2 * length bytes.now + 5 < 2 ^ 128 }
-        ensures front { result ≡ front_at bytes.now }
-        ensures cost { CostsFront self.old.count bytes.now result.len self.new.count }
+    pub(crate) fn mark(&mut self, between: &[u8], after: &[u8]) -> Front
+        requires between { before_escape between.now ≡ length between.now }
+        requires after { before_escape after.now ≡ 0 }
+        requires room { self.old.count + 2 * length between.now + 2 < 2 ^ 128 }
+        ensures front { result ≡ front_at (escape ∷ (between.now ++ after.now)) }
+        ensures end { EndsBy (length between.now + 1) after.now result }
+        ensures more { self.old.count ≤ self.new.count }
+        ensures few { self.new.count ≤ self.old.count + 2 * length between.now + 2 }
     {
-        match self.byte(bytes, 0) {
-            Some(ESC) => self.sequence(bytes).unwrap_or(Front {
-                kind: Kind::Lone,
-                len: 1,
-            }),
-            _ => Front {
-                kind: Kind::Text,
-                len: self.text_len(bytes),
-            },
-        }
+        self.sequence(between, after).unwrap_or(Front {
+            kind: Kind::Lone,
+            len: 1,
+        })
     }
 
-    /// The whole sequence that the bytes, the first of them ESC, begin with.
+    /// The whole sequence that an ESC begins, if it begins one.
     #[inline(always)]
-    #[tactic(auto, using(crate::proofs::CountLemmas::short_none), unfolding(crate::specs::Fronts::sequence_at))]
-    fn sequence(&mut self, bytes: &[u8]) -> Option<Front>
-        requires some { 0 < length bytes.now }
-        requires room { self.old.count + 2 * length bytes.now + 4 < 2 ^ 128 }
-        ensures front { result ≡ sequence_at bytes.now }
-        ensures cost { CostsFound self.old.count (drop 1 bytes.now) result self.new.count }
+    fn sequence(&mut self, between: &[u8], after: &[u8]) -> Option<Front>
+        requires between { before_escape between.now ≡ length between.now }
+        requires after { before_escape after.now ≡ 0 }
+        requires room { self.old.count + 2 * length between.now + 2 < 2 ^ 128 }
+        ensures front { result ≡ sequence_at (escape ∷ (between.now ++ after.now)) }
+        ensures end { IfSome result (λ f. EndsBy (length between.now + 1) after.now f) }
+        ensures more { self.old.count ≤ self.new.count }
+        ensures few { self.new.count ≤ self.old.count + 2 * length between.now + 2 }
     {
-        match self.byte(bytes, 1)? {
-            b'[' => self.control_sequence(&bytes[2..]),
-            opener @ (b'P' | b'X' | b']' | b'^' | b'_') => {
-                let rest = &bytes[2..];
-                let body = self.body_len(opener, rest);
-                self.control_string(rest, body)
-            }
-            _ => self.escape_sequence(&bytes[1..]),
+        match self.byte(between, 0)? {
+            b'[' => self.control_sequence(&between[1..]),
+            b']' => self.command(&between[1..], after),
+            b'P' | b'X' | b'^' | b'_' => self.control_string(&between[1..], after),
+            _ => self.escape_sequence(between),
         }
     }
 
     /// The control sequence of which the bytes follow ESC `[`.
     #[inline(always)]
-    #[tactic(auto, using(crate::proofs::CountLemmas::parameters_within), unfolding(crate::specs::Fronts::control_at))]
+    #[tactic(auto, unfolding(crate::specs::Fronts::control_at))]
     fn control_sequence(&mut self, bytes: &[u8]) -> Option<Front>
-        requires { self.old.count + 2 * length bytes.now + 3 < 2 ^ 128 }
+        requires room { self.old.count + 2 * length bytes.now + 1 < 2 ^ 128 }
         ensures front { result ≡ control_at bytes.now }
-        ensures cost { CostsSequence self.old.count bytes.now 2 3 result self.new.count }
+        ensures end { IfSome result (λ f. f.len ≤ length bytes.now + 2) }
+        ensures more { self.old.count ≤ self.new.count }
+        ensures few { self.new.count ≤ self.old.count + 2 * length bytes.now + 1 }
     {
         let parameters = self.parameters_len(bytes);
         match self.byte(bytes, parameters)? {
@@ -103,19 +101,19 @@ impl Looks {
         }
     }
 
-    /// The control sequence of which the bytes follow ESC `[`, so many of them its parameter bytes, and
-    /// after these an intermediate byte.
+    /// The control sequence of which the bytes follow ESC `[`, if it has this many parameter bytes and
+    /// then an intermediate byte.
     #[inline(always)]
     #[tactic(auto, unfolding(crate::specs::Fronts::control_at))]
     fn sequence_with_intermediates(&mut self, bytes: &[u8], parameters: usize) -> Option<Front>
         requires parameters { parameters ≡ prefix_len is_parameter_byte bytes.now }
         requires inside { parameters < length bytes.now }
         requires intermediate { IsTrue (is_intermediate_byte (slice_index bytes.now parameters)) }
-        requires room { self.old.count + length bytes.now + 1 < 2 ^ 128 }
+        requires room { self.old.count + length bytes.now < 2 ^ 128 }
         ensures front { result ≡ control_at bytes.now }
-        ensures found { IfSome result (λ f. self.new.count + parameters + 2 ≡ self.old.count + f.len) }
+        ensures end { IfSome result (λ f. f.len ≤ length bytes.now + 2) }
         ensures more { self.old.count ≤ self.new.count }
-        ensures few { IfNone result (self.new.count + parameters ≤ self.old.count + before_escape bytes.now + 1) }
+        ensures few { self.new.count + parameters ≤ self.old.count + length bytes.now }
     {
         let intermediates = 1 + self.intermediates_len(&bytes[parameters + 1..]);
         match self.byte(bytes, parameters + intermediates)? {
@@ -127,40 +125,55 @@ impl Looks {
         }
     }
 
-    /// The control string of which the bytes follow ESC and its opener, `body` of them its body.
+    /// The operating system command of which the bytes follow ESC `]`, up to the next ESC.
     #[inline(always)]
-    #[tactic(auto, unfolding(crate::specs::Fronts::string_at))]
-    fn control_string(&mut self, bytes: &[u8], body: usize) -> Option<Front>
-        requires inside { body ≤ length bytes.now }
-        requires room { self.old.count + 3 < 2 ^ 128 }
-        ensures front { result ≡ string_at bytes.now body }
-        ensures found { IfSome result (λ f. self.new.count + body + 2 ≡ self.old.count + f.len) }
+    fn command(&mut self, bytes: &[u8], after: &[u8]) -> Option<Front>
+        requires between { before_escape bytes.now ≡ length bytes.now }
+        requires after { before_escape after.now ≡ 0 }
+        requires room { self.old.count + length bytes.now + 2 < 2 ^ 128 }
+        ensures front { result ≡ string_at (bytes.now ++ after.now) (before_bell bytes.now) }
+        ensures end { IfSome result (λ f. EndsBy (length bytes.now + 2) after.now f) }
         ensures more { self.old.count ≤ self.new.count }
-        ensures few { self.new.count ≤ self.old.count + 2 }
+        ensures few { self.new.count ≤ self.old.count + length bytes.now + 1 }
     {
-        match self.byte(bytes, body)? {
-            BEL => Some(Front {
+        let body = self.body_len(bytes);
+        if body < bytes.len() {
+            return Some(Front {
                 kind: Kind::Other,
                 len: body + 3,
+            });
+        }
+        self.control_string(bytes, after)
+    }
+
+    /// The control string whose body these bytes are, if the next ESC ends it.
+    #[inline(always)]
+    fn control_string(&mut self, body: &[u8], after: &[u8]) -> Option<Front>
+        requires after { before_escape after.now ≡ 0 }
+        requires room { self.old.count + 1 < 2 ^ 128 }
+        ensures front { result ≡ string_at (body.now ++ after.now) (length body.now) }
+        ensures end { IfSome result (λ f. EndsBy (length body.now + 2) after.now f) }
+        ensures more { self.old.count ≤ self.new.count }
+        ensures few { self.new.count ≤ self.old.count + 1 }
+    {
+        match self.byte(after, 1)? {
+            b'\\' => Some(Front {
+                kind: Kind::Other,
+                len: body.len() + 4,
             }),
-            ESC => match self.byte(bytes, body + 1)? {
-                b'\\' => Some(Front {
-                    kind: Kind::Other,
-                    len: body + 4,
-                }),
-                _ => None,
-            },
             _ => None,
         }
     }
 
     /// The escape sequence of which the bytes follow ESC.
     #[inline(always)]
-    #[tactic(auto, using(crate::proofs::CountLemmas::intermediates_within), unfolding(crate::specs::Fronts::escape_at))]
+    #[tactic(auto, unfolding(crate::specs::Fronts::escape_at))]
     fn escape_sequence(&mut self, bytes: &[u8]) -> Option<Front>
-        requires { self.old.count + length bytes.now + 3 < 2 ^ 128 }
+        requires room { self.old.count + length bytes.now + 1 < 2 ^ 128 }
         ensures front { result ≡ escape_at bytes.now }
-        ensures cost { CostsSequence self.old.count bytes.now 1 2 result self.new.count }
+        ensures end { IfSome result (λ f. f.len ≤ length bytes.now + 1) }
+        ensures more { self.old.count ≤ self.new.count }
+        ensures few { self.new.count ≤ self.old.count + length bytes.now + 1 }
     {
         let intermediates = self.intermediates_len(bytes);
         match self.byte(bytes, intermediates)? {
@@ -173,6 +186,47 @@ impl Looks {
     }
 
     // All looks at the text are made below, and counted.
+
+    /// The place of the next ESC, from `from` on, or the length of the text if there is none.
+    #[inline(always)]
+    pub(crate) fn next_escape(&mut self, escapes: &mut Memchr, text: &[u8], from: usize) -> usize
+        requires escapes { escapes.old ≡ escapes_from text.now from }
+        requires inside { from ≤ length text.now }
+        requires room { self.old.count + length text.now < 2 ^ 128 }
+        ensures place { result ≡ from + before_escape (drop from text.now) }
+        ensures bound { result ≤ length text.now }
+        ensures escapes { escapes.new ≡ escapes_from text.now (result + 1) }
+        ensures looks { self.new.count + from ≡ self.old.count + min (result + 1) (length text.now) }
+    {
+        let escape = escapes.next().unwrap_or(text.len());
+        self.passed(&text[from..], escape - from);
+        escape
+    }
+
+    /// The same from the end of an item on, where `escape` was the next ESC: that one, or the one after it if
+    /// the item has it.
+    #[inline(always)]
+    pub(crate) fn escape_after(
+        &mut self,
+        escapes: &mut Memchr,
+        text: &[u8],
+        escape: usize,
+        end: usize,
+    ) -> usize
+        requires escapes { escapes.old ≡ escapes_from text.now (escape + 1) }
+        requires inside { escape < end → escape < length text.now }
+        requires room { self.old.count + length text.now < 2 ^ 128 }
+        ensures same { end ≤ escape → (result ≡ escape) × (self.new.count ≡ self.old.count) }
+        ensures next { escape < end → (result ≡ escape + 1 + before_escape (drop (escape + 1) text.now))
+            × (self.new.count + (escape + 1) ≡ self.old.count + min (result + 1) (length text.now)) }
+        ensures bound { escape ≤ length text.now → result ≤ length text.now }
+        ensures escapes { escapes.new ≡ escapes_from text.now (result + 1) }
+    {
+        if end <= escape {
+            return escape;
+        }
+        self.next_escape(escapes, text, escape + 1)
+    }
 
     /// The byte at this place.
     #[inline(always)]
@@ -187,7 +241,7 @@ impl Looks {
     }
 
     /// The kind of a control sequence of which the bytes follow ESC `[`: parameter bytes and then `m`. It
-    /// is an SGR where they aren't for private use, as the first of them tells.
+    /// is an SGR if they aren't for private use, as the first of them tells.
     #[inline(always)]
     fn kind_before_m(&mut self, bytes: &[u8]) -> Kind
         requires { self.old.count + 1 < 2 ^ 128 }
@@ -200,7 +254,7 @@ impl Looks {
         }
     }
 
-    /// How many parameter bytes stand at the front.
+    /// How many parameter bytes are at the front. The first 16 bytes are looked at together.
     #[inline(always)]
     fn parameters_len(&mut self, bytes: &[u8]) -> usize
         requires { self.old.count + length bytes.now < 2 ^ 128 }
@@ -208,12 +262,53 @@ impl Looks {
         ensures bound { result ≤ length bytes.now }
         ensures looks { self.new.count ≡ self.old.count + min (result + 1) (length bytes.now) }
     {
-        let len = parameter_run_len(bytes);
+        if bytes.len() < 16 {
+            return self.parameters_len_by_byte(bytes);
+        }
+        let first = self.parameters_len_of_16(bytes);
+        if first < 16 {
+            return first;
+        }
+        16 + self.parameters_len_by_byte(&bytes[16..])
+    }
+
+    /// How many of the first 16 bytes are parameter bytes before any other.
+    #[inline(always)]
+    fn parameters_len_of_16(&mut self, bytes: &[u8]) -> usize
+        requires long { 16 ≤ length bytes.now }
+        requires room { self.old.count + 16 < 2 ^ 128 }
+        ensures len { result ≡ prefix_len is_parameter_byte (take 16 bytes.now) }
+        ensures looks { self.new.count ≡ self.old.count + min (result + 1) 16 }
+    {
+        let others = (u8x16::from_slice(bytes) - u8x16::splat(0x30))
+            .simd_ge(u8x16::splat(0x10))
+            .to_bitmask();
+        let len = if others == 0 {
+            16
+        } else {
+            others.trailing_zeros() as usize
+        };
+        self.passed(&bytes[..16], len);
+        len
+    }
+
+    /// The same of all bytes, one by one.
+    #[inline(always)]
+    fn parameters_len_by_byte(&mut self, bytes: &[u8]) -> usize
+        requires { self.old.count + length bytes.now < 2 ^ 128 }
+        ensures len { result ≡ prefix_len is_parameter_byte bytes.now }
+        ensures bound { result ≤ length bytes.now }
+        ensures looks { self.new.count ≡ self.old.count + min (result + 1) (length bytes.now) }
+    {
+        let len = bytes
+            .iter()
+            .take_while(|b| matches!(**b, 0x30..=0x3F))
+            .count();
         self.passed(bytes, len);
         len
     }
 
-    /// How many intermediate bytes stand at the front.
+    /// How many intermediate bytes are at the front.
     #[inline(always)]
     fn intermediates_len(&mut self, bytes: &[u8]) -> usize
         requires { self.old.count + length bytes.now < 2 ^ 128 }
@@ -229,42 +324,22 @@ impl Looks {
         len
     }
 
-    /// How many bytes of a control string's body stand at the front: those before the next ESC, or
-    /// before the next BEL in an operating system command.
+    /// How many bytes are before the first BEL, if there is no ESC.
     #[inline(always)]
-    #[tactic(auto, using(crate::proofs::CountLemmas::body_found, crate::proofs::CountLemmas::body_within))]
-    fn body_len(&mut self, opener: u8, bytes: &[u8]) -> usize
-        requires { self.old.count + length bytes.now < 2 ^ 128 }
-        ensures len { result ≡ prefix_len (is_body_byte opener) bytes.now }
-        ensures within { result ≤ before_escape bytes.now }
+    fn body_len(&mut self, bytes: &[u8]) -> usize
+        requires between { before_escape bytes.now ≡ length bytes.now }
+        requires room { self.old.count + length bytes.now < 2 ^ 128 }
+        ensures len { result ≡ before_bell bytes.now }
         ensures bound { result ≤ length bytes.now }
         ensures looks { self.new.count ≡ self.old.count + min (result + 1) (length bytes.now) }
     {
-        let is_command = opener == b']';
-        if is_command {
-            let len = memchr2(ESC, BEL, bytes).unwrap_or(bytes.len());
-            self.passed(bytes, len);
-            len
-        } else {
-            self.text_len(bytes)
-        }
-    }
-
-    /// How many bytes stand before the next ESC.
-    #[inline(always)]
-    fn text_len(&mut self, bytes: &[u8]) -> usize
-        requires { self.old.count + length bytes.now < 2 ^ 128 }
-        ensures len { result ≡ prefix_len is_plain_byte bytes.now }
-        ensures bound { result ≤ length bytes.now }
-        ensures looks { self.new.count ≡ self.old.count + min (result + 1) (length bytes.now) }
-    {
-        let len = run_len(bytes);
+        let len = memchr(BEL, bytes).unwrap_or(bytes.len());
         self.passed(bytes, len);
         len
     }
 
-    /// Counts a search that passed over so many of the bytes: a look at each, and one at the byte
-    /// that stopped it, where one did.
+    /// Counts a search that passed over the first `len` bytes: a look at each, and one at the byte that
+    /// stopped it, if one did.
     #[inline(always)]
     fn passed(&mut self, bytes: &[u8], len: usize)
         requires inside { len ≤ length bytes.now }
@@ -275,86 +350,5 @@ impl Looks {
         if len < bytes.len() {
             self.count += 1;
         }
-    }
-}
-
-/// How many bytes stand before the next ESC. The first 16, where most runs end, are looked at together, and so are the
-/// last 16 of fewer than 32, which `memchr` would look at one by one.
-#[inline(always)]
-fn run_len(bytes: &[u8]) -> usize
-    ensures len { result ≡ prefix_len is_plain_byte bytes.now }
-    ensures bound { result ≤ length bytes.now }
-{
-    if bytes.len() < 16 {
-        return bytes.iter().take_while(|b| **b != ESC).count();
-    }
-    let front = front_len(bytes);
-    if front < 16 {
-        return front;
-    }
-    if bytes.len() < 32 {
-        let last = bytes.len() - 16;
-        return last + front_len(&bytes[last..]);
-    }
-    16 + rest_len(&bytes[16..])
-}
-
-/// How many bytes stand before the next ESC.
-#[inline(always)]
-#[tactic(auto, using(crate::proofs::CountLemmas::text_found))]
-fn rest_len(bytes: &[u8]) -> usize
-    ensures len { result ≡ prefix_len is_plain_byte bytes.now }
-    ensures bound { result ≤ length bytes.now }
-{
-    memchr(ESC, bytes).unwrap_or(bytes.len())
-}
-
-/// How many of the first 16 bytes stand before the next ESC.
-#[inline(always)]
-fn front_len(bytes: &[u8]) -> usize
-    requires { 16 ≤ length bytes.now }
-    ensures { result ≡ prefix_len is_plain_byte (take 16 bytes.now) }
-{
-    let escapes = u8x16::from_slice(bytes)
-        .simd_eq(u8x16::splat(ESC))
-        .to_bitmask();
-    if escapes == 0 {
-        16
-    } else {
-        escapes.trailing_zeros() as usize
-    }
-}
-
-/// How many parameter bytes stand at the front. The first 16 bytes are looked at together.
-#[inline(always)]
-fn parameter_run_len(bytes: &[u8]) -> usize
-    ensures len { result ≡ prefix_len is_parameter_byte bytes.now }
-    ensures bound { result ≤ length bytes.now }
-{
-    if 16 <= bytes.len() {
-        let front = parameter_front_len(bytes);
-        if front < 16 {
-            return front;
-        }
-    }
-    bytes
-        .iter()
-        .take_while(|b| matches!(**b, 0x30..=0x3F))
-        .count()
-}
-
-/// How many of the first 16 bytes are parameter bytes before any other.
-#[inline(always)]
-fn parameter_front_len(bytes: &[u8]) -> usize
-    requires { 16 ≤ length bytes.now }
-    ensures { result ≡ prefix_len is_parameter_byte (take 16 bytes.now) }
-{
-    let others = (u8x16::from_slice(bytes) - u8x16::splat(0x30))
-        .simd_ge(u8x16::splat(0x10))
-        .to_bitmask();
-    if others == 0 {
-        16
-    } else {
-        others.trailing_zeros() as usize
     }
 }

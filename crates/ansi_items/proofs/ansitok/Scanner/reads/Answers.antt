@@ -1,10 +1,13 @@
-use Rattle.std.proofs.Common.{rules}
-use Rattle.ansi_items.proofs.CountLemmas.{counted_bound}
+use Rattle.ansi_items.proofs.Common.{arith}
+use Rattle.ansi_items.proofs.EscapeLemmas.{scanning_bound}
 use Rattle.ansi_items.proofs.ansitok.Scanner.reads.Goals as goal
 
 pub returns-clause-at_most : goal.returns-clause-at_most
-returns-clause-at_most c = rw (← c.self.view_is) (counted_bound c.self.inside.text.now c.self.inside.offset c.self.inside.reads c.self.invariant)
+returns-clause-at_most c = rw (← c.self.view_is) (omega (arith, scanning_bound _ _ _ _ _ c.self.invariant))
 
--- each byte of the items so far was looked at
+pub returns-clause-at_most_three : goal.returns-clause-at_most_three
+returns-clause-at_most_three c = rw (← c.self.view_is) (omega (arith, scanning_bound _ _ _ _ _ c.self.invariant))
+
+-- the search passed over each byte of the items so far
 pub returns-clause-at_least : goal.returns-clause-at_least
-returns-clause-at_least c = search rules
+returns-clause-at_least c = rw (← c.self.view_is) (omega (arith, c.self.invariant.each, c.self.invariant.next, c.self.invariant.boundary.0))

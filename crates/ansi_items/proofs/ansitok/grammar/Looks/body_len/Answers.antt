@@ -1,6 +1,6 @@
-use Rattle.std.proofs.Common.{rules}
+use Rattle.ansi_items.proofs.Common.{◌∙◌}
+use Rattle.ansi_items.proofs.BetweenLemmas.{bell_found}
 use Rattle.ansi_items.proofs.ansitok.grammar.Looks.body_len.Goals as goal
 
--- the bytes up to the end that was found are looked at
-pub returns-then-is_command-clause-looks : goal.returns-then-is_command-clause-looks
-returns-then-is_command-clause-looks c = search rules
+pub returns-clause-len : goal.returns-clause-len
+returns-clause-len c = c.unwrap_or-len.ensures ∙ bell_found c.args.bytes.now c.memchr.result c.requires.between c.memchr.ensures

@@ -4,7 +4,7 @@ use Rattle.std.proofs.lemmas.List.{length-take-le, take-append-drop}
 use Rattle.std.proofs.lemmas.List.Folds.{prefix_len-append}
 use Rattle.std.specs.List.{prefix_len}
 use Rattle.ansi_items.specs.Bytes.{is_parameter_byte}
-use Rattle.ansi_items.proofs.ansitok.grammar.parameter_run_len.Goals as goal
+use Rattle.ansi_items.proofs.ansitok.grammar.Looks.parameters_len.Goals as goal
 
 -- a run that ends in the front of a list
 ends_in_front : (p : ℕ → Bool) (n : ℕ) (xs : List ℕ) → n ≤ length xs → prefix_len p (take n xs) < n → prefix_len p (take n xs) ≡ prefix_len p xs
@@ -13,7 +13,7 @@ ends_in_front p n xs room short =
     sym (ap (prefix_len p) (sym (take-append-drop n xs)) ∙ prefix_len-append p front (drop n xs)
     ∙ ap (λ b. cond b (length front + prefix_len p (drop n xs)) (prefix_len p front)) (ne_eqb _ _ (λ (e : prefix_len p front ≡ length front). omega (arith, e, length-take-le n xs room))))
 
-pub returns-then-front-lt16-clause-len : goal.returns-then-front-lt16-clause-len
-returns-then-front-lt16-clause-len c =
-    let front = c.parameter_front_len-front.ensures in
-    front ∙ ends_in_front is_parameter_byte 16 c.args.bytes.now (omega arith) (omega (arith, front))
+pub returns-then-first-lt16-clause-len : goal.returns-then-first-lt16-clause-len
+returns-then-first-lt16-clause-len c =
+    let first = c.parameters_len_of_16-first.ensures.len in
+    first ∙ ends_in_front is_parameter_byte 16 c.args.bytes.now (omega arith) (omega (arith, first))

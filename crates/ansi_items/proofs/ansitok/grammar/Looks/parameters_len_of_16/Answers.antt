@@ -2,12 +2,14 @@ use Rattle.std.proofs.Common.{◌≡◌, ℕ, suc, ◌+◌, ◌-◌, ◌<◌, �
 use Rattle.std.proofs.lemmas.Bool.{agree_below_at}
 use Rattle.std.proofs.lemmas.List.{length-map, length-take-le, get_or-take}
 use Rattle.std.proofs.lemmas.Simd.{zip2_splat, zip2_splat_left, map-map, mask_l-mod, leading_from_mask_l, trailing_mask_l}
+use Rattle.std.proofs.lemmas.List.Sums.{prefix_len-le-length}
 use Rattle.std.specs.List.{prefix_len}
 use Rattle.ansi_items.specs.Bytes.{is_parameter_byte}
 use lib.Count.{count_trailing_zeros}
 use lib.Lanes.{mask_l, top, zip2}
 use lib.ListN.{replicate}
-use Rattle.ansi_items.proofs.ansitok.grammar.parameter_front_len.Goals as goal
+use Rattle.ansi_items.proofs.ansitok.grammar.Looks.parameters_len_of_16.Goals as goal
+use Rattle.ansi_items.proofs.ansitok.grammar.Looks.parameters_len_of_16.Goals.{then-others-eq0, else-others-eq0}
 
 abbrev minus : ℕ → ℕ → ℕ
 minus a b = (a + (256 - b)) % 256
@@ -40,13 +42,27 @@ module _ (bytes : List ℕ) (room : 16 ≤ length bytes) (fits : (k : ℕ) → F
   same = same_run (λ x. not (is_other x)) is_parameter_byte v
       (λ k inside. agree_below_at (λ x. not (is_other x)) is_parameter_byte 256 (get_or v k 0) refl (omega (arith, (fits k).fits, get_or-take 16 bytes k 0 (omega (arith, long)))))
 
-pub returns-then-others-eq0 : goal.returns-then-others-eq0
-returns-then-others-eq0 c =
-    let b = c.args.bytes.now in
-    sym (long b c.requires c.type_inv.bytes) ∙ sym (leading_from_mask_l is_other (take 16 b) (sym (mask b c.requires c.type_inv.bytes) ∙ c.if-others-eq0.true)) ∙ same b c.requires c.type_inv.bytes
+  none : mask_l (map (top 7) (zip2 at_most (replicate 16 16) (zip2 minus v (replicate 16 48)))) % 2 ^ 64 ≡ 0 → 16 ≡ prefix_len is_parameter_byte v
+  none zero = sym long ∙ sym (leading_from_mask_l is_other v (sym mask ∙ zero)) ∙ same
 
-pub returns-else-others-eq0 : goal.returns-else-others-eq0
-returns-else-others-eq0 c =
+  some : (mask_l (map (top 7) (zip2 at_most (replicate 16 16) (zip2 minus v (replicate 16 48)))) % 2 ^ 64 ≡ 0 → ⊥)
+      → count_trailing_zeros 64 (mask_l (map (top 7) (zip2 at_most (replicate 16 16) (zip2 minus v (replicate 16 48)))) % 2 ^ 64) ≡ prefix_len is_parameter_byte v
+  some other = ap (count_trailing_zeros 64) mask ∙ trailing_mask_l is_other 64 v (omega (arith, long)) (omega (arith, mask, other)) ∙ same
+
+pub passed-requires-clause-inside : goal.passed-requires-clause-inside
+passed-requires-clause-inside c =
     let b = c.args.bytes.now in
-    let m = mask b c.requires c.type_inv.bytes in
-    ap (count_trailing_zeros 64) m ∙ trailing_mask_l is_other 64 (take 16 b) (omega (arith, long b c.requires c.type_inv.bytes)) (omega (arith, m)) ∙ same b c.requires c.type_inv.bytes
+    let len : c.if-others-eq0.len ≡ prefix_len is_parameter_byte (take 16 b) = elim c.if-others-eq0.branch [
+      | then-others-eq0 w ↦ w.len-is ∙ none b c.requires.long c.type_inv.bytes w.if-others-eq0.true
+      | else-others-eq0 w ↦ w.len-is ∙ some b c.requires.long c.type_inv.bytes w.if-others-eq0.false
+    ] in
+    omega (arith, len, prefix_len-le-length is_parameter_byte (take 16 b))
+
+pub returns-clause-len : goal.returns-clause-len
+returns-clause-len c = elim c.if-others-eq0.branch [
+  | then-others-eq0 w ↦ w.len-is ∙ none c.args.bytes.now c.requires.long c.type_inv.bytes w.if-others-eq0.true
+  | else-others-eq0 w ↦ w.len-is ∙ some c.args.bytes.now c.requires.long c.type_inv.bytes w.if-others-eq0.false
+]
+
+pub returns-clause-looks : goal.returns-clause-looks
+returns-clause-looks c = omega (arith, c.passed.ensures, length-take-le 16 c.args.bytes.now c.requires.long)
