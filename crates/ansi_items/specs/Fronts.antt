@@ -1,4 +1,4 @@
--- What stands at the front of a text, as the private functions of the scanner read it: its kind and its length.
+-- The kind and the length of what a text begins with, as the private functions of the scanner read it.
 -- No public contract cites this. That it is the first piece of the text is `front_is_first` in proofs/FrontLemmas.antt.
 use Rattle.std.specs.Prelude.{◌≡◌, ℕ, ◌+◌, ◌<◌, ◌==◌, ◌&&◌, List, ◌∷◌, Option, Some, None, if◌then◌else◌, slice_index, take, drop, unwrap_or}
 use Rattle.std.specs.List.{prefix_len}

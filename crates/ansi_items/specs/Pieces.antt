@@ -17,13 +17,14 @@ spelling (Text w) = w
 spelling (Sequence w) = w
 spelling LoneEscape = escape ∷ []
 
--- A text isn't empty, has no ESC and goes on up to the next one; a sequence is whole; an ESC is alone where no front of what begins with it is a whole sequence (this profile).
+-- A text isn't empty, has no ESC and goes on up to the next one. A sequence is whole. An ESC is alone if no front of what
+-- begins with it is a whole sequence (this profile).
 abbrev pub StandsBefore : Piece → List ℕ → Type 0
 StandsBefore (Text w) rest = (w ≢ []) × IsTrue (list_all is_plain_byte w) × (rest ≢ [] → slice_index rest 0 ≡ escape)
 StandsBefore (Sequence w) rest = IsSequence w
 StandsBefore LoneEscape rest = (n : ℕ) → ¬ (IsSequence (take n (escape ∷ rest)))
 
--- these are the pieces of the text t: spelled one after another they are t, and each may stand before what follows it
+-- these are the pieces of the text t: spelled one after another they are t, and each may come before what follows it
 abbrev pub ArePieces : List ℕ → List Piece → Type 0
 ArePieces t [] = t ≡ []
 ArePieces t (p ∷ ps) = (rest : List ℕ) × (t ≡ spelling p ++ rest) × StandsBefore p rest × ArePieces rest ps
@@ -52,7 +53,7 @@ first_pieces (suc n) (b ∷ bs) =
 abbrev pub pieces_of : List ℕ → List Piece
 pieces_of t = first_pieces (length t) t
 
--- Pieces in a row, where texts that touch are one.
+-- Pieces in a row, with texts that touch joined.
 
 -- a text before pieces, of which the first may be a text that it joins
 abbrev pub after_text : List ℕ → List Piece → List Piece

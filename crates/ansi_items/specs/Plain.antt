@@ -76,11 +76,11 @@ is_lone _ = false
 abbrev pub are_whole : List Piece → Bool
 are_whole ps = list_all (λ p. not (is_lone p)) ps
 
--- a text is whole where none of its pieces is a lone escape (this profile)
+-- a text is whole if none of its pieces is a lone escape (this profile)
 abbrev pub is_whole : List ℕ → Bool
 is_whole t = are_whole (pieces_of t)
 
--- an ESC stands in t
+-- t has an ESC
 abbrev pub has_escape : List ℕ → Bool
 has_escape t = list_any (λ b. b == escape) t
 
@@ -88,7 +88,7 @@ has_escape t = list_any (λ b. b == escape) t
 abbrev pub is_other : Piece → Bool
 is_other p = not (is_text p) && not (is_sgr (spelling p))
 
--- what is copied of a piece where styles are written anew: nothing of an SGR
+-- what is copied of a piece when styles are written again: nothing of an SGR
 abbrev pub copied : Piece → List ℕ
 copied p = if is_sgr (spelling p) then [] else spelling p
 

@@ -33,7 +33,8 @@ piece_of_kind Lone w = LoneEscape
 abbrev pub piece_of : List ℕ → Item → Piece
 piece_of t item = piece_of_kind item.kind (slice_range t item.start item.end)
 
--- A scanner gave an item: the first of the pieces that it had left, by its kind and its bytes, from where the scanner stood to where it stands now. Characters of the text begin at both.
+-- A scanner gave an item: the first of the pieces that it had left, by its kind and its bytes, from the scanner's old offset up
+-- to its new one. Both are character boundaries.
 pub record Gives (old : Scan) (item : Item) (new : Scan) : Type 0 where
   pub text : new.text ≡ old.text
   pub start : item.start ≡ old.offset
@@ -45,7 +46,7 @@ pub record Gives (old : Scan) (item : Item) (new : Scan) : Type 0 where
   pub start_boundary : IsCharBoundary old.text item.start
   pub end_boundary : IsCharBoundary old.text item.end
 
--- one call of `next`: an item, or None at the end of the text, where nothing is left and nothing changes
+-- one call of `next`: an item, or None at the end of the text, when nothing is left and nothing changes
 abbrev pub Scans : Scan → Option Item → Scan → Type 0
 Scans old None new = (new ≡ old) × (old.offset ≡ length old.text) × (pieces_left old ≡ [])
 Scans old (Some item) new = Gives old item new

@@ -38,7 +38,7 @@ pub record IsEscapeSequence (w : List ℕ) : Type 0 where
 abbrev pub IsSequence : List ℕ → Type 0
 IsSequence w = IsControlSequence w ⊎ IsControlString w ⊎ IsEscapeSequence w
 
--- parameter bytes are for private use where the first is one of 3C to 3F (ECMA-48, section 5.4.2)
+-- parameter bytes are for private use if the first is one of 3C to 3F (ECMA-48, section 5.4.2)
 abbrev pub are_private : List ℕ → Bool
 are_private [] = false
 are_private (b ∷ more) = is_in_range 0x3C 0x3F b
@@ -65,24 +65,24 @@ abbrev pub after_one : (ℕ → Bool) → List ℕ → Option (List ℕ)
 after_one test [] = None
 after_one test (b ∷ t) = if test b then Some t else None
 
--- after a control sequence, where t follows its ESC `[`
+-- what is left after a control sequence, if t follows its ESC `[`
 abbrev pub after_control_sequence : List ℕ → Option (List ℕ)
 after_control_sequence t = after_one is_final_byte (skip is_intermediate_byte (skip is_parameter_byte t))
 
--- after the end of a control string, where t follows its body, which only ESC or BEL can stop
+-- what is left after the end of a control string, if t follows its body, which only ESC or BEL can stop
 abbrev pub after_terminator : List ℕ → Option (List ℕ)
 after_terminator [] = None
 after_terminator (b ∷ t) = if b == bell then Some t else after_one (λ c. c == byte "\\") t
 
--- after a control string, where t follows its ESC and opener
+-- what is left after a control string, if t follows its ESC and opener
 abbrev pub after_control_string : ℕ → List ℕ → Option (List ℕ)
 after_control_string opener t = after_terminator (skip (is_body_byte opener) t)
 
--- after an escape sequence, where t follows its ESC
+-- what is left after an escape sequence, if t follows its ESC
 abbrev pub after_escape_sequence : List ℕ → Option (List ℕ)
 after_escape_sequence t = after_one is_escape_final_byte (skip is_intermediate_byte t)
 
--- after a sequence of any kind, where t follows its ESC
+-- what is left after a sequence of any kind, if t follows its ESC
 abbrev pub after_escape : List ℕ → Option (List ℕ)
 after_escape [] = None
 after_escape (b ∷ t) =

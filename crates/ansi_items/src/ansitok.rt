@@ -31,7 +31,7 @@ pub enum AnsiColor {
 /// ```
 #[derive(Debug, Clone, Copy, PartialEq, Eq)]
 pub enum Kind {
-    /// A run of plain text, as long as it goes on: no ESC stands in it.
+    /// A run of plain text up to the next ESC or the end of the text.
     Text,
     /// Select graphic rendition: a control sequence with no intermediate byte and the final byte
     /// `m` (ECMA-48, section 8.3.117).
@@ -42,11 +42,11 @@ pub enum Kind {
     Lone,
 }
 
-/// An item of a text: its kind, and the bytes of the text that are its own, from `start` up to
-/// `end`. (Own.)
+/// An item of a text: its kind, and the range of the text's bytes that it has, from `start` up to `end`.
+/// (Own.)
 ///
-/// Both ends count bytes of the text with its sequences, from its start, and not of the plain text.
-/// Both are character boundaries.
+/// Both count bytes of the text with its sequences, not of the plain text. Both are character
+/// boundaries.
 ///
 /// ```
 /// let text = "\x1b[31mred";
@@ -60,10 +60,10 @@ pub struct Item {
     pub end: usize,
 }
 
-/// The items of a text, in order: an iterator that takes no memory.
+/// An iterator over the items of a text, in order. It doesn't allocate.
 ///
-/// Each byte of the text is in one item, and each text has one list of items. An unfinished
-/// sequence is no error: its ESC is an item of its own, and what follows is read anew. (What a
+/// Each byte of the text is in one item, and each text has one list of items. An unfinished sequence
+/// is no error: its ESC is an item of its own, and what follows is read again. (What a
 /// sequence is, ECMA-48 and ECMA-35; of unfinished ones, own.)
 ///
 /// ```
@@ -99,7 +99,7 @@ impl<'a> Scanner<'a> {
     ghost use Rattle.ansi_items.specs.Pieces.{Piece, ArePieces};
     ghost use Rattle.ansi_items.specs.Scans.{pieces_left};
 
-    /// A scanner at the front of the text. Takes no memory. (Own.)
+    /// Returns a scanner at the front of the text. It doesn't allocate. (Own.)
     ///
     /// ```
     /// assert!(rt; Scanner::new("").next().is_none());
@@ -123,12 +123,12 @@ impl<'a> Scanner<'a> {
         }
     }
 
-    /// How many looks at bytes of the text it took so far.
+    /// Returns how many looks at bytes of the text the scanner has taken so far.
     ///
     /// A look at one byte counts 1, and a search counts each byte that it passed over and the one
-    /// that it found. A byte that is looked at twice counts twice. So a scan of a text takes time in
-    /// proportion to its length, whatever the text holds: also where sequences are unfinished, and
-    /// what follows their ESC is read anew. Takes no memory. (Own.)
+    /// that it found. A byte that is looked at twice counts twice. So the time of a scan is linear in the
+    /// length of the text, whatever the text holds: also if sequences are unfinished, so that what follows
+    /// their ESC is read again. It doesn't allocate. (Own.)
     ///
     /// ```
     /// let mut items = Scanner::new("\x1b]");
@@ -136,11 +136,11 @@ impl<'a> Scanner<'a> {
     /// assert!(rt; 2 <= items.reads() && items.reads() <= 8);
     /// ```
     pub fn reads(&self) -> u128
-        // At every moment there are at most four looks for each byte of the text, and even three.
+        // At every moment there are at most four looks for each byte of the text, and in fact three.
         ensures at_most { result ≤ 4 * length self.now.text }
         ensures at_most_three { result ≤ 3 * length self.now.text }
 
-        // Each byte of the items so far was looked at: where nothing is left, each byte of the text.
+        // Each byte of the items so far was looked at: once nothing is left, each byte of the text.
         ensures at_least { self.now.offset ≤ result }
     {
         self.reads
@@ -157,7 +157,7 @@ impl<'a> Iterator for Scanner<'a> {
 
     ghost remaining = { item_count pieces_left };
 
-    /// The next item, or `None` at the end of the text, then and ever after.
+    /// Returns the next item, or `None` at the end of the text and ever after.
     #[inline(always)]
     fn next(&mut self) -> Option<Item> {
         let bytes = self.text.as_bytes();

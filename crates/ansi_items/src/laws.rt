@@ -1,4 +1,4 @@
-//! A law of colors, which the law on all orders above stands on.
+//! A law of colors, on which the law of all orders in the crates above is built.
 ghost use Rattle.std.specs.Prelude.{◌≡◌};
 ghost use Rattle.ansi_items.specs.AnsiColors.{compared, ansi_color_key};
 

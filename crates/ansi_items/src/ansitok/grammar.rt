@@ -1,8 +1,8 @@
 //! What an ESC begins, by ECMA-48 and ECMA-35 in this profile, and how many looks at the bytes of a
 //! text that takes.
 //!
-//! One search over the text finds each ESC once. An attempt at a sequence never passes the next ESC, so
-//! a scan looks at no byte more than three times on average.
+//! One search over the text finds each ESC once, and an attempt at a sequence never passes the next ESC.
+//! So a scan takes at most three looks for each byte.
 ghost use Rattle.std.specs.Prelude.{◌≡◌, ◌≤◌, length, take};
 ghost use Rattle.std.specs.List.{prefix_len};
 ghost use Rattle.ansi_items.specs.Bytes.{is_parameter_byte};
@@ -203,8 +203,8 @@ impl Looks {
         escape
     }
 
-    /// The same from the end of an item on, where `escape` was the next ESC: that one, or the one after it if
-    /// the item has it.
+    /// The place of the next ESC after an item that ends at `end`, if it was at `escape` before: that place, or
+    /// the one after it if the item includes that ESC.
     #[inline(always)]
     pub(crate) fn escape_after(
         &mut self,
@@ -272,7 +272,7 @@ impl Looks {
         16 + self.parameters_len_by_byte(&bytes[16..])
     }
 
-    /// How many of the first 16 bytes are parameter bytes before any other.
+    /// How many parameter bytes the first 16 bytes begin with.
     #[inline(always)]
     fn parameters_len_of_16(&mut self, bytes: &[u8]) -> usize
         requires long { 16 ≤ length bytes.now }
@@ -292,7 +292,7 @@ impl Looks {
         len
     }
 
-    /// The same of all bytes, one by one.
+    /// How many parameter bytes are at the front, looked at one by one.
     #[inline(always)]
     fn parameters_len_by_byte(&mut self, bytes: &[u8]) -> usize
         requires { self.old.count + length bytes.now < 2 ^ 128 }
