@@ -77,8 +77,8 @@ export interface Block {
 }
 
 /**
- * The blocks of the text: the runs of plain text, each up to the next sequence of any kind, with its style. A block's text begins
- * with the sequences since the last run that aren't SGR.
+ * The blocks of the text. Each is a run of plain text up to the next sequence or lone ESC, with its style. Lone ESCs and sequences
+ * other than SGRs before the run are part of the block's text.
  */
 export function blocks(text: string): Block[];
 
