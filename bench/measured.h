@@ -84,7 +84,7 @@ static size_t edits(const struct text *t) {
 struct call {
     const char *name;
     size_t (*run)(const struct text *);
-    /* the same by hand, where there is such a call */
+    /* the same by hand, if there is such a call */
     size_t (*by_hand)(const struct text *);
 };
 
@@ -121,7 +121,7 @@ static size_t boundary(const struct text *t, size_t position) {
     return position;
 }
 
-/* Reads a file, and finds where its thirds and its half are. */
+/* Reads a file, and finds its thirds and its half. */
 static int is_read(struct text *t, const char *name) {
     memset(t, 0, sizeof *t);
     FILE *file = fopen(name, "rb");

@@ -5,8 +5,7 @@
 // Each call throws
 // - a TypeError for a text that is no string or has a lone surrogate, and for a position that is no whole number;
 // - a RangeError for a position below 0;
-// - an OutOfMemoryError if memory has run out.
-// Later calls aren't affected.
+// - an OutOfMemoryError.
 
 /** Memory has run out. Later calls aren't affected. */
 export class OutOfMemoryError extends Error {}
