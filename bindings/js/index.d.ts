@@ -6,8 +6,9 @@
 // - a TypeError for a text that is no string or has a lone surrogate, and for a position that is no whole number;
 // - a RangeError for a position below 0;
 // - an OutOfMemoryError.
+// No error affects later calls.
 
-/** Memory has run out. Later calls aren't affected. */
+/** Memory has run out. */
 export class OutOfMemoryError extends Error {}
 
 /** The plain text. */

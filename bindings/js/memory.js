@@ -26,7 +26,7 @@ const END = 8;
 const encoder = new TextEncoder();
 const decoder = new TextDecoder('utf-8', { ignoreBOM: true });
 
-/** Memory has run out. Later calls aren't affected. */
+/** Memory has run out. No error affects later calls. */
 export class OutOfMemoryError extends Error {
   constructor() {
     super('out of memory');
