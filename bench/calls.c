@@ -1,10 +1,10 @@
-/* calls: prints, for each call and input, the time of 1 MiB, the nanoseconds a byte, and the allocations. A plain copy of the
-   same bytes stands beside them. A time is the shortest of some runs.
+/* calls: prints, for each call and input, the time of 1 MiB, the nanoseconds per byte, and the allocations, and for comparison
+   the same for a plain copy of the bytes. A time is the shortest of some runs.
 
-   calls ROW LENGTH: makes the call of one row, counted from 0, on so many bytes of its input, in the function `judged`, so that
-   its instructions can be counted, and prints the names of the row. Ends with 2 where there are not so many rows.
+   calls ROW LENGTH: makes the call of one row, counted from 0, on LENGTH bytes of its input, in the function `judged`, so that
+   its instructions can be counted, and prints the names of the row. Exits with 2 if there is no such row.
 
-   Both end with 1 where a call fails. */
+   Both exit with 1 if a call fails. */
 #include "lengths.h"
 
 #include <stddef.h>
@@ -24,9 +24,8 @@ struct text {
     size_t pattern_len;
 };
 
-/* So many bytes: a piece of plain text with sequences in it, as often as it fits, and then a sequence
-   as often as it fits into a share of the text, or once where the share is negative. What stands between
-   ESC and `m` is a sequence. */
+/* An input of a given length: a piece of plain text with sequences in it, as often as it fits, and then a sequence as often
+   as it fits into a share of the text, or once if the share is negative. Everything from ESC to `m` is a sequence. */
 struct input {
     const char *name, *piece, *tail;
     int tail_percent;
@@ -149,7 +148,7 @@ static size_t pad(const struct text *t) {
 }
 static size_t wrap(const struct text *t) { return count_of(ansi_str_wrap(t->bytes, t->len, 80, NULL, 0, NULL, 0)); }
 
-/* appends a piece, and its plain bytes, while it fits into so many bytes */
+/* appends a piece, and its plain bytes, while it fits into this many bytes */
 static void append(struct text *t, const char *piece, size_t limit) {
     size_t len = strlen(piece);
     while (len > 0 && t->len + len <= limit) {
@@ -287,7 +286,7 @@ static void print_time(const struct row *row) {
     printf("%-17s %-28s %9.3f ms %8.3f %12zu\n", row->call->name, row->input->name, took / 1e6, took / (double)t.len, allocations);
 }
 
-/* a function of its own, which the call returns to */
+/* a function of its own, to which the call returns */
 size_t judged(const struct row *row, const struct text *t);
 __attribute__((noinline)) size_t judged(const struct row *row, const struct text *t) {
     volatile size_t answer = row->call->run(t);

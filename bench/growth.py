@@ -1,9 +1,9 @@
 #!/usr/bin/env python3
 """Measures how the time of `ansi_lines` grows with its input, in one run over the built program.
 
-For each word and input it prints the time of 1 MiB, that of 128 KiB, and the one over the other. An input eight
-times as long may take at most 12 times as long: the growth is linear, with room for noise. A part by a long pattern
-may take at most 4 times as long as one by `xyz`."""
+For each word and input it prints the time of 1 MiB, that of 128 KiB, and their ratio. An input eight times as long may
+take at most 12 times as long: the growth is linear, with room for noise. A part by a long pattern may take at most 4
+times as long as one by `xyz`."""
 import os
 import resource
 import subprocess
@@ -36,18 +36,18 @@ SEARCHED = INPUTS[-2:]
 
 
 def text(front, piece, length):
-    """So many bytes: the front, and the piece as often as it fits."""
+    """An input of a given length: the front, and the piece as often as it fits."""
     return (front + piece * (length // len(piece) + 1))[:length]
 
 
 def spent():
-    """The time that the processor has spent on the programs that were run."""
+    """The processor time of the programs that were run."""
     usage = resource.getrusage(resource.RUSAGE_CHILDREN)
     return usage.ru_utime + usage.ru_stime
 
 
 def seconds(word, data):
-    """The shortest time that the processor spent on a run with the word on the data, of some runs."""
+    """The shortest processor time of some runs with the word on the data."""
     shortest = float('inf')
     for _ in range(RUNS):
         begin = spent()
@@ -57,7 +57,7 @@ def seconds(word, data):
 
 
 def measured(word, name, front, piece):
-    """Prints a row, and gives the time of 1 MiB and whether the growth is linear."""
+    """Prints a row, and returns the time of 1 MiB and whether the growth is linear."""
     long = seconds(word, text(front, piece, LONG))
     short = seconds(word, text(front, piece, SHORT))
     growth = long / short
@@ -67,7 +67,7 @@ def measured(word, name, front, piece):
 
 
 def main():
-    # builds the program where its sources have changed
+    # builds the program if its sources have changed
     subprocess.run([os.path.join(TOP, 'ansi_lines'), 'strip'], input=b'', check=True)
     print('%-16s %-26s %10s %10s %8s' % ('word', 'input', '1 MiB', '128 KiB', 'growth'))
     is_linear = True

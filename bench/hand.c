@@ -10,7 +10,7 @@ typedef const unsigned char *bytes;
 
 char *hand_written;
 
-/* What is written, in memory that is asked for once. */
+/* What is written, in memory that is allocated once. */
 struct out {
     unsigned char *bytes;
     size_t len;
@@ -29,7 +29,7 @@ static size_t finish(struct out *out) {
     return out->len;
 }
 
-/* An answer that stands in the text. */
+/* A result that occurs unchanged in the text. */
 static size_t lend(bytes from, bytes to) {
     size_t len = (size_t)(to - from);
     if (hand_written != NULL && len > 0) {
@@ -42,7 +42,7 @@ static size_t lend(bytes from, bytes to) {
 
 static int continues(unsigned char byte) { return (byte & 0xc0) == 0x80; }
 
-/* How long the character is that begins here, and 0 where none does. */
+/* The length of the character that begins here, or 0 if none does. */
 static size_t character(bytes at, bytes end) {
     unsigned char first = at[0];
     size_t len = first < 0x80 ? 1 : first < 0xc2 ? 0 : first < 0xe0 ? 2 : first < 0xf0 ? 3 : first < 0xf5 ? 4 : 0;
@@ -78,7 +78,7 @@ static int is_utf8(bytes at, bytes end) {
     return 1;
 }
 
-/* Whether a character of White_Space stands in these bytes (Unicode, PropList.txt). */
+/* Whether these bytes are a character of White_Space (Unicode, PropList.txt). */
 static int is_white(bytes at, size_t len) {
     if (len == 1) {
         return at[0] == ' ' || (at[0] >= 0x09 && at[0] <= 0x0d);
@@ -106,7 +106,7 @@ static bytes past(bytes at, bytes end, unsigned char low, unsigned char high) {
     return at;
 }
 
-/* Where the sequence ends that begins with this ESC, and whether it is an SGR. An ESC alone is one byte. */
+/* The end of the sequence that begins with this ESC, and whether it is an SGR. An ESC alone is one byte. */
 static bytes sequence_end(bytes at, bytes end, int *is_sgr) {
     bytes lone = at + 1;
     *is_sgr = 0;
@@ -144,7 +144,7 @@ enum {
     FOREGROUND = 1 << 23, BACKGROUND = 1 << 24, UNDERLINE_COLOR = 1 << 25, RESET = 1 << 26, UNKNOWN = 1 << 27
 };
 
-/* What is set. Which color or font is set, a cut needn't know, since all end alike. */
+/* What is set. A cut needn't know which color or font is set, since all close alike. */
 typedef uint32_t style;
 
 static const struct {
@@ -159,7 +159,7 @@ static const struct {
     {62, 1 << 17, 0}, {63, 1 << 18, 0}, {64, 1 << 19, 0}, {65, 0, IDEOGRAM}, {73, SUPER, 0}, {74, SUB, 0}, {75, 0, SUPER | SUB},
 };
 
-/* The bits that each code sets and clears, made of the rows once. */
+/* The bits that each code sets and clears, computed once from the rows. */
 static struct {
     style set, cleared;
 } table[256];
@@ -179,7 +179,7 @@ static void make_table(void) {
     }
 }
 
-/* The next field as a number, and 256 where it is none; after the last, `*at` is past `end`. */
+/* The next field as a number, or 256 if it isn't one; after the last, `*at` is past `end`. */
 static unsigned field(bytes *at, bytes end) {
     unsigned number = 0;
     for (; *at < end && **at != ';'; ++*at) {
@@ -190,7 +190,7 @@ static unsigned field(bytes *at, bytes end) {
     return number < 256 ? number : 256;
 }
 
-/* Passes over the fields of a color, and answers whether they make one. */
+/* Passes over the fields of a color, and returns whether they make one. */
 static int is_color(bytes *at, bytes end) {
     if (*at > end) {
         return 0;
@@ -221,7 +221,7 @@ static style after_sgr(style s, bytes parameters, bytes end) {
     return s;
 }
 
-/* What ends a style, in the order in which it is written. */
+/* What closes a style, in the order in which it is written. */
 static const struct {
     style any;
     unsigned char len;
@@ -327,7 +327,7 @@ size_t hand_strip_prefix(const char *text, size_t len, const char *pattern, size
     }
     struct out out = {NULL, 0};
     int is_sgr;
-    /* the sequences before the last byte of the prefix are few, so they are written where all is found */
+    /* the sequences before the last byte of the prefix are few, so they are written once all of it is found */
     bytes begin = at;
     while (p < p_end) {
         if (at == end || (*at != ESC && *at != *p)) {
@@ -359,7 +359,7 @@ size_t hand_strip_suffix(const char *text, size_t len, const char *pattern, size
         int is_there = len >= pattern_len && memcmp(end - pattern_len, p, pattern_len) == 0;
         return is_there ? lend(at, end - pattern_len) : SIZE_MAX;
     }
-    /* the runs of text, of which the last ones are compared backward */
+    /* the runs of text; the last ones are compared backward */
     struct run {
         bytes begin, end;
     } few[FEW], *runs = few;
@@ -495,7 +495,7 @@ size_t hand_blocks(const char *text, size_t len) {
         is_awaited = 0;
         at = begin = run_end;
     }
-    /* so that the styles aren't left out */
+    /* so that the compiler keeps the styles */
     volatile style last = s;
     (void)last;
     return all;

@@ -1,7 +1,7 @@
-/* Makes every call on hostile texts and says how long the worst takes: on all texts of up to six of eight
-   pieces, and on 1 MiB of each hostile kind. Ends with 1 where a call takes more than a second on 1 MiB, or one that
-   lists all parts, blocks or lines more than two, or where a cut, a part or both sides are longer than their bound. A call
-   that doesn't return is ended by an alarm. */
+/* Makes every call on hostile texts and prints how long the worst takes: on all texts of up to six of eight pieces, and on
+   1 MiB of each hostile kind. Exits with 1 if a call takes more than a second on 1 MiB (two seconds, if it lists all parts,
+   blocks or lines), or if a cut, a part or both sides are longer than their bound. An alarm ends a call that doesn't
+   return. */
 #include "lengths.h"
 
 #include <signal.h>
@@ -27,7 +27,7 @@ struct call {
     int has_position, has_pattern, is_list;
 };
 
-/* a call that gives a text, or one that answers a question or a position */
+/* a call that returns a text, or one that returns a truth value or a position */
 #define TEXT(name, ...) \
     static size_t name(struct bytes t, size_t n, struct bytes p) { \
         (void)n; \
@@ -46,16 +46,16 @@ QUESTION(has_any) QUESTION(is_whole) QUESTION(is_char_boundary, n) QUESTION(floo
 QUESTION(width) QUESTION(fitting, n)
 QUESTION(starts_with, p.at, p.len) QUESTION(ends_with, p.at, p.len) QUESTION(find, p.at, p.len)
 
-/* cut to as many columns as a position (`truncate` is a name of POSIX) */
+/* truncated to `position` columns (POSIX has the name `truncate`) */
 static size_t truncate_to(struct bytes t, size_t n, struct bytes p) {
     return len_of(ansi_str_truncate(t.at, t.len, n, p.at, p.len, NULL, 0));
 }
-/* filled up to as many columns as a position, but to twice as many as LONG at most */
+/* padded to `position` columns, but at most twice LONG */
 static size_t pad(struct bytes t, size_t n, struct bytes p) {
     (void)p;
     return len_of(ansi_str_pad(t.at, t.len, n > 2 * LONG ? 2 * LONG : n, ANSI_STR_CENTER, NULL, 0));
 }
-/* to as many columns as a position, which is 0 too: so there may be as many lines as bytes */
+/* wrapped to `position` columns, also 0: so there may be as many lines as bytes */
 static size_t wrap(struct bytes t, size_t n, struct bytes p) {
     (void)p;
     return count_of(ansi_str_wrap(t.at, t.len, n, NULL, 0, NULL, 0));
@@ -109,14 +109,14 @@ static double now(void) {
     return (double)at.tv_sec + (double)at.tv_nsec / 1e9;
 }
 
-/* the longest time so far, and of what */
+/* the longest time so far, and what took it */
 struct worst {
     double seconds;
     const char *call, *pattern;
     size_t position;
 };
 
-/* what is running, for the alarm */
+/* what is running, which the alarm prints */
 static struct worst running;
 
 static void on_alarm(int signal) {
@@ -137,7 +137,7 @@ static struct worst measured(const struct call *call, struct bytes t, size_t pos
     return w;
 }
 
-/* whether a call's answer is within its bound; SIZE_MAX says that there is none */
+/* whether a call's result is within its bound; SIZE_MAX means no bound */
 static int is_short(struct bytes t, size_t len, size_t more) { return len == SIZE_MAX || len <= t.len + more; }
 
 static int is_bounded(struct bytes t, size_t position, struct bytes p) {
@@ -177,7 +177,7 @@ static int all_calls(struct bytes t, const struct bytes *patterns, const char *c
     return fails;
 }
 
-/* all texts of up to so many of these pieces */
+/* all texts of up to a number of these pieces */
 static int short_texts(void) {
     static const char *const ALPHABET[] = {"\x1b", "[", "]", "1", "m", "\\", "a", "\xc3\xa9"};
     enum { LETTERS = sizeof ALPHABET / sizeof ALPHABET[0] };
@@ -245,7 +245,7 @@ static struct bytes made(const struct kind *kind) {
     return t;
 }
 
-/* with long patterns too where these are asked for */
+/* with long patterns too, if requested */
 static int long_texts(int has_long_patterns) {
     enum { MANY = 255, HALF = LONG / 8 };
     static const char *const NAMES[] = {"empty", "a", "ESC", "255 a, b", "131,072 a", "131,072 a, b"};

@@ -1,9 +1,9 @@
-/* once CALL FILE RUNS: reads the file and makes the call on its bytes so many times. With `hand_` before its name, a call is that
-   of `hand.c`. Ends with 1 where the call isn't one of these, where the file can't be read, or where the call answers no length;
-   and with 2 where a call by hand answers anything else than the library's. */
+/* once CALL FILE RUNS: reads the file and makes the call on its bytes RUNS times. With `hand_` before its name, a call is that of
+   `hand.c`. Exits with 1 if there is no such call, if the file can't be read, or if the call returns no length; and with 2 if a
+   call by hand returns anything else than the library's. */
 #include "measured.h"
 
-/* Whether both give the same. */
+/* Whether both return the same. */
 static int are_same(const struct call *call, const struct text *t) {
     room = t->len + ANSI_STR_LONGEST_CLOSE;
     buffer = calloc(room, 1);

@@ -1,4 +1,4 @@
-/* The calls that are measured, and the text that they are made on. */
+/* The calls that are measured, and their text. */
 #ifndef MEASURED_H
 #define MEASURED_H
 
@@ -14,13 +14,13 @@
 struct text {
     char *bytes;
     size_t len, plain_len;
-    /* positions of the plain text: one and two thirds of it, and its half, each where a character begins */
+    /* positions of the plain text: one and two thirds of it, and its half, each at the beginning of a character */
     size_t third, two_thirds, half;
     /* the first and the last byte of the plain text */
     char first, last;
 };
 
-/* Where answers are written: nowhere, but while they are compared. */
+/* The buffer for results: none, except while they are compared. */
 static char *buffer;
 static size_t room;
 
@@ -37,7 +37,7 @@ static size_t right(const struct text *t) { return len_of(ansi_str_right(t->byte
 static size_t find_absent(const struct text *t) {
     return ansi_str_find(t->bytes, t->len, "absent", 6).status == ANSI_STR_NO ? 0 : SIZE_MAX;
 }
-/* a pattern whose first byte stands at each word */
+/* a pattern whose first byte occurs in each word */
 static size_t find_frequent(const struct text *t) {
     return ansi_str_find(t->bytes, t->len, " zq", 3).status == ANSI_STR_NO ? 0 : SIZE_MAX;
 }
@@ -84,7 +84,7 @@ static size_t edits(const struct text *t) {
 struct call {
     const char *name;
     size_t (*run)(const struct text *);
-    /* the same by hand, where there is such a call */
+    /* the same by hand, if there is such a call */
     size_t (*by_hand)(const struct text *);
 };
 
@@ -113,7 +113,7 @@ static const struct call CALLS[] = {
 
 enum { CALL_COUNT = sizeof CALLS / sizeof CALLS[0] };
 
-/* The last position up to this one where a character begins. */
+/* The last position up to this one at which a character begins. */
 static size_t boundary(const struct text *t, size_t position) {
     while (ansi_str_is_char_boundary(t->bytes, t->len, position).status == ANSI_STR_NO) {
         position--;
@@ -121,7 +121,7 @@ static size_t boundary(const struct text *t, size_t position) {
     return position;
 }
 
-/* Reads a file, and finds where its thirds and its half are. */
+/* Reads a file, and finds its thirds and its half. */
 static int is_read(struct text *t, const char *name) {
     memset(t, 0, sizeof *t);
     FILE *file = fopen(name, "rb");

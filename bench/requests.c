@@ -1,4 +1,4 @@
-/* requests FILE..: prints for each call how often it asks for memory on each file, and for how many bytes together. */
+/* requests FILE..: prints for each call how often it allocates on each file, and how many bytes in all. */
 #include "measured.h"
 
 static size_t requests, asked;

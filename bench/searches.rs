@@ -1,6 +1,6 @@
-//! Compares `ansi_find` with a plain model and with std's `find` on the plain text: each pattern over two letters of up to
-//! 12 bytes in each text of up to 14, and long patterns of several kinds, in texts that are cut by sequences. Then says how
-//! long searches for long patterns take in 1 MiB. Ends with a panic where two differ.
+//! Compares `ansi_find` with a simple model and with std's `find` on the plain text: each pattern over two letters of up to
+//! 12 bytes in each text of up to 14, and long patterns of several kinds, in texts with sequences between the letters. Then
+//! prints how long searches for long patterns take in 1 MiB. Panics if two differ.
 
 use ansi_str::AnsiStr;
 use std::time::Instant;
@@ -17,7 +17,7 @@ impl Numbers {
     }
 }
 
-/// The first place of the pattern, by comparing it at each.
+/// The first place of the pattern, found by comparing at each place.
 fn model(plain: &str, pattern: &str) -> Option<usize> {
     let (x, p) = (plain.as_bytes(), pattern.as_bytes());
     (0..=x.len().checked_sub(p.len())?).find(|&i| &x[i..i + p.len()] == p)
@@ -28,12 +28,12 @@ fn compare(text: &str, plain: &str, pattern: &str) {
     assert_eq!(found, plain.find(pattern), "{text:?} {pattern:?}");
 }
 
-/// The word of so many letters whose bits those of a number are, each letter so many times.
+/// The word whose letters are the bits of a number, each letter repeated.
 fn word(bits: usize, len: usize, times: usize) -> String {
     (0..len).map(|i| if bits >> i & 1 == 1 { "b" } else { "a" }.repeat(times)).collect()
 }
 
-/// A text with up to five sequences in a row at about one place of so many, and one at least.
+/// A text with up to five sequences in a row at some of its places, and at one at least.
 fn cut(plain: &str, every: usize, numbers: &mut Numbers) -> String {
     let mut text = String::from(SEQUENCES[0]);
     for letter in plain.chars() {
@@ -66,7 +66,7 @@ fn words(longest_text: usize, longest_pattern: usize, numbers: &mut Numbers) -> 
     count
 }
 
-/// Each word in each word, with each letter so often that the pattern has more than 256 bytes.
+/// Each word in each word, with letters repeated until the pattern has more than 256 bytes.
 fn long_words(longest_text: usize, longest_pattern: usize, numbers: &mut Numbers) -> usize {
     let mut count = 0;
     for len in 1..=longest_pattern {
@@ -136,7 +136,7 @@ fn kinds(numbers: &mut Numbers) -> usize {
     count
 }
 
-/// How long a search takes that finds nothing in 1 MiB, at worst.
+/// The longest time of a search without a match in 1 MiB.
 fn times() {
     let texts = [("ESC [1m a", "\x1b[1ma"), ("ESC [m aa", "\x1b[maa"), ("ESC [m, 64 a", "\x1b[maaaaaaaaaaaaaaaaaaaaaaaaaaaaaaaaaaaaaaaaaaaaaaaaaaaaaaaaaaaaaaaa"), ("aab ESC [m ab", "aab\x1b[mab")];
     println!("{:<16} {:>8} {:>10} {:>10} {:>10} {:>10} ms, at the end, the front, the middle; a Fibonacci word", "1 MiB of", "pattern", "a..ab", "ba..a", "a..ba..a", "abaab..");

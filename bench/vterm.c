@@ -1,6 +1,6 @@
-/* libvterm's cells of texts, for bench/terminals: vterm WIDTH. Reads texts, each after its length in four bytes, the lowest first. Writes a line
-   for each: of each cell up to the last that isn't empty its characters, US, its attributes and RS; then GS and the attributes of the
-   last column. */
+/* libvterm's cells of texts, for bench/terminals: vterm WIDTH. Reads texts, each after its length in four bytes, the lowest first.
+   Writes a line for each text: for each cell up to the last that isn't empty its characters, US, its attributes and RS; then GS and
+   the attributes of the last column. */
 #include <stdint.h>
 #include <stdio.h>
 #include <stdlib.h>

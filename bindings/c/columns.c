@@ -1,11 +1,11 @@
-/* Passes the rows of crates/ansi_columns_rows/stdin through the calls on columns, and ends with 1 where one differs.
+/* Makes the calls of the rows of crates/ansi_columns_rows/stdin, and exits with 1 if a result differs.
 
-   A row is one line of standard input, its fields stand between TABs: a call, the text, what else the call takes, between blanks,
-   and the answer. `\e`, `\a`, `\n`, `\r` and `\t` stand for a control character, and `\\` for `\`. The rows of `lines` and
-   `link_at` are passed over, since C has no such call.
+   A row is one line of standard input with fields between TABs: a call, the text, the call's other arguments, between blanks, and
+   the result. `\e`, `\a`, `\n`, `\r` and `\t` mean a control character, and `\\` means `\`. The rows of `lines` and `link_at` are
+   skipped, since C has no such call.
 
-   Each text that is written is also asked for with a larger buffer, with one that is one byte too small, and with each request for
-   memory refused in turn: then nothing may be written, past the answer's length or at all. */
+   Each call that writes a text is repeated with a larger buffer, with one that is one byte too small, and with each allocation
+   refused in turn. With the larger buffer nothing may be written past the result, with the others nothing at all. */
 #include "ansi_str.h"
 
 #include <stdio.h>
@@ -14,10 +14,10 @@
 
 enum { MOST_FIELDS = 8, LONGEST = 4096, MOST_LINES = 16, GUARD = 0x5a };
 
-/* Requests for memory that are still granted; a negative number grants all. */
+/* Allocations that are still granted; a negative number grants all. */
 static long granted = -1;
 
-/* How many calls have told of lack of memory. */
+/* How many calls have reported out of memory. */
 static long wanting = 0;
 
 void *__real_malloc(size_t size);
@@ -61,7 +61,7 @@ static void expect(const char *what, int is_so) {
 
 #define TEXT(t) (t).bytes, (t).len
 
-/* A field with each of its escapes as the character that it stands for, in its own place. */
+/* Replaces each escape of a field by its character, in place. */
 static struct text unescaped(char *field) {
     static const char LETTERS[] = "eanrt", CHARACTERS[] = "\x1b\a\n\r\t";
     struct text text = {field, 0};
@@ -76,7 +76,7 @@ static struct text unescaped(char *field) {
     return text;
 }
 
-/* The row of a line, which is changed. */
+/* The row of a line. Changes the line. */
 static struct row row_of(char *line) {
     char *fields[MOST_FIELDS] = {line};
     size_t count = 1;
@@ -114,7 +114,7 @@ static ansi_str_answer call(const struct row *r, char *buffer, size_t len) {
     return ansi_str_cut(TEXT(r->text), 0, ansi_str_fitting(TEXT(r->text), r->width).len, buffer, len);
 }
 
-/* Whether a buffer is as it was from there on. */
+/* Whether a buffer is unchanged from there on. */
 static int is_guard(const char *buffer, size_t start) {
     while (start < LONGEST && buffer[start] == GUARD) {
         start++;
@@ -122,8 +122,8 @@ static int is_guard(const char *buffer, size_t start) {
     return start == LONGEST;
 }
 
-/* A call with so much room and so many requests granted answers and writes the text of the row, or says that room or memory is
-   wanting. Answers its status. */
+/* A call with this much room and this many allocations granted writes the text of the row, or reports too little room or memory.
+   Returns its status. */
 static uint32_t expect_text(const struct row *r, size_t room, long requests) {
     static char buffer[LONGEST];
     memset(buffer, GUARD, LONGEST);
@@ -151,7 +151,7 @@ static void expect_writes(const struct row *r) {
     }
 }
 
-/* Whether lines are those of a row, where each stands in brackets, between blanks. */
+/* Whether lines are those of a row, in which each is in brackets, between blanks. */
 static int are_lines(const struct row *r, const char *lines, const size_t *ends, size_t count) {
     static char listed[LONGEST];
     size_t len = 0, start = 0;
@@ -162,8 +162,8 @@ static int are_lines(const struct row *r, const char *lines, const size_t *ends,
     return len == r->answer.len && memcmp(listed, r->answer.bytes, len) == 0;
 }
 
-/* A call with room for so many bytes and lines and so many requests granted writes the lines of the row, or says that room or
-   memory is wanting. */
+/* A call with room for this many bytes and lines and with this many allocations granted writes the lines of the row, or reports too
+   little room or memory. */
 static ansi_str_answers lines_of(const struct row *r, size_t room, size_t most, long requests) {
     static char buffer[LONGEST];
     static size_t ends[MOST_LINES + 1];
@@ -184,7 +184,7 @@ static ansi_str_answers lines_of(const struct row *r, size_t room, size_t most, 
     return answer;
 }
 
-/* With this room, which is too small, a call says how much all lines need. */
+/* With this room, which is too small, a call returns how much all lines need. */
 static void expect_too_small(const struct row *r, ansi_str_answers all, size_t room, size_t most) {
     ansi_str_answers answer = lines_of(r, room, most, -1);
     expect("too small", answer.status == ANSI_STR_TOO_SMALL && answer.len == all.len && answer.count == all.count);
@@ -203,7 +203,7 @@ static void expect_lines(const struct row *r) {
     }
 }
 
-/* A call that only tells. It takes no memory. */
+/* A call that writes nothing. It doesn't allocate. */
 static int is_told(const struct row *r) {
     int is_width = strcmp(r->call, "width") == 0;
     if (!is_width && strcmp(r->call, "fitting") != 0) {
@@ -243,7 +243,7 @@ static void expect_failures(void) {
     expect("nothing", ansi_str_pad(NULL, 0, 0, ANSI_STR_LEFT, NULL, 0).status == ANSI_STR_OK);
 }
 
-/* Whether the row's call isn't there in C. */
+/* Whether C lacks the row's call. */
 static bool is_left_out(const char *line) {
     return strncmp(line, "lines\t", 6) == 0 || strncmp(line, "link_at\t", 8) == 0;
 }

@@ -1,5 +1,5 @@
 /* What a program does with the library: a cell of a table, the parts of a line, the blocks of a text and their styles,
-   edits in turn, and what becomes of a call that can't be done. Ends with 1 where a call answers anything else. */
+   edits in turn, and the statuses of calls that fail. Exits with 1 if a call returns anything else. */
 #include "ansi_str.h"
 
 #include <stdio.h>
@@ -8,7 +8,7 @@
 
 static const char LOG[] = "\x1b[31merror\x1b[39m: disk \x1b[1mfull\x1b[22m";
 
-/* The program ends where a call answers anything else. */
+/* Ends the program if a call returns anything else. */
 static void expect(const char *what, int is_so) {
     if (!is_so) {
         fprintf(stderr, "example: %s\n", what);
@@ -119,7 +119,7 @@ static void do_edits(void) {
     expect("an edit that is refused", edited.status == ANSI_STR_REFUSED);
 }
 
-/* Each of the statuses but two, which are met above and, for lack of memory, in vectors.c. */
+/* Each of the statuses but two: one occurs above, and vectors.c has out of memory. */
 static void fail(void) {
     char buffer[] = "as it is";
     expect("no such part", ansi_str_part("a:b", 3, ":", 1, 2, buffer, 8).status == ANSI_STR_NO);

@@ -1,12 +1,12 @@
-/* Tries each number of the header: that it is the one that stands here, and that the library means it so. Ends with 1 where
-   one doesn't hold. */
+/* Checks each number of the header: it equals the one written here, and the library means the same by it. Exits with 1 if one
+   doesn't. */
 #include "ansi_str.h"
 
 #include <stdio.h>
 #include <stdlib.h>
 #include <string.h>
 
-/* Whether each request for memory is refused. */
+/* Whether each allocation is refused. */
 static int is_refusing = 0;
 
 void *__real_malloc(size_t size);
@@ -131,7 +131,7 @@ static void expect_colors(void) {
     }
 }
 
-/* Each kind of edit, by what it makes of " ab,cd ". */
+/* Each kind of edit, by its result on " ab,cd ". */
 static void expect_edits(void) {
     const struct {
         ansi_str_edit_step step;
@@ -158,8 +158,7 @@ static void expect_edits(void) {
     expect("an edit of no kind", ansi_str_edit(TEXT("a"), &unknown, 1, buffer, sizeof buffer).status, ANSI_STR_REFUSED);
 }
 
-/* The lengths, by a style in which everything is set: its start, its close, a text that is cut, and a part in which the style
-   is carried. */
+/* The lengths, by a style with everything set: its start, its close, a cut text, and a part into which the style is carried. */
 static void expect_lengths(void) {
     static const char SGR[] = "\x1b[0;99;1;2;3;4;5;6;7;8;9;19;20;21;26;38;2;255;255;255;48;2;255;255;255;58;2;255;255;255;51;52;53;"
                               "60;61;62;63;64;73;74m";

@@ -1,6 +1,6 @@
-/* Tries that the header passes no NULL on, where a caller gives NULL with a length of 0, and every other pointer, length and number
-   as it is. The calls themselves are those below, and look at what they are given alone. Ends with 1 where something doesn't
-   hold. */
+/* Checks that the header never passes NULL on if a caller gives NULL with a length of 0, and that it passes every other pointer,
+   length and number unchanged. The calls themselves are those below, which only check their arguments. Exits with 1 if one is
+   wrong. */
 #include "ansi_str.h"
 
 #include <stdio.h>
@@ -21,7 +21,7 @@ static const ansi_str_answer ANSWER;
 static const ansi_str_answers ANSWERS;
 static const ansi_str_style_answer STYLE;
 
-/* What a caller gives: NULL and 0 alone, or pointers, and lengths and numbers that are past 32 bits. */
+/* What a caller gives: only NULL and 0, or pointers, with lengths and numbers above 32 bits. */
 static int is_given = 0;
 static char text_bytes[1], pattern_bytes[1], room[1];
 static size_t ends_given[1];
@@ -103,7 +103,7 @@ ansi_str_answer ansi_str_raw_pad(TEXT, size_t i, uint32_t alignment, BUFFER) {
 
 ansi_str_style_answer ansi_str_raw_block_style(TEXT, size_t i) { return EXPECT_TEXT, EXPECT_ONE, STYLE; }
 
-/* The walks and what they fill are the caller's own, and stand where it has them. */
+/* The walks and what they fill belong to the caller, and calls get the caller's pointers to them. */
 static ansi_str_block_walk block_walk;
 static ansi_str_next_block next_block;
 static ansi_str_part_walk part_walk;

@@ -1,13 +1,13 @@
-/* Passes rows of texts and answers through the calls, and ends with 1 where one differs.
+/* Makes the calls of rows of texts and results, and exits with 1 if a result differs.
 
-   A row is one line of standard input, its fields stand between TABs: a call, the status, the answer, the text, and then
-   what else the call takes. `\xHH` is the byte HH in a field; `bindings/test` has written out each `\{N:TEXT}`, which is
-   TEXT N times. The answer is a text, or the length where a call writes none; for `split`, `blocks` and `styled_blocks`
-   it is how many there are, and what they give follows what they take.
+   A row is one line of standard input with fields between TABs: a call, the status, the result, the text, and then the call's
+   other arguments. `\xHH` is the byte HH in a field; `bindings/test` has written out each `\{N:TEXT}`, which is TEXT N
+   times. The result is a text, or the length if a call writes none; for `split`, `blocks` and `styled_blocks` it is their
+   number, and the texts follow the arguments.
 
-   Each text is also asked for with a buffer that is one byte too small, with one that is larger, and with each request
-   for memory refused in turn: then nothing may be written, past the answer's length or at all. Of the calls for one block
-   of a row, each request is refused once. */
+   Each call for a text is repeated with a buffer that is one byte too small, with a larger one, and with each allocation
+   refused in turn. With the larger buffer nothing may be written past the result, with the others nothing at all. Of the
+   calls for the blocks of a row, each allocation is refused once. */
 #include "ansi_str.h"
 
 #include <stdio.h>
@@ -16,10 +16,10 @@
 
 enum { MOST_FIELDS = 8192, GUARD = 0x5a };
 
-/* Requests for memory that are still granted; a negative number grants all. */
+/* Allocations that are still granted; a negative number grants all. */
 static long granted = -1;
 
-/* How many calls have told of lack of memory. */
+/* How many calls have reported out of memory. */
 static long wanting = 0;
 
 void *__real_malloc(size_t size);
@@ -69,7 +69,7 @@ static uint32_t status_of(const struct row *r) { return (uint32_t)number(r, 1); 
 
 static const struct text *text_of(const struct row *r) { return &r->fields[3]; }
 
-/* What a row takes beside its text. */
+/* An argument of a row's call besides its text. */
 static const struct text *argument(const struct row *r, size_t i) {
     expect("an argument", 4 + i < r->count);
     return &r->fields[4 + i];
@@ -147,7 +147,7 @@ static ansi_str_answer call(const struct row *r, char *buffer, size_t len) {
     return answer;
 }
 
-/* A buffer whose bytes all are GUARD. */
+/* A buffer with all bytes GUARD. */
 static char *guarded(size_t len) {
     char *buffer = __real_malloc(len + 1);
     memset(buffer, GUARD, len + 1);
@@ -163,7 +163,7 @@ static int is_guard(const char *buffer, size_t start, size_t end) {
     return 1;
 }
 
-/* After a call with few requests granted: whether it tells of lack of memory, and then it has written nothing. */
+/* After a call with few allocations granted: whether it reports out of memory; if so, it must have written nothing. */
 static int is_wanting(uint32_t status, const char *buffer, size_t len) {
     granted = -1;
     if (status != ANSI_STR_OUT_OF_MEMORY) {
@@ -174,7 +174,7 @@ static int is_wanting(uint32_t status, const char *buffer, size_t len) {
     return 1;
 }
 
-/* A call with a buffer of so many bytes answers and writes this text, or fails. */
+/* A call with a buffer of this many bytes returns and writes this text, or fails. */
 static void expect_text(const struct row *r, uint32_t status, const struct text *wanted, size_t room) {
     char *buffer = guarded(room);
     ansi_str_answer answer = call(r, buffer, room);
@@ -190,8 +190,8 @@ static void expect_text(const struct row *r, uint32_t status, const struct text 
     free(buffer);
 }
 
-/* The call with a buffer of the right size, with others, and with each request for memory refused in turn but the first
-   `granted_before`. Answers how many requests the call makes. */
+/* The call with a buffer of the right size, with others, and with each allocation refused in turn but the first
+   `granted_before`. Returns how many allocations the call makes. */
 static long expect_writes(const struct row *r, uint32_t status, const struct text *wanted, long granted_before) {
     expect_text(r, status, wanted, wanted->len);
     expect_text(r, status, wanted, wanted->len + 7);
@@ -212,7 +212,7 @@ static long expect_writes(const struct row *r, uint32_t status, const struct tex
     return requests;
 }
 
-/* A call that only tells. */
+/* A call that writes nothing. */
 static int expect_told(const struct row *r) {
     const char *name = r->fields[0].bytes;
     const struct text *t = text_of(r);
@@ -239,7 +239,7 @@ static int expect_told(const struct row *r) {
     return 1;
 }
 
-/* A row of its own for one part or block of a row, as `expect_writes` has it. */
+/* Makes a row for one part or block of a row, for `expect_writes`. */
 static long expect_one(const struct row *r, const char *name, uint32_t status, size_t index, const struct text *wanted,
                        long granted_before) {
     static struct row one;
@@ -256,7 +256,7 @@ static long expect_one(const struct row *r, const char *name, uint32_t status, s
 
 static const struct text EMPTY = {(char *)(uintptr_t)"", 0};
 
-/* The next part of a walk is this text. Where memory or room is wanting, the walk is as it was. */
+/* The next part of a walk is this text. If memory or room is too little, the walk is unchanged. */
 static void expect_next_part(ansi_str_part_walk *walk, const struct text *wanted) {
     char *buffer = guarded(wanted->len);
     ansi_str_next_part part;
@@ -335,14 +335,14 @@ static void expect_parts(const struct row *r) {
     free(ends);
 }
 
-/* A color as a row has it: its kind and its numbers. */
+/* A color in a row: its kind and its numbers. */
 static int is_color(const ansi_str_color *color, const struct text *wanted) {
     char text[64];
     snprintf(text, sizeof text, "%u,%u,%u,%u,%u", (unsigned)color->kind, color->number, color->red, color->green, color->blue);
     return strcmp(text, wanted->bytes) == 0;
 }
 
-/* A style as a row has it: its attributes, two colors, and whether it has something to end. */
+/* A style in a row: its attributes, two colors, and whether it has something to close. */
 static int is_style(const struct row *r, size_t i, const ansi_str_style *style) {
     return style->attributes == number(r, i) && is_color(&style->foreground, &r->fields[i + 1]) &&
            is_color(&style->background, &r->fields[i + 2]) && (size_t)style->has_any == number(r, i + 3);
@@ -368,7 +368,7 @@ static void expect_sequences(ansi_str_answer (*call_of)(const ansi_str_style_num
     free(buffer);
 }
 
-/* The next block of a walk is this text in this style. Where memory or room is wanting, the walk is as it was. */
+/* The next block of a walk is this text in this style. If memory or room is too little, the walk is unchanged. */
 static void expect_next(ansi_str_block_walk *walk, const struct text *wanted, const ansi_str_style *style) {
     char *buffer = guarded(wanted->len);
     ansi_str_next_block block;
@@ -405,7 +405,7 @@ static ansi_str_block_walk walk_over(const struct text *t, uint32_t status) {
     return walk;
 }
 
-/* No block is left of a walk, now and ever after. */
+/* A walk has no block left, now and at every later call. */
 static void expect_end(ansi_str_block_walk *walk) {
     ansi_str_next_block block;
     for (int i = 0; i < 2; i++) {
@@ -434,7 +434,7 @@ static void expect_blocks(const struct row *r) {
     expect("status", answer.status == status);
     expect("how many and how long", answer.count == count && answer.len == len && buffer[len] == GUARD);
     size_t start = 0;
-    /* (the call for a block begins with the requests of the one for the block before, and so each is refused once) */
+    /* (the call for a block begins with the allocations of the call for the block before, so each is refused once) */
     requests = 0;
     ansi_str_block_walk walk = walk_over(t, status);
     for (size_t i = 0; i < count; i++) {
@@ -463,7 +463,7 @@ static void expect_blocks(const struct row *r) {
     free(blocks);
 }
 
-/* All blocks in one call with the starts and the ends of their styles, which a row has before and after each text. */
+/* All blocks in one call with the starts and closes of their styles, which a row has before and after each text. */
 static void expect_styled_blocks(const struct row *r) {
     const struct text *t = text_of(r);
     size_t count = number(r, 2), len = 0;
@@ -518,7 +518,7 @@ static char byte_of(const char *digits) {
     return (char)strtol(two, NULL, 16);
 }
 
-/* The fields of a line, which is changed: each field ends with a 0. */
+/* The fields of a line. Changes the line: each field ends with a 0. */
 static void read_row(char *line, struct row *r) {
     r->count = 0;
     char *to = line;

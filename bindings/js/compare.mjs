@@ -1,5 +1,5 @@
-// Times strip, cut, wrap and width beside Debian's strip-ansi, slice-ansi, wrap-ansi and string-width, in one run, and tells which
-// rows of texts and answers these get wrong, and in what. NODE_PATH=/usr/share/nodejs node compare.mjs
+// Times strip, cut, wrap and width and Debian's strip-ansi, slice-ansi, wrap-ansi and string-width in one run, and prints the rows of
+// texts and results that those packages get wrong, and how. NODE_PATH=/usr/share/nodejs node compare.mjs
 import { execFileSync } from 'node:child_process';
 import { mkdtempSync, readFileSync, rmSync, statSync } from 'node:fs';
 import { createRequire } from 'node:module';
@@ -23,7 +23,7 @@ function clock() {
   return user + system;
 }
 
-/** The least time of a call in microseconds, of 25 rounds of 20 ms or so, after a second; or of one call that takes longer. */
+/** The least time of a call in microseconds: after a second, of 25 rounds of some 20 ms; or of one call, if it takes longer. */
 function timed(call) {
   const start = clock();
   let [calls, from] = [0, start];
@@ -70,7 +70,7 @@ for (const [name, text] of Object.entries(texts)) {
   }
 }
 
-/** What is seen of a text: each stretch of its plain text with its style. */
+/** What a text shows: each stretch of its plain text with its style. */
 function seen(text, edit = (stretch) => stretch) {
   const stretches = [];
   for (const { text: given, style } of blocks(text)) {
@@ -87,7 +87,7 @@ function seen(text, edit = (stretch) => stretch) {
 
 const withoutBlanks = (text) => text.replace(/\s/g, '');
 
-/** Whether the text, shown alone, leaves a style open. */
+/** Whether the text by itself leaves a style open. */
 const isOpen = (text) => blocks(`${text}x`).at(-1).style.hasAny;
 
 const judged = {};

@@ -1,18 +1,23 @@
 // Text with ANSI control sequences, taken as if the sequences weren't there.
 //
-// A position counts UTF-16 units of the plain text, which is the text without its sequences, as JavaScript counts them in a
-// string. Each call throws a TypeError for a text that is no string or has a lone surrogate, and for a position that is no whole
-// number; a RangeError for one below 0; and an OutOfMemoryError. After each the next call is as any other.
+// The plain text is the text without its sequences. A position counts its UTF-16 units, as JavaScript does in a string.
+//
+// Each call throws
+// - a TypeError for a text that is no string or has a lone surrogate, and for a position that is no whole number;
+// - a RangeError for a position below 0;
+// - an OutOfMemoryError.
+// No error affects later calls.
 
-/** Memory has run out. The next call can be made as any other. */
+/** Memory has run out. */
 export class OutOfMemoryError extends Error {}
 
 /** The plain text. */
 export function strip(text: string): string;
 
 /**
- * The text from `start` to `end`, or to its end: its styles are opened before it and closed after it. A position past the end is
- * the end. Throws a RangeError where the end is before the start, or a position lies between the surrogates of a character.
+ * The text from `start` to `end`, or to its end, in its styles: every sequence up to `end` stays, and the style still open there is
+ * closed. A position past the end is the end. Throws a RangeError if `end` is below `start`, or if a position is between the
+ * surrogates of a character.
  */
 export function cut(text: string, start: number, end?: number): string;
 
@@ -22,7 +27,7 @@ export function splitAt(text: string, index: number): [string, string];
 /** The text without white space at both ends, as Unicode has it (`White_Space`). Sequences stay. */
 export function trim(text: string): string;
 
-/** Where the pattern first stands in the plain text, or -1. A match may run across sequences. */
+/** The position of the pattern's first match in the plain text, or -1. A match may run across sequences. */
 export function find(text: string, pattern: string): number;
 
 /** The parts of the text between the matches of the pattern, each in its styles. */
@@ -38,15 +43,15 @@ export type Edit =
   | ['trim'];
 
 /**
- * What edits make of a text, each done on what the one before gave, or null where one is refused: where a position is bad,
- * where the prefix or suffix is absent, or where there is no such part.
+ * The text after all edits, each made on the result of the one before. Null if one is refused: its positions are bad, its prefix
+ * or suffix is absent, or there is no such part.
  */
 export function edit(text: string, edits: Iterable<Edit>): string | null;
 
 export type Attribute =
   | 'bold' | 'faint' | 'italic' | 'underline' | 'slowBlink' | 'rapidBlink' | 'inverse' | 'hide' | 'crossedOut' | 'fraktur';
 
-/** A color by its name, by its number of 256, or by red, green and blue; or null where none is set. */
+/** A color by its name, by its number of 256, or by red, green and blue; null if none is set. */
 export type Color =
   | null
   | 'black' | 'red' | 'green' | 'yellow' | 'blue' | 'purple' | 'magenta' | 'cyan' | 'white'
@@ -59,9 +64,9 @@ export interface Style {
   attributes: Attribute[];
   foreground: Color;
   background: Color;
-  /** Whether the style has something to end. */
+  /** Whether the style has something to close. */
   hasAny: boolean;
-  /** The sequences that set the style, and those that end it. */
+  /** The sequences that set the style, and those that close it. */
   start: string;
   end: string;
 }
@@ -71,23 +76,26 @@ export interface Block {
   style: Style;
 }
 
-/** The blocks of the text: the runs of plain text between SGR sequences, each with its style. */
+/**
+ * The blocks of the text. Each is a run of plain text up to the next sequence or lone ESC, with its style. Lone ESCs and sequences
+ * other than SGRs before the run are part of the block's text.
+ */
 export function blocks(text: string): Block[];
 
-/** The columns of the text in a terminal: those of the extended grapheme clusters of its plain text, added up. */
+/** The display width of the text in columns: the sum over the extended grapheme clusters of its plain text. */
 export function width(text: string): number;
 
-/** The position up to which the plain text fits into so many columns. The text can be cut there. */
+/** The position up to which the plain text fits into `width` columns. The text can be cut there. */
 export function fitting(text: string, width: number): number;
 
 /**
- * The text cut to so many columns, with a tail, as `…`, where it is cut and the tail fits. What is open at the end of the text is
- * ended before the tail: its link (OSC 8), and then its style.
+ * The text truncated to `width` columns. If it is truncated and the tail, for example `…`, fits, the tail follows. Before the tail,
+ * the link (OSC 8) and then the style still open at the end of the text are closed.
  */
 export function truncate(text: string, width: number, tail?: string): string;
 
-/** The text, filled up with blanks to so many columns. What is open at its end is ended before those after it. */
+/** The text padded with blanks to `width` columns. Its link and style still open at its end are closed before the blanks after it. */
 export function pad(text: string, width: number, alignment?: 'left' | 'center' | 'right'): string;
 
-/** The lines of the text at a width. Each ends what it leaves open, and the next opens it again. */
+/** The text wrapped to lines of `width` columns. Each line closes the link and style it leaves open; the next reopens them. */
 export function wrap(text: string, width: number): string[];

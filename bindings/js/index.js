@@ -28,7 +28,7 @@ function numberOf(name, value) {
   return Math.min(value, END);
 }
 
-// (each character of ASCII is one byte and one unit, so a position in units is one in bytes)
+// (an ASCII character is one byte and one unit, so its position in units is its position in bytes)
 const isAscii = (text) => /^[\0-\x7f]*$/.test(text);
 
 function bytesOf(text) {
@@ -40,7 +40,7 @@ function bytesOf(text) {
   return bytes;
 }
 
-/** A position in units of the plain text as one in its bytes. Between two surrogates it is one inside their character. */
+/** Converts a position in units of the plain text to bytes. A position between two surrogates becomes one inside their character. */
 function placeOf(plain, position) {
   if (position >= plain.length) {
     return bytesOf(plain) + position - plain.length;
@@ -49,7 +49,7 @@ function placeOf(plain, position) {
   return before.isWellFormed() ? bytesOf(before) : bytesOf(before.slice(0, -1)) + 2;
 }
 
-/** A position in bytes of the plain text as one in its units. */
+/** Converts a position in bytes of the plain text to units. */
 function unitsOf(plain, position) {
   let [bytes, units] = [0, 0];
   for (const character of plain) {
@@ -62,7 +62,7 @@ function unitsOf(plain, position) {
   return units;
 }
 
-/** The edit as a step of the library: its kind, its numbers, of which `places` says which are positions, and its pattern. */
+/** The edit as a step of the library: its kind, its numbers, which of them are positions (`places`), and its pattern. */
 function stepOf(edit) {
   if (!Array.isArray(edit) || !Object.hasOwn(KINDS, edit[0])) {
     throw new TypeError('an edit must be an array that begins with the name of an edit');
@@ -91,7 +91,7 @@ export function edit(text, edits) {
   if (isAscii(text)) {
     return raw.edit(text, steps);
   }
-  // positions of a step count units of what the steps before it gave
+  // positions of a step count units of the result of the steps before it
   let given = text;
   for (const step of steps) {
     const placed = { ...step };

@@ -1,4 +1,4 @@
-// The module of WebAssembly, and the way of texts into its memory and of answers out of it.
+// The WebAssembly module, and how texts get into its memory and results out of it.
 
 const OK = 0;
 const NO = 1;
@@ -7,16 +7,16 @@ const TOO_SMALL = 4;
 const OUT_OF_MEMORY = 5;
 
 const PAGE = 65536;
-/** No memory has so many pages. */
+/** More pages than any memory has. */
 const ANY_PAGES = 2 ** 31;
-/** An arena is so many bytes short of whole pages, as the module's arena leaves them to the system. */
+/** An arena is this many bytes short of whole pages, which the module's arena leaves to the system. */
 const SHORT = 16;
-/** A memory that has grown past so many bytes is given back after the call. */
+/** A memory that has grown past this many bytes is released after the call. */
 const KEPT = 16 * 2 ** 20;
-/** A text of ASCII of fewer units is sooner copied one by one. */
+/** An ASCII text of fewer units is copied faster unit by unit. */
 const FEW = 64;
 
-/** The bytes of the numbers and pointers that a call passes by memory, ahead of texts. */
+/** The size in bytes of the numbers and pointers that a call passes in memory, ahead of texts. */
 const ANSWER = 32;
 const BLOCK = 16;
 const STEP = 40;
@@ -26,7 +26,7 @@ const END = 8;
 const encoder = new TextEncoder();
 const decoder = new TextDecoder('utf-8', { ignoreBOM: true });
 
-/** Memory has run out. The next call can be made as any other. */
+/** Memory has run out. No error affects later calls. */
 export class OutOfMemoryError extends Error {
   constructor() {
     super('out of memory');
@@ -63,7 +63,7 @@ try {
 
 const padded = (size, unit) => Math.ceil(size / unit) * unit;
 
-/** An instance of the module, and its memory as it is read and written. */
+/** An instance of the module, and views of its memory. */
 class Instance {
   constructor() {
     this.exports = new WebAssembly.Instance(module).exports;
@@ -72,13 +72,13 @@ class Instance {
     this.look();
   }
 
-  /** Sees all of the memory: growth takes what was seen before. */
+  /** Makes views of the whole memory. Growth invalidates earlier views. */
   look() {
     this.bytes = new Uint8Array(this.exports.memory.buffer);
     this.view = new DataView(this.exports.memory.buffer);
   }
 
-  /** Has at least so many bytes from the base on. */
+  /** Grows the memory to at least this many bytes from the base on. */
   reserve(size) {
     const lacks = this.base + size - this.bytes.length;
     if (lacks > 0) {
@@ -88,7 +88,7 @@ class Instance {
   }
 }
 
-/** What a call takes and gives, in the memory of an instance. */
+/** The arguments and the result of a call, in the memory of an instance. */
 class Frame {
   constructor(instance, texts, steps, room, arena) {
     const size = ANSWER + BLOCK + steps.length * STEP + room.bytes + room.entries * room.entry + 16 * texts.length + 64;
@@ -117,14 +117,14 @@ class Frame {
     });
   }
 
-  /** The place of so many bytes that are free. */
+  /** Reserves this many bytes and returns their place. */
   take(size) {
     const place = this.free;
     this.free += padded(size, 16);
     return place;
   }
 
-  /** Writes a text, and gives its place and length. */
+  /** Writes a text, and returns its place and length. */
   put(text) {
     const place = this.take(3 * text.length);
     let length = 0;
@@ -156,14 +156,14 @@ class Frame {
     return start === end ? '' : decoder.decode(this.bytes.subarray(this.buffer + start, this.buffer + end));
   }
 
-  /** What gives the texts of a list, which has so many bytes: where these are ASCII, each is a slice of one string. */
+  /** Returns a function that reads the texts of a list of this many bytes. If these are ASCII, each text is a slice of one string. */
   get each() {
     const length = this.word(this.answer + 16);
     const whole = this.text(0, length);
     return whole.length === length ? (start, end) => whole.slice(start, end) : (start, end) => this.text(start, end);
   }
 
-  /** The pointers and lengths that a call takes, as an export has them: of its answer and memory, its buffer and its entries. */
+  /** The pointers and lengths that an export takes: those of its result and memory, its buffer and its entries. */
   get head() {
     return [BigInt(this.answer), BigInt(this.block)];
   }
@@ -177,16 +177,16 @@ class Frame {
   }
 }
 
-/** The instance of the next call, or null where there is none yet or the last one took much memory. */
+/** The instance of the next call, or null if there is none yet or the last one used much memory. */
 let kept = null;
 
 /**
- * Makes a call until its answer has room and it has memory enough, and gives what `read` makes of the frame, or null where
- * the call gives nothing.
+ * Repeats a call until its result has room and it has enough memory. Returns what `read` makes of the frame, or null if the call
+ * has no result.
  */
 function called(texts, steps, room, ask, read) {
   const size = texts.reduce((sum, text) => sum + text.length, room.bytes);
-  // (the texts of a list are put together there, of texts that stay)
+  // (the texts of a list are assembled there, from texts that stay)
   let arena = padded((room.entry > 0 ? 4 : 1) * size + PAGE, PAGE);
   try {
     for (;;) {
@@ -248,7 +248,7 @@ export function find(text, pattern) {
   return called([text, pattern], [], roomFor(0), (exports, frame) => exports.ansi_str_raw_find(frame.head[0], ...frame.texts[0], ...frame.texts[1]), told);
 }
 
-/** What steps make of a text, or null where one is refused. */
+/** The text after all steps, or null if one is refused. */
 export function edit(text, steps) {
   const texts = [text, ...steps.map((step) => step.pattern)];
   return called(texts, steps, roomForOne(text),
@@ -260,12 +260,12 @@ export function split(text, pattern) {
     (exports, frame) => exports.ansi_str_raw_split(...frame.head, ...frame.texts[0], ...frame.texts[1], ...frame.out, ...frame.list), listed);
 }
 
-/** The columns of the plain text. */
+/** The display width of the plain text, in columns. */
 export function width(text) {
   return called([text], [], roomFor(0), (exports, frame) => exports.ansi_str_raw_width(frame.head[0], ...frame.texts[0]), told);
 }
 
-/** Up to which position in bytes of the plain text it fits. */
+/** The position, in bytes of the plain text, up to which it fits. */
 export function fitting(text, width) {
   return called([text], [], roomFor(0), (exports, frame) => exports.ansi_str_raw_fitting(frame.head[0], ...frame.texts[0], BigInt(width)), told);
 }

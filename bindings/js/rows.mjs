@@ -1,9 +1,9 @@
-// The rows of texts and answers that the library for C is tested with, in Node and in a page.
+// Runs the rows of texts and results that test the library for C, in Node and in a page.
 import { blocks, cut, edit, find, fitting, pad, split, splitAt, strip, trim, truncate, width, wrap } from './index.js';
 
 /** The calls whose arguments are positions. */
 const PLACED = ['cut', 'left', 'right'];
-/** What stands for a character in a row on columns, after `\`. */
+/** The letters that mean a character in a row on columns, after `\`. */
 const ESCAPES = { e: '\x1b', a: '\x07', n: '\n', r: '\r', t: '\t' };
 
 async function read(url) {
@@ -23,7 +23,7 @@ function unitsOf(bytes) {
   return units;
 }
 
-/** The text of these bytes, or null where they aren't UTF-8. */
+/** The text of these bytes, or null if they aren't UTF-8. */
 function decoded(bytes) {
   try {
     return new TextDecoder('utf-8', { fatal: true, ignoreBOM: true }).decode(bytes);
@@ -32,7 +32,7 @@ function decoded(bytes) {
   }
 }
 
-/** The text of a string of one unit for each byte, or null where they aren't UTF-8. */
+/** The text of a string of one unit for each byte, or null if the bytes aren't UTF-8. */
 const textOf = (units) => (/^[\0-\x7f]*$/.test(units) ? units : decoded(Uint8Array.from(units, (unit) => unit.charCodeAt(0))));
 
 /** The lines of a file of rows, as strings of one unit for each byte. */
@@ -49,8 +49,8 @@ function fieldOf(field) {
 }
 
 /**
- * The rows of which every field is text, without what they say of memory: a call, its status, its answer, a text, and what else the
- * call takes or gives.
+ * The rows whose fields are all text, without what they say of memory: a call, its status, its result, a text, and what else the
+ * call takes or returns.
  */
 export async function rows() {
   const lines = await linesOf('ansi_rows');
@@ -58,7 +58,7 @@ export async function rows() {
     .filter((row) => !row.includes(null));
 }
 
-/** The rows on columns: a call, a text, a width, a word and an answer. */
+/** The rows on columns: a call, a text, a width, a word and a result. */
 export async function columnRows() {
   const lines = await linesOf('ansi_columns_rows');
   return lines.map((line) => {
@@ -68,14 +68,14 @@ export async function columnRows() {
   });
 }
 
-/** A position among bytes as one among units, or null where it lies inside a character. */
+/** Converts a position in bytes to units. Null if it is inside a character. */
 export function inUnits(plain, position) {
   const bytes = new TextEncoder().encode(plain);
   const before = decoded(bytes.subarray(0, position));
   return before === null ? null : before.length + Math.max(position - bytes.length, 0);
 }
 
-/** What the calls of a row give, each beside what the row says. There is none where JavaScript has no such call or position. */
+/** What the calls of a row return, each with what the row says. Empty if JavaScript has no such call or position. */
 function answersOf([call, status, want, text, ...more]) {
   const found = status === '0' ? want : null;
   const [first, second] = PLACED.includes(call) ? more.map((position) => inUnits(strip(text), Number(position))) : [];
@@ -110,7 +110,7 @@ function answersOf([call, status, want, text, ...more]) {
   }
 }
 
-/** The same of a row on columns. */
+/** The same for a row on columns. */
 function columnAnswersOf([call, text, columns, word, want]) {
   switch (call) {
     case 'width':
@@ -130,7 +130,7 @@ function columnAnswersOf([call, text, columns, word, want]) {
   }
 }
 
-/** Makes the calls of each row, and gives how many rows of each call passed. Throws where one answers anything else. */
+/** Makes the calls of each row, and returns how many rows of each call passed. Throws if one returns anything else. */
 export async function pass() {
   const passed = {};
   for (const [rowsOf, answers] of [[rows, answersOf], [columnRows, columnAnswersOf]]) {

@@ -1,4 +1,4 @@
-// Passes the rows of texts and answers that the library for C is tested with, and tries what only JavaScript has.
+// Runs the rows of texts and results that test the library for C, and tests what only JavaScript has.
 import assert from 'node:assert/strict';
 import { test } from 'node:test';
 import { OutOfMemoryError, blocks, cut, edit, find, fitting, pad, split, strip, trim, truncate, width, wrap } from './index.js';

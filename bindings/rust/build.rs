@@ -1,5 +1,5 @@
-//! Says where the library for C lies, and the kit's C library that it needs: in the folders of `ANSI_STR_C` and of
-//! `RATTLE_C`, else where the repository and the kit have them. Where one isn't there, says what to run.
+//! Tells cargo the folders of the library for C and of the kit's C library that it needs: those that `ANSI_STR_C` and
+//! `RATTLE_C` name, by default those of the repository and the kit. If one isn't there, says what to run.
 
 use std::env;
 use std::path::{Path, PathBuf};

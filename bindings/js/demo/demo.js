@@ -1,9 +1,9 @@
-// The page: what edits make of a text, and its lines at a width, shown from its blocks.
+// The page: the text after the edits, wrapped, and shown from its blocks.
 import { blocks, edit, strip, wrap } from '../index.js';
 
 const element = (id) => document.getElementById(id);
 
-/** A typed text with each `\e`, `\x1b`, `\033` and `\n` as the character that it stands for. */
+/** A typed text with each `\e`, `\x1b`, `\033` and `\n` replaced by its character. */
 const read = (typed) => typed.replace(/\\(e|x1[bB]|033)/g, '\x1b').replace(/\\n/g, '\n');
 
 /** A text with each control character written out. */

@@ -1,4 +1,4 @@
-//! The blocks of a text: its runs of one style.
+//! The blocks of a text: its runs, each with its style.
 
 use crate::calls;
 use crate::style::Style;
@@ -7,7 +7,8 @@ use std::borrow::Cow;
 use std::iter::FusedIterator;
 use std::option;
 
-/// The blocks of a text, in order: a run of text between sequences each, after those before it that set no style.
+/// The blocks of a text, in order. Each is a run of text up to the next sequence, after the non-SGR sequences since the
+/// last run.
 ///
 /// ```
 /// use ansi_str::{get_blocks, Color};
@@ -22,7 +23,7 @@ pub fn get_blocks(text: &str) -> AnsiBlockIter<'_> {
     })
 }
 
-/// A run of text in one style, after the sequences before it that set no style.
+/// A run of text in one style, after the non-SGR sequences since the last run.
 ///
 /// ```
 /// use ansi_str::get_blocks;
@@ -50,7 +51,7 @@ impl AnsiBlock<'_> {
         &self.text
     }
 
-    /// Whether the style has something to end.
+    /// Whether the style has something to close.
     ///
     /// ```
     /// use ansi_str::get_blocks;
@@ -75,7 +76,7 @@ impl AnsiBlock<'_> {
     }
 }
 
-/// The blocks of a text, in order, which [`get_blocks`] gives.
+/// An iterator over the blocks of a text, in order; [`get_blocks`] returns it.
 ///
 /// ```
 /// use ansi_str::get_blocks;

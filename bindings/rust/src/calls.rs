@@ -6,14 +6,14 @@ use std::marker::PhantomData;
 use std::mem::MaybeUninit;
 use std::{ptr, slice, str};
 
-/// What `include/ansi_str.h` says of a status.
+/// The statuses of `include/ansi_str.h`.
 const OK: u32 = 0;
 const NO: u32 = 1;
 const REFUSED: u32 = 2;
 const TOO_SMALL: u32 = 4;
 const OUT_OF_MEMORY: u32 = 5;
 
-/// No start of a style is longer, no close, and not both together.
+/// The greatest length of a style's start, of its close, and of both together.
 pub(crate) const LONGEST_START: usize = 163;
 pub(crate) const LONGEST_CLOSE: usize = 88;
 const LONGEST_START_AND_CLOSE: usize = LONGEST_START + LONGEST_CLOSE;
@@ -43,7 +43,7 @@ pub(crate) struct RawColor {
     blue: u8,
 }
 
-/// What can be told of a style.
+/// The visible part of a style.
 #[repr(C)]
 #[derive(Debug, Clone, Copy)]
 pub(crate) struct RawStyle {
@@ -53,7 +53,7 @@ pub(crate) struct RawStyle {
     pub(crate) has_any: bool,
 }
 
-/// A color, a font and a style as the library keeps them: their fields are its own.
+/// A color, a font and a style as the library keeps them. Their fields are private to it.
 #[repr(C)]
 #[derive(Debug, Clone, Copy, PartialEq, Eq)]
 struct ColorNumbers {
@@ -88,7 +88,7 @@ struct RawWalk {
     style: Numbers,
 }
 
-/// Where a walk over parts stands: its fields are the library's own.
+/// The state of a walk over parts. Its fields are private to the library.
 #[repr(C)]
 #[derive(Debug, Clone, Copy)]
 struct Place {
@@ -132,7 +132,7 @@ struct RawBlock {
     style: RawStyle,
 }
 
-// A text is a pointer to its first byte and its length, a buffer likewise. A pointer of a slice is never null.
+// A text or a buffer is a pointer to its first byte and its length. The pointer of a slice is never null.
 type Bytes = *const u8;
 type Room = *mut u8;
 
@@ -215,10 +215,10 @@ extern "C" {
     fn ansi_str_raw_style_end(style: *const Numbers, b: Room, m: usize) -> Answer;
 }
 
-/// A call is refused: a position lies inside a character, or the end of a range below its start.
+/// A call is refused: a position is inside a character, or the end of a range is below its start.
 pub(crate) struct Refusal;
 
-/// What a call answered, where it isn't done.
+/// The result of a call that isn't done.
 enum Unfinished {
     No,
     Refused,
@@ -240,7 +240,7 @@ fn outcome(status: u32, len: usize) -> Result<usize, Unfinished> {
 ///
 /// # Safety
 ///
-/// A call has answered `OK` and this length. So it has set these bytes, and they are UTF-8: it copies them out of a `str`
+/// A call has returned `OK` and this length. So it has set these bytes, and they are UTF-8: it copies them out of a `str`
 /// or a `String` of its own, which are UTF-8 by their types.
 unsafe fn text_of(mut buffer: Vec<u8>, len: usize) -> String {
     buffer.set_len(len);
@@ -248,11 +248,11 @@ unsafe fn text_of(mut buffer: Vec<u8>, len: usize) -> String {
     String::from_utf8_unchecked(buffer)
 }
 
-/// So much room is taken from the stack.
+/// How much room is on the stack.
 const SMALL: usize = 512;
 
-/// What a call writes, with so much room for it at first, and then with as much as it asks for. The room isn't set before:
-/// a call doesn't read it.
+/// What a call writes, first into this much room, then into as much as it asks for. The room is uninitialized: a call doesn't
+/// read it.
 #[inline]
 fn written(room: usize, mut call: impl FnMut(Room, usize) -> Answer) -> Result<String, Unfinished> {
     if room > SMALL {
@@ -262,11 +262,11 @@ fn written(room: usize, mut call: impl FnMut(Room, usize) -> Answer) -> Result<S
     let answer = call(small.as_mut_ptr().cast(), SMALL);
     match outcome(answer.status, answer.len) {
         Err(Unfinished::TooSmall(needed)) => written_from(needed, call),
-        // (most parts and blocks stand in the text as they are)
+        // (most parts and blocks occur unchanged in the text)
         Ok(0) => Ok(String::new()),
         ended => ended.map(|len| {
             let mut buffer = Vec::with_capacity(len);
-            // SAFETY: the call has set so many bytes, and there is room for them; for the text, as `text_of` says
+            // SAFETY: the call has set this many bytes, and there is room for them; for the text, as `text_of` says
             unsafe {
                 ptr::copy_nonoverlapping(small.as_ptr().cast(), buffer.as_mut_ptr(), len);
                 text_of(buffer, len)
@@ -291,7 +291,7 @@ fn written_from(
     }
 }
 
-/// A text that keeps no more than twice the room that it needs.
+/// A text whose capacity is at most twice what it needs.
 fn kept(mut text: String) -> String {
     if text.len() < text.capacity() / 2 {
         text.shrink_to_fit();
@@ -299,7 +299,7 @@ fn kept(mut text: String) -> String {
     text
 }
 
-/// What a call gives that has an answer for every text.
+/// The result of a call that succeeds for every text.
 fn always(given: Result<String, Unfinished>) -> String {
     given.unwrap_or_else(|_| unreachable!("this call is never refused"))
 }
@@ -308,8 +308,8 @@ fn is_so(answer: Answer) -> bool {
     outcome(answer.status, answer.len).is_ok()
 }
 
-// SAFETY, of every call below: a text and a pattern are given by the pointer and the length of a `str`, which is UTF-8 and lives until
-// the call returns, a buffer by those of a vector's spare room, which is this module's own and so overlaps no text.
+// SAFETY, of every call below: a text and a pattern are the pointer and the length of a `str`, which is UTF-8 and lives until the
+// call returns. A buffer is those of a vector's spare room, which is this module's own and so overlaps no text.
 
 pub(crate) fn strip(text: &str) -> String {
     always(written(text.len(), |b, m| unsafe {
@@ -419,13 +419,13 @@ pub(crate) fn pad(text: &str, width: usize, alignment: u32) -> String {
     }))
 }
 
-/// The lines of a text one after the other, and where each ends.
+/// The lines of a text one after the other, and the end of each.
 pub(crate) fn wrap(text: &str, width: usize) -> (String, Vec<usize>) {
     // (there is at most one line more than the text has bytes)
     let mut ends = Vec::with_capacity(text.len() + 1);
     let lines = written(text.len() + LONGEST_START_AND_CLOSE, |b, m| {
         let (t, n, free) = (text.as_ptr(), text.len(), ends.spare_capacity_mut());
-        // SAFETY: and the ends are given by the pointer and the length of a vector's spare room, of which so many are then set
+        // SAFETY: and the ends are the pointer and the length of a vector's spare room; the call has set this many of them
         unsafe {
             let answer = ansi_str_raw_wrap(t, n, width, b, m, free.as_mut_ptr().cast(), free.len());
             if answer.status == OK {
@@ -440,7 +440,7 @@ pub(crate) fn wrap(text: &str, width: usize) -> (String, Vec<usize>) {
     (always(lines), ends)
 }
 
-/// The parts that are left of a text.
+/// The parts of a text that are left.
 #[derive(Debug, Clone)]
 pub(crate) struct Parts<'a> {
     walk: RawPartWalk,
@@ -488,7 +488,7 @@ impl<'a> Iterator for Parts<'a> {
         });
         let written = written.ok()?;
         Some(if written.is_empty() {
-            // SAFETY: the call has told it, and the text lives as long as `'a` says
+            // SAFETY: the call has returned it, and the text lives as long as `'a` says
             Cow::Borrowed(unsafe { told(part.text, part.len) })
         } else {
             Cow::Owned(written)
@@ -496,14 +496,14 @@ impl<'a> Iterator for Parts<'a> {
     }
 }
 
-/// The blocks that are left of a text, each by its text and its style.
+/// The blocks of a text that are left, each as its text and its style.
 #[derive(Debug, Clone)]
 pub(crate) struct Blocks<'a> {
     walk: RawWalk,
     text: PhantomData<&'a str>,
 }
 
-// SAFETY: as of parts
+// SAFETY: as for parts
 unsafe impl Send for Blocks<'_> {}
 unsafe impl Sync for Blocks<'_> {}
 
@@ -521,7 +521,7 @@ pub(crate) fn blocks(text: &str) -> Blocks<'_> {
     }
 }
 
-/// What a call told of a text.
+/// A text that a call has returned.
 ///
 /// # Safety
 ///
@@ -547,7 +547,7 @@ impl<'a> Iterator for Blocks<'a> {
             ansi_str_raw_blocks_next(&mut self.walk, &mut block, b, m)
         });
         let mut sequences = sequences.ok()?;
-        // SAFETY: the call has told it, and the text lives as long as `'a` says
+        // SAFETY: the call has returned it, and the text lives as long as `'a` says
         let run = unsafe { told(block.text, block.len) };
         let text = if sequences.is_empty() {
             Cow::Borrowed(run)
@@ -560,7 +560,7 @@ impl<'a> Iterator for Blocks<'a> {
 }
 
 impl Numbers {
-    /// Those of a style in which nothing is set.
+    /// Those of a style with nothing set.
     pub(crate) const PLAIN: Numbers = Numbers {
         attributes: 0,
         foreground: ColorNumbers::NONE,
@@ -572,7 +572,7 @@ impl Numbers {
         },
     };
 
-    /// The sequences that set the style: none where nothing is set.
+    /// The sequences that set the style: none if nothing is set.
     pub(crate) fn start(&self) -> String {
         if *self == Numbers::PLAIN {
             return String::new();
@@ -582,7 +582,7 @@ impl Numbers {
         }))
     }
 
-    /// The sequences that end the style.
+    /// The sequences that close the style.
     pub(crate) fn end(&self) -> String {
         if *self == Numbers::PLAIN {
             return String::new();

@@ -1,14 +1,14 @@
-//! Columns of a terminal: how wide a text is shown, up to where it fits, and the text cut, filled up or wrapped.
+//! Columns of a terminal: display width, the longest prefix that fits, truncation, padding and wrapping.
 //!
-//! The columns of a text are those of the extended grapheme clusters of its plain text, added up (UAX #29, UAX #11): also those of
-//! a text without ESC, which std can't tell. Positions count bytes of the plain text.
+//! The display width of a text is the sum over the extended grapheme clusters of its plain text (UAX #29, UAX #11). The library
+//! computes it also for a text without ESC, since std can't. Positions count bytes of the plain text.
 
 use crate::{calls, AnsiStr};
 use std::borrow::Cow;
 use std::iter::FusedIterator;
 use std::vec;
 
-/// Where a text stands among the blanks that fill it up.
+/// The place of a padded text among its blanks.
 ///
 /// ```
 /// use ansi_str::columns::{Alignment, AnsiColumns};
@@ -18,16 +18,16 @@ use std::vec;
 pub enum Alignment {
     /// Before them.
     Left,
-    /// Between them: of an odd number, one more stands after the text.
+    /// Between them. If their number is odd, one more is after the text.
     Center,
     /// After them.
     Right,
 }
 
-/// The columns of a text, taken as if its sequences weren't there.
+/// Calls by the columns of a text, taken as if its sequences weren't there.
 pub trait AnsiColumns: AnsiStr {
-    /// The columns of the plain text. A cluster may run across sequences. A control character has one column, and so has
-    /// `"\r\n"`.
+    /// The display width of the plain text. A cluster may run across sequences. A control character has one column, and so
+    /// has `"\r\n"`.
     ///
     /// ```
     /// use ansi_str::columns::AnsiColumns;
@@ -37,8 +37,8 @@ pub trait AnsiColumns: AnsiStr {
     #[must_use]
     fn ansi_width(&self) -> usize;
 
-    /// The position up to which the plain text fits into so many columns, at which it can be cut and split: the last end of a
-    /// cluster such that what stands before it has at most so many.
+    /// The position up to which the plain text fits into `width` columns: the last end of a cluster with at most `width`
+    /// columns before it. The text can be cut and split there.
     ///
     /// ```
     /// use ansi_str::columns::AnsiColumns;
@@ -47,10 +47,10 @@ pub trait AnsiColumns: AnsiStr {
     #[must_use]
     fn ansi_fitting(&self, width: usize) -> usize;
 
-    /// The text cut to so many columns, to be shown. A text that fits is itself; else it goes up to where it fits beside the
-    /// tail, as [`ansi_cut`](AnsiStr::ansi_cut) has it, and the tail stands after it as it is. A tail that is wider than
-    /// `width` is left out. What is open at the end of the text is ended before the tail: its link (OSC 8), and then its
-    /// style. It is a borrow where it is a front of the text.
+    /// The text truncated to `width` columns. A text that fits stays whole. Any other is cut, as by
+    /// [`ansi_cut`](AnsiStr::ansi_cut), to the longest prefix that fits beside the tail, and the tail follows unchanged. A
+    /// tail wider than `width` is left out. The link (OSC 8) and then the style still open at the end of the text are closed
+    /// before the tail. The result is borrowed if it is a prefix of the text.
     ///
     /// ```
     /// use ansi_str::columns::AnsiColumns;
@@ -59,8 +59,8 @@ pub trait AnsiColumns: AnsiStr {
     #[must_use]
     fn ansi_truncate(&self, width: usize, tail: &str) -> Cow<'_, str>;
 
-    /// The text, filled up with blanks to so many columns, to be shown. What is open at its end is ended before the blanks: its
-    /// link, and then its style. A text that is as wide or wider gets no blanks, and is a borrow where nothing is open.
+    /// The text padded with blanks to `width` columns. The link and then the style still open at its end are closed before the
+    /// blanks. A text at least as wide gets no blanks, and is borrowed if nothing is open.
     ///
     /// ```
     /// use ansi_str::columns::{Alignment, AnsiColumns};
@@ -69,9 +69,9 @@ pub trait AnsiColumns: AnsiStr {
     #[must_use]
     fn ansi_pad(&self, width: usize, alignment: Alignment) -> Cow<'_, str>;
 
-    /// The lines of the text at a width, as they are shown. A line ends at a line end and where the next word doesn't fit, and
-    /// loses the blanks at its end; a word that is too wide is broken where a cluster ends. A width of 0 is as 1. What a line
-    /// leaves open is ended at its end, its link (OSC 8) and then its style, and opened at the beginning of the next.
+    /// The text wrapped to lines of `width` columns. A line ends at a line end or before a word that doesn't fit, and loses the
+    /// blanks at its end; a word that is too wide is broken at the end of a cluster. A width of 0 counts as 1. Each line closes
+    /// the link (OSC 8) and then the style that it leaves open; the next line reopens them.
     ///
     /// ```
     /// use ansi_str::columns::AnsiColumns;
@@ -82,11 +82,12 @@ pub trait AnsiColumns: AnsiStr {
     fn ansi_wrap(&self, width: usize) -> AnsiWrap;
 }
 
-/// The lines of a wrapped text, which [`AnsiColumns::ansi_wrap`] gives. The call makes all of them; the text isn't kept.
+/// An iterator over the lines of a wrapped text; [`AnsiColumns::ansi_wrap`] returns it. That call makes all of them, so the
+/// iterator doesn't borrow the text.
 #[derive(Debug, Clone)]
 pub struct AnsiWrap {
     lines: String,
-    /// Where the next line begins, and where it and those after it end.
+    /// The beginning of the next line, and the ends of it and of those after it.
     start: usize,
     ends: vec::IntoIter<usize>,
 }

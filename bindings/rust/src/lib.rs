@@ -1,13 +1,14 @@
 //! Text with ANSI control sequences, sliced, split, searched and trimmed as if the sequences weren't there, while every
 //! character keeps its style.
 //!
-//! The names are those of the crate `ansi-str` 0.9.0, and a program takes this one in its place by a patch in its
-//! `Cargo.toml`. The answers are those of a library that is proved, which `crates/ansi_str_c` builds for C; what
-//! differs from that crate's, `docs/DIFFERENCES.md` lists. Positions and lengths count bytes of the plain text, which is
-//! the text without its sequences; a position past its end counts as the end.
+//! The names are those of the crate `ansi-str` 0.9.0; a patch in a program's `Cargo.toml` replaces that crate with this
+//! one. A proved library does the work, which `crates/ansi_str_c` builds for C. `docs/DIFFERENCES.md` lists what differs
+//! from that crate. Positions and lengths count bytes of the plain text, which is the text without its sequences. A
+//! position past its end counts as the end.
 //!
-//! Where no ESC stands in a text, every answer is a borrow of it, and std gives it. Every other text that is answered is
-//! owned, but for an empty prefix or suffix, and for parts and blocks that stand in the text as they are. A call panics where memory has run out, as std's do.
+//! Results from a text without ESC are borrowed, and std computes them. Results from any other text are owned, except
+//! for an empty prefix or suffix, and for parts and blocks that occur unchanged in the text. Out of memory panics, as in
+//! std.
 //!
 //! ```
 //! use ansi_str::AnsiStr;
@@ -38,8 +39,8 @@ const ESC: u8 = 0x1b;
 
 /// A text, taken as if its sequences weren't there.
 pub trait AnsiStr {
-    /// The text of a range, as [`ansi_cut`](AnsiStr::ansi_cut) gives it, or `None` where a position lies inside a
-    /// character or the end below the start.
+    /// The text of a range, as [`ansi_cut`](AnsiStr::ansi_cut) returns it, or `None` if a position is inside a
+    /// character or the end is below the start.
     ///
     /// ```
     /// use ansi_str::AnsiStr;
@@ -54,7 +55,7 @@ pub trait AnsiStr {
     ///
     /// # Panics
     ///
-    /// Where a position lies inside a character, or the end below the start.
+    /// If a position is inside a character, or the end is below the start.
     ///
     /// ```
     /// use ansi_str::AnsiStr;
@@ -84,7 +85,7 @@ pub trait AnsiStr {
     #[must_use]
     fn ansi_floor_char_boundary(&self, index: usize) -> usize;
 
-    /// Where the pattern first stands in the plain text.
+    /// The position of the pattern's first match in the plain text, or `None`.
     ///
     /// ```
     /// use ansi_str::AnsiStr;
@@ -93,7 +94,7 @@ pub trait AnsiStr {
     #[must_use]
     fn ansi_find(&self, pat: &str) -> Option<usize>;
 
-    /// The text without a prefix of its plain text, every sequence at its place, or `None` where it isn't there.
+    /// The text without a prefix of its plain text, every sequence at its place, or `None` if the prefix isn't there.
     ///
     /// ```
     /// use ansi_str::AnsiStr;
@@ -104,7 +105,7 @@ pub trait AnsiStr {
     #[must_use]
     fn ansi_strip_prefix(&self, prefix: &str) -> Option<Cow<'_, str>>;
 
-    /// The text without a suffix of its plain text, every sequence at its place, or `None` where it isn't there.
+    /// The text without a suffix of its plain text, every sequence at its place, or `None` if the suffix isn't there.
     ///
     /// ```
     /// use ansi_str::AnsiStr;
@@ -125,12 +126,12 @@ pub trait AnsiStr {
     /// ```
     fn ansi_split<'a>(&'a self, pat: &'a str) -> AnsiSplit<'a>;
 
-    /// The text before a position and the text from there on, each run of text between the start of its style and its
-    /// close.
+    /// The text before a position and the text from there on. Each run of text has the start of its style before it and
+    /// the close after it.
     ///
     /// # Panics
     ///
-    /// Where the position lies inside a character.
+    /// If the position is inside a character.
     ///
     /// ```
     /// use ansi_str::AnsiStr;
@@ -178,7 +179,7 @@ pub trait AnsiStr {
     #[must_use]
     fn ansi_strip(&self) -> Cow<'_, str>;
 
-    /// Whether an ESC stands in the text.
+    /// Whether the text has an ESC.
     ///
     /// ```
     /// use ansi_str::AnsiStr;
@@ -320,14 +321,14 @@ impl<T: AsRef<str> + ?Sized> AnsiStr for T {
     }
 }
 
-/// Whether no ESC stands in the first bytes of a text, so many or all of it: so far it is its own plain text.
+/// Whether the first `len` bytes of a text, or all of it, have no ESC: so far it is its own plain text.
 fn is_bare(text: &str, len: usize) -> bool {
     let front = &text.as_bytes()[..len.min(text.len())];
     // a text with sequences often begins with one
     front.first() != Some(&ESC) && !front.contains(&ESC)
 }
 
-/// The start of a range and its end; no end is `usize::MAX`, which is past every text.
+/// The start and the end of a range. `usize::MAX`, which is past every text, means no end.
 fn ends_of(range: &impl RangeBounds<usize>) -> (usize, usize) {
     let start = match range.start_bound() {
         Bound::Included(start) => *start,
@@ -342,7 +343,7 @@ fn ends_of(range: &impl RangeBounds<usize>) -> (usize, usize) {
     (start, end)
 }
 
-/// A range as a program writes it.
+/// A range, printed as in a program's source.
 fn as_written(range: (Bound<usize>, Bound<usize>)) -> String {
     let end = match range.1 {
         Bound::Included(last) => format!("..={last}"),
@@ -377,7 +378,7 @@ fn refuse_position(mid: usize) -> ! {
     panic!("the position {mid} lies inside a character of the plain text")
 }
 
-/// The parts of a text, in order, which [`AnsiStr::ansi_split`] gives.
+/// An iterator over the parts of a text, in order; [`AnsiStr::ansi_split`] returns it.
 ///
 /// ```
 /// use ansi_str::AnsiStr;
@@ -391,7 +392,7 @@ pub struct AnsiSplit<'a>(Parts<'a>);
 
 #[derive(Debug, Clone)]
 enum Parts<'a> {
-    /// those of a text without ESC
+    /// parts of a text without ESC
     Bare(str::Split<'a, &'a str>),
     Styled(calls::Parts<'a>),
 }

@@ -58,8 +58,7 @@ pub enum Color {
     Rgb(u8, u8, u8),
 }
 
-/// The style of a run of text. Two styles are equal where the sequences that set them are; which of two comes first is
-/// left open.
+/// The style of a run of text. Two styles are equal if the sequences that set them are; their order is unspecified.
 ///
 /// ```
 /// use ansi_str::get_blocks;
@@ -74,7 +73,7 @@ pub struct Style {
 }
 
 impl Style {
-    /// That of a text without ESC.
+    /// The style of a text without ESC.
     pub(crate) const EMPTY: Style = Style::new(RawStyle::EMPTY, Numbers::PLAIN);
 
     pub(crate) const fn new(told: RawStyle, numbers: Numbers) -> Self {
@@ -85,7 +84,7 @@ impl Style {
         self.told.has_any
     }
 
-    /// What of it can be seen, by which styles compare.
+    /// Its visible part, by which styles compare.
     fn seen(&self) -> impl Ord + Hash {
         let colors = (self.foreground(), self.background());
         let sequences = (self.numbers.start(), self.numbers.end());
@@ -104,7 +103,7 @@ impl Style {
         AnsiSequenceStart(self)
     }
 
-    /// Prints the sequences that end the style, and nothing where it has nothing to end.
+    /// Prints the sequences that close the style, and nothing if it has nothing to close.
     ///
     /// ```
     /// use ansi_str::get_blocks;
@@ -202,7 +201,7 @@ impl Debug for Style {
     }
 }
 
-/// The sequences that set a style, to be printed.
+/// Prints the sequences that set a style.
 ///
 /// ```
 /// use ansi_str::get_blocks;
@@ -217,7 +216,7 @@ impl Display for AnsiSequenceStart<'_> {
     }
 }
 
-/// The sequences that end a style, to be printed.
+/// Prints the sequences that close a style.
 ///
 /// ```
 /// use ansi_str::get_blocks;
@@ -227,7 +226,7 @@ impl Display for AnsiSequenceStart<'_> {
 pub struct AnsiSequenceEnd<'a>(&'a Style);
 
 impl AnsiSequenceEnd<'_> {
-    /// The sequence that ends every style.
+    /// The sequence that closes every style.
     ///
     /// ```
     /// use ansi_str::AnsiSequenceEnd;

@@ -1,9 +1,14 @@
 """Text with ANSI control sequences, taken as if the sequences weren't there, while every character keeps its style.
 
-The answers are those of a library that is proved, in the module in C beside this file; another file can be named in the
-environment variable ANSI_STR_SO. A text or a pattern is a `str`, and anything else a TypeError that names the argument; a
-lone surrogate is a UnicodeEncodeError, which is a ValueError. A position counts characters (code points) of the plain text,
-which is the text without its sequences: one past the end counts as the end, however large, and one below 0 is a ValueError.
+A proved library does the work, in the C module beside this file; the environment variable ANSI_STR_SO can name another file.
+
+The plain text is the text without its sequences. A position counts characters (code points) of the plain text. A position past
+the end, however large, counts as the end.
+
+Each call raises
+- a TypeError that names the argument, if a text or a pattern isn't a `str`;
+- a UnicodeEncodeError, which is a ValueError, for a lone surrogate;
+- a ValueError for a position below 0.
 
 >>> log = "\\x1b[31mred\\x1b[39m and plain"
 >>> strip(log)
@@ -38,11 +43,11 @@ COLORS = ("Black", "BrightBlack", "Red", "BrightRed", "Green", "BrightGreen", "Y
 ALIGNMENTS = ("left", "center", "right")
 _FIXED, _RGB = 19, 20
 
-# the attributes, two colors of a kind, a number, red, green and blue, whether there is something to end, and more that is the
-# library's own
+# the attributes; two colors, each a kind, a number, red, green and blue; whether there is something to close; and more that is
+# private to the library
 _STYLE = struct.Struct("=I I4B I4B ?")
 
-# the kinds of edits, the last position, and what is told of a text
+# the kinds of edits, the last position, and the questions about a text
 _CUT, _LEFT, _RIGHT, _PART, _PREFIX, _SUFFIX, _TRIM, _TRUNCATE, _PAD = range(9)
 _LAST = sys.maxsize
 _STARTS_WITH, _ENDS_WITH, _HAS_ANY, _IS_WHOLE, _FIND, _FITTING, _WIDTH = range(7)
@@ -94,7 +99,7 @@ def _cut_step(start: int, end: Optional[int]) -> _Step:
     if end is None:
         return _CUT, start, _LAST, b""
     end = _position("end", end)
-    # (large positions are one for the module, but those that are in the wrong order stay so)
+    # (the module takes all large positions as one; an end below its start has to stay below it)
     return (_CUT, start, end, b"") if start <= end else (_CUT, 1, 0, b"")
 
 
@@ -119,7 +124,7 @@ def strip(text: str) -> str:
 
 
 def cut(text: str, start: int = 0, end: Optional[int] = None) -> str:
-    """The text from one position up to another, each character in its style. ValueError: the end lies before the start.
+    """The text from one position up to another, each character in its style. ValueError: the end is below the start.
 
     >>> cut("\\x1b[30mTEXT\\x1b[39m", 1, 3)
     '\\x1b[30mEX\\x1b[39m'
@@ -131,7 +136,7 @@ def cut(text: str, start: int = 0, end: Optional[int] = None) -> str:
 
 
 def left(text: str, mid: int) -> str:
-    """The text before a position, each run of it between the start of its style and its close.
+    """The text before a position, each run of it with the start of its style before it and the close after it.
 
     >>> left("\\x1b[30mTEXT\\x1b[39m", 2)
     '\\x1b[30mTE\\x1b[39m'
@@ -140,7 +145,7 @@ def left(text: str, mid: int) -> str:
 
 
 def right(text: str, mid: int) -> str:
-    """The text from a position on, as `left`.
+    """The text from a position on, in the same form as `left`.
 
     >>> right("\\x1b[30mTEXT\\x1b[39m", 2)
     '\\x1b[30mXT\\x1b[39m'
@@ -149,7 +154,7 @@ def right(text: str, mid: int) -> str:
 
 
 def trim(text: str) -> str:
-    """The text without the white space at the ends of its plain text, every sequence kept.
+    """The text without the white space at the ends of its plain text. Every sequence stays.
 
     >>> trim(" \\x1b[31m red \\x1b[39m ")
     '\\x1b[31mred\\x1b[39m'
@@ -158,7 +163,7 @@ def trim(text: str) -> str:
 
 
 def strip_prefix(text: str, pattern: str) -> Optional[str]:
-    """The text without a prefix of its plain text, every sequence kept, or None where the plain text doesn't begin with it.
+    """The text without a prefix of its plain text, or None if the plain text doesn't begin with it. Every sequence stays.
 
     >>> strip_prefix("\\x1b[31mred\\x1b[39m", "re")
     '\\x1b[31md\\x1b[39m'
@@ -167,7 +172,7 @@ def strip_prefix(text: str, pattern: str) -> Optional[str]:
 
 
 def strip_suffix(text: str, pattern: str) -> Optional[str]:
-    """The text without a suffix of its plain text, every sequence kept, or None where the plain text doesn't end with it.
+    """The text without a suffix of its plain text, or None if the plain text doesn't end with it. Every sequence stays.
 
     >>> strip_suffix("\\x1b[31mred\\x1b[39m", "ed")
     '\\x1b[31mr\\x1b[39m'
@@ -176,7 +181,7 @@ def strip_suffix(text: str, pattern: str) -> Optional[str]:
 
 
 def part(text: str, pattern: str, index: int) -> Optional[str]:
-    """The part of an index, as `split` gives it, or None where there are not so many.
+    """The part of an index, counted from 0, as `split` returns it, or None if there is no such part.
 
     >>> part("\\x1b[31mlion::tiger\\x1b[0m", "::", 1)
     '\\x1b[31mtiger\\x1b[0m'
@@ -185,7 +190,7 @@ def part(text: str, pattern: str, index: int) -> Optional[str]:
 
 
 def find(text: str, pattern: str) -> Optional[int]:
-    """Where the pattern first stands in the plain text, or None.
+    """The position of the pattern's first match in the plain text, or None.
 
     >>> find("\\x1b[1mé\\x1b[0mb", "b")
     1
@@ -212,7 +217,7 @@ def ends_with(text: str, pattern: str) -> bool:
 
 
 def has_any(text: str) -> bool:
-    """Whether an ESC stands in the text.
+    """Whether the text has an ESC.
 
     >>> has_any("red"), has_any("\\x1b[31mred")
     (False, True)
@@ -230,7 +235,7 @@ def is_whole(text: str) -> bool:
 
 
 def width(text: str) -> int:
-    """The columns that the text has in a terminal: those of the extended grapheme clusters of its plain text, added up.
+    """The display width of the text in columns: the sum over the extended grapheme clusters of its plain text.
 
     >>> width("\\x1b[31m日本\\x1b[39m")
     4
@@ -239,7 +244,7 @@ def width(text: str) -> int:
 
 
 def fitting(text: str, width: int) -> int:
-    """The position up to which the plain text fits into so many columns, at which the text can be cut.
+    """The position up to which the plain text fits into `width` columns. The text can be cut there.
 
     >>> fitting("a\\x1b[1m日本", 4)
     2
@@ -248,8 +253,8 @@ def fitting(text: str, width: int) -> int:
 
 
 def truncate(text: str, width: int, tail: str = "") -> str:
-    """The text cut to so many columns, to be shown, and a tail where it is cut and the tail fits. What is open at the end of the
-    text is ended before the tail: its link (OSC 8), and then its style.
+    """The text truncated to `width` columns. If it is truncated and the tail fits, the tail follows. Before the tail, the link
+    (OSC 8) and then the style still open at the end of the text are closed.
 
     >>> truncate("\\x1b[31mabcdef\\x1b[39m", 4, "...")
     '\\x1b[31ma\\x1b[39m...'
@@ -258,8 +263,8 @@ def truncate(text: str, width: int, tail: str = "") -> str:
 
 
 def pad(text: str, width: int, alignment: str = "left") -> str:
-    """The text, filled up with blanks to so many columns, to be shown: it stands at the left, at the center or at the right of
-    them. What is open at its end is ended before the blanks. ValueError: the alignment is none of ALIGNMENTS.
+    """The text padded with blanks to `width` columns, at the left, the center or the right. The link and style still open at its
+    end are closed before the blanks. ValueError: the alignment is none of ALIGNMENTS.
 
     >>> pad("\\x1b[41mab", 5, "center")
     ' \\x1b[41mab\\x1b[49m  '
@@ -271,8 +276,8 @@ def pad(text: str, width: int, alignment: str = "left") -> str:
 
 
 def wrap(text: str, width: int) -> List[str]:
-    """The lines of the text at a width, as they are shown: what a line leaves open is ended at its end, and opened at the
-    beginning of the next. A line ends where the next word doesn't fit; a word that is too wide is broken. A width of 0 is as 1.
+    """The text wrapped to lines of `width` columns. Each line closes the link and style that it leaves open; the next line
+    reopens them. A line ends before a word that doesn't fit; a word that is too wide is broken. A width of 0 counts as 1.
 
     >>> wrap("\\x1b[31mlion tiger", 5)
     ['\\x1b[31mlion\\x1b[39m', '\\x1b[31mtiger\\x1b[39m']
@@ -281,18 +286,18 @@ def wrap(text: str, width: int) -> List[str]:
 
 
 class Cut(NamedTuple):
-    """The text from one position up to another, every sequence up to its end, and the close of the style there."""
+    """The text from one position up to another, with every sequence up to its end, and the close of the style there."""
     start: int = 0
     end: Optional[int] = None
 
 
 class Left(NamedTuple):
-    """The text before a position, each run of it between the start of its style and its close."""
+    """The text before a position, each run of it with the start of its style before it and the close after it."""
     mid: int
 
 
 class Right(NamedTuple):
-    """The text from a position on, likewise."""
+    """The text from a position on, in the same form."""
     mid: int
 
 
@@ -303,17 +308,17 @@ class Part(NamedTuple):
 
 
 class Prefix(NamedTuple):
-    """The text without a prefix of its plain text, every sequence kept."""
+    """The text without a prefix of its plain text. Every sequence stays."""
     pattern: str
 
 
 class Suffix(NamedTuple):
-    """The text without a suffix of its plain text, every sequence kept."""
+    """The text without a suffix of its plain text. Every sequence stays."""
     pattern: str
 
 
 class Trim(NamedTuple):
-    """The text without the white space at the ends of its plain text, every sequence kept."""
+    """The text without the white space at the ends of its plain text. Every sequence stays."""
 
 
 Edit = Union[Cut, Left, Right, Part, Prefix, Suffix, Trim]
@@ -339,8 +344,8 @@ def _step_of(edit: Edit) -> _Step:
 
 
 def edit(text: str, edits: Union[Edit, Iterable[Edit]]) -> Optional[str]:
-    """What an edit makes of a text, or each of a list, tuple or iterator of edits in turn. None where one is refused at its
-    turn: where an end lies before its start, the prefix or suffix isn't there, or there is no such part.
+    """The text after one edit, or after each edit of a list, tuple or iterator in turn. None if one is refused at its turn: an end
+    is below its start, the prefix or suffix isn't there, or there is no such part.
 
     >>> edit("> \\x1b[31mred", [Prefix("> "), Cut(0, 2)])
     '\\x1b[31mre\\x1b[39m'
@@ -355,7 +360,7 @@ def edit(text: str, edits: Union[Edit, Iterable[Edit]]) -> Optional[str]:
 
 
 def iter_split(text: str, pattern: str) -> Iterator[str]:
-    """The parts that `split` gives, each made when it is asked for.
+    """An iterator over the parts that `split` returns, each made on demand.
 
     >>> next(iter_split("lion::tiger", "::"))
     'lion'
@@ -365,7 +370,7 @@ def iter_split(text: str, pattern: str) -> Iterator[str]:
 
 def split(text: str, pattern: str) -> List[str]:
     """All parts between the matches of a pattern in the plain text, each with its sequences and in its style. An empty
-    pattern stands between any two characters and at both ends.
+    pattern matches between any two characters and at both ends.
 
     >>> split("\\x1b[31mlion::tiger\\x1b[0m", "::")
     ['\\x1b[31mlion\\x1b[39m', '\\x1b[31mtiger\\x1b[0m']
@@ -374,8 +379,8 @@ def split(text: str, pattern: str) -> List[str]:
 
 
 class Style(NamedTuple):
-    """The style of a block: the names of its attributes, its colors, whether it has something to end, and the sequences that
-    set it and end it. A color is a name, a number among 256, its red, green and blue, or None."""
+    """The style of a block: the names of its attributes, its colors, whether it has something to close, and the sequences that
+    set it and close it. A color is a name, a number among 256, its red, green and blue, or None."""
     attributes: FrozenSet[str]
     foreground: Union[str, int, Tuple[int, int, int], None]
     background: Union[str, int, Tuple[int, int, int], None]
@@ -385,7 +390,7 @@ class Style(NamedTuple):
 
 
 class Block(NamedTuple):
-    """A run of text in one style, after the sequences before it that set no style."""
+    """The non-SGR sequences since the last run, and then a run of text in one style."""
     text: str
     style: Style
 
@@ -412,7 +417,7 @@ def _blocks_of(blocks: Iterator[Tuple[str, bytes]]) -> Iterator[Block]:
 
 
 def iter_blocks(text: str) -> Iterator[Block]:
-    """The blocks that `blocks` gives, each made when it is asked for.
+    """An iterator over the blocks that `blocks` returns, each made on demand.
 
     >>> next(iter_blocks("\\x1b[31mred\\x1b[39m and plain")).text
     'red'
@@ -421,7 +426,7 @@ def iter_blocks(text: str) -> Iterator[Block]:
 
 
 def blocks(text: str) -> List[Block]:
-    """The runs of the text, each with its style.
+    """The blocks of the text: its runs, each up to the next sequence of any kind, with their styles.
 
     >>> [(block.text, block.style.foreground) for block in blocks("\\x1b[31mred\\x1b[39m and plain")]
     [('red', 'Red'), (' and plain', None)]

@@ -1,21 +1,21 @@
-/* The calls of the library for C on the UTF-8 of texts and patterns. __init__.py says what each does, and gives it good words:
-   `bytes` that are UTF-8, kinds of its own, and numbers that are at least 0. */
-/* (so one file is good for each CPython from 3.6 on) */
+/* The calls of the library for C on the UTF-8 of texts and patterns. __init__.py documents each call and passes only valid
+   arguments: `bytes` that are UTF-8, kinds that are defined here, and numbers that are at least 0. */
+/* (so one file works with each CPython from 3.6 on) */
 #define Py_LIMITED_API 0x03060000
 #include <Python.h>
 
 #include "ansi_str.h"
 
-/* what other threads may run beside: texts of so many bytes, or more */
+/* other threads may run during a call on a text of this many bytes or more */
 enum { LONG = 1 << 16 };
 
 /* kinds beside those of edits */
 enum { TRUNCATE = ANSI_STR_EDIT_TRIM + 1, PAD, STRIP };
 
-/* what a call tells of a text: up to IS_WHOLE whether it is so, then a position, and its columns */
+/* the questions about a text: those up to IS_WHOLE are yes or no, FIND and FITTING return a position, WIDTH columns */
 enum { STARTS_WITH, ENDS_WITH, HAS_ANY, IS_WHOLE, FIND, FITTING, WIDTH };
 
-/* a text at the front of a `bytes` that holds it */
+/* a text and the `bytes` that begins with it */
 typedef struct {
     PyObject *object;
     uint8_t *bytes;
@@ -58,7 +58,7 @@ static ansi_str_answer write_step(const Text *text, const ansi_str_edit_step *st
     }
 }
 
-/* Makes the text of a step, whose positions count bytes. False with an error, or without one where the step is refused. */
+/* Makes the text of a step, whose positions count bytes. Returns false with an error set, or with none if the step is refused. */
 static bool make_step(const Text *text, const ansi_str_edit_step *step, Text *made) {
     size_t size = text->size + ANSI_STR_LONGEST_START_AND_CLOSE;
     ansi_str_answer answer;
@@ -93,7 +93,7 @@ static bool begins_character(uint8_t byte) {
     return (byte & 0xC0) != 0x80;
 }
 
-/* The place in a plain text that is so many characters after another, or its end. */
+/* The place in a plain text that is `characters` characters after another place, or the end. */
 static size_t place_after(const Text *plain, size_t place, size_t characters) {
     while (place < plain->size && (!begins_character(plain->bytes[place]) || characters-- > 0)) {
         place++;
@@ -101,7 +101,7 @@ static size_t place_after(const Text *plain, size_t place, size_t characters) {
     return place;
 }
 
-/* How many characters of the plain text stand before a place, or -1 with an error. */
+/* How many characters of the plain text are before a place, or -1 with an error. */
 static Py_ssize_t characters_before(const Text *text, size_t place) {
     Text plain;
     Py_ssize_t count = 0;
@@ -115,7 +115,7 @@ static Py_ssize_t characters_before(const Text *text, size_t place) {
     return count;
 }
 
-/* Makes the text of a step of __init__.py, as make_step. */
+/* Makes the text of a step of __init__.py. Returns what make_step does. */
 static bool make_text(const Text *text, bool is_ascii, PyObject *words, Text *made) {
     int kind;
     PyObject *first, *second, *pattern;
@@ -139,7 +139,7 @@ static bool make_text(const Text *text, bool is_ascii, PyObject *words, Text *ma
     return make_step(text, &step, made);
 }
 
-/* (text, is_ascii, steps): each of the tuple of steps is a kind, two numbers and a pattern. None: one is refused. */
+/* (text, is_ascii, steps): the text after all steps, each a kind, two numbers and a pattern, or None if one is refused. */
 static PyObject *edit(PyObject *module, PyObject *words) {
     PyObject *given, *steps, *answer;
     int is_ascii;
@@ -195,7 +195,7 @@ static ansi_str_answer ask(int what, const Text *text, const Text *pattern, size
     }
 }
 
-/* (what, text, is_ascii, pattern, width): whether it is so, or a position in characters, or None, or columns. */
+/* (what, text, is_ascii, pattern, width): a bool, a position in characters, None, or columns. */
 static PyObject *tell(PyObject *module, PyObject *words) {
     int what, is_ascii;
     PyObject *given, *sought, *width;
@@ -224,7 +224,7 @@ static PyObject *tell(PyObject *module, PyObject *words) {
     return position < 0 ? NULL : PyLong_FromSsize_t(position);
 }
 
-/* The lines that end there in a text, as a list. */
+/* The list of the lines, which are one after the other and end at `ends`. */
 static PyObject *list_of(const char *lines, const size_t *ends, size_t count) {
     PyObject *list = PyList_New((Py_ssize_t)count);
     size_t start = 0, at;
@@ -279,7 +279,7 @@ static PyObject *wrap(PyObject *module, PyObject *words) {
     return list;
 }
 
-/* A walk over the parts of a text, or over its blocks where there is no pattern, and room for what a step writes. */
+/* A walk over the parts of a text, or over its blocks if there is no pattern, and room for what a step writes. */
 typedef struct {
     PyObject_HEAD
     PyObject *text;
@@ -302,7 +302,7 @@ static void free_walk(PyObject *self) {
     Py_DECREF(type);
 }
 
-/* (text[, pattern]): the parts, or the blocks. */
+/* (text[, pattern]): an iterator over the parts, or the blocks. */
 static PyObject *walk(PyObject *module, PyObject *words) {
     PyObject *given, *sought = NULL;
     Text text;
@@ -327,7 +327,7 @@ static PyObject *walk(PyObject *module, PyObject *words) {
     return (PyObject *)made;
 }
 
-/* the bytes of a style, and of the library's own numbers of it, without those that only fill them up */
+/* the bytes of a style, and of the library's own numbers of it, without padding at the end */
 enum {
     STYLE = offsetof(ansi_str_style, has_any) + sizeof(bool),
     NUMBERS = offsetof(ansi_str_style_numbers, font) + sizeof(ansi_str_font_numbers)
@@ -358,7 +358,7 @@ static PyObject *next_piece(PyObject *self) {
         if (answer.status == ANSI_STR_NO) {
             return NULL;
         }
-        /* (the walk stands where it stood, so that the step can be made again) */
+        /* (the walk is unchanged, so the step can be made again) */
         room = answer.status == ANSI_STR_TOO_SMALL ? PyMem_Realloc(walk->room, 2 * answer.len) : NULL;
         if (room == NULL) {
             return PyErr_NoMemory();
@@ -367,7 +367,7 @@ static PyObject *next_piece(PyObject *self) {
         walk->size = 2 * answer.len;
     }
     text = decoded(walk->room, answer.len);
-    /* (where one of them is NULL, so is the whole, with its error; so it is below) */
+    /* (if one of them is NULL, so is the whole, and the error is set; likewise below) */
     PyUnicode_AppendAndDel(&text, are_blocks ? decoded(block.text, block.text_len) : decoded(part.text, part.text_len));
     if (text == NULL || !are_blocks) {
         return text;
@@ -375,7 +375,7 @@ static PyObject *next_piece(PyObject *self) {
     return Py_BuildValue("(NN)", text, style_bytes(&block.style, &walk->blocks.style));
 }
 
-/* (the bytes of a style): the sequences that set it and end it. */
+/* (the bytes of a style): the sequences that set it and close it. */
 static PyObject *sequences(PyObject *module, PyObject *style) {
     ansi_str_style_numbers numbers = {0};
     char start[ANSI_STR_LONGEST_START], end[ANSI_STR_LONGEST_CLOSE];
