@@ -1,7 +1,6 @@
 -- What a run writes and tells.
-use Rattle.std.specs.Prelude.{◌==◌, ℕ, List, [], Option, None, Some, Result, Ok, Err, String, map, string_bytes, codes, if◌then◌else◌, IfOk, IfSome, IsNone, IsSome, ⊤}
+use Rattle.std.specs.Prelude.{◌==◌, ℕ, List, [], Option, None, Some, Result, Ok, Err, String, map, string_bytes, codes, if◌then◌else◌, IsNone, IsSome, ⊤}
 use Rattle.std.specs.Option.{option_and_then, option_map_or}
-use Rattle.std.specs.declared.vec.Vec.{Vec}
 use Rattle.ansi_lines_io.specs.declared.stop.Stop.{Stop}
 use Rattle.ansi_lines_io.specs.declared.stop.Stop.TheVariants.{Refused, BadWords, BadInput, WriteFailed, OutOfMemory}
 use Rattle.ansi_lines_runs.specs.Lines.{answers, first_refused}
@@ -43,17 +42,6 @@ IfAnswered (Err BadWords) Fact = ⊤
 IfAnswered (Err BadInput) Fact = ⊤
 IfAnswered (Err WriteFailed) Fact = ⊤
 IfAnswered (Err OutOfMemory) Fact = ⊤
-
--- this is so of an output before and after a run, where it could be had, and then it stays
-abbrev pub IfOutput : {W E : Type 0} → Result W E → Result W E → (W → W → Type 0) → Type 0
-IfOutput (Ok old) (Ok new) Fact = Fact old new
-IfOutput (Ok old) (Err error) Fact = ⊥
-IfOutput (Err error) new Fact = ⊤
-
--- this is so of the words, of the bytes that the input tells, and of the output before and after, where all of them could be had
-abbrev pub IfRun : {A B W E F : Type 0} → Result (Vec (String A) B) E → Result W F → Result W F → Option (List ℕ) → (List (List ℕ) → List ℕ → W → W → Type 0) → Type 0
-IfRun words output_before output_after left Fact =
-    IfOk words (λ read. IfOutput output_before output_after (λ old new. IfSome left (λ bytes. Fact (words_of read.items) bytes old new)))
 
 -- each status but 0 and 1 has a text of its own
 abbrev pub told : ℕ → List ℕ

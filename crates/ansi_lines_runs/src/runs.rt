@@ -1,10 +1,10 @@
 //! A run of the program, over any devices.
-ghost use Rattle.std.specs.Prelude.{◌≡◌, ◌≤◌, ◌+◌, ◌⊎◌, false, true, IfErr, IfOk, IfSome, IsErr, IsErrOf, IsNone, IsOk, IsSome, OnOk};
+ghost use Rattle.std.specs.Prelude.{◌≡◌, ◌≤◌, ◌+◌, ◌⊎◌, false, true, Err, IfErr, IfOk, IfSome, IsErr, IsErrOf, IsNone, IsOk, IsSome, Ok, OnOk};
 ghost use Rattle.std.specs.Io.KnownBytes.{append_known};
 ghost use Rattle.ansi_lines_io.specs.Devices.{count_after};
 ghost use Rattle.ansi_lines_runs.specs.Lines.{WritesBeginning};
 ghost use Rattle.ansi_lines_io.specs.Reading.{max_reads, IsBadInput, IsGivenUp, IsRead, IsUnfit};
-ghost use Rattle.ansi_lines_runs.specs.Runs.{AreBadWords, AreGoodWords, IfAnswered, IfOutput, IfRun, MatchesWords, output_of, refused_line, told, words_of};
+ghost use Rattle.ansi_lines_runs.specs.Runs.{AreBadWords, AreGoodWords, IfAnswered, MatchesWords, output_of, refused_line, told, words_of};
 ghost use Rattle.ansi_lines_io.specs.Stops.{refusal};
 
 use crate::lines::write_lines;
@@ -14,6 +14,41 @@ use ansi_lines_io::reading::read_text;
 use ansi_lines_io::stop::Stop;
 use std::alloc::Allocator;
 use std::io;
+
+/// The words and the output of a run, if the program has both. Otherwise `Err` has the status of a
+/// run that can't start, and the fault writer has its text. Doesn't allocate.
+///
+/// Words that can't be read are bad words (2). An output that can't be made is lack of memory (5).
+/// If both are missing, the words decide.
+///
+/// ```
+/// let mut faults = Page::with_room(alloc, 20)?;
+/// let output = Page::with_room(alloc, 10)?;
+/// let unread = Err(Error::from(ErrorKind::InvalidData));
+/// assert!(prepare(unread, Ok(output), &mut faults).is_err_and(|status| status == 2));
+/// assert_eq!(faults.bytes(), b"bad words\n");
+/// ```
+pub fn prepare<W: Drop, V: Sink>(
+    words: io::Result<Vec<String>>,
+    output: io::Result<W>,
+    faults: &mut V,
+) -> Result<(Vec<String>, W), u8>
+    ensures ready { IfOk words (λ words. IfOk output (λ output. result ≡ Ok (words, output))) }
+    ensures unread_words { IsErr words → result ≡ Err 2 }
+    ensures no_output { IsOk words → IsErr output → result ≡ Err 5 }
+    ensures quiet { IsOk result → faults.new ≡ faults.old }
+    ensures told { IfErr result (λ status. V.failed faults.new ≡ false →
+        V.taken faults.new ≡ append_known (V.taken faults.old) (told status)) }
+    ensures faults_unflushed { V.flushes faults.new ≡ V.flushes faults.old }
+{
+    let Ok(words) = words else {
+        return Err(Stop::BadWords.tell(faults));
+    };
+    let Ok(output) = output else {
+        return Err(Stop::OutOfMemory.tell(faults));
+    };
+    Ok((words, output))
+}
 
 /// Does what the words ask for with each line of the input, and answers the status.
 ///
@@ -75,6 +110,10 @@ pub fn run<A: Allocator, S: Source, W: Sink, V: Sink>(
         IsUnfit bytes → (result ≡ 3) ⊎ (result ≡ 5)) }
     ensures unread { AreGoodWords (words_of words.now) → S.failed input.old ≡ false →
         S.failed input.new ≡ true → (result ≡ 3) ⊎ (result ≡ 5) }
+    ensures unwritten_unfit { IfSome (S.left input.old) (λ bytes.
+        IsUnfit bytes → output.new ≡ output.old) }
+    ensures unwritten_unread { S.failed input.old ≡ false → S.failed input.new ≡ true →
+        output.new ≡ output.old }
 
     // A failed write or flush is told of.
     ensures write_failed { result ≡ 4 → W.failed output.new ≡ true }
@@ -103,85 +142,6 @@ pub fn run<A: Allocator, S: Source, W: Sink, V: Sink>(
         Ok(()) => 0,
         Err(stop) => stop.tell(faults),
     }
-}
-
-/// Runs with words and into an output that may not be had, and answers the status. Words that can't be read
-/// are bad words, and an output that can't be had is lack of memory; nothing is read then.
-///
-/// Of each status it promises what `run` does.
-pub fn run_buffered<A: Allocator, S: Source, W: Sink, V: Sink>(
-    alloc: A,
-    words: &io::Result<Vec<String>>,
-    input: &mut S,
-    output: &mut io::Result<W>,
-    faults: &mut V,
-) -> u8
-    ensures statuses { result ≤ 5 }
-
-    // All that the words make of the input, up to a refused line, is written and passed on.
-    ensures done { result ≤ 1 → IfRun words.now output.old output.new (S.left input.old) (λ words bytes old new.
-        W.taken new ≡ append_known (W.taken old) (output_of words bytes)) }
-    ensures passed { result ≤ 1 → IfOutput output.old output.new (λ old new. W.passed new ≡ W.taken new) }
-    ensures none_refused { result ≡ 0 → IfRun words.now output.old output.new (S.left input.old) (λ words bytes old new.
-        IsNone (refused_line words bytes)) }
-    ensures refused { result ≡ 1 → IfRun words.now output.old output.new (S.left input.old) (λ words bytes old new.
-        IsSome (refused_line words bytes)) }
-
-    // Words that are bad, or can't be read, are told of before anything is read or written.
-    ensures unread_words { IsErr words.now → result ≡ 2 }
-    ensures bad_words { result ≡ 2 → IfOk words.now (λ read. AreBadWords (words_of read.items)) }
-    ensures only_bad_words { IfOk words.now (λ read. AreBadWords (words_of read.items) → (result ≡ 2) ⊎ (result ≡ 5)) }
-    ensures nothing_read { IfOk words.now (λ read. AreBadWords (words_of read.items)) → input.new ≡ input.old }
-    ensures nothing_written { IfOk words.now (λ read. AreBadWords (words_of read.items)) → output.new ≡ output.old }
-
-    // An output that can't be had is told of before anything is read.
-    ensures no_buffer { IsOk words.now → IsErr output.old → result ≡ 5 }
-    ensures read_for_no_buffer { IsErr output.old → input.new ≡ input.old }
-
-    // A bad input is told of before anything is written.
-    ensures bad_input { result ≡ 3 → IsBadInput (S.left input.old) (S.failed input.new)
-        (IsGivenUp (S.interrupted input.new) (S.reads input.old) (S.reads input.new)) }
-    ensures most_reads { S.reads input.new ≤ S.reads input.old + max_reads }
-    ensures good_words { result ≡ 3 → IfOk words.now (λ read. AreGoodWords (words_of read.items)) }
-    ensures unwritten { result ≡ 3 → output.new ≡ output.old }
-    ensures unfit { IfOk words.now (λ read. AreGoodWords (words_of read.items) → IfSome (S.left input.old) (λ bytes.
-        IsUnfit bytes → (result ≡ 3) ⊎ (result ≡ 5))) }
-    ensures unread { IfOk words.now (λ read. AreGoodWords (words_of read.items) → S.failed input.old ≡ false →
-        S.failed input.new ≡ true → (result ≡ 3) ⊎ (result ≡ 5)) }
-
-    // A failed write or flush is told of.
-    ensures write_failed { result ≡ 4 → IfOutput output.old output.new (λ old new. W.failed new ≡ true) }
-    ensures only_write_failed { IfOutput output.old output.new (λ old new.
-        W.failed old ≡ false → W.failed new ≡ true → result ≡ 4) }
-
-    // For lack of memory a beginning is written.
-    ensures out_of_memory { result ≡ 5 → IfRun words.now output.old output.new (S.left input.old) (λ words bytes old new.
-        WritesBeginning (W.taken old) (W.taken new) (output_of words bytes)) }
-
-    // The output is flushed once, after all is written, and the fault writer never.
-    ensures flushed_once { result ≤ 1 → IfOutput output.old output.new (λ old new.
-        W.flushes new ≡ count_after (W.flushes old) 1) }
-    ensures flushed_at_most_once { IfOutput output.old output.new (λ old new.
-        (W.flushes new ≡ W.flushes old) ⊎ (W.flushes new ≡ count_after (W.flushes old) 1)) }
-    ensures unflushed { result ≡ 5 → IfOutput output.old output.new (λ old new. W.flushes new ≡ W.flushes old) }
-    ensures faults_unflushed { V.flushes faults.new ≡ V.flushes faults.old }
-
-    // What ends a run early is told of, and nothing else.
-    ensures quiet { result ≡ 0 → faults.new ≡ faults.old }
-    ensures told { 2 ≤ result → V.failed faults.new ≡ false →
-        V.taken faults.new ≡ append_known (V.taken faults.old) (told result) }
-    ensures told_line { result ≡ 1 → V.failed faults.new ≡ false →
-        IfRun words.now output.old output.new (S.left input.old) (λ words bytes old new.
-        IfSome (refused_line words bytes) (λ line.
-        V.taken faults.new ≡ append_known (V.taken faults.old) (refusal line))) }
-{
-    let Ok(words) = words else {
-        return Stop::BadWords.tell(faults);
-    };
-    let Ok(output) = output else {
-        return Stop::OutOfMemory.tell(faults);
-    };
-    run(alloc, words.as_slice(), input, output, faults)
 }
 
 // Does what the words ask for, and tells nothing.
@@ -215,6 +175,8 @@ fn perform<A: Allocator, S: Source, W: Sink>(
     ensures most_reads { S.reads input.new ≤ S.reads input.old + max_reads }
 
     // The output.
+    ensures unwritten { (output.new ≡ output.old)
+        ⊎ IsRead (S.left input.old) (S.failed input.old) (S.failed input.new) }
     ensures write_failed { IsErrOf result Stop.WriteFailed →
         IsRead (S.left input.old) (S.failed input.old) (S.failed input.new) × (W.failed output.new ≡ true) }
     ensures out_of_memory { IsErrOf result Stop.OutOfMemory → IfSome (S.left input.old) (λ bytes.

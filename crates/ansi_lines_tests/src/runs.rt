@@ -1,8 +1,9 @@
-//! Runs over pages: what a run of `ansi_lines` writes, tells and answers where its devices or its memory fail.
-//! What a run makes of words and input alone stands in rows.tsv of `ansi_lines`, which the built program has to pass.
+//! Runs of `ansi_lines` over pages: what a run writes, reports and returns, also if its devices or its memory fail.
 mod devices;
 mod hosts;
 mod memory;
+mod prepared;
+mod rows;
 pub mod statuses;
 
 use ansi_lines_io::page::{Outcome, Page};
@@ -16,6 +17,15 @@ const CHUNK: usize = 7;
 
 // How many bytes an output takes.
 const ROOM: usize = 100;
+
+// Words and an input, and the status, the output and the faults of a run that meets no failure.
+type Row = (
+    &'static [&'static str],
+    &'static str,
+    u8,
+    &'static str,
+    &'static str,
+);
 
 // What the devices of a run do.
 #[derive(Drop)]

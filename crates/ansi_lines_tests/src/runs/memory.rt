@@ -1,5 +1,5 @@
 //! Each request for memory that a run makes, refused in turn.
-use super::{Plan, Ran, expect, expect_end, owned, run_in};
+use super::{Plan, Ran, Row, expect, expect_end, owned, run_in};
 use refusing::Refusing;
 use std::alloc::{AllocError, Global};
 use std::process::Abort;
@@ -7,15 +7,6 @@ use std::test::Fail;
 
 // More requests than a run makes.
 const MOST_REQUESTS: u64 = 100;
-
-// Words and an input, and the status, the output and the faults of a run that meets no refusal.
-type Row = (
-    &'static [&'static str],
-    &'static str,
-    u8,
-    &'static str,
-    &'static str,
-);
 
 static ROWS: [Row; 6] = [
     (
