@@ -1,4 +1,5 @@
-//! Runs of words and an input alone. The built program has the same rows in rows.tsv of `ansi_lines`.
+//! Runs of words and an input alone. The built program has the same rows: `rows.tsv` of
+//! `ansi_lines`.
 use super::{Plan, Row, expect_end, run_with};
 use std::alloc::Global;
 use std::process::Abort;
@@ -192,25 +193,26 @@ fn words_that_are_no_edits_are_bad(rt: HostRuntime) -> Result<(), Fail> {
     Ok(())
 }
 
-// A word, the length of an input without line feeds, and the status and the faults.
-type LengthRow = (&'static str, usize, u8, &'static str);
+// A word and the length of an input of one line. Then the status, the length of the output, and
+// the faults.
+type LengthRow = (&'static str, usize, u8, usize, &'static str);
 
 static LENGTH_ROWS: [LengthRow; 4] = [
-    ("strip", 1_048_576, 0, ""),
-    ("strip", 1_048_577, 3, "bad input\n"),
-    ("trim", 1_048_576, 0, ""),
-    ("trim", 1_048_577, 3, "bad input\n"),
+    ("strip", 1_048_576, 0, 1_048_576, ""),
+    ("strip", 1_048_577, 3, 0, "bad input\n"),
+    ("trim", 1_048_576, 0, 1_048_576, ""),
+    ("trim", 1_048_577, 3, 0, "bad input\n"),
 ];
 
 fn expect_length(rt: &impl Abort, alloc: Global, row: &LengthRow) -> Result<(), Fail> {
-    let (word, len, status, told) = *row;
+    let (word, len, status, written, told) = *row;
     let text = "a".repeat(alloc, len)?;
+    let written = "a".repeat(alloc, written)?;
     let mut plan = Plan::new(alloc);
     plan.chunk = len;
     plan.room = len;
     let ran = run_with(alloc, &[word], text.as_bytes(), plan)?;
-    let written = if status == 0 { text.as_str() } else { "" };
-    expect_end(rt, &ran, status, written, told, (word, len));
+    expect_end(rt, &ran, status, written.as_str(), told, (word, len));
     Ok(())
 }
 
