@@ -1,4 +1,4 @@
-//! Reads text and writes each line without its sequences, or edited as if they weren't there.
+//! Reads a text, and writes each line without its sequences, or edited as if they weren't there.
 #![tactic(auto)]
 
 use ansi_lines_io::host::{HostIn, HostOut};

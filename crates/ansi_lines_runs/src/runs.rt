@@ -50,12 +50,12 @@ pub fn prepare<W: Drop, V: Sink>(
     Ok((words, output))
 }
 
-/// Does what the words ask for with each line of the input, and answers the status.
+/// Edits or strips each line of the input, as the words ask, and returns the status.
 ///
-/// The whole input is read first. Then each line is handled by itself, in order; a line feed ends
-/// it, isn't part of it, and is written after its answer. A line that is refused ends the run: the
-/// lines before it are written, and nothing of it or after it. The output is flushed once: at the
-/// end, or before a refused line is told of.
+/// It reads the whole input first. Then it handles each line by itself, in order. A line feed ends
+/// a line, isn't part of it, and is written after its result. A line that is refused ends the run:
+/// the results of the lines before it are written, and nothing of it or after it. The output is
+/// flushed once: at the end, or before a refused line is reported.
 ///
 /// | status | when | text on the fault writer |
 /// |---|---|---|
@@ -64,10 +64,11 @@ pub fn prepare<W: Drop, V: Sink>(
 /// | 2 | bad words; nothing is read | `bad words\n` |
 /// | 3 | the input is longer than `MAX_BYTES`, isn't UTF-8, or failed; nothing is written | `bad input\n` |
 /// | 4 | a write or a flush of the output failed | `write failed\n` |
-/// | 5 | lack of memory; what is written is a beginning of what would have been | `out of memory\n` |
+/// | 5 | out of memory; what is written is a beginning of the whole output | `out of memory\n` |
 ///
-/// Memory comes from the allocator, the program's own or any other. The first of these that is met is the status. A read that is interrupted is made again; more than
-/// `MAX_READS` reads are a failed input. A fault of the fault writer is passed over.
+/// The status is the first of these that the run meets. An interrupted read is made again, and an
+/// input that takes more than `MAX_READS` reads has failed. A fault of the fault writer is ignored.
+/// Memory comes from `alloc`, the program's own allocator or any other.
 ///
 /// ```
 /// let mut input = Page::of(alloc, b"\x1b[31mred\x1b[39m\n".to_vec(alloc)?);
@@ -94,13 +95,13 @@ pub fn run<A: Allocator, S: Source, W: Sink, V: Sink>(
     ensures refused { result ≡ 1 → IfSome (S.left input.old) (λ bytes.
         IsSome (refused_line (words_of words.now) bytes)) }
 
-    // Bad words are told of before anything is read or written.
+    // Bad words are reported before anything is read or written.
     ensures bad_words { result ≡ 2 → AreBadWords (words_of words.now) }
     ensures only_bad_words { AreBadWords (words_of words.now) → (result ≡ 2) ⊎ (result ≡ 5) }
     ensures nothing_read { AreBadWords (words_of words.now) → input.new ≡ input.old }
     ensures nothing_written { AreBadWords (words_of words.now) → output.new ≡ output.old }
 
-    // A bad input is told of before anything is written.
+    // A bad input is reported before anything is written.
     ensures bad_input { result ≡ 3 → IsBadInput (S.left input.old) (S.failed input.new)
         (IsGivenUp (S.interrupted input.new) (S.reads input.old) (S.reads input.new)) }
     ensures most_reads { S.reads input.new ≤ S.reads input.old + max_reads }
@@ -115,11 +116,11 @@ pub fn run<A: Allocator, S: Source, W: Sink, V: Sink>(
     ensures unwritten_unread { S.failed input.old ≡ false → S.failed input.new ≡ true →
         output.new ≡ output.old }
 
-    // A failed write or flush is told of.
+    // A failed write or flush is reported.
     ensures write_failed { result ≡ 4 → W.failed output.new ≡ true }
     ensures only_write_failed { W.failed output.old ≡ false → W.failed output.new ≡ true → result ≡ 4 }
 
-    // For lack of memory a beginning is written.
+    // If memory runs out, a beginning of the output is written.
     ensures out_of_memory { result ≡ 5 → IfSome (S.left input.old) (λ bytes.
         WritesBeginning (W.taken output.old) (W.taken output.new) (output_of (words_of words.now) bytes)) }
 
@@ -130,7 +131,7 @@ pub fn run<A: Allocator, S: Source, W: Sink, V: Sink>(
     ensures unflushed { result ≡ 5 → W.flushes output.new ≡ W.flushes output.old }
     ensures faults_unflushed { V.flushes faults.new ≡ V.flushes faults.old }
 
-    // What ends a run early is told of, and nothing else.
+    // The reason that ends a run early is reported, and nothing else is.
     ensures quiet { result ≡ 0 → faults.new ≡ faults.old }
     ensures told { 2 ≤ result → V.failed faults.new ≡ false →
         V.taken faults.new ≡ append_known (V.taken faults.old) (told result) }
@@ -144,7 +145,7 @@ pub fn run<A: Allocator, S: Source, W: Sink, V: Sink>(
     }
 }
 
-// Does what the words ask for, and tells nothing.
+// Does what the words ask for, and reports nothing.
 fn perform<A: Allocator, S: Source, W: Sink>(
     alloc: &A,
     words: &[String],

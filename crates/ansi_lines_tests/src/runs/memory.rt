@@ -47,7 +47,7 @@ static ROWS: [Row; 6] = [
     (&["trim", "x"], "abc\n", 2, "", "bad words\n"),
 ];
 
-// What a run that met a refusal has written is a beginning of what it should have.
+// Checks a run that met a refusal. Its output is a beginning of the whole output.
 fn expect_out_of_memory(rt: &impl Abort, row: &Row, granted: u64, ran: &Ran) {
     let (words, _, _, written, _) = *row;
     let name = (words, granted);
@@ -64,7 +64,7 @@ fn expect_ended(rt: &impl Abort, row: &Row, granted: u64, ran: &Ran) {
     expect(rt, 0 < granted, "memory", words);
 }
 
-// Runs with so many requests granted, and tells whether one was refused.
+// Runs with `granted` requests granted, and returns whether one was refused.
 fn run_is_refused(
     rt: &impl Abort,
     alloc: Global,

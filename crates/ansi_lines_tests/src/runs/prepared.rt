@@ -1,4 +1,4 @@
-//! Words and an output that a run can't have.
+//! Words and an output that the program may lack.
 use super::{ROOM, expect};
 use ansi_lines_io::page::Page;
 use ansi_lines_runs::runs::prepare;

@@ -193,8 +193,8 @@ fn words_that_are_no_edits_are_bad(rt: HostRuntime) -> Result<(), Fail> {
     Ok(())
 }
 
-// A word and the length of an input of one line. Then the status, the length of the output, and
-// the faults.
+// A word and the length of an input of one line. Then the status, the length of the output, and the
+// faults.
 type LengthRow = (&'static str, usize, u8, usize, &'static str);
 
 static LENGTH_ROWS: [LengthRow; 4] = [
