@@ -15,17 +15,17 @@ use ansi_lines_io::stop::Stop;
 use std::alloc::Allocator;
 use std::io;
 
-/// The words and the output of a run, if the program has both. Otherwise `Err` has the status of a
-/// run that can't start, and the fault writer has its text. Doesn't allocate.
+/// Returns the words and the output, if the program has both. If not, it reports why on the fault
+/// writer, and `Err` is the status. Doesn't allocate.
 ///
-/// Words that can't be read are bad words (2). An output that can't be made is lack of memory (5).
-/// If both are missing, the words decide.
+/// Words that can't be read are bad words (2). If only the output can't be made, the program is out
+/// of memory (5). A run reads its input only after this, so then nothing is read.
 ///
 /// ```
 /// let mut faults = Page::with_room(alloc, 20)?;
 /// let output = Page::with_room(alloc, 10)?;
 /// let unread = Err(Error::from(ErrorKind::InvalidData));
-/// assert!(prepare(unread, Ok(output), &mut faults).is_err_and(|status| status == 2));
+/// assert_eq!(prepare(unread, Ok(output), &mut faults).err(), Some(2));
 /// assert_eq!(faults.bytes(), b"bad words\n");
 /// ```
 pub fn prepare<W: Drop, V: Sink>(
