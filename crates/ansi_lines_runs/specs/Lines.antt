@@ -73,7 +73,7 @@ pub record WritesBeginning (old new : Option (List ℕ)) (all : List ℕ) : Type
   pub taken : new ≡ append_known old part
   pub whole : all ≡ part ++ rest
 
--- writing stops because a write failed, or because memory has run out; then no write has failed, and this is so
+-- writing stops because a write failed, or because memory has run out; in the second case no write has failed, and this is so
 abbrev pub StopsWriting : Bool → Bool → Type 0 → Stop → Type 0
 StopsWriting failed_before failed_after so_far WriteFailed = failed_after ≡ true
 StopsWriting failed_before failed_after so_far OutOfMemory = so_far × (failed_after ≡ failed_before)
