@@ -52,10 +52,10 @@ pub fn prepare<W: Drop, V: Sink>(
 
 /// Edits or strips each line of the input, as the words ask, and returns the status.
 ///
-/// It reads the whole input first. Then it handles each line by itself, in order. A line feed ends
-/// a line, isn't part of it, and is written after its result. A line that is refused ends the run:
-/// the results of the lines before it are written, and nothing of it or after it. The output is
-/// flushed once: at the end, or before a refused line is reported.
+/// It reads the whole input first, and writes nothing before that. Then it handles each line by
+/// itself, in order. A line feed ends a line, isn't part of it, and is written after its result. A
+/// line that is refused ends the run: the results of the lines before it are written, and nothing
+/// of it or after it. The output is flushed once: at the end, or before a refused line is reported.
 ///
 /// | status | when | text on the fault writer |
 /// |---|---|---|
