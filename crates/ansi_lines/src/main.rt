@@ -1,8 +1,8 @@
-//! Reads text and writes each line without its sequences, or edited as if they weren't there.
+//! Reads a text, and writes each line without its sequences, or edited as if they weren't there.
 #![tactic(auto)]
 
 use ansi_lines_io::host::{HostIn, HostOut};
-use ansi_lines_runs::runs::run_buffered;
+use ansi_lines_runs::runs::{prepare, run};
 use std::env;
 use std::io::{self, BufWriter};
 use std::process::ExitCode;
@@ -11,8 +11,17 @@ fn main(rt: HostRuntime) -> ExitCode {
     let mut input = HostIn::new(rt.stdin());
     let mut faults = HostOut::new(rt.stderr());
     let words = words_given(&rt);
-    let mut output = BufWriter::new(rt.alloc(), rt.stdout()).map(HostOut::new);
-    let status = run_buffered(rt.alloc(), &words, &mut input, &mut output, &mut faults);
+    let output = BufWriter::new(rt.alloc(), rt.stdout()).map(HostOut::new);
+    let status = match prepare(words, output, &mut faults) {
+        Ok((words, mut output)) => run(
+            rt.alloc(),
+            words.as_slice(),
+            &mut input,
+            &mut output,
+            &mut faults,
+        ),
+        Err(status) => status,
+    };
     ExitCode::from(status)
 }
 

@@ -2,35 +2,35 @@
 use Rattle.std.proofs.Common.{◌≡◌, ℕ, List, [], ◌++◌, Option, None, Some, IfSome, is_some, refl, ap, ◌∙◌, append_assoc, append-nil}
 use Rattle.std.specs.Io.KnownBytes.{prepend_known, append_known, Appends, Keeps, IsAtEnd}
 
--- nothing more is appended
+-- appending no bytes changes nothing
 pub append_known-nil : (known : Option (List ℕ)) → append_known known [] ≡ known
 append_known-nil None = refl
 append_known-nil (Some bytes) = ap Some (append-nil bytes)
 
--- what is appended in two steps is appended at once
+-- bytes appended in two steps are appended at once
 pub append_known-append : (known : Option (List ℕ)) (front next : List ℕ) → append_known (append_known known front) next ≡ append_known known (front ++ next)
 append_known-append None front next = refl
 append_known-append (Some bytes) front next = ap Some (append_assoc bytes front next)
 
--- what two writes append
+-- the bytes that two writes append
 pub append_known-twice : {now new : Option (List ℕ)} (old : Option (List ℕ)) (front next : List ℕ)
     → now ≡ append_known old front → new ≡ append_known now next → new ≡ append_known old (front ++ next)
 append_known-twice old front next first second = second ∙ ap (λ k. append_known k next) first ∙ append_known-append old front next
 
--- at the end all that was left has been read
+-- at the end the bytes read are all that were left
 pub all_read : (left now : Option (List ℕ)) (read : List ℕ) → left ≡ prepend_known read now → IsAtEnd now → IfSome left (λ bytes. read ≡ bytes)
 all_read None now read taken ended = tt
 all_read (Some bytes) None read taken ended = cc
 all_read (Some bytes) (Some more) read taken ended = let joined = append-nil read in cc
 
--- bytes that were known and are known, or neither, and grow
+-- bytes that are known both before and after, or neither, and grow
 pub appends-alike : (old new : Option (List ℕ)) (more : List ℕ) → is_some old ≡ is_some new → Appends old new more → new ≡ append_known old more
 appends-alike None None more alike grew = refl
 appends-alike None (Some bytes) more alike grew = cc
 appends-alike (Some front) None more alike grew = absurd grew
 appends-alike (Some front) (Some bytes) more alike grew = ap Some grew
 
--- bytes that were known and are known, or neither, and stay
+-- bytes that are known both before and after, or neither, and stay
 pub keeps-alike : (old new : Option (List ℕ)) → is_some old ≡ is_some new → Keeps old new → new ≡ old
 keeps-alike None None alike kept = refl
 keeps-alike None (Some bytes) alike kept = cc

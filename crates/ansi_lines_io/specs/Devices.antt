@@ -1,4 +1,4 @@
--- What a read does to what a source tells, and how calls are counted.
+-- How a read changes what a source reports, and how calls are counted.
 use Rattle.std.specs.Prelude.{◌≡◌, ◌<◌, ◌+◌, ℕ, List, length, take, min, ⊤, Bool, true, false, Option, Result, Ok, Err}
 use Rattle.std.specs.Io.KnownBytes.{prepend_known, IsAtEnd}
 use Rattle.std.specs.declared.io.ErrorKind.{ErrorKind}
@@ -6,30 +6,30 @@ use Rattle.std.specs.declared.io.ErrorKind.TheVariants as kind
 use Rattle.ansi_lines_io.specs.declared.devices.ReadFault.{ReadFault}
 use Rattle.ansi_lines_io.specs.declared.devices.ReadFault.TheVariants.{Interrupted, Failed}
 
--- an error of a reader of std is an interruption by its kind, and otherwise a failure
+-- an error of a reader of std is an interruption if it has that kind, and otherwise a failure
 abbrev pub fault_of : ErrorKind → ReadFault
 fault_of kind.Interrupted = Interrupted
 fault_of _ = Failed
 
--- an answer tells whether the read was interrupted
+-- the result of a read says whether the read was interrupted
 abbrev pub was_interrupted : Result ℕ ReadFault → Bool
 was_interrupted (Ok count) = false
 was_interrupted (Err Interrupted) = true
 was_interrupted (Err Failed) = false
 
--- an answer tells whether the read failed
+-- the result of a read says whether the read failed
 abbrev pub was_failed : Result ℕ ReadFault → Bool
 was_failed (Ok count) = false
 was_failed (Err Interrupted) = false
 was_failed (Err Failed) = true
 
--- a read takes the bytes that it gives, and answers 0 only at the end or without room; an interrupted one takes none
+-- a read takes the bytes that it gives, and returns 0 only at the end or without room; an interrupted read takes none
 abbrev pub Reads : Option (List ℕ) → Option (List ℕ) → Result ℕ ReadFault → List ℕ → Type 0
 Reads old new (Ok count) room =
     (old ≡ prepend_known (take count room) new) × (count ≡ 0 → 0 < length room → IsAtEnd new)
 Reads old new (Err Interrupted) room = new ≡ old
 Reads old new (Err Failed) room = ⊤
 
--- a count of calls after so many more, which stops at the greatest u32
+-- a count of calls after more calls; it stops at the largest u32
 abbrev pub count_after : ℕ → ℕ → ℕ
 count_after calls more = min (calls + more) 4_294_967_295

@@ -1,8 +1,8 @@
--- What a page holds, and how its calls will come out.
+-- What a page holds, and how its next calls end.
 use Rattle.std.specs.Prelude.{◌≤◌, ℕ, List, Bool}
 use Rattle.ansi_lines_io.specs.declared.page.Outcome.{Outcome}
 
--- the first bytes of a page are read and the first are passed on, it was asked for so many reads and flushes, it has room for so many, a read gives a chunk at most, and its calls come out as scheduled
+-- a page has bytes; how many of them are read and passed on; its counts of reads and flushes; its room; the most bytes of a read; the outcomes of its next calls; and whether a call was interrupted or failed
 pub record PageState : Type 0 where
   pub bytes : List ℕ
   pub read : ℕ
@@ -15,7 +15,7 @@ pub record PageState : Type 0 where
   pub interrupted : Bool
   pub failed : Bool
 
--- no more is read than there is, no more is there than the room, and the room is memory that is taken already
+-- a page has read at most its bytes, has at most as many bytes as its room, and has allocated its room
 pub record IsWithinRoom (read len room capacity : ℕ) : Type 0 where
   pub read_within : read ≤ len
   pub len_within : len ≤ room

@@ -9,7 +9,7 @@ use Rattle.ansi_lines_io.specs.declared.stop.Stop.TheVariants.{Refused, BadInput
 abbrev pub max_bytes : ℕ
 max_bytes = 1_048_576
 
--- the most reads that are made: for each byte of the longest input, and for its end, one that is interrupted and one that isn't
+-- the most reads of an input: for each byte of the longest input, and for its end, one that is interrupted and one that isn't
 abbrev pub max_reads : ℕ
 max_reads = 2_097_154
 
@@ -17,21 +17,21 @@ max_reads = 2_097_154
 max_reads-sum : max_reads ≡ 2 * (max_bytes + 1)
 max_reads-sum = refl
 
--- an unfit input is too long, or isn't a text
+-- an unfit input is too long, or isn't UTF-8
 abbrev pub IsUnfit : List ℕ → Type 0
 IsUnfit bytes = (max_bytes < length bytes) ⊎ (¬ (IsUtf8 bytes))
 
--- an input that doesn't tell its bytes may be unfit
+-- an input that doesn't report its bytes may be unfit
 abbrev pub MayBeUnfit : Option (List ℕ) → Type 0
 MayBeUnfit None = ⊤
 MayBeUnfit (Some bytes) = IsUnfit bytes
 
--- an input is given up after the most reads, where one was interrupted
+-- an input is given up after the most reads, if one was interrupted
 pub record IsGivenUp (interrupted : Bool) (reads_before reads_after : ℕ) : Type 0 where
   pub was_interrupted : interrupted ≡ true
   pub most_reads : count_after reads_before max_reads ≤ reads_after
 
--- an input is bad where it is unfit, a read of it failed, or it is given up
+-- an input is bad if it is unfit, a read of it failed, or it is given up
 abbrev pub IsBadInput : Option (List ℕ) → Bool → Type 0 → Type 0
 IsBadInput left failed given_up = MayBeUnfit left ⊎ (failed ≡ true) ⊎ given_up
 
@@ -40,7 +40,7 @@ pub record IsRead (left : Option (List ℕ)) (failed_before failed_after : Bool)
   pub fit : IfSome left (λ bytes. ¬ (IsUnfit bytes))
   pub unfailed : failed_after ≡ failed_before
 
--- reading stops for lack of memory, or since the input is bad
+-- reading stops because memory has run out or the input is bad
 abbrev pub StopsReading : Option (List ℕ) → Bool → Type 0 → Stop → Type 0
 StopsReading left failed given_up OutOfMemory = ⊤
 StopsReading left failed given_up BadInput = IsBadInput left failed given_up

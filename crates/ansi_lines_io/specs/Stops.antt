@@ -1,4 +1,4 @@
--- What a run that ends early answers and tells.
+-- The status and the text of a run that ends early.
 use Rattle.std.specs.Prelude.{◌++◌, ℕ, List, codes, decimal}
 use Rattle.ansi_lines_io.specs.declared.stop.Stop.{Stop}
 use Rattle.ansi_lines_io.specs.declared.stop.Stop.TheVariants.{Refused, BadWords, BadInput, WriteFailed, OutOfMemory}
@@ -11,11 +11,11 @@ status_of BadInput = 3
 status_of WriteFailed = 4
 status_of OutOfMemory = 5
 
--- a refused line is told of by its number
+-- a refused line is reported by its number
 abbrev pub refusal : ℕ → List ℕ
 refusal line = codes "line " ++ decimal line ++ codes ": refused\n"
 
--- each reason to end early is told in a line of its own
+-- each reason to end early has a text of its own, which is one line
 abbrev pub text_of : Stop → List ℕ
 text_of (Refused line) = refusal line
 text_of BadWords = codes "bad words\n"

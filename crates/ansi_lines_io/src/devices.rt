@@ -8,13 +8,14 @@ use std::io::ErrorKind;
 /// Why a read gave nothing.
 #[derive(Clone, Copy, Debug, PartialEq, Eq)]
 pub enum ReadFault {
-    /// It may be made again.
+    /// The read may be made again.
     Interrupted,
     /// The device failed.
     Failed,
 }
 
-/// The fault of a reader of std whose error has this kind: interrupted for `ErrorKind::Interrupted`, failed for any other.
+/// The fault for an error of this kind from a reader of std. `ErrorKind::Interrupted` is an
+/// interruption, and any other kind is a failure.
 impl From<ErrorKind> for ReadFault {
     ghost from_gives = { λ kind fault. fault ≡ fault_of kind };
 
@@ -33,12 +34,12 @@ pub enum WriteFault {
     Failed,
 }
 
-/// Bytes to be read.
+/// A device that bytes are read from.
 pub trait Source {
-    /// The bytes that it has left, where it tells them.
+    /// The bytes that it has left, if it reports them.
     ghost left: { Self → Option (List ℕ) };
 
-    /// How many reads it was asked for, counted up to `u32::MAX`.
+    /// How often `read` was called, counted up to `u32::MAX`.
     ghost reads: { Self → ℕ };
 
     /// Whether a read has been interrupted.
@@ -47,10 +48,10 @@ pub trait Source {
     /// Whether a read has failed.
     ghost failed: { Self → Bool };
 
-    /// Puts the next bytes into the front of the room, and answers their number.
+    /// Copies the next bytes to the start of `room`, and returns their number.
     ///
-    /// 0 comes only at the end, or where the room is empty. An interrupted read takes no bytes; how
-    /// many a failed one takes isn't said.
+    /// It returns 0 only at the end, or if `room` is empty. An interrupted read takes no bytes. How
+    /// many bytes a failed read takes is unspecified.
     fn read(&mut self, room: &mut [u8]) -> Result<usize, ReadFault>
         ensures within { IfOk result (λ count. count ≤ length room.new) }
         ensures bytes { Reads (left self.old) (left self.new) result room.new }
@@ -59,15 +60,15 @@ pub trait Source {
         ensures failed { failed self.new ≡ (failed self.old || was_failed result) };
 }
 
-/// What takes bytes, and passes them on.
+/// A device that takes bytes, and passes them on.
 pub trait Sink {
-    /// The bytes that it has taken, where it tells them.
+    /// The bytes that it has taken, if it reports them.
     ghost taken: { Self → Option (List ℕ) };
 
-    /// The bytes that it has passed on, where it tells them.
+    /// The bytes that it has passed on, if it reports them.
     ghost passed: { Self → Option (List ℕ) };
 
-    /// How many flushes it was asked for, counted up to `u32::MAX`.
+    /// How often `flush` was called, counted up to `u32::MAX`.
     ghost flushes: { Self → ℕ };
 
     /// Whether a write or a flush has failed.
@@ -75,7 +76,7 @@ pub trait Sink {
 
     /// Takes all of the bytes. It may pass them on or keep them.
     ///
-    /// How many a failed write takes isn't said.
+    /// How many bytes a failed write takes is unspecified.
     fn write(&mut self, bytes: &[u8]) -> Result<(), WriteFault>
         ensures taken { OnOk result (taken self.new ≡ append_known (taken self.old) bytes.now) }
         ensures flushes { flushes self.new ≡ flushes self.old }

@@ -1,4 +1,5 @@
-//! The devices over std's readers and writers. A sink tells the bytes that its writer tells, and a source none.
+//! Devices over std's readers and writers. A sink reports the bytes that its writer reports. A
+//! source reports none.
 ghost use Rattle.std.specs.Prelude.{◌≡◌, ◌≤◌, ◌||◌, None, length, is_err, is_some, refl, IfOk, OnErr, OnOk};
 ghost use Rattle.std.specs.Io.KnownBytes.{append_known, Appends, Keeps, ReadConsumes};
 ghost use Rattle.ansi_lines_io.specs.Devices.{Reads, count_after, was_interrupted, was_failed};
@@ -19,7 +20,7 @@ pub struct HostIn<R> {
 }
 
 impl<R: Read> HostIn<R> {
-    /// A source over this reader. Takes no memory.
+    /// A source over this reader. Doesn't allocate.
     pub fn new(reader: R) -> Self
         ensures { IsFreshSource reader result }
     {
@@ -41,7 +42,7 @@ impl<R: Read> Source for HostIn<R> {
 
     ghost failed = { λ device. device.failed };
 
-    // The last clause says of the reader what the device doesn't tell.
+    // The last clause is about the reader's bytes, since the device doesn't report them.
     fn read(&mut self, room: &mut [u8]) -> Result<usize, ReadFault>
         ensures within { IfOk result (λ count. count ≤ length room.new) }
         ensures bytes { Reads None None result room.new }
@@ -63,9 +64,10 @@ impl<R: Read> Source for HostIn<R> {
     }
 }
 
-/// A writer of std that tells its bytes always or never, so that a sink over it can tell them.
+/// A writer of std that reports its bytes either always or never. So a sink over it can report
+/// them.
 pub trait SteadyWrite: Write {
-    /// Where one writer of this type tells its bytes, each does.
+    /// If one writer of this type reports its bytes, each does.
     ghost tell_alike: { (one other : Self) → is_some (Self.contents one) ≡ is_some (Self.contents other) };
 }
 
@@ -94,13 +96,13 @@ impl<W: SteadyWrite + Drop, A: Allocator> SteadyWrite for BufWriter<W, A> {
 pub struct HostOut<W> {
     writer: W,
     flushes: u32,
-    // Whether all that the writer has taken is passed on.
+    // Whether the writer has passed on all that it has taken.
     passed: bool,
     failed: bool,
 }
 
 impl<W: Write> HostOut<W> {
-    /// A sink over this writer. Takes no memory.
+    /// A sink over this writer. Doesn't allocate.
     pub fn new(writer: W) -> Self
         ensures { IsFreshSink writer result }
     {
@@ -113,8 +115,8 @@ impl<W: Write> HostOut<W> {
     }
 }
 
-// The clauses `writer` say, in std's words, what the writer did, and the clauses `untold` when a sink doesn't tell what it has
-// passed on.
+// The clauses `writer` say, in std's words, what the writer did. The clauses `untold` say when a
+// sink doesn't report what it has passed on.
 impl<W: SteadyWrite> Sink for HostOut<W> {
     ghost taken = { λ device. W.contents (writer_of device) };
 

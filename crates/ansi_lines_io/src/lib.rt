@@ -1,4 +1,4 @@
-//! What `ansi_lines` reads and writes: inputs, outputs, and what ends a run early.
+//! What `ansi_lines` reads and writes: its input, its outputs, and why a run ends early.
 #![tactic(auto)]
 
 pub mod devices;

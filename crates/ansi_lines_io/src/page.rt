@@ -1,4 +1,4 @@
-//! A device over memory, whose calls come out as a schedule says.
+//! A device over memory. A schedule decides how its calls end.
 ghost use Rattle.std.specs.Prelude.{◌≡◌, ◌≤◌, ◌+◌, ◌||◌, [], ◌++◌, IfOk, OnOk, Some, length, drop, take, is_err, vec_len};
 ghost use Rattle.std.specs.Io.KnownBytes.{append_known};
 ghost use Rattle.ansi_lines_io.specs.Devices.{Reads, count_after, was_interrupted, was_failed};
@@ -9,22 +9,22 @@ use std::alloc::{AllocError, Global};
 use std::collections::VecDeque;
 use std::marker::Model;
 
-/// How a call comes out.
+/// How a call ends.
 #[derive(Clone, Copy, Debug, PartialEq, Eq)]
 pub enum Outcome {
-    /// It does what it is asked for.
+    /// The call does what it is asked for.
     Works,
     /// A read is interrupted. A write or a flush fails.
     Interrupted,
-    /// It fails.
+    /// The call fails.
     Failed,
 }
 
-/// Bytes in memory: they are read from their start, and what is written goes after them.
+/// Bytes in memory. Reads start at the first byte, and writes append.
 ///
-/// Each call, of any kind, takes the first outcome off the schedule and comes out so. After the
-/// schedule's end every call works. The memory is taken when the page is made: a write takes none,
-/// and fails where the room is too small.
+/// Each call, of any kind, takes the first outcome off the schedule and ends with it. After the
+/// schedule's end every call works. A page allocates its room when it is made. A write doesn't
+/// allocate, and fails if the room is too small.
 ///
 /// ```
 /// let mut page = Page::with_room(alloc, 3)?.with_schedule(vec![in alloc; Outcome::Failed; 1]?);
@@ -69,7 +69,7 @@ impl Model for Page {
 }
 
 impl Page {
-    /// A page with bytes to be read and no room for more. Takes no memory.
+    /// A page with bytes to read and no room for more. Doesn't allocate.
     pub fn of(alloc: Global, bytes: Vec<u8>) -> Self
         ensures { result ≡ fresh_page bytes.items (vec_len bytes) }
     {
@@ -88,7 +88,7 @@ impl Page {
         }
     }
 
-    /// An empty page, with room for so many bytes. An `Err` is lack of memory for them.
+    /// An empty page with room for `room` bytes. `Err` means that memory has run out.
     pub fn with_room(alloc: Global, room: usize) -> Result<Self, AllocError>
         ensures { IfOk result (λ page. page ≡ fresh_page [] room) }
     {
@@ -106,7 +106,7 @@ impl Page {
         })
     }
 
-    /// The page, with these outcomes of the calls to come.
+    /// The page with a schedule: the outcomes of its next calls.
     pub fn with_schedule(mut self, schedule: Vec<Outcome>) -> Self
         ensures { result ≡ record self { schedule = schedule.items } }
     {
@@ -114,7 +114,7 @@ impl Page {
         self
     }
 
-    /// The page, giving at most so many bytes at a read, and at least one.
+    /// The page with a limit: a read gives at most `chunk` bytes, or one if `chunk` is 0.
     pub fn in_chunks(mut self, chunk: usize) -> Self
         ensures { result ≡ record self { chunk = chunk } }
     {
@@ -122,28 +122,28 @@ impl Page {
         self
     }
 
-    /// All its bytes, those that are read already too.
+    /// All its bytes, including those already read.
     pub fn bytes(&self) -> &[u8]
         ensures { result.now ≡ self.now.bytes }
     {
         self.bytes.as_slice()
     }
 
-    /// How many of its bytes are passed on.
+    /// How many of its bytes a flush has passed on.
     pub fn passed(&self) -> usize
         ensures { result ≡ self.now.passed }
     {
         self.passed
     }
 
-    /// How many outcomes of the schedule no call has taken yet.
+    /// How many outcomes are left on the schedule.
     pub fn outcomes_left(&self) -> usize
         ensures { result ≡ length self.now.schedule }
     {
         self.schedule.len()
     }
 
-    // Takes the outcome of a call off the schedule.
+    // Takes the next outcome off the schedule.
     fn take_outcome(&mut self) -> Outcome
         ensures outcome { result ≡ next_outcome self.old }
         ensures page { self.new ≡ record self.old { schedule = drop 1 self.old.schedule } }
@@ -160,7 +160,7 @@ impl Page {
         self.take_outcome()
     }
 
-    // Puts the next bytes into the front of the room.
+    // Copies the next bytes to the start of `room`, and returns their number.
     fn give(&mut self, room: &mut [u8]) -> usize
         ensures count { result ≡ count_given self.old (length room.old) }
         ensures bytes { room.new ≡ take result (bytes_left self.old) ++ drop result room.old }

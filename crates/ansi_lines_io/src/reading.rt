@@ -9,20 +9,21 @@ use crate::stop::Stop;
 use simdutf8::is_utf8;
 use std::alloc::Allocator;
 
-/// The most bytes that an input may have.
+/// The most bytes that an input may have, which is 1 MiB.
 pub const MAX_BYTES: usize = 1_048_576;
 
-/// The most reads that are made, twice `MAX_BYTES` + 1: for each byte, and for the end, one that is
-/// interrupted and one that isn't.
+/// The most reads of an input, 2 * (`MAX_BYTES` + 1): for each byte and for the end, one read that
+/// is interrupted and one that isn't.
 pub const MAX_READS: usize = 2_097_154;
 
-// How many bytes a read may give at most.
+// The most bytes that a read may give.
 const ROOM: usize = 65_536;
 
-/// Reads all that is left, which has to be a text of no more than `MAX_BYTES` bytes.
+/// Reads the rest of the input, and returns it if it is UTF-8 of at most `MAX_BYTES` bytes.
 ///
-/// An interrupted read is made again, but no more than `MAX_READS` reads are made in all. It stops
-/// for a bad input, or for lack of memory.
+/// An interrupted read is made again, up to `MAX_READS` reads in all. `Err` is `BadInput` if the
+/// input is longer, isn't UTF-8, takes more reads, or fails. It is `OutOfMemory` if memory has run
+/// out.
 pub fn read_text<A: Allocator, S: Source>(alloc: A, input: &mut S) -> Result<String<A>, Stop>
     ensures all { IfOk result (λ text. IfSome (S.left input.old) (λ bytes. string_bytes text ≡ bytes)) }
     ensures short { IfOk result (λ text. string_len text ≤ max_bytes) }
@@ -38,7 +39,7 @@ pub fn read_text<A: Allocator, S: Source>(alloc: A, input: &mut S) -> Result<Str
     Ok(unsafe { String::from_utf8_unchecked(bytes) })
 }
 
-// Reads all that is left, if it isn't too long.
+// Reads the rest of the input, if it isn't too long.
 fn read_bytes<A: Allocator, S: Source>(alloc: A, input: &mut S) -> Result<Vec<u8, A>, Stop>
     ensures read { IfOk result (λ read.
         IfSome (S.left input.old) (λ bytes. read.items ≡ bytes)
@@ -62,7 +63,7 @@ fn read_bytes<A: Allocator, S: Source>(alloc: A, input: &mut S) -> Result<Vec<u8
     Err(Stop::BadInput)
 }
 
-// How many bytes a read gives: none where it is interrupted, and `None` at the end.
+// Reads once, and returns the number of bytes: 0 if the read is interrupted, and `None` at the end.
 fn read_once<S: Source>(input: &mut S, room: &mut [u8]) -> Result<Option<usize>, Stop>
     requires { 0 < length room.old }
     ensures end { IfOk result (λ given. IfNone given (IsAtEnd (S.left input.old))) }

@@ -8,14 +8,14 @@ use crate::devices::{Sink, WriteFault};
 use itoa::Buffer;
 use std::alloc::AllocError;
 
-/// What ends a run before it is done.
+/// Why a run ends before it is done.
 #[derive(Clone, Copy, Debug, PartialEq, Eq)]
 pub enum Stop {
     /// The line of this number, counted from 1, is refused.
     Refused(usize),
-    /// The words ask for nothing that can be done.
+    /// The words ask for nothing that the program does.
     BadWords,
-    /// The input is too long or no text, or a read of it failed.
+    /// The input is too long, isn't UTF-8, takes too many reads, or fails.
     BadInput,
     /// A write or a flush of the output failed.
     WriteFailed,
@@ -37,7 +37,8 @@ impl Stop {
         }
     }
 
-    /// Tells of it, and answers its status. A fault of the writer is passed over. Takes no memory.
+    /// Reports it on the fault writer, and returns its status. A fault of the writer is ignored.
+    /// Doesn't allocate.
     pub fn tell<V: Sink>(self, faults: &mut V) -> u8
         ensures status { result ≡ status_of self }
         ensures told { V.failed faults.new ≡ false →
@@ -48,7 +49,7 @@ impl Stop {
         self.status()
     }
 
-    // Writes the line that is told of it.
+    // Writes its text, which is one line.
     fn write_line<V: Sink>(self, faults: &mut V) -> Result<(), WriteFault>
         ensures told { OnOk result (V.taken faults.new ≡ append_known (V.taken faults.old) (text_of self)) }
         ensures flushes { V.flushes faults.new ≡ V.flushes faults.old }

@@ -17,7 +17,7 @@ use Rattle.ansi_lines_runs.specs.Words.{Changed, changes_asked, work_asked}
 pub lines-empty : lines [] ≡ []
 lines-empty = refl
 
--- a line feed ends a line, and what is left is a line too
+-- a line feed ends a line, and the text after it is a line too
 pub lines-two : lines (codes "ab\nc") ≡ record { text = codes "ab"; ended = true } ∷ record { text = codes "c"; ended = false } ∷ []
 lines-two = refl
 
@@ -25,17 +25,17 @@ lines-two = refl
 pub lines-ended : lines (codes "a\n\n") ≡ record { text = codes "a"; ended = true } ∷ record { text = []; ended = true } ∷ []
 lines-ended = refl
 
--- a title that a line feed cuts is a lone escape and plain text
+-- a title with a line feed inside is a lone escape and plain text
 pub strip-cut-title : output_of (codes "strip" ∷ []) (codes "a\u{1b}]0;t\n\u{7}b\n") ≡ codes "a]0;t\n\u{7}b\n"
 unfolding answers work_asked
 strip-cut-title = refl
 
--- no words are bad words, which write nothing
+-- an empty list of words is bad words, and writes nothing
 pub output_of-no_words : output_of [] (codes "abc\n") ≡ []
 unfolding work_asked
 output_of-no_words = refl
 
--- a cut from 1 on refuses the second line, an é (C3 A9 in UTF-8), inside its character, and ends before it
+-- a cut from 1 refuses the second line, since 1 is inside its é (C3 A9 in UTF-8), and the output ends before it
 pub cut-inside-character : output_of (codes "cut:1:" ∷ []) (codes "ab\n" ++ 0xC3 ∷ 0xA9 ∷ codes "\n") ≡ codes "b\n"
 unfolding answers work_asked changes_asked cut
 cut-inside-character = refl
@@ -45,7 +45,7 @@ pub refused-inside-character : refused_line (codes "cut:1:" ∷ []) (codes "ab\n
 unfolding first_refused work_asked changes_asked cut
 refused-inside-character = refl
 
--- each word asks for its change, and what a pattern holds is the word's rest, colons too
+-- each word asks for its change, and a pattern is the word's rest, including colons
 pub work_asked-each : work_asked (codes "cut:1:3" ∷ codes "left:2" ∷ codes "right:0" ∷ codes "part:1:a:b" ∷ codes "prefix:a:b" ∷ codes "suffix:" ∷ codes "trim" ∷ [])
     ≡ Some (Changed (CutRange 1 (Some 3) ∷ LeftOf 2 ∷ RightOf 0 ∷ PartOf (codes "a:b") 1 ∷ WithoutPrefix (codes "a:b") ∷ WithoutSuffix [] ∷ Trimmed ∷ []))
 unfolding work_asked changes_asked
@@ -61,7 +61,7 @@ pub work_asked-three_fields : work_asked (codes "cut:1:2:3" ∷ []) ≡ None
 unfolding work_asked changes_asked
 work_asked-three_fields = refl
 
--- `strip` stands alone, and in front of others too it asks for no change
+-- `strip` has to be the only word; beside other words it isn't a change
 pub work_asked-strip_beside : work_asked (codes "strip" ∷ codes "trim" ∷ []) ≡ None
 unfolding work_asked changes_asked
 work_asked-strip_beside = refl
@@ -71,12 +71,12 @@ pub work_asked-one_bad : work_asked (codes "trim" ∷ codes "part:1" ∷ []) ≡
 unfolding work_asked changes_asked
 work_asked-one_bad = refl
 
--- each line is cut, and what is left of it is trimmed
+-- each line is cut, and the result is trimmed
 pub cut-and-trim : output_of (codes "cut:1:3" ∷ codes "trim" ∷ []) (codes "\u{1b}[30mTEXT\u{1b}[39m\n a \n") ≡ codes "\u{1b}[30mEX\u{1b}[39m\na\n"
 unfolding answers work_asked changes_asked cut kept trim_start trim_end chars encode
 cut-and-trim = refl
 
--- between matches of the empty pattern stand the characters, and before the first one the empty part
+-- the empty pattern matches before and after each character, so part 0 is empty and part 1 is the first character
 pub part-of_empty_pattern : output_of (codes "part:1:" ∷ []) (codes "ab") ≡ codes "a"
 unfolding answers work_asked changes_asked part_from
 part-of_empty_pattern = refl
@@ -96,7 +96,7 @@ pub cell-cut : output_of (codes "cut:0:8" ∷ []) (codes "\u{1b}[32mready for wo
 unfolding answers work_asked changes_asked cut
 cell-cut = refl
 
--- what a line of a log says after its kind, in the color that it had there
+-- the message of a log line, after the kind, in its color
 pub log-part : output_of (codes "prefix:error" ∷ codes "part:1:: " ∷ []) (codes "\u{1b}[31merror: disk full\u{1b}[39m\n") ≡ codes "\u{1b}[31mdisk full\u{1b}[39m\n"
 unfolding answers work_asked changes_asked kept part_from digits
 log-part = refl

@@ -9,20 +9,20 @@ use Rattle.memchr.specs.Find.{IsFirstByte, is_byte}
 use Rattle.ansi_lines_runs.specs.Lines.{Line, HasFirstLine, line_feed, is_line_feed, lines, lines_of_pieces, answer_of, answer_to, answers, is_refused, first_refused, WritesAnswer}
 use Rattle.ansi_lines_runs.specs.Words.{Work}
 
--- a piece with a piece after it is ended
+-- a piece is an ended line if a piece follows it
 lines_of_pieces-cons : (piece : List ℕ) (pieces : List (List ℕ)) → 0 < length pieces → lines_of_pieces (piece ∷ pieces) ≡ record { text = piece; ended = true } ∷ lines_of_pieces pieces
 lines_of_pieces-cons piece [] some = absurd (omega arith)
 lines_of_pieces-cons piece (next ∷ more) some = refl
 
--- a search for a line feed that finds one
+-- if a search for a line feed finds one, the first piece ends there
 first_found : (text : List ℕ) (end : ℕ) → IsFirstByte (is_byte line_feed) text (Some end) → position_or_len is_line_feed text ≡ end
 first_found text end h = position_or_len_is is_line_feed text end 0 (omega (arith, h.0.high)) (λ k below. false_from_ne_true _ (h.0.before k (omega arith) below)) (λ _. h.1)
 
--- a search for a line feed that finds none
+-- if a search for a line feed finds none, the first piece is the whole text
 none_found : (text : List ℕ) → IsFirstByte (is_byte line_feed) text None → position_or_len is_line_feed text ≡ length text
 none_found text h = position_or_len_is is_line_feed text (length text) 0 (omega arith) (λ k below. false_from_ne_true _ (h k (omega arith) below)) (λ inside. absurd (omega arith))
 
--- a text with a line feed has a first line that it ends, and the others
+-- a text with a line feed has a first line that the line feed ends, and the other lines
 pub lines-first : (text : List ℕ) (end : ℕ) → IsFirstByte (is_byte line_feed) text (Some end) → HasFirstLine text (take end text) true (drop (end + 1) text)
 lines-first text end found =
     let at : position_or_len is_line_feed text ≡ end = first_found text end found in
@@ -39,27 +39,27 @@ lines-last (b ∷ text) found some =
     let none : All (λ x. is_line_feed x ≡ false) (b ∷ text) = λ k d below. fails_before_first is_line_feed (b ∷ text) k d (omega arith) in
     ap lines_of_pieces (slice_split_none is_line_feed (b ∷ text) none)
 
--- what stands before the first that passes, where the first of all doesn't
+-- the list before the first element that passes, if the first of all doesn't pass
 before_first-fails : {X : Type 0} (p : X → Bool) (x : X) (xs : List X) → p x ≡ false → before_first p (x ∷ xs) ≡ x ∷ before_first p xs
 before_first-fails p x xs fails = take_while-cons (λ x. not (p x)) x xs ∙ ap (λ b. cond (not b) (x ∷ before_first p xs) []) fails
 
--- what stands before the first that passes, where that is the first of all
+-- the list before the first element that passes, if the first of all passes
 before_first-passes : {X : Type 0} (p : X → Bool) (x : X) (xs : List X) → p x ≡ true → before_first p (x ∷ xs) ≡ []
 before_first-passes p x xs passes = take_while-cons (λ x. not (p x)) x xs ∙ ap (λ b. cond (not b) (x ∷ before_first p xs) []) passes
 
--- what was written has an answer
+-- a line that was written has a result
 was_answered : {answered : Bool} (old new o : Option (List ℕ)) → answered ≡ true → WritesAnswer o answered old new
     → (answer : List ℕ) × (o ≡ Some answer) × (new ≡ append_known old answer)
 was_answered old new None is wrote = let no = wrote.0 in cc
 was_answered old new (Some answer) is wrote = (answer, refl, wrote.1)
 
--- where nothing was written there is no answer
+-- a line that wasn't written has no result
 was_refused : {answered : Bool} (old new o : Option (List ℕ)) → answered ≡ false → WritesAnswer o answered old new
     → (o ≡ None) × (new ≡ old)
 was_refused old new None is wrote = (refl, wrote.1)
 was_refused old new (Some answer) is wrote = let yes = wrote.0 in cc
 
--- a text whose first line is answered, and what is written for that line
+-- a text whose first line has a result, and what is written for that line
 pub line-answered : {answered : Bool} (old new : Option (List ℕ)) (work : Work) (number : ℕ) (text : List ℕ) (line : Line) (more : List ℕ)
     → HasFirstLine text line.text line.ended more → answered ≡ true → WritesAnswer (answer_of work line.text) answered old new
     → (answer : List ℕ) × (new ≡ append_known old answer)
@@ -93,7 +93,7 @@ line-refused old new work number text line more split is wrote =
           ∙ ap (λ b. cond b (Some number) (position_from (is_refused work) (number + 1) (lines more))) refused,
     )
 
--- a text without lines has no answers, and none is refused
+-- a text without lines has no results, and no line is refused
 pub answers-none : (work : Work) (number : ℕ) (text : List ℕ) → lines text ≡ [] → (answers work text ≡ []) × (first_refused number work text ≡ None)
 unfolding answers first_refused
 answers-none work number text none =

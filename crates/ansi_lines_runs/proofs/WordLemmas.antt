@@ -14,7 +14,7 @@ use Rattle.ansi_lines_runs.specs.Runs.{words_of}
 use Rattle.ansi_str.specs.Changes.{Change}
 use Rattle.ansi_lines_runs.specs.Words.{Stripped, number_of, change_asked, changes_asked, work_asked}
 
--- the bytes are digits, and of a value that fits
+-- the bytes are one or more digits, and their value fits
 abbrev is_number : List ℕ → Bool
 is_number t = nat_lt 0 (length t) && (all_ascii_digits t && nat_lt (digits_value 10 t) (2 ^ 64))
 
@@ -27,11 +27,11 @@ number_of-read t (Err e) none = elim (cases_Bool (is_number t)) [
   | inr isnt ↦ sym (cond-false (is_number t) _ _ isnt)
 ]
 
--- std reads a field as its number, but for a plus in front
+-- std reads a field as its number, if no plus is in front
 pub number_of-parsed : {E : Type 0} (t : List ℕ) (r : Result ℕ E) → slice_index t 0 ≢ byte "+" → ParsesUnsigned 64 10 t r → result_ok r ≡ number_of t
 number_of-parsed t r plain parsed = number_of-read t r (parse_plain (numerals_by_value _ tells_all_ascii_digits) 64 t r parsed plain)
 
--- a field with a plus in front is no number
+-- a field with a plus in front isn't a number
 pub number_of-signed : (t : List ℕ) → slice_index t 0 ≡ byte "+" → number_of t ≡ None
 number_of-signed [] plus = refl
 number_of-signed (c ∷ cs) plus = elim (cases_Bool (is_number (c ∷ cs))) [
@@ -64,12 +64,12 @@ pub words_of-next : {Y : Type 0} (words : List (String Y)) (k : ℕ) (word : Str
 words_of-next words k word bytes below is value =
     ap words_of (drop_more words k word below) ∙ ap (λ w. w ∷ words_of (drop (k + 1) words)) (sym (value ∙ ap string_bytes is))
 
--- no changes before the others
+-- no changes in front of others
 pub changes-first : (o : Option (List Change)) → o ≡ option_map (λ more. [] ++ more) o
 changes-first None = refl
 changes-first (Some changes) = refl
 
--- one change more before the others
+-- one more change in front of others
 pub changes-next : (changes : List Change) (change : Change) (o : Option (List Change))
     → option_map (λ more. changes ++ more) (option_map (λ more. change ∷ more) o) ≡ option_map (λ more. (changes ++ change ∷ []) ++ more) o
 changes-next changes change None = refl

@@ -1,4 +1,4 @@
--- The lines of a text, and what is written for them.
+-- The lines of a text, and the results that are written for them.
 use Rattle.std.specs.Prelude.{◌≡◌, ◌==◌, ℕ, List, [], ◌∷◌, ◌++◌, Bool, true, false, Option, None, Some, is_none, unwrap_or, if◌then◌else◌}
 use Rattle.std.specs.List.{slice_split, flat_map, before_first, position_from}
 use Rattle.std.specs.Io.KnownBytes.{append_known}
@@ -16,44 +16,44 @@ line_feed = 10
 abbrev pub is_line_feed : ℕ → Bool
 is_line_feed byte = byte == line_feed
 
--- a line has a text, and is ended where a line feed follows it
+-- a line has a text, and is ended if a line feed follows it
 pub record Line : Type 0 where
   pub text : List ℕ
   pub ended : Bool
 
--- what stands after the last line feed is a line, if it isn't empty
+-- the text after the last line feed is a line, if it isn't empty
 abbrev pub last_line : List ℕ → List Line
 last_line [] = []
 last_line (byte ∷ text) = record { text = byte ∷ text; ended = false } ∷ []
 
--- of the pieces between line feeds each but the last is an ended line
+-- each piece between line feeds except the last is an ended line
 abbrev pub lines_of_pieces : List (List ℕ) → List Line
 lines_of_pieces [] = []
 lines_of_pieces (last ∷ []) = last_line last
 lines_of_pieces (piece ∷ next ∷ more) = record { text = piece; ended = true } ∷ lines_of_pieces (next ∷ more)
 
--- the lines of a text are the pieces that a line feed ends, and then what is left
+-- the lines of a text are the pieces that a line feed ends, and then the text after them
 abbrev pub lines : List ℕ → List Line
 lines text = lines_of_pieces (slice_split is_line_feed text)
 
--- a text has this first line, ended or not, and goes on with these
+-- a text has this first line, ended or not, and this text follows it
 abbrev pub HasFirstLine : List ℕ → List ℕ → Bool → List ℕ → Type 0
 HasFirstLine text line ended more = lines text ≡ record { text = line; ended = ended } ∷ lines more
 
--- a line's text is answered by its plain text, or by what the changes in turn make of it, if none is refused
+-- the result of a line's text is its plain text, or what the changes in turn make of it, if no change is refused
 abbrev pub answer_of : Work → List ℕ → Option (List ℕ)
 answer_of Stripped text = Some (plain text)
 answer_of (Changed changes) text = edited changes text
 
--- a line is refused where its text has no answer
+-- a line is refused if its text has no result
 abbrev pub is_refused : Work → Line → Bool
 is_refused work line = is_none (answer_of work line.text)
 
--- an ended line's answer is ended too
+-- the result of an ended line is ended too
 abbrev pub answer_to : Work → Line → List ℕ
 answer_to work line = unwrap_or (answer_of work line.text) [] ++ (if line.ended then line_feed ∷ [] else [])
 
--- a text is answered line by line, in order, up to the first line that is refused
+-- the results of a text's lines, in order, up to the first line that is refused
 unfoldable pub answers : Work → List ℕ → List ℕ
 answers work text = flat_map (answer_to work) (before_first (is_refused work) (lines text))
 
@@ -61,19 +61,19 @@ answers work text = flat_map (answer_to work) (before_first (is_refused work) (l
 unfoldable pub first_refused : ℕ → Work → List ℕ → Option ℕ
 first_refused number work text = position_from (is_refused work) number (lines text)
 
--- a text that has an answer is answered with that, and for one that has none nothing is written
+-- the result of a text is written if it has one, and nothing is written if it has none
 abbrev pub WritesAnswer : Option (List ℕ) → Bool → Option (List ℕ) → Option (List ℕ) → Type 0
 WritesAnswer None answered old new = (answered ≡ false) × (new ≡ old)
 WritesAnswer (Some answer) answered old new = (answered ≡ true) × (new ≡ append_known old answer)
 
--- what a sink has taken since is a beginning of these bytes
+-- the bytes that a sink has taken since are a beginning of these bytes
 pub record WritesBeginning (old new : Option (List ℕ)) (all : List ℕ) : Type 0 where
   pub part : List ℕ
   pub rest : List ℕ
   pub taken : new ≡ append_known old part
   pub whole : all ≡ part ++ rest
 
--- writing stops since a write failed, or for lack of memory, where this much is so and none has failed
+-- writing stops because a write failed, or because memory has run out; in the second case no write has failed, and this is so
 abbrev pub StopsWriting : Bool → Bool → Type 0 → Stop → Type 0
 StopsWriting failed_before failed_after so_far WriteFailed = failed_after ≡ true
 StopsWriting failed_before failed_after so_far OutOfMemory = so_far × (failed_after ≡ failed_before)

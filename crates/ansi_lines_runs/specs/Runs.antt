@@ -1,7 +1,6 @@
--- What a run writes and tells.
-use Rattle.std.specs.Prelude.{◌==◌, ℕ, List, [], Option, None, Some, Result, Ok, Err, String, map, string_bytes, codes, if◌then◌else◌, IfOk, IfSome, IsNone, IsSome, ⊤}
+-- What a run writes and reports.
+use Rattle.std.specs.Prelude.{◌==◌, ℕ, List, [], Option, None, Some, Result, Ok, Err, String, map, string_bytes, codes, if◌then◌else◌, IsNone, IsSome, ⊤}
 use Rattle.std.specs.Option.{option_and_then, option_map_or}
-use Rattle.std.specs.declared.vec.Vec.{Vec}
 use Rattle.ansi_lines_io.specs.declared.stop.Stop.{Stop}
 use Rattle.ansi_lines_io.specs.declared.stop.Stop.TheVariants.{Refused, BadWords, BadInput, WriteFailed, OutOfMemory}
 use Rattle.ansi_lines_runs.specs.Lines.{answers, first_refused}
@@ -15,11 +14,11 @@ words_of words = map string_bytes words
 abbrev pub AreGoodWords : List (List ℕ) → Type 0
 AreGoodWords words = IsSome (work_asked words)
 
--- bad words ask for nothing that can be done
+-- bad words ask for nothing that the program does
 abbrev pub AreBadWords : List (List ℕ) → Type 0
 AreBadWords words = IsNone (work_asked words)
 
--- a run ends for bad words where they are bad, and for another reason where they are good; lack of memory may end it with either
+-- a run ends because of bad words if they are bad, and for another reason if they are good; with either it may run out of memory
 abbrev pub MatchesWords : Stop → List (List ℕ) → Type 0
 MatchesWords BadWords words = AreBadWords words
 MatchesWords (Refused line) words = AreGoodWords words
@@ -27,7 +26,7 @@ MatchesWords BadInput words = AreGoodWords words
 MatchesWords WriteFailed words = AreGoodWords words
 MatchesWords OutOfMemory words = ⊤
 
--- what the words make of an input, which is nothing where they are bad
+-- what the words make of an input; bad words make nothing
 abbrev pub output_of : List (List ℕ) → List ℕ → List ℕ
 output_of words input = option_map_or (λ work. answers work input) (work_asked words) []
 
@@ -35,7 +34,7 @@ output_of words input = option_map_or (λ work. answers work input) (work_asked 
 abbrev pub refused_line : List (List ℕ) → List ℕ → Option ℕ
 refused_line words input = option_and_then (λ work. first_refused 1 work input) (work_asked words)
 
--- this is so of the refused line, if there is one, where a run ends with all that the words make of the input
+-- if a run has written all that the words make of the input, this is so of the refused line, or of `None`
 abbrev pub IfAnswered : Result (Unit {0}) Stop → (Option ℕ → Type 0) → Type 0
 IfAnswered (Ok done) Fact = Fact None
 IfAnswered (Err (Refused line)) Fact = Fact (Some line)
@@ -44,18 +43,7 @@ IfAnswered (Err BadInput) Fact = ⊤
 IfAnswered (Err WriteFailed) Fact = ⊤
 IfAnswered (Err OutOfMemory) Fact = ⊤
 
--- this is so of an output before and after a run, where it could be had, and then it stays
-abbrev pub IfOutput : {W E : Type 0} → Result W E → Result W E → (W → W → Type 0) → Type 0
-IfOutput (Ok old) (Ok new) Fact = Fact old new
-IfOutput (Ok old) (Err error) Fact = ⊥
-IfOutput (Err error) new Fact = ⊤
-
--- this is so of the words, of the bytes that the input tells, and of the output before and after, where all of them could be had
-abbrev pub IfRun : {A B W E F : Type 0} → Result (Vec (String A) B) E → Result W F → Result W F → Option (List ℕ) → (List (List ℕ) → List ℕ → W → W → Type 0) → Type 0
-IfRun words output_before output_after left Fact =
-    IfOk words (λ read. IfOutput output_before output_after (λ old new. IfSome left (λ bytes. Fact (words_of read.items) bytes old new)))
-
--- each status but 0 and 1 has a text of its own
+-- each status from 2 to 5 has a text of its own
 abbrev pub told : ℕ → List ℕ
 told status =
     if status == 2 then codes "bad words\n"

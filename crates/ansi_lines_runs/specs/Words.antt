@@ -11,15 +11,15 @@ pub data Work : Type 0 where
   Stripped : Work
   Changed : List Change → Work
 
--- a colon ends a word's name, and parts its fields
+-- a colon ends a word's name, and separates its fields
 abbrev pub is_colon : ℕ → Bool
 is_colon b = b == byte ":"
 
--- what stands before and after the first colon, if there is one
+-- the text before and after the first colon, if there is one
 abbrev pub at_colon : List ℕ → Option (List ℕ × List ℕ)
 at_colon text = option_map (λ i. (take i text, drop (i + 1) text)) (position is_colon text)
 
--- a field is a number where it is one or more digits, leading zeros allowed, of a value that fits usize
+-- a field is a number if it is one or more digits, leading zeros allowed, and its value fits usize
 abbrev pub number_of : List ℕ → Option ℕ
 number_of field =
     if nat_lt 0 (length field) && (all_ascii_digits field && nat_lt (digits_value 10 field) (2 ^ 64))
@@ -38,7 +38,7 @@ cut_of fields = option_and_then (λ (f : List ℕ × List ℕ). option_and_then 
 abbrev pub part_of : List ℕ → Option Change
 part_of fields = option_and_then (λ (f : List ℕ × List ℕ). option_map (PartOf f.1) (number_of f.0)) (at_colon fields)
 
--- what a name asks for, with what stands after its colon
+-- what a name asks for, with the field after its colon
 abbrev pub change_named : List ℕ → List ℕ → Option Change
 change_named name field =
     if bytes_eq name (codes "cut") then cut_of field
@@ -49,13 +49,13 @@ change_named name field =
     else if bytes_eq name (codes "suffix") then Some (WithoutSuffix field)
     else None
 
--- `trim` asks for a change by itself, and any other word by its name, a colon and what follows that
+-- `trim` asks for a change by itself, and any other word by its name, a colon and a field
 abbrev pub change_asked : List ℕ → Option Change
 change_asked word =
     if bytes_eq word (codes "trim") then Some Trimmed
     else option_and_then (λ (f : List ℕ × List ℕ). change_named f.0 f.1) (at_colon word)
 
--- words ask for changes in turn where each of them asks for one
+-- words ask for changes in turn if each of them asks for one
 unfoldable pub changes_asked : List (List ℕ) → Option (List Change)
 changes_asked words =
     if list_all (λ word. is_some (change_asked word)) words then Some (filter_map change_asked words) else None

@@ -1,4 +1,4 @@
-//! What the program `ansi_lines` does: its words, what it makes of each line, and a run over any devices.
+//! The program `ansi_lines`: its words, the result of each line, and a run over any devices.
 #![tactic(auto)]
 
 pub mod lines;

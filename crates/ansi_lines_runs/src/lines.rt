@@ -1,4 +1,4 @@
-//! Answers a text line by line.
+//! Edits or strips a text line by line.
 ghost use Rattle.std.specs.Prelude.{◌≡◌, ◌<◌, ◌||◌, [], is_err, length, IfErr, IfNone, IfOk, IfSome, OnOk};
 ghost use Rattle.std.specs.Io.KnownBytes.{append_known};
 ghost use Rattle.ansi_str.specs.Plain.{plain};
@@ -12,10 +12,15 @@ use ansi_str::ansitok::{Kind, Scanner};
 use memchr::memchr;
 use std::alloc::Allocator;
 
-/// Writes the answer to each line, in order, and a line feed after each that had one. It ends
-/// before the first line that is refused, and answers that line's number, counted from 1.
+/// Writes the result of each line, in order, and a line feed after each line that had one. It stops
+/// before the first line that is refused, and returns that line's number, counted from 1. `None`
+/// means that no line is refused.
 ///
-/// Plain text takes no memory. What an edited line takes is given back before the next.
+/// `Err` means that a write failed, or that memory has run out. If no write failed, a beginning of
+/// the results is written.
+///
+/// Stripping a line doesn't allocate. Editing one allocates its result, which is freed before the
+/// next line.
 pub fn write_lines<A: Allocator + Copy, W: Sink>(
     alloc: A,
     job: &Job<'_, A>,
@@ -44,7 +49,8 @@ pub fn write_lines<A: Allocator + Copy, W: Sink>(
     Ok(None)
 }
 
-// The text of the first line, whether a line feed ends it, and what stands after it.
+// The text of the first line, whether a line feed ends it, and the text after it. An empty text
+// has no line.
 fn first_line(text: &str) -> Option<(&str, bool, &str)>
     ensures none { IfNone result (lines text.now ≡ []) }
     ensures first { IfSome result (λ line. HasFirstLine text.now line.0.now line.1 line.2.now) }
@@ -59,8 +65,8 @@ fn first_line(text: &str) -> Option<(&str, bool, &str)>
     }
 }
 
-// Writes the answer to a line's text, all of it or, for lack of memory, nothing. It is false where
-// the line is refused, and then nothing is written.
+// Writes the result of a line's text, or nothing if memory has run out. It returns false if the
+// line is refused, and then writes nothing.
 fn write_answer<A: Allocator + Copy, W: Sink>(
     alloc: A,
     job: &Job<'_, A>,
@@ -88,7 +94,7 @@ fn write_answer<A: Allocator + Copy, W: Sink>(
     }
 }
 
-// Writes the plain text of a line run by run, so that it takes no memory.
+// Writes the plain text of a line run by run, so it doesn't allocate.
 fn write_plain<W: Sink>(line: &str, output: &mut W) -> Result<(), WriteFault>
     ensures taken { OnOk result (W.taken output.new ≡ append_known (W.taken output.old) (plain line.now)) }
     ensures flushes { W.flushes output.new ≡ W.flushes output.old }

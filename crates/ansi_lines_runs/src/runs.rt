@@ -1,10 +1,10 @@
 //! A run of the program, over any devices.
-ghost use Rattle.std.specs.Prelude.{◌≡◌, ◌≤◌, ◌+◌, ◌⊎◌, false, true, IfErr, IfOk, IfSome, IsErr, IsErrOf, IsNone, IsOk, IsSome, OnOk};
+ghost use Rattle.std.specs.Prelude.{◌≡◌, ◌≤◌, ◌+◌, ◌⊎◌, false, true, Err, IfErr, IfOk, IfSome, IsErr, IsErrOf, IsNone, IsOk, IsSome, Ok, OnOk};
 ghost use Rattle.std.specs.Io.KnownBytes.{append_known};
 ghost use Rattle.ansi_lines_io.specs.Devices.{count_after};
 ghost use Rattle.ansi_lines_runs.specs.Lines.{WritesBeginning};
 ghost use Rattle.ansi_lines_io.specs.Reading.{max_reads, IsBadInput, IsGivenUp, IsRead, IsUnfit};
-ghost use Rattle.ansi_lines_runs.specs.Runs.{AreBadWords, AreGoodWords, IfAnswered, IfOutput, IfRun, MatchesWords, output_of, refused_line, told, words_of};
+ghost use Rattle.ansi_lines_runs.specs.Runs.{AreBadWords, AreGoodWords, IfAnswered, MatchesWords, output_of, refused_line, told, words_of};
 ghost use Rattle.ansi_lines_io.specs.Stops.{refusal};
 
 use crate::lines::write_lines;
@@ -15,12 +15,47 @@ use ansi_lines_io::stop::Stop;
 use std::alloc::Allocator;
 use std::io;
 
-/// Does what the words ask for with each line of the input, and answers the status.
+/// Returns the words and the output, if the program has both. If not, it reports why on the fault
+/// writer, and `Err` is the status. Doesn't allocate.
 ///
-/// The whole input is read first. Then each line is handled by itself, in order; a line feed ends
-/// it, isn't part of it, and is written after its answer. A line that is refused ends the run: the
-/// lines before it are written, and nothing of it or after it. The output is flushed once: at the
-/// end, or before a refused line is told of.
+/// Words that can't be read are bad words (2). If only the output can't be made, the program is out
+/// of memory (5). A run reads its input only after this, so then nothing is read.
+///
+/// ```
+/// let mut faults = Page::with_room(alloc, 20)?;
+/// let output = Page::with_room(alloc, 10)?;
+/// let unread = Err(Error::from(ErrorKind::InvalidData));
+/// assert_eq!(prepare(unread, Ok(output), &mut faults).err(), Some(2));
+/// assert_eq!(faults.bytes(), b"bad words\n");
+/// ```
+pub fn prepare<W: Drop, V: Sink>(
+    words: io::Result<Vec<String>>,
+    output: io::Result<W>,
+    faults: &mut V,
+) -> Result<(Vec<String>, W), u8>
+    ensures ready { IfOk words (λ words. IfOk output (λ output. result ≡ Ok (words, output))) }
+    ensures unread_words { IsErr words → result ≡ Err 2 }
+    ensures no_output { IsOk words → IsErr output → result ≡ Err 5 }
+    ensures quiet { IsOk result → faults.new ≡ faults.old }
+    ensures told { IfErr result (λ status. V.failed faults.new ≡ false →
+        V.taken faults.new ≡ append_known (V.taken faults.old) (told status)) }
+    ensures faults_unflushed { V.flushes faults.new ≡ V.flushes faults.old }
+{
+    let Ok(words) = words else {
+        return Err(Stop::BadWords.tell(faults));
+    };
+    let Ok(output) = output else {
+        return Err(Stop::OutOfMemory.tell(faults));
+    };
+    Ok((words, output))
+}
+
+/// Edits or strips each line of the input, as the words ask, and returns the status.
+///
+/// It reads the whole input first, and writes nothing before that. Then it handles each line by
+/// itself, in order. A line feed ends a line, isn't part of it, and is written after its result. A
+/// line that is refused ends the run: the results of the lines before it are written, and nothing
+/// of it or after it. The output is flushed once: at the end, or before a refused line is reported.
 ///
 /// | status | when | text on the fault writer |
 /// |---|---|---|
@@ -29,10 +64,11 @@ use std::io;
 /// | 2 | bad words; nothing is read | `bad words\n` |
 /// | 3 | the input is longer than `MAX_BYTES`, isn't UTF-8, or failed; nothing is written | `bad input\n` |
 /// | 4 | a write or a flush of the output failed | `write failed\n` |
-/// | 5 | lack of memory; what is written is a beginning of what would have been | `out of memory\n` |
+/// | 5 | out of memory; what is written is a beginning of the whole output | `out of memory\n` |
 ///
-/// Memory comes from the allocator, the program's own or any other. The first of these that is met is the status. A read that is interrupted is made again; more than
-/// `MAX_READS` reads are a failed input. A fault of the fault writer is passed over.
+/// The status is the first of these that the run meets. An interrupted read is made again, and an
+/// input that takes more than `MAX_READS` reads has failed. A fault of the fault writer is ignored.
+/// Memory comes from `alloc`, the program's own allocator or any other.
 ///
 /// ```
 /// let mut input = Page::of(alloc, b"\x1b[31mred\x1b[39m\n".to_vec(alloc)?);
@@ -59,13 +95,13 @@ pub fn run<A: Allocator, S: Source, W: Sink, V: Sink>(
     ensures refused { result ≡ 1 → IfSome (S.left input.old) (λ bytes.
         IsSome (refused_line (words_of words.now) bytes)) }
 
-    // Bad words are told of before anything is read or written.
+    // Bad words are reported before anything is read or written.
     ensures bad_words { result ≡ 2 → AreBadWords (words_of words.now) }
     ensures only_bad_words { AreBadWords (words_of words.now) → (result ≡ 2) ⊎ (result ≡ 5) }
     ensures nothing_read { AreBadWords (words_of words.now) → input.new ≡ input.old }
     ensures nothing_written { AreBadWords (words_of words.now) → output.new ≡ output.old }
 
-    // A bad input is told of before anything is written.
+    // A bad input is reported before anything is written.
     ensures bad_input { result ≡ 3 → IsBadInput (S.left input.old) (S.failed input.new)
         (IsGivenUp (S.interrupted input.new) (S.reads input.old) (S.reads input.new)) }
     ensures most_reads { S.reads input.new ≤ S.reads input.old + max_reads }
@@ -75,12 +111,16 @@ pub fn run<A: Allocator, S: Source, W: Sink, V: Sink>(
         IsUnfit bytes → (result ≡ 3) ⊎ (result ≡ 5)) }
     ensures unread { AreGoodWords (words_of words.now) → S.failed input.old ≡ false →
         S.failed input.new ≡ true → (result ≡ 3) ⊎ (result ≡ 5) }
+    ensures unwritten_unfit { IfSome (S.left input.old) (λ bytes.
+        IsUnfit bytes → output.new ≡ output.old) }
+    ensures unwritten_unread { S.failed input.old ≡ false → S.failed input.new ≡ true →
+        output.new ≡ output.old }
 
-    // A failed write or flush is told of.
+    // A failed write or flush is reported.
     ensures write_failed { result ≡ 4 → W.failed output.new ≡ true }
     ensures only_write_failed { W.failed output.old ≡ false → W.failed output.new ≡ true → result ≡ 4 }
 
-    // For lack of memory a beginning is written.
+    // If memory runs out, a beginning of the output is written.
     ensures out_of_memory { result ≡ 5 → IfSome (S.left input.old) (λ bytes.
         WritesBeginning (W.taken output.old) (W.taken output.new) (output_of (words_of words.now) bytes)) }
 
@@ -91,7 +131,7 @@ pub fn run<A: Allocator, S: Source, W: Sink, V: Sink>(
     ensures unflushed { result ≡ 5 → W.flushes output.new ≡ W.flushes output.old }
     ensures faults_unflushed { V.flushes faults.new ≡ V.flushes faults.old }
 
-    // What ends a run early is told of, and nothing else.
+    // The reason that ends a run early is reported, and nothing else is.
     ensures quiet { result ≡ 0 → faults.new ≡ faults.old }
     ensures told { 2 ≤ result → V.failed faults.new ≡ false →
         V.taken faults.new ≡ append_known (V.taken faults.old) (told result) }
@@ -105,86 +145,7 @@ pub fn run<A: Allocator, S: Source, W: Sink, V: Sink>(
     }
 }
 
-/// Runs with words and into an output that may not be had, and answers the status. Words that can't be read
-/// are bad words, and an output that can't be had is lack of memory; nothing is read then.
-///
-/// Of each status it promises what `run` does.
-pub fn run_buffered<A: Allocator, S: Source, W: Sink, V: Sink>(
-    alloc: A,
-    words: &io::Result<Vec<String>>,
-    input: &mut S,
-    output: &mut io::Result<W>,
-    faults: &mut V,
-) -> u8
-    ensures statuses { result ≤ 5 }
-
-    // All that the words make of the input, up to a refused line, is written and passed on.
-    ensures done { result ≤ 1 → IfRun words.now output.old output.new (S.left input.old) (λ words bytes old new.
-        W.taken new ≡ append_known (W.taken old) (output_of words bytes)) }
-    ensures passed { result ≤ 1 → IfOutput output.old output.new (λ old new. W.passed new ≡ W.taken new) }
-    ensures none_refused { result ≡ 0 → IfRun words.now output.old output.new (S.left input.old) (λ words bytes old new.
-        IsNone (refused_line words bytes)) }
-    ensures refused { result ≡ 1 → IfRun words.now output.old output.new (S.left input.old) (λ words bytes old new.
-        IsSome (refused_line words bytes)) }
-
-    // Words that are bad, or can't be read, are told of before anything is read or written.
-    ensures unread_words { IsErr words.now → result ≡ 2 }
-    ensures bad_words { result ≡ 2 → IfOk words.now (λ read. AreBadWords (words_of read.items)) }
-    ensures only_bad_words { IfOk words.now (λ read. AreBadWords (words_of read.items) → (result ≡ 2) ⊎ (result ≡ 5)) }
-    ensures nothing_read { IfOk words.now (λ read. AreBadWords (words_of read.items)) → input.new ≡ input.old }
-    ensures nothing_written { IfOk words.now (λ read. AreBadWords (words_of read.items)) → output.new ≡ output.old }
-
-    // An output that can't be had is told of before anything is read.
-    ensures no_buffer { IsOk words.now → IsErr output.old → result ≡ 5 }
-    ensures read_for_no_buffer { IsErr output.old → input.new ≡ input.old }
-
-    // A bad input is told of before anything is written.
-    ensures bad_input { result ≡ 3 → IsBadInput (S.left input.old) (S.failed input.new)
-        (IsGivenUp (S.interrupted input.new) (S.reads input.old) (S.reads input.new)) }
-    ensures most_reads { S.reads input.new ≤ S.reads input.old + max_reads }
-    ensures good_words { result ≡ 3 → IfOk words.now (λ read. AreGoodWords (words_of read.items)) }
-    ensures unwritten { result ≡ 3 → output.new ≡ output.old }
-    ensures unfit { IfOk words.now (λ read. AreGoodWords (words_of read.items) → IfSome (S.left input.old) (λ bytes.
-        IsUnfit bytes → (result ≡ 3) ⊎ (result ≡ 5))) }
-    ensures unread { IfOk words.now (λ read. AreGoodWords (words_of read.items) → S.failed input.old ≡ false →
-        S.failed input.new ≡ true → (result ≡ 3) ⊎ (result ≡ 5)) }
-
-    // A failed write or flush is told of.
-    ensures write_failed { result ≡ 4 → IfOutput output.old output.new (λ old new. W.failed new ≡ true) }
-    ensures only_write_failed { IfOutput output.old output.new (λ old new.
-        W.failed old ≡ false → W.failed new ≡ true → result ≡ 4) }
-
-    // For lack of memory a beginning is written.
-    ensures out_of_memory { result ≡ 5 → IfRun words.now output.old output.new (S.left input.old) (λ words bytes old new.
-        WritesBeginning (W.taken old) (W.taken new) (output_of words bytes)) }
-
-    // The output is flushed once, after all is written, and the fault writer never.
-    ensures flushed_once { result ≤ 1 → IfOutput output.old output.new (λ old new.
-        W.flushes new ≡ count_after (W.flushes old) 1) }
-    ensures flushed_at_most_once { IfOutput output.old output.new (λ old new.
-        (W.flushes new ≡ W.flushes old) ⊎ (W.flushes new ≡ count_after (W.flushes old) 1)) }
-    ensures unflushed { result ≡ 5 → IfOutput output.old output.new (λ old new. W.flushes new ≡ W.flushes old) }
-    ensures faults_unflushed { V.flushes faults.new ≡ V.flushes faults.old }
-
-    // What ends a run early is told of, and nothing else.
-    ensures quiet { result ≡ 0 → faults.new ≡ faults.old }
-    ensures told { 2 ≤ result → V.failed faults.new ≡ false →
-        V.taken faults.new ≡ append_known (V.taken faults.old) (told result) }
-    ensures told_line { result ≡ 1 → V.failed faults.new ≡ false →
-        IfRun words.now output.old output.new (S.left input.old) (λ words bytes old new.
-        IfSome (refused_line words bytes) (λ line.
-        V.taken faults.new ≡ append_known (V.taken faults.old) (refusal line))) }
-{
-    let Ok(words) = words else {
-        return Stop::BadWords.tell(faults);
-    };
-    let Ok(output) = output else {
-        return Stop::OutOfMemory.tell(faults);
-    };
-    run(alloc, words.as_slice(), input, output, faults)
-}
-
-// Does what the words ask for, and tells nothing.
+// Does what the words ask for, and reports nothing.
 fn perform<A: Allocator, S: Source, W: Sink>(
     alloc: &A,
     words: &[String],
@@ -215,6 +176,8 @@ fn perform<A: Allocator, S: Source, W: Sink>(
     ensures most_reads { S.reads input.new ≤ S.reads input.old + max_reads }
 
     // The output.
+    ensures unwritten { (output.new ≡ output.old)
+        ⊎ IsRead (S.left input.old) (S.failed input.old) (S.failed input.new) }
     ensures write_failed { IsErrOf result Stop.WriteFailed →
         IsRead (S.left input.old) (S.failed input.old) (S.failed input.new) × (W.failed output.new ≡ true) }
     ensures out_of_memory { IsErrOf result Stop.OutOfMemory → IfSome (S.left input.old) (λ bytes.

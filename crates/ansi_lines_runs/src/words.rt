@@ -9,18 +9,19 @@ ghost use Rattle.ansi_lines_runs.specs.Words.{Changed, change_asked, change_name
 use ansi_str::Edit;
 use std::alloc::{AllocError, Allocator};
 
-/// What is done to each line.
+/// What a run does to each line.
 #[derive(Drop)]
 pub enum Job<'w, A: Allocator> {
     /// The line is written without its sequences.
     Strip,
-    /// The line is edited, each edit on what the one before gave. The patterns stand in the words.
+    /// The line is edited. Each edit takes the result of the one before. The patterns are borrowed
+    /// from the words.
     Edits(Vec<Edit<'w>, A>),
 }
 
-/// What the words ask for, or `None` where they are bad.
+/// What the words ask for, or `None` if they are bad.
 ///
-/// The list of edits takes memory, and `Err` means that it has run out.
+/// It allocates the list of edits. `Err` means that memory has run out.
 ///
 /// ```
 /// assert!(parse(alloc, &[])?.is_none());
@@ -39,7 +40,7 @@ pub fn parse<'w, A: Allocator>(
     }
 }
 
-// The edits that the words ask for, in order, or `None` where a word asks for none.
+// The edits that the words ask for, in order, or `None` if a word asks for none.
 fn parse_edits<'w, A: Allocator>(
     alloc: A,
     words: &'w [String],
@@ -67,7 +68,7 @@ fn parse_edit(word: &str) -> Option<Edit<'_>>
     parse_named(name, field)
 }
 
-// The edit of this name, with what stands after the name's colon.
+// The edit of this name. The field is the text after the name's colon.
 fn parse_named<'w>(name: &str, field: &'w str) -> Option<Edit<'w>>
     ensures { option_map change_of result ≡ change_named name.now field.now }
 {
@@ -82,7 +83,7 @@ fn parse_named<'w>(name: &str, field: &'w str) -> Option<Edit<'w>>
     }
 }
 
-// The cut with the start and the end that these fields write.
+// The cut with this start and this end: `START:END`.
 fn parse_cut(fields: &str) -> Option<Edit<'_>>
     ensures { option_map change_of result ≡ cut_of fields.now }
 {
@@ -92,7 +93,7 @@ fn parse_cut(fields: &str) -> Option<Edit<'_>>
     Some(Edit::Cut { start, end })
 }
 
-// The part of the index that the first of these fields writes. Its pattern may hold further colons.
+// The part with this index and this pattern: `INDEX:PATTERN`. The pattern may contain colons.
 fn parse_part(fields: &str) -> Option<Edit<'_>>
     ensures { option_map change_of result ≡ part_of fields.now }
 {
@@ -101,7 +102,7 @@ fn parse_part(fields: &str) -> Option<Edit<'_>>
     Some(Edit::Part { pat, index })
 }
 
-// An end, where an empty field is no end.
+// The end of a cut. An empty field is no end.
 fn parse_end(field: &str) -> Option<Option<usize>>
     ensures { result ≡ end_of field.now }
 {
@@ -111,8 +112,8 @@ fn parse_end(field: &str) -> Option<Option<usize>>
     Some(Some(parse_number(field)?))
 }
 
-// The number that the digits of a field write, if it fits. Where std reads a plus in front of them, it
-// is none.
+// The number that a field writes in digits, if it fits `usize`. std also accepts a plus in front,
+// which isn't allowed here.
 fn parse_number(field: &str) -> Option<usize>
     ensures { result ≡ number_of field.now }
 {

@@ -1,4 +1,4 @@
-//! As tests, runs of the program over devices and memory that fail.
+//! Tests of the program: runs of it, also over devices and memory that fail.
 #![tactic(auto)]
 
 #[cfg(test)]

@@ -1,8 +1,10 @@
-//! Runs over pages: what a run of `ansi_lines` writes, tells and answers where its devices or its memory fail.
-//! What a run makes of words and input alone stands in rows.tsv of `ansi_lines`, which the built program has to pass.
+//! Runs of `ansi_lines` over pages: what a run writes, reports and returns, also if its devices or
+//! its memory fail.
 mod devices;
 mod hosts;
 mod memory;
+mod prepared;
+mod rows;
 pub mod statuses;
 
 use ansi_lines_io::page::{Outcome, Page};
@@ -11,20 +13,29 @@ use std::alloc::{AllocError, Allocator, Global};
 use std::fmt::Debug;
 use std::process::Abort;
 
-// How many bytes a read gives, so that most inputs take several.
+// How many bytes a read gives, so that most inputs need several reads.
 const CHUNK: usize = 7;
 
 // How many bytes an output takes.
 const ROOM: usize = 100;
 
+// Words and an input, and the status, the output and the faults of a run that meets no failure.
+type Row = (
+    &'static [&'static str],
+    &'static str,
+    u8,
+    &'static str,
+    &'static str,
+);
+
 // What the devices of a run do.
 #[derive(Drop)]
 struct Plan {
-    // How the calls of each device come out.
+    // The outcomes of each device's calls.
     input: Vec<Outcome>,
     output: Vec<Outcome>,
     faults: Vec<Outcome>,
-    // How many bytes a read gives at most.
+    // The most bytes that a read gives.
     chunk: usize,
     // How many bytes the output takes.
     room: usize,
@@ -49,9 +60,9 @@ struct Ran {
     status: u8,
     output: Vec<u8>,
     faults: Vec<u8>,
-    // How many bytes of the output are passed on.
+    // How many bytes the output has passed on.
     passed: usize,
-    // How many outcomes of each device no call has taken.
+    // How many outcomes are left of each device.
     input_left: usize,
     output_left: usize,
     faults_left: usize,
@@ -80,7 +91,7 @@ struct Pages {
 }
 
 impl Pages {
-    // Devices that do as they are told.
+    // Devices that follow a plan, with these bytes to read.
     fn new(alloc: Global, bytes: &[u8], plan: Plan) -> Result<Self, AllocError> {
         let Plan {
             input,
@@ -111,7 +122,7 @@ fn owned(alloc: Global, words: &[&str]) -> Result<Vec<String>, AllocError> {
     Ok(given)
 }
 
-// The status of a run over pages. It says nothing of what the run does, so that its callers are quick to prove.
+// The status of a run over pages. It has no clauses, so that its callers are quick to prove.
 fn status_of<A: Allocator>(alloc: A, words: &[String], pages: &mut Pages) -> u8 {
     run(
         alloc,
@@ -122,7 +133,7 @@ fn status_of<A: Allocator>(alloc: A, words: &[String], pages: &mut Pages) -> u8 
     )
 }
 
-// Runs in the memory of a heap.
+// Runs with this heap as the run's allocator.
 fn run_in<A: Allocator + Copy>(
     heap: A,
     words: &[String],
@@ -140,19 +151,19 @@ fn run_with(alloc: Global, words: &[&str], bytes: &[u8], plan: Plan) -> Result<R
     run_in(alloc, given.as_slice(), bytes, plan, alloc)
 }
 
-// So many calls that work, and then one that comes out as told.
+// The outcomes of `call` calls that work, and then this outcome.
 fn at_call(alloc: Global, call: usize, outcome: Outcome) -> Result<Vec<Outcome>, AllocError> {
     let mut schedule = vec![in alloc; Outcome::Works; call]?;
     schedule.push(outcome)?;
     Ok(schedule)
 }
 
-// Ends the test where this doesn't hold of the row.
+// Ends the test if this doesn't hold for the row.
 fn expect<R: Copy + Debug>(rt: &impl Abort, holds: bool, what: &str, row: R) {
     assert!(rt; holds, "{what}: {row:?}");
 }
 
-// A run ends so.
+// Checks the status, the output and the faults of a run.
 fn expect_end<R: Copy + Debug>(
     rt: &impl Abort,
     ran: &Ran,

@@ -15,7 +15,8 @@ struct Case {
     output_calls: usize,
 }
 
-// Each run of plain text that `strip` writes, each answer of edits and each line feed is a write, and the flush comes last.
+// A run writes once for each run of plain text of `strip`, for each result of edits and for each
+// line feed. The flush comes last.
 static CASES: [Case; 4] = [
     Case {
         words: &["strip"],
@@ -51,10 +52,10 @@ static CASES: [Case; 4] = [
     },
 ];
 
-// The calls of the fault writer that tell of a refused line.
+// How many calls of the fault writer report a refused line.
 const FAULT_CALLS: usize = 3;
 
-// So many calls that work, each after one that is interrupted.
+// The outcomes of `calls` calls that work, each after one that is interrupted.
 fn interrupted_each_once(alloc: Global, calls: usize) -> Result<Vec<Outcome>, AllocError> {
     let mut schedule = Vec::new(alloc);
     for _ in 0..calls {
@@ -64,7 +65,7 @@ fn interrupted_each_once(alloc: Global, calls: usize) -> Result<Vec<Outcome>, Al
     Ok(schedule)
 }
 
-// Runs a case whose reads and whose output's calls come out as told.
+// Runs a case with these outcomes of its reads and of its output's calls.
 fn run_case(
     alloc: Global,
     case: &Case,
@@ -81,23 +82,23 @@ fn run_case(
     run_with(alloc, case.words, case.text.as_bytes(), plan)
 }
 
-// Runs a case whose reads come out as told.
+// Runs a case with these outcomes of its reads.
 fn run_reading(alloc: Global, case: &Case, schedule: Vec<Outcome>) -> Result<Ran, AllocError> {
     run_case(alloc, case, schedule, Vec::new(alloc))
 }
 
-// Runs a case whose output's calls come out as told.
+// Runs a case with these outcomes of its output's calls.
 fn run_writing(alloc: Global, case: &Case, schedule: Vec<Outcome>) -> Result<Ran, AllocError> {
     run_case(alloc, case, Vec::new(alloc), schedule)
 }
 
-// A run that ends as its case does.
+// Checks that a run ends as its case says.
 fn expect_case(rt: &impl Abort, case: &Case, ran: &Ran, what: &str) {
     let name = (case.words, what);
     expect_end(rt, ran, case.status, case.output, case.faults, name);
 }
 
-// Reads before a call that fails.
+// Checks a run whose read fails after `call` reads that work.
 fn expect_failing_read(
     rt: &impl Abort,
     alloc: Global,
@@ -229,7 +230,7 @@ fn bad_words_read_and_write_nothing(rt: HostRuntime) -> Result<(), Fail> {
     Ok(())
 }
 
-// A word, an input, the status and the output, and how many calls of the fault writer tell of it.
+// A word, an input, the status and the output, and how many calls of the fault writer report it.
 type FaultRow = (&'static str, &'static [u8], u8, &'static str, usize);
 
 static FAULT_ROWS: [FaultRow; 4] = [
@@ -258,7 +259,7 @@ fn expect_failing_fault(
     Ok(())
 }
 
-// Each call of the fault writer fails, so it has nothing.
+// Each call of the fault writer fails, so nothing is written to it.
 fn expect_silence(rt: &impl Abort, alloc: Global, row: &FaultRow) -> Result<(), Fail> {
     let (word, bytes, status, written, calls) = *row;
     let mut plan = Plan::new(alloc);

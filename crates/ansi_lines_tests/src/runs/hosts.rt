@@ -1,4 +1,5 @@
-//! The devices over readers and writers of std that fail: what no clause can say of them, since std's say nothing of an error.
+//! The devices over readers and writers of std that fail. No clause can say what they do then,
+//! since std's clauses say nothing of an error.
 use super::expect;
 use ansi_lines_io::devices::{ReadFault, Sink, Source};
 use ansi_lines_io::host::{HostIn, HostOut, SteadyWrite};
@@ -6,7 +7,8 @@ use ansi_lines_io::reading::{MAX_BYTES, read_text};
 use std::io::{self, Error, ErrorKind, Read, Write};
 use std::process::Abort;
 
-// The kinds of the errors that a reader's reads end with in turn, each kind of std among them, and the fault that each is.
+// The kinds of the errors that a reader's reads return in turn, and the fault for each. Each kind
+// of std is among them.
 static FAULTS: [(ErrorKind, ReadFault); 44] = [
     (ErrorKind::Interrupted, ReadFault::Interrupted),
     (ErrorKind::Interrupted, ReadFault::Interrupted),
@@ -54,7 +56,7 @@ static FAULTS: [(ErrorKind, ReadFault); 44] = [
     (ErrorKind::Uncategorized, ReadFault::Failed),
 ];
 
-// A reader whose reads fail so, and which is then at its end.
+// A reader whose reads fail with these kinds, and which is then at its end.
 #[derive(Drop)]
 struct Failing {
     reads: usize,
@@ -87,7 +89,7 @@ fn a_reader_of_std_fails_by_the_kind_of_its_error(rt: HostRuntime) {
     expect(&rt, read == Ok(0), "a read at the end", FAULTS.len());
 }
 
-// A reader of so many bytes, one at a read, and each read after one that is interrupted.
+// A reader with `left` bytes. A read gives one, and each comes after a read that is interrupted.
 #[derive(Drop)]
 struct Slow {
     left: usize,
@@ -123,7 +125,7 @@ fn a_reader_of_std_is_asked_up_to_the_last_read(rt: HostRuntime) {
     expect(&rt, is_whole, "the longest input", "a byte a read");
 }
 
-// A writer whose first calls work or fail as told.
+// A writer whose first calls work or fail, as `works` says.
 #[derive(Drop)]
 struct Told {
     works: [bool; 3],
@@ -158,7 +160,7 @@ impl SteadyWrite for Told {
     ghost tell_alike = { λ _ _. refl };
 }
 
-// Whether a write works, and two flushes after it.
+// Whether a write works, and then two flushes.
 static WORKS: [[bool; 3]; 8] = [
     [true, true, true],
     [true, true, false],

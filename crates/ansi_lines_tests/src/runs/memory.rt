@@ -1,5 +1,5 @@
 //! Each request for memory that a run makes, refused in turn.
-use super::{Plan, Ran, expect, expect_end, owned, run_in};
+use super::{Plan, Ran, Row, expect, expect_end, owned, run_in};
 use refusing::Refusing;
 use std::alloc::{AllocError, Global};
 use std::process::Abort;
@@ -7,15 +7,6 @@ use std::test::Fail;
 
 // More requests than a run makes.
 const MOST_REQUESTS: u64 = 100;
-
-// Words and an input, and the status, the output and the faults of a run that meets no refusal.
-type Row = (
-    &'static [&'static str],
-    &'static str,
-    u8,
-    &'static str,
-    &'static str,
-);
 
 static ROWS: [Row; 6] = [
     (
@@ -56,7 +47,7 @@ static ROWS: [Row; 6] = [
     (&["trim", "x"], "abc\n", 2, "", "bad words\n"),
 ];
 
-// What a run that met a refusal has written is a beginning of what it should have.
+// Checks a run that met a refusal. Its output is a beginning of the whole output.
 fn expect_out_of_memory(rt: &impl Abort, row: &Row, granted: u64, ran: &Ran) {
     let (words, _, _, written, _) = *row;
     let name = (words, granted);
@@ -73,7 +64,7 @@ fn expect_ended(rt: &impl Abort, row: &Row, granted: u64, ran: &Ran) {
     expect(rt, 0 < granted, "memory", words);
 }
 
-// Runs with so many requests granted, and tells whether one was refused.
+// Runs with `granted` requests granted, and returns whether one was refused.
 fn run_is_refused(
     rt: &impl Abort,
     alloc: Global,

@@ -1,4 +1,4 @@
-//! Callers of `run`, proved by its contract alone: what can be concluded of each status by itself.
+//! Callers of `run`, proved by its contract alone: what a caller can conclude from one status.
 ghost use Rattle.std.specs.Prelude.{◌≡◌, IsTrue, IfSome, IsNone, IsSome};
 ghost use Rattle.std.specs.Io.KnownBytes.{append_known};
 ghost use Rattle.ansi_lines_runs.specs.Runs.{output_of, refused_line, words_of};
@@ -7,7 +7,8 @@ use ansi_lines_io::devices::{Sink, Source};
 use ansi_lines_runs::runs::run;
 use std::alloc::Allocator;
 
-/// Whether a run is done. Then all that the words make of the input is written and passed on, and no line is refused.
+/// Whether a run is done. If so, all that the words make of the input is written and passed on,
+/// and no line is refused.
 pub fn is_done<A: Allocator, S: Source, W: Sink, V: Sink>(
     alloc: A,
     words: &[String],
@@ -24,7 +25,8 @@ pub fn is_done<A: Allocator, S: Source, W: Sink, V: Sink>(
     run(alloc, words, input, output, faults) == 0
 }
 
-/// Whether a run ends at a line that is refused. Then all that comes of the lines before it is written and passed on.
+/// Whether a run ends at a line that is refused. If so, the results of the lines before it are
+/// written and passed on.
 pub fn is_refused<A: Allocator, S: Source, W: Sink, V: Sink>(
     alloc: A,
     words: &[String],

@@ -2,7 +2,7 @@ use Rattle.std.proofs.Common.{◌∙◌, arith, inl, inr}
 use Rattle.ansi_lines_io.proofs.Known.{all_read}
 use Rattle.ansi_lines_io.proofs.reading.read_bytes.Goals as goal
 
--- nothing is left at the end, and no more was read than may be
+-- at the end no byte is left, and the bytes read are at most the limit
 pub returns-in_default-clause-read : goal.returns-in_default-clause-read
 returns-in_default-clause-read g c = (
   all_read _ _ _ c.loop-turn.invariant.taken (rw c.in_default.is at c.in_ok-count.ensures.end),
@@ -26,7 +26,7 @@ returns-then-len-gt-MAX_BYTES-clause-most_reads g c = omega arith
 pub returns-clause-most_reads : goal.returns-clause-most_reads
 returns-clause-most_reads g c = omega arith
 
--- as many turns as may be were made, so one was interrupted
+-- the most turns were made, so one read was interrupted
 pub returns-clause-stopped : goal.returns-clause-stopped
 returns-clause-stopped g c = inr (inr (record {
   was_interrupted = elim c.loop-turn.invariant.turns [ inl all ↦ absurd (omega arith) | inr was ↦ was ];

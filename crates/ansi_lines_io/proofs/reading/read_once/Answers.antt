@@ -1,6 +1,6 @@
 use Rattle.ansi_lines_io.proofs.reading.read_once.Goals as goal
 
--- an interrupted read is no fault, and not the end
+-- an interrupted read isn't an error, and isn't the end
 pub returns-in-Err-Interrupted-clause-failed : goal.returns-in-Err-Interrupted-clause-failed
 returns-in-Err-Interrupted-clause-failed g c = tt
 

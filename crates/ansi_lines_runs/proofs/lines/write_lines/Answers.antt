@@ -20,7 +20,7 @@ loop-line-init g c = record {
   unfailed = refl;
 }
 
--- the first line's answer and its line feed are written, and the answers to the other lines are to come
+-- the first line's result and its line feed are written, and the results of the other lines aren't
 pub loop-line-preserved : goal.loop-line-preserved
 loop-line-preserved g c =
     let work = work_of c.args.job.now in
@@ -43,7 +43,7 @@ loop-line-preserved g c =
       unfailed = same_failed ∙ c.in_ok-write_answer.ensures.unfailed ∙ c.loop-line.invariant.unfailed;
     }
 
--- a line is refused: nothing of it is written, and nothing after it
+-- a line is refused: nothing of it or after it is written
 refused : (g : Over) (c : goal.Then-not-branch g)
     → (g.W.Sink.taken c.write_answer.new.output ≡ g.W.Sink.taken c.loop-line.output) × (answers (work_of c.args.job.now) c.loop-line.rest.now ≡ []) × (first_refused c.loop-line.number (work_of c.args.job.now) c.loop-line.rest.now ≡ Some c.loop-line.number)
 refused g c =

@@ -6,7 +6,7 @@ use Rattle.ansi_lines_runs.specs.Lines.{answers, first_refused}
 use Rattle.ansi_lines_runs.proofs.Written.{HasWritten}
 use Rattle.ansi_lines_runs.proofs.lines.write_lines.Given as goal
 
--- the answers so far are written, those to the rest are to come, and no line so far is refused
+-- the results of the lines so far are written, those of the rest aren't, and no line so far is refused
 abbrev pub invariant-loop-line : goal.invariant-loop-line
 invariant-loop-line g l =
     let taken = g.W.Sink.taken in

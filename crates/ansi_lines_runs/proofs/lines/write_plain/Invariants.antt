@@ -4,7 +4,7 @@ use Rattle.ansi_str.specs.Plain.{plain, plain_of}
 use Rattle.ansi_str.specs.Scans.{pieces_left}
 use Rattle.ansi_lines_runs.proofs.lines.write_plain.Given as goal
 
--- what is written and the plain text of what is left are what was written and the plain text of all
+-- the bytes written so far, and then the plain text of the rest, are the plain text of all
 abbrev pub invariant-loop-item : goal.invariant-loop-item
 invariant-loop-item g l =
     let sink = g.W.Sink in

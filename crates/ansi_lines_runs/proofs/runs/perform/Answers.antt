@@ -17,13 +17,13 @@ returns-in_err-parse-clause-out_of_memory g c = λ stop. nothing-beginning _ _ (
 pub returns-in_err-text-clause-out_of_memory : goal.returns-in_err-text-clause-out_of_memory
 returns-in_err-text-clause-out_of_memory g c = λ stop. nothing-beginning _ _ (output_of (words_of c.args.words.now))
 
--- what is read has good words
+-- the input is read only if the words are good
 pub returns-in_err-text-clause-words : goal.returns-in_err-text-clause-words
 returns-in_err-text-clause-words g c = search rules
 
 pub returns-in_err-text-clause-untouched : goal.returns-in_err-text-clause-untouched
 returns-in_err-text-clause-untouched g c = search rules
 
--- all that is written is passed on, by one flush
+-- one flush passes on all that is written
 pub returns-clause-passed : goal.returns-clause-passed
 returns-clause-passed g c = search rules

@@ -1,7 +1,7 @@
 use Rattle.std.proofs.Common.{arith}
 use Rattle.ansi_lines_runs.proofs.runs.run.Goals as goal
 
--- a run that is done has the status 0, and has flushed once
+-- a run that is done returns 0, and has flushed once
 pub returns-in-Ok-clause-bad_input : goal.returns-in-Ok-clause-bad_input
 returns-in-Ok-clause-bad_input g c = λ three. absurd (omega arith)
 

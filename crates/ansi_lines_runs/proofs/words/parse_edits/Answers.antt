@@ -8,7 +8,7 @@ use Rattle.ansi_lines_runs.specs.Words.{Changed, changes_asked}
 use Rattle.ansi_lines_runs.proofs.WordLemmas.{changes_asked-empty, changes_asked-none, changes_asked-some, words_of-next, changes-first, changes-next}
 use Rattle.ansi_lines_runs.proofs.words.parse_edits.Goals as goal
 
--- all words are to come
+-- no word is read yet
 pub loop-word-init : goal.loop-word-init
 loop-word-init g c = record {
   asked = rw c.new-edits.ensures.items (changes-first (changes_asked (words_of c.args.words.now)));

@@ -2,7 +2,7 @@ use Rattle.std.proofs.Common.{rules, ap, arith, Some}
 use Rattle.std.proofs.lemmas.List.{take_all}
 use Rattle.ansi_lines_io.proofs.page.PageSink.flush.Goals as goal
 
--- all that is taken is passed on
+-- all bytes taken are passed on
 pub returns-then-eq-clause-passed : goal.returns-then-eq-clause-passed
 returns-then-eq-clause-passed c = ap Some (take_all _ _ (omega arith))
 

@@ -1,7 +1,7 @@
 use Rattle.std.proofs.Common.{rules}
 use Rattle.ansi_lines_io.proofs.page.PageSink.write.Goals as goal
 
--- what there is room for is within the room
+-- bytes that there is room for are within the room
 pub invariant_of-self : goal.invariant_of-self
 invariant_of-self c = search rules
 
