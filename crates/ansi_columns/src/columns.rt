@@ -24,8 +24,8 @@ use std::borrow::CowStr;
 
 /// The display width of a text, which is measured as if its sequences weren't there.
 ///
-/// Every type that implements [`AnsiStr`] has these calls, and they return the same for each of
-/// them.
+/// Implemented for every type that implements [`AnsiStr`]. The results depend on the text alone, not
+/// on its type.
 ///
 /// ```
 /// assert!(rt; "\x1b[31m日本\x1b[39m".ansi_width() == 4);
@@ -72,10 +72,10 @@ pub trait AnsiColumns: AnsiStr {
     /// The text truncated to `width` columns for display. If the text is cut, a tail such as `…`
     /// follows the cut.
     ///
-    /// A text that fits is returned as is. Any other text is cut, as `ansi_cut` does it, at the end
-    /// of the longest prefix that leaves room for the tail, and the tail is appended unchanged. A
-    /// tail wider than `width` is left out. The link and then the style still open at the end of
-    /// the text are closed before the tail.
+    /// A text that fits isn't cut. Any other text is cut, as `ansi_cut` does it, at the end of the
+    /// longest prefix that leaves room for the tail, and the tail is appended unchanged. A tail
+    /// wider than `width` is left out. In each case the link and then the style still open at the
+    /// end of the text are closed, before the tail.
     ///
     /// Returns a borrow, and doesn't allocate, if nothing has to be written after the part of the
     /// text that stays. Otherwise the result is at most as long as the text and the tail together,
@@ -135,7 +135,8 @@ pub trait AnsiColumns: AnsiStr {
     /// style that it leaves open are closed. They are opened again at the beginning of the next
     /// line: first the start of the style, then the sequence that opened the link. A sequence
     /// belongs to the first line that doesn't end before it. A sequence after the end of the last
-    /// line belongs to the last line. A line without text and sequences is empty. (Own.)
+    /// line belongs to the last line. On a line without text and sequences nothing is opened and
+    /// closed: it is empty. (Own.)
     ///
     /// ```
     /// let mut lines = "\x1b[31mlion tiger".ansi_wrap(rt.alloc(), 5);
