@@ -24,8 +24,8 @@ use std::borrow::CowStr;
 
 /// The display width of a text, which is measured as if its sequences weren't there.
 ///
-/// Implemented for every type that implements [`AnsiStr`]. The results depend on the text alone, not
-/// on its type.
+/// Implemented for every type that implements [`AnsiStr`]. The results depend on the text alone,
+/// not on its type.
 ///
 /// ```
 /// assert!(rt; "\x1b[31m日本\x1b[39m".ansi_width() == 4);

@@ -15,8 +15,8 @@ use std::marker::Model;
 /// The lines of a wrapped text, in order: the iterator that `AnsiColumns::ansi_wrap` returns.
 ///
 /// A line with no sequence is a borrow if it is empty or nothing is carried into it. Any other line
-/// is owned. `Err` means out of memory. After an `Err`, as after the last line, `next` always returns
-/// `None`. A line lives as long as the text and may outlive the iterator. (Own.)
+/// is owned. `Err` means out of memory. After an `Err`, as after the last line, `next` always
+/// returns `None`. A line lives as long as the text and may outlive the iterator. (Own.)
 ///
 /// ```
 /// let mut lines = String::new(rt.alloc());

@@ -20,8 +20,8 @@ use bitflags::Flags;
 
 /// A style: what the SGRs before a character of a text have selected (ECMA-48, section 8.3.117).
 ///
-/// It has three colors, a font and 24 attributes. Styles compare by these, part by part, in the order
-/// of the fields of `Rendition`. A block has one, see `get_blocks`. (The Rust crate.)
+/// It has three colors, a font and 24 attributes. Styles compare by these, part by part, in the
+/// order of the fields of `Rendition`. A block has one, see `get_blocks`. (The Rust crate.)
 ///
 /// ```
 /// let first = get_blocks(rt.alloc(), "\x1b[1;31mred").next();

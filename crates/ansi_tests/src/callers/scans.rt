@@ -3,8 +3,8 @@ ghost use Rattle.std.specs.Prelude.{◌*◌, ◌≤◌, length};
 
 use ansi_str::ansitok::Scanner;
 
-/// How often a full scan looks at a byte of the text: at least as often as the text has bytes, and at
-/// most four times as often.
+/// How often a full scan looks at a byte of the text: at least as often as the text has bytes, and
+/// at most four times as often.
 pub fn full_scan_reads(text: &str) -> u128
     ensures at_least { length text.now ≤ result }
     ensures at_most { result ≤ 4 * length text.now }
