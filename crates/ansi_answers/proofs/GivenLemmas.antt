@@ -1,4 +1,4 @@
--- Texts that an iterator gives, one more at a time, and all of them.
+-- Texts that an iterator returns, one more at a time, and all of them.
 use Rattle.std.proofs.Common.{◌≡◌, ◌∙◌, ℕ, ◌+◌, ◌<◌, ◌^◌, Bool, List, [], ◌∷◌, ◌++◌, length, take, drop, map, All, Option, None, Some, Result, Ok, Err, refl, sym, ap, ap₂, subst, arith, append-nil, length-append, IsTrue, IsOk}
 use Rattle.std.specs.Prelude.{flat_map, IsFalse}
 use Rattle.std.specs.Cow.{cow_str_bytes}
@@ -48,7 +48,7 @@ module _ {X : Type 0} (text : X → List ℕ) where
         one_more ∙ ap₂ (λ es n. es ++ n ∷ []) listed last ∙ sym (ends-more 0 xs x),
       )
 
--- one item more stands after those that are written
+-- one more item follows those that are written
 pub written-more : {T : Type 0} (old now after items more : List T) → now ≡ items ++ drop (length items) old → after ≡ take (length items) now ++ more ++ drop (length items + length more) now
     → after ≡ (items ++ more) ++ drop (length (items ++ more)) old
 written-more old now after items more is put =

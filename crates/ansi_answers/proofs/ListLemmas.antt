@@ -1,4 +1,4 @@
--- Texts that are joined in turn, and an entry for each; the parts and the block of a text without ESC.
+-- Texts that are concatenated in turn, and an entry for each; the parts and the block of a text without ESC.
 use Rattle.std.proofs.Common.{◌≡◌, ◌∙◌, ℕ, ◌+◌, ◌≤◌, ◌==◌, List, [], ◌∷◌, ◌++◌, length, drop, Some, Result, Ok, refl, sym, ap, subst, arith, append_assoc, append-nil, length-append, length-take, length-drop, ◌-◌, slice_range, true, false, if◌then◌else◌}
 use Rattle.std.specs.Prelude.{flat_map, IsFalse}
 use Rattle.std.proofs.lemmas.Bool.{ne_eqb}
@@ -40,7 +40,7 @@ entries-more text entry so_far after entries more_entries all e x left next is e
     ∙ ap (λ n. entries ++ entry (length so_far) (length so_far + length (text x)) x ∷ entries_of text entry n next) ends
     ∙ ap (λ xs. entries ++ entries_of text entry (length so_far) xs) (sym is) ∙ listed
 
--- a text is joined between what stands before it and after it
+-- a text is inserted between the text before it and the text after it
 pub around-more : (so_far a b after before text end : List ℕ) → a ≡ so_far ++ before → b ≡ a ++ text → after ≡ b ++ end → after ≡ so_far ++ (before ++ text ++ end)
 around-more so_far a b after before text end begun more ended =
     ended ∙ ap (λ u. u ++ end) (more ∙ ap (λ u. u ++ text) begun ∙ append_assoc so_far before text) ∙ append_assoc so_far (before ++ text) end
@@ -50,7 +50,7 @@ pub length-entries : {X Y : Type 0} (text : X → List ℕ) (entry : ℕ → ℕ
 length-entries text entry n [] = refl
 length-entries text entry n (x ∷ xs) = omega (arith, length-entries text entry (n + length (text x)) xs)
 
--- what stands in intervals in turn has no more bytes than what follows the place e
+-- consecutive intervals after the place e have at most as many bytes as the text after e
 pub length-slices_over : (x : List ℕ) (e : ℕ) (is : List (ℕ × ℕ)) → AreInTurn x e is → length (flat_map (λ u. u) (slices_over x is)) ≤ length x - e
 length-slices_over x e [] turn = omega arith
 length-slices_over x e (i ∷ is) turn =
@@ -64,7 +64,7 @@ length-slices_over x e (i ∷ is) turn =
       length-drop i.0 x,
     )
 
--- A text without ESC is one block, or none where it is empty.
+-- A text without ESC is one block; an empty text has no block.
 
 abbrev pub whole_block : List ℕ → Block
 whole_block t = record { text = t; style = plain_style; is_borrow = true }

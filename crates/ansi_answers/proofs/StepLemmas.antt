@@ -1,4 +1,4 @@
--- The patterns of steps in turn, and what a call of edits gives.
+-- The patterns of steps in turn, and the result of a call of edits.
 use Rattle.std.proofs.Common.{◌≡◌, ◌∙◌, Bool, true, false, ◌&&◌, ℕ, ◌+◌, ◌<◌, List, [], ◌∷◌, length, drop, get_or, IsTrue, refl, sym, ap, subst}
 use Rattle.std.proofs.lemmas.Bool.{true≢false, false_from_ne_true}
 use Rattle.std.proofs.lemmas.List.{drop_more}

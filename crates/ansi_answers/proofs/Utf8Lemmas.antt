@@ -1,4 +1,4 @@
--- What a call of texts does, by the test of each text, and what it gives.
+-- The effect of a call, by the UTF-8 check of each of its texts.
 use Rattle.std.proofs.Common.{◌≡◌, ◌∙◌, Bool, true, false, not, ◌&&◌, ℕ, List, [], ◌∷◌, Option, Some, Result, Ok, Err, IsTrue, inl, inr, sym, refl, subst}
 use Rattle.std.specs.Prelude.{IsOk, IfOk, option_map, MatchResult}
 use Rattle.std.specs.Cow.{cow_str_bytes}
@@ -38,7 +38,7 @@ pub Gives-written : (absent : ℕ) (takes_memory : Bool) (found : Option (List �
     → Some bytes ≡ found → IsWritten bytes answer old new → Gives absent takes_memory found answer old new
 Gives-written absent takes_memory found bytes answer old new is written = inl (subst (λ found. IsFound absent found answer old new) is written)
 
--- what a call gave is written or refused, and memory has run out only where it takes some
+-- the result of a call is written or refused, and the call runs out of memory only if it allocates
 pub Gives-found : {A E : Type 0} (absent : ℕ) (stays : Bool) (found : Option (List ℕ)) (gave : Result (Option (CowStr A)) E) (answer : Answer) (old new : List ℕ)
     → IfOk gave (λ o. option_map cow_str_bytes o ≡ found) → (IsTrue stays → IsOk gave)
     → MatchResult gave (λ o. IsFound absent (option_map cow_str_bytes o) answer old new) (λ e. HasFailed out_of_memory answer old new)

@@ -3,7 +3,7 @@ use Rattle.std.specs.Prelude.{ℕ, ◌==◌, List, Some, map, if◌then◌else�
 use Rattle.ansi_str.specs.Changes.{Change, CutRange, LeftOf, RightOf, PartOf, WithoutPrefix, WithoutSuffix, Trimmed}
 use Rattle.ansi_answers.specs.declared.edits.EditStep.{EditStep}
 
--- a step is a change by its kind, as the header numbers them; a step of any other kind is refused of every text
+-- the change of a step, by the kinds of the header; a step of an unknown kind is refused for every text
 abbrev pub change_of_step : EditStep → Change
 change_of_step step =
     if step.kind == 0 then CutRange step.first (Some step.second) else
@@ -15,6 +15,6 @@ change_of_step step =
     if step.kind == 6 then Trimmed else
     CutRange 1 (Some 0)
 
--- the patterns of steps, whether these take one or not
+-- the patterns of steps, whether the steps use them or not
 abbrev pub patterns_of : List EditStep → List (List ℕ)
 patterns_of steps = map (λ (step : EditStep). step.pattern.now) steps

@@ -14,7 +14,7 @@ use Rattle.ansi_answers.specs.Answers.{ok, no, out_of_memory}
 abbrev pub named : ℕ → ColorData
 named kind = record { kind = kind; number = 0; red = 0; green = 0; blue = 0 }
 
--- the kind of a color by the number that the header gives it, and its numbers
+-- a color by the kind that the header gives it, and its numbers
 abbrev pub set_color : Color → ColorData
 set_color Black = named 1
 set_color BrightBlack = named 2
@@ -37,12 +37,12 @@ set_color BrightWhite = named 18
 set_color (Fixed n) = record (named 19) { number = n }
 set_color (Rgb r g b) = record (named 20) { red = r; green = g; blue = b }
 
--- a color, or that none is set
+-- an optional color
 abbrev pub color_data : Option Color → ColorData
 color_data None = named 0
 color_data (Some color) = set_color color
 
--- an attribute's bit, where it is set
+-- the bit of an attribute, if that is set
 abbrev pub set_if : Bool → ℕ → ℕ
 set_if is_set bit = if is_set then bit else 0
 
@@ -70,15 +70,15 @@ style_data s = record {
   has_any = has_any s;
 }
 
--- a call gives no style
+-- a call returns no style
 abbrev pub no_style : ℕ → StyleAnswer
 no_style status = record { status = status; style = style_data plain_style }
 
--- a call gives the style that it finds, or that there is none
+-- a call returns the style that it finds, or that there is none
 abbrev pub style_found : Option Rendition → StyleAnswer
 style_found None = no_style no
 style_found (Some s) = record { status = ok; style = style_data s }
 
--- or memory has run out, where the call takes any
+-- the same, or the call runs out of memory, if it allocates
 abbrev pub TellsStyle : Bool → Option Rendition → StyleAnswer → Type 0
 TellsStyle takes_memory found answer = (answer ≡ style_found found) ⊎ (IsTrue takes_memory × (answer ≡ no_style out_of_memory))

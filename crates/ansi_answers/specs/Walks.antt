@@ -1,4 +1,4 @@
--- Blocks and parts that are taken off a text one by one.
+-- Walks that return the blocks and the parts of a text one by one.
 use Rattle.std.specs.Prelude.{◌≡◌, ◌⊎◌, ℕ, true, not, IsTrue, IsFalse, List, [], ◌∷◌, ◌==◌, length, Some, IsUtf8}
 use Rattle.ansi_style.specs.declared.state.rendition.Rendition.{Rendition}
 use Rattle.ansi_str.specs.Rendition.{plain_style}
@@ -18,20 +18,20 @@ use Rattle.ansi_answers.specs.Styles.{style_data}
 abbrev pub blocks_left : BlockWalk → List Block
 blocks_left w = blocks_from (rendition_of_numbers w.style) w.rest.now
 
--- a walk has all of a text left
+-- a walk is at the beginning of a text
 abbrev pub IsOver : List ℕ → BlockWalk → Type 0
 IsOver t w = (w.rest.now ≡ t) × (rendition_of_numbers w.style ≡ plain_style)
 
--- the sequences in the first of them, before its run
+-- the sequences in the first of these blocks, before its run
 abbrev pub sequences_left : BlockWalk → List ℕ
 sequences_left w = waiting w.rest.now 0
 
--- a run in a style is told, and these blocks are left
+-- a call returns this run and its style, and these blocks are left
 abbrev pub IsTold : List ℕ → Rendition → List Block → BlockWalk → NextBlock → Type 0
 IsTold w s bs walk block =
     (block.text.now ≡ w) × IsUtf8 w × (block.style ≡ style_data s) × (rendition_of_numbers walk.style ≡ s) × (blocks_left walk ≡ bs)
 
--- a call gives the first of the blocks that are left: it writes the sequences in it and tells its run and its style, and the others are left; where there is no such block, no room or no memory, all is as it was
+-- a call takes the first block off the walk: it writes the sequences in the block and returns its run and its style, and the other blocks are left; if there is no block, no room or no memory, everything is unchanged
 abbrev pub GivesNext : BlockWalk → BlockWalk → NextBlock → NextBlock → Answer → List ℕ → List ℕ → Type 0
 GivesNext old new old_block block answer old_buffer buffer =
     ((blocks_left old ≡ []) × HasFailed no answer old_buffer buffer × (new ≡ old) × (block ≡ old_block))
@@ -39,7 +39,7 @@ GivesNext old new old_block block answer old_buffer buffer =
     × Gives no (not (length (sequences_left old) == 0)) (Some (sequences_left old)) answer old_buffer buffer
     × (((answer.status ≡ ok) × IsTold w s bs new block) ⊎ ((¬ (answer.status ≡ ok)) × (new ≡ old) × (block ≡ old_block))))
 
--- a call gives the first of the parts that are left: it tells a part that stands in the text, and writes any other, and the others are left; where there is no such part, no room or no memory, all is as it was
+-- a call takes the first part off the walk: it returns a part that is a stretch of the text, and writes any other part, and the other parts are left; if there is no part, no room or no memory, everything is unchanged
 abbrev pub GivesNextPart : PartWalk → PartWalk → NextPart → NextPart → Answer → List ℕ → List ℕ → Type 0
 GivesNextPart old new old_part part answer old_buffer buffer =
     ((parts_of_walk old ≡ []) × HasFailed no answer old_buffer buffer × (new ≡ old) × (part ≡ old_part))

@@ -1,4 +1,4 @@
-//! What a call answers, and how it writes into a buffer.
+//! The result of a call, and how a call writes into the caller's buffer.
 ghost use Rattle.std.specs.Prelude.{◌≡◌, option_map, MatchResult, string_bytes};
 ghost use Rattle.std.specs.Cow.{cow_str_bytes};
 ghost use Rattle.ansi_answers.specs.Answers.{done, failed, told, out_of_memory, HasFailed, IsWritten, IsFound};
@@ -6,21 +6,21 @@ ghost use Rattle.ansi_answers.specs.Answers.{done, failed, told, out_of_memory, 
 use std::alloc::{AllocError, Allocator};
 use std::borrow::CowStr;
 
-/// It is done, or it is so.
+/// The call succeeded, or its test holds.
 pub const OK: u32 = 0;
-/// It is not so, or there is no such thing.
+/// The test doesn't hold, or what was asked for doesn't exist.
 pub const NO: u32 = 1;
-/// The positions are bad, or an edit is refused.
+/// A position is bad, or an edit is refused.
 pub const REFUSED: u32 = 2;
 /// A text or a pattern isn't UTF-8.
 pub const NOT_UTF8: u32 = 3;
 /// The buffer is too small.
 pub const TOO_SMALL: u32 = 4;
-/// Memory has run out.
+/// Out of memory.
 pub const OUT_OF_MEMORY: u32 = 5;
 
-/// What a call answers: a status, and the length of what was written or found, or of what is too long
-/// for the buffer.
+/// The result of a call: a status, and the length in bytes of what was written or found. If the
+/// buffer is too small, it is the length needed.
 #[repr(C)]
 #[derive(Clone, Copy)]
 pub struct Answer {
@@ -29,21 +29,21 @@ pub struct Answer {
 }
 
 impl Answer {
-    /// The answer of a call that is done.
+    /// The result of a call that succeeded.
     pub fn done(len: usize) -> Answer
         ensures { result ≡ done len }
     {
         Answer { status: OK, len }
     }
 
-    /// The answer of a call that gives nothing.
+    /// The result of a call that wrote nothing.
     pub fn failed(status: u32) -> Answer
         ensures { result ≡ failed status }
     {
         Answer { status, len: 0 }
     }
 
-    /// The answer to a question.
+    /// The result of a test.
     pub fn told(is_so: bool) -> Answer
         ensures { result ≡ told is_so }
     {
@@ -51,7 +51,7 @@ impl Answer {
     }
 }
 
-/// Writes a text at the front of a buffer, where there is room for it.
+/// Writes a text at the front of a buffer, if there is room for it.
 pub fn write(text: &[u8], buffer: &mut [u8]) -> Answer
     ensures { IsWritten text.now result buffer.old buffer.new }
 {
@@ -66,7 +66,8 @@ pub fn write(text: &[u8], buffer: &mut [u8]) -> Answer
     Answer::done(len)
 }
 
-/// Writes a text that was found, or answers a status where there is none, or that memory has run out.
+/// Writes a text that was looked for. Returns the status `absent` if there is none, or reports out
+/// of memory.
 pub fn write_found<A: Allocator>(
     found: Result<Option<CowStr<'_, A>>, AllocError>,
     absent: u32,
@@ -83,7 +84,7 @@ pub fn write_found<A: Allocator>(
     }
 }
 
-/// Writes a text that was made, or answers that memory has run out.
+/// Writes a text that was made, or reports out of memory.
 pub fn write_made<A: Allocator>(made: Result<String<A>, AllocError>, buffer: &mut [u8]) -> Answer
     ensures { MatchResult made
         (λ made. IsWritten (string_bytes made) result buffer.old buffer.new)

@@ -1,4 +1,4 @@
-//! The block of an index, and its style.
+//! The block at an index, and its style.
 ghost use Rattle.std.specs.Prelude.{◌≡◌, slice_get, option_map, IsFalse, IsOk, IfOk, string_bytes};
 ghost use Rattle.ansi_str.specs.Plain.{has_escape};
 ghost use Rattle.ansi_str.specs.Written.{start, close_if_any};
@@ -9,7 +9,7 @@ use crate::styles::StyleData;
 use ansi_str::{AnsiBlock, get_blocks};
 use std::alloc::{AllocError, Global};
 
-/// What a call answers that gives a style.
+/// The result of a call that returns a style.
 #[repr(C)]
 #[derive(Clone, Copy)]
 pub struct StyleAnswer {
@@ -18,7 +18,7 @@ pub struct StyleAnswer {
 }
 
 impl StyleAnswer {
-    /// The answer of a call that gives none.
+    /// The result of a call that returns no style.
     pub fn failed(status: u32) -> StyleAnswer
         ensures { result ≡ no_style status }
     {
@@ -29,7 +29,7 @@ impl StyleAnswer {
     }
 }
 
-/// The block of an index, or `None` where there are not so many blocks.
+/// The block at an index, or `None` if the text has too few blocks.
 pub fn find_block(
     alloc: Global,
     text: &str,
@@ -49,7 +49,7 @@ pub fn find_block(
     Ok(None)
 }
 
-/// The start of the style of the block of an index, or `None` where there are not so many blocks.
+/// The start of the style of the block at an index, or `None` if the text has too few blocks.
 pub fn block_start(alloc: Global, text: &str, index: usize) -> Result<Option<String>, AllocError>
     ensures { IfOk result (λ found. option_map string_bytes found ≡ option_map (λ b. start b.style) (slice_get (blocks text.now) index)) }
 {
@@ -59,7 +59,7 @@ pub fn block_start(alloc: Global, text: &str, index: usize) -> Result<Option<Str
     }
 }
 
-/// The end of the style of the block of an index, or `None` where there are not so many blocks.
+/// The close of the style of the block at an index, or `None` if the text has too few blocks.
 pub fn block_end(alloc: Global, text: &str, index: usize) -> Result<Option<String>, AllocError>
     ensures { IfOk result (λ found. option_map string_bytes found ≡ option_map (λ b. close_if_any b.style) (slice_get (blocks text.now) index)) }
 {

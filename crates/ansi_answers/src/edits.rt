@@ -1,4 +1,4 @@
-//! Edits in turn.
+//! Lists of edits, each applied to the result of the one before.
 ghost use Rattle.std.specs.Prelude.{◌≡◌, ◌↔◌, ◌⊎◌, map, option_map, IsTrue, IsNone, IsOk, IfOk, IfSome, IsUtf8};
 ghost use Rattle.std.specs.List.{list_all};
 ghost use Rattle.std.specs.Str.{is_utf8};
@@ -26,7 +26,7 @@ const SUFFIX: u32 = 5;
 
 const TRIM: u32 = 6;
 
-/// One edit of a text: its kind, and two numbers and a pattern, of which the kind says what it takes.
+/// One edit of a text: its kind, two numbers and a pattern. The kind says which of these it uses.
 #[repr(C)]
 #[derive(Clone, Copy)]
 pub struct EditStep<'a> {
@@ -48,7 +48,8 @@ pub fn are_patterns_utf8(steps: &[EditStep<'_>]) -> bool
     true
 }
 
-/// What steps make of a text, each done on what the one before gave, or `None` where one is refused.
+/// The text after all steps, each applied to the result of the one before. `None` if a step is
+/// refused.
 pub fn edit_in_turn<'t, A: Allocator + Copy>(
     alloc: A,
     text: &'t str,
@@ -68,7 +69,7 @@ pub fn edit_in_turn<'t, A: Allocator + Copy>(
     Ok(Some(edited))
 }
 
-/// What one step makes of what the steps before it gave, or `None` where it is refused. What is owned
+/// The result of the steps so far after one more step, or `None` if that is refused. An owned text
 /// stays owned.
 fn edit_given<'t, A: Allocator + Copy>(
     alloc: A,
@@ -94,7 +95,7 @@ fn edit_given<'t, A: Allocator + Copy>(
     }
 }
 
-/// The edit that a step is. A step of no kind is a range that every text refuses.
+/// The edit of a step. A step of an unknown kind becomes a range that every text refuses.
 fn edit_of<'a>(step: &EditStep<'_>, pat: &'a str) -> Edit<'a>
     requires { pat.now ≡ step.now.pattern.now }
     ensures { change_of result ≡ change_of_step step.now }

@@ -1,5 +1,5 @@
-//! What a call of the library for C answers, and how it writes that into the caller's memory. The library for C takes bytes,
-//! tests that they are UTF-8, and asks this one.
+//! The results of the calls of the library for C, and how they are written into the caller's
+//! memory. The library for C takes bytes, checks that they are UTF-8, and calls this crate.
 #![tactic(auto)]
 
 pub mod answers;

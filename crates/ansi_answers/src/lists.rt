@@ -1,4 +1,4 @@
-//! Several texts and an entry for each: all parts, and all blocks.
+//! Several texts with an entry for each: all parts, and all blocks.
 ghost use Rattle.std.specs.Prelude.{◌≡◌, ◌⊎◌, ◌≤◌, ◌<◌, ◌+◌, ◌^◌, ◌==◌, ◌∷◌, [], ◌++◌, ℕ, List, length, take, drop, map, flat_map, if◌then◌else◌, IsFalse, IfNone, IfSome, Result, IsOk, IfOk, OnOk, MatchResult, All, string_bytes};
 ghost use Rattle.std.specs.Iterator.{IsFinite, Drains, HoldsAlong};
 ghost use Rattle.std.specs.declared.alloc.AllocError.{AllocError};
@@ -17,8 +17,8 @@ use std::alloc::{AllocError, Allocator};
 use std::borrow::CowStr;
 use std::fmt::Write;
 
-/// What a call answers that gives several texts: a status, how many they are, and their length
-/// together.
+/// The result of a call that returns several texts: a status, their number, and their total length
+/// in bytes.
 #[repr(C)]
 #[derive(Clone, Copy)]
 pub struct ListAnswer {
@@ -28,7 +28,7 @@ pub struct ListAnswer {
 }
 
 impl ListAnswer {
-    /// The answer of a call that gives nothing.
+    /// The result of a call that wrote nothing.
     pub fn failed(status: u32) -> ListAnswer
         ensures { result ≡ none status }
     {
@@ -40,7 +40,7 @@ impl ListAnswer {
     }
 }
 
-/// A block among the blocks of a text: where its text ends among theirs, and its style.
+/// An entry for a block: where its text ends in the text of all blocks, and its style.
 #[repr(C)]
 #[derive(Clone, Copy)]
 pub struct BlockEntry {
@@ -48,8 +48,8 @@ pub struct BlockEntry {
     pub style: StyleData,
 }
 
-/// A block among the blocks of a text, each between the start of its style and the end: where its text
-/// starts and ends, where all of it ends, and its style.
+/// An entry for a block between the start and the close of its style: where its text begins and
+/// ends, where the close ends, and its style.
 #[repr(C)]
 #[derive(Clone, Copy)]
 pub struct StyledBlockEntry {
@@ -59,8 +59,8 @@ pub struct StyledBlockEntry {
     pub style: StyleData,
 }
 
-/// Writes the parts of a text without ESC, and where each ends, where there is room for all of them. Takes
-/// no memory.
+/// Writes the parts of a text without ESC, and where each ends, if there is room for all of them.
+/// Doesn't allocate.
 pub fn write_bare_parts<A: Allocator + Copy>(
     alloc: A,
     text: &str,
@@ -86,8 +86,8 @@ pub fn write_bare_parts<A: Allocator + Copy>(
     }
 }
 
-/// How many parts a text without ESC has and their length together, where there is no room for so many bytes
-/// or so many ends. They are counted only where there might be none.
+/// The number of parts of a text without ESC and their total length, if they don't fit into `bytes`
+/// bytes or `ends` ends. `None` if they fit. The parts are counted only if they might not fit.
 fn parts_without_room<A: Allocator + Copy>(
     alloc: A,
     text: &str,
@@ -113,8 +113,8 @@ fn parts_without_room<A: Allocator + Copy>(
     }
 }
 
-/// Writes the parts of a text without ESC, and where each ends, as far as there is room, and gives how many
-/// they are and their length together.
+/// Writes the parts of a text without ESC, and where each ends, as far as there is room. Returns
+/// their number and their total length.
 fn copy_bare_parts<A: Allocator + Copy>(
     alloc: A,
     text: &str,
@@ -130,8 +130,8 @@ fn copy_bare_parts<A: Allocator + Copy>(
     copy_texts(split_in(alloc, text, pat), buffer, ends)
 }
 
-/// Writes texts that an iterator gives, none of which takes memory, and where each ends, as far as there is
-/// room, and gives how many they are and their length together.
+/// Writes the texts of an iterator that doesn't allocate, and where each ends, as far as there is
+/// room. Returns their number and their total length.
 pub fn copy_texts<'t, A: Allocator, I: Iterator<Item = Result<CowStr<'t, A>, AllocError>> + Drop>(
     given: I,
     buffer: &mut [u8],
@@ -151,7 +151,7 @@ pub fn copy_texts<'t, A: Allocator, I: Iterator<Item = Result<CowStr<'t, A>, All
     (count, len)
 }
 
-/// Copies items to a place in a slice, where there is room for them, and gives the place after them.
+/// Copies items to a place in a slice, if there is room for them. Returns the place after them.
 fn put<T: Copy>(items: &[T], place: usize, slots: &mut [T]) -> usize
     requires { place + length items.now < 2 ^ 64 }
     ensures slots { place + length items.now ≤ length slots.old → slots.new ≡ take place slots.old ++ items.now ++ drop (place + length items.now) slots.old }
@@ -165,7 +165,8 @@ fn put<T: Copy>(items: &[T], place: usize, slots: &mut [T]) -> usize
     after
 }
 
-/// Writes a text without ESC, which is one block, and its entry; or no entry where it is empty.
+/// Writes a text without ESC, which is one block, and its entry. An empty text has no block and no
+/// entry.
 pub fn write_one_block<T: Copy>(
     text: &str,
     entry: &[T],
@@ -178,7 +179,7 @@ pub fn write_one_block<T: Copy>(
     write_list(text.as_bytes(), entry, buffer, entries)
 }
 
-/// The parts of a text one after the other, and where each ends.
+/// The parts of a text, concatenated, and where each ends.
 pub fn join_parts<A: Allocator + Copy>(
     alloc: A,
     text: &str,
@@ -190,8 +191,7 @@ pub fn join_parts<A: Allocator + Copy>(
     join_texts(alloc, text.len(), split_in(alloc, text, pat))
 }
 
-/// Texts that an iterator gives, one after the other, and where each ends. Room for so many bytes is asked for
-/// at once.
+/// The texts of an iterator, concatenated, and where each ends. Reserves `room` bytes at once.
 pub fn join_texts<
     't,
     A: Allocator + Copy,
@@ -212,7 +212,7 @@ pub fn join_texts<
     Ok((texts, ends))
 }
 
-/// Adds a text to texts, and gives where it ends.
+/// Appends a text, and returns where it ends.
 fn push_text<A: Allocator>(texts: &mut String<A>, text: &str) -> Result<usize, AllocError>
     ensures bytes { OnOk result (string_bytes texts.new ≡ string_bytes texts.old ++ text.now) }
     ensures end { IfOk result (λ end. end ≡ length (string_bytes texts.new)) }
@@ -221,7 +221,7 @@ fn push_text<A: Allocator>(texts: &mut String<A>, text: &str) -> Result<usize, A
     Ok(texts.len())
 }
 
-/// The blocks of a text one after the other, and where each ends and its style.
+/// The blocks of a text, concatenated, and for each where it ends and its style.
 pub fn join_blocks<A: Allocator + Copy>(
     alloc: A,
     text: &str,
@@ -239,7 +239,7 @@ pub fn join_blocks<A: Allocator + Copy>(
     Ok((texts, entries))
 }
 
-/// Adds a block to texts, and gives its entry.
+/// Appends a block, and returns its entry.
 fn push_block<A: Allocator>(
     texts: &mut String<A>,
     block: &AnsiBlock<'_, A>,
@@ -255,8 +255,8 @@ fn push_block<A: Allocator>(
     })
 }
 
-/// The blocks of a text one after the other, each between the start of its style and the end, and where
-/// these stand and its style.
+/// The blocks of a text, concatenated, each between the start and the close of its style; and for
+/// each where these are and its style.
 pub fn join_styled_blocks<A: Allocator + Copy>(
     alloc: A,
     text: &str,
@@ -274,7 +274,7 @@ pub fn join_styled_blocks<A: Allocator + Copy>(
     Ok((texts, entries))
 }
 
-/// Adds a block between the start of its style and the end to texts, and gives its entry.
+/// Appends a block between the start and the close of its style, and returns its entry.
 fn push_styled_block<A: Allocator>(
     texts: &mut String<A>,
     block: &AnsiBlock<'_, A>,
@@ -296,7 +296,7 @@ fn push_styled_block<A: Allocator>(
     })
 }
 
-/// Writes texts that were joined and their entries, or answers that memory has run out.
+/// Writes concatenated texts and their entries, or reports out of memory.
 pub fn write_joined<T: Copy, A: Allocator>(
     joined: Result<(String<A>, Vec<T, A>), AllocError>,
     buffer: &mut [u8],
@@ -314,8 +314,8 @@ pub fn write_joined<T: Copy, A: Allocator>(
     }
 }
 
-/// Writes texts at the front of a buffer and their entries at the front of another, where there is room
-/// for both.
+/// Writes concatenated texts at the front of one buffer and their entries at the front of another,
+/// if there is room for both.
 fn write_list<T: Copy>(
     texts: &[u8],
     their_entries: &[T],

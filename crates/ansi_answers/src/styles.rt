@@ -27,7 +27,7 @@ const CROSSED_OUT: u32 = 256;
 
 const FRAKTUR: u32 = 512;
 
-/// A color: its kind, and its numbers where the kind has any.
+/// A color: its kind, and its numbers if the kind has any.
 #[repr(C)]
 #[derive(Clone, Copy)]
 pub struct ColorData {
@@ -52,7 +52,7 @@ impl ColorData {
         }
     }
 
-    /// A color, or that none is set.
+    /// An optional color as data.
     fn of(color: Option<Color>) -> ColorData
         ensures { result ≡ color_data color }
     {
@@ -90,7 +90,7 @@ impl ColorData {
     }
 }
 
-/// A style: the set of its attributes, its colors, and whether it has something to end.
+/// A style: its attributes, its colors, and whether there is something to reset.
 #[repr(C)]
 #[derive(Clone, Copy)]
 pub struct StyleData {
@@ -113,7 +113,7 @@ impl StyleData {
         }
     }
 
-    /// A style in which nothing is set.
+    /// The plain style as data.
     #[tactic(auto, unfolding(crate::specs::Styles::attributes_of))]
     pub fn empty() -> StyleData
         ensures { result ≡ style_data plain_style }
@@ -127,7 +127,7 @@ impl StyleData {
     }
 }
 
-/// The attribute, where it is set.
+/// The attribute if it is set, otherwise 0.
 fn set_if(is_set: bool, attribute: u32) -> u32
     ensures { result ≡ (if is_set then attribute else 0) }
 {

@@ -1,4 +1,4 @@
-//! Answers that are one text, or tell of one.
+//! Calls that return one text, or search one.
 ghost use Rattle.std.specs.Prelude.{◌∷◌, [], Some};
 ghost use Rattle.ansi_str.specs.Plain.{plain, has_escape};
 ghost use Rattle.ansi_str.specs.Edits.{changes_of};
@@ -20,7 +20,7 @@ pub fn strip<A: Allocator>(alloc: A, text: &str, buffer: &mut [u8]) -> Answer
     }
 }
 
-/// Tells where the pattern first stands in the plain text.
+/// Returns the position of the first match of the pattern in the plain text.
 pub fn find(text: &str, pat: &str) -> Answer
     ensures { TellsPlace pat.now (plain text.now) result }
 {
@@ -30,7 +30,7 @@ pub fn find(text: &str, pat: &str) -> Answer
     }
 }
 
-/// Writes what edits make of a text, or answers a status where one is refused.
+/// Writes the text after all edits. Returns the status `absent` if an edit is refused.
 #[tactic(auto, unfolding(crate::specs::Answers::GivesEdited))]
 pub fn write_edited<A: Allocator + Copy>(
     alloc: A,

@@ -1,4 +1,5 @@
-//! A walk over the blocks of a text, in the caller's memory, and what a walk over blocks or parts tells.
+//! A walk over the blocks of a text, kept in the caller's memory, and what each step of a walk over
+//! blocks or parts returns.
 ghost use Rattle.std.specs.Prelude.{◌≡◌, not, ◌==◌, length, Some};
 ghost use Rattle.ansi_str.specs.Blocks.{waiting};
 ghost use Rattle.ansi_answers.specs.Answers.{no, Gives};
@@ -11,8 +12,7 @@ use ansi_style::numbers::StyleNumbers;
 use ansi_style::styles;
 use std::alloc::Allocator;
 
-/// What is left of a text whose blocks are taken one by one, and the style there, which is that of the
-/// block before.
+/// The state of a walk over blocks: the text after the last block, and the style of that block.
 #[repr(C)]
 #[derive(Clone, Copy)]
 pub struct BlockWalk<'a> {
@@ -20,7 +20,8 @@ pub struct BlockWalk<'a> {
     pub style: StyleNumbers,
 }
 
-/// A block: its run, which stands in the text, and its style. The sequences before the run are told apart.
+/// A block: its run, which is a stretch of the text, and its style. The sequences before the run
+/// are returned separately.
 #[repr(C)]
 #[derive(Clone, Copy)]
 pub struct NextBlock<'a> {
@@ -28,14 +29,14 @@ pub struct NextBlock<'a> {
     pub style: StyleData,
 }
 
-/// A part that stands in the text as it is.
+/// A part that is a stretch of the text.
 #[repr(C)]
 #[derive(Clone, Copy)]
 pub struct NextPart<'a> {
     pub text: &'a [u8],
 }
 
-/// A walk that has all blocks of a text left.
+/// A walk at the beginning of a text.
 pub fn walk_over(text: &str) -> BlockWalk<'_>
     ensures { IsOver text.now result }
 {
@@ -45,7 +46,7 @@ pub fn walk_over(text: &str) -> BlockWalk<'_>
     }
 }
 
-/// Writes the sequences that wait for the first run of a text. Takes memory only where there are any.
+/// Writes the sequences before the first run of a text. Allocates only if there are any.
 pub fn write_waiting<A: Allocator>(alloc: A, text: &str, run: &Run<'_>, buffer: &mut [u8]) -> Answer
     requires { run.now.is_awaited ≡ not (length (waiting text.now 0) == 0) }
     ensures { Gives no (not (length (waiting text.now 0) == 0)) (Some (waiting text.now 0)) result buffer.old buffer.new }

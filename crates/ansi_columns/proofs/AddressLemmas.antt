@@ -1,4 +1,4 @@
--- The link at a place, one piece at a time, and where its address stands in it.
+-- The link at a place, one piece at a time, and the place of its address inside it.
 use Rattle.std.proofs.Common.{◌≡◌, ◌≢◌, ℕ, ◌+◌, ◌-◌, ◌<◌, ◌≤◌, ◌⊎◌, inl, inr, ◌==◌, Bool, true, false, not, ◌&&◌, List, [], ◌∷◌, ◌++◌, map, length, take, drop, get_or, slice_range, nat_eq, nat_lt, filter, reverse, slice_get, unwrap_or, codes, IsNone, ◌↔◌, Option, Some, None, if◌then◌else◌, refl, sym, ◌∙◌, ap, ap₂, subst, arith, lit<, length-append, length-drop}
 use Rattle.std.specs.List.{prefix_len, starts_with, ends_with, list_all}
 use Rattle.std.specs.Cmp.Lexicographic.{pointwise}
@@ -25,7 +25,7 @@ use Rattle.ansi_columns.specs.Addresses.{address_at}
 use Rattle.ansi_columns.specs.Links.{terminator_len, address_of, is_link, opens_link, link_of, link_after, link_at}
 use Rattle.ansi_columns.proofs.LinkLemmas.{link_of-fold, is_link-sgr}
 
--- ---- the link at a place of pieces, where this one is open before them
+-- ---- the link at a place of pieces, if `link` is open before them
 
 abbrev pub link_by_marks : List ℕ → List Piece → ℕ → List ℕ
 link_by_marks link ps i = state_by_marks link_after link ps i
@@ -47,7 +47,7 @@ still-sequence link w before is = either (is_link w) (opens_link w)
     either true false = inl refl
     either false c = before
 
--- How far a walk to the plain byte n has come: the link so far, and where the byte stands in what is left.
+-- The state of a walk to the plain byte n: the link so far, and the place of the byte in what is left.
 pub record IsOnTheWay (t : List ℕ) (n : ℕ) (link : List ℕ) (left : ℕ) (ps : List Piece) : Type 0 where
   pub within : nat_lt left (length (plain_of ps)) ≡ nat_lt n (length (plain t))
   pub linked : link_by_marks link ps left ≡ link_at t n
@@ -90,7 +90,7 @@ way-rest {t} {link} {w} {n} {left} {kind} {old} {ps} way mark other =
       sequence = here.sequence;
     }
 
--- the byte stands in the text that comes next
+-- the byte is in the next text
 pub way-last : {t link w : List ℕ} {n left : ℕ} {old ps : List Piece} → IsOnTheWay t n link left old → old ≡ Text w ∷ ps → left < length w → address_of link ≡ address_at t n
 way-last {t} {link} {w} {n} {left} {old} {ps} way first last =
     let here = subst (IsOnTheWay t n link left) first way in
@@ -113,7 +113,7 @@ opened-address w false opens none = refl
 link_of-address : (ms : List Mark) → address_of (link_of ms) ≡ None → link_of ms ≡ []
 link_of-address ms none = (let last = unwrap_or (slice_get (reverse (filter is_link (map (λ (m : Mark). m.bytes) ms))) 0) [] in opened-address last (opens_link last) refl none)
 
--- so there is no address exactly past the end, and where no link is open
+-- so there is no address exactly past the end, and if no link is open
 pub none-exactly : {X : Type 0} (o : Option X) (f : X → List ℕ) (t : List ℕ) (n : ℕ) → option_map f o ≡ address_at t n → IsNone o ↔ ((length (plain t) ≤ n) ⊎ (link_at t n ≡ []))
 none-exactly None f t n is = (λ _. place (nat_lt n (length (plain t))) refl is, λ _. refl)
   where
@@ -151,7 +151,7 @@ unlinked {old} {new} {item} {t} {w} gives same is no_text no_other =
     by_kind Other no_text no_other sgr bytes = absurd (no_other refl)
     by_kind Lone no_text no_other sgr bytes = ap is_link bytes
 
--- ---- where the address of a link sequence stands in it
+-- ---- the place of the address inside a link sequence
 
 abbrev opening : List ℕ
 opening = codes "\u{1b}]8;"
@@ -208,7 +208,7 @@ ended w (inl s) begins = no-control_sequence w _ s.spelled begins
 ended w (inr (inl s)) begins = ended-string w s
 ended w (inr (inr s)) begins = no-escape_sequence w s.intermediates s.final s.spelled s.are_intermediates begins
 
--- so its address stands between two boundaries
+-- so its address is between two boundaries
 pub record IsAddressAt (w a : List ℕ) : Type 0 where
   pub end : terminator_len w ≤ length w
   pub begin : length a ≤ length w - terminator_len w

@@ -17,7 +17,7 @@ abbrev pub back : List ℕ → List ℕ → List ℕ
 back before [] = before
 back before (c ∷ cs) = back (c ∷ before) cs
 
--- A break depends on what stands before it and on the next character alone.
+-- A break depends only on the characters before it and on the next character.
 
 next-alone : (c : ℕ) (before : List ℕ) (d : ℕ) (u v : List ℕ) → is_grapheme_break true (c ∷ before) (d ∷ u) ≡ is_grapheme_break true (c ∷ before) (d ∷ v)
 unfolding is_grapheme_break
@@ -38,7 +38,7 @@ cluster-joins before c cs joins = cluster-begins before c cs ∙ ap (λ b. if b 
 cluster-alone : (before : List ℕ) (c : ℕ) (cs : List ℕ) → is_grapheme_break true (c ∷ before) cs ≡ true → clusters_after before (c ∷ cs) ≡ (c ∷ []) ∷ clusters_after (c ∷ before) cs
 cluster-alone before c cs breaks = cluster-begins before c cs ∙ cluster-ends (c ∷ []) (c ∷ before) cs breaks
 
--- where a character follows, there is a cluster
+-- if a character follows, there is a cluster
 clusters-some : (before : List ℕ) (c : ℕ) (cs : List ℕ) → (k : List ℕ) × (ks : List (List ℕ)) × (clusters_after before (c ∷ cs) ≡ k ∷ ks)
 clusters-some before c cs = begins (is_grapheme_break true (c ∷ before) cs) (clusters_after (c ∷ before) cs) (cluster-begins before c cs)
   where

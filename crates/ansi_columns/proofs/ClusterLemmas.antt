@@ -1,10 +1,10 @@
--- The clusters of a text, met character by character.
+-- The clusters of a text, read character by character.
 use Rattle.std.proofs.Common.{◌≡◌, ◌≢◌, ℕ, Bool, true, false, List, [], ◌∷◌, ◌++◌, refl, sym, ◌∙◌, ap, append_assoc, append-nil, if◌then◌else◌}
 use Rattle.unicode_segmentation.specs.Grapheme.{is_grapheme_break}
 use Rattle.unicode_segmentation.specs.Segments.{prepend, cut}
 use Rattle.ansi_columns.specs.Walks.{clusters_after}
 
--- the clusters of the characters cs, where the first has begun with a part, which stands last before them
+-- the clusters of the characters cs, if the first has begun with a part, which comes directly before them
 abbrev pub clusters_with : List ℕ → List ℕ → List ℕ → List (List ℕ)
 clusters_with part before cs =
     if is_grapheme_break true before cs then part ∷ clusters_after before cs else prepend part (clusters_after before cs)
@@ -29,7 +29,7 @@ cluster-goes_on part before c cs joins =
 pub cluster-ends : (part before cs : List ℕ) → is_grapheme_break true before cs ≡ true → clusters_with part before cs ≡ part ∷ clusters_after before cs
 cluster-ends part before cs breaks = ap (λ b. if b then part ∷ clusters_after before cs else prepend part (clusters_after before cs)) breaks
 
--- it ends where none is left
+-- it ends if no character is left
 pub cluster-last : (part before : List ℕ) → before ≢ [] → clusters_with part before [] ≡ part ∷ []
 unfolding is_grapheme_break cut
 cluster-last part [] some = absurd (some refl)

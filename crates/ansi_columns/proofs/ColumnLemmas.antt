@@ -1,4 +1,4 @@
--- The columns of clusters that are met one after another.
+-- The columns of clusters that are read one after another.
 use Rattle.std.proofs.Common.{◌≡◌, ℕ, ◌+◌, ◌-◌, ◌*◌, ◌<◌, ◌≤◌, List, [], ◌∷◌, ◌++◌, length, take, slice_range, flat_map, encode_utf8_all, refl, sym, ◌∙◌, ap, ap₂, arith, zero-add, append_assoc, append-nil, length-append}
 use Rattle.std.specs.Str.{chars, IsUtf8, IsCharBoundary}
 use Rattle.std.proofs.lemmas.List.{take_at}
@@ -19,7 +19,7 @@ clusters_from-start t = ap (λ before. clusters_after before (chars (plain t))) 
 pub clusters_from-end : (t : List ℕ) (n : ℕ) → after t n ≡ [] → clusters_from t n ≡ []
 clusters_from-end t n none = ap (clusters_after _) none ∙ clusters-none _
 
--- So many columns stand before a position: with those from there on, they are those of the text.
+-- The number of columns before a position: with those after it, they are the columns of the text.
 pub record IsCountedTo (t : List ℕ) (n total : ℕ) : Type 0 where
   pub all : total + columns_of (clusters_from t n) ≡ columns (plain t)
   pub bound : total ≤ 2 * n
@@ -30,7 +30,7 @@ counted-begin t = record { all = zero-add _ ∙ ap columns_of (clusters_from-sta
 pub counted-end : {t : List ℕ} {n total : ℕ} → IsCountedTo t n total → after t n ≡ [] → total ≡ columns (plain t)
 counted-end {t} {n} counted none = omega (arith, counted.all, ap columns_of (clusters_from-end t n none))
 
--- The clusters up to a position fit, and leave so many columns.
+-- The clusters up to a position fit, and leave this number of columns.
 pub record IsFittingTo (t : List ℕ) (width n left : ℕ) : Type 0 where
   pub front : List (List ℕ)
   pub all : clusters (plain t) ≡ front ++ clusters_from t n

@@ -18,7 +18,7 @@ module _ {S : Type 0} (left : S → List ℕ) where
   pub drained : (s : S) (xs : List ℕ) → Drains (YieldsLast left) s xs → left s ≡ reverse xs
   drained s xs ran = yielded s ran.1.0 xs ran.1.1 ∙ ap (λ u. u ++ reverse xs) ran.1.2.0
 
--- what is left where both texts are empty
+-- what is left if both texts are empty
 pub nothing_left : (x r : List ℕ) → length x ≡ 0 → length r ≡ 0 → chars (plain x ++ r) ≡ []
 nothing_left [] [] rest run = chars-nil
 nothing_left [] (b ∷ r) rest run = absurd (omega arith)

@@ -1,4 +1,4 @@
--- Which cluster stands between two walks, by the characters that stand next.
+-- The cluster between two walks, by the characters that are next.
 use Rattle.std.proofs.Common.{◌≡◌, ◌≢◌, ℕ, ◌+◌, ◌-◌, ◌<◌, ◌==◌, ⊎_elim, true, false, List, [], ◌∷◌, ◌++◌, length, drop, slice_range, encode_utf8, encode_utf8_all, append-nil, length-append, sym, ◌∙◌, ap, arith}
 use Rattle.std.specs.Str.{chars, IsUtf8, bytes_eq}
 use Rattle.std.proofs.lemmas.Bool.{cases_eq, eq-eqb, ne_eqb, false_from_ne_true, or_left, or_right, or_from}
@@ -55,7 +55,7 @@ two_only : (c d : ℕ) → c < 128 → d < 128 → length (encode_utf8_all (c �
 two_only c d first second = omega (arith, length-append (encode_utf8 c) (encode_utf8_all (d ∷ [])), one_byte c first, one_only d second)
 
 module _ (t : List ℕ) (utf8 : IsUtf8 t) (w : Walk) (from : IsWalk t w) where
-  -- the cluster of the character that stands next alone
+  -- the cluster of the next character alone
   alone : (c : ℕ) → IsNext t w c → (m : ℕ) → m ≡ w.position + length (encode_utf8 c) → cluster t w.position m ≡ c ∷ []
   alone c next m is =
       ap (cluster t w.position) is ∙ cluster-push t utf8 w from c next w.position (omega arith) (walk_boundary t utf8 w from) ∙ ap (λ u. u ++ c ∷ []) (cluster-none t w.position)
@@ -77,7 +77,7 @@ module _ (t : List ℕ) (utf8 : IsUtf8 t) (w : Walk) (from : IsWalk t w) where
     found : {ds : List ℕ} → here ≡ ds → after t w.position ≡ ds ++ after t v.position
     found is = after-is ∙ ap (λ u. u ++ after t v.position) is
 
-    -- it begins with the character that stands next
+    -- it begins with the next character
     first_is : (c : ℕ) → IsNext t w c → {d : ℕ} {ds : List ℕ} → here ≡ d ∷ ds → c ≡ d
     first_is c next is = heads (sym (after-past t utf8 w from c next) ∙ found is)
 
@@ -110,7 +110,7 @@ module _ (t : List ℕ) (utf8 : IsUtf8 t) (w : Walk) (from : IsWalk t w) where
         ∙ sym (ne_eqb (v.position - w.position) 1 more))
         (cases_eq (v.position - w.position) 1)
 
-    -- a carriage return stands next, and after it the walk u
+    -- a carriage return is next, and after it comes the walk u
     module _ (next : IsNext t w 0x0D) where
       not_feed : here ≢ 0x0A ∷ []
       not_feed e = (let other = first_is 0x0D next e in omega (arith, other))

@@ -25,7 +25,7 @@ plain_where (b ∷ x) none =
 pub plain-no_mark : (t : List ℕ) → IsLastByte (is_byte escape) t None → plain t ≡ t
 plain-no_mark t none = plain-bare t (no_escape t (plain_where t none))
 
--- what stands from the last ESC on
+-- the text from its last ESC on
 pub record LastEscape (x : List ℕ) (k : ℕ) : Type 0 where
   pub after : List ℕ
   pub from : drop k x ≡ escape ∷ after
@@ -60,7 +60,7 @@ mark-last t at n p ps v inside rest_utf8 from unreached first len some boundary 
   plain = mark-plain t at n p ps v from unreached first len all;
 }
 
--- no ESC stands before the last one
+-- the last ESC is the only one
 pub mark-alone : (t : List ℕ) (last n : ℕ) (p : Piece) (ps : List Piece) → IsUtf8 t → IsUtf8 (drop last t) → IsLastByte (is_byte escape) t (Some last) → IsLastByte (is_byte escape) (take last t) None
     → pieces_of (drop last t) ≡ p ∷ ps → n ≡ length (spelling p) → 0 < n → IsCharBoundary (drop last t) n → IsLastMark t last (last + n)
 mark-alone t last n p ps utf8 rest_utf8 found none first len some boundary =

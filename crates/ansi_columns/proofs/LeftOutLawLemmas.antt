@@ -1,4 +1,4 @@
--- What stands between the lines of a text: blanks, and then a line end or none.
+-- The text between the lines of a text: blanks, and then at most one line end.
 use Rattle.std.proofs.Common.{◌≡◌, ℕ, ◌+◌, ◌-◌, ◌≤◌, max, ◌⊎◌, inl, inr, ⊎_elim, true, ◌||◌, ◌==◌, nat_le, List, [], ◌∷◌, ◌++◌, length, take, drop, slice_range, slice_get, Option, Some, option_map, flat_map, encode_utf8_all, refl, sym, ◌∙◌, ap, subst, arith, append_assoc, append-nil, take_at, drop_at, length-append}
 use Rattle.std.specs.Str.{byte, chars, IsUtf8}
 use Rattle.std.proofs.lemmas.Bool.{cases_Bool, or_cases}
@@ -36,7 +36,7 @@ left_out-end n x c is ends = (
   ]),
 )
 
--- what stands between two others
+-- a text between two others
 slice_between : (x front middle rest : List ℕ) (i j : ℕ) → x ≡ (front ++ middle) ++ rest → i ≡ length front → j ≡ i + length middle → slice_range x i j ≡ middle
 slice_between x front middle rest i j all start end =
     let size : j - i ≡ length middle = omega arith in
@@ -44,7 +44,7 @@ slice_between x front middle rest i j all start end =
     ∙ ap (take (length middle)) (ap (drop i) (all ∙ append_assoc front middle rest) ∙ drop_at front (middle ++ rest) i (sym start))
     ∙ take_at middle rest (length middle) refl
 
--- The line that is read ends with `front`, n blanks stand after it, and the clusters cs are left.
+-- The current line ends with `front`, n blanks follow it, and the clusters cs are left.
 record IsReadTo (x front : List ℕ) (n end here : ℕ) (cs : List (List ℕ)) : Type 0 where
   all : x ≡ (front ++ blanks n) ++ flat_map encode_utf8_all cs
   ends : end ≡ length front
@@ -97,7 +97,7 @@ module _ (x : List ℕ) where
     gap-end : is_line_end c ≡ true → IsLeftOut (slice_range x end next)
     gap-end ends = left_out-end n _ c (slice_between x front (blanks n ++ encode_utf8_all c) (flat_map encode_utf8_all cs) end next all_longer so_far.ends next_is) ends
 
-  -- the lines from the one that is read on, where what is left out before it stands between e and its start
+  -- the lines from the current one on, if the text left out before it is between e and its start
   lines_stand : (cs : List (List ℕ)) (width e start end here columns n : ℕ) (front : List ℕ) → IsReadTo x front n end here cs → e ≤ start → start ≤ end → IsLeftOut (slice_range x e start)
       → AreLinesFrom x e (lines_from width start end here columns cs)
   lines_stand [] width e start end here columns n front so_far after ordered gap =
@@ -141,7 +141,7 @@ module _ (x : List ℕ) where
   pub lines-put_back : (width : ℕ) → IsUtf8 x → put_back x 0 (lines width x) ≡ x
   lines-put_back width utf8 = put_back-from 0 (lines width x) (lines-left_out width utf8)
 
--- the first line begins where the one that is read does
+-- the first line begins where the current one begins
 
 abbrev begins : List (ℕ × ℕ) → Option ℕ
 begins ls = option_map (λ (line : ℕ × ℕ). line.0) (slice_get ls 0)

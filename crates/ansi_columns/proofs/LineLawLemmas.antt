@@ -52,7 +52,7 @@ good_line x width line utf8 is =
     and_from _ _ (le-leb line.0 line.1 (omega (arith, is.start, is.end, bytes_of-append is.before is.shown)))
     (and_from _ _ (boundary_is_good x line.0 start) (boundary_is_good x line.1 end))
 
--- The clusters of x are those before a line, those shown on it, those skipped since, and the others, where so many columns stand between `start` and `here`.
+-- The clusters of x are those before a line, those shown on it, those skipped since, and the others; the text between `start` and `here` has this number of columns.
 pub record IsAt (x : List ℕ) (width : ℕ) (before shown skipped cs : List (List ℕ)) (start end here columns : ℕ) : Type 0 where
   pub all : clusters x ≡ before ++ shown ++ skipped ++ cs
   pub begins : start ≡ bytes_of before
@@ -81,7 +81,7 @@ module _ (x : List ℕ) (width : ℕ) (before shown skipped : List (List ℕ)) (
     abbrev seen : List (List ℕ)
     seen = before ++ shown ++ skipped
 
-    -- those shown, where the cluster stays on the line
+    -- those shown, if the cluster stays on the line
     abbrev longer : List (List ℕ)
     longer = shown ++ (skipped ++ c ∷ [])
 

@@ -1,4 +1,4 @@
--- The lines of clusters that are met one after another.
+-- The lines of clusters that are read one after another.
 use Rattle.std.proofs.Common.{◌≡◌, ℕ, ◌+◌, ◌<◌, ◌≤◌, Bool, true, false, ◌||◌, ◌==◌, nat_le, List, [], ◌∷◌, ◌++◌, length, encode_utf8_all, refl, sym, ◌∙◌, ap, subst, arith, zero-add, if◌then◌else◌}
 use Rattle.std.proofs.lemmas.Bool.{eq-eqb, ne_eqb, le-leb, lt-leb, or_right, or_from, cond_both}
 use Rattle.ansi_columns.specs.Columns.{cluster_width}
@@ -13,7 +13,7 @@ abbrev pub AreOfWord : List (List ℕ) → Type 0
 AreOfWord [] = Unit
 AreOfWord (c ∷ cs) = IsOfWord c × AreOfWord cs
 
--- where clusters end that begin at a place
+-- the end of clusters that begin at a place
 abbrev pub place : ℕ → List (List ℕ) → ℕ
 place n [] = n
 place n (c ∷ cs) = place (n + length (encode_utf8_all c)) cs
@@ -129,7 +129,7 @@ pub line-last : (width start end here columns : ℕ) → lines_from width start 
 unfolding lines_from
 line-last width start end here columns = refl
 
--- no word stands at the front of clusters
+-- the clusters don't begin with a word
 pub no_word-none : word_columns [] ≡ 0
 unfolding word_columns
 no_word-none = refl
@@ -170,7 +170,7 @@ pub of_word-push : (cs : List (List ℕ)) (c : List ℕ) → AreOfWord cs → Is
 of_word-push [] c are is = (is, tt)
 of_word-push (d ∷ cs) c are is = (are.0, of_word-push cs c are.1 is)
 
--- the columns of a word that begins with such clusters: those, where it ends after them, and more, where it goes on
+-- the columns of a word that begins with such clusters: exactly theirs if it ends after them, and more if it goes on
 word-whole : (n : ℕ) (seen rest : List (List ℕ)) → AreOfWord seen → word_columns rest ≡ 0 → n + word_columns (seen ++ rest) ≡ total n seen
 word-whole n [] rest are none = omega (arith, none)
 word-whole n (c ∷ seen) rest are none = omega (arith, word_columns-cons c (seen ++ rest) are.0, word-whole (n + cluster_width c) seen rest are.1 none)
@@ -179,7 +179,7 @@ pub word-least : (n : ℕ) (seen : List (List ℕ)) (c : List ℕ) (cs : List (L
 word-least n [] c cs are is = omega (arith, word_columns-cons c cs is)
 word-least n (d ∷ seen) c cs are is = omega (arith, word_columns-cons d (seen ++ c ∷ cs) are.0, word-least (n + cluster_width d) seen c cs are.1 is)
 
--- clusters of a word go on one after another, where all of them fit
+-- clusters of a word stay on the line one after another if all of them fit
 word-goes_on : (width start here columns : ℕ) (seen rest : List (List ℕ)) → AreOfWord seen → total columns seen ≤ width
     → lines_from width start here here columns (seen ++ rest) ≡ lines_from width start (place here seen) (place here seen) (total columns seen) rest
 word-goes_on width start here columns [] rest are fits = refl
@@ -188,14 +188,14 @@ word-goes_on width start here columns (c ∷ seen) rest are fits =
     line-inside width start here here columns c (seen ++ rest) are.0 refl (omega (arith, fits, total-after (columns + cluster_width c) seen))
     ∙ word-goes_on width start next (columns + cluster_width c) seen rest are.1 fits
 
--- A word of such clusters that begins after a blank stays on the line, where all of it fits ..
+-- A word of such clusters that begins after a blank stays on the line if all of it fits ..
 pub word-stays : (width start end here columns : ℕ) (c : List ℕ) (seen rest : List (List ℕ)) → AreOfWord (c ∷ seen) → end < here → total columns (c ∷ seen) ≤ width → word_columns rest ≡ 0
     → lines_from width start end here columns ((c ∷ seen) ++ rest) ≡ lines_from width start (place here (c ∷ seen)) (place here (c ∷ seen)) (total columns (c ∷ seen)) rest
 word-stays width start end here columns c seen rest are after fits none =
     line-word width start end here columns c (seen ++ rest) are.0 after (omega (arith, fits, word-whole columns (c ∷ seen) rest are none))
     ∙ word-goes_on width start (here + length (encode_utf8_all c)) (columns + cluster_width c) seen rest are.1 fits
 
--- .. and begins another else.
+-- .. and otherwise begins another line.
 pub word-moves : (width start end here columns : ℕ) (c : List ℕ) (cs : List (List ℕ)) → IsOfWord c → end < here → start < here → width < columns + word_columns (c ∷ cs)
     → lines_from width start end here columns (c ∷ cs) ≡ (start, end) ∷ lines_from width here here here 0 (c ∷ cs)
 word-moves width start end here columns c cs word after begun wide =

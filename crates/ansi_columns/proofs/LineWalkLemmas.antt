@@ -1,4 +1,4 @@
--- How far a walk over one line has come.
+-- The state of a walk over one line.
 use Rattle.std.proofs.Common.{◌≡◌, ◌≢◌, ℕ, ◌+◌, ◌-◌, ◌<◌, ◌≤◌, ◌⊎◌, inl, inr, true, false, List, [], ◌∷◌, ◌++◌, length, encode_utf8_all, refl, sym, ◌∙◌, ap, arith, append_assoc}
 use Rattle.ansi_columns.specs.Columns.{cluster_width}
 use Rattle.ansi_columns.specs.Walks.{clusters_from}
@@ -17,7 +17,7 @@ pub record IsFirstWord (t : List ℕ) (width start word end here columns : ℕ) 
   pub ends : end ≡ here
   pub lines : lines_at t width start ≡ lines_from width start here here columns (clusters_from t here)
 
--- where the words end after such clusters of the last one, of which all fit
+-- the end of the words after such clusters of the last word, all of which fit
 abbrev pub Ends : ℕ → ℕ → ℕ → ℕ → ℕ → List (List ℕ) → Type 0
 Ends width before end here columns [] = end ≡ before
 Ends width before end here columns (c ∷ cs) = (end ≡ here) × (columns ≤ width)
@@ -54,7 +54,7 @@ module _ (t : List ℕ) (width start before word end here columns : ℕ) where
       ∙ ap (λ n. lines_from width start (place word (c ∷ seen)) (place word (c ∷ seen)) n rest) (sym total_is)
       ∙ ap (λ n. lines_from width start n n columns rest) (sym place_is) ∙ ap (λ n. lines_from width start n here columns rest) (sym ends.0)
 
-  -- what was read is a line by itself, where no word goes on
+  -- the clusters read so far are a line by themselves, if no word goes on
   settled : IsLineTo t width start before word end here columns → word_columns rest ≡ 0 → lines_at t width start ≡ lines_from width start end here columns rest
   settled (inl first) none = first.lines ∙ ap (λ n. lines_from width start n here columns rest) (sym first.ends)
   settled (inr later) none = later-settled later.earlier later.seen later.after later.lines later.ahead later.of_word later.read later.counted later.ends none
@@ -72,7 +72,7 @@ module _ (t : List ℕ) (width start before word end here columns : ℕ) where
   ordered (inl first) = omega (arith, first.ends)
   ordered (inr later) = later-ordered later.seen later.after later.read later.ends
 
-  -- The cluster c between `here` and `next` stands next.
+  -- The next cluster is c, between `here` and `next`.
   module _ (line : IsLineTo t width start before word end here columns) (begun : start ≤ here) (c : List ℕ) (next more : ℕ) (first : clusters_from t here ≡ c ∷ clusters_from t next)
       (size : length (encode_utf8_all c) ≡ next - here) (some : here < next) (more_is : more ≡ cluster_width c) where
     abbrev others : List (List ℕ)

@@ -1,4 +1,4 @@
--- Examples of what is a link sequence, and of what ends a link.
+-- Examples of link sequences, and of terminators.
 use Rattle.std.specs.Prelude.{◌≡◌, Some, None, [], codes, false}
 use Rattle.std.proofs.Common.{refl}
 use Rattle.ansi_columns.specs.Links.{address_of, opens_link, link_at}

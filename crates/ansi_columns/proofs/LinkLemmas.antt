@@ -31,7 +31,7 @@ use Rattle.ansi_columns.specs.Links.{terminator_len, address_of, is_link, opens_
 abbrev has_no_semicolon : ℕ → Bool
 has_no_semicolon b = not (b == 59)
 
--- in the fields of a sequence, where that begins as a link sequence does
+-- in the fields of a sequence, if it begins like a link sequence
 abbrev address_in : Bool → List ℕ → Option (List ℕ)
 address_in begins fields =
     let parameters = prefix_len has_no_semicolon fields in
@@ -91,7 +91,7 @@ is_link-sgr (a ∷ b ∷ w) is =
     let tests = sym (is_some_test _ _) ∙ is in
     is_link-unless (a ∷ b ∷ w) (other_opener a b _ (and_parts _ _ (and_parts _ _ (and_parts _ _ tests).0).0).0)
 
--- The link after pieces, where this one is open before them.
+-- The link after pieces, if `link` is open before them.
 
 abbrev pub link_through : List ℕ → List Piece → List ℕ
 link_through link ps = state_through link_after link ps
@@ -102,7 +102,7 @@ bytes_of_all ms = map (λ (m : Mark). m.bytes) ms
 through-marks : (link : List ℕ) (ps : List Piece) → fold link_after link (bytes_of_all (marks_of ps)) ≡ link_through link ps
 through-marks = state_after-marks_of link_after
 
--- a link sequence, where it opens one
+-- a link sequence that opens a link
 abbrev opened : List ℕ → List ℕ
 opened w = if opens_link w then w else []
 
@@ -125,7 +125,7 @@ link_of-last : (o : Option (List ℕ)) → opened (unwrap_or o []) ≡ option_ma
 link_of-last None = refl
 link_of-last (Some w) = refl
 
--- where none is open before them
+-- if no link is open before them
 pub link_after_all-none : (ms : List Mark) → link_after_all [] ms ≡ link_of ms
 link_after_all-none ms = link_after-last [] (bytes_of_all ms) ∙ sym (link_of-last (slice_get (reverse (filter is_link (bytes_of_all ms))) 0))
 
@@ -135,7 +135,7 @@ link_of-fold ms = link_of-last (slice_get (reverse (filter is_link (bytes_of_all
 pub link_of-pieces : (ps : List Piece) → link_of (marks_of ps) ≡ link_through [] ps
 link_of-pieces ps = link_of-fold (marks_of ps) ∙ through-marks [] ps
 
--- How far a walk over t has come, where a style and a link are open before it: what is open after the pieces that are left is what is open after t.
+-- The state of a walk over t with a style and a link open before it: after the pieces that are left, the same style and link are open as after t.
 pub record IsOpenSoFar (t : List ℕ) (before : Rendition) (open_before : List ℕ) (style : Rendition) (link : List ℕ) (left : List Piece) : Type 0 where
   pub styled : style_through style left ≡ style_after_from before t
   pub linked : link_through link left ≡ link_after_all open_before (marks t)

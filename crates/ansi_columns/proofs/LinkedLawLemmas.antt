@@ -1,4 +1,4 @@
--- The linked bytes of a text, from its pieces in turn, and those of a text that is cut or filled up, with its plain text.
+-- The linked bytes of a text, from its pieces in turn, and those of a truncated and of a padded text, with its plain text.
 use Rattle.std.proofs.Common.{◌≡◌, ◌≢◌, ℕ, zero, suc, ◌-◌, inl, inr, Bool, true, false, List, [], ◌∷◌, ◌++◌, length, map, take, slice_range, nat_eq, nat_le, codes, if◌then◌else◌, IsTrue, refl, sym, ◌∙◌, ap, ap₂, subst, arith, append-nil}
 use Rattle.std.specs.List.{list_all}
 use Rattle.std.proofs.lemmas.Bool.{cases_Bool, eqb-true, le-leb}
@@ -26,7 +26,7 @@ use Rattle.ansi_style.proofs.ThroughLemmas.{state_through-append, state_through-
 abbrev pub linked_byte : List ℕ → ℕ → LinkedByte
 linked_byte link b = record { byte = b; link = link }
 
--- the plain bytes of the pieces, each with its link, where this one is open before them
+-- the plain bytes of the pieces, each with its link, if `link` is open before them
 abbrev pub linked_through : List ℕ → List Piece → List LinkedByte
 linked_through link ps = seen_through link_after linked_byte link ps
 
@@ -46,7 +46,7 @@ bytes_of-without_link x = bytes-seen link_after linked_byte (λ (b : LinkedByte)
 bytes_of-linked : (t : List ℕ) → bytes_of (linked t) ≡ plain t
 bytes_of-linked t = ap bytes_of (linked-pieces t) ∙ bytes-seen_through link_after linked_byte (λ (b : LinkedByte). b.byte) (λ link b. refl) [] (pieces_of t)
 
--- ---- whole texts in a row, where this link is open before them: their linked bytes, and the link after them
+-- ---- consecutive whole texts, with `link` open before them: their linked bytes, and the link after them
 
 pub record IsLinked (link t : List ℕ) (bs : List LinkedByte) (next : List ℕ) : Type 0 where
   pub whole : IsTrue (is_whole t)
@@ -122,7 +122,7 @@ link_end_is link = elim (cases_Bool (nat_eq (length link) 0)) [
 pen_close_is : (t : List ℕ) (i : ℕ) → IsLinked (link_at t i) (pen_close t i) [] []
 pen_close_is t i = both (link_end_is (link_at t i)) (codes_is [] (close_codes (style_at t i)) (close_codes_are (style_at t i)))
 
--- ---- of a text that is cut, and one that is filled up
+-- ---- of a truncated text, and of a padded text
 
 tail_is : (b : Bool) (tail : List ℕ) → IsTrue (is_whole tail) → IsLinked [] (if b then tail else []) (if b then linked tail else []) (if b then link_of (marks tail) else [])
 tail_is true tail whole = text_is tail whole

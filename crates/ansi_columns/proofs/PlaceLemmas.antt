@@ -1,4 +1,4 @@
--- Where the plain bytes of a text stand in it, from one place to a later one.
+-- The offsets of the plain bytes of a text, from one place to a later one.
 use Rattle.std.proofs.Common.{◌≡◌, ◌≢◌, ℕ, ◌+◌, ◌-◌, inl, inr, true, List, [], ◌∷◌, ◌++◌, length, take, drop, refl, sym, ◌∙◌, ap, arith, length-append}
 use Rattle.std.specs.List.{list_all}
 use Rattle.std.proofs.lemmas.Bool.{cases_lt, and_from}
@@ -44,7 +44,7 @@ bytes_before-add n m (p ∷ ps) = omega (arith, bytes_before-add n m ps)
 pub offset_of-add : (t : List ℕ) (n m : ℕ) → offset_of t (n + m) ≡ offset_of t n + offset_of (drop (offset_of t n) t) m
 offset_of-add t n m = bytes_before-add n m (pieces_of t) ∙ ap (λ ps. offset_of t n + bytes_before m ps) (sym (pieces_of-after t n))
 
--- What stands before a place has the plain bytes and the marks up to there.
+-- The text before a place has the plain bytes and the marks up to there.
 
 pub plain-before : (t : List ℕ) (n : ℕ) → plain (take (offset_of t n) t) ≡ take n (plain t)
 plain-before t n = (is_cut_after t n (offset_of t n) refl).plain_front
@@ -64,7 +64,7 @@ bytes_before-after_text w v ps are = (let none : length w - length w ≡ 0 = ome
 pub offset_of-run : (w v : List ℕ) → w ≢ [] → list_all is_plain_byte w ≡ true → offset_of (w ++ v) (length w) ≡ length w + offset_of v 0
 offset_of-run w v some all = ap (bytes_before (length w)) (pieces_of-run w v some all) ∙ bytes_before-after_text w v (pieces_of v) (pieces_are v)
 
--- where a plain byte stands at the front, nothing stands before it
+-- if a text begins with a plain byte, the offset of that byte is 0
 pub offset_of-plain : (b : ℕ) (v : List ℕ) → is_plain_byte b ≡ true → offset_of (b ∷ v) 0 ≡ 0
 offset_of-plain b v is =
     let e = pieces_of-run (b ∷ []) v (λ e. cc) (and_from _ _ is refl) in

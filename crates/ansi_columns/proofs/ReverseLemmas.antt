@@ -1,4 +1,4 @@
--- The last run of a text: what stands before the mark that it follows.
+-- The last run of a text, and the text before the mark that it follows.
 use Rattle.std.proofs.Common.{◌≡◌, ◌≢◌, ℕ, zero, suc, ◌+◌, ◌-◌, ◌<◌, ◌≤◌, ◌⊎◌, inl, inr, Bool, true, List, [], ◌∷◌, ◌++◌, length, take, drop, refl, sym, ◌∙◌, ap, ap₂, subst, arith, length-append, append_assoc, IsTrue, slice_index}
 use Rattle.std.specs.Str.{byte}
 use Rattle.std.specs.List.{list_all}
@@ -52,7 +52,7 @@ last_escape [] (b ∷ y) s r ps pr e = absurd (never y r (ap (list_all is_plain_
 last_escape (a ∷ x) [] s r ps pr e = absurd (never x s (ap (list_all is_plain_byte) (ap rest_of e) ∙ pr))
 last_escape (a ∷ x) (b ∷ y) s r ps pr e = last_escape x y s r ps pr (ap rest_of e)
 
--- An ESC stands inside a sequence: that is a control string, and the ESC begins its end.
+-- If an ESC is inside a sequence, the sequence is a control string, and the ESC begins its terminator.
 pub record EndsAString (s more : List ℕ) : Type 0 where
   pub end : more ≡ byte "\\" ∷ []
   pub bytes : list_all is_plain_byte s ≡ true
@@ -128,7 +128,7 @@ plain-divided u v unreached =
     ap plain_of (sym (pieces_of-unique _ _ (divided_are u v (pieces_of u) (pieces_of (escape ∷ v)) (pieces_are u) (pieces_are (escape ∷ v)) unreached)))
     ∙ flat_map-append plain_bytes (pieces_of u) (pieces_of (escape ∷ v))
 
--- where no ESC stands in u
+-- if u has no ESC
 pub unreached-none : (u v : List ℕ) → list_all is_plain_byte u ≡ true → Unreached u v
 unreached-none u v all x s e n past whole = never x s (ap (list_all is_plain_byte) (sym e) ∙ all)
 
@@ -145,7 +145,7 @@ abbrev pub first_of : List Piece → List ℕ
 first_of [] = []
 first_of (p ∷ ps) = spelling p
 
--- where the last ESC of u begins no sequence that goes on past its end
+-- if the last ESC of u begins no sequence that goes on past its end
 pub unreached-last : (front s v : List ℕ) (p : Piece) (ps : List Piece) → list_all is_plain_byte s ≡ true
     → pieces_of ((escape ∷ s) ++ escape ∷ v) ≡ p ∷ ps → length (spelling p) ≤ suc (length s) → Unreached (front ++ escape ∷ s) (escape ∷ v)
 unreached-last front s v p ps plain first short x r e n past whole =
@@ -159,7 +159,7 @@ unreached-last front s v p ps plain first short x r e n past whole =
     let begins : spelling p ≡ w = ap first_of (sym first ∙ ap pieces_of (sym whole_text) ∙ first_sequence w (drop k v) is) in
     absurd (omega (arith, short, ap length begins, length-append s (escape ∷ take k v)))
 
--- where what follows is a control string that ends with ESC `\`
+-- if what follows is a control string that ends with ESC `\`
 pub unreached-string : (u s more rest : List ℕ) → IsSequence (escape ∷ (s ++ escape ∷ more)) → Unreached u (escape ∷ ((s ++ escape ∷ more) ++ rest))
 unreached-string u s more rest string x r e n past whole =
     let v = (s ++ escape ∷ more) ++ rest in
@@ -173,7 +173,7 @@ unreached-string u s more rest string x r e n past whole =
     not_opener zero o y opens e = cc
     not_opener (suc k) o y opens e = (let no : opens_control_string (byte "\\") ≡ true = ap opens_control_string (sym (ap head_of e)) ∙ opens in cc)
 
--- A mark at the front of what begins at an offset, where no ESC stands after it.
+-- A mark at an offset, with no ESC after it.
 pub mark-plain : (t : List ℕ) (at n : ℕ) (p : Piece) (ps : List Piece) (v : List ℕ) → drop at t ≡ escape ∷ v → Unreached (take at t) (escape ∷ v) → pieces_of (drop at t) ≡ p ∷ ps → n ≡ length (spelling p)
     → list_all is_plain_byte (drop (at + n) t) ≡ true → plain t ≡ plain (take at t) ++ drop (at + n) t
 mark-plain t at n p ps v from unreached first len all =

@@ -1,4 +1,4 @@
--- After a break, a text is cut into clusters as if it stood alone.
+-- After a break, a text has the clusters that it has alone.
 use Rattle.std.proofs.Common.{◌≡◌, ℕ, ◌+◌, ◌⊎◌, inl, inr, Bool, true, false, not, ◌&&◌, ◌||◌, List, [], ◌∷◌, ◌++◌, length, map, take, drop, unwrap_or, refl, sym, ◌∙◌, ap, ap₂, take_at, drop_at, take-append-drop, if◌then◌else◌}
 use Rattle.std.specs.Str.{chars, IsUtf8}
 use Rattle.std.proofs.lemmas.Bool.{and_parts}
@@ -129,7 +129,7 @@ regional-breaks : (l v : GraphemeClusterBreak) (b : Bool) → is_regional v ≡ 
 regional-breaks l RegionalIndicator b is breaks = past_regional l b breaks
 regional-breaks l _ b is breaks = absurd (cc)
 
--- ---- nothing is kept of what stands before a control, and that is as nothing
+-- ---- after a control the summary is that of no characters
 
 unlinked : (i : IndicConjunctBreak) (is : List IndicConjunctBreak) → is_linking i ≡ false → ends_in_linker (i ∷ is) ≡ false
 unfolding ends_in_linker
@@ -138,7 +138,7 @@ unlinked InCb.Extend is not_linking = absurd (cc)
 unlinked InCb.Linker is not_linking = absurd (cc)
 unlinked InCb.None is not_linking = refl
 
--- of what stands before a place only its last character is kept
+-- of the characters before such a place the summary keeps only the last one
 record IsForgotten (s : Seam) : Type 0 where
   linked : s.is_linked ≡ false
   pictograph : s.is_pictograph ≡ false
@@ -218,7 +218,7 @@ seam-alone last before c cs breaks =
     (and-alike (is_regional v) (not s.is_half_flag) true (λ e. ap not (half e)))
     ∙ step-is c []
 
--- ---- the clusters of a text depend on what is kept of what stands before, and on nothing else of it
+-- ---- the clusters of a text depend only on the summary of the characters before it
 
 same-break : (c : ℕ) (before others cs : List ℕ) → seam_of (c ∷ before) ≡ seam_of (c ∷ others) → is_grapheme_break true (c ∷ before) cs ≡ is_grapheme_break true (c ∷ others) cs
 same-break c before others [] same = breaks-last c before ∙ sym (breaks-last c others)

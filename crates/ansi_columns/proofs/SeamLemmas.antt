@@ -1,4 +1,4 @@
--- The rules on clusters, by what is kept of the characters before a place.
+-- The rules on clusters, by the summary of the characters before a place.
 use Rattle.std.proofs.Common.{◌≡◌, ◌≢◌, ℕ, Bool, true, false, not, ◌&&◌, ◌||◌, List, [], ◌∷◌, map, Option, unwrap_or, refl, sym, ap, ap₂, ◌∙◌}
 use Rattle.std.proofs.lemmas.Bool.{or_left, and_left}
 use Rattle.ucd_breaks.specs.GraphemeClusterBreak.{grapheme_cluster_break}
@@ -48,7 +48,7 @@ seam-push c s before is v k p j h last linked pictograph joined half =
     (joined ∙ ap₂ (λ (w : GraphemeClusterBreak) (u : Seam). is_zwj w && u.is_pictograph) last is)
     (half ∙ ap₂ (λ (w : GraphemeClusterBreak) (u : Seam). is_regional w && not u.is_half_flag) last is)
 
--- what the code joins, where the two neighbors don't decide
+-- what the code joins, if the two neighbors don't decide
 abbrev pub joins : Seam → GraphemeClusterBreak → ℕ → Bool
 joins s v next =
     ((s.is_linked && is_consonant (indic_conjunct_break next)) || (s.is_joined && is_extended_pictographic next))

@@ -1,4 +1,4 @@
--- How wide a text is that is cut or filled up.
+-- The display width of truncated and padded texts.
 use Rattle.std.proofs.Common.{◌≡◌, ℕ, suc, zero, ◌+◌, ◌-◌, ◌<◌, ◌≤◌, min, max, Bool, true, false, not, inl, inr, List, [], ◌∷◌, ◌++◌, length, map, flat_map, take, drop, take-append-drop, nat_le, encode_utf8_all, if◌then◌else◌, IsTrue, refl, sym, ◌∙◌, ap, ap₂, subst, arith, append-nil, length-append, length-take-le, take_all, leb-true, leb-false}
 use Rattle.std.specs.List.{list_all}
 use Rattle.std.specs.Str.{byte, chars, IsUtf8, IsCharBoundary}
@@ -26,9 +26,9 @@ use Rattle.ansi_columns.proofs.LineLawLemmas.{boundary_between}
 use Rattle.ansi_columns.proofs.LinkedLawLemmas.{truncated-plain, padded-plain}
 use Rattle.ansi_columns.proofs.SeamLawLemmas.{clusters-add_up, columns-add_up}
 
--- ---- how wide a text is that is cut
+-- ---- the width of a truncated text
 
--- so many clusters fit
+-- these clusters fit
 record IsCount (width : ℕ) (ks : List (List ℕ)) : Type 0 where
   count : ℕ
   boundary : fitting_end width ks ≡ bytes_of (take count ks)
@@ -94,7 +94,7 @@ module _ (t : List ℕ) (width : ℕ) (tail : List ℕ) (utf8 : IsUtf8 t) (tail_
       let is = truncated-plain t width tail whole tail_whole in
       subst (λ x. columns x ≤ width) (sym is) (within-width (has_tail t width tail) refl (subst (λ x. IsClusterBoundary x (truncated_end t width tail)) is at))
 
--- ---- how wide printable ASCII is
+-- ---- the width of printable ASCII
 
 clusters-printable : (before cs : List ℕ) → list_all is_printable cs ≡ true → clusters_after before cs ≡ map (λ c. c ∷ []) cs
 clusters-printable before [] all = clusters-none before
@@ -198,7 +198,7 @@ padded-columns t width alignment printable whole =
       columns-printable (plain t) printable,
     )
 
--- ---- how wide any text is that is filled up
+-- ---- the width of any padded text
 
 bytes_of-append : (ks ls : List (List ℕ)) → bytes_of (ks ++ ls) ≡ bytes_of ks + bytes_of ls
 bytes_of-append ks ls = ap length (flat_map-append encode_utf8_all ks ls) ∙ length-append (flat_map encode_utf8_all ks) (flat_map encode_utf8_all ls)
@@ -206,7 +206,7 @@ bytes_of-append ks ls = ap length (flat_map-append encode_utf8_all ks ls) ∙ le
 bytes_of-clusters : (x : List ℕ) → IsUtf8 x → bytes_of (clusters x) ≡ length x
 bytes_of-clusters x utf8 = ap length (spells [] (chars x) ∙ encodes-chars x utf8)
 
--- where clusters end between two texts, each place between clusters of the whole that stands in the first is one of the first
+-- if a cluster ends between two texts, each place between clusters of the whole that is in the first text is between clusters of the first text
 boundary-front : (x y : List ℕ) (i : ℕ) → IsUtf8 x → clusters (x ++ y) ≡ clusters x ++ clusters y → i ≤ length x → IsClusterBoundary (x ++ y) i → IsClusterBoundary x i
 boundary-front x y i utf8 sum within at =
     let n = at.0 in
@@ -227,7 +227,7 @@ IsUtf8-blanks n = IsUtf8-from_ascii (blanks n) (IsAscii-from_all (blanks n) (are
 columns-blanks : (n : ℕ) → columns (blanks n) ≡ n
 columns-blanks n = columns-printable (blanks n) (blanks_are_printable n) ∙ length-replicate n (byte " ")
 
--- a text between blanks, where clusters end at its own ends
+-- a text between blanks, if clusters end at both ends of the text
 columns-between : (n m : ℕ) (x : List ℕ) → IsUtf8 x → IsClusterBoundary (blanks n ++ x ++ blanks m) n → IsClusterBoundary (blanks n ++ x ++ blanks m) (n + length x) → columns (blanks n ++ x ++ blanks m) ≡ n + columns x + m
 columns-between n m x utf8 before after =
     let front = blanks n ++ x in

@@ -1,4 +1,4 @@
--- What is written after a text that is shown: what ends its link and its style, a tail, and blanks.
+-- What follows a text that is displayed: what closes its link and its style, a tail, and blanks.
 use Rattle.std.proofs.Common.{◌≡◌, ℕ, zero, suc, ◌+◌, ◌-◌, ◌<◌, ◌≤◌, Bool, true, false, not, ◌&&◌, ◌||◌, ◌↔◌, List, [], ◌∷◌, ◌++◌, length, take, is_some, nat_le, codes, if◌then◌else◌, nat_eq, refl, sym, ◌∙◌, ap, ap₂, subst, arith, append_assoc, append-nil, length-append}
 use Rattle.std.specs.Str.{IsUtf8, byte}
 use Rattle.std.proofs.lemmas.Bool.{eq-eqb, or_parts, le-leb, lt-leb, and_right}
@@ -28,7 +28,7 @@ use Rattle.ansi_columns.proofs.FitLemmas.{fitting_end-fits}
 use Rattle.ansi_columns.proofs.PlaceLemmas.{marks-before}
 use Rattle.ansi_columns.proofs.WalkLemmas.{walk_boundary}
 
--- A style has a close where something is set but `reset` alone.
+-- A style has a close if anything but `reset` alone is set.
 
 written-none : (cs : List (List ℕ)) → written_all cs ≡ [] → cs ≡ []
 written-none [] none = refl
@@ -136,7 +136,7 @@ pen_at_end t {link} {style} style_is link_is =
     let all : marks t ≡ up_to (length (plain t)) (marks t) = sym (up_to-past (length (plain t)) (pieces_of t) (omega arith)) in
     ap₂ (λ l s. link_end l ++ close s) (link_is ∙ ap link_of all) (style_is ∙ ap style_of all)
 
--- Where a text is cut, and its tail.
+-- The offset at which a text is cut, and its tail.
 
 tail-fits : (t tail : List ℕ) (width : ℕ) → nat_le (columns (plain t)) width ≡ true → has_tail t width tail ≡ false
 tail-fits t tail width fits = ap (λ b. not b && nat_le (columns (plain tail)) width) fits
@@ -179,7 +179,7 @@ length-either : (b : Bool) (x : List ℕ) → length (if b then x else []) ≤ l
 length-either true x = omega arith
 length-either false x = omega arith
 
--- A text that is cut, by what the code has of it: its front, what ends the pen there, and the tail.
+-- A truncated text, as the code writes it: its front, what closes the pen there, and the tail.
 pub record IsCutTo (t : List ℕ) (width : ℕ) (tail front close after : List ℕ) : Type 0 where
   pub front_is : front ≡ show (plain t) 0 (truncated_end t width tail) (up_to (truncated_end t width tail) (marks t))
   pub within : length front ≤ length t
@@ -217,7 +217,7 @@ pub cut-length : {t tail front close after : List ℕ} {width : ℕ} → IsCutTo
 cut-length {t} {tail} {front} {close} {after} {width} cut =
     omega (arith, cut.within, cut.short, ap length cut.after_is, length-either (has_tail t width tail) tail, length-append (front ++ close) after, length-append front close)
 
--- A text that is filled up.
+-- A padded text.
 
 pub padded-bytes : {close : List ℕ} {lack before : ℕ} (t : List ℕ) (width : ℕ) (alignment : Alignment) → close ≡ closing t → lack ≡ missing t width → before ≡ before_text alignment lack
     → ((blanks before ++ t) ++ close) ++ blanks (lack - before) ≡ padded t width alignment
@@ -255,7 +255,7 @@ padded-length t close lack before within closing =
       length-replicate (lack - before) (byte " "),
     )
 
--- nothing is open at its end where the test says so, and only there
+-- no style and no link is open at its end exactly if the test says so
 pub closed_at_end : (t : List ℕ) {link : List ℕ} {style : Rendition} → style ≡ style_after t → link ≡ link_of (marks t) → (link_end link ++ close style) ++ [] ≡ [] → closing t ≡ []
 closed_at_end t {link} {style} style_is link_is none = sym (pen_at_end t style_is link_is) ∙ sym (append-nil (link_end link ++ close style)) ∙ none
 

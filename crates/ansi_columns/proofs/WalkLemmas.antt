@@ -42,7 +42,7 @@ no_run t =
     record { ordered = omega arith; start_boundary = IsCharBoundary-end t; end_boundary = IsCharBoundary-end t; bytes = ap (λ n. list_all is_plain_byte (take n (drop (length t) t))) none }
 
 module _ (t : List ℕ) (utf8 : IsUtf8 t) (w : Walk) (walk : IsWalk t w) where
-  -- what stands before the walk and after it, as texts
+  -- the text before the walk and the text after it
 
   pub plain_from : drop w.position (plain t) ≡ plain (drop w.offset t)
   plain_from = sym (ap (λ i. plain (drop i t)) walk.offset ∙ plain-after t w.position)
@@ -59,7 +59,7 @@ module _ (t : List ℕ) (utf8 : IsUtf8 t) (w : Walk) (walk : IsWalk t w) where
   pub walk_boundary : IsCharBoundary (plain t) w.position
   walk_boundary = IsCharBoundary-from_take (plain t) w.position (IsUtf8-plain t utf8) walk.within utf8_to
 
-  -- nothing is left where the run is empty
+  -- no character is left if the run is empty
   pub after-end : w.offset ≡ w.run_end → after t w.position ≡ []
   after-end none = ap chars (plain_from ∙ ap (λ i. plain (drop i t)) (walk.end none) ∙ ap plain (drop_end t)) ∙ chars-nil
     where
@@ -67,7 +67,7 @@ module _ (t : List ℕ) (utf8 : IsUtf8 t) (w : Walk) (walk : IsWalk t w) where
       drop_end [] = refl
       drop_end (b ∷ x) = drop_end x
 
-  -- the first character of the run, or none where nothing is left
+  -- the first character of the run, or `None` if no character is left
   pub next-of : (r : Option ℕ) (x more : List ℕ) (Same : Type 0) → x ≡ slice_range t w.offset w.run_end → MatchOption r ((length x ≡ 0) × Same) (λ c. x ≡ encode_utf8 c ++ more)
       → MatchOption r (after t w.position ≡ []) (IsNext t w)
   next-of (Some c) x more Same is first = record { rest = more; bytes = sym is ∙ first }
@@ -195,13 +195,13 @@ module _ (t : List ℕ) (utf8 : IsUtf8 t) (w v : Walk) (from : IsWalk t w) (to :
   pub offsets_ordered : w.offset ≤ v.offset
   offsets_ordered = omega (arith, offsets)
 
-  -- the plain text of what stands between them
+  -- the plain text between them
   pub plain-between : plain (slice_range t w.offset v.offset) ≡ slice_range (plain t) w.position v.position
   plain-between =
       let count : v.offset - w.offset ≡ offset_of (drop w.offset t) between = omega (arith, offsets) in
       ap (λ n. plain (take n (drop w.offset t))) count ∙ plain-before (drop w.offset t) between ∙ ap (take between) (sym (plain_from t utf8 w from))
 
-  -- the same, where they are in one run
+  -- the same, if they are in one run
   pub run-between : between ≤ w.run_end - w.offset → slice_range t w.offset (w.offset + between) ≡ slice_range (plain t) w.position v.position
   run-between within =
       let n = w.run_end - w.offset in

@@ -205,7 +205,7 @@ module _ (t : List ℕ) (style : Rendition) (link : List ℕ) (test : ℕ → Bo
   written_ended : IsEnded (styled_through style shown) (linked_through link shown) written
   written_ended = record { closed = written_closed; linked = written_linked }
 
--- ---- what a line shows, where marks at places that pass `early` stand before it, its own are at those that pass `here`, and `together` passes both
+-- ---- what a line shows, if the marks before it are at places that pass `early`, its own at those that pass `here`, and both at those that pass `together`
 
 -- this style and this link are open after the marks before it
 record AreOpen (t : List ℕ) (early : ℕ → Bool) (style : Rendition) (link : List ℕ) : Type 0 where
@@ -264,7 +264,7 @@ module _ (t : List ℕ) (k : ℕ) (early here together : ℕ → Bool) (style : 
 
 -- ---- so each line has the slices over its interval
 
--- the intervals stand one after the other from the place e on
+-- the intervals follow each other from the place e on
 abbrev AreInTurn : ℕ → List (ℕ × ℕ) → Type 0
 AreInTurn e [] = Unit
 AreInTurn e (i ∷ is) = (e ≤ i.0) × (i.0 ≤ i.1) × AreInTurn i.1 is

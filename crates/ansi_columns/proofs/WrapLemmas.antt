@@ -65,7 +65,7 @@ made_of-alike : {same same' : Bool} {n n' : ℕ} {shown shown' last_link last_li
 made_of-alike {same} {same'} {n} {n'} {shown} {shown'} {last_link} {last_link'} {last} {last'} style link a b c d e =
     ap₂ (λ s k. made_of s k style link shown last_link last) a b ∙ ap₂ (λ v l. made_of same' n' style link v l last) c d ∙ ap (made_of same' n' style link shown' last_link') e
 
--- Marks that stand further on.
+-- Marks that are further on.
 
 past-further : (e n : ℕ) (ms : List Mark) → n ≤ e → past (Some e) (further_on n ms) ≡ further_on n (past (Some (e - n)) ms)
 past-further e n [] within = refl
@@ -143,7 +143,7 @@ module _ (t : List ℕ) (before taken : ℕ) (walk : Walk) (is : IsTaken t befor
   pub offset-rest : (e : ℕ) → before ≤ e → offset_of t e ≡ taken + offset_of rest (e - before)
   offset-rest e within = offset-from t before taken e within is.place
 
-  -- the next line ends at a place further on, which stands at an offset
+  -- the next line ends at a place further on, and this is its offset
   module _ (e offset : ℕ) (within : before ≤ e) (inside : e ≤ length (plain t)) (at : offset ≡ offset_of t e) where
     abbrev n : ℕ
     n = offset - taken
@@ -306,7 +306,7 @@ line-written {style} {after} {link} {link_end_of} {t} {a} {e} {offset} {from} {t
     ∙ sym (ap (λ b. if b then [] else start style ++ link ++ show (plain t) a e (marks t) ++ link_end (link_after_all link (marks t)) ++ close_if_any (after_marks style (marks t)))
     (unborrowed (length (marks t) == 0) (a == e) (not (has_any style) && length link == 0) owned))
 
--- one that stands as it is
+-- a line that is a stretch of the text
 
 bare-if : {whole other : List ℕ} (b : Bool) → (b ≡ true → whole ≡ []) → (b ≡ false → whole ≡ other) → whole ≡ (if b then [] else other)
 bare-if true empty some = empty refl
@@ -377,7 +377,7 @@ marks_left-start t = further_on-none (marks t)
 pub lines_left-start : (t : List ℕ) (width : ℕ) (walk : Walk) → walk.position ≡ 0 → lines_left t width (Some walk) ≡ lines_from width 0 0 0 0 (clusters (plain t))
 lines_left-start t width walk none = ap (λ n. lines_from width n n n 0 (clusters_from t n)) none ∙ ap (lines_from width 0 0 0 0) (clusters_from-start t)
 
--- where the text of a line begins, and where it ends
+-- the beginning and the end of the text of a line
 pub line-ordered : {style after : Rendition} {link link_end_of t : List ℕ} {a e offset from : ℕ} {is_marked : Bool} → IsSpan style link t a e offset is_marked after link_end_of → StandsIn t a from → from ≤ offset
 line-ordered {t = t} {a = a} {e = e} span stands =
     let all : e ≡ a + (e - a) = omega (arith, span.ordered) in

@@ -1,11 +1,11 @@
--- The columns of a text: the clusters of its plain text, and how wide each of them is.
+-- The display width of a text: the clusters of its plain text, and the width of each cluster.
 use Rattle.std.specs.Prelude.{◌≡◌, ℕ, ◌+◌, ◌<◌, ◌≤◌, true, false, List, [], length, take, flat_map, encode_utf8_all, chars}
 use Rattle.std.specs.List.{sum_by}
 use Rattle.unicode_segmentation.specs.Grapheme.{is_grapheme_break}
 use Rattle.unicode_segmentation.specs.Segments.{cut}
 use Rattle.unicode_width.specs.Width.{str_width}
 
--- the extended grapheme clusters of the text x, each by its characters (UAX #29)
+-- the extended grapheme clusters of the text x, each as the list of its characters (UAX #29)
 abbrev pub clusters : List ℕ → List (List ℕ)
 clusters x = cut (is_grapheme_break true) [] (chars x) []
 
@@ -13,25 +13,25 @@ clusters x = cut (is_grapheme_break true) [] (chars x) []
 abbrev pub cluster_width : List ℕ → ℕ
 cluster_width cluster = str_width false cluster
 
--- the columns of clusters in a row
+-- the columns of consecutive clusters, added up
 abbrev pub columns_of : List (List ℕ) → ℕ
 columns_of clusters = sum_by cluster_width clusters
 
--- the columns of the text x are those of its clusters
+-- the columns of the text x are those of its clusters, added up
 abbrev pub columns : List ℕ → ℕ
 columns x = columns_of (clusters x)
 
--- how many bytes of UTF-8 clusters have
+-- the number of bytes of clusters in UTF-8
 abbrev pub bytes_of : List (List ℕ) → ℕ
 bytes_of clusters = length (flat_map encode_utf8_all clusters)
 
--- The clusters of x up to the byte `end` have at most `width` columns, and with the next one they would have more.
+-- The clusters of x up to the byte `end` have at most `width` columns. With the next cluster they have more.
 pub record FitsUpTo (x : List ℕ) (width end : ℕ) : Type 0 where
   pub count : ℕ
   pub boundary : end ≡ bytes_of (take count (clusters x))
   pub fits : columns_of (take count (clusters x)) ≤ width
   pub greatest : count < length (clusters x) → width < columns_of (take (count + 1) (clusters x))
 
--- the place i of x is between two of its clusters, or before or after all of them
+-- the place i of x is between two of its clusters, or at its beginning or end
 abbrev pub IsClusterBoundary : List ℕ → ℕ → Type 0
 IsClusterBoundary x i = (n : ℕ) × (i ≡ bytes_of (take n (clusters x)))

@@ -1,4 +1,4 @@
--- The lines of a text that is wrapped at a width: how far each word reaches, and where the lines begin and end.
+-- The lines of a text that is wrapped at a width: how many columns each word has, and where the lines begin and end.
 use Rattle.std.specs.Prelude.{◌≡◌, ℕ, ◌+◌, ◌≤◌, max, ◌⊎◌, Bool, true, false, ◌||◌, ◌==◌, nat_le, List, [], ◌∷◌, ◌++◌, length, drop, slice_range, Option, Some, None, codes, bytes_eq, encode_utf8_all, IsTrue, if◌then◌else◌}
 use Rattle.ansi_search.specs.Positions.{is_good_range}
 use Rattle.ansi_columns.specs.Columns.{clusters, cluster_width, columns_of, bytes_of}
@@ -14,14 +14,14 @@ is_line_end cluster = bytes_eq cluster (codes "\n") || bytes_eq cluster (codes "
 unfoldable pub is_blank : List ℕ → Bool
 is_blank cluster = bytes_eq cluster (codes " ")
 
--- the columns of the word at the front of clusters
+-- the columns of the word that the clusters begin with
 unfoldable pub word_columns : List (List ℕ) → ℕ
 word_columns [] = 0
 word_columns (c ∷ cs) = if is_blank c || is_line_end c then 0 else cluster_width c + word_columns cs
 
--- The lines of the clusters from the position `here` on, where the last line so far begins at `start`, its last word ends at
--- `end`, and `columns` columns stand from its beginning up to here. After a blank, a word goes on on the line where all of it
--- fits there; inside a word, a cluster does where it fits. Another line begins else. (First fit; own.)
+-- The lines of the clusters from the position `here` on. The last line so far begins at `start` and its last word ends at `end`; the text
+-- between `start` and `here` has `columns` columns. After a blank, a word stays on the line if all of it fits there. Inside a word, a cluster
+-- stays on the line if it fits there. Otherwise a new line begins. (First fit; own.)
 unfoldable pub lines_from : ℕ → ℕ → ℕ → ℕ → ℕ → List (List ℕ) → List (ℕ × ℕ)
 lines_from width start end here columns [] = (start, end) ∷ []
 lines_from width start end here columns (c ∷ cs) =
@@ -38,16 +38,16 @@ lines_from width start end here columns (c ∷ cs) =
       ]
     ]
 
--- the lines of the text x, each by the bytes between which it stands; a width of 0 is as one of 1
+-- the lines of the text x, each as the positions of its beginning and end; a width of 0 is treated as 1
 abbrev pub lines : ℕ → List ℕ → List (ℕ × ℕ)
 lines width x = lines_from (max width 1) 0 0 0 0 (clusters x)
 
--- the lines of the plain text of t that begin where the walk stands, or none
+-- the lines of the plain text of t that begin at the walk, or no lines
 abbrev pub lines_left : List ℕ → ℕ → Option Walk → List (ℕ × ℕ)
 lines_left t width None = []
 lines_left t width (Some walk) = lines_from width walk.position walk.position walk.position 0 (clusters_from t walk.position)
 
--- A line is an interval of the clusters of x, and has at most `width` columns, or is one cluster.
+-- A line is an interval of the clusters of x. It has at most `width` columns, or it is one cluster.
 pub record IsLine (x : List ℕ) (width : ℕ) (line : ℕ × ℕ) : Type 0 where
   pub before : List (List ℕ)
   pub shown : List (List ℕ)
@@ -57,20 +57,20 @@ pub record IsLine (x : List ℕ) (width : ℕ) (line : ℕ × ℕ) : Type 0 wher
   pub end : line.1 ≡ bytes_of (before ++ shown)
   pub fits : (columns_of shown ≤ max width 1) ⊎ (length shown ≡ 1)
 
--- x may be cut where a line begins and ends
+-- x may be cut at the beginning and the end of a line
 abbrev pub IsGoodLine : List ℕ → ℕ × ℕ → Type 0
 IsGoodLine x line = IsTrue (is_good_range x line.0 (Some line.1))
 
--- what may be left out between two lines: n blanks, and then a line end or none
+-- what may be left out between two lines: n blanks, and then at most one line end
 abbrev pub IsLeftOut : List ℕ → Type 0
 IsLeftOut x = (n : ℕ) × ((x ≡ blanks n) ⊎ (x ≡ blanks n ++ codes "\n") ⊎ (x ≡ blanks n ++ codes "\r\n"))
 
--- The lines stand in x in turn, from the place e on. Before each stands what may be left out, and after the last are blanks alone.
+-- The lines are stretches of x, in order, from the place e on. What precedes each line may be left out, and only blanks follow the last one.
 abbrev pub AreLinesFrom : List ℕ → ℕ → List (ℕ × ℕ) → Type 0
 AreLinesFrom x e [] = (n : ℕ) × (drop e x ≡ blanks n)
 AreLinesFrom x e (line ∷ lines) = (e ≤ line.0) × (line.0 ≤ line.1) × (line.1 ≤ length x) × IsLeftOut (slice_range x e line.0) × AreLinesFrom x line.1 lines
 
--- what of x stands on lines, with what stands before each from the place e on, and after the last
+-- x from the place e on, as the text on its lines with the text left out before each line and after the last one
 abbrev pub put_back : List ℕ → ℕ → List (ℕ × ℕ) → List ℕ
 put_back x e [] = drop e x
 put_back x e (line ∷ lines) = slice_range x e line.0 ++ slice_range x line.0 line.1 ++ put_back x line.1 lines

@@ -3,7 +3,7 @@ use Rattle.std.specs.Prelude.{◌≡◌, ℕ, ◌<◌, List, ◌++◌, take, dro
 use Rattle.std.specs.Str.{IsCharBoundary}
 use Rattle.ansi_items.specs.Plain.{plain}
 
--- After the mark from `start` to `end` the text t is plain, and before it its plain text is that of what stands there.
+-- The text after the mark from `start` to `end` is plain. So the plain text of t is that of t before the mark, and then the text after it.
 pub record IsLastMark (t : List ℕ) (start end : ℕ) : Type 0 where
   pub ordered : start < end
   pub start_boundary : IsCharBoundary t start

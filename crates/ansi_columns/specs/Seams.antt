@@ -1,4 +1,4 @@
--- What stands before a place, as far as the rules on clusters look back at it. No public contract cites it.
+-- A summary of the characters before a place, as much as the rules on clusters look back at. No public contract cites it.
 use Rattle.std.specs.Prelude.{ℕ, Bool, true, false, ◌&&◌, List, [], ◌∷◌, map}
 use Rattle.ucd_breaks.specs.GraphemeClusterBreak.{grapheme_cluster_break}
 use Rattle.ucd_breaks.specs.declared.GraphemeClusterBreak.{GraphemeClusterBreak}
@@ -9,12 +9,12 @@ use Rattle.ucd_derived.specs.declared.IndicConjunctBreak.TheVariants as InCb
 use Rattle.unicode_segmentation.specs.Grapheme.{ends_in_linker, ends_in_pictograph, ends_in_half_flag, is_zwj}
 use Rattle.ansi_columns.specs.declared.seams.Seam.{Seam}
 
--- the value of the last character before the place, where the list has it first
+-- the value of the last character before the place, which the list has first
 abbrev pub last_of : List ℕ → GraphemeClusterBreak
 last_of [] = Other
 last_of (c ∷ before) = grapheme_cluster_break c
 
--- a linker, and what extends it, ends with a character of this value, where one ended before it or not
+-- whether a linker and the characters that extend it end with a character of this value, by whether they end before it
 abbrev pub links : IndicConjunctBreak → Bool → Bool
 links InCb.Linker is_linked = true
 links InCb.Extend is_linked = is_linked
@@ -25,7 +25,7 @@ abbrev pub ends_in_joiner : List ℕ → Bool
 ends_in_joiner [] = false
 ends_in_joiner (c ∷ before) = is_zwj (grapheme_cluster_break c) && ends_in_pictograph before
 
--- what the rules look back at
+-- the summary that the rules look back at
 abbrev pub seam_of : List ℕ → Seam
 seam_of before = record {
   last = last_of before;

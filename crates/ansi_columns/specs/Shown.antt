@@ -1,4 +1,4 @@
--- A text that is cut or filled up to so many columns, to be shown: what is open at its end is ended.
+-- Truncated and padded texts, ready for display: the style and link still open at their end are closed.
 use Rattle.std.specs.Prelude.{ℕ, ◌+◌, ◌-◌, ◌/◌, Bool, not, ◌&&◌, List, [], ◌∷◌, ◌++◌, length, replicate, encode_utf8_all, nat_le, if◌then◌else◌}
 use Rattle.std.specs.Str.{byte}
 use Rattle.ansi_items.specs.Plain.{plain, marks, up_to}
@@ -8,34 +8,34 @@ use Rattle.ansi_columns.specs.declared.shown.Alignment.TheVariants.{Left, Right,
 use Rattle.ansi_columns.specs.Columns.{clusters, cluster_width, columns}
 use Rattle.ansi_columns.specs.Links.{pen_close}
 
--- up to which byte these clusters fit into `width` columns: `FitsUpTo` says the same (own)
+-- the byte up to which these clusters fit into `width` columns; `FitsUpTo` says the same (own)
 abbrev pub fitting_end : ℕ → List (List ℕ) → ℕ
 fitting_end width [] = 0
 fitting_end width (k ∷ ks) = if nat_le (cluster_width k) width then length (encode_utf8_all k) + fitting_end (width - cluster_width k) ks else 0
 
--- the tail is written where the text is wider than `width`, and the tail isn't (own)
+-- the tail is written if the text is wider than `width` and the tail isn't (own)
 abbrev pub has_tail : List ℕ → ℕ → List ℕ → Bool
 has_tail t width tail = not (nat_le (columns (plain t)) width) && nat_le (columns (plain tail)) width
 
--- the place up to which the text stands: where it fits, beside the tail that is written
+-- the place at which the text is cut: the end of what fits, beside the tail if that is written
 abbrev pub truncated_end : List ℕ → ℕ → List ℕ → ℕ
 truncated_end t width tail = fitting_end (if has_tail t width tail then width - columns (plain tail) else width) (clusters (plain t))
 
--- what is written after it: what ends the pen there, and the tail as it is
+-- what is written after the cut: what closes the pen there, and the tail unchanged
 abbrev pub truncated_ending : List ℕ → ℕ → List ℕ → List ℕ
 truncated_ending t width tail = pen_close t (truncated_end t width tail) ++ (if has_tail t width tail then tail else [])
 
--- the text t cut to `width` columns: its plain bytes and marks up to that place, as a cut has them, and what is written after them (own)
+-- the text t truncated to `width` columns: its plain bytes and marks up to the cut, as a cut has them, and what is written after them (own)
 unfoldable pub truncated : List ℕ → ℕ → List ℕ → List ℕ
 truncated t width tail =
     let end = truncated_end t width tail in
     show (plain t) 0 end (up_to end (marks t)) ++ truncated_ending t width tail
 
--- how many columns a text lacks
+-- the number of columns that a text lacks
 abbrev pub missing : List ℕ → ℕ → ℕ
 missing t width = width - columns (plain t)
 
--- of n blanks so many stand before the text; of an odd number, one more after it (own)
+-- how many of n blanks come before the text; if n is odd, one more comes after it in the middle alignment (own)
 abbrev pub before_text : Alignment → ℕ → ℕ
 before_text Left n = 0
 before_text Right n = n
@@ -44,11 +44,11 @@ before_text Center n = n / 2
 abbrev pub blanks : ℕ → List ℕ
 blanks n = replicate n (byte " ")
 
--- what ends the pen at the end of the text t
+-- what closes the pen at the end of the text t
 abbrev pub closing : List ℕ → List ℕ
 closing t = pen_close t (length (plain t))
 
--- the text t, what ends its pen, and the blanks that are missing (own)
+-- the text t, what closes its pen, and the missing blanks (own)
 unfoldable pub padded : List ℕ → ℕ → Alignment → List ℕ
 padded t width alignment =
     let before = before_text alignment (missing t width) in

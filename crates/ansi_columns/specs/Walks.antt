@@ -1,4 +1,4 @@
--- How far a walk over the characters of a plain text has come. No public contract cites it.
+-- The state of a walk over the characters of a plain text. No public contract cites it.
 use Rattle.std.specs.Prelude.{◌≡◌, ℕ, ◌≤◌, true, List, [], ◌++◌, length, take, drop, reverse, slice_range, encode_utf8, chars, IsTrue}
 use Rattle.std.specs.List.{list_all}
 use Rattle.std.specs.Str.{IsCharBoundary}
@@ -10,19 +10,19 @@ use Rattle.unicode_segmentation.specs.Segments.{cut}
 use Rattle.ansi_columns.specs.declared.walks.Walk.{Walk}
 use Rattle.ansi_columns.specs.Seams.{seam_of}
 
--- the characters of the plain text of t before the position n, the nearest first
+-- the characters of the plain text of t before the position n, the last one first
 abbrev pub before : List ℕ → ℕ → List ℕ
 before t n = reverse (chars (take n (plain t)))
 
--- those from there on
+-- the characters of the plain text of t from the position n on
 abbrev pub after : List ℕ → ℕ → List ℕ
 after t n = chars (drop n (plain t))
 
--- the characters between two positions, as those of one cluster
+-- the characters between two positions, taken as one cluster
 abbrev pub cluster : List ℕ → ℕ → ℕ → List ℕ
 cluster t i j = chars (slice_range (plain t) i j)
 
--- the clusters of the characters cs, after others, the nearest first
+-- the clusters of the characters cs, which follow others, the last of those first
 abbrev pub clusters_after : List ℕ → List ℕ → List (List ℕ)
 clusters_after before cs = cut (is_grapheme_break true) before cs []
 
@@ -30,14 +30,14 @@ clusters_after before cs = cut (is_grapheme_break true) before cs []
 abbrev pub clusters_from : List ℕ → ℕ → List (List ℕ)
 clusters_from t n = clusters_after (before t n) (after t n)
 
--- between two offsets of t stand plain bytes alone
+-- only plain bytes are between two offsets of t
 pub record IsRun (t : List ℕ) (start end : ℕ) : Type 0 where
   pub ordered : start ≤ end
   pub start_boundary : IsCharBoundary t start
   pub end_boundary : IsCharBoundary t end
   pub bytes : IsTrue (list_all is_plain_byte (slice_range t start end))
 
--- A walk over t stands at a position of its plain text. A run begins there, which is empty only at the end of t.
+-- A walk over t is at a position of its plain text. A run begins there, which is empty only at the end of t.
 pub record IsWalk (t : List ℕ) (walk : Walk) : Type 0 where
   pub offset : walk.offset ≡ offset_of t walk.position
   pub run : IsRun t walk.offset walk.run_end
@@ -45,7 +45,7 @@ pub record IsWalk (t : List ℕ) (walk : Walk) : Type 0 where
   pub seam : walk.seam ≡ seam_of (before t walk.position)
   pub within : walk.position ≤ length (plain t)
 
--- the character c stands next
+-- the character c is next
 pub record IsNext (t : List ℕ) (walk : Walk) (c : ℕ) : Type 0 where
   pub rest : List ℕ
   pub bytes : slice_range t walk.offset walk.run_end ≡ encode_utf8 c ++ rest

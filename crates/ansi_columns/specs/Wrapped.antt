@@ -1,4 +1,4 @@
--- The lines of a wrapped text as they are shown, and what a wrap gives of those that it has left.
+-- The lines of a wrapped text, ready for display, and what `next` returns of the lines that a wrap has left.
 use Rattle.std.specs.Prelude.{◌≡◌, ℕ, ◌+◌, ◌≤◌, ◌==◌, ◌⊎◌, Bool, not, ◌&&◌, ◌||◌, List, [], ◌∷◌, ◌++◌, length, drop, Option, Some, None, Result, Ok, Err, if◌then◌else◌, IsTrue, IsFalse, ◌↔◌}
 use Rattle.std.specs.Cow.{cow_str_bytes, IsBorrowedStr}
 use Rattle.std.specs.Str.{IsCharBoundary}
@@ -18,15 +18,15 @@ use Rattle.ansi_columns.specs.Lines.{lines}
 use Rattle.ansi_columns.specs.Links.{link_after_all, link_end, longest_link_end}
 use Rattle.ansi_columns.specs.Walks.{IsWalk}
 
--- a line as a wrap gives it: its bytes, whether it is a borrow, and how many bytes of the text it has, with the link that is carried into it
+-- a line of a wrap: its bytes, whether it is a borrow, and how many bytes of the text and of the link carried into it it has
 pub record WrappedLine : Type 0 where
   pub bytes : List ℕ
   pub borrowed : Bool
   pub share : ℕ
 
--- The line over the interval i of the plain text x with these marks, where a style and a link are carried into it: the start of the style, the
--- sequence that opened the link, the text with its marks, the end of the link and the close of the style then. It is a borrow
--- where it has no mark, and is empty or nothing is carried. (What is carried, as the parts of a split; the rest, own.)
+-- The line over the interval i of the plain text x with these marks, if a style and a link are carried into it: the start of the style, the
+-- sequence that opened the link, the text with its marks, the end of the link then open and the close of the style then open. It is a borrow
+-- if it has no mark, and is empty or has nothing carried into it. (What is carried, as for the parts of a split; the rest, own.)
 unfoldable pub line_over : Rendition → List ℕ → List ℕ → List Mark → ℕ × ℕ → WrappedLine
 line_over style link x own i = record {
   bytes = if i.0 == i.1 && length own == 0 then [] else
@@ -36,7 +36,7 @@ line_over style link x own i = record {
 }
 
 -- The lines over intervals of x in order, with the marks that are left. A mark belongs to the first line that doesn't end before
--- its place, and to the last one where each does. What is open after a line is carried into the next. (Own.)
+-- its place, and to the last line if every line does. The style and link open after a line are carried into the next. (Own.)
 unfoldable pub lines_over : Rendition → List ℕ → List ℕ → List Mark → List (ℕ × ℕ) → List WrappedLine
 lines_over style link x ms [] = []
 lines_over style link x ms (i ∷ is) =
@@ -47,28 +47,28 @@ lines_over style link x ms (i ∷ is) =
 abbrev pub wrapped : List ℕ → ℕ → List WrappedLine
 wrapped t width = lines_over plain_style [] (plain t) (marks t) (lines width (plain t))
 
--- the text is this line; beside its share of the text wrapped, a start, a close and the end of a link stand in it at most
+-- the text is this line, and is at most as long as its share of the wrapped text, a start, a close and the end of a link together
 abbrev pub IsWrappedLine : {A : Type 0} → WrappedLine → CowStr A → Type 0
 IsWrappedLine l c = (cow_str_bytes c ≡ l.bytes) × (IsBorrowedStr c ↔ IsTrue l.borrowed) × (length (cow_str_bytes c) ≤ l.share + longest_start_and_close + longest_link_end)
 
--- One call of `next` gives the first of the lines left. Or it gives an `Err`, never where that line is a borrow, and then nothing is left. Or it gives None, where nothing is left.
+-- One call of `next` gives the first of the lines left. Or it gives an `Err`, never if that line is a borrow, and then no lines are left. Or it gives `None`, if no lines are left.
 abbrev pub GivesLine : {A E : Type 0} → List WrappedLine → Option (Result (CowStr A) E) → List WrappedLine → Type 0
 GivesLine old None new = (old ≡ []) × (new ≡ [])
 GivesLine old (Some (Ok c)) new = (l : WrappedLine) × (old ≡ l ∷ new) × IsWrappedLine l c
 GivesLine old (Some (Err e)) new = (l : WrappedLine) × (ls : List WrappedLine) × (old ≡ l ∷ ls) × IsFalse l.borrowed × (new ≡ [])
 
--- the marks of t from the offset `taken` on, at their places, where `before` plain bytes stand before it; no public contract cites what follows
+-- the marks of t from the offset `taken` on, at their places, with `before` plain bytes before that offset; no public contract cites what follows
 abbrev pub marks_left : List ℕ → ℕ → ℕ → List Mark
 marks_left t before taken = further_on before (marks (drop taken t))
 
--- the lines before the walk end at the position `before`, and have taken t up to the offset `taken`: all marks up to there, or nothing yet
+-- the lines before the walk end at the position `before`, and cover t up to the offset `taken`, with all marks up to there; or there are no lines yet
 pub record IsTaken (t : List ℕ) (before taken : ℕ) (walk : Walk) : Type 0 where
   pub is_walk : IsWalk t walk
   pub place : ((before ≡ 0) × (taken ≡ 0)) ⊎ (taken ≡ offset_of t before)
   pub boundary : IsCharBoundary t taken
   pub ordered : before ≤ walk.position
 
--- the line over all marks of t and its plain bytes from `start` up to `end`, which stand up to an offset, and what is open after it
+-- the line over all marks of t and its plain bytes from `start` up to `end`, which is at an offset, and the style and link open after it
 pub record IsSpan (style : Rendition) (link t : List ℕ) (start end offset : ℕ) (is_marked : Bool) (style_after : Rendition) (link_after : List ℕ) : Type 0 where
   pub marked : is_marked ≡ has_escape t
   pub ordered : start ≤ end

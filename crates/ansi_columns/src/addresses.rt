@@ -9,7 +9,7 @@ ghost use Rattle.ansi_columns.specs.Addresses.{address_at};
 use crate::links::{address_of, link_after, terminator_len};
 use ansi_items::ansitok::{Kind, Scanner};
 
-/// As `AnsiColumns::ansi_link_at`, with an answer that lives as long as the text.
+/// Like `AnsiColumns::ansi_link_at`; the address it returns lives as long as the text.
 ///
 /// ```
 /// assert!(rt; link_at("\x1b]8;;http://x\x1b\\ab\x1b]8;;\x1b\\c", 1) == Some("http://x"));
@@ -34,7 +34,8 @@ pub fn link_at(text: &str, index: usize) -> Option<&str>
     None
 }
 
-/// The address of a whole sequence, where that is a link sequence, or `None` where there is no sequence.
+/// The address of a whole sequence if it is a link sequence. `None` for any other sequence, and for
+/// an empty `sequence`.
 fn address(sequence: &str) -> Option<&str>
     requires { (sequence.now ≡ []) ⊎ IsSequence sequence.now }
     ensures { option_map (λ a. a.now) result ≡ address_of sequence.now }

@@ -1,4 +1,4 @@
-//! The calls on columns: over any text, and over `&str`.
+//! The calls on display width: for any text, and for `&str`.
 ghost use Rattle.std.specs.Prelude.{◌≡◌, ◌↔◌, ◌+◌, ◌≤◌, ◌⊎◌, Some, None, [], length, IsTrue, IsFalse, IsNone, IsOk, IfOk};
 ghost use Rattle.std.specs.List.{list_all};
 ghost use Rattle.std.specs.Option.{option_map};
@@ -22,20 +22,22 @@ use ansi_str::AnsiStr;
 use std::alloc::{AllocError, Global};
 use std::borrow::CowStr;
 
-/// The columns of a text, taken as if its sequences weren't there.
+/// The display width of a text, which is measured as if its sequences weren't there.
 ///
-/// It stands for everything that is [`AnsiStr`], with the same answers.
+/// Implemented for every type that implements [`AnsiStr`]. The results depend on the text alone,
+/// not on its type.
 ///
 /// ```
 /// assert!(rt; "\x1b[31m日本\x1b[39m".ansi_width() == 4);
 /// assert!(rt; String::from_str(rt.alloc(), "日本")?.ansi_width() == 4);
 /// ```
 pub trait AnsiColumns: AnsiStr {
-    /// The columns of the plain text: those of its extended grapheme clusters, added up.
+    /// The display width of the plain text, in columns: the sum over its extended grapheme
+    /// clusters.
     ///
-    /// A cluster may run across sequences. A control character is a cluster of one column, but in a
-    /// cluster `\r\n`, which has one. Takes no memory. (UAX #29; the columns of a cluster, UAX #11 as
-    /// `unicode_width` reads it.)
+    /// A cluster may span sequences. A control character is a cluster of one column, except in the
+    /// cluster `\r\n`, which has one column in all. Doesn't allocate. (UAX #29; the width of a
+    /// cluster, UAX #11 as `unicode_width` reads it.)
     ///
     /// ```
     /// assert!(rt; "e\x1b[1m\u{301}x".ansi_width() == 2);
@@ -46,12 +48,14 @@ pub trait AnsiColumns: AnsiStr {
         width(self.as_text())
     }
 
-    /// The position up to which the plain text fits into so many columns.
+    /// The end of the longest prefix of the plain text that fits into `width` columns, as a
+    /// position.
     ///
-    /// It is the greatest boundary between clusters such that what stands before it has at most so many
-    /// columns: clusters without a column at its end are before it. It counts bytes of the plain text, and
-    /// is a good position, so that the text can be cut and split there. Reads no further than one cluster
-    /// more, the sequences after that, and the plain bytes up to the next one. Takes no memory. (Own.)
+    /// The position is the greatest boundary between clusters such that the text before it has at
+    /// most `width` columns. Clusters of no columns that follow belong to the prefix. The position
+    /// counts bytes of the plain text, and is a good position, so the text can be cut and split
+    /// there. Reads at most one cluster past the prefix, the sequences after that cluster, and the
+    /// plain bytes up to the next sequence. Doesn't allocate. (Own.)
     ///
     /// ```
     /// assert!(rt; "a\x1b[1m日本".ansi_fitting(4) == 4);
@@ -65,16 +69,19 @@ pub trait AnsiColumns: AnsiStr {
         fitting(self.as_text(), width)
     }
 
-    /// The text cut to so many columns, to be shown: a tail, as `…`, stands where it is cut.
+    /// The text truncated to `width` columns for display. If the text is cut, a tail such as `…`
+    /// follows the cut.
     ///
-    /// A text that fits is itself; else it goes up to where it fits beside the tail, as `ansi_cut` has it, and
-    /// the tail stands after it as it is. A tail that is wider than `width` is left out. What is open at the
-    /// end of the text is ended before the tail: its link, and then its style.
+    /// A text that fits isn't cut. Any other text is cut, as `ansi_cut` does it, at the end of the
+    /// longest prefix that leaves room for the tail, and the tail is appended unchanged. A tail
+    /// wider than `width` is left out. In each case the link and then the style still open at the
+    /// end of the text are closed, before the tail.
     ///
-    /// It is a borrow where nothing has to be written after what stays of the text, and then no memory is
-    /// taken. Else it has at most the bytes of the text and the tail, 7 for the link and 88 for the style.
-    /// `Err` means out of memory. Reads of the text no more than `ansi_fitting(width)`, as often as twice,
-    /// and then what stays of it. (`truncate_str` of `console`; that links and styles are ended, own.)
+    /// Returns a borrow, and doesn't allocate, if nothing has to be written after the part of the
+    /// text that stays. Otherwise the result is at most as long as the text and the tail together,
+    /// plus 7 bytes for the link and 88 for the style. `Err` means out of memory. Reads no more of
+    /// the text than `ansi_fitting(width)` does, up to twice, and then the part that stays.
+    /// (`truncate_str` of `console`; closing links and styles, own.)
     ///
     /// ```
     /// let cut = "\x1b[31m日本語\x1b[39m".ansi_truncate(rt.alloc(), 5, "…")?;
@@ -94,15 +101,15 @@ pub trait AnsiColumns: AnsiStr {
         truncate(alloc, self.as_text(), width, tail)
     }
 
-    /// The text, filled up with blanks to so many columns, to be shown.
+    /// The text padded with blanks to `width` columns for display.
     ///
-    /// What is open at its end is ended before the blanks: its link, and then its style. A text that is as
-    /// wide or wider gets no blanks.
+    /// The link and then the style still open at the end of the text are closed before the blanks.
+    /// A text of `width` or more columns gets no blanks.
     ///
-    /// It is a borrow where no blank is missing and nothing is open, and then no memory is taken. Else it
-    /// has at most the bytes of the text, a blank for each column that is missing, 7 for the link and 88
-    /// for the style. `Err` means out of memory. (`pad_str` of `console`; that links and styles are ended,
-    /// own.)
+    /// Returns a borrow, and doesn't allocate, if no blank is needed and nothing is open. Otherwise
+    /// the result is at most as long as the text, plus one byte for each missing column, 7 for the
+    /// link and 88 for the style. `Err` means out of memory. (`pad_str` of `console`; closing links
+    /// and styles, own.)
     ///
     /// ```
     /// let padded = "\x1b[41mab".ansi_pad(rt.alloc(), 5, Alignment::Center)?;
@@ -122,12 +129,14 @@ pub trait AnsiColumns: AnsiStr {
         pad(alloc, self.as_text(), width, alignment)
     }
 
-    /// The lines of the text at a width, in order, as they are shown.
+    /// The lines of the text wrapped at `width` columns, in order, ready for display.
     ///
-    /// They begin and end where `Lines::new` says. What a line leaves open is ended at its end, its link
-    /// and then its style, and opened at the beginning of the next: the start of the style, and then the
-    /// sequence that opened the link. A sequence belongs to the first line that doesn't end before it, and
-    /// one after the last line's end to the last line. A line with no text and no sequence is empty. (Own.)
+    /// `Lines::new` says where lines begin and end. At the end of a line the link and then the
+    /// style that it leaves open are closed. They are opened again at the beginning of the next
+    /// line: first the start of the style, then the sequence that opened the link. A sequence
+    /// belongs to the first line that doesn't end before it. A sequence after the end of the last
+    /// line belongs to the last line. On a line without text and sequences nothing is opened and
+    /// closed: it is empty. (Own.)
     ///
     /// ```
     /// let mut lines = "\x1b[31mlion tiger".ansi_wrap(rt.alloc(), 5);
@@ -142,12 +151,13 @@ pub trait AnsiColumns: AnsiStr {
         wrap(alloc, self.as_text(), width)
     }
 
-    /// The address of the hyperlink at a position, or `None` where no link is open there.
+    /// The address of the hyperlink at a position, or `None` if no link is open there.
     ///
-    /// It is the link in which the plain byte at the position stands, so a sequence at the place of that byte
-    /// comes before it. A position counts bytes of the plain text, and may lie inside a character; from the
-    /// end of the plain text on there is no link. An address isn't empty. The answer is a borrow. Reads no
-    /// further than up to the position. Takes no memory. (OSC 8; the positions, own.)
+    /// The address is that of the link around the plain byte at the position, so sequences directly
+    /// before that byte count. A position counts bytes of the plain text, and may lie inside a
+    /// character. At and after the end of the plain text there is no link. An address is never
+    /// empty. Returns a borrow. Reads no further than the position. Doesn't allocate. (OSC 8; the
+    /// positions, own.)
     ///
     /// ```
     /// let text = "a \x1b]8;;http://x\x1b\\link\x1b]8;;\x1b\\.";
@@ -164,7 +174,7 @@ pub trait AnsiColumns: AnsiStr {
 
 impl<T: AnsiStr> AnsiColumns for T {}
 
-/// As [`AnsiColumns::ansi_width`].
+/// Like [`AnsiColumns::ansi_width`].
 pub fn width(text: &str) -> usize
     ensures { result ≡ columns (plain text.now) }
 {
@@ -177,7 +187,7 @@ pub fn width(text: &str) -> usize
     total
 }
 
-/// As [`AnsiColumns::ansi_fitting`].
+/// Like [`AnsiColumns::ansi_fitting`].
 pub fn fitting(text: &str, width: usize) -> usize
     ensures fits { FitsUpTo (plain text.now) width result }
     ensures boundary { IsCharBoundary (plain text.now) result }

@@ -1,4 +1,4 @@
-//! Up to where a text fits into so many columns.
+//! The longest prefix of a text that fits into a width.
 ghost use Rattle.std.specs.Prelude.{◌≡◌, nat_le};
 ghost use Rattle.ansi_items.specs.Plain.{plain};
 ghost use Rattle.ansi_columns.specs.Columns.{columns, FitsUpTo};
@@ -6,16 +6,16 @@ ghost use Rattle.ansi_columns.specs.Walks.{IsWalk};
 
 use crate::walks::Walk;
 
-/// What fits of a text, from its front.
+/// The longest prefix of a text that fits.
 #[derive(Clone, Copy)]
 pub(crate) struct Front {
-    /// The walk that stands there.
+    /// The walk at the end of the prefix.
     pub(crate) walk: Walk,
     /// Whether the whole text fits.
     pub(crate) is_all: bool,
 }
 
-/// Up to where a text fits into so many columns.
+/// The longest prefix of a text that fits into `width` columns.
 pub(crate) fn fitting_front(text: &str, width: usize) -> Front
     ensures walk { IsWalk text.now result.walk }
     ensures fits { FitsUpTo (plain text.now) width result.walk.position }

@@ -1,4 +1,4 @@
-//! The columns of a cluster that runs across sequences: its characters are read from its end.
+//! The width of a cluster that spans sequences. Its characters are read from its end.
 ghost use Rattle.std.specs.Prelude.{◌≡◌, ◌+◌, ◌*◌, ◌<◌, ◌≤◌, List, [], ◌∷◌, ◌++◌, length, chars, IfSome, MatchOption};
 ghost use Rattle.std.specs.Str.{IsCharBoundary, IsUtf8};
 ghost use Rattle.ansi_items.specs.Pieces.{Piece, pieces_of, spelling};
@@ -12,9 +12,9 @@ use ansi_items::ansitok::Scanner;
 use memchr::memrchr;
 use unicode_width::char_iter_width;
 
-/// The columns of the plain text of a text, as one cluster.
+/// The columns of the plain text, taken as one cluster.
 ///
-/// Takes time in proportion to the text, and no memory.
+/// Takes time linear in the length of the text, and doesn't allocate.
 pub(crate) fn width(text: &str) -> usize
     ensures value { result ≡ cluster_width (chars (plain text.now)) }
     ensures bound { result ≤ 2 * length (plain text.now) }
@@ -28,9 +28,9 @@ pub(crate) fn width(text: &str) -> usize
 /// The characters of a plain text, from either end.
 #[derive(Drop)]
 struct PlainChars<'t> {
-    /// What is left of the text before the run.
+    /// The text before the run that isn't read yet.
     rest: &'t str,
-    /// What is left of the run at the end.
+    /// The run at the end that isn't read yet.
     run: &'t str,
 }
 
@@ -69,7 +69,7 @@ impl<'t> DoubleEndedIterator for PlainChars<'t> {
     }
 }
 
-/// The first plain character of a text, and what stands after it.
+/// The first plain character of a text, and the text after it.
 fn split_first_char(text: &str) -> Option<(char, &str)>
     ensures { IfSome result (λ (first, rest). length rest.now < length text.now) }
 {
@@ -78,7 +78,7 @@ fn split_first_char(text: &str) -> Option<(char, &str)>
     Some((first, &text[start + first.len_utf8()..]))
 }
 
-/// The last character of the plain text of a text and a run after it, and what is left of both.
+/// The last plain character of a text and the run after it, and the remainder of both.
 fn split_last_char<'t>(text: &'t str, end: &'t str) -> Option<(char, &'t str, &'t str)>
     ensures chars { MatchOption result (chars (plain text.entry.now ++ end.entry.now) ≡ [])
         (λ (last, rest, run). chars (plain text.entry.now ++ end.entry.now) ≡ chars (plain rest.now ++ run.now) ++ last ∷ []) }
@@ -94,7 +94,8 @@ fn split_last_char<'t>(text: &'t str, end: &'t str) -> Option<(char, &'t str, &'
     Some((last, rest, chars.as_str()))
 }
 
-/// What stands before the last mark of a text, a sequence or a lone escape, and the run after it.
+/// The text before the last mark, which is a sequence or a lone escape, and the run after that
+/// mark.
 fn split_last_run(text: &str) -> (&str, &str)
     ensures plain { plain text.now ≡ plain result.0.now ++ result.1.now }
     ensures shorter { 0 < length text.now → length result.0.now < length text.now }
@@ -108,9 +109,10 @@ fn split_last_run(text: &str) -> (&str, &str)
     }
 }
 
-/// Where the last mark of a text begins and ends.
+/// The start and the end of the last mark of a text.
 ///
-/// An ESC inside a sequence is the one that ends a control string, whose own ESC is the one before.
+/// An ESC inside a sequence terminates a control string. The sequence then begins at the ESC before
+/// it.
 fn last_mark(text: &str) -> Option<(usize, usize)>
     ensures { MatchOption result (plain text.now ≡ text.now) (λ (start, end). IsLastMark text.now start end) }
 {

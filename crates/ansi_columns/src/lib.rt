@@ -1,10 +1,10 @@
-//! Columns of a terminal: how wide a text is shown, taken as if its ANSI control sequences weren't
-//! there, up to where it fits, the text cut or filled up, where its lines are when it is wrapped, and the
-//! address of the hyperlink at a position.
+//! Display width of text with ANSI control sequences, taken as if the sequences weren't there: the
+//! width of a text, the longest prefix that fits, truncation, padding and wrapping, and the address
+//! of the hyperlink at a position.
 //!
-//! The columns of a text are those of the extended grapheme clusters of its plain text. Positions count
-//! the bytes of the plain text, as those of `ansi_str` do. `CALLING.md` beside this folder says how a
-//! crate depends on this one and calls it.
+//! The width of a text is that of the extended grapheme clusters of its plain text. Positions count
+//! bytes of the plain text, as in `ansi_str`. `CALLING.md` beside this folder says how a crate
+//! depends on this one and calls it.
 #![tactic(auto)]
 
 pub mod addresses;

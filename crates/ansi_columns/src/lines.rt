@@ -1,4 +1,4 @@
-//! Where the lines of a text begin and end, when it is wrapped at a width.
+//! The beginning and the end of each line of a wrapped text.
 ghost use Rattle.std.specs.Prelude.{◌≡◌, ◌<◌, ◌≤◌, ◌∷◌, Some, IfSome, All};
 ghost use Rattle.ansi_items.specs.Plain.{plain};
 ghost use Rattle.ansi_columns.specs.Lines.{lines, lines_left, is_line_end, is_blank, IsLine, IsGoodLine};
@@ -7,15 +7,16 @@ ghost use Rattle.ansi_columns.specs.Walks.{IsWalk, cluster};
 use crate::walks::Walk;
 use std::marker::Model;
 
-/// The lines of a text that is wrapped, in order: where each begins and ends, in bytes of the plain text.
+/// The lines of a wrapped text, in order, as pairs of positions: the beginning and the end of each
+/// line, in bytes of the plain text.
 ///
-/// After the last line it gives `None`, then and ever after.
+/// After the last line `next` always returns `None`.
 #[derive(Drop)]
 pub struct Lines<'t> {
     text: &'t str,
-    /// How many columns a line has at most, unless one cluster has more.
+    /// The greatest width of a line, in columns. A line of one wider cluster may exceed it.
     width: usize,
-    /// Where the next line begins.
+    /// The beginning of the next line.
     next: Option<Walk>,
 }
 
@@ -32,16 +33,21 @@ impl<'t> Model for Lines<'t> {
 }
 
 impl<'t> Lines<'t> {
-    /// The lines of a text at a width, in order: where each begins and ends.
+    /// The lines of a text wrapped at `width` columns, in order, as pairs of positions.
     ///
-    /// A line ends at a line end, a cluster `\n` or `\r\n`, which is left out, and where the next word
-    /// doesn't fit. A word is a run of clusters other than line ends and U+0020, and blanks at a line's
-    /// end are left out. Blanks at the beginning of the text or after a line end stay where the first word
-    /// fits after them; otherwise an empty line stands in their place. A word that is wider than the width
-    /// begins a line and is broken into pieces as wide as fit, of one cluster at least; what is left of it
-    /// is followed by further words. A text that ends with a line end has an empty line last. Width 0 is
-    /// as 1. Positions count bytes of the plain text, and are good ones, so that each line can be cut from
-    /// the text. Takes no memory. (First fit; own.)
+    /// - A line ends at a line end, which is a cluster `\n` or `\r\n` and is left out, and before a
+    ///   word that doesn't fit.
+    /// - A word is a run of clusters other than line ends and U+0020. Blanks at the end of a line
+    ///   are left out.
+    /// - Blanks at the beginning of the text or after a line end stay if the first word fits after
+    ///   them. Otherwise they become an empty line.
+    /// - A word wider than `width` begins a line and is broken into the longest pieces that fit,
+    ///   each of at least one cluster. Further words may follow its last piece on the same line.
+    /// - A text that ends with a line end has an empty last line.
+    /// - Width 0 is treated as 1.
+    ///
+    /// Positions count bytes of the plain text. They are good positions, so each line can be cut
+    /// from the text. Doesn't allocate. (First fit; own.)
     ///
     /// ```
     /// let mut lines = Lines::new("ab \x1b[1mcd  efg", 5);
@@ -79,9 +85,9 @@ impl<'t> Iterator for Lines<'t> {
     }
 }
 
-/// Where the line ends that begins at a walk, and where the one after it begins.
+/// The end of the line that begins at a walk, and the beginning of the next line.
 ///
-/// It is read up to the first cluster that doesn't fit.
+/// Reads the text up to the first cluster that doesn't fit.
 pub(crate) fn first_line(text: &str, start: Walk, width: usize) -> (Walk, Option<Walk>)
     requires { IsWalk text.now start }
     ensures end { IsWalk text.now result.0 }
@@ -91,10 +97,10 @@ pub(crate) fn first_line(text: &str, start: Walk, width: usize) -> (Walk, Option
     ensures lines { lines_left text.now width (Some start) ≡ (start.position, result.0.position) ∷ lines_left text.now width result.1 }
 {
     let mut here = start;
-    // Where the word begins that is read, and where the ones before it end.
+    // The beginning of the current word, and the end of the words before it.
     let mut word = start;
     let mut end_before = start;
-    // Where the words end that have been read.
+    // The end of the words read so far.
     let mut end = start;
     let mut columns = 0;
     'clusters: while let Some((next, more)) = here.next_cluster(text) {

@@ -1,4 +1,4 @@
-//! The link and the style that are open after a text, and what ends both.
+//! The link and the style open at the end of a text, and what closes both.
 ghost use Rattle.std.specs.Prelude.{◌≡◌, ◌++◌, Option, length, OnOk, IsTrue, IsFalse, ◌↔◌, [], string_bytes};
 ghost use Rattle.std.specs.Option.{option_map};
 ghost use Rattle.ansi_items.specs.Plain.{marks};
@@ -13,7 +13,7 @@ use ansi_style::state::Style;
 use ansi_style::styles;
 use memchr::memchr;
 
-/// What is open after a text: its style, and the sequence that opened its link, which is empty where no
+/// The style open at a place of a text, and the sequence that opened its link, which is empty if no
 /// link is open.
 #[derive(Clone, Copy)]
 pub(crate) struct Pen<'t> {
@@ -34,7 +34,7 @@ impl<'t> Pen<'t> {
     }
 }
 
-/// What is open before a text: nothing.
+/// The pen before a text: no style and no link is open.
 pub(crate) fn no_pen() -> Pen<'static>
     ensures style { rendition_of result.style ≡ plain_style }
     ensures link { result.link.now ≡ [] }
@@ -45,7 +45,7 @@ pub(crate) fn no_pen() -> Pen<'static>
     }
 }
 
-/// What is open after a text. Takes no memory.
+/// The pen after a text. Doesn't allocate.
 pub(crate) fn pen_after(text: &str) -> Pen<'_>
     ensures style { rendition_of result.style ≡ style_after text.now }
     ensures link { result.link.now ≡ link_of (marks text.now) }
@@ -53,7 +53,7 @@ pub(crate) fn pen_after(text: &str) -> Pen<'_>
     pen_after_from(no_pen(), text)
 }
 
-/// What is open after a text, where this is open before it. Takes no memory.
+/// The pen after a text, if `before` is the pen before it. Doesn't allocate.
 pub(crate) fn pen_after_from<'t>(before: Pen<'t>, text: &'t str) -> Pen<'t>
     ensures style { rendition_of result.style ≡ style_after_from (rendition_of before.entry.style) text.now }
     ensures link { result.link.now ≡ link_after_all before.entry.link.now (marks text.now) }
@@ -71,7 +71,7 @@ pub(crate) fn pen_after_from<'t>(before: Pen<'t>, text: &'t str) -> Pen<'t>
     Pen { style, link }
 }
 
-/// The link after a whole sequence, where this one is open before it.
+/// The link after a whole sequence, if `link` is open before it.
 pub(crate) fn link_after<'t>(link: &'t str, sequence: &'t str) -> &'t str
     ensures { result.now ≡ link_after link.now sequence.now }
 {
@@ -82,7 +82,7 @@ pub(crate) fn link_after<'t>(link: &'t str, sequence: &'t str) -> &'t str
     }
 }
 
-/// The address of a whole sequence, where that is a link sequence (OSC 8).
+/// The address of a whole sequence, or `None` if it is no link sequence (OSC 8).
 pub(crate) fn address_of(sequence: &[u8]) -> Option<&[u8]>
     ensures { option_map (λ a. a.now) result ≡ address_of sequence.now }
 {
@@ -95,7 +95,7 @@ pub(crate) fn address_of(sequence: &[u8]) -> Option<&[u8]>
     Some(&fields[parameters + 1..])
 }
 
-/// How many bytes end an operating system command.
+/// The length of the terminator of an operating system command, in bytes.
 pub(crate) fn terminator_len(sequence: &[u8]) -> usize
     ensures { result ≡ terminator_len sequence.now }
 {

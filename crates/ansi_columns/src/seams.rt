@@ -1,4 +1,5 @@
-//! Whether a cluster ends between two characters, as UAX #29 says, by what is kept of those before.
+//! Whether a cluster ends between two characters (UAX #29). The test uses a summary of the
+//! characters before.
 ghost use Rattle.std.specs.Prelude.{◌≡◌, ◌≢◌, ℕ, List, true, [], ◌∷◌};
 ghost use Rattle.std.specs.Int.{is_in_range};
 ghost use Rattle.unicode_segmentation.specs.Grapheme.{is_grapheme_break, break_by_pair, is_extend, is_zwj, is_regional, is_consonant};
@@ -10,23 +11,23 @@ use ucd_breaks::GraphemeClusterBreak::*;
 use ucd_derived::IndicConjunctBreak;
 use ucd_emoji::is_extended_pictographic;
 
-/// What stands before a place, as far as the rules look back at it.
+/// A summary of the characters before a place, as much as the rules look back at.
 #[derive(Clone, Copy)]
 pub(crate) struct Seam {
     /// The value of the last character.
     last: GraphemeClusterBreak,
-    /// Whether it ends in a linker, after which a consonant goes on (GB9c).
+    /// Whether they end in a linker that joins a following consonant (GB9c).
     is_linked: bool,
-    /// Whether it ends in a pictograph and what extends it.
+    /// Whether they end in a pictograph and the characters that extend it.
     is_pictograph: bool,
-    /// Whether it ends in a pictograph, what extends it, and a joiner (GB11).
+    /// Whether they end in a pictograph, the characters that extend it, and a joiner (GB11).
     is_joined: bool,
-    /// Whether it ends in an odd number of regional indicators (GB12 and GB13).
+    /// Whether they end in an odd number of regional indicators (GB12 and GB13).
     is_half_flag: bool,
 }
 
 impl Seam {
-    /// Nothing stands before.
+    /// The summary of no characters.
     pub(crate) fn start() -> Seam
         ensures { result ≡ seam_of [] }
     {
@@ -39,7 +40,7 @@ impl Seam {
         }
     }
 
-    /// What stands before the place after one more character.
+    /// The summary after one more character.
     #[inline]
     pub(crate) fn after(self, c: char) -> Seam
         ensures { (before : List ℕ) → self ≡ seam_of before → result ≡ seam_of (c ∷ before) }
@@ -57,7 +58,7 @@ impl Seam {
         }
     }
 
-    /// Whether a cluster ends before the next character, where one stands before it.
+    /// Whether a cluster ends before the next character. There has to be a character before it.
     #[inline]
     pub(crate) fn ends_before(self, next: char) -> bool
         ensures { (before after : List ℕ) → before ≢ [] → self ≡ seam_of before → result ≡ is_grapheme_break true before (next ∷ after) }
@@ -76,7 +77,7 @@ impl Seam {
     }
 }
 
-/// Whether the character is printable ASCII, which has no value of its own in any of the tables.
+/// Whether the character is printable ASCII, which none of the tables lists.
 #[inline]
 fn is_printable(c: char) -> bool
     ensures { result ≡ is_in_range 0x20 0x7E c }
@@ -84,7 +85,8 @@ fn is_printable(c: char) -> bool
     matches!(c, ' '..='~')
 }
 
-/// What the values of two neighbors say, where they decide (GB3 to GB9b).
+/// Whether the values of two neighbors alone require or forbid a break, or `None` if they don't
+/// decide (GB3 to GB9b).
 #[inline]
 fn break_by_pair(left: GraphemeClusterBreak, right: GraphemeClusterBreak) -> Option<bool>
     ensures { result ≡ break_by_pair true left right }
@@ -98,7 +100,7 @@ fn break_by_pair(left: GraphemeClusterBreak, right: GraphemeClusterBreak) -> Opt
     }
 }
 
-/// Whether a linker, and what extends it, ends with the character.
+/// Whether a linker and the characters that extend it end with this character.
 #[inline]
 fn links(c: char, is_linked: bool) -> bool
     ensures { result ≡ links (indic_conjunct_break c) is_linked }

@@ -1,4 +1,5 @@
-//! Texts that are cut or filled up to so many columns, to be shown: what is open at their end is ended.
+//! Truncated and padded texts, ready for display: the style and link still open at their end are
+//! closed.
 ghost use Rattle.std.specs.Prelude.{◌≡◌, ◌↔◌, ◌+◌, ◌≤◌, ◌++◌, [], length, if◌then◌else◌, IsTrue, IsOk, IfOk, OnOk, string_bytes};
 ghost use Rattle.std.specs.Cow.{cow_str_bytes, IsBorrowedStr};
 ghost use Rattle.ansi_items.specs.Plain.{plain};
@@ -15,29 +16,30 @@ use ansi_style::styles;
 use std::alloc::{AllocError, Allocator};
 use std::borrow::CowStr;
 
-/// What ends a link (OSC 8).
+/// The sequence that closes a link (OSC 8).
 pub(crate) const LINK_END: &str = "\u{1b}]8;;\u{1b}\\";
 
-/// What ends a link and a style has at most so many bytes, `longest_link_end` and `longest_close`.
+/// The greatest length of what closes a link and a style, in bytes: `longest_link_end` and
+/// `longest_close`.
 const LONGEST_CLOSING: usize = 95;
 
-/// Where a text stands among the blanks that fill it up to so many columns. (`console`.)
+/// The position of a text among the blanks that pad it. (`console`.)
 ///
 /// ```
 /// assert!(rt; "ab".ansi_pad(rt.alloc(), 5, Alignment::Center)?.as_str() == " ab  ");
 /// ```
 #[derive(Debug, Clone, Copy, PartialEq, Eq)]
 pub enum Alignment {
-    /// Before them.
+    /// The text comes before the blanks.
     Left,
-    /// Between them: of an odd number, one more stands after the text.
+    /// The text is between the blanks. If their number is odd, one more follows the text.
     Center,
-    /// After them.
+    /// The text comes after the blanks.
     Right,
 }
 
-/// As `AnsiColumns::ansi_truncate`, with an answer that lives as long as the text, and its memory taken
-/// from any allocator.
+/// Like `AnsiColumns::ansi_truncate`, with any allocator. The result may borrow from the text and
+/// lives as long as it.
 ///
 /// ```
 /// let cut = truncate(rt.alloc(), "\x1b[31m日本語\x1b[39m", 5, "…")?;
@@ -65,7 +67,7 @@ pub fn truncate<'t, A: Allocator>(
     Ok(CowStr::Owned(out))
 }
 
-/// Where the text stands up to, and the tail that is written after it.
+/// The offset at which the text is cut, and the tail that is written after it.
 fn truncation<'a>(text: &str, width: usize, tail: &'a str) -> (usize, &'a str)
     ensures end { StandsIn text.now (truncated_end text.now width tail.entry.now) result.0 }
     ensures tail { result.1.now ≡ (if has_tail text.now width tail.entry.now then tail.entry.now else []) }
@@ -81,15 +83,15 @@ fn truncation<'a>(text: &str, width: usize, tail: &'a str) -> (usize, &'a str)
     (fitting_front(text, width - tail_width).walk.offset, tail)
 }
 
-/// Whether nothing is open, and no text follows.
+/// Whether the pen has nothing to close, and the tail is empty.
 fn ends_here(pen: &Pen<'_>, tail: &str) -> bool
     ensures { IsTrue result ↔ ((link_end pen.now.link.now ++ close (rendition_of pen.now.style)) ++ tail.now ≡ []) }
 {
     tail.is_empty() && pen.link.is_empty() && !styles::has_close(&pen.style)
 }
 
-/// A text after so many blanks, with what ends its link and its style, in a text that has room for so many
-/// bytes more.
+/// `before` blanks, the text, and what closes the link and the style of the pen. The string has
+/// room for `more` further bytes.
 fn closed<A: Allocator>(
     alloc: A,
     before: usize,
@@ -110,8 +112,8 @@ fn closed<A: Allocator>(
     Ok(out)
 }
 
-/// As `AnsiColumns::ansi_pad`, with an answer that lives as long as the text, and its memory taken from
-/// any allocator.
+/// Like `AnsiColumns::ansi_pad`, with any allocator. The result may borrow from the text and lives
+/// as long as it.
 ///
 /// ```
 /// let padded = pad(rt.alloc(), "\x1b[31m日本", 6, Alignment::Right)?;
@@ -143,7 +145,7 @@ impl Alignment {
     ghost use Rattle.std.specs.Prelude.{◌≡◌, ◌≤◌};
     ghost use Rattle.ansi_columns.specs.Shown.{before_text};
 
-    /// How many of so many blanks stand before the text.
+    /// How many of the blanks come before the text.
     fn before_text(self, blanks: usize) -> usize
         ensures count { result ≡ before_text self blanks }
         ensures within { result ≤ blanks }
@@ -156,7 +158,7 @@ impl Alignment {
     }
 }
 
-/// Appends so many blanks. An `Err` means out of memory; what was appended up to there stands.
+/// Appends `count` blanks. `Err` means out of memory; what was appended before the error stays.
 fn push_blanks<A: Allocator>(out: &mut String<A>, count: usize) -> Result<(), AllocError>
     ensures { OnOk result (string_bytes out.new ≡ string_bytes out.old ++ blanks count) }
 {

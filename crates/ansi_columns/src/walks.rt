@@ -1,4 +1,4 @@
-//! A walk over the clusters of a plain text, and how wide each is.
+//! A walk over the clusters of a plain text, and the width of each cluster.
 ghost use Rattle.std.specs.Prelude.{◌≡◌, ◌+◌, ◌*◌, ◌-◌, ◌<◌, ◌≤◌, [], ◌∷◌, length, encode_utf8, chars, MatchOption};
 ghost use Rattle.ansi_search.specs.Offsets.{offset_of};
 ghost use Rattle.ansi_columns.specs.Columns.{cluster_width};
@@ -9,20 +9,20 @@ use crate::seams::Seam;
 use ansi_items::ansitok::{Kind, Scanner};
 use unicode_width::UnicodeWidthStr;
 
-/// How far a walk over the characters of a plain text has come.
+/// The state of a walk over the characters of a plain text.
 #[derive(Clone, Copy)]
 pub(crate) struct Walk {
-    /// How many plain bytes stand before it.
+    /// The number of plain bytes before the next character.
     pub(crate) position: usize,
-    /// Where the next character stands in the text, or the length of the text.
+    /// The offset of the next character in the text, or the length of the text.
     pub(crate) offset: usize,
-    /// Up to where at least plain bytes alone follow there.
+    /// An offset up to which only plain bytes follow. The run may go on after it.
     run_end: usize,
     seam: Seam,
 }
 
 impl Walk {
-    /// A walk that stands before the first character.
+    /// The walk before the first character.
     pub(crate) fn start(text: &str) -> Walk
         ensures walk { IsWalk text.now result }
         ensures position { result.position ≡ 0 }
@@ -36,7 +36,8 @@ impl Walk {
         }
     }
 
-    /// The walk after the next cluster, and the columns of that, or `None` where nothing is left.
+    /// The walk after the next cluster, and the columns of that cluster. `None` at the end of the
+    /// text.
     pub(crate) fn next_cluster(self, text: &str) -> Option<(Walk, usize)>
         requires { IsWalk text.now self }
         ensures { MatchOption result (after text.now self.position ≡ []) (λ (walk, width). IsWalk text.now walk
@@ -57,7 +58,7 @@ impl Walk {
         Some((walk, width))
     }
 
-    /// The columns of the characters from here up to a later walk, as one cluster.
+    /// The columns of the characters between this walk and a later one, taken as one cluster.
     fn width_up_to(self, text: &str, walk: &Walk) -> usize
         requires here { IsWalk text.now self }
         requires later { IsWalk text.now walk.now }
@@ -73,7 +74,7 @@ impl Walk {
         }
     }
 
-    /// The character that stands next.
+    /// The next character.
     #[inline]
     pub(crate) fn next_char(self, text: &str) -> Option<char>
         requires { IsWalk text.now self }
@@ -82,7 +83,7 @@ impl Walk {
         text[self.offset..self.run_end].chars().next()
     }
 
-    /// The walk after the character that stands next.
+    /// The walk after the next character.
     #[inline]
     pub(crate) fn past(self, text: &str, next: char) -> Walk
         requires walk { IsWalk text.now self }
@@ -109,7 +110,7 @@ impl Walk {
     }
 }
 
-/// The columns of a run of plain bytes, as one cluster.
+/// The columns of a run of plain bytes, taken as one cluster.
 #[inline]
 fn run_width(run: &str) -> usize
     ensures value { result ≡ cluster_width (chars run.now) }
@@ -122,7 +123,7 @@ fn run_width(run: &str) -> usize
     run.width()
 }
 
-/// Where the first run of a text begins and ends, or its length twice where it has none.
+/// The start and the end of the first run of a text. Both are its length if it has no run.
 pub(crate) fn first_run(text: &str) -> (usize, usize)
     ensures start { result.0 ≡ offset_of text.now 0 }
     ensures run { IsRun text.now result.0 result.1 }

@@ -1,4 +1,5 @@
-//! The lines of a wrapped text as they are shown: each begins with what is open before it, and ends that.
+//! The lines of a wrapped text, ready for display. Each line opens the style and link carried into
+//! it, and closes them.
 ghost use Rattle.std.specs.Prelude.{◌≡◌, IsTrue, IsFalse};
 ghost use Rattle.std.specs.List.{list_all};
 ghost use Rattle.ansi_items.specs.Plain.{has_escape};
@@ -11,11 +12,11 @@ use std::alloc::{AllocError, Allocator, Global};
 use std::borrow::CowStr;
 use std::marker::Model;
 
-/// The lines of a wrapped text, in order: the iterator that `AnsiColumns::ansi_wrap` makes.
+/// The lines of a wrapped text, in order: the iterator that `AnsiColumns::ansi_wrap` returns.
 ///
-/// A line with no sequence is a borrow where nothing is carried into it or it is empty. Any other line is
-/// owned. An `Err` means out of memory; after it, as after the last line, there is nothing but `None`. A
-/// line lives as long as the text, and may outlive the iterator. (Own.)
+/// A line with no sequence is a borrow if it is empty or nothing is carried into it. Any other line
+/// is owned. `Err` means out of memory. After an `Err`, as after the last line, `next` always
+/// returns `None`. A line lives as long as the text and may outlive the iterator. (Own.)
 ///
 /// ```
 /// let mut lines = String::new(rt.alloc());
@@ -40,8 +41,8 @@ impl<'t, A: Allocator> Model for AnsiWrap<'t, A> {
     ghost view = { λ s. s.spans };
 }
 
-/// As `AnsiColumns::ansi_wrap`, with lines that live as long as the text, and their memory taken from any
-/// allocator.
+/// Like `AnsiColumns::ansi_wrap`, with any allocator. The lines may borrow from the text and live
+/// as long as it.
 ///
 /// ```
 /// let first = wrap(rt.alloc(), "\x1b[1mlion tiger", 5).next();
@@ -65,7 +66,7 @@ impl<'t, A: Allocator + Copy> Iterator for AnsiWrap<'t, A> {
 
     ghost remaining = { item_count (λ s. s) };
 
-    /// The next line, or `None` after the last one and after an `Err`, then and ever after.
+    /// The next line. `None` after the last line and after an `Err`, then and ever after.
     fn next(&mut self) -> Option<Result<CowStr<'t, A>, AllocError>> {
         let span = self.spans.next()?;
         match span.write(self.alloc) {

@@ -1,4 +1,4 @@
--- The lines of a text without ESC: they have no more bytes than it, and are at most one more than it has bytes.
+-- The lines of a text without ESC: they have at most as many bytes as the text, and there is at most one line more than the text has bytes.
 use Rattle.std.proofs.Common.{◌≡◌, ◌∙◌, ℕ, ◌+◌, ◌-◌, ◌<◌, ◌≤◌, max, ◌||◌, ◌==◌, nat_le, ◌&&◌, Bool, true, false, inl, inr, List, [], ◌∷◌, ◌++◌, length, drop, map, slice_range, Some, None, Option, Result, Ok, Err, encode_utf8_all, if◌then◌else◌, refl, ap, arith, append-nil, length-append, IsFalse}
 use Rattle.std.specs.Prelude.{flat_map}
 use Rattle.std.specs.Str.{chars, IsUtf8}

@@ -1,4 +1,4 @@
-//! Answers that tell the columns of a text, or give it cut or filled up to be shown.
+//! Calls that return the display width of a text, or truncate or pad it for display.
 ghost use Rattle.std.specs.Prelude.{◌≡◌, MatchResult};
 ghost use Rattle.std.specs.Cow.{cow_str_bytes};
 ghost use Rattle.ansi_items.specs.Plain.{plain};
@@ -17,21 +17,21 @@ const CENTER: u32 = 1;
 
 const RIGHT: u32 = 2;
 
-/// Tells the columns of the plain text.
+/// Returns the display width of the plain text, in columns.
 pub fn width(text: &str) -> Answer
     ensures { TellsWidth (plain text.now) result }
 {
     Answer::done(columns::width(text))
 }
 
-/// Tells up to which position the plain text fits into so many columns.
+/// Returns the position up to which the plain text fits into `width` columns.
 pub fn fitting(text: &str, width: usize) -> Answer
     ensures { TellsFitting (plain text.now) width result }
 {
     Answer::done(columns::fitting(text, width))
 }
 
-/// Writes the text cut to so many columns.
+/// Writes the text truncated to `width` columns.
 #[tactic(auto, unfolding(crate::specs::Columns::GivesTruncated))]
 pub fn truncate<A: Allocator>(
     alloc: A,
@@ -45,7 +45,7 @@ pub fn truncate<A: Allocator>(
     write_shown(shown::truncate(alloc, text, width, tail), buffer)
 }
 
-/// Writes the text filled up to so many columns, or answers that there is no such alignment.
+/// Writes the text padded to `width` columns. The call is refused if there is no such alignment.
 #[tactic(auto, unfolding(crate::specs::Columns::GivesPadded))]
 pub fn pad<A: Allocator>(
     alloc: A,
@@ -62,7 +62,7 @@ pub fn pad<A: Allocator>(
     }
 }
 
-/// The alignment of a number, or `None` where there is none.
+/// The alignment with this number, or `None` if there is none.
 fn alignment_of(number: u32) -> Option<Alignment>
     ensures { result ≡ alignment_of number }
 {
@@ -74,7 +74,7 @@ fn alignment_of(number: u32) -> Option<Alignment>
     }
 }
 
-/// Writes a text that is cut or filled up, or answers that memory has run out.
+/// Writes a truncated or padded text, or reports out of memory.
 fn write_shown<A: Allocator>(shown: Result<CowStr<'_, A>, AllocError>, buffer: &mut [u8]) -> Answer
     ensures { MatchResult shown.entry
         (λ text. IsWritten (cow_str_bytes text) result buffer.old buffer.new)

@@ -1,4 +1,5 @@
-//! What a call on columns of the library for C answers, and how it writes that, as `ansi_answers` has the other calls.
+//! The results of the calls on columns of the library for C, and how they are written.
+//! `ansi_answers` has the other calls.
 #![tactic(auto)]
 
 pub mod columns;

@@ -1,4 +1,4 @@
-//! The lines of a wrapped text, one after the other, and where each ends.
+//! The lines of a wrapped text, concatenated, and where each ends.
 ghost use Rattle.std.specs.Prelude.{◌≡◌, ◌⊎◌, ◌<◌, ◌≤◌, length, flat_map, IsFalse, IfNone, IfSome, IfOk, string_bytes};
 ghost use Rattle.ansi_items.specs.Plain.{has_escape};
 ghost use Rattle.ansi_answers.specs.Lists.{ends_from, AreCopied, AreWritten};
@@ -11,7 +11,7 @@ use ansi_columns::wrap::wrap as wrapped;
 use ansi_str::AnsiStr;
 use std::alloc::{AllocError, Allocator};
 
-/// Writes the lines of a text at a width as they are shown, and where each ends.
+/// Writes the lines of a text wrapped at `width` columns, ready for display, and where each ends.
 #[tactic(auto, unfolding(crate::specs::Columns::GivesWrapped))]
 pub fn wrap<A: Allocator + Copy>(
     alloc: A,
@@ -28,7 +28,7 @@ pub fn wrap<A: Allocator + Copy>(
     write_joined(join_lines(alloc, text, width), buffer, ends)
 }
 
-/// The lines of a text one after the other, and where each ends.
+/// The lines of a text, concatenated, and where each ends.
 fn join_lines<A: Allocator + Copy>(
     alloc: A,
     text: &str,
@@ -40,8 +40,8 @@ fn join_lines<A: Allocator + Copy>(
     join_texts(alloc, text.len(), wrapped(alloc, text, width))
 }
 
-/// Writes the lines of a text without ESC, and where each ends, where there is room for all of them. Takes
-/// no memory.
+/// Writes the lines of a text without ESC, and where each ends, if there is room for all of them.
+/// Doesn't allocate.
 fn write_bare_lines<A: Allocator + Copy>(
     alloc: A,
     text: &str,
@@ -67,8 +67,8 @@ fn write_bare_lines<A: Allocator + Copy>(
     }
 }
 
-/// How many lines a text without ESC has and their length together, where there is no room for so many bytes
-/// or so many ends. They are counted only where there might be none.
+/// The number of lines of a text without ESC and their total length, if they don't fit into `bytes`
+/// bytes or `ends` ends. `None` if they fit. The lines are counted only if they might not fit.
 fn lines_without_room<A: Allocator + Copy>(
     alloc: A,
     text: &str,
@@ -93,8 +93,8 @@ fn lines_without_room<A: Allocator + Copy>(
     }
 }
 
-/// Writes the lines of a text without ESC, and where each ends, as far as there is room, and gives how many
-/// they are and their length together.
+/// Writes the lines of a text without ESC, and where each ends, as far as there is room. Returns
+/// their number and their total length.
 fn copy_bare_lines<A: Allocator + Copy>(
     alloc: A,
     text: &str,

@@ -1,9 +1,10 @@
-//! Makes the call of each row of its standard input, and tells of each row whose call answers otherwise than
-//! the row says. At the end it tells how many rows passed.
+//! Makes the call of each row of its standard input, and reports each row whose call returns
+//! something else than the row says. At the end it reports how many rows passed.
 //!
-//! A row is a line of fields between TABs: the call, the text, what else the call takes, between blanks, and the
-//! answer. What follows is a note. `\e` stands for ESC, `\a` for BEL, `\n`, `\r` and `\t` for a line's end and a TAB, `\\` for `\`.
-//! A line that is empty or begins with `#` is none.
+//! A row is a line of fields separated by TABs: the call, the text, the other arguments separated
+//! by blanks, and the result. A note may follow. `\e` is ESC, `\a` is BEL, `\n`, `\r` and `\t` are
+//! a line feed, a carriage return and a TAB, and `\\` is `\`. An empty line and a line that begins
+//! with `#` are skipped.
 #![tactic(auto)]
 
 use ansi_columns::AnsiColumns;
@@ -14,7 +15,8 @@ use std::alloc::{AllocError, Global};
 use std::borrow::CowStr;
 use std::io;
 
-/// The front of a text that fits into so many columns. Where it ends is a good position, so it can be cut there.
+/// The longest prefix of a text that fits into `width` columns. Its end is a good position, so the
+/// text can be cut there.
 fn fitting_front<'t>(
     alloc: Global,
     text: &'t &str,
@@ -23,7 +25,7 @@ fn fitting_front<'t>(
     text.ansi_cut(alloc, ..text.ansi_fitting(width))
 }
 
-/// Where each line of a wrapped text begins and ends, between blanks.
+/// The beginning and the end of each line of a wrapped text, separated by blanks.
 fn places(alloc: Global, text: &str, width: usize) -> Result<String, AllocError> {
     let mut places = String::new(alloc);
     for (start, end) in Lines::new(text, width) {
@@ -35,7 +37,7 @@ fn places(alloc: Global, text: &str, width: usize) -> Result<String, AllocError>
     Ok(places)
 }
 
-/// The lines of a wrapped text, each in brackets, between blanks.
+/// The lines of a wrapped text, each in brackets, separated by blanks.
 fn wrapped(alloc: Global, text: &str, width: usize) -> Result<String, AllocError> {
     let mut lines = String::new(alloc);
     for line in text.ansi_wrap(alloc, width) {
@@ -49,7 +51,7 @@ fn wrapped(alloc: Global, text: &str, width: usize) -> Result<String, AllocError
     Ok(lines)
 }
 
-/// A field with each of its escapes as the character that it stands for.
+/// A field with each escape replaced by its character.
 fn unescaped(alloc: Global, field: &str) -> Result<String, AllocError> {
     let mut text = String::new(alloc);
     let mut is_escape = false;
@@ -71,7 +73,7 @@ fn unescaped(alloc: Global, field: &str) -> Result<String, AllocError> {
     Ok(text)
 }
 
-/// A width and the word after it, where `""` stands for an empty one.
+/// A width and the word after it. `""` is an empty word.
 fn width_and_word(argument: &str) -> Option<(usize, &str)> {
     let (width, word) = argument.split_once(' ')?;
     let word = if word == "\"\"" { "" } else { word };
@@ -87,7 +89,7 @@ fn alignment_of(word: &str) -> Option<Alignment> {
     }
 }
 
-/// A text cut as the argument says.
+/// A text truncated as the argument says.
 fn truncated(alloc: Global, text: &str, argument: &str) -> Result<Option<String>, AllocError> {
     let Some((width, tail)) = width_and_word(argument) else {
         return Ok(None);
@@ -96,7 +98,7 @@ fn truncated(alloc: Global, text: &str, argument: &str) -> Result<Option<String>
     Ok(Some(String::from_str(alloc, cut.as_str())?))
 }
 
-/// A text filled up as the argument says.
+/// A text padded as the argument says.
 fn padded(alloc: Global, text: &str, argument: &str) -> Result<Option<String>, AllocError> {
     let Some((width, word)) = width_and_word(argument) else {
         return Ok(None);
@@ -108,7 +110,7 @@ fn padded(alloc: Global, text: &str, argument: &str) -> Result<Option<String>, A
     Ok(Some(String::from_str(alloc, padded.as_str())?))
 }
 
-/// What the call of a row answers, or `None` where there is no such call.
+/// What the call of a row returns, or `None` if there is no such call.
 fn answered(
     alloc: Global,
     call: &str,
@@ -146,7 +148,7 @@ fn answered(
     }
 }
 
-/// Whether the call of a row answers what the row says.
+/// Whether the call of a row returns what the row says.
 fn passes(alloc: Global, line: &str) -> Result<bool, AllocError> {
     let mut fields = line.split('\t');
     let (Some(call), Some(text), Some(argument), Some(answer)) = (

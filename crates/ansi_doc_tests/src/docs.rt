@@ -1,4 +1,4 @@
-//! The examples of the docs, each in the same words, as `docs/check-quotes` sees to.
+//! The examples of the docs, copied word for word. `docs/check-quotes` compares them.
 mod blocks;
 mod calls;
 mod colors;

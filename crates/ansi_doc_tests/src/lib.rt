@@ -1,4 +1,4 @@
-//! As tests, the examples of the docs of `ansi_str` and of `ansi_columns`.
+//! The examples of the docs of `ansi_str` and of `ansi_columns`, as tests.
 #![tactic(auto)]
 
 #[cfg(test)]

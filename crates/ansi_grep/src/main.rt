@@ -1,9 +1,8 @@
-//! Prints the lines of a log that have a text in them, each after its number, with the text marked wherever it
-//! stands.
+//! Prints the lines of a log that contain a text, each after its number, with every match marked.
 //!
-//! The first word after the program's name is the text. It is found as if the log had no colors, so also where a
-//! color begins or ends inside it. As with `grep`, the status is 0 where a line has it, 1 where none has, and 2
-//! after an error.
+//! The first argument is the text. It is searched as if the log had no colors, so it is found even
+//! if a color begins or ends inside it. As with `grep`, the status is 0 if a line matches, 1 if
+//! none does, and 2 after an error.
 #![tactic(auto)]
 
 use ansi_str::ansitok::{Kind, Scanner};
@@ -13,11 +12,11 @@ use std::alloc::{AllocError, Global};
 use std::process::ExitCode;
 use std::{env, iter};
 
-// The line with each match of the pattern marked: inverse in text that isn't, and not inverse in text that is. All
-// sequences stay as they are, and a mark ends before each.
+// The line with each match of the pattern marked: inverse, or not inverse in text that is inverse
+// already. All sequences stay, and a mark is closed before each.
 fn marked(alloc: Global, line: &str, pattern: &str) -> Result<String, AllocError> {
     let plain = line.ansi_strip(alloc)?;
-    // for each character of the plain text, whether it stands in a match
+    // for each character of the plain text, whether it is in a match
     let mut matched = plain.as_str().split(pattern).flat_map(|part| {
         let unmatched = iter::repeat_n(false, part.chars().count());
         unmatched.chain(iter::repeat_n(true, pattern.chars().count()))
@@ -49,7 +48,7 @@ fn marked(alloc: Global, line: &str, pattern: &str) -> Result<String, AllocError
     Ok(shown)
 }
 
-// Prints the lines that have the text. Gives whether there are any.
+// Prints the lines that contain the text. Returns whether there are any.
 fn print_found(rt: &HostRuntime) -> anyhow::Result<bool> {
     let alloc = rt.alloc();
     let pattern = env::args(rt)?.nth(1).context("no text to find is given")?;

@@ -1,7 +1,7 @@
 //! Prints a progress line for each line `NAME DONE TOTAL` of its input, in the styles of a sample.
 //!
-//! The first word after the program's name is the sample, as `\e[32m#\e[90m-`: what stands for a step that is
-//! done, and in another style what stands for one that is left.
+//! The first argument is the sample, such as `\e[32m#\e[90m-`: the text for a step that is done,
+//! and then, in another style, the text for a step that is left.
 #![tactic(auto)]
 
 ghost use Rattle.std.specs.Prelude.{◌≤◌};
@@ -14,7 +14,7 @@ use std::env;
 
 const STEPS: u32 = 20;
 
-// Names end at this column.
+// The column at which names end.
 const NAME_COLUMNS: usize = 8;
 
 #[derive(Drop)]
@@ -33,7 +33,7 @@ impl<'t> Task<'t> {
         Some(Task { name, done, total })
     }
 
-    // How many of so many parts of the task are done. A task of no steps is done.
+    // How many of `parts` parts of the task are done. A task without steps is done.
     fn done_of(&self, parts: u32) -> u32
         ensures { result ≤ parts }
     {
@@ -44,7 +44,7 @@ impl<'t> Task<'t> {
     }
 }
 
-// So many steps, in the style of the sample.
+// `count` steps, in the style of the sample.
 fn steps_of(alloc: Global, sample: &AnsiBlock<'_>, count: u32) -> Result<String, AllocError> {
     let style = sample.style();
     let steps = sample.text().repeat(alloc, count as usize)?;

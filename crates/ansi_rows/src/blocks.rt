@@ -1,4 +1,4 @@
-//! What blocks and their styles say.
+//! The results of calls on blocks and their styles.
 use crate::calls::BlockCall;
 use crate::said::Trial;
 use ansi_str::{AnsiBlock, AnsiBlockIter, Color, Style, get_blocks};
@@ -8,7 +8,7 @@ use std::cmp::Ordering;
 
 type Heap = Refusing<Global>;
 
-/// A color as rows have it: a kind, a number, and red, green and blue.
+/// A color in the form of the rows: a kind, a number, and red, green and blue.
 fn color_text(alloc: Global, color: Option<Color>) -> Result<String, AllocError> {
     let kind = match color {
         None => 0,
@@ -38,7 +38,7 @@ fn color_text(alloc: Global, color: Option<Color>) -> Result<String, AllocError>
     format!(in alloc; "{kind},0,0,0,0")
 }
 
-/// The ten attributes that callers ask for, one bit each.
+/// The ten attributes that callers can test, one bit each.
 fn attributes(style: &Style) -> u32 {
     let are_set = [
         style.is_bold(),
@@ -66,7 +66,7 @@ fn say_style(trial: &mut Trial<'_>, style: &Style) {
     trial.written(color_text(alloc, style.background()));
 }
 
-/// A clone is the same block, and takes no memory where that is a borrow, and only there.
+/// Checks that a clone equals the block, and that it allocates exactly if the block isn't a borrow.
 fn say_clone(trial: &mut Trial<'_>, heap: &Heap, block: &AnsiBlock<'_, &Heap>, is_borrow: bool) {
     let before = heap.requests();
     match block.clone() {
@@ -79,7 +79,7 @@ fn say_clone(trial: &mut Trial<'_>, heap: &Heap, block: &AnsiBlock<'_, &Heap>, i
     }
 }
 
-/// A block, which is as it was where its clone is refused.
+/// Checks a block, after an attempt to clone it that may be refused.
 fn say_block(trial: &mut Trial<'_>, heap: &Heap, block: &AnsiBlock<'_, &Heap>, is_borrow: bool) {
     say_clone(trial, heap, block, is_borrow);
     trial.borrow(is_borrow);
@@ -90,7 +90,8 @@ fn say_block(trial: &mut Trial<'_>, heap: &Heap, block: &AnsiBlock<'_, &Heap>, i
     }
 }
 
-/// The next block with its clone, which is a borrow where it takes no memory. Gives whether there was one, and no `Err`.
+/// Checks the next block and its clone. A block that `next` didn't allocate for counts as a borrow.
+/// Returns whether there was a block; an `Err` counts as none.
 fn say_next(trial: &mut Trial<'_>, heap: &Heap, blocks: &mut AnsiBlockIter<'_, &Heap>) -> bool {
     let before = heap.requests();
     match blocks.next() {
@@ -115,7 +116,7 @@ fn expect_end(trial: &mut Trial<'_>, blocks: &mut AnsiBlockIter<'_, &Heap>) {
     }
 }
 
-/// All blocks, or how many there are. After an `Err`, and after the last one, there are none.
+/// Checks all blocks, or their number. After an `Err`, and after the last block, no block follows.
 pub fn say_blocks(trial: &mut Trial<'_>, heap: &Heap) {
     let mut blocks = get_blocks(heap, trial.row.text);
     let mut count = 0usize;
@@ -129,7 +130,7 @@ pub fn say_blocks(trial: &mut Trial<'_>, heap: &Heap) {
     trial.count(count);
 }
 
-/// Each block between what sets its style and what ends that.
+/// Checks each block between the sequences that set its style and those that reset it.
 pub fn say_styled_blocks(trial: &mut Trial<'_>) {
     for block in get_blocks(trial.alloc, trial.row.text) {
         match block {
@@ -143,7 +144,7 @@ pub fn say_styled_blocks(trial: &mut Trial<'_>) {
     }
 }
 
-/// How the style of one block compares with that of another.
+/// The result of comparing the style of one block with that of another.
 fn order_text(style: &Style, other: &Style) -> &'static str {
     let order = style.cmp(other);
     if style.partial_cmp(other) != Some(order) || (style == other) != (order == Ordering::Equal) {
@@ -156,7 +157,7 @@ fn order_text(style: &Style, other: &Style) -> &'static str {
     }
 }
 
-/// What is asked of a block.
+/// Checks the property of a block that the row names.
 fn say_of_block(trial: &mut Trial<'_>, block: &AnsiBlock<'_>, asked: BlockCall<'_>) {
     let alloc = trial.alloc;
     match asked {
@@ -170,7 +171,7 @@ fn say_of_block(trial: &mut Trial<'_>, block: &AnsiBlock<'_>, asked: BlockCall<'
     }
 }
 
-/// The same of the block of an index.
+/// The same for the block at an index.
 pub fn say_block_at(trial: &mut Trial<'_>, index: usize, asked: BlockCall<'_>) {
     match get_blocks(trial.alloc, trial.row.text).nth(index) {
         Some(Ok(block)) => say_of_block(trial, &block, asked),

@@ -3,13 +3,13 @@ use crate::ranges::AnyRange;
 use crate::rows::Row;
 use ansi_str::Edit;
 
-/// What is asked of the block of an index.
+/// The property of the block at an index that a row names.
 #[derive(Clone, Copy)]
 pub enum BlockCall<'r> {
     Text,
     Start,
     End,
-    /// How its style compares with that of the first block of another text.
+    /// The comparison of its style with that of the first block of another text.
     Order(&'r str),
 }
 
@@ -22,7 +22,7 @@ pub enum Call<'r> {
     Get(AnyRange),
     Cut(AnyRange),
     SplitAt(usize),
-    /// All parts, or how many there are.
+    /// All parts, or their number.
     Split(&'r str),
     Find(&'r str),
     StartsWith(&'r str),
@@ -33,7 +33,7 @@ pub enum Call<'r> {
     Part(&'r str, usize),
     Edit(Edit<'r>),
     Edits(&'r [Edit<'r>]),
-    /// All blocks, or how many there are.
+    /// All blocks, or their number.
     Blocks,
     StyledBlocks,
     Block(usize, BlockCall<'r>),
@@ -42,7 +42,7 @@ pub enum Call<'r> {
 }
 
 impl<'r> Call<'r> {
-    /// Whether it is a call of `AnsiStr`.
+    /// Whether the call is a method of `AnsiStr`.
     pub fn is_of_trait(&self) -> bool {
         !matches!(
             self,
@@ -57,7 +57,7 @@ impl<'r> Call<'r> {
         )
     }
 
-    /// The call of a row, but for `cut` and `edit`.
+    /// The call of a row, except `cut` and `edit`.
     pub fn new(row: &Row<'r>) -> Option<Self> {
         Some(match row.call {
             "strip" => Call::Strip,

@@ -1,4 +1,4 @@
-//! What a scanner says.
+//! The results of a scanner.
 use crate::said::Trial;
 use ansi_str::ansitok::{Item, Kind, Scanner};
 
@@ -14,7 +14,7 @@ fn say_item(trial: &mut Trial<'_>, item: &Item) {
     trial.written(format!(in trial.alloc; "{kind} {len}"));
 }
 
-/// The items of a text, one after the other, after which there are none.
+/// Checks the items of a text in order, and that no item follows the last one.
 pub fn say_items(trial: &mut Trial<'_>) {
     let text = trial.row.text;
     let mut scanner = Scanner::new(text);
@@ -35,7 +35,7 @@ pub fn say_items(trial: &mut Trial<'_>) {
     if scanner.next().is_some() || scanner.next().is_some() {
         trial.refute("an item after the end");
     }
-    // from as many looks as the text has bytes up to four times as many
+    // at least as many looks as the text has bytes, and at most four times as many
     let (looks, len) = (scanner.reads(), text.len() as u128);
     if looks < len || looks > 4 * len {
         trial.refute("too few or too many looks");

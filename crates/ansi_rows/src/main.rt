@@ -1,7 +1,8 @@
-//! Makes the call of each row of its standard input, and tells of each row whose call answers otherwise than
-//! the row says. At the end it tells how many rows of each call passed.
+//! Makes the call of each row of its standard input, and reports each row whose call returns
+//! something else than the row says. At the end it reports how many rows of each call passed.
 //!
-//! A row is a line. A line that is empty or begins with `#` is none. `rows` says what a row has.
+//! A row is a line. An empty line and a line that begins with `#` are skipped. The module `rows`
+//! documents the fields of a row.
 #![tactic(auto)]
 
 mod blocks;
@@ -38,7 +39,7 @@ impl Tally {
     }
 }
 
-/// A fault of the row, if there is one. A row that no caller in Rattle can ask for has none, and isn't counted.
+/// The first difference between the row and its call, or `None` if there is none.
 fn fault_of_row(alloc: Global, row: Row<'_>) -> Option<String> {
     let mut trial = Trial::new(alloc, row);
     if try_row(&mut trial).is_none() {

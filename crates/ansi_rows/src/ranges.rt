@@ -1,4 +1,4 @@
-//! Ranges of the six types that calls take.
+//! Ranges of the six types that calls accept.
 ghost use Rattle.std.specs.Prelude.{IsTrue};
 ghost use Rattle.ansi_str.specs.Plain.{plain};
 ghost use Rattle.ansi_str.specs.Positions.{is_good_range};
@@ -20,7 +20,7 @@ pub enum AnyRange {
 
 use AnyRange::{Range, RangeFrom, RangeFull, RangeInclusive, RangeTo, RangeToInclusive};
 
-/// Every range from a start to an end. An end of `usize::MAX` is none.
+/// Every range with this start and end. An end of `usize::MAX` means no end.
 pub fn ranges_of(start: usize, end: usize) -> [Option<AnyRange>; 8] {
     let is_from_zero = start == 0;
     let is_endless = end == usize::MAX;
@@ -39,7 +39,7 @@ pub fn ranges_of(start: usize, end: usize) -> [Option<AnyRange>; 8] {
 }
 
 impl AnyRange {
-    /// Where the range starts, and its end if it has one.
+    /// The start of the range, and its end if it has one.
     pub fn ends(self) -> (usize, Option<usize>) {
         match self {
             Range(start, end) => (start, Some(end)),
@@ -51,7 +51,7 @@ impl AnyRange {
         }
     }
 
-    /// Says what `ansi_get` or `ansi_cut` answers at the range's own type.
+    /// Checks what `ansi_get` or `ansi_cut` returns for the range as its own type.
     pub fn say<T: AnsiStr>(self, trial: &mut Trial<'_>, text: &T, is_cut: bool) {
         match self {
             Range(a, b) => say_range(trial, text, a..b, is_cut),

@@ -1,23 +1,24 @@
-//! What a row has: fields between TABs. `\xHH` is the byte HH, and `\{N:TEXT}` is TEXT N times.
+//! The fields of a row, separated by TABs. `\xHH` is the byte HH, and `\{N:TEXT}` is TEXT repeated
+//! N times.
 //!
-//! The fields are: the memory, the call, the status, the answer, the text, and what else the call takes. After these
-//! a row of `split`, `split_at`, `blocks`, `styled_blocks` and `items` has each text that the call gives, and the answer is how many
-//! there are.
+//! The fields are the memory, the call, the status, the result, the text, and the other arguments
+//! of the call. For `split`, `split_at`, `blocks`, `styled_blocks` and `items` the texts that the
+//! call returns follow, and the result is their number.
 //!
-//! - The memory is `+` where the call takes memory and `-` where it takes none, and then for each text that it gives a `b`
-//!   where that is a borrow and an `o` where not.
-//! - The status is 0; 1 where there is no such thing; 2 where a position or an edit is refused; 3 where a text isn't UTF-8,
-//!   so that no caller in Rattle can ask for it.
-//! - The answer is a text or a number.
+//! - The memory is `+` if the call allocates and `-` if it doesn't. Then it has a letter for each
+//!   text that the call returns: `b` for a borrow and `o` for an owned text.
+//! - The status is 0 for success; 1 if what was asked for doesn't exist; 2 if a position or an edit
+//!   is refused; 3 if a text isn't UTF-8, so that no caller in Rattle can make the call.
+//! - The result is a text or a number.
 use std::alloc::Global;
 
-/// What a line has.
+/// The contents of a line.
 #[derive(Drop)]
 pub enum Line {
     Fields(Vec<String>),
     /// A field isn't UTF-8.
     NotUtf8,
-    /// An escape is malformed, or memory has run out.
+    /// An escape is malformed, or the program is out of memory.
     Unread,
 }
 
@@ -30,7 +31,7 @@ fn push_repeated(expanded: &mut String, piece: &str) -> Option<()> {
     expanded.push_str(after).ok()
 }
 
-/// The line with each `\{N:TEXT}` written out.
+/// The line with each `\{N:TEXT}` expanded.
 fn expanded(alloc: Global, line: &str) -> Option<String> {
     let mut pieces = line.split("\\{");
     let mut expanded = String::from_str(alloc, pieces.next()?).ok()?;
@@ -46,7 +47,7 @@ fn push_byte(bytes: &mut Vec<u8>, piece: &str) -> Option<()> {
     bytes.extend_from_slice(after.as_bytes()).ok()
 }
 
-/// A field with each `\xHH` as the byte HH.
+/// A field with each `\xHH` replaced by the byte HH.
 fn bytes_of(alloc: Global, field: &str) -> Option<Vec<u8>> {
     let mut pieces = field.split("\\x");
     let mut bytes = Vec::from_slice(alloc, pieces.next()?.as_bytes()).ok()?;
@@ -81,21 +82,21 @@ impl Line {
 #[derive(Clone, Copy)]
 pub struct Row<'r> {
     pub takes_memory: bool,
-    /// A `b` or an `o` for each text that the call gives.
+    /// A `b` or an `o` for each text that the call returns.
     pub borrows: &'r str,
     pub call: &'r str,
-    /// Whether the answer is how many texts the call gives, and the row has none of them.
+    /// Whether the result is the number of texts, and the row doesn't list them.
     pub is_count: bool,
     pub status: &'r str,
     pub text: &'r str,
-    /// What the call takes beside its text, and what may follow that.
+    /// The arguments of the call after the text, and the fields after those.
     pub more: &'r [String],
-    /// What it gives.
+    /// The results of the call.
     pub gives: &'r [String],
 }
 
 impl<'r> Row<'r> {
-    /// The row that has the fields, if they are those of one.
+    /// The row with these fields, or `None` if they don't form a row.
     pub fn new(fields: &'r [String]) -> Option<Self> {
         let [memory, call, status, answer, text, more @ ..] = fields else {
             return None;
@@ -118,12 +119,12 @@ impl<'r> Row<'r> {
         })
     }
 
-    /// What the call takes beside its text, by its place.
+    /// The argument after the text at this index.
     pub fn argument(&self, place: usize) -> Option<&'r str> {
         Some(self.more.get(place)?.as_str())
     }
 
-    /// The same where it is a number.
+    /// The same argument as a number, if it is one.
     pub fn number(&self, place: usize) -> Option<usize> {
         self.argument(place)?.parse().ok()
     }

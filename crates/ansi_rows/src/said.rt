@@ -1,23 +1,23 @@
-//! What the call of a row says, compared with the row as it comes.
+//! The results of a row's call, compared with the row as they arrive.
 use crate::rows::Row;
 use std::alloc::{AllocError, Allocator, Global};
 use std::borrow::CowStr;
 
-/// A row whose call is made in several ways, one after the other.
+/// A row whose call is made in several ways, one after another.
 #[derive(Drop)]
 pub struct Trial<'r> {
     pub alloc: Global,
     pub row: Row<'r>,
-    /// How the call is made now.
+    /// The current way to make the call.
     way: &'static str,
-    /// Whether the call was an `Err`.
+    /// Whether the call returned an `Err`.
     pub is_err: bool,
-    /// The status that a row has for what the call said.
+    /// The status of the results so far, as a row writes it.
     status: &'static str,
-    /// What the row has that the call didn't say yet.
+    /// The results of the row that the call hasn't returned yet.
     borrows: &'r str,
     gives: &'r [String],
-    /// The first thing that the row says otherwise.
+    /// The first difference from the row.
     pub fault: Option<String>,
 }
 
@@ -35,7 +35,7 @@ impl<'r> Trial<'r> {
         }
     }
 
-    /// The call is made in another way, and has said nothing yet.
+    /// Starts over for another way to make the call.
     pub fn begin(&mut self, way: &'static str) {
         self.way = way;
         self.is_err = false;
@@ -44,7 +44,7 @@ impl<'r> Trial<'r> {
         self.gives = self.row.gives;
     }
 
-    /// What was said, or what is wrong with it, isn't what the row says.
+    /// Records a difference from the row, unless one is recorded already.
     pub fn refute(&mut self, said: &str) {
         if self.fault.is_none() {
             let fault = format!(in self.alloc; "{}: {said:?}", self.way);
@@ -52,7 +52,7 @@ impl<'r> Trial<'r> {
         }
     }
 
-    /// The call gave a text or a number.
+    /// The call returned a text or a number.
     pub fn text(&mut self, text: &str) {
         match self.gives.split_first() {
             Some((given, rest)) if given.as_str() == text => self.gives = rest,
@@ -60,7 +60,7 @@ impl<'r> Trial<'r> {
         }
     }
 
-    /// The call gave what is written in ample memory.
+    /// The call returned a value that was formatted, which must not run out of memory.
     pub fn written(&mut self, written: Result<String, AllocError>) {
         match written {
             Ok(text) => self.text(text.as_str()),
@@ -68,7 +68,7 @@ impl<'r> Trial<'r> {
         }
     }
 
-    /// The call gave a text, which is a borrow or not.
+    /// The call returned a text that is a borrow or is owned.
     pub fn borrow(&mut self, is_borrow: bool) {
         let letter = if is_borrow { "b" } else { "o" };
         match self.borrows.strip_prefix(letter) {
@@ -77,19 +77,19 @@ impl<'r> Trial<'r> {
         }
     }
 
-    /// The call gave so many texts.
+    /// The call returned `count` texts.
     pub fn count(&mut self, count: usize) {
         if self.row.is_count && !self.is_err {
             self.written(count.to_string(self.alloc));
         }
     }
 
-    /// The call gave nothing.
+    /// The call returned no value.
     pub fn none(&mut self, status: &'static str) {
         self.status = status;
     }
 
-    /// What a call told: a number, or that there is no such thing.
+    /// The call returned a number, or that there is none.
     pub fn told(&mut self, told: Option<usize>) {
         match told {
             Some(number) => self.written(number.to_string(self.alloc)),
@@ -97,7 +97,7 @@ impl<'r> Trial<'r> {
         }
     }
 
-    /// What a test told, which a row has as 0 where it is so.
+    /// The call returned the result of a test. A row has 0 if the test holds.
     pub fn test(&mut self, is_so: bool) {
         self.told(is_so.then_some(0));
     }
@@ -109,7 +109,7 @@ impl<'r> Trial<'r> {
         }
     }
 
-    /// The answer of a call that gives a text.
+    /// The result of a call that returns a text.
     pub fn hear<A: Allocator>(&mut self, answer: Result<CowStr<'_, A>, AllocError>) {
         match answer {
             Ok(text) => self.cow(&text),
@@ -117,7 +117,7 @@ impl<'r> Trial<'r> {
         }
     }
 
-    /// The answer of a call that gives a text or nothing.
+    /// The result of a call that may return a text.
     pub fn hear_option<A: Allocator>(
         &mut self,
         answer: Result<Option<CowStr<'_, A>>, AllocError>,
@@ -130,7 +130,7 @@ impl<'r> Trial<'r> {
         }
     }
 
-    /// The answer of a call that gives two texts.
+    /// The result of a call that returns two texts.
     pub fn hear_sides<A: Allocator>(
         &mut self,
         answer: Result<(CowStr<'_, A>, CowStr<'_, A>), AllocError>,
@@ -144,7 +144,7 @@ impl<'r> Trial<'r> {
         }
     }
 
-    /// The call has said all: that is what the row says.
+    /// The call is complete. Its results have to be all that the row has.
     pub fn end(&mut self) {
         if self.is_err || self.status != self.row.status {
             self.refute(if self.is_err { "an error" } else { self.status });
@@ -154,7 +154,8 @@ impl<'r> Trial<'r> {
         }
     }
 
-    /// The call has said all, and was refused memory: that is an `Err`, after a beginning of what the row says.
+    /// The call is complete, and a request was refused. It has to be an `Err`; the results before
+    /// it have to agree with the row.
     pub fn end_refused(&mut self) {
         if !self.is_err {
             self.refute("no error");

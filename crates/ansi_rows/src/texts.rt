@@ -1,4 +1,4 @@
-//! What calls say that give texts, and those that only tell.
+//! The results of calls that return texts, and of searches and tests.
 use crate::blocks::{say_block_at, say_blocks, say_styled_blocks};
 use crate::calls::Call;
 use crate::items::say_items;
@@ -20,7 +20,7 @@ fn expect_end<A: Allocator + Copy>(trial: &mut Trial<'_>, parts: &mut AnsiSplit<
     }
 }
 
-/// All parts, or how many there are. After an `Err`, and after the last one, there are none.
+/// Checks all parts, or their number. After an `Err`, and after the last part, no part follows.
 fn hear_parts<A: Allocator + Copy>(trial: &mut Trial<'_>, mut parts: AnsiSplit<'_, A>) {
     let mut count = 0usize;
     for _ in 0..usize::MAX {
@@ -46,7 +46,7 @@ fn say_sides<T: AnsiStr>(trial: &mut Trial<'_>, text: &T, mid: usize) {
     }
 }
 
-/// Says what a call of `AnsiStr` answers.
+/// Checks what a call of `AnsiStr` returns.
 pub fn say<T: AnsiStr>(trial: &mut Trial<'_>, text: &T, call: &Call<'_>) {
     let alloc = trial.alloc;
     match *call {
@@ -86,7 +86,8 @@ fn say_sides_in<A: Allocator + Copy>(trial: &mut Trial<'_>, heap: A, mid: usize)
     }
 }
 
-/// Says what a call answers in the memory of `heap`. One that takes no memory is made as ever.
+/// Checks what a call returns if it allocates from `heap`. A call without an allocator is made as
+/// usual.
 pub fn say_in(trial: &mut Trial<'_>, heap: &Refusing<Global>, call: &Call<'_>) {
     let text = trial.row.text;
     match *call {

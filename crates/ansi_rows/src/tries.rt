@@ -1,4 +1,4 @@
-//! A row's call in each way in which it can be made.
+//! A row's call, made in every possible way.
 use crate::calls::Call;
 use crate::ranges::ranges_of;
 use crate::rows::Row;
@@ -8,17 +8,19 @@ use ansi_str::{AnsiStr, Edit};
 use refusing::Refusing;
 use std::alloc::Global;
 
-/// The call in memory that grants so many requests. Gives how many it made.
+/// Makes the call with an allocator that grants `granted` requests. Returns how many requests the
+/// call made.
 fn requests_of(trial: &mut Trial<'_>, call: &Call<'_>, granted: u64) -> u64 {
     let heap = Refusing::new(trial.alloc, granted);
     say_in(trial, &heap, call);
     heap.requests()
 }
 
-/// The most requests of a call that are refused in turn.
+/// The greatest number of requests of a call that are refused in turn.
 const MOST_REFUSED: u64 = 100;
 
-/// The call in memory that grants each request, and then with each refused in turn.
+/// Makes the call with an allocator that grants each request, and then with each request refused in
+/// turn.
 fn try_in(trial: &mut Trial<'_>, call: &Call<'_>) {
     trial.begin("with each request granted");
     let requests = requests_of(trial, call, u64::MAX);
@@ -39,7 +41,7 @@ fn try_of<T: AnsiStr>(trial: &mut Trial<'_>, way: &'static str, text: &T, call: 
     trial.end();
 }
 
-/// The call of a `String`, which stays as it is.
+/// Makes the call on a `String`, which has to stay unchanged.
 fn try_owned(trial: &mut Trial<'_>, call: &Call<'_>) {
     match String::from_str(trial.alloc, trial.row.text) {
         Ok(owned) => {
@@ -52,7 +54,7 @@ fn try_owned(trial: &mut Trial<'_>, call: &Call<'_>) {
     }
 }
 
-/// The call of a `&str`, of a `String`, and in the memory of an allocator.
+/// Makes the call on a `&str`, on a `String`, and with an allocator.
 fn try_call(trial: &mut Trial<'_>, call: &Call<'_>) {
     if call.is_of_trait() {
         let text = trial.row.text;
@@ -62,7 +64,7 @@ fn try_call(trial: &mut Trial<'_>, call: &Call<'_>) {
     try_in(trial, call);
 }
 
-/// The text between two positions, by every range that says so.
+/// Cuts the text between two positions, with every range that has these ends.
 fn try_ranges(trial: &mut Trial<'_>, start: usize, end: usize) {
     for range in &ranges_of(start, end) {
         if let Some(range) = *range {
@@ -72,7 +74,8 @@ fn try_ranges(trial: &mut Trial<'_>, start: usize, end: usize) {
     }
 }
 
-/// An edit of a row: its kind, two numbers and a text. One of no kind is a range that every text refuses.
+/// An edit of a row: its kind, two numbers and a text. An unknown kind becomes a range that every
+/// text refuses.
 fn edit_of<'r>(row: &Row<'r>, place: usize) -> Option<Edit<'r>> {
     let start = row.number(place.saturating_add(1))?;
     let end = row.number(place.saturating_add(2))?;
@@ -107,7 +110,8 @@ fn edits_of<'r>(alloc: Global, row: &Row<'r>) -> Option<Vec<Edit<'r>>> {
     Some(edits)
 }
 
-/// The edits of a row. Where they are refused, that is the last one, and it takes no memory.
+/// Applies the edits of a row. If they are refused, the refusal has to be that of the last edit,
+/// which must not allocate.
 fn try_edits<'e>(trial: &mut Trial<'_>, edits: &'e [Edit<'e>]) {
     try_in(trial, &Call::Edits(edits));
     if let Some((_, before)) = edits.split_last()
@@ -121,7 +125,7 @@ fn try_edits<'e>(trial: &mut Trial<'_>, edits: &'e [Edit<'e>]) {
     }
 }
 
-/// Makes the call of a row in each way. Gives nothing where the row has no such call.
+/// Makes the call of a row in each way. `None` if there is no such call.
 pub fn try_row(trial: &mut Trial<'_>) -> Option<()> {
     let row = trial.row;
     match row.call {

@@ -1,4 +1,4 @@
-//! Calls that give the block of an index, or its style.
+//! Calls that return the block at an index, or its style.
 ghost use Rattle.std.specs.Prelude.{◌≡◌, ◌∷◌, [], slice_get, option_map, true};
 ghost use Rattle.ansi_str.specs.Plain.{has_escape};
 ghost use Rattle.ansi_str.specs.Written.{start, close_if_any};
@@ -12,7 +12,7 @@ use ansi_answers::styles::StyleData;
 use simdutf8::basic::from_utf8;
 use std::alloc::Global;
 
-/// The text of the block of an index.
+/// The text of the block at an index.
 #[unsafe(no_mangle)]
 pub extern "C" fn ansi_str_raw_block(
     alloc: Global,
@@ -34,7 +34,7 @@ pub extern "C" fn ansi_str_raw_block(
     }
 }
 
-/// The start of the style of the block of an index.
+/// The start of the style of the block at an index.
 #[unsafe(no_mangle)]
 pub extern "C" fn ansi_str_raw_block_start(
     alloc: Global,
@@ -56,7 +56,7 @@ pub extern "C" fn ansi_str_raw_block_start(
     }
 }
 
-/// The end of the style of the block of an index.
+/// The close of the style of the block at an index.
 #[unsafe(no_mangle)]
 pub extern "C" fn ansi_str_raw_block_end(
     alloc: Global,
@@ -78,7 +78,7 @@ pub extern "C" fn ansi_str_raw_block_end(
     }
 }
 
-/// The style of the block of an index.
+/// The style of the block at an index.
 #[unsafe(no_mangle)]
 pub extern "C" fn ansi_str_raw_block_style(alloc: Global, text: &[u8], index: usize) -> StyleAnswer
     ensures { OnUtf8 (text.now ∷ [])

@@ -1,4 +1,4 @@
-//! Calls on the columns of a text.
+//! Calls on the display width of a text.
 ghost use Rattle.std.specs.Prelude.{◌≡◌, ◌∷◌, []};
 ghost use Rattle.ansi_str.specs.Plain.{plain};
 ghost use Rattle.ansi_answers.specs.Answers.{not_utf8, failed, OnUtf8, HasFailed};
@@ -12,7 +12,7 @@ use ansi_columns_answers::lines::wrap;
 use simdutf8::basic::from_utf8;
 use std::alloc::Global;
 
-/// The columns of the plain text.
+/// The display width of the plain text, in columns.
 #[unsafe(no_mangle)]
 pub extern "C" fn ansi_str_raw_width(text: &[u8]) -> Answer
     ensures { OnUtf8 (text.now ∷ []) (TellsWidth (plain text.now) result) (result ≡ failed not_utf8) }
@@ -23,7 +23,7 @@ pub extern "C" fn ansi_str_raw_width(text: &[u8]) -> Answer
     }
 }
 
-/// The position up to which the plain text fits into so many columns.
+/// The position up to which the plain text fits into `width` columns.
 #[unsafe(no_mangle)]
 pub extern "C" fn ansi_str_raw_fitting(text: &[u8], width: usize) -> Answer
     ensures { OnUtf8 (text.now ∷ []) (TellsFitting (plain text.now) width result) (result ≡ failed not_utf8) }
@@ -34,7 +34,7 @@ pub extern "C" fn ansi_str_raw_fitting(text: &[u8], width: usize) -> Answer
     }
 }
 
-/// The text cut to so many columns.
+/// The text truncated to `width` columns.
 #[unsafe(no_mangle)]
 pub extern "C" fn ansi_str_raw_truncate(
     alloc: Global,
@@ -56,7 +56,7 @@ pub extern "C" fn ansi_str_raw_truncate(
     truncate(alloc, text, width, tail, buffer)
 }
 
-/// The text filled up to so many columns.
+/// The text padded to `width` columns.
 #[unsafe(no_mangle)]
 pub extern "C" fn ansi_str_raw_pad(
     alloc: Global,
@@ -75,7 +75,7 @@ pub extern "C" fn ansi_str_raw_pad(
     }
 }
 
-/// The lines of the text at a width as they are shown, and where each ends.
+/// The lines of the text wrapped at `width` columns, ready for display, and where each ends.
 #[unsafe(no_mangle)]
 pub extern "C" fn ansi_str_raw_wrap(
     alloc: Global,

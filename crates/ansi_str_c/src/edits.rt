@@ -1,4 +1,4 @@
-//! Edits in turn.
+//! Lists of edits, each applied to the result of the one before.
 ghost use Rattle.std.specs.Prelude.{◌∷◌, map};
 ghost use Rattle.ansi_answers.specs.Answers.{refused, not_utf8, OnUtf8, HasFailed, GivesEdited};
 ghost use Rattle.ansi_answers.specs.Steps.{change_of_step, patterns_of};
@@ -8,7 +8,7 @@ use ansi_answers::edits::{EditStep, are_patterns_utf8, edit_in_turn};
 use simdutf8::basic::from_utf8;
 use std::alloc::Global;
 
-/// What edits make of a text, each done on what the one before gave.
+/// The text after all edits, each applied to the result of the one before.
 #[unsafe(no_mangle)]
 pub extern "C" fn ansi_str_raw_edit(
     alloc: Global,

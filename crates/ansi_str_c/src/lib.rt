@@ -1,7 +1,7 @@
 //! The library for C. `include/ansi_str.h` declares it, and says what each call does.
 //!
-//! A call takes texts as bytes, and writes what it gives into a buffer of the caller's. The answers are those of
-//! `ansi_answers`.
+//! A call takes texts as bytes, and writes its result into the caller's buffer. `ansi_answers`
+//! computes the results.
 #![tactic(auto)]
 
 pub mod blocks;

@@ -1,4 +1,4 @@
-//! Calls that give several texts: all parts, and all blocks.
+//! Calls that return several texts: all parts, and all blocks.
 ghost use Rattle.std.specs.Prelude.{◌∷◌, [], flat_map};
 ghost use Rattle.ansi_str.specs.Plain.{has_escape};
 ghost use Rattle.ansi_str.specs.Parts.{all_parts};
@@ -41,7 +41,7 @@ pub extern "C" fn ansi_str_raw_split(
     write_joined(join_parts(alloc, text, pat), buffer, ends)
 }
 
-/// All blocks of a text, and where each ends and its style.
+/// All blocks of a text, and for each where it ends and its style.
 #[unsafe(no_mangle)]
 pub extern "C" fn ansi_str_raw_blocks(
     alloc: Global,
@@ -66,8 +66,8 @@ pub extern "C" fn ansi_str_raw_blocks(
     write_joined(join_blocks(alloc, text), buffer, entries)
 }
 
-/// All blocks of a text, each between the start of its style and the end, and where these stand and its
-/// style.
+/// All blocks of a text, each between the start and the close of its style; and for each where
+/// these are and its style.
 #[unsafe(no_mangle)]
 pub extern "C" fn ansi_str_raw_styled_blocks(
     alloc: Global,

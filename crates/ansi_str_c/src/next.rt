@@ -1,4 +1,4 @@
-//! Calls that take blocks off a text one by one.
+//! Calls that return the blocks of a text one by one.
 ghost use Rattle.std.specs.Prelude.{◌≡◌, ◌∷◌, [], true, IsUtf8, Some};
 ghost use Rattle.ansi_str.specs.States.{rendition_of_numbers};
 ghost use Rattle.ansi_str.specs.Written.{start, close_if_any};
@@ -28,7 +28,7 @@ pub extern "C" fn ansi_str_raw_blocks_begin<'a>(text: &'a [u8], walk: &mut Block
     Answer::done(0)
 }
 
-/// The same, of a text that is UTF-8, which isn't looked at.
+/// The same without the check that the text is UTF-8. The caller promises that it is.
 #[unsafe(no_mangle)]
 pub extern "C" fn ansi_str_raw_blocks_begin_unchecked<'a>(text: &'a [u8], walk: &mut BlockWalk<'a>)
     requires { IsUtf8 text.now }
@@ -81,7 +81,7 @@ pub extern "C" fn ansi_str_raw_style_start(
     write_made(style.style().start().to_string(alloc), buffer)
 }
 
-/// The sequences that end a style.
+/// The sequences that reset a style.
 #[unsafe(no_mangle)]
 pub extern "C" fn ansi_str_raw_style_end(
     alloc: Global,

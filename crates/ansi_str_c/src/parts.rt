@@ -1,4 +1,4 @@
-//! Calls that take parts off a text one by one.
+//! Calls that return the parts of a text one by one.
 ghost use Rattle.std.specs.Prelude.{◌≡◌, ◌∷◌, [], IsUtf8};
 ghost use Rattle.ansi_str.specs.Splits.{split_parts};
 ghost use Rattle.ansi_split.specs.Walks.{parts_of_walk, IsPartWalk};
@@ -34,7 +34,8 @@ pub extern "C" fn ansi_str_raw_parts_begin<'a>(
     Answer::done(0)
 }
 
-/// The same, of a text and a pattern that are UTF-8, which aren't looked at.
+/// The same without the check that the text and the pattern are UTF-8. The caller promises that
+/// they are.
 #[unsafe(no_mangle)]
 pub extern "C" fn ansi_str_raw_parts_begin_unchecked<'a>(
     text: &'a [u8],

@@ -1,4 +1,4 @@
-//! Calls that tell of a text, and write nothing.
+//! Calls that search or test a text, and write nothing.
 ghost use Rattle.std.specs.Prelude.{◌≡◌, ◌∷◌, [], nat_eq};
 ghost use Rattle.std.specs.List.{starts_with, ends_with};
 ghost use Rattle.ansi_str.specs.Plain.{plain, has_escape, is_whole};
@@ -10,7 +10,7 @@ use ansi_answers::texts::find;
 use ansi_str::{AnsiStr, ansi_is_whole};
 use simdutf8::basic::from_utf8;
 
-/// Where the pattern first stands in the plain text.
+/// The position of the first match of the pattern in the plain text.
 #[unsafe(no_mangle)]
 pub extern "C" fn ansi_str_raw_find(text: &[u8], pattern: &[u8]) -> Answer
     ensures { OnUtf8 (text.now ∷ pattern.now ∷ []) (TellsPlace pattern.now (plain text.now) result) (result ≡ failed not_utf8) }
@@ -56,7 +56,7 @@ pub extern "C" fn ansi_str_raw_ends_with(text: &[u8], pattern: &[u8]) -> Answer
     Answer::told(text.ansi_ends_with(pat))
 }
 
-/// Whether a character of the plain text begins at the index, or it ends there.
+/// Whether a character of the plain text begins at the index, or the plain text ends there.
 #[unsafe(no_mangle)]
 pub extern "C" fn ansi_str_raw_is_char_boundary(text: &[u8], index: usize) -> Answer
     ensures { OnUtf8 (text.now ∷ [])
@@ -93,7 +93,7 @@ pub extern "C" fn ansi_str_raw_is_whole(text: &[u8]) -> Answer
     }
 }
 
-/// Whether an ESC stands in the text.
+/// Whether the text has an ESC.
 #[unsafe(no_mangle)]
 pub extern "C" fn ansi_str_raw_has_any(text: &[u8]) -> Answer
     ensures { OnUtf8 (text.now ∷ [])

@@ -1,4 +1,4 @@
-//! Calls that give one text: what is made of the text that they take.
+//! Calls that return one text, made from the text that they take.
 ghost use Rattle.std.specs.Prelude.{◌∷◌, [], Some};
 ghost use Rattle.ansi_str.specs.Plain.{plain, has_escape};
 ghost use Rattle.ansi_str.specs.Changes.{CutRange, LeftOf, RightOf, PartOf, WithoutPrefix, WithoutSuffix, Trimmed};
@@ -119,7 +119,7 @@ pub extern "C" fn ansi_str_raw_strip_suffix(
     }
 }
 
-/// The part of an index between the matches of a pattern.
+/// The part at an index, of the parts between the matches of a pattern.
 #[unsafe(no_mangle)]
 pub extern "C" fn ansi_str_raw_part(
     alloc: Global,

@@ -1,4 +1,4 @@
-//! Calls of texts and patterns of which the caller promises that they are UTF-8: they aren't looked at.
+//! Calls without the check that texts and patterns are UTF-8. The caller promises that they are.
 ghost use Rattle.std.specs.Prelude.{◌≡◌, IsUtf8, Some, nat_eq};
 ghost use Rattle.std.specs.List.{starts_with, ends_with};
 ghost use Rattle.ansi_str.specs.Plain.{plain, has_escape};
@@ -25,7 +25,7 @@ pub extern "C" fn ansi_str_raw_strip_unchecked(
     strip(alloc, text, buffer)
 }
 
-/// Where the pattern first stands in the plain text.
+/// The position of the first match of the pattern in the plain text.
 #[unsafe(no_mangle)]
 pub extern "C" fn ansi_str_raw_find_unchecked(text: &[u8], pattern: &[u8]) -> Answer
     requires text { IsUtf8 text.now }
@@ -61,7 +61,7 @@ pub extern "C" fn ansi_str_raw_ends_with_unchecked(text: &[u8], pattern: &[u8]) 
     Answer::told(text.ansi_ends_with(pat))
 }
 
-/// Whether a character of the plain text begins at the index, or it ends there.
+/// Whether a character of the plain text begins at the index, or the plain text ends there.
 #[unsafe(no_mangle)]
 pub extern "C" fn ansi_str_raw_is_char_boundary_unchecked(text: &[u8], index: usize) -> Answer
     requires { IsUtf8 text.now }

@@ -1,7 +1,8 @@
 //! The library for JavaScript, as a module of WebAssembly.
 //!
-//! A call is one of the library for C: it takes texts as bytes of the module's memory, and writes what it gives into a
-//! buffer there. What memory it needs meanwhile it takes from the block that is passed to it.
+//! Each call is one of the library for C. It takes texts as bytes of the module's memory, and
+//! writes its result into a buffer there. It allocates its working memory from the block that is
+//! passed to it.
 #![tactic(auto)]
 
 pub mod columns;

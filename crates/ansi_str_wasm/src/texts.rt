@@ -1,4 +1,4 @@
-//! Calls that give one text, or tell of one.
+//! Calls that return one text, or search one.
 ghost use Rattle.std.specs.Prelude.{◌≡◌, ◌∷◌, [], map, Some};
 ghost use Rattle.ansi_str.specs.Plain.{plain, has_escape};
 ghost use Rattle.ansi_answers.specs.Answers.{failed, no, refused, not_utf8, OnUtf8, HasFailed, Gives, GivesEdited, TellsPlace};
@@ -26,7 +26,7 @@ pub extern "C" fn ansi_str_raw_strip(memory: Block, text: &[u8], buffer: &mut [u
     strip(&arena, text, buffer)
 }
 
-/// Where the pattern first stands in the plain text.
+/// The position of the first match of the pattern in the plain text.
 #[unsafe(no_mangle)]
 pub extern "C" fn ansi_str_raw_find(text: &[u8], pattern: &[u8]) -> Answer
     ensures { OnUtf8 (text.now ∷ pattern.now ∷ []) (TellsPlace pattern.now (plain text.now) result) (result ≡ failed not_utf8) }
@@ -40,7 +40,7 @@ pub extern "C" fn ansi_str_raw_find(text: &[u8], pattern: &[u8]) -> Answer
     find(text, pat)
 }
 
-/// What edits make of a text, each done on what the one before gave.
+/// The text after all edits, each applied to the result of the one before.
 #[unsafe(no_mangle)]
 pub extern "C" fn ansi_str_raw_edit(
     memory: Block,

@@ -1,10 +1,10 @@
--- The bits of a set of attributes, after some are set or cleared, and whether it has one of some.
+-- The bits of a set of attributes after some are set or cleared, and whether it has one of some attributes.
 use Rattle.ansi_style.proofs.Common.{◌≡◌, ◌∙◌, ℕ, zero, suc, ◌-◌, ◌^◌, ◌<◌, Bool, true, false, not, ◌&&◌, ◌||◌, ◌==◌, inl, inr, refl, ap, arith, min, bit_and, bit_or, w32, nat_lt, Decides, bit_at, not-not, zero-mul, one-mul, eq-eqb, ne_eqb, ltb-true, cases_lt, same_from_decides, Decides-eqb, Decides-like, Decides-below_and, pow_pos, and_pow, bit_at_or, bit_at_and, bit_at-lt, bit_at_not, bit_at_above, bit_at-zero, same_from_bits, has, has_one}
 
 has-bit : (n k : ℕ) → has n k ≡ (bit_at n k == 1)
 has-bit n k = grind (arith, and_pow, bit_at-lt, eq-eqb, ne_eqb, one-mul, pow_pos, zero-mul)
 
--- what holds of each two bits holds of those at a place of two numbers
+-- a property of every two bits holds of the bits at each place of two numbers
 bits_of : (P : ℕ → ℕ → Type 0) → P 0 0 → P 0 1 → P 1 0 → P 1 1 → (n m k : ℕ) → P (bit_at n k) (bit_at m k)
 bits_of P neither right left both n m k = grind arith
 

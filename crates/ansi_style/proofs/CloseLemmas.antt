@@ -1,9 +1,9 @@
--- The close of a style clears it: read from what is known of the style, it leaves nothing known.
+-- The close of a style resets it: read in a style that is known alike, it leaves nothing known.
 use Rattle.ansi_style.proofs.Common.{◌≡◌, ℕ, inl, inr, Bool, true, false, ◌&&◌, ◌||◌, List, ◌++◌, map, is_some, refl, ◌∙◌, ap, arith, append_assoc, codes, cases_Bool, Rendition, plain_style, has_ideogram_attribute, known, apply, written, when, close_codes, close, style_after_from}
 use Rattle.ansi_style.proofs.SgrLemmas.{apply_all-alike}
 use Rattle.ansi_style.proofs.ReadBackLemmas.{◌next◌, LeadFrom, lead_when, apply_codes, followed, style_after_from-codes, close_codes_are}
 
--- Where the first code resets all, the others find nothing.
+-- If the first code resets everything, the other codes change nothing.
 
 abbrev reset_style : Rendition
 reset_style = record plain_style { reset = true }
@@ -22,12 +22,12 @@ keeps-last p false code kept = refl
 close_resets : (s : Rendition) → (s.unknown && s.reset) ≡ true → apply_codes s (close_codes s) ≡ reset_style
 close_resets s both = simp append_assoc (simp (resets, keeps-when, keeps-last))
 
--- Else each code ends what it is written for.
+-- Otherwise each code resets its own part.
 
 ends : {s : Rendition} {xs : List (List ℕ)} {p : Rendition} (b : Bool) (code : List ℕ) → (b ≡ false → p ≡ apply p (written code)) → LeadFrom s xs p → LeadFrom s (xs ++ when b code) (apply p (written code))
 ends {p = p} b code unset so_far = lead_when b code (apply p (written code)) (λ yes. refl) unset so_far
 
--- all but `reset` and `unknown` ended
+-- everything but `reset` and `unknown` is reset
 abbrev ended : Rendition → Rendition
 ended s = record plain_style { reset = s.reset; unknown = s.unknown }
 
@@ -63,7 +63,7 @@ close_codes_end s = elim (cases_Bool (s.unknown && s.reset)) [
   | inr other ↦ ap known (close_ends s other) ∙ known-ended s s.unknown
 ]
 
--- The same where p is known as s is.
+-- The same if p is known alike to s.
 
 pub close_codes_clear : (p s : Rendition) → known p ≡ known s → known (apply_codes p (close_codes s)) ≡ plain_style
 close_codes_clear p s same = apply_all-alike p s (map written (close_codes s)) same ∙ close_codes_end s

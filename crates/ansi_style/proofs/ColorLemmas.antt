@@ -93,7 +93,7 @@ sgr_parameters-written code all =
     ap₂ (λ (e : Bool) (v : List ℕ). cond (true && e && list_all is_parameter_byte v && not (are_private v)) (Some v) None) last middle
     ∙ cond-true (list_all is_parameter_byte code && not (are_private code)) (Some code) None (and_from _ _ (parameter_bytes code all) (ap not (are_private-code code all)))
 
--- what an extended color's code does, where the code before it reads a color
+-- the effect of an extended color's code, if the code before it reads a color
 apply-extended : (extended : List ℕ) (put : AnsiColor → Rendition → Rendition) (c : AnsiColor) (p : Rendition)
     → list_all is_field_byte extended ≡ true → effect_of extended ≡ ReadsColor put → IsTrue (is_extended_color c) → apply p (written (color_code extended c)) ≡ put c p
 apply-extended extended put c p all reads is = grind (arith, after_fields-step, apply-parameters, code_bytes, color_number-decimal, fields_of-by_number, fields_of-by_parts, ltb-true, parameters-color_code, sgr_parameters-written, three_small, true≢false)

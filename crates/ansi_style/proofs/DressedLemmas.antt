@@ -1,4 +1,4 @@
--- Pieces between the start of a style and its close: read where nothing is known, they have their styled bytes, and leave nothing known.
+-- Pieces between the start of a style and its close: read in a style of which nothing is known, they have their styled bytes, and leave nothing known.
 use Rattle.ansi_style.proofs.Common.{◌≡◌, ℕ, List, [], ◌∷◌, ◌++◌, refl, ◌∙◌, ap, ap₂, append-nil, IsTrue, flat_map-append, Piece, Text, spelling, is_whole, Rendition, IsStyle, plain_style, known, apply, written_all, start_codes, start, StyledByte, styled, residue, spelled, AllStandAnywhere, stand-append, is_whole-spelled, arith}
 use Rattle.ansi_style.proofs.SgrLemmas.{apply-alike}
 use Rattle.ansi_style.proofs.StyledLemmas.{styled_through, style_through, styled_through-append, style_through-append, styled_through-alike}
@@ -6,7 +6,7 @@ use Rattle.ansi_style.proofs.SpelledLemmas.{styled-spelled, residue-spelled}
 use Rattle.ansi_style.proofs.ReadBackLemmas.{AreCodes, apply_codes, code_pieces, spelled-code_pieces, code_pieces_stand, start_codes_are, styled_through-codes, style_through-codes}
 use Rattle.ansi_style.proofs.StartLemmas.{start_codes_set}
 
--- Pieces that, read where nothing is known, give these styled bytes and leave nothing known.
+-- Pieces that, read in a style of which nothing is known, have these styled bytes and leave nothing known.
 
 pub record GiveAlone (ps : List Piece) (bs : List StyledByte) : Type 0 where
   pub given : (p : Rendition) → known p ≡ plain_style → styled_through p ps ≡ bs
@@ -43,7 +43,7 @@ style_through-alike s q (p ∷ ps) same = style_through-alike (apply s (spelling
 
 -- Pieces after the start of s and before codes that close q.
 
--- the codes leave nothing known where q is known
+-- the codes leave nothing known of the style q
 abbrev pub Clears : Rendition → List (List ℕ) → Type 0
 Clears q xs = (p : Rendition) → known p ≡ known q → known (apply_codes p xs) ≡ plain_style
 

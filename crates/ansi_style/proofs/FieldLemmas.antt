@@ -46,6 +46,6 @@ pub code_of-read : (t : List ℕ) → if_small true (fold with_digit 0 t) ≡ co
 code_of-read [] = refl
 code_of-read (b ∷ t) = rw (lt-ltb 0 (length (b ∷ t)) (omega arith)) (reads (b ∷ t) 0)
 
--- the number that a field gives a color is its code, and 0 where it is none
+-- the number that a field gives to a color is its code, or 0 if it has none
 pub number_is_first : (fields rest : List (List ℕ)) (code : Option ℕ) → (Some code, rest) ≡ first_field code_of fields → (Some (unwrap_or code 0), rest) ≡ first_field color_number fields
 number_is_first fields rest code first = grind arith

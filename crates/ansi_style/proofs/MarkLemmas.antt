@@ -1,7 +1,7 @@
 -- The marks of pieces, one piece at a time, and those up to a place.
 use Rattle.ansi_style.proofs.Common.{◌≡◌, ℕ, suc, ◌+◌, ◌-◌, ◌<◌, ◌≤◌, Bool, true, false, List, [], ◌∷◌, ◌++◌, length, map, filter_map, fold, Option, refl, ◌∙◌, ap, ap₂, arith, nat_le, if◌then◌else◌, IsFalse, lt-leb, nat_tests, Piece, Text, spelling, is_mark, Mark, Placed, mark_of, moved, marks_of, marks, places, up_to, joined, has_escape, Rendition, apply, after_marks, one_text, pieces_of-bare}
 
--- n plain bytes more stand before the mark
+-- the mark has n more plain bytes before it
 abbrev pub further : ℕ → Mark → Mark
 further n m = record m { place = n + m.place }
 
@@ -16,7 +16,7 @@ map-further-suc n (m ∷ ms) = ap₂ (λ k ks. record m { place = k } ∷ ks) (o
 abbrev mark_at : Placed → Option Mark
 mark_at p = mark_of p.place p.piece
 
--- the marks of pieces that stand further on stand further on
+-- if pieces are further on, so are their marks
 marks-moved : (n : ℕ) (qs : List Placed) → filter_map mark_at (map (moved n) qs) ≡ map (further n) (filter_map mark_at qs)
 marks-moved n [] = refl
 marks-moved n (q ∷ qs) = by_piece q.piece (marks-moved n qs)
@@ -41,7 +41,7 @@ marks-bare t none = ap marks_of (pieces_of-bare t none) ∙ of_one t
     of_one [] = refl
     of_one (b ∷ x) = refl
 
--- of marks that stand further on than e none is up to e
+-- no mark that is further on than e is up to e
 pub up_to-none : (e n : ℕ) (ms : List Mark) → e < n → up_to e (map (further n) ms) ≡ []
 up_to-none e n [] below = refl
 up_to-none e n (m ∷ ms) below =
@@ -69,7 +69,7 @@ pub joined-further : (n : ℕ) (ms : List Mark) → joined (map (further n) ms) 
 joined-further n [] = refl
 joined-further n (m ∷ ms) = ap (λ v. m.bytes ++ v) (joined-further n ms)
 
--- What marks make, one after another, of a state that they change, as a style or a link.
+-- The effect of marks, one after another, on a state that they change, such as a style or a link.
 
 module _ {S : Type 0} (step : S → List ℕ → S) where
   abbrev pub state_after : S → List Mark → S

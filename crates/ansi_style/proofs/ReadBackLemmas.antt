@@ -135,7 +135,7 @@ pub ◌next◌ : {A B : Type 0} → A → (A → B) → B
 x next f = f x
 
 infixl 30 ◌next◌
--- one more code, where it is called for
+-- one more code, if the condition holds
 pub lead_when : {q : Rendition} {xs : List (List ℕ)} {p : Rendition} (b : Bool) (code : List ℕ) (r : Rendition)
     → (b ≡ true → apply p (written code) ≡ r) → (b ≡ false → p ≡ r) → LeadFrom q xs p → LeadFrom q (xs ++ when b code) r
 lead_when {q} {xs} {p} b code r set unset so_far = lead_on (when b code) r (by_test b set unset) so_far

@@ -26,7 +26,7 @@ KeepsApart (ReadsColor put) = (c : AnsiColor) (s : Rendition) → known (put c s
 effect_keeps_apart : (field : List ℕ) → KeepsApart (effect_of field)
 effect_keeps_apart = effect_holds KeepsApart (λ s. refl) (search rules)
 
--- where two styles are known alike, so are the styles after the same effect
+-- if two styles are known alike, so are the styles after the same effect
 perform-known : (e : Effect) (fields : List (List ℕ)) (s t : Rendition) → KeepsApart e → known s ≡ known t → known (perform e s fields).0 ≡ known (perform e t fields).0
 perform-known e fields s t apart same = grind arith
 

@@ -6,7 +6,7 @@ use Rattle.ansi_style.proofs.ReadBackLemmas.{◌next◌, LeadFrom, lead_when, le
 
 -- Read from any style, a start adds what is set to what was set.
 
--- an option, or else the other
+-- an option, or the other option if it is `None`
 abbrev either_of : {A : Type 0} → Option A → Option A → Option A
 either_of None old = old
 either_of (Some x) old = Some x
@@ -93,7 +93,7 @@ start_sets s is = style_after_from-start plain_style s is ∙ start_from_plain s
 pub start_keeps : (s : Rendition) → IsStyle s → style_after_from s (start s) ≡ s
 start_keeps s is = style_after_from-start s s is ∙ start_from_itself s is
 
--- where nothing is known, the codes give what is known of s
+-- in a style of which nothing is known, the codes set what is known of s
 pub start_codes_set : (p s : Rendition) → IsStyle s → known p ≡ plain_style → known (apply_codes p (start_codes s)) ≡ known s
 start_codes_set p s is none = apply_all-alike p plain_style (map written (start_codes s)) none ∙ ap known (start_from_plain s is)
 

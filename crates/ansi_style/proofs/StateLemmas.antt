@@ -4,7 +4,7 @@ use Rattle.ansi_style.proofs.Common.{◌≡◌, ℕ, zero, suc, ◌<◌, ◌≤�
 perform-left : (e : Effect) (s : Rendition) (fields : List (List ℕ)) → length (perform e s fields).1 ≤ length fields
 perform-left e s fields = grind arith
 
--- a step takes a field, and more where it reads a color
+-- a step takes one field, and more if it reads a color
 pub step-left : (s : Rendition) (field : List ℕ) (fields : List (List ℕ)) → length (step s (field ∷ fields)).1 ≤ length fields
 step-left s field fields = perform-left (effect_of field) s fields
 
@@ -12,7 +12,7 @@ steps-none : (n : ℕ) (s : Rendition) → steps n s [] ≡ s
 steps-none zero s = refl
 steps-none (suc n) s = steps-none n s
 
--- no step is missed where there are as many as fields
+-- as many steps as there are fields read all fields
 steps-enough : (n m : ℕ) (s : Rendition) (fields : List (List ℕ)) → length fields ≤ n → length fields ≤ m → steps n s fields ≡ steps m s fields
 steps-enough n m s [] below_n below_m = steps-none n s ∙ sym (steps-none m s)
 steps-enough zero m s (field ∷ fields) below_n below_m = absurd (omega arith)

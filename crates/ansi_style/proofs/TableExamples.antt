@@ -4,7 +4,7 @@ use Rattle.ansi_items.proofs.Tables.{Makes}
 
 -- The SGR table.
 
--- codes, and the style after them, where s is the style before: each row, and of a range the first and the last
+-- codes, and the style after them, if s is the style before: each row, and the first and the last code of each range
 codes_read : (s : Rendition) → Makes (apply_parameters s) (
     (codes "0", record plain_style { reset = true })
     ∷ (codes "1", record s { bold = true })

@@ -1,4 +1,4 @@
--- What pieces make, one after another, of a state that sequences change, and their plain bytes, each with what is seen of the state there. A style is such a state, and so is a link.
+-- The effect of pieces, one after another, on a state that sequences change, such as a style or a link, and their plain bytes, each with what is seen of the state there.
 use Rattle.ansi_style.proofs.Common.{◌≡◌, ℕ, zero, suc, ◌+◌, ◌<◌, List, [], ◌∷◌, ◌++◌, map, length, refl, sym, ◌∙◌, ap, ap₂, arith, append_assoc, slice_index, map-append, range_with_len, Piece, Text, spelling, after_text, merged, plain_of, marks_of}
 use Rattle.ansi_style.proofs.MarkLemmas.{state_after, state_after-further, state_by_marks, state_by_marks-before, state_by_marks-text, state_by_marks-mark, marks_of-text, marks_of-mark}
 
@@ -72,7 +72,7 @@ module _ {S : Type 0} (step : S → List ℕ → S) where
         ∙ ap₂ (λ s v. seen s b ∷ v) (same 0 (omega arith)) (seen_by-alike x (λ i. f (suc i)) (λ i. g (suc i)) (λ i below. same (suc i) (omega arith)))
         ∙ sym (seen_by-cons g b x)
 
-    -- a text in one state, and what stands after it
+    -- a text in one state, and what follows it
     seen_by-append : (s : S) (w x : List ℕ) (state : ℕ → S) → ((i : ℕ) → i < length w → state i ≡ s) → seen_by state (w ++ x) ≡ map (seen s) w ++ seen_by (λ i. state (length w + i)) x
     seen_by-append s [] x state same = seen_by-alike x state (λ i. state (0 + i)) (λ i below. ap state (omega arith))
     seen_by-append s (b ∷ w) x state same =

@@ -1,4 +1,4 @@
--- A style in which nothing is set that a reader could see needs no start and no close.
+-- A style in which a reader could see nothing that is set needs no start and no close.
 use Rattle.ansi_style.proofs.Common.{◌≡◌, append-nil, false, ◌&&◌, ◌||◌, [], ◌∙◌, ap, arith, if◌then◌else◌, or_parts, cond_both, Rendition, plain_style, known, has_known, has_any, start, close, close_if_any, style_after_from}
 use Rattle.ansi_style.proofs.CloseLemmas.{close_clears}
 
@@ -25,7 +25,7 @@ start-unset s unset = start-unknown s (no_known s unset)
 pub close_if_any-unset : (s : Rendition) → has_any s ≡ false → close_if_any s ≡ []
 close_if_any-unset s unset = ap (λ b. if b then close s else []) unset
 
--- to close where something is set clears as a close does
+-- a close that is written only if something is set resets like a close
 pub close_if_any_clears : (p s : Rendition) → known p ≡ known s → known (style_after_from p (close_if_any s)) ≡ plain_style
 close_if_any_clears p s same =
     cond_both (has_any s) (close s) [] (λ w. known (style_after_from p w) ≡ plain_style) (λ any. close_clears p s same) (λ unset. same ∙ known-unset s unset)

@@ -4,7 +4,7 @@ use Rattle.ansi_style.proofs.BitsLemmas.{has_one-places, has_one_in_last}
 
 -- Whether a set has one of some attributes.
 
--- those of a group, where these are in it
+-- the attributes of a group, if these are in it
 of_group : (set group attributes : ℕ) → bit_and group attributes ≡ attributes → nat_lt attributes (2 ^ 24) ≡ true
     → has_one (bit_and set group) attributes ≡ has_one_in_last set attributes 24
 of_group set group attributes inside below =
@@ -39,7 +39,7 @@ record Writes (rows rest : List ℕ) (all : List (List (List ℕ))) : Type 0 whe
 nothing : Writes [] [] []
 nothing = record { is = refl }
 
--- a code that is written where a test says so
+-- a code that is written if a test holds
 row : {rest : List ℕ} {all : List (List (List ℕ))} {b c : Bool} (code : List ℕ) → c ≡ b → Writes [] rest all
     → Writes [] (written_if c (written code) ++ rest) (when b code ∷ all)
 row {all = all} {b} code same later = record { is = ap₂ (λ c v. written_if c (written code) ++ v) same later.is ∙ written_when b code (joined all) }
@@ -58,7 +58,7 @@ group later = record { is = later.is }
 last_group : {rows : List ℕ} {all : List (List (List ℕ))} → Writes rows [] all → Writes [] rows all
 last_group {rows} later = record { is = sym (append-nil rows) ∙ later.is }
 
--- codes that are written as they stand
+-- codes that are written unchanged
 codes_then : {rest : List ℕ} {all : List (List (List ℕ))} (cs : List (List ℕ)) → Writes [] rest all → Writes [] (written_all cs ++ rest) (cs ∷ all)
 codes_then {all = all} cs later = record { is = ap (λ v. written_all cs ++ v) later.is ∙ sym (flat_map-append written cs (joined all)) }
 
@@ -84,7 +84,7 @@ all_written {all = all} writes xs same = writes.is ∙ ap written_all (joined_af
 f before x = f x
 
 infixr 30 ◌before◌
--- what is written for those rows of which an attribute is in the set and in the group
+-- the output for the rows that have an attribute which is in the set and in the group
 abbrev written_rows : {T : Type 0} → Attributes → Attributes → List (Attributes × T) → (T → List ℕ) → List ℕ
 written_rows set group rows text = flat_map (λ row. if has_one (bit_and set.0 group.0) row.0.0 then text row.1 else []) rows
 

@@ -5,7 +5,7 @@ use Rattle.ansi_items.specs.declared.ansitok.AnsiColor.TheVariants.{Bit4, Bit8, 
 use Rattle.ansi_style.specs.declared.style.color.Color.{Color}
 use Rattle.ansi_style.specs.declared.style.color.Color.TheVariants.{Black, BrightBlack, Red, BrightRed, Green, BrightGreen, Yellow, BrightYellow, Blue, BrightBlue, Magenta, BrightMagenta, Cyan, BrightCyan, White, BrightWhite, Fixed, Rgb}
 
--- a color of the sixteen by its code, that of a foreground or that of a background; any other code is a number (the Rust crate)
+-- a color of the sixteen by its code, as a foreground or as a background; any other code stays a number (the Rust crate)
 abbrev pub color_of_code : ℕ → Color
 color_of_code n =
     if n == 30 || n == 40 then Black else

@@ -1,4 +1,4 @@
--- The order of styles and of colors: by their parts, in turn.
+-- The order of styles and of colors, part by part.
 use Rattle.std.specs.Prelude.{ℕ, Bool, true, false, List, [], ◌∷◌, Option, Some, None}
 use Rattle.std.specs.Cmp.Lexicographic.{slice_cmp}
 use Rattle.std.specs.declared.cmp.Ordering.{Ordering}
@@ -8,11 +8,11 @@ use Rattle.ansi_style.specs.declared.style.color.Color.TheVariants.{Black, Brigh
 use Rattle.ansi_items.specs.AnsiColors.{compared, ansi_color_key}
 use Rattle.ansi_style.specs.declared.state.rendition.Rendition.{Rendition}
 
--- parts in a row compare by the first that differs
+-- lists of parts compare by the first part that differs
 abbrev pub compared_in_turn : List (List ℕ) → List (List ℕ) → Ordering
 compared_in_turn a b = slice_cmp compared a b
 
--- a color by its name compares by its rank in this list, and then by its numbers (the Rust crate)
+-- a color compares by its rank in this list, and then by its numbers (the Rust crate)
 abbrev pub color_key : Color → List ℕ
 color_key Black = 0 ∷ []
 color_key BrightBlack = 1 ∷ []
@@ -35,17 +35,17 @@ color_key BrightWhite = 17 ∷ []
 color_key (Fixed n) = 18 ∷ n ∷ []
 color_key (Rgb r g b) = 19 ∷ r ∷ g ∷ b ∷ []
 
--- no color is before any color
+-- a missing color is less than any color
 abbrev pub part_of_color : Option AnsiColor → List ℕ
 part_of_color None = []
 part_of_color (Some c) = ansi_color_key c
 
--- no font is before any font
+-- a missing font is less than any font
 abbrev pub part_of_font : Option ℕ → List ℕ
 part_of_font None = []
 part_of_font (Some n) = n ∷ []
 
--- an attribute that isn't set is before one that is
+-- an attribute that isn't set is less than one that is
 abbrev pub part_of_attribute : Bool → List ℕ
 part_of_attribute false = 0 ∷ []
 part_of_attribute true = 1 ∷ []

@@ -1,10 +1,10 @@
--- A style as the definitions see it: a rendition, what the SGRs before a byte have selected.
+-- A style in the definitions: a rendition, which is what the SGRs before a byte have selected.
 use Rattle.std.specs.Prelude.{Bool, false, ◌&&◌, ◌||◌, [], ◌∷◌, None, is_some, nat_lt, IfSome, IsTrue}
 use Rattle.std.specs.Int.{is_in_range}
 use Rattle.std.specs.List.{list_any}
 use Rattle.ansi_items.specs.declared.ansitok.AnsiColor.{AnsiColor}
 use Rattle.ansi_items.specs.declared.ansitok.AnsiColor.TheVariants.{Bit4, Bit8, Bit24}
--- a rendition is three colors, a font and 24 attributes, in the order in which styles are compared (the Rust crate); it is declared in the code, where its order and its hash are derived
+-- a rendition is three colors, a font and 24 attributes, in the order in which styles are compared (the Rust crate); it is declared in the code, which derives its order and its hash
 pub use Rattle.ansi_style.specs.declared.state.rendition.Rendition.{Rendition}
 
 -- the plain style has nothing set
@@ -56,11 +56,11 @@ has_known s = list_any (λ b. b) (is_some s.foreground ∷ is_some s.background 
     ∷ s.crossed_out ∷ s.framed ∷ s.encircled ∷ s.fraktur ∷ s.proportional_spacing ∷ s.overlined ∷ has_ideogram_attribute s
     ∷ s.superscript ∷ s.subscript ∷ [])
 
--- there is something to end: known parts are set, or `reset` and `unknown` both are (the Rust crate, the font counted)
+-- there is something to reset: known parts are set, or `reset` and `unknown` are both set (the Rust crate, the font counted)
 abbrev pub has_any : Rendition → Bool
 has_any s = has_known s || (s.reset && s.unknown)
 
--- a color of the 256, or one by its red, green and blue
+-- a color of the 256-color palette, or one by its red, green and blue
 abbrev pub is_extended_color : AnsiColor → Bool
 is_extended_color (Bit4 n) = false
 is_extended_color (Bit8 n) = nat_lt n 256
@@ -78,7 +78,7 @@ is_background (Bit4 n) = is_in_range 40 47 n || is_in_range 100 107 n
 is_background (Bit8 n) = is_extended_color (Bit8 n)
 is_background (Bit24 r g b) = is_extended_color (Bit24 r g b)
 
--- the colors and the font are such as SGR codes select
+-- the colors and the font are ones that SGR codes can select
 pub record IsStyle (s : Rendition) : Type 0 where
   pub foreground : IfSome s.foreground (λ c. IsTrue (is_foreground c))
   pub background : IfSome s.background (λ c. IsTrue (is_background c))

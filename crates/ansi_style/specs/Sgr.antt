@@ -10,7 +10,7 @@ use Rattle.ansi_items.specs.declared.ansitok.AnsiColor.TheVariants.{Bit4, Bit8, 
 use Rattle.ansi_style.specs.Rendition.{Rendition, plain_style}
 use Rattle.ansi_items.specs.Sequences.{sgr_parameters}
 
--- a code changes the style, or reads a color from the fields after it, which is then put into the style
+-- a code changes the style, or reads a color from the fields after it and puts that into the style
 pub data Effect : Type 0 where
   Changes : (Rendition → Rendition) → Effect
   ReadsColor : (AnsiColor → Rendition → Rendition) → Effect
@@ -85,13 +85,13 @@ table =
 abbrev pub unknown_code : Effect
 unknown_code = Changes (λ s. record s { unknown = true })
 
--- a field is a number where it is one or more digits, leading zeros allowed, of a value of at most 255; no code and no number of a color is larger
+-- a field is a number if it is one or more digits, leading zeros allowed, with a value of at most 255; no code and no number of a color is larger
 abbrev pub number_of : List ℕ → Option ℕ
 number_of field =
     if nat_lt 0 (length field) && (all_ascii_digits field && nat_le (digits_value 10 field) 255)
     then Some (digits_value 10 field) else None
 
--- a field is read as a code where it is a number, and an empty one as 0 (ECMA-48, sections 5.4.2 and 8.3.117)
+-- a field is read as a code if it is a number, and an empty field as 0 (ECMA-48, sections 5.4.2 and 8.3.117)
 abbrev pub code_of : List ℕ → Option ℕ
 code_of [] = Some 0
 code_of field = number_of field
@@ -108,28 +108,28 @@ effect_of field = option_map_or effect_of_code (code_of field) unknown_code
 abbrev pub is_code : ℕ → List ℕ → Bool
 is_code n field = option_map_or (λ m. m == n) (code_of field) false
 
--- a field gives a color its number, and 0 where it is none (the Rust crate)
+-- the number that a field gives to a color, which is 0 if the field is no number (the Rust crate)
 abbrev pub color_number : List ℕ → ℕ
 color_number field = unwrap_or (number_of field) 0
 
--- after the selector 2, three numbers are a color's red, green and blue; what is missing uses up all fields
+-- after the selector 2, three numbers are a color's red, green and blue; if one is missing, all fields are used up
 abbrev pub color_by_parts : List (List ℕ) → Option AnsiColor × List (List ℕ)
 color_by_parts (r ∷ g ∷ b ∷ fields) = (Some (Bit24 (color_number r) (color_number g) (color_number b)), fields)
 color_by_parts _ = (None, [])
 
--- after the selector 5, a number is one of 256 colors
+-- after the selector 5, a number selects one of 256 colors
 abbrev pub color_by_number : List (List ℕ) → Option AnsiColor × List (List ℕ)
 color_by_number [] = (None, [])
 color_by_number (n ∷ fields) = (Some (Bit8 (color_number n)), fields)
 
--- a color is read by its selector, the first field; the fields that it uses up are gone, whether there is a color or not
+-- a color is read by its selector, the first field; the fields read are used up whether there is a color or not
 abbrev pub read_color : List (List ℕ) → Option AnsiColor × List (List ℕ)
 read_color [] = (None, [])
 read_color (selector ∷ fields) =
     if is_code 2 selector then color_by_parts fields
     else (if is_code 5 selector then color_by_number fields else (None, fields))
 
--- an effect gives a style, and the fields that are left
+-- the style after an effect, and the fields that are left
 abbrev pub perform : Effect → Rendition → List (List ℕ) → Rendition × List (List ℕ)
 perform (Changes f) s fields = (f s, fields)
 perform (ReadsColor put) s fields =
@@ -141,7 +141,7 @@ abbrev pub step : Rendition → List (List ℕ) → Rendition × List (List ℕ)
 step s [] = (s, [])
 step s (field ∷ fields) = perform (effect_of field) s fields
 
--- n steps, or as many as there are
+-- n steps, or fewer if the fields run out
 abbrev pub steps : ℕ → Rendition → List (List ℕ) → Rendition
 steps zero s fields = s
 steps (suc n) s fields =
@@ -158,7 +158,7 @@ apply_parameters s parameters =
     let fields = fields_of parameters in
     steps (length fields) s fields
 
--- the style after the sequence w: an SGR changes it, and no other sequence does
+-- the style after the sequence w: only an SGR changes it
 abbrev pub apply : Rendition → List ℕ → Rendition
 apply s w = option_map_or (apply_parameters s) (sgr_parameters w) s
 

@@ -1,4 +1,4 @@
--- A style as the code holds it, seen as a rendition.
+-- A style of the code as a rendition.
 use Rattle.std.specs.Prelude.{ℕ, Bool, not, ◌==◌, ◌^◌}
 use Rattle.std.specs.Int.RustNames.{bit_and}
 use Rattle.ansi_style.specs.Rendition.{Rendition, plain_style}
@@ -6,15 +6,15 @@ use Rattle.ansi_style.specs.Numbers.{color_of_numbers, font_of_numbers}
 use Rattle.ansi_style.specs.declared.state.Style.{Style}
 use Rattle.ansi_style.specs.declared.numbers.StyleNumbers.{StyleNumbers}
 
--- a set of attributes has the one at this place: its bit there is 1
+-- a set of attributes has the attribute at this place: the bit there is 1
 abbrev pub has : ℕ → ℕ → Bool
 has set place = bit_and set (2 ^ place) == 2 ^ place
 
--- a set has one of the attributes of the other
+-- the set has at least one attribute of the other set
 abbrev pub has_one : ℕ → ℕ → Bool
 has_one set attributes = not (bit_and set attributes == 0)
 
--- a rendition with each attribute that `is_set` tells by its place
+-- the rendition with exactly the attributes whose places satisfy `is_set`
 abbrev pub with_attributes : (ℕ → Bool) → Rendition → Rendition
 with_attributes is_set s = record s {
   bold = is_set 0;
@@ -43,7 +43,7 @@ with_attributes is_set s = record s {
   unknown = is_set 23;
 }
 
--- the rendition that a style of the code is
+-- the rendition of a style of the code
 unfoldable pub rendition_of : Style → Rendition
 rendition_of s = with_attributes (has s.attributes.0) (record plain_style {
   foreground = s.foreground;
@@ -52,7 +52,7 @@ rendition_of s = with_attributes (has s.attributes.0) (record plain_style {
   font = s.font;
 })
 
--- the rendition that numbers are, each attribute by its bit
+-- the rendition that the numbers encode, each attribute by its bit
 abbrev pub rendition_of_numbers : StyleNumbers → Rendition
 rendition_of_numbers n = with_attributes (has n.attributes) (record plain_style {
   foreground = color_of_numbers n.foreground;

@@ -1,4 +1,4 @@
--- The sequences that are written to set a style, its start, and to end it, its close.
+-- The sequences that set a style, its start, and those that reset it, its close.
 use Rattle.std.specs.Prelude.{ℕ, Bool, ◌&&◌, ◌||◌, List, [], ◌∷◌, ◌++◌, Option, Some, None, is_some, if◌then◌else◌, codes, decimal, flat_map}
 use Rattle.ansi_items.specs.declared.ansitok.AnsiColor.{AnsiColor}
 use Rattle.ansi_items.specs.declared.ansitok.AnsiColor.TheVariants.{Bit4, Bit8, Bit24}
@@ -8,26 +8,26 @@ use Rattle.ansi_style.specs.Rendition.{Rendition, has_any, has_ideogram_attribut
 abbrev pub written : List ℕ → List ℕ
 written code = codes "\u{1b}[" ++ code ++ codes "m"
 
--- codes in a row, each in a sequence of its own
+-- a list of codes, each in a sequence of its own
 abbrev pub written_all : List (List ℕ) → List ℕ
 written_all all = flat_map written all
 
--- a code, where it is called for
+-- a code, if the condition holds
 abbrev pub when : Bool → List ℕ → List (List ℕ)
 when b code = if b then code ∷ [] else []
 
--- the code of a color; `extended` is the code before those beyond the sixteen
+-- the code of a color; `extended` is the code that precedes a color beyond the sixteen
 abbrev pub color_code : List ℕ → AnsiColor → List ℕ
 color_code extended (Bit4 n) = decimal n
 color_code extended (Bit8 n) = extended ++ codes ";5;" ++ decimal n
 color_code extended (Bit24 r g b) = extended ++ codes ";2;" ++ decimal r ++ codes ";" ++ decimal g ++ codes ";" ++ decimal b
 
--- the code of a color, where there is one
+-- the code of a color, if one is set
 abbrev pub color_codes : List ℕ → Option AnsiColor → List (List ℕ)
 color_codes extended None = []
 color_codes extended (Some c) = color_code extended c ∷ []
 
--- the code of a font, where there is one
+-- the code of a font, if one is set
 abbrev pub font_codes : Option ℕ → List (List ℕ)
 font_codes None = []
 font_codes (Some n) = decimal n ∷ []
@@ -62,7 +62,7 @@ start_codes s =
     ++ when s.superscript (codes "73")
     ++ when s.subscript (codes "74")
 
--- the codes that end a style, in the order in which they are written (the Rust crate)
+-- the codes that reset a style, in the order in which they are written (the Rust crate)
 abbrev pub close_codes : Rendition → List (List ℕ)
 close_codes s =
     when (s.unknown && s.reset) (codes "0")
@@ -88,11 +88,11 @@ close_codes s =
 abbrev pub start : Rendition → List ℕ
 start s = written_all (start_codes s)
 
--- the close of a style: the bytes that end it
+-- the close of a style: the bytes that reset it
 abbrev pub close : Rendition → List ℕ
 close s = written_all (close_codes s)
 
--- the close of a style in which anything is set that a reader could see, else nothing (the Rust crate)
+-- the close of a style if it has something to reset, otherwise nothing (the Rust crate)
 abbrev pub close_if_any : Rendition → List ℕ
 close_if_any s = if has_any s then close s else []
 

@@ -1,6 +1,6 @@
-//! Laws of styles and of colors. `ansi_str` shows them among its own.
+//! Laws of styles and of colors. `ansi_str` includes them among its own.
 //!
-//! Each function carries one law as its contract, does nothing and answers nothing.
+//! Each function states one law as its contract. It does nothing and returns nothing.
 ghost use Rattle.std.specs.Prelude.{◌≡◌, codes};
 ghost use Rattle.ansi_items.specs.AnsiColors.{compared, ansi_color_key};
 ghost use Rattle.ansi_style.specs.Rendition.{Rendition, IsStyle, plain_style, known};
@@ -12,20 +12,20 @@ use crate::state::{AnsiSequenceEnd, Style};
 use crate::style::Color;
 use ansi_items::ansitok::AnsiColor;
 
-/// The colors and the font of each style that a program holds are in their ranges, so that its start sets it
-/// and has its greatest length at most.
+/// The colors and the font of every style that a program holds are in their ranges. So its start
+/// sets it, and has at most the greatest length.
 pub fn styles_are_in_range()
     ensures { (s : Style) → IsStyle (rendition_of s) }
 {}
 
-/// `AnsiSequenceEnd::RESET_ALL` is `\e[0m`, which leaves nothing known of any style.
+/// `AnsiSequenceEnd::RESET_ALL` is `\e[0m`, which resets everything that is known of any style.
 pub fn reset_all_clears()
     ensures bytes { AnsiSequenceEnd.RESET_ALL.now ≡ codes "\u{1b}[0m" }
     ensures cleared { (s : Rendition) → known (style_after_from s AnsiSequenceEnd.RESET_ALL.now) ≡ plain_style }
 {}
 
-/// Styles compare by their 28 parts in turn, colors by their rank and then by their numbers: an attribute
-/// that isn't set is before one that is, and no color and no font is before any.
+/// Styles compare by their 28 parts in turn, colors by their rank and then by their numbers. An
+/// attribute that isn't set is less than one that is, and a missing color or font is less than any.
 pub fn orders_go_by_parts()
     ensures style { (a b : Style) → ⟦<Style as Ord>⟧.cmp a b ≡ compared_in_turn (parts_in_order (rendition_of a)) (parts_in_order (rendition_of b)) }
     ensures color { (a b : Color) → ⟦<Color as Ord>⟧.cmp a b ≡ compared (color_key a) (color_key b) }

@@ -1,4 +1,5 @@
-//! The style of a text: what SGRs do to it, the sequences that set and end it, and what callers see of it.
+//! The style of a text: how SGRs change it, the sequences that set and reset it, and the calls for
+//! users.
 #![tactic(auto)]
 
 pub mod laws;

@@ -1,4 +1,4 @@
-//! A style as numbers, for memory that isn't Rattle's.
+//! A style as numbers, for memory that Rattle doesn't manage.
 ghost use Rattle.std.specs.Prelude.{◌≡◌, IsTrue};
 ghost use Rattle.std.specs.Option.{ForSome};
 ghost use Rattle.std.specs.Int.{is_in_range};
@@ -10,7 +10,7 @@ use crate::state::attributes::Attributes;
 use ansi_items::ansitok::AnsiColor;
 use bitflags::Flags;
 
-/// A color as numbers, or that none is set.
+/// An optional color as numbers.
 #[repr(C)]
 #[derive(Clone, Copy)]
 pub struct ColorNumbers {
@@ -54,7 +54,7 @@ impl ColorNumbers {
     }
 }
 
-/// A font as numbers, or that none is set.
+/// An optional font as numbers.
 #[repr(C)]
 #[derive(Clone, Copy)]
 pub struct FontNumbers {
@@ -85,8 +85,8 @@ impl FontNumbers {
     }
 }
 
-/// A style as numbers, which a caller may keep where no `Style` can stand. Contracts see it as a
-/// `Rendition`, by `rendition_of_numbers`. (Own.)
+/// A style as numbers, for a caller that can't keep a `Style`. Contracts see it as a `Rendition`,
+/// by `rendition_of_numbers`. (Own.)
 #[repr(C)]
 #[derive(Clone, Copy)]
 pub struct StyleNumbers {

@@ -1,4 +1,4 @@
-//! The style: what SGRs do to it, and the sequences that set and end it.
+//! The style: how SGRs change it, and the sequences that set and reset it.
 pub(crate) mod attributes;
 mod compare;
 pub(crate) mod fields;
@@ -20,16 +20,16 @@ use bitflags::Flags;
 
 /// A style: what the SGRs before a character of a text have selected (ECMA-48, section 8.3.117).
 ///
-/// It has three colors, a font and 24 attributes. Styles compare by these, part by part, in the order
-/// of the fields of `Rendition`. A block has one, see `get_blocks`. (The Rust crate.)
+/// It has three colors, a font and 24 attributes. Styles compare by these, part by part, in the
+/// order of the fields of `Rendition`. A block has one, see `get_blocks`. (The Rust crate.)
 ///
 /// ```
 /// let first = get_blocks(rt.alloc(), "\x1b[1;31mred").next();
 /// assert!(rt; matches!(&first, Some(Ok(block)) if block.style().foreground() == Some(Color::Red)));
 /// ```
 ///
-/// Its colors and its font are such as SGR codes select, which the ghost fields say. Contracts see
-/// it as a `Rendition`, by `rendition_of`.
+/// Its colors and its font are always ones that SGR codes can select, as the ghost fields say.
+/// Contracts see it as a `Rendition`, by `rendition_of`.
 #[derive(Debug, Clone, Copy)]
 pub struct Style {
     pub(crate) attributes: Attributes,
@@ -50,8 +50,8 @@ impl Style {
     ghost use Rattle.ansi_style.specs.Sgr.{effect_of_code, unknown_code, perform};
     ghost use Rattle.ansi_style.specs.States.{has, rendition_of, with_attributes};
 
-    /// Does what a field asks for, as the code that it is, if it is one. A code that reads a color takes
-    /// fields off those left.
+    /// Applies one field as an SGR code. A field that is no code counts as an unknown code. A code
+    /// that reads a color takes its fields from `rest`.
     #[tactic(auto, unfolding(crate::specs::States::rendition_of))]
     pub(crate) fn step(&mut self, field: Field, rest: &mut Fields<'_>)
         ensures { (rendition_of self.new, rest.new)
@@ -81,7 +81,7 @@ impl Style {
         self.attributes.remove(attributes);
     }
 
-    /// What the style shows.
+    /// The rendition of the style.
     #[tactic(auto, unfolding(crate::specs::States::rendition_of))]
     pub(crate) fn rendition(&self) -> Rendition
         ensures { result ≡ rendition_of self.now }
@@ -129,7 +129,7 @@ impl Style {
     pub(crate) fn has_known(&self) -> bool
         ensures { result ≡ has_known (rendition_of self.now) }
     {
-        // `|`: all five are asked at once, without a branch for each
+        // `|` evaluates all five without a branch for each
         self.foreground.is_some()
             | self.background.is_some()
             | self.underline_color.is_some()
@@ -137,7 +137,7 @@ impl Style {
             | self.attributes.intersects(Attributes::KNOWN)
     }
 
-    /// The start of the style, to be printed: the sequences that set it. Takes no memory. (The Rust
+    /// The start of the style, for printing: the sequences that set it. Doesn't allocate. (The Rust
     /// crate.)
     ///
     /// ```
@@ -152,8 +152,8 @@ impl Style {
         AnsiSequenceStart(self)
     }
 
-    /// The end of the style, to be printed: the sequences that end it, or nothing where the style has
-    /// nothing to end. Takes no memory. (The Rust crate.)
+    /// The close of the style, for printing: the sequences that reset what it sets, or nothing if
+    /// there is nothing to reset. Doesn't allocate. (The Rust crate.)
     ///
     /// ```
     /// let block = get_blocks(rt.alloc(), "\x1b[1;33mbar").next().ok_or("no block")??;

@@ -1,4 +1,4 @@
-//! What callers see of a style: its attributes, and its colors by their names. No call takes memory.
+//! The attributes and colors of a style, for callers. No call allocates.
 mod color;
 
 ghost use Rattle.std.specs.Prelude.{◌≡◌};
@@ -49,7 +49,7 @@ impl Style {
         self.attributes.contains(Attributes::ITALIC)
     }
 
-    /// Whether the text is underlined, and not doubly (SGR 4, ECMA-48).
+    /// Whether the text is singly underlined (SGR 4, ECMA-48).
     ///
     /// ```
     /// let first = get_blocks(rt.alloc(), "\x1b[4mx").next();
@@ -85,7 +85,7 @@ impl Style {
         self.attributes.contains(Attributes::RAPID_BLINK)
     }
 
-    /// Whether foreground and background change places (SGR 7, ECMA-48).
+    /// Whether foreground and background are swapped (SGR 7, ECMA-48).
     ///
     /// ```
     /// let first = get_blocks(rt.alloc(), "\x1b[7mx").next();
@@ -133,7 +133,7 @@ impl Style {
         self.attributes.contains(Attributes::FRAKTUR)
     }
 
-    /// The color of the text, by its name, or `None` where none is set. (The Rust crate.)
+    /// The color of the text by name, or `None` if none is set. (The Rust crate.)
     ///
     /// ```
     /// let first = get_blocks(rt.alloc(), "\x1b[35mx").next();
@@ -145,7 +145,7 @@ impl Style {
         Some(Color::from(self.foreground?))
     }
 
-    /// The color after the text, by its name, or `None` where none is set. (The Rust crate.)
+    /// The color behind the text by name, or `None` if none is set. (The Rust crate.)
     ///
     /// ```
     /// let first = get_blocks(rt.alloc(), "\x1b[45mx").next();

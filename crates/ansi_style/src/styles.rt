@@ -1,5 +1,5 @@
-//! What the layers above do with a style. They are free functions, so that `Style` has no public method
-//! but those that a caller of `ansi_str` is to see.
+//! What the crates above do with a style. These are free functions, so that `Style` has only the
+//! public methods that callers of `ansi_str` need.
 ghost use Rattle.std.specs.Prelude.{◌≡◌, ◌||◌, ◌++◌, IsTrue, OnOk, string_bytes};
 ghost use Rattle.ansi_items.specs.Sequences.{is_sgr};
 ghost use Rattle.ansi_style.specs.Rendition.{plain_style, has_known, has_any};
@@ -29,7 +29,7 @@ pub fn plain_style() -> Style
     }
 }
 
-/// Does what the codes of an SGR, a whole sequence, ask for, one after another.
+/// Applies the codes of an SGR, a whole sequence, one after another.
 #[inline(always)]
 pub fn apply(style: &mut Style, sequence: &str)
     requires { IsTrue (is_sgr sequence.now) }
@@ -42,8 +42,8 @@ pub fn apply(style: &mut Style, sequence: &str)
     }
 }
 
-/// Does what the codes of these parameter bytes ask for, one after another. It stands apart from the quick
-/// way of one short field.
+/// Applies the codes of the parameter bytes, one after another. It is a function of its own because
+/// most SGRs take the fast path for one short field.
 #[inline(never)]
 fn apply_fields(style: &mut Style, parameters: &[u8])
     ensures { rendition_of style.new ≡ apply_parameters (rendition_of style.old) parameters.now }
@@ -54,8 +54,8 @@ fn apply_fields(style: &mut Style, parameters: &[u8])
     }
 }
 
-/// Whether the style has something to end: a known attribute, a color or a font is set, or `reset`
-/// and `unknown` both are.
+/// Whether the style has something to reset: a known attribute, a color or a font is set, or
+/// `reset` and `unknown` are both set.
 #[tactic(auto, unfolding(crate::specs::States::rendition_of))]
 pub fn has_any(style: &Style) -> bool
     ensures { result ≡ has_any (rendition_of style.now) }
@@ -65,36 +65,36 @@ pub fn has_any(style: &Style) -> bool
             && style.attributes.contains(Attributes::UNKNOWN)
 }
 
-/// Whether the close of the style has something to write: a known attribute, a color or a font is set, or
-/// `unknown` is.
+/// Whether the close of the style writes something: a known attribute, a color or a font is set, or
+/// `unknown` is set.
 #[tactic(auto, unfolding(crate::specs::States::rendition_of))]
 pub fn has_close(style: &Style) -> bool
     ensures { result ≡ (has_known (rendition_of style.now) || (rendition_of style.now).unknown) }
 {
-    // `|`, as in `has_known`
+    // `|` for the same reason as in `has_known`
     style.has_known() | style.attributes.contains(Attributes::UNKNOWN)
 }
 
-/// Appends the start of the style. An `Err` means out of memory; what was appended up to
-/// there stands.
+/// Appends the start of the style. `Err` means out of memory; what was appended before the error
+/// stays.
 #[tactic(auto, using(crate::proofs::UnsetLemmas::unset_styles))]
 pub fn write_start<A: Allocator>(style: &Style, out: &mut String<A>) -> Result<(), AllocError>
     ensures { OnOk result (string_bytes out.new ≡ string_bytes out.old ++ start (rendition_of style.now)) }
 {
-    // also before a formatter is made
+    // returns before a formatter is made
     if !style.has_known() {
         return Ok(());
     }
     write!(out, "{}", style.start())
 }
 
-/// Appends the close of the style. An `Err` means out of memory; what was appended up to
-/// there stands.
+/// Appends the close of the style. `Err` means out of memory; what was appended before the error
+/// stays.
 #[tactic(auto, using(crate::proofs::UnsetLemmas::unset_styles), unfolding(crate::specs::States::rendition_of))]
 pub fn write_close<A: Allocator>(style: &Style, out: &mut String<A>) -> Result<(), AllocError>
     ensures { OnOk result (string_bytes out.new ≡ string_bytes out.old ++ close (rendition_of style.now)) }
 {
-    // also before a formatter is made
+    // returns before a formatter is made
     if !has_close(style) {
         return Ok(());
     }

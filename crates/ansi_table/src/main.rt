@@ -1,8 +1,8 @@
-//! Prints lines of cells as a table, each cell in a column of its own width.
+//! Prints lines of cells as a table. Each column has a width of its own.
 //!
-//! Cells are separated by tabs. The words after the program's name are the widths, in columns of a terminal. A
-//! cell that is too wide is cut, with an ellipsis, one that is too narrow or isn't there is filled up with blanks,
-//! and its styles and its link end with it. Numbers stand at the right.
+//! Cells are separated by tabs. The arguments are the widths, in columns of a terminal. A cell that
+//! is too wide is truncated with an ellipsis. A cell that is too narrow or missing is padded with
+//! blanks. The styles and the link of a cell end with it. Numbers are aligned to the right.
 #![tactic(auto)]
 
 use ansi_columns::{Alignment, AnsiColumns};
@@ -12,7 +12,7 @@ use std::alloc::{AllocError, Global};
 use std::env;
 use std::fmt::Write;
 
-// Appends a cell, cut or filled up to the width.
+// Appends a cell, truncated or padded to the width.
 fn push_cell(alloc: Global, row: &mut String, cell: &str, width: usize) -> Result<(), AllocError> {
     let alignment = match cell.ansi_strip(alloc)?.as_str().parse::<u64>() {
         Ok(_) => Alignment::Right,
@@ -24,7 +24,7 @@ fn push_cell(alloc: Global, row: &mut String, cell: &str, width: usize) -> Resul
     Ok(())
 }
 
-// The row of a line: as many cells as there are widths.
+// The row of a line, with one cell for each width.
 fn row_of(alloc: Global, line: &str, widths: &[usize]) -> Result<String, AllocError> {
     let mut row = String::from_str(alloc, "|")?;
     let mut cells = line.ansi_split(alloc, "\t");

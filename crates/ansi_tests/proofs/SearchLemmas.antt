@@ -1,4 +1,4 @@
--- What is found of a pattern that a text begins or ends with, in std's words.
+-- The first match of a pattern that a text begins or ends with, in std's words.
 use Rattle.std.proofs.Common.{◌≡◌, ℕ, ◌-◌, ◌++◌, inl, inr, Bool, true, false, List, take, drop, length, nat_eq, Option, Some, None, MatchOption, is_some, refl, sym, ◌∙◌, ap, arith}
 use Rattle.std.proofs.lemmas.Bool.{cases_lt, eqb-true, eq-eqb}
 use Rattle.std.proofs.lemmas.List.{take-append-drop, take_at, take_all, length-drop}
@@ -21,7 +21,7 @@ ends_with-starts_with x p =
     let end = drop (length x - length p) x in
     ap (pointwise nat_eq p) (take_all (length p) end (omega (arith, length-drop (length x - length p) x)))
 
--- what is found is found at the front exactly where the text begins with the pattern
+-- the first match is at the front exactly if the text begins with the pattern
 pub finds_at_front : (x p : List ℕ) (r : Option ℕ) → MatchOption r (FindsText p x None) (MatchBeginsAt (FindsText p) x) → option_eq nat_eq r (Some 0) ≡ starts_with nat_eq x p
 finds_at_front x p None lacks = sym (not_begun (starts_with nat_eq x p) refl)
   where

@@ -1,4 +1,5 @@
-//! Callers of the library, proved by its contracts alone: what can be concluded of the calls' answers.
+//! Callers of the library, proved from its contracts alone: what follows from the results of the
+//! calls.
 pub mod blocks;
 pub mod buffers;
 pub mod chains;

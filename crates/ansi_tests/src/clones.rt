@@ -1,4 +1,4 @@
-//! What a caller knows of a clone of the library's small values: it is the value itself, and never an `Err`.
+//! Clones of the library's small values: a clone equals the value, and is never an `Err`.
 ghost use Rattle.std.specs.Prelude.{◌≡◌, Ok};
 
 use ansi_str::ansitok::{AnsiColor, Item, Kind};

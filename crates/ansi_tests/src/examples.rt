@@ -21,7 +21,7 @@ fn the_first_example_is_right(rt: HostRuntime) -> Result<(), Fail> {
     Ok(())
 }
 
-// An answer is a text like any other.
+// A result is a text like any other.
 #[test]
 fn a_cut_is_stripped(rt: HostRuntime) -> Result<(), Fail> {
     let log = "\x1b[31mred\x1b[39m and plain";
@@ -31,7 +31,7 @@ fn a_cut_is_stripped(rt: HostRuntime) -> Result<(), Fail> {
     Ok(())
 }
 
-// A table cuts a cell to a width in bytes. Nothing stays open after it.
+// A table cuts a cell to a width in bytes. No style stays open after it.
 #[test]
 fn a_cell_is_cut_to_a_width(rt: HostRuntime) {
     let edits = [
@@ -47,7 +47,7 @@ fn a_cell_is_cut_to_a_width(rt: HostRuntime) {
     );
 }
 
-// A log viewer searches a line as if it were plain, and shows what it found in its styles.
+// A log viewer searches a line as if it were plain, and shows each match in its styles.
 #[test]
 fn a_log_line_is_searched_and_cut(rt: HostRuntime) {
     let line = "12:00 \x1b[31merror\x1b[0m: disk \x1b[1mfull\x1b[0m";
@@ -57,7 +57,7 @@ fn a_log_line_is_searched_and_cut(rt: HostRuntime) {
     assert!(rt; matches!(&found, Ok(Some(found)) if found.as_str() == want));
 }
 
-// A wrapper breaks a line between its words, each of which brings its style along.
+// A wrapper breaks a line between its words. Each word keeps its style.
 #[test]
 fn a_line_is_wrapped_by_parts(rt: HostRuntime) -> Result<(), Fail> {
     let mut wrapped = String::new(rt.alloc());
@@ -79,12 +79,12 @@ fn a_line_is_wrapped_by_parts(rt: HostRuntime) -> Result<(), Fail> {
     Ok(())
 }
 
-/// A line of progress in a style.
+/// A progress line in a style.
 fn progress_line(alloc: Global, style: &Style) -> Result<String, AllocError> {
     format!(in alloc; "{}42%{}", style.start(), style.end())
 }
 
-// A progress printer writes words of its own in a style that it was given as a text.
+// A progress printer writes its own words in a style that it received as a text.
 #[test]
 fn a_progress_line_is_written_in_a_style(rt: HostRuntime) -> Result<(), Fail> {
     let sample = get_blocks(rt.alloc(), "\x1b[1;33mbar").next();

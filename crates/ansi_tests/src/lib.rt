@@ -1,5 +1,5 @@
-//! As tests, callers of `ansi_str` that are proved by its contracts alone, README.md's first example and one for each kind
-//! of caller, and what no row of `ansi_rows` can ask for.
+//! Tests: callers of `ansi_str` that are proved from its contracts alone, the first example of
+//! README.md and one for each kind of caller, and what no row of `ansi_rows` can test.
 #![tactic(auto)]
 
 #[cfg(test)]

@@ -1,4 +1,4 @@
-//! Tests of what no row of `ansi_rows` can ask for.
+//! Tests of what no row of `ansi_rows` can test.
 mod blocks;
 mod callers;
 mod colors;
@@ -7,7 +7,7 @@ mod requests;
 use std::fmt::Debug;
 use std::process::Abort;
 
-/// Ends the test where this doesn't hold of the row.
+/// Aborts the test with the row if the condition doesn't hold.
 pub fn expect<R: Copy + Debug>(rt: &impl Abort, holds: bool, what: &str, row: R) {
     assert!(rt; holds, "{what}: {row:?}");
 }

@@ -1,7 +1,7 @@
-//! Wraps each line of its input at blanks. Each line that comes of it sets its styles and its link by itself, and ends
-//! them.
+//! Wraps each line of its input at blanks. Each resulting line sets its styles and its link itself,
+//! and closes them.
 //!
-//! The first word after the program's name is the width, in columns of a terminal. A word that is wider is broken.
+//! The first argument is the width, in columns of a terminal. A word that is wider is broken.
 #![tactic(auto)]
 
 use ansi_columns::AnsiColumns;

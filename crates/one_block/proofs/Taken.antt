@@ -1,4 +1,4 @@
--- The two cases of what `take` gave, and a block as room for a type. Assumes `Logic`.
+-- The two cases of the result of `take`, and a block as room for a type. Assumes `Logic`.
 use Rattle.std.proofs.Common.{◌≡◌, ℕ, ◌^◌, ◌<◌, ◌≤◌, List, [], ◌∷◌, ◌++◌, IfSome, None, Some, refl, sym, ap, subst, ◌∙◌, arith}
 use seplogic.Ra.Ura.{Ura}
 use mir.Syntax.{Ty, Width, w8, w16, w32, w64, w128}

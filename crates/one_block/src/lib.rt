@@ -1,4 +1,5 @@
-//! An allocator over one block of memory, which it gives to who asks for its very size.
+//! An allocator over one block of memory. It grants only requests for exactly the size of that
+//! block.
 #![tactic(auto)]
 
 ghost use Rattle.std.specs.Prelude.{◌≡◌, ◌^◌, ◌<◌, ◌≤◌, ℕ, IfSome};
@@ -12,7 +13,7 @@ use std::marker::Model;
 
 const UNIT: usize = 16;
 
-/// Memory that nothing lies in, aligned to 16.
+/// Unused memory, aligned to 16.
 #[repr(C)]
 #[derive(Drop)]
 pub struct Block {
@@ -37,7 +38,7 @@ impl Block {
     }
 }
 
-/// An allocator that has one block.
+/// An allocator that owns one block.
 #[derive(Drop)]
 pub struct OneBlock {
     size: usize,
@@ -65,7 +66,7 @@ impl OneBlock {
         self.size
     }
 
-    /// The block, where it is free.
+    /// The block, or `None` if it is in use.
     pub fn into_block(self) -> Option<Block> {
         let OneBlock { size: _, free } = self;
         free.into_inner()

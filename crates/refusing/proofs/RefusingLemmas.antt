@@ -29,7 +29,7 @@ module _ (Z : Al) where
   abbrev self : Slot 2
   self = RefOf (0 ∷ []) tt (plain (λ _. refusing.the_row (param 0 Z.row))) (λ _. tt)
 
-  -- where the fields of a `Refusing` at p lie
+  -- the addresses of the fields of a `Refusing` at p
   abbrev pub inner_at : ℕ × ℕ → ℕ × ℕ
   inner_at p = (p.0, p.1 + up (align (α Z)) 0)
 

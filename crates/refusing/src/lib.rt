@@ -8,9 +8,9 @@ use std::cell::Cell;
 
 /// An allocator that grants its first requests for memory and refuses every later one.
 ///
-/// What it grants, the inner allocator answers, which may itself be out of memory. A collection
-/// takes a `&Refusing`. Each growth and each shrinking of a block is one request, and giving a
-/// block back is none. No contract can say what a cell holds, so only a run shows what is refused.
+/// A granted request goes to the inner allocator, which may itself be out of memory. A collection
+/// takes a `&Refusing`. Growing or shrinking a block counts as one request, and freeing a block
+/// counts as none. Contracts can't speak of a cell's value, so only a test shows what is refused.
 ///
 /// ```
 /// for granted in 0..10 {
@@ -26,9 +26,9 @@ pub struct Refusing<B: Allocator> {
 }
 
 impl<B: Allocator> Refusing<B> {
-    /// An allocator that grants the first `granted` requests, out of the memory of `inner`.
+    /// An allocator that grants the first `granted` requests from the memory of `inner`.
     ///
-    /// At 0 it refuses each one, at `u64::MAX` none. Takes no memory.
+    /// With 0 it refuses every request, with `u64::MAX` none. Doesn't allocate.
     pub fn new(inner: B, granted: u64) -> Self {
         Refusing {
             inner,
@@ -41,16 +41,16 @@ impl<B: Allocator> Refusing<B> {
 
     /// The number of requests so far, granted or refused.
     ///
-    /// It stays at 0 where a call takes no memory.
+    /// It stays 0 during a call that doesn't allocate.
     pub fn requests(&self) -> u64 {
         self.requests.so_far.get()
     }
 
     /// Whether a request has been refused.
     ///
-    /// By it a test sees an `Err` in vain, where nothing was refused, and an `Ok` in spite of a
-    /// refusal. The latter is right only of a call that can do without the memory, as
-    /// `shrink_to_fit` can.
+    /// With it a test detects an `Err` although no request was refused, and an `Ok` although one
+    /// was. Such an `Ok` is right only for a call that doesn't need the memory, such as
+    /// `shrink_to_fit`.
     pub fn has_refused(&self) -> bool {
         self.requests() > self.requests.granted
     }
@@ -71,7 +71,7 @@ unsafe impl<B: Allocator> Allocator for Refusing<B> {
     }
 }
 
-// How many requests are granted, and how many there have been so far.
+// The number of requests to grant, and the number of requests so far.
 #[derive(Drop)]
 struct Requests {
     granted: u64,
@@ -79,7 +79,7 @@ struct Requests {
 }
 
 impl Requests {
-    // Counts one request more, and says whether it is refused.
+    // Counts one more request, and returns whether it is refused.
     fn refuses_next(&self) -> bool {
         let number = number_after(self.so_far.get());
         self.so_far.set(number);
@@ -87,8 +87,8 @@ impl Requests {
     }
 }
 
-// The number of the request after so many. At its limit the count stays, since a count that began
-// again at 0 would grant again.
+// The number of the next request after `requests` of them. The count saturates: if it began again
+// at 0, requests would be granted again.
 fn number_after(requests: u64) -> u64
     ensures { result ≡ min (requests + 1) 18_446_744_073_709_551_615 }
 {

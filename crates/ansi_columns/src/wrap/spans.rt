@@ -1,4 +1,4 @@
-//! The stretches of a text that the lines of a wrap are written from.
+//! The stretches of a text from which the lines of a wrap are written.
 ghost use Rattle.std.specs.Prelude.{◌≡◌, ◌+◌, ◌≤◌, ◌++◌, [], length, IsTrue, IsFalse, IsOk, IfOk, OnOk, string_bytes};
 ghost use Rattle.std.specs.Option.{MatchOption};
 ghost use Rattle.ansi_items.specs.Plain.{plain};
@@ -18,26 +18,27 @@ use std::alloc::{AllocError, Allocator};
 use std::borrow::CowStr;
 use std::marker::Model;
 
-/// A start and a close have at most 251 bytes together, `longest_start_and_close`, and the end of a link
-/// `longest_link_end`. It is room alone, asked for before they are written.
+/// Room for a start and a close, which together have at most 251 bytes (`longest_start_and_close`),
+/// and for the end of a link (`longest_link_end`). It is only a capacity, reserved before they are
+/// written.
 const PEN_ROOM: usize = 251 + LINK_END.len();
 
-/// What one line is written from. Contracts see it as that line.
+/// The data of one line. Contracts see it as that line.
 #[derive(Drop)]
 pub(crate) struct Span<'t> {
-    /// The text from after the last sequence of the line before up to after the last one of this line.
+    /// The text after the last sequence of the previous line, up to the last sequence of this line.
     text: &'t str,
-    /// Whether an ESC stands in it.
+    /// Whether the text has an ESC.
     is_marked: bool,
-    /// How many of its plain bytes stand before the line.
+    /// The number of plain bytes of the text before the line.
     start: usize,
-    /// How many of its plain bytes stand before the end of the line.
+    /// The number of plain bytes of the text before the end of the line.
     end: usize,
-    /// Where the line ends in it, after the sequences there.
+    /// The offset in the text at which the line ends, after the sequences there.
     end_offset: usize,
-    /// What the lines before leave open.
+    /// The style and link that the lines before leave open.
     carried: Pen<'t>,
-    /// What is open after the text.
+    /// The style and link that are open after the text.
     after: Pen<'t>,
 }
 
@@ -54,7 +55,8 @@ impl<'t> Model for Span<'t> {
 }
 
 impl<'t> Span<'t> {
-    /// The line: a borrow where no sequence stands in it, and it is empty or nothing is carried into it.
+    /// The line. It is a borrow if it has no sequence, and either is empty or has nothing carried
+    /// into it.
     pub(crate) fn write<A: Allocator>(&self, alloc: A) -> Result<CowStr<'t, A>, AllocError>
         ensures line { IfOk result (IsWrappedLine self.now) }
         ensures takes_no_memory { IsTrue self.now.borrowed → IsOk result }
@@ -65,7 +67,7 @@ impl<'t> Span<'t> {
         }
     }
 
-    /// The line as it stands in the text, where it is a borrow.
+    /// The stretch of the text that is the line, or `None` if the line isn't a borrow.
     fn bare(&self) -> Option<&'t str>
         ensures line { MatchOption result (IsFalse self.now.borrowed) (λ bare. (bare.now ≡ self.now.bytes) × IsTrue self.now.borrowed) }
         ensures len { length self.now.bytes ≤ self.now.share + longest_start_and_close + longest_link_end }
@@ -79,7 +81,8 @@ impl<'t> Span<'t> {
         Some(&self.text[self.start..self.end])
     }
 
-    /// The line, written: what is carried into it, its text with its sequences, and what ends the pen.
+    /// The owned line: the style and link carried into it, its text with its sequences, and what
+    /// closes the pen.
     fn written<A: Allocator>(&self, alloc: A) -> Result<String<A>, AllocError>
         requires { IsFalse self.now.borrowed }
         ensures { IfOk result (λ s. string_bytes s ≡ self.now.bytes) }
@@ -97,8 +100,8 @@ impl<'t> Span<'t> {
     }
 }
 
-/// Appends what ends a pen: the end of its link, and the close of its style. An `Err` means out of memory;
-/// what was appended up to there stands.
+/// Appends what closes a pen: the end of its link, and the close of its style. `Err` means out of
+/// memory; what was appended before the error stays.
 fn push_end<A: Allocator>(out: &mut String<A>, pen: &Pen<'_>) -> Result<(), AllocError>
     ensures { OnOk result (string_bytes out.new ≡ string_bytes out.old ++ (link_end pen.now.link.now ++ close_if_any (rendition_of pen.now.style))) }
 {
@@ -111,19 +114,19 @@ fn push_end<A: Allocator>(out: &mut String<A>, pen: &Pen<'_>) -> Result<(), Allo
     Ok(())
 }
 
-/// The spans of the lines of a text, in order: an iterator that takes no memory.
+/// The spans of the lines of a text, in order. The iterator doesn't allocate.
 #[derive(Drop)]
 pub(crate) struct Spans<'t> {
     text: &'t str,
-    /// How many columns a line has at most, unless one cluster has more.
+    /// The greatest width of a line, in columns. A line of one wider cluster may exceed it.
     width: usize,
-    /// Where the next line begins.
+    /// The beginning of the next line.
     next: Option<Walk>,
-    /// Up to where the lines before have taken the text.
+    /// The offset at which the previous lines end.
     taken: usize,
-    /// How many plain bytes stand before that.
+    /// The number of plain bytes before that offset.
     before: usize,
-    /// What the lines before leave open.
+    /// The style and link that the lines before leave open.
     pen: Pen<'t>,
 }
 
@@ -156,7 +159,7 @@ impl<'t> Spans<'t> {
         }
     }
 
-    /// Leaves nothing.
+    /// Leaves no lines.
     pub(crate) fn finish(&mut self)
         ensures { self.new ≡ [] }
     {

@@ -1,4 +1,5 @@
-//! The attributes of a style as one set, a bit each. Its bits are changed and asked by the methods of `Flags` alone.
+//! The attributes of a style as a set of bits. Only the methods of `Flags` read and change the
+//! bits.
 ghost use Rattle.std.specs.Prelude.{⊤};
 
 use bitflags::{Flag, Flags};
@@ -7,7 +8,7 @@ use bitflags::{Flag, Flags};
 #[derive(Debug, Clone, Copy)]
 pub(crate) struct Attributes(u32);
 
-/// No flag has a name: attributes are neither read nor printed by names.
+/// No flag has a name, because attributes are neither parsed nor printed by name.
 impl Flags for Attributes {
     type Bits = u32;
 
@@ -77,29 +78,29 @@ impl Attributes {
 
     pub(crate) const UNKNOWN: Attributes = Attributes(0x800000);
 
-    /// All but `RESET` and `UNKNOWN`: what a terminal could show.
+    /// All but `RESET` and `UNKNOWN`: the attributes that a terminal can show.
     pub(crate) const KNOWN: Attributes = Attributes(0x3fffff);
 
-    /// What the code 22 ends.
+    /// The attributes that code 22 resets.
     pub(crate) const INTENSITY: Attributes = Attributes(Self::BOLD.0 | Self::FAINT.0);
 
-    /// What the code 23 ends.
+    /// The attributes that code 23 resets.
     pub(crate) const ITALIC_OR_FRAKTUR: Attributes = Attributes(Self::ITALIC.0 | Self::FRAKTUR.0);
 
-    /// What the code 24 ends.
+    /// The attributes that code 24 resets.
     pub(crate) const UNDERLINES: Attributes = Attributes(
         Self::UNDERLINE.0 | Self::DOUBLE_UNDERLINE.0,
     );
 
-    /// What the code 25 ends.
+    /// The attributes that code 25 resets.
     pub(crate) const BLINK: Attributes = Attributes(Self::SLOW_BLINK.0 | Self::RAPID_BLINK.0);
 
-    /// What the code 54 ends.
+    /// The attributes that code 54 resets.
     pub(crate) const FRAMED_OR_ENCIRCLED: Attributes = Attributes(
         Self::FRAMED.0 | Self::ENCIRCLED.0,
     );
 
-    /// What the code 65 ends.
+    /// The attributes that code 65 resets.
     pub(crate) const IDEOGRAM: Attributes = Attributes(
         Self::IDEOGRAM_UNDERLINE.0
             | Self::IDEOGRAM_DOUBLE_UNDERLINE.0
@@ -108,10 +109,10 @@ impl Attributes {
             | Self::IDEOGRAM_STRESS_MARKING.0,
     );
 
-    /// What the code 75 ends.
+    /// The attributes that code 75 resets.
     pub(crate) const SCRIPT: Attributes = Attributes(Self::SUPERSCRIPT.0 | Self::SUBSCRIPT.0);
 
-    /// What the codes from 3 to 9 set, and what the codes from 23 to 29 end.
+    /// The attributes that codes 3 to 9 set, and that codes 23 to 29 reset.
     pub(crate) const LETTERS: Attributes = Attributes(
         Self::ITALIC_OR_FRAKTUR.0
             | Self::UNDERLINES.0
@@ -121,12 +122,12 @@ impl Attributes {
             | Self::CROSSED_OUT.0,
     );
 
-    /// What the codes from 20 to 26 set.
+    /// The attributes that codes 20 to 26 set.
     pub(crate) const SHAPES: Attributes = Attributes(
         Self::FRAKTUR.0 | Self::DOUBLE_UNDERLINE.0 | Self::PROPORTIONAL_SPACING.0,
     );
 
-    /// What the codes from 51 to 74 set, and what the codes from 50 to 65 end.
+    /// The attributes that codes 51 to 74 set, and that codes 50 to 65 reset.
     pub(crate) const FRAMES: Attributes = Attributes(
         Self::FRAMED_OR_ENCIRCLED.0
             | Self::PROPORTIONAL_SPACING.0
@@ -135,6 +136,6 @@ impl Attributes {
             | Self::SCRIPT.0,
     );
 
-    /// What is ended last.
+    /// The attributes that a close resets last.
     pub(crate) const ENDS: Attributes = Attributes(Self::SCRIPT.0 | Self::UNKNOWN.0);
 }

@@ -1,4 +1,4 @@
-//! How styles compare, and what is hashed of one: as their renditions do, part by part.
+//! The order and the hash of styles. Both are those of their renditions, part by part.
 ghost use Rattle.std.specs.Ordering.{on};
 ghost use Rattle.std.specs.Cmp.{on_total, on_equiv, on_per, on_po};
 ghost use Rattle.ansi_style.specs.States.{rendition_of};

@@ -1,4 +1,4 @@
-//! The fields of an SGR's parameter bytes, and the numbers that they write.
+//! The fields of an SGR's parameter bytes, and their numbers.
 ghost use Rattle.std.specs.Prelude.{◌≡◌, [], ◌∷◌, Some, None, IsTrue, IfSome, option_map, nat_le, if◌then◌else◌};
 ghost use Rattle.ansi_items.specs.Sequences.{is_sgr, sgr_parameters};
 ghost use Rattle.ansi_style.specs.Sgr.{fields_of, code_of, color_number};
@@ -6,18 +6,18 @@ ghost use Rattle.ansi_style.specs.Fields.{first_field, with_digit};
 
 use std::marker::Model;
 
-/// A field of some parameter bytes.
+/// One field of the parameter bytes.
 #[derive(Clone, Copy)]
 pub(crate) struct Field {
-    /// The code that the field is, or `None` where it is no number of at most 255. An empty field is
-    /// 0, and leading zeros change nothing.
+    /// The field as a code, or `None` if it isn't a number of at most 255. An empty field is 0, and
+    /// leading zeros don't count.
     pub(crate) code: Option<u8>,
 }
 
-/// The fields that are left of some parameter bytes.
+/// The remaining fields of the parameter bytes.
 #[derive(Drop)]
 pub(crate) struct Fields<'a> {
-    /// The parameter bytes from the next field on, or none after the last field.
+    /// The parameter bytes from the next field on. `None` after the last field.
     rest: Option<&'a [u8]>,
 }
 
@@ -32,7 +32,7 @@ impl<'a> Model for Fields<'a> {
 }
 
 impl<'a> Fields<'a> {
-    /// All the fields of these parameter bytes.
+    /// All fields of the parameter bytes.
     pub(crate) fn new(parameters: &'a [u8]) -> Self
         ensures { result ≡ fields_of parameters.now }
     {
@@ -66,8 +66,8 @@ impl<'a> Fields<'a> {
         Some(number.field())
     }
 
-    /// The number that the next field gives a color, 0 where it is none, or `None` after the last
-    /// field.
+    /// The next field as a number of a color, which is 0 if the field isn't a number. `None` after
+    /// the last field.
     #[inline(always)]
     #[tactic(auto, using(crate::proofs::FieldLemmas::number_is_first))]
     pub(crate) fn next_number(&mut self) -> Option<u8>
@@ -78,7 +78,8 @@ impl<'a> Fields<'a> {
     }
 }
 
-/// The code of parameter bytes that are one field of at most two digits, as most are.
+/// A fast path: the code, if the parameter bytes are one field of at most two digits, as most are.
+/// Otherwise `None`.
 #[inline(always)]
 pub(crate) fn lone_code(parameters: &[u8]) -> Option<u8>
     ensures field { IfSome result (λ _. fields_of parameters.now ≡ parameters.now ∷ []) }
@@ -94,18 +95,18 @@ pub(crate) fn lone_code(parameters: &[u8]) -> Option<u8>
     }
 }
 
-/// The number that bytes write, as far as it is read.
+/// The number that the bytes so far spell.
 #[derive(Clone, Copy)]
 struct Number(u32);
 
 impl Number {
-    /// What no bytes write.
+    /// The number of an empty field.
     const ZERO: Number = Number(0);
 
-    /// No number of at most 255, whatever follows.
+    /// Not a number of at most 255, whatever follows.
     const NONE: Number = Number(256);
 
-    /// The number with a digit after it, or none after any other byte.
+    /// The number with one more digit. `NONE` if the byte isn't a digit.
     #[inline(always)]
     fn with_digit(self, byte: u8) -> Number
         ensures { result.0 ≡ with_digit self.0 byte }
@@ -117,7 +118,7 @@ impl Number {
         }
     }
 
-    /// The field that writes the number.
+    /// The field with this number.
     #[inline(always)]
     fn field(self) -> Field
         ensures { result.code ≡ if nat_le self.0 255 then Some self.0 else None }
@@ -128,7 +129,7 @@ impl Number {
     }
 }
 
-/// The parameter bytes of an SGR: all but ESC `[` and the final byte.
+/// The parameter bytes of an SGR: the bytes between ESC `[` and the final byte.
 pub(crate) fn parameters(sequence: &str) -> &[u8]
     requires { IsTrue (is_sgr sequence.now) }
     ensures { sgr_parameters sequence.now ≡ Some result.now }

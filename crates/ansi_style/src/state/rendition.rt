@@ -1,10 +1,10 @@
-//! What a style shows, part by part.
+//! The parts of a style.
 use ansi_items::ansitok::AnsiColor;
 
-/// What a style shows: three colors, a font and 24 attributes.
+/// The parts of a style: three colors, a font and 24 attributes.
 ///
-/// The order of the fields is that in which styles are compared: an attribute that isn't set is less
-/// than one that is, and none is less than any color or font. (The Rust crate.)
+/// Styles compare by the fields in this order. An attribute that isn't set is less than one that
+/// is, and a missing color or font is less than any. (The Rust crate.)
 #[derive(Clone, Copy, PartialEq, Eq, PartialOrd, Ord, Hash)]
 pub struct Rendition {
     pub foreground: Option<AnsiColor>,

@@ -1,4 +1,4 @@
-//! The table of SGR codes (ECMA-48, section 8.3.117, and what is used beside it).
+//! The table of SGR codes (ECMA-48, section 8.3.117, and further codes in use).
 ghost use Rattle.std.specs.Prelude.{◌≡◌, ◌⊎◌, IfSome, IsTrue};
 ghost use Rattle.ansi_style.specs.Rendition.{is_extended_color};
 ghost use Rattle.ansi_style.specs.Sgr.{effect_of_code, perform, read_color, color_by_parts, color_by_number};
@@ -12,7 +12,7 @@ use ansi_items::ansitok::AnsiColor;
 use bitflags::Flags;
 
 impl Style {
-    /// Does what the code asks for; where that is a color, it is read from the fields.
+    /// Applies the code. If it selects a color, the color is read from the fields.
     #[tactic(auto, unfolding(crate::specs::States::rendition_of))]
     pub(crate) fn perform(&mut self, code: u8, fields: &mut Fields<'_>)
         ensures { (rendition_of self.new, fields.new) ≡ perform (effect_of_code code) (rendition_of self.old) fields.old }
@@ -68,7 +68,8 @@ impl Style {
         }
     }
 
-    /// Sets the color that the code stands for to the one that the fields begin with, if they do.
+    /// Sets the color that the code selects to the color that the fields begin with, if they begin
+    /// with one.
     #[inline(never)]
     #[tactic(auto, unfolding(crate::specs::States::rendition_of))]
     fn set_color(&mut self, code: u8, fields: &mut Fields<'_>)
@@ -85,7 +86,8 @@ impl Style {
     }
 }
 
-/// The color that the fields begin with, if they do; what was read of them is used up.
+/// The color that the fields begin with, or `None` if they don't begin with one. The fields read
+/// are used up in both cases.
 fn read_color(fields: &mut Fields<'_>) -> Option<AnsiColor>
     ensures read { (result, fields.new) ≡ read_color fields.old }
     ensures extended { IfSome result (λ c. IsTrue (is_extended_color c)) }
@@ -97,7 +99,7 @@ fn read_color(fields: &mut Fields<'_>) -> Option<AnsiColor>
     }
 }
 
-/// The color by its red, green and blue, which the fields begin with.
+/// The color whose red, green and blue the fields begin with.
 fn color_by_parts(fields: &mut Fields<'_>) -> Option<AnsiColor>
     ensures read { (result, fields.new) ≡ color_by_parts fields.old }
     ensures extended { IfSome result (λ c. IsTrue (is_extended_color c)) }
@@ -108,7 +110,7 @@ fn color_by_parts(fields: &mut Fields<'_>) -> Option<AnsiColor>
     Some(AnsiColor::Bit24 { r, g, b })
 }
 
-/// The color of the 256 whose number the fields begin with.
+/// The color of the 256-color palette whose number is the first field.
 fn color_by_number(fields: &mut Fields<'_>) -> Option<AnsiColor>
     ensures read { (result, fields.new) ≡ color_by_number fields.old }
     ensures extended { IfSome result (λ c. IsTrue (is_extended_color c)) }

@@ -1,4 +1,4 @@
-//! The start and the close of a style, as they are printed: each code in a sequence of its own.
+//! The start and the close of a style, for printing. Each code has a sequence of its own.
 ghost use Rattle.std.specs.Prelude.{◌++◌, [], Some, codes, flat_map, if◌then◌else◌};
 ghost use Rattle.std.specs.Fmt.{WritesOnOk};
 ghost use Rattle.ansi_style.specs.States.{has_one, rendition_of};
@@ -12,9 +12,9 @@ use bitflags::Flags;
 use std::fmt;
 use std::marker::Model;
 
-/// Prints the start of a style: the sequences that set it, each code in one of its own. What is
-/// printed has `longest_start` bytes at most, 163. Printing takes no memory, and an `Err` is the
-/// writer's. (The Rust crate.)
+/// Prints the start of a style: the sequences that set it, one for each code. The output has at
+/// most `longest_start` bytes, 163. Printing doesn't allocate, and an `Err` is the writer's. (The
+/// Rust crate.)
 ///
 /// ```
 /// let block = get_blocks(rt.alloc(), "\x1b[31;1mred").next().ok_or("no block")??;
@@ -24,9 +24,9 @@ use std::marker::Model;
 #[derive(Drop)]
 pub struct AnsiSequenceStart<'a>(pub(super) &'a Style);
 
-/// Prints the close of a style, the sequences that end it, where the style has something to end, and
-/// else nothing. What is printed has `longest_close` bytes at most, 88. Printing takes no memory, and an
-/// `Err` is the writer's. (The Rust crate, the font counted.)
+/// Prints the close of a style: the sequences that reset what it sets, or nothing if there is
+/// nothing to reset. The output has at most `longest_close` bytes, 88. Printing doesn't allocate,
+/// and an `Err` is the writer's. (The Rust crate, the font counted.)
 ///
 /// ```
 /// let block = get_blocks(rt.alloc(), "\x1b[31;1mred").next().ok_or("no block")??;
@@ -36,7 +36,7 @@ pub struct AnsiSequenceStart<'a>(pub(super) &'a Style);
 #[derive(Drop)]
 pub struct AnsiSequenceEnd<'a>(pub(super) &'a Style);
 
-/// Prints the close of a style, whatever the style.
+/// Prints the close of any style, without a test whether there is something to reset.
 #[derive(Drop)]
 pub(crate) struct Close<'a>(pub(crate) &'a Style);
 
@@ -68,7 +68,7 @@ impl<'a> Model for Close<'a> {
 }
 
 impl AnsiSequenceEnd<'_> {
-    /// The sequence that ends every style. (The Rust crate; ECMA-48, section 8.3.117.)
+    /// The sequence that resets every style. (The Rust crate; ECMA-48, section 8.3.117.)
     ///
     /// ```
     /// assert!(rt; AnsiSequenceEnd::RESET_ALL == "\x1b[0m");
@@ -104,7 +104,7 @@ impl fmt::Display for AnsiSequenceEnd<'_> {
     }
 }
 
-/// Sequences, each to be written where one of its attributes is set.
+/// Sequences, each with the attributes that require it. One set attribute is enough.
 type Rows = &'static [(Attributes, &'static str)];
 
 const START_INTENSITY: Rows = &[
@@ -192,7 +192,7 @@ fn write_close<W: fmt::Write>(f: &mut fmt::Formatter<W>, style: &Style) -> fmt::
     write_rows(f, set.intersection(Attributes::ENDS), CLOSE_ENDS)
 }
 
-/// Writes the sequences of those rows of which an attribute is set.
+/// Writes the sequence of each row of which at least one attribute is in the set.
 fn write_rows<W: fmt::Write>(
     f: &mut fmt::Formatter<W>,
     set: Attributes,
@@ -210,7 +210,7 @@ fn write_rows<W: fmt::Write>(
     Ok(())
 }
 
-/// Writes a sequence where it is called for.
+/// Writes a sequence if the condition holds.
 #[inline(always)]
 fn write_when<W: fmt::Write>(f: &mut fmt::Formatter<W>, is_set: bool, sequence: &str) -> fmt::Result
     ensures { WritesOnOk W.write_str_gives f.old result (if is_set then sequence.now else []) f.new }
@@ -222,7 +222,7 @@ fn write_when<W: fmt::Write>(f: &mut fmt::Formatter<W>, is_set: bool, sequence: 
     }
 }
 
-/// Writes the codes of the colors that there are.
+/// Writes the codes of the colors that are set.
 #[tactic(auto, unfolding(crate::specs::States::rendition_of))]
 fn write_colors<W: fmt::Write>(f: &mut fmt::Formatter<W>, style: &Style) -> fmt::Result
     ensures { WritesOnOk W.write_str_gives f.old result (written_all (color_codes (codes "38") (rendition_of style.now).foreground
@@ -234,7 +234,7 @@ fn write_colors<W: fmt::Write>(f: &mut fmt::Formatter<W>, style: &Style) -> fmt:
     write_color(f, "58", style.underline_color)
 }
 
-/// Writes the number of a font, where there is one.
+/// Writes the code of a font, if one is set.
 fn write_font<W: fmt::Write>(f: &mut fmt::Formatter<W>, font: Option<u8>) -> fmt::Result
     ensures { WritesOnOk W.write_str_gives f.old result (written_all (font_codes font)) f.new }
 {
@@ -244,7 +244,7 @@ fn write_font<W: fmt::Write>(f: &mut fmt::Formatter<W>, font: Option<u8>) -> fmt
     }
 }
 
-/// Writes the code of a color, where there is one.
+/// Writes the code of a color, if one is set.
 #[inline(always)]
 fn write_color<W: fmt::Write>(
     f: &mut fmt::Formatter<W>,
@@ -260,7 +260,7 @@ fn write_color<W: fmt::Write>(
     }
 }
 
-/// Writes the code of a color; `extended` stands before those beyond the sixteen.
+/// Writes the code of a color. `extended` precedes a color beyond the sixteen.
 fn write_color_code<W: fmt::Write>(
     f: &mut fmt::Formatter<W>,
     extended: &str,

@@ -1,14 +1,14 @@
-//! Colors by their names.
+//! Colors by name.
 ghost use Rattle.std.specs.Prelude.{◌≡◌};
 ghost use Rattle.ansi_style.specs.Colors.{color_of, color_of_code};
 
 use ansi_items::ansitok::AnsiColor;
 
-/// A color by its name, by its number among 256, or by its red, green and blue.
+/// A color by name, by its number in the 256-color palette, or by its red, green and blue.
 ///
-/// Colors compare in the order in which they are written here. `Purple` and `BrightPurple` come of no
-/// sequence. (The Rust crate; the codes, ECMA-48, section 8.3.117, and 90 to 97 and 100 to 107, which
-/// terminals share.)
+/// Colors compare in the order of this list. No sequence selects `Purple` or `BrightPurple`. (The
+/// Rust crate; the codes, ECMA-48, section 8.3.117, and 90 to 97 and 100 to 107, which terminals
+/// share.)
 ///
 /// ```
 /// let first = get_blocks(rt.alloc(), "\x1b[38;5;200mx").next();
@@ -53,17 +53,18 @@ pub enum Color {
     White,
     /// Code 97, or 107 for a background.
     BrightWhite,
-    /// A color by its number among 256: `38;5` and the number, `48;5` for a background.
+    /// A color by its number in the 256-color palette: `38;5` and the number, `48;5` for a
+    /// background.
     Fixed(u8),
-    /// A color by its red, green and blue: `38;2` and these, `48;2` for a background.
+    /// A color by its red, green and blue: `38;2` and the three numbers, `48;2` for a background.
     Rgb(u8, u8, u8),
 }
 
 impl From<AnsiColor> for Color {
     ghost from_gives = { λ color named. named ≡ color_of color };
 
-    /// The color by its name. A number of `Bit4` that is no code of one of the sixteen stays a number.
-    /// Takes no memory. (The Rust crate.)
+    /// The color by name. A number of `Bit4` that is no code of one of the sixteen stays a number.
+    /// Doesn't allocate. (The Rust crate.)
     ///
     /// ```
     /// assert!(rt; Color::from(AnsiColor::Bit4(35)) == Color::Magenta);
@@ -78,7 +79,7 @@ impl From<AnsiColor> for Color {
     }
 }
 
-/// The color of the sixteen that a code sets, for a foreground or a background.
+/// The one of the sixteen colors that a code selects, as a foreground or as a background.
 fn color_of_code(code: u8) -> Color
     ensures { result ≡ color_of_code code }
 {

@@ -1,4 +1,4 @@
-//! What a caller knows of what it did with the blocks and the style of a text.
+//! Callers that use the blocks of a text and their styles.
 ghost use Rattle.std.specs.Prelude.{◌≡◌, ◌++◌, codes, length, IfOk, OnOk, string_bytes};
 ghost use Rattle.std.specs.Cmp.Lexicographic.{pointwise};
 ghost use Rattle.ansi_str.specs.Written.{start, close_if_any};
@@ -10,7 +10,7 @@ use ansi_str::{AnsiBlock, AnsiSequenceEnd, Style, get_blocks};
 use std::alloc::{AllocError, Global};
 use std::fmt::Write;
 
-/// Appends a block as a cell of a table: its text between the start and the end of its style.
+/// Appends a block as a cell of a table: its text between the start and the close of its style.
 pub fn write_cell(out: &mut String, block: &AnsiBlock<'_>) -> Result<(), AllocError>
     ensures { OnOk result (string_bytes out.new
         ≡ string_bytes out.old ++ start block.now.style ++ block.now.text ++ close_if_any block.now.style) }
@@ -19,7 +19,7 @@ pub fn write_cell(out: &mut String, block: &AnsiBlock<'_>) -> Result<(), AllocEr
     write!(out, "{}{}{}", style.start(), block.text(), style.end())
 }
 
-/// Appends a word in a style, and then ends every style.
+/// Appends a word in a style, and then resets every style.
 pub fn write_status(out: &mut String, style: &Style, word: &str) -> Result<(), AllocError>
     ensures { OnOk result (string_bytes out.new
         ≡ string_bytes out.old ++ start (rendition_of style.now) ++ word.now ++ codes "\u{1b}[0m") }
@@ -27,7 +27,7 @@ pub fn write_status(out: &mut String, style: &Style, word: &str) -> Result<(), A
     write!(out, "{}{word}{}", style.start(), AnsiSequenceEnd::RESET_ALL)
 }
 
-/// How many blocks a text has.
+/// The number of blocks of a text.
 pub fn count_blocks(alloc: Global, text: &str) -> Result<usize, AllocError>
     ensures { IfOk result (λ n. n ≡ length (blocks text.now)) }
 {

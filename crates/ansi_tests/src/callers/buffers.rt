@@ -1,4 +1,5 @@
-//! Callers that write what they are given into a buffer that was made before: the calls say how much room is enough.
+//! Callers that copy results into a buffer of a fixed size. The contracts say how much room is
+//! enough.
 ghost use Rattle.std.specs.Prelude.{◌≡◌, ◌≤◌, ◌+◌, length, take, Some, IsTrue, IfOk, IfSome};
 ghost use Rattle.ansi_str.specs.Plain.{plain};
 ghost use Rattle.ansi_str.specs.Positions.{is_good_range};
@@ -10,8 +11,8 @@ use ansi_str::AnsiStr;
 use ansi_str::split::part_in;
 use std::alloc::{AllocError, Global};
 
-/// Copies the cut of a text to the front of a buffer, and gives its length. A buffer that is `longest_close`
-/// longer than the text has room for every cut.
+/// Copies the cut of a text to the front of a buffer, and returns its length. A buffer that is
+/// `longest_close` bytes longer than the text has room for every cut.
 pub fn cut_into(
     alloc: Global,
     text: &str,
@@ -28,9 +29,9 @@ pub fn cut_into(
     Ok(cut.len())
 }
 
-/// Copies the part of an index to the front of a buffer, and gives its length, or `None` where there
-/// are not so many parts. A buffer that is `longest_start_and_close` longer than the text has room for
-/// every part.
+/// Copies the part at an index to the front of a buffer, and returns its length, or `None` if the
+/// text has too few parts. A buffer that is `longest_start_and_close` bytes longer than the text
+/// has room for every part.
 pub fn part_into(
     alloc: Global,
     text: &str,
@@ -48,9 +49,9 @@ pub fn part_into(
     Ok(Some(part.len()))
 }
 
-/// Copies each part of a text in turn to the front of a buffer, as one who shows a part at a time, and
-/// gives the length of the longest. A buffer that is `longest_start_and_close` longer than the text has
-/// room for each.
+/// Copies each part of a text in turn to the front of a buffer, as a caller does who shows one part
+/// at a time, and returns the length of the longest. A buffer that is `longest_start_and_close`
+/// bytes longer than the text has room for each part.
 pub fn show_parts<'x>(
     alloc: Global,
     text: &'x str,

@@ -1,4 +1,4 @@
-//! Callers that make a call on what another call answered.
+//! Callers that make a call on the result of another call.
 ghost use Rattle.std.specs.Prelude.{◌≡◌, Some, IsTrue, IfOk, nat_eq, string_bytes};
 ghost use Rattle.std.specs.List.{starts_with};
 ghost use Rattle.ansi_str.specs.Plain.{plain};
@@ -9,7 +9,7 @@ ghost use Rattle.ansi_str.specs.Kept.{trimmed};
 use ansi_str::AnsiStr;
 use std::alloc::{AllocError, Global};
 
-/// The plain text of a cut, in memory of its own.
+/// The plain text of a cut, as an owned string.
 pub fn plain_cut(alloc: Global, text: &str, start: usize, end: usize) -> Result<String, AllocError>
     requires good { IsTrue (is_good_range (plain text.now) start (Some end)) }
     ensures { IfOk result (λ s. string_bytes s ≡ plain (cut text.now start (Some end))) }

@@ -1,4 +1,4 @@
-//! A caller of `edit` on a whole text: what the headline says, one fact a clause.
+//! A caller of `edit` on a whole text: the main promise of the library, one fact per clause.
 ghost use Rattle.std.specs.Prelude.{◌≡◌, IsTrue, IfOk, IfSome, option_map};
 ghost use Rattle.std.specs.List.{list_any};
 ghost use Rattle.std.specs.Cow.{cow_str_bytes};
@@ -12,8 +12,8 @@ use ansi_str::{Edit, edit};
 use std::alloc::{AllocError, Global};
 use std::borrow::CowStr;
 
-/// What edits make of a whole text: the slice that they name, in a whole text, with no known style open
-/// at its end where an edit is a cut, a side or a part.
+/// The result of edits on a whole text: the slice that the edits select, as a whole text. If an
+/// edit is a cut, a side or a part, no known style is open at its end.
 pub fn edit_whole<'t>(
     alloc: Global,
     text: &'t str,

@@ -1,4 +1,4 @@
-//! A caller of a law: what is known of an answer that is read as a text again.
+//! A caller of a law: what is known of a result that is read as a text again.
 ghost use Rattle.std.specs.Prelude.{◌≡◌, IsTrue, IfOk, IfSome};
 ghost use Rattle.std.specs.Cow.{cow_str_bytes};
 ghost use Rattle.ansi_str.specs.Plain.{is_whole};
@@ -10,8 +10,8 @@ use ansi_str::slice::get_in;
 use std::alloc::{AllocError, Global};
 use std::borrow::CowStr;
 
-/// The front of a text up to a position, or `None` where that lies inside a character. Of a whole text
-/// the front is whole, and leaves no known style open.
+/// The front of a text up to a position, or `None` if the position lies inside a character. If the
+/// text is whole, its front is whole and leaves no known style open.
 pub fn closed_front<'t>(
     alloc: Global,
     text: &'t str,

@@ -1,4 +1,4 @@
-//! A caller whose answer lives as long as the text.
+//! A caller whose result lives as long as the text.
 ghost use Rattle.std.specs.Prelude.{◌≡◌, ◌+◌, ◌≤◌, ℕ, length, Some, IsNone, IfOk, IfSome};
 ghost use Rattle.std.specs.Cow.{cow_str_bytes};
 ghost use Rattle.std.specs.Str.Pattern.{HasTextAt, LacksTextAt};

@@ -1,4 +1,4 @@
-//! A caller of a split, which knows what it was given.
+//! A caller of a split that states what the iterator returned.
 ghost use Rattle.std.specs.Prelude.{◌≡◌, length, map, IfOk};
 ghost use Rattle.std.specs.List.{range_with_len};
 ghost use Rattle.ansi_str.specs.Parts.{all_parts, share, is_part_borrowed};
@@ -6,7 +6,8 @@ ghost use Rattle.ansi_str.specs.Parts.{all_parts, share, is_part_borrowed};
 use ansi_str::split::{AnsiSplit, split_in};
 use std::alloc::{AllocError, Allocator};
 
-/// The number of parts of a text, each of which is given. An `Err` means out of memory.
+/// The number of parts of a text, found by iterating over all of them. An `Err` means out of
+/// memory.
 pub fn count_parts<'x, A: Allocator + Copy>(
     alloc: A,
     text: &'x str,
@@ -22,8 +23,8 @@ pub fn count_parts<'x, A: Allocator + Copy>(
     Ok(count)
 }
 
-/// The parts of a text, of which it is known by index which are borrows, and how many bytes of the text
-/// each has.
+/// The parts of a text. The contract says by index which parts are borrows, and how many bytes of
+/// the text each part has.
 pub fn parts_by_index<'x, A: Allocator>(alloc: A, text: &'x str, pat: &'x str) -> AnsiSplit<'x, A>
     ensures borrowed { map (λ p. p.borrowed) result ≡ map (is_part_borrowed text.now pat.now) (range_with_len 0 (length result)) }
     ensures shares { map (λ p. p.share) result ≡ map (share text.now pat.now) (range_with_len 0 (length result)) }

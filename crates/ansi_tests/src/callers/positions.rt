@@ -1,10 +1,11 @@
-//! Callers of which each makes one call, without a condition: at these positions every text can be cut and divided.
+//! Callers that each make one call without a condition: at these positions every text can be cut
+//! and divided.
 use ansi_str::AnsiStr;
 use ansi_str::slice::{cut_in, split_at_in};
 use std::alloc::{AllocError, Global};
 use std::borrow::CowStr;
 
-/// The text from its front on.
+/// The text from its front.
 pub fn cut_from_front(alloc: Global, text: &str) -> bool {
     text.ansi_cut(alloc, 0..).is_ok()
 }
@@ -14,22 +15,22 @@ pub fn cut_to_front(alloc: Global, text: &str) -> bool {
     text.ansi_cut(alloc, ..0).is_ok()
 }
 
-/// The sequences at the front, by both ends.
+/// The sequences at the front, with both ends given.
 pub fn cut_front(alloc: Global, text: &str) -> bool {
     text.ansi_cut(alloc, 0..0).is_ok()
 }
 
-/// All of the text.
+/// The whole text.
 pub fn cut_all(alloc: Global, text: &str) -> bool {
     text.ansi_cut(alloc, ..).is_ok()
 }
 
-/// All of the text, up to the largest position.
+/// The whole text, up to the largest position.
 pub fn cut_to_largest(alloc: Global, text: &str) -> bool {
     text.ansi_cut(alloc, ..usize::MAX).is_ok()
 }
 
-/// All of the text, up to its own length, which isn't below that of its plain text.
+/// The whole text, up to its own length, which is at least that of its plain text.
 pub fn cut_to_len(alloc: Global, text: &str) -> bool {
     text.ansi_cut(alloc, ..text.len()).is_ok()
 }
@@ -62,19 +63,19 @@ pub fn split_at_front_in(
     split_at_in(alloc, text, 0)
 }
 
-/// As many characters as fit in 20 bytes of the plain text.
+/// The characters that fit in the first 20 bytes of the plain text.
 pub fn cut_to_20(alloc: Global, text: &str) -> bool {
     text.ansi_cut(alloc, ..text.ansi_floor_char_boundary(20))
         .is_ok()
 }
 
-/// The text after these.
+/// The text after those characters.
 pub fn cut_from_20(alloc: Global, text: &str) -> bool {
     text.ansi_cut(alloc, text.ansi_floor_char_boundary(20)..)
         .is_ok()
 }
 
-/// The two sides there.
+/// The two sides at the end of those characters.
 pub fn split_at_20(alloc: Global, text: &str) -> bool {
     text.ansi_split_at(alloc, text.ansi_floor_char_boundary(20))
         .is_ok()

@@ -1,10 +1,10 @@
-//! A caller of the scanner: what can be concluded of a full scan by its contracts alone.
+//! A caller of the scanner: what follows from its contracts for a full scan.
 ghost use Rattle.std.specs.Prelude.{◌*◌, ◌≤◌, length};
 
 use ansi_str::ansitok::Scanner;
 
-/// How many looks at the bytes of a text a full scan takes: as many as there are bytes at least, and
-/// four times as many at most.
+/// How often a full scan looks at a byte of the text: at least as often as the text has bytes, and
+/// at most four times as often.
 pub fn full_scan_reads(text: &str) -> u128
     ensures at_least { length text.now ≤ result }
     ensures at_most { result ≤ 4 * length text.now }

@@ -1,4 +1,4 @@
-//! Callers of the searches: what can be concluded of their answers alone.
+//! Callers of the searches: what follows from their results alone.
 ghost use Rattle.std.specs.Prelude.{◌≡◌, ◌↔◌, ◌+◌, ◌≤◌, ℕ, length, Some, None, IsNone, IfOk, IfSome, true};
 ghost use Rattle.std.specs.Cow.{cow_str_bytes};
 ghost use Rattle.std.specs.Str.{IsCharBoundary};
@@ -11,7 +11,8 @@ use ansi_str::AnsiStr;
 use std::alloc::{AllocError, Global};
 use std::borrow::CowStr;
 
-/// The text between the ends of the first match of the pattern, or `None` where it stands nowhere.
+/// The text from the beginning to the end of the first match of the pattern, or `None` if there is
+/// no match.
 pub fn cut_match<'t, T: AnsiStr>(
     alloc: Global,
     text: &'t T,
@@ -27,8 +28,8 @@ pub fn cut_match<'t, T: AnsiStr>(
     }
 }
 
-/// The text before the first match of the pattern, the match, and the text after it, or `None` where
-/// the pattern stands nowhere.
+/// The text before the first match of the pattern, the match, and the text after it, or `None` if
+/// there is no match.
 pub fn cut_around_match<'t, T: AnsiStr>(
     alloc: Global,
     text: &'t T,
@@ -50,8 +51,8 @@ pub fn cut_around_match<'t, T: AnsiStr>(
     Ok(Some((before, found, after)))
 }
 
-/// The text before the index, and the text from there on, or `None` where that is no character
-/// boundary of the plain text.
+/// The text before the index, and the text from the index on, or `None` if the index is no
+/// character boundary of the plain text.
 pub fn cut_at_boundary<'t, T: AnsiStr>(
     alloc: Global,
     text: &'t T,
@@ -69,7 +70,7 @@ pub fn cut_at_boundary<'t, T: AnsiStr>(
     Ok(Some((before, after)))
 }
 
-/// The two sides of the text at the index, or `None` where that is no character boundary of the
+/// The two sides of the text at the index, or `None` if the index is no character boundary of the
 /// plain text.
 pub fn split_at_boundary<'t, T: AnsiStr>(
     alloc: Global,
@@ -86,7 +87,7 @@ pub fn split_at_boundary<'t, T: AnsiStr>(
     Ok(Some(text.ansi_split_at(alloc, index)?))
 }
 
-/// Whether the searches agree: a plain text begins with a pattern exactly where this is first found at
+/// Whether the searches agree: a plain text begins with a pattern exactly if the first match is at
 /// 0, and a pattern that it ends with is found.
 #[tactic(auto, using(crate::proofs::SearchLemmas::finds_at_front, crate::proofs::SearchLemmas::finds_at_end))]
 pub fn searches_agree<T: AnsiStr>(text: &T, pat: &str) -> bool

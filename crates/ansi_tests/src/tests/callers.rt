@@ -1,4 +1,4 @@
-//! The callers, each on worked texts.
+//! The callers, each on several texts.
 use super::expect;
 use crate::callers::blocks::{count_blocks, have_same_blocks, write_cell, write_status};
 use crate::callers::searches::{cut_around_match, cut_at_boundary, cut_match, split_at_boundary};
@@ -8,7 +8,7 @@ use std::borrow::CowStr;
 use std::process::Abort;
 use std::test::Fail;
 
-/// Compares the cut of a match of a pattern, where there is one.
+/// Compares the cut of a match of a pattern with the expected one.
 fn expect_match(rt: &impl Abort, alloc: Global, text: &str, pat: &str, want: Option<&str>) {
     let is_right = match (&cut_match(alloc, &text, pat), want) {
         (Ok(Some(got)), Some(want)) => got.as_str() == want,
@@ -36,7 +36,7 @@ fn texts_are_cut_around_matches(rt: HostRuntime) -> Result<(), Fail> {
     Ok(())
 }
 
-/// Compares the two sides of a text, where there are two.
+/// Compares the two sides of a text with the expected ones.
 fn expect_sides(
     rt: &impl Abort,
     got: &Result<Option<(CowStr<'_>, CowStr<'_>)>, AllocError>,
@@ -51,7 +51,7 @@ fn expect_sides(
     expect(rt, is_right, "the sides", row);
 }
 
-/// A text, an index, and the sides there.
+/// A text, an index, and the two sides there.
 type SidesRow = (&'static str, usize, Option<(&'static str, &'static str)>);
 
 /// Between two characters, inside a character, and past the end.
@@ -91,7 +91,7 @@ fn texts_are_cut_at_boundaries(rt: HostRuntime) {
     }
 }
 
-/// A text, and how many blocks it has.
+/// A text, and its number of blocks.
 static COUNTS: [(&str, usize); 15] = [
     ("", 0),
     ("213\n456", 1),

@@ -26,7 +26,7 @@ static NAMED: [(u8, u8, Color); 16] = [
     (97, 107, Color::BrightWhite),
 ];
 
-/// Colors that have no name, and what they are read as.
+/// Colors without a name, and the colors that they are read as.
 static OTHERS: [(AnsiColor, Color); 3] = [
     (AnsiColor::Bit4(50), Color::Fixed(50)),
     (AnsiColor::Bit8(1), Color::Fixed(1)),
@@ -74,7 +74,7 @@ static ORDER: [Color; 22] = [
     Color::Rgb(1, 0, 0),
 ];
 
-/// Colors as they are written, in the order in which they compare.
+/// Colors as sequences write them, in the order in which they compare.
 static WRITTEN: [AnsiColor; 5] = [
     AnsiColor::Bit4(255),
     AnsiColor::Bit8(0),
@@ -83,7 +83,7 @@ static WRITTEN: [AnsiColor; 5] = [
     AnsiColor::Bit24 { r: 1, g: 0, b: 0 },
 ];
 
-/// Two colors compare so, and are the same where that is `Equal`.
+/// Checks that two colors compare as expected, and that they are equal exactly if that is `Equal`.
 fn expect_ordering<C: Ord + Debug>(rt: &impl Abort, color: &C, other: &C, want: Ordering) {
     let colors = (color, other);
     expect(rt, color.cmp(other) == want, "the order", colors);
@@ -96,7 +96,7 @@ fn expect_ordering<C: Ord + Debug>(rt: &impl Abort, color: &C, other: &C, want: 
     );
 }
 
-/// Compares a color with those of the order, in which it has this index.
+/// Compares a color with each color of the list, in which it has this index.
 fn expect_order<C: Ord + Debug>(rt: &impl Abort, order: &[C], color: &C, index: usize) {
     for (other_index, other) in order.iter().enumerate() {
         expect_ordering(rt, color, other, index.cmp(&other_index));

@@ -1,4 +1,4 @@
-//! Which requests `Refusing` refuses, which no contract says.
+//! Which requests `Refusing` refuses. No contract says it.
 use super::expect;
 use refusing::Refusing;
 use std::alloc::{AllocError, Allocator, Global};
@@ -44,7 +44,7 @@ fn refuses_a_growth(rt: HostRuntime) -> Result<(), Fail> {
     Ok(())
 }
 
-// So many pushes of four bytes.
+// Pushes four bytes `pushes` times.
 fn pushed<A: Allocator>(alloc: A, pushes: u64) -> Result<usize, AllocError> {
     let mut text = String::new(alloc);
     for _ in 0..pushes {
@@ -72,7 +72,7 @@ fn refuses_nothing_of_plenty(rt: HostRuntime) {
     );
 }
 
-// A text is there exactly where no request was refused.
+// Checks that a text is returned exactly if no request was refused.
 fn expect_answer(rt: &impl Abort, alloc: Global, granted: u64) {
     let heap = Refusing::new(alloc, granted);
     let is_refused = String::from_str(&heap, "text").is_err();

@@ -4,7 +4,7 @@ use Rattle.ansi_str.specs.Blocks.{Block}
 use Rattle.ansi_answers.proofs.ListLemmas.{block-taken}
 use Rattle.ansi_answers.proofs.blocks.find_block.Goals as goal
 
--- what stands at an index stands one before it, once the first is taken
+-- once the first item is taken, each index is one less
 later : (xs us : List Block) (x : Block) (i : ℕ) → xs ≡ x ∷ us → 0 < i → slice_get us (i - 1) ≡ slice_get xs i
 later xs us x zero is some = grind (arith, some)
 later xs us x (suc i) is some = let before : suc i - 1 ≡ i = omega arith in rw (before, is)

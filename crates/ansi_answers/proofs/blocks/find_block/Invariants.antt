@@ -5,7 +5,7 @@ use Rattle.ansi_str.specs.Plain.{has_escape}
 use Rattle.ansi_str.specs.Blocks.{blocks}
 use Rattle.ansi_answers.proofs.blocks.find_block.Given as goal
 
--- the block of the index is among those that are left, and they are borrows where all are
+-- the block at the index is among those that are left, and they are borrows if all blocks are
 abbrev pub invariant-loop-block : goal.invariant-loop-block
 invariant-loop-block l = record {
   found : slice_get l.block-iterator l.before ≡ slice_get (blocks l.text) l.index;

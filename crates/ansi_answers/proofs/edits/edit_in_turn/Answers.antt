@@ -17,7 +17,7 @@ loop-step-preserved g c =
     so_far-more change_of_step c.args.steps.now c.loop-step.step-index _ c.loop-step.invariant c.loop-step-test.true
     (rw c.in-Some.is at c.in_ok-next.ensures.bytes) (rw c.in-Some.is at c.in_ok-next.ensures.borrowed)
 
--- where all steps leave a borrow, no memory is asked for
+-- if all steps leave a borrow, the call doesn't allocate
 pub returns-in_err-next-clause-takes_no_memory : goal.returns-in_err-next-clause-takes_no_memory
 returns-in_err-next-clause-takes_no_memory g c = λ stays.
     absurd (true≢false (sym (c.in_err-next.ensures.takes_no_memory (so_far-lent change_of_step c.args.steps.now c.loop-step.step-index _ c.loop-step.invariant c.loop-step-test.true stays))))

@@ -3,7 +3,7 @@ use Rattle.ansi_answers.specs.Lists.{given_bytes, ends_from}
 use Rattle.ansi_answers.proofs.GivenLemmas.{joined_texts}
 use Rattle.ansi_answers.proofs.lists.copy_texts.Given as goal
 
--- the texts so far are counted, and written with their ends where there is room for them
+-- the texts so far are counted, and written with their ends if there is room for them
 abbrev pub invariant-loop-text : goal.invariant-loop-text
 invariant-loop-text g l =
     let bytes = joined_texts (map given_bytes l.yielded) in

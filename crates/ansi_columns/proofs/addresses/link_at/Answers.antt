@@ -14,7 +14,7 @@ loop-item-init c =
     let begins : c.into_iter-item-iterator.result ≡ record { text = c.args.text.now; offset = 0 } = c.into_iter-item-iterator.ensures.into_iter_gives ∙ c.new-item-items.ensures.start in
     record { text = ap (λ s. s.text) begins; way = rw begins (way-begin c.args.text.now c.args.index); link_is_text = search rules }
 
--- the position stands in a text
+-- the position is in a text
 
 pub address-requires : goal.address-requires
 address-requires c = c.loop-item.invariant.way.sequence

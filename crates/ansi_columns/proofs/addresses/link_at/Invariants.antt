@@ -5,7 +5,7 @@ use Rattle.ansi_items.specs.Scans.{pieces_left}
 use Rattle.ansi_columns.proofs.AddressLemmas.{IsOnTheWay}
 use Rattle.ansi_columns.proofs.addresses.link_at.Given as goal
 
--- the link that is open so far, and where the position stands in what is left
+-- the link that is open so far, and the place of the position in what is left
 abbrev pub invariant-loop-item : goal.invariant-loop-item
 invariant-loop-item l = record {
   text : l.item-iterator.text ≡ l.text;

@@ -3,7 +3,7 @@ use Rattle.ansi_columns.specs.Walks.{clusters_from, IsWalk}
 use Rattle.ansi_columns.proofs.ColumnLemmas.{IsCountedTo}
 use Rattle.ansi_columns.proofs.columns.width.Given as goal
 
--- so many columns stand before the walk
+-- the number of columns before the walk
 abbrev pub invariant-clusters : goal.invariant-clusters
 invariant-clusters l = record {
   walk : IsWalk l.text l.walk;

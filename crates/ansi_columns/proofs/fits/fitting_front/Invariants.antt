@@ -3,7 +3,7 @@ use Rattle.ansi_columns.specs.Walks.{clusters_from, IsWalk}
 use Rattle.ansi_columns.proofs.ColumnLemmas.{IsFittingTo}
 use Rattle.ansi_columns.proofs.fits.fitting_front.Given as goal
 
--- what stands before the walk fits, and leaves so many columns
+-- the text before the walk fits, and leaves this number of columns
 abbrev pub invariant-clusters : goal.invariant-clusters
 invariant-clusters l = record {
   walk : IsWalk l.text l.walk;

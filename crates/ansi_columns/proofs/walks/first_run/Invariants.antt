@@ -5,7 +5,7 @@ use Rattle.ansi_style.specs.Rendition.{plain_style}
 use Rattle.ansi_search.proofs.OffsetLemmas.{IsOnTheWay}
 use Rattle.ansi_columns.proofs.walks.first_run.Given as goal
 
--- what has been passed are marks, which stand before the first plain byte
+-- only marks have been passed, which come before the first plain byte
 abbrev pub invariant-loop-item : goal.invariant-loop-item
 invariant-loop-item l = record {
   text : l.item-iterator.text ≡ l.text;

@@ -3,7 +3,7 @@ use Rattle.std.proofs.lemmas.Grind.{common_steps}
 use Rattle.ansi_columns_answers.specs.Columns.{GivesTruncated}
 use Rattle.ansi_columns_answers.proofs.columns.truncate.Goals as goal
 
--- what is cut is written, or memory has run out where some is taken
+-- the truncated text is written, or the call runs out of memory if it allocates
 pub returns : goal.returns
 unfolding GivesTruncated
 returns g c = grind (arith, common_steps)

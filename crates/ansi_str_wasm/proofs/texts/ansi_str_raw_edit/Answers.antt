@@ -11,7 +11,7 @@ returns-then-not-are_patterns_utf8 c =
     let not_all = sym c.are_patterns_utf8.ensures ∙ c.if-not-are_patterns_utf8.true in
     inl (c.in-Ok.ensures.1, OnUtf8-not (patterns_of c.args.steps.now) _ _ not_all (c.failed-then-not-are_patterns_utf8.ensures, refl))
 
--- all are, so that what the steps give is written
+-- all patterns are UTF-8, so the result of the steps is written
 pub returns : goal.returns
 unfolding GivesEdited
 returns c =

@@ -1,4 +1,4 @@
--- `allocate` hands out the block as room for the type that was asked, and the way back as the token. Assumes `Logic`.
+-- `allocate` returns the block as room for the requested type, and the right to give it back as the token. Assumes `Logic`.
 use Rattle.std.proofs.Common.{◌≡◌, true, false, List, [], ◌∷◌, ◌++◌, refl, subst, lit<, w64, Ok, Err}
 use mir.Syntax.{Ty, Fn}
 use mir.Val.{Val, vint, vptr}

@@ -1,4 +1,4 @@
--- `deallocate` turns the room into the block again, and gives it to the heap. Assumes `Logic`.
+-- `deallocate` turns the room back into the block, and returns that to the heap. Assumes `Logic`.
 use Rattle.std.proofs.Common.{◌≡◌, ℕ, ◌^◌, ◌<◌, List, [], ◌∷◌, ◌++◌, refl, sym, ap, ◌∙◌, arith, w64}
 use mir.Syntax.{Ty, Fn}
 use mir.Val.{Val, vint, vptr, vunit}

@@ -1,4 +1,4 @@
--- A request is counted, and then it is refused or the inner allocator answers it. Assumes `Logic`.
+-- A request is counted. Then it is refused, or the inner allocator handles it. Assumes `Logic`.
 use Rattle.std.proofs.Common.{ℕ, Bool, true, false, List, [], ◌∷◌, refl, ap, w64, Ok, Err}
 use Rattle.std.proofs.raw_atomic.Walks.{proved, leaves}
 use Rattle.std.proofs.alloc.Calls.{Al, seen, token, Answer, answer_val, Answer-typed, Answer-Ok, Answer-err, Takes, at_takes, Answered, Takes-goes, Takes-gives, answers}
@@ -60,7 +60,7 @@ allocate_spec 𝓤 𝓛 𝓜 𝓡 wired B laws ghosts d drops met _ =
     let x : Count.Ghost = (((κ, tt), (q, tt), tt, (record { ref_ptr = count_at; now = r.now.requests }, tt), (vptr count_at.0 count_at.1 ∷ [], tt)), tt) in
     let Take = Takes Z 𝓛 𝓜.mem 𝓡.returns in
     let z : Take.Ghost = at_takes Z 𝓛 𝓜.mem 𝓡.returns κ q at inner size align τ in
-    -- each end: [the answer; its block; the token; the other tokens]
+    -- each end: [the result; its block; the token; the other tokens]
     let ends : (v : Val) (answer : Answer.Denot) → Sq 𝓛 (‵ (Answer.own_val answer (v ∷ [])) ∷ ‵ (block_if_ok (token Z inner) τ answer) ∷ ‵ (flft κ q) ∷ rest ∷ []) (prop (W.post y v)) = λ v answer.
     nothing ! $ nothing ! $ fjoin ! $ nothing ! $ fjoin ! $ nothing ! $ fjoin ! $ move ! (3 ∷ 4 ∷ []) $ join ! $
     by ! (leaves 𝓛 T stays c y v answer (tt, (tt, (tt, tt))) (tt, (tt, (tt, tt)))) in
