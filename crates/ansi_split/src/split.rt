@@ -7,6 +7,7 @@ ghost use Rattle.ansi_split.specs.Parts.{parts, part, all_parts, share, is_part_
 ghost use Rattle.ansi_style.specs.Written.{longest_start_and_close};
 ghost use Rattle.ansi_split.specs.Splits.{split_parts};
 
+pub(crate) mod intervals;
 mod rest;
 pub(crate) mod spans;
 
