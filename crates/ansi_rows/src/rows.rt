@@ -8,7 +8,7 @@
 //!   where that is a borrow and an `o` where not.
 //! - The status is 0; 1 where there is no such thing; 2 where a position or an edit is refused; 3 where a text isn't UTF-8,
 //!   so that no caller in Rattle can ask for it.
-//! - The answer is a text or a number.
+//! - The answer is a text, a number, or, for an interval, its two ends with a comma between them.
 use std::alloc::Global;
 
 /// What a line has.

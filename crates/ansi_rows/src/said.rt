@@ -97,6 +97,14 @@ impl<'r> Trial<'r> {
         }
     }
 
+    /// What a call told: where something begins and ends, or that there is no such thing.
+    pub fn interval(&mut self, told: Option<(usize, usize)>) {
+        match told {
+            Some((start, end)) => self.written(format!(in self.alloc; "{start},{end}")),
+            None => self.none("1"),
+        }
+    }
+
     /// What a test told, which a row has as 0 where it is so.
     pub fn test(&mut self, is_so: bool) {
         self.told(is_so.then_some(0));
