@@ -17,11 +17,7 @@ pub fn front(alloc: Global, text: &str, len: usize) -> Result<CowStr<'_>, AllocE
 }
 
 /// The text before an index, or `None` if that is no character boundary.
-pub fn before(
-    alloc: Global,
-    text: &str,
-    index: usize,
-) -> Result<Option<CowStr<'_>>, AllocError> {
+pub fn before(alloc: Global, text: &str, index: usize) -> Result<Option<CowStr<'_>>, AllocError> {
     if !is_char_boundary(text, index) {
         return Ok(None);
     }
