@@ -1,4 +1,4 @@
-//! Searches in the plain text of a text, and positions there. None of them allocates.
+//! Searches in the plain text of a text, and positions there, as functions of a `&str`. They don't allocate.
 pub use ansi_search::search::{
     ends_with, find, floor_char_boundary, is_char_boundary, starts_with,
 };

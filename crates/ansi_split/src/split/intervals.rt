@@ -8,13 +8,14 @@ use crate::split::rest::Rest;
 use ansi_items::ansitok::{Kind, Scanner};
 use ansi_style::styles;
 
-/// Where the part of an index is in the plain text: the position at which it begins, and the one at which it ends.
+/// The interval of one part in the plain text, by its index: the position at which the part begins, and the one at
+/// which it ends.
 ///
 /// The parts are those of std's `split` of the plain text by the pattern, counted from 0. Positions count
-/// bytes of the plain text. It is `None` exactly if there are not that many parts. The interval, what is before it and
-/// what is after it are good ranges, so the text can be cut there. It doesn't allocate, and takes time in
-/// proportion to the text and the pattern, whatever the index. (std, on the plain text; that the
-/// call returns positions, own.)
+/// bytes of the plain text. It is `None` exactly if there is no part of that index. The interval, what is before it
+/// and what is after it are good ranges, so the text can be cut there. Doesn't allocate. It takes time
+/// in proportion to the text and the pattern, whatever the index. (std, on the plain text; that it
+/// returns positions, own.)
 ///
 /// ```
 /// let text = "\x1b[1mlion,\x1b[0mtiger";
