@@ -15,20 +15,20 @@ pub record Block : Type 0 where
   pub style : Rendition
   pub is_borrow : Bool
 
--- the bytes of the marks that stand at the place i and are no SGR
+-- the bytes of the marks at the place i that aren't SGRs
 abbrev pub waiting : List ℕ → ℕ → List ℕ
 waiting t i = joined (filter (λ m. not (is_sgr m.bytes)) (at_place i (marks t)))
 
--- a run of text after the sequences that waited for it, in a style; it is a borrow where none waited
+-- a run of text after the sequences that waited for it, in a style; it is a borrow if none waited
 abbrev pub block_after : List ℕ → List ℕ → Rendition → Block
 block_after sequences w s = record { text = sequences ++ w; style = s; is_borrow = length sequences == 0 }
 
--- the block of a piece, after these sequences and in this style: a text gives one, a sequence or a lone escape none
+-- the block of a piece, after these sequences and in this style: a text makes one, a sequence or a lone escape doesn't
 abbrev pub block_of : List ℕ → Rendition → Piece → Option Block
 block_of sequences s (Text w) = Some (block_after sequences w s)
 block_of sequences s _ = None
 
--- the blocks of t, in order, where s is the style before it
+-- the blocks of t, in order; s is the style before it
 unfoldable pub blocks_from : Rendition → List ℕ → List Block
 blocks_from s t = filter_map (λ (p : Placed). block_of (waiting t p.place) (style_within s t p.place) p.piece) (places (pieces_of t))
 
@@ -49,7 +49,7 @@ abbrev pub is_borrow : {A : Type 0} → CowStr A → Bool
 is_borrow (Borrowed text) = true
 is_borrow (Owned text) = false
 
--- one call of `next`: the first of the blocks that are left; or an error, where that block isn't a borrow, and then nothing is left; or None, where nothing is left
+-- one call of `next` returns the first of the blocks that are left; or an error, if that block isn't a borrow, and then no block is left; or None, if no block is left
 abbrev pub GivesBlock : {E : Type 0} → List Block → Option (Result Block E) → List Block → Type 0
 GivesBlock old None new = (old ≡ []) × (new ≡ [])
 GivesBlock old (Some (Ok block)) new = old ≡ block ∷ new

@@ -14,10 +14,10 @@ use std::alloc::{AllocError, Allocator, Global};
 use std::borrow::CowStr;
 use std::marker::Model;
 
-/// A run of text in one style, after the sequences that stand before it and are no SGR.
+/// A run of text in one style, after the sequences before it that aren't SGRs.
 ///
-/// It lives as long as the text that it is a block of. Two blocks are equal where their texts and
-/// their styles are. (The Rust crate.)
+/// It lives as long as the text that it is a block of. Two blocks are equal if their texts and
+/// their styles are equal. (The Rust crate.)
 ///
 /// ```
 /// let first = get_blocks(rt.alloc(), "\x1b[1mbold").next();
@@ -40,7 +40,7 @@ impl<'a, A: Allocator> Model for AnsiBlock<'a, A> {
 }
 
 impl<'a, A: Allocator> AnsiBlock<'a, A> {
-    /// The sequences before the run that are no SGR, joined, and then the run itself. Takes no memory.
+    /// The sequences before the run that aren't SGRs, joined, and then the run itself. Doesn't allocate.
     /// (The Rust crate.)
     ///
     /// ```
@@ -54,8 +54,8 @@ impl<'a, A: Allocator> AnsiBlock<'a, A> {
         self.text.as_str()
     }
 
-    /// Whether the style has something to end: a font is enough, an unknown code alone isn't. Takes no
-    /// memory. (The Rust crate, the font counted.)
+    /// Whether the style has something to end: a font is enough, an unknown code alone isn't. Doesn't
+    /// allocate. (The Rust crate, which doesn't count the font.)
     ///
     /// ```
     /// let first = get_blocks(rt.alloc(), "\x1b[12mx").next();
@@ -67,7 +67,7 @@ impl<'a, A: Allocator> AnsiBlock<'a, A> {
         styles::has_any(&self.style)
     }
 
-    /// The style of the run, with whatever the text before it left open. Takes no memory. (The Rust crate.)
+    /// The style of the run, with everything that the text before it left open. Doesn't allocate. (The Rust crate.)
     ///
     /// ```
     /// let first = get_blocks(rt.alloc(), "\x1b[1mx").next();
@@ -81,9 +81,9 @@ impl<'a, A: Allocator> AnsiBlock<'a, A> {
 }
 
 impl<'a, A: Allocator + Clone> AnsiBlock<'a, A> {
-    /// The same block again.
+    /// A copy of the block.
     ///
-    /// Its text is a borrow where this block's is, and then no memory is taken. `Err` means
+    /// Its text is a borrow if this block's is. Then the call doesn't allocate. `Err` means
     /// out of memory. (The Rust crate.)
     ///
     /// ```
@@ -127,10 +127,10 @@ impl<'a, A: Allocator> Eq for AnsiBlock<'a, A> {
     ghost laws = { and_equiv (on_equiv (λ b. b.text) nat_list_eq_equiv) (on_equiv (λ b. b.style) laws-law) };
 }
 
-/// The blocks of a text, in order: an iterator, of which each item may be an `Err`.
+/// The blocks of a text, in order: an iterator. Each item may be an `Err`.
 ///
-/// An `Err` means out of memory. After it, and after the last block, the iterator gives
-/// `None`, then and ever after. (The Rust crate; that an item may be an `Err`, own.)
+/// `Err` means out of memory. After it, and after the last block, the iterator returns `None`
+/// for good. (The Rust crate; that an item may be an `Err`, own.)
 ///
 /// ```
 /// let mut texts = String::new(rt.alloc());
@@ -160,10 +160,10 @@ impl<'a, A: Allocator> Model for AnsiBlockIter<'a, A> {
 
 /// The blocks of a text, in order.
 ///
-/// There is one for each run of text between sequences. A block's text is the sequences before the run
-/// that are no SGR, joined, and then the run; it is a borrow where there are none, and then no memory
-/// is taken: so on a text without ESC. Sequences after the last run are in no block. An item is an `Err` where memory has
-/// run out, and it is the last. Memory may come from any allocator. (The Rust crate.)
+/// There is one block for each run of text between sequences. A block's text is the sequences before the run
+/// that aren't SGRs, joined, and then the run. If there are no such sequences, it is a borrow and doesn't
+/// allocate, so on a text without ESC every block is one. Sequences after the last run are in no block. An item is
+/// an `Err` if memory has run out, and it is the last item. Takes any allocator. (The Rust crate.)
 ///
 /// ```
 /// let mut blocks = get_blocks(rt.alloc(), "\x1b[31mred\x1b[39m and");
@@ -194,11 +194,11 @@ impl<'a, A: Allocator + Copy> Iterator for AnsiBlockIter<'a, A> {
 
     ghost remaining = { item_count (λ blocks. blocks) };
 
-    /// The next block; or an `Err` where memory has run out; or `None`.
+    /// The next block, an `Err` if memory has run out, or `None` if no block is left.
     #[inline(always)]
     fn next(&mut self) -> Option<Result<AnsiBlock<'a, A>, AllocError>> {
         let text = self.rest;
-        // Nothing is left, unless a block is made.
+        // Nothing is left unless a block is made.
         self.rest = "";
         let run = first_run(text, &mut self.style)?;
         match block_text(self.alloc, text, &run) {
@@ -212,7 +212,7 @@ impl<'a, A: Allocator + Copy> Iterator for AnsiBlockIter<'a, A> {
     }
 }
 
-/// The text of the block of a run, the first in a text.
+/// The text of the block of the first run in a text.
 #[inline(always)]
 fn block_text<'a, A: Allocator>(
     alloc: A,

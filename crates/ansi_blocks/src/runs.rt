@@ -1,4 +1,4 @@
-//! The first run of a text, and what waits for it. They stand apart from the blocks, so that `ansi_str::blocks` doesn't
+//! The first run of a text, and what waits for it. They have a module of their own, so that `ansi_str::blocks` doesn't
 //! pass them on.
 ghost use Rattle.std.specs.Prelude.{◌≡◌, ◌∷◌, [], IfNone, IfSome, IfOk, not, ◌==◌, length, string_bytes};
 ghost use Rattle.ansi_style.specs.States.{rendition_of};
@@ -9,11 +9,11 @@ use ansi_style::state::Style;
 use ansi_style::styles;
 use std::alloc::{AllocError, Allocator};
 
-/// The first run of text in a text. (Own.)
+/// The first run of a text. (Own.)
 #[derive(Clone, Copy)]
 pub struct Run<'a> {
     pub text: &'a str,
-    /// Whether a sequence that is no SGR waits for it.
+    /// Whether a sequence that isn't an SGR waits for it.
     pub is_awaited: bool,
     /// The text after it.
     pub rest: &'a str,
@@ -45,7 +45,7 @@ pub fn first_run<'a>(text: &'a str, style: &mut Style) -> Option<Run<'a>>
     None
 }
 
-/// The sequences before the first run of a text that are no SGR, joined. `Err` means out of memory. (Own.)
+/// The sequences before the first run of a text that aren't SGRs, joined. `Err` means out of memory. (Own.)
 #[inline(never)]
 pub fn waiting<A: Allocator>(alloc: A, text: &str) -> Result<String<A>, AllocError>
     ensures { IfOk result (λ s. string_bytes s ≡ waiting text.now 0) }

@@ -4,6 +4,7 @@ mod calls;
 mod colors;
 mod columns;
 mod edits;
+mod library;
 mod parts;
 mod ranges;
 mod scanner;

@@ -31,6 +31,7 @@ pub enum Call<'r> {
     FloorCharBoundary(usize),
     HasAny,
     Part(&'r str, usize),
+    PartInterval(&'r str, usize),
     Edit(Edit<'r>),
     Edits(&'r [Edit<'r>]),
     /// All blocks, or their number.
@@ -47,6 +48,7 @@ impl<'r> Call<'r> {
         !matches!(
             self,
             Call::Part(..)
+                | Call::PartInterval(..)
                 | Call::Edit(_)
                 | Call::Edits(_)
                 | Call::Blocks
@@ -91,6 +93,7 @@ impl<'r> Call<'r> {
             "is_whole" => Call::IsWhole,
             "has_any" => Call::HasAny,
             "find" => Call::Find(row.argument(0)?),
+            "part_interval" => Call::PartInterval(row.argument(0)?, row.number(1)?),
             "starts_with" => Call::StartsWith(row.argument(0)?),
             "ends_with" => Call::EndsWith(row.argument(0)?),
             "is_char_boundary" => Call::IsCharBoundary(row.number(0)?),

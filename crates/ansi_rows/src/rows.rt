@@ -9,7 +9,7 @@
 //!   text that the call returns: `b` for a borrow and `o` for an owned text.
 //! - The status is 0 for success; 1 if what was asked for doesn't exist; 2 if a position or an edit
 //!   is refused; 3 if a text isn't UTF-8, so that no caller in Rattle can make the call.
-//! - The result is a text or a number.
+//! - The result is a text, a number or, for an interval, its two ends with a comma between them.
 use std::alloc::Global;
 
 /// The contents of a line.

@@ -97,6 +97,14 @@ impl<'r> Trial<'r> {
         }
     }
 
+    /// The call returned an interval, or that there is none.
+    pub fn interval(&mut self, told: Option<(usize, usize)>) {
+        match told {
+            Some((start, end)) => self.written(format!(in self.alloc; "{start},{end}")),
+            None => self.none("1"),
+        }
+    }
+
     /// The call returned the result of a test. A row has 0 if the test holds.
     pub fn test(&mut self, is_so: bool) {
         self.told(is_so.then_some(0));

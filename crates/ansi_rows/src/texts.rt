@@ -4,6 +4,7 @@ use crate::calls::Call;
 use crate::items::say_items;
 use crate::ranges::is_good_range_of;
 use crate::said::Trial;
+use ansi_str::search::part_interval;
 use ansi_str::slice::{
     cut_in, get_in, split_at_in, strip_in, strip_prefix_in, strip_suffix_in, trim_in,
 };
@@ -106,6 +107,7 @@ pub fn say_in(trial: &mut Trial<'_>, heap: &Refusing<Global>, call: &Call<'_>) {
         Call::SplitAt(mid) => say_sides_in(trial, heap, mid),
         Call::Split(pat) => hear_parts(trial, split_in(heap, text, pat)),
         Call::Part(pat, index) => trial.hear_option(part_in(heap, text, pat, index), "1"),
+        Call::PartInterval(pat, index) => trial.interval(part_interval(text, pat, index)),
         Call::Edit(one) => trial.hear_option(edit(heap, text, &[one]), "2"),
         Call::Edits(edits) => trial.hear_option(edit(heap, text, edits), "2"),
         Call::Blocks => say_blocks(trial, heap),

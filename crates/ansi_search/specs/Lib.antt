@@ -1,13 +1,3 @@
-pub use Rattle.ansi_items.specs.Bytes
-pub use Rattle.ansi_items.specs.Sequences
-pub use Rattle.ansi_items.specs.Pieces
-pub use Rattle.ansi_items.specs.Plain
-pub use Rattle.ansi_items.specs.Counts
-pub use Rattle.ansi_items.specs.Scans
-pub use Rattle.ansi_style.specs.Rendition
-pub use Rattle.ansi_style.specs.Sgr
-pub use Rattle.ansi_style.specs.Reading
-pub use Rattle.ansi_style.specs.States
 pub mod Positions
 pub mod Matches
 pub mod Searches

@@ -3,7 +3,7 @@ use Rattle.std.specs.Prelude.{ℕ, Bool, ◌&&◌, ◌||◌, not, List, length, 
 use Rattle.std.specs.Int.{is_in_range}
 use Rattle.ansi_items.specs.Plain.{plain}
 
--- a continuation byte goes on with the character before it (UTF-8)
+-- a continuation byte continues the character before it (UTF-8)
 abbrev pub is_continuation_byte : ℕ → Bool
 is_continuation_byte b = is_in_range 0x80 0xBF b
 
@@ -15,12 +15,12 @@ is_good_position x n = not (is_continuation_byte (slice_index x n))
 abbrev pub is_char_boundary : List ℕ → ℕ → Bool
 is_char_boundary x n = nat_le n (length x) && is_good_position x n
 
--- a range is good where its ends are, and no end lies below the start (std)
+-- a range is good if its ends are good, and no end is below the start (std)
 abbrev pub is_good_range : List ℕ → ℕ → Option ℕ → Bool
 is_good_range x s None = is_good_position x s
 is_good_range x s (Some e) = nat_le s e && (is_good_position x s && is_good_position x e)
 
--- a text t may be divided at 0, at its own length and past that, and else at the good positions of its plain text; all of these are good ones, where t is UTF-8 (own)
+-- a text t may be divided at 0, at its own length and past that, and else at the good positions of its plain text; all of these are good if t is UTF-8 (own)
 abbrev pub is_position_in : List ℕ → ℕ → Bool
 is_position_in t n = n == 0 || (nat_le (length t) n || is_good_position (plain t) n)
 

@@ -1,4 +1,4 @@
--- A search that reads a text once: where a pattern is cut, and which bytes of it stand where a match may still begin.
+-- A search that reads a text once: where a pattern is cut, and which of its bytes agree with the text where a match may still begin.
 use Rattle.std.specs.Prelude.{◌≡◌, ◌≢◌, ℕ, ◌+◌, ◌<◌, ◌≤◌, List, length, drop, slice_index, IsTrue, IsFalse}
 use Rattle.std.specs.Prelude.{Bool, true, false}
 use Rattle.std.specs.Str.{IsCharBoundary}
@@ -16,7 +16,7 @@ unfoldable pub Precedes : Bool → ℕ → ℕ → Type 0
 Precedes true a b = a < b
 Precedes false a b = b < a
 
--- p is cut at a critical place: each repeat there is a period. No period is less than the shift. Where it repeats it is a period, past the cut; else it moves p over all that was compared (Crochemore and Perrin, 1991)
+-- p is cut at a critical place: each repeat there is a period. No period is less than the shift. If the cut repeats, the shift is a period, past the cut; else it moves p over all that was compared (Crochemore and Perrin, 1991)
 pub record IsCut (p : List ℕ) (cut : Cut) : Type 0 where
   pub below : cut.at < length p
   pub critical : IsCritical (slice_index p) (length p) cut.at
@@ -26,7 +26,7 @@ pub record IsCut (p : List ℕ) (cut : Cut) : Type 0 where
   pub over : IsFalse cut.repeats → length p ≤ cut.at + cut.shift
   pub period : IsTrue cut.repeats → (cut.at < cut.shift) × (cut.at + cut.shift ≤ length p) × IsPeriod (slice_index p) (length p) cut.shift
 
--- the bytes of p from low up to high stand in x, where p itself would begin at i
+-- the bytes of p from low up to high agree with x, if p begins at i
 abbrev pub Meets : List ℕ → List ℕ → ℕ → ℕ → ℕ → Type 0
 Meets x p i low high = (k : ℕ) → low ≤ k → k < high → slice_index p k ≡ slice_index x (i + k)
 
@@ -59,11 +59,11 @@ pub record IsApart (t p : List ℕ) (c start : ℕ) (w : Window) : Type 0 where
   pub fits : w.position + length p ≤ length (plain t)
   pub other : ¬ (OccursAt (plain t) p w.position)
 
--- the byte b stands nowhere in x from the place m up to n
+-- the byte b doesn't occur in x from the place m up to n
 abbrev pub StandsNowhere : ℕ → List ℕ → ℕ → ℕ → Type 0
 StandsNowhere b x m n = (j : ℕ) → m ≤ j → j < n → slice_index x j ≢ b
 
--- the byte of p at the place r stands nowhere in t before w.next, from where it would stand in a match at the window, where that lies in a run that begins at the point or later
+-- the byte of p at the place r doesn't occur in t before w.next, from where it would be in a match at the window, if that is in a run that begins at the point or later
 abbrev pub IsAhead : List ℕ → List ℕ → ℕ → Point → Window → Type 0
 IsAhead t p r here w = (j : ℕ) → w.position + r + here.offset ≤ here.position + j → j < w.next → slice_index t j ≢ slice_index p r
 

@@ -1,4 +1,4 @@
-//! Searches in a plain text, over the items of its text and without memory.
+//! Searches in a plain text. They walk over the items of its text and don't allocate.
 ghost use Rattle.std.specs.Prelude.{◌≡◌, ◌↔◌, ◌<◌, ◌≤◌, ℕ, None, Some, IsTrue};
 ghost use Rattle.std.specs.Str.{IsCharBoundary};
 ghost use Rattle.ansi_items.specs.Plain.{plain};
@@ -21,9 +21,9 @@ pub use prefix::starts_with;
 pub const PAST_THE_END: usize = usize::MAX;
 
 /// Whether the position is good: a character of the plain text begins there, or it is the end of the
-/// plain text or lies past it. (std; past the end, the Rust crate.)
+/// plain text or past it. (std; past the end, the Rust crate.)
 ///
-/// It counts bytes of the plain text. Takes no memory.
+/// The position counts bytes of the plain text. Doesn't allocate.
 pub fn is_good_position(text: &str, position: usize) -> bool
     ensures { result ≡ is_good_position (plain text.now) position }
 {
@@ -40,7 +40,7 @@ pub fn is_good_position(text: &str, position: usize) -> bool
     true
 }
 
-/// As `AnsiStr::ansi_is_char_boundary`.
+/// Like `AnsiStr::ansi_is_char_boundary`, on a `&str`.
 pub fn is_char_boundary(text: &str, index: usize) -> bool
     ensures value { result ≡ is_char_boundary (plain text.now) index }
     ensures boundary { IsTrue result ↔ IsCharBoundary (plain text.now) index }
@@ -50,7 +50,7 @@ pub fn is_char_boundary(text: &str, index: usize) -> bool
     floor_char_boundary(text, index) == index
 }
 
-/// As `AnsiStr::ansi_floor_char_boundary`.
+/// Like `AnsiStr::ansi_floor_char_boundary`, on a `&str`.
 pub fn floor_char_boundary(text: &str, index: usize) -> usize
     ensures bound { result ≤ index }
     ensures boundary { IsCharBoundary (plain text.now) result }

@@ -5,7 +5,7 @@ use Rattle.ansi_items.specs.Plain.{Mark, plain, marks, at_place, up_to, joined}
 use Rattle.ansi_style.specs.Styled.{style_at}
 use Rattle.ansi_style.specs.Written.{close}
 
--- what is shown at the place i: the marks there, and then byte i of x where it lies in a..b
+-- what is shown at the place i: the marks there, and then byte i of x if it is in a..b
 abbrev pub shown_at : List ℕ → ℕ → ℕ → List Mark → ℕ → List ℕ
 shown_at x a b ms i = joined (at_place i ms) ++ (if nat_le a i && nat_lt i b then slice_range x i (i + 1) else [])
 

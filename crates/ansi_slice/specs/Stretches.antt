@@ -9,7 +9,7 @@ use Rattle.ansi_slice.specs.Kept.{kept}
 abbrev pub sequences_up_to : ℕ → List Piece → List ℕ
 sequences_up_to n ps = joined (up_to n (marks_of ps))
 
--- what is kept of t up to its plain byte n is t up to i, and then the sequences alone
+-- what is kept of t up to its plain byte n is t up to i, and then only the sequences
 pub record KeepsUpTo (t : List ℕ) (n i : ℕ) : Type 0 where
   pub boundary : IsCharBoundary t i
   pub bytes : kept t 0 n ≡ take i t ++ kept (drop i t) 0 0

@@ -1,4 +1,4 @@
-//! The slices of a text, with every sequence at its place: the functions that the calls of `AnsiStr` stand on.
+//! The slices of a text, with every sequence at its place: the functions that the calls of `AnsiStr` are built on.
 ghost use Rattle.std.specs.Prelude.{◌≡◌, ◌++◌, ◌↔◌, IsFalse, IsOk, IfOk, OnOk, string_bytes};
 ghost use Rattle.std.specs.Cow.{cow_str_bytes, IsBorrowedStr};
 ghost use Rattle.ansi_items.specs.Plain.{plain, has_escape};
@@ -20,7 +20,7 @@ pub use sides::{left_in, right_in, split_at_in};
 use std::alloc::{AllocError, Allocator};
 use std::borrow::CowStr;
 
-/// Whether an ESC stands in the text, as `AnsiStr::ansi_has_any` says. Takes no memory. (The Rust
+/// Whether the text has an ESC, like `AnsiStr::ansi_has_any`. Doesn't allocate. (The Rust
 /// crate.)
 ///
 /// ```
@@ -32,8 +32,8 @@ pub fn has_any(text: &str) -> bool
     text.as_bytes().contains(&ESC)
 }
 
-/// As `AnsiStr::ansi_strip`, with an answer that lives as long as the text, and its memory taken
-/// from any allocator. (Own.)
+/// Like `AnsiStr::ansi_strip`, with a result that lives as long as the text, and with any
+/// allocator. (Own.)
 ///
 /// ```
 /// let plain = strip_in(rt.alloc(), "\x1b[31mred\x1b[39m and plain")?;
@@ -52,8 +52,8 @@ pub fn strip_in<'t, A: Allocator>(alloc: A, text: &'t str) -> Result<CowStr<'t, 
     Ok(CowStr::Owned(plain))
 }
 
-/// Appends the plain text of a text. An `Err` means out of memory; what was appended up to there
-/// stands.
+/// Appends the plain text of a text. `Err` means out of memory; what was appended before it
+/// stays.
 fn push_plain<A: Allocator>(out: &mut String<A>, text: &str) -> Result<(), AllocError>
     ensures { OnOk result (string_bytes out.new ≡ string_bytes out.old ++ plain text.now) }
 {

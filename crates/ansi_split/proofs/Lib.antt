@@ -15,3 +15,4 @@ pub mod RestLemmas
 pub mod SplitLemmas
 pub mod MatchWalkLemmas
 pub mod PartLengthLemmas
+pub mod IntervalWalkLemmas

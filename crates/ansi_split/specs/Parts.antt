@@ -23,7 +23,7 @@ parts x p =
     let taken = apart (length p) 0 (match_places x p) in
     zip (0 ∷ map (λ m. m + length p) taken) (taken ++ length x ∷ [])
 
--- where the interval before that of index k ends, if there is one
+-- the end of the interval before that of index k, if there is one
 abbrev pub end_before : List (ℕ × ℕ) → ℕ → Option ℕ
 end_before intervals zero = None
 end_before intervals (suc k) = option_map (λ (i : ℕ × ℕ). i.1) (slice_get intervals k)
@@ -38,11 +38,11 @@ pub record SplitPart : Type 0 where
   pub borrowed : Bool
   pub share : ℕ
 
--- the style that the parts up to the end of the one before leave open, where c is the style before t
+-- the style that the parts up to the end of the one before leave open; c is the style before t
 abbrev pub carried : Rendition → List ℕ → Option ℕ → Rendition
 carried c t before = option_map_or (style_within c t) before c
 
--- The part over the interval i, after a part that ends at `before`, where c is the style before t: the start of the style that is carried, the text with its marks, and the close of the style then. A mark belongs to the first part whose end isn't before its place. A part is a borrow, and stands in t as it is, where it holds no mark, and is empty or carries no style. (The Rust crate; the places, own)
+-- The part over the interval i, after a part that ends at `before`; c is the style before t. It is the start of the style that is carried, the text with its marks, and the close of the style then. A mark belongs to the first part whose end isn't before its place. A part is a borrow, a slice of t, if it has no mark, and is empty or carries no style. (The Rust crate; the places, own)
 unfoldable pub part_from : Rendition → List ℕ → Option ℕ → ℕ × ℕ → SplitPart
 part_from c t before i =
     let own = past before (up_to i.1 (marks t)) in
@@ -58,7 +58,7 @@ part_from c t before i =
 abbrev pub part_over : List ℕ → Option ℕ → ℕ × ℕ → List ℕ
 part_over t before i = (part_from plain_style t before i).bytes
 
--- the part of index k, if there are so many
+-- the part of index k, if there is one
 abbrev pub part : List ℕ → List ℕ → ℕ → Option (List ℕ)
 part t p k =
     let intervals = parts (plain t) p in
@@ -74,7 +74,7 @@ share t p k =
     let intervals = parts (plain t) p in
     option_map_or (λ i. (part_from plain_style t (end_before intervals k) i).share) (slice_get intervals k) 0
 
--- the part of index k stands in t as it is
+-- the part of index k is a slice of t
 abbrev pub is_part_borrowed : List ℕ → List ℕ → ℕ → Bool
 is_part_borrowed t p k =
     let intervals = parts (plain t) p in

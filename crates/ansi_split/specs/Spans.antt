@@ -1,4 +1,4 @@
--- The parts of a text that is read where a style is already open, and after the match before.
+-- The parts of a text that is read with a style already open, and after the match before.
 use Rattle.std.specs.Prelude.{◌≡◌, ℕ, ◌+◌, Bool, List, [], ◌∷◌, ◌++◌, length, map, zip, drop, take, Option, Some, None, IsTrue}
 use Rattle.ansi_style.specs.declared.state.rendition.Rendition.{Rendition}
 use Rattle.ansi_items.specs.Plain.{Mark, plain, marks, up_to, has_escape}
@@ -34,21 +34,21 @@ abbrev pub parts_from : Rendition → List ℕ → Option ℕ → List (ℕ × �
 parts_from c t before [] = []
 parts_from c t before (i ∷ is) = part_from c t before i ∷ parts_from c t (Some i.1) is
 
--- the parts left of t, where its first `skip` plain bytes are in none, and the next match stands at or past `from`
+-- the parts left of t; its first `skip` plain bytes are in no part, and the next match begins at or past `from`
 unfoldable pub parts_left : Rendition → List ℕ → List ℕ → ℕ → ℕ → List SplitPart
 parts_left c t p skip from =
     let taken = apart (length p) from (match_places (plain t) p) in
     parts_from c t None (zip (skip ∷ map (λ m. m + length p) taken) (taken ++ length (plain t) ∷ []))
 
--- all of t but its first `skip` plain bytes, with every mark, between the start of c and the close of the style then
+-- all of t without its first `skip` plain bytes, with every mark, between the start of c and the close of the style then
 unfoldable pub span_text : Rendition → List ℕ → ℕ → List ℕ
 span_text c t skip = start c ++ show (plain t) skip (length (plain t)) (marks t) ++ close_if_any (style_after_from c t)
 
--- the part that all of t is, but for its first `skip` plain bytes
+-- the part that all of t makes, without its first `skip` plain bytes
 abbrev pub span_part : Rendition → List ℕ → ℕ → SplitPart
 span_part c t skip = part_from c t None (skip, length (plain t))
 
--- What is kept of that part besides says whether an ESC stands in t, and the style after it; and its first bytes that are left out end at a character.
+-- What is kept of that part besides: whether t has an ESC, and the style after it. The first bytes, which are left out, end at a character boundary.
 pub record IsSpan (c : Rendition) (t : List ℕ) (skip : ℕ) (is_marked : Bool) (after : Rendition) : Type 0 where
   pub marked : is_marked ≡ has_escape t
   pub skip_is_boundary : IsTrue (is_char_boundary (plain t) skip)

@@ -12,7 +12,7 @@ use Rattle.ansi_split.specs.declared.walks.PartWalk.{PartWalk}
 abbrev pub parts_of_walk : PartWalk → List SplitPart
 parts_of_walk w = if w.finished then [] else parts_left (rendition_of_numbers w.carried) w.rest.now w.pattern.now w.skip w.from
 
--- a walk as a split leaves it: of texts, with a plain run at the front and places between characters
+-- a walk as a split leaves it: its bytes are texts, with a plain run at the front, and its places are between characters
 pub record IsPartWalk (w : PartWalk) : Type 0 where
   pub text : IsUtf8 w.rest.now
   pub pattern : IsUtf8 w.pattern.now

@@ -3,3 +3,5 @@
 
 pub mod split;
 pub mod walks;
+
+pub use split::intervals::part_interval;

@@ -7,6 +7,7 @@ ghost use Rattle.ansi_split.specs.Parts.{parts, part, all_parts, share, is_part_
 ghost use Rattle.ansi_style.specs.Written.{longest_start_and_close};
 ghost use Rattle.ansi_split.specs.Splits.{split_parts};
 
+pub(crate) mod intervals;
 mod rest;
 pub(crate) mod spans;
 
@@ -18,9 +19,9 @@ use std::marker::Model;
 /// The parts of a text between the matches of a pattern, in order: the iterator that
 /// `AnsiStr::ansi_split` makes.
 ///
-/// A part with no sequence is a borrow where no style is carried into it or it is empty. Any other
-/// part is owned. An `Err` means out of memory; after it, as after the last part, there is
-/// nothing but `None`. A part lives as long as the text and the pattern, and may outlive the iterator.
+/// A part with no sequence is a borrow if no style is carried into it or it is empty. Any other
+/// part is owned. `Err` means out of memory. After it, and after the last part, the iterator returns
+/// `None` for good. A part lives as long as the text and the pattern, and may outlive the iterator.
 /// (The Rust crate; that an item may be an `Err`, own.)
 ///
 /// ```
@@ -47,7 +48,7 @@ impl<'a, A: Allocator> Model for AnsiSplit<'a, A> {
     ghost view = { λ s. s.spans };
 }
 
-/// As `AnsiStr::ansi_split`, with parts that live as long as the text and the pattern, and their memory taken from any allocator.
+/// Like `AnsiStr::ansi_split`, with parts that live as long as the text and the pattern, and with any allocator.
 /// (Own.)
 ///
 /// ```
@@ -76,7 +77,7 @@ impl<'a, A: Allocator + Copy> Iterator for AnsiSplit<'a, A> {
 
     ghost remaining = { item_count (λ s. s) };
 
-    /// The next part, or `None` after the last one and after an `Err`, then and ever after.
+    /// The next part, or `None` for good after the last part and after an `Err`.
     #[inline(always)]
     fn next(&mut self) -> Option<Result<CowStr<'a, A>, AllocError>> {
         let span = self.spans.next()?;
@@ -90,12 +91,12 @@ impl<'a, A: Allocator + Copy> Iterator for AnsiSplit<'a, A> {
     }
 }
 
-/// The part of an index, counted from 0, of those that [`split_in`] gives, with an answer that lives
+/// The part of an index, counted from 0, among those that [`split_in`] returns. The result lives
 /// as long as the text. The parts before it aren't written.
 ///
-/// It is `None` exactly where there are not so many parts. It is a borrow where no ESC stands in the
-/// text, or where the part is one that `split_in` borrows. Then no memory is taken, and none for a
-/// `None`. Else it is owned. `Err` means out of memory. (Own.)
+/// It is `None` exactly if there is no part of that index. It is a borrow if the text has no ESC, or
+/// if the part is one that `split_in` borrows. A borrow and a `None` don't allocate. Otherwise it is
+/// owned. `Err` means out of memory. (Own.)
 ///
 /// ```
 /// let part = part_in(rt.alloc(), "\x1b[1mlion,tiger", ",", 1);

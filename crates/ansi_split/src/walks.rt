@@ -1,4 +1,4 @@
-//! Splits that stand still, in memory that isn't Rattle's. They stand apart from `split`, which `ansi_str` passes on.
+//! Splits that are paused, in memory that isn't Rattle's. They have a module of their own, since `ansi_str` passes `split` on.
 ghost use Rattle.std.specs.Prelude.{◌≡◌};
 ghost use Rattle.ansi_split.specs.Splits.{split_parts, GivesPart};
 ghost use Rattle.ansi_split.specs.Walks.{parts_of_walk, IsPartWalk};
@@ -9,8 +9,8 @@ use ansi_style::numbers::StyleNumbers;
 use std::alloc::{AllocError, Allocator};
 use std::borrow::CowStr;
 
-/// What is left of a text that is split, and the style there, as plain data. Contracts see it as the parts
-/// left, by `parts_of_walk`. (Own.)
+/// What is left of a text that is split, and the style there, as plain data. In contracts it is the list of the
+/// parts left, by `parts_of_walk`. (Own.)
 #[repr(C)]
 #[derive(Clone, Copy)]
 pub struct PartWalk<'a> {
@@ -33,7 +33,7 @@ pub fn walk_in<'a>(text: &'a str, pat: &'a str) -> PartWalk<'a>
     Spans::new(text, pat).walk()
 }
 
-/// The next part of a walk, as [`split_in`] gives it. (Own.)
+/// The next part of a walk, as [`split_in`] returns it. (Own.)
 pub fn next_in<'a, A: Allocator + Copy>(
     alloc: A,
     walk: &mut PartWalk<'a>,

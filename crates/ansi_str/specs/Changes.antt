@@ -16,7 +16,7 @@ pub data Change : Type 0 where
   WithoutSuffix : List ℕ → Change
   Trimmed : Change
 
--- the interval of the plain text x that a change keeps, or None where it is refused
+-- the interval of the plain text x that a change keeps, or None if it is refused
 abbrev pub interval_of : Change → List ℕ → Option (ℕ × ℕ)
 interval_of (CutRange s e) x = if is_good_range x s e then Some (s, unwrap_or e (length x)) else None
 interval_of (LeftOf mid) x = if is_good_position x mid then Some (0, mid) else None
@@ -26,6 +26,6 @@ interval_of (WithoutPrefix p) x = if starts_with nat_eq x p then Some (length p,
 interval_of (WithoutSuffix p) x = if ends_with nat_eq x p then Some (0, length x - length p) else None
 interval_of Trimmed x = Some (trim_interval x)
 
--- the meaning of a change is a slice of styled bytes, by the interval that it keeps, or None where it is refused (own)
+-- the meaning of a change is a slice of styled bytes, by the interval that it keeps, or None if it is refused (own)
 abbrev pub slice_of : Change → List StyledByte → Option (List StyledByte)
 slice_of e bs = option_map (λ (i : ℕ × ℕ). slice_range bs i.0 i.1) (interval_of e (bytes_of bs))

@@ -4,7 +4,7 @@ use Rattle.ansi_str.specs.declared.edits.kinds.Edit.{Edit}
 use Rattle.ansi_str.specs.declared.edits.kinds.Edit.TheVariants.{Cut, Left, Right, Part, Prefix, Suffix, Trim}
 use Rattle.ansi_str.specs.Changes.{Change, CutRange, LeftOf, RightOf, PartOf, WithoutPrefix, WithoutSuffix, Trimmed}
 
--- an edit is a change, whatever memory its pattern lies in
+-- an edit is a change, in whatever memory its pattern is
 abbrev pub change_of : Edit → Change
 change_of (Cut start end) = CutRange start end
 change_of (Left mid) = LeftOf mid

@@ -13,10 +13,8 @@ pub use Rattle.ansi_style.specs.Styled
 pub use Rattle.ansi_style.specs.Reading
 pub use Rattle.ansi_style.specs.States
 pub use Rattle.ansi_style.specs.Orders
-pub use Rattle.ansi_style.specs.Fields
 pub use Rattle.ansi_search.specs.Positions
 pub use Rattle.ansi_search.specs.Matches
-pub use Rattle.ansi_search.specs.Searches
 pub use Rattle.ansi_slice.specs.Ranges
 pub use Rattle.ansi_slice.specs.Cut
 pub use Rattle.ansi_slice.specs.Sides
@@ -26,7 +24,6 @@ pub use Rattle.ansi_blocks.specs.Same
 pub use Rattle.ansi_split.specs.StdSplit
 pub use Rattle.ansi_split.specs.Parts
 pub use Rattle.ansi_split.specs.Splits
-pub use Rattle.ansi_split.specs.Spans
 pub mod Changes
 pub mod Edited
 pub mod Edits

@@ -15,10 +15,10 @@ pub use kinds::Edit;
 use std::alloc::{AllocError, Allocator};
 use std::borrow::CowStr;
 
-/// Whether the text is whole: whether it has no lone escape, an ESC that begins no whole sequence.
+/// Whether the text is whole: whether it has no lone escape, which is an ESC that begins no whole sequence.
 ///
-/// Where a lone escape stands, cutting away the text after it can make a whole sequence of it:
-/// `\x1bé[m` cut from 2 on is `\x1b[m`. Takes no memory. (The Rust crate lacks it.)
+/// If a text has a lone escape, cutting away the text after it can make a whole sequence of it:
+/// `\x1bé[m` cut from 2 on is `\x1b[m`. Doesn't allocate. (The Rust crate lacks it.)
 ///
 /// ```
 /// assert!(rt; ansi_is_whole("\x1b[31mred\x1b[m"));
@@ -35,19 +35,19 @@ pub fn ansi_is_whole(text: &str) -> bool
     true
 }
 
-/// What edits make of a text, each done on what the one before gave.
+/// The text that edits make, each applied to the result of the one before.
 ///
-/// It is `None` exactly where an edit is refused at its turn: where it has bad positions, where the
-/// prefix or suffix is absent, or where there is no such part. Each is tested at its turn, on the
-/// text that the edits before it left, and before it takes memory.
+/// It is `None` exactly if an edit is refused at its turn: if it has bad positions, if the
+/// prefix or suffix is absent, or if there is no such part. Each edit is tested at its turn, on the
+/// text that the edits before it left, and before it allocates.
 ///
-/// For a whole text the answer is whole, its plain bytes with their known styles are the slice of
+/// For a whole text the result is whole, its plain bytes with their known styles are the slice of
 /// the text's that the edits name, and after a cut, a side or a part no known style is open at its
 /// end. On every text, whole or not, the bytes are those that the edits make in turn.
 ///
-/// It is a borrow of the text until an edit gives an owned text, and owned from then on. Where it
-/// stays a borrow no memory is taken and there is no `Err`: for no edits, on a text without ESC, and
-/// where the first edit is refused. Else `Err` means out of memory. It may come from any
+/// It is a borrow of the text until an edit makes an owned text, and owned from then on. While it
+/// stays a borrow the call doesn't allocate and returns no `Err`: for no edits, on a text without ESC, and
+/// if the first edit is refused. Otherwise `Err` means out of memory. Takes any
 /// allocator. (The Rust crate lacks it.)
 ///
 /// ```
@@ -77,7 +77,7 @@ pub fn edit<'t, A: Allocator + Copy>(
     Ok(Some(edited))
 }
 
-/// What one edit makes of a text, or `None` where it is refused, which takes no memory.
+/// The text that one edit makes, or `None` if it is refused, which doesn't allocate.
 fn edit_once<'t, A: Allocator + Copy>(
     alloc: A,
     text: &'t str,
@@ -98,8 +98,8 @@ fn edit_once<'t, A: Allocator + Copy>(
     }
 }
 
-/// What one edit makes of what the edits before it gave, or `None` where it is refused, which takes no
-/// memory, whatever was given. What is owned stays owned.
+/// The text that one edit makes of the result of those before it, or `None` if it is refused, which doesn't
+/// allocate, whatever that result is. An owned text stays owned.
 fn edit_given<'t, A: Allocator + Copy>(
     alloc: A,
     given: CowStr<'t, A>,

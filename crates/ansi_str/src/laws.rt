@@ -1,6 +1,6 @@
 //! Laws of the definitions that the contracts cite.
 //!
-//! Each function carries one law as its contract, does nothing and answers nothing. A body that needs the
+//! Each function has one law as its contract, does nothing and returns nothing. A body that needs the
 //! law calls it, as `laws::join();`. (Own.)
 ghost use Rattle.std.specs.Prelude.{◌≡◌, ◌↔◌, ◌≤◌, ◌+◌, ◌*◌, ◌++◌, ℕ, List, [], length, filter, take, drop, slice_range, nat_eq, min, slice_get, Option, Some, None, option_map, unwrap_or, if◌then◌else◌, IsTrue, IsFalse, ◌≢◌, ◌∷◌, map, flat_map};
 ghost use Rattle.std.specs.List.{list_any, starts_with, ends_with};
@@ -28,14 +28,14 @@ ghost use Rattle.ansi_split.specs.StdSplit.{AreSplit, AreBetween, AreInTurn, sli
 
 pub use ansi_style::laws::{orders_go_by_parts, reset_all_clears, styles_are_in_range};
 
-/// A text is read in one way: no whole sequence is a proper beginning of another, and each text has
-/// one list of pieces.
+/// A text is read in one way: no whole sequence is the beginning of a longer one, and each text has
+/// exactly one list of pieces.
 pub fn one_reading()
     ensures apart { (w more : List ℕ) → IsSequence w → IsSequence (w ++ more) → more ≡ [] }
     ensures pieces { (t : List ℕ) (ps : List Piece) → ArePieces t ps ↔ (ps ≡ pieces_of t) }
 {}
 
-/// A plain text has no ESC, is its own plain text, is whole, and is UTF-8 as its text is.
+/// A plain text has no ESC, is its own plain text, is whole, and is UTF-8 if its text is.
 pub fn plain_is_plain()
     ensures no_escape { (t : List ℕ) → IsFalse (has_escape (plain t)) }
     ensures same { (t : List ℕ) → plain (plain t) ≡ plain t }
@@ -43,12 +43,12 @@ pub fn plain_is_plain()
     ensures utf8 { (t : List ℕ) → IsUtf8 t → IsUtf8 (plain t) }
 {}
 
-/// What is known of a style after a sequence depends on the sequence, and on what was known before.
+/// The known style after a sequence depends only on the sequence and on the known style before it.
 pub fn known_evolves()
     ensures { (s : Rendition) (w : List ℕ) → known (apply s w) ≡ known (apply (known s) w) }
 {}
 
-/// Sequences make styles of styles, so each style that a text has is one.
+/// A sequence makes a style of a style, so each style in a text is one.
 pub fn texts_have_styles()
     ensures plain { IsStyle plain_style }
     ensures known { (s : Rendition) → IsStyle s → IsStyle (known s) }
@@ -58,8 +58,8 @@ pub fn texts_have_styles()
     ensures after { (t : List ℕ) → IsStyle (style_after t) }
 {}
 
-/// The start of a style, read from the plain style, sets what is known of it, and read from the style
-/// itself it changes nothing. Where nothing is known, or what is known of it, it leaves that known.
+/// The start of a style, read in the plain style, sets the known part of the style. Read in the style
+/// itself it changes nothing. Read in a style whose known part is plain or the same, it leaves that known part.
 pub fn start_sets()
     ensures from_plain { (s : Rendition) → IsStyle s → style_after_from plain_style (start s) ≡ known s }
     ensures from_itself { (s : Rendition) → IsStyle s → style_after_from s (start s) ≡ s }
@@ -67,14 +67,14 @@ pub fn start_sets()
     ensures from_known { (p s : Rendition) → IsStyle s → known p ≡ known s → known (style_after_from p (start s)) ≡ known s }
 {}
 
-/// The close of a style, read where that style is known, leaves nothing known.
+/// The close of a style, read in that style or in one with the same known part, leaves no known style open.
 pub fn close_clears()
     ensures from_itself { (s : Rendition) → known (style_after_from s (close s)) ≡ plain_style }
     ensures from_known { (p s : Rendition) → known p ≡ known s → known (style_after_from p (close s)) ≡ plain_style }
 {}
 
-/// Of a style in which nothing is set that a reader could see nothing is known, and its start is empty.
-/// To close only where something is set clears all the same.
+/// A style in which nothing is set that a reader could see has a plain known style, and its start is empty.
+/// So a close that is only written if something is set clears every style.
 pub fn unset_styles_need_nothing()
     ensures known { (s : Rendition) → IsFalse (has_any s) → known s ≡ plain_style }
     ensures start { (s : Rendition) → IsFalse (has_any s) → start s ≡ [] }
@@ -83,8 +83,8 @@ pub fn unset_styles_need_nothing()
 {}
 
 /// Two whole texts in a row have the pieces of both, with texts that touch joined, and are whole. A cut,
-/// the two sides and each part of a whole text are whole, and leave no known style open. What is kept of
-/// it without a prefix, a suffix or the white space at its ends is whole, and leaves open what it does.
+/// the two sides and each part of a whole text are whole, and leave no known style open. A whole text
+/// without a prefix, a suffix or the white space at its ends is whole, and leaves the same style open.
 pub fn join()
     ensures pieces { (u v : List ℕ) → IsTrue (is_whole u) → IsTrue (is_whole v) → pieces_of (u ++ v) ≡ merged (pieces_of u ++ pieces_of v) }
     ensures whole { (u v : List ℕ) → IsTrue (is_whole u) → IsTrue (is_whole v) → IsTrue (is_whole (u ++ v)) }
@@ -98,8 +98,8 @@ pub fn join()
     ensures residue_kept { (t : List ℕ) (a b : ℕ) → IsTrue (is_whole t) → residue (kept t a b) ≡ residue t }
 {}
 
-/// Of two whole texts in a row the second is read in the style after the first. What is read depends
-/// on what is known of the style before, and on nothing else of it.
+/// If two whole texts are in a row, the second is read in the style after the first. What is read depends
+/// only on the known style before it.
 pub fn read_in_turn()
     ensures styled { (s : Rendition) (u v : List ℕ) → IsTrue (is_whole u) → IsTrue (is_whole v) → styled_from s (u ++ v) ≡ styled_from s u ++ styled_from (style_after_from s u) v }
     ensures after_from { (s : Rendition) (u v : List ℕ) → IsTrue (is_whole u) → IsTrue (is_whole v) → style_after_from s (u ++ v) ≡ style_after_from (style_after_from s u) v }
@@ -107,11 +107,11 @@ pub fn read_in_turn()
     ensures after_alike { (p q : Rendition) (t : List ℕ) → known p ≡ known q → known (style_after_from p t) ≡ known (style_after_from q t) }
 {}
 
-/// A cut of a whole text has the slice of its styled bytes that the range names, each side the one that
-/// the position names, and the part of an index the one between the matches of the pattern, or there is
-/// neither. Where a range or a position isn't good, so that nothing is named, the slice is the same.
-/// What is kept without a prefix or a suffix that is there, or without the white space at the ends, has
-/// the slice that this change names, and what is kept over any interval the slice over it.
+/// A cut of a whole text has the slice of its styled bytes that the range names, each side the slice that
+/// the position names, and the part of an index the slice between the matches of the pattern, if there is such a
+/// part. If a range or a position isn't good, so that it names no slice, the slice is the same.
+/// A text without a prefix or a suffix that it has, or without the white space at its ends, has
+/// the slice that this change names. What is kept over any interval has the slice over it.
 pub fn slices()
     ensures cut { (t : List ℕ) (s : ℕ) (e : Option ℕ) → IsTrue (is_whole t) → IsTrue (is_good_range (plain t) s e) → slice_of (CutRange s e) (styled t) ≡ Some (styled (cut t s e)) }
     ensures left { (t : List ℕ) (mid : ℕ) → IsTrue (is_whole t) → IsTrue (is_good_position (plain t) mid) → slice_of (LeftOf mid) (styled t) ≡ Some (styled (left_side t mid)) }
@@ -131,10 +131,10 @@ pub fn sides_join()
     ensures { (t : List ℕ) (mid : ℕ) → IsTrue (is_whole t) → styled (left_side t mid ++ right_side t mid) ≡ styled t }
 {}
 
-/// What changes in turn make of a whole text, each of what the one before gave, is None exactly where one
-/// of them is refused at its turn. Else it is a whole text, its styled bytes are the slice of the text's
+/// Changes in turn, each of the result of the one before, make None of a whole text exactly if one
+/// of them is refused at its turn. Otherwise they make a whole text. Its styled bytes are the slice of the text's
 /// that the changes name, and after a cut, a side or a part no known style is open at its end. Without
-/// any of these it leaves open what the text does.
+/// any of these the same style is open as at the end of the text.
 pub fn edits_are_slices()
     ensures one { (e : Change) (t : List ℕ) → IsTrue (is_whole t) → slice_of e (styled t) ≡ option_map styled (edited_by e t) }
     ensures plain { (e : Change) (t : List ℕ) → IsTrue (is_whole t) → option_map plain (edited_by e t) ≡ option_map (λ (i : ℕ × ℕ). slice_range (plain t) i.0 i.1) (interval_of e (plain t)) }
@@ -142,10 +142,10 @@ pub fn edits_are_slices()
     ensures residue { (es : List Change) (t u : List ℕ) → IsTrue (is_whole t) → edited es t ≡ Some u → residue u ≡ (if list_any closes es then plain_style else residue t) }
 {}
 
-/// Trimming is std's `trim` on the plain text, and taking off a prefix or a suffix is std's
+/// Trimming is std's `trim` on the plain text, and removing a prefix or a suffix is std's
 /// `strip_prefix` or `strip_suffix`. The interval of a trim is what std's `trim` leaves, between two
-/// character boundaries. What is kept of a text keeps every sequence and lone escape of it. Without an
-/// empty prefix or suffix a text is itself.
+/// character boundaries. All of these keep every sequence and lone escape of the text. Removing an
+/// empty prefix or suffix leaves the text as it is.
 pub fn trim_is_std()
     ensures trim { (t : List ℕ) → IsUtf8 t → IsTrue (is_whole t) → plain (trimmed t) ≡ trim (plain t) }
     ensures prefix { (t p : List ℕ) → IsUtf8 t → IsUtf8 p → IsTrue (is_whole t) → IsTrue (starts_with nat_eq (plain t) p) → StripsPrefix (FindsTextPrefix p) (plain t) (plain (without_prefix t p)) }
@@ -157,17 +157,17 @@ pub fn trim_is_std()
     ensures empty_suffix { (t : List ℕ) → without_suffix t [] ≡ t }
 {}
 
-/// A text has one block for each run of its text. The blocks' texts, joined, and then what waits at the
-/// text's end are the text without its SGRs. A block's style is the style at the place of its run.
+/// A text has one block for each run of its text. The texts of the blocks, joined, followed by the sequences that wait at
+/// the text's end, are the text without its SGRs. A block's style is the style at the place of its run.
 pub fn blocks_are_runs()
     ensures runs { (t : List ℕ) → length (blocks t) ≡ length (runs t) }
     ensures texts { (t : List ℕ) → flat_map (λ b. b.text) (blocks t) ++ waiting t (length (plain t)) ≡ without_sgrs t }
     ensures styles { (t : List ℕ) → map (λ b. b.style) (blocks t) ≡ map (λ p. style_at t p.place) (runs t) }
 {}
 
-/// The intervals of the parts lie between the first matches of the pattern, in std's words, and stand in
-/// the text one after the other, from one of std's character boundaries to another. What stands in them is
-/// what std's `split` gives. At the empty pattern, of which std's clause says nothing, it is the
+/// The intervals of the parts are those between the first matches of the pattern, in std's words. They follow
+/// one another in the text, each from one of std's character boundaries to another. The slices over them are
+/// what std's `split` returns. For the empty pattern, of which std's clause says nothing, the slices are the
 /// characters between two empty texts.
 pub fn parts_lie_between_matches()
     ensures between { (x p : List ℕ) → IsUtf8 x → IsUtf8 p → p ≢ [] → AreBetween x p 0 (parts x p) }
@@ -177,13 +177,13 @@ pub fn parts_lie_between_matches()
     ensures few { (x p : List ℕ) → length (parts x p) ≤ length x + 2 }
 {}
 
-/// Each sequence of a whole text that is no SGR stands in one of its parts, and they stay in order.
+/// Each sequence of a whole text that isn't an SGR is in exactly one of its parts, and they stay in order.
 pub fn parts_keep_sequences()
     ensures { (t p : List ℕ) → IsTrue (is_whole t) → flat_map other_sequences (all_parts t p) ≡ other_sequences t }
 {}
 
-/// The plain texts of the parts of a whole text are what std's `split` gives of its plain text, and that
-/// is one list of texts. At the empty pattern they are the characters between two empty texts. There are
+/// The plain texts of the parts of a whole text are what std's `split` of its plain text returns, which
+/// is one list of texts. For the empty pattern they are the characters between two empty texts. There are
 /// at most two more parts than plain bytes.
 pub fn parts_are_std()
     ensures split { (t p : List ℕ) → IsUtf8 t → IsUtf8 p → IsTrue (is_whole t) → p ≢ [] → AreSplit p (plain t) (map plain (all_parts t p)) }
@@ -195,8 +195,8 @@ pub fn parts_are_std()
 
 /// A start has at most `longest_start` bytes, a close `longest_close`, and a cut no more than its text and
 /// a close. A text without a prefix, a suffix or the white space at its ends is no longer than it was. A
-/// part has no more than the text of its interval, its sequences, and `longest_start_and_close`. The two
-/// sides have no more than their text and that for each text piece and for the one that is divided.
+/// part is no longer than the text of its interval, its sequences, and `longest_start_and_close`. The two
+/// sides are no longer than their text, and that number for each text piece and for the one that is divided.
 pub fn written_texts_are_short()
     ensures start { (s : Rendition) → IsStyle s → length (start s) ≤ longest_start }
     ensures close { (s : Rendition) → length (close s) ≤ longest_close }
@@ -207,9 +207,9 @@ pub fn written_texts_are_short()
     ensures sides { (t : List ℕ) (mid : ℕ) → length (left_side t mid) + length (right_side t mid) ≤ length t + longest_start_and_close * (length (filter is_text (pieces_of t)) + 1) }
 {}
 
-/// Character boundaries are std's. A good position is one, or lies past the end, which counts as the end;
-/// a range is good where its ends are, and they are in order. A text can be divided and cut exactly where
-/// its plain text has good positions and ranges.
+/// Character boundaries are std's. A good position is a character boundary, or is past the end, which counts as the end.
+/// A range is good if its ends are good and in order. A text can be divided and cut exactly at the
+/// good positions and ranges of its plain text.
 pub fn positions_are_std()
     ensures boundary { (x : List ℕ) (n : ℕ) → IsTrue (is_char_boundary x n) ↔ IsCharBoundary x n }
     ensures position { (x : List ℕ) (n : ℕ) → IsTrue (is_good_position x n) ↔ IsCharBoundary x (min n (length x)) }
@@ -219,8 +219,8 @@ pub fn positions_are_std()
     ensures range_in { (t : List ℕ) (s : ℕ) (e : Option ℕ) → IsUtf8 t → is_range_in t s e ≡ is_good_range (plain t) s e }
 {}
 
-/// Of a text without ESC each answer that std has too is std's, where a position past the end counts as
-/// the end. Each change of it gives the slice that it keeps, or is refused, and all answers are borrows.
+/// On a text without ESC, each call that std has too returns what std's does, and a position past the end counts as
+/// the end. Each change of it makes the slice that it keeps, or is refused, and all results are borrows.
 pub fn bare_texts_are_std()
     ensures strip { (t : List ℕ) → IsFalse (has_escape t) → plain t ≡ t }
     ensures whole { (t : List ℕ) → IsFalse (has_escape t) → IsTrue (is_whole t) }

@@ -26,10 +26,10 @@ use std::borrow::CowStr;
 
 /// A text, taken as if its sequences weren't there.
 ///
-/// It stands for `&str`, `String` and `CowStr`, with the same answers, so that a call can be made on
-/// what another call answered. An answer borrows for as long as
-/// the reference that the call is made on. Where it has to live as long as a `&'t str`, the functions
-/// `.._in` of [`slice`](crate::slice) and [`split`](crate::split) give it. (The calls, the Rust crate.)
+/// `&str`, `String` and `CowStr` implement it, with the same results, so that a call can be made on
+/// what another call returned. A result borrows for as long as
+/// the reference that the call is made on. If it has to live as long as a `&'t str`, use the functions
+/// `.._in` of [`slice`](crate::slice) and [`split`](crate::split). (The calls, the Rust crate.)
 ///
 /// ```
 /// let borrowed = "\x1b[31mred\x1b[39m";
@@ -43,8 +43,8 @@ pub trait AnsiStr {
     /// The bytes of the text, sequences included.
     ghost text: { Self → List ℕ };
 
-    /// The text itself, sequences included: a borrow that takes no memory. Every other call is one on
-    /// this text and is `final`, so a further type needs no more than this one. (The Rust crate lacks it.)
+    /// The text itself, sequences included: a borrow, which doesn't allocate. Every other call is a call on
+    /// this text and is `final`, so another type has to implement only this one. (The Rust crate lacks it.)
     ///
     /// ```
     /// assert!(rt; "\x1b[1mbold".as_text() == "\x1b[1mbold");
@@ -52,14 +52,14 @@ pub trait AnsiStr {
     fn as_text(&self) -> &str
         ensures { result.now ≡ text self.now };
 
-    /// The text between two positions, as [`ansi_cut`](AnsiStr::ansi_cut) gives it.
+    /// The text between two positions, as [`ansi_cut`](AnsiStr::ansi_cut) returns it.
     ///
-    /// Positions count bytes of the plain text. It is `None` exactly where the range is bad: where a
-    /// position lies inside a character, or the end below the start. (std's `get`, on the plain text;
+    /// Positions count bytes of the plain text. It is `None` exactly if the range is bad: if a
+    /// position is inside a character, or the end is below the start. (std's `get`, on the plain text;
     /// past the end, the Rust crate.)
     ///
-    /// It is a borrow where no ESC stands in the text. Then no memory is taken, and none for a `None`. Else
-    /// it is owned, and at most a close longer than the text, `longest_close`, 88 bytes. `Err` means
+    /// It is a borrow if the text has no ESC. A borrow and a `None` don't allocate. Otherwise it is
+    /// owned, and at most a close longer than the text, `longest_close`, 88 bytes. `Err` means
     /// out of memory.
     ///
     /// ```
@@ -85,12 +85,12 @@ pub trait AnsiStr {
 
     /// The text between two positions, each character in its style.
     ///
-    /// Every sequence up to the end of the range stays, at its place; the plain bytes of the range
-    /// stay; and after them stands the close of the style, so that nothing is left open. Positions
-    /// count bytes of the plain text. Each has to be a character boundary of it, or lie past its
-    /// end, which counts as the end; and no end may lie below the start.
+    /// Every sequence up to the end of the range stays, at its place. The plain bytes of the range
+    /// stay. After them comes the close of the style, so that nothing is left open. Positions
+    /// count bytes of the plain text. Each has to be a character boundary of it, or past its
+    /// end, which counts as the end. The end may not be below the start.
     ///
-    /// It is a borrow where no ESC stands in the text, and then no memory is taken. Else it is
+    /// It is a borrow if the text has no ESC. Then the call doesn't allocate. Otherwise it is
     /// owned, and at most a close longer than the text, `longest_close`, 88 bytes. `Err` means
     /// out of memory. (The Rust crate.)
     ///
@@ -115,9 +115,9 @@ pub trait AnsiStr {
     /// Whether a character of the plain text begins at the index, or the plain text ends there. (std,
     /// on the plain text.)
     ///
-    /// The index counts bytes of the plain text. It is false past the end. A text can be cut and
-    /// split wherever it is true: the index is a good position then, and `..index` and `index..` are
-    /// good ranges. Takes no memory.
+    /// The index counts bytes of the plain text. The result is false past the end. If it is true, the text
+    /// can be cut and split there: the index is a good position, and `..index` and `index..` are
+    /// good ranges. Doesn't allocate.
     ///
     /// ```
     /// assert!(rt; "\x1b[1mé\x1b[0m".ansi_is_char_boundary(2));
@@ -135,9 +135,9 @@ pub trait AnsiStr {
     /// The last character boundary of the plain text that isn't past the index. (std's
     /// `floor_char_boundary`, on the plain text.)
     ///
-    /// Index and answer count bytes of the plain text. Where the index lies past the end, the answer is
-    /// the end. The answer is a good position, and `..answer` and `answer..` are good ranges, so a text
-    /// can be cut to as many whole characters as fit in so many bytes. Takes no memory. (The Rust crate
+    /// The index and the result count bytes of the plain text. If the index is past the end, the result is
+    /// the end. The result is a good position, and `..result` and `result..` are good ranges, so a text
+    /// can be cut to the whole characters that fit in `index` bytes. Doesn't allocate. (The Rust crate
     /// lacks it.)
     ///
     /// ```
@@ -156,13 +156,13 @@ pub trait AnsiStr {
         search::floor_char_boundary(self.as_text(), index)
     }
 
-    /// Where the pattern first stands in the plain text, in bytes from its start. (std's `find`, on
+    /// Where the pattern first occurs in the plain text, in bytes from its start. (std's `find`, on
     /// the plain text.)
     ///
-    /// A match may run across sequences. It is `None` where the pattern stands nowhere. An empty
-    /// pattern stands at 0, and a pattern with an ESC nowhere. The place and the one past the match
-    /// are good positions, so the text can be cut and split there: the match, what stands before it and
-    /// what stands after it are good ranges. Takes no memory.
+    /// A match may run across sequences. It is `None` if the pattern doesn't occur. An empty
+    /// pattern occurs at 0, a pattern with an ESC nowhere. The start and the end of the match
+    /// are good positions, so the text can be cut and split there: the match, what is before it and
+    /// what is after it are good ranges. Doesn't allocate.
     ///
     /// ```
     /// assert!(rt; "a\x1b[1mb\x1b[0mc".ansi_find("bc") == Some(1));
@@ -178,15 +178,15 @@ pub trait AnsiStr {
         search::find(self.as_text(), pat)
     }
 
-    /// The text without a prefix of its plain text, or `None` where the plain text doesn't begin with it.
+    /// The text without a prefix of its plain text, or `None` if the plain text doesn't begin with it.
     ///
-    /// The prefix is met across sequences, and every sequence stays, at its place: also one that
-    /// stands before the prefix or inside it. No style is opened or closed. An empty prefix takes
-    /// nothing off, and a prefix with an ESC is never there. (std's `strip_prefix`, on the plain
+    /// The prefix is compared across sequences. Every sequence stays, at its place, also one
+    /// before the prefix or inside it. No style is opened or closed. An empty prefix removes
+    /// nothing, and a prefix with an ESC never matches. (std's `strip_prefix`, on the plain
     /// text; the sequences, the Rust crate.)
     ///
-    /// It is a borrow where no ESC stands in the text, and a borrow of all of it where the prefix is
-    /// empty. Then no memory is taken, and none for a `None`. Else it is owned. `Err` means
+    /// It is a borrow if the text has no ESC, and a borrow of all of the text if the prefix is
+    /// empty. A borrow and a `None` don't allocate. Otherwise it is owned. `Err` means
     /// out of memory.
     ///
     /// ```
@@ -209,15 +209,15 @@ pub trait AnsiStr {
         strip_prefix_in(alloc, self.as_text(), prefix)
     }
 
-    /// The text without a suffix of its plain text, or `None` where the plain text doesn't end with it.
+    /// The text without a suffix of its plain text, or `None` if the plain text doesn't end with it.
     ///
-    /// The suffix is met across sequences, and every sequence stays, at its place: also one that
-    /// stands inside the suffix or after it. No style is opened or closed. An empty suffix takes
-    /// nothing off, and a suffix with an ESC is never there. (std's `strip_suffix`, on the plain
+    /// The suffix is compared across sequences. Every sequence stays, at its place, also one
+    /// inside the suffix or after it. No style is opened or closed. An empty suffix removes
+    /// nothing, and a suffix with an ESC never matches. (std's `strip_suffix`, on the plain
     /// text; the sequences, the Rust crate.)
     ///
-    /// It is a borrow where no ESC stands in the text, and a borrow of all of it where the suffix is
-    /// empty. Then no memory is taken, and none for a `None`. Else it is owned. `Err` means
+    /// It is a borrow if the text has no ESC, and a borrow of all of the text if the suffix is
+    /// empty. A borrow and a `None` don't allocate. Otherwise it is owned. `Err` means
     /// out of memory.
     ///
     /// ```
@@ -241,23 +241,23 @@ pub trait AnsiStr {
     }
 
     /// The parts of the text between the matches of a pattern, each with its sequences and in its
-    /// style: an iterator, which takes no memory to make.
+    /// style: an iterator. To make it doesn't allocate.
     ///
-    /// The parts are those of std's `split` of the plain text. So an empty pattern stands at every
-    /// character boundary, and at both ends it leaves an empty part; a pattern with an ESC stands
+    /// The parts are those of std's `split` of the plain text. So an empty pattern occurs at every
+    /// character boundary, and leaves an empty part at both ends. A pattern with an ESC occurs
     /// nowhere. A sequence belongs to the first part whose end isn't before its place. A part begins
     /// with the start of the style that the parts before it leave open, and ends with the close of
-    /// its own, where these have anything; a part without text and sequences stays empty.
+    /// its own style, if these have anything. A part without text and sequences stays empty.
     ///
     /// The iterator has at most two parts more than the plain text has bytes, and a `usize` counts them. A
-    /// part with no sequence is a borrow where no style is carried into it or it is empty, so on a text
-    /// without ESC every part is one; a borrow takes no memory. Any other part is owned, and in its place
-    /// comes an `Err` where memory has run out. After that there is nothing but `None`. (std; the Rust crate
+    /// part with no sequence is a borrow if no style is carried into it or it is empty, so on a text
+    /// without ESC every part is a borrow. A borrow doesn't allocate. Any other part is owned. If memory has
+    /// run out, the iterator returns an `Err` in its place, and then `None` for good. (std; the Rust crate
     /// splits the text with its sequences; where a sequence goes, own.)
     ///
-    /// A part's share is how many bytes of the text it has, its plain bytes and its sequences. It is at
-    /// most a start and a close longer, `longest_start_and_close`, 251 bytes, and all shares together are
-    /// within the text.
+    /// A part's share is the number of bytes that it has of the text: its plain bytes and its sequences. A part is at
+    /// most a start and a close longer than its share, `longest_start_and_close`, 251 bytes. All shares together are
+    /// no longer than the text.
     ///
     /// ```
     /// let mut cells = String::new(rt.alloc());
@@ -280,12 +280,12 @@ pub trait AnsiStr {
 
     /// The text before a position and the text from there on, each character in its style.
     ///
-    /// On each side every run of text stands between the start of its style and the close, so the SGRs
+    /// On each side every run of text is written between the start and the close of its style, so the SGRs
     /// themselves aren't copied and nothing is left open. Any other sequence, and a lone escape, goes left
-    /// where it stands at or before the position, else right. The position counts bytes of the plain text.
-    /// It has to be a character boundary of it, or lie past its end, which counts as the end.
+    /// if it is at or before the position, else right. The position counts bytes of the plain text.
+    /// It has to be a character boundary of it, or past its end, which counts as the end.
     ///
-    /// Both sides are borrows where no ESC stands in the text, and then no memory is taken. Else
+    /// Both sides are borrows if the text has no ESC. Then the call doesn't allocate. Otherwise
     /// both are owned, an empty one too. `Err` means out of memory. (The Rust crate.)
     ///
     /// ```
@@ -313,8 +313,8 @@ pub trait AnsiStr {
 
     /// Whether the plain text begins with the pattern.
     ///
-    /// The pattern is met across sequences. Every plain text begins with an empty one, and none with
-    /// one that has an ESC. Takes no memory. (std, on the plain text.)
+    /// The pattern is compared across sequences. Every plain text begins with an empty pattern, and none with
+    /// a pattern that has an ESC. Doesn't allocate. (std, on the plain text.)
     ///
     /// ```
     /// assert!(rt; "\x1b[31mred\x1b[39m and plain".ansi_starts_with("red and"));
@@ -327,8 +327,8 @@ pub trait AnsiStr {
 
     /// Whether the plain text ends with the pattern.
     ///
-    /// The pattern is met across sequences. Every plain text ends with an empty one, and none with
-    /// one that has an ESC. Takes no memory. (std, on the plain text.)
+    /// The pattern is compared across sequences. Every plain text ends with an empty pattern, and none with
+    /// a pattern that has an ESC. Doesn't allocate. (std, on the plain text.)
     ///
     /// ```
     /// assert!(rt; "plain and \x1b[31mred\x1b[39m".ansi_ends_with("and red"));
@@ -341,11 +341,11 @@ pub trait AnsiStr {
 
     /// The text without the white space at the ends of its plain text.
     ///
-    /// White space is what `char::is_whitespace` tells of, and it is met across sequences. Every
-    /// sequence stays, at its place: also one that stands among the white space. No style is opened or
+    /// White space is the characters for which `char::is_whitespace` is true, also across sequences. Every
+    /// sequence stays, at its place, also one among the white space. No style is opened or
     /// closed. (std's `trim`, on the plain text; the sequences, the Rust crate.)
     ///
-    /// It is a borrow where no ESC stands in the text, and then no memory is taken. Else it is owned.
+    /// It is a borrow if the text has no ESC. Then the call doesn't allocate. Otherwise it is owned.
     /// `Err` means out of memory.
     ///
     /// ```
@@ -362,8 +362,8 @@ pub trait AnsiStr {
 
     /// The plain text: the text without its sequences and lone escapes.
     ///
-    /// It is a borrow of the whole text where no ESC stands in that, and then no memory is taken.
-    /// Else it is owned. `Err` means out of memory. (The Rust crate.)
+    /// It is a borrow of the whole text if the text has no ESC. Then the call doesn't allocate.
+    /// Otherwise it is owned. `Err` means out of memory. (The Rust crate.)
     ///
     /// ```
     /// let plain = "\x1b[31mred\x1b[39m and plain".ansi_strip(rt.alloc())?;
@@ -377,7 +377,7 @@ pub trait AnsiStr {
         strip_in(alloc, self.as_text())
     }
 
-    /// Whether an ESC stands in the text: a sequence, or a lone escape. Takes no memory. (The Rust crate.)
+    /// Whether the text has an ESC: a sequence, or a lone escape. Doesn't allocate. (The Rust crate.)
     ///
     /// ```
     /// assert!(rt; "\x1b[31mred".ansi_has_any());

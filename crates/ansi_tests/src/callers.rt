@@ -6,6 +6,7 @@ pub mod chains;
 pub mod edits;
 pub mod laws;
 pub mod matches;
+pub mod modules;
 pub mod parts;
 pub mod positions;
 pub mod scans;

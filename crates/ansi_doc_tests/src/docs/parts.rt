@@ -1,5 +1,6 @@
 //! The examples of the docs of splits, in the same words.
 use ansi_str::AnsiStr;
+use ansi_str::search::part_interval;
 use ansi_str::split::{part_in, split_in};
 use std::test::Fail;
 
@@ -26,4 +27,12 @@ fn part_in_example(rt: HostRuntime) {
     let part = part_in(rt.alloc(), "\x1b[1mlion,tiger", ",", 1);
     assert!(rt; matches!(&part, Ok(Some(part)) if part.as_str() == "\x1b[1mtiger\x1b[22m"));
     assert!(rt; matches!(&part_in(rt.alloc(), "lion,tiger", ",", 2), Ok(None)));
+}
+
+#[test]
+fn part_interval_example(rt: HostRuntime) {
+    let text = "\x1b[1mlion,\x1b[0mtiger";
+    assert!(rt; part_interval(text, ",", 0) == Some((0, 4)));
+    assert!(rt; part_interval(text, ",", 1) == Some((5, 10)));
+    assert!(rt; part_interval(text, ",", 2).is_none());
 }

@@ -1,15 +1,15 @@
-//! Where a long pattern is cut, to be looked for. (Crochemore and Perrin, Two-way string-matching, 1991.)
+//! Where a long pattern is cut before it is searched for. (Crochemore and Perrin, Two-way string-matching, 1991.)
 ghost use Rattle.std.specs.Prelude.{◌≢◌, ◌<◌, length, slice_index, IsTrue, IsFalse};
 ghost use Rattle.memchr.specs.Critical.{IsSuffixAt, IsCutPlace};
 ghost use Rattle.ansi_search.specs.Searches.{IsCut, Precedes};
 
-/// A place of a pattern at which it is cut: what it repeats there is a period of the whole.
+/// A place at which a pattern is cut: what the pattern repeats there is a period of the whole.
 ///
-/// A number is a period where each byte is the same as the byte so many places on.
+/// A number `n` is a period if each byte is the same as the byte `n` places further on.
 #[derive(Clone, Copy)]
 pub(super) struct Cut {
     pub(super) at: usize,
-    /// No period is less.
+    /// No period is smaller.
     pub(super) shift: usize,
     /// Whether `shift` is a period. Then it is greater than `at`.
     pub(super) repeats: bool,
@@ -22,8 +22,8 @@ struct Suffix {
     period: usize,
 }
 
-/// Where a pattern that isn't empty is cut: at the later of its greatest suffixes by the order of bytes and
-/// by the opposite one.
+/// The cut of a pattern that isn't empty: at the later of two suffixes, the greatest by the order of bytes and
+/// the greatest by the opposite order.
 pub(super) fn critical_cut(bytes: &[u8]) -> Cut
     requires { 0 < length bytes.now }
     ensures { IsCut bytes.now result }
@@ -58,7 +58,7 @@ fn cut_at(bytes: &[u8], suffix: Suffix) -> Cut
     }
 }
 
-/// The greatest suffix by the order of bytes, or by the opposite one. What another begins with is less.
+/// The greatest suffix by the order of bytes, or by the opposite one. A suffix is less than one that begins with it.
 fn greatest_suffix(bytes: &[u8], is_rising: bool) -> Suffix
     requires { 0 < length bytes.now }
     ensures { IsSuffixAt (Precedes is_rising) (slice_index bytes.now) (length bytes.now) result.start result.period }

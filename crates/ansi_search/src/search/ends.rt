@@ -10,17 +10,17 @@ use ansi_items::ansitok::{Kind, Scanner};
 
 /// Whether the plain text ends with the pattern. (std.)
 ///
-/// The pattern is met across sequences. Takes no memory.
+/// The pattern is compared across sequences. Doesn't allocate.
 pub fn ends_with(text: &str, pat: &str) -> bool
     ensures { result ≡ ends_with nat_eq (plain text.now) pat.now }
 {
     suffix_offset(text, pat).is_some()
 }
 
-/// Where a pattern that the plain text ends with begins in the text, or `None` where it doesn't end
-/// with that. (std.)
+/// The offset in the text at which a suffix of the plain text begins, or `None` if the plain text doesn't end
+/// with it. (std.)
 ///
-/// Takes no memory.
+/// Doesn't allocate.
 pub fn suffix_offset(text: &str, pat: &str) -> Option<usize>
     ensures { MatchOption result (IsFalse (ends_with nat_eq (plain text.now) pat.now))
         (λ i. IsTrue (ends_with nat_eq (plain text.now) pat.now) × StandsIn text.now (length (plain text.now) - length pat.now) i) }

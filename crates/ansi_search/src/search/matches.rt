@@ -1,4 +1,4 @@
-//! Where a pattern stands in a plain text. A match may run across sequences.
+//! Where a pattern occurs in a plain text. A match may run across sequences.
 ghost use Rattle.std.specs.Prelude.{◌≡◌, ◌<◌, ◌≤◌, ◌+◌, ◌^◌, [], length, None, Some, MatchOption, IfSome, IsTrue};
 ghost use Rattle.std.specs.Str.Pattern.{FindsText, MatchBeginsAt};
 ghost use Rattle.memchr.specs.Find.{IsFirst, FindsNeedle};
@@ -13,7 +13,7 @@ use memchr::memchr;
 use memchr::memmem::Finder;
 use std::mem;
 
-/// As `AnsiStr::ansi_find`.
+/// Like `AnsiStr::ansi_find`, on a `&str`.
 pub fn find(text: &str, pat: &str) -> Option<usize>
     ensures first { MatchOption result (FindsText pat.now (plain text.now) None) (MatchBeginsAt (FindsText pat.now) (plain text.now)) }
     ensures good { IfSome result (λ i. IsTrue (is_good_range (plain text.now) i (Some (i + length pat.now)))) }
@@ -25,14 +25,14 @@ pub fn find(text: &str, pat: &str) -> Option<usize>
 }
 
 /// The first match of the pattern in the plain text that doesn't begin before `from`, if there is
-/// one: the least position at or past `from` where a character of the plain text begins, or the
-/// plain text ends, and the pattern stands.
+/// one: the least character boundary of the plain text, at or past `from`, at which the pattern
+/// occurs.
 ///
-/// A match may run across sequences. An empty pattern stands at each character boundary, and a
-/// pattern with an ESC nowhere. Positions count bytes of the plain text. Takes no memory.
+/// A match may run across sequences. An empty pattern occurs at each character boundary. A
+/// pattern with an ESC occurs nowhere. Positions count bytes of the plain text. Doesn't allocate.
 ///
-/// A text without ESC is searched as one. Any other is read once, and twice where a first part of the
-/// pattern may stand. So a search takes time in proportion to the text and the pattern.
+/// A text without ESC is searched as a whole. Any other text is read once, and a second time where the
+/// beginning of the pattern may occur. So a search takes time in proportion to the text and the pattern.
 pub fn find_from(text: &str, pat: &str, from: usize) -> Option<usize>
     ensures { result ≡ first_match_from (plain text.now) pat.now from }
 {
@@ -81,7 +81,7 @@ pub fn first_in_run(run: &str, pat: &str, from: usize) -> Option<usize>
     Some(from + find_bytes(rest, pat.as_bytes())?)
 }
 
-/// Where the bytes of a pattern that isn't empty first stand in those of a run.
+/// Where the bytes of a pattern that isn't empty first occur in those of a run.
 #[inline(always)]
 fn find_bytes(run: &[u8], pat: &[u8]) -> Option<usize>
     ensures { FindsNeedle run.now pat.now 0 result }
@@ -98,7 +98,7 @@ fn find_bytes(run: &[u8], pat: &[u8]) -> Option<usize>
     }
 }
 
-/// As [`find_from`], by a walk over the items, for a pattern that isn't empty.
+/// Like [`find_from`], by a walk over the items, for a pattern that isn't empty.
 fn find_across(text: &str, pat: &str, from: usize) -> Option<usize>
     requires some { 0 < length pat.now }
     ensures { result ≡ first_match_from (plain text.now) pat.now from }

@@ -1,4 +1,4 @@
-//! Where positions of a plain text stand in its text.
+//! Where positions of a plain text are in its text.
 ghost use Rattle.std.specs.Prelude.{◌≡◌, MatchOption, IfSome, IsTrue, IsFalse};
 ghost use Rattle.ansi_items.specs.Plain.{plain};
 ghost use Rattle.ansi_style.specs.Reading.{style_within};
@@ -10,8 +10,8 @@ use ansi_items::ansitok::{Kind, Scanner};
 use ansi_style::state::Style;
 use ansi_style::styles;
 
-/// Where a position stands in the text, after every sequence up to there, or `None` where it isn't
-/// good. One past the end counts as the end. Every SGR up to there changes the style.
+/// The offset of a position in the text, after every sequence up to there, or `None` if the position isn't
+/// good. A position past the end counts as the end. Every SGR up to there changes the style.
 #[inline(always)]
 pub fn walk_to(style: &mut Style, text: &str, position: usize) -> Option<usize>
     ensures offset { MatchOption result (IsFalse (is_good_position (plain text.now) position)) (StandsIn text.now position) }
@@ -36,7 +36,7 @@ pub fn walk_to(style: &mut Style, text: &str, position: usize) -> Option<usize>
     Some(text.len())
 }
 
-/// Where a good position stands in the text, after every sequence up to there.
+/// The offset of a good position in the text, after every sequence up to there.
 pub(super) fn offset_at(text: &str, position: usize) -> usize
     requires { IsTrue (is_good_position (plain text.now) position) }
     ensures { StandsIn text.now position result }

@@ -1,4 +1,4 @@
-//! A pattern that is looked for in a plain text whose runs are read once, in order. (Crochemore and Perrin,
+//! A search for a pattern in a plain text that reads each run once, in order. (Crochemore and Perrin,
 //! Two-way string-matching, 1991.)
 ghost use Rattle.std.specs.Prelude.{◌≡◌, ◌≢◌, ℕ, List, ◌+◌, ◌-◌, ◌<◌, ◌≤◌, ◌^◌, length, take, drop, nat_eq, slice_index};
 ghost use Rattle.std.specs.List.{starts_with};
@@ -13,7 +13,7 @@ use ansi_items::ansitok::{Kind, Scanner};
 use memchr::arch::all::packedpair::Pair;
 use memchr::memchr;
 
-/// A pattern, and where it is cut. What follows the cut is compared first, and then what stands before it.
+/// A pattern, and where it is cut. The bytes after the cut are compared first, then those before it.
 #[derive(Drop)]
 pub(super) struct Pattern<'p> {
     bytes: &'p [u8],
@@ -31,8 +31,8 @@ pub(super) struct Point {
     pub(super) position: usize,
 }
 
-/// How far a search has come in a text: the pattern's bytes from `low` up to `met` stand in the plain text
-/// where a match may begin at `position`.
+/// How far a search has come in a text: a match may begin at `position`, and the pattern's bytes from `low`
+/// up to `met` agree with the plain text there.
 #[derive(Clone, Copy)]
 pub(super) struct Window {
     position: usize,
@@ -40,8 +40,8 @@ pub(super) struct Window {
     met: usize,
     // a place that isn't past the position
     point: Point,
-    // Up to this offset of the text the rare byte stands nowhere, from where it would stand in a match at the
-    // position.
+    // The rare byte doesn't occur before this offset of the text, counted from where it would be in a match at
+    // the position.
     next: usize,
 }
 
@@ -65,15 +65,15 @@ impl<'p> Pattern<'p> {
         Pattern { bytes, cut, rare }
     }
 
-    /// The byte that is looked for first.
+    /// The byte that is searched for first.
     pub(super) fn rare_byte(&self) -> u8
         ensures { result ≡ slice_index self.now.bytes.now self.now.rare }
     {
         self.bytes[self.rare]
     }
 
-    /// Where a search begins, from a position on, in a text in which the rare byte doesn't stand before the
-    /// offset `next`.
+    /// The window in which a search from a position on begins. The rare byte doesn't occur in the text before
+    /// the offset `next`.
     pub(super) fn first_window(&self, position: usize, next: usize) -> Window
         ensures comes { (t : List ℕ) → IsUtf8 t → position ≤ length t → Comes t self.now.bytes.now self.now.cut.at position result }
         ensures next { result.next ≡ next }
@@ -85,7 +85,7 @@ impl<'p> Pattern<'p> {
         self.window_at(position, point, next)
     }
 
-    /// A window in which nothing is met.
+    /// A window in which no byte is compared yet.
     #[inline(always)]
     fn window_at(&self, position: usize, point: Point, next: usize) -> Window
         ensures comes { (t : List ℕ) (start : ℕ) → IsReached t self.now.bytes.now start position → IsPoint t point position → Comes t self.now.bytes.now self.now.cut.at start result }
@@ -103,7 +103,7 @@ impl<'p> Pattern<'p> {
         }
     }
 
-    /// Reads a run of a text, which begins at `here`, after a search that has come up to there.
+    /// Reads a run of a text that begins at `here`. The search has come up to there.
     #[inline(always)]
     pub(super) fn read(&self, text: &str, run: &[u8], here: Point, window: Window) -> Sight
         requires run { OccursAt (plain text.now) run.now here.position }
@@ -136,8 +136,8 @@ impl<'p> Pattern<'p> {
         Sight::Open(window)
     }
 
-    /// The window after one in which another byte stands than the next one. It begins where the rare byte
-    /// stands next in the run, where that one follows.
+    /// The window after one with a mismatch. It is moved to the next occurrence of the rare byte in the run, if
+    /// there is one.
     #[inline(always)]
     fn after_mismatch(&self, text: &str, run: &[u8], here: Point, window: Window) -> Window
         requires run { OccursAt (plain text.now) run.now here.position }
@@ -166,7 +166,7 @@ impl<'p> Pattern<'p> {
         self.window_at(begin, point, next)
     }
 
-    /// Whether what stands before the cut stands in the plain text too, where what follows it ends in the run.
+    /// Whether the bytes before the cut agree with the plain text too. Those after it do, and end in the run.
     fn front_stands(&self, text: &str, run: &[u8], place: usize, window: Window) -> bool
         requires run { OccursAt (plain text.now) run.now place }
         requires point { IsPoint text.now window.point window.position }
@@ -181,7 +181,7 @@ impl<'p> Pattern<'p> {
         stands_at(rest, front, window.position - window.point.position)
     }
 
-    /// The window after one in which all that follows the cut is met, but what stands before it isn't.
+    /// The window after one in which the bytes after the cut agree but those before it don't.
     fn after_front(&self, window: Window) -> Window
         requires fits { window.position + length self.now.bytes.now < 2 ^ 64 }
         ensures past { window.position < result.position }
@@ -203,7 +203,7 @@ impl<'p> Pattern<'p> {
     }
 }
 
-/// The start of the run that holds a position, found from a place on that isn't past it. That place where the
+/// The start of the run that has a position, found from a place that isn't past it. It is that place if the
 /// position isn't before `end`.
 fn point_before(text: &str, point: Point, position: usize, end: usize) -> Point
     requires { IsPoint text.now point position }
@@ -228,7 +228,7 @@ fn point_before(text: &str, point: Point, position: usize, end: usize) -> Point
     point
 }
 
-/// The second of two places where it isn't past a position, and else the first.
+/// The second of two places if it isn't past a position, else the first.
 #[inline(always)]
 fn last_point(point: Point, here: Point, position: usize) -> Point
     ensures { (t : List ℕ) → IsPoint t point position → IsPoint t here here.position → IsPoint t result position }
@@ -247,8 +247,8 @@ fn rare_place(bytes: &[u8]) -> usize
     Pair::new(bytes).map_or(0, |pair| pair.index1() as usize)
 }
 
-/// Where a byte stands next, from an offset on, or the end of the text. Before the offset `next` it stands
-/// nowhere.
+/// Where a byte occurs next, from an offset on, or the end of the text. It doesn't occur before the offset
+/// `next`.
 #[inline(always)]
 fn next_of(byte: u8, bytes: &[u8], from: usize, next: usize) -> usize
     requires within { from ≤ length bytes.now }

@@ -13,11 +13,11 @@ use ansi_style::styles;
 use std::alloc::{AllocError, Allocator};
 use std::borrow::CowStr;
 
-/// A close has at most so many bytes, `longest_close`.
+/// A close has at most this many bytes, `longest_close`.
 const LONGEST_CLOSE: usize = 88;
 
-/// As `AnsiStr::ansi_cut`, from `start` up to `end`, or to the end of the text where that is `None`,
-/// with an answer that lives as long as the text, and its memory taken from any allocator. (Own.)
+/// Like `AnsiStr::ansi_cut`, from `start` up to `end`, or to the end of the text if `end` is `None`,
+/// with a result that lives as long as the text, and with any allocator. (Own.)
 ///
 /// ```
 /// let cut = cut_in(rt.alloc(), "\x1b[30mTEXT\x1b[39m", 1, Some(3))?;
@@ -38,8 +38,8 @@ pub fn cut_in<'t, A: Allocator>(
     Ok(get_in(alloc, text, start, end)?.unwrap())
 }
 
-/// As `AnsiStr::ansi_get`, from `start` up to `end`, or to the end of the text where that is `None`,
-/// with an answer that lives as long as the text, and its memory taken from any allocator. (Own.)
+/// Like `AnsiStr::ansi_get`, from `start` up to `end`, or to the end of the text if `end` is `None`,
+/// with a result that lives as long as the text, and with any allocator. (Own.)
 ///
 /// ```
 /// let cut = get_in(rt.alloc(), "\x1b[30mTEXT\x1b[39m", 2, None);
@@ -71,7 +71,7 @@ pub fn get_in<'t, A: Allocator>(
     Ok(Some(CowStr::Owned(cut)))
 }
 
-/// The bytes of a text in a range, or `None` where that is bad. A position past the end counts as the
+/// The bytes of a text in a range, or `None` if the range is bad. A position past the end counts as the
 /// end.
 fn range_of(text: &str, start: usize, end: usize) -> Option<&str>
     ensures { MatchOption result (IsFalse (is_good_range text.now start (Some end))) (λ range. IsTrue (is_good_range text.now start (Some end)) × (range.now ≡ slice_range text.now start end)) }
@@ -84,8 +84,8 @@ fn range_of(text: &str, start: usize, end: usize) -> Option<&str>
     Some(&text[from..to])
 }
 
-/// The cut of a text from its front, written, or `None` where the end isn't good: the text up to there as
-/// it stands, and the close of the style then.
+/// The cut of a text from its front, written, or `None` if the end isn't good: the text up to there
+/// unchanged, and the close of the style there.
 fn cut_front<A: Allocator>(
     alloc: A,
     text: &str,
@@ -104,8 +104,8 @@ fn cut_front<A: Allocator>(
     Ok(Some(cut))
 }
 
-/// The cut of a range, written, or `None` where that is bad: the sequences up to its start, the stretch of
-/// the text from there on with the sequences up to its end, and the close of the style then.
+/// The cut of a range, written, or `None` if the range is bad: the sequences up to its start, the stretch of
+/// the text from there on with the sequences up to its end, and the close of the style there.
 fn cut_up_to<A: Allocator>(
     alloc: A,
     text: &str,
@@ -129,7 +129,7 @@ fn cut_up_to<A: Allocator>(
     let Some(to) = walk_to(&mut style, rest, end - start) else {
         return Ok(None);
     };
-    // The sequences up to the start are what stands before it but for the plain bytes there.
+    // The sequences up to the start are all bytes before it but the plain ones.
     let most = from.saturating_sub(start) + to + LONGEST_CLOSE;
     let mut cut = String::with_capacity(alloc, most)?;
     push_sequences(&mut cut, text, start)?;

@@ -13,7 +13,7 @@ use ansi_search::search::{self, PAST_THE_END};
 use std::alloc::{AllocError, Allocator};
 use std::borrow::CowStr;
 
-/// As `AnsiStr::ansi_strip_prefix`, with an answer that lives as long as the text, and its memory taken from any allocator.
+/// Like `AnsiStr::ansi_strip_prefix`, with a result that lives as long as the text, and with any allocator.
 /// (Own.)
 ///
 /// ```
@@ -46,7 +46,7 @@ pub fn strip_prefix_in<'t, A: Allocator>(
     Ok(Some(CowStr::Owned(write_from(alloc, text, prefix.len())?)))
 }
 
-/// A text from a position on, written: the sequences up to there, and all that stands after them.
+/// A text from a position on, written: the sequences up to there, and everything after them.
 fn write_from<A: Allocator>(alloc: A, text: &str, start: usize) -> Result<String<A>, AllocError>
     requires { IsCharBoundary (plain text.now) start }
     ensures { IfOk result (λ s. string_bytes s ≡ kept text.now start (length (plain text.now))) }
@@ -57,7 +57,7 @@ fn write_from<A: Allocator>(alloc: A, text: &str, start: usize) -> Result<String
     Ok(kept)
 }
 
-/// As `AnsiStr::ansi_strip_suffix`, with an answer that lives as long as the text, and its memory taken from any allocator.
+/// Like `AnsiStr::ansi_strip_suffix`, with a result that lives as long as the text, and with any allocator.
 /// (Own.)
 ///
 /// ```
@@ -92,7 +92,7 @@ pub fn strip_suffix_in<'t, A: Allocator>(
     Ok(Some(CowStr::Owned(kept)))
 }
 
-/// As `AnsiStr::ansi_trim`, with an answer that lives as long as the text, and its memory taken from any allocator.
+/// Like `AnsiStr::ansi_trim`, with a result that lives as long as the text, and with any allocator.
 /// (Own.)
 ///
 /// ```
@@ -122,8 +122,8 @@ fn write_trimmed<A: Allocator>(alloc: A, text: &str) -> Result<String<A>, AllocE
     Ok(kept)
 }
 
-/// Appends a text up to an offset, and then its sequences alone. An `Err` means out of memory;
-/// what was appended up to there stands.
+/// Appends a text up to an offset, and then only its sequences. `Err` means out of memory;
+/// what was appended before it stays.
 fn push_up_to<A: Allocator>(out: &mut String<A>, text: &str, end: usize) -> Result<(), AllocError>
     requires { IsCharBoundary text.now end }
     ensures { OnOk result (string_bytes out.new ≡ string_bytes out.old ++ (take end text.now ++ kept (drop end text.now) 0 0)) }

@@ -6,7 +6,7 @@ ghost use Rattle.ansi_slice.specs.Ranges.{past_inclusive};
 use std::ops::{Range, RangeFrom, RangeFull, RangeInclusive, RangeTo, RangeToInclusive};
 
 /// A range of positions of a plain text, in bytes from its start: `a..b`, `a..=b`, `a..`, `..b`,
-/// `..=b` or `..`. Takes no memory. (std; as a trait, own.)
+/// `..=b` or `..`. Doesn't allocate. (std; as a trait, own.)
 ///
 /// ```
 /// let text = "\x1b[30mTEXT\x1b[39m";
@@ -17,10 +17,10 @@ pub trait AnsiRange: Drop {
     /// The position that the range begins at.
     ghost start: { Self → ℕ };
 
-    /// The position that the range ends in front of, where there is one.
+    /// The position that the range ends in front of, if it has an end.
     ghost end: { Self → Option ℕ };
 
-    /// The position that the range begins at: 0 where none is written. (std)
+    /// The position that the range begins at: 0 if none is written. (std)
     ///
     /// ```
     /// assert!(rt; AnsiRange::start(&(2..=5)) == 2);
@@ -29,9 +29,9 @@ pub trait AnsiRange: Drop {
     fn start(&self) -> usize
         ensures { result ≡ start self.now };
 
-    /// The position that the range ends in front of, or `None` where it has no end.
+    /// The position that the range ends in front of, or `None` if it has no end.
     ///
-    /// After an inclusive end `b` that is `b + 1`, and an inclusive end of `usize::MAX` is no end.
+    /// It is `b + 1` for an inclusive end `b`. An inclusive end of `usize::MAX` counts as no end.
     /// (std, but for `usize::MAX`.)
     ///
     /// ```

@@ -9,8 +9,8 @@ ghost use Rattle.ansi_search.specs.Offsets.{StandsIn};
 use ansi_items::ansitok::{Kind, Scanner};
 use std::alloc::{AllocError, Allocator};
 
-/// Appends every sequence of a text up to a good position of its plain text, and gives where that stands in the
-/// text, after them. An `Err` means out of memory; what was appended up to there stands. (Own.)
+/// Appends every sequence of a text up to a good position of its plain text. Returns the offset of the position in
+/// the text, after these sequences. `Err` means out of memory; what was appended before it stays. (Own.)
 pub fn push_sequences<A: Allocator>(
     out: &mut String<A>,
     text: &str,

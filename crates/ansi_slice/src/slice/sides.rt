@@ -21,7 +21,7 @@ use ansi_style::styles;
 use std::alloc::{AllocError, Allocator};
 use std::borrow::CowStr;
 
-/// As `AnsiStr::ansi_split_at`, with answers that live as long as the text, and their memory taken from any allocator.
+/// Like `AnsiStr::ansi_split_at`, with results that live as long as the text, and with any allocator.
 /// (Own.)
 ///
 /// ```
@@ -49,7 +49,7 @@ pub fn split_at_in<'t, A: Allocator + Copy>(
     Ok((CowStr::Owned(left), CowStr::Owned(right)))
 }
 
-/// As the left of `split_at_in`, alone, or `None` where the position isn't good.
+/// Only the left side of `split_at_in`, or `None` if the position isn't good.
 pub fn left_in<'t, A: Allocator>(
     alloc: A,
     text: &'t str,
@@ -74,7 +74,7 @@ pub fn left_in<'t, A: Allocator>(
     Ok(Some(CowStr::Owned(left)))
 }
 
-/// As the right of `split_at_in`, alone, or `None` where the position isn't good.
+/// Only the right side of `split_at_in`, or `None` if the position isn't good.
 pub fn right_in<'t, A: Allocator>(
     alloc: A,
     text: &'t str,
@@ -97,7 +97,7 @@ pub fn right_in<'t, A: Allocator>(
     Ok(Some(CowStr::Owned(write_right(alloc, style, &text[from..])?)))
 }
 
-/// The two sides of a text without ESC: its bytes before the position, and those from there on. A
+/// The two sides of a text without ESC: its bytes before the position, and its bytes from there on. A
 /// position past the end counts as the end.
 fn halves(text: &str, mid: usize) -> (&str, &str)
     requires bare { IsFalse (has_escape text.now) }
@@ -125,9 +125,9 @@ fn write_sides<A: Allocator + Copy>(
     Ok((left, right))
 }
 
-/// Appends what a text gives to a side before a position: each run of its plain text in the style there,
-/// and each sequence but the SGRs, which change the style. Gives where the position stands in the text.
-/// An `Err` means out of memory; what was appended up to there stands.
+/// Appends what a text adds to a side before a position: each run of its plain text in the style there,
+/// and each sequence but the SGRs, which change the style. Returns the offset of the position in the text.
+/// `Err` means out of memory; what was appended before it stays.
 fn write_side<A: Allocator>(
     out: &mut String<A>,
     style: &mut Style,
@@ -156,8 +156,8 @@ fn write_side<A: Allocator>(
     Ok(text.len())
 }
 
-/// Appends a sequence, or a lone escape, that is no SGR. An SGR changes the style instead. An `Err` means
-/// that memory has run out, and nothing is appended.
+/// Appends a sequence that isn't an SGR, or a lone escape. An SGR changes the style instead. `Err` means
+/// out of memory; then nothing is appended.
 fn write_mark<A: Allocator>(
     out: &mut String<A>,
     style: &mut Style,
@@ -176,7 +176,7 @@ fn write_mark<A: Allocator>(
     out.push_str(mark)
 }
 
-/// What a text gives to a side, written, where the style is that before it.
+/// What a text adds to a side, written. `style` is the style before it.
 fn write_right<A: Allocator>(alloc: A, style: Style, text: &str) -> Result<String<A>, AllocError>
     ensures { IfOk result (λ s. string_bytes s ≡ side_up_to (rendition_of style) PAST_THE_END (pieces_of text.now)) }
 {
@@ -186,8 +186,8 @@ fn write_right<A: Allocator>(alloc: A, style: Style, text: &str) -> Result<Strin
     Ok(right)
 }
 
-/// Appends a piece of text in a style: its start, the piece and its close, or nothing for an empty
-/// piece. An `Err` means out of memory; what was appended up to there stands.
+/// Appends a piece of text in a style: the start of the style, the piece and the close. An empty
+/// piece adds no bytes. `Err` means out of memory; what was appended before it stays.
 fn write_dressed<A: Allocator>(
     out: &mut String<A>,
     style: &Style,

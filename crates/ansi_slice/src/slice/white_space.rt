@@ -6,7 +6,7 @@ ghost use Rattle.ansi_slice.specs.Stretches.{KeepsUpTo};
 
 use ansi_items::ansitok::{Kind, Scanner};
 
-/// How many bytes the white space at the front of the plain text takes.
+/// The length in bytes of the white space at the front of the plain text.
 pub(super) fn white_space_len(text: &str) -> usize
     ensures { result ≡ length (plain text.now) - length (trim_start (plain text.now)) }
 {
@@ -24,8 +24,8 @@ pub(super) fn white_space_len(text: &str) -> usize
     len
 }
 
-/// Where in the text the last character of the plain text ends that isn't white space, or 0 where there
-/// is none.
+/// The offset in the text at which the last character of the plain text that isn't white space ends, or 0 if
+/// there is no such character.
 pub(super) fn solid_end(text: &str) -> usize
     ensures { KeepsUpTo text.now (length (trim_end (plain text.now))) result }
 {

@@ -17,16 +17,16 @@ use memchr::memchr;
 /// A text in two at the first match of a pattern.
 #[derive(Drop)]
 pub(super) struct Cut<'t> {
-    /// What stands before the match, with every sequence up to there; without a match, all of the text.
+    /// The text before the match, with every sequence up to there. Without a match it is all of the text.
     pub(super) front: &'t str,
-    /// Whether an ESC stands in the front.
+    /// Whether the front has an ESC.
     pub(super) is_marked: bool,
     /// The match and all that follows.
     pub(super) rest: Option<Rest<'t>>,
 }
 
-/// What is left of a text, and how many bytes at its front are known to be plain. So where a run has
-/// many matches, its end isn't looked for at each of them.
+/// What is left of a text, and how many bytes at its front are known to be plain. So if a run has
+/// many matches, its end isn't searched for at each of them.
 #[derive(Drop)]
 pub(super) struct Rest<'t> {
     text: &'t str,
@@ -36,14 +36,14 @@ pub(super) struct Rest<'t> {
 }
 
 impl<'t> Rest<'t> {
-    /// All of the text, of which nothing is known.
+    /// All of the text. No byte of it is known to be plain.
     pub(super) fn new(text: &'t str) -> Self
         ensures { result.text.now ≡ text.entry.now }
     {
         Rest { text, run: 0 }
     }
 
-    /// The text, of which so many bytes at the front are known to be plain.
+    /// The text. Its first `run` bytes are known to be plain.
     pub(super) fn with_run(text: &'t str, run: usize) -> Self
         requires ends { IsCharBoundary text.now run }
         requires plain { IsFalse (has_escape (take run text.now)) }
@@ -89,7 +89,7 @@ impl<'t> Rest<'t> {
     }
 }
 
-/// The same, by a walk over the items, where no match begins before `ahead`.
+/// The same, by a walk over the items. No match begins before `ahead`.
 #[inline(always)]
 fn cut_from<'t>(
     text: &'t str,
@@ -130,7 +130,7 @@ fn cut_from<'t>(
             Kind::Other | Kind::Lone => is_marked = true,
         }
     }
-    // At the end stands the empty pattern alone.
+    // Only the empty pattern occurs at the end.
     let rest = if pat.is_empty() && ahead == 0 {
         Some(Rest::new(""))
     } else {
@@ -143,8 +143,8 @@ fn cut_from<'t>(
     }
 }
 
-/// From where on the first match is still to be looked for that doesn't begin before `from`, once the run
-/// at the front of a text was searched. Where that is in the run, the match begins there.
+/// The place from which the first match that doesn't begin before `from` is still to be searched for, after a search
+/// of the run at the front of a text. If that place is in the run, the match begins there.
 #[inline(always)]
 fn next_start(text: &str, run: usize, pat: &str, from: usize) -> usize
     requires ends { IsCharBoundary text.now run }
@@ -168,7 +168,7 @@ fn next_start(text: &str, run: usize, pat: &str, from: usize) -> usize
 }
 
 /// Whether a match may begin in a run and go on after it: whether the pattern's first byte is one of the
-/// run's last bytes, where too few follow for a match.
+/// last bytes of the run, those that too few bytes follow for a match.
 fn may_go_on(run: &str, pat: &str) -> bool
     ensures { IsFalse result → (y : List ℕ) (i : ℕ) → i < length run.now → IsTrue (is_match (run.now ++ y) pat.now i) → i + length pat.now ≤ length run.now }
 {

@@ -20,8 +20,8 @@ use std::borrow::CowStr;
 use std::marker::Model;
 use std::str::from_utf8_unchecked;
 
-/// A start and a close have at most so many bytes together, `longest_start_and_close`. It is room alone,
-/// asked for before they are written: so a part never grows, and keeps no more than this beyond its length.
+/// A start and a close have at most this many bytes together, `longest_start_and_close`. This room is reserved
+/// before they are written, so a part never grows, and keeps at most this many bytes beyond its length.
 const STYLE_ROOM: usize = 251;
 
 /// What one part is written from. Contracts see it as that part.
@@ -29,7 +29,7 @@ const STYLE_ROOM: usize = 251;
 pub(crate) struct Span<'t> {
     /// The text from the match before up to after the last sequence at the end of the part.
     text: &'t str,
-    /// Whether an ESC stands in it.
+    /// Whether it has an ESC.
     is_marked: bool,
     /// How many plain bytes of it are in no part: those of the match before.
     skip: usize,
@@ -52,7 +52,7 @@ impl<'t> Model for Span<'t> {
 }
 
 impl<'t> Span<'t> {
-    /// The part: a borrow where no sequence stands in it and no style has to be written.
+    /// The part: a borrow if it has no sequence and no style has to be written.
     pub(crate) fn write<A: Allocator>(&self, alloc: A) -> Result<CowStr<'t, A>, AllocError>
         ensures part { IfOk result (IsPart self.now) }
         ensures takes_no_memory { IsTrue self.now.borrowed → IsOk result }
@@ -63,8 +63,8 @@ impl<'t> Span<'t> {
         }
     }
 
-    /// The part as it stands in the text, where no sequence stands in it, and it is empty or no style
-    /// is carried.
+    /// The part as a slice of the text, if it has no sequence, and it is empty or no style is
+    /// carried.
     fn bare(&self) -> Option<&'t str>
         ensures part { MatchOption result (IsFalse self.now.borrowed) (λ bare. (bare.now ≡ self.now.bytes) × IsTrue self.now.borrowed) }
         ensures len { length self.now.bytes ≤ self.now.share + longest_start_and_close }
@@ -80,8 +80,8 @@ impl<'t> Span<'t> {
     }
 
     /// The part, written: the start of the style that is carried, the text with its sequences, and the
-    /// close of the style then, where that has any. It is called by reference, so that a part that is
-    /// borrowed copies no style.
+    /// close of the style then, if that has anything to end. It is called by reference, so that a part that
+    /// is borrowed copies no style.
     #[inline(never)]
     fn written<A: Allocator>(&self, alloc: A) -> Result<String<A>, AllocError>
         requires { IsFalse self.now.borrowed }
@@ -102,8 +102,8 @@ impl<'t> Span<'t> {
     }
 }
 
-/// Appends a text with its sequences, but for its first `skip` plain bytes. An `Err` means out of
-/// memory; what was appended up to there stands.
+/// Appends a text with its sequences, but without its first `skip` plain bytes. `Err` means out of
+/// memory; what was appended before it stays.
 fn write_text<A: Allocator>(
     text: &str,
     is_marked: bool,
@@ -121,7 +121,7 @@ fn write_text<A: Allocator>(
         let piece = &text[item.start..item.end];
         if item.kind == Kind::Text {
             if skip <= piece.len() {
-                // What follows is written as it stands.
+                // What follows is written unchanged.
                 part.push_str(&text[item.start + skip..])?;
                 return Ok(());
             }
@@ -133,7 +133,7 @@ fn write_text<A: Allocator>(
     Ok(())
 }
 
-/// The spans of a text between the matches of a pattern, in order: an iterator that takes no memory.
+/// The spans of a text between the matches of a pattern, in order: an iterator that doesn't allocate.
 #[derive(Drop)]
 pub(crate) struct Spans<'t, 'p> {
     /// What is left of the text: the match before and all after it.
@@ -141,7 +141,7 @@ pub(crate) struct Spans<'t, 'p> {
     pat: &'p str,
     /// How many plain bytes of `rest` are in no part: those of the match before.
     skip: usize,
-    /// The least place in `rest` at which the next match may stand.
+    /// The least place in `rest` at which the next match may begin.
     from: usize,
     /// The style that the parts before leave open.
     carried: Style,
@@ -178,7 +178,7 @@ impl<'t, 'p> Spans<'t, 'p> {
         }
     }
 
-    /// Leaves nothing.
+    /// No span is left after it.
     pub(crate) fn finish(&mut self)
         ensures { self.new ≡ [] }
     {
@@ -206,7 +206,7 @@ impl<'t> Spans<'t, 't> {
         }
     }
 
-    /// A walk that has the same left.
+    /// A walk that has the same parts left.
     pub(crate) fn walk(&self) -> PartWalk<'t>
         ensures walk { IsPartWalk result }
         ensures left { parts_of_walk result ≡ self.now }

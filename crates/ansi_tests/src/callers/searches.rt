@@ -1,13 +1,15 @@
 //! Callers of the searches: what follows from their results alone.
-ghost use Rattle.std.specs.Prelude.{◌≡◌, ◌↔◌, ◌+◌, ◌≤◌, ℕ, length, Some, None, IsNone, IfOk, IfSome, true};
+ghost use Rattle.std.specs.Prelude.{◌≡◌, ◌↔◌, ◌+◌, ◌≤◌, ℕ, length, Some, None, IsNone, IfOk, IfSome, true, slice_get};
 ghost use Rattle.std.specs.Cow.{cow_str_bytes};
 ghost use Rattle.std.specs.Str.{IsCharBoundary};
 ghost use Rattle.std.specs.Str.Pattern.{HasTextAt, LacksTextAt};
 ghost use Rattle.ansi_str.specs.Plain.{plain};
 ghost use Rattle.ansi_str.specs.Cut.{cut};
 ghost use Rattle.ansi_str.specs.Sides.{left_side, right_side};
+ghost use Rattle.ansi_str.specs.Parts.{parts};
 
 use ansi_str::AnsiStr;
+use ansi_str::search::part_interval;
 use std::alloc::{AllocError, Global};
 use std::borrow::CowStr;
 
@@ -85,6 +87,28 @@ pub fn split_at_boundary<'t, T: AnsiStr>(
         return Ok(None);
     }
     Ok(Some(text.ansi_split_at(alloc, index)?))
+}
+
+/// The text before a part, the part, and the text after it, or `None` if there is no part of that index.
+pub fn cut_around_part<'t, T: AnsiStr>(
+    alloc: Global,
+    text: &'t T,
+    pat: &str,
+    index: usize,
+) -> Result<Option<(CowStr<'t>, CowStr<'t>, CowStr<'t>)>, AllocError>
+    ensures none { IfOk result (λ o. IsNone o ↔ IsNone (slice_get (parts (plain (T.text text.now)) pat.now) index)) }
+    ensures bytes { IfOk result (λ o. IfSome o (λ c. (i : ℕ × ℕ) × (slice_get (parts (plain (T.text text.now)) pat.now) index ≡ Some i)
+        × (cow_str_bytes c.0 ≡ cut (T.text text.now) 0 (Some i.0))
+        × (cow_str_bytes c.1 ≡ cut (T.text text.now) i.0 (Some i.1))
+        × (cow_str_bytes c.2 ≡ cut (T.text text.now) i.1 None))) }
+{
+    let Some((start, end)) = part_interval(text.as_text(), pat, index) else {
+        return Ok(None);
+    };
+    let before = text.ansi_cut(alloc, ..start)?;
+    let part = text.ansi_cut(alloc, start..end)?;
+    let after = text.ansi_cut(alloc, end..)?;
+    Ok(Some((before, part, after)))
 }
 
 /// Whether the searches agree: a plain text begins with a pattern exactly if the first match is at

@@ -1,7 +1,9 @@
 //! The callers, each on several texts.
 use super::expect;
 use crate::callers::blocks::{count_blocks, have_same_blocks, write_cell, write_status};
-use crate::callers::searches::{cut_around_match, cut_at_boundary, cut_match, split_at_boundary};
+use crate::callers::searches::{
+    cut_around_match, cut_around_part, cut_at_boundary, cut_match, split_at_boundary,
+};
 use ansi_str::get_blocks;
 use std::alloc::{AllocError, Global};
 use std::borrow::CowStr;
@@ -33,6 +35,16 @@ fn texts_are_cut_around_matches(rt: HostRuntime) -> Result<(), Fail> {
     assert!(rt; before.as_str() == "a\x1b[1m\x1b[22m");
     assert!(rt; found.as_str() == "\x1b[1mb\x1b[0m");
     assert!(rt; after.as_str() == "\x1b[1m\x1b[0mc");
+    Ok(())
+}
+
+#[test]
+fn texts_are_cut_around_parts(rt: HostRuntime) -> Result<(), Fail> {
+    let cuts = cut_around_part(rt.alloc(), &"a,\x1b[1mb\x1b[0m,c", ",", 1)?;
+    let (before, part, after) = cuts.ok_or("no part")?;
+    assert!(rt; before.as_str() == "a,\x1b[1m\x1b[22m");
+    assert!(rt; part.as_str() == "\x1b[1mb\x1b[0m");
+    assert!(rt; after.as_str() == "\x1b[1m\x1b[0m,c");
     Ok(())
 }
 
