@@ -1,5 +1,5 @@
 -- A pattern at the front and at the end of a text.
-use Rattle.ansi_search.proofs.Common.{◌≡◌, ℕ, ◌+◌, ◌-◌, ◌≤◌, ◌⊎◌, inl, inr, IsTrue, true, ◌&&◌, List, ◌∷◌, ◌++◌, length, take, drop, nat_eq, refl, sym, ◌∙◌, ap, ap₂, subst, arith, and_assoc, nat_eq_equiv, take-append-le, take_all, drop-drop, length-drop, length-take, IsCharBoundary-from_take, IsCharBoundary-from_drop, pointwise, same_text, starts_with, ends_with, IsUtf8, IsCharBoundary, Kind, Piece, pieces_of, plain_of, plain, is_good_position, StandsIn, []}
+use Rattle.ansi_search.proofs.Common.{◌≡◌, ℕ, ◌+◌, ◌-◌, ◌≤◌, ◌⊎◌, inl, inr, IsTrue, true, ◌&&◌, List, ◌∷◌, ◌++◌, length, take, drop, nat_eq, refl, sym, ◌∙◌, ap, ap₂, subst, arith, and_assoc, nat_eq_equiv, take-append-le, take_all, drop-drop, length-drop, length-take, IsCharBoundary-from_take, IsCharBoundary-from_drop, pointwise, same_text, starts_with, ends_with, IsUtf8, IsCharBoundary, Kind, Piece, pieces_of, plain_of, plain, is_good_position, offset_of, IsCharBoundary-start, StandsIn, []}
 use Rattle.ansi_search.proofs.PositionLemmas.{boundary_is_good}
 use Rattle.ansi_search.proofs.OffsetLemmas.{IsOverText, IsOverMark, IsPassed, passed-text, passed-mark, stands-after}
 
@@ -40,6 +40,17 @@ pub record IsTailSoFar (t : List ℕ) (n last len passed : ℕ) (left : List Pie
   pub boundary : IsCharBoundary t last
   pub way : IsPassed t (before + len) passed left
   pub long : (before ≡ 0) ⊎ (n ≤ len)
+
+-- at the front
+pub tail-begin : (t : List ℕ) (n : ℕ) → IsUtf8 t → IsTailSoFar t n 0 0 0 (pieces_of t)
+tail-begin t n utf8 = record { before = 0; from = all; boundary = IsCharBoundary-start t utf8; way = all; long = inl refl }
+  where
+    all : IsPassed t 0 0 (pieces_of t)
+    all = record {
+      count = omega arith;
+      rest = refl;
+      offset = λ k. let same : 0 + k ≡ k = omega arith in ap (offset_of t) same ∙ omega arith;
+    }
 
 -- over a run that is no shorter
 pub tail-run : {t : List ℕ} {n last len passed at : ℕ} {w : List ℕ} {left ps : List Piece} → IsTailSoFar t n last len passed left → IsOverText t w passed at left ps → n ≤ length w

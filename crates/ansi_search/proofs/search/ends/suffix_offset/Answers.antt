@@ -1,8 +1,18 @@
 use Rattle.ansi_search.proofs.Common.{◌≡◌, length, refl, sym, ◌∙◌, ap, subst, arith, drop, nat_eq, true, ◌-◌, IsTrue, starts_with, plain, is_text, is_good_position, StandsIn}
 use Rattle.ansi_search.proofs.OffsetLemmas.{over_text, over_mark, is_other}
-use Rattle.ansi_search.proofs.EndLemmas.{tail-run, tail-text, tail-mark, tail-starts, tail-good, tail-stands}
+use Rattle.ansi_search.proofs.EndLemmas.{tail-begin, tail-run, tail-text, tail-mark, tail-starts, tail-good, tail-stands}
 use Rattle.ansi_search.proofs.search.ends.suffix_offset.Goals as goal
 use Rattle.ansi_search.proofs.search.ends.suffix_offset.Goals.{then-pat-run, else-pat-run}
+
+-- at the front
+pub loop-item-init : goal.loop-item-init
+loop-item-init c =
+    let begins = c.into_iter-item-iterator.ensures.into_iter_gives ∙ c.new-item-items.ensures.start in
+    record {
+      text = ap (λ s. s.text) begins;
+      fits = rw begins (omega arith);
+      so_far = rw begins (tail-begin c.args.text.now (length c.args.pat.now) c.utf8.text);
+    }
 
 -- over a run
 pub loop-item-preserved-then-eq : goal.loop-item-preserved-then-eq
