@@ -3,7 +3,7 @@ use Rattle.std.specs.Prelude.{◌≡◌, ◌⊎◌, ℕ, true, not, IsTrue, IsFa
 use Rattle.ansi_style.specs.declared.state.rendition.Rendition.{Rendition}
 use Rattle.ansi_str.specs.Rendition.{plain_style}
 use Rattle.ansi_str.specs.States.{rendition_of_numbers}
-use Rattle.ansi_str.specs.Blocks.{Block, blocks_from, block_after, waiting}
+use Rattle.ansi_str.specs.Blocks.{Block, blocks_from, block_after, sequences_before}
 use Rattle.ansi_str.specs.Splits.{SplitPart}
 use Rattle.ansi_split.specs.Walks.{parts_of_walk}
 use Rattle.ansi_split.specs.declared.walks.PartWalk.{PartWalk}
@@ -24,7 +24,7 @@ IsOver t w = (w.rest.now ≡ t) × (rendition_of_numbers w.style ≡ plain_style
 
 -- the sequences in the first of these blocks, before its run
 abbrev pub sequences_left : BlockWalk → List ℕ
-sequences_left w = waiting w.rest.now 0
+sequences_left w = sequences_before w.rest.now 0
 
 -- a call returns this run and its style, and these blocks are left
 abbrev pub IsTold : List ℕ → Rendition → List Block → BlockWalk → NextBlock → Type 0

@@ -1,13 +1,13 @@
 //! A walk over the blocks of a text, kept in the caller's memory, and what each step of a walk over
 //! blocks or parts returns.
 ghost use Rattle.std.specs.Prelude.{◌≡◌, not, ◌==◌, length, Some};
-ghost use Rattle.ansi_str.specs.Blocks.{waiting};
+ghost use Rattle.ansi_str.specs.Blocks.{sequences_before};
 ghost use Rattle.ansi_answers.specs.Answers.{no, Gives};
 ghost use Rattle.ansi_answers.specs.Walks.{IsOver};
 
 use crate::answers::{Answer, write_made};
 use crate::styles::StyleData;
-use ansi_blocks::runs::{Run, waiting};
+use ansi_blocks::runs::{Run, sequences_before};
 use ansi_style::numbers::StyleNumbers;
 use ansi_style::styles;
 use std::alloc::Allocator;
@@ -48,11 +48,11 @@ pub fn walk_over(text: &str) -> BlockWalk<'_>
 
 /// Writes the sequences before the first run of a text. Allocates only if there are any.
 pub fn write_waiting<A: Allocator>(alloc: A, text: &str, run: &Run<'_>, buffer: &mut [u8]) -> Answer
-    requires { run.now.is_awaited ≡ not (length (waiting text.now 0) == 0) }
-    ensures { Gives no (not (length (waiting text.now 0) == 0)) (Some (waiting text.now 0)) result buffer.old buffer.new }
+    requires { run.now.has_sequences_before ≡ not (length (sequences_before text.now 0) == 0) }
+    ensures { Gives no (not (length (sequences_before text.now 0) == 0)) (Some (sequences_before text.now 0)) result buffer.old buffer.new }
 {
-    if !run.is_awaited {
+    if !run.has_sequences_before {
         return Answer::done(0);
     }
-    write_made(waiting(alloc, text), buffer)
+    write_made(sequences_before(alloc, text), buffer)
 }

@@ -1,6 +1,6 @@
 -- Worked examples of blocks and of printed ends, each by computation.
 use Rattle.ansi_blocks.proofs.Common.{refl, codes, [], ◌∷◌, Some, List, ℕ, Bool, true, false, Rendition, plain_style, Block, blocks, blocks_from}
-use Rattle.ansi_items.proofs.Tables.{Makes}
+use Rattle.ansi_items.proofs.Tables.{MakesRows}
 use Rattle.ansi_items.specs.declared.ansitok.AnsiColor.TheVariants.{Bit4}
 use Rattle.ansi_style.specs.Written.{close_if_any}
 
@@ -8,7 +8,7 @@ abbrev block : List ℕ → Rendition → Bool → Block
 block w s lent = record { text = w; style = s; is_borrow = lent }
 
 -- a run is a block, in the style there
-runs : Makes blocks (
+runs : MakesRows blocks (
     ([], [])
     ∷ (codes "213\n456", block (codes "213\n456") plain_style true ∷ [])
     ∷ (codes "\u{1b}[38;7;1mx", block (codes "x") (record plain_style { bold = true }) true ∷ [])
@@ -33,7 +33,7 @@ unfolding blocks_from
 runs = refl
 
 -- other sequences wait for the next run, and after the last one they are dropped
-waiting_sequences : Makes blocks (
+waiting_sequences : MakesRows blocks (
     (codes "\u{1b}[1 mx", block (codes "\u{1b}[1 mx") plain_style false ∷ [])
     ∷ (codes "\u{1b}[>4;2mx", block (codes "\u{1b}[>4;2mx") plain_style false ∷ [])
     ∷ (codes "\u{1b}]8;;u\u{1b}\\link\u{1b}]8;;\u{1b}\\", block (codes "\u{1b}]8;;u\u{1b}\\link") plain_style false ∷ [])
@@ -44,7 +44,7 @@ waiting_sequences : Makes blocks (
 unfolding blocks_from
 waiting_sequences = refl
 
-ends : Makes close_if_any (
+ends : MakesRows close_if_any (
     (record plain_style { unknown = true }, [])
     ∷ (record plain_style { reset = true; unknown = true }, codes "\u{1b}[0m\u{1b}[0m")
     ∷ (record plain_style { font = Some 12 }, codes "\u{1b}[10m")

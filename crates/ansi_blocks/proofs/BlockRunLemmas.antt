@@ -1,26 +1,26 @@
 -- The blocks of a text, as its runs: their number, their texts joined, and their styles.
-use Rattle.ansi_blocks.proofs.Common.{◌≡◌, ◌≢◌, ℕ, zero, suc, ◌+◌, Bool, true, false, not, ◌==◌, List, [], ◌∷◌, ◌++◌, map, filter, flat_map, length, IsTrue, refl, sym, ◌∙◌, ap, ap₂, arith, if◌then◌else◌, append_assoc, append-nil, length-append, and_parts, nat_tests, list_all, escape, is_plain_byte, is_sgr, Piece, Text, ArePieces, spelling, pieces_of, Mark, Placed, places, marks_of, plain_of, plain, is_text, at_place, copied, Rendition, plain_style, apply, style_within, Block, waiting, blocks_from, blocks, runs, without_sgrs, pieces_are, marks_of-text, marks_of-mark}
+use Rattle.ansi_blocks.proofs.Common.{◌≡◌, ◌≢◌, ℕ, zero, suc, ◌+◌, Bool, true, false, not, ◌==◌, List, [], ◌∷◌, ◌++◌, map, filter, flat_map, length, IsTrue, refl, sym, ◌∙◌, ap, ap₂, arith, if◌then◌else◌, append_assoc, append-nil, length-append, and_parts, nat_tests, list_all, escape, is_plain_byte, is_sgr, Piece, Text, ArePieces, spelling, pieces_of, Mark, Placed, places, marks_of, plain_of, plain, is_text, marks_at, copied, Rendition, plain_style, apply, style_within, Block, sequences_before, blocks_from, blocks, runs, without_sgrs, pieces_are, marks_of-text, marks_of-mark}
 use Rattle.std.proofs.lemmas.List.{length-map}
 use Rattle.ansi_style.specs.Styled.{style_at}
-use Rattle.ansi_blocks.proofs.BlockLemmas.{by_places, blocks_through, blocks_from-walked, others, waiting_at, others-further, others-here, others-after}
+use Rattle.ansi_blocks.proofs.BlockLemmas.{blocks_by_places, blocks_through, blocks_from-walked, bytes_of_others, sequences_at_pieces, others-further, others-here, others-after}
 
 -- blocks by their places, of which only the runs give one
 
 abbrev runs_of : List Placed → List Placed
 runs_of qs = filter (λ (q : Placed). is_text q.piece) qs
 
-styles-by_places : (wait : ℕ → List ℕ) (style : ℕ → Rendition) (qs : List Placed) → map (λ (b : Block). b.style) (by_places wait style qs) ≡ map (λ (q : Placed). style q.place) (runs_of qs)
-styles-by_places wait style [] = refl
-styles-by_places wait style (q ∷ qs) = by_piece q.piece (styles-by_places wait style qs)
+styles-blocks_by_places : (wait : ℕ → List ℕ) (style : ℕ → Rendition) (qs : List Placed) → map (λ (b : Block). b.style) (blocks_by_places wait style qs) ≡ map (λ (q : Placed). style q.place) (runs_of qs)
+styles-blocks_by_places wait style [] = refl
+styles-blocks_by_places wait style (q ∷ qs) = by_piece q.piece (styles-blocks_by_places wait style qs)
   where
-    by_piece : (p : Piece) → map (λ (b : Block). b.style) (by_places wait style qs) ≡ map (λ (q : Placed). style q.place) (runs_of qs)
-        → map (λ (b : Block). b.style) (by_places wait style (record q { piece = p } ∷ qs)) ≡ map (λ (q : Placed). style q.place) (runs_of (record q { piece = p } ∷ qs))
+    by_piece : (p : Piece) → map (λ (b : Block). b.style) (blocks_by_places wait style qs) ≡ map (λ (q : Placed). style q.place) (runs_of qs)
+        → map (λ (b : Block). b.style) (blocks_by_places wait style (record q { piece = p } ∷ qs)) ≡ map (λ (q : Placed). style q.place) (runs_of (record q { piece = p } ∷ qs))
     by_piece (Text w) later = ap (λ ss. style q.place ∷ ss) later
     by_piece p later = later
 
 pub styles-blocks : (t : List ℕ) → map (λ (b : Block). b.style) (blocks t) ≡ map (λ (q : Placed). style_at t q.place) (runs t)
 unfolding blocks_from
-styles-blocks t = styles-by_places (waiting t) (style_within plain_style t) (places (pieces_of t))
+styles-blocks t = styles-blocks_by_places (sequences_before t) (style_within plain_style t) (places (pieces_of t))
 
 pub length-blocks : (t : List ℕ) → length (blocks t) ≡ length (runs t)
 length-blocks t =
@@ -48,19 +48,19 @@ without_sgrs-copied (p ∷ ps) = by_kind (is_sgr (spelling p)) (without_sgrs-cop
     by_kind false more = ap (λ v. spelling p ++ v) more
 
 -- what waits at the end, where these sequences wait for the first run
-abbrev waiting_after : List ℕ → List Piece → List ℕ
-waiting_after held [] = held
-waiting_after held (Text w ∷ ps) = waiting_after [] ps
-waiting_after held (p ∷ ps) = waiting_after (held ++ copied p) ps
+abbrev sequences_after_pieces : List ℕ → List Piece → List ℕ
+sequences_after_pieces held [] = held
+sequences_after_pieces held (Text w ∷ ps) = sequences_after_pieces [] ps
+sequences_after_pieces held (p ∷ ps) = sequences_after_pieces (held ++ copied p) ps
 
 abbrev texts_of : List Block → List ℕ
 texts_of bs = flat_map (λ (b : Block). b.text) bs
 
-texts-through : (s : Rendition) (held : List ℕ) (ps : List Piece) (t : List ℕ) → ArePieces t ps → texts_of (blocks_through s held ps) ++ waiting_after held ps ≡ held ++ flat_map copied ps
+texts-through : (s : Rendition) (held : List ℕ) (ps : List Piece) (t : List ℕ) → ArePieces t ps → texts_of (blocks_through s held ps) ++ sequences_after_pieces held ps ≡ held ++ flat_map copied ps
 texts-through s held [] t are = sym (append-nil held)
 texts-through s held (Text w ∷ ps) t are =
-    let more : texts_of (blocks_through s [] ps) ++ waiting_after [] ps ≡ flat_map copied ps = texts-through s [] ps are.0 are.3 in
-    append_assoc (held ++ w) (texts_of (blocks_through s [] ps)) (waiting_after [] ps)
+    let more : texts_of (blocks_through s [] ps) ++ sequences_after_pieces [] ps ≡ flat_map copied ps = texts-through s [] ps are.0 are.3 in
+    append_assoc (held ++ w) (texts_of (blocks_through s [] ps)) (sequences_after_pieces [] ps)
     ∙ ap (λ v. (held ++ w) ++ v) more
     ∙ append_assoc held w (flat_map copied ps)
     ∙ ap (λ v. held ++ (v ++ flat_map copied ps)) (sym (copied-text w are.2.0 are.2.1))
@@ -79,37 +79,37 @@ at_front-nil n = either (n == 0) []
     either false v = refl
 
 at_front-mark : (held v : List ℕ) (ms : List Mark) (n : ℕ)
-    → at_front n (held ++ (if is_sgr v then [] else v)) ++ others (at_place n ms) ≡ at_front n held ++ others (at_place n (record { place = 0; bytes = v } ∷ ms))
+    → at_front n (held ++ (if is_sgr v then [] else v)) ++ bytes_of_others (marks_at n ms) ≡ at_front n held ++ bytes_of_others (marks_at n (record { place = 0; bytes = v } ∷ ms))
 at_front-mark held v ms zero =
-    append_assoc held (if is_sgr v then [] else v) (others (at_place 0 ms)) ∙ ap (λ u. held ++ u) (sym (others-here v ms))
+    append_assoc held (if is_sgr v then [] else v) (bytes_of_others (marks_at 0 ms)) ∙ ap (λ u. held ++ u) (sym (others-here v ms))
 at_front-mark held v ms (suc k) =
     let past : (suc k == 0) ≡ false = grind (arith, nat_tests) in
-    ap (λ b. (if b then held ++ (if is_sgr v then [] else v) else []) ++ others (at_place (suc k) ms)) past
+    ap (λ b. (if b then held ++ (if is_sgr v then [] else v) else []) ++ bytes_of_others (marks_at (suc k) ms)) past
     ∙ sym (ap₂ (λ b u. (if b then held else []) ++ u) past (others-after v ms (suc k) (omega arith)))
 
-waiting_after-end : (held : List ℕ) (ps : List Piece) (t : List ℕ) → ArePieces t ps → waiting_after held ps ≡ at_front (length (plain_of ps)) held ++ waiting_at ps (length (plain_of ps))
-waiting_after-end held [] t are = sym (append-nil held)
-waiting_after-end held (Text [] ∷ ps) t are = absurd (are.2.0 refl)
-waiting_after-end held (Text (c ∷ w) ∷ ps) t are =
+sequences_after_pieces-end : (held : List ℕ) (ps : List Piece) (t : List ℕ) → ArePieces t ps → sequences_after_pieces held ps ≡ at_front (length (plain_of ps)) held ++ sequences_at_pieces ps (length (plain_of ps))
+sequences_after_pieces-end held [] t are = sym (append-nil held)
+sequences_after_pieces-end held (Text [] ∷ ps) t are = absurd (are.2.0 refl)
+sequences_after_pieces-end held (Text (c ∷ w) ∷ ps) t are =
     let n = length (c ∷ w) in
     let len = length (plain_of ps) in
     let all : length (plain_of (Text (c ∷ w) ∷ ps)) ≡ n + len = length-append (c ∷ w) (plain_of ps) in
     let past : (n + len == 0) ≡ false = grind (arith, nat_tests) in
-    waiting_after-end [] ps are.0 are.3
-    ∙ ap (λ v. v ++ waiting_at ps len) (at_front-nil len)
-    ∙ sym (ap (λ k. at_front k held ++ waiting_at (Text (c ∷ w) ∷ ps) k) all
-    ∙ ap₂ (λ b v. (if b then held else []) ++ v) past (ap (λ ms. others (at_place (n + len) ms)) (marks_of-text (c ∷ w) ps) ∙ others-further n len (marks_of ps)))
-waiting_after-end held (p ∷ ps) t are =
+    sequences_after_pieces-end [] ps are.0 are.3
+    ∙ ap (λ v. v ++ sequences_at_pieces ps len) (at_front-nil len)
+    ∙ sym (ap (λ k. at_front k held ++ sequences_at_pieces (Text (c ∷ w) ∷ ps) k) all
+    ∙ ap₂ (λ b v. (if b then held else []) ++ v) past (ap (λ ms. bytes_of_others (marks_at (n + len) ms)) (marks_of-text (c ∷ w) ps) ∙ others-further n len (marks_of ps)))
+sequences_after_pieces-end held (p ∷ ps) t are =
     let len = length (plain_of ps) in
-    waiting_after-end (held ++ copied p) ps are.0 are.3
+    sequences_after_pieces-end (held ++ copied p) ps are.0 are.3
     ∙ at_front-mark held (spelling p) (marks_of ps) len
-    ∙ ap (λ ms. at_front len held ++ others (at_place len ms)) (sym (marks_of-mark p ps refl))
+    ∙ ap (λ ms. at_front len held ++ bytes_of_others (marks_at len ms)) (sym (marks_of-mark p ps refl))
 
-pub texts-blocks : (t : List ℕ) → texts_of (blocks t) ++ waiting t (length (plain t)) ≡ without_sgrs t
+pub texts-blocks : (t : List ℕ) → texts_of (blocks t) ++ sequences_before t (length (plain t)) ≡ without_sgrs t
 texts-blocks t =
     let len = length (plain t) in
     let ps = pieces_of t in
-    let last : waiting_after [] ps ≡ waiting t len = waiting_after-end [] ps t (pieces_are t) ∙ ap (λ v. v ++ waiting_at ps len) (at_front-nil len) in
+    let last : sequences_after_pieces [] ps ≡ sequences_before t len = sequences_after_pieces-end [] ps t (pieces_are t) ∙ ap (λ v. v ++ sequences_at_pieces ps len) (at_front-nil len) in
     ap₂ (λ bs v. texts_of bs ++ v) (blocks_from-walked plain_style t) (sym last)
     ∙ texts-through plain_style [] ps t (pieces_are t)
     ∙ sym (without_sgrs-copied ps)

@@ -1,24 +1,24 @@
 -- How far the walk to the first run of a text has come, and what a step of it is.
-use Rattle.ansi_blocks.proofs.Common.{◌≡◌, ◌≢◌, ℕ, Bool, true, false, not, ◌==◌, List, [], ◌∷◌, ◌++◌, length, refl, sym, ◌∙◌, ap, ap₂, subst, arith, if◌then◌else◌, append_assoc, append-nil, ne_eqb, Piece, Text, Sequence, spelling, pieces_of, Rendition, plain_style, apply, copied, waiting, block_after, blocks_from, is_mark, BeginsWithMark}
+use Rattle.ansi_blocks.proofs.Common.{◌≡◌, ◌≢◌, ℕ, Bool, true, false, not, ◌==◌, List, [], ◌∷◌, ◌++◌, length, refl, sym, ◌∙◌, ap, ap₂, subst, arith, if◌then◌else◌, append_assoc, append-nil, ne_eqb, Piece, Text, Sequence, spelling, pieces_of, Rendition, plain_style, apply, copied, sequences_before, block_after, blocks_from, is_mark, BeginsWithMark}
 use Rattle.ansi_items.specs.declared.ansitok.Kind.{Kind}
 use Rattle.ansi_items.specs.declared.ansitok.Kind.TheVariants.{Sgr}
 use Rattle.ansi_style.proofs.SgrLemmas.{apply-no_sgr}
-use Rattle.ansi_blocks.proofs.BlockLemmas.{blocks_through, waiting_before, blocks_from-walked, waiting-front}
+use Rattle.ansi_blocks.proofs.BlockLemmas.{blocks_through, sequences_before_pieces, blocks_from-walked, sequences_before-front}
 
 -- over a mark, of which nothing waits where it is an SGR
 through-mark : (p : Piece) (w : List ℕ) (s : Rendition) (held : List ℕ) (ps : List Piece) → is_mark p ≡ true → spelling p ≡ w
-    → (blocks_through s held (p ∷ ps) ≡ blocks_through (apply s w) (held ++ copied (Sequence w)) ps) × (waiting_before (p ∷ ps) ≡ copied (Sequence w) ++ waiting_before ps)
+    → (blocks_through s held (p ∷ ps) ≡ blocks_through (apply s w) (held ++ copied (Sequence w)) ps) × (sequences_before_pieces (p ∷ ps) ≡ copied (Sequence w) ++ sequences_before_pieces ps)
 through-mark (Text v) w s held ps is same = absurd (cc is)
-through-mark p w s held ps is same = (ap (λ u. blocks_through (apply s u) (held ++ copied (Sequence u)) ps) same, ap (λ u. copied (Sequence u) ++ waiting_before ps) same)
+through-mark p w s held ps is same = (ap (λ u. blocks_through (apply s u) (held ++ copied (Sequence u)) ps) same, ap (λ u. copied (Sequence u) ++ sequences_before_pieces ps) same)
 
 -- What is joined, and what waits before the first run among the pieces that are left, are all that waits.
 pub record IsJoinedSoFar (whole joined : List ℕ) (left : List Piece) : Type 0 where
-  pub bytes : joined ++ waiting_before left ≡ whole
+  pub bytes : joined ++ sequences_before_pieces left ≡ whole
 
 joined-mark : {whole joined more w : List ℕ} {kind : Kind} {left ps : List Piece} → IsJoinedSoFar whole joined left → BeginsWithMark kind w left ps → more ≡ joined ++ copied (Sequence w) → IsJoinedSoFar whole more ps
 joined-mark {whole} {joined} {more} {w} {kind} {left} {ps} so_far begins is =
-    let front = ap waiting_before begins.pieces ∙ (through-mark begins.mark w plain_style [] ps begins.is_mark begins.bytes).1 in
-    record { bytes = ap (λ u. u ++ waiting_before ps) is ∙ append_assoc joined (copied (Sequence w)) (waiting_before ps) ∙ ap (λ u. joined ++ u) (sym front) ∙ so_far.bytes }
+    let front = ap sequences_before_pieces begins.pieces ∙ (through-mark begins.mark w plain_style [] ps begins.is_mark begins.bytes).1 in
+    record { bytes = ap (λ u. u ++ sequences_before_pieces ps) is ∙ append_assoc joined (copied (Sequence w)) (sequences_before_pieces ps) ∙ ap (λ u. joined ++ u) (sym front) ∙ so_far.bytes }
 
 pub joined-other : {whole joined more w : List ℕ} {kind : Kind} {left ps : List Piece} → IsJoinedSoFar whole joined left → BeginsWithMark kind w left ps → kind ≢ Sgr → more ≡ joined ++ w → IsJoinedSoFar whole more ps
 joined-other {joined = joined} {w = w} so_far begins other is = joined-mark so_far begins (is ∙ sym (ap (λ b. joined ++ (if b then [] else w)) (begins.no_sgr other)))
@@ -27,11 +27,11 @@ joined-other {joined = joined} {w = w} so_far begins other is = joined-mark so_f
 pub record IsRunSoFar (from : Rendition) (t : List ℕ) (s : Rendition) (waits : Bool) (pieces : List Piece) : Type 0 where
   pub held : List ℕ
   pub blocks : blocks_from from t ≡ blocks_through s held pieces
-  pub front : waiting t 0 ≡ held ++ waiting_before pieces
+  pub front : sequences_before t 0 ≡ held ++ sequences_before_pieces pieces
   pub some : waits ≡ not (length held == 0)
 
 pub run-begin : (s : Rendition) (t : List ℕ) → IsRunSoFar s t s false (pieces_of t)
-run-begin s t = record { held = []; blocks = blocks_from-walked s t; front = waiting-front t; some = refl }
+run-begin s t = record { held = []; blocks = blocks_from-walked s t; front = sequences_before-front t; some = refl }
 
 -- over any other mark
 pub run-other : {from s : Rendition} {t : List ℕ} {waits : Bool} {kind : Kind} {w : List ℕ} {pieces ps : List Piece} → IsRunSoFar from t s waits pieces → BeginsWithMark kind w pieces ps
@@ -43,7 +43,7 @@ run-other {from} {s} {t} {waits} {kind} {w} {pieces} {ps} so_far begins other fi
     record {
       held = first.held ++ w;
       blocks = first.blocks ∙ step.0 ∙ ap₂ (λ r h. blocks_through r (first.held ++ h) ps) (apply-no_sgr s w (begins.no_sgr other)) all;
-      front = first.front ∙ ap (λ u. first.held ++ u) (step.1 ∙ ap (λ u. u ++ waiting_before ps) all) ∙ sym (append_assoc first.held w (waiting_before ps));
+      front = first.front ∙ ap (λ u. first.held ++ u) (step.1 ∙ ap (λ u. u ++ sequences_before_pieces ps) all) ∙ sym (append_assoc first.held w (sequences_before_pieces ps));
       some = filled_after first.held w filled;
     }
   where
@@ -54,10 +54,10 @@ run-other {from} {s} {t} {waits} {kind} {w} {pieces} {ps} so_far begins other fi
 
 -- at the run
 pub run-text : {from s : Rendition} {t : List ℕ} {waits : Bool} {w : List ℕ} {pieces : List Piece} (after : List ℕ) → IsRunSoFar from t s waits pieces → pieces ≡ Text w ∷ pieces_of after
-    → (blocks_from from t ≡ block_after (waiting t 0) w s ∷ blocks_from s after) × (waits ≡ not (length (waiting t 0) == 0))
+    → (blocks_from from t ≡ block_after (sequences_before t 0) w s ∷ blocks_from s after) × (waits ≡ not (length (sequences_before t 0) == 0))
 run-text {from} {s} {t} {waits} {w} {pieces} after so_far is =
     let first = subst (IsRunSoFar from t s waits) is so_far in
-    let held : waiting t 0 ≡ first.held = first.front ∙ append-nil first.held in
+    let held : sequences_before t 0 ≡ first.held = first.front ∙ append-nil first.held in
     (first.blocks ∙ ap₂ (λ u bs. block_after u w s ∷ bs) (sym held) (sym (blocks_from-walked s after)), first.some ∙ ap (λ u. not (length u == 0)) (sym held))
 
 -- a block that takes memory is no borrow

@@ -6,7 +6,7 @@ pub use Rattle.std.proofs.lemmas.Bool.{and_parts, ne_eqb}
 pub use Rattle.ansi_items.specs.Bytes.{escape, is_plain_byte}
 pub use Rattle.ansi_items.specs.Sequences.{is_sgr}
 pub use Rattle.ansi_items.specs.Pieces.{Piece, Text, Sequence, LoneEscape, ArePieces, first_piece, first_pieces, pieces_of, spelling}
-pub use Rattle.ansi_items.specs.Plain.{Mark, Placed, moved, places, marks_of, joined, has_escape, at_place, copied, plain_of, plain, is_text}
+pub use Rattle.ansi_items.specs.Plain.{Mark, Placed, placed_further_on, places, marks_of, joined, has_escape, marks_at, copied, plain_of, plain, is_text}
 pub use Rattle.ansi_items.specs.Scans.{pieces_left}
 pub use Rattle.ansi_items.proofs.PieceLemmas.{pieces_are}
 pub use Rattle.ansi_items.proofs.StepLemmas.{is_mark, BeginsWithMark, gives_text, gives_rest, gives_mark}
@@ -16,5 +16,5 @@ pub use Rattle.ansi_style.specs.Sgr.{apply}
 pub use Rattle.ansi_style.specs.Reading.{style_within}
 pub use Rattle.ansi_style.specs.States.{rendition_of}
 pub use Rattle.ansi_style.proofs.MarkLemmas.{further, marks_of-text, marks_of-mark, style_by_marks, style_by_marks-before, style_by_marks-text, style_by_marks-mark}
-pub use Rattle.ansi_blocks.specs.Blocks.{Block, blocks, waiting, block_after, block_of, runs, without_sgrs}
+pub use Rattle.ansi_blocks.specs.Blocks.{Block, blocks, sequences_before, block_after, block_of, runs, without_sgrs}
 unfoldable pub use Rattle.ansi_blocks.specs.Blocks.{blocks_from}

@@ -6,7 +6,7 @@ use Rattle.ansi_items.specs.Sequences.{is_sgr}
 use Rattle.ansi_style.specs.declared.state.rendition.Rendition.{Rendition}
 use Rattle.ansi_style.specs.Rendition.{plain_style}
 use Rattle.ansi_items.specs.Pieces.{Piece, Text, spelling, pieces_of}
-use Rattle.ansi_items.specs.Plain.{Placed, places, marks, joined, is_text, at_place}
+use Rattle.ansi_items.specs.Plain.{Placed, places, marks, joined, is_text, marks_at}
 use Rattle.ansi_style.specs.Reading.{style_within}
 
 -- a block is a run of text after the sequences that waited for it, the style of that text, and whether it is a borrow
@@ -16,8 +16,8 @@ pub record Block : Type 0 where
   pub is_borrow : Bool
 
 -- the bytes of the marks at the place i that aren't SGRs
-abbrev pub waiting : List ℕ → ℕ → List ℕ
-waiting t i = joined (filter (λ m. not (is_sgr m.bytes)) (at_place i (marks t)))
+abbrev pub sequences_before : List ℕ → ℕ → List ℕ
+sequences_before t i = joined (filter (λ m. not (is_sgr m.bytes)) (marks_at i (marks t)))
 
 -- a run of text after the sequences that waited for it, in a style; it is a borrow if none waited
 abbrev pub block_after : List ℕ → List ℕ → Rendition → Block
@@ -30,7 +30,7 @@ block_of sequences s _ = None
 
 -- the blocks of t, in order; s is the style before it
 unfoldable pub blocks_from : Rendition → List ℕ → List Block
-blocks_from s t = filter_map (λ (p : Placed). block_of (waiting t p.place) (style_within s t p.place) p.piece) (places (pieces_of t))
+blocks_from s t = filter_map (λ (p : Placed). block_of (sequences_before t p.place) (style_within s t p.place) p.piece) (places (pieces_of t))
 
 -- the runs of text of t, each at its place
 abbrev pub runs : List ℕ → List Placed

@@ -5,9 +5,9 @@ ghost use Rattle.std.specs.Cow.{cow_str_bytes};
 ghost use Rattle.ansi_items.specs.Plain.{has_escape};
 ghost use Rattle.ansi_style.specs.Rendition.{has_any};
 ghost use Rattle.ansi_style.specs.States.{rendition_of};
-ghost use Rattle.ansi_blocks.specs.Blocks.{waiting, blocks, runs, is_borrow};
+ghost use Rattle.ansi_blocks.specs.Blocks.{sequences_before, blocks, runs, is_borrow};
 
-use crate::runs::{Run, first_run, waiting};
+use crate::runs::{Run, first_styled_run, sequences_before};
 use ansi_style::state::{Rendition, Style};
 use ansi_style::styles;
 use std::alloc::{AllocError, Allocator, Global};
@@ -200,7 +200,7 @@ impl<'a, A: Allocator + Copy> Iterator for AnsiBlockIter<'a, A> {
         let text = self.rest;
         // Nothing is left unless a block is made.
         self.rest = "";
-        let run = first_run(text, &mut self.style)?;
+        let run = first_styled_run(text, &mut self.style)?;
         match block_text(self.alloc, text, &run) {
             Ok(text) => {
                 self.rest = run.rest;
@@ -219,15 +219,15 @@ fn block_text<'a, A: Allocator>(
     text: &str,
     run: &Run<'a>,
 ) -> Result<CowStr<'a, A>, AllocError>
-    requires { run.now.is_awaited ≡ not (length (waiting text.now 0) == 0) }
-    ensures bytes { IfOk result (λ c. cow_str_bytes c ≡ waiting text.now 0 ++ run.now.text.now) }
-    ensures borrowed { IfOk result (λ c. is_borrow c ≡ (length (waiting text.now 0) == 0)) }
-    ensures takes_no_memory { IsFalse run.now.is_awaited → IsOk result }
+    requires { run.now.has_sequences_before ≡ not (length (sequences_before text.now 0) == 0) }
+    ensures bytes { IfOk result (λ c. cow_str_bytes c ≡ sequences_before text.now 0 ++ run.now.text.now) }
+    ensures borrowed { IfOk result (λ c. is_borrow c ≡ (length (sequences_before text.now 0) == 0)) }
+    ensures takes_no_memory { IsFalse run.now.has_sequences_before → IsOk result }
 {
-    if !run.is_awaited {
+    if !run.has_sequences_before {
         return Ok(CowStr::Borrowed(run.text));
     }
-    let mut joined = waiting(alloc, text)?;
+    let mut joined = sequences_before(alloc, text)?;
     joined.push_str(run.text)?;
     Ok(CowStr::Owned(joined))
 }

@@ -2,7 +2,7 @@
 //! pass them on.
 ghost use Rattle.std.specs.Prelude.{◌≡◌, ◌∷◌, [], IfNone, IfSome, IfOk, not, ◌==◌, length, string_bytes};
 ghost use Rattle.ansi_style.specs.States.{rendition_of};
-ghost use Rattle.ansi_blocks.specs.Blocks.{waiting, block_after, blocks_from};
+ghost use Rattle.ansi_blocks.specs.Blocks.{sequences_before, block_after, blocks_from};
 
 use ansi_items::ansitok::{Kind, Scanner};
 use ansi_style::state::Style;
@@ -14,32 +14,32 @@ use std::alloc::{AllocError, Allocator};
 pub struct Run<'a> {
     pub text: &'a str,
     /// Whether a sequence that isn't an SGR waits for it.
-    pub is_awaited: bool,
+    pub has_sequences_before: bool,
     /// The text after it.
     pub rest: &'a str,
 }
 
 /// The first run of a text. `style` is the style before the text, and becomes that of the run. (Own.)
 #[inline(always)]
-pub fn first_run<'a>(text: &'a str, style: &mut Style) -> Option<Run<'a>>
+pub fn first_styled_run<'a>(text: &'a str, style: &mut Style) -> Option<Run<'a>>
     ensures none { IfNone result (blocks_from (rendition_of style.old) text.now ≡ []) }
     ensures first { IfSome result (λ run. blocks_from (rendition_of style.old) text.now
-        ≡ block_after (waiting text.now 0) run.text.now (rendition_of style.new) ∷ blocks_from (rendition_of style.new) run.rest.now) }
-    ensures awaited { IfSome result (λ run. run.is_awaited ≡ not (length (waiting text.now 0) == 0)) }
+        ≡ block_after (sequences_before text.now 0) run.text.now (rendition_of style.new) ∷ blocks_from (rendition_of style.new) run.rest.now) }
+    ensures awaited { IfSome result (λ run. run.has_sequences_before ≡ not (length (sequences_before text.now 0) == 0)) }
 {
-    let mut is_awaited = false;
+    let mut has_sequences_before = false;
     for item in Scanner::new(text) {
         let piece = &text[item.start..item.end];
         match item.kind {
             Kind::Text => {
                 return Some(Run {
                     text: piece,
-                    is_awaited,
+                    has_sequences_before,
                     rest: &text[item.end..],
                 });
             }
             Kind::Sgr => styles::apply(style, piece),
-            Kind::Other | Kind::Lone => is_awaited = true,
+            Kind::Other | Kind::Lone => has_sequences_before = true,
         }
     }
     None
@@ -47,8 +47,8 @@ pub fn first_run<'a>(text: &'a str, style: &mut Style) -> Option<Run<'a>>
 
 /// The sequences before the first run of a text that aren't SGRs, joined. `Err` means out of memory. (Own.)
 #[inline(never)]
-pub fn waiting<A: Allocator>(alloc: A, text: &str) -> Result<String<A>, AllocError>
-    ensures { IfOk result (λ s. string_bytes s ≡ waiting text.now 0) }
+pub fn sequences_before<A: Allocator>(alloc: A, text: &str) -> Result<String<A>, AllocError>
+    ensures { IfOk result (λ s. string_bytes s ≡ sequences_before text.now 0) }
 {
     let mut joined = String::new(alloc);
     for item in Scanner::new(text) {

@@ -13,8 +13,8 @@ use Rattle.std.proofs.lemmas.Str.{IsCharBoundary-before_ascii, IsCharBoundary-af
 use Rattle.ansi_items.specs.Bytes.{escape, is_intermediate_byte}
 use Rattle.ansi_items.specs.Sequences.{IsControlString, IsSequence, is_sgr}
 use Rattle.ansi_items.specs.Pieces.{Piece, Text, Sequence, ArePieces, spelling, pieces_of}
-use Rattle.ansi_items.specs.Plain.{Mark, marks, plain_of, plain, up_to}
-use Rattle.ansi_items.specs.Scans.{Scan, Gives, pieces_left, piece_of_kind}
+use Rattle.ansi_items.specs.Plain.{Mark, marks, plain_of, plain, marks_up_to}
+use Rattle.ansi_items.specs.Scans.{Scan, GivesItem, pieces_left, piece_of_kind}
 use Rattle.ansi_items.specs.declared.ansitok.Item.{Item}
 use Rattle.ansi_items.specs.declared.ansitok.Kind.{Kind}
 use Rattle.ansi_items.specs.declared.ansitok.Kind.TheVariants.{Text as TextKind, Sgr, Other, Lone}
@@ -30,8 +30,8 @@ use Rattle.ansi_columns.proofs.LinkLemmas.{link_of-fold, is_link-sgr}
 abbrev pub link_by_marks : List ℕ → List Piece → ℕ → List ℕ
 link_by_marks link ps i = state_by_marks link_after link ps i
 
-past-text : (link w : List ℕ) (ps : List Piece) (i : ℕ) → length w ≤ i → link_by_marks link (Text w ∷ ps) i ≡ link_by_marks link ps (i - length w)
-past-text link w ps i within =
+marks_past-text : (link w : List ℕ) (ps : List Piece) (i : ℕ) → length w ≤ i → link_by_marks link (Text w ∷ ps) i ≡ link_by_marks link ps (i - length w)
+marks_past-text link w ps i within =
     let all : i ≡ length w + (i - length w) = omega arith in
     ap (link_by_marks link (Text w ∷ ps)) all ∙ state_by_marks-text link_after link w ps (i - length w)
 
@@ -54,7 +54,7 @@ pub record IsOnTheWay (t : List ℕ) (n : ℕ) (link : List ℕ) (left : ℕ) (p
   pub sequence : IsNoneOrSequence link
 
 pub way-begin : (t : List ℕ) (n : ℕ) → IsOnTheWay t n [] n (pieces_of t)
-way-begin t n = record { within = refl; linked = sym (link_of-fold (up_to n (marks t))); sequence = inl refl }
+way-begin t n = record { within = refl; linked = sym (link_of-fold (marks_up_to n (marks t))); sequence = inl refl }
 
 lt-past : (n k m : ℕ) → k ≤ n → nat_lt n (k + m) ≡ nat_lt (n - k) m
 lt-past n k m le = grind (arith, nat_tests)
@@ -65,7 +65,7 @@ way-text {t} {link} {w} {n} {left} {next} {old} {ps} way first within next_is =
     let here = subst (IsOnTheWay t n link left) first way in
     rw next_is (record {
       within = sym (ap (nat_lt left) (length-append w (plain_of ps)) ∙ lt-past left (length w) (length (plain_of ps)) within) ∙ here.within;
-      linked = sym (past-text link w ps left within) ∙ here.linked;
+      linked = sym (marks_past-text link w ps left within) ∙ here.linked;
       sequence = here.sequence;
     })
 
@@ -118,7 +118,7 @@ pub none-exactly : {X : Type 0} (o : Option X) (f : X → List ℕ) (t : List �
 none-exactly None f t n is = (λ _. place (nat_lt n (length (plain t))) refl is, λ _. refl)
   where
     place : (b : Bool) → nat_lt n (length (plain t)) ≡ b → None ≡ (if b then address_of (link_at t n) else None) → (length (plain t) ≤ n) ⊎ (link_at t n ≡ [])
-    place true inside none = inr (link_of-address (up_to n (marks t)) (sym none))
+    place true inside none = inr (link_of-address (marks_up_to n (marks t)) (sym none))
     place false past none = inl (ltb-false n (length (plain t)) past)
 none-exactly (Some x) f t n is = (λ no. absurd (cc no), λ why. absurd (some_or why))
   where
@@ -131,7 +131,7 @@ none-exactly (Some x) f t n is = (λ no. absurd (cc no), λ why. absurd (some_or
         either false = refl
 
 -- what the scanner gives as another sequence is a whole one
-pub other_is_sequence : {old new : Scan} {item : Item} {t w : List ℕ} → Gives old item new → old.text ≡ t → w ≡ slice_range t item.start item.end → item.kind ≡ Other → IsSequence w
+pub other_is_sequence : {old new : Scan} {item : Item} {t w : List ℕ} → GivesItem old item new → old.text ≡ t → w ≡ slice_range t item.start item.end → item.kind ≡ Other → IsSequence w
 other_is_sequence {old} {new} {item} {t} {w} gives same is kind =
     let bytes : slice_range old.text item.start item.end ≡ w = ap (λ v. slice_range v item.start item.end) same ∙ sym is in
     let named : pieces_left old ≡ piece_of_kind item.kind w ∷ pieces_left new = subst (λ v. pieces_left old ≡ piece_of_kind item.kind v ∷ pieces_left new) bytes gives.piece in
@@ -139,7 +139,7 @@ other_is_sequence {old} {new} {item} {t} {w} gives same is kind =
     (subst (ArePieces (drop old.offset old.text)) first (pieces_are (drop old.offset old.text))).2
 
 -- and what it gives as an SGR or a lone escape is no link sequence
-pub unlinked : {old new : Scan} {item : Item} {t w : List ℕ} → Gives old item new → old.text ≡ t → w ≡ slice_range t item.start item.end → item.kind ≢ TextKind → item.kind ≢ Other → is_link w ≡ false
+pub unlinked : {old new : Scan} {item : Item} {t w : List ℕ} → GivesItem old item new → old.text ≡ t → w ≡ slice_range t item.start item.end → item.kind ≢ TextKind → item.kind ≢ Other → is_link w ≡ false
 unlinked {old} {new} {item} {t} {w} gives same is no_text no_other =
     let mark = gives_mark gives same is no_text in
     let bytes : slice_range old.text item.start item.end ≡ w = ap (λ v. slice_range v item.start item.end) same ∙ sym is in

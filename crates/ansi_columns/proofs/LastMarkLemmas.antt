@@ -11,7 +11,7 @@ use Rattle.ansi_items.specs.Sequences.{IsSequence}
 use Rattle.ansi_items.specs.Pieces.{Piece, Text, Sequence, LoneEscape, spelling, StandsBefore, ArePieces, pieces_of}
 use Rattle.ansi_items.specs.Plain.{plain}
 use Rattle.ansi_items.proofs.PieceLemmas.{pieces_are}
-use Rattle.ansi_items.proofs.PlainLemmas.{no_escape, plain-bare}
+use Rattle.ansi_items.proofs.PlainLemmas.{has_escape-bare, plain-bare}
 use Rattle.ansi_columns.specs.Reverse.{IsLastMark}
 use Rattle.ansi_columns.proofs.ReverseLemmas.{Unreached, unreached-none, unreached-last, unreached-string, mark-plain, reaching}
 
@@ -23,7 +23,7 @@ plain_where (b ∷ x) none =
 
 -- a text without an ESC is plain
 pub plain-no_mark : (t : List ℕ) → IsLastByte (is_byte escape) t None → plain t ≡ t
-plain-no_mark t none = plain-bare t (no_escape t (plain_where t none))
+plain-no_mark t none = plain-bare t (has_escape-bare t (plain_where t none))
 
 -- the text from its last ESC on
 pub record LastEscape (x : List ℕ) (k : ℕ) : Type 0 where

@@ -8,7 +8,7 @@ use Rattle.std.proofs.lemmas.Slice.Eq.{bytes_eq-Decides}
 use Rattle.std.proofs.lemmas.Str.{encodes-chars}
 use Rattle.ansi_columns.specs.Columns.{clusters, cluster_width}
 use Rattle.ansi_columns.specs.Shown.{blanks}
-use Rattle.ansi_columns.specs.Lines.{is_line_end, is_blank, lines_from, lines, IsLeftOut, AreLinesFrom, put_back}
+use Rattle.ansi_columns.specs.Lines.{is_line_end, is_blank, lines_from, lines, IsLeftOut, AreLinesFrom, reassembled}
 use Rattle.ansi_columns.proofs.LineLemmas.{IsOfWord, more_at, line-any, line-ends, line-blank, line-stays, line-leaves, line-last}
 use Rattle.ansi_columns.proofs.ClusterLawLemmas.{spells}
 
@@ -131,15 +131,15 @@ module _ (x : List ℕ) where
       lines_stand (clusters x) (max width 1) 0 0 0 0 0 0 []
       (record { all = sym (spells [] (chars x) ∙ encodes-chars x utf8); ends = refl; read = refl }) (omega arith) (omega arith) (0, inl refl)
 
-  put_back-from : (e : ℕ) (ls : List (ℕ × ℕ)) → AreLinesFrom x e ls → put_back x e ls ≡ drop e x
-  put_back-from e [] are = refl
-  put_back-from e (line ∷ ls) are =
-      ap (λ u. slice_range x e line.0 ++ slice_range x line.0 line.1 ++ u) (put_back-from line.1 ls are.4)
+  reassembled-from : (e : ℕ) (ls : List (ℕ × ℕ)) → AreLinesFrom x e ls → reassembled x e ls ≡ drop e x
+  reassembled-from e [] are = refl
+  reassembled-from e (line ∷ ls) are =
+      ap (λ u. slice_range x e line.0 ++ slice_range x line.0 line.1 ++ u) (reassembled-from line.1 ls are.4)
       ∙ append_assoc (slice_range x e line.0) (slice_range x line.0 line.1) (drop line.1 x)
       ∙ ap (λ u. slice_range x e line.0 ++ u) (sym (drop_split x line.0 line.1 are.1)) ∙ sym (drop_split x e line.0 are.0)
 
-  pub lines-put_back : (width : ℕ) → IsUtf8 x → put_back x 0 (lines width x) ≡ x
-  lines-put_back width utf8 = put_back-from 0 (lines width x) (lines-left_out width utf8)
+  pub lines-reassembled : (width : ℕ) → IsUtf8 x → reassembled x 0 (lines width x) ≡ x
+  lines-reassembled width utf8 = reassembled-from 0 (lines width x) (lines-left_out width utf8)
 
 -- the first line begins where the current one begins
 

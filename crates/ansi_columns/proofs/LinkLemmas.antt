@@ -16,7 +16,7 @@ use Rattle.ansi_items.specs.declared.ansitok.Kind.TheVariants.{Text as TextKind,
 use Rattle.ansi_items.specs.Sequences.{is_sgr}
 use Rattle.ansi_items.specs.Pieces.{Piece, Text, spelling, pieces_of}
 use Rattle.ansi_items.specs.Plain.{Mark, marks_of, marks}
-use Rattle.ansi_items.specs.Scans.{Scan, Gives, pieces_left, piece_of_kind}
+use Rattle.ansi_items.specs.Scans.{Scan, GivesItem, pieces_left, piece_of_kind}
 use Rattle.ansi_items.proofs.StepLemmas.{BeginsWithMark, is_mark}
 use Rattle.ansi_style.specs.declared.state.rendition.Rendition.{Rendition}
 use Rattle.ansi_style.specs.Sgr.{apply}
@@ -166,7 +166,7 @@ open-other {t} {w} {open_before} {before} {style} {link} {next} {ps = ps} so_far
     subst (λ l. IsOpenSoFar t before open_before style l ps) (sym next_is) (subst (λ s. IsOpenSoFar t before open_before s (link_after link w) ps) (apply-no_sgr style w (mark.no_sgr kind)) (open-mark so_far mark))
 
 -- over a text, or a lone escape
-pub open-rest : {t open_before : List ℕ} {before style : Rendition} {link : List ℕ} {old new : Scan} {item : Item} → IsOpenSoFar t before open_before style link (pieces_left old) → Gives old item new → item.kind ≢ Sgr → item.kind ≢ Other
+pub open-rest : {t open_before : List ℕ} {before style : Rendition} {link : List ℕ} {old new : Scan} {item : Item} → IsOpenSoFar t before open_before style link (pieces_left old) → GivesItem old item new → item.kind ≢ Sgr → item.kind ≢ Other
     → IsOpenSoFar t before open_before style link (pieces_left new)
 open-rest {t} {open_before} {before} {style} {link} {old} {new} {item} so_far gives no_sgr no_other =
     by_kind item.kind (slice_range old.text item.start item.end) no_sgr no_other (subst (IsOpenSoFar t before open_before style link) gives.piece so_far)

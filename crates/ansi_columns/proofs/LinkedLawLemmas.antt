@@ -5,14 +5,14 @@ use Rattle.std.proofs.lemmas.Bool.{cases_Bool, eqb-true, le-leb}
 use Rattle.std.proofs.lemmas.List.{map-append, nil_from_length, take-map}
 use Rattle.ansi_items.specs.Bytes.{is_plain_byte}
 use Rattle.ansi_items.specs.Pieces.{Piece, Text, pieces_of}
-use Rattle.ansi_items.specs.Plain.{marks, plain, up_to, is_whole}
+use Rattle.ansi_items.specs.Plain.{marks, plain, marks_up_to, is_whole}
 use Rattle.ansi_items.proofs.JoinLemmas.{AllStandAnywhere, pieces_of-append, pieces_of-spelled, is_whole-append, is_whole-spelled, pieces_stand, spelled}
 use Rattle.ansi_style.specs.Styled.{style_at}
 use Rattle.ansi_style.specs.Written.{close_codes, written, written_all}
 use Rattle.ansi_style.proofs.ReadBackLemmas.{AreCodes, close_codes_are, code_pieces, code_pieces_stand, spelled-code_pieces}
-use Rattle.ansi_slice.specs.Cut.{show}
-use Rattle.ansi_slice.proofs.CutLemmas.{up_to-past}
-use Rattle.ansi_slice.proofs.ShownLemmas.{state_through-shown_pieces, seen_through-shown_pieces, at_places, shown_pieces, shown_pieces_stand, spelled-shown_pieces}
+use Rattle.ansi_slice.specs.Cut.{interleaved}
+use Rattle.ansi_slice.proofs.CutLemmas.{marks_up_to-marks_past}
+use Rattle.ansi_slice.proofs.ShownLemmas.{state_through-interleaved_pieces, seen_through-interleaved_pieces, at_places, interleaved_pieces, interleaved_pieces_stand, spelled-interleaved_pieces}
 use Rattle.ansi_columns.specs.declared.shown.Alignment.{Alignment}
 use Rattle.ansi_columns.specs.Addresses.{LinkedByte, linked, without_link}
 use Rattle.ansi_columns.specs.Links.{link_end, link_at, link_of, link_after, link_after_all, pen_close}
@@ -32,7 +32,7 @@ linked_through link ps = seen_through link_after linked_byte link ps
 
 pub linked-pieces : (t : List ℕ) → linked t ≡ linked_through [] (pieces_of t)
 linked-pieces t =
-    seen_by-alike link_after linked_byte (plain t) (link_at t) (link_by_marks [] (pieces_of t)) (λ i below. link_of-fold (up_to i (marks t)))
+    seen_by-alike link_after linked_byte (plain t) (link_at t) (link_by_marks [] (pieces_of t)) (λ i below. link_of-fold (marks_up_to i (marks t)))
     ∙ seen_by-pieces link_after linked_byte [] (pieces_of t)
 
 -- without their links they are the plain text
@@ -77,20 +77,20 @@ spelled_is link ps t is stand = subst (λ u. IsLinked link u (linked_through lin
 
 -- what is shown, with the marks at places that pass a test
 pub shown_is : (t link : List ℕ) (test : ℕ → Bool) (a b : ℕ) → IsTrue (is_whole t)
-    → IsLinked link (show (plain t) a b (at_places test (marks t))) (linked_through link (shown_pieces test a b (pieces_of t))) (link_after_all link (at_places test (marks t)))
+    → IsLinked link (interleaved (plain t) a b (at_places test (marks t))) (linked_through link (interleaved_pieces test a b (pieces_of t))) (link_after_all link (at_places test (marks t)))
 shown_is t link test a b whole =
-    let made = spelled_is link (shown_pieces test a b (pieces_of t)) (show (plain t) a b (at_places test (marks t))) (spelled-shown_pieces (pieces_of t) test a b) (shown_pieces_stand (pieces_of t) test a b (pieces_stand t whole)) in
-    record { whole = made.whole; bytes = made.bytes; after = made.after ∙ state_through-shown_pieces link_after (pieces_of t) link test a b }
+    let made = spelled_is link (interleaved_pieces test a b (pieces_of t)) (interleaved (plain t) a b (at_places test (marks t))) (spelled-interleaved_pieces (pieces_of t) test a b) (interleaved_pieces_stand (pieces_of t) test a b (pieces_stand t whole)) in
+    record { whole = made.whole; bytes = made.bytes; after = made.after ∙ state_through-interleaved_pieces link_after (pieces_of t) link test a b }
 
 -- of a front they are the slice
-front_is : (t : List ℕ) (e : ℕ) → IsTrue (is_whole t) → IsLinked [] (show (plain t) 0 e (up_to e (marks t))) (take e (linked t)) (link_at t e)
+front_is : (t : List ℕ) (e : ℕ) → IsTrue (is_whole t) → IsLinked [] (interleaved (plain t) 0 e (marks_up_to e (marks t))) (take e (linked t)) (link_at t e)
 front_is t e whole =
     let made = shown_is t [] (λ p. nat_le p e) 0 e whole in
     let all : e - 0 ≡ e = omega arith in
     record {
       whole = made.whole;
-      bytes = made.bytes ∙ seen_through-shown_pieces link_after linked_byte (pieces_of t) [] (λ p. nat_le p e) 0 e (λ p below. le-leb p e (omega arith)) ∙ ap (λ bs. slice_range bs 0 e) (sym (linked-pieces t)) ∙ ap (λ n. take n (linked t)) all;
-      after = made.after ∙ sym (link_of-fold (up_to e (marks t)));
+      bytes = made.bytes ∙ seen_through-interleaved_pieces link_after linked_byte (pieces_of t) [] (λ p. nat_le p e) 0 e (λ p below. le-leb p e (omega arith)) ∙ ap (λ bs. slice_range bs 0 e) (sym (linked-pieces t)) ∙ ap (λ n. take n (linked t)) all;
+      after = made.after ∙ sym (link_of-fold (marks_up_to e (marks t)));
     }
 
 -- codes leave a link as it is
@@ -175,7 +175,7 @@ padded_is t width alignment whole =
     let lack = missing t width in
     let before = before_text alignment lack in
     let end = length (plain t) in
-    let open_there : link_of (marks t) ≡ link_at t end = ap link_of (sym (up_to-past end (pieces_of t) (omega arith))) in
+    let open_there : link_of (marks t) ≡ link_at t end = ap link_of (sym (marks_up_to-marks_past end (pieces_of t) (omega arith))) in
     let closed = subst (λ l. IsLinked l (pen_close t end) [] []) (sym open_there) (pen_close_is t end) in
     let made = both (both (blanks_is before) (both (text_is t whole) closed)) (blanks_is (lack - before)) in
     record {

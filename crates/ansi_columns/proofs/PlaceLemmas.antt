@@ -5,7 +5,7 @@ use Rattle.std.proofs.lemmas.Bool.{cases_lt, and_from}
 use Rattle.std.proofs.lemmas.List.{length-drop}
 use Rattle.ansi_items.specs.Bytes.{is_plain_byte}
 use Rattle.ansi_items.specs.Pieces.{Piece, Text, ArePieces, pieces_of, after_text}
-use Rattle.ansi_items.specs.Plain.{marks, up_to, plain}
+use Rattle.ansi_items.specs.Plain.{marks, marks_up_to, plain}
 use Rattle.ansi_items.proofs.PieceLemmas.{pieces_are}
 use Rattle.ansi_items.proofs.JoinLemmas.{pieces_of-run}
 use Rattle.ansi_search.specs.Offsets.{bytes_before, offset_of}
@@ -49,7 +49,7 @@ offset_of-add t n m = bytes_before-add n m (pieces_of t) ∙ ap (λ ps. offset_o
 pub plain-before : (t : List ℕ) (n : ℕ) → plain (take (offset_of t n) t) ≡ take n (plain t)
 plain-before t n = (is_cut_after t n (offset_of t n) refl).plain_front
 
-pub marks-before : (t : List ℕ) (n : ℕ) → marks (take (offset_of t n) t) ≡ up_to n (marks t)
+pub marks-before : (t : List ℕ) (n : ℕ) → marks (take (offset_of t n) t) ≡ marks_up_to n (marks t)
 marks-before t n = (is_cut_after t n (offset_of t n) refl).marks_front
 
 -- A text that begins with plain bytes.

@@ -12,7 +12,7 @@ use Rattle.ansi_items.specs.Sequences.{IsSequence}
 use Rattle.ansi_items.specs.Pieces.{Piece, Text, Sequence, LoneEscape, spelling, StandsBefore, ArePieces, pieces_of}
 use Rattle.ansi_items.specs.Plain.{plain_of, plain, plain_bytes}
 use Rattle.ansi_items.proofs.PieceLemmas.{pieces_are, pieces_of-unique}
-use Rattle.ansi_items.proofs.PlainLemmas.{no_escape, plain-bare}
+use Rattle.ansi_items.proofs.PlainLemmas.{has_escape-bare, plain-bare}
 use Rattle.ansi_search.proofs.OffsetLemmas.{take-after}
 use Rattle.ansi_items.proofs.CountLemmas.{parameter_is_plain, intermediate_is_plain, body_is_plain}
 
@@ -179,7 +179,7 @@ pub mark-plain : (t : List ℕ) (at n : ℕ) (p : Piece) (ps : List Piece) (v : 
 mark-plain t at n p ps v from unreached first len all =
     let are = subst (ArePieces (drop at t)) first (pieces_are (drop at t)) in
     let rest : drop (at + n) t ≡ are.0 = sym (drop-drop n at t ∙ ap (λ i. drop i t) (omega arith)) ∙ ap₂ drop len are.1 ∙ drop_at (spelling p) are.0 (length (spelling p)) refl in
-    let bare : plain are.0 ≡ are.0 = plain-bare are.0 (no_escape are.0 (ap (list_all is_plain_byte) (sym rest) ∙ all)) in
+    let bare : plain are.0 ≡ are.0 = plain-bare are.0 (has_escape-bare are.0 (ap (list_all is_plain_byte) (sym rest) ∙ all)) in
     let after : plain (drop at t) ≡ are.0 = ap plain_of first ∙ mark p are.0 are.2 (sym are.1 ∙ from) ∙ ap plain_of (pieces_of-unique are.0 ps are.3) ∙ bare in
     ap plain (sym (take-append-drop at t) ∙ ap (λ w. take at t ++ w) from) ∙ plain-divided (take at t) v unreached
     ∙ ap (λ w. plain (take at t) ++ w) (ap plain (sym from) ∙ after ∙ sym rest)

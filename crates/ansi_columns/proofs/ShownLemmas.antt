@@ -5,15 +5,15 @@ use Rattle.std.proofs.lemmas.Bool.{eq-eqb, or_parts, le-leb, lt-leb, and_right}
 use Rattle.std.proofs.lemmas.Bool.Decides.{nat_tests}
 use Rattle.std.proofs.lemmas.List.{append_cancel_right, length-replicate, nil_from_length}
 use Rattle.ansi_items.specs.Pieces.{pieces_of}
-use Rattle.ansi_items.specs.Plain.{plain, marks, up_to}
+use Rattle.ansi_items.specs.Plain.{plain, marks, marks_up_to}
 use Rattle.ansi_style.specs.declared.state.rendition.Rendition.{Rendition}
 use Rattle.ansi_style.specs.Rendition.{has_known, has_ideogram_attribute}
 use Rattle.ansi_style.specs.Styled.{style_at, style_of, style_after}
-use Rattle.ansi_style.specs.Written.{close, close_codes, written_all, when, longest_close}
+use Rattle.ansi_style.specs.Written.{close, close_codes, written_all, code_if, longest_close}
 use Rattle.ansi_style.proofs.UnsetLemmas.{close-unknown}
-use Rattle.ansi_slice.specs.Cut.{show}
+use Rattle.ansi_slice.specs.Cut.{interleaved}
 use Rattle.ansi_search.specs.Offsets.{StandsIn}
-use Rattle.ansi_slice.proofs.CutLemmas.{up_to-past}
+use Rattle.ansi_slice.proofs.CutLemmas.{marks_up_to-marks_past}
 use Rattle.ansi_slice.proofs.LengthLemmas.{length-close}
 use Rattle.ansi_slice.proofs.StretchLemmas.{cut-front}
 use Rattle.ansi_search.proofs.PositionLemmas.{boundary_is_good}
@@ -34,11 +34,11 @@ written-none : (cs : List (List ℕ)) → written_all cs ≡ [] → cs ≡ []
 written-none [] none = refl
 written-none (c ∷ cs) none = absurd (cc none)
 
-when-none : (b : Bool) (code : List ℕ) → when b code ≡ [] → b ≡ false
+when-none : (b : Bool) (code : List ℕ) → code_if b code ≡ [] → b ≡ false
 when-none true code none = absurd (cc none)
 when-none false code none = refl
 
-when-last : (xs : List (List ℕ)) (b : Bool) (code : List ℕ) → xs ++ when b code ≡ [] → (xs ≡ []) × (b ≡ false)
+when-last : (xs : List (List ℕ)) (b : Bool) (code : List ℕ) → xs ++ code_if b code ≡ [] → (xs ≡ []) × (b ≡ false)
 when-last [] b code none = (refl, when-none b code none)
 when-last (x ∷ xs) b code none = absurd (cc none)
 
@@ -123,17 +123,17 @@ length-closing link style = omega (arith, length-append (link_end link) (close s
 
 -- The front of a text, and what ends its pen.
 
-pub front_is : {t : List ℕ} {e to : ℕ} → StandsIn t e to → take to t ≡ show (plain t) 0 e (up_to e (marks t))
-front_is {t} {e} {to} stands = append_cancel_right (take to t) (show (plain t) 0 e (up_to e (marks t))) (close (style_at t e)) (cut-front {style = style_at t e} stands refl)
+pub front_is : {t : List ℕ} {e to : ℕ} → StandsIn t e to → take to t ≡ interleaved (plain t) 0 e (marks_up_to e (marks t))
+front_is {t} {e} {to} stands = append_cancel_right (take to t) (interleaved (plain t) 0 e (marks_up_to e (marks t))) (close (style_at t e)) (cut-front {style = style_at t e} stands refl)
 
 pub pen_there : {t front link : List ℕ} {e to : ℕ} {style : Rendition} → StandsIn t e to → front ≡ take to t → style ≡ style_after front → link ≡ link_of (marks front) → link_end link ++ close style ≡ pen_close t e
 pen_there {t} {front} {link} {e} {to} {style} stands is style_is link_is =
-    let same : marks front ≡ up_to e (marks t) = ap marks (is ∙ ap (λ i. take i t) stands.offset) ∙ marks-before t e in
+    let same : marks front ≡ marks_up_to e (marks t) = ap marks (is ∙ ap (λ i. take i t) stands.offset) ∙ marks-before t e in
     ap₂ (λ l s. link_end l ++ close s) (link_is ∙ ap link_of same) (style_is ∙ ap style_of same)
 
 pub pen_at_end : (t : List ℕ) {link : List ℕ} {style : Rendition} → style ≡ style_after t → link ≡ link_of (marks t) → link_end link ++ close style ≡ closing t
 pen_at_end t {link} {style} style_is link_is =
-    let all : marks t ≡ up_to (length (plain t)) (marks t) = sym (up_to-past (length (plain t)) (pieces_of t) (omega arith)) in
+    let all : marks t ≡ marks_up_to (length (plain t)) (marks t) = sym (marks_up_to-marks_past (length (plain t)) (pieces_of t) (omega arith)) in
     ap₂ (λ l s. link_end l ++ close s) (link_is ∙ ap link_of all) (style_is ∙ ap style_of all)
 
 -- The offset at which a text is cut, and its tail.
@@ -181,7 +181,7 @@ length-either false x = omega arith
 
 -- A truncated text, as the code writes it: its front, what closes the pen there, and the tail.
 pub record IsCutTo (t : List ℕ) (width : ℕ) (tail front close after : List ℕ) : Type 0 where
-  pub front_is : front ≡ show (plain t) 0 (truncated_end t width tail) (up_to (truncated_end t width tail) (marks t))
+  pub front_is : front ≡ interleaved (plain t) 0 (truncated_end t width tail) (marks_up_to (truncated_end t width tail) (marks t))
   pub within : length front ≤ length t
   pub close_is : close ≡ pen_close t (truncated_end t width tail)
   pub short : length close ≤ longest_link_end + longest_close

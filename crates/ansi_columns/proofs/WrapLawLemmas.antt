@@ -9,7 +9,7 @@ use Rattle.std.proofs.lemmas.List.Elements.{All-from_recursion}
 use Rattle.ansi_items.specs.Bytes.{escape}
 use Rattle.ansi_items.specs.Sequences.{IsSequence, IsControlString}
 use Rattle.ansi_items.specs.Pieces.{Piece, Text, Sequence, LoneEscape, spelling, pieces_of}
-use Rattle.ansi_items.specs.Plain.{Mark, plain, marks_of, marks, up_to, is_whole}
+use Rattle.ansi_items.specs.Plain.{Mark, plain, marks_of, marks, marks_up_to, is_whole}
 use Rattle.ansi_items.proofs.JoinLemmas.{spelled, AllStandAnywhere, stand-append, pieces_stand}
 use Rattle.ansi_style.specs.declared.state.rendition.Rendition.{Rendition}
 use Rattle.ansi_style.specs.Rendition.{IsStyle, plain_style, known}
@@ -24,9 +24,9 @@ use Rattle.ansi_style.proofs.SgrLemmas.{apply-no_sgr}
 use Rattle.ansi_style.proofs.StyleLemmas.{IsStyle-apply_all, IsStyle-plain_style}
 use Rattle.ansi_style.proofs.StyledLemmas.{styled_byte, style_through, style_through-append, styled_through, styled_through-append, styled-pieces}
 use Rattle.ansi_search.proofs.SliceLemmas.{slice_range-none}
-use Rattle.ansi_slice.specs.Cut.{show}
-use Rattle.ansi_split.specs.Parts.{past}
-use Rattle.ansi_slice.proofs.ShownLemmas.{at_places, shown_pieces, spelled-shown_pieces, shown_pieces_stand, style_through-shown_pieces, state_through-shown_pieces}
+use Rattle.ansi_slice.specs.Cut.{interleaved}
+use Rattle.ansi_split.specs.Parts.{marks_past}
+use Rattle.ansi_slice.proofs.ShownLemmas.{at_places, interleaved_pieces, spelled-interleaved_pieces, interleaved_pieces_stand, style_through-interleaved_pieces, state_through-interleaved_pieces}
 use Rattle.ansi_split.proofs.PartSliceLemmas.{Divides, state-divided, seen-divided, at_places-never, at_places-at_places, closing_codes, closing_codes_are, closing_codes_clear, written-closing_codes}
 use Rattle.ansi_columns.specs.Addresses.{LinkedByte, linked}
 use Rattle.ansi_columns.specs.Columns.{cluster_width, clusters}
@@ -141,7 +141,7 @@ module _ (t : List ℕ) (style : Rendition) (link : List ℕ) (test : ℕ → Bo
   own = at_places test (marks t)
 
   abbrev shown : List Piece
-  shown = shown_pieces test a b (pieces_of t)
+  shown = interleaved_pieces test a b (pieces_of t)
 
   abbrev after : Rendition
   after = after_marks style own
@@ -150,7 +150,7 @@ module _ (t : List ℕ) (style : Rendition) (link : List ℕ) (test : ℕ → Bo
   last = link_after_all link own
 
   abbrev written : List ℕ
-  written = start style ++ link ++ show (plain t) a b own ++ link_end last ++ close_if_any after
+  written = start style ++ link ++ interleaved (plain t) a b own ++ link_end last ++ close_if_any after
 
   abbrev rest : List Piece
   rest = shown ++ one_sequence (link_end last)
@@ -161,14 +161,14 @@ module _ (t : List ℕ) (style : Rendition) (link : List ℕ) (test : ℕ → Bo
   inside_stands : AllStandAnywhere inside
   inside_stands =
       stand-append (one_sequence link) rest (link_stands link carried.is)
-      (stand-append shown (one_sequence (link_end last)) (shown_pieces_stand (pieces_of t) test a b (pieces_stand t whole)) (link_stands (link_end last) (link_end_is_link last)))
+      (stand-append shown (one_sequence (link_end last)) (interleaved_pieces_stand (pieces_of t) test a b (pieces_stand t whole)) (link_stands (link_end last) (link_end_is_link last)))
 
   style_inside : style_through style inside ≡ after
   style_inside =
       style_through-append style (one_sequence link) rest ∙ ap (λ s. style_through s rest) (link_keeps style link carried.is)
       ∙ style_through-append style shown (one_sequence (link_end last))
       ∙ link_keeps (style_through style shown) (link_end last) (link_end_is_link last)
-      ∙ style_through-shown_pieces (pieces_of t) style test a b
+      ∙ style_through-interleaved_pieces (pieces_of t) style test a b
 
   styled_inside : styled_through style inside ≡ styled_through style shown
   styled_inside =
@@ -178,16 +178,16 @@ module _ (t : List ℕ) (style : Rendition) (link : List ℕ) (test : ℕ → Bo
       ∙ ap (λ v. styled_through style shown ++ v) (styled_through-one_sequence (style_through style shown) (link_end last))
       ∙ append-nil (styled_through style shown)
 
-  spelled_inside : spelled inside ≡ link ++ (show (plain t) a b own ++ link_end last)
+  spelled_inside : spelled inside ≡ link ++ (interleaved (plain t) a b own ++ link_end last)
   spelled_inside =
       flat_map-append spelling (one_sequence link) rest
       ∙ ap₂ (λ u v. u ++ v) (spelled-one_sequence link)
-      (flat_map-append spelling shown (one_sequence (link_end last)) ∙ ap₂ (λ u v. u ++ v) (spelled-shown_pieces (pieces_of t) test a b) (spelled-one_sequence (link_end last)))
+      (flat_map-append spelling shown (one_sequence (link_end last)) ∙ ap₂ (λ u v. u ++ v) (spelled-interleaved_pieces (pieces_of t) test a b) (spelled-one_sequence (link_end last)))
 
   spelled_all : spelled (dressed_pieces style inside (closing_codes after)) ≡ written
   spelled_all =
       spelled-dressed_pieces style inside (closing_codes after) ∙ ap₂ (λ u v. start style ++ u ++ v) spelled_inside (written-closing_codes after)
-      ∙ regrouped (start style) link (show (plain t) a b own) (link_end last) (close_if_any after)
+      ∙ regrouped (start style) link (interleaved (plain t) a b own) (link_end last) (close_if_any after)
 
   written_closed : IsClosed (styled_through style shown) written
   written_closed =
@@ -219,7 +219,7 @@ record IsNext (k : ℕ) (early here together : ℕ → Bool) (i : ℕ × ℕ) : 
 
 module _ (t : List ℕ) (k : ℕ) (early here together : ℕ → Bool) (style : Rendition) (link : List ℕ) (i : ℕ × ℕ) (here_open : AreOpen t early style link) (next : IsNext k early here together i) where
   abbrev shown_here : List Piece
-  shown_here = shown_pieces here i.0 i.1 (pieces_of t)
+  shown_here = interleaved_pieces here i.0 i.1 (pieces_of t)
 
   styled_here : styled_through style shown_here ≡ slice_range (styled t) i.0 i.1
   styled_here =
@@ -233,9 +233,9 @@ module _ (t : List ℕ) (k : ℕ) (early here together : ℕ → Bool) (style : 
 
   open_after : AreOpen t together (after_marks style (at_places here (marks t))) (link_after_all link (at_places here (marks t)))
   open_after = record {
-    styled = sym (style_through-shown_pieces (pieces_of t) style here i.0 i.1) ∙ ap (λ s. style_through s shown_here) here_open.styled
+    styled = sym (style_through-interleaved_pieces (pieces_of t) style here i.0 i.1) ∙ ap (λ s. style_through s shown_here) here_open.styled
         ∙ state-divided apply plain_style t k early here together i next.divides next.after;
-    linked = sym (state_through-shown_pieces link_after (pieces_of t) link here i.0 i.1) ∙ ap (λ l. link_through l shown_here) here_open.linked
+    linked = sym (state_through-interleaved_pieces link_after (pieces_of t) link here i.0 i.1) ∙ ap (λ l. link_through l shown_here) here_open.linked
         ∙ state-divided link_after [] t k early here together i next.divides next.after;
   }
 
@@ -325,14 +325,14 @@ lines_ended t k e early late style link ms (i ∷ []) whole ms_are here_open lef
 lines_ended t k e early late style link ms (i ∷ j ∷ is) whole ms_are here_open left after turn =
     let here : ℕ → Bool = λ p. late p && nat_le p i.1 in
     let end : k ≤ i.1 + 1 = omega (arith, after, turn.0, turn.1) in
-    let own_are : up_to i.1 ms ≡ at_places here (marks t) = ap (up_to i.1) ms_are ∙ at_places-at_places (λ p. nat_le p i.1) late (marks t) in
-    let rest_are : past (Some i.1) ms ≡ at_places (λ p. late p && nat_lt i.1 p) (marks t) = ap (past (Some i.1)) ms_are ∙ at_places-at_places (λ p. nat_lt i.1 p) late (marks t) in
+    let own_are : marks_up_to i.1 ms ≡ at_places here (marks t) = ap (marks_up_to i.1) ms_are ∙ at_places-at_places (λ p. nat_le p i.1) late (marks t) in
+    let rest_are : marks_past (Some i.1) ms ≡ at_places (λ p. late p && nat_lt i.1 p) (marks t) = ap (marks_past (Some i.1)) ms_are ∙ at_places-at_places (λ p. nat_lt i.1 p) late (marks t) in
     let next : IsNext k early here (λ p. nat_le p i.1) i
     = record { divides = up_to_end k i.1 early late left end; after = omega (arith, after, turn.0); covers = λ p below. le-leb p i.1 (omega (arith, below)) } in
-    subst (λ own. AreEnded t (i ∷ j ∷ is) (line_over style link (plain t) own i ∷ lines_over (after_marks style own) (link_after_all link own) (plain t) (past (Some i.1) ms) (j ∷ is)))
-    (sym (ap (λ b. if b then ms else up_to i.1 ms) (filled j is) ∙ own_are)) (
+    subst (λ own. AreEnded t (i ∷ j ∷ is) (line_over style link (plain t) own i ∷ lines_over (after_marks style own) (link_after_all link own) (plain t) (marks_past (Some i.1) ms) (j ∷ is)))
+    (sym (ap (λ b. if b then ms else marks_up_to i.1 ms) (filled j is) ∙ own_are)) (
       line_ended t k early here (λ p. nat_le p i.1) style link i here_open next whole,
-      lines_ended t (i.1 + 1) i.1 (λ p. nat_le p i.1) (λ p. late p && nat_lt i.1 p) (after_marks style (at_places here (marks t))) (link_after_all link (at_places here (marks t))) (past (Some i.1) ms) (j ∷ is) whole
+      lines_ended t (i.1 + 1) i.1 (λ p. nat_le p i.1) (λ p. late p && nat_lt i.1 p) (after_marks style (at_places here (marks t))) (link_after_all link (at_places here (marks t))) (marks_past (Some i.1) ms) (j ∷ is) whole
           rest_are (open_after t k early here (λ p. nat_le p i.1) style link i here_open next) (left_after k i.1 early late left end) (omega arith) turn.2,
     )
 

@@ -8,29 +8,29 @@ use Rattle.std.proofs.lemmas.Bool.Decides.{nat_tests}
 use Rattle.std.proofs.lemmas.List.{length-map, length-drop, length-take-le, take_all, drop-drop, get_or-take}
 use Rattle.std.proofs.lemmas.Str.{IsCharBoundary-end}
 use Rattle.ansi_items.specs.Pieces.{Piece, Text, pieces_of, spelling}
-use Rattle.ansi_items.specs.Plain.{Mark, plain, plain_of, marks, up_to, has_escape}
+use Rattle.ansi_items.specs.Plain.{Mark, plain, plain_of, marks, marks_up_to, has_escape}
 use Rattle.ansi_items.proofs.JoinLemmas.{spelled, spelled-pieces_of}
 use Rattle.ansi_items.proofs.PlainLemmas.{plain-bare}
 use Rattle.ansi_style.specs.declared.state.rendition.Rendition.{Rendition}
 use Rattle.ansi_style.specs.Rendition.{IsStyle, plain_style, has_any}
 use Rattle.ansi_style.specs.Reading.{after_marks, style_after_from}
 use Rattle.ansi_style.specs.Written.{start, close, close_if_any, longest_start_and_close}
-use Rattle.ansi_style.proofs.MarkLemmas.{up_to-further, bytes-further, after_marks-further, marks-bare}
+use Rattle.ansi_style.proofs.MarkLemmas.{marks_up_to-further, bytes-further, after_marks-further, marks-bare}
 use Rattle.ansi_style.proofs.UnsetLemmas.{start-unset}
-use Rattle.ansi_slice.specs.Cut.{show}
+use Rattle.ansi_slice.specs.Cut.{interleaved}
 use Rattle.ansi_slice.specs.Kept.{kept}
 use Rattle.ansi_search.specs.Offsets.{offset_of, bytes_before, StandsIn}
 use Rattle.ansi_slice.specs.Stretches.{sequences_up_to}
-use Rattle.ansi_split.specs.Parts.{past}
+use Rattle.ansi_split.specs.Parts.{marks_past}
 use Rattle.ansi_search.specs.Positions.{is_good_position}
 use Rattle.ansi_slice.proofs.LengthLemmas.{length-start}
-use Rattle.ansi_slice.proofs.ShowLemmas.{show-bare}
+use Rattle.ansi_slice.proofs.InterleavedLemmas.{interleaved-bare}
 use Rattle.ansi_search.proofs.SliceLemmas.{slice_range-none}
 use Rattle.ansi_search.proofs.OffsetLemmas.{plain-after, bytes_before-text}
 use Rattle.ansi_slice.proofs.StretchLemmas.{kept-front, kept-stretch, kept-none}
 use Rattle.ansi_search.proofs.PositionLemmas.{is_good_position-past, is_good_position-drop, good_is_boundary}
-use Rattle.ansi_split.specs.Spans.{further_on, IsCutAfter}
-use Rattle.ansi_split.proofs.AfterLemmas.{is_cut_after, further_on-further_on}
+use Rattle.ansi_split.specs.Spans.{marks_further_on, IsCutAfter}
+use Rattle.ansi_split.proofs.AfterLemmas.{is_cut_after, marks_further_on-marks_further_on}
 use Rattle.ansi_split.proofs.RestLemmas.{boundary-drop}
 use Rattle.ansi_split.proofs.SplitLemmas.{escape_is_marked}
 use Rattle.ansi_columns.specs.declared.walks.Walk.{Walk}
@@ -43,7 +43,7 @@ use Rattle.ansi_columns.proofs.ColumnLemmas.{clusters_from-start}
 use Rattle.ansi_columns.proofs.LineLemmas.{line-any, line-last}
 use Rattle.ansi_columns.proofs.PlaceLemmas.{offset_of-add}
 use Rattle.ansi_columns.proofs.ShownLemmas.{length-link_end}
-use Rattle.ansi_split.proofs.SpanLemmas.{show-after}
+use Rattle.ansi_split.proofs.SpanLemmas.{interleaved-after}
 use Rattle.ansi_split.proofs.PartLengthLemmas.{length-close_if_any}
 
 -- A line by what it is made of.
@@ -56,7 +56,7 @@ made_of same n style link shown last_link last = record {
 }
 
 line_over-made : (style : Rendition) (link x : List ℕ) (own : List Mark) (i : ℕ × ℕ)
-    → line_over style link x own i ≡ made_of (i.0 == i.1) (length own) style link (show x i.0 i.1 own) (link_after_all link own) (after_marks style own)
+    → line_over style link x own i ≡ made_of (i.0 == i.1) (length own) style link (interleaved x i.0 i.1 own) (link_after_all link own) (after_marks style own)
 unfolding line_over
 line_over-made style link x own i = refl
 
@@ -67,33 +67,33 @@ made_of-alike {same} {same'} {n} {n'} {shown} {shown'} {last_link} {last_link'} 
 
 -- Marks that are further on.
 
-past-further : (e n : ℕ) (ms : List Mark) → n ≤ e → past (Some e) (further_on n ms) ≡ further_on n (past (Some (e - n)) ms)
-past-further e n [] within = refl
-past-further e n (m ∷ ms) within =
+marks_past-further : (e n : ℕ) (ms : List Mark) → n ≤ e → marks_past (Some e) (marks_further_on n ms) ≡ marks_further_on n (marks_past (Some (e - n)) ms)
+marks_past-further e n [] within = refl
+marks_past-further e n (m ∷ ms) within =
     let same : nat_lt e (n + m.place) ≡ nat_lt (e - n) m.place = grind (arith, nat_tests) in
     let moved : Mark = record m { place = n + m.place } in
-    ap₂ (λ b ks. if b then moved ∷ ks else ks) same (past-further e n ms within) ∙ either (nat_lt (e - n) m.place)
+    ap₂ (λ b ks. if b then moved ∷ ks else ks) same (marks_past-further e n ms within) ∙ either (nat_lt (e - n) m.place)
   where
-    either : (b : Bool) → (if b then (record m { place = n + m.place }) ∷ further_on n (past (Some (e - n)) ms) else further_on n (past (Some (e - n)) ms)) ≡ further_on n (if b then m ∷ past (Some (e - n)) ms else past (Some (e - n)) ms)
+    either : (b : Bool) → (if b then (record m { place = n + m.place }) ∷ marks_further_on n (marks_past (Some (e - n)) ms) else marks_further_on n (marks_past (Some (e - n)) ms)) ≡ marks_further_on n (if b then m ∷ marks_past (Some (e - n)) ms else marks_past (Some (e - n)) ms)
     either true = refl
     either false = refl
 
-link-further : (link : List ℕ) (n : ℕ) (ms : List Mark) → link_after_all link (further_on n ms) ≡ link_after_all link ms
+link-further : (link : List ℕ) (n : ℕ) (ms : List Mark) → link_after_all link (marks_further_on n ms) ≡ link_after_all link ms
 link-further link n ms = ap (fold link_after link) (bytes-further n ms)
 
 -- a line over the text after the position m
-line-after : (style : Rendition) (link x : List ℕ) (m a b : ℕ) (ms : List Mark) → m ≤ length x → line_over style link x (further_on m ms) (m + a, m + b) ≡ line_over style link (drop m x) ms (a, b)
+line-after : (style : Rendition) (link x : List ℕ) (m a b : ℕ) (ms : List Mark) → m ≤ length x → line_over style link x (marks_further_on m ms) (m + a, m + b) ≡ line_over style link (drop m x) ms (a, b)
 line-after style link x m a b ms inside =
     let same : (m + a == m + b) ≡ (a == b) = grind (arith, nat_tests) in
-    line_over-made style link x (further_on m ms) (m + a, m + b)
-    ∙ made_of-alike style link same (length-map ms _) (show-after x m a b ms inside) (link-further link m ms) (after_marks-further style m ms)
+    line_over-made style link x (marks_further_on m ms) (m + a, m + b)
+    ∙ made_of-alike style link same (length-map ms _) (interleaved-after x m a b ms inside) (link-further link m ms) (after_marks-further style m ms)
     ∙ sym (line_over-made style link (drop m x) ms (a, b))
 
 -- a line over a front of the text
 line-front : (style : Rendition) (link t front after : List ℕ) (a e : ℕ) → IsCutAfter t e front after → line_over style link (plain t) (marks front) (a, e) ≡ line_over style link (plain front) (marks front) (a, e)
 line-front style link t front after a e cut =
     line_over-made style link (plain t) (marks front) (a, e)
-    ∙ made_of-alike {last = after_marks style (marks front)} {last' = after_marks style (marks front)} style link refl refl (ap (show (plain t) a e) cut.marks_front ∙ cut.shown_front a) refl refl
+    ∙ made_of-alike {last = after_marks style (marks front)} {last' = after_marks style (marks front)} style link refl refl (ap (interleaved (plain t) a e) cut.marks_front ∙ cut.interleaved_front a) refl refl
     ∙ sym (line_over-made style link (plain front) (marks front) (a, e))
 
 -- There is a line from each place on.
@@ -163,14 +163,14 @@ module _ (t : List ℕ) (before taken : ℕ) (walk : Walk) (is : IsTaken t befor
     after-is : drop n rest ≡ drop offset t
     after-is = (let all : taken + n ≡ offset = omega (arith, ahead) in drop-drop n taken t ∙ ap (λ k. drop k t) all)
 
-    own-is : up_to e (marks_left t before taken) ≡ further_on before (marks front)
-    own-is = up_to-further e before (marks rest) within ∙ ap (further_on before) (sym cut.marks_front)
+    own-is : marks_up_to e (marks_left t before taken) ≡ marks_further_on before (marks front)
+    own-is = marks_up_to-further e before (marks rest) within ∙ ap (marks_further_on before) (sym cut.marks_front)
 
-    left-is : past (Some e) (marks_left t before taken) ≡ marks_left t e offset
+    left-is : marks_past (Some e) (marks_left t before taken) ≡ marks_left t e offset
     left-is =
         let all : before + (e - before) ≡ e = omega (arith, within) in
-        past-further e before (marks rest) within ∙ ap (further_on before) cut.marks_after
-        ∙ further_on-further_on before (e - before) (marks (drop n rest)) ∙ ap₂ (λ k v. further_on k (marks v)) all after-is
+        marks_past-further e before (marks rest) within ∙ ap (marks_further_on before) cut.marks_after
+        ∙ marks_further_on-marks_further_on before (e - before) (marks (drop n rest)) ∙ ap₂ (λ k v. marks_further_on k (marks v)) all after-is
 
     pub lines-first : (style : Rendition) (link : List ℕ) (s : ℕ) (is : List (ℕ × ℕ)) → before ≤ s → (length is == 0) ≡ false
         → lines_over style link (plain t) (marks_left t before taken) ((s, e) ∷ is)
@@ -179,24 +179,24 @@ module _ (t : List ℕ) (before taken : ℕ) (walk : Walk) (is : IsTaken t befor
     lines-first style link s is begins some =
         let x = plain t in
         let ms = marks_left t before taken in
-        let ks = further_on before (marks front) in
+        let ks = marks_further_on before (marks front) in
         let from : s ≡ before + (s - before) = omega (arith, begins) in
         let to : e ≡ before + (e - before) = omega (arith, within) in
         let line : line_over style link x ks (s, e) ≡ line_over style link (plain front) (marks front) (s - before, e - before)
         = ap₂ (λ i j. line_over style link x ks (i, j)) from to ∙ line-after style link x before (s - before) (e - before) (marks front) before-within
         ∙ ap (λ y. line_over style link y (marks front) (s - before, e - before)) (sym plain-rest)
         ∙ line-front style link rest front (drop n rest) (s - before) (e - before) cut in
-        ap (λ b. line_over style link x (if b then ms else up_to e ms) (s, e) ∷ lines_over (after_marks style (if b then ms else up_to e ms)) (link_after_all link (if b then ms else up_to e ms)) x (past (Some e) ms) is) some
+        ap (λ b. line_over style link x (if b then ms else marks_up_to e ms) (s, e) ∷ lines_over (after_marks style (if b then ms else marks_up_to e ms)) (link_after_all link (if b then ms else marks_up_to e ms)) x (marks_past (Some e) ms) is) some
         ∙ ap₂ (λ own later. line_over style link x own (s, e) ∷ lines_over (after_marks style own) (link_after_all link own) x later is) own-is left-is
         ∙ ap₂ (λ l r. l ∷ lines_over r (link_after_all link ks) x (marks_left t e offset) is) line (after_marks-further style before (marks front))
         ∙ ap (λ u. line_over style link (plain front) (marks front) (s - before, e - before) ∷ lines_over (style_after_from style front) u x (marks_left t e offset) is) (link-further link before (marks front))
 
     all_before : (k : ℕ) (ps : List Piece) → length (plain_of ps) ≤ k → bytes_before k ps ≡ length (spelled ps)
-    all_before k [] past = refl
-    all_before k (Text w ∷ ps) past =
+    all_before k [] marks_past = refl
+    all_before k (Text w ∷ ps) marks_past =
         let size = length-append w (plain_of ps) in
-        omega (arith, bytes_before-text k w ps (omega (arith, size, past)), length-append w (spelled ps), all_before (k - length w) ps (omega (arith, size, past)))
-    all_before k (p ∷ ps) past = omega (arith, length-append (spelling p) (spelled ps), all_before k ps past)
+        omega (arith, bytes_before-text k w ps (omega (arith, size, marks_past)), length-append w (spelled ps), all_before (k - length w) ps (omega (arith, size, marks_past)))
+    all_before k (p ∷ ps) marks_past = omega (arith, length-append (spelling p) (spelled ps), all_before k ps marks_past)
 
     plain-front : plain front ≡ take (e - before) (plain rest)
     plain-front = cut.plain_front
@@ -213,7 +213,7 @@ module _ (t : List ℕ) (before taken : ℕ) (walk : Walk) (is : IsTaken t befor
     good-front : (i : ℕ) → IsTrue (is_good_position (plain t) (before + i)) → IsTrue (is_good_position (plain front) i)
     good-front i good = ap (λ y. is_good_position y i) plain-front ∙ elim (cases_lt i (e - before)) [
       | inl less ↦ ap (λ b. is_good_position (b ∷ []) 0) (get_or-take (e - before) (plain rest) i 0 less) ∙ good-rest i ∙ good
-      | inr past ↦ is_good_position-past (take (e - before) (plain rest)) i (omega (arith, size-front, ap length plain-front, past))
+      | inr marks_past ↦ is_good_position-past (take (e - before) (plain rest)) i (omega (arith, size-front, ap length plain-front, marks_past))
     ]
 
     pub span-first : (style : Rendition) (link : List ℕ) (s : ℕ) (is_marked : Bool) (after : Rendition) (link_after : List ℕ) → offset ≤ length t → before ≤ s → s ≤ e → IsTrue (is_good_position (plain t) s)
@@ -245,7 +245,7 @@ module _ (t : List ℕ) (before taken : ℕ) (walk : Walk) (is : IsTaken t befor
         let from : s ≡ before + (s - before) = omega (arith, begins) in
         let to : e ≡ before + (e - before) = omega (arith, within) in
         ap (λ l. l ∷ []) (
-        ap₂ (λ i j. line_over style link x (further_on before (marks rest)) (i, j)) from to ∙ line-after style link x before (s - before) (e - before) (marks rest) before-within
+        ap₂ (λ i j. line_over style link x (marks_further_on before (marks rest)) (i, j)) from to ∙ line-after style link x before (s - before) (e - before) (marks rest) before-within
         ∙ ap (λ y. line_over style link y (marks rest) (s - before, e - before)) (sym plain-rest)
         ∙ ap (λ u. line_over style link (plain u) (marks u) (s - before, e - before)) (sym all))
 
@@ -303,7 +303,7 @@ line-written {style} {after} {link} {link_end_of} {t} {a} {e} {offset} {from} {t
     regrouped (start style ++ link) (sequences_up_to a (pieces_of t)) (slice_range t from offset) (sequences_up_to top (pieces_of (drop offset t))) (link_end link_end_of) (close_if_any after)
     ∙ ap (λ u. start style ++ link ++ u ++ link_end link_end_of ++ close_if_any after) (sym shown)
     ∙ ap₂ (λ l r. start style ++ link ++ kept t a e ++ link_end l ++ close_if_any r) span.linked span.styled
-    ∙ sym (ap (λ b. if b then [] else start style ++ link ++ show (plain t) a e (marks t) ++ link_end (link_after_all link (marks t)) ++ close_if_any (after_marks style (marks t)))
+    ∙ sym (ap (λ b. if b then [] else start style ++ link ++ interleaved (plain t) a e (marks t) ++ link_end (link_after_all link (marks t)) ++ close_if_any (after_marks style (marks t)))
     (unborrowed (length (marks t) == 0) (a == e) (not (has_any style) && length link == 0) owned))
 
 -- a line that is a stretch of the text
@@ -320,17 +320,17 @@ none_carried style link holds = (let both = and_parts _ _ holds in (not-true (ha
     no_bytes (b ∷ l) h = absurd (omega (arith, eqb-true (length (b ∷ l)) 0 h))
 
 bare-bytes : (style : Rendition) (link x : List ℕ) (a e : ℕ) → (a ≡ e) ⊎ ((not (has_any style) && length link == 0) ≡ true)
-    → slice_range x a e ≡ (if (a == e) && true then [] else start style ++ link ++ show x a e [] ++ link_end link ++ close_if_any style)
+    → slice_range x a e ≡ (if (a == e) && true then [] else start style ++ link ++ interleaved x a e [] ++ link_end link ++ close_if_any style)
 bare-bytes style link x a e holds = bare-if ((a == e) && true) (λ same. slice_range-none x a e (omega (arith, eqb-true a e (and_parts _ _ same).0))) (λ other. by_case other holds)
   where
-    by_case : ((a == e) && true) ≡ false → (a ≡ e) ⊎ ((not (has_any style) && length link == 0) ≡ true) → slice_range x a e ≡ start style ++ link ++ show x a e [] ++ link_end link ++ close_if_any style
+    by_case : ((a == e) && true) ≡ false → (a ≡ e) ⊎ ((not (has_any style) && length link == 0) ≡ true) → slice_range x a e ≡ start style ++ link ++ interleaved x a e [] ++ link_end link ++ close_if_any style
     by_case other (inl same) = absurd (cc (other, and_from _ _ (eq-eqb a e same) (refl {a = true})))
     by_case other (inr none) =
         let no = none_carried style link none in
         sym (
-        ap (λ l. start style ++ l ++ show x a e [] ++ link_end l ++ close_if_any style) no.1
-        ∙ ap₂ (λ u b. u ++ [] ++ show x a e [] ++ [] ++ (if b then close style else [])) (start-unset style no.0) no.0
-        ∙ append-nil (show x a e [] ++ []) ∙ append-nil (show x a e []) ∙ show-bare x a e)
+        ap (λ l. start style ++ l ++ interleaved x a e [] ++ link_end l ++ close_if_any style) no.1
+        ∙ ap₂ (λ u b. u ++ [] ++ interleaved x a e [] ++ [] ++ (if b then close style else [])) (start-unset style no.0) no.0
+        ∙ append-nil (interleaved x a e [] ++ []) ∙ append-nil (interleaved x a e []) ∙ interleaved-bare x a e)
 
 pub line-bare : {style after : Rendition} {link link_end_of t : List ℕ} {a e offset : ℕ} {is_marked : Bool} → IsSpan style link t a e offset is_marked after link_end_of → is_marked ≡ false → (a ≡ e) ⊎ ((not (has_any style) && length link == 0) ≡ true)
     → (slice_range t a e ≡ (line_over style link (plain t) (marks t) (a, e)).bytes) × IsTrue (line_over style link (plain t) (marks t) (a, e)).borrowed
@@ -367,12 +367,12 @@ owned-carried style link t a e other some = ap₂ (λ b d. (length (marks t) == 
 
 -- The lines of a text from its beginning on.
 
-further_on-none : (ms : List Mark) → further_on 0 ms ≡ ms
-further_on-none [] = refl
-further_on-none (m ∷ ms) = ap₂ (λ n ks. record m { place = n } ∷ ks) (omega arith) (further_on-none ms)
+marks_further_on-none : (ms : List Mark) → marks_further_on 0 ms ≡ ms
+marks_further_on-none [] = refl
+marks_further_on-none (m ∷ ms) = ap₂ (λ n ks. record m { place = n } ∷ ks) (omega arith) (marks_further_on-none ms)
 
 pub marks_left-start : (t : List ℕ) → marks_left t 0 0 ≡ marks t
-marks_left-start t = further_on-none (marks t)
+marks_left-start t = marks_further_on-none (marks t)
 
 pub lines_left-start : (t : List ℕ) (width : ℕ) (walk : Walk) → walk.position ≡ 0 → lines_left t width (Some walk) ≡ lines_from width 0 0 0 0 (clusters (plain t))
 lines_left-start t width walk none = ap (λ n. lines_from width n n n 0 (clusters_from t n)) none ∙ ap (lines_from width 0 0 0 0) (clusters_from-start t)
@@ -389,7 +389,7 @@ length-line_over : (style : Rendition) (link x : List ℕ) (own : List Mark) (i 
     → length (line_over style link x own i).bytes ≤ (line_over style link x own i).share + longest_start_and_close + longest_link_end
 unfolding line_over
 length-line_over style link x own i is =
-    let shown = show x i.0 i.1 own in
+    let shown = interleaved x i.0 i.1 own in
     let last = link_after_all link own in
     let after = after_marks style own in
     cond_both (i.0 == i.1 && length own == 0) [] (start style ++ link ++ shown ++ link_end last ++ close_if_any after) (λ w. length w ≤ length link + length shown + longest_start_and_close + longest_link_end)
@@ -417,11 +417,11 @@ lines-bare x [] = refl
 lines-bare x (i ∷ is) =
     ap₂ (λ a b. a && b) (by_last (length is == 0) ∙ or_right (i.0 == i.1) _ refl) (by_next (lines-bare x is) (length is == 0))
   where
-    by_last : (last : Bool) → (line_over plain_style [] x (if last then [] else up_to i.1 []) i).borrowed ≡ ((i.0 == i.1) || true)
+    by_last : (last : Bool) → (line_over plain_style [] x (if last then [] else marks_up_to i.1 []) i).borrowed ≡ ((i.0 == i.1) || true)
     by_last true = refl
     by_last false = refl
 
-    by_next : list_all (λ (l : WrappedLine). l.borrowed) (lines_over plain_style [] x [] is) ≡ true → (last : Bool) → list_all (λ (l : WrappedLine). l.borrowed) (lines_over (after_marks plain_style (if last then [] else up_to i.1 [])) (link_after_all [] (if last then [] else up_to i.1 [])) x (past (Some i.1) []) is) ≡ true
+    by_next : list_all (λ (l : WrappedLine). l.borrowed) (lines_over plain_style [] x [] is) ≡ true → (last : Bool) → list_all (λ (l : WrappedLine). l.borrowed) (lines_over (after_marks plain_style (if last then [] else marks_up_to i.1 [])) (link_after_all [] (if last then [] else marks_up_to i.1 [])) x (marks_past (Some i.1) []) is) ≡ true
     by_next later true = later
     by_next later false = later
 

@@ -71,6 +71,6 @@ AreLinesFrom x e [] = (n : ℕ) × (drop e x ≡ blanks n)
 AreLinesFrom x e (line ∷ lines) = (e ≤ line.0) × (line.0 ≤ line.1) × (line.1 ≤ length x) × IsLeftOut (slice_range x e line.0) × AreLinesFrom x line.1 lines
 
 -- x from the place e on, as the text on its lines with the text left out before each line and after the last one
-abbrev pub put_back : List ℕ → ℕ → List (ℕ × ℕ) → List ℕ
-put_back x e [] = drop e x
-put_back x e (line ∷ lines) = slice_range x e line.0 ++ slice_range x line.0 line.1 ++ put_back x line.1 lines
+abbrev pub reassembled : List ℕ → ℕ → List (ℕ × ℕ) → List ℕ
+reassembled x e [] = drop e x
+reassembled x e (line ∷ lines) = slice_range x e line.0 ++ slice_range x line.0 line.1 ++ reassembled x line.1 lines

@@ -2,7 +2,7 @@
 use Rattle.std.specs.Prelude.{ℕ, ◌+◌, ◌-◌, ◌==◌, Bool, not, ◌&&◌, List, [], ◌++◌, length, map, drop, filter, reverse, slice_range, slice_get, nat_eq, nat_lt, Option, Some, None, is_some, unwrap_or, fold, if◌then◌else◌, codes}
 use Rattle.std.specs.List.{prefix_len, starts_with, ends_with}
 use Rattle.std.specs.Str.{byte}
-use Rattle.ansi_items.specs.Plain.{Mark, marks, up_to}
+use Rattle.ansi_items.specs.Plain.{Mark, marks, marks_up_to}
 use Rattle.ansi_style.specs.Styled.{style_at}
 use Rattle.ansi_style.specs.Written.{close}
 
@@ -42,7 +42,7 @@ link_after_all link ms = fold link_after link (map (λ (m : Mark). m.bytes) ms)
 
 -- the link at the place i of t is that after every mark at a place up to i (own)
 abbrev pub link_at : List ℕ → ℕ → List ℕ
-link_at t i = link_of (up_to i (marks t))
+link_at t i = link_of (marks_up_to i (marks t))
 
 -- the sequence that closes a link, if one is open (OSC 8)
 abbrev pub link_end : List ℕ → List ℕ

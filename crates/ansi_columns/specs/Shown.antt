@@ -1,8 +1,8 @@
 -- Truncated and padded texts, ready for display: the style and link still open at their end are closed.
 use Rattle.std.specs.Prelude.{ℕ, ◌+◌, ◌-◌, ◌/◌, Bool, not, ◌&&◌, List, [], ◌∷◌, ◌++◌, length, replicate, encode_utf8_all, nat_le, if◌then◌else◌}
 use Rattle.std.specs.Str.{byte}
-use Rattle.ansi_items.specs.Plain.{plain, marks, up_to}
-use Rattle.ansi_slice.specs.Cut.{show}
+use Rattle.ansi_items.specs.Plain.{plain, marks, marks_up_to}
+use Rattle.ansi_slice.specs.Cut.{interleaved}
 use Rattle.ansi_columns.specs.declared.shown.Alignment.{Alignment}
 use Rattle.ansi_columns.specs.declared.shown.Alignment.TheVariants.{Left, Right, Center}
 use Rattle.ansi_columns.specs.Columns.{clusters, cluster_width, columns}
@@ -29,7 +29,7 @@ truncated_ending t width tail = pen_close t (truncated_end t width tail) ++ (if 
 unfoldable pub truncated : List ℕ → ℕ → List ℕ → List ℕ
 truncated t width tail =
     let end = truncated_end t width tail in
-    show (plain t) 0 end (up_to end (marks t)) ++ truncated_ending t width tail
+    interleaved (plain t) 0 end (marks_up_to end (marks t)) ++ truncated_ending t width tail
 
 -- the number of columns that a text lacks
 abbrev pub missing : List ℕ → ℕ → ℕ

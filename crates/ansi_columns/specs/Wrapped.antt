@@ -3,16 +3,16 @@ use Rattle.std.specs.Prelude.{◌≡◌, ℕ, ◌+◌, ◌≤◌, ◌==◌, ◌�
 use Rattle.std.specs.Cow.{cow_str_bytes, IsBorrowedStr}
 use Rattle.std.specs.Str.{IsCharBoundary}
 use Rattle.std.specs.declared.borrow.CowStr.{CowStr}
-use Rattle.ansi_items.specs.Plain.{Mark, plain, marks, up_to, has_escape}
+use Rattle.ansi_items.specs.Plain.{Mark, plain, marks, marks_up_to, has_escape}
 use Rattle.ansi_style.specs.declared.state.rendition.Rendition.{Rendition}
 use Rattle.ansi_style.specs.Rendition.{plain_style, has_any}
 use Rattle.ansi_style.specs.Reading.{after_marks, style_after_from}
 use Rattle.ansi_style.specs.Written.{start, close_if_any, longest_start_and_close}
-use Rattle.ansi_slice.specs.Cut.{show}
+use Rattle.ansi_slice.specs.Cut.{interleaved}
 use Rattle.ansi_search.specs.Offsets.{offset_of, StandsIn}
-use Rattle.ansi_split.specs.Parts.{past}
+use Rattle.ansi_split.specs.Parts.{marks_past}
 use Rattle.ansi_search.specs.Positions.{is_good_position}
-use Rattle.ansi_split.specs.Spans.{further_on}
+use Rattle.ansi_split.specs.Spans.{marks_further_on}
 use Rattle.ansi_columns.specs.declared.walks.Walk.{Walk}
 use Rattle.ansi_columns.specs.Lines.{lines}
 use Rattle.ansi_columns.specs.Links.{link_after_all, link_end, longest_link_end}
@@ -30,9 +30,9 @@ pub record WrappedLine : Type 0 where
 unfoldable pub line_over : Rendition → List ℕ → List ℕ → List Mark → ℕ × ℕ → WrappedLine
 line_over style link x own i = record {
   bytes = if i.0 == i.1 && length own == 0 then [] else
-      start style ++ link ++ show x i.0 i.1 own ++ link_end (link_after_all link own) ++ close_if_any (after_marks style own);
+      start style ++ link ++ interleaved x i.0 i.1 own ++ link_end (link_after_all link own) ++ close_if_any (after_marks style own);
   borrowed = length own == 0 && (i.0 == i.1 || (not (has_any style) && length link == 0));
-  share = length link + length (show x i.0 i.1 own);
+  share = length link + length (interleaved x i.0 i.1 own);
 }
 
 -- The lines over intervals of x in order, with the marks that are left. A mark belongs to the first line that doesn't end before
@@ -40,8 +40,8 @@ line_over style link x own i = record {
 unfoldable pub lines_over : Rendition → List ℕ → List ℕ → List Mark → List (ℕ × ℕ) → List WrappedLine
 lines_over style link x ms [] = []
 lines_over style link x ms (i ∷ is) =
-    let own = if length is == 0 then ms else up_to i.1 ms in
-    line_over style link x own i ∷ lines_over (after_marks style own) (link_after_all link own) x (past (Some i.1) ms) is
+    let own = if length is == 0 then ms else marks_up_to i.1 ms in
+    line_over style link x own i ∷ lines_over (after_marks style own) (link_after_all link own) x (marks_past (Some i.1) ms) is
 
 -- the lines of the text t, wrapped at a width
 abbrev pub wrapped : List ℕ → ℕ → List WrappedLine
@@ -59,7 +59,7 @@ GivesLine old (Some (Err e)) new = (l : WrappedLine) × (ls : List WrappedLine) 
 
 -- the marks of t from the offset `taken` on, at their places, with `before` plain bytes before that offset; no public contract cites what follows
 abbrev pub marks_left : List ℕ → ℕ → ℕ → List Mark
-marks_left t before taken = further_on before (marks (drop taken t))
+marks_left t before taken = marks_further_on before (marks (drop taken t))
 
 -- the lines before the walk end at the position `before`, and cover t up to the offset `taken`, with all marks up to there; or there are no lines yet
 pub record IsTaken (t : List ℕ) (before taken : ℕ) (walk : Walk) : Type 0 where

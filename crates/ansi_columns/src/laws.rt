@@ -12,7 +12,7 @@ ghost use Rattle.ansi_style.specs.Styled.{styled, residue};
 ghost use Rattle.ansi_columns.specs.declared.shown.Alignment.{Alignment};
 ghost use Rattle.ansi_columns.specs.Addresses.{linked, without_link};
 ghost use Rattle.ansi_columns.specs.Columns.{clusters, columns, FitsUpTo, IsClusterBoundary};
-ghost use Rattle.ansi_columns.specs.Lines.{lines, AreLinesFrom, put_back};
+ghost use Rattle.ansi_columns.specs.Lines.{lines, AreLinesFrom, reassembled};
 ghost use Rattle.ansi_columns.specs.Links.{link_of};
 ghost use Rattle.ansi_columns.specs.Shown.{has_tail, truncated_end, truncated, missing, before_text, blanks, padded};
 ghost use Rattle.ansi_columns.specs.Wrapped.{wrapped};
@@ -42,7 +42,7 @@ pub fn columns_add_up()
 pub fn lines_lose_blanks_and_line_ends()
     ensures begin { (x : List ℕ) (width : ℕ) → option_map (λ (line : ℕ × ℕ). line.0) (slice_get (lines width x) 0) ≡ Some 0 }
     ensures left_out { (x : List ℕ) (width : ℕ) → IsUtf8 x → AreLinesFrom x 0 (lines width x) }
-    ensures text { (x : List ℕ) (width : ℕ) → IsUtf8 x → put_back x 0 (lines width x) ≡ x }
+    ensures text { (x : List ℕ) (width : ℕ) → IsUtf8 x → reassembled x 0 (lines width x) ≡ x }
 {}
 
 /// A truncated text is whole if the text and the tail are whole. Its plain text is the prefix of

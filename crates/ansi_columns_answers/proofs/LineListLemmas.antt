@@ -10,16 +10,16 @@ use Rattle.std.specs.declared.borrow.CowStr.{CowStr}
 use Rattle.unicode_segmentation.specs.Grapheme.{is_grapheme_break}
 use Rattle.unicode_segmentation.specs.Segments.{segments}
 use Rattle.unicode_segmentation.proofs.SegmentsLemmas.{AllPieces, segments_nonempty}
-use Rattle.ansi_items.specs.Plain.{Mark, plain, up_to, has_escape}
+use Rattle.ansi_items.specs.Plain.{Mark, plain, marks_up_to, has_escape}
 use Rattle.ansi_items.proofs.PlainLemmas.{plain-bare}
 use Rattle.ansi_style.specs.Rendition.{plain_style}
 use Rattle.ansi_style.specs.Reading.{after_marks}
 use Rattle.ansi_style.specs.Written.{start, close_if_any}
 use Rattle.ansi_style.proofs.MarkLemmas.{marks-bare}
 use Rattle.ansi_style.proofs.UnsetLemmas.{start-unset}
-use Rattle.ansi_slice.specs.Cut.{show}
-use Rattle.ansi_str.specs.Parts.{past}
-use Rattle.ansi_slice.proofs.ShowLemmas.{show-bare}
+use Rattle.ansi_slice.specs.Cut.{interleaved}
+use Rattle.ansi_str.specs.Parts.{marks_past}
+use Rattle.ansi_slice.proofs.InterleavedLemmas.{interleaved-bare}
 use Rattle.ansi_columns.specs.Columns.{clusters, cluster_width}
 use Rattle.ansi_columns.specs.Links.{link_after_all, link_end}
 use Rattle.ansi_columns.specs.Lines.{is_line_end, is_blank, lines_from, lines, AreLinesFrom}
@@ -37,7 +37,7 @@ line-next old (Some (Err e)) new gives = (gives.0, gives.1, gives.2, gives.3)
 
 -- Their bytes.
 
-no_marks : (last : Bool) (n : ℕ) → (if last then [] else up_to n []) ≡ []
+no_marks : (last : Bool) (n : ℕ) → (if last then [] else marks_up_to n []) ≡ []
 no_marks true n = refl
 no_marks false n = refl
 
@@ -45,14 +45,14 @@ no_marks false n = refl
 bare-lines : (x : List ℕ) (i : ℕ × ℕ) (is : List (ℕ × ℕ)) → lines_over plain_style [] x [] (i ∷ is) ≡ line_over plain_style [] x [] i ∷ lines_over plain_style [] x [] is
 unfolding lines_over
 bare-lines x i is =
-    ap (λ (own : List Mark). line_over plain_style [] x own i ∷ lines_over (after_marks plain_style own) (link_after_all [] own) x (past (Some i.1) []) is) (no_marks (length is == 0) i.1)
+    ap (λ (own : List Mark). line_over plain_style [] x own i ∷ lines_over (after_marks plain_style own) (link_after_all [] own) x (marks_past (Some i.1) []) is) (no_marks (length is == 0) i.1)
 
 length-bare_line : (x : List ℕ) (i : ℕ × ℕ) → length (line_over plain_style [] x [] i).bytes ≤ i.1 - i.0
 unfolding line_over
 length-bare_line x i =
-    let whole = start plain_style ++ [] ++ show x i.0 i.1 [] ++ link_end [] ++ close_if_any plain_style in
+    let whole = start plain_style ++ [] ++ interleaved x i.0 i.1 [] ++ link_end [] ++ close_if_any plain_style in
     let shown : whole ≡ slice_range x i.0 i.1 =
-    ap (λ u. u ++ [] ++ show x i.0 i.1 [] ++ [] ++ []) (start-unset plain_style refl) ∙ append-nil (show x i.0 i.1 [] ++ []) ∙ append-nil (show x i.0 i.1 []) ∙ show-bare x i.0 i.1 in
+    ap (λ u. u ++ [] ++ interleaved x i.0 i.1 [] ++ [] ++ []) (start-unset plain_style refl) ∙ append-nil (interleaved x i.0 i.1 [] ++ []) ∙ append-nil (interleaved x i.0 i.1 []) ∙ interleaved-bare x i.0 i.1 in
     cond_both ((i.0 == i.1) && true) [] whole (λ w. length w ≤ i.1 - i.0) (λ none. omega arith)
     (λ some. omega (arith, ap length shown, length-take (i.1 - i.0) (drop i.0 x), length-drop i.0 x))
 

@@ -26,7 +26,7 @@ pub use Rattle.ansi_items.specs.Fronts.{EndsBy, front_of}
 unfoldable pub use Rattle.ansi_items.specs.Fronts.{control_at, escape_at, front_at, sequence_at, string_at}
 pub use Rattle.ansi_items.specs.Pieces.{ArePieces, LoneEscape, Piece, Sequence, StandsBefore, Text, after_text, first_piece, first_pieces, merged, pieces_of, spelling, text_or_lone}
 pub use Rattle.ansi_items.specs.Plain.{are_whole, has_escape, is_whole, mark_of, marks, plain, plain_bytes, plain_of}
-pub use Rattle.ansi_items.specs.Scans.{Gives, Scan, kind_of, piece_of, piece_of_kind, pieces_left}
+pub use Rattle.ansi_items.specs.Scans.{GivesItem, Scan, kind_of, piece_of, piece_of_kind, pieces_left}
 pub use Rattle.ansi_items.specs.Sequences.{IsControlSequence, IsControlString, IsEscapeSequence, IsSequence, after_control_sequence, after_control_string, after_escape, after_escape_sequence, after_one, after_sequence, after_terminator, are_private, is_sgr, sgr_parameters, skip}
 pub use Rattle.ansi_items.specs.declared.ansitok.AnsiColor.{AnsiColor}
 pub use Rattle.ansi_items.specs.declared.ansitok.AnsiColor.TheVariants.{Bit24, Bit4, Bit8}

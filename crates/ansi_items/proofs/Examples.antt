@@ -1,6 +1,6 @@
 -- Worked examples of the definitions, each by computation.
 use Rattle.ansi_items.proofs.Common.{◌≡◌, ℕ, Bool, List, refl, codes, [], ◌∷◌, Some, None, true, false, not, map, filter, replicate, length, repeat, range_with_len, is_parameter_byte, is_intermediate_byte, is_final_byte, is_escape_final_byte, opens_control_sequence, opens_control_string, opens_command, is_body_byte, is_plain_byte, are_private, sgr_parameters, is_sgr, Text, Sequence, LoneEscape, pieces_of, plain, marks, is_whole}
-use Rattle.ansi_items.proofs.Tables.{Makes}
+use Rattle.ansi_items.proofs.Tables.{MakesRows}
 
 -- Classes of bytes: of each what there is among all bytes, and of what differs by the opener of a control string, for each opener.
 
@@ -10,7 +10,7 @@ all_bytes = range_with_len 0 256
 abbrev openers : List ℕ
 openers = codes "PX]^_"
 
-classes_of_bytes : Makes (λ (is : ℕ → Bool). filter is all_bytes) (
+classes_of_bytes : MakesRows (λ (is : ℕ → Bool). filter is all_bytes) (
     (is_parameter_byte, range_with_len 0x30 16)
     ∷ (λ b. are_private (b ∷ []), range_with_len 0x3C 4)
     ∷ (is_intermediate_byte, range_with_len 0x20 16)
@@ -25,14 +25,14 @@ classes_of_bytes : Makes (λ (is : ℕ → Bool). filter is all_bytes) (
 classes_of_bytes = refl
 
 -- what ends a body, what ends the string after an ESC, and what ends it alone
-classes_by_opener : Makes (λ (is : ℕ → ℕ → Bool). map (λ opener. filter (is opener) all_bytes) openers) (
+classes_by_opener : MakesRows (λ (is : ℕ → ℕ → Bool). map (λ opener. filter (is opener) all_bytes) openers) (
     (λ opener b. not (is_body_byte opener b), (0x1B ∷ []) ∷ (0x1B ∷ []) ∷ (0x07 ∷ 0x1B ∷ []) ∷ (0x1B ∷ []) ∷ (0x1B ∷ []) ∷ [])
     ∷ (λ opener b. is_whole (0x1B ∷ opener ∷ 0x1B ∷ b ∷ []), replicate 5 (0x5C ∷ []))
     ∷ (λ opener b. is_whole (0x1B ∷ opener ∷ b ∷ []), [] ∷ [] ∷ (0x07 ∷ []) ∷ [] ∷ [] ∷ [])
     ∷ [])
 classes_by_opener = refl
 
-pieces : Makes pieces_of (
+pieces : MakesRows pieces_of (
     ([], [])
     ∷ (
       codes "\u{1b}Pa\u{1b}\\\u{1b}Xb\u{1b}\\\u{1b}]c\u{1b}\\\u{1b}^d\u{1b}\\\u{1b}_e\u{1b}\\",
@@ -47,7 +47,7 @@ pieces : Makes pieces_of (
     ∷ [])
 pieces = refl
 
-parameters_of_sgrs : Makes sgr_parameters (
+parameters_of_sgrs : MakesRows sgr_parameters (
     (codes "\u{1b}[31m", Some (codes "31"))
     ∷ (codes "\u{1b}[m", Some [])
     ∷ (codes "\u{1b}[>4;2m", None)
@@ -57,7 +57,7 @@ parameters_of_sgrs : Makes sgr_parameters (
     ∷ [])
 parameters_of_sgrs = refl
 
-plain_texts : Makes plain (
+plain_texts : MakesRows plain (
     (codes "\u{1b}[31m", [])
     ∷ (codes "\u{1b}Pa\u{1b}Xb\u{1b}]c\u{1b}^d\u{1b}_e", codes "PaXb]c^d_e")
     ∷ (codes "\u{1b} P\u{1b} X\u{1b} [\u{1b} ]\u{1b} ^\u{1b} _x", codes "x")
@@ -81,7 +81,7 @@ marks_at_their_places : marks (codes "a\u{1b}[1mb\u{1b}]0;t\u{7}\u{1b}")
     ≡ record { place = 1; bytes = codes "\u{1b}[1m" } ∷ record { place = 2; bytes = codes "\u{1b}]0;t\u{7}" } ∷ record { place = 2; bytes = codes "\u{1b}" } ∷ []
 marks_at_their_places = refl
 
-whole_texts : Makes is_whole (
+whole_texts : MakesRows is_whole (
     (codes "\u{1b}(Ba\u{1b}7b", true)
     ∷ (codes "\u{1b}]0;title\u{1b}[31mx", false)
     ∷ (codes "\u{1b}\u{1b}[1mx", false)

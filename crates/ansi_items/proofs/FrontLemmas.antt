@@ -119,8 +119,8 @@ control_at-read t n m final parameters intermediates ends passes =
 -- The code looks at the byte after the parameters.
 
 -- it is no intermediate byte, or there is none
-pub alone : (t : List ℕ) (n b : ℕ) → b ≡ slice_index t n → is_intermediate_byte b ≡ false → 0 ≡ prefix_len is_intermediate_byte (drop n t)
-alone t n b here other = sym (
+pub no_intermediates : (t : List ℕ) (n b : ℕ) → b ≡ slice_index t n → is_intermediate_byte b ≡ false → 0 ≡ prefix_len is_intermediate_byte (drop n t)
+no_intermediates t n b here other = sym (
     ⊎_elim
     (λ inside. prefix_len-drop_no is_intermediate_byte t n 0 inside (ap is_intermediate_byte (sym here) ∙ other))
     (λ past. prefix_len-drop_all is_intermediate_byte t n past)
@@ -143,7 +143,7 @@ control_at-final t n final is_sgr parameters here passes tells =
     let other : is_intermediate_byte final ≡ false = grind (arith, nat_tests) in
     let last : final ≡ slice_index t (n + 0) = here ∙ ap (slice_index t) (omega arith) in
     ap₂ (λ b k. Some (front_of (if b then Sgr else Other) k)) tells (omega arith)
-    ∙ control_at-read t n 0 final parameters (alone t n final here other) last passes
+    ∙ control_at-read t n 0 final parameters (no_intermediates t n final here other) last passes
 
 -- the final byte follows the intermediate ones
 pub control_at-later : (t : List ℕ) (n m final : ℕ) → n ≡ prefix_len is_parameter_byte t → 1 + m ≡ prefix_len is_intermediate_byte (drop n t) → final ≡ slice_index t (n + (1 + m)) → is_final_byte final ≡ true

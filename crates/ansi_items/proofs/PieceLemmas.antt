@@ -2,8 +2,8 @@
 use Rattle.ansi_items.proofs.Common.{◌≡◌, ◌≢◌, ℕ, zero, suc, ◌-◌, ◌≤◌, ◌⊎◌, inl, inr, true, false, ◌==◌, List, [], ◌∷◌, ◌++◌, take, drop, length, Option, Some, None, refl, sym, ◌∙◌, ap, ap₂, subst, arith, one-add, slice_index, length-append, cond-true, cond-false, and_parts, cases_Bool, eqb-true, not-true, not-false, none-some, take-append_seam, take-append-drop, ◌↔◌, list_all, prefix_len, option_map_or, escape, is_plain_byte, IsSequence, after_sequence, skip, Piece, Text, Sequence, LoneEscape, spelling, StandsBefore, ArePieces, text_or_lone, first_piece, first_pieces, pieces_of}
 use Rattle.ansi_items.proofs.SequenceLemmas.{Stops, prefix_len-run, skip-run, all-run, stops-skip, run-skip, after_sequence-whole, after_sequence_found}
 
-pub front_is : (t w rest : List ℕ) → t ≡ w ++ rest → take (length t - length rest) t ≡ w
-front_is t w rest spelled =
+pub take-before_rest : (t w rest : List ℕ) → t ≡ w ++ rest → take (length t - length rest) t ≡ w
+take-before_rest t w rest spelled =
     let len : length t - length rest ≡ length w = omega (arith, ap length spelled ∙ length-append w rest) in
     ap (λ n. take n t) len ∙ ap (take (length w)) spelled ∙ take-append_seam w rest
 
@@ -23,7 +23,7 @@ splits_sequence : (b : ℕ) (bs rest : List ℕ) → after_sequence (b ∷ bs) �
 splits_sequence b bs rest found =
     let begins = after_sequence_found (b ∷ bs) rest found in
     let w = begins.0 in
-    let front = front_is (b ∷ bs) w rest begins.2 in
+    let front = take-before_rest (b ∷ bs) w rest begins.2 in
     let G : List ℕ → Type 0 = λ v. Splits b bs (Sequence v, rest) in
     let escaped = sequence_front w begins.1 in
     let bound : length rest ≤ length bs = omega (arith, ap length (begins.2 ∙ ap (λ v. v ++ rest) escaped.1), length-append escaped.0 rest) in
@@ -108,7 +108,7 @@ first_piece-sequence : (w rest : List ℕ) → IsSequence w → first_piece (w +
 first_piece-sequence w rest whole =
     let t = w ++ rest in
     ap (λ o. option_map_or (λ rest. (Sequence (take (length t - length rest) t), rest)) o (text_or_lone t)) (after_sequence-whole w rest whole)
-    ∙ ap (λ x. (Sequence x, rest)) (front_is t w rest refl)
+    ∙ ap (λ x. (Sequence x, rest)) (take-before_rest t w rest refl)
 
 first_piece-lone : (rest : List ℕ) → StandsBefore LoneEscape rest → first_piece (escape ∷ rest) ≡ (LoneEscape, rest)
 first_piece-lone rest alone =

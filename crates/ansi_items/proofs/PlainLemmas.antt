@@ -10,11 +10,11 @@ all_plain_bytes (b ∷ t) none =
     let parts = or_parts (b == escape) (has_escape t) none in
     and_from _ _ (not_from_false (b == escape) parts.0) (all_plain_bytes t parts.1)
 
-pub no_escape : (t : List ℕ) → list_all is_plain_byte t ≡ true → has_escape t ≡ false
-no_escape [] all = refl
-no_escape (b ∷ t) all =
+pub has_escape-bare : (t : List ℕ) → list_all is_plain_byte t ≡ true → has_escape t ≡ false
+has_escape-bare [] all = refl
+has_escape-bare (b ∷ t) all =
     let parts = and_parts (is_plain_byte b) (list_all is_plain_byte t) all in
-    or_from _ _ (not-true (b == escape) parts.0) (no_escape t parts.1)
+    or_from _ _ (not-true (b == escape) parts.0) (has_escape-bare t parts.1)
 
 -- A text without ESC is one piece, or none.
 
@@ -51,7 +51,7 @@ all_plain t (Text w ∷ ps) are =
 all_plain t (p ∷ ps) are = all_plain are.0 ps are.3
 
 pub has_escape-plain : (t : List ℕ) → has_escape (plain t) ≡ false
-has_escape-plain t = no_escape (plain t) (all_plain t (pieces_of t) (pieces_are t))
+has_escape-plain t = has_escape-bare (plain t) (all_plain t (pieces_of t) (pieces_are t))
 
 pub plain-plain : (t : List ℕ) → plain (plain t) ≡ plain t
 plain-plain t = plain-bare (plain t) (has_escape-plain t)

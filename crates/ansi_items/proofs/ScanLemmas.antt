@@ -1,5 +1,5 @@
 -- One step of a scanner.
-use Rattle.ansi_items.proofs.Common.{◌≡◌, ◌≢◌, ℕ, ◌+◌, ◌-◌, ◌<◌, ◌≤◌, inl, inr, ⊎_elim, true, false, not, ◌==◌, List, [], ◌∷◌, ◌++◌, length, take, drop, slice_index, refl, sym, ◌∙◌, ap, ap₂, subst, arith, if◌then◌else◌, cond-true, cond-false, not-true, eqb-true, cases_Bool, cases_lt, append-nil, drop_more, get_or_at, get_or_past, get_or-drop, length-append, length-drop, length-take-le, append_assoc, take-append-drop, drop-drop, take_rest, prefix_len_passes, prefix_len-le-length, prefix_len-drop_yes, nat_tests, IsCharBoundary-after_ascii, IsCharBoundary-before_ascii, IsCharBoundary-end, IsCharBoundary-from_rest, IsUtf8-drop, slice_range, IsUtf8, IsCharBoundary, byte, Sgr, Other, Item, Front, escape, bell, is_plain_byte, is_final_byte, is_escape_final_byte, IsSequence, is_sgr, Piece, Text, Sequence, LoneEscape, spelling, StandsBefore, first_piece, pieces_of, kind_of, piece_of, piece_of_kind, Gives, front_of, front_at, EndsBy, before_escape}
+use Rattle.ansi_items.proofs.Common.{◌≡◌, ◌≢◌, ℕ, ◌+◌, ◌-◌, ◌<◌, ◌≤◌, inl, inr, ⊎_elim, true, false, not, ◌==◌, List, [], ◌∷◌, ◌++◌, length, take, drop, slice_index, refl, sym, ◌∙◌, ap, ap₂, subst, arith, if◌then◌else◌, cond-true, cond-false, not-true, eqb-true, cases_Bool, cases_lt, append-nil, drop_more, get_or_at, get_or_past, get_or-drop, length-append, length-drop, length-take-le, append_assoc, take-append-drop, drop-drop, take_rest, prefix_len_passes, prefix_len-le-length, prefix_len-drop_yes, nat_tests, IsCharBoundary-after_ascii, IsCharBoundary-before_ascii, IsCharBoundary-end, IsCharBoundary-from_rest, IsUtf8-drop, slice_range, IsUtf8, IsCharBoundary, byte, Sgr, Other, Item, Front, escape, bell, is_plain_byte, is_final_byte, is_escape_final_byte, IsSequence, is_sgr, Piece, Text, Sequence, LoneEscape, spelling, StandsBefore, first_piece, pieces_of, kind_of, piece_of, piece_of_kind, GivesItem, front_of, front_at, EndsBy, before_escape}
 use Rattle.ansi_items.specs.declared.ansitok.Kind.TheVariants.{Text as TextKind}
 use Rattle.ansi_items.proofs.SequenceLemmas.{all-run, prefix_len-run}
 use Rattle.ansi_items.proofs.EscapeLemmas.{at_next}
@@ -184,7 +184,7 @@ module _ (t : List ℕ) (offset place : ℕ) (next : place ≡ offset + 1 + befo
 
 -- What a scanner gives by a step.
 pub step_gives : (t : List ℕ) (offset place : ℕ) (f : Front) → IsCharBoundary t offset → IsStep t offset f → place ≡ offset + f.len
-    → Gives (record { text = t; offset = offset }) (record { kind = f.kind; start = offset; end = place }) (record { text = t; offset = place })
+    → GivesItem (record { text = t; offset = offset }) (record { kind = f.kind; start = offset; end = place }) (record { text = t; offset = place })
 step_gives t offset place f here step e =
-    subst (λ p. Gives (record { text = t; offset = offset }) (record { kind = f.kind; start = offset; end = p }) (record { text = t; offset = p })) (sym e)
+    subst (λ p. GivesItem (record { text = t; offset = offset }) (record { kind = f.kind; start = offset; end = p }) (record { text = t; offset = p })) (sym e)
     (record { text = refl; start = refl; end = refl; forward = omega (arith, step.positive); piece = step.piece; kind = step.kind; bytes = step.bytes; start_boundary = here; end_boundary = step.boundary })

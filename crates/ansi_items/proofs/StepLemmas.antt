@@ -1,5 +1,5 @@
 -- A step of a scanner: over a text, or over a mark, which is a sequence or a lone escape.
-use Rattle.ansi_items.proofs.Common.{rules, ◌≡◌, ◌≢◌, ℕ, Bool, true, false, List, ◌∷◌, drop, refl, sym, ◌∙◌, ap, ap₂, subst, is_some, if◌then◌else◌, sameb, same_true, slice_range, Item, Kind, Sgr, Other, Lone, is_sgr, Piece, Text, Sequence, LoneEscape, spelling, pieces_of, plain_of, mark_of, Scan, Gives, pieces_left, kind_of, piece_of_kind}
+use Rattle.ansi_items.proofs.Common.{rules, ◌≡◌, ◌≢◌, ℕ, Bool, true, false, List, ◌∷◌, drop, refl, sym, ◌∙◌, ap, ap₂, subst, is_some, if◌then◌else◌, sameb, same_true, slice_range, Item, Kind, Sgr, Other, Lone, is_sgr, Piece, Text, Sequence, LoneEscape, spelling, pieces_of, plain_of, mark_of, Scan, GivesItem, pieces_left, kind_of, piece_of_kind}
 use Rattle.ansi_items.specs.contracts.ansitok.Kind.{the_type}
 use Rattle.ansi_items.specs.declared.ansitok.Kind.TheVariants.{Text as TextKind}
 
@@ -8,8 +8,8 @@ abbrev pub is_mark : Piece → Bool
 is_mark p = is_some (mark_of 0 p)
 
 -- by the test that the code makes
-pub is_text : {k : Kind} → true ≡ sameb the_type k TextKind → k ≡ TextKind
-is_text same = same_true the_type (search rules) _ _ (sym same)
+pub kind_is_text : {k : Kind} → true ≡ sameb the_type k TextKind → k ≡ TextKind
+kind_is_text same = same_true the_type (search rules) _ _ (sym same)
 
 -- a mark of this kind, with the bytes w, was the first of the pieces
 pub record BeginsWithMark (kind : Kind) (w : List ℕ) (old new : List Piece) : Type 0 where
@@ -21,7 +21,7 @@ pub record BeginsWithMark (kind : Kind) (w : List ℕ) (old new : List Piece) : 
   pub no_sgr : kind ≢ Sgr → is_sgr w ≡ false
 
 -- the first piece, by the bytes that the code has of it
-first : (old new : Scan) (item : Item) (text w : List ℕ) → Gives old item new → old.text ≡ text → w ≡ slice_range text item.start item.end
+first : (old new : Scan) (item : Item) (text w : List ℕ) → GivesItem old item new → old.text ≡ text → w ≡ slice_range text item.start item.end
     → (pieces_left old ≡ piece_of_kind item.kind w ∷ pieces_left new) × (item.kind ≡ kind_of (piece_of_kind item.kind w)) × (w ≡ spelling (piece_of_kind item.kind w))
 first old new item text w gives same is =
     let bytes : slice_range old.text item.start item.end ≡ w = ap (λ v. slice_range v item.start item.end) same ∙ sym is in (
@@ -30,17 +30,17 @@ first old new item text w gives same is =
       subst (λ v. v ≡ spelling (piece_of_kind item.kind v)) bytes gives.bytes,
     )
 
-pub gives_text : {old new : Scan} {item : Item} {text w : List ℕ} → Gives old item new → old.text ≡ text → w ≡ slice_range text item.start item.end
+pub gives_text : {old new : Scan} {item : Item} {text w : List ℕ} → GivesItem old item new → old.text ≡ text → w ≡ slice_range text item.start item.end
     → item.kind ≡ TextKind → pieces_left old ≡ Text w ∷ pieces_left new
 gives_text {old} {new} {item} {text} {w} gives same is kind =
     subst (λ k. pieces_left old ≡ piece_of_kind k w ∷ pieces_left new) kind (first old new item text w gives same is).0
 
 -- what stands after the item has the pieces that are left
-pub gives_rest : {old new : Scan} {item : Item} {text v : List ℕ} → Gives old item new → old.text ≡ text → v ≡ drop item.end text → pieces_of v ≡ pieces_left new
+pub gives_rest : {old new : Scan} {item : Item} {text v : List ℕ} → GivesItem old item new → old.text ≡ text → v ≡ drop item.end text → pieces_of v ≡ pieces_left new
 gives_rest {old} {new} {item} {text} {v} gives same is =
     ap pieces_of is ∙ ap₂ (λ n t. pieces_of (drop n t)) gives.end (sym (gives.text ∙ same))
 
-pub gives_mark : {old new : Scan} {item : Item} {text w : List ℕ} → Gives old item new → old.text ≡ text → w ≡ slice_range text item.start item.end
+pub gives_mark : {old new : Scan} {item : Item} {text w : List ℕ} → GivesItem old item new → old.text ≡ text → w ≡ slice_range text item.start item.end
     → item.kind ≢ TextKind → BeginsWithMark item.kind w (pieces_left old) (pieces_left new)
 gives_mark {old} {new} {item} {text} {w} gives same is other =
     let piece = first old new item text w gives same is in

@@ -5,8 +5,8 @@ use Rattle.std.specs.Str.{encode_utf8_all}
 use Prim.Native.String.{String}
 
 -- f makes of the first of each row the second
-abbrev pub Makes : {A B : Type 0} → (A → B) → List (A × B) → Type 0
-Makes {A} {B} f rows = map (λ (row : A × B). f row.0) rows ≡ map (λ (row : A × B). row.1) rows
+abbrev pub MakesRows : {A B : Type 0} → (A → B) → List (A × B) → Type 0
+MakesRows {A} {B} f rows = map (λ (row : A × B). f row.0) rows ≡ map (λ (row : A × B). row.1) rows
 
 -- the bytes of a text
 abbrev pub utf8 : String → List ℕ

@@ -24,13 +24,13 @@ pub record Placed : Type 0 where
   pub piece : Piece
 
 -- n plain bytes more stand before it
-abbrev pub moved : ℕ → Placed → Placed
-moved n p = record p { place = n + p.place }
+abbrev pub placed_further_on : ℕ → Placed → Placed
+placed_further_on n p = record p { place = n + p.place }
 
 -- each piece at its place
 abbrev pub places : List Piece → List Placed
 places [] = []
-places (p ∷ ps) = record { place = 0; piece = p } ∷ map (moved (length (plain_bytes p))) (places ps)
+places (p ∷ ps) = record { place = 0; piece = p } ∷ map (placed_further_on (length (plain_bytes p))) (places ps)
 
 -- a mark is a sequence or a lone escape at its place: how many plain bytes stand before it, and its bytes
 pub record Mark : Type 0 where
@@ -51,12 +51,12 @@ abbrev pub marks : List ℕ → List Mark
 marks t = marks_of (pieces_of t)
 
 -- the marks at the place i, in order
-abbrev pub at_place : ℕ → List Mark → List Mark
-at_place i ms = filter (λ m. m.place == i) ms
+abbrev pub marks_at : ℕ → List Mark → List Mark
+marks_at i ms = filter (λ m. m.place == i) ms
 
 -- the marks at places up to i
-abbrev pub up_to : ℕ → List Mark → List Mark
-up_to i ms = filter (λ m. nat_le m.place i) ms
+abbrev pub marks_up_to : ℕ → List Mark → List Mark
+marks_up_to i ms = filter (λ m. nat_le m.place i) ms
 
 -- the bytes of marks in a row
 abbrev pub joined : List Mark → List ℕ

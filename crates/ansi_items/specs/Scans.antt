@@ -35,7 +35,7 @@ piece_of t item = piece_of_kind item.kind (slice_range t item.start item.end)
 
 -- A scanner gave an item: the first of the pieces that it had left, by its kind and its bytes, from the scanner's old offset up
 -- to its new one. Both are character boundaries.
-pub record Gives (old : Scan) (item : Item) (new : Scan) : Type 0 where
+pub record GivesItem (old : Scan) (item : Item) (new : Scan) : Type 0 where
   pub text : new.text ≡ old.text
   pub start : item.start ≡ old.offset
   pub end : item.end ≡ new.offset
@@ -49,4 +49,4 @@ pub record Gives (old : Scan) (item : Item) (new : Scan) : Type 0 where
 -- one call of `next`: an item, or None at the end of the text, when nothing is left and nothing changes
 abbrev pub Scans : Scan → Option Item → Scan → Type 0
 Scans old None new = (new ≡ old) × (old.offset ≡ length old.text) × (pieces_left old ≡ [])
-Scans old (Some item) new = Gives old item new
+Scans old (Some item) new = GivesItem old item new

@@ -12,8 +12,8 @@ abbrev pub writer_of : {W : Type 0} → HostOut W → W
 writer_of device = device.writer
 
 -- a sink has passed on what its writer holds if its last call was a flush that succeeded; otherwise it doesn't report what it has passed on
-abbrev pub passed_by : {W : Type 0} → (W → Option (List ℕ)) → HostOut W → Option (List ℕ)
-passed_by contents device = if device.passed then contents (writer_of device) else None
+abbrev pub flushed_by : {W : Type 0} → (W → Option (List ℕ)) → HostOut W → Option (List ℕ)
+flushed_by contents device = if device.flushed then contents (writer_of device) else None
 
 -- a fresh source has its reader, and made no read; so no read was interrupted or failed
 pub record IsFreshSource {R : Type 0} (reader : R) (device : HostIn R) : Type 0 where
@@ -26,5 +26,5 @@ pub record IsFreshSource {R : Type 0} (reader : R) (device : HostIn R) : Type 0 
 pub record IsFreshSink {W : Type 0} (writer : W) (device : HostOut W) : Type 0 where
   pub same_writer : writer_of device ≡ writer
   pub unflushed : device.flushes ≡ 0
-  pub untold : (contents : W → Option (List ℕ)) → passed_by contents device ≡ None
+  pub untold : (contents : W → Option (List ℕ)) → flushed_by contents device ≡ None
   pub unfailed : device.failed ≡ false

@@ -1,7 +1,7 @@
 pub mod Devices
+pub mod Writers
+pub mod Reading
+pub mod Stops
 pub mod Hosts
 pub mod PageStates
 pub mod Pages
-pub mod Reading
-pub mod Stops
-pub mod Writers

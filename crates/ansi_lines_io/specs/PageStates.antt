@@ -6,7 +6,7 @@ use Rattle.ansi_lines_io.specs.declared.page.Outcome.{Outcome}
 pub record PageState : Type 0 where
   pub bytes : List ℕ
   pub read : ℕ
-  pub passed : ℕ
+  pub flushed : ℕ
   pub reads : ℕ
   pub flushes : ℕ
   pub room : ℕ

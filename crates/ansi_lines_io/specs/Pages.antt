@@ -15,7 +15,7 @@ abbrev pub fresh_page : List ℕ → ℕ → PageState
 fresh_page bytes room = record {
   bytes = bytes;
   read = 0;
-  passed = 0;
+  flushed = 0;
   reads = 0;
   flushes = 0;
   room = room;
@@ -79,7 +79,7 @@ page_after_write page more result = record page {
 -- a flush that succeeds passes on all of the page's bytes
 abbrev pub page_after_flush : PageState → Result (Unit {0}) WriteFault → PageState
 page_after_flush page result = record page {
-  passed = if is_ok result then length page.bytes else page.passed;
+  flushed = if is_ok result then length page.bytes else page.flushed;
   flushes = count_after page.flushes 1;
   schedule = drop 1 page.schedule;
   failed = page.failed || is_err result;

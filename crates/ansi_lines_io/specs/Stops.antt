@@ -16,9 +16,9 @@ abbrev pub refusal : ℕ → List ℕ
 refusal line = codes "line " ++ decimal line ++ codes ": refused\n"
 
 -- each reason to end early has a text of its own, which is one line
-abbrev pub text_of : Stop → List ℕ
-text_of (Refused line) = refusal line
-text_of BadWords = codes "bad words\n"
-text_of BadInput = codes "bad input\n"
-text_of WriteFailed = codes "write failed\n"
-text_of OutOfMemory = codes "out of memory\n"
+abbrev pub message_of_stop : Stop → List ℕ
+message_of_stop (Refused line) = refusal line
+message_of_stop BadWords = codes "bad words\n"
+message_of_stop BadInput = codes "bad input\n"
+message_of_stop WriteFailed = codes "write failed\n"
+message_of_stop OutOfMemory = codes "out of memory\n"

@@ -66,7 +66,7 @@ pub trait Sink {
     ghost taken: { Self → Option (List ℕ) };
 
     /// The bytes that it has passed on, if it reports them.
-    ghost passed: { Self → Option (List ℕ) };
+    ghost flushed: { Self → Option (List ℕ) };
 
     /// How often `flush` was called, counted up to `u32::MAX`.
     ghost flushes: { Self → ℕ };
@@ -85,7 +85,7 @@ pub trait Sink {
     /// Passes on all that it has taken.
     fn flush(&mut self) -> Result<(), WriteFault>
         ensures taken { OnOk result (taken self.new ≡ taken self.old) }
-        ensures passed { OnOk result (passed self.new ≡ taken self.new) }
+        ensures flushed { OnOk result (flushed self.new ≡ taken self.new) }
         ensures flushes { flushes self.new ≡ count_after (flushes self.old) 1 }
         ensures failed { failed self.new ≡ (failed self.old || is_err result) };
 }

@@ -3,7 +3,7 @@
 ghost use Rattle.std.specs.Prelude.{◌≡◌, ◌≤◌, ◌||◌, None, length, is_err, is_some, refl, IfOk, OnErr, OnOk};
 ghost use Rattle.std.specs.Io.KnownBytes.{append_known, Appends, Keeps, ReadConsumes};
 ghost use Rattle.ansi_lines_io.specs.Devices.{Reads, count_after, was_interrupted, was_failed};
-ghost use Rattle.ansi_lines_io.specs.Hosts.{reader_of, writer_of, passed_by, IsFreshSource, IsFreshSink};
+ghost use Rattle.ansi_lines_io.specs.Hosts.{reader_of, writer_of, flushed_by, IsFreshSource, IsFreshSink};
 ghost use Rattle.ansi_lines_io.specs.Writers.{buffered_tell_alike};
 
 use crate::devices::{ReadFault, Sink, Source, WriteFault};
@@ -97,7 +97,7 @@ pub struct HostOut<W> {
     writer: W,
     flushes: u32,
     // Whether the writer has passed on all that it has taken.
-    passed: bool,
+    flushed: bool,
     failed: bool,
 }
 
@@ -109,7 +109,7 @@ impl<W: Write> HostOut<W> {
         HostOut {
             writer,
             flushes: 0,
-            passed: false,
+            flushed: false,
             failed: false,
         }
     }
@@ -120,7 +120,7 @@ impl<W: Write> HostOut<W> {
 impl<W: SteadyWrite> Sink for HostOut<W> {
     ghost taken = { λ device. W.contents (writer_of device) };
 
-    ghost passed = { λ device. passed_by W.contents device };
+    ghost flushed = { λ device. flushed_by W.contents device };
 
     ghost flushes = { λ device. device.flushes };
 
@@ -130,10 +130,10 @@ impl<W: SteadyWrite> Sink for HostOut<W> {
         ensures taken { OnOk result (W.contents (writer_of self.new) ≡ append_known (W.contents (writer_of self.old)) bytes.now) }
         ensures flushes { self.new.flushes ≡ self.old.flushes }
         ensures failed { self.new.failed ≡ (self.old.failed || is_err result) }
-        ensures untold { passed_by W.contents self.new ≡ None }
+        ensures untold { flushed_by W.contents self.new ≡ None }
         ensures writer { OnOk result (Appends (W.contents (writer_of self.old)) (W.contents (writer_of self.new)) bytes.now) }
     {
-        self.passed = false;
+        self.flushed = false;
         match self.writer.write_all(bytes) {
             Ok(()) => Ok(()),
             Err(_) => {
@@ -145,15 +145,15 @@ impl<W: SteadyWrite> Sink for HostOut<W> {
 
     fn flush(&mut self) -> Result<(), WriteFault>
         ensures taken { OnOk result (W.contents (writer_of self.new) ≡ W.contents (writer_of self.old)) }
-        ensures passed { OnOk result (passed_by W.contents self.new ≡ W.contents (writer_of self.new)) }
+        ensures flushed { OnOk result (flushed_by W.contents self.new ≡ W.contents (writer_of self.new)) }
         ensures flushes { self.new.flushes ≡ count_after self.old.flushes 1 }
         ensures failed { self.new.failed ≡ (self.old.failed || is_err result) }
-        ensures untold { OnErr result (passed_by W.contents self.new ≡ None) }
+        ensures untold { OnErr result (flushed_by W.contents self.new ≡ None) }
         ensures writer { Keeps (W.contents (writer_of self.old)) (W.contents (writer_of self.new)) }
     {
         self.flushes = self.flushes.saturating_add(1);
-        self.passed = self.writer.flush().is_ok();
-        if self.passed {
+        self.flushed = self.writer.flush().is_ok();
+        if self.flushed {
             return Ok(());
         }
         self.failed = true;

@@ -36,7 +36,7 @@ pub enum Outcome {
 pub struct Page {
     bytes: Vec<u8>,
     read: usize,
-    passed: usize,
+    flushed: usize,
     reads: u32,
     flushes: u32,
     room: usize,
@@ -55,7 +55,7 @@ impl Model for Page {
     ghost view = { λ page. record {
       bytes = page.bytes.items;
       read = page.read;
-      passed = page.passed;
+      flushed = page.flushed;
       reads = page.reads;
       flushes = page.flushes;
       room = page.room;
@@ -77,7 +77,7 @@ impl Page {
         Page {
             bytes,
             read: 0,
-            passed: 0,
+            flushed: 0,
             reads: 0,
             flushes: 0,
             room,
@@ -95,7 +95,7 @@ impl Page {
         Ok(Page {
             bytes: Vec::with_capacity(alloc, room)?,
             read: 0,
-            passed: 0,
+            flushed: 0,
             reads: 0,
             flushes: 0,
             room,
@@ -130,10 +130,10 @@ impl Page {
     }
 
     /// How many of its bytes a flush has passed on.
-    pub fn passed(&self) -> usize
-        ensures { result ≡ self.now.passed }
+    pub fn flushed(&self) -> usize
+        ensures { result ≡ self.now.flushed }
     {
-        self.passed
+        self.flushed
     }
 
     /// How many outcomes are left on the schedule.
@@ -213,7 +213,7 @@ impl Sink for Page {
 
     ghost taken = { λ page. Some page.bytes };
 
-    ghost passed = { λ page. Some (take page.passed page.bytes) };
+    ghost flushed = { λ page. Some (take page.flushed page.bytes) };
 
     ghost flushes = { λ page. page.flushes };
 
@@ -237,7 +237,7 @@ impl Sink for Page {
 
     fn flush(&mut self) -> Result<(), WriteFault>
         ensures taken { OnOk result (Some self.new.bytes ≡ Some self.old.bytes) }
-        ensures passed { OnOk result (Some (take self.new.passed self.new.bytes) ≡ Some self.new.bytes) }
+        ensures flushed { OnOk result (Some (take self.new.flushed self.new.bytes) ≡ Some self.new.bytes) }
         ensures flushes { self.new.flushes ≡ count_after self.old.flushes 1 }
         ensures failed { self.new.failed ≡ (self.old.failed || is_err result) }
         ensures outcome { result ≡ flush_comes_to (next_outcome self.old) }
@@ -245,7 +245,7 @@ impl Sink for Page {
     {
         self.flushes = self.flushes.saturating_add(1);
         if self.take_outcome() == Outcome::Works {
-            self.passed = self.bytes.len();
+            self.flushed = self.bytes.len();
             return Ok(());
         }
         self.failed = true;

@@ -2,7 +2,7 @@
 ghost use Rattle.std.specs.Prelude.{◌≡◌, ◌||◌, true, false, OnErr, OnOk};
 ghost use Rattle.std.specs.Io.KnownBytes.{append_known};
 ghost use Rattle.ansi_lines_io.specs.declared.stop.Stop.TheVariants.{OutOfMemory, WriteFailed};
-ghost use Rattle.ansi_lines_io.specs.Stops.{status_of, text_of};
+ghost use Rattle.ansi_lines_io.specs.Stops.{status_of, message_of_stop};
 
 use crate::devices::{Sink, WriteFault};
 use itoa::Buffer;
@@ -42,7 +42,7 @@ impl Stop {
     pub fn tell<V: Sink>(self, faults: &mut V) -> u8
         ensures status { result ≡ status_of self }
         ensures told { V.failed faults.new ≡ false →
-            V.taken faults.new ≡ append_known (V.taken faults.old) (text_of self) }
+            V.taken faults.new ≡ append_known (V.taken faults.old) (message_of_stop self) }
         ensures flushes { V.flushes faults.new ≡ V.flushes faults.old }
     {
         let _ = self.write_line(faults);
@@ -51,7 +51,7 @@ impl Stop {
 
     // Writes its text, which is one line.
     fn write_line<V: Sink>(self, faults: &mut V) -> Result<(), WriteFault>
-        ensures told { OnOk result (V.taken faults.new ≡ append_known (V.taken faults.old) (text_of self)) }
+        ensures told { OnOk result (V.taken faults.new ≡ append_known (V.taken faults.old) (message_of_stop self)) }
         ensures flushes { V.flushes faults.new ≡ V.flushes faults.old }
         ensures failed { OnErr result (V.failed faults.new ≡ true) }
     {

@@ -12,29 +12,29 @@ use Rattle.std.proofs.lemmas.Str.Parse.{parse_plain, numerals_by_value, tells_al
 use Rattle.std.proofs.lemmas.List.{drop_more}
 use Rattle.ansi_lines_runs.specs.Runs.{words_of}
 use Rattle.ansi_str.specs.Changes.{Change}
-use Rattle.ansi_lines_runs.specs.Words.{Stripped, number_of, change_asked, changes_asked, work_asked}
+use Rattle.ansi_lines_runs.specs.Words.{Stripped, field_number, change_asked, changes_asked, work_asked}
 
 -- the bytes are one or more digits, and their value fits
 abbrev is_number : List ℕ → Bool
 is_number t = nat_lt 0 (length t) && (all_ascii_digits t && nat_lt (digits_value 10 t) (2 ^ 64))
 
-number_of-read : {E : Type 0} (t : List ℕ) (r : Result ℕ E) → OkIff r ((all_ascii_digits t ≡ true) × (0 < length t) × (digits_value 10 t < 2 ^ 64)) (digits_value 10 t) → result_ok r ≡ number_of t
-number_of-read t (Ok n) (is, value) =
+field_number-read : {E : Type 0} (t : List ℕ) (r : Result ℕ E) → OkIff r ((all_ascii_digits t ≡ true) × (0 < length t) × (digits_value 10 t < 2 ^ 64)) (digits_value 10 t) → result_ok r ≡ field_number t
+field_number-read t (Ok n) (is, value) =
     ap Some value ∙ sym (cond-true (is_number t) _ _ (and_from _ _ (lt-ltb 0 (length t) is.1) (and_from _ _ is.0 (lt-ltb (digits_value 10 t) (2 ^ 64) is.2))))
-number_of-read t (Err e) none = elim (cases_Bool (is_number t)) [
+field_number-read t (Err e) none = elim (cases_Bool (is_number t)) [
   | inl is ↦ (let three = and_parts (nat_lt 0 (length t)) _ is in let two = and_parts (all_ascii_digits t) _ three.1 in
       absurd (none (two.0, ltb-true 0 (length t) three.0, ltb-true (digits_value 10 t) (2 ^ 64) two.1)))
   | inr isnt ↦ sym (cond-false (is_number t) _ _ isnt)
 ]
 
 -- std reads a field as its number, if no plus is in front
-pub number_of-parsed : {E : Type 0} (t : List ℕ) (r : Result ℕ E) → slice_index t 0 ≢ byte "+" → ParsesUnsigned 64 10 t r → result_ok r ≡ number_of t
-number_of-parsed t r plain parsed = number_of-read t r (parse_plain (numerals_by_value _ tells_all_ascii_digits) 64 t r parsed plain)
+pub field_number-parsed : {E : Type 0} (t : List ℕ) (r : Result ℕ E) → slice_index t 0 ≢ byte "+" → ParsesUnsigned 64 10 t r → result_ok r ≡ field_number t
+field_number-parsed t r plain parsed = field_number-read t r (parse_plain (numerals_by_value _ tells_all_ascii_digits) 64 t r parsed plain)
 
 -- a field with a plus in front isn't a number
-pub number_of-signed : (t : List ℕ) → slice_index t 0 ≡ byte "+" → number_of t ≡ None
-number_of-signed [] plus = refl
-number_of-signed (c ∷ cs) plus = elim (cases_Bool (is_number (c ∷ cs))) [
+pub field_number-signed : (t : List ℕ) → slice_index t 0 ≡ byte "+" → field_number t ≡ None
+field_number-signed [] plus = refl
+field_number-signed (c ∷ cs) plus = elim (cases_Bool (is_number (c ∷ cs))) [
   | inl is ↦ absurd (false≢true (sym (ap (λ b. is_ascii_digit b && all_ascii_digits cs) plus) ∙ (and_parts (all_ascii_digits (c ∷ cs)) _ (and_parts (nat_lt 0 (length (c ∷ cs))) _ is).1).0))
   | inr isnt ↦ cond-false (is_number (c ∷ cs)) _ _ isnt
 ]

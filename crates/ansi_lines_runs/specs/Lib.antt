@@ -1,4 +1,4 @@
-pub mod Jobs
+pub mod Words
 pub mod Lines
 pub mod Runs
-pub mod Words
+pub mod Jobs

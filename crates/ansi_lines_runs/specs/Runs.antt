@@ -44,8 +44,8 @@ IfAnswered (Err WriteFailed) Fact = ⊤
 IfAnswered (Err OutOfMemory) Fact = ⊤
 
 -- each status from 2 to 5 has a text of its own
-abbrev pub told : ℕ → List ℕ
-told status =
+abbrev pub message_of_status : ℕ → List ℕ
+message_of_status status =
     if status == 2 then codes "bad words\n"
     else if status == 3 then codes "bad input\n"
     else if status == 4 then codes "write failed\n"

@@ -20,30 +20,30 @@ abbrev pub at_colon : List ℕ → Option (List ℕ × List ℕ)
 at_colon text = option_map (λ i. (take i text, drop (i + 1) text)) (position is_colon text)
 
 -- a field is a number if it is one or more digits, leading zeros allowed, and its value fits usize
-abbrev pub number_of : List ℕ → Option ℕ
-number_of field =
+abbrev pub field_number : List ℕ → Option ℕ
+field_number field =
     if nat_lt 0 (length field) && (all_ascii_digits field && nat_lt (digits_value 10 field) (2 ^ 64))
     then Some (digits_value 10 field) else None
 
 -- an end is a number, or empty for no end
 abbrev pub end_of : List ℕ → Option (Option ℕ)
 end_of [] = Some None
-end_of (digit ∷ more) = option_map Some (number_of (digit ∷ more))
+end_of (digit ∷ more) = option_map Some (field_number (digit ∷ more))
 
 -- a cut has a start and an end, with a colon between them
 abbrev pub cut_of : List ℕ → Option Change
-cut_of fields = option_and_then (λ (f : List ℕ × List ℕ). option_and_then (λ start. option_map (CutRange start) (end_of f.1)) (number_of f.0)) (at_colon fields)
+cut_of fields = option_and_then (λ (f : List ℕ × List ℕ). option_and_then (λ start. option_map (CutRange start) (end_of f.1)) (field_number f.0)) (at_colon fields)
 
 -- a part has an index and, after a colon, any pattern
 abbrev pub part_of : List ℕ → Option Change
-part_of fields = option_and_then (λ (f : List ℕ × List ℕ). option_map (PartOf f.1) (number_of f.0)) (at_colon fields)
+part_of fields = option_and_then (λ (f : List ℕ × List ℕ). option_map (PartOf f.1) (field_number f.0)) (at_colon fields)
 
 -- what a name asks for, with the field after its colon
 abbrev pub change_named : List ℕ → List ℕ → Option Change
 change_named name field =
     if bytes_eq name (codes "cut") then cut_of field
-    else if bytes_eq name (codes "left") then option_map LeftOf (number_of field)
-    else if bytes_eq name (codes "right") then option_map RightOf (number_of field)
+    else if bytes_eq name (codes "left") then option_map LeftOf (field_number field)
+    else if bytes_eq name (codes "right") then option_map RightOf (field_number field)
     else if bytes_eq name (codes "part") then part_of field
     else if bytes_eq name (codes "prefix") then Some (WithoutPrefix field)
     else if bytes_eq name (codes "suffix") then Some (WithoutSuffix field)

@@ -36,7 +36,7 @@ pub fn write_lines<A: Allocator + Copy, W: Sink>(
 {
     let mut rest = text;
     let mut number = 1;
-    while let Some((line, ended, more)) = first_line(rest) {
+    while let Some((line, ended, more)) = split_first_line(rest) {
         if !write_answer(alloc, job, line, output)? {
             return Ok(Some(number));
         }
@@ -51,7 +51,7 @@ pub fn write_lines<A: Allocator + Copy, W: Sink>(
 
 // The text of the first line, whether a line feed ends it, and the text after it. An empty text
 // has no line.
-fn first_line(text: &str) -> Option<(&str, bool, &str)>
+fn split_first_line(text: &str) -> Option<(&str, bool, &str)>
     ensures none { IfNone result (lines text.now ≡ []) }
     ensures first { IfSome result (λ line. HasFirstLine text.now line.0.now line.1 line.2.now) }
     ensures shorter { IfSome result (λ line. length line.2.now < length text.now) }

@@ -4,7 +4,7 @@ ghost use Rattle.std.specs.Io.KnownBytes.{append_known};
 ghost use Rattle.ansi_lines_io.specs.Devices.{count_after};
 ghost use Rattle.ansi_lines_runs.specs.Lines.{WritesBeginning};
 ghost use Rattle.ansi_lines_io.specs.Reading.{max_reads, IsBadInput, IsGivenUp, IsRead, IsUnfit};
-ghost use Rattle.ansi_lines_runs.specs.Runs.{AreBadWords, AreGoodWords, IfAnswered, MatchesWords, output_of, refused_line, told, words_of};
+ghost use Rattle.ansi_lines_runs.specs.Runs.{AreBadWords, AreGoodWords, IfAnswered, MatchesWords, output_of, refused_line, message_of_status, words_of};
 ghost use Rattle.ansi_lines_io.specs.Stops.{refusal};
 
 use crate::lines::write_lines;
@@ -38,7 +38,7 @@ pub fn prepare<W: Drop, V: Sink>(
     ensures no_output { IsOk words → IsErr output → result ≡ Err 5 }
     ensures quiet { IsOk result → faults.new ≡ faults.old }
     ensures told { IfErr result (λ status. V.failed faults.new ≡ false →
-        V.taken faults.new ≡ append_known (V.taken faults.old) (told status)) }
+        V.taken faults.new ≡ append_known (V.taken faults.old) (message_of_status status)) }
     ensures faults_unflushed { V.flushes faults.new ≡ V.flushes faults.old }
 {
     let Ok(words) = words else {
@@ -89,7 +89,7 @@ pub fn run<A: Allocator, S: Source, W: Sink, V: Sink>(
     // All that the words make of the input, up to a refused line, is written and passed on.
     ensures done { result ≤ 1 → IfSome (S.left input.old) (λ bytes.
         W.taken output.new ≡ append_known (W.taken output.old) (output_of (words_of words.now) bytes)) }
-    ensures passed { result ≤ 1 → W.passed output.new ≡ W.taken output.new }
+    ensures flushed { result ≤ 1 → W.flushed output.new ≡ W.taken output.new }
     ensures none_refused { result ≡ 0 → IfSome (S.left input.old) (λ bytes.
         IsNone (refused_line (words_of words.now) bytes)) }
     ensures refused { result ≡ 1 → IfSome (S.left input.old) (λ bytes.
@@ -134,7 +134,7 @@ pub fn run<A: Allocator, S: Source, W: Sink, V: Sink>(
     // The reason that ends a run early is reported, and nothing else is.
     ensures quiet { result ≡ 0 → faults.new ≡ faults.old }
     ensures told { 2 ≤ result → V.failed faults.new ≡ false →
-        V.taken faults.new ≡ append_known (V.taken faults.old) (told result) }
+        V.taken faults.new ≡ append_known (V.taken faults.old) (message_of_status result) }
     ensures told_line { result ≡ 1 → V.failed faults.new ≡ false → IfSome (S.left input.old) (λ bytes.
         IfSome (refused_line (words_of words.now) bytes) (λ line.
         V.taken faults.new ≡ append_known (V.taken faults.old) (refusal line))) }
@@ -155,8 +155,8 @@ fn perform<A: Allocator, S: Source, W: Sink>(
     // All that the words make of the input, up to a refused line.
     ensures done { IfAnswered result (λ _. IfSome (S.left input.old) (λ bytes.
         W.taken output.new ≡ append_known (W.taken output.old) (output_of (words_of words.now) bytes))) }
-    ensures passed { IfAnswered result (λ _.
-        (W.passed output.new ≡ W.taken output.new)
+    ensures flushed { IfAnswered result (λ _.
+        (W.flushed output.new ≡ W.taken output.new)
         × (W.failed output.new ≡ W.failed output.old)
         × (W.flushes output.new ≡ count_after (W.flushes output.old) 1)) }
     ensures refused { IfAnswered result (λ line. IfSome (S.left input.old) (λ bytes.

@@ -4,7 +4,7 @@ ghost use Rattle.std.specs.Option.{option_map};
 ghost use Rattle.ansi_str.specs.Edits.{change_of};
 ghost use Rattle.ansi_lines_runs.specs.Jobs.{work_of};
 ghost use Rattle.ansi_lines_runs.specs.Runs.{words_of};
-ghost use Rattle.ansi_lines_runs.specs.Words.{Changed, change_asked, change_named, changes_asked, cut_of, end_of, number_of, part_of, work_asked};
+ghost use Rattle.ansi_lines_runs.specs.Words.{Changed, change_asked, change_named, changes_asked, cut_of, end_of, field_number, part_of, work_asked};
 
 use ansi_str::Edit;
 use std::alloc::{AllocError, Allocator};
@@ -115,7 +115,7 @@ fn parse_end(field: &str) -> Option<Option<usize>>
 // The number that a field writes in digits, if it fits `usize`. std also accepts a plus in front,
 // which isn't allowed here.
 fn parse_number(field: &str) -> Option<usize>
-    ensures { result ≡ number_of field.now }
+    ensures { result ≡ field_number field.now }
 {
     if field.starts_with('+') {
         return None;

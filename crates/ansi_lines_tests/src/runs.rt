@@ -61,7 +61,7 @@ struct Ran {
     output: Vec<u8>,
     faults: Vec<u8>,
     // How many bytes the output has passed on.
-    passed: usize,
+    flushed: usize,
     // How many outcomes are left of each device.
     input_left: usize,
     output_left: usize,
@@ -74,7 +74,7 @@ impl Ran {
             status,
             output: pages.output.bytes().to_vec(alloc)?,
             faults: pages.faults.bytes().to_vec(alloc)?,
-            passed: pages.output.passed(),
+            flushed: pages.output.flushed(),
             input_left: pages.input.outcomes_left(),
             output_left: pages.output.outcomes_left(),
             faults_left: pages.faults.outcomes_left(),

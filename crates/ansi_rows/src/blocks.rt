@@ -1,6 +1,6 @@
 //! The results of calls on blocks and their styles.
 use crate::calls::BlockCall;
-use crate::said::Trial;
+use crate::check::Check;
 use ansi_str::{AnsiBlock, AnsiBlockIter, Color, Style, get_blocks};
 use refusing::Refusing;
 use std::alloc::{AllocError, Global};
@@ -59,87 +59,87 @@ fn attributes(style: &Style) -> u32 {
     attributes
 }
 
-fn say_style(trial: &mut Trial<'_>, style: &Style) {
-    let alloc = trial.alloc;
-    trial.written(attributes(style).to_string(alloc));
-    trial.written(color_text(alloc, style.foreground()));
-    trial.written(color_text(alloc, style.background()));
+fn check_style(check: &mut Check<'_>, style: &Style) {
+    let alloc = check.alloc;
+    check.written(attributes(style).to_string(alloc));
+    check.written(color_text(alloc, style.foreground()));
+    check.written(color_text(alloc, style.background()));
 }
 
 /// Checks that a clone equals the block, and that it allocates exactly if the block isn't a borrow.
-fn say_clone(trial: &mut Trial<'_>, heap: &Heap, block: &AnsiBlock<'_, &Heap>, is_borrow: bool) {
+fn check_clone(check: &mut Check<'_>, heap: &Heap, block: &AnsiBlock<'_, &Heap>, is_borrow: bool) {
     let before = heap.requests();
     match block.clone() {
-        Err(_) => trial.is_err = true,
-        Ok(clone) if clone != *block => trial.refute("another clone"),
+        Err(_) => check.is_err = true,
+        Ok(clone) if clone != *block => check.fail("another clone"),
         Ok(_) => {}
     }
     if (heap.requests() == before) != is_borrow {
-        trial.refute("memory for a clone");
+        check.fail("memory for a clone");
     }
 }
 
 /// Checks a block, after an attempt to clone it that may be refused.
-fn say_block(trial: &mut Trial<'_>, heap: &Heap, block: &AnsiBlock<'_, &Heap>, is_borrow: bool) {
-    say_clone(trial, heap, block, is_borrow);
-    trial.borrow(is_borrow);
-    if !trial.row.is_count {
-        trial.text(block.text());
-        say_style(trial, block.style());
-        trial.text(if block.has_ansi() { "1" } else { "0" });
+fn check_block(check: &mut Check<'_>, heap: &Heap, block: &AnsiBlock<'_, &Heap>, is_borrow: bool) {
+    check_clone(check, heap, block, is_borrow);
+    check.borrow(is_borrow);
+    if !check.row.is_count {
+        check.text(block.text());
+        check_style(check, block.style());
+        check.text(if block.has_ansi() { "1" } else { "0" });
     }
 }
 
 /// Checks the next block and its clone. A block that `next` didn't allocate for counts as a borrow.
 /// Returns whether there was a block; an `Err` counts as none.
-fn say_next(trial: &mut Trial<'_>, heap: &Heap, blocks: &mut AnsiBlockIter<'_, &Heap>) -> bool {
+fn check_next(check: &mut Check<'_>, heap: &Heap, blocks: &mut AnsiBlockIter<'_, &Heap>) -> bool {
     let before = heap.requests();
     match blocks.next() {
         None => false,
         Some(Err(_)) => {
-            trial.is_err = true;
+            check.is_err = true;
             false
         }
         Some(Ok(block)) => {
             let is_borrow = heap.requests() == before;
-            say_block(trial, heap, &block, is_borrow);
+            check_block(check, heap, &block, is_borrow);
             true
         }
     }
 }
 
-fn expect_end(trial: &mut Trial<'_>, blocks: &mut AnsiBlockIter<'_, &Heap>) {
+fn expect_end(check: &mut Check<'_>, blocks: &mut AnsiBlockIter<'_, &Heap>) {
     for _ in 0..3 {
         if blocks.next().is_some() {
-            trial.refute("a block after the end");
+            check.fail("a block after the end");
         }
     }
 }
 
 /// Checks all blocks, or their number. After an `Err`, and after the last block, no block follows.
-pub fn say_blocks(trial: &mut Trial<'_>, heap: &Heap) {
-    let mut blocks = get_blocks(heap, trial.row.text);
+pub fn check_blocks(check: &mut Check<'_>, heap: &Heap) {
+    let mut blocks = get_blocks(heap, check.row.text);
     let mut count = 0usize;
     for _ in 0..usize::MAX {
-        if !say_next(trial, heap, &mut blocks) {
+        if !check_next(check, heap, &mut blocks) {
             break;
         }
         count = count.saturating_add(1);
     }
-    expect_end(trial, &mut blocks);
-    trial.count(count);
+    expect_end(check, &mut blocks);
+    check.count(count);
 }
 
 /// Checks each block between the sequences that set its style and those that reset it.
-pub fn say_styled_blocks(trial: &mut Trial<'_>) {
-    for block in get_blocks(trial.alloc, trial.row.text) {
+pub fn check_styled_blocks(check: &mut Check<'_>) {
+    for block in get_blocks(check.alloc, check.row.text) {
         match block {
             Ok(block) => {
-                say_of_block(trial, &block, BlockCall::Start);
-                say_of_block(trial, &block, BlockCall::Text);
-                say_of_block(trial, &block, BlockCall::End);
+                check_of_block(check, &block, BlockCall::Start);
+                check_of_block(check, &block, BlockCall::Text);
+                check_of_block(check, &block, BlockCall::End);
             }
-            Err(_) => trial.is_err = true,
+            Err(_) => check.is_err = true,
         }
     }
 }
@@ -158,24 +158,24 @@ fn order_text(style: &Style, other: &Style) -> &'static str {
 }
 
 /// Checks the property of a block that the row names.
-fn say_of_block(trial: &mut Trial<'_>, block: &AnsiBlock<'_>, asked: BlockCall<'_>) {
-    let alloc = trial.alloc;
+fn check_of_block(check: &mut Check<'_>, block: &AnsiBlock<'_>, asked: BlockCall<'_>) {
+    let alloc = check.alloc;
     match asked {
-        BlockCall::Text => trial.text(block.text()),
-        BlockCall::Start => trial.written(block.style().start().to_string(alloc)),
-        BlockCall::End => trial.written(block.style().end().to_string(alloc)),
+        BlockCall::Text => check.text(block.text()),
+        BlockCall::Start => check.written(block.style().start().to_string(alloc)),
+        BlockCall::End => check.written(block.style().end().to_string(alloc)),
         BlockCall::Order(other) => match get_blocks(alloc, other).next() {
-            Some(Ok(other)) => trial.text(order_text(block.style(), other.style())),
-            _ => trial.refute("no other block"),
+            Some(Ok(other)) => check.text(order_text(block.style(), other.style())),
+            _ => check.fail("no other block"),
         },
     }
 }
 
 /// The same for the block at an index.
-pub fn say_block_at(trial: &mut Trial<'_>, index: usize, asked: BlockCall<'_>) {
-    match get_blocks(trial.alloc, trial.row.text).nth(index) {
-        Some(Ok(block)) => say_of_block(trial, &block, asked),
-        Some(Err(_)) => trial.is_err = true,
-        None => trial.none("1"),
+pub fn check_block_at(check: &mut Check<'_>, index: usize, asked: BlockCall<'_>) {
+    match get_blocks(check.alloc, check.row.text).nth(index) {
+        Some(Ok(block)) => check_of_block(check, &block, asked),
+        Some(Err(_)) => check.is_err = true,
+        None => check.none("1"),
     }
 }

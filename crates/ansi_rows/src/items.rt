@@ -1,9 +1,9 @@
 //! The results of a scanner.
-use crate::said::Trial;
+use crate::check::Check;
 use ansi_str::ansitok::{Item, Kind, Scanner};
 
 /// The kind of an item and its length.
-fn say_item(trial: &mut Trial<'_>, item: &Item) {
+fn check_item(check: &mut Check<'_>, item: &Item) {
     let kind = match item.kind {
         Kind::Text => "text",
         Kind::Sgr => "sgr",
@@ -11,15 +11,15 @@ fn say_item(trial: &mut Trial<'_>, item: &Item) {
         Kind::Lone => "lone",
     };
     let len = item.end.saturating_sub(item.start);
-    trial.written(format!(in trial.alloc; "{kind} {len}"));
+    check.written(format!(in check.alloc; "{kind} {len}"));
 }
 
 /// Checks the items of a text in order, and that no item follows the last one.
-pub fn say_items(trial: &mut Trial<'_>) {
-    let text = trial.row.text;
+pub fn check_items(check: &mut Check<'_>) {
+    let text = check.row.text;
     let mut scanner = Scanner::new(text);
     if scanner.reads() != 0 {
-        trial.refute("a look too early");
+        check.fail("a look too early");
     }
     let mut offset = 0;
     for _ in 0..usize::MAX {
@@ -27,17 +27,17 @@ pub fn say_items(trial: &mut Trial<'_>) {
             break;
         };
         if item.start != offset {
-            trial.refute("a gap");
+            check.fail("a gap");
         }
         offset = item.end;
-        say_item(trial, &item);
+        check_item(check, &item);
     }
     if scanner.next().is_some() || scanner.next().is_some() {
-        trial.refute("an item after the end");
+        check.fail("an item after the end");
     }
     // at least as many looks as the text has bytes, and at most four times as many
     let (looks, len) = (scanner.reads(), text.len() as u128);
     if looks < len || looks > 4 * len {
-        trial.refute("too few or too many looks");
+        check.fail("too few or too many looks");
     }
 }

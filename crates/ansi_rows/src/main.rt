@@ -7,15 +7,15 @@
 
 mod blocks;
 mod calls;
+mod check;
 mod items;
 mod ranges;
 mod rows;
-mod said;
 mod texts;
 mod tries;
 
+use check::Check;
 use rows::{Line, Row};
-use said::Trial;
 use std::alloc::{AllocError, Global};
 use std::io;
 use tries::try_row;
@@ -41,11 +41,11 @@ impl Tally {
 
 /// The first difference between the row and its call, or `None` if there is none.
 fn fault_of_row(alloc: Global, row: Row<'_>) -> Option<String> {
-    let mut trial = Trial::new(alloc, row);
-    if try_row(&mut trial).is_none() {
-        trial.refute("no such call");
+    let mut check = Check::new(alloc, row);
+    if try_row(&mut check).is_none() {
+        check.fail("no such call");
     }
-    trial.fault
+    check.fault
 }
 
 fn tried(alloc: Global, line: &str, tally: &mut Tally) -> io::Result<Option<String>> {

@@ -3,7 +3,7 @@ ghost use Rattle.std.specs.Prelude.{IsTrue};
 ghost use Rattle.ansi_str.specs.Plain.{plain};
 ghost use Rattle.ansi_str.specs.Positions.{is_good_range};
 
-use crate::said::Trial;
+use crate::check::Check;
 use ansi_str::{AnsiRange, AnsiStr};
 use std::alloc::Global;
 
@@ -52,26 +52,26 @@ impl AnyRange {
     }
 
     /// Checks what `ansi_get` or `ansi_cut` returns for the range as its own type.
-    pub fn say<T: AnsiStr>(self, trial: &mut Trial<'_>, text: &T, is_cut: bool) {
+    pub fn make_call<T: AnsiStr>(self, check: &mut Check<'_>, text: &T, is_cut: bool) {
         match self {
-            Range(a, b) => say_range(trial, text, a..b, is_cut),
-            RangeInclusive(a, b) => say_range(trial, text, a..=b, is_cut),
-            RangeFrom(a) => say_range(trial, text, a.., is_cut),
-            RangeTo(b) => say_range(trial, text, ..b, is_cut),
-            RangeToInclusive(b) => say_range(trial, text, ..=b, is_cut),
-            RangeFull => say_range(trial, text, .., is_cut),
+            Range(a, b) => check_range(check, text, a..b, is_cut),
+            RangeInclusive(a, b) => check_range(check, text, a..=b, is_cut),
+            RangeFrom(a) => check_range(check, text, a.., is_cut),
+            RangeTo(b) => check_range(check, text, ..b, is_cut),
+            RangeToInclusive(b) => check_range(check, text, ..=b, is_cut),
+            RangeFull => check_range(check, text, .., is_cut),
         }
     }
 }
 
-fn say_range<T: AnsiStr, R: AnsiRange>(trial: &mut Trial<'_>, text: &T, range: R, is_cut: bool) {
-    let alloc = trial.alloc;
+fn check_range<T: AnsiStr, R: AnsiRange>(check: &mut Check<'_>, text: &T, range: R, is_cut: bool) {
+    let alloc = check.alloc;
     if !is_cut {
-        trial.hear_option(text.ansi_get(alloc, range), "2");
+        check.option_or_err(text.ansi_get(alloc, range), "2");
     } else if is_good_range_of(alloc, text, range.start(), range.end()) {
-        trial.hear(text.ansi_cut(alloc, range));
+        check.text_or_err(text.ansi_cut(alloc, range));
     } else {
-        trial.none("2");
+        check.none("2");
     }
 }
 

@@ -1,9 +1,9 @@
 //! The results of calls that return texts, and of searches and tests.
-use crate::blocks::{say_block_at, say_blocks, say_styled_blocks};
+use crate::blocks::{check_block_at, check_blocks, check_styled_blocks};
 use crate::calls::Call;
-use crate::items::say_items;
+use crate::check::Check;
+use crate::items::check_items;
 use crate::ranges::is_good_range_of;
-use crate::said::Trial;
 use ansi_str::search::part_interval;
 use ansi_str::slice::{
     cut_in, get_in, split_at_in, strip_in, strip_prefix_in, strip_suffix_in, trim_in,
@@ -13,108 +13,110 @@ use ansi_str::{AnsiStr, ansi_is_whole, edit};
 use refusing::Refusing;
 use std::alloc::{Allocator, Global};
 
-fn expect_end<A: Allocator + Copy>(trial: &mut Trial<'_>, parts: &mut AnsiSplit<'_, A>) {
+fn expect_end<A: Allocator + Copy>(check: &mut Check<'_>, parts: &mut AnsiSplit<'_, A>) {
     for _ in 0..3 {
         if parts.next().is_some() {
-            trial.refute("a part after the end");
+            check.fail("a part after the end");
         }
     }
 }
 
 /// Checks all parts, or their number. After an `Err`, and after the last part, no part follows.
-fn hear_parts<A: Allocator + Copy>(trial: &mut Trial<'_>, mut parts: AnsiSplit<'_, A>) {
+fn check_parts<A: Allocator + Copy>(check: &mut Check<'_>, mut parts: AnsiSplit<'_, A>) {
     let mut count = 0usize;
     for _ in 0..usize::MAX {
         let Some(part) = parts.next() else {
             break;
         };
-        trial.hear(part);
-        if trial.is_err {
+        check.text_or_err(part);
+        if check.is_err {
             break;
         }
         count = count.saturating_add(1);
     }
-    expect_end(trial, &mut parts);
-    trial.count(count);
+    expect_end(check, &mut parts);
+    check.count(count);
 }
 
-fn say_sides<T: AnsiStr>(trial: &mut Trial<'_>, text: &T, mid: usize) {
-    let alloc = trial.alloc;
+fn check_sides<T: AnsiStr>(check: &mut Check<'_>, text: &T, mid: usize) {
+    let alloc = check.alloc;
     if is_good_range_of(alloc, text, mid, None) {
-        trial.hear_sides(text.ansi_split_at(alloc, mid));
+        check.sides_or_err(text.ansi_split_at(alloc, mid));
     } else {
-        trial.none("2");
+        check.none("2");
     }
 }
 
 /// Checks what a call of `AnsiStr` returns.
-pub fn say<T: AnsiStr>(trial: &mut Trial<'_>, text: &T, call: &Call<'_>) {
-    let alloc = trial.alloc;
+pub fn make_call<T: AnsiStr>(check: &mut Check<'_>, text: &T, call: &Call<'_>) {
+    let alloc = check.alloc;
     match *call {
-        Call::Strip => trial.hear(text.ansi_strip(alloc)),
-        Call::Trim => trial.hear(text.ansi_trim(alloc)),
-        Call::Prefix(prefix) => trial.hear_option(text.ansi_strip_prefix(alloc, prefix), "1"),
-        Call::Suffix(suffix) => trial.hear_option(text.ansi_strip_suffix(alloc, suffix), "1"),
-        Call::Get(range) => range.say(trial, text, false),
-        Call::Cut(range) => range.say(trial, text, true),
-        Call::SplitAt(mid) => say_sides(trial, text, mid),
-        Call::Split(pat) => hear_parts(trial, text.ansi_split(alloc, pat)),
-        Call::Find(pat) => trial.told(text.ansi_find(pat)),
-        Call::StartsWith(pat) => trial.test(text.ansi_starts_with(pat)),
-        Call::EndsWith(pat) => trial.test(text.ansi_ends_with(pat)),
-        Call::IsCharBoundary(index) => trial.test(text.ansi_is_char_boundary(index)),
-        Call::FloorCharBoundary(index) => trial.told(Some(text.ansi_floor_char_boundary(index))),
-        Call::HasAny => trial.test(text.ansi_has_any()),
+        Call::Strip => check.text_or_err(text.ansi_strip(alloc)),
+        Call::Trim => check.text_or_err(text.ansi_trim(alloc)),
+        Call::Prefix(prefix) => check.option_or_err(text.ansi_strip_prefix(alloc, prefix), "1"),
+        Call::Suffix(suffix) => check.option_or_err(text.ansi_strip_suffix(alloc, suffix), "1"),
+        Call::Get(range) => range.make_call(check, text, false),
+        Call::Cut(range) => range.make_call(check, text, true),
+        Call::SplitAt(mid) => check_sides(check, text, mid),
+        Call::Split(pat) => check_parts(check, text.ansi_split(alloc, pat)),
+        Call::Find(pat) => check.number_or_none(text.ansi_find(pat)),
+        Call::StartsWith(pat) => check.test(text.ansi_starts_with(pat)),
+        Call::EndsWith(pat) => check.test(text.ansi_ends_with(pat)),
+        Call::IsCharBoundary(index) => check.test(text.ansi_is_char_boundary(index)),
+        Call::FloorCharBoundary(index) => check.number_or_none(Some(text.ansi_floor_char_boundary(
+            index,
+        ))),
+        Call::HasAny => check.test(text.ansi_has_any()),
         _ => {}
     }
 }
 
-fn say_cut_in<A: Allocator>(trial: &mut Trial<'_>, heap: A, start: usize, end: Option<usize>) {
-    let text = trial.row.text;
-    if is_good_range_of(trial.alloc, &text, start, end) {
-        trial.hear(cut_in(heap, text, start, end));
+fn check_cut_in<A: Allocator>(check: &mut Check<'_>, heap: A, start: usize, end: Option<usize>) {
+    let text = check.row.text;
+    if is_good_range_of(check.alloc, &text, start, end) {
+        check.text_or_err(cut_in(heap, text, start, end));
     } else {
-        trial.none("2");
+        check.none("2");
     }
 }
 
-fn say_sides_in<A: Allocator + Copy>(trial: &mut Trial<'_>, heap: A, mid: usize) {
-    let text = trial.row.text;
-    if is_good_range_of(trial.alloc, &text, mid, None) {
-        trial.hear_sides(split_at_in(heap, text, mid));
+fn check_sides_in<A: Allocator + Copy>(check: &mut Check<'_>, heap: A, mid: usize) {
+    let text = check.row.text;
+    if is_good_range_of(check.alloc, &text, mid, None) {
+        check.sides_or_err(split_at_in(heap, text, mid));
     } else {
-        trial.none("2");
+        check.none("2");
     }
 }
 
 /// Checks what a call returns if it allocates from `heap`. A call without an allocator is made as
 /// usual.
-pub fn say_in(trial: &mut Trial<'_>, heap: &Refusing<Global>, call: &Call<'_>) {
-    let text = trial.row.text;
+pub fn make_call_in(check: &mut Check<'_>, heap: &Refusing<Global>, call: &Call<'_>) {
+    let text = check.row.text;
     match *call {
-        Call::Strip => trial.hear(strip_in(heap, text)),
-        Call::Trim => trial.hear(trim_in(heap, text)),
-        Call::Prefix(prefix) => trial.hear_option(strip_prefix_in(heap, text, prefix), "1"),
-        Call::Suffix(suffix) => trial.hear_option(strip_suffix_in(heap, text, suffix), "1"),
+        Call::Strip => check.text_or_err(strip_in(heap, text)),
+        Call::Trim => check.text_or_err(trim_in(heap, text)),
+        Call::Prefix(prefix) => check.option_or_err(strip_prefix_in(heap, text, prefix), "1"),
+        Call::Suffix(suffix) => check.option_or_err(strip_suffix_in(heap, text, suffix), "1"),
         Call::Get(range) => {
             let (start, end) = range.ends();
-            trial.hear_option(get_in(heap, text, start, end), "2");
+            check.option_or_err(get_in(heap, text, start, end), "2");
         }
         Call::Cut(range) => {
             let (start, end) = range.ends();
-            say_cut_in(trial, heap, start, end);
+            check_cut_in(check, heap, start, end);
         }
-        Call::SplitAt(mid) => say_sides_in(trial, heap, mid),
-        Call::Split(pat) => hear_parts(trial, split_in(heap, text, pat)),
-        Call::Part(pat, index) => trial.hear_option(part_in(heap, text, pat, index), "1"),
-        Call::PartInterval(pat, index) => trial.interval(part_interval(text, pat, index)),
-        Call::Edit(one) => trial.hear_option(edit(heap, text, &[one]), "2"),
-        Call::Edits(edits) => trial.hear_option(edit(heap, text, edits), "2"),
-        Call::Blocks => say_blocks(trial, heap),
-        Call::StyledBlocks => say_styled_blocks(trial),
-        Call::Block(index, asked) => say_block_at(trial, index, asked),
-        Call::Items => say_items(trial),
-        Call::IsWhole => trial.test(ansi_is_whole(text)),
-        _ => say(trial, &text, call),
+        Call::SplitAt(mid) => check_sides_in(check, heap, mid),
+        Call::Split(pat) => check_parts(check, split_in(heap, text, pat)),
+        Call::Part(pat, index) => check.option_or_err(part_in(heap, text, pat, index), "1"),
+        Call::PartInterval(pat, index) => check.interval(part_interval(text, pat, index)),
+        Call::Edit(one) => check.option_or_err(edit(heap, text, &[one]), "2"),
+        Call::Edits(edits) => check.option_or_err(edit(heap, text, edits), "2"),
+        Call::Blocks => check_blocks(check, heap),
+        Call::StyledBlocks => check_styled_blocks(check),
+        Call::Block(index, asked) => check_block_at(check, index, asked),
+        Call::Items => check_items(check),
+        Call::IsWhole => check.test(ansi_is_whole(text)),
+        _ => make_call(check, &text, call),
     }
 }

@@ -1,18 +1,18 @@
 //! A row's call, made in every possible way.
 use crate::calls::Call;
+use crate::check::Check;
 use crate::ranges::ranges_of;
 use crate::rows::Row;
-use crate::said::Trial;
-use crate::texts::{say, say_in};
+use crate::texts::{make_call, make_call_in};
 use ansi_str::{AnsiStr, Edit};
 use refusing::Refusing;
 use std::alloc::Global;
 
 /// Makes the call with an allocator that grants `granted` requests. Returns how many requests the
 /// call made.
-fn requests_of(trial: &mut Trial<'_>, call: &Call<'_>, granted: u64) -> u64 {
-    let heap = Refusing::new(trial.alloc, granted);
-    say_in(trial, &heap, call);
+fn requests_of(check: &mut Check<'_>, call: &Call<'_>, granted: u64) -> u64 {
+    let heap = Refusing::new(check.alloc, granted);
+    make_call_in(check, &heap, call);
     heap.requests()
 }
 
@@ -21,55 +21,55 @@ const MOST_REFUSED: u64 = 100;
 
 /// Makes the call with an allocator that grants each request, and then with each request refused in
 /// turn.
-fn try_in(trial: &mut Trial<'_>, call: &Call<'_>) {
-    trial.begin("with each request granted");
-    let requests = requests_of(trial, call, u64::MAX);
-    trial.end();
-    if (requests > 0) != trial.row.takes_memory {
-        trial.refute("whether it takes memory");
+fn try_in(check: &mut Check<'_>, call: &Call<'_>) {
+    check.begin("with each request granted");
+    let requests = requests_of(check, call, u64::MAX);
+    check.end();
+    if (requests > 0) != check.row.takes_memory {
+        check.fail("whether it takes memory");
     }
     for granted in 0..requests.min(MOST_REFUSED) {
-        trial.begin("with a request refused");
-        requests_of(trial, call, granted);
-        trial.end_refused();
+        check.begin("with a request refused");
+        requests_of(check, call, granted);
+        check.end_refused();
     }
 }
 
-fn try_of<T: AnsiStr>(trial: &mut Trial<'_>, way: &'static str, text: &T, call: &Call<'_>) {
-    trial.begin(way);
-    say(trial, text, call);
-    trial.end();
+fn try_of<T: AnsiStr>(check: &mut Check<'_>, way: &'static str, text: &T, call: &Call<'_>) {
+    check.begin(way);
+    make_call(check, text, call);
+    check.end();
 }
 
 /// Makes the call on a `String`, which has to stay unchanged.
-fn try_owned(trial: &mut Trial<'_>, call: &Call<'_>) {
-    match String::from_str(trial.alloc, trial.row.text) {
+fn try_owned(check: &mut Check<'_>, call: &Call<'_>) {
+    match String::from_str(check.alloc, check.row.text) {
         Ok(owned) => {
-            try_of(trial, "of a `String`", &owned, call);
-            if owned.as_str() != trial.row.text {
-                trial.refute("the caller's text");
+            try_of(check, "of a `String`", &owned, call);
+            if owned.as_str() != check.row.text {
+                check.fail("the caller's text");
             }
         }
-        Err(_) => trial.refute("out of memory"),
+        Err(_) => check.fail("out of memory"),
     }
 }
 
 /// Makes the call on a `&str`, on a `String`, and with an allocator.
-fn try_call(trial: &mut Trial<'_>, call: &Call<'_>) {
+fn try_call(check: &mut Check<'_>, call: &Call<'_>) {
     if call.is_of_trait() {
-        let text = trial.row.text;
-        try_of(trial, "of a `&str`", &text, call);
-        try_owned(trial, call);
+        let text = check.row.text;
+        try_of(check, "of a `&str`", &text, call);
+        try_owned(check, call);
     }
-    try_in(trial, call);
+    try_in(check, call);
 }
 
 /// Cuts the text between two positions, with every range that has these ends.
-fn try_ranges(trial: &mut Trial<'_>, start: usize, end: usize) {
+fn try_ranges(check: &mut Check<'_>, start: usize, end: usize) {
     for range in &ranges_of(start, end) {
         if let Some(range) = *range {
-            try_call(trial, &Call::Get(range));
-            try_call(trial, &Call::Cut(range));
+            try_call(check, &Call::Get(range));
+            try_call(check, &Call::Cut(range));
         }
     }
 }
@@ -112,26 +112,26 @@ fn edits_of<'r>(alloc: Global, row: &Row<'r>) -> Option<Vec<Edit<'r>>> {
 
 /// Applies the edits of a row. If they are refused, the refusal has to be that of the last edit,
 /// which must not allocate.
-fn try_edits<'e>(trial: &mut Trial<'_>, edits: &'e [Edit<'e>]) {
-    try_in(trial, &Call::Edits(edits));
+fn try_edits<'e>(check: &mut Check<'_>, edits: &'e [Edit<'e>]) {
+    try_in(check, &Call::Edits(edits));
     if let Some((_, before)) = edits.split_last()
-        && trial.row.status == "2"
+        && check.row.status == "2"
     {
-        let mut unheard = Trial::new(trial.alloc, trial.row);
-        let requests = requests_of(&mut unheard, &Call::Edits(edits), u64::MAX);
-        if requests_of(&mut unheard, &Call::Edits(before), u64::MAX) != requests {
-            trial.refute("memory for an edit that is refused");
+        let mut unchecked = Check::new(check.alloc, check.row);
+        let requests = requests_of(&mut unchecked, &Call::Edits(edits), u64::MAX);
+        if requests_of(&mut unchecked, &Call::Edits(before), u64::MAX) != requests {
+            check.fail("memory for an edit that is refused");
         }
     }
 }
 
 /// Makes the call of a row in each way. `None` if there is no such call.
-pub fn try_row(trial: &mut Trial<'_>) -> Option<()> {
-    let row = trial.row;
+pub fn try_row(check: &mut Check<'_>) -> Option<()> {
+    let row = check.row;
     match row.call {
-        "cut" => try_ranges(trial, row.number(0)?, row.number(1)?),
-        "edit" => try_edits(trial, edits_of(trial.alloc, &row)?.as_slice()),
-        _ => try_call(trial, &Call::new(&row)?),
+        "cut" => try_ranges(check, row.number(0)?, row.number(1)?),
+        "edit" => try_edits(check, edits_of(check.alloc, &row)?.as_slice()),
+        _ => try_call(check, &Call::new(&row)?),
     }
     Some(())
 }

@@ -29,12 +29,12 @@ pub use Rattle.memchr.specs.TwoWay.{OccursIn}
 pub use Rattle.ansi_items.proofs.JoinLemmas.{after_text_are, spelled}
 pub use Rattle.ansi_items.proofs.PieceLemmas.{pieces_are, pieces_of-unique}
 pub use Rattle.ansi_items.proofs.PlainLemmas.{all_plain_bytes, length-plain, plain-bare}
-pub use Rattle.ansi_items.proofs.StepLemmas.{BeginsWithMark, gives_mark, gives_text, is_mark, is_text, plain_of-mark}
+pub use Rattle.ansi_items.proofs.StepLemmas.{BeginsWithMark, gives_mark, gives_text, is_mark, kind_is_text, plain_of-mark}
 pub use Rattle.ansi_items.proofs.Utf8Lemmas.{IsUtf8-plain}
 pub use Rattle.ansi_items.specs.Bytes.{escape, is_plain_byte}
 pub use Rattle.ansi_items.specs.Pieces.{ArePieces, LoneEscape, Piece, Sequence, Text, after_text, pieces_of, spelling}
 pub use Rattle.ansi_items.specs.Plain.{has_escape, plain, plain_of}
-pub use Rattle.ansi_items.specs.Scans.{Gives, Scan, pieces_left}
+pub use Rattle.ansi_items.specs.Scans.{GivesItem, Scan, pieces_left}
 pub use Rattle.ansi_items.specs.contracts.ansitok.Kind.{the_type}
 pub use Rattle.ansi_items.specs.declared.ansitok.Item.{Item}
 pub use Rattle.ansi_items.specs.declared.ansitok.Kind.{Kind}
@@ -47,8 +47,8 @@ pub use Rattle.ansi_style.specs.declared.state.rendition.Rendition.{Rendition}
 pub use Rattle.ansi_search.specs.Offsets.{StandsIn, bytes_before, offset_of}
 pub use Rattle.ansi_search.specs.Matches.{first_match_from, is_match}
 pub use Rattle.ansi_search.specs.Positions.{is_char_boundary, is_continuation_byte, is_good_position, is_good_range, is_position_in, is_range_in}
-pub use Rattle.ansi_search.specs.Searches.{Comes, IsAhead, IsApart, IsCut, IsPoint, IsReached, Meets, StandsNowhere}
+pub use Rattle.ansi_search.specs.Searches.{IsWindow, LacksRareByte, IsMismatch, IsCut, IsPoint, IsReached, MatchesBetween, StandsNowhere}
 unfoldable pub use Rattle.ansi_search.specs.Searches.{Precedes}
-pub use Rattle.ansi_search.specs.declared.search.critical.Cut.{Cut}
+pub use Rattle.ansi_search.specs.declared.search.critical.CriticalCut.{CriticalCut}
 pub use Rattle.ansi_search.specs.declared.search.two_way.Point.{Point}
 pub use Rattle.ansi_search.specs.declared.search.two_way.Window.{Window}

@@ -1,9 +1,9 @@
 -- Worked examples of searches and of boundaries, each by computation.
 use Rattle.ansi_search.proofs.Common.{refl, codes, [], ◌∷◌, Some, None, ℕ, List, true, false, encode_utf8, plain, is_char_boundary, first_match_from}
-use Rattle.ansi_items.proofs.Tables.{Makes, utf8}
+use Rattle.ansi_items.proofs.Tables.{MakesRows, utf8}
 
 -- where a pattern stands first from a position on
-matches : Makes (λ (x : List ℕ × List ℕ × ℕ). first_match_from (plain x.0) x.1 x.2) (
+matches : MakesRows (λ (x : List ℕ × List ℕ × ℕ). first_match_from (plain x.0) x.1 x.2) (
     ((codes "a\u{1b}[1mb\u{1b}[0mc", codes "abc", 0), Some 0)
     ∷ ((codes "a\u{1b}[1mb\u{1b}[0mc", codes "bc", 0), Some 1)
     ∷ ((codes "a\u{1b}[1mb\u{1b}[0mc", codes "cb", 0), None)
@@ -16,7 +16,7 @@ matches : Makes (λ (x : List ℕ × List ℕ × ℕ). first_match_from (plain x
 matches = refl
 
 -- an empty pattern stands at each character boundary
-empty_matches : Makes (λ (x : List ℕ × ℕ). first_match_from (plain x.0) [] x.1) (
+empty_matches : MakesRows (λ (x : List ℕ × ℕ). first_match_from (plain x.0) [] x.1) (
     (([], 0), Some 0)
     ∷ ((utf8 "\u{1b}[1mé", 1), Some 2)
     ∷ ((utf8 "\u{1b}[1mé", 3), None)
@@ -24,6 +24,6 @@ empty_matches : Makes (λ (x : List ℕ × ℕ). first_match_from (plain x.0) []
 unfolding encode_utf8
 empty_matches = refl
 
-boundaries : Makes (is_char_boundary (plain (utf8 "\u{1b}[1mé"))) ((1, false) ∷ (2, true) ∷ (3, false) ∷ [])
+boundaries : MakesRows (is_char_boundary (plain (utf8 "\u{1b}[1mé"))) ((1, false) ∷ (2, true) ∷ (3, false) ∷ [])
 unfolding encode_utf8
 boundaries = refl

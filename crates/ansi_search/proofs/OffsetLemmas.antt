@@ -1,5 +1,5 @@
 -- Where the plain bytes of a text stand in it: what stands before them and after them, and how far a walk there has come.
-use Rattle.ansi_search.proofs.Common.{◌≡◌, ◌≢◌, ℕ, zero, suc, ◌+◌, ◌-◌, ◌<◌, ◌≤◌, inl, inr, Bool, true, ◌↔◌, List, ◌∷◌, ◌++◌, length, take, drop, take-add, refl, sym, ◌∙◌, ap, subst, arith, IsTrue, if◌then◌else◌, nat_lt, length-append, false, drop-nil, drop-append_seam, cases_lt, lt-ltb, le-ltb, take_all, drop-append-le, drop-drop, drop_all, sameb, same_false, slice_range, IsCharBoundary-from_rest, IsCharBoundary, the_type, Kind, is_plain_byte, Piece, Text, spelling, ArePieces, pieces_of, plain_of, plain, pieces_are, pieces_of-unique, spelled, Item, Scan, Gives, pieces_left, is_mark, BeginsWithMark, gives_text, gives_mark, plain_of-mark, Rendition, apply, style_within, style_by_marks, style_by_marks-before, style_by_marks-text, style_by_marks-mark, is_good_position, bytes_before, offset_of, StandsIn, []}
+use Rattle.ansi_search.proofs.Common.{◌≡◌, ◌≢◌, ℕ, zero, suc, ◌+◌, ◌-◌, ◌<◌, ◌≤◌, inl, inr, Bool, true, ◌↔◌, List, ◌∷◌, ◌++◌, length, take, drop, take-add, refl, sym, ◌∙◌, ap, subst, arith, IsTrue, if◌then◌else◌, nat_lt, length-append, false, drop-nil, drop-append_seam, cases_lt, lt-ltb, le-ltb, take_all, drop-append-le, drop-drop, drop_all, sameb, same_false, slice_range, IsCharBoundary-from_rest, IsCharBoundary, the_type, Kind, is_plain_byte, Piece, Text, spelling, ArePieces, pieces_of, plain_of, plain, pieces_are, pieces_of-unique, spelled, Item, Scan, GivesItem, pieces_left, is_mark, BeginsWithMark, gives_text, gives_mark, plain_of-mark, Rendition, apply, style_within, style_by_marks, style_by_marks-before, style_by_marks-text, style_by_marks-mark, is_good_position, bytes_before, offset_of, StandsIn, []}
 use Rattle.ansi_items.specs.declared.ansitok.Kind.TheVariants.{Text as TextKind}
 use Rattle.ansi_search.proofs.SliceLemmas.{length-slice_range, take-append, drop-append, list_all-parts}
 use Rattle.ansi_search.proofs.PositionLemmas.{is_good_position-append, is_good_position-after, is_good_position-past, is_good_position-drop, good_is_boundary, boundary_test}
@@ -92,7 +92,7 @@ pub record IsOverMark (kind : Kind) (t w : List ℕ) (at next : ℕ) (old new : 
   pub bytes : take next t ≡ take at t ++ w
 
 -- an item is a range of its text
-pub item_range : {old new : Scan} {item : Item} {t : List ℕ} → Gives old item new → old.text ≡ t
+pub item_range : {old new : Scan} {item : Item} {t : List ℕ} → GivesItem old item new → old.text ≡ t
     → record { start_le_end : item.start ≤ item.end; start_boundary : 0 < item.start → IsCharBoundary t item.start; end_boundary : IsCharBoundary t item.end }
 item_range {item = item} gives same = record {
   start_le_end = omega (arith, gives.forward);
@@ -100,17 +100,17 @@ item_range {item = item} gives same = record {
   end_boundary = subst (λ u. IsCharBoundary u item.end) same gives.end_boundary;
 }
 
-item_count : {old new : Scan} {item : Item} {t w : List ℕ} → Gives old item new → old.text ≡ t → w ≡ slice_range t item.start item.end → new.offset ≡ old.offset + length w
+item_count : {old new : Scan} {item : Item} {t w : List ℕ} → GivesItem old item new → old.text ≡ t → w ≡ slice_range t item.start item.end → new.offset ≡ old.offset + length w
 item_count {item = item} {t = t} gives same is =
     omega (arith, gives.start, gives.end, gives.forward, ap length is, length-slice_range t item.start item.end (omega (arith, gives.forward)) (omega (arith, gives.end_boundary.0, ap length same)))
 
-item_bytes : {old new : Scan} {item : Item} {w : List ℕ} (t : List ℕ) → Gives old item new → w ≡ slice_range t item.start item.end → take new.offset t ≡ take old.offset t ++ w
+item_bytes : {old new : Scan} {item : Item} {w : List ℕ} (t : List ℕ) → GivesItem old item new → w ≡ slice_range t item.start item.end → take new.offset t ≡ take old.offset t ++ w
 item_bytes {old} {item = item} t gives is =
     let n = item.end - old.offset in
     let all : item.end ≡ old.offset + n = omega (arith, gives.start, gives.forward) in
     ap (λ k. take k t) (sym gives.end ∙ all) ∙ take-add old.offset n t ∙ ap (λ v. take old.offset t ++ v) (sym (is ∙ ap (λ k. slice_range t k item.end) gives.start))
 
-pub over_text : {old new : Scan} {item : Item} {t w : List ℕ} → Gives old item new → old.text ≡ t → w ≡ slice_range t item.start item.end → item.kind ≡ TextKind
+pub over_text : {old new : Scan} {item : Item} {t w : List ℕ} → GivesItem old item new → old.text ≡ t → w ≡ slice_range t item.start item.end → item.kind ≡ TextKind
     → IsOverText t w old.offset new.offset (pieces_left old) (pieces_left new)
 over_text {old} {item = item} {t = t} gives same is kind = record {
   first = gives_text gives same is kind;
@@ -122,10 +122,10 @@ over_text {old} {item = item} {t = t} gives same is kind = record {
 }
 
 -- by the test that the code makes
-pub is_other : {k other : Kind} → false ≡ sameb the_type k other → k ≢ other
-is_other same = same_false the_type _ _ (sym same)
+pub kind_differs : {k other : Kind} → false ≡ sameb the_type k other → k ≢ other
+kind_differs same = same_false the_type _ _ (sym same)
 
-pub over_mark : {old new : Scan} {item : Item} {t w : List ℕ} → Gives old item new → old.text ≡ t → w ≡ slice_range t item.start item.end → item.kind ≢ TextKind
+pub over_mark : {old new : Scan} {item : Item} {t w : List ℕ} → GivesItem old item new → old.text ≡ t → w ≡ slice_range t item.start item.end → item.kind ≢ TextKind
     → IsOverMark item.kind t w old.offset new.offset (pieces_left old) (pieces_left new)
 over_mark gives same is other = record { first = gives_mark gives same is other; count = item_count gives same is; bytes = item_bytes _ gives is }
 

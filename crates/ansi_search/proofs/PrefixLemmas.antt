@@ -22,8 +22,8 @@ front-bare t w n most is size none = elim (cases_lt most (length t)) [
 pub bare_before : (t : List ℕ) (n len : ℕ) → len ≤ n → len ≤ length t → Nowhere (Passes (is_byte escape) (take n t)) 0 len → IsFalse (has_escape (take len t))
 bare_before t n len within inside none = grind (arith, get_or-take, length-take-le, no_escape-found)
 
-pub escape_at : (t : List ℕ) (n len : ℕ) → len < n → Passes (is_byte escape) (take n t) len → slice_index (drop len t) 0 ≡ escape
-escape_at t n len inside passes = grind (arith, eqb-true, get_or-drop, get_or-take)
+pub escape_after_run : (t : List ℕ) (n len : ℕ) → len < n → Passes (is_byte escape) (take n t) len → slice_index (drop len t) 0 ≡ escape
+escape_after_run t n len inside passes = grind (arith, eqb-true, get_or-drop, get_or-take)
 
 no_text : (u w : List ℕ) (ps : List Piece) → ArePieces u (Text w ∷ ps) → slice_index u 0 ≢ escape
 no_text u [] ps are escapes = are.2.0 refl

@@ -1,5 +1,5 @@
 -- A search that goes forward by the cut of a pattern, a window at a time.
-use Rattle.ansi_search.proofs.Common.{◌≡◌, ◌≢◌, ℕ, ◌+◌, ◌-◌, ◌<◌, ◌≤◌, inl, inr, true, false, List, ◌∷◌, ◌++◌, take, drop, length, nat_eq, IsTrue, Some, None, refl, sym, ◌∙◌, ap, arith, slice_index, and_parts, cases_lt, eq-eqb, true≢false, get_or-take, get_or_append_left, get_or-append-add, length-take-le, length-drop, length-append, drop-drop, drop-append-le, drop_at, take_at, IsCharBoundary-start, starts_with, slice_range, IsUtf8, Nowhere, OccursAt, Passes, is_byte, OccursIn, Nowhere-then, OccursAt-split, OccursAt-from_part, Nowhere-right, Nowhere-left, known-next, Item, Piece, Text, spelling, ArePieces, pieces_of, plain, plain_of, Scan, Gives, pieces_left, gives_text, pieces_are, length-plain, Cut, Point, Window, first_match_from, is_char_boundary, IsCut, Meets, IsReached, IsPoint, Comes, IsApart, StandsNowhere, IsAhead, []}
+use Rattle.ansi_search.proofs.Common.{◌≡◌, ◌≢◌, ℕ, ◌+◌, ◌-◌, ◌<◌, ◌≤◌, inl, inr, true, false, List, ◌∷◌, ◌++◌, take, drop, length, nat_eq, IsTrue, Some, None, refl, sym, ◌∙◌, ap, arith, slice_index, and_parts, cases_lt, eq-eqb, true≢false, get_or-take, get_or_append_left, get_or-append-add, length-take-le, length-drop, length-append, drop-drop, drop-append-le, drop_at, take_at, IsCharBoundary-start, starts_with, slice_range, IsUtf8, Nowhere, OccursAt, Passes, is_byte, OccursIn, Nowhere-then, OccursAt-split, OccursAt-from_part, Nowhere-right, Nowhere-left, known-next, Item, Piece, Text, spelling, ArePieces, pieces_of, plain, plain_of, Scan, GivesItem, pieces_left, gives_text, pieces_are, length-plain, CriticalCut, Point, Window, first_match_from, is_char_boundary, IsCut, MatchesBetween, IsReached, IsPoint, IsWindow, IsMismatch, StandsNowhere, LacksRareByte, []}
 use Rattle.std.proofs.Math.Seq.{get_or-append_right}
 use Rattle.ansi_items.specs.declared.ansitok.Kind.TheVariants.{Text as TextKind}
 use Rattle.ansi_search.proofs.MatchLemmas.{IsMatch, is_match-utf8, starts_with-occurs, starts_with-from, first_match_from-is}
@@ -8,13 +8,13 @@ use Rattle.ansi_search.proofs.EndLemmas.{starts_with-within}
 
 -- What stands in the plain text.
 
-meets-next : (x p : List ℕ) (i low n : ℕ) → Meets x p i low n → slice_index x (i + n) ≡ slice_index p n → Meets x p i low (n + 1)
+meets-next : (x p : List ℕ) (i low n : ℕ) → MatchesBetween x p i low n → slice_index x (i + n) ≡ slice_index p n → MatchesBetween x p i low (n + 1)
 meets-next x p i low n meets same k from upto = elim (cases_lt k n) [
   | inl before ↦ meets k from before
   | inr past ↦ (let last : k ≡ n = omega (arith, past, upto) in ap (slice_index p) last ∙ sym same ∙ ap (λ j. slice_index x (i + j)) (sym last))
 ]
 
-pub meets-from : (x p : List ℕ) (i low c n : ℕ) → low ≤ c → Meets x p i low n → Meets x p i c n
+pub meets-from : (x p : List ℕ) (i low c n : ℕ) → low ≤ c → MatchesBetween x p i low n → MatchesBetween x p i c n
 meets-from x p i low c n upto meets k from below = meets k (omega (arith, upto, from)) below
 
 -- what stands in a run stands there
@@ -23,10 +23,10 @@ in-run x run place i occurs past inside =
     let sum : i ≡ place + (i - place) = omega (arith, past) in
     ap (slice_index x) sum ∙ occurs.reads (i - place) (omega (arith, past, inside))
 
-pub stands-all : (x p : List ℕ) (i : ℕ) → Meets x p i 0 (length p) → i + length p ≤ length x → OccursAt x p i
+pub stands-all : (x p : List ℕ) (i : ℕ) → MatchesBetween x p i 0 (length p) → i + length p ≤ length x → OccursAt x p i
 stands-all x p i meets fits = record { fits = fits; reads = λ k inside. sym (meets k (omega arith) inside) }
 
-pub stands-both : (x p : List ℕ) (i low c : ℕ) → Meets x p i low (length p) → low ≤ c → c ≤ length p → starts_with nat_eq (drop i x) (take c p) ≡ true → i + length p ≤ length x → OccursAt x p i
+pub stands-both : (x p : List ℕ) (i low c : ℕ) → MatchesBetween x p i low (length p) → low ≤ c → c ≤ length p → starts_with nat_eq (drop i x) (take c p) ≡ true → i + length p ≤ length x → OccursAt x p i
 stands-both x p i low c meets upto within starts fits = grind (arith, get_or-take, length-take-le, stands-all, starts_with-occurs)
 
 pub apart-both : (x p : List ℕ) (i c : ℕ) → c ≤ length p → starts_with nat_eq (drop i x) (take c p) ≡ false → ¬ (OccursAt x p i)
@@ -43,7 +43,7 @@ nowhere : (x p : List ℕ) (i j : ℕ) → Nowhere (OccursIn (slice_index p) (le
 nowhere x p i j none k low high occurs = none k low high (record { fits = occurs.fits; reads = occurs.reads })
 
 -- another byte than the next one, where the byte of p at the place r stands in no match before n
-pub reached-mismatch : {t p : List ℕ} {cut : Cut} {start : ℕ} {w : Window} (run : List ℕ) (place r n : ℕ) → IsCut p cut → r ≤ cut.at → Comes t p cut.at start w → OccursAt (plain t) run place
+pub reached-mismatch : {t p : List ℕ} {cut : CriticalCut} {start : ℕ} {w : Window} (run : List ℕ) (place r n : ℕ) → IsCut p cut → r ≤ cut.at → IsWindow t p cut.at start w → OccursAt (plain t) run place
     → place ≤ w.position + w.met → w.position + w.met < place + length run → slice_index run (w.position + w.met - place) ≢ slice_index p w.met
     → w.position + (w.met - cut.at) + 1 ≤ n → n + r ≤ place + length run → ((k : ℕ) → w.position + (w.met - cut.at) + 1 ≤ k → k < n → slice_index (plain t) (k + r) ≢ slice_index p r)
     → IsReached t p start n
@@ -79,17 +79,17 @@ passed-in-run {t} {run} {here} b m r from next n occurs bytes past is inside bef
     ∙ sym (in-run (plain t) run here.position (k + r) occurs (omega (arith, past, low)) (omega (arith, high, inside))) ∙ same)
 
 -- the window moves on in the run
-pub ahead-later : (t p : List ℕ) (r : ℕ) (here : Point) (w v : Window) → IsAhead t p r here w → v.next ≡ w.next → w.position ≤ v.position → IsAhead t p r here v
+pub ahead-later : (t p : List ℕ) (r : ℕ) (here : Point) (w v : Window) → LacksRareByte t p r here w → v.next ≡ w.next → w.position ≤ v.position → LacksRareByte t p r here v
 ahead-later t p r here w v ahead same later j from before = ahead j (omega (arith, later, from)) (omega (arith, same, before))
 
 -- the last byte
-pub meets-last : {t p : List ℕ} {c start : ℕ} {w : Window} (run : List ℕ) (place : ℕ) → Comes t p c start w → OccursAt (plain t) run place
+pub meets-last : {t p : List ℕ} {c start : ℕ} {w : Window} (run : List ℕ) (place : ℕ) → IsWindow t p c start w → OccursAt (plain t) run place
     → place ≤ w.position + w.met → w.position + w.met < place + length run → slice_index run (w.position + w.met - place) ≡ slice_index p w.met → length p ≤ w.met + 1
-    → Meets (plain t) p w.position w.low (length p)
+    → MatchesBetween (plain t) p w.position w.low (length p)
 meets-last run place comes occurs past inside same last = grind (arith, in-run, meets-next)
 
 -- what follows the cut stands, but no match: no match begins in the next places up to the shift
-pub reached-apart : {t p : List ℕ} {cut : Cut} {start : ℕ} {w : Window} → IsCut p cut → IsApart t p cut.at start w → IsReached t p start (w.position + cut.shift)
+pub reached-apart : {t p : List ℕ} {cut : CriticalCut} {start : ℕ} {w : Window} → IsCut p cut → IsMismatch t p cut.at start w → IsReached t p start (w.position + cut.shift)
 reached-apart {t} {p} {cut} {start} {w} is_cut apart =
     let x = plain t in
     let begins : start ≤ w.position = apart.reached.forward in
@@ -104,8 +104,8 @@ reached-apart {t} {p} {cut} {start} {w} is_cut apart =
     }
 
 -- and what was met is known a period on
-pub comes-repeats : {t p : List ℕ} {cut : Cut} {start : ℕ} {w : Window} → IsCut p cut → IsTrue cut.repeats → IsApart t p cut.at start w
-    → Comes t p cut.at start (record { position = w.position + cut.shift; low = 0; met = length p - cut.shift; point = w.point; next = w.next })
+pub comes-repeats : {t p : List ℕ} {cut : CriticalCut} {start : ℕ} {w : Window} → IsCut p cut → IsTrue cut.repeats → IsMismatch t p cut.at start w
+    → IsWindow t p cut.at start (record { position = w.position + cut.shift; low = 0; met = length p - cut.shift; point = w.point; next = w.next })
 comes-repeats {t} {p} {cut} {start} {w} is_cut repeats apart =
     let x = plain t in
     let period = is_cut.period repeats in
@@ -130,28 +130,28 @@ point-first t n utf8 = record { boundary = IsCharBoundary-start t utf8; rest = r
 pub reached-then : {t p : List ℕ} {start i n : ℕ} → IsReached t p start i → IsReached t p i n → IsReached t p start n
 reached-then front back = record { forward = omega (arith, front.forward, back.forward); within = back.within; none = Nowhere-then front.none back.none }
 
-pub comes-then : {t p : List ℕ} {c start i : ℕ} {w : Window} → IsReached t p start i → Comes t p c i w → Comes t p c start w
+pub comes-then : {t p : List ℕ} {c start i : ℕ} {w : Window} → IsReached t p start i → IsWindow t p c i w → IsWindow t p c start w
 comes-then reached comes = record { reached = reached-then reached comes.reached; point = comes.point; low = comes.low; cut = comes.cut; short = comes.short; meets = comes.meets }
 
 -- A run of the text that a scanner gives.
 
-run-is : {old new : Scan} {item : Item} {u w : List ℕ} (x : List ℕ) (place : ℕ) → Gives old item new → old.text ≡ u → item.kind ≡ TextKind → plain_of (pieces_left old) ≡ drop place x → w ≡ slice_range u item.start item.end
+run-is : {old new : Scan} {item : Item} {u w : List ℕ} (x : List ℕ) (place : ℕ) → GivesItem old item new → old.text ≡ u → item.kind ≡ TextKind → plain_of (pieces_left old) ≡ drop place x → w ≡ slice_range u item.start item.end
     → drop place x ≡ w ++ plain_of (pieces_left new)
 run-is x place gives same kind left is = sym left ∙ ap plain_of (gives_text gives same is kind)
 
-pub run-left : {old new : Scan} {item : Item} {u w : List ℕ} (x : List ℕ) (place : ℕ) → Gives old item new → old.text ≡ u → item.kind ≡ TextKind → plain_of (pieces_left old) ≡ drop place x → w ≡ slice_range u item.start item.end
+pub run-left : {old new : Scan} {item : Item} {u w : List ℕ} (x : List ℕ) (place : ℕ) → GivesItem old item new → old.text ≡ u → item.kind ≡ TextKind → plain_of (pieces_left old) ≡ drop place x → w ≡ slice_range u item.start item.end
     → plain_of (pieces_left new) ≡ drop (place + length w) x
 run-left {new = new} {w = w} x place gives same kind left is =
     sym (drop_at w (plain_of (pieces_left new)) (length w) refl) ∙ ap (drop (length w)) (sym (run-is x place gives same kind left is)) ∙ drop-drop (length w) place x
 
-pub run-occurs : {old new : Scan} {item : Item} {u w : List ℕ} (x : List ℕ) (place : ℕ) → Gives old item new → old.text ≡ u → item.kind ≡ TextKind → plain_of (pieces_left old) ≡ drop place x → w ≡ slice_range u item.start item.end
+pub run-occurs : {old new : Scan} {item : Item} {u w : List ℕ} (x : List ℕ) (place : ℕ) → GivesItem old item new → old.text ≡ u → item.kind ≡ TextKind → plain_of (pieces_left old) ≡ drop place x → w ≡ slice_range u item.start item.end
     → place ≤ length x → OccursAt x w place
 run-occurs {new = new} {w = w} x place gives same kind left is within =
     let splits = run-is x place gives same kind left is in
     let y = plain_of (pieces_left new) in
     OccursAt-from_part x w place (omega (arith, within, sym (length-drop place x) ∙ ap length splits, length-append w y)) (ap (take (length w)) splits ∙ take_at w y (length w) refl)
 
-pub run-length : {old new : Scan} {item : Item} {u : List ℕ} → Gives old item new → old.text ≡ u → length (slice_range u item.start item.end) ≡ item.end - item.start
+pub run-length : {old new : Scan} {item : Item} {u : List ℕ} → GivesItem old item new → old.text ≡ u → length (slice_range u item.start item.end) ≡ item.end - item.start
 run-length {item = item} {u = u} gives same = length-slice_range u item.start item.end (omega (arith, gives.forward)) (omega (arith, gives.end_boundary.0, ap length same))
 
 -- Whether the front stands.
@@ -216,7 +216,7 @@ none-without t p from r inside none =
     let occurs = match-occurs (plain t) p k (omega (arith, inside)) found in
     lacks (k + r) (omega arith) (omega (arith, inside, occurs.fits)) (occurs.reads r inside))
 
-pub reached-end : {t p : List ℕ} {c from : ℕ} {w : Window} → 0 < length p → Comes t p c from w → length (plain t) ≤ w.position + w.met → None ≡ first_match_from (plain t) p from
+pub reached-end : {t p : List ℕ} {c from : ℕ} {w : Window} → 0 < length p → IsWindow t p c from w → length (plain t) ≤ w.position + w.met → None ≡ first_match_from (plain t) p from
 reached-end {t} {p} {c} {from} {w} some comes end =
     let x = plain t in
     first_match_from-is x p from None (λ k low high found.

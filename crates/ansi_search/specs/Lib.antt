@@ -1,4 +1,4 @@
 pub mod Positions
 pub mod Matches
-pub mod Searches
 pub mod Offsets
+pub mod Searches

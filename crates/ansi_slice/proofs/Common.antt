@@ -18,31 +18,31 @@ pub use Rattle.std.specs.Str.Pattern.{FindsTextPrefix, FindsTextSuffix, StripsPr
 pub use Rattle.ansi_items.proofs.JoinLemmas.{AllStandAnywhere, is_whole-spelled, pieces_stand, spelled, spelled-pieces_of, stand-append}
 pub use Rattle.ansi_items.proofs.PieceLemmas.{pieces_are, pieces_of-unique}
 pub use Rattle.ansi_items.proofs.PlainLemmas.{length-plain, one_text, pieces_of-bare, plain-bare}
-pub use Rattle.ansi_items.proofs.StepLemmas.{BeginsWithMark, gives_text, is_mark, is_text, plain_of-mark}
+pub use Rattle.ansi_items.proofs.StepLemmas.{BeginsWithMark, gives_text, is_mark, kind_is_text, plain_of-mark}
 pub use Rattle.ansi_items.proofs.Utf8Lemmas.{IsUtf8-plain}
 pub use Rattle.ansi_items.specs.Bytes.{escape, is_plain_byte}
 pub use Rattle.ansi_items.specs.Pieces.{ArePieces, LoneEscape, Piece, Sequence, Text, pieces_of, spelling}
-pub use Rattle.ansi_items.specs.Plain.{Mark, Placed, at_place, copied, has_escape, is_whole, joined, marks, marks_of, moved, places, plain, plain_bytes, plain_of, up_to}
-pub use Rattle.ansi_items.specs.Scans.{Gives, Scan, pieces_left}
+pub use Rattle.ansi_items.specs.Plain.{Mark, Placed, marks_at, copied, has_escape, is_whole, joined, marks, marks_of, placed_further_on, places, plain, plain_bytes, plain_of, marks_up_to}
+pub use Rattle.ansi_items.specs.Scans.{GivesItem, Scan, pieces_left}
 pub use Rattle.ansi_items.specs.Sequences.{is_sgr}
 pub use Rattle.ansi_items.specs.declared.ansitok.Item.{Item}
 pub use Rattle.ansi_items.specs.declared.ansitok.Kind.{Kind}
 pub use Rattle.ansi_style.proofs.CloseLemmas.{close_codes_clear}
 pub use Rattle.ansi_style.proofs.DressedLemmas.{GiveAlone, IsClosed, closed-spelled, dressed_pieces, dressed_pieces_give, dressed_pieces_stand, give-append, give-nothing, spelled-dressed_pieces}
-pub use Rattle.ansi_style.proofs.MarkLemmas.{after_marks-further, bytes-further, further, map-further-0, map-further-suc, marks-bare, marks_of-mark, marks_of-text, style_by_marks, style_by_marks-before, style_by_marks-mark, style_by_marks-text, up_to-further, up_to-here, up_to-none}
+pub use Rattle.ansi_style.proofs.MarkLemmas.{after_marks-further, bytes-further, further, map-further-0, map-further-suc, marks-bare, marks_of-mark, marks_of-text, style_by_marks, style_by_marks-before, style_by_marks-mark, style_by_marks-text, marks_up_to-further, marks_up_to-here, marks_up_to-none}
 pub use Rattle.ansi_style.proofs.ReadBackLemmas.{close_codes_are, code_pieces, code_pieces_stand, spelled-code_pieces, start_codes_are, style_through-codes, styled_through-codes}
 pub use Rattle.ansi_style.proofs.SgrLemmas.{apply-no_sgr}
 pub use Rattle.ansi_style.proofs.SpelledLemmas.{residue-spelled, styled-append, styled-spelled}
 pub use Rattle.ansi_style.proofs.StyleLemmas.{IsStyle-apply, IsStyle-plain_style}
-pub use Rattle.ansi_style.proofs.StyledLemmas.{bytes_of-styled, in_style, style_through, style_through-append, styled-pieces, styled_through, styled_through-append}
+pub use Rattle.ansi_style.proofs.StyledLemmas.{unstyled-styled, in_style, style_through, style_through-append, styled-pieces, styled_through, styled_through-append}
 pub use Rattle.ansi_style.specs.Reading.{after_marks, style_within}
 pub use Rattle.ansi_style.specs.Rendition.{IsStyle, known, plain_style}
 pub use Rattle.ansi_style.specs.Sgr.{apply}
 pub use Rattle.ansi_style.specs.States.{rendition_of}
-pub use Rattle.ansi_style.specs.Styled.{StyledByte, bytes_of, residue, style_at, style_of, styled}
+pub use Rattle.ansi_style.specs.Styled.{StyledByte, unstyled, residue, style_at, style_of, styled}
 pub use Rattle.ansi_style.specs.Written.{close, close_codes, longest_close, longest_start, longest_start_and_close, start}
 pub use Rattle.ansi_style.specs.declared.state.rendition.Rendition.{Rendition}
-pub use Rattle.ansi_slice.specs.Cut.{cut_up_to, show, shown_at}
+pub use Rattle.ansi_slice.specs.Cut.{cut_up_to, interleaved, interleaved_at}
 unfoldable pub use Rattle.ansi_slice.specs.Cut.{cut}
 pub use Rattle.ansi_slice.specs.Kept.{IsKept, trim_interval, trimmed, without_prefix, without_suffix}
 unfoldable pub use Rattle.ansi_slice.specs.Kept.{kept}

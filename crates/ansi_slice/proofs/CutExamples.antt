@@ -1,8 +1,8 @@
 -- Worked examples of cuts, each by computation.
 use Rattle.ansi_slice.proofs.Common.{refl, codes, [], ◌∷◌, List, Option, Some, None, ℕ, true, false, encode_utf8, plain, is_good_range, past_inclusive, cut}
-use Rattle.ansi_items.proofs.Tables.{Makes, utf8}
+use Rattle.ansi_items.proofs.Tables.{MakesRows, utf8}
 
-cuts : Makes (λ (x : List ℕ × ℕ × Option ℕ). cut x.0 x.1 x.2) (
+cuts : MakesRows (λ (x : List ℕ × ℕ × Option ℕ). cut x.0 x.1 x.2) (
     -- sequences up to the end are kept, at their places, and the style there is closed
     ((codes "\u{1b}[30mTEXT\u{1b}[39m", 1, Some 3), codes "\u{1b}[30mEX\u{1b}[39m")
     ∷ ((codes "\u{1b}[31;40mTEXT\u{1b}[0m", 0, Some 0), codes "\u{1b}[31;40m\u{1b}[39m\u{1b}[49m")
@@ -30,7 +30,7 @@ cuts : Makes (λ (x : List ℕ × ℕ × Option ℕ). cut x.0 x.1 x.2) (
 unfolding encode_utf8 cut
 cuts = refl
 
-good_ranges : Makes (λ (x : List ℕ × ℕ × Option ℕ). is_good_range (plain x.0) x.1 x.2) (
+good_ranges : MakesRows (λ (x : List ℕ × ℕ × Option ℕ). is_good_range (plain x.0) x.1 x.2) (
     ((utf8 "\u{1b}[31m🗻 on the 🌏\u{1b}[39m", 0, Some 13), false)
     ∷ ((utf8 "\u{1b}[31m🗻 on the 🌏\u{1b}[39m", 1, None), false)
     ∷ ((utf8 "\u{1b}[31m🗻 on the 🌏\u{1b}[39m", 0xFFFFFFFFFFFFFFFF, None), true)
@@ -40,6 +40,6 @@ good_ranges : Makes (λ (x : List ℕ × ℕ × Option ℕ). is_good_range (plai
 unfolding encode_utf8 cut
 good_ranges = refl
 
-inclusive_ends : Makes past_inclusive ((5, Some 6) ∷ (0xFFFFFFFFFFFFFFFF, None) ∷ [])
+inclusive_ends : MakesRows past_inclusive ((5, Some 6) ∷ (0xFFFFFFFFFFFFFFFF, None) ∷ [])
 unfolding cut
 inclusive_ends = refl

@@ -1,11 +1,11 @@
 -- What is kept of a text: all its marks, and of a whole text the slice of its styled bytes; it is whole, and leaves open what the text does.
-use Rattle.ansi_slice.proofs.Common.{◌≡◌, ℕ, ◌-◌, true, List, [], ◌∷◌, ◌++◌, map, length, refl, sym, ◌∙◌, ap, arith, slice_range, IsTrue, Piece, Text, pieces_of, plain_of, plain, Mark, marks_of, marks, is_whole, plain_style, known, StyledByte, styled, bytes_of, style_of, residue, show, kept, IsKept, one_text, bytes-further, marks_of-text, marks_of-mark, spelled, pieces_stand, is_whole-spelled, styled-pieces, bytes_of-styled, styled-spelled, residue-spelled, spelling}
+use Rattle.ansi_slice.proofs.Common.{◌≡◌, ℕ, ◌-◌, true, List, [], ◌∷◌, ◌++◌, map, length, refl, sym, ◌∙◌, ap, arith, slice_range, IsTrue, Piece, Text, pieces_of, plain_of, plain, Mark, marks_of, marks, is_whole, plain_style, known, StyledByte, styled, unstyled, style_of, residue, interleaved, kept, IsKept, one_text, bytes-further, marks_of-text, marks_of-mark, spelled, pieces_stand, is_whole-spelled, styled-pieces, unstyled-styled, styled-spelled, residue-spelled, spelling}
 use Rattle.ansi_search.proofs.SliceLemmas.{slice_range-from_past, slice_range-map, slice_range-append}
-use Rattle.ansi_slice.proofs.ShownLemmas.{at_places, shown_pieces, spelled-shown_pieces, shown_pieces_stand, styled_through-shown_pieces, style_through-shown_pieces}
+use Rattle.ansi_slice.proofs.ShownLemmas.{at_places, interleaved_pieces, spelled-interleaved_pieces, interleaved_pieces_stand, styled_through-interleaved_pieces, style_through-interleaved_pieces}
 
 -- the pieces of what is kept
 abbrev pub kept_pieces : ℕ → ℕ → List Piece → List Piece
-kept_pieces a b ps = shown_pieces (λ p. true) a b ps
+kept_pieces a b ps = interleaved_pieces (λ p. true) a b ps
 
 at_places-all : (ms : List Mark) → at_places (λ p. true) ms ≡ ms
 at_places-all [] = refl
@@ -13,7 +13,7 @@ at_places-all (m ∷ ms) = ap (λ ks. m ∷ ks) (at_places-all ms)
 
 pub spelled-kept_pieces : (t : List ℕ) (a b : ℕ) → spelled (kept_pieces a b (pieces_of t)) ≡ kept t a b
 unfolding kept
-spelled-kept_pieces t a b = spelled-shown_pieces (pieces_of t) (λ p. true) a b ∙ ap (show (plain t) a b) (at_places-all (marks t))
+spelled-kept_pieces t a b = spelled-interleaved_pieces (pieces_of t) (λ p. true) a b ∙ ap (interleaved (plain t) a b) (at_places-all (marks t))
 
 -- Their plain bytes are the slice, and their marks are all marks.
 
@@ -59,24 +59,24 @@ pub styled-kept : (t : List ℕ) (a b : ℕ) → IsTrue (is_whole t) → styled 
 styled-kept t a b whole =
     let shown = kept_pieces a b (pieces_of t) in
     ap styled (sym (spelled-kept_pieces t a b))
-    ∙ styled-spelled shown (shown_pieces_stand (pieces_of t) (λ p. true) a b (pieces_stand t whole))
-    ∙ styled_through-shown_pieces (pieces_of t) plain_style (λ p. true) a b (λ p below. refl)
+    ∙ styled-spelled shown (interleaved_pieces_stand (pieces_of t) (λ p. true) a b (pieces_stand t whole))
+    ∙ styled_through-interleaved_pieces (pieces_of t) plain_style (λ p. true) a b (λ p below. refl)
     ∙ ap (λ bs. slice_range bs a b) (sym (styled-pieces t))
 
 pub residue-kept : (t : List ℕ) (a b : ℕ) → IsTrue (is_whole t) → residue (kept t a b) ≡ residue t
 residue-kept t a b whole =
     let shown = kept_pieces a b (pieces_of t) in
     ap residue (sym (spelled-kept_pieces t a b))
-    ∙ residue-spelled shown (shown_pieces_stand (pieces_of t) (λ p. true) a b (pieces_stand t whole))
-    ∙ ap known (style_through-shown_pieces (pieces_of t) plain_style (λ p. true) a b)
+    ∙ residue-spelled shown (interleaved_pieces_stand (pieces_of t) (λ p. true) a b (pieces_stand t whole))
+    ∙ ap known (style_through-interleaved_pieces (pieces_of t) plain_style (λ p. true) a b)
     ∙ ap (λ ms. known (style_of ms)) (at_places-all (marks t))
 
 pub is_whole-kept : (t : List ℕ) (a b : ℕ) → IsTrue (is_whole t) → IsTrue (is_whole (kept t a b))
 is_whole-kept t a b whole =
     ap is_whole (sym (spelled-kept_pieces t a b))
-    ∙ is_whole-spelled (kept_pieces a b (pieces_of t)) (shown_pieces_stand (pieces_of t) (λ p. true) a b (pieces_stand t whole))
+    ∙ is_whole-spelled (kept_pieces a b (pieces_of t)) (interleaved_pieces_stand (pieces_of t) (λ p. true) a b (pieces_stand t whole))
 
 pub plain-kept : (t : List ℕ) (a b : ℕ) → IsTrue (is_whole t) → plain (kept t a b) ≡ slice_range (plain t) a b
 plain-kept t a b whole =
-    sym (bytes_of-styled (kept t a b)) ∙ ap bytes_of (styled-kept t a b whole)
-    ∙ sym (slice_range-map (λ (s : StyledByte). s.byte) (styled t) a b) ∙ ap (λ x. slice_range x a b) (bytes_of-styled t)
+    sym (unstyled-styled (kept t a b)) ∙ ap unstyled (styled-kept t a b whole)
+    ∙ sym (slice_range-map (λ (s : StyledByte). s.byte) (styled t) a b) ∙ ap (λ x. slice_range x a b) (unstyled-styled t)

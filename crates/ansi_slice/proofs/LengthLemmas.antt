@@ -3,7 +3,7 @@ use Rattle.ansi_slice.proofs.Common.{◌≡◌, ℕ, ◌+◌, ◌-◌, ◌*◌, 
 use Rattle.ansi_items.specs.Plain.{is_text}
 use Rattle.ansi_slice.proofs.WalkLemmas.{walked, style_past}
 use Rattle.ansi_slice.proofs.SideLemmas.{left_side-walked, right_side-walked}
-use Rattle.ansi_slice.proofs.ShownLemmas.{spelled-one_text, shown_pieces}
+use Rattle.ansi_slice.proofs.ShownLemmas.{spelled-one_text, interleaved_pieces}
 use Rattle.ansi_slice.proofs.CutSliceLemmas.{spelled-cut_pieces}
 use Rattle.ansi_slice.proofs.KeptLemmas.{spelled-kept_pieces}
 
@@ -12,17 +12,17 @@ use Rattle.ansi_slice.proofs.KeptLemmas.{spelled-kept_pieces}
 pub length-one_text : (w : List ℕ) → length (spelled (one_text w)) ≡ length w
 length-one_text w = ap length (spelled-one_text w)
 
-pub length-slice_range : (w : List ℕ) (a b : ℕ) → length (slice_range w a b) ≤ length w
-length-slice_range w a b = omega (arith, length-take (b - a) (drop a w), length-drop a w)
+pub length-slice_range-within : (w : List ℕ) (a b : ℕ) → length (slice_range w a b) ≤ length w
+length-slice_range-within w a b = omega (arith, length-take (b - a) (drop a w), length-drop a w)
 
 pub length-spelled : (ps qs : List Piece) → length (spelled (ps ++ qs)) ≡ length (spelled ps) + length (spelled qs)
 length-spelled ps qs = ap length (flat_map-append spelling ps qs) ∙ length-append (spelled ps) (spelled qs)
 
 -- what is shown of pieces is no longer than they are
-pub length-shown_pieces : (ps : List Piece) (test : ℕ → Bool) (a b : ℕ) → length (spelled (shown_pieces test a b ps)) ≤ length (spelled ps)
-length-shown_pieces [] test a b = omega arith
-length-shown_pieces (Text w ∷ ps) test a b = grind (arith, length-append, length-one_text, length-slice_range, length-spelled, length-shown_pieces ps (λ p. test (length w + p)) (a - length w) (b - length w))
-length-shown_pieces (p ∷ ps) test a b = grind (arith, length-append, length-shown_pieces ps test a b)
+pub length-interleaved_pieces : (ps : List Piece) (test : ℕ → Bool) (a b : ℕ) → length (spelled (interleaved_pieces test a b ps)) ≤ length (spelled ps)
+length-interleaved_pieces [] test a b = omega arith
+length-interleaved_pieces (Text w ∷ ps) test a b = grind (arith, length-append, length-one_text, length-slice_range-within, length-spelled, length-interleaved_pieces ps (λ p. test (length w + p)) (a - length w) (b - length w))
+length-interleaved_pieces (p ∷ ps) test a b = grind (arith, length-append, length-interleaved_pieces ps test a b)
 
 pub length-close : (s : Rendition) → length (close s) ≤ longest_close
 length-close s = (close_codes_are s).short
@@ -34,13 +34,13 @@ pub length-cut : (t : List ℕ) (s : ℕ) (e : Option ℕ) → length (cut t s e
 unfolding cut
 length-cut t s e =
     let end = unwrap_or e (length (plain t)) in
-    let shown = shown_pieces (λ p. nat_le p end) s end (pieces_of t) in
+    let shown = interleaved_pieces (λ p. nat_le p end) s end (pieces_of t) in
     let closing = close_codes (style_at t end) in
     omega (
       arith,
       ap length (sym (spelled-cut_pieces t s end)),
       length-spelled shown (code_pieces closing),
-      length-shown_pieces (pieces_of t) (λ p. nat_le p end) s end,
+      length-interleaved_pieces (pieces_of t) (λ p. nat_le p end) s end,
       ap length (spelled-pieces_of t),
       ap length (spelled-code_pieces closing),
       length-close (style_at t end),
@@ -52,7 +52,7 @@ length-kept t a b =
     omega (
       arith,
       ap length (sym (spelled-kept_pieces t a b)),
-      length-shown_pieces (pieces_of t) (λ p. true) a b,
+      length-interleaved_pieces (pieces_of t) (λ p. true) a b,
       ap length (spelled-pieces_of t),
     )
 

@@ -1,5 +1,5 @@
 mod Common
-pub mod ShowLemmas
+pub mod InterleavedLemmas
 pub mod CutLemmas
 pub mod TrimLemmas
 pub mod WalkLemmas

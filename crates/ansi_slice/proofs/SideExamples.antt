@@ -1,9 +1,9 @@
 -- Worked examples of the two sides of a text, and of whole texts, each by computation.
 use Rattle.ansi_slice.proofs.Common.{refl, codes, [], ◌∷◌, List, ℕ, false, encode_utf8, digits, is_whole, left_side, right_side}
-use Rattle.ansi_items.proofs.Tables.{Makes, utf8}
+use Rattle.ansi_items.proofs.Tables.{MakesRows, utf8}
 
 -- both sides of a text at a position
-sides : Makes {B = List ℕ × List ℕ} (λ (x : List ℕ × ℕ). (left_side x.0 x.1, right_side x.0 x.1)) (
+sides : MakesRows {B = List ℕ × List ℕ} (λ (x : List ℕ × ℕ). (left_side x.0 x.1, right_side x.0 x.1)) (
     -- texts without ESC
     ((codes "ab", 1), (codes "a", codes "b"))
     ∷ ((codes "ab", 9), (codes "ab", []))
@@ -33,6 +33,6 @@ unfolding digits encode_utf8 left_side right_side
 sides = refl
 
 -- an ESC before a wide character, and one at the end
-whole_texts : Makes is_whole ((utf8 "\u{1b}é[m", false) ∷ (utf8 "é\u{1b}", false) ∷ [])
+whole_texts : MakesRows is_whole ((utf8 "\u{1b}é[m", false) ∷ (utf8 "é\u{1b}", false) ∷ [])
 unfolding encode_utf8
 whole_texts = refl

@@ -1,31 +1,31 @@
 -- A cut and a kept text as a stretch of the text, by where its plain bytes stand, and the sequences outside of it.
-use Rattle.ansi_slice.proofs.Common.{◌≡◌, ℕ, ◌+◌, ◌-◌, ◌<◌, ◌≤◌, inl, inr, Bool, true, List, [], ◌∷◌, ◌++◌, length, take, drop, take-add, refl, sym, ◌∙◌, ap, ap₂, subst, arith, if◌then◌else◌, nat_lt, length-append, append_assoc, append-nil, not, false, ◌&&◌, Some, drop-append_seam, cases_lt, le-leb, lt-ltb, nat_tests, take-append-le, length-drop, drop-drop, slice_range, IsCharBoundary, Kind, Piece, Text, ArePieces, pieces_of, plain_of, plain, pieces_are, pieces_of-unique, length-plain, spelled, spelled-pieces_of, is_mark, BeginsWithMark, Rendition, plain_style, apply, style_within, close, style_by_marks, style_by_marks-before, style_by_marks-mark, is_good_position, is_good_range, cut_up_to, kept, bytes_before, sequences_up_to, offset_of, StandsIn, KeepsUpTo, spelling, joined, marks_of, up_to, marks_of-text, marks_of-mark, up_to-none, up_to-further, up_to-here}
+use Rattle.ansi_slice.proofs.Common.{◌≡◌, ℕ, ◌+◌, ◌-◌, ◌<◌, ◌≤◌, inl, inr, Bool, true, List, [], ◌∷◌, ◌++◌, length, take, drop, take-add, refl, sym, ◌∙◌, ap, ap₂, subst, arith, if◌then◌else◌, nat_lt, length-append, append_assoc, append-nil, not, false, ◌&&◌, Some, drop-append_seam, cases_lt, le-leb, lt-ltb, nat_tests, take-append-le, length-drop, drop-drop, slice_range, IsCharBoundary, Kind, Piece, Text, ArePieces, pieces_of, plain_of, plain, pieces_are, pieces_of-unique, length-plain, spelled, spelled-pieces_of, is_mark, BeginsWithMark, Rendition, plain_style, apply, style_within, close, style_by_marks, style_by_marks-before, style_by_marks-mark, is_good_position, is_good_range, cut_up_to, kept, bytes_before, sequences_up_to, offset_of, StandsIn, KeepsUpTo, spelling, joined, marks_of, marks_up_to, marks_of-text, marks_of-mark, marks_up_to-none, marks_up_to-further, marks_up_to-here}
 use Rattle.ansi_style.proofs.MarkLemmas.{joined-further}
 use Rattle.ansi_search.proofs.SliceLemmas.{slice_range-past, slice_range-from_past}
 use Rattle.ansi_search.proofs.OffsetLemmas.{bytes_before-last, bytes_before-text, style-text, after_of, after_of-last, after_of-text, take-after, inside_are, pieces_of-after, plain-after, IsOverText, IsPassed}
 use Rattle.ansi_search.proofs.PositionLemmas.{is_good_position-drop}
-use Rattle.ansi_slice.proofs.CutLemmas.{shown_from, shown_from-text, cut_up_to-walk}
+use Rattle.ansi_slice.proofs.CutLemmas.{interleaved_from, interleaved_from-text, cut_up_to-walk}
 use Rattle.ansi_slice.proofs.KeptWalkLemmas.{kept-walk, kept-all}
 
 sequences_up_to-last : (n : ℕ) (w : List ℕ) (ps : List Piece) → n < length w → sequences_up_to n (Text w ∷ ps) ≡ []
-sequences_up_to-last n w ps last = ap (λ ms. joined (up_to n ms)) (marks_of-text w ps) ∙ ap joined (up_to-none n (length w) (marks_of ps) last)
+sequences_up_to-last n w ps last = ap (λ ms. joined (marks_up_to n ms)) (marks_of-text w ps) ∙ ap joined (marks_up_to-none n (length w) (marks_of ps) last)
 
 sequences_up_to-text : (n : ℕ) (w : List ℕ) (ps : List Piece) → length w ≤ n → sequences_up_to n (Text w ∷ ps) ≡ sequences_up_to (n - length w) ps
 sequences_up_to-text n w ps within =
-    ap (λ ms. joined (up_to n ms)) (marks_of-text w ps) ∙ ap joined (up_to-further n (length w) (marks_of ps) within)
-    ∙ joined-further (length w) (up_to (n - length w) (marks_of ps))
+    ap (λ ms. joined (marks_up_to n ms)) (marks_of-text w ps) ∙ ap joined (marks_up_to-further n (length w) (marks_of ps) within)
+    ∙ joined-further (length w) (marks_up_to (n - length w) (marks_of ps))
 
 sequences_up_to-mark : (n : ℕ) (p : Piece) (ps : List Piece) → is_mark p ≡ true → sequences_up_to n (p ∷ ps) ≡ spelling p ++ sequences_up_to n ps
-sequences_up_to-mark n p ps is = ap (λ ms. joined (up_to n ms)) (marks_of-mark p ps is) ∙ ap joined (up_to-here n (spelling p) (marks_of ps))
+sequences_up_to-mark n p ps is = ap (λ ms. joined (marks_up_to n ms)) (marks_of-mark p ps is) ∙ ap joined (marks_up_to-here n (spelling p) (marks_of ps))
 
 take-more : (w rest more : List ℕ) (n : ℕ) → take (length w + n) (w ++ rest) ++ more ≡ w ++ (take n rest ++ more)
 take-more w rest more n = ap (λ u. u ++ more) (take-after w rest n) ∙ append_assoc w (take n rest) more
 
 -- A cut, and a kept text, begin with the sequences up to their start, and go on as one stretch.
 
-shown_from-front : (all : Bool) (ps : List Piece) (s e : ℕ) → s ≤ e → shown_from all s e ps ≡ sequences_up_to s ps ++ shown_from all 0 (e - s) (after_of s ps)
-shown_from-front all [] s e ordered = refl
-shown_from-front all (Text w ∷ ps) s e ordered = elim (cases_lt s (length w)) [
+interleaved_from-front : (all : Bool) (ps : List Piece) (s e : ℕ) → s ≤ e → interleaved_from all s e ps ≡ sequences_up_to s ps ++ interleaved_from all 0 (e - s) (after_of s ps)
+interleaved_from-front all [] s e ordered = refl
+interleaved_from-front all (Text w ∷ ps) s e ordered = elim (cases_lt s (length w)) [
   | inl last ↦ (
       let v = drop s w in
       let left : length v ≡ length w - s = length-drop s w in
@@ -33,51 +33,51 @@ shown_from-front all (Text w ∷ ps) s e ordered = elim (cases_lt s (length w)) 
       let count : e - s ≡ e - s - 0 = omega arith in
       let from : s - length w ≡ 0 - length v = omega arith in
       let to : e - length w ≡ e - s - length v = omega arith in
-      ap₂ (λ n b. take n v ++ (if not all && b then [] else shown_from all (s - length w) (e - length w) ps)) count test
-      ∙ ap₂ (λ i j. slice_range v 0 (e - s) ++ (if not all && nat_lt (e - s) (length v) then [] else shown_from all i j ps)) from to
-      ∙ sym (ap₂ (λ u qs. u ++ shown_from all 0 (e - s) qs) (sequences_up_to-last s w ps last) (after_of-last s w ps last)))
+      ap₂ (λ n b. take n v ++ (if not all && b then [] else interleaved_from all (s - length w) (e - length w) ps)) count test
+      ∙ ap₂ (λ i j. slice_range v 0 (e - s) ++ (if not all && nat_lt (e - s) (length v) then [] else interleaved_from all i j ps)) from to
+      ∙ sym (ap₂ (λ u qs. u ++ interleaved_from all 0 (e - s) qs) (sequences_up_to-last s w ps last) (after_of-last s w ps last)))
   | inr within ↦ (
       let n = length w in
       let count : e - n - (s - n) ≡ e - s = omega arith in
-      shown_from-text all s e w ps (omega arith)
-      ∙ ap (λ u. u ++ shown_from all (s - n) (e - n) ps) (slice_range-from_past w s e within)
-      ∙ shown_from-front all ps (s - n) (e - n) (omega arith)
-      ∙ ap (λ k. sequences_up_to (s - n) ps ++ shown_from all 0 k (after_of (s - n) ps)) count
-      ∙ sym (ap₂ (λ u qs. u ++ shown_from all 0 (e - s) qs) (sequences_up_to-text s w ps within) (after_of-text s w ps within)))
+      interleaved_from-text all s e w ps (omega arith)
+      ∙ ap (λ u. u ++ interleaved_from all (s - n) (e - n) ps) (slice_range-from_past w s e within)
+      ∙ interleaved_from-front all ps (s - n) (e - n) (omega arith)
+      ∙ ap (λ k. sequences_up_to (s - n) ps ++ interleaved_from all 0 k (after_of (s - n) ps)) count
+      ∙ sym (ap₂ (λ u qs. u ++ interleaved_from all 0 (e - s) qs) (sequences_up_to-text s w ps within) (after_of-text s w ps within)))
 ]
-shown_from-front all (p ∷ ps) s e ordered =
-    let rest = shown_from all 0 (e - s) (after_of s ps) in
-    ap (λ v. spelling p ++ v) (shown_from-front all ps s e ordered) ∙ sym (append_assoc (spelling p) (sequences_up_to s ps) rest)
+interleaved_from-front all (p ∷ ps) s e ordered =
+    let rest = interleaved_from all 0 (e - s) (after_of s ps) in
+    ap (λ v. spelling p ++ v) (interleaved_from-front all ps s e ordered) ∙ sym (append_assoc (spelling p) (sequences_up_to s ps) rest)
     ∙ ap (λ u. u ++ rest) (sym (sequences_up_to-mark s p ps refl))
 
 -- the marks past the end, where all are shown
 abbrev later : Bool → ℕ → List Piece → List ℕ
-later all e ps = if all then shown_from true 0 0 (after_of e ps) else []
+later all e ps = if all then interleaved_from true 0 0 (after_of e ps) else []
 
-shown_from-stretch : (all : Bool) (ps : List Piece) (e : ℕ) → shown_from all 0 e ps ≡ take (bytes_before e ps) (spelled ps) ++ later all e ps
-shown_from-stretch true [] e = refl
-shown_from-stretch false [] e = refl
-shown_from-stretch all (Text w ∷ ps) e = elim (cases_lt e (length w)) [
+interleaved_from-stretch : (all : Bool) (ps : List Piece) (e : ℕ) → interleaved_from all 0 e ps ≡ take (bytes_before e ps) (spelled ps) ++ later all e ps
+interleaved_from-stretch true [] e = refl
+interleaved_from-stretch false [] e = refl
+interleaved_from-stretch all (Text w ∷ ps) e = elim (cases_lt e (length w)) [
   | inl last ↦ (
       let count : e - 0 ≡ e = omega arith in
-      ap₂ (λ n b. take n w ++ (if not all && b then [] else shown_from all (0 - length w) (e - length w) ps)) count (lt-ltb e (length w) last)
+      ap₂ (λ n b. take n w ++ (if not all && b then [] else interleaved_from all (0 - length w) (e - length w) ps)) count (lt-ltb e (length w) last)
       ∙ ap (λ v. take e w ++ v) (past all last)
-      ∙ sym (ap₂ (λ n qs. take n (w ++ spelled ps) ++ (if all then shown_from true 0 0 qs else [])) (bytes_before-last e w ps last) (after_of-last e w ps last)
-      ∙ ap (λ u. u ++ (if all then shown_from true 0 0 (Text (drop e w) ∷ ps) else [])) (take-append-le e w (spelled ps) (omega arith))))
+      ∙ sym (ap₂ (λ n qs. take n (w ++ spelled ps) ++ (if all then interleaved_from true 0 0 qs else [])) (bytes_before-last e w ps last) (after_of-last e w ps last)
+      ∙ ap (λ u. u ++ (if all then interleaved_from true 0 0 (Text (drop e w) ∷ ps) else [])) (take-append-le e w (spelled ps) (omega arith))))
   | inr within ↦ (
       let n = length w in
       let front : 0 - n ≡ 0 = omega arith in
-      shown_from-text all 0 e w ps within
-      ∙ ap₂ (λ u k. u ++ shown_from all k (e - n) ps) (slice_range-past w 0 e within) front
-      ∙ ap (λ v. w ++ v) (shown_from-stretch all ps (e - n))
-      ∙ sym (ap₂ (λ k qs. take k (w ++ spelled ps) ++ (if all then shown_from true 0 0 qs else [])) (bytes_before-text e w ps within) (after_of-text e w ps within)
+      interleaved_from-text all 0 e w ps within
+      ∙ ap₂ (λ u k. u ++ interleaved_from all k (e - n) ps) (slice_range-past w 0 e within) front
+      ∙ ap (λ v. w ++ v) (interleaved_from-stretch all ps (e - n))
+      ∙ sym (ap₂ (λ k qs. take k (w ++ spelled ps) ++ (if all then interleaved_from true 0 0 qs else [])) (bytes_before-text e w ps within) (after_of-text e w ps within)
       ∙ take-more w (spelled ps) (later all (e - n) ps) (bytes_before (e - n) ps)))
 ]
   where
-    past : (b : Bool) → e < length w → (if not b && true then [] else shown_from b (0 - length w) (e - length w) ps) ≡ (if b then shown_from true 0 0 (Text (drop e w) ∷ ps) else [])
-    past true last = ap₂ (λ i j. shown_from true i j ps) (omega arith) (omega arith)
+    past : (b : Bool) → e < length w → (if not b && true then [] else interleaved_from b (0 - length w) (e - length w) ps) ≡ (if b then interleaved_from true 0 0 (Text (drop e w) ∷ ps) else [])
+    past true last = ap₂ (λ i j. interleaved_from true i j ps) (omega arith) (omega arith)
     past false last = refl
-shown_from-stretch all (p ∷ ps) e = ap (λ v. spelling p ++ v) (shown_from-stretch all ps e) ∙ sym (take-more (spelling p) (spelled ps) (later all e ps) (bytes_before e ps))
+interleaved_from-stretch all (p ∷ ps) e = ap (λ v. spelling p ++ v) (interleaved_from-stretch all ps e) ∙ sym (take-more (spelling p) (spelled ps) (later all e ps) (bytes_before e ps))
 
 -- the style at the end is that after the marks from the start on
 style-after : (ps : List Piece) (c : Rendition) (s e : ℕ) → s ≤ e → style_by_marks (style_by_marks c ps s) (after_of s ps) (e - s) ≡ style_by_marks c ps e
@@ -103,8 +103,8 @@ style-after (p ∷ ps) c s e ordered =
     ap (λ r. style_by_marks r (after_of s ps) (e - s)) (style_by_marks-mark c p ps s refl) ∙ style-after ps (apply c (spelling p)) s e ordered ∙ sym (style_by_marks-mark c p ps e refl)
 
 -- a front that is one stretch
-front-stretch : {t : List ℕ} {e to : ℕ} → StandsIn t e to → take to t ≡ shown_from false 0 e (pieces_of t)
-front-stretch {t} {e} end = ap₂ (λ i u. take i u) end.offset (sym (spelled-pieces_of t)) ∙ sym (shown_from-stretch false (pieces_of t) e ∙ append-nil _)
+front-stretch : {t : List ℕ} {e to : ℕ} → StandsIn t e to → take to t ≡ interleaved_from false 0 e (pieces_of t)
+front-stretch {t} {e} end = ap₂ (λ i u. take i u) end.offset (sym (spelled-pieces_of t)) ∙ sym (interleaved_from-stretch false (pieces_of t) e ∙ append-nil _)
 
 -- a cut from the front, by the offset of its end
 pub cut-front : {t : List ℕ} {e to : ℕ} {style : Rendition} → StandsIn t e to → style ≡ style_within plain_style t e → take to t ++ close style ≡ cut_up_to t 0 e
@@ -116,9 +116,9 @@ pub cut-stretch : {t rest : List ℕ} {s e from to : ℕ} {c style : Rendition} 
 cut-stretch {t} {rest} {s} {e} {from} {to} {c} {style} ordered start rest_is end c_is style_is =
     let ps = pieces_of t in
     let after : pieces_of rest ≡ after_of s ps = ap pieces_of rest_is ∙ ap (λ i. pieces_of (drop i t)) start.offset ∙ pieces_of-after t s in
-    ap₂ (λ u r. (sequences_up_to s ps ++ u) ++ close r) (front-stretch end ∙ ap (shown_from false 0 (e - s)) after)
+    ap₂ (λ u r. (sequences_up_to s ps ++ u) ++ close r) (front-stretch end ∙ ap (interleaved_from false 0 (e - s)) after)
     (style_is ∙ ap₂ (λ r qs. style_by_marks r qs (e - s)) c_is after ∙ style-after ps plain_style s e ordered)
-    ∙ sym (cut_up_to-walk t s e ∙ ap (λ u. u ++ close (style_by_marks plain_style ps e)) (shown_from-front false ps s e ordered))
+    ∙ sym (cut_up_to-walk t s e ∙ ap (λ u. u ++ close (style_by_marks plain_style ps e)) (interleaved_from-front false ps s e ordered))
 
 -- the range of a cut, by those
 pub range-by_offset : {t rest : List ℕ} {s e from : ℕ} → s ≤ e → StandsIn t s from → rest ≡ drop from t → is_good_range (plain t) s (Some e) ≡ is_good_position (plain rest) (e - s)
@@ -126,7 +126,7 @@ range-by_offset ordered start rest_is = grind (arith, is_good_position-drop, le-
 
 -- what is kept from s on
 pub kept-front : (t : List ℕ) (s e : ℕ) → s ≤ e → kept t s e ≡ sequences_up_to s (pieces_of t) ++ kept (drop (offset_of t s) t) 0 (e - s)
-kept-front t s e ordered = grind (arith, kept-walk, pieces_of-after, shown_from-front)
+kept-front t s e ordered = grind (arith, kept-walk, pieces_of-after, interleaved_from-front)
 
 -- all from s on
 pub kept-rest : {t rest : List ℕ} {s from : ℕ} → s ≤ length (plain t) → StandsIn t s from → rest ≡ drop from t → sequences_up_to s (pieces_of t) ++ rest ≡ kept t s (length (plain t))
@@ -134,7 +134,7 @@ kept-rest inside stands is = grind (arith, kept-all, kept-front, length-drop, pl
 
 -- what is kept up to e: all before its offset, and the sequences after that
 pub kept-stretch : (t : List ℕ) (e : ℕ) → kept t 0 e ≡ take (offset_of t e) t ++ kept (drop (offset_of t e) t) 0 0
-kept-stretch t e = grind (arith, kept-walk, pieces_of-after, shown_from-stretch, spelled-pieces_of)
+kept-stretch t e = grind (arith, kept-walk, pieces_of-after, interleaved_from-stretch, spelled-pieces_of)
 
 -- so it is at a place in the text, and where that stands
 pub keeps-at : {t : List ℕ} {n i : ℕ} → StandsIn t n i → KeepsUpTo t n i
@@ -144,13 +144,13 @@ keeps-at {t} {n} stands = record {
 }
 
 -- where no plain byte is kept, all sequences are
-shown_from-none : (ps : List Piece) (top : ℕ) → length (plain_of ps) ≤ top → shown_from true 0 0 ps ≡ sequences_up_to top ps
-shown_from-none [] top past = refl
-shown_from-none (Text w ∷ ps) top past = grind (arith, length-append, sequences_up_to-text, shown_from-none ps (top - length w) (omega (arith, (length-append w (plain_of ps)), past)))
-shown_from-none (p ∷ ps) top past = ap (λ v. spelling p ++ v) (shown_from-none ps top past) ∙ sym (sequences_up_to-mark top p ps refl)
+interleaved_from-none : (ps : List Piece) (top : ℕ) → length (plain_of ps) ≤ top → interleaved_from true 0 0 ps ≡ sequences_up_to top ps
+interleaved_from-none [] top past = refl
+interleaved_from-none (Text w ∷ ps) top past = grind (arith, length-append, sequences_up_to-text, interleaved_from-none ps (top - length w) (omega (arith, (length-append w (plain_of ps)), past)))
+interleaved_from-none (p ∷ ps) top past = ap (λ v. spelling p ++ v) (interleaved_from-none ps top past) ∙ sym (sequences_up_to-mark top p ps refl)
 
 pub kept-none : (t : List ℕ) (top : ℕ) → length t ≤ top → kept t 0 0 ≡ sequences_up_to top (pieces_of t)
-kept-none t top past = kept-walk t 0 0 ∙ shown_from-none (pieces_of t) top (omega (arith, length-plain t))
+kept-none t top past = kept-walk t 0 0 ∙ interleaved_from-none (pieces_of t) top (omega (arith, length-plain t))
 
 -- What has been appended, and the sequences up to a place in what is left, are all.
 pub record IsPushedSoFar (whole written : List ℕ) (n : ℕ) (left : List Piece) : Type 0 where

@@ -1,11 +1,11 @@
 -- White space at the front and at the end of a text, over the texts that are left.
-use Rattle.ansi_slice.proofs.Common.{◌≡◌, ℕ, ◌+◌, ◌-◌, ◌<◌, ◌≤◌, Bool, true, false, ◌&&◌, ◌==◌, List, [], ◌∷◌, ◌++◌, length, take, drop, take-add, refl, sym, ◌∙◌, ap, subst, arith, cond, length-append, nat_tests, take-append-le, length-take, chars-nil, encodes-append, encodes-chars, chars-append, length-le-encodes, IsUtf8-drop, IsUtf8-append, IsUtf8-take, IsCharBoundary-from_take, take-append_seam, IsUtf8, chars, trim_start, trim_end, skip_leading_whitespace, drop_trailing_whitespace, encode_utf8_all, is_whitespace, Item, Kind, Piece, Text, ArePieces, pieces_of, plain_of, plain, kept, trim_interval, trimmed, sequences_up_to, StandsIn, KeepsUpTo, Scan, Gives, pieces_left, IsUtf8-plain, pieces_are, BeginsWithMark, plain_of-mark}
+use Rattle.ansi_slice.proofs.Common.{◌≡◌, ℕ, ◌+◌, ◌-◌, ◌<◌, ◌≤◌, Bool, true, false, ◌&&◌, ◌==◌, List, [], ◌∷◌, ◌++◌, length, take, drop, take-add, refl, sym, ◌∙◌, ap, subst, arith, cond, length-append, nat_tests, take-append-le, length-take, chars-nil, encodes-append, encodes-chars, chars-append, length-le-encodes, IsUtf8-drop, IsUtf8-append, IsUtf8-take, IsCharBoundary-from_take, take-append_seam, IsUtf8, chars, trim_start, trim_end, skip_leading_whitespace, drop_trailing_whitespace, encode_utf8_all, is_whitespace, Item, Kind, Piece, Text, ArePieces, pieces_of, plain_of, plain, kept, trim_interval, trimmed, sequences_up_to, StandsIn, KeepsUpTo, Scan, GivesItem, pieces_left, IsUtf8-plain, pieces_are, BeginsWithMark, plain_of-mark}
 use Rattle.ansi_slice.proofs.TrimLemmas.{dropped, drop-trim_interval}
 use Rattle.ansi_search.proofs.OffsetLemmas.{IsOverText, IsOverMark, IsPassed, passed-text, passed-mark, plain-after}
 use Rattle.ansi_slice.proofs.StretchLemmas.{keeps-inside, kept-front}
 
 -- the plain text of what a scanner has left is UTF-8
-pub IsUtf8-left : {old new : Scan} {item : Item} {text : List ℕ} → Gives old item new → old.text ≡ text → IsUtf8 text → IsUtf8 (plain_of (pieces_left new))
+pub IsUtf8-left : {old new : Scan} {item : Item} {text : List ℕ} → GivesItem old item new → old.text ≡ text → IsUtf8 text → IsUtf8 (plain_of (pieces_left new))
 IsUtf8-left gives same utf8 = grind (arith, IsUtf8-drop, IsUtf8-plain)
 
 -- the characters of a text are none where it has no bytes

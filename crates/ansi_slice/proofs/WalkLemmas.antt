@@ -1,5 +1,5 @@
 -- What is made of each piece at its place and in the style there, by one walk with a running place and a running style.
-use Rattle.ansi_slice.proofs.Common.{◌≡◌, ◌≢◌, ℕ, ◌+◌, List, [], ◌∷◌, ◌++◌, map, flat_map, length, refl, ◌∙◌, ap, ap₂, arith, Piece, Text, spelling, is_mark, true, ArePieces, pieces_of, plain_bytes, Placed, moved, places, Rendition, plain_style, apply, style_at, pieces_are, style_by_marks, style_by_marks-text, style_by_marks-before, style_by_marks-mark}
+use Rattle.ansi_slice.proofs.Common.{◌≡◌, ◌≢◌, ℕ, ◌+◌, List, [], ◌∷◌, ◌++◌, map, flat_map, length, refl, ◌∙◌, ap, ap₂, arith, Piece, Text, spelling, is_mark, true, ArePieces, pieces_of, plain_bytes, Placed, placed_further_on, places, Rendition, plain_style, apply, style_at, pieces_are, style_by_marks, style_by_marks-text, style_by_marks-before, style_by_marks-mark}
 
 -- the style after a piece
 abbrev pub style_past : Rendition → Piece → Rendition
@@ -19,9 +19,9 @@ NeedsNoStyle make = (n : ℕ) (r s : Rendition) (p : Piece) → is_mark p ≡ tr
 abbrev by_places : (ℕ → Rendition → Piece → List ℕ) → (ℕ → Rendition) → ℕ → List Placed → List ℕ
 by_places make style n qs = flat_map (λ (q : Placed). make (n + q.place) (style (n + q.place)) q.piece) qs
 
-by_places-moved : (make : ℕ → Rendition → Piece → List ℕ) (style : ℕ → Rendition) (n m : ℕ) (qs : List Placed) → by_places make style n (map (moved m) qs) ≡ by_places make style (n + m) qs
-by_places-moved make style n m [] = refl
-by_places-moved make style n m (q ∷ qs) = ap₂ (λ i v. make i (style i) q.piece ++ v) (omega arith) (by_places-moved make style n m qs)
+by_places-further : (make : ℕ → Rendition → Piece → List ℕ) (style : ℕ → Rendition) (n m : ℕ) (qs : List Placed) → by_places make style n (map (placed_further_on m) qs) ≡ by_places make style (n + m) qs
+by_places-further make style n m [] = refl
+by_places-further make style n m (q ∷ qs) = ap₂ (λ i v. make i (style i) q.piece ++ v) (omega arith) (by_places-further make style n m qs)
 
 -- n is the place of the pieces, and s the style before them
 abbrev FollowsMarks : (ℕ → Rendition) → ℕ → Rendition → List Piece → Type 0
@@ -44,11 +44,11 @@ walk make no_style style [] t are n s is = refl
 walk make no_style style (Text w ∷ ps) t are n s is =
     ap₂ (λ u v. u ++ v)
     (ap₂ (λ i r. make i r (Text w)) (omega arith) (follows-first style n s w ps are.2.0 is))
-    (by_places-moved make style n (length w) (places ps) ∙ walk make no_style style ps are.0 are.3 (n + length w) s (follows-text style n s w ps is))
+    (by_places-further make style n (length w) (places ps) ∙ walk make no_style style ps are.0 are.3 (n + length w) s (follows-text style n s w ps is))
 walk make no_style style (p ∷ ps) t are n s is =
     ap₂ (λ u v. u ++ v)
     (ap (λ i. make i (style i) p) (omega arith) ∙ no_style n (style n) s p refl)
-    (by_places-moved make style n 0 (places ps) ∙ walk make no_style style ps are.0 are.3 (n + 0) (apply s (spelling p)) (follows-mark style n s p ps refl is))
+    (by_places-further make style n 0 (places ps) ∙ walk make no_style style ps are.0 are.3 (n + 0) (apply s (spelling p)) (follows-mark style n s p ps refl is))
 
 by_places-0 : (make : ℕ → Rendition → Piece → List ℕ) (style : ℕ → Rendition) (qs : List Placed) → flat_map (λ (q : Placed). make q.place (style q.place) q.piece) qs ≡ by_places make style 0 qs
 by_places-0 make style [] = refl

@@ -3,11 +3,11 @@ use Rattle.std.specs.Prelude.{◌≡◌, ℕ, ◌+◌, ◌-◌, List, map, flat_
 use Rattle.std.specs.Str.{trim, trim_start}
 use Rattle.ansi_items.specs.Pieces.{Piece, spelling}
 use Rattle.ansi_items.specs.Plain.{plain_of, plain, Mark, marks_of, marks}
-use Rattle.ansi_slice.specs.Cut.{show}
+use Rattle.ansi_slice.specs.Cut.{interleaved}
 
 -- the plain bytes a..b of t, with every mark at its place (own)
 unfoldable pub kept : List ℕ → ℕ → ℕ → List ℕ
-kept t a b = show (plain t) a b (marks t)
+kept t a b = interleaved (plain t) a b (marks t)
 
 -- u is what is kept of t over a..b: pieces spell it whose plain bytes are that slice of those of t, and whose marks have the bytes of all marks of t, in order
 pub record IsKept (t : List ℕ) (a b : ℕ) (u : List ℕ) : Type 0 where

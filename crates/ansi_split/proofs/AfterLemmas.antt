@@ -1,7 +1,7 @@
 -- A text in two, after the last mark at a position.
-use Rattle.ansi_split.proofs.Common.{min, ◌≡◌, ◌≢◌, ℕ, zero, suc, ◌+◌, ◌-◌, ◌<◌, ◌≤◌, inl, inr, false, List, [], ◌∷◌, ◌++◌, length, map, take, drop, Some, refl, sym, ◌∙◌, ap, ap₂, subst, arith, IsTrue, if◌then◌else◌, nat_lt, nat_le, slice_index, slice_range, length-append, append_assoc, append-nil, take-nil, cases_lt, lt-ltb, le-ltb, nat_tests, take_all, take-take, take-append-le, take-append-drop, map-append, length-drop, filter-append, filter_agree, fold-append, IsCharBoundary-from_rest, IsCharBoundary, escape, is_plain_byte, IsSequence, Piece, Text, Sequence, LoneEscape, spelling, ArePieces, StandsBefore, pieces_of, Mark, plain_of, plain, marks_of, marks, up_to, pieces_are, pieces_of-unique, one_text, one_text_are, plain_of-one_text, apply, apply_all, after_marks, further, marks_of-text, marks_of-mark, up_to-none, up_to-further, after_marks-further, is_good_position, show, past, bytes_before, offset_of, list_all-parts, take-append, slice_range-none, slice_range-from_past, show-bare, show-text, show-mark, show-nil, is_good_position-append, good_is_boundary, up_to-past, bytes_before-last, bytes_before-text, after_of, after_of-last, after_of-text, take-after, pieces_of-after, plain-after, further_on, IsCutAfter}
+use Rattle.ansi_split.proofs.Common.{min, ◌≡◌, ◌≢◌, ℕ, zero, suc, ◌+◌, ◌-◌, ◌<◌, ◌≤◌, inl, inr, false, List, [], ◌∷◌, ◌++◌, length, map, take, drop, Some, refl, sym, ◌∙◌, ap, ap₂, subst, arith, IsTrue, if◌then◌else◌, nat_lt, nat_le, slice_index, slice_range, length-append, append_assoc, append-nil, take-nil, cases_lt, lt-ltb, le-ltb, nat_tests, take_all, take-take, take-append-le, take-append-drop, map-append, length-drop, filter-append, filter_agree, fold-append, IsCharBoundary-from_rest, IsCharBoundary, escape, is_plain_byte, IsSequence, Piece, Text, Sequence, LoneEscape, spelling, ArePieces, StandsBefore, pieces_of, Mark, plain_of, plain, marks_of, marks, marks_up_to, pieces_are, pieces_of-unique, one_text, one_text_are, plain_of-one_text, apply, apply_all, after_marks, further, marks_of-text, marks_of-mark, marks_up_to-none, marks_up_to-further, after_marks-further, is_good_position, interleaved, marks_past, bytes_before, offset_of, list_all-parts, take-append, slice_range-none, slice_range-from_past, interleaved-bare, interleaved-text, interleaved-mark, interleaved-nil, is_good_position-append, good_is_boundary, marks_up_to-marks_past, bytes_before-last, bytes_before-text, after_of, after_of-last, after_of-text, take-after, pieces_of-after, plain-after, marks_further_on, IsCutAfter}
 use Rattle.std.proofs.lemmas.List.{length-take}
-use Rattle.ansi_split.proofs.PartSliceLemmas.{own_places, at_places-never, past-places}
+use Rattle.ansi_split.proofs.PartSliceLemmas.{own_places, at_places-never, marks_past-places}
 
 -- The pieces up to the position e with the marks there. A text that goes on past it is in them and in those after it.
 
@@ -66,25 +66,25 @@ plain_of-front e (p ∷ ps) = plain_of-front e ps
 
 -- Marks that stand up to a position, and past it.
 
-past-up_to : (e : ℕ) (ms : List Mark) → past (Some e) (up_to e ms) ≡ []
-past-up_to e ms =
-    past-places (Some e) e ms ∙ filter_agree (λ (m : Mark). own_places (Some e) e m.place) (λ (m : Mark). false) (λ m. grind (arith, nat_tests)) ms ∙ at_places-never ms
+marks_past-marks_up_to : (e : ℕ) (ms : List Mark) → marks_past (Some e) (marks_up_to e ms) ≡ []
+marks_past-marks_up_to e ms =
+    marks_past-places (Some e) e ms ∙ filter_agree (λ (m : Mark). own_places (Some e) e m.place) (λ (m : Mark). false) (λ m. grind (arith, nat_tests)) ms ∙ at_places-never ms
 
-past-all : (e n : ℕ) (ms : List Mark) → e < n → past (Some e) (further_on n ms) ≡ further_on n ms
-past-all e n [] below = refl
-past-all e n (m ∷ ms) below = grind (arith, lt-ltb, past-all e n ms below)
+marks_past-all : (e n : ℕ) (ms : List Mark) → e < n → marks_past (Some e) (marks_further_on n ms) ≡ marks_further_on n ms
+marks_past-all e n [] below = refl
+marks_past-all e n (m ∷ ms) below = grind (arith, lt-ltb, marks_past-all e n ms below)
 
-pub further_on-further_on : (a b : ℕ) (ms : List Mark) → further_on a (further_on b ms) ≡ further_on (a + b) ms
-further_on-further_on a b [] = refl
-further_on-further_on a b (m ∷ ms) = ap₂ (λ n ks. record m { place = n } ∷ ks) (omega arith) (further_on-further_on a b ms)
+pub marks_further_on-marks_further_on : (a b : ℕ) (ms : List Mark) → marks_further_on a (marks_further_on b ms) ≡ marks_further_on (a + b) ms
+marks_further_on-marks_further_on a b [] = refl
+marks_further_on-marks_further_on a b (m ∷ ms) = ap₂ (λ n ks. record m { place = n } ∷ ks) (omega arith) (marks_further_on-marks_further_on a b ms)
 
 -- All marks are those up to the position, and then others further on, which are those of the pieces after it.
 record AreMarksCut (e : ℕ) (ps : List Piece) : Type 0 where
   n : ℕ
   far : e < n
   others : List Mark
-  all : marks_of ps ≡ marks_of (front_of e ps) ++ further_on n others
-  after : further_on e (marks_of (after_of e ps)) ≡ further_on n others
+  all : marks_of ps ≡ marks_of (front_of e ps) ++ marks_further_on n others
+  after : marks_further_on e (marks_of (after_of e ps)) ≡ marks_further_on n others
 
 marks_of-one_text : (w : List ℕ) → marks_of (one_text w) ≡ []
 marks_of-one_text [] = refl
@@ -99,24 +99,24 @@ marks_cut e (Text w ∷ ps) = elim (cases_lt e (length w)) [
         n = length w;
         far = last;
         others = marks_of ps;
-        all = marks_of-text w ps ∙ ap (λ ms. ms ++ further_on (length w) (marks_of ps)) (sym (ap marks_of (front_of-last e w ps last) ∙ marks_of-one_text (take e w)));
-        after = ap (λ qs. further_on e (marks_of qs)) (after_of-last e w ps last) ∙ ap (further_on e) (marks_of-text (drop e w) ps)
-            ∙ further_on-further_on e (length (drop e w)) (marks_of ps) ∙ ap (λ k. further_on k (marks_of ps)) left;
+        all = marks_of-text w ps ∙ ap (λ ms. ms ++ marks_further_on (length w) (marks_of ps)) (sym (ap marks_of (front_of-last e w ps last) ∙ marks_of-one_text (take e w)));
+        after = ap (λ qs. marks_further_on e (marks_of qs)) (after_of-last e w ps last) ∙ ap (marks_further_on e) (marks_of-text (drop e w) ps)
+            ∙ marks_further_on-marks_further_on e (length (drop e w)) (marks_of ps) ∙ ap (λ k. marks_further_on k (marks_of ps)) left;
       })
   | inr within ↦ (
       let k = length w in
       let cut = marks_cut (e - k) ps in
       let far : e - k < cut.n = cut.far in
       let all : e ≡ k + (e - k) = omega arith in
-      let moved = further_on-further_on k cut.n cut.others in
+      let moved = marks_further_on-marks_further_on k cut.n cut.others in
       record {
         n = k + cut.n;
         far = omega (arith, far);
         others = cut.others;
-        all = marks_of-text w ps ∙ ap (further_on k) cut.all ∙ map-append (further k) (marks_of (front_of (e - k) ps)) (further_on cut.n cut.others)
+        all = marks_of-text w ps ∙ ap (marks_further_on k) cut.all ∙ map-append (further k) (marks_of (front_of (e - k) ps)) (marks_further_on cut.n cut.others)
             ∙ ap₂ (λ ms ks. ms ++ ks) (sym (ap marks_of (front_of-text e w ps within) ∙ marks_of-text w (front_of (e - k) ps))) moved;
-        after = ap₂ (λ a qs. further_on a (marks_of qs)) all (after_of-text e w ps within) ∙ sym (further_on-further_on k (e - k) (marks_of (after_of (e - k) ps)))
-            ∙ ap (further_on k) cut.after ∙ moved;
+        after = ap₂ (λ a qs. marks_further_on a (marks_of qs)) all (after_of-text e w ps within) ∙ sym (marks_further_on-marks_further_on k (e - k) (marks_of (after_of (e - k) ps)))
+            ∙ ap (marks_further_on k) cut.after ∙ moved;
       })
 ]
 marks_cut e (p ∷ ps) =
@@ -126,25 +126,25 @@ marks_cut e (p ∷ ps) =
       far = cut.far;
       others = cut.others;
       all = marks_of-mark p ps refl ∙ ap (λ ms. record { place = 0; bytes = spelling p } ∷ ms) cut.all
-          ∙ ap (λ ms. ms ++ further_on cut.n cut.others) (sym (marks_of-mark p (front_of e ps) refl));
+          ∙ ap (λ ms. ms ++ marks_further_on cut.n cut.others) (sym (marks_of-mark p (front_of e ps) refl));
       after = cut.after;
     }
 
 -- What is shown of pieces, where nothing of the text y after them is.
-show-front : (ps : List Piece) (y : List ℕ) (a e : ℕ) → slice_range y (a - length (plain_of ps)) (e - length (plain_of ps)) ≡ [] → show (plain_of ps ++ y) a e (marks_of ps) ≡ show (plain_of ps) a e (marks_of ps)
-show-front [] y a e none = show-bare y a e ∙ ap₂ (slice_range y) (omega arith) (omega arith) ∙ none ∙ sym (show-nil a e)
-show-front (Text w ∷ ps) y a e none =
+interleaved-front : (ps : List Piece) (y : List ℕ) (a e : ℕ) → slice_range y (a - length (plain_of ps)) (e - length (plain_of ps)) ≡ [] → interleaved (plain_of ps ++ y) a e (marks_of ps) ≡ interleaved (plain_of ps) a e (marks_of ps)
+interleaved-front [] y a e none = interleaved-bare y a e ∙ ap₂ (slice_range y) (omega arith) (omega arith) ∙ none ∙ sym (interleaved-nil a e)
+interleaved-front (Text w ∷ ps) y a e none =
     let n = length w in
     let x = plain_of ps in
     let size : length (w ++ x) ≡ n + length x = length-append w x in
-    ap₂ (λ u ms. show u a e ms) (append_assoc w x y) (marks_of-text w ps) ∙ show-text w (x ++ y) a e (marks_of ps)
-    ∙ ap (λ u. slice_range w a e ++ u) (show-front ps y (a - n) (e - n) (ap₂ (slice_range y) (omega (arith, size)) (omega (arith, size)) ∙ none))
-    ∙ sym (ap (show (w ++ x) a e) (marks_of-text w ps) ∙ show-text w x a e (marks_of ps))
-show-front (p ∷ ps) y a e none =
+    ap₂ (λ u ms. interleaved u a e ms) (append_assoc w x y) (marks_of-text w ps) ∙ interleaved-text w (x ++ y) a e (marks_of ps)
+    ∙ ap (λ u. slice_range w a e ++ u) (interleaved-front ps y (a - n) (e - n) (ap₂ (slice_range y) (omega (arith, size)) (omega (arith, size)) ∙ none))
+    ∙ sym (ap (interleaved (w ++ x) a e) (marks_of-text w ps) ∙ interleaved-text w x a e (marks_of ps))
+interleaved-front (p ∷ ps) y a e none =
     let x = plain_of ps in
     let mark = marks_of-mark p ps refl in
-    ap (show (x ++ y) a e) mark ∙ show-mark (spelling p) (x ++ y) a e (marks_of ps) ∙ ap (λ u. spelling p ++ u) (show-front ps y a e none)
-    ∙ sym (ap (show x a e) mark ∙ show-mark (spelling p) x a e (marks_of ps))
+    ap (interleaved (x ++ y) a e) mark ∙ interleaved-mark (spelling p) (x ++ y) a e (marks_of ps) ∙ ap (λ u. spelling p ++ u) (interleaved-front ps y a e none)
+    ∙ sym (ap (interleaved x a e) mark ∙ interleaved-mark (spelling p) x a e (marks_of ps))
 
 -- So the text is cut there.
 
@@ -158,35 +158,35 @@ is_cut_after t e n is =
     let cut = marks_cut e (pieces_of t) in
     let plain_front : plain_of fs ≡ take e x = ap plain_of front ∙ plain_of-front e (pieces_of t) in
     let short : length (plain_of fs) ≤ e = omega (arith, ap length plain_front, length-take e x) in
-    let others : further_on e ks ≡ further_on cut.n cut.others = ap (λ qs. further_on e (marks_of qs)) after ∙ cut.after in
-    let all : marks t ≡ marks_of fs ++ further_on e ks = cut.all ∙ ap₂ (λ qs ms. marks_of qs ++ ms) (sym front) (sym others) in
-    let marks_front : up_to e (marks t) ≡ marks_of fs
-    = ap (up_to e) all ∙ filter-append (λ (m : Mark). nat_le m.place e) (marks_of fs) (further_on e ks)
-    ∙ ap₂ (λ ms ls. ms ++ ls) (up_to-past e fs short) (ap (up_to e) others ∙ up_to-none e cut.n cut.others cut.far) ∙ append-nil (marks_of fs) in
+    let others : marks_further_on e ks ≡ marks_further_on cut.n cut.others = ap (λ qs. marks_further_on e (marks_of qs)) after ∙ cut.after in
+    let all : marks t ≡ marks_of fs ++ marks_further_on e ks = cut.all ∙ ap₂ (λ qs ms. marks_of qs ++ ms) (sym front) (sym others) in
+    let marks_front : marks_up_to e (marks t) ≡ marks_of fs
+    = ap (marks_up_to e) all ∙ filter-append (λ (m : Mark). nat_le m.place e) (marks_of fs) (marks_further_on e ks)
+    ∙ ap₂ (λ ms ls. ms ++ ls) (marks_up_to-marks_past e fs short) (ap (marks_up_to e) others ∙ marks_up_to-none e cut.n cut.others cut.far) ∙ append-nil (marks_of fs) in
     record {
       plain_front = plain_front;
       marks_front = sym marks_front;
-      shown_front = λ a.
-          ap₂ (λ u ms. show u a e ms) (sym (ap (λ u. u ++ drop e x) plain_front ∙ take-append-drop e x)) marks_front
-          ∙ show-front fs (drop e x) a e (nothing (length (plain_of fs)) a (ap length plain_front ∙ length-take e x));
+      interleaved_front = λ a.
+          ap₂ (λ u ms. interleaved u a e ms) (sym (ap (λ u. u ++ drop e x) plain_front ∙ take-append-drop e x)) marks_front
+          ∙ interleaved-front fs (drop e x) a e (nothing (length (plain_of fs)) a (ap length plain_front ∙ length-take e x));
       plain_after = ap (λ k. plain (drop k t)) is ∙ plain-after t e;
       marks_after =
-          ap (past (Some e)) all ∙ filter-append (λ (m : Mark). nat_lt e m.place) (marks_of fs) (further_on e ks)
-          ∙ ap₂ (λ ms ls. ms ++ ls) (ap (past (Some e)) (sym marks_front) ∙ past-up_to e (marks t)) (ap (past (Some e)) others ∙ past-all e cut.n cut.others cut.far ∙ sym others);
+          ap (marks_past (Some e)) all ∙ filter-append (λ (m : Mark). nat_lt e m.place) (marks_of fs) (marks_further_on e ks)
+          ∙ ap₂ (λ ms ls. ms ++ ls) (ap (marks_past (Some e)) (sym marks_front) ∙ marks_past-marks_up_to e (marks t)) (ap (marks_past (Some e)) others ∙ marks_past-all e cut.n cut.others cut.far ∙ sym others);
       styles_after_from = λ c i. (
           let left : e + i - e ≡ i = omega arith in
-          let some = up_to i ks in
+          let some = marks_up_to i ks in
           let bytes = λ (m : Mark). m.bytes in
-          ap (λ ms. after_marks c (up_to (e + i) ms)) all
-          ∙ ap (after_marks c) (filter-append (λ (m : Mark). nat_le m.place (e + i)) (marks_of fs) (further_on e ks)
-          ∙ ap₂ (λ ms ls. ms ++ ls) (up_to-past (e + i) fs (omega (arith, short))) (up_to-further (e + i) e ks (omega arith) ∙ ap (λ k. further_on e (up_to k ks)) left))
-          ∙ ap (apply_all c) (map-append bytes (marks_of fs) (further_on e some)) ∙ fold-append apply c (map bytes (marks_of fs)) (map bytes (further_on e some))
+          ap (λ ms. after_marks c (marks_up_to (e + i) ms)) all
+          ∙ ap (after_marks c) (filter-append (λ (m : Mark). nat_le m.place (e + i)) (marks_of fs) (marks_further_on e ks)
+          ∙ ap₂ (λ ms ls. ms ++ ls) (marks_up_to-marks_past (e + i) fs (omega (arith, short))) (marks_up_to-further (e + i) e ks (omega arith) ∙ ap (λ k. marks_further_on e (marks_up_to k ks)) left))
+          ∙ ap (apply_all c) (map-append bytes (marks_of fs) (marks_further_on e some)) ∙ fold-append apply c (map bytes (marks_of fs)) (map bytes (marks_further_on e some))
           ∙ after_marks-further (after_marks c (marks_of fs)) e some ∙ ap (λ ms. after_marks (after_marks c ms) some) (sym marks_front));
     }
   where
     nothing : (k a : ℕ) → k ≡ min e (length (plain t)) → slice_range (drop e (plain t)) (a - k) (e - k) ≡ []
     nothing k a is = elim (cases_lt (length (plain t)) e) [
-      | inl past ↦ slice_range-from_past (drop e (plain t)) (a - k) (e - k) (omega (arith, length-drop e (plain t)))
+      | inl marks_past ↦ slice_range-from_past (drop e (plain t)) (a - k) (e - k) (omega (arith, length-drop e (plain t)))
       | inr within ↦ slice_range-none (drop e (plain t)) (a - k) (e - k) (omega arith)
     ]
 

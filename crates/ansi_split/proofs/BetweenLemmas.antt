@@ -1,10 +1,10 @@
 -- The parts of a text are the intervals between the first matches of a pattern that isn't empty.
-use Rattle.ansi_split.proofs.Common.{◌≡◌, ◌≢◌, ℕ, zero, suc, ◌+◌, ◌<◌, ◌≤◌, inl, inr, Bool, List, [], ◌∷◌, ◌++◌, drop, length, map, filter, zip, refl, sym, ◌∙◌, ap, subst, arith, true≢false, if◌then◌else◌, cond_both, cases_lt, le-leb, lt-leb, IsCharBoundary-start, IsCharBoundary-end, range_with_len, IsUtf8, IsCharBoundary, LacksTextAt, HasTextAt, is_match, apart, parts, AreBetween, AreInTurn, boundary_at}
+use Rattle.ansi_split.proofs.Common.{◌≡◌, ◌≢◌, ℕ, zero, suc, ◌+◌, ◌<◌, ◌≤◌, inl, inr, Bool, List, [], ◌∷◌, ◌++◌, drop, length, map, filter, zip, refl, sym, ◌∙◌, ap, subst, arith, true≢false, if◌then◌else◌, cond_both, cases_lt, le-leb, lt-leb, IsCharBoundary-start, IsCharBoundary-end, range_with_len, IsUtf8, IsCharBoundary, LacksTextAt, HasTextAt, is_match, without_overlaps, parts, AreBetween, AreInTurn, boundary_at}
 use Rattle.ansi_search.proofs.FindLemmas.{match_stands, no_match_lacks}
 
-pub filled : (p : List ℕ) → p ≢ [] → 0 < length p
-filled [] some = absurd (some refl)
-filled (b ∷ p) some = omega arith
+pub length-nonempty : (p : List ℕ) → p ≢ [] → 0 < length p
+length-nonempty [] some = absurd (some refl)
+length-nonempty (b ∷ p) some = omega arith
 
 -- The intervals between the matches that are taken, from the place e on.
 
@@ -18,15 +18,15 @@ between_more x p e k (j ∷ is) from stands none more = (refl, from, stands, non
 
 -- what is taken of a match m and those after it, where b says whether m is taken
 abbrev pub taken_with : ℕ → ℕ → ℕ → List ℕ → Bool → List ℕ
-taken_with n e m ms b = (let more = apart n (if b then m + n else e) ms in if b then m ∷ more else more)
+taken_with n e m ms b = (let more = without_overlaps n (if b then m + n else e) ms in if b then m ∷ more else more)
 
 are_between : (x p : List ℕ) → IsUtf8 x → IsUtf8 p → p ≢ [] → (n k e : ℕ) → k + n ≡ length x + 1 → e ≤ length x → ((i : ℕ) → e ≤ i → i < k → LacksTextAt p x i)
-    → AreBetween x p e (intervals x p e (apart (length p) e (filter (is_match x p) (range_with_len k n))))
+    → AreBetween x p e (intervals x p e (without_overlaps (length p) e (filter (is_match x p) (range_with_len k n))))
 are_between x p utf8 utf8_p some zero k e all fits none = (refl, refl, fits, λ i from to. none i from (omega (arith, all, to)))
 are_between x p utf8 utf8_p some (suc n) k e all fits none =
     let ms = filter (is_match x p) (range_with_len (k + 1) n) in
-    let size = filled p some in
-    cond_both (is_match x p k) (k ∷ ms) ms (λ ks. AreBetween x p e (intervals x p e (apart (length p) e ks)))
+    let size = length-nonempty p some in
+    cond_both (is_match x p k) (k ∷ ms) ms (λ ks. AreBetween x p e (intervals x p e (without_overlaps (length p) e ks)))
     (λ found. elim (cases_lt k e) [
       | inl early ↦
           subst (λ taken. AreBetween x p e (intervals x p e taken)) (sym (ap (taken_with (length p) e k ms) (lt-leb e k early)))
@@ -34,13 +34,13 @@ are_between x p utf8 utf8_p some (suc n) k e all fits none =
       | inr from ↦
           (let stands = match_stands x p k utf8 utf8_p found in
           subst (λ taken. AreBetween x p e (intervals x p e taken)) (sym (ap (taken_with (length p) e k ms) (le-leb e k from)))
-          (between_more x p e k (intervals x p (k + length p) (apart (length p) (k + length p) ms)) from stands none
+          (between_more x p e k (intervals x p (k + length p) (without_overlaps (length p) (k + length p) ms)) from stands none
           (are_between x p utf8 utf8_p some n (k + 1) (k + length p) (omega (arith, all)) stands.after.0 (λ i late to. absurd (omega (arith, late, to, size))))))
     ])
     (λ missed. are_between x p utf8 utf8_p some n (k + 1) e (omega (arith, all)) fits
     (λ i from to. elim (cases_lt i k) [
       | inl before ↦ none i from before
-      | inr at ↦ (let here : k ≡ i = omega (arith, to, at) in subst (LacksTextAt p x) here (no_match_lacks x p k utf8_p (filled p some) (λ found. true≢false (sym found ∙ missed))))
+      | inr at ↦ (let here : k ≡ i = omega (arith, to, at) in subst (LacksTextAt p x) here (no_match_lacks x p k utf8_p (length-nonempty p some) (λ found. true≢false (sym found ∙ missed))))
     ]))
 
 pub parts_are_between : (x p : List ℕ) → IsUtf8 x → IsUtf8 p → p ≢ [] → AreBetween x p 0 (parts x p)
@@ -57,7 +57,7 @@ between_in_turn x p d e (i ∷ j ∷ is) utf8 some le boundary are = (
   omega (arith, le, are.0),
   omega (arith, are.0, are.1),
   subst (IsCharBoundary x) (sym are.0) boundary,
-  boundary_at x p (drop (i.1 + length p) x) i.1 utf8 (filled p some) are.2.split,
+  boundary_at x p (drop (i.1 + length p) x) i.1 utf8 (length-nonempty p some) are.2.split,
   between_in_turn x p i.1 (i.1 + length p) (j ∷ is) utf8 some (omega arith) are.2.after are.4,
 )
 

@@ -1,5 +1,5 @@
 -- The parts for the empty pattern are the characters of a text, between two empty parts.
-use Rattle.ansi_split.proofs.Common.{◌≡◌, ◌≢◌, ℕ, zero, suc, ◌+◌, ◌-◌, ◌%◌, ◌≤◌, Bool, true, false, List, [], ◌∷◌, ◌++◌, take, drop, length, map, filter, zip, nat_le, refl, sym, ◌∙◌, ap, ap₂, subst, arith, slice_index, slice_range, length-append, and-true, and_parts, and_from, and_right, cond-true, cond-false, le-leb, not_from_true, drop-drop, get_or-drop, filter-append, filter_agree, encodes-chars, scalars-chars, IsCharBoundary-from_drop, IsCharBoundary-start, IsCharBoundary-end, take-append_seam, drop-append_seam, encode_utf8, range_with_len, list_all, IsUtf8, IsCharBoundary, chars, encode_utf8_all, all_scalars, is_char_boundary, is_continuation_byte, is_good_position, is_match, apart, parts, AreInTurn, slices_over, char_boundary_is}
+use Rattle.ansi_split.proofs.Common.{◌≡◌, ◌≢◌, ℕ, zero, suc, ◌+◌, ◌-◌, ◌%◌, ◌≤◌, Bool, true, false, List, [], ◌∷◌, ◌++◌, take, drop, length, map, filter, zip, nat_le, refl, sym, ◌∙◌, ap, ap₂, subst, arith, slice_index, slice_range, length-append, and-true, and_parts, and_from, and_right, cond-true, cond-false, le-leb, not_from_true, drop-drop, get_or-drop, filter-append, filter_agree, encodes-chars, scalars-chars, IsCharBoundary-from_drop, IsCharBoundary-start, IsCharBoundary-end, take-append_seam, drop-append_seam, encode_utf8, range_with_len, list_all, IsUtf8, IsCharBoundary, chars, encode_utf8_all, all_scalars, is_char_boundary, is_continuation_byte, is_good_position, is_match, without_overlaps, parts, AreInTurn, slices_over, char_boundary_is}
 use Rattle.ansi_split.proofs.BetweenLemmas.{filled_parts_in_turn}
 
 -- the bytes of a character after the first go on with it
@@ -74,7 +74,7 @@ boundaries_from x (c ∷ cs) k scalars at end =
 
 -- The empty pattern stands at every boundary, and each is taken.
 
-all_taken : (f : ℕ → Bool) (n k e : ℕ) → e ≤ k → apart 0 e (filter f (range_with_len k n)) ≡ filter f (range_with_len k n)
+all_taken : (f : ℕ → Bool) (n k e : ℕ) → e ≤ k → without_overlaps 0 e (filter f (range_with_len k n)) ≡ filter f (range_with_len k n)
 all_taken f zero k e from = refl
 all_taken f (suc n) k e from = grind (arith, le-leb, all_taken f n (k + 1) (k + 0) (omega arith), all_taken f n (k + 1) e (omega (arith, from)))
 
@@ -88,7 +88,7 @@ parts-empty x utf8 =
     let spelled : encode_utf8_all cs ≡ x = encodes-chars x utf8 in
     let end : 0 + length (encode_utf8_all cs) ≡ length x = omega (arith, ap length spelled) in
     ap (intervals x 0)
-    (ap (apart 0 0) (filter_agree (is_match x []) (is_char_boundary x) (λ i. and-true (is_char_boundary x i)) (range_with_len 0 (length x + 1)))
+    (ap (without_overlaps 0 0) (filter_agree (is_match x []) (is_char_boundary x) (λ i. and-true (is_char_boundary x i)) (range_with_len 0 (length x + 1)))
     ∙ all_taken (is_char_boundary x) (length x + 1) 0 0 (omega arith)
     ∙ ap (λ n. filter (is_char_boundary x) (range_with_len 0 (n + 1))) (sym (ap length spelled))
     ∙ boundaries_from x cs 0 (scalars-chars x utf8) (sym spelled) end)

@@ -1,5 +1,5 @@
 -- Each part begins and ends at or after the end of the part before it.
-use Rattle.ansi_split.proofs.Common.{◌≡◌, ℕ, zero, suc, ◌+◌, ◌≤◌, Bool, true, List, [], ◌∷◌, ◌++◌, map, length, filter, zip, Option, Some, None, option_map, refl, sym, subst, arith, slice_get, leb-true, cond_some, none-some, range_with_len, AllByRecursion, is_match, match_places, apart, parts, end_before}
+use Rattle.ansi_split.proofs.Common.{◌≡◌, ℕ, zero, suc, ◌+◌, ◌≤◌, Bool, true, List, [], ◌∷◌, ◌++◌, map, length, filter, zip, Option, Some, None, option_map, refl, sym, subst, arith, slice_get, leb-true, cond_some, none-some, range_with_len, AllByRecursion, is_match, match_places, without_overlaps, parts, end_before}
 
 -- the interval begins and ends at or after the end of the one before, if there is one
 abbrev pub ComesAfter : Option ℕ → ℕ × ℕ → Type 0
@@ -15,9 +15,9 @@ IsRising first last (m ∷ ms) = (first ≤ m) × IsRising m last ms
 abbrev AreAtMost : ℕ → List ℕ → Type 0
 AreAtMost last ms = AllByRecursion (λ m. m ≤ last) ms
 
-apart_rises : (n first end last : ℕ) (ms : List ℕ) → first ≤ end → first ≤ last → AreAtMost last ms → IsRising first last (apart n end ms)
-apart_rises n first end last [] before fits within = fits
-apart_rises n first end last (m ∷ ms) before fits within = grind (arith, leb-true, apart_rises n m (m + n) last ms (omega arith) within.0 within.1, apart_rises n first end last ms before fits within.1)
+without_overlaps_rises : (n first end last : ℕ) (ms : List ℕ) → first ≤ end → first ≤ last → AreAtMost last ms → IsRising first last (without_overlaps n end ms)
+without_overlaps_rises n first end last [] before fits within = fits
+without_overlaps_rises n first end last (m ∷ ms) before fits within = grind (arith, leb-true, without_overlaps_rises n m (m + n) last ms (omega arith) within.0 within.1, without_overlaps_rises n first end last ms before fits within.1)
 
 range_at_most : (first n last : ℕ) → first + n ≤ last + 1 → AreAtMost last (range_with_len first n)
 range_at_most first zero last fits = tt
@@ -44,9 +44,9 @@ none_before end (i ∷ is) after = (tt, after.1)
 
 pub all_parts_come_after : (x p : List ℕ) → ComeAfter None (parts x p)
 all_parts_come_after x p =
-    let taken = apart (length p) 0 (match_places x p) in
+    let taken = without_overlaps (length p) 0 (match_places x p) in
     let places_fit = filter_at_most (is_match x p) (length x) (range_with_len 0 (length x + 1)) (range_at_most 0 (length x + 1) (length x) (omega arith)) in
-    let rising = apart_rises (length p) 0 0 (length x) (match_places x p) (omega arith) (omega arith) places_fit in
+    let rising = without_overlaps_rises (length p) 0 0 (length x) (match_places x p) (omega arith) (omega arith) places_fit in
     none_before 0 (parts x p) (intervals_come_after 0 (length p) 0 (length x) taken (omega arith) rising)
 
 -- where the interval before that of index k ends, if there is one, else `before`

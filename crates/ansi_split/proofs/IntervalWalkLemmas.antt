@@ -1,17 +1,17 @@
 -- The intervals of the parts that are left of a text, and how far a walk has come to the one of an index.
-use Rattle.ansi_split.proofs.Common.{◌≡◌, ℕ, zero, suc, ◌+◌, ◌≤◌, max, List, [], ◌∷◌, length, map, drop, Some, None, refl, sym, ◌∙◌, ap, arith, IsTrue, slice_get, nat_le, and_parts, leb-true, none-some, cond_some, true, subst, length-drop, length-take-le, IsUtf8, IsCharBoundary, plain, match_places, first_match_from, is_good_position, apart, parts, AreInTurn, IsCutAtMatch}
+use Rattle.ansi_split.proofs.Common.{◌≡◌, ℕ, zero, suc, ◌+◌, ◌≤◌, max, List, [], ◌∷◌, length, map, drop, Some, None, refl, sym, ◌∙◌, ap, arith, IsTrue, slice_get, nat_le, and_parts, leb-true, none-some, cond_some, true, subst, length-drop, length-take-le, IsUtf8, IsCharBoundary, plain, match_places, first_match_from, is_good_position, without_overlaps, parts, AreInTurn, IsCutAtMatch}
 use Rattle.ansi_search.specs.Positions.{is_good_range}
 use Rattle.ansi_search.proofs.PositionLemmas.{good_range_from, good_before, boundary_is_good}
-use Rattle.ansi_split.proofs.TakenLemmas.{is_first_taken, apart-none, between, between-moved, moved_on}
+use Rattle.ansi_split.proofs.TakenLemmas.{is_first_taken, without_overlaps-none, between, between-further, moved_on}
 use Rattle.ansi_split.proofs.CharacterLemmas.{parts_in_turn}
 
 -- What is left of x: the first `skip` bytes are in no part, and the next match doesn't begin before `from`.
 abbrev pub intervals_left : List ℕ → List ℕ → ℕ → ℕ → List (ℕ × ℕ)
-intervals_left x p skip from = between (length p) skip (length x) (apart (length p) from (match_places x p))
+intervals_left x p skip from = between (length p) skip (length x) (without_overlaps (length p) from (match_places x p))
 
 -- without a match, all of x is the last part
 pub intervals_left-last : (x p : List ℕ) (skip from : ℕ) → first_match_from x p from ≡ None → intervals_left x p skip from ≡ (skip, length x) ∷ []
-intervals_left-last x p skip from none = ap (between (length p) skip (length x)) (apart-none (length p) from (match_places x p) none)
+intervals_left-last x p skip from none = ap (between (length p) skip (length x)) (without_overlaps-none (length p) from (match_places x p) none)
 
 -- with one at m, the first part ends there, and the others are those of what follows
 pub intervals_left-first : (x p : List ℕ) (skip from m : ℕ) → first_match_from x p from ≡ Some m
@@ -19,10 +19,10 @@ pub intervals_left-first : (x p : List ℕ) (skip from m : ℕ) → first_match_
 intervals_left-first x p skip from m found =
     let n = length p in
     let first = is_first_taken x p from m found in
-    let ms = apart n (max n 1) (match_places (drop m x) p) in
+    let ms = without_overlaps n (max n 1) (match_places (drop m x) p) in
     let size : length x ≡ m + length (drop m x) = omega (arith, first.inside, length-drop m x) in
     ap (between n skip (length x)) first.taken
-    ∙ ap (λ is. (skip, m) ∷ is) (ap (λ e. between n (m + n) e (map (λ k. m + k) ms)) size ∙ between-moved n n (length (drop m x)) m ms)
+    ∙ ap (λ is. (skip, m) ∷ is) (ap (λ e. between n (m + n) e (map (λ k. m + k) ms)) size ∙ between-further n n (length (drop m x)) m ms)
 
 moved_on-zero : (is : List (ℕ × ℕ)) → map (moved_on 0) is ≡ is
 moved_on-zero [] = refl

@@ -1,5 +1,5 @@
 -- How far a walk to the first match of a pattern has come, and what a step of it is.
-use Rattle.ansi_split.proofs.Common.{◌≡◌, ◌≢◌, ℕ, ◌+◌, ◌-◌, ◌<◌, ◌≤◌, Bool, true, false, ◌||◌, ◌==◌, List, [], ◌++◌, length, take, drop, Option, Some, None, option_map, refl, sym, ◌∙◌, ap, subst, arith, length-append, IsFalse, or-false, or-true, take-add, length-drop, drop-drop, drop_at, take_all, drop_all, take-append-le, list_any-append, IsUtf8, NoneBefore, IsFirst, Kind, escape, Piece, Text, Sequence, LoneEscape, spelling, StandsBefore, ArePieces, pieces_of, plain_of, plain, has_escape, Rendition, apply, after_marks, style_after_from, style_within, is_match, first_match_from, IsCutAfter, IsCutAtMatch, pieces_are, sequence_front, no_escape, is_mark, plain_of-mark, style_by_marks, style_by_marks-before, style_by_marks-text, style_by_marks-mark, IsMatch, is_match-drop, is_match-after, first_match_from-first, first_match_from-is, empty_at_end, none_at_end, bytes_before, up_to-past, IsOverText, IsOverMark, bytes_before-last, bytes_before-mark, bytes_before-text}
+use Rattle.ansi_split.proofs.Common.{◌≡◌, ◌≢◌, ℕ, ◌+◌, ◌-◌, ◌<◌, ◌≤◌, Bool, true, false, ◌||◌, ◌==◌, List, [], ◌++◌, length, take, drop, Option, Some, None, option_map, refl, sym, ◌∙◌, ap, subst, arith, length-append, IsFalse, or-false, or-true, take-add, length-drop, drop-drop, drop_at, take_all, drop_all, take-append-le, list_any-append, IsUtf8, NoneBefore, IsFirst, Kind, escape, Piece, Text, Sequence, LoneEscape, spelling, StandsBefore, ArePieces, pieces_of, plain_of, plain, has_escape, Rendition, apply, after_marks, style_after_from, style_within, is_match, first_match_from, IsCutAfter, IsCutAtMatch, pieces_are, sequence_front, has_escape-bare, is_mark, plain_of-mark, style_by_marks, style_by_marks-before, style_by_marks-text, style_by_marks-mark, IsMatch, is_match-drop, is_match-after, first_match_from-first, first_match_from-is, empty_at_end, none_at_end, bytes_before, marks_up_to-marks_past, IsOverText, IsOverMark, bytes_before-last, bytes_before-mark, bytes_before-text}
 use Rattle.ansi_split.proofs.AfterLemmas.{is_cut_after}
 use Rattle.ansi_split.proofs.RestLemmas.{no_escape-parts, no_escape-text}
 use Rattle.ansi_split.proofs.SpanLemmas.{is_cut_at_match}
@@ -27,7 +27,7 @@ first_match-after x y p k d within is = sym (first_match_from-is x p (k + d) (op
         )
 
 -- A front of a text is read to this style, and is marked where an ESC stands in it.
-pub record IsFront (c : Rendition) (front : List ℕ) (style : Rendition) (marked : Bool) : Type 0 where
+pub record IsFrontRead (c : Rendition) (front : List ℕ) (style : Rendition) (marked : Bool) : Type 0 where
   pub is_style : style ≡ style_after_from c front
   pub is_marked : marked ≡ has_escape front
 
@@ -115,7 +115,7 @@ walked-mark {c} {t} {p} {from} {offset} {ahead} {after} {style} {next} {marked} 
 -- the match begins in a text
 pub walked-cut : {c : Rendition} {t p : List ℕ} {from offset ahead start n after : ℕ} {style : Rendition} {marked : Bool} {w : List ℕ} {left ps : List Piece}
     → IsWalked c t p from offset ahead style marked left → IsOverText t w offset after left ps → first_match_from (w ++ plain_of ps) p ahead ≡ Some start → start < length w → n ≡ offset + start
-    → IsUtf8 t → IsUtf8 p → IsCutAtMatch t p from (take n t) (drop n t) × IsFront c (take n t) style marked
+    → IsUtf8 t → IsUtf8 p → IsCutAtMatch t p from (take n t) (drop n t) × IsFrontRead c (take n t) style marked
 walked-cut {c} {t} {p} {from} {offset} {ahead} {start} {n} {after} {style} {marked} {w} {left} {ps} walked over here inside n_is utf8 utf8_p =
     let first = subst (IsWalked c t p from offset ahead style marked) over.first walked in
     let m = first.place in
@@ -129,7 +129,7 @@ walked-cut {c} {t} {p} {from} {offset} {ahead} {start} {n} {after} {style} {mark
       is_cut_at_match t p from (m + start) (take n t) (drop n t) utf8 utf8_p found cut,
       record {
         is_style = sym (ap (after_marks c) cut.marks_front ∙ first.styles start ∙ style_by_marks-before style w ps start inside);
-        is_marked = first.is_marked ∙ sym (ap has_escape front ∙ has_escape-append (take offset t) (take start w) (no_escape-parts start w (no_escape w are.2.1)).0);
+        is_marked = first.is_marked ∙ sym (ap has_escape front ∙ has_escape-append (take offset t) (take start w) (no_escape-parts start w (has_escape-bare w are.2.1)).0);
       },
     )
 
@@ -138,11 +138,11 @@ at_end {t = t} walked = omega (arith, ap length walked.rest, length-drop walked.
 
 -- nothing is left: the front is all of the text, and only the empty pattern may stand at its end
 pub walked-end : {c : Rendition} {t p : List ℕ} {from offset ahead : ℕ} {style : Rendition} {marked : Bool} {left : List Piece}
-    → IsWalked c t p from offset ahead style marked left → left ≡ [] → offset ≡ length t → IsFront c t style marked
+    → IsWalked c t p from offset ahead style marked left → left ≡ [] → offset ≡ length t → IsFrontRead c t style marked
 walked-end {c} {t} {p} {from} {offset} {ahead} {style} {marked} {left} walked is end =
     let last = subst (IsWalked c t p from offset ahead style marked) is walked in
     record {
-      is_style = sym (ap (after_marks c) (sym (up_to-past (last.place + 0) (pieces_of t) (omega (arith, at_end last)))) ∙ last.styles 0);
+      is_style = sym (ap (after_marks c) (sym (marks_up_to-marks_past (last.place + 0) (pieces_of t) (omega (arith, at_end last)))) ∙ last.styles 0);
       is_marked = last.is_marked ∙ ap has_escape (take_all offset t (omega (arith, end)));
     }
 

@@ -2,9 +2,9 @@
 use Rattle.std.proofs.Common.{refl, codes, [], ◌∷◌, List, ℕ, true, false, map}
 unfoldable use Rattle.std.specs.Fmt.{digits}
 use Rattle.ansi_split.proofs.Common.{range_with_len, part_from, all_parts, is_part_borrowed}
-use Rattle.ansi_items.proofs.Tables.{Makes}
+use Rattle.ansi_items.proofs.Tables.{MakesRows}
 
-parts_of_texts : Makes (λ (x : List ℕ × List ℕ). all_parts x.0 x.1) (
+parts_of_texts : MakesRows (λ (x : List ℕ × List ℕ). all_parts x.0 x.1) (
     -- texts without ESC
     (([], codes "X"), [] ∷ [])
     ∷ (([], []), [] ∷ [] ∷ [])
@@ -26,7 +26,7 @@ unfolding digits part_from
 parts_of_texts = refl
 
 -- a part is a borrow where no sequence stands in it, and it is empty or no style is carried
-borrowed_parts : Makes (λ (x : List ℕ × List ℕ × ℕ). map (is_part_borrowed x.0 x.1) (range_with_len 0 x.2)) (
+borrowed_parts : MakesRows (λ (x : List ℕ × List ℕ × ℕ). map (is_part_borrowed x.0 x.1) (range_with_len 0 x.2)) (
     ((codes "\u{1b}[31mlionXXtigerXleopard\u{1b}[0m", codes "X", 4), false ∷ true ∷ false ∷ false ∷ [])
     ∷ ((codes "\u{1b}[99ma,b", codes ",", 2), false ∷ true ∷ [])
     ∷ [])

@@ -1,8 +1,8 @@
 -- Each sequence of a whole text that is no SGR stands in one of its parts, and they stay in order.
-use Rattle.ansi_split.proofs.Common.{◌≡◌, ℕ, ◌+◌, ◌-◌, ◌≤◌, Bool, true, not, ◌&&◌, ◌==◌, List, [], ◌∷◌, ◌++◌, map, flat_map, filter, zip, length, nat_le, Option, Some, None, is_some, refl, sym, ◌∙◌, ap, ap₂, arith, IsTrue, append-nil, append_assoc, length-append, if◌then◌else◌, cond_both, cond-false, and_parts, eqb-true, le-leb, filter-append, list_all, is_sgr, Piece, Text, Sequence, after_text, merged, pieces_of, Mark, plain_of, plain, marks, up_to, is_whole, is_other, other_sequences, Rendition, IsStyle, written, start_codes, start, close_if_any, style_at, show, match_places, apart, parts, past, carried, part_over, all_parts, one_text, slice_range-none, show-bare, spelled, AllStandAnywhere, pieces_of-spelled, AreCodes, code_pieces, start_codes_are, dressed_pieces, shown_pieces, part_from, plain_style}
+use Rattle.ansi_split.proofs.Common.{◌≡◌, ℕ, ◌+◌, ◌-◌, ◌≤◌, Bool, true, not, ◌&&◌, ◌==◌, List, [], ◌∷◌, ◌++◌, map, flat_map, filter, zip, length, nat_le, Option, Some, None, is_some, refl, sym, ◌∙◌, ap, ap₂, arith, IsTrue, append-nil, append_assoc, length-append, if◌then◌else◌, cond_both, cond-false, and_parts, eqb-true, le-leb, filter-append, list_all, is_sgr, Piece, Text, Sequence, after_text, merged, pieces_of, Mark, plain_of, plain, marks, marks_up_to, is_whole, is_other, other_sequences, Rendition, IsStyle, written, start_codes, start, close_if_any, style_at, interleaved, match_places, without_overlaps, parts, marks_past, carried, part_over, all_parts, one_text, slice_range-none, interleaved-bare, spelled, AllStandAnywhere, pieces_of-spelled, AreCodes, code_pieces, start_codes_are, dressed_pieces, interleaved_pieces, part_from, plain_style}
 use Rattle.ansi_style.proofs.ColorLemmas.{is_code_byte, sgr_parameters-written}
 use Rattle.ansi_split.proofs.IntervalLemmas.{ComesAfter, ComeAfter, all_parts_come_after}
-use Rattle.ansi_split.proofs.PartSliceLemmas.{shown_pieces-nothing, earlier_places, own_pieces, spelled-own_pieces, own_pieces_stand, all_pieces, closing_codes, closing_codes_are, IsStyle-carried, part_pieces, spelled-part_pieces, part_pieces_stand}
+use Rattle.ansi_split.proofs.PartSliceLemmas.{interleaved_pieces-nothing, earlier_places, own_pieces, spelled-own_pieces, own_pieces_stand, all_pieces, closing_codes, closing_codes_are, IsStyle-carried, part_pieces, spelled-part_pieces, part_pieces_stand}
 use Rattle.ansi_split.proofs.PartTextLemmas.{parts_over, all_parts-over}
 
 -- Among pieces.
@@ -47,16 +47,16 @@ others-one_text : (w : List ℕ) → others (one_text w) ≡ []
 others-one_text [] = refl
 others-one_text (b ∷ w) = refl
 
-others-shown_pieces : (ps : List Piece) (test : ℕ → Bool) (a b c d : ℕ) → others (shown_pieces test a b ps) ≡ others (shown_pieces test c d ps)
-others-shown_pieces [] test a b c d = refl
-others-shown_pieces (Text w ∷ ps) test a b c d = grind (arith, filter-append, others-one_text, others-shown_pieces ps (λ p. test (length w + p)) (a - length w) (b - length w) (c - length w) (d - length w))
-others-shown_pieces (p ∷ ps) test a b c d = grind (arith, filter-append, others-shown_pieces ps test a b c d)
+others-interleaved_pieces : (ps : List Piece) (test : ℕ → Bool) (a b c d : ℕ) → others (interleaved_pieces test a b ps) ≡ others (interleaved_pieces test c d ps)
+others-interleaved_pieces [] test a b c d = refl
+others-interleaved_pieces (Text w ∷ ps) test a b c d = grind (arith, filter-append, others-one_text, others-interleaved_pieces ps (λ p. test (length w + p)) (a - length w) (b - length w) (c - length w) (d - length w))
+others-interleaved_pieces (p ∷ ps) test a b c d = grind (arith, filter-append, others-interleaved_pieces ps test a b c d)
 
 -- where each place up to the end passes, they are all
-others-shown_all : (ps : List Piece) (test : ℕ → Bool) → ((p : ℕ) → p ≤ length (plain_of ps) → test p ≡ true) → others (shown_pieces test 0 0 ps) ≡ others ps
-others-shown_all [] test all = refl
-others-shown_all (Text w ∷ ps) test all = grind (arith, filter-append, length-append, others-one_text, others-shown_pieces, others-shown_all ps (λ p. test (length w + p)) (λ p within. all (length w + p) (omega (arith, within, length-append w (plain_of ps)))))
-others-shown_all (p ∷ ps) test all = grind (arith, others-shown_all ps test all)
+others-interleaved_all : (ps : List Piece) (test : ℕ → Bool) → ((p : ℕ) → p ≤ length (plain_of ps) → test p ≡ true) → others (interleaved_pieces test 0 0 ps) ≡ others ps
+others-interleaved_all [] test all = refl
+others-interleaved_all (Text w ∷ ps) test all = grind (arith, filter-append, length-append, others-one_text, others-interleaved_pieces, others-interleaved_all ps (λ p. test (length w + p)) (λ p within. all (length w + p) (omega (arith, within, length-append w (plain_of ps)))))
+others-interleaved_all (p ∷ ps) test all = grind (arith, others-interleaved_all ps test all)
 
 -- In a part they are those that it shows.
 
@@ -68,14 +68,14 @@ other_sequences-part_over : (t : List ℕ) (before : Option ℕ) (i : ℕ × ℕ
 unfolding part_from
 other_sequences-part_over t before i whole =
     let x = plain t in
-    let own = past before (up_to i.1 (marks t)) in
+    let own = marks_past before (marks_up_to i.1 (marks t)) in
     let q = style_at t i.1 in
-    cond_both (i.0 == i.1 && length own == 0) [] (start (carried plain_style t before) ++ show x i.0 i.1 own ++ close_if_any q) (λ u. other_sequences u ≡ others (own_pieces t before i))
+    cond_both (i.0 == i.1 && length own == 0) [] (start (carried plain_style t before) ++ interleaved x i.0 i.1 own ++ close_if_any q) (λ u. other_sequences u ≡ others (own_pieces t before i))
     (λ none.
     let both = and_parts (i.0 == i.1) (length own == 0) none in
     let same : i.0 ≡ i.1 = eqb-true i.0 i.1 both.0 in
     let nothing : spelled (own_pieces t before i) ≡ []
-    = spelled-own_pieces t before i ∙ ap (show x i.0 i.1) (no_marks own (eqb-true (length own) 0 both.1)) ∙ show-bare x i.0 i.1 ∙ slice_range-none x i.0 i.1 (omega (arith, same)) in
+    = spelled-own_pieces t before i ∙ ap (interleaved x i.0 i.1) (no_marks own (eqb-true (length own) 0 both.1)) ∙ interleaved-bare x i.0 i.1 ∙ slice_range-none x i.0 i.1 (omega (arith, same)) in
     ap other_sequences (sym nothing) ∙ other_sequences-spelled (own_pieces t before i) (own_pieces_stand t before i whole))
     (λ some. ap other_sequences (sym (spelled-part_pieces t before i))
     ∙ other_sequences-spelled (part_pieces t before i) (part_pieces_stand t before i whole)
@@ -84,12 +84,12 @@ other_sequences-part_over t before i whole =
 -- So in the parts in turn, after those of the parts before, they are those up to the end of the last.
 
 abbrev others_up_to : List ℕ → Option ℕ → List Piece
-others_up_to t end = others (shown_pieces (earlier_places end) 0 0 (pieces_of t))
+others_up_to t end = others (interleaved_pieces (earlier_places end) 0 0 (pieces_of t))
 
 others-next : (t : List ℕ) (before : Option ℕ) (i : ℕ × ℕ) → ComesAfter before i → others_up_to t before ++ others (own_pieces t before i) ≡ others_up_to t (Some i.1)
 others-next t before i after =
-    sym (filter-append is_other (shown_pieces (earlier_places before) 0 0 (pieces_of t)) (own_pieces t before i))
-    ∙ ap others (all_pieces t before i after) ∙ others-shown_pieces (pieces_of t) (λ p. nat_le p i.1) i.0 i.1 0 0
+    sym (filter-append is_other (interleaved_pieces (earlier_places before) 0 0 (pieces_of t)) (own_pieces t before i))
+    ∙ ap others (all_pieces t before i after) ∙ others-interleaved_pieces (pieces_of t) (λ p. nat_le p i.1) i.0 i.1 0 0
 
 -- where the last of the intervals ends, or else those before
 abbrev last_end : Option ℕ → List (ℕ × ℕ) → Option ℕ
@@ -115,7 +115,7 @@ other_sequences-all_parts t p whole =
     let is = parts x p in
     let given = flat_map other_sequences (parts_over t None is) in
     ap (flat_map other_sequences) (all_parts-over t p)
-    ∙ ap (λ qs. others qs ++ given) (sym (shown_pieces-nothing (earlier_places None) 0 0 (pieces_of t) (λ p. refl) (omega arith)))
+    ∙ ap (λ qs. others qs ++ given) (sym (interleaved_pieces-nothing (earlier_places None) 0 0 (pieces_of t) (λ p. refl) (omega arith)))
     ∙ others-parts_over t None is whole (all_parts_come_after x p)
-    ∙ ap (others_up_to t) (last_end-intervals None (length p) 0 (length x) (apart (length p) 0 (match_places x p)))
-    ∙ others-shown_all (pieces_of t) (λ p. nat_le p (length x)) (λ p within. le-leb p (length x) within)
+    ∙ ap (others_up_to t) (last_end-intervals None (length p) 0 (length x) (without_overlaps (length p) 0 (match_places x p)))
+    ∙ others-interleaved_all (pieces_of t) (λ p. nat_le p (length x)) (λ p within. le-leb p (length x) within)

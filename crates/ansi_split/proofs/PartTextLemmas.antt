@@ -1,5 +1,5 @@
 -- How many parts there are; and that the plain texts of all parts of a whole text are the slices between the matches.
-use Rattle.ansi_split.proofs.Common.{◌≡◌, ◌≢◌, ℕ, suc, ◌+◌, ◌≤◌, List, [], ◌∷◌, ◌++◌, map, length, filter_map, Option, Some, None, refl, sym, ◌∙◌, ap, ap₂, subst, arith, IsTrue, slice_range, slice_get, length-append, nat_le, if◌then◌else◌, cons_option, range_with_len, length-filter, count_by-le-length, encode_utf8, IsUtf8, chars, plain, is_whole, StyledByte, styled, bytes_of, is_match, match_places, apart, parts, end_before, part_over, part, all_parts, AreSplit, slices_over, slice_range-map, bytes_of-styled, IsUtf8-plain, SplitPart, parts_from, plain_style}
+use Rattle.ansi_split.proofs.Common.{◌≡◌, ◌≢◌, ℕ, suc, ◌+◌, ◌≤◌, List, [], ◌∷◌, ◌++◌, map, length, filter_map, Option, Some, None, refl, sym, ◌∙◌, ap, ap₂, subst, arith, IsTrue, slice_range, slice_get, length-append, nat_le, if◌then◌else◌, cons_option, range_with_len, length-filter, count_by-le-length, encode_utf8, IsUtf8, chars, plain, is_whole, StyledByte, styled, unstyled, is_match, match_places, without_overlaps, parts, end_before, part_over, part, all_parts, AreSplit, slices_over, slice_range-map, unstyled-styled, IsUtf8-plain, SplitPart, parts_from, plain_style}
 use Rattle.std.specs.Prelude.{option_map}
 use Rattle.std.proofs.lemmas.List.FromFn.{length-range_with_len}
 use Rattle.std.proofs.lemmas.Slice.Zip.{length-zip}
@@ -10,18 +10,18 @@ use Rattle.ansi_split.proofs.CharacterLemmas.{slices_over-parts-empty}
 
 -- At most two more than bytes.
 
-length-apart : (n e : ℕ) (ms : List ℕ) → length (apart n e ms) ≤ length ms
-length-apart n e [] = omega arith
-length-apart n e (m ∷ ms) = grind (arith, length-apart n (if nat_le e m then m + n else e) ms)
+length-without_overlaps : (n e : ℕ) (ms : List ℕ) → length (without_overlaps n e ms) ≤ length ms
+length-without_overlaps n e [] = omega arith
+length-without_overlaps n e (m ∷ ms) = grind (arith, length-without_overlaps n (if nat_le e m then m + n else e) ms)
 
 pub length-parts : (x p : List ℕ) → length (parts x p) ≤ length x + 2
 length-parts x p =
-    let taken = apart (length p) 0 (match_places x p) in
+    let taken = without_overlaps (length p) 0 (match_places x p) in
     omega (
       arith,
       length-zip (0 ∷ map (λ m. m + length p) taken) (taken ++ length x ∷ []),
       length-append taken (length x ∷ []),
-      length-apart (length p) 0 (match_places x p),
+      length-without_overlaps (length p) 0 (match_places x p),
       length-filter (is_match x p) (range_with_len 0 (length x + 1)),
       count_by-le-length (is_match x p) (range_with_len 0 (length x + 1)),
       length-range_with_len 0 (length x + 1),
@@ -31,8 +31,8 @@ length-parts x p =
 
 plain-part_over : (t : List ℕ) (before : Option ℕ) (i : ℕ × ℕ) → IsTrue (is_whole t) → ComesAfter before i → plain (part_over t before i) ≡ slice_range (plain t) i.0 i.1
 plain-part_over t before i whole after =
-    sym (bytes_of-styled (part_over t before i)) ∙ ap bytes_of (part_over_is t before i whole after).styled_bytes
-    ∙ sym (slice_range-map (λ (b : StyledByte). b.byte) (styled t) i.0 i.1) ∙ ap (λ x. slice_range x i.0 i.1) (bytes_of-styled t)
+    sym (unstyled-styled (part_over t before i)) ∙ ap unstyled (part_over_is t before i whole after).styled_bytes
+    ∙ sym (slice_range-map (λ (b : StyledByte). b.byte) (styled t) i.0 i.1) ∙ ap (λ x. slice_range x i.0 i.1) (unstyled-styled t)
 
 -- The parts of all indices are those over the intervals, in turn.
 

@@ -1,5 +1,5 @@
 -- A run of plain text at the front of a text, and a match that begins in it.
-use Rattle.ansi_split.proofs.Common.{◌≡◌, ◌≢◌, ℕ, ◌+◌, ◌-◌, ◌<◌, ◌≤◌, inl, inr, false, List, [], ◌∷◌, ◌++◌, length, take, drop, Option, Some, None, refl, sym, ◌∙◌, ap, ap₂, subst, arith, IsFalse, is_some, slice_index, length-append, nat_eq, unwrap_or, or_parts, and_parts, cases_lt, eq-eqb, take-append-drop, take-take, drop-drop, length-take-le, length-drop, get_or-drop, get_or_append_left, list_any-append, starts_with, IsUtf8, IsCharBoundary, Nowhere, NoneBefore, IsFirst, Passes, is_byte, escape, Piece, Text, after_text, pieces_of, ArePieces, plain, has_escape, Rendition, after_marks, style_after_from, is_char_boundary, is_good_position, first_match_from, IsCutAtMatch, pieces_are, all_plain_bytes, no_escape, marks-bare, IsMatch, match_fits, first_in_front, is_match-front, first_match_from-first, first_match_from-is, starts_with-splits, bytes_before, bytes_before-last, is_good_position-append, good_is_boundary}
+use Rattle.ansi_split.proofs.Common.{◌≡◌, ◌≢◌, ℕ, ◌+◌, ◌-◌, ◌<◌, ◌≤◌, inl, inr, false, List, [], ◌∷◌, ◌++◌, length, take, drop, Option, Some, None, refl, sym, ◌∙◌, ap, ap₂, subst, arith, IsFalse, is_some, slice_index, length-append, nat_eq, unwrap_or, or_parts, and_parts, cases_lt, eq-eqb, take-append-drop, take-take, drop-drop, length-take-le, length-drop, get_or-drop, get_or_append_left, list_any-append, starts_with, IsUtf8, IsCharBoundary, Nowhere, NoneBefore, IsFirst, Passes, is_byte, escape, Piece, Text, after_text, pieces_of, ArePieces, plain, has_escape, Rendition, after_marks, style_after_from, is_char_boundary, is_good_position, first_match_from, IsCutAtMatch, pieces_are, all_plain_bytes, has_escape-bare, marks-bare, IsMatch, match_fits, first_in_front, is_match-front, first_match_from-first, first_match_from-is, starts_with-splits, bytes_before, bytes_before-last, is_good_position-append, good_is_boundary}
 use Rattle.std.specs.Prelude.{◌==◌}
 use Rattle.std.specs.List.{slice_range}
 use Rattle.ansi_split.proofs.AfterLemmas.{drop-take, is_cut_after}
@@ -118,8 +118,8 @@ cut_in_run t p from run start utf8 utf8_p inside none before found =
     is_cut_at_match t p from start (take start t) (drop start t) utf8 utf8_p found
     (is_cut_after t start start (sym (ap (bytes_before start) pieces ∙ bytes_before-after_text start w (pieces_of rest) (omega (arith, size, before)))))
 
-pub boundary_in_run : (t p : List ℕ) (from run start : ℕ) → run ≤ length t → IsFalse (has_escape (take run t)) → start < run → first_match_from (plain t) p from ≡ Some start → IsCharBoundary t start
-boundary_in_run t p from run start inside none before found =
+pub match_boundary_in_run : (t p : List ℕ) (from run start : ℕ) → run ≤ length t → IsFalse (has_escape (take run t)) → start < run → first_match_from (plain t) p from ≡ Some start → IsCharBoundary t start
+match_boundary_in_run t p from run start inside none before found =
     let w = take run t in
     let size : length w ≡ run = length-take-le run t inside in
     let at : start < length w = omega (arith, size, before) in
@@ -151,4 +151,4 @@ no_escape-later t begin end ahead none =
 
 -- The first piece, where it is a text.
 pub no_escape-text : (t w : List ℕ) (ps : List Piece) → pieces_of t ≡ Text w ∷ ps → IsFalse (has_escape w)
-no_escape-text t w ps first = no_escape w (subst (ArePieces t) first (pieces_are t)).2.1
+no_escape-text t w ps first = has_escape-bare w (subst (ArePieces t) first (pieces_are t)).2.1

@@ -1,17 +1,17 @@
 -- The parts that are left of a text: the first one, which is written from what stands up to its end, and those of what follows.
-use Rattle.ansi_split.proofs.Common.{◌≡◌, ℕ, ◌+◌, ◌-◌, ◌≤◌, max, inl, inr, Bool, not, ◌&&◌, ◌||◌, ◌==◌, List, [], ◌∷◌, ◌++◌, length, map, take, drop, Option, Some, None, refl, sym, ◌∙◌, ap, ap₂, subst, arith, IsTrue, if◌then◌else◌, nat_eq, nat_lt, nat_le, length-append, cases_lt, and_parts, and_from, le-leb, nat_tests, length-map, length-drop, length-take-le, get_or-take, take_at, take-append-drop, filter_agree, IsUtf8-drop, IsCharBoundary-from_take, IsCharBoundary-start, starts_with, IsUtf8, pieces_of, Mark, plain, marks, up_to, is_good_position, is_char_boundary, Rendition, has_any, start, close_if_any, after_marks, style_after_from, style_within, show, match_places, first_match_from, apart, past, SplitPart, further_on, IsCutAfter, IsCutAtMatch, carried, part_from, parts_from, parts_left, span_part, slice_range-from_past, up_to-past, show-text, IsUtf8-plain, at_places, at_places-further, good_is_boundary, is_good_position-past, is_char_boundary-from, starts_with-splits}
-use Rattle.ansi_split.proofs.PartSliceLemmas.{own_places, past-places, at_places-at_places}
-use Rattle.ansi_split.proofs.TakenLemmas.{is_first_taken, apart-none, between, between-moved, moved_on}
+use Rattle.ansi_split.proofs.Common.{◌≡◌, ℕ, ◌+◌, ◌-◌, ◌≤◌, max, inl, inr, Bool, not, ◌&&◌, ◌||◌, ◌==◌, List, [], ◌∷◌, ◌++◌, length, map, take, drop, Option, Some, None, refl, sym, ◌∙◌, ap, ap₂, subst, arith, IsTrue, if◌then◌else◌, nat_eq, nat_lt, nat_le, length-append, cases_lt, and_parts, and_from, le-leb, nat_tests, length-map, length-drop, length-take-le, get_or-take, take_at, take-append-drop, filter_agree, IsUtf8-drop, IsCharBoundary-from_take, IsCharBoundary-start, starts_with, IsUtf8, pieces_of, Mark, plain, marks, marks_up_to, is_good_position, is_char_boundary, Rendition, has_any, start, close_if_any, after_marks, style_after_from, style_within, interleaved, match_places, first_match_from, without_overlaps, marks_past, SplitPart, marks_further_on, IsCutAfter, IsCutAtMatch, carried, part_from, parts_from, parts_left, span_part, slice_range-from_past, marks_up_to-marks_past, interleaved-text, IsUtf8-plain, at_places, at_places-further, good_is_boundary, is_good_position-past, is_char_boundary-from, starts_with-splits}
+use Rattle.ansi_split.proofs.PartSliceLemmas.{own_places, marks_past-places, at_places-at_places}
+use Rattle.ansi_split.proofs.TakenLemmas.{is_first_taken, without_overlaps-none, between, between-further, moved_on}
 
 -- The marks of a part.
 
-pub past-none : (ms : List Mark) → past None ms ≡ ms
-past-none [] = refl
-past-none (m ∷ ms) = ap (λ ks. m ∷ ks) (past-none ms)
+pub marks_past-none : (ms : List Mark) → marks_past None ms ≡ ms
+marks_past-none [] = refl
+marks_past-none (m ∷ ms) = ap (λ ks. m ∷ ks) (marks_past-none ms)
 
 -- the first part has all marks up to its end
-pub own-whole : (t : List ℕ) → past None (up_to (length (plain t)) (marks t)) ≡ marks t
-own-whole t = past-none (up_to (length (plain t)) (marks t)) ∙ up_to-past (length (plain t)) (pieces_of t) (omega arith)
+pub own-whole : (t : List ℕ) → marks_past None (marks_up_to (length (plain t)) (marks t)) ≡ marks t
+own-whole t = marks_past-none (marks_up_to (length (plain t)) (marks t)) ∙ marks_up_to-marks_past (length (plain t)) (pieces_of t) (omega arith)
 
 -- where a part of what follows m ends, in all of the text; before the first, at m
 abbrev moved_end : ℕ → Option ℕ → Option ℕ
@@ -19,17 +19,17 @@ moved_end m None = Some m
 moved_end m (Some e) = Some (m + e)
 
 -- the marks of a part that stands after m, which are those after m that pass a test
-own-moved : (f : ℕ → Bool) (before later : Option ℕ) (m b : ℕ) (ms ks : List Mark) → ((p : ℕ) → own_places before (m + b) p ≡ (nat_lt m p && f p)) → ((p : ℕ) → f (m + p) ≡ own_places later b p)
-    → past (Some m) ms ≡ further_on m ks → past before (up_to (m + b) ms) ≡ further_on m (past later (up_to b ks))
-own-moved f before later m b ms ks after moved is =
-    past-places before (m + b) ms
+own-further : (f : ℕ → Bool) (before later : Option ℕ) (m b : ℕ) (ms ks : List Mark) → ((p : ℕ) → own_places before (m + b) p ≡ (nat_lt m p && f p)) → ((p : ℕ) → f (m + p) ≡ own_places later b p)
+    → marks_past (Some m) ms ≡ marks_further_on m ks → marks_past before (marks_up_to (m + b) ms) ≡ marks_further_on m (marks_past later (marks_up_to b ks))
+own-further f before later m b ms ks after moved is =
+    marks_past-places before (m + b) ms
     ∙ filter_agree (λ (k : Mark). own_places before (m + b) k.place) (λ (k : Mark). nat_lt m k.place && f k.place) (λ k. after k.place) ms
     ∙ sym (at_places-at_places f (λ p. nat_lt m p) ms) ∙ ap (at_places f) is ∙ at_places-further f m ks
-    ∙ ap (further_on m) (filter_agree (λ (k : Mark). f (m + k.place)) (λ (k : Mark). own_places later b k.place) (λ k. moved k.place) ks ∙ sym (past-places later b ks))
+    ∙ ap (marks_further_on m) (filter_agree (λ (k : Mark). f (m + k.place)) (λ (k : Mark). own_places later b k.place) (λ k. moved k.place) ks ∙ sym (marks_past-places later b ks))
 
-own-after : (later : Option ℕ) (m b : ℕ) (ms ks : List Mark) → past (Some m) ms ≡ further_on m ks → past (moved_end m later) (up_to (m + b) ms) ≡ further_on m (past later (up_to b ks))
-own-after None m b ms ks is = own-moved (λ p. nat_le p (m + b)) (Some m) None m b ms ks (λ p. grind (arith, nat_tests)) (λ p. grind (arith, nat_tests)) is
-own-after (Some e) m b ms ks is = own-moved (own_places (Some (m + e)) (m + b)) (Some (m + e)) (Some e) m b ms ks (λ p. grind (arith, nat_tests)) (λ p. grind (arith, nat_tests)) is
+own-after : (later : Option ℕ) (m b : ℕ) (ms ks : List Mark) → marks_past (Some m) ms ≡ marks_further_on m ks → marks_past (moved_end m later) (marks_up_to (m + b) ms) ≡ marks_further_on m (marks_past later (marks_up_to b ks))
+own-after None m b ms ks is = own-further (λ p. nat_le p (m + b)) (Some m) None m b ms ks (λ p. grind (arith, nat_tests)) (λ p. grind (arith, nat_tests)) is
+own-after (Some e) m b ms ks is = own-further (own_places (Some (m + e)) (m + b)) (Some (m + e)) (Some e) m b ms ks (λ p. grind (arith, nat_tests)) (λ p. grind (arith, nat_tests)) is
 
 -- A part by what it is made of.
 
@@ -37,7 +37,7 @@ abbrev made_of : Bool → ℕ → Rendition → List ℕ → Rendition → Split
 made_of same n style shown last = record {
   bytes = if same && n == 0 then [] else start style ++ shown ++ close_if_any last;
   borrowed = n == 0 && (same || not (has_any style));
-  share = length shown;
+  source_len = length shown;
 }
 
 made_of-alike : {same same' : Bool} {n n' : ℕ} {style style' last last' : Rendition} {shown shown' : List ℕ} → same ≡ same' → n ≡ n' → style ≡ style' → shown ≡ shown' → last ≡ last'
@@ -46,27 +46,27 @@ made_of-alike {same} {same'} {n} {n'} {style} {style'} {last} {last'} {shown} {s
     ap₂ (λ s k. made_of s k style shown last) a b ∙ ap₂ (λ r v. made_of same' n' r v last) c d ∙ ap (made_of same' n' style' shown') e
 
 part_from-made : (c : Rendition) (t : List ℕ) (before : Option ℕ) (i : ℕ × ℕ) → part_from c t before i
-    ≡ made_of (i.0 == i.1) (length (past before (up_to i.1 (marks t)))) (carried c t before) (show (plain t) i.0 i.1 (past before (up_to i.1 (marks t)))) (style_within c t i.1)
+    ≡ made_of (i.0 == i.1) (length (marks_past before (marks_up_to i.1 (marks t)))) (carried c t before) (interleaved (plain t) i.0 i.1 (marks_past before (marks_up_to i.1 (marks t)))) (style_within c t i.1)
 unfolding part_from
 part_from-made c t before i = refl
 
 -- The part up to m, by the front of the text that is cut there.
 
 part-front : (c : Rendition) (t : List ℕ) (skip m : ℕ) (front after : List ℕ) → m ≤ length (plain t) → IsCutAfter t m front after → part_from c t None (skip, m) ≡ span_part c front skip
-part-front c t skip m front after inside cut = grind (arith, length-take-le, made_of-alike, own-whole, part_from-made, past-none, up_to-past)
+part-front c t skip m front after inside cut = grind (arith, length-take-le, made_of-alike, own-whole, part_from-made, marks_past-none, marks_up_to-marks_past)
 
 -- The parts after m, by the text after the cut.
 
-pub show-after : (x : List ℕ) (m a b : ℕ) (ms : List Mark) → m ≤ length x → show x (m + a) (m + b) (further_on m ms) ≡ show (drop m x) a b ms
-show-after x m a b ms inside =
+pub interleaved-after : (x : List ℕ) (m a b : ℕ) (ms : List Mark) → m ≤ length x → interleaved x (m + a) (m + b) (marks_further_on m ms) ≡ interleaved (drop m x) a b ms
+interleaved-after x m a b ms inside =
     let w = take m x in
     let size : length w ≡ m = length-take-le m x inside in
     let from : m + a - length w ≡ a = omega (arith, size) in
     let to : m + b - length w ≡ b = omega (arith, size) in
-    ap₂ (λ u n. show u (m + a) (m + b) (further_on n ms)) (sym (take-append-drop m x)) (sym size)
-    ∙ show-text w (drop m x) (m + a) (m + b) ms
-    ∙ ap (λ u. u ++ show (drop m x) (m + a - length w) (m + b - length w) ms) (slice_range-from_past w (m + a) (m + b) (omega (arith, size)))
-    ∙ ap₂ (λ i j. show (drop m x) i j ms) from to
+    ap₂ (λ u n. interleaved u (m + a) (m + b) (marks_further_on n ms)) (sym (take-append-drop m x)) (sym size)
+    ∙ interleaved-text w (drop m x) (m + a) (m + b) ms
+    ∙ ap (λ u. u ++ interleaved (drop m x) (m + a - length w) (m + b - length w) ms) (slice_range-from_past w (m + a) (m + b) (omega (arith, size)))
+    ∙ ap₂ (λ i j. interleaved (drop m x) i j ms) from to
 
 carried-after : (c : Rendition) (t : List ℕ) (m : ℕ) (front after : List ℕ) (later : Option ℕ) → IsCutAfter t m front after → carried c t (moved_end m later) ≡ carried (style_within c t m) after later
 carried-after c t m front after None cut = refl
@@ -77,10 +77,10 @@ part-after : (c : Rendition) (t : List ℕ) (m : ℕ) (front after : List ℕ) (
 part-after c t m front after later i inside cut =
     let before = moved_end m later in
     let same : (m + i.0 == m + i.1) ≡ (i.0 == i.1) = grind (arith, nat_tests) in
-    let ks = past later (up_to i.1 (marks after)) in
-    let own : past before (up_to (m + i.1) (marks t)) ≡ further_on m ks = own-after later m i.1 (marks t) (marks after) cut.marks_after in
-    let shown : show (plain t) (m + i.0) (m + i.1) (past before (up_to (m + i.1) (marks t))) ≡ show (plain after) i.0 i.1 ks
-    = ap (show (plain t) (m + i.0) (m + i.1)) own ∙ show-after (plain t) m i.0 i.1 ks inside ∙ ap (λ x. show x i.0 i.1 ks) (sym cut.plain_after) in
+    let ks = marks_past later (marks_up_to i.1 (marks after)) in
+    let own : marks_past before (marks_up_to (m + i.1) (marks t)) ≡ marks_further_on m ks = own-after later m i.1 (marks t) (marks after) cut.marks_after in
+    let shown : interleaved (plain t) (m + i.0) (m + i.1) (marks_past before (marks_up_to (m + i.1) (marks t))) ≡ interleaved (plain after) i.0 i.1 ks
+    = ap (interleaved (plain t) (m + i.0) (m + i.1)) own ∙ interleaved-after (plain t) m i.0 i.1 ks inside ∙ ap (λ x. interleaved x i.0 i.1 ks) (sym cut.plain_after) in
     part_from-made c t before (moved_on m i)
     ∙ made_of-alike same (ap length own ∙ length-map ks _) (carried-after c t m front after later cut) shown (cut.styles_after_from c i.1)
     ∙ sym (part_from-made (style_within c t m) after later i)
@@ -95,7 +95,7 @@ parts-after c t m front after later (i ∷ is) inside cut = ap₂ (λ p ps. p �
 pub parts_left-last : (c : Rendition) (t p : List ℕ) (skip from : ℕ) → first_match_from (plain t) p from ≡ None → parts_left c t p skip from ≡ span_part c t skip ∷ []
 unfolding parts_left
 parts_left-last c t p skip from none =
-    ap (λ taken. parts_from c t None (between (length p) skip (length (plain t)) taken)) (apart-none (length p) from (match_places (plain t) p) none)
+    ap (λ taken. parts_from c t None (between (length p) skip (length (plain t)) taken)) (without_overlaps-none (length p) from (match_places (plain t) p) none)
 
 -- and with one at m, the first is what stands before it.
 pub parts_left-first : (c : Rendition) (t p : List ℕ) (skip from : ℕ) (front after : List ℕ) → IsCutAtMatch t p from front after
@@ -108,16 +108,16 @@ parts_left-first c t p skip from front after at_match =
     let x = plain t in
     let n = length p in
     let first = is_first_taken x p from m found in
-    let ms = apart n (max n 1) (match_places (drop m x) p) in
+    let ms = without_overlaps n (max n 1) (match_places (drop m x) p) in
     let size : length x ≡ m + length (drop m x) = omega (arith, first.inside, length-drop m x) in
     let moved : between n (m + n) (length x) (map (λ k. m + k) ms) ≡ map (moved_on m) (between n n (length (drop m x)) ms)
-    = ap (λ e. between n (m + n) e (map (λ k. m + k) ms)) size ∙ between-moved n n (length (drop m x)) m ms in
+    = ap (λ e. between n (m + n) e (map (λ k. m + k) ms)) size ∙ between-further n n (length (drop m x)) m ms in
     let style : style_within c t m ≡ style_after_from c front = ap (after_marks c) (sym cut.marks_front) in
     ap (λ taken. parts_from c t None (between n skip (length x) taken)) first.taken
     ∙ ap₂ (λ p ps. p ∷ ps)
     (part-front c t skip m front after first.inside cut)
     (ap (parts_from c t (Some m)) moved ∙ parts-after c t m front after None (between n n (length (drop m x)) ms) first.inside cut
-    ∙ ap₂ (λ s y. parts_from s after None (between n n (length y) (apart n (max n 1) (match_places y p)))) style (sym cut.plain_after))
+    ∙ ap₂ (λ s y. parts_from s after None (between n n (length y) (without_overlaps n (max n 1) (match_places y p)))) style (sym cut.plain_after))
 
 -- Where the plain bytes that are left out end, a character does.
 

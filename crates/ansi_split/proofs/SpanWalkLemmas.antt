@@ -1,18 +1,18 @@
 -- How far a part that is written has come, and what a step of the walk is to it.
-use Rattle.ansi_split.proofs.Common.{has_escape, plain-bare, marks-bare, show-bare, is_char_boundary, and_parts, good_is_boundary, leb-true, ◌≡◌, ℕ, ◌+◌, ◌-◌, ◌<◌, ◌≤◌, inl, inr, true, false, List, [], ◌∷◌, ◌++◌, length, drop, sym, ◌∙◌, ap, ap₂, subst, arith, IsTrue, if◌then◌else◌, append_assoc, append-nil, length-append, cases_lt, drop_all, drop-drop, drop-append-le, IsCharBoundary, Kind, Piece, Text, spelling, ArePieces, pieces_of, plain_of, plain, marks_of, is_good_position, Rendition, has_any, start, close, close_if_any, style_after_from, show, span_text, pieces_are, pieces_of-unique, is_mark, BeginsWithMark, plain_of-mark, marks_of-text, marks_of-mark, slice_range-past, show-text, show-mark, is_good_position-after, IsOverText}
+use Rattle.ansi_split.proofs.Common.{has_escape, plain-bare, marks-bare, interleaved-bare, is_char_boundary, and_parts, good_is_boundary, leb-true, ◌≡◌, ℕ, ◌+◌, ◌-◌, ◌<◌, ◌≤◌, inl, inr, true, false, List, [], ◌∷◌, ◌++◌, length, drop, sym, ◌∙◌, ap, ap₂, subst, arith, IsTrue, if◌then◌else◌, append_assoc, append-nil, length-append, cases_lt, drop_all, drop-drop, drop-append-le, IsCharBoundary, Kind, Piece, Text, spelling, ArePieces, pieces_of, plain_of, plain, marks_of, is_good_position, Rendition, has_any, start, close, close_if_any, style_after_from, interleaved, span_text, pieces_are, pieces_of-unique, is_mark, BeginsWithMark, plain_of-mark, marks_of-text, marks_of-mark, slice_range-past, interleaved-text, interleaved-mark, is_good_position-after, IsOverText}
 use Rattle.ansi_slice.specs.Kept.{kept}
 use Rattle.ansi_slice.proofs.KeptWalkLemmas.{kept-all}
 use Rattle.ansi_split.proofs.AfterLemmas.{boundary_in_next}
 
 -- all of the pieces but for so many plain bytes at their front
 abbrev pub left_of : ℕ → List Piece → List ℕ
-left_of skip ps = show (plain_of ps) skip (length (plain_of ps)) (marks_of ps)
+left_of skip ps = interleaved (plain_of ps) skip (length (plain_of ps)) (marks_of ps)
 
 -- a text without a sequence stands as it is
 pub shown-bare : (t : List ℕ) (skip : ℕ) → has_escape t ≡ false → left_of skip (pieces_of t) ≡ drop skip t
 shown-bare t skip none =
-    ap₂ (λ x ms. show x skip (length x) ms) (plain-bare t none) (marks-bare t none)
-    ∙ show-bare t skip (length t) ∙ slice_range-past t skip (length t) (omega arith)
+    ap₂ (λ x ms. interleaved x skip (length x) ms) (plain-bare t none) (marks-bare t none)
+    ∙ interleaved-bare t skip (length t) ∙ slice_range-past t skip (length t) (omega arith)
 
 pub boundary-bare : (t : List ℕ) (skip : ℕ) → has_escape t ≡ false → IsTrue (is_char_boundary (plain t) skip) → IsCharBoundary t skip
 boundary-bare t skip none boundary = grind (arith, and_parts, good_is_boundary, leb-true, plain-bare)
@@ -23,13 +23,13 @@ pub record IsShownSoFar (whole written : List ℕ) (skip : ℕ) (left : List Pie
   pub good : IsTrue (is_good_position (plain_of left) skip)
 
 -- a text in front
-show-front : (w : List ℕ) (ps : List Piece) (a : ℕ) → left_of a (Text w ∷ ps) ≡ drop a w ++ left_of (a - length w) ps
-show-front w ps a =
+interleaved-front : (w : List ℕ) (ps : List Piece) (a : ℕ) → left_of a (Text w ∷ ps) ≡ drop a w ++ left_of (a - length w) ps
+interleaved-front w ps a =
     let x = plain_of ps in
     let all : length (w ++ x) ≡ length w + length x = length-append w x in
     let rest : length (w ++ x) - length w ≡ length x = omega (arith, all) in
-    ap (show (w ++ x) a (length (w ++ x))) (marks_of-text w ps) ∙ show-text w x a (length (w ++ x)) (marks_of ps)
-    ∙ ap₂ (λ u b. u ++ show x (a - length w) b (marks_of ps)) (slice_range-past w a (length (w ++ x)) (omega (arith, all))) rest
+    ap (interleaved (w ++ x) a (length (w ++ x))) (marks_of-text w ps) ∙ interleaved-text w x a (length (w ++ x)) (marks_of ps)
+    ∙ ap₂ (λ u b. u ++ interleaved x (a - length w) b (marks_of ps)) (slice_range-past w a (length (w ++ x)) (omega (arith, all))) rest
 
 -- over a text that is left out
 pub shown-skip : {whole written : List ℕ} {skip later : ℕ} {w : List ℕ} {left ps : List Piece} → IsShownSoFar whole written skip left → left ≡ Text w ∷ ps → length w < skip → later ≡ skip - length w
@@ -37,7 +37,7 @@ pub shown-skip : {whole written : List ℕ} {skip later : ℕ} {w : List ℕ} {l
 shown-skip {whole} {written} {skip} {later} {w} {left} {ps} so_far is out later_is =
     let first = subst (IsShownSoFar whole written skip) is so_far in
     let step : IsShownSoFar whole written (skip - length w) ps = record {
-      shown = ap (λ u. written ++ u) (sym (show-front w ps skip ∙ ap (λ u. u ++ left_of (skip - length w) ps) (drop_all skip w (omega (arith, out))))) ∙ first.shown;
+      shown = ap (λ u. written ++ u) (sym (interleaved-front w ps skip ∙ ap (λ u. u ++ left_of (skip - length w) ps) (drop_all skip w (omega (arith, out))))) ∙ first.shown;
       good = sym (is_good_position-after w (plain_of ps) skip (omega (arith, out))) ∙ first.good;
     } in
     rw later_is step
@@ -55,7 +55,7 @@ shown-rest {t} {whole} {written} {last} {v} {skip} {begin} {at} {next} {w} {left
     let none : skip - length w ≡ 0 = omega (arith, inside) in
     let rest : left_of (skip - length w) ps ≡ are.0 = ap₂ left_of none (pieces_of-unique are.0 ps are.3) ∙ left_of-rest are.0 in
     let bytes : v ≡ drop skip w ++ are.0 = v_is ∙ ap (λ k. drop (k + skip) t) begin_is ∙ sym (drop-drop skip at t) ∙ ap (drop skip) are.1 ∙ drop-append-le skip w are.0 inside in
-    last_is ∙ ap (λ u. written ++ u) (bytes ∙ ap (λ u. drop skip w ++ u) (sym rest) ∙ sym (show-front w ps skip)) ∙ first.shown
+    last_is ∙ ap (λ u. written ++ u) (bytes ∙ ap (λ u. drop skip w ++ u) (sym rest) ∙ sym (interleaved-front w ps skip)) ∙ first.shown
 
 -- a character begins there
 pub shown-boundary : {t : List ℕ} {begin at next : ℕ} {w : List ℕ} {left ps : List Piece} (skip : ℕ) → IsTrue (is_good_position (plain_of left) skip) → IsOverText t w at next left ps → skip ≤ length w
@@ -65,10 +65,10 @@ shown-boundary {t} {begin} {at} {next} {w} {left} {ps} skip good over inside beg
   | inr past ↦ (let same : next ≡ at + skip = omega (arith, past, inside, over.count) in subst (IsCharBoundary t) same boundary)
 ])
 
-show-piece : (p : Piece) (ps : List Piece) (a : ℕ) → is_mark p ≡ true → left_of a (p ∷ ps) ≡ spelling p ++ left_of a ps
-show-piece p ps a is =
+interleaved-piece : (p : Piece) (ps : List Piece) (a : ℕ) → is_mark p ≡ true → left_of a (p ∷ ps) ≡ spelling p ++ left_of a ps
+interleaved-piece p ps a is =
     let x = plain_of ps in
-    ap₂ (λ y ms. show y a (length y) ms) (plain_of-mark p ps is) (marks_of-mark p ps is) ∙ show-mark (spelling p) x a (length x) (marks_of ps)
+    ap₂ (λ y ms. interleaved y a (length y) ms) (plain_of-mark p ps is) (marks_of-mark p ps is) ∙ interleaved-mark (spelling p) x a (length x) (marks_of ps)
 
 -- over a mark
 pub shown-mark : {whole old new : List ℕ} {skip : ℕ} {kind : Kind} {w : List ℕ} {left ps : List Piece} → IsShownSoFar whole old skip left → BeginsWithMark kind w left ps → new ≡ old ++ w
@@ -77,7 +77,7 @@ shown-mark {whole} {old} {new} {skip} {kind} {w} {left} {ps} so_far begins more 
     let first = subst (IsShownSoFar whole old skip) begins.pieces so_far in
     let bytes = spelling begins.mark in
     let step : IsShownSoFar whole (old ++ bytes) skip ps = record {
-      shown = append_assoc old bytes (left_of skip ps) ∙ ap (λ u. old ++ u) (sym (show-piece begins.mark ps skip begins.is_mark)) ∙ first.shown;
+      shown = append_assoc old bytes (left_of skip ps) ∙ ap (λ u. old ++ u) (sym (interleaved-piece begins.mark ps skip begins.is_mark)) ∙ first.shown;
       good = ap (λ x. is_good_position x skip) (sym (plain_of-mark begins.mark ps begins.is_mark)) ∙ first.good;
     } in
     rw (more, ← begins.bytes) step

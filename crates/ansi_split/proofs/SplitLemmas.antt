@@ -1,5 +1,5 @@
 -- The parts that a split gives: those of the text, each by its index; and a part that is written or borrowed.
-use Rattle.ansi_split.proofs.Common.{◌≡◌, Bool, unwrap_or, ℕ, zero, suc, ◌+◌, ◌≤◌, true, false, not, ◌&&◌, ◌||◌, ◌==◌, List, [], ◌∷◌, ◌++◌, length, map, drop, Option, Some, None, option_map, refl, sym, ◌∙◌, ap, ap₂, arith, IsTrue, IsFalse, if◌then◌else◌, slice_get, append-nil, eqb-true, eq-eqb, ne_eqb, cond_both, or_from, and_parts, and_from, and-false, or-true, none-some, same_Some, drop_all, list_any-append, range_with_len, list_all, escape, Piece, Text, ArePieces, pieces_of, Mark, plain, marks_of, marks, up_to, has_escape, Rendition, plain_style, has_any, start, close_if_any, style_of, style_at, parts, end_before, carried, part, all_parts, part_from, share, is_part_borrowed, SplitPart, split_part, split_parts, parts_from, parts_left, span_part, span_text, pieces_are, no_escape, plain-bare, slice_range-past, further, marks-bare, marks_of-text, marks_of-mark, up_to-past, show-bare, start-unset, close_if_any-unset}
+use Rattle.ansi_split.proofs.Common.{◌≡◌, Bool, unwrap_or, ℕ, zero, suc, ◌+◌, ◌≤◌, true, false, not, ◌&&◌, ◌||◌, ◌==◌, List, [], ◌∷◌, ◌++◌, length, map, drop, Option, Some, None, option_map, refl, sym, ◌∙◌, ap, ap₂, arith, IsTrue, IsFalse, if◌then◌else◌, slice_get, append-nil, eqb-true, eq-eqb, ne_eqb, cond_both, or_from, and_parts, and_from, and-false, or-true, none-some, same_Some, drop_all, list_any-append, range_with_len, list_all, escape, Piece, Text, ArePieces, pieces_of, Mark, plain, marks_of, marks, marks_up_to, has_escape, Rendition, plain_style, has_any, start, close_if_any, style_of, style_at, parts, end_before, carried, part, all_parts, part_from, source_len, is_part_borrowed, SplitPart, split_part, split_parts, parts_from, parts_left, span_part, span_text, pieces_are, has_escape-bare, plain-bare, slice_range-past, further, marks-bare, marks_of-text, marks_of-mark, marks_up_to-marks_past, interleaved-bare, start-unset, close_if_any-unset}
 use Rattle.std.proofs.lemmas.Bool.{true≢false}
 use Rattle.ansi_split.proofs.IntervalLemmas.{end_after, end_after-suc, end_after-none}
 use Rattle.ansi_split.proofs.PartTextLemmas.{length-parts, all_parts-over}
@@ -38,7 +38,7 @@ slice_get-parts_left t p k =
 -- Where no ESC stands, each part is a borrow.
 
 pub style_at-bare : (t : List ℕ) (i : ℕ) → IsFalse (has_escape t) → style_at t i ≡ plain_style
-style_at-bare t i none = ap (λ ms. style_of (up_to i ms)) (marks-bare t none)
+style_at-bare t i none = ap (λ ms. style_of (marks_up_to i ms)) (marks-bare t none)
 
 pub carried-bare : (t : List ℕ) (before : Option ℕ) → IsFalse (has_escape t) → carried plain_style t before ≡ plain_style
 carried-bare t None none = refl
@@ -61,7 +61,7 @@ no_escape_after : (t : List ℕ) (ps : List Piece) → ArePieces t ps → marks_
 no_escape_after t [] are none = ap has_escape are
 no_escape_after t (Text w ∷ ps) are none =
     ap has_escape are.1 ∙ list_any-append (λ b. b == escape) w are.0
-    ∙ or_from _ _ (no_escape w are.2.1) (no_escape_after are.0 ps are.3 (no_marks (marks_of ps) (sym (marks_of-text w ps) ∙ none)))
+    ∙ or_from _ _ (has_escape-bare w are.2.1) (no_escape_after are.0 ps are.3 (no_marks (marks_of ps) (sym (marks_of-text w ps) ∙ none)))
   where
     no_marks : (ms : List Mark) → map (further (length w)) ms ≡ [] → ms ≡ []
     no_marks [] none = refl
@@ -83,7 +83,7 @@ span_part-borrowed c t skip = ap (λ (own : List Mark). length own == 0 && (skip
 
 pub bytes-owned : (c : Rendition) (t : List ℕ) (skip : ℕ) → (span_part c t skip).borrowed ≡ false → (span_part c t skip).bytes ≡ span_text c t skip
 unfolding part_from span_text
-bytes-owned c t skip owned = grind (arith, own-whole, span_part-borrowed, true≢false, up_to-past)
+bytes-owned c t skip owned = grind (arith, own-whole, span_part-borrowed, true≢false, marks_up_to-marks_past)
 
 -- It is none where a sequence stands in it, or it isn't empty and a style is carried,
 
@@ -101,7 +101,7 @@ pub record IsBare (c : Rendition) (t : List ℕ) (skip : ℕ) : Type 0 where
 
 bare_part : (c : Rendition) (t : List ℕ) (skip : ℕ) → has_escape t ≡ false → (span_part c t skip).bytes ≡ (if skip == length t && true then [] else start c ++ drop skip t ++ close_if_any c)
 unfolding part_from
-bare_part c t skip none = grind (arith, marks-bare, plain-bare, show-bare, slice_range-past)
+bare_part c t skip none = grind (arith, marks-bare, plain-bare, interleaved-bare, slice_range-past)
 
 pub bare-empty : (c : Rendition) (t : List ℕ) (skip : ℕ) → has_escape t ≡ false → skip ≡ length t → IsBare c t skip
 bare-empty c t skip none end = grind (arith, bare_part, drop_all, eq-eqb, marks-bare, plain-bare, span_part-borrowed)
@@ -124,7 +124,7 @@ pub record IsPartAt (t p : List ℕ) (k : ℕ) (q : SplitPart) : Type 0 where
   pub found : slice_get (parts (plain t) p) k ≡ Some interval
   pub bytes : part t p k ≡ Some q.bytes
   pub borrowed : is_part_borrowed t p k ≡ q.borrowed
-  pub share : share t p k ≡ q.share
+  pub source_len : source_len t p k ≡ q.source_len
   pub bare : IsFalse (has_escape t) → q.borrowed ≡ true
 
 pub part_at : (t p : List ℕ) (k : ℕ) (q : SplitPart) → slice_get (parts_left plain_style t p 0 0) k ≡ Some q → IsPartAt t p k q
@@ -146,8 +146,8 @@ by_index h (x ∷ xs) a gives =
 split_part-at : (t p : List ℕ) (k : ℕ) (q : SplitPart) → slice_get (parts_left plain_style t p 0 0) k ≡ Some q → split_part t p k ≡ q
 split_part-at t p k q at =
     let is = part_at t p k q at in
-    let made : Option (List ℕ) → Bool → ℕ → SplitPart = λ bytes borrowed share. record { bytes = unwrap_or bytes []; borrowed = borrowed; share = share } in
-    ap₂ (λ bytes borrowed. made bytes borrowed (share t p k)) is.bytes is.borrowed ∙ ap (made (Some q.bytes) q.borrowed) is.share
+    let made : Option (List ℕ) → Bool → ℕ → SplitPart = λ bytes borrowed source_len. record { bytes = unwrap_or bytes []; borrowed = borrowed; source_len = source_len } in
+    ap₂ (λ bytes borrowed. made bytes borrowed (source_len t p k)) is.bytes is.borrowed ∙ ap (made (Some q.bytes) q.borrowed) is.source_len
 
 pub parts_left-parts : (t p : List ℕ) → parts_left plain_style t p 0 0 ≡ split_parts t p
 parts_left-parts t p =

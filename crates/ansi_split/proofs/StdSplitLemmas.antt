@@ -1,7 +1,7 @@
 -- Between the first matches of a pattern stand the texts that std's `split` gives, and no others.
 use Rattle.ansi_split.proofs.Common.{◌≡◌, ◌≢◌, ℕ, ◌+◌, ◌-◌, ◌<◌, ◌≤◌, Bool, true, false, List, [], ◌∷◌, ◌++◌, take, drop, length, Some, None, refl, sym, ◌∙◌, ap, ap₂, subst, arith, slice_index, slice_range, length-take, true≢false, cases_order, drop-drop, get_or-drop, take_all, IsUtf8, IsCharBoundary, FindsText, LacksTextAt, HasTextAt, IsSplitAtFirstMatch, parts, GoesOn, AreSplit, AreBetween, slices_over}
 use Rattle.std.proofs.Common.{length-drop}
-use Rattle.ansi_split.proofs.BetweenLemmas.{filled, parts_are_between}
+use Rattle.ansi_split.proofs.BetweenLemmas.{length-nonempty, parts_are_between}
 
 -- the last text, with no match
 split_last : (x p : List ℕ) (e : ℕ) (i : ℕ × ℕ) → AreBetween x p e (i ∷ []) → AreSplit p (drop e x) (slices_over x (i ∷ []))
@@ -52,7 +52,7 @@ no_earlier_find p x q r found later before = later.0 q.0 before (drop q.1 x) fou
 
 step_is_one : (p x y z rest left : List ℕ) (more go : Bool) → p ≢ [] → IsSplitAtFirstMatch (FindsText p) x y more rest → IsSplitAtFirstMatch (FindsText p) x z go left
     → (y ≡ z) × (more ≡ go) × (go ≡ true → rest ≡ left)
-step_is_one p x y z rest left more go some first second = grind (arith, cases_order, filled, no_earlier_find, no_find, true≢false)
+step_is_one p x y z rest left more go some first second = grind (arith, cases_order, length-nonempty, no_earlier_find, no_find, true≢false)
 
 pub split_is_one : (p x : List ℕ) (ys zs : List (List ℕ)) → p ≢ [] → AreSplit p x ys → AreSplit p x zs → ys ≡ zs
 split_is_one p x [] zs some first second = absurd first

@@ -1,5 +1,5 @@
-pub mod StdSplit
 pub mod Parts
 pub mod Splits
+pub mod StdSplit
 pub mod Spans
 pub mod Walks

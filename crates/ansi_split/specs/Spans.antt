@@ -1,25 +1,25 @@
 -- The parts of a text that is read with a style already open, and after the match before.
 use Rattle.std.specs.Prelude.{◌≡◌, ℕ, ◌+◌, Bool, List, [], ◌∷◌, ◌++◌, length, map, zip, drop, take, Option, Some, None, IsTrue}
 use Rattle.ansi_style.specs.declared.state.rendition.Rendition.{Rendition}
-use Rattle.ansi_items.specs.Plain.{Mark, plain, marks, up_to, has_escape}
+use Rattle.ansi_items.specs.Plain.{Mark, plain, marks, marks_up_to, has_escape}
 use Rattle.ansi_style.specs.Written.{start, close_if_any}
 use Rattle.ansi_style.specs.Reading.{style_after_from, style_within}
-use Rattle.ansi_slice.specs.Cut.{show}
+use Rattle.ansi_slice.specs.Cut.{interleaved}
 use Rattle.ansi_search.specs.Positions.{is_char_boundary}
 use Rattle.ansi_search.specs.Matches.{match_places, first_match_from}
-use Rattle.ansi_split.specs.Parts.{apart, past, SplitPart, part_from}
+use Rattle.ansi_split.specs.Parts.{without_overlaps, marks_past, SplitPart, part_from}
 
 -- marks with n plain bytes more before each
-abbrev pub further_on : ℕ → List Mark → List Mark
-further_on n ms = map (λ (m : Mark). record m { place = n + m.place }) ms
+abbrev pub marks_further_on : ℕ → List Mark → List Mark
+marks_further_on n ms = map (λ (m : Mark). record m { place = n + m.place }) ms
 
 -- t is cut after its last mark at the position e: what is shown up to there is the front, and what follows is read on from there in the style there
 pub record IsCutAfter (t : List ℕ) (e : ℕ) (front after : List ℕ) : Type 0 where
   pub plain_front : plain front ≡ take e (plain t)
-  pub marks_front : marks front ≡ up_to e (marks t)
-  pub shown_front : (a : ℕ) → show (plain t) a e (up_to e (marks t)) ≡ show (plain front) a e (marks front)
+  pub marks_front : marks front ≡ marks_up_to e (marks t)
+  pub interleaved_front : (a : ℕ) → interleaved (plain t) a e (marks_up_to e (marks t)) ≡ interleaved (plain front) a e (marks front)
   pub plain_after : plain after ≡ drop e (plain t)
-  pub marks_after : past (Some e) (marks t) ≡ further_on e (marks after)
+  pub marks_after : marks_past (Some e) (marks t) ≡ marks_further_on e (marks after)
   pub styles_after_from : (c : Rendition) (i : ℕ) → style_within c t (e + i) ≡ style_within (style_within c t e) after i
 
 -- t is cut after its last mark at the first match of p that doesn't begin before `from`, and a character begins, or the text ends, after the match
@@ -37,19 +37,19 @@ parts_from c t before (i ∷ is) = part_from c t before i ∷ parts_from c t (So
 -- the parts left of t; its first `skip` plain bytes are in no part, and the next match begins at or past `from`
 unfoldable pub parts_left : Rendition → List ℕ → List ℕ → ℕ → ℕ → List SplitPart
 parts_left c t p skip from =
-    let taken = apart (length p) from (match_places (plain t) p) in
+    let taken = without_overlaps (length p) from (match_places (plain t) p) in
     parts_from c t None (zip (skip ∷ map (λ m. m + length p) taken) (taken ++ length (plain t) ∷ []))
 
 -- all of t without its first `skip` plain bytes, with every mark, between the start of c and the close of the style then
 unfoldable pub span_text : Rendition → List ℕ → ℕ → List ℕ
-span_text c t skip = start c ++ show (plain t) skip (length (plain t)) (marks t) ++ close_if_any (style_after_from c t)
+span_text c t skip = start c ++ interleaved (plain t) skip (length (plain t)) (marks t) ++ close_if_any (style_after_from c t)
 
 -- the part that all of t makes, without its first `skip` plain bytes
 abbrev pub span_part : Rendition → List ℕ → ℕ → SplitPart
 span_part c t skip = part_from c t None (skip, length (plain t))
 
 -- What is kept of that part besides: whether t has an ESC, and the style after it. The first bytes, which are left out, end at a character boundary.
-pub record IsSpan (c : Rendition) (t : List ℕ) (skip : ℕ) (is_marked : Bool) (after : Rendition) : Type 0 where
+pub record AreSpanFacts (c : Rendition) (t : List ℕ) (skip : ℕ) (is_marked : Bool) (after : Rendition) : Type 0 where
   pub marked : is_marked ≡ has_escape t
   pub skip_is_boundary : IsTrue (is_char_boundary (plain t) skip)
   pub is_after : after ≡ style_after_from c t

@@ -16,7 +16,7 @@ parts_of_walk w = if w.finished then [] else parts_left (rendition_of_numbers w.
 pub record IsPartWalk (w : PartWalk) : Type 0 where
   pub text : IsUtf8 w.rest.now
   pub pattern : IsUtf8 w.pattern.now
-  pub run_ends : IsCharBoundary w.rest.now w.run
-  pub run_is_plain : IsFalse (has_escape (take w.run w.rest.now))
+  pub run_ends : IsCharBoundary w.rest.now w.run_len
+  pub run_is_plain : IsFalse (has_escape (take w.run_len w.rest.now))
   pub skip_ends : IsTrue (is_char_boundary (plain w.rest.now) w.skip)
   pub skip_before : w.skip ≤ w.from

@@ -3,7 +3,7 @@ ghost use Rattle.std.specs.Prelude.{◌≡◌, ◌↔◌, ◌⊎◌, ◌+◌, �
 ghost use Rattle.std.specs.List.{list_all, sum_by};
 ghost use Rattle.std.specs.Cow.{cow_str_bytes, IsBorrowedStr};
 ghost use Rattle.ansi_items.specs.Plain.{plain, has_escape};
-ghost use Rattle.ansi_split.specs.Parts.{parts, part, all_parts, share, is_part_borrowed};
+ghost use Rattle.ansi_split.specs.Parts.{parts, part, all_parts, source_len, is_part_borrowed};
 ghost use Rattle.ansi_style.specs.Written.{longest_start_and_close};
 ghost use Rattle.ansi_split.specs.Splits.{split_parts};
 
@@ -11,7 +11,7 @@ pub(crate) mod intervals;
 mod rest;
 pub(crate) mod spans;
 
-use crate::split::spans::Spans;
+use crate::split::spans::PartSpans;
 use std::alloc::{AllocError, Allocator, Global};
 use std::borrow::CowStr;
 use std::marker::Model;
@@ -36,7 +36,7 @@ use std::marker::Model;
 #[derive(Drop)]
 pub struct AnsiSplit<'a, A: Allocator = Global> {
     pub(crate) alloc: A,
-    pub(crate) spans: Spans<'a, 'a>,
+    pub(crate) spans: PartSpans<'a, 'a>,
 }
 
 impl<'a, A: Allocator> Model for AnsiSplit<'a, A> {
@@ -60,10 +60,10 @@ pub fn split_in<'a, A: Allocator>(alloc: A, text: &'a str, pat: &'a str) -> Ansi
     ensures bytes { map (λ p. p.bytes) result ≡ all_parts text.now pat.now }
     ensures len { length result ≤ length (plain text.now) + 2 }
     ensures fits { length result < 2 ^ 64 }
-    ensures within { sum_by (λ p. p.share) result ≤ length text.now }
+    ensures within { sum_by (λ p. p.source_len) result ≤ length text.now }
     ensures takes_no_memory { IsFalse (has_escape text.now) → IsTrue (list_all (λ p. p.borrowed) result) }
 {
-    let spans = Spans::new(text, pat);
+    let spans = PartSpans::new(text, pat);
     AnsiSplit { alloc, spans }
 }
 
@@ -112,11 +112,11 @@ pub fn part_in<'t, A: Allocator>(
     ensures none { IfOk result (λ o. IsNone o ↔ IsNone (slice_get (parts (plain text.now) pat.now) index)) }
     ensures bytes { IfOk result (λ o. IfSome o (λ c. part text.now pat.now index ≡ Some (cow_str_bytes c))) }
     ensures borrowed { IfOk result (λ o. IfSome o (λ c. IsBorrowedStr c ↔ (IsFalse (has_escape text.now) ⊎ IsTrue (is_part_borrowed text.now pat.now index)))) }
-    ensures len { IfOk result (λ o. IfSome o (λ c. length (cow_str_bytes c) ≤ share text.now pat.now index + longest_start_and_close)) }
-    ensures within { share text.now pat.now index ≤ length text.now }
+    ensures len { IfOk result (λ o. IfSome o (λ c. length (cow_str_bytes c) ≤ source_len text.now pat.now index + longest_start_and_close)) }
+    ensures within { source_len text.now pat.now index ≤ length text.now }
     ensures takes_no_memory { IsFalse (has_escape text.now) ⊎ IsTrue (is_part_borrowed text.now pat.now index) ⊎ IsNone (slice_get (parts (plain text.now) pat.now) index) → IsOk result }
 {
-    match Spans::new(text, pat).nth(index) {
+    match PartSpans::new(text, pat).nth(index) {
         Some(span) => Ok(Some(span.write(alloc)?)),
         None => Ok(None),
     }

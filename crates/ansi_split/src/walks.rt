@@ -4,7 +4,7 @@ ghost use Rattle.ansi_split.specs.Splits.{split_parts, GivesPart};
 ghost use Rattle.ansi_split.specs.Walks.{parts_of_walk, IsPartWalk};
 
 use crate::split::AnsiSplit;
-use crate::split::spans::Spans;
+use crate::split::spans::PartSpans;
 use ansi_style::numbers::StyleNumbers;
 use std::alloc::{AllocError, Allocator};
 use std::borrow::CowStr;
@@ -18,7 +18,7 @@ pub struct PartWalk<'a> {
     pub(crate) rest: &'a [u8],
     pub(crate) pattern: &'a [u8],
     /// How many bytes at the front of `rest` are known to be plain.
-    pub(crate) run: usize,
+    pub(crate) run_len: usize,
     pub(crate) skip: usize,
     pub(crate) from: usize,
     pub(crate) carried: StyleNumbers,
@@ -30,7 +30,7 @@ pub fn walk_in<'a>(text: &'a str, pat: &'a str) -> PartWalk<'a>
     ensures walk { IsPartWalk result }
     ensures parts { parts_of_walk result ≡ split_parts text.now pat.now }
 {
-    Spans::new(text, pat).walk()
+    PartSpans::new(text, pat).walk()
 }
 
 /// The next part of a walk, as [`split_in`] returns it. (Own.)
@@ -42,7 +42,7 @@ pub fn next_in<'a, A: Allocator + Copy>(
     ensures walk { IsPartWalk walk.new }
     ensures next { GivesPart (parts_of_walk walk.old) result (parts_of_walk walk.new) }
 {
-    let spans = Spans::of(walk);
+    let spans = PartSpans::of(walk);
     let mut parts = AnsiSplit { alloc, spans };
     let part = parts.next();
     *walk = parts.spans.walk();

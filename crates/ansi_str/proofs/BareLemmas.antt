@@ -1,10 +1,10 @@
 -- Of a text without ESC each answer is the slice, as std has it.
-use Rattle.ansi_str.proofs.Common.{◌≡◌, ◌≢◌, ℕ, ◌-◌, min, Bool, true, false, ◌&&◌, List, [], ◌∷◌, ◌++◌, map, take, drop, length, Option, Some, None, option_map, is_some, refl, sym, ◌∙◌, ap, subst, arith, IsTrue, IsFalse, slice_range, slice_get, nat_eq, append-nil, if◌then◌else◌, IfSome, option_and_then, unwrap_or, starts_with, ends_with, encode_utf8, IsUtf8, chars, trim, option_map_or, map-id, take_min, drop_min, and_parts, and_from, eqb-true, plain, has_escape, is_whole, styled, bytes_of, cut, left_side, right_side, kept, without_prefix, without_suffix, trim_interval, trimmed, parts, part_over, part_from, end_before, part, all_parts, Change, interval_of, meaning, text_of, edited_by, edited, gives_borrow, stay_borrowed, slice_range-none, slice_range-past, slice_range-min, bytes_of-styled, slice_range-trim_interval, kept-bare, plain-kept, plain-without_prefix, plain-without_suffix, parts_are_split, slices_over-parts-empty, map-all_parts}
+use Rattle.ansi_str.proofs.Common.{◌≡◌, ◌≢◌, ℕ, ◌-◌, min, Bool, true, false, ◌&&◌, List, [], ◌∷◌, ◌++◌, map, take, drop, length, Option, Some, None, option_map, is_some, refl, sym, ◌∙◌, ap, subst, arith, IsTrue, IsFalse, slice_range, slice_get, nat_eq, append-nil, if◌then◌else◌, IfSome, option_and_then, unwrap_or, starts_with, ends_with, encode_utf8, IsUtf8, chars, trim, option_map_or, map-id, take_min, drop_min, and_parts, and_from, eqb-true, plain, has_escape, is_whole, styled, unstyled, cut, left_side, right_side, kept, without_prefix, without_suffix, trim_interval, trimmed, parts, part_over, part_from, end_before, part, all_parts, Change, interval_of, meaning, changed_text, edited_by, edited, gives_borrow, stay_borrowed, slice_range-none, slice_range-past, slice_range-min, unstyled-styled, slice_range-trim_interval, kept-bare, plain-kept, plain-without_prefix, plain-without_suffix, parts_are_split, slices_over-parts-empty, map-all_parts}
 use Rattle.std.specs.Str.Pattern.{FindsTextPrefix, FindsTextSuffix, StripsPrefix, StripsSuffix}
 use Rattle.ansi_split.specs.StdSplit.{AreSplit, slices_over}
 use Rattle.ansi_items.proofs.PlainLemmas.{plain-bare, has_escape-plain, is_whole-plain}
 use Rattle.ansi_style.proofs.MarkLemmas.{marks-bare}
-use Rattle.ansi_slice.proofs.ShowLemmas.{show-bare}
+use Rattle.ansi_slice.proofs.InterleavedLemmas.{interleaved-bare}
 use Rattle.ansi_slice.proofs.CutLemmas.{cut_up_to-bare}
 use Rattle.ansi_slice.proofs.SideLemmas.{left_side-bare, right_side-bare}
 use Rattle.ansi_split.proofs.SplitLemmas.{style_at-bare, carried-bare}
@@ -68,7 +68,7 @@ without_suffix-bare t p utf8_p none ends =
 
 part_over-bare : (t : List ℕ) (before : Option ℕ) (i : ℕ × ℕ) → IsFalse (has_escape t) → part_over t before i ≡ slice_range t i.0 i.1
 unfolding part_from
-part_over-bare t before i none = grind (arith, and_parts, append-nil, carried-bare, eqb-true, marks-bare, plain-bare, show-bare, slice_range-none, style_at-bare)
+part_over-bare t before i none = grind (arith, and_parts, append-nil, carried-bare, eqb-true, marks-bare, plain-bare, interleaved-bare, slice_range-none, style_at-bare)
 
 pub part-bare : (t p : List ℕ) (k : ℕ) → IsFalse (has_escape t) → part t p k ≡ option_map (λ (i : ℕ × ℕ). slice_range t i.0 i.1) (slice_get (parts t p) k)
 part-bare t p k none = grind (arith, part_over-bare, plain-bare)
@@ -95,7 +95,7 @@ through false t u i is = refl
 
 -- the change of t, where x is taken for its plain text
 abbrev edited_on : Change → List ℕ → List ℕ → Option (List ℕ)
-edited_on e t x = if is_some (interval_of e x) then Some (text_of e t) else None
+edited_on e t x = if is_some (interval_of e x) then Some (changed_text e t) else None
 
 edited_on-bare : (e : Change) (t : List ℕ) → IsFalse (has_escape t) → edited_on e t t ≡ option_map (λ (i : ℕ × ℕ). slice_range t i.0 i.1) (interval_of e t)
 edited_on-bare e t none = grind (arith, cut-bare, edited_by-part, kept-bare, left_side-bare, part-bare, plain-bare, right_side-bare, slice_range-past, through, trimmed-slice)
@@ -118,13 +118,13 @@ edited_has_no_escape (e ∷ es) t none = next (edited_by e t) (edited_by_has_no_
     next (Some u) first others = others u first
 
 -- the bytes of the slice that they name
-pub edited-bare : (es : List Change) (t : List ℕ) → IsFalse (has_escape t) → edited es t ≡ option_map bytes_of (meaning es (styled t))
+pub edited-bare : (es : List Change) (t : List ℕ) → IsFalse (has_escape t) → edited es t ≡ option_map unstyled (meaning es (styled t))
 edited-bare es t none =
-    sym (ap (option_map bytes_of) (edited_is_slice es t (is_whole-bare t none)).slice ∙ over (edited es t) (edited_has_no_escape es t none))
+    sym (ap (option_map unstyled) (edited_is_slice es t (is_whole-bare t none)).slice ∙ over (edited es t) (edited_has_no_escape es t none))
   where
-    over : (o : Option (List ℕ)) → IfSome o (λ u. IsFalse (has_escape u)) → option_map bytes_of (option_map styled o) ≡ o
+    over : (o : Option (List ℕ)) → IfSome o (λ u. IsFalse (has_escape u)) → option_map unstyled (option_map styled o) ≡ o
     over None is = refl
-    over (Some u) is = ap Some (bytes_of-styled u ∙ plain-bare u is)
+    over (Some u) is = ap Some (unstyled-styled u ∙ plain-bare u is)
 
 gives_borrow-bare : (e : Change) (t : List ℕ) → IsFalse (has_escape t) → gives_borrow e t ≡ true
 gives_borrow-bare e t none = grind arith

@@ -1,13 +1,13 @@
 -- What one change makes of a whole text is the slice of its styled bytes that it names, whole, and closed where the change closes.
-use Rattle.ansi_str.proofs.Common.{◌≡◌, ℕ, ◌-◌, Bool, true, false, List, [], length, take, Option, Some, None, option_map, is_some, refl, sym, ◌∙◌, ap, subst, arith, IsTrue, slice_range, if◌then◌else◌, nat_eq, IfSome, unwrap_or, starts_with, ends_with, cond-true, length-map, plain, is_whole, plain_style, StyledByte, styled, bytes_of, residue, is_good_position, is_good_range, cut, left_side, right_side, kept, without_prefix, without_suffix, trim_interval, trimmed, parts, end_before, part_over, part, Change, CutRange, LeftOf, RightOf, PartOf, WithoutPrefix, WithoutSuffix, Trimmed, interval_of, slice_of, text_of, edited_by, closes, slice_range-past, slice_range-map, bytes_of-styled, styled-cut, is_whole-cut, residue-cut, left_side_is, right_side_is, styled-kept, is_whole-kept, residue-kept}
+use Rattle.ansi_str.proofs.Common.{◌≡◌, ℕ, ◌-◌, Bool, true, false, List, [], length, take, Option, Some, None, option_map, is_some, refl, sym, ◌∙◌, ap, subst, arith, IsTrue, slice_range, if◌then◌else◌, nat_eq, IfSome, unwrap_or, starts_with, ends_with, cond-true, length-map, plain, is_whole, plain_style, StyledByte, styled, unstyled, residue, is_good_position, is_good_range, cut, left_side, right_side, kept, without_prefix, without_suffix, trim_interval, trimmed, parts, end_before, part_over, part, Change, CutRange, LeftOf, RightOf, PartOf, WithoutPrefix, WithoutSuffix, Trimmed, interval_of, slice_of, changed_text, edited_by, closes, slice_range-past, slice_range-map, unstyled-styled, styled-cut, is_whole-cut, residue-cut, left_side_is, right_side_is, styled-kept, is_whole-kept, residue-kept}
 use Rattle.std.proofs.lemmas.Option.{cond_some}
 use Rattle.ansi_style.proofs.DressedLemmas.{IsClosed}
 use Rattle.ansi_split.proofs.IntervalLemmas.{parts_come_after}
 use Rattle.ansi_split.proofs.PartSliceLemmas.{part_over_is}
 
 -- the part of an index, as the text that its change makes
-pub text_of-part_is : (t p : List ℕ) (k : ℕ) (i : ℕ × ℕ) → IsTrue (is_whole t) → interval_of (PartOf p k) (plain t) ≡ Some i → IsClosed (slice_range (styled t) i.0 i.1) (text_of (PartOf p k) t)
-text_of-part_is t p k i whole found =
+pub changed_text-part_is : (t p : List ℕ) (k : ℕ) (i : ℕ × ℕ) → IsTrue (is_whole t) → interval_of (PartOf p k) (plain t) ≡ Some i → IsClosed (slice_range (styled t) i.0 i.1) (changed_text (PartOf p k) t)
+changed_text-part_is t p k i whole found =
     let before = end_before (parts (plain t) p) k in
     subst (IsClosed (slice_range (styled t) i.0 i.1)) (sym (ap (λ o. unwrap_or (option_map (part_over t before) o) []) found))
     (part_over_is t before i whole (parts_come_after (plain t) p k i found))
@@ -21,16 +21,16 @@ record IsSlice (closing : Bool) (t : List ℕ) (i : ℕ × ℕ) (u : List ℕ) :
 kept_is : (t : List ℕ) (a b : ℕ) → IsTrue (is_whole t) → IsSlice false t (a, b) (kept t a b)
 kept_is t a b whole = record { styled_bytes = styled-kept t a b whole; whole = is_whole-kept t a b whole; left_open = residue-kept t a b whole }
 
-left_is : (t : List ℕ) (mid : ℕ) → IsTrue (is_whole t) → IsSlice true t (0, mid) (text_of (LeftOf mid) t)
+left_is : (t : List ℕ) (mid : ℕ) → IsTrue (is_whole t) → IsSlice true t (0, mid) (changed_text (LeftOf mid) t)
 left_is t mid whole =
     let side = left_side_is t mid whole in
     let all : mid ≡ mid - 0 = omega arith in
     record { styled_bytes = side.styled_bytes ∙ ap (λ n. take n (styled t)) all; whole = side.whole; left_open = side.closed }
 
-right_is : (t : List ℕ) (mid : ℕ) → IsTrue (is_whole t) → IsSlice true t (mid, length (plain t)) (text_of (RightOf mid) t)
+right_is : (t : List ℕ) (mid : ℕ) → IsTrue (is_whole t) → IsSlice true t (mid, length (plain t)) (changed_text (RightOf mid) t)
 right_is t mid whole =
     let side = right_side_is t mid whole in
-    let size : length (styled t) ≡ length (plain t) = sym (length-map (styled t) _) ∙ ap length (bytes_of-styled t) in
+    let size : length (styled t) ≡ length (plain t) = sym (length-map (styled t) _) ∙ ap length (unstyled-styled t) in
     record { styled_bytes = side.styled_bytes ∙ sym (slice_range-past (styled t) mid (length (plain t)) (omega (arith, size))); whole = side.whole; left_open = side.closed }
 
 -- A change that isn't refused.
@@ -39,22 +39,22 @@ right_is t mid whole =
 through : (closing test : Bool) (t u : List ℕ) (i j : ℕ × ℕ) → (if test then Some j else None) ≡ Some i → IsSlice closing t j u → IsSlice closing t i u
 through closing test t u i j found is = subst (λ k. IsSlice closing t k u) (cond_some test j i found).1 is
 
-text_of_is : (e : Change) (t : List ℕ) (i : ℕ × ℕ) → IsTrue (is_whole t) → interval_of e (plain t) ≡ Some i → IsSlice (closes e) t i (text_of e t)
-text_of_is (CutRange s e) t i whole found = grind (arith, is_whole-cut, residue-cut, styled-cut, through)
-text_of_is (LeftOf mid) t i whole found = through true (is_good_position (plain t) mid) t (text_of (LeftOf mid) t) i (0, mid) found (left_is t mid whole)
-text_of_is (RightOf mid) t i whole found = through true (is_good_position (plain t) mid) t (text_of (RightOf mid) t) i (mid, length (plain t)) found (right_is t mid whole)
-text_of_is (PartOf p k) t i whole found =
-    let is = text_of-part_is t p k i whole found in
+changed_text_is : (e : Change) (t : List ℕ) (i : ℕ × ℕ) → IsTrue (is_whole t) → interval_of e (plain t) ≡ Some i → IsSlice (closes e) t i (changed_text e t)
+changed_text_is (CutRange s e) t i whole found = grind (arith, is_whole-cut, residue-cut, styled-cut, through)
+changed_text_is (LeftOf mid) t i whole found = through true (is_good_position (plain t) mid) t (changed_text (LeftOf mid) t) i (0, mid) found (left_is t mid whole)
+changed_text_is (RightOf mid) t i whole found = through true (is_good_position (plain t) mid) t (changed_text (RightOf mid) t) i (mid, length (plain t)) found (right_is t mid whole)
+changed_text_is (PartOf p k) t i whole found =
+    let is = changed_text-part_is t p k i whole found in
     record { styled_bytes = is.styled_bytes; whole = is.whole; left_open = is.closed }
-text_of_is (WithoutPrefix p) t i whole found =
+changed_text_is (WithoutPrefix p) t i whole found =
     let end = length (plain t) in
-    through false (starts_with nat_eq (plain t) p) t (text_of (WithoutPrefix p) t) i (length p, end) found (kept_is t (length p) end whole)
-text_of_is (WithoutSuffix p) t i whole found =
+    through false (starts_with nat_eq (plain t) p) t (changed_text (WithoutPrefix p) t) i (length p, end) found (kept_is t (length p) end whole)
+changed_text_is (WithoutSuffix p) t i whole found =
     let end = length (plain t) - length p in
-    through false (ends_with nat_eq (plain t) p) t (text_of (WithoutSuffix p) t) i (0, end) found (kept_is t 0 end whole)
-text_of_is Trimmed t i whole found =
+    through false (ends_with nat_eq (plain t) p) t (changed_text (WithoutSuffix p) t) i (0, end) found (kept_is t 0 end whole)
+changed_text_is Trimmed t i whole found =
     let j = trim_interval (plain t) in
-    through false true t (text_of Trimmed t) i j found (kept_is t j.0 j.1 whole)
+    through false true t (changed_text Trimmed t) i j found (kept_is t j.0 j.1 whole)
 
 -- The answer to a change, or to changes in turn, of which one closes or none.
 
@@ -64,11 +64,11 @@ IsAnswer closing t slice answer = (slice ≡ option_map styled answer)
 
 pub edited_by_answers : (e : Change) (t : List ℕ) → IsTrue (is_whole t) → IsAnswer (closes e) t (slice_of e (styled t)) (edited_by e t)
 edited_by_answers e t whole =
-    subst (λ x. IsAnswer (closes e) t (option_map (λ (i : ℕ × ℕ). slice_range (styled t) i.0 i.1) (interval_of e x)) (edited_by e t)) (sym (bytes_of-styled t))
-    (by_interval (interval_of e (plain t)) (λ i found. text_of_is e t i whole found))
+    subst (λ x. IsAnswer (closes e) t (option_map (λ (i : ℕ × ℕ). slice_range (styled t) i.0 i.1) (interval_of e x)) (edited_by e t)) (sym (unstyled-styled t))
+    (by_interval (interval_of e (plain t)) (λ i found. changed_text_is e t i whole found))
   where
-    by_interval : (o : Option (ℕ × ℕ)) → ((i : ℕ × ℕ) → o ≡ Some i → IsSlice (closes e) t i (text_of e t))
-        → IsAnswer (closes e) t (option_map (λ (i : ℕ × ℕ). slice_range (styled t) i.0 i.1) o) (if is_some o then Some (text_of e t) else None)
+    by_interval : (o : Option (ℕ × ℕ)) → ((i : ℕ × ℕ) → o ≡ Some i → IsSlice (closes e) t i (changed_text e t))
+        → IsAnswer (closes e) t (option_map (λ (i : ℕ × ℕ). slice_range (styled t) i.0 i.1) o) (if is_some o then Some (changed_text e t) else None)
     by_interval None is = (refl, tt)
     by_interval (Some i) is = (let slice = is i refl in (ap Some (sym slice.styled_bytes), (slice.whole, slice.left_open)))
 
@@ -94,8 +94,8 @@ residue-part t p k u whole found = (closed_part t p k u whole found).1
 
 -- Of each change that isn't refused.
 
-accepted : (e : Change) (t : List ℕ) → IsTrue (is_whole t) → is_some (interval_of e (plain t)) ≡ true → slice_of e (styled t) ≡ Some (styled (text_of e t))
-accepted e t whole keeps = slice_of-styled e t whole ∙ ap (option_map styled) (cond-true (is_some (interval_of e (plain t))) (Some (text_of e t)) None keeps)
+accepted : (e : Change) (t : List ℕ) → IsTrue (is_whole t) → is_some (interval_of e (plain t)) ≡ true → slice_of e (styled t) ≡ Some (styled (changed_text e t))
+accepted e t whole keeps = slice_of-styled e t whole ∙ ap (option_map styled) (cond-true (is_some (interval_of e (plain t))) (Some (changed_text e t)) None keeps)
 
 pub slice_of-cut : (t : List ℕ) (s : ℕ) (e : Option ℕ) → IsTrue (is_whole t) → IsTrue (is_good_range (plain t) s e) → slice_of (CutRange s e) (styled t) ≡ Some (styled (cut t s e))
 slice_of-cut t s e whole good = accepted (CutRange s e) t whole (ap is_some (cond-true (is_good_range (plain t) s e) _ None good))
@@ -123,8 +123,8 @@ option_map-map f g h same (Some x) = ap Some (same x)
 
 pub plain-edited_by : (e : Change) (t : List ℕ) → IsTrue (is_whole t) → option_map plain (edited_by e t) ≡ option_map (λ (i : ℕ × ℕ). slice_range (plain t) i.0 i.1) (interval_of e (plain t))
 plain-edited_by e t whole =
-    let slice : ℕ × ℕ → List ℕ = λ i. slice_range (bytes_of (styled t)) i.0 i.1 in
-    sym (option_map-map bytes_of styled plain bytes_of-styled (edited_by e t))
-    ∙ ap (option_map bytes_of) (sym (slice_of-styled e t whole))
-    ∙ option_map-map bytes_of (λ (i : ℕ × ℕ). slice_range (styled t) i.0 i.1) slice (λ i. sym (slice_range-map (λ (b : StyledByte). b.byte) (styled t) i.0 i.1)) (interval_of e (bytes_of (styled t)))
-    ∙ ap (λ x. option_map (λ (i : ℕ × ℕ). slice_range x i.0 i.1) (interval_of e x)) (bytes_of-styled t)
+    let slice : ℕ × ℕ → List ℕ = λ i. slice_range (unstyled (styled t)) i.0 i.1 in
+    sym (option_map-map unstyled styled plain unstyled-styled (edited_by e t))
+    ∙ ap (option_map unstyled) (sym (slice_of-styled e t whole))
+    ∙ option_map-map unstyled (λ (i : ℕ × ℕ). slice_range (styled t) i.0 i.1) slice (λ i. sym (slice_range-map (λ (b : StyledByte). b.byte) (styled t) i.0 i.1)) (interval_of e (unstyled (styled t)))
+    ∙ ap (λ x. option_map (λ (i : ℕ × ℕ). slice_range x i.0 i.1) (interval_of e x)) (unstyled-styled t)

@@ -15,9 +15,9 @@ pub use Rattle.ansi_items.specs.Pieces.{pieces_of, Sequence, Text, merged, LoneE
 pub use Rattle.ansi_items.specs.Scans.{pieces_left}
 pub use Rattle.ansi_style.specs.declared.state.rendition.Rendition.{Rendition}
 pub use Rattle.ansi_style.specs.Written.{start, close}
-pub use Rattle.ansi_style.specs.Styled.{styled, bytes_of, StyledByte, residue}
+pub use Rattle.ansi_style.specs.Styled.{styled, unstyled, StyledByte, residue}
 pub use Rattle.ansi_style.specs.Rendition.{plain_style}
-pub use Rattle.ansi_style.proofs.StyledLemmas.{bytes_of-styled}
+pub use Rattle.ansi_style.proofs.StyledLemmas.{unstyled-styled}
 pub use Rattle.ansi_search.specs.Positions.{is_good_position, is_good_range}
 unfoldable pub use Rattle.ansi_slice.specs.Cut.{cut}
 unfoldable pub use Rattle.ansi_slice.specs.Sides.{left_side, right_side}
@@ -33,7 +33,7 @@ pub use Rattle.ansi_slice.proofs.KeptAsStdLemmas.{plain-without_prefix, plain-wi
 pub use Rattle.ansi_slice.proofs.CutSliceLemmas.{styled-cut, is_whole-cut, residue-cut}
 pub use Rattle.ansi_slice.proofs.SideSliceLemmas.{left_side_is, right_side_is}
 pub use Rattle.ansi_str.specs.Changes.{Change, CutRange, LeftOf, RightOf, PartOf, WithoutPrefix, WithoutSuffix, Trimmed, interval_of, slice_of}
-pub use Rattle.ansi_str.specs.Edited.{meaning, text_of, edited_by, edited, gives_borrow, stay_borrowed, closes, IsSliceNamed}
+pub use Rattle.ansi_str.specs.Edited.{meaning, changed_text, edited_by, edited, gives_borrow, stay_borrowed, closes, IsSliceNamed}
 pub use Rattle.ansi_str.specs.Edits.{change_of, changes_of}
 pub use Rattle.ansi_split.proofs.StdSplitLemmas.{parts_are_split, split_is_one}
 pub use Rattle.ansi_split.proofs.CharacterLemmas.{slices_over-parts-empty, parts_in_turn}

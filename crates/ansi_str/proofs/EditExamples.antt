@@ -1,8 +1,8 @@
 -- Worked examples of edits in turn, each by computation.
 use Rattle.ansi_str.proofs.Common.{codes, List, [], ◌∷◌, ℕ, true, false, Some, None, refl, encode_utf8, digits, chars, trim_start, trim_end, cut, left_side, right_side, kept, part_from, CutRange, LeftOf, RightOf, PartOf, WithoutPrefix, WithoutSuffix, Trimmed, Change, edited, stay_borrowed}
-use Rattle.ansi_items.proofs.Tables.{Makes, utf8}
+use Rattle.ansi_items.proofs.Tables.{MakesRows, utf8}
 
-edits : Makes (λ (x : List Change × List ℕ). edited x.0 x.1) (
+edits : MakesRows (λ (x : List Change × List ℕ). edited x.0 x.1) (
     -- each edit is of what the one before gave; no edit leaves the text as it is
     (([], codes "\u{1b}[1mx"), Some (codes "\u{1b}[1mx"))
     ∷ ((RightOf 4 ∷ CutRange 0 (Some 2) ∷ [], codes "abc def"), Some (codes "de"))
@@ -24,7 +24,7 @@ unfolding encode_utf8 chars trim_start trim_end digits cut left_side right_side 
 edits = refl
 
 -- nothing taken off, and a part that stands in the text as it is, stay borrows of a text with an ESC
-borrows : Makes (λ (x : List Change × List ℕ). stay_borrowed x.0 x.1) (
+borrows : MakesRows (λ (x : List Change × List ℕ). stay_borrowed x.0 x.1) (
     (([], codes "\u{1b}[1mx"), true)
     ∷ ((WithoutSuffix [] ∷ PartOf (codes ",") 0 ∷ [], codes "a,\u{1b}[1mb"), true)
     ∷ ((LeftOf 1 ∷ WithoutSuffix (codes "a") ∷ [], codes "a\u{1b}]0;t\u{7}b"), false)

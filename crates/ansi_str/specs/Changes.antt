@@ -1,7 +1,7 @@
 -- What an edit keeps of a plain text, and of styled bytes.
 use Rattle.std.specs.Prelude.{ℕ, ◌-◌, List, length, nat_eq, Option, Some, None, option_map, unwrap_or, slice_get, slice_range, if◌then◌else◌}
 use Rattle.std.specs.List.{starts_with, ends_with}
-use Rattle.ansi_style.specs.Styled.{StyledByte, bytes_of}
+use Rattle.ansi_style.specs.Styled.{StyledByte, unstyled}
 use Rattle.ansi_search.specs.Positions.{is_good_position, is_good_range}
 use Rattle.ansi_slice.specs.Kept.{trim_interval}
 use Rattle.ansi_split.specs.Parts.{parts}
@@ -28,4 +28,4 @@ interval_of Trimmed x = Some (trim_interval x)
 
 -- the meaning of a change is a slice of styled bytes, by the interval that it keeps, or None if it is refused (own)
 abbrev pub slice_of : Change → List StyledByte → Option (List StyledByte)
-slice_of e bs = option_map (λ (i : ℕ × ℕ). slice_range bs i.0 i.1) (interval_of e (bytes_of bs))
+slice_of e bs = option_map (λ (i : ℕ × ℕ). slice_range bs i.0 i.1) (interval_of e (unstyled bs))

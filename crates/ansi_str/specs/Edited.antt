@@ -17,18 +17,18 @@ meaning [] bs = Some bs
 meaning (e ∷ es) bs = option_and_then (meaning es) (slice_of e bs)
 
 -- the text that a change makes of t, if it isn't refused
-abbrev pub text_of : Change → List ℕ → List ℕ
-text_of (CutRange s e) t = cut t s e
-text_of (LeftOf mid) t = left_side t mid
-text_of (RightOf mid) t = right_side t mid
-text_of (PartOf p k) t = unwrap_or (part t p k) []
-text_of (WithoutPrefix p) t = without_prefix t p
-text_of (WithoutSuffix p) t = without_suffix t p
-text_of Trimmed t = trimmed t
+abbrev pub changed_text : Change → List ℕ → List ℕ
+changed_text (CutRange s e) t = cut t s e
+changed_text (LeftOf mid) t = left_side t mid
+changed_text (RightOf mid) t = right_side t mid
+changed_text (PartOf p k) t = unwrap_or (part t p k) []
+changed_text (WithoutPrefix p) t = without_prefix t p
+changed_text (WithoutSuffix p) t = without_suffix t p
+changed_text Trimmed t = trimmed t
 
 -- a change of t is refused if it keeps no interval of the plain text
 abbrev pub edited_by : Change → List ℕ → Option (List ℕ)
-edited_by e t = if is_some (interval_of e (plain t)) then Some (text_of e t) else None
+edited_by e t = if is_some (interval_of e (plain t)) then Some (changed_text e t) else None
 
 -- the text that changes in turn make, each of the result of the one before, or None if one is refused (own)
 abbrev pub edited : List Change → List ℕ → Option (List ℕ)

@@ -9,21 +9,21 @@ ghost use Rattle.std.specs.Char.{encode_utf8};
 ghost use Rattle.std.specs.Str.Pattern.{FindsTextPrefix, FindsTextSuffix, StripsPrefix, StripsSuffix};
 ghost use Rattle.ansi_items.specs.Sequences.{IsSequence};
 ghost use Rattle.ansi_items.specs.Pieces.{Piece, ArePieces, pieces_of, merged};
-ghost use Rattle.ansi_items.specs.Plain.{plain, marks, up_to, joined, is_text, is_whole, other_sequences, has_escape};
+ghost use Rattle.ansi_items.specs.Plain.{plain, marks, marks_up_to, joined, is_text, is_whole, other_sequences, has_escape};
 ghost use Rattle.ansi_style.specs.declared.state.rendition.Rendition.{Rendition};
 ghost use Rattle.ansi_style.specs.Rendition.{IsStyle, plain_style, known, has_any};
 ghost use Rattle.ansi_style.specs.Sgr.{apply};
-ghost use Rattle.ansi_style.specs.Styled.{style_at, style_after, styled, bytes_of, residue};
+ghost use Rattle.ansi_style.specs.Styled.{style_at, style_after, styled, unstyled, residue};
 ghost use Rattle.ansi_style.specs.Reading.{style_after_from, styled_from};
 ghost use Rattle.ansi_style.specs.Written.{start, close, close_if_any, longest_start, longest_close, longest_start_and_close};
 ghost use Rattle.ansi_search.specs.Positions.{is_good_position, is_char_boundary, is_good_range, is_position_in, is_range_in};
 ghost use Rattle.ansi_slice.specs.Cut.{cut};
 ghost use Rattle.ansi_slice.specs.Sides.{left_side, right_side};
 ghost use Rattle.ansi_slice.specs.Kept.{kept, IsKept, without_prefix, without_suffix, trim_interval, trimmed};
-ghost use Rattle.ansi_split.specs.Parts.{parts, part, past, part_over, all_parts};
+ghost use Rattle.ansi_split.specs.Parts.{parts, part, marks_past, part_over, all_parts};
 ghost use Rattle.ansi_str.specs.Changes.{Change, CutRange, LeftOf, RightOf, PartOf, WithoutPrefix, WithoutSuffix, Trimmed, interval_of, slice_of};
 ghost use Rattle.ansi_str.specs.Edited.{meaning, edited_by, edited, closes, stay_borrowed, IsSliceNamed};
-ghost use Rattle.ansi_blocks.specs.Blocks.{waiting, runs, without_sgrs, blocks};
+ghost use Rattle.ansi_blocks.specs.Blocks.{sequences_before, runs, without_sgrs, blocks};
 ghost use Rattle.ansi_split.specs.StdSplit.{AreSplit, AreBetween, AreInTurn, slices_over};
 
 pub use ansi_style::laws::{orders_go_by_parts, reset_all_clears, styles_are_in_range};
@@ -161,7 +161,7 @@ pub fn trim_is_std()
 /// the text's end, are the text without its SGRs. A block's style is the style at the place of its run.
 pub fn blocks_are_runs()
     ensures runs { (t : List ℕ) → length (blocks t) ≡ length (runs t) }
-    ensures texts { (t : List ℕ) → flat_map (λ b. b.text) (blocks t) ++ waiting t (length (plain t)) ≡ without_sgrs t }
+    ensures texts { (t : List ℕ) → flat_map (λ b. b.text) (blocks t) ++ sequences_before t (length (plain t)) ≡ without_sgrs t }
     ensures styles { (t : List ℕ) → map (λ b. b.style) (blocks t) ≡ map (λ p. style_at t p.place) (runs t) }
 {}
 
@@ -202,7 +202,7 @@ pub fn written_texts_are_short()
     ensures close { (s : Rendition) → length (close s) ≤ longest_close }
     ensures cut { (t : List ℕ) (s : ℕ) (e : Option ℕ) → length (cut t s e) ≤ length t + longest_close }
     ensures kept { (t : List ℕ) (a b : ℕ) → length (kept t a b) ≤ length t }
-    ensures part_over { (t : List ℕ) (before : Option ℕ) (i : ℕ × ℕ) → length (part_over t before i) ≤ length (slice_range (plain t) i.0 i.1) + length (joined (past before (up_to i.1 (marks t)))) + longest_start_and_close }
+    ensures part_over { (t : List ℕ) (before : Option ℕ) (i : ℕ × ℕ) → length (part_over t before i) ≤ length (slice_range (plain t) i.0 i.1) + length (joined (marks_past before (marks_up_to i.1 (marks t)))) + longest_start_and_close }
     ensures part { (t p : List ℕ) (k : ℕ) (u : List ℕ) → part t p k ≡ Some u → length u ≤ length t + longest_start_and_close }
     ensures sides { (t : List ℕ) (mid : ℕ) → length (left_side t mid) + length (right_side t mid) ≤ length t + longest_start_and_close * (length (filter is_text (pieces_of t)) + 1) }
 {}
@@ -235,6 +235,6 @@ pub fn bare_texts_are_std()
     ensures suffix { (t p : List ℕ) → IsUtf8 p → IsFalse (has_escape t) → IsTrue (ends_with nat_eq t p) → StripsSuffix (FindsTextSuffix p) t (without_suffix t p) }
     ensures trim { (t : List ℕ) → IsUtf8 t → IsFalse (has_escape t) → trimmed t ≡ trim t }
     ensures change { (e : Change) (t : List ℕ) → IsFalse (has_escape t) → edited_by e t ≡ option_map (λ (i : ℕ × ℕ). slice_range t i.0 i.1) (interval_of e t) }
-    ensures in_turn { (es : List Change) (t : List ℕ) → IsFalse (has_escape t) → edited es t ≡ option_map bytes_of (meaning es (styled t)) }
+    ensures in_turn { (es : List Change) (t : List ℕ) → IsFalse (has_escape t) → edited es t ≡ option_map unstyled (meaning es (styled t)) }
     ensures borrowed { (es : List Change) (t : List ℕ) → IsFalse (has_escape t) → IsTrue (stay_borrowed es t) }
 {}

@@ -255,8 +255,8 @@ pub trait AnsiStr {
     /// run out, the iterator returns an `Err` in its place, and then `None` for good. (std; the Rust crate
     /// splits the text with its sequences; where a sequence goes, own.)
     ///
-    /// A part's share is the number of bytes that it has of the text: its plain bytes and its sequences. A part is at
-    /// most a start and a close longer than its share, `longest_start_and_close`, 251 bytes. All shares together are
+    /// A part's source length is the number of bytes that it has of the text: its plain bytes and its sequences. A part is at
+    /// most a start and a close longer than its source length, `longest_start_and_close`, 251 bytes. All shares together are
     /// no longer than the text.
     ///
     /// ```
@@ -272,7 +272,7 @@ pub trait AnsiStr {
         ensures bytes { map (λ p. p.bytes) result ≡ all_parts (text self.now) pat.now }
         ensures len { length result ≤ length (plain (text self.now)) + 2 }
         ensures fits { length result < 2 ^ 64 }
-        ensures within { sum_by (λ p. p.share) result ≤ length (text self.now) }
+        ensures within { sum_by (λ p. p.source_len) result ≤ length (text self.now) }
         ensures takes_no_memory { IsFalse (has_escape (text self.now)) → IsTrue (list_all (λ p. p.borrowed) result) }
     {
         split_in(alloc, self.as_text(), pat)

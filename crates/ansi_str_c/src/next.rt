@@ -8,7 +8,7 @@ ghost use Rattle.ansi_answers.specs.Walks.{IsOver, GivesNext};
 use ansi_answers::answers::{Answer, NO, NOT_UTF8, OK, write_made};
 use ansi_answers::styles::StyleData;
 use ansi_answers::walks::{BlockWalk, NextBlock, walk_over, write_waiting};
-use ansi_blocks::runs::first_run;
+use ansi_blocks::runs::first_styled_run;
 use ansi_style::numbers::StyleNumbers;
 use simdutf8::basic::from_utf8;
 use std::alloc::Global;
@@ -52,7 +52,7 @@ pub extern "C" fn ansi_str_raw_blocks_next<'a>(
 {
     let text = unsafe { from_utf8_unchecked(walk.rest) };
     let mut style = walk.style.style();
-    let Some(run) = first_run(text, &mut style) else {
+    let Some(run) = first_styled_run(text, &mut style) else {
         return Answer::failed(NO);
     };
     let answer = write_waiting(alloc, text, &run, buffer);

@@ -1,5 +1,5 @@
 -- The close of a style resets it: read in a style that is known alike, it leaves nothing known.
-use Rattle.ansi_style.proofs.Common.{◌≡◌, ℕ, inl, inr, Bool, true, false, ◌&&◌, ◌||◌, List, ◌++◌, map, is_some, refl, ◌∙◌, ap, arith, append_assoc, codes, cases_Bool, Rendition, plain_style, has_ideogram_attribute, known, apply, written, when, close_codes, close, style_after_from}
+use Rattle.ansi_style.proofs.Common.{◌≡◌, ℕ, inl, inr, Bool, true, false, ◌&&◌, ◌||◌, List, ◌++◌, map, is_some, refl, ◌∙◌, ap, arith, append_assoc, codes, cases_Bool, Rendition, plain_style, has_ideogram_attribute, known, apply, written, code_if, close_codes, close, style_after_from}
 use Rattle.ansi_style.proofs.SgrLemmas.{apply_all-alike}
 use Rattle.ansi_style.proofs.ReadBackLemmas.{◌next◌, LeadFrom, lead_when, apply_codes, followed, style_after_from-codes, close_codes_are}
 
@@ -8,33 +8,33 @@ use Rattle.ansi_style.proofs.ReadBackLemmas.{◌next◌, LeadFrom, lead_when, ap
 abbrev reset_style : Rendition
 reset_style = record plain_style { reset = true }
 
-resets : (s : Rendition) (xs : List (List ℕ)) → (s.unknown && s.reset) ≡ true → apply_codes s (when (s.unknown && s.reset) (codes "0") ++ xs) ≡ apply_codes reset_style xs
-resets s xs both = ap (λ b. apply_codes s (when b (codes "0") ++ xs)) both
+resets : (s : Rendition) (xs : List (List ℕ)) → (s.unknown && s.reset) ≡ true → apply_codes s (code_if (s.unknown && s.reset) (codes "0") ++ xs) ≡ apply_codes reset_style xs
+resets s xs both = ap (λ b. apply_codes s (code_if b (codes "0") ++ xs)) both
 
-keeps-when : (p : Rendition) (b : Bool) (code : List ℕ) (xs : List (List ℕ)) → apply p (written code) ≡ p → apply_codes p (when b code ++ xs) ≡ apply_codes p xs
-keeps-when p true code xs kept = ap (λ s. apply_codes s xs) kept
-keeps-when p false code xs kept = refl
+keeps-code_if : (p : Rendition) (b : Bool) (code : List ℕ) (xs : List (List ℕ)) → apply p (written code) ≡ p → apply_codes p (code_if b code ++ xs) ≡ apply_codes p xs
+keeps-code_if p true code xs kept = ap (λ s. apply_codes s xs) kept
+keeps-code_if p false code xs kept = refl
 
-keeps-last : (p : Rendition) (b : Bool) (code : List ℕ) → apply p (written code) ≡ p → apply_codes p (when b code) ≡ p
+keeps-last : (p : Rendition) (b : Bool) (code : List ℕ) → apply p (written code) ≡ p → apply_codes p (code_if b code) ≡ p
 keeps-last p true code kept = kept
 keeps-last p false code kept = refl
 
 close_resets : (s : Rendition) → (s.unknown && s.reset) ≡ true → apply_codes s (close_codes s) ≡ reset_style
-close_resets s both = simp append_assoc (simp (resets, keeps-when, keeps-last))
+close_resets s both = simp append_assoc (simp (resets, keeps-code_if, keeps-last))
 
 -- Otherwise each code resets its own part.
 
-ends : {s : Rendition} {xs : List (List ℕ)} {p : Rendition} (b : Bool) (code : List ℕ) → (b ≡ false → p ≡ apply p (written code)) → LeadFrom s xs p → LeadFrom s (xs ++ when b code) (apply p (written code))
+ends : {s : Rendition} {xs : List (List ℕ)} {p : Rendition} (b : Bool) (code : List ℕ) → (b ≡ false → p ≡ apply p (written code)) → LeadFrom s xs p → LeadFrom s (xs ++ code_if b code) (apply p (written code))
 ends {p = p} b code unset so_far = lead_when b code (apply p (written code)) (λ yes. refl) unset so_far
 
 -- everything but `reset` and `unknown` is reset
 abbrev ended : Rendition → Rendition
 ended s = record plain_style { reset = s.reset; unknown = s.unknown }
 
-close_ends : (s : Rendition) → (s.unknown && s.reset) ≡ false → apply_codes s (close_codes s) ≡ apply_codes (ended s) (when s.unknown (codes "0"))
+close_ends : (s : Rendition) → (s.unknown && s.reset) ≡ false → apply_codes s (close_codes s) ≡ apply_codes (ended s) (code_if s.unknown (codes "0"))
 close_ends s other =
-    let begun : LeadFrom s (when (s.unknown && s.reset) (codes "0")) s = record { reached = ap (λ b. apply_codes s (when b (codes "0"))) other } in
-    followed (when s.unknown (codes "0"))
+    let begun : LeadFrom s (code_if (s.unknown && s.reset) (codes "0")) s = record { reached = ap (λ b. apply_codes s (code_if b (codes "0"))) other } in
+    followed (code_if s.unknown (codes "0"))
     (begun
     next ends (is_some s.font) (codes "10") (λ no. grind arith)
     next ends (s.bold || s.faint) (codes "22") (λ no. grind arith)
@@ -53,7 +53,7 @@ close_ends s other =
     next ends (is_some s.underline_color) (codes "59") (λ no. grind arith)
     next ends (s.superscript || s.subscript) (codes "75") (λ no. grind arith))
 
-known-ended : (s : Rendition) (b : Bool) → known (apply_codes (ended s) (when b (codes "0"))) ≡ plain_style
+known-ended : (s : Rendition) (b : Bool) → known (apply_codes (ended s) (code_if b (codes "0"))) ≡ plain_style
 known-ended s true = refl
 known-ended s false = refl
 

@@ -26,14 +26,14 @@ pub use Rattle.std.specs.Ordering.{bool_cmp, nat_cmp}
 pub use Rattle.std.specs.Prelude.{find}
 pub use Rattle.std.specs.Str.{all_ascii_digits, byte}
 pub use Rattle.std.specs.Str.Parse.{digits_value_after}
-pub use Rattle.ansi_items.proofs.AnsiColorLemmas.{alone, same_ansi_color}
+pub use Rattle.ansi_items.proofs.AnsiColorLemmas.{ordering_then-equal, same_ansi_color}
 pub use Rattle.ansi_items.proofs.JoinLemmas.{AllStandAnywhere, is_whole-spelled, pieces_of-append, pieces_of-spelled, spelled, stand-append}
 pub use Rattle.ansi_items.proofs.PlainLemmas.{one_text, pieces_of-bare}
 pub use Rattle.ansi_items.proofs.StepLemmas.{is_mark}
 pub use Rattle.ansi_items.specs.AnsiColors.{compared}
 pub use Rattle.ansi_items.specs.Bytes.{escape, is_parameter_byte}
 pub use Rattle.ansi_items.specs.Pieces.{LoneEscape, Piece, Sequence, Text, after_text, merged, pieces_of, spelling}
-pub use Rattle.ansi_items.specs.Plain.{Mark, Placed, has_escape, is_whole, joined, mark_of, marks, marks_of, moved, places, plain, plain_of, up_to}
+pub use Rattle.ansi_items.specs.Plain.{Mark, Placed, has_escape, is_whole, joined, mark_of, marks, marks_of, placed_further_on, places, plain, plain_of, marks_up_to}
 pub use Rattle.ansi_items.specs.Sequences.{IsSequence, are_private, is_sgr, sgr_parameters}
 pub use Rattle.ansi_items.specs.contracts.ansitok.AnsiColorOrd.TheImpl.{ghosts}
 pub use Rattle.ansi_items.specs.declared.ansitok.AnsiColor.{AnsiColor}
@@ -46,8 +46,8 @@ pub use Rattle.ansi_style.specs.Rendition.{IsStyle, Rendition, has_any, has_ideo
 pub use Rattle.ansi_style.specs.Sgr.{Changes, Effect, ReadsColor, Rows, apply, apply_all, apply_parameters, code_of, color_by_number, color_by_parts, color_number, effect_of, effect_of_code, fields_of, is_code, perform, read_color, rows, step, steps, table, unknown_code}
 pub use Rattle.ansi_style.specs.States.{has, has_one, with_attributes}
 unfoldable pub use Rattle.ansi_style.specs.States.{rendition_of}
-pub use Rattle.ansi_style.specs.Styled.{StyledByte, bytes_of, residue, style_after, style_at, styled}
-pub use Rattle.ansi_style.specs.Written.{close, close_codes, close_if_any, color_code, color_codes, font_codes, longest_close, longest_start, longest_start_and_close, start, start_codes, when, written, written_all}
+pub use Rattle.ansi_style.specs.Styled.{StyledByte, unstyled, residue, style_after, style_at, styled}
+pub use Rattle.ansi_style.specs.Written.{close, close_codes, close_if_any, color_code, color_codes, font_codes, longest_close, longest_start, longest_start_and_close, start, start_codes, code_if, written, written_all}
 pub use Rattle.ansi_style.specs.declared.state.Style.{Style}
 pub use Rattle.ansi_style.specs.declared.state.attributes.Attributes.{Attributes}
 pub use Rattle.ansi_style.specs.declared.state.attributes.TheConstants.Attributes.{ENDS, FRAMES, IDEOGRAM, INTENSITY, LETTERS, SHAPES}

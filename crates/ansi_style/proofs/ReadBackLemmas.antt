@@ -1,5 +1,5 @@
 -- What is written for codes: how long it is, its pieces, and what it does to a style.
-use Rattle.ansi_style.proofs.Common.{◌≡◌, ℕ, ◌+◌, ◌<◌, ◌≤◌, inl, Bool, true, false, not, ◌||◌, List, [], ◌∷◌, ◌++◌, length, map, fold, Option, Some, None, refl, sym, ◌∙◌, ap, arith, codes, decimal, IsTrue, IfSome, length-append, append-nil, and-true, or-true, and_from, and_parts, length-decimal-le, flat_map-append, map-append, list_all-append, fold-append, IfSome_then, is_in_range, list_all, byte, AnsiColor, escape, IsSequence, Piece, Sequence, Rendition, IsStyle, apply_all, apply, written, written_all, when, color_code, color_codes, font_codes, start_codes, close_codes, longest_start, longest_close, style_after_from, spelled, AllStandAnywhere}
+use Rattle.ansi_style.proofs.Common.{◌≡◌, ℕ, ◌+◌, ◌<◌, ◌≤◌, inl, Bool, true, false, not, ◌||◌, List, [], ◌∷◌, ◌++◌, length, map, fold, Option, Some, None, refl, sym, ◌∙◌, ap, arith, codes, decimal, IsTrue, IfSome, length-append, append-nil, and-true, or-true, and_from, and_parts, length-decimal-le, flat_map-append, map-append, list_all-append, fold-append, IfSome_then, is_in_range, list_all, byte, AnsiColor, escape, IsSequence, Piece, Sequence, Rendition, IsStyle, apply_all, apply, written, written_all, code_if, color_code, color_codes, font_codes, start_codes, close_codes, longest_start, longest_close, style_after_from, spelled, AllStandAnywhere}
 use Rattle.ansi_style.proofs.StyledLemmas.{style_through, styled_through}
 use Rattle.ansi_style.proofs.SpelledLemmas.{style_after_from-spelled}
 use Rattle.ansi_style.proofs.CodeLemmas.{in_range}
@@ -29,13 +29,13 @@ one_code code n all short = record { each = and_from _ _ all refl; short = omega
 no_code : (n : ℕ) → AreCodes [] n
 no_code n = record { each = refl; short = omega arith }
 
-each-when : (b : Bool) (code : List ℕ) → list_all (list_all is_code_byte) (when b code) ≡ (not b || list_all is_code_byte code)
-each-when true code = and-true (list_all is_code_byte code)
-each-when false code = refl
+each-code_if : (b : Bool) (code : List ℕ) → list_all (list_all is_code_byte) (code_if b code) ≡ (not b || list_all is_code_byte code)
+each-code_if true code = and-true (list_all is_code_byte code)
+each-code_if false code = refl
 
-length-when : (b : Bool) (code : List ℕ) → length (written_all (when b code)) ≤ length code + 3
-length-when true code = omega (arith, length-written code)
-length-when false code = omega arith
+length-code_if : (b : Bool) (code : List ℕ) → length (written_all (code_if b code)) ≤ length code + 3
+length-code_if true code = omega (arith, length-written code)
+length-code_if false code = omega arith
 
 -- a number of at most 255 has at most three digits
 length-byte : (n : ℕ) → n < 256 → length (decimal n) ≤ 3
@@ -65,15 +65,15 @@ start_codes_are s is =
     let background = color_code_of (codes "48") s.background refl refl (IfSome_then s.background is.background IsByteColor-background) in
     let underline_color = color_code_of (codes "58") s.underline_color refl refl (IfSome_then s.underline_color is.underline_color IsByteColor-extended) in
     record {
-      each = simp (list_all-append, each-when, or-true, font.each, foreground.each, background.each, underline_color.each);
-      short = simp (flat_map-append, length-append) (omega (arith, length-when, font.short, foreground.short, background.short, underline_color.short));
+      each = simp (list_all-append, each-code_if, or-true, font.each, foreground.each, background.each, underline_color.each);
+      short = simp (flat_map-append, length-append) (omega (arith, length-code_if, font.short, foreground.short, background.short, underline_color.short));
     }
 
 -- 2 codes of one digit and 16 of two: 2 · 4 + 16 · 5
 pub close_codes_are : (s : Rendition) → AreCodes (close_codes s) longest_close
 close_codes_are s = record {
-  each = simp (list_all-append, each-when, or-true);
-  short = simp (flat_map-append, length-append) (omega (arith, length-when));
+  each = simp (list_all-append, each-code_if, or-true);
+  short = simp (flat_map-append, length-append) (omega (arith, length-code_if));
 }
 
 -- The pieces of what is written are the sequences of the codes.
@@ -137,9 +137,9 @@ x next f = f x
 infixl 30 ◌next◌
 -- one more code, if the condition holds
 pub lead_when : {q : Rendition} {xs : List (List ℕ)} {p : Rendition} (b : Bool) (code : List ℕ) (r : Rendition)
-    → (b ≡ true → apply p (written code) ≡ r) → (b ≡ false → p ≡ r) → LeadFrom q xs p → LeadFrom q (xs ++ when b code) r
-lead_when {q} {xs} {p} b code r set unset so_far = lead_on (when b code) r (by_test b set unset) so_far
+    → (b ≡ true → apply p (written code) ≡ r) → (b ≡ false → p ≡ r) → LeadFrom q xs p → LeadFrom q (xs ++ code_if b code) r
+lead_when {q} {xs} {p} b code r set unset so_far = lead_on (code_if b code) r (by_test b set unset) so_far
   where
-    by_test : (b : Bool) → (b ≡ true → apply p (written code) ≡ r) → (b ≡ false → p ≡ r) → apply_codes p (when b code) ≡ r
+    by_test : (b : Bool) → (b ≡ true → apply p (written code) ≡ r) → (b ≡ false → p ≡ r) → apply_codes p (code_if b code) ≡ r
     by_test true set unset = set refl
     by_test false set unset = unset refl

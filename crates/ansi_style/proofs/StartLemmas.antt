@@ -1,5 +1,5 @@
 -- The start of a style sets it: read from the plain style, and from the style itself.
-use Rattle.ansi_style.proofs.Common.{◌≡◌, ℕ, Bool, true, ◌||◌, List, [], ◌++◌, map, Option, Some, None, refl, sym, ◌∙◌, ap, codes, IfSome, IsTrue, is_in_range, or-false, or_self, AnsiColor, Rendition, IsStyle, plain_style, known, is_foreground, is_background, is_extended_color, apply, written, when, start_codes, font_codes, color_codes, start, style_after_from}
+use Rattle.ansi_style.proofs.Common.{◌≡◌, ℕ, Bool, true, ◌||◌, List, [], ◌++◌, map, Option, Some, None, refl, sym, ◌∙◌, ap, codes, IfSome, IsTrue, is_in_range, or-false, or_self, AnsiColor, Rendition, IsStyle, plain_style, known, is_foreground, is_background, is_extended_color, apply, written, code_if, start_codes, font_codes, color_codes, start, style_after_from}
 use Rattle.ansi_style.proofs.SgrLemmas.{apply_all-alike}
 use Rattle.ansi_style.proofs.ColorLemmas.{apply-foreground, apply-background, apply-underline_color, apply-font}
 use Rattle.ansi_style.proofs.ReadBackLemmas.{◌next◌, LeadFrom, lead_when, lead_on, apply_codes, style_after_from-codes, start_codes_are}
@@ -13,7 +13,7 @@ either_of (Some x) old = Some x
 
 -- one more attribute, which `put` gives its value
 more : {q : Rendition} {xs : List (List ℕ)} {p : Rendition} (b old : Bool) (code : List ℕ) (put : Bool → Rendition → Rendition)
-    → put old p ≡ p → apply p (written code) ≡ put true p → LeadFrom q xs p → LeadFrom q (xs ++ when b code) (put (b || old) p)
+    → put old p ≡ p → apply p (written code) ≡ put true p → LeadFrom q xs p → LeadFrom q (xs ++ code_if b code) (put (b || old) p)
 more {p = p} b old code put same set so_far =
     lead_when b code (put (b || old) p) (λ yes. set ∙ ap (λ c. put (c || old) p) (sym yes)) (λ no. sym same ∙ ap (λ c. put (c || old) p) (sym no)) so_far
 

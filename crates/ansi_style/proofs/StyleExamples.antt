@@ -1,6 +1,6 @@
 -- Worked examples of the SGR table, of starts and of closes, each by computation.
 use Rattle.ansi_style.proofs.Common.{◌≡◌, ℕ, [], ◌∷◌, refl, codes, ◌+◌, Bool, filter, ◌++◌, true, false, Some, length, range_with_len, digits, Bit4, Bit8, Bit24, Rendition, plain_style, known, effect_of_code, perform, apply_parameters, apply, start, close, longest_start, longest_close, longest_start_and_close}
-use Rattle.ansi_items.proofs.Tables.{Makes}
+use Rattle.ansi_items.proofs.Tables.{MakesRows}
 
 -- a style in which everything is set
 abbrev full_style : Rendition
@@ -17,7 +17,7 @@ unknown_codes : filter is_unknown (range_with_len 0 300) ≡
     56 ∷ 57 ∷ range_with_len 66 7 ++ range_with_len 76 14 ++ 98 ∷ 99 ∷ range_with_len 108 192
 unknown_codes = refl
 
-colors_read : Makes (apply_parameters plain_style) (
+colors_read : MakesRows (apply_parameters plain_style) (
     (codes "38;7;1", record plain_style { bold = true })  -- no such selector
     ∷ (codes "38", plain_style)
     ∷ (codes "38;5", plain_style)
@@ -29,7 +29,7 @@ colors_read : Makes (apply_parameters plain_style) (
     ∷ [])
 colors_read = refl
 
-empty_fields_and_leading_zeros : Makes (apply_parameters plain_style) (
+empty_fields_and_leading_zeros : MakesRows (apply_parameters plain_style) (
     ([], record plain_style { reset = true })
     ∷ (codes "31;", record plain_style { reset = true })
     ∷ (codes "1;;4", record plain_style { underline = true; reset = true })
@@ -43,21 +43,21 @@ empty_fields_and_leading_zeros : Makes (apply_parameters plain_style) (
     ∷ [])
 empty_fields_and_leading_zeros = refl
 
-fields_that_are_no_codes : Makes (apply_parameters plain_style) (
+fields_that_are_no_codes : MakesRows (apply_parameters plain_style) (
     (codes "38:5:1", record plain_style { unknown = true })
     ∷ (codes "1;?2", record plain_style { bold = true; unknown = true })
     ∷ (codes "257", record plain_style { unknown = true })
     ∷ [])
 fields_that_are_no_codes = refl
 
-resets : Makes (apply_parameters plain_style) (
+resets : MakesRows (apply_parameters plain_style) (
     (codes "1;0", record plain_style { reset = true })
     ∷ (codes "99;0", record plain_style { reset = true })
     ∷ (codes "0;99", record plain_style { reset = true; unknown = true })
     ∷ [])
 resets = refl
 
-sequences : Makes (apply plain_style) (
+sequences : MakesRows (apply plain_style) (
     (codes "\u{1b}[1 m", plain_style)
     ∷ (codes "\u{1b}[>4;2m", plain_style)
     ∷ (codes "\u{1b}[1;31m", record plain_style { bold = true; foreground = Some (Bit4 31) })
@@ -73,7 +73,7 @@ full_start = refl
 full_close : close full_style ≡ codes "\u{1b}[0m\u{1b}[10m\u{1b}[22m\u{1b}[23m\u{1b}[24m\u{1b}[25m\u{1b}[27m\u{1b}[28m\u{1b}[29m\u{1b}[39m\u{1b}[49m\u{1b}[50m\u{1b}[54m\u{1b}[55m\u{1b}[65m\u{1b}[59m\u{1b}[75m\u{1b}[0m"
 full_close = refl
 
-lengths : Makes length ((start full_style, longest_start) ∷ (close full_style, longest_close) ∷ [])
+lengths : MakesRows length ((start full_style, longest_start) ∷ (close full_style, longest_close) ∷ [])
 unfolding digits
 lengths = refl
 

@@ -1,5 +1,5 @@
 -- Sequences make styles of styles: each color and font that they select is in its range.
-use Rattle.ansi_style.proofs.Common.{◌≡◌, ℕ, zero, suc, true, List, [], ◌∷◌, length, Option, Some, None, refl, IsTrue, IfSome, nat_lt, arith, map, rules, and_from, or_left, or_right, option_map_or, ForSome, is_in_range, AnsiColor, Style, rendition_of, sgr_parameters, Mark, marks, up_to, Rendition, is_foreground, is_background, is_extended_color, IsStyle, plain_style, Effect, Changes, ReadsColor, effect_of, color_number, color_by_parts, color_by_number, read_color, perform, steps, step, apply, apply_parameters, fields_of, apply_all, style_at, style_after, style_after_from}
+use Rattle.ansi_style.proofs.Common.{◌≡◌, ℕ, zero, suc, true, List, [], ◌∷◌, length, Option, Some, None, refl, IsTrue, IfSome, nat_lt, arith, map, rules, and_from, or_left, or_right, option_map_or, ForSome, is_in_range, AnsiColor, Style, rendition_of, sgr_parameters, Mark, marks, marks_up_to, Rendition, is_foreground, is_background, is_extended_color, IsStyle, plain_style, Effect, Changes, ReadsColor, effect_of, color_number, color_by_parts, color_by_number, read_color, perform, steps, step, apply, apply_parameters, fields_of, apply_all, style_at, style_after, style_after_from}
 use Rattle.ansi_style.proofs.SgrLemmas.{effect_holds}
 
 -- the ranges, field by field
@@ -82,7 +82,7 @@ pub IsStyle-style_after_from : (s : Rendition) (t : List ℕ) → IsStyle s → 
 IsStyle-style_after_from s t is = IsStyle-apply_all s (map (λ (m : Mark). m.bytes) (marks t)) is
 
 pub IsStyle-style_at : (t : List ℕ) (i : ℕ) → IsStyle (style_at t i)
-IsStyle-style_at t i = IsStyle-apply_all plain_style (map (λ (m : Mark). m.bytes) (up_to i (marks t))) IsStyle-plain_style
+IsStyle-style_at t i = IsStyle-apply_all plain_style (map (λ (m : Mark). m.bytes) (marks_up_to i (marks t))) IsStyle-plain_style
 
 pub IsStyle-style_after : (t : List ℕ) → IsStyle (style_after t)
 IsStyle-style_after t = IsStyle-style_after_from plain_style t IsStyle-plain_style

@@ -1,5 +1,5 @@
 -- The styled bytes of a text, from its pieces in turn.
-use Rattle.ansi_style.proofs.Common.{◌≡◌, ℕ, List, [], ◌∷◌, ◌++◌, map, refl, ◌∙◌, ap, ap₂, Piece, Text, spelling, merged, pieces_of, plain, Rendition, known, plain_style, apply, StyledByte, styled, bytes_of, styled_from, style_after_from}
+use Rattle.ansi_style.proofs.Common.{◌≡◌, ℕ, List, [], ◌∷◌, ◌++◌, map, refl, ◌∙◌, ap, ap₂, Piece, Text, spelling, merged, pieces_of, plain, Rendition, known, plain_style, apply, StyledByte, styled, unstyled, styled_from, style_after_from}
 use Rattle.ansi_style.proofs.SgrLemmas.{apply-alike}
 use Rattle.ansi_style.proofs.ThroughLemmas.{state_through, state_through-append, state_through-merged, state_after-marks_of, seen_through, seen_through-append, seen_through-merged, seen_by-pieces, bytes-seen_through}
 
@@ -55,5 +55,5 @@ style_after_from-pieces s t = state_after-marks_of apply s (pieces_of t)
 
 -- The bytes of the styled bytes are the plain text.
 
-pub bytes_of-styled : (t : List ℕ) → bytes_of (styled t) ≡ plain t
-bytes_of-styled t = ap bytes_of (styled-pieces t) ∙ bytes-seen_through apply styled_byte (λ (s : StyledByte). s.byte) (λ s b. refl) plain_style (pieces_of t)
+pub unstyled-styled : (t : List ℕ) → unstyled (styled t) ≡ plain t
+unstyled-styled t = ap unstyled (styled-pieces t) ∙ bytes-seen_through apply styled_byte (λ (s : StyledByte). s.byte) (λ s b. refl) plain_style (pieces_of t)

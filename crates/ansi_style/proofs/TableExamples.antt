@@ -1,11 +1,11 @@
 -- Worked examples of each row of the three tables, by computation: what a code sets, how a style is written, and what a color is called.
 use Rattle.ansi_style.proofs.Common.{◌≡◌, ℕ, List, [], ◌∷◌, ◌++◌, map, filter, not, refl, codes, true, false, Some, None, range_with_len, digits, Bit4, Bit8, Bit24, Black, BrightBlack, Red, BrightRed, Green, BrightGreen, Yellow, BrightYellow, Blue, BrightBlue, Magenta, BrightMagenta, Cyan, BrightCyan, White, BrightWhite, Fixed, Rgb, Rendition, plain_style, has_any, effect_of_code, perform, apply_parameters, start, close, color_of}
-use Rattle.ansi_items.proofs.Tables.{Makes}
+use Rattle.ansi_items.proofs.Tables.{MakesRows}
 
 -- The SGR table.
 
 -- codes, and the style after them, if s is the style before: each row, and the first and the last code of each range
-codes_read : (s : Rendition) → Makes (apply_parameters s) (
+codes_read : (s : Rendition) → MakesRows (apply_parameters s) (
     (codes "0", record plain_style { reset = true })
     ∷ (codes "1", record s { bold = true })
     ∷ (codes "2", record s { faint = true })
@@ -74,7 +74,7 @@ codes_read : (s : Rendition) → Makes (apply_parameters s) (
 codes_read s = refl
 
 -- each code of a range
-ranges_read : (s : Rendition) → Makes (map (λ code. (perform (effect_of_code code) s []).0)) (
+ranges_read : (s : Rendition) → MakesRows (map (λ code. (perform (effect_of_code code) s []).0)) (
     (range_with_len 11 9, map (λ code. record s { font = Some code }) (range_with_len 11 9))
     ∷ (range_with_len 30 8 ++ range_with_len 90 8, map (λ code. record s { foreground = Some (Bit4 code) }) (range_with_len 30 8 ++ range_with_len 90 8))
     ∷ (range_with_len 40 8 ++ range_with_len 100 8, map (λ code. record s { background = Some (Bit4 code) }) (range_with_len 40 8 ++ range_with_len 100 8))
@@ -140,7 +140,7 @@ nothing_to_end = refl
 
 -- The names of colors.
 
-colors_named : Makes color_of (
+colors_named : MakesRows color_of (
     (Bit4 30, Black) ∷ (Bit4 31, Red) ∷ (Bit4 32, Green) ∷ (Bit4 33, Yellow)
     ∷ (Bit4 34, Blue) ∷ (Bit4 35, Magenta) ∷ (Bit4 36, Cyan) ∷ (Bit4 37, White)
     ∷ (Bit4 40, Black) ∷ (Bit4 41, Red) ∷ (Bit4 42, Green) ∷ (Bit4 43, Yellow)

@@ -1,5 +1,5 @@
 -- What the code writes for a start and a close, row by row, as the definitions have it.
-use Rattle.ansi_style.proofs.Common.{◌≡◌, ℕ, Bool, true, false, List, [], ◌∷◌, ◌++◌, ◌&&◌, ◌||◌, ◌==◌, ◌+◌, ◌^◌, not, is_some, codes, refl, sym, ◌∙◌, ap, ap₂, append_assoc, append-nil, bit_and, nat_lt, if◌then◌else◌, or-false, flat_map-append, and_assoc, flat_map, Style, Attributes, INTENSITY, LETTERS, SHAPES, FRAMES, ENDS, IDEOGRAM, START_INTENSITY, START_LETTERS, START_SHAPES, START_FRAMES, CLOSE_LETTERS, CLOSE_FRAMES, CLOSE_ENDS, has, has_one, rendition_of, written, written_all, when, color_codes, font_codes, start_codes, close_codes, start, close}
+use Rattle.ansi_style.proofs.Common.{◌≡◌, ℕ, Bool, true, false, List, [], ◌∷◌, ◌++◌, ◌&&◌, ◌||◌, ◌==◌, ◌+◌, ◌^◌, not, is_some, codes, refl, sym, ◌∙◌, ap, ap₂, append_assoc, append-nil, bit_and, nat_lt, if◌then◌else◌, or-false, flat_map-append, and_assoc, flat_map, Style, Attributes, INTENSITY, LETTERS, SHAPES, FRAMES, ENDS, IDEOGRAM, START_INTENSITY, START_LETTERS, START_SHAPES, START_FRAMES, CLOSE_LETTERS, CLOSE_FRAMES, CLOSE_ENDS, has, has_one, rendition_of, written, written_all, code_if, color_codes, font_codes, start_codes, close_codes, start, close}
 use Rattle.ansi_style.proofs.BitsLemmas.{has_one-places, has_one_in_last}
 
 -- Whether a set has one of some attributes.
@@ -25,9 +25,9 @@ two set group j k inside below places = of_group set group (2 ^ j + 2 ^ k) insid
 abbrev written_if : Bool → List ℕ → List ℕ
 written_if b sequence = if b then sequence else []
 
-written_when : (b : Bool) (code : List ℕ) (xs : List (List ℕ)) → written_if b (written code) ++ written_all xs ≡ written_all (when b code ++ xs)
-written_when true code xs = refl
-written_when false code xs = refl
+written_code_if : (b : Bool) (code : List ℕ) (xs : List (List ℕ)) → written_if b (written code) ++ written_all xs ≡ written_all (code_if b code ++ xs)
+written_code_if true code xs = refl
+written_code_if false code xs = refl
 
 abbrev joined : List (List (List ℕ)) → List (List ℕ)
 joined = flat_map (λ codes. codes)
@@ -41,14 +41,14 @@ nothing = record { is = refl }
 
 -- a code that is written if a test holds
 row : {rest : List ℕ} {all : List (List (List ℕ))} {b c : Bool} (code : List ℕ) → c ≡ b → Writes [] rest all
-    → Writes [] (written_if c (written code) ++ rest) (when b code ∷ all)
-row {all = all} {b} code same later = record { is = ap₂ (λ c v. written_if c (written code) ++ v) same later.is ∙ written_when b code (joined all) }
+    → Writes [] (written_if c (written code) ++ rest) (code_if b code ∷ all)
+row {all = all} {b} code same later = record { is = ap₂ (λ c v. written_if c (written code) ++ v) same later.is ∙ written_code_if b code (joined all) }
 
 -- the same in a group of rows
 row_in : {rows rest : List ℕ} {all : List (List (List ℕ))} {b c : Bool} (code : List ℕ) → c ≡ b → Writes rows rest all
-    → Writes (written_if c (written code) ++ rows) rest (when b code ∷ all)
+    → Writes (written_if c (written code) ++ rows) rest (code_if b code ∷ all)
 row_in {rows} {rest} {all} {b} {c} code same later = record {
-  is = append_assoc (written_if c (written code)) rows rest ∙ ap₂ (λ c v. written_if c (written code) ++ v) same later.is ∙ written_when b code (joined all);
+  is = append_assoc (written_if c (written code)) rows rest ∙ ap₂ (λ c v. written_if c (written code) ++ v) same later.is ∙ written_code_if b code (joined all);
 }
 
 -- a group of rows, and the last one

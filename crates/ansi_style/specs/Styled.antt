@@ -3,7 +3,7 @@ use Rattle.std.specs.Prelude.{ℕ, List, map, length, slice_index}
 use Rattle.std.specs.List.{range_with_len}
 use Rattle.ansi_style.specs.Rendition.{Rendition, plain_style, known}
 use Rattle.ansi_style.specs.Sgr.{apply_all}
-use Rattle.ansi_items.specs.Plain.{Mark, plain, marks, up_to}
+use Rattle.ansi_items.specs.Plain.{Mark, plain, marks, marks_up_to}
 
 -- the style after these marks, from the plain style
 abbrev pub style_of : List Mark → Rendition
@@ -11,7 +11,7 @@ style_of ms = apply_all plain_style (map (λ (m : Mark). m.bytes) ms)
 
 -- the style at the place i of t is that after every mark at a place up to i (the Rust crate)
 abbrev pub style_at : List ℕ → ℕ → Rendition
-style_at t i = style_of (up_to i (marks t))
+style_at t i = style_of (marks_up_to i (marks t))
 
 -- the style after t is that after all its marks
 abbrev pub style_after : List ℕ → Rendition
@@ -29,8 +29,8 @@ styled t =
     map (λ i. record { byte = slice_index x i; style = known (style_at t i) }) (range_with_len 0 (length x))
 
 -- the bytes of styled bytes
-abbrev pub bytes_of : List StyledByte → List ℕ
-bytes_of bs = map (λ (b : StyledByte). b.byte) bs
+abbrev pub unstyled : List StyledByte → List ℕ
+unstyled bs = map (λ (b : StyledByte). b.byte) bs
 
 -- the residue of t is the known style that is open at its end (own)
 abbrev pub residue : List ℕ → Rendition

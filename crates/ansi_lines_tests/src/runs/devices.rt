@@ -185,7 +185,7 @@ fn expect_failing_call(
     let has_faults = ran.faults.as_slice() == b"write failed\n".as_slice();
     expect(rt, has_faults, "faults", name);
     expect(rt, ran.output_left == 0, "the calls", name);
-    expect(rt, ran.passed == 0, "what is passed on", name);
+    expect(rt, ran.flushed == 0, "what is flushed on", name);
     Ok(())
 }
 
@@ -254,7 +254,7 @@ fn expect_failing_fault(
     expect(rt, ran.status == status, "status", name);
     let has_output = ran.output.as_slice() == written.as_bytes();
     expect(rt, has_output, "output", name);
-    expect(rt, ran.passed == written.len(), "what is passed on", name);
+    expect(rt, ran.flushed == written.len(), "what is flushed on", name);
     expect(rt, ran.faults_left == 0, "the calls", name);
     Ok(())
 }

@@ -7,7 +7,7 @@ ghost use Rattle.ansi_search.specs.Searches.{IsCut, Precedes};
 ///
 /// A number `n` is a period if each byte is the same as the byte `n` places further on.
 #[derive(Clone, Copy)]
-pub(super) struct Cut {
+pub(super) struct CriticalCut {
     pub(super) at: usize,
     /// No period is smaller.
     pub(super) shift: usize,
@@ -24,7 +24,7 @@ struct Suffix {
 
 /// The cut of a pattern that isn't empty: at the later of two suffixes, the greatest by the order of bytes and
 /// the greatest by the opposite order.
-pub(super) fn critical_cut(bytes: &[u8]) -> Cut
+pub(super) fn critical_cut(bytes: &[u8]) -> CriticalCut
     requires { 0 < length bytes.now }
     ensures { IsCut bytes.now result }
 {
@@ -38,20 +38,20 @@ pub(super) fn critical_cut(bytes: &[u8]) -> Cut
 }
 
 /// The cut at the start of a suffix.
-fn cut_at(bytes: &[u8], suffix: Suffix) -> Cut
+fn cut_at(bytes: &[u8], suffix: Suffix) -> CriticalCut
     requires { IsCutPlace (slice_index bytes.now) (length bytes.now) suffix.start suffix.period }
     ensures { IsCut bytes.now result }
 {
     let at = suffix.start;
     let rest = bytes.len() - at;
     if at < rest && bytes[suffix.period..].starts_with(&bytes[..at]) {
-        return Cut {
+        return CriticalCut {
             at,
             shift: suffix.period,
             repeats: true,
         };
     }
-    Cut {
+    CriticalCut {
         at,
         shift: at.max(rest),
         repeats: false,

@@ -6,7 +6,7 @@ ghost use Rattle.ansi_items.specs.Plain.{plain};
 ghost use Rattle.ansi_search.specs.Positions.{is_good_range};
 ghost use Rattle.ansi_search.specs.Matches.{is_match, first_match_from};
 
-use crate::search::two_way::{Pattern, Point, Sight};
+use crate::search::two_way::{Pattern, Point, RunResult};
 use ansi_items::ESC;
 use ansi_items::ansitok::{Kind, Scanner};
 use memchr::memchr;
@@ -118,8 +118,8 @@ fn find_across(text: &str, pat: &str, from: usize) -> Option<usize>
                 position: place,
             };
             match pattern.read(text, run, here, window) {
-                Sight::Match(position) => return Some(position),
-                Sight::Open(further) => window = further,
+                RunResult::Match(position) => return Some(position),
+                RunResult::NoMatchYet(further) => window = further,
             }
             place += run.len();
         }

@@ -28,7 +28,7 @@ pub(super) fn stands_at(text: &str, pat: &[u8], place: usize) -> bool
         if rest.is_empty() {
             return false;
         }
-        let (run, after) = first_run(rest, before.saturating_add(wanted.len()));
+        let (run, after) = run_front(rest, before.saturating_add(wanted.len()));
         let front = &run[before.min(run.len())..];
         if !wanted.starts_with(front) {
             return false;
@@ -42,7 +42,7 @@ pub(super) fn stands_at(text: &str, pat: &[u8], place: usize) -> bool
 
 /// The run at the front of a text and what follows the mark after it. If no mark begins in the first `most`
 /// bytes, it is these bytes alone.
-fn first_run<'t>(text: &'t str, most: usize) -> (&'t [u8], &'t str)
+fn run_front<'t>(text: &'t str, most: usize) -> (&'t [u8], &'t str)
     ensures front { take most (plain text.now) ≡ take most (result.0.now ++ plain result.1.now) }
     ensures most { length result.0.now ≤ most }
     ensures within { length result.0.now + length result.1.now ≤ length text.now }

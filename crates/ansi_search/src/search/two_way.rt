@@ -5,9 +5,9 @@ ghost use Rattle.std.specs.List.{starts_with};
 ghost use Rattle.std.specs.Str.{IsUtf8};
 ghost use Rattle.memchr.specs.Find.{OccursAt};
 ghost use Rattle.ansi_items.specs.Plain.{plain};
-ghost use Rattle.ansi_search.specs.Searches.{IsCut, IsPoint, IsReached, IsApart, Comes, Seeks, StandsNowhere, IsAhead};
+ghost use Rattle.ansi_search.specs.Searches.{IsCut, IsPoint, IsReached, IsMismatch, IsWindow, IsRunResult, StandsNowhere, LacksRareByte};
 
-use crate::search::critical::{Cut, critical_cut};
+use crate::search::critical::{CriticalCut, critical_cut};
 use crate::search::prefix::stands_at;
 use ansi_items::ansitok::{Kind, Scanner};
 use memchr::arch::all::packedpair::Pair;
@@ -17,7 +17,7 @@ use memchr::memchr;
 #[derive(Drop)]
 pub(super) struct Pattern<'p> {
     bytes: &'p [u8],
-    cut: Cut,
+    cut: CriticalCut,
     // the place of a byte that is rare in most texts, up to the cut
     rare: usize,
     ghost is_cut: { IsCut bytes.now cut },
@@ -46,11 +46,11 @@ pub(super) struct Window {
 }
 
 /// What a run showed.
-pub(super) enum Sight {
+pub(super) enum RunResult {
     /// A match begins at this position of the plain text and ends in the run.
     Match(usize),
     /// No match ends in the run.
-    Open(Window),
+    NoMatchYet(Window),
 }
 
 impl<'p> Pattern<'p> {
@@ -75,7 +75,7 @@ impl<'p> Pattern<'p> {
     /// The window in which a search from a position on begins. The rare byte doesn't occur in the text before
     /// the offset `next`.
     pub(super) fn first_window(&self, position: usize, next: usize) -> Window
-        ensures comes { (t : List ℕ) → IsUtf8 t → position ≤ length t → Comes t self.now.bytes.now self.now.cut.at position result }
+        ensures comes { (t : List ℕ) → IsUtf8 t → position ≤ length t → IsWindow t self.now.bytes.now self.now.cut.at position result }
         ensures next { result.next ≡ next }
     {
         let point = Point {
@@ -88,7 +88,7 @@ impl<'p> Pattern<'p> {
     /// A window in which no byte is compared yet.
     #[inline(always)]
     fn window_at(&self, position: usize, point: Point, next: usize) -> Window
-        ensures comes { (t : List ℕ) (start : ℕ) → IsReached t self.now.bytes.now start position → IsPoint t point position → Comes t self.now.bytes.now self.now.cut.at start result }
+        ensures comes { (t : List ℕ) (start : ℕ) → IsReached t self.now.bytes.now start position → IsPoint t point position → IsWindow t self.now.bytes.now self.now.cut.at start result }
         ensures position { result.position ≡ position }
         ensures met { result.met ≡ self.now.cut.at }
         ensures next { result.next ≡ next }
@@ -105,14 +105,14 @@ impl<'p> Pattern<'p> {
 
     /// Reads a run of a text that begins at `here`. The search has come up to there.
     #[inline(always)]
-    pub(super) fn read(&self, text: &str, run: &[u8], here: Point, window: Window) -> Sight
+    pub(super) fn read(&self, text: &str, run: &[u8], here: Point, window: Window) -> RunResult
         requires run { OccursAt (plain text.now) run.now here.position }
         requires bytes { OccursAt text.now run.now here.offset }
-        requires comes { Comes text.now self.now.bytes.now self.now.cut.at window.position window }
+        requires comes { IsWindow text.now self.now.bytes.now self.now.cut.at window.position window }
         requires here { IsPoint text.now here here.position }
         requires place { here.position ≤ window.position + window.met }
-        requires ahead { IsAhead text.now self.now.bytes.now self.now.rare here window }
-        ensures { Seeks text.now self.now.bytes.now self.now.cut.at self.now.rare window.position here (here.position + length run.now) result }
+        requires ahead { LacksRareByte text.now self.now.bytes.now self.now.rare here window }
+        ensures { IsRunResult text.now self.now.bytes.now self.now.cut.at self.now.rare window.position here (here.position + length run.now) result }
     {
         let end = here.position + run.len();
         let mut window = window;
@@ -124,16 +124,16 @@ impl<'p> Pattern<'p> {
                 window.met += 1;
             } else {
                 if window.low == 0 {
-                    return Sight::Match(window.position);
+                    return RunResult::Match(window.position);
                 }
                 window.point = point_before(text, window.point, window.position, here.position);
                 if self.front_stands(text, run, here.position, window) {
-                    return Sight::Match(window.position);
+                    return RunResult::Match(window.position);
                 }
                 window = self.after_front(window);
             }
         }
-        Sight::Open(window)
+        RunResult::NoMatchYet(window)
     }
 
     /// The window after one with a mismatch. It is moved to the next occurrence of the rare byte in the run, if
@@ -142,16 +142,16 @@ impl<'p> Pattern<'p> {
     fn after_mismatch(&self, text: &str, run: &[u8], here: Point, window: Window) -> Window
         requires run { OccursAt (plain text.now) run.now here.position }
         requires bytes { OccursAt text.now run.now here.offset }
-        requires comes { Comes text.now self.now.bytes.now self.now.cut.at window.position window }
+        requires comes { IsWindow text.now self.now.bytes.now self.now.cut.at window.position window }
         requires here { IsPoint text.now here here.position }
         requires place { here.position ≤ window.position + window.met }
         requires inside { window.position + window.met < here.position + length run.now }
         requires other { slice_index run.now (window.position + window.met - here.position) ≢ slice_index self.now.bytes.now window.met }
-        requires ahead { IsAhead text.now self.now.bytes.now self.now.rare here window }
-        ensures comes { Comes text.now self.now.bytes.now self.now.cut.at window.position result }
+        requires ahead { LacksRareByte text.now self.now.bytes.now self.now.rare here window }
+        ensures comes { IsWindow text.now self.now.bytes.now self.now.cut.at window.position result }
         ensures past { window.position < result.position }
         ensures forward { window.position + window.met < result.position + result.met }
-        ensures ahead { IsAhead text.now self.now.bytes.now self.now.rare here result }
+        ensures ahead { LacksRareByte text.now self.now.bytes.now self.now.rare here result }
     {
         let position = window.position + (window.met - self.cut.at) + 1;
         let place = position + self.rare;
@@ -186,7 +186,7 @@ impl<'p> Pattern<'p> {
         requires fits { window.position + length self.now.bytes.now < 2 ^ 64 }
         ensures past { window.position < result.position }
         ensures forward { window.position + length self.now.bytes.now ≤ result.position + result.met }
-        ensures comes { (t : List ℕ) (start : ℕ) → IsApart t self.now.bytes.now self.now.cut.at start window → Comes t self.now.bytes.now self.now.cut.at start result }
+        ensures comes { (t : List ℕ) (start : ℕ) → IsMismatch t self.now.bytes.now self.now.cut.at start window → IsWindow t self.now.bytes.now self.now.cut.at start result }
         ensures next { result.next ≡ window.next }
     {
         let position = window.position + self.cut.shift;

@@ -42,7 +42,7 @@ pub fn split_at_in<'t, A: Allocator + Copy>(
     ensures takes_no_memory { IsFalse (has_escape text.now) → IsOk result }
 {
     if !has_any(text) {
-        let (left, right) = halves(text, mid);
+        let (left, right) = bare_sides(text, mid);
         return Ok((CowStr::Borrowed(left), CowStr::Borrowed(right)));
     }
     let (left, right) = write_sides(alloc, text, mid)?;
@@ -65,7 +65,7 @@ pub fn left_in<'t, A: Allocator>(
         return Ok(None);
     }
     if !has_any(text) {
-        let (left, _) = halves(text, mid);
+        let (left, _) = bare_sides(text, mid);
         return Ok(Some(CowStr::Borrowed(left)));
     }
     let mut style = styles::plain_style();
@@ -91,7 +91,7 @@ pub fn right_in<'t, A: Allocator>(
         return Ok(None);
     };
     if !has_any(text) {
-        let (_, right) = halves(text, mid);
+        let (_, right) = bare_sides(text, mid);
         return Ok(Some(CowStr::Borrowed(right)));
     }
     Ok(Some(CowStr::Owned(write_right(alloc, style, &text[from..])?)))
@@ -99,7 +99,7 @@ pub fn right_in<'t, A: Allocator>(
 
 /// The two sides of a text without ESC: its bytes before the position, and its bytes from there on. A
 /// position past the end counts as the end.
-fn halves(text: &str, mid: usize) -> (&str, &str)
+fn bare_sides(text: &str, mid: usize) -> (&str, &str)
     requires bare { IsFalse (has_escape text.now) }
     requires good { IsTrue (is_good_position (plain text.now) mid) }
     ensures left { result.0.now ≡ left_side text.now mid }

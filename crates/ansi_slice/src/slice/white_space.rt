@@ -26,7 +26,7 @@ pub(super) fn white_space_len(text: &str) -> usize
 
 /// The offset in the text at which the last character of the plain text that isn't white space ends, or 0 if
 /// there is no such character.
-pub(super) fn solid_end(text: &str) -> usize
+pub(super) fn end_before_white_space(text: &str) -> usize
     ensures { KeepsUpTo text.now (length (trim_end (plain text.now))) result }
 {
     let mut end = 0;

@@ -16,7 +16,7 @@ use memchr::memchr;
 
 /// A text in two at the first match of a pattern.
 #[derive(Drop)]
-pub(super) struct Cut<'t> {
+pub(super) struct MatchSplit<'t> {
     /// The text before the match, with every sequence up to there. Without a match it is all of the text.
     pub(super) front: &'t str,
     /// Whether the front has an ESC.
@@ -30,9 +30,9 @@ pub(super) struct Cut<'t> {
 #[derive(Drop)]
 pub(super) struct Rest<'t> {
     text: &'t str,
-    run: usize,
-    ghost run_ends: { IsCharBoundary text.now run },
-    ghost run_is_plain: { IsFalse (has_escape (take run text.now)) },
+    run_len: usize,
+    ghost run_ends: { IsCharBoundary text.now run_len },
+    ghost run_is_plain: { IsFalse (has_escape (take run_len text.now)) },
 }
 
 impl<'t> Rest<'t> {
@@ -40,16 +40,16 @@ impl<'t> Rest<'t> {
     pub(super) fn new(text: &'t str) -> Self
         ensures { result.text.now ≡ text.entry.now }
     {
-        Rest { text, run: 0 }
+        Rest { text, run_len: 0 }
     }
 
     /// The text. Its first `run` bytes are known to be plain.
-    pub(super) fn with_run(text: &'t str, run: usize) -> Self
-        requires ends { IsCharBoundary text.now run }
-        requires plain { IsFalse (has_escape (take run text.now)) }
+    pub(super) fn with_run(text: &'t str, run_len: usize) -> Self
+        requires ends { IsCharBoundary text.now run_len }
+        requires plain { IsFalse (has_escape (take run_len text.now)) }
         ensures { result.text.now ≡ text.entry.now }
     {
-        Rest { text, run }
+        Rest { text, run_len }
     }
 
     pub(super) fn text(&self) -> &'t str
@@ -59,30 +59,30 @@ impl<'t> Rest<'t> {
     }
 
     /// How many bytes at the front are known to be plain.
-    pub(super) fn run(&self) -> usize
+    pub(super) fn run_len(&self) -> usize
         ensures ends { IsCharBoundary self.now.text.now result }
         ensures plain { IsFalse (has_escape (take result self.now.text.now)) }
     {
-        self.run
+        self.run_len
     }
 
     /// The text in two at the first match that doesn't begin before `from`. `style` is the style before the
     /// front, and becomes that after it.
     #[inline(always)]
-    pub(super) fn cut_at_match(&self, pat: &str, from: usize, style: &mut Style) -> Cut<'t>
+    pub(super) fn cut_at_match(&self, pat: &str, from: usize, style: &mut Style) -> MatchSplit<'t>
         ensures rest { MatchOption result.rest ((first_match_from (plain self.now.text.now) pat.now from ≡ None) × (result.front.now ≡ self.now.text.now))
             (λ rest. IsCutAtMatch self.now.text.now pat.now from result.front.now rest.text.now) }
         ensures marked { result.is_marked ≡ has_escape result.front.now }
         ensures style { rendition_of style.new ≡ style_after_from (rendition_of style.old) result.front.now }
     {
-        let start = next_start(self.text, self.run, pat, from);
-        if start < self.run {
+        let start = next_start(self.text, self.run_len, pat, from);
+        if start < self.run_len {
             let (front, text) = self.text.split_at(start);
-            let run = self.run - start;
-            return Cut {
+            let run_len = self.run_len - start;
+            return MatchSplit {
                 front,
                 is_marked: false,
-                rest: Some(Rest { text, run }),
+                rest: Some(Rest { text, run_len }),
             };
         }
         cut_from(self.text, pat, from, start, style)
@@ -97,7 +97,7 @@ fn cut_from<'t>(
     from: usize,
     mut ahead: usize,
     style: &mut Style,
-) -> Cut<'t>
+) -> MatchSplit<'t>
     requires { first_match_from (plain text.now) pat.now ahead ≡ first_match_from (plain text.now) pat.now from }
     ensures rest { MatchOption result.rest ((first_match_from (plain text.now) pat.now from ≡ None) × (result.front.now ≡ text.now))
         (λ rest. IsCutAtMatch text.now pat.now from result.front.now rest.text.now) }
@@ -114,11 +114,14 @@ fn cut_from<'t>(
                 if ahead < piece.len() {
                     let offset = item.start + ahead;
                     let (front, rest) = text.split_at(offset);
-                    let run = item.end - offset;
-                    return Cut {
+                    let run_len = item.end - offset;
+                    return MatchSplit {
                         front,
                         is_marked,
-                        rest: Some(Rest { text: rest, run }),
+                        rest: Some(Rest {
+                            text: rest,
+                            run_len,
+                        }),
                     };
                 }
                 ahead -= piece.len();
@@ -136,7 +139,7 @@ fn cut_from<'t>(
     } else {
         None
     };
-    Cut {
+    MatchSplit {
         front: text,
         is_marked,
         rest,
@@ -146,25 +149,25 @@ fn cut_from<'t>(
 /// The place from which the first match that doesn't begin before `from` is still to be searched for, after a search
 /// of the run at the front of a text. If that place is in the run, the match begins there.
 #[inline(always)]
-fn next_start(text: &str, run: usize, pat: &str, from: usize) -> usize
-    requires ends { IsCharBoundary text.now run }
-    requires plain { IsFalse (has_escape (take run text.now)) }
+fn next_start(text: &str, run_len: usize, pat: &str, from: usize) -> usize
+    requires ends { IsCharBoundary text.now run_len }
+    requires plain { IsFalse (has_escape (take run_len text.now)) }
     ensures same { first_match_from (plain text.now) pat.now result ≡ first_match_from (plain text.now) pat.now from }
-    ensures here { result < run → first_match_from (plain text.now) pat.now from ≡ Some result }
-    ensures boundary { result < run → IsCharBoundary text.now result }
-    ensures cut { result < run → IsCutAtMatch text.now pat.now from (take result text.now) (drop result text.now) }
+    ensures here { result < run_len → first_match_from (plain text.now) pat.now from ≡ Some result }
+    ensures boundary { result < run_len → IsCharBoundary text.now result }
+    ensures cut { result < run_len → IsCutAtMatch text.now pat.now from (take result text.now) (drop result text.now) }
 {
-    if run <= from {
+    if run_len <= from {
         return from;
     }
-    let (front, _) = text.split_at(run);
+    let (front, _) = text.split_at(run_len);
     if let Some(start) = search::first_in_run(front, pat, from) {
         return start;
     }
     if may_go_on(front, pat) {
         return search::find_from(text, pat, from).unwrap_or(search::PAST_THE_END);
     }
-    run
+    run_len
 }
 
 /// Whether a match may begin in a run and go on after it: whether the pattern's first byte is one of the

@@ -2,7 +2,7 @@
 ghost use Rattle.std.specs.Prelude.{◌≡◌, ◌≤◌, ◌+◌, ◌++◌, [], length, IsTrue, IsFalse, IsOk, IfOk, OnOk, string_bytes};
 ghost use Rattle.std.specs.Option.{MatchOption};
 ghost use Rattle.ansi_items.specs.Plain.{plain, marks, has_escape};
-ghost use Rattle.ansi_slice.specs.Cut.{show};
+ghost use Rattle.ansi_slice.specs.Cut.{interleaved};
 ghost use Rattle.ansi_search.specs.Positions.{is_char_boundary};
 ghost use Rattle.ansi_style.specs.Rendition.{plain_style};
 ghost use Rattle.ansi_style.specs.Written.{longest_start_and_close};
@@ -26,7 +26,7 @@ const STYLE_ROOM: usize = 251;
 
 /// What one part is written from. Contracts see it as that part.
 #[derive(Drop)]
-pub(crate) struct Span<'t> {
+pub(crate) struct PartSpan<'t> {
     /// The text from the match before up to after the last sequence at the end of the part.
     text: &'t str,
     /// Whether it has an ESC.
@@ -39,19 +39,19 @@ pub(crate) struct Span<'t> {
     after: Style,
 }
 
-impl<'t> Model for Span<'t> {
+impl<'t> Model for PartSpan<'t> {
     ghost use Rattle.ansi_style.specs.States.{rendition_of};
     ghost use Rattle.ansi_split.specs.Splits.{SplitPart};
-    ghost use Rattle.ansi_split.specs.Spans.{span_part, IsSpan};
+    ghost use Rattle.ansi_split.specs.Spans.{span_part, AreSpanFacts};
 
     ghost Value = { SplitPart };
 
     ghost view = { λ s. span_part (rendition_of s.carried) s.text.now s.skip };
 
-    ghost invariant = { λ s. IsSpan (rendition_of s.carried) s.text.now s.skip s.is_marked (rendition_of s.after) };
+    ghost invariant = { λ s. AreSpanFacts (rendition_of s.carried) s.text.now s.skip s.is_marked (rendition_of s.after) };
 }
 
-impl<'t> Span<'t> {
+impl<'t> PartSpan<'t> {
     /// The part: a borrow if it has no sequence and no style has to be written.
     pub(crate) fn write<A: Allocator>(&self, alloc: A) -> Result<CowStr<'t, A>, AllocError>
         ensures part { IfOk result (IsPart self.now) }
@@ -67,7 +67,7 @@ impl<'t> Span<'t> {
     /// carried.
     fn bare(&self) -> Option<&'t str>
         ensures part { MatchOption result (IsFalse self.now.borrowed) (λ bare. (bare.now ≡ self.now.bytes) × IsTrue self.now.borrowed) }
-        ensures len { length self.now.bytes ≤ self.now.share + longest_start_and_close }
+        ensures len { length self.now.bytes ≤ self.now.source_len + longest_start_and_close }
     {
         if self.is_marked {
             return None;
@@ -112,7 +112,7 @@ fn write_text<A: Allocator>(
 ) -> Result<(), AllocError>
     requires marked { is_marked ≡ has_escape text.now }
     requires boundary { IsTrue (is_char_boundary (plain text.now) skip) }
-    ensures { OnOk result (string_bytes part.new ≡ string_bytes part.old ++ show (plain text.now) skip (length (plain text.now)) (marks text.now)) }
+    ensures { OnOk result (string_bytes part.new ≡ string_bytes part.old ++ interleaved (plain text.now) skip (length (plain text.now)) (marks text.now)) }
 {
     if !is_marked {
         return part.push_str(&text[skip..]);
@@ -135,7 +135,7 @@ fn write_text<A: Allocator>(
 
 /// The spans of a text between the matches of a pattern, in order: an iterator that doesn't allocate.
 #[derive(Drop)]
-pub(crate) struct Spans<'t, 'p> {
+pub(crate) struct PartSpans<'t, 'p> {
     /// What is left of the text: the match before and all after it.
     rest: Rest<'t>,
     pat: &'p str,
@@ -148,7 +148,7 @@ pub(crate) struct Spans<'t, 'p> {
     finished: bool,
 }
 
-impl<'t, 'p> Model for Spans<'t, 'p> {
+impl<'t, 'p> Model for PartSpans<'t, 'p> {
     ghost use Rattle.std.specs.Prelude.{◌≤◌, List, [], if◌then◌else◌, IsTrue};
     ghost use Rattle.ansi_items.specs.Plain.{plain};
     ghost use Rattle.ansi_search.specs.Positions.{is_char_boundary};
@@ -163,12 +163,12 @@ impl<'t, 'p> Model for Spans<'t, 'p> {
     ghost invariant = { λ s. IsTrue (is_char_boundary (plain s.rest.text.now) s.skip) × (s.skip ≤ s.from) };
 }
 
-impl<'t, 'p> Spans<'t, 'p> {
+impl<'t, 'p> PartSpans<'t, 'p> {
     /// The spans of all parts of the text.
     pub(crate) fn new(text: &'t str, pat: &'p str) -> Self
         ensures { result ≡ parts_left plain_style text.now pat.now 0 0 }
     {
-        Spans {
+        PartSpans {
             rest: Rest::new(text),
             pat,
             skip: 0,
@@ -186,7 +186,7 @@ impl<'t, 'p> Spans<'t, 'p> {
     }
 }
 
-impl<'t> Spans<'t, 't> {
+impl<'t> PartSpans<'t, 't> {
     ghost use Rattle.ansi_split.specs.Walks.{parts_of_walk, IsPartWalk};
 
     /// The spans that a walk has left.
@@ -196,8 +196,8 @@ impl<'t> Spans<'t, 't> {
     {
         let text = unsafe { from_utf8_unchecked(walk.rest) };
         let pat = unsafe { from_utf8_unchecked(walk.pattern) };
-        Spans {
-            rest: Rest::with_run(text, walk.run),
+        PartSpans {
+            rest: Rest::with_run(text, walk.run_len),
             pat,
             skip: walk.skip,
             from: walk.from,
@@ -214,7 +214,7 @@ impl<'t> Spans<'t, 't> {
         PartWalk {
             rest: self.rest.text().as_bytes(),
             pattern: self.pat.as_bytes(),
-            run: self.rest.run(),
+            run_len: self.rest.run_len(),
             skip: self.skip,
             from: self.from,
             carried: StyleNumbers::of(&self.carried),
@@ -223,17 +223,17 @@ impl<'t> Spans<'t, 't> {
     }
 }
 
-impl<'t, 'p> Iterator for Spans<'t, 'p> {
+impl<'t, 'p> Iterator for PartSpans<'t, 'p> {
     ghost use Rattle.std.specs.Iterator.{YieldsFirst, item_count};
 
-    type Item = Span<'t>;
+    type Item = PartSpan<'t>;
 
     ghost next_gives = { YieldsFirst (λ s. s) };
 
     ghost remaining = { item_count (λ s. s) };
 
     #[inline(always)]
-    fn next(&mut self) -> Option<Span<'t>> {
+    fn next(&mut self) -> Option<PartSpan<'t>> {
         if self.finished {
             return None;
         }
@@ -241,7 +241,7 @@ impl<'t, 'p> Iterator for Spans<'t, 'p> {
         let cut = self
             .rest
             .cut_at_match(self.pat, self.from, &mut self.carried);
-        let span = Span {
+        let span = PartSpan {
             text: cut.front,
             is_marked: cut.is_marked,
             skip: self.skip,

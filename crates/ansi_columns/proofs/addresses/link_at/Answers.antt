@@ -1,7 +1,7 @@
 use Rattle.std.proofs.Common.{◌≡◌, ℕ, List, None, refl, ◌∙◌, ap, rules}
 use Rattle.ansi_items.specs.declared.ansitok.Kind.TheVariants.{Other}
-use Rattle.ansi_items.proofs.StepLemmas.{gives_text, gives_mark, is_text}
-use Rattle.ansi_search.proofs.OffsetLemmas.{item_range, is_other}
+use Rattle.ansi_items.proofs.StepLemmas.{gives_text, gives_mark, kind_is_text}
+use Rattle.ansi_search.proofs.OffsetLemmas.{item_range, kind_differs}
 use Rattle.ansi_columns.proofs.AddressLemmas.{way-begin, way-text, way-other, way-rest, way-last, way-end, none-exactly, other_is_sequence, unlinked}
 use Rattle.ansi_columns.proofs.LinkLemmas.{is_kind}
 use Rattle.ansi_columns.proofs.addresses.link_at.Goals as goal
@@ -21,12 +21,12 @@ address-requires c = c.loop-item.invariant.way.sequence
 
 pub returns-then-remaining-piece-clause-none : goal.returns-then-remaining-piece-clause-none
 returns-then-remaining-piece-clause-none c =
-    let first = gives_text c.in-Some.ensures.steps c.loop-item.invariant.text c.range-piece.ensures.value (is_text c.if-eq.ensures) in
+    let first = gives_text c.in-Some.ensures.steps c.loop-item.invariant.text c.range-piece.ensures.value (kind_is_text c.if-eq.ensures) in
     none-exactly c.address.result _ c.args.text.now c.args.index (c.address.ensures ∙ way-last c.loop-item.invariant.way first c.if-remaining-piece.true)
 
 pub returns-then-remaining-piece-clause-bytes : goal.returns-then-remaining-piece-clause-bytes
 returns-then-remaining-piece-clause-bytes c =
-    let first = gives_text c.in-Some.ensures.steps c.loop-item.invariant.text c.range-piece.ensures.value (is_text c.if-eq.ensures) in
+    let first = gives_text c.in-Some.ensures.steps c.loop-item.invariant.text c.range-piece.ensures.value (kind_is_text c.if-eq.ensures) in
     c.address.ensures ∙ way-last c.loop-item.invariant.way first c.if-remaining-piece.true
 
 -- over a text
@@ -34,7 +34,7 @@ pub loop-item-preserved-then-eq : goal.loop-item-preserved-then-eq
 loop-item-preserved-then-eq c =
     let gives = c.in-Some.ensures.steps in
     let inv = c.loop-item.invariant in
-    let first = gives_text gives inv.text c.range-piece.ensures.value (is_text c.if-eq.ensures) in
+    let first = gives_text gives inv.text c.range-piece.ensures.value (kind_is_text c.if-eq.ensures) in
     record { text = gives.text ∙ inv.text; way = way-text inv.way first c.if-remaining-piece.false refl; link_is_text = inv.link_is_text }
 
 -- over another sequence
@@ -43,7 +43,7 @@ loop-item-preserved-then-eq-2 c =
     let gives = c.in-Some.ensures.steps in
     let inv = c.loop-item.invariant in
     let bytes = c.range-piece.ensures.value in
-    let mark = gives_mark gives inv.text bytes (is_other c.if-eq.ensures) in
+    let mark = gives_mark gives inv.text bytes (kind_differs c.if-eq.ensures) in
     record {
       text = gives.text ∙ inv.text;
       way = way-other inv.way mark (other_is_sequence gives inv.text bytes (is_kind Other c.if-eq-2.ensures)) c.link_after-link.ensures;
@@ -56,10 +56,10 @@ loop-item-preserved c =
     let gives = c.in-Some.ensures.steps in
     let inv = c.loop-item.invariant in
     let bytes = c.range-piece.ensures.value in
-    let mark = gives_mark gives inv.text bytes (is_other c.if-eq.ensures) in
+    let mark = gives_mark gives inv.text bytes (kind_differs c.if-eq.ensures) in
     record {
       text = gives.text ∙ inv.text;
-      way = way-rest inv.way mark (unlinked gives inv.text bytes (is_other c.if-eq.ensures) (is_other c.if-eq-2.ensures));
+      way = way-rest inv.way mark (unlinked gives inv.text bytes (kind_differs c.if-eq.ensures) (kind_differs c.if-eq-2.ensures));
       link_is_text = inv.link_is_text;
     }
 

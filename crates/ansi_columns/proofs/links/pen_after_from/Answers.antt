@@ -2,7 +2,7 @@ use Rattle.std.proofs.Common.{◌≡◌, ◌∙◌, ap, rules}
 use Rattle.ansi_items.specs.declared.ansitok.Kind.TheVariants.{Sgr, Other}
 use Rattle.ansi_style.specs.States.{rendition_of}
 use Rattle.ansi_items.proofs.StepLemmas.{gives_mark}
-use Rattle.ansi_search.proofs.OffsetLemmas.{item_range, is_other}
+use Rattle.ansi_search.proofs.OffsetLemmas.{item_range, kind_differs}
 use Rattle.ansi_columns.proofs.LinkLemmas.{open-begin, open-sgr, open-other, open-rest, open-end, is_kind}
 use Rattle.ansi_columns.proofs.links.pen_after_from.Goals as goal
 
@@ -34,7 +34,7 @@ loop-item-preserved-then-eq-2 c =
     let kind = is_kind Other c.if-eq-2.ensures in
     record {
       text = gives.text ∙ inv.text;
-      so_far = open-other inv.so_far (gives_mark gives inv.text c.range-piece.ensures.value (λ e. cc)) (is_other c.if-eq.ensures) c.link_after-link.ensures;
+      so_far = open-other inv.so_far (gives_mark gives inv.text c.range-piece.ensures.value (λ e. cc)) (kind_differs c.if-eq.ensures) c.link_after-link.ensures;
       link_is_text = search rules;
     }
 
@@ -45,7 +45,7 @@ loop-item-preserved c =
     let inv = c.loop-item.invariant in
     record {
       text = gives.text ∙ inv.text;
-      so_far = open-rest inv.so_far gives (is_other c.if-eq.ensures) (is_other c.if-eq-2.ensures);
+      so_far = open-rest inv.so_far gives (kind_differs c.if-eq.ensures) (kind_differs c.if-eq-2.ensures);
       link_is_text = inv.link_is_text;
     }
 

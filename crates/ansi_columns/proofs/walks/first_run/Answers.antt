@@ -2,11 +2,11 @@ use Rattle.std.proofs.Common.{◌≡◌, ◌-◌, length, drop, refl, sym, ◌�
 use Rattle.std.specs.Str.{IsCharBoundary}
 use Rattle.ansi_items.specs.Pieces.{ArePieces}
 use Rattle.ansi_items.proofs.PieceLemmas.{pieces_are}
-use Rattle.ansi_items.proofs.StepLemmas.{is_text}
+use Rattle.ansi_items.proofs.StepLemmas.{kind_is_text}
 use Rattle.ansi_style.specs.Rendition.{plain_style}
 use Rattle.ansi_style.specs.Sgr.{apply}
 use Rattle.ansi_search.proofs.SliceLemmas.{length-slice_range}
-use Rattle.ansi_search.proofs.OffsetLemmas.{over_text, over_mark, is_other, way-begin, way-mark, way-last, way-end}
+use Rattle.ansi_search.proofs.OffsetLemmas.{over_text, over_mark, kind_differs, way-begin, way-mark, way-last, way-end}
 use Rattle.ansi_columns.proofs.WalkLemmas.{no_run}
 use Rattle.ansi_columns.proofs.walks.first_run.Goals as goal
 
@@ -24,7 +24,7 @@ loop-item-preserved c =
     let gives = c.in-Some.ensures.steps in
     record {
       text = gives.text ∙ c.loop-item.invariant.text;
-      way = (apply c.loop-item.invariant.way.0 (slice_range c.args.text.now c.in-Some.item.start c.in-Some.item.end), way-mark c.loop-item.invariant.way.1 (over_mark gives c.loop-item.invariant.text refl (is_other c.if-eq.ensures)) refl);
+      way = (apply c.loop-item.invariant.way.0 (slice_range c.args.text.now c.in-Some.item.start c.in-Some.item.end), way-mark c.loop-item.invariant.way.1 (over_mark gives c.loop-item.invariant.text refl (kind_differs c.if-eq.ensures)) refl);
     }
 
 -- at the run
@@ -34,7 +34,7 @@ returns-then-eq c =
     let gives = c.in-Some.ensures.steps in
     let same = c.loop-item.invariant.text in
     let item = c.in-Some.item in
-    let over = over_text gives same refl (is_text c.if-eq.ensures) in
+    let over = over_text gives same refl (kind_is_text c.if-eq.ensures) in
     let end : IsCharBoundary t item.end = subst (λ u. IsCharBoundary u item.end) same gives.end_boundary in
     let size : length (slice_range t item.start item.end) ≡ item.end - item.start = length-slice_range t item.start item.end (omega (arith, gives.forward)) end.0 in
     let first = way-last c.loop-item.invariant.way.1 over (omega (arith, size, gives.forward)) in

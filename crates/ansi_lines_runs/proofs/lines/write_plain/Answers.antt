@@ -3,8 +3,8 @@ use Rattle.std.specs.Io.KnownBytes.{append_known}
 use Rattle.ansi_str.specs.Pieces.{Text}
 use Rattle.ansi_str.specs.Plain.{plain_of}
 use Rattle.ansi_str.specs.Scans.{pieces_left}
-use Rattle.ansi_items.proofs.StepLemmas.{is_text, gives_text, gives_mark, plain_of-mark}
-use Rattle.ansi_search.proofs.OffsetLemmas.{item_range, is_other}
+use Rattle.ansi_items.proofs.StepLemmas.{kind_is_text, gives_text, gives_mark, plain_of-mark}
+use Rattle.ansi_search.proofs.OffsetLemmas.{item_range, kind_differs}
 use Rattle.ansi_lines_io.proofs.Known.{append_known-append}
 use Rattle.ansi_lines_runs.proofs.Written.{unfailed}
 use Rattle.ansi_lines_runs.proofs.lines.write_plain.Goals as goal
@@ -18,7 +18,7 @@ loop-item-preserved-in-Continue-1 g c =
     let gives = c.in-Some.ensures.steps in
     let w = c.range.result.now in
     let now = g.W.Sink.taken c.loop-item.output in
-    let left : pieces_left c.loop-item.item-iterator ≡ Text w ∷ pieces_left c.next.new.self = gives_text gives c.loop-item.invariant.text c.range.ensures.value (is_text c.if-eq.ensures) in
+    let left : pieces_left c.loop-item.item-iterator ≡ Text w ∷ pieces_left c.next.new.self = gives_text gives c.loop-item.invariant.text c.range.ensures.value (kind_is_text c.if-eq.ensures) in
     record {
       text = gives.text ∙ c.loop-item.invariant.text;
       written = ap (λ k. append_known k (plain_of (pieces_left c.next.new.self))) (c.in_ok-write.ensures.taken ∙ ap (append_known now) c.as_bytes.ensures.value)
@@ -32,7 +32,7 @@ loop-item-preserved-in-Continue-1 g c =
 pub loop-item-preserved : goal.loop-item-preserved
 loop-item-preserved g c =
     let gives = c.in-Some.ensures.steps in
-    let mark = gives_mark gives c.loop-item.invariant.text refl (is_other c.if-eq.ensures) in
+    let mark = gives_mark gives c.loop-item.invariant.text refl (kind_differs c.if-eq.ensures) in
     record {
       text = gives.text ∙ c.loop-item.invariant.text;
       written = ap (append_known (g.W.Sink.taken c.loop-item.output)) (sym (ap plain_of mark.pieces ∙ plain_of-mark mark.mark (pieces_left c.next.new.self) mark.is_mark)) ∙ c.loop-item.invariant.written;

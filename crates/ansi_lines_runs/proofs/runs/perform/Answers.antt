@@ -25,5 +25,5 @@ pub returns-in_err-text-clause-untouched : goal.returns-in_err-text-clause-untou
 returns-in_err-text-clause-untouched g c = search rules
 
 -- one flush passes on all that is written
-pub returns-clause-passed : goal.returns-clause-passed
-returns-clause-passed g c = search rules
+pub returns-clause-flushed : goal.returns-clause-flushed
+returns-clause-flushed g c = search rules

@@ -9,4 +9,4 @@ pub returns-in-Ok-clause-write_failed : goal.returns-in-Ok-clause-write_failed
 returns-in-Ok-clause-write_failed g c = λ four. absurd (omega arith)
 
 pub returns-in-Ok-clause-flushed_once : goal.returns-in-Ok-clause-flushed_once
-returns-in-Ok-clause-flushed_once g c = λ done. c.in-Ok.ensures.passed.2
+returns-in-Ok-clause-flushed_once g c = λ done. c.in-Ok.ensures.flushed.2

@@ -1,4 +1,4 @@
-use Rattle.ansi_search.proofs.Common.{◌≡◌, ◌++◌, ◌∷◌, ◌+◌, ◌-◌, drop, length, refl, sym, ◌∙◌, ap, subst, arith, drop_at, drop-drop, length-append, length-drop, IsCharBoundary-end, IsCharBoundary, Text, plain, plain_of, pieces_left, is_text, gives_text, IsUtf8-plain, []}
+use Rattle.ansi_search.proofs.Common.{◌≡◌, ◌++◌, ◌∷◌, ◌+◌, ◌-◌, drop, length, refl, sym, ◌∙◌, ap, subst, arith, drop_at, drop-drop, length-append, length-drop, IsCharBoundary-end, IsCharBoundary, Text, plain, plain_of, pieces_left, kind_is_text, gives_text, IsUtf8-plain, []}
 use Rattle.ansi_search.proofs.PositionLemmas.{boundary_in_run, good_before}
 use Rattle.ansi_search.proofs.search.floor_char_boundary.Goals as goal
 
@@ -9,7 +9,7 @@ loop-item-preserved-then-eq c =
     let w = c.range-run.result.now in
     let y = plain_of (pieces_left c.next.new.self) in
     let steps = c.in-Some.ensures.steps in
-    let left : pieces_left c.loop-item.item-iterator ≡ Text w ∷ pieces_left c.next.new.self = gives_text steps c.loop-item.invariant.text c.range-run.ensures.value (is_text c.if-eq.ensures) in
+    let left : pieces_left c.loop-item.item-iterator ≡ Text w ∷ pieces_left c.next.new.self = gives_text steps c.loop-item.invariant.text c.range-run.ensures.value (kind_is_text c.if-eq.ensures) in
     let is : drop c.loop-item.place x ≡ w ++ y = sym c.loop-item.invariant.left ∙ ap plain_of left in
     record {
       text = steps.text ∙ c.loop-item.invariant.text;
@@ -24,7 +24,7 @@ pub returns-then-remaining-run-clause-boundary : goal.returns-then-remaining-run
 returns-then-remaining-run-clause-boundary c =
     let w = c.range-run.result.now in
     let y = plain_of (pieces_left c.next.new.self) in
-    let left : pieces_left c.loop-item.item-iterator ≡ Text w ∷ pieces_left c.next.new.self = gives_text c.in-Some.ensures.steps c.loop-item.invariant.text c.range-run.ensures.value (is_text c.if-eq.ensures) in
+    let left : pieces_left c.loop-item.item-iterator ≡ Text w ∷ pieces_left c.next.new.self = gives_text c.in-Some.ensures.steps c.loop-item.invariant.text c.range-run.ensures.value (kind_is_text c.if-eq.ensures) in
     (boundary_in_run _ w y c.loop-item.place c.floor_char_boundary.result (sym c.loop-item.invariant.left ∙ ap plain_of left) c.loop-item.invariant.within (omega arith)).0 c.floor_char_boundary.ensures.boundary
 
 pub returns-then-remaining-run-clause-nearest : goal.returns-then-remaining-run-clause-nearest
@@ -33,7 +33,7 @@ returns-then-remaining-run-clause-nearest c i above below boundary =
     let w = c.range-run.result.now in
     let y = plain_of (pieces_left c.next.new.self) in
     let place = c.loop-item.place in
-    let left : pieces_left c.loop-item.item-iterator ≡ Text w ∷ pieces_left c.next.new.self = gives_text c.in-Some.ensures.steps c.loop-item.invariant.text c.range-run.ensures.value (is_text c.if-eq.ensures) in
+    let left : pieces_left c.loop-item.item-iterator ≡ Text w ∷ pieces_left c.next.new.self = gives_text c.in-Some.ensures.steps c.loop-item.invariant.text c.range-run.ensures.value (kind_is_text c.if-eq.ensures) in
     let at : i ≡ place + (i - place) = omega arith in
     c.floor_char_boundary.ensures.nearest (i - place) (omega arith) (omega arith)
     ((boundary_in_run x w y place (i - place) (sym c.loop-item.invariant.left ∙ ap plain_of left) c.loop-item.invariant.within (omega arith)).1 (subst (IsCharBoundary x) at boundary))

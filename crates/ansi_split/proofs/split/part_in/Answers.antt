@@ -2,7 +2,7 @@ use Rattle.ansi_split.proofs.Common.{◌≡◌, ◌≤◌, ℕ, List, inl, inr, 
 use Rattle.std.specs.Iterator.{YieldsFirst, YieldsThen}
 use Rattle.std.proofs.lemmas.Iterator.Consumers.{nth_from_yields_List, YieldsList-from_first}
 use Rattle.ansi_split.proofs.SplitLemmas.{part_at, no_part_at}
-use Rattle.ansi_split.proofs.PartLengthLemmas.{share_within}
+use Rattle.ansi_split.proofs.PartLengthLemmas.{source_len_within}
 use Rattle.ansi_split.proofs.split.part_in.Goals as goal
 
 at_index : {first : List SplitPart} (left : List SplitPart) (t p : List ℕ) (k : ℕ) (r : Option SplitPart) → (xs : List SplitPart) × YieldsThen (YieldsFirst (λ s. s)) first xs r left × MatchOption r (length xs ≤ k) (λ _. length xs ≡ k)
@@ -23,8 +23,8 @@ returns-in_ok-write-in-Some g c =
       none = (λ e. absurd (true≢false e), λ nothing. sym (ap is_some part.found) ∙ nothing);
       bytes = part.bytes ∙ ap Some (sym written.part.0);
       borrowed = (λ borrowed. inr (part.borrowed ∙ written.part.1.0 borrowed), λ any. written.part.1.1 (elim any [ inl none ↦ part.bare none | inr borrowed ↦ sym part.borrowed ∙ borrowed ]));
-      len = omega (arith, written.part.2, part.share);
-      within = share_within t p c.args.index;
+      len = omega (arith, written.part.2, part.source_len);
+      within = source_len_within t p c.args.index;
       takes_no_memory = λ _. refl;
     }
 
@@ -41,7 +41,7 @@ returns-in_err-write-in-Some-clause-takes_no_memory g c =
     ]))))
 
 pub returns-in_err-write-in-Some-clause-within : goal.returns-in_err-write-in-Some-clause-within
-returns-in_err-write-in-Some-clause-within g c = share_within c.args.text.now c.args.pat.now c.args.index
+returns-in_err-write-in-Some-clause-within g c = source_len_within c.args.text.now c.args.pat.now c.args.index
 
 pub returns-in-None-clause-none : goal.returns-in-None-clause-none
 returns-in-None-clause-none g c =
@@ -51,4 +51,4 @@ returns-in-None-clause-none g c =
     (λ e. ap is_some none, λ e. refl)
 
 pub returns-in-None-clause-within : goal.returns-in-None-clause-within
-returns-in-None-clause-within g c = share_within c.args.text.now c.args.pat.now c.args.index
+returns-in-None-clause-within g c = source_len_within c.args.text.now c.args.pat.now c.args.index

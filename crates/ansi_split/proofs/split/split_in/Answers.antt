@@ -1,6 +1,6 @@
 use Rattle.ansi_split.proofs.Common.{arith, length-plain}
 use Rattle.ansi_split.proofs.SplitLemmas.{parts_left-parts, bytes-parts_left, length-parts_left, parts_left-bare}
-use Rattle.ansi_split.proofs.PartLengthLemmas.{shares_within}
+use Rattle.ansi_split.proofs.PartLengthLemmas.{source_lens_within}
 use Rattle.ansi_split.proofs.split.split_in.Goals as goal
 
 pub returns-clause-parts : goal.returns-clause-parts
@@ -20,4 +20,4 @@ pub returns-clause-fits : goal.returns-clause-fits
 returns-clause-fits g c = grind (arith, length-parts_left, length-plain)
 
 pub returns-clause-within : goal.returns-clause-within
-returns-clause-within g c = rw c.new-spans.ensures (shares_within c.args.text.now c.args.pat.now)
+returns-clause-within g c = rw c.new-spans.ensures (source_lens_within c.args.text.now c.args.pat.now)

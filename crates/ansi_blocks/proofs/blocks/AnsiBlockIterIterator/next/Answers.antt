@@ -5,18 +5,18 @@ use Rattle.ansi_blocks.proofs.blocks.AnsiBlockIterIterator.next.Goals as goal
 
 -- where no run is found no block is left, and an empty text has none
 pub returns-in_err-run-clause-steps : goal.returns-in_err-run-clause-steps
-returns-in_err-run-clause-steps g c = rw (c.from_residual.ensures, ← c.self.view_is) (c.in_err-run.ensures.none, blocks_from-nil (rendition_of c.first_run.new.style))
+returns-in_err-run-clause-steps g c = rw (c.from_residual.ensures, ← c.self.view_is) (c.in_err-run.ensures.none, blocks_from-nil (rendition_of c.first_styled_run.new.style))
 
 -- where memory has run out the first block that was left is no borrow
 pub returns-in-Err-clause-steps : goal.returns-in-Err-clause-steps
 returns-in-Err-clause-steps g c =
-    rw (← c.self.view_is) ((_, _, c.in_ok-run.ensures.first, not_borrowed _ _ c.in_ok-run.ensures.awaited c.in-Err.ensures.takes_no_memory), blocks_from-nil (rendition_of c.first_run.new.style))
+    rw (← c.self.view_is) ((_, _, c.in_ok-run.ensures.first, not_borrowed _ _ c.in_ok-run.ensures.awaited c.in-Err.ensures.takes_no_memory), blocks_from-nil (rendition_of c.first_styled_run.new.style))
 
 -- nothing is left after an error
 pub returns-in-Err-clause-goes : goal.returns-in-Err-clause-goes
 returns-in-Err-clause-goes g c =
     let some = ap length c.in_ok-run.ensures.first in
-    let none = ap length (blocks_from-nil (rendition_of c.first_run.new.style)) in
+    let none = ap length (blocks_from-nil (rendition_of c.first_styled_run.new.style)) in
     rw (← c.self.view_is) (record { on = λ _. (tt, tt, omega arith); keeps = tt; rests = λ _. tt })
 
 -- the block is the first that was left, in the style that the run is in

@@ -3,8 +3,8 @@ use Rattle.std.proofs.lemmas.List.{take_all}
 use Rattle.ansi_lines_io.proofs.page.PageSink.flush.Goals as goal
 
 -- all bytes taken are passed on
-pub returns-then-eq-clause-passed : goal.returns-then-eq-clause-passed
-returns-then-eq-clause-passed c = ap Some (take_all _ _ (omega arith))
+pub returns-then-eq-clause-flushed : goal.returns-then-eq-clause-flushed
+returns-then-eq-clause-flushed c = ap Some (take_all _ _ (omega arith))
 
 pub returns-then-eq-clause-page : goal.returns-then-eq-clause-page
 returns-then-eq-clause-page c = search rules

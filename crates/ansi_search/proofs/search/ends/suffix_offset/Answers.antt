@@ -1,5 +1,5 @@
-use Rattle.ansi_search.proofs.Common.{◌≡◌, length, refl, sym, ◌∙◌, ap, subst, arith, drop, nat_eq, true, ◌-◌, IsTrue, starts_with, plain, is_text, is_good_position, StandsIn}
-use Rattle.ansi_search.proofs.OffsetLemmas.{over_text, over_mark, is_other}
+use Rattle.ansi_search.proofs.Common.{◌≡◌, length, refl, sym, ◌∙◌, ap, subst, arith, drop, nat_eq, true, ◌-◌, IsTrue, starts_with, plain, kind_is_text, is_good_position, StandsIn}
+use Rattle.ansi_search.proofs.OffsetLemmas.{over_text, over_mark, kind_differs}
 use Rattle.ansi_search.proofs.EndLemmas.{tail-begin, tail-run, tail-text, tail-mark, tail-starts, tail-good, tail-stands}
 use Rattle.ansi_search.proofs.search.ends.suffix_offset.Goals as goal
 use Rattle.ansi_search.proofs.search.ends.suffix_offset.Goals.{then-pat-run, else-pat-run}
@@ -18,7 +18,7 @@ loop-item-init c =
 pub loop-item-preserved-then-eq : goal.loop-item-preserved-then-eq
 loop-item-preserved-then-eq c =
     let gives = c.in-Some.ensures.steps in
-    let over = over_text gives c.loop-item.invariant.text c.range-run.ensures.value (is_text c.if-eq.ensures) in
+    let over = over_text gives c.loop-item.invariant.text c.range-run.ensures.value (kind_is_text c.if-eq.ensures) in
     elim c.if-pat-run.branch [
       | then-pat-run v ↦ record {
         text = gives.text ∙ c.loop-item.invariant.text;
@@ -39,7 +39,7 @@ loop-item-preserved c =
     record {
       text = gives.text ∙ c.loop-item.invariant.text;
       fits = omega (arith, c.loop-item.invariant.fits, gives.start, gives.end, gives.forward);
-      so_far = tail-mark c.loop-item.invariant.so_far (over_mark gives c.loop-item.invariant.text refl (is_other c.if-eq.ensures));
+      so_far = tail-mark c.loop-item.invariant.so_far (over_mark gives c.loop-item.invariant.text refl (kind_differs c.if-eq.ensures));
     }
 
 -- the pattern begins at a character

@@ -1,4 +1,4 @@
-use Rattle.ansi_search.proofs.Common.{◌≡◌, ◌++◌, ◌∷◌, ◌+◌, ◌-◌, ◌≤◌, Some, None, drop, length, refl, sym, ◌∙◌, ap, arith, drop_at, drop-drop, length-append, length-drop, Text, plain, plain_of, pieces_left, is_text, gives_text, []}
+use Rattle.ansi_search.proofs.Common.{◌≡◌, ◌++◌, ◌∷◌, ◌+◌, ◌-◌, ◌≤◌, Some, None, drop, length, refl, sym, ◌∙◌, ap, arith, drop_at, drop-drop, length-append, length-drop, Text, plain, plain_of, pieces_left, kind_is_text, gives_text, []}
 use Rattle.ansi_search.proofs.MatchLemmas.{first_match_in, no_match_in, first_empty, empty_at_end, none_at_end}
 use Rattle.ansi_search.proofs.search.matches.boundary_from.Goals as goal
 
@@ -8,7 +8,7 @@ returns-in-Some-first_in_run c =
     let x = plain c.args.text.now in
     let w = c.range-run.result.now in
     let y = plain_of (pieces_left c.next.new.self) in
-    let left : pieces_left c.loop-item.item-iterator ≡ Text w ∷ pieces_left c.next.new.self = gives_text c.in-Some.ensures.steps c.loop-item.invariant.text c.range-run.ensures.value (is_text c.if-eq.ensures) in
+    let left : pieces_left c.loop-item.item-iterator ≡ Text w ∷ pieces_left c.next.new.self = gives_text c.in-Some.ensures.steps c.loop-item.invariant.text c.range-run.ensures.value (kind_is_text c.if-eq.ensures) in
     let is : drop c.loop-item.place x ≡ w ++ y = sym c.loop-item.invariant.left ∙ ap plain_of left in
     let inside : length w ≤ length (w ++ y) = omega (arith, length-append w y) in
     first_match_in x [] (w ++ y) c.args.from c.loop-item.place (length w) c.in-Some-first_in_run.start c.loop-item.invariant.within is inside
@@ -22,7 +22,7 @@ loop-item-preserved-then-eq c =
     let y = plain_of (pieces_left c.next.new.self) in
     let place = c.loop-item.place in
     let steps = c.in-Some.ensures.steps in
-    let left : pieces_left c.loop-item.item-iterator ≡ Text w ∷ pieces_left c.next.new.self = gives_text steps c.loop-item.invariant.text c.range-run.ensures.value (is_text c.if-eq.ensures) in
+    let left : pieces_left c.loop-item.item-iterator ≡ Text w ∷ pieces_left c.next.new.self = gives_text steps c.loop-item.invariant.text c.range-run.ensures.value (kind_is_text c.if-eq.ensures) in
     let is : drop place x ≡ w ++ y = sym c.loop-item.invariant.left ∙ ap plain_of left in
     let size : length x - place ≡ length (w ++ y) = sym (length-drop place x) ∙ ap length is in
     let all : length (w ++ y) ≡ length w + length y = length-append w y in

@@ -1,4 +1,4 @@
-use Rattle.ansi_search.proofs.Common.{◌≡◌, ◌≤◌, drop, length, sym, ◌∙◌, ap, ap₂, subst, arith, slice_index, length-drop, OccursAt, is_byte, plain, plain_of, length-plain, is_text, IsCut, IsReached, Comes, first_match_from, []}
+use Rattle.ansi_search.proofs.Common.{◌≡◌, ◌≤◌, drop, length, sym, ◌∙◌, ap, ap₂, subst, arith, slice_index, length-drop, OccursAt, is_byte, plain, plain_of, length-plain, kind_is_text, IsCut, IsReached, IsWindow, first_match_from, []}
 use Rattle.ansi_search.proofs.WindowLemmas.{none-past, none-without, run-occurs, run-left, run-length, reached-then, comes-then, reached-match, reached-end}
 use Rattle.ansi_search.proofs.search.matches.find_across.Goals as goal
 
@@ -36,15 +36,15 @@ loop-item-preserved-then-eq c =
     let gives = c.in-Some.ensures.steps in
     let is = c.as_bytes-run.ensures.value ∙ c.range.ensures.value in
     let x = plain c.args.text.now in
-    let occurs = run-occurs x c.loop-item.place gives so_far.text (is_text c.if-eq.ensures) so_far.left is so_far.within in
+    let occurs = run-occurs x c.loop-item.place gives so_far.text (kind_is_text c.if-eq.ensures) so_far.left is so_far.within in
     let size = run-length gives so_far.text in
     record {
       text = gives.text ∙ so_far.text;
-      left = run-left x c.loop-item.place gives so_far.text (is_text c.if-eq.ensures) so_far.left is;
+      left = run-left x c.loop-item.place gives so_far.text (kind_is_text c.if-eq.ensures) so_far.left is;
       within = occurs.fits;
-      comes = comes-then so_far.comes.reached c.in-Open.ensures.0;
-      read = c.in-Open.ensures.1;
-      ahead = λ j low high. c.in-Open.ensures.2 j (omega (arith, low, gives.start, gives.end, gives.forward, size, ap length is)) high;
+      comes = comes-then so_far.comes.reached c.in-NoMatchYet.ensures.0;
+      read = c.in-NoMatchYet.ensures.1;
+      ahead = λ j low high. c.in-NoMatchYet.ensures.2 j (omega (arith, low, gives.start, gives.end, gives.forward, size, ap length is)) high;
     }
 
 -- nothing is left
@@ -55,4 +55,4 @@ returns c =
     let place = c.loop-item.place in
     let rest : drop place x ≡ [] = sym so_far.left ∙ ap plain_of c.in-None.ensures.steps.2 in
     let end : place ≡ length x = omega (arith, ap length rest, length-drop place x, so_far.within) in
-    reached-end c.requires.some (subst (λ q. Comes c.args.text.now q c.new-pattern.result.cut.at c.args.from c.loop-item.window) c.new-pattern.ensures so_far.comes) (omega (arith, end, so_far.read))
+    reached-end c.requires.some (subst (λ q. IsWindow c.args.text.now q c.new-pattern.result.cut.at c.args.from c.loop-item.window) c.new-pattern.ensures so_far.comes) (omega (arith, end, so_far.read))

@@ -1,12 +1,12 @@
-use Rattle.ansi_search.proofs.Common.{◌+◌, refl, sym, ◌∙◌, ap, is_text, apply-no_sgr}
-use Rattle.ansi_search.proofs.OffsetLemmas.{over_text, over_mark, is_other, way-text, way-mark, way-last, way-test}
+use Rattle.ansi_search.proofs.Common.{◌+◌, refl, sym, ◌∙◌, ap, kind_is_text, apply-no_sgr}
+use Rattle.ansi_search.proofs.OffsetLemmas.{over_text, over_mark, kind_differs, way-text, way-mark, way-last, way-test}
 use Rattle.ansi_search.proofs.search.offsets.walk_to.Goals as goal
 
 -- over a text
 pub loop-item-preserved-then-eq : goal.loop-item-preserved-then-eq
 loop-item-preserved-then-eq c =
     let gives = c.in-Some.ensures.steps in
-    let over = over_text gives c.loop-item.invariant.text c.range-piece.ensures.value (is_text c.if-eq.ensures) in
+    let over = over_text gives c.loop-item.invariant.text c.range-piece.ensures.value (kind_is_text c.if-eq.ensures) in
     record {
       text = gives.text ∙ c.loop-item.invariant.text;
       way = way-text c.loop-item.invariant.way over c.if-remaining-piece.false refl;
@@ -16,7 +16,7 @@ loop-item-preserved-then-eq c =
 pub loop-item-preserved-then-eq-2 : goal.loop-item-preserved-then-eq-2
 loop-item-preserved-then-eq-2 c =
     let gives = c.in-Some.ensures.steps in
-    let over = over_mark gives c.loop-item.invariant.text c.range-piece.ensures.value (is_other c.if-eq.ensures) in
+    let over = over_mark gives c.loop-item.invariant.text c.range-piece.ensures.value (kind_differs c.if-eq.ensures) in
     record {
       text = gives.text ∙ c.loop-item.invariant.text;
       way = way-mark c.loop-item.invariant.way over c.apply.ensures;
@@ -27,10 +27,10 @@ pub loop-item-preserved : goal.loop-item-preserved
 loop-item-preserved c =
     let w = c.range-piece.result.now in
     let gives = c.in-Some.ensures.steps in
-    let over = over_mark gives c.loop-item.invariant.text c.range-piece.ensures.value (is_other c.if-eq.ensures) in
+    let over = over_mark gives c.loop-item.invariant.text c.range-piece.ensures.value (kind_differs c.if-eq.ensures) in
     record {
       text = gives.text ∙ c.loop-item.invariant.text;
-      way = way-mark c.loop-item.invariant.way over (sym (apply-no_sgr _ w (over.first.no_sgr (is_other c.if-eq-2.ensures))));
+      way = way-mark c.loop-item.invariant.way over (sym (apply-no_sgr _ w (over.first.no_sgr (kind_differs c.if-eq-2.ensures))));
     }
 
 -- the position stands in a text, at a boundary or not
@@ -38,7 +38,7 @@ loop-item-preserved c =
 pub returns-then-not-is_char_boundary-clause-offset : goal.returns-then-not-is_char_boundary-clause-offset
 returns-then-not-is_char_boundary-clause-offset c =
     let gives = c.in-Some.ensures.steps in
-    let over = over_text gives c.loop-item.invariant.text c.range-piece.ensures.value (is_text c.if-eq.ensures) in
+    let over = over_text gives c.loop-item.invariant.text c.range-piece.ensures.value (kind_is_text c.if-eq.ensures) in
     sym (way-test c.loop-item.invariant.way over c.if-remaining-piece.true (ap (λ n. n + c.loop-item.remaining) gives.start) c.is_char_boundary.ensures.test)
     ∙ c.if-not-is_char_boundary.true
 
@@ -46,7 +46,7 @@ pub returns-then-remaining-piece-clause-offset : goal.returns-then-remaining-pie
 returns-then-remaining-piece-clause-offset c =
     let gives = c.in-Some.ensures.steps in
     let at = ap (λ n. n + c.loop-item.remaining) gives.start in
-    let over = over_text gives c.loop-item.invariant.text c.range-piece.ensures.value (is_text c.if-eq.ensures) in
+    let over = over_text gives c.loop-item.invariant.text c.range-piece.ensures.value (kind_is_text c.if-eq.ensures) in
     record {
       good = sym (way-test c.loop-item.invariant.way over c.if-remaining-piece.true at c.is_char_boundary.ensures.test)
           ∙ c.if-not-is_char_boundary.false;
@@ -56,5 +56,5 @@ returns-then-remaining-piece-clause-offset c =
 
 pub returns-then-remaining-piece-clause-style : goal.returns-then-remaining-piece-clause-style
 returns-then-remaining-piece-clause-style c =
-    let over = over_text c.in-Some.ensures.steps c.loop-item.invariant.text c.range-piece.ensures.value (is_text c.if-eq.ensures) in
+    let over = over_text c.in-Some.ensures.steps c.loop-item.invariant.text c.range-piece.ensures.value (kind_is_text c.if-eq.ensures) in
     (way-last c.loop-item.invariant.way over c.if-remaining-piece.true).1

@@ -8,11 +8,11 @@ pub returns-then-not-starts_with : goal.returns-then-not-starts_with
 returns-then-not-starts_with c =
     let rest = c.loop-wanted.rest.now in
     let wanted = c.loop-wanted.wanted.now in
-    let run = c.first_run.result.0.now in
-    let after = c.first_run.result.1.now in
+    let run = c.run_front.result.0.now in
+    let after = c.run_front.result.1.now in
     let front = slice_range run c.min.result (length run) in
     let tail = starts_with nat_eq (drop (c.loop-wanted.before - length run) (plain after)) (drop (length front) wanted) in
-    let given = c.first_run.ensures in
+    let given = c.run_front.ensures in
     let inside : length rest ≤ 2 ^ 64 - 1 = omega (arith, c.loop-wanted.invariant.within, c.well_formed.0.0) in
     let met = starts_with-run (plain rest) run (plain after) wanted front c.loop-wanted.before c.saturating_add.result (2 ^ 64 - 1) c.saturating_add.ensures
     (omega (arith, length-plain rest, inside)) (omega (arith, length-plain after, given.within, inside)) given.front given.most (slice_range-rest run c.loop-wanted.before c.min.result c.min.ensures) in
@@ -23,11 +23,11 @@ pub loop-wanted-preserved : goal.loop-wanted-preserved
 loop-wanted-preserved c =
     let rest = c.loop-wanted.rest.now in
     let wanted = c.loop-wanted.wanted.now in
-    let run = c.first_run.result.0.now in
-    let after = c.first_run.result.1.now in
+    let run = c.run_front.result.0.now in
+    let after = c.run_front.result.1.now in
     let front = slice_range run c.min.result (length run) in
     let tail = starts_with nat_eq (drop (c.loop-wanted.before - length run) (plain after)) (drop (length front) wanted) in
-    let given = c.first_run.ensures in
+    let given = c.run_front.ensures in
     let inside : length rest ≤ 2 ^ 64 - 1 = omega (arith, c.loop-wanted.invariant.within, c.well_formed.0.0) in
     let met = starts_with-run (plain rest) run (plain after) wanted front c.loop-wanted.before c.saturating_add.result (2 ^ 64 - 1) c.saturating_add.ensures
     (omega (arith, length-plain rest, inside)) (omega (arith, length-plain after, given.within, inside)) given.front given.most (slice_range-rest run c.loop-wanted.before c.min.result c.min.ensures) in

@@ -1,5 +1,5 @@
-use Rattle.ansi_slice.proofs.Common.{◌≡◌, ◌+◌, refl, ◌∙◌, ap, string_bytes, is_text, plain_style, apply}
-use Rattle.ansi_search.proofs.OffsetLemmas.{over_text, over_mark, is_other, way-begin, way-text, way-mark, way-last, way-boundary}
+use Rattle.ansi_slice.proofs.Common.{◌≡◌, ◌+◌, refl, ◌∙◌, ap, string_bytes, kind_is_text, plain_style, apply}
+use Rattle.ansi_search.proofs.OffsetLemmas.{over_text, over_mark, kind_differs, way-begin, way-text, way-mark, way-last, way-boundary}
 use Rattle.ansi_slice.proofs.StretchLemmas.{pushed-begin, pushed-text, pushed-mark, pushed-last}
 use Rattle.ansi_slice.proofs.slice.sequences.push_sequences.Goals as goal
 
@@ -16,7 +16,7 @@ loop-item-init g c =
 pub loop-item-preserved-then-eq : goal.loop-item-preserved-then-eq
 loop-item-preserved-then-eq g c =
     let gives = c.in-Some.ensures.steps in
-    let over = over_text gives c.loop-item.invariant.text c.range-piece.ensures.value (is_text c.if-eq.ensures) in
+    let over = over_text gives c.loop-item.invariant.text c.range-piece.ensures.value (kind_is_text c.if-eq.ensures) in
     let way = c.loop-item.invariant.way in
     record {
       text = gives.text ∙ c.loop-item.invariant.text;
@@ -28,7 +28,7 @@ loop-item-preserved-then-eq g c =
 pub loop-item-preserved : goal.loop-item-preserved
 loop-item-preserved g c =
     let gives = c.in-Some.ensures.steps in
-    let over = over_mark gives c.loop-item.invariant.text c.range-piece.ensures.value (is_other c.if-eq.ensures) in
+    let over = over_mark gives c.loop-item.invariant.text c.range-piece.ensures.value (kind_differs c.if-eq.ensures) in
     let way = c.loop-item.invariant.way in
     record {
       text = gives.text ∙ c.loop-item.invariant.text;
@@ -40,14 +40,14 @@ loop-item-preserved g c =
 
 pub returns-then-remaining-piece-clause-bytes : goal.returns-then-remaining-piece-clause-bytes
 returns-then-remaining-piece-clause-bytes g c =
-    let over = over_text c.in-Some.ensures.steps c.loop-item.invariant.text c.range-piece.ensures.value (is_text c.if-eq.ensures) in
+    let over = over_text c.in-Some.ensures.steps c.loop-item.invariant.text c.range-piece.ensures.value (kind_is_text c.if-eq.ensures) in
     pushed-last c.loop-item.invariant.so_far over.first c.if-remaining-piece.true
 
 pub returns-then-remaining-piece-clause-offset : goal.returns-then-remaining-piece-clause-offset
 returns-then-remaining-piece-clause-offset g c =
     let gives = c.in-Some.ensures.steps in
     let at = ap (λ n. n + c.loop-item.remaining) gives.start in
-    let over = over_text gives c.loop-item.invariant.text c.range-piece.ensures.value (is_text c.if-eq.ensures) in
+    let over = over_text gives c.loop-item.invariant.text c.range-piece.ensures.value (kind_is_text c.if-eq.ensures) in
     let way = c.loop-item.invariant.way.1 in
     record {
       good = c.requires;

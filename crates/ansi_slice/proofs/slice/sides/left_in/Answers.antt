@@ -9,7 +9,7 @@ returns-clause-bytes g c =
     c.in_ok-write_side.ensures.bytes ∙ ap₂ (λ v r. v ++ side_up_to r c.args.mid (pieces_of t)) c.new-left.ensures.bytes c.plain_style-style.ensures ∙ sym (left_side-is t c.args.mid)
 
 pub returns-then-not-has_any-clause-len : goal.returns-then-not-has_any-clause-len
-returns-then-not-has_any-clause-len g c = omega (arith, ap length c.halves.ensures.left, length-sides c.args.text.now c.args.mid)
+returns-then-not-has_any-clause-len g c = omega (arith, ap length c.bare_sides.ensures.left, length-sides c.args.text.now c.args.mid)
 
 pub returns-clause-len : goal.returns-clause-len
 returns-clause-len g c = omega (arith, ap length (returns-clause-bytes g c), length-sides c.args.text.now c.args.mid)

@@ -5,8 +5,8 @@ use Rattle.ansi_slice.proofs.slice.sides.split_at_in.Goals as goal
 
 -- where the text may be divided its plain text may be
 
-pub halves-requires-clause-good : goal.halves-requires-clause-good
-halves-requires-clause-good g c = sym (is_position_in-good c.args.text.now c.args.mid c.utf8.text) ∙ c.requires
+pub bare_sides-requires-clause-good : goal.bare_sides-requires-clause-good
+bare_sides-requires-clause-good g c = sym (is_position_in-good c.args.text.now c.args.mid c.utf8.text) ∙ c.requires
 
 pub write_sides-requires : goal.write_sides-requires
 write_sides-requires g c = sym (is_position_in-good c.args.text.now c.args.mid c.utf8.text) ∙ c.requires
@@ -17,8 +17,8 @@ pub returns-then-not-has_any-clause-len : goal.returns-then-not-has_any-clause-l
 returns-then-not-has_any-clause-len g c =
     omega (
       arith,
-      ap length c.halves.ensures.left,
-      ap length c.halves.ensures.right,
+      ap length c.bare_sides.ensures.left,
+      ap length c.bare_sides.ensures.right,
       length-sides c.args.text.now c.args.mid,
     )
 

@@ -1,5 +1,5 @@
-use Rattle.ansi_slice.proofs.Common.{◌+◌, refl, ◌∙◌, ap, is_text}
-use Rattle.ansi_search.proofs.OffsetLemmas.{over_text, over_mark, is_other, way-text, way-mark, way-last, way-boundary}
+use Rattle.ansi_slice.proofs.Common.{◌+◌, refl, ◌∙◌, ap, kind_is_text}
+use Rattle.ansi_search.proofs.OffsetLemmas.{over_text, over_mark, kind_differs, way-text, way-mark, way-last, way-boundary}
 use Rattle.ansi_slice.proofs.SideWalkLemmas.{side-text, side-mark}
 use Rattle.ansi_slice.proofs.slice.sides.write_side.Goals as goal
 
@@ -7,7 +7,7 @@ use Rattle.ansi_slice.proofs.slice.sides.write_side.Goals as goal
 pub loop-item-preserved-then-eq : goal.loop-item-preserved-then-eq
 loop-item-preserved-then-eq g c =
     let gives = c.in-Some.ensures.steps in
-    let over = over_text gives c.loop-item.invariant.text c.range-piece.ensures.value (is_text c.if-eq.ensures) in
+    let over = over_text gives c.loop-item.invariant.text c.range-piece.ensures.value (kind_is_text c.if-eq.ensures) in
     record {
       text = gives.text ∙ c.loop-item.invariant.text;
       way = way-text c.loop-item.invariant.way over c.if-remaining-piece.false refl;
@@ -18,7 +18,7 @@ loop-item-preserved-then-eq g c =
 pub loop-item-preserved : goal.loop-item-preserved
 loop-item-preserved g c =
     let gives = c.in-Some.ensures.steps in
-    let over = over_mark gives c.loop-item.invariant.text c.range-piece.ensures.value (is_other c.if-eq.ensures) in
+    let over = over_mark gives c.loop-item.invariant.text c.range-piece.ensures.value (kind_differs c.if-eq.ensures) in
     record {
       text = gives.text ∙ c.loop-item.invariant.text;
       way = way-mark c.loop-item.invariant.way over c.write_mark.ensures.style;
@@ -29,14 +29,14 @@ loop-item-preserved g c =
 
 pub returns-then-remaining-piece-clause-style : goal.returns-then-remaining-piece-clause-style
 returns-then-remaining-piece-clause-style g c =
-    let over = over_text c.in-Some.ensures.steps c.loop-item.invariant.text c.range-piece.ensures.value (is_text c.if-eq.ensures) in
+    let over = over_text c.in-Some.ensures.steps c.loop-item.invariant.text c.range-piece.ensures.value (kind_is_text c.if-eq.ensures) in
     (way-last c.loop-item.invariant.way over c.if-remaining-piece.true).1
 
 pub returns-then-remaining-piece-clause-offset : goal.returns-then-remaining-piece-clause-offset
 returns-then-remaining-piece-clause-offset g c =
     let gives = c.in-Some.ensures.steps in
     let at = ap (λ n. n + c.loop-item.remaining) gives.start in
-    let over = over_text gives c.loop-item.invariant.text c.range-piece.ensures.value (is_text c.if-eq.ensures) in
+    let over = over_text gives c.loop-item.invariant.text c.range-piece.ensures.value (kind_is_text c.if-eq.ensures) in
     record {
       good = c.requires;
       offset = at ∙ (way-last c.loop-item.invariant.way over c.if-remaining-piece.true).0;

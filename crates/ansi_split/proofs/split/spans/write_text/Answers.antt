@@ -1,4 +1,4 @@
-use Rattle.ansi_split.proofs.Common.{rules, ◌≡◌, ℕ, List, ◌++◌, if◌then◌else◌, string_bytes, sym, refl, ◌∙◌, ap, subst, arith, IsCharBoundary, is_text, gives_text, gives_mark, over_text}
+use Rattle.ansi_split.proofs.Common.{rules, ◌≡◌, ℕ, List, ◌++◌, if◌then◌else◌, string_bytes, sym, refl, ◌∙◌, ap, subst, arith, IsCharBoundary, kind_is_text, gives_text, gives_mark, over_text}
 use Rattle.std.specs.Prelude.{Result, Ok, Err}
 use Rattle.std.specs.Result.{OnOk, is_ok}
 use Rattle.ansi_split.proofs.SpanWalkLemmas.{shown-bare, boundary-bare, shown-mark, shown-skip, shown-rest, shown-boundary}
@@ -22,7 +22,7 @@ pub range_from-requires-then-skip-piece : goal.range_from-requires-then-skip-pie
 range_from-requires-then-skip-piece g c =
     let t = c.args.text.now in
     let gives = c.in-Some.ensures.steps in
-    let over = over_text gives c.loop-item.invariant.text c.range-piece.ensures.value (is_text c.if-eq.ensures) in
+    let over = over_text gives c.loop-item.invariant.text c.range-piece.ensures.value (kind_is_text c.if-eq.ensures) in
     let boundary : IsCharBoundary t c.next.new.self.offset = subst (λ v. IsCharBoundary v c.next.new.self.offset) c.loop-item.invariant.text (subst (IsCharBoundary c.loop-item.item-iterator.text) gives.end gives.end_boundary) in
     λ some. shown-boundary c.loop-item.skip c.loop-item.invariant.so_far.good over (omega arith) gives.start boundary
 
@@ -30,7 +30,7 @@ range_from-requires-then-skip-piece g c =
 pub returns-then-skip-piece : goal.returns-then-skip-piece
 returns-then-skip-piece g c =
     let gives = c.in-Some.ensures.steps in
-    let over = over_text gives c.loop-item.invariant.text c.range-piece.ensures.value (is_text c.if-eq.ensures) in
+    let over = over_text gives c.loop-item.invariant.text c.range-piece.ensures.value (kind_is_text c.if-eq.ensures) in
     shown-rest c.loop-item.invariant.so_far over (omega arith) gives.start c.range_from-then-skip-piece.ensures.value c.in_ok-push_str.ensures.bytes
 
 -- over a text that is left out
@@ -40,7 +40,7 @@ loop-item-preserved-then-eq g c =
     let same = c.loop-item.invariant.text in
     record {
       text = gives.text ∙ same;
-      so_far = shown-skip c.loop-item.invariant.so_far (gives_text gives same c.range-piece.ensures.value (is_text c.if-eq.ensures)) (omega arith) refl;
+      so_far = shown-skip c.loop-item.invariant.so_far (gives_text gives same c.range-piece.ensures.value (kind_is_text c.if-eq.ensures)) (omega arith) refl;
     }
 
 -- over a sequence, or a lone escape

@@ -14,4 +14,4 @@ pub returns-clause-borrowed : goal.returns-clause-borrowed
 returns-clause-borrowed g c = read_by_index (λ (q : SplitPart). q.borrowed) (split_part c.args.text.now c.args.pat.now) _ c.split_in.ensures.parts
 
 pub returns-clause-shares : goal.returns-clause-shares
-returns-clause-shares g c = read_by_index (λ (q : SplitPart). q.share) (split_part c.args.text.now c.args.pat.now) _ c.split_in.ensures.parts
+returns-clause-shares g c = read_by_index (λ (q : SplitPart). q.source_len) (split_part c.args.text.now c.args.pat.now) _ c.split_in.ensures.parts

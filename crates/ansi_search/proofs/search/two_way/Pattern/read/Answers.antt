@@ -1,4 +1,4 @@
-use Rattle.ansi_search.proofs.Common.{◌≤◌, ◌+◌, length, sym, ◌∙◌, arith, plain, length-plain, IsCut, IsApart}
+use Rattle.ansi_search.proofs.Common.{◌≤◌, ◌+◌, length, sym, ◌∙◌, arith, plain, length-plain, IsCut, IsMismatch}
 use Rattle.ansi_search.proofs.WindowLemmas.{comes-then, ahead-later, meets-from, meets-last, stands-both, apart-both}
 use Rattle.ansi_search.proofs.search.two_way.Pattern.read.Goals as goal
 
@@ -31,7 +31,7 @@ loop-window-preserved c =
     let is_cut : IsCut p cut = c.args.self.now.is_cut in
     let last : length p ≤ w.met + 1 = omega (arith, c.if-window-self.false) in
     let meets = meets-last c.args.run.now c.args.here.position comes c.requires.run c.loop-window.invariant.place c.loop-window-test.true c.if-run-at.false last in
-    let apart : IsApart t p cut.at c.args.window.position (record { position = w.position; low = w.low; met = w.met; point = c.point_before-window.result; next = w.next }) = record {
+    let apart : IsMismatch t p cut.at c.args.window.position (record { position = w.position; low = w.low; met = w.met; point = c.point_before-window.result; next = w.next }) = record {
       reached = comes.reached;
       point = c.point_before-window.ensures;
       meets = meets-from (plain t) p w.position w.low cut.at (length p) comes.low meets;

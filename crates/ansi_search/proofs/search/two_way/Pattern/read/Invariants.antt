@@ -1,12 +1,12 @@
-use Rattle.ansi_search.proofs.Common.{◌≤◌, ◌+◌, ◌-◌, length, ◌*◌, Comes, IsAhead}
+use Rattle.ansi_search.proofs.Common.{◌≤◌, ◌+◌, ◌-◌, length, ◌*◌, IsWindow, LacksRareByte}
 use Rattle.ansi_search.proofs.search.two_way.Pattern.read.Given as goal
 
 -- the search has come up to the window
 abbrev pub invariant-loop-window : goal.invariant-loop-window
 invariant-loop-window l = record {
-  comes : Comes l.text l.self.bytes.now l.self.cut.at l.initial.window.position l.window;
+  comes : IsWindow l.text l.self.bytes.now l.self.cut.at l.initial.window.position l.window;
   place : l.here.position ≤ l.window.position + l.window.met;
-  ahead : IsAhead l.text l.self.bytes.now l.self.rare l.here l.window;
+  ahead : LacksRareByte l.text l.self.bytes.now l.self.rare l.here l.window;
 }
 
 -- one more place of the run is read, or the window moves on

@@ -8,8 +8,8 @@ invariant_of-result c =
     let s = c.args.self.now in
     let start = c.next_start-start.result in
     rw c.split_at.ensures.back (record {
-      run_ends = boundary-drop s.text.now start s.run (omega arith) s.run_ends;
-      run_is_plain = no_escape-drop s.text.now start s.run s.run_is_plain;
+      run_ends = boundary-drop s.text.now start s.run_len (omega arith) s.run_ends;
+      run_is_plain = no_escape-drop s.text.now start s.run_len s.run_is_plain;
     })
 
 -- the front is a part of the run
@@ -17,9 +17,9 @@ pub returns-then-start-self : goal.returns-then-start-self
 returns-then-start-self c =
     let s = c.args.self.now in
     let start = c.next_start-start.result in
-    let before : start ≤ s.run = omega arith in
+    let before : start ≤ s.run_len = omega arith in
     record {
       rest = rw (c.split_at.ensures.front, c.split_at.ensures.back) (c.next_start-start.ensures.cut c.if-start-self.true);
-      marked = rw c.split_at.ensures.front (unmarked-run s.text.now start s.run before s.run_is_plain);
-      style = rw c.split_at.ensures.front (style-run (rendition_of c.args.style.now) s.text.now start s.run before s.run_is_plain);
+      marked = rw c.split_at.ensures.front (unmarked-run s.text.now start s.run_len before s.run_is_plain);
+      style = rw c.split_at.ensures.front (style-run (rendition_of c.args.style.now) s.text.now start s.run_len before s.run_is_plain);
     }

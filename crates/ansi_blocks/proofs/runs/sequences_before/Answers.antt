@@ -1,14 +1,14 @@
 use Rattle.ansi_blocks.proofs.Common.{rules, ◌≡◌, ◌∙◌, ap, gives_mark}
-use Rattle.ansi_blocks.proofs.BlockLemmas.{waiting-front}
+use Rattle.ansi_blocks.proofs.BlockLemmas.{sequences_before-front}
 use Rattle.ansi_blocks.proofs.BlockWalkLemmas.{joined-other}
-use Rattle.ansi_blocks.proofs.runs.waiting.Goals as goal
+use Rattle.ansi_blocks.proofs.runs.sequences_before.Goals as goal
 
 pub loop-item-init : goal.loop-item-init
 loop-item-init g c =
     let begins : c.into_iter-item-iterator.result ≡ record { text = c.args.text.now; offset = 0 } = c.into_iter-item-iterator.ensures.into_iter_gives ∙ c.new-item-items.ensures.start in
     record {
       text = ap (λ s. s.text) begins;
-      so_far = rw (c.new-joined.ensures.bytes, begins) (record { bytes = rw (waiting-front c.args.text.now) });
+      so_far = rw (c.new-joined.ensures.bytes, begins) (record { bytes = rw (sequences_before-front c.args.text.now) });
     }
 
 -- over another sequence, or a lone escape

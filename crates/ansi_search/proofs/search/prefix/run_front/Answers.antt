@@ -2,7 +2,7 @@ use Rattle.ansi_search.proofs.Common.{◌<◌, ◌++◌, length, take, sym, ◌�
 use Rattle.ansi_search.proofs.MatchLemmas.{no_escape-found}
 use Rattle.ansi_items.proofs.JoinLemmas.{plain-front}
 use Rattle.ansi_search.proofs.PrefixLemmas.{front-bare, bare_before}
-use Rattle.ansi_search.proofs.search.prefix.first_run.Goals as goal
+use Rattle.ansi_search.proofs.search.prefix.run_front.Goals as goal
 
 pub returns-in-Some-clause-front : goal.returns-in-Some-clause-front
 returns-in-Some-clause-front c =

@@ -1,6 +1,6 @@
 use Rattle.ansi_slice.proofs.Common.{◌≡◌, pieces_left}
 use Rattle.ansi_slice.proofs.TrimWalkLemmas.{IsSolidSoFar}
-use Rattle.ansi_slice.proofs.slice.white_space.solid_end.Given as goal
+use Rattle.ansi_slice.proofs.slice.white_space.end_before_white_space.Given as goal
 
 -- the end is ahead or, where white space alone is left, it is the one so far
 abbrev pub invariant-loop-item : goal.invariant-loop-item

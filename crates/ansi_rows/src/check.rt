@@ -5,7 +5,7 @@ use std::borrow::CowStr;
 
 /// A row whose call is made in several ways, one after another.
 #[derive(Drop)]
-pub struct Trial<'r> {
+pub struct Check<'r> {
     pub alloc: Global,
     pub row: Row<'r>,
     /// The current way to make the call.
@@ -21,9 +21,9 @@ pub struct Trial<'r> {
     pub fault: Option<String>,
 }
 
-impl<'r> Trial<'r> {
+impl<'r> Check<'r> {
     pub fn new(alloc: Global, row: Row<'r>) -> Self {
-        Trial {
+        Check {
             alloc,
             row,
             way: "",
@@ -45,9 +45,9 @@ impl<'r> Trial<'r> {
     }
 
     /// Records a difference from the row, unless one is recorded already.
-    pub fn refute(&mut self, said: &str) {
+    pub fn fail(&mut self, found: &str) {
         if self.fault.is_none() {
-            let fault = format!(in self.alloc; "{}: {said:?}", self.way);
+            let fault = format!(in self.alloc; "{}: {found:?}", self.way);
             self.fault = Some(fault.unwrap_or(String::new(self.alloc)));
         }
     }
@@ -56,7 +56,7 @@ impl<'r> Trial<'r> {
     pub fn text(&mut self, text: &str) {
         match self.gives.split_first() {
             Some((given, rest)) if given.as_str() == text => self.gives = rest,
-            _ => self.refute(text),
+            _ => self.fail(text),
         }
     }
 
@@ -64,7 +64,7 @@ impl<'r> Trial<'r> {
     pub fn written(&mut self, written: Result<String, AllocError>) {
         match written {
             Ok(text) => self.text(text.as_str()),
-            Err(_) => self.refute("out of memory"),
+            Err(_) => self.fail("out of memory"),
         }
     }
 
@@ -73,7 +73,7 @@ impl<'r> Trial<'r> {
         let letter = if is_borrow { "b" } else { "o" };
         match self.borrows.strip_prefix(letter) {
             Some(rest) => self.borrows = rest,
-            None => self.refute(letter),
+            None => self.fail(letter),
         }
     }
 
@@ -90,16 +90,16 @@ impl<'r> Trial<'r> {
     }
 
     /// The call returned a number, or that there is none.
-    pub fn told(&mut self, told: Option<usize>) {
-        match told {
+    pub fn number_or_none(&mut self, returned: Option<usize>) {
+        match returned {
             Some(number) => self.written(number.to_string(self.alloc)),
             None => self.none("1"),
         }
     }
 
     /// The call returned an interval, or that there is none.
-    pub fn interval(&mut self, told: Option<(usize, usize)>) {
-        match told {
+    pub fn interval(&mut self, number_or_none: Option<(usize, usize)>) {
+        match number_or_none {
             Some((start, end)) => self.written(format!(in self.alloc; "{start},{end}")),
             None => self.none("1"),
         }
@@ -107,7 +107,7 @@ impl<'r> Trial<'r> {
 
     /// The call returned the result of a test. A row has 0 if the test holds.
     pub fn test(&mut self, is_so: bool) {
-        self.told(is_so.then_some(0));
+        self.number_or_none(is_so.then_some(0));
     }
 
     fn cow<A: Allocator>(&mut self, text: &CowStr<'_, A>) {
@@ -118,7 +118,7 @@ impl<'r> Trial<'r> {
     }
 
     /// The result of a call that returns a text.
-    pub fn hear<A: Allocator>(&mut self, answer: Result<CowStr<'_, A>, AllocError>) {
+    pub fn text_or_err<A: Allocator>(&mut self, answer: Result<CowStr<'_, A>, AllocError>) {
         match answer {
             Ok(text) => self.cow(&text),
             Err(_) => self.is_err = true,
@@ -126,7 +126,7 @@ impl<'r> Trial<'r> {
     }
 
     /// The result of a call that may return a text.
-    pub fn hear_option<A: Allocator>(
+    pub fn option_or_err<A: Allocator>(
         &mut self,
         answer: Result<Option<CowStr<'_, A>>, AllocError>,
         none: &'static str,
@@ -139,7 +139,7 @@ impl<'r> Trial<'r> {
     }
 
     /// The result of a call that returns two texts.
-    pub fn hear_sides<A: Allocator>(
+    pub fn sides_or_err<A: Allocator>(
         &mut self,
         answer: Result<(CowStr<'_, A>, CowStr<'_, A>), AllocError>,
     ) {
@@ -155,10 +155,10 @@ impl<'r> Trial<'r> {
     /// The call is complete. Its results have to be all that the row has.
     pub fn end(&mut self) {
         if self.is_err || self.status != self.row.status {
-            self.refute(if self.is_err { "an error" } else { self.status });
+            self.fail(if self.is_err { "an error" } else { self.status });
         }
         if !self.borrows.is_empty() || !self.gives.is_empty() {
-            self.refute("too little");
+            self.fail("too little");
         }
     }
 
@@ -166,7 +166,7 @@ impl<'r> Trial<'r> {
     /// it have to agree with the row.
     pub fn end_refused(&mut self) {
         if !self.is_err {
-            self.refute("no error");
+            self.fail("no error");
         }
     }
 }

@@ -1,13 +1,13 @@
-use Rattle.ansi_slice.proofs.Common.{refl, sym, ◌∙◌, arith, eqb-true, eqb-false, is_text}
-use Rattle.ansi_search.proofs.OffsetLemmas.{over_text, over_mark, is_other}
+use Rattle.ansi_slice.proofs.Common.{refl, sym, ◌∙◌, arith, eqb-true, eqb-false, kind_is_text}
+use Rattle.ansi_search.proofs.OffsetLemmas.{over_text, over_mark, kind_differs}
 use Rattle.ansi_slice.proofs.TrimWalkLemmas.{solid-white, solid-other, solid-mark, solid-end}
-use Rattle.ansi_slice.proofs.slice.white_space.solid_end.Goals as goal
+use Rattle.ansi_slice.proofs.slice.white_space.end_before_white_space.Goals as goal
 
 -- over a text that is not white space alone
 pub loop-item-preserved-then-not-is_empty : goal.loop-item-preserved-then-not-is_empty
 loop-item-preserved-then-not-is_empty c =
     let gives = c.in-Some.ensures.steps in
-    let over = over_text gives c.loop-item.invariant.text c.range-run.ensures.value (is_text c.if-eq.ensures) in
+    let over = over_text gives c.loop-item.invariant.text c.range-run.ensures.value (kind_is_text c.if-eq.ensures) in
     record {
       text = gives.text ∙ c.loop-item.invariant.text;
       so_far = rw gives.start
@@ -19,7 +19,7 @@ loop-item-preserved-then-not-is_empty c =
 pub loop-item-preserved-else-not-is_empty : goal.loop-item-preserved-else-not-is_empty
 loop-item-preserved-else-not-is_empty c =
     let gives = c.in-Some.ensures.steps in
-    let over = over_text gives c.loop-item.invariant.text c.range-run.ensures.value (is_text c.if-eq.ensures) in
+    let over = over_text gives c.loop-item.invariant.text c.range-run.ensures.value (kind_is_text c.if-eq.ensures) in
     record {
       text = gives.text ∙ c.loop-item.invariant.text;
       so_far = solid-white c.loop-item.invariant.so_far over c.trim_end-front.ensures.trim c.range-run.utf8 (eqb-true _ 0 (sym c.is_empty.ensures ∙ c.if-not-is_empty.false));
@@ -31,7 +31,7 @@ loop-item-preserved c =
     let gives = c.in-Some.ensures.steps in
     record {
       text = gives.text ∙ c.loop-item.invariant.text;
-      so_far = solid-mark c.loop-item.invariant.so_far (over_mark gives c.loop-item.invariant.text refl (is_other c.if-eq.ensures));
+      so_far = solid-mark c.loop-item.invariant.so_far (over_mark gives c.loop-item.invariant.text refl (kind_differs c.if-eq.ensures));
     }
 
 pub returns : goal.returns

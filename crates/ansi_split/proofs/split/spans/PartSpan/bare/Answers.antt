@@ -2,10 +2,10 @@ use Rattle.ansi_split.proofs.Common.{◌≡◌, ◌≤◌, ◌==◌, false, IsFa
 use Rattle.ansi_split.proofs.SpanWalkLemmas.{boundary-bare}
 use Rattle.ansi_split.proofs.SplitLemmas.{IsBare, owned-escape, owned-styled, bare-empty, bare-unstyled}
 use Rattle.ansi_split.proofs.PartLengthLemmas.{length-span_part}
-use Rattle.ansi_split.proofs.split.spans.Span.bare.Goals as goal
-use Rattle.ansi_split.proofs.split.spans.Span.bare.Goals.{then-is_empty-via-then-is_empty, then-is_empty-via-else-is_empty+then-not-has_any}
+use Rattle.ansi_split.proofs.split.spans.PartSpan.bare.Goals as goal
+use Rattle.ansi_split.proofs.split.spans.PartSpan.bare.Goals.{then-is_empty-via-then-is_empty, then-is_empty-via-else-is_empty+then-not-has_any}
 
--- a part is its share of the text, a start and a close at most
+-- a part is at most as long as its source, a start and a close at most
 
 pub returns-then-self : goal.returns-then-self
 returns-then-self c =

@@ -1,6 +1,6 @@
 use Rattle.std.proofs.Common.{arith}
 use Rattle.ansi_split.proofs.SpanLemmas.{skip_at_front}
-use Rattle.ansi_split.proofs.split.spans.Spans.new.Goals as goal
+use Rattle.ansi_split.proofs.split.spans.PartSpans.new.Goals as goal
 
 -- no plain bytes are left out
 pub invariant_of-result : goal.invariant_of-result

@@ -1,8 +1,8 @@
 use Rattle.ansi_split.proofs.Common.{◌≡◌, ◌++◌, sym, ◌∙◌, ap, string_bytes, pieces_of, start, close, rendition_of, SplitPart, span_text}
 use Rattle.ansi_split.proofs.SplitLemmas.{bytes-owned}
 use Rattle.ansi_split.proofs.SpanWalkLemmas.{left_of, span-closed, span-open}
-use Rattle.ansi_split.proofs.split.spans.Span.written.Goals as goal
-use Rattle.ansi_split.proofs.split.spans.Span.written.Goals.{then-has_any+in_ok-write_close, else-has_any}
+use Rattle.ansi_split.proofs.split.spans.PartSpan.written.Goals as goal
+use Rattle.ansi_split.proofs.split.spans.PartSpan.written.Goals.{then-has_any+in_ok-write_close, else-has_any}
 
 -- the start, the text, and the close where the style has any
 pub returns : goal.returns

@@ -5,7 +5,7 @@ use Rattle.std.proofs.lemmas.Str.{IsCharBoundary-after_ascii}
 use Rattle.memchr.specs.Find.{IsFirstByte, is_byte}
 use Rattle.ansi_lines_runs.specs.Lines.{line_feed}
 use Rattle.ansi_lines_runs.proofs.LineLemmas.{lines-first, lines-last}
-use Rattle.ansi_lines_runs.proofs.lines.first_line.Goals as goal
+use Rattle.ansi_lines_runs.proofs.lines.split_first_line.Goals as goal
 
 -- a character begins after a line feed
 pub range_from-requires : goal.range_from-requires

@@ -1,8 +1,8 @@
 use Rattle.ansi_split.proofs.Common.{◌≡◌, ◌≤◌, ℕ, List, ◌∷◌, [], Option, Some, None, sym, ◌∙◌, ap, ap₂, subst, arith, max, length, IsTrue, if◌then◌else◌, MatchOption, plain, first_match_from, is_char_boundary, style_after_from, rendition_of, IsCutAtMatch, span_part, parts_left}
 use Rattle.ansi_split.specs.declared.split.rest.Rest.{Rest}
 use Rattle.ansi_split.proofs.SpanLemmas.{parts_left-last, parts_left-first, skip_in_front}
-use Rattle.ansi_split.proofs.split.spans.SpansIterator.next.Goals as goal
-use Rattle.ansi_split.proofs.split.spans.SpansIterator.next.Goals.{in-Some, in-None}
+use Rattle.ansi_split.proofs.split.spans.PartSpansIterator.next.Goals as goal
+use Rattle.ansi_split.proofs.split.spans.PartSpansIterator.next.Goals.{in-Some, in-None}
 
 -- where the plain bytes that are left out end, a character of the front does
 skip_in : (t p : List ℕ) (skip from : ℕ) (front : List ℕ) (r : Option Rest) → MatchOption r ((first_match_from (plain t) p from ≡ None) × (front ≡ t)) (λ rest. IsCutAtMatch t p from front rest.text.now)

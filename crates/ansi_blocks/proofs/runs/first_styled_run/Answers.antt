@@ -1,6 +1,6 @@
 use Rattle.ansi_blocks.proofs.Common.{rules, ◌≡◌, ◌∷◌, length, sym, ◌∙◌, ap, arith, Text, rendition_of, gives_text, gives_rest, gives_mark}
 use Rattle.ansi_blocks.proofs.BlockWalkLemmas.{run-begin, run-other, run-text}
-use Rattle.ansi_blocks.proofs.runs.first_run.Goals as goal
+use Rattle.ansi_blocks.proofs.runs.first_styled_run.Goals as goal
 
 pub loop-item-init : goal.loop-item-init
 loop-item-init c =

@@ -1,7 +1,7 @@
 use Rattle.ansi_slice.proofs.Common.{take, drop, sym, ◌∙◌, ap, take_min, drop_min, plain-bare, arith}
 use Rattle.ansi_search.proofs.PositionLemmas.{boundary_inside}
 use Rattle.ansi_slice.proofs.SideLemmas.{left_side-bare, right_side-bare}
-use Rattle.ansi_slice.proofs.slice.sides.halves.Goals as goal
+use Rattle.ansi_slice.proofs.slice.sides.bare_sides.Goals as goal
 
 -- a text without ESC is its own plain text, and its sides are slices
 
