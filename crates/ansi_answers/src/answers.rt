@@ -1,7 +1,8 @@
 //! The result of a call, and how a call writes into the caller's buffer.
 ghost use Rattle.std.specs.Prelude.{◌≡◌, option_map, MatchResult, string_bytes};
 ghost use Rattle.std.specs.Cow.{cow_str_bytes};
-ghost use Rattle.ansi_answers.specs.Answers.{done, failed, told, out_of_memory, HasFailed, IsWritten, IsFound};
+ghost use Rattle.ansi_answers.specs.Answers.{done, failed, told, out_of_memory, HasFailed};
+ghost use Rattle.ansi_answers.specs.Answers.{IsWritten, IsFound};
 
 use std::alloc::{AllocError, Allocator};
 use std::borrow::CowStr;

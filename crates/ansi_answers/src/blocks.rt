@@ -51,7 +51,8 @@ pub fn find_block(
 
 /// The start of the style of the block at an index, or `None` if the text has too few blocks.
 pub fn block_start(alloc: Global, text: &str, index: usize) -> Result<Option<String>, AllocError>
-    ensures { IfOk result (λ found. option_map string_bytes found ≡ option_map (λ b. start b.style) (slice_get (blocks text.now) index)) }
+    ensures { IfOk result (λ found. option_map string_bytes found
+        ≡ option_map (λ b. start b.style) (slice_get (blocks text.now) index)) }
 {
     match find_block(alloc, text, index)? {
         Some(block) => Ok(Some(block.style().start().to_string(alloc)?)),
@@ -61,7 +62,8 @@ pub fn block_start(alloc: Global, text: &str, index: usize) -> Result<Option<Str
 
 /// The close of the style of the block at an index, or `None` if the text has too few blocks.
 pub fn block_end(alloc: Global, text: &str, index: usize) -> Result<Option<String>, AllocError>
-    ensures { IfOk result (λ found. option_map string_bytes found ≡ option_map (λ b. close_if_any b.style) (slice_get (blocks text.now) index)) }
+    ensures { IfOk result (λ found. option_map string_bytes found
+        ≡ option_map (λ b. close_if_any b.style) (slice_get (blocks text.now) index)) }
 {
     match find_block(alloc, text, index)? {
         Some(block) => Ok(Some(block.style().end().to_string(alloc)?)),

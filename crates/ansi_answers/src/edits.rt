@@ -1,5 +1,6 @@
 //! Lists of edits, each applied to the result of the one before.
-ghost use Rattle.std.specs.Prelude.{◌≡◌, ◌↔◌, ◌⊎◌, map, option_map, IsTrue, IsNone, IsOk, IfOk, IfSome, IsUtf8};
+ghost use Rattle.std.specs.Prelude.{◌≡◌, ◌↔◌, ◌⊎◌, map, option_map, IsTrue, IsNone, IsOk, IfOk};
+ghost use Rattle.std.specs.Prelude.{IfSome, IsUtf8};
 ghost use Rattle.std.specs.List.{list_all};
 ghost use Rattle.std.specs.Str.{is_utf8};
 ghost use Rattle.std.specs.Cow.{cow_str_bytes, IsBorrowedStr};
@@ -56,8 +57,10 @@ pub fn edit_in_turn<'t, A: Allocator + Copy>(
     steps: &[EditStep<'_>],
 ) -> Result<Option<CowStr<'t, A>>, AllocError>
     requires { IsTrue (list_all is_utf8 (patterns_of steps.now)) }
-    ensures bytes { IfOk result (λ o. option_map cow_str_bytes o ≡ edited (map change_of_step steps.now) text.now) }
-    ensures takes_no_memory { IsTrue (stay_borrowed (map change_of_step steps.now) text.now) → IsOk result }
+    ensures bytes { IfOk result (λ o.
+        option_map cow_str_bytes o ≡ edited (map change_of_step steps.now) text.now) }
+    ensures takes_no_memory { IsTrue (stay_borrowed (map change_of_step steps.now) text.now) →
+        IsOk result }
 {
     let mut edited = CowStr::Borrowed(text);
     for step in steps {
@@ -77,10 +80,15 @@ fn edit_given<'t, A: Allocator + Copy>(
     step: &EditStep<'_>,
 ) -> Result<Option<CowStr<'t, A>>, AllocError>
     requires { IsUtf8 step.now.pattern.now }
-    ensures bytes { IfOk result (λ o. option_map cow_str_bytes o ≡ edited_by (change_of_step step.now) (cow_str_bytes given.entry)) }
-    ensures borrowed { IfOk result (λ o. IfSome o (λ c. IsBorrowedStr c ↔ (IsBorrowedStr given.entry × IsTrue (gives_borrow (change_of_step step.now) (cow_str_bytes given.entry))))) }
-    ensures takes_no_memory { IsNone (edited_by (change_of_step step.now) (cow_str_bytes given.entry))
-        ⊎ (IsBorrowedStr given.entry × IsTrue (gives_borrow (change_of_step step.now) (cow_str_bytes given.entry))) → IsOk result }
+    ensures bytes { IfOk result (λ o. option_map cow_str_bytes o
+        ≡ edited_by (change_of_step step.now) (cow_str_bytes given.entry)) }
+    ensures borrowed { IfOk result (λ o. IfSome o (λ c. IsBorrowedStr c ↔ (IsBorrowedStr given.entry
+        × IsTrue (gives_borrow (change_of_step step.now) (cow_str_bytes given.entry))))) }
+    ensures takes_no_memory { IsNone
+        (edited_by (change_of_step step.now) (cow_str_bytes given.entry))
+        ⊎ (IsBorrowedStr given.entry
+        × IsTrue (gives_borrow (change_of_step step.now) (cow_str_bytes given.entry))) →
+        IsOk result }
 {
     let Ok(pat) = from_utf8(step.pattern) else {
         return Ok(None);

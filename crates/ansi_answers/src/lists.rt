@@ -1,5 +1,8 @@
 //! Several texts with an entry for each: all parts, and all blocks.
-ghost use Rattle.std.specs.Prelude.{◌≡◌, ◌⊎◌, ◌≤◌, ◌<◌, ◌+◌, ◌^◌, ◌==◌, ◌∷◌, [], ◌++◌, ℕ, List, length, take, drop, map, flat_map, if◌then◌else◌, IsFalse, IfNone, IfSome, Result, IsOk, IfOk, OnOk, MatchResult, All, string_bytes};
+ghost use Rattle.std.specs.Prelude.{◌≡◌, ◌⊎◌, ◌≤◌, ◌<◌, ◌+◌, ◌^◌, ◌==◌, ◌∷◌, [], ◌++◌, ℕ, List};
+ghost use Rattle.std.specs.Prelude.{length, take, drop, map, flat_map, if◌then◌else◌, IsFalse};
+ghost use Rattle.std.specs.Prelude.{IfNone, IfSome, Result, IsOk, IfOk, OnOk, MatchResult, All};
+ghost use Rattle.std.specs.Prelude.{string_bytes};
 ghost use Rattle.std.specs.Iterator.{IsFinite, Drains, HoldsAlong};
 ghost use Rattle.std.specs.declared.alloc.AllocError.{AllocError};
 ghost use Rattle.std.specs.declared.borrow.CowStr.{CowStr};
@@ -7,7 +10,9 @@ ghost use Rattle.ansi_str.specs.Plain.{has_escape};
 ghost use Rattle.ansi_str.specs.Parts.{all_parts};
 ghost use Rattle.ansi_str.specs.Blocks.{blocks};
 ghost use Rattle.ansi_answers.specs.Answers.{out_of_memory};
-ghost use Rattle.ansi_answers.specs.Lists.{none, ends_from, entries_from, styled_text, styled_entries_from, given_bytes, AreCopied, AreWritten, HaveFailed};
+ghost use Rattle.ansi_answers.specs.Lists.{none, ends_from, entries_from, styled_text};
+ghost use Rattle.ansi_answers.specs.Lists.{styled_entries_from, given_bytes, AreCopied, AreWritten};
+ghost use Rattle.ansi_answers.specs.Lists.{HaveFailed};
 
 use crate::answers::{OK, OUT_OF_MEMORY, TOO_SMALL};
 use crate::styles::StyleData;
@@ -69,7 +74,8 @@ pub fn write_bare_parts<A: Allocator + Copy>(
     ends: &mut [usize],
 ) -> ListAnswer
     requires { IsFalse (has_escape text.now) }
-    ensures { AreWritten (flat_map (λ p. p) (all_parts text.now pat.now)) (ends_from 0 (all_parts text.now pat.now)) result buffer.old buffer.new ends.old ends.new }
+    ensures { AreWritten (flat_map (λ p. p) (all_parts text.now pat.now))
+        (ends_from 0 (all_parts text.now pat.now)) result buffer.old buffer.new ends.old ends.new }
 {
     if let Some((count, len)) = parts_without_room(alloc, text, pat, buffer.len(), ends.len()) {
         return ListAnswer {
@@ -96,9 +102,13 @@ fn parts_without_room<A: Allocator + Copy>(
     ends: usize,
 ) -> Option<(usize, usize)>
     requires { IsFalse (has_escape text.now) }
-    ensures none { IfNone result ((length (flat_map (λ p. p) (all_parts text.now pat.now)) ≤ bytes) × (length (all_parts text.now pat.now) ≤ ends)) }
-    ensures small { IfSome result (λ r. (bytes < length (flat_map (λ p. p) (all_parts text.now pat.now))) ⊎ (ends < length (all_parts text.now pat.now))) }
-    ensures needed { IfSome result (λ r. (r.0 ≡ length (all_parts text.now pat.now)) × (r.1 ≡ length (flat_map (λ p. p) (all_parts text.now pat.now)))) }
+    ensures none { IfNone result ((length (flat_map (λ p. p) (all_parts text.now pat.now)) ≤ bytes)
+        × (length (all_parts text.now pat.now) ≤ ends)) }
+    ensures small { IfSome result (λ r.
+        (bytes < length (flat_map (λ p. p) (all_parts text.now pat.now)))
+        ⊎ (ends < length (all_parts text.now pat.now))) }
+    ensures needed { IfSome result (λ r. (r.0 ≡ length (all_parts text.now pat.now))
+        × (r.1 ≡ length (flat_map (λ p. p) (all_parts text.now pat.now)))) }
 {
     laws::bare_texts_are_std();
     laws::parts_lie_between_matches();
@@ -123,7 +133,8 @@ fn copy_bare_parts<A: Allocator + Copy>(
     ends: &mut [usize],
 ) -> (usize, usize)
     requires { IsFalse (has_escape text.now) }
-    ensures { AreCopied (all_parts text.now pat.now) result buffer.old buffer.new ends.old ends.new }
+    ensures { AreCopied (all_parts text.now pat.now) result buffer.old buffer.new ends.old
+        ends.new }
 {
     laws::bare_texts_are_std();
     laws::parts_lie_between_matches();
@@ -139,8 +150,10 @@ pub fn copy_texts<'t, A: Allocator, I: Iterator<Item = Result<CowStr<'t, A>, All
 ) -> (usize, usize)
     requires can { I.can_next given }
     requires ends { IsFinite (I.remaining given) }
-    requires fits { HoldsAlong I.next_gives given (λ xs. All IsOk xs × (length (flat_map (λ t. t) (map given_bytes xs)) < 2 ^ 64) × (length xs < 2 ^ 64)) }
-    ensures { (xs : List (Result (CowStr A) AllocError)) × Drains I.next_gives given xs × AreCopied (map given_bytes xs) result buffer.old buffer.new ends.old ends.new }
+    requires fits { HoldsAlong I.next_gives given (λ xs. All IsOk xs
+        × (length (flat_map (λ t. t) (map given_bytes xs)) < 2 ^ 64) × (length xs < 2 ^ 64)) }
+    ensures { (xs : List (Result (CowStr A) AllocError)) × Drains I.next_gives given xs
+        × AreCopied (map given_bytes xs) result buffer.old buffer.new ends.old ends.new }
 {
     let mut count = 0;
     let mut len = 0;
@@ -154,7 +167,8 @@ pub fn copy_texts<'t, A: Allocator, I: Iterator<Item = Result<CowStr<'t, A>, All
 /// Copies items to a place in a slice, if there is room for them. Returns the place after them.
 fn put<T: Copy>(items: &[T], place: usize, slots: &mut [T]) -> usize
     requires { place + length items.now < 2 ^ 64 }
-    ensures slots { place + length items.now ≤ length slots.old → slots.new ≡ take place slots.old ++ items.now ++ drop (place + length items.now) slots.old }
+    ensures slots { place + length items.now ≤ length slots.old →
+        slots.new ≡ take place slots.old ++ items.now ++ drop (place + length items.now) slots.old }
     ensures same_len { length slots.new ≡ length slots.old }
     ensures after { result ≡ place + length items.now }
 {
@@ -173,7 +187,8 @@ pub fn write_one_block<T: Copy>(
     buffer: &mut [u8],
     entries: &mut [T],
 ) -> ListAnswer
-    ensures { AreWritten text.now (if length text.now == 0 then [] else entry.now) result buffer.old buffer.new entries.old entries.new }
+    ensures { AreWritten text.now (if length text.now == 0 then [] else entry.now) result buffer.old
+        buffer.new entries.old entries.new }
 {
     let entry = if text.is_empty() { &[] } else { entry };
     write_list(text.as_bytes(), entry, buffer, entries)
@@ -185,8 +200,10 @@ pub fn join_parts<A: Allocator + Copy>(
     text: &str,
     pat: &str,
 ) -> Result<(String<A>, Vec<usize, A>), AllocError>
-    ensures texts { IfOk result (λ joined. string_bytes joined.0 ≡ flat_map (λ p. p) (all_parts text.now pat.now)) }
-    ensures ends { IfOk result (λ joined. joined.1.items ≡ ends_from 0 (all_parts text.now pat.now)) }
+    ensures texts { IfOk result (λ joined.
+        string_bytes joined.0 ≡ flat_map (λ p. p) (all_parts text.now pat.now)) }
+    ensures ends { IfOk result (λ joined.
+        joined.1.items ≡ ends_from 0 (all_parts text.now pat.now)) }
 {
     join_texts(alloc, text.len(), split_in(alloc, text, pat))
 }
@@ -199,8 +216,10 @@ pub fn join_texts<
 >(alloc: A, room: usize, given: I) -> Result<(String<A>, Vec<usize, A>), AllocError>
     requires can { I.can_next given }
     requires ends { IsFinite (I.remaining given) }
-    ensures { IfOk result (λ joined. (xs : List (Result (CowStr A) AllocError)) × Drains I.next_gives given xs × All IsOk xs
-        × (string_bytes joined.0 ≡ flat_map (λ t. t) (map given_bytes xs)) × (joined.1.items ≡ ends_from 0 (map given_bytes xs))) }
+    ensures { IfOk result (λ joined.
+        (xs : List (Result (CowStr A) AllocError)) × Drains I.next_gives given xs × All IsOk xs
+        × (string_bytes joined.0 ≡ flat_map (λ t. t) (map given_bytes xs))
+        × (joined.1.items ≡ ends_from 0 (map given_bytes xs))) }
 {
     let mut texts = String::with_capacity(alloc, room)?;
     let mut ends = Vec::new(alloc);
@@ -226,7 +245,8 @@ pub fn join_blocks<A: Allocator + Copy>(
     alloc: A,
     text: &str,
 ) -> Result<(String<A>, Vec<BlockEntry, A>), AllocError>
-    ensures texts { IfOk result (λ joined. string_bytes joined.0 ≡ flat_map (λ b. b.text) (blocks text.now)) }
+    ensures texts { IfOk result (λ joined.
+        string_bytes joined.0 ≡ flat_map (λ b. b.text) (blocks text.now)) }
     ensures entries { IfOk result (λ joined. joined.1.items ≡ entries_from 0 (blocks text.now)) }
 {
     let mut texts = String::with_capacity(alloc, text.len())?;
@@ -244,8 +264,10 @@ fn push_block<A: Allocator>(
     texts: &mut String<A>,
     block: &AnsiBlock<'_, A>,
 ) -> Result<BlockEntry, AllocError>
-    ensures bytes { OnOk result (string_bytes texts.new ≡ string_bytes texts.old ++ block.now.text) }
-    ensures entry { IfOk result (λ entry. entries_from (length (string_bytes texts.old)) (block.now ∷ []) ≡ entry ∷ []) }
+    ensures bytes { OnOk result
+        (string_bytes texts.new ≡ string_bytes texts.old ++ block.now.text) }
+    ensures entry { IfOk result (λ entry.
+        entries_from (length (string_bytes texts.old)) (block.now ∷ []) ≡ entry ∷ []) }
 {
     let style = StyleData::of(block.style());
     texts.push_str(block.text())?;
@@ -261,8 +283,10 @@ pub fn join_styled_blocks<A: Allocator + Copy>(
     alloc: A,
     text: &str,
 ) -> Result<(String<A>, Vec<StyledBlockEntry, A>), AllocError>
-    ensures texts { IfOk result (λ joined. string_bytes joined.0 ≡ flat_map styled_text (blocks text.now)) }
-    ensures entries { IfOk result (λ joined. joined.1.items ≡ styled_entries_from 0 (blocks text.now)) }
+    ensures texts { IfOk result (λ joined.
+        string_bytes joined.0 ≡ flat_map styled_text (blocks text.now)) }
+    ensures entries { IfOk result (λ joined.
+        joined.1.items ≡ styled_entries_from 0 (blocks text.now)) }
 {
     let mut texts = String::with_capacity(alloc, text.len())?;
     let mut entries = Vec::new(alloc);
@@ -279,8 +303,10 @@ fn push_styled_block<A: Allocator>(
     texts: &mut String<A>,
     block: &AnsiBlock<'_, A>,
 ) -> Result<StyledBlockEntry, AllocError>
-    ensures bytes { OnOk result (string_bytes texts.new ≡ string_bytes texts.old ++ styled_text block.now) }
-    ensures entry { IfOk result (λ entry. styled_entries_from (length (string_bytes texts.old)) (block.now ∷ []) ≡ entry ∷ []) }
+    ensures bytes { OnOk result
+        (string_bytes texts.new ≡ string_bytes texts.old ++ styled_text block.now) }
+    ensures entry { IfOk result (λ entry.
+        styled_entries_from (length (string_bytes texts.old)) (block.now ∷ []) ≡ entry ∷ []) }
 {
     let style = block.style();
     write!(texts, "{}", style.start())?;
@@ -303,7 +329,8 @@ pub fn write_joined<T: Copy, A: Allocator>(
     entries: &mut [T],
 ) -> ListAnswer
     ensures { MatchResult joined
-        (λ joined. AreWritten (string_bytes joined.0) joined.1.items result buffer.old buffer.new entries.old entries.new)
+        (λ joined. AreWritten (string_bytes joined.0) joined.1.items result buffer.old buffer.new
+        entries.old entries.new)
         (λ e. HaveFailed out_of_memory result buffer.old buffer.new entries.old entries.new) }
 {
     match joined {
@@ -322,7 +349,8 @@ fn write_list<T: Copy>(
     buffer: &mut [u8],
     entries: &mut [T],
 ) -> ListAnswer
-    ensures { AreWritten texts.now their_entries.now result buffer.old buffer.new entries.old entries.new }
+    ensures { AreWritten texts.now their_entries.now result buffer.old buffer.new entries.old
+        entries.new }
 {
     let count = their_entries.len();
     let len = texts.len();

@@ -2,7 +2,8 @@
 ghost use Rattle.std.specs.Prelude.{◌∷◌, [], Some};
 ghost use Rattle.ansi_str.specs.Plain.{plain, has_escape};
 ghost use Rattle.ansi_str.specs.Edits.{changes_of};
-ghost use Rattle.ansi_answers.specs.Answers.{no, not_utf8, OnUtf8, HasFailed, Gives, GivesEdited, TellsPlace};
+ghost use Rattle.ansi_answers.specs.Answers.{no, not_utf8, OnUtf8, HasFailed, Gives, GivesEdited};
+ghost use Rattle.ansi_answers.specs.Answers.{TellsPlace};
 
 use crate::answers::{Answer, NO, NOT_UTF8, OUT_OF_MEMORY, write, write_found};
 use ansi_str::slice::strip_in;

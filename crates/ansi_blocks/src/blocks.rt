@@ -1,5 +1,6 @@
 //! The blocks of a text: its runs of one style.
-ghost use Rattle.std.specs.Prelude.{◌≡◌, ◌++◌, ◌≤◌, IsTrue, IsFalse, IsNone, IsOk, IfOk, not, ◌==◌, length};
+ghost use Rattle.std.specs.Prelude.{◌≡◌, ◌++◌, ◌≤◌, IsTrue, IsFalse, IsNone, IsOk, IfOk, not, ◌==◌};
+ghost use Rattle.std.specs.Prelude.{length};
 ghost use Rattle.std.specs.List.{list_all};
 ghost use Rattle.std.specs.Cow.{cow_str_bytes};
 ghost use Rattle.ansi_items.specs.Plain.{has_escape};
@@ -36,12 +37,16 @@ impl<'a, A: Allocator> Model for AnsiBlock<'a, A> {
 
     ghost Value = { Block };
 
-    ghost view = { λ b. record { text = cow_str_bytes b.text; style = rendition_of b.style; is_borrow = is_borrow b.text } };
+    ghost view = { λ b. record {
+      text = cow_str_bytes b.text;
+      style = rendition_of b.style;
+      is_borrow = is_borrow b.text;
+    } };
 }
 
 impl<'a, A: Allocator> AnsiBlock<'a, A> {
-    /// The sequences before the run that aren't SGRs, joined, and then the run itself. Doesn't allocate.
-    /// (The Rust crate.)
+    /// The sequences before the run that aren't SGRs, joined, and then the run itself. Doesn't
+    /// allocate. (The Rust crate.)
     ///
     /// ```
     /// let text = "\x1b]8;;u\x1b\\link\x1b]8;;\x1b\\";
@@ -54,8 +59,8 @@ impl<'a, A: Allocator> AnsiBlock<'a, A> {
         self.text.as_str()
     }
 
-    /// Whether the style has something to end: a font is enough, an unknown code alone isn't. Doesn't
-    /// allocate. (The Rust crate, which doesn't count the font.)
+    /// Whether the style has something to end: a font is enough, an unknown code alone isn't.
+    /// Doesn't allocate. (The Rust crate, which doesn't count the font.)
     ///
     /// ```
     /// let first = get_blocks(rt.alloc(), "\x1b[12mx").next();
@@ -67,7 +72,8 @@ impl<'a, A: Allocator> AnsiBlock<'a, A> {
         styles::has_any(&self.style)
     }
 
-    /// The style of the run, with everything that the text before it left open. Doesn't allocate. (The Rust crate.)
+    /// The style of the run, with everything that the text before it left open. Doesn't allocate.
+    /// (The Rust crate.)
     ///
     /// ```
     /// let first = get_blocks(rt.alloc(), "\x1b[1mx").next();
@@ -110,9 +116,11 @@ impl<'a, A: Allocator> PartialEq for AnsiBlock<'a, A> {
     ghost use Rattle.std.specs.Cmp.Lexicographic.{pointwise, nat_list_eq_equiv};
     ghost use Rattle.ansi_style.specs.contracts.state.rendition.RenditionPartialEq.TheImpl.Laws.{laws-law};
 
-    ghost eq = { eq_of_both (on (λ b. b.text) (pointwise nat_eq)) (on (λ b. b.style) ⟦<Rendition as PartialEq>⟧.eq) };
+    ghost eq = { eq_of_both (on (λ b. b.text) (pointwise nat_eq))
+        (on (λ b. b.style) ⟦<Rendition as PartialEq>⟧.eq) };
 
-    ghost laws = { and_per (on_per (λ b. b.text) (partial_equiv_from_equiv nat_list_eq_equiv)) (on_per (λ b. b.style) laws-law) };
+    ghost laws = { and_per (on_per (λ b. b.text) (partial_equiv_from_equiv nat_list_eq_equiv))
+        (on_per (λ b. b.style) laws-law) };
 
     fn eq(&self, other: &AnsiBlock<'a, A>) -> bool {
         self.text() == other.text() && self.style == other.style
@@ -124,7 +132,8 @@ impl<'a, A: Allocator> Eq for AnsiBlock<'a, A> {
     ghost use Rattle.std.specs.Cmp.Lexicographic.{nat_list_eq_equiv};
     ghost use Rattle.ansi_style.specs.contracts.state.rendition.RenditionEq.TheImpl.Laws.{laws-law};
 
-    ghost laws = { and_equiv (on_equiv (λ b. b.text) nat_list_eq_equiv) (on_equiv (λ b. b.style) laws-law) };
+    ghost laws = { and_equiv (on_equiv (λ b. b.text) nat_list_eq_equiv)
+        (on_equiv (λ b. b.style) laws-law) };
 }
 
 /// The blocks of a text, in order: an iterator. Each item may be an `Err`.
@@ -160,10 +169,11 @@ impl<'a, A: Allocator> Model for AnsiBlockIter<'a, A> {
 
 /// The blocks of a text, in order.
 ///
-/// There is one block for each run of text between sequences. A block's text is the sequences before the run
-/// that aren't SGRs, joined, and then the run. If there are no such sequences, it is a borrow and doesn't
-/// allocate, so on a text without ESC every block is one. Sequences after the last run are in no block. An item is
-/// an `Err` if memory has run out, and it is the last item. Takes any allocator. (The Rust crate.)
+/// There is one block for each run of text between sequences. A block's text is the sequences
+/// before the run that aren't SGRs, joined, and then the run. If there are no such sequences, it is
+/// a borrow and doesn't allocate, so on a text without ESC every block is one. Sequences after the
+/// last run are in no block. An item is an `Err` if memory has run out, and it is the last item.
+/// Takes any allocator. (The Rust crate.)
 ///
 /// ```
 /// let mut blocks = get_blocks(rt.alloc(), "\x1b[31mred\x1b[39m and");
@@ -175,7 +185,8 @@ pub fn get_blocks<A: Allocator>(alloc: A, text: &str) -> AnsiBlockIter<'_, A>
     ensures blocks { result ≡ blocks text.now }
     ensures runs { length result ≡ length (runs text.now) }
     ensures len { length result ≤ length text.now }
-    ensures takes_no_memory { IsFalse (has_escape text.now) → IsTrue (list_all (λ b. b.is_borrow) result) }
+    ensures takes_no_memory { IsFalse (has_escape text.now) →
+        IsTrue (list_all (λ b. b.is_borrow) result) }
 {
     AnsiBlockIter {
         alloc,
@@ -220,8 +231,10 @@ fn block_text<'a, A: Allocator>(
     run: &Run<'a>,
 ) -> Result<CowStr<'a, A>, AllocError>
     requires { run.now.has_sequences_before ≡ not (length (sequences_before text.now 0) == 0) }
-    ensures bytes { IfOk result (λ c. cow_str_bytes c ≡ sequences_before text.now 0 ++ run.now.text.now) }
-    ensures borrowed { IfOk result (λ c. is_borrow c ≡ (length (sequences_before text.now 0) == 0)) }
+    ensures bytes { IfOk result (λ c.
+        cow_str_bytes c ≡ sequences_before text.now 0 ++ run.now.text.now) }
+    ensures borrowed { IfOk result (λ c.
+        is_borrow c ≡ (length (sequences_before text.now 0) == 0)) }
     ensures takes_no_memory { IsFalse run.now.has_sequences_before → IsOk result }
 {
     if !run.has_sequences_before {

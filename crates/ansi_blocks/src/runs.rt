@@ -1,5 +1,5 @@
-//! The first run of a text, and what waits for it. They have a module of their own, so that `ansi_str::blocks` doesn't
-//! pass them on.
+//! The first run of a text, and what waits for it. They have a module of their own, so that
+//! `ansi_str::blocks` doesn't pass them on.
 ghost use Rattle.std.specs.Prelude.{◌≡◌, ◌∷◌, [], IfNone, IfSome, IfOk, not, ◌==◌, length, string_bytes};
 ghost use Rattle.ansi_style.specs.States.{rendition_of};
 ghost use Rattle.ansi_blocks.specs.Blocks.{sequences_before, block_after, blocks_from};
@@ -19,13 +19,16 @@ pub struct Run<'a> {
     pub rest: &'a str,
 }
 
-/// The first run of a text. `style` is the style before the text, and becomes that of the run. (Own.)
+/// The first run of a text. `style` is the style before the text, and becomes that of the run.
+/// (Own.)
 #[inline(always)]
 pub fn first_styled_run<'a>(text: &'a str, style: &mut Style) -> Option<Run<'a>>
     ensures none { IfNone result (blocks_from (rendition_of style.old) text.now ≡ []) }
     ensures first { IfSome result (λ run. blocks_from (rendition_of style.old) text.now
-        ≡ block_after (sequences_before text.now 0) run.text.now (rendition_of style.new) ∷ blocks_from (rendition_of style.new) run.rest.now) }
-    ensures awaited { IfSome result (λ run. run.has_sequences_before ≡ not (length (sequences_before text.now 0) == 0)) }
+        ≡ block_after (sequences_before text.now 0) run.text.now (rendition_of style.new)
+        ∷ blocks_from (rendition_of style.new) run.rest.now) }
+    ensures awaited { IfSome result (λ run.
+        run.has_sequences_before ≡ not (length (sequences_before text.now 0) == 0)) }
 {
     let mut has_sequences_before = false;
     for item in Scanner::new(text) {
@@ -45,7 +48,8 @@ pub fn first_styled_run<'a>(text: &'a str, style: &mut Style) -> Option<Run<'a>>
     None
 }
 
-/// The sequences before the first run of a text that aren't SGRs, joined. `Err` means out of memory. (Own.)
+/// The sequences before the first run of a text that aren't SGRs, joined. `Err` means out of
+/// memory. (Own.)
 #[inline(never)]
 pub fn sequences_before<A: Allocator>(alloc: A, text: &str) -> Result<String<A>, AllocError>
     ensures { IfOk result (λ s. string_bytes s ≡ sequences_before text.now 0) }

@@ -15,7 +15,8 @@ use ansi_items::ansitok::{Kind, Scanner};
 /// assert!(rt; link_at("\x1b]8;;http://x\x1b\\ab\x1b]8;;\x1b\\c", 1) == Some("http://x"));
 /// ```
 pub fn link_at(text: &str, index: usize) -> Option<&str>
-    ensures none { IsNone result ↔ ((length (plain text.now) ≤ index) ⊎ (link_at text.now index ≡ [])) }
+    ensures none { IsNone result
+        ↔ ((length (plain text.now) ≤ index) ⊎ (link_at text.now index ≡ [])) }
     ensures bytes { option_map (λ a. a.now) result ≡ address_at text.now index }
 {
     let mut remaining = index;

@@ -1,5 +1,6 @@
 //! The calls on display width: for any text, and for `&str`.
-ghost use Rattle.std.specs.Prelude.{◌≡◌, ◌↔◌, ◌+◌, ◌≤◌, ◌⊎◌, Some, None, [], length, IsTrue, IsFalse, IsNone, IsOk, IfOk};
+ghost use Rattle.std.specs.Prelude.{◌≡◌, ◌↔◌, ◌+◌, ◌≤◌, ◌⊎◌, Some, None, [], length, IsTrue};
+ghost use Rattle.std.specs.Prelude.{IsFalse, IsNone, IsOk, IfOk};
 ghost use Rattle.std.specs.List.{list_all};
 ghost use Rattle.std.specs.Option.{option_map};
 ghost use Rattle.std.specs.Cow.{cow_str_bytes, IsBorrowedStr};
@@ -93,10 +94,14 @@ pub trait AnsiColumns: AnsiStr {
         width: usize,
         tail: &str,
     ) -> Result<CowStr<'_>, AllocError>
-        ensures bytes { IfOk result (λ c. cow_str_bytes c ≡ truncated (Self.text self.now) width tail.now) }
-        ensures borrowed { IfOk result (λ c. IsBorrowedStr c ↔ (truncated_ending (Self.text self.now) width tail.now ≡ [])) }
-        ensures len { IfOk result (λ c. length (cow_str_bytes c) ≤ length (Self.text self.now) + length tail.now + longest_link_end + longest_close) }
-        ensures takes_no_memory { truncated_ending (Self.text self.now) width tail.now ≡ [] → IsOk result }
+        ensures bytes { IfOk result (λ c.
+            cow_str_bytes c ≡ truncated (Self.text self.now) width tail.now) }
+        ensures borrowed { IfOk result (λ c.
+            IsBorrowedStr c ↔ (truncated_ending (Self.text self.now) width tail.now ≡ [])) }
+        ensures len { IfOk result (λ c. length (cow_str_bytes c)
+            ≤ length (Self.text self.now) + length tail.now + longest_link_end + longest_close) }
+        ensures takes_no_memory { truncated_ending (Self.text self.now) width tail.now ≡ [] →
+            IsOk result }
     {
         truncate(alloc, self.as_text(), width, tail)
     }
@@ -121,10 +126,14 @@ pub trait AnsiColumns: AnsiStr {
         width: usize,
         alignment: Alignment,
     ) -> Result<CowStr<'_>, AllocError>
-        ensures bytes { IfOk result (λ c. cow_str_bytes c ≡ padded (Self.text self.now) width alignment) }
-        ensures borrowed { IfOk result (λ c. IsBorrowedStr c ↔ ((missing (Self.text self.now) width ≡ 0) × (closing (Self.text self.now) ≡ []))) }
-        ensures len { IfOk result (λ c. length (cow_str_bytes c) ≤ length (Self.text self.now) + missing (Self.text self.now) width + longest_link_end + longest_close) }
-        ensures takes_no_memory { (missing (Self.text self.now) width ≡ 0) × (closing (Self.text self.now) ≡ []) → IsOk result }
+        ensures bytes { IfOk result (λ c.
+            cow_str_bytes c ≡ padded (Self.text self.now) width alignment) }
+        ensures borrowed { IfOk result (λ c. IsBorrowedStr c
+            ↔ ((missing (Self.text self.now) width ≡ 0) × (closing (Self.text self.now) ≡ []))) }
+        ensures len { IfOk result (λ c. length (cow_str_bytes c) ≤ length (Self.text self.now)
+            + missing (Self.text self.now) width + longest_link_end + longest_close) }
+        ensures takes_no_memory { (missing (Self.text self.now) width ≡ 0)
+            × (closing (Self.text self.now) ≡ []) → IsOk result }
     {
         pad(alloc, self.as_text(), width, alignment)
     }
@@ -146,7 +155,8 @@ pub trait AnsiColumns: AnsiStr {
     /// ```
     final fn ansi_wrap(&self, alloc: Global, width: usize) -> AnsiWrap<'_>
         ensures lines { result ≡ wrapped (Self.text self.now) width }
-        ensures takes_no_memory { IsFalse (has_escape (Self.text self.now)) → IsTrue (list_all (λ l. l.borrowed) result) }
+        ensures takes_no_memory { IsFalse (has_escape (Self.text self.now)) →
+            IsTrue (list_all (λ l. l.borrowed) result) }
     {
         wrap(alloc, self.as_text(), width)
     }
@@ -165,7 +175,8 @@ pub trait AnsiColumns: AnsiStr {
     /// assert!(rt; text.ansi_link_at(6) == None);
     /// ```
     final fn ansi_link_at(&self, index: usize) -> Option<&str>
-        ensures none { IsNone result ↔ ((length (plain (Self.text self.now)) ≤ index) ⊎ (link_at (Self.text self.now) index ≡ [])) }
+        ensures none { IsNone result ↔ ((length (plain (Self.text self.now)) ≤ index)
+            ⊎ (link_at (Self.text self.now) index ≡ [])) }
         ensures bytes { option_map (λ a. a.now) result ≡ address_at (Self.text self.now) index }
     {
         link_at(self.as_text(), index)

@@ -1,5 +1,6 @@
 //! The width of a cluster that spans sequences. Its characters are read from its end.
-ghost use Rattle.std.specs.Prelude.{◌≡◌, ◌+◌, ◌*◌, ◌<◌, ◌≤◌, List, [], ◌∷◌, ◌++◌, length, chars, IfSome, MatchOption};
+ghost use Rattle.std.specs.Prelude.{◌≡◌, ◌+◌, ◌*◌, ◌<◌, ◌≤◌, List, [], ◌∷◌, ◌++◌, length, chars};
+ghost use Rattle.std.specs.Prelude.{IfSome, MatchOption};
 ghost use Rattle.std.specs.Str.{IsCharBoundary, IsUtf8};
 ghost use Rattle.ansi_items.specs.Pieces.{Piece, pieces_of, spelling};
 ghost use Rattle.ansi_items.specs.Plain.{plain};
@@ -81,8 +82,10 @@ fn split_first_char(text: &str) -> Option<(char, &str)>
 /// The last plain character of a text and the run after it, and the remainder of both.
 fn split_last_char<'t>(text: &'t str, end: &'t str) -> Option<(char, &'t str, &'t str)>
     ensures chars { MatchOption result (chars (plain text.entry.now ++ end.entry.now) ≡ [])
-        (λ (last, rest, run). chars (plain text.entry.now ++ end.entry.now) ≡ chars (plain rest.now ++ run.now) ++ last ∷ []) }
-    ensures shorter { IfSome result (λ (last, rest, run). length rest.now + length run.now < length text.entry.now + length end.entry.now) }
+        (λ (last, rest, run). chars (plain text.entry.now ++ end.entry.now)
+        ≡ chars (plain rest.now ++ run.now) ++ last ∷ []) }
+    ensures shorter { IfSome result (λ (last, rest, run).
+        length rest.now + length run.now < length text.entry.now + length end.entry.now) }
 {
     let mut rest = text;
     let mut run = end;
@@ -114,7 +117,8 @@ fn split_last_run(text: &str) -> (&str, &str)
 /// An ESC inside a sequence terminates a control string. The sequence then begins at the ESC before
 /// it.
 fn last_mark(text: &str) -> Option<(usize, usize)>
-    ensures { MatchOption result (plain text.now ≡ text.now) (λ (start, end). IsLastMark text.now start end) }
+    ensures { MatchOption result (plain text.now ≡ text.now) (λ (start, end).
+        IsLastMark text.now start end) }
 {
     let bytes = text.as_bytes();
     let last = memrchr(ESC, bytes)?;
@@ -128,7 +132,8 @@ fn last_mark(text: &str) -> Option<(usize, usize)>
 /// The length of the first item of a text.
 fn first_len(text: &str) -> usize
     requires { 0 < length text.now }
-    ensures first { (p : Piece) × (ps : List Piece) × (pieces_of text.now ≡ p ∷ ps) × (result ≡ length (spelling p)) }
+    ensures first { (p : Piece) × (ps : List Piece) × (pieces_of text.now ≡ p ∷ ps)
+        × (result ≡ length (spelling p)) }
     ensures some { 0 < result }
     ensures boundary { IsCharBoundary text.now result }
 {

@@ -2,7 +2,9 @@
 //!
 //! Each function states one law as its contract. It does nothing and returns nothing. A body that
 //! needs the law calls it. (Own.)
-ghost use Rattle.std.specs.Prelude.{◌≡◌, ◌<◌, ◌≤◌, ◌+◌, ◌-◌, ◌++◌, ℕ, min, max, List, [], length, map, take, slice_range, slice_get, Some, option_map, if◌then◌else◌, IsTrue, All};
+ghost use Rattle.std.specs.Prelude.{◌≡◌, ◌<◌, ◌≤◌, ◌+◌, ◌-◌, ◌++◌, ℕ, min, max, List, [], length};
+ghost use Rattle.std.specs.Prelude.{map, take, slice_range, slice_get, Some, option_map};
+ghost use Rattle.std.specs.Prelude.{if◌then◌else◌, IsTrue, All};
 ghost use Rattle.std.specs.List.{list_all};
 ghost use Rattle.std.specs.Int.{is_in_range};
 ghost use Rattle.std.specs.Str.{IsUtf8};
@@ -14,7 +16,8 @@ ghost use Rattle.ansi_columns.specs.Addresses.{linked, without_link};
 ghost use Rattle.ansi_columns.specs.Columns.{clusters, columns, FitsUpTo, IsClusterBoundary};
 ghost use Rattle.ansi_columns.specs.Lines.{lines, AreLinesFrom, reassembled};
 ghost use Rattle.ansi_columns.specs.Links.{link_of};
-ghost use Rattle.ansi_columns.specs.Shown.{has_tail, truncated_end, truncated, missing, before_text, blanks, padded};
+ghost use Rattle.ansi_columns.specs.Shown.{has_tail, truncated_end, truncated, missing};
+ghost use Rattle.ansi_columns.specs.Shown.{before_text, blanks, padded};
 ghost use Rattle.ansi_columns.specs.Wrapped.{wrapped};
 
 /// Printable ASCII is as wide as it is long.
@@ -25,22 +28,27 @@ pub fn printable_is_as_wide_as_long()
 /// The longest prefix that fits has at most `width` columns. Every longer prefix that ends between
 /// two clusters has more.
 pub fn what_fits_is_the_longest()
-    ensures within { (x : List ℕ) (width end : ℕ) → IsUtf8 x → FitsUpTo x width end → columns (take end x) ≤ width }
-    ensures greatest { (x : List ℕ) (width end later : ℕ) → IsUtf8 x → FitsUpTo x width end → IsClusterBoundary x later → end < later → width < columns (take later x) }
+    ensures within { (x : List ℕ) (width end : ℕ) → IsUtf8 x → FitsUpTo x width end →
+        columns (take end x) ≤ width }
+    ensures greatest { (x : List ℕ) (width end later : ℕ) → IsUtf8 x → FitsUpTo x width end →
+        IsClusterBoundary x later → end < later → width < columns (take later x) }
 {}
 
 /// If a cluster of a concatenation ends where its first text ends, the clusters of the whole are
 /// those of the first text and then those of the second, and its width is the sum of both widths.
 pub fn columns_add_up()
-    ensures clusters { (x y : List ℕ) → IsUtf8 x → IsUtf8 y → IsClusterBoundary (x ++ y) (length x) → clusters (x ++ y) ≡ clusters x ++ clusters y }
-    ensures columns { (x y : List ℕ) → IsUtf8 x → IsUtf8 y → IsClusterBoundary (x ++ y) (length x) → columns (x ++ y) ≡ columns x + columns y }
+    ensures clusters { (x y : List ℕ) → IsUtf8 x → IsUtf8 y →
+        IsClusterBoundary (x ++ y) (length x) → clusters (x ++ y) ≡ clusters x ++ clusters y }
+    ensures columns { (x y : List ℕ) → IsUtf8 x → IsUtf8 y → IsClusterBoundary (x ++ y) (length x) →
+        columns (x ++ y) ≡ columns x + columns y }
 {}
 
 /// The lines of a text are stretches of it, in order, the first at its beginning. The text left out
 /// between two lines is blanks and then at most one line end. The text left out after the last line
 /// is blanks alone. The lines together with what was left out are the text.
 pub fn lines_lose_blanks_and_line_ends()
-    ensures begin { (x : List ℕ) (width : ℕ) → option_map (λ (line : ℕ × ℕ). line.0) (slice_get (lines width x) 0) ≡ Some 0 }
+    ensures begin { (x : List ℕ) (width : ℕ) →
+        option_map (λ (line : ℕ × ℕ). line.0) (slice_get (lines width x) 0) ≡ Some 0 }
     ensures left_out { (x : List ℕ) (width : ℕ) → IsUtf8 x → AreLinesFrom x 0 (lines width x) }
     ensures text { (x : List ℕ) (width : ℕ) → IsUtf8 x → reassembled x 0 (lines width x) ≡ x }
 {}
@@ -50,50 +58,87 @@ pub fn lines_lose_blanks_and_line_ends()
 /// printable ASCII, it has as many columns as the text, or `width` if the text has more. Any
 /// truncated text has at most `width` columns if a cluster ends before the tail.
 pub fn truncated_fits()
-    ensures whole { (t : List ℕ) (width : ℕ) (tail : List ℕ) → IsTrue (is_whole t) → IsTrue (is_whole tail) → IsTrue (is_whole (truncated t width tail)) }
-    ensures plain { (t : List ℕ) (width : ℕ) (tail : List ℕ) → IsTrue (is_whole t) → IsTrue (is_whole tail) → plain (truncated t width tail) ≡ take (truncated_end t width tail) (plain t) ++ (if has_tail t width tail then plain tail else []) }
-    ensures columns { (t : List ℕ) (width : ℕ) (tail : List ℕ) → IsTrue (list_all (is_in_range 0x20 0x7E) (plain t)) → IsTrue (list_all (is_in_range 0x20 0x7E) (plain tail)) → IsTrue (is_whole t) → IsTrue (is_whole tail) → columns (plain (truncated t width tail)) ≡ min (columns (plain t)) width }
-    ensures within { (t : List ℕ) (width : ℕ) (tail : List ℕ) → IsUtf8 t → IsUtf8 tail → IsTrue (is_whole t) → IsTrue (is_whole tail) → IsClusterBoundary (plain (truncated t width tail)) (truncated_end t width tail) → columns (plain (truncated t width tail)) ≤ width }
+    ensures whole { (t : List ℕ) (width : ℕ) (tail : List ℕ) → IsTrue (is_whole t) →
+        IsTrue (is_whole tail) → IsTrue (is_whole (truncated t width tail)) }
+    ensures plain { (t : List ℕ) (width : ℕ) (tail : List ℕ) → IsTrue (is_whole t) →
+        IsTrue (is_whole tail) →
+        plain (truncated t width tail) ≡ take (truncated_end t width tail) (plain t)
+        ++ (if has_tail t width tail then plain tail else []) }
+    ensures columns { (t : List ℕ) (width : ℕ) (tail : List ℕ) →
+        IsTrue (list_all (is_in_range 0x20 0x7E) (plain t)) →
+        IsTrue (list_all (is_in_range 0x20 0x7E) (plain tail)) → IsTrue (is_whole t) →
+        IsTrue (is_whole tail) →
+        columns (plain (truncated t width tail)) ≡ min (columns (plain t)) width }
+    ensures within { (t : List ℕ) (width : ℕ) (tail : List ℕ) → IsUtf8 t → IsUtf8 tail →
+        IsTrue (is_whole t) → IsTrue (is_whole tail) →
+        IsClusterBoundary (plain (truncated t width tail)) (truncated_end t width tail) →
+        columns (plain (truncated t width tail)) ≤ width }
 {}
 
 /// A padded text is whole if the text is whole. Its plain text is that of the text, with blanks
 /// before and after it. It has as many columns as the text, or `width` if the text has fewer,
 /// provided that it is printable ASCII or that a cluster ends on both sides of the text.
 pub fn padded_fills()
-    ensures whole { (t : List ℕ) (width : ℕ) (alignment : Alignment) → IsTrue (is_whole t) → IsTrue (is_whole (padded t width alignment)) }
-    ensures plain { (t : List ℕ) (width : ℕ) (alignment : Alignment) → IsTrue (is_whole t) → plain (padded t width alignment) ≡ blanks (before_text alignment (missing t width)) ++ plain t ++ blanks (missing t width - before_text alignment (missing t width)) }
-    ensures columns { (t : List ℕ) (width : ℕ) (alignment : Alignment) → IsTrue (list_all (is_in_range 0x20 0x7E) (plain t)) → IsTrue (is_whole t) → columns (plain (padded t width alignment)) ≡ max (columns (plain t)) width }
-    ensures fills { (t : List ℕ) (width : ℕ) (alignment : Alignment) → IsUtf8 t → IsTrue (is_whole t) → IsClusterBoundary (plain (padded t width alignment)) (before_text alignment (missing t width)) → IsClusterBoundary (plain (padded t width alignment)) (before_text alignment (missing t width) + length (plain t)) → columns (plain (padded t width alignment)) ≡ max (columns (plain t)) width }
+    ensures whole { (t : List ℕ) (width : ℕ) (alignment : Alignment) → IsTrue (is_whole t) →
+        IsTrue (is_whole (padded t width alignment)) }
+    ensures plain { (t : List ℕ) (width : ℕ) (alignment : Alignment) → IsTrue (is_whole t) →
+        plain (padded t width alignment) ≡ blanks (before_text alignment (missing t width))
+        ++ plain t ++ blanks (missing t width - before_text alignment (missing t width)) }
+    ensures columns { (t : List ℕ) (width : ℕ) (alignment : Alignment) →
+        IsTrue (list_all (is_in_range 0x20 0x7E) (plain t)) → IsTrue (is_whole t) →
+        columns (plain (padded t width alignment)) ≡ max (columns (plain t)) width }
+    ensures fills { (t : List ℕ) (width : ℕ) (alignment : Alignment) → IsUtf8 t →
+        IsTrue (is_whole t) → IsClusterBoundary (plain (padded t width alignment))
+        (before_text alignment (missing t width)) →
+        IsClusterBoundary (plain (padded t width alignment))
+        (before_text alignment (missing t width) + length (plain t)) →
+        columns (plain (padded t width alignment)) ≡ max (columns (plain t)) width }
 {}
 
 /// Each line of a wrapped whole text is whole, and leaves no known style open.
 pub fn wrapped_lines_are_whole()
-    ensures whole { (t : List ℕ) (width : ℕ) → IsTrue (is_whole t) → All (λ l. IsTrue (is_whole l.bytes)) (wrapped t width) }
-    ensures closed { (t : List ℕ) (width : ℕ) → IsTrue (is_whole t) → All (λ l. residue l.bytes ≡ plain_style) (wrapped t width) }
+    ensures whole { (t : List ℕ) (width : ℕ) → IsTrue (is_whole t) →
+        All (λ l. IsTrue (is_whole l.bytes)) (wrapped t width) }
+    ensures closed { (t : List ℕ) (width : ℕ) → IsTrue (is_whole t) →
+        All (λ l. residue l.bytes ≡ plain_style) (wrapped t width) }
 {}
 
 /// The styled bytes of each line of a wrapped whole text are the slice of the text's styled bytes
 /// over the interval of the line.
 pub fn wrapped_lines_keep_styles()
-    ensures { (t : List ℕ) (width : ℕ) → IsTrue (is_whole t) → map (λ l. styled l.bytes) (wrapped t width) ≡ map (λ (i : ℕ × ℕ). slice_range (styled t) i.0 i.1) (lines width (plain t)) }
+    ensures { (t : List ℕ) (width : ℕ) → IsTrue (is_whole t) →
+        map (λ l. styled l.bytes) (wrapped t width)
+        ≡ map (λ (i : ℕ × ℕ). slice_range (styled t) i.0 i.1) (lines width (plain t)) }
 {}
 
 /// The same holds of its linked bytes, and no link is open at its end.
 pub fn wrapped_lines_keep_links()
-    ensures linked { (t : List ℕ) (width : ℕ) → IsTrue (is_whole t) → map (λ l. linked l.bytes) (wrapped t width) ≡ map (λ (i : ℕ × ℕ). slice_range (linked t) i.0 i.1) (lines width (plain t)) }
-    ensures left_open { (t : List ℕ) (width : ℕ) → IsTrue (is_whole t) → All (λ l. link_of (marks l.bytes) ≡ []) (wrapped t width) }
+    ensures linked { (t : List ℕ) (width : ℕ) → IsTrue (is_whole t) →
+        map (λ l. linked l.bytes) (wrapped t width)
+        ≡ map (λ (i : ℕ × ℕ). slice_range (linked t) i.0 i.1) (lines width (plain t)) }
+    ensures left_open { (t : List ℕ) (width : ℕ) → IsTrue (is_whole t) →
+        All (λ l. link_of (marks l.bytes) ≡ []) (wrapped t width) }
 {}
 
 /// The linked bytes of a truncated whole text are those of the text up to the cut, and then those
 /// of the tail if it is written. No link of the text is open at its end.
 pub fn truncated_ends_links()
-    ensures linked { (t : List ℕ) (width : ℕ) (tail : List ℕ) → IsTrue (is_whole t) → IsTrue (is_whole tail) → linked (truncated t width tail) ≡ take (truncated_end t width tail) (linked t) ++ (if has_tail t width tail then linked tail else []) }
-    ensures left_open { (t : List ℕ) (width : ℕ) (tail : List ℕ) → IsTrue (is_whole t) → IsTrue (is_whole tail) → link_of (marks (truncated t width tail)) ≡ (if has_tail t width tail then link_of (marks tail) else []) }
+    ensures linked { (t : List ℕ) (width : ℕ) (tail : List ℕ) → IsTrue (is_whole t) →
+        IsTrue (is_whole tail) →
+        linked (truncated t width tail) ≡ take (truncated_end t width tail) (linked t)
+        ++ (if has_tail t width tail then linked tail else []) }
+    ensures left_open { (t : List ℕ) (width : ℕ) (tail : List ℕ) → IsTrue (is_whole t) →
+        IsTrue (is_whole tail) → link_of (marks (truncated t width tail))
+        ≡ (if has_tail t width tail then link_of (marks tail) else []) }
 {}
 
 /// The linked bytes of a padded whole text are those of the text, with blanks before and after it
 /// that are in no link. No link is open at its end.
 pub fn padded_ends_links()
-    ensures linked { (t : List ℕ) (width : ℕ) (alignment : Alignment) → IsTrue (is_whole t) → linked (padded t width alignment) ≡ without_link (blanks (before_text alignment (missing t width))) ++ linked t ++ without_link (blanks (missing t width - before_text alignment (missing t width))) }
-    ensures left_open { (t : List ℕ) (width : ℕ) (alignment : Alignment) → IsTrue (is_whole t) → link_of (marks (padded t width alignment)) ≡ [] }
+    ensures linked { (t : List ℕ) (width : ℕ) (alignment : Alignment) → IsTrue (is_whole t) →
+        linked (padded t width alignment)
+        ≡ without_link (blanks (before_text alignment (missing t width))) ++ linked t
+        ++ without_link (blanks (missing t width - before_text alignment (missing t width))) }
+    ensures left_open { (t : List ℕ) (width : ℕ) (alignment : Alignment) → IsTrue (is_whole t) →
+        link_of (marks (padded t width alignment)) ≡ [] }
 {}

@@ -1,7 +1,8 @@
 //! The beginning and the end of each line of a wrapped text.
 ghost use Rattle.std.specs.Prelude.{◌≡◌, ◌<◌, ◌≤◌, ◌∷◌, Some, IfSome, All};
 ghost use Rattle.ansi_items.specs.Plain.{plain};
-ghost use Rattle.ansi_columns.specs.Lines.{lines, lines_left, is_line_end, is_blank, IsLine, IsGoodLine};
+ghost use Rattle.ansi_columns.specs.Lines.{lines, lines_left, is_line_end, is_blank, IsLine};
+ghost use Rattle.ansi_columns.specs.Lines.{IsGoodLine};
 ghost use Rattle.ansi_columns.specs.Walks.{IsWalk, cluster};
 
 use crate::walks::Walk;
@@ -94,7 +95,8 @@ pub(crate) fn first_line(text: &str, start: Walk, width: usize) -> (Walk, Option
     ensures ordered { start.position ≤ result.0.position }
     ensures next { IfSome result.1 (IsWalk text.now) }
     ensures next_ordered { IfSome result.1 (λ next. result.0.position ≤ next.position) }
-    ensures lines { lines_left text.now width (Some start) ≡ (start.position, result.0.position) ∷ lines_left text.now width result.1 }
+    ensures lines { lines_left text.now width (Some start)
+        ≡ (start.position, result.0.position) ∷ lines_left text.now width result.1 }
 {
     let mut here = start;
     // The beginning of the current word, and the end of the words before it.

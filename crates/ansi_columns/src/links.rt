@@ -1,12 +1,14 @@
 //! The link and the style open at the end of a text, and what closes both.
-ghost use Rattle.std.specs.Prelude.{◌≡◌, ◌++◌, Option, length, OnOk, IsTrue, IsFalse, ◌↔◌, [], string_bytes};
+ghost use Rattle.std.specs.Prelude.{◌≡◌, ◌++◌, Option, length, OnOk, IsTrue, IsFalse, ◌↔◌, []};
+ghost use Rattle.std.specs.Prelude.{string_bytes};
 ghost use Rattle.std.specs.Option.{option_map};
 ghost use Rattle.ansi_items.specs.Plain.{marks};
 ghost use Rattle.ansi_style.specs.States.{rendition_of};
 ghost use Rattle.ansi_style.specs.Rendition.{plain_style};
 ghost use Rattle.ansi_style.specs.Styled.{style_after};
 ghost use Rattle.ansi_style.specs.Reading.{style_after_from};
-ghost use Rattle.ansi_columns.specs.Links.{terminator_len, address_of, link_of, link_after, link_after_all};
+ghost use Rattle.ansi_columns.specs.Links.{terminator_len, address_of, link_of, link_after};
+ghost use Rattle.ansi_columns.specs.Links.{link_after_all};
 
 use ansi_items::ansitok::{Kind, Scanner};
 use ansi_style::state::Style;
@@ -28,7 +30,8 @@ impl<'t> Pen<'t> {
 
     /// Whether nothing is open.
     pub(crate) fn is_none(&self) -> bool
-        ensures { result ≡ (not (has_any (rendition_of self.now.style)) && length self.now.link.now == 0) }
+        ensures { result
+            ≡ (not (has_any (rendition_of self.now.style)) && length self.now.link.now == 0) }
     {
         !styles::has_any(&self.style) && self.link.is_empty()
     }
@@ -55,7 +58,8 @@ pub(crate) fn pen_after(text: &str) -> Pen<'_>
 
 /// The pen after a text, if `before` is the pen before it. Doesn't allocate.
 pub(crate) fn pen_after_from<'t>(before: Pen<'t>, text: &'t str) -> Pen<'t>
-    ensures style { rendition_of result.style ≡ style_after_from (rendition_of before.entry.style) text.now }
+    ensures style { rendition_of result.style
+        ≡ style_after_from (rendition_of before.entry.style) text.now }
     ensures link { result.link.now ≡ link_after_all before.entry.link.now (marks text.now) }
 {
     let mut style = before.style;

@@ -2,7 +2,8 @@
 //! characters before.
 ghost use Rattle.std.specs.Prelude.{◌≡◌, ◌≢◌, ℕ, List, true, [], ◌∷◌};
 ghost use Rattle.std.specs.Int.{is_in_range};
-ghost use Rattle.unicode_segmentation.specs.Grapheme.{is_grapheme_break, break_by_pair, is_extend, is_zwj, is_regional, is_consonant};
+ghost use Rattle.unicode_segmentation.specs.Grapheme.{is_grapheme_break, break_by_pair, is_extend};
+ghost use Rattle.unicode_segmentation.specs.Grapheme.{is_zwj, is_regional, is_consonant};
 ghost use Rattle.ucd_derived.specs.IndicConjunctBreak.{indic_conjunct_break};
 ghost use Rattle.ansi_columns.specs.Seams.{seam_of, links};
 
@@ -61,7 +62,8 @@ impl Seam {
     /// Whether a cluster ends before the next character. There has to be a character before it.
     #[inline]
     pub(crate) fn ends_before(self, next: char) -> bool
-        ensures { (before after : List ℕ) → before ≢ [] → self ≡ seam_of before → result ≡ is_grapheme_break true before (next ∷ after) }
+        ensures { (before after : List ℕ) → before ≢ [] → self ≡ seam_of before →
+            result ≡ is_grapheme_break true before (next ∷ after) }
     {
         if is_printable(next) {
             return break_by_pair(self.last, Other).unwrap_or(true);

@@ -1,13 +1,15 @@
 //! Truncated and padded texts, ready for display: the style and link still open at their end are
 //! closed.
-ghost use Rattle.std.specs.Prelude.{◌≡◌, ◌↔◌, ◌+◌, ◌≤◌, ◌++◌, [], length, if◌then◌else◌, IsTrue, IsOk, IfOk, OnOk, string_bytes};
+ghost use Rattle.std.specs.Prelude.{◌≡◌, ◌↔◌, ◌+◌, ◌≤◌, ◌++◌, [], length, if◌then◌else◌, IsTrue};
+ghost use Rattle.std.specs.Prelude.{IsOk, IfOk, OnOk, string_bytes};
 ghost use Rattle.std.specs.Cow.{cow_str_bytes, IsBorrowedStr};
 ghost use Rattle.ansi_items.specs.Plain.{plain};
 ghost use Rattle.ansi_search.specs.Offsets.{StandsIn};
 ghost use Rattle.ansi_style.specs.States.{rendition_of};
 ghost use Rattle.ansi_style.specs.Written.{close, longest_close};
 ghost use Rattle.ansi_columns.specs.Links.{link_end, longest_link_end};
-ghost use Rattle.ansi_columns.specs.Shown.{has_tail, truncated_end, truncated_ending, truncated, missing, before_text, blanks, closing, padded};
+ghost use Rattle.ansi_columns.specs.Shown.{has_tail, truncated_end, truncated_ending, truncated};
+ghost use Rattle.ansi_columns.specs.Shown.{missing, before_text, blanks, closing, padded};
 
 use crate::columns;
 use crate::fits::fitting_front;
@@ -52,8 +54,10 @@ pub fn truncate<'t, A: Allocator>(
     tail: &str,
 ) -> Result<CowStr<'t, A>, AllocError>
     ensures bytes { IfOk result (λ c. cow_str_bytes c ≡ truncated text.now width tail.now) }
-    ensures borrowed { IfOk result (λ c. IsBorrowedStr c ↔ (truncated_ending text.now width tail.now ≡ [])) }
-    ensures len { IfOk result (λ c. length (cow_str_bytes c) ≤ length text.now + length tail.now + longest_link_end + longest_close) }
+    ensures borrowed { IfOk result (λ c.
+        IsBorrowedStr c ↔ (truncated_ending text.now width tail.now ≡ [])) }
+    ensures len { IfOk result (λ c. length (cow_str_bytes c)
+        ≤ length text.now + length tail.now + longest_link_end + longest_close) }
     ensures takes_no_memory { truncated_ending text.now width tail.now ≡ [] → IsOk result }
 {
     let (end, tail) = truncation(text, width, tail);
@@ -70,7 +74,8 @@ pub fn truncate<'t, A: Allocator>(
 /// The offset at which the text is cut, and the tail that is written after it.
 fn truncation<'a>(text: &str, width: usize, tail: &'a str) -> (usize, &'a str)
     ensures end { StandsIn text.now (truncated_end text.now width tail.entry.now) result.0 }
-    ensures tail { result.1.now ≡ (if has_tail text.now width tail.entry.now then tail.entry.now else []) }
+    ensures tail { result.1.now
+        ≡ (if has_tail text.now width tail.entry.now then tail.entry.now else []) }
 {
     let whole = fitting_front(text, width);
     if whole.is_all {
@@ -85,7 +90,8 @@ fn truncation<'a>(text: &str, width: usize, tail: &'a str) -> (usize, &'a str)
 
 /// Whether the pen has nothing to close, and the tail is empty.
 fn ends_here(pen: &Pen<'_>, tail: &str) -> bool
-    ensures { IsTrue result ↔ ((link_end pen.now.link.now ++ close (rendition_of pen.now.style)) ++ tail.now ≡ []) }
+    ensures { IsTrue result
+        ↔ ((link_end pen.now.link.now ++ close (rendition_of pen.now.style)) ++ tail.now ≡ []) }
 {
     tail.is_empty() && pen.link.is_empty() && !styles::has_close(&pen.style)
 }
@@ -99,7 +105,8 @@ fn closed<A: Allocator>(
     pen: &Pen<'_>,
     more: usize,
 ) -> Result<String<A>, AllocError>
-    ensures { IfOk result (λ s. string_bytes s ≡ (blanks before ++ text.now) ++ (link_end pen.now.link.now ++ close (rendition_of pen.now.style))) }
+    ensures { IfOk result (λ s. string_bytes s ≡ (blanks before ++ text.now)
+        ++ (link_end pen.now.link.now ++ close (rendition_of pen.now.style))) }
 {
     let most = (text.len() + LONGEST_CLOSING).saturating_add(more);
     let mut out = String::with_capacity(alloc, most)?;
@@ -126,8 +133,10 @@ pub fn pad<'t, A: Allocator>(
     alignment: Alignment,
 ) -> Result<CowStr<'t, A>, AllocError>
     ensures bytes { IfOk result (λ c. cow_str_bytes c ≡ padded text.now width alignment) }
-    ensures borrowed { IfOk result (λ c. IsBorrowedStr c ↔ ((missing text.now width ≡ 0) × (closing text.now ≡ []))) }
-    ensures len { IfOk result (λ c. length (cow_str_bytes c) ≤ length text.now + missing text.now width + longest_link_end + longest_close) }
+    ensures borrowed { IfOk result (λ c.
+        IsBorrowedStr c ↔ ((missing text.now width ≡ 0) × (closing text.now ≡ []))) }
+    ensures len { IfOk result (λ c. length (cow_str_bytes c)
+        ≤ length text.now + missing text.now width + longest_link_end + longest_close) }
     ensures takes_no_memory { (missing text.now width ≡ 0) × (closing text.now ≡ []) → IsOk result }
 {
     let missing = width.saturating_sub(columns::width(text));

@@ -1,8 +1,10 @@
 //! A walk over the clusters of a plain text, and the width of each cluster.
-ghost use Rattle.std.specs.Prelude.{◌≡◌, ◌+◌, ◌*◌, ◌-◌, ◌<◌, ◌≤◌, [], ◌∷◌, length, encode_utf8, chars, MatchOption};
+ghost use Rattle.std.specs.Prelude.{◌≡◌, ◌+◌, ◌*◌, ◌-◌, ◌<◌, ◌≤◌, [], ◌∷◌, length, encode_utf8};
+ghost use Rattle.std.specs.Prelude.{chars, MatchOption};
 ghost use Rattle.ansi_search.specs.Offsets.{offset_of};
 ghost use Rattle.ansi_columns.specs.Columns.{cluster_width};
-ghost use Rattle.ansi_columns.specs.Walks.{before, after, cluster, clusters_from, IsRun, IsWalk, IsNext};
+ghost use Rattle.ansi_columns.specs.Walks.{before, after, cluster, clusters_from, IsRun, IsWalk};
+ghost use Rattle.ansi_columns.specs.Walks.{IsNext};
 
 use crate::from_end;
 use crate::seams::Seam;
@@ -40,9 +42,11 @@ impl Walk {
     /// text.
     pub(crate) fn next_cluster(self, text: &str) -> Option<(Walk, usize)>
         requires { IsWalk text.now self }
-        ensures { MatchOption result (after text.now self.position ≡ []) (λ (walk, width). IsWalk text.now walk
+        ensures { MatchOption result (after text.now self.position ≡ []) (λ (walk, width).
+            IsWalk text.now walk
             × (self.position < walk.position)
-            × (clusters_from text.now self.position ≡ cluster text.now self.position walk.position ∷ clusters_from text.now walk.position)
+            × (clusters_from text.now self.position
+            ≡ cluster text.now self.position walk.position ∷ clusters_from text.now walk.position)
             × (width ≡ cluster_width (cluster text.now self.position walk.position))
             × (width ≤ 2 * (walk.position - self.position))) }
     {

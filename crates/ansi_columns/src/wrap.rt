@@ -50,7 +50,8 @@ impl<'t, A: Allocator> Model for AnsiWrap<'t, A> {
 /// ```
 pub fn wrap<'t, A: Allocator>(alloc: A, text: &'t str, width: usize) -> AnsiWrap<'t, A>
     ensures lines { result ≡ wrapped text.now width }
-    ensures takes_no_memory { IsFalse (has_escape text.now) → IsTrue (list_all (λ l. l.borrowed) result) }
+    ensures takes_no_memory { IsFalse (has_escape text.now) →
+        IsTrue (list_all (λ l. l.borrowed) result) }
 {
     let spans = Spans::new(text, width);
     AnsiWrap { alloc, spans }

@@ -3,7 +3,8 @@ ghost use Rattle.std.specs.Prelude.{◌≡◌, MatchResult};
 ghost use Rattle.std.specs.Cow.{cow_str_bytes};
 ghost use Rattle.ansi_items.specs.Plain.{plain};
 ghost use Rattle.ansi_answers.specs.Answers.{out_of_memory, HasFailed, IsWritten};
-ghost use Rattle.ansi_columns_answers.specs.Columns.{alignment_of, TellsWidth, TellsFitting, GivesTruncated, GivesPadded};
+ghost use Rattle.ansi_columns_answers.specs.Columns.{alignment_of, TellsWidth, TellsFitting};
+ghost use Rattle.ansi_columns_answers.specs.Columns.{GivesTruncated, GivesPadded};
 
 use ansi_answers::answers::{Answer, OUT_OF_MEMORY, REFUSED, write};
 use ansi_columns::shown::Alignment;

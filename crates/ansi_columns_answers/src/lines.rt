@@ -1,5 +1,6 @@
 //! The lines of a wrapped text, concatenated, and where each ends.
-ghost use Rattle.std.specs.Prelude.{◌≡◌, ◌⊎◌, ◌<◌, ◌≤◌, length, flat_map, IsFalse, IfNone, IfSome, IfOk, string_bytes};
+ghost use Rattle.std.specs.Prelude.{◌≡◌, ◌⊎◌, ◌<◌, ◌≤◌, length, flat_map, IsFalse, IfNone, IfSome};
+ghost use Rattle.std.specs.Prelude.{IfOk, string_bytes};
 ghost use Rattle.ansi_items.specs.Plain.{has_escape};
 ghost use Rattle.ansi_answers.specs.Lists.{ends_from, AreCopied, AreWritten};
 ghost use Rattle.ansi_columns_answers.specs.Columns.{wrapped_lines, GivesWrapped};
@@ -34,8 +35,10 @@ fn join_lines<A: Allocator + Copy>(
     text: &str,
     width: usize,
 ) -> Result<(String<A>, Vec<usize, A>), AllocError>
-    ensures texts { IfOk result (λ joined. string_bytes joined.0 ≡ flat_map (λ l. l) (wrapped_lines text.now width)) }
-    ensures ends { IfOk result (λ joined. joined.1.items ≡ ends_from 0 (wrapped_lines text.now width)) }
+    ensures texts { IfOk result (λ joined.
+        string_bytes joined.0 ≡ flat_map (λ l. l) (wrapped_lines text.now width)) }
+    ensures ends { IfOk result (λ joined.
+        joined.1.items ≡ ends_from 0 (wrapped_lines text.now width)) }
 {
     join_texts(alloc, text.len(), wrapped(alloc, text, width))
 }
@@ -50,7 +53,9 @@ fn write_bare_lines<A: Allocator + Copy>(
     ends: &mut [usize],
 ) -> ListAnswer
     requires { IsFalse (has_escape text.now) }
-    ensures { AreWritten (flat_map (λ l. l) (wrapped_lines text.now width)) (ends_from 0 (wrapped_lines text.now width)) result buffer.old buffer.new ends.old ends.new }
+    ensures { AreWritten (flat_map (λ l. l) (wrapped_lines text.now width))
+        (ends_from 0 (wrapped_lines text.now width)) result buffer.old buffer.new ends.old
+        ends.new }
 {
     if let Some((count, len)) = lines_without_room(alloc, text, width, buffer.len(), ends.len()) {
         return ListAnswer {
@@ -77,9 +82,13 @@ fn lines_without_room<A: Allocator + Copy>(
     ends: usize,
 ) -> Option<(usize, usize)>
     requires { IsFalse (has_escape text.now) }
-    ensures none { IfNone result ((length (flat_map (λ l. l) (wrapped_lines text.now width)) ≤ bytes) × (length (wrapped_lines text.now width) ≤ ends)) }
-    ensures small { IfSome result (λ r. (bytes < length (flat_map (λ l. l) (wrapped_lines text.now width))) ⊎ (ends < length (wrapped_lines text.now width))) }
-    ensures needed { IfSome result (λ r. (r.0 ≡ length (wrapped_lines text.now width)) × (r.1 ≡ length (flat_map (λ l. l) (wrapped_lines text.now width)))) }
+    ensures none { IfNone result ((length (flat_map (λ l. l) (wrapped_lines text.now width))
+        ≤ bytes) × (length (wrapped_lines text.now width) ≤ ends)) }
+    ensures small { IfSome result (λ r.
+        (bytes < length (flat_map (λ l. l) (wrapped_lines text.now width)))
+        ⊎ (ends < length (wrapped_lines text.now width))) }
+    ensures needed { IfSome result (λ r. (r.0 ≡ length (wrapped_lines text.now width))
+        × (r.1 ≡ length (flat_map (λ l. l) (wrapped_lines text.now width)))) }
 {
     laws::lines_lose_blanks_and_line_ends();
     if text.len() <= bytes && text.len() < ends {
@@ -103,7 +112,8 @@ fn copy_bare_lines<A: Allocator + Copy>(
     ends: &mut [usize],
 ) -> (usize, usize)
     requires { IsFalse (has_escape text.now) }
-    ensures { AreCopied (wrapped_lines text.now width) result buffer.old buffer.new ends.old ends.new }
+    ensures { AreCopied (wrapped_lines text.now width) result buffer.old buffer.new ends.old
+        ends.new }
 {
     laws::lines_lose_blanks_and_line_ends();
     copy_texts(wrapped(alloc, text, width), buffer, ends)

@@ -5,8 +5,8 @@ use grammar::{ESC, Looks};
 use memchr::{Memchr, memchr_iter};
 use std::marker::Model;
 
-/// A color, as SGR codes write it. (ECMA-48, section 8.3.117, and the codes 90 to 97 and 100 to 107,
-/// which terminals share; the type, the Rust crate.)
+/// A color, as SGR codes write it. (ECMA-48, section 8.3.117, and the codes 90 to 97 and 100 to
+/// 107, which terminals share; the type, the Rust crate.)
 ///
 /// ```
 /// assert!(rt; Color::from(AnsiColor::Bit4(91)) == Color::BrightRed);
@@ -14,8 +14,8 @@ use std::marker::Model;
 /// ```
 #[derive(Debug, Clone, Copy, PartialEq, Eq, PartialOrd, Ord, Hash)]
 pub enum AnsiColor {
-    /// One of sixteen colors, by the code that sets it: 30 to 37 or 90 to 97 for a foreground, 40 to
-    /// 47 or 100 to 107 for a background.
+    /// One of sixteen colors, by the code that sets it: 30 to 37 or 90 to 97 for a foreground, 40
+    /// to 47 or 100 to 107 for a background.
     Bit4(u8),
     /// One of 256 colors.
     Bit8(u8),
@@ -42,8 +42,8 @@ pub enum Kind {
     Lone,
 }
 
-/// An item of a text: its kind, and the range of the text's bytes that it has, from `start` up to `end`.
-/// (Own.)
+/// An item of a text: its kind, and the range of the text's bytes that it has, from `start` up to
+/// `end`. (Own.)
 ///
 /// Both count bytes of the text with its sequences, not of the plain text. Both are character
 /// boundaries.
@@ -62,8 +62,8 @@ pub struct Item {
 
 /// An iterator over the items of a text, in order. It doesn't allocate.
 ///
-/// Each byte of the text is in one item, and each text has one list of items. An unfinished sequence
-/// is no error: its ESC is an item of its own, and what follows is read again. (What a
+/// Each byte of the text is in one item, and each text has one list of items. An unfinished
+/// sequence is no error: its ESC is an item of its own, and what follows is read again. (What a
 /// sequence is, ECMA-48 and ECMA-35; of unfinished ones, own.)
 ///
 /// ```
@@ -108,7 +108,8 @@ impl<'a> Scanner<'a> {
         ensures start { result ≡ record { text = text.entry.now; offset = 0 } }
 
         // What it has left are the pieces of the text, and no others.
-        ensures pieces { (ps : List Piece) → ArePieces text.entry.now ps ↔ (ps ≡ pieces_left result) }
+        ensures pieces { (ps : List Piece) →
+            ArePieces text.entry.now ps ↔ (ps ≡ pieces_left result) }
     {
         let bytes = text.as_bytes();
         let mut looks = Looks { count: 0 };
@@ -126,9 +127,9 @@ impl<'a> Scanner<'a> {
     /// Returns how many looks at bytes of the text the scanner has taken so far.
     ///
     /// A look at one byte counts 1, and a search counts each byte that it passed over and the one
-    /// that it found. A byte that is looked at twice counts twice. So the time of a scan is linear in the
-    /// length of the text, whatever the text holds: also if sequences are unfinished, so that what follows
-    /// their ESC is read again. It doesn't allocate. (Own.)
+    /// that it found. A byte that is looked at twice counts twice. So the time of a scan is linear
+    /// in the length of the text, whatever the text holds: also if sequences are unfinished, so
+    /// that what follows their ESC is read again. It doesn't allocate. (Own.)
     ///
     /// ```
     /// let mut items = Scanner::new("\x1b]");
@@ -136,7 +137,8 @@ impl<'a> Scanner<'a> {
     /// assert!(rt; 2 <= items.reads() && items.reads() <= 8);
     /// ```
     pub fn reads(&self) -> u128
-        // At every moment there are at most four looks for each byte of the text, and in fact three.
+        // At every moment there are at most four looks for each byte of the text, and in fact
+        // three.
         ensures at_most { result ≤ 4 * length self.now.text }
         ensures at_most_three { result ≤ 3 * length self.now.text }
 

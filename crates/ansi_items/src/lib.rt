@@ -1,4 +1,5 @@
-//! The items of a text with ANSI control sequences, and the scanner that gives them: the lowest layer of `ansi_str`.
+//! The items of a text with ANSI control sequences, and the scanner that gives them: the lowest
+//! layer of `ansi_str`.
 #![tactic(auto)]
 
 pub mod ansitok;

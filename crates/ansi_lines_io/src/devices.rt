@@ -1,7 +1,9 @@
 //! What the program reads from and writes to.
-ghost use Rattle.std.specs.Prelude.{◌≡◌, ◌≤◌, ◌||◌, Bool, ℕ, List, Option, length, is_err, IfOk, OnOk};
+ghost use Rattle.std.specs.Prelude.{◌≡◌, ◌≤◌, ◌||◌, Bool, ℕ, List, Option, length, is_err, IfOk};
+ghost use Rattle.std.specs.Prelude.{OnOk};
 ghost use Rattle.std.specs.Io.KnownBytes.{append_known};
-ghost use Rattle.ansi_lines_io.specs.Devices.{Reads, count_after, fault_of, was_interrupted, was_failed};
+ghost use Rattle.ansi_lines_io.specs.Devices.{Reads, count_after, fault_of, was_interrupted};
+ghost use Rattle.ansi_lines_io.specs.Devices.{was_failed};
 
 use std::io::ErrorKind;
 
@@ -56,7 +58,8 @@ pub trait Source {
         ensures within { IfOk result (λ count. count ≤ length room.new) }
         ensures bytes { Reads (left self.old) (left self.new) result room.new }
         ensures reads { reads self.new ≡ count_after (reads self.old) 1 }
-        ensures interrupted { interrupted self.new ≡ (interrupted self.old || was_interrupted result) }
+        ensures interrupted { interrupted self.new
+            ≡ (interrupted self.old || was_interrupted result) }
         ensures failed { failed self.new ≡ (failed self.old || was_failed result) };
 }
 

@@ -1,9 +1,11 @@
 //! Devices over std's readers and writers. A sink reports the bytes that its writer reports. A
 //! source reports none.
-ghost use Rattle.std.specs.Prelude.{◌≡◌, ◌≤◌, ◌||◌, None, length, is_err, is_some, refl, IfOk, OnErr, OnOk};
+ghost use Rattle.std.specs.Prelude.{◌≡◌, ◌≤◌, ◌||◌, None, length, is_err, is_some, refl, IfOk};
+ghost use Rattle.std.specs.Prelude.{OnErr, OnOk};
 ghost use Rattle.std.specs.Io.KnownBytes.{append_known, Appends, Keeps, ReadConsumes};
 ghost use Rattle.ansi_lines_io.specs.Devices.{Reads, count_after, was_interrupted, was_failed};
-ghost use Rattle.ansi_lines_io.specs.Hosts.{reader_of, writer_of, flushed_by, IsFreshSource, IsFreshSink};
+ghost use Rattle.ansi_lines_io.specs.Hosts.{reader_of, writer_of, flushed_by, IsFreshSource};
+ghost use Rattle.ansi_lines_io.specs.Hosts.{IsFreshSink};
 ghost use Rattle.ansi_lines_io.specs.Writers.{buffered_tell_alike};
 
 use crate::devices::{ReadFault, Sink, Source, WriteFault};
@@ -47,9 +49,11 @@ impl<R: Read> Source for HostIn<R> {
         ensures within { IfOk result (λ count. count ≤ length room.new) }
         ensures bytes { Reads None None result room.new }
         ensures reads { self.new.reads ≡ count_after self.old.reads 1 }
-        ensures interrupted { self.new.interrupted ≡ (self.old.interrupted || was_interrupted result) }
+        ensures interrupted { self.new.interrupted
+            ≡ (self.old.interrupted || was_interrupted result) }
         ensures failed { self.new.failed ≡ (self.old.failed || was_failed result) }
-        ensures reader { ReadConsumes (R.remaining (reader_of self.old)) (R.remaining (reader_of self.new)) result room.new }
+        ensures reader { ReadConsumes (R.remaining (reader_of self.old))
+            (R.remaining (reader_of self.new)) result room.new }
     {
         self.reads = self.reads.saturating_add(1);
         match self.reader.read(room) {
@@ -68,7 +72,8 @@ impl<R: Read> Source for HostIn<R> {
 /// them.
 pub trait SteadyWrite: Write {
     /// If one writer of this type reports its bytes, each does.
-    ghost tell_alike: { (one other : Self) → is_some (Self.contents one) ≡ is_some (Self.contents other) };
+    ghost tell_alike: { (one other : Self) →
+        is_some (Self.contents one) ≡ is_some (Self.contents other) };
 }
 
 impl SteadyWrite for Stdout {
@@ -127,11 +132,13 @@ impl<W: SteadyWrite> Sink for HostOut<W> {
     ghost failed = { λ device. device.failed };
 
     fn write(&mut self, bytes: &[u8]) -> Result<(), WriteFault>
-        ensures taken { OnOk result (W.contents (writer_of self.new) ≡ append_known (W.contents (writer_of self.old)) bytes.now) }
+        ensures taken { OnOk result (W.contents (writer_of self.new)
+            ≡ append_known (W.contents (writer_of self.old)) bytes.now) }
         ensures flushes { self.new.flushes ≡ self.old.flushes }
         ensures failed { self.new.failed ≡ (self.old.failed || is_err result) }
         ensures untold { flushed_by W.contents self.new ≡ None }
-        ensures writer { OnOk result (Appends (W.contents (writer_of self.old)) (W.contents (writer_of self.new)) bytes.now) }
+        ensures writer { OnOk result (Appends (W.contents (writer_of self.old))
+            (W.contents (writer_of self.new)) bytes.now) }
     {
         self.flushed = false;
         match self.writer.write_all(bytes) {
@@ -144,8 +151,10 @@ impl<W: SteadyWrite> Sink for HostOut<W> {
     }
 
     fn flush(&mut self) -> Result<(), WriteFault>
-        ensures taken { OnOk result (W.contents (writer_of self.new) ≡ W.contents (writer_of self.old)) }
-        ensures flushed { OnOk result (flushed_by W.contents self.new ≡ W.contents (writer_of self.new)) }
+        ensures taken { OnOk result
+            (W.contents (writer_of self.new) ≡ W.contents (writer_of self.old)) }
+        ensures flushed { OnOk result
+            (flushed_by W.contents self.new ≡ W.contents (writer_of self.new)) }
         ensures flushes { self.new.flushes ≡ count_after self.old.flushes 1 }
         ensures failed { self.new.failed ≡ (self.old.failed || is_err result) }
         ensures untold { OnErr result (flushed_by W.contents self.new ≡ None) }

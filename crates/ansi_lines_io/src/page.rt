@@ -1,8 +1,11 @@
 //! A device over memory. A schedule decides how its calls end.
-ghost use Rattle.std.specs.Prelude.{◌≡◌, ◌≤◌, ◌+◌, ◌||◌, [], ◌++◌, IfOk, OnOk, Some, length, drop, take, is_err, vec_len};
+ghost use Rattle.std.specs.Prelude.{◌≡◌, ◌≤◌, ◌+◌, ◌||◌, [], ◌++◌, IfOk, OnOk, Some, length, drop};
+ghost use Rattle.std.specs.Prelude.{take, is_err, vec_len};
 ghost use Rattle.std.specs.Io.KnownBytes.{append_known};
 ghost use Rattle.ansi_lines_io.specs.Devices.{Reads, count_after, was_interrupted, was_failed};
-ghost use Rattle.ansi_lines_io.specs.Pages.{fresh_page, next_outcome, bytes_left, count_given, read_comes_to, write_comes_to, flush_comes_to, page_after_read, page_after_write, page_after_flush};
+ghost use Rattle.ansi_lines_io.specs.Pages.{fresh_page, next_outcome, bytes_left, count_given};
+ghost use Rattle.ansi_lines_io.specs.Pages.{read_comes_to, write_comes_to, flush_comes_to};
+ghost use Rattle.ansi_lines_io.specs.Pages.{page_after_read, page_after_write, page_after_flush};
 
 use crate::devices::{ReadFault, Sink, Source, WriteFault};
 use std::alloc::{AllocError, Global};
@@ -65,7 +68,8 @@ impl Model for Page {
       failed = page.failed;
     } };
 
-    ghost invariant = { λ page. IsWithinRoom page.read (vec_len page.bytes) page.room (vec_capacity page.bytes) };
+    ghost invariant = { λ page.
+        IsWithinRoom page.read (vec_len page.bytes) page.room (vec_capacity page.bytes) };
 }
 
 impl Page {
@@ -154,7 +158,10 @@ impl Page {
     // Counts a read, and takes its outcome off the schedule.
     fn start_read(&mut self) -> Outcome
         ensures outcome { result ≡ next_outcome self.old }
-        ensures page { self.new ≡ record self.old { reads = count_after self.old.reads 1; schedule = drop 1 self.old.schedule } }
+        ensures page { self.new ≡ record self.old {
+          reads = count_after self.old.reads 1;
+          schedule = drop 1 self.old.schedule;
+        } }
     {
         self.reads = self.reads.saturating_add(1);
         self.take_outcome()
@@ -187,11 +194,14 @@ impl Source for Page {
 
     fn read(&mut self, room: &mut [u8]) -> Result<usize, ReadFault>
         ensures within { IfOk result (λ count. count ≤ length room.new) }
-        ensures bytes { Reads (Some (bytes_left self.old)) (Some (bytes_left self.new)) result room.new }
+        ensures bytes { Reads (Some (bytes_left self.old)) (Some (bytes_left self.new)) result
+            room.new }
         ensures reads { self.new.reads ≡ count_after self.old.reads 1 }
-        ensures interrupted { self.new.interrupted ≡ (self.old.interrupted || was_interrupted result) }
+        ensures interrupted { self.new.interrupted
+            ≡ (self.old.interrupted || was_interrupted result) }
         ensures failed { self.new.failed ≡ (self.old.failed || was_failed result) }
-        ensures outcome { result ≡ read_comes_to (next_outcome self.old) (count_given self.old (length room.old)) }
+        ensures outcome { result
+            ≡ read_comes_to (next_outcome self.old) (count_given self.old (length room.old)) }
         ensures page { self.new ≡ page_after_read self.old result }
     {
         match self.start_read() {
@@ -220,10 +230,12 @@ impl Sink for Page {
     ghost failed = { λ page. page.failed };
 
     fn write(&mut self, bytes: &[u8]) -> Result<(), WriteFault>
-        ensures taken { OnOk result (Some self.new.bytes ≡ append_known (Some self.old.bytes) bytes.now) }
+        ensures taken { OnOk result
+            (Some self.new.bytes ≡ append_known (Some self.old.bytes) bytes.now) }
         ensures flushes { self.new.flushes ≡ self.old.flushes }
         ensures failed { self.new.failed ≡ (self.old.failed || is_err result) }
-        ensures outcome { result ≡ write_comes_to (next_outcome self.old) (length self.old.bytes + length bytes.now) self.old.room }
+        ensures outcome { result ≡ write_comes_to (next_outcome self.old) (length self.old.bytes
+            + length bytes.now) self.old.room }
         ensures page { self.new ≡ page_after_write self.old bytes.now result }
     {
         let outcome = self.take_outcome();
@@ -237,7 +249,8 @@ impl Sink for Page {
 
     fn flush(&mut self) -> Result<(), WriteFault>
         ensures taken { OnOk result (Some self.new.bytes ≡ Some self.old.bytes) }
-        ensures flushed { OnOk result (Some (take self.new.flushed self.new.bytes) ≡ Some self.new.bytes) }
+        ensures flushed { OnOk result
+            (Some (take self.new.flushed self.new.bytes) ≡ Some self.new.bytes) }
         ensures flushes { self.new.flushes ≡ count_after self.old.flushes 1 }
         ensures failed { self.new.failed ≡ (self.old.failed || is_err result) }
         ensures outcome { result ≡ flush_comes_to (next_outcome self.old) }

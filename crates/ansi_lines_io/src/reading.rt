@@ -1,5 +1,6 @@
 //! Reads the whole input.
-ghost use Rattle.std.specs.Prelude.{◌≡◌, ◌≤◌, ◌<◌, ◌+◌, ◌⊎◌, true, length, take, OnOk, IfOk, IfNone, IfSome, IfErr, string_bytes, string_len, vec_len};
+ghost use Rattle.std.specs.Prelude.{◌≡◌, ◌≤◌, ◌<◌, ◌+◌, ◌⊎◌, true, length, take, OnOk, IfOk};
+ghost use Rattle.std.specs.Prelude.{IfNone, IfSome, IfErr, string_bytes, string_len, vec_len};
 ghost use Rattle.std.specs.Io.KnownBytes.{prepend_known, IsAtEnd};
 ghost use Rattle.ansi_lines_io.specs.Devices.{count_after};
 ghost use Rattle.ansi_lines_io.specs.Reading.{max_bytes, max_reads, IsGivenUp, StopsReading};
@@ -25,7 +26,8 @@ const ROOM: usize = 65_536;
 /// input is longer, isn't UTF-8, takes more reads, or fails. It is `OutOfMemory` if memory has run
 /// out.
 pub fn read_text<A: Allocator, S: Source>(alloc: A, input: &mut S) -> Result<String<A>, Stop>
-    ensures all { IfOk result (λ text. IfSome (S.left input.old) (λ bytes. string_bytes text ≡ bytes)) }
+    ensures all { IfOk result (λ text. IfSome (S.left input.old) (λ bytes.
+        string_bytes text ≡ bytes)) }
     ensures short { IfOk result (λ text. string_len text ≤ max_bytes) }
     ensures most_reads { S.reads input.new ≤ S.reads input.old + max_reads }
     ensures unfailed { OnOk result (S.failed input.new ≡ S.failed input.old) }

@@ -51,7 +51,8 @@ impl Stop {
 
     // Writes its text, which is one line.
     fn write_line<V: Sink>(self, faults: &mut V) -> Result<(), WriteFault>
-        ensures told { OnOk result (V.taken faults.new ≡ append_known (V.taken faults.old) (message_of_stop self)) }
+        ensures told { OnOk result
+            (V.taken faults.new ≡ append_known (V.taken faults.old) (message_of_stop self)) }
         ensures flushes { V.flushes faults.new ≡ V.flushes faults.old }
         ensures failed { OnErr result (V.failed faults.new ≡ true) }
     {

@@ -1,9 +1,12 @@
 //! Edits or strips a text line by line.
-ghost use Rattle.std.specs.Prelude.{◌≡◌, ◌<◌, ◌||◌, [], is_err, length, IfErr, IfNone, IfOk, IfSome, OnOk};
+ghost use Rattle.std.specs.Prelude.{◌≡◌, ◌<◌, ◌||◌, [], is_err, length, IfErr, IfNone, IfOk};
+ghost use Rattle.std.specs.Prelude.{IfSome, OnOk};
 ghost use Rattle.std.specs.Io.KnownBytes.{append_known};
 ghost use Rattle.ansi_str.specs.Plain.{plain};
 ghost use Rattle.ansi_lines_runs.specs.Jobs.{work_of};
-ghost use Rattle.ansi_lines_runs.specs.Lines.{answer_of, answers, first_refused, lines, HasFirstLine, StopsWriting, WritesAnswer, WritesBeginning};
+ghost use Rattle.ansi_lines_runs.specs.Lines.{answer_of, answers, first_refused, lines};
+ghost use Rattle.ansi_lines_runs.specs.Lines.{HasFirstLine, StopsWriting, WritesAnswer};
+ghost use Rattle.ansi_lines_runs.specs.Lines.{WritesBeginning};
 
 use crate::words::Job;
 use ansi_lines_io::devices::{Sink, WriteFault};
@@ -27,12 +30,14 @@ pub fn write_lines<A: Allocator + Copy, W: Sink>(
     text: &str,
     output: &mut W,
 ) -> Result<Option<usize>, Stop>
-    ensures done { OnOk result (W.taken output.new ≡ append_known (W.taken output.old) (answers (work_of job.now) text.now)) }
+    ensures done { OnOk result (W.taken output.new
+        ≡ append_known (W.taken output.old) (answers (work_of job.now) text.now)) }
     ensures refused { IfOk result (λ line. line ≡ first_refused 1 (work_of job.now) text.now) }
     ensures flushes { W.flushes output.new ≡ W.flushes output.old }
     ensures unfailed { OnOk result (W.failed output.new ≡ W.failed output.old) }
     ensures stopped { IfErr result (StopsWriting (W.failed output.old) (W.failed output.new)
-        (WritesBeginning (W.taken output.old) (W.taken output.new) (answers (work_of job.now) text.now))) }
+        (WritesBeginning (W.taken output.old) (W.taken output.new)
+        (answers (work_of job.now) text.now))) }
 {
     let mut rest = text;
     let mut number = 1;
@@ -73,7 +78,8 @@ fn write_answer<A: Allocator + Copy, W: Sink>(
     line: &str,
     output: &mut W,
 ) -> Result<bool, Stop>
-    ensures done { IfOk result (λ answered. WritesAnswer (answer_of (work_of job.now) line.now) answered (W.taken output.old) (W.taken output.new)) }
+    ensures done { IfOk result (λ answered. WritesAnswer (answer_of (work_of job.now) line.now)
+        answered (W.taken output.old) (W.taken output.new)) }
     ensures flushes { W.flushes output.new ≡ W.flushes output.old }
     ensures unfailed { OnOk result (W.failed output.new ≡ W.failed output.old) }
     ensures stopped { IfErr result (StopsWriting (W.failed output.old) (W.failed output.new)
@@ -96,7 +102,8 @@ fn write_answer<A: Allocator + Copy, W: Sink>(
 
 // Writes the plain text of a line run by run, so it doesn't allocate.
 fn write_plain<W: Sink>(line: &str, output: &mut W) -> Result<(), WriteFault>
-    ensures taken { OnOk result (W.taken output.new ≡ append_known (W.taken output.old) (plain line.now)) }
+    ensures taken { OnOk result
+        (W.taken output.new ≡ append_known (W.taken output.old) (plain line.now)) }
     ensures flushes { W.flushes output.new ≡ W.flushes output.old }
     ensures failed { W.failed output.new ≡ (W.failed output.old || is_err result) }
 {

@@ -1,10 +1,12 @@
 //! A run of the program, over any devices.
-ghost use Rattle.std.specs.Prelude.{◌≡◌, ◌≤◌, ◌+◌, ◌⊎◌, false, true, Err, IfErr, IfOk, IfSome, IsErr, IsErrOf, IsNone, IsOk, IsSome, Ok, OnOk};
+ghost use Rattle.std.specs.Prelude.{◌≡◌, ◌≤◌, ◌+◌, ◌⊎◌, false, true, Err, IfErr, IfOk, IfSome};
+ghost use Rattle.std.specs.Prelude.{IsErr, IsErrOf, IsNone, IsOk, IsSome, Ok, OnOk};
 ghost use Rattle.std.specs.Io.KnownBytes.{append_known};
 ghost use Rattle.ansi_lines_io.specs.Devices.{count_after};
 ghost use Rattle.ansi_lines_runs.specs.Lines.{WritesBeginning};
 ghost use Rattle.ansi_lines_io.specs.Reading.{max_reads, IsBadInput, IsGivenUp, IsRead, IsUnfit};
-ghost use Rattle.ansi_lines_runs.specs.Runs.{AreBadWords, AreGoodWords, IfAnswered, MatchesWords, output_of, refused_line, message_of_status, words_of};
+ghost use Rattle.ansi_lines_runs.specs.Runs.{AreBadWords, AreGoodWords, IfAnswered, MatchesWords};
+ghost use Rattle.ansi_lines_runs.specs.Runs.{output_of, refused_line, message_of_status, words_of};
 ghost use Rattle.ansi_lines_io.specs.Stops.{refusal};
 
 use crate::lines::write_lines;
@@ -88,7 +90,8 @@ pub fn run<A: Allocator, S: Source, W: Sink, V: Sink>(
 
     // All that the words make of the input, up to a refused line, is written and passed on.
     ensures done { result ≤ 1 → IfSome (S.left input.old) (λ bytes.
-        W.taken output.new ≡ append_known (W.taken output.old) (output_of (words_of words.now) bytes)) }
+        W.taken output.new
+        ≡ append_known (W.taken output.old) (output_of (words_of words.now) bytes)) }
     ensures flushed { result ≤ 1 → W.flushed output.new ≡ W.taken output.new }
     ensures none_refused { result ≡ 0 → IfSome (S.left input.old) (λ bytes.
         IsNone (refused_line (words_of words.now) bytes)) }
@@ -118,14 +121,17 @@ pub fn run<A: Allocator, S: Source, W: Sink, V: Sink>(
 
     // A failed write or flush is reported.
     ensures write_failed { result ≡ 4 → W.failed output.new ≡ true }
-    ensures only_write_failed { W.failed output.old ≡ false → W.failed output.new ≡ true → result ≡ 4 }
+    ensures only_write_failed { W.failed output.old ≡ false → W.failed output.new ≡ true →
+        result ≡ 4 }
 
     // If memory runs out, a beginning of the output is written.
     ensures out_of_memory { result ≡ 5 → IfSome (S.left input.old) (λ bytes.
-        WritesBeginning (W.taken output.old) (W.taken output.new) (output_of (words_of words.now) bytes)) }
+        WritesBeginning (W.taken output.old) (W.taken output.new)
+        (output_of (words_of words.now) bytes)) }
 
     // The output is flushed once, after all is written, and the fault writer never.
-    ensures flushed_once { result ≤ 1 → W.flushes output.new ≡ count_after (W.flushes output.old) 1 }
+    ensures flushed_once { result ≤ 1 →
+        W.flushes output.new ≡ count_after (W.flushes output.old) 1 }
     ensures flushed_at_most_once { (W.flushes output.new ≡ W.flushes output.old) ⊎
         (W.flushes output.new ≡ count_after (W.flushes output.old) 1) }
     ensures unflushed { result ≡ 5 → W.flushes output.new ≡ W.flushes output.old }
@@ -135,7 +141,8 @@ pub fn run<A: Allocator, S: Source, W: Sink, V: Sink>(
     ensures quiet { result ≡ 0 → faults.new ≡ faults.old }
     ensures told { 2 ≤ result → V.failed faults.new ≡ false →
         V.taken faults.new ≡ append_known (V.taken faults.old) (message_of_status result) }
-    ensures told_line { result ≡ 1 → V.failed faults.new ≡ false → IfSome (S.left input.old) (λ bytes.
+    ensures told_line { result ≡ 1 → V.failed faults.new ≡ false →
+        IfSome (S.left input.old) (λ bytes.
         IfSome (refused_line (words_of words.now) bytes) (λ line.
         V.taken faults.new ≡ append_known (V.taken faults.old) (refusal line))) }
 {
@@ -154,7 +161,8 @@ fn perform<A: Allocator, S: Source, W: Sink>(
 ) -> Result<(), Stop>
     // All that the words make of the input, up to a refused line.
     ensures done { IfAnswered result (λ _. IfSome (S.left input.old) (λ bytes.
-        W.taken output.new ≡ append_known (W.taken output.old) (output_of (words_of words.now) bytes))) }
+        W.taken output.new
+        ≡ append_known (W.taken output.old) (output_of (words_of words.now) bytes))) }
     ensures flushed { IfAnswered result (λ _.
         (W.flushed output.new ≡ W.taken output.new)
         × (W.failed output.new ≡ W.failed output.old)
@@ -165,10 +173,12 @@ fn perform<A: Allocator, S: Source, W: Sink>(
     // Bad words.
     ensures good_words { OnOk result (AreGoodWords (words_of words.now)) }
     ensures words { IfErr result (λ stop. MatchesWords stop (words_of words.now)) }
-    ensures untouched { AreBadWords (words_of words.now) → (input.new ≡ input.old) × (output.new ≡ output.old) }
+    ensures untouched { AreBadWords (words_of words.now) →
+        (input.new ≡ input.old) × (output.new ≡ output.old) }
 
     // The input.
-    ensures read { IfAnswered result (λ _. IsRead (S.left input.old) (S.failed input.old) (S.failed input.new)) }
+    ensures read { IfAnswered result (λ _.
+        IsRead (S.left input.old) (S.failed input.old) (S.failed input.new)) }
     ensures bad_input { IsErrOf result Stop.BadInput →
         IsBadInput (S.left input.old) (S.failed input.new)
         (IsGivenUp (S.interrupted input.new) (S.reads input.old) (S.reads input.new))
@@ -179,13 +189,16 @@ fn perform<A: Allocator, S: Source, W: Sink>(
     ensures unwritten { (output.new ≡ output.old)
         ⊎ IsRead (S.left input.old) (S.failed input.old) (S.failed input.new) }
     ensures write_failed { IsErrOf result Stop.WriteFailed →
-        IsRead (S.left input.old) (S.failed input.old) (S.failed input.new) × (W.failed output.new ≡ true) }
+        IsRead (S.left input.old) (S.failed input.old) (S.failed input.new)
+        × (W.failed output.new ≡ true) }
     ensures out_of_memory { IsErrOf result Stop.OutOfMemory → IfSome (S.left input.old) (λ bytes.
-        WritesBeginning (W.taken output.old) (W.taken output.new) (output_of (words_of words.now) bytes)) }
+        WritesBeginning (W.taken output.old) (W.taken output.new)
+        (output_of (words_of words.now) bytes)) }
     ensures flushed_at_most_once { (W.flushes output.new ≡ W.flushes output.old) ⊎
         (W.flushes output.new ≡ count_after (W.flushes output.old) 1) }
     ensures unflushed { IsErrOf result Stop.OutOfMemory →
-        (W.flushes output.new ≡ W.flushes output.old) × (W.failed output.new ≡ W.failed output.old) }
+        (W.flushes output.new ≡ W.flushes output.old)
+        × (W.failed output.new ≡ W.failed output.old) }
 {
     let job = parse(alloc, words)?.ok_or(Stop::BadWords)?;
     let text = read_text(alloc, input)?;

@@ -4,7 +4,8 @@ ghost use Rattle.std.specs.Option.{option_map};
 ghost use Rattle.ansi_str.specs.Edits.{change_of};
 ghost use Rattle.ansi_lines_runs.specs.Jobs.{work_of};
 ghost use Rattle.ansi_lines_runs.specs.Runs.{words_of};
-ghost use Rattle.ansi_lines_runs.specs.Words.{Changed, change_asked, change_named, changes_asked, cut_of, end_of, field_number, part_of, work_asked};
+ghost use Rattle.ansi_lines_runs.specs.Words.{Changed, change_asked, change_named, changes_asked};
+ghost use Rattle.ansi_lines_runs.specs.Words.{cut_of, end_of, field_number, part_of, work_asked};
 
 use ansi_str::Edit;
 use std::alloc::{AllocError, Allocator};
@@ -45,7 +46,8 @@ fn parse_edits<'w, A: Allocator>(
     alloc: A,
     words: &'w [String],
 ) -> Result<Option<Job<'w, A>>, AllocError>
-    ensures { IfOk result (λ job. option_map work_of job ≡ option_map Changed (changes_asked (words_of words.now))) }
+    ensures { IfOk result (λ job.
+        option_map work_of job ≡ option_map Changed (changes_asked (words_of words.now))) }
 {
     let mut edits = Vec::new(alloc);
     for word in words {

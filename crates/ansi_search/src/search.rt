@@ -20,8 +20,8 @@ pub use prefix::starts_with;
 /// A position past the end of every text: no end, or no match.
 pub const PAST_THE_END: usize = usize::MAX;
 
-/// Whether the position is good: a character of the plain text begins there, or it is the end of the
-/// plain text or past it. (std; past the end, the Rust crate.)
+/// Whether the position is good: a character of the plain text begins there, or it is the end of
+/// the plain text or past it. (std; past the end, the Rust crate.)
 ///
 /// The position counts bytes of the plain text. Doesn't allocate.
 pub fn is_good_position(text: &str, position: usize) -> bool

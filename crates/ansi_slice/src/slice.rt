@@ -1,4 +1,5 @@
-//! The slices of a text, with every sequence at its place: the functions that the calls of `AnsiStr` are built on.
+//! The slices of a text, with every sequence at its place: the functions that the calls of
+//! `AnsiStr` are built on.
 ghost use Rattle.std.specs.Prelude.{◌≡◌, ◌++◌, ◌↔◌, IsFalse, IsOk, IfOk, OnOk, string_bytes};
 ghost use Rattle.std.specs.Cow.{cow_str_bytes, IsBorrowedStr};
 ghost use Rattle.ansi_items.specs.Plain.{plain, has_escape};

@@ -1,5 +1,6 @@
 //! The parts of a text between the matches of a pattern.
-ghost use Rattle.std.specs.Prelude.{◌≡◌, ◌↔◌, ◌⊎◌, ◌+◌, ◌≤◌, ◌<◌, ◌^◌, Some, length, map, slice_get, IsTrue, IsFalse, IsNone, IsOk, IfOk, IfSome};
+ghost use Rattle.std.specs.Prelude.{◌≡◌, ◌↔◌, ◌⊎◌, ◌+◌, ◌≤◌, ◌<◌, ◌^◌, Some, length, map};
+ghost use Rattle.std.specs.Prelude.{slice_get, IsTrue, IsFalse, IsNone, IsOk, IfOk, IfSome};
 ghost use Rattle.std.specs.List.{list_all, sum_by};
 ghost use Rattle.std.specs.Cow.{cow_str_bytes, IsBorrowedStr};
 ghost use Rattle.ansi_items.specs.Plain.{plain, has_escape};
@@ -20,9 +21,9 @@ use std::marker::Model;
 /// `AnsiStr::ansi_split` makes.
 ///
 /// A part with no sequence is a borrow if no style is carried into it or it is empty. Any other
-/// part is owned. `Err` means out of memory. After it, and after the last part, the iterator returns
-/// `None` for good. A part lives as long as the text and the pattern, and may outlive the iterator.
-/// (The Rust crate; that an item may be an `Err`, own.)
+/// part is owned. `Err` means out of memory. After it, and after the last part, the iterator
+/// returns `None` for good. A part lives as long as the text and the pattern, and may outlive the
+/// iterator. (The Rust crate; that an item may be an `Err`, own.)
 ///
 /// ```
 /// let text = "\x1b[1mlion,tiger";
@@ -48,8 +49,8 @@ impl<'a, A: Allocator> Model for AnsiSplit<'a, A> {
     ghost view = { λ s. s.spans };
 }
 
-/// Like `AnsiStr::ansi_split`, with parts that live as long as the text and the pattern, and with any allocator.
-/// (Own.)
+/// Like `AnsiStr::ansi_split`, with parts that live as long as the text and the pattern, and with
+/// any allocator. (Own.)
 ///
 /// ```
 /// let first = split_in(rt.alloc(), "\x1b[1mlion,tiger", ",").next();
@@ -61,7 +62,8 @@ pub fn split_in<'a, A: Allocator>(alloc: A, text: &'a str, pat: &'a str) -> Ansi
     ensures len { length result ≤ length (plain text.now) + 2 }
     ensures fits { length result < 2 ^ 64 }
     ensures within { sum_by (λ p. p.source_len) result ≤ length text.now }
-    ensures takes_no_memory { IsFalse (has_escape text.now) → IsTrue (list_all (λ p. p.borrowed) result) }
+    ensures takes_no_memory { IsFalse (has_escape text.now) →
+        IsTrue (list_all (λ p. p.borrowed) result) }
 {
     let spans = PartSpans::new(text, pat);
     AnsiSplit { alloc, spans }
@@ -94,9 +96,9 @@ impl<'a, A: Allocator + Copy> Iterator for AnsiSplit<'a, A> {
 /// The part of an index, counted from 0, among those that [`split_in`] returns. The result lives
 /// as long as the text. The parts before it aren't written.
 ///
-/// It is `None` exactly if there is no part of that index. It is a borrow if the text has no ESC, or
-/// if the part is one that `split_in` borrows. A borrow and a `None` don't allocate. Otherwise it is
-/// owned. `Err` means out of memory. (Own.)
+/// It is `None` exactly if there is no part of that index. It is a borrow if the text has no ESC,
+/// or if the part is one that `split_in` borrows. A borrow and a `None` don't allocate. Otherwise
+/// it is owned. `Err` means out of memory. (Own.)
 ///
 /// ```
 /// let part = part_in(rt.alloc(), "\x1b[1mlion,tiger", ",", 1);
@@ -109,12 +111,18 @@ pub fn part_in<'t, A: Allocator>(
     pat: &str,
     index: usize,
 ) -> Result<Option<CowStr<'t, A>>, AllocError>
-    ensures none { IfOk result (λ o. IsNone o ↔ IsNone (slice_get (parts (plain text.now) pat.now) index)) }
-    ensures bytes { IfOk result (λ o. IfSome o (λ c. part text.now pat.now index ≡ Some (cow_str_bytes c))) }
-    ensures borrowed { IfOk result (λ o. IfSome o (λ c. IsBorrowedStr c ↔ (IsFalse (has_escape text.now) ⊎ IsTrue (is_part_borrowed text.now pat.now index)))) }
-    ensures len { IfOk result (λ o. IfSome o (λ c. length (cow_str_bytes c) ≤ source_len text.now pat.now index + longest_start_and_close)) }
+    ensures none { IfOk result (λ o.
+        IsNone o ↔ IsNone (slice_get (parts (plain text.now) pat.now) index)) }
+    ensures bytes { IfOk result (λ o. IfSome o (λ c.
+        part text.now pat.now index ≡ Some (cow_str_bytes c))) }
+    ensures borrowed { IfOk result (λ o. IfSome o (λ c. IsBorrowedStr c
+        ↔ (IsFalse (has_escape text.now) ⊎ IsTrue (is_part_borrowed text.now pat.now index)))) }
+    ensures len { IfOk result (λ o. IfSome o (λ c.
+        length (cow_str_bytes c) ≤ source_len text.now pat.now index + longest_start_and_close)) }
     ensures within { source_len text.now pat.now index ≤ length text.now }
-    ensures takes_no_memory { IsFalse (has_escape text.now) ⊎ IsTrue (is_part_borrowed text.now pat.now index) ⊎ IsNone (slice_get (parts (plain text.now) pat.now) index) → IsOk result }
+    ensures takes_no_memory { IsFalse (has_escape text.now)
+        ⊎ IsTrue (is_part_borrowed text.now pat.now index)
+        ⊎ IsNone (slice_get (parts (plain text.now) pat.now) index) → IsOk result }
 {
     match PartSpans::new(text, pat).nth(index) {
         Some(span) => Ok(Some(span.write(alloc)?)),

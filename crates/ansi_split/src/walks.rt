@@ -1,4 +1,5 @@
-//! Splits that are paused, in memory that isn't Rattle's. They have a module of their own, since `ansi_str` passes `split` on.
+//! Splits that are paused, in memory that isn't Rattle's. They have a module of their own, since
+//! `ansi_str` passes `split` on.
 ghost use Rattle.std.specs.Prelude.{◌≡◌};
 ghost use Rattle.ansi_split.specs.Splits.{split_parts, GivesPart};
 ghost use Rattle.ansi_split.specs.Walks.{parts_of_walk, IsPartWalk};
@@ -9,8 +10,8 @@ use ansi_style::numbers::StyleNumbers;
 use std::alloc::{AllocError, Allocator};
 use std::borrow::CowStr;
 
-/// What is left of a text that is split, and the style there, as plain data. In contracts it is the list of the
-/// parts left, by `parts_of_walk`. (Own.)
+/// What is left of a text that is split, and the style there, as plain data. In contracts it is the
+/// list of the parts left, by `parts_of_walk`. (Own.)
 #[repr(C)]
 #[derive(Clone, Copy)]
 pub struct PartWalk<'a> {

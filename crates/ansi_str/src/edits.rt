@@ -2,7 +2,8 @@
 ghost use Rattle.std.specs.Prelude.{◌≡◌, ◌↔◌, ◌⊎◌, IsTrue, IsNone, IsOk, IfOk, IfSome, option_map};
 ghost use Rattle.std.specs.Cow.{cow_str_bytes, IsBorrowedStr};
 ghost use Rattle.ansi_items.specs.Plain.{is_whole};
-ghost use Rattle.ansi_str.specs.Edited.{edited_by, edited, gives_borrow, stay_borrowed, IsSliceNamed};
+ghost use Rattle.ansi_str.specs.Edited.{edited_by, edited, gives_borrow, stay_borrowed};
+ghost use Rattle.ansi_str.specs.Edited.{IsSliceNamed};
 ghost use Rattle.ansi_str.specs.Edits.{change_of, changes_of};
 
 mod kinds;
@@ -15,7 +16,8 @@ pub use kinds::Edit;
 use std::alloc::{AllocError, Allocator};
 use std::borrow::CowStr;
 
-/// Whether the text is whole: whether it has no lone escape, which is an ESC that begins no whole sequence.
+/// Whether the text is whole: whether it has no lone escape, which is an ESC that begins no whole
+/// sequence.
 ///
 /// If a text has a lone escape, cutting away the text after it can make a whole sequence of it:
 /// `\x1bé[m` cut from 2 on is `\x1b[m`. Doesn't allocate. (The Rust crate lacks it.)
@@ -46,9 +48,9 @@ pub fn ansi_is_whole(text: &str) -> bool
 /// end. On every text, whole or not, the bytes are those that the edits make in turn.
 ///
 /// It is a borrow of the text until an edit makes an owned text, and owned from then on. While it
-/// stays a borrow the call doesn't allocate and returns no `Err`: for no edits, on a text without ESC, and
-/// if the first edit is refused. Otherwise `Err` means out of memory. Takes any
-/// allocator. (The Rust crate lacks it.)
+/// stays a borrow the call doesn't allocate and returns no `Err`: for no edits, on a text without
+/// ESC, and if the first edit is refused. Otherwise `Err` means out of memory. Takes any allocator.
+/// (The Rust crate lacks it.)
 ///
 /// ```
 /// let edits = [Edit::Prefix("> "), Edit::Left(2)];
@@ -61,10 +63,13 @@ pub fn edit<'t, A: Allocator + Copy>(
     text: &'t str,
     edits: &[Edit<'_>],
 ) -> Result<Option<CowStr<'t, A>>, AllocError>
-    ensures headline { IsTrue (is_whole text.now) → IfOk result (λ o. IsSliceNamed (changes_of edits.now) text.now (option_map cow_str_bytes o)) }
+    ensures headline { IsTrue (is_whole text.now) → IfOk result (λ o.
+        IsSliceNamed (changes_of edits.now) text.now (option_map cow_str_bytes o)) }
     ensures none { IfOk result (λ o. IsNone o ↔ IsNone (edited (changes_of edits.now) text.now)) }
-    ensures bytes { IfOk result (λ o. option_map cow_str_bytes o ≡ edited (changes_of edits.now) text.now) }
-    ensures borrowed { IfOk result (λ o. IfSome o (λ c. IsBorrowedStr c ↔ IsTrue (stay_borrowed (changes_of edits.now) text.now))) }
+    ensures bytes { IfOk result (λ o.
+        option_map cow_str_bytes o ≡ edited (changes_of edits.now) text.now) }
+    ensures borrowed { IfOk result (λ o. IfSome o (λ c.
+        IsBorrowedStr c ↔ IsTrue (stay_borrowed (changes_of edits.now) text.now))) }
     ensures takes_no_memory { IsTrue (stay_borrowed (changes_of edits.now) text.now) → IsOk result }
 {
     let mut edited = CowStr::Borrowed(text);
@@ -83,9 +88,12 @@ fn edit_once<'t, A: Allocator + Copy>(
     text: &'t str,
     edit: Edit<'_>,
 ) -> Result<Option<CowStr<'t, A>>, AllocError>
-    ensures bytes { IfOk result (λ o. option_map cow_str_bytes o ≡ edited_by (change_of edit.entry) text.now) }
-    ensures borrowed { IfOk result (λ o. IfSome o (λ c. IsBorrowedStr c ↔ IsTrue (gives_borrow (change_of edit.entry) text.now))) }
-    ensures takes_no_memory { IsNone (edited_by (change_of edit.entry) text.now) ⊎ IsTrue (gives_borrow (change_of edit.entry) text.now) → IsOk result }
+    ensures bytes { IfOk result (λ o.
+        option_map cow_str_bytes o ≡ edited_by (change_of edit.entry) text.now) }
+    ensures borrowed { IfOk result (λ o. IfSome o (λ c.
+        IsBorrowedStr c ↔ IsTrue (gives_borrow (change_of edit.entry) text.now))) }
+    ensures takes_no_memory { IsNone (edited_by (change_of edit.entry) text.now)
+        ⊎ IsTrue (gives_borrow (change_of edit.entry) text.now) → IsOk result }
 {
     match edit {
         Edit::Cut { start, end } => get_in(alloc, text, start, end),
@@ -98,17 +106,20 @@ fn edit_once<'t, A: Allocator + Copy>(
     }
 }
 
-/// The text that one edit makes of the result of those before it, or `None` if it is refused, which doesn't
-/// allocate, whatever that result is. An owned text stays owned.
+/// The text that one edit makes of the result of those before it, or `None` if it is refused, which
+/// doesn't allocate, whatever that result is. An owned text stays owned.
 fn edit_given<'t, A: Allocator + Copy>(
     alloc: A,
     given: CowStr<'t, A>,
     edit: Edit<'_>,
 ) -> Result<Option<CowStr<'t, A>>, AllocError>
-    ensures bytes { IfOk result (λ o. option_map cow_str_bytes o ≡ edited_by (change_of edit.entry) (cow_str_bytes given.entry)) }
-    ensures borrowed { IfOk result (λ o. IfSome o (λ c. IsBorrowedStr c ↔ (IsBorrowedStr given.entry × IsTrue (gives_borrow (change_of edit.entry) (cow_str_bytes given.entry))))) }
+    ensures bytes { IfOk result (λ o.
+        option_map cow_str_bytes o ≡ edited_by (change_of edit.entry) (cow_str_bytes given.entry)) }
+    ensures borrowed { IfOk result (λ o. IfSome o (λ c. IsBorrowedStr c ↔ (IsBorrowedStr given.entry
+        × IsTrue (gives_borrow (change_of edit.entry) (cow_str_bytes given.entry))))) }
     ensures takes_no_memory { IsNone (edited_by (change_of edit.entry) (cow_str_bytes given.entry))
-        ⊎ (IsBorrowedStr given.entry × IsTrue (gives_borrow (change_of edit.entry) (cow_str_bytes given.entry))) → IsOk result }
+        ⊎ (IsBorrowedStr given.entry
+        × IsTrue (gives_borrow (change_of edit.entry) (cow_str_bytes given.entry))) → IsOk result }
 {
     match given {
         CowStr::Borrowed(text) => edit_once(alloc, text, edit),

@@ -11,8 +11,8 @@
 //!
 //! Positions count the bytes of the plain text: the text without its sequences.
 //!
-//! `CALLING.md` beside this folder says how a crate depends on this one and calls it, and quotes the
-//! contracts. Each example of these docs is a test of `ansi_doc_tests`.
+//! `CALLING.md` beside this folder says how a crate depends on this one and calls it, and quotes
+//! the contracts. Each example of these docs is a test of `ansi_doc_tests`.
 #![tactic(auto)]
 
 pub mod edits;

@@ -21,7 +21,8 @@ pub extern "C" fn ansi_str_raw_block(
     buffer: &mut [u8],
 ) -> Answer
     ensures { OnUtf8 (text.now ∷ [])
-        (Gives no (has_escape text.now) (option_map (λ b. b.text) (slice_get (blocks text.now) index)) result buffer.old buffer.new)
+        (Gives no (has_escape text.now)
+        (option_map (λ b. b.text) (slice_get (blocks text.now) index)) result buffer.old buffer.new)
         (HasFailed not_utf8 result buffer.old buffer.new) }
 {
     let Ok(text) = from_utf8(text) else {
@@ -43,7 +44,8 @@ pub extern "C" fn ansi_str_raw_block_start(
     buffer: &mut [u8],
 ) -> Answer
     ensures { OnUtf8 (text.now ∷ [])
-        (Gives no true (option_map (λ b. start b.style) (slice_get (blocks text.now) index)) result buffer.old buffer.new)
+        (Gives no true (option_map (λ b. start b.style) (slice_get (blocks text.now) index)) result
+        buffer.old buffer.new)
         (HasFailed not_utf8 result buffer.old buffer.new) }
 {
     let Ok(text) = from_utf8(text) else {
@@ -65,7 +67,8 @@ pub extern "C" fn ansi_str_raw_block_end(
     buffer: &mut [u8],
 ) -> Answer
     ensures { OnUtf8 (text.now ∷ [])
-        (Gives no true (option_map (λ b. close_if_any b.style) (slice_get (blocks text.now) index)) result buffer.old buffer.new)
+        (Gives no true (option_map (λ b. close_if_any b.style) (slice_get (blocks text.now) index))
+        result buffer.old buffer.new)
         (HasFailed not_utf8 result buffer.old buffer.new) }
 {
     let Ok(text) = from_utf8(text) else {
@@ -82,7 +85,8 @@ pub extern "C" fn ansi_str_raw_block_end(
 #[unsafe(no_mangle)]
 pub extern "C" fn ansi_str_raw_block_style(alloc: Global, text: &[u8], index: usize) -> StyleAnswer
     ensures { OnUtf8 (text.now ∷ [])
-        (TellsStyle (has_escape text.now) (option_map (λ b. b.style) (slice_get (blocks text.now) index)) result)
+        (TellsStyle (has_escape text.now)
+        (option_map (λ b. b.style) (slice_get (blocks text.now) index)) result)
         (result ≡ no_style not_utf8) }
 {
     let Ok(text) = from_utf8(text) else {

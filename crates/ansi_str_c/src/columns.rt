@@ -3,7 +3,8 @@ ghost use Rattle.std.specs.Prelude.{◌≡◌, ◌∷◌, []};
 ghost use Rattle.ansi_str.specs.Plain.{plain};
 ghost use Rattle.ansi_answers.specs.Answers.{not_utf8, failed, OnUtf8, HasFailed};
 ghost use Rattle.ansi_answers.specs.Lists.{HaveFailed};
-ghost use Rattle.ansi_columns_answers.specs.Columns.{alignment_of, TellsWidth, TellsFitting, GivesTruncated, GivesPadded, GivesWrapped};
+ghost use Rattle.ansi_columns_answers.specs.Columns.{alignment_of, TellsWidth, TellsFitting};
+ghost use Rattle.ansi_columns_answers.specs.Columns.{GivesTruncated, GivesPadded, GivesWrapped};
 
 use ansi_answers::answers::{Answer, NOT_UTF8};
 use ansi_answers::lists::ListAnswer;
@@ -15,7 +16,8 @@ use std::alloc::Global;
 /// The display width of the plain text, in columns.
 #[unsafe(no_mangle)]
 pub extern "C" fn ansi_str_raw_width(text: &[u8]) -> Answer
-    ensures { OnUtf8 (text.now ∷ []) (TellsWidth (plain text.now) result) (result ≡ failed not_utf8) }
+    ensures { OnUtf8 (text.now ∷ []) (TellsWidth (plain text.now) result)
+        (result ≡ failed not_utf8) }
 {
     match from_utf8(text) {
         Ok(text) => width(text),
@@ -26,7 +28,8 @@ pub extern "C" fn ansi_str_raw_width(text: &[u8]) -> Answer
 /// The position up to which the plain text fits into `width` columns.
 #[unsafe(no_mangle)]
 pub extern "C" fn ansi_str_raw_fitting(text: &[u8], width: usize) -> Answer
-    ensures { OnUtf8 (text.now ∷ []) (TellsFitting (plain text.now) width result) (result ≡ failed not_utf8) }
+    ensures { OnUtf8 (text.now ∷ []) (TellsFitting (plain text.now) width result)
+        (result ≡ failed not_utf8) }
 {
     match from_utf8(text) {
         Ok(text) => fitting(text, width),

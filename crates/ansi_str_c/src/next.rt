@@ -76,7 +76,8 @@ pub extern "C" fn ansi_str_raw_style_start(
     style: &StyleNumbers,
     buffer: &mut [u8],
 ) -> Answer
-    ensures { Gives no true (Some (start (rendition_of_numbers style.now))) result buffer.old buffer.new }
+    ensures { Gives no true (Some (start (rendition_of_numbers style.now))) result buffer.old
+        buffer.new }
 {
     write_made(style.style().start().to_string(alloc), buffer)
 }
@@ -88,7 +89,8 @@ pub extern "C" fn ansi_str_raw_style_end(
     style: &StyleNumbers,
     buffer: &mut [u8],
 ) -> Answer
-    ensures { Gives no true (Some (close_if_any (rendition_of_numbers style.now))) result buffer.old buffer.new }
+    ensures { Gives no true (Some (close_if_any (rendition_of_numbers style.now))) result buffer.old
+        buffer.new }
 {
     write_made(style.style().end().to_string(alloc), buffer)
 }

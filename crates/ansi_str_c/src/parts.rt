@@ -21,7 +21,8 @@ pub extern "C" fn ansi_str_raw_parts_begin<'a>(
     walk: &mut PartWalk<'a>,
 ) -> Answer
     ensures { OnUtf8 (text.now ∷ pattern.now ∷ [])
-        ((result ≡ done 0) × IsPartWalk walk.new × (parts_of_walk walk.new ≡ split_parts text.now pattern.now))
+        ((result ≡ done 0) × IsPartWalk walk.new
+        × (parts_of_walk walk.new ≡ split_parts text.now pattern.now))
         ((result ≡ failed not_utf8) × (walk.new ≡ walk.old)) }
 {
     let Ok(text) = from_utf8(text) else {

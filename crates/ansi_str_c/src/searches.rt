@@ -3,7 +3,8 @@ ghost use Rattle.std.specs.Prelude.{◌≡◌, ◌∷◌, [], nat_eq};
 ghost use Rattle.std.specs.List.{starts_with, ends_with};
 ghost use Rattle.ansi_str.specs.Plain.{plain, has_escape, is_whole};
 ghost use Rattle.ansi_str.specs.Positions.{is_char_boundary};
-ghost use Rattle.ansi_answers.specs.Answers.{not_utf8, failed, told, OnUtf8, TellsBoundary, TellsPlace};
+ghost use Rattle.ansi_answers.specs.Answers.{not_utf8, failed, told, OnUtf8, TellsBoundary};
+ghost use Rattle.ansi_answers.specs.Answers.{TellsPlace};
 
 use ansi_answers::answers::{Answer, NOT_UTF8};
 use ansi_answers::texts::find;
@@ -13,7 +14,8 @@ use simdutf8::basic::from_utf8;
 /// The position of the first match of the pattern in the plain text.
 #[unsafe(no_mangle)]
 pub extern "C" fn ansi_str_raw_find(text: &[u8], pattern: &[u8]) -> Answer
-    ensures { OnUtf8 (text.now ∷ pattern.now ∷ []) (TellsPlace pattern.now (plain text.now) result) (result ≡ failed not_utf8) }
+    ensures { OnUtf8 (text.now ∷ pattern.now ∷ []) (TellsPlace pattern.now (plain text.now) result)
+        (result ≡ failed not_utf8) }
 {
     let Ok(text) = from_utf8(text) else {
         return Answer::failed(NOT_UTF8);
@@ -72,7 +74,8 @@ pub extern "C" fn ansi_str_raw_is_char_boundary(text: &[u8], index: usize) -> An
 /// The last character boundary of the plain text that isn't past the index.
 #[unsafe(no_mangle)]
 pub extern "C" fn ansi_str_raw_floor_char_boundary(text: &[u8], index: usize) -> Answer
-    ensures { OnUtf8 (text.now ∷ []) (TellsBoundary (plain text.now) index result) (result ≡ failed not_utf8) }
+    ensures { OnUtf8 (text.now ∷ []) (TellsBoundary (plain text.now) index result)
+        (result ≡ failed not_utf8) }
 {
     match from_utf8(text) {
         Ok(text) => Answer::done(text.ansi_floor_char_boundary(index)),

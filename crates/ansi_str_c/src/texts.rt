@@ -1,8 +1,10 @@
 //! Calls that return one text, made from the text that they take.
 ghost use Rattle.std.specs.Prelude.{◌∷◌, [], Some};
 ghost use Rattle.ansi_str.specs.Plain.{plain, has_escape};
-ghost use Rattle.ansi_str.specs.Changes.{CutRange, LeftOf, RightOf, PartOf, WithoutPrefix, WithoutSuffix, Trimmed};
-ghost use Rattle.ansi_answers.specs.Answers.{no, refused, not_utf8, OnUtf8, HasFailed, Gives, GivesEdited};
+ghost use Rattle.ansi_str.specs.Changes.{CutRange, LeftOf, RightOf, PartOf, WithoutPrefix};
+ghost use Rattle.ansi_str.specs.Changes.{WithoutSuffix, Trimmed};
+ghost use Rattle.ansi_answers.specs.Answers.{no, refused, not_utf8, OnUtf8, HasFailed, Gives};
+ghost use Rattle.ansi_answers.specs.Answers.{GivesEdited};
 
 use ansi_answers::answers::{Answer, NO, NOT_UTF8, REFUSED};
 use ansi_answers::texts::{strip, write_edited};

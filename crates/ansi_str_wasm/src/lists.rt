@@ -4,7 +4,8 @@ ghost use Rattle.ansi_str.specs.Plain.{has_escape};
 ghost use Rattle.ansi_str.specs.Parts.{all_parts};
 ghost use Rattle.ansi_str.specs.Blocks.{blocks};
 ghost use Rattle.ansi_answers.specs.Answers.{not_utf8, OnUtf8};
-ghost use Rattle.ansi_answers.specs.Lists.{ends_from, styled_text, styled_entries_from, HaveFailed, GivesAll};
+ghost use Rattle.ansi_answers.specs.Lists.{ends_from, styled_text, styled_entries_from, HaveFailed};
+ghost use Rattle.ansi_answers.specs.Lists.{GivesAll};
 
 use crate::memory::arena_of;
 use ansi_answers::answers::NOT_UTF8;
@@ -27,7 +28,9 @@ pub extern "C" fn ansi_str_raw_split(
     ends: &mut [usize],
 ) -> ListAnswer
     ensures { OnUtf8 (text.now ∷ pattern.now ∷ [])
-        (GivesAll (has_escape text.now) (flat_map (λ p. p) (all_parts text.now pattern.now)) (ends_from 0 (all_parts text.now pattern.now)) result buffer.old buffer.new ends.old ends.new)
+        (GivesAll (has_escape text.now) (flat_map (λ p. p) (all_parts text.now pattern.now))
+        (ends_from 0 (all_parts text.now pattern.now)) result buffer.old buffer.new ends.old
+        ends.new)
         (HaveFailed not_utf8 result buffer.old buffer.new ends.old ends.new) }
 {
     let Ok(text) = from_utf8(text) else {
@@ -54,7 +57,9 @@ pub extern "C" fn ansi_str_raw_styled_blocks(
     entries: &mut [StyledBlockEntry],
 ) -> ListAnswer
     ensures { OnUtf8 (text.now ∷ [])
-        (GivesAll (has_escape text.now) (flat_map styled_text (blocks text.now)) (styled_entries_from 0 (blocks text.now)) result buffer.old buffer.new entries.old entries.new)
+        (GivesAll (has_escape text.now) (flat_map styled_text (blocks text.now))
+        (styled_entries_from 0 (blocks text.now)) result buffer.old buffer.new entries.old
+        entries.new)
         (HaveFailed not_utf8 result buffer.old buffer.new entries.old entries.new) }
 {
     let Ok(text) = from_utf8(text) else {

@@ -1,7 +1,8 @@
 //! Calls that return one text, or search one.
 ghost use Rattle.std.specs.Prelude.{◌≡◌, ◌∷◌, [], map, Some};
 ghost use Rattle.ansi_str.specs.Plain.{plain, has_escape};
-ghost use Rattle.ansi_answers.specs.Answers.{failed, no, refused, not_utf8, OnUtf8, HasFailed, Gives, GivesEdited, TellsPlace};
+ghost use Rattle.ansi_answers.specs.Answers.{failed, no, refused, not_utf8, OnUtf8, HasFailed};
+ghost use Rattle.ansi_answers.specs.Answers.{Gives, GivesEdited, TellsPlace};
 ghost use Rattle.ansi_answers.specs.Steps.{change_of_step, patterns_of};
 
 use crate::memory::arena_of;
@@ -29,7 +30,8 @@ pub extern "C" fn ansi_str_raw_strip(memory: Block, text: &[u8], buffer: &mut [u
 /// The position of the first match of the pattern in the plain text.
 #[unsafe(no_mangle)]
 pub extern "C" fn ansi_str_raw_find(text: &[u8], pattern: &[u8]) -> Answer
-    ensures { OnUtf8 (text.now ∷ pattern.now ∷ []) (TellsPlace pattern.now (plain text.now) result) (result ≡ failed not_utf8) }
+    ensures { OnUtf8 (text.now ∷ pattern.now ∷ []) (TellsPlace pattern.now (plain text.now) result)
+        (result ≡ failed not_utf8) }
 {
     let Ok(text) = from_utf8(text) else {
         return Answer::failed(NOT_UTF8);

@@ -21,13 +21,17 @@ pub fn styles_are_in_range()
 /// `AnsiSequenceEnd::RESET_ALL` is `\e[0m`, which resets everything that is known of any style.
 pub fn reset_all_clears()
     ensures bytes { AnsiSequenceEnd.RESET_ALL.now ≡ codes "\u{1b}[0m" }
-    ensures cleared { (s : Rendition) → known (style_after_from s AnsiSequenceEnd.RESET_ALL.now) ≡ plain_style }
+    ensures cleared { (s : Rendition) →
+        known (style_after_from s AnsiSequenceEnd.RESET_ALL.now) ≡ plain_style }
 {}
 
 /// Styles compare by their 28 parts in turn, colors by their rank and then by their numbers. An
 /// attribute that isn't set is less than one that is, and a missing color or font is less than any.
 pub fn orders_go_by_parts()
-    ensures style { (a b : Style) → ⟦<Style as Ord>⟧.cmp a b ≡ compared_in_turn (parts_in_order (rendition_of a)) (parts_in_order (rendition_of b)) }
-    ensures color { (a b : Color) → ⟦<Color as Ord>⟧.cmp a b ≡ compared (color_key a) (color_key b) }
-    ensures ansi_color { (a b : AnsiColor) → ⟦<AnsiColor as Ord>⟧.cmp a b ≡ compared (ansi_color_key a) (ansi_color_key b) }
+    ensures style { (a b : Style) → ⟦<Style as Ord>⟧.cmp a b
+        ≡ compared_in_turn (parts_in_order (rendition_of a)) (parts_in_order (rendition_of b)) }
+    ensures color { (a b : Color) →
+        ⟦<Color as Ord>⟧.cmp a b ≡ compared (color_key a) (color_key b) }
+    ensures ansi_color { (a b : AnsiColor) →
+        ⟦<AnsiColor as Ord>⟧.cmp a b ≡ compared (ansi_color_key a) (ansi_color_key b) }
 {}

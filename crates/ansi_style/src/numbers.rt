@@ -95,9 +95,12 @@ pub struct StyleNumbers {
     background: ColorNumbers,
     underline_color: ColorNumbers,
     font: FontNumbers,
-    ghost foreground_in_range: { ForSome (color_of_numbers foreground) (λ c. IsTrue (is_foreground c)) },
-    ghost background_in_range: { ForSome (color_of_numbers background) (λ c. IsTrue (is_background c)) },
-    ghost underline_color_in_range: { ForSome (color_of_numbers underline_color) (λ c. IsTrue (is_extended_color c)) },
+    ghost foreground_in_range: { ForSome (color_of_numbers foreground) (λ c.
+        IsTrue (is_foreground c)) },
+    ghost background_in_range: { ForSome (color_of_numbers background) (λ c.
+        IsTrue (is_background c)) },
+    ghost underline_color_in_range: { ForSome (color_of_numbers underline_color) (λ c.
+        IsTrue (is_extended_color c)) },
     ghost font_in_range: { ForSome (font_of_numbers font) (λ n. IsTrue (is_in_range 11 19 n)) },
 }
 

@@ -55,7 +55,8 @@ impl Style {
     #[tactic(auto, unfolding(crate::specs::States::rendition_of))]
     pub(crate) fn step(&mut self, field: Field, rest: &mut Fields<'_>)
         ensures { (rendition_of self.new, rest.new)
-            ≡ perform (option_map_or effect_of_code field.code unknown_code) (rendition_of self.old) rest.old }
+            ≡ perform (option_map_or effect_of_code field.code unknown_code) (rendition_of self.old)
+            rest.old }
     {
         match field.code {
             Some(code) => self.perform(code, rest),
@@ -67,7 +68,8 @@ impl Style {
     #[tactic(auto, unfolding(crate::specs::States::rendition_of))]
     fn set(&mut self, attributes: Attributes)
         ensures { rendition_of self.new
-            ≡ with_attributes (λ place. has attributes.0 place || has self.old.attributes.0 place) (rendition_of self.old) }
+            ≡ with_attributes (λ place. has attributes.0 place || has self.old.attributes.0 place)
+            (rendition_of self.old) }
     {
         self.attributes.insert(attributes);
     }
@@ -76,7 +78,8 @@ impl Style {
     #[tactic(auto, unfolding(crate::specs::States::rendition_of))]
     fn clear(&mut self, attributes: Attributes)
         ensures { rendition_of self.new
-            ≡ with_attributes (λ place. not (has attributes.0 place) && has self.old.attributes.0 place) (rendition_of self.old) }
+            ≡ with_attributes (λ place. not (has attributes.0 place)
+            && has self.old.attributes.0 place) (rendition_of self.old) }
     {
         self.attributes.remove(attributes);
     }

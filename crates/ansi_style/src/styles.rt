@@ -79,7 +79,8 @@ pub fn has_close(style: &Style) -> bool
 /// stays.
 #[tactic(auto, using(crate::proofs::UnsetLemmas::unset_styles))]
 pub fn write_start<A: Allocator>(style: &Style, out: &mut String<A>) -> Result<(), AllocError>
-    ensures { OnOk result (string_bytes out.new ≡ string_bytes out.old ++ start (rendition_of style.now)) }
+    ensures { OnOk result
+        (string_bytes out.new ≡ string_bytes out.old ++ start (rendition_of style.now)) }
 {
     // returns before a formatter is made
     if !style.has_known() {
@@ -92,7 +93,8 @@ pub fn write_start<A: Allocator>(style: &Style, out: &mut String<A>) -> Result<(
 /// stays.
 #[tactic(auto, using(crate::proofs::UnsetLemmas::unset_styles), unfolding(crate::specs::States::rendition_of))]
 pub fn write_close<A: Allocator>(style: &Style, out: &mut String<A>) -> Result<(), AllocError>
-    ensures { OnOk result (string_bytes out.new ≡ string_bytes out.old ++ close (rendition_of style.now)) }
+    ensures { OnOk result
+        (string_bytes out.new ≡ string_bytes out.old ++ close (rendition_of style.now)) }
 {
     // returns before a formatter is made
     if !has_close(style) {

@@ -1,5 +1,6 @@
 //! The stretches of a text from which the lines of a wrap are written.
-ghost use Rattle.std.specs.Prelude.{◌≡◌, ◌+◌, ◌≤◌, ◌++◌, [], length, IsTrue, IsFalse, IsOk, IfOk, OnOk, string_bytes};
+ghost use Rattle.std.specs.Prelude.{◌≡◌, ◌+◌, ◌≤◌, ◌++◌, [], length, IsTrue, IsFalse, IsOk, IfOk};
+ghost use Rattle.std.specs.Prelude.{OnOk, string_bytes};
 ghost use Rattle.std.specs.Option.{MatchOption};
 ghost use Rattle.ansi_items.specs.Plain.{plain};
 ghost use Rattle.ansi_style.specs.States.{rendition_of};
@@ -49,9 +50,11 @@ impl<'t> Model for Span<'t> {
 
     ghost Value = { WrappedLine };
 
-    ghost view = { λ s. line_over (rendition_of s.carried.style) s.carried.link.now (plain s.text.now) (marks s.text.now) (s.start, s.end) };
+    ghost view = { λ s. line_over (rendition_of s.carried.style) s.carried.link.now
+        (plain s.text.now) (marks s.text.now) (s.start, s.end) };
 
-    ghost invariant = { λ s. IsSpan (rendition_of s.carried.style) s.carried.link.now s.text.now s.start s.end s.end_offset s.is_marked (rendition_of s.after.style) s.after.link.now };
+    ghost invariant = { λ s. IsSpan (rendition_of s.carried.style) s.carried.link.now s.text.now
+        s.start s.end s.end_offset s.is_marked (rendition_of s.after.style) s.after.link.now };
 }
 
 impl<'t> Span<'t> {
@@ -69,8 +72,10 @@ impl<'t> Span<'t> {
 
     /// The stretch of the text that is the line, or `None` if the line isn't a borrow.
     fn bare(&self) -> Option<&'t str>
-        ensures line { MatchOption result (IsFalse self.now.borrowed) (λ bare. (bare.now ≡ self.now.bytes) × IsTrue self.now.borrowed) }
-        ensures len { length self.now.bytes ≤ self.now.share + longest_start_and_close + longest_link_end }
+        ensures line { MatchOption result (IsFalse self.now.borrowed) (λ bare.
+            (bare.now ≡ self.now.bytes) × IsTrue self.now.borrowed) }
+        ensures len { length self.now.bytes
+            ≤ self.now.share + longest_start_and_close + longest_link_end }
     {
         if self.is_marked {
             return None;
@@ -103,7 +108,8 @@ impl<'t> Span<'t> {
 /// Appends what closes a pen: the end of its link, and the close of its style. `Err` means out of
 /// memory; what was appended before the error stays.
 fn push_end<A: Allocator>(out: &mut String<A>, pen: &Pen<'_>) -> Result<(), AllocError>
-    ensures { OnOk result (string_bytes out.new ≡ string_bytes out.old ++ (link_end pen.now.link.now ++ close_if_any (rendition_of pen.now.style))) }
+    ensures { OnOk result (string_bytes out.new ≡ string_bytes out.old
+        ++ (link_end pen.now.link.now ++ close_if_any (rendition_of pen.now.style))) }
 {
     if !pen.link.is_empty() {
         out.push_str(LINK_END)?;
@@ -139,7 +145,8 @@ impl<'t> Model for Spans<'t> {
 
     ghost Value = { List WrappedLine };
 
-    ghost view = { λ s. lines_over (rendition_of s.pen.style) s.pen.link.now (plain s.text.now) (marks_left s.text.now s.before s.taken) (lines_left s.text.now s.width s.next) };
+    ghost view = { λ s. lines_over (rendition_of s.pen.style) s.pen.link.now (plain s.text.now)
+        (marks_left s.text.now s.before s.taken) (lines_left s.text.now s.width s.next) };
 
     ghost invariant = { λ s. IfSome s.next (IsTaken s.text.now s.before s.taken) };
 }

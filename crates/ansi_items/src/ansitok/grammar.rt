@@ -1,8 +1,8 @@
 //! What an ESC begins, by ECMA-48 and ECMA-35 in this profile, and how many looks at the bytes of a
 //! text that takes.
 //!
-//! One search over the text finds each ESC once, and an attempt at a sequence never passes the next ESC.
-//! So a scan takes at most three looks for each byte.
+//! One search over the text finds each ESC once, and an attempt at a sequence never passes the next
+//! ESC. So a scan takes at most three looks for each byte.
 ghost use Rattle.std.specs.Prelude.{◌≡◌, ◌≤◌, length, take};
 ghost use Rattle.std.specs.List.{prefix_len};
 ghost use Rattle.ansi_items.specs.Bytes.{is_parameter_byte};
@@ -31,16 +31,19 @@ pub(crate) struct Looks {
 }
 
 impl Looks {
-    ghost use Rattle.std.specs.Prelude.{◌≡◌, ◌+◌, ◌*◌, ◌^◌, ◌<◌, ◌≤◌, ◌∷◌, ◌++◌, length, take, drop, slice_index, min, IfSome, IfNone, if◌then◌else◌, IsTrue};
+    ghost use Rattle.std.specs.Prelude.{◌≡◌, ◌+◌, ◌*◌, ◌^◌, ◌<◌, ◌≤◌, ◌∷◌, ◌++◌, length, take};
+    ghost use Rattle.std.specs.Prelude.{drop, slice_index, min, IfSome, IfNone, if◌then◌else◌};
+    ghost use Rattle.std.specs.Prelude.{IsTrue};
     ghost use Rattle.std.specs.List.{prefix_len};
     ghost use Rattle.ansi_items.specs.Bytes.{escape, bell, is_parameter_byte, is_intermediate_byte};
     ghost use Rattle.ansi_items.specs.Sequences.{are_private};
     ghost use Rattle.ansi_items.specs.declared.ansitok.Kind.TheVariants.{Sgr, Other};
-    ghost use Rattle.ansi_items.specs.Fronts.{control_at, escape_at, string_at, sequence_at, front_at, EndsBy};
+    ghost use Rattle.ansi_items.specs.Fronts.{control_at, escape_at, string_at, sequence_at};
+    ghost use Rattle.ansi_items.specs.Fronts.{front_at, EndsBy};
     ghost use Rattle.ansi_items.specs.Counts.{before_escape, before_bell, escapes_from};
 
-    /// The mark that an ESC begins: a whole sequence, or the lone escape. `between` is what is between
-    /// that ESC and the next one, and `after` is the text from the next one on.
+    /// The mark that an ESC begins: a whole sequence, or the lone escape. `between` is what is
+    /// between that ESC and the next one, and `after` is the text from the next one on.
     #[inline(always)]
     pub(crate) fn mark(&mut self, between: &[u8], after: &[u8]) -> Front
         requires between { before_escape between.now ≡ length between.now }
@@ -101,8 +104,8 @@ impl Looks {
         }
     }
 
-    /// The control sequence of which the bytes follow ESC `[`, if it has this many parameter bytes and
-    /// then an intermediate byte.
+    /// The control sequence of which the bytes follow ESC `[`, if it has this many parameter bytes
+    /// and then an intermediate byte.
     #[inline(always)]
     #[tactic(auto, unfolding(crate::specs::Fronts::control_at))]
     fn sequence_with_intermediates(&mut self, bytes: &[u8], parameters: usize) -> Option<Front>
@@ -196,15 +199,16 @@ impl Looks {
         ensures place { result ≡ from + before_escape (drop from text.now) }
         ensures bound { result ≤ length text.now }
         ensures escapes { escapes.new ≡ escapes_from text.now (result + 1) }
-        ensures looks { self.new.count + from ≡ self.old.count + min (result + 1) (length text.now) }
+        ensures looks { self.new.count + from
+            ≡ self.old.count + min (result + 1) (length text.now) }
     {
         let escape = escapes.next().unwrap_or(text.len());
         self.passed(&text[from..], escape - from);
         escape
     }
 
-    /// The place of the next ESC after an item that ends at `end`, if it was at `escape` before: that place, or
-    /// the one after it if the item includes that ESC.
+    /// The place of the next ESC after an item that ends at `end`, if it was at `escape` before:
+    /// that place, or the one after it if the item includes that ESC.
     #[inline(always)]
     pub(crate) fn escape_after(
         &mut self,
@@ -217,8 +221,10 @@ impl Looks {
         requires inside { escape < end → escape < length text.now }
         requires room { self.old.count + length text.now < 2 ^ 128 }
         ensures same { end ≤ escape → (result ≡ escape) × (self.new.count ≡ self.old.count) }
-        ensures next { escape < end → (result ≡ escape + 1 + before_escape (drop (escape + 1) text.now))
-            × (self.new.count + (escape + 1) ≡ self.old.count + min (result + 1) (length text.now)) }
+        ensures next { escape < end →
+            (result ≡ escape + 1 + before_escape (drop (escape + 1) text.now))
+            × (self.new.count + (escape + 1)
+            ≡ self.old.count + min (result + 1) (length text.now)) }
         ensures bound { escape ≤ length text.now → result ≤ length text.now }
         ensures escapes { escapes.new ≡ escapes_from text.now (result + 1) }
     {
@@ -232,16 +238,18 @@ impl Looks {
     #[inline(always)]
     fn byte(&mut self, bytes: &[u8], at: usize) -> Option<u8>
         requires { self.old.count + 1 < 2 ^ 128 }
-        ensures some { IfSome result (λ b. (b ≡ slice_index bytes.now at) × (at < length bytes.now) × (self.new.count ≡ self.old.count + 1)) }
-        ensures none { IfNone result ((slice_index bytes.now at ≡ 0) × (length bytes.now ≤ at) × (self.new.count ≡ self.old.count)) }
+        ensures some { IfSome result (λ b. (b ≡ slice_index bytes.now at) × (at < length bytes.now)
+            × (self.new.count ≡ self.old.count + 1)) }
+        ensures none { IfNone result ((slice_index bytes.now at ≡ 0) × (length bytes.now ≤ at)
+            × (self.new.count ≡ self.old.count)) }
     {
         let byte = *bytes.get(at)?;
         self.count += 1;
         Some(byte)
     }
 
-    /// The kind of a control sequence of which the bytes follow ESC `[`: parameter bytes and then `m`. It
-    /// is an SGR if they aren't for private use, as the first of them tells.
+    /// The kind of a control sequence of which the bytes follow ESC `[`: parameter bytes and then
+    /// `m`. It is an SGR if they aren't for private use, as the first of them tells.
     #[inline(always)]
     fn kind_before_m(&mut self, bytes: &[u8]) -> Kind
         requires { self.old.count + 1 < 2 ^ 128 }
@@ -338,8 +346,8 @@ impl Looks {
         len
     }
 
-    /// Counts a search that passed over the first `len` bytes: a look at each, and one at the byte that
-    /// stopped it, if one did.
+    /// Counts a search that passed over the first `len` bytes: a look at each, and one at the byte
+    /// that stopped it, if one did.
     #[inline(always)]
     fn passed(&mut self, bytes: &[u8], len: usize)
         requires inside { len ≤ length bytes.now }

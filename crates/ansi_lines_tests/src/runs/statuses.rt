@@ -17,7 +17,8 @@ pub fn is_done<A: Allocator, S: Source, W: Sink, V: Sink>(
     faults: &mut V,
 ) -> bool
     ensures done { IsTrue result → IfSome (S.left input.old) (λ bytes.
-        W.taken output.new ≡ append_known (W.taken output.old) (output_of (words_of words.now) bytes)) }
+        W.taken output.new
+        ≡ append_known (W.taken output.old) (output_of (words_of words.now) bytes)) }
     ensures flushed { IsTrue result → W.flushed output.new ≡ W.taken output.new }
     ensures none_refused { IsTrue result → IfSome (S.left input.old) (λ bytes.
         IsNone (refused_line (words_of words.now) bytes)) }
@@ -35,7 +36,8 @@ pub fn is_refused<A: Allocator, S: Source, W: Sink, V: Sink>(
     faults: &mut V,
 ) -> bool
     ensures done { IsTrue result → IfSome (S.left input.old) (λ bytes.
-        W.taken output.new ≡ append_known (W.taken output.old) (output_of (words_of words.now) bytes)) }
+        W.taken output.new
+        ≡ append_known (W.taken output.old) (output_of (words_of words.now) bytes)) }
     ensures flushed { IsTrue result → W.flushed output.new ≡ W.taken output.new }
     ensures refused { IsTrue result → IfSome (S.left input.old) (λ bytes.
         IsSome (refused_line (words_of words.now) bytes)) }

@@ -1,4 +1,5 @@
-//! Where a long pattern is cut before it is searched for. (Crochemore and Perrin, Two-way string-matching, 1991.)
+//! Where a long pattern is cut before it is searched for. (Crochemore and Perrin, Two-way
+//! string-matching, 1991.)
 ghost use Rattle.std.specs.Prelude.{◌≢◌, ◌<◌, length, slice_index, IsTrue, IsFalse};
 ghost use Rattle.memchr.specs.Critical.{IsSuffixAt, IsCutPlace};
 ghost use Rattle.ansi_search.specs.Searches.{IsCut, Precedes};
@@ -22,8 +23,8 @@ struct Suffix {
     period: usize,
 }
 
-/// The cut of a pattern that isn't empty: at the later of two suffixes, the greatest by the order of bytes and
-/// the greatest by the opposite order.
+/// The cut of a pattern that isn't empty: at the later of two suffixes, the greatest by the order
+/// of bytes and the greatest by the opposite order.
 pub(super) fn critical_cut(bytes: &[u8]) -> CriticalCut
     requires { 0 < length bytes.now }
     ensures { IsCut bytes.now result }
@@ -58,10 +59,12 @@ fn cut_at(bytes: &[u8], suffix: Suffix) -> CriticalCut
     }
 }
 
-/// The greatest suffix by the order of bytes, or by the opposite one. A suffix is less than one that begins with it.
+/// The greatest suffix by the order of bytes, or by the opposite one. A suffix is less than one
+/// that begins with it.
 fn greatest_suffix(bytes: &[u8], is_rising: bool) -> Suffix
     requires { 0 < length bytes.now }
-    ensures { IsSuffixAt (Precedes is_rising) (slice_index bytes.now) (length bytes.now) result.start result.period }
+    ensures { IsSuffixAt (Precedes is_rising) (slice_index bytes.now) (length bytes.now)
+        result.start result.period }
 {
     let (mut start, mut period) = (0, 1);
     let (mut candidate, mut offset) = (1, 0);

@@ -17,16 +17,17 @@ pub fn ends_with(text: &str, pat: &str) -> bool
     suffix_offset(text, pat).is_some()
 }
 
-/// The offset in the text at which a suffix of the plain text begins, or `None` if the plain text doesn't end
-/// with it. (std.)
+/// The offset in the text at which a suffix of the plain text begins, or `None` if the plain text
+/// doesn't end with it. (std.)
 ///
 /// Doesn't allocate.
 pub fn suffix_offset(text: &str, pat: &str) -> Option<usize>
     ensures { MatchOption result (IsFalse (ends_with nat_eq (plain text.now) pat.now))
-        (λ i. IsTrue (ends_with nat_eq (plain text.now) pat.now) × StandsIn text.now (length (plain text.now) - length pat.now) i) }
+        (λ i. IsTrue (ends_with nat_eq (plain text.now) pat.now)
+        × StandsIn text.now (length (plain text.now) - length pat.now) i) }
 {
-    // The last run that is no shorter than the pattern, and how long the plain text is from there on:
-    // the pattern begins in that run, or after it.
+    // The last run that is no shorter than the pattern, and how long the plain text is from there
+    // on: the pattern begins in that run, or after it.
     let mut last = 0;
     let mut len = 0;
     for item in Scanner::new(text) {

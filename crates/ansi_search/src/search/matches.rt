@@ -1,5 +1,6 @@
 //! Where a pattern occurs in a plain text. A match may run across sequences.
-ghost use Rattle.std.specs.Prelude.{◌≡◌, ◌<◌, ◌≤◌, ◌+◌, ◌^◌, [], length, None, Some, MatchOption, IfSome, IsTrue};
+ghost use Rattle.std.specs.Prelude.{◌≡◌, ◌<◌, ◌≤◌, ◌+◌, ◌^◌, [], length, None, Some, MatchOption};
+ghost use Rattle.std.specs.Prelude.{IfSome, IsTrue};
 ghost use Rattle.std.specs.Str.Pattern.{FindsText, MatchBeginsAt};
 ghost use Rattle.memchr.specs.Find.{IsFirst, FindsNeedle};
 ghost use Rattle.ansi_items.specs.Plain.{plain};
@@ -15,10 +16,13 @@ use std::mem;
 
 /// Like `AnsiStr::ansi_find`, on a `&str`.
 pub fn find(text: &str, pat: &str) -> Option<usize>
-    ensures first { MatchOption result (FindsText pat.now (plain text.now) None) (MatchBeginsAt (FindsText pat.now) (plain text.now)) }
-    ensures good { IfSome result (λ i. IsTrue (is_good_range (plain text.now) i (Some (i + length pat.now)))) }
+    ensures first { MatchOption result (FindsText pat.now (plain text.now) None)
+        (MatchBeginsAt (FindsText pat.now) (plain text.now)) }
+    ensures good { IfSome result (λ i.
+        IsTrue (is_good_range (plain text.now) i (Some (i + length pat.now)))) }
     ensures good_before { IfSome result (λ i. IsTrue (is_good_range (plain text.now) 0 (Some i))) }
-    ensures good_after { IfSome result (λ i. IsTrue (is_good_range (plain text.now) (i + length pat.now) None)) }
+    ensures good_after { IfSome result (λ i.
+        IsTrue (is_good_range (plain text.now) (i + length pat.now) None)) }
     ensures fits { IfSome result (λ i. i + length pat.now < 2 ^ 64) }
 {
     find_from(text, pat, 0)
@@ -31,8 +35,9 @@ pub fn find(text: &str, pat: &str) -> Option<usize>
 /// A match may run across sequences. An empty pattern occurs at each character boundary. A
 /// pattern with an ESC occurs nowhere. Positions count bytes of the plain text. Doesn't allocate.
 ///
-/// A text without ESC is searched as a whole. Any other text is read once, and a second time where the
-/// beginning of the pattern may occur. So a search takes time in proportion to the text and the pattern.
+/// A text without ESC is searched as a whole. Any other text is read once, and a second time where
+/// the beginning of the pattern may occur. So a search takes time in proportion to the text and the
+/// pattern.
 pub fn find_from(text: &str, pat: &str, from: usize) -> Option<usize>
     ensures { result ≡ first_match_from (plain text.now) pat.now from }
 {

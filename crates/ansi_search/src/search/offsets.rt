@@ -10,12 +10,15 @@ use ansi_items::ansitok::{Kind, Scanner};
 use ansi_style::state::Style;
 use ansi_style::styles;
 
-/// The offset of a position in the text, after every sequence up to there, or `None` if the position isn't
-/// good. A position past the end counts as the end. Every SGR up to there changes the style.
+/// The offset of a position in the text, after every sequence up to there, or `None` if the
+/// position isn't good. A position past the end counts as the end. Every SGR up to there changes
+/// the style.
 #[inline(always)]
 pub fn walk_to(style: &mut Style, text: &str, position: usize) -> Option<usize>
-    ensures offset { MatchOption result (IsFalse (is_good_position (plain text.now) position)) (StandsIn text.now position) }
-    ensures style { IfSome result (λ _. rendition_of style.new ≡ style_within (rendition_of style.old) text.now position) }
+    ensures offset { MatchOption result (IsFalse (is_good_position (plain text.now) position))
+        (StandsIn text.now position) }
+    ensures style { IfSome result (λ _.
+        rendition_of style.new ≡ style_within (rendition_of style.old) text.now position) }
 {
     let mut remaining = position;
     for item in Scanner::new(text) {

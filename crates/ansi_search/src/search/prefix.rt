@@ -1,5 +1,6 @@
 //! What a plain text begins with, and how it continues from a position on.
-ghost use Rattle.std.specs.Prelude.{◌≡◌, ◌++◌, ◌+◌, ◌<◌, ◌≤◌, length, take, drop, nat_eq, slice_index};
+ghost use Rattle.std.specs.Prelude.{◌≡◌, ◌++◌, ◌+◌, ◌<◌, ◌≤◌, length, take, drop, nat_eq};
+ghost use Rattle.std.specs.Prelude.{slice_index};
 ghost use Rattle.std.specs.List.{starts_with};
 ghost use Rattle.ansi_items.specs.Bytes.{escape};
 ghost use Rattle.ansi_items.specs.Plain.{plain};
@@ -10,14 +11,16 @@ use memchr::memchr;
 
 /// Whether the plain text begins with the pattern. (std.)
 ///
-/// The pattern is compared across sequences. No run is read past the pattern's end. Doesn't allocate.
+/// The pattern is compared across sequences. No run is read past the pattern's end. Doesn't
+/// allocate.
 pub fn starts_with(text: &str, pat: &str) -> bool
     ensures { result ≡ starts_with nat_eq (plain text.now) pat.now }
 {
     stands_at(text, pat.as_bytes(), 0)
 }
 
-/// Whether the plain text continues with the pattern from a position on. No run is read past the pattern's end.
+/// Whether the plain text continues with the pattern from a position on. No run is read past the
+/// pattern's end.
 pub(super) fn stands_at(text: &str, pat: &[u8], place: usize) -> bool
     ensures { result ≡ starts_with nat_eq (drop place (plain text.now)) pat.now }
 {
@@ -40,8 +43,8 @@ pub(super) fn stands_at(text: &str, pat: &[u8], place: usize) -> bool
     true
 }
 
-/// The run at the front of a text and what follows the mark after it. If no mark begins in the first `most`
-/// bytes, it is these bytes alone.
+/// The run at the front of a text and what follows the mark after it. If no mark begins in the
+/// first `most` bytes, it is these bytes alone.
 fn run_front<'t>(text: &'t str, most: usize) -> (&'t [u8], &'t str)
     ensures front { take most (plain text.now) ≡ take most (result.0.now ++ plain result.1.now) }
     ensures most { length result.0.now ≤ most }

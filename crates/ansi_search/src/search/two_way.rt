@@ -1,11 +1,13 @@
-//! A search for a pattern in a plain text that reads each run once, in order. (Crochemore and Perrin,
-//! Two-way string-matching, 1991.)
-ghost use Rattle.std.specs.Prelude.{◌≡◌, ◌≢◌, ℕ, List, ◌+◌, ◌-◌, ◌<◌, ◌≤◌, ◌^◌, length, take, drop, nat_eq, slice_index};
+//! A search for a pattern in a plain text that reads each run once, in order. (Crochemore and
+//! Perrin, Two-way string-matching, 1991.)
+ghost use Rattle.std.specs.Prelude.{◌≡◌, ◌≢◌, ℕ, List, ◌+◌, ◌-◌, ◌<◌, ◌≤◌, ◌^◌, length, take, drop};
+ghost use Rattle.std.specs.Prelude.{nat_eq, slice_index};
 ghost use Rattle.std.specs.List.{starts_with};
 ghost use Rattle.std.specs.Str.{IsUtf8};
 ghost use Rattle.memchr.specs.Find.{OccursAt};
 ghost use Rattle.ansi_items.specs.Plain.{plain};
-ghost use Rattle.ansi_search.specs.Searches.{IsCut, IsPoint, IsReached, IsMismatch, IsWindow, IsRunResult, StandsNowhere, LacksRareByte};
+ghost use Rattle.ansi_search.specs.Searches.{IsCut, IsPoint, IsReached, IsMismatch, IsWindow};
+ghost use Rattle.ansi_search.specs.Searches.{IsRunResult, StandsNowhere, LacksRareByte};
 
 use crate::search::critical::{CriticalCut, critical_cut};
 use crate::search::prefix::stands_at;
@@ -13,7 +15,8 @@ use ansi_items::ansitok::{Kind, Scanner};
 use memchr::arch::all::packedpair::Pair;
 use memchr::memchr;
 
-/// A pattern, and where it is cut. The bytes after the cut are compared first, then those before it.
+/// A pattern, and where it is cut. The bytes after the cut are compared first, then those before
+/// it.
 #[derive(Drop)]
 pub(super) struct Pattern<'p> {
     bytes: &'p [u8],
@@ -31,8 +34,8 @@ pub(super) struct Point {
     pub(super) position: usize,
 }
 
-/// How far a search has come in a text: a match may begin at `position`, and the pattern's bytes from `low`
-/// up to `met` agree with the plain text there.
+/// How far a search has come in a text: a match may begin at `position`, and the pattern's bytes
+/// from `low` up to `met` agree with the plain text there.
 #[derive(Clone, Copy)]
 pub(super) struct Window {
     position: usize,
@@ -40,8 +43,8 @@ pub(super) struct Window {
     met: usize,
     // a place that isn't past the position
     point: Point,
-    // The rare byte doesn't occur before this offset of the text, counted from where it would be in a match at
-    // the position.
+    // The rare byte doesn't occur before this offset of the text, counted from where it would be in
+    // a match at the position.
     next: usize,
 }
 
@@ -72,10 +75,11 @@ impl<'p> Pattern<'p> {
         self.bytes[self.rare]
     }
 
-    /// The window in which a search from a position on begins. The rare byte doesn't occur in the text before
-    /// the offset `next`.
+    /// The window in which a search from a position on begins. The rare byte doesn't occur in the
+    /// text before the offset `next`.
     pub(super) fn first_window(&self, position: usize, next: usize) -> Window
-        ensures comes { (t : List ℕ) → IsUtf8 t → position ≤ length t → IsWindow t self.now.bytes.now self.now.cut.at position result }
+        ensures comes { (t : List ℕ) → IsUtf8 t → position ≤ length t →
+            IsWindow t self.now.bytes.now self.now.cut.at position result }
         ensures next { result.next ≡ next }
     {
         let point = Point {
@@ -88,7 +92,8 @@ impl<'p> Pattern<'p> {
     /// A window in which no byte is compared yet.
     #[inline(always)]
     fn window_at(&self, position: usize, point: Point, next: usize) -> Window
-        ensures comes { (t : List ℕ) (start : ℕ) → IsReached t self.now.bytes.now start position → IsPoint t point position → IsWindow t self.now.bytes.now self.now.cut.at start result }
+        ensures comes { (t : List ℕ) (start : ℕ) → IsReached t self.now.bytes.now start position →
+            IsPoint t point position → IsWindow t self.now.bytes.now self.now.cut.at start result }
         ensures position { result.position ≡ position }
         ensures met { result.met ≡ self.now.cut.at }
         ensures next { result.next ≡ next }
@@ -108,11 +113,13 @@ impl<'p> Pattern<'p> {
     pub(super) fn read(&self, text: &str, run: &[u8], here: Point, window: Window) -> RunResult
         requires run { OccursAt (plain text.now) run.now here.position }
         requires bytes { OccursAt text.now run.now here.offset }
-        requires comes { IsWindow text.now self.now.bytes.now self.now.cut.at window.position window }
+        requires comes { IsWindow text.now self.now.bytes.now self.now.cut.at window.position
+            window }
         requires here { IsPoint text.now here here.position }
         requires place { here.position ≤ window.position + window.met }
         requires ahead { LacksRareByte text.now self.now.bytes.now self.now.rare here window }
-        ensures { IsRunResult text.now self.now.bytes.now self.now.cut.at self.now.rare window.position here (here.position + length run.now) result }
+        ensures { IsRunResult text.now self.now.bytes.now self.now.cut.at self.now.rare
+            window.position here (here.position + length run.now) result }
     {
         let end = here.position + run.len();
         let mut window = window;
@@ -136,19 +143,22 @@ impl<'p> Pattern<'p> {
         RunResult::NoMatchYet(window)
     }
 
-    /// The window after one with a mismatch. It is moved to the next occurrence of the rare byte in the run, if
-    /// there is one.
+    /// The window after one with a mismatch. It is moved to the next occurrence of the rare byte in
+    /// the run, if there is one.
     #[inline(always)]
     fn after_mismatch(&self, text: &str, run: &[u8], here: Point, window: Window) -> Window
         requires run { OccursAt (plain text.now) run.now here.position }
         requires bytes { OccursAt text.now run.now here.offset }
-        requires comes { IsWindow text.now self.now.bytes.now self.now.cut.at window.position window }
+        requires comes { IsWindow text.now self.now.bytes.now self.now.cut.at window.position
+            window }
         requires here { IsPoint text.now here here.position }
         requires place { here.position ≤ window.position + window.met }
         requires inside { window.position + window.met < here.position + length run.now }
-        requires other { slice_index run.now (window.position + window.met - here.position) ≢ slice_index self.now.bytes.now window.met }
+        requires other { slice_index run.now (window.position + window.met - here.position)
+            ≢ slice_index self.now.bytes.now window.met }
         requires ahead { LacksRareByte text.now self.now.bytes.now self.now.rare here window }
-        ensures comes { IsWindow text.now self.now.bytes.now self.now.cut.at window.position result }
+        ensures comes { IsWindow text.now self.now.bytes.now self.now.cut.at window.position
+            result }
         ensures past { window.position < result.position }
         ensures forward { window.position + window.met < result.position + result.met }
         ensures ahead { LacksRareByte text.now self.now.bytes.now self.now.rare here result }
@@ -166,12 +176,14 @@ impl<'p> Pattern<'p> {
         self.window_at(begin, point, next)
     }
 
-    /// Whether the bytes before the cut agree with the plain text too. Those after it do, and end in the run.
+    /// Whether the bytes before the cut agree with the plain text too. Those after it do, and end
+    /// in the run.
     fn front_stands(&self, text: &str, run: &[u8], place: usize, window: Window) -> bool
         requires run { OccursAt (plain text.now) run.now place }
         requires point { IsPoint text.now window.point window.position }
         requires fits { window.position + length self.now.bytes.now ≤ place + length run.now }
-        ensures { result ≡ starts_with nat_eq (drop window.position (plain text.now)) (take self.now.cut.at self.now.bytes.now) }
+        ensures { result ≡ starts_with nat_eq (drop window.position (plain text.now))
+            (take self.now.cut.at self.now.bytes.now) }
     {
         let front = &self.bytes[..self.cut.at];
         if place <= window.position {
@@ -185,8 +197,11 @@ impl<'p> Pattern<'p> {
     fn after_front(&self, window: Window) -> Window
         requires fits { window.position + length self.now.bytes.now < 2 ^ 64 }
         ensures past { window.position < result.position }
-        ensures forward { window.position + length self.now.bytes.now ≤ result.position + result.met }
-        ensures comes { (t : List ℕ) (start : ℕ) → IsMismatch t self.now.bytes.now self.now.cut.at start window → IsWindow t self.now.bytes.now self.now.cut.at start result }
+        ensures forward { window.position + length self.now.bytes.now
+            ≤ result.position + result.met }
+        ensures comes { (t : List ℕ) (start : ℕ) →
+            IsMismatch t self.now.bytes.now self.now.cut.at start window →
+            IsWindow t self.now.bytes.now self.now.cut.at start result }
         ensures next { result.next ≡ window.next }
     {
         let position = window.position + self.cut.shift;
@@ -203,8 +218,8 @@ impl<'p> Pattern<'p> {
     }
 }
 
-/// The start of the run that has a position, found from a place that isn't past it. It is that place if the
-/// position isn't before `end`.
+/// The start of the run that has a position, found from a place that isn't past it. It is that
+/// place if the position isn't before `end`.
 fn point_before(text: &str, point: Point, position: usize, end: usize) -> Point
     requires { IsPoint text.now point position }
     ensures { IsPoint text.now result position }
@@ -231,7 +246,8 @@ fn point_before(text: &str, point: Point, position: usize, end: usize) -> Point
 /// The second of two places if it isn't past a position, else the first.
 #[inline(always)]
 fn last_point(point: Point, here: Point, position: usize) -> Point
-    ensures { (t : List ℕ) → IsPoint t point position → IsPoint t here here.position → IsPoint t result position }
+    ensures { (t : List ℕ) → IsPoint t point position → IsPoint t here here.position →
+        IsPoint t result position }
 {
     if position < here.position {
         return point;
@@ -247,8 +263,8 @@ fn rare_place(bytes: &[u8]) -> usize
     Pair::new(bytes).map_or(0, |pair| pair.index1() as usize)
 }
 
-/// Where a byte occurs next, from an offset on, or the end of the text. It doesn't occur before the offset
-/// `next`.
+/// Where a byte occurs next, from an offset on, or the end of the text. It doesn't occur before the
+/// offset `next`.
 #[inline(always)]
 fn next_of(byte: u8, bytes: &[u8], from: usize, next: usize) -> usize
     requires within { from ≤ length bytes.now }

@@ -1,5 +1,7 @@
 //! Cuts of a text.
-ghost use Rattle.std.specs.Prelude.{◌≡◌, ◌↔◌, ◌⊎◌, ◌≤◌, ◌+◌, length, Some, MatchOption, slice_range, IsTrue, IsFalse, IsNone, IsOk, IfOk, IfSome, string_bytes};
+ghost use Rattle.std.specs.Prelude.{◌≡◌, ◌↔◌, ◌⊎◌, ◌≤◌, ◌+◌, length, Some, MatchOption};
+ghost use Rattle.std.specs.Prelude.{slice_range, IsTrue, IsFalse, IsNone, IsOk, IfOk, IfSome};
+ghost use Rattle.std.specs.Prelude.{string_bytes};
 ghost use Rattle.std.specs.Cow.{cow_str_bytes, IsBorrowedStr};
 ghost use Rattle.ansi_items.specs.Plain.{plain, has_escape};
 ghost use Rattle.ansi_search.specs.Positions.{is_good_range, is_range_in};
@@ -16,8 +18,8 @@ use std::borrow::CowStr;
 /// A close has at most this many bytes, `longest_close`.
 const LONGEST_CLOSE: usize = 88;
 
-/// Like `AnsiStr::ansi_cut`, from `start` up to `end`, or to the end of the text if `end` is `None`,
-/// with a result that lives as long as the text, and with any allocator. (Own.)
+/// Like `AnsiStr::ansi_cut`, from `start` up to `end`, or to the end of the text if `end` is
+/// `None`, with a result that lives as long as the text, and with any allocator. (Own.)
 ///
 /// ```
 /// let cut = cut_in(rt.alloc(), "\x1b[30mTEXT\x1b[39m", 1, Some(3))?;
@@ -38,8 +40,8 @@ pub fn cut_in<'t, A: Allocator>(
     Ok(get_in(alloc, text, start, end)?.unwrap())
 }
 
-/// Like `AnsiStr::ansi_get`, from `start` up to `end`, or to the end of the text if `end` is `None`,
-/// with a result that lives as long as the text, and with any allocator. (Own.)
+/// Like `AnsiStr::ansi_get`, from `start` up to `end`, or to the end of the text if `end` is
+/// `None`, with a result that lives as long as the text, and with any allocator. (Own.)
 ///
 /// ```
 /// let cut = get_in(rt.alloc(), "\x1b[30mTEXT\x1b[39m", 2, None);
@@ -52,11 +54,15 @@ pub fn get_in<'t, A: Allocator>(
     start: usize,
     end: Option<usize>,
 ) -> Result<Option<CowStr<'t, A>>, AllocError>
-    ensures none { IfOk result (λ o. IsNone o ↔ IsFalse (is_good_range (plain text.now) start end)) }
+    ensures none { IfOk result (λ o.
+        IsNone o ↔ IsFalse (is_good_range (plain text.now) start end)) }
     ensures bytes { IfOk result (λ o. IfSome o (λ c. cow_str_bytes c ≡ cut text.now start end)) }
-    ensures borrowed { IfOk result (λ o. IfSome o (λ c. IsBorrowedStr c ↔ IsFalse (has_escape text.now))) }
-    ensures len { IfOk result (λ o. IfSome o (λ c. length (cow_str_bytes c) ≤ length text.now + longest_close)) }
-    ensures takes_no_memory { IsFalse (has_escape text.now) ⊎ IsFalse (is_good_range (plain text.now) start end) → IsOk result }
+    ensures borrowed { IfOk result (λ o. IfSome o (λ c.
+        IsBorrowedStr c ↔ IsFalse (has_escape text.now))) }
+    ensures len { IfOk result (λ o. IfSome o (λ c.
+        length (cow_str_bytes c) ≤ length text.now + longest_close)) }
+    ensures takes_no_memory { IsFalse (has_escape text.now)
+        ⊎ IsFalse (is_good_range (plain text.now) start end) → IsOk result }
 {
     let end = end.unwrap_or(PAST_THE_END);
     if !has_any(text) {
@@ -71,10 +77,12 @@ pub fn get_in<'t, A: Allocator>(
     Ok(Some(CowStr::Owned(cut)))
 }
 
-/// The bytes of a text in a range, or `None` if the range is bad. A position past the end counts as the
-/// end.
+/// The bytes of a text in a range, or `None` if the range is bad. A position past the end counts as
+/// the end.
 fn range_of(text: &str, start: usize, end: usize) -> Option<&str>
-    ensures { MatchOption result (IsFalse (is_good_range text.now start (Some end))) (λ range. IsTrue (is_good_range text.now start (Some end)) × (range.now ≡ slice_range text.now start end)) }
+    ensures { MatchOption result (IsFalse (is_good_range text.now start (Some end))) (λ range.
+        IsTrue (is_good_range text.now start (Some end))
+        × (range.now ≡ slice_range text.now start end)) }
 {
     let from = start.min(text.len());
     let to = end.min(text.len());
@@ -91,7 +99,10 @@ fn cut_front<A: Allocator>(
     text: &str,
     end: usize,
 ) -> Result<Option<String<A>>, AllocError>
-    ensures cut { IfOk result (λ o. MatchOption o (IsFalse (is_good_range (plain text.now) 0 (Some end))) (λ s. IsTrue (is_good_range (plain text.now) 0 (Some end)) × (string_bytes s ≡ cut_up_to text.now 0 end))) }
+    ensures cut { IfOk result (λ o.
+        MatchOption o (IsFalse (is_good_range (plain text.now) 0 (Some end))) (λ s.
+        IsTrue (is_good_range (plain text.now) 0 (Some end))
+        × (string_bytes s ≡ cut_up_to text.now 0 end))) }
     ensures takes_no_memory { IsFalse (is_good_range (plain text.now) 0 (Some end)) → IsOk result }
 {
     let mut style = styles::plain_style();
@@ -104,16 +115,21 @@ fn cut_front<A: Allocator>(
     Ok(Some(cut))
 }
 
-/// The cut of a range, written, or `None` if the range is bad: the sequences up to its start, the stretch of
-/// the text from there on with the sequences up to its end, and the close of the style there.
+/// The cut of a range, written, or `None` if the range is bad: the sequences up to its start, the
+/// stretch of the text from there on with the sequences up to its end, and the close of the style
+/// there.
 fn cut_up_to<A: Allocator>(
     alloc: A,
     text: &str,
     start: usize,
     end: usize,
 ) -> Result<Option<String<A>>, AllocError>
-    ensures cut { IfOk result (λ o. MatchOption o (IsFalse (is_good_range (plain text.now) start (Some end))) (λ s. IsTrue (is_good_range (plain text.now) start (Some end)) × (string_bytes s ≡ cut_up_to text.now start end))) }
-    ensures takes_no_memory { IsFalse (is_good_range (plain text.now) start (Some end)) → IsOk result }
+    ensures cut { IfOk result (λ o.
+        MatchOption o (IsFalse (is_good_range (plain text.now) start (Some end))) (λ s.
+        IsTrue (is_good_range (plain text.now) start (Some end))
+        × (string_bytes s ≡ cut_up_to text.now start end))) }
+    ensures takes_no_memory { IsFalse (is_good_range (plain text.now) start (Some end)) →
+        IsOk result }
 {
     if end < start {
         return Ok(None);

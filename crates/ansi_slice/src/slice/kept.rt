@@ -1,5 +1,6 @@
 //! Texts without a prefix, without a suffix, and without the white space at their ends.
-ghost use Rattle.std.specs.Prelude.{◌≡◌, ◌++◌, ◌↔◌, ◌⊎◌, [], length, take, drop, IsTrue, IsFalse, IsNone, IsOk, IfOk, OnOk, IfSome, nat_eq, string_bytes};
+ghost use Rattle.std.specs.Prelude.{◌≡◌, ◌++◌, ◌↔◌, ◌⊎◌, [], length, take, drop, IsTrue, IsFalse};
+ghost use Rattle.std.specs.Prelude.{IsNone, IsOk, IfOk, OnOk, IfSome, nat_eq, string_bytes};
 ghost use Rattle.std.specs.Cow.{cow_str_bytes, IsBorrowedStr};
 ghost use Rattle.std.specs.List.{starts_with, ends_with};
 ghost use Rattle.std.specs.Str.{IsCharBoundary};
@@ -13,8 +14,8 @@ use ansi_search::search::{self, PAST_THE_END};
 use std::alloc::{AllocError, Allocator};
 use std::borrow::CowStr;
 
-/// Like `AnsiStr::ansi_strip_prefix`, with a result that lives as long as the text, and with any allocator.
-/// (Own.)
+/// Like `AnsiStr::ansi_strip_prefix`, with a result that lives as long as the text, and with any
+/// allocator. (Own.)
 ///
 /// ```
 /// let rest = strip_prefix_in(rt.alloc(), "\x1b[1m> red", "> ");
@@ -25,9 +26,12 @@ pub fn strip_prefix_in<'t, A: Allocator>(
     text: &'t str,
     prefix: &str,
 ) -> Result<Option<CowStr<'t, A>>, AllocError>
-    ensures none { IfOk result (λ o. IsNone o ↔ IsFalse (starts_with nat_eq (plain text.now) prefix.now)) }
-    ensures bytes { IfOk result (λ o. IfSome o (λ c. cow_str_bytes c ≡ without_prefix text.now prefix.now)) }
-    ensures borrowed { IfOk result (λ o. IfSome o (λ c. IsBorrowedStr c ↔ (IsFalse (has_escape text.now) ⊎ (prefix.now ≡ [])))) }
+    ensures none { IfOk result (λ o.
+        IsNone o ↔ IsFalse (starts_with nat_eq (plain text.now) prefix.now)) }
+    ensures bytes { IfOk result (λ o. IfSome o (λ c.
+        cow_str_bytes c ≡ without_prefix text.now prefix.now)) }
+    ensures borrowed { IfOk result (λ o. IfSome o (λ c.
+        IsBorrowedStr c ↔ (IsFalse (has_escape text.now) ⊎ (prefix.now ≡ [])))) }
     ensures takes_no_memory { IsFalse (has_escape text.now) ⊎ (prefix.now ≡ [])
         ⊎ IsFalse (starts_with nat_eq (plain text.now) prefix.now) → IsOk result }
 {
@@ -57,8 +61,8 @@ fn write_from<A: Allocator>(alloc: A, text: &str, start: usize) -> Result<String
     Ok(kept)
 }
 
-/// Like `AnsiStr::ansi_strip_suffix`, with a result that lives as long as the text, and with any allocator.
-/// (Own.)
+/// Like `AnsiStr::ansi_strip_suffix`, with a result that lives as long as the text, and with any
+/// allocator. (Own.)
 ///
 /// ```
 /// let rest = strip_suffix_in(rt.alloc(), "\x1b[1mred.\x1b[m", ".");
@@ -69,9 +73,12 @@ pub fn strip_suffix_in<'t, A: Allocator>(
     text: &'t str,
     suffix: &str,
 ) -> Result<Option<CowStr<'t, A>>, AllocError>
-    ensures none { IfOk result (λ o. IsNone o ↔ IsFalse (ends_with nat_eq (plain text.now) suffix.now)) }
-    ensures bytes { IfOk result (λ o. IfSome o (λ c. cow_str_bytes c ≡ without_suffix text.now suffix.now)) }
-    ensures borrowed { IfOk result (λ o. IfSome o (λ c. IsBorrowedStr c ↔ (IsFalse (has_escape text.now) ⊎ (suffix.now ≡ [])))) }
+    ensures none { IfOk result (λ o.
+        IsNone o ↔ IsFalse (ends_with nat_eq (plain text.now) suffix.now)) }
+    ensures bytes { IfOk result (λ o. IfSome o (λ c.
+        cow_str_bytes c ≡ without_suffix text.now suffix.now)) }
+    ensures borrowed { IfOk result (λ o. IfSome o (λ c.
+        IsBorrowedStr c ↔ (IsFalse (has_escape text.now) ⊎ (suffix.now ≡ [])))) }
     ensures takes_no_memory { IsFalse (has_escape text.now) ⊎ (suffix.now ≡ [])
         ⊎ IsFalse (ends_with nat_eq (plain text.now) suffix.now) → IsOk result }
 {
@@ -126,7 +133,8 @@ fn write_trimmed<A: Allocator>(alloc: A, text: &str) -> Result<String<A>, AllocE
 /// what was appended before it stays.
 fn push_up_to<A: Allocator>(out: &mut String<A>, text: &str, end: usize) -> Result<(), AllocError>
     requires { IsCharBoundary text.now end }
-    ensures { OnOk result (string_bytes out.new ≡ string_bytes out.old ++ (take end text.now ++ kept (drop end text.now) 0 0)) }
+    ensures { OnOk result (string_bytes out.new
+        ≡ string_bytes out.old ++ (take end text.now ++ kept (drop end text.now) 0 0)) }
 {
     let (front, rest) = text.split_at(end);
     out.push_str(front)?;

@@ -9,15 +9,17 @@ ghost use Rattle.ansi_search.specs.Offsets.{StandsIn};
 use ansi_items::ansitok::{Kind, Scanner};
 use std::alloc::{AllocError, Allocator};
 
-/// Appends every sequence of a text up to a good position of its plain text. Returns the offset of the position in
-/// the text, after these sequences. `Err` means out of memory; what was appended before it stays. (Own.)
+/// Appends every sequence of a text up to a good position of its plain text. Returns the offset of
+/// the position in the text, after these sequences. `Err` means out of memory; what was appended
+/// before it stays. (Own.)
 pub fn push_sequences<A: Allocator>(
     out: &mut String<A>,
     text: &str,
     position: usize,
 ) -> Result<usize, AllocError>
     requires { IsTrue (is_good_position (plain text.now) position) }
-    ensures bytes { OnOk result (string_bytes out.new ≡ string_bytes out.old ++ sequences_up_to position (pieces_of text.now)) }
+    ensures bytes { OnOk result (string_bytes out.new
+        ≡ string_bytes out.old ++ sequences_up_to position (pieces_of text.now)) }
     ensures offset { IfOk result (StandsIn text.now position) }
 {
     let mut remaining = position;

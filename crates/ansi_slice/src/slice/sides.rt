@@ -1,5 +1,7 @@
 //! The two sides of a text.
-ghost use Rattle.std.specs.Prelude.{◌≡◌, ◌≢◌, ◌++◌, ◌↔◌, ◌⊎◌, ◌≤◌, ◌+◌, ◌*◌, length, filter, IsTrue, IsFalse, IsNone, IsOk, IfOk, OnOk, IfSome, string_bytes};
+ghost use Rattle.std.specs.Prelude.{◌≡◌, ◌≢◌, ◌++◌, ◌↔◌, ◌⊎◌, ◌≤◌, ◌+◌, ◌*◌, length, filter};
+ghost use Rattle.std.specs.Prelude.{IsTrue, IsFalse, IsNone, IsOk, IfOk, OnOk, IfSome};
+ghost use Rattle.std.specs.Prelude.{string_bytes};
 ghost use Rattle.std.specs.Cow.{cow_str_bytes, IsBorrowedStr};
 ghost use Rattle.ansi_items.specs.declared.ansitok.Kind.TheVariants.{Sgr};
 ghost use Rattle.ansi_items.specs.Pieces.{Sequence, pieces_of};
@@ -21,8 +23,8 @@ use ansi_style::styles;
 use std::alloc::{AllocError, Allocator};
 use std::borrow::CowStr;
 
-/// Like `AnsiStr::ansi_split_at`, with results that live as long as the text, and with any allocator.
-/// (Own.)
+/// Like `AnsiStr::ansi_split_at`, with results that live as long as the text, and with any
+/// allocator. (Own.)
 ///
 /// ```
 /// let (left, right) = split_at_in(rt.alloc(), "\x1b[30mTEXT\x1b[39m", 2)?;
@@ -37,8 +39,11 @@ pub fn split_at_in<'t, A: Allocator + Copy>(
     requires { IsTrue (is_position_in text.now mid) }
     ensures left { IfOk result (λ c. cow_str_bytes c.0 ≡ left_side text.now mid) }
     ensures right { IfOk result (λ c. cow_str_bytes c.1 ≡ right_side text.now mid) }
-    ensures borrowed { IfOk result (λ c. (IsBorrowedStr c.0 ↔ IsFalse (has_escape text.now)) × (IsBorrowedStr c.1 ↔ IsFalse (has_escape text.now))) }
-    ensures len { IfOk result (λ c. length (cow_str_bytes c.0) + length (cow_str_bytes c.1) ≤ length text.now + longest_start_and_close * (length (filter is_text (pieces_of text.now)) + 1)) }
+    ensures borrowed { IfOk result (λ c. (IsBorrowedStr c.0 ↔ IsFalse (has_escape text.now))
+        × (IsBorrowedStr c.1 ↔ IsFalse (has_escape text.now))) }
+    ensures len { IfOk result (λ c.
+        length (cow_str_bytes c.0) + length (cow_str_bytes c.1) ≤ length text.now
+        + longest_start_and_close * (length (filter is_text (pieces_of text.now)) + 1)) }
     ensures takes_no_memory { IsFalse (has_escape text.now) → IsOk result }
 {
     if !has_any(text) {
@@ -57,9 +62,12 @@ pub fn left_in<'t, A: Allocator>(
 ) -> Result<Option<CowStr<'t, A>>, AllocError>
     ensures none { IfOk result (λ o. IsNone o ↔ IsFalse (is_good_position (plain text.now) mid)) }
     ensures bytes { IfOk result (λ o. IfSome o (λ c. cow_str_bytes c ≡ left_side text.now mid)) }
-    ensures borrowed { IfOk result (λ o. IfSome o (λ c. IsBorrowedStr c ↔ IsFalse (has_escape text.now))) }
-    ensures len { IfOk result (λ o. IfSome o (λ c. length (cow_str_bytes c) ≤ length text.now + longest_start_and_close * (length (filter is_text (pieces_of text.now)) + 1))) }
-    ensures takes_no_memory { IsFalse (has_escape text.now) ⊎ IsFalse (is_good_position (plain text.now) mid) → IsOk result }
+    ensures borrowed { IfOk result (λ o. IfSome o (λ c.
+        IsBorrowedStr c ↔ IsFalse (has_escape text.now))) }
+    ensures len { IfOk result (λ o. IfSome o (λ c. length (cow_str_bytes c) ≤ length text.now
+        + longest_start_and_close * (length (filter is_text (pieces_of text.now)) + 1))) }
+    ensures takes_no_memory { IsFalse (has_escape text.now)
+        ⊎ IsFalse (is_good_position (plain text.now) mid) → IsOk result }
 {
     if !search::is_good_position(text, mid) {
         return Ok(None);
@@ -82,9 +90,12 @@ pub fn right_in<'t, A: Allocator>(
 ) -> Result<Option<CowStr<'t, A>>, AllocError>
     ensures none { IfOk result (λ o. IsNone o ↔ IsFalse (is_good_position (plain text.now) mid)) }
     ensures bytes { IfOk result (λ o. IfSome o (λ c. cow_str_bytes c ≡ right_side text.now mid)) }
-    ensures borrowed { IfOk result (λ o. IfSome o (λ c. IsBorrowedStr c ↔ IsFalse (has_escape text.now))) }
-    ensures len { IfOk result (λ o. IfSome o (λ c. length (cow_str_bytes c) ≤ length text.now + longest_start_and_close * (length (filter is_text (pieces_of text.now)) + 1))) }
-    ensures takes_no_memory { IsFalse (has_escape text.now) ⊎ IsFalse (is_good_position (plain text.now) mid) → IsOk result }
+    ensures borrowed { IfOk result (λ o. IfSome o (λ c.
+        IsBorrowedStr c ↔ IsFalse (has_escape text.now))) }
+    ensures len { IfOk result (λ o. IfSome o (λ c. length (cow_str_bytes c) ≤ length text.now
+        + longest_start_and_close * (length (filter is_text (pieces_of text.now)) + 1))) }
+    ensures takes_no_memory { IsFalse (has_escape text.now)
+        ⊎ IsFalse (is_good_position (plain text.now) mid) → IsOk result }
 {
     let mut style = styles::plain_style();
     let Some(from) = walk_to(&mut style, text, mid) else {
@@ -97,8 +108,8 @@ pub fn right_in<'t, A: Allocator>(
     Ok(Some(CowStr::Owned(write_right(alloc, style, &text[from..])?)))
 }
 
-/// The two sides of a text without ESC: its bytes before the position, and its bytes from there on. A
-/// position past the end counts as the end.
+/// The two sides of a text without ESC: its bytes before the position, and its bytes from there on.
+/// A position past the end counts as the end.
 fn bare_sides(text: &str, mid: usize) -> (&str, &str)
     requires bare { IsFalse (has_escape text.now) }
     requires good { IsTrue (is_good_position (plain text.now) mid) }
@@ -125,9 +136,9 @@ fn write_sides<A: Allocator + Copy>(
     Ok((left, right))
 }
 
-/// Appends what a text adds to a side before a position: each run of its plain text in the style there,
-/// and each sequence but the SGRs, which change the style. Returns the offset of the position in the text.
-/// `Err` means out of memory; what was appended before it stays.
+/// Appends what a text adds to a side before a position: each run of its plain text in the style
+/// there, and each sequence but the SGRs, which change the style. Returns the offset of the
+/// position in the text. `Err` means out of memory; what was appended before it stays.
 fn write_side<A: Allocator>(
     out: &mut String<A>,
     style: &mut Style,
@@ -135,8 +146,10 @@ fn write_side<A: Allocator>(
     position: usize,
 ) -> Result<usize, AllocError>
     requires { IsTrue (is_good_position (plain text.now) position) }
-    ensures bytes { OnOk result (string_bytes out.new ≡ string_bytes out.old ++ side_up_to (rendition_of style.old) position (pieces_of text.now)) }
-    ensures style { OnOk result (rendition_of style.new ≡ style_within (rendition_of style.old) text.now position) }
+    ensures bytes { OnOk result (string_bytes out.new ≡ string_bytes out.old
+        ++ side_up_to (rendition_of style.old) position (pieces_of text.now)) }
+    ensures style { OnOk result
+        (rendition_of style.new ≡ style_within (rendition_of style.old) text.now position) }
     ensures offset { IfOk result (StandsIn text.now position) }
 {
     let mut remaining = position;
@@ -156,8 +169,8 @@ fn write_side<A: Allocator>(
     Ok(text.len())
 }
 
-/// Appends a sequence that isn't an SGR, or a lone escape. An SGR changes the style instead. `Err` means
-/// out of memory; then nothing is appended.
+/// Appends a sequence that isn't an SGR, or a lone escape. An SGR changes the style instead. `Err`
+/// means out of memory; then nothing is appended.
 fn write_mark<A: Allocator>(
     out: &mut String<A>,
     style: &mut Style,
@@ -166,7 +179,8 @@ fn write_mark<A: Allocator>(
 ) -> Result<(), AllocError>
     requires sgr { kind ≡ Sgr → IsTrue (is_sgr mark.now) }
     requires no_sgr { kind ≢ Sgr → IsFalse (is_sgr mark.now) }
-    ensures bytes { OnOk result (string_bytes out.new ≡ string_bytes out.old ++ copied (Sequence mark.now)) }
+    ensures bytes { OnOk result
+        (string_bytes out.new ≡ string_bytes out.old ++ copied (Sequence mark.now)) }
     ensures style { rendition_of style.new ≡ apply (rendition_of style.old) mark.now }
 {
     if kind == Kind::Sgr {
@@ -178,7 +192,8 @@ fn write_mark<A: Allocator>(
 
 /// What a text adds to a side, written. `style` is the style before it.
 fn write_right<A: Allocator>(alloc: A, style: Style, text: &str) -> Result<String<A>, AllocError>
-    ensures { IfOk result (λ s. string_bytes s ≡ side_up_to (rendition_of style) PAST_THE_END (pieces_of text.now)) }
+    ensures { IfOk result (λ s.
+        string_bytes s ≡ side_up_to (rendition_of style) PAST_THE_END (pieces_of text.now)) }
 {
     let mut style = style;
     let mut right = String::new(alloc);
@@ -193,7 +208,8 @@ fn write_dressed<A: Allocator>(
     style: &Style,
     piece: &str,
 ) -> Result<(), AllocError>
-    ensures { OnOk result (string_bytes out.new ≡ string_bytes out.old ++ dressed (rendition_of style.now) piece.now) }
+    ensures { OnOk result (string_bytes out.new
+        ≡ string_bytes out.old ++ dressed (rendition_of style.now) piece.now) }
 {
     if piece.is_empty() {
         return Ok(());

@@ -24,8 +24,8 @@ pub(super) fn white_space_len(text: &str) -> usize
     len
 }
 
-/// The offset in the text at which the last character of the plain text that isn't white space ends, or 0 if
-/// there is no such character.
+/// The offset in the text at which the last character of the plain text that isn't white space
+/// ends, or 0 if there is no such character.
 pub(super) fn end_before_white_space(text: &str) -> usize
     ensures { KeepsUpTo text.now (length (trim_end (plain text.now))) result }
 {

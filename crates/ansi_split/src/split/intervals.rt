@@ -8,14 +8,14 @@ use crate::split::rest::Rest;
 use ansi_items::ansitok::{Kind, Scanner};
 use ansi_style::styles;
 
-/// The interval of one part in the plain text, by its index: the position at which the part begins, and the one at
-/// which it ends.
+/// The interval of one part in the plain text, by its index: the position at which the part begins,
+/// and the one at which it ends.
 ///
-/// The parts are those of std's `split` of the plain text by the pattern, counted from 0. Positions count
-/// bytes of the plain text. It is `None` exactly if there is no part of that index. The interval, what is before it
-/// and what is after it are good ranges, so the text can be cut there. Doesn't allocate. It takes time
-/// in proportion to the text and the pattern, whatever the index. (std, on the plain text; that it
-/// returns positions, own.)
+/// The parts are those of std's `split` of the plain text by the pattern, counted from 0. Positions
+/// count bytes of the plain text. It is `None` exactly if there is no part of that index. The
+/// interval, what is before it and what is after it are good ranges, so the text can be cut there.
+/// Doesn't allocate. It takes time in proportion to the text and the pattern, whatever the index.
+/// (std, on the plain text; that it returns positions, own.)
 ///
 /// ```
 /// let text = "\x1b[1mlion,\x1b[0mtiger";
@@ -26,7 +26,8 @@ use ansi_style::styles;
 pub fn part_interval(text: &str, pat: &str, index: usize) -> Option<(usize, usize)>
     ensures interval { result ≡ slice_get (parts (plain text.now) pat.now) index }
     ensures good { IfSome result (λ i. IsTrue (is_good_range (plain text.now) i.0 (Some i.1))) }
-    ensures good_before { IfSome result (λ i. IsTrue (is_good_range (plain text.now) 0 (Some i.0))) }
+    ensures good_before { IfSome result (λ i.
+        IsTrue (is_good_range (plain text.now) 0 (Some i.0))) }
     ensures good_after { IfSome result (λ i. IsTrue (is_good_range (plain text.now) i.1 None)) }
 {
     let mut rest = Rest::new(text);

@@ -1,5 +1,6 @@
 //! What is left of a text that is split.
-ghost use Rattle.std.specs.Prelude.{◌≡◌, ℕ, List, ◌++◌, ◌<◌, ◌≤◌, ◌+◌, length, take, drop, None, Some, IsFalse, IsTrue};
+ghost use Rattle.std.specs.Prelude.{◌≡◌, ℕ, List, ◌++◌, ◌<◌, ◌≤◌, ◌+◌, length, take, drop, None};
+ghost use Rattle.std.specs.Prelude.{Some, IsFalse, IsTrue};
 ghost use Rattle.std.specs.Option.{MatchOption};
 ghost use Rattle.std.specs.Str.{IsCharBoundary};
 ghost use Rattle.ansi_items.specs.Plain.{plain, has_escape};
@@ -17,7 +18,8 @@ use memchr::memchr;
 /// A text in two at the first match of a pattern.
 #[derive(Drop)]
 pub(super) struct MatchSplit<'t> {
-    /// The text before the match, with every sequence up to there. Without a match it is all of the text.
+    /// The text before the match, with every sequence up to there. Without a match it is all of the
+    /// text.
     pub(super) front: &'t str,
     /// Whether the front has an ESC.
     pub(super) is_marked: bool,
@@ -66,14 +68,17 @@ impl<'t> Rest<'t> {
         self.run_len
     }
 
-    /// The text in two at the first match that doesn't begin before `from`. `style` is the style before the
-    /// front, and becomes that after it.
+    /// The text in two at the first match that doesn't begin before `from`. `style` is the style
+    /// before the front, and becomes that after it.
     #[inline(always)]
     pub(super) fn cut_at_match(&self, pat: &str, from: usize, style: &mut Style) -> MatchSplit<'t>
-        ensures rest { MatchOption result.rest ((first_match_from (plain self.now.text.now) pat.now from ≡ None) × (result.front.now ≡ self.now.text.now))
+        ensures rest { MatchOption result.rest
+            ((first_match_from (plain self.now.text.now) pat.now from ≡ None)
+            × (result.front.now ≡ self.now.text.now))
             (λ rest. IsCutAtMatch self.now.text.now pat.now from result.front.now rest.text.now) }
         ensures marked { result.is_marked ≡ has_escape result.front.now }
-        ensures style { rendition_of style.new ≡ style_after_from (rendition_of style.old) result.front.now }
+        ensures style { rendition_of style.new
+            ≡ style_after_from (rendition_of style.old) result.front.now }
     {
         let start = next_start(self.text, self.run_len, pat, from);
         if start < self.run_len {
@@ -98,11 +103,14 @@ fn cut_from<'t>(
     mut ahead: usize,
     style: &mut Style,
 ) -> MatchSplit<'t>
-    requires { first_match_from (plain text.now) pat.now ahead ≡ first_match_from (plain text.now) pat.now from }
-    ensures rest { MatchOption result.rest ((first_match_from (plain text.now) pat.now from ≡ None) × (result.front.now ≡ text.now))
+    requires { first_match_from (plain text.now) pat.now ahead
+        ≡ first_match_from (plain text.now) pat.now from }
+    ensures rest { MatchOption result.rest
+        ((first_match_from (plain text.now) pat.now from ≡ None) × (result.front.now ≡ text.now))
         (λ rest. IsCutAtMatch text.now pat.now from result.front.now rest.text.now) }
     ensures marked { result.is_marked ≡ has_escape result.front.now }
-    ensures style { rendition_of style.new ≡ style_after_from (rendition_of style.old) result.front.now }
+    ensures style { rendition_of style.new
+        ≡ style_after_from (rendition_of style.old) result.front.now }
 {
     let mut is_marked = false;
     // `ahead` counts plain bytes of what is left.
@@ -146,16 +154,19 @@ fn cut_from<'t>(
     }
 }
 
-/// The place from which the first match that doesn't begin before `from` is still to be searched for, after a search
-/// of the run at the front of a text. If that place is in the run, the match begins there.
+/// The place from which the first match that doesn't begin before `from` is still to be searched
+/// for, after a search of the run at the front of a text. If that place is in the run, the match
+/// begins there.
 #[inline(always)]
 fn next_start(text: &str, run_len: usize, pat: &str, from: usize) -> usize
     requires ends { IsCharBoundary text.now run_len }
     requires plain { IsFalse (has_escape (take run_len text.now)) }
-    ensures same { first_match_from (plain text.now) pat.now result ≡ first_match_from (plain text.now) pat.now from }
+    ensures same { first_match_from (plain text.now) pat.now result
+        ≡ first_match_from (plain text.now) pat.now from }
     ensures here { result < run_len → first_match_from (plain text.now) pat.now from ≡ Some result }
     ensures boundary { result < run_len → IsCharBoundary text.now result }
-    ensures cut { result < run_len → IsCutAtMatch text.now pat.now from (take result text.now) (drop result text.now) }
+    ensures cut { result < run_len →
+        IsCutAtMatch text.now pat.now from (take result text.now) (drop result text.now) }
 {
     if run_len <= from {
         return from;
@@ -170,10 +181,11 @@ fn next_start(text: &str, run_len: usize, pat: &str, from: usize) -> usize
     run_len
 }
 
-/// Whether a match may begin in a run and go on after it: whether the pattern's first byte is one of the
-/// last bytes of the run, those that too few bytes follow for a match.
+/// Whether a match may begin in a run and go on after it: whether the pattern's first byte is one
+/// of the last bytes of the run, those that too few bytes follow for a match.
 fn may_go_on(run: &str, pat: &str) -> bool
-    ensures { IsFalse result → (y : List ℕ) (i : ℕ) → i < length run.now → IsTrue (is_match (run.now ++ y) pat.now i) → i + length pat.now ≤ length run.now }
+    ensures { IsFalse result → (y : List ℕ) (i : ℕ) → i < length run.now →
+        IsTrue (is_match (run.now ++ y) pat.now i) → i + length pat.now ≤ length run.now }
 {
     let Some(first) = pat.as_bytes().first() else {
         return false;

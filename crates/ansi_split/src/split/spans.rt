@@ -1,5 +1,6 @@
 //! The stretches of a text that its parts are written from.
-ghost use Rattle.std.specs.Prelude.{◌≡◌, ◌≤◌, ◌+◌, ◌++◌, [], length, IsTrue, IsFalse, IsOk, IfOk, OnOk, string_bytes};
+ghost use Rattle.std.specs.Prelude.{◌≡◌, ◌≤◌, ◌+◌, ◌++◌, [], length, IsTrue, IsFalse, IsOk, IfOk};
+ghost use Rattle.std.specs.Prelude.{OnOk, string_bytes};
 ghost use Rattle.std.specs.Option.{MatchOption};
 ghost use Rattle.ansi_items.specs.Plain.{plain, marks, has_escape};
 ghost use Rattle.ansi_slice.specs.Cut.{interleaved};
@@ -20,8 +21,9 @@ use std::borrow::CowStr;
 use std::marker::Model;
 use std::str::from_utf8_unchecked;
 
-/// A start and a close have at most this many bytes together, `longest_start_and_close`. This room is reserved
-/// before they are written, so a part never grows, and keeps at most this many bytes beyond its length.
+/// A start and a close have at most this many bytes together, `longest_start_and_close`. This room
+/// is reserved before they are written, so a part never grows, and keeps at most this many bytes
+/// beyond its length.
 const STYLE_ROOM: usize = 251;
 
 /// What one part is written from. Contracts see it as that part.
@@ -48,7 +50,8 @@ impl<'t> Model for PartSpan<'t> {
 
     ghost view = { λ s. span_part (rendition_of s.carried) s.text.now s.skip };
 
-    ghost invariant = { λ s. AreSpanFacts (rendition_of s.carried) s.text.now s.skip s.is_marked (rendition_of s.after) };
+    ghost invariant = { λ s. AreSpanFacts (rendition_of s.carried) s.text.now s.skip s.is_marked
+        (rendition_of s.after) };
 }
 
 impl<'t> PartSpan<'t> {
@@ -66,7 +69,8 @@ impl<'t> PartSpan<'t> {
     /// The part as a slice of the text, if it has no sequence, and it is empty or no style is
     /// carried.
     fn bare(&self) -> Option<&'t str>
-        ensures part { MatchOption result (IsFalse self.now.borrowed) (λ bare. (bare.now ≡ self.now.bytes) × IsTrue self.now.borrowed) }
+        ensures part { MatchOption result (IsFalse self.now.borrowed) (λ bare.
+            (bare.now ≡ self.now.bytes) × IsTrue self.now.borrowed) }
         ensures len { length self.now.bytes ≤ self.now.source_len + longest_start_and_close }
     {
         if self.is_marked {
@@ -79,9 +83,9 @@ impl<'t> PartSpan<'t> {
         None
     }
 
-    /// The part, written: the start of the style that is carried, the text with its sequences, and the
-    /// close of the style then, if that has anything to end. It is called by reference, so that a part that
-    /// is borrowed copies no style.
+    /// The part, written: the start of the style that is carried, the text with its sequences, and
+    /// the close of the style then, if that has anything to end. It is called by reference, so that
+    /// a part that is borrowed copies no style.
     #[inline(never)]
     fn written<A: Allocator>(&self, alloc: A) -> Result<String<A>, AllocError>
         requires { IsFalse self.now.borrowed }
@@ -112,7 +116,8 @@ fn write_text<A: Allocator>(
 ) -> Result<(), AllocError>
     requires marked { is_marked ≡ has_escape text.now }
     requires boundary { IsTrue (is_char_boundary (plain text.now) skip) }
-    ensures { OnOk result (string_bytes part.new ≡ string_bytes part.old ++ interleaved (plain text.now) skip (length (plain text.now)) (marks text.now)) }
+    ensures { OnOk result (string_bytes part.new ≡ string_bytes part.old
+        ++ interleaved (plain text.now) skip (length (plain text.now)) (marks text.now)) }
 {
     if !is_marked {
         return part.push_str(&text[skip..]);
@@ -133,7 +138,8 @@ fn write_text<A: Allocator>(
     Ok(())
 }
 
-/// The spans of a text between the matches of a pattern, in order: an iterator that doesn't allocate.
+/// The spans of a text between the matches of a pattern, in order: an iterator that doesn't
+/// allocate.
 #[derive(Drop)]
 pub(crate) struct PartSpans<'t, 'p> {
     /// What is left of the text: the match before and all after it.
@@ -158,9 +164,11 @@ impl<'t, 'p> Model for PartSpans<'t, 'p> {
 
     ghost Value = { List SplitPart };
 
-    ghost view = { λ s. if s.finished then [] else parts_left (rendition_of s.carried) s.rest.text.now s.pat.now s.skip s.from };
+    ghost view = { λ s. if s.finished then []
+        else parts_left (rendition_of s.carried) s.rest.text.now s.pat.now s.skip s.from };
 
-    ghost invariant = { λ s. IsTrue (is_char_boundary (plain s.rest.text.now) s.skip) × (s.skip ≤ s.from) };
+    ghost invariant = { λ s.
+        IsTrue (is_char_boundary (plain s.rest.text.now) s.skip) × (s.skip ≤ s.from) };
 }
 
 impl<'t, 'p> PartSpans<'t, 'p> {

@@ -5,7 +5,9 @@ ghost use Rattle.ansi_style.specs.States.{rendition_of};
 ghost use Rattle.ansi_style.specs.contracts.state.rendition.RenditionPartialEq.TheImpl.Laws.{laws-law as per};
 ghost use Rattle.ansi_style.specs.contracts.state.rendition.RenditionEq.TheImpl.Laws.{laws-law as equivalence};
 ghost use Rattle.ansi_style.specs.contracts.state.rendition.RenditionPartialOrd.TheImpl.Laws.{laws-law as order};
-ghost use Rattle.ansi_style.specs.contracts.state.rendition.RenditionOrd.TheImpl.Laws.{total-law, matches_partial_cmp-law, matches_eq-law};
+ghost use Rattle.ansi_style.specs.contracts.state.rendition.RenditionOrd.TheImpl.Laws.{total-law};
+ghost use Rattle.ansi_style.specs.contracts.state.rendition.RenditionOrd.TheImpl.Laws.{matches_partial_cmp-law};
+ghost use Rattle.ansi_style.specs.contracts.state.rendition.RenditionOrd.TheImpl.Laws.{matches_eq-law};
 ghost use Rattle.ansi_style.specs.contracts.state.rendition.RenditionHash.TheImpl.Laws.{respects_eq-law};
 
 use crate::state::{Rendition, Style};
@@ -41,7 +43,8 @@ impl Ord for Style {
 
     ghost total = { on_total rendition_of total-law };
 
-    ghost matches_partial_cmp = { λ x y. matches_partial_cmp-law (rendition_of x) (rendition_of y) };
+    ghost matches_partial_cmp = { λ x y.
+        matches_partial_cmp-law (rendition_of x) (rendition_of y) };
 
     ghost matches_eq = { λ x y. matches_eq-law (rendition_of x) (rendition_of y) };
 

@@ -1,5 +1,6 @@
 //! The fields of an SGR's parameter bytes, and their numbers.
-ghost use Rattle.std.specs.Prelude.{◌≡◌, [], ◌∷◌, Some, None, IsTrue, IfSome, option_map, nat_le, if◌then◌else◌};
+ghost use Rattle.std.specs.Prelude.{◌≡◌, [], ◌∷◌, Some, None, IsTrue, IfSome, option_map, nat_le};
+ghost use Rattle.std.specs.Prelude.{if◌then◌else◌};
 ghost use Rattle.ansi_items.specs.Sequences.{is_sgr, sgr_parameters};
 ghost use Rattle.ansi_style.specs.Sgr.{fields_of, code_of, color_number};
 ghost use Rattle.ansi_style.specs.Fields.{first_field, with_digit};
@@ -51,7 +52,8 @@ impl<'a> Fields<'a> {
     /// The next field, or `None` after the last one.
     #[inline(always)]
     pub(crate) fn next_field(&mut self) -> Option<Field>
-        ensures { (option_map (λ field. field.code) result, self.new) ≡ first_field code_of self.old }
+        ensures { (option_map (λ field. field.code) result, self.new)
+            ≡ first_field code_of self.old }
     {
         let bytes = self.rest?;
         let mut number = Number::ZERO;

@@ -1,7 +1,8 @@
 //! The table of SGR codes (ECMA-48, section 8.3.117, and further codes in use).
 ghost use Rattle.std.specs.Prelude.{◌≡◌, ◌⊎◌, IfSome, IsTrue};
 ghost use Rattle.ansi_style.specs.Rendition.{is_extended_color};
-ghost use Rattle.ansi_style.specs.Sgr.{effect_of_code, perform, read_color, color_by_parts, color_by_number};
+ghost use Rattle.ansi_style.specs.Sgr.{effect_of_code, perform, read_color, color_by_parts};
+ghost use Rattle.ansi_style.specs.Sgr.{color_by_number};
 ghost use Rattle.ansi_style.specs.States.{rendition_of};
 
 use crate::state::Style;
@@ -15,7 +16,8 @@ impl Style {
     /// Applies the code. If it selects a color, the color is read from the fields.
     #[tactic(auto, unfolding(crate::specs::States::rendition_of))]
     pub(crate) fn perform(&mut self, code: u8, fields: &mut Fields<'_>)
-        ensures { (rendition_of self.new, fields.new) ≡ perform (effect_of_code code) (rendition_of self.old) fields.old }
+        ensures { (rendition_of self.new, fields.new)
+            ≡ perform (effect_of_code code) (rendition_of self.old) fields.old }
     {
         match code {
             0 => {
@@ -74,7 +76,8 @@ impl Style {
     #[tactic(auto, unfolding(crate::specs::States::rendition_of))]
     fn set_color(&mut self, code: u8, fields: &mut Fields<'_>)
         requires { (code ≡ 38) ⊎ (code ≡ 48) ⊎ (code ≡ 58) }
-        ensures { (rendition_of self.new, fields.new) ≡ perform (effect_of_code code) (rendition_of self.old) fields.old }
+        ensures { (rendition_of self.new, fields.new)
+            ≡ perform (effect_of_code code) (rendition_of self.old) fields.old }
     {
         if let Some(color) = read_color(fields) {
             match code {

@@ -2,7 +2,8 @@
 ghost use Rattle.std.specs.Prelude.{◌++◌, [], Some, codes, flat_map, if◌then◌else◌};
 ghost use Rattle.std.specs.Fmt.{WritesOnOk};
 ghost use Rattle.ansi_style.specs.States.{has_one, rendition_of};
-ghost use Rattle.ansi_style.specs.Written.{written, written_all, color_code, color_codes, font_codes, start, close, close_if_any};
+ghost use Rattle.ansi_style.specs.Written.{written, written_all, color_code, color_codes};
+ghost use Rattle.ansi_style.specs.Written.{font_codes, start, close, close_if_any};
 
 use crate::state::Style;
 use crate::state::attributes::Attributes;
@@ -213,7 +214,8 @@ fn write_rows<W: fmt::Write>(
 /// Writes a sequence if the condition holds.
 #[inline(always)]
 fn write_when<W: fmt::Write>(f: &mut fmt::Formatter<W>, is_set: bool, sequence: &str) -> fmt::Result
-    ensures { WritesOnOk W.write_str_gives f.old result (if is_set then sequence.now else []) f.new }
+    ensures { WritesOnOk W.write_str_gives f.old result (if is_set then sequence.now else [])
+        f.new }
 {
     if is_set {
         f.write_str(sequence)
@@ -225,7 +227,8 @@ fn write_when<W: fmt::Write>(f: &mut fmt::Formatter<W>, is_set: bool, sequence: 
 /// Writes the codes of the colors that are set.
 #[tactic(auto, unfolding(crate::specs::States::rendition_of))]
 fn write_colors<W: fmt::Write>(f: &mut fmt::Formatter<W>, style: &Style) -> fmt::Result
-    ensures { WritesOnOk W.write_str_gives f.old result (written_all (color_codes (codes "38") (rendition_of style.now).foreground
+    ensures { WritesOnOk W.write_str_gives f.old result
+        (written_all (color_codes (codes "38") (rendition_of style.now).foreground
         ++ color_codes (codes "48") (rendition_of style.now).background
         ++ color_codes (codes "58") (rendition_of style.now).underline_color)) f.new }
 {
@@ -266,7 +269,8 @@ fn write_color_code<W: fmt::Write>(
     extended: &str,
     color: AnsiColor,
 ) -> fmt::Result
-    ensures { WritesOnOk W.write_str_gives f.old result (written (color_code extended.now color)) f.new }
+    ensures { WritesOnOk W.write_str_gives f.old result (written (color_code extended.now color))
+        f.new }
 {
     match color {
         AnsiColor::Bit4(n) => write!(f, "\u{1b}[{n}m"),

@@ -13,7 +13,8 @@ use std::fmt::Write;
 /// Appends a block as a cell of a table: its text between the start and the close of its style.
 pub fn write_cell(out: &mut String, block: &AnsiBlock<'_>) -> Result<(), AllocError>
     ensures { OnOk result (string_bytes out.new
-        ≡ string_bytes out.old ++ start block.now.style ++ block.now.text ++ close_if_any block.now.style) }
+        ≡ string_bytes out.old ++ start block.now.style ++ block.now.text
+        ++ close_if_any block.now.style) }
 {
     let style = block.style();
     write!(out, "{}{}{}", style.start(), block.text(), style.end())

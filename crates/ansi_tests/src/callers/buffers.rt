@@ -40,7 +40,8 @@ pub fn part_into(
     buffer: &mut [u8],
 ) -> Result<Option<usize>, AllocError>
     requires { length text.now + longest_start_and_close ≤ length buffer.old }
-    ensures { IfOk result (λ o. IfSome o (λ n. part text.now pat.now index ≡ Some (take n buffer.new))) }
+    ensures { IfOk result (λ o. IfSome o (λ n.
+        part text.now pat.now index ≡ Some (take n buffer.new))) }
 {
     let Some(part) = part_in(alloc, text, pat, index)? else {
         return Ok(None);

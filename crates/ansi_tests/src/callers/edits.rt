@@ -20,9 +20,12 @@ pub fn edit_whole<'t>(
     edits: &[Edit<'_>],
 ) -> Result<Option<CowStr<'t>>, AllocError>
     requires { IsTrue (is_whole text.now) }
-    ensures slice { IfOk result (λ o. meaning (changes_of edits.now) (styled text.now) ≡ option_map styled (option_map cow_str_bytes o)) }
-    ensures whole { IfOk result (λ o. IfSome (option_map cow_str_bytes o) (λ u. IsTrue (is_whole u))) }
-    ensures closed { IfOk result (λ o. IfSome (option_map cow_str_bytes o) (λ u. IsTrue (list_any closes (changes_of edits.now)) → residue u ≡ plain_style)) }
+    ensures slice { IfOk result (λ o. meaning (changes_of edits.now) (styled text.now)
+        ≡ option_map styled (option_map cow_str_bytes o)) }
+    ensures whole { IfOk result (λ o. IfSome (option_map cow_str_bytes o) (λ u.
+        IsTrue (is_whole u))) }
+    ensures closed { IfOk result (λ o. IfSome (option_map cow_str_bytes o) (λ u.
+        IsTrue (list_any closes (changes_of edits.now)) → residue u ≡ plain_style)) }
 {
     edit(alloc, text, edits)
 }

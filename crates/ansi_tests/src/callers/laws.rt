@@ -17,8 +17,10 @@ pub fn closed_front<'t>(
     text: &'t str,
     end: usize,
 ) -> Result<Option<CowStr<'t>>, AllocError>
-    ensures whole { IsTrue (is_whole text.now) → IfOk result (λ o. IfSome o (λ c. IsTrue (is_whole (cow_str_bytes c)))) }
-    ensures closed { IsTrue (is_whole text.now) → IfOk result (λ o. IfSome o (λ c. residue (cow_str_bytes c) ≡ plain_style)) }
+    ensures whole { IsTrue (is_whole text.now) → IfOk result (λ o. IfSome o (λ c.
+        IsTrue (is_whole (cow_str_bytes c)))) }
+    ensures closed { IsTrue (is_whole text.now) → IfOk result (λ o. IfSome o (λ c.
+        residue (cow_str_bytes c) ≡ plain_style)) }
 {
     laws::join();
     get_in(alloc, text, 0, Some(end))

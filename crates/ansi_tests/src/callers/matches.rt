@@ -16,8 +16,10 @@ pub fn first_match<'t>(
     text: &'t str,
     pat: &str,
 ) -> Result<Option<CowStr<'t>>, AllocError>
-    ensures none { IfOk result (λ o. IsNone o → (i : ℕ) → i ≤ length (plain text.now) → LacksTextAt pat.now (plain text.now) i) }
-    ensures bytes { IfOk result (λ o. IfSome o (λ c. (i : ℕ) × HasTextAt pat.now (plain text.now) i (i + length pat.now)
+    ensures none { IfOk result (λ o.
+        IsNone o → (i : ℕ) → i ≤ length (plain text.now) → LacksTextAt pat.now (plain text.now) i) }
+    ensures bytes { IfOk result (λ o. IfSome o (λ c.
+        (i : ℕ) × HasTextAt pat.now (plain text.now) i (i + length pat.now)
         × (cow_str_bytes c ≡ cut text.now i (Some (i + length pat.now))))) }
 {
     let Some(start) = text.ansi_find(pat) else {

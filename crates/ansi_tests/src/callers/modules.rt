@@ -38,7 +38,8 @@ pub fn before_match<'t>(
 
 /// Whether a text begins with a prefix and ends with a suffix.
 pub fn is_between(text: &str, prefix: &str, suffix: &str) -> bool
-    ensures { result ≡ (starts_with nat_eq (plain text.now) prefix.now && ends_with nat_eq (plain text.now) suffix.now) }
+    ensures { result ≡ (starts_with nat_eq (plain text.now) prefix.now
+        && ends_with nat_eq (plain text.now) suffix.now) }
 {
     starts_with(text, prefix) && ends_with(text, suffix)
 }

@@ -26,8 +26,10 @@ pub fn count_parts<'x, A: Allocator + Copy>(
 /// The parts of a text. The contract says by index which parts are borrows, and how many bytes of
 /// the text each part has.
 pub fn parts_by_index<'x, A: Allocator>(alloc: A, text: &'x str, pat: &'x str) -> AnsiSplit<'x, A>
-    ensures borrowed { map (λ p. p.borrowed) result ≡ map (is_part_borrowed text.now pat.now) (range_with_len 0 (length result)) }
-    ensures shares { map (λ p. p.source_len) result ≡ map (source_len text.now pat.now) (range_with_len 0 (length result)) }
+    ensures borrowed { map (λ p. p.borrowed) result
+        ≡ map (is_part_borrowed text.now pat.now) (range_with_len 0 (length result)) }
+    ensures shares { map (λ p. p.source_len) result
+        ≡ map (source_len text.now pat.now) (range_with_len 0 (length result)) }
 {
     split_in(alloc, text, pat)
 }

@@ -1,5 +1,6 @@
 //! Callers of the searches: what follows from their results alone.
-ghost use Rattle.std.specs.Prelude.{◌≡◌, ◌↔◌, ◌+◌, ◌≤◌, ℕ, length, Some, None, IsNone, IfOk, IfSome, true, slice_get};
+ghost use Rattle.std.specs.Prelude.{◌≡◌, ◌↔◌, ◌+◌, ◌≤◌, ℕ, length, Some, None, IsNone, IfOk};
+ghost use Rattle.std.specs.Prelude.{IfSome, true, slice_get};
 ghost use Rattle.std.specs.Cow.{cow_str_bytes};
 ghost use Rattle.std.specs.Str.{IsCharBoundary};
 ghost use Rattle.std.specs.Str.Pattern.{HasTextAt, LacksTextAt};
@@ -20,8 +21,10 @@ pub fn cut_match<'t, T: AnsiStr>(
     text: &'t T,
     pat: &str,
 ) -> Result<Option<CowStr<'t>>, AllocError>
-    ensures none { IfOk result (λ o. IsNone o → (i : ℕ) → i ≤ length (plain (T.text text.now)) → LacksTextAt pat.now (plain (T.text text.now)) i) }
-    ensures bytes { IfOk result (λ o. IfSome o (λ c. (i : ℕ) × HasTextAt pat.now (plain (T.text text.now)) i (i + length pat.now)
+    ensures none { IfOk result (λ o. IsNone o → (i : ℕ) → i ≤ length (plain (T.text text.now)) →
+        LacksTextAt pat.now (plain (T.text text.now)) i) }
+    ensures bytes { IfOk result (λ o. IfSome o (λ c.
+        (i : ℕ) × HasTextAt pat.now (plain (T.text text.now)) i (i + length pat.now)
         × (cow_str_bytes c ≡ cut (T.text text.now) i (Some (i + length pat.now))))) }
 {
     match text.ansi_find(pat) {
@@ -37,8 +40,10 @@ pub fn cut_around_match<'t, T: AnsiStr>(
     text: &'t T,
     pat: &str,
 ) -> Result<Option<(CowStr<'t>, CowStr<'t>, CowStr<'t>)>, AllocError>
-    ensures none { IfOk result (λ o. IsNone o → (i : ℕ) → i ≤ length (plain (T.text text.now)) → LacksTextAt pat.now (plain (T.text text.now)) i) }
-    ensures bytes { IfOk result (λ o. IfSome o (λ c. (i : ℕ) × HasTextAt pat.now (plain (T.text text.now)) i (i + length pat.now)
+    ensures none { IfOk result (λ o. IsNone o → (i : ℕ) → i ≤ length (plain (T.text text.now)) →
+        LacksTextAt pat.now (plain (T.text text.now)) i) }
+    ensures bytes { IfOk result (λ o. IfSome o (λ c.
+        (i : ℕ) × HasTextAt pat.now (plain (T.text text.now)) i (i + length pat.now)
         × (cow_str_bytes c.0 ≡ cut (T.text text.now) 0 (Some i))
         × (cow_str_bytes c.1 ≡ cut (T.text text.now) i (Some (i + length pat.now)))
         × (cow_str_bytes c.2 ≡ cut (T.text text.now) (i + length pat.now) None))) }
@@ -60,9 +65,12 @@ pub fn cut_at_boundary<'t, T: AnsiStr>(
     text: &'t T,
     index: usize,
 ) -> Result<Option<(CowStr<'t>, CowStr<'t>)>, AllocError>
-    ensures none { IfOk result (λ o. IsNone o ↔ (¬ (IsCharBoundary (plain (T.text text.now)) index))) }
-    ensures before { IfOk result (λ o. IfSome o (λ c. cow_str_bytes c.0 ≡ cut (T.text text.now) 0 (Some index))) }
-    ensures after { IfOk result (λ o. IfSome o (λ c. cow_str_bytes c.1 ≡ cut (T.text text.now) index None)) }
+    ensures none { IfOk result (λ o.
+        IsNone o ↔ (¬ (IsCharBoundary (plain (T.text text.now)) index))) }
+    ensures before { IfOk result (λ o. IfSome o (λ c.
+        cow_str_bytes c.0 ≡ cut (T.text text.now) 0 (Some index))) }
+    ensures after { IfOk result (λ o. IfSome o (λ c.
+        cow_str_bytes c.1 ≡ cut (T.text text.now) index None)) }
 {
     if !text.ansi_is_char_boundary(index) {
         return Ok(None);
@@ -79,9 +87,12 @@ pub fn split_at_boundary<'t, T: AnsiStr>(
     text: &'t T,
     index: usize,
 ) -> Result<Option<(CowStr<'t>, CowStr<'t>)>, AllocError>
-    ensures none { IfOk result (λ o. IsNone o ↔ (¬ (IsCharBoundary (plain (T.text text.now)) index))) }
-    ensures left { IfOk result (λ o. IfSome o (λ c. cow_str_bytes c.0 ≡ left_side (T.text text.now) index)) }
-    ensures right { IfOk result (λ o. IfSome o (λ c. cow_str_bytes c.1 ≡ right_side (T.text text.now) index)) }
+    ensures none { IfOk result (λ o.
+        IsNone o ↔ (¬ (IsCharBoundary (plain (T.text text.now)) index))) }
+    ensures left { IfOk result (λ o. IfSome o (λ c.
+        cow_str_bytes c.0 ≡ left_side (T.text text.now) index)) }
+    ensures right { IfOk result (λ o. IfSome o (λ c.
+        cow_str_bytes c.1 ≡ right_side (T.text text.now) index)) }
 {
     if !text.ansi_is_char_boundary(index) {
         return Ok(None);
@@ -89,15 +100,18 @@ pub fn split_at_boundary<'t, T: AnsiStr>(
     Ok(Some(text.ansi_split_at(alloc, index)?))
 }
 
-/// The text before a part, the part, and the text after it, or `None` if there is no part of that index.
+/// The text before a part, the part, and the text after it, or `None` if there is no part of that
+/// index.
 pub fn cut_around_part<'t, T: AnsiStr>(
     alloc: Global,
     text: &'t T,
     pat: &str,
     index: usize,
 ) -> Result<Option<(CowStr<'t>, CowStr<'t>, CowStr<'t>)>, AllocError>
-    ensures none { IfOk result (λ o. IsNone o ↔ IsNone (slice_get (parts (plain (T.text text.now)) pat.now) index)) }
-    ensures bytes { IfOk result (λ o. IfSome o (λ c. (i : ℕ × ℕ) × (slice_get (parts (plain (T.text text.now)) pat.now) index ≡ Some i)
+    ensures none { IfOk result (λ o.
+        IsNone o ↔ IsNone (slice_get (parts (plain (T.text text.now)) pat.now) index)) }
+    ensures bytes { IfOk result (λ o. IfSome o (λ c.
+        (i : ℕ × ℕ) × (slice_get (parts (plain (T.text text.now)) pat.now) index ≡ Some i)
         × (cow_str_bytes c.0 ≡ cut (T.text text.now) 0 (Some i.0))
         × (cow_str_bytes c.1 ≡ cut (T.text text.now) i.0 (Some i.1))
         × (cow_str_bytes c.2 ≡ cut (T.text text.now) i.1 None))) }

@@ -13,7 +13,8 @@ use std::fmt::Write;
 /// the style.
 pub fn start_of(alloc: Global, style: &Style) -> Result<String, AllocError>
     ensures len { IfOk result (λ s. string_len s ≤ longest_start) }
-    ensures sets { IfOk result (λ s. style_after_from plain_style (string_bytes s) ≡ known (rendition_of style.now)) }
+    ensures sets { IfOk result (λ s.
+        style_after_from plain_style (string_bytes s) ≡ known (rendition_of style.now)) }
 {
     laws::styles_are_in_range();
     laws::start_sets();
@@ -24,7 +25,8 @@ pub fn start_of(alloc: Global, style: &Style) -> Result<String, AllocError>
 /// Appends a word in a style, and resets the style. The contract bounds the length, so a caller can
 /// reserve room for a line before it writes the words.
 pub fn write_word(out: &mut String, style: &Style, word: &str) -> Result<(), AllocError>
-    ensures { OnOk result (string_len out.new ≤ string_len out.old + length word.now + longest_start_and_close) }
+    ensures { OnOk result
+        (string_len out.new ≤ string_len out.old + length word.now + longest_start_and_close) }
 {
     laws::styles_are_in_range();
     laws::written_texts_are_short();
