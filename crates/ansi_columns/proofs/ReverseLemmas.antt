@@ -14,7 +14,7 @@ use Rattle.ansi_items.specs.Plain.{plain_of, plain, plain_bytes}
 use Rattle.ansi_items.proofs.PieceLemmas.{pieces_are, pieces_of-unique}
 use Rattle.ansi_items.proofs.PlainLemmas.{has_escape-bare, plain-bare}
 use Rattle.ansi_search.proofs.OffsetLemmas.{take-after}
-use Rattle.ansi_items.proofs.CountLemmas.{parameter_is_plain, intermediate_is_plain, body_is_plain}
+use Rattle.ansi_items.proofs.BetweenLemmas.{parameter_is_plain, intermediate_is_plain, body_is_plain}
 
 -- An ESC inside a sequence is the terminator of a control string.
 

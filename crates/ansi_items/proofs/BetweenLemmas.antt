@@ -1,6 +1,17 @@
 -- What an ESC begins depends on what is between it and the next ESC, and on the byte after that one.
 use Rattle.ansi_items.proofs.Common.{◌≡◌, ℕ, ◌+◌, ◌-◌, ◌<◌, ◌≤◌, Bool, true, false, not, ◌&&◌, ◌==◌, List, [], ◌∷◌, ◌++◌, length, take, drop, get_or, slice_index, Option, Some, None, refl, sym, ◌∙◌, ap, ap₂, ⊎_elim, arith, cond-true, cond-false, cases_Bool, cases_lt, eqb-true, false_from_ne_true, nat_tests, get_or_past, get_or_append_left, get_or-append-add, take-append-le, take_rest, drop-append-le, length-drop, prefix_len, prefix_len-append, prefix_len_is, prefix_len_passes, prefix_len_stops, prefix_len-le-length, unwrap_or, if◌then◌else◌, byte, is_byte, IsFirstByte, escape, bell, is_parameter_byte, is_intermediate_byte, is_final_byte, is_escape_final_byte, is_body_byte, is_plain_byte, opens_control_sequence, opens_control_string, opens_command, is_sgr, Other, Sgr, Front, front_of, control_at, string_at, escape_at, sequence_at, before_escape, before_bell}
 
+-- ESC ends each run of a sequence's bytes.
+
+pub parameter_is_plain : (b : ℕ) → is_parameter_byte b ≡ true → is_plain_byte b ≡ true
+parameter_is_plain b h = grind (arith, nat_tests)
+
+pub intermediate_is_plain : (b : ℕ) → is_intermediate_byte b ≡ true → is_plain_byte b ≡ true
+intermediate_is_plain b h = grind (arith, nat_tests)
+
+pub body_is_plain : (o b : ℕ) → is_body_byte o b ≡ true → is_plain_byte b ≡ true
+body_is_plain o b h = grind (arith, nat_tests)
+
 -- Bytes u, and after them v, which is empty or begins with ESC.
 
 -- such a v begins with no byte of another kind
