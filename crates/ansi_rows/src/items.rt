@@ -18,7 +18,9 @@ fn check_item(check: &mut Check<'_>, item: &Item) {
 pub fn check_items(check: &mut Check<'_>) {
     let text = check.row.text;
     let mut scanner = Scanner::new(text);
-    if scanner.reads() != 0 {
+    // it has looked for the first ESC, once at each byte
+    let len = text.len() as u128;
+    if scanner.reads() > len {
         check.fail("a look too early");
     }
     let mut offset = 0;
@@ -35,9 +37,9 @@ pub fn check_items(check: &mut Check<'_>) {
     if scanner.next().is_some() || scanner.next().is_some() {
         check.fail("an item after the end");
     }
-    // at least as many looks as the text has bytes, and at most four times as many
-    let (looks, len) = (scanner.reads(), text.len() as u128);
-    if looks < len || looks > 4 * len {
+    // at least as many looks as the text has bytes, and at most three times as many
+    let looks = scanner.reads();
+    if looks < len || looks > 3 * len {
         check.fail("too few or too many looks");
     }
 }
