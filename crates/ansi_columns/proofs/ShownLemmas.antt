@@ -16,7 +16,7 @@ use Rattle.ansi_search.specs.Offsets.{StandsIn}
 use Rattle.ansi_slice.proofs.CutLemmas.{marks_up_to-marks_past}
 use Rattle.ansi_slice.proofs.LengthLemmas.{length-close}
 use Rattle.ansi_slice.proofs.StretchLemmas.{cut-front}
-use Rattle.ansi_search.proofs.PositionLemmas.{boundary_is_good}
+use Rattle.ansi_search.proofs.PositionLemmas.{no_character_goes_on-boundary}
 use Rattle.ansi_columns.specs.declared.walks.Walk.{Walk}
 use Rattle.ansi_columns.specs.Columns.{columns, clusters, FitsUpTo}
 use Rattle.ansi_columns.specs.Walks.{IsWalk}
@@ -150,7 +150,7 @@ tail-there t tail width more fits = ap₂ (λ a b. not a && b) more (le-leb (col
 stands_at : (t : List ℕ) (utf8 : IsUtf8 t) (w : Walk) (room end : ℕ) → IsWalk t w → FitsUpTo (plain t) room w.position → end ≡ fitting_end room (clusters (plain t)) → StandsIn t end w.offset
 stands_at t utf8 w room end walk fits is =
     let place : w.position ≡ end = fitting_end-fits fits ∙ sym is in
-    subst (λ e. StandsIn t e w.offset) place (record { good = boundary_is_good (plain t) w.position (walk_boundary t utf8 w walk); offset = walk.offset; boundary = walk.run.start_boundary })
+    subst (λ e. StandsIn t e w.offset) place (record { good = no_character_goes_on-boundary (plain t) w.position (walk_boundary t utf8 w walk); offset = walk.offset; boundary = walk.run.start_boundary })
 
 no_tail-end : (t tail : List ℕ) (width : ℕ) → has_tail t width tail ≡ false → truncated_end t width tail ≡ fitting_end width (clusters (plain t))
 no_tail-end t tail width none = ap (λ b. fitting_end (if b then width - columns (plain tail) else width) (clusters (plain t))) none

@@ -22,13 +22,13 @@ use Rattle.ansi_slice.specs.Kept.{kept}
 use Rattle.ansi_search.specs.Offsets.{offset_of, bytes_before, StandsIn}
 use Rattle.ansi_slice.specs.Stretches.{sequences_up_to}
 use Rattle.ansi_split.specs.Parts.{marks_past}
-use Rattle.ansi_search.specs.Positions.{is_good_position}
+use Rattle.ansi_search.specs.Positions.{no_character_goes_on}
 use Rattle.ansi_slice.proofs.LengthLemmas.{length-start}
 use Rattle.ansi_slice.proofs.InterleavedLemmas.{interleaved-bare}
 use Rattle.ansi_search.proofs.SliceLemmas.{slice_range-none}
 use Rattle.ansi_search.proofs.OffsetLemmas.{plain-after, bytes_before-text}
 use Rattle.ansi_slice.proofs.StretchLemmas.{kept-front, kept-stretch, kept-none}
-use Rattle.ansi_search.proofs.PositionLemmas.{is_good_position-past, is_good_position-drop, good_is_boundary}
+use Rattle.ansi_search.proofs.PositionLemmas.{no_character_goes_on-past, no_character_goes_on-drop, good_is_boundary}
 use Rattle.ansi_split.specs.Spans.{marks_further_on, IsCutAfter}
 use Rattle.ansi_split.proofs.AfterLemmas.{is_cut_after, marks_further_on-marks_further_on}
 use Rattle.ansi_split.proofs.RestLemmas.{boundary-drop}
@@ -207,16 +207,16 @@ module _ (t : List ℕ) (before taken : ℕ) (walk : Walk) (is : IsTaken t befor
     size-front : length (plain front) ≡ e - before
     size-front = ap length plain-front ∙ length-take-le (e - before) (plain rest) (omega (arith, size-rest, inside))
 
-    good-rest : (i : ℕ) → is_good_position (plain rest) i ≡ is_good_position (plain t) (before + i)
-    good-rest i = ap (λ y. is_good_position y i) plain-rest ∙ is_good_position-drop (plain t) before i
+    good-rest : (i : ℕ) → no_character_goes_on (plain rest) i ≡ no_character_goes_on (plain t) (before + i)
+    good-rest i = ap (λ y. no_character_goes_on y i) plain-rest ∙ no_character_goes_on-drop (plain t) before i
 
-    good-front : (i : ℕ) → IsTrue (is_good_position (plain t) (before + i)) → IsTrue (is_good_position (plain front) i)
-    good-front i good = ap (λ y. is_good_position y i) plain-front ∙ elim (cases_lt i (e - before)) [
-      | inl less ↦ ap (λ b. is_good_position (b ∷ []) 0) (get_or-take (e - before) (plain rest) i 0 less) ∙ good-rest i ∙ good
-      | inr marks_past ↦ is_good_position-past (take (e - before) (plain rest)) i (omega (arith, size-front, ap length plain-front, marks_past))
+    good-front : (i : ℕ) → IsTrue (no_character_goes_on (plain t) (before + i)) → IsTrue (no_character_goes_on (plain front) i)
+    good-front i good = ap (λ y. no_character_goes_on y i) plain-front ∙ elim (cases_lt i (e - before)) [
+      | inl less ↦ ap (λ b. no_character_goes_on (b ∷ []) 0) (get_or-take (e - before) (plain rest) i 0 less) ∙ good-rest i ∙ good
+      | inr marks_past ↦ no_character_goes_on-past (take (e - before) (plain rest)) i (omega (arith, size-front, ap length plain-front, marks_past))
     ]
 
-    pub span-first : (style : Rendition) (link : List ℕ) (s : ℕ) (is_marked : Bool) (after : Rendition) (link_after : List ℕ) → offset ≤ length t → before ≤ s → s ≤ e → IsTrue (is_good_position (plain t) s)
+    pub span-first : (style : Rendition) (link : List ℕ) (s : ℕ) (is_marked : Bool) (after : Rendition) (link_after : List ℕ) → offset ≤ length t → before ≤ s → s ≤ e → IsTrue (no_character_goes_on (plain t) s)
         → is_marked ≡ has_escape front → after ≡ style_after_from style front → link_after ≡ link_after_all link (marks front)
         → IsSpan style link front (s - before) (e - before) n is_marked after link_after
     span-first style link s is_marked after link_after fits begins ordered good marked styled linked =
@@ -225,9 +225,9 @@ module _ (t : List ℕ) (before taken : ℕ) (walk : Walk) (is : IsTaken t befor
         record {
           marked = marked;
           ordered = omega (arith, ordered);
-          start_good = good-front (s - before) (subst (λ k. IsTrue (is_good_position (plain t) k)) from good);
+          start_good = good-front (s - before) (subst (λ k. IsTrue (no_character_goes_on (plain t) k)) from good);
           end_stands = record {
-            good = is_good_position-past (plain front) (e - before) (omega (arith, size-front));
+            good = no_character_goes_on-past (plain front) (e - before) (omega (arith, size-front));
             offset = sym (all_before (e - before) (pieces_of front) (omega (arith, size-front)) ∙ ap length (spelled-pieces_of front) ∙ size);
             boundary = subst (IsCharBoundary front) size (IsCharBoundary-end front);
           };
@@ -249,8 +249,8 @@ module _ (t : List ℕ) (before taken : ℕ) (walk : Walk) (is : IsTaken t befor
         ∙ ap (λ y. line_over style link y (marks rest) (s - before, e - before)) (sym plain-rest)
         ∙ ap (λ u. line_over style link (plain u) (marks u) (s - before, e - before)) (sym all))
 
-    pub span-last : (style : Rendition) (link text : List ℕ) (s : ℕ) (is_marked : Bool) (after : Rendition) (link_after : List ℕ) → text ≡ rest → IsCharBoundary t offset → before ≤ s → s ≤ e → IsTrue (is_good_position (plain t) s)
-        → IsTrue (is_good_position (plain t) e) → is_marked ≡ has_escape text → after ≡ style_after_from style text → link_after ≡ link_after_all link (marks text)
+    pub span-last : (style : Rendition) (link text : List ℕ) (s : ℕ) (is_marked : Bool) (after : Rendition) (link_after : List ℕ) → text ≡ rest → IsCharBoundary t offset → before ≤ s → s ≤ e → IsTrue (no_character_goes_on (plain t) s)
+        → IsTrue (no_character_goes_on (plain t) e) → is_marked ≡ has_escape text → after ≡ style_after_from style text → link_after ≡ link_after_all link (marks text)
         → IsSpan style link text (s - before) (e - before) n is_marked after link_after
     span-last style link text s is_marked after link_after all boundary begins ordered good good_end marked styled linked =
         let from : s ≡ before + (s - before) = omega (arith, begins) in
@@ -258,9 +258,9 @@ module _ (t : List ℕ) (before taken : ℕ) (walk : Walk) (is : IsTaken t befor
         record {
           marked = marked;
           ordered = omega (arith, ordered);
-          start_good = ap (λ u. is_good_position (plain u) (s - before)) all ∙ good-rest (s - before) ∙ subst (λ k. IsTrue (is_good_position (plain t) k)) from good;
+          start_good = ap (λ u. no_character_goes_on (plain u) (s - before)) all ∙ good-rest (s - before) ∙ subst (λ k. IsTrue (no_character_goes_on (plain t) k)) from good;
           end_stands = record {
-            good = ap (λ u. is_good_position (plain u) (e - before)) all ∙ good-rest (e - before) ∙ subst (λ k. IsTrue (is_good_position (plain t) k)) to good_end;
+            good = ap (λ u. no_character_goes_on (plain u) (e - before)) all ∙ good-rest (e - before) ∙ subst (λ k. IsTrue (no_character_goes_on (plain t) k)) to good_end;
             offset = count ∙ ap (λ u. offset_of u (e - before)) (sym all);
             boundary = subst (λ u. IsCharBoundary u n) (sym all) (boundary-drop t taken offset ahead boundary);
           };
@@ -351,8 +351,8 @@ bare-boundary {t = t} {a = a} {e = e} span unmarked =
     let none : has_escape t ≡ false = sym span.marked ∙ unmarked in
     let same = plain-bare t none in
     let size : length (plain t) ≡ length t = ap length same in (
-      good_is_boundary t a (omega (arith, span.ordered, span.within, size)) (ap (λ x. is_good_position x a) (sym same) ∙ span.start_good),
-      good_is_boundary t e (omega (arith, span.within, size)) (ap (λ x. is_good_position x e) (sym same) ∙ span.end_stands.good),
+      good_is_boundary t a (omega (arith, span.ordered, span.within, size)) (ap (λ x. no_character_goes_on x a) (sym same) ∙ span.start_good),
+      good_is_boundary t e (omega (arith, span.within, size)) (ap (λ x. no_character_goes_on x e) (sym same) ∙ span.end_stands.good),
     )
 
 -- one that doesn't

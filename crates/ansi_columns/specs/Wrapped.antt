@@ -11,7 +11,7 @@ use Rattle.ansi_style.specs.Written.{start, close_if_any, longest_start_and_clos
 use Rattle.ansi_slice.specs.Cut.{interleaved}
 use Rattle.ansi_search.specs.Offsets.{offset_of, StandsIn}
 use Rattle.ansi_split.specs.Parts.{marks_past}
-use Rattle.ansi_search.specs.Positions.{is_good_position}
+use Rattle.ansi_search.specs.Positions.{no_character_goes_on}
 use Rattle.ansi_split.specs.Spans.{marks_further_on}
 use Rattle.ansi_columns.specs.declared.walks.Walk.{Walk}
 use Rattle.ansi_columns.specs.Lines.{lines}
@@ -72,7 +72,7 @@ pub record IsTaken (t : List ℕ) (before taken : ℕ) (walk : Walk) : Type 0 wh
 pub record IsSpan (style : Rendition) (link t : List ℕ) (start end offset : ℕ) (is_marked : Bool) (style_after : Rendition) (link_after : List ℕ) : Type 0 where
   pub marked : is_marked ≡ has_escape t
   pub ordered : start ≤ end
-  pub start_good : IsTrue (is_good_position (plain t) start)
+  pub start_good : IsTrue (no_character_goes_on (plain t) start)
   pub end_stands : StandsIn t end offset
   pub within : end ≤ length (plain t)
   pub styled : style_after ≡ style_after_from style t

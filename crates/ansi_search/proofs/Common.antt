@@ -46,7 +46,7 @@ pub use Rattle.ansi_style.specs.States.{rendition_of}
 pub use Rattle.ansi_style.specs.declared.state.rendition.Rendition.{Rendition}
 pub use Rattle.ansi_search.specs.Offsets.{StandsIn, bytes_before, offset_of}
 pub use Rattle.ansi_search.specs.Matches.{first_match_from, is_match}
-pub use Rattle.ansi_search.specs.Positions.{is_char_boundary, is_continuation_byte, is_good_position, is_good_range, is_position_in, is_range_in}
+pub use Rattle.ansi_search.specs.Positions.{is_char_boundary, is_continuation_byte, no_character_goes_on, is_good_position, is_good_range, is_position_in, is_range_in}
 pub use Rattle.ansi_search.specs.Searches.{IsWindow, LacksRareByte, IsMismatch, IsCut, IsPoint, IsReached, MatchesBetween, StandsNowhere}
 unfoldable pub use Rattle.ansi_search.specs.Searches.{Precedes}
 pub use Rattle.ansi_search.specs.declared.search.critical.CriticalCut.{CriticalCut}

@@ -1,6 +1,6 @@
 -- A pattern at the front and at the end of a text.
-use Rattle.ansi_search.proofs.Common.{◌≡◌, ℕ, ◌+◌, ◌-◌, ◌≤◌, ◌⊎◌, inl, inr, IsTrue, true, ◌&&◌, List, ◌∷◌, ◌++◌, length, take, drop, nat_eq, refl, sym, ◌∙◌, ap, ap₂, subst, arith, and_assoc, nat_eq_equiv, take-append-le, take_all, drop-drop, length-drop, length-take, IsCharBoundary-from_take, IsCharBoundary-from_drop, pointwise, same_text, starts_with, ends_with, IsUtf8, IsCharBoundary, Kind, Piece, pieces_of, plain_of, plain, is_good_position, offset_of, IsCharBoundary-start, StandsIn, []}
-use Rattle.ansi_search.proofs.PositionLemmas.{boundary_is_good}
+use Rattle.ansi_search.proofs.Common.{◌≡◌, ℕ, ◌+◌, ◌-◌, ◌≤◌, ◌⊎◌, inl, inr, IsTrue, true, ◌&&◌, List, ◌∷◌, ◌++◌, length, take, drop, nat_eq, refl, sym, ◌∙◌, ap, ap₂, subst, arith, and_assoc, nat_eq_equiv, take-append-le, take_all, drop-drop, length-drop, length-take, IsCharBoundary-from_take, IsCharBoundary-from_drop, pointwise, same_text, starts_with, ends_with, IsUtf8, IsCharBoundary, Kind, Piece, pieces_of, plain_of, plain, no_character_goes_on, offset_of, IsCharBoundary-start, StandsIn, []}
+use Rattle.ansi_search.proofs.PositionLemmas.{no_character_goes_on-boundary}
 use Rattle.ansi_search.proofs.OffsetLemmas.{IsOverText, IsOverMark, IsPassed, passed-text, passed-mark, stands-after}
 
 -- a pattern that is no longer than the text at the front stands in that
@@ -98,13 +98,13 @@ pub tail-starts : {t rest : List ℕ} (p : List ℕ) {last len passed : ℕ} {le
 tail-starts p so_far none is = grind (arith, drop-drop, ends_with-starts_with, tail-sum)
 
 pub tail-good : {t rest : List ℕ} (p : List ℕ) {last len passed : ℕ} {left : List Piece} → IsTailSoFar t (length p) last len passed left → left ≡ [] → rest ≡ drop last t → IsUtf8 p
-    → starts_with nat_eq (drop (len - length p) (plain rest)) p ≡ true → IsTrue (is_good_position (plain rest) (len - length p))
+    → starts_with nat_eq (drop (len - length p) (plain rest)) p ≡ true → IsTrue (no_character_goes_on (plain rest) (len - length p))
 tail-good {t} {rest} p {len = len} {left = left} so_far none is utf8 starts =
     let nothing : length (plain_of left) ≡ 0 = ap (λ ps. length (plain_of ps)) none in
     let rest_is : plain rest ≡ drop so_far.before (plain t) = ap plain is ∙ sym so_far.from.rest in
     let size : len - length p ≡ length (plain rest) - length p = omega (arith, ap length rest_is, length-drop so_far.before (plain t), so_far.way.count, nothing) in
     let ends : ends_with nat_eq (plain rest) p ≡ true = sym (ends_with-starts_with (plain rest) p) ∙ ap (λ n. starts_with nat_eq (drop n (plain rest)) p) (sym size) ∙ starts in
-    ap (is_good_position (plain rest)) size ∙ boundary_is_good (plain rest) (length (plain rest) - length p) (ends_with-boundary (plain rest) p utf8 ends)
+    ap (no_character_goes_on (plain rest)) size ∙ no_character_goes_on-boundary (plain rest) (length (plain rest) - length p) (ends_with-boundary (plain rest) p utf8 ends)
 
 pub tail-stands : {t rest : List ℕ} {n last len passed i : ℕ} {left : List Piece} → IsTailSoFar t n last len passed left → left ≡ [] → rest ≡ drop last t → StandsIn rest (len - n) i
     → StandsIn t (length (plain t) - n) (last + i)

@@ -1,6 +1,6 @@
 -- Where a pattern stands in a text, and where it stands first.
 use Rattle.ansi_search.proofs.Common.{◌≡◌, ℕ, zero, suc, ◌+◌, ◌-◌, ◌<◌, ◌≤◌, max, inl, inr, Bool, true, false, ◌&&◌, ◌||◌, List, ◌∷◌, ◌++◌, take, drop, length, filter, nat_eq, nat_le, IsTrue, IsFalse, Option, Some, None, refl, sym, ◌∙◌, ap, ap₂, subst, arith, slice_get, slice_index, and_parts, and_from, cond_both, cases_lt, cases_eq, le-leb, leb-true, leb-false, true≢false, take-append-drop, take_at, drop-drop, take-append-le, get_or_append_left, get_or-drop, length-append, length-drop, drop-append-le, bytes_eq-Decides, IsCharBoundary-start, IsCharBoundary-from_rest, both_ways, range_with_len, starts_with, IsUtf8, IsCharBoundary, Nowhere, IsFirst, OccursAt, FindsNeedle, Passes, is_byte, OccursAt-split, OccursAt-from_part, ◌==◌, escape, has_escape, is_char_boundary, is_match, first_match_from, []}
-use Rattle.ansi_search.proofs.PositionLemmas.{is_good_position-past, is_char_boundary-from}
+use Rattle.ansi_search.proofs.PositionLemmas.{no_character_goes_on-past, is_char_boundary-from}
 
 -- Whether a text begins with a pattern.
 
@@ -141,7 +141,7 @@ empty_at_end x (b ∷ p) from place end none below before = absurd (omega (arith
 empty_at_end x [] from place end none below before =
     first_match_from-is x [] from (Some place) (
       record { low = below; high = omega (arith, end); before = before },
-      and_from _ _ (and_from _ _ (le-leb place (length x) (omega (arith, end))) (is_good_position-past x place (omega (arith, end)))) refl,
+      and_from _ _ (and_from _ _ (le-leb place (length x) (omega (arith, end))) (no_character_goes_on-past x place (omega (arith, end)))) refl,
     )
 
 pub none_at_end : (x p : List ℕ) (from place : ℕ) → place ≡ length x → (length p ≡ 0 → place < from) → Nowhere (IsMatch x p) from place → None ≡ first_match_from x p from

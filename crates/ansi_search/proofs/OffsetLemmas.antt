@@ -1,8 +1,8 @@
 -- Where the plain bytes of a text stand in it: what stands before them and after them, and how far a walk there has come.
-use Rattle.ansi_search.proofs.Common.{◌≡◌, ◌≢◌, ℕ, zero, suc, ◌+◌, ◌-◌, ◌<◌, ◌≤◌, inl, inr, Bool, true, ◌↔◌, List, ◌∷◌, ◌++◌, length, take, drop, take-add, refl, sym, ◌∙◌, ap, subst, arith, IsTrue, if◌then◌else◌, nat_lt, length-append, false, drop-nil, drop-append_seam, cases_lt, lt-ltb, le-ltb, take_all, drop-append-le, drop-drop, drop_all, sameb, same_false, slice_range, IsCharBoundary-from_rest, IsCharBoundary, the_type, Kind, is_plain_byte, Piece, Text, spelling, ArePieces, pieces_of, plain_of, plain, pieces_are, pieces_of-unique, spelled, Item, Scan, GivesItem, pieces_left, is_mark, BeginsWithMark, gives_text, gives_mark, plain_of-mark, Rendition, apply, style_within, style_by_marks, style_by_marks-before, style_by_marks-text, style_by_marks-mark, is_good_position, bytes_before, offset_of, StandsIn, []}
+use Rattle.ansi_search.proofs.Common.{◌≡◌, ◌≢◌, ℕ, zero, suc, ◌+◌, ◌-◌, ◌<◌, ◌≤◌, inl, inr, Bool, true, ◌↔◌, List, ◌∷◌, ◌++◌, length, take, drop, take-add, refl, sym, ◌∙◌, ap, subst, arith, IsTrue, if◌then◌else◌, nat_lt, length-append, false, drop-nil, drop-append_seam, cases_lt, lt-ltb, le-ltb, take_all, drop-append-le, drop-drop, drop_all, sameb, same_false, slice_range, IsCharBoundary-from_rest, IsCharBoundary, the_type, Kind, is_plain_byte, Piece, Text, spelling, ArePieces, pieces_of, plain_of, plain, pieces_are, pieces_of-unique, spelled, Item, Scan, GivesItem, pieces_left, is_mark, BeginsWithMark, gives_text, gives_mark, plain_of-mark, Rendition, apply, style_within, style_by_marks, style_by_marks-before, style_by_marks-text, style_by_marks-mark, no_character_goes_on, bytes_before, offset_of, StandsIn, []}
 use Rattle.ansi_items.specs.declared.ansitok.Kind.TheVariants.{Text as TextKind}
 use Rattle.ansi_search.proofs.SliceLemmas.{length-slice_range, take-append, drop-append, list_all-parts}
-use Rattle.ansi_search.proofs.PositionLemmas.{is_good_position-append, is_good_position-after, is_good_position-past, is_good_position-drop, good_is_boundary, boundary_test}
+use Rattle.ansi_search.proofs.PositionLemmas.{no_character_goes_on-append, no_character_goes_on-after, no_character_goes_on-past, no_character_goes_on-drop, good_is_boundary, boundary_test}
 
 pub bytes_before-last : (n : ℕ) (w : List ℕ) (ps : List Piece) → n < length w → bytes_before n (Text w ∷ ps) ≡ n
 bytes_before-last n w ps last = ap (λ b. if b then n else length w + bytes_before (n - length w) ps) (lt-ltb n (length w) last)
@@ -132,7 +132,7 @@ over_mark gives same is other = record { first = gives_mark gives same is other;
 -- How far a walk to the plain byte n has come: what has been passed, and what stands before the byte in what is left, stand before it in all; and so the style there.
 pub record IsOnTheWay (t : List ℕ) (n : ℕ) (start : Rendition) (passed left : ℕ) (style : Rendition) (ps : List Piece) : Type 0 where
   pub offset : passed + bytes_before left ps ≡ offset_of t n
-  pub good : is_good_position (plain_of ps) left ≡ is_good_position (plain t) n
+  pub good : no_character_goes_on (plain_of ps) left ≡ no_character_goes_on (plain t) n
   pub styled : style_by_marks style ps left ≡ style_within start t n
 
 pub way-begin : (t : List ℕ) (n : ℕ) (start : Rendition) → IsOnTheWay t n start 0 n start (pieces_of t)
@@ -140,7 +140,7 @@ way-begin t n start = record { offset = omega arith; good = refl; styled = refl 
 
 pub way-text : {t : List ℕ} {n passed at left next : ℕ} {start style : Rendition} {w : List ℕ} {old ps : List Piece} → IsOnTheWay t n start passed left style old → IsOverText t w passed at old ps
     → length w ≤ left → next ≡ left - length w → IsOnTheWay t n start at next style ps
-way-text way over within next_is = grind (arith, bytes_before-text, is_good_position-after, style-text)
+way-text way over within next_is = grind (arith, bytes_before-text, no_character_goes_on-after, style-text)
 
 pub way-mark : {t : List ℕ} {n passed at left : ℕ} {start style next : Rendition} {kind : Kind} {w : List ℕ} {old ps : List Piece} → IsOnTheWay t n start passed left style old → IsOverMark kind t w passed at old ps
     → next ≡ apply style w → IsOnTheWay t n start at left next ps
@@ -152,30 +152,30 @@ pub way-last : {t : List ℕ} {n passed at left : ℕ} {start style : Rendition}
 way-last way over last = grind (arith, bytes_before-last, style_by_marks-before)
 
 pub way-end : {t : List ℕ} {n passed left : ℕ} {start style : Rendition} {old : List Piece} → IsOnTheWay t n start passed left style old → old ≡ []
-    → (passed ≡ offset_of t n) × (true ≡ is_good_position (plain t) n) × (style ≡ style_within start t n)
-way-end way none = grind (arith, is_good_position-past)
+    → (passed ≡ offset_of t n) × (true ≡ no_character_goes_on (plain t) n) × (style ≡ style_within start t n)
+way-end way none = grind (arith, no_character_goes_on-past)
 
 -- a position in a text that comes next is good where it is a boundary of all
 good_in_next : (t : List ℕ) (at left : ℕ) (w : List ℕ) (ps : List Piece) → pieces_of (drop at t) ≡ Text w ∷ ps → left < length w
-    → is_good_position t (at + left) ≡ is_good_position (w ++ plain_of ps) left
+    → no_character_goes_on t (at + left) ≡ no_character_goes_on (w ++ plain_of ps) left
 good_in_next t at left w ps first last =
     let are = subst (ArePieces (drop at t)) first (pieces_are (drop at t)) in
-    sym (is_good_position-drop t at left)
-    ∙ ap (λ u. is_good_position u left) are.1 ∙ is_good_position-append w are.0 left last ∙ sym (is_good_position-append w (plain_of ps) left last)
+    sym (no_character_goes_on-drop t at left)
+    ∙ ap (λ u. no_character_goes_on u left) are.1 ∙ no_character_goes_on-append w are.0 left last ∙ sym (no_character_goes_on-append w (plain_of ps) left last)
 
 way-good : {t : List ℕ} {n passed at left i : ℕ} {start style : Rendition} {w : List ℕ} {old ps : List Piece} → IsOnTheWay t n start passed left style old → IsOverText t w passed at old ps → left < length w → i ≡ passed + left
-    → (i ≤ length t) × (is_good_position t i ≡ is_good_position (plain t) n)
+    → (i ≤ length t) × (no_character_goes_on t i ≡ no_character_goes_on (plain t) n)
 way-good {t} {n} {passed} {left = left} {w = w} {ps = ps} way over last is = (
   omega (arith, is, last, over.count, over.within),
-  ap (is_good_position t) is ∙ good_in_next t passed left w ps (over.there ∙ over.first) last ∙ ap (λ qs. is_good_position (plain_of qs) left) (sym over.first) ∙ way.good,
+  ap (no_character_goes_on t) is ∙ good_in_next t passed left w ps (over.there ∙ over.first) last ∙ ap (λ qs. no_character_goes_on (plain_of qs) left) (sym over.first) ∙ way.good,
 )
 
 pub way-test : {t : List ℕ} {n passed at left i : ℕ} {start style : Rendition} {w : List ℕ} {old ps : List Piece} {b : Bool} → IsOnTheWay t n start passed left style old → IsOverText t w passed at old ps → left < length w → i ≡ passed + left
-    → IsTrue b ↔ IsCharBoundary t i → b ≡ is_good_position (plain t) n
+    → IsTrue b ↔ IsCharBoundary t i → b ≡ no_character_goes_on (plain t) n
 way-test {t} {i = i} {b = b} way over last is test = (let here = way-good way over last is in boundary_test t i b here.0 test ∙ here.1)
 
 pub way-boundary : {t : List ℕ} {n passed at left i : ℕ} {start style : Rendition} {w : List ℕ} {old ps : List Piece} → IsOnTheWay t n start passed left style old → IsOverText t w passed at old ps → left < length w → i ≡ passed + left
-    → IsTrue (is_good_position (plain t) n) → IsCharBoundary t i
+    → IsTrue (no_character_goes_on (plain t) n) → IsCharBoundary t i
 way-boundary {t} {i = i} way over last is good = (let here = way-good way over last is in good_is_boundary t i here.0 (here.1 ∙ good))
 
 -- How far a walk has come: so many plain bytes and so many bytes of t have been passed, and each plain byte further on stands where it does in the pieces that are left.
@@ -206,7 +206,7 @@ passed-mark way over = grind (arith, bytes_before-mark, plain_of-mark)
 -- a place in what follows a place that was passed
 pub stands-after : {t rest : List ℕ} {place passed n i : ℕ} → IsPassed t place passed (pieces_of rest) → rest ≡ drop passed t → passed ≤ length t → StandsIn rest n i → StandsIn t (place + n) (passed + i)
 stands-after {t} {rest} {place} {passed} {n} {i} way is fits stands = record {
-  good = sym (is_good_position-drop (plain t) place n) ∙ ap (λ x. is_good_position x n) way.rest ∙ stands.good;
+  good = sym (no_character_goes_on-drop (plain t) place n) ∙ ap (λ x. no_character_goes_on x n) way.rest ∙ stands.good;
   offset = ap (λ k. passed + k) stands.offset ∙ sym (way.offset n);
   boundary = IsCharBoundary-from_rest t passed i fits (subst (λ u. IsCharBoundary u i) is stands.boundary);
 }

@@ -3,7 +3,7 @@ use Rattle.std.specs.Prelude.{◌≡◌, ℕ, ◌+◌, ◌-◌, List, [], ◌∷
 use Rattle.std.specs.Str.{IsCharBoundary}
 use Rattle.ansi_items.specs.Pieces.{Piece, Text, spelling, pieces_of}
 use Rattle.ansi_items.specs.Plain.{plain}
-use Rattle.ansi_search.specs.Positions.{is_good_position}
+use Rattle.ansi_search.specs.Positions.{no_character_goes_on}
 
 -- how many bytes of pieces are before the plain byte n, with the sequences up to there; all of them, if there is no such byte
 abbrev pub bytes_before : ℕ → List Piece → ℕ
@@ -17,6 +17,6 @@ offset_of t n = bytes_before n (pieces_of t)
 
 -- the position n of the plain text of t is good, and is at the offset i in t
 pub record StandsIn (t : List ℕ) (n i : ℕ) : Type 0 where
-  pub good : IsTrue (is_good_position (plain t) n)
+  pub good : IsTrue (no_character_goes_on (plain t) n)
   pub offset : i ≡ offset_of t n
   pub boundary : IsCharBoundary t i

@@ -7,13 +7,17 @@ use Rattle.ansi_items.specs.Plain.{plain}
 abbrev pub is_continuation_byte : ℕ → Bool
 is_continuation_byte b = is_in_range 0x80 0xBF b
 
--- a position is good at the end of the plain text x, past it, and where a character begins (std's boundaries; past the end, the Rust crate)
-abbrev pub is_good_position : List ℕ → ℕ → Bool
-is_good_position x n = not (is_continuation_byte (slice_index x n))
+-- no character of the plain text x goes on at n: the byte there is no continuation byte, or x has no byte there
+abbrev pub no_character_goes_on : List ℕ → ℕ → Bool
+no_character_goes_on x n = not (is_continuation_byte (slice_index x n))
 
--- a character boundary of x is a good position up to its end (std)
+-- a position is good at 0, at the end of the plain text x, past it, and where no character goes on (std's boundaries; past the end, the Rust crate)
+abbrev pub is_good_position : List ℕ → ℕ → Bool
+is_good_position x n = n == 0 || no_character_goes_on x n
+
+-- at a character boundary no character of x goes on, and it isn't past the end (std)
 abbrev pub is_char_boundary : List ℕ → ℕ → Bool
-is_char_boundary x n = nat_le n (length x) && is_good_position x n
+is_char_boundary x n = nat_le n (length x) && no_character_goes_on x n
 
 -- a range is good if its ends are good, and no end is below the start (std)
 abbrev pub is_good_range : List ℕ → ℕ → Option ℕ → Bool

@@ -48,7 +48,7 @@ pub use Rattle.ansi_slice.specs.Kept.{IsKept, trim_interval, trimmed, without_pr
 unfoldable pub use Rattle.ansi_slice.specs.Kept.{kept}
 pub use Rattle.ansi_slice.specs.Stretches.{KeepsUpTo, sequences_up_to}
 pub use Rattle.ansi_search.specs.Offsets.{StandsIn, bytes_before, offset_of}
-pub use Rattle.ansi_search.specs.Positions.{is_good_position, is_good_range}
+pub use Rattle.ansi_search.specs.Positions.{no_character_goes_on, is_good_range}
 pub use Rattle.ansi_slice.specs.Ranges.{past_inclusive}
 pub use Rattle.ansi_slice.specs.Sides.{dressed, left_part, right_part, side_up_to}
 unfoldable pub use Rattle.ansi_slice.specs.Sides.{left_side, right_side}

@@ -1,9 +1,12 @@
 -- A cut and a kept text as a stretch of the text, by where its plain bytes stand, and the sequences outside of it.
-use Rattle.ansi_slice.proofs.Common.{◌≡◌, ℕ, ◌+◌, ◌-◌, ◌<◌, ◌≤◌, inl, inr, Bool, true, List, [], ◌∷◌, ◌++◌, length, take, drop, take-add, refl, sym, ◌∙◌, ap, ap₂, subst, arith, if◌then◌else◌, nat_lt, length-append, append_assoc, append-nil, not, false, ◌&&◌, Some, drop-append_seam, cases_lt, le-leb, lt-ltb, nat_tests, take-append-le, length-drop, drop-drop, slice_range, IsCharBoundary, Kind, Piece, Text, ArePieces, pieces_of, plain_of, plain, pieces_are, pieces_of-unique, length-plain, spelled, spelled-pieces_of, is_mark, BeginsWithMark, Rendition, plain_style, apply, style_within, close, style_by_marks, style_by_marks-before, style_by_marks-mark, is_good_position, is_good_range, cut_up_to, kept, bytes_before, sequences_up_to, offset_of, StandsIn, KeepsUpTo, spelling, joined, marks_of, marks_up_to, marks_of-text, marks_of-mark, marks_up_to-none, marks_up_to-further, marks_up_to-here}
+use Rattle.ansi_slice.proofs.Common.{◌≡◌, ℕ, ◌+◌, ◌-◌, ◌<◌, ◌≤◌, inl, inr, Bool, true, List, [], ◌∷◌, ◌++◌, length, take, drop, take-add, refl, sym, ◌∙◌, ap, ap₂, subst, arith, if◌then◌else◌, nat_lt, length-append, append_assoc, append-nil, not, false, ◌&&◌, Some, drop-append_seam, cases_lt, le-leb, lt-ltb, nat_tests, take-append-le, length-drop, drop-drop, slice_range, IsCharBoundary, Kind, Piece, Text, ArePieces, pieces_of, plain_of, plain, pieces_are, pieces_of-unique, length-plain, spelled, spelled-pieces_of, is_mark, BeginsWithMark, Rendition, plain_style, apply, style_within, close, style_by_marks, style_by_marks-before, style_by_marks-mark, no_character_goes_on, is_good_range, cut_up_to, kept, bytes_before, sequences_up_to, offset_of, StandsIn, KeepsUpTo, spelling, joined, marks_of, marks_up_to, marks_of-text, marks_of-mark, marks_up_to-none, marks_up_to-further, marks_up_to-here}
 use Rattle.ansi_style.proofs.MarkLemmas.{joined-further}
 use Rattle.ansi_search.proofs.SliceLemmas.{slice_range-past, slice_range-from_past}
 use Rattle.ansi_search.proofs.OffsetLemmas.{bytes_before-last, bytes_before-text, style-text, after_of, after_of-last, after_of-text, take-after, inside_are, pieces_of-after, plain-after, IsOverText, IsPassed}
-use Rattle.ansi_search.proofs.PositionLemmas.{is_good_position-drop}
+use Rattle.std.specs.Prelude.{zero, suc, ◌||◌, IsTrue}
+use Rattle.std.proofs.lemmas.Bool.{ne_eqb}
+use Rattle.ansi_search.specs.Positions.{is_good_position}
+use Rattle.ansi_search.proofs.PositionLemmas.{no_character_goes_on-drop, is_good_position-from}
 use Rattle.ansi_slice.proofs.CutLemmas.{interleaved_from, interleaved_from-text, cut_up_to-walk}
 use Rattle.ansi_slice.proofs.KeptWalkLemmas.{kept-walk, kept-all}
 
@@ -120,9 +123,23 @@ cut-stretch {t} {rest} {s} {e} {from} {to} {c} {style} ordered start rest_is end
     (style_is ∙ ap₂ (λ r qs. style_by_marks r qs (e - s)) c_is after ∙ style-after ps plain_style s e ordered)
     ∙ sym (cut_up_to-walk t s e ∙ ap (λ u. u ++ close (style_by_marks plain_style ps e)) (interleaved_from-front false ps s e ordered))
 
+-- an end in what follows a start at which no character goes on
+end_after : (x y : List ℕ) (s e : ℕ) → s ≤ e → IsTrue (no_character_goes_on x s) → y ≡ drop s x → is_good_position x e ≡ no_character_goes_on y (e - s)
+end_after x y s zero ordered start is =
+    let same : s + (0 - s) ≡ s = omega (arith, ordered) in
+    sym (ap (λ v. no_character_goes_on v (0 - s)) is ∙ no_character_goes_on-drop x s (0 - s) ∙ ap (no_character_goes_on x) same ∙ start)
+end_after x y s (suc e) ordered start is =
+    let same : s + (suc e - s) ≡ suc e = omega (arith, ordered) in
+    ap (λ b. b || no_character_goes_on x (suc e)) (ne_eqb (suc e) 0 (λ none. omega (arith, none)))
+    ∙ sym (ap (λ v. no_character_goes_on v (suc e - s)) is ∙ no_character_goes_on-drop x s (suc e - s) ∙ ap (no_character_goes_on x) same)
+
 -- the range of a cut, by those
-pub range-by_offset : {t rest : List ℕ} {s e from : ℕ} → s ≤ e → StandsIn t s from → rest ≡ drop from t → is_good_range (plain t) s (Some e) ≡ is_good_position (plain rest) (e - s)
-range-by_offset ordered start rest_is = grind (arith, is_good_position-drop, le-leb, plain-after)
+pub range-by_offset : {t rest : List ℕ} {s e from : ℕ} → s ≤ e → StandsIn t s from → rest ≡ drop from t → is_good_range (plain t) s (Some e) ≡ no_character_goes_on (plain rest) (e - s)
+range-by_offset {t} {rest} {s} {e} {from} ordered start rest_is =
+    let x = plain t in
+    let after : plain rest ≡ drop s x = ap plain (rest_is ∙ ap (λ n. drop n t) start.offset) ∙ plain-after t s in
+    ap (λ b. b && (is_good_position x s && is_good_position x e)) (le-leb s e ordered)
+    ∙ ap (λ b. b && is_good_position x e) (is_good_position-from x s start.good) ∙ end_after x (plain rest) s e ordered start.good after
 
 -- what is kept from s on
 pub kept-front : (t : List ℕ) (s e : ℕ) → s ≤ e → kept t s e ≡ sequences_up_to s (pieces_of t) ++ kept (drop (offset_of t s) t) 0 (e - s)

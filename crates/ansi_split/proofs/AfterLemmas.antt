@@ -1,5 +1,5 @@
 -- A text in two, after the last mark at a position.
-use Rattle.ansi_split.proofs.Common.{min, ◌≡◌, ◌≢◌, ℕ, zero, suc, ◌+◌, ◌-◌, ◌<◌, ◌≤◌, inl, inr, false, List, [], ◌∷◌, ◌++◌, length, map, take, drop, Some, refl, sym, ◌∙◌, ap, ap₂, subst, arith, IsTrue, if◌then◌else◌, nat_lt, nat_le, slice_index, slice_range, length-append, append_assoc, append-nil, take-nil, cases_lt, lt-ltb, le-ltb, nat_tests, take_all, take-take, take-append-le, take-append-drop, map-append, length-drop, filter-append, filter_agree, fold-append, IsCharBoundary-from_rest, IsCharBoundary, escape, is_plain_byte, IsSequence, Piece, Text, Sequence, LoneEscape, spelling, ArePieces, StandsBefore, pieces_of, Mark, plain_of, plain, marks_of, marks, marks_up_to, pieces_are, pieces_of-unique, one_text, one_text_are, plain_of-one_text, apply, apply_all, after_marks, further, marks_of-text, marks_of-mark, marks_up_to-none, marks_up_to-further, after_marks-further, is_good_position, interleaved, marks_past, bytes_before, offset_of, list_all-parts, take-append, slice_range-none, slice_range-from_past, interleaved-bare, interleaved-text, interleaved-mark, interleaved-nil, is_good_position-append, good_is_boundary, marks_up_to-marks_past, bytes_before-last, bytes_before-text, after_of, after_of-last, after_of-text, take-after, pieces_of-after, plain-after, marks_further_on, IsCutAfter}
+use Rattle.ansi_split.proofs.Common.{min, ◌≡◌, ◌≢◌, ℕ, zero, suc, ◌+◌, ◌-◌, ◌<◌, ◌≤◌, inl, inr, false, List, [], ◌∷◌, ◌++◌, length, map, take, drop, Some, refl, sym, ◌∙◌, ap, ap₂, subst, arith, IsTrue, if◌then◌else◌, nat_lt, nat_le, slice_index, slice_range, length-append, append_assoc, append-nil, take-nil, cases_lt, lt-ltb, le-ltb, nat_tests, take_all, take-take, take-append-le, take-append-drop, map-append, length-drop, filter-append, filter_agree, fold-append, IsCharBoundary-from_rest, IsCharBoundary, escape, is_plain_byte, IsSequence, Piece, Text, Sequence, LoneEscape, spelling, ArePieces, StandsBefore, pieces_of, Mark, plain_of, plain, marks_of, marks, marks_up_to, pieces_are, pieces_of-unique, one_text, one_text_are, plain_of-one_text, apply, apply_all, after_marks, further, marks_of-text, marks_of-mark, marks_up_to-none, marks_up_to-further, after_marks-further, no_character_goes_on, interleaved, marks_past, bytes_before, offset_of, list_all-parts, take-append, slice_range-none, slice_range-from_past, interleaved-bare, interleaved-text, interleaved-mark, interleaved-nil, no_character_goes_on-append, good_is_boundary, marks_up_to-marks_past, bytes_before-last, bytes_before-text, after_of, after_of-last, after_of-text, take-after, pieces_of-after, plain-after, marks_further_on, IsCutAfter}
 use Rattle.std.proofs.lemmas.List.{length-take}
 use Rattle.ansi_split.proofs.PartSliceLemmas.{own_places, at_places-never, marks_past-places}
 
@@ -198,10 +198,10 @@ drop-take (suc a) (suc e) (b ∷ w) = drop-take a e w ∙ (let same : e - a ≡ 
 
 -- A good position in the text that stands next is a boundary of the text.
 pub boundary_in_next : (t : List ℕ) (position left : ℕ) (w : List ℕ) (ps : List Piece) → position ≤ length t → pieces_of (drop position t) ≡ Text w ∷ ps → left < length w
-    → IsTrue (is_good_position (w ++ plain_of ps) left) → IsCharBoundary t (position + left)
+    → IsTrue (no_character_goes_on (w ++ plain_of ps) left) → IsCharBoundary t (position + left)
 boundary_in_next t position left w ps inside first last good =
     let are = subst (ArePieces (drop position t)) first (pieces_are (drop position t)) in
     let within : left ≤ length (drop position t) = omega (arith, ap length are.1, length-append w are.0) in
-    let here : IsTrue (is_good_position (drop position t) left)
-    = ap (λ u. is_good_position u left) are.1 ∙ is_good_position-append w are.0 left last ∙ sym (is_good_position-append w (plain_of ps) left last) ∙ good in
+    let here : IsTrue (no_character_goes_on (drop position t) left)
+    = ap (λ u. no_character_goes_on u left) are.1 ∙ no_character_goes_on-append w are.0 left last ∙ sym (no_character_goes_on-append w (plain_of ps) left last) ∙ good in
     IsCharBoundary-from_rest t position left inside (good_is_boundary (drop position t) left within here)

@@ -1,5 +1,5 @@
 -- The parts for the empty pattern are the characters of a text, between two empty parts.
-use Rattle.ansi_split.proofs.Common.{◌≡◌, ◌≢◌, ℕ, zero, suc, ◌+◌, ◌-◌, ◌%◌, ◌≤◌, Bool, true, false, List, [], ◌∷◌, ◌++◌, take, drop, length, map, filter, zip, nat_le, refl, sym, ◌∙◌, ap, ap₂, subst, arith, slice_index, slice_range, length-append, and-true, and_parts, and_from, and_right, cond-true, cond-false, le-leb, not_from_true, drop-drop, get_or-drop, filter-append, filter_agree, encodes-chars, scalars-chars, IsCharBoundary-from_drop, IsCharBoundary-start, IsCharBoundary-end, take-append_seam, drop-append_seam, encode_utf8, range_with_len, list_all, IsUtf8, IsCharBoundary, chars, encode_utf8_all, all_scalars, is_char_boundary, is_continuation_byte, is_good_position, is_match, without_overlaps, parts, AreInTurn, slices_over, char_boundary_is}
+use Rattle.ansi_split.proofs.Common.{◌≡◌, ◌≢◌, ℕ, zero, suc, ◌+◌, ◌-◌, ◌%◌, ◌≤◌, Bool, true, false, List, [], ◌∷◌, ◌++◌, take, drop, length, map, filter, zip, nat_le, refl, sym, ◌∙◌, ap, ap₂, subst, arith, slice_index, slice_range, length-append, and-true, and_parts, and_from, and_right, cond-true, cond-false, le-leb, not_from_true, drop-drop, get_or-drop, filter-append, filter_agree, encodes-chars, scalars-chars, IsCharBoundary-from_drop, IsCharBoundary-start, IsCharBoundary-end, take-append_seam, drop-append_seam, encode_utf8, range_with_len, list_all, IsUtf8, IsCharBoundary, chars, encode_utf8_all, all_scalars, is_char_boundary, is_continuation_byte, no_character_goes_on, is_match, without_overlaps, parts, AreInTurn, slices_over, char_boundary_is}
 use Rattle.ansi_split.proofs.BetweenLemmas.{filled_parts_in_turn}
 
 -- the bytes of a character after the first go on with it
@@ -29,7 +29,7 @@ no_boundaries x (b ∷ v) rest k at all =
     let same : k + 0 ≡ k = omega arith in
     let here : slice_index x k ≡ b = ap (slice_index x) (sym same) ∙ sym (get_or-drop k x 0 0) ∙ ap (λ u. slice_index u 0) at in
     let inside : is_char_boundary x k ≡ false
-    = and_right (nat_le k (length x)) (is_good_position x k) (not_from_true (is_continuation_byte (slice_index x k)) (ap is_continuation_byte here ∙ both.0)) in
+    = and_right (nat_le k (length x)) (no_character_goes_on x k) (not_from_true (is_continuation_byte (slice_index x k)) (ap is_continuation_byte here ∙ both.0)) in
     let next : drop (k + 1) x ≡ v ++ rest = sym (drop-drop 1 k x) ∙ ap (drop 1) at in
     cond-false (is_char_boundary x k) _ _ inside ∙ no_boundaries x v rest (k + 1) next both.1
 

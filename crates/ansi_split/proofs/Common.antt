@@ -40,7 +40,7 @@ pub use Rattle.ansi_style.proofs.DressedLemmas.{dressed_pieces, GiveAlone, IsClo
 pub use Rattle.ansi_style.proofs.StyleLemmas.{IsStyle-plain_style, IsStyle-style_at, IsStyle-rendition_of}
 pub use Rattle.ansi_style.proofs.StyledLemmas.{styled_through, style_through, styled_through-append, style_through-append, styled-pieces, unstyled-styled}
 pub use Rattle.ansi_style.proofs.UnsetLemmas.{known-unset, start-unset, close_if_any-unset}
-pub use Rattle.ansi_search.specs.Positions.{is_good_position, is_char_boundary, is_continuation_byte}
+pub use Rattle.ansi_search.specs.Positions.{no_character_goes_on, is_char_boundary, is_continuation_byte}
 pub use Rattle.ansi_slice.specs.Cut.{interleaved}
 pub use Rattle.ansi_split.specs.Parts.{marks_past, without_overlaps, parts, end_before, part, part_over, source_len, carried, all_parts, is_part_borrowed}
 pub use Rattle.ansi_search.specs.Matches.{is_match, match_places, first_match_from}
@@ -48,7 +48,7 @@ unfoldable pub use Rattle.ansi_split.specs.Parts.{part_from}
 pub use Rattle.ansi_search.specs.Offsets.{bytes_before, offset_of}
 pub use Rattle.ansi_search.proofs.SliceLemmas.{list_all-parts, take-append, slice_range-none, slice_range-from_past, slice_range-append, slice_range-map, slice_range-past}
 pub use Rattle.ansi_slice.proofs.InterleavedLemmas.{interleaved-bare, interleaved-text, interleaved-mark, interleaved-nil}
-pub use Rattle.ansi_search.proofs.PositionLemmas.{is_good_position-append, good_is_boundary, char_boundary_is, is_good_position-past, is_char_boundary-from, is_good_position-after}
+pub use Rattle.ansi_search.proofs.PositionLemmas.{no_character_goes_on-append, good_is_boundary, char_boundary_is, no_character_goes_on-past, is_char_boundary-from, no_character_goes_on-after}
 pub use Rattle.ansi_slice.proofs.CutLemmas.{marks_up_to-marks_past}
 pub use Rattle.ansi_search.proofs.OffsetLemmas.{bytes_before-last, bytes_before-mark, bytes_before-text, after_of, after_of-last, after_of-text, take-after, pieces_of-after, plain-after, IsOverText, IsOverMark, over_text, over_mark}
 pub use Rattle.ansi_search.proofs.MatchLemmas.{boundary_at, IsMatch, is_match-drop, is_match-after, first_match_from-first, first_match_from-is, empty_at_end, none_at_end, match_fits, first_in_front, is_match-front, starts_with-splits}

@@ -1,5 +1,5 @@
 -- The intervals of the parts that are left of a text, and how far a walk has come to the one of an index.
-use Rattle.ansi_split.proofs.Common.{◌≡◌, ℕ, zero, suc, ◌+◌, ◌≤◌, max, List, [], ◌∷◌, length, map, drop, Some, None, refl, sym, ◌∙◌, ap, arith, IsTrue, slice_get, nat_le, and_parts, leb-true, none-some, cond_some, true, subst, length-drop, length-take-le, IsUtf8, IsCharBoundary, plain, match_places, first_match_from, is_good_position, without_overlaps, parts, AreInTurn, IsCutAtMatch}
+use Rattle.ansi_split.proofs.Common.{◌≡◌, ℕ, zero, suc, ◌+◌, ◌≤◌, max, List, [], ◌∷◌, length, map, drop, Some, None, refl, sym, ◌∙◌, ap, arith, IsTrue, slice_get, nat_le, and_parts, leb-true, none-some, cond_some, true, subst, length-drop, length-take-le, IsUtf8, IsCharBoundary, plain, match_places, first_match_from, no_character_goes_on, without_overlaps, parts, AreInTurn, IsCutAtMatch}
 use Rattle.ansi_search.specs.Positions.{is_good_range}
 use Rattle.ansi_search.proofs.PositionLemmas.{good_range_from, good_before, boundary_is_good}
 use Rattle.ansi_split.proofs.TakenLemmas.{is_first_taken, without_overlaps-none, between, between-further, moved_on}
@@ -61,7 +61,7 @@ way-next {t} {p} {index} {k} {place} {skip} {from} {rest} {front} {after} next w
     = sym (ap (λ is. slice_get (map (moved_on place) is) (suc k)) (intervals_left-first x p skip from m at.first)) ∙ way.left in
     record {
       count = omega (arith, way.count, next_at, ap length at.cut.plain_after ∙ length-drop m x, size.1);
-      within = leb-true _ _ (and_parts (nat_le n (length (plain after))) (is_good_position (plain after) n) at.match_end).0;
+      within = leb-true _ _ (and_parts (nat_le n (length (plain after))) (no_character_goes_on (plain after) n) at.match_end).0;
       left =
           ap (λ y. slice_get (map (moved_on next) (intervals_left y p n (max n 1))) k) at.cut.plain_after
           ∙ ap (λ a. slice_get (map (moved_on a) more) k) (sym next_at)

@@ -1,5 +1,5 @@
 -- A run of plain text at the front of a text, and a match that begins in it.
-use Rattle.ansi_split.proofs.Common.{◌≡◌, ◌≢◌, ℕ, ◌+◌, ◌-◌, ◌<◌, ◌≤◌, inl, inr, false, List, [], ◌∷◌, ◌++◌, length, take, drop, Option, Some, None, refl, sym, ◌∙◌, ap, ap₂, subst, arith, IsFalse, is_some, slice_index, length-append, nat_eq, unwrap_or, or_parts, and_parts, cases_lt, eq-eqb, take-append-drop, take-take, drop-drop, length-take-le, length-drop, get_or-drop, get_or_append_left, list_any-append, starts_with, IsUtf8, IsCharBoundary, Nowhere, NoneBefore, IsFirst, Passes, is_byte, escape, Piece, Text, after_text, pieces_of, ArePieces, plain, has_escape, Rendition, after_marks, style_after_from, is_char_boundary, is_good_position, first_match_from, IsCutAtMatch, pieces_are, all_plain_bytes, has_escape-bare, marks-bare, IsMatch, match_fits, first_in_front, is_match-front, first_match_from-first, first_match_from-is, starts_with-splits, bytes_before, bytes_before-last, is_good_position-append, good_is_boundary}
+use Rattle.ansi_split.proofs.Common.{◌≡◌, ◌≢◌, ℕ, ◌+◌, ◌-◌, ◌<◌, ◌≤◌, inl, inr, false, List, [], ◌∷◌, ◌++◌, length, take, drop, Option, Some, None, refl, sym, ◌∙◌, ap, ap₂, subst, arith, IsFalse, is_some, slice_index, length-append, nat_eq, unwrap_or, or_parts, and_parts, cases_lt, eq-eqb, take-append-drop, take-take, drop-drop, length-take-le, length-drop, get_or-drop, get_or_append_left, list_any-append, starts_with, IsUtf8, IsCharBoundary, Nowhere, NoneBefore, IsFirst, Passes, is_byte, escape, Piece, Text, after_text, pieces_of, ArePieces, plain, has_escape, Rendition, after_marks, style_after_from, is_char_boundary, no_character_goes_on, first_match_from, IsCutAtMatch, pieces_are, all_plain_bytes, has_escape-bare, marks-bare, IsMatch, match_fits, first_in_front, is_match-front, first_match_from-first, first_match_from-is, starts_with-splits, bytes_before, bytes_before-last, no_character_goes_on-append, good_is_boundary}
 use Rattle.std.specs.Prelude.{◌==◌}
 use Rattle.std.specs.List.{slice_range}
 use Rattle.ansi_split.proofs.AfterLemmas.{drop-take, is_cut_after}
@@ -124,8 +124,8 @@ match_boundary_in_run t p from run start inside none before found =
     let size : length w ≡ run = length-take-le run t inside in
     let at : start < length w = omega (arith, size, before) in
     good_is_boundary t start (omega (arith, inside, before))
-    (ap (λ v. is_good_position v start) (sym (take-append-drop run t)) ∙ is_good_position-append w (drop run t) start at
-    ∙ sym (is_good_position-append w (plain (drop run t)) start at) ∙ ap (λ v. is_good_position v start) (sym (plain-front t w run refl none))
+    (ap (λ v. no_character_goes_on v start) (sym (take-append-drop run t)) ∙ no_character_goes_on-append w (drop run t) start at
+    ∙ sym (no_character_goes_on-append w (plain (drop run t)) start at) ∙ ap (λ v. no_character_goes_on v start) (sym (plain-front t w run refl none))
     ∙ match_is_good (plain t) p from start found)
 
 -- nothing in it changes the style

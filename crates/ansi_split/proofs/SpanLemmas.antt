@@ -1,5 +1,5 @@
 -- The parts that are left of a text: the first one, which is written from what stands up to its end, and those of what follows.
-use Rattle.ansi_split.proofs.Common.{◌≡◌, ℕ, ◌+◌, ◌-◌, ◌≤◌, max, inl, inr, Bool, not, ◌&&◌, ◌||◌, ◌==◌, List, [], ◌∷◌, ◌++◌, length, map, take, drop, Option, Some, None, refl, sym, ◌∙◌, ap, ap₂, subst, arith, IsTrue, if◌then◌else◌, nat_eq, nat_lt, nat_le, length-append, cases_lt, and_parts, and_from, le-leb, nat_tests, length-map, length-drop, length-take-le, get_or-take, take_at, take-append-drop, filter_agree, IsUtf8-drop, IsCharBoundary-from_take, IsCharBoundary-start, starts_with, IsUtf8, pieces_of, Mark, plain, marks, marks_up_to, is_good_position, is_char_boundary, Rendition, has_any, start, close_if_any, after_marks, style_after_from, style_within, interleaved, match_places, first_match_from, without_overlaps, marks_past, SplitPart, marks_further_on, IsCutAfter, IsCutAtMatch, carried, part_from, parts_from, parts_left, span_part, slice_range-from_past, marks_up_to-marks_past, interleaved-text, IsUtf8-plain, at_places, at_places-further, good_is_boundary, is_good_position-past, is_char_boundary-from, starts_with-splits}
+use Rattle.ansi_split.proofs.Common.{◌≡◌, ℕ, ◌+◌, ◌-◌, ◌≤◌, max, inl, inr, Bool, not, ◌&&◌, ◌||◌, ◌==◌, List, [], ◌∷◌, ◌++◌, length, map, take, drop, Option, Some, None, refl, sym, ◌∙◌, ap, ap₂, subst, arith, IsTrue, if◌then◌else◌, nat_eq, nat_lt, nat_le, length-append, cases_lt, and_parts, and_from, le-leb, nat_tests, length-map, length-drop, length-take-le, get_or-take, take_at, take-append-drop, filter_agree, IsUtf8-drop, IsCharBoundary-from_take, IsCharBoundary-start, starts_with, IsUtf8, pieces_of, Mark, plain, marks, marks_up_to, no_character_goes_on, is_char_boundary, Rendition, has_any, start, close_if_any, after_marks, style_after_from, style_within, interleaved, match_places, first_match_from, without_overlaps, marks_past, SplitPart, marks_further_on, IsCutAfter, IsCutAtMatch, carried, part_from, parts_from, parts_left, span_part, slice_range-from_past, marks_up_to-marks_past, interleaved-text, IsUtf8-plain, at_places, at_places-further, good_is_boundary, no_character_goes_on-past, is_char_boundary-from, starts_with-splits}
 use Rattle.ansi_split.proofs.PartSliceLemmas.{own_places, marks_past-places, at_places-at_places}
 use Rattle.ansi_split.proofs.TakenLemmas.{is_first_taken, without_overlaps-none, between, between-further, moved_on}
 
@@ -132,11 +132,11 @@ skip_in_front t p skip from front after at_match before boundary =
     let x = plain t in
     let first = is_first_taken x p from m found in
     let size : length (take m x) ≡ m = length-take-le m x first.inside in
-    let good = (and_parts (nat_le skip (length x)) (is_good_position x skip) boundary).1 in
+    let good = (and_parts (nat_le skip (length x)) (no_character_goes_on x skip) boundary).1 in
     ap (λ y. is_char_boundary y skip) cut.plain_front
     ∙ and_from _ _ (le-leb skip (length (take m x)) (omega (arith, size, before, first.at))) (elim (cases_lt skip m) [
-      | inl inside ↦ ap (λ b. is_good_position (b ∷ []) 0) (get_or-take m x skip 0 inside) ∙ good
-      | inr end ↦ is_good_position-past (take m x) skip (omega (arith, size, end))
+      | inl inside ↦ ap (λ b. no_character_goes_on (b ∷ []) 0) (get_or-take m x skip 0 inside) ∙ good
+      | inr end ↦ no_character_goes_on-past (take m x) skip (omega (arith, size, end))
     ])
 
 match_ends : (t p : List ℕ) (from m : ℕ) (front after : List ℕ) → IsUtf8 t → IsUtf8 p → first_match_from (plain t) p from ≡ Some m → IsCutAfter t m front after
@@ -145,7 +145,7 @@ match_ends t p from m front after utf8 utf8_p found cut =
     let x = plain t in
     let first = is_first_taken x p from m found in
     let both = and_parts (is_char_boundary x m) (starts_with nat_eq (drop m x) p) first.matches in
-    let at = good_is_boundary x m first.inside (and_parts (nat_le m (length x)) (is_good_position x m) both.0).1 in
+    let at = good_is_boundary x m first.inside (and_parts (nat_le m (length x)) (no_character_goes_on x m) both.0).1 in
     let y = drop m x in
     let stands : y ≡ p ++ drop (length p) y = starts_with-splits y p both.1 in
     let part : take (length p) y ≡ p = ap (take (length p)) stands ∙ take_at p (drop (length p) y) (length p) refl in
@@ -158,7 +158,7 @@ pub is_cut_at_match : (t p : List ℕ) (from m : ℕ) (front after : List ℕ) �
 is_cut_at_match t p from m front after utf8 utf8_p found cut = record { place = m; first = found; cut = cut; match_end = match_ends t p from m front after utf8 utf8_p found cut }
 
 -- a match stands at a good position
-pub match_is_good : (x p : List ℕ) (from m : ℕ) → first_match_from x p from ≡ Some m → IsTrue (is_good_position x m)
+pub match_is_good : (x p : List ℕ) (from m : ℕ) → first_match_from x p from ≡ Some m → IsTrue (no_character_goes_on x m)
 match_is_good x p from m found =
     let first = is_first_taken x p from m found in
-    (and_parts (nat_le m (length x)) (is_good_position x m) (and_parts (is_char_boundary x m) (starts_with nat_eq (drop m x) p) first.matches).0).1
+    (and_parts (nat_le m (length x)) (no_character_goes_on x m) (and_parts (is_char_boundary x m) (starts_with nat_eq (drop m x) p) first.matches).0).1

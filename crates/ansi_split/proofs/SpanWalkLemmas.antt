@@ -1,5 +1,5 @@
 -- How far a part that is written has come, and what a step of the walk is to it.
-use Rattle.ansi_split.proofs.Common.{has_escape, plain-bare, marks-bare, interleaved-bare, is_char_boundary, and_parts, good_is_boundary, leb-true, ◌≡◌, ℕ, ◌+◌, ◌-◌, ◌<◌, ◌≤◌, inl, inr, true, false, List, [], ◌∷◌, ◌++◌, length, drop, sym, ◌∙◌, ap, ap₂, subst, arith, IsTrue, if◌then◌else◌, append_assoc, append-nil, length-append, cases_lt, drop_all, drop-drop, drop-append-le, IsCharBoundary, Kind, Piece, Text, spelling, ArePieces, pieces_of, plain_of, plain, marks_of, is_good_position, Rendition, has_any, start, close, close_if_any, style_after_from, interleaved, span_text, pieces_are, pieces_of-unique, is_mark, BeginsWithMark, plain_of-mark, marks_of-text, marks_of-mark, slice_range-past, interleaved-text, interleaved-mark, is_good_position-after, IsOverText}
+use Rattle.ansi_split.proofs.Common.{has_escape, plain-bare, marks-bare, interleaved-bare, is_char_boundary, and_parts, good_is_boundary, leb-true, ◌≡◌, ℕ, ◌+◌, ◌-◌, ◌<◌, ◌≤◌, inl, inr, true, false, List, [], ◌∷◌, ◌++◌, length, drop, sym, ◌∙◌, ap, ap₂, subst, arith, IsTrue, if◌then◌else◌, append_assoc, append-nil, length-append, cases_lt, drop_all, drop-drop, drop-append-le, IsCharBoundary, Kind, Piece, Text, spelling, ArePieces, pieces_of, plain_of, plain, marks_of, no_character_goes_on, Rendition, has_any, start, close, close_if_any, style_after_from, interleaved, span_text, pieces_are, pieces_of-unique, is_mark, BeginsWithMark, plain_of-mark, marks_of-text, marks_of-mark, slice_range-past, interleaved-text, interleaved-mark, no_character_goes_on-after, IsOverText}
 use Rattle.ansi_slice.specs.Kept.{kept}
 use Rattle.ansi_slice.proofs.KeptWalkLemmas.{kept-all}
 use Rattle.ansi_split.proofs.AfterLemmas.{boundary_in_next}
@@ -20,7 +20,7 @@ boundary-bare t skip none boundary = grind (arith, and_parts, good_is_boundary, 
 -- What is written, and what is left, are the whole. Plain bytes that are still to be left out end at a character of what is left.
 pub record IsShownSoFar (whole written : List ℕ) (skip : ℕ) (left : List Piece) : Type 0 where
   pub shown : written ++ left_of skip left ≡ whole
-  pub good : IsTrue (is_good_position (plain_of left) skip)
+  pub good : IsTrue (no_character_goes_on (plain_of left) skip)
 
 -- a text in front
 interleaved-front : (w : List ℕ) (ps : List Piece) (a : ℕ) → left_of a (Text w ∷ ps) ≡ drop a w ++ left_of (a - length w) ps
@@ -38,7 +38,7 @@ shown-skip {whole} {written} {skip} {later} {w} {left} {ps} so_far is out later_
     let first = subst (IsShownSoFar whole written skip) is so_far in
     let step : IsShownSoFar whole written (skip - length w) ps = record {
       shown = ap (λ u. written ++ u) (sym (interleaved-front w ps skip ∙ ap (λ u. u ++ left_of (skip - length w) ps) (drop_all skip w (omega (arith, out))))) ∙ first.shown;
-      good = sym (is_good_position-after w (plain_of ps) skip (omega (arith, out))) ∙ first.good;
+      good = sym (no_character_goes_on-after w (plain_of ps) skip (omega (arith, out))) ∙ first.good;
     } in
     rw later_is step
 
@@ -58,10 +58,10 @@ shown-rest {t} {whole} {written} {last} {v} {skip} {begin} {at} {next} {w} {left
     last_is ∙ ap (λ u. written ++ u) (bytes ∙ ap (λ u. drop skip w ++ u) (sym rest) ∙ sym (interleaved-front w ps skip)) ∙ first.shown
 
 -- a character begins there
-pub shown-boundary : {t : List ℕ} {begin at next : ℕ} {w : List ℕ} {left ps : List Piece} (skip : ℕ) → IsTrue (is_good_position (plain_of left) skip) → IsOverText t w at next left ps → skip ≤ length w
+pub shown-boundary : {t : List ℕ} {begin at next : ℕ} {w : List ℕ} {left ps : List Piece} (skip : ℕ) → IsTrue (no_character_goes_on (plain_of left) skip) → IsOverText t w at next left ps → skip ≤ length w
     → begin ≡ at → IsCharBoundary t next → IsCharBoundary t (begin + skip)
 shown-boundary {t} {begin} {at} {next} {w} {left} {ps} skip good over inside begin_is boundary = rw begin_is (elim (cases_lt skip (length w)) [
-  | inl before ↦ boundary_in_next t at skip w ps over.begins.0 (over.there ∙ over.first) before (ap (λ qs. is_good_position (plain_of qs) skip) (sym over.first) ∙ good)
+  | inl before ↦ boundary_in_next t at skip w ps over.begins.0 (over.there ∙ over.first) before (ap (λ qs. no_character_goes_on (plain_of qs) skip) (sym over.first) ∙ good)
   | inr past ↦ (let same : next ≡ at + skip = omega (arith, past, inside, over.count) in subst (IsCharBoundary t) same boundary)
 ])
 
@@ -78,7 +78,7 @@ shown-mark {whole} {old} {new} {skip} {kind} {w} {left} {ps} so_far begins more 
     let bytes = spelling begins.mark in
     let step : IsShownSoFar whole (old ++ bytes) skip ps = record {
       shown = append_assoc old bytes (left_of skip ps) ∙ ap (λ u. old ++ u) (sym (interleaved-piece begins.mark ps skip begins.is_mark)) ∙ first.shown;
-      good = ap (λ x. is_good_position x skip) (sym (plain_of-mark begins.mark ps begins.is_mark)) ∙ first.good;
+      good = ap (λ x. no_character_goes_on x skip) (sym (plain_of-mark begins.mark ps begins.is_mark)) ∙ first.good;
     } in
     rw (more, ← begins.bytes) step
 

@@ -286,16 +286,17 @@ pub fn written_texts_are_short()
         ≤ length t + longest_start_and_close * (length (filter is_text (pieces_of t)) + 1) }
 {}
 
-/// Character boundaries are std's. A good position is a character boundary, or is past the end,
-/// which counts as the end. A range is good if its ends are good and in order. A text can be
-/// divided and cut exactly at the good positions and ranges of its plain text.
+/// Character boundaries are std's. A good position of a plain text that is UTF-8 is a character
+/// boundary, or is past the end, which counts as the end. A range is good if its ends are good and
+/// in order. A text can be divided and cut exactly at the good positions and ranges of its plain
+/// text.
 pub fn positions_are_std()
     ensures boundary { (x : List ℕ) (n : ℕ) → IsTrue (is_char_boundary x n) ↔ IsCharBoundary x n }
-    ensures position { (x : List ℕ) (n : ℕ) →
+    ensures position { (x : List ℕ) (n : ℕ) → IsUtf8 x →
         IsTrue (is_good_position x n) ↔ IsCharBoundary x (min n (length x)) }
-    ensures range { (x : List ℕ) (s e : ℕ) → IsTrue (is_good_range x s (Some e))
+    ensures range { (x : List ℕ) (s e : ℕ) → IsUtf8 x → IsTrue (is_good_range x s (Some e))
         ↔ ((s ≤ e) × IsCharBoundary x (min s (length x)) × IsCharBoundary x (min e (length x))) }
-    ensures open_range { (x : List ℕ) (s : ℕ) →
+    ensures open_range { (x : List ℕ) (s : ℕ) → IsUtf8 x →
         IsTrue (is_good_range x s None) ↔ IsCharBoundary x (min s (length x)) }
     ensures position_in { (t : List ℕ) (n : ℕ) → IsUtf8 t →
         is_position_in t n ≡ is_good_position (plain t) n }

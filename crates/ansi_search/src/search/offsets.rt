@@ -3,7 +3,7 @@ ghost use Rattle.std.specs.Prelude.{◌≡◌, MatchOption, IfSome, IsTrue, IsFa
 ghost use Rattle.ansi_items.specs.Plain.{plain};
 ghost use Rattle.ansi_style.specs.Reading.{style_within};
 ghost use Rattle.ansi_style.specs.States.{rendition_of};
-ghost use Rattle.ansi_search.specs.Positions.{is_good_position};
+ghost use Rattle.ansi_search.specs.Positions.{is_good_position, no_character_goes_on};
 ghost use Rattle.ansi_search.specs.Offsets.{StandsIn};
 
 use ansi_items::ansitok::{Kind, Scanner};
@@ -41,7 +41,7 @@ pub fn walk_to(style: &mut Style, text: &str, position: usize) -> Option<usize>
 
 /// The offset of a good position in the text, after every sequence up to there.
 pub(super) fn offset_at(text: &str, position: usize) -> usize
-    requires { IsTrue (is_good_position (plain text.now) position) }
+    requires { IsTrue (no_character_goes_on (plain text.now) position) }
     ensures { StandsIn text.now position result }
 {
     let mut style = styles::plain_style();

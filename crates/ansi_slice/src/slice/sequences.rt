@@ -2,7 +2,7 @@
 ghost use Rattle.std.specs.Prelude.{◌≡◌, ◌++◌, IsTrue, IfOk, OnOk, string_bytes};
 ghost use Rattle.ansi_items.specs.Pieces.{pieces_of};
 ghost use Rattle.ansi_items.specs.Plain.{plain};
-ghost use Rattle.ansi_search.specs.Positions.{is_good_position};
+ghost use Rattle.ansi_search.specs.Positions.{no_character_goes_on};
 ghost use Rattle.ansi_slice.specs.Stretches.{sequences_up_to};
 ghost use Rattle.ansi_search.specs.Offsets.{StandsIn};
 
@@ -17,7 +17,7 @@ pub fn push_sequences<A: Allocator>(
     text: &str,
     position: usize,
 ) -> Result<usize, AllocError>
-    requires { IsTrue (is_good_position (plain text.now) position) }
+    requires { IsTrue (no_character_goes_on (plain text.now) position) }
     ensures bytes { OnOk result (string_bytes out.new
         ≡ string_bytes out.old ++ sequences_up_to position (pieces_of text.now)) }
     ensures offset { IfOk result (StandsIn text.now position) }

@@ -7,7 +7,8 @@ ghost use Rattle.ansi_items.specs.declared.ansitok.Kind.TheVariants.{Sgr};
 ghost use Rattle.ansi_items.specs.Pieces.{Sequence, pieces_of};
 ghost use Rattle.ansi_items.specs.Plain.{plain, is_text, has_escape, copied};
 ghost use Rattle.ansi_items.specs.Sequences.{is_sgr};
-ghost use Rattle.ansi_search.specs.Positions.{is_good_position, is_position_in};
+ghost use Rattle.ansi_search.specs.Positions.{is_good_position, no_character_goes_on};
+ghost use Rattle.ansi_search.specs.Positions.{is_position_in};
 ghost use Rattle.ansi_slice.specs.Sides.{dressed, left_side, right_side, side_up_to};
 ghost use Rattle.ansi_search.specs.Offsets.{StandsIn};
 ghost use Rattle.ansi_style.specs.Reading.{style_within};
@@ -112,7 +113,7 @@ pub fn right_in<'t, A: Allocator>(
 /// A position past the end counts as the end.
 fn bare_sides(text: &str, mid: usize) -> (&str, &str)
     requires bare { IsFalse (has_escape text.now) }
-    requires good { IsTrue (is_good_position (plain text.now) mid) }
+    requires good { IsTrue (no_character_goes_on (plain text.now) mid) }
     ensures left { result.0.now ≡ left_side text.now mid }
     ensures right { result.1.now ≡ right_side text.now mid }
 {
@@ -125,7 +126,7 @@ fn write_sides<A: Allocator + Copy>(
     text: &str,
     mid: usize,
 ) -> Result<(String<A>, String<A>), AllocError>
-    requires { IsTrue (is_good_position (plain text.now) mid) }
+    requires { IsTrue (no_character_goes_on (plain text.now) mid) }
     ensures left { IfOk result (λ s. string_bytes s.0 ≡ left_side text.now mid) }
     ensures right { IfOk result (λ s. string_bytes s.1 ≡ right_side text.now mid) }
 {
@@ -145,7 +146,7 @@ fn write_side<A: Allocator>(
     text: &str,
     position: usize,
 ) -> Result<usize, AllocError>
-    requires { IsTrue (is_good_position (plain text.now) position) }
+    requires { IsTrue (no_character_goes_on (plain text.now) position) }
     ensures bytes { OnOk result (string_bytes out.new ≡ string_bytes out.old
         ++ side_up_to (rendition_of style.old) position (pieces_of text.now)) }
     ensures style { OnOk result

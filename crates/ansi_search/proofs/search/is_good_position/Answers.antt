@@ -1,7 +1,8 @@
-use Rattle.std.proofs.Common.{arith}
+use Rattle.ansi_search.proofs.Common.{arith, IsUtf8-plain}
 use Rattle.std.proofs.lemmas.Grind.{common_steps}
+use Rattle.ansi_search.proofs.PositionLemmas.{is_good_position-utf8}
 use Rattle.ansi_search.proofs.search.is_good_position.Goals as goal
 
 -- the position stands in this run
 pub returns-then-remaining-run : goal.returns-then-remaining-run
-returns-then-remaining-run c = grind (arith, common_steps)
+returns-then-remaining-run c = grind (arith, common_steps, is_good_position-utf8, IsUtf8-plain)

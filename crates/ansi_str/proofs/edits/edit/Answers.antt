@@ -1,6 +1,6 @@
 use Rattle.ansi_str.proofs.Common.{Some, None, refl, sym, ◌∙◌, ap, is_some, true≢false, cow_str_bytes, change_of, changes_of}
 use Rattle.ansi_str.proofs.EditLemmas.{is_slice_named}
-use Rattle.ansi_str.proofs.EditWalkLemmas.{so_far-refused, so_far-end}
+use Rattle.ansi_str.proofs.EditWalkLemmas.{so_far-refused, so_far-lent, so_far-end}
 use Rattle.ansi_str.proofs.edits.edit.Goals as goal
 
 -- an edit that is refused
@@ -14,6 +14,11 @@ returns-in-None g c =
       borrowed = tt;
       takes_no_memory = λ stays. refl;
     }
+
+-- an edit that gives a borrow, or is refused, is never an `Err`
+pub returns-in_err-next-clause-takes_no_memory : goal.returns-in_err-next-clause-takes_no_memory
+returns-in_err-next-clause-takes_no_memory g c = λ stays.
+    absurd (true≢false (sym (c.in_err-next.ensures.takes_no_memory (so_far-lent change_of c.args.edits.now c.loop-edit.edit-index _ c.loop-edit.invariant c.loop-edit-test.true stays))))
 
 -- all are done
 pub returns : goal.returns

@@ -1,4 +1,4 @@
-use Rattle.ansi_search.proofs.Common.{◌≡◌, length, refl, sym, ◌∙◌, ap, subst, arith, drop, nat_eq, true, ◌-◌, IsTrue, starts_with, plain, kind_is_text, is_good_position, StandsIn}
+use Rattle.ansi_search.proofs.Common.{◌≡◌, length, refl, sym, ◌∙◌, ap, subst, arith, drop, nat_eq, true, ◌-◌, IsTrue, starts_with, plain, kind_is_text, no_character_goes_on, StandsIn}
 use Rattle.ansi_search.proofs.OffsetLemmas.{over_text, over_mark, kind_differs}
 use Rattle.ansi_search.proofs.EndLemmas.{tail-begin, tail-run, tail-text, tail-mark, tail-starts, tail-good, tail-stands}
 use Rattle.ansi_search.proofs.search.ends.suffix_offset.Goals as goal
@@ -48,7 +48,7 @@ offset_at-requires c =
     let rest = c.range_from-rest.result.now in
     let starts : starts_with nat_eq (drop (c.loop-item.len - length c.args.pat.now) (plain rest)) c.args.pat.now ≡ true
     = ap (λ n. starts_with nat_eq (drop n (plain rest)) c.args.pat.now) (sym c.saturating_sub-place.ensures) ∙ sym (c.stands_at.ensures ∙ ap (starts_with nat_eq (drop c.saturating_sub-place.result (plain c.range_from-rest.result.now))) c.as_bytes.ensures.value) ∙ c.if-not-stands_at.false in
-    subst (λ n. IsTrue (is_good_position (plain rest) n)) (sym c.saturating_sub-place.ensures)
+    subst (λ n. IsTrue (no_character_goes_on (plain rest) n)) (sym c.saturating_sub-place.ensures)
     (tail-good c.args.pat.now c.loop-item.invariant.so_far c.in-None.ensures.steps.2 c.range_from-rest.ensures.value c.utf8.pat starts)
 
 pub returns : goal.returns

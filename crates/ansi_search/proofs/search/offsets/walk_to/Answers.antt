@@ -1,4 +1,5 @@
-use Rattle.ansi_search.proofs.Common.{◌+◌, refl, sym, ◌∙◌, ap, kind_is_text, apply-no_sgr}
+use Rattle.ansi_search.proofs.Common.{◌+◌, refl, sym, ◌∙◌, ap, kind_is_text, apply-no_sgr, IsUtf8-plain}
+use Rattle.ansi_search.proofs.PositionLemmas.{is_good_position-utf8}
 use Rattle.ansi_search.proofs.OffsetLemmas.{over_text, over_mark, kind_differs, way-text, way-mark, way-last, way-test}
 use Rattle.ansi_search.proofs.search.offsets.walk_to.Goals as goal
 
@@ -39,7 +40,8 @@ pub returns-then-not-is_char_boundary-clause-offset : goal.returns-then-not-is_c
 returns-then-not-is_char_boundary-clause-offset c =
     let gives = c.in-Some.ensures.steps in
     let over = over_text gives c.loop-item.invariant.text c.range-piece.ensures.value (kind_is_text c.if-eq.ensures) in
-    sym (way-test c.loop-item.invariant.way over c.if-remaining-piece.true (ap (λ n. n + c.loop-item.remaining) gives.start) c.is_char_boundary.ensures.test)
+    is_good_position-utf8 _ c.args.position (IsUtf8-plain c.args.text.now c.utf8.text)
+    ∙ sym (way-test c.loop-item.invariant.way over c.if-remaining-piece.true (ap (λ n. n + c.loop-item.remaining) gives.start) c.is_char_boundary.ensures.test)
     ∙ c.if-not-is_char_boundary.true
 
 pub returns-then-remaining-piece-clause-offset : goal.returns-then-remaining-piece-clause-offset

@@ -1,4 +1,5 @@
 use Rattle.ansi_slice.proofs.Common.{◌≡◌, ◌++◌, ◌-◌, ◌∙◌, ap, arith, take, pieces_of, plain, style_within, close, rendition_of, sequences_up_to}
+use Rattle.std.proofs.lemmas.Bool.{or_parts}
 use Rattle.ansi_search.proofs.PositionLemmas.{is_good_range-disordered}
 use Rattle.ansi_slice.proofs.StretchLemmas.{cut-stretch, range-by_offset}
 use Rattle.ansi_slice.proofs.slice.cuts.cut_up_to.Goals as goal
@@ -9,7 +10,7 @@ returns-then-end-start-clause-cut g c = is_good_range-disordered (plain c.args.t
 
 -- the end isn't good in what follows the start
 pub returns-in_default-walk_to-clause-cut : goal.returns-in_default-walk_to-clause-cut
-returns-in_default-walk_to-clause-cut g c = range-by_offset c.if-end-start.false c.in-Some.ensures.offset c.range_from-rest.ensures.value ∙ c.in_default-walk_to.ensures.offset
+returns-in_default-walk_to-clause-cut g c = range-by_offset c.if-end-start.false c.in-Some.ensures.offset c.range_from-rest.ensures.value ∙ (or_parts _ _ c.in_default-walk_to.ensures.offset).1
 
 -- memory is asked for where the range is good
 

@@ -1,5 +1,5 @@
 use Rattle.std.proofs.Common.{rules}
-use Rattle.ansi_slice.proofs.Common.{sym, ◌∙◌, ap, arith, length, cut_up_to, plain-bare, length-plain}
+use Rattle.ansi_slice.proofs.Common.{sym, ◌∙◌, ap, arith, length, cut_up_to, plain-bare, length-plain, is_good_range}
 use Rattle.ansi_search.proofs.PositionLemmas.{is_good_range-top, none_if_bad, some_if_good}
 use Rattle.ansi_slice.proofs.CutLemmas.{cut_up_to-unwrap_or, cut_up_to-bare}
 use Rattle.ansi_slice.proofs.LengthLemmas.{length-cut}
@@ -8,7 +8,12 @@ use Rattle.ansi_slice.proofs.slice.cuts.get_in.Goals as goal
 -- a text without ESC is its own plain text, and its cut is a slice
 
 pub returns-in_default-clause-none : goal.returns-in_default-clause-none
-returns-in_default-clause-none g c = grind (arith, is_good_range-top, none_if_bad, plain-bare)
+returns-in_default-clause-none g c =
+    let t = c.args.text.now in
+    let bare = plain-bare t (sym c.has_any.ensures ∙ c.if-not-has_any.true) in
+    none_if_bad (
+    ap (λ x. is_good_range x c.args.start c.args.end) bare
+    ∙ sym (is_good_range-top t c.args.start c.args.end _ c.unwrap_or-end.ensures (omega (arith, c.ranges.start.fits)) (omega arith)) ∙ c.in_default.ensures)
 
 pub returns-then-not-has_any-clause-none : goal.returns-then-not-has_any-clause-none
 returns-then-not-has_any-clause-none g c = grind (arith, is_good_range-top, plain-bare, some_if_good)

@@ -1,11 +1,11 @@
 use Rattle.ansi_slice.proofs.Common.{◌++◌, ◌∙◌, sym, ap₂, arith, append_assoc, string_bytes, plain, length-plain, kept}
-use Rattle.ansi_search.proofs.PositionLemmas.{is_good_position-past}
+use Rattle.ansi_search.proofs.PositionLemmas.{no_character_goes_on-past}
 use Rattle.ansi_slice.proofs.StretchLemmas.{kept-none}
 use Rattle.ansi_slice.proofs.slice.kept.push_up_to.Goals as goal
 
 -- the largest position lies past the end of each text
 pub push_sequences-requires : goal.push_sequences-requires
-push_sequences-requires g c = is_good_position-past (plain c.split_at.result.1.now) _ (omega (arith, length-plain c.split_at.result.1.now))
+push_sequences-requires g c = no_character_goes_on-past (plain c.split_at.result.1.now) _ (omega (arith, length-plain c.split_at.result.1.now))
 
 -- all sequences of what follows
 pub returns : goal.returns

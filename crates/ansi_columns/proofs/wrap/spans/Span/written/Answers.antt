@@ -6,7 +6,7 @@ use Rattle.ansi_style.specs.Written.{start, close_if_any}
 use Rattle.ansi_slice.specs.Stretches.{sequences_up_to}
 use Rattle.ansi_columns.specs.Links.{link_end}
 use Rattle.ansi_items.proofs.PlainLemmas.{length-plain}
-use Rattle.ansi_search.proofs.PositionLemmas.{is_good_position-past}
+use Rattle.ansi_search.proofs.PositionLemmas.{no_character_goes_on-past}
 use Rattle.ansi_columns.specs.Wrapped.{WrappedLine}
 use Rattle.ansi_columns.proofs.WrapLemmas.{line-written, line-ordered}
 use Rattle.ansi_columns.proofs.wrap.spans.Span.written.Goals as goal
@@ -19,7 +19,7 @@ pub push_sequences-requires-2 : goal.push_sequences-requires-2
 push_sequences-requires-2 g c =
     let rest = c.range_from.result.now in
     let size : length rest < 2 ^ 63 = search rules in
-    is_good_position-past (plain rest) _ (omega (arith, size, length-plain rest))
+    no_character_goes_on-past (plain rest) _ (omega (arith, size, length-plain rest))
 
 -- what is written, one part after another
 pub returns : goal.returns

@@ -4,8 +4,8 @@ use Rattle.ansi_columns.specs.declared.walks.Walk.{Walk}
 use Rattle.ansi_items.specs.Plain.{plain, marks}
 use Rattle.ansi_style.specs.Reading.{style_after_from}
 use Rattle.ansi_style.specs.States.{rendition_of}
-use Rattle.ansi_search.specs.Positions.{is_good_position}
-use Rattle.ansi_search.proofs.PositionLemmas.{boundary_is_good}
+use Rattle.ansi_search.specs.Positions.{no_character_goes_on}
+use Rattle.ansi_search.proofs.PositionLemmas.{no_character_goes_on-boundary}
 use Rattle.ansi_columns.specs.Lines.{lines_left}
 use Rattle.ansi_columns.specs.Links.{link_after_all}
 use Rattle.ansi_columns.specs.Walks.{clusters_from}
@@ -53,8 +53,8 @@ invariant_of-span c =
     let end = c.first_line-next.ensures.end in
     let ordered = c.first_line-next.ensures.ordered in
     let utf8 : IsUtf8 t = search rules in
-    let good : IsTrue (is_good_position (plain t) start.position) = boundary_is_good (plain t) start.position (walk_boundary t utf8 start is.is_walk) in
-    let good_end : IsTrue (is_good_position (plain t) last.position) = boundary_is_good (plain t) last.position (walk_boundary t utf8 last end) in
+    let good : IsTrue (no_character_goes_on (plain t) start.position) = no_character_goes_on-boundary (plain t) start.position (walk_boundary t utf8 start is.is_walk) in
+    let good_end : IsTrue (no_character_goes_on (plain t) last.position) = no_character_goes_on-boundary (plain t) last.position (walk_boundary t utf8 last end) in
     let style = rendition_of s.pen.style in
     let after = c.pen_after_from-after.ensures in
     let text = c.range-text.result.now in
