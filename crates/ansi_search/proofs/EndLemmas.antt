@@ -1,7 +1,7 @@
 -- A pattern at the front and at the end of a text.
-use Rattle.ansi_search.proofs.Common.{◌≡◌, ℕ, ◌+◌, ◌-◌, ◌≤◌, ◌⊎◌, inl, inr, IsTrue, true, ◌&&◌, List, ◌∷◌, ◌++◌, length, take, drop, nat_eq, refl, sym, ◌∙◌, ap, ap₂, subst, arith, and_assoc, nat_eq_equiv, take-append-le, take_all, drop-drop, length-drop, length-take, IsCharBoundary-from_take, IsCharBoundary-from_drop, pointwise, same_text, starts_with, ends_with, IsUtf8, IsCharBoundary, Kind, Piece, pieces_of, plain_of, plain, no_character_goes_on, offset_of, IsCharBoundary-start, StandsIn, []}
+use Rattle.ansi_search.proofs.Common.{◌≡◌, ℕ, ◌+◌, ◌-◌, ◌≤◌, ◌⊎◌, inl, inr, IsTrue, true, ◌&&◌, List, ◌∷◌, ◌++◌, length, take, drop, nat_eq, refl, sym, ◌∙◌, ap, ap₂, subst, arith, and_assoc, nat_eq_equiv, take-append-le, take_all, drop-drop, length-drop, length-take, IsCharBoundary-from_take, IsCharBoundary-from_drop, pointwise, same_text, starts_with, ends_with, IsUtf8, IsCharBoundary, Kind, Piece, pieces_of, plain_of, plain, no_character_goes_on, IsCharBoundary-start, StandsIn, []}
 use Rattle.ansi_search.proofs.PositionLemmas.{no_character_goes_on-boundary}
-use Rattle.ansi_search.proofs.OffsetLemmas.{IsOverText, IsOverMark, IsPassed, passed-text, passed-mark, stands-after}
+use Rattle.ansi_search.proofs.OffsetLemmas.{IsOverText, IsOverMark, IsPassed, passed-begin, passed-text, passed-mark, stands-after}
 
 -- a pattern that is no longer than the text at the front stands in that
 pub starts_with-within : (p w y : List ℕ) → length p ≤ length w → starts_with nat_eq (w ++ y) p ≡ starts_with nat_eq w p
@@ -43,14 +43,7 @@ pub record IsTailSoFar (t : List ℕ) (n last len passed : ℕ) (left : List Pie
 
 -- at the front
 pub tail-begin : (t : List ℕ) (n : ℕ) → IsUtf8 t → IsTailSoFar t n 0 0 0 (pieces_of t)
-tail-begin t n utf8 = record { before = 0; from = all; boundary = IsCharBoundary-start t utf8; way = all; long = inl refl }
-  where
-    all : IsPassed t 0 0 (pieces_of t)
-    all = record {
-      count = omega arith;
-      rest = refl;
-      offset = λ k. let same : 0 + k ≡ k = omega arith in ap (offset_of t) same ∙ omega arith;
-    }
+tail-begin t n utf8 = record { before = 0; from = passed-begin t; boundary = IsCharBoundary-start t utf8; way = passed-begin t; long = inl refl }
 
 -- over a run that is no shorter
 pub tail-run : {t : List ℕ} {n last len passed at : ℕ} {w : List ℕ} {left ps : List Piece} → IsTailSoFar t n last len passed left → IsOverText t w passed at left ps → n ≤ length w

@@ -184,6 +184,14 @@ pub record IsPassed (t : List ℕ) (place passed : ℕ) (left : List Piece) : Ty
   pub rest : drop place (plain t) ≡ plain_of left
   pub offset : (n : ℕ) → offset_of t (place + n) ≡ passed + bytes_before n left
 
+-- nothing yet
+pub passed-begin : (t : List ℕ) → IsPassed t 0 0 (pieces_of t)
+passed-begin t = record {
+  count = omega arith;
+  rest = refl;
+  offset = λ k. let same : 0 + k ≡ k = omega arith in ap (offset_of t) same ∙ omega arith;
+}
+
 pub passed-text : {t : List ℕ} {place passed at : ℕ} {w : List ℕ} {left ps : List Piece} → IsPassed t place passed left → IsOverText t w passed at left ps → IsPassed t (place + length w) at ps
 passed-text {t} {place} {passed} {w = w} {ps = ps} way over =
     let here = subst (IsPassed t place passed) over.first way in

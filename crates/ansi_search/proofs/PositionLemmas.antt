@@ -1,7 +1,7 @@
 -- Good positions, in a text at the front and after it, and as std's character boundaries.
-use Rattle.std.proofs.lemmas.Bool.{ne_eqb}
+use Rattle.std.proofs.lemmas.Bool.{ne_eqb, or_cases}
 use Rattle.std.proofs.Math.Bool.{or-true}
-use Rattle.ansi_search.proofs.Common.{◌||◌, ◌==◌, ◌≡◌, ℕ, zero, suc, ◌-◌, ◌<◌, ◌≤◌, inl, inr, not, true, false, List, ◌++◌, length, drop, IsTrue, Some, None, Option, ◌&&◌, refl, sym, ◌∙◌, ap, ap₂, subst, arith, ◌+◌, ◌↔◌, Bool, min, nat_le, eqb-true, leb-true, leb-false, le-leb, and_parts, and_from, lt-leb, cases_lt, not-true, not_from_false, and_left, and_right, and_cases, get_or_append_left, get_or_past, get_or-append_right, get_or-drop, length-append, length-drop, both_ways, IsCharBoundary-start, IsCharBoundary-end, unwrap_or, IsUtf8, IsCharBoundary, plain, length-plain, is_continuation_byte, no_character_goes_on, is_good_position, is_char_boundary, is_good_range, is_position_in, is_range_in}
+use Rattle.ansi_search.proofs.Common.{◌⊎◌, ◌||◌, ◌==◌, ◌≡◌, ℕ, zero, suc, ◌-◌, ◌<◌, ◌≤◌, inl, inr, not, true, false, List, ◌++◌, length, drop, IsTrue, Some, None, Option, ◌&&◌, refl, sym, ◌∙◌, ap, ap₂, subst, arith, ◌+◌, ◌↔◌, Bool, min, nat_le, eqb-true, leb-true, leb-false, le-leb, and_parts, and_from, lt-leb, cases_lt, not-true, not_from_false, and_left, and_right, and_cases, get_or_append_left, get_or_past, get_or-append_right, get_or-drop, length-append, length-drop, both_ways, IsCharBoundary-start, IsCharBoundary-end, unwrap_or, IsUtf8, IsCharBoundary, plain, length-plain, is_continuation_byte, no_character_goes_on, is_good_position, is_char_boundary, is_good_range, is_position_in, is_range_in}
 
 pub no_character_goes_on-past : (x : List ℕ) (n : ℕ) → length x ≤ n → no_character_goes_on x n ≡ true
 no_character_goes_on-past x n past = ap (λ b. not (is_continuation_byte b)) (get_or_past x n 0 past)
@@ -103,22 +103,26 @@ is_good_range-top x s end top is below past = grind (arith, is_good_position-pas
 
 -- Good positions and ranges, in std's words.
 
-pub good_position_is : (x : List ℕ) (n : ℕ) → IsUtf8 x → IsTrue (is_good_position x n) ↔ IsCharBoundary x (min n (length x))
-good_position_is x n utf8 = (
-  good_inside x n utf8,
-  λ boundary. elim (cases_lt n (length x)) [
-    | inl within ↦ (let here : min n (length x) ≡ n = omega (arith, within) in boundary_is_good x n (subst (IsCharBoundary x) here boundary))
-    | inr past ↦ is_good_position-past x n past
+pub good_position_is : (x : List ℕ) (n : ℕ) → IsTrue (is_good_position x n) ↔ ((n ≡ 0) ⊎ IsCharBoundary x (min n (length x)))
+good_position_is x n = (
+  λ good. elim (or_cases (n == 0) (no_character_goes_on x n) good) [ inl front ↦ inl (eqb-true n 0 front) | inr ends ↦ inr (boundary_inside x n ends) ],
+  λ is. elim is [
+    | inl front ↦ subst (λ k. IsTrue (is_good_position x k)) (sym front) refl
+    | inr boundary ↦ (elim (cases_lt n (length x)) [
+        | inl within ↦ (let here : min n (length x) ≡ n = omega (arith, within) in boundary_is_good x n (subst (IsCharBoundary x) here boundary))
+        | inr past ↦ is_good_position-past x n past
+      ])
   ],
 )
 
-pub good_range_is : (x : List ℕ) (s e : ℕ) → IsUtf8 x → IsTrue (is_good_range x s (Some e)) ↔ ((s ≤ e) × IsCharBoundary x (min s (length x)) × IsCharBoundary x (min e (length x)))
-good_range_is x s e utf8 = (
+pub good_range_is : (x : List ℕ) (s e : ℕ) → IsTrue (is_good_range x s (Some e))
+    ↔ ((s ≤ e) × ((s ≡ 0) ⊎ IsCharBoundary x (min s (length x))) × ((e ≡ 0) ⊎ IsCharBoundary x (min e (length x))))
+good_range_is x s e = (
   λ good. (
       let both = and_parts (nat_le s e) (is_good_position x s && is_good_position x e) good in
       let ends = and_parts (is_good_position x s) (is_good_position x e) both.1 in
-      (leb-true s e both.0, good_inside x s utf8 ends.0, good_inside x e utf8 ends.1)),
-  λ is. good_range_tests x s e is.0 ((good_position_is x s utf8).1 is.1) ((good_position_is x e utf8).1 is.2),
+      (leb-true s e both.0, (good_position_is x s).0 ends.0, (good_position_is x e).0 ends.1)),
+  λ is. good_range_tests x s e is.0 ((good_position_is x s).1 is.1) ((good_position_is x e).1 is.2),
 )
 
 -- Where a text may be divided and cut, its plain text is.

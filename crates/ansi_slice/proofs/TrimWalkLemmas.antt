@@ -1,7 +1,8 @@
 -- White space at the front and at the end of a text, over the texts that are left.
 use Rattle.ansi_slice.proofs.Common.{◌≡◌, ℕ, ◌+◌, ◌-◌, ◌<◌, ◌≤◌, Bool, true, false, ◌&&◌, ◌==◌, List, [], ◌∷◌, ◌++◌, length, take, drop, take-add, refl, sym, ◌∙◌, ap, subst, arith, cond, length-append, nat_tests, take-append-le, length-take, chars-nil, encodes-append, encodes-chars, chars-append, length-le-encodes, IsUtf8-drop, IsUtf8-append, IsUtf8-take, IsCharBoundary-from_take, take-append_seam, IsUtf8, chars, trim_start, trim_end, skip_leading_whitespace, drop_trailing_whitespace, encode_utf8_all, is_whitespace, Item, Kind, Piece, Text, ArePieces, pieces_of, plain_of, plain, kept, trim_interval, trimmed, sequences_up_to, StandsIn, KeepsUpTo, Scan, GivesItem, pieces_left, IsUtf8-plain, pieces_are, BeginsWithMark, plain_of-mark}
+use Rattle.std.proofs.lemmas.Str.{IsCharBoundary-start}
 use Rattle.ansi_slice.proofs.TrimLemmas.{dropped, drop-trim_interval}
-use Rattle.ansi_search.proofs.OffsetLemmas.{IsOverText, IsOverMark, IsPassed, passed-text, passed-mark, plain-after}
+use Rattle.ansi_search.proofs.OffsetLemmas.{IsOverText, IsOverMark, IsPassed, passed-begin, passed-text, passed-mark, plain-after}
 use Rattle.ansi_slice.proofs.StretchLemmas.{keeps-inside, kept-front}
 
 -- the plain text of what a scanner has left is UTF-8
@@ -145,6 +146,16 @@ pub record IsSolidSoFar (t : List ℕ) (passed end : ℕ) (left : List Piece) : 
   pub ends : IsEndSoFar (length (trim_end (plain t))) place found left
   pub way : IsPassed t place passed left
   pub keeps : KeepsUpTo t found end
+
+-- at the front
+pub solid-begin : (t : List ℕ) → IsUtf8 t → IsSolidSoFar t 0 0 (pieces_of t)
+solid-begin t utf8 = record {
+  place = 0;
+  found = 0;
+  ends = record { white = λ none. sym none; other = λ some. omega arith };
+  way = passed-begin t;
+  keeps = record { boundary = IsCharBoundary-start t utf8; bytes = refl };
+}
 
 pub solid-white : {t : List ℕ} {passed at end : ℕ} {w front : List ℕ} {left ps : List Piece} → IsSolidSoFar t passed end left → IsOverText t w passed at left ps
     → front ≡ trim_end w → IsUtf8 w → length front ≡ 0 → IsSolidSoFar t at end ps

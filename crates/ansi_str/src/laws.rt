@@ -2,7 +2,7 @@
 //!
 //! Each function has one law as its contract, does nothing and returns nothing. A body that needs
 //! the law calls it, as `laws::join();`. (Own.)
-ghost use Rattle.std.specs.Prelude.{◌≡◌, ◌↔◌, ◌≤◌, ◌+◌, ◌*◌, ◌++◌, ℕ, List, [], length, filter};
+ghost use Rattle.std.specs.Prelude.{◌⊎◌, ◌≡◌, ◌↔◌, ◌≤◌, ◌+◌, ◌*◌, ◌++◌, ℕ, List, [], length, filter};
 ghost use Rattle.std.specs.Prelude.{take, drop, slice_range, nat_eq, min, slice_get, Option, Some};
 ghost use Rattle.std.specs.Prelude.{None, option_map, unwrap_or, if◌then◌else◌, IsTrue, IsFalse};
 ghost use Rattle.std.specs.Prelude.{◌≢◌, ◌∷◌, map, flat_map};
@@ -286,18 +286,18 @@ pub fn written_texts_are_short()
         ≤ length t + longest_start_and_close * (length (filter is_text (pieces_of t)) + 1) }
 {}
 
-/// Character boundaries are std's. A good position of a plain text that is UTF-8 is a character
-/// boundary, or is past the end, which counts as the end. A range is good if its ends are good and
-/// in order. A text can be divided and cut exactly at the good positions and ranges of its plain
-/// text.
+/// Character boundaries are std's. A good position is 0, or a character boundary, or past the end,
+/// which counts as the end. A range is good if its ends are good and in order. A text can be divided
+/// and cut exactly at the good positions and ranges of its plain text.
 pub fn positions_are_std()
     ensures boundary { (x : List ℕ) (n : ℕ) → IsTrue (is_char_boundary x n) ↔ IsCharBoundary x n }
-    ensures position { (x : List ℕ) (n : ℕ) → IsUtf8 x →
-        IsTrue (is_good_position x n) ↔ IsCharBoundary x (min n (length x)) }
-    ensures range { (x : List ℕ) (s e : ℕ) → IsUtf8 x → IsTrue (is_good_range x s (Some e))
-        ↔ ((s ≤ e) × IsCharBoundary x (min s (length x)) × IsCharBoundary x (min e (length x))) }
-    ensures open_range { (x : List ℕ) (s : ℕ) → IsUtf8 x →
-        IsTrue (is_good_range x s None) ↔ IsCharBoundary x (min s (length x)) }
+    ensures position { (x : List ℕ) (n : ℕ) → IsTrue (is_good_position x n)
+        ↔ ((n ≡ 0) ⊎ IsCharBoundary x (min n (length x))) }
+    ensures range { (x : List ℕ) (s e : ℕ) → IsTrue (is_good_range x s (Some e)) ↔ ((s ≤ e)
+        × ((s ≡ 0) ⊎ IsCharBoundary x (min s (length x)))
+        × ((e ≡ 0) ⊎ IsCharBoundary x (min e (length x)))) }
+    ensures open_range { (x : List ℕ) (s : ℕ) → IsTrue (is_good_range x s None)
+        ↔ ((s ≡ 0) ⊎ IsCharBoundary x (min s (length x))) }
     ensures position_in { (t : List ℕ) (n : ℕ) → IsUtf8 t →
         is_position_in t n ≡ is_good_position (plain t) n }
     ensures range_in { (t : List ℕ) (s : ℕ) (e : Option ℕ) → IsUtf8 t →

@@ -1,7 +1,13 @@
-use Rattle.ansi_slice.proofs.Common.{refl, sym, ◌∙◌, arith, eqb-true, eqb-false, kind_is_text}
+use Rattle.ansi_slice.proofs.Common.{refl, sym, ◌∙◌, ap, arith, eqb-true, eqb-false, kind_is_text}
 use Rattle.ansi_search.proofs.OffsetLemmas.{over_text, over_mark, kind_differs}
-use Rattle.ansi_slice.proofs.TrimWalkLemmas.{solid-white, solid-other, solid-mark, solid-end}
+use Rattle.ansi_slice.proofs.TrimWalkLemmas.{solid-begin, solid-white, solid-other, solid-mark, solid-end}
 use Rattle.ansi_slice.proofs.slice.white_space.end_before_white_space.Goals as goal
+
+-- at the front
+pub loop-item-init : goal.loop-item-init
+loop-item-init c =
+    let begins = c.into_iter-item-iterator.ensures.into_iter_gives ∙ c.new-item-items.ensures.start in
+    record { text = ap (λ s. s.text) begins; so_far = rw begins (solid-begin c.args.text.now c.utf8.text) }
 
 -- over a text that is not white space alone
 pub loop-item-preserved-then-not-is_empty : goal.loop-item-preserved-then-not-is_empty
