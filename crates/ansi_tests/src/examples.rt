@@ -14,7 +14,7 @@ fn the_first_example_is_right(rt: HostRuntime) -> Result<(), Fail> {
     // positions count bytes of the plain text, and the color is closed after the cut
     assert!(rt; log.ansi_cut(rt.alloc(), ..2)?.as_str() == "\x1b[31mre\x1b[39m");
 
-    // edits in turn, each of what the one before gave; `None` where one is refused
+    // edits in turn, each of the result before; `None` if one is refused
     let edits = [Edit::Suffix(" plain"), Edit::Part { pat: " ", index: 0 }];
     let edited = edit(rt.alloc(), log, &edits)?.ok_or("refused")?;
     assert!(rt; edited.as_str() == "\x1b[31mred\x1b[39m");

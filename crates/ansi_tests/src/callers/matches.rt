@@ -10,7 +10,7 @@ use ansi_str::slice::cut_in;
 use std::alloc::{AllocError, Global};
 use std::borrow::CowStr;
 
-/// The first match of a pattern, each character in its style, or `None` where it stands nowhere.
+/// The first match of a pattern, each character in its style, or `None` if it doesn't occur.
 pub fn first_match<'t>(
     alloc: Global,
     text: &'t str,
