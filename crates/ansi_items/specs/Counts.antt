@@ -2,7 +2,6 @@
 use Rattle.std.specs.Prelude.{◌≡◌, ℕ, ◌+◌, ◌*◌, ◌≤◌, List, length, drop, min}
 use Rattle.std.specs.List.{prefix_len}
 use Rattle.std.specs.Str.{IsCharBoundary, byte}
-use Rattle.memchr.specs.Find.{is_byte, places_between}
 use Rattle.ansi_items.specs.Bytes.{is_body_byte, is_plain_byte}
 
 -- how many bytes are before the first ESC
@@ -13,15 +12,10 @@ before_escape bytes = prefix_len is_plain_byte bytes
 abbrev pub before_bell : List ℕ → ℕ
 before_bell bytes = prefix_len (is_body_byte (byte "]")) bytes
 
--- the places of the ESCs from this place on
-abbrev pub escapes_from : List ℕ → ℕ → List ℕ
-escapes_from text from = places_between (is_byte 0x1B) text from (length text)
-
--- A scanner at this offset of the text knows the place of the next ESC, and has those later. One search looked at each byte up to that
--- ESC, and attempts at sequences looked at most twice at each byte before it.
-pub record IsScanning (text : List ℕ) (offset place : ℕ) (later : List ℕ) (reads : ℕ) : Type 0 where
+-- A scanner at this offset of the text knows the place of the next ESC. One search looked at each byte up to that ESC, and attempts at
+-- sequences looked at most twice at each byte before it.
+pub record IsScanning (text : List ℕ) (offset place reads : ℕ) : Type 0 where
   pub boundary : IsCharBoundary text offset
   pub next : place ≡ offset + before_escape (drop offset text)
-  pub ahead : later ≡ escapes_from text (place + 1)
   pub each : min (place + 1) (length text) ≤ reads
   pub few : reads ≤ 2 * place + min (place + 1) (length text)

@@ -1,8 +1,7 @@
 //! The items of a text: texts, whole sequences and lone escapes.
 pub(crate) mod grammar;
 
-use grammar::{ESC, Looks};
-use memchr::{Memchr, memchr_iter};
+use grammar::Looks;
 use std::marker::Model;
 
 /// A color, as SGR codes write it. (ECMA-48, section 8.3.117, and the codes 90 to 97 and 100 to
@@ -78,8 +77,6 @@ pub struct Scanner<'a> {
     offset: usize,
     /// Where the next ESC is, at the offset or after it, or the text's length.
     escape: usize,
-    /// The ESCs after that one.
-    escapes: Memchr<'a>,
     reads: u128,
 }
 
@@ -91,7 +88,7 @@ impl<'a> Model for Scanner<'a> {
 
     ghost view = { λ s. record { text = s.text.now; offset = s.offset } };
 
-    ghost invariant = { λ s. IsScanning s.text.now s.offset s.escape s.escapes s.reads };
+    ghost invariant = { λ s. IsScanning s.text.now s.offset s.escape s.reads };
 }
 
 impl<'a> Scanner<'a> {
@@ -111,15 +108,12 @@ impl<'a> Scanner<'a> {
         ensures pieces { (ps : List Piece) →
             ArePieces text.entry.now ps ↔ (ps ≡ pieces_left result) }
     {
-        let bytes = text.as_bytes();
         let mut looks = Looks { count: 0 };
-        let mut escapes = memchr_iter(ESC, bytes);
-        let escape = looks.next_escape(&mut escapes, bytes, 0);
+        let escape = looks.next_escape(text.as_bytes(), 0);
         Scanner {
             text,
             offset: 0,
             escape,
-            escapes,
             reads: looks.count,
         }
     }
@@ -177,10 +171,10 @@ impl<'a> Iterator for Scanner<'a> {
         }
         // An ESC is here. What it begins goes up to the next one, or ends with that one and a `\`.
         let mut looks = Looks { count: 0 };
-        let escape = looks.next_escape(&mut self.escapes, bytes, start + 1);
+        let escape = looks.next_escape(bytes, start + 1);
         let front = looks.mark(&bytes[start + 1..escape], &bytes[escape..]);
         self.offset += front.len;
-        self.escape = looks.escape_after(&mut self.escapes, bytes, escape, self.offset);
+        self.escape = looks.escape_after(bytes, escape, self.offset);
         self.reads += looks.count;
         Some(Item {
             kind: front.kind,

@@ -8,7 +8,7 @@ ghost use Rattle.std.specs.List.{prefix_len};
 ghost use Rattle.ansi_items.specs.Bytes.{is_parameter_byte};
 
 use crate::ansitok::Kind;
-use memchr::{Memchr, memchr};
+use memchr::memchr;
 use std::simd::prelude::*;
 
 /// The byte that begins every sequence.
@@ -40,7 +40,7 @@ impl Looks {
     ghost use Rattle.ansi_items.specs.declared.ansitok.Kind.TheVariants.{Sgr, Other};
     ghost use Rattle.ansi_items.specs.Fronts.{control_at, escape_at, string_at, sequence_at};
     ghost use Rattle.ansi_items.specs.Fronts.{front_at, EndsBy};
-    ghost use Rattle.ansi_items.specs.Counts.{before_escape, before_bell, escapes_from};
+    ghost use Rattle.ansi_items.specs.Counts.{before_escape, before_bell};
 
     /// The mark that an ESC begins: a whole sequence, or the lone escape. `between` is what is
     /// between that ESC and the next one, and `after` is the text from the next one on.
@@ -192,32 +192,24 @@ impl Looks {
 
     /// The place of the next ESC, from `from` on, or the length of the text if there is none.
     #[inline(always)]
-    pub(crate) fn next_escape(&mut self, escapes: &mut Memchr, text: &[u8], from: usize) -> usize
-        requires escapes { escapes.old ≡ escapes_from text.now from }
+    pub(crate) fn next_escape(&mut self, text: &[u8], from: usize) -> usize
         requires inside { from ≤ length text.now }
         requires room { self.old.count + length text.now < 2 ^ 128 }
         ensures place { result ≡ from + before_escape (drop from text.now) }
         ensures bound { result ≤ length text.now }
-        ensures escapes { escapes.new ≡ escapes_from text.now (result + 1) }
         ensures looks { self.new.count + from
             ≡ self.old.count + min (result + 1) (length text.now) }
     {
-        let escape = escapes.next().unwrap_or(text.len());
-        self.passed(&text[from..], escape - from);
-        escape
+        let rest = &text[from..];
+        let len = memchr(ESC, rest).unwrap_or(rest.len());
+        self.passed(rest, len);
+        from + len
     }
 
-    /// The place of the next ESC after an item that ends at `end`, if it was at `escape` before:
-    /// that place, or the one after it if the item includes that ESC.
+    /// The place of the next ESC after an item that ends at `end`, if it was at `escape` before: that
+    /// place, or the one after it if the item includes that ESC.
     #[inline(always)]
-    pub(crate) fn escape_after(
-        &mut self,
-        escapes: &mut Memchr,
-        text: &[u8],
-        escape: usize,
-        end: usize,
-    ) -> usize
-        requires escapes { escapes.old ≡ escapes_from text.now (escape + 1) }
+    pub(crate) fn escape_after(&mut self, text: &[u8], escape: usize, end: usize) -> usize
         requires inside { escape < end → escape < length text.now }
         requires room { self.old.count + length text.now < 2 ^ 128 }
         ensures same { end ≤ escape → (result ≡ escape) × (self.new.count ≡ self.old.count) }
@@ -225,13 +217,11 @@ impl Looks {
             (result ≡ escape + 1 + before_escape (drop (escape + 1) text.now))
             × (self.new.count + (escape + 1)
             ≡ self.old.count + min (result + 1) (length text.now)) }
-        ensures bound { escape ≤ length text.now → result ≤ length text.now }
-        ensures escapes { escapes.new ≡ escapes_from text.now (result + 1) }
     {
         if end <= escape {
             return escape;
         }
-        self.next_escape(escapes, text, escape + 1)
+        self.next_escape(text, escape + 1)
     }
 
     /// The byte at this place.

@@ -7,8 +7,8 @@ use Rattle.ansi_items.proofs.ansitok.Scanner.new.Goals as goal
 pub invariant_of-result : goal.invariant_of-result
 invariant_of-result c =
     let found = c.next_escape-escape.ensures in
-    subst (λ v. IsScanning v 0 c.next_escape-escape.result c.next_escape-escape.new.escapes c.next_escape-escape.new.self.count) c.as_bytes-bytes.ensures.value
-    (scanning_start c.as_bytes-bytes.result.now _ _ _ (IsCharBoundary-start c.as_bytes-bytes.result.now c.as_bytes-bytes.ensures.utf8) found.place found.escapes found.looks)
+    subst (λ v. IsScanning v 0 c.next_escape-escape.result c.next_escape-escape.new.self.count) c.as_bytes.ensures.value
+    (scanning_start c.as_bytes.result.now _ _ (IsCharBoundary-start c.as_bytes.result.now c.as_bytes.ensures.utf8) found.place found.looks)
 
 pub returns-clause-pieces : goal.returns-clause-pieces
 returns-clause-pieces c = are_pieces c.args.text.now
