@@ -109,9 +109,9 @@ good_position_is x n = (
   λ is. elim is [
     | inl front ↦ subst (λ k. IsTrue (is_good_position x k)) (sym front) refl
     | inr boundary ↦ (elim (cases_lt n (length x)) [
-        | inl within ↦ (let here : min n (length x) ≡ n = omega (arith, within) in boundary_is_good x n (subst (IsCharBoundary x) here boundary))
-        | inr past ↦ is_good_position-past x n past
-      ])
+      | inl within ↦ (let here : min n (length x) ≡ n = omega (arith, within) in boundary_is_good x n (subst (IsCharBoundary x) here boundary))
+      | inr past ↦ is_good_position-past x n past
+    ])
   ],
 )
 
