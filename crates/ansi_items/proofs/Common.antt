@@ -22,7 +22,7 @@ pub use Rattle.memchr.specs.Find.{IsFirstByte, is_byte, is_byte2}
 pub use Rattle.ansi_items.specs.AnsiColors.{ansi_color_key, compared}
 pub use Rattle.ansi_items.specs.Bytes.{bell, escape, is_body_byte, is_escape_final_byte, is_final_byte, is_intermediate_byte, is_parameter_byte, is_plain_byte, opens_command, opens_control_sequence, opens_control_string}
 pub use Rattle.ansi_items.specs.Counts.{IsScanning, before_bell, before_escape}
-pub use Rattle.ansi_items.specs.Fronts.{EndsBy, front_of}
+pub use Rattle.ansi_items.specs.Fronts.{front_of}
 unfoldable pub use Rattle.ansi_items.specs.Fronts.{control_at, escape_at, front_at, sequence_at, string_at}
 pub use Rattle.ansi_items.specs.Pieces.{ArePieces, LoneEscape, Piece, Sequence, StandsBefore, Text, after_text, first_piece, first_pieces, merged, pieces_of, spelling, text_or_lone}
 pub use Rattle.ansi_items.specs.Plain.{are_whole, has_escape, is_whole, mark_of, marks, plain, plain_bytes, plain_of}

@@ -1,6 +1,7 @@
 -- Where the next ESC is, and how many looks a scanner took up to there.
-use Rattle.ansi_items.proofs.Common.{◌≡◌, ℕ, zero, suc, ◌+◌, ◌-◌, ◌*◌, ◌<◌, ◌≤◌, Bool, true, false, List, [], ◌∷◌, length, drop, get_or, Option, Some, None, sym, ◌∙◌, ap, ⊎_elim, arith, cases_lt, false_from_ne_true, nat_tests, get_or-drop, length-drop, drop-drop, prefix_len, prefix_len_is, prefix_len_stops, prefix_len-le-length, prefix_len-drop_no, prefix_len-drop_all, unwrap_or, if◌then◌else◌, IsFirstByte, IsCharBoundary, IsScanning, is_byte, is_plain_byte, before_escape}
+use Rattle.ansi_items.proofs.Common.{◌≡◌, ℕ, zero, suc, ◌+◌, ◌-◌, ◌*◌, ◌<◌, ◌≤◌, Bool, true, false, List, [], ◌∷◌, length, drop, get_or, take, slice_index, append-nil, take_rest, prefix_len-drop_yes, Option, Some, None, sym, ◌∙◌, ap, ⊎_elim, arith, cases_lt, false_from_ne_true, nat_tests, get_or-drop, length-drop, drop-drop, prefix_len, prefix_len_is, prefix_len_stops, prefix_len-le-length, prefix_len-drop_no, prefix_len-drop_all, unwrap_or, if◌then◌else◌, IsFirstByte, IsCharBoundary, IsScanning, is_byte, is_plain_byte, before_escape}
 use Rattle.std.specs.Prelude.{min}
+use Rattle.ansi_items.proofs.SequenceLemmas.{all-run, prefix_len-run}
 
 -- what a search for ESC finds
 pub escape_found : (bytes : List ℕ) (end : Option ℕ) → IsFirstByte (is_byte 0x1B) bytes end → unwrap_or end (length bytes) ≡ before_escape bytes
@@ -49,6 +50,26 @@ next_later text from later place is low high =
     let same : before_escape (drop (later - from) (drop from text)) ≡ before_escape (drop later text) = ap before_escape (drop-drop (later - from) from text ∙ ap (λ k. drop k text) (omega arith)) in
     omega (arith, run, same, is)
 
+-- no ESC is between
+pub between_is_plain : (text : List ℕ) (from place : ℕ) → place ≡ from + before_escape (drop from text) → before_escape (take (place - from) (drop from text)) ≡ length (take (place - from) (drop from text))
+between_is_plain text from place is =
+    let u = drop from text in
+    let len : place - from ≡ before_escape u = omega arith in
+    let run = take (before_escape u) u in
+    ap (λ n. before_escape (take n u)) len ∙ ap before_escape (sym (append-nil run)) ∙ prefix_len-run is_plain_byte run [] (all-run is_plain_byte u) tt ∙ ap (λ n. length (take n u)) (sym len)
+
+-- what is left begins with the next ESC
+pub after_is_next : (text : List ℕ) (from place : ℕ) → place ≡ from + before_escape (drop from text) → before_escape (take (length text - place) (drop place text)) ≡ 0
+after_is_next text from place is = ap before_escape (take_rest text place) ∙ at_next text from place is
+
+-- the next ESC after a control string's opener is the next from each place after the ESC before on
+pub next_after_opener : (text : List ℕ) (start place len : ℕ) → place ≡ start + 2 + before_escape (drop (start + 2) text) → start + 1 < length text → is_plain_byte (slice_index text (start + 1)) ≡ true
+    → 1 ≤ len → start + len ≤ place → place ≡ start + len + before_escape (drop (start + len) text)
+next_after_opener text start place len is inside plain some within =
+    let opener : before_escape (drop (start + 1) text) ≡ 1 + before_escape (drop (start + 1 + 1) text) = prefix_len-drop_yes is_plain_byte text (start + 1) 0 inside plain in
+    let same : before_escape (drop (start + 1 + 1) text) ≡ before_escape (drop (start + 2) text) = ap (λ k. before_escape (drop k text)) (omega arith) in
+    next_later text (start + 1) (start + len) place (omega (arith, is, opener, same)) (omega arith) within
+
 -- What a scanner has looked at.
 
 -- by the iterator's first ESC
@@ -61,30 +82,3 @@ scanning_bound t offset place reads h = omega (arith, h.few, h.next, h.boundary.
 -- at the next ESC, after the text before it
 pub scanning_text : (t : List ℕ) (offset place reads : ℕ) → IsCharBoundary t place → IsScanning t offset place reads → IsScanning t place place reads
 scanning_text t offset place reads here h = record { boundary = here; next = omega (arith, at_next t offset place h.next); each = h.each; few = h.few }
-
--- after a mark at the next ESC
-pub scanning_mark : (t : List ℕ) (offset place escape next reads looks found read len : ℕ) → IsScanning t offset place reads → place ≤ offset → offset < length t
-    → escape ≡ offset + 1 + before_escape (drop (offset + 1) t) → escape ≤ length t → found + (offset + 1) ≡ 0 + min (escape + 1) (length t)
-    → found ≤ read → read ≤ found + 2 * (escape - (offset + 1)) + 2 → 0 < len
-    → (offset + len ≤ escape → (next ≡ escape) × (looks ≡ read))
-    → (escape < offset + len → (next ≡ offset + len + before_escape (drop (offset + len) t)) × (looks + (escape + 1) ≡ read + min (next + 1) (length t)) × (escape < length t))
-    → IsCharBoundary t (offset + len) → IsScanning t (offset + len) next (reads + looks)
-scanning_mark t offset place escape next reads looks found read len h at inside is bound cost low high some same more here = ⊎_elim
-    (λ past.
-    let m = more past in
-    record {
-      boundary = here;
-      next = m.0;
-      each = omega (arith, h.each, h.next, m, here.0, cost);
-      few = omega (arith, h.few, h.next, m, cost, here.0);
-    })
-    (λ before.
-    let s = same before in
-    let run : escape ≡ offset + len + before_escape (drop (offset + len) t) = next_later t (offset + 1) (offset + len) escape is (omega arith) before in
-    record {
-      boundary = here;
-      next = s.0 ∙ run;
-      each = omega (arith, h.each, h.next, s, cost);
-      few = omega (arith, h.few, h.next, s, cost);
-    })
-    (cases_lt escape (offset + len))

@@ -3,6 +3,7 @@ pub mod SequenceLemmas
 pub mod PieceLemmas
 pub mod FrontLemmas
 pub mod EscapeLemmas
+pub mod MarkLemmas
 pub mod ScanLemmas
 pub mod BetweenLemmas
 pub mod PlainLemmas

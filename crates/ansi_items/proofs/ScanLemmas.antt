@@ -1,8 +1,6 @@
 -- One step of a scanner.
-use Rattle.ansi_items.proofs.Common.{◌≡◌, ◌≢◌, ℕ, ◌+◌, ◌-◌, ◌<◌, ◌≤◌, inl, inr, ⊎_elim, true, false, not, ◌==◌, List, [], ◌∷◌, ◌++◌, length, take, drop, slice_index, refl, sym, ◌∙◌, ap, ap₂, subst, arith, if◌then◌else◌, cond-true, cond-false, not-true, eqb-true, cases_Bool, cases_lt, append-nil, drop_more, get_or_at, get_or_past, get_or-drop, length-append, length-drop, length-take-le, append_assoc, take-append-drop, drop-drop, take_rest, prefix_len_passes, prefix_len-le-length, prefix_len-drop_yes, nat_tests, IsCharBoundary-after_ascii, IsCharBoundary-before_ascii, IsCharBoundary-end, IsCharBoundary-from_rest, IsUtf8-drop, slice_range, IsUtf8, IsCharBoundary, byte, Sgr, Other, Item, Front, escape, bell, is_plain_byte, is_final_byte, is_escape_final_byte, IsSequence, is_sgr, Piece, Text, Sequence, LoneEscape, spelling, StandsBefore, first_piece, pieces_of, kind_of, piece_of, piece_of_kind, GivesItem, front_of, front_at, EndsBy, before_escape}
+use Rattle.ansi_items.proofs.Common.{◌≡◌, ◌≢◌, ℕ, ◌+◌, ◌-◌, ◌<◌, ◌≤◌, inl, inr, ⊎_elim, true, false, not, ◌==◌, List, [], ◌∷◌, ◌++◌, length, take, drop, slice_index, refl, sym, ◌∙◌, ap, ap₂, subst, arith, if◌then◌else◌, cond-false, not-true, eqb-true, cases_Bool, get_or_at, length-append, length-drop, length-take-le, append_assoc, drop-drop, prefix_len_passes, prefix_len-le-length, prefix_len-drop_yes, nat_tests, IsCharBoundary-after_ascii, IsCharBoundary-before_ascii, IsCharBoundary-end, IsCharBoundary-from_rest, IsUtf8-drop, slice_range, IsUtf8, IsCharBoundary, byte, Sgr, Other, Item, Front, escape, bell, is_plain_byte, is_final_byte, is_escape_final_byte, IsSequence, is_sgr, Piece, Text, Sequence, LoneEscape, spelling, StandsBefore, first_piece, pieces_of, kind_of, piece_of, piece_of_kind, GivesItem, front_of, front_at, before_escape}
 use Rattle.ansi_items.specs.declared.ansitok.Kind.TheVariants.{Text as TextKind}
-use Rattle.ansi_items.proofs.SequenceLemmas.{all-run, prefix_len-run}
-use Rattle.ansi_items.proofs.EscapeLemmas.{at_next}
 use Rattle.ansi_items.proofs.PieceLemmas.{first_piece_splits, pieces_are, pieces_of-unique}
 use Rattle.ansi_items.proofs.FrontLemmas.{front_is_first}
 
@@ -119,7 +117,7 @@ step_at t offset utf8 here [] is some = absurd (omega arith)
 step_at t offset utf8 here (b ∷ bs) is some = step_over t offset b bs utf8 here is
 
 -- the same, by the front that the code read
-front_step : (t : List ℕ) (offset : ℕ) (f : Front) → IsUtf8 t → IsCharBoundary t offset → offset < length t → f ≡ front_at (drop offset t) → IsStep t offset f
+pub front_step : (t : List ℕ) (offset : ℕ) (f : Front) → IsUtf8 t → IsCharBoundary t offset → offset < length t → f ≡ front_at (drop offset t) → IsStep t offset f
 front_step t offset f utf8 here inside e = subst (IsStep t offset) (sym e) (step_at t offset utf8 here (drop offset t) refl (omega (arith, length-drop offset t)))
 
 -- up to the next ESC
@@ -133,54 +131,12 @@ text_step t offset place utf8 here is some =
     front_step t offset (front_of TextKind (place - offset)) utf8 here (omega (arith, prefix_len-le-length is_plain_byte u, length-drop offset t))
     (ap (front_of TextKind) len ∙ sym (cond-false _ _ _ (not-true _ plain)))
 
--- Between an ESC at a place and the next one.
-module _ (t : List ℕ) (offset place : ℕ) (next : place ≡ offset + 1 + before_escape (drop (offset + 1) t)) where
-  abbrev pub between : List ℕ
-  between = take (place - (offset + 1)) (drop (offset + 1) t)
-
-  abbrev pub after : List ℕ
-  after = take (length t - place) (drop place t)
-
-  place_within : offset < length t → place ≤ length t
-  place_within inside = omega (arith, prefix_len-le-length is_plain_byte (drop (offset + 1) t), length-drop (offset + 1) t)
-
-  pub between_is_plain : before_escape between ≡ length between
-  between_is_plain =
-      let u = drop (offset + 1) t in
-      let len : place - (offset + 1) ≡ before_escape u = omega arith in
-      let run = take (before_escape u) u in
-      ap (λ n. before_escape (take n u)) len ∙ ap before_escape (sym (append-nil run)) ∙ prefix_len-run is_plain_byte run [] (all-run is_plain_byte u) tt ∙ ap (λ n. length (take n u)) (sym len)
-
-  pub after_is_next : before_escape after ≡ 0
-  after_is_next = ap before_escape (take_rest t place) ∙ at_next t (offset + 1) place next
-
-  spelled : offset < length t → before_escape (drop offset t) ≡ 0 → drop offset t ≡ escape ∷ (between ++ after)
-  spelled inside here =
-      let u = drop (offset + 1) t in
-      let first : slice_index t offset ≡ escape = stops (drop_more t offset 0 inside) in
-      let rest : drop (place - (offset + 1)) u ≡ after = drop-drop (place - (offset + 1)) (offset + 1) t ∙ ap (λ k. drop k t) (omega arith) ∙ sym (take_rest t place) in
-      drop_more t offset 0 inside ∙ ap₂ (λ b v. b ∷ v) first (sym (take-append-drop (place - (offset + 1)) u) ∙ ap (λ v. between ++ v) rest)
-    where
-      stops : drop offset t ≡ slice_index t offset ∷ drop (offset + 1) t → slice_index t offset ≡ escape
-      stops split = ⊎_elim
-          (λ is. eqb-true _ _ is)
-          (λ other. absurd (let more : before_escape (slice_index t offset ∷ drop (offset + 1) t) ≡ 1 + before_escape (drop (offset + 1) t) = cond-true _ _ _ (ap not other) in omega (arith, here, more, ap before_escape split)))
-          (cases_Bool (slice_index t offset == escape))
-
-  pub mark_step : (f : Front) → offset < length t → before_escape (drop offset t) ≡ 0 → IsUtf8 t → IsCharBoundary t offset → f ≡ front_at (escape ∷ (between ++ after)) → IsStep t offset f
-  mark_step f inside here utf8 at e = front_step t offset f utf8 at inside (e ∙ ap front_at (sym (spelled inside here)))
-
-  -- a control string may end with that ESC and a `\`, which is no ESC
-  pub next_after_end : (f : Front) (later : ℕ) → offset < length t → EndsBy (length between + 1) after f → place < offset + f.len → later ≡ place + 1 + before_escape (drop (place + 1) t)
-      → later ≡ offset + f.len + before_escape (drop (offset + f.len) t)
-  next_after_end f later inside end past is =
-      let size : length between ≡ place - (offset + 1) = length-take-le (place - (offset + 1)) (drop (offset + 1) t) (omega (arith, length-drop (offset + 1) t, place_within inside)) in
-      let ends = end (omega (arith, size)) in
-      let slash : slice_index t (place + 1) ≡ byte "\\" = sym (ap (λ v. slice_index v 1) (take_rest t place) ∙ get_or-drop place t 1 0) ∙ ends.1 in
-      let inside_too : place + 1 < length t = ⊎_elim (λ below. below) (λ over. absurd (omega (arith, slash, get_or_past t (place + 1) 0 over))) (cases_lt (place + 1) (length t)) in
-      let run : before_escape (drop (place + 1) t) ≡ 1 + before_escape (drop (place + 1 + 1) t) = prefix_len-drop_yes is_plain_byte t (place + 1) 0 inside_too (ap is_plain_byte slash) in
-      let same : place + 1 + 1 ≡ offset + f.len = omega (arith, ends.0, size) in
-      omega (arith, is, run, same, ap (λ k. before_escape (drop k t)) same)
+-- a place in the text up to which there is no ESC has one
+pub escape_at_place : (t : List ℕ) (place : ℕ) → place < length t → before_escape (drop place t) ≡ 0 → slice_index t place ≡ escape
+escape_at_place t place inside none = ⊎_elim
+    (λ is. eqb-true _ _ is)
+    (λ other. absurd (omega (arith, none, prefix_len-drop_yes is_plain_byte t place 0 inside (ap not other))))
+    (cases_Bool (slice_index t place == escape))
 
 -- What a scanner gives by a step.
 pub step_gives : (t : List ℕ) (offset place : ℕ) (f : Front) → IsCharBoundary t offset → IsStep t offset f → place ≡ offset + f.len

@@ -12,8 +12,8 @@ before_escape bytes = prefix_len is_plain_byte bytes
 abbrev pub before_bell : List ℕ → ℕ
 before_bell bytes = prefix_len (is_body_byte (byte "]")) bytes
 
--- A scanner at this offset of the text knows the place of the next ESC. One search looked at each byte up to that ESC, and attempts at
--- sequences looked at most twice at each byte before it.
+-- A scanner at this offset of the text knows the place of the next ESC. It has looked at each byte up to that ESC, and at most three times
+-- at each byte before it.
 pub record IsScanning (text : List ℕ) (offset place reads : ℕ) : Type 0 where
   pub boundary : IsCharBoundary text offset
   pub next : place ≡ offset + before_escape (drop offset text)

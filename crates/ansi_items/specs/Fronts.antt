@@ -1,6 +1,6 @@
 -- The kind and the length of what a text begins with, as the private functions of the scanner read it.
 -- No public contract cites this. That it is the first piece of the text is `front_is_first` in proofs/FrontLemmas.antt.
-use Rattle.std.specs.Prelude.{◌≡◌, ℕ, ◌+◌, ◌<◌, ◌==◌, ◌&&◌, List, ◌∷◌, Option, Some, None, if◌then◌else◌, slice_index, take, drop, unwrap_or}
+use Rattle.std.specs.Prelude.{ℕ, ◌+◌, ◌==◌, ◌&&◌, List, ◌∷◌, Option, Some, None, if◌then◌else◌, slice_index, take, drop, unwrap_or}
 use Rattle.std.specs.List.{prefix_len}
 use Rattle.std.specs.Str.{byte}
 use Rattle.ansi_items.specs.declared.ansitok.Kind.{Kind}
@@ -49,7 +49,3 @@ unfoldable pub front_at : List ℕ → Front
 front_at bs =
     if slice_index bs 0 == escape then unwrap_or (sequence_at bs) (front_of Lone 1)
     else front_of Text (prefix_len is_plain_byte bs)
-
--- a sequence has at most this many bytes, which go up to the next ESC, or that ESC and a `\` are its last two
-abbrev pub EndsBy : ℕ → List ℕ → Front → Type 0
-EndsBy len after f = len < f.len → (f.len ≡ len + 2) × (slice_index after 1 ≡ byte "\\")

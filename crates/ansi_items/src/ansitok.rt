@@ -169,12 +169,10 @@ impl<'a> Iterator for Scanner<'a> {
         if start == bytes.len() {
             return None;
         }
-        // An ESC is here. What it begins goes up to the next one, or ends with that one and a `\`.
         let mut looks = Looks { count: 0 };
-        let escape = looks.next_escape(bytes, start + 1);
-        let front = looks.mark(&bytes[start + 1..escape], &bytes[escape..]);
+        let (front, escape) = looks.mark(bytes, start);
         self.offset += front.len;
-        self.escape = looks.escape_after(bytes, escape, self.offset);
+        self.escape = escape;
         self.reads += looks.count;
         Some(Item {
             kind: front.kind,

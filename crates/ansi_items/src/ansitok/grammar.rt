@@ -1,8 +1,8 @@
 //! What an ESC begins, by ECMA-48 and ECMA-35 in this profile, and how many looks at the bytes of a
 //! text that takes.
 //!
-//! One search over the text finds each ESC once, and an attempt at a sequence never passes the next
-//! ESC. So a scan takes at most three looks for each byte.
+//! `memchr` finds the next ESC after each mark, and an attempt at a sequence never passes it. So a
+//! scan takes at most three looks for each byte.
 ghost use Rattle.std.specs.Prelude.{◌≡◌, ◌≤◌, length, take};
 ghost use Rattle.std.specs.List.{prefix_len};
 ghost use Rattle.ansi_items.specs.Bytes.{is_parameter_byte};
@@ -32,62 +32,138 @@ pub(crate) struct Looks {
 
 impl Looks {
     ghost use Rattle.std.specs.Prelude.{◌≡◌, ◌+◌, ◌*◌, ◌^◌, ◌<◌, ◌≤◌, ◌∷◌, ◌++◌, length, take};
-    ghost use Rattle.std.specs.Prelude.{drop, slice_index, min, IfSome, IfNone, if◌then◌else◌};
+    ghost use Rattle.std.specs.Prelude.{drop, slice_index, min, IfSome, IfNone, unwrap_or};
+    ghost use Rattle.std.specs.Prelude.{if◌then◌else◌};
     ghost use Rattle.std.specs.Prelude.{IsTrue};
     ghost use Rattle.std.specs.List.{prefix_len};
     ghost use Rattle.ansi_items.specs.Bytes.{escape, bell, is_parameter_byte, is_intermediate_byte};
+    ghost use Rattle.ansi_items.specs.Bytes.{opens_control_string, is_body_byte};
     ghost use Rattle.ansi_items.specs.Sequences.{are_private};
-    ghost use Rattle.ansi_items.specs.declared.ansitok.Kind.TheVariants.{Sgr, Other};
+    ghost use Rattle.ansi_items.specs.declared.ansitok.Kind.TheVariants.{Sgr, Other, Lone};
     ghost use Rattle.ansi_items.specs.Fronts.{control_at, escape_at, string_at, sequence_at};
-    ghost use Rattle.ansi_items.specs.Fronts.{front_at, EndsBy};
+    ghost use Rattle.ansi_items.specs.Fronts.{front_at, front_of};
     ghost use Rattle.ansi_items.specs.Counts.{before_escape, before_bell};
 
-    /// The mark that an ESC begins: a whole sequence, or the lone escape. `between` is what is
-    /// between that ESC and the next one, and `after` is the text from the next one on.
+    /// The mark that the ESC at `start` begins, a whole sequence or the lone escape, and the place
+    /// of the next ESC after it, or the length of the text if there is none.
     #[inline(always)]
-    pub(crate) fn mark(&mut self, between: &[u8], after: &[u8]) -> Front
-        requires between { before_escape between.now ≡ length between.now }
-        requires after { before_escape after.now ≡ 0 }
-        requires room { self.old.count + 2 * length between.now + 2 < 2 ^ 128 }
-        ensures front { result ≡ front_at (escape ∷ (between.now ++ after.now)) }
-        ensures end { EndsBy (length between.now + 1) after.now result }
-        ensures more { self.old.count ≤ self.new.count }
-        ensures few { self.new.count ≤ self.old.count + 2 * length between.now + 2 }
+    pub(crate) fn mark(&mut self, text: &[u8], start: usize) -> (Front, usize)
+        requires inside { start < length text.now }
+        requires escape { slice_index text.now start ≡ escape }
+        requires room { self.old.count + 4 * length text.now + 8 < 2 ^ 128 }
+        ensures front { result.0 ≡ front_at (drop start text.now) }
+        ensures next { result.1
+            ≡ start + result.0.len + before_escape (drop (start + result.0.len) text.now) }
+        ensures bound { result.1 ≤ length text.now }
+        ensures each { self.old.count + min (result.1 + 1) (length text.now)
+            ≤ self.new.count + start + 1 }
+        ensures few { self.new.count + 3 * start + 1
+            ≤ self.old.count + 2 * result.1 + min (result.1 + 1) (length text.now) }
     {
-        self.sequence(between, after).unwrap_or(Front {
-            kind: Kind::Lone,
-            len: 1,
-        })
+        match self.byte(text, start + 1) {
+            Some(b'[') => {
+                let sequence = self.control_sequence(&text[start + 2..]);
+                self.ended(text, start, sequence)
+            }
+            Some(opener @ (b']' | b'P' | b'X' | b'^' | b'_')) => self.string(text, start, opener),
+            Some(0x20..=0x7E) => {
+                let sequence = self.escape_sequence(&text[start + 1..]);
+                self.ended(text, start, sequence)
+            }
+            Some(_) | None => self.ended(text, start, None),
+        }
     }
 
-    /// The whole sequence that an ESC begins, if it begins one.
+    /// The mark at `start`, if this is the sequence that the ESC there begins, and the place of the
+    /// next ESC after it.
     #[inline(always)]
-    fn sequence(&mut self, between: &[u8], after: &[u8]) -> Option<Front>
-        requires between { before_escape between.now ≡ length between.now }
-        requires after { before_escape after.now ≡ 0 }
-        requires room { self.old.count + 2 * length between.now + 2 < 2 ^ 128 }
-        ensures front { result ≡ sequence_at (escape ∷ (between.now ++ after.now)) }
-        ensures end { IfSome result (λ f. EndsBy (length between.now + 1) after.now f) }
-        ensures more { self.old.count ≤ self.new.count }
-        ensures few { self.new.count ≤ self.old.count + 2 * length between.now + 2 }
+    fn ended(&mut self, text: &[u8], start: usize, sequence: Option<Front>) -> (Front, usize)
+        requires inside { start < length text.now }
+        requires sequence { IfSome sequence (λ f. start + f.len ≤ length text.now) }
+        requires room { self.old.count + length text.now + 1 < 2 ^ 128 }
+        ensures front { result.0 ≡ unwrap_or sequence (front_of Lone 1) }
+        ensures next { result.1
+            ≡ start + result.0.len + before_escape (drop (start + result.0.len) text.now) }
+        ensures bound { result.1 ≤ length text.now }
+        ensures looks { self.new.count + start + result.0.len
+            ≡ self.old.count + min (result.1 + 1) (length text.now) }
     {
-        match self.byte(between, 0)? {
-            b'[' => self.control_sequence(&between[1..]),
-            b']' => self.command(&between[1..], after),
-            b'P' | b'X' | b'^' | b'_' => self.control_string(&between[1..], after),
-            _ => self.escape_sequence(between),
+        let front = sequence.unwrap_or(Front {
+            kind: Kind::Lone,
+            len: 1,
+        });
+        (front, self.next_escape(text, start + front.len))
+    }
+
+    /// The same, if the ESC and its opener begin a control string, whole or not.
+    #[inline(always)]
+    fn string(&mut self, text: &[u8], start: usize, opener: u8) -> (Front, usize)
+        requires inside { start + 1 < length text.now }
+        requires escape { slice_index text.now start ≡ escape }
+        requires opener { opener ≡ slice_index text.now (start + 1) }
+        requires opens { IsTrue (opens_control_string opener) }
+        requires room { self.old.count + 4 * length text.now + 4 < 2 ^ 128 }
+        ensures front { result.0 ≡ front_at (drop start text.now) }
+        ensures next { result.1
+            ≡ start + result.0.len + before_escape (drop (start + result.0.len) text.now) }
+        ensures bound { result.1 ≤ length text.now }
+        ensures each { self.old.count + min (result.1 + 1) (length text.now)
+            ≤ self.new.count + start + 2 }
+        ensures few { self.new.count + 3 * start + 2
+            ≤ self.old.count + 2 * result.1 + min (result.1 + 1) (length text.now) }
+    {
+        let escape = self.next_escape(text, start + 2);
+        let body = &text[start + 2..escape];
+        let after = &text[escape..];
+        match self.whole_string(opener, body, after) {
+            None => {
+                let lone = Front {
+                    kind: Kind::Lone,
+                    len: 1,
+                };
+                (lone, escape)
+            }
+            Some(string) => {
+                let end = start + string.len;
+                (string, self.escape_after(text, escape, end))
+            }
+        }
+    }
+
+    /// The control string whose bytes up to the next ESC, after its opener, are `body`.
+    #[inline(always)]
+    fn whole_string(&mut self, opener: u8, body: &[u8], after: &[u8]) -> Option<Front>
+        requires opens { IsTrue (opens_control_string opener) }
+        requires between { before_escape body.now ≡ length body.now }
+        requires after { before_escape after.now ≡ 0 }
+        requires room { self.old.count + length body.now + 2 < 2 ^ 128 }
+        ensures front { result ≡ string_at (body.now ++ after.now)
+            (prefix_len (is_body_byte opener) (body.now ++ after.now)) }
+        ensures end { IfSome result (λ f. (1 ≤ f.len) × (f.len ≤ length body.now + 4)
+            × (f.len ≤ length body.now + 2 + length after.now)) }
+        ensures found { IfSome result (λ _. self.old.count + 1 ≤ self.new.count) }
+        ensures more { self.old.count ≤ self.new.count }
+        ensures few { self.new.count ≤ self.old.count + length body.now + 1 }
+    {
+        match opener {
+            b']' => self.command(body, after),
+            _ => self.control_string(body, after),
         }
     }
 
     /// The control sequence of which the bytes follow ESC `[`.
     #[inline(always)]
-    #[tactic(auto, unfolding(crate::specs::Fronts::control_at))]
+    #[tactic(auto, using(crate::proofs::BetweenLemmas::parameters_within), unfolding(crate::specs::Fronts::control_at))]
     fn control_sequence(&mut self, bytes: &[u8]) -> Option<Front>
-        requires room { self.old.count + 2 * length bytes.now + 1 < 2 ^ 128 }
+        requires room { self.old.count + 2 * length bytes.now + 3 < 2 ^ 128 }
         ensures front { result ≡ control_at bytes.now }
-        ensures end { IfSome result (λ f. f.len ≤ length bytes.now + 2) }
+        ensures found { IfSome result (λ f. (f.len ≤ length bytes.now + 2) × (3 ≤ f.len)
+            × (self.old.count + f.len ≤ self.new.count + 1)
+            × (self.new.count ≤ self.old.count + f.len)) }
         ensures more { self.old.count ≤ self.new.count }
-        ensures few { self.new.count ≤ self.old.count + 2 * length bytes.now + 1 }
+        ensures few { IfNone result (
+            self.new.count ≤ self.old.count + before_escape bytes.now + 3) }
+        ensures bound { self.new.count ≤ self.old.count + length bytes.now + 3 }
     {
         let parameters = self.parameters_len(bytes);
         match self.byte(bytes, parameters)? {
@@ -112,11 +188,15 @@ impl Looks {
         requires parameters { parameters ≡ prefix_len is_parameter_byte bytes.now }
         requires inside { parameters < length bytes.now }
         requires intermediate { IsTrue (is_intermediate_byte (slice_index bytes.now parameters)) }
-        requires room { self.old.count + length bytes.now < 2 ^ 128 }
+        requires room { self.old.count + length bytes.now + 1 < 2 ^ 128 }
         ensures front { result ≡ control_at bytes.now }
-        ensures end { IfSome result (λ f. f.len ≤ length bytes.now + 2) }
+        ensures bound { IfSome result (λ f. f.len ≤ length bytes.now + 2) }
+        ensures found { IfSome result (λ f.
+            self.new.count + parameters + 2 ≡ self.old.count + f.len) }
         ensures more { self.old.count ≤ self.new.count }
-        ensures few { self.new.count + parameters ≤ self.old.count + length bytes.now }
+        ensures few { IfNone result (
+            self.new.count + parameters ≤ self.old.count + before_escape bytes.now + 1) }
+        ensures looks { self.new.count + parameters ≤ self.old.count + length bytes.now + 1 }
     {
         let intermediates = 1 + self.intermediates_len(&bytes[parameters + 1..]);
         match self.byte(bytes, parameters + intermediates)? {
@@ -135,8 +215,10 @@ impl Looks {
         requires after { before_escape after.now ≡ 0 }
         requires room { self.old.count + length bytes.now + 2 < 2 ^ 128 }
         ensures front { result ≡ string_at (bytes.now ++ after.now) (before_bell bytes.now) }
-        ensures end { IfSome result (λ f. EndsBy (length bytes.now + 2) after.now f) }
+        ensures end { IfSome result (λ f. (1 ≤ f.len) × (f.len ≤ length bytes.now + 4)
+            × (f.len ≤ length bytes.now + 2 + length after.now)) }
         ensures more { self.old.count ≤ self.new.count }
+        ensures found { IfSome result (λ _. self.old.count + 1 ≤ self.new.count) }
         ensures few { self.new.count ≤ self.old.count + length bytes.now + 1 }
     {
         let body = self.body_len(bytes);
@@ -155,8 +237,10 @@ impl Looks {
         requires after { before_escape after.now ≡ 0 }
         requires room { self.old.count + 1 < 2 ^ 128 }
         ensures front { result ≡ string_at (body.now ++ after.now) (length body.now) }
-        ensures end { IfSome result (λ f. EndsBy (length body.now + 2) after.now f) }
+        ensures end { IfSome result (λ f. (1 ≤ f.len) × (f.len ≤ length body.now + 4)
+            × (f.len ≤ length body.now + 2 + length after.now)) }
         ensures more { self.old.count ≤ self.new.count }
+        ensures found { IfSome result (λ _. self.old.count + 1 ≤ self.new.count) }
         ensures few { self.new.count ≤ self.old.count + 1 }
     {
         match self.byte(after, 1)? {
@@ -170,13 +254,16 @@ impl Looks {
 
     /// The escape sequence of which the bytes follow ESC.
     #[inline(always)]
-    #[tactic(auto, unfolding(crate::specs::Fronts::escape_at))]
+    #[tactic(auto, using(crate::proofs::BetweenLemmas::intermediates_within), unfolding(crate::specs::Fronts::escape_at))]
     fn escape_sequence(&mut self, bytes: &[u8]) -> Option<Front>
-        requires room { self.old.count + length bytes.now + 1 < 2 ^ 128 }
+        requires room { self.old.count + length bytes.now + 3 < 2 ^ 128 }
         ensures front { result ≡ escape_at bytes.now }
-        ensures end { IfSome result (λ f. f.len ≤ length bytes.now + 1) }
+        ensures found { IfSome result (λ f. (f.len ≤ length bytes.now + 1) × (2 ≤ f.len)
+            × (self.new.count ≡ self.old.count + f.len)) }
         ensures more { self.old.count ≤ self.new.count }
-        ensures few { self.new.count ≤ self.old.count + length bytes.now + 1 }
+        ensures few { IfNone result (
+            self.new.count ≤ self.old.count + before_escape bytes.now + 2) }
+        ensures bound { self.new.count ≤ self.old.count + length bytes.now + 2 }
     {
         let intermediates = self.intermediates_len(bytes);
         match self.byte(bytes, intermediates)? {
@@ -190,9 +277,26 @@ impl Looks {
 
     // All looks at the text are made below, and counted.
 
-    /// The place of the next ESC, from `from` on, or the length of the text if there is none.
+    /// The place of the next ESC, from `from` on, or the length of the text if there is none. A
+    /// sequence often comes right after another, so the first byte is looked at by itself.
     #[inline(always)]
     pub(crate) fn next_escape(&mut self, text: &[u8], from: usize) -> usize
+        requires inside { from ≤ length text.now }
+        requires room { self.old.count + length text.now + 1 < 2 ^ 128 }
+        ensures place { result ≡ from + before_escape (drop from text.now) }
+        ensures bound { result ≤ length text.now }
+        ensures looks { self.new.count + from
+            ≡ self.old.count + min (result + 1) (length text.now) }
+    {
+        match self.byte(text, from) {
+            None | Some(ESC) => from,
+            Some(_) => self.escape_in_text(text, from + 1),
+        }
+    }
+
+    /// The same, by a search.
+    #[inline(always)]
+    fn escape_in_text(&mut self, text: &[u8], from: usize) -> usize
         requires inside { from ≤ length text.now }
         requires room { self.old.count + length text.now < 2 ^ 128 }
         ensures place { result ≡ from + before_escape (drop from text.now) }
@@ -206,22 +310,21 @@ impl Looks {
         from + len
     }
 
-    /// The place of the next ESC after an item that ends at `end`, if it was at `escape` before: that
-    /// place, or the one after it if the item includes that ESC.
+    /// The place of the next ESC after an item that ends at `end`, if it was at `escape` before:
+    /// that place, or the one after it if the item includes that ESC.
     #[inline(always)]
-    pub(crate) fn escape_after(&mut self, text: &[u8], escape: usize, end: usize) -> usize
-        requires inside { escape < end → escape < length text.now }
-        requires room { self.old.count + length text.now < 2 ^ 128 }
+    fn escape_after(&mut self, text: &[u8], escape: usize, end: usize) -> usize
+        requires inside { (escape ≤ length text.now) × (end ≤ length text.now) }
+        requires room { self.old.count + length text.now + 1 < 2 ^ 128 }
+        ensures bound { result ≤ length text.now }
         ensures same { end ≤ escape → (result ≡ escape) × (self.new.count ≡ self.old.count) }
-        ensures next { escape < end →
-            (result ≡ escape + 1 + before_escape (drop (escape + 1) text.now))
-            × (self.new.count + (escape + 1)
-            ≡ self.old.count + min (result + 1) (length text.now)) }
+        ensures next { escape < end → (result ≡ end + before_escape (drop end text.now))
+            × (self.new.count + end ≡ self.old.count + min (result + 1) (length text.now)) }
     {
         if end <= escape {
             return escape;
         }
-        self.next_escape(text, escape + 1)
+        self.next_escape(text, end)
     }
 
     /// The byte at this place.

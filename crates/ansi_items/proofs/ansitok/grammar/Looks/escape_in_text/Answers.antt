@@ -1,6 +1,6 @@
 use Rattle.ansi_items.proofs.Common.{◌+◌, ◌∙◌, ap, take_rest, before_escape}
 use Rattle.ansi_items.proofs.EscapeLemmas.{escape_found}
-use Rattle.ansi_items.proofs.ansitok.grammar.Looks.next_escape.Goals as goal
+use Rattle.ansi_items.proofs.ansitok.grammar.Looks.escape_in_text.Goals as goal
 
 pub returns-clause-place : goal.returns-clause-place
 returns-clause-place c =
