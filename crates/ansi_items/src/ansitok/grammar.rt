@@ -24,6 +24,12 @@ pub(crate) struct Front {
     pub(crate) len: usize,
 }
 
+/// An ESC that begins no whole sequence.
+const LONE: Front = Front {
+    kind: Kind::Lone,
+    len: 1,
+};
+
 /// A count of looks at the bytes of a text, each byte as often as it is looked at.
 #[derive(Drop)]
 pub(crate) struct Looks {
@@ -88,14 +94,12 @@ impl Looks {
         ensures looks { self.new.count + start + result.0.len
             ≡ self.old.count + min (result.1 + 1) (length text.now) }
     {
-        let front = sequence.unwrap_or(Front {
-            kind: Kind::Lone,
-            len: 1,
-        });
+        let front = sequence.unwrap_or(LONE);
         (front, self.next_escape(text, start + front.len))
     }
 
-    /// The same, if the ESC and its opener begin a control string, whole or not.
+    /// The mark at `start` and the place of the next ESC after it, if the ESC and this opener begin
+    /// a control string, whole or not.
     #[inline(always)]
     fn string(&mut self, text: &[u8], start: usize, opener: u8) -> (Front, usize)
         requires inside { start + 1 < length text.now }
@@ -116,13 +120,7 @@ impl Looks {
         let body = &text[start + 2..escape];
         let after = &text[escape..];
         match self.whole_string(opener, body, after) {
-            None => {
-                let lone = Front {
-                    kind: Kind::Lone,
-                    len: 1,
-                };
-                (lone, escape)
-            }
+            None => (LONE, escape),
             Some(string) => {
                 let end = start + string.len;
                 (string, self.escape_after(text, escape, end))
