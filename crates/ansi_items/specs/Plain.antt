@@ -23,7 +23,7 @@ pub record Placed : Type 0 where
   pub place : ℕ
   pub piece : Piece
 
--- n plain bytes more stand before it
+-- n more plain bytes come before it
 abbrev pub placed_further_on : ℕ → Placed → Placed
 placed_further_on n p = record p { place = n + p.place }
 
@@ -32,7 +32,7 @@ abbrev pub places : List Piece → List Placed
 places [] = []
 places (p ∷ ps) = record { place = 0; piece = p } ∷ map (placed_further_on (length (plain_bytes p))) (places ps)
 
--- a mark is a sequence or a lone escape at its place: how many plain bytes stand before it, and its bytes
+-- a mark is a sequence or a lone escape at its place: how many plain bytes come before it, and its bytes
 pub record Mark : Type 0 where
   pub place : ℕ
   pub bytes : List ℕ
