@@ -1,6 +1,6 @@
 // Text with ANSI control sequences, taken as if the sequences weren't there.
 //
-// The plain text is the text without its sequences. A position counts its UTF-16 units, as JavaScript does in a string.
+// The plain text is the text without its sequences. A position counts UTF-16 units of it, as in any string of JavaScript.
 //
 // Each call throws
 // - a TypeError for a text that is no string or has a lone surrogate, and for a position that is no whole number;
@@ -16,15 +16,15 @@ export function strip(text: string): string;
 
 /**
  * The text from `start` to `end`, or to its end, in its styles: every sequence up to `end` stays, and the style still open there is
- * closed. A position past the end is the end. Throws a RangeError if `end` is below `start`, or if a position is between the
+ * closed. A position past the end counts as the end. Throws a RangeError if `end` is below `start`, or if a position is between the
  * surrogates of a character.
  */
 export function cut(text: string, start: number, end?: number): string;
 
-/** Both sides of a position, in their styles. Past the end the right side is empty. Throws as `cut`. */
+/** Both sides of a position, in their styles. Past the end, the right side is empty. Throws as `cut` does. */
 export function splitAt(text: string, index: number): [string, string];
 
-/** The text without white space at both ends, as Unicode has it (`White_Space`). Sequences stay. */
+/** The text without the white space at its ends (Unicode's `White_Space`). Sequences stay. */
 export function trim(text: string): string;
 
 /** The position of the pattern's first match in the plain text, or -1. A match may run across sequences. */
@@ -89,12 +89,12 @@ export function width(text: string): number;
 export function fitting(text: string, width: number): number;
 
 /**
- * The text truncated to `width` columns. If it is truncated and the tail, for example `…`, fits, the tail follows. Before the tail,
- * the link (OSC 8) and then the style still open at the end of the text are closed.
+ * The text truncated to `width` columns. The link (OSC 8) and the style still open at its end are closed. A tail, for example `…`,
+ * follows if something was cut off and the tail isn't wider than `width`; its columns count too.
  */
 export function truncate(text: string, width: number, tail?: string): string;
 
-/** The text padded with blanks to `width` columns. Its link and style still open at its end are closed before the blanks after it. */
+/** The text padded with blanks to `width` columns. The link and style still open at its end are closed before the blanks there. */
 export function pad(text: string, width: number, alignment?: 'left' | 'center' | 'right'): string;
 
 /** The text wrapped to lines of `width` columns. Each line closes the link and style it leaves open; the next reopens them. */

@@ -3,7 +3,7 @@ use Rattle.ansi_blocks.proofs.Common.{◌≡◌, ℕ, IsTrue, zero, suc, ◌≤�
 use Rattle.std.specs.Prelude.{IsFalse}
 use Rattle.ansi_items.proofs.PlainLemmas.{one_text, pieces_of-bare}
 
--- the blocks of pieces, where these sequences wait for the first run, and s is the style before the pieces
+-- the blocks of pieces, if these sequences wait for the first run, and s is the style before the pieces
 abbrev pub blocks_through : Rendition → List ℕ → List Piece → List Block
 blocks_through s held [] = []
 blocks_through s held (Text w ∷ ps) = block_after held w s ∷ blocks_through s [] ps
@@ -41,7 +41,7 @@ others-further n i (m ∷ ms) =
         by_kind false = same
     with_head false ks ls same = same
 
--- marks that stand further on don't stand at the front
+-- marks at later places aren't at the front
 others-front : (n : ℕ) (ms : List Mark) → 0 < n → bytes_of_others (marks_at 0 (map (further n) ms)) ≡ []
 others-front n [] some = refl
 others-front n (m ∷ ms) some =

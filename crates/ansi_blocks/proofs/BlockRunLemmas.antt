@@ -47,7 +47,7 @@ without_sgrs-copied (p ∷ ps) = by_kind (is_sgr (spelling p)) (without_sgrs-cop
     by_kind true more = more
     by_kind false more = ap (λ v. spelling p ++ v) more
 
--- what waits at the end, where these sequences wait for the first run
+-- what waits at the end, if these sequences wait for the first run
 abbrev sequences_after_pieces : List ℕ → List Piece → List ℕ
 sequences_after_pieces held [] = held
 sequences_after_pieces held (Text w ∷ ps) = sequences_after_pieces [] ps

@@ -5,7 +5,7 @@ use Rattle.ansi_items.specs.declared.ansitok.Kind.TheVariants.{Sgr}
 use Rattle.ansi_style.proofs.SgrLemmas.{apply-no_sgr}
 use Rattle.ansi_blocks.proofs.BlockLemmas.{blocks_through, sequences_before_pieces, blocks_from-walked, sequences_before-front}
 
--- over a mark, of which nothing waits where it is an SGR
+-- over a mark; an SGR doesn't wait
 through-mark : (p : Piece) (w : List ℕ) (s : Rendition) (held : List ℕ) (ps : List Piece) → is_mark p ≡ true → spelling p ≡ w
     → (blocks_through s held (p ∷ ps) ≡ blocks_through (apply s w) (held ++ copied (Sequence w)) ps) × (sequences_before_pieces (p ∷ ps) ≡ copied (Sequence w) ++ sequences_before_pieces ps)
 through-mark (Text v) w s held ps is same = absurd (cc is)
@@ -60,7 +60,7 @@ run-text {from} {s} {t} {waits} {w} {pieces} after so_far is =
     let held : sequences_before t 0 ≡ first.held = first.front ∙ append-nil first.held in
     (first.blocks ∙ ap₂ (λ u bs. block_after u w s ∷ bs) (sym held) (sym (blocks_from-walked s after)), first.some ∙ ap (λ u. not (length u == 0)) (sym held))
 
--- a block that takes memory is no borrow
+-- a block that is allocated is no borrow
 pub not_borrowed : (waits none : Bool) → waits ≡ not none → (waits ≡ false → false ≡ true) → none ≡ false
 not_borrowed waits true is some = absurd (cc (some is))
 not_borrowed waits false is some = refl

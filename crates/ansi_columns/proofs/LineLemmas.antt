@@ -118,7 +118,7 @@ module _ (width start end here columns : ℕ) (c : List ℕ) (cs : List (List �
   line-moves word after begun wide = line-leaves word
       (or_from (here == start) _ (ne_eqb here start (λ e. omega (arith, begun, e))) (lt-leb (columns + more) width (omega (arith, wide, more-word after))))
 
--- a line that begins with a word, whatever stood before it
+-- a line that begins with a word, whatever was before it
 pub line-opens : (width here : ℕ) (c : List ℕ) (cs : List (List ℕ)) → IsOfWord c
     → lines_from width here here here 0 (c ∷ cs) ≡ (let next = here + length (encode_utf8_all c) in lines_from width here next next (cluster_width c) cs)
 line-opens width here c cs word =

@@ -116,7 +116,7 @@ lines_filled width from end here columns (c ∷ cs) =
 pub rest-is : (t : List ℕ) (n : ℕ) → slice_range t n (length t) ≡ drop n t
 rest-is t n = take_all (length t - n) (drop n t) (omega (arith, length-drop n t))
 
--- Where what the lines before have taken ends.
+-- The end of what the lines before have taken.
 
 plain-from : (t : List ℕ) (before taken : ℕ) → ((before ≡ 0) × (taken ≡ 0)) ⊎ (taken ≡ offset_of t before) → plain (drop taken t) ≡ drop before (plain t)
 plain-from t before taken (inl none) = ap (λ n. plain (drop n t)) none.1 ∙ sym (ap (λ n. drop n (plain t)) none.0)

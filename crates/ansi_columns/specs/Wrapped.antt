@@ -18,7 +18,7 @@ use Rattle.ansi_columns.specs.Lines.{lines}
 use Rattle.ansi_columns.specs.Links.{link_after_all, link_end, longest_link_end}
 use Rattle.ansi_columns.specs.Walks.{IsWalk}
 
--- a line of a wrap: its bytes, whether it is a borrow, and how many bytes of the text and of the link carried into it it has
+-- a line of a wrap: its bytes, whether it is a borrow, and its share, which is the number of its bytes that come from the text or from the link carried into it
 pub record WrappedLine : Type 0 where
   pub bytes : List ℕ
   pub borrowed : Bool

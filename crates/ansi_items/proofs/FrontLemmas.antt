@@ -12,7 +12,7 @@ after_one-at test k t none =
     (λ past. ap (after_one test) (drop_all k t past) ∙ sym (cond-false _ _ _ (ap test (get_or_past t k 0 past) ∙ none)))
     (cases_lt k (length t))
 
--- a byte that is not 0 stands in the list
+-- a byte that is not 0 is in the list
 within : (t : List ℕ) (k : ℕ) → 0 < slice_index t k → k < length t
 within t k h = ⊎_elim (λ below. below) (λ past. absurd (let nothing : slice_index t k ≡ 0 = get_or_past t k 0 past in omega arith)) (cases_lt k (length t))
 
@@ -73,7 +73,7 @@ sgr-spelled ps is final hp hi hf =
 final_within : (t : List ℕ) (k : ℕ) → is_final_byte (slice_index t k) ≡ true → k < length t
 final_within t k passes = let above : 63 < slice_index t k = grind (arith, nat_tests) in within t k (omega arith)
 
--- how many parameter bytes a control sequence has, and how many intermediate bytes, where t follows its ESC `[`
+-- how many parameter bytes a control sequence has, and how many intermediate bytes, if t follows its ESC `[`
 abbrev parameters_len : List ℕ → ℕ
 parameters_len t = prefix_len is_parameter_byte t
 
@@ -190,7 +190,7 @@ control_agrees t =
     subst (Agrees (escape ∷ byte "[" ∷ t) (if is_final_byte final then Some f else None)) (sym after)
     (agrees_where _ (is_final_byte final) (Some f) None (Some (drop (n + m + 1) t)) None found (λ fails. tt))
 
--- where a body ends that no BEL ends, an ESC does
+-- a body that no BEL ends is ended by an ESC
 escape_ends : (o stop : ℕ) → is_body_byte o stop ≡ false → (stop == bell) ≡ false → stop ≡ escape
 escape_ends o stop stops no_bell = elim (or_cases (stop == escape) (opens_command o && stop == bell) (not-false _ stops)) [
   | inl is ↦ eqb-true stop escape is
@@ -204,7 +204,7 @@ stop_at o t inside = prefix_len_stops (is_body_byte o) t 0 inside
 abbrev is_backslash : ℕ → Bool
 is_backslash c = c == byte "\\"
 
--- after the terminator of a string of opener o, where t has n bytes of body
+-- after the terminator of a string with the opener o, if t begins with n bytes of body
 string_agrees : (o : ℕ) (t : List ℕ) → opens_control_sequence o ≡ false → Agrees (escape ∷ o ∷ t) (string_at t (prefix_len (is_body_byte o) t)) (after_control_string o t)
 unfolding string_at
 string_agrees o t not_control =
@@ -265,7 +265,7 @@ sequence_agrees (b ∷ t) =
 
 -- The first piece.
 
--- what stands at the front of t is this piece, with this left after it
+-- t begins with this piece, and this is left after it
 pub record IsFront (t : List ℕ) (f : Front) (p : Piece) (rest : List ℕ) : Type 0 where
   pub kind : f.kind ≡ kind_of p
   pub spelled : spelling p ≡ take f.len t

@@ -1,4 +1,4 @@
--- Pieces that may stand anywhere: the text that they spell has these pieces, with texts that touch joined.
+-- Pieces that may come before anything: the text that they spell has these pieces, with texts that touch joined.
 use Rattle.ansi_items.proofs.Common.{◌≡◌, ◌≢◌, ℕ, true, List, [], ◌∷◌, ◌++◌, refl, sym, ◌∙◌, ap, ap₂, append_assoc, IsTrue, flat_map, slice_index, and_from, list_all-append, flat_map-append, list_all, AllByRecursion, is_plain_byte, IsSequence, Piece, spelling, Text, Sequence, LoneEscape, ArePieces, after_text, merged, pieces_of, are_whole, is_whole, take, drop, take-append-drop, false, plain_of, plain, has_escape}
 use Rattle.ansi_items.proofs.PieceLemmas.{sequence_front, pieces_of-unique, pieces_are}
 use Rattle.ansi_items.proofs.PlainLemmas.{all_plain_bytes}
@@ -7,7 +7,7 @@ use Rattle.ansi_items.proofs.PlainLemmas.{all_plain_bytes}
 abbrev pub spelled : List Piece → List ℕ
 spelled ps = flat_map spelling ps
 
--- a piece stands anywhere where it is read alike whatever follows it
+-- a piece may come before anything if it is read the same way whatever follows it
 abbrev pub StandsAnywhere : Piece → Type 0
 StandsAnywhere (Text w) = (w ≢ []) × IsTrue (list_all is_plain_byte w)
 StandsAnywhere (Sequence w) = IsSequence w
@@ -59,7 +59,7 @@ are_whole-merged (LoneEscape ∷ ps) all = absurd all.0
 pub is_whole-spelled : (ps : List Piece) → AllStandAnywhere ps → IsTrue (is_whole (spelled ps))
 is_whole-spelled ps all = ap are_whole (pieces_of-spelled ps all) ∙ are_whole-merged ps all
 
--- The pieces of a text spell it, and those of a whole text stand anywhere.
+-- The pieces of a text spell it, and those of a whole text may come before anything.
 
 spelled-are : (t : List ℕ) (ps : List Piece) → ArePieces t ps → spelled ps ≡ t
 spelled-are t [] are = sym are

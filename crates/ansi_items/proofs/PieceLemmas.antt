@@ -156,6 +156,6 @@ only_first_pieces (suc n) t (p ∷ ps) fits are =
 pub pieces_of-unique : (t : List ℕ) (ps : List Piece) → ArePieces t ps → ps ≡ pieces_of t
 pieces_of-unique t ps are = only_first_pieces (length t) t ps (omega arith) are
 
--- a list is the pieces of a text exactly where it is what `pieces_of` gives
+-- a list is the pieces of a text exactly if it is what `pieces_of` gives
 pub are_pieces : (t : List ℕ) (ps : List Piece) → ArePieces t ps ↔ (ps ≡ pieces_of t)
 are_pieces t ps = (pieces_of-unique t ps, λ e. subst (ArePieces t) (sym e) (pieces_are t))

@@ -2,7 +2,7 @@
 use Rattle.ansi_items.proofs.Common.{◌≡◌, ◌≢◌, ℕ, ◌≤◌, true, false, List, [], ◌∷◌, length, refl, sym, ◌∙◌, ap, arith, append-nil, length-append, and_from, and_parts, or_parts, or_from, not-true, not_from_false, list_all-append, ◌==◌, list_all, escape, is_plain_byte, Piece, Text, spelling, ArePieces, pieces_of, plain_of, plain, are_whole, is_whole, has_escape}
 use Rattle.ansi_items.proofs.PieceLemmas.{pieces_are, pieces_of-unique}
 
--- No ESC stands in a list of plain bytes alone.
+-- A list of plain bytes has no ESC.
 
 pub all_plain_bytes : (t : List ℕ) → has_escape t ≡ false → list_all is_plain_byte t ≡ true
 all_plain_bytes [] none = refl

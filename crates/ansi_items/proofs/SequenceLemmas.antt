@@ -1,4 +1,4 @@
--- A text begins with a whole sequence of the grammar exactly where `after_sequence` finds one, and then with no other.
+-- A text begins with a whole sequence of the grammar exactly if `after_sequence` finds one, and then with no other.
 use Rattle.ansi_items.proofs.Common.{◌≡◌, ℕ, ◌+◌, ◌⊎◌, inl, inr, Bool, true, false, not, ◌&&◌, ◌||◌, ◌==◌, List, [], ◌∷◌, ◌++◌, take, drop, length, Some, None, refl, sym, ◌∙◌, ap, subst, append_assoc, append-nil, arith, one-add, IsTrue, slice_index, ap₂, true≢false, cond-true, cond-false, cond_both, and_parts, and_from, cases_Bool, both_ways, not-false, or_parts, or_cases, eqb-true, not-true, or_from, not_from_false, cond_some, none-some, nat_tests, drop-append_seam, take-append-drop, list_all, prefix_len, byte, escape, bell, is_parameter_byte, is_intermediate_byte, is_final_byte, is_escape_final_byte, opens_control_string, opens_command, opens_control_sequence, is_body_byte, IsControlSequence, IsControlString, IsEscapeSequence, IsSequence, skip, after_one, after_control_sequence, after_terminator, after_control_string, after_escape_sequence, after_escape, after_sequence}
 
 -- the list does not begin with an element that passes the test
@@ -225,7 +225,7 @@ escape_found (b ∷ t) rest found = elim (cases_Bool (opens_control_sequence b))
       ])
 ]
 
--- what stands before what is left is a whole sequence
+-- what comes before what is left is a whole sequence
 pub after_sequence_found : (t rest : List ℕ) → after_sequence t ≡ Some rest → Begins t rest
 after_sequence_found [] rest found = absurd (none-some rest found)
 after_sequence_found (b ∷ t) rest found = elim (cases_Bool (b == escape)) [

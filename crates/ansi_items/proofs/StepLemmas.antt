@@ -35,7 +35,7 @@ pub gives_text : {old new : Scan} {item : Item} {text w : List ℕ} → GivesIte
 gives_text {old} {new} {item} {text} {w} gives same is kind =
     subst (λ k. pieces_left old ≡ piece_of_kind k w ∷ pieces_left new) kind (first old new item text w gives same is).0
 
--- what stands after the item has the pieces that are left
+-- what follows the item has the pieces that are left
 pub gives_rest : {old new : Scan} {item : Item} {text v : List ℕ} → GivesItem old item new → old.text ≡ text → v ≡ drop item.end text → pieces_of v ≡ pieces_left new
 gives_rest {old} {new} {item} {text} {v} gives same is =
     ap pieces_of is ∙ ap₂ (λ n t. pieces_of (drop n t)) gives.end (sym (gives.text ∙ same))

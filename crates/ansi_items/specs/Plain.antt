@@ -23,7 +23,7 @@ pub record Placed : Type 0 where
   pub place : ℕ
   pub piece : Piece
 
--- n plain bytes more come before it
+-- n more plain bytes come before it
 abbrev pub placed_further_on : ℕ → Placed → Placed
 placed_further_on n p = record p { place = n + p.place }
 

@@ -3,7 +3,7 @@ use Rattle.ansi_search.proofs.Common.{◌≡◌, ℕ, ◌+◌, ◌-◌, ◌≤�
 use Rattle.ansi_search.proofs.PositionLemmas.{no_character_goes_on-boundary}
 use Rattle.ansi_search.proofs.OffsetLemmas.{IsOverText, IsOverMark, IsPassed, passed-begin, passed-text, passed-mark, stands-after}
 
--- a pattern that is no longer than the text at the front stands in that
+-- a pattern that is no longer than the text at the front is in that text
 pub starts_with-within : (p w y : List ℕ) → length p ≤ length w → starts_with nat_eq (w ++ y) p ≡ starts_with nat_eq w p
 starts_with-within p w y fits = ap (pointwise nat_eq p) (take-append-le (length p) w y fits)
 
@@ -33,7 +33,7 @@ ends_with-boundary x p suffix_utf8 ends =
     let same : p ≡ drop start x = same_text p (drop start x) (sym ends) in
     IsCharBoundary-from_drop x start (omega arith) (subst IsUtf8 same suffix_utf8)
 
--- How far the walk for a suffix of n bytes has come: where the last run begins that is no shorter, or all of the text, and how long the plain text is from there on.
+-- How far the walk for a suffix of n bytes has come: the offset of the last run that is no shorter, or of the whole text, and the length of the plain text from there on.
 pub record IsTailSoFar (t : List ℕ) (n last len passed : ℕ) (left : List Piece) : Type 0 where
   pub before : ℕ
   pub from : IsPassed t before last (pieces_of (drop last t))
@@ -79,7 +79,7 @@ tail-mark so_far over = record {
   long = so_far.long;
 }
 
--- where the suffix begins in all, and in what follows the last such run
+-- the offset of the suffix in the whole text, and in what follows the last such run
 tail-sum : {t : List ℕ} {n last len passed : ℕ} {left : List Piece} (so_far : IsTailSoFar t n last len passed left) → left ≡ [] → so_far.before + (len - n) ≡ length (plain t) - n
 tail-sum {left = left} so_far none =
     let count = so_far.way.count in

@@ -2,7 +2,7 @@
 use Rattle.ansi_search.proofs.Common.{refl, codes, [], ◌∷◌, Some, None, ℕ, List, true, false, encode_utf8, plain, is_char_boundary, first_match_from}
 use Rattle.ansi_items.proofs.Tables.{MakesRows, utf8}
 
--- where a pattern stands first from a position on
+-- the first match of a pattern from a position on
 matches : MakesRows (λ (x : List ℕ × List ℕ × ℕ). first_match_from (plain x.0) x.1 x.2) (
     ((codes "a\u{1b}[1mb\u{1b}[0mc", codes "abc", 0), Some 0)
     ∷ ((codes "a\u{1b}[1mb\u{1b}[0mc", codes "bc", 0), Some 1)
@@ -15,7 +15,7 @@ matches : MakesRows (λ (x : List ℕ × List ℕ × ℕ). first_match_from (pla
     ∷ [])
 matches = refl
 
--- an empty pattern stands at each character boundary
+-- an empty pattern occurs at each character boundary
 empty_matches : MakesRows (λ (x : List ℕ × ℕ). first_match_from (plain x.0) [] x.1) (
     (([], 0), Some 0)
     ∷ ((utf8 "\u{1b}[1mé", 1), Some 2)

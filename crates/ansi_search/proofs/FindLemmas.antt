@@ -26,7 +26,7 @@ match_stands x p i utf8 utf8_p found = record { split = match_splits x p i found
 pub no_match_lacks : (x p : List ℕ) (i : ℕ) → IsUtf8 p → 0 < length p → ¬ (IsMatch x p i) → LacksTextAt p x i
 no_match_lacks x p i utf8 some none = λ rest is. none (is_match-utf8 x p i utf8 some ∙ starts_with-from (drop i x) p rest is)
 
--- an empty pattern stands at the front
+-- an empty pattern is at the front
 empty_at_front : (x : List ℕ) → IsUtf8 x → IsMatch x [] 0
 empty_at_front x utf8 = and_from _ _ (is_char_boundary-from x 0 (IsCharBoundary-start x utf8)) refl
 
@@ -45,7 +45,7 @@ pub finds_good_range : (x p : List ℕ) (r : Option ℕ) → IsUtf8 x → IsUtf8
 finds_good_range x p None utf8 utf8_p first = tt
 finds_good_range x p (Some i) utf8 utf8_p first = good_range_from x i (i + length p) (omega arith) (match_begins x p i first.1) (match_ends x p i utf8 utf8_p first.1)
 
--- what stands before a match, and what stands after it, are good ranges too
+-- what comes before a match, and what comes after it, are good ranges too
 pub finds_good_before : (x p : List ℕ) (r : Option ℕ) → IsUtf8 x → IsFirst (IsMatch x p) 0 (length x + 1) r → IfSome r (λ i. IsTrue (is_good_range x 0 (Some i)))
 finds_good_before x p None utf8 first = tt
 finds_good_before x p (Some i) utf8 first = good_before x i utf8 (match_begins x p i first.1)

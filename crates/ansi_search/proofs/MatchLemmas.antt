@@ -1,4 +1,4 @@
--- Where a pattern stands in a text, and where it stands first.
+-- Where a pattern occurs in a text, and its first match.
 use Rattle.ansi_search.proofs.Common.{◌≡◌, ℕ, zero, suc, ◌+◌, ◌-◌, ◌<◌, ◌≤◌, max, inl, inr, Bool, true, false, ◌&&◌, ◌||◌, List, ◌∷◌, ◌++◌, take, drop, length, filter, nat_eq, nat_le, IsTrue, IsFalse, Option, Some, None, refl, sym, ◌∙◌, ap, ap₂, subst, arith, slice_get, slice_index, and_parts, and_from, cond_both, cases_lt, cases_eq, le-leb, leb-true, leb-false, true≢false, take-append-drop, take_at, drop-drop, take-append-le, get_or_append_left, get_or-drop, length-append, length-drop, drop-append-le, bytes_eq-Decides, IsCharBoundary-start, IsCharBoundary-from_rest, both_ways, range_with_len, starts_with, IsUtf8, IsCharBoundary, Nowhere, IsFirst, OccursAt, FindsNeedle, Passes, is_byte, OccursAt-split, OccursAt-from_part, ◌==◌, escape, has_escape, is_char_boundary, is_match, first_match_from, []}
 use Rattle.ansi_search.proofs.PositionLemmas.{no_character_goes_on-past, is_char_boundary-from}
 
@@ -10,7 +10,7 @@ starts_with-from x p rest is = (bytes_eq-Decides p (take (length p) x)).1 (sym (
 pub starts_with-splits : (x p : List ℕ) → starts_with nat_eq x p ≡ true → x ≡ p ++ drop (length p) x
 starts_with-splits x p h = sym (take-append-drop (length p) x) ∙ ap (λ v. v ++ drop (length p) x) (sym ((bytes_eq-Decides p (take (length p) x)).0 h))
 
--- A pattern that is a text stands at character boundaries alone.
+-- A pattern that is a text occurs only at character boundaries.
 
 pub boundary_at : (x p rest : List ℕ) (i : ℕ) → IsUtf8 p → 0 < length p → drop i x ≡ p ++ rest → IsCharBoundary x i
 boundary_at x p rest i utf8 some stands =
@@ -44,7 +44,7 @@ is_match-after x p y k j within is past =
 
 -- The first match.
 
--- the pattern stands at the place
+-- the pattern is at the place
 abbrev pub IsMatch : List ℕ → List ℕ → ℕ → Type 0
 IsMatch x p i = IsTrue (is_match x p i)
 
@@ -134,7 +134,7 @@ first_match_in x p v from place n start within is inside before first =
       is_match-drop x p place start within ∙ ap (λ u. is_match u p start) is ∙ first.1,
     )
 
--- at the end of x stands the empty pattern alone
+-- only the empty pattern is at the end of x
 
 pub empty_at_end : (x p : List ℕ) (from place : ℕ) → place ≡ length x → length p ≡ 0 → from ≤ place → Nowhere (IsMatch x p) from place → Some place ≡ first_match_from x p from
 empty_at_end x (b ∷ p) from place end none below before = absurd (omega (arith, none))

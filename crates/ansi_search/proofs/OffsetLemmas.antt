@@ -1,4 +1,4 @@
--- Where the plain bytes of a text stand in it: what stands before them and after them, and how far a walk there has come.
+-- The offsets of the plain bytes of a text: what comes before them and after them, and how far a walk there has come.
 use Rattle.ansi_search.proofs.Common.{◌≡◌, ◌≢◌, ℕ, zero, suc, ◌+◌, ◌-◌, ◌<◌, ◌≤◌, inl, inr, Bool, true, ◌↔◌, List, ◌∷◌, ◌++◌, length, take, drop, take-add, refl, sym, ◌∙◌, ap, subst, arith, IsTrue, if◌then◌else◌, nat_lt, length-append, false, drop-nil, drop-append_seam, cases_lt, lt-ltb, le-ltb, take_all, drop-append-le, drop-drop, drop_all, sameb, same_false, slice_range, IsCharBoundary-from_rest, IsCharBoundary, the_type, Kind, is_plain_byte, Piece, Text, spelling, ArePieces, pieces_of, plain_of, plain, pieces_are, pieces_of-unique, spelled, Item, Scan, GivesItem, pieces_left, is_mark, BeginsWithMark, gives_text, gives_mark, plain_of-mark, Rendition, apply, style_within, style_by_marks, style_by_marks-before, style_by_marks-text, style_by_marks-mark, no_character_goes_on, bytes_before, offset_of, StandsIn, []}
 use Rattle.ansi_items.specs.declared.ansitok.Kind.TheVariants.{Text as TextKind}
 use Rattle.ansi_search.proofs.SliceLemmas.{length-slice_range, take-append, drop-append, list_all-parts}
@@ -76,7 +76,7 @@ plain_of-after n (p ∷ ps) = plain_of-after n ps
 pub plain-after : (t : List ℕ) (n : ℕ) → plain (drop (offset_of t n) t) ≡ drop n (plain t)
 plain-after t n = ap plain_of (pieces_of-after t n) ∙ plain_of-after n (pieces_of t)
 
--- A step over the run w of t, or over a mark: the pieces before it and after it, and where it stands.
+-- A step over the run w of t, or over a mark: the pieces before it and after it, and its offset.
 
 pub record IsOverText (t w : List ℕ) (at next : ℕ) (old new : List Piece) : Type 0 where
   pub first : old ≡ Text w ∷ new
@@ -129,7 +129,7 @@ pub over_mark : {old new : Scan} {item : Item} {t w : List ℕ} → GivesItem ol
     → IsOverMark item.kind t w old.offset new.offset (pieces_left old) (pieces_left new)
 over_mark gives same is other = record { first = gives_mark gives same is other; count = item_count gives same is; bytes = item_bytes _ gives is }
 
--- How far a walk to the plain byte n has come: what has been passed, and what stands before the byte in what is left, stand before it in all; and so the style there.
+-- How far a walk to the plain byte n has come: what has been passed, and then what is before the byte in what is left, is what is before it in the whole text; and so with the style there.
 pub record IsOnTheWay (t : List ℕ) (n : ℕ) (start : Rendition) (passed left : ℕ) (style : Rendition) (ps : List Piece) : Type 0 where
   pub offset : passed + bytes_before left ps ≡ offset_of t n
   pub good : no_character_goes_on (plain_of ps) left ≡ no_character_goes_on (plain t) n
@@ -146,7 +146,7 @@ pub way-mark : {t : List ℕ} {n passed at left : ℕ} {start style next : Rendi
     → next ≡ apply style w → IsOnTheWay t n start at left next ps
 way-mark way over next_is = grind (arith, bytes_before-mark, plain_of-mark, style_by_marks-mark)
 
--- the byte stands in the text that comes next, or there is none
+-- the byte is in the text that comes next, or there is no such byte
 pub way-last : {t : List ℕ} {n passed at left : ℕ} {start style : Rendition} {w : List ℕ} {old ps : List Piece} → IsOnTheWay t n start passed left style old → IsOverText t w passed at old ps → left < length w
     → (passed + left ≡ offset_of t n) × (style ≡ style_within start t n)
 way-last way over last = grind (arith, bytes_before-last, style_by_marks-before)
@@ -155,7 +155,7 @@ pub way-end : {t : List ℕ} {n passed left : ℕ} {start style : Rendition} {ol
     → (passed ≡ offset_of t n) × (true ≡ no_character_goes_on (plain t) n) × (style ≡ style_within start t n)
 way-end way none = grind (arith, no_character_goes_on-past)
 
--- a position in a text that comes next is good where it is a boundary of all
+-- a position in a text that comes next is good if it is a boundary of the whole text
 good_in_next : (t : List ℕ) (at left : ℕ) (w : List ℕ) (ps : List Piece) → pieces_of (drop at t) ≡ Text w ∷ ps → left < length w
     → no_character_goes_on t (at + left) ≡ no_character_goes_on (w ++ plain_of ps) left
 good_in_next t at left w ps first last =
@@ -178,7 +178,7 @@ pub way-boundary : {t : List ℕ} {n passed at left i : ℕ} {start style : Rend
     → IsTrue (no_character_goes_on (plain t) n) → IsCharBoundary t i
 way-boundary {t} {i = i} way over last is good = (let here = way-good way over last is in good_is_boundary t i here.0 (here.1 ∙ good))
 
--- How far a walk has come: so many plain bytes and so many bytes of t have been passed, and each plain byte further on stands where it does in the pieces that are left.
+-- How far a walk has come: it has passed these numbers of plain bytes and of bytes of t, and each later plain byte has its offset by the pieces that are left.
 pub record IsPassed (t : List ℕ) (place passed : ℕ) (left : List Piece) : Type 0 where
   pub count : place + length (plain_of left) ≡ length (plain t)
   pub rest : drop place (plain t) ≡ plain_of left

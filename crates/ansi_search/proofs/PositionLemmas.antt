@@ -24,7 +24,7 @@ good_is_boundary x n within good = grind (arith, and_cases, leb-false, not-true)
 pub no_character_goes_on-boundary : (x : List ℕ) (n : ℕ) → IsCharBoundary x n → IsTrue (no_character_goes_on x n)
 no_character_goes_on-boundary x n boundary = grind (arith, and_left, and_right, no_character_goes_on-past, lt-leb, not_from_false)
 
--- a position where no character goes on is good, and of a text that is UTF-8 there is no other
+-- a position at which no character goes on is good, and a text that is UTF-8 has no other good positions
 
 pub is_good_position-from : (x : List ℕ) (n : ℕ) → IsTrue (no_character_goes_on x n) → IsTrue (is_good_position x n)
 is_good_position-from x n none = ap (λ b. n == 0 || b) none ∙ or-true (n == 0)
@@ -125,7 +125,7 @@ good_range_is x s e = (
   λ is. good_range_tests x s e is.0 ((good_position_is x s).1 is.1) ((good_position_is x e).1 is.2),
 )
 
--- Where a text may be divided and cut, its plain text is.
+-- If a text may be divided or cut at positions, so may its plain text.
 
 pub is_position_in-good : (t : List ℕ) (n : ℕ) → IsUtf8 t → is_position_in t n ≡ is_good_position (plain t) n
 is_position_in-good t n utf8 = grind (arith, eqb-true, is_good_position-past, leb-true, length-plain)
@@ -134,7 +134,7 @@ pub is_range_in-good : (t : List ℕ) (s : ℕ) (e : Option ℕ) → IsUtf8 t �
 is_range_in-good t s None utf8 = is_position_in-good t s utf8
 is_range_in-good t s (Some e) utf8 = ap₂ (λ a b. nat_le s e && (a && b)) (is_position_in-good t s utf8) (is_position_in-good t e utf8)
 
--- Nothing is answered exactly where a test fails.
+-- `None` is returned exactly if a test fails.
 
 pub none_if_bad : {b : Bool} → b ≡ false → (false ≡ false) ↔ (b ≡ false)
 none_if_bad is = (λ _. is, λ _. refl)

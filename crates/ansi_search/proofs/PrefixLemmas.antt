@@ -5,7 +5,7 @@ use Rattle.ansi_search.proofs.MatchLemmas.{no_escape-found}
 use Rattle.ansi_search.proofs.SliceLemmas.{drop-append}
 use Rattle.ansi_items.proofs.JoinLemmas.{plain-front}
 
--- no ESC stands in the first bytes
+-- the first bytes have no ESC
 pub front-bare : (t w : List ℕ) (n most : ℕ) → w ≡ take n t → n ≡ min most (length t) → IsFalse (has_escape w) → take most (plain t) ≡ take most (w ++ plain [])
 front-bare t w n most is size none = elim (cases_lt most (length t)) [
   | inl short ↦ (
@@ -31,7 +31,7 @@ no_text u (b ∷ w) ps are escapes =
     let first : b ≡ escape = sym (ap (λ v. slice_index v 0) are.1) ∙ escapes in
     true≢false (sym (and_parts (is_plain_byte b) (list_all is_plain_byte w) are.2.1).0 ∙ ap is_plain_byte first)
 
--- Whether the pattern stands there.
+-- Whether the pattern is there.
 
 -- it depends on the bytes up to the pattern's end alone
 starts_with-front : (x z p : List ℕ) (k n top : ℕ) → n ≡ min (k + length p) top → length x ≤ top → length z ≤ top → take n x ≡ take n z → starts_with nat_eq (drop k x) p ≡ starts_with nat_eq (drop k z) p

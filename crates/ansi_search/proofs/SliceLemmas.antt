@@ -17,7 +17,7 @@ length-slice_range x a b ordered within = length-take-le (b - a) (drop a x) (ome
 pub slice_range-min : {X : Type 0} (x : List X) (a b : ℕ) → slice_range x (min a (length x)) (min b (length x)) ≡ slice_range x a b
 slice_range-min x a b = grind (arith, slice_range-from_past, slice_range-past)
 
--- what is left of a list after so many of its elements, or after all
+-- what is left of a list after n of its elements, or after all
 pub slice_range-rest : {X : Type 0} (x : List X) (n k : ℕ) → k ≡ min n (length x) → slice_range x k (length x) ≡ drop n x
 slice_range-rest x n k is =
     let all : length x ≡ min (length x) (length x) = omega arith in
@@ -48,6 +48,6 @@ slice_range-append xs ys a b =
 pub slice_range-map : {X Y : Type 0} (f : X → Y) (xs : List X) (a b : ℕ) → slice_range (map f xs) a b ≡ map f (slice_range xs a b)
 slice_range-map f xs a b = ap (take (b - a)) (drop-map f a xs) ∙ take-map f (b - a) (drop a xs)
 
--- where all pass a test, so do all of each part
+-- if all pass a test, so do all of each part
 pub list_all-parts : (test : ℕ → Bool) (n : ℕ) (x : List ℕ) → list_all test x ≡ true → (list_all test (take n x) ≡ true) × (list_all test (drop n x) ≡ true)
 list_all-parts test n x all = and_parts _ _ (sym (list_all-append test (take n x) (drop n x)) ∙ ap (list_all test) (take-append-drop n x) ∙ all)

@@ -30,7 +30,7 @@ Precedes-opposed a b before after = omega (arith, before, after)
 
 -- The cut.
 
--- what stands before the place stands once more a period on
+-- what is before the place occurs again one period later
 front-stands : (p : List ℕ) (c d : ℕ) → c + d ≤ length p → starts_with nat_eq (drop d p) (take c p) ≡ true → (k : ℕ) → k < c → slice_index p k ≡ slice_index p (k + d)
 front-stands p c d fits starts k inside =
     let size : length (take c p) ≡ c = length-take-le c p (omega (arith, fits)) in

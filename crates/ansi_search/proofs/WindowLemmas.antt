@@ -6,7 +6,7 @@ use Rattle.ansi_search.proofs.MatchLemmas.{IsMatch, is_match-utf8, starts_with-o
 use Rattle.ansi_search.proofs.SliceLemmas.{length-slice_range}
 use Rattle.ansi_search.proofs.EndLemmas.{starts_with-within}
 
--- What stands in the plain text.
+-- What is in the plain text.
 
 meets-next : (x p : List ℕ) (i low n : ℕ) → MatchesBetween x p i low n → slice_index x (i + n) ≡ slice_index p n → MatchesBetween x p i low (n + 1)
 meets-next x p i low n meets same k from upto = elim (cases_lt k n) [
@@ -17,7 +17,7 @@ meets-next x p i low n meets same k from upto = elim (cases_lt k n) [
 pub meets-from : (x p : List ℕ) (i low c n : ℕ) → low ≤ c → MatchesBetween x p i low n → MatchesBetween x p i c n
 meets-from x p i low c n upto meets k from below = meets k (omega (arith, upto, from)) below
 
--- what stands in a run stands there
+-- what is in a run is in the plain text
 in-run : (x run : List ℕ) (place i : ℕ) → OccursAt x run place → place ≤ i → i < place + length run → slice_index x i ≡ slice_index run (i - place)
 in-run x run place i occurs past inside =
     let sum : i ≡ place + (i - place) = omega (arith, past) in
@@ -42,7 +42,7 @@ apart-both x p i c within other occurs =
 nowhere : (x p : List ℕ) (i j : ℕ) → Nowhere (OccursIn (slice_index p) (length p) (slice_index x) (length x)) i j → Nowhere (OccursAt x p) i j
 nowhere x p i j none k low high occurs = none k low high (record { fits = occurs.fits; reads = occurs.reads })
 
--- another byte than the next one, where the byte of p at the place r stands in no match before n
+-- the next byte isn't the byte of p at the place r, which is in no match before n
 pub reached-mismatch : {t p : List ℕ} {cut : CriticalCut} {start : ℕ} {w : Window} (run : List ℕ) (place r n : ℕ) → IsCut p cut → r ≤ cut.at → IsWindow t p cut.at start w → OccursAt (plain t) run place
     → place ≤ w.position + w.met → w.position + w.met < place + length run → slice_index run (w.position + w.met - place) ≢ slice_index p w.met
     → w.position + (w.met - cut.at) + 1 ≤ n → n + r ≤ place + length run → ((k : ℕ) → w.position + (w.met - cut.at) + 1 ≤ k → k < n → slice_index (plain t) (k + r) ≢ slice_index p r)
@@ -67,7 +67,7 @@ reached-mismatch {t} {p} {cut} {start} {w} run place r n is_cut upto comes occur
       none = Nowhere-then comes.reached.none (Nowhere-then here there);
     }
 
--- a byte that stands nowhere in the text from an offset of the run on, at which it would stand in a match at m
+-- a byte that doesn't occur in the text from an offset of the run on, at which a match at m would have it
 pub passed-in-run : {t run : List ℕ} {here : Point} (b m r from next n : ℕ) → OccursAt (plain t) run here.position → OccursAt t run here.offset
     → here.position ≤ m + r → from ≡ here.offset + (m + r - here.position) → n + r ≤ here.position + length run → n + from ≤ m + next
     → StandsNowhere b t from next → (k : ℕ) → m ≤ k → k < n → slice_index (plain t) (k + r) ≢ b
@@ -88,7 +88,7 @@ pub meets-last : {t p : List ℕ} {c start : ℕ} {w : Window} (run : List ℕ) 
     → MatchesBetween (plain t) p w.position w.low (length p)
 meets-last run place comes occurs past inside same last = grind (arith, in-run, meets-next)
 
--- what follows the cut stands, but no match: no match begins in the next places up to the shift
+-- what follows the cut matches, but all of it doesn't: no match begins in the next places up to the shift
 pub reached-apart : {t p : List ℕ} {cut : CriticalCut} {start : ℕ} {w : Window} → IsCut p cut → IsMismatch t p cut.at start w → IsReached t p start (w.position + cut.shift)
 reached-apart {t} {p} {cut} {start} {w} is_cut apart =
     let x = plain t in
@@ -154,7 +154,7 @@ run-occurs {new = new} {w = w} x place gives same kind left is within =
 pub run-length : {old new : Scan} {item : Item} {u : List ℕ} → GivesItem old item new → old.text ≡ u → length (slice_range u item.start item.end) ≡ item.end - item.start
 run-length {item = item} {u = u} gives same = length-slice_range u item.start item.end (omega (arith, gives.forward)) (omega (arith, gives.end_boundary.0, ap length same))
 
--- Whether the front stands.
+-- Whether the front matches.
 
 pub front-in-run : (x run f : List ℕ) (place i : ℕ) → OccursAt x run place → place ≤ i → i + length f ≤ place + length run → starts_with nat_eq (drop (i - place) run) f ≡ starts_with nat_eq (drop i x) f
 front-in-run x run f place i occurs past inside =
@@ -165,7 +165,7 @@ front-in-run x run f place i occurs past inside =
     ∙ drop-append-le (i - place) run rest (omega (arith, past, inside)) in
     sym (starts_with-within f (drop (i - place) run) rest (omega (arith, length-drop (i - place) run, past, inside))) ∙ ap (λ v. starts_with nat_eq v f) (sym splits)
 
--- A byte that stands nowhere in a text stands nowhere in its plain text.
+-- A byte that doesn't occur in a text doesn't occur in its plain text.
 
 abbrev Lacks : ℕ → List ℕ → Type 0
 Lacks b x = StandsNowhere b x 0 (length x)

@@ -58,7 +58,7 @@ interleaved_from-past (Text w ∷ ps) s d e past_d past_e =
     ∙ sym (interleaved_from-text false s e w ps (omega arith))
 interleaved_from-past (p ∷ ps) s d e past_d past_e = ap (λ v. spelling p ++ v) (interleaved_from-past ps s d e past_d past_e)
 
--- all marks stand up to there
+-- all marks are up to there
 pub marks_up_to-marks_past : (e : ℕ) (ps : List Piece) → length (plain_of ps) ≤ e → marks_up_to e (marks_of ps) ≡ marks_of ps
 marks_up_to-marks_past e [] past = refl
 marks_up_to-marks_past e (Text w ∷ ps) past =

@@ -14,7 +14,7 @@ pub at_places-further : (test : ℕ → Bool) (n : ℕ) (ms : List Mark) → at_
 at_places-further test n [] = refl
 at_places-further test n (m ∷ ms) = grind (arith, at_places-further test n ms)
 
--- a piece, where the test passes
+-- a piece, if the test passes
 abbrev pub piece_when : Bool → Piece → List Piece
 piece_when b p = if b then p ∷ [] else []
 
@@ -50,7 +50,7 @@ spelled-interleaved_pieces (p ∷ ps) test a b =
     ∙ shown-mark p test (plain_of ps) a b (marks_of ps)
     ∙ ap (λ ms. interleaved (plain_of ps) a b (at_places test ms)) (sym (marks_of-mark p ps refl))
 
--- Where the pieces stand anywhere, so does what is shown of them.
+-- If the pieces may come before anything, so may what is shown of them.
 
 plain-slice_range : (x : List ℕ) (a b : ℕ) → list_all is_plain_byte x ≡ true → list_all is_plain_byte (slice_range x a b) ≡ true
 plain-slice_range x a b all = (list_all-parts is_plain_byte (b - a) (drop a x) (list_all-parts is_plain_byte a x all).1).0
@@ -110,7 +110,7 @@ module _ {S : Type 0} (step : S → List ℕ → S) where
         (λ shown. seen_through-interleaved_none ps (step s (spelling p)) test a b none)
         (λ hidden. seen_through-interleaved_none ps s test a b none)
 
-    -- where each mark before the end is shown, their bytes are the slice
+    -- if each mark before the end is shown, their bytes are the slice
     pub seen_through-interleaved_pieces : (ps : List Piece) (s : S) (test : ℕ → Bool) (a b : ℕ) → ((p : ℕ) → p < b → test p ≡ true)
         → seen_through step seen s (interleaved_pieces test a b ps) ≡ slice_range (seen_through step seen s ps) a b
     seen_through-interleaved_pieces [] s test a b before = sym (slice_range-from_past [] a b (omega arith))

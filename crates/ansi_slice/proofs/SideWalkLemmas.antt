@@ -88,4 +88,4 @@ pub side-mark : {whole written new : List ℕ} {style next : Rendition} {n : ℕ
     → new ≡ written ++ copied (Sequence w) → next ≡ apply style w → IsSideSoFar whole new next n ps
 side-mark so_far begins more applied = grind (arith, append_assoc, side_up_to-mark)
 
--- the place stands in the text that comes next, or nothing is left
+-- the place is in the text that comes next, or nothing is left

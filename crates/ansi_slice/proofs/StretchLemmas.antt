@@ -1,4 +1,4 @@
--- A cut and a kept text as a stretch of the text, by where its plain bytes stand, and the sequences outside of it.
+-- A cut and a kept text as a stretch of the text, by the offsets of its plain bytes, and the sequences outside of it.
 use Rattle.ansi_slice.proofs.Common.{◌≡◌, ℕ, ◌+◌, ◌-◌, ◌<◌, ◌≤◌, inl, inr, Bool, true, List, [], ◌∷◌, ◌++◌, length, take, drop, take-add, refl, sym, ◌∙◌, ap, ap₂, subst, arith, if◌then◌else◌, nat_lt, length-append, append_assoc, append-nil, not, false, ◌&&◌, Some, drop-append_seam, cases_lt, le-leb, lt-ltb, nat_tests, take-append-le, length-drop, drop-drop, slice_range, IsCharBoundary, Kind, Piece, Text, ArePieces, pieces_of, plain_of, plain, pieces_are, pieces_of-unique, length-plain, spelled, spelled-pieces_of, is_mark, BeginsWithMark, Rendition, plain_style, apply, style_within, close, style_by_marks, style_by_marks-before, style_by_marks-mark, no_character_goes_on, is_good_range, cut_up_to, kept, bytes_before, sequences_up_to, offset_of, StandsIn, KeepsUpTo, spelling, joined, marks_of, marks_up_to, marks_of-text, marks_of-mark, marks_up_to-none, marks_up_to-further, marks_up_to-here}
 use Rattle.ansi_style.proofs.MarkLemmas.{joined-further}
 use Rattle.ansi_search.proofs.SliceLemmas.{slice_range-past, slice_range-from_past}
@@ -53,7 +53,7 @@ interleaved_from-front all (p ∷ ps) s e ordered =
     ap (λ v. spelling p ++ v) (interleaved_from-front all ps s e ordered) ∙ sym (append_assoc (spelling p) (sequences_up_to s ps) rest)
     ∙ ap (λ u. u ++ rest) (sym (sequences_up_to-mark s p ps refl))
 
--- the marks past the end, where all are shown
+-- the marks past the end, if all are shown
 abbrev later : Bool → ℕ → List Piece → List ℕ
 later all e ps = if all then interleaved_from true 0 0 (after_of e ps) else []
 
@@ -153,14 +153,14 @@ kept-rest inside stands is = grind (arith, kept-all, kept-front, length-drop, pl
 pub kept-stretch : (t : List ℕ) (e : ℕ) → kept t 0 e ≡ take (offset_of t e) t ++ kept (drop (offset_of t e) t) 0 0
 kept-stretch t e = grind (arith, kept-walk, pieces_of-after, interleaved_from-stretch, spelled-pieces_of)
 
--- so it is at a place in the text, and where that stands
+-- so it is at a place in the text, and the offset of that place
 pub keeps-at : {t : List ℕ} {n i : ℕ} → StandsIn t n i → KeepsUpTo t n i
 keeps-at {t} {n} stands = record {
   boundary = stands.boundary;
   bytes = kept-stretch t n ∙ ap (λ k. take k t ++ kept (drop k t) 0 0) (sym stands.offset);
 }
 
--- where no plain byte is kept, all sequences are
+-- if no plain byte is kept, all sequences are
 interleaved_from-none : (ps : List Piece) (top : ℕ) → length (plain_of ps) ≤ top → interleaved_from true 0 0 ps ≡ sequences_up_to top ps
 interleaved_from-none [] top past = refl
 interleaved_from-none (Text w ∷ ps) top past = grind (arith, length-append, sequences_up_to-text, interleaved_from-none ps (top - length w) (omega (arith, (length-append w (plain_of ps)), past)))

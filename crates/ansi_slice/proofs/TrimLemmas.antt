@@ -1,7 +1,7 @@
 -- What is left of a text without the white space at its ends is the slice over an interval.
 use Rattle.ansi_slice.proofs.Common.{◌≡◌, ℕ, ◌+◌, ◌-◌, true, ◌&&◌, ◌==◌, List, [], ◌∷◌, ◌++◌, take, drop, length, refl, sym, ◌∙◌, ap, ap₂, subst, arith, slice_range, length-append, append_assoc, cond_both, and_parts, encodes-append, chars-encodes, IsCharBoundary-at_seam, take-append_seam, drop-append_seam, IsUtf8, IsCharBoundary, chars, trim_start, trim_end, trim, skip_leading_whitespace, drop_trailing_whitespace, encode_utf8_all, all_scalars, is_whitespace, trim_interval}
 
--- The characters that are taken off stand at the front, and at the end.
+-- The characters that are taken off are at the front, and at the end.
 
 skipped : (cs : List ℕ) → (front : List ℕ) × (cs ≡ front ++ skip_leading_whitespace cs)
 skipped [] = ([], refl)

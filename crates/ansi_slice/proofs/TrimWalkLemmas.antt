@@ -9,7 +9,7 @@ use Rattle.ansi_slice.proofs.StretchLemmas.{keeps-inside, kept-front}
 pub IsUtf8-left : {old new : Scan} {item : Item} {text : List ℕ} → GivesItem old item new → old.text ≡ text → IsUtf8 text → IsUtf8 (plain_of (pieces_left new))
 IsUtf8-left gives same utf8 = grind (arith, IsUtf8-drop, IsUtf8-plain)
 
--- the characters of a text are none where it has no bytes
+-- an empty text has no characters
 no_chars : (cs : List ℕ) → length (encode_utf8_all cs) ≡ 0 → cs ≡ []
 no_chars [] none = refl
 no_chars (c ∷ cs) none = absurd (omega (arith, length-le-encodes (c ∷ cs), none))
@@ -85,7 +85,7 @@ trim_end-front x utf8 =
     let all : x ≡ kept ++ encode_utf8_all split.0 = sym (encodes-chars x utf8) ∙ ap encode_utf8_all split.1 ∙ encodes-append (drop_trailing_whitespace (chars x)) split.0 in
     ap (take (length kept)) all ∙ take-append_seam kept (encode_utf8_all split.0)
 
--- How far the walk over the white space at the front has come: so far all was white space, and so many bytes of it were counted.
+-- How far the walk over the white space at the front has come: so far all was white space, and its bytes were counted.
 pub record IsWhiteSoFar (whole len : ℕ) (left : List Piece) : Type 0 where
   pub white : len + length (plain_of left) - length (trim_start (plain_of left)) ≡ whole
 
@@ -103,7 +103,7 @@ pub white-end : {whole len : ℕ} {left : List Piece} → IsWhiteSoFar whole len
 unfolding trim_start
 white-end so_far none = grind (arith, chars-nil)
 
--- How far the walk for the end of what isn't white space has come: that end is ahead or, where white space alone is left, it is `end`.
+-- How far the walk for the end of what isn't white space has come: that end is ahead or, if only white space is left, it is `end`.
 pub record IsEndSoFar (whole place end : ℕ) (left : List Piece) : Type 0 where
   pub white : length (trim_end (plain_of left)) ≡ 0 → end ≡ whole
   pub other : 0 < length (trim_end (plain_of left)) → place + length (trim_end (plain_of left)) ≡ whole

@@ -64,7 +64,7 @@ plain_of-front e (Text w ∷ ps) = elim (cases_lt e (length w)) [
 ]
 plain_of-front e (p ∷ ps) = plain_of-front e ps
 
--- Marks that stand up to a position, and past it.
+-- Marks up to a position, and past it.
 
 marks_past-marks_up_to : (e : ℕ) (ms : List Mark) → marks_past (Some e) (marks_up_to e ms) ≡ []
 marks_past-marks_up_to e ms =
@@ -130,7 +130,7 @@ marks_cut e (p ∷ ps) =
       after = cut.after;
     }
 
--- What is shown of pieces, where nothing of the text y after them is.
+-- What is shown of pieces, if nothing of the text y after them is.
 interleaved-front : (ps : List Piece) (y : List ℕ) (a e : ℕ) → slice_range y (a - length (plain_of ps)) (e - length (plain_of ps)) ≡ [] → interleaved (plain_of ps ++ y) a e (marks_of ps) ≡ interleaved (plain_of ps) a e (marks_of ps)
 interleaved-front [] y a e none = interleaved-bare y a e ∙ ap₂ (slice_range y) (omega arith) (omega arith) ∙ none ∙ sym (interleaved-nil a e)
 interleaved-front (Text w ∷ ps) y a e none =
@@ -196,7 +196,7 @@ drop-take (suc a) e [] = ap (drop (suc a)) (take-nil e) ∙ sym (take-nil (e - s
 drop-take (suc a) zero (b ∷ w) = (let none : 0 ≡ 0 - suc a = omega arith in ap (λ n. take n (drop a w)) none)
 drop-take (suc a) (suc e) (b ∷ w) = drop-take a e w ∙ (let same : e - a ≡ suc e - suc a = omega arith in ap (λ n. take n (drop a w)) same)
 
--- A good position in the text that stands next is a boundary of the text.
+-- A good position in the text that comes next is a boundary of the text.
 pub boundary_in_next : (t : List ℕ) (position left : ℕ) (w : List ℕ) (ps : List Piece) → position ≤ length t → pieces_of (drop position t) ≡ Text w ∷ ps → left < length w
     → IsTrue (no_character_goes_on (w ++ plain_of ps) left) → IsCharBoundary t (position + left)
 boundary_in_next t position left w ps inside first last good =

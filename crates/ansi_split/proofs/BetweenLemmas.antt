@@ -16,7 +16,7 @@ between_more : (x p : List ℕ) (e k : ℕ) (is : List (ℕ × ℕ)) → e ≤ k
 between_more x p e k [] from stands none more = absurd more
 between_more x p e k (j ∷ is) from stands none more = (refl, from, stands, none, more)
 
--- what is taken of a match m and those after it, where b says whether m is taken
+-- what is taken of a match m and those after it, if b says whether m is taken
 abbrev pub taken_with : ℕ → ℕ → ℕ → List ℕ → Bool → List ℕ
 taken_with n e m ms b = (let more = without_overlaps n (if b then m + n else e) ms in if b then m ∷ more else more)
 
@@ -47,7 +47,7 @@ pub parts_are_between : (x p : List ℕ) → IsUtf8 x → IsUtf8 p → p ≢ [] 
 parts_are_between x p utf8 utf8_p some =
     are_between x p utf8 utf8_p some (length x + 1) 0 0 (omega arith) (omega arith) (λ i from to. absurd (omega (arith, to)))
 
--- Such intervals stand in the text, in turn.
+-- Such intervals are in the text, in order.
 
 between_in_turn : (x p : List ℕ) (d e : ℕ) (is : List (ℕ × ℕ)) → IsUtf8 p → p ≢ [] → d ≤ e → IsCharBoundary x e → AreBetween x p e is → AreInTurn x d is
 between_in_turn x p d e [] utf8 some le boundary are = tt

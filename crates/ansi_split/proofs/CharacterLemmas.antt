@@ -72,7 +72,7 @@ boundaries_from x (c ∷ cs) k scalars at end =
     ∙ ap₂ (λ xs ys. xs ++ ys) (no_boundaries x bytes.more later (k + 1) next bytes.go_on)
     (ap (λ j. filter test (range_with_len j n)) place ∙ boundaries_from x cs (k + length (encode_utf8 c)) both.1 after (omega (arith, end, total))))
 
--- The empty pattern stands at every boundary, and each is taken.
+-- The empty pattern occurs at every boundary, and each of its matches is taken.
 
 all_taken : (f : ℕ → Bool) (n k e : ℕ) → e ≤ k → without_overlaps 0 e (filter f (range_with_len k n)) ≡ filter f (range_with_len k n)
 all_taken f zero k e from = refl
@@ -110,7 +110,7 @@ slices_over-starts x (c ∷ cs) k e at end =
 pub slices_over-parts-empty : (x : List ℕ) → IsUtf8 x → slices_over x (parts x []) ≡ [] ∷ (map encode_utf8 (chars x) ++ [] ∷ [])
 slices_over-parts-empty x utf8 = grind (arith, encodes-chars, parts-empty, slices_over-starts)
 
--- They stand in the text, in turn.
+-- They are in the text, in order.
 
 starts_in_turn : (x cs : List ℕ) (k d e : ℕ) → all_scalars cs ≡ true → drop k x ≡ encode_utf8_all cs → k + length (encode_utf8_all cs) ≡ length x → d ≤ e → e ≤ k → IsCharBoundary x e
     → AreInTurn x d (intervals x e (starts k cs))

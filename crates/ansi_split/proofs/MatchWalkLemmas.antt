@@ -4,7 +4,7 @@ use Rattle.ansi_split.proofs.AfterLemmas.{is_cut_after}
 use Rattle.ansi_split.proofs.RestLemmas.{no_escape-parts, no_escape-text}
 use Rattle.ansi_split.proofs.SpanLemmas.{is_cut_at_match}
 
--- The first match of x from a place on, by what stands from there.
+-- The first match of x from a place on, by what follows that place.
 
 first_match-after : (x y p : List ℕ) (k d : ℕ) → k ≤ length x → drop k x ≡ y → first_match_from x p (k + d) ≡ option_map (λ m. k + m) (first_match_from y p d)
 first_match-after x y p k d within is = sym (first_match_from-is x p (k + d) (option_map (λ m. k + m) (first_match_from y p d)) (moved (first_match_from y p d) (first_match_from-first y p d)))
@@ -26,7 +26,7 @@ first_match-after x y p k d within is = sym (first_match_from-is x p (k + d) (op
           is_match-drop x p k m within ∙ ap (λ u. is_match u p m) is ∙ first.1,
         )
 
--- A front of a text is read to this style, and is marked where an ESC stands in it.
+-- A front of a text is read to this style, and is marked if it has an ESC.
 pub record IsFrontRead (c : Rendition) (front : List ℕ) (style : Rendition) (marked : Bool) : Type 0 where
   pub is_style : style ≡ style_after_from c front
   pub is_marked : marked ≡ has_escape front
@@ -35,7 +35,7 @@ pub record IsFrontRead (c : Rendition) (front : List ℕ) (style : Rendition) (m
 has_escape-append : (u w : List ℕ) → IsFalse (has_escape w) → has_escape (u ++ w) ≡ has_escape u
 has_escape-append u w none = list_any-append (λ b. b == escape) u w ∙ ap (λ b. has_escape u || b) none ∙ or-false (has_escape u)
 
--- The walk has come to a place and an offset of t. A match of p is still to be looked for, so many bytes ahead; where a place of what is left stands, and in which style, it stands in all.
+-- The walk has come to a place and an offset of t. A match of p is still to be looked for, `ahead` bytes on; a place of what is left has the offset and the style that it has in the whole text.
 pub record IsWalked (c : Rendition) (t p : List ℕ) (from offset ahead : ℕ) (style : Rendition) (marked : Bool) (left : List Piece) : Type 0 where
   pub place : ℕ
   pub within : place ≤ length (plain t)
@@ -136,7 +136,7 @@ walked-cut {c} {t} {p} {from} {offset} {ahead} {start} {n} {after} {style} {mark
 at_end : {c : Rendition} {t p : List ℕ} {from offset ahead : ℕ} {style : Rendition} {marked : Bool} → (walked : IsWalked c t p from offset ahead style marked []) → walked.place ≡ length (plain t)
 at_end {t = t} walked = omega (arith, ap length walked.rest, length-drop walked.place (plain t), walked.within)
 
--- nothing is left: the front is all of the text, and only the empty pattern may stand at its end
+-- nothing is left: the front is all of the text, and only the empty pattern may be at its end
 pub walked-end : {c : Rendition} {t p : List ℕ} {from offset ahead : ℕ} {style : Rendition} {marked : Bool} {left : List Piece}
     → IsWalked c t p from offset ahead style marked left → left ≡ [] → offset ≡ length t → IsFrontRead c t style marked
 walked-end {c} {t} {p} {from} {offset} {ahead} {style} {marked} {left} walked is end =

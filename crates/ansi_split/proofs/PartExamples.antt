@@ -25,7 +25,7 @@ parts_of_texts : MakesRows (λ (x : List ℕ × List ℕ). all_parts x.0 x.1) (
 unfolding digits part_from
 parts_of_texts = refl
 
--- a part is a borrow where no sequence stands in it, and it is empty or no style is carried
+-- a part is a borrow if it has no sequence, and is empty or no style is carried
 borrowed_parts : MakesRows (λ (x : List ℕ × List ℕ × ℕ). map (is_part_borrowed x.0 x.1) (range_with_len 0 x.2)) (
     ((codes "\u{1b}[31mlionXXtigerXleopard\u{1b}[0m", codes "X", 4), false ∷ true ∷ false ∷ false ∷ [])
     ∷ ((codes "\u{1b}[99ma,b", codes ",", 2), false ∷ true ∷ [])

@@ -89,7 +89,7 @@ joined_once : (m : Mark) (fs gs hs : List Mark) (a b c : Bool) → length (joine
     → length (joined (if a then m ∷ fs else fs)) + length (joined (if b then m ∷ gs else gs)) ≤ length (joined (if c then m ∷ hs else hs))
 joined_once m fs gs hs a b c later one other = grind (arith, length-append, true≢false)
 
--- the bytes of marks at places of two kinds, where no place is of both, are among those at places of a third
+-- the bytes of marks at places of two kinds, if no place is of both, are among those at places of a third
 joined_among : (f g h : ℕ → Bool) (ms : List Mark) → ((p : ℕ) → f p ≡ true → (g p ≡ false) × (h p ≡ true)) → ((p : ℕ) → g p ≡ true → h p ≡ true)
     → length (joined (at_places f ms)) + length (joined (at_places g ms)) ≤ length (joined (at_places h ms))
 joined_among f g h [] first second = omega arith
@@ -106,7 +106,7 @@ marks_of_one (Some e) i ms comes =
     subst (λ own. length (joined own) + length (joined (marks_past (Some i.1) ms)) ≤ length (joined (marks_past (Some e) ms))) (sym (marks_past-places (Some e) i.1 ms))
     (joined_among (own_places (Some e) i.1) (nat_lt i.1) (nat_lt e) ms (λ p own. (grind (arith, nat_tests), grind (arith, nat_tests))) (λ p later. grind (arith, nat_tests)))
 
--- how many of n plain bytes stand past the end of the part before
+-- how many of n plain bytes are past the end of the part before
 abbrev remaining : Option ℕ → ℕ → ℕ
 remaining None n = n
 remaining (Some e) n = n - e

@@ -1,4 +1,4 @@
--- Each sequence of a whole text that is no SGR stands in one of its parts, and they stay in order.
+-- Each sequence of a whole text that is no SGR is in one of its parts, and the sequences stay in order.
 use Rattle.ansi_split.proofs.Common.{◌≡◌, ℕ, ◌+◌, ◌-◌, ◌≤◌, Bool, true, not, ◌&&◌, ◌==◌, List, [], ◌∷◌, ◌++◌, map, flat_map, filter, zip, length, nat_le, Option, Some, None, is_some, refl, sym, ◌∙◌, ap, ap₂, arith, IsTrue, append-nil, append_assoc, length-append, if◌then◌else◌, cond_both, cond-false, and_parts, eqb-true, le-leb, filter-append, list_all, is_sgr, Piece, Text, Sequence, after_text, merged, pieces_of, Mark, plain_of, plain, marks, marks_up_to, is_whole, is_other, other_sequences, Rendition, IsStyle, written, start_codes, start, close_if_any, style_at, interleaved, match_places, without_overlaps, parts, marks_past, carried, part_over, all_parts, one_text, slice_range-none, interleaved-bare, spelled, AllStandAnywhere, pieces_of-spelled, AreCodes, code_pieces, start_codes_are, dressed_pieces, interleaved_pieces, part_from, plain_style}
 use Rattle.ansi_style.proofs.ColorLemmas.{is_code_byte, sgr_parameters-written}
 use Rattle.ansi_split.proofs.IntervalLemmas.{ComesAfter, ComeAfter, all_parts_come_after}
@@ -52,7 +52,7 @@ others-interleaved_pieces [] test a b c d = refl
 others-interleaved_pieces (Text w ∷ ps) test a b c d = grind (arith, filter-append, others-one_text, others-interleaved_pieces ps (λ p. test (length w + p)) (a - length w) (b - length w) (c - length w) (d - length w))
 others-interleaved_pieces (p ∷ ps) test a b c d = grind (arith, filter-append, others-interleaved_pieces ps test a b c d)
 
--- where each place up to the end passes, they are all
+-- if each place up to the end passes, they are all
 others-interleaved_all : (ps : List Piece) (test : ℕ → Bool) → ((p : ℕ) → p ≤ length (plain_of ps) → test p ≡ true) → others (interleaved_pieces test 0 0 ps) ≡ others ps
 others-interleaved_all [] test all = refl
 others-interleaved_all (Text w ∷ ps) test all = grind (arith, filter-append, length-append, others-one_text, others-interleaved_pieces, others-interleaved_all ps (λ p. test (length w + p)) (λ p within. all (length w + p) (omega (arith, within, length-append w (plain_of ps)))))

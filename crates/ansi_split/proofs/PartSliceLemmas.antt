@@ -14,7 +14,7 @@ interleaved_pieces-nothing test a b [] never none = refl
 interleaved_pieces-nothing test a b (Text w ∷ ps) never none = grind (arith, slice_range-none, interleaved_pieces-nothing (λ p. test (length w + p)) (a - length w) (b - length w) ps (λ p. never (length w + p)) (omega arith))
 interleaved_pieces-nothing test a b (p ∷ ps) never none = ap₂ (λ c qs. piece_when c p ++ qs) (never 0) (interleaved_pieces-nothing test a b ps never none)
 
--- places before k pass `early`, places from k on pass `late` where they pass `both`
+-- places before k pass `early`; places from k on pass `late` if they pass `both`
 pub record Divides (k : ℕ) (early late both : ℕ → Bool) : Type 0 where
   pub early_before : (p : ℕ) → p < k → early p ≡ true
   pub early_from : (p : ℕ) → k ≤ p → early p ≡ false
@@ -178,7 +178,7 @@ style_through-own_pieces t before i after =
     ap (λ s. style_through s (own_pieces t before i)) (carried-places t before)
     ∙ state-divided apply plain_style t (own_from before) (earlier_places before) (own_places before i.1) (λ p. nat_le p i.1) i (part_divides before i after) (own_from_after before i after)
 
--- The codes that close a style, where anything is set that a reader could see.
+-- The codes that close a style, if anything is set that a reader could see.
 
 abbrev pub closing_codes : Rendition → List (List ℕ)
 closing_codes q = if has_any q then close_codes q else []

@@ -39,7 +39,7 @@ plain-part_over t before i whole after =
 abbrev pub parts_over : List ℕ → Option ℕ → List (ℕ × ℕ) → List (List ℕ)
 parts_over t before is = map (λ (q : SplitPart). q.bytes) (parts_from plain_style t before is)
 
--- where h gives the part of each index, from a on
+-- if h gives the part of each index, from a on
 filter_map-parts : (t : List ℕ) (h : ℕ → Option (List ℕ)) (before : Option ℕ) (is : List (ℕ × ℕ)) (a : ℕ)
     → ((j : ℕ) → h (a + j) ≡ option_map (part_over t (end_after before is j)) (slice_get is j)) → filter_map h (range_with_len a (length is)) ≡ parts_over t before is
 filter_map-parts t h before [] a gives = refl
@@ -64,7 +64,7 @@ length-parts_over t before (i ∷ is) = ap suc (length-parts_over t (Some i.1) i
 pub length-all_parts : (t p : List ℕ) → length (all_parts t p) ≡ length (parts (plain t) p)
 length-all_parts t p = ap length (all_parts-over t p) ∙ length-parts_over t None (parts (plain t) p)
 
--- where g reads each part as v does its interval
+-- if g reads each part as v does its interval
 
 map-parts_over : {Z : Type 0} (t : List ℕ) (g : List ℕ → Z) (v : ℕ × ℕ → Z) (before : Option ℕ) (is : List (ℕ × ℕ))
     → ((k : ℕ) (i : ℕ × ℕ) → slice_get is k ≡ Some i → g (part_over t (end_after before is k) i) ≡ v i) → map g (parts_over t before is) ≡ map v is

@@ -16,7 +16,7 @@ filled : (w : List ℕ) (k : ℕ) → k < length w → w ≢ []
 filled [] k inside = absurd (omega arith)
 filled (b ∷ w) k inside = λ e. cc
 
--- The first match from a place on, where it may be looked for from a later one.
+-- The first match from a place on, if it may be looked for from a later one.
 
 first_later : (x p : List ℕ) (from k : ℕ) → from ≤ k → Nowhere (IsMatch x p) from k → first_match_from x p k ≡ first_match_from x p from
 first_later x p from k before none = first_match_from-is x p from (first_match_from x p k) (widened (first_match_from x p k) (first_match_from-first x p k))
@@ -76,7 +76,7 @@ ends_in_run w p tail first start None some byte begins is found none = λ y i in
   | inr fits ↦ omega (arith, fits)
 ]
 
--- where each match that begins in the run ends in it, and none does from a place on, the first one from there is the first after the run
+-- if each match that begins in the run ends in it, and none begins there from a place on, the first match from that place on is the first after the run
 pub start_after_run : (t w p : List ℕ) (run from : ℕ) → w ≡ take run t → IsFalse (has_escape (take run t)) → run ≤ length t → from ≤ run
     → ((y : List ℕ) (i : ℕ) → i < length w → IsMatch (w ++ y) p i → i + length p ≤ length w) → Nowhere (IsMatch w p) from (length w) → first_match_from (plain t) p run ≡ first_match_from (plain t) p from
 start_after_run t w p run from is bare inside before fits none =
@@ -87,7 +87,7 @@ start_after_run t w p run from is bare inside before fits none =
     ∙ first_later (w ++ y) p from (length w) (omega (arith, size, before)) (λ i low high match. none i low high (sym (is_match-front w y p i high (fits y i high match)) ∙ match))
     ∙ ap (λ v. first_match_from v p from) (sym x)
 
--- the first match of all, or a place past the end where there is none
+-- the first match of all, or a place past the end if there is none
 pub first_or_past : (x p : List ℕ) (from past : ℕ) → length x < past → first_match_from x p (unwrap_or (first_match_from x p from) past) ≡ first_match_from x p from
 first_or_past x p from past below = by_match (first_match_from x p from) refl
   where
@@ -143,12 +143,12 @@ boundary-drop t place run before boundary = grind (arith, get_or-drop, length-dr
 pub no_escape-drop : (t : List ℕ) (place run : ℕ) → IsFalse (has_escape (take run t)) → IsFalse (has_escape (take (run - place) (drop place t)))
 no_escape-drop t place run none = ap has_escape (sym (drop-take place run t)) ∙ (no_escape-parts place (take run t) none).1
 
--- of a run that stands further on, what follows a place in it
+-- what follows a place in a run that is further on
 pub no_escape-later : (t : List ℕ) (begin end ahead : ℕ) → IsFalse (has_escape (slice_range t begin end)) → IsFalse (has_escape (take (end - (begin + ahead)) (drop (begin + ahead) t)))
 no_escape-later t begin end ahead none =
     let size : end - (begin + ahead) ≡ end - begin - ahead = omega arith in
     ap has_escape (ap₂ (λ n v. take n v) size (sym (drop-drop ahead begin t))) ∙ no_escape-drop (drop begin t) ahead (end - begin) none
 
--- The first piece, where it is a text.
+-- The first piece, if it is a text.
 pub no_escape-text : (t w : List ℕ) (ps : List Piece) → pieces_of t ≡ Text w ∷ ps → IsFalse (has_escape w)
 no_escape-text t w ps first = has_escape-bare w (subst (ArePieces t) first (pieces_are t)).2.1

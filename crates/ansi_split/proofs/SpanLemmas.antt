@@ -1,4 +1,4 @@
--- The parts that are left of a text: the first one, which is written from what stands up to its end, and those of what follows.
+-- The parts that are left of a text: the first one, which is written from the text up to its end, and those of what follows.
 use Rattle.ansi_split.proofs.Common.{◌≡◌, ℕ, ◌+◌, ◌-◌, ◌≤◌, max, inl, inr, Bool, not, ◌&&◌, ◌||◌, ◌==◌, List, [], ◌∷◌, ◌++◌, length, map, take, drop, Option, Some, None, refl, sym, ◌∙◌, ap, ap₂, subst, arith, IsTrue, if◌then◌else◌, nat_eq, nat_lt, nat_le, length-append, cases_lt, and_parts, and_from, le-leb, nat_tests, length-map, length-drop, length-take-le, get_or-take, take_at, take-append-drop, filter_agree, IsUtf8-drop, IsCharBoundary-from_take, IsCharBoundary-start, starts_with, IsUtf8, pieces_of, Mark, plain, marks, marks_up_to, no_character_goes_on, is_char_boundary, Rendition, has_any, start, close_if_any, after_marks, style_after_from, style_within, interleaved, match_places, first_match_from, without_overlaps, marks_past, SplitPart, marks_further_on, IsCutAfter, IsCutAtMatch, carried, part_from, parts_from, parts_left, span_part, slice_range-from_past, marks_up_to-marks_past, interleaved-text, IsUtf8-plain, at_places, at_places-further, good_is_boundary, no_character_goes_on-past, is_char_boundary-from, starts_with-splits}
 use Rattle.ansi_split.proofs.PartSliceLemmas.{own_places, marks_past-places, at_places-at_places}
 use Rattle.ansi_split.proofs.TakenLemmas.{is_first_taken, without_overlaps-none, between, between-further, moved_on}
@@ -13,12 +13,12 @@ marks_past-none (m ∷ ms) = ap (λ ks. m ∷ ks) (marks_past-none ms)
 pub own-whole : (t : List ℕ) → marks_past None (marks_up_to (length (plain t)) (marks t)) ≡ marks t
 own-whole t = marks_past-none (marks_up_to (length (plain t)) (marks t)) ∙ marks_up_to-marks_past (length (plain t)) (pieces_of t) (omega arith)
 
--- where a part of what follows m ends, in all of the text; before the first, at m
+-- the end, in the whole text, of a part of what follows m; before the first part it is m
 abbrev moved_end : ℕ → Option ℕ → Option ℕ
 moved_end m None = Some m
 moved_end m (Some e) = Some (m + e)
 
--- the marks of a part that stands after m, which are those after m that pass a test
+-- the marks of a part that is after m, which are those after m that pass a test
 own-further : (f : ℕ → Bool) (before later : Option ℕ) (m b : ℕ) (ms ks : List Mark) → ((p : ℕ) → own_places before (m + b) p ≡ (nat_lt m p && f p)) → ((p : ℕ) → f (m + p) ≡ own_places later b p)
     → marks_past (Some m) ms ≡ marks_further_on m ks → marks_past before (marks_up_to (m + b) ms) ≡ marks_further_on m (marks_past later (marks_up_to b ks))
 own-further f before later m b ms ks after moved is =
@@ -97,7 +97,7 @@ unfolding parts_left
 parts_left-last c t p skip from none =
     ap (λ taken. parts_from c t None (between (length p) skip (length (plain t)) taken)) (without_overlaps-none (length p) from (match_places (plain t) p) none)
 
--- and with one at m, the first is what stands before it.
+-- and with one at m, the first is what comes before it.
 pub parts_left-first : (c : Rendition) (t p : List ℕ) (skip from : ℕ) (front after : List ℕ) → IsCutAtMatch t p from front after
     → parts_left c t p skip from ≡ span_part c front skip ∷ parts_left (style_after_from c front) after p (length p) (max (length p) 1)
 unfolding parts_left
@@ -119,7 +119,7 @@ parts_left-first c t p skip from front after at_match =
     (ap (parts_from c t (Some m)) moved ∙ parts-after c t m front after None (between n n (length (drop m x)) ms) first.inside cut
     ∙ ap₂ (λ s y. parts_from s after None (between n n (length y) (without_overlaps n (max n 1) (match_places y p)))) style (sym cut.plain_after))
 
--- Where the plain bytes that are left out end, a character does.
+-- The plain bytes that are left out end with a character.
 
 pub skip_at_front : (t : List ℕ) → IsUtf8 t → IsTrue (is_char_boundary (plain t) 0)
 skip_at_front t utf8 = is_char_boundary-from (plain t) 0 (IsCharBoundary-start (plain t) (IsUtf8-plain t utf8))
@@ -157,7 +157,7 @@ pub is_cut_at_match : (t p : List ℕ) (from m : ℕ) (front after : List ℕ) �
     → IsCutAtMatch t p from front after
 is_cut_at_match t p from m front after utf8 utf8_p found cut = record { place = m; first = found; cut = cut; match_end = match_ends t p from m front after utf8 utf8_p found cut }
 
--- a match stands at a good position
+-- a match is at a good position
 pub match_is_good : (x p : List ℕ) (from m : ℕ) → first_match_from x p from ≡ Some m → IsTrue (no_character_goes_on x m)
 match_is_good x p from m found =
     let first = is_first_taken x p from m found in

@@ -4,11 +4,11 @@ use Rattle.ansi_slice.specs.Kept.{kept}
 use Rattle.ansi_slice.proofs.KeptWalkLemmas.{kept-all}
 use Rattle.ansi_split.proofs.AfterLemmas.{boundary_in_next}
 
--- all of the pieces but for so many plain bytes at their front
+-- all of the pieces but for n plain bytes at their front
 abbrev pub left_of : ℕ → List Piece → List ℕ
 left_of skip ps = interleaved (plain_of ps) skip (length (plain_of ps)) (marks_of ps)
 
--- a text without a sequence stands as it is
+-- a text without a sequence is unchanged
 pub shown-bare : (t : List ℕ) (skip : ℕ) → has_escape t ≡ false → left_of skip (pieces_of t) ≡ drop skip t
 shown-bare t skip none =
     ap₂ (λ x ms. interleaved x skip (length x) ms) (plain-bare t none) (marks-bare t none)
@@ -46,7 +46,7 @@ left_of-rest : (t : List ℕ) → left_of 0 (pieces_of t) ≡ t
 unfolding kept
 left_of-rest t = kept-all t (length (plain t)) (omega arith)
 
--- in a text, what follows stands as it is
+-- in a text, what follows is unchanged
 pub shown-rest : {t whole written last v : List ℕ} {skip begin at next : ℕ} {w : List ℕ} {left ps : List Piece} → IsShownSoFar whole written skip left → IsOverText t w at next left ps → skip ≤ length w
     → begin ≡ at → v ≡ drop (begin + skip) t → last ≡ written ++ v → last ≡ whole
 shown-rest {t} {whole} {written} {last} {v} {skip} {begin} {at} {next} {w} {left} {ps} so_far over inside begin_is v_is last_is =
@@ -82,7 +82,7 @@ shown-mark {whole} {old} {new} {skip} {kind} {w} {left} {ps} so_far begins more 
     } in
     rw (more, ← begins.bytes) step
 
--- The start, the text and the close where the style has any are the part.
+-- The start, the text, and the close if the style has one, are the part.
 
 span_text-is : (c : Rendition) (t : List ℕ) (skip : ℕ) (after : Rendition) → after ≡ style_after_from c t → (start c ++ left_of skip (pieces_of t)) ++ close_if_any after ≡ span_text c t skip
 unfolding span_text

@@ -35,7 +35,7 @@ slice_get-parts_left t p k =
     ap (λ qs. slice_get qs k) (parts_left-begin t p) ∙ slice_get-parts_from plain_style t None is k
     ∙ ap (λ b. option_map (part_from plain_style t b) (slice_get is k)) (end_after-none is k)
 
--- Where no ESC stands, each part is a borrow.
+-- Each part of a text without ESC is a borrow.
 
 pub style_at-bare : (t : List ℕ) (i : ℕ) → IsFalse (has_escape t) → style_at t i ≡ plain_style
 style_at-bare t i none = ap (λ ms. style_of (marks_up_to i ms)) (marks-bare t none)
@@ -75,7 +75,7 @@ escape_is_marked t some = by_marks (marks t) (λ none. no_escape_after t (pieces
     by_marks [] bare = absurd (true≢false (sym some ∙ bare refl))
     by_marks (m ∷ ms) bare = ne_eqb (length (m ∷ ms)) 0 (λ e. omega (arith, e))
 
--- A part that is all of a text but its first bytes: whether it is a borrow, and what is written where it is none.
+-- A part that is all of a text but its first bytes: whether it is a borrow, and what is written if it isn't.
 
 span_part-borrowed : (c : Rendition) (t : List ℕ) (skip : ℕ) → (span_part c t skip).borrowed ≡ (length (marks t) == 0 && (skip == length (plain t) || not (has_any c)))
 unfolding part_from
@@ -85,7 +85,7 @@ pub bytes-owned : (c : Rendition) (t : List ℕ) (skip : ℕ) → (span_part c t
 unfolding part_from span_text
 bytes-owned c t skip owned = grind (arith, own-whole, span_part-borrowed, true≢false, marks_up_to-marks_past)
 
--- It is none where a sequence stands in it, or it isn't empty and a style is carried,
+-- It is no borrow if it has a sequence, or if it isn't empty and a style is carried,
 
 pub owned-escape : (c : Rendition) (t : List ℕ) (skip : ℕ) → has_escape t ≡ true → (span_part c t skip).borrowed ≡ false
 owned-escape c t skip some = span_part-borrowed c t skip ∙ ap (λ b. b && (skip == length (plain t) || not (has_any c))) (escape_is_marked t some)
@@ -93,7 +93,7 @@ owned-escape c t skip some = span_part-borrowed c t skip ∙ ap (λ b. b && (ski
 pub owned-styled : (c : Rendition) (t : List ℕ) (skip : ℕ) → has_escape t ≡ false → (skip == length t) ≡ false → has_any c ≡ true → (span_part c t skip).borrowed ≡ false
 owned-styled c t skip none filled any = grind (arith, and-false, plain-bare, span_part-borrowed)
 
--- and else it stands in the text as it is.
+-- and else it is a slice of the text.
 
 pub record IsBare (c : Rendition) (t : List ℕ) (skip : ℕ) : Type 0 where
   pub bytes : (span_part c t skip).bytes ≡ drop skip t
@@ -135,7 +135,7 @@ no_part_at t p k none = grind (arith, none-some, slice_get-parts_left)
 
 -- The parts left at first are all of them.
 
--- a list is what h gives of each index, from a on, where h gives of that of an element the element
+-- a list is what h gives for each index, from a on, if h gives each element for its index
 by_index : {X : Type 0} (h : ℕ → X) (xs : List X) (a : ℕ) → ((j : ℕ) (x : X) → slice_get xs j ≡ Some x → h (a + j) ≡ x) → xs ≡ map h (range_with_len a (length xs))
 by_index h [] a gives = refl
 by_index h (x ∷ xs) a gives =

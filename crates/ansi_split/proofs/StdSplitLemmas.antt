@@ -1,4 +1,4 @@
--- Between the first matches of a pattern stand the texts that std's `split` gives, and no others.
+-- The texts between the first matches of a pattern are those that std's `split` gives.
 use Rattle.ansi_split.proofs.Common.{◌≡◌, ◌≢◌, ℕ, ◌+◌, ◌-◌, ◌<◌, ◌≤◌, Bool, true, false, List, [], ◌∷◌, ◌++◌, take, drop, length, Some, None, refl, sym, ◌∙◌, ap, ap₂, subst, arith, slice_index, slice_range, length-take, true≢false, cases_order, drop-drop, get_or-drop, take_all, IsUtf8, IsCharBoundary, FindsText, LacksTextAt, HasTextAt, IsSplitAtFirstMatch, parts, GoesOn, AreSplit, AreBetween, slices_over}
 use Rattle.std.proofs.Common.{length-drop}
 use Rattle.ansi_split.proofs.BetweenLemmas.{length-nonempty, parts_are_between}

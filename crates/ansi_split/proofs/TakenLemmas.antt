@@ -65,7 +65,7 @@ pub record IsTaken (q : ℕ → Bool) (n from i k m : ℕ) : Type 0 where
   pub fits : m < i + k
   pub passes : q m ≡ true
 
--- a number in front of others, where it passes
+-- a number in front of others, if it passes
 abbrev in_front : ℕ → List ℕ → Bool → List ℕ
 in_front i ks b = if b then i ∷ ks else ks
 
@@ -97,7 +97,7 @@ is_taken : (q : ℕ → Bool) (n from i k m : ℕ) → slice_get (filter (nat_le
 is_taken q n from i zero m found = absurd (none-some m found)
 is_taken q n from i (suc k) m found = grind (arith, le-leb, lt-leb, same_Some, taken_here, taken_later, is_taken q n from (i + 1) k m)
 
--- The first match of a text at or past `from`, and those after it, which are those of what stands after its first byte.
+-- The first match of a text at or past `from`, and those after it, which are those of what follows its first byte.
 pub record IsFirstTaken (x p : List ℕ) (from m : ℕ) : Type 0 where
   pub taken : without_overlaps (length p) from (match_places x p) ≡ m ∷ map (λ k. m + k) (without_overlaps (length p) (max (length p) 1) (match_places (drop m x) p))
   pub at : from ≤ m
@@ -124,7 +124,7 @@ is_first_taken x p from m found =
       matches = first.passes;
     }
 
--- The intervals between matches that stand m further on are further on.
+-- If all matches are m further on, so are the intervals between them.
 
 abbrev pub moved_on : ℕ → ℕ × ℕ → ℕ × ℕ
 moved_on m i = (m + i.0, m + i.1)

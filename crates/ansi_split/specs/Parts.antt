@@ -32,7 +32,7 @@ end_before intervals (suc k) = option_map (λ (i : ℕ × ℕ). i.1) (slice_get 
 abbrev pub marks_past : Option ℕ → List Mark → List Mark
 marks_past before ms = filter (λ m. option_map_or (λ e. nat_lt e m.place) before true) ms
 
--- a part as a split gives it: its bytes, whether it is a borrow, and its source length, how many bytes of the text it has without those that are written for its style
+-- a part as a split gives it: its bytes, whether it is a borrow, and its source length, which is the number of its bytes that come from the text
 pub record SplitPart : Type 0 where
   pub bytes : List ℕ
   pub borrowed : Bool

@@ -16,7 +16,7 @@ split_part t p k = record { bytes = unwrap_or (part t p k) []; borrowed = is_par
 abbrev pub split_parts : List ℕ → List ℕ → List SplitPart
 split_parts t p = map (split_part t p) (range_with_len 0 (length (parts (plain t) p)))
 
--- the text is this part; beside its source length of the text split, it has at most a start and a close
+-- the text is this part, and is at most as long as its source length, a start and a close together
 abbrev pub IsPart : {A : Type 0} → SplitPart → CowStr A → Type 0
 IsPart p c = (cow_str_bytes c ≡ p.bytes) × (IsBorrowedStr c ↔ IsTrue p.borrowed) × (length (cow_str_bytes c) ≤ p.source_len + longest_start_and_close)
 

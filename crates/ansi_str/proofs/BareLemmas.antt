@@ -1,4 +1,4 @@
--- Of a text without ESC each answer is the slice, as std has it.
+-- For a text without ESC each call returns std's slice.
 use Rattle.ansi_str.proofs.Common.{◌≡◌, ◌≢◌, ℕ, ◌-◌, min, Bool, true, false, ◌&&◌, List, [], ◌∷◌, ◌++◌, map, take, drop, length, Option, Some, None, option_map, is_some, refl, sym, ◌∙◌, ap, subst, arith, IsTrue, IsFalse, slice_range, slice_get, nat_eq, append-nil, if◌then◌else◌, IfSome, option_and_then, unwrap_or, starts_with, ends_with, encode_utf8, IsUtf8, chars, trim, option_map_or, map-id, take_min, drop_min, and_parts, and_from, eqb-true, plain, has_escape, is_whole, styled, unstyled, cut, left_side, right_side, kept, without_prefix, without_suffix, trim_interval, trimmed, parts, part_over, part_from, end_before, part, all_parts, Change, interval_of, meaning, changed_text, edited_by, edited, gives_borrow, stay_borrowed, slice_range-none, slice_range-past, slice_range-min, unstyled-styled, slice_range-trim_interval, kept-bare, plain-kept, plain-without_prefix, plain-without_suffix, parts_are_split, slices_over-parts-empty, map-all_parts}
 use Rattle.std.specs.Str.Pattern.{FindsTextPrefix, FindsTextSuffix, StripsPrefix, StripsSuffix}
 use Rattle.ansi_split.specs.StdSplit.{AreSplit, slices_over}
@@ -26,7 +26,7 @@ unfolding cut
 cut-bare t s e none =
     cut_up_to-bare t s (unwrap_or e (length (plain t))) none ∙ ap (λ x. slice_range t s (unwrap_or e (length x))) (plain-bare t none)
 
--- the same where a position past the end counts as the end
+-- the same if a position past the end counts as the end
 
 pub cut_inside-bare : (t : List ℕ) (s : ℕ) (e : Option ℕ) → IsFalse (has_escape t) → cut t s e ≡ slice_range t (min s (length t)) (min (unwrap_or e (length t)) (length t))
 cut_inside-bare t s e none = cut-bare t s e none ∙ sym (slice_range-min t s (unwrap_or e (length t)))
@@ -87,13 +87,13 @@ all_parts-empty-bare t utf8 none = all_parts-bare t [] none ∙ slices_over-part
 
 -- Changes: each gives the slice over the interval that it keeps.
 
--- where a test lets a change through, its text is the slice
+-- if a test lets a change through, its text is the slice
 through : (test : Bool) (t u : List ℕ) (i : ℕ × ℕ) → u ≡ slice_range t i.0 i.1
     → (if is_some (if test then Some i else None) then Some u else None) ≡ option_map (λ (i : ℕ × ℕ). slice_range t i.0 i.1) (if test then Some i else None)
 through true t u i is = ap Some is
 through false t u i is = refl
 
--- the change of t, where x is taken for its plain text
+-- the change of t, if x is taken for its plain text
 abbrev edited_on : Change → List ℕ → List ℕ → Option (List ℕ)
 edited_on e t x = if is_some (interval_of e x) then Some (changed_text e t) else None
 

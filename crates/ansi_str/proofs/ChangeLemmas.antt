@@ -1,4 +1,4 @@
--- What one change makes of a whole text is the slice of its styled bytes that it names, whole, and closed where the change closes.
+-- What one change makes of a whole text is the slice of its styled bytes that it names, whole, and closed if the change closes.
 use Rattle.ansi_str.proofs.Common.{◌≡◌, ℕ, ◌-◌, Bool, true, false, List, [], length, take, Option, Some, None, option_map, is_some, refl, sym, ◌∙◌, ap, subst, arith, IsTrue, slice_range, if◌then◌else◌, nat_eq, IfSome, unwrap_or, starts_with, ends_with, cond-true, length-map, plain, is_whole, plain_style, StyledByte, styled, unstyled, residue, is_good_position, is_good_range, cut, left_side, right_side, kept, without_prefix, without_suffix, trim_interval, trimmed, parts, end_before, part_over, part, Change, CutRange, LeftOf, RightOf, PartOf, WithoutPrefix, WithoutSuffix, Trimmed, interval_of, slice_of, changed_text, edited_by, closes, slice_range-past, slice_range-map, unstyled-styled, styled-cut, is_whole-cut, residue-cut, left_side_is, right_side_is, styled-kept, is_whole-kept, residue-kept}
 use Rattle.std.proofs.lemmas.Option.{cond_some}
 use Rattle.ansi_style.proofs.DressedLemmas.{IsClosed}
@@ -35,7 +35,7 @@ right_is t mid whole =
 
 -- A change that isn't refused.
 
--- where a test lets the interval j through, it is the one that is found
+-- if a test lets the interval j through, it is the one that is found
 through : (closing test : Bool) (t u : List ℕ) (i j : ℕ × ℕ) → (if test then Some j else None) ≡ Some i → IsSlice closing t j u → IsSlice closing t i u
 through closing test t u i j found is = subst (λ k. IsSlice closing t k u) (cond_some test j i found).1 is
 
@@ -56,7 +56,7 @@ changed_text_is Trimmed t i whole found =
     let j = trim_interval (plain t) in
     through false true t (changed_text Trimmed t) i j found (kept_is t j.0 j.1 whole)
 
--- The answer to a change, or to changes in turn, of which one closes or none.
+-- What a change returns, or changes in turn, by whether one of them closes.
 
 abbrev pub IsAnswer : Bool → List ℕ → Option (List StyledByte) → Option (List ℕ) → Type 0
 IsAnswer closing t slice answer = (slice ≡ option_map styled answer)

@@ -23,7 +23,7 @@ edits : MakesRows (λ (x : List Change × List ℕ). edited x.0 x.1) (
 unfolding encode_utf8 chars trim_start trim_end digits cut left_side right_side kept part_from
 edits = refl
 
--- nothing taken off, and a part that stands in the text as it is, stay borrows of a text with an ESC
+-- if nothing is taken off, and if a part is a slice of the text, a text with an ESC stays borrowed
 borrows : MakesRows (λ (x : List Change × List ℕ). stay_borrowed x.0 x.1) (
     (([], codes "\u{1b}[1mx"), true)
     ∷ ((WithoutSuffix [] ∷ PartOf (codes ",") 0 ∷ [], codes "a,\u{1b}[1mb"), true)

@@ -1,4 +1,4 @@
--- What changes in turn make of a whole text is the slice of its styled bytes that they name, whole, and closed where one of them closes.
+-- What changes in turn make of a whole text is the slice of its styled bytes that they name, whole, and closed if one of them closes.
 use Rattle.ansi_str.proofs.Common.{◌≡◌, Bool, ◌||◌, List, [], ◌∷◌, ℕ, Option, Some, None, refl, sym, ◌∙◌, subst, IsTrue, if◌then◌else◌, IfSome, option_map, option_and_then, list_any, cond-true, is_whole, plain_style, StyledByte, styled, residue, Change, slice_of, meaning, edited_by, edited, closes, IsSliceNamed, arith}
 use Rattle.ansi_str.proofs.ChangeLemmas.{IsAnswer, edited_by_answers}
 
@@ -23,11 +23,11 @@ edited_is_slice es t whole = (let answers = edited_answers es t whole in named (
     named None slice is = record { slice = slice; whole = tt; closed = tt }
     named (Some u) slice is = record { slice = slice; whole = is.0; closed = λ any. is.1 ∙ cond-true (list_any closes es) plain_style (residue t) any }
 
--- what is known at the end: nothing where one of them closes, else what the text leaves open
+-- the known style at the end: none if one of them closes, else what the text leaves open
 pub residue-edited : (es : List Change) (t u : List ℕ) → IsTrue (is_whole t) → edited es t ≡ Some u → residue u ≡ (if list_any closes es then plain_style else residue t)
 residue-edited es t u whole found =
     (subst (λ o. IfSome o (λ v. IsTrue (is_whole v) × (residue v ≡ (if list_any closes es then plain_style else residue t)))) found (edited_answers es t whole).1).1
 
--- an answer with these bytes is the slice that the changes name
+-- a result with these bytes is the slice that the changes name
 pub is_slice_named : (es : List Change) (t : List ℕ) (answer : Option (List ℕ)) → IsTrue (is_whole t) → answer ≡ edited es t → IsSliceNamed es t answer
 is_slice_named es t answer whole is = subst (IsSliceNamed es t) (sym is) (edited_is_slice es t whole)

@@ -2,7 +2,7 @@
 use Rattle.ansi_str.proofs.Common.{◌≡◌, ◌↔◌, ◌⊎◌, inl, inr, ℕ, ◌+◌, ◌<◌, ◌≤◌, ◌&&◌, true, List, ◌∷◌, length, map, drop, get_or, Option, Some, None, refl, sym, ◌∙◌, ap, subst, IsTrue, option_and_then, IsNone, option_map_or, and_parts, and_from, drop_all, Change, edited_by, edited, gives_borrow, stay_borrowed, arith}
 use Rattle.std.proofs.lemmas.List.{drop_more}
 
--- The text that was reached, edited by what is left, is the whole answer; and it stays a borrow to the end where it is one, and what is left leaves it one.
+-- The text so far, edited by the edits that are left, is the result of all. It stays a borrow to the end if it is one now and the edits that are left keep it one.
 pub record IsEditedSoFar (es : List Change) (t : List ℕ) (left : List Change) (Lent : Type 0) (u : List ℕ) : Type 0 where
   pub same : edited es t ≡ edited left u
   pub lent : IsTrue (stay_borrowed es t) ↔ (Lent × IsTrue (stay_borrowed left u))
@@ -37,7 +37,7 @@ so_far-refused change edits i edit so_far more is =
     let now = next_edit change edits i edit so_far more in
     sym (now.same ∙ ap (option_and_then (edited (map change (drop (i + 1) edits)))) (sym is))
 
--- one that is refused, or gives a borrow of a borrow, where all that are done do
+-- one that is refused, or gives a borrow of a borrow, if all before it do
 pub so_far-lent : {E : Type 0} (change : E → Change) {es : List Change} {t u : List ℕ} {Lent : Type 0} (edits : List E) (i : ℕ) (edit : E) → IsEditedSoFar es t (map change (drop i edits)) Lent u → i < length edits → IsTrue (stay_borrowed es t)
     → IsNone (edited_by (change (get_or edits i edit)) u) ⊎ (Lent × IsTrue (gives_borrow (change (get_or edits i edit)) u))
 so_far-lent change {u = u} {Lent = Lent} edits i edit so_far more stay =

@@ -18,7 +18,7 @@ loop-item-preserved-then-eq c =
       before = omega arith;
     }
 
--- the index stands in a run, whose boundaries are those of the plain text
+-- the index is in a run, whose boundaries are those of the plain text
 
 pub returns-then-remaining-run-clause-boundary : goal.returns-then-remaining-run-clause-boundary
 returns-then-remaining-run-clause-boundary c =

@@ -1,7 +1,7 @@
 use Rattle.ansi_search.proofs.Common.{◌≡◌, plain, plain_of, pieces_left, no_character_goes_on}
 use Rattle.ansi_search.proofs.search.is_good_position.Given as goal
 
--- what is left of the position stands in what is left as the position does in all
+-- what is left of the position is good in what is left if the position is good in the whole text
 abbrev pub invariant-loop-item : goal.invariant-loop-item
 invariant-loop-item l = record {
   text : l.item-iterator.text ≡ l.text;

@@ -1,7 +1,7 @@
 use Rattle.std.proofs.Common.{refl, rules}
 use Rattle.ansi_str.proofs.edits.edit_given.Goals as goal
 
--- where it is refused nothing is made, and no memory is taken
+-- if it is refused, nothing is made and nothing is allocated
 
 pub returns-clause-bytes : goal.returns-clause-bytes
 returns-clause-bytes g c = search rules

@@ -9,7 +9,7 @@ use Rattle.ansi_answers.specs.Styles.{style_data}
 use Rattle.ansi_answers.proofs.ListLemmas.{one_block_written}
 use Rattle.ansi_str_c.proofs.lists.ansi_str_raw_styled_blocks.Goals as goal
 
--- a text without ESC is one block, of which nothing stands before its text or after it
+-- a text without ESC is one block, with nothing before its text or after it
 pub returns-then-not-ansi_has_any : goal.returns-then-not-ansi_has_any
 returns-then-not-ansi_has_any c =
     let t = c.in-Ok.text.now in

@@ -7,6 +7,6 @@ use Rattle.ansi_str_c.proofs.searches.ansi_str_raw_has_any.Goals as goal
 told-same : (a b : Bool) (answer : Answer) → answer ≡ told a → a ≡ b → answer ≡ told b
 told-same a b answer is same = is ∙ ap told same
 
--- what is told is whether an ESC stands in the text
+-- the call returns whether the text has an ESC
 pub returns-in-Ok : goal.returns-in-Ok
 returns-in-Ok c = inl (c.in-Ok.ensures.1, told-same _ (has_escape c.args.text.now) _ c.told.ensures (cc c.in-Ok.ensures.0))

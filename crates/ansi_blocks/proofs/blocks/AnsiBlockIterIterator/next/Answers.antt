@@ -3,11 +3,11 @@ use Rattle.ansi_blocks.proofs.BlockLemmas.{blocks_from-nil}
 use Rattle.ansi_blocks.proofs.BlockWalkLemmas.{not_borrowed}
 use Rattle.ansi_blocks.proofs.blocks.AnsiBlockIterIterator.next.Goals as goal
 
--- where no run is found no block is left, and an empty text has none
+-- if no run is found, no block is left; an empty text has no block
 pub returns-in_err-run-clause-steps : goal.returns-in_err-run-clause-steps
 returns-in_err-run-clause-steps g c = rw (c.from_residual.ensures, ← c.self.view_is) (c.in_err-run.ensures.none, blocks_from-nil (rendition_of c.first_styled_run.new.style))
 
--- where memory has run out the first block that was left is no borrow
+-- if memory has run out, the first block that was left is no borrow
 pub returns-in-Err-clause-steps : goal.returns-in-Err-clause-steps
 returns-in-Err-clause-steps g c =
     rw (← c.self.view_is) ((_, _, c.in_ok-run.ensures.first, not_borrowed _ _ c.in_ok-run.ensures.awaited c.in-Err.ensures.takes_no_memory), blocks_from-nil (rendition_of c.first_styled_run.new.style))

@@ -5,7 +5,7 @@ use Rattle.ansi_search.proofs.search.matches.find_across.Goals as goal
 pub returns-then-text-from : goal.returns-then-text-from
 returns-then-text-from c = none-past (plain c.args.text.now) c.args.pat.now c.args.from (omega (arith, c.if-text-from.true, length-plain c.args.text.now))
 
--- the rare byte stands nowhere
+-- the rare byte doesn't occur
 pub returns-in_err-next : goal.returns-in_err-next
 returns-in_err-next c =
     let p = c.new-pattern.result.bytes.now in

@@ -1,7 +1,7 @@
 use Rattle.ansi_search.proofs.Common.{◌≡◌, ◌+◌, length, slice_index, arith, OccursAt, Passes, is_byte, IsFirst-agree, IsFirst-wider, OccursAt-byte, byte-OccursAt}
 use Rattle.ansi_search.proofs.search.matches.find_bytes.Goals as goal
 
--- a pattern of one byte stands where that byte does
+-- a pattern of one byte occurs exactly where that byte does
 pub returns-in-len1 : goal.returns-in-len1
 returns-in-len1 c =
     let hay = c.args.run.now in

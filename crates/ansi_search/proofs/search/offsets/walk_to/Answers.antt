@@ -34,7 +34,7 @@ loop-item-preserved c =
       way = way-mark c.loop-item.invariant.way over (sym (apply-no_sgr _ w (over.first.no_sgr (kind_differs c.if-eq-2.ensures))));
     }
 
--- the position stands in a text, at a boundary or not
+-- the position is in a text, at a boundary or not
 
 pub returns-then-not-is_char_boundary-clause-offset : goal.returns-then-not-is_char_boundary-clause-offset
 returns-then-not-is_char_boundary-clause-offset c =

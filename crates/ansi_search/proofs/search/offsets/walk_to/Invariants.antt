@@ -2,7 +2,7 @@ use Rattle.ansi_search.proofs.Common.{◌≡◌, rendition_of, pieces_left}
 use Rattle.ansi_search.proofs.OffsetLemmas.{IsOnTheWay}
 use Rattle.ansi_search.proofs.search.offsets.walk_to.Given as goal
 
--- what has been passed, and what stands before the position in what is left, stand before it in all
+-- what has been passed, and then what is before the position in what is left, is what is before it in the whole text
 abbrev pub invariant-loop-item : goal.invariant-loop-item
 invariant-loop-item l = record {
   text : l.item-iterator.text ≡ l.text;

@@ -3,7 +3,7 @@ use Rattle.ansi_slice.proofs.StretchLemmas.{cut-front}
 use Rattle.ansi_search.proofs.PositionLemmas.{is_good_range-front}
 use Rattle.ansi_slice.proofs.slice.cuts.cut_front.Goals as goal
 
--- memory is asked for where the range is good
+-- the call allocates only if the range is good
 
 pub returns-in_err-cut-clause-takes_no_memory : goal.returns-in_err-cut-clause-takes_no_memory
 returns-in_err-cut-clause-takes_no_memory g c = grind (arith, IsUtf8-plain, is_good_range-front)

@@ -12,7 +12,7 @@ returns-then-end-start-clause-cut g c = is_good_range-disordered (plain c.args.t
 pub returns-in_default-walk_to-clause-cut : goal.returns-in_default-walk_to-clause-cut
 returns-in_default-walk_to-clause-cut g c = range-by_offset c.if-end-start.false c.in-Some.ensures.offset c.range_from-rest.ensures.value ∙ (or_parts _ _ c.in_default-walk_to.ensures.offset).1
 
--- memory is asked for where the range is good
+-- the call allocates only if the range is good
 
 pub returns-in_err-cut-clause-takes_no_memory : goal.returns-in_err-cut-clause-takes_no_memory
 returns-in_err-cut-clause-takes_no_memory g c = grind (arith, range-by_offset)

@@ -23,6 +23,6 @@ returns-then-not-has_any-clause-none g c = grind (arith, plain-bare, some_if_goo
 pub returns-then-not-has_any-clause-bytes : goal.returns-then-not-has_any-clause-bytes
 returns-then-not-has_any-clause-bytes g c = grind (arith, kept-bare, plain-bare)
 
--- where the suffix begins, all before it is kept, and the sequences after it
+-- up to the suffix all is kept, and after that the sequences
 pub returns-clause-bytes : goal.returns-clause-bytes
 returns-clause-bytes g c = c.in_ok-push_up_to.ensures ∙ ap₂ (λ u v. u ++ v) c.in_ok-kept.ensures.bytes (sym (keeps-at c.in-Some.ensures.1).bytes)

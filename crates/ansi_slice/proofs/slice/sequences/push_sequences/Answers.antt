@@ -36,7 +36,7 @@ loop-item-preserved g c =
       so_far = pushed-mark c.loop-item.invariant.so_far over.first c.in_ok-push_str.ensures.bytes;
     }
 
--- the position stands in a text
+-- the position is in a text
 
 pub returns-then-remaining-piece-clause-bytes : goal.returns-then-remaining-piece-clause-bytes
 returns-then-remaining-piece-clause-bytes g c =

@@ -3,7 +3,7 @@ use Rattle.ansi_slice.proofs.StretchLemmas.{IsPushedSoFar}
 use Rattle.ansi_search.proofs.OffsetLemmas.{IsOnTheWay}
 use Rattle.ansi_slice.proofs.slice.sequences.push_sequences.Given as goal
 
--- what has been appended, and the sequences up to the position in what is left, are all; and where the position stands
+-- what has been appended, and the sequences up to the position in what is left, are all; and the offset of the position
 abbrev pub invariant-loop-item : goal.invariant-loop-item
 invariant-loop-item g l = record {
   text : l.item-iterator.text ≡ l.text;

@@ -6,7 +6,7 @@ use Rattle.ansi_slice.proofs.LengthLemmas.{length-sides}
 use Rattle.ansi_search.proofs.PositionLemmas.{is_position_in-good, is_good_position-utf8}
 use Rattle.ansi_slice.proofs.slice.sides.split_at_in.Goals as goal
 
--- where the text may be divided no character of its plain text goes on
+-- if the text may be divided there, no character of its plain text goes on
 divided : (t : List ℕ) (n : ℕ) → IsUtf8 t → IsTrue (is_position_in t n) → IsTrue (no_character_goes_on (plain t) n)
 divided t n utf8 good = sym (is_good_position-utf8 (plain t) n (IsUtf8-plain t utf8)) ∙ sym (is_position_in-good t n utf8) ∙ good
 

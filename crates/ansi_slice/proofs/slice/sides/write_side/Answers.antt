@@ -25,7 +25,7 @@ loop-item-preserved g c =
       so_far = side-mark c.loop-item.invariant.so_far over.first c.in_ok-write_mark.ensures.bytes c.write_mark.ensures.style;
     }
 
--- the position stands in a text
+-- the position is in a text
 
 pub returns-then-remaining-piece-clause-style : goal.returns-then-remaining-piece-clause-style
 returns-then-remaining-piece-clause-style g c =

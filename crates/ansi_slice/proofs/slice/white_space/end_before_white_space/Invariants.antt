@@ -2,7 +2,7 @@ use Rattle.ansi_slice.proofs.Common.{◌≡◌, pieces_left}
 use Rattle.ansi_slice.proofs.TrimWalkLemmas.{IsSolidSoFar}
 use Rattle.ansi_slice.proofs.slice.white_space.end_before_white_space.Given as goal
 
--- the end is ahead or, where white space alone is left, it is the one so far
+-- the end is ahead or, if only white space is left, it is the one so far
 abbrev pub invariant-loop-item : goal.invariant-loop-item
 invariant-loop-item l = record {
   text : l.item-iterator.text ≡ l.text;

@@ -85,7 +85,7 @@ loop-item-preserved c =
       so_far = walked-mark c.loop-item.invariant.so_far over (ap (λ t. pieces_of (drop c.loop-item.item-iterator.offset t)) (sym same)) (sym (apply-no_sgr _ c.range-piece.result.now (over.first.no_sgr (search rules))));
     }
 
--- nothing is left: the pattern stands at the end where it is empty
+-- nothing is left: the pattern is at the end if it is empty
 pub returns : goal.returns
 returns c =
     let end = c.in-None.ensures.steps in

@@ -2,7 +2,7 @@ use Rattle.ansi_split.proofs.Common.{◌≡◌, rendition_of, pieces_left}
 use Rattle.ansi_split.proofs.MatchWalkLemmas.{IsWalked}
 use Rattle.ansi_split.proofs.split.rest.cut_from.Given as goal
 
--- what is passed has the style so far, and the match stands ahead
+-- what is passed has the style so far, and the match is ahead
 abbrev pub invariant-loop-item : goal.invariant-loop-item
 invariant-loop-item l = record {
   text : l.item-iterator.text ≡ l.text;

@@ -4,7 +4,7 @@ use Rattle.std.specs.Result.{OnOk, is_ok}
 use Rattle.ansi_split.proofs.SpanWalkLemmas.{shown-bare, boundary-bare, shown-mark, shown-skip, shown-rest, shown-boundary}
 use Rattle.ansi_split.proofs.split.spans.write_text.Goals as goal
 
--- without a sequence, what follows the plain bytes that are left out stands as it is
+-- without a sequence, what follows the plain bytes that are left out is unchanged
 pub range_from-requires : goal.range_from-requires
 range_from-requires g c = λ some. boundary-bare c.args.text.now c.args.skip (sym c.requires.marked ∙ c.if-not-is_marked.true) c.requires.boundary
 
@@ -26,7 +26,7 @@ range_from-requires-then-skip-piece g c =
     let boundary : IsCharBoundary t c.next.new.self.offset = subst (λ v. IsCharBoundary v c.next.new.self.offset) c.loop-item.invariant.text (subst (IsCharBoundary c.loop-item.item-iterator.text) gives.end gives.end_boundary) in
     λ some. shown-boundary c.loop-item.skip c.loop-item.invariant.so_far.good over (omega arith) gives.start boundary
 
--- in a text, what follows stands as it is
+-- in a text, what follows is unchanged
 pub returns-then-skip-piece : goal.returns-then-skip-piece
 returns-then-skip-piece g c =
     let gives = c.in-Some.ensures.steps in

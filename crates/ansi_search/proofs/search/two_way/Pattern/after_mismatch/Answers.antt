@@ -5,7 +5,7 @@ use Rattle.ansi_search.proofs.search.two_way.Pattern.after_mismatch.Goals as goa
 pub overflow_add-begin : goal.overflow_add-begin
 overflow_add-begin c = grind (arith, length-plain)
 
--- the rare byte would stand in an earlier run
+-- the rare byte would be in an earlier run
 pub returns-then-place-here : goal.returns-then-place-here
 returns-then-place-here c =
     let w = c.args.window in

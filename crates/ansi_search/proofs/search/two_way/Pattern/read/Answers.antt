@@ -16,7 +16,7 @@ loop-window-preserved-then-run-at c =
       ahead = moved.ahead;
     }
 
--- what follows the cut stands, and what stands before it
+-- what follows the cut matches, and what comes before it does
 pub returns-then-front_stands : goal.returns-then-front_stands
 returns-then-front_stands c = grind (arith, meets-last, stands-both)
 

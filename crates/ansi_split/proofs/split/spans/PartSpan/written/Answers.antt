@@ -4,7 +4,7 @@ use Rattle.ansi_split.proofs.SpanWalkLemmas.{left_of, span-closed, span-open}
 use Rattle.ansi_split.proofs.split.spans.PartSpan.written.Goals as goal
 use Rattle.ansi_split.proofs.split.spans.PartSpan.written.Goals.{then-has_any+in_ok-write_close, else-has_any}
 
--- the start, the text, and the close where the style has any
+-- the start, the text, and the close if the style has one
 pub returns : goal.returns
 returns g c =
     let s = c.self.inside in

@@ -4,7 +4,7 @@ use Rattle.ansi_split.proofs.SpanLemmas.{parts_left-last, parts_left-first, skip
 use Rattle.ansi_split.proofs.split.spans.PartSpansIterator.next.Goals as goal
 use Rattle.ansi_split.proofs.split.spans.PartSpansIterator.next.Goals.{in-Some, in-None}
 
--- where the plain bytes that are left out end, a character of the front does
+-- the plain bytes that are left out end with a character of the front
 skip_in : (t p : List ℕ) (skip from : ℕ) (front : List ℕ) (r : Option Rest) → MatchOption r ((first_match_from (plain t) p from ≡ None) × (front ≡ t)) (λ rest. IsCutAtMatch t p from front rest.text.now)
     → skip ≤ from → IsTrue (is_char_boundary (plain t) skip) → IsTrue (is_char_boundary (plain front) skip)
 skip_in t p skip from front None all before boundary = subst (λ v. IsTrue (is_char_boundary (plain v) skip)) (sym all.1) boundary
