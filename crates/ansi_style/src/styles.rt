@@ -1,10 +1,11 @@
 //! What the crates above do with a style. These are free functions, so that `Style` has only the
 //! public methods that callers of `ansi_str` need.
-ghost use Rattle.std.specs.Prelude.{◌≡◌, ◌||◌, ◌++◌, IsTrue, OnOk, string_bytes};
+ghost use Rattle.std.specs.Prelude.{◌≡◌, ◌||◌, ◌+◌, ◌++◌, [], length, IsTrue, IfOk, OnOk, IfSome};
+ghost use Rattle.std.specs.Prelude.{string_bytes, string_capacity};
 ghost use Rattle.ansi_items.specs.Sequences.{is_sgr};
 ghost use Rattle.ansi_style.specs.Rendition.{plain_style, has_known, has_any};
 ghost use Rattle.ansi_style.specs.Sgr.{apply, apply_parameters};
-ghost use Rattle.ansi_style.specs.Written.{start, close};
+ghost use Rattle.ansi_style.specs.Written.{start, close, close_if_any};
 ghost use Rattle.ansi_style.specs.States.{rendition_of};
 
 use crate::state::Style;
@@ -13,7 +14,7 @@ use crate::state::fields::{Fields, lone_code, parameters};
 use crate::state::written::Close;
 use bitflags::Flags;
 use std::alloc::{AllocError, Allocator};
-use std::fmt::Write;
+use std::fmt::{self, Display, Write};
 
 /// The plain style, in which nothing is set.
 #[tactic(auto, unfolding(crate::specs::States::rendition_of))]
@@ -101,4 +102,54 @@ pub fn write_close<A: Allocator>(style: &Style, out: &mut String<A>) -> Result<(
         return Ok(());
     }
     write!(out, "{}", Close(style))
+}
+
+/// An empty text with room for exactly the start of a style, `len` bytes, and the close of a style
+/// if that has something to reset. `Err` means out of memory.
+pub fn with_room<A: Allocator>(
+    alloc: A,
+    before: &Style,
+    len: usize,
+    after: &Style,
+) -> Result<String<A>, AllocError>
+    ensures bytes { IfOk result (λ s. string_bytes s ≡ []) }
+    ensures room { IfOk result (λ s. string_capacity s
+        ≡ length (start (rendition_of before.now)) + len
+        + length (close_if_any (rendition_of after.now))) }
+{
+    let mut room = ByteCount(len);
+    // A style without anything needs no formatter.
+    if before.has_known() {
+        room.add(before.start())?;
+    }
+    if has_any(after) {
+        room.add(Close(after))?;
+    }
+    String::with_capacity(alloc, room.0)
+}
+
+/// A writer that only counts bytes.
+#[derive(Drop)]
+struct ByteCount(usize);
+
+impl ByteCount {
+    /// Adds the length of what a value prints. `Err` means that no text can be that long.
+    fn add<D: Display + Drop>(&mut self, value: D) -> Result<(), AllocError>
+        ensures { OnOk result (IfSome (D.output value) (λ bytes.
+            self.new.0 ≡ self.old.0 + length bytes)) }
+    {
+        match self.write(value) {
+            Ok(()) => Ok(()),
+            Err(_) => Err(AllocError),
+        }
+    }
+}
+
+impl fmt::Write for ByteCount {
+    ghost write_str_gives = { λ old bytes new. new.0 ≡ old.0 + length bytes };
+
+    fn write_str(&mut self, s: &str) -> fmt::Result {
+        self.0 = self.0.checked_add(s.len()).ok_or(fmt::Error)?;
+        Ok(())
+    }
 }

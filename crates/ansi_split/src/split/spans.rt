@@ -21,11 +21,6 @@ use std::borrow::CowStr;
 use std::marker::Model;
 use std::str::from_utf8_unchecked;
 
-/// A start and a close have at most this many bytes together, `longest_start_and_close`. This room
-/// is reserved before they are written, so a part never grows, and keeps at most this many bytes
-/// beyond its length.
-const STYLE_ROOM: usize = 251;
-
 /// What one part is written from. Contracts see it as that part.
 #[derive(Drop)]
 pub(crate) struct PartSpan<'t> {
@@ -91,12 +86,8 @@ impl<'t> PartSpan<'t> {
         requires { IsFalse self.now.borrowed }
         ensures { IfOk result (λ s. string_bytes s ≡ self.now.bytes) }
     {
-        let room = self
-            .text
-            .len()
-            .saturating_sub(self.skip)
-            .saturating_add(STYLE_ROOM);
-        let mut part = String::with_capacity(alloc, room)?;
+        let len = self.text.len().saturating_sub(self.skip);
+        let mut part = styles::with_room(alloc, &self.carried, len, &self.after)?;
         styles::write_start(&self.carried, &mut part)?;
         write_text(self.text, self.is_marked, self.skip, &mut part)?;
         if styles::has_any(&self.after) {
