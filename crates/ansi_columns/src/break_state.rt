@@ -5,7 +5,7 @@ ghost use Rattle.std.specs.Int.{is_in_range};
 ghost use Rattle.unicode_segmentation.specs.Grapheme.{is_grapheme_break, break_by_pair, is_extend};
 ghost use Rattle.unicode_segmentation.specs.Grapheme.{is_zwj, is_regional, is_consonant};
 ghost use Rattle.ucd_derived.specs.IndicConjunctBreak.{indic_conjunct_break};
-ghost use Rattle.ansi_columns.specs.Seams.{seam_of, links};
+ghost use Rattle.ansi_columns.specs.BreakStates.{break_state_of, links};
 
 use ucd_breaks::GraphemeClusterBreak;
 use ucd_breaks::GraphemeClusterBreak::*;
@@ -14,7 +14,7 @@ use ucd_emoji::is_extended_pictographic;
 
 /// A summary of the characters before a place, as much as the rules look back at.
 #[derive(Clone, Copy)]
-pub(crate) struct Seam {
+pub(crate) struct BreakState {
     /// The value of the last character.
     last: GraphemeClusterBreak,
     /// Whether they end in a linker that joins a following consonant (GB9c).
@@ -27,12 +27,12 @@ pub(crate) struct Seam {
     is_half_flag: bool,
 }
 
-impl Seam {
+impl BreakState {
     /// The summary of no characters.
-    pub(crate) fn start() -> Seam
-        ensures { result ≡ seam_of [] }
+    pub(crate) fn start() -> BreakState
+        ensures { result ≡ break_state_of [] }
     {
-        Seam {
+        BreakState {
             last: Other,
             is_linked: false,
             is_pictograph: false,
@@ -43,14 +43,15 @@ impl Seam {
 
     /// The summary after one more character.
     #[inline]
-    pub(crate) fn after(self, c: char) -> Seam
-        ensures { (before : List ℕ) → self ≡ seam_of before → result ≡ seam_of (c ∷ before) }
+    pub(crate) fn after(self, c: char) -> BreakState
+        ensures { (before : List ℕ) → self ≡ break_state_of before →
+            result ≡ break_state_of (c ∷ before) }
     {
         if is_printable(c) {
-            return Seam::start();
+            return BreakState::start();
         }
         let value = GraphemeClusterBreak::for_char(c);
-        Seam {
+        BreakState {
             last: value,
             is_linked: links(c, self.is_linked),
             is_pictograph: is_extended_pictographic(c) || (is_extend(value) && self.is_pictograph),
@@ -62,7 +63,7 @@ impl Seam {
     /// Whether a cluster ends before the next character. There has to be a character before it.
     #[inline]
     pub(crate) fn ends_before(self, next: char) -> bool
-        ensures { (before after : List ℕ) → before ≢ [] → self ≡ seam_of before →
+        ensures { (before after : List ℕ) → before ≢ [] → self ≡ break_state_of before →
             result ≡ is_grapheme_break true before (next ∷ after) }
     {
         if is_printable(next) {

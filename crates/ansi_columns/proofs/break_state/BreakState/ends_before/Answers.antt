@@ -2,10 +2,10 @@ use Rattle.std.proofs.Common.{◌≡◌, true, Some, None, unwrap_or, not, ◌&&
 use Rattle.ucd_derived.specs.IndicConjunctBreak.{indic_conjunct_break}
 use Rattle.ucd_emoji.specs.Binary.{is_extended_pictographic}
 use Rattle.unicode_segmentation.specs.Grapheme.{is_consonant, is_regional}
-use Rattle.ansi_columns.proofs.SeamLemmas.{or-then, or-else, and-then, and-else, decided}
+use Rattle.ansi_columns.proofs.BreakLemmas.{or-then, or-else, and-then, and-else, is_grapheme_break-decided}
 use Rattle.ansi_columns.proofs.AsciiLemmas.{ends-printable}
-use Rattle.ansi_columns.proofs.seams.Seam.ends_before.Goals.{then-self, else-self, then-self-2, else-self-2, then-self-3, else-self-3, then-joins_conjunct, else-joins_conjunct, then-joins_emoji, else-joins_emoji}
-use Rattle.ansi_columns.proofs.seams.Seam.ends_before.Goals as goal
+use Rattle.ansi_columns.proofs.break_state.BreakState.ends_before.Goals.{then-self, else-self, then-self-2, else-self-2, then-self-3, else-self-3, then-joins_conjunct, else-joins_conjunct, then-joins_emoji, else-joins_emoji}
+use Rattle.ansi_columns.proofs.break_state.BreakState.ends_before.Goals as goal
 
 pub returns-then-is_printable : goal.returns-then-is_printable
 returns-then-is_printable c before after some is =
@@ -14,7 +14,7 @@ returns-then-is_printable c before after some is =
 
 pub returns-in-Some : goal.returns-in-Some
 returns-in-Some c before after some is =
-    decided c.args.self before c.args.next after some is c.for_char-value.result c.for_char-value.ensures (Some c.in-Some.is_break) (sym c.break_by_pair-2.ensures ∙ c.in-Some.is)
+    is_grapheme_break-decided c.args.self before c.args.next after some is c.for_char-value.result c.for_char-value.ensures (Some c.in-Some.is_break) (sym c.break_by_pair-2.ensures ∙ c.in-Some.is)
 
 pub returns : goal.returns
 returns c before after some is =
@@ -44,4 +44,4 @@ returns c before after some is =
       | then-joins_emoji w ↦ or-then _ (conjunct || emoji) flag (cc) (sym one ∙ w.if-joins_emoji.true)
       | else-joins_emoji w ↦ or-else _ (conjunct || emoji) flag (w.result-is ∙ third) (sym one ∙ w.if-joins_emoji.false)
     ] in
-    ap not all ∙ decided s before next after some is v c.for_char-value.ensures None (sym c.break_by_pair-2.ensures ∙ c.in_default.is)
+    ap not all ∙ is_grapheme_break-decided s before next after some is v c.for_char-value.ensures None (sym c.break_by_pair-2.ensures ∙ c.in_default.is)

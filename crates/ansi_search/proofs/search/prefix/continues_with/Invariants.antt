@@ -1,5 +1,5 @@
 use Rattle.ansi_search.proofs.Common.{◌≡◌, ◌≤◌, length, drop, nat_eq, shadow, Utf8, starts_with, plain}
-use Rattle.ansi_search.proofs.search.prefix.stands_at.Given as goal
+use Rattle.ansi_search.proofs.search.prefix.continues_with.Given as goal
 
 -- what is left of the pattern is at the front of what is left of the plain text exactly if the whole pattern is at the front of the whole plain text
 abbrev pub invariant-loop-wanted : goal.invariant-loop-wanted

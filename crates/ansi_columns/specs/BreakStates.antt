@@ -7,7 +7,7 @@ use Rattle.ucd_derived.specs.IndicConjunctBreak.{indic_conjunct_break}
 use Rattle.ucd_derived.specs.declared.IndicConjunctBreak.{IndicConjunctBreak}
 use Rattle.ucd_derived.specs.declared.IndicConjunctBreak.TheVariants as InCb
 use Rattle.unicode_segmentation.specs.Grapheme.{ends_in_linker, ends_in_pictograph, ends_in_half_flag, is_zwj}
-use Rattle.ansi_columns.specs.declared.seams.Seam.{Seam}
+use Rattle.ansi_columns.specs.declared.break_state.BreakState.{BreakState}
 
 -- the value of the last character before the place, which the list has first
 abbrev pub last_of : List ℕ → GraphemeClusterBreak
@@ -26,8 +26,8 @@ ends_in_joiner [] = false
 ends_in_joiner (c ∷ before) = is_zwj (grapheme_cluster_break c) && ends_in_pictograph before
 
 -- the summary that the rules look back at
-abbrev pub seam_of : List ℕ → Seam
-seam_of before = record {
+abbrev pub break_state_of : List ℕ → BreakState
+break_state_of before = record {
   last = last_of before;
   is_linked = ends_in_linker (map indic_conjunct_break before);
   is_pictograph = ends_in_pictograph before;

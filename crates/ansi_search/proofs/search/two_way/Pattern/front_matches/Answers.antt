@@ -1,7 +1,7 @@
 use Rattle.ansi_search.proofs.Common.{arith, length-take-le}
 use Rattle.ansi_search.proofs.SliceLemmas.{slice_range-past}
 use Rattle.ansi_search.proofs.WindowLemmas.{front-in-run}
-use Rattle.ansi_search.proofs.search.two_way.Pattern.front_stands.Goals as goal
+use Rattle.ansi_search.proofs.search.two_way.Pattern.front_matches.Goals as goal
 
 -- all of it is in the run, or not
 pub returns-then-place-window : goal.returns-then-place-window

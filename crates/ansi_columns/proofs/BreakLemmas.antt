@@ -8,8 +8,8 @@ use Rattle.ucd_derived.specs.declared.IndicConjunctBreak.{IndicConjunctBreak}
 use Rattle.ucd_derived.specs.declared.IndicConjunctBreak.TheVariants as InCb
 use Rattle.ucd_emoji.specs.Binary.{is_extended_pictographic}
 use Rattle.unicode_segmentation.specs.Grapheme.{break_by_pair, is_consonant, is_extend, is_regional, is_zwj, is_grapheme_break, ends_in_linker, ends_in_pictograph, ends_in_half_flag}
-use Rattle.ansi_columns.specs.declared.seams.Seam.{Seam}
-use Rattle.ansi_columns.specs.Seams.{last_of, links, seam_of}
+use Rattle.ansi_columns.specs.declared.break_state.BreakState.{BreakState}
+use Rattle.ansi_columns.specs.BreakStates.{last_of, links, break_state_of}
 
 pub linked-push : (v : IndicConjunctBreak) (vs : List IndicConjunctBreak) → links v (ends_in_linker vs) ≡ ends_in_linker (v ∷ vs)
 unfolding ends_in_linker
@@ -32,38 +32,38 @@ and-then r a b is left = is ∙ sym (ap (λ v. v && b) left)
 pub and-else : (r a b : Bool) → r ≡ false → a ≡ false → r ≡ (a && b)
 and-else r a b is left = is ∙ sym (and_left a b left)
 
-together : {l m : GraphemeClusterBreak} {k p j h k' p' j' h' : Bool} → l ≡ m → k ≡ k' → p ≡ p' → j ≡ j' → h ≡ h'
-    → ◌≡◌ {A = Seam} record { last = l; is_linked = k; is_pictograph = p; is_joined = j; is_half_flag = h } record { last = m; is_linked = k'; is_pictograph = p'; is_joined = j'; is_half_flag = h' }
-together last linked pictograph joined half = cc
+BreakState-equal : {l m : GraphemeClusterBreak} {k p j h k' p' j' h' : Bool} → l ≡ m → k ≡ k' → p ≡ p' → j ≡ j' → h ≡ h'
+    → ◌≡◌ {A = BreakState} record { last = l; is_linked = k; is_pictograph = p; is_joined = j; is_half_flag = h } record { last = m; is_linked = k'; is_pictograph = p'; is_joined = j'; is_half_flag = h' }
+BreakState-equal last linked pictograph joined half = cc
 
 -- what is kept after one more character
-pub seam-push : (c : ℕ) (s : Seam) (before : List ℕ) → s ≡ seam_of before → (v : GraphemeClusterBreak) (k p j h : Bool) → v ≡ grapheme_cluster_break c
+pub break_state-push : (c : ℕ) (s : BreakState) (before : List ℕ) → s ≡ break_state_of before → (v : GraphemeClusterBreak) (k p j h : Bool) → v ≡ grapheme_cluster_break c
     → k ≡ links (indic_conjunct_break c) s.is_linked → p ≡ (is_extended_pictographic c || (is_extend v && s.is_pictograph)) → j ≡ (is_zwj v && s.is_pictograph) → h ≡ (is_regional v && not s.is_half_flag)
-    → ◌≡◌ {A = Seam} record { last = v; is_linked = k; is_pictograph = p; is_joined = j; is_half_flag = h } (seam_of (c ∷ before))
+    → ◌≡◌ {A = BreakState} record { last = v; is_linked = k; is_pictograph = p; is_joined = j; is_half_flag = h } (break_state_of (c ∷ before))
 unfolding ends_in_pictograph ends_in_half_flag
-seam-push c s before is v k p j h last linked pictograph joined half =
-    together last
-    (linked ∙ ap (λ (u : Seam). links (indic_conjunct_break c) u.is_linked) is ∙ linked-push (indic_conjunct_break c) (map indic_conjunct_break before))
-    (pictograph ∙ ap₂ (λ (w : GraphemeClusterBreak) (u : Seam). is_extended_pictographic c || (is_extend w && u.is_pictograph)) last is)
-    (joined ∙ ap₂ (λ (w : GraphemeClusterBreak) (u : Seam). is_zwj w && u.is_pictograph) last is)
-    (half ∙ ap₂ (λ (w : GraphemeClusterBreak) (u : Seam). is_regional w && not u.is_half_flag) last is)
+break_state-push c s before is v k p j h last linked pictograph joined half =
+    BreakState-equal last
+    (linked ∙ ap (λ (u : BreakState). links (indic_conjunct_break c) u.is_linked) is ∙ linked-push (indic_conjunct_break c) (map indic_conjunct_break before))
+    (pictograph ∙ ap₂ (λ (w : GraphemeClusterBreak) (u : BreakState). is_extended_pictographic c || (is_extend w && u.is_pictograph)) last is)
+    (joined ∙ ap₂ (λ (w : GraphemeClusterBreak) (u : BreakState). is_zwj w && u.is_pictograph) last is)
+    (half ∙ ap₂ (λ (w : GraphemeClusterBreak) (u : BreakState). is_regional w && not u.is_half_flag) last is)
 
 -- what the code joins, if the two neighbors don't decide
-abbrev pub joins : Seam → GraphemeClusterBreak → ℕ → Bool
+abbrev pub joins : BreakState → GraphemeClusterBreak → ℕ → Bool
 joins s v next =
     ((s.is_linked && is_consonant (indic_conjunct_break next)) || (s.is_joined && is_extended_pictographic next))
     || (s.is_half_flag && is_regional v)
 
-breaks : (before : List ℕ) (next : ℕ) (after : List ℕ) → before ≢ []
-    → unwrap_or (break_by_pair true (last_of before) (grapheme_cluster_break next)) (not (joins (seam_of before) (grapheme_cluster_break next) next)) ≡ is_grapheme_break true before (next ∷ after)
+is_grapheme_break-by_state : (before : List ℕ) (next : ℕ) (after : List ℕ) → before ≢ []
+    → unwrap_or (break_by_pair true (last_of before) (grapheme_cluster_break next)) (not (joins (break_state_of before) (grapheme_cluster_break next) next)) ≡ is_grapheme_break true before (next ∷ after)
 unfolding is_grapheme_break ends_in_linker
-breaks [] next after some = absurd (some refl)
-breaks (c ∷ before) next after some = refl
+is_grapheme_break-by_state [] next after some = absurd (some refl)
+is_grapheme_break-by_state (c ∷ before) next after some = refl
 
 -- the two neighbors decide, or they don't
-pub decided : (s : Seam) (before : List ℕ) (next : ℕ) (after : List ℕ) → before ≢ [] → s ≡ seam_of before → (v : GraphemeClusterBreak) → v ≡ grapheme_cluster_break next
+pub is_grapheme_break-decided : (s : BreakState) (before : List ℕ) (next : ℕ) (after : List ℕ) → before ≢ [] → s ≡ break_state_of before → (v : GraphemeClusterBreak) → v ≡ grapheme_cluster_break next
     → (o : Option Bool) → break_by_pair true s.last v ≡ o → unwrap_or o (not (joins s v next)) ≡ is_grapheme_break true before (next ∷ after)
-decided s before next after some is v value o by_pair =
+is_grapheme_break-decided s before next after some is v value o by_pair =
     ap (λ (p : Option Bool). unwrap_or p (not (joins s v next))) (sym by_pair)
-    ∙ ap₂ (λ (u : Seam) (w : GraphemeClusterBreak). unwrap_or (break_by_pair true u.last w) (not (joins u w next))) is value
-    ∙ breaks before next after some
+    ∙ ap₂ (λ (u : BreakState) (w : GraphemeClusterBreak). unwrap_or (break_by_pair true u.last w) (not (joins u w next))) is value
+    ∙ is_grapheme_break-by_state before next after some

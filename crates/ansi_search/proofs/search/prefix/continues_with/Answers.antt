@@ -1,7 +1,7 @@
 use Rattle.ansi_search.proofs.Common.{rules, ◌≤◌, ◌&&◌, ◌-◌, ◌^◌, length, drop, nat_eq, sym, ◌∙◌, ap, ap₂, arith, starts_with, slice_range, plain, length-plain}
 use Rattle.ansi_search.proofs.PrefixLemmas.{starts_with-run}
 use Rattle.ansi_search.proofs.SliceLemmas.{slice_range-rest, slice_range-past}
-use Rattle.ansi_search.proofs.search.prefix.stands_at.Goals as goal
+use Rattle.ansi_search.proofs.search.prefix.continues_with.Goals as goal
 
 -- over a run that isn't how what is left of the pattern begins
 pub returns-then-not-starts_with : goal.returns-then-not-starts_with
