@@ -1,4 +1,4 @@
--- What a page gives, and what it has left.
+-- What a fake device gives, and what it has left.
 use Rattle.std.proofs.Common.{◌≡◌, ◌≤◌, ◌+◌, ◌∙◌, ap, sym, ℕ, List, ◌++◌, length, take, drop, min, max, Some, Ok, arith, subst, length-append, length-drop}
 use Rattle.std.proofs.Math.Seq.{take-append_seam}
 use Rattle.std.proofs.lemmas.List.{take-append-drop, drop-drop, length-take-le, drop_all}
@@ -14,7 +14,7 @@ front_and_rest left room count fits =
     subst (λ (n : ℕ). take n (front ++ drop count room) ≡ front) front_len (take-append_seam front (drop count room)) in
     sym (ap (λ xs. xs ++ drop count left) seam ∙ take-append-drop count left)
 
--- a page that gives as much as it can gives what a source must give
+-- a device that gives as much as it can gives what a source must give
 pub reads_front : (bytes room : List ℕ) (read count chunk : ℕ) → count ≡ min (min (length (drop read bytes)) (length room)) (max chunk 1)
     → Reads (Some (drop read bytes)) (Some (drop (read + count) bytes)) (Ok count) (take count (drop read bytes) ++ drop count room)
 reads_front bytes room read count chunk counted =

@@ -1,5 +1,5 @@
 use Rattle.std.proofs.Common.{rules}
-use Rattle.ansi_lines_io.proofs.page.PageSink.write.Goals as goal
+use Rattle.ansi_lines_io.proofs.fake_device.FakeDeviceSink.write.Goals as goal
 
 -- bytes that there is room for are within the room
 pub invariant_of-self : goal.invariant_of-self

@@ -1,11 +1,13 @@
-//! A device over memory. A schedule decides how its calls end.
+//! A device for tests: bytes in memory, and a schedule that decides how calls end.
 ghost use Rattle.std.specs.Prelude.{◌≡◌, ◌≤◌, ◌+◌, ◌||◌, [], ◌++◌, IfOk, OnOk, Some, length, drop};
 ghost use Rattle.std.specs.Prelude.{take, is_err, vec_len};
 ghost use Rattle.std.specs.Io.KnownBytes.{append_known};
 ghost use Rattle.ansi_lines_io.specs.Devices.{Reads, count_after, was_interrupted, was_failed};
-ghost use Rattle.ansi_lines_io.specs.Pages.{fresh_page, next_outcome, bytes_left, count_given};
-ghost use Rattle.ansi_lines_io.specs.Pages.{read_comes_to, write_comes_to, flush_comes_to};
-ghost use Rattle.ansi_lines_io.specs.Pages.{page_after_read, page_after_write, page_after_flush};
+ghost use Rattle.ansi_lines_io.specs.FakeDevices.{fresh_device, next_outcome, bytes_left};
+ghost use Rattle.ansi_lines_io.specs.FakeDevices.{count_given};
+ghost use Rattle.ansi_lines_io.specs.FakeDevices.{read_comes_to, write_comes_to, flush_comes_to};
+ghost use Rattle.ansi_lines_io.specs.FakeDevices.{device_after_read, device_after_write};
+ghost use Rattle.ansi_lines_io.specs.FakeDevices.{device_after_flush};
 
 use crate::devices::{ReadFault, Sink, Source, WriteFault};
 use std::alloc::{AllocError, Global};
@@ -23,20 +25,21 @@ pub enum Outcome {
     Failed,
 }
 
-/// Bytes in memory. Reads start at the first byte, and writes append.
+/// A device for tests: bytes in memory. Reads start at the first byte, and writes append.
 ///
 /// Each call, of any kind, takes the first outcome off the schedule and ends with it. After the
-/// schedule's end every call works. A page allocates its room when it is made. A write doesn't
+/// schedule's end every call works. A device allocates its room when it is made. A write doesn't
 /// allocate, and fails if the room is too small.
 ///
 /// ```
-/// let mut page = Page::with_room(alloc, 3)?.with_schedule(vec![in alloc; Outcome::Failed; 1]?);
-/// assert!(page.write(b"abc").is_err());
-/// assert!(page.write(b"abc").is_ok());
-/// assert!(page.write(b"d").is_err());
+/// let schedule = vec![in alloc; Outcome::Failed; 1]?;
+/// let mut device = FakeDevice::with_room(alloc, 3)?.with_schedule(schedule);
+/// assert!(device.write(b"abc").is_err());
+/// assert!(device.write(b"abc").is_ok());
+/// assert!(device.write(b"d").is_err());
 /// ```
 #[derive(Drop)]
-pub struct Page {
+pub struct FakeDevice {
     bytes: Vec<u8>,
     read: usize,
     flushed: usize,
@@ -49,36 +52,36 @@ pub struct Page {
     failed: bool,
 }
 
-impl Model for Page {
+impl Model for FakeDevice {
     ghost use Rattle.std.specs.Prelude.{vec_len, vec_capacity};
-    ghost use Rattle.ansi_lines_io.specs.PageStates.{PageState, IsWithinRoom};
+    ghost use Rattle.ansi_lines_io.specs.FakeDeviceStates.{FakeDeviceState, IsWithinRoom};
 
-    ghost Value = { PageState };
+    ghost Value = { FakeDeviceState };
 
-    ghost view = { λ page. record {
-      bytes = page.bytes.items;
-      read = page.read;
-      flushed = page.flushed;
-      reads = page.reads;
-      flushes = page.flushes;
-      room = page.room;
-      chunk = page.chunk;
-      schedule = page.schedule.items;
-      interrupted = page.interrupted;
-      failed = page.failed;
+    ghost view = { λ device. record {
+      bytes = device.bytes.items;
+      read = device.read;
+      flushed = device.flushed;
+      reads = device.reads;
+      flushes = device.flushes;
+      room = device.room;
+      chunk = device.chunk;
+      schedule = device.schedule.items;
+      interrupted = device.interrupted;
+      failed = device.failed;
     } };
 
-    ghost invariant = { λ page.
-        IsWithinRoom page.read (vec_len page.bytes) page.room (vec_capacity page.bytes) };
+    ghost invariant = { λ device.
+        IsWithinRoom device.read (vec_len device.bytes) device.room (vec_capacity device.bytes) };
 }
 
-impl Page {
-    /// A page with bytes to read and no room for more. Doesn't allocate.
+impl FakeDevice {
+    /// A device with bytes to read and no room for more. Doesn't allocate.
     pub fn of(alloc: Global, bytes: Vec<u8>) -> Self
-        ensures { result ≡ fresh_page bytes.items (vec_len bytes) }
+        ensures { result ≡ fresh_device bytes.items (vec_len bytes) }
     {
         let room = bytes.len();
-        Page {
+        FakeDevice {
             bytes,
             read: 0,
             flushed: 0,
@@ -92,11 +95,11 @@ impl Page {
         }
     }
 
-    /// An empty page with room for `room` bytes. `Err` means that memory has run out.
+    /// An empty device with room for `room` bytes. `Err` means that memory has run out.
     pub fn with_room(alloc: Global, room: usize) -> Result<Self, AllocError>
-        ensures { IfOk result (λ page. page ≡ fresh_page [] room) }
+        ensures { IfOk result (λ device. device ≡ fresh_device [] room) }
     {
-        Ok(Page {
+        Ok(FakeDevice {
             bytes: Vec::with_capacity(alloc, room)?,
             read: 0,
             flushed: 0,
@@ -110,7 +113,7 @@ impl Page {
         })
     }
 
-    /// The page with a schedule: the outcomes of its next calls.
+    /// The device with a schedule: the outcomes of its next calls.
     pub fn with_schedule(mut self, schedule: Vec<Outcome>) -> Self
         ensures { result ≡ record self { schedule = schedule.items } }
     {
@@ -118,7 +121,7 @@ impl Page {
         self
     }
 
-    /// The page with a limit: a read gives at most `chunk` bytes, or one if `chunk` is 0.
+    /// The device with a limit: a read gives at most `chunk` bytes, or one if `chunk` is 0.
     pub fn in_chunks(mut self, chunk: usize) -> Self
         ensures { result ≡ record self { chunk = chunk } }
     {
@@ -150,7 +153,7 @@ impl Page {
     // Takes the next outcome off the schedule.
     fn take_outcome(&mut self) -> Outcome
         ensures outcome { result ≡ next_outcome self.old }
-        ensures page { self.new ≡ record self.old { schedule = drop 1 self.old.schedule } }
+        ensures device { self.new ≡ record self.old { schedule = drop 1 self.old.schedule } }
     {
         self.schedule.pop_front().unwrap_or(Outcome::Works)
     }
@@ -158,7 +161,7 @@ impl Page {
     // Counts a read, and takes its outcome off the schedule.
     fn start_read(&mut self) -> Outcome
         ensures outcome { result ≡ next_outcome self.old }
-        ensures page { self.new ≡ record self.old {
+        ensures device { self.new ≡ record self.old {
           reads = count_after self.old.reads 1;
           schedule = drop 1 self.old.schedule;
         } }
@@ -171,7 +174,7 @@ impl Page {
     fn give(&mut self, room: &mut [u8]) -> usize
         ensures count { result ≡ count_given self.old (length room.old) }
         ensures bytes { room.new ≡ take result (bytes_left self.old) ++ drop result room.old }
-        ensures page { self.new ≡ record self.old { read = self.old.read + result } }
+        ensures device { self.new ≡ record self.old { read = self.old.read + result } }
     {
         let rest = &self.bytes[self.read..];
         let count = rest.len().min(room.len()).min(self.chunk.max(1));
@@ -181,16 +184,16 @@ impl Page {
     }
 }
 
-impl Source for Page {
-    ghost use Rattle.ansi_lines_io.specs.Pages.{bytes_left};
+impl Source for FakeDevice {
+    ghost use Rattle.ansi_lines_io.specs.FakeDevices.{bytes_left};
 
-    ghost left = { λ page. Some (bytes_left page) };
+    ghost left = { λ device. Some (bytes_left device) };
 
-    ghost reads = { λ page. page.reads };
+    ghost reads = { λ device. device.reads };
 
-    ghost interrupted = { λ page. page.interrupted };
+    ghost interrupted = { λ device. device.interrupted };
 
-    ghost failed = { λ page. page.failed };
+    ghost failed = { λ device. device.failed };
 
     fn read(&mut self, room: &mut [u8]) -> Result<usize, ReadFault>
         ensures within { IfOk result (λ count. count ≤ length room.new) }
@@ -202,7 +205,7 @@ impl Source for Page {
         ensures failed { self.new.failed ≡ (self.old.failed || was_failed result) }
         ensures outcome { result
             ≡ read_comes_to (next_outcome self.old) (count_given self.old (length room.old)) }
-        ensures page { self.new ≡ page_after_read self.old result }
+        ensures device { self.new ≡ device_after_read self.old result }
     {
         match self.start_read() {
             Outcome::Works => Ok(self.give(room)),
@@ -218,16 +221,16 @@ impl Source for Page {
     }
 }
 
-impl Sink for Page {
+impl Sink for FakeDevice {
     ghost use Rattle.std.specs.Prelude.{take};
 
-    ghost taken = { λ page. Some page.bytes };
+    ghost taken = { λ device. Some device.bytes };
 
-    ghost flushed = { λ page. Some (take page.flushed page.bytes) };
+    ghost flushed = { λ device. Some (take device.flushed device.bytes) };
 
-    ghost flushes = { λ page. page.flushes };
+    ghost flushes = { λ device. device.flushes };
 
-    ghost failed = { λ page. page.failed };
+    ghost failed = { λ device. device.failed };
 
     fn write(&mut self, bytes: &[u8]) -> Result<(), WriteFault>
         ensures taken { OnOk result
@@ -236,7 +239,7 @@ impl Sink for Page {
         ensures failed { self.new.failed ≡ (self.old.failed || is_err result) }
         ensures outcome { result ≡ write_comes_to (next_outcome self.old) (length self.old.bytes
             + length bytes.now) self.old.room }
-        ensures page { self.new ≡ page_after_write self.old bytes.now result }
+        ensures device { self.new ≡ device_after_write self.old bytes.now result }
     {
         let outcome = self.take_outcome();
         let has_room = bytes.len() <= self.room - self.bytes.len();
@@ -254,7 +257,7 @@ impl Sink for Page {
         ensures flushes { self.new.flushes ≡ count_after self.old.flushes 1 }
         ensures failed { self.new.failed ≡ (self.old.failed || is_err result) }
         ensures outcome { result ≡ flush_comes_to (next_outcome self.old) }
-        ensures page { self.new ≡ page_after_flush self.old result }
+        ensures device { self.new ≡ device_after_flush self.old result }
     {
         self.flushes = self.flushes.saturating_add(1);
         if self.take_outcome() == Outcome::Works {
