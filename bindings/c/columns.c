@@ -268,6 +268,6 @@ int main(void) {
     free(line);
     expect_failures();
     expect("memory was missing", wanting > 0);
-    printf("columns: %ld rows are as they should be, and %ld calls told of lack of memory\n", rows, wanting);
+    printf("columns: %ld rows are as they should be, and %ld calls reported lack of memory\n", rows, wanting);
     return 0;
 }

@@ -569,6 +569,6 @@ int main(void) {
     }
     free(line);
     expect("memory was missing", wanting > 0);
-    printf("vectors: %ld rows are as they should be, and %ld calls told of lack of memory\n", line_number, wanting);
+    printf("vectors: %ld rows are as they should be, and %ld calls reported lack of memory\n", line_number, wanting);
     return 0;
 }

@@ -1,4 +1,4 @@
-"""Passes the rows of texts and answers that the library for C is tested with, and the examples of the docstrings."""
+"""Passes the rows of texts and results that the library for C is tested with, and the examples of the docstrings."""
 
 import doctest
 import os
@@ -137,7 +137,7 @@ class Rows(unittest.TestCase):
             ansi_str.cut("abc", 2, 1)
 
 
-# each call that takes a text, and what stands for its other arguments
+# each call that takes a text, and what is passed for its other arguments
 CALLS = {"strip": [], "cut": [0], "left": [0], "right": [0], "part": [",", 0], "strip_prefix": [""], "strip_suffix": [""],
          "trim": [], "width": [], "fitting": [1], "truncate": [1], "pad": [1], "wrap": [1], "find": [""], "starts_with": [""], "ends_with": [""], "has_any": [], "is_whole": [], "split": [","],
          "iter_split": [","], "blocks": [], "iter_blocks": [], "edit": [[]]}

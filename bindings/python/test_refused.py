@@ -1,6 +1,6 @@
-"""Makes each call of the module in C with each of its requests for memory refused in turn: it raises a MemoryError, then answers as
+"""Makes each call of the module in C with each of its requests for memory refused in turn: it raises a MemoryError, and then returns as
 before, and holds no memory. `bindings/test` runs it over refusing.c, with PYTHONMALLOC=malloc. (Python's own code between the
-calls isn't tried: some interpreters don't stand it.)"""
+calls isn't tried: some interpreters don't handle that.)"""
 
 import ctypes
 import gc
@@ -37,7 +37,7 @@ def calls():
 
 
 def answer(call, granted):
-    """The answer, or MemoryError where the request after so many is refused, and whether it was."""
+    """The result, or MemoryError if the request after that many is refused, and whether it was."""
     ALLOCATOR.refuse(granted)
     try:
         got = call()

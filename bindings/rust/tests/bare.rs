@@ -1,4 +1,4 @@
-//! Texts without ESC, which std alone answers: `bindings/test` runs this over a library each of whose calls stops the program.
+//! Texts without ESC, which std alone handles: `bindings/test` runs this over a library each of whose calls stops the program.
 
 use ansi_str::{get_blocks, AnsiStr};
 

@@ -1,4 +1,4 @@
-//! Which answers are borrows, and which types can be asked.
+//! Which results are borrows, and which types have the calls.
 
 use ansi_str::{get_blocks, AnsiSequenceEnd, AnsiStr};
 use std::borrow::Cow;

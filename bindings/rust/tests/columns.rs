@@ -1,4 +1,4 @@
-//! Passes the rows of columns and answers that `crates/ansi_columns_rows` reads.
+//! Passes the rows of columns and results that `crates/ansi_columns_rows` reads.
 
 use ansi_str::columns::{Alignment, AnsiColumns};
 use ansi_str::AnsiStr;
@@ -6,7 +6,7 @@ use std::borrow::Cow;
 
 const ROWS: &str = include_str!("../../../crates/ansi_columns_rows/stdin");
 
-/// A field with each of its escapes as the character that it stands for.
+/// A field with each of its escapes as the character that it means.
 fn unescaped(field: &str) -> String {
     let mut text = String::new();
     let mut characters = field.chars();

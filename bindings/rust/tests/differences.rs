@@ -1,4 +1,4 @@
-//! Cases in which the answers differ from those of the crate `ansi-str`, as docs/DIFFERENCES.md lists them.
+//! Cases in which the results differ from those of the crate `ansi-str`, as docs/DIFFERENCES.md lists them.
 
 use ansi_str::{get_blocks, AnsiStr};
 

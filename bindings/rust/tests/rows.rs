@@ -1,4 +1,4 @@
-//! Passes the rows of texts and answers that the library for C is tested with.
+//! Passes the rows of texts and results that the library for C is tested with.
 
 use ansi_str::{get_blocks, AnsiStr, Color};
 

@@ -8,7 +8,7 @@ abbrev block : List ℕ → Rendition → Bool → Block
 block w s lent = record { text = w; style = s; is_borrow = lent }
 
 -- a run is a block, in the style there
-runs : MakesRows blocks (
+blocks_of_texts : MakesRows blocks (
     ([], [])
     ∷ (codes "213\n456", block (codes "213\n456") plain_style true ∷ [])
     ∷ (codes "\u{1b}[38;7;1mx", block (codes "x") (record plain_style { bold = true }) true ∷ [])
@@ -30,7 +30,7 @@ runs : MakesRows blocks (
     )
     ∷ [])
 unfolding blocks_from
-runs = refl
+blocks_of_texts = refl
 
 -- other sequences wait for the next run, and after the last one they are dropped
 waiting_sequences : MakesRows blocks (
@@ -44,9 +44,9 @@ waiting_sequences : MakesRows blocks (
 unfolding blocks_from
 waiting_sequences = refl
 
-ends : MakesRows close_if_any (
+closes : MakesRows close_if_any (
     (record plain_style { unknown = true }, [])
     ∷ (record plain_style { reset = true; unknown = true }, codes "\u{1b}[0m\u{1b}[0m")
     ∷ (record plain_style { font = Some 12 }, codes "\u{1b}[10m")
     ∷ [])
-ends = refl
+closes = refl

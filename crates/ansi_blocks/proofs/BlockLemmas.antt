@@ -1,5 +1,5 @@
 -- The blocks of a text, by one walk over its pieces with what waits for the next run, and a running style.
-use Rattle.ansi_blocks.proofs.Common.{◌≡◌, ℕ, IsTrue, zero, suc, ◌≤◌, ◌+◌, ◌<◌, Bool, true, false, not, ◌==◌, List, [], ◌∷◌, ◌++◌, map, filter, filter_map, length, refl, sym, ◌∙◌, ap, ap₂, subst, arith, if◌then◌else◌, append_assoc, append-nil, nat_tests, list_all, is_sgr, Piece, Text, spelling, ArePieces, first_piece, first_pieces, pieces_of, Mark, Placed, placed_further_on, places, marks_of, joined, has_escape, marks_at, copied, Rendition, plain_style, apply, style_within, Block, sequences_before, block_after, block_of, blocks_from, blocks, pieces_are, further, marks_of-text, marks_of-mark, style_by_marks, style_by_marks-before, style_by_marks-text, style_by_marks-mark}
+use Rattle.ansi_blocks.proofs.Common.{◌≡◌, ℕ, IsTrue, zero, suc, ◌≤◌, ◌+◌, ◌<◌, Bool, true, false, not, ◌==◌, List, [], ◌∷◌, ◌++◌, map, filter, filter_map, length, refl, sym, ◌∙◌, ap, ap₂, subst, arith, if◌then◌else◌, append_assoc, append-nil, nat_tests, list_all, is_sgr, Piece, Text, spelling, ArePieces, first_piece, first_pieces, pieces_of, Mark, Placed, placed_further_on, places, marks_of, joined, has_escape, marks_at, copied, Rendition, plain_style, apply, style_within, Block, sequences_before, block_after, block_of, blocks_from, blocks, pieces_are, mark_further_on, marks_of-text, marks_of-mark, style_by_marks, style_by_marks-before, style_by_marks-text, style_by_marks-mark}
 use Rattle.std.specs.Prelude.{IsFalse}
 use Rattle.ansi_items.proofs.PlainLemmas.{one_text, pieces_of-bare}
 
@@ -24,29 +24,29 @@ bytes_of_others ms = joined (filter (λ m. not (is_sgr m.bytes)) ms)
 abbrev pub sequences_at_pieces : List Piece → ℕ → List ℕ
 sequences_at_pieces ps i = bytes_of_others (marks_at i (marks_of ps))
 
-pub others-further : (n i : ℕ) (ms : List Mark) → bytes_of_others (marks_at (n + i) (map (further n) ms)) ≡ bytes_of_others (marks_at i ms)
+pub others-further : (n i : ℕ) (ms : List Mark) → bytes_of_others (marks_at (n + i) (map (mark_further_on n) ms)) ≡ bytes_of_others (marks_at i ms)
 others-further n i [] = refl
 others-further n i (m ∷ ms) =
     let same : (n + m.place == n + i) ≡ (m.place == i) = grind (arith, nat_tests) in
-    let later = marks_at (n + i) (map (further n) ms) in
-    ap (λ b. bytes_of_others (if b then further n m ∷ later else later)) same
+    let later = marks_at (n + i) (map (mark_further_on n) ms) in
+    ap (λ b. bytes_of_others (if b then mark_further_on n m ∷ later else later)) same
     ∙ with_head (m.place == i) later (marks_at i ms) (others-further n i ms)
   where
     with_head : (here : Bool) (ks ls : List Mark) → bytes_of_others ks ≡ bytes_of_others ls
-        → bytes_of_others (if here then further n m ∷ ks else ks) ≡ bytes_of_others (if here then m ∷ ls else ls)
+        → bytes_of_others (if here then mark_further_on n m ∷ ks else ks) ≡ bytes_of_others (if here then m ∷ ls else ls)
     with_head true ks ls same = by_kind (not (is_sgr m.bytes))
       where
-        by_kind : (b : Bool) → joined (if b then further n m ∷ filter (λ k. not (is_sgr k.bytes)) ks else filter (λ k. not (is_sgr k.bytes)) ks) ≡ joined (if b then m ∷ filter (λ k. not (is_sgr k.bytes)) ls else filter (λ k. not (is_sgr k.bytes)) ls)
+        by_kind : (b : Bool) → joined (if b then mark_further_on n m ∷ filter (λ k. not (is_sgr k.bytes)) ks else filter (λ k. not (is_sgr k.bytes)) ks) ≡ joined (if b then m ∷ filter (λ k. not (is_sgr k.bytes)) ls else filter (λ k. not (is_sgr k.bytes)) ls)
         by_kind true = ap (λ v. m.bytes ++ v) same
         by_kind false = same
     with_head false ks ls same = same
 
 -- marks at later places aren't at the front
-others-front : (n : ℕ) (ms : List Mark) → 0 < n → bytes_of_others (marks_at 0 (map (further n) ms)) ≡ []
+others-front : (n : ℕ) (ms : List Mark) → 0 < n → bytes_of_others (marks_at 0 (map (mark_further_on n) ms)) ≡ []
 others-front n [] some = refl
 others-front n (m ∷ ms) some =
     let apart : (n + m.place == 0) ≡ false = grind (arith, nat_tests) in
-    ap (λ b. bytes_of_others (if b then further n m ∷ marks_at 0 (map (further n) ms) else marks_at 0 (map (further n) ms))) apart ∙ others-front n ms some
+    ap (λ b. bytes_of_others (if b then mark_further_on n m ∷ marks_at 0 (map (mark_further_on n) ms) else marks_at 0 (map (mark_further_on n) ms))) apart ∙ others-front n ms some
 
 -- a mark at the front
 pub others-here : (v : List ℕ) (ms : List Mark) → bytes_of_others (marks_at 0 (record { place = 0; bytes = v } ∷ ms)) ≡ (if is_sgr v then [] else v) ++ bytes_of_others (marks_at 0 ms)
@@ -82,11 +82,11 @@ record Follows (wait : ℕ → List ℕ) (style : ℕ → Rendition) (held : Lis
   later : (i : ℕ) → 0 < i → wait i ≡ sequences_at_pieces ps i
   styles : (i : ℕ) → style i ≡ style_by_marks s ps i
 
-walk : (ps : List Piece) (t : List ℕ) → ArePieces t ps → (wait : ℕ → List ℕ) (style : ℕ → Rendition) (held : List ℕ) (s : Rendition) → Follows wait style held s ps
+blocks_by_places-through : (ps : List Piece) (t : List ℕ) → ArePieces t ps → (wait : ℕ → List ℕ) (style : ℕ → Rendition) (held : List ℕ) (s : Rendition) → Follows wait style held s ps
     → blocks_by_places wait style (places ps) ≡ blocks_through s held ps
-walk [] t are wait style held s follows = refl
-walk (Text [] ∷ ps) t are wait style held s follows = absurd (are.2.0 refl)
-walk (Text (c ∷ w) ∷ ps) t are wait style held s follows =
+blocks_by_places-through [] t are wait style held s follows = refl
+blocks_by_places-through (Text [] ∷ ps) t are wait style held s follows = absurd (are.2.0 refl)
+blocks_by_places-through (Text (c ∷ w) ∷ ps) t are wait style held s follows =
     let n = length (c ∷ w) in
     let none : sequences_at_pieces (Text (c ∷ w) ∷ ps) 0 ≡ [] = ap (λ ms. bytes_of_others (marks_at 0 ms)) (marks_of-text (c ∷ w) ps) ∙ others-front n (marks_of ps) (omega arith) in
     let beyond : (i : ℕ) → wait (n + i) ≡ sequences_at_pieces ps i = λ i.
@@ -94,14 +94,14 @@ walk (Text (c ∷ w) ∷ ps) t are wait style held s follows =
     ap₂ (λ b bs. b ∷ bs)
     (ap₂ (λ v r. block_after v (c ∷ w) r) (follows.first ∙ ap (λ v. held ++ v) none ∙ append-nil held) (follows.styles 0 ∙ style_by_marks-before s (c ∷ w) ps 0 (omega arith)))
     (blocks_by_places-further wait style n (places ps)
-    ∙ walk ps are.0 are.3 (λ i. wait (n + i)) (λ i. style (n + i)) [] s (record {
+    ∙ blocks_by_places-through ps are.0 are.3 (λ i. wait (n + i)) (λ i. style (n + i)) [] s (record {
       first = beyond 0;
       later = λ i some. beyond i;
       styles = λ i. follows.styles (n + i) ∙ style_by_marks-text s (c ∷ w) ps i;
     }))
-walk (p ∷ ps) t are wait style held s follows =
+blocks_by_places-through (p ∷ ps) t are wait style held s follows =
     blocks_by_places-further wait style 0 (places ps)
-    ∙ walk ps are.0 are.3 (λ i. wait (0 + i)) (λ i. style (0 + i)) (held ++ copied p) (apply s (spelling p)) (record {
+    ∙ blocks_by_places-through ps are.0 are.3 (λ i. wait (0 + i)) (λ i. style (0 + i)) (held ++ copied p) (apply s (spelling p)) (record {
       first = ap wait (omega arith) ∙ follows.first
           ∙ ap (λ v. held ++ v) (ap (λ ms. bytes_of_others (marks_at 0 ms)) (marks_of-mark p ps refl) ∙ others-here (spelling p) (marks_of ps))
           ∙ sym (append_assoc held (copied p) (sequences_at_pieces ps 0));
@@ -111,7 +111,7 @@ walk (p ∷ ps) t are wait style held s follows =
 
 pub blocks_from-walked : (s : Rendition) (t : List ℕ) → blocks_from s t ≡ blocks_through s [] (pieces_of t)
 unfolding blocks_from
-blocks_from-walked s t = walk (pieces_of t) t (pieces_are t) (sequences_before t) (style_within s t) [] s (record { first = refl; later = λ i some. refl; styles = λ i. refl })
+blocks_from-walked s t = blocks_by_places-through (pieces_of t) t (pieces_are t) (sequences_before t) (style_within s t) [] s (record { first = refl; later = λ i some. refl; styles = λ i. refl })
 
 -- an empty text has no blocks
 pub blocks_from-nil : (s : Rendition) → blocks_from s [] ≡ []

@@ -6,10 +6,10 @@ use Rattle.ansi_style.proofs.SgrLemmas.{apply-no_sgr}
 use Rattle.ansi_blocks.proofs.BlockLemmas.{blocks_through, sequences_before_pieces, blocks_from-walked, sequences_before-front}
 
 -- over a mark; an SGR doesn't wait
-through-mark : (p : Piece) (w : List ℕ) (s : Rendition) (held : List ℕ) (ps : List Piece) → is_mark p ≡ true → spelling p ≡ w
+blocks_through-mark : (p : Piece) (w : List ℕ) (s : Rendition) (held : List ℕ) (ps : List Piece) → is_mark p ≡ true → spelling p ≡ w
     → (blocks_through s held (p ∷ ps) ≡ blocks_through (apply s w) (held ++ copied (Sequence w)) ps) × (sequences_before_pieces (p ∷ ps) ≡ copied (Sequence w) ++ sequences_before_pieces ps)
-through-mark (Text v) w s held ps is same = absurd (cc is)
-through-mark p w s held ps is same = (ap (λ u. blocks_through (apply s u) (held ++ copied (Sequence u)) ps) same, ap (λ u. copied (Sequence u) ++ sequences_before_pieces ps) same)
+blocks_through-mark (Text v) w s held ps is same = absurd (cc is)
+blocks_through-mark p w s held ps is same = (ap (λ u. blocks_through (apply s u) (held ++ copied (Sequence u)) ps) same, ap (λ u. copied (Sequence u) ++ sequences_before_pieces ps) same)
 
 -- What is joined, and what waits before the first run among the pieces that are left, are all that waits.
 pub record IsJoinedSoFar (whole joined : List ℕ) (left : List Piece) : Type 0 where
@@ -17,7 +17,7 @@ pub record IsJoinedSoFar (whole joined : List ℕ) (left : List Piece) : Type 0 
 
 joined-mark : {whole joined more w : List ℕ} {kind : Kind} {left ps : List Piece} → IsJoinedSoFar whole joined left → BeginsWithMark kind w left ps → more ≡ joined ++ copied (Sequence w) → IsJoinedSoFar whole more ps
 joined-mark {whole} {joined} {more} {w} {kind} {left} {ps} so_far begins is =
-    let front = ap sequences_before_pieces begins.pieces ∙ (through-mark begins.mark w plain_style [] ps begins.is_mark begins.bytes).1 in
+    let front = ap sequences_before_pieces begins.pieces ∙ (blocks_through-mark begins.mark w plain_style [] ps begins.is_mark begins.bytes).1 in
     record { bytes = ap (λ u. u ++ sequences_before_pieces ps) is ∙ append_assoc joined (copied (Sequence w)) (sequences_before_pieces ps) ∙ ap (λ u. joined ++ u) (sym front) ∙ so_far.bytes }
 
 pub joined-other : {whole joined more w : List ℕ} {kind : Kind} {left ps : List Piece} → IsJoinedSoFar whole joined left → BeginsWithMark kind w left ps → kind ≢ Sgr → more ≡ joined ++ w → IsJoinedSoFar whole more ps
@@ -38,7 +38,7 @@ pub run-other : {from s : Rendition} {t : List ℕ} {waits : Bool} {kind : Kind}
     → kind ≢ Sgr → w ≢ [] → IsRunSoFar from t s true ps
 run-other {from} {s} {t} {waits} {kind} {w} {pieces} {ps} so_far begins other filled =
     let first = subst (IsRunSoFar from t s waits) begins.pieces so_far in
-    let step = through-mark begins.mark w s first.held ps begins.is_mark begins.bytes in
+    let step = blocks_through-mark begins.mark w s first.held ps begins.is_mark begins.bytes in
     let all : copied (Sequence w) ≡ w = ap (λ b. if b then [] else w) (begins.no_sgr other) in
     record {
       held = first.held ++ w;

@@ -15,6 +15,6 @@ pub use Rattle.ansi_style.specs.Rendition.{plain_style}
 pub use Rattle.ansi_style.specs.Sgr.{apply}
 pub use Rattle.ansi_style.specs.Reading.{style_within}
 pub use Rattle.ansi_style.specs.States.{rendition_of}
-pub use Rattle.ansi_style.proofs.MarkLemmas.{further, marks_of-text, marks_of-mark, style_by_marks, style_by_marks-before, style_by_marks-text, style_by_marks-mark}
+pub use Rattle.ansi_style.proofs.MarkLemmas.{mark_further_on, marks_of-text, marks_of-mark, style_by_marks, style_by_marks-before, style_by_marks-text, style_by_marks-mark}
 pub use Rattle.ansi_blocks.specs.Blocks.{Block, blocks, sequences_before, block_after, block_of, runs, without_sgrs}
 unfoldable pub use Rattle.ansi_blocks.specs.Blocks.{blocks_from}

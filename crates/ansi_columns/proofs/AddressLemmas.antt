@@ -23,7 +23,7 @@ use Rattle.ansi_items.proofs.StepLemmas.{BeginsWithMark, gives_mark, plain_of-ma
 use Rattle.ansi_style.proofs.MarkLemmas.{state_by_marks, state_by_marks-before, state_by_marks-text, state_by_marks-mark}
 use Rattle.ansi_columns.specs.Addresses.{address_at}
 use Rattle.ansi_columns.specs.Links.{terminator_len, address_of, is_link, opens_link, link_of, link_after, link_at}
-use Rattle.ansi_columns.proofs.LinkLemmas.{link_of-fold, is_link-sgr}
+use Rattle.ansi_columns.proofs.LinkLemmas.{link_of-fold, is_link-sgr, has_no_semicolon}
 
 -- ---- the link at a place of pieces, if `link` is open before them
 
@@ -48,21 +48,21 @@ still-sequence link w before is = either (is_link w) (opens_link w)
     either false c = before
 
 -- The state of a walk to the plain byte n: the link so far, and the place of the byte in what is left.
-pub record IsOnTheWay (t : List ℕ) (n : ℕ) (link : List ℕ) (left : ℕ) (ps : List Piece) : Type 0 where
+pub record IsAddressWalk (t : List ℕ) (n : ℕ) (link : List ℕ) (left : ℕ) (ps : List Piece) : Type 0 where
   pub within : nat_lt left (length (plain_of ps)) ≡ nat_lt n (length (plain t))
   pub linked : link_by_marks link ps left ≡ link_at t n
   pub sequence : IsNoneOrSequence link
 
-pub way-begin : (t : List ℕ) (n : ℕ) → IsOnTheWay t n [] n (pieces_of t)
-way-begin t n = record { within = refl; linked = sym (link_of-fold (marks_up_to n (marks t))); sequence = inl refl }
+pub address_walk-begin : (t : List ℕ) (n : ℕ) → IsAddressWalk t n [] n (pieces_of t)
+address_walk-begin t n = record { within = refl; linked = sym (link_of-fold (marks_up_to n (marks t))); sequence = inl refl }
 
 lt-past : (n k m : ℕ) → k ≤ n → nat_lt n (k + m) ≡ nat_lt (n - k) m
 lt-past n k m le = grind (arith, nat_tests)
 
 -- past a text
-pub way-text : {t link w : List ℕ} {n left next : ℕ} {old ps : List Piece} → IsOnTheWay t n link left old → old ≡ Text w ∷ ps → length w ≤ left → next ≡ left - length w → IsOnTheWay t n link next ps
-way-text {t} {link} {w} {n} {left} {next} {old} {ps} way first within next_is =
-    let here = subst (IsOnTheWay t n link left) first way in
+pub address_walk-text : {t link w : List ℕ} {n left next : ℕ} {old ps : List Piece} → IsAddressWalk t n link left old → old ≡ Text w ∷ ps → length w ≤ left → next ≡ left - length w → IsAddressWalk t n link next ps
+address_walk-text {t} {link} {w} {n} {left} {next} {old} {ps} way first within next_is =
+    let here = subst (IsAddressWalk t n link left) first way in
     rw next_is (record {
       within = sym (ap (nat_lt left) (length-append w (plain_of ps)) ∙ lt-past left (length w) (length (plain_of ps)) within) ∙ here.within;
       linked = sym (marks_past-text link w ps left within) ∙ here.linked;
@@ -70,9 +70,9 @@ way-text {t} {link} {w} {n} {left} {next} {old} {ps} way first within next_is =
     })
 
 -- past a sequence that may open a link or end one
-pub way-other : {t link w next : List ℕ} {n left : ℕ} {kind : Kind} {old ps : List Piece} → IsOnTheWay t n link left old → BeginsWithMark kind w old ps → IsSequence w → next ≡ link_after link w → IsOnTheWay t n next left ps
-way-other {t} {link} {w} {next} {n} {left} {kind} {old} {ps} way mark is next_is =
-    let here = subst (IsOnTheWay t n link left) mark.pieces way in
+pub address_walk-other : {t link w next : List ℕ} {n left : ℕ} {kind : Kind} {old ps : List Piece} → IsAddressWalk t n link left old → BeginsWithMark kind w old ps → IsSequence w → next ≡ link_after link w → IsAddressWalk t n next left ps
+address_walk-other {t} {link} {w} {next} {n} {left} {kind} {old} {ps} way mark is next_is =
+    let here = subst (IsAddressWalk t n link left) mark.pieces way in
     rw next_is (record {
       within = ap (λ x. nat_lt left (length x)) (sym (plain_of-mark mark.mark ps mark.is_mark)) ∙ here.within;
       linked = ap (λ v. link_by_marks (link_after link v) ps left) (sym mark.bytes) ∙ sym (state_by_marks-mark link_after link mark.mark ps left mark.is_mark) ∙ here.linked;
@@ -80,9 +80,9 @@ way-other {t} {link} {w} {next} {n} {left} {kind} {old} {ps} way mark is next_is
     })
 
 -- past a mark that does neither
-pub way-rest : {t link w : List ℕ} {n left : ℕ} {kind : Kind} {old ps : List Piece} → IsOnTheWay t n link left old → BeginsWithMark kind w old ps → is_link w ≡ false → IsOnTheWay t n link left ps
-way-rest {t} {link} {w} {n} {left} {kind} {old} {ps} way mark other =
-    let here = subst (IsOnTheWay t n link left) mark.pieces way in
+pub address_walk-rest : {t link w : List ℕ} {n left : ℕ} {kind : Kind} {old ps : List Piece} → IsAddressWalk t n link left old → BeginsWithMark kind w old ps → is_link w ≡ false → IsAddressWalk t n link left ps
+address_walk-rest {t} {link} {w} {n} {left} {kind} {old} {ps} way mark other =
+    let here = subst (IsAddressWalk t n link left) mark.pieces way in
     let same : link_after link w ≡ link = ap (λ b. if b then (if opens_link w then w else []) else link) other in
     record {
       within = ap (λ x. nat_lt left (length x)) (sym (plain_of-mark mark.mark ps mark.is_mark)) ∙ here.within;
@@ -91,16 +91,16 @@ way-rest {t} {link} {w} {n} {left} {kind} {old} {ps} way mark other =
     }
 
 -- the byte is in the next text
-pub way-last : {t link w : List ℕ} {n left : ℕ} {old ps : List Piece} → IsOnTheWay t n link left old → old ≡ Text w ∷ ps → left < length w → address_of link ≡ address_at t n
-way-last {t} {link} {w} {n} {left} {old} {ps} way first last =
-    let here = subst (IsOnTheWay t n link left) first way in
+pub address_walk-last : {t link w : List ℕ} {n left : ℕ} {old ps : List Piece} → IsAddressWalk t n link left old → old ≡ Text w ∷ ps → left < length w → address_of link ≡ address_at t n
+address_walk-last {t} {link} {w} {n} {left} {old} {ps} way first last =
+    let here = subst (IsAddressWalk t n link left) first way in
     let inside : nat_lt n (length (plain t)) ≡ true = sym here.within ∙ lt-ltb left (length (w ++ plain_of ps)) (omega (arith, last, length-append w (plain_of ps))) in
     ap address_of (sym (state_by_marks-before link_after link w ps left last) ∙ here.linked) ∙ sym (ap (λ b. if b then address_of (link_at t n) else None) inside)
 
 -- or there is none
-pub way-end : {t link : List ℕ} {n left : ℕ} {old : List Piece} → IsOnTheWay t n link left old → old ≡ [] → None ≡ address_at t n
-way-end {t} {link} {n} {left} way none =
-    let here = subst (IsOnTheWay t n link left) none way in
+pub address_walk-end : {t link : List ℕ} {n left : ℕ} {old : List Piece} → IsAddressWalk t n link left old → old ≡ [] → None ≡ address_at t n
+address_walk-end {t} {link} {n} {left} way none =
+    let here = subst (IsAddressWalk t n link left) none way in
     let past : nat_lt n (length (plain t)) ≡ false = sym here.within ∙ le-ltb left 0 (omega arith) in
     sym (ap (λ b. if b then address_of (link_at t n) else None) past)
 
@@ -139,8 +139,8 @@ other_is_sequence {old} {new} {item} {t} {w} gives same is kind =
     (subst (ArePieces (drop old.offset old.text)) first (pieces_are (drop old.offset old.text))).2
 
 -- and what it gives as an SGR or a lone escape is no link sequence
-pub unlinked : {old new : Scan} {item : Item} {t w : List ℕ} → GivesItem old item new → old.text ≡ t → w ≡ slice_range t item.start item.end → item.kind ≢ TextKind → item.kind ≢ Other → is_link w ≡ false
-unlinked {old} {new} {item} {t} {w} gives same is no_text no_other =
+pub GivesItem-no_link : {old new : Scan} {item : Item} {t w : List ℕ} → GivesItem old item new → old.text ≡ t → w ≡ slice_range t item.start item.end → item.kind ≢ TextKind → item.kind ≢ Other → is_link w ≡ false
+GivesItem-no_link {old} {new} {item} {t} {w} gives same is no_text no_other =
     let mark = gives_mark gives same is no_text in
     let bytes : slice_range old.text item.start item.end ≡ w = ap (λ v. slice_range v item.start item.end) same ∙ sym is in
     by_kind item.kind no_text no_other mark.sgr (sym bytes ∙ gives.bytes ∙ ap (λ v. spelling (piece_of_kind item.kind v)) bytes)
@@ -153,19 +153,19 @@ unlinked {old} {new} {item} {t} {w} gives same is no_text no_other =
 
 -- ---- the place of the address inside a link sequence
 
-abbrev opening : List ℕ
-opening = codes "\u{1b}]8;"
+abbrev link_opening : List ℕ
+link_opening = codes "\u{1b}]8;"
 
 byte-at : (w u v : List ℕ) (n k : ℕ) → w ≡ u ++ v → n ≡ length u + k → get_or v k 0 < 128 → get_or w n 0 < 128
 byte-at w u v n k is at less = omega (arith, ap₂ (λ x i. get_or x i 0) is at, get_or-append-add u v k 0, less)
 
 -- its terminator begins with an ASCII byte
-record IsEnded (w : List ℕ) : Type 0 where
+record HasAsciiTerminator (w : List ℕ) : Type 0 where
   inside : length w - terminator_len w < length w
   within : terminator_len w ≤ length w
   ascii : get_or w (length w - terminator_len w) 0 < 128
 
-ended-st : (w u : List ℕ) → w ≡ u ++ 0x1B ∷ 0x5C ∷ [] → (b : Bool) → ends_with nat_eq w (codes "\u{7}") ≡ b → IsEnded w
+ended-st : (w u : List ℕ) → w ≡ u ++ 0x1B ∷ 0x5C ∷ [] → (b : Bool) → ends_with nat_eq w (codes "\u{7}") ≡ b → HasAsciiTerminator w
 ended-st w u is true test =
     let one : terminator_len w ≡ 1 = ap (λ b. if b then 1 else 2) test in
     let size = ap length is ∙ length-append u (0x1B ∷ 0x5C ∷ []) in
@@ -175,14 +175,14 @@ ended-st w u is false test =
     let size = ap length is ∙ length-append u (0x1B ∷ 0x5C ∷ []) in
     record { inside = omega (arith, two, size); within = omega (arith, two, size); ascii = byte-at w u (0x1B ∷ 0x5C ∷ []) _ 0 is (omega (arith, two, size)) (lit< tt) }
 
-ended-bel : (w u : List ℕ) → w ≡ u ++ 7 ∷ [] → IsEnded w
+ended-bel : (w u : List ℕ) → w ≡ u ++ 7 ∷ [] → HasAsciiTerminator w
 ended-bel w u is =
     let size : length w ≡ length u + 1 = ap length is ∙ length-append u (7 ∷ []) in
     let last : drop (length w - 1) w ≡ 7 ∷ [] = (let at : length w - 1 ≡ length u = omega (arith, size) in ap₂ drop at is ∙ drop-append_seam u (7 ∷ [])) in
     let one : terminator_len w ≡ 1 = ap (λ v. if pointwise nat_eq (7 ∷ []) v then 1 else 2) last in
     record { inside = omega (arith, one, size); within = omega (arith, one, size); ascii = byte-at w u (7 ∷ []) _ 0 is (omega (arith, one, size)) (lit< tt) }
 
-ended-string : (w : List ℕ) → IsControlString w → IsEnded w
+ended-string : (w : List ℕ) → IsControlString w → HasAsciiTerminator w
 ended-string w s =
     let u = escape ∷ s.opener ∷ s.body in
     elim s.ends [
@@ -190,23 +190,23 @@ ended-string w s =
       | inr bel ↦ ended-bel w u (s.spelled ∙ ap (λ v. u ++ v) bel.1)
     ]
 
-no-control_sequence : (w v : List ℕ) → w ≡ escape ∷ 0x5B ∷ v → starts_with nat_eq w opening ≡ true → IsEnded w
-no-control_sequence w v is begins = absurd (let no : false ≡ true = subst (λ x. starts_with nat_eq x opening ≡ true) is begins in cc)
+no-control_sequence : (w v : List ℕ) → w ≡ escape ∷ 0x5B ∷ v → starts_with nat_eq w link_opening ≡ true → HasAsciiTerminator w
+no-control_sequence w v is begins = absurd (let no : false ≡ true = subst (λ x. starts_with nat_eq x link_opening ≡ true) is begins in cc)
 
-no-escape_sequence : (w is : List ℕ) (final : ℕ) → w ≡ escape ∷ (is ++ final ∷ []) → list_all is_intermediate_byte is ≡ true → starts_with nat_eq w opening ≡ true → IsEnded w
+no-escape_sequence : (w is : List ℕ) (final : ℕ) → w ≡ escape ∷ (is ++ final ∷ []) → list_all is_intermediate_byte is ≡ true → starts_with nat_eq w link_opening ≡ true → HasAsciiTerminator w
 no-escape_sequence w [] final spelled all begins =
-    let tests = subst (λ x. starts_with nat_eq x opening ≡ true) spelled begins in
+    let tests = subst (λ x. starts_with nat_eq x link_opening ≡ true) spelled begins in
     absurd (let no : false ≡ true = (and_parts (nat_eq 0x5D final) false tests).1 in cc no)
 no-escape_sequence w (i ∷ is) final spelled all begins =
-    let tests = subst (λ x. starts_with nat_eq x opening ≡ true) spelled begins in
+    let tests = subst (λ x. starts_with nat_eq x link_opening ≡ true) spelled begins in
     let bracket : 0x5D ≡ i = eqb-true 0x5D i (and_parts _ _ tests).0 in
     let no : false ≡ true = subst (λ b. is_intermediate_byte b ≡ true) (sym bracket) (and_parts (is_intermediate_byte i) (list_all is_intermediate_byte is) all).0 in
     absurd (cc no)
 
-ended : (w : List ℕ) → IsSequence w → starts_with nat_eq w opening ≡ true → IsEnded w
-ended w (inl s) begins = no-control_sequence w _ s.spelled begins
-ended w (inr (inl s)) begins = ended-string w s
-ended w (inr (inr s)) begins = no-escape_sequence w s.intermediates s.final s.spelled s.are_intermediates begins
+HasAsciiTerminator-link : (w : List ℕ) → IsSequence w → starts_with nat_eq w link_opening ≡ true → HasAsciiTerminator w
+HasAsciiTerminator-link w (inl s) begins = no-control_sequence w _ s.spelled begins
+HasAsciiTerminator-link w (inr (inl s)) begins = ended-string w s
+HasAsciiTerminator-link w (inr (inr s)) begins = no-escape_sequence w s.intermediates s.final s.spelled s.are_intermediates begins
 
 -- so its address is between two boundaries
 pub record IsAddressAt (w a : List ℕ) : Type 0 where
@@ -216,18 +216,15 @@ pub record IsAddressAt (w a : List ℕ) : Type 0 where
   pub begins : IsCharBoundary w (length w - terminator_len w - length a)
   pub ends : IsCharBoundary w (length w - terminator_len w)
 
-abbrev has_no_semicolon : ℕ → Bool
-has_no_semicolon b = not (b == 59)
-
-semicolon : (b : ℕ) → has_no_semicolon b ≡ false → b < 128
-semicolon b is = grind (arith, nat_tests)
+semicolon-ascii : (b : ℕ) → has_no_semicolon b ≡ false → b < 128
+semicolon-ascii b is = grind (arith, nat_tests)
 
 some_parts : {X : Type 0} (b c : Bool) (a x : X) → Some a ≡ (if b && c then Some x else None) → (b ≡ true) × (c ≡ true) × (a ≡ x)
 some_parts true true a x e = (refl, refl, cc)
 some_parts true false a x e = absurd (cc)
 some_parts false c a x e = absurd (cc)
 
-address-in : (w a : List ℕ) (p : ℕ) → IsUtf8 w → IsEnded w → (let fields = slice_range w 4 (length w - terminator_len w) in
+address-in : (w a : List ℕ) (p : ℕ) → IsUtf8 w → HasAsciiTerminator w → (let fields = slice_range w 4 (length w - terminator_len w) in
     p < length fields → get_or fields p 0 < 128 → a ≡ drop (p + 1) fields → IsAddressAt w a)
 address-in w a p utf8 ended = λ less ascii is.
     let end = length w - terminator_len w in
@@ -252,6 +249,6 @@ address-stands w a utf8 (inl none) is = absurd (let no : Some a ≡ None = is �
 address-stands w a utf8 (inr sequence) is =
     let fields = slice_range w 4 (length w - terminator_len w) in
     let p = prefix_len has_no_semicolon fields in
-    let parts = some_parts (starts_with nat_eq w opening) (nat_lt p (length fields)) a (drop (p + 1) fields) is in
+    let parts = some_parts (starts_with nat_eq w link_opening) (nat_lt p (length fields)) a (drop (p + 1) fields) is in
     let less = ltb-true p (length fields) parts.1 in
-    address-in w a p utf8 (ended w sequence parts.0) less (semicolon _ (prefix_len_stops has_no_semicolon fields 0 less)) parts.2
+    address-in w a p utf8 (HasAsciiTerminator-link w sequence parts.0) less (semicolon-ascii _ (prefix_len_stops has_no_semicolon fields 0 less)) parts.2

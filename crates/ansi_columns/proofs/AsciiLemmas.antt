@@ -25,45 +25,45 @@ use Rattle.ucd_emoji.proofs.Computing.{ucd_emoji}
 use Rattle.unicode_segmentation.specs.Grapheme.{is_grapheme_break, break_by_pair, is_consonant, ends_in_linker, ends_in_pictograph, ends_in_half_flag}
 use Rattle.unicode_width.proofs.Rules.{str_width-printable}
 use Rattle.ansi_columns.specs.Columns.{cluster_width, columns_of, columns}
-use Rattle.ansi_columns.specs.Seams.{links, seam_of}
+use Rattle.ansi_columns.specs.BreakStates.{links, break_state_of}
 use Rattle.ansi_columns.specs.Walks.{clusters_after}
-use Rattle.ansi_columns.specs.declared.seams.Seam.{Seam}
+use Rattle.ansi_columns.specs.declared.break_state.BreakState.{BreakState}
 use Rattle.ansi_columns.proofs.ClusterLemmas.{cluster-begins, cluster-ends, cluster-last, clusters-none}
-use Rattle.ansi_columns.proofs.SeamLemmas.{seam-push, joins, decided}
+use Rattle.ansi_columns.proofs.BreakLemmas.{break_state-push, joins, is_grapheme_break-decided}
 
 abbrev pub is_printable : ℕ → Bool
 is_printable = is_in_range 0x20 0x7E
 
-below : (c : ℕ) → is_printable c ≡ true → c < 0x7F
-below c printable = grind (arith, nat_tests)
+printable-below_7F : (c : ℕ) → is_printable c ≡ true → c < 0x7F
+printable-below_7F c printable = grind (arith, nat_tests)
 
-no_value : (c : ℕ) → is_printable c ≡ true → Other ≡ grapheme_cluster_break c
+grapheme_cluster_break-printable : (c : ℕ) → is_printable c ≡ true → Other ≡ grapheme_cluster_break c
 unfolding ucd_breaks
-no_value c printable =
-    let test = Stepped-below grapheme_cluster_break grapheme_cluster_break_stepped (λ x v. not (is_printable x) || (grapheme_cluster_break_number Other == grapheme_cluster_break_number v)) 0x7F refl c (below c printable) in
+grapheme_cluster_break-printable c printable =
+    let test = Stepped-below grapheme_cluster_break grapheme_cluster_break_stepped (λ x v. not (is_printable x) || (grapheme_cluster_break_number Other == grapheme_cluster_break_number v)) 0x7F refl c (printable-below_7F c printable) in
     grapheme_cluster_break_number_injective _ _ (eqb-true _ _ (rw printable at test))
 
-no_conjunct : (c : ℕ) → is_printable c ≡ true → InCb.None ≡ indic_conjunct_break c
+indic_conjunct_break-printable : (c : ℕ) → is_printable c ≡ true → InCb.None ≡ indic_conjunct_break c
 unfolding ucd_derived
-no_conjunct c printable =
+indic_conjunct_break-printable c printable =
     indic_conjunct_break_number_injective _ _ (eqb-true _ _
-    (Stepped-below indic_conjunct_break indic_conjunct_break_stepped (λ x v. indic_conjunct_break_number InCb.None == indic_conjunct_break_number v) 0x7F refl c (below c printable)))
+    (Stepped-below indic_conjunct_break indic_conjunct_break_stepped (λ x v. indic_conjunct_break_number InCb.None == indic_conjunct_break_number v) 0x7F refl c (printable-below_7F c printable)))
 
 not-false : (b : Bool) → not b ≡ true → false ≡ b
 not-false true e = cc
 not-false false e = refl
 
-no_pictograph : (c : ℕ) → is_printable c ≡ true → false ≡ is_extended_pictographic c
+is_extended_pictographic-printable : (c : ℕ) → is_printable c ≡ true → false ≡ is_extended_pictographic c
 unfolding ucd_emoji
-no_pictograph c printable = not-false _ (Stepped-below is_extended_pictographic is_extended_pictographic_stepped (λ x v. not v) 0x7F refl c (below c printable))
+is_extended_pictographic-printable c printable = not-false _ (Stepped-below is_extended_pictographic is_extended_pictographic_stepped (λ x v. not v) 0x7F refl c (printable-below_7F c printable))
 
 -- after it, as after nothing
-pub seam-printable : (c : ℕ) (before : List ℕ) → is_printable c ≡ true → seam_of [] ≡ seam_of (c ∷ before)
+pub break_state-printable : (c : ℕ) (before : List ℕ) → is_printable c ≡ true → break_state_of [] ≡ break_state_of (c ∷ before)
 unfolding ends_in_linker ends_in_pictograph ends_in_half_flag
-seam-printable c before printable =
-    seam-push c (seam_of before) before refl Other false false false false (no_value c printable)
-    (ap (λ v. links v (seam_of before).is_linked) (no_conjunct c printable))
-    (ap (λ b. b || false) (no_pictograph c printable)) refl refl
+break_state-printable c before printable =
+    break_state-push c (break_state_of before) before refl Other false false false false (grapheme_cluster_break-printable c printable)
+    (ap (λ v. links v (break_state_of before).is_linked) (indic_conjunct_break-printable c printable))
+    (ap (λ b. b || false) (is_extended_pictographic-printable c printable)) refl refl
 
 no_join : (a b d : Bool) → (((a && false) || (b && false)) || (d && false)) ≡ false
 no_join true true true = refl
@@ -76,15 +76,15 @@ no_join false false true = refl
 no_join false false false = refl
 
 -- before it, the value of the character there decides alone
-pub ends-printable : (s : Seam) (before : List ℕ) (next : ℕ) (after : List ℕ) → before ≢ [] → s ≡ seam_of before → is_printable next ≡ true
+pub ends-printable : (s : BreakState) (before : List ℕ) (next : ℕ) (after : List ℕ) → before ≢ [] → s ≡ break_state_of before → is_printable next ≡ true
     → unwrap_or (break_by_pair true s.last Other) true ≡ is_grapheme_break true before (next ∷ after)
 ends-printable s before next after some is printable =
     let joins_none : joins s Other next ≡ false =
-    ap (λ (v : IndicConjunctBreak). ((s.is_linked && is_consonant v) || (s.is_joined && is_extended_pictographic next)) || (s.is_half_flag && false)) (sym (no_conjunct next printable))
-    ∙ ap (λ b. ((s.is_linked && false) || (s.is_joined && b)) || (s.is_half_flag && false)) (sym (no_pictograph next printable))
+    ap (λ (v : IndicConjunctBreak). ((s.is_linked && is_consonant v) || (s.is_joined && is_extended_pictographic next)) || (s.is_half_flag && false)) (sym (indic_conjunct_break-printable next printable))
+    ∙ ap (λ b. ((s.is_linked && false) || (s.is_joined && b)) || (s.is_half_flag && false)) (sym (is_extended_pictographic-printable next printable))
     ∙ no_join s.is_linked s.is_joined s.is_half_flag in
     ap (λ b. unwrap_or (break_by_pair true s.last Other) (not b)) (sym joins_none)
-    ∙ decided s before next after some is Other (no_value next printable) (break_by_pair true s.last Other) refl
+    ∙ is_grapheme_break-decided s before next after some is Other (grapheme_cluster_break-printable next printable) (break_by_pair true s.last Other) refl
 
 -- alone, it has one column
 pub width-one : (x : List ℕ) → IsUtf8 x → length x ≡ 1 → 0x20 ≤ slice_index x 0 → slice_index x 0 ≤ 0x7E → 1 ≡ cluster_width (chars x)
@@ -103,8 +103,8 @@ width-single c printable = str_width-printable false (c ∷ []) (rw printable re
 
 pub breaks-between : (before : List ℕ) (c d : ℕ) (cs : List ℕ) → is_printable c ≡ true → is_printable d ≡ true → is_grapheme_break true (c ∷ before) (d ∷ cs) ≡ true
 breaks-between before c d cs first second =
-    sym (ends-printable (seam_of (c ∷ before)) (c ∷ before) d cs (λ none. cc) refl second)
-    ∙ ap (λ v. unwrap_or (break_by_pair true v Other) true) (sym (no_value c first))
+    sym (ends-printable (break_state_of (c ∷ before)) (c ∷ before) d cs (λ none. cc) refl second)
+    ∙ ap (λ v. unwrap_or (break_by_pair true v Other) true) (sym (grapheme_cluster_break-printable c first))
 
 columns-from : (before cs : List ℕ) → list_all is_printable cs ≡ true → columns_of (clusters_after before cs) ≡ length cs
 columns-from before [] all = ap columns_of (clusters-none before)
@@ -119,9 +119,9 @@ columns-from before (c ∷ d ∷ cs) all =
     ∙ sum_by-cons cluster_width (c ∷ []) (clusters_after (c ∷ before) (d ∷ cs)) in
     omega (arith, split, width-single c first, columns-from (c ∷ before) (d ∷ cs) rest)
 
-pub are_ascii : (x : List ℕ) → list_all is_printable x ≡ true → All (λ b. b < 128) x
-are_ascii [] all = All-nil _
-are_ascii (b ∷ x) all = All-cons (λ b. b < 128) b x (omega (arith, below b (and_parts _ _ all).0)) (are_ascii x (and_parts _ _ all).1)
+pub All-printable_is_ascii : (x : List ℕ) → list_all is_printable x ≡ true → All (λ b. b < 128) x
+All-printable_is_ascii [] all = All-nil _
+All-printable_is_ascii (b ∷ x) all = All-cons (λ b. b < 128) b x (omega (arith, printable-below_7F b (and_parts _ _ all).0)) (All-printable_is_ascii x (and_parts _ _ all).1)
 
 pub columns-printable : (x : List ℕ) → IsTrue (list_all is_printable x) → columns x ≡ length x
-columns-printable x all = ap (λ cs. columns_of (clusters_after [] cs)) (chars-IsAscii x (IsAscii-from_all x (are_ascii x all))) ∙ columns-from [] x all
+columns-printable x all = ap (λ cs. columns_of (clusters_after [] cs)) (chars-IsAscii x (IsAscii-from_all x (All-printable_is_ascii x all))) ∙ columns-from [] x all

@@ -13,9 +13,9 @@ use Rattle.ansi_columns.proofs.ClusterLemmas.{cluster-begins, cluster-ends, clus
 use Rattle.ansi_columns.proofs.LineLawLemmas.{boundary_between}
 
 -- the characters before a place, the nearest first, and those that follow them
-abbrev pub back : List ℕ → List ℕ → List ℕ
-back before [] = before
-back before (c ∷ cs) = back (c ∷ before) cs
+abbrev pub reversed_before : List ℕ → List ℕ → List ℕ
+reversed_before before [] = before
+reversed_before before (c ∷ cs) = reversed_before (c ∷ before) cs
 
 -- A break depends only on the characters before it and on the next character.
 
@@ -48,16 +48,16 @@ clusters-some before c cs = begins (is_grapheme_break true (c ∷ before) cs) (c
     begins false (k ∷ ks) e = (c ∷ k, ks, e)
 
 -- The first n clusters of the characters cs, after others, are those of `front` alone, and the others are those of `rest`.
-pub record IsFront (before cs : List ℕ) (n : ℕ) : Type 0 where
+pub record IsClusterFront (before cs : List ℕ) (n : ℕ) : Type 0 where
   pub front : List ℕ
   pub rest : List ℕ
   pub all : cs ≡ front ++ rest
   pub first : clusters_after before front ≡ take n (clusters_after before cs)
-  pub others : clusters_after (back before front) rest ≡ drop n (clusters_after before cs)
-  pub breaks : (front ≡ []) ⊎ (is_grapheme_break true (back before front) rest ≡ true)
+  pub others : clusters_after (reversed_before before front) rest ≡ drop n (clusters_after before cs)
+  pub breaks : (front ≡ []) ⊎ (is_grapheme_break true (reversed_before before front) rest ≡ true)
 
-breaks-after : (c : ℕ) (before cs front rest : List ℕ) → is_grapheme_break true (c ∷ before) cs ≡ true → cs ≡ front ++ rest → (front ≡ []) ⊎ (is_grapheme_break true (back (c ∷ before) front) rest ≡ true)
-    → is_grapheme_break true (back (c ∷ before) front) rest ≡ true
+breaks-after : (c : ℕ) (before cs front rest : List ℕ) → is_grapheme_break true (c ∷ before) cs ≡ true → cs ≡ front ++ rest → (front ≡ []) ⊎ (is_grapheme_break true (reversed_before (c ∷ before) front) rest ≡ true)
+    → is_grapheme_break true (reversed_before (c ∷ before) front) rest ≡ true
 breaks-after c before cs [] rest breaks all more = ap (is_grapheme_break true (c ∷ before)) (sym all) ∙ breaks
 breaks-after c before cs (d ∷ front) rest breaks all (inl none) = absurd (cc)
 breaks-after c before cs (d ∷ front) rest breaks all (inr more) = more
@@ -67,15 +67,15 @@ no_clusters before k ks some = (let none = sym (clusters-none before) ∙ some i
 
 -- a cluster that goes on takes the first character of the front
 front-joins : (before : List ℕ) (c : ℕ) (cs : List ℕ) (n : ℕ) → is_grapheme_break true (c ∷ before) cs ≡ false → (k : List ℕ) (ks : List (List ℕ)) → clusters_after (c ∷ before) cs ≡ k ∷ ks
-    → IsFront (c ∷ before) cs (suc n) → IsFront before (c ∷ cs) (suc n)
+    → IsClusterFront (c ∷ before) cs (suc n) → IsClusterFront before (c ∷ cs) (suc n)
 front-joins before c cs n joins k ks some more = build more.front more.rest more.all more.first more.others more.breaks
   where
     whole : clusters_after before (c ∷ cs) ≡ (c ∷ k) ∷ ks
     whole = cluster-joins before c cs joins ∙ ap (prepend (c ∷ [])) some
 
     build : (front rest : List ℕ) → cs ≡ front ++ rest → clusters_after (c ∷ before) front ≡ take (suc n) (clusters_after (c ∷ before) cs)
-        → clusters_after (back (c ∷ before) front) rest ≡ drop (suc n) (clusters_after (c ∷ before) cs)
-        → (front ≡ []) ⊎ (is_grapheme_break true (back (c ∷ before) front) rest ≡ true) → IsFront before (c ∷ cs) (suc n)
+        → clusters_after (reversed_before (c ∷ before) front) rest ≡ drop (suc n) (clusters_after (c ∷ before) cs)
+        → (front ≡ []) ⊎ (is_grapheme_break true (reversed_before (c ∷ before) front) rest ≡ true) → IsClusterFront before (c ∷ cs) (suc n)
     build [] rest all first others breaks = absurd (no_clusters (c ∷ before) k (take n ks) (first ∙ ap (take (suc n)) some))
     build (d ∷ front) rest all first others (inl none) = absurd (cc)
     build (d ∷ front) rest all first others (inr breaks) = record {
@@ -88,9 +88,9 @@ front-joins before c cs n joins k ks some more = build more.front more.rest more
       breaks = inr breaks;
     }
 
-pub front_of : (before cs : List ℕ) (n : ℕ) → IsFront before cs n
-front_of before cs zero = record { front = []; rest = cs; all = refl; first = clusters-none before; others = refl; breaks = inl refl }
-front_of before [] (suc n) = record {
+pub IsClusterFront-all : (before cs : List ℕ) (n : ℕ) → IsClusterFront before cs n
+IsClusterFront-all before cs zero = record { front = []; rest = cs; all = refl; first = clusters-none before; others = refl; breaks = inl refl }
+IsClusterFront-all before [] (suc n) = record {
   front = [];
   rest = [];
   all = refl;
@@ -98,9 +98,9 @@ front_of before [] (suc n) = record {
   others = clusters-none before ∙ ap (drop (suc n)) (sym (clusters-none before));
   breaks = inl refl;
 }
-front_of before (c ∷ cs) (suc n) = elim (cases_Bool (is_grapheme_break true (c ∷ before) cs)) [
+IsClusterFront-all before (c ∷ cs) (suc n) = elim (cases_Bool (is_grapheme_break true (c ∷ before) cs)) [
   | inl breaks ↦ (
-      let more = front_of (c ∷ before) cs n in
+      let more = IsClusterFront-all (c ∷ before) cs n in
       let whole = cluster-alone before c cs breaks in
       record {
         front = c ∷ more.front;
@@ -111,10 +111,10 @@ front_of before (c ∷ cs) (suc n) = elim (cases_Bool (is_grapheme_break true (c
         others = more.others ∙ ap (drop (suc n)) (sym whole);
         breaks = inr (breaks-after c before cs more.front more.rest breaks more.all more.breaks);
       })
-  | inr joins ↦ goes_on cs joins (front_of (c ∷ before) cs (suc n))
+  | inr joins ↦ goes_on cs joins (IsClusterFront-all (c ∷ before) cs (suc n))
 ]
   where
-    goes_on : (ds : List ℕ) → is_grapheme_break true (c ∷ before) ds ≡ false → IsFront (c ∷ before) ds (suc n) → IsFront before (c ∷ ds) (suc n)
+    goes_on : (ds : List ℕ) → is_grapheme_break true (c ∷ before) ds ≡ false → IsClusterFront (c ∷ before) ds (suc n) → IsClusterFront before (c ∷ ds) (suc n)
     goes_on [] joins more = absurd (let last = sym (breaks-last c before) ∙ joins in cc)
     goes_on (d ∷ ds) joins more = (let some = clusters-some (c ∷ before) d ds in front-joins before c (d ∷ ds) n joins some.0 some.1 some.2 more)
 
@@ -124,17 +124,17 @@ prepend-spells : (part : List ℕ) (ks : List (List ℕ)) → flat_map encode_ut
 prepend-spells part [] = refl
 prepend-spells part (k ∷ ks) = ap (λ u. u ++ flat_map encode_utf8_all ks) (encodes-append part k) ∙ append_assoc (encode_utf8_all part) (encode_utf8_all k) (flat_map encode_utf8_all ks)
 
-pub spells : (before cs : List ℕ) → flat_map encode_utf8_all (clusters_after before cs) ≡ encode_utf8_all cs
-spells before [] = ap (flat_map encode_utf8_all) (clusters-none before)
-spells before (c ∷ cs) = elim (cases_Bool (is_grapheme_break true (c ∷ before) cs)) [
-  | inl breaks ↦ ap (flat_map encode_utf8_all) (cluster-alone before c cs breaks) ∙ ap (λ u. encode_utf8_all (c ∷ []) ++ u) (spells (c ∷ before) cs) ∙ sym (encodes-append (c ∷ []) cs)
+pub clusters_after-bytes : (before cs : List ℕ) → flat_map encode_utf8_all (clusters_after before cs) ≡ encode_utf8_all cs
+clusters_after-bytes before [] = ap (flat_map encode_utf8_all) (clusters-none before)
+clusters_after-bytes before (c ∷ cs) = elim (cases_Bool (is_grapheme_break true (c ∷ before) cs)) [
+  | inl breaks ↦ ap (flat_map encode_utf8_all) (cluster-alone before c cs breaks) ∙ ap (λ u. encode_utf8_all (c ∷ []) ++ u) (clusters_after-bytes (c ∷ before) cs) ∙ sym (encodes-append (c ∷ []) cs)
   | inr joins ↦ ap (flat_map encode_utf8_all) (cluster-joins before c cs joins) ∙ prepend-spells (c ∷ []) (clusters_after (c ∷ before) cs)
-      ∙ ap (λ u. encode_utf8_all (c ∷ []) ++ u) (spells (c ∷ before) cs) ∙ sym (encodes-append (c ∷ []) cs)
+      ∙ ap (λ u. encode_utf8_all (c ∷ []) ++ u) (clusters_after-bytes (c ∷ before) cs) ∙ sym (encodes-append (c ∷ []) cs)
 ]
 
 module _ (x : List ℕ) (utf8 : IsUtf8 x) (n : ℕ) where
-  abbrev pub front_is : IsFront [] (chars x) n
-  front_is = front_of [] (chars x) n
+  abbrev pub front_is : IsClusterFront [] (chars x) n
+  front_is = IsClusterFront-all [] (chars x) n
 
   abbrev front : List ℕ
   front = front_is.front
@@ -143,7 +143,7 @@ module _ (x : List ℕ) (utf8 : IsUtf8 x) (n : ℕ) where
   text = sym (encodes-chars x utf8) ∙ ap encode_utf8_all front_is.all ∙ encodes-append front front_is.rest
 
   front-bytes : flat_map encode_utf8_all (take n (clusters x)) ≡ encode_utf8_all front
-  front-bytes = ap (flat_map encode_utf8_all) (sym front_is.first) ∙ spells [] front
+  front-bytes = ap (flat_map encode_utf8_all) (sym front_is.first) ∙ clusters_after-bytes [] front
 
   pub front-text : take (bytes_of (take n (clusters x))) x ≡ encode_utf8_all front
   front-text = ap (λ i. take i x) (ap length front-bytes) ∙ ap (take (length (encode_utf8_all front))) text ∙ take_at (encode_utf8_all front) (encode_utf8_all front_is.rest) _ refl

@@ -8,8 +8,8 @@ use Rattle.ansi_columns.specs.Walks.{after, cluster, clusters_from}
 use Rattle.ansi_columns.specs.Shown.{fitting_end}
 use Rattle.ansi_columns.proofs.ColumnLemmas.{IsFittingTo, clusters_from-end}
 
-pub all_fit : {t : List ℕ} {width n left : ℕ} → IsFittingTo t width n left → after t n ≡ [] → true ≡ nat_le (columns (plain t)) width
-all_fit {t} {width} {n} fitting none =
+pub IsFittingTo-end : {t : List ℕ} {width n left : ℕ} → IsFittingTo t width n left → after t n ≡ [] → true ≡ nat_le (columns (plain t)) width
+IsFittingTo-end {t} {width} {n} fitting none =
     let all = fitting.all ∙ ap (λ ks. fitting.front ++ ks) (clusters_from-end t n none) ∙ append-nil fitting.front in
     sym (le-leb (columns (plain t)) width (omega (arith, fitting.columns, ap columns_of all)))
 

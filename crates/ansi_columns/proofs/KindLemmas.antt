@@ -14,13 +14,13 @@ use Rattle.ansi_columns.proofs.WalkLemmas.{walk_boundary, after-past, cluster-pu
 use Rattle.ansi_columns.proofs.ClusterWalkLemmas.{cluster-none}
 use Rattle.ansi_columns.proofs.ColumnLemmas.{cluster-bytes}
 
-not_blank : (cluster : List ℕ) → cluster ≢ 0x20 ∷ [] → is_blank cluster ≡ false
+is_blank-other : (cluster : List ℕ) → cluster ≢ 0x20 ∷ [] → is_blank cluster ≡ false
 unfolding is_blank
-not_blank cluster other = false_from_ne_true (bytes_eq cluster (0x20 ∷ [])) (λ e. other ((bytes_eq-Decides cluster (0x20 ∷ [])).0 e))
+is_blank-other cluster other = false_from_ne_true (bytes_eq cluster (0x20 ∷ [])) (λ e. other ((bytes_eq-Decides cluster (0x20 ∷ [])).0 e))
 
-blank : (cluster : List ℕ) → cluster ≡ 0x20 ∷ [] → is_blank cluster ≡ true
+is_blank-space : (cluster : List ℕ) → cluster ≡ 0x20 ∷ [] → is_blank cluster ≡ true
 unfolding is_blank
-blank cluster is = (bytes_eq-Decides cluster (0x20 ∷ [])).1 is
+is_blank-space cluster is = (bytes_eq-Decides cluster (0x20 ∷ [])).1 is
 
 not_line_end : (cluster : List ℕ) → cluster ≢ 0x0A ∷ [] → cluster ≢ 0x0D ∷ 0x0A ∷ [] → is_line_end cluster ≡ false
 unfolding is_line_end
@@ -33,26 +33,26 @@ line_feed : (cluster : List ℕ) → cluster ≡ 0x0A ∷ [] → is_line_end clu
 unfolding is_line_end
 line_feed cluster is = or_left (bytes_eq cluster (0x0A ∷ [])) (bytes_eq cluster (0x0D ∷ 0x0A ∷ [])) ((bytes_eq-Decides cluster (0x0A ∷ [])).1 is)
 
-both_feeds : (cluster : List ℕ) → cluster ≡ 0x0D ∷ 0x0A ∷ [] → is_line_end cluster ≡ true
+is_line_end-crlf : (cluster : List ℕ) → cluster ≡ 0x0D ∷ 0x0A ∷ [] → is_line_end cluster ≡ true
 unfolding is_line_end
-both_feeds cluster is = or_right (bytes_eq cluster (0x0A ∷ [])) (bytes_eq cluster (0x0D ∷ 0x0A ∷ [])) ((bytes_eq-Decides cluster (0x0D ∷ 0x0A ∷ [])).1 is)
+is_line_end-crlf cluster is = or_right (bytes_eq cluster (0x0A ∷ [])) (bytes_eq cluster (0x0D ∷ 0x0A ∷ [])) ((bytes_eq-Decides cluster (0x0D ∷ 0x0A ∷ [])).1 is)
 
 -- the equation of the first of two lists
-heads : {c d : ℕ} {cs ds : List ℕ} → c ∷ cs ≡ d ∷ ds → c ≡ d
-heads e = cc
+cons-heads : {c d : ℕ} {cs ds : List ℕ} → c ∷ cs ≡ d ∷ ds → c ≡ d
+cons-heads e = cc
 
-tails : {c d : ℕ} {cs ds : List ℕ} → c ∷ cs ≡ d ∷ ds → cs ≡ ds
-tails e = cc
+cons-tails : {c d : ℕ} {cs ds : List ℕ} → c ∷ cs ≡ d ∷ ds → cs ≡ ds
+cons-tails e = cc
 
 -- an ASCII character has one byte
-pub one_byte : (c : ℕ) → c < 128 → length (encode_utf8 c) ≡ 1
-one_byte c ascii = length-encode c ∙ len_utf8_ascii c ascii
+pub encode_utf8-one_byte : (c : ℕ) → c < 128 → length (encode_utf8 c) ≡ 1
+encode_utf8-one_byte c ascii = length-encode c ∙ len_utf8_ascii c ascii
 
-one_only : (c : ℕ) → c < 128 → length (encode_utf8_all (c ∷ [])) ≡ 1
-one_only c ascii = ap length (append-nil (encode_utf8 c)) ∙ one_byte c ascii
+encode_utf8_all-one_byte : (c : ℕ) → c < 128 → length (encode_utf8_all (c ∷ [])) ≡ 1
+encode_utf8_all-one_byte c ascii = ap length (append-nil (encode_utf8 c)) ∙ encode_utf8-one_byte c ascii
 
-two_only : (c d : ℕ) → c < 128 → d < 128 → length (encode_utf8_all (c ∷ d ∷ [])) ≡ 2
-two_only c d first second = omega (arith, length-append (encode_utf8 c) (encode_utf8_all (d ∷ [])), one_byte c first, one_only d second)
+encode_utf8_all-two_bytes : (c d : ℕ) → c < 128 → d < 128 → length (encode_utf8_all (c ∷ d ∷ [])) ≡ 2
+encode_utf8_all-two_bytes c d first second = omega (arith, length-append (encode_utf8 c) (encode_utf8_all (d ∷ [])), encode_utf8-one_byte c first, encode_utf8_all-one_byte d second)
 
 module _ (t : List ℕ) (utf8 : IsUtf8 t) (w : Walk) (from : IsWalk t w) where
   -- the cluster of the next character alone
@@ -79,21 +79,21 @@ module _ (t : List ℕ) (utf8 : IsUtf8 t) (w : Walk) (from : IsWalk t w) where
 
     -- it begins with the next character
     first_is : (c : ℕ) → IsNext t w c → {d : ℕ} {ds : List ℕ} → here ≡ d ∷ ds → c ≡ d
-    first_is c next is = heads (sym (after-past t utf8 w from c next) ∙ found is)
+    first_is c next is = cons-heads (sym (after-past t utf8 w from c next) ∙ found is)
 
     none : after t w.position ≡ [] → {d : ℕ} {ds : List ℕ} → here ≡ d ∷ ds → ⊥
     none nothing is = (let e = sym nothing ∙ found is in cc)
 
     pub blank-none : after t w.position ≡ [] → is_blank here ≡ false
-    blank-none nothing = not_blank here (λ e. none nothing e)
+    blank-none nothing = is_blank-other here (λ e. none nothing e)
 
     pub blank-other : (c : ℕ) → IsNext t w c → c ≢ 0x20 → is_blank here ≡ false
-    blank-other c next other = not_blank here (λ e. other (first_is c next e))
+    blank-other c next other = is_blank-other here (λ e. other (first_is c next e))
 
     pub blank-len : IsNext t w 0x20 → is_blank here ≡ (v.position - w.position == 1)
     blank-len next = ⊎_elim
-        (λ one. blank here (alone 0x20 next v.position (omega (arith, one, ordered, one_byte 0x20 (omega arith)))) ∙ sym (eq-eqb (v.position - w.position) 1 one))
-        (λ more. not_blank here (λ e. more (sym bytes_are ∙ ap (λ u. length (encode_utf8_all u)) e ∙ one_only 0x20 (omega arith))) ∙ sym (ne_eqb (v.position - w.position) 1 more))
+        (λ one. is_blank-space here (alone 0x20 next v.position (omega (arith, one, ordered, encode_utf8-one_byte 0x20 (omega arith)))) ∙ sym (eq-eqb (v.position - w.position) 1 one))
+        (λ more. is_blank-other here (λ e. more (sym bytes_are ∙ ap (λ u. length (encode_utf8_all u)) e ∙ encode_utf8_all-one_byte 0x20 (omega arith))) ∙ sym (ne_eqb (v.position - w.position) 1 more))
         (cases_eq (v.position - w.position) 1)
 
     pub line_end-none : after t w.position ≡ [] → is_line_end here ≡ false
@@ -104,9 +104,9 @@ module _ (t : List ℕ) (utf8 : IsUtf8 t) (w : Walk) (from : IsWalk t w) where
 
     pub line_end-feed : IsNext t w 0x0A → is_line_end here ≡ (v.position - w.position == 1)
     line_end-feed next = ⊎_elim
-        (λ one. line_feed here (alone 0x0A next v.position (omega (arith, one, ordered, one_byte 0x0A (omega arith)))) ∙ sym (eq-eqb (v.position - w.position) 1 one))
+        (λ one. line_feed here (alone 0x0A next v.position (omega (arith, one, ordered, encode_utf8-one_byte 0x0A (omega arith)))) ∙ sym (eq-eqb (v.position - w.position) 1 one))
         (λ more.
-        not_line_end here (λ e. more (sym bytes_are ∙ ap (λ u. length (encode_utf8_all u)) e ∙ one_only 0x0A (omega arith))) (λ e. (let other = first_is 0x0A next e in absurd (omega (arith, other))))
+        not_line_end here (λ e. more (sym bytes_are ∙ ap (λ u. length (encode_utf8_all u)) e ∙ encode_utf8_all-one_byte 0x0A (omega arith))) (λ e. (let other = first_is 0x0A next e in absurd (omega (arith, other))))
         ∙ sym (ne_eqb (v.position - w.position) 1 more))
         (cases_eq (v.position - w.position) 1)
 
@@ -116,17 +116,17 @@ module _ (t : List ℕ) (utf8 : IsUtf8 t) (w : Walk) (from : IsWalk t w) where
       not_feed e = (let other = first_is 0x0D next e in omega (arith, other))
 
       pub return-len : v.position - w.position ≢ 2 → is_line_end here ≡ false
-      return-len other = not_line_end here not_feed (λ e. other (sym bytes_are ∙ ap (λ u. length (encode_utf8_all u)) e ∙ two_only 0x0D 0x0A (omega arith) (omega arith)))
+      return-len other = not_line_end here not_feed (λ e. other (sym bytes_are ∙ ap (λ u. length (encode_utf8_all u)) e ∙ encode_utf8_all-two_bytes 0x0D 0x0A (omega arith) (omega arith)))
 
       module _ (u : Walk) (walk : IsWalk t u) (past : u.position ≡ w.position + length (encode_utf8 0x0D)) (rest : after t w.position ≡ 0x0D ∷ after t u.position) where
         pub return-none : after t u.position ≡ [] → is_line_end here ≡ false
-        return-none nothing = not_line_end here not_feed (λ e. (let f = sym nothing ∙ tails (sym rest ∙ found e) in cc))
+        return-none nothing = not_line_end here not_feed (λ e. (let f = sym nothing ∙ cons-tails (sym rest ∙ found e) in cc))
 
         pub return-other : (d : ℕ) → IsNext t u d → d ≢ 0x0A → is_line_end here ≡ false
-        return-other d then other = not_line_end here not_feed (λ e. other (heads (sym (after-past t utf8 u walk d then) ∙ tails (sym rest ∙ found e))))
+        return-other d then other = not_line_end here not_feed (λ e. other (cons-heads (sym (after-past t utf8 u walk d then) ∙ cons-tails (sym rest ∙ found e))))
 
         pub return-feed : IsNext t u 0x0A → v.position - w.position ≡ 2 → is_line_end here ≡ true
         return-feed then two =
-            both_feeds here (ap (cluster t w.position) (omega (arith, two, past, ordered, one_byte 0x0D (omega arith), one_byte 0x0A (omega arith)))
+            is_line_end-crlf here (ap (cluster t w.position) (omega (arith, two, past, ordered, encode_utf8-one_byte 0x0D (omega arith), encode_utf8-one_byte 0x0A (omega arith)))
             ∙ cluster-push t utf8 u walk 0x0A then w.position (omega (arith, past)) (walk_boundary t utf8 w from)
             ∙ ap (λ k. k ++ 0x0A ∷ []) (alone 0x0D next u.position past))

@@ -13,7 +13,7 @@ use Rattle.ansi_items.specs.Plain.{plain}
 use Rattle.ansi_items.proofs.PieceLemmas.{pieces_are}
 use Rattle.ansi_items.proofs.PlainLemmas.{has_escape-bare, plain-bare}
 use Rattle.ansi_columns.specs.Reverse.{IsLastMark}
-use Rattle.ansi_columns.proofs.ReverseLemmas.{Unreached, unreached-none, unreached-last, unreached-string, mark-plain, reaching}
+use Rattle.ansi_columns.proofs.ReverseLemmas.{Unreached, unreached-none, unreached-last, unreached-string, mark-plain, take-past_escape}
 
 plain_where : (x : List ℕ) → Nowhere (Passes (is_byte escape) x) 0 (length x) → list_all is_plain_byte x ≡ true
 plain_where [] none = refl
@@ -127,7 +127,7 @@ mark-reaching t opening last n p ps utf8 rest_utf8 found before first len long b
     let k = n - suc (suc (length s)) in
     let past : suc (length s) < n = omega (arith, two.size, long) in
     let spelled : spelling p ≡ escape ∷ (s ++ escape ∷ take k v)
-    = sym (take_at (spelling p) are.0 n (sym len)) ∙ ap (take n) (sym are.1 ∙ two.from) ∙ reaching s v n past in
+    = sym (take_at (spelling p) are.0 n (sym len)) ∙ ap (take n) (sym are.1 ∙ two.from) ∙ take-past_escape s v n past in
     let whole = reaching_sequence p s v are.0 are.2 (sym two.from ∙ are.1) (omega (arith, past, len)) in
     let string : IsSequence (escape ∷ (s ++ escape ∷ take k v)) = subst IsSequence spelled whole in
     let rest : s ++ escape ∷ v ≡ (s ++ escape ∷ take k v) ++ drop k v

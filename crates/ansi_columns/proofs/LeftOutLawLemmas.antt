@@ -10,7 +10,7 @@ use Rattle.ansi_columns.specs.Columns.{clusters, cluster_width}
 use Rattle.ansi_columns.specs.Shown.{blanks}
 use Rattle.ansi_columns.specs.Lines.{is_line_end, is_blank, lines_from, lines, IsLeftOut, AreLinesFrom, reassembled}
 use Rattle.ansi_columns.proofs.LineLemmas.{IsOfWord, more_at, line-any, line-ends, line-blank, line-stays, line-leaves, line-last}
-use Rattle.ansi_columns.proofs.ClusterLawLemmas.{spells}
+use Rattle.ansi_columns.proofs.ClusterLawLemmas.{clusters_after-bytes}
 
 -- what a blank and a line end are spelled with
 
@@ -129,7 +129,7 @@ module _ (x : List ℕ) where
   pub lines-left_out : (width : ℕ) → IsUtf8 x → AreLinesFrom x 0 (lines width x)
   lines-left_out width utf8 =
       lines_stand (clusters x) (max width 1) 0 0 0 0 0 0 []
-      (record { all = sym (spells [] (chars x) ∙ encodes-chars x utf8); ends = refl; read = refl }) (omega arith) (omega arith) (0, inl refl)
+      (record { all = sym (clusters_after-bytes [] (chars x) ∙ encodes-chars x utf8); ends = refl; read = refl }) (omega arith) (omega arith) (0, inl refl)
 
   reassembled-from : (e : ℕ) (ls : List (ℕ × ℕ)) → AreLinesFrom x e ls → reassembled x e ls ≡ drop e x
   reassembled-from e [] are = refl
@@ -143,15 +143,15 @@ module _ (x : List ℕ) where
 
 -- the first line begins where the current one begins
 
-abbrev begins : List (ℕ × ℕ) → Option ℕ
-begins ls = option_map (λ (line : ℕ × ℕ). line.0) (slice_get ls 0)
+abbrev begin_of_lines : List (ℕ × ℕ) → Option ℕ
+begin_of_lines ls = option_map (λ (line : ℕ × ℕ). line.0) (slice_get ls 0)
 
-begins_at : (width start end here columns : ℕ) (cs : List (List ℕ)) → begins (lines_from width start end here columns cs) ≡ Some start
-begins_at width start end here columns [] = ap begins (line-last width start end here columns)
-begins_at width start end here columns (c ∷ cs) =
+begin_of_lines-lines_from : (width start end here columns : ℕ) (cs : List (List ℕ)) → begin_of_lines (lines_from width start end here columns cs) ≡ Some start
+begin_of_lines-lines_from width start end here columns [] = ap begin_of_lines (line-last width start end here columns)
+begin_of_lines-lines_from width start end here columns (c ∷ cs) =
     let next = here + length (encode_utf8_all c) in
     let wider = columns + cluster_width c in
-    line-any width start end here columns c cs (λ ls. begins ls ≡ Some start) refl (begins_at width start end next wider cs) (begins_at width start next next wider cs) refl
+    line-any width start end here columns c cs (λ ls. begin_of_lines ls ≡ Some start) refl (begin_of_lines-lines_from width start end next wider cs) (begin_of_lines-lines_from width start next next wider cs) refl
 
 pub lines-begin : (x : List ℕ) (width : ℕ) → option_map (λ (line : ℕ × ℕ). line.0) (slice_get (lines width x) 0) ≡ Some 0
-lines-begin x width = begins_at (max width 1) 0 0 0 0 (clusters x)
+lines-begin x width = begin_of_lines-lines_from (max width 1) 0 0 0 0 (clusters x)

@@ -1,4 +1,4 @@
-pub mod SeamLemmas
+pub mod BreakLemmas
 pub mod ClusterLemmas
 pub mod AsciiLemmas
 pub mod PlaceLemmas
@@ -20,7 +20,7 @@ pub mod LineWalkLemmas
 pub mod LineLawLemmas
 mod LineExamples
 pub mod ClusterLawLemmas
-pub mod SeamLawLemmas
+pub mod BreakLawLemmas
 pub mod LeftOutLawLemmas
 pub mod WrapLemmas
 pub mod ShownLawLemmas

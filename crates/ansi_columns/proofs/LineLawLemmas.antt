@@ -42,7 +42,7 @@ module _ (x : List ℕ) (utf8 : IsUtf8 x) where
       (IsUtf8-after before rest (subst IsUtf8 (sym (ap (flat_map encode_utf8_all) (sym all) ∙ spells)) utf8))
 
 -- clusters have no fewer bytes than their front
-bytes_of-append : (front rest : List (List ℕ)) → bytes_of (front ++ rest) ≡ bytes_of front + bytes_of rest
+pub bytes_of-append : (front rest : List (List ℕ)) → bytes_of (front ++ rest) ≡ bytes_of front + bytes_of rest
 bytes_of-append front rest = ap length (flat_map-append encode_utf8_all front rest) ∙ length-append (flat_map encode_utf8_all front) (flat_map encode_utf8_all rest)
 
 pub good_line : (x : List ℕ) (width : ℕ) (line : ℕ × ℕ) → IsUtf8 x → IsLine x width line → IsGoodLine x line

@@ -14,14 +14,14 @@ AreOfWord [] = Unit
 AreOfWord (c ∷ cs) = IsOfWord c × AreOfWord cs
 
 -- the end of clusters that begin at a place
-abbrev pub place : ℕ → List (List ℕ) → ℕ
-place n [] = n
-place n (c ∷ cs) = place (n + length (encode_utf8_all c)) cs
+abbrev pub place_after : ℕ → List (List ℕ) → ℕ
+place_after n [] = n
+place_after n (c ∷ cs) = place_after (n + length (encode_utf8_all c)) cs
 
 -- how many columns there are after clusters
-abbrev pub total : ℕ → List (List ℕ) → ℕ
-total n [] = n
-total n (c ∷ cs) = total (n + cluster_width c) cs
+abbrev pub columns_after : ℕ → List (List ℕ) → ℕ
+columns_after n [] = n
+columns_after n (c ∷ cs) = columns_after (n + cluster_width c) cs
 
 -- the columns that have to fit for a cluster to stay
 abbrev pub more_at : ℕ → ℕ → List ℕ → List (List ℕ) → ℕ
@@ -150,47 +150,47 @@ word_columns-cons c cs word = rw (word.inside, word.solid) refl
 pub more-least : (end here : ℕ) (c : List ℕ) (cs : List (List ℕ)) → IsOfWord c → cluster_width c ≤ more_at end here c cs
 more-least end here c cs word = cond_both (here == end) (cluster_width c) (word_columns (c ∷ cs)) (λ n. cluster_width c ≤ n) (λ _. omega arith) (λ _. omega (arith, word_columns-cons c cs word))
 
-pub place-after : (n : ℕ) (cs : List (List ℕ)) → n ≤ place n cs
-place-after n [] = omega arith
-place-after n (c ∷ cs) = omega (arith, place-after (n + length (encode_utf8_all c)) cs)
+pub place_after-ge : (n : ℕ) (cs : List (List ℕ)) → n ≤ place_after n cs
+place_after-ge n [] = omega arith
+place_after-ge n (c ∷ cs) = omega (arith, place_after-ge (n + length (encode_utf8_all c)) cs)
 
-total-after : (n : ℕ) (cs : List (List ℕ)) → n ≤ total n cs
-total-after n [] = omega arith
-total-after n (c ∷ cs) = omega (arith, total-after (n + cluster_width c) cs)
+columns_after-ge : (n : ℕ) (cs : List (List ℕ)) → n ≤ columns_after n cs
+columns_after-ge n [] = omega arith
+columns_after-ge n (c ∷ cs) = omega (arith, columns_after-ge (n + cluster_width c) cs)
 
-pub place-push : (n : ℕ) (cs : List (List ℕ)) (c : List ℕ) → place n (cs ++ c ∷ []) ≡ place n cs + length (encode_utf8_all c)
-place-push n [] c = refl
-place-push n (d ∷ cs) c = place-push (n + length (encode_utf8_all d)) cs c
+pub place_after-push : (n : ℕ) (cs : List (List ℕ)) (c : List ℕ) → place_after n (cs ++ c ∷ []) ≡ place_after n cs + length (encode_utf8_all c)
+place_after-push n [] c = refl
+place_after-push n (d ∷ cs) c = place_after-push (n + length (encode_utf8_all d)) cs c
 
-pub total-push : (n : ℕ) (cs : List (List ℕ)) (c : List ℕ) → total n (cs ++ c ∷ []) ≡ total n cs + cluster_width c
-total-push n [] c = refl
-total-push n (d ∷ cs) c = total-push (n + cluster_width d) cs c
+pub columns_after-push : (n : ℕ) (cs : List (List ℕ)) (c : List ℕ) → columns_after n (cs ++ c ∷ []) ≡ columns_after n cs + cluster_width c
+columns_after-push n [] c = refl
+columns_after-push n (d ∷ cs) c = columns_after-push (n + cluster_width d) cs c
 
 pub of_word-push : (cs : List (List ℕ)) (c : List ℕ) → AreOfWord cs → IsOfWord c → AreOfWord (cs ++ c ∷ [])
 of_word-push [] c are is = (is, tt)
 of_word-push (d ∷ cs) c are is = (are.0, of_word-push cs c are.1 is)
 
 -- the columns of a word that begins with such clusters: exactly theirs if it ends after them, and more if it goes on
-word-whole : (n : ℕ) (seen rest : List (List ℕ)) → AreOfWord seen → word_columns rest ≡ 0 → n + word_columns (seen ++ rest) ≡ total n seen
+word-whole : (n : ℕ) (seen rest : List (List ℕ)) → AreOfWord seen → word_columns rest ≡ 0 → n + word_columns (seen ++ rest) ≡ columns_after n seen
 word-whole n [] rest are none = omega (arith, none)
 word-whole n (c ∷ seen) rest are none = omega (arith, word_columns-cons c (seen ++ rest) are.0, word-whole (n + cluster_width c) seen rest are.1 none)
 
-pub word-least : (n : ℕ) (seen : List (List ℕ)) (c : List ℕ) (cs : List (List ℕ)) → AreOfWord seen → IsOfWord c → total n seen + cluster_width c ≤ n + word_columns (seen ++ c ∷ cs)
+pub word-least : (n : ℕ) (seen : List (List ℕ)) (c : List ℕ) (cs : List (List ℕ)) → AreOfWord seen → IsOfWord c → columns_after n seen + cluster_width c ≤ n + word_columns (seen ++ c ∷ cs)
 word-least n [] c cs are is = omega (arith, word_columns-cons c cs is)
 word-least n (d ∷ seen) c cs are is = omega (arith, word_columns-cons d (seen ++ c ∷ cs) are.0, word-least (n + cluster_width d) seen c cs are.1 is)
 
 -- clusters of a word stay on the line one after another if all of them fit
-word-goes_on : (width start here columns : ℕ) (seen rest : List (List ℕ)) → AreOfWord seen → total columns seen ≤ width
-    → lines_from width start here here columns (seen ++ rest) ≡ lines_from width start (place here seen) (place here seen) (total columns seen) rest
+word-goes_on : (width start here columns : ℕ) (seen rest : List (List ℕ)) → AreOfWord seen → columns_after columns seen ≤ width
+    → lines_from width start here here columns (seen ++ rest) ≡ lines_from width start (place_after here seen) (place_after here seen) (columns_after columns seen) rest
 word-goes_on width start here columns [] rest are fits = refl
 word-goes_on width start here columns (c ∷ seen) rest are fits =
     let next = here + length (encode_utf8_all c) in
-    line-inside width start here here columns c (seen ++ rest) are.0 refl (omega (arith, fits, total-after (columns + cluster_width c) seen))
+    line-inside width start here here columns c (seen ++ rest) are.0 refl (omega (arith, fits, columns_after-ge (columns + cluster_width c) seen))
     ∙ word-goes_on width start next (columns + cluster_width c) seen rest are.1 fits
 
 -- A word of such clusters that begins after a blank stays on the line if all of it fits ..
-pub word-stays : (width start end here columns : ℕ) (c : List ℕ) (seen rest : List (List ℕ)) → AreOfWord (c ∷ seen) → end < here → total columns (c ∷ seen) ≤ width → word_columns rest ≡ 0
-    → lines_from width start end here columns ((c ∷ seen) ++ rest) ≡ lines_from width start (place here (c ∷ seen)) (place here (c ∷ seen)) (total columns (c ∷ seen)) rest
+pub word-stays : (width start end here columns : ℕ) (c : List ℕ) (seen rest : List (List ℕ)) → AreOfWord (c ∷ seen) → end < here → columns_after columns (c ∷ seen) ≤ width → word_columns rest ≡ 0
+    → lines_from width start end here columns ((c ∷ seen) ++ rest) ≡ lines_from width start (place_after here (c ∷ seen)) (place_after here (c ∷ seen)) (columns_after columns (c ∷ seen)) rest
 word-stays width start end here columns c seen rest are after fits none =
     line-word width start end here columns c (seen ++ rest) are.0 after (omega (arith, fits, word-whole columns (c ∷ seen) rest are none))
     ∙ word-goes_on width start (here + length (encode_utf8_all c)) (columns + cluster_width c) seen rest are.1 fits

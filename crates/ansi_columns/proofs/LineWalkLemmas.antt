@@ -3,7 +3,7 @@ use Rattle.std.proofs.Common.{◌≡◌, ◌≢◌, ℕ, ◌+◌, ◌-◌, ◌<�
 use Rattle.ansi_columns.specs.Columns.{cluster_width}
 use Rattle.ansi_columns.specs.Walks.{clusters_from}
 use Rattle.ansi_columns.specs.Lines.{is_line_end, is_blank, word_columns, lines_from}
-use Rattle.ansi_columns.proofs.LineLemmas.{IsOfWord, AreOfWord, place, total, line-ends, line-blank, line-begins, line-inside, line-breaks, line-opens, line-last, no_word-none, no_word-blank, no_word-end, place-after, place-push, total-push, of_word-push, word-least, word-stays, word-moves}
+use Rattle.ansi_columns.proofs.LineLemmas.{IsOfWord, AreOfWord, place_after, columns_after, line-ends, line-blank, line-begins, line-inside, line-breaks, line-opens, line-last, no_word-none, no_word-blank, no_word-end, place_after-ge, place_after-push, columns_after-push, of_word-push, word-least, word-stays, word-moves}
 
 -- the lines of t from the position n on
 abbrev pub lines_at : List ℕ → ℕ → ℕ → List (ℕ × ℕ)
@@ -31,8 +31,8 @@ pub record IsLaterWord (t : List ℕ) (width start before word end here columns 
   pub ahead : clusters_from t word ≡ seen ++ clusters_from t here
   pub lines : lines_at t width start ≡ lines_from width start before word earlier (clusters_from t word)
   pub of_word : AreOfWord seen
-  pub read : here ≡ place word seen
-  pub counted : columns ≡ total earlier seen
+  pub read : here ≡ place_after word seen
+  pub counted : columns ≡ columns_after earlier seen
   pub ends : Ends width before end here columns seen
 
 abbrev pub IsLineTo : List ℕ → ℕ → ℕ → ℕ → ℕ → ℕ → ℕ → ℕ → Type 0
@@ -43,7 +43,7 @@ module _ (t : List ℕ) (width start before word end here columns : ℕ) where
   rest = clusters_from t here
 
   later-settled : (earlier : ℕ) (seen : List (List ℕ)) → before < word → lines_at t width start ≡ lines_from width start before word earlier (clusters_from t word) → clusters_from t word ≡ seen ++ rest
-      → AreOfWord seen → here ≡ place word seen → columns ≡ total earlier seen → Ends width before end here columns seen → word_columns rest ≡ 0
+      → AreOfWord seen → here ≡ place_after word seen → columns ≡ columns_after earlier seen → Ends width before end here columns seen → word_columns rest ≡ 0
       → lines_at t width start ≡ lines_from width start end here columns rest
   later-settled earlier [] after lines ahead are place_is total_is ends none =
       lines ∙ ap (lines_from width start before word earlier) ahead ∙ ap (λ n. lines_from width start before word n rest) (sym total_is)
@@ -51,7 +51,7 @@ module _ (t : List ℕ) (width start before word end here columns : ℕ) where
   later-settled earlier (c ∷ seen) after lines ahead are place_is total_is ends none =
       lines ∙ ap (lines_from width start before word earlier) ahead
       ∙ word-stays width start before word earlier c seen rest are after (omega (arith, ends.1, total_is)) none
-      ∙ ap (λ n. lines_from width start (place word (c ∷ seen)) (place word (c ∷ seen)) n rest) (sym total_is)
+      ∙ ap (λ n. lines_from width start (place_after word (c ∷ seen)) (place_after word (c ∷ seen)) n rest) (sym total_is)
       ∙ ap (λ n. lines_from width start n n columns rest) (sym place_is) ∙ ap (λ n. lines_from width start n here columns rest) (sym ends.0)
 
   -- the clusters read so far are a line by themselves, if no word goes on
@@ -64,7 +64,7 @@ module _ (t : List ℕ) (width start before word end here columns : ℕ) where
   line-is_last line none =
       settled line (ap word_columns none ∙ no_word-none) ∙ ap (lines_from width start end here columns) none ∙ line-last width start end here columns
 
-  later-ordered : (seen : List (List ℕ)) → before < word → here ≡ place word seen → Ends width before end here columns seen → end ≤ here
+  later-ordered : (seen : List (List ℕ)) → before < word → here ≡ place_after word seen → Ends width before end here columns seen → end ≤ here
   later-ordered [] after place_is ends = omega (arith, place_is, after, ends)
   later-ordered (c ∷ seen) after place_is ends = omega (arith, ends.0)
 
@@ -133,10 +133,10 @@ module _ (t : List ℕ) (width start before word end here columns : ℕ) where
           ahead = later.ahead ∙ ap (λ cs. later.seen ++ cs) first ∙ sym (append_assoc later.seen (c ∷ []) others);
           lines = later.lines;
           of_word = of_word-push later.seen c later.of_word word_is;
-          read = sym (place-push word later.seen c ∙ ap (λ n. n + length (encode_utf8_all c)) (sym later.read) ∙ next_is);
-          counted = sym (total-push later.earlier later.seen c ∙ ap (λ n. n + cluster_width c) (sym later.counted) ∙ total_is);
+          read = sym (place_after-push word later.seen c ∙ ap (λ n. n + length (encode_utf8_all c)) (sym later.read) ∙ next_is);
+          counted = sym (columns_after-push later.earlier later.seen c ∙ ap (λ n. n + cluster_width c) (sym later.counted) ∙ total_is);
           ends = later-ends later.seen (elim fits [
-            | inl begins ↦ absurd (omega (arith, begins, later.begun, later.read, place-after word later.seen))
+            | inl begins ↦ absurd (omega (arith, begins, later.begun, later.read, place_after-ge word later.seen))
             | inr room ↦ room
           ]);
         })
@@ -153,7 +153,7 @@ module _ (t : List ℕ) (width start before word end here columns : ℕ) where
         | inr later ↦ absurd (omega (arith, begins, later.begun))
       ]
 
-      later-moves : (earlier : ℕ) (seen : List (List ℕ)) → before < word → start < word → AreOfWord seen → columns ≡ total earlier seen → width < columns + more
+      later-moves : (earlier : ℕ) (seen : List (List ℕ)) → before < word → start < word → AreOfWord seen → columns ≡ columns_after earlier seen → width < columns + more
           → lines_from width start before word earlier (seen ++ c ∷ others) ≡ (start, before) ∷ lines_from width word word word 0 (seen ++ c ∷ others)
       later-moves earlier [] after further are columns_is wide =
           word-moves width start before word earlier c others word_is after further (omega (arith, wide, columns_is, more_is, word-least earlier [] c others tt word_is))

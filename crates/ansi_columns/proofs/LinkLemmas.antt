@@ -28,7 +28,7 @@ use Rattle.ansi_columns.specs.Links.{terminator_len, address_of, is_link, opens_
 
 -- The address of a link sequence, by the place of its second semicolon.
 
-abbrev has_no_semicolon : ℕ → Bool
+abbrev pub has_no_semicolon : ℕ → Bool
 has_no_semicolon b = not (b == 59)
 
 -- in the fields of a sequence, if it begins like a link sequence
@@ -103,13 +103,13 @@ through-marks : (link : List ℕ) (ps : List Piece) → fold link_after link (by
 through-marks = state_after-marks_of link_after
 
 -- a link sequence that opens a link
-abbrev opened : List ℕ → List ℕ
-opened w = if opens_link w then w else []
+abbrev link_opened_by : List ℕ → List ℕ
+link_opened_by w = if opens_link w then w else []
 
 abbrev first_opened : List (List ℕ) → List ℕ → List ℕ
-first_opened ws link = option_map_or opened (slice_get ws 0) link
+first_opened ws link = option_map_or link_opened_by (slice_get ws 0) link
 
-first_opened-push : (ws : List (List ℕ)) (w link : List ℕ) → first_opened (ws ++ w ∷ []) link ≡ first_opened ws (opened w)
+first_opened-push : (ws : List (List ℕ)) (w link : List ℕ) → first_opened (ws ++ w ∷ []) link ≡ first_opened ws (link_opened_by w)
 first_opened-push [] w link = refl
 first_opened-push (v ∷ ws) w link = refl
 
@@ -117,11 +117,11 @@ link_after-last : (link : List ℕ) (ws : List (List ℕ)) → fold link_after l
 link_after-last link [] = refl
 link_after-last link (w ∷ ws) = link_after-last (link_after link w) ws ∙ either (is_link w)
   where
-    either : (b : Bool) → first_opened (reverse (filter is_link ws)) (if b then opened w else link) ≡ first_opened (reverse (if b then w ∷ filter is_link ws else filter is_link ws)) link
+    either : (b : Bool) → first_opened (reverse (filter is_link ws)) (if b then link_opened_by w else link) ≡ first_opened (reverse (if b then w ∷ filter is_link ws else filter is_link ws)) link
     either true = sym (ap (λ vs. first_opened vs link) (reverse-append (w ∷ []) (filter is_link ws)) ∙ first_opened-push (reverse (filter is_link ws)) w link)
     either false = refl
 
-link_of-last : (o : Option (List ℕ)) → opened (unwrap_or o []) ≡ option_map_or opened o []
+link_of-last : (o : Option (List ℕ)) → link_opened_by (unwrap_or o []) ≡ option_map_or link_opened_by o []
 link_of-last None = refl
 link_of-last (Some w) = refl
 
@@ -143,21 +143,21 @@ pub record IsOpenSoFar (t : List ℕ) (before : Rendition) (open_before : List �
 pub open-begin : (t : List ℕ) (before : Rendition) (open_before : List ℕ) → IsOpenSoFar t before open_before before open_before (pieces_of t)
 open-begin t before open_before = record { styled = sym (style_after_from-pieces before t); linked = sym (through-marks open_before (pieces_of t)) }
 
-through-mark : (style : Rendition) (link : List ℕ) (p : Piece) (ps : List Piece) → is_mark p ≡ true
+style_and_link_through-mark : (style : Rendition) (link : List ℕ) (p : Piece) (ps : List Piece) → is_mark p ≡ true
     → (style_through style (p ∷ ps) ≡ style_through (apply style (spelling p)) ps) × (link_through link (p ∷ ps) ≡ link_through (link_after link (spelling p)) ps)
-through-mark style link (Text w) ps is = absurd (cc is)
-through-mark style link p ps is = (refl, refl)
+style_and_link_through-mark style link (Text w) ps is = absurd (cc is)
+style_and_link_through-mark style link p ps is = (refl, refl)
 
 open-mark : {t w open_before : List ℕ} {before style : Rendition} {link : List ℕ} {kind : Kind} {old ps : List Piece} → IsOpenSoFar t before open_before style link old → BeginsWithMark kind w old ps → IsOpenSoFar t before open_before (apply style w) (link_after link w) ps
 open-mark {t} {w} {open_before} {before} {style} {link} {kind} {old} {ps} so_far mark =
     let here = subst (IsOpenSoFar t before open_before style link) mark.pieces so_far in
-    let through = through-mark style link mark.mark ps mark.is_mark in
+    let through = style_and_link_through-mark style link mark.mark ps mark.is_mark in
     subst (λ v. IsOpenSoFar t before open_before (apply style v) (link_after link v) ps) mark.bytes (record { styled = sym through.0 ∙ here.styled; linked = sym through.1 ∙ here.linked })
 
 -- over an SGR
 pub open-sgr : {t w open_before : List ℕ} {before style next : Rendition} {link : List ℕ} {kind : Kind} {old ps : List Piece} → IsOpenSoFar t before open_before style link old → BeginsWithMark kind w old ps → kind ≡ Sgr → next ≡ apply style w → IsOpenSoFar t before open_before next link ps
 open-sgr {t} {w} {open_before} {before} {style} {next} {link} {ps = ps} so_far mark kind next_is =
-    let none : link_after link w ≡ link = ap (λ b. if b then opened w else link) (is_link-sgr w (mark.sgr kind)) in
+    let none : link_after link w ≡ link = ap (λ b. if b then link_opened_by w else link) (is_link-sgr w (mark.sgr kind)) in
     subst (λ l. IsOpenSoFar t before open_before next l ps) none (subst (λ s. IsOpenSoFar t before open_before s (link_after link w) ps) (sym next_is) (open-mark so_far mark))
 
 -- over another sequence

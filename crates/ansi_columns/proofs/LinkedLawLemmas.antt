@@ -53,8 +53,8 @@ pub record IsLinked (link t : List ℕ) (bs : List LinkedByte) (next : List ℕ)
   pub bytes : linked_through link (pieces_of t) ≡ bs
   pub after : link_through link (pieces_of t) ≡ next
 
-pub both : {link u v middle next : List ℕ} {xs ys : List LinkedByte} → IsLinked link u xs middle → IsLinked middle v ys next → IsLinked link (u ++ v) (xs ++ ys) next
-both {link} {u} {v} {middle} {next} {xs} {ys} first second = record {
+pub IsLinked-append : {link u v middle next : List ℕ} {xs ys : List LinkedByte} → IsLinked link u xs middle → IsLinked middle v ys next → IsLinked link (u ++ v) (xs ++ ys) next
+IsLinked-append {link} {u} {v} {middle} {next} {xs} {ys} first second = record {
   whole = is_whole-append u v first.whole second.whole;
   bytes = ap (linked_through link) (pieces_of-append u v first.whole second.whole) ∙ seen_through-merged link_after linked_byte link (pieces_of u ++ pieces_of v) ∙ seen_through-append link_after linked_byte link (pieces_of u) (pieces_of v)
       ∙ ap₂ ◌++◌ first.bytes (ap (λ q. linked_through q (pieces_of v)) first.after ∙ second.bytes);
@@ -62,30 +62,30 @@ both {link} {u} {v} {middle} {next} {xs} {ys} first second = record {
       ∙ ap (λ q. link_through q (pieces_of v)) first.after ∙ second.after;
 }
 
-text_is : (t : List ℕ) → IsTrue (is_whole t) → IsLinked [] t (linked t) (link_of (marks t))
-text_is t whole = record { whole = whole; bytes = sym (linked-pieces t); after = sym (link_of-pieces (pieces_of t)) }
+IsLinked-text : (t : List ℕ) → IsTrue (is_whole t) → IsLinked [] t (linked t) (link_of (marks t))
+IsLinked-text t whole = record { whole = whole; bytes = sym (linked-pieces t); after = sym (link_of-pieces (pieces_of t)) }
 
-pub none_is : (link : List ℕ) → IsLinked link [] [] link
-none_is link = record { whole = refl; bytes = refl; after = refl }
+pub IsLinked-nil : (link : List ℕ) → IsLinked link [] [] link
+IsLinked-nil link = record { whole = refl; bytes = refl; after = refl }
 
-pub spelled_is : (link : List ℕ) (ps : List Piece) (t : List ℕ) → spelled ps ≡ t → AllStandAnywhere ps → IsLinked link t (linked_through link ps) (link_through link ps)
-spelled_is link ps t is stand = subst (λ u. IsLinked link u (linked_through link ps) (link_through link ps)) is (record {
+pub IsLinked-spelled : (link : List ℕ) (ps : List Piece) (t : List ℕ) → spelled ps ≡ t → AllStandAnywhere ps → IsLinked link t (linked_through link ps) (link_through link ps)
+IsLinked-spelled link ps t is stand = subst (λ u. IsLinked link u (linked_through link ps) (link_through link ps)) is (record {
   whole = is_whole-spelled ps stand;
   bytes = ap (linked_through link) (pieces_of-spelled ps stand) ∙ seen_through-merged link_after linked_byte link ps;
   after = ap (link_through link) (pieces_of-spelled ps stand) ∙ state_through-merged link_after link ps;
 })
 
 -- what is shown, with the marks at places that pass a test
-pub shown_is : (t link : List ℕ) (test : ℕ → Bool) (a b : ℕ) → IsTrue (is_whole t)
+pub IsLinked-interleaved : (t link : List ℕ) (test : ℕ → Bool) (a b : ℕ) → IsTrue (is_whole t)
     → IsLinked link (interleaved (plain t) a b (at_places test (marks t))) (linked_through link (interleaved_pieces test a b (pieces_of t))) (link_after_all link (at_places test (marks t)))
-shown_is t link test a b whole =
-    let made = spelled_is link (interleaved_pieces test a b (pieces_of t)) (interleaved (plain t) a b (at_places test (marks t))) (spelled-interleaved_pieces (pieces_of t) test a b) (interleaved_pieces_stand (pieces_of t) test a b (pieces_stand t whole)) in
+IsLinked-interleaved t link test a b whole =
+    let made = IsLinked-spelled link (interleaved_pieces test a b (pieces_of t)) (interleaved (plain t) a b (at_places test (marks t))) (spelled-interleaved_pieces (pieces_of t) test a b) (interleaved_pieces_stand (pieces_of t) test a b (pieces_stand t whole)) in
     record { whole = made.whole; bytes = made.bytes; after = made.after ∙ state_through-interleaved_pieces link_after (pieces_of t) link test a b }
 
 -- of a front they are the slice
-front_is : (t : List ℕ) (e : ℕ) → IsTrue (is_whole t) → IsLinked [] (interleaved (plain t) 0 e (marks_up_to e (marks t))) (take e (linked t)) (link_at t e)
-front_is t e whole =
-    let made = shown_is t [] (λ p. nat_le p e) 0 e whole in
+IsLinked-front : (t : List ℕ) (e : ℕ) → IsTrue (is_whole t) → IsLinked [] (interleaved (plain t) 0 e (marks_up_to e (marks t))) (take e (linked t)) (link_at t e)
+IsLinked-front t e whole =
+    let made = IsLinked-interleaved t [] (λ p. nat_le p e) 0 e whole in
     let all : e - 0 ≡ e = omega arith in
     record {
       whole = made.whole;
@@ -103,9 +103,9 @@ link_through-codes : (link : List ℕ) (xs : List (List ℕ)) → link_through l
 link_through-codes link [] = refl
 link_through-codes link (x ∷ xs) = link_through-codes link xs
 
-pub codes_is : {n : ℕ} (link : List ℕ) (xs : List (List ℕ)) → AreCodes xs n → IsLinked link (written_all xs) [] link
-codes_is link xs are =
-    let made = spelled_is link (code_pieces xs) (written_all xs) (spelled-code_pieces xs) (code_pieces_stand xs are) in
+pub IsLinked-codes : {n : ℕ} (link : List ℕ) (xs : List (List ℕ)) → AreCodes xs n → IsLinked link (written_all xs) [] link
+IsLinked-codes link xs are =
+    let made = IsLinked-spelled link (code_pieces xs) (written_all xs) (spelled-code_pieces xs) (code_pieces_stand xs are) in
     record { whole = made.whole; bytes = made.bytes ∙ linked_through-codes link xs; after = made.after ∙ link_through-codes link xs }
 
 -- and the end of a link ends it
@@ -113,37 +113,37 @@ codes_is link xs are =
 link_end-written : (link : List ℕ) → IsLinked link (codes "\u{1b}]8;;\u{1b}\\") [] []
 link_end-written link = record { whole = refl; bytes = refl; after = refl }
 
-pub link_end_is : (link : List ℕ) → IsLinked link (link_end link) [] []
-link_end_is link = elim (cases_Bool (nat_eq (length link) 0)) [
-  | inl none ↦ subst (λ w. IsLinked link w [] []) (sym (link_end-shut link none)) (subst (λ l. IsLinked l [] [] []) (sym (nil_from_length link (eqb-true (length link) 0 none))) (none_is []))
+pub IsLinked-link_end : (link : List ℕ) → IsLinked link (link_end link) [] []
+IsLinked-link_end link = elim (cases_Bool (nat_eq (length link) 0)) [
+  | inl none ↦ subst (λ w. IsLinked link w [] []) (sym (link_end-shut link none)) (subst (λ l. IsLinked l [] [] []) (sym (nil_from_length link (eqb-true (length link) 0 none))) (IsLinked-nil []))
   | inr some ↦ subst (λ w. IsLinked link w [] []) (sym (link_end-open link some)) (link_end-written link)
 ]
 
-pen_close_is : (t : List ℕ) (i : ℕ) → IsLinked (link_at t i) (pen_close t i) [] []
-pen_close_is t i = both (link_end_is (link_at t i)) (codes_is [] (close_codes (style_at t i)) (close_codes_are (style_at t i)))
+IsLinked-pen_close : (t : List ℕ) (i : ℕ) → IsLinked (link_at t i) (pen_close t i) [] []
+IsLinked-pen_close t i = IsLinked-append (IsLinked-link_end (link_at t i)) (IsLinked-codes [] (close_codes (style_at t i)) (close_codes_are (style_at t i)))
 
 -- ---- of a truncated text, and of a padded text
 
-tail_is : (b : Bool) (tail : List ℕ) → IsTrue (is_whole tail) → IsLinked [] (if b then tail else []) (if b then linked tail else []) (if b then link_of (marks tail) else [])
-tail_is true tail whole = text_is tail whole
-tail_is false tail whole = none_is []
+IsLinked-tail : (b : Bool) (tail : List ℕ) → IsTrue (is_whole tail) → IsLinked [] (if b then tail else []) (if b then linked tail else []) (if b then link_of (marks tail) else [])
+IsLinked-tail true tail whole = IsLinked-text tail whole
+IsLinked-tail false tail whole = IsLinked-nil []
 
-truncated_is : (t : List ℕ) (width : ℕ) (tail : List ℕ) → IsTrue (is_whole t) → IsTrue (is_whole tail)
+IsLinked-truncated : (t : List ℕ) (width : ℕ) (tail : List ℕ) → IsTrue (is_whole t) → IsTrue (is_whole tail)
     → IsLinked [] (truncated t width tail) (take (truncated_end t width tail) (linked t) ++ (if has_tail t width tail then linked tail else [])) (if has_tail t width tail then link_of (marks tail) else [])
 unfolding truncated
-truncated_is t width tail whole tail_whole =
+IsLinked-truncated t width tail whole tail_whole =
     let end = truncated_end t width tail in
-    both (front_is t end whole) (both (pen_close_is t end) (tail_is (has_tail t width tail) tail tail_whole))
+    IsLinked-append (IsLinked-front t end whole) (IsLinked-append (IsLinked-pen_close t end) (IsLinked-tail (has_tail t width tail) tail tail_whole))
 
 pub truncated-whole : (t : List ℕ) (width : ℕ) (tail : List ℕ) → IsTrue (is_whole t) → IsTrue (is_whole tail) → IsTrue (is_whole (truncated t width tail))
-truncated-whole t width tail whole tail_whole = (truncated_is t width tail whole tail_whole).whole
+truncated-whole t width tail whole tail_whole = (IsLinked-truncated t width tail whole tail_whole).whole
 
 pub truncated-linked : (t : List ℕ) (width : ℕ) (tail : List ℕ) → IsTrue (is_whole t) → IsTrue (is_whole tail)
     → linked (truncated t width tail) ≡ take (truncated_end t width tail) (linked t) ++ (if has_tail t width tail then linked tail else [])
-truncated-linked t width tail whole tail_whole = linked-pieces (truncated t width tail) ∙ (truncated_is t width tail whole tail_whole).bytes
+truncated-linked t width tail whole tail_whole = linked-pieces (truncated t width tail) ∙ (IsLinked-truncated t width tail whole tail_whole).bytes
 
 pub truncated-closed : (t : List ℕ) (width : ℕ) (tail : List ℕ) → IsTrue (is_whole t) → IsTrue (is_whole tail) → link_of (marks (truncated t width tail)) ≡ (if has_tail t width tail then link_of (marks tail) else [])
-truncated-closed t width tail whole tail_whole = link_of-pieces (pieces_of (truncated t width tail)) ∙ (truncated_is t width tail whole tail_whole).after
+truncated-closed t width tail whole tail_whole = link_of-pieces (pieces_of (truncated t width tail)) ∙ (IsLinked-truncated t width tail whole tail_whole).after
 
 pub truncated-plain : (t : List ℕ) (width : ℕ) (tail : List ℕ) → IsTrue (is_whole t) → IsTrue (is_whole tail)
     → plain (truncated t width tail) ≡ take (truncated_end t width tail) (plain t) ++ (if has_tail t width tail then plain tail else [])
@@ -160,24 +160,24 @@ blanks_are_plain : (n : ℕ) → list_all is_plain_byte (blanks n) ≡ true
 blanks_are_plain zero = refl
 blanks_are_plain (suc n) = blanks_are_plain n
 
-blanks_is : (n : ℕ) → IsLinked [] (blanks n) (without_link (blanks n)) []
-blanks_is zero = none_is []
-blanks_is (suc n) = (
+IsLinked-blanks : (n : ℕ) → IsLinked [] (blanks n) (without_link (blanks n)) []
+IsLinked-blanks zero = IsLinked-nil []
+IsLinked-blanks (suc n) = (
     let filled : blanks (suc n) ≢ [] = λ e. cc in
-    let made = spelled_is [] (Text (blanks (suc n)) ∷ []) (blanks (suc n)) (append-nil (blanks (suc n))) ((filled, blanks_are_plain (suc n)), tt) in
+    let made = IsLinked-spelled [] (Text (blanks (suc n)) ∷ []) (blanks (suc n)) (append-nil (blanks (suc n))) ((filled, blanks_are_plain (suc n)), tt) in
     record { whole = made.whole; bytes = made.bytes ∙ append-nil (without_link (blanks (suc n))); after = made.after })
 
-padded_is : (t : List ℕ) (width : ℕ) (alignment : Alignment) → IsTrue (is_whole t)
+IsLinked-padded : (t : List ℕ) (width : ℕ) (alignment : Alignment) → IsTrue (is_whole t)
     → IsLinked [] (padded t width alignment)
     (without_link (blanks (before_text alignment (missing t width))) ++ linked t ++ without_link (blanks (missing t width - before_text alignment (missing t width)))) []
 unfolding padded
-padded_is t width alignment whole =
+IsLinked-padded t width alignment whole =
     let lack = missing t width in
     let before = before_text alignment lack in
     let end = length (plain t) in
     let open_there : link_of (marks t) ≡ link_at t end = ap link_of (sym (marks_up_to-marks_past end (pieces_of t) (omega arith))) in
-    let closed = subst (λ l. IsLinked l (pen_close t end) [] []) (sym open_there) (pen_close_is t end) in
-    let made = both (both (blanks_is before) (both (text_is t whole) closed)) (blanks_is (lack - before)) in
+    let closed = subst (λ l. IsLinked l (pen_close t end) [] []) (sym open_there) (IsLinked-pen_close t end) in
+    let made = IsLinked-append (IsLinked-append (IsLinked-blanks before) (IsLinked-append (IsLinked-text t whole) closed)) (IsLinked-blanks (lack - before)) in
     record {
       whole = made.whole;
       bytes = made.bytes ∙ ap (λ u. (without_link (blanks before) ++ u) ++ without_link (blanks (lack - before))) (append-nil (linked t));
@@ -185,14 +185,14 @@ padded_is t width alignment whole =
     }
 
 pub padded-whole : (t : List ℕ) (width : ℕ) (alignment : Alignment) → IsTrue (is_whole t) → IsTrue (is_whole (padded t width alignment))
-padded-whole t width alignment whole = (padded_is t width alignment whole).whole
+padded-whole t width alignment whole = (IsLinked-padded t width alignment whole).whole
 
 pub padded-linked : (t : List ℕ) (width : ℕ) (alignment : Alignment) → IsTrue (is_whole t)
     → linked (padded t width alignment) ≡ without_link (blanks (before_text alignment (missing t width))) ++ linked t ++ without_link (blanks (missing t width - before_text alignment (missing t width)))
-padded-linked t width alignment whole = linked-pieces (padded t width alignment) ∙ (padded_is t width alignment whole).bytes
+padded-linked t width alignment whole = linked-pieces (padded t width alignment) ∙ (IsLinked-padded t width alignment whole).bytes
 
 pub padded-closed : (t : List ℕ) (width : ℕ) (alignment : Alignment) → IsTrue (is_whole t) → link_of (marks (padded t width alignment)) ≡ []
-padded-closed t width alignment whole = link_of-pieces (pieces_of (padded t width alignment)) ∙ (padded_is t width alignment whole).after
+padded-closed t width alignment whole = link_of-pieces (pieces_of (padded t width alignment)) ∙ (IsLinked-padded t width alignment whole).after
 
 pub padded-plain : (t : List ℕ) (width : ℕ) (alignment : Alignment) → IsTrue (is_whole t)
     → plain (padded t width alignment) ≡ blanks (before_text alignment (missing t width)) ++ plain t ++ blanks (missing t width - before_text alignment (missing t width))

@@ -55,14 +55,14 @@ marks-before t n = (is_cut_after t n (offset_of t n) refl).marks_front
 -- A text that begins with plain bytes.
 
 -- the place after these bytes
-bytes_before-after_text : (w v : List ℕ) (ps : List Piece) → ArePieces v ps → bytes_before (length w) (after_text w ps) ≡ length w + bytes_before 0 ps
-bytes_before-after_text w v (Text [] ∷ ps) are = absurd (are.2.0 refl)
-bytes_before-after_text w v (Text (b ∷ u) ∷ ps) are =
+bytes_before-past_text : (w v : List ℕ) (ps : List Piece) → ArePieces v ps → bytes_before (length w) (after_text w ps) ≡ length w + bytes_before 0 ps
+bytes_before-past_text w v (Text [] ∷ ps) are = absurd (are.2.0 refl)
+bytes_before-past_text w v (Text (b ∷ u) ∷ ps) are =
     omega (arith, bytes_before-last (length w) (w ++ b ∷ u) ps (omega (arith, length-append w (b ∷ u))), bytes_before-last 0 (b ∷ u) ps (omega arith))
-bytes_before-after_text w v ps are = (let none : length w - length w ≡ 0 = omega arith in bytes_before-text (length w) w ps (omega arith) ∙ ap (λ k. length w + bytes_before k ps) none)
+bytes_before-past_text w v ps are = (let none : length w - length w ≡ 0 = omega arith in bytes_before-text (length w) w ps (omega arith) ∙ ap (λ k. length w + bytes_before k ps) none)
 
 pub offset_of-run : (w v : List ℕ) → w ≢ [] → list_all is_plain_byte w ≡ true → offset_of (w ++ v) (length w) ≡ length w + offset_of v 0
-offset_of-run w v some all = ap (bytes_before (length w)) (pieces_of-run w v some all) ∙ bytes_before-after_text w v (pieces_of v) (pieces_are v)
+offset_of-run w v some all = ap (bytes_before (length w)) (pieces_of-run w v some all) ∙ bytes_before-past_text w v (pieces_of v) (pieces_are v)
 
 -- if a text begins with a plain byte, the offset of that byte is 0
 pub offset_of-plain : (b : ℕ) (v : List ℕ) → is_plain_byte b ≡ true → offset_of (b ∷ v) 0 ≡ 0

@@ -23,9 +23,9 @@ all-map p q from [] all = refl
 all-map p q from (b ∷ x) all = (let parts = and_parts (p b) (list_all p x) all in and_from _ _ (from b parts.0) (all-map p q from x parts.1))
 
 -- an ESC among plain bytes
-never : (s more : List ℕ) → ¬ (list_all is_plain_byte (s ++ escape ∷ more) ≡ true)
-never [] more all = absurd (cc (and_parts (is_plain_byte escape) (list_all is_plain_byte more) all).0)
-never (b ∷ s) more all = never s more (and_parts (is_plain_byte b) (list_all is_plain_byte (s ++ escape ∷ more)) all).1
+not_plain_if_escape : (s more : List ℕ) → ¬ (list_all is_plain_byte (s ++ escape ∷ more) ≡ true)
+not_plain_if_escape [] more all = absurd (cc (and_parts (is_plain_byte escape) (list_all is_plain_byte more) all).0)
+not_plain_if_escape (b ∷ s) more all = not_plain_if_escape s more (and_parts (is_plain_byte b) (list_all is_plain_byte (s ++ escape ∷ more)) all).1
 
 abbrev pub head_of : List ℕ → ℕ
 head_of [] = 0
@@ -39,8 +39,8 @@ rest_of (b ∷ x) = x
 only_escape : (s x more y : List ℕ) → list_all is_plain_byte x ≡ true → list_all is_plain_byte y ≡ true → s ++ escape ∷ more ≡ x ++ escape ∷ y → (s ≡ x) × (more ≡ y)
 only_escape [] [] more y px py e = (refl, ap rest_of e)
 only_escape [] (b ∷ x) more y px py e =
-    absurd (never [] x (subst (λ c. list_all is_plain_byte (c ∷ x) ≡ true) (sym (ap head_of e)) px))
-only_escape (c ∷ s) [] more y px py e = absurd (never s more (ap (list_all is_plain_byte) (ap rest_of e) ∙ py))
+    absurd (not_plain_if_escape [] x (subst (λ c. list_all is_plain_byte (c ∷ x) ≡ true) (sym (ap head_of e)) px))
+only_escape (c ∷ s) [] more y px py e = absurd (not_plain_if_escape s more (ap (list_all is_plain_byte) (ap rest_of e) ∙ py))
 only_escape (c ∷ s) (b ∷ x) more y px py e =
     let both = only_escape s x more y (and_parts (is_plain_byte b) (list_all is_plain_byte x) px).1 py (ap rest_of e) in
     (ap₂ (λ h t. h ∷ t) (ap head_of e) both.0, both.1)
@@ -48,8 +48,8 @@ only_escape (c ∷ s) (b ∷ x) more y px py e =
 -- the last ESC is one
 last_escape : (x y s r : List ℕ) → list_all is_plain_byte s ≡ true → list_all is_plain_byte r ≡ true → x ++ escape ∷ s ≡ y ++ escape ∷ r → s ≡ r
 last_escape [] [] s r ps pr e = ap rest_of e
-last_escape [] (b ∷ y) s r ps pr e = absurd (never y r (ap (list_all is_plain_byte) (sym (ap rest_of e)) ∙ ps))
-last_escape (a ∷ x) [] s r ps pr e = absurd (never x s (ap (list_all is_plain_byte) (ap rest_of e) ∙ pr))
+last_escape [] (b ∷ y) s r ps pr e = absurd (not_plain_if_escape y r (ap (list_all is_plain_byte) (sym (ap rest_of e)) ∙ ps))
+last_escape (a ∷ x) [] s r ps pr e = absurd (not_plain_if_escape x s (ap (list_all is_plain_byte) (ap rest_of e) ∙ pr))
 last_escape (a ∷ x) (b ∷ y) s r ps pr e = last_escape x y s r ps pr (ap rest_of e)
 
 -- If an ESC is inside a sequence, the sequence is a control string, and the ESC begins its terminator.
@@ -80,10 +80,10 @@ pub escape_inside : (s more : List ℕ) → IsSequence (escape ∷ s ++ escape �
 escape_inside s more (inl c) =
     let front = plain-append c.parameters c.intermediates (all-map _ _ parameter_is_plain c.parameters c.are_parameters) (all-map _ _ intermediate_is_plain c.intermediates c.are_intermediates) in
     let tail = plain-append (c.parameters ++ c.intermediates) (c.final ∷ []) front (plain-cons c.final [] (final_is_plain c.final c.is_final) refl) in
-    absurd (never s more (ap (list_all is_plain_byte) (ap rest_of c.spelled) ∙ plain-cons (byte "[") (c.parameters ++ c.intermediates ++ c.final ∷ []) refl tail))
+    absurd (not_plain_if_escape s more (ap (list_all is_plain_byte) (ap rest_of c.spelled) ∙ plain-cons (byte "[") (c.parameters ++ c.intermediates ++ c.final ∷ []) refl tail))
 escape_inside s more (inr (inr c)) =
     let tail = plain-append c.intermediates (c.final ∷ []) (all-map _ _ intermediate_is_plain c.intermediates c.are_intermediates) (plain-cons c.final [] (escape_final_is_plain c.final c.is_final) refl) in
-    absurd (never s more (ap (list_all is_plain_byte) (ap rest_of c.spelled) ∙ tail))
+    absurd (not_plain_if_escape s more (ap (list_all is_plain_byte) (ap rest_of c.spelled) ∙ tail))
 escape_inside s more (inr (inl c)) =
     let o = c.opener in
     let front = plain-cons o c.body (opener_is_plain o c.opens) (all-map _ _ (body_is_plain o) c.body c.is_body) in
@@ -94,7 +94,7 @@ escape_inside s more (inr (inl c)) =
         let both = only_escape s (c.opener ∷ c.body) more (byte "\\" ∷ []) front refl (ap rest_of c.spelled ∙ ap (λ u. (c.opener ∷ c.body) ++ u) string) in
         record { end = both.1; bytes = ap (list_all is_plain_byte) both.0 ∙ front; opener = c.opener; body = c.body; begins = both.0; opens = c.opens }
     by_end front (inr bell_ends) =
-        absurd (never s more (ap (list_all is_plain_byte) (ap rest_of c.spelled) ∙ plain-append (c.opener ∷ c.body) c.terminator front (ap (list_all is_plain_byte) bell_ends.1)))
+        absurd (not_plain_if_escape s more (ap (list_all is_plain_byte) (ap rest_of c.spelled) ∙ plain-append (c.opener ∷ c.body) c.terminator front (ap (list_all is_plain_byte) bell_ends.1)))
 
 -- No sequence that begins at an ESC of u goes on past its end.
 abbrev pub Unreached : List ℕ → List ℕ → Type 0
@@ -130,11 +130,11 @@ plain-divided u v unreached =
 
 -- if u has no ESC
 pub unreached-none : (u v : List ℕ) → list_all is_plain_byte u ≡ true → Unreached u v
-unreached-none u v all x s e n past whole = never x s (ap (list_all is_plain_byte) (sym e) ∙ all)
+unreached-none u v all x s e n past whole = not_plain_if_escape x s (ap (list_all is_plain_byte) (sym e) ∙ all)
 
 -- a sequence that goes on past s and an ESC
-pub reaching : (s v : List ℕ) (n : ℕ) → suc (length s) < n → take n ((escape ∷ s) ++ escape ∷ v) ≡ escape ∷ (s ++ escape ∷ take (n - suc (suc (length s))) v)
-reaching s v n past =
+pub take-past_escape : (s v : List ℕ) (n : ℕ) → suc (length s) < n → take n ((escape ∷ s) ++ escape ∷ v) ≡ escape ∷ (s ++ escape ∷ take (n - suc (suc (length s))) v)
+take-past_escape s v n past =
     let all : n ≡ length (escape ∷ s) + suc (n - suc (suc (length s))) = omega arith in
     ap (λ i. take i ((escape ∷ s) ++ escape ∷ v)) all ∙ take-after (escape ∷ s) (escape ∷ v) (suc (n - suc (suc (length s))))
 
@@ -150,7 +150,7 @@ pub unreached-last : (front s v : List ℕ) (p : Piece) (ps : List Piece) → li
     → pieces_of ((escape ∷ s) ++ escape ∷ v) ≡ p ∷ ps → length (spelling p) ≤ suc (length s) → Unreached (front ++ escape ∷ s) (escape ∷ v)
 unreached-last front s v p ps plain first short x r e n past whole =
     let k = n - suc (suc (length r)) in
-    let found = subst IsSequence (reaching r v n past) whole in
+    let found = subst IsSequence (take-past_escape r v n past) whole in
     let inside = escape_inside r (take k v) found in
     let same : r ≡ s = last_escape x front r s inside.bytes plain (sym e) in
     let w = escape ∷ (s ++ escape ∷ take k v) in
@@ -164,7 +164,7 @@ pub unreached-string : (u s more rest : List ℕ) → IsSequence (escape ∷ (s 
 unreached-string u s more rest string x r e n past whole =
     let v = (s ++ escape ∷ more) ++ rest in
     let k = n - suc (suc (length r)) in
-    let inside = escape_inside r (take k v) (subst IsSequence (reaching r v n past) whole) in
+    let inside = escape_inside r (take k v) (subst IsSequence (take-past_escape r v n past) whole) in
     let outer = escape_inside s more string in
     let same : take k (outer.opener ∷ (outer.body ++ escape ∷ more) ++ rest) ≡ byte "\\" ∷ [] = ap (λ y. take k ((y ++ escape ∷ more) ++ rest)) (sym outer.begins) ∙ inside.end in
     not_opener k outer.opener _ outer.opens same
@@ -186,6 +186,6 @@ mark-plain t at n p ps v from unreached first len all =
   where
     mark : (p : Piece) (rest : List ℕ) → StandsBefore p rest → spelling p ++ rest ≡ escape ∷ v → plain_of (p ∷ ps) ≡ plain_of ps
     mark (Text []) rest stands e = absurd (stands.0 refl)
-    mark (Text (b ∷ w)) rest stands e = absurd (never [] w (subst (λ c. list_all is_plain_byte (c ∷ w) ≡ true) (ap head_of e) stands.1))
+    mark (Text (b ∷ w)) rest stands e = absurd (not_plain_if_escape [] w (subst (λ c. list_all is_plain_byte (c ∷ w) ≡ true) (ap head_of e) stands.1))
     mark (Sequence w) rest stands e = refl
     mark LoneEscape rest stands e = refl

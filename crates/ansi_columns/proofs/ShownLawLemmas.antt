@@ -7,7 +7,6 @@ use Rattle.std.proofs.lemmas.Bool.Decides.{nat_tests}
 use Rattle.std.proofs.lemmas.List.{length-replicate}
 use Rattle.std.proofs.lemmas.List.Sums.{sum_by-cons}
 use Rattle.std.proofs.lemmas.List.Folds.{list_all-append}
-use Rattle.std.proofs.lemmas.Grind.{flat_map-append}
 use Rattle.std.proofs.lemmas.Str.{chars-nil, chars-IsAscii, encode_ascii, encodes-chars, IsUtf8-nil, IsUtf8-take, IsUtf8-append, IsUtf8-from_ascii}
 use Rattle.std.proofs.lemmas.Str.Ascii.{IsAscii-from_all}
 use Rattle.unicode_width.proofs.Rules.{str_width-printable}
@@ -19,12 +18,12 @@ use Rattle.ansi_columns.specs.declared.shown.Alignment.TheVariants.{Left, Right,
 use Rattle.ansi_columns.specs.Columns.{clusters, cluster_width, columns_of, columns, bytes_of, FitsUpTo, IsClusterBoundary}
 use Rattle.ansi_columns.specs.Shown.{fitting_end, has_tail, truncated_end, truncated, missing, before_text, blanks, padded}
 use Rattle.ansi_columns.specs.Walks.{clusters_after}
-use Rattle.ansi_columns.proofs.AsciiLemmas.{columns-printable, is_printable, breaks-between, are_ascii}
+use Rattle.ansi_columns.proofs.AsciiLemmas.{columns-printable, is_printable, breaks-between, All-printable_is_ascii}
 use Rattle.ansi_columns.proofs.ClusterLemmas.{cluster-begins, cluster-ends, cluster-last, clusters-none}
-use Rattle.ansi_columns.proofs.ClusterLawLemmas.{fits-within, spells}
-use Rattle.ansi_columns.proofs.LineLawLemmas.{boundary_between}
+use Rattle.ansi_columns.proofs.ClusterLawLemmas.{fits-within, clusters_after-bytes}
+use Rattle.ansi_columns.proofs.LineLawLemmas.{boundary_between, bytes_of-append}
 use Rattle.ansi_columns.proofs.LinkedLawLemmas.{truncated-plain, padded-plain}
-use Rattle.ansi_columns.proofs.SeamLawLemmas.{clusters-add_up, columns-add_up}
+use Rattle.ansi_columns.proofs.BreakLawLemmas.{clusters-add_up, columns-add_up}
 
 -- ---- the width of a truncated text
 
@@ -35,9 +34,9 @@ record IsCount (width : ℕ) (ks : List (List ℕ)) : Type 0 where
   fits : columns_of (take count ks) ≤ width
   greatest : count < length ks → width < columns_of (take (count + 1) ks)
 
-counted : (width : ℕ) (ks : List (List ℕ)) → IsCount width ks
-counted width [] = record { count = 0; boundary = refl; fits = omega arith; greatest = λ less. absurd (omega (arith, less)) }
-counted width (k ∷ ks) =
+IsCount-all : (width : ℕ) (ks : List (List ℕ)) → IsCount width ks
+IsCount-all width [] = record { count = 0; boundary = refl; fits = omega arith; greatest = λ less. absurd (omega (arith, less)) }
+IsCount-all width (k ∷ ks) =
     let rest = fitting_end (width - cluster_width k) ks in
     let either : (b : Bool) → nat_le (cluster_width k) width ≡ b → fitting_end width (k ∷ ks) ≡ (if b then length (encode_utf8_all k) + rest else 0) = λ b is. ap (λ b. if b then length (encode_utf8_all k) + rest else 0) is in
     elim (cases_lt width (cluster_width k)) [
@@ -48,7 +47,7 @@ counted width (k ∷ ks) =
         greatest = λ less. omega (arith, wide, sum_by-cons cluster_width k []);
       }
       | inr room ↦ (
-          let more = counted (width - cluster_width k) ks in
+          let more = IsCount-all (width - cluster_width k) ks in
           let next : suc more.count + 1 ≡ suc (more.count + 1) = omega arith in
           record {
             count = suc more.count;
@@ -60,7 +59,7 @@ counted width (k ∷ ks) =
     ]
 
 fitting_end-is : (x : List ℕ) (width : ℕ) → FitsUpTo x width (fitting_end width (clusters x))
-fitting_end-is x width = (let is = counted width (clusters x) in record { count = is.count; boundary = is.boundary; fits = is.fits; greatest = is.greatest })
+fitting_end-is x width = (let is = IsCount-all width (clusters x) in record { count = is.count; boundary = is.boundary; fits = is.fits; greatest = is.greatest })
 
 module _ (x y : List ℕ) (left : IsUtf8 x) (right : IsUtf8 y) (width : ℕ) where
   abbrev end : ℕ
@@ -68,7 +67,7 @@ module _ (x y : List ℕ) (left : IsUtf8 x) (right : IsUtf8 y) (width : ℕ) whe
 
   end_boundary : IsCharBoundary x end
   end_boundary =
-      let is = counted width (clusters x) in
+      let is = IsCount-all width (clusters x) in
       subst (IsCharBoundary x) (sym is.boundary) (boundary_between x left (take is.count (clusters x)) (drop is.count (clusters x)) (sym (take-append-drop is.count (clusters x))))
 
   fitting-followed : IsClusterBoundary (take end x ++ y) end → columns (take end x ++ y) ≤ width + columns y
@@ -133,7 +132,7 @@ fitting-singles (suc width) (c ∷ cs) all =
 
 fitting-printable : (width : ℕ) (x : List ℕ) → list_all is_printable x ≡ true → fitting_end width (clusters x) ≡ min width (length x)
 fitting-printable width x all =
-    ap (λ cs. fitting_end width (clusters_after [] cs)) (chars-IsAscii x (IsAscii-from_all x (are_ascii x all)))
+    ap (λ cs. fitting_end width (clusters_after [] cs)) (chars-IsAscii x (IsAscii-from_all x (All-printable_is_ascii x all)))
     ∙ ap (fitting_end width) (clusters-printable [] x all) ∙ fitting-singles width x all
 
 columns-two : (x y : List ℕ) → list_all is_printable x ≡ true → list_all is_printable y ≡ true → columns (x ++ y) ≡ length x + length y
@@ -200,11 +199,8 @@ padded-columns t width alignment printable whole =
 
 -- ---- the width of any padded text
 
-bytes_of-append : (ks ls : List (List ℕ)) → bytes_of (ks ++ ls) ≡ bytes_of ks + bytes_of ls
-bytes_of-append ks ls = ap length (flat_map-append encode_utf8_all ks ls) ∙ length-append (flat_map encode_utf8_all ks) (flat_map encode_utf8_all ls)
-
 bytes_of-clusters : (x : List ℕ) → IsUtf8 x → bytes_of (clusters x) ≡ length x
-bytes_of-clusters x utf8 = ap length (spells [] (chars x) ∙ encodes-chars x utf8)
+bytes_of-clusters x utf8 = ap length (clusters_after-bytes [] (chars x) ∙ encodes-chars x utf8)
 
 -- if a cluster ends between two texts, each place between clusters of the whole that is in the first text is between clusters of the first text
 boundary-front : (x y : List ℕ) (i : ℕ) → IsUtf8 x → clusters (x ++ y) ≡ clusters x ++ clusters y → i ≤ length x → IsClusterBoundary (x ++ y) i → IsClusterBoundary x i
@@ -222,7 +218,7 @@ boundary-front x y i utf8 sum within at =
     ]
 
 IsUtf8-blanks : (n : ℕ) → IsUtf8 (blanks n)
-IsUtf8-blanks n = IsUtf8-from_ascii (blanks n) (IsAscii-from_all (blanks n) (are_ascii (blanks n) (blanks_are_printable n)))
+IsUtf8-blanks n = IsUtf8-from_ascii (blanks n) (IsAscii-from_all (blanks n) (All-printable_is_ascii (blanks n) (blanks_are_printable n)))
 
 columns-blanks : (n : ℕ) → columns (blanks n) ≡ n
 columns-blanks n = columns-printable (blanks n) (blanks_are_printable n) ∙ length-replicate n (byte " ")

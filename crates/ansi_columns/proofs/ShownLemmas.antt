@@ -83,9 +83,9 @@ close-none s none = known-none s (written-none (close_codes s) none)
 
 -- Nothing is written.
 
-both_none : {X : Type 0} (x y : List X) → x ++ y ≡ [] → (x ≡ []) × (y ≡ [])
-both_none [] y none = (refl, none)
-both_none (a ∷ x) y none = absurd (cc none)
+append-both_nil : {X : Type 0} (x y : List X) → x ++ y ≡ [] → (x ≡ []) × (y ≡ [])
+append-both_nil [] y none = (refl, none)
+append-both_nil (a ∷ x) y none = absurd (cc none)
 
 pub link_end-open : (link : List ℕ) → nat_eq (length link) 0 ≡ false → link_end link ≡ codes "\u{1b}]8;;\u{1b}\\"
 link_end-open link some = ap (λ t. if t then [] else codes "\u{1b}]8;;\u{1b}\\") some
@@ -108,8 +108,8 @@ ends_here-yes link tail style no_tail no_link no_style =
 
 pub ends_here-no : (link tail : List ℕ) (style : Rendition) → (link_end link ++ close style) ++ tail ≡ [] → (length tail ≡ 0) × (length link ≡ 0) × ((has_known style || style.unknown) ≡ false)
 ends_here-no link tail style none =
-    let tailed = both_none (link_end link ++ close style) tail none in
-    let closed = both_none (link_end link) (close style) tailed.0 in
+    let tailed = append-both_nil (link_end link ++ close style) tail none in
+    let closed = append-both_nil (link_end link) (close style) tailed.0 in
     (ap length tailed.1, link_end-none link closed.0, close-none style closed.1)
 
 -- How long what ends a pen is.
@@ -123,11 +123,11 @@ length-closing link style = omega (arith, length-append (link_end link) (close s
 
 -- The front of a text, and what ends its pen.
 
-pub front_is : {t : List ℕ} {e to : ℕ} → StandsIn t e to → take to t ≡ interleaved (plain t) 0 e (marks_up_to e (marks t))
-front_is {t} {e} {to} stands = append_cancel_right (take to t) (interleaved (plain t) 0 e (marks_up_to e (marks t))) (close (style_at t e)) (cut-front {style = style_at t e} stands refl)
+pub take-interleaved : {t : List ℕ} {e to : ℕ} → StandsIn t e to → take to t ≡ interleaved (plain t) 0 e (marks_up_to e (marks t))
+take-interleaved {t} {e} {to} stands = append_cancel_right (take to t) (interleaved (plain t) 0 e (marks_up_to e (marks t))) (close (style_at t e)) (cut-front {style = style_at t e} stands refl)
 
-pub pen_there : {t front link : List ℕ} {e to : ℕ} {style : Rendition} → StandsIn t e to → front ≡ take to t → style ≡ style_after front → link ≡ link_of (marks front) → link_end link ++ close style ≡ pen_close t e
-pen_there {t} {front} {link} {e} {to} {style} stands is style_is link_is =
+pub pen_close-front : {t front link : List ℕ} {e to : ℕ} {style : Rendition} → StandsIn t e to → front ≡ take to t → style ≡ style_after front → link ≡ link_of (marks front) → link_end link ++ close style ≡ pen_close t e
+pen_close-front {t} {front} {link} {e} {to} {style} stands is style_is link_is =
     let same : marks front ≡ marks_up_to e (marks t) = ap marks (is ∙ ap (λ i. take i t) stands.offset) ∙ marks-before t e in
     ap₂ (λ l s. link_end l ++ close s) (link_is ∙ ap link_of same) (style_is ∙ ap style_of same)
 
@@ -147,33 +147,33 @@ tail-wide t tail width wide = and_right (not (nat_le (columns (plain t)) width))
 tail-there : (t tail : List ℕ) (width : ℕ) → nat_le (columns (plain t)) width ≡ false → columns (plain tail) ≤ width → has_tail t width tail ≡ true
 tail-there t tail width more fits = ap₂ (λ a b. not a && b) more (le-leb (columns (plain tail)) width fits)
 
-stands_at : (t : List ℕ) (utf8 : IsUtf8 t) (w : Walk) (room end : ℕ) → IsWalk t w → FitsUpTo (plain t) room w.position → end ≡ fitting_end room (clusters (plain t)) → StandsIn t end w.offset
-stands_at t utf8 w room end walk fits is =
+StandsIn-fitting_end : (t : List ℕ) (utf8 : IsUtf8 t) (w : Walk) (room end : ℕ) → IsWalk t w → FitsUpTo (plain t) room w.position → end ≡ fitting_end room (clusters (plain t)) → StandsIn t end w.offset
+StandsIn-fitting_end t utf8 w room end walk fits is =
     let place : w.position ≡ end = fitting_end-fits fits ∙ sym is in
     subst (λ e. StandsIn t e w.offset) place (record { good = no_character_goes_on-boundary (plain t) w.position (walk_boundary t utf8 w walk); offset = walk.offset; boundary = walk.run.start_boundary })
 
 no_tail-end : (t tail : List ℕ) (width : ℕ) → has_tail t width tail ≡ false → truncated_end t width tail ≡ fitting_end width (clusters (plain t))
 no_tail-end t tail width none = ap (λ b. fitting_end (if b then width - columns (plain tail) else width) (clusters (plain t))) none
 
-pub stands-all : (t tail : List ℕ) (utf8 : IsUtf8 t) (w : Walk) (width : ℕ) → IsWalk t w → FitsUpTo (plain t) width w.position → nat_le (columns (plain t)) width ≡ true
+pub StandsIn-all : (t tail : List ℕ) (utf8 : IsUtf8 t) (w : Walk) (width : ℕ) → IsWalk t w → FitsUpTo (plain t) width w.position → nat_le (columns (plain t)) width ≡ true
     → StandsIn t (truncated_end t width tail) w.offset × ([] ≡ (if has_tail t width tail then tail else []))
-stands-all t tail utf8 w width walk fits all =
+StandsIn-all t tail utf8 w width walk fits all =
     let none = tail-fits t tail width all in
-    (stands_at t utf8 w width (truncated_end t width tail) walk fits (no_tail-end t tail width none), sym (ap (λ b. if b then tail else []) none))
+    (StandsIn-fitting_end t utf8 w width (truncated_end t width tail) walk fits (no_tail-end t tail width none), sym (ap (λ b. if b then tail else []) none))
 
-pub stands-wide : (t tail : List ℕ) (utf8 : IsUtf8 t) (w : Walk) (width : ℕ) → IsWalk t w → FitsUpTo (plain t) width w.position → width < columns (plain tail)
+pub StandsIn-wide : (t tail : List ℕ) (utf8 : IsUtf8 t) (w : Walk) (width : ℕ) → IsWalk t w → FitsUpTo (plain t) width w.position → width < columns (plain tail)
     → StandsIn t (truncated_end t width tail) w.offset × ([] ≡ (if has_tail t width tail then tail else []))
-stands-wide t tail utf8 w width walk fits wide =
+StandsIn-wide t tail utf8 w width walk fits wide =
     let none = tail-wide t tail width wide in
-    (stands_at t utf8 w width (truncated_end t width tail) walk fits (no_tail-end t tail width none), sym (ap (λ b. if b then tail else []) none))
+    (StandsIn-fitting_end t utf8 w width (truncated_end t width tail) walk fits (no_tail-end t tail width none), sym (ap (λ b. if b then tail else []) none))
 
-pub stands-tail : (t tail : List ℕ) (utf8 : IsUtf8 t) (w : Walk) (width room : ℕ) → IsWalk t w → FitsUpTo (plain t) room w.position → nat_le (columns (plain t)) width ≡ false → columns (plain tail) ≤ width
+pub StandsIn-tail : (t tail : List ℕ) (utf8 : IsUtf8 t) (w : Walk) (width room : ℕ) → IsWalk t w → FitsUpTo (plain t) room w.position → nat_le (columns (plain t)) width ≡ false → columns (plain tail) ≤ width
     → room ≡ width - columns (plain tail) → StandsIn t (truncated_end t width tail) w.offset × (tail ≡ (if has_tail t width tail then tail else []))
-stands-tail t tail utf8 w width room walk fits more within room_is =
+StandsIn-tail t tail utf8 w width room walk fits more within room_is =
     let there = tail-there t tail width more within in
     let end : truncated_end t width tail ≡ fitting_end room (clusters (plain t))
     = ap (λ b. fitting_end (if b then width - columns (plain tail) else width) (clusters (plain t))) there ∙ ap (λ n. fitting_end n (clusters (plain t))) (sym room_is) in
-    (stands_at t utf8 w room (truncated_end t width tail) walk fits end, sym (ap (λ b. if b then tail else []) there))
+    (StandsIn-fitting_end t utf8 w room (truncated_end t width tail) walk fits end, sym (ap (λ b. if b then tail else []) there))
 
 length-either : (b : Bool) (x : List ℕ) → length (if b then x else []) ≤ length x
 length-either true x = omega arith
@@ -192,12 +192,12 @@ length-front zero x = omega arith
 length-front (suc n) [] = omega arith
 length-front (suc n) (b ∷ x) = omega (arith, length-front n x)
 
-pub cut_to : {t front link after : List ℕ} {to : ℕ} {style : Rendition} (width : ℕ) (tail : List ℕ) → StandsIn t (truncated_end t width tail) to → front ≡ take to t → style ≡ style_after front → link ≡ link_of (marks front)
+pub IsCutTo-front : {t front link after : List ℕ} {to : ℕ} {style : Rendition} (width : ℕ) (tail : List ℕ) → StandsIn t (truncated_end t width tail) to → front ≡ take to t → style ≡ style_after front → link ≡ link_of (marks front)
     → after ≡ (if has_tail t width tail then tail else []) → IsCutTo t width tail front (link_end link ++ close style) after
-cut_to {t} {front} {link} {after} {to} {style} width tail stands is style_is link_is tail_is = record {
-  front_is = is ∙ front_is stands;
+IsCutTo-front {t} {front} {link} {after} {to} {style} width tail stands is style_is link_is tail_is = record {
+  front_is = is ∙ take-interleaved stands;
   within = omega (arith, ap length is, length-front to t);
-  close_is = pen_there stands is style_is link_is;
+  close_is = pen_close-front stands is style_is link_is;
   short = length-closing link style;
   after_is = tail_is;
 }

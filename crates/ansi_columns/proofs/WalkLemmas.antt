@@ -15,7 +15,7 @@ use Rattle.ansi_search.specs.Offsets.{offset_of}
 use Rattle.ansi_search.proofs.SliceLemmas.{length-slice_range}
 use Rattle.ansi_search.proofs.OffsetLemmas.{plain-after}
 use Rattle.ansi_columns.specs.declared.walks.Walk.{Walk}
-use Rattle.ansi_columns.specs.Seams.{seam_of}
+use Rattle.ansi_columns.specs.BreakStates.{break_state_of}
 use Rattle.ansi_columns.specs.Walks.{before, after, cluster, IsRun, IsWalk, IsNext}
 use Rattle.ansi_columns.proofs.PlaceLemmas.{offset_of-add, offset_of-run, offset_of-plain, plain-before}
 use Rattle.ansi_items.proofs.JoinLemmas.{plain-run}
@@ -36,8 +36,8 @@ run-after t n a b within run = record {
 }
 
 -- at the end of a text there is none
-pub no_run : (t : List ℕ) → IsRun t (length t) (length t)
-no_run t =
+pub IsRun-at_end : (t : List ℕ) → IsRun t (length t) (length t)
+IsRun-at_end t =
     let none : length t - length t ≡ 0 = omega arith in
     record { ordered = omega arith; start_boundary = IsCharBoundary-end t; end_boundary = IsCharBoundary-end t; bytes = ap (λ n. list_all is_plain_byte (take n (drop (length t) t))) none }
 
@@ -149,25 +149,25 @@ module _ (t : List ℕ) (utf8 : IsUtf8 t) (w : Walk) (walk : IsWalk t w) where
             ∙ offset_of-plain b (r ++ drop w.run_end t) (and_parts (is_plain_byte b) (list_all is_plain_byte r) (ap (list_all is_plain_byte) (sym e) ∙ both_plain.1)).0
 
     -- the run goes on
-    pub walk-on : (new : Walk) → new.position ≡ w.position + k → new.offset ≡ past → new.run_end ≡ w.run_end → past ≢ w.run_end → new.seam ≡ seam_of (c ∷ before t w.position) → IsWalk t new
-    walk-on new position offset run_end more seam = record {
+    pub walk-on : (new : Walk) → new.position ≡ w.position + k → new.offset ≡ past → new.run_end ≡ w.run_end → past ≢ w.run_end → new.break_state ≡ break_state_of (c ∷ before t w.position) → IsWalk t new
+    walk-on new position offset run_end more break_state = record {
       offset = omega (arith, offset, offset_past, none_before more, ap (offset_of t) position);
       run = rw (offset, run_end) run_past;
       end = λ e. absurd (more (sym offset ∙ e ∙ run_end));
-      seam = seam ∙ ap seam_of (sym before-past) ∙ ap (λ n. seam_of (before t n)) (sym position);
+      break_state = break_state ∙ ap break_state_of (sym before-past) ∙ ap (λ n. break_state_of (before t n)) (sym position);
       within = rw position position_within;
     }
 
     -- the run ends, and the next one begins
     pub walk-over : (new : Walk) (start end : ℕ) → new.position ≡ w.position + k → new.offset ≡ past + start → new.run_end ≡ past + end → start ≡ offset_of (drop past t) 0 → IsRun (drop past t) start end
-        → (start ≡ end → start ≡ length (drop past t)) → new.seam ≡ seam_of (c ∷ before t w.position) → IsWalk t new
-    walk-over new start end position offset run_end start_is run none seam =
+        → (start ≡ end → start ≡ length (drop past t)) → new.break_state ≡ break_state_of (c ∷ before t w.position) → IsWalk t new
+    walk-over new start end position offset run_end start_is run none break_state =
         let inside : past ≤ length t = omega (arith, size, walk.run.end_boundary.0) in
         record {
           offset = omega (arith, offset, start_is, offset_past, ap (offset_of t) position);
           run = rw (offset, run_end) (run-after t past start end inside run);
           end = λ e. (let last : start ≡ end = omega (arith, offset, run_end, e) in omega (arith, offset, none last, length-drop past t, inside));
-          seam = seam ∙ ap seam_of (sym before-past) ∙ ap (λ n. seam_of (before t n)) (sym position);
+          break_state = break_state ∙ ap break_state_of (sym before-past) ∙ ap (λ n. break_state_of (before t n)) (sym position);
           within = rw position position_within;
         }
 

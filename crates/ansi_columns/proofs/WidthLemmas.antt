@@ -68,8 +68,8 @@ step-low : (c total : ℕ) (s : State) → c ≤ 0xA0 → (step false c (total, 
 unfolding step
 step-low c total s low = grind (arith, past_emoji-low c total s low, past_emoji-low c total (record (if_kept s) { emoji = false }) low)
 
-two_bytes : (c : ℕ) → 0xA0 < c → 2 ≤ length (encode_utf8 c)
-two_bytes c h = grind (arith, nat_tests, length-encode c)
+encode_utf8-two_bytes : (c : ℕ) → 0xA0 < c → 2 ≤ length (encode_utf8 c)
+encode_utf8-two_bytes c h = grind (arith, nat_tests, length-encode c)
 
 read-bound : (cs : List ℕ) → (read_before false cs (0, plain)).0 ≤ 2 * length (encode_utf8_all cs)
 read-bound [] = omega arith
@@ -77,7 +77,7 @@ read-bound (c ∷ cs) =
     let read = read_before false cs (0, plain) in
     let size : length (encode_utf8_all (c ∷ cs)) ≡ length (encode_utf8 c) + length (encode_utf8_all cs) = length-append (encode_utf8 c) (encode_utf8_all cs) in
     elim (cases_lt 0xA0 c) [
-      | inl high ↦ omega (arith, size, read-bound cs, step-bound c read.0 read.1, two_bytes c high)
+      | inl high ↦ omega (arith, size, read-bound cs, step-bound c read.0 read.1, encode_utf8-two_bytes c high)
       | inr low ↦ omega (arith, size, read-bound cs, step-low c read.0 read.1 low, length-encode c, (len_utf8_bounds c).0)
     ]
 

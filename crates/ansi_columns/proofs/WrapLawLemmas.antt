@@ -18,7 +18,7 @@ use Rattle.ansi_style.specs.Reading.{after_marks}
 use Rattle.ansi_style.specs.Styled.{StyledByte, styled, residue}
 use Rattle.ansi_style.specs.Written.{start, start_codes, close_if_any}
 use Rattle.ansi_style.proofs.DressedLemmas.{GiveAlone, IsClosed, closed-spelled, dressed_pieces, spelled-dressed_pieces, dressed_pieces_stand, dressed_pieces_give}
-use Rattle.ansi_style.proofs.MarkLemmas.{further, marks_of-text, marks_of-mark}
+use Rattle.ansi_style.proofs.MarkLemmas.{mark_further_on, marks_of-text, marks_of-mark}
 use Rattle.ansi_style.proofs.ReadBackLemmas.{start_codes_are}
 use Rattle.ansi_style.proofs.SgrLemmas.{apply-no_sgr}
 use Rattle.ansi_style.proofs.StyleLemmas.{IsStyle-apply_all, IsStyle-plain_style}
@@ -35,15 +35,15 @@ use Rattle.ansi_columns.specs.Links.{is_link, opens_link, link_of, link_after, l
 use Rattle.ansi_columns.specs.Wrapped.{WrappedLine, line_over, lines_over, wrapped}
 use Rattle.ansi_columns.proofs.LineLemmas.{line-any, line-last}
 use Rattle.ansi_columns.proofs.LinkLemmas.{is_link-sgr, link_of-pieces, link_through}
-use Rattle.ansi_columns.proofs.LinkedLawLemmas.{linked_byte, linked_through, linked-pieces, IsLinked, both, none_is, spelled_is, shown_is, codes_is, link_end_is}
-use Rattle.ansi_columns.proofs.WrapLemmas.{filled}
+use Rattle.ansi_columns.proofs.LinkedLawLemmas.{linked_byte, linked_through, linked-pieces, IsLinked, IsLinked-append, IsLinked-nil, IsLinked-spelled, IsLinked-interleaved, IsLinked-codes, IsLinked-link_end}
+use Rattle.ansi_columns.proofs.WrapLemmas.{has_no_lines-cons}
 
 -- Marks that are sequences.
 
 abbrev AreSequences : List Mark → Type 0
 AreSequences ms = AllByRecursion (λ (m : Mark). IsSequence m.bytes) ms
 
-sequences-further : (n : ℕ) (ms : List Mark) → AreSequences ms → AreSequences (map (further n) ms)
+sequences-further : (n : ℕ) (ms : List Mark) → AreSequences ms → AreSequences (map (mark_further_on n) ms)
 sequences-further n [] all = tt
 sequences-further n (m ∷ ms) all = (all.0, sequences-further n ms all.1)
 
@@ -79,10 +79,10 @@ linked_through-one_sequence (b ∷ w) = refl
 abbrev IsNoneOrLink : List ℕ → Type 0
 IsNoneOrLink w = (w ≡ []) ⊎ (IsSequence w × (is_link w ≡ true))
 
-link_stands : (w : List ℕ) → IsNoneOrLink w → AllStandAnywhere (one_sequence w)
-link_stands [] is = tt
-link_stands (b ∷ w) (inl none) = absurd (cc none)
-link_stands (b ∷ w) (inr is) = (is.0, tt)
+one_sequence_stands : (w : List ℕ) → IsNoneOrLink w → AllStandAnywhere (one_sequence w)
+one_sequence_stands [] is = tt
+one_sequence_stands (b ∷ w) (inl none) = absurd (cc none)
+one_sequence_stands (b ∷ w) (inr is) = (is.0, tt)
 
 -- it changes no style
 link_keeps : (s : Rendition) (w : List ℕ) → IsNoneOrLink w → style_through s (one_sequence w) ≡ s
@@ -90,11 +90,11 @@ link_keeps s [] is = refl
 link_keeps s (b ∷ w) (inl none) = absurd (cc none)
 link_keeps s (b ∷ w) (inr is) = apply-no_sgr s (b ∷ w) (false_from_ne_true _ (λ sgr. (let no = is_link-sgr (b ∷ w) sgr in cc (no, is.1))))
 
-end_is : IsControlString (codes "\u{1b}]8;;\u{1b}\\")
-end_is = record { opener = byte "]"; body = codes "8;;"; terminator = escape ∷ byte "\\" ∷ []; spelled = refl; opens = refl; is_body = refl; ends = inl refl }
+IsControlString-link_end : IsControlString (codes "\u{1b}]8;;\u{1b}\\")
+IsControlString-link_end = record { opener = byte "]"; body = codes "8;;"; terminator = escape ∷ byte "\\" ∷ []; spelled = refl; opens = refl; is_body = refl; ends = inl refl }
 
 link_end_is_link : (link : List ℕ) → IsNoneOrLink (link_end link)
-link_end_is_link link = cond_both (length link == 0) [] (codes "\u{1b}]8;;\u{1b}\\") IsNoneOrLink (λ none. inl refl) (λ some. inr (inr (inl end_is), refl))
+link_end_is_link link = cond_both (length link == 0) [] (codes "\u{1b}]8;;\u{1b}\\") IsNoneOrLink (λ none. inl refl) (λ some. inr (inr (inl IsControlString-link_end), refl))
 
 -- A link that is carried: it opens itself.
 
@@ -102,24 +102,24 @@ record IsCarried (link : List ℕ) : Type 0 where
   is : IsNoneOrLink link
   opens : link_after [] link ≡ link
 
-none_carried : IsCarried []
-none_carried = record { is = inl refl; opens = refl }
+IsCarried-nil : IsCarried []
+IsCarried-nil = record { is = inl refl; opens = refl }
 
 carried-step : (link w : List ℕ) → IsSequence w → IsCarried link → IsCarried (link_after link w)
 carried-step link w is carried =
     cond_both (is_link w) (if opens_link w then w else []) link IsCarried
     (λ yes. cond_both (opens_link w) w [] IsCarried
     (λ opens. record { is = inr (is, yes); opens = ap₂ (λ a b. if a then (if b then w else []) else []) yes opens })
-    (λ ends. none_carried))
+    (λ ends. IsCarried-nil))
     (λ no. carried)
 
-carried-after : (link : List ℕ) (ms : List Mark) → AreSequences ms → IsCarried link → IsCarried (link_after_all link ms)
-carried-after link [] all carried = carried
-carried-after link (m ∷ ms) all carried = carried-after (link_after link m.bytes) ms all.1 (carried-step link m.bytes all.0 carried)
+IsCarried-after : (link : List ℕ) (ms : List Mark) → AreSequences ms → IsCarried link → IsCarried (link_after_all link ms)
+IsCarried-after link [] all carried = carried
+IsCarried-after link (m ∷ ms) all carried = IsCarried-after (link_after link m.bytes) ms all.1 (carried-step link m.bytes all.0 carried)
 
-carried_is : (link : List ℕ) → IsCarried link → IsLinked [] link [] link
-carried_is link carried =
-    let made = spelled_is [] (one_sequence link) link (spelled-one_sequence link) (link_stands link carried.is) in
+IsLinked-carried : (link : List ℕ) → IsCarried link → IsLinked [] link [] link
+IsLinked-carried link carried =
+    let made = IsLinked-spelled [] (one_sequence link) link (spelled-one_sequence link) (one_sequence_stands link carried.is) in
     record { whole = made.whole; bytes = made.bytes ∙ linked_through-one_sequence link; after = made.after ∙ through link ∙ carried.opens }
   where
     through : (w : List ℕ) → link_through [] (one_sequence w) ≡ link_after [] w
@@ -133,8 +133,8 @@ record IsEnded (bs : List StyledByte) (ls : List LinkedByte) (u : List ℕ) : Ty
   closed : IsClosed bs u
   linked : IsLinked [] u ls []
 
-regrouped : (s l v e c : List ℕ) → s ++ (l ++ (v ++ e)) ++ c ≡ s ++ l ++ v ++ e ++ c
-regrouped s l v e c = simp append_assoc
+append_assoc-five : (s l v e c : List ℕ) → s ++ (l ++ (v ++ e)) ++ c ≡ s ++ l ++ v ++ e ++ c
+append_assoc-five s l v e c = simp append_assoc
 
 module _ (t : List ℕ) (style : Rendition) (link : List ℕ) (test : ℕ → Bool) (a b : ℕ) (whole : IsTrue (is_whole t)) (is_style : IsStyle style) (carried : IsCarried link) where
   abbrev own : List Mark
@@ -160,8 +160,8 @@ module _ (t : List ℕ) (style : Rendition) (link : List ℕ) (test : ℕ → Bo
 
   inside_stands : AllStandAnywhere inside
   inside_stands =
-      stand-append (one_sequence link) rest (link_stands link carried.is)
-      (stand-append shown (one_sequence (link_end last)) (interleaved_pieces_stand (pieces_of t) test a b (pieces_stand t whole)) (link_stands (link_end last) (link_end_is_link last)))
+      stand-append (one_sequence link) rest (one_sequence_stands link carried.is)
+      (stand-append shown (one_sequence (link_end last)) (interleaved_pieces_stand (pieces_of t) test a b (pieces_stand t whole)) (one_sequence_stands (link_end last) (link_end_is_link last)))
 
   style_inside : style_through style inside ≡ after
   style_inside =
@@ -187,7 +187,7 @@ module _ (t : List ℕ) (style : Rendition) (link : List ℕ) (test : ℕ → Bo
   spelled_all : spelled (dressed_pieces style inside (closing_codes after)) ≡ written
   spelled_all =
       spelled-dressed_pieces style inside (closing_codes after) ∙ ap₂ (λ u v. start style ++ u ++ v) spelled_inside (written-closing_codes after)
-      ∙ regrouped (start style) link (interleaved (plain t) a b own) (link_end last) (close_if_any after)
+      ∙ append_assoc-five (start style) link (interleaved (plain t) a b own) (link_end last) (close_if_any after)
 
   written_closed : IsClosed (styled_through style shown) written
   written_closed =
@@ -198,8 +198,8 @@ module _ (t : List ℕ) (style : Rendition) (link : List ℕ) (test : ℕ → Bo
 
   written_linked : IsLinked [] written (linked_through link shown) []
   written_linked =
-      let close = subst (λ w. IsLinked [] w [] []) (written-closing_codes after) (codes_is [] (closing_codes after) (closing_codes_are after)) in
-      let made = both (both (both (both (codes_is [] (start_codes style) (start_codes_are style is_style)) (carried_is link carried)) (shown_is t link test a b whole)) (link_end_is last)) close in
+      let close = subst (λ w. IsLinked [] w [] []) (written-closing_codes after) (IsLinked-codes [] (closing_codes after) (closing_codes_are after)) in
+      let made = IsLinked-append (IsLinked-append (IsLinked-append (IsLinked-append (IsLinked-codes [] (start_codes style) (start_codes_are style is_style)) (IsLinked-carried link carried)) (IsLinked-interleaved t link test a b whole)) (IsLinked-link_end last)) close in
       record { whole = made.whole; bytes = made.bytes ∙ append-nil (linked_through link shown ++ []) ∙ append-nil (linked_through link shown); after = made.after }
 
   written_ended : IsEnded (styled_through style shown) (linked_through link shown) written
@@ -245,12 +245,12 @@ module _ (t : List ℕ) (k : ℕ) (early here together : ℕ → Bool) (style : 
   carried_before : IsTrue (is_whole t) → IsCarried link
   carried_before whole =
       subst IsCarried (sym here_open.linked)
-      (carried-after [] (at_places early (marks t)) (sequences-filter (λ (m : Mark). early m.place) (marks t) (marks_are_sequences (pieces_of t) (pieces_stand t whole))) none_carried)
+      (IsCarried-after [] (at_places early (marks t)) (sequences-filter (λ (m : Mark). early m.place) (marks t) (marks_are_sequences (pieces_of t) (pieces_stand t whole))) IsCarried-nil)
 
   nothing_ended : i.0 ≡ i.1 → IsEnded (slice_range (styled t) i.0 i.1) (slice_range (linked t) i.0 i.1) []
   nothing_ended same = record {
     closed = record { styled_bytes = sym (slice_range-none (styled t) i.0 i.1 (omega (arith, same))); whole = refl; closed = refl };
-    linked = subst (λ ls. IsLinked [] [] ls []) (sym (slice_range-none (linked t) i.0 i.1 (omega (arith, same)))) (none_is []);
+    linked = subst (λ ls. IsLinked [] [] ls []) (sym (slice_range-none (linked t) i.0 i.1 (omega (arith, same)))) (IsLinked-nil []);
   }
 
   line_ended : IsTrue (is_whole t) → IsEnded (slice_range (styled t) i.0 i.1) (slice_range (linked t) i.0 i.1) (line_over style link (plain t) (at_places here (marks t)) i).bytes
@@ -330,20 +330,20 @@ lines_ended t k e early late style link ms (i ∷ j ∷ is) whole ms_are here_op
     let next : IsNext k early here (λ p. nat_le p i.1) i
     = record { divides = up_to_end k i.1 early late left end; after = omega (arith, after, turn.0); covers = λ p below. le-leb p i.1 (omega (arith, below)) } in
     subst (λ own. AreEnded t (i ∷ j ∷ is) (line_over style link (plain t) own i ∷ lines_over (after_marks style own) (link_after_all link own) (plain t) (marks_past (Some i.1) ms) (j ∷ is)))
-    (sym (ap (λ b. if b then ms else marks_up_to i.1 ms) (filled j is) ∙ own_are)) (
+    (sym (ap (λ b. if b then ms else marks_up_to i.1 ms) (has_no_lines-cons j is) ∙ own_are)) (
       line_ended t k early here (λ p. nat_le p i.1) style link i here_open next whole,
       lines_ended t (i.1 + 1) i.1 (λ p. nat_le p i.1) (λ p. late p && nat_lt i.1 p) (after_marks style (at_places here (marks t))) (link_after_all link (at_places here (marks t))) (marks_past (Some i.1) ms) (j ∷ is) whole
           rest_are (open_after t k early here (λ p. nat_le p i.1) style link i here_open next) (left_after k i.1 early late left end) (omega arith) turn.2,
     )
 
-all_places : (ms : List Mark) → ms ≡ at_places (λ p. true) ms
-all_places [] = refl
-all_places (m ∷ ms) = ap (λ ks. m ∷ ks) (all_places ms)
+at_places-every : (ms : List Mark) → ms ≡ at_places (λ p. true) ms
+at_places-every [] = refl
+at_places-every (m ∷ ms) = ap (λ ks. m ∷ ks) (at_places-every ms)
 
-wrapped_ended : (t : List ℕ) (width : ℕ) → IsTrue (is_whole t) → AreEnded t (lines width (plain t)) (wrapped t width)
-wrapped_ended t width whole =
+AreEnded-wrapped : (t : List ℕ) (width : ℕ) → IsTrue (is_whole t) → AreEnded t (lines width (plain t)) (wrapped t width)
+AreEnded-wrapped t width whole =
     let none = at_places-never (marks t) in
-    lines_ended t 0 0 (λ p. false) (λ p. true) plain_style [] (marks t) (lines width (plain t)) whole (all_places (marks t))
+    lines_ended t 0 0 (λ p. false) (λ p. true) plain_style [] (marks t) (lines width (plain t)) whole (at_places-every (marks t))
     (record { styled = ap (after_marks plain_style) (sym none); linked = ap (link_after_all []) (sym none) })
     (record {
       early_before = λ p below. absurd (omega (arith, below));
@@ -359,33 +359,33 @@ wrapped_ended t width whole =
 abbrev Ended : List ℕ → ℕ × ℕ → List ℕ → Type 0
 Ended t i u = IsEnded (slice_range (styled t) i.0 i.1) (slice_range (linked t) i.0 i.1) u
 
-each : (t : List ℕ) (P : List ℕ → Type 0) → ((i : ℕ × ℕ) (u : List ℕ) → Ended t i u → P u) → (is : List (ℕ × ℕ)) (ls : List WrappedLine) → AreEnded t is ls → AllByRecursion (λ (l : WrappedLine). P l.bytes) ls
-each t P so [] [] ended = tt
-each t P so [] (l ∷ ls) ended = absurd ended
-each t P so (i ∷ is) [] ended = absurd ended
-each t P so (i ∷ is) (l ∷ ls) ended = (so i l.bytes ended.0, each t P so is ls ended.1)
+AllByRecursion-lines : (t : List ℕ) (P : List ℕ → Type 0) → ((i : ℕ × ℕ) (u : List ℕ) → Ended t i u → P u) → (is : List (ℕ × ℕ)) (ls : List WrappedLine) → AreEnded t is ls → AllByRecursion (λ (l : WrappedLine). P l.bytes) ls
+AllByRecursion-lines t P so [] [] ended = tt
+AllByRecursion-lines t P so [] (l ∷ ls) ended = absurd ended
+AllByRecursion-lines t P so (i ∷ is) [] ended = absurd ended
+AllByRecursion-lines t P so (i ∷ is) (l ∷ ls) ended = (so i l.bytes ended.0, AllByRecursion-lines t P so is ls ended.1)
 
-each_wrapped : (t : List ℕ) (width : ℕ) (P : List ℕ → Type 0) → IsTrue (is_whole t) → ((i : ℕ × ℕ) (u : List ℕ) → Ended t i u → P u) → All (λ (l : WrappedLine). P l.bytes) (wrapped t width)
-each_wrapped t width P whole so = All-from_recursion _ (wrapped t width) (each t P so (lines width (plain t)) (wrapped t width) (wrapped_ended t width whole))
+All-wrapped : (t : List ℕ) (width : ℕ) (P : List ℕ → Type 0) → IsTrue (is_whole t) → ((i : ℕ × ℕ) (u : List ℕ) → Ended t i u → P u) → All (λ (l : WrappedLine). P l.bytes) (wrapped t width)
+All-wrapped t width P whole so = All-from_recursion _ (wrapped t width) (AllByRecursion-lines t P so (lines width (plain t)) (wrapped t width) (AreEnded-wrapped t width whole))
 
-slices : {X : Type 0} (t : List ℕ) (f : List ℕ → List X) (xs : List X) → ((i : ℕ × ℕ) (u : List ℕ) → Ended t i u → f u ≡ slice_range xs i.0 i.1) → (is : List (ℕ × ℕ)) (ls : List WrappedLine)
+lines_are_slices : {X : Type 0} (t : List ℕ) (f : List ℕ → List X) (xs : List X) → ((i : ℕ × ℕ) (u : List ℕ) → Ended t i u → f u ≡ slice_range xs i.0 i.1) → (is : List (ℕ × ℕ)) (ls : List WrappedLine)
     → AreEnded t is ls → map (λ (l : WrappedLine). f l.bytes) ls ≡ map (λ (i : ℕ × ℕ). slice_range xs i.0 i.1) is
-slices t f xs so [] [] ended = refl
-slices t f xs so [] (l ∷ ls) ended = absurd ended
-slices t f xs so (i ∷ is) [] ended = absurd ended
-slices t f xs so (i ∷ is) (l ∷ ls) ended = ap₂ (λ v vs. v ∷ vs) (so i l.bytes ended.0) (slices t f xs so is ls ended.1)
+lines_are_slices t f xs so [] [] ended = refl
+lines_are_slices t f xs so [] (l ∷ ls) ended = absurd ended
+lines_are_slices t f xs so (i ∷ is) [] ended = absurd ended
+lines_are_slices t f xs so (i ∷ is) (l ∷ ls) ended = ap₂ (λ v vs. v ∷ vs) (so i l.bytes ended.0) (lines_are_slices t f xs so is ls ended.1)
 
 pub wrapped_are_whole : (t : List ℕ) (width : ℕ) → IsTrue (is_whole t) → All (λ (l : WrappedLine). IsTrue (is_whole l.bytes)) (wrapped t width)
-wrapped_are_whole t width whole = each_wrapped t width (λ u. IsTrue (is_whole u)) whole (λ i u ended. ended.closed.whole)
+wrapped_are_whole t width whole = All-wrapped t width (λ u. IsTrue (is_whole u)) whole (λ i u ended. ended.closed.whole)
 
 pub wrapped_are_closed : (t : List ℕ) (width : ℕ) → IsTrue (is_whole t) → All (λ (l : WrappedLine). residue l.bytes ≡ plain_style) (wrapped t width)
-wrapped_are_closed t width whole = each_wrapped t width (λ u. residue u ≡ plain_style) whole (λ i u ended. ended.closed.closed)
+wrapped_are_closed t width whole = All-wrapped t width (λ u. residue u ≡ plain_style) whole (λ i u ended. ended.closed.closed)
 
 pub wrapped_end_links : (t : List ℕ) (width : ℕ) → IsTrue (is_whole t) → All (λ (l : WrappedLine). link_of (marks l.bytes) ≡ []) (wrapped t width)
-wrapped_end_links t width whole = each_wrapped t width (λ u. link_of (marks u) ≡ []) whole (λ i u ended. link_of-pieces (pieces_of u) ∙ ended.linked.after)
+wrapped_end_links t width whole = All-wrapped t width (λ u. link_of (marks u) ≡ []) whole (λ i u ended. link_of-pieces (pieces_of u) ∙ ended.linked.after)
 
 pub wrapped-styled : (t : List ℕ) (width : ℕ) → IsTrue (is_whole t) → map (λ (l : WrappedLine). styled l.bytes) (wrapped t width) ≡ map (λ (i : ℕ × ℕ). slice_range (styled t) i.0 i.1) (lines width (plain t))
-wrapped-styled t width whole = slices t styled (styled t) (λ i u ended. ended.closed.styled_bytes) (lines width (plain t)) (wrapped t width) (wrapped_ended t width whole)
+wrapped-styled t width whole = lines_are_slices t styled (styled t) (λ i u ended. ended.closed.styled_bytes) (lines width (plain t)) (wrapped t width) (AreEnded-wrapped t width whole)
 
 pub wrapped-linked : (t : List ℕ) (width : ℕ) → IsTrue (is_whole t) → map (λ (l : WrappedLine). linked l.bytes) (wrapped t width) ≡ map (λ (i : ℕ × ℕ). slice_range (linked t) i.0 i.1) (lines width (plain t))
-wrapped-linked t width whole = slices t linked (linked t) (λ i u ended. linked-pieces u ∙ ended.linked.bytes) (lines width (plain t)) (wrapped t width) (wrapped_ended t width whole)
+wrapped-linked t width whole = lines_are_slices t linked (linked t) (λ i u ended. linked-pieces u ∙ ended.linked.bytes) (lines width (plain t)) (wrapped t width) (AreEnded-wrapped t width whole)

@@ -38,7 +38,7 @@ use Rattle.ansi_columns.specs.Columns.{cluster_width, clusters}
 use Rattle.ansi_columns.specs.Lines.{lines, lines_from, lines_left}
 use Rattle.ansi_columns.specs.Links.{link_after, link_after_all, link_end, longest_link_end}
 use Rattle.ansi_columns.specs.Walks.{clusters_from}
-use Rattle.ansi_columns.specs.Wrapped.{WrappedLine, line_over, lines_over, wrapped, marks_left, IsTaken, IsSpan}
+use Rattle.ansi_columns.specs.Wrapped.{WrappedLine, line_over, lines_over, wrapped, marks_left, IsTaken, IsLineSpan}
 use Rattle.ansi_columns.proofs.ColumnLemmas.{clusters_from-start}
 use Rattle.ansi_columns.proofs.LineLemmas.{line-any, line-last}
 use Rattle.ansi_columns.proofs.PlaceLemmas.{offset_of-add}
@@ -48,22 +48,22 @@ use Rattle.ansi_split.proofs.PartLengthLemmas.{length-close_if_any}
 
 -- A line by what it is made of.
 
-abbrev made_of : Bool → ℕ → Rendition → List ℕ → List ℕ → List ℕ → Rendition → WrappedLine
-made_of same n style link shown last_link last = record {
+abbrev line_made_of : Bool → ℕ → Rendition → List ℕ → List ℕ → List ℕ → Rendition → WrappedLine
+line_made_of same n style link shown last_link last = record {
   bytes = if same && n == 0 then [] else start style ++ link ++ shown ++ link_end last_link ++ close_if_any last;
   borrowed = n == 0 && (same || (not (has_any style) && length link == 0));
-  share = length link + length shown;
+  source_len = length link + length shown;
 }
 
 line_over-made : (style : Rendition) (link x : List ℕ) (own : List Mark) (i : ℕ × ℕ)
-    → line_over style link x own i ≡ made_of (i.0 == i.1) (length own) style link (interleaved x i.0 i.1 own) (link_after_all link own) (after_marks style own)
+    → line_over style link x own i ≡ line_made_of (i.0 == i.1) (length own) style link (interleaved x i.0 i.1 own) (link_after_all link own) (after_marks style own)
 unfolding line_over
 line_over-made style link x own i = refl
 
-made_of-alike : {same same' : Bool} {n n' : ℕ} {shown shown' last_link last_link' : List ℕ} {last last' : Rendition} (style : Rendition) (link : List ℕ) → same ≡ same' → n ≡ n' → shown ≡ shown' → last_link ≡ last_link' → last ≡ last'
-    → made_of same n style link shown last_link last ≡ made_of same' n' style link shown' last_link' last'
-made_of-alike {same} {same'} {n} {n'} {shown} {shown'} {last_link} {last_link'} {last} {last'} style link a b c d e =
-    ap₂ (λ s k. made_of s k style link shown last_link last) a b ∙ ap₂ (λ v l. made_of same' n' style link v l last) c d ∙ ap (made_of same' n' style link shown' last_link') e
+line_made_of-alike : {same same' : Bool} {n n' : ℕ} {shown shown' last_link last_link' : List ℕ} {last last' : Rendition} (style : Rendition) (link : List ℕ) → same ≡ same' → n ≡ n' → shown ≡ shown' → last_link ≡ last_link' → last ≡ last'
+    → line_made_of same n style link shown last_link last ≡ line_made_of same' n' style link shown' last_link' last'
+line_made_of-alike {same} {same'} {n} {n'} {shown} {shown'} {last_link} {last_link'} {last} {last'} style link a b c d e =
+    ap₂ (λ s k. line_made_of s k style link shown last_link last) a b ∙ ap₂ (λ v l. line_made_of same' n' style link v l last) c d ∙ ap (line_made_of same' n' style link shown' last_link') e
 
 -- Marks that are further on.
 
@@ -86,31 +86,31 @@ line-after : (style : Rendition) (link x : List ℕ) (m a b : ℕ) (ms : List Ma
 line-after style link x m a b ms inside =
     let same : (m + a == m + b) ≡ (a == b) = grind (arith, nat_tests) in
     line_over-made style link x (marks_further_on m ms) (m + a, m + b)
-    ∙ made_of-alike style link same (length-map ms _) (interleaved-after x m a b ms inside) (link-further link m ms) (after_marks-further style m ms)
+    ∙ line_made_of-alike style link same (length-map ms _) (interleaved-after x m a b ms inside) (link-further link m ms) (after_marks-further style m ms)
     ∙ sym (line_over-made style link (drop m x) ms (a, b))
 
 -- a line over a front of the text
 line-front : (style : Rendition) (link t front after : List ℕ) (a e : ℕ) → IsCutAfter t e front after → line_over style link (plain t) (marks front) (a, e) ≡ line_over style link (plain front) (marks front) (a, e)
 line-front style link t front after a e cut =
     line_over-made style link (plain t) (marks front) (a, e)
-    ∙ made_of-alike {last = after_marks style (marks front)} {last' = after_marks style (marks front)} style link refl refl (ap (interleaved (plain t) a e) cut.marks_front ∙ cut.interleaved_front a) refl refl
+    ∙ line_made_of-alike {last = after_marks style (marks front)} {last' = after_marks style (marks front)} style link refl refl (ap (interleaved (plain t) a e) cut.marks_front ∙ cut.interleaved_front a) refl refl
     ∙ sym (line_over-made style link (plain front) (marks front) (a, e))
 
 -- There is a line from each place on.
 
-abbrev is_none : List (ℕ × ℕ) → Bool
-is_none ls = length ls == 0
+abbrev has_no_lines : List (ℕ × ℕ) → Bool
+has_no_lines ls = length ls == 0
 
-pub filled : (i : ℕ × ℕ) (ls : List (ℕ × ℕ)) → is_none (i ∷ ls) ≡ false
-filled i ls = ne_eqb (length (i ∷ ls)) 0 (λ none. omega (arith, none))
+pub has_no_lines-cons : (i : ℕ × ℕ) (ls : List (ℕ × ℕ)) → has_no_lines (i ∷ ls) ≡ false
+has_no_lines-cons i ls = ne_eqb (length (i ∷ ls)) 0 (λ none. omega (arith, none))
 
-pub lines_filled : (width from end here columns : ℕ) (cs : List (List ℕ)) → is_none (lines_from width from end here columns cs) ≡ false
-lines_filled width from end here columns [] = ap is_none (line-last width from end here columns)
+pub lines_filled : (width from end here columns : ℕ) (cs : List (List ℕ)) → has_no_lines (lines_from width from end here columns cs) ≡ false
+lines_filled width from end here columns [] = ap has_no_lines (line-last width from end here columns)
 lines_filled width from end here columns (c ∷ cs) =
     let next = here + length (encode_utf8_all c) in
     let wider = columns + cluster_width c in
-    line-any width from end here columns c cs (λ ls. is_none ls ≡ false) (filled (from, end) (lines_from width next next next 0 cs))
-    (lines_filled width from end next wider cs) (lines_filled width from next next wider cs) (filled (from, end) (lines_from width here next next (cluster_width c) cs))
+    line-any width from end here columns c cs (λ ls. has_no_lines ls ≡ false) (has_no_lines-cons (from, end) (lines_from width next next next 0 cs))
+    (lines_filled width from end next wider cs) (lines_filled width from next next wider cs) (has_no_lines-cons (from, end) (lines_from width here next next (cluster_width c) cs))
 
 -- all that follows an offset
 pub rest-is : (t : List ℕ) (n : ℕ) → slice_range t n (length t) ≡ drop n t
@@ -218,7 +218,7 @@ module _ (t : List ℕ) (before taken : ℕ) (walk : Walk) (is : IsTaken t befor
 
     pub span-first : (style : Rendition) (link : List ℕ) (s : ℕ) (is_marked : Bool) (after : Rendition) (link_after : List ℕ) → offset ≤ length t → before ≤ s → s ≤ e → IsTrue (no_character_goes_on (plain t) s)
         → is_marked ≡ has_escape front → after ≡ style_after_from style front → link_after ≡ link_after_all link (marks front)
-        → IsSpan style link front (s - before) (e - before) n is_marked after link_after
+        → IsLineSpan style link front (s - before) (e - before) n is_marked after link_after
     span-first style link s is_marked after link_after fits begins ordered good marked styled linked =
         let from : s ≡ before + (s - before) = omega (arith, begins) in
         let size : length front ≡ n = length-take-le n rest (omega (arith, fits, length-drop taken t)) in
@@ -251,7 +251,7 @@ module _ (t : List ℕ) (before taken : ℕ) (walk : Walk) (is : IsTaken t befor
 
     pub span-last : (style : Rendition) (link text : List ℕ) (s : ℕ) (is_marked : Bool) (after : Rendition) (link_after : List ℕ) → text ≡ rest → IsCharBoundary t offset → before ≤ s → s ≤ e → IsTrue (no_character_goes_on (plain t) s)
         → IsTrue (no_character_goes_on (plain t) e) → is_marked ≡ has_escape text → after ≡ style_after_from style text → link_after ≡ link_after_all link (marks text)
-        → IsSpan style link text (s - before) (e - before) n is_marked after link_after
+        → IsLineSpan style link text (s - before) (e - before) n is_marked after link_after
     span-last style link text s is_marked after link_after all boundary begins ordered good good_end marked styled linked =
         let from : s ≡ before + (s - before) = omega (arith, begins) in
         let to : e ≡ before + (e - before) = omega (arith, within) in
@@ -271,17 +271,17 @@ module _ (t : List ℕ) (before taken : ℕ) (walk : Walk) (is : IsTaken t befor
 
 -- The bytes of a line.
 
-unborrowed : (a b c : Bool) → IsFalse (a && (b || c)) → (b && a) ≡ false
-unborrowed true true c h = absurd (cc h)
-unborrowed true false c h = refl
-unborrowed false true c h = refl
-unborrowed false false c h = refl
+and_or-false : (a b c : Bool) → IsFalse (a && (b || c)) → (b && a) ≡ false
+and_or-false true true c h = absurd (cc h)
+and_or-false true false c h = refl
+and_or-false false true c h = refl
+and_or-false false false c h = refl
 
-regrouped : (f s m z l c : List ℕ) → (f ++ s ++ m ++ z) ++ (l ++ c) ≡ f ++ (s ++ (m ++ z)) ++ l ++ c
-regrouped f s m z l c = simp append_assoc
+append_assoc-six : (f s m z l c : List ℕ) → (f ++ s ++ m ++ z) ++ (l ++ c) ≡ f ++ (s ++ (m ++ z)) ++ l ++ c
+append_assoc-six f s m z l c = simp append_assoc
 
 -- one that is written
-pub line-written : {style after : Rendition} {link link_end_of t : List ℕ} {a e offset from top : ℕ} {is_marked : Bool} → IsSpan style link t a e offset is_marked after link_end_of → StandsIn t a from → length t ≤ top
+pub line-written : {style after : Rendition} {link link_end_of t : List ℕ} {a e offset from top : ℕ} {is_marked : Bool} → IsLineSpan style link t a e offset is_marked after link_end_of → StandsIn t a from → length t ≤ top
     → IsFalse (line_over style link (plain t) (marks t) (a, e)).borrowed
     → (start style ++ link ++ sequences_up_to a (pieces_of t) ++ slice_range t from offset ++ sequences_up_to top (pieces_of (drop offset t))) ++ (link_end link_end_of ++ close_if_any after)
     ≡ (line_over style link (plain t) (marks t) (a, e)).bytes
@@ -300,11 +300,11 @@ line-written {style} {after} {link} {link_end_of} {t} {a} {e} {offset} {from} {t
     (ap (λ i. kept (drop i t) 0 (e - a)) (sym stands.offset) ∙ kept-stretch rest (e - a)
     ∙ ap₂ (λ i v. take i rest ++ kept v 0 0) (sym size) last
     ∙ ap (λ v. slice_range t from offset ++ v) (kept-none (drop offset t) top (omega (arith, length-drop offset t, fits)))) in
-    regrouped (start style ++ link) (sequences_up_to a (pieces_of t)) (slice_range t from offset) (sequences_up_to top (pieces_of (drop offset t))) (link_end link_end_of) (close_if_any after)
+    append_assoc-six (start style ++ link) (sequences_up_to a (pieces_of t)) (slice_range t from offset) (sequences_up_to top (pieces_of (drop offset t))) (link_end link_end_of) (close_if_any after)
     ∙ ap (λ u. start style ++ link ++ u ++ link_end link_end_of ++ close_if_any after) (sym shown)
     ∙ ap₂ (λ l r. start style ++ link ++ kept t a e ++ link_end l ++ close_if_any r) span.linked span.styled
     ∙ sym (ap (λ b. if b then [] else start style ++ link ++ interleaved (plain t) a e (marks t) ++ link_end (link_after_all link (marks t)) ++ close_if_any (after_marks style (marks t)))
-    (unborrowed (length (marks t) == 0) (a == e) (not (has_any style) && length link == 0) owned))
+    (and_or-false (length (marks t) == 0) (a == e) (not (has_any style) && length link == 0) owned))
 
 -- a line that is a stretch of the text
 
@@ -332,7 +332,7 @@ bare-bytes style link x a e holds = bare-if ((a == e) && true) (λ same. slice_r
         ∙ ap₂ (λ u b. u ++ [] ++ interleaved x a e [] ++ [] ++ (if b then close style else [])) (start-unset style no.0) no.0
         ∙ append-nil (interleaved x a e [] ++ []) ∙ append-nil (interleaved x a e []) ∙ interleaved-bare x a e)
 
-pub line-bare : {style after : Rendition} {link link_end_of t : List ℕ} {a e offset : ℕ} {is_marked : Bool} → IsSpan style link t a e offset is_marked after link_end_of → is_marked ≡ false → (a ≡ e) ⊎ ((not (has_any style) && length link == 0) ≡ true)
+pub line-bare : {style after : Rendition} {link link_end_of t : List ℕ} {a e offset : ℕ} {is_marked : Bool} → IsLineSpan style link t a e offset is_marked after link_end_of → is_marked ≡ false → (a ≡ e) ⊎ ((not (has_any style) && length link == 0) ≡ true)
     → (slice_range t a e ≡ (line_over style link (plain t) (marks t) (a, e)).bytes) × IsTrue (line_over style link (plain t) (marks t) (a, e)).borrowed
 unfolding line_over
 line-bare {style} {after} {link} {link_end_of} {t} {a} {e} span unmarked holds =
@@ -346,7 +346,7 @@ line-bare {style} {after} {link} {link_end_of} {t} {a} {e} span unmarked holds =
     either (inl same) = ap (λ b. b || (not (has_any style) && length link == 0)) (eq-eqb a e same)
     either (inr none) = or_right (a == e) _ none
 
-pub bare-boundary : {style after : Rendition} {link link_end_of t : List ℕ} {a e offset : ℕ} {is_marked : Bool} → IsSpan style link t a e offset is_marked after link_end_of → is_marked ≡ false → IsCharBoundary t a × IsCharBoundary t e
+pub bare-boundary : {style after : Rendition} {link link_end_of t : List ℕ} {a e offset : ℕ} {is_marked : Bool} → IsLineSpan style link t a e offset is_marked after link_end_of → is_marked ≡ false → IsCharBoundary t a × IsCharBoundary t e
 bare-boundary {t = t} {a = a} {e = e} span unmarked =
     let none : has_escape t ≡ false = sym span.marked ∙ unmarked in
     let same = plain-bare t none in
@@ -378,15 +378,15 @@ pub lines_left-start : (t : List ℕ) (width : ℕ) (walk : Walk) → walk.posit
 lines_left-start t width walk none = ap (λ n. lines_from width n n n 0 (clusters_from t n)) none ∙ ap (lines_from width 0 0 0 0) (clusters_from-start t)
 
 -- the beginning and the end of the text of a line
-pub line-ordered : {style after : Rendition} {link link_end_of t : List ℕ} {a e offset from : ℕ} {is_marked : Bool} → IsSpan style link t a e offset is_marked after link_end_of → StandsIn t a from → from ≤ offset
+pub line-ordered : {style after : Rendition} {link link_end_of t : List ℕ} {a e offset from : ℕ} {is_marked : Bool} → IsLineSpan style link t a e offset is_marked after link_end_of → StandsIn t a from → from ≤ offset
 line-ordered {t = t} {a = a} {e = e} span stands =
     let all : e ≡ a + (e - a) = omega (arith, span.ordered) in
     omega (arith, span.end_stands.offset, ap (offset_of t) all, offset_of-add t a (e - a), stands.offset)
 
--- A line is its share of the text, a start, a close and the end of a link, or nothing.
+-- A line is its source, a start, a close and the end of a link, or nothing.
 
 length-line_over : (style : Rendition) (link x : List ℕ) (own : List Mark) (i : ℕ × ℕ) → IsStyle style
-    → length (line_over style link x own i).bytes ≤ (line_over style link x own i).share + longest_start_and_close + longest_link_end
+    → length (line_over style link x own i).bytes ≤ (line_over style link x own i).source_len + longest_start_and_close + longest_link_end
 unfolding line_over
 length-line_over style link x own i is =
     let shown = interleaved x i.0 i.1 own in
@@ -406,8 +406,8 @@ length-line_over style link x own i is =
     ))
 
 pub length-line : {l : WrappedLine} (style : Rendition) (link x : List ℕ) (own : List Mark) (i : ℕ × ℕ) → IsStyle style → line_over style link x own i ≡ l
-    → length l.bytes ≤ l.share + longest_start_and_close + longest_link_end
-length-line style link x own i style_is is = subst (λ (l : WrappedLine). length l.bytes ≤ l.share + longest_start_and_close + longest_link_end) is (length-line_over style link x own i style_is)
+    → length l.bytes ≤ l.source_len + longest_start_and_close + longest_link_end
+length-line style link x own i style_is is = subst (λ (l : WrappedLine). length l.bytes ≤ l.source_len + longest_start_and_close + longest_link_end) is (length-line_over style link x own i style_is)
 
 -- A text without ESC has lines that are borrows alone.
 

@@ -1,6 +1,6 @@
 pub mod Columns
 pub mod Lines
-pub mod Seams
+pub mod BreakStates
 pub mod Walks
 pub mod Reverse
 pub mod Links

@@ -8,7 +8,7 @@ use Rattle.ansi_search.specs.Offsets.{offset_of}
 use Rattle.unicode_segmentation.specs.Grapheme.{is_grapheme_break}
 use Rattle.unicode_segmentation.specs.Segments.{cut}
 use Rattle.ansi_columns.specs.declared.walks.Walk.{Walk}
-use Rattle.ansi_columns.specs.Seams.{seam_of}
+use Rattle.ansi_columns.specs.BreakStates.{break_state_of}
 
 -- the characters of the plain text of t before the position n, the last one first
 abbrev pub before : List ℕ → ℕ → List ℕ
@@ -42,7 +42,7 @@ pub record IsWalk (t : List ℕ) (walk : Walk) : Type 0 where
   pub offset : walk.offset ≡ offset_of t walk.position
   pub run : IsRun t walk.offset walk.run_end
   pub end : walk.offset ≡ walk.run_end → walk.offset ≡ length t
-  pub seam : walk.seam ≡ seam_of (before t walk.position)
+  pub break_state : walk.break_state ≡ break_state_of (before t walk.position)
   pub within : walk.position ≤ length (plain t)
 
 -- the character c is next

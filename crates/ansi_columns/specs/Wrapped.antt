@@ -18,11 +18,11 @@ use Rattle.ansi_columns.specs.Lines.{lines}
 use Rattle.ansi_columns.specs.Links.{link_after_all, link_end, longest_link_end}
 use Rattle.ansi_columns.specs.Walks.{IsWalk}
 
--- a line of a wrap: its bytes, whether it is a borrow, and its share, which is the number of its bytes that come from the text or from the link carried into it
+-- a line of a wrap: its bytes, whether it is a borrow, and its source length, which is the number of its bytes that come from the text or from the link carried into it
 pub record WrappedLine : Type 0 where
   pub bytes : List ℕ
   pub borrowed : Bool
-  pub share : ℕ
+  pub source_len : ℕ
 
 -- The line over the interval i of the plain text x with these marks, if a style and a link are carried into it: the start of the style, the
 -- sequence that opened the link, the text with its marks, the end of the link then open and the close of the style then open. It is a borrow
@@ -32,7 +32,7 @@ line_over style link x own i = record {
   bytes = if i.0 == i.1 && length own == 0 then [] else
       start style ++ link ++ interleaved x i.0 i.1 own ++ link_end (link_after_all link own) ++ close_if_any (after_marks style own);
   borrowed = length own == 0 && (i.0 == i.1 || (not (has_any style) && length link == 0));
-  share = length link + length (interleaved x i.0 i.1 own);
+  source_len = length link + length (interleaved x i.0 i.1 own);
 }
 
 -- The lines over intervals of x in order, with the marks that are left. A mark belongs to the first line that doesn't end before
@@ -47,9 +47,9 @@ lines_over style link x ms (i ∷ is) =
 abbrev pub wrapped : List ℕ → ℕ → List WrappedLine
 wrapped t width = lines_over plain_style [] (plain t) (marks t) (lines width (plain t))
 
--- the text is this line, and is at most as long as its share of the wrapped text, a start, a close and the end of a link together
+-- the text is this line, and is at most as long as its source length, a start, a close and the end of a link together
 abbrev pub IsWrappedLine : {A : Type 0} → WrappedLine → CowStr A → Type 0
-IsWrappedLine l c = (cow_str_bytes c ≡ l.bytes) × (IsBorrowedStr c ↔ IsTrue l.borrowed) × (length (cow_str_bytes c) ≤ l.share + longest_start_and_close + longest_link_end)
+IsWrappedLine l c = (cow_str_bytes c ≡ l.bytes) × (IsBorrowedStr c ↔ IsTrue l.borrowed) × (length (cow_str_bytes c) ≤ l.source_len + longest_start_and_close + longest_link_end)
 
 -- One call of `next` gives the first of the lines left. Or it gives an `Err`, never if that line is a borrow, and then no lines are left. Or it gives `None`, if no lines are left.
 abbrev pub GivesLine : {A E : Type 0} → List WrappedLine → Option (Result (CowStr A) E) → List WrappedLine → Type 0
@@ -69,7 +69,7 @@ pub record IsTaken (t : List ℕ) (before taken : ℕ) (walk : Walk) : Type 0 wh
   pub ordered : before ≤ walk.position
 
 -- the line over all marks of t and its plain bytes from `start` up to `end`, which is at an offset, and the style and link open after it
-pub record IsSpan (style : Rendition) (link t : List ℕ) (start end offset : ℕ) (is_marked : Bool) (style_after : Rendition) (link_after : List ℕ) : Type 0 where
+pub record IsLineSpan (style : Rendition) (link t : List ℕ) (start end offset : ℕ) (is_marked : Bool) (style_after : Rendition) (link_after : List ℕ) : Type 0 where
   pub marked : is_marked ≡ has_escape t
   pub ordered : start ≤ end
   pub start_good : IsTrue (no_character_goes_on (plain t) start)

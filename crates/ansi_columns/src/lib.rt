@@ -8,13 +8,13 @@
 #![tactic(auto)]
 
 pub mod addresses;
+mod break_state;
 pub mod columns;
 mod fits;
 mod from_end;
 pub mod laws;
 pub mod lines;
 mod links;
-mod seams;
 pub mod shown;
 mod walks;
 pub mod wrap;

@@ -28,8 +28,8 @@ impl<'t> Pen<'t> {
     ghost use Rattle.ansi_style.specs.States.{rendition_of};
     ghost use Rattle.ansi_style.specs.Rendition.{has_any};
 
-    /// Whether nothing is open.
-    pub(crate) fn is_none(&self) -> bool
+    /// Whether no style and no link is open.
+    pub(crate) fn is_plain(&self) -> bool
         ensures { result
             ≡ (not (has_any (rendition_of self.now.style)) && length self.now.link.now == 0) }
     {
@@ -38,7 +38,7 @@ impl<'t> Pen<'t> {
 }
 
 /// The pen before a text: no style and no link is open.
-pub(crate) fn no_pen() -> Pen<'static>
+pub(crate) fn plain_pen() -> Pen<'static>
     ensures style { rendition_of result.style ≡ plain_style }
     ensures link { result.link.now ≡ [] }
 {
@@ -53,7 +53,7 @@ pub(crate) fn pen_after(text: &str) -> Pen<'_>
     ensures style { rendition_of result.style ≡ style_after text.now }
     ensures link { result.link.now ≡ link_of (marks text.now) }
 {
-    pen_after_from(no_pen(), text)
+    pen_after_from(plain_pen(), text)
 }
 
 /// The pen after a text, if `before` is the pen before it. Doesn't allocate.

@@ -6,8 +6,8 @@ ghost use Rattle.ansi_columns.specs.Columns.{cluster_width};
 ghost use Rattle.ansi_columns.specs.Walks.{before, after, cluster, clusters_from, IsRun, IsWalk};
 ghost use Rattle.ansi_columns.specs.Walks.{IsNext};
 
+use crate::break_state::BreakState;
 use crate::from_end;
-use crate::seams::Seam;
 use ansi_items::ansitok::{Kind, Scanner};
 use unicode_width::UnicodeWidthStr;
 
@@ -20,7 +20,7 @@ pub(crate) struct Walk {
     pub(crate) offset: usize,
     /// An offset up to which only plain bytes follow. The run may go on after it.
     run_end: usize,
-    seam: Seam,
+    break_state: BreakState,
 }
 
 impl Walk {
@@ -34,7 +34,7 @@ impl Walk {
             position: 0,
             offset,
             run_end,
-            seam: Seam::start(),
+            break_state: BreakState::start(),
         }
     }
 
@@ -53,7 +53,7 @@ impl Walk {
         let first = self.next_char(text)?;
         let mut walk = self.past(text, first);
         'cluster: while let Some(next) = walk.next_char(text) {
-            if walk.seam.ends_before(next) {
+            if walk.break_state.ends_before(next) {
                 break;
             }
             walk = walk.past(text, next);
@@ -109,7 +109,7 @@ impl Walk {
             position: self.position + len,
             offset,
             run_end,
-            seam: self.seam.after(next),
+            break_state: self.break_state.after(next),
         }
     }
 }

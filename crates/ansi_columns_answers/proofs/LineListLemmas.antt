@@ -25,7 +25,7 @@ use Rattle.ansi_columns.specs.Links.{link_after_all, link_end}
 use Rattle.ansi_columns.specs.Lines.{is_line_end, is_blank, lines_from, lines, AreLinesFrom}
 use Rattle.ansi_columns.specs.Wrapped.{WrappedLine, line_over, lines_over, wrapped, GivesLine}
 use Rattle.ansi_columns.proofs.LineLemmas.{IsOfWord, more_at, line-ends, line-blank, line-stays, line-leaves, line-last}
-use Rattle.ansi_columns.proofs.ClusterLawLemmas.{spells}
+use Rattle.ansi_columns.proofs.ClusterLawLemmas.{clusters_after-bytes}
 use Rattle.ansi_answers.proofs.GivenLemmas.{joined_texts, GivesNext}
 use Rattle.ansi_columns_answers.specs.Columns.{wrapped_lines}
 
@@ -106,7 +106,7 @@ few-pieces (c ∷ cs) some =
 
 few-clusters : (x : List ℕ) → IsUtf8 x → length (clusters x) ≤ length x
 unfolding segments
-few-clusters x utf8 = omega (arith, few-pieces (clusters x) (segments_nonempty (is_grapheme_break true) x), ap length (spells [] (chars x) ∙ encodes-chars x utf8))
+few-clusters x utf8 = omega (arith, few-pieces (clusters x) (segments_nonempty (is_grapheme_break true) x), ap length (clusters_after-bytes [] (chars x) ∙ encodes-chars x utf8))
 
 -- both, of all lines of a text without ESC
 pub bare-wrapped : (t : List ℕ) (width : ℕ) → IsFalse (has_escape t) → IsUtf8 t → AreLinesFrom t 0 (lines width t)

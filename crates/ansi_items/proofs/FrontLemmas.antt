@@ -13,8 +13,8 @@ after_one-at test k t none =
     (cases_lt k (length t))
 
 -- a byte that is not 0 is in the list
-within : (t : List ℕ) (k : ℕ) → 0 < slice_index t k → k < length t
-within t k h = ⊎_elim (λ below. below) (λ past. absurd (let nothing : slice_index t k ≡ 0 = get_or_past t k 0 past in omega arith)) (cases_lt k (length t))
+within_if_nonzero : (t : List ℕ) (k : ℕ) → 0 < slice_index t k → k < length t
+within_if_nonzero t k h = ⊎_elim (λ below. below) (λ past. absurd (let nothing : slice_index t k ≡ 0 = get_or_past t k 0 past in omega arith)) (cases_lt k (length t))
 
 drop_two : (a b k j : ℕ) (t : List ℕ) → j ≡ k + 2 → drop k t ≡ drop j (a ∷ b ∷ t)
 drop_two a b k j t e = drop-drop k 2 (a ∷ b ∷ t) ∙ ap (λ i. drop i (a ∷ b ∷ t)) (omega arith)
@@ -71,7 +71,7 @@ sgr-spelled ps is final hp hi hf =
     is_some-cond _ _ ∙ and_three _ _ _ (final == 109) (length is == 0) _ last parameters private
 
 final_within : (t : List ℕ) (k : ℕ) → is_final_byte (slice_index t k) ≡ true → k < length t
-final_within t k passes = let above : 63 < slice_index t k = grind (arith, nat_tests) in within t k (omega arith)
+final_within t k passes = let above : 63 < slice_index t k = grind (arith, nat_tests) in within_if_nonzero t k (omega arith)
 
 -- how many parameter bytes a control sequence has, and how many intermediate bytes, if t follows its ESC `[`
 abbrev parameters_len : List ℕ → ℕ
@@ -229,7 +229,7 @@ string_agrees o t not_control =
     (agrees_where w (next == byte "\\") _ _ _ _
     (λ slash.
     let there : next ≡ 92 = eqb-true next 92 slash in
-    let inside_too : n + 1 < length t = within t (n + 1) (omega arith) in
+    let inside_too : n + 1 < length t = within_if_nonzero t (n + 1) (omega arith) in
     (drop_two escape o (n + 1 + 1) (n + 4) t (omega arith), omega arith, other (n + 4)))
     (λ no_slash. tt))))))
     (λ past.
@@ -251,7 +251,7 @@ escape_agrees b t not_control =
     (agrees_where w (is_escape_final_byte final) _ _ _ _
     (λ passes.
     let above : 0 < final = grind (arith, nat_tests) in
-    let inside : n < length u = within u n above in
+    let inside : n < length u = within_if_nonzero u n above in
     (drop_one escape (n + 1) (n + 2) u (omega arith), omega arith, ap (λ c. if c then Sgr else Other) (sym (no_sgr b (n + 2) t not_control))))
     (λ fails. tt))
 

@@ -60,13 +60,13 @@ stops_before_final : (is : List ℕ) (f : ℕ) (rest : List ℕ) → list_all is
 stops_before_final [] f rest all final = (final_stops f final).0
 stops_before_final (i ∷ is) f rest all final = intermediate_stops i (and_parts (is_intermediate_byte i) (list_all is_intermediate_byte is) all).0
 
-regrouped : (ps is : List ℕ) (f : ℕ) (rest : List ℕ) → ps ++ is ++ (f ∷ []) ++ rest ≡ ps ++ (is ++ (f ∷ rest))
-regrouped ps is f rest = append_assoc (ps ++ is) (f ∷ []) rest ∙ append_assoc ps is (f ∷ rest)
+append_assoc-final : (ps is : List ℕ) (f : ℕ) (rest : List ℕ) → ps ++ is ++ (f ∷ []) ++ rest ≡ ps ++ (is ++ (f ∷ rest))
+append_assoc-final ps is f rest = append_assoc (ps ++ is) (f ∷ []) rest ∙ append_assoc ps is (f ∷ rest)
 
 after-control_sequence_inside : (ps is : List ℕ) (f : ℕ) (rest : List ℕ) → list_all is_parameter_byte ps ≡ true → list_all is_intermediate_byte is ≡ true → is_final_byte f ≡ true
     → after_control_sequence (ps ++ is ++ (f ∷ []) ++ rest) ≡ Some rest
 after-control_sequence_inside ps is f rest hp hi hf =
-    let one = ap (skip is_parameter_byte) (regrouped ps is f rest) ∙ skip-run is_parameter_byte ps (is ++ (f ∷ rest)) hp (stops_before_final is f rest hi hf) in
+    let one = ap (skip is_parameter_byte) (append_assoc-final ps is f rest) ∙ skip-run is_parameter_byte ps (is ++ (f ∷ rest)) hp (stops_before_final is f rest hi hf) in
     let two = ap (skip is_intermediate_byte) one ∙ skip-run is_intermediate_byte is (f ∷ rest) hi (final_stops f hf).1 in
     ap (after_one is_final_byte) two ∙ cond-true (is_final_byte f) (Some rest) None hf
 
@@ -138,7 +138,7 @@ control_sequence_found t rest found =
     let one = after_one_found is_final_byte (skip is_intermediate_byte t1) rest found in
     let spelled : t ≡ ps ++ is ++ (one.0 ∷ []) ++ rest
     = run-skip is_parameter_byte t ∙ ap (λ v. ps ++ v) (run-skip is_intermediate_byte t1 ∙ ap (λ v. is ++ v) one.1)
-    ∙ sym (regrouped ps is one.0 rest) in
+    ∙ sym (append_assoc-final ps is one.0 rest) in
     let c : IsControlSequence (escape ∷ byte "[" ∷ (ps ++ is ++ one.0 ∷ [])) = record {
       parameters = ps;
       intermediates = is;

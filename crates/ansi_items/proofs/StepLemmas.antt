@@ -21,9 +21,9 @@ pub record BeginsWithMark (kind : Kind) (w : List ℕ) (old new : List Piece) : 
   pub no_sgr : kind ≢ Sgr → is_sgr w ≡ false
 
 -- the first piece, by the bytes that the code has of it
-first : (old new : Scan) (item : Item) (text w : List ℕ) → GivesItem old item new → old.text ≡ text → w ≡ slice_range text item.start item.end
+GivesItem-first_piece : (old new : Scan) (item : Item) (text w : List ℕ) → GivesItem old item new → old.text ≡ text → w ≡ slice_range text item.start item.end
     → (pieces_left old ≡ piece_of_kind item.kind w ∷ pieces_left new) × (item.kind ≡ kind_of (piece_of_kind item.kind w)) × (w ≡ spelling (piece_of_kind item.kind w))
-first old new item text w gives same is =
+GivesItem-first_piece old new item text w gives same is =
     let bytes : slice_range old.text item.start item.end ≡ w = ap (λ v. slice_range v item.start item.end) same ∙ sym is in (
       subst (λ v. pieces_left old ≡ piece_of_kind item.kind v ∷ pieces_left new) bytes gives.piece,
       subst (λ v. item.kind ≡ kind_of (piece_of_kind item.kind v)) bytes gives.kind,
@@ -33,7 +33,7 @@ first old new item text w gives same is =
 pub gives_text : {old new : Scan} {item : Item} {text w : List ℕ} → GivesItem old item new → old.text ≡ text → w ≡ slice_range text item.start item.end
     → item.kind ≡ TextKind → pieces_left old ≡ Text w ∷ pieces_left new
 gives_text {old} {new} {item} {text} {w} gives same is kind =
-    subst (λ k. pieces_left old ≡ piece_of_kind k w ∷ pieces_left new) kind (first old new item text w gives same is).0
+    subst (λ k. pieces_left old ≡ piece_of_kind k w ∷ pieces_left new) kind (GivesItem-first_piece old new item text w gives same is).0
 
 -- what follows the item has the pieces that are left
 pub gives_rest : {old new : Scan} {item : Item} {text v : List ℕ} → GivesItem old item new → old.text ≡ text → v ≡ drop item.end text → pieces_of v ≡ pieces_left new
@@ -43,7 +43,7 @@ gives_rest {old} {new} {item} {text} {v} gives same is =
 pub gives_mark : {old new : Scan} {item : Item} {text w : List ℕ} → GivesItem old item new → old.text ≡ text → w ≡ slice_range text item.start item.end
     → item.kind ≢ TextKind → BeginsWithMark item.kind w (pieces_left old) (pieces_left new)
 gives_mark {old} {new} {item} {text} {w} gives same is other =
-    let piece = first old new item text w gives same is in
+    let piece = GivesItem-first_piece old new item text w gives same is in
     by_kind item.kind other piece.0 piece.1 piece.2
   where
     by_kind : (k : Kind) → k ≢ TextKind → pieces_left old ≡ piece_of_kind k w ∷ pieces_left new → k ≡ kind_of (piece_of_kind k w) → w ≡ spelling (piece_of_kind k w)

@@ -1,2 +1,2 @@
 pub mod Known
-mod PageLemmas
+mod FakeDeviceLemmas

@@ -3,5 +3,5 @@ pub mod Writers
 pub mod Reading
 pub mod Stops
 pub mod Hosts
-pub mod PageStates
-pub mod Pages
+pub mod FakeDeviceStates
+pub mod FakeDevices

@@ -2,7 +2,7 @@
 #![tactic(auto)]
 
 pub mod devices;
+pub mod fake_device;
 pub mod host;
-pub mod page;
 pub mod reading;
 pub mod stop;

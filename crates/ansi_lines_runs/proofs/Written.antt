@@ -38,6 +38,6 @@ nothing-beginning None old all = tt
 nothing-beginning (Some bytes) old all = HasWritten-beginning (HasWritten-start old (all bytes))
 
 -- a call that works leaves the flag as it was
-pub unfailed : (before after : Bool) → after ≡ (before || false) → after ≡ before
-unfailed true after is = is
-unfailed false after is = is
+pub flag_unchanged : (before after : Bool) → after ≡ (before || false) → after ≡ before
+flag_unchanged true after is = is
+flag_unchanged false after is = is

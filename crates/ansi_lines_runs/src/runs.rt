@@ -24,8 +24,8 @@ use std::io;
 /// of memory (5). A run reads its input only after this, so then nothing is read.
 ///
 /// ```
-/// let mut faults = Page::with_room(alloc, 20)?;
-/// let output = Page::with_room(alloc, 10)?;
+/// let mut faults = FakeDevice::with_room(alloc, 20)?;
+/// let output = FakeDevice::with_room(alloc, 10)?;
 /// let unread = Err(Error::from(ErrorKind::InvalidData));
 /// assert_eq!(prepare(unread, Ok(output), &mut faults).err(), Some(2));
 /// assert_eq!(faults.bytes(), b"bad words\n");
@@ -73,9 +73,9 @@ pub fn prepare<W: Drop, V: Sink>(
 /// Memory comes from `alloc`, the program's own allocator or any other.
 ///
 /// ```
-/// let mut input = Page::of(alloc, b"\x1b[31mred\x1b[39m\n".to_vec(alloc)?);
-/// let mut output = Page::with_room(alloc, 10)?;
-/// let mut faults = Page::with_room(alloc, 10)?;
+/// let mut input = FakeDevice::of(alloc, b"\x1b[31mred\x1b[39m\n".to_vec(alloc)?);
+/// let mut output = FakeDevice::with_room(alloc, 10)?;
+/// let mut faults = FakeDevice::with_room(alloc, 10)?;
 /// assert_eq!(run(alloc, words, &mut input, &mut output, &mut faults), 0); // of the word `strip`
 /// assert_eq!(output.bytes(), b"red\n");
 /// ```

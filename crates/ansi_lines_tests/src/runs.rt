@@ -1,5 +1,5 @@
-//! Runs of `ansi_lines` over pages: what a run writes, reports and returns, also if its devices or
-//! its memory fail.
+//! Runs of `ansi_lines` over fake devices: what a run writes, reports and returns, also if its
+//! devices or its memory fail.
 mod devices;
 mod hosts;
 mod memory;
@@ -7,7 +7,7 @@ mod prepared;
 mod rows;
 pub mod statuses;
 
-use ansi_lines_io::page::{Outcome, Page};
+use ansi_lines_io::fake_device::{FakeDevice, Outcome};
 use ansi_lines_runs::runs::run;
 use std::alloc::{AllocError, Allocator, Global};
 use std::fmt::Debug;
@@ -54,7 +54,7 @@ impl Plan {
     }
 }
 
-// What a run has done. It has no pages, so that a check of it is quick to prove.
+// What a run has done. It has no devices, so that a check of it is quick to prove.
 #[derive(Drop)]
 struct Ran {
     status: u8,
@@ -69,28 +69,28 @@ struct Ran {
 }
 
 impl Ran {
-    fn over(alloc: Global, status: u8, pages: &Pages) -> Result<Self, AllocError> {
+    fn over(alloc: Global, status: u8, devices: &Devices) -> Result<Self, AllocError> {
         Ok(Ran {
             status,
-            output: pages.output.bytes().to_vec(alloc)?,
-            faults: pages.faults.bytes().to_vec(alloc)?,
-            flushed: pages.output.flushed(),
-            input_left: pages.input.outcomes_left(),
-            output_left: pages.output.outcomes_left(),
-            faults_left: pages.faults.outcomes_left(),
+            output: devices.output.bytes().to_vec(alloc)?,
+            faults: devices.faults.bytes().to_vec(alloc)?,
+            flushed: devices.output.flushed(),
+            input_left: devices.input.outcomes_left(),
+            output_left: devices.output.outcomes_left(),
+            faults_left: devices.faults.outcomes_left(),
         })
     }
 }
 
 // The devices of a run.
 #[derive(Drop)]
-struct Pages {
-    input: Page,
-    output: Page,
-    faults: Page,
+struct Devices {
+    input: FakeDevice,
+    output: FakeDevice,
+    faults: FakeDevice,
 }
 
-impl Pages {
+impl Devices {
     // Devices that follow a plan, with these bytes to read.
     fn new(alloc: Global, bytes: &[u8], plan: Plan) -> Result<Self, AllocError> {
         let Plan {
@@ -100,11 +100,11 @@ impl Pages {
             chunk,
             room,
         } = plan;
-        let page = Page::of(alloc, bytes.to_vec(alloc)?);
-        Ok(Pages {
-            input: page.in_chunks(chunk).with_schedule(input),
-            output: Page::with_room(alloc, room)?.with_schedule(output),
-            faults: Page::with_room(alloc, ROOM)?.with_schedule(faults),
+        let device = FakeDevice::of(alloc, bytes.to_vec(alloc)?);
+        Ok(Devices {
+            input: device.in_chunks(chunk).with_schedule(input),
+            output: FakeDevice::with_room(alloc, room)?.with_schedule(output),
+            faults: FakeDevice::with_room(alloc, ROOM)?.with_schedule(faults),
         })
     }
 }
@@ -122,14 +122,14 @@ fn owned(alloc: Global, words: &[&str]) -> Result<Vec<String>, AllocError> {
     Ok(given)
 }
 
-// The status of a run over pages. It has no clauses, so that its callers are quick to prove.
-fn status_of<A: Allocator>(alloc: A, words: &[String], pages: &mut Pages) -> u8 {
+// The status of a run over devices. It has no clauses, so that its callers are quick to prove.
+fn status_of<A: Allocator>(alloc: A, words: &[String], devices: &mut Devices) -> u8 {
     run(
         alloc,
         words,
-        &mut pages.input,
-        &mut pages.output,
-        &mut pages.faults,
+        &mut devices.input,
+        &mut devices.output,
+        &mut devices.faults,
     )
 }
 
@@ -141,9 +141,9 @@ fn run_in<A: Allocator + Copy>(
     plan: Plan,
     alloc: Global,
 ) -> Result<Ran, AllocError> {
-    let mut pages = Pages::new(alloc, bytes, plan)?;
-    let status = status_of(heap, words, &mut pages);
-    Ran::over(alloc, status, &pages)
+    let mut devices = Devices::new(alloc, bytes, plan)?;
+    let status = status_of(heap, words, &mut devices);
+    Ran::over(alloc, status, &devices)
 }
 
 fn run_with(alloc: Global, words: &[&str], bytes: &[u8], plan: Plan) -> Result<Ran, AllocError> {

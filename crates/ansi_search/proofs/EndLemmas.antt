@@ -1,7 +1,7 @@
 -- A pattern at the front and at the end of a text.
 use Rattle.ansi_search.proofs.Common.{◌≡◌, ℕ, ◌+◌, ◌-◌, ◌≤◌, ◌⊎◌, inl, inr, IsTrue, true, ◌&&◌, List, ◌∷◌, ◌++◌, length, take, drop, nat_eq, refl, sym, ◌∙◌, ap, ap₂, subst, arith, and_assoc, nat_eq_equiv, take-append-le, take_all, drop-drop, length-drop, length-take, IsCharBoundary-from_take, IsCharBoundary-from_drop, pointwise, same_text, starts_with, ends_with, IsUtf8, IsCharBoundary, Kind, Piece, pieces_of, plain_of, plain, no_character_goes_on, IsCharBoundary-start, StandsIn, []}
 use Rattle.ansi_search.proofs.PositionLemmas.{no_character_goes_on-boundary}
-use Rattle.ansi_search.proofs.OffsetLemmas.{IsOverText, IsOverMark, IsPassed, passed-begin, passed-text, passed-mark, stands-after}
+use Rattle.ansi_search.proofs.OffsetLemmas.{IsOverText, IsOverMark, IsPassed, passed-begin, passed-text, passed-mark, StandsIn-after}
 
 -- a pattern that is no longer than the text at the front is in that text
 pub starts_with-within : (p w y : List ℕ) → length p ≤ length w → starts_with nat_eq (w ++ y) p ≡ starts_with nat_eq w p
@@ -103,4 +103,4 @@ pub tail-stands : {t rest : List ℕ} {n last len passed i : ℕ} {left : List P
     → StandsIn t (length (plain t) - n) (last + i)
 tail-stands {t} {rest} {n} {last} {len} {passed} {i} so_far none is stands =
     subst (λ k. StandsIn t k (last + i)) (tail-sum so_far none)
-    (stands-after (subst (λ u. IsPassed t so_far.before last (pieces_of u)) (sym is) so_far.from) is so_far.boundary.0 stands)
+    (StandsIn-after (subst (λ u. IsPassed t so_far.before last (pieces_of u)) (sym is) so_far.from) is so_far.boundary.0 stands)

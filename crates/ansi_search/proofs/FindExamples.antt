@@ -3,7 +3,7 @@ use Rattle.ansi_search.proofs.Common.{refl, codes, [], ◌∷◌, Some, None, �
 use Rattle.ansi_items.proofs.Tables.{MakesRows, utf8}
 
 -- the first match of a pattern from a position on
-matches : MakesRows (λ (x : List ℕ × List ℕ × ℕ). first_match_from (plain x.0) x.1 x.2) (
+first_matches : MakesRows (λ (x : List ℕ × List ℕ × ℕ). first_match_from (plain x.0) x.1 x.2) (
     ((codes "a\u{1b}[1mb\u{1b}[0mc", codes "abc", 0), Some 0)
     ∷ ((codes "a\u{1b}[1mb\u{1b}[0mc", codes "bc", 0), Some 1)
     ∷ ((codes "a\u{1b}[1mb\u{1b}[0mc", codes "cb", 0), None)
@@ -13,7 +13,7 @@ matches : MakesRows (λ (x : List ℕ × List ℕ × ℕ). first_match_from (pla
     ∷ ((codes "ab\u{1b}[1mab", codes "ab", 2), Some 2)
     ∷ ((codes "ab\u{1b}[1mab", codes "ab", 3), None)
     ∷ [])
-matches = refl
+first_matches = refl
 
 -- an empty pattern occurs at each character boundary
 empty_matches : MakesRows (λ (x : List ℕ × ℕ). first_match_from (plain x.0) [] x.1) (
@@ -24,6 +24,6 @@ empty_matches : MakesRows (λ (x : List ℕ × ℕ). first_match_from (plain x.0
 unfolding encode_utf8
 empty_matches = refl
 
-boundaries : MakesRows (is_char_boundary (plain (utf8 "\u{1b}[1mé"))) ((1, false) ∷ (2, true) ∷ (3, false) ∷ [])
+char_boundaries : MakesRows (is_char_boundary (plain (utf8 "\u{1b}[1mé"))) ((1, false) ∷ (2, true) ∷ (3, false) ∷ [])
 unfolding encode_utf8
-boundaries = refl
+char_boundaries = refl

@@ -20,8 +20,8 @@ match_ends x p i utf8 utf8_p found =
     let len : length p ≤ length (drop i x) = omega (arith, ap length splits, length-append p (drop (i + length p) x)) in
     IsCharBoundary-from_rest x i (length p) begins.0 (IsCharBoundary-from_take (drop i x) (length p) (IsUtf8-drop x i utf8 begins) len (subst IsUtf8 (sym front) utf8_p))
 
-pub match_stands : (x p : List ℕ) (i : ℕ) → IsUtf8 x → IsUtf8 p → IsMatch x p i → HasTextAt p x i (i + length p)
-match_stands x p i utf8 utf8_p found = record { split = match_splits x p i found; ends = refl; after = match_ends x p i utf8 utf8_p found }
+pub HasTextAt-match : (x p : List ℕ) (i : ℕ) → IsUtf8 x → IsUtf8 p → IsMatch x p i → HasTextAt p x i (i + length p)
+HasTextAt-match x p i utf8 utf8_p found = record { split = match_splits x p i found; ends = refl; after = match_ends x p i utf8 utf8_p found }
 
 pub no_match_lacks : (x p : List ℕ) (i : ℕ) → IsUtf8 p → 0 < length p → ¬ (IsMatch x p i) → LacksTextAt p x i
 no_match_lacks x p i utf8 some none = λ rest is. none (is_match-utf8 x p i utf8 some ∙ starts_with-from (drop i x) p rest is)
@@ -35,7 +35,7 @@ finds_text x [] None utf8 utf8_p first = absurd (first 0 (omega arith) (omega ar
 finds_text x (b ∷ p) None utf8 utf8_p first = λ i inside. no_match_lacks x (b ∷ p) i utf8_p (omega arith) (first i (omega arith) (omega (arith, inside)))
 finds_text x p (Some i) utf8 utf8_p first =
     let found = first.0 in
-    (i + length p, (lacks p utf8_p first, match_stands x p i utf8 utf8_p first.1), omega arith, match_begins x p i first.1, match_ends x p i utf8 utf8_p first.1)
+    (i + length p, (lacks p utf8_p first, HasTextAt-match x p i utf8 utf8_p first.1), omega arith, match_begins x p i first.1, match_ends x p i utf8 utf8_p first.1)
   where
     lacks : (q : List ℕ) → IsUtf8 q → IsFirst (IsMatch x q) 0 (length x + 1) (Some i) → (k : ℕ) → k < i → LacksTextAt q x k
     lacks [] utf8_q first k before = (let found = first.0 in absurd (found.before 0 (omega arith) (omega (arith, before)) (empty_at_front x utf8)))

@@ -49,12 +49,12 @@ abbrev pub IsMatch : List ℕ → List ℕ → ℕ → Type 0
 IsMatch x p i = IsTrue (is_match x p i)
 
 -- none before k + 1 but k, which is passed over
-nearer : (f : ℕ → Bool) (from n k : ℕ) (r : Option ℕ) → (IsTrue (f k) → k < from) → IsFirst (λ i. IsTrue (f i)) (max from (k + 1)) (k + 1 + n) r → IsFirst (λ i. IsTrue (f i)) (max from k) (k + suc n) r
-nearer f from n k None skips first = λ i low high passes. elim (cases_lt k i) [
+IsFirst-skip : (f : ℕ → Bool) (from n k : ℕ) (r : Option ℕ) → (IsTrue (f k) → k < from) → IsFirst (λ i. IsTrue (f i)) (max from (k + 1)) (k + 1 + n) r → IsFirst (λ i. IsTrue (f i)) (max from k) (k + suc n) r
+IsFirst-skip f from n k None skips first = λ i low high passes. elim (cases_lt k i) [
   | inl past ↦ first i (omega (arith, low, past)) (omega (arith, high)) passes
   | inr here ↦ (let same : i ≡ k = omega (arith, low, here) in let below : k < from = skips (subst (λ j. IsTrue (f j)) same passes) in omega (arith, low, same, below))
 ]
-nearer f from n k (Some m) skips first =
+IsFirst-skip f from n k (Some m) skips first =
     let found = first.0 in
     let low : max from (k + 1) ≤ m = found.low in
     let high : m < k + 1 + n = found.high in (
@@ -80,8 +80,8 @@ kept_first f from (suc n) k =
     (λ below.
     let at : from ≤ k = leb-true from k below in
     (record { low = omega (arith, at); high = omega arith; before = λ i low high _. omega (arith, low, high) }, passes))
-    (λ above. nearer f from n k _ (λ _. leb-false from k above) (kept_first f from n (k + 1))))
-    (λ fails. nearer f from n k _ (λ passes. absurd (true≢false (sym passes ∙ fails))) (kept_first f from n (k + 1)))
+    (λ above. IsFirst-skip f from n k _ (λ _. leb-false from k above) (kept_first f from n (k + 1))))
+    (λ fails. IsFirst-skip f from n k _ (λ passes. absurd (true≢false (sym passes ∙ fails))) (kept_first f from n (k + 1)))
 
 pub first_match_from-first : (x p : List ℕ) (from : ℕ) → IsFirst (IsMatch x p) from (length x + 1) (first_match_from x p from)
 first_match_from-first x p from =

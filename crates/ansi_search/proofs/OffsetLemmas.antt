@@ -130,30 +130,30 @@ pub over_mark : {old new : Scan} {item : Item} {t w : List ℕ} → GivesItem ol
 over_mark gives same is other = record { first = gives_mark gives same is other; count = item_count gives same is; bytes = item_bytes _ gives is }
 
 -- How far a walk to the plain byte n has come: what has been passed, and then what is before the byte in what is left, is what is before it in the whole text; and so with the style there.
-pub record IsOnTheWay (t : List ℕ) (n : ℕ) (start : Rendition) (passed left : ℕ) (style : Rendition) (ps : List Piece) : Type 0 where
+pub record IsOffsetWalk (t : List ℕ) (n : ℕ) (start : Rendition) (passed left : ℕ) (style : Rendition) (ps : List Piece) : Type 0 where
   pub offset : passed + bytes_before left ps ≡ offset_of t n
   pub good : no_character_goes_on (plain_of ps) left ≡ no_character_goes_on (plain t) n
   pub styled : style_by_marks style ps left ≡ style_within start t n
 
-pub way-begin : (t : List ℕ) (n : ℕ) (start : Rendition) → IsOnTheWay t n start 0 n start (pieces_of t)
-way-begin t n start = record { offset = omega arith; good = refl; styled = refl }
+pub offset_walk-begin : (t : List ℕ) (n : ℕ) (start : Rendition) → IsOffsetWalk t n start 0 n start (pieces_of t)
+offset_walk-begin t n start = record { offset = omega arith; good = refl; styled = refl }
 
-pub way-text : {t : List ℕ} {n passed at left next : ℕ} {start style : Rendition} {w : List ℕ} {old ps : List Piece} → IsOnTheWay t n start passed left style old → IsOverText t w passed at old ps
-    → length w ≤ left → next ≡ left - length w → IsOnTheWay t n start at next style ps
-way-text way over within next_is = grind (arith, bytes_before-text, no_character_goes_on-after, style-text)
+pub offset_walk-text : {t : List ℕ} {n passed at left next : ℕ} {start style : Rendition} {w : List ℕ} {old ps : List Piece} → IsOffsetWalk t n start passed left style old → IsOverText t w passed at old ps
+    → length w ≤ left → next ≡ left - length w → IsOffsetWalk t n start at next style ps
+offset_walk-text way over within next_is = grind (arith, bytes_before-text, no_character_goes_on-after, style-text)
 
-pub way-mark : {t : List ℕ} {n passed at left : ℕ} {start style next : Rendition} {kind : Kind} {w : List ℕ} {old ps : List Piece} → IsOnTheWay t n start passed left style old → IsOverMark kind t w passed at old ps
-    → next ≡ apply style w → IsOnTheWay t n start at left next ps
-way-mark way over next_is = grind (arith, bytes_before-mark, plain_of-mark, style_by_marks-mark)
+pub offset_walk-mark : {t : List ℕ} {n passed at left : ℕ} {start style next : Rendition} {kind : Kind} {w : List ℕ} {old ps : List Piece} → IsOffsetWalk t n start passed left style old → IsOverMark kind t w passed at old ps
+    → next ≡ apply style w → IsOffsetWalk t n start at left next ps
+offset_walk-mark way over next_is = grind (arith, bytes_before-mark, plain_of-mark, style_by_marks-mark)
 
 -- the byte is in the text that comes next, or there is no such byte
-pub way-last : {t : List ℕ} {n passed at left : ℕ} {start style : Rendition} {w : List ℕ} {old ps : List Piece} → IsOnTheWay t n start passed left style old → IsOverText t w passed at old ps → left < length w
+pub offset_walk-last : {t : List ℕ} {n passed at left : ℕ} {start style : Rendition} {w : List ℕ} {old ps : List Piece} → IsOffsetWalk t n start passed left style old → IsOverText t w passed at old ps → left < length w
     → (passed + left ≡ offset_of t n) × (style ≡ style_within start t n)
-way-last way over last = grind (arith, bytes_before-last, style_by_marks-before)
+offset_walk-last way over last = grind (arith, bytes_before-last, style_by_marks-before)
 
-pub way-end : {t : List ℕ} {n passed left : ℕ} {start style : Rendition} {old : List Piece} → IsOnTheWay t n start passed left style old → old ≡ []
+pub offset_walk-end : {t : List ℕ} {n passed left : ℕ} {start style : Rendition} {old : List Piece} → IsOffsetWalk t n start passed left style old → old ≡ []
     → (passed ≡ offset_of t n) × (true ≡ no_character_goes_on (plain t) n) × (style ≡ style_within start t n)
-way-end way none = grind (arith, no_character_goes_on-past)
+offset_walk-end way none = grind (arith, no_character_goes_on-past)
 
 -- a position in a text that comes next is good if it is a boundary of the whole text
 good_in_next : (t : List ℕ) (at left : ℕ) (w : List ℕ) (ps : List Piece) → pieces_of (drop at t) ≡ Text w ∷ ps → left < length w
@@ -163,20 +163,20 @@ good_in_next t at left w ps first last =
     sym (no_character_goes_on-drop t at left)
     ∙ ap (λ u. no_character_goes_on u left) are.1 ∙ no_character_goes_on-append w are.0 left last ∙ sym (no_character_goes_on-append w (plain_of ps) left last)
 
-way-good : {t : List ℕ} {n passed at left i : ℕ} {start style : Rendition} {w : List ℕ} {old ps : List Piece} → IsOnTheWay t n start passed left style old → IsOverText t w passed at old ps → left < length w → i ≡ passed + left
+offset_walk-good : {t : List ℕ} {n passed at left i : ℕ} {start style : Rendition} {w : List ℕ} {old ps : List Piece} → IsOffsetWalk t n start passed left style old → IsOverText t w passed at old ps → left < length w → i ≡ passed + left
     → (i ≤ length t) × (no_character_goes_on t i ≡ no_character_goes_on (plain t) n)
-way-good {t} {n} {passed} {left = left} {w = w} {ps = ps} way over last is = (
+offset_walk-good {t} {n} {passed} {left = left} {w = w} {ps = ps} way over last is = (
   omega (arith, is, last, over.count, over.within),
   ap (no_character_goes_on t) is ∙ good_in_next t passed left w ps (over.there ∙ over.first) last ∙ ap (λ qs. no_character_goes_on (plain_of qs) left) (sym over.first) ∙ way.good,
 )
 
-pub way-test : {t : List ℕ} {n passed at left i : ℕ} {start style : Rendition} {w : List ℕ} {old ps : List Piece} {b : Bool} → IsOnTheWay t n start passed left style old → IsOverText t w passed at old ps → left < length w → i ≡ passed + left
+pub offset_walk-test : {t : List ℕ} {n passed at left i : ℕ} {start style : Rendition} {w : List ℕ} {old ps : List Piece} {b : Bool} → IsOffsetWalk t n start passed left style old → IsOverText t w passed at old ps → left < length w → i ≡ passed + left
     → IsTrue b ↔ IsCharBoundary t i → b ≡ no_character_goes_on (plain t) n
-way-test {t} {i = i} {b = b} way over last is test = (let here = way-good way over last is in boundary_test t i b here.0 test ∙ here.1)
+offset_walk-test {t} {i = i} {b = b} way over last is test = (let here = offset_walk-good way over last is in boundary_test t i b here.0 test ∙ here.1)
 
-pub way-boundary : {t : List ℕ} {n passed at left i : ℕ} {start style : Rendition} {w : List ℕ} {old ps : List Piece} → IsOnTheWay t n start passed left style old → IsOverText t w passed at old ps → left < length w → i ≡ passed + left
+pub offset_walk-boundary : {t : List ℕ} {n passed at left i : ℕ} {start style : Rendition} {w : List ℕ} {old ps : List Piece} → IsOffsetWalk t n start passed left style old → IsOverText t w passed at old ps → left < length w → i ≡ passed + left
     → IsTrue (no_character_goes_on (plain t) n) → IsCharBoundary t i
-way-boundary {t} {i = i} way over last is good = (let here = way-good way over last is in good_is_boundary t i here.0 (here.1 ∙ good))
+offset_walk-boundary {t} {i = i} way over last is good = (let here = offset_walk-good way over last is in good_is_boundary t i here.0 (here.1 ∙ good))
 
 -- How far a walk has come: it has passed these numbers of plain bytes and of bytes of t, and each later plain byte has its offset by the pieces that are left.
 pub record IsPassed (t : List ℕ) (place passed : ℕ) (left : List Piece) : Type 0 where
@@ -212,8 +212,8 @@ pub passed-mark : {t : List ℕ} {place passed at : ℕ} {kind : Kind} {w : List
 passed-mark way over = grind (arith, bytes_before-mark, plain_of-mark)
 
 -- a place in what follows a place that was passed
-pub stands-after : {t rest : List ℕ} {place passed n i : ℕ} → IsPassed t place passed (pieces_of rest) → rest ≡ drop passed t → passed ≤ length t → StandsIn rest n i → StandsIn t (place + n) (passed + i)
-stands-after {t} {rest} {place} {passed} {n} {i} way is fits stands = record {
+pub StandsIn-after : {t rest : List ℕ} {place passed n i : ℕ} → IsPassed t place passed (pieces_of rest) → rest ≡ drop passed t → passed ≤ length t → StandsIn rest n i → StandsIn t (place + n) (passed + i)
+StandsIn-after {t} {rest} {place} {passed} {n} {i} way is fits stands = record {
   good = sym (no_character_goes_on-drop (plain t) place n) ∙ ap (λ x. no_character_goes_on x n) way.rest ∙ stands.good;
   offset = ap (λ k. passed + k) stands.offset ∙ sym (way.offset n);
   boundary = IsCharBoundary-from_rest t passed i fits (subst (λ u. IsCharBoundary u i) is stands.boundary);

@@ -31,8 +31,8 @@ Precedes-opposed a b before after = omega (arith, before, after)
 -- The cut.
 
 -- what is before the place occurs again one period later
-front-stands : (p : List ℕ) (c d : ℕ) → c + d ≤ length p → starts_with nat_eq (drop d p) (take c p) ≡ true → (k : ℕ) → k < c → slice_index p k ≡ slice_index p (k + d)
-front-stands p c d fits starts k inside =
+front-repeats : (p : List ℕ) (c d : ℕ) → c + d ≤ length p → starts_with nat_eq (drop d p) (take c p) ≡ true → (k : ℕ) → k < c → slice_index p k ≡ slice_index p (k + d)
+front-repeats p c d fits starts k inside =
     let size : length (take c p) ≡ c = length-take-le c p (omega (arith, fits)) in
     let place : k + d ≡ d + k = omega arith in
     sym (get_or-take c p k 0 inside) ∙ sym ((starts_with-occurs p (take c p) d (omega (arith, size, inside)) starts).reads k (omega (arith, size, inside))) ∙ ap (slice_index p) (sym place)
@@ -53,7 +53,7 @@ pub cut-repeats : (p : List ℕ) (c d : ℕ) → IsCutPlace (slice_index p) (len
 cut-repeats p c d place starts =
     let fits : c + d ≤ length p = place.fits in
     let period : IsPeriod (slice_index p) (length p) d = λ k inside. elim (cases_lt k c) [
-      | inl before ↦ front-stands p c d fits starts k before
+      | inl before ↦ front-repeats p c d fits starts k before
       | inr past ↦ place.periodic k past inside
     ] in
     record {

@@ -23,11 +23,11 @@ in-run x run place i occurs past inside =
     let sum : i ≡ place + (i - place) = omega (arith, past) in
     ap (slice_index x) sum ∙ occurs.reads (i - place) (omega (arith, past, inside))
 
-pub stands-all : (x p : List ℕ) (i : ℕ) → MatchesBetween x p i 0 (length p) → i + length p ≤ length x → OccursAt x p i
-stands-all x p i meets fits = record { fits = fits; reads = λ k inside. sym (meets k (omega arith) inside) }
+pub OccursAt-all_matches : (x p : List ℕ) (i : ℕ) → MatchesBetween x p i 0 (length p) → i + length p ≤ length x → OccursAt x p i
+OccursAt-all_matches x p i meets fits = record { fits = fits; reads = λ k inside. sym (meets k (omega arith) inside) }
 
-pub stands-both : (x p : List ℕ) (i low c : ℕ) → MatchesBetween x p i low (length p) → low ≤ c → c ≤ length p → starts_with nat_eq (drop i x) (take c p) ≡ true → i + length p ≤ length x → OccursAt x p i
-stands-both x p i low c meets upto within starts fits = grind (arith, get_or-take, length-take-le, stands-all, starts_with-occurs)
+pub OccursAt-front_and_rest : (x p : List ℕ) (i low c : ℕ) → MatchesBetween x p i low (length p) → low ≤ c → c ≤ length p → starts_with nat_eq (drop i x) (take c p) ≡ true → i + length p ≤ length x → OccursAt x p i
+OccursAt-front_and_rest x p i low c meets upto within starts fits = grind (arith, get_or-take, length-take-le, OccursAt-all_matches, starts_with-occurs)
 
 pub apart-both : (x p : List ℕ) (i c : ℕ) → c ≤ length p → starts_with nat_eq (drop i x) (take c p) ≡ false → ¬ (OccursAt x p i)
 apart-both x p i c within other occurs =
@@ -39,8 +39,8 @@ apart-both x p i c within other occurs =
 
 -- What a comparison shows.
 
-nowhere : (x p : List ℕ) (i j : ℕ) → Nowhere (OccursIn (slice_index p) (length p) (slice_index x) (length x)) i j → Nowhere (OccursAt x p) i j
-nowhere x p i j none k low high occurs = none k low high (record { fits = occurs.fits; reads = occurs.reads })
+Nowhere-OccursAt : (x p : List ℕ) (i j : ℕ) → Nowhere (OccursIn (slice_index p) (length p) (slice_index x) (length x)) i j → Nowhere (OccursAt x p) i j
+Nowhere-OccursAt x p i j none k low high occurs = none k low high (record { fits = occurs.fits; reads = occurs.reads })
 
 -- the next byte isn't the byte of p at the place r, which is in no match before n
 pub reached-mismatch : {t p : List ℕ} {cut : CriticalCut} {start : ℕ} {w : Window} (run : List ℕ) (place r n : ℕ) → IsCut p cut → r ≤ cut.at → IsWindow t p cut.at start w → OccursAt (plain t) run place
@@ -58,7 +58,7 @@ reached-mismatch {t} {p} {cut} {start} {w} run place r n is_cut upto comes occur
     let fits : place + length run ≤ length x = occurs.fits in
     let begins : start ≤ pos = comes.reached.forward in
     let here : Nowhere (OccursAt x p) pos (pos + (met - c + 1))
-    = nowhere x p pos (pos + (met - c + 1)) (Nowhere-right (slice_index p) (length p) (slice_index x) (length x) c is_cut.critical pos met from comes.short (meets-from x p pos w.low c met low comes.meets)
+    = Nowhere-OccursAt x p pos (pos + (met - c + 1)) (Nowhere-right (slice_index p) (length p) (slice_index x) (length x) c is_cut.critical pos met from comes.short (meets-from x p pos w.low c met low comes.meets)
     (λ same. other (sym (in-run x run place (pos + met) occurs past inside) ∙ sym same))) in
     let there : Nowhere (OccursAt x p) (pos + (met - c + 1)) n = λ k above before stands. passed k (omega (arith, above)) before (stands.reads r (omega (arith, upto, below))) in
     record {
@@ -98,7 +98,7 @@ reached-apart {t} {p} {cut} {start} {w} is_cut apart =
     record {
       forward = omega (arith, begins);
       within = omega (arith, fits, shift, length-plain t);
-      none = Nowhere-then apart.reached.none (nowhere x p w.position (w.position + cut.shift)
+      none = Nowhere-then apart.reached.none (Nowhere-OccursAt x p w.position (w.position + cut.shift)
           (Nowhere-left (slice_index p) (length p) (slice_index x) (length x) cut.at cut.shift is_cut.critical is_cut.least w.position apart.meets
           (λ stands. apart.other (record { fits = stands.fits; reads = stands.reads }))));
     }

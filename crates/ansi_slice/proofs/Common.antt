@@ -29,7 +29,7 @@ pub use Rattle.ansi_items.specs.declared.ansitok.Item.{Item}
 pub use Rattle.ansi_items.specs.declared.ansitok.Kind.{Kind}
 pub use Rattle.ansi_style.proofs.CloseLemmas.{close_codes_clear}
 pub use Rattle.ansi_style.proofs.DressedLemmas.{GiveAlone, IsClosed, closed-spelled, dressed_pieces, dressed_pieces_give, dressed_pieces_stand, give-append, give-nothing, spelled-dressed_pieces}
-pub use Rattle.ansi_style.proofs.MarkLemmas.{after_marks-further, bytes-further, further, map-further-0, map-further-suc, marks-bare, marks_of-mark, marks_of-text, style_by_marks, style_by_marks-before, style_by_marks-mark, style_by_marks-text, marks_up_to-further, marks_up_to-here, marks_up_to-none}
+pub use Rattle.ansi_style.proofs.MarkLemmas.{after_marks-further, bytes-further, mark_further_on, map-further-0, map-further-suc, marks-bare, marks_of-mark, marks_of-text, style_by_marks, style_by_marks-before, style_by_marks-mark, style_by_marks-text, marks_up_to-further, marks_up_to-here, marks_up_to-none}
 pub use Rattle.ansi_style.proofs.ReadBackLemmas.{close_codes_are, code_pieces, code_pieces_stand, spelled-code_pieces, start_codes_are, style_through-codes, styled_through-codes}
 pub use Rattle.ansi_style.proofs.SgrLemmas.{apply-no_sgr}
 pub use Rattle.ansi_style.proofs.SpelledLemmas.{residue-spelled, styled-append, styled-spelled}

@@ -1,5 +1,5 @@
 -- What is shown of a text as one walk over its pieces, with what is left of its ends; a cut, also of a text without ESC.
-use Rattle.ansi_slice.proofs.Common.{◌≡◌, ℕ, ◌-◌, ◌≤◌, inl, inr, Bool, true, false, not, ◌&&◌, List, [], ◌∷◌, ◌++◌, map, length, Option, Some, None, refl, sym, ◌∙◌, ap, ap₂, arith, slice_range, if◌then◌else◌, nat_lt, append-nil, length-append, IsFalse, unwrap_or, cases_lt, lt-ltb, le-ltb, Piece, Text, pieces_of, plain_of, plain, marks_of, marks_up_to, has_escape, plain_style, close, after_marks, style_at, interleaved, cut_up_to, cut, plain-bare, length-plain, further, marks-bare, marks_of-text, marks_of-mark, marks_up_to-none, marks_up_to-further, marks_up_to-here, spelling}
+use Rattle.ansi_slice.proofs.Common.{◌≡◌, ℕ, ◌-◌, ◌≤◌, inl, inr, Bool, true, false, not, ◌&&◌, List, [], ◌∷◌, ◌++◌, map, length, Option, Some, None, refl, sym, ◌∙◌, ap, ap₂, arith, slice_range, if◌then◌else◌, nat_lt, append-nil, length-append, IsFalse, unwrap_or, cases_lt, lt-ltb, le-ltb, Piece, Text, pieces_of, plain_of, plain, marks_of, marks_up_to, has_escape, plain_style, close, after_marks, style_at, interleaved, cut_up_to, cut, plain-bare, length-plain, mark_further_on, marks-bare, marks_of-text, marks_of-mark, marks_up_to-none, marks_up_to-further, marks_up_to-here, spelling}
 use Rattle.ansi_search.proofs.SliceLemmas.{slice_range-none, slice_range-past, slice_range-append}
 use Rattle.ansi_slice.proofs.InterleavedLemmas.{interleaved-nil, interleaved-bare, interleaved-text, interleaved-mark}
 
@@ -64,7 +64,7 @@ marks_up_to-marks_past e [] past = refl
 marks_up_to-marks_past e (Text w ∷ ps) past =
     let size = length-append w (plain_of ps) in
     ap (marks_up_to e) (marks_of-text w ps) ∙ marks_up_to-further e (length w) (marks_of ps) (omega arith)
-    ∙ ap (map (further (length w))) (marks_up_to-marks_past (e - length w) ps (omega arith)) ∙ sym (marks_of-text w ps)
+    ∙ ap (map (mark_further_on (length w))) (marks_up_to-marks_past (e - length w) ps (omega arith)) ∙ sym (marks_of-text w ps)
 marks_up_to-marks_past e (p ∷ ps) past =
     let mark = marks_of-mark p ps refl in
     ap (marks_up_to e) mark ∙ marks_up_to-here e (spelling p) (marks_of ps) ∙ ap (λ ms. record { place = 0; bytes = spelling p } ∷ ms) (marks_up_to-marks_past e ps past) ∙ sym mark

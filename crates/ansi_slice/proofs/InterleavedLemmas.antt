@@ -1,5 +1,5 @@
 -- What is shown of a plain text, after a text or a mark at its front.
-use Rattle.ansi_slice.proofs.Common.{◌≡◌, ℕ, zero, suc, ◌+◌, ◌-◌, true, false, ◌&&◌, ◌==◌, List, [], ◌∷◌, ◌++◌, map, length, take, drop, refl, sym, ◌∙◌, ap, ap₂, arith, flat_map, slice_range, if◌then◌else◌, nat_le, nat_lt, append_assoc, append-nil, nat_tests, range_with_len, Mark, joined, marks_at, interleaved_at, interleaved, further, map-further-0, map-further-suc}
+use Rattle.ansi_slice.proofs.Common.{◌≡◌, ℕ, zero, suc, ◌+◌, ◌-◌, true, false, ◌&&◌, ◌==◌, List, [], ◌∷◌, ◌++◌, map, length, take, drop, refl, sym, ◌∙◌, ap, ap₂, arith, flat_map, slice_range, if◌then◌else◌, nat_le, nat_lt, append_assoc, append-nil, nat_tests, range_with_len, Mark, joined, marks_at, interleaved_at, interleaved, mark_further_on, map-further-0, map-further-suc}
 use Rattle.ansi_search.proofs.SliceLemmas.{slice_range-from_past}
 
 -- functions that agree one place apart
@@ -17,20 +17,20 @@ flat_map-range-0 f n = (let one_more : n + 1 ≡ suc n = omega arith in ap (λ k
 
 -- Marks one place further on.
 
-joined-marks_at-0 : (ms : List Mark) → joined (marks_at 0 (map (further 1) ms)) ≡ []
+joined-marks_at-0 : (ms : List Mark) → joined (marks_at 0 (map (mark_further_on 1) ms)) ≡ []
 joined-marks_at-0 [] = refl
 joined-marks_at-0 (m ∷ ms) = (let apart : (1 + m.place == 0) ≡ false = grind (arith, nat_tests) in rw apart (joined-marks_at-0 ms))
 
-joined-marks_at-suc : (i : ℕ) (ms : List Mark) → joined (marks_at (i + 1) (map (further 1) ms)) ≡ joined (marks_at i ms)
+joined-marks_at-suc : (i : ℕ) (ms : List Mark) → joined (marks_at (i + 1) (map (mark_further_on 1) ms)) ≡ joined (marks_at i ms)
 joined-marks_at-suc i [] = refl
 joined-marks_at-suc i (m ∷ ms) = grind (arith, joined-marks_at-suc i ms)
 
 -- One byte of text at the front.
 
 interleaved-byte : (c : ℕ) (x : List ℕ) (a b : ℕ) (ms : List Mark)
-    → interleaved (c ∷ x) a b (map (further 1) ms) ≡ (if nat_le a 0 && nat_lt 0 b then c ∷ [] else []) ++ interleaved x (a - 1) (b - 1) ms
+    → interleaved (c ∷ x) a b (map (mark_further_on 1) ms) ≡ (if nat_le a 0 && nat_lt 0 b then c ∷ [] else []) ++ interleaved x (a - 1) (b - 1) ms
 interleaved-byte c x a b ms =
-    let f = interleaved_at (c ∷ x) a b (map (further 1) ms) in
+    let f = interleaved_at (c ∷ x) a b (map (mark_further_on 1) ms) in
     let g = interleaved_at x (a - 1) (b - 1) ms in
     let first : f 0 ≡ (if nat_le a 0 && nat_lt 0 b then c ∷ [] else []) = ap (λ v. v ++ (if nat_le a 0 && nat_lt 0 b then c ∷ [] else [])) (joined-marks_at-0 ms) in
     let next : (j : ℕ) → f (j + 1) ≡ g j = λ j.
@@ -57,14 +57,14 @@ slice_range-cons (suc a) b c w = grind arith
 
 -- A text at the front, a mark at the front, and nothing.
 
-pub interleaved-text : (w x : List ℕ) (a b : ℕ) (ms : List Mark) → interleaved (w ++ x) a b (map (further (length w)) ms) ≡ slice_range w a b ++ interleaved x (a - length w) (b - length w) ms
+pub interleaved-text : (w x : List ℕ) (a b : ℕ) (ms : List Mark) → interleaved (w ++ x) a b (map (mark_further_on (length w)) ms) ≡ slice_range w a b ++ interleaved x (a - length w) (b - length w) ms
 interleaved-text [] x a b ms =
     ap (interleaved x a b) (map-further-0 ms) ∙ sym (ap₂ (λ u v. u ++ v) (slice_range-from_past [] a b (omega arith)) (ap₂ (λ i j. interleaved x i j ms) (omega arith) (omega arith)))
 interleaved-text (c ∷ w) x a b ms =
     let n = length w in
     let head = if nat_le a 0 && nat_lt 0 b then c ∷ [] else [] in
     ap (interleaved (c ∷ w ++ x) a b) (map-further-suc n ms)
-    ∙ interleaved-byte c (w ++ x) a b (map (further n) ms)
+    ∙ interleaved-byte c (w ++ x) a b (map (mark_further_on n) ms)
     ∙ ap (λ v. head ++ v) (interleaved-text w x (a - 1) (b - 1) ms)
     ∙ sym (append_assoc head (slice_range w (a - 1) (b - 1)) (interleaved x (a - 1 - n) (b - 1 - n) ms))
     ∙ ap₂ (λ u v. u ++ v) (slice_range-cons a b c w) (ap₂ (λ i j. interleaved x i j ms) (omega arith) (omega arith))

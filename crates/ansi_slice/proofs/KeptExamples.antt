@@ -21,25 +21,25 @@ suffixes = refl
 
 -- Whether they are there, the plain text says.
 
-starts : MakesRows (λ (x : List ℕ × List ℕ). starts_with nat_eq (plain x.0) x.1) (
+plain_texts_start_with : MakesRows (λ (x : List ℕ × List ℕ). starts_with nat_eq (plain x.0) x.1) (
     ((codes "\u{1b}[30mTEXT\u{1b}[39m", codes "TEXT+"), false)
     ∷ ((codes "\u{1b}[1ma", codes "\u{1b}"), false)
     ∷ [])
-starts = refl
+plain_texts_start_with = refl
 
-ends : MakesRows (ends_with nat_eq (plain (codes "a\u{1b}[1mb\u{1b}[0mab"))) ((codes "bab", true) ∷ (codes "aab", false) ∷ [])
-ends = refl
+plain_texts_end_with : MakesRows (ends_with nat_eq (plain (codes "a\u{1b}[1mb\u{1b}[0mab"))) ((codes "bab", true) ∷ (codes "aab", false) ∷ [])
+plain_texts_end_with = refl
 
 -- White space is met across sequences, and is that of Unicode.
 
-trims : MakesRows trimmed (
+trimmed_texts : MakesRows trimmed (
     (codes "\u{1b}[31m a \u{1b}[39m ", codes "\u{1b}[31ma\u{1b}[39m")
     ∷ (codes " \u{1b}[1m ", codes "\u{1b}[1m")
     ∷ (codes "\u{1b}[41;30m  TEXT\u{1b}[39m \u{1b}[34m123  \u{1b}[39;49m", codes "\u{1b}[41;30mTEXT\u{1b}[39m \u{1b}[34m123\u{1b}[39;49m")
     ∷ (utf8 "\u{85}a\u{3000}", codes "a")
     ∷ [])
 unfolding kept trim_start trim_end chars encode_utf8
-trims = refl
+trimmed_texts = refl
 
 interval_of_blanks_alone : trim_interval (codes "  ") ≡ (2, 2)
 unfolding trim_start trim_end chars encode_utf8

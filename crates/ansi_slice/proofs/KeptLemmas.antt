@@ -17,13 +17,13 @@ spelled-kept_pieces t a b = spelled-interleaved_pieces (pieces_of t) (λ p. true
 
 -- Their plain bytes are the slice, and their marks are all marks.
 
-plain_of-one_text : (w : List ℕ) (ps : List Piece) → plain_of (one_text w ++ ps) ≡ w ++ plain_of ps
-plain_of-one_text [] ps = refl
-plain_of-one_text (b ∷ w) ps = refl
+plain_of-text_before : (w : List ℕ) (ps : List Piece) → plain_of (one_text w ++ ps) ≡ w ++ plain_of ps
+plain_of-text_before [] ps = refl
+plain_of-text_before (b ∷ w) ps = refl
 
 plain_of-kept_pieces : (ps : List Piece) (a b : ℕ) → plain_of (kept_pieces a b ps) ≡ slice_range (plain_of ps) a b
 plain_of-kept_pieces [] a b = sym (slice_range-from_past [] a b (omega arith))
-plain_of-kept_pieces (Text w ∷ ps) a b = grind (arith, plain_of-one_text, slice_range-append, plain_of-kept_pieces ps (a - length w) (b - length w))
+plain_of-kept_pieces (Text w ∷ ps) a b = grind (arith, plain_of-text_before, slice_range-append, plain_of-kept_pieces ps (a - length w) (b - length w))
 plain_of-kept_pieces (p ∷ ps) a b = plain_of-kept_pieces ps a b
 
 abbrev bytes_of_marks : List Piece → List (List ℕ)

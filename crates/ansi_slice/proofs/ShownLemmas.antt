@@ -1,5 +1,5 @@
 -- What is shown of a plain text with some of its marks, as pieces; what is read of them, and the state after them.
-use Rattle.ansi_slice.proofs.Common.{◌≡◌, ℕ, ◌+◌, ◌-◌, ◌<◌, ◌≤◌, inl, inr, Bool, true, false, List, [], ◌∷◌, ◌++◌, map, length, drop, filter, refl, sym, ◌∙◌, ap, ap₂, arith, append-nil, slice_range, if◌then◌else◌, cond_both, cases_lt, flat_map-append, length-map, list_all, is_plain_byte, Piece, Text, Sequence, LoneEscape, spelling, Mark, plain_of, marks_of, Rendition, apply, after_marks, interleaved, one_text, further, marks_of-text, marks_of-mark, spelled, AllStandAnywhere, stand-append, style_through, styled_through}
+use Rattle.ansi_slice.proofs.Common.{◌≡◌, ℕ, ◌+◌, ◌-◌, ◌<◌, ◌≤◌, inl, inr, Bool, true, false, List, [], ◌∷◌, ◌++◌, map, length, drop, filter, refl, sym, ◌∙◌, ap, ap₂, arith, append-nil, slice_range, if◌then◌else◌, cond_both, cases_lt, flat_map-append, length-map, list_all, is_plain_byte, Piece, Text, Sequence, LoneEscape, spelling, Mark, plain_of, marks_of, Rendition, apply, after_marks, interleaved, one_text, mark_further_on, marks_of-text, marks_of-mark, spelled, AllStandAnywhere, stand-append, style_through, styled_through}
 use Rattle.ansi_style.proofs.MarkLemmas.{state_after, state_after-further}
 use Rattle.ansi_style.proofs.StyledLemmas.{styled_byte}
 use Rattle.ansi_style.proofs.ThroughLemmas.{state_through, state_through-append, seen_through, seen_through-append}
@@ -10,7 +10,7 @@ use Rattle.ansi_slice.proofs.InterleavedLemmas.{interleaved-mark, interleaved-ni
 abbrev pub at_places : (ℕ → Bool) → List Mark → List Mark
 at_places test ms = filter (λ (m : Mark). test m.place) ms
 
-pub at_places-further : (test : ℕ → Bool) (n : ℕ) (ms : List Mark) → at_places test (map (further n) ms) ≡ map (further n) (at_places (λ p. test (n + p)) ms)
+pub at_places-further : (test : ℕ → Bool) (n : ℕ) (ms : List Mark) → at_places test (map (mark_further_on n) ms) ≡ map (mark_further_on n) (at_places (λ p. test (n + p)) ms)
 at_places-further test n [] = refl
 at_places-further test n (m ∷ ms) = grind (arith, at_places-further test n ms)
 

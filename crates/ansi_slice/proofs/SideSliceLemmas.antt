@@ -112,15 +112,15 @@ drop_picks = record {
 spelled-mark : (goes : Bool) (p : Piece) → spelled (if goes then (if is_sgr (spelling p) then [] else p ∷ []) else []) ≡ (if goes then copied p else [])
 spelled-mark goes p = grind (arith, append-nil)
 
-turned : (b : Bool) (v : List ℕ) → (if not b then v else []) ≡ (if b then [] else v)
-turned true v = refl
-turned false v = refl
+if-not : (b : Bool) (v : List ℕ) → (if not b then v else []) ≡ (if b then [] else v)
+if-not true v = refl
+if-not false v = refl
 
 spelled-left : (mid n : ℕ) (s : Rendition) (p : Piece) → spelled (side_pieces (λ k w. take k w) (λ n. nat_le n mid) mid n s p) ≡ left_part mid n s p
 spelled-left mid n s p = grind (arith, spelled-dressed_text, spelled-mark)
 
 spelled-right : (mid n : ℕ) (s : Rendition) (p : Piece) → spelled (side_pieces (λ k w. drop k w) (λ n. not (nat_le n mid)) mid n s p) ≡ right_part mid n s p
-spelled-right mid n s p = grind (arith, spelled-dressed_text, spelled-mark, turned)
+spelled-right mid n s p = grind (arith, spelled-dressed_text, spelled-mark, if-not)
 
 -- at every position, whether it is good or not
 pub left_side_is : (t : List ℕ) (mid : ℕ) → IsTrue (is_whole t) → IsClosed (take mid (styled t)) (left_side t mid)

@@ -54,10 +54,10 @@ interleaved_from-front all (p ∷ ps) s e ordered =
     ∙ ap (λ u. u ++ rest) (sym (sequences_up_to-mark s p ps refl))
 
 -- the marks past the end, if all are shown
-abbrev later : Bool → ℕ → List Piece → List ℕ
-later all e ps = if all then interleaved_from true 0 0 (after_of e ps) else []
+abbrev later_bytes : Bool → ℕ → List Piece → List ℕ
+later_bytes all e ps = if all then interleaved_from true 0 0 (after_of e ps) else []
 
-interleaved_from-stretch : (all : Bool) (ps : List Piece) (e : ℕ) → interleaved_from all 0 e ps ≡ take (bytes_before e ps) (spelled ps) ++ later all e ps
+interleaved_from-stretch : (all : Bool) (ps : List Piece) (e : ℕ) → interleaved_from all 0 e ps ≡ take (bytes_before e ps) (spelled ps) ++ later_bytes all e ps
 interleaved_from-stretch true [] e = refl
 interleaved_from-stretch false [] e = refl
 interleaved_from-stretch all (Text w ∷ ps) e = elim (cases_lt e (length w)) [
@@ -74,13 +74,13 @@ interleaved_from-stretch all (Text w ∷ ps) e = elim (cases_lt e (length w)) [
       ∙ ap₂ (λ u k. u ++ interleaved_from all k (e - n) ps) (slice_range-past w 0 e within) front
       ∙ ap (λ v. w ++ v) (interleaved_from-stretch all ps (e - n))
       ∙ sym (ap₂ (λ k qs. take k (w ++ spelled ps) ++ (if all then interleaved_from true 0 0 qs else [])) (bytes_before-text e w ps within) (after_of-text e w ps within)
-      ∙ take-more w (spelled ps) (later all (e - n) ps) (bytes_before (e - n) ps)))
+      ∙ take-more w (spelled ps) (later_bytes all (e - n) ps) (bytes_before (e - n) ps)))
 ]
   where
     past : (b : Bool) → e < length w → (if not b && true then [] else interleaved_from b (0 - length w) (e - length w) ps) ≡ (if b then interleaved_from true 0 0 (Text (drop e w) ∷ ps) else [])
     past true last = ap₂ (λ i j. interleaved_from true i j ps) (omega arith) (omega arith)
     past false last = refl
-interleaved_from-stretch all (p ∷ ps) e = ap (λ v. spelling p ++ v) (interleaved_from-stretch all ps e) ∙ sym (take-more (spelling p) (spelled ps) (later all e ps) (bytes_before e ps))
+interleaved_from-stretch all (p ∷ ps) e = ap (λ v. spelling p ++ v) (interleaved_from-stretch all ps e) ∙ sym (take-more (spelling p) (spelled ps) (later_bytes all e ps) (bytes_before e ps))
 
 -- the style at the end is that after the marks from the start on
 style-after : (ps : List Piece) (c : Rendition) (s e : ℕ) → s ≤ e → style_by_marks (style_by_marks c ps s) (after_of s ps) (e - s) ≡ style_by_marks c ps e
@@ -124,11 +124,11 @@ cut-stretch {t} {rest} {s} {e} {from} {to} {c} {style} ordered start rest_is end
     ∙ sym (cut_up_to-walk t s e ∙ ap (λ u. u ++ close (style_by_marks plain_style ps e)) (interleaved_from-front false ps s e ordered))
 
 -- an end in what follows a start at which no character goes on
-end_after : (x y : List ℕ) (s e : ℕ) → s ≤ e → IsTrue (no_character_goes_on x s) → y ≡ drop s x → is_good_position x e ≡ no_character_goes_on y (e - s)
-end_after x y s zero ordered start is =
+is_good_position-drop : (x y : List ℕ) (s e : ℕ) → s ≤ e → IsTrue (no_character_goes_on x s) → y ≡ drop s x → is_good_position x e ≡ no_character_goes_on y (e - s)
+is_good_position-drop x y s zero ordered start is =
     let same : s + (0 - s) ≡ s = omega (arith, ordered) in
     sym (ap (λ v. no_character_goes_on v (0 - s)) is ∙ no_character_goes_on-drop x s (0 - s) ∙ ap (no_character_goes_on x) same ∙ start)
-end_after x y s (suc e) ordered start is =
+is_good_position-drop x y s (suc e) ordered start is =
     let same : s + (suc e - s) ≡ suc e = omega (arith, ordered) in
     ap (λ b. b || no_character_goes_on x (suc e)) (ne_eqb (suc e) 0 (λ none. omega (arith, none)))
     ∙ sym (ap (λ v. no_character_goes_on v (suc e - s)) is ∙ no_character_goes_on-drop x s (suc e - s) ∙ ap (no_character_goes_on x) same)
@@ -139,7 +139,7 @@ range-by_offset {t} {rest} {s} {e} {from} ordered start rest_is =
     let x = plain t in
     let after : plain rest ≡ drop s x = ap plain (rest_is ∙ ap (λ n. drop n t) start.offset) ∙ plain-after t s in
     ap (λ b. b && (is_good_position x s && is_good_position x e)) (le-leb s e ordered)
-    ∙ ap (λ b. b && is_good_position x e) (is_good_position-from x s start.good) ∙ end_after x (plain rest) s e ordered start.good after
+    ∙ ap (λ b. b && is_good_position x e) (is_good_position-from x s start.good) ∙ is_good_position-drop x (plain rest) s e ordered start.good after
 
 -- what is kept from s on
 pub kept-front : (t : List ℕ) (s e : ℕ) → s ≤ e → kept t s e ≡ sequences_up_to s (pieces_of t) ++ kept (drop (offset_of t s) t) 0 (e - s)

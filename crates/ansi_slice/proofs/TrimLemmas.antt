@@ -3,18 +3,18 @@ use Rattle.ansi_slice.proofs.Common.{◌≡◌, ℕ, ◌+◌, ◌-◌, true, ◌
 
 -- The characters that are taken off are at the front, and at the end.
 
-skipped : (cs : List ℕ) → (front : List ℕ) × (cs ≡ front ++ skip_leading_whitespace cs)
-skipped [] = ([], refl)
-skipped (c ∷ cs) =
-    let later = skipped cs in
+skip_leading_whitespace-splits : (cs : List ℕ) → (front : List ℕ) × (cs ≡ front ++ skip_leading_whitespace cs)
+skip_leading_whitespace-splits [] = ([], refl)
+skip_leading_whitespace-splits (c ∷ cs) =
+    let later = skip_leading_whitespace-splits cs in
     cond_both (is_whitespace c) (skip_leading_whitespace cs) (c ∷ cs) (λ rest. (front : List ℕ) × (c ∷ cs ≡ front ++ rest))
     (λ white. (c ∷ later.0, ap (λ v. c ∷ v) later.1))
     (λ other. ([], refl))
 
-pub dropped : (cs : List ℕ) → (back : List ℕ) × (cs ≡ drop_trailing_whitespace cs ++ back)
-dropped [] = ([], refl)
-dropped (c ∷ cs) =
-    let later = dropped cs in
+pub drop_trailing_whitespace-splits : (cs : List ℕ) → (back : List ℕ) × (cs ≡ drop_trailing_whitespace cs ++ back)
+drop_trailing_whitespace-splits [] = ([], refl)
+drop_trailing_whitespace-splits (c ∷ cs) =
+    let later = drop_trailing_whitespace-splits cs in
     cond_both (is_whitespace c && length (drop_trailing_whitespace cs) == 0) [] (c ∷ drop_trailing_whitespace cs) (λ rest. (back : List ℕ) × (c ∷ cs ≡ rest ++ back))
     (λ white. (c ∷ cs, refl))
     (λ other. (later.0, ap (λ v. c ∷ v) later.1))
@@ -38,11 +38,11 @@ is_trimmed x utf8 =
     let cs = utf8.0 in
     let read : chars x ≡ cs = ap chars (sym utf8.1.1) ∙ chars-encodes cs utf8.1.0 in
     let left = skip_leading_whitespace cs in
-    let skip = skipped cs in
+    let skip = skip_leading_whitespace-splits cs in
     let start : trim_start x ≡ encode_utf8_all left = ap (λ ds. encode_utf8_all (skip_leading_whitespace ds)) read in
     let left_scalars = scalars_after skip.0 left (sym (ap all_scalars skip.1) ∙ utf8.1.0) in
     let inner = drop_trailing_whitespace left in
-    let drops = dropped left in
+    let drops = drop_trailing_whitespace-splits left in
     let end : trim x ≡ encode_utf8_all inner = ap (λ ds. encode_utf8_all (drop_trailing_whitespace ds)) (ap chars start ∙ chars-encodes left left_scalars) in
     let back_scalars = scalars_after inner drops.0 (sym (ap all_scalars drops.1) ∙ left_scalars) in
     record {

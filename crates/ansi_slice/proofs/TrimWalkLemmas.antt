@@ -1,7 +1,7 @@
 -- White space at the front and at the end of a text, over the texts that are left.
 use Rattle.ansi_slice.proofs.Common.{◌≡◌, ℕ, ◌+◌, ◌-◌, ◌<◌, ◌≤◌, Bool, true, false, ◌&&◌, ◌==◌, List, [], ◌∷◌, ◌++◌, length, take, drop, take-add, refl, sym, ◌∙◌, ap, subst, arith, cond, length-append, nat_tests, take-append-le, length-take, chars-nil, encodes-append, encodes-chars, chars-append, length-le-encodes, IsUtf8-drop, IsUtf8-append, IsUtf8-take, IsCharBoundary-from_take, take-append_seam, IsUtf8, chars, trim_start, trim_end, skip_leading_whitespace, drop_trailing_whitespace, encode_utf8_all, is_whitespace, Item, Kind, Piece, Text, ArePieces, pieces_of, plain_of, plain, kept, trim_interval, trimmed, sequences_up_to, StandsIn, KeepsUpTo, Scan, GivesItem, pieces_left, IsUtf8-plain, pieces_are, BeginsWithMark, plain_of-mark}
 use Rattle.std.proofs.lemmas.Str.{IsCharBoundary-start}
-use Rattle.ansi_slice.proofs.TrimLemmas.{dropped, drop-trim_interval}
+use Rattle.ansi_slice.proofs.TrimLemmas.{drop_trailing_whitespace-splits, drop-trim_interval}
 use Rattle.ansi_search.proofs.OffsetLemmas.{IsOverText, IsOverMark, IsPassed, passed-begin, passed-text, passed-mark, plain-after}
 use Rattle.ansi_slice.proofs.StretchLemmas.{keeps-inside, kept-front}
 
@@ -80,7 +80,7 @@ trim_end-other w y utf8 some =
 trim_end-front : (x : List ℕ) → IsUtf8 x → take (length (trim_end x)) x ≡ trim_end x
 unfolding trim_end
 trim_end-front x utf8 =
-    let split = dropped (chars x) in
+    let split = drop_trailing_whitespace-splits (chars x) in
     let kept = encode_utf8_all (drop_trailing_whitespace (chars x)) in
     let all : x ≡ kept ++ encode_utf8_all split.0 = sym (encodes-chars x utf8) ∙ ap encode_utf8_all split.1 ∙ encodes-append (drop_trailing_whitespace (chars x)) split.0 in
     ap (take (length kept)) all ∙ take-append_seam kept (encode_utf8_all split.0)

@@ -38,17 +38,17 @@ follows-first style n s (b ∷ w) ps filled follows = follows 0 ∙ style_by_mar
 follows-mark : (style : ℕ → Rendition) (n : ℕ) (s : Rendition) (p : Piece) (ps : List Piece) → is_mark p ≡ true → FollowsMarks style n s (p ∷ ps) → FollowsMarks style (n + 0) (apply s (spelling p)) ps
 follows-mark style n s p ps is follows i = ap style (omega arith) ∙ follows i ∙ style_by_marks-mark s p ps i is
 
-walk : (make : ℕ → Rendition → Piece → List ℕ) → NeedsNoStyle make → (style : ℕ → Rendition) (ps : List Piece) (t : List ℕ) → ArePieces t ps → (n : ℕ) (s : Rendition) → FollowsMarks style n s ps
+by_places-walked : (make : ℕ → Rendition → Piece → List ℕ) → NeedsNoStyle make → (style : ℕ → Rendition) (ps : List Piece) (t : List ℕ) → ArePieces t ps → (n : ℕ) (s : Rendition) → FollowsMarks style n s ps
     → by_places make style n (places ps) ≡ walked make n s ps
-walk make no_style style [] t are n s is = refl
-walk make no_style style (Text w ∷ ps) t are n s is =
+by_places-walked make no_style style [] t are n s is = refl
+by_places-walked make no_style style (Text w ∷ ps) t are n s is =
     ap₂ (λ u v. u ++ v)
     (ap₂ (λ i r. make i r (Text w)) (omega arith) (follows-first style n s w ps are.2.0 is))
-    (by_places-further make style n (length w) (places ps) ∙ walk make no_style style ps are.0 are.3 (n + length w) s (follows-text style n s w ps is))
-walk make no_style style (p ∷ ps) t are n s is =
+    (by_places-further make style n (length w) (places ps) ∙ by_places-walked make no_style style ps are.0 are.3 (n + length w) s (follows-text style n s w ps is))
+by_places-walked make no_style style (p ∷ ps) t are n s is =
     ap₂ (λ u v. u ++ v)
     (ap (λ i. make i (style i) p) (omega arith) ∙ no_style n (style n) s p refl)
-    (by_places-further make style n 0 (places ps) ∙ walk make no_style style ps are.0 are.3 (n + 0) (apply s (spelling p)) (follows-mark style n s p ps refl is))
+    (by_places-further make style n 0 (places ps) ∙ by_places-walked make no_style style ps are.0 are.3 (n + 0) (apply s (spelling p)) (follows-mark style n s p ps refl is))
 
 by_places-0 : (make : ℕ → Rendition → Piece → List ℕ) (style : ℕ → Rendition) (qs : List Placed) → flat_map (λ (q : Placed). make q.place (style q.place) q.piece) qs ≡ by_places make style 0 qs
 by_places-0 make style [] = refl
@@ -59,4 +59,4 @@ pub walked-all : (make : ℕ → Rendition → Piece → List ℕ) → NeedsNoSt
     → flat_map (λ (q : Placed). make q.place (style_at t q.place) q.piece) (places (pieces_of t)) ≡ walked make 0 plain_style (pieces_of t)
 walked-all make no_style t =
     by_places-0 make (style_at t) (places (pieces_of t))
-    ∙ walk make no_style (style_at t) (pieces_of t) t (pieces_are t) 0 plain_style (λ i. ap (style_at t) (omega arith))
+    ∙ by_places-walked make no_style (style_at t) (pieces_of t) t (pieces_are t) 0 plain_style (λ i. ap (style_at t) (omega arith))

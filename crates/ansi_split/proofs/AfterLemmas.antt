@@ -1,28 +1,28 @@
 -- A text in two, after the last mark at a position.
-use Rattle.ansi_split.proofs.Common.{min, ◌≡◌, ◌≢◌, ℕ, zero, suc, ◌+◌, ◌-◌, ◌<◌, ◌≤◌, inl, inr, false, List, [], ◌∷◌, ◌++◌, length, map, take, drop, Some, refl, sym, ◌∙◌, ap, ap₂, subst, arith, IsTrue, if◌then◌else◌, nat_lt, nat_le, slice_index, slice_range, length-append, append_assoc, append-nil, take-nil, cases_lt, lt-ltb, le-ltb, nat_tests, take_all, take-take, take-append-le, take-append-drop, map-append, length-drop, filter-append, filter_agree, fold-append, IsCharBoundary-from_rest, IsCharBoundary, escape, is_plain_byte, IsSequence, Piece, Text, Sequence, LoneEscape, spelling, ArePieces, StandsBefore, pieces_of, Mark, plain_of, plain, marks_of, marks, marks_up_to, pieces_are, pieces_of-unique, one_text, one_text_are, plain_of-one_text, apply, apply_all, after_marks, further, marks_of-text, marks_of-mark, marks_up_to-none, marks_up_to-further, after_marks-further, no_character_goes_on, interleaved, marks_past, bytes_before, offset_of, list_all-parts, take-append, slice_range-none, slice_range-from_past, interleaved-bare, interleaved-text, interleaved-mark, interleaved-nil, no_character_goes_on-append, good_is_boundary, marks_up_to-marks_past, bytes_before-last, bytes_before-text, after_of, after_of-last, after_of-text, take-after, pieces_of-after, plain-after, marks_further_on, IsCutAfter}
+use Rattle.ansi_split.proofs.Common.{min, ◌≡◌, ◌≢◌, ℕ, zero, suc, ◌+◌, ◌-◌, ◌<◌, ◌≤◌, inl, inr, false, List, [], ◌∷◌, ◌++◌, length, map, take, drop, Some, refl, sym, ◌∙◌, ap, ap₂, subst, arith, IsTrue, if◌then◌else◌, nat_lt, nat_le, slice_index, slice_range, length-append, append_assoc, append-nil, take-nil, cases_lt, lt-ltb, le-ltb, nat_tests, take_all, take-take, take-append-le, take-append-drop, map-append, length-drop, filter-append, filter_agree, fold-append, IsCharBoundary-from_rest, IsCharBoundary, escape, is_plain_byte, IsSequence, Piece, Text, Sequence, LoneEscape, spelling, ArePieces, StandsBefore, pieces_of, Mark, plain_of, plain, marks_of, marks, marks_up_to, pieces_are, pieces_of-unique, one_text, one_text_are, plain_of-one_text, apply, apply_all, after_marks, mark_further_on, marks_of-text, marks_of-mark, marks_up_to-none, marks_up_to-further, after_marks-further, no_character_goes_on, interleaved, marks_past, bytes_before, offset_of, list_all-parts, take-append, slice_range-none, slice_range-from_past, interleaved-bare, interleaved-text, interleaved-mark, interleaved-nil, no_character_goes_on-append, good_is_boundary, marks_up_to-marks_past, bytes_before-last, bytes_before-text, after_of, after_of-last, after_of-text, take-after, pieces_of-after, plain-after, marks_further_on, IsCutAfter}
 use Rattle.std.proofs.lemmas.List.{length-take}
 use Rattle.ansi_split.proofs.PartSliceLemmas.{own_places, at_places-never, marks_past-places}
 
 -- The pieces up to the position e with the marks there. A text that goes on past it is in them and in those after it.
 
-abbrev front_of : ℕ → List Piece → List Piece
-front_of e [] = []
-front_of e (Text w ∷ ps) = if nat_lt e (length w) then one_text (take e w) else Text w ∷ front_of (e - length w) ps
-front_of e (p ∷ ps) = p ∷ front_of e ps
+abbrev pieces_up_to : ℕ → List Piece → List Piece
+pieces_up_to e [] = []
+pieces_up_to e (Text w ∷ ps) = if nat_lt e (length w) then one_text (take e w) else Text w ∷ pieces_up_to (e - length w) ps
+pieces_up_to e (p ∷ ps) = p ∷ pieces_up_to e ps
 
-front_of-last : (e : ℕ) (w : List ℕ) (ps : List Piece) → e < length w → front_of e (Text w ∷ ps) ≡ one_text (take e w)
-front_of-last e w ps last = ap (λ b. if b then one_text (take e w) else Text w ∷ front_of (e - length w) ps) (lt-ltb e (length w) last)
+pieces_up_to-last : (e : ℕ) (w : List ℕ) (ps : List Piece) → e < length w → pieces_up_to e (Text w ∷ ps) ≡ one_text (take e w)
+pieces_up_to-last e w ps last = ap (λ b. if b then one_text (take e w) else Text w ∷ pieces_up_to (e - length w) ps) (lt-ltb e (length w) last)
 
-front_of-text : (e : ℕ) (w : List ℕ) (ps : List Piece) → length w ≤ e → front_of e (Text w ∷ ps) ≡ Text w ∷ front_of (e - length w) ps
-front_of-text e w ps within = ap (λ b. if b then one_text (take e w) else Text w ∷ front_of (e - length w) ps) (le-ltb e (length w) within)
+pieces_up_to-text : (e : ℕ) (w : List ℕ) (ps : List Piece) → length w ≤ e → pieces_up_to e (Text w ∷ ps) ≡ Text w ∷ pieces_up_to (e - length w) ps
+pieces_up_to-text e w ps within = ap (λ b. if b then one_text (take e w) else Text w ∷ pieces_up_to (e - length w) ps) (le-ltb e (length w) within)
 
 -- They are the pieces of the text before.
 
 first_byte : (n : ℕ) (rest : List ℕ) → take n rest ≢ [] → (rest ≢ []) × (slice_index (take n rest) 0 ≡ slice_index rest 0)
 first_byte n rest some = grind arith
 
-alone_before : (n : ℕ) (rest : List ℕ) → StandsBefore LoneEscape rest → StandsBefore LoneEscape (take n rest)
-alone_before n rest alone = λ m whole. elim (cases_lt (suc n) m) [
+StandsBefore-lone_escape : (n : ℕ) (rest : List ℕ) → StandsBefore LoneEscape rest → StandsBefore LoneEscape (take n rest)
+StandsBefore-lone_escape n rest alone = λ m whole. elim (cases_lt (suc n) m) [
   | inl longer ↦ (
       let t = escape ∷ rest in
       let all : take m (take (suc n) t) ≡ take (suc n) t = take_all m (take (suc n) t) (omega (arith, length-take (suc n) t)) in
@@ -30,36 +30,36 @@ alone_before n rest alone = λ m whole. elim (cases_lt (suc n) m) [
   | inr shorter ↦ alone m (subst IsSequence (take-take m (suc n) (escape ∷ rest) shorter) whole)
 ]
 
-stands_before : (p : Piece) (n : ℕ) (rest : List ℕ) → StandsBefore p rest → StandsBefore p (take n rest)
-stands_before (Text w) n rest stands = (stands.0, stands.1, λ some. (let first = first_byte n rest some in first.1 ∙ stands.2 first.0))
-stands_before (Sequence w) n rest stands = stands
-stands_before LoneEscape n rest stands = alone_before n rest stands
+StandsBefore-take : (p : Piece) (n : ℕ) (rest : List ℕ) → StandsBefore p rest → StandsBefore p (take n rest)
+StandsBefore-take (Text w) n rest stands = (stands.0, stands.1, λ some. (let first = first_byte n rest some in first.1 ∙ stands.2 first.0))
+StandsBefore-take (Sequence w) n rest stands = stands
+StandsBefore-take LoneEscape n rest stands = StandsBefore-lone_escape n rest stands
 
 -- after a piece that is in front as a whole
-front_more : (t : List ℕ) (p : Piece) (rest : List ℕ) (n : ℕ) (qs : List Piece) → t ≡ spelling p ++ rest → StandsBefore p rest → ArePieces (take n rest) qs → ArePieces (take (length (spelling p) + n) t) (p ∷ qs)
-front_more t p rest n qs spelled stands are =
-    (take n rest, ap (take (length (spelling p) + n)) spelled ∙ take-after (spelling p) rest n, stands_before p n rest stands, are)
+ArePieces-piece_before : (t : List ℕ) (p : Piece) (rest : List ℕ) (n : ℕ) (qs : List Piece) → t ≡ spelling p ++ rest → StandsBefore p rest → ArePieces (take n rest) qs → ArePieces (take (length (spelling p) + n) t) (p ∷ qs)
+ArePieces-piece_before t p rest n qs spelled stands are =
+    (take n rest, ap (take (length (spelling p) + n)) spelled ∙ take-after (spelling p) rest n, StandsBefore-take p n rest stands, are)
 
-front_are : (e : ℕ) (t : List ℕ) (ps : List Piece) → ArePieces t ps → ArePieces (take (bytes_before e ps) t) (front_of e ps)
-front_are e t [] are = refl
-front_are e t (Text w ∷ ps) are = elim (cases_lt e (length w)) [
+ArePieces-pieces_up_to : (e : ℕ) (t : List ℕ) (ps : List Piece) → ArePieces t ps → ArePieces (take (bytes_before e ps) t) (pieces_up_to e ps)
+ArePieces-pieces_up_to e t [] are = refl
+ArePieces-pieces_up_to e t (Text w ∷ ps) are = elim (cases_lt e (length w)) [
   | inl last ↦ (
       let cut : take e t ≡ take e w = ap (take e) are.1 ∙ take-append-le e w are.0 (omega arith) in
-      rw (bytes_before-last e w ps last, front_of-last e w ps last, cut) (one_text_are (take e w) (list_all-parts is_plain_byte e w are.2.1).0))
+      rw (bytes_before-last e w ps last, pieces_up_to-last e w ps last, cut) (one_text_are (take e w) (list_all-parts is_plain_byte e w are.2.1).0))
   | inr within ↦
-      rw (bytes_before-text e w ps within, front_of-text e w ps within)
-      (front_more t (Text w) are.0 (bytes_before (e - length w) ps) (front_of (e - length w) ps) are.1 are.2 (front_are (e - length w) are.0 ps are.3))
+      rw (bytes_before-text e w ps within, pieces_up_to-text e w ps within)
+      (ArePieces-piece_before t (Text w) are.0 (bytes_before (e - length w) ps) (pieces_up_to (e - length w) ps) are.1 are.2 (ArePieces-pieces_up_to (e - length w) are.0 ps are.3))
 ]
-front_are e t (p ∷ ps) are = front_more t p are.0 (bytes_before e ps) (front_of e ps) are.1 are.2 (front_are e are.0 ps are.3)
+ArePieces-pieces_up_to e t (p ∷ ps) are = ArePieces-piece_before t p are.0 (bytes_before e ps) (pieces_up_to e ps) are.1 are.2 (ArePieces-pieces_up_to e are.0 ps are.3)
 
 -- Their plain text.
 
-plain_of-front : (e : ℕ) (ps : List Piece) → plain_of (front_of e ps) ≡ take e (plain_of ps)
+plain_of-front : (e : ℕ) (ps : List Piece) → plain_of (pieces_up_to e ps) ≡ take e (plain_of ps)
 plain_of-front e [] = sym (take-nil e)
 plain_of-front e (Text w ∷ ps) = elim (cases_lt e (length w)) [
-  | inl last ↦ ap plain_of (front_of-last e w ps last) ∙ plain_of-one_text (take e w) ∙ sym (take-append-le e w (plain_of ps) (omega arith))
+  | inl last ↦ ap plain_of (pieces_up_to-last e w ps last) ∙ plain_of-one_text (take e w) ∙ sym (take-append-le e w (plain_of ps) (omega arith))
   | inr within ↦
-      ap plain_of (front_of-text e w ps within) ∙ ap (λ v. w ++ v) (plain_of-front (e - length w) ps)
+      ap plain_of (pieces_up_to-text e w ps within) ∙ ap (λ v. w ++ v) (plain_of-front (e - length w) ps)
       ∙ sym (take-append e w (plain_of ps) ∙ ap (λ u. u ++ take (e - length w) (plain_of ps)) (take_all e w within))
 ]
 plain_of-front e (p ∷ ps) = plain_of-front e ps
@@ -83,7 +83,7 @@ record AreMarksCut (e : ℕ) (ps : List Piece) : Type 0 where
   n : ℕ
   far : e < n
   others : List Mark
-  all : marks_of ps ≡ marks_of (front_of e ps) ++ marks_further_on n others
+  all : marks_of ps ≡ marks_of (pieces_up_to e ps) ++ marks_further_on n others
   after : marks_further_on e (marks_of (after_of e ps)) ≡ marks_further_on n others
 
 marks_of-one_text : (w : List ℕ) → marks_of (one_text w) ≡ []
@@ -99,7 +99,7 @@ marks_cut e (Text w ∷ ps) = elim (cases_lt e (length w)) [
         n = length w;
         far = last;
         others = marks_of ps;
-        all = marks_of-text w ps ∙ ap (λ ms. ms ++ marks_further_on (length w) (marks_of ps)) (sym (ap marks_of (front_of-last e w ps last) ∙ marks_of-one_text (take e w)));
+        all = marks_of-text w ps ∙ ap (λ ms. ms ++ marks_further_on (length w) (marks_of ps)) (sym (ap marks_of (pieces_up_to-last e w ps last) ∙ marks_of-one_text (take e w)));
         after = ap (λ qs. marks_further_on e (marks_of qs)) (after_of-last e w ps last) ∙ ap (marks_further_on e) (marks_of-text (drop e w) ps)
             ∙ marks_further_on-marks_further_on e (length (drop e w)) (marks_of ps) ∙ ap (λ k. marks_further_on k (marks_of ps)) left;
       })
@@ -113,8 +113,8 @@ marks_cut e (Text w ∷ ps) = elim (cases_lt e (length w)) [
         n = k + cut.n;
         far = omega (arith, far);
         others = cut.others;
-        all = marks_of-text w ps ∙ ap (marks_further_on k) cut.all ∙ map-append (further k) (marks_of (front_of (e - k) ps)) (marks_further_on cut.n cut.others)
-            ∙ ap₂ (λ ms ks. ms ++ ks) (sym (ap marks_of (front_of-text e w ps within) ∙ marks_of-text w (front_of (e - k) ps))) moved;
+        all = marks_of-text w ps ∙ ap (marks_further_on k) cut.all ∙ map-append (mark_further_on k) (marks_of (pieces_up_to (e - k) ps)) (marks_further_on cut.n cut.others)
+            ∙ ap₂ (λ ms ks. ms ++ ks) (sym (ap marks_of (pieces_up_to-text e w ps within) ∙ marks_of-text w (pieces_up_to (e - k) ps))) moved;
         after = ap₂ (λ a qs. marks_further_on a (marks_of qs)) all (after_of-text e w ps within) ∙ sym (marks_further_on-marks_further_on k (e - k) (marks_of (after_of (e - k) ps)))
             ∙ ap (marks_further_on k) cut.after ∙ moved;
       })
@@ -126,7 +126,7 @@ marks_cut e (p ∷ ps) =
       far = cut.far;
       others = cut.others;
       all = marks_of-mark p ps refl ∙ ap (λ ms. record { place = 0; bytes = spelling p } ∷ ms) cut.all
-          ∙ ap (λ ms. ms ++ marks_further_on cut.n cut.others) (sym (marks_of-mark p (front_of e ps) refl));
+          ∙ ap (λ ms. ms ++ marks_further_on cut.n cut.others) (sym (marks_of-mark p (pieces_up_to e ps) refl));
       after = cut.after;
     }
 
@@ -153,7 +153,7 @@ is_cut_after t e n is =
     let x = plain t in
     let fs = pieces_of (take n t) in
     let ks = marks (drop n t) in
-    let front : fs ≡ front_of e (pieces_of t) = ap (λ k. pieces_of (take k t)) is ∙ sym (pieces_of-unique _ _ (front_are e t (pieces_of t) (pieces_are t))) in
+    let front : fs ≡ pieces_up_to e (pieces_of t) = ap (λ k. pieces_of (take k t)) is ∙ sym (pieces_of-unique _ _ (ArePieces-pieces_up_to e t (pieces_of t) (pieces_are t))) in
     let after : pieces_of (drop n t) ≡ after_of e (pieces_of t) = ap (λ k. pieces_of (drop k t)) is ∙ pieces_of-after t e in
     let cut = marks_cut e (pieces_of t) in
     let plain_front : plain_of fs ≡ take e x = ap plain_of front ∙ plain_of-front e (pieces_of t) in

@@ -1,6 +1,6 @@
 -- The parts of a text are the intervals between the first matches of a pattern that isn't empty.
 use Rattle.ansi_split.proofs.Common.{◌≡◌, ◌≢◌, ℕ, zero, suc, ◌+◌, ◌<◌, ◌≤◌, inl, inr, Bool, List, [], ◌∷◌, ◌++◌, drop, length, map, filter, zip, refl, sym, ◌∙◌, ap, subst, arith, true≢false, if◌then◌else◌, cond_both, cases_lt, le-leb, lt-leb, IsCharBoundary-start, IsCharBoundary-end, range_with_len, IsUtf8, IsCharBoundary, LacksTextAt, HasTextAt, is_match, without_overlaps, parts, AreBetween, AreInTurn, boundary_at}
-use Rattle.ansi_search.proofs.FindLemmas.{match_stands, no_match_lacks}
+use Rattle.ansi_search.proofs.FindLemmas.{HasTextAt-match, no_match_lacks}
 
 pub length-nonempty : (p : List ℕ) → p ≢ [] → 0 < length p
 length-nonempty [] some = absurd (some refl)
@@ -8,8 +8,8 @@ length-nonempty (b ∷ p) some = omega arith
 
 -- The intervals between the matches that are taken, from the place e on.
 
-abbrev intervals : List ℕ → List ℕ → ℕ → List ℕ → List (ℕ × ℕ)
-intervals x p e taken = zip (e ∷ map (λ m. m + length p) taken) (taken ++ length x ∷ [])
+abbrev intervals_between_matches : List ℕ → List ℕ → ℕ → List ℕ → List (ℕ × ℕ)
+intervals_between_matches x p e taken = zip (e ∷ map (λ m. m + length p) taken) (taken ++ length x ∷ [])
 
 between_more : (x p : List ℕ) (e k : ℕ) (is : List (ℕ × ℕ)) → e ≤ k → HasTextAt p x k (k + length p) → ((i : ℕ) → e ≤ i → i < k → LacksTextAt p x i)
     → AreBetween x p (k + length p) is → AreBetween x p e ((e, k) ∷ is)
@@ -21,20 +21,20 @@ abbrev pub taken_with : ℕ → ℕ → ℕ → List ℕ → Bool → List ℕ
 taken_with n e m ms b = (let more = without_overlaps n (if b then m + n else e) ms in if b then m ∷ more else more)
 
 are_between : (x p : List ℕ) → IsUtf8 x → IsUtf8 p → p ≢ [] → (n k e : ℕ) → k + n ≡ length x + 1 → e ≤ length x → ((i : ℕ) → e ≤ i → i < k → LacksTextAt p x i)
-    → AreBetween x p e (intervals x p e (without_overlaps (length p) e (filter (is_match x p) (range_with_len k n))))
+    → AreBetween x p e (intervals_between_matches x p e (without_overlaps (length p) e (filter (is_match x p) (range_with_len k n))))
 are_between x p utf8 utf8_p some zero k e all fits none = (refl, refl, fits, λ i from to. none i from (omega (arith, all, to)))
 are_between x p utf8 utf8_p some (suc n) k e all fits none =
     let ms = filter (is_match x p) (range_with_len (k + 1) n) in
     let size = length-nonempty p some in
-    cond_both (is_match x p k) (k ∷ ms) ms (λ ks. AreBetween x p e (intervals x p e (without_overlaps (length p) e ks)))
+    cond_both (is_match x p k) (k ∷ ms) ms (λ ks. AreBetween x p e (intervals_between_matches x p e (without_overlaps (length p) e ks)))
     (λ found. elim (cases_lt k e) [
       | inl early ↦
-          subst (λ taken. AreBetween x p e (intervals x p e taken)) (sym (ap (taken_with (length p) e k ms) (lt-leb e k early)))
+          subst (λ taken. AreBetween x p e (intervals_between_matches x p e taken)) (sym (ap (taken_with (length p) e k ms) (lt-leb e k early)))
           (are_between x p utf8 utf8_p some n (k + 1) e (omega (arith, all)) fits (λ i from to. absurd (omega (arith, early, from, to))))
       | inr from ↦
-          (let stands = match_stands x p k utf8 utf8_p found in
-          subst (λ taken. AreBetween x p e (intervals x p e taken)) (sym (ap (taken_with (length p) e k ms) (le-leb e k from)))
-          (between_more x p e k (intervals x p (k + length p) (without_overlaps (length p) (k + length p) ms)) from stands none
+          (let stands = HasTextAt-match x p k utf8 utf8_p found in
+          subst (λ taken. AreBetween x p e (intervals_between_matches x p e taken)) (sym (ap (taken_with (length p) e k ms) (le-leb e k from)))
+          (between_more x p e k (intervals_between_matches x p (k + length p) (without_overlaps (length p) (k + length p) ms)) from stands none
           (are_between x p utf8 utf8_p some n (k + 1) (k + length p) (omega (arith, all)) stands.after.0 (λ i late to. absurd (omega (arith, late, to, size))))))
     ])
     (λ missed. are_between x p utf8 utf8_p some n (k + 1) e (omega (arith, all)) fits

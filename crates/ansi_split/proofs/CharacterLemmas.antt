@@ -18,8 +18,8 @@ char_bytes c = grind (arith, and_from, next_goes_on)
 
 -- The boundaries of a text are where its characters begin, and its end.
 
-abbrev boundaries : List ℕ → List ℕ
-boundaries x = filter (is_char_boundary x) (range_with_len 0 (length x + 1))
+abbrev boundaries_of : List ℕ → List ℕ
+boundaries_of x = filter (is_char_boundary x) (range_with_len 0 (length x + 1))
 
 -- no character begins at bytes that go on
 no_boundaries : (x v rest : List ℕ) (k : ℕ) → drop k x ≡ v ++ rest → list_all is_continuation_byte v ≡ true → filter (is_char_boundary x) (range_with_len k (length v)) ≡ []
@@ -41,12 +41,12 @@ range-append k (suc m) n =
     ap (range_with_len k) size ∙ ap (λ js. k ∷ js) (range-append (k + 1) m n ∙ ap (λ j. range_with_len (k + 1) m ++ range_with_len j n) place)
 
 -- where characters begin that are left from the place k on, and where the last ends
-abbrev starts : ℕ → List ℕ → List ℕ
-starts k [] = k ∷ []
-starts k (c ∷ cs) = k ∷ starts (k + length (encode_utf8 c)) cs
+abbrev character_starts : ℕ → List ℕ → List ℕ
+character_starts k [] = k ∷ []
+character_starts k (c ∷ cs) = k ∷ character_starts (k + length (encode_utf8 c)) cs
 
 boundaries_from : (x cs : List ℕ) (k : ℕ) → all_scalars cs ≡ true → drop k x ≡ encode_utf8_all cs → k + length (encode_utf8_all cs) ≡ length x
-    → filter (is_char_boundary x) (range_with_len k (length (encode_utf8_all cs) + 1)) ≡ starts k cs
+    → filter (is_char_boundary x) (range_with_len k (length (encode_utf8_all cs) + 1)) ≡ character_starts k cs
 boundaries_from x [] k scalars at end =
     let last : k ≡ length x = omega (arith, end) in
     cond-true (is_char_boundary x k) (k ∷ []) [] ((char_boundary_is x k).1 (subst (IsCharBoundary x) (sym last) (IsCharBoundary-end x)))
@@ -79,22 +79,22 @@ all_taken f zero k e from = refl
 all_taken f (suc n) k e from = grind (arith, le-leb, all_taken f n (k + 1) (k + 0) (omega arith), all_taken f n (k + 1) e (omega (arith, from)))
 
 -- the intervals before, between and after these places
-abbrev intervals : List ℕ → ℕ → List ℕ → List (ℕ × ℕ)
-intervals x e ks = zip (e ∷ map (λ m. m + 0) ks) (ks ++ length x ∷ [])
+abbrev intervals_around : List ℕ → ℕ → List ℕ → List (ℕ × ℕ)
+intervals_around x e ks = zip (e ∷ map (λ m. m + 0) ks) (ks ++ length x ∷ [])
 
-parts-empty : (x : List ℕ) → IsUtf8 x → parts x [] ≡ intervals x 0 (starts 0 (chars x))
+parts-empty : (x : List ℕ) → IsUtf8 x → parts x [] ≡ intervals_around x 0 (character_starts 0 (chars x))
 parts-empty x utf8 =
     let cs = chars x in
     let spelled : encode_utf8_all cs ≡ x = encodes-chars x utf8 in
     let end : 0 + length (encode_utf8_all cs) ≡ length x = omega (arith, ap length spelled) in
-    ap (intervals x 0)
+    ap (intervals_around x 0)
     (ap (without_overlaps 0 0) (filter_agree (is_match x []) (is_char_boundary x) (λ i. and-true (is_char_boundary x i)) (range_with_len 0 (length x + 1)))
     ∙ all_taken (is_char_boundary x) (length x + 1) 0 0 (omega arith)
     ∙ ap (λ n. filter (is_char_boundary x) (range_with_len 0 (n + 1))) (sym (ap length spelled))
     ∙ boundaries_from x cs 0 (scalars-chars x utf8) (sym spelled) end)
 
 slices_over-starts : (x cs : List ℕ) (k e : ℕ) → drop k x ≡ encode_utf8_all cs → k + length (encode_utf8_all cs) ≡ length x
-    → slices_over x (intervals x e (starts k cs)) ≡ slice_range x e k ∷ (map encode_utf8 cs ++ [] ∷ [])
+    → slices_over x (intervals_around x e (character_starts k cs)) ≡ slice_range x e k ∷ (map encode_utf8 cs ++ [] ∷ [])
 slices_over-starts x [] k e at end = grind arith
 slices_over-starts x (c ∷ cs) k e at end =
     let later = encode_utf8_all cs in
@@ -113,7 +113,7 @@ slices_over-parts-empty x utf8 = grind (arith, encodes-chars, parts-empty, slice
 -- They are in the text, in order.
 
 starts_in_turn : (x cs : List ℕ) (k d e : ℕ) → all_scalars cs ≡ true → drop k x ≡ encode_utf8_all cs → k + length (encode_utf8_all cs) ≡ length x → d ≤ e → e ≤ k → IsCharBoundary x e
-    → AreInTurn x d (intervals x e (starts k cs))
+    → AreInTurn x d (intervals_around x e (character_starts k cs))
 starts_in_turn x [] k d e scalars at end before from boundary = grind (arith, IsCharBoundary-end, IsCharBoundary-from_drop)
 starts_in_turn x (c ∷ cs) k d e scalars at end before from boundary =
     let later = encode_utf8_all cs in

@@ -34,7 +34,7 @@ pub use Rattle.ansi_style.specs.Rendition.{IsStyle, plain_style, has_any, known}
 pub use Rattle.ansi_style.specs.Written.{close, start, close_if_any, written, start_codes, written_all, close_codes, longest_close, longest_start_and_close}
 pub use Rattle.ansi_style.specs.Styled.{style_at, styled, StyledByte, unstyled, style_of}
 pub use Rattle.ansi_style.specs.States.{rendition_of}
-pub use Rattle.ansi_style.proofs.MarkLemmas.{further, marks_of-text, marks_of-mark, marks_up_to-none, marks_up_to-further, after_marks-further, style_by_marks, style_by_marks-before, style_by_marks-text, style_by_marks-mark, marks-bare}
+pub use Rattle.ansi_style.proofs.MarkLemmas.{mark_further_on, marks_of-text, marks_of-mark, marks_up_to-none, marks_up_to-further, after_marks-further, style_by_marks, style_by_marks-before, style_by_marks-text, style_by_marks-mark, marks-bare}
 pub use Rattle.ansi_style.proofs.ReadBackLemmas.{AreCodes, code_pieces, start_codes_are, close_codes_are}
 pub use Rattle.ansi_style.proofs.DressedLemmas.{dressed_pieces, GiveAlone, IsClosed, closed-spelled, Clears, spelled-dressed_pieces, dressed_pieces_stand, dressed_pieces_give}
 pub use Rattle.ansi_style.proofs.StyleLemmas.{IsStyle-plain_style, IsStyle-style_at, IsStyle-rendition_of}

@@ -38,35 +38,35 @@ intervals_come_after : (end n first last : ℕ) (taken : List ℕ) → end ≤ f
 intervals_come_after end n first last [] before rising = ((before, rising), tt)
 intervals_come_after end n first last (m ∷ ms) before rising = ((before, rising.0), intervals_come_after m n (m + n) last ms (omega arith) rising.1)
 
-none_before : (end : ℕ) (is : List (ℕ × ℕ)) → ComeAfter (Some end) is → ComeAfter None is
-none_before end [] after = tt
-none_before end (i ∷ is) after = (tt, after.1)
+ComeAfter-none : (end : ℕ) (is : List (ℕ × ℕ)) → ComeAfter (Some end) is → ComeAfter None is
+ComeAfter-none end [] after = tt
+ComeAfter-none end (i ∷ is) after = (tt, after.1)
 
 pub all_parts_come_after : (x p : List ℕ) → ComeAfter None (parts x p)
 all_parts_come_after x p =
     let taken = without_overlaps (length p) 0 (match_places x p) in
     let places_fit = filter_at_most (is_match x p) (length x) (range_with_len 0 (length x + 1)) (range_at_most 0 (length x + 1) (length x) (omega arith)) in
     let rising = without_overlaps_rises (length p) 0 0 (length x) (match_places x p) (omega arith) (omega arith) places_fit in
-    none_before 0 (parts x p) (intervals_come_after 0 (length p) 0 (length x) taken (omega arith) rising)
+    ComeAfter-none 0 (parts x p) (intervals_come_after 0 (length p) 0 (length x) taken (omega arith) rising)
 
 -- where the interval before that of index k ends, if there is one, else `before`
-abbrev pub end_after : Option ℕ → List (ℕ × ℕ) → ℕ → Option ℕ
-end_after before is zero = before
-end_after before is (suc k) = option_map (λ (i : ℕ × ℕ). i.1) (slice_get is k)
+abbrev pub end_before_index : Option ℕ → List (ℕ × ℕ) → ℕ → Option ℕ
+end_before_index before is zero = before
+end_before_index before is (suc k) = option_map (λ (i : ℕ × ℕ). i.1) (slice_get is k)
 
-pub end_after-suc : (before : Option ℕ) (i : ℕ × ℕ) (is : List (ℕ × ℕ)) (k : ℕ) → end_after before (i ∷ is) (suc k) ≡ end_after (Some i.1) is k
-end_after-suc before i is zero = refl
-end_after-suc before i is (suc k) = refl
+pub end_before_index-suc : (before : Option ℕ) (i : ℕ × ℕ) (is : List (ℕ × ℕ)) (k : ℕ) → end_before_index before (i ∷ is) (suc k) ≡ end_before_index (Some i.1) is k
+end_before_index-suc before i is zero = refl
+end_before_index-suc before i is (suc k) = refl
 
-pub end_after-none : (is : List (ℕ × ℕ)) (k : ℕ) → end_after None is k ≡ end_before is k
-end_after-none is zero = refl
-end_after-none is (suc k) = refl
+pub end_before_index-none : (is : List (ℕ × ℕ)) (k : ℕ) → end_before_index None is k ≡ end_before is k
+end_before_index-none is zero = refl
+end_before_index-none is (suc k) = refl
 
-comes_after : (before : Option ℕ) (is : List (ℕ × ℕ)) (k : ℕ) (i : ℕ × ℕ) → ComeAfter before is → slice_get is k ≡ Some i → ComesAfter (end_after before is k) i
-comes_after before [] k i after found = absurd (none-some i found)
-comes_after before (j ∷ is) zero i after found = subst (ComesAfter before) (cond_some true j i found).1 after.0
-comes_after before (j ∷ is) (suc k) i after found = subst (λ b. ComesAfter b i) (sym (end_after-suc before j is k)) (comes_after (Some j.1) is k i after.1 found)
+ComeAfter-slice_get : (before : Option ℕ) (is : List (ℕ × ℕ)) (k : ℕ) (i : ℕ × ℕ) → ComeAfter before is → slice_get is k ≡ Some i → ComesAfter (end_before_index before is k) i
+ComeAfter-slice_get before [] k i after found = absurd (none-some i found)
+ComeAfter-slice_get before (j ∷ is) zero i after found = subst (ComesAfter before) (cond_some true j i found).1 after.0
+ComeAfter-slice_get before (j ∷ is) (suc k) i after found = subst (λ b. ComesAfter b i) (sym (end_before_index-suc before j is k)) (ComeAfter-slice_get (Some j.1) is k i after.1 found)
 
 pub parts_come_after : (x p : List ℕ) (k : ℕ) (i : ℕ × ℕ) → slice_get (parts x p) k ≡ Some i → ComesAfter (end_before (parts x p) k) i
 parts_come_after x p k i found =
-    subst (λ b. ComesAfter b i) (end_after-none (parts x p) k) (comes_after None (parts x p) k i (all_parts_come_after x p) found)
+    subst (λ b. ComesAfter b i) (end_before_index-none (parts x p) k) (ComeAfter-slice_get None (parts x p) k i (all_parts_come_after x p) found)

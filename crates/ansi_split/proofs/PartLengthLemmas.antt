@@ -107,16 +107,16 @@ marks_of_one (Some e) i ms comes =
     (joined_among (own_places (Some e) i.1) (nat_lt i.1) (nat_lt e) ms (λ p own. (grind (arith, nat_tests), grind (arith, nat_tests))) (λ p later. grind (arith, nat_tests)))
 
 -- how many of n plain bytes are past the end of the part before
-abbrev remaining : Option ℕ → ℕ → ℕ
-remaining None n = n
-remaining (Some e) n = n - e
+abbrev bytes_past_part : Option ℕ → ℕ → ℕ
+bytes_past_part None n = n
+bytes_past_part (Some e) n = n - e
 
-bytes_of_one : (before : Option ℕ) (i : ℕ × ℕ) (x : List ℕ) → ComesAfter before i → length (slice_range x i.0 i.1) + (length x - i.1) ≤ remaining before (length x)
+bytes_of_one : (before : Option ℕ) (i : ℕ × ℕ) (x : List ℕ) → ComesAfter before i → length (slice_range x i.0 i.1) + (length x - i.1) ≤ bytes_past_part before (length x)
 bytes_of_one None i x comes = omega (arith, length-take (i.1 - i.0) (drop i.0 x), length-drop i.0 x)
 bytes_of_one (Some e) i x comes = omega (arith, comes.0, comes.1, length-take (i.1 - i.0) (drop i.0 x), length-drop i.0 x)
 
 shares_over : (t : List ℕ) (before : Option ℕ) (is : List (ℕ × ℕ)) → ComeAfter before is
-    → sum_by (λ (q : SplitPart). q.source_len) (parts_from plain_style t before is) ≤ remaining before (length (plain t)) + length (joined (marks_past before (marks t)))
+    → sum_by (λ (q : SplitPart). q.source_len) (parts_from plain_style t before is) ≤ bytes_past_part before (length (plain t)) + length (joined (marks_past before (marks t)))
 shares_over t before [] come = omega arith
 shares_over t before (i ∷ is) come =
     omega (

@@ -7,75 +7,75 @@ use Rattle.ansi_split.proofs.PartTextLemmas.{parts_over, all_parts-over}
 
 -- Among pieces.
 
-abbrev others : List Piece → List Piece
-others ps = filter is_other ps
+abbrev other_pieces : List Piece → List Piece
+other_pieces ps = filter is_other ps
 
-others-after_text : (w : List ℕ) (ps : List Piece) → others (after_text w ps) ≡ others ps
+others-after_text : (w : List ℕ) (ps : List Piece) → other_pieces (after_text w ps) ≡ other_pieces ps
 others-after_text w (Text v ∷ ps) = refl
 others-after_text w ps = refl
 
-others-merged : (ps : List Piece) → others (merged ps) ≡ others ps
+others-merged : (ps : List Piece) → other_pieces (merged ps) ≡ other_pieces ps
 others-merged [] = refl
 others-merged (Text w ∷ ps) = others-after_text w (merged ps) ∙ others-merged ps
 others-merged (p ∷ ps) = ap (λ qs. if is_other p then p ∷ qs else qs) (others-merged ps)
 
-other_sequences-spelled : (ps : List Piece) → AllStandAnywhere ps → other_sequences (spelled ps) ≡ others ps
-other_sequences-spelled ps stand = ap others (pieces_of-spelled ps stand) ∙ others-merged ps
+other_sequences-spelled : (ps : List Piece) → AllStandAnywhere ps → other_sequences (spelled ps) ≡ other_pieces ps
+other_sequences-spelled ps stand = ap other_pieces (pieces_of-spelled ps stand) ∙ others-merged ps
 
 -- what is written for codes is SGRs alone
-others-code_pieces : {n : ℕ} (xs : List (List ℕ)) → AreCodes xs n → others (code_pieces xs) ≡ []
+others-code_pieces : {n : ℕ} (xs : List (List ℕ)) → AreCodes xs n → other_pieces (code_pieces xs) ≡ []
 others-code_pieces xs are = by_each xs are.each
   where
-    by_each : (xs : List (List ℕ)) → list_all (list_all is_code_byte) xs ≡ true → others (code_pieces xs) ≡ []
+    by_each : (xs : List (List ℕ)) → list_all (list_all is_code_byte) xs ≡ true → other_pieces (code_pieces xs) ≡ []
     by_each [] each = refl
     by_each (x ∷ xs) each =
         let both = and_parts (list_all is_code_byte x) (list_all (list_all is_code_byte) xs) each in
         let sgr : is_sgr (written x) ≡ true = ap is_some (sgr_parameters-written x both.0) in
-        cond-false (is_other (Sequence (written x))) (Sequence (written x) ∷ others (code_pieces xs)) (others (code_pieces xs)) (ap not sgr) ∙ by_each xs both.1
+        cond-false (is_other (Sequence (written x))) (Sequence (written x) ∷ other_pieces (code_pieces xs)) (other_pieces (code_pieces xs)) (ap not sgr) ∙ by_each xs both.1
 
-others-dressed_pieces : {n : ℕ} (s : Rendition) (ps : List Piece) (xs : List (List ℕ)) → IsStyle s → AreCodes xs n → others (dressed_pieces s ps xs) ≡ others ps
+others-dressed_pieces : {n : ℕ} (s : Rendition) (ps : List Piece) (xs : List (List ℕ)) → IsStyle s → AreCodes xs n → other_pieces (dressed_pieces s ps xs) ≡ other_pieces ps
 others-dressed_pieces s ps xs is are =
     filter-append is_other (code_pieces (start_codes s) ++ ps) (code_pieces xs)
     ∙ ap₂ (λ u v. u ++ v)
-    (filter-append is_other (code_pieces (start_codes s)) ps ∙ ap (λ u. u ++ others ps) (others-code_pieces (start_codes s) (start_codes_are s is)))
+    (filter-append is_other (code_pieces (start_codes s)) ps ∙ ap (λ u. u ++ other_pieces ps) (others-code_pieces (start_codes s) (start_codes_are s is)))
     (others-code_pieces xs are)
-    ∙ append-nil (others ps)
+    ∙ append-nil (other_pieces ps)
 
 -- Among what is shown of pieces: which bytes are shown doesn't matter.
 
-others-one_text : (w : List ℕ) → others (one_text w) ≡ []
+others-one_text : (w : List ℕ) → other_pieces (one_text w) ≡ []
 others-one_text [] = refl
 others-one_text (b ∷ w) = refl
 
-others-interleaved_pieces : (ps : List Piece) (test : ℕ → Bool) (a b c d : ℕ) → others (interleaved_pieces test a b ps) ≡ others (interleaved_pieces test c d ps)
+others-interleaved_pieces : (ps : List Piece) (test : ℕ → Bool) (a b c d : ℕ) → other_pieces (interleaved_pieces test a b ps) ≡ other_pieces (interleaved_pieces test c d ps)
 others-interleaved_pieces [] test a b c d = refl
 others-interleaved_pieces (Text w ∷ ps) test a b c d = grind (arith, filter-append, others-one_text, others-interleaved_pieces ps (λ p. test (length w + p)) (a - length w) (b - length w) (c - length w) (d - length w))
 others-interleaved_pieces (p ∷ ps) test a b c d = grind (arith, filter-append, others-interleaved_pieces ps test a b c d)
 
 -- if each place up to the end passes, they are all
-others-interleaved_all : (ps : List Piece) (test : ℕ → Bool) → ((p : ℕ) → p ≤ length (plain_of ps) → test p ≡ true) → others (interleaved_pieces test 0 0 ps) ≡ others ps
+others-interleaved_all : (ps : List Piece) (test : ℕ → Bool) → ((p : ℕ) → p ≤ length (plain_of ps) → test p ≡ true) → other_pieces (interleaved_pieces test 0 0 ps) ≡ other_pieces ps
 others-interleaved_all [] test all = refl
 others-interleaved_all (Text w ∷ ps) test all = grind (arith, filter-append, length-append, others-one_text, others-interleaved_pieces, others-interleaved_all ps (λ p. test (length w + p)) (λ p within. all (length w + p) (omega (arith, within, length-append w (plain_of ps)))))
 others-interleaved_all (p ∷ ps) test all = grind (arith, others-interleaved_all ps test all)
 
 -- In a part they are those that it shows.
 
-no_marks : (ms : List Mark) → length ms ≡ 0 → ms ≡ []
-no_marks [] none = refl
-no_marks (m ∷ ms) none = absurd (omega (arith, none))
+no_marks_if_length_0 : (ms : List Mark) → length ms ≡ 0 → ms ≡ []
+no_marks_if_length_0 [] none = refl
+no_marks_if_length_0 (m ∷ ms) none = absurd (omega (arith, none))
 
-other_sequences-part_over : (t : List ℕ) (before : Option ℕ) (i : ℕ × ℕ) → IsTrue (is_whole t) → other_sequences (part_over t before i) ≡ others (own_pieces t before i)
+other_sequences-part_over : (t : List ℕ) (before : Option ℕ) (i : ℕ × ℕ) → IsTrue (is_whole t) → other_sequences (part_over t before i) ≡ other_pieces (own_pieces t before i)
 unfolding part_from
 other_sequences-part_over t before i whole =
     let x = plain t in
     let own = marks_past before (marks_up_to i.1 (marks t)) in
     let q = style_at t i.1 in
-    cond_both (i.0 == i.1 && length own == 0) [] (start (carried plain_style t before) ++ interleaved x i.0 i.1 own ++ close_if_any q) (λ u. other_sequences u ≡ others (own_pieces t before i))
+    cond_both (i.0 == i.1 && length own == 0) [] (start (carried plain_style t before) ++ interleaved x i.0 i.1 own ++ close_if_any q) (λ u. other_sequences u ≡ other_pieces (own_pieces t before i))
     (λ none.
     let both = and_parts (i.0 == i.1) (length own == 0) none in
     let same : i.0 ≡ i.1 = eqb-true i.0 i.1 both.0 in
     let nothing : spelled (own_pieces t before i) ≡ []
-    = spelled-own_pieces t before i ∙ ap (interleaved x i.0 i.1) (no_marks own (eqb-true (length own) 0 both.1)) ∙ interleaved-bare x i.0 i.1 ∙ slice_range-none x i.0 i.1 (omega (arith, same)) in
+    = spelled-own_pieces t before i ∙ ap (interleaved x i.0 i.1) (no_marks_if_length_0 own (eqb-true (length own) 0 both.1)) ∙ interleaved-bare x i.0 i.1 ∙ slice_range-none x i.0 i.1 (omega (arith, same)) in
     ap other_sequences (sym nothing) ∙ other_sequences-spelled (own_pieces t before i) (own_pieces_stand t before i whole))
     (λ some. ap other_sequences (sym (spelled-part_pieces t before i))
     ∙ other_sequences-spelled (part_pieces t before i) (part_pieces_stand t before i whole)
@@ -84,12 +84,12 @@ other_sequences-part_over t before i whole =
 -- So in the parts in turn, after those of the parts before, they are those up to the end of the last.
 
 abbrev others_up_to : List ℕ → Option ℕ → List Piece
-others_up_to t end = others (interleaved_pieces (earlier_places end) 0 0 (pieces_of t))
+others_up_to t end = other_pieces (interleaved_pieces (earlier_places end) 0 0 (pieces_of t))
 
-others-next : (t : List ℕ) (before : Option ℕ) (i : ℕ × ℕ) → ComesAfter before i → others_up_to t before ++ others (own_pieces t before i) ≡ others_up_to t (Some i.1)
+others-next : (t : List ℕ) (before : Option ℕ) (i : ℕ × ℕ) → ComesAfter before i → others_up_to t before ++ other_pieces (own_pieces t before i) ≡ others_up_to t (Some i.1)
 others-next t before i after =
     sym (filter-append is_other (interleaved_pieces (earlier_places before) 0 0 (pieces_of t)) (own_pieces t before i))
-    ∙ ap others (all_pieces t before i after) ∙ others-interleaved_pieces (pieces_of t) (λ p. nat_le p i.1) i.0 i.1 0 0
+    ∙ ap other_pieces (all_pieces t before i after) ∙ others-interleaved_pieces (pieces_of t) (λ p. nat_le p i.1) i.0 i.1 0 0
 
 -- where the last of the intervals ends, or else those before
 abbrev last_end : Option ℕ → List (ℕ × ℕ) → Option ℕ
@@ -115,7 +115,7 @@ other_sequences-all_parts t p whole =
     let is = parts x p in
     let given = flat_map other_sequences (parts_over t None is) in
     ap (flat_map other_sequences) (all_parts-over t p)
-    ∙ ap (λ qs. others qs ++ given) (sym (interleaved_pieces-nothing (earlier_places None) 0 0 (pieces_of t) (λ p. refl) (omega arith)))
+    ∙ ap (λ qs. other_pieces qs ++ given) (sym (interleaved_pieces-nothing (earlier_places None) 0 0 (pieces_of t) (λ p. refl) (omega arith)))
     ∙ others-parts_over t None is whole (all_parts_come_after x p)
     ∙ ap (others_up_to t) (last_end-intervals None (length p) 0 (length x) (without_overlaps (length p) 0 (match_places x p)))
     ∙ others-interleaved_all (pieces_of t) (λ p. nat_le p (length x)) (λ p within. le-leb p (length x) within)

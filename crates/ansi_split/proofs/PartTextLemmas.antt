@@ -3,7 +3,7 @@ use Rattle.ansi_split.proofs.Common.{◌≡◌, ◌≢◌, ℕ, suc, ◌+◌, �
 use Rattle.std.specs.Prelude.{option_map}
 use Rattle.std.proofs.lemmas.List.FromFn.{length-range_with_len}
 use Rattle.std.proofs.lemmas.Slice.Zip.{length-zip}
-use Rattle.ansi_split.proofs.IntervalLemmas.{ComesAfter, parts_come_after, end_after, end_after-suc, end_after-none}
+use Rattle.ansi_split.proofs.IntervalLemmas.{ComesAfter, parts_come_after, end_before_index, end_before_index-suc, end_before_index-none}
 use Rattle.ansi_split.proofs.PartSliceLemmas.{part_over_is}
 use Rattle.ansi_split.proofs.StdSplitLemmas.{parts_are_split}
 use Rattle.ansi_split.proofs.CharacterLemmas.{slices_over-parts-empty}
@@ -41,21 +41,21 @@ parts_over t before is = map (λ (q : SplitPart). q.bytes) (parts_from plain_sty
 
 -- if h gives the part of each index, from a on
 filter_map-parts : (t : List ℕ) (h : ℕ → Option (List ℕ)) (before : Option ℕ) (is : List (ℕ × ℕ)) (a : ℕ)
-    → ((j : ℕ) → h (a + j) ≡ option_map (part_over t (end_after before is j)) (slice_get is j)) → filter_map h (range_with_len a (length is)) ≡ parts_over t before is
+    → ((j : ℕ) → h (a + j) ≡ option_map (part_over t (end_before_index before is j)) (slice_get is j)) → filter_map h (range_with_len a (length is)) ≡ parts_over t before is
 filter_map-parts t h before [] a gives = refl
 filter_map-parts t h before (i ∷ is) a gives =
     let same : a ≡ a + 0 = omega arith in
     let next : (j : ℕ) → a + 1 + j ≡ a + suc j = λ j. omega arith in
     ap₂ (λ o us. cons_option o us) (ap h same ∙ gives 0)
     (filter_map-parts t h (Some i.1) is (a + 1)
-    (λ j. ap h (next j) ∙ gives (suc j) ∙ ap (λ b. option_map (part_over t b) (slice_get is j)) (end_after-suc before i is j)))
+    (λ j. ap h (next j) ∙ gives (suc j) ∙ ap (λ b. option_map (part_over t b) (slice_get is j)) (end_before_index-suc before i is j)))
 
 pub all_parts-over : (t p : List ℕ) → all_parts t p ≡ parts_over t None (parts (plain t) p)
 all_parts-over t p =
     let is = parts (plain t) p in
     let first : (j : ℕ) → 0 + j ≡ j = λ j. omega arith in
     filter_map-parts t (part t p) None is 0
-    (λ j. ap (part t p) (first j) ∙ ap (λ b. option_map (part_over t b) (slice_get is j)) (sym (end_after-none is j)))
+    (λ j. ap (part t p) (first j) ∙ ap (λ b. option_map (part_over t b) (slice_get is j)) (sym (end_before_index-none is j)))
 
 length-parts_over : (t : List ℕ) (before : Option ℕ) (is : List (ℕ × ℕ)) → length (parts_over t before is) ≡ length is
 length-parts_over t before [] = refl
@@ -67,16 +67,16 @@ length-all_parts t p = ap length (all_parts-over t p) ∙ length-parts_over t No
 -- if g reads each part as v does its interval
 
 map-parts_over : {Z : Type 0} (t : List ℕ) (g : List ℕ → Z) (v : ℕ × ℕ → Z) (before : Option ℕ) (is : List (ℕ × ℕ))
-    → ((k : ℕ) (i : ℕ × ℕ) → slice_get is k ≡ Some i → g (part_over t (end_after before is k) i) ≡ v i) → map g (parts_over t before is) ≡ map v is
+    → ((k : ℕ) (i : ℕ × ℕ) → slice_get is k ≡ Some i → g (part_over t (end_before_index before is k) i) ≡ v i) → map g (parts_over t before is) ≡ map v is
 map-parts_over t g v before [] reads = refl
 map-parts_over t g v before (i ∷ is) reads =
     ap₂ (λ y ys. y ∷ ys) (reads 0 i refl)
-    (map-parts_over t g v (Some i.1) is (λ k j found. ap (λ b. g (part_over t b j)) (sym (end_after-suc before i is k)) ∙ reads (suc k) j found))
+    (map-parts_over t g v (Some i.1) is (λ k j found. ap (λ b. g (part_over t b j)) (sym (end_before_index-suc before i is k)) ∙ reads (suc k) j found))
 
 pub map-all_parts : {Z : Type 0} (t p : List ℕ) (g : List ℕ → Z) (v : ℕ × ℕ → Z)
     → ((k : ℕ) (i : ℕ × ℕ) → slice_get (parts (plain t) p) k ≡ Some i → g (part_over t (end_before (parts (plain t) p) k) i) ≡ v i)
     → map g (all_parts t p) ≡ map v (parts (plain t) p)
-map-all_parts t p g v reads = grind (arith, all_parts-over, end_after-none, map-parts_over)
+map-all_parts t p g v reads = grind (arith, all_parts-over, end_before_index-none, map-parts_over)
 
 pub plain-all_parts : (t p : List ℕ) → IsTrue (is_whole t) → map plain (all_parts t p) ≡ slices_over (plain t) (parts (plain t) p)
 plain-all_parts t p whole =

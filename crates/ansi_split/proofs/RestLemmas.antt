@@ -12,14 +12,14 @@ bytes_before-after_text : (e : ℕ) (w : List ℕ) (ps : List Piece) → e < len
 bytes_before-after_text e w (Text v ∷ ps) inside = bytes_before-last e (w ++ v) ps (omega (arith, length-append w v))
 bytes_before-after_text e w ps inside = bytes_before-last e w ps inside
 
-filled : (w : List ℕ) (k : ℕ) → k < length w → w ≢ []
-filled [] k inside = absurd (omega arith)
-filled (b ∷ w) k inside = λ e. cc
+nonempty_if_within : (w : List ℕ) (k : ℕ) → k < length w → w ≢ []
+nonempty_if_within [] k inside = absurd (omega arith)
+nonempty_if_within (b ∷ w) k inside = λ e. cc
 
 -- The first match from a place on, if it may be looked for from a later one.
 
-first_later : (x p : List ℕ) (from k : ℕ) → from ≤ k → Nowhere (IsMatch x p) from k → first_match_from x p k ≡ first_match_from x p from
-first_later x p from k before none = first_match_from-is x p from (first_match_from x p k) (widened (first_match_from x p k) (first_match_from-first x p k))
+first_match_from-later : (x p : List ℕ) (from k : ℕ) → from ≤ k → Nowhere (IsMatch x p) from k → first_match_from x p k ≡ first_match_from x p from
+first_match_from-later x p from k before none = first_match_from-is x p from (first_match_from x p k) (widened (first_match_from x p k) (first_match_from-first x p k))
   where
     not_before : (j : ℕ) → Nowhere (IsMatch x p) k j → Nowhere (IsMatch x p) from j
     not_before j later i low high match = elim (cases_lt i k) [ inl front ↦ none i low front match | inr after ↦ later i after high match ]
@@ -31,15 +31,15 @@ first_later x p from k before none = first_match_from-is x p from (first_match_f
         let low : k ≤ m = found.low in
         (record { low = omega (arith, before, low); high = found.high; before = not_before m found.before }, later.1)
 
-first_again : (x p : List ℕ) (from m : ℕ) → first_match_from x p from ≡ Some m → first_match_from x p m ≡ Some m
-first_again x p from m found =
+first_match_from-again : (x p : List ℕ) (from m : ℕ) → first_match_from x p from ≡ Some m → first_match_from x p m ≡ Some m
+first_match_from-again x p from m found =
     let first = subst (IsFirst (IsMatch x p) from (length x + 1)) found (first_match_from-first x p from) in
     let one : NoneBefore (IsMatch x p) from (length x + 1) m = first.0 in
     sym (first_match_from-is x p m (Some m) (record { low = omega arith; high = one.high; before = λ k low high. absurd (omega (arith, low, high)) }, first.1))
 
 -- the first start in a run is the first from there on
-pub start_again : (x p : List ℕ) (from m : ℕ) → first_match_from x p from ≡ Some m → first_match_from x p m ≡ first_match_from x p from
-start_again x p from m found = first_again x p from m found ∙ sym found
+pub first_match_from-match : (x p : List ℕ) (from m : ℕ) → first_match_from x p from ≡ Some m → first_match_from x p m ≡ first_match_from x p from
+first_match_from-match x p from m found = first_match_from-again x p from m found ∙ sym found
 
 -- A match that begins in the run, which is a front of x.
 
@@ -84,7 +84,7 @@ start_after_run t w p run from is bare inside before fits none =
     let x = plain-front t w run is bare in
     let size : length w ≡ run = ap length is ∙ length-take-le run t inside in
     ap₂ (λ v k. first_match_from v p k) x (sym size)
-    ∙ first_later (w ++ y) p from (length w) (omega (arith, size, before)) (λ i low high match. none i low high (sym (is_match-front w y p i high (fits y i high match)) ∙ match))
+    ∙ first_match_from-later (w ++ y) p from (length w) (omega (arith, size, before)) (λ i low high match. none i low high (sym (is_match-front w y p i high (fits y i high match)) ∙ match))
     ∙ ap (λ v. first_match_from v p from) (sym x)
 
 -- the first match of all, or a place past the end if there is none
@@ -93,7 +93,7 @@ first_or_past x p from past below = by_match (first_match_from x p from) refl
   where
     by_match : (r : Option ℕ) → first_match_from x p from ≡ r → first_match_from x p (unwrap_or r past) ≡ r
     by_match None none = sym (first_match_from-is x p past None (λ k low high. absurd (omega (arith, low, high, below))))
-    by_match (Some m) found = first_again x p from m found
+    by_match (Some m) found = first_match_from-again x p from m found
 
 pub here_or_past : (r : Option ℕ) (past run : ℕ) → run ≤ past → unwrap_or r past < run → r ≡ Some (unwrap_or r past)
 here_or_past None past run top below = absurd (omega (arith, top, below))
@@ -114,7 +114,7 @@ cut_in_run t p from run start utf8 utf8_p inside none before found =
     let rest = drop run t in
     let size : length w ≡ run = length-take-le run t inside in
     let pieces : pieces_of t ≡ after_text w (pieces_of rest)
-    = ap pieces_of (sym (take-append-drop run t)) ∙ pieces_of-run w rest (filled w start (omega (arith, size, before))) (all_plain_bytes w none) in
+    = ap pieces_of (sym (take-append-drop run t)) ∙ pieces_of-run w rest (nonempty_if_within w start (omega (arith, size, before))) (all_plain_bytes w none) in
     is_cut_at_match t p from start (take start t) (drop start t) utf8 utf8_p found
     (is_cut_after t start start (sym (ap (bytes_before start) pieces ∙ bytes_before-after_text start w (pieces_of rest) (omega (arith, size, before)))))
 

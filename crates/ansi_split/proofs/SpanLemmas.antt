@@ -1,7 +1,7 @@
 -- The parts that are left of a text: the first one, which is written from the text up to its end, and those of what follows.
 use Rattle.ansi_split.proofs.Common.{◌≡◌, ℕ, ◌+◌, ◌-◌, ◌≤◌, max, inl, inr, Bool, not, ◌&&◌, ◌||◌, ◌==◌, List, [], ◌∷◌, ◌++◌, length, map, take, drop, Option, Some, None, refl, sym, ◌∙◌, ap, ap₂, subst, arith, IsTrue, if◌then◌else◌, nat_eq, nat_lt, nat_le, length-append, cases_lt, and_parts, and_from, le-leb, nat_tests, length-map, length-drop, length-take-le, get_or-take, take_at, take-append-drop, filter_agree, IsUtf8-drop, IsCharBoundary-from_take, IsCharBoundary-start, starts_with, IsUtf8, pieces_of, Mark, plain, marks, marks_up_to, no_character_goes_on, is_char_boundary, Rendition, has_any, start, close_if_any, after_marks, style_after_from, style_within, interleaved, match_places, first_match_from, without_overlaps, marks_past, SplitPart, marks_further_on, IsCutAfter, IsCutAtMatch, carried, part_from, parts_from, parts_left, span_part, slice_range-from_past, marks_up_to-marks_past, interleaved-text, IsUtf8-plain, at_places, at_places-further, good_is_boundary, no_character_goes_on-past, is_char_boundary-from, starts_with-splits}
 use Rattle.ansi_split.proofs.PartSliceLemmas.{own_places, marks_past-places, at_places-at_places}
-use Rattle.ansi_split.proofs.TakenLemmas.{is_first_taken, without_overlaps-none, between, between-further, moved_on}
+use Rattle.ansi_split.proofs.TakenLemmas.{is_first_taken, without_overlaps-none, intervals_between, intervals_between-further, moved_on}
 
 -- The marks of a part.
 
@@ -33,27 +33,27 @@ own-after (Some e) m b ms ks is = own-further (own_places (Some (m + e)) (m + b)
 
 -- A part by what it is made of.
 
-abbrev made_of : Bool → ℕ → Rendition → List ℕ → Rendition → SplitPart
-made_of same n style shown last = record {
+abbrev part_made_of : Bool → ℕ → Rendition → List ℕ → Rendition → SplitPart
+part_made_of same n style shown last = record {
   bytes = if same && n == 0 then [] else start style ++ shown ++ close_if_any last;
   borrowed = n == 0 && (same || not (has_any style));
   source_len = length shown;
 }
 
-made_of-alike : {same same' : Bool} {n n' : ℕ} {style style' last last' : Rendition} {shown shown' : List ℕ} → same ≡ same' → n ≡ n' → style ≡ style' → shown ≡ shown' → last ≡ last'
-    → made_of same n style shown last ≡ made_of same' n' style' shown' last'
-made_of-alike {same} {same'} {n} {n'} {style} {style'} {last} {last'} {shown} {shown'} a b c d e =
-    ap₂ (λ s k. made_of s k style shown last) a b ∙ ap₂ (λ r v. made_of same' n' r v last) c d ∙ ap (made_of same' n' style' shown') e
+part_made_of-alike : {same same' : Bool} {n n' : ℕ} {style style' last last' : Rendition} {shown shown' : List ℕ} → same ≡ same' → n ≡ n' → style ≡ style' → shown ≡ shown' → last ≡ last'
+    → part_made_of same n style shown last ≡ part_made_of same' n' style' shown' last'
+part_made_of-alike {same} {same'} {n} {n'} {style} {style'} {last} {last'} {shown} {shown'} a b c d e =
+    ap₂ (λ s k. part_made_of s k style shown last) a b ∙ ap₂ (λ r v. part_made_of same' n' r v last) c d ∙ ap (part_made_of same' n' style' shown') e
 
 part_from-made : (c : Rendition) (t : List ℕ) (before : Option ℕ) (i : ℕ × ℕ) → part_from c t before i
-    ≡ made_of (i.0 == i.1) (length (marks_past before (marks_up_to i.1 (marks t)))) (carried c t before) (interleaved (plain t) i.0 i.1 (marks_past before (marks_up_to i.1 (marks t)))) (style_within c t i.1)
+    ≡ part_made_of (i.0 == i.1) (length (marks_past before (marks_up_to i.1 (marks t)))) (carried c t before) (interleaved (plain t) i.0 i.1 (marks_past before (marks_up_to i.1 (marks t)))) (style_within c t i.1)
 unfolding part_from
 part_from-made c t before i = refl
 
 -- The part up to m, by the front of the text that is cut there.
 
 part-front : (c : Rendition) (t : List ℕ) (skip m : ℕ) (front after : List ℕ) → m ≤ length (plain t) → IsCutAfter t m front after → part_from c t None (skip, m) ≡ span_part c front skip
-part-front c t skip m front after inside cut = grind (arith, length-take-le, made_of-alike, own-whole, part_from-made, marks_past-none, marks_up_to-marks_past)
+part-front c t skip m front after inside cut = grind (arith, length-take-le, part_made_of-alike, own-whole, part_from-made, marks_past-none, marks_up_to-marks_past)
 
 -- The parts after m, by the text after the cut.
 
@@ -82,7 +82,7 @@ part-after c t m front after later i inside cut =
     let shown : interleaved (plain t) (m + i.0) (m + i.1) (marks_past before (marks_up_to (m + i.1) (marks t))) ≡ interleaved (plain after) i.0 i.1 ks
     = ap (interleaved (plain t) (m + i.0) (m + i.1)) own ∙ interleaved-after (plain t) m i.0 i.1 ks inside ∙ ap (λ x. interleaved x i.0 i.1 ks) (sym cut.plain_after) in
     part_from-made c t before (moved_on m i)
-    ∙ made_of-alike same (ap length own ∙ length-map ks _) (carried-after c t m front after later cut) shown (cut.styles_after_from c i.1)
+    ∙ part_made_of-alike same (ap length own ∙ length-map ks _) (carried-after c t m front after later cut) shown (cut.styles_after_from c i.1)
     ∙ sym (part_from-made (style_within c t m) after later i)
 
 parts-after : (c : Rendition) (t : List ℕ) (m : ℕ) (front after : List ℕ) (later : Option ℕ) (is : List (ℕ × ℕ)) → m ≤ length (plain t) → IsCutAfter t m front after
@@ -95,7 +95,7 @@ parts-after c t m front after later (i ∷ is) inside cut = ap₂ (λ p ps. p �
 pub parts_left-last : (c : Rendition) (t p : List ℕ) (skip from : ℕ) → first_match_from (plain t) p from ≡ None → parts_left c t p skip from ≡ span_part c t skip ∷ []
 unfolding parts_left
 parts_left-last c t p skip from none =
-    ap (λ taken. parts_from c t None (between (length p) skip (length (plain t)) taken)) (without_overlaps-none (length p) from (match_places (plain t) p) none)
+    ap (λ taken. parts_from c t None (intervals_between (length p) skip (length (plain t)) taken)) (without_overlaps-none (length p) from (match_places (plain t) p) none)
 
 -- and with one at m, the first is what comes before it.
 pub parts_left-first : (c : Rendition) (t p : List ℕ) (skip from : ℕ) (front after : List ℕ) → IsCutAtMatch t p from front after
@@ -110,14 +110,14 @@ parts_left-first c t p skip from front after at_match =
     let first = is_first_taken x p from m found in
     let ms = without_overlaps n (max n 1) (match_places (drop m x) p) in
     let size : length x ≡ m + length (drop m x) = omega (arith, first.inside, length-drop m x) in
-    let moved : between n (m + n) (length x) (map (λ k. m + k) ms) ≡ map (moved_on m) (between n n (length (drop m x)) ms)
-    = ap (λ e. between n (m + n) e (map (λ k. m + k) ms)) size ∙ between-further n n (length (drop m x)) m ms in
+    let moved : intervals_between n (m + n) (length x) (map (λ k. m + k) ms) ≡ map (moved_on m) (intervals_between n n (length (drop m x)) ms)
+    = ap (λ e. intervals_between n (m + n) e (map (λ k. m + k) ms)) size ∙ intervals_between-further n n (length (drop m x)) m ms in
     let style : style_within c t m ≡ style_after_from c front = ap (after_marks c) (sym cut.marks_front) in
-    ap (λ taken. parts_from c t None (between n skip (length x) taken)) first.taken
+    ap (λ taken. parts_from c t None (intervals_between n skip (length x) taken)) first.taken
     ∙ ap₂ (λ p ps. p ∷ ps)
     (part-front c t skip m front after first.inside cut)
-    (ap (parts_from c t (Some m)) moved ∙ parts-after c t m front after None (between n n (length (drop m x)) ms) first.inside cut
-    ∙ ap₂ (λ s y. parts_from s after None (between n n (length y) (without_overlaps n (max n 1) (match_places y p)))) style (sym cut.plain_after))
+    (ap (parts_from c t (Some m)) moved ∙ parts-after c t m front after None (intervals_between n n (length (drop m x)) ms) first.inside cut
+    ∙ ap₂ (λ s y. parts_from s after None (intervals_between n n (length y) (without_overlaps n (max n 1) (match_places y p)))) style (sym cut.plain_after))
 
 -- The plain bytes that are left out end with a character.
 
@@ -139,9 +139,9 @@ skip_in_front t p skip from front after at_match before boundary =
       | inr end ↦ no_character_goes_on-past (take m x) skip (omega (arith, size, end))
     ])
 
-match_ends : (t p : List ℕ) (from m : ℕ) (front after : List ℕ) → IsUtf8 t → IsUtf8 p → first_match_from (plain t) p from ≡ Some m → IsCutAfter t m front after
+match_end-boundary : (t p : List ℕ) (from m : ℕ) (front after : List ℕ) → IsUtf8 t → IsUtf8 p → first_match_from (plain t) p from ≡ Some m → IsCutAfter t m front after
     → IsTrue (is_char_boundary (plain after) (length p))
-match_ends t p from m front after utf8 utf8_p found cut =
+match_end-boundary t p from m front after utf8 utf8_p found cut =
     let x = plain t in
     let first = is_first_taken x p from m found in
     let both = and_parts (is_char_boundary x m) (starts_with nat_eq (drop m x) p) first.matches in
@@ -155,7 +155,7 @@ match_ends t p from m front after utf8 utf8_p found cut =
 
 pub is_cut_at_match : (t p : List ℕ) (from m : ℕ) (front after : List ℕ) → IsUtf8 t → IsUtf8 p → first_match_from (plain t) p from ≡ Some m → IsCutAfter t m front after
     → IsCutAtMatch t p from front after
-is_cut_at_match t p from m front after utf8 utf8_p found cut = record { place = m; first = found; cut = cut; match_end = match_ends t p from m front after utf8 utf8_p found cut }
+is_cut_at_match t p from m front after utf8 utf8_p found cut = record { place = m; first = found; cut = cut; match_end = match_end-boundary t p from m front after utf8 utf8_p found cut }
 
 -- a match is at a good position
 pub match_is_good : (x p : List ℕ) (from m : ℕ) → first_match_from x p from ≡ Some m → IsTrue (no_character_goes_on x m)

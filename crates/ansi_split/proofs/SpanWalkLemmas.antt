@@ -23,8 +23,8 @@ pub record IsShownSoFar (whole written : List ℕ) (skip : ℕ) (left : List Pie
   pub good : IsTrue (no_character_goes_on (plain_of left) skip)
 
 -- a text in front
-interleaved-front : (w : List ℕ) (ps : List Piece) (a : ℕ) → left_of a (Text w ∷ ps) ≡ drop a w ++ left_of (a - length w) ps
-interleaved-front w ps a =
+left_of-text_before : (w : List ℕ) (ps : List Piece) (a : ℕ) → left_of a (Text w ∷ ps) ≡ drop a w ++ left_of (a - length w) ps
+left_of-text_before w ps a =
     let x = plain_of ps in
     let all : length (w ++ x) ≡ length w + length x = length-append w x in
     let rest : length (w ++ x) - length w ≡ length x = omega (arith, all) in
@@ -37,7 +37,7 @@ pub shown-skip : {whole written : List ℕ} {skip later : ℕ} {w : List ℕ} {l
 shown-skip {whole} {written} {skip} {later} {w} {left} {ps} so_far is out later_is =
     let first = subst (IsShownSoFar whole written skip) is so_far in
     let step : IsShownSoFar whole written (skip - length w) ps = record {
-      shown = ap (λ u. written ++ u) (sym (interleaved-front w ps skip ∙ ap (λ u. u ++ left_of (skip - length w) ps) (drop_all skip w (omega (arith, out))))) ∙ first.shown;
+      shown = ap (λ u. written ++ u) (sym (left_of-text_before w ps skip ∙ ap (λ u. u ++ left_of (skip - length w) ps) (drop_all skip w (omega (arith, out))))) ∙ first.shown;
       good = sym (no_character_goes_on-after w (plain_of ps) skip (omega (arith, out))) ∙ first.good;
     } in
     rw later_is step
@@ -55,7 +55,7 @@ shown-rest {t} {whole} {written} {last} {v} {skip} {begin} {at} {next} {w} {left
     let none : skip - length w ≡ 0 = omega (arith, inside) in
     let rest : left_of (skip - length w) ps ≡ are.0 = ap₂ left_of none (pieces_of-unique are.0 ps are.3) ∙ left_of-rest are.0 in
     let bytes : v ≡ drop skip w ++ are.0 = v_is ∙ ap (λ k. drop (k + skip) t) begin_is ∙ sym (drop-drop skip at t) ∙ ap (drop skip) are.1 ∙ drop-append-le skip w are.0 inside in
-    last_is ∙ ap (λ u. written ++ u) (bytes ∙ ap (λ u. drop skip w ++ u) (sym rest) ∙ sym (interleaved-front w ps skip)) ∙ first.shown
+    last_is ∙ ap (λ u. written ++ u) (bytes ∙ ap (λ u. drop skip w ++ u) (sym rest) ∙ sym (left_of-text_before w ps skip)) ∙ first.shown
 
 -- a character begins there
 pub shown-boundary : {t : List ℕ} {begin at next : ℕ} {w : List ℕ} {left ps : List Piece} (skip : ℕ) → IsTrue (no_character_goes_on (plain_of left) skip) → IsOverText t w at next left ps → skip ≤ length w

@@ -1,7 +1,7 @@
 -- The parts that a split gives: those of the text, each by its index; and a part that is written or borrowed.
-use Rattle.ansi_split.proofs.Common.{◌≡◌, Bool, unwrap_or, ℕ, zero, suc, ◌+◌, ◌≤◌, true, false, not, ◌&&◌, ◌||◌, ◌==◌, List, [], ◌∷◌, ◌++◌, length, map, drop, Option, Some, None, option_map, refl, sym, ◌∙◌, ap, ap₂, arith, IsTrue, IsFalse, if◌then◌else◌, slice_get, append-nil, eqb-true, eq-eqb, ne_eqb, cond_both, or_from, and_parts, and_from, and-false, or-true, none-some, same_Some, drop_all, list_any-append, range_with_len, list_all, escape, Piece, Text, ArePieces, pieces_of, Mark, plain, marks_of, marks, marks_up_to, has_escape, Rendition, plain_style, has_any, start, close_if_any, style_of, style_at, parts, end_before, carried, part, all_parts, part_from, source_len, is_part_borrowed, SplitPart, split_part, split_parts, parts_from, parts_left, span_part, span_text, pieces_are, has_escape-bare, plain-bare, slice_range-past, further, marks-bare, marks_of-text, marks_of-mark, marks_up_to-marks_past, interleaved-bare, start-unset, close_if_any-unset}
+use Rattle.ansi_split.proofs.Common.{◌≡◌, Bool, unwrap_or, ℕ, zero, suc, ◌+◌, ◌≤◌, true, false, not, ◌&&◌, ◌||◌, ◌==◌, List, [], ◌∷◌, ◌++◌, length, map, drop, Option, Some, None, option_map, refl, sym, ◌∙◌, ap, ap₂, arith, IsTrue, IsFalse, if◌then◌else◌, slice_get, append-nil, eqb-true, eq-eqb, ne_eqb, cond_both, or_from, and_parts, and_from, and-false, or-true, none-some, same_Some, drop_all, list_any-append, range_with_len, list_all, escape, Piece, Text, ArePieces, pieces_of, Mark, plain, marks_of, marks, marks_up_to, has_escape, Rendition, plain_style, has_any, start, close_if_any, style_of, style_at, parts, end_before, carried, part, all_parts, part_from, source_len, is_part_borrowed, SplitPart, split_part, split_parts, parts_from, parts_left, span_part, span_text, pieces_are, has_escape-bare, plain-bare, slice_range-past, mark_further_on, marks-bare, marks_of-text, marks_of-mark, marks_up_to-marks_past, interleaved-bare, start-unset, close_if_any-unset}
 use Rattle.std.proofs.lemmas.Bool.{true≢false}
-use Rattle.ansi_split.proofs.IntervalLemmas.{end_after, end_after-suc, end_after-none}
+use Rattle.ansi_split.proofs.IntervalLemmas.{end_before_index, end_before_index-suc, end_before_index-none}
 use Rattle.ansi_split.proofs.PartTextLemmas.{length-parts, all_parts-over}
 use Rattle.ansi_split.proofs.SpanLemmas.{own-whole}
 
@@ -23,17 +23,17 @@ length-parts_left t p = omega (arith, ap length (parts_left-begin t p) ∙ lengt
 
 -- By index.
 
-slice_get-parts_from : (c : Rendition) (t : List ℕ) (before : Option ℕ) (is : List (ℕ × ℕ)) (k : ℕ) → slice_get (parts_from c t before is) k ≡ option_map (part_from c t (end_after before is k)) (slice_get is k)
+slice_get-parts_from : (c : Rendition) (t : List ℕ) (before : Option ℕ) (is : List (ℕ × ℕ)) (k : ℕ) → slice_get (parts_from c t before is) k ≡ option_map (part_from c t (end_before_index before is k)) (slice_get is k)
 slice_get-parts_from c t before [] k = refl
 slice_get-parts_from c t before (i ∷ is) zero = refl
-slice_get-parts_from c t before (i ∷ is) (suc k) = grind (arith, end_after-suc, slice_get-parts_from c t (Some i.1) is k)
+slice_get-parts_from c t before (i ∷ is) (suc k) = grind (arith, end_before_index-suc, slice_get-parts_from c t (Some i.1) is k)
 
 slice_get-parts_left : (t p : List ℕ) (k : ℕ)
     → slice_get (parts_left plain_style t p 0 0) k ≡ option_map (part_from plain_style t (end_before (parts (plain t) p) k)) (slice_get (parts (plain t) p) k)
 slice_get-parts_left t p k =
     let is = parts (plain t) p in
     ap (λ qs. slice_get qs k) (parts_left-begin t p) ∙ slice_get-parts_from plain_style t None is k
-    ∙ ap (λ b. option_map (part_from plain_style t b) (slice_get is k)) (end_after-none is k)
+    ∙ ap (λ b. option_map (part_from plain_style t b) (slice_get is k)) (end_before_index-none is k)
 
 -- Each part of a text without ESC is a borrow.
 
@@ -63,7 +63,7 @@ no_escape_after t (Text w ∷ ps) are none =
     ap has_escape are.1 ∙ list_any-append (λ b. b == escape) w are.0
     ∙ or_from _ _ (has_escape-bare w are.2.1) (no_escape_after are.0 ps are.3 (no_marks (marks_of ps) (sym (marks_of-text w ps) ∙ none)))
   where
-    no_marks : (ms : List Mark) → map (further (length w)) ms ≡ [] → ms ≡ []
+    no_marks : (ms : List Mark) → map (mark_further_on (length w)) ms ≡ [] → ms ≡ []
     no_marks [] none = refl
     no_marks (m ∷ ms) none = absurd (cc none)
 no_escape_after t (p ∷ ps) are none = (let mark = sym (marks_of-mark p ps refl) ∙ none in absurd (cc mark))

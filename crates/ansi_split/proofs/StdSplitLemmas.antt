@@ -4,13 +4,13 @@ use Rattle.std.proofs.Common.{length-drop}
 use Rattle.ansi_split.proofs.BetweenLemmas.{length-nonempty, parts_are_between}
 
 -- the last text, with no match
-split_last : (x p : List ℕ) (e : ℕ) (i : ℕ × ℕ) → AreBetween x p e (i ∷ []) → AreSplit p (drop e x) (slices_over x (i ∷ []))
-split_last x p e i last = grind (arith, drop-drop, length-drop, take_all)
+AreSplit-last : (x p : List ℕ) (e : ℕ) (i : ℕ × ℕ) → AreBetween x p e (i ∷ []) → AreSplit p (drop e x) (slices_over x (i ∷ []))
+AreSplit-last x p e i last = grind (arith, drop-drop, length-drop, take_all)
 
 -- a text up to a match, and those after it
-split_more : (x p : List ℕ) (e : ℕ) (i : ℕ × ℕ) (ys : List (List ℕ)) → i.0 ≡ e → e ≤ i.1 → HasTextAt p x i.1 (i.1 + length p) → ((k : ℕ) → e ≤ k → k < i.1 → LacksTextAt p x k)
+AreSplit-more : (x p : List ℕ) (e : ℕ) (i : ℕ × ℕ) (ys : List (List ℕ)) → i.0 ≡ e → e ≤ i.1 → HasTextAt p x i.1 (i.1 + length p) → ((k : ℕ) → e ≤ k → k < i.1 → LacksTextAt p x k)
     → AreSplit p (drop (i.1 + length p) x) ys → AreSplit p (drop e x) (slice_range x i.0 i.1 ∷ ys)
-split_more x p e i ys begins from stands none more =
+AreSplit-more x p e i ys begins from stands none more =
     let w = drop e x in
     let at = i.1 - e in
     let place : e + at ≡ i.1 = omega (arith, from) in
@@ -33,14 +33,14 @@ split_more x p e i ys begins from stands none more =
     = omega (arith, ap length part, length-take at w, length-drop e x, length-drop (i.1 + length p) x, from, inside) in
     (true, drop (i.1 + length p) x, (len, (Some (at, at + length p), (none_before, found), λ on. (part, refl, sym after))), more)
 
-split_between : (x p : List ℕ) (e : ℕ) (is : List (ℕ × ℕ)) → AreBetween x p e is → AreSplit p (drop e x) (slices_over x is)
-split_between x p e [] are = absurd are
-split_between x p e (i ∷ []) are = split_last x p e i are
-split_between x p e (i ∷ j ∷ is) are =
-    split_more x p e i (slices_over x (j ∷ is)) are.0 are.1 are.2 are.3 (split_between x p (i.1 + length p) (j ∷ is) are.4)
+AreSplit-between : (x p : List ℕ) (e : ℕ) (is : List (ℕ × ℕ)) → AreBetween x p e is → AreSplit p (drop e x) (slices_over x is)
+AreSplit-between x p e [] are = absurd are
+AreSplit-between x p e (i ∷ []) are = AreSplit-last x p e i are
+AreSplit-between x p e (i ∷ j ∷ is) are =
+    AreSplit-more x p e i (slices_over x (j ∷ is)) are.0 are.1 are.2 are.3 (AreSplit-between x p (i.1 + length p) (j ∷ is) are.4)
 
 pub parts_are_split : (x p : List ℕ) → IsUtf8 x → IsUtf8 p → p ≢ [] → AreSplit p x (slices_over x (parts x p))
-parts_are_split x p utf8 utf8_p some = split_between x p 0 (parts x p) (parts_are_between x p utf8 utf8_p some)
+parts_are_split x p utf8 utf8_p some = AreSplit-between x p 0 (parts x p) (parts_are_between x p utf8 utf8_p some)
 
 -- Each step of a split, and so the whole of it, is determined.
 

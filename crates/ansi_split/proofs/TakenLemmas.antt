@@ -70,12 +70,12 @@ abbrev in_front : ℕ → List ℕ → Bool → List ℕ
 in_front i ks b = if b then i ∷ ks else ks
 
 -- the first is not taken
-taken_later : (q : ℕ → Bool) (n from i k m : ℕ) (b : Bool) → q i ≡ b → (b ≡ true → i < from) → IsTaken q n from (i + 1) k m → IsTaken q n from i (suc k) m
-taken_later q n from i k m b is before later = grind (arith, without_overlaps-passed)
+IsTaken-later : (q : ℕ → Bool) (n from i k m : ℕ) (b : Bool) → q i ≡ b → (b ≡ true → i < from) → IsTaken q n from (i + 1) k m → IsTaken q n from i (suc k) m
+IsTaken-later q n from i k m b is before later = grind (arith, without_overlaps-passed)
 
 -- the first is taken
-taken_here : (q : ℕ → Bool) (n from i k : ℕ) → q i ≡ true → from ≤ i → IsTaken q n from i (suc k) i
-taken_here q n from i k is at =
+IsTaken-here : (q : ℕ → Bool) (n from i k : ℕ) → q i ≡ true → from ≤ i → IsTaken q n from i (suc k) i
+IsTaken-here q n from i k is at =
     let ks = filter q (range_with_len (i + 1) k) in
     record {
       taken =
@@ -95,7 +95,7 @@ taken_here q n from i k is at =
 
 is_taken : (q : ℕ → Bool) (n from i k m : ℕ) → slice_get (filter (nat_le from) (filter q (range_with_len i k))) 0 ≡ Some m → IsTaken q n from i k m
 is_taken q n from i zero m found = absurd (none-some m found)
-is_taken q n from i (suc k) m found = grind (arith, le-leb, lt-leb, same_Some, taken_here, taken_later, is_taken q n from (i + 1) k m)
+is_taken q n from i (suc k) m found = grind (arith, le-leb, lt-leb, same_Some, IsTaken-here, IsTaken-later, is_taken q n from (i + 1) k m)
 
 -- The first match of a text at or past `from`, and those after it, which are those of what follows its first byte.
 pub record IsFirstTaken (x p : List ℕ) (from m : ℕ) : Type 0 where
@@ -130,9 +130,9 @@ abbrev pub moved_on : ℕ → ℕ × ℕ → ℕ × ℕ
 moved_on m i = (m + i.0, m + i.1)
 
 -- the intervals before, between and after the places that are taken, from a on, of a text of the length e
-abbrev pub between : ℕ → ℕ → ℕ → List ℕ → List (ℕ × ℕ)
-between n a e taken = zip (a ∷ map (λ m. m + n) taken) (taken ++ e ∷ [])
+abbrev pub intervals_between : ℕ → ℕ → ℕ → List ℕ → List (ℕ × ℕ)
+intervals_between n a e taken = zip (a ∷ map (λ m. m + n) taken) (taken ++ e ∷ [])
 
-pub between-further : (n a e m : ℕ) (taken : List ℕ) → between n (m + a) (m + e) (map (λ k. m + k) taken) ≡ map (moved_on m) (between n a e taken)
-between-further n a e m [] = refl
-between-further n a e m (k ∷ taken) = grind (arith, between-further n (k + n) e m taken)
+pub intervals_between-further : (n a e m : ℕ) (taken : List ℕ) → intervals_between n (m + a) (m + e) (map (λ k. m + k) taken) ≡ map (moved_on m) (intervals_between n a e taken)
+intervals_between-further n a e m [] = refl
+intervals_between-further n a e m (k ∷ taken) = grind (arith, intervals_between-further n (k + n) e m taken)

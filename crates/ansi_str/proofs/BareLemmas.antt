@@ -88,17 +88,17 @@ all_parts-empty-bare t utf8 none = all_parts-bare t [] none ∙ slices_over-part
 -- Changes: each gives the slice over the interval that it keeps.
 
 -- if a test lets a change through, its text is the slice
-through : (test : Bool) (t u : List ℕ) (i : ℕ × ℕ) → u ≡ slice_range t i.0 i.1
+slice_range-if_found : (test : Bool) (t u : List ℕ) (i : ℕ × ℕ) → u ≡ slice_range t i.0 i.1
     → (if is_some (if test then Some i else None) then Some u else None) ≡ option_map (λ (i : ℕ × ℕ). slice_range t i.0 i.1) (if test then Some i else None)
-through true t u i is = ap Some is
-through false t u i is = refl
+slice_range-if_found true t u i is = ap Some is
+slice_range-if_found false t u i is = refl
 
 -- the change of t, if x is taken for its plain text
 abbrev edited_on : Change → List ℕ → List ℕ → Option (List ℕ)
 edited_on e t x = if is_some (interval_of e x) then Some (changed_text e t) else None
 
 edited_on-bare : (e : Change) (t : List ℕ) → IsFalse (has_escape t) → edited_on e t t ≡ option_map (λ (i : ℕ × ℕ). slice_range t i.0 i.1) (interval_of e t)
-edited_on-bare e t none = grind (arith, cut-bare, edited_by-part, kept-bare, left_side-bare, part-bare, plain-bare, right_side-bare, slice_range-past, through, trimmed-slice)
+edited_on-bare e t none = grind (arith, cut-bare, edited_by-part, kept-bare, left_side-bare, part-bare, plain-bare, right_side-bare, slice_range-past, slice_range-if_found, trimmed-slice)
 
 pub edited_by-bare : (e : Change) (t : List ℕ) → IsFalse (has_escape t) → edited_by e t ≡ option_map (λ (i : ℕ × ℕ). slice_range t i.0 i.1) (interval_of e t)
 edited_by-bare e t none = ap (edited_on e t) (plain-bare t none) ∙ edited_on-bare e t none

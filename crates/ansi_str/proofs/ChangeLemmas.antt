@@ -18,17 +18,17 @@ record IsSlice (closing : Bool) (t : List ℕ) (i : ℕ × ℕ) (u : List ℕ) :
   whole : IsTrue (is_whole u)
   left_open : residue u ≡ (if closing then plain_style else residue t)
 
-kept_is : (t : List ℕ) (a b : ℕ) → IsTrue (is_whole t) → IsSlice false t (a, b) (kept t a b)
-kept_is t a b whole = record { styled_bytes = styled-kept t a b whole; whole = is_whole-kept t a b whole; left_open = residue-kept t a b whole }
+IsSlice-kept : (t : List ℕ) (a b : ℕ) → IsTrue (is_whole t) → IsSlice false t (a, b) (kept t a b)
+IsSlice-kept t a b whole = record { styled_bytes = styled-kept t a b whole; whole = is_whole-kept t a b whole; left_open = residue-kept t a b whole }
 
-left_is : (t : List ℕ) (mid : ℕ) → IsTrue (is_whole t) → IsSlice true t (0, mid) (changed_text (LeftOf mid) t)
-left_is t mid whole =
+IsSlice-left : (t : List ℕ) (mid : ℕ) → IsTrue (is_whole t) → IsSlice true t (0, mid) (changed_text (LeftOf mid) t)
+IsSlice-left t mid whole =
     let side = left_side_is t mid whole in
     let all : mid ≡ mid - 0 = omega arith in
     record { styled_bytes = side.styled_bytes ∙ ap (λ n. take n (styled t)) all; whole = side.whole; left_open = side.closed }
 
-right_is : (t : List ℕ) (mid : ℕ) → IsTrue (is_whole t) → IsSlice true t (mid, length (plain t)) (changed_text (RightOf mid) t)
-right_is t mid whole =
+IsSlice-right : (t : List ℕ) (mid : ℕ) → IsTrue (is_whole t) → IsSlice true t (mid, length (plain t)) (changed_text (RightOf mid) t)
+IsSlice-right t mid whole =
     let side = right_side_is t mid whole in
     let size : length (styled t) ≡ length (plain t) = sym (length-map (styled t) _) ∙ ap length (unstyled-styled t) in
     record { styled_bytes = side.styled_bytes ∙ sym (slice_range-past (styled t) mid (length (plain t)) (omega (arith, size))); whole = side.whole; left_open = side.closed }
@@ -36,25 +36,25 @@ right_is t mid whole =
 -- A change that isn't refused.
 
 -- if a test lets the interval j through, it is the one that is found
-through : (closing test : Bool) (t u : List ℕ) (i j : ℕ × ℕ) → (if test then Some j else None) ≡ Some i → IsSlice closing t j u → IsSlice closing t i u
-through closing test t u i j found is = subst (λ k. IsSlice closing t k u) (cond_some test j i found).1 is
+IsSlice-if_found : (closing test : Bool) (t u : List ℕ) (i j : ℕ × ℕ) → (if test then Some j else None) ≡ Some i → IsSlice closing t j u → IsSlice closing t i u
+IsSlice-if_found closing test t u i j found is = subst (λ k. IsSlice closing t k u) (cond_some test j i found).1 is
 
 changed_text_is : (e : Change) (t : List ℕ) (i : ℕ × ℕ) → IsTrue (is_whole t) → interval_of e (plain t) ≡ Some i → IsSlice (closes e) t i (changed_text e t)
-changed_text_is (CutRange s e) t i whole found = grind (arith, is_whole-cut, residue-cut, styled-cut, through)
-changed_text_is (LeftOf mid) t i whole found = through true (is_good_position (plain t) mid) t (changed_text (LeftOf mid) t) i (0, mid) found (left_is t mid whole)
-changed_text_is (RightOf mid) t i whole found = through true (is_good_position (plain t) mid) t (changed_text (RightOf mid) t) i (mid, length (plain t)) found (right_is t mid whole)
+changed_text_is (CutRange s e) t i whole found = grind (arith, is_whole-cut, residue-cut, styled-cut, IsSlice-if_found)
+changed_text_is (LeftOf mid) t i whole found = IsSlice-if_found true (is_good_position (plain t) mid) t (changed_text (LeftOf mid) t) i (0, mid) found (IsSlice-left t mid whole)
+changed_text_is (RightOf mid) t i whole found = IsSlice-if_found true (is_good_position (plain t) mid) t (changed_text (RightOf mid) t) i (mid, length (plain t)) found (IsSlice-right t mid whole)
 changed_text_is (PartOf p k) t i whole found =
     let is = changed_text-part_is t p k i whole found in
     record { styled_bytes = is.styled_bytes; whole = is.whole; left_open = is.closed }
 changed_text_is (WithoutPrefix p) t i whole found =
     let end = length (plain t) in
-    through false (starts_with nat_eq (plain t) p) t (changed_text (WithoutPrefix p) t) i (length p, end) found (kept_is t (length p) end whole)
+    IsSlice-if_found false (starts_with nat_eq (plain t) p) t (changed_text (WithoutPrefix p) t) i (length p, end) found (IsSlice-kept t (length p) end whole)
 changed_text_is (WithoutSuffix p) t i whole found =
     let end = length (plain t) - length p in
-    through false (ends_with nat_eq (plain t) p) t (changed_text (WithoutSuffix p) t) i (0, end) found (kept_is t 0 end whole)
+    IsSlice-if_found false (ends_with nat_eq (plain t) p) t (changed_text (WithoutSuffix p) t) i (0, end) found (IsSlice-kept t 0 end whole)
 changed_text_is Trimmed t i whole found =
     let j = trim_interval (plain t) in
-    through false true t (changed_text Trimmed t) i j found (kept_is t j.0 j.1 whole)
+    IsSlice-if_found false true t (changed_text Trimmed t) i j found (IsSlice-kept t j.0 j.1 whole)
 
 -- What a change returns, or changes in turn, by whether one of them closes.
 
@@ -94,26 +94,26 @@ residue-part t p k u whole found = (closed_part t p k u whole found).1
 
 -- Of each change that isn't refused.
 
-accepted : (e : Change) (t : List ℕ) → IsTrue (is_whole t) → is_some (interval_of e (plain t)) ≡ true → slice_of e (styled t) ≡ Some (styled (changed_text e t))
-accepted e t whole keeps = slice_of-styled e t whole ∙ ap (option_map styled) (cond-true (is_some (interval_of e (plain t))) (Some (changed_text e t)) None keeps)
+slice_of-accepted : (e : Change) (t : List ℕ) → IsTrue (is_whole t) → is_some (interval_of e (plain t)) ≡ true → slice_of e (styled t) ≡ Some (styled (changed_text e t))
+slice_of-accepted e t whole keeps = slice_of-styled e t whole ∙ ap (option_map styled) (cond-true (is_some (interval_of e (plain t))) (Some (changed_text e t)) None keeps)
 
 pub slice_of-cut : (t : List ℕ) (s : ℕ) (e : Option ℕ) → IsTrue (is_whole t) → IsTrue (is_good_range (plain t) s e) → slice_of (CutRange s e) (styled t) ≡ Some (styled (cut t s e))
-slice_of-cut t s e whole good = accepted (CutRange s e) t whole (ap is_some (cond-true (is_good_range (plain t) s e) _ None good))
+slice_of-cut t s e whole good = slice_of-accepted (CutRange s e) t whole (ap is_some (cond-true (is_good_range (plain t) s e) _ None good))
 
 pub slice_of-left_side : (t : List ℕ) (mid : ℕ) → IsTrue (is_whole t) → IsTrue (is_good_position (plain t) mid) → slice_of (LeftOf mid) (styled t) ≡ Some (styled (left_side t mid))
-slice_of-left_side t mid whole good = accepted (LeftOf mid) t whole (ap is_some (cond-true (is_good_position (plain t) mid) _ None good))
+slice_of-left_side t mid whole good = slice_of-accepted (LeftOf mid) t whole (ap is_some (cond-true (is_good_position (plain t) mid) _ None good))
 
 pub slice_of-right_side : (t : List ℕ) (mid : ℕ) → IsTrue (is_whole t) → IsTrue (is_good_position (plain t) mid) → slice_of (RightOf mid) (styled t) ≡ Some (styled (right_side t mid))
-slice_of-right_side t mid whole good = accepted (RightOf mid) t whole (ap is_some (cond-true (is_good_position (plain t) mid) _ None good))
+slice_of-right_side t mid whole good = slice_of-accepted (RightOf mid) t whole (ap is_some (cond-true (is_good_position (plain t) mid) _ None good))
 
 pub slice_of-without_prefix : (t p : List ℕ) → IsTrue (is_whole t) → IsTrue (starts_with nat_eq (plain t) p) → slice_of (WithoutPrefix p) (styled t) ≡ Some (styled (without_prefix t p))
-slice_of-without_prefix t p whole begins = accepted (WithoutPrefix p) t whole (ap is_some (cond-true (starts_with nat_eq (plain t) p) _ None begins))
+slice_of-without_prefix t p whole begins = slice_of-accepted (WithoutPrefix p) t whole (ap is_some (cond-true (starts_with nat_eq (plain t) p) _ None begins))
 
 pub slice_of-without_suffix : (t p : List ℕ) → IsTrue (is_whole t) → IsTrue (ends_with nat_eq (plain t) p) → slice_of (WithoutSuffix p) (styled t) ≡ Some (styled (without_suffix t p))
-slice_of-without_suffix t p whole ends = accepted (WithoutSuffix p) t whole (ap is_some (cond-true (ends_with nat_eq (plain t) p) _ None ends))
+slice_of-without_suffix t p whole ends = slice_of-accepted (WithoutSuffix p) t whole (ap is_some (cond-true (ends_with nat_eq (plain t) p) _ None ends))
 
 pub slice_of-trimmed : (t : List ℕ) → IsTrue (is_whole t) → slice_of Trimmed (styled t) ≡ Some (styled (trimmed t))
-slice_of-trimmed t whole = accepted Trimmed t whole refl
+slice_of-trimmed t whole = slice_of-accepted Trimmed t whole refl
 
 -- The plain text of what a change makes is the slice of the plain text.
 

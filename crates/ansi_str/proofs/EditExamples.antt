@@ -2,7 +2,7 @@
 use Rattle.ansi_str.proofs.Common.{codes, List, [], ◌∷◌, ℕ, true, false, Some, None, refl, encode_utf8, digits, chars, trim_start, trim_end, cut, left_side, right_side, kept, part_from, CutRange, LeftOf, RightOf, PartOf, WithoutPrefix, WithoutSuffix, Trimmed, Change, edited, stay_borrowed}
 use Rattle.ansi_items.proofs.Tables.{MakesRows, utf8}
 
-edits : MakesRows (λ (x : List Change × List ℕ). edited x.0 x.1) (
+edits_in_turn : MakesRows (λ (x : List Change × List ℕ). edited x.0 x.1) (
     -- each edit is of what the one before gave; no edit leaves the text as it is
     (([], codes "\u{1b}[1mx"), Some (codes "\u{1b}[1mx"))
     ∷ ((RightOf 4 ∷ CutRange 0 (Some 2) ∷ [], codes "abc def"), Some (codes "de"))
@@ -21,13 +21,13 @@ edits : MakesRows (λ (x : List Change × List ℕ). edited x.0 x.1) (
     ∷ ((PartOf (codes "\u{1b}") 1 ∷ [], codes "\u{1b}[1ma"), None)
     ∷ [])
 unfolding encode_utf8 chars trim_start trim_end digits cut left_side right_side kept part_from
-edits = refl
+edits_in_turn = refl
 
 -- if nothing is taken off, and if a part is a slice of the text, a text with an ESC stays borrowed
-borrows : MakesRows (λ (x : List Change × List ℕ). stay_borrowed x.0 x.1) (
+borrowed_edits : MakesRows (λ (x : List Change × List ℕ). stay_borrowed x.0 x.1) (
     (([], codes "\u{1b}[1mx"), true)
     ∷ ((WithoutSuffix [] ∷ PartOf (codes ",") 0 ∷ [], codes "a,\u{1b}[1mb"), true)
     ∷ ((LeftOf 1 ∷ WithoutSuffix (codes "a") ∷ [], codes "a\u{1b}]0;t\u{7}b"), false)
     ∷ [])
 unfolding digits left_side kept part_from
-borrows = refl
+borrowed_edits = refl

@@ -50,7 +50,7 @@ styled_bytes : MakesRows styled (
 unfolding cut left_side right_side kept
 styled_bytes = refl
 
-slices : MakesRows (λ (x : Change × List ℕ). slice_of x.0 (styled x.1)) (
+slices_of_changes : MakesRows (λ (x : Change × List ℕ). slice_of x.0 (styled x.1)) (
     ((CutRange 1 (Some 3), two_styles), Some (in_style bold_style (codes "b") ++ in_style plain_style (codes "c")))
     ∷ ((WithoutPrefix (codes "ab"), two_styles), Some (in_style plain_style (codes "c")))
     ∷ ((WithoutPrefix (codes "b"), two_styles), None)
@@ -59,7 +59,7 @@ slices : MakesRows (λ (x : Change × List ℕ). slice_of x.0 (styled x.1)) (
     ∷ ((PartOf (codes ",") 4, list_in_two_styles), None)
     ∷ [])
 unfolding chars trim_start trim_end encode_utf8
-slices = refl
+slices_of_changes = refl
 
 -- the sides join to other bytes with the same styles
 sides_of_two_styles : left_side two_styles 1 ++ right_side two_styles 1 ≡ codes "\u{1b}[1ma\u{1b}[22m\u{1b}[1mb\u{1b}[22mc"
@@ -119,12 +119,12 @@ slice_after_a_lone_escape : option_map unstyled (slice_of (PartOf (codes "\n\n")
 slice_after_a_lone_escape = refl
 
 -- the intervals of the parts lie between the first matches: one that begins within another isn't taken, and what is after the last match is a part, though it may be empty; at the empty pattern there may be two more of them than bytes
-intervals : MakesRows (λ (x : List ℕ × List ℕ). parts x.0 x.1) (
+intervals_of_parts : MakesRows (λ (x : List ℕ × List ℕ). parts x.0 x.1) (
     ((codes "aaa", codes "aa"), (0, 0) ∷ (2, 3) ∷ [])
     ∷ ((codes "aa", codes "aa"), (0, 0) ∷ (2, 2) ∷ [])
     ∷ ((codes "ab", []), (0, 0) ∷ (0, 1) ∷ (1, 2) ∷ (2, 2) ∷ [])
     ∷ [])
-intervals = refl
+intervals_of_parts = refl
 
 -- a part of one byte in the style with the longest start and the longest close
 longest_part_of_a_byte : option_map length (part (codes "\u{1b}[0;99;1;2;3;4;5;6;7;8;9;11;20;21;26;38;2;255;255;255;48;2;255;255;255;58;2;255;255;255;51;52;53;60;61;62;63;64;73;74ma,b") (codes ",") 1) ≡ Some (1 + 251)

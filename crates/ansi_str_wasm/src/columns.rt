@@ -11,7 +11,7 @@ use ansi_answers::answers::{Answer, NOT_UTF8};
 use ansi_answers::lists::ListAnswer;
 use ansi_columns_answers::columns::{fitting, pad, truncate, width};
 use ansi_columns_answers::lines::wrap;
-use one_block::{Block, OneBlock};
+use one_block::{MemoryBlock, OneBlock};
 use simdutf8::basic::from_utf8;
 
 /// The display width of the plain text, in columns.
@@ -41,7 +41,7 @@ pub extern "C" fn ansi_str_raw_fitting(text: &[u8], width: usize) -> Answer
 /// The text truncated to `width` columns.
 #[unsafe(no_mangle)]
 pub extern "C" fn ansi_str_raw_truncate(
-    memory: Block,
+    memory: MemoryBlock,
     text: &[u8],
     width: usize,
     tail: &[u8],
@@ -65,7 +65,7 @@ pub extern "C" fn ansi_str_raw_truncate(
 /// The text padded to `width` columns.
 #[unsafe(no_mangle)]
 pub extern "C" fn ansi_str_raw_pad(
-    memory: Block,
+    memory: MemoryBlock,
     text: &[u8],
     width: usize,
     alignment: u32,
@@ -86,7 +86,7 @@ pub extern "C" fn ansi_str_raw_pad(
 /// The lines of the text wrapped at `width` columns, ready for display, and where each ends.
 #[unsafe(no_mangle)]
 pub extern "C" fn ansi_str_raw_wrap(
-    memory: Block,
+    memory: MemoryBlock,
     text: &[u8],
     width: usize,
     buffer: &mut [u8],

@@ -15,13 +15,13 @@ use ansi_answers::lists::{
 };
 use ansi_answers::styles::StyleData;
 use ansi_str::AnsiStr;
-use one_block::{Block, OneBlock};
+use one_block::{MemoryBlock, OneBlock};
 use simdutf8::basic::from_utf8;
 
 /// All parts of a text between the matches of a pattern, and where each ends.
 #[unsafe(no_mangle)]
 pub extern "C" fn ansi_str_raw_split(
-    memory: Block,
+    memory: MemoryBlock,
     text: &[u8],
     pattern: &[u8],
     buffer: &mut [u8],
@@ -51,7 +51,7 @@ pub extern "C" fn ansi_str_raw_split(
 /// these are and its style.
 #[unsafe(no_mangle)]
 pub extern "C" fn ansi_str_raw_styled_blocks(
-    memory: Block,
+    memory: MemoryBlock,
     text: &[u8],
     buffer: &mut [u8],
     entries: &mut [StyledBlockEntry],

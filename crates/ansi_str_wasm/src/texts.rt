@@ -9,12 +9,12 @@ use crate::memory::arena_of;
 use ansi_answers::answers::{Answer, NOT_UTF8, REFUSED, write_found};
 use ansi_answers::edits::{EditStep, are_patterns_utf8, edit_in_turn};
 use ansi_answers::texts::{find, strip};
-use one_block::{Block, OneBlock};
+use one_block::{MemoryBlock, OneBlock};
 use simdutf8::basic::from_utf8;
 
 /// The plain text.
 #[unsafe(no_mangle)]
-pub extern "C" fn ansi_str_raw_strip(memory: Block, text: &[u8], buffer: &mut [u8]) -> Answer
+pub extern "C" fn ansi_str_raw_strip(memory: MemoryBlock, text: &[u8], buffer: &mut [u8]) -> Answer
     ensures { OnUtf8 (text.now ∷ [])
         (Gives no (has_escape text.now) (Some (plain text.now)) result buffer.old buffer.new)
         (HasFailed not_utf8 result buffer.old buffer.new) }
@@ -45,7 +45,7 @@ pub extern "C" fn ansi_str_raw_find(text: &[u8], pattern: &[u8]) -> Answer
 /// The text after all edits, each applied to the result of the one before.
 #[unsafe(no_mangle)]
 pub extern "C" fn ansi_str_raw_edit(
-    memory: Block,
+    memory: MemoryBlock,
     text: &[u8],
     steps: &[EditStep<'_>],
     buffer: &mut [u8],

@@ -47,15 +47,15 @@ parameters-color_code extended c all small = grind (arith, code_bytes-decimal, l
 
 -- Fields that semicolons end.
 
-no_semicolon : (d : List ℕ) → list_all is_field_byte d ≡ true → All (λ b. (b == byte ";") ≡ false) d
-no_semicolon d all =
+field-no_semicolon : (d : List ℕ) → list_all is_field_byte d ≡ true → All (λ b. (b == byte ";") ≡ false) d
+field-no_semicolon d all =
     λ k x below. (let b = slice_index_or d k x in not-true (b == byte ";") (and_parts (is_code_byte b) (not (b == byte ";")) (AllPass-from_list_all is_field_byte d all k x below)).1)
 
 fields_of-one : (d : List ℕ) → list_all is_field_byte d ≡ true → fields_of d ≡ d ∷ []
-fields_of-one d all = slice_split_none (λ b. b == byte ";") d (no_semicolon d all)
+fields_of-one d all = slice_split_none (λ b. b == byte ";") d (field-no_semicolon d all)
 
 fields_of-more : (d rest : List ℕ) → list_all is_field_byte d ≡ true → fields_of (d ++ (byte ";" ∷ rest)) ≡ d ∷ fields_of rest
-fields_of-more d rest all = slice_split_at (λ b. b == byte ";") d (byte ";") rest (no_semicolon d all) refl
+fields_of-more d rest all = slice_split_at (λ b. b == byte ";") d (byte ";") rest (field-no_semicolon d all) refl
 
 fields_of-by_number : (extended : List ℕ) (n : ℕ) → list_all is_field_byte extended ≡ true → n < 256 → fields_of (color_code extended (Bit8 n)) ≡ extended ∷ codes "5" ∷ decimal n ∷ []
 fields_of-by_number extended n all small =

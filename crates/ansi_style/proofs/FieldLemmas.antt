@@ -37,14 +37,14 @@ next_digit n b t =
     ap₂ (λ d v. if_small (d && all_ascii_digits t) (digits_value_after 10 (n * 10 + v) t)) (sym digit) value))
     (λ isnt. grind (arith, nat_tests, isnt, digits_value_after-ge t 256, digits_value_after-ge t (n * 10 + digit_value b)))
 
-reads : (t : List ℕ) (n : ℕ) → if_small true (fold with_digit n t) ≡ if_small (all_ascii_digits t) (digits_value_after 10 n t)
-reads [] n = refl
-reads (b ∷ t) n = reads t (with_digit n b) ∙ next_digit n b t
+fold-with_digit : (t : List ℕ) (n : ℕ) → if_small true (fold with_digit n t) ≡ if_small (all_ascii_digits t) (digits_value_after 10 n t)
+fold-with_digit [] n = refl
+fold-with_digit (b ∷ t) n = fold-with_digit t (with_digit n b) ∙ next_digit n b t
 
 -- so what is read of a field is its code
 pub code_of-read : (t : List ℕ) → if_small true (fold with_digit 0 t) ≡ code_of t
 code_of-read [] = refl
-code_of-read (b ∷ t) = rw (lt-ltb 0 (length (b ∷ t)) (omega arith)) (reads (b ∷ t) 0)
+code_of-read (b ∷ t) = rw (lt-ltb 0 (length (b ∷ t)) (omega arith)) (fold-with_digit (b ∷ t) 0)
 
 -- the number that a field gives to a color is its code, or 0 if it has none
 pub number_is_first : (fields rest : List (List ℕ)) (code : Option ℕ) → (Some code, rest) ≡ first_field code_of fields → (Some (unwrap_or code 0), rest) ≡ first_field color_number fields

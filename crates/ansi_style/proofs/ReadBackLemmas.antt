@@ -123,12 +123,12 @@ style_after_from-codes p xs are =
 pub record LeadFrom (q : Rendition) (xs : List (List ℕ)) (p : Rendition) : Type 0 where
   pub reached : apply_codes q xs ≡ p
 
-pub followed : {q : Rendition} {xs : List (List ℕ)} {p : Rendition} (ys : List (List ℕ)) → LeadFrom q xs p → apply_codes q (xs ++ ys) ≡ apply_codes p ys
-followed {q} {xs} ys so_far = apply_codes-append q xs ys ∙ ap (λ s. apply_codes s ys) so_far.reached
+pub LeadFrom-apply_codes : {q : Rendition} {xs : List (List ℕ)} {p : Rendition} (ys : List (List ℕ)) → LeadFrom q xs p → apply_codes q (xs ++ ys) ≡ apply_codes p ys
+LeadFrom-apply_codes {q} {xs} ys so_far = apply_codes-append q xs ys ∙ ap (λ s. apply_codes s ys) so_far.reached
 
 -- more codes
-pub lead_on : {q : Rendition} {xs : List (List ℕ)} {p : Rendition} (ys : List (List ℕ)) (r : Rendition) → apply_codes p ys ≡ r → LeadFrom q xs p → LeadFrom q (xs ++ ys) r
-lead_on ys r next so_far = record { reached = followed ys so_far ∙ next }
+pub LeadFrom-append : {q : Rendition} {xs : List (List ℕ)} {p : Rendition} (ys : List (List ℕ)) (r : Rendition) → apply_codes p ys ≡ r → LeadFrom q xs p → LeadFrom q (xs ++ ys) r
+LeadFrom-append ys r next so_far = record { reached = LeadFrom-apply_codes ys so_far ∙ next }
 
 -- one step, and then the next
 pub ◌next◌ : {A B : Type 0} → A → (A → B) → B
@@ -136,9 +136,9 @@ x next f = f x
 
 infixl 30 ◌next◌
 -- one more code, if the condition holds
-pub lead_when : {q : Rendition} {xs : List (List ℕ)} {p : Rendition} (b : Bool) (code : List ℕ) (r : Rendition)
+pub LeadFrom-if : {q : Rendition} {xs : List (List ℕ)} {p : Rendition} (b : Bool) (code : List ℕ) (r : Rendition)
     → (b ≡ true → apply p (written code) ≡ r) → (b ≡ false → p ≡ r) → LeadFrom q xs p → LeadFrom q (xs ++ code_if b code) r
-lead_when {q} {xs} {p} b code r set unset so_far = lead_on (code_if b code) r (by_test b set unset) so_far
+LeadFrom-if {q} {xs} {p} b code r set unset so_far = LeadFrom-append (code_if b code) r (by_test b set unset) so_far
   where
     by_test : (b : Bool) → (b ≡ true → apply p (written code) ≡ r) → (b ≡ false → p ≡ r) → apply_codes p (code_if b code) ≡ r
     by_test true set unset = set refl

@@ -2,7 +2,7 @@
 use Rattle.ansi_style.proofs.Common.{◌≡◌, ℕ, Bool, true, ◌||◌, List, [], ◌++◌, map, Option, Some, None, refl, sym, ◌∙◌, ap, codes, IfSome, IsTrue, is_in_range, or-false, or_self, AnsiColor, Rendition, IsStyle, plain_style, known, is_foreground, is_background, is_extended_color, apply, written, code_if, start_codes, font_codes, color_codes, start, style_after_from}
 use Rattle.ansi_style.proofs.SgrLemmas.{apply_all-alike}
 use Rattle.ansi_style.proofs.ColorLemmas.{apply-foreground, apply-background, apply-underline_color, apply-font}
-use Rattle.ansi_style.proofs.ReadBackLemmas.{◌next◌, LeadFrom, lead_when, lead_on, apply_codes, style_after_from-codes, start_codes_are}
+use Rattle.ansi_style.proofs.ReadBackLemmas.{◌next◌, LeadFrom, LeadFrom-if, LeadFrom-append, apply_codes, style_after_from-codes, start_codes_are}
 
 -- Read from any style, a start adds what is set to what was set.
 
@@ -12,10 +12,10 @@ either_of None old = old
 either_of (Some x) old = Some x
 
 -- one more attribute, which `put` gives its value
-more : {q : Rendition} {xs : List (List ℕ)} {p : Rendition} (b old : Bool) (code : List ℕ) (put : Bool → Rendition → Rendition)
+LeadFrom-attribute : {q : Rendition} {xs : List (List ℕ)} {p : Rendition} (b old : Bool) (code : List ℕ) (put : Bool → Rendition → Rendition)
     → put old p ≡ p → apply p (written code) ≡ put true p → LeadFrom q xs p → LeadFrom q (xs ++ code_if b code) (put (b || old) p)
-more {p = p} b old code put same set so_far =
-    lead_when b code (put (b || old) p) (λ yes. set ∙ ap (λ c. put (c || old) p) (sym yes)) (λ no. sym same ∙ ap (λ c. put (c || old) p) (sym no)) so_far
+LeadFrom-attribute {p = p} b old code put same set so_far =
+    LeadFrom-if b code (put (b || old) p) (λ yes. set ∙ ap (λ c. put (c || old) p) (sym yes)) (λ no. sym same ∙ ap (λ c. put (c || old) p) (sym no)) so_far
 
 add_font : (o : Option ℕ) → IfSome o (λ n. IsTrue (is_in_range 11 19 n)) → (p : Rendition) → apply_codes p (font_codes o) ≡ record p { font = either_of o p.font }
 add_font None is p = refl
@@ -34,39 +34,39 @@ add_underline_color None is p = refl
 add_underline_color (Some c) is p = apply-underline_color c is p
 
 -- what is set in s, or in p
-abbrev added : Rendition → Rendition → Rendition
-added s p = record p { bold = s.bold || p.bold; faint = s.faint || p.faint; italic = s.italic || p.italic; underline = s.underline || p.underline; slow_blink = s.slow_blink || p.slow_blink; rapid_blink = s.rapid_blink || p.rapid_blink; inverse = s.inverse || p.inverse; hide = s.hide || p.hide; crossed_out = s.crossed_out || p.crossed_out; font = either_of s.font p.font; fraktur = s.fraktur || p.fraktur; double_underline = s.double_underline || p.double_underline; proportional_spacing = s.proportional_spacing || p.proportional_spacing; foreground = either_of s.foreground p.foreground; background = either_of s.background p.background; underline_color = either_of s.underline_color p.underline_color; framed = s.framed || p.framed; encircled = s.encircled || p.encircled; overlined = s.overlined || p.overlined; ideogram_underline = s.ideogram_underline || p.ideogram_underline; ideogram_double_underline = s.ideogram_double_underline || p.ideogram_double_underline; ideogram_overline = s.ideogram_overline || p.ideogram_overline; ideogram_double_overline = s.ideogram_double_overline || p.ideogram_double_overline; ideogram_stress_marking = s.ideogram_stress_marking || p.ideogram_stress_marking; superscript = s.superscript || p.superscript; subscript = s.subscript || p.subscript }
+abbrev set_in_either : Rendition → Rendition → Rendition
+set_in_either s p = record p { bold = s.bold || p.bold; faint = s.faint || p.faint; italic = s.italic || p.italic; underline = s.underline || p.underline; slow_blink = s.slow_blink || p.slow_blink; rapid_blink = s.rapid_blink || p.rapid_blink; inverse = s.inverse || p.inverse; hide = s.hide || p.hide; crossed_out = s.crossed_out || p.crossed_out; font = either_of s.font p.font; fraktur = s.fraktur || p.fraktur; double_underline = s.double_underline || p.double_underline; proportional_spacing = s.proportional_spacing || p.proportional_spacing; foreground = either_of s.foreground p.foreground; background = either_of s.background p.background; underline_color = either_of s.underline_color p.underline_color; framed = s.framed || p.framed; encircled = s.encircled || p.encircled; overlined = s.overlined || p.overlined; ideogram_underline = s.ideogram_underline || p.ideogram_underline; ideogram_double_underline = s.ideogram_double_underline || p.ideogram_double_underline; ideogram_overline = s.ideogram_overline || p.ideogram_overline; ideogram_double_overline = s.ideogram_double_overline || p.ideogram_double_overline; ideogram_stress_marking = s.ideogram_stress_marking || p.ideogram_stress_marking; superscript = s.superscript || p.superscript; subscript = s.subscript || p.subscript }
 
-start_adds : (s p : Rendition) → IsStyle s → apply_codes p (start_codes s) ≡ added s p
+start_adds : (s p : Rendition) → IsStyle s → apply_codes p (start_codes s) ≡ set_in_either s p
 start_adds s p is =
     let none : LeadFrom p [] p = record { reached = refl } in
     (none
-    next more s.bold p.bold (codes "1") (λ b p. record p { bold = b }) refl refl
-    next more s.faint p.faint (codes "2") (λ b p. record p { faint = b }) refl refl
-    next more s.italic p.italic (codes "3") (λ b p. record p { italic = b }) refl refl
-    next more s.underline p.underline (codes "4") (λ b p. record p { underline = b }) refl refl
-    next more s.slow_blink p.slow_blink (codes "5") (λ b p. record p { slow_blink = b }) refl refl
-    next more s.rapid_blink p.rapid_blink (codes "6") (λ b p. record p { rapid_blink = b }) refl refl
-    next more s.inverse p.inverse (codes "7") (λ b p. record p { inverse = b }) refl refl
-    next more s.hide p.hide (codes "8") (λ b p. record p { hide = b }) refl refl
-    next more s.crossed_out p.crossed_out (codes "9") (λ b p. record p { crossed_out = b }) refl refl
-    next lead_on (font_codes s.font) _ (add_font s.font is.font _)
-    next more s.fraktur p.fraktur (codes "20") (λ b p. record p { fraktur = b }) refl refl
-    next more s.double_underline p.double_underline (codes "21") (λ b p. record p { double_underline = b }) refl refl
-    next more s.proportional_spacing p.proportional_spacing (codes "26") (λ b p. record p { proportional_spacing = b }) refl refl
-    next lead_on (color_codes (codes "38") s.foreground) _ (add_foreground s.foreground is.foreground _)
-    next lead_on (color_codes (codes "48") s.background) _ (add_background s.background is.background _)
-    next lead_on (color_codes (codes "58") s.underline_color) _ (add_underline_color s.underline_color is.underline_color _)
-    next more s.framed p.framed (codes "51") (λ b p. record p { framed = b }) refl refl
-    next more s.encircled p.encircled (codes "52") (λ b p. record p { encircled = b }) refl refl
-    next more s.overlined p.overlined (codes "53") (λ b p. record p { overlined = b }) refl refl
-    next more s.ideogram_underline p.ideogram_underline (codes "60") (λ b p. record p { ideogram_underline = b }) refl refl
-    next more s.ideogram_double_underline p.ideogram_double_underline (codes "61") (λ b p. record p { ideogram_double_underline = b }) refl refl
-    next more s.ideogram_overline p.ideogram_overline (codes "62") (λ b p. record p { ideogram_overline = b }) refl refl
-    next more s.ideogram_double_overline p.ideogram_double_overline (codes "63") (λ b p. record p { ideogram_double_overline = b }) refl refl
-    next more s.ideogram_stress_marking p.ideogram_stress_marking (codes "64") (λ b p. record p { ideogram_stress_marking = b }) refl refl
-    next more s.superscript p.superscript (codes "73") (λ b p. record p { superscript = b }) refl refl
-    next more s.subscript p.subscript (codes "74") (λ b p. record p { subscript = b }) refl refl).reached
+    next LeadFrom-attribute s.bold p.bold (codes "1") (λ b p. record p { bold = b }) refl refl
+    next LeadFrom-attribute s.faint p.faint (codes "2") (λ b p. record p { faint = b }) refl refl
+    next LeadFrom-attribute s.italic p.italic (codes "3") (λ b p. record p { italic = b }) refl refl
+    next LeadFrom-attribute s.underline p.underline (codes "4") (λ b p. record p { underline = b }) refl refl
+    next LeadFrom-attribute s.slow_blink p.slow_blink (codes "5") (λ b p. record p { slow_blink = b }) refl refl
+    next LeadFrom-attribute s.rapid_blink p.rapid_blink (codes "6") (λ b p. record p { rapid_blink = b }) refl refl
+    next LeadFrom-attribute s.inverse p.inverse (codes "7") (λ b p. record p { inverse = b }) refl refl
+    next LeadFrom-attribute s.hide p.hide (codes "8") (λ b p. record p { hide = b }) refl refl
+    next LeadFrom-attribute s.crossed_out p.crossed_out (codes "9") (λ b p. record p { crossed_out = b }) refl refl
+    next LeadFrom-append (font_codes s.font) _ (add_font s.font is.font _)
+    next LeadFrom-attribute s.fraktur p.fraktur (codes "20") (λ b p. record p { fraktur = b }) refl refl
+    next LeadFrom-attribute s.double_underline p.double_underline (codes "21") (λ b p. record p { double_underline = b }) refl refl
+    next LeadFrom-attribute s.proportional_spacing p.proportional_spacing (codes "26") (λ b p. record p { proportional_spacing = b }) refl refl
+    next LeadFrom-append (color_codes (codes "38") s.foreground) _ (add_foreground s.foreground is.foreground _)
+    next LeadFrom-append (color_codes (codes "48") s.background) _ (add_background s.background is.background _)
+    next LeadFrom-append (color_codes (codes "58") s.underline_color) _ (add_underline_color s.underline_color is.underline_color _)
+    next LeadFrom-attribute s.framed p.framed (codes "51") (λ b p. record p { framed = b }) refl refl
+    next LeadFrom-attribute s.encircled p.encircled (codes "52") (λ b p. record p { encircled = b }) refl refl
+    next LeadFrom-attribute s.overlined p.overlined (codes "53") (λ b p. record p { overlined = b }) refl refl
+    next LeadFrom-attribute s.ideogram_underline p.ideogram_underline (codes "60") (λ b p. record p { ideogram_underline = b }) refl refl
+    next LeadFrom-attribute s.ideogram_double_underline p.ideogram_double_underline (codes "61") (λ b p. record p { ideogram_double_underline = b }) refl refl
+    next LeadFrom-attribute s.ideogram_overline p.ideogram_overline (codes "62") (λ b p. record p { ideogram_overline = b }) refl refl
+    next LeadFrom-attribute s.ideogram_double_overline p.ideogram_double_overline (codes "63") (λ b p. record p { ideogram_double_overline = b }) refl refl
+    next LeadFrom-attribute s.ideogram_stress_marking p.ideogram_stress_marking (codes "64") (λ b p. record p { ideogram_stress_marking = b }) refl refl
+    next LeadFrom-attribute s.superscript p.superscript (codes "73") (λ b p. record p { superscript = b }) refl refl
+    next LeadFrom-attribute s.subscript p.subscript (codes "74") (λ b p. record p { subscript = b }) refl refl).reached
 
 either_of-none : {A : Type 0} (o : Option A) → either_of o None ≡ o
 either_of-none None = refl

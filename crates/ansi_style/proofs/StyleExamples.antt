@@ -50,19 +50,19 @@ fields_that_are_no_codes : MakesRows (apply_parameters plain_style) (
     ∷ [])
 fields_that_are_no_codes = refl
 
-resets : MakesRows (apply_parameters plain_style) (
+resets_and_unknown_codes : MakesRows (apply_parameters plain_style) (
     (codes "1;0", record plain_style { reset = true })
     ∷ (codes "99;0", record plain_style { reset = true })
     ∷ (codes "0;99", record plain_style { reset = true; unknown = true })
     ∷ [])
-resets = refl
+resets_and_unknown_codes = refl
 
-sequences : MakesRows (apply plain_style) (
+sgrs_and_other_sequences : MakesRows (apply plain_style) (
     (codes "\u{1b}[1 m", plain_style)
     ∷ (codes "\u{1b}[>4;2m", plain_style)
     ∷ (codes "\u{1b}[1;31m", record plain_style { bold = true; foreground = Some (Bit4 31) })
     ∷ [])
-sequences = refl
+sgrs_and_other_sequences = refl
 
 -- Starts and closes.
 
@@ -73,9 +73,9 @@ full_start = refl
 full_close : close full_style ≡ codes "\u{1b}[0m\u{1b}[10m\u{1b}[22m\u{1b}[23m\u{1b}[24m\u{1b}[25m\u{1b}[27m\u{1b}[28m\u{1b}[29m\u{1b}[39m\u{1b}[49m\u{1b}[50m\u{1b}[54m\u{1b}[55m\u{1b}[65m\u{1b}[59m\u{1b}[75m\u{1b}[0m"
 full_close = refl
 
-lengths : MakesRows length ((start full_style, longest_start) ∷ (close full_style, longest_close) ∷ [])
+longest_lengths : MakesRows length ((start full_style, longest_start) ∷ (close full_style, longest_close) ∷ [])
 unfolding digits
-lengths = refl
+longest_lengths = refl
 
 both_lengths_together : longest_start + longest_close ≡ longest_start_and_close
 both_lengths_together = refl

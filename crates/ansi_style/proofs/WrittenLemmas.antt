@@ -11,14 +11,14 @@ of_group set group attributes inside below =
     ap (λ m. not (m == 0)) (and_assoc attributes set group ∙ ap (bit_and set) inside) ∙ has_one-places set attributes below
 
 -- the attribute at a place
-one : (set group k : ℕ) → bit_and group (2 ^ k) ≡ 2 ^ k → nat_lt (2 ^ k) (2 ^ 24) ≡ true → has_one_in_last set (2 ^ k) 24 ≡ (has set k || false)
+has_one-at_place : (set group k : ℕ) → bit_and group (2 ^ k) ≡ 2 ^ k → nat_lt (2 ^ k) (2 ^ 24) ≡ true → has_one_in_last set (2 ^ k) 24 ≡ (has set k || false)
     → has_one (bit_and set group) (2 ^ k) ≡ has set k
-one set group k inside below place = of_group set group (2 ^ k) inside below ∙ place ∙ or-false (has set k)
+has_one-at_place set group k inside below place = of_group set group (2 ^ k) inside below ∙ place ∙ or-false (has set k)
 
 -- those at two places
-two : (set group j k : ℕ) → bit_and group (2 ^ j + 2 ^ k) ≡ 2 ^ j + 2 ^ k → nat_lt (2 ^ j + 2 ^ k) (2 ^ 24) ≡ true
+has_one-at_two_places : (set group j k : ℕ) → bit_and group (2 ^ j + 2 ^ k) ≡ 2 ^ j + 2 ^ k → nat_lt (2 ^ j + 2 ^ k) (2 ^ 24) ≡ true
     → has_one_in_last set (2 ^ j + 2 ^ k) 24 ≡ (has set j || (has set k || false)) → has_one (bit_and set group) (2 ^ j + 2 ^ k) ≡ (has set j || has set k)
-two set group j k inside below places = of_group set group (2 ^ j + 2 ^ k) inside below ∙ places ∙ ap (λ b. has set j || b) (or-false (has set k))
+has_one-at_two_places set group j k inside below places = of_group set group (2 ^ j + 2 ^ k) inside below ∙ places ∙ ap (λ b. has set j || b) (or-false (has set k))
 
 -- What is written, code by code.
 
@@ -29,55 +29,55 @@ written_code_if : (b : Bool) (code : List ℕ) (xs : List (List ℕ)) → writte
 written_code_if true code xs = refl
 written_code_if false code xs = refl
 
-abbrev joined : List (List (List ℕ)) → List (List ℕ)
-joined = flat_map (λ codes. codes)
+abbrev codes_joined : List (List (List ℕ)) → List (List ℕ)
+codes_joined = flat_map (λ codes. codes)
 
 -- what is left to write, of a group of rows and after it, is what is written for these codes
 record Writes (rows rest : List ℕ) (all : List (List (List ℕ))) : Type 0 where
-  pub is : rows ++ rest ≡ written_all (joined all)
+  pub is : rows ++ rest ≡ written_all (codes_joined all)
 
-nothing : Writes [] [] []
-nothing = record { is = refl }
+Writes-nil : Writes [] [] []
+Writes-nil = record { is = refl }
 
 -- a code that is written if a test holds
-row : {rest : List ℕ} {all : List (List (List ℕ))} {b c : Bool} (code : List ℕ) → c ≡ b → Writes [] rest all
+Writes-code : {rest : List ℕ} {all : List (List (List ℕ))} {b c : Bool} (code : List ℕ) → c ≡ b → Writes [] rest all
     → Writes [] (written_if c (written code) ++ rest) (code_if b code ∷ all)
-row {all = all} {b} code same later = record { is = ap₂ (λ c v. written_if c (written code) ++ v) same later.is ∙ written_code_if b code (joined all) }
+Writes-code {all = all} {b} code same later = record { is = ap₂ (λ c v. written_if c (written code) ++ v) same later.is ∙ written_code_if b code (codes_joined all) }
 
 -- the same in a group of rows
 row_in : {rows rest : List ℕ} {all : List (List (List ℕ))} {b c : Bool} (code : List ℕ) → c ≡ b → Writes rows rest all
     → Writes (written_if c (written code) ++ rows) rest (code_if b code ∷ all)
 row_in {rows} {rest} {all} {b} {c} code same later = record {
-  is = append_assoc (written_if c (written code)) rows rest ∙ ap₂ (λ c v. written_if c (written code) ++ v) same later.is ∙ written_code_if b code (joined all);
+  is = append_assoc (written_if c (written code)) rows rest ∙ ap₂ (λ c v. written_if c (written code) ++ v) same later.is ∙ written_code_if b code (codes_joined all);
 }
 
 -- a group of rows, and the last one
-group : {rows rest : List ℕ} {all : List (List (List ℕ))} → Writes rows rest all → Writes [] (rows ++ rest) all
-group later = record { is = later.is }
+Writes-group : {rows rest : List ℕ} {all : List (List (List ℕ))} → Writes rows rest all → Writes [] (rows ++ rest) all
+Writes-group later = record { is = later.is }
 
 last_group : {rows : List ℕ} {all : List (List (List ℕ))} → Writes rows [] all → Writes [] rows all
 last_group {rows} later = record { is = sym (append-nil rows) ∙ later.is }
 
 -- codes that are written unchanged
 codes_then : {rest : List ℕ} {all : List (List (List ℕ))} (cs : List (List ℕ)) → Writes [] rest all → Writes [] (written_all cs ++ rest) (cs ∷ all)
-codes_then {all = all} cs later = record { is = ap (λ v. written_all cs ++ v) later.is ∙ sym (flat_map-append written cs (joined all)) }
+codes_then {all = all} cs later = record { is = ap (λ v. written_all cs ++ v) later.is ∙ sym (flat_map-append written cs (codes_joined all)) }
 
 three_then : {rest : List ℕ} {all : List (List (List ℕ))} (a b c : List (List ℕ)) → Writes [] rest all → Writes [] (written_all (a ++ b ++ c) ++ rest) (a ∷ b ∷ c ∷ all)
 three_then {all = all} a b c later = record {
-  is = (codes_then (a ++ b ++ c) later).is ∙ ap written_all (append_assoc (a ++ b) c (joined all) ∙ append_assoc a b (c ++ joined all));
+  is = (codes_then (a ++ b ++ c) later).is ∙ ap written_all (append_assoc (a ++ b) c (codes_joined all) ∙ append_assoc a b (c ++ codes_joined all));
 }
 
 -- codes that are joined from the left
-abbrev joined_after : List (List ℕ) → List (List (List ℕ)) → List (List ℕ)
-joined_after xs [] = xs
-joined_after xs (w ∷ all) = joined_after (xs ++ w) all
+abbrev codes_joined_after : List (List ℕ) → List (List (List ℕ)) → List (List ℕ)
+codes_joined_after xs [] = xs
+codes_joined_after xs (w ∷ all) = codes_joined_after (xs ++ w) all
 
-joined_after-joined : (xs : List (List ℕ)) (all : List (List (List ℕ))) → xs ++ joined all ≡ joined_after xs all
-joined_after-joined xs [] = append-nil xs
-joined_after-joined xs (w ∷ all) = sym (append_assoc xs w (joined all)) ∙ joined_after-joined (xs ++ w) all
+codes_joined_after-joined : (xs : List (List ℕ)) (all : List (List (List ℕ))) → xs ++ codes_joined all ≡ codes_joined_after xs all
+codes_joined_after-joined xs [] = append-nil xs
+codes_joined_after-joined xs (w ∷ all) = sym (append_assoc xs w (codes_joined all)) ∙ codes_joined_after-joined (xs ++ w) all
 
-all_written : {w : List ℕ} {all : List (List (List ℕ))} → Writes [] w all → (xs : List (List ℕ)) → joined_after [] all ≡ xs → w ≡ written_all xs
-all_written {all = all} writes xs same = writes.is ∙ ap written_all (joined_after-joined [] all ∙ same)
+all_written : {w : List ℕ} {all : List (List (List ℕ))} → Writes [] w all → (xs : List (List ℕ)) → codes_joined_after [] all ≡ xs → w ≡ written_all xs
+all_written {all = all} writes xs same = writes.is ∙ ap written_all (codes_joined_after-joined [] all ∙ same)
 
 -- a step, and those after it
 ◌before◌ : {A B : Type 0} → (A → B) → A → B
@@ -100,35 +100,35 @@ unfolding rendition_of
 start_by_rows s =
     let n = s.attributes.0 in
     all_written
-    (group
-    before row_in (codes "1") (one n INTENSITY.0 0 refl refl refl)
-    before row_in (codes "2") (one n INTENSITY.0 1 refl refl refl)
-    before group
-    before row_in (codes "3") (one n LETTERS.0 2 refl refl refl)
-    before row_in (codes "4") (one n LETTERS.0 3 refl refl refl)
-    before row_in (codes "5") (one n LETTERS.0 5 refl refl refl)
-    before row_in (codes "6") (one n LETTERS.0 6 refl refl refl)
-    before row_in (codes "7") (one n LETTERS.0 7 refl refl refl)
-    before row_in (codes "8") (one n LETTERS.0 8 refl refl refl)
-    before row_in (codes "9") (one n LETTERS.0 9 refl refl refl)
+    (Writes-group
+    before row_in (codes "1") (has_one-at_place n INTENSITY.0 0 refl refl refl)
+    before row_in (codes "2") (has_one-at_place n INTENSITY.0 1 refl refl refl)
+    before Writes-group
+    before row_in (codes "3") (has_one-at_place n LETTERS.0 2 refl refl refl)
+    before row_in (codes "4") (has_one-at_place n LETTERS.0 3 refl refl refl)
+    before row_in (codes "5") (has_one-at_place n LETTERS.0 5 refl refl refl)
+    before row_in (codes "6") (has_one-at_place n LETTERS.0 6 refl refl refl)
+    before row_in (codes "7") (has_one-at_place n LETTERS.0 7 refl refl refl)
+    before row_in (codes "8") (has_one-at_place n LETTERS.0 8 refl refl refl)
+    before row_in (codes "9") (has_one-at_place n LETTERS.0 9 refl refl refl)
     before codes_then (font_codes s.font)
-    before group
-    before row_in (codes "20") (one n SHAPES.0 12 refl refl refl)
-    before row_in (codes "21") (one n SHAPES.0 4 refl refl refl)
-    before row_in (codes "26") (one n SHAPES.0 13 refl refl refl)
+    before Writes-group
+    before row_in (codes "20") (has_one-at_place n SHAPES.0 12 refl refl refl)
+    before row_in (codes "21") (has_one-at_place n SHAPES.0 4 refl refl refl)
+    before row_in (codes "26") (has_one-at_place n SHAPES.0 13 refl refl refl)
     before three_then (color_codes (codes "38") s.foreground) (color_codes (codes "48") s.background) (color_codes (codes "58") s.underline_color)
     before last_group
-    before row_in (codes "51") (one n FRAMES.0 10 refl refl refl)
-    before row_in (codes "52") (one n FRAMES.0 11 refl refl refl)
-    before row_in (codes "53") (one n FRAMES.0 14 refl refl refl)
-    before row_in (codes "60") (one n FRAMES.0 15 refl refl refl)
-    before row_in (codes "61") (one n FRAMES.0 16 refl refl refl)
-    before row_in (codes "62") (one n FRAMES.0 17 refl refl refl)
-    before row_in (codes "63") (one n FRAMES.0 18 refl refl refl)
-    before row_in (codes "64") (one n FRAMES.0 19 refl refl refl)
-    before row_in (codes "73") (one n FRAMES.0 20 refl refl refl)
-    before row_in (codes "74") (one n FRAMES.0 21 refl refl refl)
-    before nothing)
+    before row_in (codes "51") (has_one-at_place n FRAMES.0 10 refl refl refl)
+    before row_in (codes "52") (has_one-at_place n FRAMES.0 11 refl refl refl)
+    before row_in (codes "53") (has_one-at_place n FRAMES.0 14 refl refl refl)
+    before row_in (codes "60") (has_one-at_place n FRAMES.0 15 refl refl refl)
+    before row_in (codes "61") (has_one-at_place n FRAMES.0 16 refl refl refl)
+    before row_in (codes "62") (has_one-at_place n FRAMES.0 17 refl refl refl)
+    before row_in (codes "63") (has_one-at_place n FRAMES.0 18 refl refl refl)
+    before row_in (codes "64") (has_one-at_place n FRAMES.0 19 refl refl refl)
+    before row_in (codes "73") (has_one-at_place n FRAMES.0 20 refl refl refl)
+    before row_in (codes "74") (has_one-at_place n FRAMES.0 21 refl refl refl)
+    before Writes-nil)
     (start_codes (rendition_of s)) refl
 
 pub close_by_rows : (s : Style) →
@@ -146,26 +146,26 @@ unfolding rendition_of
 close_by_rows s =
     let n = s.attributes.0 in
     all_written
-    (row (codes "0") refl
-    before row (codes "10") refl
-    before row (codes "22") (has_one-places n INTENSITY.0 refl ∙ ap (λ b. has n 0 || b) (or-false (has n 1)))
-    before group
-    before row_in (codes "23") (two n LETTERS.0 2 12 refl refl refl)
-    before row_in (codes "24") (two n LETTERS.0 3 4 refl refl refl)
-    before row_in (codes "25") (two n LETTERS.0 5 6 refl refl refl)
-    before row_in (codes "27") (one n LETTERS.0 7 refl refl refl)
-    before row_in (codes "28") (one n LETTERS.0 8 refl refl refl)
-    before row_in (codes "29") (one n LETTERS.0 9 refl refl refl)
-    before row (codes "39") refl
-    before row (codes "49") refl
-    before group
-    before row_in (codes "50") (one n FRAMES.0 13 refl refl refl)
-    before row_in (codes "54") (two n FRAMES.0 10 11 refl refl refl)
-    before row_in (codes "55") (one n FRAMES.0 14 refl refl refl)
+    (Writes-code (codes "0") refl
+    before Writes-code (codes "10") refl
+    before Writes-code (codes "22") (has_one-places n INTENSITY.0 refl ∙ ap (λ b. has n 0 || b) (or-false (has n 1)))
+    before Writes-group
+    before row_in (codes "23") (has_one-at_two_places n LETTERS.0 2 12 refl refl refl)
+    before row_in (codes "24") (has_one-at_two_places n LETTERS.0 3 4 refl refl refl)
+    before row_in (codes "25") (has_one-at_two_places n LETTERS.0 5 6 refl refl refl)
+    before row_in (codes "27") (has_one-at_place n LETTERS.0 7 refl refl refl)
+    before row_in (codes "28") (has_one-at_place n LETTERS.0 8 refl refl refl)
+    before row_in (codes "29") (has_one-at_place n LETTERS.0 9 refl refl refl)
+    before Writes-code (codes "39") refl
+    before Writes-code (codes "49") refl
+    before Writes-group
+    before row_in (codes "50") (has_one-at_place n FRAMES.0 13 refl refl refl)
+    before row_in (codes "54") (has_one-at_two_places n FRAMES.0 10 11 refl refl refl)
+    before row_in (codes "55") (has_one-at_place n FRAMES.0 14 refl refl refl)
     before row_in (codes "65") (of_group n FRAMES.0 IDEOGRAM.0 refl refl)
-    before row (codes "59") refl
+    before Writes-code (codes "59") refl
     before last_group
-    before row_in (codes "75") (two n ENDS.0 20 21 refl refl refl)
-    before row_in (codes "0") (one n ENDS.0 23 refl refl refl)
-    before nothing)
+    before row_in (codes "75") (has_one-at_two_places n ENDS.0 20 21 refl refl refl)
+    before row_in (codes "0") (has_one-at_place n ENDS.0 23 refl refl refl)
+    before Writes-nil)
     (close_codes (rendition_of s)) refl

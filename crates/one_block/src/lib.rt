@@ -16,7 +16,7 @@ const UNIT: usize = 16;
 /// Unused memory, aligned to 16.
 #[repr(C)]
 #[derive(Drop)]
-pub struct Block {
+pub struct MemoryBlock {
     ptr: *mut u8,
     size: usize,
     pub ghost region: { Region },
@@ -24,17 +24,17 @@ pub struct Block {
     pub ghost placed: { IsBlock region ptr at size },
 }
 
-impl Model for Block {
+impl Model for MemoryBlock {
     ghost also_owns = { λ b. bytes_at b.ptr b.size };
 }
 
-impl Block {
+impl MemoryBlock {
     /// The block's size, and the block again.
-    pub fn with_size(self) -> (usize, Block)
+    pub fn with_size(self) -> (usize, MemoryBlock)
         ensures { (result.0 ≡ self.size) × (result.1 ≡ self) }
     {
-        let Block { ptr, size } = self;
-        (size, Block { ptr, size })
+        let MemoryBlock { ptr, size } = self;
+        (size, MemoryBlock { ptr, size })
     }
 }
 
@@ -42,7 +42,7 @@ impl Block {
 #[derive(Drop)]
 pub struct OneBlock {
     size: usize,
-    free: Cell<Option<Block>>,
+    free: Cell<Option<MemoryBlock>>,
 }
 
 fn align_size(size: usize) -> usize
@@ -53,7 +53,7 @@ fn align_size(size: usize) -> usize
 }
 
 impl OneBlock {
-    pub fn new(block: Block) -> OneBlock {
+    pub fn new(block: MemoryBlock) -> OneBlock {
         let (size, block) = block.with_size();
         OneBlock {
             size,
@@ -67,12 +67,12 @@ impl OneBlock {
     }
 
     /// The block, or `None` if it is in use.
-    pub fn into_block(self) -> Option<Block> {
+    pub fn into_block(self) -> Option<MemoryBlock> {
         let OneBlock { size: _, free } = self;
         free.into_inner()
     }
 
-    fn take(&self, size: usize, align: usize) -> Option<Block>
+    fn take(&self, size: usize, align: usize) -> Option<MemoryBlock>
         ensures { IfSome result (λ b. (b.size ≡ block_size size) × (size < 2 ^ 63) × (align ≤ 16)) }
     {
         if align > UNIT || size > isize::MAX as usize {
@@ -87,7 +87,7 @@ impl OneBlock {
         }
     }
 
-    fn give(&self, block: Block) {
+    fn give(&self, block: MemoryBlock) {
         self.free.set(Some(block));
     }
 }
@@ -97,13 +97,13 @@ unsafe impl Allocator for OneBlock {
 
     fn allocate(&self, size: usize, align: usize) -> Result<*mut u8, AllocError> {
         match self.take(size, align) {
-            Some(Block { ptr, size: _ }) => Ok(ptr),
+            Some(MemoryBlock { ptr, size: _ }) => Ok(ptr),
             None => Err(AllocError),
         }
     }
 
     unsafe fn deallocate(&self, ptr: *mut u8, size: usize, _align: usize) {
         let size = align_size(size);
-        self.give(Block { ptr, size });
+        self.give(MemoryBlock { ptr, size });
     }
 }

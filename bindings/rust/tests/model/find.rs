@@ -4,10 +4,10 @@ use crate::text::Text;
 use crate::{compare, short_texts};
 use ansi_str::AnsiStr;
 
-/// The first character boundary at which the pattern stands.
+/// The first character boundary at which the pattern occurs.
 fn first_place(plain: &str, pat: &str) -> Option<usize> {
-    let stands = |place: &usize| matches!(plain.get(*place..), Some(rest) if rest.starts_with(pat));
-    (0..=plain.len()).find(stands)
+    let occurs = |place: &usize| matches!(plain.get(*place..), Some(rest) if rest.starts_with(pat));
+    (0..=plain.len()).find(occurs)
 }
 
 /// The last character boundary that isn't past the index.

@@ -1,4 +1,4 @@
-//! A model of the library: its definitions, computed slowly and plainly, and compared with its answers.
+//! A model of the library: its definitions, computed slowly and plainly, and compared with its results.
 
 mod blocks;
 mod cut;
@@ -20,7 +20,7 @@ const STYLED_PIECES: [&str; 21] = [
     "\x1b", "a", "bc", "\u{e9}", " ",
 ];
 
-/// All texts of at most so many of the pieces, the shorter first.
+/// All texts of at most that many of the pieces, the shorter first.
 fn short_texts<'p>(pieces: &'p [&'p str], most: u32) -> impl Iterator<Item = String> + 'p {
     let base = pieces.len();
     (0..=most).flat_map(move |count| {

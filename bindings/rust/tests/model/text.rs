@@ -68,7 +68,7 @@ pub enum Kind {
 pub struct Item<'t> {
     pub kind: Kind,
     pub spelled: &'t str,
-    /// How many plain bytes stand before it.
+    /// How many plain bytes come before it.
     pub place: usize,
 }
 
@@ -163,7 +163,7 @@ const CHARACTERS: [&str; 13] = [
 /// What control strings are made of, with each opening.
 const STRING_CHARACTERS: [&str; 8] = ["\x1b", "P", "X", "]", "^", "_", "\\", "\x07"];
 
-/// Compares what a text is read as. Where all of it is on the left side, its sequences stand there but for its SGRs.
+/// Compares what a text is read as. If all of it is on the left side, so are its sequences other than SGRs.
 fn expect_read(tally: &mut Tally, spelled: &str) {
     let text = Text::new(spelled);
     tally.expect(&*spelled.ansi_strip(), &text.plain, spelled);
@@ -184,7 +184,7 @@ fn control_strings_are_read_as_defined() {
     assert_eq!(compare(&STRING_CHARACTERS, 5, expect_read), 115_347);
 }
 
-/// Texts in which each character stands where a class of characters may.
+/// Texts in which each character is in a place where a class of characters may be.
 #[rustfmt::skip]
 const FRAMES: [(&str, &str); 10] = [
     ("\x1b", "mx"), ("\x1b[", "mx"), ("\x1b[", "1mx"), ("\x1b[1", "mx"), ("\x1b[1!", "mx"), ("\x1b(", "mx"),

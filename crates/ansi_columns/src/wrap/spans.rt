@@ -9,7 +9,7 @@ ghost use Rattle.ansi_columns.specs.Links.{link_end, longest_link_end};
 ghost use Rattle.ansi_columns.specs.Wrapped.{wrapped, IsWrappedLine};
 
 use crate::lines::first_line;
-use crate::links::{Pen, no_pen, pen_after_from};
+use crate::links::{Pen, pen_after_from, plain_pen};
 use crate::shown::LINK_END;
 use crate::walks::Walk;
 use ansi_search::search::PAST_THE_END;
@@ -46,14 +46,14 @@ pub(crate) struct Span<'t> {
 impl<'t> Model for Span<'t> {
     ghost use Rattle.ansi_items.specs.Plain.{plain, marks};
     ghost use Rattle.ansi_style.specs.States.{rendition_of};
-    ghost use Rattle.ansi_columns.specs.Wrapped.{WrappedLine, line_over, IsSpan};
+    ghost use Rattle.ansi_columns.specs.Wrapped.{WrappedLine, line_over, IsLineSpan};
 
     ghost Value = { WrappedLine };
 
     ghost view = { λ s. line_over (rendition_of s.carried.style) s.carried.link.now
         (plain s.text.now) (marks s.text.now) (s.start, s.end) };
 
-    ghost invariant = { λ s. IsSpan (rendition_of s.carried.style) s.carried.link.now s.text.now
+    ghost invariant = { λ s. IsLineSpan (rendition_of s.carried.style) s.carried.link.now s.text.now
         s.start s.end s.end_offset s.is_marked (rendition_of s.after.style) s.after.link.now };
 }
 
@@ -75,12 +75,12 @@ impl<'t> Span<'t> {
         ensures line { MatchOption result (IsFalse self.now.borrowed) (λ bare.
             (bare.now ≡ self.now.bytes) × IsTrue self.now.borrowed) }
         ensures len { length self.now.bytes
-            ≤ self.now.share + longest_start_and_close + longest_link_end }
+            ≤ self.now.source_len + longest_start_and_close + longest_link_end }
     {
         if self.is_marked {
             return None;
         }
-        if self.start != self.end && !self.carried.is_none() {
+        if self.start != self.end && !self.carried.is_plain() {
             return None;
         }
         Some(&self.text[self.start..self.end])
@@ -162,7 +162,7 @@ impl<'t> Spans<'t> {
             next: Some(Walk::start(text)),
             taken: 0,
             before: 0,
-            pen: no_pen(),
+            pen: plain_pen(),
         }
     }
 

@@ -1,6 +1,6 @@
 //! Runs over devices that fail or are interrupted.
 use super::{CHUNK, Plan, ROOM, Ran, at_call, expect, expect_end, run_with};
-use ansi_lines_io::page::Outcome;
+use ansi_lines_io::fake_device::Outcome;
 use std::alloc::{AllocError, Global};
 use std::process::Abort;
 use std::test::Fail;
@@ -209,11 +209,11 @@ fn each_failing_write_and_flush_is_told_of(rt: HostRuntime) -> Result<(), Fail> 
 }
 
 #[test]
-fn a_full_page_takes_no_more(rt: HostRuntime) -> Result<(), Fail> {
+fn a_full_device_takes_no_more(rt: HostRuntime) -> Result<(), Fail> {
     let mut plan = Plan::new(rt.alloc());
     plan.room = 3;
     let ran = run_with(rt.alloc(), &["strip"], b"abc\n", plan)?;
-    let name = "a page with no room for the line feed";
+    let name = "a device with no room for the line feed";
     expect_end(&rt, &ran, 4, "abc", "write failed\n", name);
     Ok(())
 }

@@ -1,6 +1,6 @@
 //! Words and an output that the program may lack.
 use super::{ROOM, expect};
-use ansi_lines_io::page::Page;
+use ansi_lines_io::fake_device::FakeDevice;
 use ansi_lines_runs::runs::prepare;
 use std::alloc::{AllocError, Global};
 use std::io::{self, Error, ErrorKind};
@@ -28,8 +28,8 @@ fn given<T: Drop>(is_given: bool, value: T) -> io::Result<T> {
 fn expect_prepared(rt: &impl Abort, alloc: Global, row: &Row) -> Result<(), AllocError> {
     let (has_words, has_output, status, told) = *row;
     let words = given(has_words, Vec::new(alloc));
-    let output = given(has_output, Page::with_room(alloc, ROOM)?);
-    let mut faults = Page::with_room(alloc, ROOM)?;
+    let output = given(has_output, FakeDevice::with_room(alloc, ROOM)?);
+    let mut faults = FakeDevice::with_room(alloc, ROOM)?;
     let ended = prepare(words, output, &mut faults).err();
     let name = (has_words, has_output);
     expect(rt, ended == status, "status", name);

@@ -5,7 +5,7 @@ ghost use Rattle.ansi_items.specs.Plain.{plain};
 ghost use Rattle.ansi_search.specs.Offsets.{StandsIn};
 
 use crate::search::offsets::offset_at;
-use crate::search::prefix::stands_at;
+use crate::search::prefix::continues_with;
 use ansi_items::ansitok::{Kind, Scanner};
 
 /// Whether the plain text ends with the pattern. (std.)
@@ -42,7 +42,7 @@ pub fn suffix_offset(text: &str, pat: &str) -> Option<usize>
     }
     let rest = &text[last..];
     let place = len.saturating_sub(pat.len());
-    if !stands_at(rest, pat.as_bytes(), place) {
+    if !continues_with(rest, pat.as_bytes(), place) {
         return None;
     }
     Some(last + offset_at(rest, place))

@@ -16,12 +16,12 @@ use memchr::memchr;
 pub fn starts_with(text: &str, pat: &str) -> bool
     ensures { result ≡ starts_with nat_eq (plain text.now) pat.now }
 {
-    stands_at(text, pat.as_bytes(), 0)
+    continues_with(text, pat.as_bytes(), 0)
 }
 
 /// Whether the plain text continues with the pattern from a position on. No run is read past the
 /// pattern's end.
-pub(super) fn stands_at(text: &str, pat: &[u8], place: usize) -> bool
+pub(super) fn continues_with(text: &str, pat: &[u8], place: usize) -> bool
     ensures { result ≡ starts_with nat_eq (drop place (plain text.now)) pat.now }
 {
     let mut before = place;

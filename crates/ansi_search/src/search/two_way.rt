@@ -10,7 +10,7 @@ ghost use Rattle.ansi_search.specs.Searches.{IsCut, IsPoint, IsReached, IsMismat
 ghost use Rattle.ansi_search.specs.Searches.{IsRunResult, StandsNowhere, LacksRareByte};
 
 use crate::search::critical::{CriticalCut, critical_cut};
-use crate::search::prefix::stands_at;
+use crate::search::prefix::continues_with;
 use ansi_items::ansitok::{Kind, Scanner};
 use memchr::arch::all::packedpair::Pair;
 use memchr::memchr;
@@ -134,7 +134,7 @@ impl<'p> Pattern<'p> {
                     return RunResult::Match(window.position);
                 }
                 window.point = point_before(text, window.point, window.position, here.position);
-                if self.front_stands(text, run, here.position, window) {
+                if self.front_matches(text, run, here.position, window) {
                     return RunResult::Match(window.position);
                 }
                 window = self.after_front(window);
@@ -178,7 +178,7 @@ impl<'p> Pattern<'p> {
 
     /// Whether the bytes before the cut agree with the plain text too. Those after it do, and end
     /// in the run.
-    fn front_stands(&self, text: &str, run: &[u8], place: usize, window: Window) -> bool
+    fn front_matches(&self, text: &str, run: &[u8], place: usize, window: Window) -> bool
         requires run { OccursAt (plain text.now) run.now place }
         requires point { IsPoint text.now window.point window.position }
         requires fits { window.position + length self.now.bytes.now ≤ place + length run.now }
@@ -190,7 +190,7 @@ impl<'p> Pattern<'p> {
             return run[window.position - place..].starts_with(front);
         }
         let rest = &text[window.point.offset..];
-        stands_at(rest, front, window.position - window.point.position)
+        continues_with(rest, front, window.position - window.point.position)
     }
 
     /// The window after one in which the bytes after the cut agree but those before it don't.

@@ -1,7 +1,7 @@
 use Rattle.std.proofs.Common.{sym, subst}
 use Rattle.ansi_columns.proofs.WalkLemmas.{walk_boundary}
 use Rattle.ansi_columns.proofs.ColumnLemmas.{IsFittingTo, fitting-begin, fitting-more, fitting-all, fitting-stop}
-use Rattle.ansi_columns.proofs.FitLemmas.{all_fit, not_all_fit}
+use Rattle.ansi_columns.proofs.FitLemmas.{IsFittingTo-end, not_all_fit}
 use Rattle.ansi_columns.proofs.fits.fitting_front.Goals as goal
 
 pub clusters-init : goal.clusters-init
@@ -34,4 +34,4 @@ pub returns-clause-fits : goal.returns-clause-fits
 returns-clause-fits c = fitting-all c.clusters.invariant.fitting (rw c.in_default.is at c.next_cluster.ensures)
 
 pub returns-clause-all : goal.returns-clause-all
-returns-clause-all c = all_fit c.clusters.invariant.fitting (rw c.in_default.is at c.next_cluster.ensures)
+returns-clause-all c = IsFittingTo-end c.clusters.invariant.fitting (rw c.in_default.is at c.next_cluster.ensures)

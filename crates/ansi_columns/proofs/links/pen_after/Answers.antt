@@ -6,7 +6,7 @@ use Rattle.ansi_columns.proofs.LinkLemmas.{link_after_all-none}
 use Rattle.ansi_columns.proofs.links.pen_after.Goals as goal
 
 pub returns-clause-style : goal.returns-clause-style
-returns-clause-style c = c.pen_after_from.ensures.style ∙ ap (λ s. style_after_from s c.args.text.now) c.no_pen.ensures.style
+returns-clause-style c = c.pen_after_from.ensures.style ∙ ap (λ s. style_after_from s c.args.text.now) c.plain_pen.ensures.style
 
 pub returns-clause-link : goal.returns-clause-link
-returns-clause-link c = c.pen_after_from.ensures.link ∙ ap (λ l. link_after_all l (marks c.args.text.now)) c.no_pen.ensures.link ∙ link_after_all-none (marks c.args.text.now)
+returns-clause-link c = c.pen_after_from.ensures.link ∙ ap (λ l. link_after_all l (marks c.args.text.now)) c.plain_pen.ensures.link ∙ link_after_all-none (marks c.args.text.now)

@@ -6,7 +6,7 @@ use Rattle.ansi_str.specs.Scans.{pieces_left}
 use Rattle.ansi_items.proofs.StepLemmas.{kind_is_text, gives_text, gives_mark, plain_of-mark}
 use Rattle.ansi_search.proofs.OffsetLemmas.{item_range, kind_differs}
 use Rattle.ansi_lines_io.proofs.Known.{append_known-append}
-use Rattle.ansi_lines_runs.proofs.Written.{unfailed}
+use Rattle.ansi_lines_runs.proofs.Written.{flag_unchanged}
 use Rattle.ansi_lines_runs.proofs.lines.write_plain.Goals as goal
 
 pub range-requires : goal.range-requires
@@ -25,7 +25,7 @@ loop-item-preserved-in-Continue-1 g c =
           ∙ append_known-append now w (plain_of (pieces_left c.next.new.self))
           ∙ ap (λ ps. append_known now (plain_of ps)) (sym left) ∙ c.loop-item.invariant.written;
       flushes = c.in_ok-write.ensures.flushes ∙ c.loop-item.invariant.flushes;
-      unfailed = unfailed _ _ c.in_ok-write.ensures.failed ∙ c.loop-item.invariant.unfailed;
+      unfailed = flag_unchanged _ _ c.in_ok-write.ensures.failed ∙ c.loop-item.invariant.unfailed;
     }
 
 -- over a mark

@@ -8,13 +8,13 @@ use Rattle.ansi_columns.proofs.LineLawLemmas.{lines_are, lines_are_good}
 use Rattle.ansi_columns.proofs.lines.Lines.new.Goals as goal
 
 -- the lines from the start on are those of the text
-whole : (t : List ℕ) (width n : ℕ) → n ≡ 0 → lines_from width n n n 0 (clusters_from t n) ≡ lines_from width 0 0 0 0 (clusters_from t 0)
-whole t width n none = ap (λ m. lines_from width m m m 0 (clusters_from t m)) none
+lines_from-start : (t : List ℕ) (width n : ℕ) → n ≡ 0 → lines_from width n n n 0 (clusters_from t n) ≡ lines_from width 0 0 0 0 (clusters_from t 0)
+lines_from-start t width n none = ap (λ m. lines_from width m m m 0 (clusters_from t m)) none
 
 pub returns-clause-lines : goal.returns-clause-lines
 returns-clause-lines c =
     ap (λ width. lines_from width c.start.result.position c.start.result.position c.start.result.position 0 (clusters_from c.args.text.now c.start.result.position)) c.max.ensures
-    ∙ whole c.args.text.now (max c.args.width 1) c.start.result.position c.start.ensures.position ∙ ap (lines_from (max c.args.width 1) 0 0 0 0) (clusters_from-start c.args.text.now)
+    ∙ lines_from-start c.args.text.now (max c.args.width 1) c.start.result.position c.start.ensures.position ∙ ap (lines_from (max c.args.width 1) 0 0 0 0) (clusters_from-start c.args.text.now)
 
 pub returns-clause-each : goal.returns-clause-each
 returns-clause-each c =

@@ -20,7 +20,7 @@ cluster-preserved c =
     let inv = c.cluster.invariant in
     let next = c.past-walk-in-Some.ensures in
     let joins : is_grapheme_break true (before t c.cluster.walk.position) (c.in-Some.next ∷ after t c.past-walk-in-Some.result.position) ≡ false
-    = sym (c.ends_before.ensures (before t c.cluster.walk.position) (after t c.past-walk-in-Some.result.position) inv.so_far.some inv.walk.seam) ∙ c.if-ends_before.false in
+    = sym (c.ends_before.ensures (before t c.cluster.walk.position) (after t c.past-walk-in-Some.result.position) inv.so_far.some inv.walk.break_state) ∙ c.if-ends_before.false in
     record {
       walk = next.walk;
       so_far = cluster-more t c.utf8.text c.cluster.walk inv.walk c.in-Some.next c.in-Some.ensures _ next.position next.before next.after
@@ -39,7 +39,7 @@ returns c =
       | in-Some+then-ends_before w ↦ (
           let next = w.in-Some.next in
           let rest = after-past t c.utf8.text walk inv.walk next w.in-Some.ensures in
-          cluster-stops inv.so_far (ap (is_grapheme_break true (before t walk.position)) rest ∙ sym (w.ends_before.ensures (before t walk.position) _ inv.so_far.some inv.walk.seam) ∙ w.if-ends_before.true))
+          cluster-stops inv.so_far (ap (is_grapheme_break true (before t walk.position)) rest ∙ sym (w.ends_before.ensures (before t walk.position) _ inv.so_far.some inv.walk.break_state) ∙ w.if-ends_before.true))
       | in_default w ↦ cluster-is_last inv.so_far (rw w.in_default.is at c.next_char-in-cluster.ensures)
     ] in
     (inv.walk, inv.so_far.ahead, first, c.width_up_to-width.ensures.value, c.width_up_to-width.ensures.bound)

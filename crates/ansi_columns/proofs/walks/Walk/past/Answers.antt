@@ -18,16 +18,16 @@ returns-clause-walk c =
     let w = c.args.self in
     let len = c.len_utf8-len.ensures.len in
     let position = ap (λ n. w.position + n) len in
-    let seam = c.after.ensures (before t w.position) c.requires.walk.seam in
+    let break_state = c.after.ensures (before t w.position) c.requires.walk.break_state in
     elim c.if-offset-run_end.branch [
       | then-offset-run_end v ↦ (
           let rest : v.range_from.result.now ≡ drop (w.offset + length (encode_utf8 c.args.next)) t = v.range_from.ensures.value ∙ ap (λ n. drop (w.offset + n) t) len in
           let run = v.first_run-start.ensures in
           walk-over t c.utf8.text w c.requires.walk c.args.next c.requires.next _ v.first_run-start.result.0 v.first_run-start.result.1 position
           (omega (arith, v.offset-is, len)) (omega (arith, v.run_end-is, len)) (run.start ∙ ap (λ x. offset_of x 0) rest)
-          (subst (λ x. IsRun x v.first_run-start.result.0 v.first_run-start.result.1) rest run.run) (λ e. run.none e ∙ ap length rest) seam)
+          (subst (λ x. IsRun x v.first_run-start.result.0 v.first_run-start.result.1) rest run.run) (λ e. run.none e ∙ ap length rest) break_state)
       | else-offset-run_end v ↦ walk-on t c.utf8.text w c.requires.walk c.args.next c.requires.next _ position (omega (arith, v.offset-is, len)) v.run_end-is
-          (λ e. absurd (omega (arith, e, v.if-offset-run_end.false, len))) seam
+          (λ e. absurd (omega (arith, e, v.if-offset-run_end.false, len))) break_state
     ]
 
 pub returns-clause-before : goal.returns-clause-before

@@ -1,5 +1,5 @@
 use Rattle.std.proofs.Common.{sym, ◌∙◌, ap, arith}
-use Rattle.ansi_columns.specs.Seams.{seam_of}
+use Rattle.ansi_columns.specs.BreakStates.{break_state_of}
 use Rattle.ansi_columns.proofs.WalkLemmas.{before-start}
 use Rattle.ansi_columns.proofs.walks.Walk.start.Goals as goal
 
@@ -10,6 +10,6 @@ returns-clause-walk c =
       offset = first.start;
       run = first.run;
       end = first.none;
-      seam = c.start.ensures ∙ ap seam_of (sym (before-start c.args.text.now));
+      break_state = c.start.ensures ∙ ap break_state_of (sym (before-start c.args.text.now));
       within = omega arith;
     }

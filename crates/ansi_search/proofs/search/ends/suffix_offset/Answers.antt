@@ -47,7 +47,7 @@ pub offset_at-requires : goal.offset_at-requires
 offset_at-requires c =
     let rest = c.range_from-rest.result.now in
     let starts : starts_with nat_eq (drop (c.loop-item.len - length c.args.pat.now) (plain rest)) c.args.pat.now ≡ true
-    = ap (λ n. starts_with nat_eq (drop n (plain rest)) c.args.pat.now) (sym c.saturating_sub-place.ensures) ∙ sym (c.stands_at.ensures ∙ ap (starts_with nat_eq (drop c.saturating_sub-place.result (plain c.range_from-rest.result.now))) c.as_bytes.ensures.value) ∙ c.if-not-stands_at.false in
+    = ap (λ n. starts_with nat_eq (drop n (plain rest)) c.args.pat.now) (sym c.saturating_sub-place.ensures) ∙ sym (c.continues_with.ensures ∙ ap (starts_with nat_eq (drop c.saturating_sub-place.result (plain c.range_from-rest.result.now))) c.as_bytes.ensures.value) ∙ c.if-not-continues_with.false in
     subst (λ n. IsTrue (no_character_goes_on (plain rest) n)) (sym c.saturating_sub-place.ensures)
     (tail-good c.args.pat.now c.loop-item.invariant.so_far c.in-None.ensures.steps.2 c.range_from-rest.ensures.value c.utf8.pat starts)
 
@@ -57,6 +57,6 @@ returns c =
     let rest = c.range_from-rest.result.now in
     let place = c.saturating_sub-place.ensures in (
       sym (tail-starts c.args.pat.now c.loop-item.invariant.so_far end c.range_from-rest.ensures.value)
-          ∙ ap (λ n. starts_with nat_eq (drop n (plain rest)) c.args.pat.now) (sym place) ∙ sym (c.stands_at.ensures ∙ ap (starts_with nat_eq (drop c.saturating_sub-place.result (plain c.range_from-rest.result.now))) c.as_bytes.ensures.value) ∙ c.if-not-stands_at.false,
+          ∙ ap (λ n. starts_with nat_eq (drop n (plain rest)) c.args.pat.now) (sym place) ∙ sym (c.continues_with.ensures ∙ ap (starts_with nat_eq (drop c.saturating_sub-place.result (plain c.range_from-rest.result.now))) c.as_bytes.ensures.value) ∙ c.if-not-continues_with.false,
       tail-stands c.loop-item.invariant.so_far end c.range_from-rest.ensures.value (subst (λ n. StandsIn rest n c.offset_at.result) place c.offset_at.ensures),
     )

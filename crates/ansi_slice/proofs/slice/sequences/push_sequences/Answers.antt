@@ -1,5 +1,5 @@
 use Rattle.ansi_slice.proofs.Common.{◌≡◌, ◌+◌, refl, ◌∙◌, ap, string_bytes, kind_is_text, plain_style, apply}
-use Rattle.ansi_search.proofs.OffsetLemmas.{over_text, over_mark, kind_differs, way-begin, way-text, way-mark, way-last, way-boundary}
+use Rattle.ansi_search.proofs.OffsetLemmas.{over_text, over_mark, kind_differs, offset_walk-begin, offset_walk-text, offset_walk-mark, offset_walk-last, offset_walk-boundary}
 use Rattle.ansi_slice.proofs.StretchLemmas.{pushed-begin, pushed-text, pushed-mark, pushed-last}
 use Rattle.ansi_slice.proofs.slice.sequences.push_sequences.Goals as goal
 
@@ -8,7 +8,7 @@ loop-item-init g c =
     let begins : c.into_iter-item-iterator.result ≡ record { text = c.args.text.now; offset = 0 } = c.into_iter-item-iterator.ensures.into_iter_gives ∙ c.new-item-items.ensures.start in
     record {
       text = ap (λ s. s.text) begins;
-      way = rw begins (plain_style, way-begin c.args.text.now c.args.position plain_style);
+      way = rw begins (plain_style, offset_walk-begin c.args.text.now c.args.position plain_style);
       so_far = rw begins (pushed-begin (string_bytes c.args.out.now) c.args.text.now c.args.position);
     }
 
@@ -20,7 +20,7 @@ loop-item-preserved-then-eq g c =
     let way = c.loop-item.invariant.way in
     record {
       text = gives.text ∙ c.loop-item.invariant.text;
-      way = (way.0, way-text way.1 over c.if-remaining-piece.false refl);
+      way = (way.0, offset_walk-text way.1 over c.if-remaining-piece.false refl);
       so_far = pushed-text c.loop-item.invariant.so_far over.first c.if-remaining-piece.false refl;
     }
 
@@ -32,7 +32,7 @@ loop-item-preserved g c =
     let way = c.loop-item.invariant.way in
     record {
       text = gives.text ∙ c.loop-item.invariant.text;
-      way = (apply way.0 c.range-piece.result.now, way-mark way.1 over refl);
+      way = (apply way.0 c.range-piece.result.now, offset_walk-mark way.1 over refl);
       so_far = pushed-mark c.loop-item.invariant.so_far over.first c.in_ok-push_str.ensures.bytes;
     }
 
@@ -51,6 +51,6 @@ returns-then-remaining-piece-clause-offset g c =
     let way = c.loop-item.invariant.way.1 in
     record {
       good = c.requires;
-      offset = at ∙ (way-last way over c.if-remaining-piece.true).0;
-      boundary = way-boundary way over c.if-remaining-piece.true at c.requires;
+      offset = at ∙ (offset_walk-last way over c.if-remaining-piece.true).0;
+      boundary = offset_walk-boundary way over c.if-remaining-piece.true at c.requires;
     }

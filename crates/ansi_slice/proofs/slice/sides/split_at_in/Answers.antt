@@ -7,14 +7,14 @@ use Rattle.ansi_search.proofs.PositionLemmas.{is_position_in-good, is_good_posit
 use Rattle.ansi_slice.proofs.slice.sides.split_at_in.Goals as goal
 
 -- if the text may be divided there, no character of its plain text goes on
-divided : (t : List ℕ) (n : ℕ) → IsUtf8 t → IsTrue (is_position_in t n) → IsTrue (no_character_goes_on (plain t) n)
-divided t n utf8 good = sym (is_good_position-utf8 (plain t) n (IsUtf8-plain t utf8)) ∙ sym (is_position_in-good t n utf8) ∙ good
+no_character_goes_on-if_divided : (t : List ℕ) (n : ℕ) → IsUtf8 t → IsTrue (is_position_in t n) → IsTrue (no_character_goes_on (plain t) n)
+no_character_goes_on-if_divided t n utf8 good = sym (is_good_position-utf8 (plain t) n (IsUtf8-plain t utf8)) ∙ sym (is_position_in-good t n utf8) ∙ good
 
 pub bare_sides-requires-clause-good : goal.bare_sides-requires-clause-good
-bare_sides-requires-clause-good g c = divided c.args.text.now c.args.mid c.utf8.text c.requires
+bare_sides-requires-clause-good g c = no_character_goes_on-if_divided c.args.text.now c.args.mid c.utf8.text c.requires
 
 pub write_sides-requires : goal.write_sides-requires
-write_sides-requires g c = divided c.args.text.now c.args.mid c.utf8.text c.requires
+write_sides-requires g c = no_character_goes_on-if_divided c.args.text.now c.args.mid c.utf8.text c.requires
 
 -- both sides have their text, and a start and a close for each text item and for the one that is divided
 

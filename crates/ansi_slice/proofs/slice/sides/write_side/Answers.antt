@@ -1,5 +1,5 @@
 use Rattle.ansi_slice.proofs.Common.{◌+◌, refl, ◌∙◌, ap, kind_is_text}
-use Rattle.ansi_search.proofs.OffsetLemmas.{over_text, over_mark, kind_differs, way-text, way-mark, way-last, way-boundary}
+use Rattle.ansi_search.proofs.OffsetLemmas.{over_text, over_mark, kind_differs, offset_walk-text, offset_walk-mark, offset_walk-last, offset_walk-boundary}
 use Rattle.ansi_slice.proofs.SideWalkLemmas.{side-text, side-mark}
 use Rattle.ansi_slice.proofs.slice.sides.write_side.Goals as goal
 
@@ -10,7 +10,7 @@ loop-item-preserved-then-eq g c =
     let over = over_text gives c.loop-item.invariant.text c.range-piece.ensures.value (kind_is_text c.if-eq.ensures) in
     record {
       text = gives.text ∙ c.loop-item.invariant.text;
-      way = way-text c.loop-item.invariant.way over c.if-remaining-piece.false refl;
+      way = offset_walk-text c.loop-item.invariant.way over c.if-remaining-piece.false refl;
       so_far = side-text c.loop-item.invariant.so_far over.first c.if-remaining-piece.false c.in_ok-write_dressed-2.ensures refl;
     }
 
@@ -21,7 +21,7 @@ loop-item-preserved g c =
     let over = over_mark gives c.loop-item.invariant.text c.range-piece.ensures.value (kind_differs c.if-eq.ensures) in
     record {
       text = gives.text ∙ c.loop-item.invariant.text;
-      way = way-mark c.loop-item.invariant.way over c.write_mark.ensures.style;
+      way = offset_walk-mark c.loop-item.invariant.way over c.write_mark.ensures.style;
       so_far = side-mark c.loop-item.invariant.so_far over.first c.in_ok-write_mark.ensures.bytes c.write_mark.ensures.style;
     }
 
@@ -30,7 +30,7 @@ loop-item-preserved g c =
 pub returns-then-remaining-piece-clause-style : goal.returns-then-remaining-piece-clause-style
 returns-then-remaining-piece-clause-style g c =
     let over = over_text c.in-Some.ensures.steps c.loop-item.invariant.text c.range-piece.ensures.value (kind_is_text c.if-eq.ensures) in
-    (way-last c.loop-item.invariant.way over c.if-remaining-piece.true).1
+    (offset_walk-last c.loop-item.invariant.way over c.if-remaining-piece.true).1
 
 pub returns-then-remaining-piece-clause-offset : goal.returns-then-remaining-piece-clause-offset
 returns-then-remaining-piece-clause-offset g c =
@@ -39,6 +39,6 @@ returns-then-remaining-piece-clause-offset g c =
     let over = over_text gives c.loop-item.invariant.text c.range-piece.ensures.value (kind_is_text c.if-eq.ensures) in
     record {
       good = c.requires;
-      offset = at ∙ (way-last c.loop-item.invariant.way over c.if-remaining-piece.true).0;
-      boundary = way-boundary c.loop-item.invariant.way over c.if-remaining-piece.true at c.requires;
+      offset = at ∙ (offset_walk-last c.loop-item.invariant.way over c.if-remaining-piece.true).0;
+      boundary = offset_walk-boundary c.loop-item.invariant.way over c.if-remaining-piece.true at c.requires;
     }

@@ -2,9 +2,9 @@ use Rattle.ansi_split.proofs.Common.{[], ◌≡◌, ◌<◌, ℕ, List, ◌∷�
 use Rattle.ansi_split.proofs.RestLemmas.{ends_in_run}
 use Rattle.ansi_split.proofs.split.rest.may_go_on.Goals as goal
 
-filled : (p : List ℕ) (b : ℕ) → Some b ≡ slice_get p 0 → (0 < length p) × (b ≡ slice_index p 0)
-filled [] b some = absurd (cc some)
-filled (a ∷ p) b some = (omega arith, cc some)
+slice_get-first_byte : (p : List ℕ) (b : ℕ) → Some b ≡ slice_get p 0 → (0 < length p) × (b ≡ slice_index p 0)
+slice_get-first_byte [] b some = absurd (cc some)
+slice_get-first_byte (a ∷ p) b some = (omega arith, cc some)
 
 pub returns : goal.returns
-returns c = grind (arith, ends_in_run, filled, take_rest)
+returns c = grind (arith, ends_in_run, slice_get-first_byte, take_rest)

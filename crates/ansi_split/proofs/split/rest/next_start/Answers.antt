@@ -1,5 +1,5 @@
 use Rattle.ansi_split.proofs.Common.{◌≡◌, ◌<◌, ℕ, Some, length, sym, ◌∙◌, ap, arith, unwrap_or, plain, first_match_from, length-plain}
-use Rattle.ansi_split.proofs.RestLemmas.{start_in_run, start_again, start_after_run, first_or_past, here_or_past, match_boundary_in_run, cut_in_run}
+use Rattle.ansi_split.proofs.RestLemmas.{start_in_run, first_match_from-match, start_after_run, first_or_past, here_or_past, match_boundary_in_run, cut_in_run}
 use Rattle.ansi_split.proofs.split.rest.next_start.Goals as goal
 
 -- a match in the run
@@ -7,7 +7,7 @@ pub returns-in-Some : goal.returns-in-Some
 returns-in-Some c =
     let found = start_in_run c.args.text.now c.split_at.result.0.now c.args.pat.now c.args.run_len c.args.from c.in-Some.start c.split_at.ensures.front c.requires.plain c.in-Some.ensures in
     record {
-      same = start_again (plain c.args.text.now) c.args.pat.now c.args.from c.in-Some.start found;
+      same = first_match_from-match (plain c.args.text.now) c.args.pat.now c.args.from c.in-Some.start found;
       here = λ before. found;
       boundary = λ before. match_boundary_in_run c.args.text.now c.args.pat.now c.args.from c.args.run_len c.in-Some.start c.requires.ends.0 c.requires.plain before found;
       cut = λ before. cut_in_run c.args.text.now c.args.pat.now c.args.from c.args.run_len c.in-Some.start c.utf8.text c.utf8.pat c.requires.ends.0 c.requires.plain before found;

@@ -8,13 +8,13 @@ use Rattle.ansi_split.proofs.split.spans.write_text.Goals as goal
 pub range_from-requires : goal.range_from-requires
 range_from-requires g c = λ some. boundary-bare c.args.text.now c.args.skip (sym c.requires.marked ∙ c.if-not-is_marked.true) c.requires.boundary
 
-pushed : {E : Type 0} (old new more all : List ℕ) (r : Result (Unit {0}) E) → new ≡ (if is_ok r then more else old) → more ≡ all → OnOk r (new ≡ all)
-pushed old new more all (Ok x) is same = is ∙ same
-pushed old new more all (Err e) is same = tt
+OnOk-pushed : {E : Type 0} (old new more all : List ℕ) (r : Result (Unit {0}) E) → new ≡ (if is_ok r then more else old) → more ≡ all → OnOk r (new ≡ all)
+OnOk-pushed old new more all (Ok x) is same = is ∙ same
+OnOk-pushed old new more all (Err e) is same = tt
 
 pub returns-then-not-is_marked : goal.returns-then-not-is_marked
 returns-then-not-is_marked g c =
-    pushed _ _ _ _ c.push_str.result c.push_str.ensures.bytes
+    OnOk-pushed _ _ _ _ c.push_str.result c.push_str.ensures.bytes
     (ap (λ v. string_bytes c.args.part.now ++ v) (c.range_from.ensures.value ∙ sym (shown-bare c.args.text.now c.args.skip (sym c.requires.marked ∙ c.if-not-is_marked.true))))
 
 -- the plain bytes that are left out end at a character

@@ -4,7 +4,7 @@ use Rattle.ansi_style.proofs.StyleLemmas.{IsStyle-rendition_of}
 use Rattle.ansi_style.specs.States.{rendition_of}
 use Rattle.ansi_columns.specs.Wrapped.{WrappedLine}
 use Rattle.ansi_columns.proofs.WrapLemmas.{line-bare, bare-boundary, owned-marked, owned-carried, length-line}
-use Rattle.ansi_columns.proofs.wrap.spans.Span.bare.Goals.{else-self-2-via-then-self-2+else-not-is_none, else-self-2-via-else-self-2}
+use Rattle.ansi_columns.proofs.wrap.spans.Span.bare.Goals.{else-self-2-via-then-self-2+else-not-is_plain, else-self-2-via-else-self-2}
 use Rattle.ansi_columns.proofs.wrap.spans.Span.bare.Goals as goal
 
 pub returns-then-self : goal.returns-then-self
@@ -15,12 +15,12 @@ returns-then-self c =
       len = length-line (rendition_of s.carried.style) s.carried.link.now (plain s.text.now) (marks s.text.now) (s.start, s.end) (IsStyle-rendition_of s.carried.style) c.self.view_is;
     }
 
-pub returns-then-not-is_none : goal.returns-then-not-is_none
-returns-then-not-is_none c =
+pub returns-then-not-is_plain : goal.returns-then-not-is_plain
+returns-then-not-is_plain c =
     let s = c.self.inside in
     record {
       line = sym (ap (λ (l : WrappedLine). l.borrowed) c.self.view_is)
-          ∙ owned-carried (rendition_of s.carried.style) s.carried.link.now s.text.now s.start s.end c.if-self-2.true (sym c.is_none.ensures ∙ c.if-not-is_none.true);
+          ∙ owned-carried (rendition_of s.carried.style) s.carried.link.now s.text.now s.start s.end c.if-self-2.true (sym c.is_plain.ensures ∙ c.if-not-is_plain.true);
       len = length-line (rendition_of s.carried.style) s.carried.link.now (plain s.text.now) (marks s.text.now) (s.start, s.end) (IsStyle-rendition_of s.carried.style) c.self.view_is;
     }
 
@@ -34,7 +34,7 @@ pub returns : goal.returns
 returns c =
     let s = c.self.inside in
     let bare = line-bare c.self.invariant c.if-self.false (elim c.else-self-2.branch [
-      | else-self-2-via-then-self-2+else-not-is_none w ↦ inr (sym w.is_none.ensures ∙ w.if-not-is_none.false)
+      | else-self-2-via-then-self-2+else-not-is_plain w ↦ inr (sym w.is_plain.ensures ∙ w.if-not-is_plain.false)
       | else-self-2-via-else-self-2 w ↦ inl w.if-self-2.false
     ]) in
     record {

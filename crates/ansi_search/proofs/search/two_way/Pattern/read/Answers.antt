@@ -1,5 +1,5 @@
 use Rattle.ansi_search.proofs.Common.{◌≤◌, ◌+◌, length, sym, ◌∙◌, arith, plain, length-plain, IsCut, IsMismatch}
-use Rattle.ansi_search.proofs.WindowLemmas.{comes-then, ahead-later, meets-from, meets-last, stands-both, apart-both}
+use Rattle.ansi_search.proofs.WindowLemmas.{comes-then, ahead-later, meets-from, meets-last, OccursAt-front_and_rest, apart-both}
 use Rattle.ansi_search.proofs.search.two_way.Pattern.read.Goals as goal
 
 pub overflow_add-end : goal.overflow_add-end
@@ -17,8 +17,8 @@ loop-window-preserved-then-run-at c =
     }
 
 -- what follows the cut matches, and what comes before it does
-pub returns-then-front_stands : goal.returns-then-front_stands
-returns-then-front_stands c = grind (arith, meets-last, stands-both)
+pub returns-then-front_matches : goal.returns-then-front_matches
+returns-then-front_matches c = grind (arith, meets-last, OccursAt-front_and_rest)
 
 -- or it doesn't
 pub loop-window-preserved : goal.loop-window-preserved
@@ -36,7 +36,7 @@ loop-window-preserved c =
       point = c.point_before-window.ensures;
       meets = meets-from (plain t) p w.position w.low cut.at (length p) comes.low meets;
       fits = omega (arith, last, c.loop-window-test.true, c.requires.run.fits);
-      other = apart-both (plain t) p w.position cut.at (omega (arith, is_cut.below)) (sym c.front_stands.ensures ∙ c.if-front_stands.false);
+      other = apart-both (plain t) p w.position cut.at (omega (arith, is_cut.below)) (sym c.front_matches.ensures ∙ c.if-front_matches.false);
     } in
     record {
       comes = c.after_front-window.ensures.comes t c.args.window.position apart;

@@ -1,0 +1,144 @@
+//! Whether a cluster ends between two characters (UAX #29). The test uses a summary of the
+//! characters before.
+ghost use Rattle.std.specs.Prelude.{◌≡◌, ◌≢◌, ℕ, List, true, [], ◌∷◌};
+ghost use Rattle.std.specs.Int.{is_in_range};
+ghost use Rattle.unicode_segmentation.specs.Grapheme.{is_grapheme_break, break_by_pair, is_extend};
+ghost use Rattle.unicode_segmentation.specs.Grapheme.{is_zwj, is_regional, is_consonant};
+ghost use Rattle.ucd_derived.specs.IndicConjunctBreak.{indic_conjunct_break};
+ghost use Rattle.ansi_columns.specs.BreakStates.{break_state_of, links};
+
+use ucd_breaks::GraphemeClusterBreak;
+use ucd_breaks::GraphemeClusterBreak::*;
+use ucd_derived::IndicConjunctBreak;
+use ucd_emoji::is_extended_pictographic;
+
+/// A summary of the characters before a place, as much as the rules look back at.
+#[derive(Clone, Copy)]
+pub(crate) struct BreakState {
+    /// The value of the last character.
+    last: GraphemeClusterBreak,
+    /// Whether they end in a linker that joins a following consonant (GB9c).
+    is_linked: bool,
+    /// Whether they end in a pictograph and the characters that extend it.
+    is_pictograph: bool,
+    /// Whether they end in a pictograph, the characters that extend it, and a joiner (GB11).
+    is_joined: bool,
+    /// Whether they end in an odd number of regional indicators (GB12 and GB13).
+    is_half_flag: bool,
+}
+
+impl BreakState {
+    /// The summary of no characters.
+    pub(crate) fn start() -> BreakState
+        ensures { result ≡ break_state_of [] }
+    {
+        BreakState {
+            last: Other,
+            is_linked: false,
+            is_pictograph: false,
+            is_joined: false,
+            is_half_flag: false,
+        }
+    }
+
+    /// The summary after one more character.
+    #[inline]
+    pub(crate) fn after(self, c: char) -> BreakState
+        ensures { (before : List ℕ) → self ≡ break_state_of before →
+            result ≡ break_state_of (c ∷ before) }
+    {
+        if is_printable(c) {
+            return BreakState::start();
+        }
+        let value = GraphemeClusterBreak::for_char(c);
+        BreakState {
+            last: value,
+            is_linked: links(c, self.is_linked),
+            is_pictograph: is_extended_pictographic(c) || (is_extend(value) && self.is_pictograph),
+            is_joined: is_zwj(value) && self.is_pictograph,
+            is_half_flag: is_regional(value) && !self.is_half_flag,
+        }
+    }
+
+    /// Whether a cluster ends before the next character. There has to be a character before it.
+    #[inline]
+    pub(crate) fn ends_before(self, next: char) -> bool
+        ensures { (before after : List ℕ) → before ≢ [] → self ≡ break_state_of before →
+            result ≡ is_grapheme_break true before (next ∷ after) }
+    {
+        if is_printable(next) {
+            return break_by_pair(self.last, Other).unwrap_or(true);
+        }
+        let value = GraphemeClusterBreak::for_char(next);
+        if let Some(is_break) = break_by_pair(self.last, value) {
+            return is_break;
+        }
+        let joins_conjunct = self.is_linked && is_consonant(next);
+        let joins_emoji = self.is_joined && is_extended_pictographic(next);
+        let joins_flag = self.is_half_flag && is_regional(value);
+        !(joins_conjunct || joins_emoji || joins_flag)
+    }
+}
+
+/// Whether the character is printable ASCII, which none of the tables lists.
+#[inline]
+fn is_printable(c: char) -> bool
+    ensures { result ≡ is_in_range 0x20 0x7E c }
+{
+    matches!(c, ' '..='~')
+}
+
+/// Whether the values of two neighbors alone require or forbid a break, or `None` if they don't
+/// decide (GB3 to GB9b).
+#[inline]
+fn break_by_pair(left: GraphemeClusterBreak, right: GraphemeClusterBreak) -> Option<bool>
+    ensures { result ≡ break_by_pair true left right }
+{
+    match (left, right) {
+        (Cr, Lf) => Some(false),
+        (Control | Cr | Lf, _) | (_, Control | Cr | Lf) => Some(true),
+        (L, L | V | Lv | Lvt) | (Lv | V, V | T) | (Lvt | T, T) => Some(false),
+        (_, Extend | Zwj | SpacingMark) | (Prepend, _) => Some(false),
+        _ => None,
+    }
+}
+
+/// Whether a linker and the characters that extend it end with this character.
+#[inline]
+fn links(c: char, is_linked: bool) -> bool
+    ensures { result ≡ links (indic_conjunct_break c) is_linked }
+{
+    match IndicConjunctBreak::for_char(c) {
+        IndicConjunctBreak::Linker => true,
+        IndicConjunctBreak::Extend => is_linked,
+        _ => false,
+    }
+}
+
+#[inline]
+fn is_consonant(c: char) -> bool
+    ensures { result ≡ is_consonant (indic_conjunct_break c) }
+{
+    IndicConjunctBreak::for_char(c) == IndicConjunctBreak::Consonant
+}
+
+#[inline]
+fn is_extend(value: GraphemeClusterBreak) -> bool
+    ensures { result ≡ is_extend value }
+{
+    matches!(value, Extend)
+}
+
+#[inline]
+fn is_zwj(value: GraphemeClusterBreak) -> bool
+    ensures { result ≡ is_zwj value }
+{
+    matches!(value, Zwj)
+}
+
+#[inline]
+fn is_regional(value: GraphemeClusterBreak) -> bool
+    ensures { result ≡ is_regional value }
+{
+    matches!(value, RegionalIndicator)
+}
