@@ -48,12 +48,12 @@ pub fn walk_over(text: &str) -> BlockWalk<'_>
 
 /// Writes the sequences before the first run of a text. Allocates only if there are any.
 pub fn write_waiting<A: Allocator>(alloc: A, text: &str, run: &Run<'_>, buffer: &mut [u8]) -> Answer
-    requires { run.now.has_sequences_before ≡ not (length (sequences_before text.now 0) == 0) }
+    requires { run.now.len_before ≡ length (sequences_before text.now 0) }
     ensures { Gives no (not (length (sequences_before text.now 0) == 0))
         (Some (sequences_before text.now 0)) result buffer.old buffer.new }
 {
-    if !run.has_sequences_before {
+    if run.len_before == 0 {
         return Answer::done(0);
     }
-    write_made(sequences_before(alloc, text), buffer)
+    write_made(sequences_before(alloc, text, run.len_before), buffer)
 }

@@ -1,5 +1,5 @@
 //! The blocks of a text: its runs of one style.
-ghost use Rattle.std.specs.Prelude.{◌≡◌, ◌++◌, ◌≤◌, IsTrue, IsFalse, IsNone, IsOk, IfOk, not, ◌==◌};
+ghost use Rattle.std.specs.Prelude.{◌≡◌, ◌++◌, ◌≤◌, IsTrue, IsFalse, IsNone, IsOk, IfOk, ◌==◌};
 ghost use Rattle.std.specs.Prelude.{length};
 ghost use Rattle.std.specs.List.{list_all};
 ghost use Rattle.std.specs.Cow.{cow_str_bytes};
@@ -230,17 +230,18 @@ fn block_text<'a, A: Allocator>(
     text: &str,
     run: &Run<'a>,
 ) -> Result<CowStr<'a, A>, AllocError>
-    requires { run.now.has_sequences_before ≡ not (length (sequences_before text.now 0) == 0) }
+    requires { run.now.len_before ≡ length (sequences_before text.now 0) }
     ensures bytes { IfOk result (λ c.
         cow_str_bytes c ≡ sequences_before text.now 0 ++ run.now.text.now) }
     ensures borrowed { IfOk result (λ c.
         is_borrow c ≡ (length (sequences_before text.now 0) == 0)) }
-    ensures takes_no_memory { IsFalse run.now.has_sequences_before → IsOk result }
+    ensures takes_no_memory { run.now.len_before ≡ 0 → IsOk result }
 {
-    if !run.has_sequences_before {
+    if run.len_before == 0 {
         return Ok(CowStr::Borrowed(run.text));
     }
-    let mut joined = sequences_before(alloc, text)?;
+    let room = run.len_before.saturating_add(run.text.len());
+    let mut joined = sequences_before(alloc, text, room)?;
     joined.push_str(run.text)?;
     Ok(CowStr::Owned(joined))
 }

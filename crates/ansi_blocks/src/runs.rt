@@ -1,6 +1,6 @@
 //! The first run of a text, and what waits for it. They have a module of their own, so that
 //! `ansi_str::blocks` doesn't pass them on.
-ghost use Rattle.std.specs.Prelude.{◌≡◌, ◌∷◌, [], IfNone, IfSome, IfOk, not, ◌==◌, length, string_bytes};
+ghost use Rattle.std.specs.Prelude.{◌≡◌, ◌∷◌, [], IfNone, IfSome, IfOk, length, string_bytes};
 ghost use Rattle.ansi_style.specs.States.{rendition_of};
 ghost use Rattle.ansi_blocks.specs.Blocks.{sequences_before, block_after, blocks_from};
 
@@ -13,8 +13,8 @@ use std::alloc::{AllocError, Allocator};
 #[derive(Clone, Copy)]
 pub struct Run<'a> {
     pub text: &'a str,
-    /// Whether a sequence that isn't an SGR waits for it.
-    pub has_sequences_before: bool,
+    /// How many bytes the sequences that wait for it have.
+    pub len_before: usize,
     /// The text after it.
     pub rest: &'a str,
 }
@@ -28,33 +28,37 @@ pub fn first_styled_run<'a>(text: &'a str, style: &mut Style) -> Option<Run<'a>>
         ≡ block_after (sequences_before text.now 0) run.text.now (rendition_of style.new)
         ∷ blocks_from (rendition_of style.new) run.rest.now) }
     ensures awaited { IfSome result (λ run.
-        run.has_sequences_before ≡ not (length (sequences_before text.now 0) == 0)) }
+        run.len_before ≡ length (sequences_before text.now 0)) }
 {
-    let mut has_sequences_before = false;
+    let mut len_before = 0;
     for item in Scanner::new(text) {
         let piece = &text[item.start..item.end];
         match item.kind {
             Kind::Text => {
                 return Some(Run {
                     text: piece,
-                    has_sequences_before,
+                    len_before,
                     rest: &text[item.end..],
                 });
             }
             Kind::Sgr => styles::apply(style, piece),
-            Kind::Other | Kind::Lone => has_sequences_before = true,
+            Kind::Other | Kind::Lone => len_before += piece.len(),
         }
     }
     None
 }
 
-/// The sequences before the first run of a text that aren't SGRs, joined. `Err` means out of
-/// memory. (Own.)
+/// The sequences before the first run of a text that aren't SGRs, joined. Reserves `room` bytes at
+/// once. `Err` means out of memory. (Own.)
 #[inline(never)]
-pub fn sequences_before<A: Allocator>(alloc: A, text: &str) -> Result<String<A>, AllocError>
+pub fn sequences_before<A: Allocator>(
+    alloc: A,
+    text: &str,
+    room: usize,
+) -> Result<String<A>, AllocError>
     ensures { IfOk result (λ s. string_bytes s ≡ sequences_before text.now 0) }
 {
-    let mut joined = String::new(alloc);
+    let mut joined = String::with_capacity(alloc, room)?;
     for item in Scanner::new(text) {
         match item.kind {
             Kind::Text => break,

@@ -15,6 +15,9 @@ use ansi_style::state::Style;
 use ansi_style::styles;
 use memchr::memchr;
 
+/// The sequence that closes a link (OSC 8).
+const LINK_END: &str = "\u{1b}]8;;\u{1b}\\";
+
 /// The style open at a place of a text, and the sequence that opened its link, which is empty if no
 /// link is open.
 #[derive(Clone, Copy)]
@@ -27,6 +30,7 @@ impl<'t> Pen<'t> {
     ghost use Rattle.std.specs.Prelude.{◌≡◌, ◌==◌, not, ◌&&◌, length};
     ghost use Rattle.ansi_style.specs.States.{rendition_of};
     ghost use Rattle.ansi_style.specs.Rendition.{has_any};
+    ghost use Rattle.ansi_columns.specs.Links.{link_end};
 
     /// Whether no style and no link is open.
     pub(crate) fn is_plain(&self) -> bool
@@ -34,6 +38,13 @@ impl<'t> Pen<'t> {
             ≡ (not (has_any (rendition_of self.now.style)) && length self.now.link.now == 0) }
     {
         !styles::has_any(&self.style) && self.link.is_empty()
+    }
+
+    /// What closes the link, if one is open.
+    pub(crate) fn link_end(&self) -> &'static str
+        ensures { result.now ≡ link_end self.now.link.now }
+    {
+        if self.link.is_empty() { "" } else { LINK_END }
     }
 }
 

@@ -18,9 +18,6 @@ use ansi_style::styles;
 use std::alloc::{AllocError, Allocator};
 use std::borrow::CowStr;
 
-/// The sequence that closes a link (OSC 8).
-pub(crate) const LINK_END: &str = "\u{1b}]8;;\u{1b}\\";
-
 /// The greatest length of what closes a link and a style, in bytes: `longest_link_end` and
 /// `longest_close`.
 const LONGEST_CLOSING: usize = 95;
@@ -112,9 +109,7 @@ fn closed<A: Allocator>(
     let mut out = String::with_capacity(alloc, most)?;
     push_blanks(&mut out, before)?;
     out.push_str(text)?;
-    if !pen.link.is_empty() {
-        out.push_str(LINK_END)?;
-    }
+    out.push_str(pen.link_end())?;
     styles::write_close(&pen.style, &mut out)?;
     Ok(out)
 }

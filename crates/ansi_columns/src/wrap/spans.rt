@@ -9,8 +9,7 @@ ghost use Rattle.ansi_columns.specs.Links.{link_end, longest_link_end};
 ghost use Rattle.ansi_columns.specs.Wrapped.{wrapped, IsWrappedLine};
 
 use crate::lines::first_line;
-use crate::links::{Pen, pen_after_from, plain_pen};
-use crate::shown::LINK_END;
+use crate::links::{Pen, plain_pen, pen_after_from};
 use crate::walks::Walk;
 use ansi_search::search::PAST_THE_END;
 use ansi_slice::slice::{has_any, push_sequences};
@@ -18,11 +17,6 @@ use ansi_style::styles;
 use std::alloc::{AllocError, Allocator};
 use std::borrow::CowStr;
 use std::marker::Model;
-
-/// Room for a start and a close, which together have at most 251 bytes (`longest_start_and_close`),
-/// and for the end of a link (`longest_link_end`). It is only a capacity, reserved before they are
-/// written.
-const PEN_ROOM: usize = 251 + LINK_END.len();
 
 /// The data of one line. Contracts see it as that line.
 #[derive(Drop)]
@@ -92,9 +86,10 @@ impl<'t> Span<'t> {
         requires { IsFalse self.now.borrowed }
         ensures { IfOk result (λ s. string_bytes s ≡ self.now.bytes) }
     {
-        let room = self.text.len().saturating_sub(self.start);
-        let room = room.saturating_add(self.carried.link.len());
-        let mut line = String::with_capacity(alloc, room.saturating_add(PEN_ROOM))?;
+        let links = self.carried.link.len() + self.after.link_end().len();
+        let len = self.text.len().saturating_sub(self.start);
+        let len = len.saturating_add(links);
+        let mut line = styles::with_room(alloc, &self.carried.style, len, &self.after.style)?;
         styles::write_start(&self.carried.style, &mut line)?;
         line.push_str(self.carried.link)?;
         let start = push_sequences(&mut line, self.text, self.start)?;
@@ -111,9 +106,7 @@ fn push_end<A: Allocator>(out: &mut String<A>, pen: &Pen<'_>) -> Result<(), Allo
     ensures { OnOk result (string_bytes out.new ≡ string_bytes out.old
         ++ (link_end pen.now.link.now ++ close_if_any (rendition_of pen.now.style))) }
 {
-    if !pen.link.is_empty() {
-        out.push_str(LINK_END)?;
-    }
+    out.push_str(pen.link_end())?;
     if styles::has_any(&pen.style) {
         styles::write_close(&pen.style, out)?;
     }

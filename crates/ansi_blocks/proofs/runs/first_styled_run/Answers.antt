@@ -1,4 +1,4 @@
-use Rattle.ansi_blocks.proofs.Common.{rules, ◌≡◌, ◌∷◌, length, sym, ◌∙◌, ap, arith, Text, rendition_of, gives_text, gives_rest, gives_mark}
+use Rattle.ansi_blocks.proofs.Common.{rules, ◌≡◌, ◌∷◌, sym, ◌∙◌, ap, arith, Text, rendition_of, gives_text, gives_rest, gives_mark}
 use Rattle.ansi_blocks.proofs.BlockWalkLemmas.{run-begin, run-other, run-text}
 use Rattle.ansi_blocks.proofs.runs.first_styled_run.Goals as goal
 
@@ -8,6 +8,7 @@ loop-item-init c =
     record {
       text = ap (λ s. s.text) begins;
       so_far = rw begins (run-begin (rendition_of c.args.style.now) c.args.text.now);
+      within = omega arith;
     }
 
 -- over a sequence that is no SGR, or a lone escape
@@ -17,7 +18,8 @@ loop-item-preserved c =
     let same = c.loop-item.invariant.text in
     record {
       text = gives.text ∙ same;
-      so_far = run-other c.loop-item.invariant.so_far (gives_mark gives same c.range-piece.ensures.value (search rules)) (search rules) (λ none. omega (arith, gives.forward, c.range-piece.ensures.len, ap length none));
+      so_far = run-other c.loop-item.invariant.so_far (gives_mark gives same c.range-piece.ensures.value (search rules)) (search rules);
+      within = omega (arith, gives.forward, c.range-piece.ensures.len, c.loop-item.invariant.within);
     }
 
 -- at the run

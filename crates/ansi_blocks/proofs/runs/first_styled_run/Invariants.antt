@@ -1,4 +1,4 @@
-use Rattle.ansi_blocks.proofs.Common.{◌≡◌, rendition_of, pieces_left}
+use Rattle.ansi_blocks.proofs.Common.{◌≡◌, ◌≤◌, rendition_of, pieces_left}
 use Rattle.ansi_blocks.proofs.BlockWalkLemmas.{IsRunSoFar}
 use Rattle.ansi_blocks.proofs.runs.first_styled_run.Given as goal
 
@@ -6,5 +6,6 @@ use Rattle.ansi_blocks.proofs.runs.first_styled_run.Given as goal
 abbrev pub invariant-loop-item : goal.invariant-loop-item
 invariant-loop-item l = record {
   text : l.item-iterator.text ≡ l.text;
-  so_far : IsRunSoFar (rendition_of l.initial.style) l.text (rendition_of l.style) l.has_sequences_before (pieces_left l.item-iterator);
+  so_far : IsRunSoFar (rendition_of l.initial.style) l.text (rendition_of l.style) l.len_before (pieces_left l.item-iterator);
+  within : l.len_before ≤ l.item-iterator.offset;
 }

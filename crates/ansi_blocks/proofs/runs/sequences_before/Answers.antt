@@ -8,7 +8,7 @@ loop-item-init g c =
     let begins : c.into_iter-item-iterator.result ≡ record { text = c.args.text.now; offset = 0 } = c.into_iter-item-iterator.ensures.into_iter_gives ∙ c.new-item-items.ensures.start in
     record {
       text = ap (λ s. s.text) begins;
-      so_far = rw (c.new-joined.ensures.bytes, begins) (record { bytes = rw (sequences_before-front c.args.text.now) });
+      so_far = rw (c.in_ok-joined.ensures.bytes, begins) (record { bytes = rw (sequences_before-front c.args.text.now) });
     }
 
 -- over another sequence, or a lone escape
