@@ -22,15 +22,15 @@ stand-append (p ∷ ps) qs first second = (first.0, stand-append ps qs first.1 s
 
 -- Texts that touch are joined.
 
-append_filled : (w v : List ℕ) → w ≢ [] → (w ++ v) ≢ []
-append_filled [] v filled = absurd (filled refl)
-append_filled (b ∷ w) v filled = λ e. cc
+append-nonempty : (w v : List ℕ) → w ≢ [] → (w ++ v) ≢ []
+append-nonempty [] v filled = absurd (filled refl)
+append-nonempty (b ∷ w) v filled = λ e. cc
 
 pub after_text_are : (w rest : List ℕ) (ps : List Piece) → w ≢ [] → list_all is_plain_byte w ≡ true → ArePieces rest ps → ArePieces (w ++ rest) (after_text w ps)
 after_text_are w rest [] filled all are = (rest, refl, (filled, all, λ some. absurd (some are)), are)
 after_text_are w rest (Text v ∷ ps) filled all are =
     let both : list_all is_plain_byte (w ++ v) ≡ true = list_all-append is_plain_byte w v ∙ and_from _ _ all are.2.1 in
-    (are.0, ap (λ u. w ++ u) are.1 ∙ sym (append_assoc w v are.0), (append_filled w v filled, both, are.2.2), are.3)
+    (are.0, ap (λ u. w ++ u) are.1 ∙ sym (append_assoc w v are.0), (append-nonempty w v filled, both, are.2.2), are.3)
 after_text_are w rest (Sequence v ∷ ps) filled all are =
     let front = sequence_front v are.2 in
     (rest, refl, (filled, all, λ some. ap (λ u. slice_index u 0) (are.1 ∙ ap (λ u. u ++ are.0) front.1)), are)
@@ -96,16 +96,16 @@ plain-front t w run is none =
 
 -- Two whole texts in a row.
 
-both_spelled : (u v : List ℕ) → u ++ v ≡ spelled (pieces_of u ++ pieces_of v)
-both_spelled u v = sym (flat_map-append spelling (pieces_of u) (pieces_of v) ∙ ap₂ (λ x y. x ++ y) (spelled-pieces_of u) (spelled-pieces_of v))
+spelled-both : (u v : List ℕ) → u ++ v ≡ spelled (pieces_of u ++ pieces_of v)
+spelled-both u v = sym (flat_map-append spelling (pieces_of u) (pieces_of v) ∙ ap₂ (λ x y. x ++ y) (spelled-pieces_of u) (spelled-pieces_of v))
 
 both_stand : (u v : List ℕ) → IsTrue (is_whole u) → IsTrue (is_whole v) → AllStandAnywhere (pieces_of u ++ pieces_of v)
 both_stand u v whole_u whole_v = stand-append (pieces_of u) (pieces_of v) (pieces_stand u whole_u) (pieces_stand v whole_v)
 
 pub pieces_of-append : (u v : List ℕ) → IsTrue (is_whole u) → IsTrue (is_whole v) → pieces_of (u ++ v) ≡ merged (pieces_of u ++ pieces_of v)
 pieces_of-append u v whole_u whole_v =
-    ap pieces_of (both_spelled u v) ∙ pieces_of-spelled (pieces_of u ++ pieces_of v) (both_stand u v whole_u whole_v)
+    ap pieces_of (spelled-both u v) ∙ pieces_of-spelled (pieces_of u ++ pieces_of v) (both_stand u v whole_u whole_v)
 
 pub is_whole-append : (u v : List ℕ) → IsTrue (is_whole u) → IsTrue (is_whole v) → IsTrue (is_whole (u ++ v))
 is_whole-append u v whole_u whole_v =
-    ap is_whole (both_spelled u v) ∙ is_whole-spelled (pieces_of u ++ pieces_of v) (both_stand u v whole_u whole_v)
+    ap is_whole (spelled-both u v) ∙ is_whole-spelled (pieces_of u ++ pieces_of v) (both_stand u v whole_u whole_v)

@@ -211,9 +211,9 @@ control_string_found o t rest opens found =
     } in
     (escape ∷ o ∷ (body ++ v.0), inr (inl c), ap (λ u. escape ∷ o ∷ u) spelled)
 
-escape_found : (t rest : List ℕ) → after_escape t ≡ Some rest → Begins (escape ∷ t) rest
-escape_found [] rest found = absurd (none-some rest found)
-escape_found (b ∷ t) rest found = elim (cases_Bool (opens_control_sequence b)) [
+after_escape-begins : (t rest : List ℕ) → after_escape t ≡ Some rest → Begins (escape ∷ t) rest
+after_escape-begins [] rest found = absurd (none-some rest found)
+after_escape-begins (b ∷ t) rest found = elim (cases_Bool (opens_control_sequence b)) [
   | inl control ↦ (
       let P : ℕ → Type 0 = λ x. Begins (escape ∷ x ∷ t) rest in
       subst P (sym (eqb-true b (byte "[") control)) (control_sequence_found t rest (sym (cond-true (opens_control_sequence b) _ _ control) ∙ found)))
@@ -231,7 +231,7 @@ after_sequence_found [] rest found = absurd (none-some rest found)
 after_sequence_found (b ∷ t) rest found = elim (cases_Bool (b == escape)) [
   | inl is ↦ (
       let P : ℕ → Type 0 = λ x. Begins (x ∷ t) rest in
-      subst P (sym (eqb-true b escape is)) (escape_found t rest (sym (cond-true (b == escape) _ _ is) ∙ found)))
+      subst P (sym (eqb-true b escape is)) (after_escape-begins t rest (sym (cond-true (b == escape) _ _ is) ∙ found)))
   | inr other ↦ absurd (none-some rest (sym (cond-false (b == escape) _ _ other) ∙ found))
 ]
 

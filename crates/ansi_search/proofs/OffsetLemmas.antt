@@ -37,31 +37,31 @@ take-after w rest n = grind (arith, take-append, take_all)
 pub drop-after : (w rest : List ℕ) (n : ℕ) → drop (length w + n) (w ++ rest) ≡ drop n rest
 drop-after w rest n = grind (arith, drop-append, drop_all)
 
-pub drop_filled : (n : ℕ) (w : List ℕ) → n < length w → drop n w ≢ []
-drop_filled n [] last = absurd (omega arith)
-drop_filled zero (b ∷ w) last = λ e. cc
-drop_filled (suc n) (b ∷ w) last = drop_filled n w (omega arith)
+pub drop-nonempty : (n : ℕ) (w : List ℕ) → n < length w → drop n w ≢ []
+drop-nonempty n [] last = absurd (omega arith)
+drop-nonempty zero (b ∷ w) last = λ e. cc
+drop-nonempty (suc n) (b ∷ w) last = drop-nonempty n w (omega arith)
 
 -- from a place inside a text on
 pub inside_are : (n : ℕ) (t w : List ℕ) (ps : List Piece) → ArePieces t (Text w ∷ ps) → n < length w → ArePieces (drop n t) (Text (drop n w) ∷ ps)
 inside_are n t w ps are last =
-    (are.0, ap (drop n) are.1 ∙ drop-append-le n w are.0 (omega arith), (drop_filled n w last, (list_all-parts is_plain_byte n w are.2.1).1, are.2.2), are.3)
+    (are.0, ap (drop n) are.1 ∙ drop-append-le n w are.0 (omega arith), (drop-nonempty n w last, (list_all-parts is_plain_byte n w are.2.1).1, are.2.2), are.3)
 
-pub after_more : (t : List ℕ) (p : Piece) (rest : List ℕ) (n : ℕ) (qs : List Piece) → t ≡ spelling p ++ rest → ArePieces (drop n rest) qs → ArePieces (drop (length (spelling p) + n) t) qs
-after_more t p rest n qs spelled are = subst (λ u. ArePieces u qs) (sym (ap (drop (length (spelling p) + n)) spelled ∙ drop-after (spelling p) rest n)) are
+pub ArePieces-drop : (t : List ℕ) (p : Piece) (rest : List ℕ) (n : ℕ) (qs : List Piece) → t ≡ spelling p ++ rest → ArePieces (drop n rest) qs → ArePieces (drop (length (spelling p) + n) t) qs
+ArePieces-drop t p rest n qs spelled are = subst (λ u. ArePieces u qs) (sym (ap (drop (length (spelling p) + n)) spelled ∙ drop-after (spelling p) rest n)) are
 
-pub after_are : (n : ℕ) (t : List ℕ) (ps : List Piece) → ArePieces t ps → ArePieces (drop (bytes_before n ps) t) (after_of n ps)
-after_are n t [] are = are
-after_are n t (Text w ∷ ps) are = elim (cases_lt n (length w)) [
+pub ArePieces-after_of : (n : ℕ) (t : List ℕ) (ps : List Piece) → ArePieces t ps → ArePieces (drop (bytes_before n ps) t) (after_of n ps)
+ArePieces-after_of n t [] are = are
+ArePieces-after_of n t (Text w ∷ ps) are = elim (cases_lt n (length w)) [
   | inl last ↦ rw (bytes_before-last n w ps last, after_of-last n w ps last) (inside_are n t w ps are last)
   | inr within ↦
       rw (bytes_before-text n w ps within, after_of-text n w ps within)
-      (after_more t (Text w) are.0 (bytes_before (n - length w) ps) (after_of (n - length w) ps) are.1 (after_are (n - length w) are.0 ps are.3))
+      (ArePieces-drop t (Text w) are.0 (bytes_before (n - length w) ps) (after_of (n - length w) ps) are.1 (ArePieces-after_of (n - length w) are.0 ps are.3))
 ]
-after_are n t (p ∷ ps) are = after_more t p are.0 (bytes_before n ps) (after_of n ps) are.1 (after_are n are.0 ps are.3)
+ArePieces-after_of n t (p ∷ ps) are = ArePieces-drop t p are.0 (bytes_before n ps) (after_of n ps) are.1 (ArePieces-after_of n are.0 ps are.3)
 
 pub pieces_of-after : (t : List ℕ) (n : ℕ) → pieces_of (drop (offset_of t n) t) ≡ after_of n (pieces_of t)
-pieces_of-after t n = sym (pieces_of-unique _ _ (after_are n t (pieces_of t) (pieces_are t)))
+pieces_of-after t n = sym (pieces_of-unique _ _ (ArePieces-after_of n t (pieces_of t) (pieces_are t)))
 
 pub plain_of-after : (n : ℕ) (ps : List Piece) → plain_of (after_of n ps) ≡ drop n (plain_of ps)
 plain_of-after n [] = sym (drop-nil n)

@@ -5,8 +5,8 @@ use Rattle.ansi_slice.proofs.TrimLemmas.{slice_range-trim_interval}
 use Rattle.ansi_search.proofs.MatchLemmas.{starts_with-splits}
 use Rattle.ansi_slice.proofs.KeptLemmas.{plain-kept}
 
-pub ends_in : (x p : List ℕ) → IsTrue (ends_with nat_eq x p) → x ≡ take (length x - length p) x ++ p
-ends_in x p ends = (ends_is Decides-eqb x p (ends_with nat_eq x p) refl).0 ends
+pub ends_with-splits : (x p : List ℕ) → IsTrue (ends_with nat_eq x p) → x ≡ take (length x - length p) x ++ p
+ends_with-splits x p ends = (ends_is Decides-eqb x p (ends_with nat_eq x p) refl).0 ends
 
 -- A prefix or suffix that is a text ends, or begins, at a character.
 
@@ -42,7 +42,7 @@ pub plain-without_suffix : (t p : List ℕ) → IsUtf8 p → IsTrue (is_whole t)
 plain-without_suffix t p utf8_p whole ends =
     let x = plain t in
     let n = length x - length p in
-    let split = ends_in x p ends in
+    let split = ends_with-splits x p ends in
     let all : n - 0 ≡ n = omega arith in
     let left : plain (without_suffix t p) ≡ take n x = plain-kept t 0 n whole ∙ ap (λ k. take k x) all in
     (length p, (refl, split, before_suffix x p utf8_p split), left, omega (arith, ap length left, ap length split, length-append (take n x) p))

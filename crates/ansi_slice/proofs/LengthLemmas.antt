@@ -73,8 +73,8 @@ length-copied p =
     cond_both (is_sgr (spelling p)) [] (spelling p) (λ v. length v ≤ length (spelling p)) (λ sgr. omega arith) (λ other. omega arith)
 
 -- a mark is copied to one side at most
-copied_once : (mid n : ℕ) (p : Piece) → length (if nat_le n mid then copied p else []) + length (if nat_le n mid then [] else copied p) ≤ length (spelling p)
-copied_once mid n p = grind (arith, length-copied)
+length-copied_once : (mid n : ℕ) (p : Piece) → length (if nat_le n mid then copied p else []) + length (if nat_le n mid then [] else copied p) ≤ length (spelling p)
+length-copied_once mid n p = grind (arith, length-copied)
 
 -- how long both sides of the pieces are that are left, and how many of these are texts
 
@@ -92,7 +92,7 @@ sides_len-first mid n s p ps = grind (arith, length-append)
 length-sides_past : (mid n : ℕ) (s : Rendition) (ps : List Piece) → IsStyle s → mid ≤ n → sides_len mid n s ps ≤ length (spelled ps) + longest_start_and_close * text_count ps
 length-sides_past mid n s [] is past = omega arith
 length-sides_past mid n s (Text w ∷ ps) is past = grind (arith, dressed-nothing, length-append, length-dressed, length-drop, length-take, sides_len-first, length-sides_past mid (n + length w) s ps is (omega arith))
-length-sides_past mid n s (p ∷ ps) is past = grind (arith, copied_once, length-append, sides_len-first, length-sides_past mid (n + 0) (apply s (spelling p)) ps (IsStyle-apply s (spelling p) is) (omega arith))
+length-sides_past mid n s (p ∷ ps) is past = grind (arith, length-copied_once, length-append, sides_len-first, length-sides_past mid (n + 0) (apply s (spelling p)) ps (IsStyle-apply s (spelling p) is) (omega arith))
 
 -- before it, one text more is dressed: the one that the position divides
 length-sides_from : (mid n : ℕ) (s : Rendition) (ps : List Piece) → IsStyle s → sides_len mid n s ps ≤ length (spelled ps) + longest_start_and_close * (text_count ps + 1)
@@ -110,7 +110,7 @@ length-sides_from mid n s (Text w ∷ ps) is =
           let none : length (drop (mid - n) w) ≡ 0 = omega (arith, before, length-drop (mid - n) w) in
           omega (arith, later, first, left, dressed-nothing s (drop (mid - n) w) none, length-take (mid - n) w, length-append w (spelled ps)))
     ]
-length-sides_from mid n s (p ∷ ps) is = grind (arith, copied_once, length-append, sides_len-first, length-sides_from mid (n + 0) (apply s (spelling p)) ps (IsStyle-apply s (spelling p) is))
+length-sides_from mid n s (p ∷ ps) is = grind (arith, length-copied_once, length-append, sides_len-first, length-sides_from mid (n + 0) (apply s (spelling p)) ps (IsStyle-apply s (spelling p) is))
 
 pub length-sides : (t : List ℕ) (mid : ℕ) → length (left_side t mid) + length (right_side t mid) ≤ length t + longest_start_and_close * (length (filter is_text (pieces_of t)) + 1)
 length-sides t mid =

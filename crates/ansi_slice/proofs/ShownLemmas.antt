@@ -31,9 +31,9 @@ spelled-one_text [] = refl
 spelled-one_text (b ∷ w) = append-nil (b ∷ w)
 
 -- a mark at the front
-shown-mark : (p : Piece) (test : ℕ → Bool) (x : List ℕ) (a b : ℕ) (ms : List Mark)
+interleaved-mark_at_front : (p : Piece) (test : ℕ → Bool) (x : List ℕ) (a b : ℕ) (ms : List Mark)
     → spelled (piece_when (test 0) p) ++ interleaved x a b (at_places test ms) ≡ interleaved x a b (at_places test (record { place = 0; bytes = spelling p } ∷ ms))
-shown-mark p test x a b ms = grind (arith, append-nil, interleaved-mark)
+interleaved-mark_at_front p test x a b ms = grind (arith, append-nil, interleaved-mark)
 
 pub spelled-interleaved_pieces : (ps : List Piece) (test : ℕ → Bool) (a b : ℕ) → spelled (interleaved_pieces test a b ps) ≡ interleaved (plain_of ps) a b (at_places test (marks_of ps))
 spelled-interleaved_pieces [] test a b = sym (interleaved-nil a b)
@@ -47,7 +47,7 @@ spelled-interleaved_pieces (Text w ∷ ps) test a b =
 spelled-interleaved_pieces (p ∷ ps) test a b =
     flat_map-append spelling (piece_when (test 0) p) (interleaved_pieces test a b ps)
     ∙ ap (λ v. spelled (piece_when (test 0) p) ++ v) (spelled-interleaved_pieces ps test a b)
-    ∙ shown-mark p test (plain_of ps) a b (marks_of ps)
+    ∙ interleaved-mark_at_front p test (plain_of ps) a b (marks_of ps)
     ∙ ap (λ ms. interleaved (plain_of ps) a b (at_places test ms)) (sym (marks_of-mark p ps refl))
 
 -- If the pieces may come before anything, so may what is shown of them.

@@ -93,16 +93,16 @@ is_side pick among picks test part t mid spells whole =
 
 -- The left side takes the first bytes, and the right side the others.
 
-take_picks : Picks (λ n w. take n w) (λ n bs. take n bs)
-take_picks = record {
+Picks-take : Picks (λ n w. take n w) (λ n bs. take n bs)
+Picks-take = record {
   as_styled = λ n s w. sym (take-map (λ b. record { byte = b; style = known s }) n w);
   of_nothing = take-nil;
   of_both = λ n bs cs. take-append n bs cs;
   stays_plain = λ n w all. (list_all-parts is_plain_byte n w all).0;
 }
 
-drop_picks : Picks (λ n w. drop n w) (λ n bs. drop n bs)
-drop_picks = record {
+Picks-drop : Picks (λ n w. drop n w) (λ n bs. drop n bs)
+Picks-drop = record {
   as_styled = λ n s w. sym (drop-map (λ b. record { byte = b; style = known s }) n w);
   of_nothing = drop-nil;
   of_both = λ n bs cs. drop-append n bs cs;
@@ -126,12 +126,12 @@ spelled-right mid n s p = grind (arith, spelled-dressed_text, spelled-mark, if-n
 pub left_side_is : (t : List ℕ) (mid : ℕ) → IsTrue (is_whole t) → IsClosed (take mid (styled t)) (left_side t mid)
 left_side_is t mid whole =
     subst (IsClosed (take mid (styled t))) (sym (left_side-walked t mid))
-    (is_side (λ n w. take n w) (λ n bs. take n bs) take_picks (λ n. nat_le n mid) (left_part mid) t mid (spelled-left mid) whole)
+    (is_side (λ n w. take n w) (λ n bs. take n bs) Picks-take (λ n. nat_le n mid) (left_part mid) t mid (spelled-left mid) whole)
 
 pub right_side_is : (t : List ℕ) (mid : ℕ) → IsTrue (is_whole t) → IsClosed (drop mid (styled t)) (right_side t mid)
 right_side_is t mid whole =
     subst (IsClosed (drop mid (styled t))) (sym (right_side-walked t mid))
-    (is_side (λ n w. drop n w) (λ n bs. drop n bs) drop_picks (λ n. not (nat_le n mid)) (right_part mid) t mid (spelled-right mid) whole)
+    (is_side (λ n w. drop n w) (λ n bs. drop n bs) Picks-drop (λ n. not (nat_le n mid)) (right_part mid) t mid (spelled-right mid) whole)
 
 -- joined, the sides have the styled bytes of the text
 pub styled-sides : (t : List ℕ) (mid : ℕ) → IsTrue (is_whole t) → styled (left_side t mid ++ right_side t mid) ≡ styled t

@@ -19,9 +19,9 @@ drop_trailing_whitespace-splits (c ∷ cs) =
     (λ white. (c ∷ cs, refl))
     (λ other. (later.0, ap (λ v. c ∷ v) later.1))
 
-scalars_after : (cs ds : List ℕ) → all_scalars (cs ++ ds) ≡ true → all_scalars ds ≡ true
-scalars_after [] ds all = all
-scalars_after (c ∷ cs) ds all = scalars_after cs ds (and_parts _ _ all).1
+all_scalars-after : (cs ds : List ℕ) → all_scalars (cs ++ ds) ≡ true → all_scalars ds ≡ true
+all_scalars-after [] ds all = all
+all_scalars-after (c ∷ cs) ds all = all_scalars-after cs ds (and_parts _ _ all).1
 
 -- a text is what a trim takes off its front, what is left, and what it takes off its end
 record IsTrimmed (x : List ℕ) : Type 0 where
@@ -40,11 +40,11 @@ is_trimmed x utf8 =
     let left = skip_leading_whitespace cs in
     let skip = skip_leading_whitespace-splits cs in
     let start : trim_start x ≡ encode_utf8_all left = ap (λ ds. encode_utf8_all (skip_leading_whitespace ds)) read in
-    let left_scalars = scalars_after skip.0 left (sym (ap all_scalars skip.1) ∙ utf8.1.0) in
+    let left_scalars = all_scalars-after skip.0 left (sym (ap all_scalars skip.1) ∙ utf8.1.0) in
     let inner = drop_trailing_whitespace left in
     let drops = drop_trailing_whitespace-splits left in
     let end : trim x ≡ encode_utf8_all inner = ap (λ ds. encode_utf8_all (drop_trailing_whitespace ds)) (ap chars start ∙ chars-encodes left left_scalars) in
-    let back_scalars = scalars_after inner drops.0 (sym (ap all_scalars drops.1) ∙ left_scalars) in
+    let back_scalars = all_scalars-after inner drops.0 (sym (ap all_scalars drops.1) ∙ left_scalars) in
     record {
       front = encode_utf8_all skip.0;
       back = encode_utf8_all drops.0;
@@ -55,14 +55,14 @@ is_trimmed x utf8 =
     }
 
 -- the interval begins after what is taken off the front
-from_is : (x : List ℕ) (is : IsTrimmed x) → (trim_interval x).0 ≡ length is.front
-from_is x is = omega (arith, ap length is.started, length-append is.front (trim_start x))
+trim_interval-start : (x : List ℕ) (is : IsTrimmed x) → (trim_interval x).0 ≡ length is.front
+trim_interval-start x is = omega (arith, ap length is.started, length-append is.front (trim_start x))
 
 -- what is left of the text from there on
 pub drop-trim_interval : (x : List ℕ) → IsUtf8 x → drop (trim_interval x).0 x ≡ trim_start x
 drop-trim_interval x utf8 =
     let is = is_trimmed x utf8 in
-    ap (λ n. drop n x) (from_is x is) ∙ ap (drop (length is.front)) is.started ∙ drop-append_seam is.front (trim_start x)
+    ap (λ n. drop n x) (trim_interval-start x is) ∙ ap (drop (length is.front)) is.started ∙ drop-append_seam is.front (trim_start x)
 
 -- the slice over the interval is std's trim
 pub slice_range-trim_interval : (x : List ℕ) → IsUtf8 x → slice_range x (trim_interval x).0 (trim_interval x).1 ≡ trim x
@@ -77,14 +77,14 @@ slice_range-trim_interval x utf8 =
 trim_begins : (x : List ℕ) → IsUtf8 x → IsCharBoundary x (trim_interval x).0
 trim_begins x utf8 =
     let is = is_trimmed x utf8 in
-    subst (IsCharBoundary x) (sym (from_is x is)) (IsCharBoundary-at_seam x is.front (trim_start x) is.started is.start_is_utf8)
+    subst (IsCharBoundary x) (sym (trim_interval-start x is)) (IsCharBoundary-at_seam x is.front (trim_start x) is.started is.start_is_utf8)
 
 trim_ends : (x : List ℕ) → IsUtf8 x → IsCharBoundary x (trim_interval x).1
 trim_ends x utf8 =
     let is = is_trimmed x utf8 in
     let seam : x ≡ (is.front ++ trim x) ++ is.back
     = is.started ∙ ap (λ v. is.front ++ v) is.ended ∙ sym (append_assoc is.front (trim x) is.back) in
-    let end : length (is.front ++ trim x) ≡ (trim_interval x).1 = length-append is.front (trim x) ∙ ap (λ n. n + length (trim x)) (sym (from_is x is)) in
+    let end : length (is.front ++ trim x) ≡ (trim_interval x).1 = length-append is.front (trim x) ∙ ap (λ n. n + length (trim x)) (sym (trim_interval-start x is)) in
     subst (IsCharBoundary x) end (IsCharBoundary-at_seam x (is.front ++ trim x) is.back seam is.back_is_utf8)
 
 pub trim_interval_boundaries : (x : List ℕ) → IsUtf8 x → IsCharBoundary x (trim_interval x).0 × IsCharBoundary x (trim_interval x).1

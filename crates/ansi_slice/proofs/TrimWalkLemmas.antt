@@ -10,13 +10,13 @@ pub IsUtf8-left : {old new : Scan} {item : Item} {text : List ℕ} → GivesItem
 IsUtf8-left gives same utf8 = grind (arith, IsUtf8-drop, IsUtf8-plain)
 
 -- an empty text has no characters
-no_chars : (cs : List ℕ) → length (encode_utf8_all cs) ≡ 0 → cs ≡ []
-no_chars [] none = refl
-no_chars (c ∷ cs) none = absurd (omega (arith, length-le-encodes (c ∷ cs), none))
+chars-none_if_no_bytes : (cs : List ℕ) → length (encode_utf8_all cs) ≡ 0 → cs ≡ []
+chars-none_if_no_bytes [] none = refl
+chars-none_if_no_bytes (c ∷ cs) none = absurd (omega (arith, length-le-encodes (c ∷ cs), none))
 
-some_chars : (cs : List ℕ) → 0 < length (encode_utf8_all cs) → 0 < length cs
-some_chars [] some = absurd (omega (arith, some))
-some_chars (c ∷ cs) some = omega arith
+chars-some_if_bytes : (cs : List ℕ) → 0 < length (encode_utf8_all cs) → 0 < length cs
+chars-some_if_bytes [] some = absurd (omega (arith, some))
+chars-some_if_bytes (c ∷ cs) some = omega arith
 
 -- White space at the front.
 
@@ -33,7 +33,7 @@ pub trim_start-white : (w y : List ℕ) → IsUtf8 w → length (trim_start w) �
 unfolding trim_start
 trim_start-white w y utf8 none =
     ap (λ cs. encode_utf8_all (skip_leading_whitespace cs)) (chars-append w y utf8)
-    ∙ ap encode_utf8_all (skip-white (chars w) (chars y) (no_chars (skip_leading_whitespace (chars w)) none))
+    ∙ ap encode_utf8_all (skip-white (chars w) (chars y) (chars-none_if_no_bytes (skip_leading_whitespace (chars w)) none))
 
 -- any other
 pub trim_start-other : (w y : List ℕ) → IsUtf8 w → IsUtf8 y → 0 < length (trim_start w) → trim_start (w ++ y) ≡ trim_start w ++ y
@@ -41,7 +41,7 @@ unfolding trim_start
 trim_start-other w y utf8 rest_utf8 some =
     let left = skip_leading_whitespace (chars w) in
     ap (λ cs. encode_utf8_all (skip_leading_whitespace cs)) (chars-append w y utf8)
-    ∙ ap encode_utf8_all (skip-other (chars w) (chars y) (some_chars left some))
+    ∙ ap encode_utf8_all (skip-other (chars w) (chars y) (chars-some_if_bytes left some))
     ∙ encodes-append left (chars y) ∙ ap (λ v. encode_utf8_all left ++ v) (encodes-chars y rest_utf8)
 
 -- White space at the end.
@@ -65,7 +65,7 @@ drop-other (c ∷ cs) ds some =
 -- before white space alone
 pub trim_end-white : (w y : List ℕ) → IsUtf8 w → length (trim_end y) ≡ 0 → trim_end (w ++ y) ≡ trim_end w
 unfolding trim_end
-trim_end-white w y utf8 none = grind (arith, chars-append, drop-white, no_chars)
+trim_end-white w y utf8 none = grind (arith, chars-append, drop-white, chars-none_if_no_bytes)
 
 -- before anything else
 pub trim_end-other : (w y : List ℕ) → IsUtf8 w → 0 < length (trim_end y) → trim_end (w ++ y) ≡ w ++ trim_end y
@@ -73,7 +73,7 @@ unfolding trim_end
 trim_end-other w y utf8 some =
     let left = drop_trailing_whitespace (chars y) in
     ap (λ cs. encode_utf8_all (drop_trailing_whitespace cs)) (chars-append w y utf8)
-    ∙ ap encode_utf8_all (drop-other (chars w) (chars y) (some_chars left some))
+    ∙ ap encode_utf8_all (drop-other (chars w) (chars y) (chars-some_if_bytes left some))
     ∙ encodes-append (chars w) left ∙ ap (λ v. v ++ encode_utf8_all left) (encodes-chars w utf8)
 
 -- what is left of a text without the white space at its end is how it begins

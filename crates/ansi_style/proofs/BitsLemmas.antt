@@ -5,16 +5,16 @@ has-bit : (n k : ℕ) → has n k ≡ (bit_at n k == 1)
 has-bit n k = grind (arith, and_pow, bit_at-lt, eq-eqb, ne_eqb, one-mul, pow_pos, zero-mul)
 
 -- a property of every two bits holds of the bits at each place of two numbers
-bits_of : (P : ℕ → ℕ → Type 0) → P 0 0 → P 0 1 → P 1 0 → P 1 1 → (n m k : ℕ) → P (bit_at n k) (bit_at m k)
-bits_of P neither right left both n m k = grind arith
+bit_at-cases : (P : ℕ → ℕ → Type 0) → P 0 0 → P 0 1 → P 1 0 → P 1 1 → (n m k : ℕ) → P (bit_at n k) (bit_at m k)
+bit_at-cases P neither right left both n m k = grind arith
 
 pub has-bit_or : (n m k : ℕ) → has (bit_or n m) k ≡ (has m k || has n k)
-has-bit_or n m k = grind (arith, bit_at_or, bits_of, has-bit)
+has-bit_or n m k = grind (arith, bit_at_or, bit_at-cases, has-bit)
 
 pub has-without : (n m k : ℕ) → m < 2 ^ 32 → k < 32 → has (bit_and n (2 ^ 32 - 1 - m)) k ≡ (not (has m k) && has n k)
 has-without n m k fits within =
     rw (has-bit (bit_and n (2 ^ 32 - 1 - m)) k, has-bit m k, has-bit n k, bit_at_and n (2 ^ 32 - 1 - m) k, bit_at_not w32 m k fits within)
-    (bits_of (λ a b. (min a (1 - b) == 1) ≡ (not (b == 1) && (a == 1))) refl refl refl refl n m k)
+    (bit_at-cases (λ a b. (min a (1 - b) == 1) ≡ (not (b == 1) && (a == 1))) refl refl refl refl n m k)
 
 -- Whether a set has one of some attributes, place by place.
 
@@ -29,8 +29,8 @@ no_bits n m below each = same_from_bits (bit_and n m) 0 (λ i. elim (cases_lt i 
   | inr high ↦ omega (arith, bit_at_and n m i, bit_at_above m 24 i below high, bit_at-zero i)
 ])
 
-apart_at : (n m k : ℕ) (later : Bool) → not ((has m k && has n k) || later) ≡ ((bit_at (bit_and n m) k == 0) && not later)
-apart_at n m k later = grind (arith, bit_at_and, bits_of, has-bit)
+not_both-at_bit : (n m k : ℕ) (later : Bool) → not ((has m k && has n k) || later) ≡ ((bit_at (bit_and n m) k == 0) && not later)
+not_both-at_bit n m k later = grind (arith, bit_at_and, bit_at-cases, has-bit)
 
 pub has_one-places : (n m : ℕ) → nat_lt m (2 ^ 24) ≡ true → has_one n m ≡ has_one_in_last n m 24
 has_one-places n m below =
@@ -41,4 +41,4 @@ has_one-places n m below =
     none_in_last : Decides (not (has_one_in_last n m 24)) ((w : ℕ) → w < 24 → bit_at (bit_and n m) (23 - w) ≡ 0)
     none_in_last =
         Decides-below_and (λ w. bit_at (bit_and n m) (23 - w) == 0) (λ w. bit_at (bit_and n m) (23 - w) ≡ 0) (λ w. not (has_one_in_last n m w))
-        (λ w. Decides-eqb (bit_at (bit_and n m) (23 - w)) 0) refl (λ w. apart_at n m (23 - w) (has_one_in_last n m w)) 24
+        (λ w. Decides-eqb (bit_at (bit_and n m) (23 - w)) 0) refl (λ w. not_both-at_bit n m (23 - w) (has_one_in_last n m w)) 24

@@ -5,8 +5,8 @@ use Rattle.ansi_style.proofs.StateLemmas.{apply-parameters, after_fields-step}
 
 -- What tests of ranges say.
 
-three_small : (r g b : ℕ) → (nat_lt r 256 && (nat_lt g 256 && nat_lt b 256)) ≡ true → (r < 256) × (g < 256) × (b < 256)
-three_small r g b h = grind arith
+and-three_bytes : (r g b : ℕ) → (nat_lt r 256 && (nat_lt g 256 && nat_lt b 256)) ≡ true → (r < 256) × (g < 256) × (b < 256)
+and-three_bytes r g b h = grind arith
 
 -- The bytes of a number.
 
@@ -27,14 +27,14 @@ color_number-decimal : (n : ℕ) → n < 256 → color_number (decimal n) ≡ n
 unfolding digits
 color_number-decimal n small = eqb-true (color_number (decimal n)) n (agree_below_at (λ n. color_number (decimal n) == n) (λ _. true) 256 n refl small)
 
-code_bytes : (d : List ℕ) → list_all is_field_byte d ≡ true → list_all is_code_byte d ≡ true
-code_bytes [] all = refl
-code_bytes (b ∷ d) all =
+is_code_byte-field : (d : List ℕ) → list_all is_field_byte d ≡ true → list_all is_code_byte d ≡ true
+is_code_byte-field [] all = refl
+is_code_byte-field (b ∷ d) all =
     let both = and_parts (is_field_byte b) (list_all is_field_byte d) all in
-    and_from _ _ (and_parts (is_code_byte b) (not (b == byte ";")) both.0).0 (code_bytes d both.1)
+    and_from _ _ (and_parts (is_code_byte b) (not (b == byte ";")) both.0).0 (is_code_byte-field d both.1)
 
 pub code_bytes-decimal : (n : ℕ) → n < 256 → list_all is_code_byte (decimal n) ≡ true
-code_bytes-decimal n small = code_bytes (decimal n) (field_bytes-decimal n small)
+code_bytes-decimal n small = is_code_byte-field (decimal n) (field_bytes-decimal n small)
 
 -- the numbers of a color are at most 255
 abbrev pub IsByteColor : AnsiColor → Type 0
@@ -68,11 +68,11 @@ fields_of-by_parts extended r g b all hr hg hb =
 
 -- What is written for a code is an SGR.
 
-pub parameter_bytes : (d : List ℕ) → list_all is_code_byte d ≡ true → list_all is_parameter_byte d ≡ true
-parameter_bytes [] all = refl
-parameter_bytes (b ∷ d) all =
+pub is_parameter_byte-code : (d : List ℕ) → list_all is_code_byte d ≡ true → list_all is_parameter_byte d ≡ true
+is_parameter_byte-code [] all = refl
+is_parameter_byte-code (b ∷ d) all =
     let both = and_parts (is_code_byte b) (list_all is_code_byte d) all in
-    and_from _ _ (parameter_byte b both.0) (parameter_bytes d both.1)
+    and_from _ _ (parameter_byte b both.0) (is_parameter_byte-code d both.1)
   where
     parameter_byte : (b : ℕ) → is_code_byte b ≡ true → is_parameter_byte b ≡ true
     parameter_byte b is = grind (arith, nat_tests)
@@ -91,12 +91,12 @@ sgr_parameters-written code all =
     = (let count : length w - 1 ≡ suc (suc (length code)) = omega (arith, len) in
     ap (λ n. bytes_eq (codes "m") (drop n w)) count ∙ ap (bytes_eq (codes "m")) (drop-append_seam code (byte "m" ∷ []))) in
     ap₂ (λ (e : Bool) (v : List ℕ). cond (true && e && list_all is_parameter_byte v && not (are_private v)) (Some v) None) last middle
-    ∙ cond-true (list_all is_parameter_byte code && not (are_private code)) (Some code) None (and_from _ _ (parameter_bytes code all) (ap not (are_private-code code all)))
+    ∙ cond-true (list_all is_parameter_byte code && not (are_private code)) (Some code) None (and_from _ _ (is_parameter_byte-code code all) (ap not (are_private-code code all)))
 
 -- the effect of an extended color's code, if the code before it reads a color
 apply-extended : (extended : List ℕ) (put : AnsiColor → Rendition → Rendition) (c : AnsiColor) (p : Rendition)
     → list_all is_field_byte extended ≡ true → effect_of extended ≡ ReadsColor put → IsTrue (is_extended_color c) → apply p (written (color_code extended c)) ≡ put c p
-apply-extended extended put c p all reads is = grind (arith, after_fields-step, apply-parameters, code_bytes, color_number-decimal, fields_of-by_number, fields_of-by_parts, ltb-true, parameters-color_code, sgr_parameters-written, three_small, true≢false)
+apply-extended extended put c p all reads is = grind (arith, after_fields-step, apply-parameters, is_code_byte-field, color_number-decimal, fields_of-by_number, fields_of-by_parts, ltb-true, parameters-color_code, sgr_parameters-written, and-three_bytes, true≢false)
 
 -- The numbers of colors in their ranges.
 

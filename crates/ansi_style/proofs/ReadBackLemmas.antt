@@ -3,7 +3,7 @@ use Rattle.ansi_style.proofs.Common.{◌≡◌, ℕ, ◌+◌, ◌<◌, ◌≤◌
 use Rattle.ansi_style.proofs.StyledLemmas.{style_through, styled_through}
 use Rattle.ansi_style.proofs.SpelledLemmas.{style_after_from-spelled}
 use Rattle.ansi_style.proofs.CodeLemmas.{in_range}
-use Rattle.ansi_style.proofs.ColorLemmas.{is_code_byte, parameter_bytes, IsByteColor, parameters-color_code, code_bytes-decimal, IsByteColor-foreground, IsByteColor-background, IsByteColor-extended}
+use Rattle.ansi_style.proofs.ColorLemmas.{is_code_byte, is_parameter_byte-code, IsByteColor, parameters-color_code, code_bytes-decimal, IsByteColor-foreground, IsByteColor-background, IsByteColor-extended}
 
 -- The style after codes.
 
@@ -23,11 +23,11 @@ pub record AreCodes (xs : List (List ℕ)) (n : ℕ) : Type 0 where
 length-written : (code : List ℕ) → length (written_all (code ∷ [])) ≡ length code + 3
 length-written code = simp length-append (omega arith)
 
-one_code : (code : List ℕ) (n : ℕ) → list_all is_code_byte code ≡ true → length code + 3 ≤ n → AreCodes (code ∷ []) n
-one_code code n all short = record { each = and_from _ _ all refl; short = omega (arith, length-written code, short) }
+AreCodes-one : (code : List ℕ) (n : ℕ) → list_all is_code_byte code ≡ true → length code + 3 ≤ n → AreCodes (code ∷ []) n
+AreCodes-one code n all short = record { each = and_from _ _ all refl; short = omega (arith, length-written code, short) }
 
-no_code : (n : ℕ) → AreCodes [] n
-no_code n = record { each = refl; short = omega arith }
+AreCodes-nil : (n : ℕ) → AreCodes [] n
+AreCodes-nil n = record { each = refl; short = omega arith }
 
 each-code_if : (b : Bool) (code : List ℕ) → list_all (list_all is_code_byte) (code_if b code) ≡ (not b || list_all is_code_byte code)
 each-code_if true code = and-true (list_all is_code_byte code)
@@ -46,16 +46,16 @@ length-color_code : (extended : List ℕ) (c : AnsiColor) → length extended �
 length-color_code extended c two small = grind (arith, length-append, length-byte)
 
 color_code_of : (extended : List ℕ) (o : Option AnsiColor) → list_all is_code_byte extended ≡ true → length extended ≡ 2 → IfSome o IsByteColor → AreCodes (color_codes extended o) 19
-color_code_of extended None all two is = no_code 19
+color_code_of extended None all two is = AreCodes-nil 19
 color_code_of extended (Some c) all two is =
-    one_code (color_code extended c) 19 (parameters-color_code extended c all is) (omega (arith, length-color_code extended c two is))
+    AreCodes-one (color_code extended c) 19 (parameters-color_code extended c all is) (omega (arith, length-color_code extended c two is))
 
 font_code_of : (o : Option ℕ) → IfSome o (λ n. IsTrue (is_in_range 11 19 n)) → AreCodes (font_codes o) 5
-font_code_of None is = no_code 5
+font_code_of None is = AreCodes-nil 5
 font_code_of (Some n) is =
     let bounds = in_range 11 19 n is in
     let short : length (decimal n) ≤ 2 = length-decimal-le 2 n (omega arith) (omega (arith, bounds.1)) (omega (arith, bounds.1)) in
-    one_code (decimal n) 5 (code_bytes-decimal n (omega (arith, bounds.1))) (omega (arith, short))
+    AreCodes-one (decimal n) 5 (code_bytes-decimal n (omega (arith, bounds.1))) (omega (arith, short))
 
 -- 9 codes of one digit, a font, 13 codes of two, and three colors: 9 · 4 + 5 + 13 · 5 + 3 · 19
 pub start_codes_are : (s : Rendition) → IsStyle s → AreCodes (start_codes s) longest_start
@@ -91,7 +91,7 @@ written_is_sequence code all = inl (record {
   intermediates = [];
   final = byte "m";
   spelled = ap (λ v. escape ∷ byte "[" ∷ (v ++ (byte "m" ∷ []))) (sym (append-nil code));
-  are_parameters = parameter_bytes code all;
+  are_parameters = is_parameter_byte-code code all;
   are_intermediates = refl;
   is_final = refl;
 })

@@ -45,9 +45,9 @@ Writes-code : {rest : List ℕ} {all : List (List (List ℕ))} {b c : Bool} (cod
 Writes-code {all = all} {b} code same later = record { is = ap₂ (λ c v. written_if c (written code) ++ v) same later.is ∙ written_code_if b code (codes_joined all) }
 
 -- the same in a group of rows
-row_in : {rows rest : List ℕ} {all : List (List (List ℕ))} {b c : Bool} (code : List ℕ) → c ≡ b → Writes rows rest all
+Writes-row : {rows rest : List ℕ} {all : List (List (List ℕ))} {b c : Bool} (code : List ℕ) → c ≡ b → Writes rows rest all
     → Writes (written_if c (written code) ++ rows) rest (code_if b code ∷ all)
-row_in {rows} {rest} {all} {b} {c} code same later = record {
+Writes-row {rows} {rest} {all} {b} {c} code same later = record {
   is = append_assoc (written_if c (written code)) rows rest ∙ ap₂ (λ c v. written_if c (written code) ++ v) same later.is ∙ written_code_if b code (codes_joined all);
 }
 
@@ -59,12 +59,12 @@ last_group : {rows : List ℕ} {all : List (List (List ℕ))} → Writes rows []
 last_group {rows} later = record { is = sym (append-nil rows) ∙ later.is }
 
 -- codes that are written unchanged
-codes_then : {rest : List ℕ} {all : List (List (List ℕ))} (cs : List (List ℕ)) → Writes [] rest all → Writes [] (written_all cs ++ rest) (cs ∷ all)
-codes_then {all = all} cs later = record { is = ap (λ v. written_all cs ++ v) later.is ∙ sym (flat_map-append written cs (codes_joined all)) }
+Writes-codes : {rest : List ℕ} {all : List (List (List ℕ))} (cs : List (List ℕ)) → Writes [] rest all → Writes [] (written_all cs ++ rest) (cs ∷ all)
+Writes-codes {all = all} cs later = record { is = ap (λ v. written_all cs ++ v) later.is ∙ sym (flat_map-append written cs (codes_joined all)) }
 
-three_then : {rest : List ℕ} {all : List (List (List ℕ))} (a b c : List (List ℕ)) → Writes [] rest all → Writes [] (written_all (a ++ b ++ c) ++ rest) (a ∷ b ∷ c ∷ all)
-three_then {all = all} a b c later = record {
-  is = (codes_then (a ++ b ++ c) later).is ∙ ap written_all (append_assoc (a ++ b) c (codes_joined all) ∙ append_assoc a b (c ++ codes_joined all));
+Writes-three : {rest : List ℕ} {all : List (List (List ℕ))} (a b c : List (List ℕ)) → Writes [] rest all → Writes [] (written_all (a ++ b ++ c) ++ rest) (a ∷ b ∷ c ∷ all)
+Writes-three {all = all} a b c later = record {
+  is = (Writes-codes (a ++ b ++ c) later).is ∙ ap written_all (append_assoc (a ++ b) c (codes_joined all) ∙ append_assoc a b (c ++ codes_joined all));
 }
 
 -- codes that are joined from the left
@@ -101,33 +101,33 @@ start_by_rows s =
     let n = s.attributes.0 in
     all_written
     (Writes-group
-    before row_in (codes "1") (has_one-at_place n INTENSITY.0 0 refl refl refl)
-    before row_in (codes "2") (has_one-at_place n INTENSITY.0 1 refl refl refl)
+    before Writes-row (codes "1") (has_one-at_place n INTENSITY.0 0 refl refl refl)
+    before Writes-row (codes "2") (has_one-at_place n INTENSITY.0 1 refl refl refl)
     before Writes-group
-    before row_in (codes "3") (has_one-at_place n LETTERS.0 2 refl refl refl)
-    before row_in (codes "4") (has_one-at_place n LETTERS.0 3 refl refl refl)
-    before row_in (codes "5") (has_one-at_place n LETTERS.0 5 refl refl refl)
-    before row_in (codes "6") (has_one-at_place n LETTERS.0 6 refl refl refl)
-    before row_in (codes "7") (has_one-at_place n LETTERS.0 7 refl refl refl)
-    before row_in (codes "8") (has_one-at_place n LETTERS.0 8 refl refl refl)
-    before row_in (codes "9") (has_one-at_place n LETTERS.0 9 refl refl refl)
-    before codes_then (font_codes s.font)
+    before Writes-row (codes "3") (has_one-at_place n LETTERS.0 2 refl refl refl)
+    before Writes-row (codes "4") (has_one-at_place n LETTERS.0 3 refl refl refl)
+    before Writes-row (codes "5") (has_one-at_place n LETTERS.0 5 refl refl refl)
+    before Writes-row (codes "6") (has_one-at_place n LETTERS.0 6 refl refl refl)
+    before Writes-row (codes "7") (has_one-at_place n LETTERS.0 7 refl refl refl)
+    before Writes-row (codes "8") (has_one-at_place n LETTERS.0 8 refl refl refl)
+    before Writes-row (codes "9") (has_one-at_place n LETTERS.0 9 refl refl refl)
+    before Writes-codes (font_codes s.font)
     before Writes-group
-    before row_in (codes "20") (has_one-at_place n SHAPES.0 12 refl refl refl)
-    before row_in (codes "21") (has_one-at_place n SHAPES.0 4 refl refl refl)
-    before row_in (codes "26") (has_one-at_place n SHAPES.0 13 refl refl refl)
-    before three_then (color_codes (codes "38") s.foreground) (color_codes (codes "48") s.background) (color_codes (codes "58") s.underline_color)
+    before Writes-row (codes "20") (has_one-at_place n SHAPES.0 12 refl refl refl)
+    before Writes-row (codes "21") (has_one-at_place n SHAPES.0 4 refl refl refl)
+    before Writes-row (codes "26") (has_one-at_place n SHAPES.0 13 refl refl refl)
+    before Writes-three (color_codes (codes "38") s.foreground) (color_codes (codes "48") s.background) (color_codes (codes "58") s.underline_color)
     before last_group
-    before row_in (codes "51") (has_one-at_place n FRAMES.0 10 refl refl refl)
-    before row_in (codes "52") (has_one-at_place n FRAMES.0 11 refl refl refl)
-    before row_in (codes "53") (has_one-at_place n FRAMES.0 14 refl refl refl)
-    before row_in (codes "60") (has_one-at_place n FRAMES.0 15 refl refl refl)
-    before row_in (codes "61") (has_one-at_place n FRAMES.0 16 refl refl refl)
-    before row_in (codes "62") (has_one-at_place n FRAMES.0 17 refl refl refl)
-    before row_in (codes "63") (has_one-at_place n FRAMES.0 18 refl refl refl)
-    before row_in (codes "64") (has_one-at_place n FRAMES.0 19 refl refl refl)
-    before row_in (codes "73") (has_one-at_place n FRAMES.0 20 refl refl refl)
-    before row_in (codes "74") (has_one-at_place n FRAMES.0 21 refl refl refl)
+    before Writes-row (codes "51") (has_one-at_place n FRAMES.0 10 refl refl refl)
+    before Writes-row (codes "52") (has_one-at_place n FRAMES.0 11 refl refl refl)
+    before Writes-row (codes "53") (has_one-at_place n FRAMES.0 14 refl refl refl)
+    before Writes-row (codes "60") (has_one-at_place n FRAMES.0 15 refl refl refl)
+    before Writes-row (codes "61") (has_one-at_place n FRAMES.0 16 refl refl refl)
+    before Writes-row (codes "62") (has_one-at_place n FRAMES.0 17 refl refl refl)
+    before Writes-row (codes "63") (has_one-at_place n FRAMES.0 18 refl refl refl)
+    before Writes-row (codes "64") (has_one-at_place n FRAMES.0 19 refl refl refl)
+    before Writes-row (codes "73") (has_one-at_place n FRAMES.0 20 refl refl refl)
+    before Writes-row (codes "74") (has_one-at_place n FRAMES.0 21 refl refl refl)
     before Writes-nil)
     (start_codes (rendition_of s)) refl
 
@@ -150,22 +150,22 @@ close_by_rows s =
     before Writes-code (codes "10") refl
     before Writes-code (codes "22") (has_one-places n INTENSITY.0 refl ∙ ap (λ b. has n 0 || b) (or-false (has n 1)))
     before Writes-group
-    before row_in (codes "23") (has_one-at_two_places n LETTERS.0 2 12 refl refl refl)
-    before row_in (codes "24") (has_one-at_two_places n LETTERS.0 3 4 refl refl refl)
-    before row_in (codes "25") (has_one-at_two_places n LETTERS.0 5 6 refl refl refl)
-    before row_in (codes "27") (has_one-at_place n LETTERS.0 7 refl refl refl)
-    before row_in (codes "28") (has_one-at_place n LETTERS.0 8 refl refl refl)
-    before row_in (codes "29") (has_one-at_place n LETTERS.0 9 refl refl refl)
+    before Writes-row (codes "23") (has_one-at_two_places n LETTERS.0 2 12 refl refl refl)
+    before Writes-row (codes "24") (has_one-at_two_places n LETTERS.0 3 4 refl refl refl)
+    before Writes-row (codes "25") (has_one-at_two_places n LETTERS.0 5 6 refl refl refl)
+    before Writes-row (codes "27") (has_one-at_place n LETTERS.0 7 refl refl refl)
+    before Writes-row (codes "28") (has_one-at_place n LETTERS.0 8 refl refl refl)
+    before Writes-row (codes "29") (has_one-at_place n LETTERS.0 9 refl refl refl)
     before Writes-code (codes "39") refl
     before Writes-code (codes "49") refl
     before Writes-group
-    before row_in (codes "50") (has_one-at_place n FRAMES.0 13 refl refl refl)
-    before row_in (codes "54") (has_one-at_two_places n FRAMES.0 10 11 refl refl refl)
-    before row_in (codes "55") (has_one-at_place n FRAMES.0 14 refl refl refl)
-    before row_in (codes "65") (of_group n FRAMES.0 IDEOGRAM.0 refl refl)
+    before Writes-row (codes "50") (has_one-at_place n FRAMES.0 13 refl refl refl)
+    before Writes-row (codes "54") (has_one-at_two_places n FRAMES.0 10 11 refl refl refl)
+    before Writes-row (codes "55") (has_one-at_place n FRAMES.0 14 refl refl refl)
+    before Writes-row (codes "65") (of_group n FRAMES.0 IDEOGRAM.0 refl refl)
     before Writes-code (codes "59") refl
     before last_group
-    before row_in (codes "75") (has_one-at_two_places n ENDS.0 20 21 refl refl refl)
-    before row_in (codes "0") (has_one-at_place n ENDS.0 23 refl refl refl)
+    before Writes-row (codes "75") (has_one-at_two_places n ENDS.0 20 21 refl refl refl)
+    before Writes-row (codes "0") (has_one-at_place n ENDS.0 23 refl refl refl)
     before Writes-nil)
     (close_codes (rendition_of s)) refl

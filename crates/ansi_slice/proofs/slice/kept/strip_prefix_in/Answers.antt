@@ -10,11 +10,11 @@ pub returns-then-is_empty-clause-bytes : goal.returns-then-is_empty-clause-bytes
 returns-then-is_empty-clause-bytes g c = grind (arith, eqb-true, kept-all)
 
 -- a character begins after the prefix
-after_prefix : (t p : List ℕ) → IsUtf8 t → IsUtf8 p → starts_with nat_eq (plain t) p ≡ true → IsCharBoundary (plain t) (length p)
-after_prefix t p utf8 prefix_utf8 starts = starts_with-boundary (plain t) p (IsUtf8-plain t utf8) prefix_utf8 starts
+IsCharBoundary-after_prefix : (t p : List ℕ) → IsUtf8 t → IsUtf8 p → starts_with nat_eq (plain t) p ≡ true → IsCharBoundary (plain t) (length p)
+IsCharBoundary-after_prefix t p utf8 prefix_utf8 starts = starts_with-boundary (plain t) p (IsUtf8-plain t utf8) prefix_utf8 starts
 
 pub write_from-requires : goal.write_from-requires
-write_from-requires g c = after_prefix c.args.text.now c.args.prefix.now c.utf8.text c.utf8.prefix (sym c.starts_with-2.ensures ∙ c.if-not-starts_with-2.false)
+write_from-requires g c = IsCharBoundary-after_prefix c.args.text.now c.args.prefix.now c.utf8.text c.utf8.prefix (sym c.starts_with-2.ensures ∙ c.if-not-starts_with-2.false)
 
 -- a text without ESC is its own plain text, and what is left of it is a slice
 
