@@ -1,6 +1,6 @@
 //! Lists of edits, each applied to the result of the one before.
 ghost use Rattle.std.specs.Prelude.{◌≡◌, ◌↔◌, ◌⊎◌, map, option_map, IsTrue, IsNone, IsOk, IfOk};
-ghost use Rattle.std.specs.Prelude.{IfSome, IsUtf8};
+ghost use Rattle.std.specs.Prelude.{IfSome, IsUtf8, string_bytes};
 ghost use Rattle.std.specs.List.{list_all};
 ghost use Rattle.std.specs.Str.{is_utf8};
 ghost use Rattle.std.specs.Cow.{cow_str_bytes, IsBorrowedStr};
@@ -93,14 +93,34 @@ fn edit_given<'t, A: Allocator + Copy>(
     let Ok(pat) = from_utf8(step.pattern) else {
         return Ok(None);
     };
-    let edits = [edit_of(step, pat)];
+    let next = edit_of(step, pat);
     match given {
-        CowStr::Borrowed(text) => edit(alloc, text, &edits),
-        CowStr::Owned(text) => match edit(alloc, text.as_str(), &edits)? {
-            Some(edited) => Ok(Some(CowStr::Owned(edited.into_owned(alloc)?))),
+        CowStr::Borrowed(text) => edit(alloc, text, &[next]),
+        CowStr::Owned(text) => match edit_owned(alloc, text, next)? {
+            Some(edited) => Ok(Some(CowStr::Owned(edited))),
             None => Ok(None),
         },
     }
+}
+
+/// An owned text after one edit more, or `None` if that is refused. The text is passed on if the
+/// edit keeps all of it.
+fn edit_owned<A: Allocator + Copy>(
+    alloc: A,
+    text: String<A>,
+    next: Edit<'_>,
+) -> Result<Option<String<A>>, AllocError>
+    ensures bytes { IfOk result (λ o.
+        option_map string_bytes o ≡ edited_by (change_of next.entry) (string_bytes text)) }
+    ensures takes_no_memory { IsNone (edited_by (change_of next.entry) (string_bytes text)) →
+        IsOk result }
+{
+    let edited = match edit(alloc, text.as_str(), &[next])? {
+        None => return Ok(None),
+        Some(CowStr::Borrowed(kept)) if kept == text.as_str() => None,
+        Some(edited) => Some(edited.into_owned(alloc)?),
+    };
+    Ok(Some(edited.unwrap_or(text)))
 }
 
 /// The edit of a step. A step of an unknown kind becomes a range that every text refuses.

@@ -1,5 +1,6 @@
 //! Edits of a text.
 ghost use Rattle.std.specs.Prelude.{◌≡◌, ◌↔◌, ◌⊎◌, IsTrue, IsNone, IsOk, IfOk, IfSome, option_map};
+ghost use Rattle.std.specs.Prelude.{string_bytes};
 ghost use Rattle.std.specs.Cow.{cow_str_bytes, IsBorrowedStr};
 ghost use Rattle.ansi_items.specs.Plain.{is_whole};
 ghost use Rattle.ansi_str.specs.Edited.{edited_by, edited, gives_borrow, stay_borrowed};
@@ -123,9 +124,28 @@ fn edit_given<'t, A: Allocator + Copy>(
 {
     match given {
         CowStr::Borrowed(text) => edit_once(alloc, text, edit),
-        CowStr::Owned(text) => match edit_once(alloc, text.as_str(), edit)? {
-            Some(edited) => Ok(Some(CowStr::Owned(edited.into_owned(alloc)?))),
+        CowStr::Owned(text) => match edit_owned(alloc, text, edit)? {
+            Some(edited) => Ok(Some(CowStr::Owned(edited))),
             None => Ok(None),
         },
     }
+}
+
+/// The same for an owned text, which is passed on if the edit keeps all of it.
+fn edit_owned<A: Allocator + Copy>(
+    alloc: A,
+    text: String<A>,
+    edit: Edit<'_>,
+) -> Result<Option<String<A>>, AllocError>
+    ensures bytes { IfOk result (λ o. option_map string_bytes o
+        ≡ edited_by (change_of edit.entry) (string_bytes text)) }
+    ensures takes_no_memory { IsNone (edited_by (change_of edit.entry) (string_bytes text)) →
+        IsOk result }
+{
+    let edited = match edit_once(alloc, text.as_str(), edit)? {
+        None => return Ok(None),
+        Some(CowStr::Borrowed(kept)) if kept == text.as_str() => None,
+        Some(edited) => Some(edited.into_owned(alloc)?),
+    };
+    Ok(Some(edited.unwrap_or(text)))
 }
