@@ -3,8 +3,8 @@
 // The plain text is the text without its sequences. A position counts UTF-16 units of it, as in any string of JavaScript.
 //
 // Each call throws
-// - a TypeError for a text that is no string or has a lone surrogate, and for a position that is no whole number;
-// - a RangeError for a position below 0;
+// - a TypeError for a text that is no string or has a lone surrogate, and for a position or width that is no whole number;
+// - a RangeError for a position or width below 0;
 // - an OutOfMemoryError.
 // No error affects later calls.
 
@@ -15,9 +15,9 @@ export class OutOfMemoryError extends Error {}
 export function strip(text: string): string;
 
 /**
- * The text from `start` to `end`, or to its end, in its styles: every sequence up to `end` stays, and the style still open there is
- * closed. A position past the end counts as the end. Throws a RangeError if `end` is below `start`, or if a position is between the
- * surrogates of a character.
+ * The text from `start` to `end`, or to its end, in its styles: every sequence and lone ESC up to `end` stays, also those before
+ * `start`, and the style still open there is closed. A position past the end counts as the end. Throws a RangeError if `end` is below
+ * `start`, or if a position is between the surrogates of a character.
  */
 export function cut(text: string, start: number, end?: number): string;
 
@@ -72,13 +72,15 @@ export interface Style {
 }
 
 export interface Block {
+  /** The lone ESCs and the sequences other than SGRs since the run before, and then the run. */
   text: string;
+  /** The style of the run. */
   style: Style;
 }
 
 /**
- * The blocks of the text. Each is a run of plain text up to the next sequence or lone ESC, with its style. Lone ESCs and sequences
- * other than SGRs before the run are part of the block's text.
+ * The blocks of the text, one for each run of plain text, which goes up to the next lone ESC or sequence of any kind: an SGR (it
+ * sets styles) or another. What comes after the last run is in no block.
  */
 export function blocks(text: string): Block[];
 

@@ -5,7 +5,7 @@ export { OutOfMemoryError } from './memory.js';
 
 const ALIGNMENTS = ['left', 'center', 'right'];
 const KINDS = { cut: 0, left: 1, right: 2, part: 3, prefix: 4, suffix: 5, trim: 6 };
-/** To the end of any text. */
+/** The largest number that is passed on: past the end of any text. */
 const END = Number.MAX_SAFE_INTEGER;
 
 function textOf(name, value) {
@@ -43,7 +43,7 @@ function bytesOf(text) {
 /** Converts a position in units of the plain text to bytes. A position between two surrogates becomes one inside their character. */
 function placeOf(plain, position) {
   if (position >= plain.length) {
-    return bytesOf(plain) + position - plain.length;
+    return bytesOf(plain);
   }
   const before = plain.slice(0, position);
   return before.isWellFormed() ? bytesOf(before) : bytesOf(before.slice(0, -1)) + 2;
@@ -62,17 +62,26 @@ function unitsOf(plain, position) {
   return units;
 }
 
+/** What a cut has as a step. */
+function cutOf(start, end) {
+  const first = numberOf('start', start);
+  if (end === undefined) {
+    return { first, second: END, places: ['first'] };
+  }
+  const second = numberOf('end', end);
+  // (large positions become one, and so do those past the end; an end below its start has to stay below it)
+  return start <= end ? { first, second, places: ['first', 'second'] } : { first: 1, second: 0, places: [] };
+}
+
 /** The edit as a step of the library: its kind, its numbers, which of them are positions (`places`), and its pattern. */
 function stepOf(edit) {
-  if (!Array.isArray(edit) || !Object.hasOwn(KINDS, edit[0])) {
+  const [name, ...more] = Array.isArray(edit) ? edit : [];
+  if (typeof name !== 'string' || !Object.hasOwn(KINDS, name)) {
     throw new TypeError('an edit must be an array that begins with the name of an edit');
   }
-  const [name, ...more] = edit;
   const step = { kind: KINDS[name], first: 0, second: 0, places: [], pattern: '' };
   if (name === 'cut') {
-    step.first = numberOf('start', more[0]);
-    step.second = more[1] === undefined ? END : numberOf('end', more[1]);
-    step.places = more[1] === undefined ? ['first'] : ['first', 'second'];
+    Object.assign(step, cutOf(more[0], more[1]));
   } else if (name === 'left' || name === 'right') {
     step.first = numberOf('index', more[0]);
     step.places = ['first'];

@@ -1,12 +1,19 @@
 // Runs the rows of texts and results that test the library for C, and tests what only JavaScript has.
 import assert from 'node:assert/strict';
+import { readFile } from 'node:fs/promises';
 import { test } from 'node:test';
-import { OutOfMemoryError, blocks, cut, edit, find, fitting, pad, split, strip, trim, truncate, width, wrap } from './index.js';
+import { OutOfMemoryError, blocks, cut, edit, find, fitting, pad, split, splitAt, strip, trim, truncate, width, wrap } from './index.js';
 import { pass } from './rows.mjs';
 
 test('rows', async () => {
   const passed = await pass();
   assert.ok(Object.values(passed).reduce((sum, each) => sum + each) > 500, JSON.stringify(passed));
+});
+
+test('the version is that of the changelog', async () => {
+  const read = (name) => readFile(new URL(name, import.meta.url), 'utf8');
+  const [, newest] = (await read('../../CHANGELOG.md')).match(/^## ([\d.]+)/m);
+  assert.equal(JSON.parse(await read('package.json')).version, newest);
 });
 
 test('positions count UTF-16 units', () => {
@@ -19,6 +26,27 @@ test('positions count UTF-16 units', () => {
   assert.equal(edit('> \x1b[1m😀éa', [['prefix', '> '], ['cut', 2], ['left', 1]]), '\x1b[1mé\x1b[22m');
 });
 
+test('a position past the end is the end, and an end below its start is refused, however large', () => {
+  const numbers = [0, 1, 2, 9, 10, 2 ** 32, 2 ** 53 - 2, 2 ** 53 - 1, 2 ** 53, 2 ** 53 + 2, 2 ** 64, Number.MAX_VALUE];
+  for (const plain of ['', 'a', 'abc', '老', 'é老']) {
+    for (const text of [plain, `\x1b[1m${plain}`, `${plain}\x1b]0;t\x07`]) {
+      for (const start of numbers) {
+        assert.equal(strip(cut(text, start)), plain.slice(start));
+        assert.equal(strip(edit(text, [['cut', start]])), plain.slice(start));
+        assert.deepEqual(splitAt(text, start).map(strip), [plain.slice(0, start), plain.slice(start)]);
+        for (const end of numbers) {
+          if (start <= end) {
+            assert.equal(strip(cut(text, start, end)), plain.slice(start, end));
+          } else {
+            assert.throws(() => cut(text, start, end), RangeError);
+            assert.equal(edit(text, [['cut', start, end]]), null);
+          }
+        }
+      }
+    }
+  }
+});
+
 test('what is no text or no position is refused', () => {
   const calls = [strip, trim, blocks, width, (text) => find(text, ''), (text) => find('', text), (text) => split('', text), (text) => edit('', [['suffix', text]]),
     (text) => fitting(text, 1), (text) => truncate(text, 1), (text) => truncate('', 1, text), (text) => pad(text, 1), (text) => wrap(text, 1)];
@@ -28,12 +56,19 @@ test('what is no text or no position is refused', () => {
   }
   assert.throws(() => cut('abc', -1), RangeError);
   assert.throws(() => cut('abc', 1.5), TypeError);
-  assert.throws(() => edit('abc', [['cuts', 1]]), TypeError);
+  for (const wrong of ['cut', ['cuts', 1], [['cut'], 'x'], [new String('cut'), 0], ['toString'], [], [undefined], [0, 1], null, { 0: 'trim' }]) {
+    assert.throws(() => edit('abc', [wrong]), /begins with the name of an edit/);
+  }
   for (const call of [fitting, truncate, pad, wrap]) {
     assert.throws(() => call('abc'), /the width must be a whole number/);
     assert.throws(() => call('abc', -1), RangeError);
   }
   assert.throws(() => pad('abc', 5, 'middle'), /left, center, right/);
+});
+
+test('a block has the sequences other than SGRs, and a cut every sequence up to its end', () => {
+  assert.deepEqual(blocks('a\x1b]0;t\x07\x1b[1m\x1bé\x1b[Kc\x1b[K').map(({ text }) => text), ['a', '\x1b]0;t\x07\x1bé', '\x1b[Kc']);
+  assert.equal(cut('\x1b]0;t\x07\x1b[1ma\x1b[Kb\x1b[Jc\x1b[22md', 1, 2), '\x1b]0;t\x07\x1b[1m\x1b[Kb\x1b[J\x1b[22m');
 });
 
 test('a style has names', () => {

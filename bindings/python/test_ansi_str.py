@@ -1,12 +1,17 @@
 """Passes the rows of texts and results that the library for C is tested with, and the examples of the docstrings."""
 
+import copy
 import doctest
+import importlib.util
+import inspect
 import os
 import re
 import subprocess
 import sys
 import threading
+import typing
 import unittest
+from typing import Iterator
 
 import ansi_str
 
@@ -252,6 +257,161 @@ class Arguments(unittest.TestCase):
         for thread in threads:
             thread.join()
         self.assertEqual(wrong, [])
+
+
+    def test_a_str_with_methods_of_its_own(self):
+        class Lying(str):
+            def encode(self, *words):
+                return b"\xff"
+
+            def __len__(self):
+                return 1
+
+        def made(call, *arguments):
+            got = call(*arguments)
+            return list(got) if isinstance(got, Iterator) else got
+
+        for text in ("a", "a,\xe9", "\x1b[1m\xe9, b\x1b[0m"):
+            for name, more in CALLS.items():
+                call = getattr(ansi_str, name)
+                self.assertEqual(made(call, Lying(text), *more), made(call, text, *more), (name, text))
+                if name in PATTERNED:
+                    self.assertEqual(made(call, text, Lying("a"), *more[1:]), made(call, text, "a", *more[1:]), (name, text))
+            self.assertEqual(ansi_str.edit(Lying(text), ansi_str.Left(2)), ansi_str.edit(text, ansi_str.Left(2)))
+
+    def test_help(self):
+        for name in CALLS:
+            words = [word.name if word.default is word.empty else "%s=%r" % (word.name, word.default)
+                     for word in inspect.signature(getattr(ansi_str, name)).parameters.values()]
+            self.assertIn("%s(%s)" % (name, ", ".join(words)), ansi_str.__doc__)
+
+    @unittest.skipIf(sys.version_info < (3, 8), "this Python has no Literal")
+    def test_the_type_of_alignments(self):
+        alignment = typing.get_type_hints(ansi_str.pad)["alignment"]
+        self.assertEqual(alignment, ansi_str.Alignment)
+        self.assertEqual(alignment.__args__, ansi_str.ALIGNMENTS)
+
+
+class Private(unittest.TestCase):
+    """The calls of the module in C: a wrong argument is refused, and never taken for what it isn't."""
+
+    TYPES = [None, 1.5, "a", [], {}, object(), bytearray(b"a")]
+    # wrong arguments by what is wanted, and what each raises
+    WRONG = {
+        "bytes": [(b"\xff", ValueError)] + [(wrong, TypeError) for wrong in TYPES + [1, ()]],
+        "number": [(-1, ValueError), (-2**64, ValueError)] + [(wrong, TypeError) for wrong in TYPES + [b"a", ()]],
+        "kind": [(-1, ValueError), (10, ValueError), (2**31 - 1, ValueError), (2**31, OverflowError), (-2**200, OverflowError)]
+                + [(wrong, TypeError) for wrong in TYPES + [b"a", ()]],
+        "steps": [(wrong, TypeError) for wrong in TYPES + [b"a", 1, (1,), ((),), ((0, 0, 0),), ((0, 0, 0, b"", 0),), ([0, 0, 0, b""],)]],
+        "bool": [],
+    }
+    # good arguments of each call
+    GOOD = {
+        "edit": [("bytes", b"a"), ("bool", True), ("steps", ((0, 0, 1, b""),))],
+        "tell": [("kind", 4), ("bytes", b"a"), ("bool", True), ("bytes", b"a"), ("number", 1)],
+        "walk": [("bytes", b"a"), ("bytes", b"a")],
+        "strip": [("bytes", b"a")],
+        "wrap": [("bytes", b"a"), ("number", 1)],
+    }
+
+    def refused(self, call, given):
+        """The call with each argument in turn replaced by each wrong one."""
+        good = [value for _, value in given]
+        call(*good)
+        for index, (kind, _) in enumerate(given):
+            for wrong, error in self.WRONG[kind]:
+                with self.assertRaises(error, msg=(index, wrong)):
+                    call(*good[:index], wrong, *good[index + 1:])
+
+    def test_wrong_arguments(self):
+        calls = {name for name in dir(ansi_str._library) if not name.startswith("_")}
+        self.assertEqual(calls, set(self.GOOD))
+        for name, given in self.GOOD.items():
+            self.refused(getattr(ansi_str._library, name), given)
+        edit = ansi_str._library.edit
+        for kind in range(10):
+            self.refused(lambda *step: edit(b"a", True, (step + (b"",),)), [("kind", kind), ("number", 0), ("number", 1)])
+        # (the last two kinds don't read their pattern)
+        for kind in range(8):
+            self.refused(lambda pattern: edit(b"a", True, ((kind, 0, 1, pattern),)), [("bytes", b"")])
+
+    def test_wrong_counts(self):
+        for name, given in self.GOOD.items():
+            call = getattr(ansi_str._library, name)
+            good = [value for _, value in given]
+            for words in ([], good[:-1] if name != "walk" else [], [*good, b""]):
+                with self.assertRaises(TypeError, msg=name):
+                    call(*words)
+
+    def test_huge_numbers(self):
+        edit, tell = ansi_str._library.edit, ansi_str._library.tell
+        for huge in HUGE:
+            self.assertEqual(edit(b"abc", True, ((0, 0, huge, b""),)), "abc")
+            self.assertEqual(edit("\xe9".encode(), False, ((0, 0, huge, b""), (1, huge, huge, b""))), "\xe9")
+            self.assertEqual(tell(5, b"abc", True, b"", huge), 3)
+            self.assertEqual(ansi_str._library.wrap(b"abc", huge), ["abc"])
+            with self.assertRaises(ValueError):
+                edit(b"abc", True, ((8, 5, huge, b""),))
+
+    def test_walks(self):
+        for walk in (ansi_str._library.walk(b"\x1b[1ma"), ansi_str._library.walk(b"\x1b[1ma", b",")):
+            self.assertEqual(walk.sequences(), ("", ""))
+            for make in (type(walk), lambda: object.__new__(type(walk)), lambda: copy.copy(walk), lambda: walk.sequences(1)):
+                with self.assertRaises(TypeError):
+                    make()
+            self.assertEqual(len(list(walk)), 1)
+            self.assertEqual(list(walk), [])
+
+    def test_a_module_that_has_not_started(self):
+        module = importlib.util.module_from_spec(ansi_str._library.__spec__)
+        self.assertRaises(RuntimeError, module.walk, b"a")
+        self.assertEqual(module.strip(b"a"), "a")
+
+
+# runs a program in interpreters beside the first, one after the other, and then in two at the same time
+INTERPRETERS = r"""
+import sys, threading
+try:
+    import _interpreters as interpreters
+except ImportError:
+    try:
+        import _xxsubinterpreters as interpreters
+    except ImportError:
+        sys.exit("none")
+program = r'''
+import ansi_str
+for _ in range(1000):
+    assert ansi_str.cut("\x1b[31m\xe9ab", 1, 2) == "\x1b[31ma\x1b[39m"
+    assert [block.text for block in ansi_str.blocks("a\x1b[1mb")] == ["a", "b"]
+    assert ansi_str.split("a,\x1b[1mb", ",") == ["a", "\x1b[1mb\x1b[22m"]
+'''
+passed = []
+def run():
+    interpreter = interpreters.create()
+    # (since Python 3.13 it returns an error)
+    error = interpreters.run_string(interpreter, program)
+    if error is None:
+        passed.append(interpreter)
+    interpreters.destroy(interpreter)
+run()
+exec(program)
+run()
+threads = [threading.Thread(target=run) for _ in range(2 if sys.version_info >= (3, 12) else 0)]
+for thread in threads:
+    thread.start()
+for thread in threads:
+    thread.join()
+sys.exit("passed in %d" % len(passed))
+"""
+
+
+class Interpreters(unittest.TestCase):
+    def test_import_in_other_interpreters(self):
+        environment = dict(os.environ, PYTHONPATH=os.path.dirname(os.path.dirname(ansi_str.__file__)))
+        ran = subprocess.run([sys.executable, "-c", INTERPRETERS], env=environment, stderr=subprocess.PIPE)
+        if ran.stderr == b"none\n":
+            self.skipTest("this Python makes no other interpreters")
+        self.assertEqual(ran.stderr, b"passed in 4\n" if sys.version_info >= (3, 12) else b"passed in 2\n")
 
 
 class Missing(unittest.TestCase):

@@ -10,7 +10,6 @@ from ansi_str import _library
 ALLOCATOR = ctypes.CDLL(None)
 ALLOCATOR.held.restype = ctypes.c_long
 TEXTS = ["", "red, fox", "\x1b[1;31mred\x1b]0;t\x07, \x1b[4mfox\x1b[0m", "\x1b[1mr\u00e9d\x1b[0m, \u65e5\x1b[31m", "\x1b[1m,\x1b[3ma" * 40]
-STYLES = [style for text in TEXTS for _, style in _library.walk(text.encode())]
 CUT, LEFT, RIGHT, PART, PREFIX, SUFFIX, TRIM, TRUNCATE, PAD = range(9)
 STEPS = [(CUT, 1, 4, b""), (LEFT, 3, 0, b""), (RIGHT, 3, 0, b""), (PART, 1, 0, b","), (PREFIX, 0, 0, b"r"), (SUFFIX, 0, 0, b"x"),
          (TRIM, 0, 0, b""), (TRUNCATE, 3, 0, b"..."), (PAD, 300, 1, b"")]
@@ -32,8 +31,9 @@ def calls():
         for pattern in (b"", b",", b"fox"):
             yield lambda: list(_library.walk(data, pattern))
         yield lambda: list(_library.walk(data))
-    for style in STYLES:
-        yield lambda: _library.sequences(style)
+        walk = _library.walk(data)
+        for _ in walk:
+            yield walk.sequences
 
 
 def answer(call, granted):

@@ -286,6 +286,7 @@ fn written_from(
         let answer = call(free.as_mut_ptr().cast(), free.len());
         match outcome(answer.status, answer.len) {
             Err(Unfinished::TooSmall(needed)) => buffer.reserve_exact(needed),
+            // SAFETY: the call has set this many bytes of the text, as `text_of` says
             ended => return ended.map(|len| kept(unsafe { text_of(buffer, len) })),
         }
     }
@@ -308,114 +309,128 @@ fn is_so(answer: Answer) -> bool {
     outcome(answer.status, answer.len).is_ok()
 }
 
-// SAFETY, of every call below: a text and a pattern are the pointer and the length of a `str`, which is UTF-8 and lives until the
-// call returns. A buffer is those of a vector's spare room, which is this module's own and so overlaps no text.
+/// The exports that write a text: from a text, a text and a number, a text and a pattern, and a style.
+type Write = unsafe extern "C" fn(Bytes, usize, Room, usize) -> Answer;
+type WriteAt = unsafe extern "C" fn(Bytes, usize, usize, Room, usize) -> Answer;
+type WriteWithout = unsafe extern "C" fn(Bytes, usize, Bytes, usize, Room, usize) -> Answer;
+type WriteStyle = unsafe extern "C" fn(*const Numbers, Room, usize) -> Answer;
+
+/// The exports that return a number or a status: of a text and a number, and of a text and a pattern.
+type TellAt = unsafe extern "C" fn(Bytes, usize, usize) -> Answer;
+type TellOf = unsafe extern "C" fn(Bytes, usize, Bytes, usize) -> Answer;
+
+// SAFETY, of every call of an export: a text and a pattern are the pointer and the length of a `str`, which is UTF-8 and lives
+// until the call returns. A buffer is those of `written`'s room, which is this module's own and so overlaps no text.
+
+fn write(call: Write, text: &str) -> String {
+    always(written(text.len(), |b, m| {
+        // SAFETY: a `str`, and the room
+        unsafe { call(text.as_ptr(), text.len(), b, m) }
+    }))
+}
+
+fn write_side(call: WriteAt, text: &str, mid: usize) -> Result<String, Refusal> {
+    written(text.len() + LONGEST_START_AND_CLOSE, |b, m| {
+        // SAFETY: a `str`, and the room; any number may be a position
+        unsafe { call(text.as_ptr(), text.len(), mid, b, m) }
+    })
+    .map_err(|_| Refusal)
+}
+
+fn write_without(call: WriteWithout, text: &str, pat: &str) -> Option<String> {
+    let (t, n, p, k) = (text.as_ptr(), text.len(), pat.as_ptr(), pat.len());
+    // SAFETY: two `str`s, and the room
+    written(n, |b, m| unsafe { call(t, n, p, k, b, m) }).ok()
+}
+
+fn tell_at(call: TellAt, text: &str, number: usize) -> Answer {
+    // SAFETY: a `str`; any number may be a position or a width
+    unsafe { call(text.as_ptr(), text.len(), number) }
+}
+
+fn tell_of(call: TellOf, text: &str, pat: &str) -> Answer {
+    // SAFETY: two `str`s
+    unsafe { call(text.as_ptr(), text.len(), pat.as_ptr(), pat.len()) }
+}
 
 pub(crate) fn strip(text: &str) -> String {
-    always(written(text.len(), |b, m| unsafe {
-        ansi_str_raw_strip_unchecked(text.as_ptr(), text.len(), b, m)
-    }))
+    write(ansi_str_raw_strip_unchecked, text)
 }
 
 pub(crate) fn trim(text: &str) -> String {
-    always(written(text.len(), |b, m| unsafe {
-        ansi_str_raw_trim(text.as_ptr(), text.len(), b, m)
-    }))
+    write(ansi_str_raw_trim, text)
 }
 
 pub(crate) fn cut(text: &str, start: usize, end: usize) -> Option<String> {
-    written(text.len() + LONGEST_CLOSE, |b, m| unsafe {
-        ansi_str_raw_cut(text.as_ptr(), text.len(), start, end, b, m)
+    written(text.len() + LONGEST_CLOSE, |b, m| {
+        // SAFETY: a `str`, and the room; any numbers may be positions
+        unsafe { ansi_str_raw_cut(text.as_ptr(), text.len(), start, end, b, m) }
     })
     .ok()
 }
 
 pub(crate) fn left(text: &str, mid: usize) -> Result<String, Refusal> {
-    written(text.len() + LONGEST_START_AND_CLOSE, |b, m| unsafe {
-        ansi_str_raw_left(text.as_ptr(), text.len(), mid, b, m)
-    })
-    .map_err(|_| Refusal)
+    write_side(ansi_str_raw_left, text, mid)
 }
 
 pub(crate) fn right(text: &str, mid: usize) -> Result<String, Refusal> {
-    written(text.len() + LONGEST_START_AND_CLOSE, |b, m| unsafe {
-        ansi_str_raw_right(text.as_ptr(), text.len(), mid, b, m)
-    })
-    .map_err(|_| Refusal)
+    write_side(ansi_str_raw_right, text, mid)
 }
 
 pub(crate) fn strip_prefix(text: &str, prefix: &str) -> Option<String> {
-    written(text.len(), |b, m| unsafe {
-        ansi_str_raw_strip_prefix(
-            text.as_ptr(),
-            text.len(),
-            prefix.as_ptr(),
-            prefix.len(),
-            b,
-            m,
-        )
-    })
-    .ok()
+    write_without(ansi_str_raw_strip_prefix, text, prefix)
 }
 
 pub(crate) fn strip_suffix(text: &str, suffix: &str) -> Option<String> {
-    written(text.len(), |b, m| unsafe {
-        ansi_str_raw_strip_suffix(
-            text.as_ptr(),
-            text.len(),
-            suffix.as_ptr(),
-            suffix.len(),
-            b,
-            m,
-        )
-    })
-    .ok()
+    write_without(ansi_str_raw_strip_suffix, text, suffix)
 }
 
 pub(crate) fn find(text: &str, pat: &str) -> Option<usize> {
-    let answer =
-        unsafe { ansi_str_raw_find_unchecked(text.as_ptr(), text.len(), pat.as_ptr(), pat.len()) };
+    let answer = tell_of(ansi_str_raw_find_unchecked, text, pat);
     outcome(answer.status, answer.len).ok()
 }
 
 pub(crate) fn starts_with(text: &str, pat: &str) -> bool {
-    is_so(unsafe {
-        ansi_str_raw_starts_with_unchecked(text.as_ptr(), text.len(), pat.as_ptr(), pat.len())
-    })
+    is_so(tell_of(ansi_str_raw_starts_with_unchecked, text, pat))
 }
 
 pub(crate) fn ends_with(text: &str, pat: &str) -> bool {
-    is_so(unsafe {
-        ansi_str_raw_ends_with_unchecked(text.as_ptr(), text.len(), pat.as_ptr(), pat.len())
-    })
+    is_so(tell_of(ansi_str_raw_ends_with_unchecked, text, pat))
 }
 
 pub(crate) fn is_char_boundary(text: &str, index: usize) -> bool {
-    is_so(unsafe { ansi_str_raw_is_char_boundary_unchecked(text.as_ptr(), text.len(), index) })
+    is_so(tell_at(
+        ansi_str_raw_is_char_boundary_unchecked,
+        text,
+        index,
+    ))
 }
 
 pub(crate) fn floor_char_boundary(text: &str, index: usize) -> usize {
-    unsafe { ansi_str_raw_floor_char_boundary_unchecked(text.as_ptr(), text.len(), index) }.len
+    tell_at(ansi_str_raw_floor_char_boundary_unchecked, text, index).len
 }
 
 pub(crate) fn width(text: &str) -> usize {
+    // SAFETY: a `str`
     unsafe { ansi_str_raw_width(text.as_ptr(), text.len()) }.len
 }
 
 pub(crate) fn fitting(text: &str, width: usize) -> usize {
-    unsafe { ansi_str_raw_fitting(text.as_ptr(), text.len(), width) }.len
+    tell_at(ansi_str_raw_fitting, text, width).len
 }
 
 pub(crate) fn truncate(text: &str, width: usize, tail: &str) -> String {
-    let (tail, tail_len) = (tail.as_ptr(), tail.len());
-    always(written(text.len() + LONGEST_CLOSE, |b, m| unsafe {
-        ansi_str_raw_truncate(text.as_ptr(), text.len(), width, tail, tail_len, b, m)
+    let (t, n, p, k) = (text.as_ptr(), text.len(), tail.as_ptr(), tail.len());
+    always(written(n + LONGEST_CLOSE, |b, m| {
+        // SAFETY: two `str`s, and the room; any number may be a width
+        unsafe { ansi_str_raw_truncate(t, n, width, p, k, b, m) }
     }))
 }
 
 pub(crate) fn pad(text: &str, width: usize, alignment: u32) -> String {
-    always(written(text.len() + LONGEST_CLOSE, |b, m| unsafe {
-        ansi_str_raw_pad(text.as_ptr(), text.len(), width, alignment, b, m)
+    always(written(text.len() + LONGEST_CLOSE, |b, m| {
+        // SAFETY: a `str`, and the room; any number may be a width
+        unsafe { ansi_str_raw_pad(text.as_ptr(), text.len(), width, alignment, b, m) }
     }))
 }
 
@@ -425,7 +440,8 @@ pub(crate) fn wrap(text: &str, width: usize) -> (String, Vec<usize>) {
     let mut ends = Vec::with_capacity(text.len() + 1);
     let lines = written(text.len() + LONGEST_START_AND_CLOSE, |b, m| {
         let (t, n, free) = (text.as_ptr(), text.len(), ends.spare_capacity_mut());
-        // SAFETY: and the ends are the pointer and the length of a vector's spare room; the call has set this many of them
+        // SAFETY: a `str`, and the room. The ends are the pointer and the length of a vector's spare room, and the call that has
+        // returned `OK` has set this many of them
         unsafe {
             let answer = ansi_str_raw_wrap(t, n, width, b, m, free.as_mut_ptr().cast(), free.len());
             if answer.status == OK {
@@ -447,8 +463,9 @@ pub(crate) struct Parts<'a> {
     texts: PhantomData<&'a str>,
 }
 
-// SAFETY: a walk reads the texts that it points to, which are shared, and no call keeps its pointers
+// SAFETY: a walk only reads the texts that it points to, as a `&str` does, and no call keeps its pointers
 unsafe impl Send for Parts<'_> {}
+// SAFETY: a shared walk is only read
 unsafe impl Sync for Parts<'_> {}
 
 pub(crate) fn split<'a>(text: &'a str, pat: &'a str) -> Parts<'a> {
@@ -459,16 +476,9 @@ pub(crate) fn split<'a>(text: &'a str, pat: &'a str) -> Parts<'a> {
         pat_len: 0,
         place: Place::END,
     };
-    // SAFETY: and a `str` is UTF-8
-    unsafe {
-        ansi_str_raw_parts_begin_unchecked(
-            text.as_ptr(),
-            text.len(),
-            pat.as_ptr(),
-            pat.len(),
-            &mut walk,
-        )
-    };
+    let (t, n, p, k) = (text.as_ptr(), text.len(), pat.as_ptr(), pat.len());
+    // SAFETY: two `str`s, which live as long as the walk, and a walk with good pointers
+    unsafe { ansi_str_raw_parts_begin_unchecked(t, n, p, k, &mut walk) };
     Parts {
         walk,
         texts: PhantomData,
@@ -483,8 +493,9 @@ impl<'a> Iterator for Parts<'a> {
             text: "".as_ptr(),
             len: 0,
         };
-        let written = written(0, |b, m| unsafe {
-            ansi_str_raw_parts_next(&mut self.walk, &mut part, b, m)
+        let written = written(0, |b, m| {
+            // SAFETY: a walk that the library began, whose texts live, a part with a good pointer, and the room
+            unsafe { ansi_str_raw_parts_next(&mut self.walk, &mut part, b, m) }
         });
         let written = written.ok()?;
         Some(if written.is_empty() {
@@ -505,6 +516,7 @@ pub(crate) struct Blocks<'a> {
 
 // SAFETY: as for parts
 unsafe impl Send for Blocks<'_> {}
+// SAFETY: as for parts
 unsafe impl Sync for Blocks<'_> {}
 
 pub(crate) fn blocks(text: &str) -> Blocks<'_> {
@@ -513,7 +525,7 @@ pub(crate) fn blocks(text: &str) -> Blocks<'_> {
         len: 0,
         style: Numbers::PLAIN,
     };
-    // SAFETY: and a `str` is UTF-8
+    // SAFETY: a `str`, which lives as long as the walk, and a walk with good pointers
     unsafe { ansi_str_raw_blocks_begin_unchecked(text.as_ptr(), text.len(), &mut walk) };
     Blocks {
         walk,
@@ -543,8 +555,9 @@ impl<'a> Iterator for Blocks<'a> {
             len: 0,
             style: RawStyle::EMPTY,
         };
-        let sequences = written(0, |b, m| unsafe {
-            ansi_str_raw_blocks_next(&mut self.walk, &mut block, b, m)
+        let sequences = written(0, |b, m| {
+            // SAFETY: a walk that the library began, whose text lives, a block with a good pointer, and the room
+            unsafe { ansi_str_raw_blocks_next(&mut self.walk, &mut block, b, m) }
         });
         let mut sequences = sequences.ok()?;
         // SAFETY: the call has returned it, and the text lives as long as `'a` says
@@ -572,24 +585,23 @@ impl Numbers {
         },
     };
 
-    /// The sequences that set the style: none if nothing is set.
+    /// The sequences that set the style.
     pub(crate) fn start(&self) -> String {
-        if *self == Numbers::PLAIN {
-            return String::new();
-        }
-        always(written(0, |b, m| unsafe {
-            ansi_str_raw_style_start(self, b, m)
-        }))
+        self.sequences(ansi_str_raw_style_start)
     }
 
     /// The sequences that close the style.
     pub(crate) fn end(&self) -> String {
+        self.sequences(ansi_str_raw_style_end)
+    }
+
+    /// What an export writes of the style: nothing if nothing is set.
+    fn sequences(&self, call: WriteStyle) -> String {
         if *self == Numbers::PLAIN {
             return String::new();
         }
-        always(written(0, |b, m| unsafe {
-            ansi_str_raw_style_end(self, b, m)
-        }))
+        // SAFETY: numbers that the library has made, and the room
+        always(written(0, |b, m| unsafe { call(self, b, m) }))
     }
 }
 

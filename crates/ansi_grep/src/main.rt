@@ -1,16 +1,30 @@
 //! Prints the lines of a log that contain a text, each after its number, with every match marked.
 //!
 //! The first argument is the text. It is searched as if the log had no colors, so it is found even
-//! if a color begins or ends inside it. As with `grep`, the status is 0 if a line matches, 1 if
-//! none does, and 2 after an error.
+//! if a color begins or ends inside it.
+//!
+//! Line ends and statuses are those of `grep`. A line ends at a line feed, and a carriage return
+//! before it is part of the line, and stays. A last line without a line feed gets one. The status
+//! is 0 if a line matches, 1 if none does, and 2 after an error. If nobody reads the output any
+//! more, as after `head`, the program ends without a message and with the status 141, which a shell
+//! shows of a `grep` there.
 #![tactic(auto)]
 
 use ansi_str::ansitok::{Kind, Scanner};
 use ansi_str::{AnsiStr, get_blocks};
 use anyhow::Context;
 use std::alloc::{AllocError, Global};
+use std::io::{BufRead, ErrorKind};
 use std::process::ExitCode;
 use std::{env, iter};
+
+const FOUND: u8 = 0;
+
+const NOT_FOUND: u8 = 1;
+
+const FAILED: u8 = 2;
+// 128 and the number of the signal SIGPIPE
+const OUTPUT_CLOSED: u8 = 141;
 
 // The line with each match of the pattern marked: inverse, or not inverse in text that is inverse
 // already. All sequences stay, and a mark is closed before each.
@@ -48,28 +62,37 @@ fn marked(alloc: Global, line: &str, pattern: &str) -> Result<String, AllocError
     Ok(shown)
 }
 
-// Prints the lines that contain the text. Returns whether there are any.
-fn print_found(rt: &HostRuntime) -> anyhow::Result<bool> {
+// Prints the lines that contain the text. Returns the status.
+fn print_found(rt: &HostRuntime) -> anyhow::Result<u8> {
     let alloc = rt.alloc();
     let pattern = env::args(rt)?.nth(1).context("no text to find is given")?;
-    let mut is_found = false;
-    for (index, line) in rt.lines(alloc).enumerate() {
-        let line = line?;
-        if line.ansi_find(pattern.as_str()).is_some() {
-            let shown = marked(alloc, line.as_str(), pattern.as_str())?;
-            println!(rt; "{}: {shown}", index + 1)?;
-            is_found = true;
+    let mut input = rt.reader();
+    let mut line = String::new(alloc);
+    let mut status = NOT_FOUND;
+    for number in 1..u64::MAX {
+        line.clear();
+        if input.read_line(&mut line)? == 0 {
+            break;
+        }
+        let text = line.as_str().strip_suffix('\n').unwrap_or(line.as_str());
+        if text.ansi_find(pattern.as_str()).is_some() {
+            let shown = marked(alloc, text, pattern.as_str())?;
+            match println!(rt; "{number}: {shown}") {
+                Err(error) if error.kind() == ErrorKind::BrokenPipe => return Ok(OUTPUT_CLOSED),
+                printed => printed?,
+            }
+            status = FOUND;
         }
     }
-    Ok(is_found)
+    Ok(status)
 }
 
 fn main(rt: HostRuntime) -> ExitCode {
     match print_found(&rt) {
-        Ok(is_found) => ExitCode::from(u8::from(!is_found)),
+        Ok(status) => ExitCode::from(status),
         Err(error) => {
             let _ = eprintln!(rt; "Error: {error:?}");
-            ExitCode::from(2)
+            ExitCode::from(FAILED)
         }
     }
 }

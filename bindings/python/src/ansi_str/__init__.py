@@ -10,6 +10,21 @@ Each call raises
 - a UnicodeEncodeError, which is a ValueError, for a lone surrogate;
 - a ValueError for a position below 0.
 
+The calls, each of which has an example in its own help, such as `help(ansi_str.cut)`:
+
+    strip(text)                        has_any(text)
+    cut(text, start=0, end=None)       is_whole(text)
+    left(text, mid)                    find(text, pattern)
+    right(text, mid)                   starts_with(text, pattern)
+    trim(text)                         ends_with(text, pattern)
+    strip_prefix(text, pattern)        width(text)
+    strip_suffix(text, pattern)        fitting(text, width)
+    part(text, pattern, index)         truncate(text, width, tail='')
+    split(text, pattern)               pad(text, width, alignment='left')
+    iter_split(text, pattern)          wrap(text, width)
+    blocks(text)                       edit(text, edits)
+    iter_blocks(text)
+
 >>> log = "\\x1b[31mred\\x1b[39m and plain"
 >>> strip(log)
 'red and plain'
@@ -19,19 +34,18 @@ Each call raises
 2
 """
 
-import functools
 import operator
 import os
 import struct
 import sys
 from importlib.machinery import ExtensionFileLoader
 from importlib.util import module_from_spec, spec_from_file_location
-from typing import Any, FrozenSet, Iterable, Iterator, List, NamedTuple, Optional, Tuple, Union
+from typing import Any, Dict, FrozenSet, Iterable, Iterator, List, NamedTuple, Optional, Tuple, Union
 
 __version__ = "0.2.0"
 __all__ = [
     "strip", "cut", "left", "right", "part", "strip_prefix", "strip_suffix", "trim",
-    "width", "fitting", "truncate", "pad", "wrap", "ALIGNMENTS",
+    "width", "fitting", "truncate", "pad", "wrap", "Alignment", "ALIGNMENTS",
     "find", "starts_with", "ends_with", "has_any", "is_whole",
     "split", "iter_split", "blocks", "iter_blocks", "Block", "Style", "ATTRIBUTES", "COLORS",
     "edit", "Edit", "Cut", "Left", "Right", "Part", "Prefix", "Suffix", "Trim",
@@ -42,6 +56,12 @@ COLORS = ("Black", "BrightBlack", "Red", "BrightRed", "Green", "BrightGreen", "Y
           "Purple", "BrightPurple", "Magenta", "BrightMagenta", "Cyan", "BrightCyan", "White", "BrightWhite")
 ALIGNMENTS = ("left", "center", "right")
 _FIXED, _RGB = 19, 20
+
+if sys.version_info >= (3, 8):
+    from typing import Literal
+    Alignment = Literal["left", "center", "right"]
+else:
+    Alignment = str
 
 # the attributes; two colors, each a kind, a number, red, green and blue; whether there is something to close; and more that is
 # private to the library
@@ -72,7 +92,8 @@ def _utf8(name: str, text: str) -> bytes:
     if not isinstance(text, str):
         raise TypeError("{} must be a str, not {}".format(name, type(text).__name__))
     try:
-        return text.encode()
+        # (a subclass may have an `encode` of its own)
+        return str.encode(text)
     except UnicodeEncodeError as fault:
         fault.reason = name + " has a lone surrogate"
         raise
@@ -105,12 +126,12 @@ def _cut_step(start: int, end: Optional[int]) -> _Step:
 
 def _edited(text: str, *steps: _Step) -> Any:
     data = _utf8("text", text)
-    return _library.edit(data, len(data) == len(text), steps)
+    return _library.edit(data, len(data) == str.__len__(text), steps)
 
 
 def _told(what: int, text: str, pattern: str = "", width: int = 0) -> Any:
     data = _utf8("text", text)
-    return _library.tell(what, data, len(data) == len(text), _utf8("pattern", pattern), _position("width", width))
+    return _library.tell(what, data, len(data) == str.__len__(text), _utf8("pattern", pattern), _position("width", width))
 
 
 def strip(text: str) -> str:
@@ -262,7 +283,7 @@ def truncate(text: str, width: int, tail: str = "") -> str:
     return _edited(text, (_TRUNCATE, _position("width", width), 0, _utf8("tail", tail)))  # type: ignore[no-any-return]
 
 
-def pad(text: str, width: int, alignment: str = "left") -> str:
+def pad(text: str, width: int, alignment: Alignment = "left") -> str:
     """The text padded with blanks to `width` columns, at the left, the center or the right. The link and style still open at its
     end are closed before the blanks. ValueError: the alignment is none of ALIGNMENTS.
 
@@ -403,17 +424,25 @@ def _color_of(kind: int, number: int, red: int, green: int, blue: int) -> Union[
     return COLORS[kind - 1] if kind else None
 
 
-@functools.lru_cache(maxsize=256)
-def _style_of(style: bytes) -> Style:
-    fields = _STYLE.unpack_from(style)
+def _style_of(data: bytes, start: str, end: str) -> Style:
+    fields = _STYLE.unpack_from(data)
     names = frozenset(name for bit, name in enumerate(ATTRIBUTES) if fields[0] >> bit & 1)
-    start, end = _library.sequences(style)
     return Style(names, _color_of(*fields[1:6]), _color_of(*fields[6:11]), fields[11], start, end)
 
 
-def _blocks_of(blocks: Iterator[Tuple[str, bytes]]) -> Iterator[Block]:
-    for text, style in blocks:
-        yield Block(text, _style_of(style))
+# the styles of the last blocks, by their bytes
+_STYLES: Dict[bytes, Style] = {}
+_MOST_STYLES = 256
+
+
+def _blocks_of(walk: Any) -> Iterator[Block]:
+    for text, data in walk:
+        style = _STYLES.get(data)
+        if style is None:
+            if len(_STYLES) >= _MOST_STYLES:
+                _STYLES.clear()
+            style = _STYLES[data] = _style_of(data, *walk.sequences())
+        yield Block(text, style)
 
 
 def iter_blocks(text: str) -> Iterator[Block]:

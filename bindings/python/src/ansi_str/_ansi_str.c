@@ -1,5 +1,5 @@
-/* The calls of the library for C on the UTF-8 of texts and patterns. __init__.py documents each call and passes only valid
-   arguments: `bytes` that are UTF-8, kinds that are defined here, and numbers that are at least 0. */
+/* The calls of the library for C on the UTF-8 of texts and patterns, as `bytes`. __init__.py documents each call. An argument
+   that isn't as described here raises a TypeError, a ValueError or an OverflowError. */
 /* (so one file works with each CPython from 3.6 on) */
 #define Py_LIMITED_API 0x03060000
 #include <Python.h>
@@ -10,10 +10,10 @@
 enum { LONG = 1 << 16 };
 
 /* kinds beside those of edits */
-enum { TRUNCATE = ANSI_STR_EDIT_TRIM + 1, PAD, STRIP };
+enum { TRUNCATE = ANSI_STR_EDIT_TRIM + 1, PAD, STRIP, KINDS };
 
 /* the questions about a text: those up to IS_WHOLE are yes or no, FIND and FITTING return a position, WIDTH columns */
-enum { STARTS_WITH, ENDS_WITH, HAS_ANY, IS_WHOLE, FIND, FITTING, WIDTH };
+enum { STARTS_WITH, ENDS_WITH, HAS_ANY, IS_WHOLE, FIND, FITTING, WIDTH, QUESTIONS };
 
 /* a text and the `bytes` that begins with it */
 typedef struct {
@@ -34,6 +34,37 @@ static PyObject *none_or_error(void) {
     return PyErr_Occurred() ? NULL : Py_BuildValue("");
 }
 
+/* Sets the error of a status, if it has one. */
+static void set_error(uint32_t status) {
+    if (status == ANSI_STR_OUT_OF_MEMORY) {
+        PyErr_NoMemory();
+    } else if (status == ANSI_STR_NOT_UTF8) {
+        PyErr_SetString(PyExc_ValueError, "the bytes aren't UTF-8");
+    }
+}
+
+/* Reads a number. One that is too large becomes the largest. Returns false with an error if it is none, or below 0. */
+static bool read_number(PyObject *given, size_t *number) {
+    Py_ssize_t told = PyNumber_AsSsize_t(given, NULL);
+    if (told < 0) {
+        if (!PyErr_Occurred()) {
+            PyErr_SetString(PyExc_ValueError, "the number is below 0");
+        }
+        return false;
+    }
+    *number = (size_t)told;
+    return true;
+}
+
+/* Whether a number is below `count`, and so that of a kind, a question or an alignment. If not, an error is set. */
+static bool is_one_of(long long number, int count) {
+    if (number >= 0 && number < count) {
+        return true;
+    }
+    PyErr_SetString(PyExc_ValueError, "the number has no meaning");
+    return false;
+}
+
 static PyThreadState *let_others_run(size_t size) {
     return size < LONG ? NULL : PyEval_SaveThread();
 }
@@ -47,7 +78,7 @@ static void run_alone(PyThreadState *thread) {
 static ansi_str_answer write_step(const Text *text, const ansi_str_edit_step *step, const Text *room) {
     switch (step->kind) {
     case STRIP:
-        return ansi_str_raw_strip_unchecked(text->bytes, text->size, room->bytes, room->size);
+        return ansi_str_raw_strip(text->bytes, text->size, room->bytes, room->size);
     case TRUNCATE:
         return ansi_str_raw_truncate(text->bytes, text->size, step->first, step->pattern, step->pattern_len, room->bytes,
                                      room->size);
@@ -78,9 +109,7 @@ static bool make_step(const Text *text, const ansi_str_edit_step *step, Text *ma
         }
         Py_DECREF(room);
     } while (answer.status == ANSI_STR_TOO_SMALL);
-    if (answer.status == ANSI_STR_OUT_OF_MEMORY) {
-        PyErr_NoMemory();
-    }
+    set_error(answer.status);
     return false;
 }
 
@@ -118,14 +147,18 @@ static Py_ssize_t characters_before(const Text *text, size_t place) {
 /* Makes the text of a step of __init__.py. Returns what make_step does. */
 static bool make_text(const Text *text, bool is_ascii, PyObject *words, Text *made) {
     int kind;
-    PyObject *first, *second, *pattern;
+    PyObject *first_given, *second_given, *pattern;
+    size_t first, second;
     ansi_str_edit_step step;
-    if (!PyArg_ParseTuple(words, "iOOS", &kind, &first, &second, &pattern)) {
+    if (!PyTuple_Check(words)) {
+        PyErr_SetString(PyExc_TypeError, "a step must be a tuple");
         return false;
     }
-    /* (a number that is too large becomes the largest) */
-    step = ansi_str_edit_of((uint32_t)kind, (size_t)PyNumber_AsSsize_t(first, NULL),
-                            (size_t)PyNumber_AsSsize_t(second, NULL), PyBytes_AsString(pattern), (size_t)PyBytes_Size(pattern));
+    if (!PyArg_ParseTuple(words, "iOOS", &kind, &first_given, &second_given, &pattern) || !is_one_of(kind, KINDS) ||
+        !read_number(first_given, &first) || !read_number(second_given, &second) || (kind == PAD && !is_one_of((long long)second, ANSI_STR_RIGHT + 1))) {
+        return false;
+    }
+    step = ansi_str_edit_of((uint32_t)kind, first, second, PyBytes_AsString(pattern), (size_t)PyBytes_Size(pattern));
     if (!is_ascii && kind <= ANSI_STR_EDIT_RIGHT && (kind != ANSI_STR_EDIT_CUT || step.first <= step.second)) {
         Text plain;
         size_t between = step.second - step.first;
@@ -165,10 +198,14 @@ static PyObject *edit(PyObject *module, PyObject *words) {
 }
 
 /* (text): its plain text. */
-static PyObject *strip(PyObject *module, PyObject *given) {
-    Text text = text_of(given), plain;
-    PyObject *answer = NULL;
+static PyObject *strip(PyObject *module, PyObject *words) {
+    PyObject *given, *answer = NULL;
+    Text text, plain;
     (void)module;
+    if (!PyArg_ParseTuple(words, "S", &given)) {
+        return NULL;
+    }
+    text = text_of(given);
     if (make_plain(&text, &plain)) {
         answer = decoded(plain.bytes, plain.size);
         Py_DECREF(plain.object);
@@ -179,9 +216,9 @@ static PyObject *strip(PyObject *module, PyObject *given) {
 static ansi_str_answer ask(int what, const Text *text, const Text *pattern, size_t width) {
     switch (what) {
     case STARTS_WITH:
-        return ansi_str_raw_starts_with_unchecked(text->bytes, text->size, pattern->bytes, pattern->size);
+        return ansi_str_raw_starts_with(text->bytes, text->size, pattern->bytes, pattern->size);
     case ENDS_WITH:
-        return ansi_str_raw_ends_with_unchecked(text->bytes, text->size, pattern->bytes, pattern->size);
+        return ansi_str_raw_ends_with(text->bytes, text->size, pattern->bytes, pattern->size);
     case HAS_ANY:
         return ansi_str_raw_has_any(text->bytes, text->size);
     case IS_WHOLE:
@@ -191,7 +228,7 @@ static ansi_str_answer ask(int what, const Text *text, const Text *pattern, size
     case WIDTH:
         return ansi_str_raw_width(text->bytes, text->size);
     default:
-        return ansi_str_raw_find_unchecked(text->bytes, text->size, pattern->bytes, pattern->size);
+        return ansi_str_raw_find(text->bytes, text->size, pattern->bytes, pattern->size);
     }
 }
 
@@ -205,20 +242,24 @@ static PyObject *tell(PyObject *module, PyObject *words) {
     Py_ssize_t position;
     size_t most;
     (void)module;
-    if (!PyArg_ParseTuple(words, "iSpSO", &what, &given, &is_ascii, &sought, &width)) {
+    if (!PyArg_ParseTuple(words, "iSpSO", &what, &given, &is_ascii, &sought, &width) || !is_one_of(what, QUESTIONS) ||
+        !read_number(width, &most)) {
         return NULL;
     }
     text = text_of(given);
     pattern = text_of(sought);
-    most = (size_t)PyNumber_AsSsize_t(width, NULL);
     thread = let_others_run(text.size);
     answer = ask(what, &text, &pattern, most);
     run_alone(thread);
+    if (answer.status != ANSI_STR_OK && answer.status != ANSI_STR_NO) {
+        set_error(answer.status);
+        return NULL;
+    }
     if (what <= IS_WHOLE) {
         return PyBool_FromLong(answer.status == ANSI_STR_OK);
     }
-    if (answer.status != ANSI_STR_OK) {
-        return none_or_error();
+    if (answer.status == ANSI_STR_NO) {
+        return Py_BuildValue("");
     }
     position = is_ascii || what == WIDTH ? (Py_ssize_t)answer.len : characters_before(&text, answer.len);
     return position < 0 ? NULL : PyLong_FromSsize_t(position);
@@ -248,11 +289,10 @@ static PyObject *wrap(PyObject *module, PyObject *words) {
     char *room = NULL;
     ansi_str_answers answer;
     (void)module;
-    if (!PyArg_ParseTuple(words, "SO", &given, &width)) {
+    if (!PyArg_ParseTuple(words, "SO", &given, &width) || !read_number(width, &most)) {
         return NULL;
     }
     text = text_of(given);
-    most = (size_t)PyNumber_AsSsize_t(width, NULL);
     size = text.size + ANSI_STR_LONGEST_START_AND_CLOSE;
     /* (there is at most one line more than the text has bytes) */
     ends = PyMem_Malloc((text.size + 1) * sizeof *ends);
@@ -272,7 +312,7 @@ static PyObject *wrap(PyObject *module, PyObject *words) {
     if (answer.status == ANSI_STR_OK) {
         list = list_of(room, ends, answer.count);
     } else {
-        PyErr_NoMemory();
+        set_error(answer.status);
     }
     PyMem_Free(room);
     PyMem_Free(ends);
@@ -290,7 +330,19 @@ typedef struct {
     size_t size;
 } Walk;
 
-static PyTypeObject *walk_type;
+/* what each copy of the module has: one copy is in each interpreter */
+typedef struct {
+    PyTypeObject *walk_type;
+} State;
+
+/* (walks are made by `walk` alone) */
+static PyObject *refuse_walk(PyTypeObject *type, PyObject *words, PyObject *names) {
+    (void)type;
+    (void)words;
+    (void)names;
+    PyErr_SetString(PyExc_TypeError, "a walk is made by a call");
+    return NULL;
+}
 
 static void free_walk(PyObject *self) {
     Walk *walk = (Walk *)self;
@@ -304,11 +356,17 @@ static void free_walk(PyObject *self) {
 
 /* (text[, pattern]): an iterator over the parts, or the blocks. */
 static PyObject *walk(PyObject *module, PyObject *words) {
+    State *state = PyModule_GetState(module);
     PyObject *given, *sought = NULL;
     Text text;
     Walk *made;
-    (void)module;
-    if (!PyArg_ParseTuple(words, "S|S", &given, &sought) || (made = (Walk *)PyType_GenericAlloc(walk_type, 0)) == NULL) {
+    ansi_str_answer answer;
+    if (state == NULL || state->walk_type == NULL) {
+        PyErr_SetString(PyExc_RuntimeError, "the module hasn't started");
+        return NULL;
+    }
+    if (!PyArg_ParseTuple(words, "S|S", &given, &sought) ||
+        (made = (Walk *)PyType_GenericAlloc(state->walk_type, 0)) == NULL) {
         return NULL;
     }
     Py_INCREF(given);
@@ -319,10 +377,15 @@ static PyObject *walk(PyObject *module, PyObject *words) {
     made->blocks = ansi_str_no_walk();
     text = text_of(given);
     if (sought == NULL) {
-        ansi_str_raw_blocks_begin_unchecked(text.bytes, text.size, &made->blocks);
+        answer = ansi_str_raw_blocks_begin(text.bytes, text.size, &made->blocks);
     } else {
         Text pattern = text_of(sought);
-        ansi_str_raw_parts_begin_unchecked(text.bytes, text.size, pattern.bytes, pattern.size, &made->parts);
+        answer = ansi_str_raw_parts_begin(text.bytes, text.size, pattern.bytes, pattern.size, &made->parts);
+    }
+    if (answer.status != ANSI_STR_OK) {
+        set_error(answer.status);
+        Py_DECREF(made);
+        return NULL;
     }
     return (PyObject *)made;
 }
@@ -375,39 +438,85 @@ static PyObject *next_piece(PyObject *self) {
     return Py_BuildValue("(NN)", text, style_bytes(&block.style, &walk->blocks.style));
 }
 
-/* (the bytes of a style): the sequences that set it and close it. */
-static PyObject *sequences(PyObject *module, PyObject *style) {
-    ansi_str_style_numbers numbers = {0};
+/* The sequences that set and close the style of the last block. */
+static PyObject *sequences(PyObject *self, PyObject *none) {
+    const ansi_str_style_numbers *style = &((Walk *)self)->blocks.style;
     char start[ANSI_STR_LONGEST_START], end[ANSI_STR_LONGEST_CLOSE];
-    ansi_str_answer started, ended;
-    (void)module;
-    memcpy(&numbers, PyBytes_AsString(style) + STYLE, NUMBERS);
-    started = ansi_str_style_start(&numbers, start, sizeof start);
-    ended = ansi_str_style_end(&numbers, end, sizeof end);
+    ansi_str_answer started = ansi_str_style_start(style, start, sizeof start);
+    ansi_str_answer ended = ansi_str_style_end(style, end, sizeof end);
+    (void)none;
     if (started.status != ANSI_STR_OK || ended.status != ANSI_STR_OK) {
         return PyErr_NoMemory();
     }
     return Py_BuildValue("(NN)", decoded(start, started.len), decoded(end, ended.len));
 }
 
-static PyMethodDef calls[] = {
-    {"edit", edit, METH_VARARGS, NULL}, {"tell", tell, METH_VARARGS, NULL},    {"walk", walk, METH_VARARGS, NULL},
-    {"strip", strip, METH_O, NULL},     {"wrap", wrap, METH_VARARGS, NULL}, {"sequences", sequences, METH_O, NULL},
+static PyMethodDef walk_calls[] = {
+    {"sequences", sequences, METH_NOARGS, NULL},
     {NULL, NULL, 0, NULL},
 };
 
-static struct PyModuleDef definition = {PyModuleDef_HEAD_INIT, "_ansi_str", NULL, -1, calls, NULL, NULL, NULL, NULL};
-
-static PyType_Slot slots[] = {
+static PyType_Slot walk_slots[] = {
+    {Py_tp_new, (void *)refuse_walk},
     {Py_tp_dealloc, (void *)free_walk},
     {Py_tp_iter, (void *)PyObject_SelfIter},
     {Py_tp_iternext, (void *)next_piece},
+    {Py_tp_methods, walk_calls},
     {0, NULL},
 };
 
-static PyType_Spec spec = {"ansi_str.Walk", sizeof(Walk), 0, Py_TPFLAGS_DEFAULT, slots};
+static PyType_Spec walk_spec = {"ansi_str.Walk", sizeof(Walk), 0, Py_TPFLAGS_DEFAULT, walk_slots};
+
+static PyMethodDef calls[] = {
+    {"edit", edit, METH_VARARGS, NULL},   {"tell", tell, METH_VARARGS, NULL}, {"walk", walk, METH_VARARGS, NULL},
+    {"strip", strip, METH_VARARGS, NULL}, {"wrap", wrap, METH_VARARGS, NULL}, {NULL, NULL, 0, NULL},
+};
+
+static int start(PyObject *module) {
+    State *state = PyModule_GetState(module);
+    state->walk_type = (PyTypeObject *)PyType_FromSpec(&walk_spec);
+    return state->walk_type == NULL ? -1 : 0;
+}
+
+/* (a module that hasn't started has no state) */
+static int visit_state(PyObject *module, visitproc visit, void *arg) {
+    State *state = PyModule_GetState(module);
+    if (state != NULL) {
+        Py_VISIT(state->walk_type);
+    }
+    return 0;
+}
+
+static int clear_state(PyObject *module) {
+    State *state = PyModule_GetState(module);
+    if (state != NULL) {
+        Py_CLEAR(state->walk_type);
+    }
+    return 0;
+}
+
+static void free_state(void *module) {
+    clear_state(module);
+}
+
+/* The slot Py_mod_multiple_interpreters and its value Py_MOD_PER_INTERPRETER_GIL_SUPPORTED, which Python has from 3.12 on: the
+   module may be imported by interpreters that don't share a lock. An older Python refuses the slot. */
+enum { MULTIPLE_INTERPRETERS = 3, OWN_LOCK = 2, FIRST_VERSION = 0x030C0000 };
+
+static PyModuleDef_Slot slots[] = {
+    {MULTIPLE_INTERPRETERS, (void *)OWN_LOCK},
+    {Py_mod_exec, (void *)start},
+    {0, NULL},
+};
+
+#define DEFINITION(slots) \
+    {PyModuleDef_HEAD_INIT, "_ansi_str", NULL, sizeof(State), calls, slots, visit_state, clear_state, free_state}
+
+static struct PyModuleDef definition = DEFINITION(slots);
+static struct PyModuleDef older_definition = DEFINITION(slots + 1);
 
 PyMODINIT_FUNC PyInit__ansi_str(void) {
-    walk_type = (PyTypeObject *)PyType_FromSpec(&spec);
-    return walk_type == NULL ? NULL : PyModule_Create(&definition);
+    PyObject *version = PySys_GetObject("hexversion");
+    bool is_older = version == NULL || PyLong_AsLong(version) < FIRST_VERSION;
+    return PyModuleDef_Init(is_older ? &older_definition : &definition);
 }
