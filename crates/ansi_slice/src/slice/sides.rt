@@ -18,7 +18,7 @@ ghost use Rattle.ansi_style.specs.Written.{longest_start_and_close};
 
 use crate::slice::has_any;
 use ansi_items::ansitok::{Kind, Scanner};
-use ansi_search::search::{self, PAST_THE_END, walk_to};
+use ansi_search::search::{PAST_THE_END, walk_to};
 use ansi_style::state::Style;
 use ansi_style::styles;
 use std::alloc::{AllocError, Allocator};
@@ -70,15 +70,16 @@ pub fn left_in<'t, A: Allocator>(
     ensures takes_no_memory { IsFalse (has_escape text.now)
         ⊎ IsFalse (is_good_position (plain text.now) mid) → IsOk result }
 {
-    if !search::is_good_position(text, mid) {
+    let mut style = styles::plain_style();
+    let Some(to) = walk_to(&mut style, text, mid) else {
         return Ok(None);
-    }
+    };
     if !has_any(text) {
         let (left, _) = bare_sides(text, mid);
         return Ok(Some(CowStr::Borrowed(left)));
     }
     let mut style = styles::plain_style();
-    let mut left = String::new(alloc);
+    let mut left = String::with_capacity(alloc, side_room(to))?;
     write_side(&mut left, &mut style, text, mid)?;
     Ok(Some(CowStr::Owned(left)))
 }
@@ -131,10 +132,16 @@ fn write_sides<A: Allocator + Copy>(
     ensures right { IfOk result (λ s. string_bytes s.1 ≡ right_side text.now mid) }
 {
     let mut style = styles::plain_style();
-    let mut left = String::new(alloc);
+    let mut left = String::with_capacity(alloc, side_room(mid.min(text.len())))?;
     let end = write_side(&mut left, &mut style, text, mid)?;
     let right = write_right(alloc, style, &text[end..])?;
     Ok((left, right))
+}
+
+/// How many bytes are reserved for what a text of this length adds to a side: an eighth more, since
+/// the start and the close of a run may be longer than the SGRs around it.
+fn side_room(len: usize) -> usize {
+    len.saturating_add(len / 8)
 }
 
 /// Appends what a text adds to a side before a position: each run of its plain text in the style
@@ -197,7 +204,7 @@ fn write_right<A: Allocator>(alloc: A, style: Style, text: &str) -> Result<Strin
         string_bytes s ≡ side_up_to (rendition_of style) PAST_THE_END (pieces_of text.now)) }
 {
     let mut style = style;
-    let mut right = String::new(alloc);
+    let mut right = String::with_capacity(alloc, side_room(text.len()))?;
     write_side(&mut right, &mut style, text, PAST_THE_END)?;
     Ok(right)
 }

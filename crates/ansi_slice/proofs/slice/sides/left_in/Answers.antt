@@ -1,22 +1,12 @@
 use Rattle.ansi_slice.proofs.Common.{◌++◌, sym, ◌∙◌, ap, ap₂, arith, length, pieces_of, side_up_to}
-use Rattle.ansi_slice.proofs.Common.{IsUtf8-plain}
-use Rattle.ansi_search.proofs.PositionLemmas.{is_good_position-utf8}
 use Rattle.ansi_slice.proofs.SideWalkLemmas.{left_side-is}
 use Rattle.ansi_slice.proofs.LengthLemmas.{length-sides}
 use Rattle.ansi_slice.proofs.slice.sides.left_in.Goals as goal
 
--- no character goes on at a good position
-
-pub bare_sides-requires-clause-good : goal.bare_sides-requires-clause-good
-bare_sides-requires-clause-good g c = sym (is_good_position-utf8 _ c.args.mid (IsUtf8-plain c.args.text.now c.utf8.text)) ∙ sym c.is_good_position.ensures ∙ c.if-not-is_good_position.false
-
-pub write_side-requires : goal.write_side-requires
-write_side-requires g c = sym (is_good_position-utf8 _ c.args.mid (IsUtf8-plain c.args.text.now c.utf8.text)) ∙ sym c.is_good_position.ensures ∙ c.if-not-is_good_position.false
-
 pub returns-clause-bytes : goal.returns-clause-bytes
 returns-clause-bytes g c =
     let t = c.args.text.now in
-    c.in_ok-write_side.ensures.bytes ∙ ap₂ (λ v r. v ++ side_up_to r c.args.mid (pieces_of t)) c.new-left.ensures.bytes c.plain_style-style.ensures ∙ sym (left_side-is t c.args.mid)
+    c.in_ok-write_side.ensures.bytes ∙ ap₂ (λ v r. v ++ side_up_to r c.args.mid (pieces_of t)) c.in_ok-left.ensures.bytes c.plain_style-style-2.ensures ∙ sym (left_side-is t c.args.mid)
 
 pub returns-then-not-has_any-clause-len : goal.returns-then-not-has_any-clause-len
 returns-then-not-has_any-clause-len g c = omega (arith, ap length c.bare_sides.ensures.left, length-sides c.args.text.now c.args.mid)
