@@ -66,6 +66,11 @@ AreCopied texts answer old new old_ends new_ends =
     × (length (flat_map (λ t. t) texts) ≤ length old → new ≡ flat_map (λ t. t) texts ++ drop (length (flat_map (λ t. t) texts)) old)
     × (length texts ≤ length old_ends → new_ends ≡ ends_from 0 texts ++ drop (length texts) old_ends)
 
+-- these texts are copied so far, and both buffers keep their length
+abbrev pub AreCopiedSoFar : List (List ℕ) → ℕ × ℕ → List ℕ → List ℕ → List ℕ → List ℕ → Type 0
+AreCopiedSoFar texts answer old new old_ends new_ends =
+    AreCopied texts answer old new old_ends new_ends × (length new ≡ length old) × (length new_ends ≡ length old_ends)
+
 -- a call writes all texts, or runs out of memory if it allocates
 abbrev pub GivesAll : {T : Type 0} → Bool → List ℕ → List T → ListAnswer → List ℕ → List ℕ → List T → List T → Type 0
 GivesAll takes_memory bytes entries answer old new old_entries new_entries =

@@ -2,7 +2,7 @@
 ghost use Rattle.std.specs.Prelude.{◌≡◌, ◌⊎◌, ◌≤◌, ◌<◌, ◌+◌, ◌^◌, ◌==◌, ◌∷◌, [], ◌++◌, ℕ, List};
 ghost use Rattle.std.specs.Prelude.{length, take, drop, map, flat_map, if◌then◌else◌, IsFalse};
 ghost use Rattle.std.specs.Prelude.{IfNone, IfSome, Result, IsOk, IfOk, OnOk, MatchResult, All};
-ghost use Rattle.std.specs.Prelude.{string_bytes};
+ghost use Rattle.std.specs.Prelude.{string_bytes, IsUtf8};
 ghost use Rattle.std.specs.Iterator.{IsFinite, Drains, HoldsAlong};
 ghost use Rattle.std.specs.declared.alloc.AllocError.{AllocError};
 ghost use Rattle.std.specs.declared.borrow.CowStr.{CowStr};
@@ -12,12 +12,14 @@ ghost use Rattle.ansi_str.specs.Blocks.{blocks};
 ghost use Rattle.ansi_answers.specs.Answers.{out_of_memory};
 ghost use Rattle.ansi_answers.specs.Lists.{none, ends_from, entries_from, styled_text};
 ghost use Rattle.ansi_answers.specs.Lists.{styled_entries_from, given_bytes, AreCopied, AreWritten};
+ghost use Rattle.ansi_answers.specs.Lists.{AreCopiedSoFar};
 ghost use Rattle.ansi_answers.specs.Lists.{HaveFailed};
 
 use crate::answers::{OK, OUT_OF_MEMORY, TOO_SMALL};
 use crate::styles::StyleData;
 use ansi_str::split::split_in;
 use ansi_str::{AnsiBlock, get_blocks, laws};
+use memchr::memchr_iter;
 use std::alloc::{AllocError, Allocator};
 use std::borrow::CowStr;
 use std::fmt::Write;
@@ -138,7 +140,30 @@ fn copy_bare_parts<A: Allocator + Copy>(
 {
     laws::bare_texts_are_std();
     laws::parts_lie_between_matches();
+    if let [byte] = pat.as_bytes() {
+        return copy_around_byte(text, *byte, buffer, ends);
+    }
     copy_texts(split_in(alloc, text, pat), buffer, ends)
+}
+
+/// The same for a pattern of one byte. One iterator finds all of its places, which is quicker than a
+/// search for each.
+fn copy_around_byte(text: &str, byte: u8, buffer: &mut [u8], ends: &mut [usize]) -> (usize, usize)
+    requires bare { IsFalse (has_escape text.now) }
+    requires pattern { IsUtf8 (byte ∷ []) }
+    ensures { AreCopied (all_parts text.now (byte ∷ [])) result buffer.old buffer.new ends.old
+        ends.new }
+{
+    laws::bare_texts_are_std();
+    laws::parts_lie_between_matches();
+    let bytes = text.as_bytes();
+    let mut copied = (0, 0);
+    let mut start = 0;
+    for place in memchr_iter(byte, bytes) {
+        copied = put_text(&bytes[start..place], copied, buffer, ends);
+        start = place + 1;
+    }
+    put_text(&bytes[start..], copied, buffer, ends)
 }
 
 /// Writes the texts of an iterator that doesn't allocate, and where each ends, as far as there is
@@ -155,12 +180,31 @@ pub fn copy_texts<'t, A: Allocator, I: Iterator<Item = Result<CowStr<'t, A>, All
     ensures { (xs : List (Result (CowStr A) AllocError)) × Drains I.next_gives given xs
         × AreCopied (map given_bytes xs) result buffer.old buffer.new ends.old ends.new }
 {
-    let mut count = 0;
-    let mut len = 0;
+    let mut copied = (0, 0);
     for text in given {
-        len = put(text.unwrap().as_bytes(), len, buffer);
-        count = put(&[len], count, ends);
+        copied = put_text(text.unwrap().as_bytes(), copied, buffer, ends);
     }
+    copied
+}
+
+/// Writes one text more after those that are copied, and where it ends, as far as there is room.
+/// Returns their number and their total length.
+#[inline(always)]
+fn put_text(
+    text: &[u8],
+    copied: (usize, usize),
+    buffer: &mut [u8],
+    ends: &mut [usize],
+) -> (usize, usize)
+    requires count { copied.0 + 1 < 2 ^ 64 }
+    requires len { copied.1 + length text.now < 2 ^ 64 }
+    ensures { (texts : List (List ℕ)) (first : List ℕ) (first_ends : List ℕ) →
+        AreCopiedSoFar texts copied first buffer.old first_ends ends.old →
+        AreCopiedSoFar (texts ++ text.now ∷ []) result first buffer.new first_ends ends.new }
+{
+    let (count, len) = copied;
+    let len = put(text, len, buffer);
+    let count = put(&[len], count, ends);
     (count, len)
 }
 

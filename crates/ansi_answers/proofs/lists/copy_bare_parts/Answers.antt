@@ -1,10 +1,28 @@
-use Rattle.std.proofs.Common.{rules, ◌∙◌, length, ap, subst, arith}
+use Rattle.std.proofs.Common.{rules, ◌≡◌, ◌∙◌, ◌∷◌, [], List, ℕ, length, slice_index, refl, sym, ap, subst, arith, IsUtf8}
 use Rattle.std.specs.declared.alloc.AllocError.{AllocError}
 use Rattle.ansi_str.specs.Splits.{SplitPart, GivesPart}
+use Rattle.ansi_str.specs.Parts.{all_parts}
 use Rattle.ansi_answers.specs.Lists.{AreCopied}
 use Rattle.ansi_answers.proofs.GivenLemmas.{joined_texts, part-next, given-fits, lent-drained}
 use Rattle.ansi_answers.proofs.ListLemmas.{length-bare_parts}
 use Rattle.ansi_answers.proofs.lists.copy_bare_parts.Goals as goal
+
+-- a pattern of one byte
+one : (p : List ℕ) → length p ≡ 1 → p ≡ slice_index p 0 ∷ []
+one [] is = absurd (omega (arith, is))
+one (b ∷ []) is = refl
+one (a ∷ b ∷ p) is = absurd (omega (arith, is))
+
+pub copy_around_byte-requires-clause-pattern : goal.copy_around_byte-requires-clause-pattern
+copy_around_byte-requires-clause-pattern g c =
+    let bytes = c.as_bytes.result.now in
+    subst IsUtf8 (sym c.as_bytes.ensures.value ∙ one bytes (omega (arith, c.in-len1.len_at_least, c.in-len1.len_below))) c.utf8.pat
+
+pub returns-in-len1 : goal.returns-in-len1
+returns-in-len1 g c =
+    let bytes = c.as_bytes.result.now in
+    subst (λ p. AreCopied (all_parts c.args.text.now p) c.copy_around_byte.result c.args.buffer.now c.copy_around_byte.new.buffer c.args.ends.now c.copy_around_byte.new.ends)
+    (sym (one bytes (omega (arith, c.in-len1.len_at_least, c.in-len1.len_below))) ∙ c.as_bytes.ensures.value) c.copy_around_byte.ensures
 
 -- the parts are borrows, and have no more bytes than the text
 pub copy_texts-requires : goal.copy_texts-requires
