@@ -23,6 +23,7 @@ const FOUND: u8 = 0;
 const NOT_FOUND: u8 = 1;
 
 const FAILED: u8 = 2;
+
 // 128 and the number of the signal SIGPIPE
 const OUTPUT_CLOSED: u8 = 141;
 

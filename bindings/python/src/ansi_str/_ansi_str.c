@@ -6,6 +6,9 @@
 
 #include "ansi_str.h"
 
+/* References are counted by `Py_IncRef` and `Py_DecRef` alone. The macros for them of headers before Python 3.12 would also count
+   those of objects that all interpreters share, such as `b""`, and interpreters with a lock of their own do so at the same time. */
+
 /* other threads may run during a call on a text of this many bytes or more */
 enum { LONG = 1 << 16 };
 
@@ -107,7 +110,7 @@ static bool make_step(const Text *text, const ansi_str_edit_step *step, Text *ma
         if (answer.status == ANSI_STR_OK) {
             return true;
         }
-        Py_DECREF(room);
+        Py_DecRef(room);
     } while (answer.status == ANSI_STR_TOO_SMALL);
     set_error(answer.status);
     return false;
@@ -140,7 +143,7 @@ static Py_ssize_t characters_before(const Text *text, size_t place) {
     while (place-- > 0) {
         count += begins_character(plain.bytes[place]);
     }
-    Py_DECREF(plain.object);
+    Py_DecRef(plain.object);
     return count;
 }
 
@@ -167,7 +170,7 @@ static bool make_text(const Text *text, bool is_ascii, PyObject *words, Text *ma
         }
         step.first = place_after(&plain, 0, step.first);
         step.second = place_after(&plain, step.first, between);
-        Py_DECREF(plain.object);
+        Py_DecRef(plain.object);
     }
     return make_step(text, &step, made);
 }
@@ -183,17 +186,17 @@ static PyObject *edit(PyObject *module, PyObject *words) {
         return NULL;
     }
     text = text_of(given);
-    Py_INCREF(given);
+    Py_IncRef(given);
     for (at = 0; at < PyTuple_Size(steps); at++) {
         bool is_made = make_text(&text, is_ascii, PyTuple_GetItem(steps, at), &made);
-        Py_DECREF(text.object);
+        Py_DecRef(text.object);
         if (!is_made) {
             return none_or_error();
         }
         text = made;
     }
     answer = decoded(text.bytes, text.size);
-    Py_DECREF(text.object);
+    Py_DecRef(text.object);
     return answer;
 }
 
@@ -208,7 +211,7 @@ static PyObject *strip(PyObject *module, PyObject *words) {
     text = text_of(given);
     if (make_plain(&text, &plain)) {
         answer = decoded(plain.bytes, plain.size);
-        Py_DECREF(plain.object);
+        Py_DecRef(plain.object);
     }
     return answer;
 }
@@ -273,7 +276,7 @@ static PyObject *list_of(const char *lines, const size_t *ends, size_t count) {
         PyObject *line = decoded(lines + start, ends[at] - start);
         start = ends[at];
         if (line == NULL) {
-            Py_DECREF(list);
+            Py_DecRef(list);
             return NULL;
         }
         PyList_SetItem(list, (Py_ssize_t)at, line);
@@ -347,11 +350,11 @@ static PyObject *refuse_walk(PyTypeObject *type, PyObject *words, PyObject *name
 static void free_walk(PyObject *self) {
     Walk *walk = (Walk *)self;
     PyTypeObject *type = Py_TYPE(self);
-    Py_XDECREF(walk->text);
-    Py_XDECREF(walk->pattern);
+    Py_DecRef(walk->text);
+    Py_DecRef(walk->pattern);
     PyMem_Free(walk->room);
     PyObject_Free(self);
-    Py_DECREF(type);
+    Py_DecRef((PyObject *)type);
 }
 
 /* (text[, pattern]): an iterator over the parts, or the blocks. */
@@ -369,8 +372,8 @@ static PyObject *walk(PyObject *module, PyObject *words) {
         (made = (Walk *)PyType_GenericAlloc(state->walk_type, 0)) == NULL) {
         return NULL;
     }
-    Py_INCREF(given);
-    Py_XINCREF(sought);
+    Py_IncRef(given);
+    Py_IncRef(sought);
     made->text = given;
     made->pattern = sought;
     made->parts = ansi_str_no_part_walk();
@@ -384,7 +387,7 @@ static PyObject *walk(PyObject *module, PyObject *words) {
     }
     if (answer.status != ANSI_STR_OK) {
         set_error(answer.status);
-        Py_DECREF(made);
+        Py_DecRef((PyObject *)made);
         return NULL;
     }
     return (PyObject *)made;
@@ -490,7 +493,9 @@ static int visit_state(PyObject *module, visitproc visit, void *arg) {
 static int clear_state(PyObject *module) {
     State *state = PyModule_GetState(module);
     if (state != NULL) {
-        Py_CLEAR(state->walk_type);
+        PyObject *type = (PyObject *)state->walk_type;
+        state->walk_type = NULL;
+        Py_DecRef(type);
     }
     return 0;
 }
