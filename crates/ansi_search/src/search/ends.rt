@@ -1,5 +1,5 @@
 //! What a plain text ends with.
-ghost use Rattle.std.specs.Prelude.{◌≡◌, ◌≢◌, ◌-◌, ◌<◌, ◌≤◌, MatchOption, drop, length};
+ghost use Rattle.std.specs.Prelude.{◌≡◌, ◌-◌, ◌<◌, ◌≤◌, MatchOption, drop, length};
 ghost use Rattle.std.specs.Prelude.{nat_eq, IsTrue, IsFalse};
 ghost use Rattle.std.specs.List.{ends_with};
 ghost use Rattle.std.specs.Str.{IsCharBoundary};
