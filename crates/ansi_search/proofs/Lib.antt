@@ -5,6 +5,7 @@ pub mod MatchLemmas
 pub mod FindLemmas
 pub mod TwoWayLemmas
 pub mod OffsetLemmas
+pub mod SplitLemmas
 pub mod EndLemmas
 pub mod WindowLemmas
 pub mod PrefixLemmas

@@ -1,12 +1,19 @@
 //! What a plain text ends with.
-ghost use Rattle.std.specs.Prelude.{◌≡◌, ◌-◌, MatchOption, length, nat_eq, IsTrue, IsFalse};
+ghost use Rattle.std.specs.Prelude.{◌≡◌, ◌-◌, ◌<◌, ◌≤◌, MatchOption, drop, length};
+ghost use Rattle.std.specs.Prelude.{nat_eq, IsTrue, IsFalse};
 ghost use Rattle.std.specs.List.{ends_with};
+ghost use Rattle.std.specs.Str.{IsCharBoundary};
 ghost use Rattle.ansi_items.specs.Plain.{plain};
-ghost use Rattle.ansi_search.specs.Offsets.{StandsIn};
+ghost use Rattle.ansi_search.specs.Offsets.{StandsIn, BeginsItem, IsEnd, IsSurelyPlain, goes_on};
 
 use crate::search::offsets::offset_at;
 use crate::search::prefix::continues_with;
+use ansi_items::ESC;
 use ansi_items::ansitok::{Kind, Scanner};
+use memchr::{memchr2, memrchr};
+
+/// The byte that may end an operating system command.
+const BEL: u8 = 0x07;
 
 /// Whether the plain text ends with the pattern. (std.)
 ///
@@ -20,30 +27,94 @@ pub fn ends_with(text: &str, pat: &str) -> bool
 /// The offset in the text at which a suffix of the plain text begins, or `None` if the plain text
 /// doesn't end with it. (std.)
 ///
-/// Doesn't allocate.
+/// Reads the text from its end. Doesn't allocate.
 pub fn suffix_offset(text: &str, pat: &str) -> Option<usize>
     ensures { MatchOption result (IsFalse (ends_with nat_eq (plain text.now) pat.now))
         (λ i. IsTrue (ends_with nat_eq (plain text.now) pat.now)
         × StandsIn text.now (length (plain text.now) - length pat.now) i) }
 {
-    // The last run that is no shorter than the pattern, and how long the plain text is from there
-    // on: the pattern begins in that run, or after it.
-    let mut last = 0;
-    let mut len = 0;
-    for item in Scanner::new(text) {
-        if item.kind == Kind::Text {
-            let run = &text[item.start..item.end];
-            if pat.len() <= run.len() {
-                last = item.start;
-                len = 0;
-            }
-            len += run.len();
-        }
-    }
-    let rest = &text[last..];
-    let place = len.saturating_sub(pat.len());
+    let (start, len) = plain_end(text, pat.len());
+    let place = len.checked_sub(pat.len())?;
+    let rest = &text[start..];
     if !continues_with(rest, pat.as_bytes(), place) {
         return None;
     }
-    Some(last + offset_at(rest, place))
+    Some(start + offset_at(rest, place))
+}
+
+/// An end of the text that has at least `wanted` plain bytes, or all of the text if it has fewer:
+/// where it begins, and how long its plain text is.
+fn plain_end(text: &str, wanted: usize) -> (usize, usize)
+    ensures end { IsEnd text.now result.0 }
+    ensures len { result.1 ≡ length (plain (drop result.0 text.now)) }
+    ensures enough { result.1 < wanted → result.0 ≡ 0 }
+{
+    let last = text.len().saturating_sub(wanted);
+    if is_surely_plain(text, last) {
+        return (last, text.len() - last);
+    }
+    // An item begins at `start`. Each step goes back at least as far as all steps before it, so that
+    // there are few.
+    let mut start = text.len();
+    let mut len = 0;
+    while len < wanted && 0 < start {
+        let end = start;
+        let read = text.len() - end;
+        start = last_item(text, end.saturating_sub(read));
+        len += plain_len(&text[start..end]);
+    }
+    (start, len)
+}
+
+/// Whether the text from an offset on is plain, as it alone and the byte before it tell. Only a
+/// control string goes on after any byte, and it has an ESC or a BEL at its end.
+fn is_surely_plain(text: &str, start: usize) -> bool
+    requires { start ≤ length text.now }
+    ensures { IsTrue result → IsSurelyPlain text.now start }
+{
+    let bytes = text.as_bytes();
+    if 0 < start && goes_on(bytes[start - 1]) {
+        return false;
+    }
+    text.is_char_boundary(start) && memchr2(ESC, BEL, &bytes[start..]).is_none()
+}
+
+/// Whether a control sequence or an escape sequence may have this byte before its last one.
+fn goes_on(byte: u8) -> bool
+    ensures { result ≡ goes_on byte }
+{
+    matches!(byte, ESC | b'[' | 0x20..=0x3F)
+}
+
+/// The last offset before `end` at which surely an item begins: that of an ESC that no `\` follows,
+/// since it can't be in a sequence, or 0.
+fn last_item(text: &str, end: usize) -> usize
+    requires { end ≤ length text.now }
+    ensures bound { result ≤ end }
+    ensures before { 0 < end → result < end }
+    ensures begins { 0 < result → BeginsItem (drop result text.now) }
+    ensures boundary { IsCharBoundary text.now result }
+{
+    let bytes = text.as_bytes();
+    let mut unread = end;
+    while let Some(escape) = memrchr(ESC, &bytes[..unread]) {
+        if bytes.get(escape + 1) != Some(&b'\\') {
+            return escape;
+        }
+        unread = escape;
+    }
+    0
+}
+
+/// How long the plain text is.
+fn plain_len(text: &str) -> usize
+    ensures { result ≡ length (plain text.now) }
+{
+    let mut len = 0;
+    for item in Scanner::new(text) {
+        if item.kind == Kind::Text {
+            len += item.end - item.start;
+        }
+    }
+    len
 }
