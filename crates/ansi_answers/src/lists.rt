@@ -146,8 +146,8 @@ fn copy_bare_parts<A: Allocator + Copy>(
     copy_texts(split_in(alloc, text, pat), buffer, ends)
 }
 
-/// The same for a pattern of one byte. One iterator finds all of its places, which is quicker than a
-/// search for each.
+/// The same for a pattern of one byte. One iterator finds all of its places, which is quicker
+/// than a search for each.
 fn copy_around_byte(text: &str, byte: u8, buffer: &mut [u8], ends: &mut [usize]) -> (usize, usize)
     requires bare { IsFalse (has_escape text.now) }
     requires pattern { IsUtf8 (byte ∷ []) }
