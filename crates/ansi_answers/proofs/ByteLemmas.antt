@@ -1,11 +1,11 @@
 -- The parts of a text without ESC around the places of a byte.
-use Rattle.std.proofs.Common.{◌≡◌, ◌∙◌, ℕ, zero, suc, ◌+◌, ◌-◌, ◌<◌, ◌≤◌, ◌==◌, Bool, true, false, List, [], ◌∷◌, ◌++◌, length, map, drop, filter, slice_index, slice_range, nat_eq, nat_le, refl, sym, ap, arith, drop-cons, add-one, IsFalse, IsUtf8, if◌then◌else◌}
+use Rattle.std.proofs.Common.{◌≡◌, ◌∙◌, ℕ, zero, suc, ◌+◌, ◌-◌, ◌<◌, ◌≤◌, Bool, true, false, List, [], ◌∷◌, ◌++◌, length, map, drop, filter, slice_index, slice_range, nat_eq, sym, ap, arith, drop-cons, add-one, IsUtf8, if◌then◌else◌}
 use Rattle.std.specs.Prelude.{zip}
 use Rattle.std.specs.List.{range_with_len, starts_with}
 use Rattle.std.proofs.lemmas.Bool.{eqb-true, eq-eqb}
 use Rattle.std.proofs.lemmas.List.{drop_all}
 use Rattle.memchr.specs.Find.{is_byte, places_from, places_between, places}
-use Rattle.ansi_search.specs.Matches.{is_match, match_places}
+use Rattle.ansi_search.specs.Matches.{is_match}
 use Rattle.ansi_search.proofs.MatchLemmas.{is_match-utf8}
 use Rattle.ansi_search.proofs.SliceLemmas.{slice_range-past}
 use Rattle.ansi_split.specs.Parts.{without_overlaps}

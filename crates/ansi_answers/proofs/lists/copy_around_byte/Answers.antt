@@ -1,13 +1,13 @@
-use Rattle.std.proofs.Common.{◌≡◌, ◌∙◌, ◌≤◌, ◌<◌, ◌+◌, ◌-◌, ◌∷◌, [], ◌++◌, List, ℕ, Some, length, take, drop, refl, sym, ap, ap₂, subst, arith, append_assoc, length-append, length-take, length-drop}
-use Rattle.std.specs.Prelude.{flat_map, slice_range}
-use Rattle.std.proofs.lemmas.List.{take_all, length_push}
+use Rattle.std.proofs.Common.{◌≡◌, ◌∙◌, ◌≤◌, ◌<◌, ◌+◌, ◌-◌, ◌∷◌, [], ◌++◌, List, ℕ, length, take, drop, refl, sym, ap, subst, arith, append_assoc, length-append, length-drop}
+use Rattle.std.specs.Prelude.{slice_range}
+use Rattle.std.proofs.lemmas.List.{take_all}
 use Rattle.std.proofs.lemmas.List.Concat.{flat_map-append, flat_map-cons}
-use Rattle.memchr.specs.Find.{is_byte, places_between, places}
+use Rattle.memchr.specs.Find.{is_byte, places}
 use Rattle.ansi_str.specs.Parts.{all_parts}
 use Rattle.ansi_answers.specs.Lists.{AreCopied, AreCopiedSoFar}
 use Rattle.ansi_answers.proofs.GivenLemmas.{joined_texts}
 use Rattle.ansi_answers.proofs.ListLemmas.{length-bare_parts, few-bare_parts}
-use Rattle.ansi_answers.proofs.ByteLemmas.{between, IsFirstPlace, first_place, all_parts-between}
+use Rattle.ansi_answers.proofs.ByteLemmas.{between, first_place, all_parts-between}
 use Rattle.ansi_answers.proofs.lists.copy_around_byte.Goals as goal
 
 -- no text is copied at first
