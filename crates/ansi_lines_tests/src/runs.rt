@@ -69,7 +69,7 @@ struct Ran {
 }
 
 impl Ran {
-    fn over(alloc: Global, status: u8, devices: &Devices) -> Result<Self, AllocError> {
+    fn over(alloc: Global, status: u8, devices: &FakeDevices) -> Result<Self, AllocError> {
         Ok(Ran {
             status,
             output: devices.output.bytes().to_vec(alloc)?,
@@ -84,13 +84,13 @@ impl Ran {
 
 // The devices of a run.
 #[derive(Drop)]
-struct Devices {
+struct FakeDevices {
     input: FakeDevice,
     output: FakeDevice,
     faults: FakeDevice,
 }
 
-impl Devices {
+impl FakeDevices {
     // Devices that follow a plan, with these bytes to read.
     fn new(alloc: Global, bytes: &[u8], plan: Plan) -> Result<Self, AllocError> {
         let Plan {
@@ -101,7 +101,7 @@ impl Devices {
             room,
         } = plan;
         let device = FakeDevice::of(alloc, bytes.to_vec(alloc)?);
-        Ok(Devices {
+        Ok(FakeDevices {
             input: device.in_chunks(chunk).with_schedule(input),
             output: FakeDevice::with_room(alloc, room)?.with_schedule(output),
             faults: FakeDevice::with_room(alloc, ROOM)?.with_schedule(faults),
@@ -123,7 +123,7 @@ fn owned(alloc: Global, words: &[&str]) -> Result<Vec<String>, AllocError> {
 }
 
 // The status of a run over devices. It has no clauses, so that its callers are quick to prove.
-fn status_of<A: Allocator>(alloc: A, words: &[String], devices: &mut Devices) -> u8 {
+fn status_of<A: Allocator>(alloc: A, words: &[String], devices: &mut FakeDevices) -> u8 {
     run(
         alloc,
         words,
@@ -141,7 +141,7 @@ fn run_in<A: Allocator + Copy>(
     plan: Plan,
     alloc: Global,
 ) -> Result<Ran, AllocError> {
-    let mut devices = Devices::new(alloc, bytes, plan)?;
+    let mut devices = FakeDevices::new(alloc, bytes, plan)?;
     let status = status_of(heap, words, &mut devices);
     Ran::over(alloc, status, &devices)
 }

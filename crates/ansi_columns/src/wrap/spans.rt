@@ -9,7 +9,7 @@ ghost use Rattle.ansi_columns.specs.Links.{link_end, longest_link_end};
 ghost use Rattle.ansi_columns.specs.Wrapped.{wrapped, IsWrappedLine};
 
 use crate::lines::first_line;
-use crate::links::{Pen, plain_pen, pen_after_from};
+use crate::links::{Pen, pen_after_from, plain_pen};
 use crate::walks::Walk;
 use ansi_search::search::PAST_THE_END;
 use ansi_slice::slice::{has_any, push_sequences};
