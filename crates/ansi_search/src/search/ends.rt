@@ -10,7 +10,7 @@ use crate::search::offsets::offset_at;
 use crate::search::prefix::continues_with;
 use ansi_items::ESC;
 use ansi_items::ansitok::{Kind, Scanner};
-use memchr::{memchr2, memrchr};
+use memchr::{memrchr, memrchr2};
 
 /// The byte that may end an operating system command.
 const BEL: u8 = 0x07;
@@ -49,12 +49,12 @@ fn plain_end(text: &str, wanted: usize) -> (usize, usize)
     ensures len { result.1 ≡ length (plain (drop result.0 text.now)) }
     ensures enough { result.1 < wanted → result.0 ≡ 0 }
 {
-    let last = text.len().saturating_sub(wanted);
+    let last = before_going_on(text.as_bytes(), text.len().saturating_sub(wanted));
     if is_surely_plain(text, last) {
         return (last, text.len() - last);
     }
-    // An item begins at `start`. Each step goes back at least as far as all steps before it, so that
-    // there are few.
+    // An item begins at `start`. Each step goes back at least as far as all steps before it, so
+    // that there are few.
     let mut start = text.len();
     let mut len = 0;
     while len < wanted && 0 < start {
@@ -76,7 +76,16 @@ fn is_surely_plain(text: &str, start: usize) -> bool
     if 0 < start && goes_on(bytes[start - 1]) {
         return false;
     }
-    text.is_char_boundary(start) && memchr2(ESC, BEL, &bytes[start..]).is_none()
+    text.is_char_boundary(start) && memrchr2(ESC, BEL, &bytes[start..]).is_none()
+}
+
+/// Goes back from an offset over bytes that may be in a sequence, 64 at most.
+fn before_going_on(bytes: &[u8], end: usize) -> usize
+    requires { end ≤ length bytes.now }
+    ensures { result ≤ end }
+{
+    let last = &bytes[end.saturating_sub(64)..end];
+    end - last.iter().rev().take_while(|b| goes_on(**b)).count()
 }
 
 /// Whether a control sequence or an escape sequence may have this byte before its last one.

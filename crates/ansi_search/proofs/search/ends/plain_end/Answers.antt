@@ -27,10 +27,10 @@ returns-after-loop-len-clause-end c = end-item c.args.text.now c.loop-len.start 
 
 -- where all is surely plain
 pub returns-then-is_surely_plain-clause-end : goal.returns-then-is_surely_plain-clause-end
-returns-then-is_surely_plain-clause-end c = end-plain c.args.text.now c.saturating_sub-last.result (c.is_surely_plain.ensures c.if-is_surely_plain.true)
+returns-then-is_surely_plain-clause-end c = end-plain c.args.text.now c.before_going_on-last.result (c.is_surely_plain.ensures c.if-is_surely_plain.true)
 
 pub returns-then-is_surely_plain-clause-len : goal.returns-then-is_surely_plain-clause-len
 returns-then-is_surely_plain-clause-len c =
     let t = c.args.text.now in
-    let last = c.saturating_sub-last.result in
+    let last = c.before_going_on-last.result in
     sym (ap length (plain-surely t last (c.is_surely_plain.ensures c.if-is_surely_plain.true)) ∙ length-drop last t)
