@@ -79,8 +79,8 @@ pub fn left_in<'t, A: Allocator>(
         return Ok(Some(CowStr::Borrowed(left)));
     }
     let mut style = styles::plain_style();
-    let mut left = String::with_capacity(alloc, side_room(to))?;
-    write_side(&mut left, &mut style, text, mid)?;
+    let mut left = String::new(alloc);
+    write_side(&mut left, side_room(to), &mut style, text, mid)?;
     Ok(Some(CowStr::Owned(left)))
 }
 
@@ -132,8 +132,9 @@ fn write_sides<A: Allocator + Copy>(
     ensures right { IfOk result (λ s. string_bytes s.1 ≡ right_side text.now mid) }
 {
     let mut style = styles::plain_style();
-    let mut left = String::with_capacity(alloc, side_room(mid.min(text.len())))?;
-    let end = write_side(&mut left, &mut style, text, mid)?;
+    let mut left = String::new(alloc);
+    let room = side_room(mid.min(text.len()));
+    let end = write_side(&mut left, room, &mut style, text, mid)?;
     let right = write_right(alloc, style, &text[end..])?;
     Ok((left, right))
 }
@@ -146,9 +147,11 @@ fn side_room(len: usize) -> usize {
 
 /// Appends what a text adds to a side before a position: each run of its plain text in the style
 /// there, and each sequence but the SGRs, which change the style. Returns the offset of the
-/// position in the text. `Err` means out of memory; what was appended before it stays.
+/// position in the text. Reserves `room` bytes with the first. `Err` means out of memory; what was
+/// appended before it stays.
 fn write_side<A: Allocator>(
     out: &mut String<A>,
+    room: usize,
     style: &mut Style,
     text: &str,
     position: usize,
@@ -165,13 +168,13 @@ fn write_side<A: Allocator>(
         let piece = &text[item.start..item.end];
         if item.kind == Kind::Text {
             if remaining < piece.len() {
-                write_dressed(out, style, &piece[..remaining])?;
+                write_dressed(out, room, style, &piece[..remaining])?;
                 return Ok(item.start + remaining);
             }
-            write_dressed(out, style, piece)?;
+            write_dressed(out, room, style, piece)?;
             remaining -= piece.len();
         } else {
-            write_mark(out, style, item.kind, piece)?;
+            write_mark(out, room, style, item.kind, piece)?;
         }
     }
     Ok(text.len())
@@ -181,6 +184,7 @@ fn write_side<A: Allocator>(
 /// means out of memory; then nothing is appended.
 fn write_mark<A: Allocator>(
     out: &mut String<A>,
+    room: usize,
     style: &mut Style,
     kind: Kind,
     mark: &str,
@@ -195,7 +199,18 @@ fn write_mark<A: Allocator>(
         styles::apply(style, mark);
         return Ok(());
     }
+    reserve_first(out, room)?;
     out.push_str(mark)
+}
+
+/// Reserves this room if nothing is written yet. So a side that is empty allocates nothing.
+fn reserve_first<A: Allocator>(out: &mut String<A>, room: usize) -> Result<(), AllocError>
+    ensures { string_bytes out.new ≡ string_bytes out.old }
+{
+    if out.is_empty() {
+        out.reserve(room)?;
+    }
+    Ok(())
 }
 
 /// What a text adds to a side, written. `style` is the style before it.
@@ -204,8 +219,9 @@ fn write_right<A: Allocator>(alloc: A, style: Style, text: &str) -> Result<Strin
         string_bytes s ≡ side_up_to (rendition_of style) PAST_THE_END (pieces_of text.now)) }
 {
     let mut style = style;
-    let mut right = String::with_capacity(alloc, side_room(text.len()))?;
-    write_side(&mut right, &mut style, text, PAST_THE_END)?;
+    let mut right = String::new(alloc);
+    let room = side_room(text.len());
+    write_side(&mut right, room, &mut style, text, PAST_THE_END)?;
     Ok(right)
 }
 
@@ -213,6 +229,7 @@ fn write_right<A: Allocator>(alloc: A, style: Style, text: &str) -> Result<Strin
 /// piece adds no bytes. `Err` means out of memory; what was appended before it stays.
 fn write_dressed<A: Allocator>(
     out: &mut String<A>,
+    room: usize,
     style: &Style,
     piece: &str,
 ) -> Result<(), AllocError>
@@ -222,6 +239,7 @@ fn write_dressed<A: Allocator>(
     if piece.is_empty() {
         return Ok(());
     }
+    reserve_first(out, room)?;
     styles::write_start(style, out)?;
     out.push_str(piece)?;
     styles::write_close(style, out)

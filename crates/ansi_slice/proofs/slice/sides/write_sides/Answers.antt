@@ -6,7 +6,7 @@ use Rattle.ansi_slice.proofs.slice.sides.write_sides.Goals as goal
 pub returns-clause-left : goal.returns-clause-left
 returns-clause-left g c =
     let t = c.args.text.now in
-    c.in_ok-end.ensures.bytes ∙ ap₂ (λ v r. v ++ side_up_to r c.args.mid (pieces_of t)) c.in_ok-left.ensures.bytes c.plain_style-style.ensures ∙ sym (left_side-is t c.args.mid)
+    c.in_ok-end.ensures.bytes ∙ ap₂ (λ v r. v ++ side_up_to r c.args.mid (pieces_of t)) c.new-left.ensures.bytes c.plain_style-style.ensures ∙ sym (left_side-is t c.args.mid)
 
 -- the right side goes on where the left one ends
 pub returns-clause-right : goal.returns-clause-right
