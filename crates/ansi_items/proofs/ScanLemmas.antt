@@ -75,7 +75,7 @@ piece_ends t (Text w) rest utf8 split stands = boundary_before_escape t w rest s
 piece_ends t (Sequence w) rest utf8 split stands = ascii_end t w rest utf8 split (sequence_ends w stands)
 piece_ends t LoneEscape rest utf8 split stands = ascii_end t (escape ∷ []) rest utf8 split (record { front = []; last = escape; spelled = refl; ascii = omega arith })
 
--- A step from a place in a text, over the piece that stands there.
+-- A step from a place in a text, over the piece at that place.
 
 abbrev pub item_at : ℕ → Front → Item
 item_at offset f = record { kind = f.kind; start = offset; end = offset + f.len }

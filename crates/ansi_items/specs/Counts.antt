@@ -1,4 +1,4 @@
--- How many looks at the bytes of a text its items take. No clause of a public function cites this.
+-- How many looks at the bytes of a text its items take. Of the public functions only `reads` cites this.
 use Rattle.std.specs.Prelude.{◌≡◌, ℕ, ◌+◌, ◌*◌, ◌≤◌, List, length, drop, min}
 use Rattle.std.specs.List.{prefix_len}
 use Rattle.std.specs.Str.{IsCharBoundary, byte}

@@ -92,9 +92,10 @@ impl<'a> Model for Scanner<'a> {
 }
 
 impl<'a> Scanner<'a> {
-    ghost use Rattle.std.specs.Prelude.{◌≡◌, ◌↔◌, ◌*◌, ◌≤◌, length, List};
+    ghost use Rattle.std.specs.Prelude.{◌≡◌, ◌↔◌, ◌+◌, ◌*◌, ◌≤◌, length, drop, min, List};
     ghost use Rattle.ansi_items.specs.Pieces.{Piece, ArePieces};
     ghost use Rattle.ansi_items.specs.Scans.{pieces_left};
+    ghost use Rattle.ansi_items.specs.Counts.{before_escape};
 
     /// Returns a scanner at the front of the text. It doesn't allocate. (Own.)
     ///
@@ -136,8 +137,11 @@ impl<'a> Scanner<'a> {
         ensures at_most { result ≤ 4 * length self.now.text }
         ensures at_most_three { result ≤ 3 * length self.now.text }
 
-        // Each byte of the items so far was looked at: once nothing is left, each byte of the text.
+        // Each byte of the items so far was looked at, and each one up to the next ESC.
         ensures at_least { self.now.offset ≤ result }
+        ensures up_to_escape { min (self.now.offset
+            + before_escape (drop self.now.offset self.now.text) + 1) (length self.now.text)
+            ≤ result }
     {
         self.reads
     }

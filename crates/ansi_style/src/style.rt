@@ -133,7 +133,7 @@ impl Style {
         self.attributes.contains(Attributes::FRAKTUR)
     }
 
-    /// The color of the text by name, or `None` if none is set. (The Rust crate.)
+    /// The foreground color by name, or `None` if none is set. (The Rust crate.)
     ///
     /// ```
     /// let first = get_blocks(rt.alloc(), "\x1b[35mx").next();
@@ -145,7 +145,7 @@ impl Style {
         Some(Color::from(self.foreground?))
     }
 
-    /// The color behind the text by name, or `None` if none is set. (The Rust crate.)
+    /// The background color by name, or `None` if none is set. (The Rust crate.)
     ///
     /// ```
     /// let first = get_blocks(rt.alloc(), "\x1b[45mx").next();
