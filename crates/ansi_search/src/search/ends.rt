@@ -54,12 +54,12 @@ fn plain_end(text: &str, wanted: usize) -> (usize, usize)
         return (last, text.len() - last);
     }
     // An item begins at `start`. Each step goes back at least as far as all steps before it, so
-    // that there are few.
+    // that there are few. A short text takes one step.
     let mut start = text.len();
     let mut len = 0;
     while len < wanted && 0 < start {
         let end = start;
-        let read = text.len() - end;
+        let read = (text.len() - end).max(128);
         start = last_item(text, end.saturating_sub(read));
         len += plain_len(&text[start..end]);
     }
