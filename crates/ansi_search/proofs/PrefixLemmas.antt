@@ -1,5 +1,5 @@
 -- A pattern that a plain text goes on with from a place on, met run by run.
-use Rattle.ansi_search.proofs.Common.{◌≡◌, ◌≢◌, ℕ, ◌+◌, ◌-◌, ◌<◌, ◌≤◌, inl, inr, min, ◌&&◌, List, ◌∷◌, ◌++◌, length, take, drop, nat_eq, refl, sym, ◌∙◌, ap, arith, IsFalse, slice_index, and_parts, cases_lt, eqb-true, true≢false, take-append-le, take_all, drop-take, drop_all, get_or-take, get_or-drop, length-drop, length-append, length-take-le, pointwise, starts_with, list_all, Nowhere, Passes, is_byte, escape, is_plain_byte, Piece, Text, ArePieces, plain, has_escape, []}
+use Rattle.ansi_search.proofs.Common.{◌≡◌, ◌≢◌, ℕ, ◌+◌, ◌-◌, ◌<◌, ◌≤◌, inl, inr, min, ◌&&◌, List, ◌∷◌, ◌++◌, length, take, drop, nat_eq, refl, sym, ◌∙◌, ap, arith, IsFalse, slice_index, and_parts, cases_lt, eqb-true, true≢false, take-append-le, take_all, drop-take, drop_all, get_or-take, get_or-drop, length-drop, length-append, length-take-le, pointwise, starts_with, list_all, Nowhere, Passes, is_byte, escape, is_plain_byte, Piece, Text, ArePieces, plain, has_escape, plain-bare, []}
 use Rattle.ansi_search.proofs.EndLemmas.{starts_with-across}
 use Rattle.ansi_search.proofs.MatchLemmas.{no_escape-found}
 use Rattle.ansi_search.proofs.SliceLemmas.{drop-append}
@@ -56,3 +56,19 @@ starts_with-run x w y p front k n top is inside within same most front_is =
     starts_with-front x (w ++ y) p k n top is inside (omega (arith, length-append w y, within)) same
     ∙ ap (λ v. starts_with nat_eq v p) (drop-append k w y ∙ ap (λ v. v ++ drop (k - length w) y) (sym front_is))
     ∙ starts_with-across p front (drop (k - length w) y) (omega (arith, size, most, is))
+
+-- its first bytes alone decide, if they have no ESC
+pub starts_with-bare : (t p : List ℕ) (n : ℕ) → n ≡ min (length p) (length t) → IsFalse (has_escape (take n t)) → starts_with nat_eq t p ≡ starts_with nat_eq (plain t) p
+starts_with-bare t p n size none = elim (cases_lt (length t) (length p)) [
+  | inl short ↦ (
+      let all : take n t ≡ t = take_all n t (omega (arith, size, short)) in
+      ap (λ x. starts_with nat_eq x p) (sym (plain-bare t (ap has_escape (sym all) ∙ none)))
+      )
+  | inr fits ↦ (
+      let all : n ≡ length p = omega (arith, size, fits) in
+      let len : length p ≡ length (take n t) = sym all ∙ sym (length-take-le n t (omega (arith, size))) in
+      let front : take (length p) (take n t ++ plain []) ≡ take (length p) t
+      = take-append-le (length p) (take n t) (plain []) (omega (arith, len)) ∙ take_all (length p) (take n t) (omega (arith, len)) ∙ ap (λ k. take k t) all in
+      sym (ap (pointwise nat_eq p) (front-bare t (take n t) n (length p) refl size none ∙ front))
+      )
+]

@@ -16,7 +16,12 @@ use memchr::memchr;
 pub fn starts_with(text: &str, pat: &str) -> bool
     ensures { result ≡ starts_with nat_eq (plain text.now) pat.now }
 {
-    continues_with(text, pat.as_bytes(), 0)
+    let bytes = text.as_bytes();
+    let front = &bytes[..pat.len().min(bytes.len())];
+    if front.contains(&ESC) {
+        return continues_with(text, pat.as_bytes(), 0);
+    }
+    bytes.starts_with(pat.as_bytes())
 }
 
 /// Whether the plain text continues with the pattern from a position on. No run is read past the
