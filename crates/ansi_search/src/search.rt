@@ -12,7 +12,7 @@ mod prefix;
 mod two_way;
 
 use ansi_items::ansitok::{Kind, Scanner};
-pub use ends::{ends_with, suffix_offset};
+pub use ends::{end_before_white_space, ends_with, suffix_offset};
 pub use matches::{find, find_from, first_in_run};
 pub use offsets::walk_to;
 pub use prefix::starts_with;
