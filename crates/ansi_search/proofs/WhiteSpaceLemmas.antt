@@ -21,11 +21,11 @@ drop_trailing_whitespace-splits (c ∷ cs) =
     (λ other. (later.0, ap (λ v. c ∷ v) later.1))
 
 -- an empty text has no characters
-chars-none_if_no_bytes : (cs : List ℕ) → length (encode_utf8_all cs) ≡ 0 → cs ≡ []
+pub chars-none_if_no_bytes : (cs : List ℕ) → length (encode_utf8_all cs) ≡ 0 → cs ≡ []
 chars-none_if_no_bytes [] none = refl
 chars-none_if_no_bytes (c ∷ cs) none = absurd (omega (arith, length-le-encodes (c ∷ cs), none))
 
-chars-some_if_bytes : (cs : List ℕ) → 0 < length (encode_utf8_all cs) → 0 < length cs
+pub chars-some_if_bytes : (cs : List ℕ) → 0 < length (encode_utf8_all cs) → 0 < length cs
 chars-some_if_bytes [] some = absurd (omega (arith, some))
 chars-some_if_bytes (c ∷ cs) some = omega arith
 
