@@ -7,7 +7,7 @@ ghost use Rattle.ansi_items.specs.Plain.{plain};
 ghost use Rattle.ansi_search.specs.Offsets.{StandsIn, BeginsItem, IsEnd, IsSurelyPlain, goes_on};
 
 use crate::search::offsets::offset_at;
-use crate::search::prefix::continues_with;
+use crate::search::prefix::starts_with;
 use ansi_items::ESC;
 use ansi_items::ansitok::{Kind, Scanner};
 use memchr::{memrchr, memrchr2};
@@ -35,11 +35,11 @@ pub fn suffix_offset(text: &str, pat: &str) -> Option<usize>
 {
     let (start, len) = plain_end(text, pat.len());
     let place = len.checked_sub(pat.len())?;
-    let rest = &text[start..];
-    if !continues_with(rest, pat.as_bytes(), place) {
+    let offset = start + offset_at(&text[start..], place)?;
+    if !starts_with(&text[offset..], pat) {
         return None;
     }
-    Some(start + offset_at(rest, place))
+    Some(offset)
 }
 
 /// The offset in the text right after the last character of the plain text that isn't white space,
