@@ -5,17 +5,21 @@ use Rattle.ansi_search.proofs.MatchLemmas.{no_escape-found}
 use Rattle.ansi_search.proofs.SliceLemmas.{drop-append}
 use Rattle.ansi_items.proofs.JoinLemmas.{plain-front}
 
--- the first bytes have no ESC
+-- the first bytes have no ESC, and are all or not
+
+front-all : (t w : List ℕ) (n most : ℕ) → w ≡ take n t → n ≡ min most (length t) → IsFalse (has_escape w) → length t ≤ most → plain t ≡ w ++ plain []
+front-all t w n most is size none all = plain-front t w n is (ap has_escape (sym is) ∙ none) ∙ ap (λ u. w ++ plain u) (drop_all n t (omega (arith, size, all)))
+
+pub front-short : (t w : List ℕ) (n most : ℕ) → w ≡ take n t → n ≡ min most (length t) → IsFalse (has_escape w) → length w < most → plain t ≡ w ++ plain []
+front-short t w n most is size none short = front-all t w n most is size none (omega (arith, size, short, ap length is, length-take-le n t (omega (arith, size))))
+
 pub front-bare : (t w : List ℕ) (n most : ℕ) → w ≡ take n t → n ≡ min most (length t) → IsFalse (has_escape w) → take most (plain t) ≡ take most (w ++ plain [])
 front-bare t w n most is size none = elim (cases_lt most (length t)) [
   | inl short ↦ (
       let len : most ≤ length w = omega (arith, ap length is, length-take-le n t (omega (arith, size)), size, short) in
       ap (take most) (plain-front t w n is (ap has_escape (sym is) ∙ none)) ∙ take-append-le most w (plain (drop n t)) len ∙ sym (take-append-le most w (plain []) len)
       )
-  | inr all ↦ (
-      let nothing : drop n t ≡ [] = drop_all n t (omega (arith, size, all)) in
-      ap (take most) (plain-front t w n is (ap has_escape (sym is) ∙ none) ∙ ap (λ u. w ++ plain u) nothing)
-      )
+  | inr all ↦ ap (take most) (front-all t w n most is size none all)
 ]
 
 -- none is found before an offset

@@ -50,9 +50,11 @@ pub(super) fn continues_with(text: &str, pat: &[u8], place: usize) -> bool
 
 /// The run at the front of a text and what follows the mark after it. If no mark begins in the
 /// first `most` bytes, it is these bytes alone.
-fn run_front<'t>(text: &'t str, most: usize) -> (&'t [u8], &'t str)
+pub(super) fn run_front<'t>(text: &'t str, most: usize) -> (&'t [u8], &'t str)
     ensures front { take most (plain text.now) ≡ take most (result.0.now ++ plain result.1.now) }
     ensures most { length result.0.now ≤ most }
+    ensures bytes { take (length result.0.now) text.now ≡ result.0.now }
+    ensures all { length result.0.now < most → plain text.now ≡ result.0.now ++ plain result.1.now }
     ensures within { length result.0.now + length result.1.now ≤ length text.now }
     ensures shorter { 0 < length text.now → length result.1.now < length text.now }
 {
