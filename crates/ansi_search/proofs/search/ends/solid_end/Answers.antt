@@ -1,7 +1,7 @@
-use Rattle.ansi_slice.proofs.Common.{refl, sym, ◌∙◌, ap, arith, eqb-true, eqb-false, kind_is_text}
+use Rattle.ansi_search.proofs.Common.{refl, sym, ◌∙◌, ap, arith, eqb-true, eqb-false, kind_is_text}
 use Rattle.ansi_search.proofs.OffsetLemmas.{over_text, over_mark, kind_differs}
-use Rattle.ansi_slice.proofs.TrimWalkLemmas.{solid-begin, solid-white, solid-other, solid-mark, solid-end}
-use Rattle.ansi_slice.proofs.slice.white_space.end_before_white_space.Goals as goal
+use Rattle.ansi_search.proofs.WhiteSpaceLemmas.{solid-begin, solid-white, solid-other, solid-mark, solid-end}
+use Rattle.ansi_search.proofs.search.ends.solid_end.Goals as goal
 
 -- at the front
 pub loop-item-init : goal.loop-item-init
@@ -40,5 +40,11 @@ loop-item-preserved c =
       so_far = solid-mark c.loop-item.invariant.so_far (over_mark gives c.loop-item.invariant.text refl (kind_differs c.if-eq.ensures));
     }
 
-pub returns : goal.returns
-returns c = solid-end c.loop-item.invariant.so_far c.in-None.ensures.steps.2
+pub returns-clause-end : goal.returns-clause-end
+returns-clause-end c = (solid-end c.loop-item.invariant.so_far c.in-None.ensures.steps.2).end
+
+pub returns-clause-white : goal.returns-clause-white
+returns-clause-white c = (solid-end c.loop-item.invariant.so_far c.in-None.ensures.steps.2).white
+
+pub returns-clause-some : goal.returns-clause-some
+returns-clause-some c = (solid-end c.loop-item.invariant.so_far c.in-None.ensures.steps.2).some
