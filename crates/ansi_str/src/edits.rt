@@ -75,7 +75,7 @@ pub fn edit<'t, A: Allocator + Copy>(
 {
     let mut edited = CowStr::Borrowed(text);
     for edit in edits {
-        match edit_given(alloc, edited, *edit)? {
+        match edit_once(alloc, edited, *edit)? {
             Some(next) => edited = next,
             None => return Ok(None),
         }
@@ -83,8 +83,42 @@ pub fn edit<'t, A: Allocator + Copy>(
     Ok(Some(edited))
 }
 
+/// The text that one edit makes of the result of those before it.
+///
+/// [`edit`] and the calls for other languages make each edit by it. It is `None` if the edit is
+/// refused, which doesn't allocate, whatever that result is. An owned text stays owned, and is
+/// passed on if the edit keeps all of it. A borrow stays a borrow, without an allocation, if the
+/// edit's result on it is one. Otherwise `Err` means out of memory. (The Rust crate lacks it.)
+///
+/// ```
+/// let given = CowStr::Borrowed("\x1b[31mred");
+/// let edited = edit_once(rt.alloc(), given, Edit::Left(2));
+/// assert!(rt; matches!(&edited, Ok(Some(text)) if text.as_str() == "\x1b[31mre\x1b[39m"));
+/// ```
+pub fn edit_once<'t, A: Allocator + Copy>(
+    alloc: A,
+    given: CowStr<'t, A>,
+    edit: Edit<'_>,
+) -> Result<Option<CowStr<'t, A>>, AllocError>
+    ensures bytes { IfOk result (λ o.
+        option_map cow_str_bytes o ≡ edited_by (change_of edit.entry) (cow_str_bytes given.entry)) }
+    ensures borrowed { IfOk result (λ o. IfSome o (λ c. IsBorrowedStr c ↔ (IsBorrowedStr given.entry
+        × IsTrue (gives_borrow (change_of edit.entry) (cow_str_bytes given.entry))))) }
+    ensures takes_no_memory { IsNone (edited_by (change_of edit.entry) (cow_str_bytes given.entry))
+        ⊎ (IsBorrowedStr given.entry
+        × IsTrue (gives_borrow (change_of edit.entry) (cow_str_bytes given.entry))) → IsOk result }
+{
+    match given {
+        CowStr::Borrowed(text) => edit_str(alloc, text, edit),
+        CowStr::Owned(text) => match edit_owned(alloc, text, edit)? {
+            Some(edited) => Ok(Some(CowStr::Owned(edited))),
+            None => Ok(None),
+        },
+    }
+}
+
 /// The text that one edit makes, or `None` if it is refused, which doesn't allocate.
-fn edit_once<'t, A: Allocator + Copy>(
+fn edit_str<'t, A: Allocator + Copy>(
     alloc: A,
     text: &'t str,
     edit: Edit<'_>,
@@ -107,31 +141,7 @@ fn edit_once<'t, A: Allocator + Copy>(
     }
 }
 
-/// The text that one edit makes of the result of those before it, or `None` if it is refused, which
-/// doesn't allocate, whatever that result is. An owned text stays owned.
-fn edit_given<'t, A: Allocator + Copy>(
-    alloc: A,
-    given: CowStr<'t, A>,
-    edit: Edit<'_>,
-) -> Result<Option<CowStr<'t, A>>, AllocError>
-    ensures bytes { IfOk result (λ o.
-        option_map cow_str_bytes o ≡ edited_by (change_of edit.entry) (cow_str_bytes given.entry)) }
-    ensures borrowed { IfOk result (λ o. IfSome o (λ c. IsBorrowedStr c ↔ (IsBorrowedStr given.entry
-        × IsTrue (gives_borrow (change_of edit.entry) (cow_str_bytes given.entry))))) }
-    ensures takes_no_memory { IsNone (edited_by (change_of edit.entry) (cow_str_bytes given.entry))
-        ⊎ (IsBorrowedStr given.entry
-        × IsTrue (gives_borrow (change_of edit.entry) (cow_str_bytes given.entry))) → IsOk result }
-{
-    match given {
-        CowStr::Borrowed(text) => edit_once(alloc, text, edit),
-        CowStr::Owned(text) => match edit_owned(alloc, text, edit)? {
-            Some(edited) => Ok(Some(CowStr::Owned(edited))),
-            None => Ok(None),
-        },
-    }
-}
-
-/// The same for an owned text, which is passed on if the edit keeps all of it.
+/// The text that one edit makes of an owned text, which is passed on if the edit keeps all of it.
 fn edit_owned<A: Allocator + Copy>(
     alloc: A,
     text: String<A>,
@@ -142,7 +152,7 @@ fn edit_owned<A: Allocator + Copy>(
     ensures takes_no_memory { IsNone (edited_by (change_of edit.entry) (string_bytes text)) →
         IsOk result }
 {
-    let edited = match edit_once(alloc, text.as_str(), edit)? {
+    let edited = match edit_str(alloc, text.as_str(), edit)? {
         None => return Ok(None),
         Some(CowStr::Borrowed(kept)) if kept == text.as_str() => None,
         Some(edited) => Some(edited.into_owned(alloc)?),

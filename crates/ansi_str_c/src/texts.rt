@@ -1,27 +1,17 @@
 //! Calls that return one text, made from the text that they take.
-ghost use Rattle.std.specs.Prelude.{◌∷◌, [], Some};
-ghost use Rattle.ansi_str.specs.Plain.{plain, has_escape};
-ghost use Rattle.ansi_str.specs.Changes.{CutRange, LeftOf, RightOf, PartOf, WithoutPrefix};
-ghost use Rattle.ansi_str.specs.Changes.{WithoutSuffix, Trimmed};
-ghost use Rattle.ansi_answers.specs.Answers.{no, refused, not_utf8, OnUtf8, HasFailed, Gives};
-ghost use Rattle.ansi_answers.specs.Answers.{GivesEdited};
+ghost use Rattle.ansi_calls.specs.Calls.{Strips, Cuts, TakesLeft, TakesRight, Trims, StripsPrefix};
+ghost use Rattle.ansi_calls.specs.Calls.{StripsSuffix, TakesPart, Edits};
 
-use ansi_answers::answers::{Answer, NO, NOT_UTF8, REFUSED};
-use ansi_answers::texts::{strip, write_edited};
-use ansi_str::Edit;
-use simdutf8::basic::from_utf8;
+use ansi_calls::answers::Answer;
+use ansi_calls::edits::{EditStep, edit_text};
+use ansi_calls::texts::{cut, left, part, right, strip, strip_prefix, strip_suffix, trim};
 use std::alloc::Global;
 
 /// The plain text.
 #[unsafe(no_mangle)]
 pub extern "C" fn ansi_str_raw_strip(alloc: Global, text: &[u8], buffer: &mut [u8]) -> Answer
-    ensures { OnUtf8 (text.now ∷ [])
-        (Gives no (has_escape text.now) (Some (plain text.now)) result buffer.old buffer.new)
-        (HasFailed not_utf8 result buffer.old buffer.new) }
+    ensures { Strips text.now result buffer.old buffer.new }
 {
-    let Ok(text) = from_utf8(text) else {
-        return Answer::failed(NOT_UTF8);
-    };
     strip(alloc, text, buffer)
 }
 
@@ -34,15 +24,9 @@ pub extern "C" fn ansi_str_raw_cut(
     end: usize,
     buffer: &mut [u8],
 ) -> Answer
-    ensures { OnUtf8 (text.now ∷ [])
-        (GivesEdited refused (CutRange start (Some end) ∷ []) text.now result buffer.old buffer.new)
-        (HasFailed not_utf8 result buffer.old buffer.new) }
+    ensures { Cuts text.now start end result buffer.old buffer.new }
 {
-    let cut = Edit::Cut {
-        start,
-        end: Some(end),
-    };
-    write_edited(alloc, text, &[cut], REFUSED, buffer)
+    cut(alloc, text, start, end, buffer)
 }
 
 /// The text before a position.
@@ -53,11 +37,9 @@ pub extern "C" fn ansi_str_raw_left(
     mid: usize,
     buffer: &mut [u8],
 ) -> Answer
-    ensures { OnUtf8 (text.now ∷ [])
-        (GivesEdited refused (LeftOf mid ∷ []) text.now result buffer.old buffer.new)
-        (HasFailed not_utf8 result buffer.old buffer.new) }
+    ensures { TakesLeft text.now mid result buffer.old buffer.new }
 {
-    write_edited(alloc, text, &[Edit::Left(mid)], REFUSED, buffer)
+    left(alloc, text, mid, buffer)
 }
 
 /// The text from a position on.
@@ -68,21 +50,17 @@ pub extern "C" fn ansi_str_raw_right(
     mid: usize,
     buffer: &mut [u8],
 ) -> Answer
-    ensures { OnUtf8 (text.now ∷ [])
-        (GivesEdited refused (RightOf mid ∷ []) text.now result buffer.old buffer.new)
-        (HasFailed not_utf8 result buffer.old buffer.new) }
+    ensures { TakesRight text.now mid result buffer.old buffer.new }
 {
-    write_edited(alloc, text, &[Edit::Right(mid)], REFUSED, buffer)
+    right(alloc, text, mid, buffer)
 }
 
 /// The text without the white space at its ends.
 #[unsafe(no_mangle)]
 pub extern "C" fn ansi_str_raw_trim(alloc: Global, text: &[u8], buffer: &mut [u8]) -> Answer
-    ensures { OnUtf8 (text.now ∷ [])
-        (GivesEdited refused (Trimmed ∷ []) text.now result buffer.old buffer.new)
-        (HasFailed not_utf8 result buffer.old buffer.new) }
+    ensures { Trims text.now result buffer.old buffer.new }
 {
-    write_edited(alloc, text, &[Edit::Trim], REFUSED, buffer)
+    trim(alloc, text, buffer)
 }
 
 /// The text without a prefix.
@@ -93,14 +71,9 @@ pub extern "C" fn ansi_str_raw_strip_prefix(
     pattern: &[u8],
     buffer: &mut [u8],
 ) -> Answer
-    ensures { OnUtf8 (pattern.now ∷ text.now ∷ [])
-        (GivesEdited no (WithoutPrefix pattern.now ∷ []) text.now result buffer.old buffer.new)
-        (HasFailed not_utf8 result buffer.old buffer.new) }
+    ensures { StripsPrefix text.now pattern.now result buffer.old buffer.new }
 {
-    match from_utf8(pattern) {
-        Ok(pat) => write_edited(alloc, text, &[Edit::Prefix(pat)], NO, buffer),
-        Err(_) => Answer::failed(NOT_UTF8),
-    }
+    strip_prefix(alloc, text, pattern, buffer)
 }
 
 /// The text without a suffix.
@@ -111,14 +84,9 @@ pub extern "C" fn ansi_str_raw_strip_suffix(
     pattern: &[u8],
     buffer: &mut [u8],
 ) -> Answer
-    ensures { OnUtf8 (pattern.now ∷ text.now ∷ [])
-        (GivesEdited no (WithoutSuffix pattern.now ∷ []) text.now result buffer.old buffer.new)
-        (HasFailed not_utf8 result buffer.old buffer.new) }
+    ensures { StripsSuffix text.now pattern.now result buffer.old buffer.new }
 {
-    match from_utf8(pattern) {
-        Ok(pat) => write_edited(alloc, text, &[Edit::Suffix(pat)], NO, buffer),
-        Err(_) => Answer::failed(NOT_UTF8),
-    }
+    strip_suffix(alloc, text, pattern, buffer)
 }
 
 /// The part at an index, of the parts between the matches of a pattern.
@@ -130,12 +98,20 @@ pub extern "C" fn ansi_str_raw_part(
     index: usize,
     buffer: &mut [u8],
 ) -> Answer
-    ensures { OnUtf8 (pattern.now ∷ text.now ∷ [])
-        (GivesEdited no (PartOf pattern.now index ∷ []) text.now result buffer.old buffer.new)
-        (HasFailed not_utf8 result buffer.old buffer.new) }
+    ensures { TakesPart text.now pattern.now index result buffer.old buffer.new }
 {
-    match from_utf8(pattern) {
-        Ok(pat) => write_edited(alloc, text, &[Edit::Part { pat, index }], NO, buffer),
-        Err(_) => Answer::failed(NOT_UTF8),
-    }
+    part(alloc, text, pattern, index, buffer)
+}
+
+/// The text after all edits, each applied to the result of the one before.
+#[unsafe(no_mangle)]
+pub extern "C" fn ansi_str_raw_edit(
+    alloc: Global,
+    text: &[u8],
+    steps: &[EditStep<'_>],
+    buffer: &mut [u8],
+) -> Answer
+    ensures { Edits text.now steps.now result buffer.old buffer.new }
+{
+    edit_text(alloc, text, steps, buffer)
 }

@@ -1,8 +1,7 @@
 //! The library for JavaScript, as a module of WebAssembly.
 //!
-//! Each call is one of the library for C. It takes texts as bytes of the module's memory, and
-//! writes its result into a buffer there. It allocates its working memory from the block that is
-//! passed to it.
+//! Each call is one of `ansi_calls`. It takes texts as bytes of the module's memory, and writes its
+//! result into a buffer there. It allocates its working memory from the block that is passed to it.
 #![tactic(auto)]
 
 pub mod columns;

@@ -1,5 +1,7 @@
 //! The examples of the docs of edits, in the same words.
+use ansi_str::edits::edit_once;
 use ansi_str::{Edit, ansi_is_whole, edit};
+use std::borrow::CowStr;
 
 #[test]
 fn ansi_is_whole_example(rt: HostRuntime) {
@@ -13,6 +15,13 @@ fn edit_example(rt: HostRuntime) {
     let edited = edit(rt.alloc(), "> \x1b[31mred", &edits);
     assert!(rt; matches!(&edited, Ok(Some(text)) if text.as_str() == "\x1b[31mre\x1b[39m"));
     assert!(rt; matches!(&edit(rt.alloc(), "red", &edits), Ok(None)));
+}
+
+#[test]
+fn edit_once_example(rt: HostRuntime) {
+    let given = CowStr::Borrowed("\x1b[31mred");
+    let edited = edit_once(rt.alloc(), given, Edit::Left(2));
+    assert!(rt; matches!(&edited, Ok(Some(text)) if text.as_str() == "\x1b[31mre\x1b[39m"));
 }
 
 #[test]

@@ -1,6 +1,0 @@
-pub mod Utf8Lemmas
-pub mod StepLemmas
-pub mod GivenLemmas
-pub mod ListLemmas
-pub mod ByteLemmas
-mod StyleExamples

@@ -1,5 +1,0 @@
-pub mod Answers
-pub mod Styles
-pub mod Lists
-pub mod Steps
-pub mod Walks

@@ -1,0 +1,7 @@
+pub mod Utf8Lemmas
+pub mod StepLemmas
+pub mod GivenLemmas
+pub mod ListLemmas
+pub mod ByteLemmas
+pub mod LineListLemmas
+mod StyleExamples

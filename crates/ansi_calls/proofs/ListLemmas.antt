@@ -1,0 +1,110 @@
+-- Texts that are concatenated in turn, and an entry for each; the parts and the block of a text without ESC.
+use Rattle.std.proofs.Common.{◌≡◌, ◌∙◌, ℕ, ◌+◌, ◌≤◌, ◌==◌, List, [], ◌∷◌, ◌++◌, length, drop, Some, Result, Ok, Err, Bool, IsTrue, inl, inr, string_bytes, refl, sym, ap, subst, arith, append_assoc, append-nil, length-append, length-take, length-drop, ◌-◌, slice_range, true, false, if◌then◌else◌}
+use Rattle.std.specs.Prelude.{flat_map, IsFalse, MatchResult, IfOk, String, Vec}
+use Rattle.std.proofs.lemmas.Bool.{ne_eqb}
+use Rattle.std.proofs.lemmas.List.{length-map}
+use Rattle.ansi_items.proofs.PlainLemmas.{pieces_of-bare, one_text}
+use Rattle.ansi_blocks.proofs.BlockLemmas.{blocks_from-walked, blocks_through}
+use Rattle.ansi_str.specs.Plain.{has_escape}
+use Rattle.ansi_str.specs.Rendition.{plain_style}
+use Rattle.ansi_str.specs.StdSplit.{AreInTurn, slices_over}
+use Rattle.std.proofs.lemmas.List.Concat.{flat_map-cons}
+use Rattle.ansi_str.specs.Blocks.{Block, GivesBlock, blocks}
+use Rattle.ansi_str.specs.Parts.{parts, all_parts}
+use Rattle.ansi_calls.specs.declared.lists.ListAnswer.{ListAnswer}
+use Rattle.ansi_calls.specs.Answers.{out_of_memory}
+use Rattle.ansi_calls.specs.Lists.{entries_of, AreWritten, HaveFailed, GivesAll}
+
+-- a block was taken off those that were left
+pub block-taken : {E : Type 0} {xs us : List Block} {r : Result Block E} {x : Block} → GivesBlock xs (Some r) us → r ≡ Ok x → xs ≡ x ∷ us
+block-taken {E} {xs} {us} gives is = subst (λ r. GivesBlock {E = E} xs (Some r) us) is gives
+
+-- one more text is joined
+pub texts-more : {X : Type 0} (text : X → List ℕ) (so_far after added all : List ℕ) (x : X) (left next : List X)
+    → left ≡ x ∷ next → after ≡ so_far ++ added → added ≡ text x → so_far ++ flat_map text left ≡ all → after ++ flat_map text next ≡ all
+texts-more text so_far after added all x left next is more adds joined =
+    let rest = flat_map text next in
+    ap (λ u. u ++ rest) more ∙ append_assoc so_far added rest ∙ ap (λ u. so_far ++ (u ++ rest)) adds
+    ∙ ap (λ u. so_far ++ u) (sym (flat_map-cons text x next)) ∙ ap (λ xs. so_far ++ flat_map text xs) (sym is) ∙ joined
+
+-- and it ends after those before it
+pub length-joined : (so_far added after : List ℕ) → after ≡ so_far ++ added → length after ≡ length so_far + length added
+length-joined so_far added after more = ap length more ∙ length-append so_far added
+
+-- and its entry
+pub entries-more : {X Y : Type 0} (text : X → List ℕ) (entry : ℕ → ℕ → X → Y) (so_far after : List ℕ) (entries more_entries all : List Y) (e : Y) (x : X) (left next : List X)
+    → left ≡ x ∷ next → length after ≡ length so_far + length (text x) → more_entries ≡ entries ++ e ∷ [] → entries_of text entry (length so_far) (x ∷ []) ≡ e ∷ []
+    → entries ++ entries_of text entry (length so_far) left ≡ all → more_entries ++ entries_of text entry (length after) next ≡ all
+entries-more text entry so_far after entries more_entries all e x left next is ends one_more is_entry listed =
+    let rest = entries_of text entry (length after) next in
+    ap (λ u. u ++ rest) one_more ∙ append_assoc entries (e ∷ []) rest ∙ ap (λ es. entries ++ (es ++ rest)) (sym is_entry)
+    ∙ ap (λ n. entries ++ entry (length so_far) (length so_far + length (text x)) x ∷ entries_of text entry n next) ends
+    ∙ ap (λ xs. entries ++ entries_of text entry (length so_far) xs) (sym is) ∙ listed
+
+-- a text is inserted between the text before it and the text after it
+pub around-more : (so_far a b after before text end : List ℕ) → a ≡ so_far ++ before → b ≡ a ++ text → after ≡ b ++ end → after ≡ so_far ++ (before ++ text ++ end)
+around-more so_far a b after before text end begun more ended =
+    ended ∙ ap (λ u. u ++ end) (more ∙ ap (λ u. u ++ text) begun ∙ append_assoc so_far before text) ∙ append_assoc so_far (before ++ text) end
+
+-- there is an entry for each
+pub length-entries : {X Y : Type 0} (text : X → List ℕ) (entry : ℕ → ℕ → X → Y) (n : ℕ) (xs : List X) → length (entries_of text entry n xs) ≡ length xs
+length-entries text entry n [] = refl
+length-entries text entry n (x ∷ xs) = omega (arith, length-entries text entry (n + length (text x)) xs)
+
+-- consecutive intervals after the place e have at most as many bytes as the text after e
+pub length-slices_over : (x : List ℕ) (e : ℕ) (is : List (ℕ × ℕ)) → AreInTurn x e is → length (flat_map (λ u. u) (slices_over x is)) ≤ length x - e
+length-slices_over x e [] turn = omega arith
+length-slices_over x e (i ∷ is) turn =
+    omega (
+      arith,
+      turn.0,
+      turn.1,
+      length-slices_over x i.1 is turn.4,
+      length-append (slice_range x i.0 i.1) (flat_map (λ u. u) (slices_over x is)),
+      length-take (i.1 - i.0) (drop i.0 x),
+      length-drop i.0 x,
+    )
+
+-- what is joined is written, or the call runs out of memory
+pub Gives-joined : {T A E : Type 0} (takes_memory : Bool) (bytes : List ℕ) (entries : List T) (joined : Result (String A × Vec T A) E) (answer : ListAnswer) (old new : List ℕ) (old_entries new_entries : List T)
+    → IsTrue takes_memory → IfOk joined (λ j. string_bytes j.0 ≡ bytes) → IfOk joined (λ j. j.1.items ≡ entries)
+    → MatchResult joined (λ j. AreWritten (string_bytes j.0) j.1.items answer old new old_entries new_entries) (λ e. HaveFailed out_of_memory answer old new old_entries new_entries)
+    → GivesAll takes_memory bytes entries answer old new old_entries new_entries
+Gives-joined takes_memory bytes entries (Ok j) answer old new old_entries new_entries takes texts listed written =
+    inl (subst (λ u. AreWritten u entries answer old new old_entries new_entries) texts (subst (λ es. AreWritten (string_bytes j.0) es answer old new old_entries new_entries) listed written))
+Gives-joined takes_memory bytes entries (Err e) answer old new old_entries new_entries takes texts listed written = inr (takes, written)
+
+-- A text without ESC is one block; an empty text has no block.
+
+abbrev pub whole_block : List ℕ → Block
+whole_block t = record { text = t; style = plain_style; is_borrow = true }
+
+-- what is written of it is written of its blocks
+pub one_block_written : {T : Type 0} (text : Block → List ℕ) (entry : ℕ → ℕ → Block → T) (only : List T) (t : List ℕ) (answer : ListAnswer) (old new : List ℕ) (old_entries new_entries : List T)
+    → IsFalse (has_escape t) → text (whole_block t) ≡ t → entry 0 (length t) (whole_block t) ∷ [] ≡ only
+    → AreWritten t (if length t == 0 then [] else only) answer old new old_entries new_entries
+    → AreWritten (flat_map text (blocks t)) (entries_of text entry 0 (blocks t)) answer old new old_entries new_entries
+one_block_written {T} text entry only t answer old new old_entries new_entries none same is written =
+    let one : blocks t ≡ blocks_through plain_style [] (one_text t) = blocks_from-walked plain_style t ∙ ap (blocks_through plain_style []) (pieces_of-bare t none) in
+    subst (λ (bs : List Block). AreWritten (flat_map text bs) (entries_of text entry 0 bs) answer old new old_entries new_entries) (sym one)
+    (by_text t same is written)
+  where
+    by_text : (t : List ℕ) → text (whole_block t) ≡ t → entry 0 (length t) (whole_block t) ∷ [] ≡ only
+        → AreWritten t (if length t == 0 then [] else only) answer old new old_entries new_entries
+        → AreWritten (flat_map text (blocks_through plain_style [] (one_text t))) (entries_of text entry 0 (blocks_through plain_style [] (one_text t))) answer old new old_entries new_entries
+    by_text [] same is written = written
+    by_text (b ∷ w) same is written =
+        let filled : (length (b ∷ w) == 0) ≡ false = ne_eqb (length (b ∷ w)) 0 (λ e. omega (arith, e)) in
+        let bytes : text (whole_block (b ∷ w)) ++ [] ≡ b ∷ w = append-nil (text (whole_block (b ∷ w))) ∙ same in
+        let entries : entry 0 (0 + length (text (whole_block (b ∷ w)))) (whole_block (b ∷ w)) ∷ [] ≡ (if length (b ∷ w) == 0 then [] else only)
+        = ap (λ n. entry 0 n (whole_block (b ∷ w)) ∷ []) (omega (arith, ap length same)) ∙ is ∙ ap (λ c. if c then [] else only) (sym filled) in
+        subst (λ u. AreWritten u (entry 0 (0 + length (text (whole_block (b ∷ w)))) (whole_block (b ∷ w)) ∷ []) answer old new old_entries new_entries) (sym bytes)
+        (subst (λ es. AreWritten (b ∷ w) es answer old new old_entries new_entries) (sym entries) written)
+
+-- the parts of a text without ESC have no more bytes than it
+pub length-bare_parts : (t p : List ℕ) → all_parts t p ≡ slices_over t (parts t p) → AreInTurn t 0 (parts t p) → length (flat_map (λ u. u) (all_parts t p)) ≤ length t
+length-bare_parts t p are turn = omega (arith, ap (λ us. length (flat_map (λ u. u) us)) are, length-slices_over t 0 (parts t p) turn)
+
+-- and there are at most two more than it has bytes
+pub few-bare_parts : (t p : List ℕ) → all_parts t p ≡ slices_over t (parts t p) → length (parts t p) ≤ length t + 2 → length (all_parts t p) ≤ length t + 2
+few-bare_parts t p are few = omega (arith, few, ap length are, length-map (parts t p) (λ (i : ℕ × ℕ). slice_range t i.0 i.1))

@@ -1,0 +1,23 @@
+use Rattle.std.proofs.Common.{◌≡◌, ◌∙◌, ◌+◌, ◌++◌, length, ap, string_bytes}
+use Rattle.ansi_str.specs.Written.{start, close_if_any}
+use Rattle.ansi_calls.specs.Lists.{styled_text}
+use Rattle.ansi_calls.proofs.ListLemmas.{length-joined, around-more}
+use Rattle.ansi_calls.proofs.lists.push_styled_block.Goals as goal
+
+-- the start, the text and the end are added in turn, and the length of the texts is that of their bytes
+pub returns : goal.returns
+returns g c =
+    let old = string_bytes c.args.texts.now in
+    let block = c.args.block.now in
+    let style = c.style-style.ensures in
+    let begun : string_bytes c.write.new.self ≡ old ++ start block.style = c.in_ok-write.ensures.bytes ∙ ap (λ s. old ++ start s) (c.start.ensures ∙ style) in
+    let more : string_bytes c.push_str.new.self ≡ string_bytes c.write.new.self ++ block.text =
+    c.in_ok-push_str.ensures.bytes ∙ ap (λ t. string_bytes c.write.new.self ++ t) c.text.ensures in
+    let ended : string_bytes c.write-2.new.self ≡ string_bytes c.push_str.new.self ++ close_if_any block.style =
+    c.in_ok-write-2.ensures.bytes ∙ ap (λ s. string_bytes c.push_str.new.self ++ close_if_any s) (c.end.ensures ∙ style) in
+    let bytes : string_bytes c.write-2.new.self ≡ old ++ styled_text block = around-more _ _ _ _ _ _ _ begun more ended in
+    let text_start : c.len-text_start.result ≡ length old + length (start block.style) = c.len-text_start.ensures ∙ c.write.new.self.bytes.ok.0 ∙ length-joined _ _ _ begun in
+    let text_end : c.len-text_end.result ≡ length old + length (start block.style) + length block.text =
+    c.len-text_end.ensures ∙ c.push_str.new.self.bytes.ok.0 ∙ length-joined _ _ _ more ∙ ap (λ n. n + length block.text) (length-joined _ _ _ begun) in
+    let end : c.len.result ≡ length old + length (styled_text block) = c.len.ensures ∙ c.write-2.new.self.bytes.ok.0 ∙ length-joined _ _ _ bytes in
+    record { bytes = bytes; entry = rw (text_start, text_end, end, c.of.ensures, style) }

@@ -1,0 +1,59 @@
+-- What each call on columns does. A text that isn't UTF-8 makes it fail with the status `not_utf8`, and what it writes to is unchanged.
+use Rattle.std.specs.Prelude.{◌≡◌, ℕ, not, ◌&&◌, ◌==◌, List, [], ◌∷◌, length, map, flat_map, Option, None, Some, if◌then◌else◌}
+use Rattle.std.specs.Str.{IsCharBoundary}
+use Rattle.ansi_columns.specs.declared.shown.Alignment.{Alignment}
+use Rattle.ansi_columns.specs.declared.shown.Alignment.TheVariants.{Left, Right, Center}
+use Rattle.ansi_columns.specs.Columns.{columns, FitsUpTo}
+use Rattle.ansi_items.specs.Plain.{plain, has_escape}
+use Rattle.ansi_columns.specs.Shown.{truncated, truncated_ending, padded, missing, closing}
+use Rattle.ansi_columns.specs.Wrapped.{WrappedLine, wrapped}
+use Rattle.ansi_calls.specs.declared.answers.Answer.{Answer}
+use Rattle.ansi_calls.specs.declared.lists.ListAnswer.{ListAnswer}
+use Rattle.ansi_calls.specs.Answers.{no, refused, not_utf8, done, failed, OnUtf8, HasFailed, Gives}
+use Rattle.ansi_calls.specs.Lists.{ends_from, HaveFailed, GivesAll}
+
+-- the alignments, by the numbers that the header gives them
+abbrev pub alignment_of : ℕ → Option Alignment
+alignment_of n = if n == 0 then Some Left else if n == 1 then Some Center else if n == 2 then Some Right else None
+
+-- `width` returns the columns of the plain text
+abbrev pub TellsWidth : List ℕ → Answer → Type 0
+TellsWidth t answer = OnUtf8 (t ∷ []) (answer ≡ done (columns (plain t))) (answer ≡ failed not_utf8)
+
+-- `fitting` returns the place up to which the plain text fits into `width` columns, which is a character boundary of it
+abbrev pub TellsFitting : List ℕ → ℕ → Answer → Type 0
+TellsFitting t width answer =
+    OnUtf8 (t ∷ []) ((place : ℕ) × (answer ≡ done place) × FitsUpTo (plain t) width place × IsCharBoundary (plain t) place) (answer ≡ failed not_utf8)
+
+-- a call writes the text t truncated to `width` columns, and allocates only if something is written after the part of t that stays
+unfoldable pub GivesTruncated : List ℕ → ℕ → List ℕ → Answer → List ℕ → List ℕ → Type 0
+GivesTruncated t width tail answer old new =
+    Gives no (not (length (truncated_ending t width tail) == 0)) (Some (truncated t width tail)) answer old new
+
+-- `truncate` does so
+abbrev pub Truncates : List ℕ → ℕ → List ℕ → Answer → List ℕ → List ℕ → Type 0
+Truncates t width tail answer old new = OnUtf8 (t ∷ tail ∷ []) (GivesTruncated t width tail answer old new) (HasFailed not_utf8 answer old new)
+
+-- a call writes the text t padded to `width` columns, and allocates only if a blank is needed or something is open; it is refused if there is no such alignment
+unfoldable pub GivesPadded : List ℕ → ℕ → Option Alignment → Answer → List ℕ → List ℕ → Type 0
+GivesPadded t width None answer old new = HasFailed refused answer old new
+GivesPadded t width (Some alignment) answer old new =
+    Gives no (not (missing t width == 0 && length (closing t) == 0)) (Some (padded t width alignment)) answer old new
+
+-- `pad` does so, with the alignment of this number
+abbrev pub Pads : List ℕ → ℕ → ℕ → Answer → List ℕ → List ℕ → Type 0
+Pads t width n answer old new = OnUtf8 (t ∷ []) (GivesPadded t width (alignment_of n) answer old new) (HasFailed not_utf8 answer old new)
+
+-- the lines of the text t wrapped at a width, ready for display
+abbrev pub wrapped_lines : List ℕ → ℕ → List (List ℕ)
+wrapped_lines t width = map (λ (l : WrappedLine). l.bytes) (wrapped t width)
+
+-- a call writes these lines and where each ends, and allocates only if t has an ESC
+unfoldable pub GivesWrapped : List ℕ → ℕ → ListAnswer → List ℕ → List ℕ → List ℕ → List ℕ → Type 0
+GivesWrapped t width answer old new old_ends new_ends =
+    GivesAll (has_escape t) (flat_map (λ l. l) (wrapped_lines t width)) (ends_from 0 (wrapped_lines t width)) answer old new old_ends new_ends
+
+-- `wrap` does so
+abbrev pub Wraps : List ℕ → ℕ → ListAnswer → List ℕ → List ℕ → List ℕ → List ℕ → Type 0
+Wraps t width answer old new old_ends new_ends =
+    OnUtf8 (t ∷ []) (GivesWrapped t width answer old new old_ends new_ends) (HaveFailed not_utf8 answer old new old_ends new_ends)

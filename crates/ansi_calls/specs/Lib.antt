@@ -1,0 +1,7 @@
+pub mod Answers
+pub mod Styles
+pub mod Lists
+pub mod Steps
+pub mod Walks
+pub mod Columns
+pub mod Calls

@@ -1,0 +1,78 @@
+-- Several texts in one buffer, and an entry for each in another buffer.
+use Rattle.std.specs.Prelude.{◌≡◌, ◌⊎◌, ◌<◌, ◌≤◌, ◌+◌, ℕ, Bool, List, [], ◌∷◌, ◌++◌, drop, length, flat_map, Result, Ok, Err, IsTrue}
+use Rattle.std.specs.Cow.{cow_str_bytes}
+use Rattle.std.specs.declared.borrow.CowStr.{CowStr}
+use Rattle.ansi_str.specs.Blocks.{Block}
+use Rattle.ansi_calls.specs.declared.lists.ListAnswer.{ListAnswer}
+use Rattle.ansi_str.specs.Written.{start, close_if_any}
+use Rattle.ansi_calls.specs.declared.lists.BlockEntry.{BlockEntry}
+use Rattle.ansi_calls.specs.declared.lists.StyledBlockEntry.{StyledBlockEntry}
+use Rattle.ansi_calls.specs.Answers.{ok, too_small, out_of_memory}
+use Rattle.ansi_calls.specs.Styles.{style_data}
+
+-- an entry for each of consecutive texts, made from its beginning and its end; the first begins at n
+abbrev pub entries_of : {X Y : Type 0} → (X → List ℕ) → (ℕ → ℕ → X → Y) → ℕ → List X → List Y
+entries_of text entry n [] = []
+entries_of text entry n (x ∷ xs) = entry n (n + length (text x)) x ∷ entries_of text entry (n + length (text x)) xs
+
+-- the end of each text, if the first begins at n
+abbrev pub ends_from : ℕ → List (List ℕ) → List ℕ
+ends_from n ts = entries_of (λ t. t) (λ begin end t. end) n ts
+
+-- the end of each block and its style, if the first begins at n
+abbrev pub entries_from : ℕ → List Block → List BlockEntry
+entries_from n bs = entries_of (λ b. b.text) (λ begin end b. record { end = end; style = style_data b.style }) n bs
+
+-- the text of a block between the start and the close of its style
+abbrev pub styled_text : Block → List ℕ
+styled_text b = start b.style ++ b.text ++ close_if_any b.style
+
+-- the ends of the start, the text and the close of each such block, and its style, if the first begins at n
+abbrev pub styled_entries_from : ℕ → List Block → List StyledBlockEntry
+styled_entries_from n bs = entries_of styled_text (λ begin end b. record {
+  text_start = begin + length (start b.style);
+  text_end = begin + length (start b.style) + length b.text;
+  end = end;
+  style = style_data b.style;
+}) n bs
+
+-- the result of a call that returns no texts
+abbrev pub none : ℕ → ListAnswer
+none status = record { status = status; count = 0; len = 0 }
+
+-- a call fails, and both buffers are unchanged
+abbrev pub HaveFailed : {T : Type 0} → ℕ → ListAnswer → List ℕ → List ℕ → List T → List T → Type 0
+HaveFailed status answer old new old_entries new_entries = (answer ≡ none status) × (new ≡ old) × (new_entries ≡ old_entries)
+
+-- the bytes are at the front of one buffer and the entries at the front of the other, and the rest of both is unchanged; or there is no room for one of them, and both are unchanged
+abbrev pub AreWritten : {T : Type 0} → List ℕ → List T → ListAnswer → List ℕ → List ℕ → List T → List T → Type 0
+AreWritten bytes entries answer old new old_entries new_entries =
+    ((length bytes ≤ length old) × (length entries ≤ length old_entries)
+    × (answer ≡ record { status = ok; count = length entries; len = length bytes })
+    × (new ≡ bytes ++ drop (length bytes) old) × (new_entries ≡ entries ++ drop (length entries) old_entries))
+    ⊎ (((length old < length bytes) ⊎ (length old_entries < length entries))
+    × (answer ≡ record { status = too_small; count = length entries; len = length bytes })
+    × (new ≡ old) × (new_entries ≡ old_entries))
+
+-- the bytes of a text that an iterator returns; an error has none
+abbrev pub given_bytes : {A E : Type 0} → Result (CowStr A) E → List ℕ
+given_bytes (Ok text) = cow_str_bytes text
+given_bytes (Err e) = []
+
+-- texts are counted with their total length, and written one after the other if there is room for all of them; their ends are written if there is room for all of these
+abbrev pub AreCopied : List (List ℕ) → ℕ × ℕ → List ℕ → List ℕ → List ℕ → List ℕ → Type 0
+AreCopied texts answer old new old_ends new_ends =
+    (answer.0 ≡ length texts) × (answer.1 ≡ length (flat_map (λ t. t) texts))
+    × (length (flat_map (λ t. t) texts) ≤ length old → new ≡ flat_map (λ t. t) texts ++ drop (length (flat_map (λ t. t) texts)) old)
+    × (length texts ≤ length old_ends → new_ends ≡ ends_from 0 texts ++ drop (length texts) old_ends)
+
+-- these texts are copied so far, and both buffers keep their length
+abbrev pub AreCopiedSoFar : List (List ℕ) → ℕ × ℕ → List ℕ → List ℕ → List ℕ → List ℕ → Type 0
+AreCopiedSoFar texts answer old new old_ends new_ends =
+    AreCopied texts answer old new old_ends new_ends × (length new ≡ length old) × (length new_ends ≡ length old_ends)
+
+-- a call writes all texts, or runs out of memory if it allocates
+abbrev pub GivesAll : {T : Type 0} → Bool → List ℕ → List T → ListAnswer → List ℕ → List ℕ → List T → List T → Type 0
+GivesAll takes_memory bytes entries answer old new old_entries new_entries =
+    AreWritten bytes entries answer old new old_entries new_entries
+    ⊎ (IsTrue takes_memory × HaveFailed out_of_memory answer old new old_entries new_entries)

@@ -1,0 +1,17 @@
+//! The calls for other languages: what each returns, and how its result is written into the
+//! caller's memory.
+//!
+//! A call takes bytes, checks that they are UTF-8, and allocates with the allocator that it takes.
+//! `ansi_str_c` and `ansi_str_wasm` export these calls.
+#![tactic(auto)]
+
+pub mod answers;
+pub mod blocks;
+pub mod columns;
+pub mod edits;
+pub mod lines;
+pub mod lists;
+pub mod searches;
+pub mod styles;
+pub mod texts;
+pub mod walks;

@@ -1,0 +1,486 @@
+//! Calls that return several texts, with an entry for each: all parts, and all blocks.
+ghost use Rattle.std.specs.Prelude.{◌≡◌, ◌⊎◌, ◌≤◌, ◌<◌, ◌+◌, ◌^◌, ◌==◌, ◌∷◌, [], ◌++◌, ℕ, List};
+ghost use Rattle.std.specs.Prelude.{length, take, drop, map, flat_map, if◌then◌else◌, IsFalse};
+ghost use Rattle.std.specs.Prelude.{IfNone, IfSome, Result, IsOk, IfOk, OnOk, MatchResult, All};
+ghost use Rattle.std.specs.Prelude.{string_bytes, IsUtf8};
+ghost use Rattle.std.specs.Iterator.{IsFinite, Drains, HoldsAlong};
+ghost use Rattle.std.specs.declared.alloc.AllocError.{AllocError};
+ghost use Rattle.std.specs.declared.borrow.CowStr.{CowStr};
+ghost use Rattle.ansi_str.specs.Plain.{has_escape};
+ghost use Rattle.ansi_str.specs.Parts.{all_parts};
+ghost use Rattle.ansi_str.specs.Blocks.{blocks};
+ghost use Rattle.ansi_calls.specs.Answers.{out_of_memory};
+ghost use Rattle.ansi_calls.specs.Lists.{none, ends_from, entries_from, styled_text};
+ghost use Rattle.ansi_calls.specs.Lists.{styled_entries_from, given_bytes, AreCopied, AreWritten};
+ghost use Rattle.ansi_calls.specs.Lists.{AreCopiedSoFar};
+ghost use Rattle.ansi_calls.specs.Lists.{HaveFailed};
+ghost use Rattle.ansi_calls.specs.Calls.{Splits, ListsBlocks, ListsStyledBlocks};
+
+use crate::answers::{NOT_UTF8, OK, OUT_OF_MEMORY, TOO_SMALL};
+use crate::styles::StyleData;
+use ansi_str::split::split_in;
+use ansi_str::{AnsiBlock, AnsiStr, get_blocks, laws};
+use memchr::memchr_iter;
+use simdutf8::basic::from_utf8;
+use std::alloc::{AllocError, Allocator};
+use std::borrow::CowStr;
+use std::fmt::Write;
+
+/// The result of a call that returns several texts: a status, their number, and their total length
+/// in bytes.
+#[repr(C)]
+#[derive(Clone, Copy)]
+pub struct ListAnswer {
+    pub status: u32,
+    pub count: usize,
+    pub len: usize,
+}
+
+impl ListAnswer {
+    /// The result of a call that wrote nothing.
+    pub fn failed(status: u32) -> ListAnswer
+        ensures { result ≡ none status }
+    {
+        ListAnswer {
+            status,
+            count: 0,
+            len: 0,
+        }
+    }
+}
+
+/// An entry for a block: where its text ends in the text of all blocks, and its style.
+#[repr(C)]
+#[derive(Clone, Copy)]
+pub struct BlockEntry {
+    pub end: usize,
+    pub style: StyleData,
+}
+
+/// An entry for a block between the start and the close of its style: where its text begins and
+/// ends, where the close ends, and its style.
+#[repr(C)]
+#[derive(Clone, Copy)]
+pub struct StyledBlockEntry {
+    pub text_start: usize,
+    pub text_end: usize,
+    pub end: usize,
+    pub style: StyleData,
+}
+
+/// All parts of a text between the matches of a pattern, and where each ends.
+pub fn split<A: Allocator + Copy>(
+    alloc: A,
+    text: &[u8],
+    pattern: &[u8],
+    buffer: &mut [u8],
+    ends: &mut [usize],
+) -> ListAnswer
+    ensures { Splits text.now pattern.now result buffer.old buffer.new ends.old ends.new }
+{
+    let Ok(text) = from_utf8(text) else {
+        return ListAnswer::failed(NOT_UTF8);
+    };
+    let Ok(pat) = from_utf8(pattern) else {
+        return ListAnswer::failed(NOT_UTF8);
+    };
+    if !text.ansi_has_any() {
+        return write_bare_parts(alloc, text, pat, buffer, ends);
+    }
+    write_joined(join_parts(alloc, text, pat), buffer, ends)
+}
+
+/// All blocks of a text, and for each where it ends and its style.
+pub fn blocks<A: Allocator + Copy>(
+    alloc: A,
+    text: &[u8],
+    buffer: &mut [u8],
+    entries: &mut [BlockEntry],
+) -> ListAnswer
+    ensures { ListsBlocks text.now result buffer.old buffer.new entries.old entries.new }
+{
+    let Ok(text) = from_utf8(text) else {
+        return ListAnswer::failed(NOT_UTF8);
+    };
+    if !text.ansi_has_any() {
+        let entry = BlockEntry {
+            end: text.len(),
+            style: StyleData::empty(),
+        };
+        return write_one_block(text, &[entry], buffer, entries);
+    }
+    write_joined(join_blocks(alloc, text), buffer, entries)
+}
+
+/// All blocks of a text, each between the start and the close of its style; and for each where
+/// these are and its style.
+pub fn styled_blocks<A: Allocator + Copy>(
+    alloc: A,
+    text: &[u8],
+    buffer: &mut [u8],
+    entries: &mut [StyledBlockEntry],
+) -> ListAnswer
+    ensures { ListsStyledBlocks text.now result buffer.old buffer.new entries.old entries.new }
+{
+    let Ok(text) = from_utf8(text) else {
+        return ListAnswer::failed(NOT_UTF8);
+    };
+    if !text.ansi_has_any() {
+        let entry = StyledBlockEntry {
+            text_start: 0,
+            text_end: text.len(),
+            end: text.len(),
+            style: StyleData::empty(),
+        };
+        return write_one_block(text, &[entry], buffer, entries);
+    }
+    write_joined(join_styled_blocks(alloc, text), buffer, entries)
+}
+
+/// Writes the parts of a text without ESC, and where each ends, if there is room for all of them.
+/// Doesn't allocate.
+fn write_bare_parts<A: Allocator + Copy>(
+    alloc: A,
+    text: &str,
+    pat: &str,
+    buffer: &mut [u8],
+    ends: &mut [usize],
+) -> ListAnswer
+    requires { IsFalse (has_escape text.now) }
+    ensures { AreWritten (flat_map (λ p. p) (all_parts text.now pat.now))
+        (ends_from 0 (all_parts text.now pat.now)) result buffer.old buffer.new ends.old ends.new }
+{
+    if let Some((count, len)) = parts_without_room(alloc, text, pat, buffer.len(), ends.len()) {
+        return ListAnswer {
+            status: TOO_SMALL,
+            count,
+            len,
+        };
+    }
+    let (count, len) = copy_bare_parts(alloc, text, pat, buffer, ends);
+    ListAnswer {
+        status: OK,
+        count,
+        len,
+    }
+}
+
+/// The number of parts of a text without ESC and their total length, if they don't fit into `bytes`
+/// bytes or `ends` ends. `None` if they fit. The parts are counted only if they might not fit.
+fn parts_without_room<A: Allocator + Copy>(
+    alloc: A,
+    text: &str,
+    pat: &str,
+    bytes: usize,
+    ends: usize,
+) -> Option<(usize, usize)>
+    requires { IsFalse (has_escape text.now) }
+    ensures none { IfNone result ((length (flat_map (λ p. p) (all_parts text.now pat.now)) ≤ bytes)
+        × (length (all_parts text.now pat.now) ≤ ends)) }
+    ensures small { IfSome result (λ r.
+        (bytes < length (flat_map (λ p. p) (all_parts text.now pat.now)))
+        ⊎ (ends < length (all_parts text.now pat.now))) }
+    ensures needed { IfSome result (λ r. (r.0 ≡ length (all_parts text.now pat.now))
+        × (r.1 ≡ length (flat_map (λ p. p) (all_parts text.now pat.now)))) }
+{
+    laws::bare_texts_are_std();
+    laws::parts_lie_between_matches();
+    if text.len() <= bytes && text.len() + 2 <= ends {
+        return None;
+    }
+    let (count, len) = copy_bare_parts(alloc, text, pat, &mut [], &mut []);
+    if len > bytes || count > ends {
+        Some((count, len))
+    } else {
+        None
+    }
+}
+
+/// Writes the parts of a text without ESC, and where each ends, as far as there is room. Returns
+/// their number and their total length.
+fn copy_bare_parts<A: Allocator + Copy>(
+    alloc: A,
+    text: &str,
+    pat: &str,
+    buffer: &mut [u8],
+    ends: &mut [usize],
+) -> (usize, usize)
+    requires { IsFalse (has_escape text.now) }
+    ensures { AreCopied (all_parts text.now pat.now) result buffer.old buffer.new ends.old
+        ends.new }
+{
+    laws::bare_texts_are_std();
+    laws::parts_lie_between_matches();
+    if let [byte] = pat.as_bytes() {
+        return copy_around_byte(text, *byte, buffer, ends);
+    }
+    copy_texts(split_in(alloc, text, pat), buffer, ends)
+}
+
+/// The same for a pattern of one byte. One iterator finds all of its places, which is quicker
+/// than a search for each.
+fn copy_around_byte(text: &str, byte: u8, buffer: &mut [u8], ends: &mut [usize]) -> (usize, usize)
+    requires bare { IsFalse (has_escape text.now) }
+    requires pattern { IsUtf8 (byte ∷ []) }
+    ensures { AreCopied (all_parts text.now (byte ∷ [])) result buffer.old buffer.new ends.old
+        ends.new }
+{
+    laws::bare_texts_are_std();
+    laws::parts_lie_between_matches();
+    let bytes = text.as_bytes();
+    let mut copied = (0, 0);
+    let mut start = 0;
+    for place in memchr_iter(byte, bytes) {
+        copied = put_text(&bytes[start..place], copied, buffer, ends);
+        start = place + 1;
+    }
+    put_text(&bytes[start..], copied, buffer, ends)
+}
+
+/// Writes the texts of an iterator that doesn't allocate, and where each ends, as far as there is
+/// room. Returns their number and their total length.
+pub(crate) fn copy_texts<
+    't,
+    A: Allocator,
+    I: Iterator<Item = Result<CowStr<'t, A>, AllocError>> + Drop,
+>(given: I, buffer: &mut [u8], ends: &mut [usize]) -> (usize, usize)
+    requires can { I.can_next given }
+    requires ends { IsFinite (I.remaining given) }
+    requires fits { HoldsAlong I.next_gives given (λ xs. All IsOk xs
+        × (length (flat_map (λ t. t) (map given_bytes xs)) < 2 ^ 64) × (length xs < 2 ^ 64)) }
+    ensures { (xs : List (Result (CowStr A) AllocError)) × Drains I.next_gives given xs
+        × AreCopied (map given_bytes xs) result buffer.old buffer.new ends.old ends.new }
+{
+    let mut copied = (0, 0);
+    for text in given {
+        copied = put_text(text.unwrap().as_bytes(), copied, buffer, ends);
+    }
+    copied
+}
+
+/// Writes one text more after those that are copied, and where it ends, as far as there is room.
+/// Returns their number and their total length.
+#[inline(always)]
+fn put_text(
+    text: &[u8],
+    copied: (usize, usize),
+    buffer: &mut [u8],
+    ends: &mut [usize],
+) -> (usize, usize)
+    requires count { copied.0 + 1 < 2 ^ 64 }
+    requires len { copied.1 + length text.now < 2 ^ 64 }
+    ensures { (texts : List (List ℕ)) (first : List ℕ) (first_ends : List ℕ) →
+        AreCopiedSoFar texts copied first buffer.old first_ends ends.old →
+        AreCopiedSoFar (texts ++ text.now ∷ []) result first buffer.new first_ends ends.new }
+{
+    let (count, len) = copied;
+    let len = put(text, len, buffer);
+    let count = put(&[len], count, ends);
+    (count, len)
+}
+
+/// Copies items to a place in a slice, if there is room for them. Returns the place after them.
+fn put<T: Copy>(items: &[T], place: usize, slots: &mut [T]) -> usize
+    requires { place + length items.now < 2 ^ 64 }
+    ensures slots { place + length items.now ≤ length slots.old →
+        slots.new ≡ take place slots.old ++ items.now ++ drop (place + length items.now) slots.old }
+    ensures same_len { length slots.new ≡ length slots.old }
+    ensures after { result ≡ place + length items.now }
+{
+    let after = place + items.len();
+    if after <= slots.len() {
+        slots[place..after].copy_from_slice(items);
+    }
+    after
+}
+
+/// Writes a text without ESC, which is one block, and its entry. An empty text has no block and no
+/// entry.
+fn write_one_block<T: Copy>(
+    text: &str,
+    entry: &[T],
+    buffer: &mut [u8],
+    entries: &mut [T],
+) -> ListAnswer
+    ensures { AreWritten text.now (if length text.now == 0 then [] else entry.now) result buffer.old
+        buffer.new entries.old entries.new }
+{
+    let entry = if text.is_empty() { &[] } else { entry };
+    write_list(text.as_bytes(), entry, buffer, entries)
+}
+
+/// The parts of a text, concatenated, and where each ends.
+fn join_parts<A: Allocator + Copy>(
+    alloc: A,
+    text: &str,
+    pat: &str,
+) -> Result<(String<A>, Vec<usize, A>), AllocError>
+    ensures texts { IfOk result (λ joined.
+        string_bytes joined.0 ≡ flat_map (λ p. p) (all_parts text.now pat.now)) }
+    ensures ends { IfOk result (λ joined.
+        joined.1.items ≡ ends_from 0 (all_parts text.now pat.now)) }
+{
+    join_texts(alloc, text.len(), split_in(alloc, text, pat))
+}
+
+/// The texts of an iterator, concatenated, and where each ends. Reserves `room` bytes at once.
+pub(crate) fn join_texts<
+    't,
+    A: Allocator + Copy,
+    I: Iterator<Item = Result<CowStr<'t, A>, AllocError>> + Drop,
+>(alloc: A, room: usize, given: I) -> Result<(String<A>, Vec<usize, A>), AllocError>
+    requires can { I.can_next given }
+    requires ends { IsFinite (I.remaining given) }
+    ensures { IfOk result (λ joined.
+        (xs : List (Result (CowStr A) AllocError)) × Drains I.next_gives given xs × All IsOk xs
+        × (string_bytes joined.0 ≡ flat_map (λ t. t) (map given_bytes xs))
+        × (joined.1.items ≡ ends_from 0 (map given_bytes xs))) }
+{
+    let mut texts = String::with_capacity(alloc, room)?;
+    let mut ends = Vec::new(alloc);
+    for text in given {
+        let text = text?;
+        let end = push_text(&mut texts, text.as_str())?;
+        ends.push(end)?;
+    }
+    Ok((texts, ends))
+}
+
+/// Appends a text, and returns where it ends.
+fn push_text<A: Allocator>(texts: &mut String<A>, text: &str) -> Result<usize, AllocError>
+    ensures bytes { OnOk result (string_bytes texts.new ≡ string_bytes texts.old ++ text.now) }
+    ensures end { IfOk result (λ end. end ≡ length (string_bytes texts.new)) }
+{
+    texts.push_str(text)?;
+    Ok(texts.len())
+}
+
+/// The blocks of a text, concatenated, and for each where it ends and its style.
+fn join_blocks<A: Allocator + Copy>(
+    alloc: A,
+    text: &str,
+) -> Result<(String<A>, Vec<BlockEntry, A>), AllocError>
+    ensures texts { IfOk result (λ joined.
+        string_bytes joined.0 ≡ flat_map (λ b. b.text) (blocks text.now)) }
+    ensures entries { IfOk result (λ joined. joined.1.items ≡ entries_from 0 (blocks text.now)) }
+{
+    let mut texts = String::with_capacity(alloc, text.len())?;
+    let mut entries = Vec::new(alloc);
+    for block in get_blocks(alloc, text) {
+        let block = block?;
+        let entry = push_block(&mut texts, &block)?;
+        entries.push(entry)?;
+    }
+    Ok((texts, entries))
+}
+
+/// Appends a block, and returns its entry.
+fn push_block<A: Allocator>(
+    texts: &mut String<A>,
+    block: &AnsiBlock<'_, A>,
+) -> Result<BlockEntry, AllocError>
+    ensures bytes { OnOk result
+        (string_bytes texts.new ≡ string_bytes texts.old ++ block.now.text) }
+    ensures entry { IfOk result (λ entry.
+        entries_from (length (string_bytes texts.old)) (block.now ∷ []) ≡ entry ∷ []) }
+{
+    let style = StyleData::of(block.style());
+    texts.push_str(block.text())?;
+    Ok(BlockEntry {
+        end: texts.len(),
+        style,
+    })
+}
+
+/// The blocks of a text, concatenated, each between the start and the close of its style; and for
+/// each where these are and its style.
+fn join_styled_blocks<A: Allocator + Copy>(
+    alloc: A,
+    text: &str,
+) -> Result<(String<A>, Vec<StyledBlockEntry, A>), AllocError>
+    ensures texts { IfOk result (λ joined.
+        string_bytes joined.0 ≡ flat_map styled_text (blocks text.now)) }
+    ensures entries { IfOk result (λ joined.
+        joined.1.items ≡ styled_entries_from 0 (blocks text.now)) }
+{
+    let mut texts = String::with_capacity(alloc, text.len())?;
+    let mut entries = Vec::new(alloc);
+    for block in get_blocks(alloc, text) {
+        let block = block?;
+        let entry = push_styled_block(&mut texts, &block)?;
+        entries.push(entry)?;
+    }
+    Ok((texts, entries))
+}
+
+/// Appends a block between the start and the close of its style, and returns its entry.
+fn push_styled_block<A: Allocator>(
+    texts: &mut String<A>,
+    block: &AnsiBlock<'_, A>,
+) -> Result<StyledBlockEntry, AllocError>
+    ensures bytes { OnOk result
+        (string_bytes texts.new ≡ string_bytes texts.old ++ styled_text block.now) }
+    ensures entry { IfOk result (λ entry.
+        styled_entries_from (length (string_bytes texts.old)) (block.now ∷ []) ≡ entry ∷ []) }
+{
+    let style = block.style();
+    write!(texts, "{}", style.start())?;
+    let text_start = texts.len();
+    texts.push_str(block.text())?;
+    let text_end = texts.len();
+    write!(texts, "{}", style.end())?;
+    Ok(StyledBlockEntry {
+        text_start,
+        text_end,
+        end: texts.len(),
+        style: StyleData::of(style),
+    })
+}
+
+/// Writes concatenated texts and their entries, or reports out of memory.
+pub(crate) fn write_joined<T: Copy, A: Allocator>(
+    joined: Result<(String<A>, Vec<T, A>), AllocError>,
+    buffer: &mut [u8],
+    entries: &mut [T],
+) -> ListAnswer
+    ensures { MatchResult joined
+        (λ joined. AreWritten (string_bytes joined.0) joined.1.items result buffer.old buffer.new
+        entries.old entries.new)
+        (λ e. HaveFailed out_of_memory result buffer.old buffer.new entries.old entries.new) }
+{
+    match joined {
+        Ok((texts, their_entries)) => {
+            write_list(texts.as_bytes(), their_entries.as_slice(), buffer, entries)
+        }
+        Err(_) => ListAnswer::failed(OUT_OF_MEMORY),
+    }
+}
+
+/// Writes concatenated texts at the front of one buffer and their entries at the front of another,
+/// if there is room for both.
+fn write_list<T: Copy>(
+    texts: &[u8],
+    their_entries: &[T],
+    buffer: &mut [u8],
+    entries: &mut [T],
+) -> ListAnswer
+    ensures { AreWritten texts.now their_entries.now result buffer.old buffer.new entries.old
+        entries.new }
+{
+    let count = their_entries.len();
+    let len = texts.len();
+    if len > buffer.len() || count > entries.len() {
+        return ListAnswer {
+            status: TOO_SMALL,
+            count,
+            len,
+        };
+    }
+    buffer[..len].copy_from_slice(texts);
+    entries[..count].copy_from_slice(their_entries);
+    ListAnswer {
+        status: OK,
+        count,
+        len,
+    }
+}

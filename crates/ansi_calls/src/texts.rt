@@ -1,0 +1,134 @@
+//! Calls that return one text, made from the text that they take.
+ghost use Rattle.std.specs.Prelude.{◌∷◌, [], Some};
+ghost use Rattle.ansi_str.specs.Plain.{plain, has_escape};
+ghost use Rattle.ansi_str.specs.Edits.{change_of};
+ghost use Rattle.ansi_calls.specs.Answers.{no, Gives};
+ghost use Rattle.ansi_calls.specs.Calls.{Strips, Changes, Cuts, TakesLeft, TakesRight, Trims};
+ghost use Rattle.ansi_calls.specs.Calls.{StripsPrefix, StripsSuffix, TakesPart};
+
+use crate::answers::{Answer, NO, NOT_UTF8, OUT_OF_MEMORY, REFUSED, write, write_found};
+use ansi_str::slice::strip_in;
+use ansi_str::{Edit, edit};
+use simdutf8::basic::from_utf8;
+use std::alloc::Allocator;
+
+/// The plain text.
+pub fn strip<A: Allocator>(alloc: A, text: &[u8], buffer: &mut [u8]) -> Answer
+    ensures { Strips text.now result buffer.old buffer.new }
+{
+    match from_utf8(text) {
+        Ok(text) => strip_text(alloc, text, buffer),
+        Err(_) => Answer::failed(NOT_UTF8),
+    }
+}
+
+/// The same for a text that is known to be UTF-8.
+pub fn strip_text<A: Allocator>(alloc: A, text: &str, buffer: &mut [u8]) -> Answer
+    ensures { Gives no (has_escape text.now) (Some (plain text.now)) result buffer.old buffer.new }
+{
+    match strip_in(alloc, text) {
+        Ok(plain) => write(plain.as_bytes(), buffer),
+        Err(_) => Answer::failed(OUT_OF_MEMORY),
+    }
+}
+
+/// The text from one position up to another.
+pub fn cut<A: Allocator + Copy>(
+    alloc: A,
+    text: &[u8],
+    start: usize,
+    end: usize,
+    buffer: &mut [u8],
+) -> Answer
+    ensures { Cuts text.now start end result buffer.old buffer.new }
+{
+    let cut = Edit::Cut {
+        start,
+        end: Some(end),
+    };
+    write_edited(alloc, text, cut, REFUSED, buffer)
+}
+
+/// The text before a position.
+pub fn left<A: Allocator + Copy>(alloc: A, text: &[u8], mid: usize, buffer: &mut [u8]) -> Answer
+    ensures { TakesLeft text.now mid result buffer.old buffer.new }
+{
+    write_edited(alloc, text, Edit::Left(mid), REFUSED, buffer)
+}
+
+/// The text from a position on.
+pub fn right<A: Allocator + Copy>(alloc: A, text: &[u8], mid: usize, buffer: &mut [u8]) -> Answer
+    ensures { TakesRight text.now mid result buffer.old buffer.new }
+{
+    write_edited(alloc, text, Edit::Right(mid), REFUSED, buffer)
+}
+
+/// The text without the white space at its ends.
+pub fn trim<A: Allocator + Copy>(alloc: A, text: &[u8], buffer: &mut [u8]) -> Answer
+    ensures { Trims text.now result buffer.old buffer.new }
+{
+    write_edited(alloc, text, Edit::Trim, REFUSED, buffer)
+}
+
+/// The text without a prefix.
+pub fn strip_prefix<A: Allocator + Copy>(
+    alloc: A,
+    text: &[u8],
+    pattern: &[u8],
+    buffer: &mut [u8],
+) -> Answer
+    ensures { StripsPrefix text.now pattern.now result buffer.old buffer.new }
+{
+    match from_utf8(pattern) {
+        Ok(pat) => write_edited(alloc, text, Edit::Prefix(pat), NO, buffer),
+        Err(_) => Answer::failed(NOT_UTF8),
+    }
+}
+
+/// The text without a suffix.
+pub fn strip_suffix<A: Allocator + Copy>(
+    alloc: A,
+    text: &[u8],
+    pattern: &[u8],
+    buffer: &mut [u8],
+) -> Answer
+    ensures { StripsSuffix text.now pattern.now result buffer.old buffer.new }
+{
+    match from_utf8(pattern) {
+        Ok(pat) => write_edited(alloc, text, Edit::Suffix(pat), NO, buffer),
+        Err(_) => Answer::failed(NOT_UTF8),
+    }
+}
+
+/// The part at an index, of the parts between the matches of a pattern.
+pub fn part<A: Allocator + Copy>(
+    alloc: A,
+    text: &[u8],
+    pattern: &[u8],
+    index: usize,
+    buffer: &mut [u8],
+) -> Answer
+    ensures { TakesPart text.now pattern.now index result buffer.old buffer.new }
+{
+    match from_utf8(pattern) {
+        Ok(pat) => write_edited(alloc, text, Edit::Part { pat, index }, NO, buffer),
+        Err(_) => Answer::failed(NOT_UTF8),
+    }
+}
+
+/// Writes the text after one edit. Returns the status `absent` if the edit is refused.
+#[tactic(auto, unfolding(crate::specs::Answers::GivesEdited))]
+fn write_edited<A: Allocator + Copy>(
+    alloc: A,
+    text: &[u8],
+    change: Edit<'_>,
+    absent: u32,
+    buffer: &mut [u8],
+) -> Answer
+    ensures { Changes (text.now ∷ []) absent (change_of change.entry) text.now result buffer.old buffer.new }
+{
+    match from_utf8(text) {
+        Ok(text) => write_found(edit(alloc, text, &[change]), absent, buffer),
+        Err(_) => Answer::failed(NOT_UTF8),
+    }
+}

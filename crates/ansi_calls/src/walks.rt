@@ -1,0 +1,164 @@
+//! Calls that return the blocks and the parts of a text one by one. The walk is kept in the caller's
+//! memory.
+ghost use Rattle.std.specs.Prelude.{◌≡◌, not, ◌==◌, length, Some, IsUtf8};
+ghost use Rattle.ansi_str.specs.Blocks.{sequences_before};
+ghost use Rattle.ansi_str.specs.States.{rendition_of_numbers};
+ghost use Rattle.ansi_split.specs.Walks.{IsPartWalk};
+ghost use Rattle.ansi_calls.specs.Answers.{no, Gives};
+ghost use Rattle.ansi_calls.specs.Walks.{IsOver, GivesNext, GivesNextPart};
+ghost use Rattle.ansi_calls.specs.Calls.{BeginsBlocks, BeginsParts, WritesStart, WritesClose};
+
+use crate::answers::{Answer, NO, NOT_UTF8, OK, OUT_OF_MEMORY, write, write_made};
+use crate::styles::StyleData;
+use ansi_blocks::runs::{Run, first_styled_run, sequences_before};
+use ansi_split::walks::{PartWalk, next_in, walk_in};
+use ansi_style::numbers::StyleNumbers;
+use ansi_style::styles;
+use simdutf8::basic::from_utf8;
+use std::alloc::Allocator;
+use std::borrow::CowStr;
+use std::str::from_utf8_unchecked;
+
+/// The state of a walk over blocks: the text after the last block, and the style of that block.
+#[repr(C)]
+#[derive(Clone, Copy)]
+pub struct BlockWalk<'a> {
+    pub rest: &'a [u8],
+    pub style: StyleNumbers,
+}
+
+/// A block: its run, which is a stretch of the text, and its style. The sequences before the run
+/// are returned separately.
+#[repr(C)]
+#[derive(Clone, Copy)]
+pub struct NextBlock<'a> {
+    pub text: &'a [u8],
+    pub style: StyleData,
+}
+
+/// A part that is a stretch of the text.
+#[repr(C)]
+#[derive(Clone, Copy)]
+pub struct NextPart<'a> {
+    pub text: &'a [u8],
+}
+
+/// Begins a walk over the blocks of a text.
+pub fn blocks_begin<'a>(text: &'a [u8], walk: &mut BlockWalk<'a>) -> Answer
+    ensures { BeginsBlocks text.now result walk.old walk.new }
+{
+    let Ok(text) = from_utf8(text) else {
+        return Answer::failed(NOT_UTF8);
+    };
+    *walk = walk_over(text);
+    Answer::done(0)
+}
+
+/// A walk at the beginning of a text.
+pub fn walk_over(text: &str) -> BlockWalk<'_>
+    ensures { IsOver text.now result }
+{
+    BlockWalk {
+        rest: text.as_bytes(),
+        style: StyleNumbers::of(&styles::plain_style()),
+    }
+}
+
+/// Writes the sequences before the first run of a text. Allocates only if there are any.
+fn write_waiting<A: Allocator>(alloc: A, text: &str, run: &Run<'_>, buffer: &mut [u8]) -> Answer
+    requires { run.now.len_before ≡ length (sequences_before text.now 0) }
+    ensures { Gives no (not (length (sequences_before text.now 0) == 0))
+        (Some (sequences_before text.now 0)) result buffer.old buffer.new }
+{
+    if run.len_before == 0 {
+        return Answer::done(0);
+    }
+    write_made(sequences_before(alloc, text, run.len_before), buffer)
+}
+
+/// Takes the next block off a walk.
+pub fn blocks_next<'a, A: Allocator>(
+    alloc: A,
+    walk: &mut BlockWalk<'a>,
+    block: &mut NextBlock<'a>,
+    buffer: &mut [u8],
+) -> Answer
+    requires { IsUtf8 walk.old.rest.now }
+    ensures utf8 { IsUtf8 walk.new.rest.now }
+    ensures next { GivesNext walk.old walk.new block.old block.new result buffer.old buffer.new }
+{
+    let text = unsafe { from_utf8_unchecked(walk.rest) };
+    let mut style = walk.style.style();
+    let Some(run) = first_styled_run(text, &mut style) else {
+        return Answer::failed(NO);
+    };
+    let answer = write_waiting(alloc, text, &run, buffer);
+    if answer.status == OK {
+        *walk = BlockWalk {
+            rest: run.rest.as_bytes(),
+            style: StyleNumbers::of(&style),
+        };
+        *block = NextBlock {
+            text: run.text.as_bytes(),
+            style: StyleData::of(&style),
+        };
+    }
+    answer
+}
+
+/// The sequences that set a style.
+pub fn style_start<A: Allocator>(alloc: A, style: &StyleNumbers, buffer: &mut [u8]) -> Answer
+    ensures { WritesStart (rendition_of_numbers style.now) result buffer.old buffer.new }
+{
+    write_made(style.style().start().to_string(alloc), buffer)
+}
+
+/// The sequences that reset a style.
+pub fn style_end<A: Allocator>(alloc: A, style: &StyleNumbers, buffer: &mut [u8]) -> Answer
+    ensures { WritesClose (rendition_of_numbers style.now) result buffer.old buffer.new }
+{
+    write_made(style.style().end().to_string(alloc), buffer)
+}
+
+/// Begins a walk over the parts of a text between the matches of a pattern.
+pub fn parts_begin<'a>(text: &'a [u8], pattern: &'a [u8], walk: &mut PartWalk<'a>) -> Answer
+    ensures { BeginsParts text.now pattern.now result walk.old walk.new }
+{
+    let Ok(text) = from_utf8(text) else {
+        return Answer::failed(NOT_UTF8);
+    };
+    let Ok(pat) = from_utf8(pattern) else {
+        return Answer::failed(NOT_UTF8);
+    };
+    *walk = walk_in(text, pat);
+    Answer::done(0)
+}
+
+/// Takes the next part off a walk.
+pub fn parts_next<'a, A: Allocator + Copy>(
+    alloc: A,
+    walk: &mut PartWalk<'a>,
+    part: &mut NextPart<'a>,
+    buffer: &mut [u8],
+) -> Answer
+    requires { IsPartWalk walk.old }
+    ensures walk { IsPartWalk walk.new }
+    ensures next { GivesNextPart walk.old walk.new part.old part.new result buffer.old buffer.new }
+{
+    let before = *walk;
+    let answer = match next_in(alloc, walk) {
+        None => Answer::failed(NO),
+        Some(Ok(CowStr::Borrowed(text))) => {
+            *part = NextPart {
+                text: text.as_bytes(),
+            };
+            return Answer::done(0);
+        }
+        Some(Ok(CowStr::Owned(text))) => write(text.as_bytes(), buffer),
+        Some(Err(_)) => Answer::failed(OUT_OF_MEMORY),
+    };
+    if answer.status != OK {
+        *walk = before;
+    }
+    answer
+}
