@@ -70,6 +70,9 @@ impl<'r> Check<'r> {
 
     /// The call returned a text that is a borrow or is owned.
     pub fn borrow(&mut self, is_borrow: bool) {
+        if self.row.takes_memory.is_none() {
+            return;
+        }
         let letter = if is_borrow { "b" } else { "o" };
         match self.borrows.strip_prefix(letter) {
             Some(rest) => self.borrows = rest,
