@@ -62,7 +62,7 @@ static long line_number = 0;
 
 static void expect(const char *what, int is_so) {
     if (!is_so) {
-        fprintf(stderr, "rows: line %ld: %s\n", line_number, what);
+        fprintf(stderr, "rows in C: line %ld: %s\n", line_number, what);
         exit(1);
     }
 }
@@ -686,9 +686,9 @@ int main(void) {
     free(line);
     expect_failures();
     expect("memory was missing", wanting > 0);
-    printf("rows: %ld are as they should be, and %ld calls reported lack of memory; passed over:", passed, wanting);
+    printf("rows in C: %ld passed, and %ld calls reported lack of memory; passed over:", passed, wanting);
     for (size_t i = 0; i < LACKING_COUNT; i++) {
-        printf("%s %ld %s", i > 0 ? "," : "", LACKING[i].rows, LACKING[i].call);
+        printf("%s %s: %ld", i > 0 ? "," : "", LACKING[i].call, LACKING[i].rows);
     }
     printf("\n");
     return 0;

@@ -128,6 +128,25 @@ impl<'r> Check<'r> {
         }
     }
 
+    /// The next text of an iterator. Returns whether there was one; an `Err` counts as none.
+    pub fn next_text<A: Allocator>(
+        &mut self,
+        next: Option<Result<CowStr<'_, A>, AllocError>>,
+    ) -> bool {
+        match next {
+            Some(text) => self.text_or_err(text),
+            None => return false,
+        }
+        !self.is_err
+    }
+
+    /// The iterator was asked again after its end.
+    pub fn end_of_texts(&mut self, is_none: bool) {
+        if !is_none {
+            self.fail("a text after the end");
+        }
+    }
+
     /// The result of a call that may return a text.
     pub fn option_or_err<A: Allocator>(
         &mut self,

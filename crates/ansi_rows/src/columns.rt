@@ -1,7 +1,7 @@
 //! The results of calls on columns.
 use crate::check::Check;
 use crate::rows::Row;
-use crate::texts::{check_cut_in, check_texts};
+use crate::texts::{check_cut_in, check_lines};
 use ansi_columns::AnsiColumns;
 use ansi_columns::columns::fitting;
 use ansi_columns::lines::Lines;
@@ -88,7 +88,7 @@ pub fn make_column_call<T: AnsiStr>(check: &mut Check<'_>, text: &T, call: Colum
             check.text_or_err(text.ansi_pad(alloc, width, alignment));
         }
         ColumnCall::Lines(width) => check_places(check, Lines::new(text.as_text(), width)),
-        ColumnCall::Wrap(width) => check_texts(check, text.ansi_wrap(alloc, width)),
+        ColumnCall::Wrap(width) => check_lines(check, text.ansi_wrap(alloc, width)),
         ColumnCall::LinkAt(index) => check_link(check, text.ansi_link_at(index)),
     }
 }
@@ -103,7 +103,7 @@ pub fn make_column_call_in(check: &mut Check<'_>, heap: &Refusing<Global>, call:
             check.text_or_err(truncate(heap, text, width, tail));
         }
         ColumnCall::Pad(width, alignment) => check.text_or_err(pad(heap, text, width, alignment)),
-        ColumnCall::Wrap(width) => check_texts(check, wrap(heap, text, width)),
+        ColumnCall::Wrap(width) => check_lines(check, wrap(heap, text, width)),
         _ => make_column_call(check, &text, call),
     }
 }

@@ -5,39 +5,41 @@ use crate::check::Check;
 use crate::columns::{make_column_call, make_column_call_in};
 use crate::items::check_items;
 use crate::ranges::is_good_range_of;
+use ansi_columns::wrap::AnsiWrap;
 use ansi_str::search::part_interval;
 use ansi_str::slice::{
     cut_in, get_in, split_at_in, strip_in, strip_prefix_in, strip_suffix_in, trim_in,
 };
-use ansi_str::split::{part_in, split_in};
+use ansi_str::split::{AnsiSplit, part_in, split_in};
 use ansi_str::{AnsiStr, ansi_is_whole, edit};
 use refusing::Refusing;
-use std::alloc::{AllocError, Allocator, Global};
-use std::borrow::CowStr;
+use std::alloc::{Allocator, Global};
 
-/// Checks all parts or lines, or their number. After an `Err`, and after the last one, none follows.
-pub fn check_texts<'t, A, I>(check: &mut Check<'_>, mut texts: I)
-where
-    A: Allocator,
-    I: Iterator<Item = Result<CowStr<'t, A>, AllocError>>,
-{
+/// Checks all parts, or their number. After an `Err`, and after the last part, no part follows.
+fn check_parts<A: Allocator + Copy>(check: &mut Check<'_>, mut parts: AnsiSplit<'_, A>) {
     let mut count = 0usize;
     for _ in 0..usize::MAX {
-        let Some(text) = texts.next() else {
-            break;
-        };
-        check.text_or_err(text);
-        if check.is_err {
+        if !check.next_text(parts.next()) {
             break;
         }
         count = count.saturating_add(1);
     }
     for _ in 0..3 {
-        if texts.next().is_some() {
-            check.fail("a text after the end");
-        }
+        check.end_of_texts(parts.next().is_none());
     }
     check.count(count);
+}
+
+/// Checks all lines. After an `Err`, and after the last line, no line follows.
+pub fn check_lines<A: Allocator + Copy>(check: &mut Check<'_>, mut lines: AnsiWrap<'_, A>) {
+    for _ in 0..usize::MAX {
+        if !check.next_text(lines.next()) {
+            break;
+        }
+    }
+    for _ in 0..3 {
+        check.end_of_texts(lines.next().is_none());
+    }
 }
 
 fn check_sides<T: AnsiStr>(check: &mut Check<'_>, text: &T, mid: usize) {
@@ -60,7 +62,7 @@ pub fn make_call<T: AnsiStr>(check: &mut Check<'_>, text: &T, call: &Call<'_>) {
         Call::Get(range) => range.make_call(check, text, false),
         Call::Cut(range) => range.make_call(check, text, true),
         Call::SplitAt(mid) => check_sides(check, text, mid),
-        Call::Split(pat) => check_texts(check, text.ansi_split(alloc, pat)),
+        Call::Split(pat) => check_parts(check, text.ansi_split(alloc, pat)),
         Call::Find(pat) => check.number_or_none(text.ansi_find(pat)),
         Call::StartsWith(pat) => check.test(text.ansi_starts_with(pat)),
         Call::EndsWith(pat) => check.test(text.ansi_ends_with(pat)),
@@ -115,7 +117,7 @@ pub fn make_call_in(check: &mut Check<'_>, heap: &Refusing<Global>, call: &Call<
             check_cut_in(check, heap, start, end);
         }
         Call::SplitAt(mid) => check_sides_in(check, heap, mid),
-        Call::Split(pat) => check_texts(check, split_in(heap, text, pat)),
+        Call::Split(pat) => check_parts(check, split_in(heap, text, pat)),
         Call::Part(pat, index) => check.option_or_err(part_in(heap, text, pat, index), "1"),
         Call::PartInterval(pat, index) => check.interval(part_interval(text, pat, index)),
         Call::Edit(one) => check.option_or_err(edit(heap, text, &[one]), "2"),
