@@ -119,7 +119,7 @@ static void do_edits(void) {
     expect("an edit that is refused", edited.status == ANSI_STR_REFUSED);
 }
 
-/* Each of the statuses but two: one occurs above, and vectors.c has out of memory. */
+/* Each of the statuses but two: one occurs above, and rows.c has out of memory. */
 static void fail(void) {
     char buffer[] = "as it is";
     expect("no such part", ansi_str_part("a:b", 3, ":", 1, 2, buffer, 8).status == ANSI_STR_NO);

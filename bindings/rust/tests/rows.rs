@@ -1,31 +1,40 @@
-//! Passes the rows of texts and results that the library for C is tested with.
+//! Passes the rows of texts and results, which `rows/README.md` describes.
 
-use ansi_str::{get_blocks, AnsiStr, Color};
+use ansi_str::columns::{Alignment, AnsiColumns};
+use ansi_str::{get_blocks, AnsiBlock, AnsiStr, Color};
+use std::borrow::Cow;
+use std::collections::BTreeMap;
 
 const ROWS: &str = include_str!("../../../crates/ansi_rows/stdin");
 
-/// A row in which each `\{N:TEXT}` is TEXT N times.
-fn expanded(row: &str) -> String {
-    let mut out = String::new();
-    let mut rest = row;
-    while let Some((before, repeat)) = rest.split_once("\\{") {
-        let (count, repeat) = repeat.split_once(':').expect("a number");
-        let (text, after) = repeat.split_once('}').expect("an end");
-        out.push_str(before);
-        out.push_str(&text.repeat(number(count)));
-        rest = after;
-    }
-    out + rest
-}
+/// The calls that this crate doesn't have, and those that say less than another call's rows.
+const LACKING: [&str; 12] = [
+    "is_whole",
+    "part",
+    "part_interval",
+    "edit",
+    "split_at",
+    "block",
+    "block_order",
+    "count_parts",
+    "count_blocks",
+    "items",
+    "lines",
+    "link_at",
+];
 
-/// A field's text, where `\xHH` is the byte HH, or `None` where it isn't UTF-8.
-fn text_of(field: &str) -> Option<String> {
+/// A field: a text, which begins with `x`, or another one as it is. `None` for a text that isn't UTF-8.
+fn field_of(field: &str) -> Option<String> {
+    let pieces = match field.strip_prefix('x') {
+        Some(pieces) => pieces,
+        None => return Some(field.to_string()),
+    };
     let mut bytes = Vec::new();
-    let mut pieces = field.split("\\x");
-    bytes.extend(pieces.next()?.bytes());
-    for piece in pieces {
-        bytes.push(u8::from_str_radix(&piece[..2], 16).expect("two digits"));
-        bytes.extend(piece[2..].bytes());
+    for piece in pieces.split('+') {
+        let (count, digits) = piece.split_once('*').unwrap_or(("1", piece));
+        let byte_of = |at| u8::from_str_radix(&digits[at..at + 2], 16).expect("two digits");
+        let once: Vec<u8> = (0..digits.len()).step_by(2).map(byte_of).collect();
+        bytes.extend(once.repeat(number(count)));
     }
     String::from_utf8(bytes).ok()
 }
@@ -88,126 +97,118 @@ fn attributes_of(style: &ansi_str::Style) -> usize {
         .sum()
 }
 
-fn expect_blocks(text: &str, count: usize, fields: &[&str], row: &str) {
-    let blocks: Vec<_> = get_blocks(text).collect();
-    assert_eq!(blocks.len(), count, "{row}");
-    for (block, want) in blocks.iter().zip(fields.chunks(5)) {
-        assert_eq!(block.text(), text_of(want[0]).unwrap(), "{row}");
-        assert_eq!(attributes_of(block.style()), number(want[1]), "{row}");
-        assert_eq!(block.style().foreground(), color_of(want[2]), "{row}");
-        assert_eq!(block.style().background(), color_of(want[3]), "{row}");
-        assert_eq!(block.has_ansi(), want[4] == "1", "{row}");
+/// What a row says of a block: its text, the attributes and colors of its style, and whether that has something to close.
+fn is_block(block: &AnsiBlock<'_>, want: &[String]) -> bool {
+    block.text() == want[0]
+        && attributes_of(block.style()) == number(&want[1])
+        && block.style().foreground() == color_of(&want[2])
+        && block.style().background() == color_of(&want[3])
+        && block.has_ansi() == (want[4] == "1")
+}
+
+/// The same with the sequences around its text.
+fn is_styled_block(block: &AnsiBlock<'_>, want: &[String]) -> bool {
+    let style = block.style();
+    style.start().to_string() == want[0]
+        && block.text() == want[1]
+        && style.end().to_string() == want[2]
+}
+
+fn alignment_of(word: &str) -> Alignment {
+    match word {
+        "Left" => Alignment::Left,
+        "Center" => Alignment::Center,
+        "Right" => Alignment::Right,
+        _ => panic!("no alignment: {word}"),
     }
 }
 
-fn expect_styled_blocks(text: &str, count: usize, fields: &[&str], row: &str) {
-    let blocks: Vec<_> = get_blocks(text).collect();
-    assert_eq!(blocks.len(), count, "{row}");
-    for (block, want) in blocks.iter().zip(fields.chunks(3)) {
-        let style = block.style();
-        assert_eq!(
-            style.start().to_string(),
-            text_of(want[0]).unwrap(),
-            "{row}"
-        );
-        assert_eq!(block.text(), text_of(want[1]).unwrap(), "{row}");
-        assert_eq!(style.end().to_string(), text_of(want[2]).unwrap(), "{row}");
-    }
-}
-
-/// Whether the row is one that a Rust program can ask for, and then passes.
-fn pass(row: &str) -> bool {
-    let fields: Vec<&str> = row.split('\t').collect();
-    // a row whose texts aren't UTF-8 can't be asked for in Rust
-    if fields.iter().any(|field| text_of(field).is_none()) {
-        return false;
-    }
-    let (call, status, want, text, more) = match &fields[..] {
-        [_memory, call, status, want, text, more @ ..] => (call, status, want, text, more),
-        _ => return false,
-    };
-    let text = text_of(text).unwrap();
-    let is_ok = *status == "0";
-    let answer = || is_ok.then(|| text_of(want).unwrap());
-    let argument = |i: usize| text_of(more[i]).unwrap();
-    let position = |i: usize| number(more[i]);
-    match *call {
-        "strip" => assert_eq!(Some(text.ansi_strip().into_owned()), answer(), "{row}"),
-        "trim" => assert_eq!(Some(text.ansi_trim().into_owned()), answer(), "{row}"),
-        "cut" => {
-            let got = text.ansi_get(position(0)..position(1));
-            assert_eq!(got.map(|cut| cut.into_owned()), answer(), "{row}");
+/// Makes the call of a row with these fields. `None` if this crate doesn't have it, and else whether it returns what the row says.
+fn pass(call: &str, status: &str, want: &str, text: &str, more: &[String]) -> Option<bool> {
+    let is_ok = status == "0";
+    let answer = is_ok.then_some(want);
+    let is = |got: Option<Cow<'_, str>>| got.as_deref() == answer;
+    let is_number = |got: usize| got == number(want);
+    let are = |got: Vec<Cow<'_, str>>| got == more[1..] && is_number(got.len());
+    let position = |index: usize| number(&more[index]);
+    let block = || get_blocks(text).nth(position(0));
+    Some(match call {
+        "strip" => is(Some(text.ansi_strip())),
+        "trim" => is(Some(text.ansi_trim())),
+        "cut" => is(text.ansi_get(position(0)..position(1))),
+        "left" | "right" if !is_ok => text.ansi_get(position(0)..).is_none(),
+        "left" => is(Some(text.ansi_split_at(position(0)).0)),
+        "right" => is(Some(text.ansi_split_at(position(0)).1)),
+        "strip_prefix" => is(text.ansi_strip_prefix(&more[0])),
+        "strip_suffix" => is(text.ansi_strip_suffix(&more[0])),
+        "find" => text.ansi_find(&more[0]) == answer.map(number),
+        "starts_with" => text.ansi_starts_with(&more[0]) == is_ok,
+        "ends_with" => text.ansi_ends_with(&more[0]) == is_ok,
+        "is_char_boundary" => text.ansi_is_char_boundary(position(0)) == is_ok,
+        "floor_char_boundary" => is_number(text.ansi_floor_char_boundary(position(0))),
+        "has_any" => text.ansi_has_any() == is_ok,
+        "split" => are(text.ansi_split(&more[0]).collect()),
+        "blocks" => {
+            let blocks: Vec<_> = get_blocks(text).collect();
+            is_number(blocks.len())
+                && blocks
+                    .iter()
+                    .zip(more.chunks(5))
+                    .all(|(block, want)| is_block(block, want))
         }
-        "left" if is_ok => assert_eq!(
-            text.ansi_split_at(position(0)).0,
-            answer().unwrap(),
-            "{row}"
-        ),
-        "right" if is_ok => assert_eq!(
-            text.ansi_split_at(position(0)).1,
-            answer().unwrap(),
-            "{row}"
-        ),
-        "strip_prefix" => {
-            let got = text
-                .ansi_strip_prefix(&argument(0))
-                .map(|left| left.into_owned());
-            assert_eq!(got, answer(), "{row}");
+        "styled_blocks" => {
+            let blocks: Vec<_> = get_blocks(text).collect();
+            let mut pairs = blocks.iter().zip(more.chunks(3));
+            is_number(blocks.len()) && pairs.all(|(block, want)| is_styled_block(block, want))
         }
-        "strip_suffix" => {
-            let got = text
-                .ansi_strip_suffix(&argument(0))
-                .map(|left| left.into_owned());
-            assert_eq!(got, answer(), "{row}");
-        }
-        "find" => assert_eq!(
-            text.ansi_find(&argument(0)),
-            is_ok.then(|| number(want)),
-            "{row}"
-        ),
-        "starts_with" => assert_eq!(text.ansi_starts_with(&argument(0)), is_ok, "{row}"),
-        "ends_with" => assert_eq!(text.ansi_ends_with(&argument(0)), is_ok, "{row}"),
-        "is_char_boundary" => assert_eq!(text.ansi_is_char_boundary(position(0)), is_ok, "{row}"),
-        "floor_char_boundary" => assert_eq!(
-            text.ansi_floor_char_boundary(position(0)),
-            number(want),
-            "{row}"
-        ),
-        "has_any" => assert_eq!(text.ansi_has_any(), is_ok, "{row}"),
-        "split" => {
-            let pat = argument(0);
-            let parts: Vec<_> = text.ansi_split(&pat).collect();
-            let wants: Vec<_> = more[1..]
-                .iter()
-                .map(|part| text_of(part).unwrap())
-                .collect();
-            assert_eq!(parts.len(), number(want), "{row}");
-            assert_eq!(parts, wants, "{row}");
-        }
-        "blocks" => expect_blocks(&text, number(want), more, row),
-        "styled_blocks" => expect_styled_blocks(&text, number(want), more, row),
-        "block_start" if is_ok => {
-            let block = get_blocks(&text).nth(position(0)).unwrap();
-            assert_eq!(
-                block.style().start().to_string(),
-                answer().unwrap(),
-                "{row}"
-            );
-        }
-        "block_end" if is_ok => {
-            let block = get_blocks(&text).nth(position(0)).unwrap();
-            assert_eq!(block.style().end().to_string(), answer().unwrap(), "{row}");
-        }
-        _ => return false,
-    }
-    true
+        "block_start" => is(block().map(|block| block.style().start().to_string().into())),
+        "block_end" => is(block().map(|block| block.style().end().to_string().into())),
+        "width" => is_number(text.ansi_width()),
+        "fitting" => is_number(text.ansi_fitting(position(0))),
+        "front" => is(Some(text.ansi_cut(..text.ansi_fitting(position(0))))),
+        "truncate" => is(Some(text.ansi_truncate(position(0), &more[1]))),
+        "pad" => is(Some(text.ansi_pad(position(0), alignment_of(&more[1])))),
+        "wrap" => are(text.ansi_wrap(position(0)).map(Cow::from).collect()),
+        _ if LACKING.contains(&call) => return None,
+        _ => panic!("no call of a row: {call}"),
+    })
 }
 
 #[test]
 fn rows_pass() {
-    let passed = ROWS
-        .lines()
-        .filter(|row| !row.is_empty() && !row.starts_with('#') && pass(&expanded(row)))
-        .count();
-    assert!(passed >= 200, "only {passed} rows were tried");
+    let mut passed = 0;
+    let mut passed_over = BTreeMap::new();
+    let rows = (1..).zip(ROWS.lines());
+    for (number, row) in rows.filter(|(_, row)| !row.is_empty()) {
+        let fields: Option<Vec<String>> = row.split(' ').map(field_of).collect();
+        let (call, made) = match fields.as_deref() {
+            Some([_memory, _borrows, call, status, want, text, more @ ..]) => {
+                (call.as_str(), pass(call, status, want, text, more))
+            }
+            Some(_) => panic!("line {number}: no row"),
+            // a row with a text that isn't UTF-8 can't be asked for in Rust
+            None => ("not UTF-8", None),
+        };
+        match made {
+            Some(is_as_said) => {
+                assert!(is_as_said, "line {number}: {fields:?}");
+                passed += 1;
+            }
+            None => *passed_over.entry(call.to_string()).or_insert(0) += 1,
+        }
+    }
+    println!("\nrows in Rust: {passed} passed; passed over: {passed_over:?}");
+}
+
+#[test]
+fn a_truncated_or_padded_text_that_fits_is_a_borrow() {
+    for text in ["abc", "\x1b[1mabc\x1b[0m"] {
+        assert!(matches!(text.ansi_truncate(3, "…"), Cow::Borrowed(_)));
+        assert!(matches!(
+            text.ansi_pad(2, Alignment::Right),
+            Cow::Borrowed(_)
+        ));
+        assert!(matches!(text.ansi_pad(4, Alignment::Right), Cow::Owned(_)));
+    }
+    assert!(matches!("abc".ansi_truncate(2, ""), Cow::Borrowed("ab")));
 }

@@ -1,4 +1,5 @@
 //! The calls that rows name.
+use crate::columns::ColumnCall;
 use crate::ranges::AnyRange;
 use crate::rows::Row;
 use ansi_str::Edit;
@@ -40,6 +41,7 @@ pub enum Call<'r> {
     Block(usize, BlockCall<'r>),
     Items,
     IsWhole,
+    Columns(ColumnCall<'r>),
 }
 
 impl<'r> Call<'r> {
@@ -98,7 +100,7 @@ impl<'r> Call<'r> {
             "ends_with" => Call::EndsWith(row.argument(0)?),
             "is_char_boundary" => Call::IsCharBoundary(row.number(0)?),
             "floor_char_boundary" => Call::FloorCharBoundary(row.number(0)?),
-            _ => return None,
+            _ => Call::Columns(ColumnCall::new(row)?),
         })
     }
 }

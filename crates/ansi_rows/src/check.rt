@@ -70,6 +70,9 @@ impl<'r> Check<'r> {
 
     /// The call returned a text that is a borrow or is owned.
     pub fn borrow(&mut self, is_borrow: bool) {
+        if self.row.takes_memory.is_none() {
+            return;
+        }
         let letter = if is_borrow { "b" } else { "o" };
         match self.borrows.strip_prefix(letter) {
             Some(rest) => self.borrows = rest,
@@ -122,6 +125,25 @@ impl<'r> Check<'r> {
         match answer {
             Ok(text) => self.cow(&text),
             Err(_) => self.is_err = true,
+        }
+    }
+
+    /// The next text of an iterator. Returns whether there was one; an `Err` counts as none.
+    pub fn next_text<A: Allocator>(
+        &mut self,
+        next: Option<Result<CowStr<'_, A>, AllocError>>,
+    ) -> bool {
+        match next {
+            Some(text) => self.text_or_err(text),
+            None => return false,
+        }
+        !self.is_err
+    }
+
+    /// The iterator was asked again after its end.
+    pub fn end_of_texts(&mut self, is_none: bool) {
+        if !is_none {
+            self.fail("a text after the end");
         }
     }
 

@@ -1,13 +1,13 @@
 //! Makes the call of each row of its standard input, and reports each row whose call returns
 //! something else than the row says. At the end it reports how many rows of each call passed.
 //!
-//! A row is a line. An empty line and a line that begins with `#` are skipped. The module `rows`
-//! documents the fields of a row.
+//! A row is a line, and an empty line is skipped. The module `rows` documents the fields of a row.
 #![tactic(auto)]
 
 mod blocks;
 mod calls;
 mod check;
+mod columns;
 mod items;
 mod ranges;
 mod rows;
@@ -74,7 +74,7 @@ fn main(rt: HostRuntime) -> io::Result<()> {
     };
     for (index, line) in rt.lines(alloc).enumerate() {
         let line = line?;
-        if line.is_empty() || line.starts_with('#') {
+        if line.is_empty() {
             continue;
         }
         if let Some(fault) = tried(alloc, line.as_str(), &mut tally)? {

@@ -1,70 +1,52 @@
-//! The fields of a row, separated by TABs. `\xHH` is the byte HH, and `\{N:TEXT}` is TEXT repeated
-//! N times.
-//!
-//! The fields are the memory, the call, the status, the result, the text, and the other arguments
-//! of the call. For `split`, `split_at`, `blocks`, `styled_blocks` and `items` the texts that the
-//! call returns follow, and the result is their number.
-//!
-//! - The memory is `+` if the call allocates and `-` if it doesn't. Then it has a letter for each
-//!   text that the call returns: `b` for a borrow and `o` for an owned text.
-//! - The status is 0 for success; 1 if what was asked for doesn't exist; 2 if a position or an edit
-//!   is refused; 3 if a text isn't UTF-8, so that no caller in Rattle can make the call.
-//! - The result is a text, a number or, for an interval, its two ends with a comma between them.
+//! The fields of a row. `rows/README.md` describes the rows and the lines that this program reads.
 use std::alloc::Global;
 
 /// The contents of a line.
 #[derive(Drop)]
 pub enum Line {
     Fields(Vec<String>),
-    /// A field isn't UTF-8.
+    /// A text isn't UTF-8.
     NotUtf8,
-    /// An escape is malformed, or the program is out of memory.
+    /// A field is malformed, or the program is out of memory.
     Unread,
 }
 
-fn push_repeated(expanded: &mut String, piece: &str) -> Option<()> {
-    let (count, piece) = piece.split_once(':')?;
-    let (text, after) = piece.split_once('}')?;
-    for _ in 0..count.parse::<u32>().ok()? {
-        expanded.push_str(text).ok()?;
-    }
-    expanded.push_str(after).ok()
-}
-
-/// The line with each `\{N:TEXT}` expanded.
-fn expanded(alloc: Global, line: &str) -> Option<String> {
-    let mut pieces = line.split("\\{");
-    let mut expanded = String::from_str(alloc, pieces.next()?).ok()?;
-    for piece in pieces {
-        push_repeated(&mut expanded, piece)?;
-    }
-    Some(expanded)
-}
-
-fn push_byte(bytes: &mut Vec<u8>, piece: &str) -> Option<()> {
-    let (digits, after) = piece.split_at_checked(2)?;
-    bytes.push(u8::from_str_radix(digits, 16).ok()?).ok()?;
-    bytes.extend_from_slice(after.as_bytes()).ok()
-}
-
-/// A field with each `\xHH` replaced by the byte HH.
-fn bytes_of(alloc: Global, field: &str) -> Option<Vec<u8>> {
-    let mut pieces = field.split("\\x");
-    let mut bytes = Vec::from_slice(alloc, pieces.next()?.as_bytes()).ok()?;
-    for piece in pieces {
-        push_byte(&mut bytes, piece)?;
+/// The bytes of hexadecimal digits.
+fn bytes_of(alloc: Global, digits: &str) -> Option<Vec<u8>> {
+    let mut bytes = Vec::new(alloc);
+    for place in (0..digits.len()).step_by(2) {
+        let pair = digits.get(place..place.saturating_add(2))?;
+        bytes.push(u8::from_str_radix(pair, 16).ok()?).ok()?;
     }
     Some(bytes)
 }
 
+/// The bytes of a text: pieces with a `+` between them, of which `N*HEX` is HEX repeated N times.
+fn text_of(alloc: Global, pieces: &str) -> Option<Vec<u8>> {
+    let mut bytes = Vec::new(alloc);
+    for piece in pieces.split('+') {
+        let (count, digits) = piece.split_once('*').unwrap_or(("1", piece));
+        let once = bytes_of(alloc, digits)?;
+        for _ in 0..count.parse::<u32>().ok()? {
+            bytes.extend_from_slice(once.as_slice()).ok()?;
+        }
+    }
+    Some(bytes)
+}
+
+/// A text, which begins with `x`, or another field as it is.
+fn field_of(alloc: Global, field: &str) -> Option<Vec<u8>> {
+    match field.strip_prefix('x') {
+        Some(pieces) => text_of(alloc, pieces),
+        None => Vec::from_slice(alloc, field.as_bytes()).ok(),
+    }
+}
+
 impl Line {
     pub fn new(alloc: Global, line: &str) -> Self {
-        let Some(line) = expanded(alloc, line) else {
-            return Line::Unread;
-        };
         let mut fields = Vec::new(alloc);
-        for field in line.split('\t') {
-            let Some(bytes) = bytes_of(alloc, field) else {
+        for field in line.split(' ') {
+            let Some(bytes) = field_of(alloc, field) else {
                 return Line::Unread;
             };
             let Ok(text) = String::from_utf8(bytes) else {
@@ -81,7 +63,8 @@ impl Line {
 /// A row by its fields.
 #[derive(Clone, Copy)]
 pub struct Row<'r> {
-    pub takes_memory: bool,
+    /// Whether the call allocates, if the row says it.
+    pub takes_memory: Option<bool>,
     /// A `b` or an `o` for each text that the call returns.
     pub borrows: &'r str,
     pub call: &'r str,
@@ -98,18 +81,18 @@ pub struct Row<'r> {
 impl<'r> Row<'r> {
     /// The row with these fields, or `None` if they don't form a row.
     pub fn new(fields: &'r [String]) -> Option<Self> {
-        let [memory, call, status, answer, text, more @ ..] = fields else {
+        let [memory, borrows, call, status, result, text, more @ ..] = fields else {
             return None;
         };
         let gives = match call.as_str() {
-            "split" | "split_at" => more.get(1..)?,
+            "split" | "split_at" | "lines" | "wrap" => more.get(1..)?,
             "blocks" | "styled_blocks" | "items" => more,
-            _ if status.as_str() == "0" => std::slice::from_ref(answer),
+            _ if status.as_str() == "0" => std::slice::from_ref(result),
             _ => &[],
         };
         Some(Row {
-            takes_memory: memory.starts_with('+'),
-            borrows: memory.as_str().get(1..)?,
+            takes_memory: (memory.as_str() != "?").then_some(memory.as_str() == "+"),
+            borrows: borrows.as_str(),
             call: call.as_str(),
             is_count: call.starts_with("count_"),
             status: status.as_str(),

@@ -2,8 +2,10 @@
 use crate::blocks::{check_block_at, check_blocks, check_styled_blocks};
 use crate::calls::Call;
 use crate::check::Check;
+use crate::columns::{make_column_call, make_column_call_in};
 use crate::items::check_items;
 use crate::ranges::is_good_range_of;
+use ansi_columns::wrap::AnsiWrap;
 use ansi_str::search::part_interval;
 use ansi_str::slice::{
     cut_in, get_in, split_at_in, strip_in, strip_prefix_in, strip_suffix_in, trim_in,
@@ -13,29 +15,31 @@ use ansi_str::{AnsiStr, ansi_is_whole, edit};
 use refusing::Refusing;
 use std::alloc::{Allocator, Global};
 
-fn expect_end<A: Allocator + Copy>(check: &mut Check<'_>, parts: &mut AnsiSplit<'_, A>) {
-    for _ in 0..3 {
-        if parts.next().is_some() {
-            check.fail("a part after the end");
-        }
-    }
-}
-
 /// Checks all parts, or their number. After an `Err`, and after the last part, no part follows.
 fn check_parts<A: Allocator + Copy>(check: &mut Check<'_>, mut parts: AnsiSplit<'_, A>) {
     let mut count = 0usize;
     for _ in 0..usize::MAX {
-        let Some(part) = parts.next() else {
-            break;
-        };
-        check.text_or_err(part);
-        if check.is_err {
+        if !check.next_text(parts.next()) {
             break;
         }
         count = count.saturating_add(1);
     }
-    expect_end(check, &mut parts);
+    for _ in 0..3 {
+        check.end_of_texts(parts.next().is_none());
+    }
     check.count(count);
+}
+
+/// Checks all lines. After an `Err`, and after the last line, no line follows.
+pub fn check_lines<A: Allocator + Copy>(check: &mut Check<'_>, mut lines: AnsiWrap<'_, A>) {
+    for _ in 0..usize::MAX {
+        if !check.next_text(lines.next()) {
+            break;
+        }
+    }
+    for _ in 0..3 {
+        check.end_of_texts(lines.next().is_none());
+    }
 }
 
 fn check_sides<T: AnsiStr>(check: &mut Check<'_>, text: &T, mid: usize) {
@@ -67,11 +71,17 @@ pub fn make_call<T: AnsiStr>(check: &mut Check<'_>, text: &T, call: &Call<'_>) {
             index,
         ))),
         Call::HasAny => check.test(text.ansi_has_any()),
+        Call::Columns(call) => make_column_call(check, text, call),
         _ => {}
     }
 }
 
-fn check_cut_in<A: Allocator>(check: &mut Check<'_>, heap: A, start: usize, end: Option<usize>) {
+pub fn check_cut_in<A: Allocator>(
+    check: &mut Check<'_>,
+    heap: A,
+    start: usize,
+    end: Option<usize>,
+) {
     let text = check.row.text;
     if is_good_range_of(check.alloc, &text, start, end) {
         check.text_or_err(cut_in(heap, text, start, end));
@@ -117,6 +127,7 @@ pub fn make_call_in(check: &mut Check<'_>, heap: &Refusing<Global>, call: &Call<
         Call::Block(index, asked) => check_block_at(check, index, asked),
         Call::Items => check_items(check),
         Call::IsWhole => check.test(ansi_is_whole(text)),
+        Call::Columns(call) => make_column_call_in(check, heap, call),
         _ => make_call(check, &text, call),
     }
 }

@@ -25,7 +25,11 @@ fn try_in(check: &mut Check<'_>, call: &Call<'_>) {
     check.begin("with each request granted");
     let requests = requests_of(check, call, u64::MAX);
     check.end();
-    if (requests > 0) != check.row.takes_memory {
+    if check
+        .row
+        .takes_memory
+        .is_some_and(|takes_memory| takes_memory != (requests > 0))
+    {
         check.fail("whether it takes memory");
     }
     for granted in 0..requests.min(MOST_REFUSED) {

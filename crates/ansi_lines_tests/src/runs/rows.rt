@@ -1,5 +1,4 @@
-//! Runs of words and an input alone. The built program has the same rows: `rows.tsv` of
-//! `ansi_lines`.
+//! Runs of words and an input alone. The built program has the same rows: `rows/program.tsv`.
 use super::{Plan, Row, expect_end, run_with};
 use std::alloc::Global;
 use std::process::Abort;

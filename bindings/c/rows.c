@@ -1,9 +1,7 @@
 /* Makes the calls of rows of texts and results, and exits with 1 if a result differs.
 
-   A row is one line of standard input with fields between TABs: a call, the status, the result, the text, and then the call's
-   other arguments. `\xHH` is the byte HH in a field; `bindings/test` has written out each `\{N:TEXT}`, which is TEXT N
-   times. The result is a text, or the length if a call writes none; for `split`, `blocks` and `styled_blocks` it is their
-   number, and the texts follow the arguments.
+   Each line of standard input is a row as ../../rows/README.md says, of which the fields on memory are passed over. The rows of
+   LACKING and those with too many fields are counted and passed over too.
 
    Each call for a text is repeated with a buffer that is one byte too small, with a larger one, and with each allocation
    refused in turn. With the larger buffer nothing may be written past the result, with the others nothing at all. Of the
@@ -15,6 +13,15 @@
 #include <string.h>
 
 enum { MOST_FIELDS = 8192, GUARD = 0x5a };
+
+/* The calls that C doesn't have, and how many rows were passed over for each; at last, those of rows with too many fields. */
+static struct {
+    const char *call;
+    long rows;
+} LACKING[] = {{"count_parts", 0}, {"part_interval", 0}, {"split_at", 0}, {"count_blocks", 0}, {"block_order", 0},
+               {"items", 0},       {"lines", 0},         {"link_at", 0},  {"too many fields", 0}};
+
+enum { LACKING_COUNT = sizeof LACKING / sizeof LACKING[0] };
 
 /* Allocations that are still granted; a negative number grants all. */
 static long granted = -1;
@@ -55,7 +62,7 @@ static long line_number = 0;
 
 static void expect(const char *what, int is_so) {
     if (!is_so) {
-        fprintf(stderr, "vectors: line %ld: %s\n", line_number, what);
+        fprintf(stderr, "rows in C: line %ld: %s\n", line_number, what);
         exit(1);
     }
 }
@@ -102,6 +109,17 @@ static ansi_str_edit_step edit_of(const struct row *r, size_t i) {
     }
 }
 
+static uint32_t alignment_of(const struct text *word) {
+    static const char *const WORDS[] = {"Left", "Center", "Right"};
+    static const uint32_t ALIGNMENTS[] = {ANSI_STR_LEFT, ANSI_STR_CENTER, ANSI_STR_RIGHT};
+    for (size_t i = 0; i < 3; i++) {
+        if (strcmp(word->bytes, WORDS[i]) == 0) {
+            return ALIGNMENTS[i];
+        }
+    }
+    return UINT32_MAX;
+}
+
 /* The edits of a row. */
 static ansi_str_edit_step *edits_of(const struct row *r, size_t *count) {
     *count = (r->count - 4) / 4;
@@ -138,6 +156,12 @@ static ansi_str_answer call(const struct row *r, char *buffer, size_t len) {
         return ansi_str_block_start(TEXT(t), position(r, 0), buffer, len);
     } else if (strcmp(name, "block_end") == 0) {
         return ansi_str_block_end(TEXT(t), position(r, 0), buffer, len);
+    } else if (strcmp(name, "front") == 0) {
+        return ansi_str_cut(TEXT(t), 0, ansi_str_fitting(TEXT(t), position(r, 0)).len, buffer, len);
+    } else if (strcmp(name, "truncate") == 0) {
+        return ansi_str_truncate(TEXT(t), position(r, 0), TEXT(argument(r, 1)), buffer, len);
+    } else if (strcmp(name, "pad") == 0) {
+        return ansi_str_pad(TEXT(t), position(r, 0), alignment_of(argument(r, 1)), buffer, len);
     }
     expect("the call is known", strcmp(name, "edit") == 0);
     size_t count;
@@ -212,11 +236,12 @@ static long expect_writes(const struct row *r, uint32_t status, const struct tex
     return requests;
 }
 
-/* A call that writes nothing. */
+/* A call that writes nothing, and doesn't allocate. */
 static int expect_told(const struct row *r) {
     const char *name = r->fields[0].bytes;
     const struct text *t = text_of(r);
     ansi_str_answer answer;
+    granted = 0;
     if (strcmp(name, "find") == 0) {
         answer = ansi_str_find(TEXT(t), TEXT(argument(r, 0)));
     } else if (strcmp(name, "starts_with") == 0) {
@@ -231,9 +256,15 @@ static int expect_told(const struct row *r) {
         answer = ansi_str_is_whole(TEXT(t));
     } else if (strcmp(name, "has_any") == 0) {
         answer = ansi_str_has_any(TEXT(t));
+    } else if (strcmp(name, "width") == 0) {
+        answer = ansi_str_width(TEXT(t));
+    } else if (strcmp(name, "fitting") == 0) {
+        answer = ansi_str_fitting(TEXT(t), position(r, 0));
     } else {
+        granted = -1;
         return 0;
     }
+    granted = -1;
     expect("status", answer.status == status_of(r));
     expect("position", answer.len == number(r, 2));
     return 1;
@@ -282,37 +313,75 @@ static void expect_next_part(ansi_str_part_walk *walk, const struct text *wanted
     free(buffer);
 }
 
-/* All parts, in one call, one after the other and by their index. */
-static void expect_parts(const struct row *r) {
-    const struct text *t = text_of(r), *pattern = argument(r, 0);
+/* A call for the parts or the lines of a row's text. */
+static ansi_str_answers list(const struct row *r, char *buffer, size_t len, size_t *ends, size_t most) {
+    const struct text *t = text_of(r);
+    return strcmp(r->fields[0].bytes, "split") == 0 ? ansi_str_split(TEXT(t), TEXT(argument(r, 0)), buffer, len, ends, most)
+                                                    : ansi_str_wrap(TEXT(t), position(r, 0), buffer, len, ends, most);
+}
+
+/* With this room, which is too small, a call for all parts or lines writes nothing, and returns how much they need. */
+static void expect_too_small(const struct row *r, size_t room, size_t most, size_t len, size_t count) {
+    size_t *ends = __real_malloc((count + 1) * sizeof *ends);
+    char *buffer = guarded(len);
+    memset(ends, 0, (count + 1) * sizeof *ends);
+    ansi_str_answers answer = list(r, buffer, room, ends, most);
+    expect("too small", answer.status == ANSI_STR_TOO_SMALL && answer.count == count && answer.len == len);
+    expect("nothing is written", is_guard(buffer, 0, len + 1));
+    for (size_t i = 0; i <= count; i++) {
+        expect("no end is written", ends[i] == 0);
+    }
+    free(buffer);
+    free(ends);
+}
+
+/* All parts or lines in one call: with room for them, with each allocation refused in turn, and with too little room. */
+static void expect_list(const struct row *r) {
     size_t count = number(r, 2), len = 0;
-    const struct text *parts = &r->fields[5];
-    expect("parts", r->count == 5 + count);
+    const struct text *wanted = &r->fields[5];
+    expect("as many as the row says", r->count == 5 + count);
     for (size_t i = 0; i < count; i++) {
-        len += parts[i].len;
+        len += wanted[i].len;
     }
     size_t *ends = __real_malloc((count + 1) * sizeof *ends);
     char *buffer = guarded(len);
     ends[count] = 0;
-    uint32_t status = status_of(r);
     ansi_str_answers answer;
     long requests = 0;
     do {
         granted = requests++;
-        answer = ansi_str_split(TEXT(t), TEXT(pattern), buffer, len, ends, count);
+        answer = list(r, buffer, len, ends, count);
     } while (is_wanting(answer.status, buffer, len));
-    expect("status", answer.status == status);
+    expect("memory for a text with ESC alone", requests == 1 || memchr(text_of(r)->bytes, '\x1b', text_of(r)->len) != NULL);
+    expect("status", answer.status == status_of(r));
     expect("how many and how long", answer.count == count && answer.len == len && buffer[len] == GUARD && ends[count] == 0);
-    size_t start = 0;
+    for (size_t i = 0, start = 0; i < count; start = ends[i++]) {
+        expect("each", ends[i] == start + wanted[i].len && memcmp(buffer + start, wanted[i].bytes, wanted[i].len) == 0);
+    }
+    if (count > 0) {
+        expect_too_small(r, len, count - 1, len, count);
+    }
+    if (len > 0) {
+        expect_too_small(r, len - 1, count, len, count);
+    }
+    free(buffer);
+    free(ends);
+}
+
+/* All parts, in one call, one after the other and by their index. */
+static void expect_parts(const struct row *r) {
+    const struct text *t = text_of(r), *pattern = argument(r, 0), *parts = &r->fields[5];
+    size_t count = number(r, 2);
+    uint32_t status = status_of(r);
+    expect_list(r);
     ansi_str_part_walk walk;
     expect("a walk", ansi_str_parts_begin(TEXT(t), TEXT(pattern), &walk).status == status);
     if (status == ANSI_STR_OK) {
         ansi_str_raw_parts_begin_unchecked((const uint8_t *)t->bytes, t->len, (const uint8_t *)pattern->bytes, pattern->len, &walk);
+        expect_one(r, "part", ANSI_STR_NO, count, &EMPTY, 0);
     }
     for (size_t i = 0; i < count; i++) {
         expect_next_part(&walk, &parts[i]);
-        expect("part", ends[i] == start + parts[i].len && memcmp(buffer + start, parts[i].bytes, parts[i].len) == 0);
-        start = ends[i];
         expect_one(r, "part", status, i, &parts[i], 0);
     }
     for (int i = 0; i < 2; i++) {
@@ -320,19 +389,6 @@ static void expect_parts(const struct row *r) {
         ansi_str_answer past = ansi_str_parts_next(&walk, &part, NULL, 0);
         expect("no part is left", past.status == ANSI_STR_NO && past.len == 0 && part.text_len == 0);
     }
-    if (status == ANSI_STR_OK) {
-        expect_one(r, "part", ANSI_STR_NO, count, &EMPTY, 0);
-        memset(buffer, GUARD, len);
-        answer = ansi_str_split(TEXT(t), TEXT(pattern), buffer, len, ends, count - 1);
-        expect("too few ends", answer.status == ANSI_STR_TOO_SMALL && answer.count == count && answer.len == len);
-        if (len > 0) {
-            answer = ansi_str_split(TEXT(t), TEXT(pattern), buffer, len - 1, ends, count);
-            expect("too small a buffer", answer.status == ANSI_STR_TOO_SMALL && answer.count == count && answer.len == len);
-        }
-        expect("nothing is written", is_guard(buffer, 0, len + 1));
-    }
-    free(buffer);
-    free(ends);
 }
 
 /* A color in a row: its kind and its numbers. */
@@ -512,40 +568,100 @@ static void expect_styled_blocks(const struct row *r) {
     free(blocks);
 }
 
-/* The byte of two hexadecimal digits. */
+/* What no row has: bytes that aren't UTF-8 for a call on columns, an unknown alignment, and no text, tail or buffer. */
+static void expect_failures(void) {
+    char buffer[] = "as it is";
+    const ansi_str_answer answers[] = {ansi_str_width("\xff", 1), ansi_str_fitting("\xff", 1, 1),
+                                       ansi_str_truncate("\xff", 1, 1, ".", 1, buffer, 8),
+                                       ansi_str_truncate("ab", 2, 1, "\xff", 1, buffer, 8),
+                                       ansi_str_pad("\xff", 1, 4, ANSI_STR_RIGHT + 1, buffer, 8)};
+    for (size_t i = 0; i < sizeof answers / sizeof answers[0]; i++) {
+        expect("no UTF-8", answers[i].status == ANSI_STR_NOT_UTF8 && answers[i].len == 0);
+    }
+    size_t end = 0;
+    ansi_str_answers lines = ansi_str_wrap("\xff", 1, 4, buffer, 8, &end, 1);
+    expect("no UTF-8", lines.status == ANSI_STR_NOT_UTF8 && lines.count == 0 && lines.len == 0 && end == 0);
+    lines = ansi_str_wrap(NULL, 0, 0, NULL, 0, NULL, 0);
+    expect("one line", lines.status == ANSI_STR_TOO_SMALL && lines.count == 1 && lines.len == 0);
+    ansi_str_answer answer = ansi_str_pad("ab", 2, 4, ANSI_STR_RIGHT + 1, buffer, 8);
+    expect("an unknown alignment", answer.status == ANSI_STR_REFUSED && answer.len == 0);
+    answer = ansi_str_pad("ab", 2, SIZE_MAX, ANSI_STR_LEFT, buffer, 8);
+    expect("more than there is memory", answer.status == ANSI_STR_OUT_OF_MEMORY && answer.len == 0);
+    expect("the buffer", memcmp(buffer, "as it is", 8) == 0);
+    expect("nothing", ansi_str_width(NULL, 0).status == ANSI_STR_OK);
+    expect("nothing", ansi_str_fitting(NULL, 0, 0).status == ANSI_STR_OK);
+    expect("nothing", ansi_str_truncate(NULL, 0, 0, NULL, 0, NULL, 0).status == ANSI_STR_OK);
+    expect("nothing", ansi_str_pad(NULL, 0, 0, ANSI_STR_LEFT, NULL, 0).status == ANSI_STR_OK);
+}
+
+/* The value of two hexadecimal digits. */
 static char byte_of(const char *digits) {
     char two[3] = {digits[0], digits[1], 0};
     return (char)strtol(two, NULL, 16);
 }
 
-/* The fields of a line. Changes the line: each field ends with a 0. */
-static void read_row(char *line, struct row *r) {
+/* A field: a text, which begins with `x`, nothing for `-`, or a word or number as it is. A 0 follows its bytes. */
+static struct text field_of(const char *field) {
+    struct text text = {__real_malloc(strlen(field) + 1), 0};
+    if (*field != 'x' && *field != '-') {
+        text.len = strlen(field);
+    }
+    memcpy(text.bytes, field, text.len);
+    text.bytes[text.len] = 0;
+    if (*field != 'x') {
+        return text;
+    }
+    for (const char *at = field; *at != 0;) {
+        at++;
+        size_t count = 1, digits = strcspn(at, "*+");
+        if (at[digits] == '*') {
+            count = strtoull(at, NULL, 10);
+            at += digits + 1;
+            digits = strcspn(at, "+");
+        }
+        text.bytes = __real_realloc(text.bytes, text.len + count * digits / 2 + 1);
+        for (const char *end = at + digits; at < end; at += 2) {
+            text.bytes[text.len++] = byte_of(at);
+        }
+        for (size_t i = digits / 2; i < count * digits / 2; i++, text.len++) {
+            text.bytes[text.len] = text.bytes[text.len - digits / 2];
+        }
+        text.bytes[text.len] = 0;
+    }
+    return text;
+}
+
+/* The row of a line, or none if it is passed over. Changes the line. */
+static int read_row(char *line, struct row *r) {
+    const char *memory = strtok(line, " \n"), *borrows = strtok(NULL, " \n"), *field = strtok(NULL, " \n");
+    expect("a call", memory != NULL && borrows != NULL && field != NULL);
+    size_t lacking = 0;
+    while (lacking + 1 < LACKING_COUNT && strcmp(field, LACKING[lacking].call) != 0) {
+        lacking++;
+    }
     r->count = 0;
-    char *to = line;
-    for (char *from = line;; from++) {
-        if (r->count == 0 || *from == '\t' || *from == '\n') {
-            int is_first = r->count == 0;
-            if (!is_first) {
-                r->fields[r->count - 1].len = (size_t)(to - r->fields[r->count - 1].bytes);
-                char end = *from;
-                *to++ = 0;
-                if (end == '\n') {
-                    return;
-                }
-            }
-            expect("fields", r->count < MOST_FIELDS);
-            r->fields[r->count].bytes = to;
-            r->count++;
-            if (!is_first) {
-                continue;
-            }
-        }
-        if (*from == '\\') {
-            *to++ = byte_of(from + 2);
-            from += 3;
-        } else {
-            *to++ = *from;
-        }
+    for (; lacking + 1 == LACKING_COUNT && field != NULL && r->count < MOST_FIELDS; field = strtok(NULL, " \n")) {
+        r->fields[r->count++] = field_of(field);
+    }
+    if (field != NULL) {
+        LACKING[lacking].rows++;
+    }
+    return field == NULL;
+}
+
+static void expect_row(const struct row *r) {
+    const char *name = r->fields[0].bytes;
+    expect("a row", r->count >= 4);
+    if (strcmp(name, "split") == 0) {
+        expect_parts(r);
+    } else if (strcmp(name, "wrap") == 0) {
+        expect_list(r);
+    } else if (strcmp(name, "blocks") == 0) {
+        expect_blocks(r);
+    } else if (strcmp(name, "styled_blocks") == 0) {
+        expect_styled_blocks(r);
+    } else if (!expect_told(r)) {
+        expect_writes(r, status_of(r), &r->fields[2], 0);
     }
 }
 
@@ -553,22 +669,27 @@ int main(void) {
     static struct row r;
     char *line = NULL;
     size_t size = 0;
+    long passed = 0;
     while (getline(&line, &size, stdin) > 0) {
         line_number++;
-        read_row(line, &r);
-        expect("a row", r.count >= 4);
-        if (strcmp(r.fields[0].bytes, "split") == 0) {
-            expect_parts(&r);
-        } else if (strcmp(r.fields[0].bytes, "blocks") == 0) {
-            expect_blocks(&r);
-        } else if (strcmp(r.fields[0].bytes, "styled_blocks") == 0) {
-            expect_styled_blocks(&r);
-        } else if (!expect_told(&r)) {
-            expect_writes(&r, status_of(&r), &r.fields[2], 0);
+        if (*line == '\n') {
+            continue;
+        }
+        if (read_row(line, &r)) {
+            expect_row(&r);
+            passed++;
+        }
+        while (r.count > 0) {
+            free(r.fields[--r.count].bytes);
         }
     }
     free(line);
+    expect_failures();
     expect("memory was missing", wanting > 0);
-    printf("vectors: %ld rows are as they should be, and %ld calls reported lack of memory\n", line_number, wanting);
+    printf("rows in C: %ld passed, and %ld calls reported lack of memory; passed over:", passed, wanting);
+    for (size_t i = 0; i < LACKING_COUNT; i++) {
+        printf("%s %s: %ld", i > 0 ? "," : "", LACKING[i].call, LACKING[i].rows);
+    }
+    printf("\n");
     return 0;
 }

@@ -1,0 +1,109 @@
+//! The results of calls on columns.
+use crate::check::Check;
+use crate::rows::Row;
+use crate::texts::{check_cut_in, check_lines};
+use ansi_columns::AnsiColumns;
+use ansi_columns::columns::fitting;
+use ansi_columns::lines::Lines;
+use ansi_columns::shown::{Alignment, pad, truncate};
+use ansi_columns::wrap::wrap;
+use ansi_str::AnsiStr;
+use refusing::Refusing;
+use std::alloc::{AllocError, Global};
+use std::borrow::CowStr;
+
+#[derive(Clone, Copy)]
+pub enum ColumnCall<'r> {
+    Width,
+    Fitting(usize),
+    /// A cut up to where the text fits.
+    Front(usize),
+    Truncate(usize, &'r str),
+    Pad(usize, Alignment),
+    /// The places of the lines of a wrapped text.
+    Lines(usize),
+    Wrap(usize),
+    LinkAt(usize),
+}
+
+fn alignment_of(word: &str) -> Option<Alignment> {
+    match word {
+        "Left" => Some(Alignment::Left),
+        "Center" => Some(Alignment::Center),
+        "Right" => Some(Alignment::Right),
+        _ => None,
+    }
+}
+
+impl<'r> ColumnCall<'r> {
+    pub fn new(row: &Row<'r>) -> Option<Self> {
+        Some(match row.call {
+            "width" => ColumnCall::Width,
+            "fitting" => ColumnCall::Fitting(row.number(0)?),
+            "front" => ColumnCall::Front(row.number(0)?),
+            "truncate" => ColumnCall::Truncate(row.number(0)?, row.argument(1)?),
+            "pad" => ColumnCall::Pad(row.number(0)?, alignment_of(row.argument(1)?)?),
+            "lines" => ColumnCall::Lines(row.number(0)?),
+            "wrap" => ColumnCall::Wrap(row.number(0)?),
+            "link_at" => ColumnCall::LinkAt(row.number(0)?),
+            _ => return None,
+        })
+    }
+}
+
+/// The longest prefix of a text that fits into `width` columns. Its end is a good position, so the
+/// text can be cut there.
+fn fitting_front<T: AnsiStr>(
+    alloc: Global,
+    text: &T,
+    width: usize,
+) -> Result<CowStr<'_>, AllocError> {
+    text.ansi_cut(alloc, ..text.ansi_fitting(width))
+}
+
+fn check_places(check: &mut Check<'_>, lines: Lines<'_>) {
+    for place in lines {
+        check.interval(Some(place));
+    }
+}
+
+fn check_link(check: &mut Check<'_>, link: Option<&str>) {
+    match link {
+        Some(address) => check.text(address),
+        None => check.none("1"),
+    }
+}
+
+/// Checks what a call of `AnsiColumns` returns.
+pub fn make_column_call<T: AnsiStr>(check: &mut Check<'_>, text: &T, call: ColumnCall<'_>) {
+    let alloc = check.alloc;
+    match call {
+        ColumnCall::Width => check.number_or_none(Some(text.ansi_width())),
+        ColumnCall::Fitting(width) => check.number_or_none(Some(text.ansi_fitting(width))),
+        ColumnCall::Front(width) => check.text_or_err(fitting_front(alloc, text, width)),
+        ColumnCall::Truncate(width, tail) => {
+            check.text_or_err(text.ansi_truncate(alloc, width, tail));
+        }
+        ColumnCall::Pad(width, alignment) => {
+            check.text_or_err(text.ansi_pad(alloc, width, alignment));
+        }
+        ColumnCall::Lines(width) => check_places(check, Lines::new(text.as_text(), width)),
+        ColumnCall::Wrap(width) => check_lines(check, text.ansi_wrap(alloc, width)),
+        ColumnCall::LinkAt(index) => check_link(check, text.ansi_link_at(index)),
+    }
+}
+
+/// Checks what a call returns if it allocates from `heap`. A call without an allocator is made as
+/// usual.
+pub fn make_column_call_in(check: &mut Check<'_>, heap: &Refusing<Global>, call: ColumnCall<'_>) {
+    let text = check.row.text;
+    match call {
+        ColumnCall::Front(width) => check_cut_in(check, heap, 0, Some(fitting(text, width))),
+        ColumnCall::Truncate(width, tail) => {
+            check.text_or_err(truncate(heap, text, width, tail));
+        }
+        ColumnCall::Pad(width, alignment) => check.text_or_err(pad(heap, text, width, alignment)),
+        ColumnCall::Wrap(width) => check_lines(check, wrap(heap, text, width)),
+        _ => make_column_call(check, &text, call),
+    }
+}
