@@ -20,7 +20,7 @@ use Rattle.ansi_search.proofs.PositionLemmas.{no_character_goes_on-boundary}
 use Rattle.ansi_columns.specs.declared.walks.Walk.{Walk}
 use Rattle.ansi_columns.specs.Columns.{columns, clusters, FitsUpTo}
 use Rattle.ansi_columns.specs.Walks.{IsWalk}
-use Rattle.ansi_columns.specs.Links.{link_of, link_end, longest_link_end, pen_close}
+use Rattle.ansi_safe.specs.Links.{link_of, link_end, longest_link_end, pen_close}
 use Rattle.ansi_columns.specs.declared.shown.Alignment.{Alignment}
 use Rattle.ansi_columns.specs.declared.shown.Alignment.TheVariants.{Left, Right, Center}
 use Rattle.ansi_columns.specs.Shown.{fitting_end, has_tail, truncated_end, truncated_ending, truncated, missing, before_text, blanks, closing, padded}

@@ -24,7 +24,7 @@ use Rattle.ansi_style.specs.Reading.{style_after_from}
 use Rattle.ansi_style.proofs.SgrLemmas.{apply-no_sgr}
 use Rattle.ansi_style.proofs.StyledLemmas.{style_through, style_after_from-pieces}
 use Rattle.ansi_style.proofs.ThroughLemmas.{state_through, state_after-marks_of}
-use Rattle.ansi_columns.specs.Links.{terminator_len, address_of, is_link, opens_link, link_of, link_after, link_after_all}
+use Rattle.ansi_safe.specs.Links.{terminator_len, address_of, is_link, opens_link, link_of, link_after, link_after_all}
 
 -- The address of a link sequence, by the place of its second semicolon.
 

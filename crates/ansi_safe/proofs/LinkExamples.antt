@@ -1,7 +1,7 @@
 -- Examples of link sequences, and of terminators.
 use Rattle.std.specs.Prelude.{◌≡◌, Some, None, [], codes, false}
 use Rattle.std.proofs.Common.{refl}
-use Rattle.ansi_columns.specs.Links.{address_of, opens_link, link_at}
+use Rattle.ansi_safe.specs.Links.{address_of, opens_link, link_at}
 
 pub address-by-st : address_of (codes "\u{1b}]8;;http://x\u{1b}\\") ≡ Some (codes "http://x")
 address-by-st = refl

@@ -3,8 +3,8 @@ use denote.Text.{Utf8}
 use denote.Shadow.{shadow}
 use Rattle.ansi_items.specs.Scans.{pieces_left}
 use Rattle.ansi_style.specs.States.{rendition_of}
-use Rattle.ansi_columns.proofs.LinkLemmas.{IsOpenSoFar}
-use Rattle.ansi_columns.proofs.links.pen_after_from.Given as goal
+use Rattle.ansi_safe.proofs.LinkLemmas.{IsOpenSoFar}
+use Rattle.ansi_safe.proofs.links.pen_after_from.Given as goal
 
 -- what is open so far, and what the pieces that are left make of it
 abbrev pub invariant-loop-item : goal.invariant-loop-item

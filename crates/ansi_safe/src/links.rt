@@ -7,8 +7,8 @@ ghost use Rattle.ansi_style.specs.States.{rendition_of};
 ghost use Rattle.ansi_style.specs.Rendition.{plain_style};
 ghost use Rattle.ansi_style.specs.Styled.{style_after};
 ghost use Rattle.ansi_style.specs.Reading.{style_after_from};
-ghost use Rattle.ansi_columns.specs.Links.{terminator_len, address_of, link_of, link_after};
-ghost use Rattle.ansi_columns.specs.Links.{link_after_all};
+ghost use Rattle.ansi_safe.specs.Links.{terminator_len, address_of, link_of, link_after};
+ghost use Rattle.ansi_safe.specs.Links.{link_after_all};
 
 use ansi_items::ansitok::{Kind, Scanner};
 use ansi_style::state::Style;
@@ -21,19 +21,19 @@ const LINK_END: &str = "\u{1b}]8;;\u{1b}\\";
 /// The style open at a place of a text, and the sequence that opened its link, which is empty if no
 /// link is open.
 #[derive(Clone, Copy)]
-pub(crate) struct Pen<'t> {
-    pub(crate) style: Style,
-    pub(crate) link: &'t str,
+pub struct Pen<'t> {
+    pub style: Style,
+    pub link: &'t str,
 }
 
 impl<'t> Pen<'t> {
     ghost use Rattle.std.specs.Prelude.{◌≡◌, ◌==◌, not, ◌&&◌, length};
     ghost use Rattle.ansi_style.specs.States.{rendition_of};
     ghost use Rattle.ansi_style.specs.Rendition.{has_any};
-    ghost use Rattle.ansi_columns.specs.Links.{link_end};
+    ghost use Rattle.ansi_safe.specs.Links.{link_end};
 
     /// Whether no style and no link is open.
-    pub(crate) fn is_plain(&self) -> bool
+    pub fn is_plain(&self) -> bool
         ensures { result
             ≡ (not (has_any (rendition_of self.now.style)) && length self.now.link.now == 0) }
     {
@@ -41,7 +41,7 @@ impl<'t> Pen<'t> {
     }
 
     /// What closes the link, if one is open.
-    pub(crate) fn link_end(&self) -> &'static str
+    pub fn link_end(&self) -> &'static str
         ensures { result.now ≡ link_end self.now.link.now }
     {
         if self.link.is_empty() { "" } else { LINK_END }
@@ -49,7 +49,7 @@ impl<'t> Pen<'t> {
 }
 
 /// The pen before a text: no style and no link is open.
-pub(crate) fn plain_pen() -> Pen<'static>
+pub fn plain_pen() -> Pen<'static>
     ensures style { rendition_of result.style ≡ plain_style }
     ensures link { result.link.now ≡ [] }
 {
@@ -60,7 +60,7 @@ pub(crate) fn plain_pen() -> Pen<'static>
 }
 
 /// The pen after a text. Doesn't allocate.
-pub(crate) fn pen_after(text: &str) -> Pen<'_>
+pub fn pen_after(text: &str) -> Pen<'_>
     ensures style { rendition_of result.style ≡ style_after text.now }
     ensures link { result.link.now ≡ link_of (marks text.now) }
 {
@@ -68,7 +68,7 @@ pub(crate) fn pen_after(text: &str) -> Pen<'_>
 }
 
 /// The pen after a text, if `before` is the pen before it. Doesn't allocate.
-pub(crate) fn pen_after_from<'t>(before: Pen<'t>, text: &'t str) -> Pen<'t>
+pub fn pen_after_from<'t>(before: Pen<'t>, text: &'t str) -> Pen<'t>
     ensures style { rendition_of result.style
         ≡ style_after_from (rendition_of before.entry.style) text.now }
     ensures link { result.link.now ≡ link_after_all before.entry.link.now (marks text.now) }
@@ -87,7 +87,7 @@ pub(crate) fn pen_after_from<'t>(before: Pen<'t>, text: &'t str) -> Pen<'t>
 }
 
 /// The link after a whole sequence, if `link` is open before it.
-pub(crate) fn link_after<'t>(link: &'t str, sequence: &'t str) -> &'t str
+pub fn link_after<'t>(link: &'t str, sequence: &'t str) -> &'t str
     ensures { result.now ≡ link_after link.now sequence.now }
 {
     match address_of(sequence.as_bytes()) {
@@ -98,7 +98,7 @@ pub(crate) fn link_after<'t>(link: &'t str, sequence: &'t str) -> &'t str
 }
 
 /// The address of a whole sequence, or `None` if it is no link sequence (OSC 8).
-pub(crate) fn address_of(sequence: &[u8]) -> Option<&[u8]>
+pub fn address_of(sequence: &[u8]) -> Option<&[u8]>
     ensures { option_map (λ a. a.now) result ≡ address_of sequence.now }
 {
     if !sequence.starts_with(b"\x1b]8;") {
@@ -111,7 +111,7 @@ pub(crate) fn address_of(sequence: &[u8]) -> Option<&[u8]>
 }
 
 /// The length of the terminator of an operating system command, in bytes.
-pub(crate) fn terminator_len(sequence: &[u8]) -> usize
+pub fn terminator_len(sequence: &[u8]) -> usize
     ensures { result ≡ terminator_len sequence.now }
 {
     if sequence.ends_with(b"\x07") { 1 } else { 2 }

@@ -1,7 +1,7 @@
 use Rattle.std.proofs.Common.{◌-◌, Some, None, length, slice_range, sym, ◌∙◌, ap}
 use Rattle.memchr.specs.Find.{IsFirstByte, is_byte}
-use Rattle.ansi_columns.proofs.LinkLemmas.{address-found, address-none}
-use Rattle.ansi_columns.proofs.links.address_of.Goals as goal
+use Rattle.ansi_safe.proofs.LinkLemmas.{address-found, address-none}
+use Rattle.ansi_safe.proofs.links.address_of.Goals as goal
 
 pub returns-in_err-parameters : goal.returns-in_err-parameters
 returns-in_err-parameters c =

@@ -3,8 +3,8 @@ use Rattle.ansi_items.specs.declared.ansitok.Kind.TheVariants.{Sgr, Other}
 use Rattle.ansi_style.specs.States.{rendition_of}
 use Rattle.ansi_items.proofs.StepLemmas.{gives_mark}
 use Rattle.ansi_search.proofs.OffsetLemmas.{item_range, kind_differs}
-use Rattle.ansi_columns.proofs.LinkLemmas.{open-begin, open-sgr, open-other, open-rest, open-end, is_kind}
-use Rattle.ansi_columns.proofs.links.pen_after_from.Goals as goal
+use Rattle.ansi_safe.proofs.LinkLemmas.{open-begin, open-sgr, open-other, open-rest, open-end, is_kind}
+use Rattle.ansi_safe.proofs.links.pen_after_from.Goals as goal
 
 pub range-piece-requires : goal.range-piece-requires
 range-piece-requires c = item_range c.in-Some.ensures.steps c.loop-item.invariant.text

@@ -1,0 +1,3 @@
+pub mod LinkLemmas
+mod LinkExamples
+pub mod PieceStepLemmas
