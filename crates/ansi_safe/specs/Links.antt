@@ -3,7 +3,7 @@ use Rattle.std.specs.Prelude.{ℕ, ◌+◌, ◌-◌, ◌==◌, Bool, not, ◌&&�
 use Rattle.std.specs.List.{prefix_len, starts_with, ends_with}
 use Rattle.std.specs.Str.{byte}
 use Rattle.ansi_items.specs.Plain.{Mark, marks, marks_up_to}
-use Rattle.ansi_style.specs.Styled.{style_at}
+use Rattle.ansi_style.specs.Styled.{style_at, style_after}
 use Rattle.ansi_style.specs.Written.{close}
 
 -- the length of the terminator of an operating system command: BEL is one byte, ESC `\` is two
@@ -55,3 +55,7 @@ longest_link_end = 7
 -- what closes the pen at the place i of t: the end of the link, and then the close of the style (own)
 abbrev pub pen_close : List ℕ → ℕ → List ℕ
 pen_close t i = link_end (link_at t i) ++ close (style_at t i)
+
+-- what ends what is open at the end of t: the end of its link, and then the close of its style (own)
+abbrev pub ending : List ℕ → List ℕ
+ending t = link_end (link_of (marks t)) ++ close (style_after t)

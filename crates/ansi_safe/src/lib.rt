@@ -8,4 +8,5 @@
 pub mod links;
 pub mod policy;
 pub mod safe;
+mod shown;
 mod standing;

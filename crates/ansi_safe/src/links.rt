@@ -14,6 +14,7 @@ use ansi_items::ansitok::{Kind, Scanner};
 use ansi_style::state::Style;
 use ansi_style::styles;
 use memchr::memchr;
+use std::alloc::{AllocError, Allocator};
 
 /// The sequence that closes a link (OSC 8).
 const LINK_END: &str = "\u{1b}]8;;\u{1b}\\";
@@ -115,4 +116,49 @@ pub fn terminator_len(sequence: &[u8]) -> usize
     ensures { result ≡ terminator_len sequence.now }
 {
     if sequence.ends_with(b"\x07") { 1 } else { 2 }
+}
+
+/// What ends the link and the style that a text leaves open.
+#[derive(Clone, Copy)]
+pub struct Ending {
+    link_end: &'static str,
+    style: Style,
+}
+
+impl Ending {
+    ghost use Rattle.std.specs.Prelude.{◌≡◌, ◌==◌, ◌++◌, length, OnOk, string_bytes};
+    ghost use Rattle.ansi_items.specs.Plain.{marks};
+    ghost use Rattle.ansi_style.specs.States.{rendition_of};
+    ghost use Rattle.ansi_style.specs.Styled.{style_after};
+    ghost use Rattle.ansi_style.specs.Written.{close};
+    ghost use Rattle.ansi_safe.specs.Links.{link_of, link_end, ending};
+
+    /// What ends what this text leaves open. Doesn't allocate.
+    pub fn of(text: &str) -> Self
+        ensures link_end { result.link_end.now ≡ link_end (link_of (marks text.now)) }
+        ensures style { rendition_of result.style ≡ style_after text.now }
+    {
+        let pen = pen_after(text);
+        Ending {
+            link_end: pen.link_end(),
+            style: pen.style,
+        }
+    }
+
+    /// Whether nothing is open.
+    pub fn is_empty(&self) -> bool
+        ensures { result ≡ (length (self.now.link_end.now
+            ++ close (rendition_of self.now.style)) == 0) }
+    {
+        self.link_end.is_empty() && !styles::has_close(&self.style)
+    }
+
+    /// Appends it. `Err` means out of memory; what was appended before it stays.
+    pub fn push_to<A: Allocator>(&self, out: &mut String<A>) -> Result<(), AllocError>
+        ensures { OnOk result (string_bytes out.new ≡ string_bytes out.old
+            ++ (self.now.link_end.now ++ close (rendition_of self.now.style))) }
+    {
+        out.push_str(self.link_end)?;
+        styles::write_close(&self.style, out)
+    }
 }

@@ -70,7 +70,7 @@ pub(crate) fn may_stand(c: char, after: &str) -> bool
 }
 
 /// Whether the character is neither a control character nor a bidirectional control.
-fn is_printing(c: char) -> bool
+pub(crate) fn is_printing(c: char) -> bool
     ensures { result ≡ is_printing c }
 {
     !matches!(c, '\0'..='\u{1F}' | '\u{7F}'..='\u{9F}' | '\u{202A}'..='\u{202E}' | '\u{2066}'..='\u{2069}')
