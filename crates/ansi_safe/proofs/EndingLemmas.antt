@@ -1,12 +1,14 @@
 -- What ends the link and the style that a text leaves open, and when that is nothing.
-use Rattle.std.proofs.Common.{◌≡◌, ℕ, ◌+◌, ◌≤◌, Bool, true, false, not, ◌==◌, ◌||◌, List, [], ◌∷◌, ◌++◌, length, is_some, codes, if◌then◌else◌, nat_eq, refl, sym, ◌∙◌, ap, ap₂, arith, length-append}
+use Rattle.std.proofs.Common.{◌≡◌, ℕ, ◌+◌, ◌≤◌, Bool, true, false, not, ◌==◌, ◌||◌, ◌&&◌, List, [], ◌∷◌, ◌++◌, length, is_some, codes, if◌then◌else◌, nat_eq, refl, sym, ◌∙◌, ap, ap₂, arith, length-append}
 use Rattle.std.proofs.lemmas.Bool.{eqb-true, or_parts}
 use Rattle.std.proofs.lemmas.Bool.Decides.{nat_tests}
 use Rattle.std.proofs.lemmas.List.{nil_from_length}
 use Rattle.ansi_style.specs.declared.state.rendition.Rendition.{Rendition}
 use Rattle.ansi_style.specs.Rendition.{has_known, has_ideogram_attribute}
-use Rattle.ansi_style.specs.Written.{close, close_codes, written_all, code_if, longest_close}
-use Rattle.ansi_style.proofs.ReadBackLemmas.{close_codes_are}
+use Rattle.ansi_style.specs.Written.{close, close_codes, written, written_all, code_if, longest_close}
+use Rattle.ansi_style.specs.Sgr.{apply}
+use Rattle.ansi_style.proofs.CloseLemmas.{close_codes_clear}
+use Rattle.ansi_style.proofs.ReadBackLemmas.{◌next◌, apply_codes, apply_codes-append, close_codes_are}
 use Rattle.ansi_style.proofs.UnsetLemmas.{close-unknown}
 use Rattle.ansi_safe.specs.Links.{link_end, longest_link_end}
 
@@ -104,3 +106,52 @@ close-is_nothing s true is = some (close s) (λ none. (let no = is ∙ close-non
 
 pub ending-is_nothing : (end : List ℕ) (s : Rendition) (closes : Bool) → nat_eq (length end) 0 ≡ true → closes ≡ (has_known s || s.unknown) → not closes ≡ (length (end ++ close s) == 0)
 ending-is_nothing end s closes none is = close-is_nothing s closes is ∙ ap (λ e. length (e ++ close s) == 0) (sym (nil_from_length end (eqb-true (length end) 0 none)))
+
+-- After the close of a style nothing is left to close.
+
+-- after these codes `unknown` isn't set, if it wasn't before
+record KeepsUnset (s : Rendition) (xs : List (List ℕ)) : Type 0 where
+  keeps : s.unknown ≡ false → (apply_codes s xs).unknown ≡ false
+
+keeps-code_if : {s : Rendition} {xs : List (List ℕ)} (b : Bool) (code : List ℕ) → ((p : Rendition) → p.unknown ≡ false → (apply p (written code)).unknown ≡ false) → KeepsUnset s xs → KeepsUnset s (xs ++ code_if b code)
+keeps-code_if {s} {xs} b code leaves so_far = record { keeps = λ unset. ap (λ (p : Rendition). p.unknown) (apply_codes-append s xs (code_if b code)) ∙ by b (so_far.keeps unset) }
+  where
+    by : (b : Bool) → (apply_codes s xs).unknown ≡ false → (apply_codes (apply_codes s xs) (code_if b code)).unknown ≡ false
+    by true unset = leaves (apply_codes s xs) unset
+    by false unset = unset
+
+leaves-last : {s : Rendition} {xs : List (List ℕ)} → KeepsUnset s xs → (apply_codes s (xs ++ code_if s.unknown (codes "0"))).unknown ≡ false
+leaves-last {s} {xs} so_far = ap (λ (p : Rendition). p.unknown) (apply_codes-append s xs (code_if s.unknown (codes "0"))) ∙ by s.unknown so_far.keeps
+  where
+    by : (b : Bool) → (b ≡ false → (apply_codes s xs).unknown ≡ false) → (apply_codes (apply_codes s xs) (code_if b (codes "0"))).unknown ≡ false
+    by true keeps = refl
+    by false keeps = keeps refl
+
+close_codes-leave_none : (s : Rendition) → (apply_codes s (close_codes s)).unknown ≡ false
+close_codes-leave_none s =
+    let begun : KeepsUnset s [] = record { keeps = λ unset. unset } in
+    leaves-last
+    (begun
+    next keeps-code_if (s.unknown && s.reset) (codes "0") (λ p e. refl)
+    next keeps-code_if (is_some s.font) (codes "10") (λ p e. e)
+    next keeps-code_if (s.bold || s.faint) (codes "22") (λ p e. e)
+    next keeps-code_if (s.italic || s.fraktur) (codes "23") (λ p e. e)
+    next keeps-code_if (s.underline || s.double_underline) (codes "24") (λ p e. e)
+    next keeps-code_if (s.slow_blink || s.rapid_blink) (codes "25") (λ p e. e)
+    next keeps-code_if s.inverse (codes "27") (λ p e. e)
+    next keeps-code_if s.hide (codes "28") (λ p e. e)
+    next keeps-code_if s.crossed_out (codes "29") (λ p e. e)
+    next keeps-code_if (is_some s.foreground) (codes "39") (λ p e. e)
+    next keeps-code_if (is_some s.background) (codes "49") (λ p e. e)
+    next keeps-code_if s.proportional_spacing (codes "50") (λ p e. e)
+    next keeps-code_if (s.framed || s.encircled) (codes "54") (λ p e. e)
+    next keeps-code_if s.overlined (codes "55") (λ p e. e)
+    next keeps-code_if (has_ideogram_attribute s) (codes "65") (λ p e. e)
+    next keeps-code_if (is_some s.underline_color) (codes "59") (λ p e. e)
+    next keeps-code_if (s.superscript || s.subscript) (codes "75") (λ p e. e))
+
+pub close-closed : (s : Rendition) → close (apply_codes s (close_codes s)) ≡ []
+close-closed s =
+    let after = apply_codes s (close_codes s) in
+    let known : has_known after ≡ false = ap has_known (close_codes_clear s s refl) in
+    close-unknown after (ap₂ (λ a b. a || b) known (close_codes-leave_none s))

@@ -3,3 +3,5 @@ mod LinkExamples
 pub mod EndingLemmas
 pub mod PieceStepLemmas
 pub mod MadeLemmas
+pub mod StandLemmas
+pub mod SafeLemmas
