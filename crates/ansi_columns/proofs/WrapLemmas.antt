@@ -42,7 +42,7 @@ use Rattle.ansi_columns.specs.Wrapped.{WrappedLine, line_over, lines_over, wrapp
 use Rattle.ansi_columns.proofs.ColumnLemmas.{clusters_from-start}
 use Rattle.ansi_columns.proofs.LineLemmas.{line-any, line-last}
 use Rattle.ansi_columns.proofs.PlaceLemmas.{offset_of-add}
-use Rattle.ansi_columns.proofs.ShownLemmas.{length-link_end}
+use Rattle.ansi_safe.proofs.EndingLemmas.{length-link_end}
 use Rattle.ansi_split.proofs.SpanLemmas.{interleaved-after}
 use Rattle.ansi_split.proofs.PartLengthLemmas.{length-close_if_any}
 

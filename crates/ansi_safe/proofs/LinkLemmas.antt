@@ -21,6 +21,7 @@ use Rattle.ansi_items.proofs.StepLemmas.{BeginsWithMark, is_mark}
 use Rattle.ansi_style.specs.declared.state.rendition.Rendition.{Rendition}
 use Rattle.ansi_style.specs.Sgr.{apply}
 use Rattle.ansi_style.specs.Reading.{style_after_from}
+use Rattle.ansi_style.proofs.ReadBackLemmas.{code_pieces}
 use Rattle.ansi_style.proofs.SgrLemmas.{apply-no_sgr}
 use Rattle.ansi_style.proofs.StyledLemmas.{style_through, style_after_from-pieces}
 use Rattle.ansi_style.proofs.ThroughLemmas.{state_through, state_after-marks_of}
@@ -134,6 +135,11 @@ link_of-fold ms = link_of-last (slice_get (reverse (filter is_link (bytes_of_all
 
 pub link_of-pieces : (ps : List Piece) → link_of (marks_of ps) ≡ link_through [] ps
 link_of-pieces ps = link_of-fold (marks_of ps) ∙ through-marks [] ps
+
+-- codes leave a link as it is
+pub link_through-codes : (link : List ℕ) (xs : List (List ℕ)) → link_through link (code_pieces xs) ≡ link
+link_through-codes link [] = refl
+link_through-codes link (x ∷ xs) = link_through-codes link xs
 
 -- The state of a walk over t with a style and a link open before it: after the pieces that are left, the same style and link are open as after t.
 pub record IsOpenSoFar (t : List ℕ) (before : Rendition) (open_before : List ℕ) (style : Rendition) (link : List ℕ) (left : List Piece) : Type 0 where

@@ -1,9 +1,10 @@
 -- The hyperlink at a place of a text, and the sequence that closes it.
-use Rattle.std.specs.Prelude.{ℕ, ◌+◌, ◌-◌, ◌==◌, Bool, not, ◌&&◌, List, [], ◌++◌, length, map, drop, filter, reverse, slice_range, slice_get, nat_eq, nat_lt, Option, Some, None, is_some, unwrap_or, fold, if◌then◌else◌, codes}
+use Rattle.std.specs.Prelude.{◌≡◌, ℕ, ◌+◌, ◌-◌, ◌==◌, Bool, not, ◌&&◌, List, [], ◌++◌, length, map, drop, filter, reverse, slice_range, slice_get, nat_eq, nat_lt, Option, Some, None, is_some, unwrap_or, fold, if◌then◌else◌, codes}
 use Rattle.std.specs.List.{prefix_len, starts_with, ends_with}
 use Rattle.std.specs.Str.{byte}
 use Rattle.ansi_items.specs.Plain.{Mark, marks, marks_up_to}
-use Rattle.ansi_style.specs.Styled.{style_at, style_after}
+use Rattle.ansi_style.specs.Rendition.{plain_style}
+use Rattle.ansi_style.specs.Styled.{style_at, style_after, residue}
 use Rattle.ansi_style.specs.Written.{close}
 
 -- the length of the terminator of an operating system command: BEL is one byte, ESC `\` is two
@@ -59,3 +60,8 @@ pen_close t i = link_end (link_at t i) ++ close (style_at t i)
 -- what ends what is open at the end of t: the end of its link, and then the close of its style (own)
 abbrev pub ending : List ℕ → List ℕ
 ending t = link_end (link_of (marks t)) ++ close (style_after t)
+
+-- no known style and no link is open at the end of t
+pub record IsClosed (t : List ℕ) : Type 0 where
+  pub style : residue t ≡ plain_style
+  pub link : link_of (marks t) ≡ []

@@ -19,6 +19,10 @@ use std::alloc::{AllocError, Allocator};
 /// The sequence that closes a link (OSC 8).
 const LINK_END: &str = "\u{1b}]8;;\u{1b}\\";
 
+/// The greatest length of what ends a link and a style, in bytes: `longest_link_end` and
+/// `longest_close`.
+pub const LONGEST_ENDING: usize = 95;
+
 /// The style open at a place of a text, and the sequence that opened its link, which is empty if no
 /// link is open.
 #[derive(Clone, Copy)]

@@ -3,11 +3,11 @@ ghost use Rattle.std.specs.Prelude.{◌≡◌, ◌↔◌, ◌++◌, [], IsTrue, 
 ghost use Rattle.std.specs.Cow.{cow_str_bytes, IsBorrowedStr};
 ghost use Rattle.ansi_items.specs.Pieces.{spelling};
 ghost use Rattle.ansi_items.specs.Scans.{kind_of, piece_of_kind};
-ghost use Rattle.ansi_safe.specs.Links.{ending};
+ghost use Rattle.ansi_safe.specs.Links.{ending, IsClosed};
 ghost use Rattle.ansi_safe.specs.Safe.{is_safe};
 ghost use Rattle.ansi_safe.specs.Sanitized.{becomes, cleaned, sanitized};
 
-use crate::links::Ending;
+use crate::links::{Ending, LONGEST_ENDING};
 use crate::policy::{Links, Policy};
 use crate::shown::{push_instead_of_all, push_run};
 use crate::standing::may_stay;
@@ -49,15 +49,28 @@ pub fn sanitize<'t, A: Allocator>(
         ↔ (IsTrue (is_safe policy.links text.now) × (ending text.now ≡ []))) }
     ensures takes_no_memory { IsTrue (is_safe policy.links text.now) × (ending text.now ≡ []) →
         IsOk result }
+    ensures safe { IfOk result (λ c. IsTrue (is_safe policy.links (cow_str_bytes c))) }
+    ensures closed { IfOk result (λ c. IsClosed (cow_str_bytes c)) }
 {
     if is_safe(text, policy.links) && Ending::of(text).is_empty() {
         return Ok(CowStr::Borrowed(text));
     }
-    let mut out = String::with_capacity(alloc, text.len())?;
+    Ok(CowStr::Owned(write_sanitized(alloc, text, policy)?))
+}
+
+/// A text made safe, written.
+fn write_sanitized<A: Allocator>(
+    alloc: A,
+    text: &str,
+    policy: Policy,
+) -> Result<String<A>, AllocError>
+    ensures { IfOk result (λ s. string_bytes s ≡ sanitized policy text.now) }
+{
+    let mut out = String::with_capacity(alloc, text.len() + LONGEST_ENDING)?;
     push_cleaned(&mut out, text, policy)?;
     let ending = Ending::of(out.as_str());
     ending.push_to(&mut out)?;
-    Ok(CowStr::Owned(out))
+    Ok(out)
 }
 
 /// Appends a text with what each of its items becomes. `Err` means out of memory; what was appended
