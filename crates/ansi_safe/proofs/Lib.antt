@@ -5,3 +5,4 @@ pub mod PieceStepLemmas
 pub mod MadeLemmas
 pub mod StandLemmas
 pub mod SafeLemmas
+pub mod CharacterLemmas

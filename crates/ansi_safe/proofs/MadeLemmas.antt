@@ -1,10 +1,12 @@
 -- What is made of characters, and of a text that is safe.
-use Rattle.std.proofs.Common.{◌≡◌, ℕ, true, false, List, [], ◌∷◌, ◌++◌, flat_map, encode_utf8_all, if◌then◌else◌, refl, sym, ◌∙◌, ap, append_assoc, append-nil}
+use Rattle.std.proofs.Common.{not, ◌≡◌, ℕ, true, false, List, [], ◌∷◌, ◌++◌, flat_map, encode_utf8_all, if◌then◌else◌, refl, sym, ◌∙◌, ap, append_assoc, append-nil}
 use Rattle.std.specs.List.{list_all}
-use Rattle.std.proofs.lemmas.Bool.{and_parts}
+use Rattle.std.proofs.lemmas.Bool.{and_from, and_parts}
 use Rattle.std.proofs.lemmas.Str.{encodes-append}
-use Rattle.ansi_items.specs.Pieces.{Piece, spelling, pieces_of}
+use Rattle.ansi_items.specs.Pieces.{Piece, Text, Sequence, LoneEscape, spelling, pieces_of}
+use Rattle.ansi_items.specs.Plain.{is_lone, are_whole, is_whole}
 use Rattle.ansi_items.proofs.JoinLemmas.{spelled-pieces_of}
+use Rattle.ansi_safe.specs.declared.policy.Links.{Links}
 use Rattle.ansi_safe.specs.declared.policy.Policy.{Policy}
 use Rattle.ansi_safe.specs.declared.policy.Rest.{Rest}
 use Rattle.ansi_safe.specs.Links.{ending}
@@ -36,3 +38,18 @@ sanitized-safe policy t safe = ap (λ u. u ++ ending u) (cleaned-safe policy t s
 
 pub sanitized-closed : (policy : Policy) (t : List ℕ) → is_safe policy.links t ≡ true → ending t ≡ [] → sanitized policy t ≡ t
 sanitized-closed policy t safe closed = sanitized-safe policy t safe ∙ ap (λ e. t ++ e) closed ∙ append-nil t
+
+-- a safe text has no lone escape
+whole-stays : (links : Links) (ps : List Piece) → list_all (may_stay links) ps ≡ true → are_whole ps ≡ true
+whole-stays links [] safe = refl
+whole-stays links (p ∷ ps) safe =
+    let both = and_parts (may_stay links p) (list_all (may_stay links) ps) safe in
+    and_from _ _ (by p both.0) (whole-stays links ps both.1)
+  where
+    by : (p : Piece) → may_stay links p ≡ true → not (is_lone p) ≡ true
+    by (Text w) stays = refl
+    by (Sequence w) stays = refl
+    by LoneEscape stays = absurd (cc stays)
+
+pub whole-safe : (links : Links) (t : List ℕ) → is_safe links t ≡ true → is_whole t ≡ true
+whole-safe links t safe = whole-stays links (pieces_of t) safe

@@ -42,7 +42,7 @@ use Rattle.ansi_safe.proofs.StandLemmas.{AreStanding, instead_of_all-stands, mad
 
 -- The pieces of a UTF-8 text are UTF-8.
 
-piece_and_rest : (p : Piece) (rest : List ℕ) → StandsBefore p rest → IsUtf8 (spelling p ++ rest) → IsUtf8 (spelling p) × IsUtf8 rest
+pub piece_and_rest : (p : Piece) (rest : List ℕ) → StandsBefore p rest → IsUtf8 (spelling p ++ rest) → IsUtf8 (spelling p) × IsUtf8 rest
 piece_and_rest p rest stands utf8 =
     let t = spelling p ++ rest in
     let n = length (spelling p) in
@@ -222,23 +222,33 @@ link_of-spelled ps stand = link_of-pieces (pieces_of (spelled ps)) ∙ ap (link_
 
 -- ---- a text that good pieces spell, with what ends it
 
+abbrev pub ended_pieces : List Piece → List Piece
+ended_pieces ps = ps ++ ending_pieces (spelled ps)
+
+pub spelled-ended_pieces : (ps : List Piece) → spelled (ended_pieces ps) ≡ spelled ps ++ ending (spelled ps)
+spelled-ended_pieces ps = flat_map-append spelling ps (ending_pieces (spelled ps)) ∙ ap (λ v. spelled ps ++ v) (spelled-ending_pieces (spelled ps))
+
+pub ended-good : (links : Links) (ps : List Piece) → AreGood links ps → AreGood links (ended_pieces ps)
+ended-good links ps good =
+    let link = link_of (marks (spelled ps)) in
+    let style = style_after (spelled ps) in
+    let are = close_codes_are style in
+    let opens : OpensIf links link = λ removes. link_of-spelled ps (good_stand links ps good) ∙ link_through-good links ps removes good in
+    AreGood-append links ps (ending_pieces (spelled ps)) good
+    (AreGood-append links (link_end_pieces link) (code_pieces (close_codes style)) (link_end-good links link opens) (codes-good links (close_codes style) are.each (code_pieces_stand (close_codes style) are)))
+
 module _ (links : Links) (ps : List Piece) (good : AreGood links ps) where
   abbrev u : List ℕ
   u = spelled ps
 
   abbrev all : List Piece
-  all = ps ++ ending_pieces u
+  all = ended_pieces ps
 
   spelled-all : spelled all ≡ u ++ ending u
-  spelled-all = flat_map-append spelling ps (ending_pieces u) ∙ ap (λ v. u ++ v) (spelled-ending_pieces u)
+  spelled-all = spelled-ended_pieces ps
 
   all-good : AreGood links all
-  all-good =
-      let style = style_after u in
-      let are = close_codes_are style in
-      let opens : OpensIf links (link_of (marks u)) = λ removes. link_of-spelled ps (good_stand links ps good) ∙ link_through-good links ps removes good in
-      AreGood-append links ps (ending_pieces u) good
-      (AreGood-append links (link_end_pieces (link_of (marks u))) (code_pieces (close_codes style)) (link_end-good links (link_of (marks u)) opens) (codes-good links (close_codes style) are.each (code_pieces_stand (close_codes style) are)))
+  all-good = ended-good links ps good
 
   pub ended-safe : is_safe links (u ++ ending u) ≡ true
   ended-safe = ap (is_safe links) (sym spelled-all) ∙ good_are_safe links all all-good

@@ -1,7 +1,8 @@
 -- What is made of a text so that it is safe.
-use Rattle.std.specs.Prelude.{ℕ, ◌+◌, ◌/◌, ◌%◌, ◌==◌, List, [], ◌∷◌, ◌++◌, flat_map, slice_index, nat_lt, chars, codes, encode_utf8_all, if◌then◌else◌}
+use Rattle.std.specs.Prelude.{ℕ, Bool, ◌+◌, ◌/◌, ◌%◌, ◌==◌, List, [], ◌∷◌, ◌++◌, flat_map, length, replicate, slice_index, nat_lt, chars, codes, encode_utf8, encode_utf8_all, if◌then◌else◌}
 use Rattle.std.specs.Str.{byte}
 use Rattle.ansi_items.specs.Pieces.{Piece, Text, spelling, pieces_of}
+use Rattle.ansi_items.specs.Plain.{plain_bytes}
 use Rattle.ansi_safe.specs.declared.policy.Policy.{Policy}
 use Rattle.ansi_safe.specs.declared.policy.Rest.{Rest}
 use Rattle.ansi_safe.specs.declared.policy.Rest.TheVariants.{Drop, Show}
@@ -50,3 +51,25 @@ cleaned policy t = flat_map (becomes policy) (pieces_of t)
 -- t made safe: what its pieces become, and then what ends what is open (own)
 abbrev pub sanitized : Policy → List ℕ → List ℕ
 sanitized policy t = cleaned policy t ++ ending (cleaned policy t)
+
+-- how many bytes are made of one at most: the longest that is shown of a character of two bytes has eight
+abbrev pub growth : Rest → ℕ
+growth Drop = 1
+growth Show = 4
+
+-- Which plain bytes stay.
+
+-- of each byte of these characters of a run, whether its character may stand where it is
+abbrev pub standing_bytes : List ℕ → List Bool
+standing_bytes [] = []
+standing_bytes (c ∷ cs) = replicate (length (encode_utf8 c)) (may_stand c cs) ++ standing_bytes cs
+
+-- of each plain byte of t, whether its character may stand where it is in its run
+abbrev pub standing : List ℕ → List Bool
+standing t = flat_map (λ p. standing_bytes (chars (plain_bytes p))) (pieces_of t)
+
+-- the elements that are marked, if each has a mark
+abbrev pub marked : {X : Type 0} → List Bool → List X → List X
+marked [] xs = []
+marked (b ∷ bs) [] = []
+marked (b ∷ bs) (x ∷ xs) = if b then x ∷ marked bs xs else marked bs xs

@@ -5,6 +5,7 @@
 //! `CALLING.md` beside this folder says how a crate depends on this one and calls it.
 #![tactic(auto)]
 
+pub mod laws;
 pub mod links;
 pub mod policy;
 pub mod safe;
