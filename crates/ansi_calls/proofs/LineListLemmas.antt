@@ -21,7 +21,7 @@ use Rattle.ansi_slice.specs.Cut.{interleaved}
 use Rattle.ansi_str.specs.Parts.{marks_past}
 use Rattle.ansi_slice.proofs.InterleavedLemmas.{interleaved-bare}
 use Rattle.ansi_columns.specs.Columns.{clusters, cluster_width}
-use Rattle.ansi_columns.specs.Links.{link_after_all, link_end}
+use Rattle.ansi_safe.specs.Links.{link_after_all, link_end}
 use Rattle.ansi_columns.specs.Lines.{is_line_end, is_blank, lines_from, lines, AreLinesFrom}
 use Rattle.ansi_columns.specs.Wrapped.{WrappedLine, line_over, lines_over, wrapped, GivesLine}
 use Rattle.ansi_columns.proofs.LineLemmas.{IsOfWord, more_at, line-ends, line-blank, line-stays, line-leaves, line-last}

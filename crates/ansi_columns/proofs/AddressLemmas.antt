@@ -22,8 +22,8 @@ use Rattle.ansi_items.proofs.PieceLemmas.{pieces_are}
 use Rattle.ansi_items.proofs.StepLemmas.{BeginsWithMark, gives_mark, plain_of-mark}
 use Rattle.ansi_style.proofs.MarkLemmas.{state_by_marks, state_by_marks-before, state_by_marks-text, state_by_marks-mark}
 use Rattle.ansi_columns.specs.Addresses.{address_at}
-use Rattle.ansi_columns.specs.Links.{terminator_len, address_of, is_link, opens_link, link_of, link_after, link_at}
-use Rattle.ansi_columns.proofs.LinkLemmas.{link_of-fold, is_link-sgr, has_no_semicolon}
+use Rattle.ansi_safe.specs.Links.{terminator_len, address_of, is_link, opens_link, link_of, link_after, link_at}
+use Rattle.ansi_safe.proofs.LinkLemmas.{link_of-fold, is_link-sgr, has_no_semicolon}
 
 -- ---- the link at a place of pieces, if `link` is open before them
 

@@ -11,9 +11,7 @@ pub mod FromEndLemmas
 pub mod FitLemmas
 pub mod ShownLemmas
 pub mod ClusterWalkLemmas
-pub mod LinkLemmas
 pub mod AddressLemmas
-mod LinkExamples
 pub mod KindLemmas
 pub mod LineLemmas
 pub mod LineWalkLemmas

@@ -15,11 +15,11 @@ use Rattle.ansi_slice.proofs.CutLemmas.{marks_up_to-marks_past}
 use Rattle.ansi_slice.proofs.ShownLemmas.{state_through-interleaved_pieces, seen_through-interleaved_pieces, at_places, interleaved_pieces, interleaved_pieces_stand, spelled-interleaved_pieces}
 use Rattle.ansi_columns.specs.declared.shown.Alignment.{Alignment}
 use Rattle.ansi_columns.specs.Addresses.{LinkedByte, linked, without_link}
-use Rattle.ansi_columns.specs.Links.{link_end, link_at, link_of, link_after, link_after_all, pen_close}
+use Rattle.ansi_safe.specs.Links.{link_end, link_at, link_of, link_after, link_after_all, pen_close}
 use Rattle.ansi_columns.specs.Shown.{has_tail, truncated_end, truncated, missing, before_text, blanks, padded}
 use Rattle.ansi_columns.proofs.AddressLemmas.{link_by_marks}
-use Rattle.ansi_columns.proofs.LinkLemmas.{link_of-fold, link_through, link_of-pieces}
-use Rattle.ansi_columns.proofs.ShownLemmas.{link_end-open, link_end-shut}
+use Rattle.ansi_safe.proofs.LinkLemmas.{link_of-fold, link_through, link_through-codes, link_of-pieces}
+use Rattle.ansi_safe.proofs.EndingLemmas.{link_end-open, link_end-shut}
 use Rattle.ansi_style.proofs.ThroughLemmas.{state_through-append, state_through-merged, seen_through, seen_through-append, seen_through-merged, seen_by-alike, seen_by-pieces, bytes-seen, bytes-seen_through}
 
 -- a plain byte in a link
@@ -98,10 +98,6 @@ IsLinked-front t e whole =
 linked_through-codes : (link : List ℕ) (xs : List (List ℕ)) → linked_through link (code_pieces xs) ≡ []
 linked_through-codes link [] = refl
 linked_through-codes link (x ∷ xs) = linked_through-codes (link_after link (written x)) xs
-
-link_through-codes : (link : List ℕ) (xs : List (List ℕ)) → link_through link (code_pieces xs) ≡ link
-link_through-codes link [] = refl
-link_through-codes link (x ∷ xs) = link_through-codes link xs
 
 pub IsLinked-codes : {n : ℕ} (link : List ℕ) (xs : List (List ℕ)) → AreCodes xs n → IsLinked link (written_all xs) [] link
 IsLinked-codes link xs are =

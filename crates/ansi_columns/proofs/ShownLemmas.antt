@@ -20,87 +20,16 @@ use Rattle.ansi_search.proofs.PositionLemmas.{no_character_goes_on-boundary}
 use Rattle.ansi_columns.specs.declared.walks.Walk.{Walk}
 use Rattle.ansi_columns.specs.Columns.{columns, clusters, FitsUpTo}
 use Rattle.ansi_columns.specs.Walks.{IsWalk}
-use Rattle.ansi_columns.specs.Links.{link_of, link_end, longest_link_end, pen_close}
+use Rattle.ansi_safe.specs.Links.{link_of, link_end, longest_link_end, pen_close}
 use Rattle.ansi_columns.specs.declared.shown.Alignment.{Alignment}
 use Rattle.ansi_columns.specs.declared.shown.Alignment.TheVariants.{Left, Right, Center}
 use Rattle.ansi_columns.specs.Shown.{fitting_end, has_tail, truncated_end, truncated_ending, truncated, missing, before_text, blanks, closing, padded}
 use Rattle.ansi_columns.proofs.FitLemmas.{fitting_end-fits}
 use Rattle.ansi_columns.proofs.PlaceLemmas.{marks-before}
 use Rattle.ansi_columns.proofs.WalkLemmas.{walk_boundary}
-
--- A style has a close if anything but `reset` alone is set.
-
-written-none : (cs : List (List ℕ)) → written_all cs ≡ [] → cs ≡ []
-written-none [] none = refl
-written-none (c ∷ cs) none = absurd (cc none)
-
-when-none : (b : Bool) (code : List ℕ) → code_if b code ≡ [] → b ≡ false
-when-none true code none = absurd (cc none)
-when-none false code none = refl
-
-when-last : (xs : List (List ℕ)) (b : Bool) (code : List ℕ) → xs ++ code_if b code ≡ [] → (xs ≡ []) × (b ≡ false)
-when-last [] b code none = (refl, when-none b code none)
-when-last (x ∷ xs) b code none = absurd (cc none)
-
-or-false : (x y : Bool) → x ≡ false → y ≡ false → (x || y) ≡ false
-or-false x y first second = ap₂ (λ a b. a || b) first second
-
-known-none : (s : Rendition) → close_codes s ≡ [] → (has_known s || s.unknown) ≡ false
-known-none s none =
-    let a18 = when-last _ s.unknown (codes "0") none in
-    let a17 = when-last _ (s.superscript || s.subscript) (codes "75") a18.0 in
-    let a16 = when-last _ (is_some s.underline_color) (codes "59") a17.0 in
-    let a15 = when-last _ (has_ideogram_attribute s) (codes "65") a16.0 in
-    let a14 = when-last _ s.overlined (codes "55") a15.0 in
-    let a13 = when-last _ (s.framed || s.encircled) (codes "54") a14.0 in
-    let a12 = when-last _ s.proportional_spacing (codes "50") a13.0 in
-    let a11 = when-last _ (is_some s.background) (codes "49") a12.0 in
-    let a10 = when-last _ (is_some s.foreground) (codes "39") a11.0 in
-    let a9 = when-last _ s.crossed_out (codes "29") a10.0 in
-    let a8 = when-last _ s.hide (codes "28") a9.0 in
-    let a7 = when-last _ s.inverse (codes "27") a8.0 in
-    let a6 = when-last _ (s.slow_blink || s.rapid_blink) (codes "25") a7.0 in
-    let a5 = when-last _ (s.underline || s.double_underline) (codes "24") a6.0 in
-    let a4 = when-last _ (s.italic || s.fraktur) (codes "23") a5.0 in
-    let a3 = when-last _ (s.bold || s.faint) (codes "22") a4.0 in
-    let a2 = when-last _ (is_some s.font) (codes "10") a3.0 in
-    let bold = or_parts s.bold s.faint a3.1 in
-    let italic = or_parts s.italic s.fraktur a4.1 in
-    let underline = or_parts s.underline s.double_underline a5.1 in
-    let blink = or_parts s.slow_blink s.rapid_blink a6.1 in
-    let frame = or_parts s.framed s.encircled a13.1 in
-    let script = or_parts s.superscript s.subscript a17.1 in
-    or-false (has_known s) s.unknown
-    (or-false (is_some s.foreground) _ a10.1 (or-false (is_some s.background) _ a11.1 (or-false (is_some s.underline_color) _ a16.1 (or-false (is_some s.font) _ a2.1
-    (or-false s.bold _ bold.0 (or-false s.faint _ bold.1 (or-false s.italic _ italic.0 (or-false s.underline _ underline.0 (or-false s.double_underline _ underline.1
-    (or-false s.slow_blink _ blink.0 (or-false s.rapid_blink _ blink.1 (or-false s.inverse _ a7.1 (or-false s.hide _ a8.1 (or-false s.crossed_out _ a9.1
-    (or-false s.framed _ frame.0 (or-false s.encircled _ frame.1 (or-false s.fraktur _ italic.1 (or-false s.proportional_spacing _ a12.1 (or-false s.overlined _ a14.1
-    (or-false (has_ideogram_attribute s) _ a15.1 (or-false s.superscript _ script.0 (or-false s.subscript _ script.1 refl))))))))))))))))))))))
-    a18.1
-
-pub close-none : (s : Rendition) → close s ≡ [] → (has_known s || s.unknown) ≡ false
-close-none s none = known-none s (written-none (close_codes s) none)
+use Rattle.ansi_safe.proofs.EndingLemmas.{close-none, append-both_nil, link_end-open, link_end-shut, link_end-none, length-link_end, length-closing}
 
 -- Nothing is written.
-
-append-both_nil : {X : Type 0} (x y : List X) → x ++ y ≡ [] → (x ≡ []) × (y ≡ [])
-append-both_nil [] y none = (refl, none)
-append-both_nil (a ∷ x) y none = absurd (cc none)
-
-pub link_end-open : (link : List ℕ) → nat_eq (length link) 0 ≡ false → link_end link ≡ codes "\u{1b}]8;;\u{1b}\\"
-link_end-open link some = ap (λ t. if t then [] else codes "\u{1b}]8;;\u{1b}\\") some
-
-pub link_end-shut : (link : List ℕ) → nat_eq (length link) 0 ≡ true → link_end link ≡ []
-link_end-shut link none = ap (λ t. if t then [] else codes "\u{1b}]8;;\u{1b}\\") none
-
-link_end-length : (b : ℕ) (link : List ℕ) → length (link_end (b ∷ link)) ≡ 7
-link_end-length b link =
-    let some : nat_eq (length (b ∷ link)) 0 ≡ false = grind (arith, nat_tests) in
-    ap length (link_end-open (b ∷ link) some)
-
-link_end-none : (link : List ℕ) → link_end link ≡ [] → length link ≡ 0
-link_end-none [] none = refl
-link_end-none (b ∷ link) none = absurd (omega (arith, link_end-length b link, ap length none))
 
 pub ends_here-yes : (link tail : List ℕ) (style : Rendition) → length tail ≡ 0 → length link ≡ 0 → (has_known style || style.unknown) ≡ false → (link_end link ++ close style) ++ tail ≡ []
 ends_here-yes link tail style no_tail no_link no_style =
@@ -111,15 +40,6 @@ ends_here-no link tail style none =
     let tailed = append-both_nil (link_end link ++ close style) tail none in
     let closed = append-both_nil (link_end link) (close style) tailed.0 in
     (ap length tailed.1, link_end-none link closed.0, close-none style closed.1)
-
--- How long what ends a pen is.
-
-pub length-link_end : (link : List ℕ) → length (link_end link) ≤ longest_link_end
-length-link_end [] = omega arith
-length-link_end (b ∷ link) = omega (arith, link_end-length b link)
-
-pub length-closing : (link : List ℕ) (style : Rendition) → length (link_end link ++ close style) ≤ longest_link_end + longest_close
-length-closing link style = omega (arith, length-append (link_end link) (close style), length-link_end link, length-close style)
 
 -- The front of a text, and what ends its pen.
 

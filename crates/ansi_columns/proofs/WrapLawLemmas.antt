@@ -31,10 +31,10 @@ use Rattle.ansi_split.proofs.PartSliceLemmas.{Divides, state-divided, seen-divid
 use Rattle.ansi_columns.specs.Addresses.{LinkedByte, linked}
 use Rattle.ansi_columns.specs.Columns.{cluster_width, clusters}
 use Rattle.ansi_columns.specs.Lines.{lines, lines_from}
-use Rattle.ansi_columns.specs.Links.{is_link, opens_link, link_of, link_after, link_after_all, link_end}
+use Rattle.ansi_safe.specs.Links.{is_link, opens_link, link_of, link_after, link_after_all, link_end}
 use Rattle.ansi_columns.specs.Wrapped.{WrappedLine, line_over, lines_over, wrapped}
 use Rattle.ansi_columns.proofs.LineLemmas.{line-any, line-last}
-use Rattle.ansi_columns.proofs.LinkLemmas.{is_link-sgr, link_of-pieces, link_through}
+use Rattle.ansi_safe.proofs.LinkLemmas.{is_link-sgr, link_of-pieces, link_through}
 use Rattle.ansi_columns.proofs.LinkedLawLemmas.{linked_byte, linked_through, linked-pieces, IsLinked, IsLinked-append, IsLinked-nil, IsLinked-spelled, IsLinked-interleaved, IsLinked-codes, IsLinked-link_end}
 use Rattle.ansi_columns.proofs.WrapLemmas.{has_no_lines-cons}
 

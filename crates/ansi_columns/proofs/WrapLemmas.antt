@@ -36,13 +36,13 @@ use Rattle.ansi_split.proofs.SplitLemmas.{escape_is_marked}
 use Rattle.ansi_columns.specs.declared.walks.Walk.{Walk}
 use Rattle.ansi_columns.specs.Columns.{cluster_width, clusters}
 use Rattle.ansi_columns.specs.Lines.{lines, lines_from, lines_left}
-use Rattle.ansi_columns.specs.Links.{link_after, link_after_all, link_end, longest_link_end}
+use Rattle.ansi_safe.specs.Links.{link_after, link_after_all, link_end, longest_link_end}
 use Rattle.ansi_columns.specs.Walks.{clusters_from}
 use Rattle.ansi_columns.specs.Wrapped.{WrappedLine, line_over, lines_over, wrapped, marks_left, IsTaken, IsLineSpan}
 use Rattle.ansi_columns.proofs.ColumnLemmas.{clusters_from-start}
 use Rattle.ansi_columns.proofs.LineLemmas.{line-any, line-last}
 use Rattle.ansi_columns.proofs.PlaceLemmas.{offset_of-add}
-use Rattle.ansi_columns.proofs.ShownLemmas.{length-link_end}
+use Rattle.ansi_safe.proofs.EndingLemmas.{length-link_end}
 use Rattle.ansi_split.proofs.SpanLemmas.{interleaved-after}
 use Rattle.ansi_split.proofs.PartLengthLemmas.{length-close_if_any}
 

@@ -2,7 +2,7 @@
 use Rattle.std.specs.Prelude.{ℕ, List, [], length, map, nat_lt, slice_index, Option, None, if◌then◌else◌}
 use Rattle.std.specs.List.{range_with_len}
 use Rattle.ansi_items.specs.Plain.{plain}
-use Rattle.ansi_columns.specs.Links.{address_of, link_at}
+use Rattle.ansi_safe.specs.Links.{address_of, link_at}
 
 -- the address at the position i of t is that of the link that is open at the plain byte there; at and after the end of the plain text there is none (OSC 8; the positions, own)
 abbrev pub address_at : List ℕ → ℕ → Option (List ℕ)

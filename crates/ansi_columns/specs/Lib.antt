@@ -3,7 +3,6 @@ pub mod Lines
 pub mod BreakStates
 pub mod Walks
 pub mod Reverse
-pub mod Links
 pub mod Shown
 pub mod Wrapped
 pub mod Addresses

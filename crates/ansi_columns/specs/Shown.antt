@@ -6,7 +6,7 @@ use Rattle.ansi_slice.specs.Cut.{interleaved}
 use Rattle.ansi_columns.specs.declared.shown.Alignment.{Alignment}
 use Rattle.ansi_columns.specs.declared.shown.Alignment.TheVariants.{Left, Right, Center}
 use Rattle.ansi_columns.specs.Columns.{clusters, cluster_width, columns}
-use Rattle.ansi_columns.specs.Links.{pen_close}
+use Rattle.ansi_safe.specs.Links.{pen_close}
 
 -- the byte up to which these clusters fit into `width` columns; `FitsUpTo` says the same (own)
 abbrev pub fitting_end : ℕ → List (List ℕ) → ℕ

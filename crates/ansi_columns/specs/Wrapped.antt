@@ -15,7 +15,7 @@ use Rattle.ansi_search.specs.Positions.{no_character_goes_on}
 use Rattle.ansi_split.specs.Spans.{marks_further_on}
 use Rattle.ansi_columns.specs.declared.walks.Walk.{Walk}
 use Rattle.ansi_columns.specs.Lines.{lines}
-use Rattle.ansi_columns.specs.Links.{link_after_all, link_end, longest_link_end}
+use Rattle.ansi_safe.specs.Links.{link_after_all, link_end, longest_link_end}
 use Rattle.ansi_columns.specs.Walks.{IsWalk}
 
 -- a line of a wrap: its bytes, whether it is a borrow, and its source length, which is the number of its bytes that come from the text or from the link carried into it

@@ -3,10 +3,10 @@ ghost use Rattle.std.specs.Prelude.{◌≡◌, ◌↔◌, ◌≤◌, ◌⊎◌, 
 ghost use Rattle.std.specs.Option.{option_map};
 ghost use Rattle.ansi_items.specs.Plain.{plain};
 ghost use Rattle.ansi_items.specs.Sequences.{IsSequence};
-ghost use Rattle.ansi_columns.specs.Links.{address_of, link_at};
+ghost use Rattle.ansi_safe.specs.Links.{address_of, link_at};
 ghost use Rattle.ansi_columns.specs.Addresses.{address_at};
 
-use crate::links::{address_of, link_after, terminator_len};
+use ansi_safe::links::{address_of, link_after, terminator_len};
 use ansi_items::ansitok::{Kind, Scanner};
 
 /// Like `AnsiColumns::ansi_link_at`; the address it returns lives as long as the text.

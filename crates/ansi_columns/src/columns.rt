@@ -10,7 +10,7 @@ ghost use Rattle.ansi_search.specs.Positions.{is_good_range};
 ghost use Rattle.ansi_style.specs.Written.{longest_close};
 ghost use Rattle.ansi_columns.specs.Addresses.{address_at};
 ghost use Rattle.ansi_columns.specs.Columns.{columns, FitsUpTo};
-ghost use Rattle.ansi_columns.specs.Links.{link_at, longest_link_end};
+ghost use Rattle.ansi_safe.specs.Links.{link_at, longest_link_end};
 ghost use Rattle.ansi_columns.specs.Shown.{truncated_ending, truncated, missing, closing, padded};
 ghost use Rattle.ansi_columns.specs.Wrapped.{wrapped};
 

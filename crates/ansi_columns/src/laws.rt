@@ -15,7 +15,7 @@ ghost use Rattle.ansi_columns.specs.declared.shown.Alignment.{Alignment};
 ghost use Rattle.ansi_columns.specs.Addresses.{linked, without_link};
 ghost use Rattle.ansi_columns.specs.Columns.{clusters, columns, FitsUpTo, IsClusterBoundary};
 ghost use Rattle.ansi_columns.specs.Lines.{lines, AreLinesFrom, reassembled};
-ghost use Rattle.ansi_columns.specs.Links.{link_of};
+ghost use Rattle.ansi_safe.specs.Links.{link_of};
 ghost use Rattle.ansi_columns.specs.Shown.{has_tail, truncated_end, truncated, missing};
 ghost use Rattle.ansi_columns.specs.Shown.{before_text, blanks, padded};
 ghost use Rattle.ansi_columns.specs.Wrapped.{wrapped};

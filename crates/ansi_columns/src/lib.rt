@@ -14,7 +14,6 @@ mod fits;
 mod from_end;
 pub mod laws;
 pub mod lines;
-mod links;
 pub mod shown;
 mod walks;
 pub mod wrap;

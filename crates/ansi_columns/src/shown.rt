@@ -7,13 +7,13 @@ ghost use Rattle.ansi_items.specs.Plain.{plain};
 ghost use Rattle.ansi_search.specs.Offsets.{StandsIn};
 ghost use Rattle.ansi_style.specs.States.{rendition_of};
 ghost use Rattle.ansi_style.specs.Written.{close, longest_close};
-ghost use Rattle.ansi_columns.specs.Links.{link_end, longest_link_end};
+ghost use Rattle.ansi_safe.specs.Links.{link_end, longest_link_end};
 ghost use Rattle.ansi_columns.specs.Shown.{has_tail, truncated_end, truncated_ending, truncated};
 ghost use Rattle.ansi_columns.specs.Shown.{missing, before_text, blanks, closing, padded};
 
 use crate::columns;
 use crate::fits::fitting_front;
-use crate::links::{Pen, pen_after};
+use ansi_safe::links::{Pen, pen_after};
 use ansi_style::styles;
 use std::alloc::{AllocError, Allocator};
 use std::borrow::CowStr;

@@ -5,11 +5,11 @@ ghost use Rattle.std.specs.Option.{MatchOption};
 ghost use Rattle.ansi_items.specs.Plain.{plain};
 ghost use Rattle.ansi_style.specs.States.{rendition_of};
 ghost use Rattle.ansi_style.specs.Written.{close_if_any, longest_start_and_close};
-ghost use Rattle.ansi_columns.specs.Links.{link_end, longest_link_end};
+ghost use Rattle.ansi_safe.specs.Links.{link_end, longest_link_end};
 ghost use Rattle.ansi_columns.specs.Wrapped.{wrapped, IsWrappedLine};
 
 use crate::lines::first_line;
-use crate::links::{Pen, pen_after_from, plain_pen};
+use ansi_safe::links::{Pen, pen_after_from, plain_pen};
 use crate::walks::Walk;
 use ansi_search::search::PAST_THE_END;
 use ansi_slice::slice::{has_any, push_sequences};

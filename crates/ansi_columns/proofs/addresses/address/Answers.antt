@@ -1,6 +1,6 @@
 use Rattle.std.proofs.Common.{◌≡◌, ◌-◌, Some, length, slice_range, sym, ◌∙◌, ap, subst}
 use Rattle.std.specs.Str.{IsCharBoundary}
-use Rattle.ansi_columns.specs.Links.{terminator_len, address_of}
+use Rattle.ansi_safe.specs.Links.{terminator_len, address_of}
 use Rattle.ansi_columns.proofs.AddressLemmas.{address-stands}
 use Rattle.ansi_columns.proofs.addresses.address.Goals as goal
 

@@ -1,7 +1,7 @@
 use Rattle.std.proofs.Common.{◌≡◌, ◌++◌, string_bytes, ◌∙◌, ap, ap₂, append_assoc}
 use Rattle.ansi_style.specs.States.{rendition_of}
 use Rattle.ansi_style.specs.Written.{close}
-use Rattle.ansi_columns.specs.Links.{link_end}
+use Rattle.ansi_safe.specs.Links.{link_end}
 use Rattle.ansi_columns.specs.Shown.{blanks}
 use Rattle.ansi_columns.proofs.shown.closed.Goals as goal
 

@@ -1,9 +1,10 @@
 use Rattle.std.proofs.Common.{◌≡◌, ◌-◌, ◌++◌, length, string_bytes, ◌∙◌, ap, arith}
 use Rattle.ansi_style.specs.States.{rendition_of}
 use Rattle.ansi_style.specs.Written.{close}
-use Rattle.ansi_columns.specs.Links.{link_end}
+use Rattle.ansi_safe.specs.Links.{link_end}
 use Rattle.ansi_columns.specs.Shown.{missing, blanks}
-use Rattle.ansi_columns.proofs.ShownLemmas.{pen_at_end, closed_at_end, open_at_end, padded-bytes, padded-alone, padded-length, length-closing}
+use Rattle.ansi_columns.proofs.ShownLemmas.{pen_at_end, closed_at_end, open_at_end, padded-bytes, padded-alone, padded-length}
+use Rattle.ansi_safe.proofs.EndingLemmas.{length-closing}
 use Rattle.ansi_columns.proofs.shown.pad.Goals.{else-missing-eq0-via-then-missing-eq0+else-ends_here, else-missing-eq0-via-else-missing-eq0}
 use Rattle.ansi_columns.proofs.shown.pad.Goals as goal
 

@@ -1,7 +1,7 @@
 use Rattle.std.proofs.Common.{◌≡◌, ◌-◌, ◌++◌, length, take, string_bytes, sym, ◌∙◌, ap, arith}
 use Rattle.ansi_style.specs.States.{rendition_of}
 use Rattle.ansi_style.specs.Written.{close}
-use Rattle.ansi_columns.specs.Links.{link_end}
+use Rattle.ansi_safe.specs.Links.{link_end}
 use Rattle.ansi_columns.proofs.ShownLemmas.{IsCutTo-front, cut-ending, cut-bytes, cut-alone, cut-length}
 use Rattle.ansi_columns.proofs.shown.truncate.Goals as goal
 

@@ -4,7 +4,7 @@ use Rattle.ansi_items.specs.Plain.{plain}
 use Rattle.ansi_style.specs.States.{rendition_of}
 use Rattle.ansi_style.specs.Written.{start, close_if_any}
 use Rattle.ansi_slice.specs.Stretches.{sequences_up_to}
-use Rattle.ansi_columns.specs.Links.{link_end}
+use Rattle.ansi_safe.specs.Links.{link_end}
 use Rattle.ansi_items.proofs.PlainLemmas.{length-plain}
 use Rattle.ansi_search.proofs.PositionLemmas.{no_character_goes_on-past}
 use Rattle.ansi_columns.specs.Wrapped.{WrappedLine}

@@ -7,7 +7,7 @@ use Rattle.ansi_style.specs.States.{rendition_of}
 use Rattle.ansi_search.specs.Positions.{no_character_goes_on}
 use Rattle.ansi_search.proofs.PositionLemmas.{no_character_goes_on-boundary}
 use Rattle.ansi_columns.specs.Lines.{lines_left}
-use Rattle.ansi_columns.specs.Links.{link_after_all}
+use Rattle.ansi_safe.specs.Links.{link_after_all}
 use Rattle.ansi_columns.specs.Walks.{clusters_from}
 use Rattle.ansi_columns.specs.Wrapped.{WrappedLine, line_over, lines_over, marks_left, IsTaken}
 use Rattle.ansi_columns.proofs.WalkLemmas.{walk_boundary}

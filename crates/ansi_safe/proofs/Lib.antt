@@ -1,0 +1,8 @@
+pub mod LinkLemmas
+mod LinkExamples
+pub mod EndingLemmas
+pub mod PieceStepLemmas
+pub mod MadeLemmas
+pub mod StandLemmas
+pub mod SafeLemmas
+pub mod CharacterLemmas

@@ -1,0 +1,15 @@
+use Rattle.std.proofs.Common.{◌≡◌, ◌++◌, length, chars, encode_utf8_all, flat_map, string_bytes}
+use denote.Text.{Utf8}
+use denote.Shadow.{shadow}
+use Rattle.ansi_safe.specs.Sanitized.{instead}
+use Rattle.ansi_safe.proofs.shown.push_instead_of_all.Given as goal
+
+-- what is written and what is made of what is left are what was there and what is made of all
+abbrev pub invariant-loop-c : goal.invariant-loop-c
+invariant-loop-c g l = record {
+  left_is_text : shadow (Utf8 l.left);
+  written : string_bytes l.out ++ encode_utf8_all (flat_map (instead l.rest) (chars l.left)) ≡ string_bytes l.fn.out ++ encode_utf8_all (flat_map (instead l.rest) (chars l.piece));
+}
+
+abbrev pub decreases-loop-c : goal.decreases-loop-c
+decreases-loop-c g l = length (chars l.left)

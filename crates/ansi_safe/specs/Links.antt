@@ -1,0 +1,67 @@
+-- The hyperlink at a place of a text, and the sequence that closes it.
+use Rattle.std.specs.Prelude.{◌≡◌, ℕ, ◌+◌, ◌-◌, ◌==◌, Bool, not, ◌&&◌, List, [], ◌++◌, length, map, drop, filter, reverse, slice_range, slice_get, nat_eq, nat_lt, Option, Some, None, is_some, unwrap_or, fold, if◌then◌else◌, codes}
+use Rattle.std.specs.List.{prefix_len, starts_with, ends_with}
+use Rattle.std.specs.Str.{byte}
+use Rattle.ansi_items.specs.Plain.{Mark, marks, marks_up_to}
+use Rattle.ansi_style.specs.Rendition.{plain_style}
+use Rattle.ansi_style.specs.Styled.{style_at, style_after, residue}
+use Rattle.ansi_style.specs.Written.{close}
+
+-- the length of the terminator of an operating system command: BEL is one byte, ESC `\` is two
+abbrev pub terminator_len : List ℕ → ℕ
+terminator_len w = if ends_with nat_eq w (codes "\u{7}") then 1 else 2
+
+-- the address of the whole sequence w, if it is a link sequence: ESC `]8;`, parameters, `;` and an address (OSC 8)
+abbrev pub address_of : List ℕ → Option (List ℕ)
+address_of w =
+    let fields = slice_range w 4 (length w - terminator_len w) in
+    let parameters = prefix_len (λ b. not (b == byte ";")) fields in
+    if starts_with nat_eq w (codes "\u{1b}]8;") && nat_lt parameters (length fields)
+    then Some (drop (parameters + 1) fields) else None
+
+-- the sequence w opens or closes a link
+abbrev pub is_link : List ℕ → Bool
+is_link w = is_some (address_of w)
+
+-- a link sequence opens a link if its address isn't empty
+abbrev pub opens_link : List ℕ → Bool
+opens_link w = nat_lt 0 (length (unwrap_or (address_of w) []))
+
+-- the link after marks is the last link sequence among them, if that opens one; else it is empty (own)
+abbrev pub link_of : List Mark → List ℕ
+link_of ms =
+    let last = unwrap_or (slice_get (reverse (filter is_link (map (λ (m : Mark). m.bytes) ms))) 0) [] in
+    if opens_link last then last else []
+
+-- the link after the sequence w, if `link` is open before it
+abbrev pub link_after : List ℕ → List ℕ → List ℕ
+link_after link w = if is_link w then (if opens_link w then w else []) else link
+
+-- the link after marks, if `link` is open before them
+abbrev pub link_after_all : List ℕ → List Mark → List ℕ
+link_after_all link ms = fold link_after link (map (λ (m : Mark). m.bytes) ms)
+
+-- the link at the place i of t is that after every mark at a place up to i (own)
+abbrev pub link_at : List ℕ → ℕ → List ℕ
+link_at t i = link_of (marks_up_to i (marks t))
+
+-- the sequence that closes a link, if one is open (OSC 8)
+abbrev pub link_end : List ℕ → List ℕ
+link_end link = if length link == 0 then [] else codes "\u{1b}]8;;\u{1b}\\"
+
+-- the greatest length of that sequence, in bytes
+abbrev pub longest_link_end : ℕ
+longest_link_end = 7
+
+-- what closes the pen at the place i of t: the end of the link, and then the close of the style (own)
+abbrev pub pen_close : List ℕ → ℕ → List ℕ
+pen_close t i = link_end (link_at t i) ++ close (style_at t i)
+
+-- what ends what is open at the end of t: the end of its link, and then the close of its style (own)
+abbrev pub ending : List ℕ → List ℕ
+ending t = link_end (link_of (marks t)) ++ close (style_after t)
+
+-- no known style and no link is open at the end of t
+pub record IsClosed (t : List ℕ) : Type 0 where
+  pub style : residue t ≡ plain_style
+  pub link : link_of (marks t) ≡ []

@@ -1,0 +1,44 @@
+//! Laws of safe texts.
+//!
+//! Each function has one law as its contract, does nothing and returns nothing. A body that needs
+//! the law calls it. (Own.)
+ghost use Rattle.std.specs.Prelude.{◌≡◌, ◌++◌, ℕ, List, [], IsTrue};
+ghost use Rattle.std.specs.Str.{IsUtf8};
+ghost use Rattle.ansi_items.specs.Plain.{is_whole};
+ghost use Rattle.ansi_style.specs.Styled.{styled};
+ghost use Rattle.ansi_safe.specs.declared.policy.Links.{Links};
+ghost use Rattle.ansi_safe.specs.declared.policy.Policy.{Policy};
+ghost use Rattle.ansi_safe.specs.declared.policy.Rest.TheVariants.{Drop};
+ghost use Rattle.ansi_safe.specs.Links.{ending, IsClosed};
+ghost use Rattle.ansi_safe.specs.Safe.{is_safe};
+ghost use Rattle.ansi_safe.specs.Sanitized.{sanitized, standing, marked};
+
+/// A safe text is whole.
+pub fn safe_is_whole()
+    ensures { (links : Links) (t : List ℕ) → IsTrue (is_safe links t) → IsTrue (is_whole t) }
+{}
+
+/// What is made of a text is safe, whatever the text is, and leaves no known style and no link
+/// open. Made safe again, it stays as it is.
+pub fn sanitized_is_safe()
+    ensures safe { (policy : Policy) (t : List ℕ) → IsUtf8 t →
+        IsTrue (is_safe policy.links (sanitized policy t)) }
+    ensures closed { (policy : Policy) (t : List ℕ) → IsUtf8 t → IsClosed (sanitized policy t) }
+    ensures ended { (policy : Policy) (t : List ℕ) → IsUtf8 t → ending (sanitized policy t) ≡ [] }
+    ensures again { (policy : Policy) (t : List ℕ) → IsUtf8 t →
+        sanitized policy (sanitized policy t) ≡ sanitized policy t }
+{}
+
+/// A safe text stays as it is, with what ends it.
+pub fn safe_is_unchanged()
+    ensures { (policy : Policy) (t : List ℕ) → IsTrue (is_safe policy.links t) →
+        sanitized policy t ≡ t ++ ending t }
+{}
+
+/// If what may not stand is dropped, the plain bytes that stay, each with its known style, are
+/// those of the characters that may stand where they are. Nothing else is lost.
+pub fn characters_stay()
+    ensures { (links : Links) (t : List ℕ) → IsUtf8 t →
+        styled (sanitized (record { rest = Drop; links = links }) t)
+        ≡ marked (standing t) (styled t) }
+{}

@@ -1,0 +1,13 @@
+//! Safe output: a stranger's text can't drive the terminal.
+//!
+//! A safe text has printing characters, TAB, line ends, select graphic renditions and, if they are
+//! asked for, links. It has no other sequence, no control and no bidirectional control.
+//! `CALLING.md` beside this folder says how a crate depends on this one and calls it.
+#![tactic(auto)]
+
+pub mod laws;
+pub mod links;
+pub mod policy;
+pub mod safe;
+mod shown;
+mod standing;

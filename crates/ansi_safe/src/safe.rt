@@ -1,0 +1,112 @@
+//! Safe texts, and what makes any text one.
+ghost use Rattle.std.specs.Prelude.{◌≡◌, ◌↔◌, ◌++◌, [], IsTrue, IsOk, IfOk, OnOk, string_bytes};
+ghost use Rattle.std.specs.Cow.{cow_str_bytes, IsBorrowedStr};
+ghost use Rattle.ansi_items.specs.Pieces.{spelling};
+ghost use Rattle.ansi_items.specs.Scans.{kind_of, piece_of_kind};
+ghost use Rattle.ansi_safe.specs.Links.{ending, IsClosed};
+ghost use Rattle.ansi_safe.specs.Safe.{is_safe};
+ghost use Rattle.ansi_safe.specs.Sanitized.{becomes, cleaned, sanitized};
+
+use crate::links::{Ending, LONGEST_ENDING};
+use crate::policy::{Links, Policy};
+use crate::shown::{push_instead_of_all, push_run};
+use crate::standing::may_stay;
+use ansi_items::ansitok::{Kind, Scanner};
+use std::alloc::{AllocError, Allocator};
+use std::borrow::CowStr;
+
+/// Like `AnsiSafe::ansi_is_safe`.
+///
+/// ```
+/// assert!(rt; is_safe("\x1b[31mred\x1b[39m", Links::Remove) && !is_safe("\x1b[2J", Links::Keep));
+/// ```
+pub fn is_safe(text: &str, links: Links) -> bool
+    ensures { result ≡ is_safe links text.now }
+{
+    for item in Scanner::new(text) {
+        if !may_stay(item.kind, &text[item.start..item.end], links) {
+            return false;
+        }
+    }
+    true
+}
+
+/// Like `AnsiSafe::ansi_sanitize`, with a result that lives as long as the text, and with any
+/// allocator.
+///
+/// ```
+/// let policy = Policy { rest: Rest::Drop, links: Links::Keep };
+/// let safe = sanitize(rt.alloc(), "\x1b[2J\x1b[31mred", policy)?;
+/// assert!(rt; safe.as_str() == "\x1b[31mred\x1b[39m");
+/// ```
+pub fn sanitize<'t, A: Allocator>(
+    alloc: A,
+    text: &'t str,
+    policy: Policy,
+) -> Result<CowStr<'t, A>, AllocError>
+    ensures bytes { IfOk result (λ c. cow_str_bytes c ≡ sanitized policy text.now) }
+    ensures borrowed { IfOk result (λ c. IsBorrowedStr c
+        ↔ (IsTrue (is_safe policy.links text.now) × (ending text.now ≡ []))) }
+    ensures takes_no_memory { IsTrue (is_safe policy.links text.now) × (ending text.now ≡ []) →
+        IsOk result }
+    ensures safe { IfOk result (λ c. IsTrue (is_safe policy.links (cow_str_bytes c))) }
+    ensures closed { IfOk result (λ c. IsClosed (cow_str_bytes c)) }
+{
+    if is_safe(text, policy.links) && Ending::of(text).is_empty() {
+        return Ok(CowStr::Borrowed(text));
+    }
+    Ok(CowStr::Owned(write_sanitized(alloc, text, policy)?))
+}
+
+/// A text made safe, written.
+fn write_sanitized<A: Allocator>(
+    alloc: A,
+    text: &str,
+    policy: Policy,
+) -> Result<String<A>, AllocError>
+    ensures { IfOk result (λ s. string_bytes s ≡ sanitized policy text.now) }
+{
+    let mut out = String::with_capacity(alloc, text.len() + LONGEST_ENDING)?;
+    push_cleaned(&mut out, text, policy)?;
+    let ending = Ending::of(out.as_str());
+    ending.push_to(&mut out)?;
+    Ok(out)
+}
+
+/// Appends a text with what each of its items becomes. `Err` means out of memory; what was appended
+/// before it stays.
+fn push_cleaned<A: Allocator>(
+    out: &mut String<A>,
+    text: &str,
+    policy: Policy,
+) -> Result<(), AllocError>
+    ensures { OnOk result (string_bytes out.new
+        ≡ string_bytes out.old ++ cleaned policy text.now) }
+{
+    for item in Scanner::new(text) {
+        push_item(out, item.kind, &text[item.start..item.end], policy)?;
+    }
+    Ok(())
+}
+
+/// Appends what an item of this kind becomes. `Err` means out of memory; what was appended before
+/// it stays.
+fn push_item<A: Allocator>(
+    out: &mut String<A>,
+    kind: Kind,
+    piece: &str,
+    policy: Policy,
+) -> Result<(), AllocError>
+    requires kind { kind ≡ kind_of (piece_of_kind kind piece.now) }
+    requires bytes { piece.now ≡ spelling (piece_of_kind kind piece.now) }
+    ensures { OnOk result (string_bytes out.new
+        ≡ string_bytes out.old ++ becomes policy (piece_of_kind kind piece.now)) }
+{
+    if may_stay(kind, piece, policy.links) {
+        return out.push_str(piece);
+    }
+    match kind {
+        Kind::Text => push_run(out, piece, policy.rest),
+        _ => push_instead_of_all(out, piece, policy.rest),
+    }
+}

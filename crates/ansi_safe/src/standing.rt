@@ -1,0 +1,77 @@
+//! What may stand in a safe text.
+ghost use Rattle.std.specs.Prelude.{◌≡◌, ◌++◌, ◌∷◌, [], MatchOption, chars, encode_utf8};
+ghost use Rattle.ansi_items.specs.Scans.{kind_of, piece_of_kind};
+ghost use Rattle.ansi_safe.specs.Safe.{is_printing, may_stand, all_may_stand, is_clean_link};
+ghost use Rattle.ansi_safe.specs.Safe.{may_stay};
+
+use crate::links::{address_of, terminator_len};
+use crate::policy::Links;
+use ansi_items::ansitok::Kind;
+
+/// Whether an item of this kind may stay.
+pub(crate) fn may_stay(kind: Kind, piece: &str, links: Links) -> bool
+    requires { kind ≡ kind_of (piece_of_kind kind piece.now) }
+    ensures { result ≡ may_stay links (piece_of_kind kind piece.now) }
+{
+    match kind {
+        Kind::Text => all_may_stand(piece),
+        Kind::Sgr => true,
+        Kind::Other => links == Links::Keep && is_clean_link(piece.as_bytes()),
+        Kind::Lone => false,
+    }
+}
+
+/// Whether this is a link sequence whose bytes are printable ASCII.
+fn is_clean_link(sequence: &[u8]) -> bool
+    ensures { result ≡ is_clean_link sequence.now }
+{
+    if address_of(sequence).is_none() {
+        return false;
+    }
+    let end = sequence.len() - terminator_len(sequence);
+    let inside = &sequence[2..end];
+    inside.iter().all(|b| matches!(*b, 0x20..=0x7E))
+}
+
+/// Whether each character of the run may stand where it is.
+fn all_may_stand(run: &str) -> bool
+    ensures { result ≡ all_may_stand (chars run.now) }
+{
+    let mut left = run;
+    while let Some((c, after)) = split_first(left) {
+        if !may_stand(c, after) {
+            return false;
+        }
+        left = after;
+    }
+    true
+}
+
+/// The first character of a text, and the text after it.
+pub(crate) fn split_first(text: &str) -> Option<(char, &str)>
+    ensures { MatchOption result (chars text.now ≡ []) (λ (first, after).
+        (text.now ≡ encode_utf8 first ++ after.now)
+        × (chars text.now ≡ first ∷ chars after.now)) }
+{
+    let mut chars = text.chars();
+    let first = chars.next()?;
+    Some((first, chars.as_str()))
+}
+
+/// Whether the character may stand in a run, in front of this text.
+pub(crate) fn may_stand(c: char, after: &str) -> bool
+    ensures { result ≡ may_stand c (chars after.now) }
+{
+    match c {
+        '\t' | '\n' => true,
+        '\r' => matches!(split_first(after), Some(('\n', _))),
+        _ => is_printing(c),
+    }
+}
+
+/// Whether the character is neither a control character nor a bidirectional control.
+pub(crate) fn is_printing(c: char) -> bool
+    ensures { result ≡ is_printing c }
+{
+    !matches!(c, '\0'..='\u{1F}' | '\u{7F}'..='\u{9F}' | '\u{202A}'..='\u{202E}' | '\u{2066}'..='\u{2069}')
+}
