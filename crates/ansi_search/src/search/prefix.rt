@@ -50,6 +50,7 @@ pub(super) fn continues_with(text: &str, pat: &[u8], place: usize) -> bool
 
 /// The run at the front of a text and what follows the mark after it. If no mark begins in the
 /// first `most` bytes, it is these bytes alone.
+#[inline(always)]
 pub(super) fn run_front<'t>(text: &'t str, most: usize) -> (&'t [u8], &'t str)
     ensures front { take most (plain text.now) ≡ take most (result.0.now ++ plain result.1.now) }
     ensures most { length result.0.now ≤ most }
