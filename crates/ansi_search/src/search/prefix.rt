@@ -60,6 +60,9 @@ pub(super) fn run_front<'t>(text: &'t str, most: usize) -> (&'t [u8], &'t str)
     ensures shorter { 0 < length text.now → length result.1.now < length text.now }
 {
     let bytes = text.as_bytes();
+    if bytes.first() == Some(&ESC) {
+        return (&bytes[..0], after_mark(text));
+    }
     let front = &bytes[..most.min(bytes.len())];
     match memchr(ESC, front) {
         Some(len) => (&bytes[..len], after_mark(&text[len..])),
