@@ -1,7 +1,7 @@
 -- A pattern at the front and at the end of a text.
-use Rattle.ansi_search.proofs.Common.{◌≡◌, ℕ, ◌+◌, ◌-◌, ◌≤◌, IsTrue, true, ◌&&◌, List, ◌∷◌, ◌++◌, length, take, drop, nat_eq, refl, sym, ◌∙◌, ap, ap₂, subst, arith, and_assoc, nat_eq_equiv, take-append-le, take_all, drop-drop, length-drop, length-take, IsCharBoundary-from_take, IsCharBoundary-from_drop, pointwise, same_text, starts_with, ends_with, IsUtf8, IsCharBoundary, pieces_of, plain, no_character_goes_on, StandsIn, []}
-use Rattle.ansi_search.proofs.PositionLemmas.{no_character_goes_on-boundary}
-use Rattle.ansi_search.proofs.OffsetLemmas.{IsPassed, StandsIn-after}
+use Rattle.ansi_search.proofs.Common.{◌≡◌, ℕ, ◌+◌, ◌-◌, ◌≤◌, IsTrue, true, ◌&&◌, List, ◌∷◌, ◌++◌, length, take, drop, nat_eq, refl, sym, ◌∙◌, ap, ap₂, subst, arith, and_assoc, nat_eq_equiv, take-append-le, take_all, drop-drop, length-drop, length-take, IsCharBoundary-from_take, IsCharBoundary-from_drop, pointwise, same_text, starts_with, ends_with, IsUtf8, IsCharBoundary, pieces_of, plain, no_character_goes_on, is_good_position, StandsIn, [], Bool, false, true≢false, IsFalse}
+use Rattle.ansi_search.proofs.PositionLemmas.{no_character_goes_on-boundary, is_good_position-from}
+use Rattle.ansi_search.proofs.OffsetLemmas.{IsPassed, StandsIn-after, plain-after}
 use Rattle.ansi_search.specs.Offsets.{IsEnd}
 
 -- a pattern that is no longer than the text at the front is in that text
@@ -39,12 +39,12 @@ module _ (t rest p : List ℕ) (start place : ℕ) (end : IsEnd t start) (is : r
   there : end.before + place ≡ length (plain t) - length p
   there = omega (arith, size, end.count)
 
-  pub end-starts : starts_with nat_eq (drop place (plain rest)) p ≡ ends_with nat_eq (plain t) p
+  end-starts : starts_with nat_eq (drop place (plain rest)) p ≡ ends_with nat_eq (plain t) p
   end-starts =
       ap (λ x. starts_with nat_eq (drop place x) p) (ap plain is ∙ sym end.rest)
       ∙ ap (λ x. starts_with nat_eq x p) (drop-drop place end.before (plain t) ∙ ap (λ k. drop k (plain t)) there) ∙ ends_with-starts_with (plain t) p
 
-  pub end-good : IsUtf8 p → starts_with nat_eq (drop place (plain rest)) p ≡ true → IsTrue (no_character_goes_on (plain rest) place)
+  end-good : IsUtf8 p → starts_with nat_eq (drop place (plain rest)) p ≡ true → IsTrue (no_character_goes_on (plain rest) place)
   end-good utf8 starts =
       let last : place ≡ length (plain rest) - length p = omega (arith, size, ap (λ u. length (plain u)) is) in
       let ends : ends_with nat_eq (plain rest) p ≡ true = sym (ends_with-starts_with (plain rest) p) ∙ ap (λ n. starts_with nat_eq (drop n (plain rest)) p) (sym last) ∙ starts in
@@ -54,3 +54,16 @@ module _ (t rest p : List ℕ) (start place : ℕ) (end : IsEnd t start) (is : r
   end-stands {i} stands =
       let way : IsPassed t end.before start (pieces_of rest) = subst (λ u. IsPassed t end.before start (pieces_of u)) (sym is) (record { count = end.count; rest = end.rest; offset = end.offset }) in
       subst (λ k. StandsIn t k (start + i)) there (StandsIn-after way is end.boundary.0 stands)
+
+  pub end-matches : {i : ℕ} → StandsIn rest place i → starts_with nat_eq (plain (drop (start + i) t)) p ≡ ends_with nat_eq (plain t) p
+  end-matches {i} stands =
+      let n = length (plain t) - length p in
+      ap (λ x. starts_with nat_eq x p) (ap (λ k. plain (drop k t)) (end-stands stands).offset ∙ plain-after t n) ∙ ends_with-starts_with (plain t) p
+
+  -- no pattern begins inside a character
+  pub end-inside : IsUtf8 p → IsFalse (is_good_position (plain rest) place) → IsFalse (ends_with nat_eq (plain t) p)
+  end-inside utf8 inside = read (ends_with nat_eq (plain t) p) refl
+    where
+      read : (b : Bool) → ends_with nat_eq (plain t) p ≡ b → ends_with nat_eq (plain t) p ≡ false
+      read true is = absurd (true≢false (sym (is_good_position-from (plain rest) place (end-good utf8 (end-starts ∙ is))) ∙ inside))
+      read false is = is

@@ -7,6 +7,7 @@ pub mod TwoWayLemmas
 pub mod OffsetLemmas
 pub mod SplitLemmas
 pub mod EndLemmas
+pub mod WhiteSpaceLemmas
 pub mod WindowLemmas
 pub mod PrefixLemmas
 mod FindExamples

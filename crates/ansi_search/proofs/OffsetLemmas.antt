@@ -211,6 +211,17 @@ passed-text {t} {place} {passed} {w = w} {ps = ps} way over =
 pub passed-mark : {t : List ℕ} {place passed at : ℕ} {kind : Kind} {w : List ℕ} {left ps : List Piece} → IsPassed t place passed left → IsOverMark kind t w passed at left ps → IsPassed t place at ps
 passed-mark way over = grind (arith, bytes_before-mark, plain_of-mark)
 
+-- and more of what follows
+pub passed-after : {t rest : List ℕ} {place passed n i : ℕ} {left : List Piece} → IsPassed t place passed (pieces_of rest) → IsPassed rest n i left → IsPassed t (place + n) (passed + i) left
+passed-after {t} {rest} {place} {passed} {n} {i} {left} way further = record {
+  count = omega (arith, way.count, further.count);
+  rest = sym (drop-drop n place (plain t)) ∙ ap (drop n) way.rest ∙ further.rest;
+  offset = λ k. (
+      let sum : place + n + k ≡ place + (n + k) = omega arith in
+      let there : offset_of t (place + n + k) ≡ passed + offset_of rest (n + k) = ap (offset_of t) sum ∙ way.offset (n + k) in
+      omega (arith, there, further.offset k));
+}
+
 -- a place in what follows a place that was passed
 pub StandsIn-after : {t rest : List ℕ} {place passed n i : ℕ} → IsPassed t place passed (pieces_of rest) → rest ≡ drop passed t → passed ≤ length t → StandsIn rest n i → StandsIn t (place + n) (passed + i)
 StandsIn-after {t} {rest} {place} {passed} {n} {i} way is fits stands = record {

@@ -1,7 +1,7 @@
 -- Good positions, in a text at the front and after it, and as std's character boundaries.
 use Rattle.std.proofs.lemmas.Bool.{ne_eqb, or_cases}
 use Rattle.std.proofs.Math.Bool.{or-true}
-use Rattle.ansi_search.proofs.Common.{◌⊎◌, ◌||◌, ◌==◌, ◌≡◌, ℕ, zero, suc, ◌-◌, ◌<◌, ◌≤◌, inl, inr, not, true, false, List, ◌++◌, length, drop, IsTrue, Some, None, Option, ◌&&◌, refl, sym, ◌∙◌, ap, ap₂, subst, arith, ◌+◌, ◌↔◌, Bool, min, nat_le, eqb-true, leb-true, leb-false, le-leb, and_parts, and_from, lt-leb, cases_lt, not-true, not_from_false, and_left, and_right, and_cases, get_or_append_left, get_or_past, get_or-append_right, get_or-drop, length-append, length-drop, both_ways, IsCharBoundary-start, IsCharBoundary-end, unwrap_or, IsUtf8, IsCharBoundary, plain, length-plain, is_continuation_byte, no_character_goes_on, is_good_position, is_char_boundary, is_good_range, is_position_in, is_range_in}
+use Rattle.ansi_search.proofs.Common.{◌⊎◌, ◌||◌, ◌==◌, ◌≡◌, ℕ, zero, suc, ◌-◌, ◌<◌, ◌≤◌, inl, inr, not, true, false, List, ◌++◌, length, drop, IsTrue, Some, None, Option, ◌&&◌, refl, sym, ◌∙◌, ap, ap₂, subst, arith, ◌+◌, ◌↔◌, Bool, min, nat_le, eqb-true, leb-true, leb-false, le-leb, and_parts, and_from, lt-leb, cases_lt, not-true, not_from_false, and_left, and_right, and_cases, get_or_append_left, get_or_past, get_or-append_right, get_or-drop, get_or-take, length-take, take, length-drop, both_ways, IsCharBoundary-start, IsCharBoundary-end, unwrap_or, IsUtf8, IsCharBoundary, plain, length-plain, is_continuation_byte, no_character_goes_on, is_good_position, is_char_boundary, is_good_range, is_position_in, is_range_in}
 
 pub no_character_goes_on-past : (x : List ℕ) (n : ℕ) → length x ≤ n → no_character_goes_on x n ≡ true
 no_character_goes_on-past x n past = ap (λ b. not (is_continuation_byte b)) (get_or_past x n 0 past)
@@ -63,15 +63,20 @@ boundary_test x n b within test = both_ways _ _ (λ yes. no_character_goes_on-bo
 pub char_boundary_is : (x : List ℕ) (n : ℕ) → IsTrue (is_char_boundary x n) ↔ IsCharBoundary x n
 char_boundary_is x n = (is_char_boundary-is x n, is_char_boundary-from x n)
 
--- Boundaries of a run within a plain text.
+-- Boundaries of a text and of its plain text, from a place on at which both have the same run.
 
-pub boundary_in_run : (x w y : List ℕ) (place k : ℕ) → drop place x ≡ w ++ y → place ≤ length x → k < length w → IsCharBoundary w k ↔ IsCharBoundary x (place + k)
-boundary_in_run x w y place k left within short =
-    let inside : place + k ≤ length x = omega (arith, ap length left, length-drop place x, length-append w y) in
-    let same : no_character_goes_on x (place + k) ≡ no_character_goes_on w k =
-    sym (no_character_goes_on-drop x place k) ∙ ap (λ v. no_character_goes_on v k) left ∙ no_character_goes_on-append w y k short in (
-      λ boundary. good_is_boundary x (place + k) inside (same ∙ no_character_goes_on-boundary w k boundary),
-      λ boundary. good_is_boundary w k (omega arith) (sym same ∙ no_character_goes_on-boundary x (place + k) boundary),
+front_byte : (y run : List ℕ) (k : ℕ) → take (length run) y ≡ run → k < length run → no_character_goes_on y k ≡ no_character_goes_on run k
+front_byte y run k is short = ap (λ b. not (is_continuation_byte b)) (sym (get_or-take (length run) y k 0 short)) ∙ ap (λ v. no_character_goes_on v k) is
+
+pub boundary_in_run : (x t run : List ℕ) (place k : ℕ) → take (length run) t ≡ run → take (length run) (drop place x) ≡ run → k < length run → IsCharBoundary t k ↔ IsCharBoundary x (place + k)
+boundary_in_run x t run place k front there short =
+    let n = length run in
+    let fits : k ≤ length t = omega (arith, ap length front, length-take n t, short) in
+    let inside : place + k ≤ length x = omega (arith, ap length there, length-take n (drop place x), length-drop place x, short) in
+    let same : no_character_goes_on x (place + k) ≡ no_character_goes_on t k
+    = sym (no_character_goes_on-drop x place k) ∙ front_byte (drop place x) run k there short ∙ sym (front_byte t run k front short) in (
+      λ boundary. good_is_boundary x (place + k) inside (same ∙ no_character_goes_on-boundary t k boundary),
+      λ boundary. good_is_boundary t k fits (sym same ∙ no_character_goes_on-boundary x (place + k) boundary),
     )
 
 -- Good ranges.

@@ -1,21 +1,25 @@
 -- A pattern that a plain text goes on with from a place on, met run by run.
-use Rattle.ansi_search.proofs.Common.{◌≡◌, ◌≢◌, ℕ, ◌+◌, ◌-◌, ◌<◌, ◌≤◌, inl, inr, min, ◌&&◌, List, ◌∷◌, ◌++◌, length, take, drop, nat_eq, refl, sym, ◌∙◌, ap, arith, IsFalse, slice_index, and_parts, cases_lt, eqb-true, true≢false, take-append-le, take_all, drop-take, drop_all, get_or-take, get_or-drop, length-drop, length-append, length-take-le, pointwise, starts_with, list_all, Nowhere, Passes, is_byte, escape, is_plain_byte, Piece, Text, ArePieces, plain, has_escape, []}
+use Rattle.ansi_search.proofs.Common.{◌≡◌, ◌≢◌, ℕ, ◌+◌, ◌-◌, ◌<◌, ◌≤◌, inl, inr, min, ◌&&◌, List, ◌∷◌, ◌++◌, length, take, drop, nat_eq, refl, sym, ◌∙◌, ap, arith, IsFalse, slice_index, and_parts, cases_lt, eqb-true, true≢false, take-append-le, take_all, drop-take, drop_all, get_or-take, get_or-drop, length-drop, length-append, length-take-le, pointwise, starts_with, list_all, Nowhere, Passes, is_byte, escape, is_plain_byte, Piece, Text, ArePieces, plain, has_escape, plain-bare, []}
 use Rattle.ansi_search.proofs.EndLemmas.{starts_with-across}
 use Rattle.ansi_search.proofs.MatchLemmas.{no_escape-found}
 use Rattle.ansi_search.proofs.SliceLemmas.{drop-append}
 use Rattle.ansi_items.proofs.JoinLemmas.{plain-front}
 
--- the first bytes have no ESC
+-- the first bytes have no ESC, and are all or not
+
+front-all : (t w : List ℕ) (n most : ℕ) → w ≡ take n t → n ≡ min most (length t) → IsFalse (has_escape w) → length t ≤ most → plain t ≡ w ++ plain []
+front-all t w n most is size none all = plain-front t w n is (ap has_escape (sym is) ∙ none) ∙ ap (λ u. w ++ plain u) (drop_all n t (omega (arith, size, all)))
+
+pub front-short : (t w : List ℕ) (n most : ℕ) → w ≡ take n t → n ≡ min most (length t) → IsFalse (has_escape w) → length w < most → plain t ≡ w ++ plain []
+front-short t w n most is size none short = front-all t w n most is size none (omega (arith, size, short, ap length is, length-take-le n t (omega (arith, size))))
+
 pub front-bare : (t w : List ℕ) (n most : ℕ) → w ≡ take n t → n ≡ min most (length t) → IsFalse (has_escape w) → take most (plain t) ≡ take most (w ++ plain [])
 front-bare t w n most is size none = elim (cases_lt most (length t)) [
   | inl short ↦ (
       let len : most ≤ length w = omega (arith, ap length is, length-take-le n t (omega (arith, size)), size, short) in
       ap (take most) (plain-front t w n is (ap has_escape (sym is) ∙ none)) ∙ take-append-le most w (plain (drop n t)) len ∙ sym (take-append-le most w (plain []) len)
       )
-  | inr all ↦ (
-      let nothing : drop n t ≡ [] = drop_all n t (omega (arith, size, all)) in
-      ap (take most) (plain-front t w n is (ap has_escape (sym is) ∙ none) ∙ ap (λ u. w ++ plain u) nothing)
-      )
+  | inr all ↦ ap (take most) (front-all t w n most is size none all)
 ]
 
 -- none is found before an offset
@@ -56,3 +60,19 @@ starts_with-run x w y p front k n top is inside within same most front_is =
     starts_with-front x (w ++ y) p k n top is inside (omega (arith, length-append w y, within)) same
     ∙ ap (λ v. starts_with nat_eq v p) (drop-append k w y ∙ ap (λ v. v ++ drop (k - length w) y) (sym front_is))
     ∙ starts_with-across p front (drop (k - length w) y) (omega (arith, size, most, is))
+
+-- its first bytes alone decide, if they have no ESC
+pub starts_with-bare : (t p : List ℕ) (n : ℕ) → n ≡ min (length p) (length t) → IsFalse (has_escape (take n t)) → starts_with nat_eq t p ≡ starts_with nat_eq (plain t) p
+starts_with-bare t p n size none = elim (cases_lt (length t) (length p)) [
+  | inl short ↦ (
+      let all : take n t ≡ t = take_all n t (omega (arith, size, short)) in
+      ap (λ x. starts_with nat_eq x p) (sym (plain-bare t (ap has_escape (sym all) ∙ none)))
+      )
+  | inr fits ↦ (
+      let all : n ≡ length p = omega (arith, size, fits) in
+      let len : length p ≡ length (take n t) = sym all ∙ sym (length-take-le n t (omega (arith, size))) in
+      let front : take (length p) (take n t ++ plain []) ≡ take (length p) t
+      = take-append-le (length p) (take n t) (plain []) (omega (arith, len)) ∙ take_all (length p) (take n t) (omega (arith, len)) ∙ ap (λ k. take k t) all in
+      sym (ap (pointwise nat_eq p) (front-bare t (take n t) n (length p) refl size none ∙ front))
+      )
+]

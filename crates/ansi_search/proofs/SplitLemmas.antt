@@ -3,12 +3,13 @@ use Rattle.std.proofs.lemmas.Bool.Decides.{nat_tests}
 use Rattle.std.proofs.lemmas.Bool.{and_from, false_from_ne_true, or_from}
 use Rattle.std.proofs.lemmas.List.Folds.{list_all_at}
 use Rattle.std.proofs.lemmas.List.{get_or_at, get_or-append-add}
-use Rattle.ansi_search.proofs.Common.{◌≡◌, ◌≢◌, ℕ, zero, suc, ◌+◌, ◌-◌, ◌<◌, ◌≤◌, inl, inr, Bool, true, false, true≢false, List, [], ◌∷◌, ◌++◌, length, take, drop, refl, sym, ◌∙◌, ap, ap₂, subst, arith, slice_index, list_all, and_parts, cases_lt, list_all-append, take_all, ◌⊎◌, eqb-true, has_escape, plain-bare, IsCharBoundary, ◌==◌, append_assoc, drop-append_seam, drop-drop, get_or_append_left, get_or-append_right, get_or-take, get_or_past, length-append, length-take, length-take-le, take-append-le, take-append-drop, escape, Piece, Text, Sequence, LoneEscape, spelling, ArePieces, after_text, after_text_are, pieces_of, plain_of, plain, pieces_are, pieces_of-unique, spelled, bytes_before, slice_range}
+use Rattle.ansi_search.proofs.Common.{◌≡◌, ◌≢◌, ℕ, zero, suc, ◌+◌, ◌-◌, ◌<◌, ◌≤◌, inl, inr, Bool, true, false, true≢false, List, [], ◌∷◌, ◌++◌, length, take, drop, refl, sym, ◌∙◌, ap, ap₂, subst, arith, slice_index, list_all, and_parts, cases_lt, list_all-append, take_all, ◌⊎◌, eqb-true, has_escape, plain-bare, IsCharBoundary, ◌==◌, append_assoc, drop-append_seam, drop-drop, get_or_append_left, get_or-append_right, get_or-take, get_or_past, length-append, length-take, length-take-le, take-append-le, take-append-drop, escape, is_plain_byte, Piece, Text, Sequence, LoneEscape, spelling, ArePieces, after_text, after_text_are, pieces_of, plain_of, plain, pieces_are, pieces_of-unique, spelled, bytes_before, slice_range}
 use Rattle.std.specs.Str.{byte}
 use Rattle.ansi_items.specs.Bytes.{bell, is_parameter_byte, is_intermediate_byte, is_final_byte, is_escape_final_byte, opens_control_string, is_body_byte}
 use Rattle.ansi_items.specs.Sequences.{IsSequence}
 use Rattle.ansi_items.specs.Pieces.{StandsBefore}
 use Rattle.ansi_items.proofs.JoinLemmas.{spelled-pieces_of}
+use Rattle.ansi_items.proofs.PlainLemmas.{has_escape-bare}
 use Rattle.ansi_search.proofs.OffsetLemmas.{IsPassed, passed-begin, bytes_before-text, bytes_before-last}
 use Rattle.ansi_search.specs.Offsets.{BeginsItem, goes_on, IsEnd, IsSurelyPlain}
 
@@ -103,6 +104,22 @@ passed-split u v none =
       offset = λ n. ap (bytes_before (length (plain u) + n)) (pieces_of-split u v none) ∙ bytes_before-joined (pieces_of u) (pieces_of v) n
           ∙ ap (λ w. length w + bytes_before n (pieces_of v)) (spelled-pieces_of u);
     }
+
+-- none begins in a run
+crosses-run : (u v : List ℕ) → list_all is_plain_byte u ≡ true → NoneCrosses u v
+crosses-run u v all x s e n past fits whole =
+    let parts = and_parts (list_all is_plain_byte x) (list_all is_plain_byte (escape ∷ s)) (sym (list_all-append is_plain_byte x (escape ∷ s)) ∙ sym (ap (list_all is_plain_byte) e) ∙ all) in
+    true≢false (sym parts.1)
+
+pub passed-run : (x : List ℕ) (k : ℕ) → k ≤ length x → list_all is_plain_byte (take k x) ≡ true → IsPassed x k k (pieces_of (drop k x))
+passed-run x k within all =
+    let u = take k x in
+    let v = drop k x in
+    let size : length u ≡ k = length-take-le k x within in
+    let count : length (plain u) ≡ k = ap length (plain-bare u (has_escape-bare u all)) ∙ size in
+    subst (λ n. IsPassed x n k (pieces_of v)) count
+    (subst (λ n. IsPassed x (length (plain u)) n (pieces_of v)) size
+    (subst (λ y. IsPassed y (length (plain u)) (length u) (pieces_of v)) (take-append-drop k x) (passed-split u v (crosses-run u v all))))
 
 -- What is inside a sequence.
 
@@ -259,7 +276,7 @@ crosses-plain u v bytes ends x s e n past fits whole =
 
 -- An end of a text.
 
-abbrev end_of : (t : List ℕ) (i : ℕ) → IsCharBoundary t i → (before : ℕ) → IsPassed t before i (pieces_of (drop i t)) → IsEnd t i
+abbrev pub end_of : (t : List ℕ) (i : ℕ) → IsCharBoundary t i → (before : ℕ) → IsPassed t before i (pieces_of (drop i t)) → IsEnd t i
 end_of t i boundary before way = record { boundary = boundary; before = before; count = way.count; rest = way.rest; offset = way.offset }
 
 end-split : (t : List ℕ) (i : ℕ) → IsCharBoundary t i → NoneCrosses (take i t) (drop i t) → IsEnd t i

@@ -12,9 +12,10 @@ mod prefix;
 mod two_way;
 
 use ansi_items::ansitok::{Kind, Scanner};
-pub use ends::{ends_with, suffix_offset};
+pub use ends::{end_before_white_space, ends_with, suffix_offset};
 pub use matches::{find, find_from, first_in_run};
 pub use offsets::walk_to;
+use prefix::run_front;
 pub use prefix::starts_with;
 
 /// A position past the end of every text: no end, or no match.
@@ -59,15 +60,15 @@ pub fn floor_char_boundary(text: &str, index: usize) -> usize
     ensures good_after { IsTrue (is_good_range (plain text.now) result None) }
 {
     let mut place = 0;
-    for item in Scanner::new(text) {
-        if item.kind == Kind::Text {
-            let run = &text[item.start..item.end];
-            let remaining = index - place;
-            if remaining < run.len() {
-                return place + run.floor_char_boundary(remaining);
-            }
-            place += run.len();
+    let mut rest = text;
+    while !rest.is_empty() {
+        let remaining = index - place;
+        let (run, after) = run_front(rest, remaining.saturating_add(1));
+        if remaining < run.len() {
+            return place + rest.floor_char_boundary(remaining);
         }
+        place += run.len();
+        rest = after;
     }
     place
 }

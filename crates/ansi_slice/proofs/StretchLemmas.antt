@@ -1,8 +1,9 @@
 -- A cut and a kept text as a stretch of the text, by the offsets of its plain bytes, and the sequences outside of it.
-use Rattle.ansi_slice.proofs.Common.{◌≡◌, ℕ, ◌+◌, ◌-◌, ◌<◌, ◌≤◌, inl, inr, Bool, true, List, [], ◌∷◌, ◌++◌, length, take, drop, take-add, refl, sym, ◌∙◌, ap, ap₂, subst, arith, if◌then◌else◌, nat_lt, length-append, append_assoc, append-nil, not, false, ◌&&◌, Some, drop-append_seam, cases_lt, le-leb, lt-ltb, nat_tests, take-append-le, length-drop, drop-drop, slice_range, IsCharBoundary, Kind, Piece, Text, ArePieces, pieces_of, plain_of, plain, pieces_are, pieces_of-unique, length-plain, spelled, spelled-pieces_of, is_mark, BeginsWithMark, Rendition, plain_style, apply, style_within, close, style_by_marks, style_by_marks-before, style_by_marks-mark, no_character_goes_on, is_good_range, cut_up_to, kept, bytes_before, sequences_up_to, offset_of, StandsIn, KeepsUpTo, spelling, joined, marks_of, marks_up_to, marks_of-text, marks_of-mark, marks_up_to-none, marks_up_to-further, marks_up_to-here}
+use Rattle.ansi_search.specs.Offsets.{IsEnd}
+use Rattle.ansi_slice.proofs.Common.{◌≡◌, ℕ, ◌+◌, ◌-◌, ◌<◌, ◌≤◌, inl, inr, Bool, true, List, [], ◌∷◌, ◌++◌, length, take, drop, take-add, refl, sym, ◌∙◌, ap, ap₂, arith, if◌then◌else◌, nat_lt, length-append, append_assoc, append-nil, not, false, ◌&&◌, Some, cases_lt, le-leb, lt-ltb, nat_tests, take-append-le, length-drop, drop-drop, slice_range, Kind, Piece, Text, pieces_of, plain_of, plain, length-plain, spelled, spelled-pieces_of, is_mark, BeginsWithMark, Rendition, plain_style, apply, style_within, close, style_by_marks, style_by_marks-before, style_by_marks-mark, no_character_goes_on, is_good_range, cut_up_to, kept, bytes_before, sequences_up_to, offset_of, StandsIn, KeepsUpTo, spelling, joined, marks_of, marks_up_to, marks_of-text, marks_of-mark, marks_up_to-none, marks_up_to-further, marks_up_to-here}
 use Rattle.ansi_style.proofs.MarkLemmas.{joined-further}
 use Rattle.ansi_search.proofs.SliceLemmas.{slice_range-past, slice_range-from_past}
-use Rattle.ansi_search.proofs.OffsetLemmas.{bytes_before-last, bytes_before-text, style-text, after_of, after_of-last, after_of-text, take-after, inside_are, pieces_of-after, plain-after, IsOverText, IsPassed}
+use Rattle.ansi_search.proofs.OffsetLemmas.{bytes_before-last, bytes_before-text, style-text, after_of, after_of-last, after_of-text, take-after, pieces_of-after, plain-after}
 use Rattle.std.specs.Prelude.{zero, suc, ◌||◌, IsTrue}
 use Rattle.std.proofs.lemmas.Bool.{ne_eqb}
 use Rattle.ansi_search.specs.Positions.{is_good_position}
@@ -188,35 +189,16 @@ pushed-mark so_far begins is = grind (arith, append_assoc, sequences_up_to-mark)
 pub pushed-last : {whole written w : List ℕ} {n : ℕ} {old ps : List Piece} → IsPushedSoFar whole written n old → old ≡ Text w ∷ ps → n < length w → written ≡ whole
 pushed-last so_far first last = grind (arith, append-nil, sequences_up_to-last)
 
--- A place inside a text that comes next, or its end.
-
-before-inside : (k : ℕ) (t w : List ℕ) (ps : List Piece) → ArePieces t (Text w ∷ ps) → k ≤ length w → bytes_before k (Text w ∷ ps) ≡ k + offset_of (drop k t) 0
-before-inside k t w ps are within = elim (cases_lt k (length w)) [
-  | inl last ↦ (
-      let size : length (drop k w) ≡ length w - k = length-drop k w in
-      let first : pieces_of (drop k t) ≡ Text (drop k w) ∷ ps = sym (pieces_of-unique (drop k t) (Text (drop k w) ∷ ps) (inside_are k t w ps are last)) in
-      omega (arith, bytes_before-last k w ps last, ap (bytes_before 0) first, bytes_before-last 0 (drop k w) ps (omega (arith, size, last))))
-  | inr past ↦ (
-      let all : k ≡ length w = omega (arith, within, past) in
-      let none : k - length w ≡ 0 = omega (arith, all) in
-      let rest : drop k t ≡ are.0 = ap (drop k) are.1 ∙ ap (λ n. drop n (w ++ are.0)) all ∙ drop-append_seam w are.0 in
-      let after : pieces_of (drop k t) ≡ ps = ap pieces_of rest ∙ sym (pieces_of-unique are.0 ps are.3) in
-      omega (arith, bytes_before-text k w ps past, all, ap (bytes_before 0) after, ap (λ n. bytes_before n ps) none))
-]
-
-pub keeps-inside : {t : List ℕ} {place passed at k : ℕ} {w : List ℕ} {left ps : List Piece} → IsPassed t place passed left → IsOverText t w passed at left ps → k ≤ length w → IsCharBoundary t (passed + k)
-    → KeepsUpTo t (place + k) (passed + k)
-keeps-inside {t} {place} {passed} {k = k} {w = w} {ps = ps} way over within boundary =
-    let i = passed + k in
+-- An end of a text that begins right after its plain byte n - 1, or after more sequences.
+pub keeps-end : {t : List ℕ} {n i : ℕ} → IsEnd t i → n + length (plain (drop i t)) ≡ length (plain t) → KeepsUpTo t n i
+keeps-end {t} {n} {i} end is =
     let u = drop i t in
     let m = offset_of u 0 in
-    let here = subst (IsPassed t place passed) over.first way in
-    let are = subst (ArePieces (drop passed t)) (over.there ∙ over.first) (pieces_are (drop passed t)) in
-    let same : offset_of (drop k (drop passed t)) 0 ≡ m = ap (λ v. offset_of v 0) (drop-drop k passed t) in
-    let offset : offset_of t (place + k) ≡ i + m = omega (arith, here.offset k, before-inside k (drop passed t) w ps are within, same) in
+    let same : n ≡ end.before + 0 = omega (arith, is, end.count) in
+    let offset : offset_of t n ≡ i + m = ap (offset_of t) same ∙ end.offset 0 in
     record {
-      boundary = boundary;
-      bytes = kept-stretch t (place + k)
+      boundary = end.boundary;
+      bytes = kept-stretch t n
           ∙ ap (λ j. take j t ++ kept (drop j t) 0 0) offset
           ∙ ap₂ (λ a b. a ++ kept b 0 0) (take-add i m t) (sym (drop-drop m i t))
           ∙ append_assoc (take i t) (take m u) (kept (drop m u) 0 0)

@@ -1,7 +1,8 @@
 -- What is left of a text without the white space at its ends is the slice over an interval.
-use Rattle.ansi_slice.proofs.Common.{◌≡◌, ℕ, ◌+◌, ◌-◌, true, ◌&&◌, ◌==◌, List, [], ◌∷◌, ◌++◌, take, drop, length, refl, sym, ◌∙◌, ap, ap₂, subst, arith, slice_range, length-append, append_assoc, cond_both, and_parts, encodes-append, chars-encodes, IsCharBoundary-at_seam, take-append_seam, drop-append_seam, IsUtf8, IsCharBoundary, chars, trim_start, trim_end, trim, skip_leading_whitespace, drop_trailing_whitespace, encode_utf8_all, all_scalars, is_whitespace, trim_interval}
+use Rattle.ansi_slice.proofs.Common.{◌≡◌, ℕ, ◌+◌, ◌-◌, true, List, [], ◌∷◌, ◌++◌, take, drop, length, refl, sym, ◌∙◌, ap, ap₂, subst, arith, slice_range, length-append, append_assoc, cond_both, and_parts, encodes-append, chars-encodes, IsCharBoundary-at_seam, take-append_seam, drop-append_seam, IsUtf8, IsCharBoundary, chars, trim_start, trim_end, trim, skip_leading_whitespace, drop_trailing_whitespace, encode_utf8_all, all_scalars, is_whitespace, trim_interval}
+use Rattle.ansi_search.proofs.WhiteSpaceLemmas.{drop_trailing_whitespace-splits}
 
--- The characters that are taken off are at the front, and at the end.
+-- The characters that are taken off are at the front.
 
 skip_leading_whitespace-splits : (cs : List ℕ) → (front : List ℕ) × (cs ≡ front ++ skip_leading_whitespace cs)
 skip_leading_whitespace-splits [] = ([], refl)
@@ -10,14 +11,6 @@ skip_leading_whitespace-splits (c ∷ cs) =
     cond_both (is_whitespace c) (skip_leading_whitespace cs) (c ∷ cs) (λ rest. (front : List ℕ) × (c ∷ cs ≡ front ++ rest))
     (λ white. (c ∷ later.0, ap (λ v. c ∷ v) later.1))
     (λ other. ([], refl))
-
-pub drop_trailing_whitespace-splits : (cs : List ℕ) → (back : List ℕ) × (cs ≡ drop_trailing_whitespace cs ++ back)
-drop_trailing_whitespace-splits [] = ([], refl)
-drop_trailing_whitespace-splits (c ∷ cs) =
-    let later = drop_trailing_whitespace-splits cs in
-    cond_both (is_whitespace c && length (drop_trailing_whitespace cs) == 0) [] (c ∷ drop_trailing_whitespace cs) (λ rest. (back : List ℕ) × (c ∷ cs ≡ rest ++ back))
-    (λ white. (c ∷ cs, refl))
-    (λ other. (later.0, ap (λ v. c ∷ v) later.1))
 
 all_scalars-after : (cs ds : List ℕ) → all_scalars (cs ++ ds) ≡ true → all_scalars ds ≡ true
 all_scalars-after [] ds all = all

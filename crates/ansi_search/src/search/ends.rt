@@ -1,13 +1,13 @@
 //! What a plain text ends with.
-ghost use Rattle.std.specs.Prelude.{◌≡◌, ◌-◌, ◌<◌, ◌≤◌, MatchOption, drop, length};
+ghost use Rattle.std.specs.Prelude.{◌≡◌, ◌+◌, ◌-◌, ◌<◌, ◌≤◌, MatchOption, drop, length};
 ghost use Rattle.std.specs.Prelude.{nat_eq, IsTrue, IsFalse};
 ghost use Rattle.std.specs.List.{ends_with};
-ghost use Rattle.std.specs.Str.{IsCharBoundary};
+ghost use Rattle.std.specs.Str.{IsCharBoundary, trim_end};
 ghost use Rattle.ansi_items.specs.Plain.{plain};
 ghost use Rattle.ansi_search.specs.Offsets.{StandsIn, BeginsItem, IsEnd, IsSurelyPlain, goes_on};
 
 use crate::search::offsets::offset_at;
-use crate::search::prefix::continues_with;
+use crate::search::prefix::starts_with;
 use ansi_items::ESC;
 use ansi_items::ansitok::{Kind, Scanner};
 use memchr::{memrchr, memrchr2};
@@ -35,11 +35,51 @@ pub fn suffix_offset(text: &str, pat: &str) -> Option<usize>
 {
     let (start, len) = plain_end(text, pat.len());
     let place = len.checked_sub(pat.len())?;
-    let rest = &text[start..];
-    if !continues_with(rest, pat.as_bytes(), place) {
+    let offset = start + offset_at(&text[start..], place)?;
+    if !starts_with(&text[offset..], pat) {
         return None;
     }
-    Some(start + offset_at(rest, place))
+    Some(offset)
+}
+
+/// The offset in the text right after the last character of the plain text that isn't white space,
+/// or 0 if there is no such character. (std's `trim_end`, on the plain text.)
+///
+/// Reads the text from its end. Doesn't allocate.
+pub fn end_before_white_space(text: &str) -> usize
+    ensures end { IsEnd text.now result }
+    ensures white { length (trim_end (plain text.now)) + length (plain (drop result text.now))
+        ≡ length (plain text.now) }
+{
+    let mut start = text.len();
+    while 0 < start {
+        start = item_before(text, start);
+        let end = solid_end(&text[start..]);
+        if 0 < end {
+            return start + end;
+        }
+    }
+    0
+}
+
+/// The same, by a walk over all items.
+fn solid_end(text: &str) -> usize
+    ensures end { IsEnd text.now result }
+    ensures white { length (trim_end (plain text.now)) + length (plain (drop result text.now))
+        ≡ length (plain text.now) }
+    ensures some { 0 < result → 0 < length (trim_end (plain text.now)) }
+{
+    let mut end = 0;
+    for item in Scanner::new(text) {
+        if item.kind == Kind::Text {
+            let run = &text[item.start..item.end];
+            let front = run.trim_end();
+            if !front.is_empty() {
+                end = item.start + front.len();
+            }
+        }
+    }
+    end
 }
 
 /// An end of the text that has at least `wanted` plain bytes, or all of the text if it has fewer:
@@ -53,14 +93,11 @@ fn plain_end(text: &str, wanted: usize) -> (usize, usize)
     if is_surely_plain(text, last) {
         return (last, text.len() - last);
     }
-    // An item begins at `start`. Each step goes back at least as far as all steps before it, so
-    // that there are few.
     let mut start = text.len();
     let mut len = 0;
     while len < wanted && 0 < start {
         let end = start;
-        let read = text.len() - end;
-        start = last_item(text, end.saturating_sub(read));
+        start = item_before(text, end);
         len += plain_len(&text[start..end]);
     }
     (start, len)
@@ -95,9 +132,13 @@ fn goes_on(byte: u8) -> bool
     matches!(byte, ESC | b'[' | 0x20..=0x3F)
 }
 
-/// The last offset before `end` at which surely an item begins: that of an ESC that no `\` follows,
-/// since it can't be in a sequence, or 0.
-fn last_item(text: &str, end: usize) -> usize
+/// An offset before `end` at which surely an item begins: that of an ESC that no `\` follows, since
+/// it can't be in a sequence, or 0.
+///
+/// It is the last one that is at least as far before `end` as the end of the text is after it, so
+/// that few steps lead from the end to any place, and at least 128 bytes, so that a short text
+/// takes one step.
+fn item_before(text: &str, end: usize) -> usize
     requires { end ≤ length text.now }
     ensures bound { result ≤ end }
     ensures before { 0 < end → result < end }
@@ -105,7 +146,8 @@ fn last_item(text: &str, end: usize) -> usize
     ensures boundary { IsCharBoundary text.now result }
 {
     let bytes = text.as_bytes();
-    let mut unread = end;
+    let read = (bytes.len() - end).max(128);
+    let mut unread = end.saturating_sub(read);
     while let Some(escape) = memrchr(ESC, &bytes[..unread]) {
         if bytes.get(escape + 1) != Some(&b'\\') {
             return escape;

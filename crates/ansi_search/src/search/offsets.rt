@@ -1,9 +1,9 @@
 //! Where positions of a plain text are in its text.
-ghost use Rattle.std.specs.Prelude.{◌≡◌, MatchOption, IfSome, IsTrue, IsFalse};
+ghost use Rattle.std.specs.Prelude.{◌≡◌, MatchOption, IfSome, IsFalse};
 ghost use Rattle.ansi_items.specs.Plain.{plain};
 ghost use Rattle.ansi_style.specs.Reading.{style_within};
 ghost use Rattle.ansi_style.specs.States.{rendition_of};
-ghost use Rattle.ansi_search.specs.Positions.{is_good_position, no_character_goes_on};
+ghost use Rattle.ansi_search.specs.Positions.{is_good_position};
 ghost use Rattle.ansi_search.specs.Offsets.{StandsIn};
 
 use ansi_items::ansitok::{Kind, Scanner};
@@ -39,11 +39,11 @@ pub fn walk_to(style: &mut Style, text: &str, position: usize) -> Option<usize>
     Some(text.len())
 }
 
-/// The offset of a good position in the text, after every sequence up to there.
-pub(super) fn offset_at(text: &str, position: usize) -> usize
-    requires { IsTrue (no_character_goes_on (plain text.now) position) }
-    ensures { StandsIn text.now position result }
+/// The same, without a style.
+pub(super) fn offset_at(text: &str, position: usize) -> Option<usize>
+    ensures { MatchOption result (IsFalse (is_good_position (plain text.now) position))
+        (StandsIn text.now position) }
 {
     let mut style = styles::plain_style();
-    walk_to(&mut style, text, position).unwrap()
+    walk_to(&mut style, text, position)
 }

@@ -16,7 +16,12 @@ use memchr::memchr;
 pub fn starts_with(text: &str, pat: &str) -> bool
     ensures { result ≡ starts_with nat_eq (plain text.now) pat.now }
 {
-    continues_with(text, pat.as_bytes(), 0)
+    let bytes = text.as_bytes();
+    let front = &bytes[..pat.len().min(bytes.len())];
+    if front.contains(&ESC) {
+        return continues_with(text, pat.as_bytes(), 0);
+    }
+    bytes.starts_with(pat.as_bytes())
 }
 
 /// Whether the plain text continues with the pattern from a position on. No run is read past the
@@ -45,13 +50,19 @@ pub(super) fn continues_with(text: &str, pat: &[u8], place: usize) -> bool
 
 /// The run at the front of a text and what follows the mark after it. If no mark begins in the
 /// first `most` bytes, it is these bytes alone.
-fn run_front<'t>(text: &'t str, most: usize) -> (&'t [u8], &'t str)
+#[inline(always)]
+pub(super) fn run_front<'t>(text: &'t str, most: usize) -> (&'t [u8], &'t str)
     ensures front { take most (plain text.now) ≡ take most (result.0.now ++ plain result.1.now) }
     ensures most { length result.0.now ≤ most }
+    ensures bytes { take (length result.0.now) text.now ≡ result.0.now }
+    ensures all { length result.0.now < most → plain text.now ≡ result.0.now ++ plain result.1.now }
     ensures within { length result.0.now + length result.1.now ≤ length text.now }
     ensures shorter { 0 < length text.now → length result.1.now < length text.now }
 {
     let bytes = text.as_bytes();
+    if bytes.first() == Some(&ESC) {
+        return (&bytes[..0], after_mark(text));
+    }
     let front = &bytes[..most.min(bytes.len())];
     match memchr(ESC, front) {
         Some(len) => (&bytes[..len], after_mark(&text[len..])),

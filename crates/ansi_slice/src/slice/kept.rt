@@ -9,7 +9,7 @@ ghost use Rattle.ansi_slice.specs.Kept.{kept, without_prefix, without_suffix, tr
 
 use crate::slice::has_any;
 use crate::slice::sequences::push_sequences;
-use crate::slice::white_space::{end_before_white_space, white_space_len};
+use crate::slice::white_space::white_space_len;
 use ansi_search::search::{self, PAST_THE_END};
 use std::alloc::{AllocError, Allocator};
 use std::borrow::CowStr;
@@ -125,7 +125,7 @@ fn write_trimmed<A: Allocator>(alloc: A, text: &str) -> Result<String<A>, AllocE
     let mut kept = String::with_capacity(alloc, text.len())?;
     let from = push_sequences(&mut kept, text, start)?;
     let rest = &text[from..];
-    push_up_to(&mut kept, rest, end_before_white_space(rest))?;
+    push_up_to(&mut kept, rest, search::end_before_white_space(rest))?;
     Ok(kept)
 }
 

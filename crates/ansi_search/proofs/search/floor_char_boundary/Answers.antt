@@ -1,54 +1,49 @@
-use Rattle.ansi_search.proofs.Common.{◌≡◌, ◌++◌, ◌∷◌, ◌+◌, ◌-◌, drop, length, refl, sym, ◌∙◌, ap, subst, arith, drop_at, drop-drop, length-append, length-drop, IsCharBoundary-end, IsCharBoundary, Text, plain, plain_of, pieces_left, kind_is_text, gives_text, IsUtf8-plain, []}
-use Rattle.ansi_search.proofs.PositionLemmas.{boundary_in_run, good_before}
+use Rattle.ansi_search.proofs.Common.{rules, ◌↔◌, ◌≡◌, ◌++◌, ◌+◌, ◌-◌, ◌<◌, ◌≤◌, ◌^◌, ℕ, List, take, drop, length, sym, ◌∙◌, ap, subst, arith, drop_at, drop-drop, refl, length-append, length-drop, IsCharBoundary, plain, IsUtf8-plain}
+use Rattle.std.proofs.Math.Seq.{take-append_seam}
+use Rattle.ansi_search.proofs.PositionLemmas.{boundary_in_run, good_before, boundary_is_good}
 use Rattle.ansi_search.proofs.search.floor_char_boundary.Goals as goal
 
 -- over a run before the index
-pub loop-item-preserved-then-eq : goal.loop-item-preserved-then-eq
-loop-item-preserved-then-eq c =
+pub loop-rest-preserved : goal.loop-rest-preserved
+loop-rest-preserved c =
     let x = plain c.args.text.now in
-    let w = c.range-run.result.now in
-    let y = plain_of (pieces_left c.next.new.self) in
-    let steps = c.in-Some.ensures.steps in
-    let left : pieces_left c.loop-item.item-iterator ≡ Text w ∷ pieces_left c.next.new.self = gives_text steps c.loop-item.invariant.text c.range-run.ensures.value (kind_is_text c.if-eq.ensures) in
-    let is : drop c.loop-item.place x ≡ w ++ y = sym c.loop-item.invariant.left ∙ ap plain_of left in
+    let run = c.run_front.result.0.now in
+    let after = plain c.run_front.result.1.now in
+    let place = c.loop-rest.place in
+    let size : length c.args.text.now < 2 ^ 63 = search rules in
+    let short : length run < c.saturating_add.result = omega (arith, size, c.loop-rest.invariant.fits, c.run_front.ensures.within, c.saturating_add.ensures, c.if-remaining-run.false) in
+    let is : drop place x ≡ run ++ after = sym c.loop-rest.invariant.left ∙ c.run_front.ensures.all short in
     record {
-      text = steps.text ∙ c.loop-item.invariant.text;
-      left = sym (drop_at w y (length w) refl) ∙ ap (drop (length w)) (sym is) ∙ drop-drop (length w) c.loop-item.place x;
-      within = omega (arith, ap length is, length-drop c.loop-item.place x, length-append w y, c.loop-item.invariant.within);
-      before = omega arith;
+      text = search rules;
+      fits = omega (arith, c.loop-rest.invariant.fits, c.run_front.ensures.within);
+      left = sym (drop_at run after (length run) refl) ∙ ap (drop (length run)) (sym is) ∙ drop-drop (length run) place x;
+      within = omega (arith, ap length is, length-drop place x, length-append run after, c.loop-rest.invariant.within);
+      before = omega (arith, c.loop-rest.invariant.before, c.if-remaining-run.false);
     }
 
 -- the index is in a run, whose boundaries are those of the plain text
 
-pub returns-then-remaining-run-clause-boundary : goal.returns-then-remaining-run-clause-boundary
-returns-then-remaining-run-clause-boundary c =
-    let w = c.range-run.result.now in
-    let y = plain_of (pieces_left c.next.new.self) in
-    let left : pieces_left c.loop-item.item-iterator ≡ Text w ∷ pieces_left c.next.new.self = gives_text c.in-Some.ensures.steps c.loop-item.invariant.text c.range-run.ensures.value (kind_is_text c.if-eq.ensures) in
-    (boundary_in_run _ w y c.loop-item.place c.floor_char_boundary.result (sym c.loop-item.invariant.left ∙ ap plain_of left) c.loop-item.invariant.within (omega arith)).0 c.floor_char_boundary.ensures.boundary
+run_there : (x rest run after : List ℕ) (place most : ℕ) → rest ≡ drop place x → take most rest ≡ take most (run ++ after) → most ≡ length run → take (length run) (drop place x) ≡ run
+run_there x rest run after place most is front all = ap (take (length run)) (sym is) ∙ ap (λ m. take m rest) (sym all) ∙ front ∙ ap (λ m. take m (run ++ after)) all ∙ take-append_seam run after
 
-pub returns-then-remaining-run-clause-nearest : goal.returns-then-remaining-run-clause-nearest
-returns-then-remaining-run-clause-nearest c i above below boundary =
+pub returns-then-remaining-run : goal.returns-then-remaining-run
+returns-then-remaining-run c =
     let x = plain c.args.text.now in
-    let w = c.range-run.result.now in
-    let y = plain_of (pieces_left c.next.new.self) in
-    let place = c.loop-item.place in
-    let left : pieces_left c.loop-item.item-iterator ≡ Text w ∷ pieces_left c.next.new.self = gives_text c.in-Some.ensures.steps c.loop-item.invariant.text c.range-run.ensures.value (kind_is_text c.if-eq.ensures) in
-    let at : i ≡ place + (i - place) = omega arith in
-    c.floor_char_boundary.ensures.nearest (i - place) (omega arith) (omega arith)
-    ((boundary_in_run x w y place (i - place) (sym c.loop-item.invariant.left ∙ ap plain_of left) c.loop-item.invariant.within (omega arith)).1 (subst (IsCharBoundary x) at boundary))
-
-pub returns-then-remaining-run-clause-good_before : goal.returns-then-remaining-run-clause-good_before
-returns-then-remaining-run-clause-good_before c = good_before _ _ (IsUtf8-plain c.args.text.now c.utf8.text) (returns-then-remaining-run-clause-boundary c)
-
--- the index lies past the end, or is it
-
-pub returns-clause-boundary : goal.returns-clause-boundary
-returns-clause-boundary c =
-    let x = plain c.args.text.now in
-    let rest : drop c.loop-item.place x ≡ [] = sym c.loop-item.invariant.left ∙ ap plain_of c.in-None.ensures.steps.2 in
-    let end : length x ≡ c.loop-item.place = omega (arith, ap length rest, length-drop c.loop-item.place x, c.loop-item.invariant.within) in
-    subst (IsCharBoundary x) end (IsCharBoundary-end x)
-
-pub returns-clause-good_before : goal.returns-clause-good_before
-returns-clause-good_before c = good_before _ _ (IsUtf8-plain c.args.text.now c.utf8.text) (returns-clause-boundary c)
+    let place = c.loop-rest.place in
+    let run = c.run_front.result.0.now in
+    let front = c.run_front.ensures in
+    let floor = c.floor_char_boundary.ensures in
+    let all : c.saturating_add.result ≡ length run = omega (arith, c.saturating_add.ensures, front.most, c.if-remaining-run.true) in
+    let there = run_there x (plain c.loop-rest.rest.now) run (plain c.run_front.result.1.now) place c.saturating_add.result c.loop-rest.invariant.left front.front all in
+    let same : (k : ℕ) → k ≤ c.args.index - place → IsCharBoundary c.loop-rest.rest.now k ↔ IsCharBoundary x (place + k)
+    = λ k below. boundary_in_run x c.loop-rest.rest.now run place k front.bytes there (omega (arith, below, c.if-remaining-run.true)) in
+    let boundary = (same c.floor_char_boundary.result floor.bound).0 floor.boundary in
+    record {
+      bound = omega (arith, floor.bound, c.loop-rest.invariant.before);
+      boundary = boundary;
+      nearest = λ i above below is. (
+          let at : i ≡ place + (i - place) = omega (arith, above) in
+          floor.nearest (i - place) (omega (arith, above)) (omega (arith, below)) ((same (i - place) (omega (arith, below))).1 (subst (IsCharBoundary x) at is)));
+      good_before = good_before _ _ (IsUtf8-plain c.args.text.now c.utf8.text) boundary;
+      good_after = boundary_is_good _ _ boundary;
+    }

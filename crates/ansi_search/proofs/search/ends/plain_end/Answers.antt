@@ -6,18 +6,18 @@ use Rattle.ansi_search.proofs.search.ends.plain_end.Goals as goal
 pub overflow_add-len : goal.overflow_add-len
 overflow_add-len c =
     let t = c.args.text.now in
-    let start = c.last_item-start.result in
-    let both = length-plain-split t c.range.result.now start c.loop-len.start (omega (arith, c.last_item-start.ensures.bound, c.saturating_sub.ensures)) (c.loop-len.invariant.begins c.if-start-gt0.true) c.range.ensures.value in
+    let start = c.item_before-start.result in
+    let both = length-plain-split t c.range.result.now start c.loop-len.start (omega (arith, c.item_before-start.ensures.bound)) (c.loop-len.invariant.begins c.if-start-gt0.true) c.range.ensures.value in
     omega (arith, both, c.plain_len-len.ensures, c.loop-len.invariant.count, length-plain (drop start t), length-drop start t, c.well_formed.0.0)
 
 pub loop-len-preserved : goal.loop-len-preserved
 loop-len-preserved c =
     let t = c.args.text.now in
-    let start = c.last_item-start.result in
-    let both = length-plain-split t c.range.result.now start c.loop-len.start (omega (arith, c.last_item-start.ensures.bound, c.saturating_sub.ensures)) (c.loop-len.invariant.begins c.if-start-gt0.true) c.range.ensures.value in
+    let start = c.item_before-start.result in
+    let both = length-plain-split t c.range.result.now start c.loop-len.start (omega (arith, c.item_before-start.ensures.bound)) (c.loop-len.invariant.begins c.if-start-gt0.true) c.range.ensures.value in
     record {
-      boundary = c.last_item-start.ensures.boundary;
-      begins = c.last_item-start.ensures.begins;
+      boundary = c.item_before-start.ensures.boundary;
+      begins = c.item_before-start.ensures.begins;
       count = omega (arith, both, c.plain_len-len.ensures, c.loop-len.invariant.count);
     }
 

@@ -1,5 +1,5 @@
 use Rattle.ansi_search.proofs.Common.{◌≤◌}
-use Rattle.ansi_search.proofs.search.ends.last_item.Given as goal
+use Rattle.ansi_search.proofs.search.ends.item_before.Given as goal
 
 -- the bytes that aren't read yet are among the first `end`
 abbrev pub invariant-loop-escape : goal.invariant-loop-escape

@@ -1,6 +1,6 @@
-use Rattle.ansi_slice.proofs.Common.{◌≡◌, pieces_left}
-use Rattle.ansi_slice.proofs.TrimWalkLemmas.{IsSolidSoFar}
-use Rattle.ansi_slice.proofs.slice.white_space.end_before_white_space.Given as goal
+use Rattle.ansi_search.proofs.Common.{◌≡◌, pieces_left}
+use Rattle.ansi_search.proofs.WhiteSpaceLemmas.{IsSolidSoFar}
+use Rattle.ansi_search.proofs.search.ends.solid_end.Given as goal
 
 -- the end is ahead or, if only white space is left, it is the one so far
 abbrev pub invariant-loop-item : goal.invariant-loop-item

@@ -1,7 +1,7 @@
-use Rattle.ansi_slice.proofs.Common.{refl, sym, ◌∙◌, ap, arith, eqb-true, eqb-false, kind_is_text}
+use Rattle.ansi_search.proofs.Common.{refl, sym, ◌∙◌, ap, arith, eqb-true, eqb-false, kind_is_text}
 use Rattle.ansi_search.proofs.OffsetLemmas.{over_text, over_mark, kind_differs}
-use Rattle.ansi_slice.proofs.TrimWalkLemmas.{solid-begin, solid-white, solid-other, solid-mark, solid-end}
-use Rattle.ansi_slice.proofs.slice.white_space.end_before_white_space.Goals as goal
+use Rattle.ansi_search.proofs.WhiteSpaceLemmas.{solid-begin, solid-white, solid-other, solid-mark, solid-end}
+use Rattle.ansi_search.proofs.search.ends.solid_end.Goals as goal
 
 -- at the front
 pub loop-item-init : goal.loop-item-init
@@ -41,4 +41,4 @@ loop-item-preserved c =
     }
 
 pub returns : goal.returns
-returns c = solid-end c.loop-item.invariant.so_far c.in-None.ensures.steps.2
+returns c = (let solid = solid-end c.loop-item.invariant.so_far c.in-None.ensures.steps.2 in record { end = solid.end; white = solid.white; some = solid.some })
