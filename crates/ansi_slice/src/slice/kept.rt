@@ -9,7 +9,7 @@ ghost use Rattle.ansi_slice.specs.Kept.{kept, without_prefix, without_suffix, tr
 
 use crate::slice::has_any;
 use crate::slice::sequences::push_sequences;
-use crate::slice::white_space::{end_before_white_space, white_space_len};
+use crate::slice::white_space::{end_before_white_space, push_before_solid};
 use ansi_search::search::{self, PAST_THE_END};
 use std::alloc::{AllocError, Allocator};
 use std::borrow::CowStr;
@@ -121,9 +121,8 @@ pub fn trim_in<'t, A: Allocator>(alloc: A, text: &'t str) -> Result<CowStr<'t, A
 fn write_trimmed<A: Allocator>(alloc: A, text: &str) -> Result<String<A>, AllocError>
     ensures { IfOk result (λ s. string_bytes s ≡ trimmed text.now) }
 {
-    let start = white_space_len(text);
     let mut kept = String::with_capacity(alloc, text.len())?;
-    let from = push_sequences(&mut kept, text, start)?;
+    let from = push_before_solid(&mut kept, text)?;
     let rest = &text[from..];
     push_up_to(&mut kept, rest, end_before_white_space(rest))?;
     Ok(kept)
