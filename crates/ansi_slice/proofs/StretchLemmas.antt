@@ -130,6 +130,13 @@ cut-stretch {t} {s = s} {e = e} {from = from} {to = to} ordered is front_is stre
     style_is
     ∙ sym (cut_up_to-walk t s e)
 
+-- and from the front, as one stretch
+pub cut-front_stretch : {t stretch : List ℕ} {s e from to : ℕ} {marks : Option ℕ} {style : Rendition} → s ≡ 0 → IsStretch t s e marks from to → stretch ≡ slice_range t 0 to
+    → style ≡ style_within plain_style t e → stretch ++ close style ≡ cut_up_to t s e
+cut-front_stretch {t} {e = e} {to = to} none is stretch_is style_is =
+    let all : to - 0 ≡ to = omega arith in
+    ap₂ (λ u r. u ++ close r) (stretch_is ∙ ap (λ n. take n t) all ∙ front-stretch t e is.end.offset) style_is ∙ sym (cut_up_to-walk t 0 e) ∙ ap (λ n. cut_up_to t n e) (sym none)
+
 -- its range, by the offsets
 pub range-by_stretch : {t : List ℕ} {s e from to : ℕ} {marks : Option ℕ} {a b : Bool} → IsUtf8 t → s ≤ e → IsStretch t s e marks from to → IsTrue a ↔ IsCharBoundary t from → IsTrue b ↔ IsCharBoundary t to
     → is_good_range (plain t) s (Some e) ≡ (a && b)

@@ -1,12 +1,13 @@
 //! Cuts of a text.
-ghost use Rattle.std.specs.Prelude.{◌≡◌, ◌↔◌, ◌⊎◌, ◌≤◌, ◌+◌, length, Some, MatchOption};
+ghost use Rattle.std.specs.Prelude.{◌≡◌, ◌++◌, ◌↔◌, ◌⊎◌, ◌≤◌, ◌+◌, length, Some, MatchOption, OnOk};
 ghost use Rattle.std.specs.Prelude.{slice_range, IsTrue, IsFalse, IsNone, IsOk, IfOk, IfSome};
 ghost use Rattle.std.specs.Prelude.{string_bytes};
 ghost use Rattle.std.specs.Cow.{cow_str_bytes, IsBorrowedStr};
+ghost use Rattle.ansi_items.specs.Pieces.{pieces_of};
 ghost use Rattle.ansi_items.specs.Plain.{plain, has_escape};
-ghost use Rattle.ansi_search.specs.Positions.{is_good_range, is_range_in};
+ghost use Rattle.ansi_search.specs.Positions.{is_good_range, is_range_in, no_character_goes_on};
 ghost use Rattle.ansi_slice.specs.Cut.{cut, cut_up_to};
-ghost use Rattle.ansi_slice.specs.Stretches.{IsStretch};
+ghost use Rattle.ansi_slice.specs.Stretches.{AreMarks, IsStretch, sequences_up_to};
 ghost use Rattle.ansi_style.specs.Reading.{style_within};
 ghost use Rattle.ansi_style.specs.States.{rendition_of};
 ghost use Rattle.ansi_style.specs.Written.{longest_close};
@@ -167,13 +168,34 @@ fn cut_up_to<A: Allocator>(
     // All bytes up to the end but the plain ones before the start.
     let most = to - from.min(start) + LONGEST_CLOSE;
     let mut cut = String::with_capacity(alloc, most)?;
-    match marks {
-        Some(len) => cut.push_str(&text[..len])?,
-        None => {
-            push_sequences(&mut cut, text, start)?;
-        }
+    let mut begin = 0;
+    if start > 0 {
+        push_front(&mut cut, text, start, marks)?;
+        begin = from;
     }
-    cut.push_str(&text[from..to])?;
+    cut.push_str(&text[begin..to])?;
     styles::write_close(&style, &mut cut)?;
     Ok(Some(cut))
+}
+
+/// Appends every sequence up to a good position: the first `marks` bytes, if that is known. `Err`
+/// means out of memory; what was appended before it stays.
+fn push_front<A: Allocator>(
+    out: &mut String<A>,
+    text: &str,
+    position: usize,
+    marks: Option<usize>,
+) -> Result<(), AllocError>
+    requires good { IsTrue (no_character_goes_on (plain text.now) position) }
+    requires marks { IfSome marks (AreMarks text.now position) }
+    ensures { OnOk result (string_bytes out.new
+        ≡ string_bytes out.old ++ sequences_up_to position (pieces_of text.now)) }
+{
+    match marks {
+        Some(len) => out.push_str(&text[..len]),
+        None => {
+            push_sequences(out, text, position)?;
+            Ok(())
+        }
+    }
 }
