@@ -2,12 +2,16 @@
 use Rattle.ansi_slice.proofs.Common.{◌≡◌, ℕ, ◌+◌, ◌-◌, ◌<◌, ◌≤◌, inl, inr, Bool, true, List, [], ◌∷◌, ◌++◌, length, take, drop, take-add, refl, sym, ◌∙◌, ap, ap₂, subst, arith, if◌then◌else◌, nat_lt, length-append, append_assoc, append-nil, not, false, ◌&&◌, Some, drop-append_seam, cases_lt, le-leb, lt-ltb, nat_tests, take-append-le, length-drop, drop-drop, slice_range, IsCharBoundary, Kind, Piece, Text, ArePieces, pieces_of, plain_of, plain, pieces_are, pieces_of-unique, length-plain, spelled, spelled-pieces_of, is_mark, BeginsWithMark, Rendition, plain_style, apply, style_within, close, no_character_goes_on, is_good_range, cut_up_to, kept, bytes_before, sequences_up_to, offset_of, StandsIn, KeepsUpTo, IsUtf8, IsUtf8-plain, spelling, joined, marks_of, marks_up_to, marks_of-text, marks_of-mark, marks_up_to-none, marks_up_to-further, marks_up_to-here}
 use Rattle.ansi_style.proofs.MarkLemmas.{joined-further}
 use Rattle.ansi_search.proofs.SliceLemmas.{slice_range-past, slice_range-from_past}
-use Rattle.ansi_search.proofs.OffsetLemmas.{bytes_before-last, bytes_before-text, offset_walk-begin, offset_walk-text, offset_walk-mark, offset_walk-last, offset_walk-test, offset_walk-end, IsOffsetWalk, IsOverMark, after_of, after_of-last, after_of-text, take-after, inside_are, pieces_of-after, plain-after, IsOverText, IsPassed}
+use Rattle.ansi_search.proofs.OffsetLemmas.{bytes_before-last, bytes_before-text, offset_walk-begin, offset_walk-text, offset_walk-mark, offset_walk-last, offset_walk-test, offset_walk-boundary, offset_walk-end, IsOffsetWalk, IsOverMark, after_of, after_of-last, after_of-text, take-after, inside_are, pieces_of-after, plain-after, IsOverText, IsPassed}
 use Rattle.std.specs.Prelude.{zero, suc, ◌↔◌, ◌==◌, IsTrue, IfSome, Option, None}
 use Rattle.std.specs.Bool.{then_some}
 use Rattle.std.proofs.lemmas.Bool.{eqb-true}
 use Rattle.ansi_search.proofs.PositionLemmas.{no_character_goes_on-past, no_character_goes_on-boundary, good_is_boundary, good_range-utf8, boundary_test}
-use Rattle.ansi_slice.specs.Stretches.{IsAt, AreMarks, IsStretch}
+use Rattle.ansi_slice.specs.Stretches.{IsAt, AreMarks, IsStretch, IsFirstRun}
+use Rattle.std.proofs.lemmas.Str.{IsCharBoundary-end}
+use Rattle.ansi_search.proofs.SliceLemmas.{length-slice_range}
+use Rattle.ansi_search.proofs.EndLemmas.{starts_with-within, starts_with-boundary}
+use Rattle.ansi_slice.proofs.Common.{nat_eq, starts_with, plain_of-mark, without_prefix}
 use Rattle.ansi_slice.proofs.CutLemmas.{interleaved_from, interleaved_from-text, cut_up_to-walk}
 use Rattle.ansi_slice.proofs.KeptWalkLemmas.{kept-walk, kept-all}
 
@@ -367,3 +371,73 @@ stretch-end {t} {s} {place = place} way none all = elim (cases_lt s place) [
         front = way.start.front;
       })
 ]
+
+-- A walk to the first run of text: all that was passed are sequences.
+
+pub record IsFrontWalk (t : List ℕ) (passed : ℕ) (left : List Piece) : Type 0 where
+  pub style : Rendition
+  pub way : (n : ℕ) → IsOffsetWalk t n plain_style passed n style left
+  pub pushed : (n : ℕ) → IsPushedSoFar (sequences_up_to n (pieces_of t)) (take passed t) n left
+  pub rest : plain t ≡ plain_of left
+
+pub front_walk-begin : (t : List ℕ) → IsFrontWalk t 0 (pieces_of t)
+front_walk-begin t = record {
+  style = plain_style;
+  way = λ n. offset_walk-begin t n plain_style;
+  pushed = λ n. pushed-begin [] t n;
+  rest = refl;
+}
+
+pub front_walk-mark : {t : List ℕ} {passed at : ℕ} {kind : Kind} {w : List ℕ} {old ps : List Piece} → IsFrontWalk t passed old → IsOverMark kind t w passed at old ps → IsFrontWalk t at ps
+front_walk-mark {w = w} {ps = ps} walk over = record {
+  style = apply walk.style w;
+  way = λ n. offset_walk-mark (walk.way n) over refl;
+  pushed = λ n. pushed-mark (walk.pushed n) over.first over.bytes;
+  rest = walk.rest ∙ ap plain_of over.first.pieces ∙ plain_of-mark over.first.mark ps over.first.is_mark;
+}
+
+pub front_walk-text : {t : List ℕ} {passed at : ℕ} {w : List ℕ} {old ps : List Piece} → IsFrontWalk t passed old → IsOverText t w passed at old ps → w ≡ slice_range t passed at → IsFirstRun t passed at
+front_walk-text {t} {passed} {at} {w} {ps = ps} walk over is = record {
+  ordered = omega (arith, over.count);
+  within = over.within;
+  boundary = over.begins;
+  after = plain_of ps;
+  bytes = walk.rest ∙ ap plain_of over.first ∙ ap (λ v. v ++ plain_of ps) is;
+  marks = λ n last. sym (pushed-last (walk.pushed n) over.first (omega (arith, last, over.count)));
+  places = λ n last good.
+      let here : n < length w = omega (arith, last, over.count) in
+      record { good = good; offset = (offset_walk-last (walk.way n) over here).0; boundary = offset_walk-boundary (walk.way n) over here refl good };
+}
+
+pub front_walk-end : {t : List ℕ} {passed : ℕ} {old : List Piece} → IsFrontWalk t passed old → old ≡ [] → IsFirstRun t (length t) (length t)
+front_walk-end {t} walk none = record {
+  ordered = omega arith;
+  within = omega arith;
+  boundary = IsCharBoundary-end t;
+  after = [];
+  bytes = walk.rest ∙ ap plain_of none ∙ sym (append-nil _ ∙ slice_range-from_past t (length t) (length t) (omega arith));
+  marks = λ n last. absurd (omega (arith, last));
+  places = λ n last good. absurd (omega (arith, last));
+}
+
+-- a prefix that is shorter than the first run is in it
+pub starts_with-first_run : (p : List ℕ) {t run : List ℕ} {m e : ℕ} → IsFirstRun t m e → run ≡ slice_range t m e → m + length p < e → starts_with nat_eq (plain t) p ≡ starts_with nat_eq run p
+starts_with-first_run p {t} {run} {m} {e} is run_is short =
+    ap (λ x. starts_with nat_eq x p) (is.bytes ∙ ap (λ v. v ++ is.after) (sym run_is))
+    ∙ starts_with-within p run is.after (omega (arith, short, ap length run_is, length-slice_range t m e is.ordered is.within))
+
+-- by the test that the code makes
+pub first_run-starts : (p : List ℕ) {t x q : List ℕ} {m e : ℕ} {b : Bool} → IsFirstRun t m e → m + length p < e → x ≡ t → q ≡ p → b ≡ starts_with nat_eq (slice_range x m e) q → b ≡ true → starts_with nat_eq (plain t) p ≡ true
+first_run-starts p {m = m} {e = e} is short x_is q_is test holds =
+    starts_with-first_run p is refl short ∙ sym (test ∙ ap₂ (λ u v. starts_with nat_eq (slice_range u m e) v) x_is q_is) ∙ holds
+
+-- and where it ends
+pub first_run-prefix : {t p : List ℕ} {m e : ℕ} → IsUtf8 t → IsUtf8 p → IsFirstRun t m e → m + length p < e → starts_with nat_eq (plain t) p ≡ true → StandsIn t (length p) (m + length p)
+first_run-prefix {t} {p} utf8 prefix_utf8 is short starts =
+    is.places (length p) short (no_character_goes_on-boundary (plain t) (length p) (starts_with-boundary (plain t) p (IsUtf8-plain t utf8) prefix_utf8 starts))
+
+-- what is kept without it
+pub kept-first_run : {t p : List ℕ} {m e : ℕ} → IsUtf8 t → IsUtf8 p → IsFirstRun t m e → m + length p < e → starts_with nat_eq (plain t) p ≡ true → take m t ++ drop (m + length p) t ≡ without_prefix t p
+kept-first_run {t} {p} {m} utf8 prefix_utf8 is short starts =
+    ap (λ v. v ++ drop (m + length p) t) (sym (is.marks (length p) short))
+    ∙ kept-rest (starts_with-boundary (plain t) p (IsUtf8-plain t utf8) prefix_utf8 starts).0 (first_run-prefix utf8 prefix_utf8 is short starts) refl

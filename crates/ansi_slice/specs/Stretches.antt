@@ -1,11 +1,11 @@
 -- What is kept of a text up to a plain byte: its sequences, and a stretch of it. No public contract cites it.
-use Rattle.std.specs.Prelude.{◌≡◌, ◌≤◌, ℕ, List, ◌++◌, length, take, drop, Option, IfSome}
+use Rattle.std.specs.Prelude.{◌≡◌, ◌<◌, ◌≤◌, ℕ, ◌+◌, List, ◌++◌, length, take, drop, slice_range, Option, IfSome, IsTrue}
 use Rattle.std.specs.Str.{IsCharBoundary}
 use Rattle.ansi_items.specs.Pieces.{Piece}
 use Rattle.ansi_items.specs.Plain.{marks_of, marks_up_to, joined}
 use Rattle.ansi_items.specs.Pieces.{pieces_of}
 use Rattle.ansi_items.specs.Plain.{plain}
-use Rattle.ansi_search.specs.Offsets.{offset_of}
+use Rattle.ansi_search.specs.Offsets.{StandsIn, offset_of}
 use Rattle.ansi_search.specs.Positions.{no_character_goes_on}
 use Rattle.ansi_slice.specs.Kept.{kept}
 
@@ -35,3 +35,13 @@ pub record IsStretch (t : List ℕ) (s e : ℕ) (marks : Option ℕ) (from to : 
   pub end : IsAt t e to
   pub ordered : from ≤ to
   pub front : IfSome marks (AreMarks t s)
+
+-- t has a run of text from m up to e, or nothing there, and only sequences before it; so its first plain bytes are at the same distance from m
+pub record IsFirstRun (t : List ℕ) (m e : ℕ) : Type 0 where
+  pub ordered : m ≤ e
+  pub within : e ≤ length t
+  pub boundary : IsCharBoundary t m
+  pub after : List ℕ
+  pub bytes : plain t ≡ slice_range t m e ++ after
+  pub marks : (n : ℕ) → m + n < e → sequences_up_to n (pieces_of t) ≡ take m t
+  pub places : (n : ℕ) → m + n < e → IsTrue (no_character_goes_on (plain t) n) → StandsIn t n (m + n)
