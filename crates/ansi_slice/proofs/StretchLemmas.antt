@@ -3,7 +3,7 @@ use Rattle.ansi_slice.proofs.Common.{◌≡◌, ℕ, ◌+◌, ◌-◌, ◌<◌, 
 use Rattle.ansi_style.proofs.MarkLemmas.{joined-further}
 use Rattle.ansi_search.proofs.SliceLemmas.{slice_range-past, slice_range-from_past}
 use Rattle.ansi_search.proofs.OffsetLemmas.{bytes_before-last, bytes_before-text, offset_walk-begin, offset_walk-text, offset_walk-mark, offset_walk-last, offset_walk-test, offset_walk-boundary, offset_walk-end, IsOffsetWalk, IsOverMark, after_of, after_of-last, after_of-text, take-after, inside_are, pieces_of-after, plain-after, IsOverText, IsPassed}
-use Rattle.std.specs.Prelude.{zero, suc, ◌↔◌, ◌==◌, IsTrue, IfSome, Option, None}
+use Rattle.std.specs.Prelude.{◌↔◌, ◌==◌, IsTrue, IfSome, Option, None}
 use Rattle.std.specs.Bool.{then_some}
 use Rattle.std.proofs.lemmas.Bool.{eqb-true}
 use Rattle.ansi_search.proofs.PositionLemmas.{no_character_goes_on-past, no_character_goes_on-boundary, good_is_boundary, good_range-utf8, boundary_test}
@@ -105,8 +105,14 @@ bytes_before-parts s k (Text w ∷ ps) = elim (cases_lt s (length w)) [
   | inr within ↦ (
       let n = length w in
       let sum : s + k - n ≡ s - n + k = omega (arith, within) in
-      omega (arith, bytes_before-text (s + k) w ps (omega (arith, within)), ap (λ m. bytes_before m ps) sum, bytes_before-parts (s - n) k ps, bytes_before-text s w ps within,
-      ap (bytes_before k) (after_of-text s w ps within)))
+      omega (
+        arith,
+        bytes_before-text (s + k) w ps (omega (arith, within)),
+        ap (λ m. bytes_before m ps) sum,
+        bytes_before-parts (s - n) k ps,
+        bytes_before-text s w ps within,
+        ap (bytes_before k) (after_of-text s w ps within),
+      ))
 ]
 bytes_before-parts s k (p ∷ ps) = omega (arith, bytes_before-parts s k ps)
 

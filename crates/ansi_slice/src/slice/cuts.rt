@@ -115,8 +115,7 @@ struct Stretch {
 fn stretch_of(style: &mut Style, text: &str, start: usize, end: usize) -> Stretch
     requires { start ≤ end }
     ensures stretch { IsStretch text.now start end result.marks result.from result.to }
-    ensures style {
-        rendition_of style.new ≡ style_within (rendition_of style.old) text.now end }
+    ensures style { rendition_of style.new ≡ style_within (rendition_of style.old) text.now end }
 {
     let mut place = 0;
     let mut marks = None;

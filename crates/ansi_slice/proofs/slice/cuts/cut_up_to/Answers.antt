@@ -1,4 +1,4 @@
-use Rattle.ansi_slice.proofs.Common.{◌≡◌, ◌++◌, ◌&&◌, ◌∙◌, ap, ap₂, arith, slice_range, string_bytes, pieces_of, plain, close, rendition_of, style_within, sequences_up_to}
+use Rattle.ansi_slice.proofs.Common.{◌++◌, ◌&&◌, ◌∙◌, ap, ap₂, arith, slice_range, string_bytes, pieces_of, plain, close, rendition_of, style_within, sequences_up_to}
 use Rattle.ansi_search.specs.Positions.{is_char_boundary}
 use Rattle.ansi_search.proofs.PositionLemmas.{is_good_range-disordered, char_boundary_is}
 use Rattle.ansi_slice.proofs.StretchLemmas.{cut-stretch, cut-front_stretch, range-by_stretch, good_range-by_stretch}

@@ -1,4 +1,4 @@
-use Rattle.ansi_slice.proofs.Common.{◌+◌, ◌-◌, refl, sym, ◌∙◌, ap, arith, kind_is_text, apply-no_sgr}
+use Rattle.ansi_slice.proofs.Common.{◌+◌, ◌-◌, sym, ◌∙◌, ap, arith, kind_is_text, apply-no_sgr}
 use Rattle.ansi_search.proofs.OffsetLemmas.{over_text, over_mark, kind_differs, offset_walk-last}
 use Rattle.ansi_slice.proofs.StretchLemmas.{start-here, start-stays, stretch-text, stretch-mark, stretch-last}
 use Rattle.ansi_slice.proofs.slice.cuts.stretch_of.Goals.{then-place-start+then-start-place, else-place-start, else-place-start-via-then-place-start+else-start-place, else-place-start-via-else-place-start}

@@ -1,9 +1,9 @@
-use Rattle.ansi_slice.proofs.Common.{◌≡◌, ℕ, true, List, refl, sym, ◌∙◌, arith, length, nat_eq, eqb-true, starts_with, plain, plain-bare, IsUtf8-plain, IsUtf8, IsCharBoundary}
+use Rattle.ansi_slice.proofs.Common.{◌≡◌, ℕ, true, List, sym, ◌∙◌, arith, length, nat_eq, eqb-true, starts_with, plain, plain-bare, IsUtf8-plain, IsUtf8, IsCharBoundary}
 use Rattle.ansi_search.proofs.PositionLemmas.{none_if_bad, some_if_good}
 use Rattle.ansi_search.proofs.EndLemmas.{starts_with-boundary}
 use Rattle.ansi_search.proofs.SliceLemmas.{slice_range-past}
 use Rattle.ansi_slice.proofs.KeptWalkLemmas.{kept-all, kept-bare}
-use Rattle.ansi_slice.proofs.StretchLemmas.{starts_with-first_run, first_run-starts, first_run-prefix, kept-first_run}
+use Rattle.ansi_slice.proofs.StretchLemmas.{first_run-starts, first_run-prefix, kept-first_run}
 use Rattle.ansi_slice.proofs.slice.kept.strip_prefix_in.Goals as goal
 
 -- without an empty prefix all is kept

@@ -1,4 +1,4 @@
-use Rattle.ansi_slice.proofs.Common.{IsUtf8-plain, arith}
+use Rattle.ansi_slice.proofs.Common.{arith}
 use Rattle.ansi_slice.proofs.TrimWalkLemmas.{trimmed-stretch}
 use Rattle.ansi_slice.proofs.slice.kept.write_trimmed.Goals as goal
 
