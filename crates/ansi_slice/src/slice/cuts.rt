@@ -100,8 +100,7 @@ fn range_of(text: &str, start: usize, end: usize) -> Option<&str>
 
 /// Where the bytes that a cut keeps are in its text.
 struct Stretch {
-    /// How many bytes the sequences at the front have, if no text is between them and the run in
-    /// which the start is.
+    /// How many bytes the sequences at the front have, if the start is in the first run of text.
     marks: Option<usize>,
     /// The offset of the start.
     from: usize,

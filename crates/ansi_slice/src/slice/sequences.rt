@@ -1,4 +1,4 @@
-//! The sequences of a text, without its plain text.
+//! The sequences of a text, without its plain text, and the first run of its text.
 ghost use Rattle.std.specs.Prelude.{◌≡◌, ◌++◌, IsTrue, IfOk, OnOk, string_bytes};
 ghost use Rattle.ansi_items.specs.Pieces.{pieces_of};
 ghost use Rattle.ansi_items.specs.Plain.{plain};
