@@ -1,13 +1,18 @@
 -- A cut and a kept text as a stretch of the text, by the offsets of its plain bytes, and the sequences outside of it.
 use Rattle.ansi_search.specs.Offsets.{IsEnd}
-use Rattle.ansi_slice.proofs.Common.{◌≡◌, ℕ, ◌+◌, ◌-◌, ◌<◌, ◌≤◌, inl, inr, Bool, true, List, [], ◌∷◌, ◌++◌, length, take, drop, take-add, refl, sym, ◌∙◌, ap, ap₂, arith, if◌then◌else◌, nat_lt, length-append, append_assoc, append-nil, not, false, ◌&&◌, Some, cases_lt, le-leb, lt-ltb, nat_tests, take-append-le, length-drop, drop-drop, slice_range, Kind, Piece, Text, pieces_of, plain_of, plain, length-plain, spelled, spelled-pieces_of, is_mark, BeginsWithMark, Rendition, plain_style, apply, style_within, close, style_by_marks, style_by_marks-before, style_by_marks-mark, no_character_goes_on, is_good_range, cut_up_to, kept, bytes_before, sequences_up_to, offset_of, StandsIn, KeepsUpTo, spelling, joined, marks_of, marks_up_to, marks_of-text, marks_of-mark, marks_up_to-none, marks_up_to-further, marks_up_to-here}
+use Rattle.ansi_slice.proofs.Common.{◌≡◌, ℕ, ◌+◌, ◌-◌, ◌<◌, ◌≤◌, inl, inr, Bool, true, List, [], ◌∷◌, ◌++◌, length, take, drop, take-add, refl, sym, ◌∙◌, ap, ap₂, subst, arith, if◌then◌else◌, nat_lt, length-append, append_assoc, append-nil, not, false, ◌&&◌, Some, cases_lt, le-leb, lt-ltb, nat_tests, take-append-le, length-drop, drop-drop, slice_range, IsCharBoundary, Kind, Piece, Text, pieces_of, plain_of, plain, length-plain, spelled, spelled-pieces_of, is_mark, BeginsWithMark, Rendition, plain_style, apply, style_within, close, no_character_goes_on, is_good_range, cut_up_to, kept, bytes_before, sequences_up_to, offset_of, StandsIn, KeepsUpTo, IsUtf8, IsUtf8-plain, spelling, joined, marks_of, marks_up_to, marks_of-text, marks_of-mark, marks_up_to-none, marks_up_to-further, marks_up_to-here}
 use Rattle.ansi_style.proofs.MarkLemmas.{joined-further}
 use Rattle.ansi_search.proofs.SliceLemmas.{slice_range-past, slice_range-from_past}
-use Rattle.ansi_search.proofs.OffsetLemmas.{bytes_before-last, bytes_before-text, style-text, after_of, after_of-last, after_of-text, take-after, pieces_of-after, plain-after}
-use Rattle.std.specs.Prelude.{zero, suc, ◌||◌, IsTrue}
-use Rattle.std.proofs.lemmas.Bool.{ne_eqb}
-use Rattle.ansi_search.specs.Positions.{is_good_position}
-use Rattle.ansi_search.proofs.PositionLemmas.{no_character_goes_on-drop, is_good_position-from}
+use Rattle.ansi_search.proofs.OffsetLemmas.{bytes_before-last, bytes_before-text, offset_walk-begin, offset_walk-text, offset_walk-mark, offset_walk-last, offset_walk-test, offset_walk-boundary, offset_walk-end, IsOffsetWalk, IsOverMark, after_of, after_of-last, after_of-text, take-after, pieces_of-after, plain-after, IsOverText}
+use Rattle.std.specs.Prelude.{◌↔◌, ◌==◌, IsTrue, IfSome, Option, None}
+use Rattle.std.specs.Bool.{then_some}
+use Rattle.std.proofs.lemmas.Bool.{eqb-true}
+use Rattle.ansi_search.proofs.PositionLemmas.{no_character_goes_on-past, no_character_goes_on-boundary, good_is_boundary, good_range-utf8, boundary_test}
+use Rattle.ansi_slice.specs.Stretches.{IsAt, AreMarks, IsStretch, IsFirstRun}
+use Rattle.std.proofs.lemmas.Str.{IsCharBoundary-end}
+use Rattle.ansi_search.proofs.SliceLemmas.{length-slice_range}
+use Rattle.ansi_search.proofs.EndLemmas.{starts_with-within, starts_with-boundary}
+use Rattle.ansi_slice.proofs.Common.{nat_eq, starts_with, plain_of-mark, without_prefix}
 use Rattle.ansi_slice.proofs.CutLemmas.{interleaved_from, interleaved_from-text, cut_up_to-walk}
 use Rattle.ansi_slice.proofs.KeptWalkLemmas.{kept-walk, kept-all}
 
@@ -83,64 +88,78 @@ interleaved_from-stretch all (Text w ∷ ps) e = elim (cases_lt e (length w)) [
     past false last = refl
 interleaved_from-stretch all (p ∷ ps) e = ap (λ v. spelling p ++ v) (interleaved_from-stretch all ps e) ∙ sym (take-more (spelling p) (spelled ps) (later_bytes all e ps) (bytes_before e ps))
 
--- the style at the end is that after the marks from the start on
-style-after : (ps : List Piece) (c : Rendition) (s e : ℕ) → s ≤ e → style_by_marks (style_by_marks c ps s) (after_of s ps) (e - s) ≡ style_by_marks c ps e
-style-after [] c s e ordered = refl
-style-after (Text w ∷ ps) c s e ordered = elim (cases_lt s (length w)) [
+-- the bytes before a later plain byte, in two parts
+bytes_before-parts : (s k : ℕ) (ps : List Piece) → bytes_before (s + k) ps ≡ bytes_before s ps + bytes_before k (after_of s ps)
+bytes_before-parts s k [] = refl
+bytes_before-parts s k (Text w ∷ ps) = elim (cases_lt s (length w)) [
   | inl last ↦ (
       let v = drop s w in
       let left : length v ≡ length w - s = length-drop s w in
-      let same : e - s - length v ≡ e - length w = omega arith in
-      ap₂ (λ r qs. style_by_marks r qs (e - s)) (style_by_marks-before c w ps s last) (after_of-last s w ps last)
-      ∙ elim (cases_lt e (length w)) [
-        | inl before ↦ style_by_marks-before c v ps (e - s) (omega arith) ∙ sym (style_by_marks-before c w ps e before)
-        | inr past ↦ style-text c (e - s) v ps (omega arith) ∙ ap (style_by_marks c ps) same ∙ sym (style-text c e w ps past)
+      let here : bytes_before s (Text w ∷ ps) ≡ s = bytes_before-last s w ps last in
+      let after : bytes_before k (after_of s (Text w ∷ ps)) ≡ bytes_before k (Text v ∷ ps) = ap (bytes_before k) (after_of-last s w ps last) in
+      elim (cases_lt k (length v)) [
+        | inl inside ↦ (omega (arith, here, after, bytes_before-last k v ps inside, bytes_before-last (s + k) w ps (omega (arith, left, inside, last))))
+        | inr past ↦ (
+            let same : s + k - length w ≡ k - length v = omega (arith, left, past, last) in
+            omega (arith, here, after, left, bytes_before-text k v ps past, bytes_before-text (s + k) w ps (omega (arith, left, past, last)), ap (λ n. bytes_before n ps) same))
       ])
   | inr within ↦ (
       let n = length w in
-      let count : e - s ≡ e - n - (s - n) = omega arith in
-      ap₂ (λ r qs. style_by_marks r qs (e - s)) (style-text c s w ps within) (after_of-text s w ps within)
-      ∙ ap (style_by_marks (style_by_marks c ps (s - n)) (after_of (s - n) ps)) count
-      ∙ style-after ps c (s - n) (e - n) (omega arith) ∙ sym (style-text c e w ps (omega arith)))
+      let sum : s + k - n ≡ s - n + k = omega (arith, within) in
+      omega (
+        arith,
+        bytes_before-text (s + k) w ps (omega (arith, within)),
+        ap (λ m. bytes_before m ps) sum,
+        bytes_before-parts (s - n) k ps,
+        bytes_before-text s w ps within,
+        ap (bytes_before k) (after_of-text s w ps within),
+      ))
 ]
-style-after (p ∷ ps) c s e ordered =
-    ap (λ r. style_by_marks r (after_of s ps) (e - s)) (style_by_marks-mark c p ps s refl) ∙ style-after ps (apply c (spelling p)) s e ordered ∙ sym (style_by_marks-mark c p ps e refl)
+bytes_before-parts s k (p ∷ ps) = omega (arith, bytes_before-parts s k ps)
 
 -- a front that is one stretch
-front-stretch : {t : List ℕ} {e to : ℕ} → StandsIn t e to → take to t ≡ interleaved_from false 0 e (pieces_of t)
-front-stretch {t} {e} end = ap₂ (λ i u. take i u) end.offset (sym (spelled-pieces_of t)) ∙ sym (interleaved_from-stretch false (pieces_of t) e ∙ append-nil _)
+front-stretch : (t : List ℕ) (e : ℕ) {to : ℕ} → to ≡ offset_of t e → take to t ≡ interleaved_from false 0 e (pieces_of t)
+front-stretch t e end = ap₂ (λ i u. take i u) end (sym (spelled-pieces_of t)) ∙ sym (interleaved_from-stretch false (pieces_of t) e ∙ append-nil _)
 
 -- a cut from the front, by the offset of its end
 pub cut-front : {t : List ℕ} {e to : ℕ} {style : Rendition} → StandsIn t e to → style ≡ style_within plain_style t e → take to t ++ close style ≡ cut_up_to t 0 e
-cut-front {t} {e} end style_is = ap₂ (λ u r. u ++ close r) (front-stretch end) style_is ∙ sym (cut_up_to-walk t 0 e)
+cut-front {t} {e} end style_is = ap₂ (λ u r. u ++ close r) (front-stretch t e end.offset) style_is ∙ sym (cut_up_to-walk t 0 e)
 
--- a cut, by the offsets of its start, and of its end in what follows that
-pub cut-stretch : {t rest : List ℕ} {s e from to : ℕ} {c style : Rendition} → s ≤ e → StandsIn t s from → rest ≡ drop from t → StandsIn rest (e - s) to
-    → c ≡ style_within plain_style t s → style ≡ style_within c rest (e - s) → (sequences_up_to s (pieces_of t) ++ take to rest) ++ close style ≡ cut_up_to t s e
-cut-stretch {t} {rest} {s} {e} {from} {to} {c} {style} ordered start rest_is end c_is style_is =
+-- a cut, by the sequences up to its start and the offsets of its ends
+pub cut-stretch : {t front stretch : List ℕ} {s e from to : ℕ} {marks : Option ℕ} {style : Rendition} → s ≤ e → IsStretch t s e marks from to → front ≡ sequences_up_to s (pieces_of t) → stretch ≡ slice_range t from to
+    → style ≡ style_within plain_style t e → (front ++ stretch) ++ close style ≡ cut_up_to t s e
+cut-stretch {t} {s = s} {e = e} {from = from} {to = to} ordered is front_is stretch_is style_is =
     let ps = pieces_of t in
-    let after : pieces_of rest ≡ after_of s ps = ap pieces_of rest_is ∙ ap (λ i. pieces_of (drop i t)) start.offset ∙ pieces_of-after t s in
-    ap₂ (λ u r. (sequences_up_to s ps ++ u) ++ close r) (front-stretch end ∙ ap (interleaved_from false 0 (e - s)) after)
-    (style_is ∙ ap₂ (λ r qs. style_by_marks r qs (e - s)) c_is after ∙ style-after ps plain_style s e ordered)
-    ∙ sym (cut_up_to-walk t s e ∙ ap (λ u. u ++ close (style_by_marks plain_style ps e)) (interleaved_from-front false ps s e ordered))
+    let rest = drop from t in
+    let after : pieces_of rest ≡ after_of s ps = ap (λ i. pieces_of (drop i t)) is.start.offset ∙ pieces_of-after t s in
+    let count : s + (e - s) ≡ e = omega (arith, ordered) in
+    let parts : offset_of t e ≡ offset_of t s + offset_of rest (e - s)
+    = ap (λ n. bytes_before n ps) (sym count) ∙ bytes_before-parts s (e - s) ps ∙ ap (λ qs. offset_of t s + bytes_before (e - s) qs) (sym after) in
+    let end : to - from ≡ offset_of rest (e - s) = omega (arith, parts, is.start.offset, is.end.offset) in
+    ap₂ (λ u r. u ++ close r)
+    (ap₂ (λ u v. u ++ v) front_is (stretch_is ∙ front-stretch rest (e - s) end ∙ ap (interleaved_from false 0 (e - s)) after) ∙ sym (interleaved_from-front false ps s e ordered))
+    style_is
+    ∙ sym (cut_up_to-walk t s e)
 
--- an end in what follows a start at which no character goes on
-is_good_position-drop : (x y : List ℕ) (s e : ℕ) → s ≤ e → IsTrue (no_character_goes_on x s) → y ≡ drop s x → is_good_position x e ≡ no_character_goes_on y (e - s)
-is_good_position-drop x y s zero ordered start is =
-    let same : s + (0 - s) ≡ s = omega (arith, ordered) in
-    sym (ap (λ v. no_character_goes_on v (0 - s)) is ∙ no_character_goes_on-drop x s (0 - s) ∙ ap (no_character_goes_on x) same ∙ start)
-is_good_position-drop x y s (suc e) ordered start is =
-    let same : s + (suc e - s) ≡ suc e = omega (arith, ordered) in
-    ap (λ b. b || no_character_goes_on x (suc e)) (ne_eqb (suc e) 0 (λ none. omega (arith, none)))
-    ∙ sym (ap (λ v. no_character_goes_on v (suc e - s)) is ∙ no_character_goes_on-drop x s (suc e - s) ∙ ap (no_character_goes_on x) same)
+-- and from the front, as one stretch
+pub cut-front_stretch : {t stretch : List ℕ} {s e from to : ℕ} {marks : Option ℕ} {style : Rendition} → s ≡ 0 → IsStretch t s e marks from to → stretch ≡ slice_range t 0 to
+    → style ≡ style_within plain_style t e → stretch ++ close style ≡ cut_up_to t s e
+cut-front_stretch {t} {e = e} {to = to} none is stretch_is style_is =
+    let all : to - 0 ≡ to = omega arith in
+    ap₂ (λ u r. u ++ close r) (stretch_is ∙ ap (λ n. take n t) all ∙ front-stretch t e is.end.offset) style_is ∙ sym (cut_up_to-walk t 0 e) ∙ ap (λ n. cut_up_to t n e) (sym none)
 
--- the range of a cut, by those
-pub range-by_offset : {t rest : List ℕ} {s e from : ℕ} → s ≤ e → StandsIn t s from → rest ≡ drop from t → is_good_range (plain t) s (Some e) ≡ no_character_goes_on (plain rest) (e - s)
-range-by_offset {t} {rest} {s} {e} {from} ordered start rest_is =
+-- its range, by the offsets
+pub range-by_stretch : {t : List ℕ} {s e from to : ℕ} {marks : Option ℕ} {a b : Bool} → IsUtf8 t → s ≤ e → IsStretch t s e marks from to → IsTrue a ↔ IsCharBoundary t from → IsTrue b ↔ IsCharBoundary t to
+    → is_good_range (plain t) s (Some e) ≡ (a && b)
+range-by_stretch {t} {s} {e} {from} {to} {a = a} {b = b} utf8 ordered is start_test end_test =
     let x = plain t in
-    let after : plain rest ≡ drop s x = ap plain (rest_is ∙ ap (λ n. drop n t) start.offset) ∙ plain-after t s in
-    ap (λ b. b && (is_good_position x s && is_good_position x e)) (le-leb s e ordered)
-    ∙ ap (λ b. b && is_good_position x e) (is_good_position-from x s start.good) ∙ is_good_position-drop x (plain rest) s e ordered start.good after
+    good_range-utf8 x s e (IsUtf8-plain t utf8)
+    ∙ ap (λ c. c && (no_character_goes_on x s && no_character_goes_on x e)) (le-leb s e ordered)
+    ∙ ap₂ (λ c d. c && d) (sym (boundary_test t from a is.start.within start_test ∙ is.start.same)) (sym (boundary_test t to b is.end.within end_test ∙ is.end.same))
+
+pub good_range-by_stretch : {t : List ℕ} {s e from to : ℕ} {marks : Option ℕ} {a b : Bool} → IsUtf8 t → s ≤ e → IsStretch t s e marks from to → IsTrue a ↔ IsCharBoundary t from → IsTrue b ↔ IsCharBoundary t to
+    → a ≡ true → b ≡ true → IsTrue (is_good_range (plain t) s (Some e))
+good_range-by_stretch utf8 ordered is start_test end_test start_is end_is = range-by_stretch utf8 ordered is start_test end_test ∙ ap₂ (λ a b. a && b) start_is end_is
 
 -- what is kept from s on
 pub kept-front : (t : List ℕ) (s e : ℕ) → s ≤ e → kept t s e ≡ sequences_up_to s (pieces_of t) ++ kept (drop (offset_of t s) t) 0 (e - s)
@@ -204,3 +223,209 @@ keeps-end {t} {n} {i} end is =
           ∙ append_assoc (take i t) (take m u) (kept (drop m u) 0 0)
           ∙ ap (λ v. take i t ++ v) (sym (kept-stretch u 0));
     }
+
+-- A walk to both ends of a cut.
+
+-- a position in the run of text that comes next
+at-here : {t : List ℕ} {n i passed at left : ℕ} {c style : Rendition} {w : List ℕ} {old ps : List Piece} → IsOffsetWalk t n c passed left style old → IsOverText t w passed at old ps → left < length w → i ≡ passed + left → IsAt t n i
+at-here {t} {n} {i} way over last is =
+    let within : i ≤ length t = omega (arith, is, last, over.count, over.within) in
+    record {
+      offset = is ∙ (offset_walk-last way over last).0;
+      within = within;
+      same = offset_walk-test way over last is (good_is_boundary t i within, no_character_goes_on-boundary t i);
+    }
+
+-- a position at the end or past it
+at-end : {t : List ℕ} {n passed left : ℕ} {c style : Rendition} {old : List Piece} → IsOffsetWalk t n c passed left style old → old ≡ [] → passed ≡ length t → IsAt t n (length t)
+at-end {t} way none all =
+    let ends = offset_walk-end way none in
+    record { offset = sym all ∙ ends.0; within = omega arith; same = no_character_goes_on-past t (length t) (omega arith) ∙ ends.1 }
+
+-- What is known of the start of a cut after n more plain bytes: it is ahead, or its offset was found; and so the sequences up to it, if no text is between them.
+pub record IsStartSoFar (t : List ℕ) (s passed place n : ℕ) (marks : Option ℕ) (from : ℕ) : Type 0 where
+  pub ahead : place + n ≤ s → from ≡ length t
+  pub found : s < place + n → IsAt t s from × (from ≤ passed + (s - place))
+  pub front : IfSome marks (AreMarks t s)
+
+-- How far the walk has come: to the end, and to the start if that is ahead; and whether all that was passed are sequences.
+pub record IsStretchWalk (t : List ℕ) (s e : ℕ) (c : Rendition) (passed place : ℕ) (marks : Option ℕ) (from : ℕ) (style : Rendition) (left : List Piece) : Type 0 where
+  pub before_end : place ≤ e
+  pub end : IsOffsetWalk t e c passed (e - place) style left
+  pub ahead : place ≤ s → IsOffsetWalk t s c passed (s - place) style left
+  pub start : IsStartSoFar t s passed place 0 marks from
+  pub only_marks : place ≡ 0 → IsPushedSoFar (sequences_up_to s (pieces_of t)) (take passed t) s left
+
+pub stretch-begin : (t : List ℕ) (s e : ℕ) (c : Rendition) → IsStretchWalk t s e c 0 0 None (length t) c (pieces_of t)
+stretch-begin t s e c = record {
+  before_end = omega arith;
+  end = begins e;
+  ahead = λ _. begins s;
+  start = record { ahead = λ _. refl; found = λ past. absurd (omega (arith, past)); front = tt };
+  only_marks = λ _. pushed-begin [] t s;
+}
+  where
+    begins : (n : ℕ) → IsOffsetWalk t n c 0 (n - 0) c (pieces_of t)
+    begins n = (let all : n ≡ n - 0 = omega arith in subst (λ k. IsOffsetWalk t n c 0 k c (pieces_of t)) all (offset_walk-begin t n c))
+
+-- over a mark
+pub stretch-mark : {t : List ℕ} {s e passed place from at : ℕ} {c style next : Rendition} {marks : Option ℕ} {kind : Kind} {w : List ℕ} {old ps : List Piece}
+    → IsStretchWalk t s e c passed place marks from style old → IsOverMark kind t w passed at old ps → next ≡ apply style w → IsStretchWalk t s e c at place marks from next ps
+stretch-mark way over next_is = record {
+  before_end = way.before_end;
+  end = offset_walk-mark way.end over next_is;
+  ahead = λ h. offset_walk-mark (way.ahead h) over next_is;
+  start = record {
+    ahead = way.start.ahead;
+    found = λ h. (let found = way.start.found h in (found.0, omega (arith, found.1, over.count)));
+    front = way.start.front;
+  };
+  only_marks = λ h. pushed-mark (way.only_marks h) over.first over.bytes;
+}
+
+-- the start is in the run of text that comes next, and all before that are sequences if no plain byte was passed
+pub start-here : {t : List ℕ} {s e passed place from i at m : ℕ} {c style : Rendition} {marks front : Option ℕ} {w : List ℕ} {old ps : List Piece} → IsStretchWalk t s e c passed place marks from style old → IsOverText t w passed at old ps
+    → place ≤ s → s - place < length w → m ≡ passed → i ≡ m + (s - place) → front ≡ then_some (place == 0) m → IsStartSoFar t s passed place (length w) front i
+start-here {t} {s} {passed = passed} {place = place} {m = m} {w = w} way over before last m_is is front_is =
+    let i_is = is ∙ ap (λ n. n + (s - place)) m_is in record {
+      ahead = λ h. absurd (omega (arith, h, before, last));
+      found = λ _. (at-here (way.ahead before) over last i_is, omega (arith, i_is));
+      front = subst (λ o. IfSome o (AreMarks t s)) (sym front_is) (either (place == 0) refl);
+    }
+  where
+    either : (b : Bool) → (place == 0) ≡ b → IfSome (then_some b m) (AreMarks t s)
+    either true test = (let none = eqb-true place 0 test in record {
+      boundary = subst (IsCharBoundary t) (sym m_is) over.begins;
+      bytes = ap (λ n. take n t) m_is ∙ pushed-last (way.only_marks none) over.first (omega (arith, last, none));
+    })
+    either false test = tt
+
+-- it isn't there
+pub start-stays : {t : List ℕ} {s e passed place from i n : ℕ} {c style : Rendition} {marks front : Option ℕ} {old : List Piece} → IsStretchWalk t s e c passed place marks from style old
+    → (place ≤ s → n ≤ s - place) → i ≡ from → front ≡ marks → IsStartSoFar t s passed place n front i
+start-stays {t} {s} {place = place} way stays is front_is = record {
+  ahead = λ h. is ∙ way.start.ahead (omega (arith, h));
+  found = λ h. elim (cases_lt s place) [
+    | inl past ↦ (let found = way.start.found (omega (arith, past)) in (subst (IsAt t s) (sym is) found.0, omega (arith, is, found.1)))
+    | inr before ↦ absurd (omega (arith, stays before, before, h))
+  ];
+  front = subst (λ o. IfSome o (AreMarks t s)) (sym front_is) way.start.front;
+}
+
+-- over a run of text that hasn't the end
+pub stretch-text : {t : List ℕ} {s e passed place from i at : ℕ} {c style : Rendition} {marks front : Option ℕ} {w : List ℕ} {old ps : List Piece}
+    → IsStretchWalk t s e c passed place marks from style old → IsOverText t w passed at old ps → length w ≤ e - place → IsStartSoFar t s passed place (length w) front i
+    → IsStretchWalk t s e c at (place + length w) front i style ps
+stretch-text {t} {s} {e} {passed} {place} {at = at} {w = w} {ps = ps} way over within start = record {
+  before_end = omega (arith, way.before_end, within);
+  end = offset_walk-text way.end over within (omega arith);
+  ahead = λ h. offset_walk-text (way.ahead (omega (arith, h))) over (omega (arith, h)) (omega arith);
+  start = record {
+    ahead = λ h. start.ahead (omega (arith, h));
+    found = λ h. (let found = start.found (omega (arith, h)) in (found.0, omega (arith, found.1, over.count, h)));
+    front = start.front;
+  };
+  only_marks = λ h. (
+      let same : passed ≡ at = omega (arith, over.count, h) in
+      subst (λ k. IsPushedSoFar (sequences_up_to s (pieces_of t)) (take k t) s ps) same (pushed-text (way.only_marks (omega (arith, h))) over.first (omega (arith, h)) (omega (arith, h))));
+}
+
+-- a run of text that has the end
+pub stretch-last : {t : List ℕ} {s e passed place from i to at : ℕ} {c style : Rendition} {marks front : Option ℕ} {w : List ℕ} {old ps : List Piece}
+    → IsStretchWalk t s e c passed place marks from style old → IsOverText t w passed at old ps → s ≤ e → e - place < length w → IsStartSoFar t s passed place (length w) front i → to ≡ passed + (e - place)
+    → IsStretch t s e front i to
+stretch-last way over ordered last start is =
+    let found = start.found (omega (arith, way.before_end, ordered, last)) in
+    record {
+      start = found.0;
+      end = at-here way.end over last is;
+      ordered = omega (arith, found.1, is, ordered);
+      front = start.front;
+    }
+
+-- nothing is left
+pub stretch-end : {t : List ℕ} {s e passed place from : ℕ} {c style : Rendition} {marks : Option ℕ} {old : List Piece} → IsStretchWalk t s e c passed place marks from style old → old ≡ [] → passed ≡ length t
+    → IsStretch t s e marks from (length t)
+stretch-end {t} {s} {place = place} way none all = elim (cases_lt s place) [
+  | inl past ↦ (
+      let found = way.start.found (omega (arith, past)) in
+      record { start = found.0; end = at-end way.end none all; ordered = found.0.within; front = way.start.front })
+  | inr before ↦ (
+      let is = way.start.ahead (omega (arith, before)) in
+      record {
+        start = subst (IsAt t s) (sym is) (at-end (way.ahead before) none all);
+        end = at-end way.end none all;
+        ordered = omega (arith, is);
+        front = way.start.front;
+      })
+]
+
+-- A walk to the first run of text: all that was passed are sequences.
+
+pub record IsFrontWalk (t : List ℕ) (passed : ℕ) (left : List Piece) : Type 0 where
+  pub style : Rendition
+  pub way : (n : ℕ) → IsOffsetWalk t n plain_style passed n style left
+  pub pushed : (n : ℕ) → IsPushedSoFar (sequences_up_to n (pieces_of t)) (take passed t) n left
+  pub rest : plain t ≡ plain_of left
+
+pub front_walk-begin : (t : List ℕ) → IsFrontWalk t 0 (pieces_of t)
+front_walk-begin t = record {
+  style = plain_style;
+  way = λ n. offset_walk-begin t n plain_style;
+  pushed = λ n. pushed-begin [] t n;
+  rest = refl;
+}
+
+pub front_walk-mark : {t : List ℕ} {passed at : ℕ} {kind : Kind} {w : List ℕ} {old ps : List Piece} → IsFrontWalk t passed old → IsOverMark kind t w passed at old ps → IsFrontWalk t at ps
+front_walk-mark {w = w} {ps = ps} walk over = record {
+  style = apply walk.style w;
+  way = λ n. offset_walk-mark (walk.way n) over refl;
+  pushed = λ n. pushed-mark (walk.pushed n) over.first over.bytes;
+  rest = walk.rest ∙ ap plain_of over.first.pieces ∙ plain_of-mark over.first.mark ps over.first.is_mark;
+}
+
+pub front_walk-text : {t : List ℕ} {passed at : ℕ} {w : List ℕ} {old ps : List Piece} → IsFrontWalk t passed old → IsOverText t w passed at old ps → w ≡ slice_range t passed at → IsFirstRun t passed at
+front_walk-text {t} {passed} {at} {w} {ps = ps} walk over is = record {
+  ordered = omega (arith, over.count);
+  within = over.within;
+  boundary = over.begins;
+  after = plain_of ps;
+  bytes = walk.rest ∙ ap plain_of over.first ∙ ap (λ v. v ++ plain_of ps) is;
+  marks = λ n last. sym (pushed-last (walk.pushed n) over.first (omega (arith, last, over.count)));
+  places = λ n last good.
+      let here : n < length w = omega (arith, last, over.count) in
+      record { good = good; offset = (offset_walk-last (walk.way n) over here).0; boundary = offset_walk-boundary (walk.way n) over here refl good };
+}
+
+pub front_walk-end : {t : List ℕ} {passed : ℕ} {old : List Piece} → IsFrontWalk t passed old → old ≡ [] → IsFirstRun t (length t) (length t)
+front_walk-end {t} walk none = record {
+  ordered = omega arith;
+  within = omega arith;
+  boundary = IsCharBoundary-end t;
+  after = [];
+  bytes = walk.rest ∙ ap plain_of none ∙ sym (append-nil _ ∙ slice_range-from_past t (length t) (length t) (omega arith));
+  marks = λ n last. absurd (omega (arith, last));
+  places = λ n last good. absurd (omega (arith, last));
+}
+
+-- a prefix that is shorter than the first run is in it
+pub starts_with-first_run : (p : List ℕ) {t run : List ℕ} {m e : ℕ} → IsFirstRun t m e → run ≡ slice_range t m e → m + length p < e → starts_with nat_eq (plain t) p ≡ starts_with nat_eq run p
+starts_with-first_run p {t} {run} {m} {e} is run_is short =
+    ap (λ x. starts_with nat_eq x p) (is.bytes ∙ ap (λ v. v ++ is.after) (sym run_is))
+    ∙ starts_with-within p run is.after (omega (arith, short, ap length run_is, length-slice_range t m e is.ordered is.within))
+
+-- by the test that the code makes
+pub first_run-starts : (p : List ℕ) {t x q : List ℕ} {m e : ℕ} {b : Bool} → IsFirstRun t m e → m + length p < e → x ≡ t → q ≡ p → b ≡ starts_with nat_eq (slice_range x m e) q → b ≡ true → starts_with nat_eq (plain t) p ≡ true
+first_run-starts p {m = m} {e = e} is short x_is q_is test holds =
+    starts_with-first_run p is refl short ∙ sym (test ∙ ap₂ (λ u v. starts_with nat_eq (slice_range u m e) v) x_is q_is) ∙ holds
+
+-- and where it ends
+pub first_run-prefix : {t p : List ℕ} {m e : ℕ} → IsUtf8 t → IsUtf8 p → IsFirstRun t m e → m + length p < e → starts_with nat_eq (plain t) p ≡ true → StandsIn t (length p) (m + length p)
+first_run-prefix {t} {p} utf8 prefix_utf8 is short starts =
+    is.places (length p) short (no_character_goes_on-boundary (plain t) (length p) (starts_with-boundary (plain t) p (IsUtf8-plain t utf8) prefix_utf8 starts))
+
+-- what is kept without it
+pub kept-first_run : {t p : List ℕ} {m e : ℕ} → IsUtf8 t → IsUtf8 p → IsFirstRun t m e → m + length p < e → starts_with nat_eq (plain t) p ≡ true → take m t ++ drop (m + length p) t ≡ without_prefix t p
+kept-first_run {t} {p} {m} utf8 prefix_utf8 is short starts =
+    ap (λ v. v ++ drop (m + length p) t) (sym (is.marks (length p) short))
+    ∙ kept-rest (starts_with-boundary (plain t) p (IsUtf8-plain t utf8) prefix_utf8 starts).0 (first_run-prefix utf8 prefix_utf8 is short starts) refl

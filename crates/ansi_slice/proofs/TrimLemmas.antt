@@ -1,5 +1,5 @@
 -- What is left of a text without the white space at its ends is the slice over an interval.
-use Rattle.ansi_slice.proofs.Common.{◌≡◌, ℕ, ◌+◌, ◌-◌, true, List, [], ◌∷◌, ◌++◌, take, drop, length, refl, sym, ◌∙◌, ap, ap₂, subst, arith, slice_range, length-append, append_assoc, cond_both, and_parts, encodes-append, chars-encodes, IsCharBoundary-at_seam, take-append_seam, drop-append_seam, IsUtf8, IsCharBoundary, chars, trim_start, trim_end, trim, skip_leading_whitespace, drop_trailing_whitespace, encode_utf8_all, all_scalars, is_whitespace, trim_interval}
+use Rattle.ansi_slice.proofs.Common.{◌≡◌, ℕ, ◌+◌, ◌-◌, ◌≤◌, true, List, [], ◌∷◌, ◌++◌, take, drop, length, refl, sym, ◌∙◌, ap, ap₂, subst, arith, slice_range, length-append, append_assoc, cond_both, and_parts, encodes-append, chars-encodes, IsCharBoundary-at_seam, take-append_seam, drop-append_seam, IsUtf8, IsCharBoundary, chars, trim_start, trim_end, trim, skip_leading_whitespace, drop_trailing_whitespace, encode_utf8_all, all_scalars, is_whitespace, trim_interval}
 use Rattle.ansi_search.proofs.WhiteSpaceLemmas.{drop_trailing_whitespace-splits}
 
 -- The characters that are taken off are at the front.
@@ -46,6 +46,9 @@ is_trimmed x utf8 =
       start_is_utf8 = (left, (left_scalars, sym start));
       back_is_utf8 = (drops.0, (back_scalars, refl));
     }
+
+pub length-trim_start : (x : List ℕ) → IsUtf8 x → length (trim_start x) ≤ length x
+length-trim_start x utf8 = (let is = is_trimmed x utf8 in omega (arith, ap length is.started, length-append is.front (trim_start x)))
 
 -- the interval begins after what is taken off the front
 trim_interval-start : (x : List ℕ) (is : IsTrimmed x) → (trim_interval x).0 ≡ length is.front

@@ -50,6 +50,7 @@ pub(super) fn continues_with(text: &str, pat: &[u8], place: usize) -> bool
 
 /// The run at the front of a text and what follows the mark after it. If no mark begins in the
 /// first `most` bytes, it is these bytes alone.
+#[inline(always)]
 pub(super) fn run_front<'t>(text: &'t str, most: usize) -> (&'t [u8], &'t str)
     ensures front { take most (plain text.now) ≡ take most (result.0.now ++ plain result.1.now) }
     ensures most { length result.0.now ≤ most }
@@ -59,6 +60,9 @@ pub(super) fn run_front<'t>(text: &'t str, most: usize) -> (&'t [u8], &'t str)
     ensures shorter { 0 < length text.now → length result.1.now < length text.now }
 {
     let bytes = text.as_bytes();
+    if bytes.first() == Some(&ESC) {
+        return (&bytes[..0], after_mark(text));
+    }
     let front = &bytes[..most.min(bytes.len())];
     match memchr(ESC, front) {
         Some(len) => (&bytes[..len], after_mark(&text[len..])),

@@ -1,16 +1,22 @@
 //! Cuts of a text.
-ghost use Rattle.std.specs.Prelude.{◌≡◌, ◌↔◌, ◌⊎◌, ◌≤◌, ◌+◌, length, Some, MatchOption};
+ghost use Rattle.std.specs.Prelude.{◌≡◌, ◌++◌, ◌↔◌, ◌⊎◌, ◌≤◌, ◌+◌, length, Some, MatchOption, OnOk};
 ghost use Rattle.std.specs.Prelude.{slice_range, IsTrue, IsFalse, IsNone, IsOk, IfOk, IfSome};
 ghost use Rattle.std.specs.Prelude.{string_bytes};
 ghost use Rattle.std.specs.Cow.{cow_str_bytes, IsBorrowedStr};
+ghost use Rattle.ansi_items.specs.Pieces.{pieces_of};
 ghost use Rattle.ansi_items.specs.Plain.{plain, has_escape};
-ghost use Rattle.ansi_search.specs.Positions.{is_good_range, is_range_in};
+ghost use Rattle.ansi_search.specs.Positions.{is_good_range, is_range_in, no_character_goes_on};
 ghost use Rattle.ansi_slice.specs.Cut.{cut, cut_up_to};
+ghost use Rattle.ansi_slice.specs.Stretches.{AreMarks, IsStretch, sequences_up_to};
+ghost use Rattle.ansi_style.specs.Reading.{style_within};
+ghost use Rattle.ansi_style.specs.States.{rendition_of};
 ghost use Rattle.ansi_style.specs.Written.{longest_close};
 
 use crate::slice::has_any;
 use crate::slice::sequences::push_sequences;
-use ansi_search::search::{PAST_THE_END, walk_to};
+use ansi_items::ansitok::{Kind, Scanner};
+use ansi_search::search::PAST_THE_END;
+use ansi_style::state::Style;
 use ansi_style::styles;
 use std::alloc::{AllocError, Allocator};
 use std::borrow::CowStr;
@@ -92,27 +98,45 @@ fn range_of(text: &str, start: usize, end: usize) -> Option<&str>
     Some(&text[from..to])
 }
 
-/// The cut of a text from its front, written, or `None` if the end isn't good: the text up to there
-/// unchanged, and the close of the style there.
-fn cut_front<A: Allocator>(
-    alloc: A,
-    text: &str,
-    end: usize,
-) -> Result<Option<String<A>>, AllocError>
-    ensures cut { IfOk result (λ o.
-        MatchOption o (IsFalse (is_good_range (plain text.now) 0 (Some end))) (λ s.
-        IsTrue (is_good_range (plain text.now) 0 (Some end))
-        × (string_bytes s ≡ cut_up_to text.now 0 end))) }
-    ensures takes_no_memory { IsFalse (is_good_range (plain text.now) 0 (Some end)) → IsOk result }
+/// Where the bytes that a cut keeps are in its text.
+struct Stretch {
+    /// How many bytes the sequences at the front have, if the start is in the first run of text.
+    marks: Option<usize>,
+    /// The offset of the start.
+    from: usize,
+    /// The offset of the end.
+    to: usize,
+}
+
+/// The stretch of a text between two positions, good or not. Every SGR up to the end changes the
+/// style.
+#[inline(always)]
+fn stretch_of(style: &mut Style, text: &str, start: usize, end: usize) -> Stretch
+    requires { start ≤ end }
+    ensures stretch { IsStretch text.now start end result.marks result.from result.to }
+    ensures style { rendition_of style.new ≡ style_within (rendition_of style.old) text.now end }
 {
-    let mut style = styles::plain_style();
-    let Some(to) = walk_to(&mut style, text, end) else {
-        return Ok(None);
-    };
-    let mut cut = String::with_capacity(alloc, to + LONGEST_CLOSE)?;
-    cut.push_str(&text[..to])?;
-    styles::write_close(&style, &mut cut)?;
-    Ok(Some(cut))
+    let mut place = 0;
+    let mut marks = None;
+    let mut from = text.len();
+    for item in Scanner::new(text) {
+        let piece = &text[item.start..item.end];
+        if item.kind == Kind::Text {
+            if place <= start && start - place < piece.len() {
+                from = item.start + (start - place);
+                marks = (place == 0).then_some(item.start);
+            }
+            if end - place < piece.len() {
+                let to = item.start + (end - place);
+                return Stretch { marks, from, to };
+            }
+            place += piece.len();
+        } else if item.kind == Kind::Sgr {
+            styles::apply(style, piece);
+        }
+    }
+    let to = text.len();
+    Stretch { marks, from, to }
 }
 
 /// The cut of a range, written, or `None` if the range is bad: the sequences up to its start, the
@@ -134,22 +158,42 @@ fn cut_up_to<A: Allocator>(
     if end < start {
         return Ok(None);
     }
-    if start == 0 {
-        return cut_front(alloc, text, end);
-    }
     let mut style = styles::plain_style();
-    let Some(from) = walk_to(&mut style, text, start) else {
+    let Stretch { marks, from, to } = stretch_of(&mut style, text, start, end);
+    if !text.is_char_boundary(from) || !text.is_char_boundary(to) {
         return Ok(None);
-    };
-    let rest = &text[from..];
-    let Some(to) = walk_to(&mut style, rest, end - start) else {
-        return Ok(None);
-    };
-    // The sequences up to the start are all bytes before it but the plain ones.
-    let most = from.saturating_sub(start) + to + LONGEST_CLOSE;
+    }
+    // All bytes up to the end but the plain ones before the start.
+    let most = to - from.min(start) + LONGEST_CLOSE;
     let mut cut = String::with_capacity(alloc, most)?;
-    push_sequences(&mut cut, text, start)?;
-    cut.push_str(&rest[..to])?;
+    let mut begin = 0;
+    if start > 0 {
+        push_front(&mut cut, text, start, marks)?;
+        begin = from;
+    }
+    cut.push_str(&text[begin..to])?;
     styles::write_close(&style, &mut cut)?;
     Ok(Some(cut))
+}
+
+/// Appends every sequence up to a good position: the first `marks` bytes, if that is known. `Err`
+/// means out of memory; what was appended before it stays.
+fn push_front<A: Allocator>(
+    out: &mut String<A>,
+    text: &str,
+    position: usize,
+    marks: Option<usize>,
+) -> Result<(), AllocError>
+    requires good { IsTrue (no_character_goes_on (plain text.now) position) }
+    requires marks { IfSome marks (AreMarks text.now position) }
+    ensures { OnOk result (string_bytes out.new
+        ≡ string_bytes out.old ++ sequences_up_to position (pieces_of text.now)) }
+{
+    match marks {
+        Some(len) => out.push_str(&text[..len]),
+        None => {
+            push_sequences(out, text, position)?;
+            Ok(())
+        }
+    }
 }

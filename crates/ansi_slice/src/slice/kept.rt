@@ -1,5 +1,5 @@
 //! Texts without a prefix, without a suffix, and without the white space at their ends.
-ghost use Rattle.std.specs.Prelude.{◌≡◌, ◌++◌, ◌↔◌, ◌⊎◌, [], length, take, drop, IsTrue, IsFalse};
+ghost use Rattle.std.specs.Prelude.{◌≡◌, ◌≤◌, ◌++◌, ◌↔◌, ◌⊎◌, [], length, take, drop, IsTrue, IsFalse};
 ghost use Rattle.std.specs.Prelude.{IsNone, IsOk, IfOk, OnOk, IfSome, nat_eq, string_bytes};
 ghost use Rattle.std.specs.Cow.{cow_str_bytes, IsBorrowedStr};
 ghost use Rattle.std.specs.List.{starts_with, ends_with};
@@ -8,8 +8,8 @@ ghost use Rattle.ansi_items.specs.Plain.{plain, has_escape};
 ghost use Rattle.ansi_slice.specs.Kept.{kept, without_prefix, without_suffix, trimmed};
 
 use crate::slice::has_any;
-use crate::slice::sequences::push_sequences;
-use crate::slice::white_space::white_space_len;
+use crate::slice::sequences::{first_run, push_sequences};
+use crate::slice::white_space::push_before_solid;
 use ansi_search::search::{self, PAST_THE_END};
 use std::alloc::{AllocError, Allocator};
 use std::borrow::CowStr;
@@ -44,10 +44,37 @@ pub fn strip_prefix_in<'t, A: Allocator>(
         }
         return Ok(Some(CowStr::Borrowed(&text[prefix.len()..])));
     }
+    let (marks, end) = first_run(text);
+    let from = marks + prefix.len();
+    if from < end {
+        if !text.as_bytes()[marks..end].starts_with(prefix.as_bytes()) {
+            return Ok(None);
+        }
+        let kept = write_without(alloc, text, marks, from)?;
+        return Ok(Some(CowStr::Owned(kept)));
+    }
     if !search::starts_with(text, prefix) {
         return Ok(None);
     }
     Ok(Some(CowStr::Owned(write_from(alloc, text, prefix.len())?)))
+}
+
+/// A text without its bytes from one offset up to another, written.
+fn write_without<A: Allocator>(
+    alloc: A,
+    text: &str,
+    from: usize,
+    to: usize,
+) -> Result<String<A>, AllocError>
+    requires ordered { from ≤ to }
+    requires from { IsCharBoundary text.now from }
+    requires to { IsCharBoundary text.now to }
+    ensures { IfOk result (λ s. string_bytes s ≡ take from text.now ++ drop to text.now) }
+{
+    let mut kept = String::with_capacity(alloc, text.len() - (to - from))?;
+    kept.push_str(&text[..from])?;
+    kept.push_str(&text[to..])?;
+    Ok(kept)
 }
 
 /// A text from a position on, written: the sequences up to there, and everything after them.
@@ -121,9 +148,8 @@ pub fn trim_in<'t, A: Allocator>(alloc: A, text: &'t str) -> Result<CowStr<'t, A
 fn write_trimmed<A: Allocator>(alloc: A, text: &str) -> Result<String<A>, AllocError>
     ensures { IfOk result (λ s. string_bytes s ≡ trimmed text.now) }
 {
-    let start = white_space_len(text);
     let mut kept = String::with_capacity(alloc, text.len())?;
-    let from = push_sequences(&mut kept, text, start)?;
+    let from = push_before_solid(&mut kept, text)?;
     let rest = &text[from..];
     push_up_to(&mut kept, rest, search::end_before_white_space(rest))?;
     Ok(kept)

@@ -1,9 +1,9 @@
-//! The sequences of a text, without its plain text.
+//! The sequences of a text, without its plain text, and the first run of its text.
 ghost use Rattle.std.specs.Prelude.{◌≡◌, ◌++◌, IsTrue, IfOk, OnOk, string_bytes};
 ghost use Rattle.ansi_items.specs.Pieces.{pieces_of};
 ghost use Rattle.ansi_items.specs.Plain.{plain};
 ghost use Rattle.ansi_search.specs.Positions.{no_character_goes_on};
-ghost use Rattle.ansi_slice.specs.Stretches.{sequences_up_to};
+ghost use Rattle.ansi_slice.specs.Stretches.{IsFirstRun, sequences_up_to};
 ghost use Rattle.ansi_search.specs.Offsets.{StandsIn};
 
 use ansi_items::ansitok::{Kind, Scanner};
@@ -35,4 +35,17 @@ pub fn push_sequences<A: Allocator>(
         }
     }
     Ok(text.len())
+}
+
+/// The offsets at which the first run of text begins and ends. Without one, both are the length of
+/// the text.
+pub(super) fn first_run(text: &str) -> (usize, usize)
+    ensures { IsFirstRun text.now result.0 result.1 }
+{
+    for item in Scanner::new(text) {
+        if item.kind == Kind::Text {
+            return (item.start, item.end);
+        }
+    }
+    (text.len(), text.len())
 }

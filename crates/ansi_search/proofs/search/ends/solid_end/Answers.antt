@@ -40,11 +40,5 @@ loop-item-preserved c =
       so_far = solid-mark c.loop-item.invariant.so_far (over_mark gives c.loop-item.invariant.text refl (kind_differs c.if-eq.ensures));
     }
 
-pub returns-clause-end : goal.returns-clause-end
-returns-clause-end c = (solid-end c.loop-item.invariant.so_far c.in-None.ensures.steps.2).end
-
-pub returns-clause-white : goal.returns-clause-white
-returns-clause-white c = (solid-end c.loop-item.invariant.so_far c.in-None.ensures.steps.2).white
-
-pub returns-clause-some : goal.returns-clause-some
-returns-clause-some c = (solid-end c.loop-item.invariant.so_far c.in-None.ensures.steps.2).some
+pub returns : goal.returns
+returns c = (let solid = solid-end c.loop-item.invariant.so_far c.in-None.ensures.steps.2 in record { end = solid.end; white = solid.white; some = solid.some })

@@ -12,9 +12,9 @@ returns-in-Some c =
     let size = length-take-le c.min.result bytes (omega (arith, c.min.ensures)) in
     let high : len < length (take c.min.result bytes) = c.in-Some.ensures.0.high in
     let none : IsFalse (has_escape (take len bytes)) = bare_before bytes c.min.result len (omega (arith, high, size)) (omega (arith, high, size, c.min.ensures)) c.in-Some.ensures.0.before in
-    let all : plain t ≡ take len bytes ++ plain c.after_mark.result.now
+    let all : plain t ≡ take len bytes ++ plain c.after_mark-in-Some.result.now
     = plain-front t (take len bytes) len (ap (take len) c.as_bytes-bytes.ensures.value) (ap (λ v. has_escape (take len v)) (sym c.as_bytes-bytes.ensures.value) ∙ none)
-    ∙ ap (λ u. take len bytes ++ u) (sym (c.after_mark.ensures.plain ∙ ap plain c.range_from.ensures.value)) in
+    ∙ ap (λ u. take len bytes ++ u) (sym (c.after_mark-in-Some.ensures.plain ∙ ap plain c.range_from.ensures.value)) in
     record {
       front = ap (take c.args.most) all;
       most = search rules;

@@ -3,6 +3,7 @@ use Rattle.ansi_search.proofs.PositionLemmas.{none_if_bad, some_if_good}
 use Rattle.ansi_search.proofs.EndLemmas.{starts_with-boundary}
 use Rattle.ansi_search.proofs.SliceLemmas.{slice_range-past}
 use Rattle.ansi_slice.proofs.KeptWalkLemmas.{kept-all, kept-bare}
+use Rattle.ansi_slice.proofs.StretchLemmas.{first_run-starts, first_run-prefix, kept-first_run}
 use Rattle.ansi_slice.proofs.slice.kept.strip_prefix_in.Goals as goal
 
 -- without an empty prefix all is kept
@@ -14,7 +15,7 @@ IsCharBoundary-after_prefix : (t p : List ℕ) → IsUtf8 t → IsUtf8 p → sta
 IsCharBoundary-after_prefix t p utf8 prefix_utf8 starts = starts_with-boundary (plain t) p (IsUtf8-plain t utf8) prefix_utf8 starts
 
 pub write_from-requires : goal.write_from-requires
-write_from-requires g c = IsCharBoundary-after_prefix c.args.text.now c.args.prefix.now c.utf8.text c.utf8.prefix (sym c.starts_with-2.ensures ∙ c.if-not-starts_with-2.false)
+write_from-requires g c = IsCharBoundary-after_prefix c.args.text.now c.args.prefix.now c.utf8.text c.utf8.prefix (sym c.starts_with-2.ensures ∙ c.if-not-starts_with-3.false)
 
 -- a text without ESC is its own plain text, and what is left of it is a slice
 
@@ -29,3 +30,17 @@ returns-then-not-has_any-clause-none g c = grind (arith, plain-bare, some_if_goo
 
 pub returns-then-not-has_any-clause-bytes : goal.returns-then-not-has_any-clause-bytes
 returns-then-not-has_any-clause-bytes g c = grind (arith, kept-bare, plain-bare, slice_range-past)
+
+-- a prefix that is shorter than the first run ends in it, and what is left are the sequences before that run and the rest
+
+pub write_without-requires-clause-to : goal.write_without-requires-clause-to
+write_without-requires-clause-to g c = (
+    let is = c.first_run-marks.ensures in
+    let starts = first_run-starts c.args.prefix.now is c.if-from-end.true c.as_bytes-then-from-end.ensures.value c.as_bytes-then-from-end-2.ensures.value c.starts_with-then-from-end.ensures.value c.if-not-starts_with-2.false in
+    (first_run-prefix c.utf8.text c.utf8.prefix is c.if-from-end.true starts).boundary)
+
+pub returns-then-from-end-clause-bytes : goal.returns-then-from-end-clause-bytes
+returns-then-from-end-clause-bytes g c = (
+    let is = c.first_run-marks.ensures in
+    let starts = first_run-starts c.args.prefix.now is c.if-from-end.true c.as_bytes-then-from-end.ensures.value c.as_bytes-then-from-end-2.ensures.value c.starts_with-then-from-end.ensures.value c.if-not-starts_with-2.false in
+    c.in_ok-kept.ensures ∙ kept-first_run c.utf8.text c.utf8.prefix is c.if-from-end.true starts)
