@@ -1,11 +1,11 @@
 // Makes the calls of the rows of texts and results, which rows/README.md describes, in Node and in a page.
 import { blocks, cut, edit, find, fitting, pad, split, splitAt, strip, trim, truncate, width, wrap } from './index.js';
 
-/** The calls of rows that aren't here, and those that say less than another call's rows. */
-const LACKING = ['starts_with', 'ends_with', 'has_any', 'is_whole', 'is_char_boundary', 'floor_char_boundary', 'split_at', 'count_parts', 'part_interval',
-  'edit', 'block', 'block_start', 'block_end', 'block_order', 'count_blocks', 'items', 'lines', 'link_at'];
-/** The calls whose arguments are positions. */
-const PLACED = ['cut', 'left', 'right'];
+/** The calls that aren't here. The positions of an edit count the bytes of what the edit before it made. */
+const LACKING = ['starts_with', 'ends_with', 'has_any', 'is_whole', 'is_char_boundary', 'floor_char_boundary', 'part_interval', 'edit', 'block_order',
+  'items', 'lines', 'link_at'];
+/** How many arguments of a call are positions. */
+const POSITIONS = { cut: 2, left: 1, right: 1, split_at: 1 };
 
 async function read(url) {
   if (url.protocol === 'file:') {
@@ -55,7 +55,7 @@ export function inUnits(plain, position) {
 /** What the calls of a row return, each with what the row says. */
 function answersOf(call, found, want, text, more) {
   const [first, second] = more;
-  const columns = Number(first);
+  const number = Number(first);
   switch (call) {
     case 'strip':
       return [[strip(text), want]];
@@ -75,22 +75,34 @@ function answersOf(call, found, want, text, more) {
       return [[edit(text, [['trim']]), want], [trim(text), want]];
     case 'split':
       return [[split(text, first), more.slice(1)]];
+    case 'split_at':
+      return [[splitAt(text, first), more.slice(1)]];
+    case 'count_parts':
+      return [[split(text, first).length, Number(want)]];
     case 'blocks':
       return [[blocks(text).flatMap(({ text, style }) => [text, style.hasAny ? '1' : '0']), more.filter((_, index) => index % 5 === 0 || index % 5 === 4)]];
     case 'styled_blocks':
       return [[blocks(text).flatMap(({ text, style }) => [style.start, text, style.end]), more]];
+    case 'count_blocks':
+      return [[blocks(text).length, Number(want)]];
+    case 'block':
+      return [[blocks(text)[number]?.text ?? null, found]];
+    case 'block_start':
+      return [[blocks(text)[number]?.style.start ?? null, found]];
+    case 'block_end':
+      return [[blocks(text)[number]?.style.end ?? null, found]];
     case 'width':
       return [[width(text), Number(want)]];
     case 'fitting':
-      return [[fitting(text, columns), inUnits(strip(text), Number(want))]];
+      return [[fitting(text, number), inUnits(strip(text), Number(want))]];
     case 'front':
-      return [[cut(text, 0, fitting(text, columns)), want]];
+      return [[cut(text, 0, fitting(text, number)), want]];
     case 'truncate':
-      return [[truncate(text, columns, second), want]];
+      return [[truncate(text, number, second), want]];
     case 'pad':
-      return [[pad(text, columns, second.toLowerCase()), want]];
+      return [[pad(text, number, second.toLowerCase()), want]];
     case 'wrap':
-      return [[wrap(text, columns), more.slice(1)]];
+      return [[wrap(text, number), more.slice(1)]];
     default:
       throw new Error(`no call of a row: ${call}`);
   }
@@ -101,7 +113,7 @@ function whyNot([call, status, want, text, ...more]) {
   if (text === undefined || LACKING.includes(call)) {
     return call;
   }
-  const given = PLACED.includes(call) ? more.map((position) => inUnits(strip(text), Number(position))) : more;
+  const given = more.map((each, index) => (index < (POSITIONS[call] ?? 0) ? inUnits(strip(text), Number(each)) : each));
   if (given.includes(null)) {
     return 'a position inside a character';
   }

@@ -17,9 +17,17 @@ from typing import Iterator
 import ansi_str
 
 ROWS = os.path.join(os.path.dirname(os.path.abspath(__file__)), "../../crates/ansi_rows/stdin")
-# the calls of rows that aren't here, and those that say less than another call's rows
-LACKING = ["is_char_boundary", "floor_char_boundary", "split_at", "count_parts", "part_interval", "edit", "block", "block_start",
-           "block_end", "block_order", "count_blocks", "items", "lines", "link_at"]
+# the calls that aren't here. The positions of an edit count the bytes of what the edit before it made
+LACKING = ["is_char_boundary", "floor_char_boundary", "part_interval", "edit", "block_order", "items", "lines", "link_at"]
+# how many arguments of a call are positions
+POSITIONS = {"cut": 2, "left": 1, "right": 1, "split_at": 1}
+
+
+def block_at(text, index, of):
+    """What `of` gives for the block at an index, or None if there is no such block."""
+    return next(map(of, ansi_str.blocks(text)[int(index):]), None)
+
+
 # what each other call of a row returns
 MADE = {
     "strip": lambda text: [ansi_str.strip(text)],
@@ -32,6 +40,8 @@ MADE = {
     "part": lambda text, pattern, index: [ansi_str.part(text, pattern, int(index)),
                                           ansi_str.edit(text, [ansi_str.Part(pattern, int(index))])],
     "split": lambda text, pattern, *_: [ansi_str.split(text, pattern)],
+    "split_at": lambda text, mid, *_: [[ansi_str.left(text, mid), ansi_str.right(text, mid)]],
+    "count_parts": lambda text, pattern: [len(ansi_str.split(text, pattern)), sum(1 for _ in ansi_str.iter_split(text, pattern))],
     "find": lambda text, pattern: [ansi_str.find(text, pattern)],
     "starts_with": lambda text, pattern: [ansi_str.starts_with(text, pattern)],
     "ends_with": lambda text, pattern: [ansi_str.ends_with(text, pattern)],
@@ -39,6 +49,10 @@ MADE = {
     "is_whole": lambda text: [ansi_str.is_whole(text)],
     "blocks": lambda text, *_: [[(block.text, block.style.has_any) for block in ansi_str.blocks(text)]],
     "styled_blocks": lambda text, *_: [[(block.style.start, block.text, block.style.end) for block in ansi_str.blocks(text)]],
+    "count_blocks": lambda text: [len(ansi_str.blocks(text)), sum(1 for _ in ansi_str.iter_blocks(text))],
+    "block": lambda text, index: [block_at(text, index, lambda block: block.text)],
+    "block_start": lambda text, index: [block_at(text, index, lambda block: block.style.start)],
+    "block_end": lambda text, index: [block_at(text, index, lambda block: block.style.end)],
     "width": lambda text: [ansi_str.width(text)],
     "fitting": lambda text, width: [ansi_str.fitting(text, int(width))],
     "front": lambda text, width: [ansi_str.cut(text, 0, ansi_str.fitting(text, int(width)))],
@@ -71,9 +85,9 @@ def said(call, status, want, text, more):
         return want and in_characters(ansi_str.strip(text), int(want))
     if call in ("starts_with", "ends_with", "has_any", "is_whole"):
         return status == "0"
-    if call == "width":
+    if call in ("width", "count_parts", "count_blocks"):
         return int(want)
-    if call in ("split", "wrap"):
+    if call in ("split", "split_at", "wrap"):
         return more[1:]
     if call == "blocks":
         return [(text, has == "1") for text, has in zip(more[::5], more[4::5])]
@@ -87,12 +101,12 @@ class Rows(unittest.TestCase):
         """Makes the call of a row, and gives None, or else why it is passed over."""
         if call in LACKING:
             return call
-        if call in ("cut", "left", "right"):
-            more = [in_characters(ansi_str.strip(text), int(position)) for position in more]
-            if None in more:
-                return "a position inside a character"
+        placed = POSITIONS.get(call, 0)
+        positions = [in_characters(ansi_str.strip(text), int(position)) for position in more[:placed]]
+        if None in positions:
+            return "a position inside a character"
         wanted = said(call, status, want, text, more)
-        for got in MADE[call](text, *more):
+        for got in MADE[call](text, *positions, *more[placed:]):
             self.assertEqual((type(got), got), (type(wanted), wanted), "line %d: %s %r %r" % (number, call, text, more))
         return None
 
@@ -109,7 +123,7 @@ class Rows(unittest.TestCase):
             if fields:
                 _, _, call, status, want, text, *more = fields
                 over[self.passes(number, call, status, want, text, more)] += 1
-        print("rows in Python: %d passed; passed over: %s" % (over.pop(None), dict(over)))
+        print("\nrows in Python: %d passed; passed over: %s" % (over.pop(None), dict(over)))
 
     def test_positions_count_characters(self):
         self.assertEqual(ansi_str.cut("\x1b[1méa\x1b[0m", 1), "\x1b[1ma\x1b[0m")

@@ -7,17 +7,13 @@ use std::collections::BTreeMap;
 
 const ROWS: &str = include_str!("../../../crates/ansi_rows/stdin");
 
-/// The calls that this crate doesn't have, and those that say less than another call's rows.
-const LACKING: [&str; 12] = [
+/// The calls that this crate doesn't have. It doesn't specify the order of styles.
+const LACKING: [&str; 8] = [
     "is_whole",
     "part",
     "part_interval",
     "edit",
-    "split_at",
-    "block",
     "block_order",
-    "count_parts",
-    "count_blocks",
     "items",
     "lines",
     "link_at",
@@ -139,6 +135,10 @@ fn pass(call: &str, status: &str, want: &str, text: &str, more: &[String]) -> Op
         "left" | "right" if !is_ok => text.ansi_get(position(0)..).is_none(),
         "left" => is(Some(text.ansi_split_at(position(0)).0)),
         "right" => is(Some(text.ansi_split_at(position(0)).1)),
+        "split_at" => {
+            let (left, right) = text.ansi_split_at(position(0));
+            are(vec![left, right])
+        }
         "strip_prefix" => is(text.ansi_strip_prefix(&more[0])),
         "strip_suffix" => is(text.ansi_strip_suffix(&more[0])),
         "find" => text.ansi_find(&more[0]) == answer.map(number),
@@ -148,6 +148,7 @@ fn pass(call: &str, status: &str, want: &str, text: &str, more: &[String]) -> Op
         "floor_char_boundary" => is_number(text.ansi_floor_char_boundary(position(0))),
         "has_any" => text.ansi_has_any() == is_ok,
         "split" => are(text.ansi_split(&more[0]).collect()),
+        "count_parts" => is_number(text.ansi_split(&more[0]).count()),
         "blocks" => {
             let blocks: Vec<_> = get_blocks(text).collect();
             is_number(blocks.len())
@@ -161,6 +162,8 @@ fn pass(call: &str, status: &str, want: &str, text: &str, more: &[String]) -> Op
             let mut pairs = blocks.iter().zip(more.chunks(3));
             is_number(blocks.len()) && pairs.all(|(block, want)| is_styled_block(block, want))
         }
+        "count_blocks" => is_number(get_blocks(text).count()),
+        "block" => is(block().map(|block| block.text().to_string().into())),
         "block_start" => is(block().map(|block| block.style().start().to_string().into())),
         "block_end" => is(block().map(|block| block.style().end().to_string().into())),
         "width" => is_number(text.ansi_width()),
