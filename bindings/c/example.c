@@ -97,7 +97,8 @@ static void walk_over_blocks(void) {
     expect("the first", answer.status == ANSI_STR_OK && answer.len == 0);
     expect("its run", block.text_len == 5 && memcmp(block.text, "error", 5) == 0);
     expect("its color", block.style.foreground.kind == ANSI_STR_RED);
-    answer = ansi_str_style_start(&walk.style, sequences, sizeof sequences);
+    ansi_str_style_numbers style = ansi_str_walk_style(&walk);
+    answer = ansi_str_style_start(&style, sequences, sizeof sequences);
     expect("its start", answer.len == 5 && memcmp(sequences, "\x1b[31m", 5) == 0);
     size_t left = 0;
     while (ansi_str_blocks_next(&walk, &block, sequences, sizeof sequences).status == ANSI_STR_OK) {

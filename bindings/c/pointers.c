@@ -110,26 +110,37 @@ static ansi_str_part_walk part_walk;
 static ansi_str_next_part next_part;
 static ansi_str_style_numbers style_numbers;
 
+/* crates/ansi_str_c/src/walks.rt has these numbers too */
+_Static_assert(sizeof(ansi_str_block_walk) == 40 && _Alignof(ansi_str_block_walk) == 8, "a walk over blocks");
+_Static_assert(sizeof(ansi_str_part_walk) == 80 && _Alignof(ansi_str_part_walk) == 8, "a walk over parts");
+
+/* the pointer that a state has at a place */
+static const void *pointer_at(const unsigned char *place) {
+    const void *pointer;
+    memcpy(&pointer, place, sizeof pointer);
+    return pointer;
+}
+
 #define EXPECT_SAME(pointer, given) expect("what is the caller's own", __func__, (pointer) == (given))
 #define EXPECT_SOME(pointer) expect("an empty text", __func__, (pointer) != NULL)
 
 ansi_str_answer ansi_str_raw_blocks_begin(TEXT, ansi_str_block_walk *walk) {
-    return EXPECT_TEXT, EXPECT_SAME(walk, &block_walk), EXPECT_SOME(walk->rest), ANSWER;
+    return EXPECT_TEXT, EXPECT_SAME(walk, &block_walk), EXPECT_SOME(pointer_at(walk->state + ANSI_STR_STATE_TEXT)), ANSWER;
 }
 
 ansi_str_answer ansi_str_raw_blocks_next(ansi_str_block_walk *walk, ansi_str_next_block *block, BUFFER) {
-    EXPECT_SAME(walk, &block_walk), EXPECT_SAME(block, &next_block), EXPECT_SOME(walk->rest), EXPECT_SOME(block->text);
+    EXPECT_SAME(walk, &block_walk), EXPECT_SAME(block, &next_block), EXPECT_SOME(pointer_at(walk->state + ANSI_STR_STATE_TEXT)), EXPECT_SOME(block->text);
     return EXPECT_BUFFER, ANSWER;
 }
 
 ansi_str_answer ansi_str_raw_parts_begin(TEXT, PATTERN, ansi_str_part_walk *walk) {
-    EXPECT_SAME(walk, &part_walk), EXPECT_SOME(walk->rest), EXPECT_SOME(walk->pattern);
+    EXPECT_SAME(walk, &part_walk), EXPECT_SOME(pointer_at(walk->state + ANSI_STR_STATE_TEXT)), EXPECT_SOME(pointer_at(walk->state + ANSI_STR_STATE_PATTERN));
     return EXPECT_TEXT, EXPECT_PATTERN, ANSWER;
 }
 
 ansi_str_answer ansi_str_raw_parts_next(ansi_str_part_walk *walk, ansi_str_next_part *part, BUFFER) {
-    EXPECT_SAME(walk, &part_walk), EXPECT_SAME(part, &next_part), EXPECT_SOME(walk->rest), EXPECT_SOME(part->text);
-    return EXPECT_SOME(walk->pattern), EXPECT_BUFFER, ANSWER;
+    EXPECT_SAME(walk, &part_walk), EXPECT_SAME(part, &next_part), EXPECT_SOME(pointer_at(walk->state + ANSI_STR_STATE_TEXT)), EXPECT_SOME(part->text);
+    return EXPECT_SOME(pointer_at(walk->state + ANSI_STR_STATE_PATTERN)), EXPECT_BUFFER, ANSWER;
 }
 
 ansi_str_answer ansi_str_raw_style_start(const ansi_str_style_numbers *style, BUFFER) {

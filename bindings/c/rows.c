@@ -555,8 +555,9 @@ static void expect_styled_blocks(const struct row *r) {
             start = ends[k];
         }
         expect_next(&walk, &wanted[1], &blocks[i].style);
-        expect_sequences(ansi_str_style_start, &walk.style, &wanted[0]);
-        expect_sequences(ansi_str_style_end, &walk.style, &wanted[2]);
+        ansi_str_style_numbers numbers = ansi_str_walk_style(&walk);
+        expect_sequences(ansi_str_style_start, &numbers, &wanted[0]);
+        expect_sequences(ansi_str_style_end, &numbers, &wanted[2]);
         expect_one(r, "block_start", status, i, &wanted[0], 0);
         expect_one(r, "block", status, i, &wanted[1], 0);
         expect_one(r, "block_end", status, i, &wanted[2], 0);

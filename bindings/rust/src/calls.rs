@@ -3,7 +3,7 @@
 use crate::style::{Color, Style};
 use std::borrow::Cow;
 use std::marker::PhantomData;
-use std::mem::MaybeUninit;
+use std::mem::{size_of, MaybeUninit};
 use std::{ptr, slice, str};
 
 /// The statuses of `include/ansi_str.h`.
@@ -80,43 +80,58 @@ pub(crate) struct Numbers {
     font: FontNumbers,
 }
 
-#[repr(C)]
+/// The state of a walk of this many bytes, which is the library's own. Its bytes may be those of a pointer.
+#[repr(C, align(8))]
 #[derive(Debug, Clone, Copy)]
-struct RawWalk {
-    rest: Bytes,
-    len: usize,
-    style: Numbers,
+struct State<const N: usize> {
+    bytes: [MaybeUninit<u8>; N],
 }
 
-/// The state of a walk over parts. Its fields are private to the library.
-#[repr(C)]
-#[derive(Debug, Clone, Copy)]
-struct Place {
-    run: usize,
-    skip: usize,
-    from: usize,
-    carried: Numbers,
-    finished: bool,
-}
+type RawWalk = State<40>;
+type RawPartWalk = State<80>;
 
-impl Place {
-    const END: Place = Place {
-        run: 0,
-        skip: 0,
-        from: 0,
-        carried: Numbers::PLAIN,
-        finished: true,
+// Where the header says that a state has these bytes.
+const TEXT: usize = 0;
+const STYLE: usize = 16;
+const PATTERN: usize = 16;
+const FINISHED: usize = 76;
+
+impl<const N: usize> State<N> {
+    /// Zeros.
+    const ZERO: State<N> = State {
+        bytes: [MaybeUninit::new(0); N],
     };
+
+    /// The same with the pointer of an empty text at a place.
+    fn with_text(mut self, place: usize) -> State<N> {
+        let bytes = &mut self.bytes[place..place + size_of::<Bytes>()];
+        // SAFETY: the bytes of one pointer, at any alignment
+        unsafe { ptr::write_unaligned(bytes.as_mut_ptr().cast(), "".as_ptr()) };
+        self
+    }
 }
 
-#[repr(C)]
-#[derive(Debug, Clone, Copy)]
-struct RawPartWalk {
-    rest: Bytes,
-    len: usize,
-    pat: Bytes,
-    pat_len: usize,
-    place: Place,
+impl RawWalk {
+    /// A walk with no block left.
+    fn none() -> RawWalk {
+        State::ZERO.with_text(TEXT)
+    }
+
+    /// The style of the last block.
+    fn style(&self) -> Numbers {
+        let bytes = &self.bytes[STYLE..STYLE + size_of::<Numbers>()];
+        // SAFETY: numbers that the library has made, or those of the plain style, at any alignment
+        unsafe { ptr::read_unaligned(bytes.as_ptr().cast()) }
+    }
+}
+
+impl RawPartWalk {
+    /// A walk with no part left.
+    fn none() -> RawPartWalk {
+        let mut walk = State::ZERO.with_text(TEXT).with_text(PATTERN);
+        walk.bytes[FINISHED] = MaybeUninit::new(1);
+        walk
+    }
 }
 
 #[repr(C)]
@@ -469,13 +484,7 @@ unsafe impl Send for Parts<'_> {}
 unsafe impl Sync for Parts<'_> {}
 
 pub(crate) fn split<'a>(text: &'a str, pat: &'a str) -> Parts<'a> {
-    let mut walk = RawPartWalk {
-        rest: text.as_ptr(),
-        len: 0,
-        pat: pat.as_ptr(),
-        pat_len: 0,
-        place: Place::END,
-    };
+    let mut walk = RawPartWalk::none();
     let (t, n, p, k) = (text.as_ptr(), text.len(), pat.as_ptr(), pat.len());
     // SAFETY: two `str`s, which live as long as the walk, and a walk with good pointers
     unsafe { ansi_str_raw_parts_begin_unchecked(t, n, p, k, &mut walk) };
@@ -520,11 +529,7 @@ unsafe impl Send for Blocks<'_> {}
 unsafe impl Sync for Blocks<'_> {}
 
 pub(crate) fn blocks(text: &str) -> Blocks<'_> {
-    let mut walk = RawWalk {
-        rest: text.as_ptr(),
-        len: 0,
-        style: Numbers::PLAIN,
-    };
+    let mut walk = RawWalk::none();
     // SAFETY: a `str`, which lives as long as the walk, and a walk with good pointers
     unsafe { ansi_str_raw_blocks_begin_unchecked(text.as_ptr(), text.len(), &mut walk) };
     Blocks {
@@ -568,7 +573,7 @@ impl<'a> Iterator for Blocks<'a> {
             sequences.push_str(run);
             Cow::Owned(sequences)
         };
-        Some((text, Style::new(block.style, self.walk.style)))
+        Some((text, Style::new(block.style, self.walk.style())))
     }
 }
 

@@ -1,5 +1,5 @@
 -- Texts that an iterator returns, one more at a time, and all of them.
-use Rattle.std.proofs.Common.{◌≡◌, ◌∙◌, ℕ, ◌+◌, ◌<◌, ◌^◌, Bool, List, [], ◌∷◌, ◌++◌, length, take, drop, map, All, Option, None, Some, Result, Ok, Err, refl, sym, ap, ap₂, subst, arith, append-nil, length-append, IsTrue, IsOk}
+use Rattle.std.proofs.Common.{◌≡◌, ◌∙◌, ℕ, ◌+◌, ◌<◌, ◌^◌, Bool, List, [], ◌∷◌, ◌++◌, length, take, drop, map, All, Option, None, Some, Result, Ok, Err, refl, sym, ap, ap₂, subst, arith, append-nil, length-append, IsTrue, IsOk, inl, inr}
 use Rattle.std.specs.Prelude.{flat_map, IsFalse}
 use Rattle.std.specs.Cow.{cow_str_bytes}
 use Rattle.std.specs.Iterator.{Yields, Drains, HoldsAlong}
@@ -12,7 +12,8 @@ use Rattle.std.proofs.lemmas.List.Elements.{All-from_recursion, recursion_from_A
 use Rattle.std.proofs.lemmas.Slice.{drop-append-drop}
 use Rattle.std.proofs.Math.Seq.{take-append_seam}
 use Rattle.ansi_split.specs.Splits.{SplitPart, GivesPart}
-use Rattle.ansi_calls.specs.Lists.{ends_from, given_bytes}
+use Rattle.ansi_calls.specs.declared.lists.ListAnswer.{ListAnswer}
+use Rattle.ansi_calls.specs.Lists.{ends_from, given_bytes, AreWritten, AreGiven, GivesAll}
 
 -- texts one after the other
 abbrev pub joined_texts : List (List ℕ) → List ℕ
@@ -98,6 +99,16 @@ module _ {X A E : Type 0} (text : X → List ℕ) (borrowed : X → Bool) (steps
 
   pub lent-drained : (left : List X) (rs : List (Result (CowStr A) E)) → IsTrue (list_all borrowed left) → Drains steps left rs → map given_bytes rs ≡ map text left
   lent-drained left rs lent (new, (last, ran, ends)) = all-given left rs (lent-given left last rs lent ran) (new, (last, ran, ends))
+
+  -- and all of it is written, or the call runs out of memory
+  pub gives-texts : (takes_memory : Bool) (left : List X) (answer : ListAnswer) (old new old_ends new_ends : List ℕ)
+      → IsTrue takes_memory → AreGiven (λ rs. Drains steps left rs) answer old new old_ends new_ends
+      → GivesAll takes_memory (joined_texts (map text left)) (ends_from 0 (map text left)) answer old new old_ends new_ends
+  gives-texts takes_memory left answer old new old_ends new_ends takes given =
+      elim given [
+        | inl w ↦ inl (subst (λ ts. AreWritten (joined_texts ts) (ends_from 0 ts) answer old new old_ends new_ends) (all-given left w.0 w.2 w.1) w.3)
+        | inr failed ↦ inr (takes, failed)
+      ]
 
   -- what is given is no longer than that
   pub given-fits : (left : List X) → IsTrue (list_all borrowed left) → length (joined_texts (map text left)) < 2 ^ 64 → length left < 2 ^ 64

@@ -1,5 +1,5 @@
 -- Texts that are concatenated in turn, and an entry for each; the parts and the block of a text without ESC.
-use Rattle.std.proofs.Common.{◌≡◌, ◌∙◌, ℕ, ◌+◌, ◌≤◌, ◌==◌, List, [], ◌∷◌, ◌++◌, length, drop, Some, Result, Ok, Err, Bool, IsTrue, inl, inr, string_bytes, refl, sym, ap, subst, arith, append_assoc, append-nil, length-append, length-take, length-drop, ◌-◌, slice_range, true, false, if◌then◌else◌}
+use Rattle.std.proofs.Common.{◌≡◌, ◌∙◌, ℕ, ◌+◌, ◌≤◌, ◌==◌, List, [], ◌∷◌, ◌++◌, length, drop, Some, Result, Ok, Err, Bool, IsTrue, inl, inr, string_bytes, refl, sym, ap, subst, arith, append_assoc, append-nil, length-append, length-take, length-drop, ◌-◌, slice_range, false, if◌then◌else◌}
 use Rattle.std.specs.Prelude.{flat_map, IsFalse, MatchResult, IfOk, String, Vec}
 use Rattle.std.proofs.lemmas.Bool.{ne_eqb}
 use Rattle.std.proofs.lemmas.List.{length-map}
@@ -13,7 +13,7 @@ use Rattle.ansi_str.specs.Blocks.{Block, GivesBlock, blocks}
 use Rattle.ansi_str.specs.Parts.{parts, all_parts}
 use Rattle.ansi_calls.specs.declared.lists.ListAnswer.{ListAnswer}
 use Rattle.ansi_calls.specs.Answers.{out_of_memory}
-use Rattle.ansi_calls.specs.Lists.{entries_of, AreWritten, HaveFailed, GivesAll}
+use Rattle.ansi_calls.specs.Lists.{entries_of, whole_block, AreWritten, HaveFailed, GivesAll}
 
 -- a block was taken off those that were left
 pub block-taken : {E : Type 0} {xs us : List Block} {r : Result Block E} {x : Block} → GivesBlock xs (Some r) us → r ≡ Ok x → xs ≡ x ∷ us
@@ -33,11 +33,11 @@ length-joined so_far added after more = ap length more ∙ length-append so_far 
 
 -- and its entry
 pub entries-more : {X Y : Type 0} (text : X → List ℕ) (entry : ℕ → ℕ → X → Y) (so_far after : List ℕ) (entries more_entries all : List Y) (e : Y) (x : X) (left next : List X)
-    → left ≡ x ∷ next → length after ≡ length so_far + length (text x) → more_entries ≡ entries ++ e ∷ [] → entries_of text entry (length so_far) (x ∷ []) ≡ e ∷ []
+    → left ≡ x ∷ next → length after ≡ length so_far + length (text x) → more_entries ≡ entries ++ e ∷ [] → e ≡ entry (length so_far) (length after) x
     → entries ++ entries_of text entry (length so_far) left ≡ all → more_entries ++ entries_of text entry (length after) next ≡ all
 entries-more text entry so_far after entries more_entries all e x left next is ends one_more is_entry listed =
     let rest = entries_of text entry (length after) next in
-    ap (λ u. u ++ rest) one_more ∙ append_assoc entries (e ∷ []) rest ∙ ap (λ es. entries ++ (es ++ rest)) (sym is_entry)
+    ap (λ u. u ++ rest) one_more ∙ append_assoc entries (e ∷ []) rest ∙ ap (λ e. entries ++ e ∷ rest) (is_entry ∙ ap (λ n. entry (length so_far) n x) ends)
     ∙ ap (λ n. entries ++ entry (length so_far) (length so_far + length (text x)) x ∷ entries_of text entry n next) ends
     ∙ ap (λ xs. entries ++ entries_of text entry (length so_far) xs) (sym is) ∙ listed
 
@@ -75,10 +75,6 @@ Gives-joined takes_memory bytes entries (Ok j) answer old new old_entries new_en
 Gives-joined takes_memory bytes entries (Err e) answer old new old_entries new_entries takes texts listed written = inr (takes, written)
 
 -- A text without ESC is one block; an empty text has no block.
-
-abbrev pub whole_block : List ℕ → Block
-whole_block t = record { text = t; style = plain_style; is_borrow = true }
-
 -- what is written of it is written of its blocks
 pub one_block_written : {T : Type 0} (text : Block → List ℕ) (entry : ℕ → ℕ → Block → T) (only : List T) (t : List ℕ) (answer : ListAnswer) (old new : List ℕ) (old_entries new_entries : List T)
     → IsFalse (has_escape t) → text (whole_block t) ≡ t → entry 0 (length t) (whole_block t) ∷ [] ≡ only

@@ -1,15 +1,12 @@
--- The patterns of steps in turn, and the result of a call of edits.
-use Rattle.std.proofs.Common.{◌≡◌, ◌∙◌, Bool, true, false, ◌&&◌, ℕ, ◌+◌, ◌<◌, List, [], ◌∷◌, length, drop, get_or, IsTrue, refl, sym, ap, subst}
+-- The patterns of steps in turn.
+use Rattle.std.proofs.Common.{◌≡◌, ◌∙◌, Bool, true, false, ◌&&◌, ℕ, ◌+◌, ◌<◌, List, length, drop, get_or, IsTrue, refl, sym, ap}
 use Rattle.std.proofs.lemmas.Bool.{true≢false, false_from_ne_true}
 use Rattle.std.proofs.lemmas.List.{drop_more}
 use Rattle.std.proofs.lemmas.List.Folds.{list_all-map, list_all_at}
 use Rattle.std.proofs.lemmas.Str.{IsUtf8-from_is_utf8, is_utf8-from_IsUtf8}
 use Rattle.std.specs.List.{list_all}
 use Rattle.std.specs.Str.{is_utf8, IsUtf8}
-use Rattle.ansi_str.specs.Changes.{Change}
-use Rattle.ansi_calls.specs.declared.answers.Answer.{Answer}
 use Rattle.ansi_calls.specs.declared.edits.EditStep.{EditStep}
-use Rattle.ansi_calls.specs.Answers.{not_utf8, OnUtf8, HasFailed, GivesEdited}
 use Rattle.ansi_calls.specs.Steps.{patterns_of}
 
 patterns-next : (steps : List EditStep) (k : ℕ) (d : EditStep) → k < length steps
@@ -37,11 +34,3 @@ pattern-at steps k d below all = IsUtf8-from_is_utf8 _ (tested (is_utf8 (get_or 
     tested true told = told
     tested false told =
         absurd (true≢false (sym all ∙ list_all-map is_utf8 (λ (step : EditStep). step.pattern.now) steps ∙ list_all_at (λ (step : EditStep). is_utf8 step.pattern.now) steps k d below told))
-
--- edits that are the changes give what those give
-pub Edited-same : (t : List ℕ) (status absent : ℕ) (es cs : List Change) (answer : Answer) (old new : List ℕ)
-    → OnUtf8 (t ∷ []) (GivesEdited status es t answer old new) (HasFailed not_utf8 answer old new) → status ≡ absent → es ≡ cs
-    → OnUtf8 (t ∷ []) (GivesEdited absent cs t answer old new) (HasFailed not_utf8 answer old new)
-Edited-same t status absent es cs answer old new gives same is =
-    let call = λ (status : ℕ) (es : List Change). OnUtf8 (t ∷ []) (GivesEdited status es t answer old new) (HasFailed not_utf8 answer old new) in
-    subst (call absent) is (subst (λ status. call status es) same gives)

@@ -1,5 +1,5 @@
 -- The effect of a call, by the UTF-8 check of each of its texts.
-use Rattle.std.proofs.Common.{◌≡◌, ◌∙◌, Bool, true, false, not, ◌&&◌, ℕ, List, [], ◌∷◌, Option, Some, Result, Ok, Err, IsTrue, inl, inr, sym, refl, subst}
+use Rattle.std.proofs.Common.{◌≡◌, ◌∙◌, Bool, true, false, not, ◌&&◌, ℕ, List, [], ◌∷◌, Option, Result, Ok, Err, IsTrue, inl, inr, sym, refl, subst}
 use Rattle.std.specs.Prelude.{IsOk, IfOk, option_map, MatchResult}
 use Rattle.std.specs.Cow.{cow_str_bytes}
 use Rattle.std.specs.declared.borrow.CowStr.{CowStr}
@@ -8,7 +8,7 @@ use Rattle.std.proofs.lemmas.Str.{IsUtf8-from_is_utf8, is_utf8-from_IsUtf8}
 use Rattle.std.specs.List.{list_all}
 use Rattle.std.specs.Str.{is_utf8}
 use Rattle.ansi_calls.specs.declared.answers.Answer.{Answer}
-use Rattle.ansi_calls.specs.Answers.{out_of_memory, OnUtf8, HasFailed, IsFound, IsWritten, Gives}
+use Rattle.ansi_calls.specs.Answers.{out_of_memory, OnUtf8, HasFailed, IsFound, Gives}
 
 both-left : (a b : Bool) → (a && b) ≡ true → a ≡ true
 both-left true b both = refl
@@ -32,11 +32,6 @@ not-first t ts Done Failed false told not_all failed others = inr ((λ utf8. tru
 pub OnUtf8-not : (ts : List (List ℕ)) (Done Failed : Type 0) → list_all is_utf8 ts ≡ false → Failed → OnUtf8 ts Done Failed
 OnUtf8-not [] Done Failed not_all failed = cc
 OnUtf8-not (t ∷ ts) Done Failed not_all failed = not-first t ts Done Failed (is_utf8 t) refl not_all failed (λ others. OnUtf8-not ts Done Failed others failed)
-
--- what is found is written
-pub Gives-written : (absent : ℕ) (takes_memory : Bool) (found : Option (List ℕ)) (bytes : List ℕ) (answer : Answer) (old new : List ℕ)
-    → Some bytes ≡ found → IsWritten bytes answer old new → Gives absent takes_memory found answer old new
-Gives-written absent takes_memory found bytes answer old new is written = inl (subst (λ found. IsFound absent found answer old new) is written)
 
 -- the result of a call is written or refused, and the call runs out of memory only if it allocates
 pub Gives-found : {A E : Type 0} (absent : ℕ) (stays : Bool) (found : Option (List ℕ)) (gave : Result (Option (CowStr A)) E) (answer : Answer) (old new : List ℕ)

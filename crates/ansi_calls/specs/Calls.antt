@@ -1,5 +1,5 @@
 -- What each call does (own). If all its texts are UTF-8, it does what its line says; otherwise it fails with the status `not_utf8`, and what it writes to is unchanged.
-use Rattle.std.specs.Prelude.{◌≡◌, ℕ, Bool, true, List, [], ◌∷◌, map, flat_map, Option, Some, option_map, slice_get, nat_eq}
+use Rattle.std.specs.Prelude.{◌≡◌, ℕ, Bool, true, List, [], ◌∷◌, map, flat_map, Some, option_map, slice_get, nat_eq}
 use Rattle.std.specs.List.{starts_with, ends_with}
 use Rattle.ansi_style.specs.declared.state.rendition.Rendition.{Rendition}
 use Rattle.ansi_str.specs.Plain.{plain, has_escape, is_whole}
@@ -21,7 +21,7 @@ use Rattle.ansi_calls.specs.declared.walks.BlockWalk.{BlockWalk}
 use Rattle.ansi_calls.specs.Answers.{no, refused, not_utf8, done, failed, told, OnUtf8, HasFailed, Gives, GivesEdited, TellsBoundary, TellsPlace}
 use Rattle.ansi_calls.specs.Styles.{no_style, TellsStyle}
 use Rattle.ansi_calls.specs.Steps.{change_of_step, patterns_of}
-use Rattle.ansi_calls.specs.Lists.{ends_from, entries_from, styled_text, styled_entries_from, HaveFailed, GivesAll}
+use Rattle.ansi_calls.specs.Lists.{ends_from, entries_of, block_entry, styled_text, styled_block_entry, HaveFailed, GivesAll}
 use Rattle.ansi_calls.specs.Walks.{IsOver}
 
 -- `strip` writes the plain text
@@ -123,17 +123,19 @@ Splits t p answer old new old_ends new_ends =
     OnUtf8 (t ∷ p ∷ []) (GivesAll (has_escape t) (flat_map (λ u. u) (all_parts t p)) (ends_from 0 (all_parts t p)) answer old new old_ends new_ends)
     (HaveFailed not_utf8 answer old new old_ends new_ends)
 
+-- a call writes all blocks, each as a text, with an entry for each
+abbrev pub ListsAs : {T : Type 0} → (Block → List ℕ) → (ℕ → ℕ → Block → T) → List ℕ → ListAnswer → List ℕ → List ℕ → List T → List T → Type 0
+ListsAs text entry t answer old new old_entries new_entries =
+    OnUtf8 (t ∷ []) (GivesAll (has_escape t) (flat_map text (blocks t)) (entries_of text entry 0 (blocks t)) answer old new old_entries new_entries)
+    (HaveFailed not_utf8 answer old new old_entries new_entries)
+
 -- `blocks` writes all blocks, and for each where it ends and its style
 abbrev pub ListsBlocks : List ℕ → ListAnswer → List ℕ → List ℕ → List BlockEntry → List BlockEntry → Type 0
-ListsBlocks t answer old new old_entries new_entries =
-    OnUtf8 (t ∷ []) (GivesAll (has_escape t) (flat_map (λ (b : Block). b.text) (blocks t)) (entries_from 0 (blocks t)) answer old new old_entries new_entries)
-    (HaveFailed not_utf8 answer old new old_entries new_entries)
+ListsBlocks t answer old new old_entries new_entries = ListsAs (λ b. b.text) block_entry t answer old new old_entries new_entries
 
 -- `styled_blocks` writes all blocks, each between the start and the close of its style; and for each where these are and its style
 abbrev pub ListsStyledBlocks : List ℕ → ListAnswer → List ℕ → List ℕ → List StyledBlockEntry → List StyledBlockEntry → Type 0
-ListsStyledBlocks t answer old new old_entries new_entries =
-    OnUtf8 (t ∷ []) (GivesAll (has_escape t) (flat_map styled_text (blocks t)) (styled_entries_from 0 (blocks t)) answer old new old_entries new_entries)
-    (HaveFailed not_utf8 answer old new old_entries new_entries)
+ListsStyledBlocks t answer old new old_entries new_entries = ListsAs styled_text styled_block_entry t answer old new old_entries new_entries
 
 -- `blocks_begin` sets a walk to the beginning of the text
 abbrev pub BeginsBlocks : List ℕ → Answer → BlockWalk → BlockWalk → Type 0

@@ -1,9 +1,11 @@
 -- Several texts in one buffer, and an entry for each in another buffer.
-use Rattle.std.specs.Prelude.{◌≡◌, ◌⊎◌, ◌<◌, ◌≤◌, ◌+◌, ℕ, Bool, List, [], ◌∷◌, ◌++◌, drop, length, flat_map, Result, Ok, Err, IsTrue}
+use Rattle.std.specs.Prelude.{◌≡◌, ◌⊎◌, ◌<◌, ◌≤◌, ◌+◌, ℕ, Bool, true, List, [], ◌∷◌, ◌++◌, drop, length, map, flat_map, Result, Ok, Err, IsTrue, IsOk, All}
+use Rattle.std.specs.Borrow.{MutBor}
 use Rattle.std.specs.Cow.{cow_str_bytes}
 use Rattle.std.specs.declared.borrow.CowStr.{CowStr}
 use Rattle.ansi_str.specs.Blocks.{Block}
 use Rattle.ansi_calls.specs.declared.lists.ListAnswer.{ListAnswer}
+use Rattle.ansi_str.specs.Rendition.{plain_style}
 use Rattle.ansi_str.specs.Written.{start, close_if_any}
 use Rattle.ansi_calls.specs.declared.lists.BlockEntry.{BlockEntry}
 use Rattle.ansi_calls.specs.declared.lists.StyledBlockEntry.{StyledBlockEntry}
@@ -19,22 +21,26 @@ entries_of text entry n (x ∷ xs) = entry n (n + length (text x)) x ∷ entries
 abbrev pub ends_from : ℕ → List (List ℕ) → List ℕ
 ends_from n ts = entries_of (λ t. t) (λ begin end t. end) n ts
 
--- the end of each block and its style, if the first begins at n
-abbrev pub entries_from : ℕ → List Block → List BlockEntry
-entries_from n bs = entries_of (λ b. b.text) (λ begin end b. record { end = end; style = style_data b.style }) n bs
+-- the end of a block and its style
+abbrev pub block_entry : ℕ → ℕ → Block → BlockEntry
+block_entry begin end b = record { end = end; style = style_data b.style }
 
 -- the text of a block between the start and the close of its style
 abbrev pub styled_text : Block → List ℕ
 styled_text b = start b.style ++ b.text ++ close_if_any b.style
 
--- the ends of the start, the text and the close of each such block, and its style, if the first begins at n
-abbrev pub styled_entries_from : ℕ → List Block → List StyledBlockEntry
-styled_entries_from n bs = entries_of styled_text (λ begin end b. record {
+-- the ends of the start, the text and the close of such a block, and its style
+abbrev pub styled_block_entry : ℕ → ℕ → Block → StyledBlockEntry
+styled_block_entry begin end b = record {
   text_start = begin + length (start b.style);
   text_end = begin + length (start b.style) + length b.text;
   end = end;
   style = style_data b.style;
-}) n bs
+}
+
+-- a text without ESC that isn't empty, as a block
+abbrev pub whole_block : List ℕ → Block
+whole_block t = record { text = t; style = plain_style; is_borrow = true }
 
 -- the result of a call that returns no texts
 abbrev pub none : ℕ → ListAnswer
@@ -59,12 +65,34 @@ abbrev pub given_bytes : {A E : Type 0} → Result (CowStr A) E → List ℕ
 given_bytes (Ok text) = cow_str_bytes text
 given_bytes (Err e) = []
 
+-- a call writes the texts that an iterator returns, up to its end; or it runs out of memory
+abbrev pub AreGiven : {A E : Type 0} → (List (Result (CowStr A) E) → Type 0) → ListAnswer → List ℕ → List ℕ → List ℕ → List ℕ → Type 0
+AreGiven {A} {E} Ends answer old new old_ends new_ends =
+    ((xs : List (Result (CowStr A) E)) × Ends xs × All IsOk xs
+    × AreWritten (flat_map (λ t. t) (map given_bytes xs)) (ends_from 0 (map given_bytes xs)) answer old new old_ends new_ends)
+    ⊎ HaveFailed out_of_memory answer old new old_ends new_ends
+
 -- texts are counted with their total length, and written one after the other if there is room for all of them; their ends are written if there is room for all of these
 abbrev pub AreCopied : List (List ℕ) → ℕ × ℕ → List ℕ → List ℕ → List ℕ → List ℕ → Type 0
 AreCopied texts answer old new old_ends new_ends =
     (answer.0 ≡ length texts) × (answer.1 ≡ length (flat_map (λ t. t) texts))
     × (length (flat_map (λ t. t) texts) ≤ length old → new ≡ flat_map (λ t. t) texts ++ drop (length (flat_map (λ t. t) texts)) old)
     × (length texts ≤ length old_ends → new_ends ≡ ends_from 0 texts ++ drop (length texts) old_ends)
+
+-- a function copies these texts, whatever buffers it takes
+abbrev pub Copies : (MutBor (List ℕ) → MutBor (List ℕ) → ℕ × ℕ → MutBor (List ℕ) → MutBor (List ℕ) → Type 0) → List (List ℕ) → Type 0
+Copies post texts =
+    (old : MutBor (List ℕ)) (old_ends : MutBor (List ℕ)) (copied : ℕ × ℕ) (new : MutBor (List ℕ)) (new_ends : MutBor (List ℕ))
+    → post old old_ends copied new new_ends → AreCopied texts copied old.now new.now old_ends.now new_ends.now
+
+-- texts fit into this many bytes, and their ends into this many ends
+abbrev pub Fit : List (List ℕ) → ℕ → ℕ → Type 0
+Fit texts bytes ends = (length (flat_map (λ t. t) texts) ≤ bytes) × (length texts ≤ ends)
+
+-- they don't fit, and these are their number and their total length
+abbrev pub IsCountWithoutRoom : List (List ℕ) → ℕ → ℕ → ℕ × ℕ → Type 0
+IsCountWithoutRoom texts bytes ends count =
+    ((bytes < length (flat_map (λ t. t) texts)) ⊎ (ends < length texts)) × (count.0 ≡ length texts) × (count.1 ≡ length (flat_map (λ t. t) texts))
 
 -- these texts are copied so far, and both buffers keep their length
 abbrev pub AreCopiedSoFar : List (List ℕ) → ℕ × ℕ → List ℕ → List ℕ → List ℕ → List ℕ → Type 0

@@ -5,13 +5,13 @@ ghost use Rattle.ansi_items.specs.Plain.{has_escape};
 ghost use Rattle.ansi_calls.specs.Lists.{ends_from, AreCopied, AreWritten};
 ghost use Rattle.ansi_calls.specs.Columns.{wrapped_lines, Wraps};
 
-use crate::answers::{NOT_UTF8, OK, TOO_SMALL};
-use crate::lists::{ListAnswer, copy_texts, join_texts, write_joined};
+use crate::answers::NOT_UTF8;
+use crate::lists::{ListAnswer, copy_texts, write_copied, write_texts};
 use ansi_columns::laws;
 use ansi_columns::wrap::wrap as wrapped;
 use ansi_str::AnsiStr;
 use simdutf8::basic::from_utf8;
-use std::alloc::{AllocError, Allocator};
+use std::alloc::Allocator;
 
 /// The lines of the text wrapped at `width` columns, ready for display, and where each ends.
 #[tactic(auto, unfolding(crate::specs::Columns::GivesWrapped))]
@@ -30,21 +30,7 @@ pub fn wrap<A: Allocator + Copy>(
     if !text.ansi_has_any() {
         return write_bare_lines(alloc, text, width, buffer, ends);
     }
-    write_joined(join_lines(alloc, text, width), buffer, ends)
-}
-
-/// The lines of a text, concatenated, and where each ends.
-fn join_lines<A: Allocator + Copy>(
-    alloc: A,
-    text: &str,
-    width: usize,
-) -> Result<(String<A>, Vec<usize, A>), AllocError>
-    ensures texts { IfOk result (λ joined.
-        string_bytes joined.0 ≡ flat_map (λ l. l) (wrapped_lines text.now width)) }
-    ensures ends { IfOk result (λ joined.
-        joined.1.items ≡ ends_from 0 (wrapped_lines text.now width)) }
-{
-    join_texts(alloc, text.len(), wrapped(alloc, text, width))
+    write_texts(alloc, text.len(), wrapped(alloc, text, width), buffer, ends)
 }
 
 /// Writes the lines of a text without ESC, and where each ends, if there is room for all of them.
@@ -61,49 +47,11 @@ fn write_bare_lines<A: Allocator + Copy>(
         (ends_from 0 (wrapped_lines text.now width)) result buffer.old buffer.new ends.old
         ends.new }
 {
-    if let Some((count, len)) = lines_without_room(alloc, text, width, buffer.len(), ends.len()) {
-        return ListAnswer {
-            status: TOO_SMALL,
-            count,
-            len,
-        };
-    }
-    let (count, len) = copy_bare_lines(alloc, text, width, buffer, ends);
-    ListAnswer {
-        status: OK,
-        count,
-        len,
-    }
-}
-
-/// The number of lines of a text without ESC and their total length, if they don't fit into `bytes`
-/// bytes or `ends` ends. `None` if they fit. The lines are counted only if they might not fit.
-fn lines_without_room<A: Allocator + Copy>(
-    alloc: A,
-    text: &str,
-    width: usize,
-    bytes: usize,
-    ends: usize,
-) -> Option<(usize, usize)>
-    requires { IsFalse (has_escape text.now) }
-    ensures none { IfNone result ((length (flat_map (λ l. l) (wrapped_lines text.now width))
-        ≤ bytes) × (length (wrapped_lines text.now width) ≤ ends)) }
-    ensures small { IfSome result (λ r.
-        (bytes < length (flat_map (λ l. l) (wrapped_lines text.now width)))
-        ⊎ (ends < length (wrapped_lines text.now width))) }
-    ensures needed { IfSome result (λ r. (r.0 ≡ length (wrapped_lines text.now width))
-        × (r.1 ≡ length (flat_map (λ l. l) (wrapped_lines text.now width)))) }
-{
     laws::lines_lose_blanks_and_line_ends();
-    if text.len() <= bytes && text.len() < ends {
-        return None;
-    }
-    let (count, len) = copy_bare_lines(alloc, text, width, &mut [], &mut []);
-    if len > bytes || count > ends {
-        Some((count, len))
-    } else {
-        None
-    }
+    let copy = |buffer: &mut [u8], ends: &mut [usize]| copy_bare_lines(
+        alloc, text, width, buffer, ends,
+    );
+    write_copied(text.len(), text.len() + 1, copy, buffer, ends)
 }
 
 /// Writes the lines of a text without ESC, and where each ends, as far as there is room. Returns

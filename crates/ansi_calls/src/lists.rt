@@ -1,20 +1,22 @@
 //! Calls that return several texts, with an entry for each: all parts, and all blocks.
-ghost use Rattle.std.specs.Prelude.{◌≡◌, ◌⊎◌, ◌≤◌, ◌<◌, ◌+◌, ◌^◌, ◌==◌, ◌∷◌, [], ◌++◌, ℕ, List};
+ghost use Rattle.std.specs.Prelude.{◌≡◌, ◌≤◌, ◌<◌, ◌+◌, ◌^◌, ◌==◌, ◌∷◌, [], ◌++◌, ℕ, List, refl};
 ghost use Rattle.std.specs.Prelude.{length, take, drop, map, flat_map, if◌then◌else◌, IsFalse};
 ghost use Rattle.std.specs.Prelude.{IfNone, IfSome, Result, IsOk, IfOk, OnOk, MatchResult, All};
-ghost use Rattle.std.specs.Prelude.{string_bytes, IsUtf8};
+ghost use Rattle.std.specs.Prelude.{string_bytes, IsUtf8, IsTrue};
+ghost use Rattle.std.specs.Mem.{FitsInMemory};
 ghost use Rattle.std.specs.Iterator.{IsFinite, Drains, HoldsAlong};
 ghost use Rattle.std.specs.declared.alloc.AllocError.{AllocError};
 ghost use Rattle.std.specs.declared.borrow.CowStr.{CowStr};
+ghost use Rattle.std.proofs.Common.{append-nil};
 ghost use Rattle.ansi_str.specs.Plain.{has_escape};
 ghost use Rattle.ansi_str.specs.Parts.{all_parts};
-ghost use Rattle.ansi_str.specs.Blocks.{blocks};
+ghost use Rattle.ansi_str.specs.Blocks.{Block, blocks};
 ghost use Rattle.ansi_calls.specs.Answers.{out_of_memory};
-ghost use Rattle.ansi_calls.specs.Lists.{none, ends_from, entries_from, styled_text};
-ghost use Rattle.ansi_calls.specs.Lists.{styled_entries_from, given_bytes, AreCopied, AreWritten};
-ghost use Rattle.ansi_calls.specs.Lists.{AreCopiedSoFar};
-ghost use Rattle.ansi_calls.specs.Lists.{HaveFailed};
-ghost use Rattle.ansi_calls.specs.Calls.{Splits, ListsBlocks, ListsStyledBlocks};
+ghost use Rattle.ansi_calls.specs.Lists.{none, ends_from, entries_of, block_entry, styled_text};
+ghost use Rattle.ansi_calls.specs.Lists.{styled_block_entry, whole_block, given_bytes, AreCopied};
+ghost use Rattle.ansi_calls.specs.Lists.{AreWritten, AreCopiedSoFar, Copies, Fit};
+ghost use Rattle.ansi_calls.specs.Lists.{IsCountWithoutRoom, AreGiven, HaveFailed};
+ghost use Rattle.ansi_calls.specs.Calls.{Splits, ListsAs, ListsBlocks, ListsStyledBlocks};
 
 use crate::answers::{NOT_UTF8, OK, OUT_OF_MEMORY, TOO_SMALL};
 use crate::styles::StyleData;
@@ -68,6 +70,91 @@ pub struct StyledBlockEntry {
     pub style: StyleData,
 }
 
+/// An entry for a block of a list, which says what is written of the block.
+trait Listed: Copy {
+    ghost text: { Block → List ℕ };
+
+    ghost entry: { ℕ → ℕ → Block → Self };
+
+    /// The entry of a block that is a whole text without ESC of this length.
+    fn alone(len: usize) -> Self
+        ensures { (t : List ℕ) → length t ≡ len → result ≡ entry 0 len (whole_block t) };
+
+    /// Appends what is written of a block, and returns its entry.
+    fn push<A: Allocator>(
+        texts: &mut String<A>,
+        block: &AnsiBlock<'_, A>,
+    ) -> Result<Self, AllocError>
+        ensures bytes { OnOk result
+            (string_bytes texts.new ≡ string_bytes texts.old ++ text block.now) }
+        ensures entry { IfOk result (λ e. e ≡ entry (length (string_bytes texts.old))
+            (length (string_bytes texts.new)) block.now) };
+
+    ghost stays: { (t : List ℕ) → text (whole_block t) ≡ t };
+}
+
+impl Listed for BlockEntry {
+    ghost text = { λ b. b.text };
+
+    ghost entry = { block_entry };
+
+    ghost stays = { λ t. refl };
+
+    fn alone(len: usize) -> BlockEntry {
+        BlockEntry {
+            end: len,
+            style: StyleData::empty(),
+        }
+    }
+
+    fn push<A: Allocator>(
+        texts: &mut String<A>,
+        block: &AnsiBlock<'_, A>,
+    ) -> Result<BlockEntry, AllocError> {
+        let style = StyleData::of(block.style());
+        texts.push_str(block.text())?;
+        Ok(BlockEntry {
+            end: texts.len(),
+            style,
+        })
+    }
+}
+
+impl Listed for StyledBlockEntry {
+    ghost text = { styled_text };
+
+    ghost entry = { styled_block_entry };
+
+    ghost stays = { λ t. append-nil t };
+
+    fn alone(len: usize) -> StyledBlockEntry {
+        StyledBlockEntry {
+            text_start: 0,
+            text_end: len,
+            end: len,
+            style: StyleData::empty(),
+        }
+    }
+
+    fn push<A: Allocator>(
+        texts: &mut String<A>,
+        block: &AnsiBlock<'_, A>,
+    ) -> Result<StyledBlockEntry, AllocError> {
+        let style = block.style();
+        write!(texts, "{}", style.start())?;
+        let text_start = texts.len();
+        texts.push_str(block.text())?;
+        let text_end = texts.len();
+        write!(texts, "{}", style.end())?;
+        Ok(StyledBlockEntry {
+            text_start,
+            text_end,
+            end: texts.len(),
+            style: StyleData::of(style),
+        })
+    }
+}
+
 /// All parts of a text between the matches of a pattern, and where each ends.
 pub fn split<A: Allocator + Copy>(
     alloc: A,
@@ -87,7 +174,7 @@ pub fn split<A: Allocator + Copy>(
     if !text.ansi_has_any() {
         return write_bare_parts(alloc, text, pat, buffer, ends);
     }
-    write_joined(join_parts(alloc, text, pat), buffer, ends)
+    write_texts(alloc, text.len(), split_in(alloc, text, pat), buffer, ends)
 }
 
 /// All blocks of a text, and for each where it ends and its style.
@@ -99,17 +186,7 @@ pub fn blocks<A: Allocator + Copy>(
 ) -> ListAnswer
     ensures { ListsBlocks text.now result buffer.old buffer.new entries.old entries.new }
 {
-    let Ok(text) = from_utf8(text) else {
-        return ListAnswer::failed(NOT_UTF8);
-    };
-    if !text.ansi_has_any() {
-        let entry = BlockEntry {
-            end: text.len(),
-            style: StyleData::empty(),
-        };
-        return write_one_block(text, &[entry], buffer, entries);
-    }
-    write_joined(join_blocks(alloc, text), buffer, entries)
+    write_blocks(alloc, text, buffer, entries)
 }
 
 /// All blocks of a text, each between the start and the close of its style; and for each where
@@ -122,19 +199,7 @@ pub fn styled_blocks<A: Allocator + Copy>(
 ) -> ListAnswer
     ensures { ListsStyledBlocks text.now result buffer.old buffer.new entries.old entries.new }
 {
-    let Ok(text) = from_utf8(text) else {
-        return ListAnswer::failed(NOT_UTF8);
-    };
-    if !text.ansi_has_any() {
-        let entry = StyledBlockEntry {
-            text_start: 0,
-            text_end: text.len(),
-            end: text.len(),
-            style: StyleData::empty(),
-        };
-        return write_one_block(text, &[entry], buffer, entries);
-    }
-    write_joined(join_styled_blocks(alloc, text), buffer, entries)
+    write_blocks(alloc, text, buffer, entries)
 }
 
 /// Writes the parts of a text without ESC, and where each ends, if there is room for all of them.
@@ -150,14 +215,38 @@ fn write_bare_parts<A: Allocator + Copy>(
     ensures { AreWritten (flat_map (λ p. p) (all_parts text.now pat.now))
         (ends_from 0 (all_parts text.now pat.now)) result buffer.old buffer.new ends.old ends.new }
 {
-    if let Some((count, len)) = parts_without_room(alloc, text, pat, buffer.len(), ends.len()) {
+    laws::bare_texts_are_std();
+    laws::parts_lie_between_matches();
+    let copy = |buffer: &mut [u8], ends: &mut [usize]| copy_bare_parts(
+        alloc, text, pat, buffer, ends,
+    );
+    write_copied(text.len(), text.len() + 2, copy, buffer, ends)
+}
+
+/// Writes the texts that a function copies, and where each ends, if there is room for all of them.
+/// They are at most `most` texts of `most_bytes` bytes together, and are counted first if these
+/// might not fit.
+pub(crate) fn write_copied<F: Fn(&mut [u8], &mut [usize]) -> (usize, usize)>(
+    most_bytes: usize,
+    most: usize,
+    copy: F,
+    buffer: &mut [u8],
+    ends: &mut [usize],
+) -> ListAnswer
+    requires { F.IsAlwaysCallable copy }
+    ensures { (texts : List (List ℕ)) → Copies (F.post copy) texts → Fit texts most_bytes most →
+        AreWritten (flat_map (λ t. t) texts) (ends_from 0 texts) result buffer.old buffer.new
+        ends.old ends.new }
+{
+    let (bytes, places) = (buffer.len(), ends.len());
+    if let Some((count, len)) = count_without_room(most_bytes, most, &copy, bytes, places) {
         return ListAnswer {
             status: TOO_SMALL,
             count,
             len,
         };
     }
-    let (count, len) = copy_bare_parts(alloc, text, pat, buffer, ends);
+    let (count, len) = copy(buffer, ends);
     ListAnswer {
         status: OK,
         count,
@@ -165,30 +254,24 @@ fn write_bare_parts<A: Allocator + Copy>(
     }
 }
 
-/// The number of parts of a text without ESC and their total length, if they don't fit into `bytes`
-/// bytes or `ends` ends. `None` if they fit. The parts are counted only if they might not fit.
-fn parts_without_room<A: Allocator + Copy>(
-    alloc: A,
-    text: &str,
-    pat: &str,
+/// The number of the texts that a function copies and their total length, if they don't fit into
+/// `bytes` bytes or `ends` ends. `None` if they fit. They are counted only if they might not fit.
+fn count_without_room<F: Fn(&mut [u8], &mut [usize]) -> (usize, usize)>(
+    most_bytes: usize,
+    most: usize,
+    copy: &F,
     bytes: usize,
     ends: usize,
 ) -> Option<(usize, usize)>
-    requires { IsFalse (has_escape text.now) }
-    ensures none { IfNone result ((length (flat_map (λ p. p) (all_parts text.now pat.now)) ≤ bytes)
-        × (length (all_parts text.now pat.now) ≤ ends)) }
-    ensures small { IfSome result (λ r.
-        (bytes < length (flat_map (λ p. p) (all_parts text.now pat.now)))
-        ⊎ (ends < length (all_parts text.now pat.now))) }
-    ensures needed { IfSome result (λ r. (r.0 ≡ length (all_parts text.now pat.now))
-        × (r.1 ≡ length (flat_map (λ p. p) (all_parts text.now pat.now)))) }
+    requires { F.IsAlwaysCallable copy.now }
+    ensures { (texts : List (List ℕ)) → Copies (F.post copy.now) texts → Fit texts most_bytes most →
+        IfNone result (Fit texts bytes ends)
+        × IfSome result (λ r. IsCountWithoutRoom texts bytes ends r) }
 {
-    laws::bare_texts_are_std();
-    laws::parts_lie_between_matches();
-    if text.len() <= bytes && text.len() + 2 <= ends {
+    if most_bytes <= bytes && most <= ends {
         return None;
     }
-    let (count, len) = copy_bare_parts(alloc, text, pat, &mut [], &mut []);
+    let (count, len) = copy(&mut [], &mut []);
     if len > bytes || count > ends {
         Some((count, len))
     } else {
@@ -294,6 +377,26 @@ fn put<T: Copy>(items: &[T], place: usize, slots: &mut [T]) -> usize
     after
 }
 
+/// Writes all blocks of a text, and an entry for each.
+fn write_blocks<T: Listed, A: Allocator + Copy>(
+    alloc: A,
+    text: &[u8],
+    buffer: &mut [u8],
+    entries: &mut [T],
+) -> ListAnswer
+    requires { FitsInMemory T.row }
+    ensures { ListsAs T.text T.entry text.now result buffer.old buffer.new entries.old
+        entries.new }
+{
+    let Ok(text) = from_utf8(text) else {
+        return ListAnswer::failed(NOT_UTF8);
+    };
+    if !text.ansi_has_any() {
+        return write_one_block(text, &[T::alone(text.len())], buffer, entries);
+    }
+    write_joined(join_blocks(alloc, text), buffer, entries)
+}
+
 /// Writes a text without ESC, which is one block, and its entry. An empty text has no block and no
 /// entry.
 fn write_one_block<T: Copy>(
@@ -309,22 +412,23 @@ fn write_one_block<T: Copy>(
     write_list(text.as_bytes(), entry, buffer, entries)
 }
 
-/// The parts of a text, concatenated, and where each ends.
-fn join_parts<A: Allocator + Copy>(
-    alloc: A,
-    text: &str,
-    pat: &str,
-) -> Result<(String<A>, Vec<usize, A>), AllocError>
-    ensures texts { IfOk result (λ joined.
-        string_bytes joined.0 ≡ flat_map (λ p. p) (all_parts text.now pat.now)) }
-    ensures ends { IfOk result (λ joined.
-        joined.1.items ≡ ends_from 0 (all_parts text.now pat.now)) }
+/// Writes the texts of an iterator, concatenated, and where each ends, or reports out of memory.
+/// Reserves `room` bytes at once.
+pub(crate) fn write_texts<
+    't,
+    A: Allocator + Copy,
+    I: Iterator<Item = Result<CowStr<'t, A>, AllocError>> + Drop,
+>(alloc: A, room: usize, given: I, buffer: &mut [u8], ends: &mut [usize]) -> ListAnswer
+    requires can { I.can_next given }
+    requires ends { IsFinite (I.remaining given) }
+    ensures { AreGiven (λ xs. Drains I.next_gives given xs) result buffer.old buffer.new ends.old
+        ends.new }
 {
-    join_texts(alloc, text.len(), split_in(alloc, text, pat))
+    write_joined(join_texts(alloc, room, given), buffer, ends)
 }
 
 /// The texts of an iterator, concatenated, and where each ends. Reserves `room` bytes at once.
-pub(crate) fn join_texts<
+fn join_texts<
     't,
     A: Allocator + Copy,
     I: Iterator<Item = Result<CowStr<'t, A>, AllocError>> + Drop,
@@ -355,90 +459,28 @@ fn push_text<A: Allocator>(texts: &mut String<A>, text: &str) -> Result<usize, A
     Ok(texts.len())
 }
 
-/// The blocks of a text, concatenated, and for each where it ends and its style.
-fn join_blocks<A: Allocator + Copy>(
+/// What is written of the blocks of a text, concatenated, and an entry for each.
+fn join_blocks<T: Listed, A: Allocator + Copy>(
     alloc: A,
     text: &str,
-) -> Result<(String<A>, Vec<BlockEntry, A>), AllocError>
+) -> Result<(String<A>, Vec<T, A>), AllocError>
     ensures texts { IfOk result (λ joined.
-        string_bytes joined.0 ≡ flat_map (λ b. b.text) (blocks text.now)) }
-    ensures entries { IfOk result (λ joined. joined.1.items ≡ entries_from 0 (blocks text.now)) }
-{
-    let mut texts = String::with_capacity(alloc, text.len())?;
-    let mut entries = Vec::new(alloc);
-    for block in get_blocks(alloc, text) {
-        let block = block?;
-        let entry = push_block(&mut texts, &block)?;
-        entries.push(entry)?;
-    }
-    Ok((texts, entries))
-}
-
-/// Appends a block, and returns its entry.
-fn push_block<A: Allocator>(
-    texts: &mut String<A>,
-    block: &AnsiBlock<'_, A>,
-) -> Result<BlockEntry, AllocError>
-    ensures bytes { OnOk result
-        (string_bytes texts.new ≡ string_bytes texts.old ++ block.now.text) }
-    ensures entry { IfOk result (λ entry.
-        entries_from (length (string_bytes texts.old)) (block.now ∷ []) ≡ entry ∷ []) }
-{
-    let style = StyleData::of(block.style());
-    texts.push_str(block.text())?;
-    Ok(BlockEntry {
-        end: texts.len(),
-        style,
-    })
-}
-
-/// The blocks of a text, concatenated, each between the start and the close of its style; and for
-/// each where these are and its style.
-fn join_styled_blocks<A: Allocator + Copy>(
-    alloc: A,
-    text: &str,
-) -> Result<(String<A>, Vec<StyledBlockEntry, A>), AllocError>
-    ensures texts { IfOk result (λ joined.
-        string_bytes joined.0 ≡ flat_map styled_text (blocks text.now)) }
+        string_bytes joined.0 ≡ flat_map T.text (blocks text.now)) }
     ensures entries { IfOk result (λ joined.
-        joined.1.items ≡ styled_entries_from 0 (blocks text.now)) }
+        joined.1.items ≡ entries_of T.text T.entry 0 (blocks text.now)) }
 {
     let mut texts = String::with_capacity(alloc, text.len())?;
     let mut entries = Vec::new(alloc);
     for block in get_blocks(alloc, text) {
         let block = block?;
-        let entry = push_styled_block(&mut texts, &block)?;
+        let entry = T::push(&mut texts, &block)?;
         entries.push(entry)?;
     }
     Ok((texts, entries))
-}
-
-/// Appends a block between the start and the close of its style, and returns its entry.
-fn push_styled_block<A: Allocator>(
-    texts: &mut String<A>,
-    block: &AnsiBlock<'_, A>,
-) -> Result<StyledBlockEntry, AllocError>
-    ensures bytes { OnOk result
-        (string_bytes texts.new ≡ string_bytes texts.old ++ styled_text block.now) }
-    ensures entry { IfOk result (λ entry.
-        styled_entries_from (length (string_bytes texts.old)) (block.now ∷ []) ≡ entry ∷ []) }
-{
-    let style = block.style();
-    write!(texts, "{}", style.start())?;
-    let text_start = texts.len();
-    texts.push_str(block.text())?;
-    let text_end = texts.len();
-    write!(texts, "{}", style.end())?;
-    Ok(StyledBlockEntry {
-        text_start,
-        text_end,
-        end: texts.len(),
-        style: StyleData::of(style),
-    })
 }
 
 /// Writes concatenated texts and their entries, or reports out of memory.
-pub(crate) fn write_joined<T: Copy, A: Allocator>(
+fn write_joined<T: Copy, A: Allocator>(
     joined: Result<(String<A>, Vec<T, A>), AllocError>,
     buffer: &mut [u8],
     entries: &mut [T],

@@ -184,13 +184,12 @@ typedef struct {
     ansi_str_font_numbers font;
 } ansi_str_style_numbers;
 
-/* A walk over the blocks of a text: what is left of the text, and the style of the block before. A caller may read only
-   `style`, and must not set a field. The text must live and stay unchanged while the walk is used. A copy of a walk is
-   independent of it. */
-typedef struct {
-    const uint8_t *rest;
-    size_t rest_len;
-    ansi_str_style_numbers style;
+/* A walk over the blocks of a text. Its state is the library's own: a caller must not read or set it. The text must live and
+   stay unchanged while the walk is used. A copy of a walk is independent of it. */
+typedef union {
+    /* (for its alignment) */
+    const void *aligned;
+    unsigned char state[40];
 } ansi_str_block_walk;
 
 /* A block of a walk: its run of text, which points into the text of the walk, and its style. */
@@ -200,19 +199,21 @@ typedef struct {
     ansi_str_style style;
 } ansi_str_next_block;
 
-/* A walk over the parts of a text between the matches of a pattern. Text and pattern must live and stay unchanged while the
-   walk is used. A caller must not read or set a field. */
-typedef struct {
-    const uint8_t *rest;
-    size_t rest_len;
-    const uint8_t *pattern;
-    size_t pattern_len;
-    size_t run;
-    size_t skip;
-    size_t from;
-    ansi_str_style_numbers carried;
-    bool finished;
+/* A walk over the parts of a text between the matches of a pattern, likewise. Text and pattern must live and stay unchanged
+   while it is used. */
+typedef union {
+    /* (for its alignment) */
+    const void *aligned;
+    unsigned char state[80];
 } ansi_str_part_walk;
+
+/* Where the state of a walk has these bytes; only functions of this header may use it. */
+enum {
+    ANSI_STR_STATE_TEXT = 0,
+    ANSI_STR_STATE_STYLE = 16,
+    ANSI_STR_STATE_PATTERN = 16,
+    ANSI_STR_STATE_FINISHED = 76
+};
 
 /* A part of a walk that points into the text of the walk. */
 typedef struct {
@@ -492,9 +493,10 @@ static inline ansi_str_answers ansi_str_styled_blocks(const char *text, size_t t
 
 /* A walk with no block left, and below a block without text. */
 static inline ansi_str_block_walk ansi_str_no_walk(void) {
+    const uint8_t *nothing = ansi_str_bytes(NULL);
     ansi_str_block_walk walk;
     memset(&walk, 0, sizeof walk);
-    walk.rest = ansi_str_bytes(NULL);
+    memcpy(walk.state + ANSI_STR_STATE_TEXT, &nothing, sizeof nothing);
     return walk;
 }
 
@@ -522,8 +524,15 @@ static inline ansi_str_answer ansi_str_blocks_next(ansi_str_block_walk *walk, an
     return ansi_str_raw_blocks_next(walk, block, ansi_str_room(buffer), buffer_len);
 }
 
-/* The sequences that set and close the style of a walk's last block, as ansi_str_block_start and ansi_str_block_end. Pass
-   `&walk.style`, or a copy. Allocates. */
+/* The style of a walk's last block, for the two calls below. */
+static inline ansi_str_style_numbers ansi_str_walk_style(const ansi_str_block_walk *walk) {
+    ansi_str_style_numbers style;
+    memcpy(&style, walk->state + ANSI_STR_STATE_STYLE, sizeof style);
+    return style;
+}
+
+/* The sequences that set and close the style of a walk's last block, as ansi_str_block_start and ansi_str_block_end.
+   Allocates. */
 static inline ansi_str_answer ansi_str_style_start(const ansi_str_style_numbers *style, char *buffer, size_t buffer_len) {
     return ansi_str_raw_style_start(style, ansi_str_room(buffer), buffer_len);
 }
@@ -534,11 +543,12 @@ static inline ansi_str_answer ansi_str_style_end(const ansi_str_style_numbers *s
 
 /* A walk with no part left, and below a part without text. */
 static inline ansi_str_part_walk ansi_str_no_part_walk(void) {
+    const uint8_t *nothing = ansi_str_bytes(NULL);
     ansi_str_part_walk walk;
     memset(&walk, 0, sizeof walk);
-    walk.rest = ansi_str_bytes(NULL);
-    walk.pattern = ansi_str_bytes(NULL);
-    walk.finished = true;
+    memcpy(walk.state + ANSI_STR_STATE_TEXT, &nothing, sizeof nothing);
+    memcpy(walk.state + ANSI_STR_STATE_PATTERN, &nothing, sizeof nothing);
+    walk.state[ANSI_STR_STATE_FINISHED] = true;
     return walk;
 }
 

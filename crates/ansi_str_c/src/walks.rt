@@ -13,6 +13,17 @@ use ansi_calls::walks::{
 use ansi_split::walks::PartWalk;
 use ansi_style::numbers::StyleNumbers;
 use std::alloc::Global;
+use std::mem::{align_of, size_of};
+
+// `include/ansi_str.h` and the bindings give a walk this many bytes, with this alignment.
+
+const _: () = prove!(size_of::<BlockWalk<'static>>() == 40);
+
+const _: () = prove!(align_of::<BlockWalk<'static>>() == 8);
+
+const _: () = prove!(size_of::<PartWalk<'static>>() == 80);
+
+const _: () = prove!(align_of::<PartWalk<'static>>() == 8);
 
 /// Begins a walk over the blocks of a text.
 #[unsafe(no_mangle)]

@@ -412,6 +412,7 @@ static PyObject *next_piece(PyObject *self) {
     bool are_blocks = walk->pattern == NULL;
     ansi_str_next_part part;
     ansi_str_next_block block;
+    ansi_str_style_numbers numbers;
     ansi_str_answer answer;
     PyObject *text;
     for (;;) {
@@ -438,15 +439,16 @@ static PyObject *next_piece(PyObject *self) {
     if (text == NULL || !are_blocks) {
         return text;
     }
-    return Py_BuildValue("(NN)", text, style_bytes(&block.style, &walk->blocks.style));
+    numbers = ansi_str_walk_style(&walk->blocks);
+    return Py_BuildValue("(NN)", text, style_bytes(&block.style, &numbers));
 }
 
 /* The sequences that set and close the style of the last block. */
 static PyObject *sequences(PyObject *self, PyObject *none) {
-    const ansi_str_style_numbers *style = &((Walk *)self)->blocks.style;
+    ansi_str_style_numbers style = ansi_str_walk_style(&((Walk *)self)->blocks);
     char start[ANSI_STR_LONGEST_START], end[ANSI_STR_LONGEST_CLOSE];
-    ansi_str_answer started = ansi_str_style_start(style, start, sizeof start);
-    ansi_str_answer ended = ansi_str_style_end(style, end, sizeof end);
+    ansi_str_answer started = ansi_str_style_start(&style, start, sizeof start);
+    ansi_str_answer ended = ansi_str_style_end(&style, end, sizeof end);
     (void)none;
     if (started.status != ANSI_STR_OK || ended.status != ANSI_STR_OK) {
         return PyErr_NoMemory();

@@ -2,7 +2,7 @@ use Rattle.std.proofs.Common.{◌≡◌, ◌∙◌, ◌+◌, ◌++◌, length, a
 use Rattle.ansi_str.specs.Written.{start, close_if_any}
 use Rattle.ansi_calls.specs.Lists.{styled_text}
 use Rattle.ansi_calls.proofs.ListLemmas.{length-joined, around-more}
-use Rattle.ansi_calls.proofs.lists.push_styled_block.Goals as goal
+use Rattle.ansi_calls.proofs.lists.StyledBlockEntryListed.push.Goals as goal
 
 -- the start, the text and the end are added in turn, and the length of the texts is that of their bytes
 pub returns : goal.returns
@@ -19,5 +19,5 @@ returns g c =
     let text_start : c.len-text_start.result ≡ length old + length (start block.style) = c.len-text_start.ensures ∙ c.write.new.self.bytes.ok.0 ∙ length-joined _ _ _ begun in
     let text_end : c.len-text_end.result ≡ length old + length (start block.style) + length block.text =
     c.len-text_end.ensures ∙ c.push_str.new.self.bytes.ok.0 ∙ length-joined _ _ _ more ∙ ap (λ n. n + length block.text) (length-joined _ _ _ begun) in
-    let end : c.len.result ≡ length old + length (styled_text block) = c.len.ensures ∙ c.write-2.new.self.bytes.ok.0 ∙ length-joined _ _ _ bytes in
+    let end : c.len.result ≡ length (string_bytes c.write-2.new.self) = c.len.ensures ∙ c.write-2.new.self.bytes.ok.0 in
     record { bytes = bytes; entry = rw (text_start, text_end, end, c.of.ensures, style) }

@@ -1,20 +1,15 @@
-use Rattle.std.proofs.Common.{◌≡◌, ◌∙◌, ℕ, [], ◌∷◌, length, true, false, sym, ap, refl, inl}
+use Rattle.std.proofs.Common.{◌≡◌, ◌∙◌, [], ◌∷◌, true, false, sym, ap, refl, inl}
 use Rattle.ansi_str.specs.Plain.{has_escape}
-use Rattle.ansi_str.specs.Blocks.{Block}
-use Rattle.ansi_calls.specs.declared.lists.BlockEntry.{BlockEntry}
-use Rattle.ansi_calls.specs.declared.styles.StyleData.{StyleData}
-use Rattle.ansi_calls.specs.Styles.{style_data}
 use Rattle.ansi_calls.proofs.ListLemmas.{one_block_written, Gives-joined}
-use Rattle.ansi_calls.proofs.lists.blocks.Goals as goal
+use Rattle.ansi_calls.proofs.lists.write_blocks.Goals as goal
 
 -- a text without ESC is one block
 pub returns-then-not-ansi_has_any : goal.returns-then-not-ansi_has_any
 returns-then-not-ansi_has_any g c =
     let t = c.in-Ok.text.now in
     let none : has_escape t ≡ false = sym c.ansi_has_any.ensures ∙ c.if-not-ansi_has_any.true in
-    let entry : ℕ → StyleData → BlockEntry = λ end style. record { end = end; style = style } in
-    let written = one_block_written (λ (b : Block). b.text) (λ begin end (b : Block). entry end (style_data b.style)) (entry (length t) c.empty.result ∷ []) t _ _ _ _ _ none refl
-    (ap (λ s. entry (length t) s ∷ []) (sym c.empty.ensures)) c.write_one_block.ensures in
+    let written = one_block_written g.T.Listed.text g.T.Listed.entry (c.alone.result ∷ []) t _ _ _ _ _ none (g.met.T.Listed.stays t)
+    (ap (λ e. e ∷ []) (sym (c.alone.ensures t refl))) c.write_one_block.ensures in
     inl (c.in-Ok.ensures.1, inl (rw c.in-Ok.ensures.0 at written))
 
 -- all blocks are joined
