@@ -8,6 +8,7 @@
 pub mod laws;
 pub mod links;
 pub mod policy;
+mod printable;
 pub mod safe;
 mod shown;
 mod standing;
