@@ -7,3 +7,4 @@ pub mod StandLemmas
 pub mod SafeLemmas
 pub mod CharacterLemmas
 pub mod PrintableLemmas
+pub mod LengthLemmas

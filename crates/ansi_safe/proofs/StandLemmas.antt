@@ -58,7 +58,7 @@ hexadecimal-ascii n small = by (is_printable_byte (hexadecimal n)) refl
     by true is = refl
     by false is = absurd (false≢true (sym (list_all_at is_printable_byte (codes "0123456789ABCDEF") n 0 small is)))
 
-numbered-ascii : (c : ℕ) → c < 0x10000 → list_all is_printable_byte (numbered c) ≡ true
+pub numbered-ascii : (c : ℕ) → c < 0x10000 → list_all is_printable_byte (numbered c) ≡ true
 numbered-ascii c small =
     let a = hexadecimal-ascii (c / 0x1000) (omega arith) in
     let b = hexadecimal-ascii (c / 0x100 % 0x10) (omega arith) in
@@ -66,10 +66,10 @@ numbered-ascii c small =
     let e = hexadecimal-ascii (c % 0x10) (omega arith) in
     and_from _ _ a (and_from _ _ b (and_from _ _ d (and_from _ _ e refl)))
 
-not_printing-small : (c : ℕ) → is_printing c ≡ false → c < 0x10000
+pub not_printing-small : (c : ℕ) → is_printing c ≡ false → c < 0x10000
 not_printing-small c other = grind (arith, nat_tests)
 
-caret-ascii : (c : ℕ) → nat_lt c 0x20 ≡ true → list_all is_printable_byte (94 ∷ (c + 0x40) ∷ []) ≡ true
+pub caret-ascii : (c : ℕ) → nat_lt c 0x20 ≡ true → list_all is_printable_byte (94 ∷ (c + 0x40) ∷ []) ≡ true
 caret-ascii c small =
     let here : is_printable_byte (c + 0x40) ≡ true = grind (arith, nat_tests) in
     and_from _ _ here refl
