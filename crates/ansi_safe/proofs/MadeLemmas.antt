@@ -1,17 +1,15 @@
 -- What is made of a text that is safe.
-use Rattle.std.proofs.Common.{not, ◌≡◌, ℕ, true, false, List, [], ◌∷◌, ◌++◌, flat_map, encode_utf8_all, if◌then◌else◌, refl, sym, ◌∙◌, ap, append_assoc, append-nil}
+use Rattle.std.proofs.Common.{not, ◌≡◌, ℕ, true, List, [], ◌∷◌, ◌++◌, flat_map, encode_utf8_all, if◌then◌else◌, refl, ◌∙◌, ap, append-nil}
 use Rattle.std.specs.List.{list_all}
 use Rattle.std.proofs.lemmas.Bool.{and_from, and_parts}
-use Rattle.std.proofs.lemmas.Str.{encodes-append}
 use Rattle.ansi_items.specs.Pieces.{Piece, Text, Sequence, LoneEscape, spelling, pieces_of}
 use Rattle.ansi_items.specs.Plain.{is_lone, are_whole, is_whole}
 use Rattle.ansi_items.proofs.JoinLemmas.{spelled-pieces_of}
 use Rattle.ansi_safe.specs.declared.policy.Links.{Links}
 use Rattle.ansi_safe.specs.declared.policy.Policy.{Policy}
-use Rattle.ansi_safe.specs.declared.policy.Rest.{Rest}
 use Rattle.ansi_safe.specs.Links.{ending}
-use Rattle.ansi_safe.specs.Safe.{may_stand, may_stay, is_safe}
-use Rattle.ansi_safe.specs.Sanitized.{instead, made_of_run, made_of, becomes, cleaned, sanitized}
+use Rattle.ansi_safe.specs.Safe.{may_stay, is_safe}
+use Rattle.ansi_safe.specs.Sanitized.{made_of, becomes, cleaned, sanitized}
 
 -- A safe text is what its pieces become.
 

@@ -54,6 +54,15 @@ fn pen_after_safe(text: &str, links: Links) -> Option<Pen<'_>>
     Some(Pen { style, link })
 }
 
+/// What ends what a text leaves open, or `None` if the text isn't safe. Doesn't allocate.
+fn ending_if_safe(text: &str, links: Links) -> Option<Ending>
+    ensures none { is_some result ≡ is_safe links text.now }
+    ensures bytes { IfSome result (λ e.
+        e.link_end.now ++ close (rendition_of e.style) ≡ ending text.now) }
+{
+    Some(pen_after_safe(text, links)?.ending())
+}
+
 /// Like `AnsiSafe::ansi_sanitize`, with a result that lives as long as the text, and with any
 /// allocator.
 ///
@@ -77,10 +86,9 @@ pub fn sanitize<'t, A: Allocator>(
     ensures safe { IfOk result (λ c. IsTrue (is_safe policy.links (cow_str_bytes c))) }
     ensures closed { IfOk result (λ c. IsClosed (cow_str_bytes c)) }
 {
-    let Some(pen) = pen_after_safe(text, policy.links) else {
+    let Some(ending) = ending_if_safe(text, policy.links) else {
         return Ok(CowStr::Owned(write_sanitized(alloc, text, policy)?));
     };
-    let ending = pen.ending();
     if ending.is_empty() {
         return Ok(CowStr::Borrowed(text));
     }

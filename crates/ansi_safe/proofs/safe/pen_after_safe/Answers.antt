@@ -3,7 +3,6 @@ use Rattle.ansi_items.specs.Plain.{marks}
 use Rattle.ansi_items.specs.Scans.{pieces_left}
 use Rattle.ansi_items.specs.Pieces.{pieces_of}
 use Rattle.ansi_style.specs.Rendition.{plain_style}
-use Rattle.ansi_style.specs.States.{rendition_of}
 use Rattle.std.specs.List.{list_all}
 use Rattle.ansi_safe.specs.Safe.{may_stay}
 use Rattle.ansi_safe.proofs.LinkLemmas.{IsOpenSoFar, open-begin, open-end, link_after_all-none}
