@@ -6,3 +6,5 @@ pub mod MadeLemmas
 pub mod StandLemmas
 pub mod SafeLemmas
 pub mod CharacterLemmas
+pub mod PrintableLemmas
+pub mod LengthLemmas

@@ -1,14 +1,15 @@
 -- What is made of the characters of a piece may stand in a run.
-use Rattle.std.proofs.Common.{◌≡◌, ℕ, ◌+◌, ◌/◌, ◌%◌, ◌<◌, Bool, true, false, ◌&&◌, ◌||◌, ◌==◌, List, [], ◌∷◌, ◌++◌, flat_map, slice_index, nat_lt, codes, if◌then◌else◌, refl, sym, ap, subst, arith}
+use Rattle.std.proofs.Common.{ap₂, ◌∙◌, encode_utf8_all, ◌≡◌, ℕ, ◌+◌, ◌/◌, ◌%◌, ◌<◌, Bool, true, false, ◌&&◌, ◌||◌, ◌==◌, List, [], ◌∷◌, ◌++◌, flat_map, slice_index, nat_lt, codes, if◌then◌else◌, refl, sym, ap, subst, arith}
 use lib.Utf8.{scalar, scalars, low_scalar}
-use Rattle.std.specs.Int.{is_in_range}
 use Rattle.std.specs.List.{list_all}
 use Rattle.std.proofs.lemmas.Bool.{and_from, and_parts, eqb-true, false≢true}
 use Rattle.std.proofs.lemmas.Bool.Decides.{nat_tests}
 use Rattle.std.proofs.lemmas.List.Folds.{list_all_at}
+use Rattle.std.proofs.lemmas.Str.{encodes-append, encodes-IsAscii}
+use Rattle.ansi_safe.proofs.PrintableLemmas.{printable-ascii}
 use Rattle.ansi_safe.specs.declared.policy.Rest.{Rest}
 use Rattle.ansi_safe.specs.declared.policy.Rest.TheVariants.{Drop, Show}
-use Rattle.ansi_safe.specs.Safe.{is_printing, may_stand, all_may_stand}
+use Rattle.ansi_safe.specs.Safe.{is_printable_byte, is_printing, may_stand, all_may_stand}
 use Rattle.ansi_safe.specs.Sanitized.{hexadecimal, numbered, shown, instead, made_of_run}
 
 -- these are characters that may stand together in a run
@@ -37,29 +38,26 @@ AreStanding-append (x ∷ xs) cs all rest =
 
 -- What is shown of a character prints.
 
-abbrev is_ascii_printing : ℕ → Bool
-is_ascii_printing = is_in_range 0x20 0x7E
-
-ascii_prints : (c : ℕ) → is_ascii_printing c ≡ true → prints c ≡ true
+ascii_prints : (c : ℕ) → is_printable_byte c ≡ true → prints c ≡ true
 ascii_prints c is =
     let below : c < 55296 = grind (arith, nat_tests) in
     let printing : is_printing c ≡ true = grind (arith, nat_tests) in
     and_from _ _ printing (low_scalar c below)
 
-all_ascii_print : (cs : List ℕ) → list_all is_ascii_printing cs ≡ true → list_all prints cs ≡ true
+all_ascii_print : (cs : List ℕ) → list_all is_printable_byte cs ≡ true → list_all prints cs ≡ true
 all_ascii_print [] all = refl
 all_ascii_print (c ∷ cs) all =
-    let both = and_parts (is_ascii_printing c) (list_all is_ascii_printing cs) all in
+    let both = and_parts (is_printable_byte c) (list_all is_printable_byte cs) all in
     and_from _ _ (ascii_prints c both.0) (all_ascii_print cs both.1)
 
-hexadecimal-ascii : (n : ℕ) → n < 16 → is_ascii_printing (hexadecimal n) ≡ true
-hexadecimal-ascii n small = by (is_ascii_printing (hexadecimal n)) refl
+hexadecimal-ascii : (n : ℕ) → n < 16 → is_printable_byte (hexadecimal n) ≡ true
+hexadecimal-ascii n small = by (is_printable_byte (hexadecimal n)) refl
   where
-    by : (b : Bool) → is_ascii_printing (hexadecimal n) ≡ b → b ≡ true
+    by : (b : Bool) → is_printable_byte (hexadecimal n) ≡ b → b ≡ true
     by true is = refl
-    by false is = absurd (false≢true (sym (list_all_at is_ascii_printing (codes "0123456789ABCDEF") n 0 small is)))
+    by false is = absurd (false≢true (sym (list_all_at is_printable_byte (codes "0123456789ABCDEF") n 0 small is)))
 
-numbered-ascii : (c : ℕ) → c < 0x10000 → list_all is_ascii_printing (numbered c) ≡ true
+pub numbered-ascii : (c : ℕ) → c < 0x10000 → list_all is_printable_byte (numbered c) ≡ true
 numbered-ascii c small =
     let a = hexadecimal-ascii (c / 0x1000) (omega arith) in
     let b = hexadecimal-ascii (c / 0x100 % 0x10) (omega arith) in
@@ -67,12 +65,12 @@ numbered-ascii c small =
     let e = hexadecimal-ascii (c % 0x10) (omega arith) in
     and_from _ _ a (and_from _ _ b (and_from _ _ d (and_from _ _ e refl)))
 
-not_printing-small : (c : ℕ) → is_printing c ≡ false → c < 0x10000
+pub not_printing-small : (c : ℕ) → is_printing c ≡ false → c < 0x10000
 not_printing-small c other = grind (arith, nat_tests)
 
-caret-ascii : (c : ℕ) → nat_lt c 0x20 ≡ true → list_all is_ascii_printing (94 ∷ (c + 0x40) ∷ []) ≡ true
+pub caret-ascii : (c : ℕ) → nat_lt c 0x20 ≡ true → list_all is_printable_byte (94 ∷ (c + 0x40) ∷ []) ≡ true
 caret-ascii c small =
-    let here : is_ascii_printing (c + 0x40) ≡ true = grind (arith, nat_tests) in
+    let here : is_printable_byte (c + 0x40) ≡ true = grind (arith, nat_tests) in
     and_from _ _ here refl
 
 pub shown-prints : (c : ℕ) → scalar c ≡ true → list_all prints (shown c) ≡ true
@@ -149,3 +147,29 @@ all_may_stand-append [] ds first second = second
 all_may_stand-append (c ∷ cs) ds first second =
     let both = and_parts (may_stand c cs) (all_may_stand cs) first in
     and_from _ _ (stands-joined c cs ds both.0) (all_may_stand-append cs ds both.1 second)
+
+-- Printable ASCII in front of others.
+
+printable_stands : (b : ℕ) (cs : List ℕ) → is_printable_byte b ≡ true → may_stand b cs ≡ true
+printable_stands b cs is = printing_stands b cs (and_parts (is_printing b) (scalar b) (ascii_prints b is)).0
+
+all_may_stand-printable : (w cs : List ℕ) → list_all is_printable_byte w ≡ true → all_may_stand (w ++ cs) ≡ all_may_stand cs
+all_may_stand-printable [] cs all = refl
+all_may_stand-printable (b ∷ w) cs all =
+    let both = and_parts (is_printable_byte b) (list_all is_printable_byte w) all in
+    ap₂ (λ x y. x && y) (printable_stands b (w ++ cs) both.0) (all_may_stand-printable w cs both.1)
+
+-- the same of a text, by the way that it is split
+pub stand_after_printable : (left w cs : List ℕ) → list_all is_printable_byte w ≡ true → left ≡ w ++ cs → all_may_stand left ≡ all_may_stand cs
+stand_after_printable left w cs all is = ap all_may_stand is ∙ all_may_stand-printable w cs all
+
+made_of_run-printable : (rest : Rest) (w cs : List ℕ) → list_all is_printable_byte w ≡ true → made_of_run rest (w ++ cs) ≡ w ++ made_of_run rest cs
+made_of_run-printable rest [] cs all = refl
+made_of_run-printable rest (b ∷ w) cs all =
+    let both = and_parts (is_printable_byte b) (list_all is_printable_byte w) all in
+    ap₂ (λ t v. (if t then b ∷ [] else instead rest b) ++ v) (printable_stands b (w ++ cs) both.0) (made_of_run-printable rest w cs both.1)
+
+pub made_after_printable : (rest : Rest) (left w cs : List ℕ) → list_all is_printable_byte w ≡ true → left ≡ w ++ cs → encode_utf8_all (made_of_run rest left) ≡ w ++ encode_utf8_all (made_of_run rest cs)
+made_after_printable rest left w cs all is =
+    ap (λ v. encode_utf8_all (made_of_run rest v)) is ∙ ap encode_utf8_all (made_of_run-printable rest w cs all) ∙ encodes-append w (made_of_run rest cs)
+    ∙ ap (λ u. u ++ encode_utf8_all (made_of_run rest cs)) (encodes-IsAscii w (printable-ascii w all))

@@ -35,9 +35,13 @@ abbrev pub keeps_links : Links → Bool
 keeps_links Keep = true
 keeps_links Remove = false
 
+-- a printable byte of ASCII (ISO/IEC 646; U+0020 included)
+abbrev pub is_printable_byte : ℕ → Bool
+is_printable_byte b = is_in_range 0x20 0x7E b
+
 -- a link sequence is clean if each byte between its ESC `]` and its terminator is printable ASCII (OSC 8)
 abbrev pub is_clean_link : List ℕ → Bool
-is_clean_link w = is_link w && list_all (is_in_range 0x20 0x7E) (slice_range w 2 (length w - terminator_len w))
+is_clean_link w = is_link w && list_all is_printable_byte (slice_range w 2 (length w - terminator_len w))
 
 -- a run may stay if each of its characters may stand where it is; an SGR may stay, and a clean link sequence if links are kept; no other sequence, and no lone escape
 abbrev pub may_stay : Links → Piece → Bool

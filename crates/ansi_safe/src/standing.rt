@@ -1,11 +1,13 @@
 //! What may stand in a safe text.
-ghost use Rattle.std.specs.Prelude.{◌≡◌, ◌++◌, ◌∷◌, [], MatchOption, chars, encode_utf8};
+ghost use Rattle.std.specs.Prelude.{◌≡◌, ◌≤◌, ◌++◌, ◌∷◌, [], length, MatchOption, chars};
+ghost use Rattle.std.specs.Prelude.{encode_utf8};
 ghost use Rattle.ansi_items.specs.Scans.{kind_of, piece_of_kind};
 ghost use Rattle.ansi_safe.specs.Safe.{is_printing, may_stand, all_may_stand, is_clean_link};
 ghost use Rattle.ansi_safe.specs.Safe.{may_stay};
 
 use crate::links::{address_of, terminator_len};
 use crate::policy::Links;
+use crate::printable::split_printable;
 use ansi_items::ansitok::Kind;
 
 /// Whether an item of this kind may stay.
@@ -38,13 +40,22 @@ fn all_may_stand(run: &str) -> bool
     ensures { result ≡ all_may_stand (chars run.now) }
 {
     let mut left = run;
-    while let Some((c, after)) = split_first(left) {
+    while let Some((c, after)) = split_first(after_printable(left)) {
         if !may_stand(c, after) {
             return false;
         }
         left = after;
     }
     true
+}
+
+/// A run without the printable ASCII that it begins with.
+#[inline(always)]
+fn after_printable(run: &str) -> &str
+    ensures decides { all_may_stand (chars run.now) ≡ all_may_stand (chars result.now) }
+    ensures shorter { length (chars result.now) ≤ length (chars run.now) }
+{
+    split_printable(run).1
 }
 
 /// The first character of a text, and the text after it.
