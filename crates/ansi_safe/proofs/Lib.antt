@@ -8,3 +8,4 @@ pub mod SafeLemmas
 pub mod CharacterLemmas
 pub mod PrintableLemmas
 pub mod LengthLemmas
+mod SafeExamples

@@ -6,6 +6,7 @@
 #![tactic(auto)]
 
 pub mod calls;
+pub mod cells;
 pub mod laws;
 pub mod links;
 pub mod policy;
