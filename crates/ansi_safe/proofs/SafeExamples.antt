@@ -1,7 +1,6 @@
 -- Worked examples of what is made of a text.
 use Rattle.std.specs.Prelude.{◌≡◌, codes, List, ℕ, chars}
 use Rattle.std.proofs.Common.{refl, true, false}
-use Rattle.ansi_safe.specs.declared.policy.Policy.{Policy}
 use Rattle.ansi_safe.specs.declared.policy.Links.TheVariants.{Keep, Remove}
 use Rattle.ansi_safe.specs.declared.policy.Rest.TheVariants.{Drop, Show}
 use Rattle.ansi_safe.specs.Safe.{is_safe}

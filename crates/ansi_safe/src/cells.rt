@@ -5,8 +5,8 @@ ghost use Rattle.ansi_items.specs.Pieces.{spelling};
 ghost use Rattle.ansi_items.specs.Scans.{kind_of, piece_of_kind};
 ghost use Rattle.ansi_safe.specs.Cells.{in_place, run_in, piece_in, placed, cell, paragraph};
 
+use crate::allowed::{is_allowed, may_stay, split_first};
 use crate::policy::Links;
-use crate::standing::{may_stand, may_stay, split_first};
 use ansi_items::ansitok::{Kind, Scanner};
 use std::alloc::{AllocError, Allocator};
 
@@ -120,13 +120,13 @@ fn push_char<A: Allocator>(
         string_bytes out.new ++ encode_utf8_all (run_in place (chars after.now))
         ≡ string_bytes out.old ++ encode_utf8_all (run_in place (c ∷ chars after.now))) }
 {
-    if !may_stand(c, after) {
+    if !is_allowed(c, after) {
         return Ok(());
     }
     push_in_place(out, c, place)
 }
 
-/// Appends a character that may stand, in a place. `Err` means out of memory; what was appended
+/// Appends a character that is allowed, in a place. `Err` means out of memory; what was appended
 /// before it stays.
 fn push_in_place<A: Allocator>(out: &mut String<A>, c: char, place: Place) -> Result<(), AllocError>
     ensures { OnOk result (string_bytes out.new

@@ -5,6 +5,7 @@
 //! `CALLING.md` beside this folder says how a crate depends on this one and calls it.
 #![tactic(auto)]
 
+mod allowed;
 pub mod calls;
 pub mod cells;
 pub mod laws;
@@ -13,7 +14,6 @@ pub mod policy;
 mod printable;
 pub mod safe;
 mod shown;
-mod standing;
 
 pub use calls::AnsiSafe;
 pub use policy::{Links, Policy, Rest};
