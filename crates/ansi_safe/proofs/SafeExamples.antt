@@ -32,6 +32,10 @@ return-dropped : dropped (codes "over\rwritten") ≡ codes "overwritten"
 unfolding Rattle.std.specs.Str.chars lib.Utf8.encode
 return-dropped = refl
 
+return-shown : shown (codes "over\rwritten") ≡ codes "over^Mwritten"
+unfolding Rattle.std.specs.Str.chars lib.Utf8.encode
+return-shown = refl
+
 return-before-sequence : dropped (codes "a\r\u{1b}[2J\nb") ≡ codes "a\nb"
 unfolding Rattle.std.specs.Str.chars lib.Utf8.encode
 return-before-sequence = refl
