@@ -14,12 +14,12 @@ use Rattle.ansi_safe.specs.declared.policy.Policy.{Policy}
 use Rattle.ansi_safe.specs.declared.policy.Rest.{Rest}
 use Rattle.ansi_safe.specs.declared.policy.Rest.TheVariants.{Drop, Show}
 use Rattle.ansi_safe.specs.Links.{link_of, ending, longest_link_end}
-use Rattle.ansi_safe.specs.Safe.{is_printing, may_stand, may_stay}
+use Rattle.ansi_safe.specs.Safe.{is_printing, is_allowed, may_stay}
 use Rattle.ansi_safe.specs.Sanitized.{numbered, shown, instead, made_of_run, made_of, becomes, cleaned, sanitized, growth}
 use Rattle.ansi_safe.proofs.EndingLemmas.{length-closing}
 use Rattle.ansi_safe.proofs.PrintableLemmas.{printable-ascii}
 use Rattle.ansi_safe.proofs.SafeLemmas.{piece_and_rest}
-use Rattle.ansi_safe.proofs.StandLemmas.{numbered-ascii, caret-ascii, not_printing-small}
+use Rattle.ansi_safe.proofs.AllowedLemmas.{numbered-ascii, caret-ascii, not_printing-small}
 
 -- nothing shrinks
 grows : (rest : Rest) (n : ℕ) → n ≤ growth rest * n
@@ -81,14 +81,14 @@ length-instead_of_all rest (c ∷ cs) =
 length-made_of_run : (rest : Rest) (cs : List ℕ) → length (encode_utf8_all (made_of_run rest cs)) ≤ growth rest * length (encode_utf8_all cs)
 length-made_of_run rest [] = omega arith
 length-made_of_run rest (c ∷ cs) =
-    let here = if may_stand c cs then c ∷ [] else instead rest c in
+    let here = if is_allowed c cs then c ∷ [] else instead rest c in
     omega (
       arith,
       ap length (encodes-append here (made_of_run rest cs)),
       length-append (encode_utf8_all here) (encode_utf8_all (made_of_run rest cs)),
       mul-add (growth rest) (length (encode_utf8 c)) (length (encode_utf8_all cs)),
       ap (λ n. growth rest * n) (length-append (encode_utf8 c) (encode_utf8_all cs)),
-      by (may_stand c cs),
+      by (is_allowed c cs),
       length-made_of_run rest cs,
     )
   where

@@ -25,7 +25,7 @@ pub trait AnsiSafe: AnsiStr {
     /// Whether the text is safe: whether it has nothing but printing characters, TAB, line ends,
     /// select graphic renditions and, if links are kept, clean link sequences.
     ///
-    /// A carriage return may stand directly before a line feed of the same run alone. A link
+    /// A carriage return is allowed directly before a line feed of the same run alone. A link
     /// sequence (OSC 8) is clean if each byte between its `ESC ]` and its terminator is one of 20 to
     /// 7E. So there is no other sequence, no lone escape, no other control (U+0000 to U+001F and
     /// U+007F to U+009F), and no bidirectional embedding, override or isolate (U+202A to U+202E and
@@ -41,12 +41,12 @@ pub trait AnsiSafe: AnsiStr {
         is_safe(self.as_text(), links)
     }
 
-    /// The text made safe, whatever is in it: what may not stand in a safe text is dropped or shown,
+    /// The text made safe, whatever is in it: what isn't allowed in a safe text is dropped or shown,
     /// and what is open at its end is ended.
     ///
     /// What stays is copied unchanged. Shown, an ESC is `^[`, U+0000 to U+001F are `^@` to `^_`,
     /// U+007F is `^?`, and U+0080 to U+009F and the bidirectional controls are as `<U+009B>`. Of a
-    /// sequence that may not stand, every character is dropped, or every control in it is shown so
+    /// sequence that isn't allowed, every character is dropped, or every control in it is shown so
     /// and the other characters as they are. At the end the open link and then the open style are
     /// closed, as `ansi_cut` closes a style. The result leaves nothing open, and made safe again it
     /// is the same, a borrow.

@@ -12,10 +12,10 @@ ghost use Rattle.ansi_safe.specs.Links.{link_of, ending, IsClosed, longest_link_
 ghost use Rattle.ansi_safe.specs.Safe.{is_safe};
 ghost use Rattle.ansi_safe.specs.Sanitized.{becomes, cleaned, growth, sanitized};
 
+use crate::allowed::may_stay;
 use crate::links::{Ending, LONGEST_ENDING, Pen, link_after, pen_after};
 use crate::policy::{Links, Policy};
 use crate::shown::{push_instead_of_all, push_run};
-use crate::standing::may_stay;
 use ansi_items::ansitok::{Kind, Scanner};
 use ansi_style::styles::{self, plain_style};
 use std::alloc::{AllocError, Allocator};

@@ -1,12 +1,12 @@
-//! What is put in the place of characters that may not stand in a safe text.
+//! What is put in the place of characters that aren't allowed in a safe text.
 ghost use Rattle.std.specs.Prelude.{◌≡◌, ◌<◌, ◌≤◌, ◌∷◌, ◌++◌, length, IfOk, OnOk, chars};
 ghost use Rattle.std.specs.Prelude.{encode_utf8_all, flat_map, string_bytes};
 ghost use Rattle.ansi_safe.specs.declared.policy.Rest.{Rest};
 ghost use Rattle.ansi_safe.specs.Sanitized.{hexadecimal, numbered, shown, instead, made_of_run};
 
+use crate::allowed::{is_allowed, is_printing, split_first};
 use crate::policy::Rest;
 use crate::printable::split_printable;
-use crate::standing::{is_printing, may_stand, split_first};
 use std::alloc::{AllocError, Allocator};
 
 /// Appends what is made of a run. `Err` means out of memory; what was appended before it stays.
@@ -56,7 +56,7 @@ fn push_made<A: Allocator>(
         string_bytes out.new ++ encode_utf8_all (made_of_run rest (chars after.now))
         ≡ string_bytes out.old ++ encode_utf8_all (made_of_run rest (c ∷ chars after.now))) }
 {
-    if may_stand(c, after) {
+    if is_allowed(c, after) {
         return out.push(c);
     }
     push_instead(out, c, rest)

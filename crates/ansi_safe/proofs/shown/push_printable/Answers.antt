@@ -1,6 +1,6 @@
 use Rattle.std.proofs.Common.{◌++◌, chars, length, encode_utf8_all, length-append, append_assoc, string_bytes, sym, ◌∙◌, ap, arith}
 use Rattle.ansi_safe.specs.Sanitized.{made_of_run}
-use Rattle.ansi_safe.proofs.StandLemmas.{made_after_printable}
+use Rattle.ansi_safe.proofs.AllowedLemmas.{made_after_printable}
 use Rattle.ansi_safe.proofs.shown.push_printable.Goals as goal
 
 pub returns-clause-written : goal.returns-clause-written

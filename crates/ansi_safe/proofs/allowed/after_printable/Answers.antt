@@ -1,6 +1,6 @@
 use Rattle.std.proofs.Common.{chars, length, length-append, ap, arith}
-use Rattle.ansi_safe.proofs.StandLemmas.{stand_after_printable}
-use Rattle.ansi_safe.proofs.standing.after_printable.Goals as goal
+use Rattle.ansi_safe.proofs.AllowedLemmas.{stand_after_printable}
+use Rattle.ansi_safe.proofs.allowed.after_printable.Goals as goal
 
 pub returns-clause-decides : goal.returns-clause-decides
 returns-clause-decides c =

@@ -1,4 +1,4 @@
--- What is made of the characters of a piece may stand in a run.
+-- What is made of the characters of a piece is allowed in a run.
 use Rattle.std.proofs.Common.{ap₂, ◌∙◌, encode_utf8_all, ◌≡◌, ℕ, ◌+◌, ◌/◌, ◌%◌, ◌<◌, Bool, true, false, ◌&&◌, ◌||◌, ◌==◌, List, [], ◌∷◌, ◌++◌, flat_map, slice_index, nat_lt, codes, if◌then◌else◌, refl, sym, ap, subst, arith}
 use lib.Utf8.{scalar, scalars, low_scalar}
 use Rattle.std.specs.List.{list_all}
@@ -9,32 +9,32 @@ use Rattle.std.proofs.lemmas.Str.{encodes-append, encodes-IsAscii}
 use Rattle.ansi_safe.proofs.PrintableLemmas.{printable-ascii}
 use Rattle.ansi_safe.specs.declared.policy.Rest.{Rest}
 use Rattle.ansi_safe.specs.declared.policy.Rest.TheVariants.{Drop, Show}
-use Rattle.ansi_safe.specs.Safe.{is_printable_byte, is_printing, may_stand, all_may_stand}
+use Rattle.ansi_safe.specs.Safe.{is_printable_byte, is_printing, is_allowed, all_allowed}
 use Rattle.ansi_safe.specs.Sanitized.{hexadecimal, numbered, shown, instead, made_of_run}
 
--- these are characters that may stand together in a run
-pub record AreStanding (cs : List ℕ) : Type 0 where
-  pub stand : all_may_stand cs ≡ true
+-- these are characters that are allowed together in a run
+pub record AreAllowed (cs : List ℕ) : Type 0 where
+  pub stand : all_allowed cs ≡ true
   pub scalar : scalars cs ≡ true
 
 -- a printing character, which is one
 abbrev prints : ℕ → Bool
 prints c = is_printing c && scalar c
 
--- Printing characters may stand before others.
+-- Printing characters is allowed before others.
 
-AreStanding-cons : (c : ℕ) (cs : List ℕ) → may_stand c cs ≡ true → scalar c ≡ true → AreStanding cs → AreStanding (c ∷ cs)
-AreStanding-cons c cs here is rest = record { stand = and_from _ _ here rest.stand; scalar = and_from _ _ is rest.scalar }
+AreAllowed-cons : (c : ℕ) (cs : List ℕ) → is_allowed c cs ≡ true → scalar c ≡ true → AreAllowed cs → AreAllowed (c ∷ cs)
+AreAllowed-cons c cs here is rest = record { stand = and_from _ _ here rest.stand; scalar = and_from _ _ is rest.scalar }
 
-printing_stands : (c : ℕ) (cs : List ℕ) → is_printing c ≡ true → may_stand c cs ≡ true
+printing_stands : (c : ℕ) (cs : List ℕ) → is_printing c ≡ true → is_allowed c cs ≡ true
 printing_stands c cs is = ap (λ b. b || (c == 9 || (c == 10 || (c == 13 && slice_index cs 0 == 10)))) is
 
-AreStanding-append : (xs cs : List ℕ) → list_all prints xs ≡ true → AreStanding cs → AreStanding (xs ++ cs)
-AreStanding-append [] cs all rest = rest
-AreStanding-append (x ∷ xs) cs all rest =
+AreAllowed-append : (xs cs : List ℕ) → list_all prints xs ≡ true → AreAllowed cs → AreAllowed (xs ++ cs)
+AreAllowed-append [] cs all rest = rest
+AreAllowed-append (x ∷ xs) cs all rest =
     let both = and_parts (prints x) (list_all prints xs) all in
     let here = and_parts (is_printing x) (scalar x) both.0 in
-    AreStanding-cons x (xs ++ cs) (printing_stands x (xs ++ cs) here.0) here.1 (AreStanding-append xs cs both.1 rest)
+    AreAllowed-cons x (xs ++ cs) (printing_stands x (xs ++ cs) here.0) here.1 (AreAllowed-append xs cs both.1 rest)
 
 -- What is shown of a character prints.
 
@@ -94,19 +94,19 @@ instead-prints Show c is = shown-prints c is
 
 -- What is made of the characters of a piece stands.
 
-pub instead_of_all-stands : (rest : Rest) (cs : List ℕ) → scalars cs ≡ true → AreStanding (flat_map (instead rest) cs)
+pub instead_of_all-stands : (rest : Rest) (cs : List ℕ) → scalars cs ≡ true → AreAllowed (flat_map (instead rest) cs)
 instead_of_all-stands rest [] are = record { stand = refl; scalar = refl }
 instead_of_all-stands rest (c ∷ cs) are =
     let both = and_parts (scalar c) (scalars cs) are in
-    AreStanding-append (instead rest c) (flat_map (instead rest) cs) (instead-prints rest c both.0) (instead_of_all-stands rest cs both.1)
+    AreAllowed-append (instead rest c) (flat_map (instead rest) cs) (instead-prints rest c both.0) (instead_of_all-stands rest cs both.1)
 
 -- a line feed stays at the front
 line_feed-stays : (rest : Rest) (cs : List ℕ) → (slice_index cs 0 == 10) ≡ true → (slice_index (made_of_run rest cs) 0 == 10) ≡ true
 line_feed-stays rest [] is = absurd (cc is)
 line_feed-stays rest (c ∷ cs) is = subst (λ x. (slice_index (made_of_run rest (x ∷ cs)) 0 == 10) ≡ true) (sym (eqb-true c 10 is)) refl
 
--- so what may stand before some characters may stand before what is made of them
-stands-before_made : (rest : Rest) (c : ℕ) (cs : List ℕ) → may_stand c cs ≡ true → may_stand c (made_of_run rest cs) ≡ true
+-- so what is allowed before some characters is allowed before what is made of them
+stands-before_made : (rest : Rest) (c : ℕ) (cs : List ℕ) → is_allowed c cs ≡ true → is_allowed c (made_of_run rest cs) ≡ true
 stands-before_made rest c cs here = by (is_printing c) (c == 9) (c == 10) (c == 13) (slice_index cs 0 == 10) (line_feed-stays rest cs) here
   where
     by : (p t n r f : Bool) → (f ≡ true → (slice_index (made_of_run rest cs) 0 == 10) ≡ true) → (p || (t || (n || (r && f)))) ≡ true → (p || (t || (n || (r && slice_index (made_of_run rest cs) 0 == 10)))) ≡ true
@@ -116,23 +116,23 @@ stands-before_made rest c cs here = by (is_printing c) (c == 9) (c == 10) (c == 
     by false false false true f stays here = stays here
     by false false false false f stays here = absurd (cc here)
 
-pub made_of_run-stands : (rest : Rest) (cs : List ℕ) → scalars cs ≡ true → AreStanding (made_of_run rest cs)
+pub made_of_run-stands : (rest : Rest) (cs : List ℕ) → scalars cs ≡ true → AreAllowed (made_of_run rest cs)
 made_of_run-stands rest [] are = record { stand = refl; scalar = refl }
 made_of_run-stands rest (c ∷ cs) are =
     let both = and_parts (scalar c) (scalars cs) are in
-    by (may_stand c cs) refl both.0 (made_of_run-stands rest cs both.1)
+    by (is_allowed c cs) refl both.0 (made_of_run-stands rest cs both.1)
   where
-    by : (b : Bool) → may_stand c cs ≡ b → scalar c ≡ true → AreStanding (made_of_run rest cs) → AreStanding ((if b then c ∷ [] else instead rest c) ++ made_of_run rest cs)
-    by true here is later = AreStanding-cons c (made_of_run rest cs) (stands-before_made rest c cs here) is later
-    by false other is later = AreStanding-append (instead rest c) (made_of_run rest cs) (instead-prints rest c is) later
+    by : (b : Bool) → is_allowed c cs ≡ b → scalar c ≡ true → AreAllowed (made_of_run rest cs) → AreAllowed ((if b then c ∷ [] else instead rest c) ++ made_of_run rest cs)
+    by true here is later = AreAllowed-cons c (made_of_run rest cs) (stands-before_made rest c cs here) is later
+    by false other is later = AreAllowed-append (instead rest c) (made_of_run rest cs) (instead-prints rest c is) later
 
--- Two runs that may stand may be joined.
+-- Two runs that is allowed may be joined.
 
 line_feed-joined : (cs ds : List ℕ) → (slice_index cs 0 == 10) ≡ true → (slice_index (cs ++ ds) 0 == 10) ≡ true
 line_feed-joined [] ds is = absurd (cc is)
 line_feed-joined (c ∷ cs) ds is = is
 
-stands-joined : (c : ℕ) (cs ds : List ℕ) → may_stand c cs ≡ true → may_stand c (cs ++ ds) ≡ true
+stands-joined : (c : ℕ) (cs ds : List ℕ) → is_allowed c cs ≡ true → is_allowed c (cs ++ ds) ≡ true
 stands-joined c cs ds here = by (is_printing c) (c == 9) (c == 10) (c == 13) (slice_index cs 0 == 10) (line_feed-joined cs ds) here
   where
     by : (p t n r f : Bool) → (f ≡ true → (slice_index (cs ++ ds) 0 == 10) ≡ true) → (p || (t || (n || (r && f)))) ≡ true → (p || (t || (n || (r && slice_index (cs ++ ds) 0 == 10)))) ≡ true
@@ -142,26 +142,26 @@ stands-joined c cs ds here = by (is_printing c) (c == 9) (c == 10) (c == 13) (sl
     by false false false true f stays here = stays here
     by false false false false f stays here = absurd (cc here)
 
-pub all_may_stand-append : (cs ds : List ℕ) → all_may_stand cs ≡ true → all_may_stand ds ≡ true → all_may_stand (cs ++ ds) ≡ true
-all_may_stand-append [] ds first second = second
-all_may_stand-append (c ∷ cs) ds first second =
-    let both = and_parts (may_stand c cs) (all_may_stand cs) first in
-    and_from _ _ (stands-joined c cs ds both.0) (all_may_stand-append cs ds both.1 second)
+pub all_allowed-append : (cs ds : List ℕ) → all_allowed cs ≡ true → all_allowed ds ≡ true → all_allowed (cs ++ ds) ≡ true
+all_allowed-append [] ds first second = second
+all_allowed-append (c ∷ cs) ds first second =
+    let both = and_parts (is_allowed c cs) (all_allowed cs) first in
+    and_from _ _ (stands-joined c cs ds both.0) (all_allowed-append cs ds both.1 second)
 
 -- Printable ASCII in front of others.
 
-printable_stands : (b : ℕ) (cs : List ℕ) → is_printable_byte b ≡ true → may_stand b cs ≡ true
+printable_stands : (b : ℕ) (cs : List ℕ) → is_printable_byte b ≡ true → is_allowed b cs ≡ true
 printable_stands b cs is = printing_stands b cs (and_parts (is_printing b) (scalar b) (ascii_prints b is)).0
 
-all_may_stand-printable : (w cs : List ℕ) → list_all is_printable_byte w ≡ true → all_may_stand (w ++ cs) ≡ all_may_stand cs
-all_may_stand-printable [] cs all = refl
-all_may_stand-printable (b ∷ w) cs all =
+all_allowed-printable : (w cs : List ℕ) → list_all is_printable_byte w ≡ true → all_allowed (w ++ cs) ≡ all_allowed cs
+all_allowed-printable [] cs all = refl
+all_allowed-printable (b ∷ w) cs all =
     let both = and_parts (is_printable_byte b) (list_all is_printable_byte w) all in
-    ap₂ (λ x y. x && y) (printable_stands b (w ++ cs) both.0) (all_may_stand-printable w cs both.1)
+    ap₂ (λ x y. x && y) (printable_stands b (w ++ cs) both.0) (all_allowed-printable w cs both.1)
 
 -- the same of a text, by the way that it is split
-pub stand_after_printable : (left w cs : List ℕ) → list_all is_printable_byte w ≡ true → left ≡ w ++ cs → all_may_stand left ≡ all_may_stand cs
-stand_after_printable left w cs all is = ap all_may_stand is ∙ all_may_stand-printable w cs all
+pub stand_after_printable : (left w cs : List ℕ) → list_all is_printable_byte w ≡ true → left ≡ w ++ cs → all_allowed left ≡ all_allowed cs
+stand_after_printable left w cs all is = ap all_allowed is ∙ all_allowed-printable w cs all
 
 made_of_run-printable : (rest : Rest) (w cs : List ℕ) → list_all is_printable_byte w ≡ true → made_of_run rest (w ++ cs) ≡ w ++ made_of_run rest cs
 made_of_run-printable rest [] cs all = refl

@@ -5,7 +5,7 @@ use Rattle.std.proofs.lemmas.Iterator.{YieldsList-from_slice}
 use Rattle.std.proofs.lemmas.Iterator.Search.{all_from_yields_List}
 use Rattle.ansi_safe.specs.Safe.{is_printable_byte}
 use Rattle.ansi_safe.specs.Links.{terminator_len, address_of, is_link}
-use Rattle.ansi_safe.proofs.standing.is_clean_link.Goals as goal
+use Rattle.ansi_safe.proofs.allowed.is_clean_link.Goals as goal
 
 is_link_by : (w : List ℕ) (o : Option (Bor (List ℕ))) → option_map (λ a. a.now) o ≡ address_of w → is_some o ≡ true → is_link w ≡ true
 is_link_by w None is some = absurd (cc some)
