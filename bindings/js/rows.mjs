@@ -1,5 +1,5 @@
 // Makes the calls of the rows of texts and results, which rows/README.md describes, in Node and in a page.
-import { blocks, cut, edit, find, fitting, pad, split, splitAt, strip, trim, truncate, width, wrap } from './index.js';
+import { blocks, cut, edit, find, fitting, isSafe, pad, sanitize, split, splitAt, strip, trim, truncate, width, wrap } from './index.js';
 
 /** The calls of rows that aren't here, and those that say less than another call's rows. */
 const LACKING = ['starts_with', 'ends_with', 'has_any', 'is_whole', 'is_char_boundary', 'floor_char_boundary', 'split_at', 'count_parts', 'part_interval',
@@ -91,6 +91,10 @@ function answersOf(call, found, want, text, more) {
       return [[pad(text, columns, second.toLowerCase()), want]];
     case 'wrap':
       return [[wrap(text, columns), more.slice(1)]];
+    case 'sanitize':
+      return [[sanitize(text, { show: first === 'Show', links: second === 'Keep' }), want]];
+    case 'is_safe':
+      return [[isSafe(text, { links: first === 'Keep' }), found !== null]];
     default:
       throw new Error(`no call of a row: ${call}`);
   }
