@@ -147,6 +147,12 @@ static size_t pad(const struct text *t) {
     return len_of(ansi_str_pad(t->bytes, t->len, t->plain_len + 8, ANSI_STR_RIGHT, NULL, 0));
 }
 static size_t wrap(const struct text *t) { return count_of(ansi_str_wrap(t->bytes, t->len, 80, NULL, 0, NULL, 0)); }
+static size_t sanitize(const struct text *t) {
+    return len_of(ansi_str_sanitize(t->bytes, t->len, ANSI_STR_DROP, ANSI_STR_KEEP_LINKS, NULL, 0));
+}
+static size_t is_safe(const struct text *t) {
+    return ansi_str_is_safe(t->bytes, t->len, ANSI_STR_KEEP_LINKS).status == ANSI_STR_OK ? 0 : SIZE_MAX;
+}
 
 /* appends a piece, and its plain bytes, while it fits into this many bytes */
 static void append(struct text *t, const char *piece, size_t limit) {
@@ -253,6 +259,8 @@ static const struct call FITTING = {"fitting", fitting, NONE, NULL};
 static const struct call TRUNCATE = {"truncate", truncate_to, WORD, "..."};
 static const struct call PAD = {"pad", pad, NONE, NULL};
 static const struct call WRAP = {"wrap", wrap, NONE, NULL};
+static const struct call SANITIZE = {"sanitize", sanitize, NONE, NULL};
+static const struct call IS_SAFE = {"is_safe", is_safe, NONE, NULL};
 
 static const struct row {
     const struct call *call;
@@ -276,6 +284,7 @@ static const struct row {
     {&WALK, &LOG}, {&WALK, &SHORT_SEQUENCES}, {&WALK, &TAIL},
     {&WIDTH, &PLAIN}, {&WIDTH, &LOG}, {&FITTING, &LOG}, {&TRUNCATE, &LOG}, {&PAD, &LOG},
     {&WRAP, &PLAIN}, {&WRAP, &LOG},
+    {&IS_SAFE, &PLAIN}, {&IS_SAFE, &LOG}, {&SANITIZE, &LOG}, {&SANITIZE, &UNFINISHED},
 };
 
 enum { ROW_COUNT = sizeof ROWS / sizeof ROWS[0] };

@@ -1,7 +1,7 @@
 /* Makes every call on hostile texts and prints how long the worst takes: on all texts of up to six of eight pieces, and on
    1 MiB of each hostile kind. Exits with 1 if a call takes more than a second on 1 MiB (two seconds, if it lists all parts,
-   blocks or lines), or if a cut, a part or both sides are longer than their bound. An alarm ends a call that doesn't
-   return. */
+   blocks or lines), or if a cut, a part, a safe text or both sides are longer than their bound. An alarm ends a call that
+   doesn't return. */
 #include "lengths.h"
 
 #include <signal.h>
@@ -44,6 +44,7 @@ struct call {
 TEXT(strip) TEXT(trim) TEXT(strip_prefix, p.at, p.len) TEXT(strip_suffix, p.at, p.len) TEXT(part, p.at, p.len, n)
 QUESTION(has_any) QUESTION(is_whole) QUESTION(is_char_boundary, n) QUESTION(floor_char_boundary, n)
 QUESTION(width) QUESTION(fitting, n)
+TEXT(sanitize, ANSI_STR_SHOW, ANSI_STR_KEEP_LINKS) QUESTION(is_safe, ANSI_STR_KEEP_LINKS)
 QUESTION(starts_with, p.at, p.len) QUESTION(ends_with, p.at, p.len) QUESTION(find, p.at, p.len)
 
 /* truncated to `position` columns (POSIX has the name `truncate`) */
@@ -99,6 +100,7 @@ static const struct call CALLS[] = {
     {"ends_with", ends_with, 0, 1, 0}, {"strip_prefix", strip_prefix, 0, 1, 0}, {"strip_suffix", strip_suffix, 0, 1, 0},
     {"width", width, 0, 0, 0}, {"fitting", fitting, 1, 0, 0}, {"truncate", truncate_to, 1, 1, 0}, {"pad", pad, 1, 0, 0},
     {"wrap", wrap, 1, 0, 1},
+    {"sanitize", sanitize, 0, 0, 0}, {"is_safe", is_safe, 0, 0, 0},
     {"find", find, 0, 1, 0}, {"split", split, 0, 1, 1}, {"part", part, 1, 1, 0},
 };
 enum { CALL_COUNT = sizeof CALLS / sizeof CALLS[0] };
@@ -145,6 +147,7 @@ static int is_bounded(struct bytes t, size_t position, struct bytes p) {
     return is_short(t, cut_from(t, position, p), ANSI_STR_LONGEST_CLOSE) &&
            is_short(t, cut_to(t, position, p), ANSI_STR_LONGEST_CLOSE) &&
            is_short(t, part(t, position, p), ANSI_STR_LONGEST_START_AND_CLOSE) &&
+           is_short(t, sanitize(t, position, p), 3 * t.len + ANSI_STR_LONGEST_LINK_END + ANSI_STR_LONGEST_CLOSE) &&
            is_short(t, sides(t, position, p), ANSI_STR_LONGEST_START_AND_CLOSE * (runs + 1));
 }
 

@@ -1,4 +1,4 @@
-/* What a program does with the library: a cell of a table, the parts of a line, the blocks of a text and their styles,
+/* What a program does with the library: a cell of a table, a safe text, the parts of a line, the blocks of a text and their styles,
    edits in turn, and the statuses of calls that fail. Exits with 1 if a call returns anything else. */
 #include "ansi_str.h"
 
@@ -39,6 +39,18 @@ static void give_one_text(void) {
 
     ansi_str_answer part = ansi_str_part(LOG, len, ": ", 2, 0, buffer, sizeof buffer);
     expect("part", wrote(part, buffer, "\x1b[31merror\x1b[39m"));
+}
+
+/* A stranger's text, printed without what could drive the terminal. */
+static void give_safe_text(void) {
+    static const char NAME[] = "\x1b]0;title\a\x1b[31mred\a";
+    char buffer[128];
+    size_t len = strlen(NAME);
+
+    expect("is it safe", ansi_str_is_safe(NAME, len, ANSI_STR_REMOVE_LINKS).status == ANSI_STR_NO);
+    ansi_str_answer safe = ansi_str_sanitize(NAME, len, ANSI_STR_DROP, ANSI_STR_REMOVE_LINKS, buffer, sizeof buffer);
+    expect("sanitize", wrote(safe, buffer, "\x1b[31mred\x1b[39m"));
+    expect("it is safe", ansi_str_is_safe(buffer, safe.len, ANSI_STR_REMOVE_LINKS).status == ANSI_STR_OK);
 }
 
 /* A buffer of the right size: the first call says how much is needed. */
@@ -143,6 +155,7 @@ static void take_nothing(void) {
 
 int main(void) {
     give_one_text();
+    give_safe_text();
     give_room();
     give_all_parts();
     give_all_blocks();

@@ -158,6 +158,34 @@ static void expect_edits(void) {
     expect("an edit of no kind", ansi_str_edit(TEXT("a"), &unknown, 1, buffer, sizeof buffer).status, ANSI_STR_REFUSED);
 }
 
+/* Each number of a policy, by what becomes of BEL and of a link. */
+static void expect_policies(void) {
+    static const struct {
+        uint32_t rest, links;
+        const char *wanted;
+    } POLICIES[] = {
+        {ANSI_STR_DROP, ANSI_STR_REMOVE_LINKS, "l"},
+        {ANSI_STR_SHOW, ANSI_STR_REMOVE_LINKS, "^[]8;;u^Gl^[]8;;^G^G"},
+        {ANSI_STR_DROP, ANSI_STR_KEEP_LINKS, "\x1b]8;;u\al\x1b]8;;\a"},
+        {ANSI_STR_SHOW, ANSI_STR_KEEP_LINKS, "\x1b]8;;u\al\x1b]8;;\a^G"},
+    };
+    static const char LINK[] = "\x1b]8;;u\al\x1b]8;;\a";
+    char buffer[32];
+    EXPECT_NUMBER(ANSI_STR_DROP, 0);
+    EXPECT_NUMBER(ANSI_STR_SHOW, 1);
+    EXPECT_NUMBER(ANSI_STR_REMOVE_LINKS, 0);
+    EXPECT_NUMBER(ANSI_STR_KEEP_LINKS, 1);
+    for (size_t i = 0; i < sizeof POLICIES / sizeof POLICIES[0]; i++) {
+        const char *wanted = POLICIES[i].wanted;
+        ansi_str_answer answer =
+            ansi_str_sanitize(TEXT("\x1b]8;;u\al\x1b]8;;\a\a"), POLICIES[i].rest, POLICIES[i].links, buffer, sizeof buffer);
+        expect(wanted, answer.status, ANSI_STR_OK);
+        expect(wanted, answer.len == strlen(wanted) && memcmp(buffer, wanted, answer.len) == 0, 1);
+    }
+    expect("a link is kept", ansi_str_is_safe(TEXT(LINK), ANSI_STR_KEEP_LINKS).status, ANSI_STR_OK);
+    expect("a link is removed", ansi_str_is_safe(TEXT(LINK), ANSI_STR_REMOVE_LINKS).status, ANSI_STR_NO);
+}
+
 /* The lengths, by a style with everything set: its start, its close, a cut text, and a part into which the style is carried. */
 static void expect_lengths(void) {
     static const char SGR[] = "\x1b[0;99;1;2;3;4;5;6;7;8;9;19;20;21;26;38;2;255;255;255;48;2;255;255;255;58;2;255;255;255;51;52;53;"
@@ -180,6 +208,7 @@ int main(void) {
     expect_attributes();
     expect_colors();
     expect_edits();
+    expect_policies();
     printf("numbers: %ld are as they should be\n", tried);
     return 0;
 }

@@ -101,6 +101,16 @@ ansi_str_answer ansi_str_raw_pad(TEXT, size_t i, uint32_t alignment, BUFFER) {
     return EXPECT_TEXT, EXPECT_ONE, EXPECT_BUFFER, ANSWER;
 }
 
+ansi_str_answer ansi_str_raw_sanitize(TEXT, uint32_t rest, uint32_t links, BUFFER) {
+    expect("the policy", __func__, rest == ANSI_STR_SHOW && links == ANSI_STR_REMOVE_LINKS);
+    return EXPECT_TEXT, EXPECT_BUFFER, ANSWER;
+}
+
+ansi_str_answer ansi_str_raw_is_safe(TEXT, uint32_t links) {
+    expect("the links", __func__, links == ANSI_STR_KEEP_LINKS);
+    return EXPECT_TEXT, ANSWER;
+}
+
 ansi_str_style_answer ansi_str_raw_block_style(TEXT, size_t i) { return EXPECT_TEXT, EXPECT_ONE, STYLE; }
 
 /* The walks and what they fill belong to the caller, and calls get the caller's pointers to them. */
@@ -199,6 +209,8 @@ static void call_each(void) {
     ansi_str_fitting(GIVE_TEXT, NUMBER(4));
     ansi_str_truncate(GIVE_TEXT, NUMBER(4), GIVE_PATTERN, GIVE_BUFFER);
     ansi_str_pad(GIVE_TEXT, NUMBER(4), ANSI_STR_RIGHT, GIVE_BUFFER);
+    ansi_str_sanitize(GIVE_TEXT, ANSI_STR_SHOW, ANSI_STR_REMOVE_LINKS, GIVE_BUFFER);
+    ansi_str_is_safe(GIVE_TEXT, ANSI_STR_KEEP_LINKS);
     ansi_str_strip(GIVE_TEXT, GIVE_BUFFER);
     ansi_str_trim(GIVE_TEXT, GIVE_BUFFER);
     ansi_str_cut(GIVE_TEXT, NUMBER(4), NUMBER(5), GIVE_BUFFER);

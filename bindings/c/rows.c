@@ -109,12 +109,17 @@ static ansi_str_edit_step edit_of(const struct row *r, size_t i) {
     }
 }
 
-static uint32_t alignment_of(const struct text *word) {
-    static const char *const WORDS[] = {"Left", "Center", "Right"};
-    static const uint32_t ALIGNMENTS[] = {ANSI_STR_LEFT, ANSI_STR_CENTER, ANSI_STR_RIGHT};
-    for (size_t i = 0; i < 3; i++) {
-        if (strcmp(word->bytes, WORDS[i]) == 0) {
-            return ALIGNMENTS[i];
+/* The number of the header for a word of a row. */
+static uint32_t number_of(const struct text *word) {
+    static const struct {
+        const char *word;
+        uint32_t number;
+    } WORDS[] = {{"Left", ANSI_STR_LEFT},           {"Center", ANSI_STR_CENTER}, {"Right", ANSI_STR_RIGHT},
+                 {"Drop", ANSI_STR_DROP},           {"Show", ANSI_STR_SHOW},     {"Keep", ANSI_STR_KEEP_LINKS},
+                 {"Remove", ANSI_STR_REMOVE_LINKS}};
+    for (size_t i = 0; i < sizeof WORDS / sizeof WORDS[0]; i++) {
+        if (strcmp(word->bytes, WORDS[i].word) == 0) {
+            return WORDS[i].number;
         }
     }
     return UINT32_MAX;
@@ -161,7 +166,9 @@ static ansi_str_answer call(const struct row *r, char *buffer, size_t len) {
     } else if (strcmp(name, "truncate") == 0) {
         return ansi_str_truncate(TEXT(t), position(r, 0), TEXT(argument(r, 1)), buffer, len);
     } else if (strcmp(name, "pad") == 0) {
-        return ansi_str_pad(TEXT(t), position(r, 0), alignment_of(argument(r, 1)), buffer, len);
+        return ansi_str_pad(TEXT(t), position(r, 0), number_of(argument(r, 1)), buffer, len);
+    } else if (strcmp(name, "sanitize") == 0) {
+        return ansi_str_sanitize(TEXT(t), number_of(argument(r, 0)), number_of(argument(r, 1)), buffer, len);
     }
     expect("the call is known", strcmp(name, "edit") == 0);
     size_t count;
@@ -260,6 +267,8 @@ static int expect_told(const struct row *r) {
         answer = ansi_str_width(TEXT(t));
     } else if (strcmp(name, "fitting") == 0) {
         answer = ansi_str_fitting(TEXT(t), position(r, 0));
+    } else if (strcmp(name, "is_safe") == 0) {
+        answer = ansi_str_is_safe(TEXT(t), number_of(argument(r, 0)));
     } else {
         granted = -1;
         return 0;
@@ -569,7 +578,7 @@ static void expect_styled_blocks(const struct row *r) {
     free(blocks);
 }
 
-/* What no row has: bytes that aren't UTF-8 for a call on columns, an unknown alignment, and no text, tail or buffer. */
+/* What no row has: bytes that aren't UTF-8 for a call on columns, a number without a meaning, and no text, tail or buffer. */
 static void expect_failures(void) {
     char buffer[] = "as it is";
     const ansi_str_answer answers[] = {ansi_str_width("\xff", 1), ansi_str_fitting("\xff", 1, 1),
@@ -586,6 +595,12 @@ static void expect_failures(void) {
     expect("one line", lines.status == ANSI_STR_TOO_SMALL && lines.count == 1 && lines.len == 0);
     ansi_str_answer answer = ansi_str_pad("ab", 2, 4, ANSI_STR_RIGHT + 1, buffer, 8);
     expect("an unknown alignment", answer.status == ANSI_STR_REFUSED && answer.len == 0);
+    const ansi_str_answer refused[] = {ansi_str_sanitize("a\a", 2, ANSI_STR_SHOW + 1, ANSI_STR_KEEP_LINKS, buffer, 8),
+                                       ansi_str_sanitize("a\a", 2, ANSI_STR_DROP, ANSI_STR_KEEP_LINKS + 1, buffer, 8),
+                                       ansi_str_is_safe("a", 1, ANSI_STR_KEEP_LINKS + 1)};
+    for (size_t i = 0; i < sizeof refused / sizeof refused[0]; i++) {
+        expect("an unknown policy", refused[i].status == ANSI_STR_REFUSED && refused[i].len == 0);
+    }
     answer = ansi_str_pad("ab", 2, SIZE_MAX, ANSI_STR_LEFT, buffer, 8);
     expect("more than there is memory", answer.status == ANSI_STR_OUT_OF_MEMORY && answer.len == 0);
     expect("the buffer", memcmp(buffer, "as it is", 8) == 0);
@@ -593,6 +608,8 @@ static void expect_failures(void) {
     expect("nothing", ansi_str_fitting(NULL, 0, 0).status == ANSI_STR_OK);
     expect("nothing", ansi_str_truncate(NULL, 0, 0, NULL, 0, NULL, 0).status == ANSI_STR_OK);
     expect("nothing", ansi_str_pad(NULL, 0, 0, ANSI_STR_LEFT, NULL, 0).status == ANSI_STR_OK);
+    expect("nothing", ansi_str_sanitize(NULL, 0, ANSI_STR_DROP, ANSI_STR_REMOVE_LINKS, NULL, 0).status == ANSI_STR_OK);
+    expect("nothing", ansi_str_is_safe(NULL, 0, ANSI_STR_REMOVE_LINKS).status == ANSI_STR_OK);
 }
 
 /* The value of two hexadecimal digits. */

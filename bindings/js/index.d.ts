@@ -101,3 +101,13 @@ export function pad(text: string, width: number, alignment?: 'left' | 'center' |
 
 /** The text wrapped to lines of `width` columns. Each line closes the link and style it leaves open; the next reopens them. */
 export function wrap(text: string, width: number): string[];
+
+/**
+ * The text made safe, so that it can't drive the terminal. Printing characters, TAB, line feeds, carriage returns directly before a
+ * line feed and SGRs stay, and with `links` links (OSC 8) of printable ASCII. Any other sequence, lone ESC, control character or
+ * bidirectional control is dropped, or with `show` shown in printing characters. The link and style still open at the end are closed.
+ */
+export function sanitize(text: string, options?: { show?: boolean; links?: boolean }): string;
+
+/** Whether the text is safe: whether `sanitize` would drop nothing. A style or a link may be open at its end. */
+export function isSafe(text: string, options?: { links?: boolean }): boolean;

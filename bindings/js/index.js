@@ -183,3 +183,11 @@ export function pad(text, width, alignment = 'left') {
 export function wrap(text, width) {
   return raw.wrap(textOf('text', text), numberOf('width', width));
 }
+
+export function sanitize(text, { show = false, links = false } = {}) {
+  return raw.sanitize(textOf('text', text), show ? 1 : 0, links ? 1 : 0);
+}
+
+export function isSafe(text, { links = false } = {}) {
+  return raw.isSafe(textOf('text', text), links ? 1 : 0);
+}

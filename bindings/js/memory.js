@@ -285,6 +285,15 @@ export function wrap(text, width) {
     (exports, frame) => exports.ansi_str_raw_wrap(...frame.head, ...frame.texts[0], BigInt(width), ...frame.out, ...frame.list), listed);
 }
 
+export function sanitize(text, rest, links) {
+  return called([text], [], roomForOne(text),
+    (exports, frame) => exports.ansi_str_raw_sanitize(...frame.head, ...frame.texts[0], rest, links, ...frame.out), written);
+}
+
+export function isSafe(text, links) {
+  return called([text], [], roomFor(0), (exports, frame) => exports.ansi_str_raw_is_safe(frame.head[0], ...frame.texts[0], links), told) !== null;
+}
+
 const ATTRIBUTES = ['bold', 'faint', 'italic', 'underline', 'slowBlink', 'rapidBlink', 'inverse', 'hide', 'crossedOut', 'fraktur'];
 const COLORS = [null, 'black', 'brightBlack', 'red', 'brightRed', 'green', 'brightGreen', 'yellow', 'brightYellow', 'blue', 'brightBlue',
   'purple', 'brightPurple', 'magenta', 'brightMagenta', 'cyan', 'brightCyan', 'white', 'brightWhite'];

@@ -1,5 +1,5 @@
 // Makes the calls of the rows of texts and results, which rows/README.md describes, in Node and in a page.
-import { blocks, cut, edit, find, fitting, pad, split, splitAt, strip, trim, truncate, width, wrap } from './index.js';
+import { blocks, cut, edit, find, fitting, isSafe, pad, sanitize, split, splitAt, strip, trim, truncate, width, wrap } from './index.js';
 
 /** The calls that aren't here. The positions of an edit count the bytes of what the edit before it made. */
 const LACKING = ['starts_with', 'ends_with', 'has_any', 'is_whole', 'is_char_boundary', 'floor_char_boundary', 'part_interval', 'edit', 'block_order',
@@ -103,6 +103,10 @@ function answersOf(call, found, want, text, more) {
       return [[pad(text, number, second.toLowerCase()), want]];
     case 'wrap':
       return [[wrap(text, number), more.slice(1)]];
+    case 'sanitize':
+      return [[sanitize(text, { show: first === 'Show', links: second === 'Keep' }), want]];
+    case 'is_safe':
+      return [[isSafe(text, { links: first === 'Keep' }), found !== null]];
     default:
       throw new Error(`no call of a row: ${call}`);
   }

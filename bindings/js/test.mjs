@@ -2,7 +2,7 @@
 import assert from 'node:assert/strict';
 import { readFile } from 'node:fs/promises';
 import { test } from 'node:test';
-import { OutOfMemoryError, blocks, cut, edit, find, fitting, pad, split, splitAt, strip, trim, truncate, width, wrap } from './index.js';
+import { OutOfMemoryError, blocks, cut, edit, find, fitting, isSafe, pad, sanitize, split, splitAt, strip, trim, truncate, width, wrap } from './index.js';
 import { pass } from './rows.mjs';
 
 test('rows', async () => {
@@ -49,7 +49,7 @@ test('a position past the end is the end, and an end below its start is refused,
 
 test('what is no text or no position is refused', () => {
   const calls = [strip, trim, blocks, width, (text) => find(text, ''), (text) => find('', text), (text) => split('', text), (text) => edit('', [['suffix', text]]),
-    (text) => fitting(text, 1), (text) => truncate(text, 1), (text) => truncate('', 1, text), (text) => pad(text, 1), (text) => wrap(text, 1)];
+    (text) => fitting(text, 1), (text) => truncate(text, 1), (text) => truncate('', 1, text), (text) => pad(text, 1), (text) => wrap(text, 1), sanitize, isSafe];
   for (const call of calls) {
     assert.throws(() => call('a\ud800'), /lone surrogate/);
     assert.throws(() => call(null), /must be a string/);
@@ -69,6 +69,15 @@ test('what is no text or no position is refused', () => {
 test('a block has the sequences other than SGRs, and a cut every sequence up to its end', () => {
   assert.deepEqual(blocks('a\x1b]0;t\x07\x1b[1m\x1bé\x1b[Kc\x1b[K').map(({ text }) => text), ['a', '\x1b]0;t\x07\x1bé', '\x1b[Kc']);
   assert.equal(cut('\x1b]0;t\x07\x1b[1ma\x1b[Kb\x1b[Jc\x1b[22md', 1, 2), '\x1b]0;t\x07\x1b[1m\x1b[Kb\x1b[J\x1b[22m');
+});
+
+test('a policy has defaults: what may not stand is dropped, and so are links', () => {
+  const text = '\x1b]8;;u\x07l\x1b]8;;\x07\r';
+  assert.equal(sanitize(text), 'l');
+  assert.equal(sanitize(text, {}), 'l');
+  assert.equal(sanitize(text, { links: true, show: true }), `${text.slice(0, -1)}^M`);
+  assert.equal(isSafe(text.slice(0, -1)), false);
+  assert.equal(isSafe(text.slice(0, -1), { links: true }), true);
 });
 
 test('a style has names', () => {

@@ -59,6 +59,8 @@ MADE = {
     "truncate": lambda text, width, tail: [ansi_str.truncate(text, int(width), tail)],
     "pad": lambda text, width, word: [ansi_str.pad(text, int(width), word.lower())],
     "wrap": lambda text, width, *_: [ansi_str.wrap(text, int(width))],
+    "sanitize": lambda text, rest, links: [ansi_str.sanitize(text, show=rest == "Show", links=links == "Keep")],
+    "is_safe": lambda text, links: [ansi_str.is_safe(text, links=links == "Keep")],
 }
 
 
@@ -83,7 +85,7 @@ def said(call, status, want, text, more):
     """The result that a row has, as the call returns it."""
     if call in ("find", "fitting"):
         return want and in_characters(ansi_str.strip(text), int(want))
-    if call in ("starts_with", "ends_with", "has_any", "is_whole"):
+    if call in ("starts_with", "ends_with", "has_any", "is_whole", "is_safe"):
         return status == "0"
     if call in ("width", "count_parts", "count_blocks"):
         return int(want)
@@ -135,7 +137,7 @@ class Rows(unittest.TestCase):
 # each call that takes a text, and what is passed for its other arguments
 CALLS = {"strip": [], "cut": [0], "left": [0], "right": [0], "part": [",", 0], "strip_prefix": [""], "strip_suffix": [""],
          "trim": [], "width": [], "fitting": [1], "truncate": [1], "pad": [1], "wrap": [1], "find": [""], "starts_with": [""], "ends_with": [""], "has_any": [], "is_whole": [], "split": [","],
-         "iter_split": [","], "blocks": [], "iter_blocks": [], "edit": [[]]}
+         "iter_split": [","], "blocks": [], "iter_blocks": [], "edit": [[]], "sanitize": [], "is_safe": []}
 PATTERNED = ["part", "strip_prefix", "strip_suffix", "find", "starts_with", "ends_with", "split", "iter_split"]
 HUGE = [2**31, 2**63 - 1, 2**63, 2**64 - 1, 2**64, 2**64 + 1, 2**200]
 
@@ -290,7 +292,7 @@ class Private(unittest.TestCase):
     WRONG = {
         "bytes": [(b"\xff", ValueError)] + [(wrong, TypeError) for wrong in TYPES + [1, ()]],
         "number": [(-1, ValueError), (-2**64, ValueError)] + [(wrong, TypeError) for wrong in TYPES + [b"a", ()]],
-        "kind": [(-1, ValueError), (10, ValueError), (2**31 - 1, ValueError), (2**31, OverflowError), (-2**200, OverflowError)]
+        "kind": [(-1, ValueError), (11, ValueError), (2**31 - 1, ValueError), (2**31, OverflowError), (-2**200, OverflowError)]
                 + [(wrong, TypeError) for wrong in TYPES + [b"a", ()]],
         "steps": [(wrong, TypeError) for wrong in TYPES + [b"a", 1, (1,), ((),), ((0, 0, 0),), ((0, 0, 0, b"", 0),), ([0, 0, 0, b""],)]],
         "bool": [],
@@ -298,7 +300,7 @@ class Private(unittest.TestCase):
     # good arguments of each call
     GOOD = {
         "edit": [("bytes", b"a"), ("bool", True), ("steps", ((0, 0, 1, b""),))],
-        "tell": [("kind", 4), ("bytes", b"a"), ("bool", True), ("bytes", b"a"), ("number", 1)],
+        "tell": [("kind", 5), ("bytes", b"a"), ("bool", True), ("bytes", b"a"), ("number", 1)],
         "walk": [("bytes", b"a"), ("bytes", b"a")],
         "strip": [("bytes", b"a")],
         "wrap": [("bytes", b"a"), ("number", 1)],
@@ -319,9 +321,9 @@ class Private(unittest.TestCase):
         for name, given in self.GOOD.items():
             self.refused(getattr(ansi_str._library, name), given)
         edit = ansi_str._library.edit
-        for kind in range(10):
+        for kind in range(11):
             self.refused(lambda *step: edit(b"a", True, (step + (b"",),)), [("kind", kind), ("number", 0), ("number", 1)])
-        # (the last two kinds don't read their pattern)
+        # (the last three kinds don't read their pattern)
         for kind in range(8):
             self.refused(lambda pattern: edit(b"a", True, ((kind, 0, 1, pattern),)), [("bytes", b"")])
 
@@ -338,10 +340,13 @@ class Private(unittest.TestCase):
         for huge in HUGE:
             self.assertEqual(edit(b"abc", True, ((0, 0, huge, b""),)), "abc")
             self.assertEqual(edit("\xe9".encode(), False, ((0, 0, huge, b""), (1, huge, huge, b""))), "\xe9")
-            self.assertEqual(tell(5, b"abc", True, b"", huge), 3)
+            self.assertEqual(tell(6, b"abc", True, b"", huge), 3)
             self.assertEqual(ansi_str._library.wrap(b"abc", huge), ["abc"])
+            for step in (8, 5, huge), (9, 0, huge), (9, huge, 0):
+                with self.assertRaises(ValueError):
+                    edit(b"abc", True, (step + (b"",),))
             with self.assertRaises(ValueError):
-                edit(b"abc", True, ((8, 5, huge, b""),))
+                tell(4, b"abc", True, b"", huge)
 
     def test_walks(self):
         for walk in (ansi_str._library.walk(b"\x1b[1ma"), ansi_str._library.walk(b"\x1b[1ma", b",")):

@@ -226,6 +226,15 @@ extern "C" {
         ends: *mut usize,
         k: usize,
     ) -> Answers;
+    fn ansi_str_raw_sanitize(
+        t: Bytes,
+        n: usize,
+        rest: u32,
+        links: u32,
+        b: Room,
+        m: usize,
+    ) -> Answer;
+    fn ansi_str_raw_is_safe(t: Bytes, n: usize, links: u32) -> Answer;
     fn ansi_str_raw_style_start(style: *const Numbers, b: Room, m: usize) -> Answer;
     fn ansi_str_raw_style_end(style: *const Numbers, b: Room, m: usize) -> Answer;
 }
@@ -447,6 +456,18 @@ pub(crate) fn pad(text: &str, width: usize, alignment: u32) -> String {
         // SAFETY: a `str`, and the room; any number may be a width
         unsafe { ansi_str_raw_pad(text.as_ptr(), text.len(), width, alignment, b, m) }
     }))
+}
+
+pub(crate) fn sanitize(text: &str, rest: u32, links: u32) -> String {
+    always(written(text.len() + LONGEST_CLOSE, |b, m| {
+        // SAFETY: a `str`, and the room; any numbers may be a policy
+        unsafe { ansi_str_raw_sanitize(text.as_ptr(), text.len(), rest, links, b, m) }
+    }))
+}
+
+pub(crate) fn is_safe(text: &str, links: u32) -> bool {
+    // SAFETY: a `str`; any number may be a choice about links
+    is_so(unsafe { ansi_str_raw_is_safe(text.as_ptr(), text.len(), links) })
 }
 
 /// The lines of a text one after the other, and the end of each.

@@ -24,6 +24,7 @@
 mod blocks;
 mod calls;
 pub mod columns;
+pub mod safe;
 mod style;
 
 pub use blocks::{get_blocks, AnsiBlock, AnsiBlockIter};

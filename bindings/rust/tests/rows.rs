@@ -1,6 +1,7 @@
 //! Passes the rows of texts and results, which `rows/README.md` describes.
 
 use ansi_str::columns::{Alignment, AnsiColumns};
+use ansi_str::safe::{AnsiSafe, Links, Policy, Rest};
 use ansi_str::{get_blocks, AnsiBlock, AnsiStr, Color};
 use std::borrow::Cow;
 use std::collections::BTreeMap;
@@ -119,6 +120,22 @@ fn alignment_of(word: &str) -> Alignment {
     }
 }
 
+fn rest_of(word: &str) -> Rest {
+    match word {
+        "Drop" => Rest::Drop,
+        "Show" => Rest::Show,
+        _ => panic!("no policy: {word}"),
+    }
+}
+
+fn links_of(word: &str) -> Links {
+    match word {
+        "Keep" => Links::Keep,
+        "Remove" => Links::Remove,
+        _ => panic!("no choice about links: {word}"),
+    }
+}
+
 /// Makes the call of a row with these fields. `None` if this crate doesn't have it, and else whether it returns what the row says.
 fn pass(call: &str, status: &str, want: &str, text: &str, more: &[String]) -> Option<bool> {
     let is_ok = status == "0";
@@ -172,6 +189,11 @@ fn pass(call: &str, status: &str, want: &str, text: &str, more: &[String]) -> Op
         "truncate" => is(Some(text.ansi_truncate(position(0), &more[1]))),
         "pad" => is(Some(text.ansi_pad(position(0), alignment_of(&more[1])))),
         "wrap" => are(text.ansi_wrap(position(0)).map(Cow::from).collect()),
+        "sanitize" => {
+            let (rest, links) = (rest_of(&more[0]), links_of(&more[1]));
+            is(Some(text.ansi_sanitize(Policy { rest, links })))
+        }
+        "is_safe" => text.ansi_is_safe(links_of(&more[0])) == is_ok,
         _ if LACKING.contains(&call) => return None,
         _ => panic!("no call of a row: {call}"),
     })
@@ -214,4 +236,15 @@ fn a_truncated_or_padded_text_that_fits_is_a_borrow() {
         assert!(matches!(text.ansi_pad(4, Alignment::Right), Cow::Owned(_)));
     }
     assert!(matches!("abc".ansi_truncate(2, ""), Cow::Borrowed("ab")));
+}
+
+#[test]
+fn a_safe_text_with_nothing_open_is_a_borrow() {
+    let policy = Policy {
+        rest: Rest::Drop,
+        links: Links::Remove,
+    };
+    let borrowed = |text: &'static str| matches!(text.ansi_sanitize(policy), Cow::Borrowed(_));
+    assert!(borrowed("abc\n") && borrowed("\x1b[1mabc\x1b[0m"));
+    assert!(!borrowed("abc\r") && !borrowed("\x1b[1mabc"));
 }

@@ -41,3 +41,12 @@ pub Gives-found : {A E : Type 0} (absent : ℕ) (stays : Bool) (found : Option (
 Gives-found absent stays found (Ok o) answer old new is fits told = inl (subst (λ found. IsFound absent found answer old new) is told)
 Gives-found absent true found (Err e) answer old new is fits told = absurd (true≢false (sym (fits refl)))
 Gives-found absent false found (Err e) answer old new is fits told = inr (refl, told)
+
+-- the text that a call makes is written, and the call runs out of memory only if it allocates
+pub Gives-text : {A E : Type 0} (absent : ℕ) (stays : Bool) (text : List ℕ) (gave : Result (CowStr A) E) (answer : Answer) (old new : List ℕ)
+    → IfOk gave (λ c. cow_str_bytes c ≡ text) → (IsTrue stays → IsOk gave)
+    → MatchResult gave (λ c. IsWritten (cow_str_bytes c) answer old new) (λ e. HasFailed out_of_memory answer old new)
+    → Gives absent (not stays) (Some text) answer old new
+Gives-text absent stays text (Ok c) answer old new is fits told = inl (subst (λ text. IsWritten text answer old new) is told)
+Gives-text absent true text (Err e) answer old new is fits told = absurd (true≢false (sym (fits refl)))
+Gives-text absent false text (Err e) answer old new is fits told = inr (refl, told)

@@ -4,4 +4,5 @@ pub mod Lists
 pub mod Steps
 pub mod Walks
 pub mod Columns
+pub mod Safe
 pub mod Calls

@@ -67,6 +67,21 @@ pub fn write(text: &[u8], buffer: &mut [u8]) -> Answer
     Answer::done(len)
 }
 
+/// Writes a text that was made from the caller's text, or reports out of memory.
+pub fn write_text<A: Allocator>(
+    text: Result<CowStr<'_, A>, AllocError>,
+    buffer: &mut [u8],
+) -> Answer
+    ensures { MatchResult text.entry
+        (λ text. IsWritten (cow_str_bytes text) result buffer.old buffer.new)
+        (λ e. HasFailed out_of_memory result buffer.old buffer.new) }
+{
+    match text {
+        Ok(text) => write(text.as_bytes(), buffer),
+        Err(_) => Answer::failed(OUT_OF_MEMORY),
+    }
+}
+
 /// Writes a text that was looked for. Returns the status `absent` if there is none, or reports out
 /// of memory.
 pub fn write_found<A: Allocator>(

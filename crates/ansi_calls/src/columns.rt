@@ -1,15 +1,12 @@
 //! Calls that return the display width of a text, or truncate or pad it for display.
-ghost use Rattle.std.specs.Prelude.{◌≡◌, MatchResult};
-ghost use Rattle.std.specs.Cow.{cow_str_bytes};
-ghost use Rattle.ansi_calls.specs.Answers.{out_of_memory, HasFailed, IsWritten};
+ghost use Rattle.std.specs.Prelude.{◌≡◌};
 ghost use Rattle.ansi_calls.specs.Columns.{alignment_of, TellsWidth, TellsFitting, Truncates, Pads};
 
-use crate::answers::{Answer, NOT_UTF8, OUT_OF_MEMORY, REFUSED, write};
+use crate::answers::{Answer, NOT_UTF8, REFUSED, write_text};
 use ansi_columns::shown::Alignment;
 use ansi_columns::{columns, shown};
 use simdutf8::basic::from_utf8;
-use std::alloc::{AllocError, Allocator};
-use std::borrow::CowStr;
+use std::alloc::Allocator;
 
 const LEFT: u32 = 0;
 
@@ -54,7 +51,7 @@ pub fn truncate<A: Allocator>(
     let Ok(tail) = from_utf8(tail) else {
         return Answer::failed(NOT_UTF8);
     };
-    write_shown(shown::truncate(alloc, text, width, tail), buffer)
+    write_text(shown::truncate(alloc, text, width, tail), buffer)
 }
 
 /// The text padded to `width` columns. The call is refused if there is no such alignment.
@@ -72,7 +69,7 @@ pub fn pad<A: Allocator>(
         return Answer::failed(NOT_UTF8);
     };
     match alignment_of(alignment) {
-        Some(alignment) => write_shown(shown::pad(alloc, text, width, alignment), buffer),
+        Some(alignment) => write_text(shown::pad(alloc, text, width, alignment), buffer),
         None => Answer::failed(REFUSED),
     }
 }
@@ -86,17 +83,5 @@ fn alignment_of(number: u32) -> Option<Alignment>
         CENTER => Some(Alignment::Center),
         RIGHT => Some(Alignment::Right),
         _ => None,
-    }
-}
-
-/// Writes a truncated or padded text, or reports out of memory.
-fn write_shown<A: Allocator>(shown: Result<CowStr<'_, A>, AllocError>, buffer: &mut [u8]) -> Answer
-    ensures { MatchResult shown.entry
-        (λ text. IsWritten (cow_str_bytes text) result buffer.old buffer.new)
-        (λ e. HasFailed out_of_memory result buffer.old buffer.new) }
-{
-    match shown {
-        Ok(text) => write(text.as_bytes(), buffer),
-        Err(_) => Answer::failed(OUT_OF_MEMORY),
     }
 }

@@ -3,6 +3,9 @@
 //! The first argument is the text. It is searched as if the log had no colors, so it is found even
 //! if a color begins or ends inside it.
 //!
+//! A log may have what a stranger sent. So sequences other than colors and links are left out, and
+//! so are control characters. A color or a link that is open at the end of a line ends there.
+//!
 //! Line ends and statuses are those of `grep`. A line ends at a line feed, and a carriage return
 //! before it is part of the line, and stays. A last line without a line feed gets one. The status
 //! is 0 if a line matches, 1 if none does, and 2 after an error. If nobody reads the output any
@@ -10,6 +13,8 @@
 //! shows of a `grep` there.
 #![tactic(auto)]
 
+use ansi_safe::policy::{Links, Policy, Rest};
+use ansi_safe::safe::sanitize;
 use ansi_str::ansitok::{Kind, Scanner};
 use ansi_str::{AnsiStr, get_blocks};
 use anyhow::Context;
@@ -63,6 +68,21 @@ fn marked(alloc: Global, line: &str, pattern: &str) -> Result<String, AllocError
     Ok(shown)
 }
 
+// The line with its matches marked, made safe. A carriage return at its end stays.
+fn shown(alloc: Global, line: &str, pattern: &str) -> Result<String, AllocError> {
+    let policy = Policy {
+        rest: Rest::Drop,
+        links: Links::Keep,
+    };
+    let marked = marked(alloc, line, pattern)?;
+    let (text, end) = match marked.as_str().strip_suffix('\r') {
+        Some(text) => (text, "\r"),
+        None => (marked.as_str(), ""),
+    };
+    let safe = sanitize(alloc, text, policy)?;
+    format!(in alloc; "{safe}{end}")
+}
+
 // Prints the lines that contain the text. Returns the status.
 fn print_found(rt: &HostRuntime) -> anyhow::Result<u8> {
     let alloc = rt.alloc();
@@ -77,7 +97,7 @@ fn print_found(rt: &HostRuntime) -> anyhow::Result<u8> {
         }
         let text = line.as_str().strip_suffix('\n').unwrap_or(line.as_str());
         if text.ansi_find(pattern.as_str()).is_some() {
-            let shown = marked(alloc, text, pattern.as_str())?;
+            let shown = shown(alloc, text, pattern.as_str())?;
             match println!(rt; "{number}: {shown}") {
                 Err(error) if error.kind() == ErrorKind::BrokenPipe => return Ok(OUTPUT_CLOSED),
                 printed => printed?,

@@ -1,12 +1,15 @@
 //! Prints a progress line for each line `NAME DONE TOTAL` of its input, in the styles of a sample.
 //!
 //! The first argument is the sample, such as `\e[32m#\e[90m-`: the text for a step that is done,
-//! and then, in another style, the text for a step that is left.
+//! and then, in another style, the text for a step that is left. In a name, sequences other than
+//! select graphic renditions are left out, and so are control characters.
 #![tactic(auto)]
 
 ghost use Rattle.std.specs.Prelude.{◌≤◌};
 
 use ansi_columns::AnsiColumns;
+use ansi_safe::policy::{Links, Policy, Rest};
+use ansi_safe::safe::sanitize;
 use ansi_str::{AnsiBlock, get_blocks};
 use anyhow::Context;
 use std::alloc::{AllocError, Global};
@@ -53,6 +56,10 @@ fn steps_of(alloc: Global, sample: &AnsiBlock<'_>, count: u32) -> Result<String,
 
 fn main(rt: HostRuntime) -> anyhow::Result<()> {
     let alloc = rt.alloc();
+    let policy = Policy {
+        rest: Rest::Drop,
+        links: Links::Remove,
+    };
     let sample = env::args(&rt)?.nth(1).context("no sample is given")?;
     let mut blocks = get_blocks(alloc, sample.as_str());
     let done = blocks
@@ -67,10 +74,10 @@ fn main(rt: HostRuntime) -> anyhow::Result<()> {
         let count = task.done_of(STEPS);
         let steps_done = steps_of(alloc, &done, count)?;
         let steps_left = steps_of(alloc, &left, STEPS - count)?;
-        let blanks = " ".repeat(alloc, NAME_COLUMNS.saturating_sub(task.name.ansi_width()))?;
+        let name = sanitize(alloc, task.name, policy)?;
+        let blanks = " ".repeat(alloc, NAME_COLUMNS.saturating_sub(name.ansi_width()))?;
         println!(rt;
-            "{blanks}{} {steps_done}{steps_left} {:>3}%",
-            task.name,
+            "{blanks}{name} {steps_done}{steps_left} {:>3}%",
             task.done_of(100)
         )?;
     }

@@ -2,6 +2,7 @@
 use crate::columns::ColumnCall;
 use crate::ranges::AnyRange;
 use crate::rows::Row;
+use crate::safe::SafeCall;
 use ansi_str::Edit;
 
 /// The property of the block at an index that a row names.
@@ -42,6 +43,7 @@ pub enum Call<'r> {
     Items,
     IsWhole,
     Columns(ColumnCall<'r>),
+    Safe(SafeCall),
 }
 
 impl<'r> Call<'r> {
@@ -58,6 +60,7 @@ impl<'r> Call<'r> {
                 | Call::Block(..)
                 | Call::Items
                 | Call::IsWhole
+                | Call::Safe(_)
         )
     }
 
@@ -100,6 +103,7 @@ impl<'r> Call<'r> {
             "ends_with" => Call::EndsWith(row.argument(0)?),
             "is_char_boundary" => Call::IsCharBoundary(row.number(0)?),
             "floor_char_boundary" => Call::FloorCharBoundary(row.number(0)?),
+            "sanitize" | "is_safe" => Call::Safe(SafeCall::new(row)?),
             _ => Call::Columns(ColumnCall::new(row)?),
         })
     }

@@ -11,6 +11,7 @@ mod columns;
 mod items;
 mod ranges;
 mod rows;
+mod safe;
 mod texts;
 mod tries;
 

@@ -5,6 +5,7 @@ use crate::check::Check;
 use crate::columns::{make_column_call, make_column_call_in};
 use crate::items::check_items;
 use crate::ranges::is_good_range_of;
+use crate::safe::make_safe_call_in;
 use ansi_columns::wrap::AnsiWrap;
 use ansi_str::search::part_interval;
 use ansi_str::slice::{
@@ -128,6 +129,7 @@ pub fn make_call_in(check: &mut Check<'_>, heap: &Refusing<Global>, call: &Call<
         Call::Items => check_items(check),
         Call::IsWhole => check.test(ansi_is_whole(text)),
         Call::Columns(call) => make_column_call_in(check, heap, call),
+        Call::Safe(call) => make_safe_call_in(check, heap, call),
         _ => make_call(check, &text, call),
     }
 }

@@ -97,6 +97,19 @@ enum {
     ANSI_STR_RIGHT = 2
 };
 
+/* What is made of what is unsafe in a text: it is dropped, or shown in printing characters, such as "^[" for ESC. */
+enum {
+    ANSI_STR_DROP = 0,
+    ANSI_STR_SHOW = 1
+};
+
+/* What is made of the links (OSC 8) of a text: all are unsafe, or a link is kept if each byte between its ESC "]" and its
+   terminator is printable ASCII. */
+enum {
+    ANSI_STR_REMOVE_LINKS = 0,
+    ANSI_STR_KEEP_LINKS = 1
+};
+
 /* The kinds of colors: none, one of the names, one of 256 by its number, or one by its red, green and blue. */
 enum {
     ANSI_STR_NO_COLOR = 0,
@@ -302,6 +315,9 @@ ansi_str_answer ansi_str_raw_pad(const uint8_t *text, size_t text_len, size_t wi
                                  uint8_t *buffer, size_t buffer_len);
 ansi_str_answers ansi_str_raw_wrap(const uint8_t *text, size_t text_len, size_t width, uint8_t *buffer, size_t buffer_len,
                                    size_t *ends, size_t ends_len);
+ansi_str_answer ansi_str_raw_sanitize(const uint8_t *text, size_t text_len, uint32_t rest, uint32_t links, uint8_t *buffer,
+                                      size_t buffer_len);
+ansi_str_answer ansi_str_raw_is_safe(const uint8_t *text, size_t text_len, uint32_t links);
 
 /* The same for a caller who promises that each text and each pattern is UTF-8, for example by its type: these calls don't
    check it. With any other bytes the behavior is undefined. */
@@ -677,6 +693,25 @@ static inline ansi_str_answers ansi_str_wrap(const char *text, size_t text_len, 
     size_t none;
     return ansi_str_raw_wrap(ansi_str_bytes(text), text_len, width, ansi_str_room(buffer), buffer_len,
                              ends == NULL ? &none : ends, ends_len);
+}
+
+/* The text made safe, so that it can't drive the terminal. Printing characters, TAB, line feeds, a carriage return directly
+   before a line feed and SGRs stay; links stay with ANSI_STR_KEEP_LINKS. Any other sequence, lone escape, control character or
+   bidirectional control is dropped, or shown with ANSI_STR_SHOW. The link and then the style still open at the end are closed.
+   The result is at most ANSI_STR_LONGEST_LINK_END + ANSI_STR_LONGEST_CLOSE bytes longer than the text; with ANSI_STR_SHOW, than
+   four times the text. ANSI_STR_REFUSED: `rest` or `links` is none of the numbers above. Allocates, also on a text without ESC,
+   unless the result is the text itself.
+   "\x1b[2J\x1b[31mred\a" gives "\x1b[31mred\x1b[39m" with ANSI_STR_DROP, and "^[[2J\x1b[31mred^G\x1b[39m" with
+   ANSI_STR_SHOW. */
+static inline ansi_str_answer ansi_str_sanitize(const char *text, size_t text_len, uint32_t rest, uint32_t links,
+                                                char *buffer, size_t buffer_len) {
+    return ansi_str_raw_sanitize(ansi_str_bytes(text), text_len, rest, links, ansi_str_room(buffer), buffer_len);
+}
+
+/* Whether the text is safe, that is, whether ansi_str_sanitize would drop nothing: ANSI_STR_OK or ANSI_STR_NO. A style or a
+   link may be open at its end. ANSI_STR_REFUSED: `links` is none of the numbers above. Doesn't allocate. */
+static inline ansi_str_answer ansi_str_is_safe(const char *text, size_t text_len, uint32_t links) {
+    return ansi_str_raw_is_safe(ansi_str_bytes(text), text_len, links);
 }
 
 #ifdef __cplusplus

@@ -7,4 +7,5 @@
 pub mod columns;
 pub mod lists;
 mod memory;
+pub mod safe;
 pub mod texts;

@@ -23,7 +23,8 @@ The calls, each of which has an example in its own help, such as `help(ansi_str.
     split(text, pattern)               pad(text, width, alignment='left')
     iter_split(text, pattern)          wrap(text, width)
     blocks(text)                       edit(text, edits)
-    iter_blocks(text)
+    iter_blocks(text)                  is_safe(text, links=False)
+                                       sanitize(text, show=False, links=False)
 
 >>> log = "\\x1b[31mred\\x1b[39m and plain"
 >>> strip(log)
@@ -47,6 +48,7 @@ __all__ = [
     "strip", "cut", "left", "right", "part", "strip_prefix", "strip_suffix", "trim",
     "width", "fitting", "truncate", "pad", "wrap", "Alignment", "ALIGNMENTS",
     "find", "starts_with", "ends_with", "has_any", "is_whole",
+    "sanitize", "is_safe",
     "split", "iter_split", "blocks", "iter_blocks", "Block", "Style", "ATTRIBUTES", "COLORS",
     "edit", "Edit", "Cut", "Left", "Right", "Part", "Prefix", "Suffix", "Trim",
 ]
@@ -68,9 +70,9 @@ else:
 _STYLE = struct.Struct("=I I4B I4B ?")
 
 # the kinds of edits, the last position, and the questions about a text
-_CUT, _LEFT, _RIGHT, _PART, _PREFIX, _SUFFIX, _TRIM, _TRUNCATE, _PAD = range(9)
+_CUT, _LEFT, _RIGHT, _PART, _PREFIX, _SUFFIX, _TRIM, _TRUNCATE, _PAD, _SANITIZE = range(10)
 _LAST = sys.maxsize
-_STARTS_WITH, _ENDS_WITH, _HAS_ANY, _IS_WHOLE, _FIND, _FITTING, _WIDTH = range(7)
+_STARTS_WITH, _ENDS_WITH, _HAS_ANY, _IS_WHOLE, _IS_SAFE, _FIND, _FITTING, _WIDTH = range(8)
 
 
 def _loaded() -> Any:
@@ -129,9 +131,9 @@ def _edited(text: str, *steps: _Step) -> Any:
     return _library.edit(data, len(data) == str.__len__(text), steps)
 
 
-def _told(what: int, text: str, pattern: str = "", width: int = 0) -> Any:
+def _told(what: int, text: str, pattern: str = "", number: int = 0) -> Any:
     data = _utf8("text", text)
-    return _library.tell(what, data, len(data) == str.__len__(text), _utf8("pattern", pattern), _position("width", width))
+    return _library.tell(what, data, len(data) == str.__len__(text), _utf8("pattern", pattern), number)
 
 
 def strip(text: str) -> str:
@@ -255,6 +257,29 @@ def is_whole(text: str) -> bool:
     return _told(_IS_WHOLE, text)  # type: ignore[no-any-return]
 
 
+def sanitize(text: str, *, show: bool = False, links: bool = False) -> str:
+    """The text made safe, so that it can't drive the terminal. Printing characters, TAB, line feeds, carriage returns directly
+    before a line feed and SGRs stay, and with `links` links (OSC 8) of printable ASCII. Any other sequence, lone ESC, control
+    character or bidirectional control is dropped, or with `show` shown in printing characters. The link and then the style still
+    open at the end are closed.
+
+    >>> sanitize("\\x1b[2J\\x1b[31mred\\x07")
+    '\\x1b[31mred\\x1b[39m'
+    >>> sanitize("\\x1b[2Ja\\x9b", show=True)
+    '^[[2Ja<U+009B>'
+    """
+    return _edited(text, (_SANITIZE, 1 if show else 0, 1 if links else 0, b""))  # type: ignore[no-any-return]
+
+
+def is_safe(text: str, *, links: bool = False) -> bool:
+    """Whether the text is safe: whether `sanitize` would drop nothing. A style or a link may be open at its end.
+
+    >>> is_safe("\\x1b[31mred"), is_safe("\\x1b[2J")
+    (True, False)
+    """
+    return _told(_IS_SAFE, text, "", 1 if links else 0)  # type: ignore[no-any-return]
+
+
 def width(text: str) -> int:
     """The display width of the text in columns: the sum over the extended grapheme clusters of its plain text.
 
@@ -270,7 +295,7 @@ def fitting(text: str, width: int) -> int:
     >>> fitting("a\\x1b[1m日本", 4)
     2
     """
-    return _told(_FITTING, text, "", width)  # type: ignore[no-any-return]
+    return _told(_FITTING, text, "", _position("width", width))  # type: ignore[no-any-return]
 
 
 def truncate(text: str, width: int, tail: str = "") -> str:

@@ -13,10 +13,10 @@
 enum { LONG = 1 << 16 };
 
 /* kinds beside those of edits */
-enum { TRUNCATE = ANSI_STR_EDIT_TRIM + 1, PAD, STRIP, KINDS };
+enum { TRUNCATE = ANSI_STR_EDIT_TRIM + 1, PAD, SANITIZE, STRIP, KINDS };
 
-/* the questions about a text: those up to IS_WHOLE are yes or no, FIND and FITTING return a position, WIDTH columns */
-enum { STARTS_WITH, ENDS_WITH, HAS_ANY, IS_WHOLE, FIND, FITTING, WIDTH, QUESTIONS };
+/* the questions about a text: those up to IS_SAFE are yes or no, FIND and FITTING return a position, WIDTH columns */
+enum { STARTS_WITH, ENDS_WITH, HAS_ANY, IS_WHOLE, IS_SAFE, FIND, FITTING, WIDTH, QUESTIONS };
 
 /* a text and the `bytes` that begins with it */
 typedef struct {
@@ -59,7 +59,7 @@ static bool read_number(PyObject *given, size_t *number) {
     return true;
 }
 
-/* Whether a number is below `count`, and so that of a kind, a question or an alignment. If not, an error is set. */
+/* Whether a number is below `count`, and so that of a kind, a question, an alignment or a policy. If not, an error is set. */
 static bool is_one_of(long long number, int count) {
     if (number >= 0 && number < count) {
         return true;
@@ -87,6 +87,8 @@ static ansi_str_answer write_step(const Text *text, const ansi_str_edit_step *st
                                      room->size);
     case PAD:
         return ansi_str_raw_pad(text->bytes, text->size, step->first, (uint32_t)step->second, room->bytes, room->size);
+    case SANITIZE:
+        return ansi_str_raw_sanitize(text->bytes, text->size, (uint32_t)step->first, (uint32_t)step->second, room->bytes, room->size);
     default:
         return ansi_str_raw_edit(text->bytes, text->size, step, 1, room->bytes, room->size);
     }
@@ -147,6 +149,18 @@ static Py_ssize_t characters_before(const Text *text, size_t place) {
     return count;
 }
 
+/* Whether the numbers of a step are those of an alignment or a policy, if its kind takes one. If not, an error is set. */
+static bool have_meaning(int kind, size_t first, size_t second) {
+    switch (kind) {
+    case PAD:
+        return is_one_of((long long)second, ANSI_STR_RIGHT + 1);
+    case SANITIZE:
+        return is_one_of((long long)first, ANSI_STR_SHOW + 1) && is_one_of((long long)second, ANSI_STR_KEEP_LINKS + 1);
+    default:
+        return true;
+    }
+}
+
 /* Makes the text of a step of __init__.py. Returns what make_step does. */
 static bool make_text(const Text *text, bool is_ascii, PyObject *words, Text *made) {
     int kind;
@@ -158,7 +172,7 @@ static bool make_text(const Text *text, bool is_ascii, PyObject *words, Text *ma
         return false;
     }
     if (!PyArg_ParseTuple(words, "iOOS", &kind, &first_given, &second_given, &pattern) || !is_one_of(kind, KINDS) ||
-        !read_number(first_given, &first) || !read_number(second_given, &second) || (kind == PAD && !is_one_of((long long)second, ANSI_STR_RIGHT + 1))) {
+        !read_number(first_given, &first) || !read_number(second_given, &second) || !have_meaning(kind, first, second)) {
         return false;
     }
     step = ansi_str_edit_of((uint32_t)kind, first, second, PyBytes_AsString(pattern), (size_t)PyBytes_Size(pattern));
@@ -216,7 +230,7 @@ static PyObject *strip(PyObject *module, PyObject *words) {
     return answer;
 }
 
-static ansi_str_answer ask(int what, const Text *text, const Text *pattern, size_t width) {
+static ansi_str_answer ask(int what, const Text *text, const Text *pattern, size_t number) {
     switch (what) {
     case STARTS_WITH:
         return ansi_str_raw_starts_with(text->bytes, text->size, pattern->bytes, pattern->size);
@@ -226,8 +240,10 @@ static ansi_str_answer ask(int what, const Text *text, const Text *pattern, size
         return ansi_str_raw_has_any(text->bytes, text->size);
     case IS_WHOLE:
         return ansi_str_raw_is_whole(text->bytes, text->size);
+    case IS_SAFE:
+        return ansi_str_raw_is_safe(text->bytes, text->size, (uint32_t)number);
     case FITTING:
-        return ansi_str_raw_fitting(text->bytes, text->size, width);
+        return ansi_str_raw_fitting(text->bytes, text->size, number);
     case WIDTH:
         return ansi_str_raw_width(text->bytes, text->size);
     default:
@@ -235,30 +251,31 @@ static ansi_str_answer ask(int what, const Text *text, const Text *pattern, size
     }
 }
 
-/* (what, text, is_ascii, pattern, width): a bool, a position in characters, None, or columns. */
+/* (what, text, is_ascii, pattern, number): a bool, a position in characters, None, or columns. The number is a width, or says
+   whether links are kept. */
 static PyObject *tell(PyObject *module, PyObject *words) {
     int what, is_ascii;
-    PyObject *given, *sought, *width;
+    PyObject *given, *sought, *asked;
     Text text, pattern;
     ansi_str_answer answer;
     PyThreadState *thread;
     Py_ssize_t position;
-    size_t most;
+    size_t number;
     (void)module;
-    if (!PyArg_ParseTuple(words, "iSpSO", &what, &given, &is_ascii, &sought, &width) || !is_one_of(what, QUESTIONS) ||
-        !read_number(width, &most)) {
+    if (!PyArg_ParseTuple(words, "iSpSO", &what, &given, &is_ascii, &sought, &asked) || !is_one_of(what, QUESTIONS) ||
+        !read_number(asked, &number) || (what == IS_SAFE && !is_one_of((long long)number, ANSI_STR_KEEP_LINKS + 1))) {
         return NULL;
     }
     text = text_of(given);
     pattern = text_of(sought);
     thread = let_others_run(text.size);
-    answer = ask(what, &text, &pattern, most);
+    answer = ask(what, &text, &pattern, number);
     run_alone(thread);
     if (answer.status != ANSI_STR_OK && answer.status != ANSI_STR_NO) {
         set_error(answer.status);
         return NULL;
     }
-    if (what <= IS_WHOLE) {
+    if (what <= IS_SAFE) {
         return PyBool_FromLong(answer.status == ANSI_STR_OK);
     }
     if (answer.status == ANSI_STR_NO) {

@@ -1,0 +1,55 @@
+//! The results of calls of safe output.
+use crate::check::Check;
+use crate::rows::Row;
+use ansi_safe::policy::{Links, Policy, Rest};
+use ansi_safe::safe::{is_safe, sanitize};
+use std::alloc::Allocator;
+
+#[derive(Clone, Copy)]
+pub enum SafeCall {
+    Sanitize(Policy),
+    IsSafe(Links),
+}
+
+fn rest_of(word: &str) -> Option<Rest> {
+    match word {
+        "Drop" => Some(Rest::Drop),
+        "Show" => Some(Rest::Show),
+        _ => None,
+    }
+}
+
+fn links_of(word: &str) -> Option<Links> {
+    match word {
+        "Keep" => Some(Links::Keep),
+        "Remove" => Some(Links::Remove),
+        _ => None,
+    }
+}
+
+/// The policy that begins at this argument of a row.
+fn policy_at(row: &Row<'_>, place: usize) -> Option<Policy> {
+    Some(Policy {
+        rest: rest_of(row.argument(place)?)?,
+        links: links_of(row.argument(place.saturating_add(1))?)?,
+    })
+}
+
+impl SafeCall {
+    pub fn new(row: &Row<'_>) -> Option<Self> {
+        Some(match row.call {
+            "sanitize" => SafeCall::Sanitize(policy_at(row, 0)?),
+            "is_safe" => SafeCall::IsSafe(links_of(row.argument(0)?)?),
+            _ => return None,
+        })
+    }
+}
+
+/// Checks what a call returns if it allocates from `heap`.
+pub fn make_safe_call_in<A: Allocator>(check: &mut Check<'_>, heap: A, call: SafeCall) {
+    let text = check.row.text;
+    match call {
+        SafeCall::Sanitize(policy) => check.text_or_err(sanitize(heap, text, policy)),
+        SafeCall::IsSafe(links) => check.test(is_safe(text, links)),
+    }
+}
