@@ -6,8 +6,8 @@ ghost use Rattle.ansi_items.specs.Sequences.{IsSequence};
 ghost use Rattle.ansi_safe.specs.Links.{address_of, link_at};
 ghost use Rattle.ansi_columns.specs.Addresses.{address_at};
 
-use ansi_safe::links::{address_of, link_after, terminator_len};
 use ansi_items::ansitok::{Kind, Scanner};
+use ansi_safe::links::{address_of, link_after, terminator_len};
 
 /// Like `AnsiColumns::ansi_link_at`; the address it returns lives as long as the text.
 ///

@@ -9,8 +9,8 @@ ghost use Rattle.ansi_safe.specs.Links.{link_end, longest_link_end};
 ghost use Rattle.ansi_columns.specs.Wrapped.{wrapped, IsWrappedLine};
 
 use crate::lines::first_line;
-use ansi_safe::links::{Pen, pen_after_from, plain_pen};
 use crate::walks::Walk;
+use ansi_safe::links::{Pen, pen_after_from, plain_pen};
 use ansi_search::search::PAST_THE_END;
 use ansi_slice::slice::{has_any, push_sequences};
 use ansi_style::styles;
