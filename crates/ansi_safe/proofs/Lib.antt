@@ -1,7 +1,6 @@
 pub mod LinkLemmas
 mod LinkExamples
 pub mod EndingLemmas
-pub mod PieceStepLemmas
 pub mod MadeLemmas
 pub mod AllowedLemmas
 pub mod SafeLemmas
