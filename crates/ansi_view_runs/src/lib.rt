@@ -1,0 +1,5 @@
+//! The program `ansi_view`: its words, what each line becomes, and a run over any devices.
+#![tactic(auto)]
+
+pub mod lines;
+pub mod view;
