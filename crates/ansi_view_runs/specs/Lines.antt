@@ -1,5 +1,5 @@
 -- The lines of an input, and the pieces of long ones.
-use Rattle.std.specs.Prelude.{◌≡◌, ℕ, zero, suc, ◌+◌, ◌-◌, ◌<◌, ◌==◌, Bool, false, List, [], ◌∷◌, length, take, drop, codes, nat_lt, slice_index, if◌then◌else◌}
+use Rattle.std.specs.Prelude.{◌≡◌, ℕ, zero, suc, ◌+◌, ◌-◌, ◌<◌, ◌==◌, Bool, false, not, ◌&&◌, List, [], ◌∷◌, length, take, drop, codes, nat_lt, slice_index, if◌then◌else◌}
 use Rattle.std.specs.Int.{is_in_range}
 use Rattle.std.specs.List.{position_or_len}
 use Rattle.std.specs.Str.{byte}
@@ -19,28 +19,26 @@ is_line_feed b = b == byte "\n"
 
 -- t has no line feed
 abbrev pub HasNoLineFeed : List ℕ → Type 0
-HasNoLineFeed t = (k : ℕ) → k < length t → is_line_feed (slice_index t k) ≡ false
+HasNoLineFeed t = position_or_len is_line_feed t ≡ length t
 
--- no character begins with a byte from 80 to BF (Unicode, table 3-7)
-abbrev pub is_inside : ℕ → Bool
-is_inside b = is_in_range 0x80 0xBF b
+-- a character may begin with any byte but 80 to BF (Unicode, table 3-7)
+abbrev pub may_begin : ℕ → Bool
+may_begin b = not (is_in_range 0x80 0xBF b)
 
 -- The first piece of a longer line is the longest that ends in front of a byte that may begin a character. A character has at
 -- most 4 bytes; so if each of 4 bytes can't begin one, no character has bytes on both sides of the last.
 abbrev pub piece_len : List ℕ → ℕ
 piece_len t =
-    if is_inside (slice_index t max_piece) then
-        (if is_inside (slice_index t (max_piece - 1)) then
-            (if is_inside (slice_index t (max_piece - 2)) then
-                (if is_inside (slice_index t (max_piece - 3)) then max_piece else max_piece - 3)
-            else max_piece - 2)
-        else max_piece - 1)
+    if may_begin (slice_index t max_piece) then max_piece
+    else if may_begin (slice_index t (max_piece - 1)) then max_piece - 1
+    else if may_begin (slice_index t (max_piece - 2)) then max_piece - 2
+    else if may_begin (slice_index t (max_piece - 3)) then max_piece - 3
     else max_piece
 
 -- the bytes in front of an end and those after it: t has a line feed at the place n, and a carriage return directly before it is part of the end
 abbrev pub split_end : ℕ → List ℕ → Line × List ℕ
 split_end n t =
-    if slice_index t (n - 1) == byte "\r" then (record { text = take (n - 1) t; end = codes "\r\n" }, drop (n + 1) t)
+    if nat_lt 0 n && slice_index t (n - 1) == byte "\r" then (record { text = take (n - 1) t; end = codes "\r\n" }, drop (n + 1) t)
     else (record { text = take n t; end = codes "\n" }, drop (n + 1) t)
 
 -- the first n bytes of t as a line or a piece without an end, and the bytes after them

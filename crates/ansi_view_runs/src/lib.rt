@@ -2,4 +2,7 @@
 #![tactic(auto)]
 
 pub mod lines;
+pub mod runs;
+pub mod stop;
 pub mod view;
+pub mod words;

@@ -69,11 +69,7 @@ fn clean<A: Allocator + Copy>(
 
 // The text of bytes, without its sequences if the view is plain. Bytes that aren't UTF-8 become
 // U+FFFD.
-fn decode<A: Allocator + Copy>(
-    alloc: A,
-    view: View,
-    bytes: &[u8],
-) -> Result<String<A>, AllocError>
+fn decode<A: Allocator + Copy>(alloc: A, view: View, bytes: &[u8]) -> Result<String<A>, AllocError>
     ensures { IfOk result (λ s. string_bytes s ≡ decoded view bytes.now) }
 {
     let text = String::from_utf8_lossy(alloc, bytes)?;
