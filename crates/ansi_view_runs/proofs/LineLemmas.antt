@@ -1,12 +1,12 @@
 -- The first line of an input, and the rest.
-use Rattle.std.proofs.Common.{◌≡◌, ◌≤◌, ◌<◌, ◌+◌, ◌-◌, ℕ, zero, suc, Bool, true, false, not, take, drop, List, [], ◌∷◌, ◌++◌, length, Option, None, Some, unwrap_or, refl, sym, ap, ◌∙◌, arith, inl, inr, get_or, slice_index, length-append, length-drop, if◌then◌else◌}
+use Rattle.std.proofs.Common.{◌≡◌, ◌≤◌, ◌<◌, ◌+◌, ◌-◌, ℕ, zero, suc, false, not, take, drop, List, [], ◌∷◌, ◌++◌, length, Option, None, Some, unwrap_or, refl, sym, ap, ◌∙◌, arith, inl, inr, slice_index, length-append, length-drop}
 use Rattle.std.specs.List.{position_or_len}
 use Rattle.std.specs.Prelude.{nat_lt, ◌==◌, ◌&&◌}
 use Rattle.std.proofs.lemmas.Bool.{false≢true, cases_Bool, ltb-true, ltb-false, lt-ltb, le-ltb, false_from_ne_true}
 use Rattle.std.proofs.lemmas.List.{take_all, drop_all, take-append-le, drop-append-le}
 use Rattle.std.proofs.lemmas.List.Sums.{position_or_len_is, fails_before_first, passes_at_first, prefix_len-le-length}
 use Rattle.memchr.specs.Find.{IsFirstByte, is_byte}
-use Rattle.ansi_view_runs.specs.Lines.{Line, HasNoLineFeed, max_piece, is_line_feed, may_begin, piece_len, split_end, split_unended, first_line, first_lines, lines}
+use Rattle.ansi_view_runs.specs.Lines.{Line, HasNoLineFeed, max_piece, is_line_feed, may_begin, piece_len, split_end, first_line, first_lines, lines}
 use Rattle.ansi_view_runs.specs.LineViews.{BeginsWithLine}
 
 -- a piece has at least a byte, and no more bytes than a piece may have

@@ -1,10 +1,10 @@
 -- What the program's words mean.
-use Rattle.std.specs.Prelude.{ℕ, Bool, false, true, not, ◌||◌, List, Option, String, codes, fold, map, string_bytes, if◌then◌else◌}
+use Rattle.std.specs.Prelude.{ℕ, Bool, false, true, not, ◌||◌, List, ◌++◌, Option, codes, fold, if◌then◌else◌}
 use Rattle.std.specs.List.{find}
 use Rattle.std.specs.Str.{bytes_eq}
 use Rattle.ansi_safe.specs.declared.policy.Links.TheVariants.{Keep, Remove}
-use Rattle.ansi_safe.specs.declared.policy.Policy.{Policy}
 use Rattle.ansi_safe.specs.declared.policy.Rest.TheVariants.{Drop, Show}
+use Rattle.ansi_safe.specs.Sanitized.{sanitized}
 use Rattle.ansi_view_runs.specs.declared.view.View.{View}
 
 -- `show`, `links` and `plain` are words of the program
@@ -30,3 +30,7 @@ with_word view word =
 -- what words ask for together
 abbrev pub view_asked : List (List ℕ) → View
 view_asked words = fold with_word first_view words
+
+-- a bad word is shown, made safe
+abbrev pub message_of_word : List ℕ → List ℕ
+message_of_word word = codes "bad word: " ++ sanitized (record { rest = Show; links = Remove }) word ++ codes "\n"

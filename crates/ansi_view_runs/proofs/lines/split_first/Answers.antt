@@ -1,4 +1,4 @@
-use Rattle.std.proofs.Common.{◌≡◌, ◌<◌, ◌∙◌, sym, subst, arith, not, List, ℕ}
+use Rattle.std.proofs.Common.{◌<◌, ◌∙◌, sym, subst, arith, not, List, ℕ}
 use Rattle.std.specs.List.{position_or_len}
 use Rattle.std.proofs.lemmas.List.Sums.{prefix_len-le-length}
 use Rattle.ansi_view_runs.specs.Lines.{Line, is_line_feed, max_piece, split_end}

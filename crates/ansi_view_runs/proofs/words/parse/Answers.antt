@@ -1,4 +1,4 @@
-use Rattle.std.proofs.Common.{◌≡◌, ◌∙◌, sym, ap, rules, drop, ◌+◌, ◌∷◌, Some}
+use Rattle.std.proofs.Common.{◌∙◌, sym, ap, drop, ◌+◌}
 use Rattle.ansi_lines_runs.specs.Runs.{words_of}
 use Rattle.ansi_lines_runs.proofs.WordLemmas.{words_of-next}
 use Rattle.ansi_view_runs.specs.Words.{bad_word}
