@@ -1,5 +1,6 @@
 //! What a line becomes.
 ghost use Rattle.std.specs.Prelude.{◌≡◌, [], IfOk, IsTrue, OnOk, string_bytes};
+ghost use Rattle.std.specs.Str.{IsUtf8};
 ghost use Rattle.ansi_safe.specs.Links.{IsClosed};
 ghost use Rattle.ansi_safe.specs.Safe.{is_safe};
 ghost use Rattle.ansi_view_runs.specs.Views.{decoded, opening_of, opening_after, viewed, body};
@@ -41,11 +42,32 @@ pub fn view_line<A: Allocator + Copy>(
     if line.text.is_empty() {
         return String::from_str(alloc, line.end);
     }
-    let mut made = clean(alloc, view, opening.as_str(), line.text)?;
+    let mut made = view_text(alloc, view, opening, line.text)?;
+    made.push_str(line.end)?;
+    Ok(made)
+}
+
+/// What the text of a line becomes: a safe text that ends what it leaves open.
+///
+/// `opening` is what is open before it, and then what it leaves open. `Err` means out of memory;
+/// `opening` may then be anything.
+pub fn view_text<A: Allocator + Copy>(
+    alloc: A,
+    view: View,
+    opening: &mut String<A>,
+    text: &[u8],
+) -> Result<String<A>, AllocError>
+    ensures bytes { IfOk result (λ s. string_bytes s
+        ≡ sanitized view.policy (body view (string_bytes opening.old) text.now)) }
+    ensures safe { IfOk result (λ s. IsTrue (is_safe view.policy.links (string_bytes s))) }
+    ensures closed { IfOk result (λ s. IsClosed (string_bytes s)) }
+    ensures opening { OnOk result (string_bytes opening.new
+        ≡ opening_of (cleaned view.policy (body view (string_bytes opening.old) text.now))) }
+{
+    let mut made = clean(alloc, view, opening.as_str(), text)?;
     *opening = opening_after(alloc, made.as_str())?;
     let ending = Ending::of(made.as_str());
     ending.push_to(&mut made)?;
-    made.push_str(line.end)?;
     Ok(made)
 }
 
@@ -56,13 +78,15 @@ fn clean<A: Allocator + Copy>(
     opening: &str,
     text: &[u8],
 ) -> Result<String<A>, AllocError>
-    ensures { IfOk result (λ s. string_bytes s ≡ cleaned view.policy (body view opening.now text.now)) }
+    ensures bytes { IfOk result (λ s. string_bytes s
+        ≡ cleaned view.policy (body view opening.now text.now)) }
+    ensures utf8 { OnOk result (IsUtf8 (body view opening.now text.now)) }
 {
     let text = decode(alloc, view, text)?;
     let mut body = String::with_capacity(alloc, opening.len())?;
     body.push_str(opening)?;
     body.push_str(text.as_str())?;
-    let mut made = String::with_capacity(alloc, body.len())?;
+    let mut made = String::with_capacity(alloc, body.len() + LONGEST_ENDING)?;
     push_cleaned(&mut made, body.as_str(), view.policy)?;
     Ok(made)
 }
