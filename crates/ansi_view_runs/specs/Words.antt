@@ -15,11 +15,11 @@ is_word word = bytes_eq word (codes "show") || (bytes_eq word (codes "links") ||
 abbrev pub bad_word : List (List ℕ) → Option (List ℕ)
 bad_word words = find (λ word. not (is_word word)) words
 
--- without a word, what may not stand is left out, links too, and sequences aren't stripped
+-- without a word, what isn't allowed is left out, links too, and sequences aren't stripped
 abbrev pub first_view : View
 first_view = record { policy = record { rest = Drop; links = Remove }; plain = false }
 
--- what a word asks for: `show` that what may not stand is shown, `links` that clean links stay, `plain` that sequences are stripped first
+-- what a word asks for: `show` that what isn't allowed is shown, `links` that clean links stay, `plain` that sequences are stripped first
 abbrev pub with_word : View → List ℕ → View
 with_word view word =
     if bytes_eq word (codes "show") then record view { policy = record view.policy { rest = Show } }

@@ -18,7 +18,7 @@ use std::alloc::{AllocError, Allocator};
 /// What a run makes of its input.
 #[derive(Clone, Copy, Debug, PartialEq, Eq)]
 pub struct View {
-    /// What is made of what may not stand in a safe text, and of links.
+    /// What is made of what isn't allowed in a safe text, and of links.
     pub policy: Policy,
     /// Whether each line's sequences are stripped first.
     pub plain: bool,
