@@ -7,6 +7,7 @@ mod edits;
 mod library;
 mod parts;
 mod ranges;
+mod safe;
 mod scanner;
 mod slices;
 mod styles;

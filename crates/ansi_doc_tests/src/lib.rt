@@ -1,4 +1,4 @@
-//! The examples of the docs of `ansi_str` and of `ansi_columns`, as tests.
+//! The examples of the docs of `ansi_str`, `ansi_safe` and `ansi_columns`, as tests.
 #![tactic(auto)]
 
 #[cfg(test)]

@@ -1,4 +1,4 @@
--- The styled bytes of a text of which what may not stand is left out.
+-- The styled bytes of a text of which what isn't allowed is left out.
 use Rattle.std.proofs.Common.{◌≡◌, ℕ, suc, Bool, true, false, ◌&&◌, List, [], ◌∷◌, ◌++◌, flat_map, map, length, chars, encode_utf8, encode_utf8_all, if◌then◌else◌, refl, sym, ◌∙◌, ap, ap₂, subst, arith, append-nil, length-append}
 use Rattle.std.specs.Prelude.{replicate}
 use Rattle.std.specs.Str.{IsUtf8}
@@ -23,8 +23,8 @@ use Rattle.ansi_safe.specs.declared.policy.Links.{Links}
 use Rattle.ansi_safe.specs.declared.policy.Policy.{Policy}
 use Rattle.ansi_safe.specs.declared.policy.Rest.TheVariants.{Drop}
 use Rattle.ansi_safe.specs.Links.{link_of, ending}
-use Rattle.ansi_safe.specs.Safe.{may_stand, all_may_stand, keeps_links, is_clean_link, may_stay}
-use Rattle.ansi_safe.specs.Sanitized.{instead, made_of_run, made_of, sanitized, standing_bytes, standing, marked}
+use Rattle.ansi_safe.specs.Safe.{is_allowed, all_allowed, keeps_links, is_clean_link, may_stay}
+use Rattle.ansi_safe.specs.Sanitized.{instead, made_of_run, made_of, sanitized, allowed_bytes, allowed, marked}
 use Rattle.ansi_safe.proofs.SafeLemmas.{good_stand, left, cleaned_pieces, cleaned-good, spelled-cleaned_pieces, link_end_pieces, ending_pieces, ended_pieces, ended-good, spelled-ended_pieces, piece_and_rest}
 use Rattle.ansi_items.specs.Plain.{marks}
 
@@ -57,30 +57,30 @@ marked-map f (b ∷ bs) (x ∷ xs) = by b (marked-map f bs xs)
 
 -- What stays of a run is its marked bytes.
 
-length-standing_bytes : (cs : List ℕ) → length (standing_bytes cs) ≡ length (encode_utf8_all cs)
-length-standing_bytes [] = refl
-length-standing_bytes (c ∷ cs) =
-    omega (arith, length-append (replicate (length (encode_utf8 c)) (may_stand c cs)) (standing_bytes cs), length-replicate (length (encode_utf8 c)) (may_stand c cs), length-append (encode_utf8 c) (encode_utf8_all cs), length-standing_bytes cs)
+length-allowed_bytes : (cs : List ℕ) → length (allowed_bytes cs) ≡ length (encode_utf8_all cs)
+length-allowed_bytes [] = refl
+length-allowed_bytes (c ∷ cs) =
+    omega (arith, length-append (replicate (length (encode_utf8 c)) (is_allowed c cs)) (allowed_bytes cs), length-replicate (length (encode_utf8 c)) (is_allowed c cs), length-append (encode_utf8 c) (encode_utf8_all cs), length-allowed_bytes cs)
 
-marked-run : (cs : List ℕ) → marked (standing_bytes cs) (encode_utf8_all cs) ≡ encode_utf8_all (made_of_run Drop cs)
+marked-run : (cs : List ℕ) → marked (allowed_bytes cs) (encode_utf8_all cs) ≡ encode_utf8_all (made_of_run Drop cs)
 marked-run [] = refl
-marked-run (c ∷ cs) = marked-all (may_stand c cs) (standing_bytes cs) (encode_utf8 c) (encode_utf8_all cs) ∙ by (may_stand c cs) (marked-run cs)
+marked-run (c ∷ cs) = marked-all (is_allowed c cs) (allowed_bytes cs) (encode_utf8 c) (encode_utf8_all cs) ∙ by (is_allowed c cs) (marked-run cs)
   where
-    by : (b : Bool) → marked (standing_bytes cs) (encode_utf8_all cs) ≡ encode_utf8_all (made_of_run Drop cs) → (if b then encode_utf8 c else []) ++ marked (standing_bytes cs) (encode_utf8_all cs) ≡ encode_utf8_all ((if b then c ∷ [] else []) ++ made_of_run Drop cs)
+    by : (b : Bool) → marked (allowed_bytes cs) (encode_utf8_all cs) ≡ encode_utf8_all (made_of_run Drop cs) → (if b then encode_utf8 c else []) ++ marked (allowed_bytes cs) (encode_utf8_all cs) ≡ encode_utf8_all ((if b then c ∷ [] else []) ++ made_of_run Drop cs)
     by true later = ap (λ v. encode_utf8 c ++ v) later
     by false later = later
 
-made_of_run-standing : (cs : List ℕ) → all_may_stand cs ≡ true → made_of_run Drop cs ≡ cs
+made_of_run-standing : (cs : List ℕ) → all_allowed cs ≡ true → made_of_run Drop cs ≡ cs
 made_of_run-standing [] stand = refl
 made_of_run-standing (c ∷ cs) stand =
-    let both = and_parts (may_stand c cs) (all_may_stand cs) stand in
+    let both = and_parts (is_allowed c cs) (all_allowed cs) stand in
     ap (λ b. (if b then c ∷ [] else []) ++ made_of_run Drop cs) both.0 ∙ ap (λ v. c ∷ v) (made_of_run-standing cs both.1)
 
 -- the bytes that a run becomes
-run_becomes : (links : Links) (w : List ℕ) (b : Bool) → IsUtf8 w → may_stay links (Text w) ≡ b → (if b then w else encode_utf8_all (made_of_run Drop (chars w))) ≡ marked (standing_bytes (chars w)) w
+run_becomes : (links : Links) (w : List ℕ) (b : Bool) → IsUtf8 w → may_stay links (Text w) ≡ b → (if b then w else encode_utf8_all (made_of_run Drop (chars w))) ≡ marked (allowed_bytes (chars w)) w
 run_becomes links w true utf8 stays =
-    sym (ap (marked (standing_bytes (chars w))) (sym (encodes-chars w utf8)) ∙ marked-run (chars w) ∙ ap encode_utf8_all (made_of_run-standing (chars w) stays) ∙ encodes-chars w utf8)
-run_becomes links w false utf8 goes = sym (ap (marked (standing_bytes (chars w))) (sym (encodes-chars w utf8)) ∙ marked-run (chars w))
+    sym (ap (marked (allowed_bytes (chars w))) (sym (encodes-chars w utf8)) ∙ marked-run (chars w) ∙ ap encode_utf8_all (made_of_run-standing (chars w) stays) ∙ encodes-chars w utf8)
+run_becomes links w false utf8 goes = sym (ap (marked (allowed_bytes (chars w))) (sym (encodes-chars w utf8)) ∙ marked-run (chars w))
 
 -- Piece by piece.
 
@@ -101,11 +101,11 @@ style_through-one_text s (b ∷ bs) = refl
 
 -- what is left of a piece has its marked bytes, and leads to the same style
 record LeavesMarked (links : Links) (s : Rendition) (p : Piece) : Type 0 where
-  bytes : styled_through s (left (dropping links) p) ≡ marked (standing_bytes (chars (plain_bytes p))) (in_style s (plain_bytes p))
+  bytes : styled_through s (left (dropping links) p) ≡ marked (allowed_bytes (chars (plain_bytes p))) (in_style s (plain_bytes p))
   after : style_through s (left (dropping links) p) ≡ style_through s (p ∷ [])
 
-marked-none : (s : Rendition) → marked (standing_bytes (chars [])) (in_style s []) ≡ []
-marked-none s = ap (λ cs. marked (standing_bytes cs) (in_style s [])) chars-nil
+marked-none : (s : Rendition) → marked (allowed_bytes (chars [])) (in_style s []) ≡ []
+marked-none s = ap (λ cs. marked (allowed_bytes cs) (in_style s [])) chars-nil
 
 -- what is left of a piece, by whether it may stay
 abbrev left_by : Piece → Bool → List Piece
@@ -126,7 +126,7 @@ left_of-text links s w utf8 = by (may_stay links (Text w)) refl
     by b is =
         let same : left (dropping links) (Text w) ≡ left_by (Text w) b = ap (left_by (Text w)) is in
         record {
-          bytes = ap (styled_through s) same ∙ bytes_by b ∙ ap (in_style s) (run_becomes links w b utf8 is) ∙ sym (marked-map (styled_byte s) (standing_bytes (chars w)) w);
+          bytes = ap (styled_through s) same ∙ bytes_by b ∙ ap (in_style s) (run_becomes links w b utf8 is) ∙ sym (marked-map (styled_byte s) (allowed_bytes (chars w)) w);
           after = ap (style_through s) same ∙ after_by b;
         }
 
@@ -159,8 +159,8 @@ left_of-piece links s (Text w) utf8 = left_of-text links s w utf8
 left_of-piece links s (Sequence w) utf8 = left_of-sequence links s w
 left_of-piece links s LoneEscape utf8 = left_of-lone links s
 
-abbrev standing_of : List Piece → List Bool
-standing_of ps = flat_map (λ p. standing_bytes (chars (plain_bytes p))) ps
+abbrev allowed_of : List Piece → List Bool
+allowed_of ps = flat_map (λ p. allowed_bytes (chars (plain_bytes p))) ps
 
 styled_through-cons : (s : Rendition) (p : Piece) (ps : List Piece) → styled_through s (p ∷ ps) ≡ in_style s (plain_bytes p) ++ styled_through (style_through s (p ∷ [])) ps
 styled_through-cons s (Text w) ps = refl
@@ -176,19 +176,19 @@ plain_bytes-utf8 (Text w) utf8 = encodes-chars w utf8
 plain_bytes-utf8 (Sequence w) utf8 = ap encode_utf8_all chars-nil
 plain_bytes-utf8 LoneEscape utf8 = ap encode_utf8_all chars-nil
 
-lefts-marked : (links : Links) (s : Rendition) (t : List ℕ) (ps : List Piece) → ArePieces t ps → IsUtf8 t → styled_through s (flat_map (left (dropping links)) ps) ≡ marked (standing_of ps) (styled_through s ps)
+lefts-marked : (links : Links) (s : Rendition) (t : List ℕ) (ps : List Piece) → ArePieces t ps → IsUtf8 t → styled_through s (flat_map (left (dropping links)) ps) ≡ marked (allowed_of ps) (styled_through s ps)
 lefts-marked links s t [] are utf8 = refl
 lefts-marked links s t (p ∷ ps) are utf8 =
     let both = piece_and_rest p are.0 are.2 (subst IsUtf8 are.1 utf8) in
     let here = left_of-piece links s p both.0 in
-    let mine = standing_bytes (chars (plain_bytes p)) in
+    let mine = allowed_bytes (chars (plain_bytes p)) in
     let next = style_through s (p ∷ []) in
     let count : length mine ≡ length (in_style s (plain_bytes p))
-    = length-standing_bytes (chars (plain_bytes p)) ∙ ap length (plain_bytes-utf8 p both.0) ∙ sym (length-in_style s (plain_bytes p)) in
+    = length-allowed_bytes (chars (plain_bytes p)) ∙ ap length (plain_bytes-utf8 p both.0) ∙ sym (length-in_style s (plain_bytes p)) in
     styled_through-append s (left (dropping links) p) (flat_map (left (dropping links)) ps)
     ∙ ap₂ ◌++◌ here.bytes (ap (λ q. styled_through q (flat_map (left (dropping links)) ps)) here.after ∙ lefts-marked links next are.0 ps are.3 both.1)
-    ∙ sym (marked-append mine (standing_of ps) (in_style s (plain_bytes p)) (styled_through next ps) count)
-    ∙ ap (marked (mine ++ standing_of ps)) (sym (styled_through-cons s p ps))
+    ∙ sym (marked-append mine (allowed_of ps) (in_style s (plain_bytes p)) (styled_through next ps) count)
+    ∙ ap (marked (mine ++ allowed_of ps)) (sym (styled_through-cons s p ps))
 
 -- What ends what is open has no plain bytes.
 
@@ -202,7 +202,7 @@ styled_through-ending s t =
     let xs = close_codes (style_after t) in
     styled_through-append s (link_end_pieces link) (code_pieces xs) ∙ ap₂ ◌++◌ (styled_through-link_end s link) (styled_through-codes (style_through s (link_end_pieces link)) xs)
 
-pub sanitized-characters : (links : Links) (t : List ℕ) → IsUtf8 t → styled (sanitized (record { rest = Drop; links = links }) t) ≡ marked (standing t) (styled t)
+pub sanitized-characters : (links : Links) (t : List ℕ) → IsUtf8 t → styled (sanitized (record { rest = Drop; links = links }) t) ≡ marked (allowed t) (styled t)
 sanitized-characters links t utf8 =
     let policy = dropping links in
     let ps = cleaned_pieces policy t in
@@ -211,4 +211,4 @@ sanitized-characters links t utf8 =
     let spells : spelled all ≡ sanitized policy t = spelled-ended_pieces ps ∙ ap (λ u. u ++ ending u) (spelled-cleaned_pieces policy t) in
     ap styled (sym spells) ∙ styled-spelled all (good_stand links all (ended-good links ps good)) ∙ styled_through-append plain_style ps (ending_pieces (spelled ps))
     ∙ ap (λ v. styled_through plain_style ps ++ v) (styled_through-ending (style_through plain_style ps) (spelled ps)) ∙ append-nil (styled_through plain_style ps)
-    ∙ lefts-marked links plain_style t (pieces_of t) (pieces_are t) utf8 ∙ ap (marked (standing t)) (sym (styled-pieces t))
+    ∙ lefts-marked links plain_style t (pieces_of t) (pieces_are t) utf8 ∙ ap (marked (allowed t)) (sym (styled-pieces t))

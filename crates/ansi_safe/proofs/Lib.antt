@@ -1,8 +1,10 @@
 pub mod LinkLemmas
 mod LinkExamples
 pub mod EndingLemmas
-pub mod PieceStepLemmas
 pub mod MadeLemmas
-pub mod StandLemmas
+pub mod AllowedLemmas
 pub mod SafeLemmas
 pub mod CharacterLemmas
+pub mod PrintableLemmas
+pub mod LengthLemmas
+mod SafeExamples

@@ -1,25 +1,15 @@
--- What is made of characters, and of a text that is safe.
-use Rattle.std.proofs.Common.{not, ◌≡◌, ℕ, true, false, List, [], ◌∷◌, ◌++◌, flat_map, encode_utf8_all, if◌then◌else◌, refl, sym, ◌∙◌, ap, append_assoc, append-nil}
+-- What is made of a text that is safe.
+use Rattle.std.proofs.Common.{not, ◌≡◌, ℕ, true, List, [], ◌∷◌, ◌++◌, flat_map, encode_utf8_all, if◌then◌else◌, refl, ◌∙◌, ap, append-nil}
 use Rattle.std.specs.List.{list_all}
 use Rattle.std.proofs.lemmas.Bool.{and_from, and_parts}
-use Rattle.std.proofs.lemmas.Str.{encodes-append}
 use Rattle.ansi_items.specs.Pieces.{Piece, Text, Sequence, LoneEscape, spelling, pieces_of}
 use Rattle.ansi_items.specs.Plain.{is_lone, are_whole, is_whole}
 use Rattle.ansi_items.proofs.JoinLemmas.{spelled-pieces_of}
 use Rattle.ansi_safe.specs.declared.policy.Links.{Links}
 use Rattle.ansi_safe.specs.declared.policy.Policy.{Policy}
-use Rattle.ansi_safe.specs.declared.policy.Rest.{Rest}
 use Rattle.ansi_safe.specs.Links.{ending}
-use Rattle.ansi_safe.specs.Safe.{may_stand, may_stay, is_safe}
-use Rattle.ansi_safe.specs.Sanitized.{instead, made_of_run, made_of, becomes, cleaned, sanitized}
-
--- a step over a character that may not stand where it is
-pub made-instead : (rest : Rest) (out next goal : List ℕ) (c : ℕ) (cs : List ℕ) → may_stand c cs ≡ false
-    → out ++ encode_utf8_all (made_of_run rest (c ∷ cs)) ≡ goal → next ≡ out ++ encode_utf8_all (instead rest c) → next ++ encode_utf8_all (made_of_run rest cs) ≡ goal
-made-instead rest out next goal c cs not_here so_far written =
-    let made : made_of_run rest (c ∷ cs) ≡ instead rest c ++ made_of_run rest cs = ap (λ b. (if b then c ∷ [] else instead rest c) ++ made_of_run rest cs) not_here in
-    ap (λ u. u ++ encode_utf8_all (made_of_run rest cs)) written ∙ append_assoc out (encode_utf8_all (instead rest c)) (encode_utf8_all (made_of_run rest cs))
-    ∙ ap (λ v. out ++ v) (sym (encodes-append (instead rest c) (made_of_run rest cs)) ∙ ap encode_utf8_all (sym made)) ∙ so_far
+use Rattle.ansi_safe.specs.Safe.{may_stay, is_safe}
+use Rattle.ansi_safe.specs.Sanitized.{made_of, becomes, cleaned, sanitized}
 
 -- A safe text is what its pieces become.
 

@@ -36,9 +36,9 @@ use Rattle.std.proofs.lemmas.List.Folds.{list_all-append}
 use Rattle.ansi_safe.specs.declared.policy.Links.{Links}
 use Rattle.ansi_safe.specs.declared.policy.Policy.{Policy}
 use Rattle.ansi_safe.specs.declared.policy.Rest.{Rest}
-use Rattle.ansi_safe.specs.Safe.{may_stand, all_may_stand, keeps_links, is_clean_link, may_stay, is_safe}
+use Rattle.ansi_safe.specs.Safe.{is_allowed, all_allowed, keeps_links, is_clean_link, may_stay, is_safe}
 use Rattle.ansi_safe.specs.Sanitized.{made_of, becomes, cleaned, sanitized}
-use Rattle.ansi_safe.proofs.StandLemmas.{AreStanding, instead_of_all-stands, made_of_run-stands, all_may_stand-append}
+use Rattle.ansi_safe.proofs.AllowedLemmas.{AreAllowed, instead_of_all-stands, made_of_run-stands, all_allowed-append}
 
 -- The pieces of a UTF-8 text are UTF-8.
 
@@ -54,7 +54,7 @@ piece_and_rest p rest stands utf8 =
 -- A piece is good if it may stay, and may come before anything.
 
 abbrev pub IsGood : Links → Piece → Type 0
-IsGood links (Text w) = (w ≢ []) × IsTrue (list_all is_plain_byte w) × IsUtf8 w × (all_may_stand (chars w) ≡ true)
+IsGood links (Text w) = (w ≢ []) × IsTrue (list_all is_plain_byte w) × IsUtf8 w × (all_allowed (chars w) ≡ true)
 IsGood links (Sequence w) = IsSequence w × (may_stay links (Sequence w) ≡ true)
 IsGood links LoneEscape = ⊥
 
@@ -72,10 +72,10 @@ good_stand links (Sequence w ∷ ps) good = (good.0.0, good_stand links ps good.
 good_stand links (LoneEscape ∷ ps) good = absurd good.0
 
 -- texts that touch may be joined
-may_stay-after_text : (links : Links) (w : List ℕ) (ps : List Piece) → IsUtf8 w → all_may_stand (chars w) ≡ true → list_all (may_stay links) ps ≡ true → list_all (may_stay links) (after_text w ps) ≡ true
+may_stay-after_text : (links : Links) (w : List ℕ) (ps : List Piece) → IsUtf8 w → all_allowed (chars w) ≡ true → list_all (may_stay links) ps ≡ true → list_all (may_stay links) (after_text w ps) ≡ true
 may_stay-after_text links w (Text v ∷ ps) utf8 stands all =
     let both = and_parts (may_stay links (Text v)) (list_all (may_stay links) ps) all in
-    and_from _ _ (ap all_may_stand (chars-append w v utf8) ∙ all_may_stand-append (chars w) (chars v) stands both.0) both.1
+    and_from _ _ (ap all_allowed (chars-append w v utf8) ∙ all_allowed-append (chars w) (chars v) stands both.0) both.1
 may_stay-after_text links w [] utf8 stands all = and_from _ _ stands all
 may_stay-after_text links w (Sequence v ∷ ps) utf8 stands all = and_from _ _ stands all
 may_stay-after_text links w (LoneEscape ∷ ps) utf8 stands all = and_from _ _ stands all
@@ -92,21 +92,21 @@ good_are_safe links ps good = ap (list_all (may_stay links)) (pieces_of-spelled 
 
 -- What a piece becomes, as good pieces.
 
-no_escape : (c : ℕ) (cs : List ℕ) → may_stand c cs ≡ true → c ≢ 0x1B
-no_escape c cs here = λ is. (let never : may_stand 0x1B cs ≡ true = subst (λ x. may_stand x cs ≡ true) is here in cc never)
+no_escape : (c : ℕ) (cs : List ℕ) → is_allowed c cs ≡ true → c ≢ 0x1B
+no_escape c cs here = λ is. (let never : is_allowed 0x1B cs ≡ true = subst (λ x. is_allowed x cs ≡ true) is here in cc never)
 
 encode-plain : (c : ℕ) → c ≢ 0x1B → list_all is_plain_byte (encode_utf8 c) ≡ true
 unfolding lib.Utf8.encode
 encode-plain c other = grind (arith, nat_tests)
 
-standing-plain : (cs : List ℕ) → all_may_stand cs ≡ true → list_all is_plain_byte (encode_utf8_all cs) ≡ true
+standing-plain : (cs : List ℕ) → all_allowed cs ≡ true → list_all is_plain_byte (encode_utf8_all cs) ≡ true
 standing-plain [] stand = refl
 standing-plain (c ∷ cs) stand =
-    let both = and_parts (may_stand c cs) (all_may_stand cs) stand in
+    let both = and_parts (is_allowed c cs) (all_allowed cs) stand in
     list_all-append is_plain_byte (encode_utf8 c) (encode_utf8_all cs) ∙ and_from _ _ (encode-plain c (no_escape c cs both.0)) (standing-plain cs both.1)
 
--- characters that may stand are one good text, or nothing
-good_text : (links : Links) (cs : List ℕ) → AreStanding cs → AreGood links (one_text (encode_utf8_all cs))
+-- characters that are allowed are one good text, or nothing
+good_text : (links : Links) (cs : List ℕ) → AreAllowed cs → AreGood links (one_text (encode_utf8_all cs))
 good_text links cs are = by (encode_utf8_all cs) refl
   where
     by : (w : List ℕ) → encode_utf8_all cs ≡ w → AreGood links (one_text w)
@@ -114,7 +114,7 @@ good_text links cs are = by (encode_utf8_all cs) refl
     by (b ∷ bs) is =
         let filled : (b ∷ bs) ≢ [] = λ e. cc in
         let plain = subst (λ w. list_all is_plain_byte w ≡ true) is (standing-plain cs are.stand) in
-        let stands = ap all_may_stand (ap chars (sym is) ∙ chars-encodes cs are.scalar) ∙ are.stand in
+        let stands = ap all_allowed (ap chars (sym is) ∙ chars-encodes cs are.scalar) ∙ are.stand in
         ((filled, plain, (cs, (are.scalar, is)), stands), tt)
 
 spelled-one_text : (w : List ℕ) → spelled (one_text w) ≡ w
@@ -131,7 +131,7 @@ spelled-left policy p = by (may_stay policy.links p)
     by true = append-nil (spelling p)
     by false = spelled-one_text (encode_utf8_all (made_of policy.rest p))
 
-made_of-stands : (rest : Rest) (p : Piece) → IsUtf8 (spelling p) → AreStanding (made_of rest p)
+made_of-stands : (rest : Rest) (p : Piece) → IsUtf8 (spelling p) → AreAllowed (made_of rest p)
 made_of-stands rest (Text w) utf8 = made_of_run-stands rest (chars w) (scalars-chars w utf8)
 made_of-stands rest (Sequence w) utf8 = instead_of_all-stands rest (chars w) (scalars-chars w utf8)
 made_of-stands rest LoneEscape utf8 = instead_of_all-stands rest (chars (spelling LoneEscape)) (scalars-chars (spelling LoneEscape) utf8)

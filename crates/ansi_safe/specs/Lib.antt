@@ -1,3 +1,4 @@
 pub mod Links
 pub mod Safe
 pub mod Sanitized
+pub mod Cells

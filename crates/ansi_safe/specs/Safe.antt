@@ -1,4 +1,4 @@
--- What may stand in a safe text.
+-- What is allowed in a safe text.
 use Rattle.std.specs.Prelude.{ℕ, ◌-◌, ◌==◌, Bool, true, false, not, ◌&&◌, ◌||◌, List, [], ◌∷◌, length, slice_index, slice_range, nat_lt, chars}
 use Rattle.std.specs.Int.{is_in_range}
 use Rattle.std.specs.List.{list_all}
@@ -21,27 +21,31 @@ is_bidi_control c = is_in_range 0x202A 0x202E c || is_in_range 0x2066 0x2069 c
 abbrev pub is_printing : ℕ → Bool
 is_printing c = not (is_control c || is_bidi_control c)
 
--- in front of these characters of its run a printing character may stand, a TAB, a line feed, and a carriage return directly before a line feed (own)
-abbrev pub may_stand : ℕ → List ℕ → Bool
-may_stand c after = is_printing c || (c == byte "\t" || (c == byte "\n" || (c == byte "\r" && slice_index after 0 == byte "\n")))
+-- in front of these characters of its run a printing character is allowed, a TAB, a line feed, and a carriage return directly before a line feed (own)
+abbrev pub is_allowed : ℕ → List ℕ → Bool
+is_allowed c after = is_printing c || (c == byte "\t" || (c == byte "\n" || (c == byte "\r" && slice_index after 0 == byte "\n")))
 
--- each of these characters of a run may stand where it is
-abbrev pub all_may_stand : List ℕ → Bool
-all_may_stand [] = true
-all_may_stand (c ∷ cs) = may_stand c cs && all_may_stand cs
+-- each of these characters of a run is allowed where it is
+abbrev pub all_allowed : List ℕ → Bool
+all_allowed [] = true
+all_allowed (c ∷ cs) = is_allowed c cs && all_allowed cs
 
 -- links are kept
 abbrev pub keeps_links : Links → Bool
 keeps_links Keep = true
 keeps_links Remove = false
 
+-- a printable byte of ASCII (ISO/IEC 646; U+0020 included)
+abbrev pub is_printable_byte : ℕ → Bool
+is_printable_byte b = is_in_range 0x20 0x7E b
+
 -- a link sequence is clean if each byte between its ESC `]` and its terminator is printable ASCII (OSC 8)
 abbrev pub is_clean_link : List ℕ → Bool
-is_clean_link w = is_link w && list_all (is_in_range 0x20 0x7E) (slice_range w 2 (length w - terminator_len w))
+is_clean_link w = is_link w && list_all is_printable_byte (slice_range w 2 (length w - terminator_len w))
 
--- a run may stay if each of its characters may stand where it is; an SGR may stay, and a clean link sequence if links are kept; no other sequence, and no lone escape
+-- a run may stay if each of its characters is allowed where it is; an SGR may stay, and a clean link sequence if links are kept; no other sequence, and no lone escape
 abbrev pub may_stay : Links → Piece → Bool
-may_stay links (Text w) = all_may_stand (chars w)
+may_stay links (Text w) = all_allowed (chars w)
 may_stay links (Sequence w) = is_sgr w || (keeps_links links && is_clean_link w)
 may_stay links LoneEscape = false
 

@@ -7,7 +7,7 @@ use Rattle.ansi_safe.specs.declared.policy.Policy.{Policy}
 use Rattle.ansi_safe.specs.declared.policy.Rest.{Rest}
 use Rattle.ansi_safe.specs.declared.policy.Rest.TheVariants.{Drop, Show}
 use Rattle.ansi_safe.specs.Links.{ending}
-use Rattle.ansi_safe.specs.Safe.{is_printing, may_stand, may_stay}
+use Rattle.ansi_safe.specs.Safe.{is_printing, is_allowed, may_stay}
 
 -- a hexadecimal digit
 abbrev pub hexadecimal : ℕ → ℕ
@@ -30,10 +30,10 @@ abbrev pub instead : Rest → ℕ → List ℕ
 instead Drop c = []
 instead Show c = shown c
 
--- what is made of the characters of a run: those that may stand where they are stay
+-- what is made of the characters of a run: those that are allowed where they are stay
 abbrev pub made_of_run : Rest → List ℕ → List ℕ
 made_of_run rest [] = []
-made_of_run rest (c ∷ cs) = (if may_stand c cs then c ∷ [] else instead rest c) ++ made_of_run rest cs
+made_of_run rest (c ∷ cs) = (if is_allowed c cs then c ∷ [] else instead rest c) ++ made_of_run rest cs
 
 -- what is made of the characters of a piece that may not stay as it is
 abbrev pub made_of : Rest → Piece → List ℕ
@@ -59,14 +59,14 @@ growth Show = 4
 
 -- Which plain bytes stay.
 
--- of each byte of these characters of a run, whether its character may stand where it is
-abbrev pub standing_bytes : List ℕ → List Bool
-standing_bytes [] = []
-standing_bytes (c ∷ cs) = replicate (length (encode_utf8 c)) (may_stand c cs) ++ standing_bytes cs
+-- of each byte of these characters of a run, whether its character is allowed where it is
+abbrev pub allowed_bytes : List ℕ → List Bool
+allowed_bytes [] = []
+allowed_bytes (c ∷ cs) = replicate (length (encode_utf8 c)) (is_allowed c cs) ++ allowed_bytes cs
 
--- of each plain byte of t, whether its character may stand where it is in its run
-abbrev pub standing : List ℕ → List Bool
-standing t = flat_map (λ p. standing_bytes (chars (plain_bytes p))) (pieces_of t)
+-- of each plain byte of t, whether its character is allowed where it is in its run
+abbrev pub allowed : List ℕ → List Bool
+allowed t = flat_map (λ p. allowed_bytes (chars (plain_bytes p))) (pieces_of t)
 
 -- the elements that are marked, if each has a mark
 abbrev pub marked : {X : Type 0} → List Bool → List X → List X

@@ -11,7 +11,7 @@ ghost use Rattle.ansi_safe.specs.declared.policy.Policy.{Policy};
 ghost use Rattle.ansi_safe.specs.declared.policy.Rest.TheVariants.{Drop};
 ghost use Rattle.ansi_safe.specs.Links.{ending, IsClosed};
 ghost use Rattle.ansi_safe.specs.Safe.{is_safe};
-ghost use Rattle.ansi_safe.specs.Sanitized.{sanitized, standing, marked};
+ghost use Rattle.ansi_safe.specs.Sanitized.{sanitized, allowed, marked};
 
 /// A safe text is whole.
 pub fn safe_is_whole()
@@ -35,10 +35,10 @@ pub fn safe_is_unchanged()
         sanitized policy t ≡ t ++ ending t }
 {}
 
-/// If what may not stand is dropped, the plain bytes that stay, each with its known style, are
-/// those of the characters that may stand where they are. Nothing else is lost.
+/// If what isn't allowed is dropped, the plain bytes that stay, each with its known style, are
+/// those of the characters that are allowed where they are. Nothing else is lost.
 pub fn characters_stay()
     ensures { (links : Links) (t : List ℕ) → IsUtf8 t →
         styled (sanitized (record { rest = Drop; links = links }) t)
-        ≡ marked (standing t) (styled t) }
+        ≡ marked (allowed t) (styled t) }
 {}

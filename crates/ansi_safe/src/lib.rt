@@ -5,9 +5,15 @@
 //! `CALLING.md` beside this folder says how a crate depends on this one and calls it.
 #![tactic(auto)]
 
+mod allowed;
+pub mod calls;
+pub mod cells;
 pub mod laws;
 pub mod links;
 pub mod policy;
+mod printable;
 pub mod safe;
 mod shown;
-mod standing;
+
+pub use calls::AnsiSafe;
+pub use policy::{Links, Policy, Rest};

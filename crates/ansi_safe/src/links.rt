@@ -51,6 +51,17 @@ impl<'t> Pen<'t> {
     {
         if self.link.is_empty() { "" } else { LINK_END }
     }
+
+    /// What ends the link and the style.
+    pub fn ending(&self) -> Ending
+        ensures link_end { result.link_end.now ≡ link_end self.now.link.now }
+        ensures style { result.style ≡ self.now.style }
+    {
+        Ending {
+            link_end: self.link_end(),
+            style: self.style,
+        }
+    }
 }
 
 /// The pen before a text: no style and no link is open.
@@ -122,32 +133,17 @@ pub fn terminator_len(sequence: &[u8]) -> usize
     if sequence.ends_with(b"\x07") { 1 } else { 2 }
 }
 
-/// What ends the link and the style that a text leaves open.
+/// What ends the link and the style of a pen.
 #[derive(Clone, Copy)]
 pub struct Ending {
-    link_end: &'static str,
-    style: Style,
+    pub link_end: &'static str,
+    pub style: Style,
 }
 
 impl Ending {
     ghost use Rattle.std.specs.Prelude.{◌≡◌, ◌==◌, ◌++◌, length, OnOk, string_bytes};
-    ghost use Rattle.ansi_items.specs.Plain.{marks};
     ghost use Rattle.ansi_style.specs.States.{rendition_of};
-    ghost use Rattle.ansi_style.specs.Styled.{style_after};
     ghost use Rattle.ansi_style.specs.Written.{close};
-    ghost use Rattle.ansi_safe.specs.Links.{link_of, link_end, ending};
-
-    /// What ends what this text leaves open. Doesn't allocate.
-    pub fn of(text: &str) -> Self
-        ensures link_end { result.link_end.now ≡ link_end (link_of (marks text.now)) }
-        ensures style { rendition_of result.style ≡ style_after text.now }
-    {
-        let pen = pen_after(text);
-        Ending {
-            link_end: pen.link_end(),
-            style: pen.style,
-        }
-    }
 
     /// Whether nothing is open.
     pub fn is_empty(&self) -> bool

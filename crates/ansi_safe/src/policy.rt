@@ -1,4 +1,4 @@
-//! What is made of the links of a text, and of what may not stand in a safe text.
+//! What is made of the links of a text, and of what isn't allowed in a safe text.
 
 /// What is made of the links of a text. (OSC 8; own.)
 ///
@@ -10,11 +10,11 @@
 pub enum Links {
     /// A link sequence stays if each byte between its `ESC ]` and its terminator is printable ASCII.
     Keep,
-    /// A link sequence is like any other sequence that may not stand in a safe text.
+    /// A link sequence is like any other sequence that isn't allowed in a safe text.
     Remove,
 }
 
-/// What is made of what may not stand in a safe text. (Own.)
+/// What is made of what isn't allowed in a safe text. (Own.)
 ///
 /// ```
 /// let policy = Policy { rest: Rest::Show, links: Links::Remove };
@@ -28,7 +28,7 @@ pub enum Rest {
     Show,
 }
 
-/// What is made of what may not stand in a safe text, and of its links. (Own.)
+/// What is made of what isn't allowed in a safe text, and of its links. (Own.)
 ///
 /// ```
 /// let policy = Policy { rest: Rest::Drop, links: Links::Remove };

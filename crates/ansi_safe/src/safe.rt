@@ -1,17 +1,23 @@
 //! Safe texts, and what makes any text one.
-ghost use Rattle.std.specs.Prelude.{◌≡◌, ◌↔◌, ◌++◌, [], IsTrue, IsOk, IfOk, OnOk, string_bytes};
+ghost use Rattle.std.specs.Prelude.{◌≡◌, ◌↔◌, ◌+◌, ◌*◌, ◌≤◌, ◌++◌, [], length, IsTrue, IsOk, IfOk, OnOk};
+ghost use Rattle.std.specs.Prelude.{IfSome, is_some, string_bytes};
 ghost use Rattle.std.specs.Cow.{cow_str_bytes, IsBorrowedStr};
 ghost use Rattle.ansi_items.specs.Pieces.{spelling};
 ghost use Rattle.ansi_items.specs.Scans.{kind_of, piece_of_kind};
-ghost use Rattle.ansi_safe.specs.Links.{ending, IsClosed};
+ghost use Rattle.ansi_items.specs.Plain.{marks};
+ghost use Rattle.ansi_style.specs.States.{rendition_of};
+ghost use Rattle.ansi_style.specs.Styled.{style_after};
+ghost use Rattle.ansi_style.specs.Written.{close, longest_close};
+ghost use Rattle.ansi_safe.specs.Links.{link_of, ending, IsClosed, longest_link_end};
 ghost use Rattle.ansi_safe.specs.Safe.{is_safe};
-ghost use Rattle.ansi_safe.specs.Sanitized.{becomes, cleaned, sanitized};
+ghost use Rattle.ansi_safe.specs.Sanitized.{becomes, cleaned, growth, sanitized};
 
-use crate::links::{Ending, LONGEST_ENDING};
+use crate::allowed::may_stay;
+use crate::links::{Ending, LONGEST_ENDING, Pen, link_after, pen_after};
 use crate::policy::{Links, Policy};
 use crate::shown::{push_instead_of_all, push_run};
-use crate::standing::may_stay;
 use ansi_items::ansitok::{Kind, Scanner};
+use ansi_style::styles::{self, plain_style};
 use std::alloc::{AllocError, Allocator};
 use std::borrow::CowStr;
 
@@ -23,12 +29,38 @@ use std::borrow::CowStr;
 pub fn is_safe(text: &str, links: Links) -> bool
     ensures { result ≡ is_safe links text.now }
 {
+    pen_after_safe(text, links).is_some()
+}
+
+/// The pen after a text, or `None` if the text isn't safe. Doesn't allocate.
+fn pen_after_safe(text: &str, links: Links) -> Option<Pen<'_>>
+    ensures none { is_some result ≡ is_safe links text.now }
+    ensures style { IfSome result (λ pen. rendition_of pen.style ≡ style_after text.now) }
+    ensures link { IfSome result (λ pen. pen.link.now ≡ link_of (marks text.now)) }
+{
+    let mut style = plain_style();
+    let mut link = "";
     for item in Scanner::new(text) {
-        if !may_stay(item.kind, &text[item.start..item.end], links) {
-            return false;
+        let piece = &text[item.start..item.end];
+        if !may_stay(item.kind, piece, links) {
+            return None;
+        }
+        if item.kind == Kind::Sgr {
+            styles::apply(&mut style, piece);
+        } else if item.kind == Kind::Other {
+            link = link_after(link, piece);
         }
     }
-    true
+    Some(Pen { style, link })
+}
+
+/// What ends what a text leaves open, or `None` if the text isn't safe. Doesn't allocate.
+fn ending_if_safe(text: &str, links: Links) -> Option<Ending>
+    ensures none { is_some result ≡ is_safe links text.now }
+    ensures bytes { IfSome result (λ e.
+        e.link_end.now ++ close (rendition_of e.style) ≡ ending text.now) }
+{
+    Some(pen_after_safe(text, links)?.ending())
 }
 
 /// Like `AnsiSafe::ansi_sanitize`, with a result that lives as long as the text, and with any
@@ -47,15 +79,31 @@ pub fn sanitize<'t, A: Allocator>(
     ensures bytes { IfOk result (λ c. cow_str_bytes c ≡ sanitized policy text.now) }
     ensures borrowed { IfOk result (λ c. IsBorrowedStr c
         ↔ (IsTrue (is_safe policy.links text.now) × (ending text.now ≡ []))) }
+    ensures len { IfOk result (λ c. length (cow_str_bytes c)
+        ≤ growth policy.rest * length text.now + longest_link_end + longest_close) }
     ensures takes_no_memory { IsTrue (is_safe policy.links text.now) × (ending text.now ≡ []) →
         IsOk result }
     ensures safe { IfOk result (λ c. IsTrue (is_safe policy.links (cow_str_bytes c))) }
     ensures closed { IfOk result (λ c. IsClosed (cow_str_bytes c)) }
 {
-    if is_safe(text, policy.links) && Ending::of(text).is_empty() {
+    let Some(ending) = ending_if_safe(text, policy.links) else {
+        return Ok(CowStr::Owned(write_sanitized(alloc, text, policy)?));
+    };
+    if ending.is_empty() {
         return Ok(CowStr::Borrowed(text));
     }
-    Ok(CowStr::Owned(write_sanitized(alloc, text, policy)?))
+    Ok(CowStr::Owned(write_ended(alloc, text, &ending)?))
+}
+
+/// A text and what ends it, written.
+fn write_ended<A: Allocator>(alloc: A, text: &str, ending: &Ending) -> Result<String<A>, AllocError>
+    ensures { IfOk result (λ s. string_bytes s
+        ≡ text.now ++ (ending.now.link_end.now ++ close (rendition_of ending.now.style))) }
+{
+    let mut out = String::with_capacity(alloc, text.len() + LONGEST_ENDING)?;
+    out.push_str(text)?;
+    ending.push_to(&mut out)?;
+    Ok(out)
 }
 
 /// A text made safe, written.
@@ -68,7 +116,7 @@ fn write_sanitized<A: Allocator>(
 {
     let mut out = String::with_capacity(alloc, text.len() + LONGEST_ENDING)?;
     push_cleaned(&mut out, text, policy)?;
-    let ending = Ending::of(out.as_str());
+    let ending = pen_after(out.as_str()).ending();
     ending.push_to(&mut out)?;
     Ok(out)
 }

@@ -1,10 +1,12 @@
-//! What is put in the place of characters that may not stand in a safe text.
-ghost use Rattle.std.specs.Prelude.{◌≡◌, ◌<◌, ◌++◌, OnOk, chars, encode_utf8_all, flat_map};
-ghost use Rattle.std.specs.Prelude.{string_bytes};
+//! What is put in the place of characters that aren't allowed in a safe text.
+ghost use Rattle.std.specs.Prelude.{◌≡◌, ◌<◌, ◌≤◌, ◌∷◌, ◌++◌, length, IfOk, OnOk, chars};
+ghost use Rattle.std.specs.Prelude.{encode_utf8_all, flat_map, string_bytes};
+ghost use Rattle.ansi_safe.specs.declared.policy.Rest.{Rest};
 ghost use Rattle.ansi_safe.specs.Sanitized.{hexadecimal, numbered, shown, instead, made_of_run};
 
+use crate::allowed::{is_allowed, is_printing, split_first};
 use crate::policy::Rest;
-use crate::standing::{is_printing, may_stand, split_first};
+use crate::printable::split_printable;
 use std::alloc::{AllocError, Allocator};
 
 /// Appends what is made of a run. `Err` means out of memory; what was appended before it stays.
@@ -16,16 +18,48 @@ pub(crate) fn push_run<A: Allocator>(
     ensures { OnOk result (string_bytes out.new
         ≡ string_bytes out.old ++ encode_utf8_all (made_of_run rest (chars run.now))) }
 {
-    let mut left = run;
+    let mut left = push_printable(out, run)?;
     while let Some((c, after)) = split_first(left) {
-        if may_stand(c, after) {
-            out.push(c)?;
-        } else {
-            push_instead(out, c, rest)?;
-        }
-        left = after;
+        push_made(out, c, after, rest)?;
+        left = push_printable(out, after)?;
     }
     Ok(())
+}
+
+/// Appends the printable ASCII that a run begins with, and returns what follows. `Err` means out
+/// of memory; what was appended before it stays.
+#[inline(always)]
+fn push_printable<'t, A: Allocator>(
+    out: &mut String<A>,
+    run: &'t str,
+) -> Result<&'t str, AllocError>
+    ensures written { IfOk result (λ after. (rest : Rest) →
+        string_bytes out.new ++ encode_utf8_all (made_of_run rest (chars after.now))
+        ≡ string_bytes out.old ++ encode_utf8_all (made_of_run rest (chars run.entry.now))) }
+    ensures shorter { IfOk result (λ after.
+        length (chars after.now) ≤ length (chars run.entry.now)) }
+{
+    let (printable, after) = split_printable(run);
+    out.push_str(printable)?;
+    Ok(after)
+}
+
+/// Appends what is made of a character of a run, in front of this text. `Err` means out of memory;
+/// what was appended before it stays.
+fn push_made<A: Allocator>(
+    out: &mut String<A>,
+    c: char,
+    after: &str,
+    rest: Rest,
+) -> Result<(), AllocError>
+    ensures { OnOk result (
+        string_bytes out.new ++ encode_utf8_all (made_of_run rest (chars after.now))
+        ≡ string_bytes out.old ++ encode_utf8_all (made_of_run rest (c ∷ chars after.now))) }
+{
+    if is_allowed(c, after) {
+        return out.push(c);
+    }
+    push_instead(out, c, rest)
 }
 
 /// Appends what is put in the place of each character. `Err` means out of memory; what was appended

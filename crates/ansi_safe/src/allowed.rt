@@ -1,11 +1,13 @@
-//! What may stand in a safe text.
-ghost use Rattle.std.specs.Prelude.{◌≡◌, ◌++◌, ◌∷◌, [], MatchOption, chars, encode_utf8};
+//! What is allowed in a safe text.
+ghost use Rattle.std.specs.Prelude.{◌≡◌, ◌≤◌, ◌++◌, ◌∷◌, [], length, MatchOption, chars};
+ghost use Rattle.std.specs.Prelude.{encode_utf8};
 ghost use Rattle.ansi_items.specs.Scans.{kind_of, piece_of_kind};
-ghost use Rattle.ansi_safe.specs.Safe.{is_printing, may_stand, all_may_stand, is_clean_link};
+ghost use Rattle.ansi_safe.specs.Safe.{is_printing, is_allowed, all_allowed, is_clean_link};
 ghost use Rattle.ansi_safe.specs.Safe.{may_stay};
 
 use crate::links::{address_of, terminator_len};
 use crate::policy::Links;
+use crate::printable::split_printable;
 use ansi_items::ansitok::Kind;
 
 /// Whether an item of this kind may stay.
@@ -14,7 +16,7 @@ pub(crate) fn may_stay(kind: Kind, piece: &str, links: Links) -> bool
     ensures { result ≡ may_stay links (piece_of_kind kind piece.now) }
 {
     match kind {
-        Kind::Text => all_may_stand(piece),
+        Kind::Text => all_allowed(piece),
         Kind::Sgr => true,
         Kind::Other => links == Links::Keep && is_clean_link(piece.as_bytes()),
         Kind::Lone => false,
@@ -33,18 +35,27 @@ fn is_clean_link(sequence: &[u8]) -> bool
     inside.iter().all(|b| matches!(*b, 0x20..=0x7E))
 }
 
-/// Whether each character of the run may stand where it is.
-fn all_may_stand(run: &str) -> bool
-    ensures { result ≡ all_may_stand (chars run.now) }
+/// Whether each character of the run is allowed where it is.
+fn all_allowed(run: &str) -> bool
+    ensures { result ≡ all_allowed (chars run.now) }
 {
     let mut left = run;
-    while let Some((c, after)) = split_first(left) {
-        if !may_stand(c, after) {
+    while let Some((c, after)) = split_first(after_printable(left)) {
+        if !is_allowed(c, after) {
             return false;
         }
         left = after;
     }
     true
+}
+
+/// A run without the printable ASCII that it begins with.
+#[inline(always)]
+fn after_printable(run: &str) -> &str
+    ensures decides { all_allowed (chars run.now) ≡ all_allowed (chars result.now) }
+    ensures shorter { length (chars result.now) ≤ length (chars run.now) }
+{
+    split_printable(run).1
 }
 
 /// The first character of a text, and the text after it.
@@ -58,9 +69,9 @@ pub(crate) fn split_first(text: &str) -> Option<(char, &str)>
     Some((first, chars.as_str()))
 }
 
-/// Whether the character may stand in a run, in front of this text.
-pub(crate) fn may_stand(c: char, after: &str) -> bool
-    ensures { result ≡ may_stand c (chars after.now) }
+/// Whether the character is allowed in a run, in front of this text.
+pub(crate) fn is_allowed(c: char, after: &str) -> bool
+    ensures { result ≡ is_allowed c (chars after.now) }
 {
     match c {
         '\t' | '\n' => true,

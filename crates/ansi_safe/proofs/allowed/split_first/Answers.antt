@@ -1,6 +1,6 @@
 use Rattle.std.proofs.Common.{◌≡◌, ◌++◌, encode_utf8, sym, ◌∙◌, ap}
 use Rattle.std.proofs.lemmas.Str.{chars_past_char}
-use Rattle.ansi_safe.proofs.standing.split_first.Goals as goal
+use Rattle.ansi_safe.proofs.allowed.split_first.Goals as goal
 
 pub returns : goal.returns
 returns c =

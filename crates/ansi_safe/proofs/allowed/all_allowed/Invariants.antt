@@ -1,14 +1,14 @@
 use Rattle.std.proofs.Common.{◌≡◌, length, chars}
 use denote.Text.{Utf8}
 use denote.Shadow.{shadow}
-use Rattle.ansi_safe.specs.Safe.{all_may_stand}
-use Rattle.ansi_safe.proofs.standing.all_may_stand.Given as goal
+use Rattle.ansi_safe.specs.Safe.{all_allowed}
+use Rattle.ansi_safe.proofs.allowed.all_allowed.Given as goal
 
 -- what is left decides
 abbrev pub invariant-loop-c : goal.invariant-loop-c
 invariant-loop-c l = record {
   left_is_text : shadow (Utf8 l.left);
-  decides : all_may_stand (chars l.run) ≡ all_may_stand (chars l.left);
+  decides : all_allowed (chars l.run) ≡ all_allowed (chars l.left);
 }
 
 abbrev pub decreases-loop-c : goal.decreases-loop-c

@@ -1,0 +1,85 @@
+//! The examples of the docs of `ansi_safe`, in the same words.
+use ansi_safe::cells::{cell_of, paragraph_of};
+use ansi_safe::safe::{is_safe, sanitize};
+use ansi_safe::{AnsiSafe, Links, Policy, Rest};
+use std::test::Fail;
+
+#[test]
+fn ansi_safe_example(rt: HostRuntime) -> Result<(), Fail> {
+    assert!(rt; "\x1b[31mred\x1b[39m".ansi_is_safe(Links::Remove));
+    assert!(rt; !String::from_str(rt.alloc(), "\x1b[2J")?.ansi_is_safe(Links::Remove));
+    Ok(())
+}
+
+#[test]
+fn ansi_is_safe_example(rt: HostRuntime) {
+    assert!(rt; "a\tb\r\n".ansi_is_safe(Links::Remove));
+    assert!(rt; !"over\rwritten".ansi_is_safe(Links::Remove));
+}
+
+#[test]
+fn ansi_sanitize_example(rt: HostRuntime) -> Result<(), Fail> {
+    let policy = Policy {
+        rest: Rest::Show,
+        links: Links::Keep,
+    };
+    let safe = "\x1b]0;title\x07\x1b[31mred".ansi_sanitize(rt.alloc(), policy)?;
+    assert!(rt; safe.as_str() == "^[]0;title^G\x1b[31mred\x1b[39m");
+    Ok(())
+}
+
+#[test]
+fn links_example(rt: HostRuntime) {
+    let text = "\x1b]8;;http://x\x1b\\link\x1b]8;;\x1b\\";
+    assert!(rt; text.ansi_is_safe(Links::Keep) && !text.ansi_is_safe(Links::Remove));
+}
+
+#[test]
+fn rest_example(rt: HostRuntime) -> Result<(), Fail> {
+    let policy = Policy {
+        rest: Rest::Show,
+        links: Links::Remove,
+    };
+    assert!(rt; "a\x07".ansi_sanitize(rt.alloc(), policy)?.as_str() == "a^G");
+    Ok(())
+}
+
+#[test]
+fn policy_example(rt: HostRuntime) -> Result<(), Fail> {
+    let policy = Policy {
+        rest: Rest::Drop,
+        links: Links::Remove,
+    };
+    assert!(rt; "\x1b[2Ja".ansi_sanitize(rt.alloc(), policy)?.as_str() == "a");
+    Ok(())
+}
+
+#[test]
+fn is_safe_example(rt: HostRuntime) {
+    assert!(rt; is_safe("\x1b[31mred\x1b[39m", Links::Remove) && !is_safe("\x1b[2J", Links::Keep));
+}
+
+#[test]
+fn sanitize_example(rt: HostRuntime) -> Result<(), Fail> {
+    let policy = Policy {
+        rest: Rest::Drop,
+        links: Links::Keep,
+    };
+    let safe = sanitize(rt.alloc(), "\x1b[2J\x1b[31mred", policy)?;
+    assert!(rt; safe.as_str() == "\x1b[31mred\x1b[39m");
+    Ok(())
+}
+
+#[test]
+fn cell_of_example(rt: HostRuntime) -> Result<(), Fail> {
+    let cell = cell_of(rt.alloc(), "\x1b[1ma\tb\r\n\x07")?;
+    assert!(rt; cell.as_str() == "\x1b[1ma b ");
+    Ok(())
+}
+
+#[test]
+fn paragraph_of_example(rt: HostRuntime) -> Result<(), Fail> {
+    let paragraph = paragraph_of(rt.alloc(), "a\tb\r\n\x1b[2Jc")?;
+    assert!(rt; paragraph.as_str() == "a b\r\nc");
+    Ok(())
+}
