@@ -1,3 +1,4 @@
+mod Examples
 pub mod LineLemmas
 pub mod WordLemmas
 pub mod Shown

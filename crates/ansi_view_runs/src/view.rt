@@ -8,7 +8,7 @@ ghost use Rattle.ansi_view_runs.specs.LineViews.{line_of};
 ghost use Rattle.ansi_safe.specs.Sanitized.{cleaned, sanitized};
 
 use crate::lines::Line;
-use ansi_safe::links::{Ending, LONGEST_ENDING, pen_after};
+use ansi_safe::links::{LONGEST_ENDING, pen_after};
 use ansi_safe::policy::Policy;
 use ansi_safe::safe::push_cleaned;
 use ansi_slice::slice::strip_in;
@@ -66,7 +66,7 @@ pub fn view_text<A: Allocator + Copy>(
 {
     let mut made = clean(alloc, view, opening.as_str(), text)?;
     *opening = opening_after(alloc, made.as_str())?;
-    let ending = Ending::of(made.as_str());
+    let ending = pen_after(made.as_str()).ending();
     ending.push_to(&mut made)?;
     Ok(made)
 }
