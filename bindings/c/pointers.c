@@ -86,6 +86,7 @@ WRITES(right, ONE)
 WRITES(block, ONE)
 WRITES(block_start, ONE)
 WRITES(block_end, ONE)
+WRITES(link_at, ONE)
 WRITES_BY_PATTERN(strip_prefix, NONE)
 WRITES_BY_PATTERN(strip_suffix, NONE)
 WRITES_BY_PATTERN(part, ONE)
@@ -208,6 +209,7 @@ static void call_each(void) {
     ansi_str_width(GIVE_TEXT);
     ansi_str_fitting(GIVE_TEXT, NUMBER(4));
     ansi_str_truncate(GIVE_TEXT, NUMBER(4), GIVE_PATTERN, GIVE_BUFFER);
+    ansi_str_link_at(GIVE_TEXT, NUMBER(4), GIVE_BUFFER);
     ansi_str_pad(GIVE_TEXT, NUMBER(4), ANSI_STR_RIGHT, GIVE_BUFFER);
     ansi_str_sanitize(GIVE_TEXT, ANSI_STR_SHOW, ANSI_STR_REMOVE_LINKS, GIVE_BUFFER);
     ansi_str_is_safe(GIVE_TEXT, ANSI_STR_KEEP_LINKS);

@@ -19,7 +19,7 @@ static struct {
     const char *call;
     long rows;
 } LACKING[] = {{"count_parts", 0}, {"part_interval", 0}, {"split_at", 0}, {"count_blocks", 0}, {"block_order", 0},
-               {"items", 0},       {"lines", 0},         {"link_at", 0},  {"too many fields", 0}};
+               {"items", 0},       {"lines", 0},         {"too many fields", 0}};
 
 enum { LACKING_COUNT = sizeof LACKING / sizeof LACKING[0] };
 
@@ -167,6 +167,8 @@ static ansi_str_answer call(const struct row *r, char *buffer, size_t len) {
         return ansi_str_truncate(TEXT(t), position(r, 0), TEXT(argument(r, 1)), buffer, len);
     } else if (strcmp(name, "pad") == 0) {
         return ansi_str_pad(TEXT(t), position(r, 0), number_of(argument(r, 1)), buffer, len);
+    } else if (strcmp(name, "link_at") == 0) {
+        return ansi_str_link_at(TEXT(t), position(r, 0), buffer, len);
     } else if (strcmp(name, "sanitize") == 0) {
         return ansi_str_sanitize(TEXT(t), number_of(argument(r, 0)), number_of(argument(r, 1)), buffer, len);
     }
@@ -584,7 +586,8 @@ static void expect_failures(void) {
     const ansi_str_answer answers[] = {ansi_str_width("\xff", 1), ansi_str_fitting("\xff", 1, 1),
                                        ansi_str_truncate("\xff", 1, 1, ".", 1, buffer, 8),
                                        ansi_str_truncate("ab", 2, 1, "\xff", 1, buffer, 8),
-                                       ansi_str_pad("\xff", 1, 4, ANSI_STR_RIGHT + 1, buffer, 8)};
+                                       ansi_str_pad("\xff", 1, 4, ANSI_STR_RIGHT + 1, buffer, 8),
+                                       ansi_str_link_at("\xff", 1, 0, buffer, 8)};
     for (size_t i = 0; i < sizeof answers / sizeof answers[0]; i++) {
         expect("no UTF-8", answers[i].status == ANSI_STR_NOT_UTF8 && answers[i].len == 0);
     }
@@ -608,6 +611,7 @@ static void expect_failures(void) {
     expect("nothing", ansi_str_fitting(NULL, 0, 0).status == ANSI_STR_OK);
     expect("nothing", ansi_str_truncate(NULL, 0, 0, NULL, 0, NULL, 0).status == ANSI_STR_OK);
     expect("nothing", ansi_str_pad(NULL, 0, 0, ANSI_STR_LEFT, NULL, 0).status == ANSI_STR_OK);
+    expect("nothing", ansi_str_link_at(NULL, 0, 0, NULL, 0).status == ANSI_STR_NO);
     expect("nothing", ansi_str_sanitize(NULL, 0, ANSI_STR_DROP, ANSI_STR_REMOVE_LINKS, NULL, 0).status == ANSI_STR_OK);
     expect("nothing", ansi_str_is_safe(NULL, 0, ANSI_STR_REMOVE_LINKS).status == ANSI_STR_OK);
 }

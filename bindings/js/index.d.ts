@@ -102,6 +102,9 @@ export function pad(text: string, width: number, alignment?: 'left' | 'center' |
 /** The text wrapped to lines of `width` columns. Each line closes the link and style it leaves open; the next reopens them. */
 export function wrap(text: string, width: number): string[];
 
+/** The address of the link (OSC 8) around the unit of the plain text at a position, or null if no link is open there. */
+export function linkAt(text: string, position: number): string | null;
+
 /**
  * The text made safe, so that it can't drive the terminal. Printing characters, TAB, line feeds, carriage returns directly before a
  * line feed and SGRs stay, and with `links` links (OSC 8) of printable ASCII. Any other sequence, lone ESC, control character or

@@ -184,6 +184,11 @@ export function wrap(text, width) {
   return raw.wrap(textOf('text', text), numberOf('width', width));
 }
 
+export function linkAt(text, position) {
+  const place = numberOf('position', position);
+  return raw.linkAt(textOf('text', text), isAscii(text) ? place : placeOf(raw.strip(text), place));
+}
+
 export function sanitize(text, { show = false, links = false } = {}) {
   return raw.sanitize(textOf('text', text), show ? 1 : 0, links ? 1 : 0);
 }

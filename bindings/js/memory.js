@@ -285,6 +285,12 @@ export function wrap(text, width) {
     (exports, frame) => exports.ansi_str_raw_wrap(...frame.head, ...frame.texts[0], BigInt(width), ...frame.out, ...frame.list), listed);
 }
 
+/** The address of the link at a position in bytes of the plain text, or null. */
+export function linkAt(text, position) {
+  return called([text], [], roomForOne(text),
+    (exports, frame) => exports.ansi_str_raw_link_at(frame.head[0], ...frame.texts[0], BigInt(position), ...frame.out), written);
+}
+
 export function sanitize(text, rest, links) {
   return called([text], [], roomForOne(text),
     (exports, frame) => exports.ansi_str_raw_sanitize(...frame.head, ...frame.texts[0], rest, links, ...frame.out), written);

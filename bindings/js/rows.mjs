@@ -1,11 +1,11 @@
 // Makes the calls of the rows of texts and results, which rows/README.md describes, in Node and in a page.
-import { blocks, cut, edit, find, fitting, isSafe, pad, sanitize, split, splitAt, strip, trim, truncate, width, wrap } from './index.js';
+import { blocks, cut, edit, find, fitting, isSafe, linkAt, pad, sanitize, split, splitAt, strip, trim, truncate, width, wrap } from './index.js';
 
 /** The calls that aren't here. The positions of an edit count the bytes of what the edit before it made. */
 const LACKING = ['starts_with', 'ends_with', 'has_any', 'is_whole', 'is_char_boundary', 'floor_char_boundary', 'part_interval', 'edit', 'block_order',
-  'items', 'lines', 'link_at'];
+  'items', 'lines'];
 /** How many arguments of a call are positions. */
-const POSITIONS = { cut: 2, left: 1, right: 1, split_at: 1 };
+const POSITIONS = { cut: 2, left: 1, right: 1, split_at: 1, link_at: 1 };
 
 async function read(url) {
   if (url.protocol === 'file:') {
@@ -103,6 +103,8 @@ function answersOf(call, found, want, text, more) {
       return [[pad(text, number, second.toLowerCase()), want]];
     case 'wrap':
       return [[wrap(text, number), more.slice(1)]];
+    case 'link_at':
+      return [[linkAt(text, first), found]];
     case 'sanitize':
       return [[sanitize(text, { show: first === 'Show', links: second === 'Keep' }), want]];
     case 'is_safe':

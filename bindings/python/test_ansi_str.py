@@ -18,9 +18,9 @@ import ansi_str
 
 ROWS = os.path.join(os.path.dirname(os.path.abspath(__file__)), "../../crates/ansi_rows/stdin")
 # the calls that aren't here. The positions of an edit count the bytes of what the edit before it made
-LACKING = ["is_char_boundary", "floor_char_boundary", "part_interval", "edit", "block_order", "items", "lines", "link_at"]
+LACKING = ["is_char_boundary", "floor_char_boundary", "part_interval", "edit", "block_order", "items", "lines"]
 # how many arguments of a call are positions
-POSITIONS = {"cut": 2, "left": 1, "right": 1, "split_at": 1}
+POSITIONS = {"cut": 2, "left": 1, "right": 1, "split_at": 1, "link_at": 1}
 
 
 def block_at(text, index, of):
@@ -59,6 +59,7 @@ MADE = {
     "truncate": lambda text, width, tail: [ansi_str.truncate(text, int(width), tail)],
     "pad": lambda text, width, word: [ansi_str.pad(text, int(width), word.lower())],
     "wrap": lambda text, width, *_: [ansi_str.wrap(text, int(width))],
+    "link_at": lambda text, position: [ansi_str.link_at(text, position)],
     "sanitize": lambda text, rest, links: [ansi_str.sanitize(text, show=rest == "Show", links=links == "Keep")],
     "is_safe": lambda text, links: [ansi_str.is_safe(text, links=links == "Keep")],
 }

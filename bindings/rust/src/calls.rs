@@ -226,6 +226,7 @@ extern "C" {
         ends: *mut usize,
         k: usize,
     ) -> Answers;
+    fn ansi_str_raw_link_at(t: Bytes, n: usize, index: usize, b: Room, m: usize) -> Answer;
     fn ansi_str_raw_sanitize(
         t: Bytes,
         n: usize,
@@ -432,6 +433,14 @@ pub(crate) fn is_char_boundary(text: &str, index: usize) -> bool {
 
 pub(crate) fn floor_char_boundary(text: &str, index: usize) -> usize {
     tell_at(ansi_str_raw_floor_char_boundary_unchecked, text, index).len
+}
+
+pub(crate) fn link_at(text: &str, index: usize) -> Option<String> {
+    written(0, |b, m| {
+        // SAFETY: a `str`, and the room; any number may be a position
+        unsafe { ansi_str_raw_link_at(text.as_ptr(), text.len(), index, b, m) }
+    })
+    .ok()
 }
 
 pub(crate) fn width(text: &str) -> usize {

@@ -1,4 +1,4 @@
-//! Columns of a terminal: display width, the longest prefix that fits, truncation, padding and wrapping.
+//! Columns of a terminal: display width, the longest prefix that fits, truncation, padding and wrapping; and links.
 //!
 //! The display width of a text is the sum over the extended grapheme clusters of its plain text (UAX #29, UAX #11). The library
 //! computes it also for a text without ESC, since std can't. Positions count bytes of the plain text.
@@ -80,6 +80,18 @@ pub trait AnsiColumns: AnsiStr {
     /// ```
     #[must_use]
     fn ansi_wrap(&self, width: usize) -> AnsiWrap;
+
+    /// The address of the link (OSC 8) around the plain byte at a position, or `None` if no link is open there. The position may
+    /// be inside a character. At and after the end of the plain text there is no link.
+    ///
+    /// ```
+    /// use ansi_str::columns::AnsiColumns;
+    /// let text = "a \x1b]8;;http://x\x1b\\link\x1b]8;;\x1b\\.";
+    /// assert_eq!(text.ansi_link_at(2).as_deref(), Some("http://x"));
+    /// assert_eq!(text.ansi_link_at(6), None);
+    /// ```
+    #[must_use]
+    fn ansi_link_at(&self, index: usize) -> Option<String>;
 }
 
 /// An iterator over the lines of a wrapped text; [`AnsiColumns::ansi_wrap`] returns it. That call makes all of them, so the
@@ -136,6 +148,10 @@ impl<T: AsRef<str> + ?Sized> AnsiColumns for T {
             start: 0,
             ends: ends.into_iter(),
         }
+    }
+
+    fn ansi_link_at(&self, index: usize) -> Option<String> {
+        calls::link_at(self.as_ref(), index)
     }
 }
 

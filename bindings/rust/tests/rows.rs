@@ -9,7 +9,7 @@ use std::collections::BTreeMap;
 const ROWS: &str = include_str!("../../../crates/ansi_rows/stdin");
 
 /// The calls that this crate doesn't have. It doesn't specify the order of styles.
-const LACKING: [&str; 8] = [
+const LACKING: [&str; 7] = [
     "is_whole",
     "part",
     "part_interval",
@@ -17,7 +17,6 @@ const LACKING: [&str; 8] = [
     "block_order",
     "items",
     "lines",
-    "link_at",
 ];
 
 /// A field: a text, which begins with `x`, or another one as it is. `None` for a text that isn't UTF-8.
@@ -189,6 +188,7 @@ fn pass(call: &str, status: &str, want: &str, text: &str, more: &[String]) -> Op
         "truncate" => is(Some(text.ansi_truncate(position(0), &more[1]))),
         "pad" => is(Some(text.ansi_pad(position(0), alignment_of(&more[1])))),
         "wrap" => are(text.ansi_wrap(position(0)).map(Cow::from).collect()),
+        "link_at" => text.ansi_link_at(position(0)).as_deref() == answer,
         "sanitize" => {
             let (rest, links) = (rest_of(&more[0]), links_of(&more[1]));
             is(Some(text.ansi_sanitize(Policy { rest, links })))

@@ -3,13 +3,14 @@ use Rattle.std.specs.Prelude.{◌≡◌, ℕ, not, ◌&&◌, ◌==◌, List, [],
 use Rattle.std.specs.Str.{IsCharBoundary}
 use Rattle.ansi_columns.specs.declared.shown.Alignment.{Alignment}
 use Rattle.ansi_columns.specs.declared.shown.Alignment.TheVariants.{Left, Right, Center}
+use Rattle.ansi_columns.specs.Addresses.{address_at}
 use Rattle.ansi_columns.specs.Columns.{columns, FitsUpTo}
 use Rattle.ansi_items.specs.Plain.{plain, has_escape}
 use Rattle.ansi_columns.specs.Shown.{truncated, truncated_ending, padded, missing, closing}
 use Rattle.ansi_columns.specs.Wrapped.{WrappedLine, wrapped}
 use Rattle.ansi_calls.specs.declared.answers.Answer.{Answer}
 use Rattle.ansi_calls.specs.declared.lists.ListAnswer.{ListAnswer}
-use Rattle.ansi_calls.specs.Answers.{no, refused, not_utf8, done, failed, OnUtf8, HasFailed, Gives}
+use Rattle.ansi_calls.specs.Answers.{no, refused, not_utf8, done, failed, OnUtf8, HasFailed, IsFound, Gives}
 use Rattle.ansi_calls.specs.Lists.{ends_from, HaveFailed, GivesAll}
 
 -- the alignments, by the numbers that the header gives them
@@ -43,6 +44,10 @@ GivesPadded t width (Some alignment) answer old new =
 -- `pad` does so, with the alignment of this number
 abbrev pub Pads : List ℕ → ℕ → ℕ → Answer → List ℕ → List ℕ → Type 0
 Pads t width n answer old new = OnUtf8 (t ∷ []) (GivesPadded t width (alignment_of n) answer old new) (HasFailed not_utf8 answer old new)
+
+-- `link_at` writes the address of the link at a position, and fails with the status `no` if there is none; it doesn't allocate
+abbrev pub WritesLink : List ℕ → ℕ → Answer → List ℕ → List ℕ → Type 0
+WritesLink t index answer old new = OnUtf8 (t ∷ []) (IsFound no (address_at t index) answer old new) (HasFailed not_utf8 answer old new)
 
 -- the lines of the text t wrapped at a width, ready for display
 abbrev pub wrapped_lines : List ℕ → ℕ → List (List ℕ)

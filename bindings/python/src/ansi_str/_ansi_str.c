@@ -13,7 +13,7 @@
 enum { LONG = 1 << 16 };
 
 /* kinds beside those of edits */
-enum { TRUNCATE = ANSI_STR_EDIT_TRIM + 1, PAD, SANITIZE, STRIP, KINDS };
+enum { TRUNCATE = ANSI_STR_EDIT_TRIM + 1, PAD, SANITIZE, LINK_AT, STRIP, KINDS };
 
 /* the questions about a text: those up to IS_SAFE are yes or no, FIND and FITTING return a position, WIDTH columns */
 enum { STARTS_WITH, ENDS_WITH, HAS_ANY, IS_WHOLE, IS_SAFE, FIND, FITTING, WIDTH, QUESTIONS };
@@ -89,6 +89,8 @@ static ansi_str_answer write_step(const Text *text, const ansi_str_edit_step *st
         return ansi_str_raw_pad(text->bytes, text->size, step->first, (uint32_t)step->second, room->bytes, room->size);
     case SANITIZE:
         return ansi_str_raw_sanitize(text->bytes, text->size, (uint32_t)step->first, (uint32_t)step->second, room->bytes, room->size);
+    case LINK_AT:
+        return ansi_str_raw_link_at(text->bytes, text->size, step->first, room->bytes, room->size);
     default:
         return ansi_str_raw_edit(text->bytes, text->size, step, 1, room->bytes, room->size);
     }
@@ -176,7 +178,7 @@ static bool make_text(const Text *text, bool is_ascii, PyObject *words, Text *ma
         return false;
     }
     step = ansi_str_edit_of((uint32_t)kind, first, second, PyBytes_AsString(pattern), (size_t)PyBytes_Size(pattern));
-    if (!is_ascii && kind <= ANSI_STR_EDIT_RIGHT && (kind != ANSI_STR_EDIT_CUT || step.first <= step.second)) {
+    if (!is_ascii && (kind <= ANSI_STR_EDIT_RIGHT || kind == LINK_AT) && (kind != ANSI_STR_EDIT_CUT || step.first <= step.second)) {
         Text plain;
         size_t between = step.second - step.first;
         if (!make_plain(text, &plain)) {
