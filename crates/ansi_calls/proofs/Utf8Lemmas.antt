@@ -8,7 +8,7 @@ use Rattle.std.proofs.lemmas.Str.{IsUtf8-from_is_utf8, is_utf8-from_IsUtf8}
 use Rattle.std.specs.List.{list_all}
 use Rattle.std.specs.Str.{is_utf8}
 use Rattle.ansi_calls.specs.declared.answers.Answer.{Answer}
-use Rattle.ansi_calls.specs.Answers.{out_of_memory, OnUtf8, HasFailed, IsFound, Gives}
+use Rattle.ansi_calls.specs.Answers.{out_of_memory, OnUtf8, HasFailed, IsWritten, IsFound, Gives}
 
 both-left : (a b : Bool) → (a && b) ≡ true → a ≡ true
 both-left true b both = refl
