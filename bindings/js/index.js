@@ -143,6 +143,36 @@ export function trim(text) {
   return placed(text, ['trim']);
 }
 
+export function stripPrefix(text, pattern) {
+  return edit(text, [['prefix', pattern]]);
+}
+
+export function stripSuffix(text, pattern) {
+  return edit(text, [['suffix', pattern]]);
+}
+
+export function startsWith(text, pattern) {
+  return raw.startsWith(textOf('text', text), textOf('pattern', pattern));
+}
+
+export function endsWith(text, pattern) {
+  return raw.endsWith(textOf('text', text), textOf('pattern', pattern));
+}
+
+export function hasAny(text) {
+  return textOf('text', text).includes('\x1b');
+}
+
+export function isWhole(text) {
+  return raw.isWhole(textOf('text', text));
+}
+
+export function floorCharBoundary(text, index) {
+  const plain = strip(text);
+  const position = Math.min(numberOf('index', index), plain.length);
+  return plain.slice(0, position).isWellFormed() ? position : position - 1;
+}
+
 export function find(text, pattern) {
   textOf('text', text);
   textOf('pattern', pattern);
@@ -154,6 +184,14 @@ export function find(text, pattern) {
 
 export function split(text, pattern) {
   return raw.split(textOf('text', text), textOf('pattern', pattern));
+}
+
+export function iterSplit(text, pattern) {
+  return split(text, pattern).values();
+}
+
+export function iterBlocks(text) {
+  return blocks(text).values();
 }
 
 export function blocks(text) {

@@ -248,6 +248,19 @@ export function find(text, pattern) {
   return called([text, pattern], [], roomFor(0), (exports, frame) => exports.ansi_str_raw_find(frame.head[0], ...frame.texts[0], ...frame.texts[1]), told);
 }
 
+/** Whether an export that takes a text and a pattern returns that it is so. */
+function isSo(name, text, pattern) {
+  return called([text, pattern], [], roomFor(0),
+    (exports, frame) => exports[name](frame.head[0], ...frame.texts[0], ...frame.texts[1]), told) !== null;
+}
+
+export const startsWith = (text, pattern) => isSo('ansi_str_raw_starts_with', text, pattern);
+export const endsWith = (text, pattern) => isSo('ansi_str_raw_ends_with', text, pattern);
+
+export function isWhole(text) {
+  return called([text], [], roomFor(0), (exports, frame) => exports.ansi_str_raw_is_whole(frame.head[0], ...frame.texts[0]), told) !== null;
+}
+
 /** The text after all steps, or null if one is refused. */
 export function edit(text, steps) {
   const texts = [text, ...steps.map((step) => step.pattern)];

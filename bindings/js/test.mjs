@@ -2,7 +2,10 @@
 import assert from 'node:assert/strict';
 import { readFile } from 'node:fs/promises';
 import { test } from 'node:test';
-import { OutOfMemoryError, blocks, cut, edit, find, fitting, isSafe, linkAt, pad, sanitize, split, splitAt, strip, trim, truncate, width, wrap } from './index.js';
+import {
+  OutOfMemoryError, blocks, cut, edit, endsWith, find, fitting, floorCharBoundary, hasAny, isSafe, isWhole, iterBlocks, iterSplit, linkAt, pad, sanitize,
+  split, splitAt, startsWith, strip, stripPrefix, stripSuffix, trim, truncate, width, wrap,
+} from './index.js';
 import { pass } from './rows.mjs';
 
 test('rows', async () => {
@@ -22,6 +25,7 @@ test('positions count UTF-16 units', () => {
   assert.throws(() => cut('abc', 2, 1), RangeError);
   assert.equal(find('\x1b[1m😀a', 'a'), 2);
   assert.equal(fitting('\x1b[1m😀éab', 4), 4);
+  assert.deepEqual([0, 1, 2, 3, 4].map((index) => floorCharBoundary('\x1b[1m😀a', index)), [0, 0, 2, 3, 3]);
   assert.equal(linkAt('😀\x1b]8;;😀\x07é', 2), '😀');
   assert.equal(linkAt('\x1b]8;;u\x07😀', 1), 'u');
   assert.equal(linkAt('\x1b]8;;u\x07é', 2 ** 60), null);
@@ -53,14 +57,18 @@ test('a position past the end is the end, and an end below its start is refused,
 test('what is no text or no position is refused', () => {
   const calls = [strip, trim, blocks, width, (text) => find(text, ''), (text) => find('', text), (text) => split('', text), (text) => edit('', [['suffix', text]]),
     (text) => fitting(text, 1), (text) => truncate(text, 1), (text) => truncate('', 1, text), (text) => pad(text, 1), (text) => wrap(text, 1),
-    (text) => linkAt(text, 0), sanitize, isSafe];
+    (text) => linkAt(text, 0), (text) => floorCharBoundary(text, 0), hasAny, isWhole, iterBlocks, sanitize, isSafe,
+    ...[stripPrefix, stripSuffix, startsWith, endsWith, iterSplit].flatMap((call) => [(text) => call(text, ''), (text) => call('', text)])];
   for (const call of calls) {
     assert.throws(() => call('a\ud800'), /lone surrogate/);
     assert.throws(() => call(null), /must be a string/);
   }
   assert.throws(() => cut('abc', -1), RangeError);
   assert.throws(() => cut('abc', 1.5), TypeError);
-  assert.throws(() => linkAt('abc', -1), RangeError);
+  for (const call of [linkAt, floorCharBoundary]) {
+    assert.throws(() => call('abc', -1), RangeError);
+    assert.throws(() => call('abc', '1'), TypeError);
+  }
   for (const wrong of ['cut', ['cuts', 1], [['cut'], 'x'], [new String('cut'), 0], ['toString'], [], [undefined], [0, 1], null, { 0: 'trim' }]) {
     assert.throws(() => edit('abc', [wrong]), /begins with the name of an edit/);
   }
