@@ -75,11 +75,9 @@ fn shown(alloc: Global, line: &str, pattern: &str) -> Result<String, AllocError>
         links: Links::Keep,
     };
     let marked = marked(alloc, line, pattern)?;
-    let (text, end) = match marked.as_str().strip_suffix('\r') {
-        Some(text) => (text, "\r"),
-        None => (marked.as_str(), ""),
-    };
-    let safe = sanitize(alloc, text, policy)?;
+    let text = marked.as_str();
+    let end = if text.ends_with('\r') { "\r" } else { "" };
+    let safe = sanitize(alloc, text.strip_suffix('\r').unwrap_or(text), policy)?;
     format!(in alloc; "{safe}{end}")
 }
 
