@@ -131,6 +131,7 @@ class Rows(unittest.TestCase):
     def test_positions_count_characters(self):
         self.assertEqual(ansi_str.cut("\x1b[1méa\x1b[0m", 1), "\x1b[1ma\x1b[0m")
         self.assertEqual(ansi_str.cut("abc", 10), "")
+        self.assertEqual([ansi_str.link_at("\x1b]8;;é\x07é老\x1b]8;;\x07a", position) for position in range(4)], ["é", "é", None, None])
         with self.assertRaises(ValueError):
             ansi_str.cut("abc", 2, 1)
 
@@ -138,7 +139,7 @@ class Rows(unittest.TestCase):
 # each call that takes a text, and what is passed for its other arguments
 CALLS = {"strip": [], "cut": [0], "left": [0], "right": [0], "part": [",", 0], "strip_prefix": [""], "strip_suffix": [""],
          "trim": [], "width": [], "fitting": [1], "truncate": [1], "pad": [1], "wrap": [1], "find": [""], "starts_with": [""], "ends_with": [""], "has_any": [], "is_whole": [], "split": [","],
-         "iter_split": [","], "blocks": [], "iter_blocks": [], "edit": [[]], "sanitize": [], "is_safe": []}
+         "iter_split": [","], "blocks": [], "iter_blocks": [], "edit": [[]], "sanitize": [], "is_safe": [], "link_at": [0]}
 PATTERNED = ["part", "strip_prefix", "strip_suffix", "find", "starts_with", "ends_with", "split", "iter_split"]
 HUGE = [2**31, 2**63 - 1, 2**63, 2**64 - 1, 2**64, 2**64 + 1, 2**200]
 
@@ -181,6 +182,7 @@ class Arguments(unittest.TestCase):
                 # (also after an edit that is refused)
                 self.refused(kind, "end " + words, ansi_str.edit, text, [ansi_str.Prefix("z"), ansi_str.Cut(0, wrong)])
                 self.refused(kind, "index " + words, ansi_str.part, text, ",", wrong)
+                self.refused(kind, "position " + words, ansi_str.link_at, text, wrong)
                 for call in (ansi_str.fitting, ansi_str.truncate, ansi_str.pad, ansi_str.wrap):
                     self.refused(kind, "width " + words, call, text, wrong)
                 self.refused(kind, "index " + words, ansi_str.edit, text, [ansi_str.Part(",", wrong)])
@@ -208,6 +210,7 @@ class Arguments(unittest.TestCase):
                         ansi_str.pad(text, max(huge, 2**62))
                     self.assertIsNone(ansi_str.part(text, ",", huge))
                     self.assertIsNone(ansi_str.part(text, "", huge))
+                    self.assertIsNone(ansi_str.link_at("\x1b]8;;u\x07" + text, huge))
                     self.assertIsNone(ansi_str.edit(text, ansi_str.Cut(huge + 1, huge)))
                     self.refused(ValueError, "the end lies before the start", ansi_str.cut, text, huge + 1, huge)
 
