@@ -19,7 +19,7 @@ static struct {
     const char *call;
     long rows;
 } LACKING[] = {{"count_parts", 0}, {"part_interval", 0}, {"split_at", 0}, {"count_blocks", 0}, {"block_order", 0},
-               {"items", 0},       {"lines", 0},         {"too many fields", 0}};
+               {"items", 0},       {"too many fields", 0}};
 
 enum { LACKING_COUNT = sizeof LACKING / sizeof LACKING[0] };
 
@@ -331,6 +331,28 @@ static ansi_str_answers list(const struct row *r, char *buffer, size_t len, size
                                                     : ansi_str_wrap(TEXT(t), position(r, 0), buffer, len, ends, most);
 }
 
+/* Where each line of a row's text begins and ends: with room for one more, and with too little. The call doesn't allocate. */
+static void expect_lines(const struct row *r) {
+    const struct text *t = text_of(r);
+    size_t count = number(r, 2);
+    ansi_str_line_entry *lines = __real_malloc((count + 1) * sizeof *lines);
+    memset(lines, GUARD, (count + 1) * sizeof *lines);
+    granted = 0;
+    ansi_str_answers answer = ansi_str_lines(TEXT(t), position(r, 0), lines, count - 1);
+    expect("too few lines", answer.status == ANSI_STR_TOO_SMALL && answer.count == count && answer.len == 0);
+    expect("nothing is written", is_guard((const char *)lines, 0, (count + 1) * sizeof *lines));
+    answer = ansi_str_lines(TEXT(t), position(r, 0), lines, count + 1);
+    granted = -1;
+    expect("lines", answer.status == status_of(r) && answer.count == count && answer.len == 0);
+    for (size_t i = 0; i < count; i++) {
+        char interval[64];
+        snprintf(interval, sizeof interval, "%zu,%zu", lines[i].start, lines[i].end);
+        expect("a line", strcmp(interval, argument(r, 1 + i)->bytes) == 0);
+    }
+    expect("nothing more is written", is_guard((const char *)&lines[count], 0, sizeof *lines));
+    free(lines);
+}
+
 /* With this room, which is too small, a call for all parts or lines writes nothing, and returns how much they need. */
 static void expect_too_small(const struct row *r, size_t room, size_t most, size_t len, size_t count) {
     size_t *ends = __real_malloc((count + 1) * sizeof *ends);
@@ -594,6 +616,11 @@ static void expect_failures(void) {
     size_t end = 0;
     ansi_str_answers lines = ansi_str_wrap("\xff", 1, 4, buffer, 8, &end, 1);
     expect("no UTF-8", lines.status == ANSI_STR_NOT_UTF8 && lines.count == 0 && lines.len == 0 && end == 0);
+    ansi_str_line_entry line = {1, 1};
+    lines = ansi_str_lines("\xff", 1, 4, &line, 1);
+    expect("no UTF-8", lines.status == ANSI_STR_NOT_UTF8 && lines.count == 0 && lines.len == 0 && line.end == 1);
+    lines = ansi_str_lines(NULL, 0, 0, NULL, 0);
+    expect("one line", lines.status == ANSI_STR_TOO_SMALL && lines.count == 1 && lines.len == 0);
     lines = ansi_str_wrap(NULL, 0, 0, NULL, 0, NULL, 0);
     expect("one line", lines.status == ANSI_STR_TOO_SMALL && lines.count == 1 && lines.len == 0);
     ansi_str_answer answer = ansi_str_pad("ab", 2, 4, ANSI_STR_RIGHT + 1, buffer, 8);
@@ -678,6 +705,8 @@ static void expect_row(const struct row *r) {
         expect_parts(r);
     } else if (strcmp(name, "wrap") == 0) {
         expect_list(r);
+    } else if (strcmp(name, "lines") == 0) {
+        expect_lines(r);
     } else if (strcmp(name, "blocks") == 0) {
         expect_blocks(r);
     } else if (strcmp(name, "styled_blocks") == 0) {

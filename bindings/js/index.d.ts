@@ -129,6 +129,9 @@ export function pad(text: string, width: number, alignment?: 'left' | 'center' |
 /** The text wrapped to lines of `width` columns. Each line closes the link and style it leaves open; the next reopens them. */
 export function wrap(text: string, width: number): string[];
 
+/** Where each line that `wrap` returns begins and ends in the plain text. The text can be cut there. */
+export function lines(text: string, width: number): [number, number][];
+
 /** The address of the link (OSC 8) around the unit of the plain text at a position, or null if no link is open there. */
 export function linkAt(text: string, position: number): string | null;
 

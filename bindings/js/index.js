@@ -49,17 +49,17 @@ function placeOf(plain, position) {
   return before.isWellFormed() ? bytesOf(before) : bytesOf(before.slice(0, -1)) + 2;
 }
 
-/** Converts a position in bytes of the plain text to units. */
-function unitsOf(plain, position) {
+/** Converts positions in bytes of the plain text, which ascend, to units. */
+function unitsOf(plain, positions) {
   let [bytes, units] = [0, 0];
-  for (const character of plain) {
-    if (bytes >= position) {
-      break;
+  return positions.map((position) => {
+    while (bytes < position) {
+      const character = String.fromCodePoint(plain.codePointAt(units));
+      bytes += bytesOf(character);
+      units += character.length;
     }
-    bytes += bytesOf(character);
-    units += character.length;
-  }
-  return units;
+    return units;
+  });
 }
 
 /** What a cut has as a step. */
@@ -204,7 +204,7 @@ export function width(text) {
 
 export function fitting(text, width) {
   const position = raw.fitting(textOf('text', text), numberOf('width', width));
-  return isAscii(text) ? position : unitsOf(raw.strip(text), position);
+  return isAscii(text) ? position : unitsOf(raw.strip(text), [position])[0];
 }
 
 export function truncate(text, width, tail = '') {
@@ -220,6 +220,12 @@ export function pad(text, width, alignment = 'left') {
 
 export function wrap(text, width) {
   return raw.wrap(textOf('text', text), numberOf('width', width));
+}
+
+export function lines(text, width) {
+  const places = raw.lines(textOf('text', text), numberOf('width', width));
+  const positions = isAscii(text) ? places : unitsOf(raw.strip(text), places);
+  return Array.from({ length: positions.length / 2 }, (_, index) => [positions[2 * index], positions[2 * index + 1]]);
 }
 
 export function linkAt(text, position) {

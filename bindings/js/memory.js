@@ -22,6 +22,7 @@ const BLOCK = 16;
 const STEP = 40;
 const ENTRY = 48;
 const END = 8;
+const LINE = 16;
 
 const encoder = new TextEncoder();
 const decoder = new TextDecoder('utf-8', { ignoreBOM: true });
@@ -296,6 +297,13 @@ export function pad(text, width, alignment) {
 export function wrap(text, width) {
   return called([text], [], roomForList(text, END),
     (exports, frame) => exports.ansi_str_raw_wrap(...frame.head, ...frame.texts[0], BigInt(width), ...frame.out, ...frame.list), listed);
+}
+
+/** Where each line begins and ends, in bytes of the plain text: the beginning and the end of the first, then those of the next. */
+export function lines(text, width) {
+  return called([text], [], { bytes: 0, entries: 64 + Math.floor(text.length / 8), entry: LINE },
+    (exports, frame) => exports.ansi_str_raw_lines(frame.head[0], ...frame.texts[0], BigInt(width), ...frame.list),
+    (frame) => Array.from({ length: 2 * told(frame) }, (_, index) => frame.word(frame.entries + index * 8)));
 }
 
 /** The address of the link at a position in bytes of the plain text, or null. */

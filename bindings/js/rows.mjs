@@ -1,11 +1,11 @@
 // Makes the calls of the rows of texts and results, which rows/README.md describes, in Node and in a page.
 import {
-  blocks, cut, edit, endsWith, find, fitting, floorCharBoundary, hasAny, isSafe, isWhole, iterBlocks, iterSplit, linkAt, pad, sanitize, split, splitAt,
+  blocks, cut, edit, endsWith, find, fitting, floorCharBoundary, hasAny, isSafe, isWhole, iterBlocks, iterSplit, lines, linkAt, pad, sanitize, split, splitAt,
   startsWith, strip, stripPrefix, stripSuffix, trim, truncate, width, wrap,
 } from './index.js';
 
 /** The calls that aren't here. The positions of an edit count the bytes of what the edit before it made. */
-const LACKING = ['is_char_boundary', 'part_interval', 'edit', 'block_order', 'items', 'lines'];
+const LACKING = ['is_char_boundary', 'part_interval', 'edit', 'block_order', 'items'];
 /** How many arguments of a call are positions. */
 const POSITIONS = { cut: 2, left: 1, right: 1, split_at: 1, floor_char_boundary: 1, link_at: 1 };
 
@@ -116,6 +116,8 @@ function answersOf(call, found, want, text, more) {
       return [[pad(text, number, second.toLowerCase()), want]];
     case 'wrap':
       return [[wrap(text, number), more.slice(1)]];
+    case 'lines':
+      return [[lines(text, number), more.slice(1).map((line) => line.split(',').map((position) => inUnits(strip(text), Number(position))))]];
     case 'link_at':
       return [[linkAt(text, first), found]];
     case 'sanitize':

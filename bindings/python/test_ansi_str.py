@@ -18,7 +18,7 @@ import ansi_str
 
 ROWS = os.path.join(os.path.dirname(os.path.abspath(__file__)), "../../crates/ansi_rows/stdin")
 # the calls that aren't here. The positions of an edit count the bytes of what the edit before it made
-LACKING = ["is_char_boundary", "floor_char_boundary", "part_interval", "edit", "block_order", "items", "lines"]
+LACKING = ["is_char_boundary", "floor_char_boundary", "part_interval", "edit", "block_order", "items"]
 # how many arguments of a call are positions
 POSITIONS = {"cut": 2, "left": 1, "right": 1, "split_at": 1, "link_at": 1}
 
@@ -59,6 +59,7 @@ MADE = {
     "truncate": lambda text, width, tail: [ansi_str.truncate(text, int(width), tail)],
     "pad": lambda text, width, word: [ansi_str.pad(text, int(width), word.lower())],
     "wrap": lambda text, width, *_: [ansi_str.wrap(text, int(width))],
+    "lines": lambda text, width, *_: [ansi_str.lines(text, int(width))],
     "link_at": lambda text, position: [ansi_str.link_at(text, position)],
     "sanitize": lambda text, rest, links: [ansi_str.sanitize(text, show=rest == "Show", links=links == "Keep")],
     "is_safe": lambda text, links: [ansi_str.is_safe(text, links=links == "Keep")],
@@ -92,6 +93,9 @@ def said(call, status, want, text, more):
         return int(want)
     if call in ("split", "split_at", "wrap"):
         return more[1:]
+    if call == "lines":
+        plain = ansi_str.strip(text)
+        return [tuple(in_characters(plain, int(position)) for position in line.split(",")) for line in more[1:]]
     if call == "blocks":
         return [(text, has == "1") for text, has in zip(more[::5], more[4::5])]
     if call == "styled_blocks":
@@ -138,7 +142,7 @@ class Rows(unittest.TestCase):
 
 # each call that takes a text, and what is passed for its other arguments
 CALLS = {"strip": [], "cut": [0], "left": [0], "right": [0], "part": [",", 0], "strip_prefix": [""], "strip_suffix": [""],
-         "trim": [], "width": [], "fitting": [1], "truncate": [1], "pad": [1], "wrap": [1], "find": [""], "starts_with": [""], "ends_with": [""], "has_any": [], "is_whole": [], "split": [","],
+         "trim": [], "width": [], "fitting": [1], "truncate": [1], "pad": [1], "wrap": [1], "lines": [1], "find": [""], "starts_with": [""], "ends_with": [""], "has_any": [], "is_whole": [], "split": [","],
          "iter_split": [","], "blocks": [], "iter_blocks": [], "edit": [[]], "sanitize": [], "is_safe": [], "link_at": [0]}
 PATTERNED = ["part", "strip_prefix", "strip_suffix", "find", "starts_with", "ends_with", "split", "iter_split"]
 HUGE = [2**31, 2**63 - 1, 2**63, 2**64 - 1, 2**64, 2**64 + 1, 2**200]
@@ -183,7 +187,7 @@ class Arguments(unittest.TestCase):
                 self.refused(kind, "end " + words, ansi_str.edit, text, [ansi_str.Prefix("z"), ansi_str.Cut(0, wrong)])
                 self.refused(kind, "index " + words, ansi_str.part, text, ",", wrong)
                 self.refused(kind, "position " + words, ansi_str.link_at, text, wrong)
-                for call in (ansi_str.fitting, ansi_str.truncate, ansi_str.pad, ansi_str.wrap):
+                for call in (ansi_str.fitting, ansi_str.truncate, ansi_str.pad, ansi_str.wrap, ansi_str.lines):
                     self.refused(kind, "width " + words, call, text, wrong)
                 self.refused(kind, "index " + words, ansi_str.edit, text, [ansi_str.Part(",", wrong)])
                 for name, step in (("left", ansi_str.Left), ("right", ansi_str.Right)):

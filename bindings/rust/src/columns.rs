@@ -6,6 +6,7 @@
 use crate::{calls, AnsiStr};
 use std::borrow::Cow;
 use std::iter::FusedIterator;
+use std::ops::Range;
 use std::vec;
 
 /// The place of a padded text among its blanks.
@@ -81,6 +82,15 @@ pub trait AnsiColumns: AnsiStr {
     #[must_use]
     fn ansi_wrap(&self, width: usize) -> AnsiWrap;
 
+    /// Where each line of [`ansi_wrap`](AnsiColumns::ansi_wrap) begins and ends in the plain text. The text can be cut there.
+    ///
+    /// ```
+    /// use ansi_str::columns::AnsiColumns;
+    /// assert_eq!("ab \x1b[1mcd  efg".ansi_lines(5), [0..5, 7..10]);
+    /// ```
+    #[must_use]
+    fn ansi_lines(&self, width: usize) -> Vec<Range<usize>>;
+
     /// The address of the link (OSC 8) around the plain byte at a position, or `None` if no link is open there. The position may
     /// be inside a character. At and after the end of the plain text there is no link.
     ///
@@ -148,6 +158,10 @@ impl<T: AsRef<str> + ?Sized> AnsiColumns for T {
             start: 0,
             ends: ends.into_iter(),
         }
+    }
+
+    fn ansi_lines(&self, width: usize) -> Vec<Range<usize>> {
+        calls::lines(self.as_ref(), width)
     }
 
     fn ansi_link_at(&self, index: usize) -> Option<String> {
