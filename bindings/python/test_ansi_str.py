@@ -300,7 +300,7 @@ class Private(unittest.TestCase):
     WRONG = {
         "bytes": [(b"\xff", ValueError)] + [(wrong, TypeError) for wrong in TYPES + [1, ()]],
         "number": [(-1, ValueError), (-2**64, ValueError)] + [(wrong, TypeError) for wrong in TYPES + [b"a", ()]],
-        "kind": [(-1, ValueError), (11, ValueError), (2**31 - 1, ValueError), (2**31, OverflowError), (-2**200, OverflowError)]
+        "kind": [(-1, ValueError), (12, ValueError), (2**31 - 1, ValueError), (2**31, OverflowError), (-2**200, OverflowError)]
                 + [(wrong, TypeError) for wrong in TYPES + [b"a", ()]],
         "steps": [(wrong, TypeError) for wrong in TYPES + [b"a", 1, (1,), ((),), ((0, 0, 0),), ((0, 0, 0, b"", 0),), ([0, 0, 0, b""],)]],
         "bool": [],
@@ -312,6 +312,7 @@ class Private(unittest.TestCase):
         "walk": [("bytes", b"a"), ("bytes", b"a")],
         "strip": [("bytes", b"a")],
         "wrap": [("bytes", b"a"), ("number", 1)],
+        "lines": [("bytes", b"a"), ("bool", True), ("number", 1)],
     }
 
     def refused(self, call, given):
@@ -329,9 +330,9 @@ class Private(unittest.TestCase):
         for name, given in self.GOOD.items():
             self.refused(getattr(ansi_str._library, name), given)
         edit = ansi_str._library.edit
-        for kind in range(11):
+        for kind in range(12):
             self.refused(lambda *step: edit(b"a", True, (step + (b"",),)), [("kind", kind), ("number", 0), ("number", 1)])
-        # (the last three kinds don't read their pattern)
+        # (the last four kinds don't read their pattern)
         for kind in range(8):
             self.refused(lambda pattern: edit(b"a", True, ((kind, 0, 1, pattern),)), [("bytes", b"")])
 
