@@ -6,9 +6,9 @@
 //! from that crate. Positions and lengths count bytes of the plain text, which is the text without its sequences. A
 //! position past its end counts as the end.
 //!
-//! Results from a text without ESC are borrowed, and std computes them. Results from any other text are owned, except
-//! for an empty prefix or suffix, and for parts and blocks that occur unchanged in the text. Out of memory panics, as in
-//! std.
+//! Results from a text without ESC are borrowed, and std computes them, except in [`columns`] and [`safe`]. Results from any
+//! other text are owned, except for an empty prefix or suffix, and for parts and blocks that occur unchanged in the text. Out
+//! of memory panics, as in std.
 //!
 //! ```
 //! use ansi_str::AnsiStr;

@@ -1,7 +1,8 @@
 //! Safe output: a stranger's text can't drive the terminal.
 //!
 //! A safe text has printing characters, TAB, line feeds, carriage returns directly before a line feed, SGRs and, if they are
-//! kept, links (OSC 8). It has no other sequence, no lone escape, no control character and no bidirectional control.
+//! kept, links (OSC 8). It has no other sequence, no lone escape, no control character and no bidirectional control. Characters
+//! that look alike, the address of a link, and text hidden by SGR 8 or by equal colors aren't looked at.
 
 use crate::{calls, AnsiStr};
 use std::borrow::Cow;

@@ -5,11 +5,24 @@ use Rattle.std.specs.declared.io.ErrorKind.{ErrorKind}
 use Rattle.std.specs.declared.io.ErrorKind.TheVariants as kind
 use Rattle.ansi_lines_io.specs.declared.devices.ReadFault.{ReadFault}
 use Rattle.ansi_lines_io.specs.declared.devices.ReadFault.TheVariants.{Interrupted, Failed}
+use Rattle.ansi_lines_io.specs.declared.devices.WriteFault.{WriteFault}
+use Rattle.ansi_lines_io.specs.declared.devices.WriteFault.TheVariants as write_fault
 
 -- an error of a reader of std is an interruption if it has that kind, and otherwise a failure
 abbrev pub fault_of : ErrorKind → ReadFault
 fault_of kind.Interrupted = Interrupted
 fault_of _ = Failed
+
+-- an error of a writer of std finds the device closed if it has that kind, and otherwise it is a failure
+abbrev pub write_fault_of : ErrorKind → WriteFault
+write_fault_of kind.BrokenPipe = write_fault.Closed
+write_fault_of _ = write_fault.Failed
+
+-- the result of a write or a flush says whether it found the device closed
+abbrev pub was_closed : Result (Unit {0}) WriteFault → Bool
+was_closed (Ok done) = false
+was_closed (Err write_fault.Closed) = true
+was_closed (Err write_fault.Failed) = false
 
 -- the result of a read says whether the read was interrupted
 abbrev pub was_interrupted : Result ℕ ReadFault → Bool

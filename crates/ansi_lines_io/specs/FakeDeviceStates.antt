@@ -2,7 +2,7 @@
 use Rattle.std.specs.Prelude.{◌≤◌, ℕ, List, Bool}
 use Rattle.ansi_lines_io.specs.declared.fake_device.Outcome.{Outcome}
 
--- a device has bytes; how many of them are read and passed on; its counts of reads and flushes; its room; the most bytes of a read; the outcomes of its next calls; and whether a call was interrupted or failed
+-- a device has bytes; how many of them are read and passed on; its counts of reads and flushes; its room; the most bytes of a read; the outcomes of its next calls; and whether a call was interrupted, failed, or found it closed
 pub record FakeDeviceState : Type 0 where
   pub bytes : List ℕ
   pub read : ℕ
@@ -14,6 +14,7 @@ pub record FakeDeviceState : Type 0 where
   pub schedule : List Outcome
   pub interrupted : Bool
   pub failed : Bool
+  pub closed : Bool
 
 -- a device has read at most its bytes, has at most as many bytes as its room, and has allocated its room
 pub record IsWithinRoom (read len room capacity : ℕ) : Type 0 where

@@ -6,8 +6,8 @@ use Rattle.ansi_lines_io.specs.declared.devices.ReadFault.TheVariants as read_fa
 use Rattle.ansi_lines_io.specs.declared.devices.WriteFault.{WriteFault}
 use Rattle.ansi_lines_io.specs.declared.devices.WriteFault.TheVariants as write_fault
 use Rattle.ansi_lines_io.specs.declared.fake_device.Outcome.{Outcome}
-use Rattle.ansi_lines_io.specs.declared.fake_device.Outcome.TheVariants.{Works, Interrupted, Failed}
-use Rattle.ansi_lines_io.specs.Devices.{was_interrupted, was_failed, count_after}
+use Rattle.ansi_lines_io.specs.declared.fake_device.Outcome.TheVariants.{Works, Interrupted, Failed, Closed}
+use Rattle.ansi_lines_io.specs.Devices.{was_interrupted, was_failed, was_closed, count_after}
 use Rattle.ansi_lines_io.specs.FakeDeviceStates.{FakeDeviceState}
 
 -- a new device has read, passed on and scheduled nothing, no read and no flush was made, and one read may give all of its bytes
@@ -23,6 +23,7 @@ fresh_device bytes room = record {
   schedule = [];
   interrupted = false;
   failed = false;
+  closed = false;
 }
 
 -- the bytes of a device that aren't read yet
@@ -47,16 +48,24 @@ abbrev pub read_comes_to : Outcome → ℕ → Result ℕ ReadFault
 read_comes_to Works count = Ok count
 read_comes_to Interrupted count = Err read_fault.Interrupted
 read_comes_to Failed count = Err read_fault.Failed
+read_comes_to Closed count = Err read_fault.Failed
+
+-- the fault of a write or a flush with this outcome
+abbrev pub fault_after : Outcome → WriteFault
+fault_after Works = write_fault.Failed
+fault_after Interrupted = write_fault.Failed
+fault_after Failed = write_fault.Failed
+fault_after Closed = write_fault.Closed
 
 -- a flush succeeds if the call works
 abbrev pub flush_comes_to : Outcome → Result (Unit {0}) WriteFault
 flush_comes_to Works = Ok tt
-flush_comes_to Interrupted = Err write_fault.Failed
-flush_comes_to Failed = Err write_fault.Failed
+flush_comes_to outcome = Err (fault_after outcome)
 
 -- a write succeeds if the call works and the device has room for its length after the write
 abbrev pub write_comes_to : Outcome → ℕ → ℕ → Result (Unit {0}) WriteFault
-write_comes_to outcome len room = if nat_le len room then flush_comes_to outcome else Err write_fault.Failed
+write_comes_to Works len room = if nat_le len room then Ok tt else Err write_fault.Failed
+write_comes_to outcome len room = flush_comes_to outcome
 
 -- a read moves on by the bytes that it gave
 abbrev pub device_after_read : FakeDeviceState → Result ℕ ReadFault → FakeDeviceState
@@ -74,6 +83,7 @@ device_after_write device more result = record device {
   bytes = if is_ok result then device.bytes ++ more else device.bytes;
   schedule = drop 1 device.schedule;
   failed = device.failed || is_err result;
+  closed = device.closed || was_closed result;
 }
 
 -- a flush that succeeds passes on all of the device's bytes
@@ -83,4 +93,5 @@ device_after_flush device result = record device {
   flushes = count_after device.flushes 1;
   schedule = drop 1 device.schedule;
   failed = device.failed || is_err result;
+  closed = device.closed || was_closed result;
 }

@@ -28,3 +28,4 @@ pub record IsFreshSink {W : Type 0} (writer : W) (device : HostOut W) : Type 0 w
   pub unflushed : device.flushes ≡ 0
   pub untold : (contents : W → Option (List ℕ)) → flushed_by contents device ≡ None
   pub unfailed : device.failed ≡ false
+  pub unclosed : device.closed ≡ false

@@ -3,7 +3,7 @@ ghost use Rattle.std.specs.Prelude.{◌≡◌, ◌≤◌, ◌||◌, Bool, ℕ, L
 ghost use Rattle.std.specs.Prelude.{OnOk};
 ghost use Rattle.std.specs.Io.KnownBytes.{append_known};
 ghost use Rattle.ansi_lines_io.specs.Devices.{Reads, count_after, fault_of, was_interrupted};
-ghost use Rattle.ansi_lines_io.specs.Devices.{was_failed};
+ghost use Rattle.ansi_lines_io.specs.Devices.{was_failed, was_closed, write_fault_of};
 
 use std::io::ErrorKind;
 
@@ -32,8 +32,23 @@ impl From<ErrorKind> for ReadFault {
 /// Why a write or a flush wasn't done.
 #[derive(Clone, Copy, Debug, PartialEq, Eq)]
 pub enum WriteFault {
+    /// Nobody reads what the device passes on any more.
+    Closed,
     /// The device failed.
     Failed,
+}
+
+/// The fault for an error of this kind from a writer of std. `ErrorKind::BrokenPipe` is a closed
+/// device, and any other kind is a failure.
+impl From<ErrorKind> for WriteFault {
+    ghost from_gives = { λ kind fault. fault ≡ write_fault_of kind };
+
+    fn from(kind: ErrorKind) -> Self {
+        match kind {
+            ErrorKind::BrokenPipe => WriteFault::Closed,
+            _ => WriteFault::Failed,
+        }
+    }
 }
 
 /// A device that bytes are read from.
@@ -77,18 +92,23 @@ pub trait Sink {
     /// Whether a write or a flush has failed.
     ghost failed: { Self → Bool };
 
+    /// Whether a write or a flush has found the device closed.
+    ghost closed: { Self → Bool };
+
     /// Takes all of the bytes. It may pass them on or keep them.
     ///
     /// How many bytes a failed write takes is unspecified.
     fn write(&mut self, bytes: &[u8]) -> Result<(), WriteFault>
         ensures taken { OnOk result (taken self.new ≡ append_known (taken self.old) bytes.now) }
         ensures flushes { flushes self.new ≡ flushes self.old }
-        ensures failed { failed self.new ≡ (failed self.old || is_err result) };
+        ensures failed { failed self.new ≡ (failed self.old || is_err result) }
+        ensures closed { closed self.new ≡ (closed self.old || was_closed result) };
 
     /// Passes on all that it has taken.
     fn flush(&mut self) -> Result<(), WriteFault>
         ensures taken { OnOk result (taken self.new ≡ taken self.old) }
         ensures flushed { OnOk result (flushed self.new ≡ taken self.new) }
         ensures flushes { flushes self.new ≡ count_after (flushes self.old) 1 }
-        ensures failed { failed self.new ≡ (failed self.old || is_err result) };
+        ensures failed { failed self.new ≡ (failed self.old || is_err result) }
+        ensures closed { closed self.new ≡ (closed self.old || was_closed result) };
 }

@@ -1,13 +1,14 @@
 //! A device for tests: bytes in memory, and a schedule that decides how calls end.
 ghost use Rattle.std.specs.Prelude.{◌≡◌, ◌≤◌, ◌+◌, ◌||◌, [], ◌++◌, IfOk, OnOk, Some, length, drop};
-ghost use Rattle.std.specs.Prelude.{take, is_err, vec_len};
+ghost use Rattle.std.specs.Prelude.{take, true, is_err, vec_len, Err};
 ghost use Rattle.std.specs.Io.KnownBytes.{append_known};
 ghost use Rattle.ansi_lines_io.specs.Devices.{Reads, count_after, was_interrupted, was_failed};
+ghost use Rattle.ansi_lines_io.specs.Devices.{was_closed};
 ghost use Rattle.ansi_lines_io.specs.FakeDevices.{fresh_device, next_outcome, bytes_left};
 ghost use Rattle.ansi_lines_io.specs.FakeDevices.{count_given};
 ghost use Rattle.ansi_lines_io.specs.FakeDevices.{read_comes_to, write_comes_to, flush_comes_to};
 ghost use Rattle.ansi_lines_io.specs.FakeDevices.{device_after_read, device_after_write};
-ghost use Rattle.ansi_lines_io.specs.FakeDevices.{device_after_flush};
+ghost use Rattle.ansi_lines_io.specs.FakeDevices.{device_after_flush, fault_after};
 
 use crate::devices::{ReadFault, Sink, Source, WriteFault};
 use std::alloc::{AllocError, Global};
@@ -23,6 +24,8 @@ pub enum Outcome {
     Interrupted,
     /// The call fails.
     Failed,
+    /// A read fails. A write or a flush finds the device closed.
+    Closed,
 }
 
 /// A device for tests: bytes in memory. Reads start at the first byte, and writes append.
@@ -50,6 +53,7 @@ pub struct FakeDevice {
     schedule: VecDeque<Outcome>,
     interrupted: bool,
     failed: bool,
+    closed: bool,
 }
 
 impl Model for FakeDevice {
@@ -69,6 +73,7 @@ impl Model for FakeDevice {
       schedule = device.schedule.items;
       interrupted = device.interrupted;
       failed = device.failed;
+      closed = device.closed;
     } };
 
     ghost invariant = { λ device.
@@ -92,6 +97,7 @@ impl FakeDevice {
             schedule: VecDeque::new(alloc),
             interrupted: false,
             failed: false,
+            closed: false,
         }
     }
 
@@ -110,6 +116,7 @@ impl FakeDevice {
             schedule: VecDeque::new(alloc),
             interrupted: false,
             failed: false,
+            closed: false,
         })
     }
 
@@ -170,6 +177,22 @@ impl FakeDevice {
         self.take_outcome()
     }
 
+    // The fault of a write or a flush that ends with this outcome.
+    fn fail(&mut self, outcome: Outcome) -> WriteFault
+        ensures fault { result ≡ fault_after outcome }
+        ensures device { self.new ≡ record self.old {
+          failed = true;
+          closed = self.old.closed || was_closed (Err result);
+        } }
+    {
+        self.failed = true;
+        if outcome == Outcome::Closed {
+            self.closed = true;
+            return WriteFault::Closed;
+        }
+        WriteFault::Failed
+    }
+
     // Copies the next bytes to the start of `room`, and returns their number.
     fn give(&mut self, room: &mut [u8]) -> usize
         ensures count { result ≡ count_given self.old (length room.old) }
@@ -213,7 +236,7 @@ impl Source for FakeDevice {
                 self.interrupted = true;
                 Err(ReadFault::Interrupted)
             }
-            Outcome::Failed => {
+            Outcome::Failed | Outcome::Closed => {
                 self.failed = true;
                 Err(ReadFault::Failed)
             }
@@ -232,11 +255,14 @@ impl Sink for FakeDevice {
 
     ghost failed = { λ device. device.failed };
 
+    ghost closed = { λ device. device.closed };
+
     fn write(&mut self, bytes: &[u8]) -> Result<(), WriteFault>
         ensures taken { OnOk result
             (Some self.new.bytes ≡ append_known (Some self.old.bytes) bytes.now) }
         ensures flushes { self.new.flushes ≡ self.old.flushes }
         ensures failed { self.new.failed ≡ (self.old.failed || is_err result) }
+        ensures closed { self.new.closed ≡ (self.old.closed || was_closed result) }
         ensures outcome { result ≡ write_comes_to (next_outcome self.old) (length self.old.bytes
             + length bytes.now) self.old.room }
         ensures device { self.new ≡ device_after_write self.old bytes.now result }
@@ -246,8 +272,7 @@ impl Sink for FakeDevice {
         if outcome == Outcome::Works && has_room && self.bytes.extend_from_slice(bytes).is_ok() {
             return Ok(());
         }
-        self.failed = true;
-        Err(WriteFault::Failed)
+        Err(self.fail(outcome))
     }
 
     fn flush(&mut self) -> Result<(), WriteFault>
@@ -256,15 +281,16 @@ impl Sink for FakeDevice {
             (Some (take self.new.flushed self.new.bytes) ≡ Some self.new.bytes) }
         ensures flushes { self.new.flushes ≡ count_after self.old.flushes 1 }
         ensures failed { self.new.failed ≡ (self.old.failed || is_err result) }
+        ensures closed { self.new.closed ≡ (self.old.closed || was_closed result) }
         ensures outcome { result ≡ flush_comes_to (next_outcome self.old) }
         ensures device { self.new ≡ device_after_flush self.old result }
     {
         self.flushes = self.flushes.saturating_add(1);
-        if self.take_outcome() == Outcome::Works {
+        let outcome = self.take_outcome();
+        if outcome == Outcome::Works {
             self.flushed = self.bytes.len();
             return Ok(());
         }
-        self.failed = true;
-        Err(WriteFault::Failed)
+        Err(self.fail(outcome))
     }
 }

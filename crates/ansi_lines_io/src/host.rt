@@ -1,16 +1,17 @@
 //! Devices over std's readers and writers. A sink reports the bytes that its writer reports. A
 //! source reports none.
 ghost use Rattle.std.specs.Prelude.{◌≡◌, ◌≤◌, ◌||◌, None, length, is_err, is_some, refl, IfOk};
-ghost use Rattle.std.specs.Prelude.{OnErr, OnOk};
+ghost use Rattle.std.specs.Prelude.{true, Err, OnErr, OnOk};
 ghost use Rattle.std.specs.Io.KnownBytes.{append_known, Appends, Keeps, ReadConsumes};
 ghost use Rattle.ansi_lines_io.specs.Devices.{Reads, count_after, was_interrupted, was_failed};
+ghost use Rattle.ansi_lines_io.specs.Devices.{was_closed, write_fault_of};
 ghost use Rattle.ansi_lines_io.specs.Hosts.{reader_of, writer_of, flushed_by, IsFreshSource};
 ghost use Rattle.ansi_lines_io.specs.Hosts.{IsFreshSink};
 ghost use Rattle.ansi_lines_io.specs.Writers.{buffered_tell_alike};
 
 use crate::devices::{ReadFault, Sink, Source, WriteFault};
 use std::alloc::Allocator;
-use std::io::{BufWriter, Read, Stderr, Stdout, Write};
+use std::io::{BufWriter, ErrorKind, Read, Stderr, Stdout, Write};
 
 /// A source over a reader of std.
 #[derive(Drop)]
@@ -104,6 +105,7 @@ pub struct HostOut<W> {
     // Whether the writer has passed on all that it has taken.
     flushed: bool,
     failed: bool,
+    closed: bool,
 }
 
 impl<W: Write> HostOut<W> {
@@ -116,7 +118,22 @@ impl<W: Write> HostOut<W> {
             flushes: 0,
             flushed: false,
             failed: false,
+            closed: false,
         }
+    }
+
+    // The fault of a write or a flush whose error has this kind.
+    fn fail(&mut self, kind: ErrorKind) -> WriteFault
+        ensures fault { result ≡ write_fault_of kind }
+        ensures device { self.new ≡ record self.old {
+          failed = true;
+          closed = self.old.closed || was_closed (Err result);
+        } }
+    {
+        let fault = WriteFault::from(kind);
+        self.failed = true;
+        self.closed |= fault == WriteFault::Closed;
+        fault
     }
 }
 
@@ -131,11 +148,14 @@ impl<W: SteadyWrite> Sink for HostOut<W> {
 
     ghost failed = { λ device. device.failed };
 
+    ghost closed = { λ device. device.closed };
+
     fn write(&mut self, bytes: &[u8]) -> Result<(), WriteFault>
         ensures taken { OnOk result (W.contents (writer_of self.new)
             ≡ append_known (W.contents (writer_of self.old)) bytes.now) }
         ensures flushes { self.new.flushes ≡ self.old.flushes }
         ensures failed { self.new.failed ≡ (self.old.failed || is_err result) }
+        ensures closed { self.new.closed ≡ (self.old.closed || was_closed result) }
         ensures untold { flushed_by W.contents self.new ≡ None }
         ensures writer { OnOk result (Appends (W.contents (writer_of self.old))
             (W.contents (writer_of self.new)) bytes.now) }
@@ -143,10 +163,7 @@ impl<W: SteadyWrite> Sink for HostOut<W> {
         self.flushed = false;
         match self.writer.write_all(bytes) {
             Ok(()) => Ok(()),
-            Err(_) => {
-                self.failed = true;
-                Err(WriteFault::Failed)
-            }
+            Err(error) => Err(self.fail(error.kind())),
         }
     }
 
@@ -157,15 +174,16 @@ impl<W: SteadyWrite> Sink for HostOut<W> {
             (flushed_by W.contents self.new ≡ W.contents (writer_of self.new)) }
         ensures flushes { self.new.flushes ≡ count_after self.old.flushes 1 }
         ensures failed { self.new.failed ≡ (self.old.failed || is_err result) }
+        ensures closed { self.new.closed ≡ (self.old.closed || was_closed result) }
         ensures untold { OnErr result (flushed_by W.contents self.new ≡ None) }
         ensures writer { Keeps (W.contents (writer_of self.old)) (W.contents (writer_of self.new)) }
     {
         self.flushes = self.flushes.saturating_add(1);
-        self.flushed = self.writer.flush().is_ok();
-        if self.flushed {
-            return Ok(());
+        let result = self.writer.flush();
+        self.flushed = result.is_ok();
+        if let Err(error) = result {
+            return Err(self.fail(error.kind()));
         }
-        self.failed = true;
-        Err(WriteFault::Failed)
+        Ok(())
     }
 }

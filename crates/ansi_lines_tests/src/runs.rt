@@ -1,4 +1,4 @@
-//! Runs of `ansi_lines` over fake devices: what a run writes, reports and returns, also if its
+//! Runs of the programs over fake devices: what a run writes, reports and returns, also if its
 //! devices or its memory fail.
 mod devices;
 mod hosts;
@@ -6,6 +6,7 @@ mod memory;
 mod prepared;
 mod rows;
 pub mod statuses;
+mod views;
 
 use ansi_lines_io::fake_device::{FakeDevice, Outcome};
 use ansi_lines_runs::runs::run;

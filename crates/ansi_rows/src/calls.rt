@@ -60,7 +60,6 @@ impl<'r> Call<'r> {
                 | Call::Block(..)
                 | Call::Items
                 | Call::IsWhole
-                | Call::Safe(_)
         )
     }
 

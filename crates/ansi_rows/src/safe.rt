@@ -1,8 +1,9 @@
 //! The results of calls of safe output.
 use crate::check::Check;
 use crate::rows::Row;
-use ansi_safe::policy::{Links, Policy, Rest};
-use ansi_safe::safe::{is_safe, sanitize};
+use ansi_safe::safe::sanitize;
+use ansi_safe::{AnsiSafe, Links, Policy, Rest};
+use ansi_str::AnsiStr;
 use std::alloc::Allocator;
 
 #[derive(Clone, Copy)]
@@ -45,11 +46,21 @@ impl SafeCall {
     }
 }
 
-/// Checks what a call returns if it allocates from `heap`.
+/// Checks what a call of `AnsiSafe` returns.
+pub fn make_safe_call<T: AnsiStr>(check: &mut Check<'_>, text: &T, call: SafeCall) {
+    let alloc = check.alloc;
+    match call {
+        SafeCall::Sanitize(policy) => check.text_or_err(text.ansi_sanitize(alloc, policy)),
+        SafeCall::IsSafe(links) => check.test(text.ansi_is_safe(links)),
+    }
+}
+
+/// Checks what a call returns if it allocates from `heap`. A call without an allocator is made as
+/// usual.
 pub fn make_safe_call_in<A: Allocator>(check: &mut Check<'_>, heap: A, call: SafeCall) {
     let text = check.row.text;
     match call {
         SafeCall::Sanitize(policy) => check.text_or_err(sanitize(heap, text, policy)),
-        SafeCall::IsSafe(links) => check.test(is_safe(text, links)),
+        SafeCall::IsSafe(_) => make_safe_call(check, &text, call),
     }
 }

@@ -5,7 +5,7 @@ use crate::check::Check;
 use crate::columns::{make_column_call, make_column_call_in};
 use crate::items::check_items;
 use crate::ranges::is_good_range_of;
-use crate::safe::make_safe_call_in;
+use crate::safe::{make_safe_call, make_safe_call_in};
 use ansi_columns::wrap::AnsiWrap;
 use ansi_str::search::part_interval;
 use ansi_str::slice::{
@@ -73,6 +73,7 @@ pub fn make_call<T: AnsiStr>(check: &mut Check<'_>, text: &T, call: &Call<'_>) {
         ))),
         Call::HasAny => check.test(text.ansi_has_any()),
         Call::Columns(call) => make_column_call(check, text, call),
+        Call::Safe(call) => make_safe_call(check, text, call),
         _ => {}
     }
 }

@@ -121,9 +121,14 @@ fn write_sanitized<A: Allocator>(
     Ok(out)
 }
 
-/// Appends a text with what each of its items becomes. `Err` means out of memory; what was appended
-/// before it stays.
-fn push_cleaned<A: Allocator>(
+/// Appends a text with what each of its items becomes. What the text leaves open isn't ended. `Err`
+/// means out of memory; what was appended before it stays.
+///
+/// ```
+/// push_cleaned(&mut out, "\x1b[2J\x1b[31mred", policy)?;
+/// assert!(rt; out.as_str() == "\x1b[31mred");
+/// ```
+pub fn push_cleaned<A: Allocator>(
     out: &mut String<A>,
     text: &str,
     policy: Policy,

@@ -1,0 +1,40 @@
+//! Runs of `ansi_view` whose devices fail. No clause says how much was read before a failing read.
+use super::{FakeDevices, Plan, Ran, at_call, expect, expect_end};
+use ansi_lines_io::fake_device::Outcome;
+use ansi_view_runs::runs::run;
+use std::alloc::{AllocError, Global};
+
+// A run without words.
+fn view_with(alloc: Global, bytes: &[u8], plan: Plan) -> Result<Ran, AllocError> {
+    let mut devices = FakeDevices::new(alloc, bytes, plan)?;
+    let status = run(
+        alloc,
+        &[],
+        &mut devices.input,
+        &mut devices.output,
+        &mut devices.faults,
+    );
+    Ran::over(alloc, status, &devices)
+}
+
+#[test]
+fn what_is_read_before_a_failing_read_is_written(rt: HostRuntime) -> Result<(), AllocError> {
+    let mut plan = Plan::new(rt.alloc());
+    plan.input = at_call(rt.alloc(), 1, Outcome::Failed)?;
+    let ran = view_with(rt.alloc(), b"a\nbc", plan)?;
+    let name = "a read that fails after one that works";
+    expect_end(&rt, &ran, 3, "a\nbc", "read failed\n", name);
+    expect(&rt, ran.flushed == 4, "what is flushed", name);
+    Ok(())
+}
+
+#[test]
+fn a_closed_output_is_no_fault(rt: HostRuntime) -> Result<(), AllocError> {
+    let mut plan = Plan::new(rt.alloc());
+    plan.output = at_call(rt.alloc(), 1, Outcome::Closed)?;
+    let ran = view_with(rt.alloc(), b"a\nb\n", plan)?;
+    let name = "a write that finds the output closed";
+    expect_end(&rt, &ran, 0, "a\n", "", name);
+    expect(&rt, ran.output_left == 0, "the calls", name);
+    Ok(())
+}

@@ -1,0 +1,45 @@
+-- What the definitions say of small inputs.
+use Rattle.std.proofs.Common.{◌≡◌, [], ◌∷◌, true, false, Some, None, refl}
+use Rattle.std.specs.Prelude.{codes}
+use Rattle.ansi_safe.specs.declared.policy.Links.TheVariants.{Keep, Remove}
+use Rattle.ansi_safe.specs.declared.policy.Rest.TheVariants.{Drop, Show}
+use Rattle.ansi_view_runs.specs.Lines.{lines}
+use Rattle.ansi_view_runs.specs.Views.{viewed, opening_after}
+use Rattle.ansi_view_runs.specs.Words.{bad_word, view_asked}
+
+-- a carriage return directly before a line feed is part of the line end, and another one isn't
+pub lines-three : lines (codes "a\rb\r\n\nc")
+    ≡ record { text = codes "a\rb"; end = codes "\r\n" } ∷ record { text = []; end = codes "\n" } ∷ record { text = codes "c"; end = [] } ∷ []
+unfolding lines
+lines-three = refl
+
+-- a last carriage return ends no line
+pub lines-carriage_return : lines (codes "\r\r\n\r") ≡ record { text = codes "\r"; end = codes "\r\n" } ∷ record { text = codes "\r"; end = [] } ∷ []
+unfolding lines
+lines-carriage_return = refl
+
+-- no bytes have no lines
+pub lines-empty : lines [] ≡ []
+unfolding lines
+lines-empty = refl
+
+-- a line with nothing but its end is just that, and what is open stays open
+pub viewed-empty : viewed (view_asked []) (codes "\u{1b}[31m") (record { text = []; end = codes "\r\n" }) ≡ codes "\r\n"
+viewed-empty = refl
+
+pub opening-empty : opening_after (view_asked []) (codes "\u{1b}[31m") (record { text = []; end = codes "\n" }) ≡ codes "\u{1b}[31m"
+opening-empty = refl
+
+-- the words, in any order
+pub view_asked-all : view_asked (codes "plain" ∷ codes "links" ∷ codes "show" ∷ []) ≡ record { policy = record { rest = Show; links = Keep }; plain = true }
+view_asked-all = refl
+
+pub view_asked-none : view_asked [] ≡ record { policy = record { rest = Drop; links = Remove }; plain = false }
+view_asked-none = refl
+
+-- the first bad word
+pub bad_word-second : bad_word (codes "show" ∷ codes "Show" ∷ codes "x" ∷ []) ≡ Some (codes "Show")
+bad_word-second = refl
+
+pub bad_word-none : bad_word (codes "show" ∷ codes "show" ∷ []) ≡ None
+bad_word-none = refl

@@ -1,0 +1,5 @@
+mod Examples
+pub mod LineLemmas
+pub mod WordLemmas
+pub mod Shown
+pub mod Viewed

@@ -1,0 +1,49 @@
+-- What a sink has taken so far, and what is still to come.
+use Rattle.std.proofs.Common.{◌≡◌, ◌≤◌, ◌<◌, List, [], ◌++◌, ℕ, length, Option, refl, sym, ap, ◌∙◌, append_assoc, append-nil}
+use Rattle.std.specs.Io.KnownBytes.{append_known}
+use Rattle.ansi_lines_io.proofs.Known.{append_known-nil, append_known-twice}
+use Rattle.ansi_view_runs.specs.declared.view.View.{View}
+use Rattle.ansi_view_runs.specs.Lines.{Line, HasNoLineFeed, max_piece, lines}
+use Rattle.ansi_view_runs.specs.LineViews.{BeginsWithLine}
+use Rattle.ansi_view_runs.specs.Views.{opening_after, viewed, viewed_all}
+use Rattle.ansi_view_runs.specs.Runs.{to_come, Shows, ShowsBeginning}
+use Rattle.ansi_view_runs.proofs.LineLemmas.{lines-none, only_line}
+
+-- at the start all is still to come
+pub Shows-start : (before : List ℕ → List ℕ) (old : Option (List ℕ)) → Shows before before old old
+Shows-start before old = record { part = []; taken = sym (append_known-nil old); whole = λ more. refl }
+
+-- one more write
+pub Shows-more : {before now after : List ℕ → List ℕ} {old mid : Option (List ℕ)} (new : Option (List ℕ)) (front : List ℕ)
+    → Shows before now old mid → new ≡ append_known mid front → ((more : List ℕ) → now more ≡ front ++ after more) → Shows before after old new
+Shows-more {before} {now} {after} {old} {mid} new front so_far wrote goes_on = record {
+  part = so_far.part ++ front;
+  taken = append_known-twice old so_far.part front so_far.taken wrote;
+  whole = λ more. so_far.whole more ∙ ap (λ xs. so_far.part ++ xs) (goes_on more) ∙ sym (append_assoc so_far.part front (after more));
+}
+
+-- one more stretch
+pub Shows-then : {before now after : List ℕ → List ℕ} {old mid new : Option (List ℕ)} → Shows before now old mid → Shows now after mid new → Shows before after old new
+Shows-then {before} {now} {after} {old} {mid} {new} first next = Shows-more new next.part first next.taken next.whole
+
+-- what is to come of bytes that begin with a line
+pub to_come-line : (view : View) (opening opening_then b rest : List ℕ) (line : Line) → BeginsWithLine b line rest → opening_then ≡ opening_after view opening line
+    → (more : List ℕ) → to_come view opening b more ≡ viewed view opening line ++ to_come view opening_then rest more
+unfolding viewed_all
+to_come-line view opening opening_then b rest line begins then more =
+    ap (viewed_all view opening) (begins more) ∙ ap (λ o. viewed view opening line ++ to_come view o rest more) (sym then)
+
+-- nothing comes of no bytes
+pub to_come-nothing : (view : View) (opening : List ℕ) → to_come view opening [] [] ≡ []
+unfolding viewed_all
+to_come-nothing view opening = ap (viewed_all view opening) lines-none
+
+-- the last line comes of bytes without a line feed
+pub to_come-last : (view : View) (opening b : List ℕ) → 0 < length b → HasNoLineFeed b → length b ≤ max_piece → to_come view opening b [] ≡ viewed view opening (record { text = b; end = [] })
+unfolding viewed_all
+to_come-last view opening b some none fits =
+    ap (λ t. viewed_all view opening (lines t)) (append-nil b) ∙ ap (viewed_all view opening) (only_line b some none fits) ∙ append-nil (viewed view opening (record { text = b; end = [] }))
+
+-- no bytes are a beginning
+pub nothing_shown : (before : List ℕ → List ℕ) (old : Option (List ℕ)) → ShowsBeginning before old old
+nothing_shown before old = record { after = before; shows = Shows-start before old }

@@ -1,0 +1,6 @@
+pub mod Lines
+pub mod Views
+pub mod LineViews
+pub mod Words
+pub mod Stops
+pub mod Runs

@@ -1,0 +1,8 @@
+//! The program `ansi_view`: its words, what each line becomes, and a run over any devices.
+#![tactic(auto)]
+
+pub mod lines;
+pub mod runs;
+pub mod stop;
+pub mod view;
+pub mod words;

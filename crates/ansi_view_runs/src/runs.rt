@@ -1,0 +1,327 @@
+//! A run of the program, over any devices.
+ghost use Rattle.std.specs.Prelude.{◌≡◌, ◌≤◌, ◌⊎◌, ◌++◌, ◌==◌, [], false, true, codes, length, vec_len};
+ghost use Rattle.std.specs.Prelude.{IfErr, IfOk, IfSome, IsErrOf, IsSome, OnErr, OnOk, string_bytes};
+ghost use Rattle.std.specs.Prelude.{if◌then◌else◌};
+ghost use Rattle.std.specs.Io.KnownBytes.{append_known};
+ghost use Rattle.ansi_lines_io.specs.Devices.{count_after};
+ghost use Rattle.ansi_lines_runs.specs.Runs.{words_of};
+ghost use Rattle.ansi_view_runs.specs.Lines.{max_piece, HasNoLineFeed};
+ghost use Rattle.ansi_view_runs.specs.LineViews.{line_of};
+ghost use Rattle.ansi_view_runs.specs.Runs.{to_come, Shows, ShowsBeginning, StopsWriting};
+ghost use Rattle.ansi_view_runs.specs.Runs.{KeepsFlags, MostFlushes, StopsReading};
+ghost use Rattle.ansi_view_runs.specs.Runs.{ViewsAll, ViewsBeginning, ViewsFront};
+ghost use Rattle.ansi_view_runs.specs.Stops.{message_of};
+ghost use Rattle.ansi_view_runs.specs.Views.{opening_after, viewed};
+ghost use Rattle.ansi_view_runs.specs.Words.{bad_word, message_of_word, view_asked};
+
+use crate::lines::{Line, split_first};
+use crate::stop::Stop;
+use crate::view::{View, view_line};
+use crate::words::parse;
+use ansi_lines_io::devices::{ReadFault, Sink, Source, WriteFault};
+use ansi_safe::policy::{Links, Policy, Rest};
+use ansi_safe::safe::sanitize;
+use std::alloc::Allocator;
+
+// The most bytes that a read may give.
+const ROOM: usize = 65_536;
+
+/// What a run holds between two reads.
+#[derive(Drop)]
+pub struct Held<A: Allocator> {
+    /// What opens what is open before the next line.
+    pub opening: String<A>,
+    /// The bytes that are read and don't decide a line yet.
+    pub rest: Vec<u8, A>,
+}
+
+// Writes what a line becomes. `opening` is what is open before the line, and then after it.
+fn write_line<A: Allocator + Copy, W: Sink>(
+    alloc: A,
+    view: View,
+    opening: &mut String<A>,
+    line: &Line<'_>,
+    output: &mut W,
+) -> Result<(), Stop>
+    ensures taken { OnOk result (W.taken output.new ≡ append_known (W.taken output.old)
+        (viewed view (string_bytes opening.old) (line_of line.now))) }
+    ensures opening { OnOk result (string_bytes opening.new
+        ≡ opening_after view (string_bytes opening.old) (line_of line.now)) }
+    ensures flushes { W.flushes output.new ≡ W.flushes output.old }
+    ensures flags { OnOk result (KeepsFlags (W.failed output.old) (W.failed output.new)
+        (W.closed output.old) (W.closed output.new)) }
+    ensures stopped { IfErr result (StopsWriting (W.failed output.old) (W.failed output.new)
+        (W.closed output.old) (W.closed output.new) (W.taken output.new ≡ W.taken output.old)) }
+{
+    let viewed = view_line(alloc, view, opening, line)?;
+    output.write(viewed.as_bytes())?;
+    Ok(())
+}
+
+// Writes what each line and piece becomes that these bytes decide, and returns the other bytes.
+fn write_lines<'t, A: Allocator + Copy, W: Sink>(
+    alloc: A,
+    view: View,
+    opening: &mut String<A>,
+    bytes: &'t [u8],
+    output: &mut W,
+) -> Result<&'t [u8], Stop>
+    ensures done { IfOk result (λ rest. Shows (to_come view (string_bytes opening.old) bytes.now)
+        (to_come view (string_bytes opening.new) rest.now) (W.taken output.old)
+        (W.taken output.new)) }
+    ensures rest { IfOk result (λ rest. HasNoLineFeed rest.now × (length rest.now ≤ max_piece)) }
+    ensures flushes { W.flushes output.new ≡ W.flushes output.old }
+    ensures flags { OnOk result (KeepsFlags (W.failed output.old) (W.failed output.new)
+        (W.closed output.old) (W.closed output.new)) }
+    ensures stopped { IfErr result (StopsWriting (W.failed output.old) (W.failed output.new)
+        (W.closed output.old) (W.closed output.new)
+        (ShowsBeginning (to_come view (string_bytes opening.old) bytes.now) (W.taken output.old)
+        (W.taken output.new))) }
+{
+    let mut rest = bytes;
+    while let Some((line, after)) = split_first(rest) {
+        write_line(alloc, view, opening, &line, output)?;
+        rest = after;
+    }
+    Ok(rest)
+}
+
+/// Takes the bytes of a read: writes what each line and piece becomes that is decided now, and
+/// passes all on. At most 1 MiB is held after it.
+pub fn take_bytes<A: Allocator + Copy, W: Sink>(
+    alloc: A,
+    view: View,
+    held: &mut Held<A>,
+    bytes: &[u8],
+    output: &mut W,
+) -> Result<(), Stop>
+    ensures done { OnOk result (Shows
+        (to_come view (string_bytes held.old.opening) (held.old.rest.items ++ bytes.now))
+        (to_come view (string_bytes held.new.opening) held.new.rest.items)
+        (W.taken output.old) (W.taken output.new)) }
+    ensures rest { OnOk result
+        (HasNoLineFeed held.new.rest.items × (vec_len held.new.rest ≤ max_piece)) }
+    ensures flushed { OnOk result (W.flushed output.new ≡ W.taken output.new) }
+    ensures flushes { OnOk result (W.flushes output.new ≡ count_after (W.flushes output.old) 1) }
+    ensures most_flushes { (W.flushes output.new ≡ W.flushes output.old) ⊎
+        (W.flushes output.new ≡ count_after (W.flushes output.old) 1) }
+    ensures flags { OnOk result (KeepsFlags (W.failed output.old) (W.failed output.new)
+        (W.closed output.old) (W.closed output.new)) }
+    ensures stopped { IfErr result (StopsWriting (W.failed output.old) (W.failed output.new)
+        (W.closed output.old) (W.closed output.new) (ShowsBeginning
+        (to_come view (string_bytes held.old.opening) (held.old.rest.items ++ bytes.now))
+        (W.taken output.old) (W.taken output.new))) }
+{
+    held.rest.extend_from_slice(bytes)?;
+    let rest = write_lines(alloc, view, &mut held.opening, held.rest.as_slice(), output)?;
+    let rest = Vec::from_slice(alloc, rest)?;
+    held.rest = rest;
+    output.flush()?;
+    Ok(())
+}
+
+// Writes what the bytes held become, a line without an end, and passes all on.
+fn write_last<A: Allocator + Copy, W: Sink>(
+    alloc: A,
+    view: View,
+    held: &mut Held<A>,
+    output: &mut W,
+) -> Result<(), Stop>
+    requires { HasNoLineFeed held.old.rest.items × (vec_len held.old.rest ≤ max_piece) }
+    ensures done { OnOk result (W.taken output.new ≡ append_known (W.taken output.old)
+        (to_come view (string_bytes held.old.opening) held.old.rest.items [])) }
+    ensures flushed { OnOk result (W.flushed output.new ≡ W.taken output.new) }
+    ensures flushes { OnOk result (W.flushes output.new ≡ count_after (W.flushes output.old) 1) }
+    ensures most_flushes { (W.flushes output.new ≡ W.flushes output.old) ⊎
+        (W.flushes output.new ≡ count_after (W.flushes output.old) 1) }
+    ensures flags { OnOk result (KeepsFlags (W.failed output.old) (W.failed output.new)
+        (W.closed output.old) (W.closed output.new)) }
+    ensures stopped { IfErr result (StopsWriting (W.failed output.old) (W.failed output.new)
+        (W.closed output.old) (W.closed output.new) (W.taken output.new ≡ W.taken output.old)) }
+{
+    let text = held.rest.as_slice();
+    if !text.is_empty() {
+        write_line(
+            alloc,
+            view,
+            &mut held.opening,
+            &Line { text, end: "" },
+            output,
+        )?;
+    }
+    output.flush()?;
+    Ok(())
+}
+
+// Writes what the whole input becomes, and passes on what each read decides before the next read.
+fn view_all<A: Allocator + Copy, S: Source, W: Sink>(
+    alloc: A,
+    view: View,
+    input: &mut S,
+    output: &mut W,
+) -> Result<(), Stop>
+    ensures done { OnOk result (ViewsAll view (S.left input.old) (W.taken output.old)
+        (W.taken output.new)) }
+    ensures flushed { OnOk result (W.flushed output.new ≡ W.taken output.new) }
+    ensures unfailed { OnOk result (S.failed input.new ≡ S.failed input.old) }
+    ensures flags { OnOk result (KeepsFlags (W.failed output.old) (W.failed output.new)
+        (W.closed output.old) (W.closed output.new)) }
+    ensures read_failed { IsErrOf result Stop.ReadFailed →
+        StopsReading (S.failed input.new) (S.reads input.new)
+        × ViewsFront view (S.left input.old) (W.taken output.old) (W.taken output.new)
+        × (W.flushed output.new ≡ W.taken output.new)
+        × KeepsFlags (W.failed output.old) (W.failed output.new) (W.closed output.old)
+        (W.closed output.new) }
+    ensures closed { IsErrOf result Stop.Closed →
+        (W.failed output.new ≡ true) × (W.closed output.new ≡ true) }
+    ensures write_failed { IsErrOf result Stop.WriteFailed →
+        (W.failed output.new ≡ true) × (W.closed output.new ≡ W.closed output.old) }
+    ensures out_of_memory { IsErrOf result Stop.OutOfMemory →
+        ViewsBeginning view (S.left input.old) (W.taken output.old) (W.taken output.new)
+        × KeepsFlags (W.failed output.old) (W.failed output.new) (W.closed output.old)
+        (W.closed output.new) }
+    ensures most_flushes { MostFlushes (S.reads input.old) (S.reads input.new)
+        (W.flushes output.old) (W.flushes output.new) }
+{
+    let mut held = Held {
+        opening: String::new(alloc),
+        rest: Vec::new(alloc),
+    };
+    let mut room = [0u8; ROOM];
+    for _turn in 0..u64::MAX {
+        match input.read(&mut room) {
+            Ok(0) => {
+                write_last(alloc, view, &mut held, output)?;
+                return Ok(());
+            }
+            Ok(count) => take_bytes(alloc, view, &mut held, &room[..count], output)?,
+            Err(ReadFault::Interrupted) => {}
+            Err(ReadFault::Failed) => {
+                write_last(alloc, view, &mut held, output)?;
+                return Err(Stop::ReadFailed);
+            }
+        }
+    }
+    write_last(alloc, view, &mut held, output)?;
+    Err(Stop::ReadFailed)
+}
+
+/// Makes the input safe, line by line, as the words ask, and returns the status.
+///
+/// It writes what each read decides, and passes it on, before the next read. What a line becomes
+/// is a text that can be looked at alone: it begins with what is open before it and ends what it
+/// leaves open. At most 1 MiB of the input is held, and a longer line is handled in pieces.
+///
+/// | status | when | text on the fault writer |
+/// |---|---|---|
+/// | 0 | done, or nobody reads the output any more | none |
+/// | 2 | a bad word; nothing is read | `bad word: WORD\n`, the word made safe |
+/// | 3 | a read of the input failed; what was read before it is written | `read failed\n` |
+/// | 4 | a write or a flush of the output failed | `write failed\n` |
+/// | 5 | out of memory; what is written is a beginning of the whole output | `out of memory\n` |
+///
+/// The status is the first of these that the run meets. An interrupted read is made again. A fault
+/// of the fault writer is ignored.
+///
+/// ```
+/// let mut input = FakeDevice::of(alloc, b"\x1b[2Ja\x1b[31mb\nc".to_vec(alloc)?);
+/// let mut output = FakeDevice::with_room(alloc, 30)?;
+/// let mut faults = FakeDevice::with_room(alloc, 10)?;
+/// assert_eq!(run(alloc, &[], &mut input, &mut output, &mut faults), 0);
+/// assert_eq!(output.bytes(), b"a\x1b[31mb\x1b[39m\n\x1b[31mc\x1b[39m");
+/// ```
+pub fn run<A: Allocator, S: Source, W: Sink, V: Sink>(
+    alloc: A,
+    words: &[String],
+    input: &mut S,
+    output: &mut W,
+    faults: &mut V,
+) -> u8
+    ensures statuses { (result ≡ 0) ⊎ ((2 ≤ result) × (result ≤ 5)) }
+
+    // All that the words make of the input is written and passed on, if its reader doesn't leave.
+    ensures done { result ≡ 0 → W.closed output.new ≡ false → ViewsAll
+        (view_asked (words_of words.now)) (S.left input.old) (W.taken output.old)
+        (W.taken output.new) }
+    ensures flushed { result ≡ 0 → W.closed output.new ≡ false →
+        W.flushed output.new ≡ W.taken output.new }
+
+    // A bad word is reported before anything is read or written.
+    ensures bad_words { result ≡ 2 → IsSome (bad_word (words_of words.now)) }
+    ensures only_bad_words { IsSome (bad_word (words_of words.now)) →
+        (result ≡ 2) ⊎ (result ≡ 5) }
+    ensures nothing_read { IsSome (bad_word (words_of words.now)) → input.new ≡ input.old }
+    ensures nothing_written { IsSome (bad_word (words_of words.now)) → output.new ≡ output.old }
+
+    // If a read fails, what was read before it is written and passed on.
+    ensures read_failed { result ≡ 3 → StopsReading (S.failed input.new) (S.reads input.new) }
+    ensures front { result ≡ 3 → ViewsFront (view_asked (words_of words.now)) (S.left input.old)
+        (W.taken output.old) (W.taken output.new) }
+    ensures front_flushed { result ≡ 3 → W.flushed output.new ≡ W.taken output.new }
+    ensures only_read_failed { result ≡ 0 → W.closed output.new ≡ false →
+        S.failed input.new ≡ S.failed input.old }
+
+    // A failed write or flush is reported, but not if the output is closed.
+    ensures write_failed { result ≡ 4 →
+        (W.failed output.new ≡ true) × (W.closed output.new ≡ W.closed output.old) }
+    ensures only_write_failed { W.failed output.old ≡ false → W.failed output.new ≡ true →
+        (result ≡ 4) ⊎ ((result ≡ 0) × (W.closed output.new ≡ true)) }
+    ensures closed { W.closed output.old ≡ false → W.closed output.new ≡ true → result ≡ 0 }
+
+    // If memory runs out, a beginning of the output is written.
+    ensures out_of_memory { result ≡ 5 → ViewsBeginning (view_asked (words_of words.now))
+        (S.left input.old) (W.taken output.old) (W.taken output.new) }
+
+    // At most one flush for each read, and one more.
+    ensures most_flushes { MostFlushes (S.reads input.old) (S.reads input.new)
+        (W.flushes output.old) (W.flushes output.new) }
+    ensures faults_unflushed { V.flushes faults.new ≡ V.flushes faults.old }
+
+    // The reason that ends a run early is reported, and nothing else is.
+    ensures quiet { result ≡ 0 → faults.new ≡ faults.old }
+    ensures told { 3 ≤ result → V.failed faults.new ≡ false →
+        V.taken faults.new ≡ append_known (V.taken faults.old) (message_of result) }
+    ensures told_word { result ≡ 2 → V.failed faults.new ≡ false →
+        IfSome (bad_word (words_of words.now)) (λ word.
+        V.taken faults.new ≡ append_known (V.taken faults.old) (message_of_word word)) }
+{
+    match parse(words) {
+        Ok(view) => match view_all(&alloc, view, input, output) {
+            Ok(()) => 0,
+            Err(stop) => stop.tell(faults),
+        },
+        Err(word) => tell_word(&alloc, word, faults),
+    }
+}
+
+// Reports a bad word, made safe, and returns the status.
+fn tell_word<A: Allocator, V: Sink>(alloc: A, word: &str, faults: &mut V) -> u8
+    ensures statuses { (result ≡ 2) ⊎ (result ≡ 5) }
+    ensures told { V.failed faults.new ≡ false → V.taken faults.new
+        ≡ append_known (V.taken faults.old) (if result == 2 then message_of_word word.now else message_of result) }
+    ensures flushes { V.flushes faults.new ≡ V.flushes faults.old }
+{
+    let policy = Policy {
+        rest: Rest::Show,
+        links: Links::Remove,
+    };
+    match sanitize(alloc, word, policy) {
+        Ok(word) => {
+            let _ = write_word(word.as_str(), faults);
+            2
+        }
+        Err(error) => Stop::from(error).tell(faults),
+    }
+}
+
+// Writes the text of a bad word, which is one line.
+fn write_word<V: Sink>(word: &str, faults: &mut V) -> Result<(), WriteFault>
+    ensures told { OnOk result (V.taken faults.new ≡ append_known (V.taken faults.old)
+        (codes "bad word: " ++ word.now ++ codes "\n")) }
+    ensures flushes { V.flushes faults.new ≡ V.flushes faults.old }
+    ensures failed { OnErr result (V.failed faults.new ≡ true) }
+{
+    faults.write(b"bad word: ")?;
+    faults.write(word.as_bytes())?;
+    faults.write(b"\n")
+}

@@ -1,0 +1,115 @@
+//! What a line becomes.
+ghost use Rattle.std.specs.Prelude.{◌≡◌, [], IfOk, IsTrue, OnOk, string_bytes};
+ghost use Rattle.std.specs.Str.{IsUtf8};
+ghost use Rattle.ansi_safe.specs.Links.{IsClosed};
+ghost use Rattle.ansi_safe.specs.Safe.{is_safe};
+ghost use Rattle.ansi_view_runs.specs.Views.{decoded, opening_of, opening_after, viewed, body};
+ghost use Rattle.ansi_view_runs.specs.LineViews.{line_of};
+ghost use Rattle.ansi_safe.specs.Sanitized.{cleaned, sanitized};
+
+use crate::lines::Line;
+use ansi_safe::links::{LONGEST_ENDING, pen_after};
+use ansi_safe::policy::Policy;
+use ansi_safe::safe::push_cleaned;
+use ansi_slice::slice::strip_in;
+use ansi_style::styles;
+use std::alloc::{AllocError, Allocator};
+
+/// What a run makes of its input.
+#[derive(Clone, Copy, Debug, PartialEq, Eq)]
+pub struct View {
+    /// What is made of what isn't allowed in a safe text, and of links.
+    pub policy: Policy,
+    /// Whether each line's sequences are stripped first.
+    pub plain: bool,
+}
+
+/// The bytes that a line becomes, with its end.
+///
+/// `opening` is what is open before the line, and then what is open after it. `Err` means out of
+/// memory; `opening` may then be anything.
+pub fn view_line<A: Allocator + Copy>(
+    alloc: A,
+    view: View,
+    opening: &mut String<A>,
+    line: &Line<'_>,
+) -> Result<String<A>, AllocError>
+    ensures bytes { IfOk result (λ s.
+        string_bytes s ≡ viewed view (string_bytes opening.old) (line_of line.now)) }
+    ensures opening { OnOk result (string_bytes opening.new
+        ≡ opening_after view (string_bytes opening.old) (line_of line.now)) }
+{
+    if line.text.is_empty() {
+        return String::from_str(alloc, line.end);
+    }
+    let mut made = view_text(alloc, view, opening, line.text)?;
+    made.push_str(line.end)?;
+    Ok(made)
+}
+
+/// What the text of a line becomes: a safe text that ends what it leaves open.
+///
+/// `opening` is what is open before it, and then what it leaves open. `Err` means out of memory;
+/// `opening` may then be anything.
+pub fn view_text<A: Allocator + Copy>(
+    alloc: A,
+    view: View,
+    opening: &mut String<A>,
+    text: &[u8],
+) -> Result<String<A>, AllocError>
+    ensures bytes { IfOk result (λ s. string_bytes s
+        ≡ sanitized view.policy (body view (string_bytes opening.old) text.now)) }
+    ensures safe { IfOk result (λ s. IsTrue (is_safe view.policy.links (string_bytes s))) }
+    ensures closed { IfOk result (λ s. IsClosed (string_bytes s)) }
+    ensures opening { OnOk result (string_bytes opening.new
+        ≡ opening_of (cleaned view.policy (body view (string_bytes opening.old) text.now))) }
+{
+    let mut made = clean(alloc, view, opening.as_str(), text)?;
+    *opening = opening_after(alloc, made.as_str())?;
+    let ending = pen_after(made.as_str()).ending();
+    ending.push_to(&mut made)?;
+    Ok(made)
+}
+
+// What is open before a text, and the text, made safe. What is open at the end isn't ended.
+fn clean<A: Allocator + Copy>(
+    alloc: A,
+    view: View,
+    opening: &str,
+    text: &[u8],
+) -> Result<String<A>, AllocError>
+    ensures bytes { IfOk result (λ s. string_bytes s
+        ≡ cleaned view.policy (body view opening.now text.now)) }
+    ensures utf8 { OnOk result (IsUtf8 (body view opening.now text.now)) }
+{
+    let text = decode(alloc, view, text)?;
+    let mut body = String::with_capacity(alloc, opening.len())?;
+    body.push_str(opening)?;
+    body.push_str(text.as_str())?;
+    let mut made = String::with_capacity(alloc, body.len() + LONGEST_ENDING)?;
+    push_cleaned(&mut made, body.as_str(), view.policy)?;
+    Ok(made)
+}
+
+// The text of bytes, without its sequences if the view is plain. Bytes that aren't UTF-8 become
+// U+FFFD.
+fn decode<A: Allocator + Copy>(alloc: A, view: View, bytes: &[u8]) -> Result<String<A>, AllocError>
+    ensures { IfOk result (λ s. string_bytes s ≡ decoded view bytes.now) }
+{
+    let text = String::from_utf8_lossy(alloc, bytes)?;
+    if !view.plain {
+        return Ok(text);
+    }
+    String::from_str(alloc, strip_in(alloc, text.as_str())?.as_str())
+}
+
+// What opens what is open at the end of a text.
+fn opening_after<A: Allocator>(alloc: A, text: &str) -> Result<String<A>, AllocError>
+    ensures { IfOk result (λ s. string_bytes s ≡ opening_of text.now) }
+{
+    let pen = pen_after(text);
+    let mut opening = String::new(alloc);
+    styles::write_start(&pen.style, &mut opening)?;
+    opening.push_str(pen.link)?;
+    Ok(opening)
+}
