@@ -43,7 +43,7 @@ struct call {
 
 TEXT(strip) TEXT(trim) TEXT(strip_prefix, p.at, p.len) TEXT(strip_suffix, p.at, p.len) TEXT(part, p.at, p.len, n)
 QUESTION(has_any) QUESTION(is_whole) QUESTION(is_char_boundary, n) QUESTION(floor_char_boundary, n)
-QUESTION(width) QUESTION(fitting, n)
+QUESTION(width) QUESTION(fitting, n) TEXT(link_at, n)
 TEXT(sanitize, ANSI_STR_SHOW, ANSI_STR_KEEP_LINKS) QUESTION(is_safe, ANSI_STR_KEEP_LINKS)
 QUESTION(starts_with, p.at, p.len) QUESTION(ends_with, p.at, p.len) QUESTION(find, p.at, p.len)
 
@@ -60,6 +60,10 @@ static size_t pad(struct bytes t, size_t n, struct bytes p) {
 static size_t wrap(struct bytes t, size_t n, struct bytes p) {
     (void)p;
     return count_of(ansi_str_wrap(t.at, t.len, n, NULL, 0, NULL, 0));
+}
+static size_t lines(struct bytes t, size_t n, struct bytes p) {
+    (void)p;
+    return count_of(ansi_str_lines(t.at, t.len, n, NULL, 0));
 }
 /* from a position to the end, and from the start to a position */
 static size_t cut_from(struct bytes t, size_t n, struct bytes p) {
@@ -99,7 +103,7 @@ static const struct call CALLS[] = {
     {"floor_char_boundary", floor_char_boundary, 1, 0, 0}, {"starts_with", starts_with, 0, 1, 0},
     {"ends_with", ends_with, 0, 1, 0}, {"strip_prefix", strip_prefix, 0, 1, 0}, {"strip_suffix", strip_suffix, 0, 1, 0},
     {"width", width, 0, 0, 0}, {"fitting", fitting, 1, 0, 0}, {"truncate", truncate_to, 1, 1, 0}, {"pad", pad, 1, 0, 0},
-    {"wrap", wrap, 1, 0, 1},
+    {"wrap", wrap, 1, 0, 1}, {"lines", lines, 1, 0, 1}, {"link_at", link_at, 1, 0, 0},
     {"sanitize", sanitize, 0, 0, 0}, {"is_safe", is_safe, 0, 0, 0},
     {"find", find, 0, 1, 0}, {"split", split, 0, 1, 1}, {"part", part, 1, 1, 0},
 };

@@ -27,6 +27,7 @@ static char text_bytes[1], pattern_bytes[1], room[1];
 static size_t ends_given[1];
 static ansi_str_block_entry blocks_given[1];
 static ansi_str_styled_block_entry styled_blocks_given[1];
+static ansi_str_line_entry lines_given[1];
 
 #define GIVEN(pointer) (is_given ? (pointer) : NULL)
 #define NUMBER(n) (is_given ? ((size_t)1 << 32) + (n) : 0)
@@ -86,6 +87,7 @@ WRITES(right, ONE)
 WRITES(block, ONE)
 WRITES(block_start, ONE)
 WRITES(block_end, ONE)
+WRITES(link_at, ONE)
 WRITES_BY_PATTERN(strip_prefix, NONE)
 WRITES_BY_PATTERN(strip_suffix, NONE)
 WRITES_BY_PATTERN(part, ONE)
@@ -171,6 +173,11 @@ ansi_str_answers ansi_str_raw_wrap(TEXT, size_t i, BUFFER, size_t *ends, size_t 
     return EXPECT_TEXT, EXPECT_ONE, EXPECT_BUFFER, ANSWERS;
 }
 
+ansi_str_answers ansi_str_raw_lines(TEXT, size_t i, ansi_str_line_entry *lines, size_t count) {
+    expect_pointer(__func__, "the lines", lines, lines_given, count, NUMBER(6));
+    return EXPECT_TEXT, EXPECT_ONE, ANSWERS;
+}
+
 /* The edits of which one call is made, and what each takes: two numbers and a pattern. */
 enum { EDITS = 7 };
 static ansi_str_edit_step edits_given[EDITS];
@@ -208,6 +215,7 @@ static void call_each(void) {
     ansi_str_width(GIVE_TEXT);
     ansi_str_fitting(GIVE_TEXT, NUMBER(4));
     ansi_str_truncate(GIVE_TEXT, NUMBER(4), GIVE_PATTERN, GIVE_BUFFER);
+    ansi_str_link_at(GIVE_TEXT, NUMBER(4), GIVE_BUFFER);
     ansi_str_pad(GIVE_TEXT, NUMBER(4), ANSI_STR_RIGHT, GIVE_BUFFER);
     ansi_str_sanitize(GIVE_TEXT, ANSI_STR_SHOW, ANSI_STR_REMOVE_LINKS, GIVE_BUFFER);
     ansi_str_is_safe(GIVE_TEXT, ANSI_STR_KEEP_LINKS);
@@ -233,6 +241,7 @@ static void call_each(void) {
     ansi_str_style_end(&style_numbers, GIVE_BUFFER);
     ansi_str_split(GIVE_TEXT, GIVE_PATTERN, GIVE_BUFFER, GIVEN(ends_given), NUMBER(6));
     ansi_str_wrap(GIVE_TEXT, NUMBER(4), GIVE_BUFFER, GIVEN(ends_given), NUMBER(6));
+    ansi_str_lines(GIVE_TEXT, NUMBER(4), GIVEN(lines_given), NUMBER(6));
     ansi_str_edit(GIVE_TEXT, NULL, NUMBER(6), GIVE_BUFFER);
     ansi_str_edit(GIVE_TEXT, edits_given, EDITS, GIVE_BUFFER);
 }

@@ -19,7 +19,7 @@ static struct {
     const char *call;
     long rows;
 } LACKING[] = {{"count_parts", 0}, {"part_interval", 0}, {"split_at", 0}, {"count_blocks", 0}, {"block_order", 0},
-               {"items", 0},       {"lines", 0},         {"link_at", 0},  {"too many fields", 0}};
+               {"items", 0},       {"too many fields", 0}};
 
 enum { LACKING_COUNT = sizeof LACKING / sizeof LACKING[0] };
 
@@ -167,6 +167,8 @@ static ansi_str_answer call(const struct row *r, char *buffer, size_t len) {
         return ansi_str_truncate(TEXT(t), position(r, 0), TEXT(argument(r, 1)), buffer, len);
     } else if (strcmp(name, "pad") == 0) {
         return ansi_str_pad(TEXT(t), position(r, 0), number_of(argument(r, 1)), buffer, len);
+    } else if (strcmp(name, "link_at") == 0) {
+        return ansi_str_link_at(TEXT(t), position(r, 0), buffer, len);
     } else if (strcmp(name, "sanitize") == 0) {
         return ansi_str_sanitize(TEXT(t), number_of(argument(r, 0)), number_of(argument(r, 1)), buffer, len);
     }
@@ -327,6 +329,28 @@ static ansi_str_answers list(const struct row *r, char *buffer, size_t len, size
     const struct text *t = text_of(r);
     return strcmp(r->fields[0].bytes, "split") == 0 ? ansi_str_split(TEXT(t), TEXT(argument(r, 0)), buffer, len, ends, most)
                                                     : ansi_str_wrap(TEXT(t), position(r, 0), buffer, len, ends, most);
+}
+
+/* Where each line of a row's text begins and ends: with room for one more, and with too little. The call doesn't allocate. */
+static void expect_lines(const struct row *r) {
+    const struct text *t = text_of(r);
+    size_t count = number(r, 2);
+    ansi_str_line_entry *lines = __real_malloc((count + 1) * sizeof *lines);
+    memset(lines, GUARD, (count + 1) * sizeof *lines);
+    granted = 0;
+    ansi_str_answers answer = ansi_str_lines(TEXT(t), position(r, 0), lines, count - 1);
+    expect("too few lines", answer.status == ANSI_STR_TOO_SMALL && answer.count == count && answer.len == 0);
+    expect("nothing is written", is_guard((const char *)lines, 0, (count + 1) * sizeof *lines));
+    answer = ansi_str_lines(TEXT(t), position(r, 0), lines, count + 1);
+    granted = -1;
+    expect("lines", answer.status == status_of(r) && answer.count == count && answer.len == 0);
+    for (size_t i = 0; i < count; i++) {
+        char interval[64];
+        snprintf(interval, sizeof interval, "%zu,%zu", lines[i].start, lines[i].end);
+        expect("a line", strcmp(interval, argument(r, 1 + i)->bytes) == 0);
+    }
+    expect("nothing more is written", is_guard((const char *)&lines[count], 0, sizeof *lines));
+    free(lines);
 }
 
 /* With this room, which is too small, a call for all parts or lines writes nothing, and returns how much they need. */
@@ -584,13 +608,19 @@ static void expect_failures(void) {
     const ansi_str_answer answers[] = {ansi_str_width("\xff", 1), ansi_str_fitting("\xff", 1, 1),
                                        ansi_str_truncate("\xff", 1, 1, ".", 1, buffer, 8),
                                        ansi_str_truncate("ab", 2, 1, "\xff", 1, buffer, 8),
-                                       ansi_str_pad("\xff", 1, 4, ANSI_STR_RIGHT + 1, buffer, 8)};
+                                       ansi_str_pad("\xff", 1, 4, ANSI_STR_RIGHT + 1, buffer, 8),
+                                       ansi_str_link_at("\xff", 1, 0, buffer, 8)};
     for (size_t i = 0; i < sizeof answers / sizeof answers[0]; i++) {
         expect("no UTF-8", answers[i].status == ANSI_STR_NOT_UTF8 && answers[i].len == 0);
     }
     size_t end = 0;
     ansi_str_answers lines = ansi_str_wrap("\xff", 1, 4, buffer, 8, &end, 1);
     expect("no UTF-8", lines.status == ANSI_STR_NOT_UTF8 && lines.count == 0 && lines.len == 0 && end == 0);
+    ansi_str_line_entry line = {1, 1};
+    lines = ansi_str_lines("\xff", 1, 4, &line, 1);
+    expect("no UTF-8", lines.status == ANSI_STR_NOT_UTF8 && lines.count == 0 && lines.len == 0 && line.end == 1);
+    lines = ansi_str_lines(NULL, 0, 0, NULL, 0);
+    expect("one line", lines.status == ANSI_STR_TOO_SMALL && lines.count == 1 && lines.len == 0);
     lines = ansi_str_wrap(NULL, 0, 0, NULL, 0, NULL, 0);
     expect("one line", lines.status == ANSI_STR_TOO_SMALL && lines.count == 1 && lines.len == 0);
     ansi_str_answer answer = ansi_str_pad("ab", 2, 4, ANSI_STR_RIGHT + 1, buffer, 8);
@@ -608,6 +638,7 @@ static void expect_failures(void) {
     expect("nothing", ansi_str_fitting(NULL, 0, 0).status == ANSI_STR_OK);
     expect("nothing", ansi_str_truncate(NULL, 0, 0, NULL, 0, NULL, 0).status == ANSI_STR_OK);
     expect("nothing", ansi_str_pad(NULL, 0, 0, ANSI_STR_LEFT, NULL, 0).status == ANSI_STR_OK);
+    expect("nothing", ansi_str_link_at(NULL, 0, 0, NULL, 0).status == ANSI_STR_NO);
     expect("nothing", ansi_str_sanitize(NULL, 0, ANSI_STR_DROP, ANSI_STR_REMOVE_LINKS, NULL, 0).status == ANSI_STR_OK);
     expect("nothing", ansi_str_is_safe(NULL, 0, ANSI_STR_REMOVE_LINKS).status == ANSI_STR_OK);
 }
@@ -674,6 +705,8 @@ static void expect_row(const struct row *r) {
         expect_parts(r);
     } else if (strcmp(name, "wrap") == 0) {
         expect_list(r);
+    } else if (strcmp(name, "lines") == 0) {
+        expect_lines(r);
     } else if (strcmp(name, "blocks") == 0) {
         expect_blocks(r);
     } else if (strcmp(name, "styled_blocks") == 0) {

@@ -27,11 +27,35 @@ export function splitAt(text: string, index: number): [string, string];
 /** The text without the white space at its ends (Unicode's `White_Space`). Sequences stay. */
 export function trim(text: string): string;
 
+/** The text without a prefix of its plain text, or null if the plain text doesn't begin with it. Sequences stay. */
+export function stripPrefix(text: string, pattern: string): string | null;
+
+/** The text without a suffix of its plain text, or null if the plain text doesn't end with it. Sequences stay. */
+export function stripSuffix(text: string, pattern: string): string | null;
+
+/** Whether the plain text begins with the pattern. */
+export function startsWith(text: string, pattern: string): boolean;
+
+/** Whether the plain text ends with the pattern. */
+export function endsWith(text: string, pattern: string): boolean;
+
+/** Whether the text has an ESC. */
+export function hasAny(text: string): boolean;
+
+/** Whether no ESC in the text begins an unfinished sequence. */
+export function isWhole(text: string): boolean;
+
+/** The index, or the position before it if it is between the surrogates of a character. Past the end of the plain text, its end. */
+export function floorCharBoundary(text: string, index: number): number;
+
 /** The position of the pattern's first match in the plain text, or -1. A match may run across sequences. */
 export function find(text: string, pattern: string): number;
 
 /** The parts of the text between the matches of the pattern, each in its styles. */
 export function split(text: string, pattern: string): string[];
+
+/** An iterator over what `split` returns. All parts are made at once, as there. */
+export function iterSplit(text: string, pattern: string): IterableIterator<string>;
 
 export type Edit =
   | ['cut', number, number?]
@@ -84,6 +108,9 @@ export interface Block {
  */
 export function blocks(text: string): Block[];
 
+/** An iterator over what `blocks` returns. All blocks are made at once, as there. */
+export function iterBlocks(text: string): IterableIterator<Block>;
+
 /** The display width of the text in columns: the sum over the extended grapheme clusters of its plain text. */
 export function width(text: string): number;
 
@@ -101,6 +128,12 @@ export function pad(text: string, width: number, alignment?: 'left' | 'center' |
 
 /** The text wrapped to lines of `width` columns. Each line closes the link and style it leaves open; the next reopens them. */
 export function wrap(text: string, width: number): string[];
+
+/** Where each line that `wrap` returns begins and ends in the plain text. The text can be cut there. */
+export function lines(text: string, width: number): [number, number][];
+
+/** The address of the link (OSC 8) around the unit of the plain text at a position, or null if no link is open there. */
+export function linkAt(text: string, position: number): string | null;
 
 /**
  * The text made safe, so that it can't drive the terminal. Printing characters, TAB, line feeds, carriage returns directly before a

@@ -49,17 +49,17 @@ function placeOf(plain, position) {
   return before.isWellFormed() ? bytesOf(before) : bytesOf(before.slice(0, -1)) + 2;
 }
 
-/** Converts a position in bytes of the plain text to units. */
-function unitsOf(plain, position) {
+/** Converts positions in bytes of the plain text, which ascend, to units. */
+function unitsOf(plain, positions) {
   let [bytes, units] = [0, 0];
-  for (const character of plain) {
-    if (bytes >= position) {
-      break;
+  return positions.map((position) => {
+    while (bytes < position) {
+      const character = String.fromCodePoint(plain.codePointAt(units));
+      bytes += bytesOf(character);
+      units += character.length;
     }
-    bytes += bytesOf(character);
-    units += character.length;
-  }
-  return units;
+    return units;
+  });
 }
 
 /** What a cut has as a step. */
@@ -143,6 +143,36 @@ export function trim(text) {
   return placed(text, ['trim']);
 }
 
+export function stripPrefix(text, pattern) {
+  return edit(text, [['prefix', pattern]]);
+}
+
+export function stripSuffix(text, pattern) {
+  return edit(text, [['suffix', pattern]]);
+}
+
+export function startsWith(text, pattern) {
+  return raw.startsWith(textOf('text', text), textOf('pattern', pattern));
+}
+
+export function endsWith(text, pattern) {
+  return raw.endsWith(textOf('text', text), textOf('pattern', pattern));
+}
+
+export function hasAny(text) {
+  return textOf('text', text).includes('\x1b');
+}
+
+export function isWhole(text) {
+  return raw.isWhole(textOf('text', text));
+}
+
+export function floorCharBoundary(text, index) {
+  const plain = strip(text);
+  const position = Math.min(numberOf('index', index), plain.length);
+  return plain.slice(0, position).isWellFormed() ? position : position - 1;
+}
+
 export function find(text, pattern) {
   textOf('text', text);
   textOf('pattern', pattern);
@@ -156,6 +186,14 @@ export function split(text, pattern) {
   return raw.split(textOf('text', text), textOf('pattern', pattern));
 }
 
+export function iterSplit(text, pattern) {
+  return split(text, pattern).values();
+}
+
+export function iterBlocks(text) {
+  return blocks(text).values();
+}
+
 export function blocks(text) {
   return raw.blocks(textOf('text', text));
 }
@@ -166,7 +204,7 @@ export function width(text) {
 
 export function fitting(text, width) {
   const position = raw.fitting(textOf('text', text), numberOf('width', width));
-  return isAscii(text) ? position : unitsOf(raw.strip(text), position);
+  return isAscii(text) ? position : unitsOf(raw.strip(text), [position])[0];
 }
 
 export function truncate(text, width, tail = '') {
@@ -182,6 +220,17 @@ export function pad(text, width, alignment = 'left') {
 
 export function wrap(text, width) {
   return raw.wrap(textOf('text', text), numberOf('width', width));
+}
+
+export function lines(text, width) {
+  const places = raw.lines(textOf('text', text), numberOf('width', width));
+  const positions = isAscii(text) ? places : unitsOf(raw.strip(text), places);
+  return Array.from({ length: positions.length / 2 }, (_, index) => [positions[2 * index], positions[2 * index + 1]]);
+}
+
+export function linkAt(text, position) {
+  const place = numberOf('position', position);
+  return raw.linkAt(textOf('text', text), isAscii(text) ? place : placeOf(raw.strip(text), place));
 }
 
 export function sanitize(text, { show = false, links = false } = {}) {

@@ -22,6 +22,7 @@ const BLOCK = 16;
 const STEP = 40;
 const ENTRY = 48;
 const END = 8;
+const LINE = 16;
 
 const encoder = new TextEncoder();
 const decoder = new TextDecoder('utf-8', { ignoreBOM: true });
@@ -248,6 +249,19 @@ export function find(text, pattern) {
   return called([text, pattern], [], roomFor(0), (exports, frame) => exports.ansi_str_raw_find(frame.head[0], ...frame.texts[0], ...frame.texts[1]), told);
 }
 
+/** Whether an export that takes a text and a pattern returns that it is so. */
+function isSo(name, text, pattern) {
+  return called([text, pattern], [], roomFor(0),
+    (exports, frame) => exports[name](frame.head[0], ...frame.texts[0], ...frame.texts[1]), told) !== null;
+}
+
+export const startsWith = (text, pattern) => isSo('ansi_str_raw_starts_with', text, pattern);
+export const endsWith = (text, pattern) => isSo('ansi_str_raw_ends_with', text, pattern);
+
+export function isWhole(text) {
+  return called([text], [], roomFor(0), (exports, frame) => exports.ansi_str_raw_is_whole(frame.head[0], ...frame.texts[0]), told) !== null;
+}
+
 /** The text after all steps, or null if one is refused. */
 export function edit(text, steps) {
   const texts = [text, ...steps.map((step) => step.pattern)];
@@ -283,6 +297,19 @@ export function pad(text, width, alignment) {
 export function wrap(text, width) {
   return called([text], [], roomForList(text, END),
     (exports, frame) => exports.ansi_str_raw_wrap(...frame.head, ...frame.texts[0], BigInt(width), ...frame.out, ...frame.list), listed);
+}
+
+/** Where each line begins and ends, in bytes of the plain text: the beginning and the end of the first, then those of the next. */
+export function lines(text, width) {
+  return called([text], [], { bytes: 0, entries: 64 + Math.floor(text.length / 8), entry: LINE },
+    (exports, frame) => exports.ansi_str_raw_lines(frame.head[0], ...frame.texts[0], BigInt(width), ...frame.list),
+    (frame) => Array.from({ length: 2 * told(frame) }, (_, index) => frame.word(frame.entries + index * 8)));
+}
+
+/** The address of the link at a position in bytes of the plain text, or null. */
+export function linkAt(text, position) {
+  return called([text], [], roomForOne(text),
+    (exports, frame) => exports.ansi_str_raw_link_at(frame.head[0], ...frame.texts[0], BigInt(position), ...frame.out), written);
 }
 
 export function sanitize(text, rest, links) {

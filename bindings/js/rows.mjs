@@ -1,11 +1,13 @@
 // Makes the calls of the rows of texts and results, which rows/README.md describes, in Node and in a page.
-import { blocks, cut, edit, find, fitting, isSafe, pad, sanitize, split, splitAt, strip, trim, truncate, width, wrap } from './index.js';
+import {
+  blocks, cut, edit, endsWith, find, fitting, floorCharBoundary, hasAny, isSafe, isWhole, iterBlocks, iterSplit, lines, linkAt, pad, sanitize, split, splitAt,
+  startsWith, strip, stripPrefix, stripSuffix, trim, truncate, width, wrap,
+} from './index.js';
 
 /** The calls that aren't here. The positions of an edit count the bytes of what the edit before it made. */
-const LACKING = ['starts_with', 'ends_with', 'has_any', 'is_whole', 'is_char_boundary', 'floor_char_boundary', 'part_interval', 'edit', 'block_order',
-  'items', 'lines', 'link_at'];
+const LACKING = ['is_char_boundary', 'part_interval', 'edit', 'block_order', 'items'];
 /** How many arguments of a call are positions. */
-const POSITIONS = { cut: 2, left: 1, right: 1, split_at: 1 };
+const POSITIONS = { cut: 2, left: 1, right: 1, split_at: 1, floor_char_boundary: 1, link_at: 1 };
 
 async function read(url) {
   if (url.protocol === 'file:') {
@@ -69,12 +71,23 @@ function answersOf(call, found, want, text, more) {
     case 'part':
       return [[edit(text, [['part', first, Math.min(Number(second), Number.MAX_SAFE_INTEGER)]]), found]];
     case 'strip_prefix':
+      return [[edit(text, [['prefix', first]]), found], [stripPrefix(text, first), found]];
     case 'strip_suffix':
-      return [[edit(text, [[call.slice(6), first]]), found]];
+      return [[edit(text, [['suffix', first]]), found], [stripSuffix(text, first), found]];
+    case 'starts_with':
+      return [[startsWith(text, first), found !== null]];
+    case 'ends_with':
+      return [[endsWith(text, first), found !== null]];
+    case 'has_any':
+      return [[hasAny(text), found !== null]];
+    case 'is_whole':
+      return [[isWhole(text), found !== null]];
+    case 'floor_char_boundary':
+      return [[floorCharBoundary(text, first), inUnits(strip(text), Number(want))]];
     case 'trim':
       return [[edit(text, [['trim']]), want], [trim(text), want]];
     case 'split':
-      return [[split(text, first), more.slice(1)]];
+      return [[split(text, first), more.slice(1)], [[...iterSplit(text, first)], more.slice(1)]];
     case 'split_at':
       return [[splitAt(text, first), more.slice(1)]];
     case 'count_parts':
@@ -84,7 +97,7 @@ function answersOf(call, found, want, text, more) {
     case 'styled_blocks':
       return [[blocks(text).flatMap(({ text, style }) => [style.start, text, style.end]), more]];
     case 'count_blocks':
-      return [[blocks(text).length, Number(want)]];
+      return [[blocks(text).length, Number(want)], [[...iterBlocks(text)].length, Number(want)]];
     case 'block':
       return [[blocks(text)[number]?.text ?? null, found]];
     case 'block_start':
@@ -103,6 +116,10 @@ function answersOf(call, found, want, text, more) {
       return [[pad(text, number, second.toLowerCase()), want]];
     case 'wrap':
       return [[wrap(text, number), more.slice(1)]];
+    case 'lines':
+      return [[lines(text, number), more.slice(1).map((line) => line.split(',').map((position) => inUnits(strip(text), Number(position))))]];
+    case 'link_at':
+      return [[linkAt(text, first), found]];
     case 'sanitize':
       return [[sanitize(text, { show: first === 'Show', links: second === 'Keep' }), want]];
     case 'is_safe':

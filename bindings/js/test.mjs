@@ -2,7 +2,10 @@
 import assert from 'node:assert/strict';
 import { readFile } from 'node:fs/promises';
 import { test } from 'node:test';
-import { OutOfMemoryError, blocks, cut, edit, find, fitting, isSafe, pad, sanitize, split, splitAt, strip, trim, truncate, width, wrap } from './index.js';
+import {
+  OutOfMemoryError, blocks, cut, edit, endsWith, find, fitting, floorCharBoundary, hasAny, isSafe, isWhole, iterBlocks, iterSplit, lines, linkAt, pad, sanitize,
+  split, splitAt, startsWith, strip, stripPrefix, stripSuffix, trim, truncate, width, wrap,
+} from './index.js';
 import { pass } from './rows.mjs';
 
 test('rows', async () => {
@@ -22,6 +25,12 @@ test('positions count UTF-16 units', () => {
   assert.throws(() => cut('abc', 2, 1), RangeError);
   assert.equal(find('\x1b[1m😀a', 'a'), 2);
   assert.equal(fitting('\x1b[1m😀éab', 4), 4);
+  assert.deepEqual([0, 1, 2, 3, 4].map((index) => floorCharBoundary('\x1b[1m😀a', index)), [0, 0, 2, 3, 3]);
+  assert.deepEqual(lines('\x1b[1m😀 é😀 a', 3), [[0, 2], [3, 6], [7, 8]]);
+  assert.deepEqual(lines('a\n'.repeat(1000), 5).length, 1001);
+  assert.equal(linkAt('😀\x1b]8;;😀\x07é', 2), '😀');
+  assert.equal(linkAt('\x1b]8;;u\x07😀', 1), 'u');
+  assert.equal(linkAt('\x1b]8;;u\x07é', 2 ** 60), null);
   assert.equal(cut('abc', 10), '');
   assert.equal(edit('> \x1b[1m😀éa', [['prefix', '> '], ['cut', 2], ['left', 1]]), '\x1b[1mé\x1b[22m');
 });
@@ -49,17 +58,23 @@ test('a position past the end is the end, and an end below its start is refused,
 
 test('what is no text or no position is refused', () => {
   const calls = [strip, trim, blocks, width, (text) => find(text, ''), (text) => find('', text), (text) => split('', text), (text) => edit('', [['suffix', text]]),
-    (text) => fitting(text, 1), (text) => truncate(text, 1), (text) => truncate('', 1, text), (text) => pad(text, 1), (text) => wrap(text, 1), sanitize, isSafe];
+    (text) => fitting(text, 1), (text) => truncate(text, 1), (text) => truncate('', 1, text), (text) => pad(text, 1), (text) => wrap(text, 1),
+    (text) => lines(text, 1),     (text) => linkAt(text, 0), (text) => floorCharBoundary(text, 0), hasAny, isWhole, iterBlocks, sanitize, isSafe,
+    ...[stripPrefix, stripSuffix, startsWith, endsWith, iterSplit].flatMap((call) => [(text) => call(text, ''), (text) => call('', text)])];
   for (const call of calls) {
     assert.throws(() => call('a\ud800'), /lone surrogate/);
     assert.throws(() => call(null), /must be a string/);
   }
   assert.throws(() => cut('abc', -1), RangeError);
   assert.throws(() => cut('abc', 1.5), TypeError);
+  for (const call of [linkAt, floorCharBoundary]) {
+    assert.throws(() => call('abc', -1), RangeError);
+    assert.throws(() => call('abc', '1'), TypeError);
+  }
   for (const wrong of ['cut', ['cuts', 1], [['cut'], 'x'], [new String('cut'), 0], ['toString'], [], [undefined], [0, 1], null, { 0: 'trim' }]) {
     assert.throws(() => edit('abc', [wrong]), /begins with the name of an edit/);
   }
-  for (const call of [fitting, truncate, pad, wrap]) {
+  for (const call of [fitting, truncate, pad, wrap, lines]) {
     assert.throws(() => call('abc'), /the width must be a whole number/);
     assert.throws(() => call('abc', -1), RangeError);
   }

@@ -18,9 +18,9 @@ import ansi_str
 
 ROWS = os.path.join(os.path.dirname(os.path.abspath(__file__)), "../../crates/ansi_rows/stdin")
 # the calls that aren't here. The positions of an edit count the bytes of what the edit before it made
-LACKING = ["is_char_boundary", "floor_char_boundary", "part_interval", "edit", "block_order", "items", "lines", "link_at"]
+LACKING = ["is_char_boundary", "floor_char_boundary", "part_interval", "edit", "block_order", "items"]
 # how many arguments of a call are positions
-POSITIONS = {"cut": 2, "left": 1, "right": 1, "split_at": 1}
+POSITIONS = {"cut": 2, "left": 1, "right": 1, "split_at": 1, "link_at": 1}
 
 
 def block_at(text, index, of):
@@ -59,6 +59,8 @@ MADE = {
     "truncate": lambda text, width, tail: [ansi_str.truncate(text, int(width), tail)],
     "pad": lambda text, width, word: [ansi_str.pad(text, int(width), word.lower())],
     "wrap": lambda text, width, *_: [ansi_str.wrap(text, int(width))],
+    "lines": lambda text, width, *_: [ansi_str.lines(text, int(width))],
+    "link_at": lambda text, position: [ansi_str.link_at(text, position)],
     "sanitize": lambda text, rest, links: [ansi_str.sanitize(text, show=rest == "Show", links=links == "Keep")],
     "is_safe": lambda text, links: [ansi_str.is_safe(text, links=links == "Keep")],
 }
@@ -91,6 +93,9 @@ def said(call, status, want, text, more):
         return int(want)
     if call in ("split", "split_at", "wrap"):
         return more[1:]
+    if call == "lines":
+        plain = ansi_str.strip(text)
+        return [tuple(in_characters(plain, int(position)) for position in line.split(",")) for line in more[1:]]
     if call == "blocks":
         return [(text, has == "1") for text, has in zip(more[::5], more[4::5])]
     if call == "styled_blocks":
@@ -130,14 +135,15 @@ class Rows(unittest.TestCase):
     def test_positions_count_characters(self):
         self.assertEqual(ansi_str.cut("\x1b[1méa\x1b[0m", 1), "\x1b[1ma\x1b[0m")
         self.assertEqual(ansi_str.cut("abc", 10), "")
+        self.assertEqual([ansi_str.link_at("\x1b]8;;é\x07é老\x1b]8;;\x07a", position) for position in range(4)], ["é", "é", None, None])
         with self.assertRaises(ValueError):
             ansi_str.cut("abc", 2, 1)
 
 
 # each call that takes a text, and what is passed for its other arguments
 CALLS = {"strip": [], "cut": [0], "left": [0], "right": [0], "part": [",", 0], "strip_prefix": [""], "strip_suffix": [""],
-         "trim": [], "width": [], "fitting": [1], "truncate": [1], "pad": [1], "wrap": [1], "find": [""], "starts_with": [""], "ends_with": [""], "has_any": [], "is_whole": [], "split": [","],
-         "iter_split": [","], "blocks": [], "iter_blocks": [], "edit": [[]], "sanitize": [], "is_safe": []}
+         "trim": [], "width": [], "fitting": [1], "truncate": [1], "pad": [1], "wrap": [1], "lines": [1], "find": [""], "starts_with": [""], "ends_with": [""], "has_any": [], "is_whole": [], "split": [","],
+         "iter_split": [","], "blocks": [], "iter_blocks": [], "edit": [[]], "sanitize": [], "is_safe": [], "link_at": [0]}
 PATTERNED = ["part", "strip_prefix", "strip_suffix", "find", "starts_with", "ends_with", "split", "iter_split"]
 HUGE = [2**31, 2**63 - 1, 2**63, 2**64 - 1, 2**64, 2**64 + 1, 2**200]
 
@@ -180,7 +186,8 @@ class Arguments(unittest.TestCase):
                 # (also after an edit that is refused)
                 self.refused(kind, "end " + words, ansi_str.edit, text, [ansi_str.Prefix("z"), ansi_str.Cut(0, wrong)])
                 self.refused(kind, "index " + words, ansi_str.part, text, ",", wrong)
-                for call in (ansi_str.fitting, ansi_str.truncate, ansi_str.pad, ansi_str.wrap):
+                self.refused(kind, "position " + words, ansi_str.link_at, text, wrong)
+                for call in (ansi_str.fitting, ansi_str.truncate, ansi_str.pad, ansi_str.wrap, ansi_str.lines):
                     self.refused(kind, "width " + words, call, text, wrong)
                 self.refused(kind, "index " + words, ansi_str.edit, text, [ansi_str.Part(",", wrong)])
                 for name, step in (("left", ansi_str.Left), ("right", ansi_str.Right)):
@@ -207,6 +214,7 @@ class Arguments(unittest.TestCase):
                         ansi_str.pad(text, max(huge, 2**62))
                     self.assertIsNone(ansi_str.part(text, ",", huge))
                     self.assertIsNone(ansi_str.part(text, "", huge))
+                    self.assertIsNone(ansi_str.link_at("\x1b]8;;u\x07" + text, huge))
                     self.assertIsNone(ansi_str.edit(text, ansi_str.Cut(huge + 1, huge)))
                     self.refused(ValueError, "the end lies before the start", ansi_str.cut, text, huge + 1, huge)
 
@@ -292,7 +300,7 @@ class Private(unittest.TestCase):
     WRONG = {
         "bytes": [(b"\xff", ValueError)] + [(wrong, TypeError) for wrong in TYPES + [1, ()]],
         "number": [(-1, ValueError), (-2**64, ValueError)] + [(wrong, TypeError) for wrong in TYPES + [b"a", ()]],
-        "kind": [(-1, ValueError), (11, ValueError), (2**31 - 1, ValueError), (2**31, OverflowError), (-2**200, OverflowError)]
+        "kind": [(-1, ValueError), (12, ValueError), (2**31 - 1, ValueError), (2**31, OverflowError), (-2**200, OverflowError)]
                 + [(wrong, TypeError) for wrong in TYPES + [b"a", ()]],
         "steps": [(wrong, TypeError) for wrong in TYPES + [b"a", 1, (1,), ((),), ((0, 0, 0),), ((0, 0, 0, b"", 0),), ([0, 0, 0, b""],)]],
         "bool": [],
@@ -304,6 +312,7 @@ class Private(unittest.TestCase):
         "walk": [("bytes", b"a"), ("bytes", b"a")],
         "strip": [("bytes", b"a")],
         "wrap": [("bytes", b"a"), ("number", 1)],
+        "lines": [("bytes", b"a"), ("bool", True), ("number", 1)],
     }
 
     def refused(self, call, given):
@@ -321,9 +330,9 @@ class Private(unittest.TestCase):
         for name, given in self.GOOD.items():
             self.refused(getattr(ansi_str._library, name), given)
         edit = ansi_str._library.edit
-        for kind in range(11):
+        for kind in range(12):
             self.refused(lambda *step: edit(b"a", True, (step + (b"",),)), [("kind", kind), ("number", 0), ("number", 1)])
-        # (the last three kinds don't read their pattern)
+        # (the last four kinds don't read their pattern)
         for kind in range(8):
             self.refused(lambda pattern: edit(b"a", True, ((kind, 0, 1, pattern),)), [("bytes", b"")])
 

@@ -4,6 +4,7 @@ use crate::style::{Color, Style};
 use std::borrow::Cow;
 use std::marker::PhantomData;
 use std::mem::{size_of, MaybeUninit};
+use std::ops::Range;
 use std::{ptr, slice, str};
 
 /// The statuses of `include/ansi_str.h`.
@@ -147,6 +148,13 @@ struct RawBlock {
     style: RawStyle,
 }
 
+#[repr(C)]
+#[derive(Clone, Copy)]
+struct RawLine {
+    start: usize,
+    end: usize,
+}
+
 // A text or a buffer is a pointer to its first byte and its length. The pointer of a slice is never null.
 type Bytes = *const u8;
 type Room = *mut u8;
@@ -226,6 +234,14 @@ extern "C" {
         ends: *mut usize,
         k: usize,
     ) -> Answers;
+    fn ansi_str_raw_lines(
+        t: Bytes,
+        n: usize,
+        width: usize,
+        lines: *mut RawLine,
+        k: usize,
+    ) -> Answers;
+    fn ansi_str_raw_link_at(t: Bytes, n: usize, index: usize, b: Room, m: usize) -> Answer;
     fn ansi_str_raw_sanitize(
         t: Bytes,
         n: usize,
@@ -434,6 +450,14 @@ pub(crate) fn floor_char_boundary(text: &str, index: usize) -> usize {
     tell_at(ansi_str_raw_floor_char_boundary_unchecked, text, index).len
 }
 
+pub(crate) fn link_at(text: &str, index: usize) -> Option<String> {
+    written(0, |b, m| {
+        // SAFETY: a `str`, and the room; any number may be a position
+        unsafe { ansi_str_raw_link_at(text.as_ptr(), text.len(), index, b, m) }
+    })
+    .ok()
+}
+
 pub(crate) fn width(text: &str) -> usize {
     // SAFETY: a `str`
     unsafe { ansi_str_raw_width(text.as_ptr(), text.len()) }.len
@@ -490,6 +514,26 @@ pub(crate) fn wrap(text: &str, width: usize) -> (String, Vec<usize>) {
         }
     });
     (always(lines), ends)
+}
+
+/// Where each line of a text begins and ends.
+pub(crate) fn lines(text: &str, width: usize) -> Vec<Range<usize>> {
+    let mut lines: Vec<RawLine> = Vec::with_capacity(text.len() / 8 + 1);
+    loop {
+        let (t, n, free) = (text.as_ptr(), text.len(), lines.spare_capacity_mut());
+        // SAFETY: a `str`, and the pointer and the length of a vector's spare room
+        let answer =
+            unsafe { ansi_str_raw_lines(t, n, width, free.as_mut_ptr().cast(), free.len()) };
+        match outcome(answer.status, answer.count) {
+            Ok(count) => {
+                // SAFETY: the call has set this many of them
+                unsafe { lines.set_len(count) };
+                return lines.iter().map(|line| line.start..line.end).collect();
+            }
+            Err(Unfinished::TooSmall(needed)) => lines.reserve_exact(needed),
+            Err(_) => unreachable!("this call is never refused"),
+        }
+    }
 }
 
 /// The parts of a text that are left.

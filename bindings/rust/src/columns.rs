@@ -1,4 +1,4 @@
-//! Columns of a terminal: display width, the longest prefix that fits, truncation, padding and wrapping.
+//! Columns of a terminal: display width, the longest prefix that fits, truncation, padding and wrapping; and links.
 //!
 //! The display width of a text is the sum over the extended grapheme clusters of its plain text (UAX #29, UAX #11). The library
 //! computes it also for a text without ESC, since std can't. Positions count bytes of the plain text.
@@ -6,6 +6,7 @@
 use crate::{calls, AnsiStr};
 use std::borrow::Cow;
 use std::iter::FusedIterator;
+use std::ops::Range;
 use std::vec;
 
 /// The place of a padded text among its blanks.
@@ -80,6 +81,27 @@ pub trait AnsiColumns: AnsiStr {
     /// ```
     #[must_use]
     fn ansi_wrap(&self, width: usize) -> AnsiWrap;
+
+    /// Where each line of [`ansi_wrap`](AnsiColumns::ansi_wrap) begins and ends in the plain text. The text can be cut there.
+    ///
+    /// ```
+    /// use ansi_str::columns::AnsiColumns;
+    /// assert_eq!("ab \x1b[1mcd  efg".ansi_lines(5), [0..5, 7..10]);
+    /// ```
+    #[must_use]
+    fn ansi_lines(&self, width: usize) -> Vec<Range<usize>>;
+
+    /// The address of the link (OSC 8) around the plain byte at a position, or `None` if no link is open there. The position may
+    /// be inside a character. At and after the end of the plain text there is no link.
+    ///
+    /// ```
+    /// use ansi_str::columns::AnsiColumns;
+    /// let text = "a \x1b]8;;http://x\x1b\\link\x1b]8;;\x1b\\.";
+    /// assert_eq!(text.ansi_link_at(2).as_deref(), Some("http://x"));
+    /// assert_eq!(text.ansi_link_at(6), None);
+    /// ```
+    #[must_use]
+    fn ansi_link_at(&self, index: usize) -> Option<String>;
 }
 
 /// An iterator over the lines of a wrapped text; [`AnsiColumns::ansi_wrap`] returns it. That call makes all of them, so the
@@ -136,6 +158,14 @@ impl<T: AsRef<str> + ?Sized> AnsiColumns for T {
             start: 0,
             ends: ends.into_iter(),
         }
+    }
+
+    fn ansi_lines(&self, width: usize) -> Vec<Range<usize>> {
+        calls::lines(self.as_ref(), width)
+    }
+
+    fn ansi_link_at(&self, index: usize) -> Option<String> {
+        calls::link_at(self.as_ref(), index)
     }
 }
 

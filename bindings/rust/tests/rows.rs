@@ -5,19 +5,18 @@ use ansi_str::safe::{AnsiSafe, Links, Policy, Rest};
 use ansi_str::{get_blocks, AnsiBlock, AnsiStr, Color};
 use std::borrow::Cow;
 use std::collections::BTreeMap;
+use std::ops::Range;
 
 const ROWS: &str = include_str!("../../../crates/ansi_rows/stdin");
 
 /// The calls that this crate doesn't have. It doesn't specify the order of styles.
-const LACKING: [&str; 8] = [
+const LACKING: [&str; 6] = [
     "is_whole",
     "part",
     "part_interval",
     "edit",
     "block_order",
     "items",
-    "lines",
-    "link_at",
 ];
 
 /// A field: a text, which begins with `x`, or another one as it is. `None` for a text that isn't UTF-8.
@@ -189,6 +188,12 @@ fn pass(call: &str, status: &str, want: &str, text: &str, more: &[String]) -> Op
         "truncate" => is(Some(text.ansi_truncate(position(0), &more[1]))),
         "pad" => is(Some(text.ansi_pad(position(0), alignment_of(&more[1])))),
         "wrap" => are(text.ansi_wrap(position(0)).map(Cow::from).collect()),
+        "lines" => {
+            let lines = text.ansi_lines(position(0));
+            let interval_of = |line: &Range<usize>| format!("{},{}", line.start, line.end);
+            is_number(lines.len()) && lines.iter().map(interval_of).eq(more[1..].iter().cloned())
+        }
+        "link_at" => text.ansi_link_at(position(0)).as_deref() == answer,
         "sanitize" => {
             let (rest, links) = (rest_of(&more[0]), links_of(&more[1]));
             is(Some(text.ansi_sanitize(Policy { rest, links })))

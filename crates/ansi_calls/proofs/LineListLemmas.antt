@@ -108,7 +108,11 @@ few-clusters : (x : List ℕ) → IsUtf8 x → length (clusters x) ≤ length x
 unfolding segments
 few-clusters x utf8 = omega (arith, few-pieces (clusters x) (segments_nonempty (is_grapheme_break true) x), ap length (clusters_after-bytes [] (chars x) ∙ encodes-chars x utf8))
 
--- both, of all lines of a text without ESC
+-- a text has at most one line more than bytes
+pub few-lines_of : (x : List ℕ) (width : ℕ) → IsUtf8 x → length (lines width x) ≤ length x + 1
+few-lines_of x width utf8 = omega (arith, few-lines (clusters x) (max width 1) 0 0 0 0, few-clusters x utf8)
+
+-- of all lines of a text without ESC, the bytes and the number
 pub bare-wrapped : (t : List ℕ) (width : ℕ) → IsFalse (has_escape t) → IsUtf8 t → AreLinesFrom t 0 (lines width t)
     → (length (joined_texts (wrapped_lines t width)) ≤ length t) × (length (wrapped_lines t width) ≤ length t + 1)
 bare-wrapped t width none utf8 stand =
@@ -120,7 +124,6 @@ bare-wrapped t width none utf8 stand =
         ap length over,
         length-map (wrapped t width) (λ (l : WrappedLine). l.bytes),
         count-lines_over t (lines width t),
-        few-lines (clusters t) (max width 1) 0 0 0 0,
-        few-clusters t utf8,
+        few-lines_of t width utf8,
       ),
     )

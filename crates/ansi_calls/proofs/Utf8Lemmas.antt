@@ -1,5 +1,5 @@
 -- The effect of a call, by the UTF-8 check of each of its texts.
-use Rattle.std.proofs.Common.{◌≡◌, ◌∙◌, Bool, true, false, not, ◌&&◌, ℕ, List, [], ◌∷◌, Option, Result, Ok, Err, IsTrue, inl, inr, sym, refl, subst}
+use Rattle.std.proofs.Common.{◌≡◌, ◌∙◌, Bool, true, false, not, ◌&&◌, ℕ, List, [], ◌∷◌, Option, Some, Result, Ok, Err, IsTrue, inl, inr, sym, refl, subst}
 use Rattle.std.specs.Prelude.{IsOk, IfOk, option_map, MatchResult}
 use Rattle.std.specs.Cow.{cow_str_bytes}
 use Rattle.std.specs.declared.borrow.CowStr.{CowStr}
@@ -8,7 +8,7 @@ use Rattle.std.proofs.lemmas.Str.{IsUtf8-from_is_utf8, is_utf8-from_IsUtf8}
 use Rattle.std.specs.List.{list_all}
 use Rattle.std.specs.Str.{is_utf8}
 use Rattle.ansi_calls.specs.declared.answers.Answer.{Answer}
-use Rattle.ansi_calls.specs.Answers.{out_of_memory, OnUtf8, HasFailed, IsFound, Gives}
+use Rattle.ansi_calls.specs.Answers.{out_of_memory, OnUtf8, HasFailed, IsFound, IsWritten, Gives}
 
 both-left : (a b : Bool) → (a && b) ≡ true → a ≡ true
 both-left true b both = refl

@@ -3,14 +3,17 @@ use Rattle.std.specs.Prelude.{◌≡◌, ℕ, not, ◌&&◌, ◌==◌, List, [],
 use Rattle.std.specs.Str.{IsCharBoundary}
 use Rattle.ansi_columns.specs.declared.shown.Alignment.{Alignment}
 use Rattle.ansi_columns.specs.declared.shown.Alignment.TheVariants.{Left, Right, Center}
+use Rattle.ansi_columns.specs.Addresses.{address_at}
 use Rattle.ansi_columns.specs.Columns.{columns, FitsUpTo}
 use Rattle.ansi_items.specs.Plain.{plain, has_escape}
+use Rattle.ansi_columns.specs.Lines.{lines}
 use Rattle.ansi_columns.specs.Shown.{truncated, truncated_ending, padded, missing, closing}
 use Rattle.ansi_columns.specs.Wrapped.{WrappedLine, wrapped}
 use Rattle.ansi_calls.specs.declared.answers.Answer.{Answer}
+use Rattle.ansi_calls.specs.declared.lines.LineEntry.{LineEntry}
 use Rattle.ansi_calls.specs.declared.lists.ListAnswer.{ListAnswer}
-use Rattle.ansi_calls.specs.Answers.{no, refused, not_utf8, done, failed, OnUtf8, HasFailed, Gives}
-use Rattle.ansi_calls.specs.Lists.{ends_from, HaveFailed, GivesAll}
+use Rattle.ansi_calls.specs.Answers.{no, refused, not_utf8, done, failed, OnUtf8, HasFailed, IsFound, Gives}
+use Rattle.ansi_calls.specs.Lists.{ends_from, AreWritten, HaveFailed, GivesAll}
 
 -- the alignments, by the numbers that the header gives them
 abbrev pub alignment_of : ℕ → Option Alignment
@@ -44,6 +47,10 @@ GivesPadded t width (Some alignment) answer old new =
 abbrev pub Pads : List ℕ → ℕ → ℕ → Answer → List ℕ → List ℕ → Type 0
 Pads t width n answer old new = OnUtf8 (t ∷ []) (GivesPadded t width (alignment_of n) answer old new) (HasFailed not_utf8 answer old new)
 
+-- `link_at` writes the address of the link at a position, and fails with the status `no` if there is none; it doesn't allocate
+abbrev pub WritesLink : List ℕ → ℕ → Answer → List ℕ → List ℕ → Type 0
+WritesLink t index answer old new = OnUtf8 (t ∷ []) (IsFound no (address_at t index) answer old new) (HasFailed not_utf8 answer old new)
+
 -- the lines of the text t wrapped at a width, ready for display
 abbrev pub wrapped_lines : List ℕ → ℕ → List (List ℕ)
 wrapped_lines t width = map (λ (l : WrappedLine). l.bytes) (wrapped t width)
@@ -57,3 +64,15 @@ GivesWrapped t width answer old new old_ends new_ends =
 abbrev pub Wraps : List ℕ → ℕ → ListAnswer → List ℕ → List ℕ → List ℕ → List ℕ → Type 0
 Wraps t width answer old new old_ends new_ends =
     OnUtf8 (t ∷ []) (GivesWrapped t width answer old new old_ends new_ends) (HaveFailed not_utf8 answer old new old_ends new_ends)
+
+-- where a line begins and ends
+abbrev pub line_entry : ℕ × ℕ → LineEntry
+line_entry line = record { start = line.0; end = line.1 }
+
+-- the same of each line of the text t wrapped at a width, in bytes of the plain text
+abbrev pub line_entries : List ℕ → ℕ → List LineEntry
+line_entries t width = map line_entry (lines width (plain t))
+
+-- `lines` writes these, and no texts; it doesn't allocate
+abbrev pub WritesLines : List ℕ → ℕ → ListAnswer → List LineEntry → List LineEntry → Type 0
+WritesLines t width answer old new = OnUtf8 (t ∷ []) (AreWritten [] (line_entries t width) answer [] [] old new) (HaveFailed not_utf8 answer [] [] old new)

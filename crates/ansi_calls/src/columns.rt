@@ -1,10 +1,11 @@
-//! Calls that return the display width of a text, or truncate or pad it for display.
+//! Calls that return the display width of a text, truncate or pad it for display, or return its links.
 ghost use Rattle.std.specs.Prelude.{◌≡◌};
 ghost use Rattle.ansi_calls.specs.Columns.{alignment_of, TellsWidth, TellsFitting, Truncates, Pads};
+ghost use Rattle.ansi_calls.specs.Columns.{WritesLink};
 
-use crate::answers::{Answer, NOT_UTF8, REFUSED, write_text};
+use crate::answers::{Answer, NO, NOT_UTF8, REFUSED, write, write_text};
 use ansi_columns::shown::Alignment;
-use ansi_columns::{columns, shown};
+use ansi_columns::{addresses, columns, shown};
 use simdutf8::basic::from_utf8;
 use std::alloc::Allocator;
 
@@ -71,6 +72,19 @@ pub fn pad<A: Allocator>(
     match alignment_of(alignment) {
         Some(alignment) => write_text(shown::pad(alloc, text, width, alignment), buffer),
         None => Answer::failed(REFUSED),
+    }
+}
+
+/// The address of the hyperlink at a position.
+pub fn link_at(text: &[u8], index: usize, buffer: &mut [u8]) -> Answer
+    ensures { WritesLink text.now index result buffer.old buffer.new }
+{
+    let Ok(text) = from_utf8(text) else {
+        return Answer::failed(NOT_UTF8);
+    };
+    match addresses::link_at(text, index) {
+        Some(address) => write(address.as_bytes(), buffer),
+        None => Answer::failed(NO),
     }
 }
 

@@ -1,17 +1,28 @@
-//! The call that wraps a text: its lines, concatenated, and where each ends.
-ghost use Rattle.std.specs.Prelude.{◌≡◌, ◌⊎◌, ◌<◌, ◌≤◌, length, flat_map, IsFalse, IfNone, IfSome};
+//! Calls that wrap a text. One returns its lines, concatenated, and where each ends. The other
+//! returns where each begins and ends in the plain text.
+ghost use Rattle.std.specs.Prelude.{◌≡◌, ◌⊎◌, ◌<◌, ◌≤◌, [], ◌++◌, length, drop, flat_map};
+ghost use Rattle.std.specs.Prelude.{IsFalse, IfNone, IfSome};
 ghost use Rattle.std.specs.Prelude.{IfOk, string_bytes};
 ghost use Rattle.ansi_items.specs.Plain.{has_escape};
 ghost use Rattle.ansi_calls.specs.Lists.{ends_from, AreCopied, AreWritten};
-ghost use Rattle.ansi_calls.specs.Columns.{wrapped_lines, Wraps};
+ghost use Rattle.ansi_calls.specs.Columns.{wrapped_lines, Wraps, line_entries, WritesLines};
 
-use crate::answers::NOT_UTF8;
-use crate::lists::{ListAnswer, copy_texts, write_copied, write_texts};
+use crate::answers::{NOT_UTF8, OK, TOO_SMALL};
+use crate::lists::{ListAnswer, copy_texts, put, write_copied, write_texts};
 use ansi_columns::laws;
+use ansi_columns::lines::Lines;
 use ansi_columns::wrap::wrap as wrapped;
 use ansi_str::AnsiStr;
 use simdutf8::basic::from_utf8;
 use std::alloc::Allocator;
+
+/// An entry for a line: where it begins and ends, in bytes of the plain text.
+#[repr(C)]
+#[derive(Clone, Copy)]
+pub struct LineEntry {
+    pub start: usize,
+    pub end: usize,
+}
 
 /// The lines of the text wrapped at `width` columns, ready for display, and where each ends.
 #[tactic(auto, unfolding(crate::specs::Columns::GivesWrapped))]
@@ -69,4 +80,49 @@ fn copy_bare_lines<A: Allocator + Copy>(
 {
     laws::lines_lose_blanks_and_line_ends();
     copy_texts(wrapped(alloc, text, width), buffer, ends)
+}
+
+/// Where each line of the text wrapped at `width` columns begins and ends in the plain text.
+pub fn lines(text: &[u8], width: usize, entries: &mut [LineEntry]) -> ListAnswer
+    ensures { WritesLines text.now width result entries.old entries.new }
+{
+    match from_utf8(text) {
+        Ok(text) => write_lines(text, width, entries),
+        Err(_) => ListAnswer::failed(NOT_UTF8),
+    }
+}
+
+/// Writes where each line begins and ends, if there is room for all of them.
+fn write_lines(text: &str, width: usize, entries: &mut [LineEntry]) -> ListAnswer
+    ensures { AreWritten [] (line_entries text.now width) result [] [] entries.old entries.new }
+{
+    let count = copy_lines(text, width, &mut []);
+    if count > entries.len() {
+        return ListAnswer {
+            status: TOO_SMALL,
+            count,
+            len: 0,
+        };
+    }
+    copy_lines(text, width, entries);
+    ListAnswer {
+        status: OK,
+        count,
+        len: 0,
+    }
+}
+
+/// Writes where each line begins and ends, as far as there is room. Returns the number of lines.
+fn copy_lines(text: &str, width: usize, entries: &mut [LineEntry]) -> usize
+    ensures count { result ≡ length (line_entries text.now width) }
+    ensures entries { length (line_entries text.now width) ≤ length entries.old →
+        entries.new ≡ line_entries text.now width
+        ++ drop (length (line_entries text.now width)) entries.old }
+{
+    let mut count = 0;
+    for line in Lines::new(text, width) {
+        let (start, end) = line;
+        count = put(&[LineEntry { start, end }], count, entries);
+    }
+    count
 }

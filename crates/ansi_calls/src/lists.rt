@@ -363,7 +363,7 @@ fn put_text(
 }
 
 /// Copies items to a place in a slice, if there is room for them. Returns the place after them.
-fn put<T: Copy>(items: &[T], place: usize, slots: &mut [T]) -> usize
+pub(crate) fn put<T: Copy>(items: &[T], place: usize, slots: &mut [T]) -> usize
     requires { place + length items.now < 2 ^ 64 }
     ensures slots { place + length items.now ≤ length slots.old →
         slots.new ≡ take place slots.old ++ items.now ++ drop (place + length items.now) slots.old }

@@ -38,7 +38,7 @@ extern "C" {
 enum {
     /* it is done, or it is true */
     ANSI_STR_OK = 0,
-    /* it is false, or there is no such thing: no match of the pattern, or no part or block of that index */
+    /* it is false, or there is no such thing: no match of the pattern, no part or block of that index, or no link there */
     ANSI_STR_NO = 1,
     /* a position is inside a character, or the end of a range is below its start; or an edit is refused */
     ANSI_STR_REFUSED = 2,
@@ -175,6 +175,12 @@ typedef struct {
     size_t end;
     ansi_str_style style;
 } ansi_str_styled_block_entry;
+
+/* A line of a wrapped text: where it begins and where it ends, in bytes of the plain text. */
+typedef struct {
+    size_t start;
+    size_t end;
+} ansi_str_line_entry;
 
 /* A style as the library keeps it: a caller must not read or set a field. */
 typedef struct {
@@ -315,6 +321,9 @@ ansi_str_answer ansi_str_raw_pad(const uint8_t *text, size_t text_len, size_t wi
                                  uint8_t *buffer, size_t buffer_len);
 ansi_str_answers ansi_str_raw_wrap(const uint8_t *text, size_t text_len, size_t width, uint8_t *buffer, size_t buffer_len,
                                    size_t *ends, size_t ends_len);
+ansi_str_answers ansi_str_raw_lines(const uint8_t *text, size_t text_len, size_t width, ansi_str_line_entry *lines,
+                                    size_t lines_len);
+ansi_str_answer ansi_str_raw_link_at(const uint8_t *text, size_t text_len, size_t index, uint8_t *buffer, size_t buffer_len);
 ansi_str_answer ansi_str_raw_sanitize(const uint8_t *text, size_t text_len, uint32_t rest, uint32_t links, uint8_t *buffer,
                                       size_t buffer_len);
 ansi_str_answer ansi_str_raw_is_safe(const uint8_t *text, size_t text_len, uint32_t links);
@@ -693,6 +702,24 @@ static inline ansi_str_answers ansi_str_wrap(const char *text, size_t text_len, 
     size_t none;
     return ansi_str_raw_wrap(ansi_str_bytes(text), text_len, width, ansi_str_room(buffer), buffer_len,
                              ends == NULL ? &none : ends, ends_len);
+}
+
+/* Where each line of ansi_str_wrap begins and ends in the plain text; the text can be cut there. The returned count is the number
+   of lines, and the length 0. ANSI_STR_TOO_SMALL: there are more than `lines_len`. Doesn't allocate.
+   "ab \x1b[1mcd  efg" in 5 columns has lines from 0 up to 5 and from 7 up to 10. */
+static inline ansi_str_answers ansi_str_lines(const char *text, size_t text_len, size_t width, ansi_str_line_entry *lines,
+                                              size_t lines_len) {
+    ansi_str_line_entry none;
+    return ansi_str_raw_lines(ansi_str_bytes(text), text_len, width, lines == NULL ? &none : lines, lines_len);
+}
+
+/* The address of the link (OSC 8) around the plain byte at a position, which may be inside a character. An address is never
+   empty, and shorter than the text. ANSI_STR_NO: no link is open there, or the plain text ends at or before the position.
+   Doesn't allocate.
+   "a \x1b]8;;http://x\x1b\\link\x1b]8;;\x1b\\." at 2 gives "http://x". */
+static inline ansi_str_answer ansi_str_link_at(const char *text, size_t text_len, size_t index, char *buffer,
+                                               size_t buffer_len) {
+    return ansi_str_raw_link_at(ansi_str_bytes(text), text_len, index, ansi_str_room(buffer), buffer_len);
 }
 
 /* The text made safe, so that it can't drive the terminal. Printing characters, TAB, line feeds, a carriage return directly

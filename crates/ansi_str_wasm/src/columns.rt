@@ -1,10 +1,11 @@
-//! Calls on the display width of a text.
+//! Calls on the display width of a text, and on its links.
 ghost use Rattle.ansi_calls.specs.Columns.{TellsWidth, TellsFitting, Truncates, Pads, Wraps};
+ghost use Rattle.ansi_calls.specs.Columns.{WritesLink, WritesLines};
 
 use crate::memory::arena_of;
 use ansi_calls::answers::Answer;
-use ansi_calls::columns::{fitting, pad, truncate, width};
-use ansi_calls::lines::wrap;
+use ansi_calls::columns::{fitting, link_at, pad, truncate, width};
+use ansi_calls::lines::{LineEntry, lines, wrap};
 use ansi_calls::lists::ListAnswer;
 use one_block::{MemoryBlock, OneBlock};
 
@@ -67,4 +68,24 @@ pub extern "C" fn ansi_str_raw_wrap(
 {
     let block = OneBlock::new(memory);
     wrap(&arena_of(&block), text, width, buffer, ends)
+}
+
+/// Where each line of the text wrapped at `width` columns begins and ends in the plain text.
+#[unsafe(no_mangle)]
+pub extern "C" fn ansi_str_raw_lines(
+    text: &[u8],
+    width: usize,
+    entries: &mut [LineEntry],
+) -> ListAnswer
+    ensures { WritesLines text.now width result entries.old entries.new }
+{
+    lines(text, width, entries)
+}
+
+/// The address of the hyperlink at a position.
+#[unsafe(no_mangle)]
+pub extern "C" fn ansi_str_raw_link_at(text: &[u8], index: usize, buffer: &mut [u8]) -> Answer
+    ensures { WritesLink text.now index result buffer.old buffer.new }
+{
+    link_at(text, index, buffer)
 }

@@ -8,4 +8,5 @@ pub mod columns;
 pub mod lists;
 mod memory;
 pub mod safe;
+pub mod searches;
 pub mod texts;

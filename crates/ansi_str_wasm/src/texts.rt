@@ -1,10 +1,9 @@
-//! Calls that return one text, or search one.
-ghost use Rattle.ansi_calls.specs.Calls.{Strips, Finds, Edits};
+//! Calls that return one text.
+ghost use Rattle.ansi_calls.specs.Calls.{Strips, Edits};
 
 use crate::memory::arena_of;
 use ansi_calls::answers::Answer;
 use ansi_calls::edits::{EditStep, edit_text};
-use ansi_calls::searches::find;
 use ansi_calls::texts::strip;
 use one_block::{MemoryBlock, OneBlock};
 
@@ -15,14 +14,6 @@ pub extern "C" fn ansi_str_raw_strip(memory: MemoryBlock, text: &[u8], buffer: &
 {
     let block = OneBlock::new(memory);
     strip(&arena_of(&block), text, buffer)
-}
-
-/// The position of the first match of the pattern in the plain text.
-#[unsafe(no_mangle)]
-pub extern "C" fn ansi_str_raw_find(text: &[u8], pattern: &[u8]) -> Answer
-    ensures { Finds text.now pattern.now result }
-{
-    find(text, pattern)
 }
 
 /// The text after all edits, each applied to the result of the one before.

@@ -24,7 +24,8 @@ The calls, each of which has an example in its own help, such as `help(ansi_str.
     iter_split(text, pattern)          wrap(text, width)
     blocks(text)                       edit(text, edits)
     iter_blocks(text)                  is_safe(text, links=False)
-                                       sanitize(text, show=False, links=False)
+    link_at(text, position)            sanitize(text, show=False, links=False)
+    lines(text, width)
 
 >>> log = "\\x1b[31mred\\x1b[39m and plain"
 >>> strip(log)
@@ -46,7 +47,7 @@ from typing import Any, Dict, FrozenSet, Iterable, Iterator, List, NamedTuple, O
 __version__ = "0.2.0"
 __all__ = [
     "strip", "cut", "left", "right", "part", "strip_prefix", "strip_suffix", "trim",
-    "width", "fitting", "truncate", "pad", "wrap", "Alignment", "ALIGNMENTS",
+    "width", "fitting", "truncate", "pad", "wrap", "lines", "link_at", "Alignment", "ALIGNMENTS",
     "find", "starts_with", "ends_with", "has_any", "is_whole",
     "sanitize", "is_safe",
     "split", "iter_split", "blocks", "iter_blocks", "Block", "Style", "ATTRIBUTES", "COLORS",
@@ -70,7 +71,7 @@ else:
 _STYLE = struct.Struct("=I I4B I4B ?")
 
 # the kinds of edits, the last position, and the questions about a text
-_CUT, _LEFT, _RIGHT, _PART, _PREFIX, _SUFFIX, _TRIM, _TRUNCATE, _PAD, _SANITIZE = range(10)
+_CUT, _LEFT, _RIGHT, _PART, _PREFIX, _SUFFIX, _TRIM, _TRUNCATE, _PAD, _SANITIZE, _LINK_AT = range(11)
 _LAST = sys.maxsize
 _STARTS_WITH, _ENDS_WITH, _HAS_ANY, _IS_WHOLE, _IS_SAFE, _FIND, _FITTING, _WIDTH = range(8)
 
@@ -329,6 +330,25 @@ def wrap(text: str, width: int) -> List[str]:
     ['\\x1b[31mlion\\x1b[39m', '\\x1b[31mtiger\\x1b[39m']
     """
     return _library.wrap(_utf8("text", text), _position("width", width))  # type: ignore[no-any-return]
+
+
+def lines(text: str, width: int) -> List[Tuple[int, int]]:
+    """Where each line that `wrap` returns begins and ends in the plain text, as positions. The text can be cut there.
+
+    >>> lines("ab \\x1b[1mcd  efg", 5)
+    [(0, 5), (7, 10)]
+    """
+    data = _utf8("text", text)
+    return _library.lines(data, len(data) == str.__len__(text), _position("width", width))  # type: ignore[no-any-return]
+
+
+def link_at(text: str, position: int) -> Optional[str]:
+    """The address of the link (OSC 8) around the character at a position, or None if no link is open there.
+
+    >>> link_at("a \\x1b]8;;http://x\\x1b\\\\link\\x1b]8;;\\x1b\\\\.", 2)
+    'http://x'
+    """
+    return _edited(text, (_LINK_AT, _position("position", position), 0, b""))  # type: ignore[no-any-return]
 
 
 class Cut(NamedTuple):

@@ -13,7 +13,7 @@
 enum { LONG = 1 << 16 };
 
 /* kinds beside those of edits */
-enum { TRUNCATE = ANSI_STR_EDIT_TRIM + 1, PAD, SANITIZE, STRIP, KINDS };
+enum { TRUNCATE = ANSI_STR_EDIT_TRIM + 1, PAD, SANITIZE, LINK_AT, STRIP, KINDS };
 
 /* the questions about a text: those up to IS_SAFE are yes or no, FIND and FITTING return a position, WIDTH columns */
 enum { STARTS_WITH, ENDS_WITH, HAS_ANY, IS_WHOLE, IS_SAFE, FIND, FITTING, WIDTH, QUESTIONS };
@@ -89,6 +89,8 @@ static ansi_str_answer write_step(const Text *text, const ansi_str_edit_step *st
         return ansi_str_raw_pad(text->bytes, text->size, step->first, (uint32_t)step->second, room->bytes, room->size);
     case SANITIZE:
         return ansi_str_raw_sanitize(text->bytes, text->size, (uint32_t)step->first, (uint32_t)step->second, room->bytes, room->size);
+    case LINK_AT:
+        return ansi_str_raw_link_at(text->bytes, text->size, step->first, room->bytes, room->size);
     default:
         return ansi_str_raw_edit(text->bytes, text->size, step, 1, room->bytes, room->size);
     }
@@ -176,7 +178,7 @@ static bool make_text(const Text *text, bool is_ascii, PyObject *words, Text *ma
         return false;
     }
     step = ansi_str_edit_of((uint32_t)kind, first, second, PyBytes_AsString(pattern), (size_t)PyBytes_Size(pattern));
-    if (!is_ascii && kind <= ANSI_STR_EDIT_RIGHT && (kind != ANSI_STR_EDIT_CUT || step.first <= step.second)) {
+    if (!is_ascii && (kind <= ANSI_STR_EDIT_RIGHT || kind == LINK_AT) && (kind != ANSI_STR_EDIT_CUT || step.first <= step.second)) {
         Text plain;
         size_t between = step.second - step.first;
         if (!make_plain(text, &plain)) {
@@ -339,6 +341,74 @@ static PyObject *wrap(PyObject *module, PyObject *words) {
     return list;
 }
 
+/* Makes the places of lines, which ascend, count characters of the plain text. Returns false with an error. */
+static bool count_characters(const Text *text, ansi_str_line_entry *entries, size_t count) {
+    Text plain;
+    size_t at, place = 0, characters = 0;
+    if (!make_plain(text, &plain)) {
+        return false;
+    }
+    for (at = 0; at < 2 * count; at++) {
+        size_t *end = at % 2 == 0 ? &entries[at / 2].start : &entries[at / 2].end;
+        for (; place < *end; place++) {
+            characters += begins_character(plain.bytes[place]);
+        }
+        *end = characters;
+    }
+    Py_DecRef(plain.object);
+    return true;
+}
+
+static PyObject *list_of_lines(const ansi_str_line_entry *entries, size_t count) {
+    PyObject *list = PyList_New((Py_ssize_t)count);
+    size_t at;
+    for (at = 0; list != NULL && at < count; at++) {
+        PyObject *line = Py_BuildValue("(nn)", (Py_ssize_t)entries[at].start, (Py_ssize_t)entries[at].end);
+        if (line == NULL) {
+            Py_DecRef(list);
+            return NULL;
+        }
+        PyList_SetItem(list, (Py_ssize_t)at, line);
+    }
+    return list;
+}
+
+/* (text, is_ascii, width): where each of its lines begins and ends, in characters. */
+static PyObject *lines(PyObject *module, PyObject *words) {
+    PyObject *given, *width, *list = NULL;
+    int is_ascii;
+    Text text;
+    size_t most, count;
+    ansi_str_line_entry *entries = NULL;
+    ansi_str_answers answer;
+    (void)module;
+    if (!PyArg_ParseTuple(words, "SpO", &given, &is_ascii, &width) || !read_number(width, &most)) {
+        return NULL;
+    }
+    text = text_of(given);
+    count = text.size / 8 + 1;
+    do {
+        ansi_str_line_entry *more = PyMem_Realloc(entries, count * sizeof *entries);
+        PyThreadState *thread;
+        if (more == NULL) {
+            answer.status = ANSI_STR_OUT_OF_MEMORY;
+            break;
+        }
+        entries = more;
+        thread = let_others_run(text.size);
+        answer = ansi_str_raw_lines(text.bytes, text.size, most, entries, count);
+        run_alone(thread);
+        count = answer.count;
+    } while (answer.status == ANSI_STR_TOO_SMALL);
+    if (answer.status != ANSI_STR_OK) {
+        set_error(answer.status);
+    } else if (is_ascii || count_characters(&text, entries, count)) {
+        list = list_of_lines(entries, count);
+    }
+    PyMem_Free(entries);
+    return list;
+}
+
 /* A walk over the parts of a text, or over its blocks if there is no pattern, and room for what a step writes. */
 typedef struct {
     PyObject_HEAD
@@ -491,7 +561,8 @@ static PyType_Spec walk_spec = {"ansi_str.Walk", sizeof(Walk), 0, Py_TPFLAGS_DEF
 
 static PyMethodDef calls[] = {
     {"edit", edit, METH_VARARGS, NULL},   {"tell", tell, METH_VARARGS, NULL}, {"walk", walk, METH_VARARGS, NULL},
-    {"strip", strip, METH_VARARGS, NULL}, {"wrap", wrap, METH_VARARGS, NULL}, {NULL, NULL, 0, NULL},
+    {"strip", strip, METH_VARARGS, NULL}, {"wrap", wrap, METH_VARARGS, NULL}, {"lines", lines, METH_VARARGS, NULL},
+    {NULL, NULL, 0, NULL},
 };
 
 static int start(PyObject *module) {

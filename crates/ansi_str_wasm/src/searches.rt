@@ -1,0 +1,37 @@
+//! Calls that search or test a text, and write nothing.
+ghost use Rattle.ansi_calls.specs.Calls.{Finds, TestsFront, TestsEnd, TestsWhole};
+
+use ansi_calls::answers::Answer;
+use ansi_calls::searches::{ends_with, find, is_whole, starts_with};
+
+/// The position of the first match of the pattern in the plain text.
+#[unsafe(no_mangle)]
+pub extern "C" fn ansi_str_raw_find(text: &[u8], pattern: &[u8]) -> Answer
+    ensures { Finds text.now pattern.now result }
+{
+    find(text, pattern)
+}
+
+/// Whether the plain text begins with the pattern.
+#[unsafe(no_mangle)]
+pub extern "C" fn ansi_str_raw_starts_with(text: &[u8], pattern: &[u8]) -> Answer
+    ensures { TestsFront text.now pattern.now result }
+{
+    starts_with(text, pattern)
+}
+
+/// Whether the plain text ends with the pattern.
+#[unsafe(no_mangle)]
+pub extern "C" fn ansi_str_raw_ends_with(text: &[u8], pattern: &[u8]) -> Answer
+    ensures { TestsEnd text.now pattern.now result }
+{
+    ends_with(text, pattern)
+}
+
+/// Whether the text is whole.
+#[unsafe(no_mangle)]
+pub extern "C" fn ansi_str_raw_is_whole(text: &[u8]) -> Answer
+    ensures { TestsWhole text.now result }
+{
+    is_whole(text)
+}
