@@ -13,9 +13,8 @@ use std::marker::Model;
 
 const UNIT: usize = 16;
 
-/// Unused memory, aligned to 16.
+/// Unused memory, aligned to 16. It can't be dropped, so no code loses it by mistake.
 #[repr(C)]
-#[derive(Drop)]
 pub struct MemoryBlock {
     ptr: *mut u8,
     size: usize,
@@ -38,8 +37,7 @@ impl MemoryBlock {
     }
 }
 
-/// An allocator that owns one block.
-#[derive(Drop)]
+/// An allocator that owns one block. It can be dropped, and then gives the block up.
 pub struct OneBlock {
     size: usize,
     free: Cell<Option<MemoryBlock>>,
@@ -53,7 +51,10 @@ fn align_size(size: usize) -> usize
 }
 
 impl OneBlock {
-    pub fn new(block: MemoryBlock) -> OneBlock {
+    /// An allocator over this block.
+    pub fn new(block: MemoryBlock) -> OneBlock
+        ensures size { result.size ≡ block.size }
+    {
         let (size, block) = block.with_size();
         OneBlock {
             size,
@@ -62,14 +63,10 @@ impl OneBlock {
     }
 
     /// The size of the block.
-    pub fn size(&self) -> usize {
+    pub fn size(&self) -> usize
+        ensures { result ≡ self.now.size }
+    {
         self.size
-    }
-
-    /// The block, or `None` if it is in use.
-    pub fn into_block(self) -> Option<MemoryBlock> {
-        let OneBlock { size: _, free } = self;
-        free.into_inner()
     }
 
     fn take(&self, size: usize, align: usize) -> Option<MemoryBlock>
@@ -82,13 +79,25 @@ impl OneBlock {
         if found == align_size(size) {
             Some(block)
         } else {
-            self.free.set(Some(block));
+            self.give(block);
             None
         }
     }
 
     fn give(&self, block: MemoryBlock) {
-        self.free.set(Some(block));
+        leave(self.free.replace(Some(block)));
+    }
+}
+
+/// Leaves the block to the caller, who lent its memory.
+fn leave(block: Option<MemoryBlock>) {
+    if let Some(MemoryBlock { ptr: _, size: _ }) = block {}
+}
+
+impl Drop for OneBlock {
+    fn drop(self) {
+        let OneBlock { size: _, free } = self;
+        leave(free.into_inner());
     }
 }
 
