@@ -18,7 +18,7 @@ use denote.Steps.{only}
 use Rattle.std.specs.contracts.option.Option as option
 use Rattle.linked_list_allocator.specs.Region.{Region, block_size, IsBlock}
 use Rattle.linked_list_allocator.specs.Ownership.{bytes_at, block_token}
-use Rattle.one_block.specs.contracts.MemoryBlock as block
+use Rattle.one_block.specs.contracts.block.MemoryBlock as block
 use Rattle.linked_list_allocator.proofs.Values.{sized_val, sized_own, sized_told}
 use Rattle.linked_list_allocator.proofs.Taken.{hands_out}
 

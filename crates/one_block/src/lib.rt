@@ -2,40 +2,19 @@
 //! block.
 #![tactic(auto)]
 
-ghost use Rattle.std.specs.Prelude.{◌≡◌, ◌^◌, ◌<◌, ◌≤◌, ℕ, IfSome};
+ghost use Rattle.std.specs.Prelude.{◌≡◌, ◌^◌, ◌<◌, ◌≤◌, IfSome};
 ghost use base.Fml.{fex};
-ghost use Rattle.linked_list_allocator.specs.Region.{Region, IsBlock, block_size};
-ghost use Rattle.linked_list_allocator.specs.Ownership.{bytes_at, block_token};
+ghost use Rattle.linked_list_allocator.specs.Region.{Region, block_size};
+ghost use Rattle.linked_list_allocator.specs.Ownership.{block_token};
+ghost use Rattle.one_block.specs.Sizes.{block_bytes, bytes_managed};
 
+mod block;
+
+pub use block::MemoryBlock;
 use std::alloc::{AllocError, Allocator};
 use std::cell::Cell;
-use std::marker::Model;
 
 const UNIT: usize = 16;
-
-/// Unused memory, aligned to 16. It can't be dropped, so no code loses it by mistake.
-#[repr(C)]
-pub struct MemoryBlock {
-    ptr: *mut u8,
-    size: usize,
-    pub ghost region: { Region },
-    pub ghost at: { ℕ },
-    pub ghost placed: { IsBlock region ptr at size },
-}
-
-impl Model for MemoryBlock {
-    ghost also_owns = { λ b. bytes_at b.ptr b.size };
-}
-
-impl MemoryBlock {
-    /// The block's size, and the block again.
-    pub fn with_size(self) -> (usize, MemoryBlock)
-        ensures { (result.0 ≡ self.size) × (result.1 ≡ self) }
-    {
-        let MemoryBlock { ptr, size } = self;
-        (size, MemoryBlock { ptr, size })
-    }
-}
 
 /// An allocator that owns one block. It can be dropped, and then gives the block up.
 pub struct OneBlock {
@@ -53,7 +32,7 @@ fn align_size(size: usize) -> usize
 impl OneBlock {
     /// An allocator over this block.
     pub fn new(block: MemoryBlock) -> OneBlock
-        ensures size { result.size ≡ block.size }
+        ensures size { bytes_managed result ≡ block_bytes block }
     {
         let (size, block) = block.with_size();
         OneBlock {
@@ -64,7 +43,7 @@ impl OneBlock {
 
     /// The size of the block.
     pub fn size(&self) -> usize
-        ensures { result ≡ self.now.size }
+        ensures { result ≡ bytes_managed self.now }
     {
         self.size
     }

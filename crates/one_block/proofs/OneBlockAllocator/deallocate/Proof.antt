@@ -35,7 +35,7 @@ use Rattle.one_block.specs.contracts.align_size as sizer
 use Rattle.one_block.proofs.align_size.Met.{met as aligns}
 use Rattle.one_block.specs.contracts.OneBlock.give as callee
 use Rattle.one_block.proofs.OneBlock.give.Met.{met as gives}
-use Rattle.one_block.specs.contracts.MemoryBlock as block
+use Rattle.one_block.specs.contracts.block.MemoryBlock as block
 use Rattle.one_block.specs.contracts.OneBlockAllocator.deallocate.{ended, clauses}
 use Rattle.one_block.specs.contracts.OneBlockAllocator.deallocate.Key.{name as #self}
 use Rattle.one_block.proofs.OneBlockAllocator.deallocate.Statement.{statement}

@@ -24,11 +24,11 @@ use Rattle.one_block.proofs.Pairs.{pair_of, pair_val}
 use Rattle.std.proofs.raw_atomic.Walks.{proved_at, leaves}
 use Rattle.linked_list_allocator.proofs.Values.{ptr_typed, sized_val, sized_own, sized_told, sized_made}
 use Rattle.linked_list_allocator.proofs.Walks.{slot_at}
-use Rattle.one_block.specs.contracts.MemoryBlock as block
-use Rattle.one_block.specs.contracts.MemoryBlock.with_size.{ended, clauses}
-use Rattle.one_block.specs.contracts.MemoryBlock.with_size.Key.{name as #self}
-use Rattle.one_block.proofs.MemoryBlock.with_size.Statement.{statement}
-use Rattle.one_block.proofs.MemoryBlock.with_size.Code as compiled
+use Rattle.one_block.specs.contracts.block.MemoryBlock as block
+use Rattle.one_block.specs.contracts.block.MemoryBlock.with_size.{ended, clauses}
+use Rattle.one_block.specs.contracts.block.MemoryBlock.with_size.Key.{name as #self}
+use Rattle.one_block.proofs.block.MemoryBlock.with_size.Statement.{statement}
+use Rattle.one_block.proofs.block.MemoryBlock.with_size.Code as compiled
 
 pub with_size_spec : {M : Type 1} → statement M
 with_size_spec 𝓤 𝓛 𝓜 𝓡 wired =
