@@ -43,7 +43,7 @@ struct call {
 
 TEXT(strip) TEXT(trim) TEXT(strip_prefix, p.at, p.len) TEXT(strip_suffix, p.at, p.len) TEXT(part, p.at, p.len, n)
 QUESTION(has_any) QUESTION(is_whole) QUESTION(is_char_boundary, n) QUESTION(floor_char_boundary, n)
-QUESTION(width) QUESTION(fitting, n) TEXT(link_at, n)
+QUESTION(width) QUESTION(fitting, n) TEXT(link_at, n) TEXT(slice, n, SIZE_MAX)
 TEXT(sanitize, ANSI_STR_SHOW, ANSI_STR_KEEP_LINKS) QUESTION(is_safe, ANSI_STR_KEEP_LINKS)
 QUESTION(starts_with, p.at, p.len) QUESTION(ends_with, p.at, p.len) QUESTION(find, p.at, p.len)
 
@@ -55,6 +55,11 @@ static size_t truncate_to(struct bytes t, size_t n, struct bytes p) {
 static size_t pad(struct bytes t, size_t n, struct bytes p) {
     (void)p;
     return len_of(ansi_str_pad(t.at, t.len, n > 2 * LONG ? 2 * LONG : n, ANSI_STR_CENTER, NULL, 0));
+}
+/* a TAB has at most 16 columns */
+static size_t expand_tabs(struct bytes t, size_t n, struct bytes p) {
+    (void)p;
+    return len_of(ansi_str_expand_tabs(t.at, t.len, n > 16 ? 16 : n, NULL, 0));
 }
 /* wrapped to `position` columns, also 0: so there may be as many lines as bytes */
 static size_t wrap(struct bytes t, size_t n, struct bytes p) {
@@ -103,6 +108,7 @@ static const struct call CALLS[] = {
     {"floor_char_boundary", floor_char_boundary, 1, 0, 0}, {"starts_with", starts_with, 0, 1, 0},
     {"ends_with", ends_with, 0, 1, 0}, {"strip_prefix", strip_prefix, 0, 1, 0}, {"strip_suffix", strip_suffix, 0, 1, 0},
     {"width", width, 0, 0, 0}, {"fitting", fitting, 1, 0, 0}, {"truncate", truncate_to, 1, 1, 0}, {"pad", pad, 1, 0, 0},
+    {"slice", slice, 1, 0, 0}, {"expand_tabs", expand_tabs, 1, 0, 0},
     {"wrap", wrap, 1, 0, 1}, {"lines", lines, 1, 0, 1}, {"link_at", link_at, 1, 0, 0},
     {"sanitize", sanitize, 0, 0, 0}, {"is_safe", is_safe, 0, 0, 0},
     {"find", find, 0, 1, 0}, {"split", split, 0, 1, 1}, {"part", part, 1, 1, 0},
@@ -151,6 +157,7 @@ static int is_bounded(struct bytes t, size_t position, struct bytes p) {
     return is_short(t, cut_from(t, position, p), ANSI_STR_LONGEST_CLOSE) &&
            is_short(t, cut_to(t, position, p), ANSI_STR_LONGEST_CLOSE) &&
            is_short(t, part(t, position, p), ANSI_STR_LONGEST_START_AND_CLOSE) &&
+           is_short(t, slice(t, position, p), ANSI_STR_LONGEST_START_AND_CLOSE + ANSI_STR_LONGEST_LINK_END) &&
            is_short(t, sanitize(t, position, p), 3 * t.len + ANSI_STR_LONGEST_LINK_END + ANSI_STR_LONGEST_CLOSE) &&
            is_short(t, sides(t, position, p), ANSI_STR_LONGEST_START_AND_CLOSE * (runs + 1));
 }

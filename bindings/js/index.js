@@ -118,11 +118,20 @@ export function edit(text, edits) {
   return given;
 }
 
+/** Why an edit with these positions is refused. */
+function refusal(plain, start, end) {
+  if (end < start) {
+    return `the end, ${end}, is before the start, ${start}`;
+  }
+  const inside = [start, end].find((position) => !plain.slice(0, position).isWellFormed());
+  return `the position ${inside} is inside a character`;
+}
+
 /** An edit that is refused only for its positions. */
-function placed(text, ...edits) {
-  const given = edit(text, edits);
+function placed(text, step, ...positions) {
+  const given = edit(text, [step]);
   if (given === null) {
-    throw new RangeError('a position lies inside a character, or the end before the start');
+    throw new RangeError(refusal(strip(text), ...positions));
   }
   return given;
 }
@@ -132,11 +141,11 @@ export function strip(text) {
 }
 
 export function cut(text, start, end) {
-  return placed(text, ['cut', start, end]);
+  return placed(text, ['cut', start, end], start, end);
 }
 
 export function splitAt(text, index) {
-  return [placed(text, ['left', index]), placed(text, ['right', index])];
+  return [placed(text, ['left', index], index), placed(text, ['right', index], index)];
 }
 
 export function trim(text) {
@@ -216,6 +225,14 @@ export function pad(text, width, alignment = 'left') {
     throw new TypeError(`the alignment must be one of ${ALIGNMENTS.join(', ')}`);
   }
   return raw.pad(textOf('text', text), numberOf('width', width), ALIGNMENTS.indexOf(alignment));
+}
+
+export function sliceColumns(text, start = 0, end = END) {
+  return raw.sliceColumns(textOf('text', text), numberOf('start', start), numberOf('end', end));
+}
+
+export function expandTabs(text, stop = 8) {
+  return raw.expandTabs(textOf('text', text), numberOf('stop', stop));
 }
 
 export function wrap(text, width) {

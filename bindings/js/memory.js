@@ -294,6 +294,16 @@ export function pad(text, width, alignment) {
     (exports, frame) => exports.ansi_str_raw_pad(...frame.head, ...frame.texts[0], BigInt(width), alignment, ...frame.out), written);
 }
 
+export function sliceColumns(text, start, end) {
+  return called([text], [], roomForOne(text),
+    (exports, frame) => exports.ansi_str_raw_slice(...frame.head, ...frame.texts[0], BigInt(start), BigInt(end), ...frame.out), written);
+}
+
+export function expandTabs(text, stop) {
+  return called([text], [], roomForOne(text),
+    (exports, frame) => exports.ansi_str_raw_expand_tabs(...frame.head, ...frame.texts[0], BigInt(stop), ...frame.out), written);
+}
+
 export function wrap(text, width) {
   return called([text], [], roomForList(text, END),
     (exports, frame) => exports.ansi_str_raw_wrap(...frame.head, ...frame.texts[0], BigInt(width), ...frame.out, ...frame.list), listed);

@@ -1,7 +1,7 @@
 // Makes the calls of the rows of texts and results, which rows/README.md describes, in Node and in a page.
 import {
-  blocks, cut, edit, endsWith, find, fitting, floorCharBoundary, hasAny, isSafe, isWhole, iterBlocks, iterSplit, lines, linkAt, pad, sanitize, split, splitAt,
-  startsWith, strip, stripPrefix, stripSuffix, trim, truncate, width, wrap,
+  blocks, cut, edit, endsWith, expandTabs, find, fitting, floorCharBoundary, hasAny, isSafe, isWhole, iterBlocks, iterSplit, lines, linkAt, pad, sanitize,
+  sliceColumns, split, splitAt, startsWith, strip, stripPrefix, stripSuffix, trim, truncate, width, wrap,
 } from './index.js';
 
 /** The calls that aren't here. The positions of an edit count the bytes of what the edit before it made. */
@@ -114,6 +114,10 @@ function answersOf(call, found, want, text, more) {
       return [[truncate(text, number, second), want]];
     case 'pad':
       return [[pad(text, number, second.toLowerCase()), want]];
+    case 'slice':
+      return [[sliceColumns(text, number, Number(second)), want]];
+    case 'expand_tabs':
+      return [[expandTabs(text, number), want]];
     case 'wrap':
       return [[wrap(text, number), more.slice(1)]];
     case 'lines':

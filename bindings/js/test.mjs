@@ -3,10 +3,13 @@ import assert from 'node:assert/strict';
 import { readFile } from 'node:fs/promises';
 import { test } from 'node:test';
 import {
-  OutOfMemoryError, blocks, cut, edit, endsWith, find, fitting, floorCharBoundary, hasAny, isSafe, isWhole, iterBlocks, iterSplit, lines, linkAt, pad, sanitize,
-  split, splitAt, startsWith, strip, stripPrefix, stripSuffix, trim, truncate, width, wrap,
+  OutOfMemoryError, blocks, cut, edit, endsWith, expandTabs, find, fitting, floorCharBoundary, hasAny, isSafe, isWhole, iterBlocks, iterSplit, lines, linkAt,
+  pad, sanitize, sliceColumns, split, splitAt, startsWith, strip, stripPrefix, stripSuffix, trim, truncate, width, wrap,
 } from './index.js';
 import { pass } from './rows.mjs';
+import stringWidth from 'ansi_str/compat/string-width';
+import stripAnsi from 'ansi_str/compat/strip-ansi';
+import wrapAnsi from 'ansi_str/compat/wrap-ansi';
 
 test('rows', async () => {
   const { passed, over } = await pass();
@@ -21,8 +24,11 @@ test('the version is that of the changelog', async () => {
 
 test('positions count UTF-16 units', () => {
   assert.equal(cut('\x1b[1m😀éab\x1b[0m', 2, 4), '\x1b[1méa\x1b[22m');
-  assert.throws(() => cut('😀', 1), RangeError);
-  assert.throws(() => cut('abc', 2, 1), RangeError);
+  const refused = (message) => ({ name: 'RangeError', message });
+  assert.throws(() => cut('😀', 1), refused('the position 1 is inside a character'));
+  assert.throws(() => cut('a\x1b[1m😀', 1, 2), refused('the position 2 is inside a character'));
+  assert.throws(() => cut('abc', 2, 1), refused('the end, 1, is before the start, 2'));
+  assert.throws(() => splitAt('😀', 1), refused('the position 1 is inside a character'));
   assert.equal(find('\x1b[1m😀a', 'a'), 2);
   assert.equal(fitting('\x1b[1m😀éab', 4), 4);
   assert.deepEqual([0, 1, 2, 3, 4].map((index) => floorCharBoundary('\x1b[1m😀a', index)), [0, 0, 2, 3, 3]);
@@ -59,7 +65,7 @@ test('a position past the end is the end, and an end below its start is refused,
 test('what is no text or no position is refused', () => {
   const calls = [strip, trim, blocks, width, (text) => find(text, ''), (text) => find('', text), (text) => split('', text), (text) => edit('', [['suffix', text]]),
     (text) => fitting(text, 1), (text) => truncate(text, 1), (text) => truncate('', 1, text), (text) => pad(text, 1), (text) => wrap(text, 1),
-    (text) => lines(text, 1),     (text) => linkAt(text, 0), (text) => floorCharBoundary(text, 0), hasAny, isWhole, iterBlocks, sanitize, isSafe,
+    (text) => lines(text, 1), sliceColumns, expandTabs, (text) => linkAt(text, 0), (text) => floorCharBoundary(text, 0), hasAny, isWhole, iterBlocks, sanitize, isSafe,
     ...[stripPrefix, stripSuffix, startsWith, endsWith, iterSplit].flatMap((call) => [(text) => call(text, ''), (text) => call('', text)])];
   for (const call of calls) {
     assert.throws(() => call('a\ud800'), /lone surrogate/);
@@ -76,6 +82,10 @@ test('what is no text or no position is refused', () => {
   }
   for (const call of [fitting, truncate, pad, wrap, lines]) {
     assert.throws(() => call('abc'), /the width must be a whole number/);
+    assert.throws(() => call('abc', -1), RangeError);
+  }
+  for (const call of [sliceColumns, expandTabs, (text, end) => sliceColumns(text, 0, end)]) {
+    assert.throws(() => call('abc', 1.5), /must be a whole number/);
     assert.throws(() => call('abc', -1), RangeError);
   }
   assert.throws(() => pad('abc', 5, 'middle'), /left, center, right/);
@@ -127,5 +137,64 @@ test('memory is asked for and given back, and lack of it leaves the module fit f
   for (const columns of [2 ** 36, 2 ** 40, Number.MAX_SAFE_INTEGER, Number.MAX_VALUE]) {
     assert.throws(() => pad('abc', columns), OutOfMemoryError);
     assert.equal(pad('abc', 5, 'center'), ' abc ');
+    assert.equal(sliceColumns('abc', 1, columns), 'bc');
   }
+});
+
+test('a drop-in returns what its package does (as run: strip-ansi 6.0.1, string-width 4.2.3, wrap-ansi 8.0.1)', () => {
+  const fox = 'The quick \x1b[31mfox jumped over \x1b[39mthe lazy \x1b[32mdog and then\x1b[39m.';
+  const rows = [
+    [stripAnsi('\x1b[4mUnicorn\x1b[0m'), 'Unicorn'],
+    [stripAnsi('\x1b]8;;https://github.com\x07Click\x1b]8;;\x07'), 'Click'],
+    [stripAnsi('a\x1b[2Jb\x1b(Bc'), 'abc'],
+    [stringWidth('a'), 1],
+    [stringWidth('古'), 2],
+    [stringWidth('\x1b[1m古\x1b[22m'), 2],
+    [stringWidth('cafe\u0301'), 4],
+    [stringWidth('👍🏽'), 2],
+    [stringWidth(''), 0],
+    [stringWidth(null), 0],
+    [wrapAnsi(fox, 20), 'The quick \x1b[31mfox jumped\x1b[39m\n\x1b[31mover \x1b[39mthe lazy \x1b[32mdog\x1b[39m\n\x1b[32mand then\x1b[39m.'],
+    [wrapAnsi(fox, 9), 'The quick\n\x1b[31mfox\x1b[39m\n\x1b[31mjumped\x1b[39m\n\x1b[31mover \x1b[39mthe\nlazy \x1b[32mdog\x1b[39m\n\x1b[32mand then\x1b[39m.'],
+    [wrapAnsi('x abcdefgh y', 4), 'x\nabcdefgh\ny'],
+    [wrapAnsi('x abcdefgh y', 4, { hard: true }), 'x\nabcd\nefgh\ny'],
+    [wrapAnsi('x \x1b[31mabcdefgh\x1b[39m yz', 5, { hard: true }), 'x \x1b[31mabc\x1b[39m\n\x1b[31mdefgh\x1b[39m\nyz'],
+    [wrapAnsi('  two  blanks  ', 20), 'two  blanks'],
+    [wrapAnsi('  two  blanks  ', 4, { trim: false }), '  \ntwo \n \nblanks\n  '],
+    [wrapAnsi('\x1b[41m a b \x1b[49m', 2, { trim: false }), '\x1b[41m a\x1b[49m\n\x1b[41m b\x1b[49m\n\x1b[41m \x1b[49m'],
+    [wrapAnsi('The quick brown', 5, { wordWrap: false }), 'The q\nuick\nbrown'],
+    [wrapAnsi('The quick brown', 5, { wordWrap: false, trim: false }), 'The q\nuick \nbrown'],
+    [wrapAnsi('at an end   ', 3, { wordWrap: false }), 'at\nan\nend\n'],
+    [wrapAnsi('日本語 テキスト', 5, { hard: true }), '日本\n語\nテキ\nスト'],
+    [wrapAnsi('a\r\nb c\n\nd\n', 2), 'a\nb\nc\n\nd\n'],
+    [wrapAnsi('\x1b]8;;http://u\x07a link\x1b]8;;\x07', 9), '\x1b]8;;http://u\x07a link\x1b]8;;\x07'],
+    [wrapAnsi(12.5, Infinity), '12.5'],
+  ];
+  for (const [given, wanted] of rows) {
+    assert.equal(given, wanted);
+  }
+});
+
+test('where a drop-in differs from its package', () => {
+  assert.equal(stripAnsi('\x1b[31'), '[31');
+  assert.equal(stripAnsi('a\x1bPbody\x1b\\b'), 'ab');
+  assert.throws(() => stripAnsi(null), TypeError);
+  assert.equal(stringWidth('a\tb\n'), 4);
+  assert.equal(stringWidth('\x1b[1ma', { countAnsiEscapeCodes: true }), 4);
+  assert.throws(() => stringWidth('a', { ambiguousIsNarrow: false }), RangeError);
+  const [, styled] = wrapAnsi('\x1b[1;31mboth words\x1b[0m', 5).split('\n');
+  assert.deepEqual([blocks(styled)[0].style.attributes, blocks(styled)[0].style.foreground], [['bold'], 'red']);
+  assert.equal(linkAt(wrapAnsi('\x1b]8;;http://u\x1b\\a link\x1b]8;;\x1b\\', 4).split('\n')[1], 0), 'http://u');
+  assert.equal(wrapAnsi('cafe\u0301', 4), 'cafe\u0301');
+  // (a line feed inside a sequence ends no line)
+  assert.equal(wrapAnsi('\x1b]0;a\nb\x07c  \nd', 9, { trim: false }), '\x1b]0;a\nb\x07c  \nd');
+  for (const call of [stripAnsi, stringWidth, (text) => wrapAnsi(text, 1)]) {
+    assert.throws(() => call('a\ud800'), /lone surrogate/);
+  }
+});
+
+test('a drop-in breaks long lines and long words in good time', () => {
+  const hard = { hard: true };
+  assert.equal(wrapAnsi('a'.repeat(1e5), 5, hard).length, 12e4 - 1);
+  assert.equal(wrapAnsi('\x1b[31mred\x1b[39m word '.repeat(5000), 8, hard).split('\n').length, 5000);
 });

@@ -9,16 +9,20 @@ import os
 import re
 import subprocess
 import sys
+import textwrap
 import threading
 import typing
 import unittest
 from typing import Iterator
 
 import ansi_str
+from ansi_str import compat
 
 ROWS = os.path.join(os.path.dirname(os.path.abspath(__file__)), "../../crates/ansi_rows/stdin")
 # the calls that aren't here. The positions of an edit count the bytes of what the edit before it made
-LACKING = ["is_char_boundary", "floor_char_boundary", "part_interval", "edit", "block_order", "items"]
+LACKING = [
+    "is_char_boundary", "floor_char_boundary", "part_interval", "edit", "block_order", "items",
+]
 # how many arguments of a call are positions
 POSITIONS = {"cut": 2, "left": 1, "right": 1, "split_at": 1, "link_at": 1}
 
@@ -58,6 +62,8 @@ MADE = {
     "front": lambda text, width: [ansi_str.cut(text, 0, ansi_str.fitting(text, int(width)))],
     "truncate": lambda text, width, tail: [ansi_str.truncate(text, int(width), tail)],
     "pad": lambda text, width, word: [ansi_str.pad(text, int(width), word.lower())],
+    "slice": lambda text, start, end: [ansi_str.slice_columns(text, int(start), int(end))],
+    "expand_tabs": lambda text, stop: [ansi_str.expand_tabs(text, int(stop))],
     "wrap": lambda text, width, *_: [ansi_str.wrap(text, int(width))],
     "lines": lambda text, width, *_: [ansi_str.lines(text, int(width))],
     "link_at": lambda text, position: [ansi_str.link_at(text, position)],
@@ -142,7 +148,8 @@ class Rows(unittest.TestCase):
 
 # each call that takes a text, and what is passed for its other arguments
 CALLS = {"strip": [], "cut": [0], "left": [0], "right": [0], "part": [",", 0], "strip_prefix": [""], "strip_suffix": [""],
-         "trim": [], "width": [], "fitting": [1], "truncate": [1], "pad": [1], "wrap": [1], "lines": [1], "find": [""], "starts_with": [""], "ends_with": [""], "has_any": [], "is_whole": [], "split": [","],
+         "trim": [], "width": [], "fitting": [1], "truncate": [1], "pad": [1], "slice_columns": [0],
+         "expand_tabs": [8], "wrap": [1], "lines": [1], "find": [""], "starts_with": [""], "ends_with": [""], "has_any": [], "is_whole": [], "split": [","],
          "iter_split": [","], "blocks": [], "iter_blocks": [], "edit": [[]], "sanitize": [], "is_safe": [], "link_at": [0]}
 PATTERNED = ["part", "strip_prefix", "strip_suffix", "find", "starts_with", "ends_with", "split", "iter_split"]
 HUGE = [2**31, 2**63 - 1, 2**63, 2**64 - 1, 2**64, 2**64 + 1, 2**200]
@@ -189,6 +196,9 @@ class Arguments(unittest.TestCase):
                 self.refused(kind, "position " + words, ansi_str.link_at, text, wrong)
                 for call in (ansi_str.fitting, ansi_str.truncate, ansi_str.pad, ansi_str.wrap, ansi_str.lines):
                     self.refused(kind, "width " + words, call, text, wrong)
+                self.refused(kind, "start " + words, ansi_str.slice_columns, text, wrong)
+                self.refused(kind, "end " + words, ansi_str.slice_columns, text, 0, wrong)
+                self.refused(kind, "stop " + words, ansi_str.expand_tabs, text, wrong)
                 self.refused(kind, "index " + words, ansi_str.edit, text, [ansi_str.Part(",", wrong)])
                 for name, step in (("left", ansi_str.Left), ("right", ansi_str.Right)):
                     self.refused(kind, "mid " + words, getattr(ansi_str, name), text, wrong)
@@ -212,6 +222,10 @@ class Arguments(unittest.TestCase):
                     self.assertEqual("".join(ansi_str.wrap(text, huge)), "".join(ansi_str.wrap(text, 9)))
                     with self.assertRaises(MemoryError):
                         ansi_str.pad(text, max(huge, 2**62))
+                    self.assertEqual(ansi_str.expand_tabs(text, huge), text)
+                    self.assertEqual(ansi_str.slice_columns(text, 0, huge), ansi_str.slice_columns(text))
+                    self.assertEqual(ansi_str.slice_columns(text, huge), "")
+                    self.assertEqual(ansi_str.slice_columns(text, huge, 0), "")
                     self.assertIsNone(ansi_str.part(text, ",", huge))
                     self.assertIsNone(ansi_str.part(text, "", huge))
                     self.assertIsNone(ansi_str.link_at("\x1b]8;;u\x07" + text, huge))
@@ -300,7 +314,7 @@ class Private(unittest.TestCase):
     WRONG = {
         "bytes": [(b"\xff", ValueError)] + [(wrong, TypeError) for wrong in TYPES + [1, ()]],
         "number": [(-1, ValueError), (-2**64, ValueError)] + [(wrong, TypeError) for wrong in TYPES + [b"a", ()]],
-        "kind": [(-1, ValueError), (12, ValueError), (2**31 - 1, ValueError), (2**31, OverflowError), (-2**200, OverflowError)]
+        "kind": [(-1, ValueError), (14, ValueError), (2**31 - 1, ValueError), (2**31, OverflowError), (-2**200, OverflowError)]
                 + [(wrong, TypeError) for wrong in TYPES + [b"a", ()]],
         "steps": [(wrong, TypeError) for wrong in TYPES + [b"a", 1, (1,), ((),), ((0, 0, 0),), ((0, 0, 0, b"", 0),), ([0, 0, 0, b""],)]],
         "bool": [],
@@ -330,9 +344,9 @@ class Private(unittest.TestCase):
         for name, given in self.GOOD.items():
             self.refused(getattr(ansi_str._library, name), given)
         edit = ansi_str._library.edit
-        for kind in range(12):
+        for kind in range(14):
             self.refused(lambda *step: edit(b"a", True, (step + (b"",),)), [("kind", kind), ("number", 0), ("number", 1)])
-        # (the last four kinds don't read their pattern)
+        # (the last six kinds don't read their pattern)
         for kind in range(8):
             self.refused(lambda pattern: edit(b"a", True, ((kind, 0, 1, pattern),)), [("bytes", b"")])
 
@@ -418,6 +432,67 @@ class Interpreters(unittest.TestCase):
         self.assertEqual(ran.stderr, b"passed in 4\n" if sys.version_info >= (3, 12) else b"passed in 2\n")
 
 
+def made(call, *arguments, **options):
+    """What a call returns, or the message of its ValueError."""
+    try:
+        return call(*arguments, **options)
+    except ValueError as error:
+        return str(error)
+
+
+class DropIns(unittest.TestCase):
+    def test_a_plain_text_is_wrapped_as_textwrap_does(self):
+        texts = ["", "   ", "hello", "The quick brown fox jumped over the lazy dog", "  an indent", "at the end   ", "two  blanks  here",
+                 "a\tb\tlonger words", "line one\nline two\r\nthree\vfour\ffive", "supercalifragilistic word", "x abcdefghijkl y",
+                 "Look, goof-ball -- use the -b option!", "one two [...] three four [...]", "caf\u00e9 au lait"]
+        options = [{}, dict(initial_indent="* ", subsequent_indent="  "), dict(break_long_words=False), dict(break_on_hyphens=False),
+                   dict(drop_whitespace=False), dict(expand_tabs=False), dict(tabsize=4), dict(max_lines=2),
+                   dict(max_lines=3, placeholder="\u2026"), dict(max_lines=1, initial_indent="> ")]
+        for text in texts:
+            for width in (5, 7, 8, 10, 14, 70):
+                for option in options:
+                    with self.subTest(text=text, width=width, option=option):
+                        self.assertEqual(made(compat.wrap, text, width, **option), made(textwrap.wrap, text, width, **option))
+                        self.assertEqual(made(compat.fill, text, width, **option), made(textwrap.fill, text, width, **option))
+                self.assertEqual(made(compat.shorten, text, width), made(textwrap.shorten, text, width))
+
+    def test_lines_count_columns_and_keep_styles_and_links(self):
+        link = "\x1b]8;;http://u\x1b\\"
+        no_link = "\x1b]8;;\x1b\\"
+        for text, width, options, lines in [
+            ("\x1b[31mred apple\x1b[39m", 6, {}, ["\x1b[31mred\x1b[39m", "\x1b[31mapple\x1b[39m"]),
+            ("\x1b[41m a b  \x1b[49m", 3, {"drop_whitespace": False}, ["\x1b[41m a \x1b[49m", "\x1b[41mb  \x1b[49m"]),
+            ("ab \x1b[31m cd\x1b[39m", 2, {}, ["ab", "\x1b[31mcd\x1b[39m"]),
+            ("\x1b[4ma b", 3, {"initial_indent": "* ", "subsequent_indent": "\x1b[2m>\x1b[22m "},
+             ["* \x1b[4ma\x1b[24m", "\x1b[2m>\x1b[22m \x1b[4mb\x1b[24m"]),
+            (link + "a link" + no_link, 4, {}, [link + "a" + no_link, link + "link" + no_link]),
+            ("\x1b]0;a\tb\nc\x07x\ty", 20, {}, ["\x1b]0;a\tb\nc\x07x       y"]),
+            ("\u53e4\ty", 20, {}, ["\u53e4      y"]),
+            ("\u65e5\u672c\u8a9e", 5, {}, ["\u65e5\u672c", "\u8a9e"]),
+            ("\u65e5\u672c", 1, {}, ["\u65e5", "\u672c"]),
+            ("\u65e5\u672c", 1, {"drop_whitespace": False}, ["\u65e5", "\u672c"]),
+            ("\x1b[31mred apple pie\x1b[39m", 11, {"max_lines": 1, "placeholder": "\x1b[2m..\x1b[22m"},
+             ["\x1b[31mred apple\x1b[39m\x1b[2m..\x1b[22m"]),
+        ]:
+            self.assertEqual(compat.wrap(text, width, **options), lines)
+        self.assertEqual(compat.shorten(" \x1b[31mHello \t world\x1b[39m ", 11), "\x1b[31mHello world\x1b[39m")
+
+    def test_what_is_refused(self):
+        for options in ({"fix_sentence_endings": True}, {"replace_whitespace": False}):
+            self.assertIn("must be", made(compat.wrap, "a", 5, **options))
+        self.assertEqual(made(compat.wrap, "a", 0), made(textwrap.wrap, "a", 0))
+
+    def test_widths(self):
+        # as tabulate and prettytable count, and what they leave in
+        for text, width in [("", 0), ("\x1b[31mhello\x1b[0m", 5), ("world", 5), (12.5, 4), (None, 4), ("\u53e4\u3044", 4),
+                            ("\x1b]8;;http://u\x07link\x1b]8;;\x07", 4), ("\x1b[2Kx", 1), ("\x1b[4:3mcurly\x1b[m", 5)]:
+            self.assertEqual(compat.visible_width(text), width)
+            self.assertEqual(compat.wcswidth(str(text)), width)
+
+    def test_long_texts(self):
+        self.assertEqual(len(compat.wrap("\x1b[31mred\x1b[39m word " * 5000, 8)), 5000)
+
+
 class Missing(unittest.TestCase):
     def test_a_library_that_is_not_there(self):
         # (where it is found is where this process found it)
@@ -429,6 +504,7 @@ class Missing(unittest.TestCase):
 
 def load_tests(loader, tests, pattern):
     tests.addTests(doctest.DocTestSuite(ansi_str))
+    tests.addTests(doctest.DocTestSuite(compat))
     return tests
 
 

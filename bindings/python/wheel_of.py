@@ -18,13 +18,45 @@ class UnsupportedOperation(Exception):
 
 
 def build_sdist(sdist_directory, config_settings=None):
-    raise UnsupportedOperation("ansi-str has no archive of sources, since its library is proved and built in its repository: "
-                               "make a wheel there, by `pip wheel bindings/python`")
+    raise UnsupportedOperation("`./release` of the repository makes the archive of sources, with its library: for this "
+                               "system, make a wheel, by `pip wheel bindings/python`")
 
 
 def _read(*names):
     with open(os.path.join(HERE, *names), "rb") as file:
         return file.read()
+
+
+def _license():
+    """The license: an archive of sources has it beside this file, the repository at its top."""
+    return _read("LICENSE") if os.path.exists(os.path.join(HERE, "LICENSE")) else _read("..", "..", "LICENSE")
+
+
+def _project():
+    """What pyproject.toml says, by its names."""
+    text = _read("pyproject.toml").decode()
+    project = dict(re.findall(r'^([\w-]+) = "(.*)"$', text, flags=re.M))
+    project["author"] = re.search(r'^authors = .*name = "(.*?)"', text, flags=re.M).group(1)
+    project["keywords"] = ",".join(re.findall(r'"(.*?)"', re.search(r"^keywords = (.*)", text, flags=re.M).group(1)))
+    project["url"] = "{}, {}".format(*re.search(r'^"(.*)" = "(.*)"$', text, flags=re.M).groups())
+    return project
+
+
+def metadata():
+    """The package's core metadata."""
+    form = ("Metadata-Version: 2.4\nName: {name}\nVersion: {version}\nSummary: {description}\nAuthor: {author}\n"
+            "License-Expression: {license}\nLicense-File: LICENSE\nKeywords: {keywords}\nProject-URL: {url}\n"
+            "Requires-Python: {requires-python}\nDescription-Content-Type: text/markdown\n\n")
+    return form.format(**_project()) + _read("README.md").decode()
+
+
+def _platform(module, settings):
+    """The tag of the systems that a module is for: this one alone, or with the setting `manylinux` each with the glibc that it needs."""
+    if not (settings or {}).get("manylinux"):
+        return re.sub(r"[-.]", "_", sysconfig.get_platform())
+    newest = max((int(minor) for minor in re.findall(rb"GLIBC_2\.(\d+)", module)), default=0)
+    # (older ones have a name of their own, which older pips know too)
+    return "manylinux_2_{}_x86_64".format(newest) if newest > 17 else "manylinux_2_17_x86_64.manylinux2014_x86_64"
 
 
 def _module():
@@ -41,18 +73,18 @@ def _line(name, data):
 
 
 def build_wheel(wheel_directory, config_settings=None, metadata_directory=None):
-    project = dict(re.findall(r'^([\w-]+) = "(.*)"$', _read("pyproject.toml").decode(), flags=re.M))
+    project, module = _project(), _module()
     stem = "{}-{}".format(project["name"].replace("-", "_"), project["version"])
-    # (any CPython from 3.6 on, on this system alone)
-    tag = "cp36-abi3-" + re.sub(r"[-.]", "_", sysconfig.get_platform())
+    # (any CPython from 3.6 on)
+    tag = "cp36-abi3-" + _platform(module, config_settings)
+    tags = "".join("Tag: cp36-abi3-{}\n".format(platform) for platform in tag.split("-")[-1].split("."))
     info = stem + ".dist-info/"
-    metadata = ("Metadata-Version: 2.1\nName: {name}\nVersion: {version}\nSummary: {description}\nLicense-File: LICENSE\n"
-                "Requires-Python: {requires-python}\n")
-    files = {"ansi_str/" + name: _read("src", "ansi_str", name) for name in ("__init__.py", "py.typed")}
-    files["ansi_str/_ansi_str.abi3.so"] = _module()
-    files[info + "LICENSE"] = _read("..", "..", "LICENSE")
-    files[info + "METADATA"] = metadata.format(**project).encode()
-    files[info + "WHEEL"] = "Wheel-Version: 1.0\nGenerator: ansi_str\nRoot-Is-Purelib: false\nTag: {}\n".format(tag).encode()
+    names = sorted(name for name in os.listdir(os.path.join(HERE, "src", "ansi_str")) if name.endswith(".py"))
+    files = {"ansi_str/" + name: _read("src", "ansi_str", name) for name in names + ["py.typed"]}
+    files["ansi_str/_ansi_str.abi3.so"] = module
+    files[info + "licenses/LICENSE"] = _license()
+    files[info + "METADATA"] = metadata().encode()
+    files[info + "WHEEL"] = "Wheel-Version: 1.0\nGenerator: ansi_str\nRoot-Is-Purelib: false\n{}".format(tags).encode()
     record = "".join(_line(name, data) for name, data in files.items())
     files[info + "RECORD"] = (record + info + "RECORD,,\n").encode()
     wheel = "{}-{}.whl".format(stem, tag)

@@ -1,5 +1,6 @@
-//! Tells cargo the folders of the library for C and of the kit's C library that it needs: those that `ANSI_STR_C` and
-//! `RATTLE_C` name, by default those of the repository and the kit. If one isn't there, says what to run.
+//! Tells cargo where the proved library is. A package of a release has one in it, in `lib/`, for one target. Otherwise it
+//! is the library for C with the kit's C library that it needs: in the folders that `ANSI_STR_C` and `RATTLE_C` name, by
+//! default those of the repository and the kit. If one isn't there, says what to run.
 
 use std::env;
 use std::path::{Path, PathBuf};
@@ -21,8 +22,29 @@ fn link(name: &str, variable: &str, usual: PathBuf, to_run: &str) {
     println!("cargo:rustc-link-lib=static={name}");
 }
 
+/// Links the library of the package, if it is for this target.
+fn link_packaged(libraries: &Path) {
+    let target = env::var("TARGET").expect("cargo sets TARGET");
+    let folder = libraries.join(&target);
+    if !folder.is_dir() {
+        eprintln!(
+            "ansi-str: this package has its library for x86_64-unknown-linux-gnu alone, not for {target}. \
+             ANSI_STR_C and RATTLE_C can name the folders of libansi_str_c.a and liblibc_c.a that you built for it."
+        );
+        process::exit(1);
+    }
+    println!("cargo:rustc-link-search=native={}", folder.display());
+    println!("cargo:rustc-link-lib=static=ansi_str");
+}
+
 fn main() {
-    let library = Path::new(env!("CARGO_MANIFEST_DIR")).join("../../crates/ansi_str_c");
+    let package = Path::new(env!("CARGO_MANIFEST_DIR"));
+    let libraries = package.join("lib");
+    println!("cargo:rerun-if-env-changed=ANSI_STR_C");
+    if libraries.is_dir() && env::var_os("ANSI_STR_C").is_none() {
+        return link_packaged(&libraries);
+    }
+    let library = package.join("../../crates/ansi_str_c");
     let to_build = format!("cd {} && rt lib", library.display());
     link("ansi_str_c", "ANSI_STR_C", library.join("out"), &to_build);
     let kit = PathBuf::from("/opt/rattle/c");

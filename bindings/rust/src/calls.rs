@@ -225,6 +225,15 @@ extern "C" {
         b: Room,
         m: usize,
     ) -> Answer;
+    fn ansi_str_raw_slice(
+        t: Bytes,
+        n: usize,
+        start: usize,
+        end: usize,
+        b: Room,
+        m: usize,
+    ) -> Answer;
+    fn ansi_str_raw_expand_tabs(t: Bytes, n: usize, stop: usize, b: Room, m: usize) -> Answer;
     fn ansi_str_raw_wrap(
         t: Bytes,
         n: usize,
@@ -479,6 +488,20 @@ pub(crate) fn pad(text: &str, width: usize, alignment: u32) -> String {
     always(written(text.len() + LONGEST_CLOSE, |b, m| {
         // SAFETY: a `str`, and the room; any number may be a width
         unsafe { ansi_str_raw_pad(text.as_ptr(), text.len(), width, alignment, b, m) }
+    }))
+}
+
+pub(crate) fn slice(text: &str, start: usize, end: usize) -> String {
+    always(written(text.len() + LONGEST_START_AND_CLOSE, |b, m| {
+        // SAFETY: a `str`, and the room; any numbers may be columns
+        unsafe { ansi_str_raw_slice(text.as_ptr(), text.len(), start, end, b, m) }
+    }))
+}
+
+pub(crate) fn expand_tabs(text: &str, stop: usize) -> String {
+    always(written(text.len() + LONGEST_CLOSE, |b, m| {
+        // SAFETY: a `str`, and the room; any number may be a stop
+        unsafe { ansi_str_raw_expand_tabs(text.as_ptr(), text.len(), stop, b, m) }
     }))
 }
 

@@ -1,12 +1,12 @@
-//! Columns of a terminal: display width, the longest prefix that fits, truncation, padding and wrapping; and links.
+//! Columns of a terminal: display width, the longest prefix that fits, truncation, padding, slices, TABs and wrapping; and links.
 //!
 //! The display width of a text is the sum over the extended grapheme clusters of its plain text (UAX #29, UAX #11). The library
 //! computes it also for a text without ESC, since std can't. Positions count bytes of the plain text.
 
-use crate::{calls, AnsiStr};
+use crate::{calls, ends_of, AnsiStr};
 use std::borrow::Cow;
 use std::iter::FusedIterator;
-use std::ops::Range;
+use std::ops::{Range, RangeBounds};
 use std::vec;
 
 /// The place of a padded text among its blanks.
@@ -48,10 +48,11 @@ pub trait AnsiColumns: AnsiStr {
     #[must_use]
     fn ansi_fitting(&self, width: usize) -> usize;
 
-    /// The text truncated to `width` columns. A text that fits stays whole. Any other is cut, as by
+    /// The text truncated to `width` columns, on one line and safe: SGRs, clean links (OSC 8) and printing characters stay,
+    /// TAB and line ends become a blank, and the rest is left out. What fits then isn't cut. Any other text is cut, as by
     /// [`ansi_cut`](AnsiStr::ansi_cut), to the longest prefix that fits beside the tail, and the tail follows unchanged. A
-    /// tail wider than `width` is left out. The link (OSC 8) and then the style still open at the end of the text are closed
-    /// before the tail. The result is borrowed if it is a prefix of the text.
+    /// tail wider than `width` is left out. The link and then the style still open at the end of the text are closed before
+    /// the tail. The result is borrowed if it is a prefix of the text.
     ///
     /// ```
     /// use ansi_str::columns::AnsiColumns;
@@ -60,8 +61,9 @@ pub trait AnsiColumns: AnsiStr {
     #[must_use]
     fn ansi_truncate(&self, width: usize, tail: &str) -> Cow<'_, str>;
 
-    /// The text padded with blanks to `width` columns. The link and then the style still open at its end are closed before the
-    /// blanks. A text at least as wide gets no blanks, and is borrowed if nothing is open.
+    /// The text padded with blanks to `width` columns, on one line and safe, as by
+    /// [`ansi_truncate`](AnsiColumns::ansi_truncate). The link and then the style still open at its end are closed before the
+    /// blanks. A text at least as wide gets no blanks, and is borrowed if it is safe, on one line, and nothing is open.
     ///
     /// ```
     /// use ansi_str::columns::{Alignment, AnsiColumns};
@@ -70,9 +72,34 @@ pub trait AnsiColumns: AnsiStr {
     #[must_use]
     fn ansi_pad(&self, width: usize, alignment: Alignment) -> Cow<'_, str>;
 
+    /// The columns of the text in a range, on one line and safe, as by [`ansi_truncate`](AnsiColumns::ansi_truncate). The first
+    /// column is 0. The style and the link that are open at the start are opened first, and the link and then the style still
+    /// open at the end are closed. If a cluster is only partly in the range, each of its columns there is a blank. A cluster of
+    /// no columns belongs to the column after it, or to the last one. A slice without a column is empty: an end at or before the
+    /// start, or a start past the last column. The result is borrowed if it is a prefix of the text.
+    ///
+    /// ```
+    /// use ansi_str::columns::AnsiColumns;
+    /// assert_eq!("\x1b[31m日本語\x1b[39m".ansi_slice(1..4), "\x1b[31m 本\x1b[39m");
+    /// ```
+    #[must_use]
+    fn ansi_slice<R: RangeBounds<usize>>(&self, columns: R) -> Cow<'_, str>;
+
+    /// The text with each TAB expanded: it becomes blanks up to the next multiple of `stop` columns from the beginning of its
+    /// line, which is after a line feed. Sequences and controls have no columns. Everything else is unchanged. If `stop` is 0, a
+    /// TAB becomes nothing. The result is borrowed if it is a prefix of the text, as it is without a TAB.
+    ///
+    /// ```
+    /// use ansi_str::columns::AnsiColumns;
+    /// assert_eq!("a\x1b[4m\tb\n日\tc".ansi_expand_tabs(4), "a\x1b[4m   b\n日  c");
+    /// ```
+    #[must_use]
+    fn ansi_expand_tabs(&self, stop: usize) -> Cow<'_, str>;
+
     /// The text wrapped to lines of `width` columns. A line ends at a line end or before a word that doesn't fit, and loses the
-    /// blanks at its end; a word that is too wide is broken at the end of a cluster. A width of 0 counts as 1. Each line closes
-    /// the link (OSC 8) and then the style that it leaves open; the next line reopens them.
+    /// blanks at its end; a word that is too wide is broken at the end of a cluster. An indent stays if its word fits after it. A
+    /// width of 0 counts as 1. Each line closes the link (OSC 8) and then the style that it leaves open; the next line reopens
+    /// them.
     ///
     /// ```
     /// use ansi_str::columns::AnsiColumns;
@@ -149,6 +176,17 @@ impl<T: AsRef<str> + ?Sized> AnsiColumns for T {
     fn ansi_pad(&self, width: usize, alignment: Alignment) -> Cow<'_, str> {
         let text = self.as_ref();
         front_or_owned(text, calls::pad(text, width, alignment as u32))
+    }
+
+    fn ansi_slice<R: RangeBounds<usize>>(&self, columns: R) -> Cow<'_, str> {
+        let text = self.as_ref();
+        let (start, end) = ends_of(&columns);
+        front_or_owned(text, calls::slice(text, start, end))
+    }
+
+    fn ansi_expand_tabs(&self, stop: usize) -> Cow<'_, str> {
+        let text = self.as_ref();
+        front_or_owned(text, calls::expand_tabs(text, stop))
     }
 
     fn ansi_wrap(&self, width: usize) -> AnsiWrap {

@@ -68,11 +68,15 @@ fn an_answer_keeps_little_more_room_than_it_needs() {
 
 #[test]
 fn iterators_pass_between_threads() {
-    fn parts_and_blocks<T: Send + Sync + Clone>(_: &T) {}
+    fn may_be_shared<T: Send + Sync + Clone>(_: &T) {}
     let text = "\x1b[1ma,b";
     let (mut parts, blocks) = (text.ansi_split(","), get_blocks(text));
-    parts_and_blocks(&parts);
-    parts_and_blocks(&blocks);
+    may_be_shared(&parts);
+    may_be_shared(&blocks);
+    for block in blocks.clone() {
+        may_be_shared(&block);
+        may_be_shared(block.style());
+    }
     // a copy goes on by itself
     assert!(parts.clone().eq(["\x1b[1ma\x1b[22m", "\x1b[1mb\x1b[22m"]));
     std::thread::scope(|scope| {

@@ -187,6 +187,8 @@ fn pass(call: &str, status: &str, want: &str, text: &str, more: &[String]) -> Op
         "front" => is(Some(text.ansi_cut(..text.ansi_fitting(position(0))))),
         "truncate" => is(Some(text.ansi_truncate(position(0), &more[1]))),
         "pad" => is(Some(text.ansi_pad(position(0), alignment_of(&more[1])))),
+        "slice" => is(Some(text.ansi_slice(position(0)..position(1)))),
+        "expand_tabs" => is(Some(text.ansi_expand_tabs(position(0)))),
         "wrap" => are(text.ansi_wrap(position(0)).map(Cow::from).collect()),
         "lines" => {
             let lines = text.ansi_lines(position(0));
@@ -231,7 +233,7 @@ fn rows_pass() {
 }
 
 #[test]
-fn a_truncated_or_padded_text_that_fits_is_a_borrow() {
+fn what_is_a_front_of_the_text_is_a_borrow() {
     for text in ["abc", "\x1b[1mabc\x1b[0m"] {
         assert!(matches!(text.ansi_truncate(3, "…"), Cow::Borrowed(_)));
         assert!(matches!(
@@ -241,6 +243,9 @@ fn a_truncated_or_padded_text_that_fits_is_a_borrow() {
         assert!(matches!(text.ansi_pad(4, Alignment::Right), Cow::Owned(_)));
     }
     assert!(matches!("abc".ansi_truncate(2, ""), Cow::Borrowed("ab")));
+    assert!(matches!("abc".ansi_slice(..=1), Cow::Borrowed("ab")));
+    assert!(matches!("abc".ansi_slice(1..), Cow::Owned(_)));
+    assert!(matches!("abc".ansi_expand_tabs(8), Cow::Borrowed("abc")));
 }
 
 #[test]

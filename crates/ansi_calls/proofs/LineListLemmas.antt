@@ -2,7 +2,7 @@
 use Rattle.std.proofs.Common.{◌≡◌, ◌∙◌, ℕ, ◌+◌, ◌-◌, ◌<◌, ◌≤◌, max, ◌||◌, ◌==◌, nat_le, ◌&&◌, Bool, true, false, inl, inr, List, [], ◌∷◌, ◌++◌, length, drop, map, slice_range, Some, None, Option, Result, Ok, Err, encode_utf8_all, if◌then◌else◌, refl, ap, arith, append-nil, length-append, IsFalse}
 use Rattle.std.specs.Prelude.{flat_map}
 use Rattle.std.specs.Str.{chars, IsUtf8}
-use Rattle.std.proofs.lemmas.Bool.{cases_Bool, cond_both}
+use Rattle.std.proofs.lemmas.Bool.{cond_both}
 use Rattle.std.proofs.lemmas.List.{length-take, length-drop, length-map}
 use Rattle.std.proofs.lemmas.List.Concat.{flat_map-cons}
 use Rattle.std.proofs.lemmas.Str.{encodes-chars}
@@ -14,17 +14,17 @@ use Rattle.ansi_items.specs.Plain.{Mark, plain, marks_up_to, has_escape}
 use Rattle.ansi_items.proofs.PlainLemmas.{plain-bare}
 use Rattle.ansi_style.specs.Rendition.{plain_style}
 use Rattle.ansi_style.specs.Reading.{after_marks}
-use Rattle.ansi_style.specs.Written.{start, close_if_any}
+use Rattle.ansi_style.specs.Written.{start}
 use Rattle.ansi_style.proofs.MarkLemmas.{marks-bare}
 use Rattle.ansi_style.proofs.UnsetLemmas.{start-unset}
 use Rattle.ansi_slice.specs.Cut.{interleaved}
 use Rattle.ansi_str.specs.Parts.{marks_past}
 use Rattle.ansi_slice.proofs.InterleavedLemmas.{interleaved-bare}
 use Rattle.ansi_columns.specs.Columns.{clusters, cluster_width}
-use Rattle.ansi_safe.specs.Links.{link_after_all, link_end}
-use Rattle.ansi_columns.specs.Lines.{is_line_end, is_blank, lines_from, lines, AreLinesFrom}
-use Rattle.ansi_columns.specs.Wrapped.{WrappedLine, line_over, lines_over, wrapped, GivesLine}
-use Rattle.ansi_columns.proofs.LineLemmas.{IsOfWord, more_at, line-ends, line-blank, line-stays, line-leaves, line-last}
+use Rattle.ansi_safe.specs.Links.{link_after_all}
+use Rattle.ansi_columns.specs.Lines.{lines_from, lines, AreLinesFrom}
+use Rattle.ansi_columns.specs.Wrapped.{WrappedLine, pen_end, line_over, lines_over, wrapped, GivesLine}
+use Rattle.ansi_columns.proofs.LineLemmas.{line-any, line-last}
 use Rattle.ansi_columns.proofs.ClusterLawLemmas.{clusters_after-bytes}
 use Rattle.ansi_calls.proofs.GivenLemmas.{joined_texts, GivesNext}
 use Rattle.ansi_calls.specs.Columns.{wrapped_lines}
@@ -50,9 +50,9 @@ bare-lines x i is =
 length-bare_line : (x : List ℕ) (i : ℕ × ℕ) → length (line_over plain_style [] x [] i).bytes ≤ i.1 - i.0
 unfolding line_over
 length-bare_line x i =
-    let whole = start plain_style ++ [] ++ interleaved x i.0 i.1 [] ++ link_end [] ++ close_if_any plain_style in
+    let whole = start plain_style ++ [] ++ interleaved x i.0 i.1 [] ++ pen_end [] plain_style in
     let shown : whole ≡ slice_range x i.0 i.1 =
-    ap (λ u. u ++ [] ++ interleaved x i.0 i.1 [] ++ [] ++ []) (start-unset plain_style refl) ∙ append-nil (interleaved x i.0 i.1 [] ++ []) ∙ append-nil (interleaved x i.0 i.1 []) ∙ interleaved-bare x i.0 i.1 in
+    ap (λ u. u ++ [] ++ interleaved x i.0 i.1 [] ++ []) (start-unset plain_style refl) ∙ append-nil (interleaved x i.0 i.1 []) ∙ interleaved-bare x i.0 i.1 in
     cond_both ((i.0 == i.1) && true) [] whole (λ w. length w ≤ i.1 - i.0) (λ none. omega arith)
     (λ some. omega (arith, ap length shown, length-take (i.1 - i.0) (drop i.0 x), length-drop i.0 x))
 
@@ -86,18 +86,13 @@ few-lines : (cs : List (List ℕ)) (width start end here columns : ℕ) → leng
 few-lines [] width start end here columns = omega (arith, ap length (line-last width start end here columns))
 few-lines (c ∷ cs) width start end here columns =
     let next = here + length (encode_utf8_all c) in
-    elim (cases_Bool (is_line_end c)) [
-      | inl ends ↦ omega (arith, ap length (line-ends width start end here columns c cs ends), few-lines cs width next next next 0)
-      | inr inside ↦ elim (cases_Bool (is_blank c)) [
-        | inl blank ↦ omega (arith, ap length (line-blank width start end here columns c cs inside blank), few-lines cs width start end next (columns + cluster_width c))
-        | inr solid ↦ (
-            let word : IsOfWord c = record { inside = inside; solid = solid } in
-            elim (cases_Bool ((here == start) || nat_le (columns + more_at end here c cs) width)) [
-              | inl stays ↦ omega (arith, ap length (line-stays width start end here columns c cs word stays), few-lines cs width start next next (columns + cluster_width c))
-              | inr leaves ↦ omega (arith, ap length (line-leaves width start end here columns c cs word leaves), few-lines cs width here next next (cluster_width c))
-            ])
-      ]
-    ]
+    let wider = columns + cluster_width c in
+    line-any width start end here columns c cs (λ ls. length ls ≤ length (c ∷ cs) + 1)
+    (omega (arith, few-lines cs width next next next 0))
+    (omega (arith, few-lines cs width start end next wider))
+    (omega (arith, few-lines cs width start next next wider))
+    (omega (arith, few-lines cs width here next next (cluster_width c)))
+    (omega (arith, few-lines cs width here next next (cluster_width c)))
 
 few-pieces : (cs : List (List ℕ)) → AllPieces (λ p. 0 < length p) (map encode_utf8_all cs) → length cs ≤ length (flat_map encode_utf8_all cs)
 few-pieces [] some = omega arith

@@ -1,6 +1,6 @@
 -- The effect of a call, by the UTF-8 check of each of its texts.
 use Rattle.std.proofs.Common.{◌≡◌, ◌∙◌, Bool, true, false, not, ◌&&◌, ℕ, List, [], ◌∷◌, Option, Some, Result, Ok, Err, IsTrue, inl, inr, sym, refl, subst}
-use Rattle.std.specs.Prelude.{IsOk, IfOk, option_map, MatchResult}
+use Rattle.std.specs.Prelude.{IsOk, IfOk, IsFalse, option_map, MatchResult}
 use Rattle.std.specs.Cow.{cow_str_bytes}
 use Rattle.std.specs.declared.borrow.CowStr.{CowStr}
 use Rattle.std.proofs.lemmas.Bool.{true≢false}
@@ -50,3 +50,12 @@ pub Gives-text : {A E : Type 0} (absent : ℕ) (stays : Bool) (text : List ℕ) 
 Gives-text absent stays text (Ok c) answer old new is fits told = inl (subst (λ text. IsWritten text answer old new) is told)
 Gives-text absent true text (Err e) answer old new is fits told = absurd (true≢false (sym (fits refl)))
 Gives-text absent false text (Err e) answer old new is fits told = inr (refl, told)
+
+-- the same, by what makes it allocate
+pub Gives-made : {A E : Type 0} (absent : ℕ) (makes : Bool) (text : List ℕ) (gave : Result (CowStr A) E) (answer : Answer) (old new : List ℕ)
+    → IfOk gave (λ c. cow_str_bytes c ≡ text) → (IsFalse makes → IsOk gave)
+    → MatchResult gave (λ c. IsWritten (cow_str_bytes c) answer old new) (λ e. HasFailed out_of_memory answer old new)
+    → Gives absent makes (Some text) answer old new
+Gives-made absent makes text (Ok c) answer old new is fits told = inl (subst (λ text. IsWritten text answer old new) is told)
+Gives-made absent true text (Err e) answer old new is fits told = inr (refl, told)
+Gives-made absent false text (Err e) answer old new is fits told = absurd (true≢false (sym (fits refl)))

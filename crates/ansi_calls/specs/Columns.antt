@@ -1,5 +1,5 @@
 -- What each call on columns does. A text that isn't UTF-8 makes it fail with the status `not_utf8`, and what it writes to is unchanged.
-use Rattle.std.specs.Prelude.{◌≡◌, ℕ, not, ◌&&◌, ◌==◌, List, [], ◌∷◌, length, map, flat_map, Option, None, Some, if◌then◌else◌}
+use Rattle.std.specs.Prelude.{◌≡◌, ℕ, true, not, ◌&&◌, ◌==◌, List, [], ◌∷◌, length, map, flat_map, Option, None, Some, if◌then◌else◌}
 use Rattle.std.specs.Str.{IsCharBoundary}
 use Rattle.ansi_columns.specs.declared.shown.Alignment.{Alignment}
 use Rattle.ansi_columns.specs.declared.shown.Alignment.TheVariants.{Left, Right, Center}
@@ -8,7 +8,10 @@ use Rattle.ansi_columns.specs.Columns.{columns, FitsUpTo}
 use Rattle.ansi_items.specs.Plain.{plain, has_escape}
 use Rattle.ansi_columns.specs.Lines.{lines}
 use Rattle.ansi_columns.specs.Shown.{truncated, truncated_ending, padded, missing, closing}
+use Rattle.ansi_columns.specs.Slices.{sliced}
+use Rattle.ansi_columns.specs.Tabs.{has_tab, expanded}
 use Rattle.ansi_columns.specs.Wrapped.{WrappedLine, wrapped}
+use Rattle.ansi_safe.specs.Cells.{cell, is_cell}
 use Rattle.ansi_calls.specs.declared.answers.Answer.{Answer}
 use Rattle.ansi_calls.specs.declared.lines.LineEntry.{LineEntry}
 use Rattle.ansi_calls.specs.declared.lists.ListAnswer.{ListAnswer}
@@ -28,24 +31,40 @@ abbrev pub TellsFitting : List ℕ → ℕ → Answer → Type 0
 TellsFitting t width answer =
     OnUtf8 (t ∷ []) ((place : ℕ) × (answer ≡ done place) × FitsUpTo (plain t) width place × IsCharBoundary (plain t) place) (answer ≡ failed not_utf8)
 
--- a call writes the text t truncated to `width` columns, and allocates only if something is written after the part of t that stays
+-- a call writes the text t truncated to `width` columns, and allocates only if its cell isn't t, or something is written after the part that stays
 unfoldable pub GivesTruncated : List ℕ → ℕ → List ℕ → Answer → List ℕ → List ℕ → Type 0
 GivesTruncated t width tail answer old new =
-    Gives no (not (length (truncated_ending t width tail) == 0)) (Some (truncated t width tail)) answer old new
+    Gives no (not (is_cell t && length (truncated_ending (cell t) width tail) == 0)) (Some (truncated (cell t) width tail)) answer old new
 
 -- `truncate` does so
 abbrev pub Truncates : List ℕ → ℕ → List ℕ → Answer → List ℕ → List ℕ → Type 0
 Truncates t width tail answer old new = OnUtf8 (t ∷ tail ∷ []) (GivesTruncated t width tail answer old new) (HasFailed not_utf8 answer old new)
 
--- a call writes the text t padded to `width` columns, and allocates only if a blank is needed or something is open; it is refused if there is no such alignment
+-- a call writes the text t padded to `width` columns, and allocates only if its cell isn't t, a blank is needed or something is open; it is refused if there is no such alignment
 unfoldable pub GivesPadded : List ℕ → ℕ → Option Alignment → Answer → List ℕ → List ℕ → Type 0
 GivesPadded t width None answer old new = HasFailed refused answer old new
 GivesPadded t width (Some alignment) answer old new =
-    Gives no (not (missing t width == 0 && length (closing t) == 0)) (Some (padded t width alignment)) answer old new
+    Gives no (not (is_cell t && (missing (cell t) width == 0 && length (closing (cell t)) == 0))) (Some (padded (cell t) width alignment)) answer old new
 
 -- `pad` does so, with the alignment of this number
 abbrev pub Pads : List ℕ → ℕ → ℕ → Answer → List ℕ → List ℕ → Type 0
 Pads t width n answer old new = OnUtf8 (t ∷ []) (GivesPadded t width (alignment_of n) answer old new) (HasFailed not_utf8 answer old new)
+
+-- a call writes the columns of the text t from `start` up to `end`, and may allocate for any text
+unfoldable pub GivesSliced : List ℕ → ℕ → ℕ → Answer → List ℕ → List ℕ → Type 0
+GivesSliced t start end answer old new = Gives no true (Some (sliced (cell t) start (Some end))) answer old new
+
+-- `slice` does so
+abbrev pub Slices : List ℕ → ℕ → ℕ → Answer → List ℕ → List ℕ → Type 0
+Slices t start end answer old new = OnUtf8 (t ∷ []) (GivesSliced t start end answer old new) (HasFailed not_utf8 answer old new)
+
+-- a call writes the text t with its TABs expanded, and allocates only if the plain text has a TAB
+unfoldable pub GivesExpanded : List ℕ → ℕ → Answer → List ℕ → List ℕ → Type 0
+GivesExpanded t stop answer old new = Gives no (has_tab t) (Some (expanded stop t)) answer old new
+
+-- `expand_tabs` does so
+abbrev pub ExpandsTabs : List ℕ → ℕ → Answer → List ℕ → List ℕ → Type 0
+ExpandsTabs t stop answer old new = OnUtf8 (t ∷ []) (GivesExpanded t stop answer old new) (HasFailed not_utf8 answer old new)
 
 -- `link_at` writes the address of the link at a position, and fails with the status `no` if there is none; it doesn't allocate
 abbrev pub WritesLink : List ℕ → ℕ → Answer → List ℕ → List ℕ → Type 0

@@ -1,11 +1,12 @@
-//! Calls that return the display width of a text, truncate or pad it for display, or return its links.
-ghost use Rattle.std.specs.Prelude.{◌≡◌};
+//! Calls that return the display width of a text, make it ready for display, or return its links.
+ghost use Rattle.std.specs.Prelude.{◌≡◌, Some};
 ghost use Rattle.ansi_calls.specs.Columns.{alignment_of, TellsWidth, TellsFitting, Truncates, Pads};
-ghost use Rattle.ansi_calls.specs.Columns.{WritesLink};
+ghost use Rattle.ansi_calls.specs.Columns.{GivesTruncated, GivesPadded, Slices, GivesSliced};
+ghost use Rattle.ansi_calls.specs.Columns.{ExpandsTabs, GivesExpanded, WritesLink};
 
 use crate::answers::{Answer, NO, NOT_UTF8, REFUSED, write, write_text};
 use ansi_columns::shown::Alignment;
-use ansi_columns::{addresses, columns, shown};
+use ansi_columns::{addresses, columns, shown, slices, tabs};
 use simdutf8::basic::from_utf8;
 use std::alloc::Allocator;
 
@@ -36,8 +37,7 @@ pub fn fitting(text: &[u8], width: usize) -> Answer
 }
 
 /// The text truncated to `width` columns.
-#[tactic(auto, unfolding(crate::specs::Columns::GivesTruncated))]
-pub fn truncate<A: Allocator>(
+pub fn truncate<A: Allocator + Copy>(
     alloc: A,
     text: &[u8],
     width: usize,
@@ -52,12 +52,26 @@ pub fn truncate<A: Allocator>(
     let Ok(tail) = from_utf8(tail) else {
         return Answer::failed(NOT_UTF8);
     };
+    truncate_text(alloc, text, width, tail, buffer)
+}
+
+/// The same for texts that are known to be UTF-8.
+#[tactic(auto, unfolding(crate::specs::Columns::GivesTruncated))]
+fn truncate_text<A: Allocator + Copy>(
+    alloc: A,
+    text: &str,
+    width: usize,
+    tail: &str,
+    buffer: &mut [u8],
+) -> Answer
+    ensures { GivesTruncated text.now width tail.now result buffer.old buffer.new }
+{
     write_text(shown::truncate(alloc, text, width, tail), buffer)
 }
 
 /// The text padded to `width` columns. The call is refused if there is no such alignment.
 #[tactic(auto, unfolding(crate::specs::Columns::GivesPadded))]
-pub fn pad<A: Allocator>(
+pub fn pad<A: Allocator + Copy>(
     alloc: A,
     text: &[u8],
     width: usize,
@@ -70,9 +84,76 @@ pub fn pad<A: Allocator>(
         return Answer::failed(NOT_UTF8);
     };
     match alignment_of(alignment) {
-        Some(alignment) => write_text(shown::pad(alloc, text, width, alignment), buffer),
+        Some(alignment) => pad_text(alloc, text, width, alignment, buffer),
         None => Answer::failed(REFUSED),
     }
+}
+
+/// The same for a text that is known to be UTF-8.
+#[tactic(auto, unfolding(crate::specs::Columns::GivesPadded))]
+fn pad_text<A: Allocator + Copy>(
+    alloc: A,
+    text: &str,
+    width: usize,
+    alignment: Alignment,
+    buffer: &mut [u8],
+) -> Answer
+    ensures { GivesPadded text.now width (Some alignment) result buffer.old buffer.new }
+{
+    write_text(shown::pad(alloc, text, width, alignment), buffer)
+}
+
+/// The columns of the text from `start` up to `end`.
+pub fn slice<A: Allocator + Copy>(
+    alloc: A,
+    text: &[u8],
+    start: usize,
+    end: usize,
+    buffer: &mut [u8],
+) -> Answer
+    ensures { Slices text.now start end result buffer.old buffer.new }
+{
+    match from_utf8(text) {
+        Ok(text) => slice_text(alloc, text, start, end, buffer),
+        Err(_) => Answer::failed(NOT_UTF8),
+    }
+}
+
+/// The same for a text that is known to be UTF-8.
+#[tactic(auto, unfolding(crate::specs::Columns::GivesSliced))]
+fn slice_text<A: Allocator + Copy>(
+    alloc: A,
+    text: &str,
+    start: usize,
+    end: usize,
+    buffer: &mut [u8],
+) -> Answer
+    ensures { GivesSliced text.now start end result buffer.old buffer.new }
+{
+    write_text(slices::slice(alloc, text, start, Some(end)), buffer)
+}
+
+/// The text with each TAB expanded to blanks up to the next multiple of `stop` columns.
+pub fn expand_tabs<A: Allocator + Copy>(
+    alloc: A,
+    text: &[u8],
+    stop: usize,
+    buffer: &mut [u8],
+) -> Answer
+    ensures { ExpandsTabs text.now stop result buffer.old buffer.new }
+{
+    match from_utf8(text) {
+        Ok(text) => expand_text(alloc, text, stop, buffer),
+        Err(_) => Answer::failed(NOT_UTF8),
+    }
+}
+
+/// The same for a text that is known to be UTF-8.
+#[tactic(auto, unfolding(crate::specs::Columns::GivesExpanded))]
+fn expand_text<A: Allocator + Copy>(alloc: A, text: &str, stop: usize, buffer: &mut [u8]) -> Answer
+    ensures { GivesExpanded text.now stop result buffer.old buffer.new }
+{
+    write_text(tabs::expand_tabs(alloc, text, stop), buffer)
 }
 
 /// The address of the hyperlink at a position.

@@ -1,5 +1,5 @@
 -- Printable ASCII in the tables of the rules on clusters, and its columns.
-use Rattle.std.proofs.Common.{◌≡◌, ◌≢◌, ℕ, ◌+◌, ◌<◌, ◌≤◌, Bool, true, false, not, ◌&&◌, ◌||◌, ◌==◌, List, [], ◌∷◌, length, slice_index, chars, unwrap_or, IsTrue, eqb-true, refl, sym, ap, ◌∙◌, arith, append-nil, encode_utf8}
+use Rattle.std.proofs.Common.{◌≡◌, ◌≢◌, ℕ, ◌+◌, ◌<◌, Bool, true, false, not, ◌||◌, ◌==◌, List, [], ◌∷◌, length, unwrap_or, IsTrue, eqb-true, refl, sym, ap, ◌∙◌, arith}
 use Rattle.std.specs.Int.{is_in_range}
 use Rattle.std.specs.List.{All, list_all}
 use Rattle.std.proofs.lemmas.Bool.{and_parts}
@@ -7,34 +7,34 @@ use Rattle.std.proofs.lemmas.Bool.Decides.{nat_tests}
 use Rattle.std.proofs.lemmas.List.Elements.{All-nil, All-cons}
 use Rattle.std.proofs.lemmas.List.Sums.{sum_by-cons}
 use Rattle.std.proofs.lemmas.Str.Ascii.{IsAscii-from_all}
-use Rattle.std.proofs.lemmas.Str.{encode_ascii, chars-nil, chars_past_char, chars-IsAscii}
-use Rattle.std.specs.Str.{IsUtf8}
+use Rattle.std.proofs.lemmas.Str.{chars-IsAscii}
 use Rattle.ucd_table.proofs.Facts.{Stepped-below}
 use Rattle.ucd_breaks.specs.GraphemeClusterBreak.{grapheme_cluster_break, grapheme_cluster_break_number}
 use Rattle.ucd_breaks.specs.declared.GraphemeClusterBreak.TheVariants.{Other}
 use Rattle.ucd_breaks.proofs.Computing.{ucd_breaks}
 use Rattle.ucd_breaks.proofs.GraphemeClusterBreakLemmas.{grapheme_cluster_break_stepped, grapheme_cluster_break_number_injective}
 use Rattle.ucd_derived.specs.IndicConjunctBreak.{indic_conjunct_break, indic_conjunct_break_number}
-use Rattle.ucd_derived.specs.declared.IndicConjunctBreak.{IndicConjunctBreak}
 use Rattle.ucd_derived.specs.declared.IndicConjunctBreak.TheVariants as InCb
 use Rattle.ucd_derived.proofs.Computing.{ucd_derived}
 use Rattle.ucd_derived.proofs.IndicConjunctBreakLemmas.{indic_conjunct_break_stepped, indic_conjunct_break_number_injective}
 use Rattle.ucd_emoji.specs.Binary.{is_extended_pictographic}
 use Rattle.ucd_emoji.proofs.BinaryLemmas.{is_extended_pictographic_stepped}
 use Rattle.ucd_emoji.proofs.Computing.{ucd_emoji}
-use Rattle.unicode_segmentation.specs.Grapheme.{is_grapheme_break, break_by_pair, is_consonant, ends_in_linker, ends_in_pictograph, ends_in_half_flag}
+use Rattle.unicode_segmentation.specs.Grapheme.{is_grapheme_break, break_by_pair, ends_in_linker, ends_in_pictograph, ends_in_half_flag}
 use Rattle.unicode_width.proofs.Rules.{str_width-printable}
 use Rattle.ansi_columns.specs.Columns.{cluster_width, columns_of, columns}
-use Rattle.ansi_columns.specs.BreakStates.{links, break_state_of}
+use Rattle.ansi_columns.specs.BreakStates.{break_state_of, IsUnnamed}
 use Rattle.ansi_columns.specs.Walks.{clusters_after}
 use Rattle.ansi_columns.specs.declared.break_state.BreakState.{BreakState}
 use Rattle.ansi_columns.proofs.ClusterLemmas.{cluster-begins, cluster-ends, cluster-last, clusters-none}
-use Rattle.ansi_columns.proofs.BreakLemmas.{break_state-push, joins, is_grapheme_break-decided}
+use Rattle.ucd_breaks.specs.declared.GraphemeClusterBreak.{GraphemeClusterBreak}
+use Rattle.ansi_columns.proofs.BreakLemmas.{joins, is_grapheme_break-decided}
+use Rattle.ansi_columns.proofs.UnnamedLemmas.{break_state-unnamed, ends-unnamed}
 
 abbrev pub is_printable : ℕ → Bool
 is_printable = is_in_range 0x20 0x7E
 
-printable-below_7F : (c : ℕ) → is_printable c ≡ true → c < 0x7F
+pub printable-below_7F : (c : ℕ) → is_printable c ≡ true → c < 0x7F
 printable-below_7F c printable = grind (arith, nat_tests)
 
 grapheme_cluster_break-printable : (c : ℕ) → is_printable c ≡ true → Other ≡ grapheme_cluster_break c
@@ -57,54 +57,47 @@ is_extended_pictographic-printable : (c : ℕ) → is_printable c ≡ true → f
 unfolding ucd_emoji
 is_extended_pictographic-printable c printable = not-false _ (Stepped-below is_extended_pictographic is_extended_pictographic_stepped (λ x v. not v) 0x7F refl c (printable-below_7F c printable))
 
+IsUnnamed-printable : (c : ℕ) → is_printable c ≡ true → IsUnnamed c
+IsUnnamed-printable c printable = record {
+  break = sym (grapheme_cluster_break-printable c printable);
+  conjunct = sym (indic_conjunct_break-printable c printable);
+  pictograph = sym (is_extended_pictographic-printable c printable);
+}
+
 -- after it, as after nothing
 pub break_state-printable : (c : ℕ) (before : List ℕ) → is_printable c ≡ true → break_state_of [] ≡ break_state_of (c ∷ before)
-unfolding ends_in_linker ends_in_pictograph ends_in_half_flag
-break_state-printable c before printable =
-    break_state-push c (break_state_of before) before refl Other false false false false (grapheme_cluster_break-printable c printable)
-    (ap (λ v. links v (break_state_of before).is_linked) (indic_conjunct_break-printable c printable))
-    (ap (λ b. b || false) (is_extended_pictographic-printable c printable)) refl refl
-
-no_join : (a b d : Bool) → (((a && false) || (b && false)) || (d && false)) ≡ false
-no_join true true true = refl
-no_join true true false = refl
-no_join true false true = refl
-no_join true false false = refl
-no_join false true true = refl
-no_join false true false = refl
-no_join false false true = refl
-no_join false false false = refl
+break_state-printable c before printable = break_state-unnamed c before (IsUnnamed-printable c printable)
 
 -- before it, the value of the character there decides alone
 pub ends-printable : (s : BreakState) (before : List ℕ) (next : ℕ) (after : List ℕ) → before ≢ [] → s ≡ break_state_of before → is_printable next ≡ true
     → unwrap_or (break_by_pair true s.last Other) true ≡ is_grapheme_break true before (next ∷ after)
-ends-printable s before next after some is printable =
-    let joins_none : joins s Other next ≡ false =
-    ap (λ (v : IndicConjunctBreak). ((s.is_linked && is_consonant v) || (s.is_joined && is_extended_pictographic next)) || (s.is_half_flag && false)) (sym (indic_conjunct_break-printable next printable))
-    ∙ ap (λ b. ((s.is_linked && false) || (s.is_joined && b)) || (s.is_half_flag && false)) (sym (is_extended_pictographic-printable next printable))
-    ∙ no_join s.is_linked s.is_joined s.is_half_flag in
-    ap (λ b. unwrap_or (break_by_pair true s.last Other) (not b)) (sym joins_none)
-    ∙ is_grapheme_break-decided s before next after some is Other (grapheme_cluster_break-printable next printable) (break_by_pair true s.last Other) refl
-
--- alone, it has one column
-pub width-one : (x : List ℕ) → IsUtf8 x → length x ≡ 1 → 0x20 ≤ slice_index x 0 → slice_index x 0 ≤ 0x7E → 1 ≡ cluster_width (chars x)
-width-one [] utf8 one low high = absurd (omega arith)
-width-one (b ∷ c ∷ x) utf8 one low high = absurd (omega (arith, one))
-width-one (b ∷ []) utf8 one low high =
-    let printable : is_printable b ≡ true = grind (arith, nat_tests) in
-    let ascii : b < 128 = omega (arith, high) in
-    let char : chars (b ∷ []) ≡ b ∷ [] = chars_past_char (b ∷ []) [] b utf8 (sym (append-nil (encode_utf8 b) ∙ encode_ascii b ascii)) ∙ ap (λ cs. b ∷ cs) chars-nil in
-    sym (str_width-printable false (b ∷ []) (rw printable refl)) ∙ ap cluster_width (sym char)
+ends-printable s before next after some is printable = ends-unnamed s before next after some is (IsUnnamed-printable next printable)
 
 -- ---- a text of printable ASCII
 
-width-single : (c : ℕ) → is_printable c ≡ true → cluster_width (c ∷ []) ≡ 1
+pub width-single : (c : ℕ) → is_printable c ≡ true → cluster_width (c ∷ []) ≡ 1
 width-single c printable = str_width-printable false (c ∷ []) (rw printable refl)
 
 pub breaks-between : (before : List ℕ) (c d : ℕ) (cs : List ℕ) → is_printable c ≡ true → is_printable d ≡ true → is_grapheme_break true (c ∷ before) (d ∷ cs) ≡ true
 breaks-between before c d cs first second =
     sym (ends-printable (break_state_of (c ∷ before)) (c ∷ before) d cs (λ none. cc) refl second)
     ∙ ap (λ v. unwrap_or (break_by_pair true v Other) true) (sym (grapheme_cluster_break-printable c first))
+
+values_break : (d : ℕ) → d < 0x80 → unwrap_or (break_by_pair true Other (grapheme_cluster_break d)) true ≡ true
+unfolding ucd_breaks
+values_break d ascii = Stepped-below grapheme_cluster_break grapheme_cluster_break_stepped (λ x v. unwrap_or (break_by_pair true Other v) true) 0x80 refl d ascii
+
+nothing_joins : (v : GraphemeClusterBreak) (d : ℕ) → joins (break_state_of []) v d ≡ false
+unfolding ends_in_linker ends_in_pictograph ends_in_half_flag
+nothing_joins v d = refl
+
+-- a cluster ends after it if ASCII follows
+pub breaks-before_ascii : (before : List ℕ) (c d : ℕ) (cs : List ℕ) → is_printable c ≡ true → d < 0x80 → is_grapheme_break true (c ∷ before) (d ∷ cs) ≡ true
+breaks-before_ascii before c d cs printable ascii =
+    let v = grapheme_cluster_break d in
+    sym (is_grapheme_break-decided (break_state_of (c ∷ before)) (c ∷ before) d cs (λ none. cc) refl v refl (break_by_pair true (break_state_of (c ∷ before)).last v) refl)
+    ∙ ap (λ (s : BreakState). unwrap_or (break_by_pair true s.last v) (not (joins s v d))) (sym (break_state-printable c before printable))
+    ∙ ap (λ b. unwrap_or (break_by_pair true Other v) (not b)) (nothing_joins v d) ∙ values_break d ascii
 
 columns-from : (before cs : List ℕ) → list_all is_printable cs ≡ true → columns_of (clusters_after before cs) ≡ length cs
 columns-from before [] all = ap columns_of (clusters-none before)

@@ -22,6 +22,11 @@ not_empty e none = (let f = sym e ∙ none in cc)
 pub cluster-none : (t : List ℕ) (n : ℕ) → cluster t n n ≡ []
 cluster-none t n = (let none : n - n ≡ 0 = omega arith in ap (λ i. chars (take i (drop n (plain t)))) none ∙ chars-nil)
 
+-- the character alone
+pub cluster-one : (t : List ℕ) (utf8 : IsUtf8 t) (w : Walk) (walk : IsWalk t w) (c : ℕ) (next : IsNext t w c) (m : ℕ) → m ≡ w.position + length (encode_utf8 c) → cluster t w.position m ≡ c ∷ []
+cluster-one t utf8 w walk c next m position =
+    ap (cluster t w.position) position ∙ cluster-push t utf8 w walk c next w.position (omega arith) (walk_boundary t utf8 w walk) ∙ ap (λ u. u ++ c ∷ []) (cluster-none t w.position)
+
 module _ (t : List ℕ) (utf8 : IsUtf8 t) (w : Walk) (walk : IsWalk t w) (c : ℕ) (next : IsNext t w c) (m : ℕ) (position : m ≡ w.position + length (encode_utf8 c))
     (before_is : before t m ≡ c ∷ before t w.position) (after_is : after t w.position ≡ c ∷ after t m) where
   pushed : (n : ℕ) → n ≤ w.position → IsCharBoundary (plain t) n → cluster t n m ≡ cluster t n w.position ++ c ∷ []

@@ -2,7 +2,7 @@
 use Rattle.std.proofs.Common.{◌≡◌, ℕ, ◌+◌, ◌-◌, ◌*◌, ◌<◌, ◌≤◌, List, [], ◌∷◌, ◌++◌, length, take, slice_range, flat_map, encode_utf8_all, refl, sym, ◌∙◌, ap, ap₂, arith, zero-add, append_assoc, append-nil, length-append}
 use Rattle.std.specs.Str.{chars, IsUtf8, IsCharBoundary}
 use Rattle.std.proofs.lemmas.List.{take_at}
-use Rattle.std.proofs.lemmas.List.Sums.{sum_by-append}
+use Rattle.std.proofs.lemmas.List.Sums.{sum_by-cons, sum_by-append}
 use Rattle.std.proofs.lemmas.Grind.{flat_map-append}
 use Rattle.std.proofs.lemmas.Str.{encodes-chars, IsUtf8-between}
 use Rattle.ansi_items.specs.Plain.{plain}
@@ -27,6 +27,12 @@ pub record IsCountedTo (t : List ℕ) (n total : ℕ) : Type 0 where
 pub counted-begin : (t : List ℕ) → IsCountedTo t 0 0
 counted-begin t = record { all = zero-add _ ∙ ap columns_of (clusters_from-start t); bound = omega arith }
 
+pub counted-next : {t : List ℕ} {n m total k sum : ℕ} → IsCountedTo t n total → sum ≡ total + k → n < m → clusters_from t n ≡ cluster t n m ∷ clusters_from t m → k ≡ cluster_width (cluster t n m) → k ≤ 2 * (m - n) → IsCountedTo t m sum
+counted-next {t} {n} {m} counted sum_is less first is most = record {
+  all = omega (arith, counted.all, sum_is, is, ap columns_of first, sum_by-cons cluster_width (cluster t n m) (clusters_from t m));
+  bound = omega (arith, counted.bound, sum_is, less, most);
+}
+
 pub counted-end : {t : List ℕ} {n total : ℕ} → IsCountedTo t n total → after t n ≡ [] → total ≡ columns (plain t)
 counted-end {t} {n} counted none = omega (arith, counted.all, ap columns_of (clusters_from-end t n none))
 
@@ -44,6 +50,10 @@ pub bytes_of-push : (front : List (List ℕ)) (k : List ℕ) → bytes_of (front
 bytes_of-push front k =
     ap length (flat_map-append encode_utf8_all front (k ∷ [])) ∙ length-append (flat_map encode_utf8_all front) (flat_map encode_utf8_all (k ∷ []))
     ∙ ap (λ u. bytes_of front + length u) (append-nil (encode_utf8_all k))
+
+-- clusters have no fewer bytes than their front
+pub bytes_of-append : (front rest : List (List ℕ)) → bytes_of (front ++ rest) ≡ bytes_of front + bytes_of rest
+bytes_of-append front rest = ap length (flat_map-append encode_utf8_all front rest) ∙ length-append (flat_map encode_utf8_all front) (flat_map encode_utf8_all rest)
 
 pub columns_of-push : (front : List (List ℕ)) (k : List ℕ) → columns_of (front ++ k ∷ []) ≡ columns_of front + cluster_width k
 columns_of-push front k = sum_by-append cluster_width front (k ∷ []) ∙ ap (λ n. columns_of front + n) (zero-add (cluster_width k))

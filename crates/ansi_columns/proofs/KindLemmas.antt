@@ -14,15 +14,15 @@ use Rattle.ansi_columns.proofs.WalkLemmas.{walk_boundary, after-past, cluster-pu
 use Rattle.ansi_columns.proofs.ClusterWalkLemmas.{cluster-none}
 use Rattle.ansi_columns.proofs.ColumnLemmas.{cluster-bytes}
 
-is_blank-other : (cluster : List ℕ) → cluster ≢ 0x20 ∷ [] → is_blank cluster ≡ false
+pub is_blank-other : (cluster : List ℕ) → cluster ≢ 0x20 ∷ [] → is_blank cluster ≡ false
 unfolding is_blank
 is_blank-other cluster other = false_from_ne_true (bytes_eq cluster (0x20 ∷ [])) (λ e. other ((bytes_eq-Decides cluster (0x20 ∷ [])).0 e))
 
-is_blank-space : (cluster : List ℕ) → cluster ≡ 0x20 ∷ [] → is_blank cluster ≡ true
+pub is_blank-space : (cluster : List ℕ) → cluster ≡ 0x20 ∷ [] → is_blank cluster ≡ true
 unfolding is_blank
 is_blank-space cluster is = (bytes_eq-Decides cluster (0x20 ∷ [])).1 is
 
-not_line_end : (cluster : List ℕ) → cluster ≢ 0x0A ∷ [] → cluster ≢ 0x0D ∷ 0x0A ∷ [] → is_line_end cluster ≡ false
+pub not_line_end : (cluster : List ℕ) → cluster ≢ 0x0A ∷ [] → cluster ≢ 0x0D ∷ 0x0A ∷ [] → is_line_end cluster ≡ false
 unfolding is_line_end
 not_line_end cluster not_one not_two =
     or_from (bytes_eq cluster (0x0A ∷ [])) (bytes_eq cluster (0x0D ∷ 0x0A ∷ []))

@@ -1,40 +1,54 @@
--- The text between the lines of a text: blanks, and then at most one line end.
-use Rattle.std.proofs.Common.{◌≡◌, ℕ, ◌+◌, ◌-◌, ◌≤◌, max, ◌⊎◌, inl, inr, ⊎_elim, true, ◌||◌, ◌==◌, nat_le, List, [], ◌∷◌, ◌++◌, length, take, drop, slice_range, slice_get, Option, Some, option_map, flat_map, encode_utf8_all, refl, sym, ◌∙◌, ap, subst, arith, append_assoc, append-nil, take_at, drop_at, length-append}
+-- The text between the lines of a text: blanks, and at most one line end among them.
+use Rattle.std.proofs.Common.{◌≡◌, ℕ, ◌+◌, ◌-◌, ◌≤◌, max, inl, inr, true, ◌||◌, ◌==◌, nat_le, List, [], ◌∷◌, ◌++◌, length, take, drop, slice_range, codes, flat_map, encode_utf8_all, refl, sym, ◌∙◌, ap, ap₂, subst, arith, append_assoc, append-nil, take_at, drop_at, length-append}
 use Rattle.std.specs.Str.{byte, chars, IsUtf8}
-use Rattle.std.proofs.lemmas.Bool.{cases_Bool, or_cases}
-use Rattle.std.proofs.lemmas.List.{length-replicate, replicate_more}
+use Rattle.std.specs.List.{list_all}
+use Rattle.std.proofs.lemmas.Bool.{and_parts, cond_both}
+use Rattle.std.proofs.lemmas.List.{replicate-append-replicate}
 use Rattle.std.proofs.lemmas.List.Folds.{drop_split}
-use Rattle.std.proofs.lemmas.Slice.Eq.{bytes_eq-Decides}
+use Rattle.std.proofs.lemmas.Grind.{flat_map-append}
 use Rattle.std.proofs.lemmas.Str.{encodes-chars}
-use Rattle.ansi_columns.specs.Columns.{clusters, cluster_width}
+use Rattle.ansi_columns.specs.Columns.{clusters, columns_of, bytes_of}
 use Rattle.ansi_columns.specs.Shown.{blanks}
-use Rattle.ansi_columns.specs.Lines.{is_line_end, is_blank, lines_from, lines, IsLeftOut, AreLinesFrom, reassembled}
-use Rattle.ansi_columns.proofs.LineLemmas.{IsOfWord, more_at, line-any, line-ends, line-blank, line-stays, line-leaves, line-last}
+use Rattle.ansi_columns.specs.Lines.{is_line_end, is_blank, lines, IsLeftOut, AreLinesFrom, BeginWithBlanks, reassembled}
+use Rattle.ansi_columns.specs.FirstFit.{blanks_of, word_of, left_out, AreFirstFit}
+use Rattle.ansi_columns.proofs.FirstFitLemmas.{IsGap, after_line, blank-bytes, line_end-bytes, front-passes, lines-first_fit}
 use Rattle.ansi_columns.proofs.ClusterLawLemmas.{clusters_after-bytes}
 
--- what a blank and a line end are spelled with
+-- blanks, and blanks and a line end, may be left out, and further blanks after them
 
-blank-bytes : (c : List ℕ) → is_blank c ≡ true → encode_utf8_all c ≡ byte " " ∷ []
-unfolding is_blank lib.Utf8.encode
-blank-bytes c is = ap encode_utf8_all ((bytes_eq-Decides c (0x20 ∷ [])).0 is)
-
-line_end-bytes : (c : List ℕ) → is_line_end c ≡ true → (encode_utf8_all c ≡ 0x0A ∷ []) ⊎ (encode_utf8_all c ≡ 0x0D ∷ 0x0A ∷ [])
-unfolding is_line_end lib.Utf8.encode
-line_end-bytes c is = ⊎_elim (λ e. inl (ap encode_utf8_all ((bytes_eq-Decides c (0x0A ∷ [])).0 e))) (λ e. inr (ap encode_utf8_all ((bytes_eq-Decides c (0x0D ∷ 0x0A ∷ [])).0 e))) (or_cases _ _ is)
-
--- blanks, and blanks and a line end, may be left out
+abbrev AreBlanks : List ℕ → Type 0
+AreBlanks x = (n : ℕ) × (x ≡ blanks n)
 
 left_out-blanks : (n : ℕ) (x : List ℕ) → x ≡ blanks n → IsLeftOut x
-left_out-blanks n x is = (n, inl is)
+left_out-blanks n x is = (n, 0, inl is)
 
 left_out-end : (n : ℕ) (x c : List ℕ) → x ≡ blanks n ++ encode_utf8_all c → is_line_end c ≡ true → IsLeftOut x
 left_out-end n x c is ends = (
   n,
+  0,
   inr (elim (line_end-bytes c ends) [
-    | inl one ↦ inl (is ∙ ap (λ u. blanks n ++ u) one)
-    | inr two ↦ inr (is ∙ ap (λ u. blanks n ++ u) two)
+    | inl one ↦ inl (is ∙ ap (λ u. blanks n ++ u) one ∙ sym (append-nil _))
+    | inr two ↦ inr (is ∙ ap (λ u. blanks n ++ u) two ∙ sym (append-nil _))
   ]),
 )
+
+ends-grow : (x end : List ℕ) (n m k : ℕ) → x ≡ blanks n ++ end ++ blanks m → x ++ blanks k ≡ blanks n ++ end ++ blanks (m + k)
+ends-grow x end n m k is =
+    ap (λ u. u ++ blanks k) is ∙ append_assoc (blanks n ++ end) (blanks m) (blanks k) ∙ ap (λ u. blanks n ++ end ++ u) (replicate-append-replicate m k (byte " "))
+
+abbrev MayGrow : (List ℕ → Type 0) → Type 0
+MayGrow G = (x : List ℕ) (k : ℕ) → G x → G (x ++ blanks k)
+
+blanks_more : (x : List ℕ) (n k : ℕ) → x ≡ blanks n → x ++ blanks k ≡ blanks (n + k)
+blanks_more x n k is = ap (λ u. u ++ blanks k) is ∙ replicate-append-replicate n k (byte " ")
+
+blanks-grow : MayGrow AreBlanks
+blanks-grow x k are = (are.0 + k, blanks_more x are.0 k are.1)
+
+left_out-grow : MayGrow IsLeftOut
+left_out-grow x k (n, m, inl is) = (n + k, m, inl (blanks_more x n k is))
+left_out-grow x k (n, m, inr (inl one)) = (n, m + k, inr (inl (ends-grow x (codes "\n") n m k one)))
+left_out-grow x k (n, m, inr (inr two)) = (n, m + k, inr (inr (ends-grow x (codes "\r\n") n m k two)))
 
 -- a text between two others
 slice_between : (x front middle rest : List ℕ) (i j : ℕ) → x ≡ (front ++ middle) ++ rest → i ≡ length front → j ≡ i + length middle → slice_range x i j ≡ middle
@@ -44,92 +58,91 @@ slice_between x front middle rest i j all start end =
     ∙ ap (take (length middle)) (ap (drop i) (all ∙ append_assoc front middle rest) ∙ drop_at front (middle ++ rest) i (sym start))
     ∙ take_at middle rest (length middle) refl
 
--- The current line ends with `front`, n blanks follow it, and the clusters cs are left.
-record IsReadTo (x front : List ℕ) (n end here : ℕ) (cs : List (List ℕ)) : Type 0 where
-  all : x ≡ (front ++ blanks n) ++ flat_map encode_utf8_all cs
-  ends : end ≡ length front
-  read : here ≡ end + n
+abbrev text_of : List (List ℕ) → List ℕ
+text_of cs = flat_map encode_utf8_all cs
+
+text_of-append : (xs ys : List (List ℕ)) → text_of (xs ++ ys) ≡ text_of xs ++ text_of ys
+text_of-append xs ys = flat_map-append encode_utf8_all xs ys
+
+blanks-text : (g : List (List ℕ)) → list_all is_blank g ≡ true → AreBlanks (text_of g)
+blanks-text [] are = (0, refl)
+blanks-text (c ∷ g) are =
+    let both = and_parts _ _ are in
+    let later = blanks-text g both.1 in
+    (1 + later.0, ap₂ (λ u v. u ++ v) (blank-bytes c both.0) later.1 ∙ replicate-append-replicate 1 later.0 (byte " "))
+
+left_out-text : (width : ℕ) (cs : List (List ℕ)) → AreBlanks (text_of (left_out width cs))
+left_out-text width cs = cond_both (length (word_of cs) == 0 || nat_le (columns_of (blanks_of cs ++ word_of cs)) width) [] (blanks_of cs) (λ l. AreBlanks (text_of l)) (λ _. (0, refl)) (λ _. blanks-text (blanks_of cs) (front-passes is_blank cs))
+
+gap-text : (gap : List (List ℕ)) → IsGap gap → IsLeftOut (text_of gap)
+gap-text gap (g, are, inl all) = (let blank = blanks-text g are in left_out-blanks blank.0 _ (ap text_of all ∙ blank.1))
+gap-text gap (g, are, inr (c, all, ends)) =
+    let blank = blanks-text g are in
+    left_out-end blank.0 _ c (ap text_of all ∙ text_of-append g (c ∷ []) ∙ ap₂ (λ u v. u ++ v) blank.1 (append-nil (encode_utf8_all c))) ends
+
+split : (u : List ℕ) (g cs : List (List ℕ)) → u ++ text_of (g ++ cs) ≡ u ++ text_of g ++ text_of cs
+split u g cs = ap (λ v. u ++ v) (text_of-append g cs) ∙ sym (append_assoc u (text_of g) (text_of cs))
+
+spread : (front : List ℕ) (gap skipped shown after : List (List ℕ))
+    → front ++ text_of gap ++ text_of (skipped ++ shown ++ after) ≡ front ++ (text_of gap ++ text_of skipped) ++ text_of shown ++ text_of after
+spread front gap skipped shown after =
+    split (front ++ text_of gap) (skipped ++ shown) after ∙ ap (λ u. u ++ text_of after) (split (front ++ text_of gap) skipped shown)
+    ∙ ap (λ u. u ++ text_of shown ++ text_of after) (append_assoc front (text_of gap) (text_of skipped))
 
 module _ (x : List ℕ) where
-  within : (front : List ℕ) (n end here : ℕ) (cs : List (List ℕ)) → IsReadTo x front n end here cs → end ≤ length x
-  within front n end here cs so_far = omega (arith, so_far.ends, ap length so_far.all, length-append (front ++ blanks n) (flat_map encode_utf8_all cs), length-append front (blanks n))
+  -- they are stretches of x from e on; `G` is so of the text that is left out before the first of them
+  abbrev AreLinesAfter : (List ℕ → Type 0) → ℕ → List (ℕ × ℕ) → Type 0
+  AreLinesAfter G e [] = ⊥
+  AreLinesAfter G e (line ∷ ls) = (e ≤ line.0) × (line.0 ≤ line.1) × (line.1 ≤ length x) × G (slice_range x e line.0) × AreLinesFrom x line.1 ls
 
-  module _ (front : List ℕ) (n end here : ℕ) (c : List ℕ) (cs : List (List ℕ)) (so_far : IsReadTo x front n end here (c ∷ cs)) where
-    abbrev next : ℕ
-    next = here + length (encode_utf8_all c)
+  are_lines : (e : ℕ) (ls : List (ℕ × ℕ)) → AreLinesAfter IsLeftOut e ls → AreLinesFrom x e ls
+  are_lines e [] are = absurd are
+  are_lines e (line ∷ ls) are = are
 
-    abbrev longer : List ℕ
-    longer = front ++ (blanks n ++ encode_utf8_all c)
+  -- the lines of first fit from a place on, if `front` is the text up to e, and the clusters `gap` are left out between e and there
+  first_fit_stand : (width : ℕ) (ls : List (ℕ × ℕ)) (G : List ℕ → Type 0) → MayGrow G → (place e : ℕ) (front : List ℕ) (gap cs : List (List ℕ)) → x ≡ front ++ text_of gap ++ text_of cs → e ≡ length front → place ≡ e + bytes_of gap → G (text_of gap)
+      → AreFirstFit width place cs ls → AreLinesAfter G e ls
+  first_fit_stand width [] G grow place e front gap cs all at here left are = absurd are
+  first_fit_stand width (line ∷ ls) G grow place e front gap cs all at here left are =
+      let shown = are.0 in
+      let after = are.1 in
+      let first = are.2 in
+      let skipped = left_out width cs in
+      let more = left_out-text width cs in
+      let up_to = front ++ (text_of gap ++ text_of skipped) ++ text_of shown in
+      let whole : x ≡ up_to ++ text_of after = all ∙ ap (λ u. front ++ text_of gap ++ text_of u) first.all ∙ spread front gap skipped shown after in
+      let middle = length-append (text_of gap) (text_of skipped) in
+      let size : length up_to ≡ line.1 = omega (arith, length-append (front ++ (text_of gap ++ text_of skipped)) (text_of shown), length-append front (text_of gap ++ text_of skipped), middle, at, here, first.start, first.end) in
+      let before : slice_range x e line.0 ≡ text_of gap ++ text_of skipped
+      = slice_between x front (text_of gap ++ text_of skipped) (text_of shown ++ text_of after) e line.0 (whole ∙ append_assoc (front ++ (text_of gap ++ text_of skipped)) (text_of shown) (text_of after)) at (omega (arith, first.start, here, middle)) in (
+        omega (arith, here, first.start),
+        omega (arith, first.end),
+        omega (arith, size, ap length whole, length-append up_to (text_of after)),
+        subst G (sym (before ∙ ap (λ u. text_of gap ++ u) more.1)) (grow (text_of gap) more.0 left),
+        elim (after_line width line.1 after ls are.3) [
+          | inl none ↦ (
+              let blank = blanks-text after none.1 in
+              subst (AreLinesFrom x line.1) (sym none.0) (blank.0, ap (drop line.1) whole ∙ drop_at up_to (text_of after) line.1 size ∙ blank.1))
+          | inr next ↦ are_lines line.1 ls (
+              first_fit_stand width ls IsLeftOut left_out-grow (line.1 + bytes_of next.0) line.1 up_to next.0 next.1
+              (whole ∙ ap (λ u. up_to ++ text_of u) next.2 ∙ split up_to next.0 next.1) (sym size) refl (gap-text next.0 next.4) next.3)
+        ],
+      )
 
-    all_longer : x ≡ longer ++ flat_map encode_utf8_all cs
-    all_longer = so_far.all ∙ sym (append_assoc (front ++ blanks n) (encode_utf8_all c) (flat_map encode_utf8_all cs)) ∙ ap (λ u. u ++ flat_map encode_utf8_all cs) (append_assoc front (blanks n) (encode_utf8_all c))
-
-    next_is : next ≡ end + length (blanks n ++ encode_utf8_all c)
-    next_is = omega (arith, so_far.read, length-append (blanks n) (encode_utf8_all c), length-replicate n (byte " "))
-
-    -- the cluster is taken
-    taken : IsReadTo x longer 0 next next cs
-    taken = record {
-      all = all_longer ∙ ap (λ u. u ++ flat_map encode_utf8_all cs) (sym (append-nil longer));
-      ends = omega (arith, next_is, so_far.ends, length-append front (blanks n ++ encode_utf8_all c));
-      read = omega arith;
-    }
-
-    -- the blanks are left out, and the cluster begins a line
-    left : IsReadTo x (front ++ blanks n) 0 here here (c ∷ cs)
-    left = record {
-      all = so_far.all ∙ ap (λ u. u ++ flat_map encode_utf8_all (c ∷ cs)) (sym (append-nil (front ++ blanks n)));
-      ends = omega (arith, so_far.read, so_far.ends, length-append front (blanks n), length-replicate n (byte " "));
-      read = omega arith;
-    }
-
-    -- it is a blank more
-    more_blank : is_blank c ≡ true → IsReadTo x front (n + 1) end next cs
-    more_blank blank = record {
-      all = all_longer ∙ ap (λ u. (front ++ u) ++ flat_map encode_utf8_all cs) (ap (λ u. blanks n ++ u) (blank-bytes c blank) ∙ replicate_more n (byte " "));
-      ends = so_far.ends;
-      read = omega (arith, so_far.read, ap length (blank-bytes c blank));
-    }
-
-    gap-blanks : IsLeftOut (slice_range x end here)
-    gap-blanks = left_out-blanks n _ (slice_between x front (blanks n) (flat_map encode_utf8_all (c ∷ cs)) end here so_far.all so_far.ends (omega (arith, so_far.read, length-replicate n (byte " "))))
-
-    gap-end : is_line_end c ≡ true → IsLeftOut (slice_range x end next)
-    gap-end ends = left_out-end n _ c (slice_between x front (blanks n ++ encode_utf8_all c) (flat_map encode_utf8_all cs) end next all_longer so_far.ends next_is) ends
-
-  -- the lines from the current one on, if the text left out before it is between e and its start
-  lines_stand : (cs : List (List ℕ)) (width e start end here columns n : ℕ) (front : List ℕ) → IsReadTo x front n end here cs → e ≤ start → start ≤ end → IsLeftOut (slice_range x e start)
-      → AreLinesFrom x e (lines_from width start end here columns cs)
-  lines_stand [] width e start end here columns n front so_far after ordered gap =
-      let rest : drop end x ≡ blanks n = ap (drop end) (so_far.all ∙ append-nil (front ++ blanks n)) ∙ drop_at front (blanks n) end (sym so_far.ends) in
-      subst (AreLinesFrom x e) (sym (line-last width start end here columns)) (after, ordered, within front n end here [] so_far, gap, (n, rest))
-  lines_stand (c ∷ cs) width e start end here columns n front so_far after ordered gap =
-      let step = taken front n end here c cs so_far in
-      let past = next front n end here c cs so_far in
-      let bound = within front n end here (c ∷ cs) so_far in
-      let grown : start ≤ past = omega (arith, ordered, so_far.read) in
-      let L = AreLinesFrom x e in
-      elim (cases_Bool (is_line_end c)) [
-        | inl ends ↦ subst L (sym (line-ends width start end here columns c cs ends))
-            (after, ordered, bound, gap, lines_stand cs width end past past past 0 0 _ step (omega (arith, so_far.read)) (omega arith) (gap-end front n end here c cs so_far ends))
-        | inr inside ↦ elim (cases_Bool (is_blank c)) [
-          | inl blank ↦ subst L (sym (line-blank width start end here columns c cs inside blank))
-              (lines_stand cs width e start end past (columns + cluster_width c) (n + 1) front (more_blank front n end here c cs so_far blank) after ordered gap)
-          | inr solid ↦ (
-              let word : IsOfWord c = record { inside = inside; solid = solid } in
-              elim (cases_Bool ((here == start) || nat_le (columns + more_at end here c cs) width)) [
-                | inl stays ↦ subst L (sym (line-stays width start end here columns c cs word stays))
-                    (lines_stand cs width e start past past (columns + cluster_width c) 0 _ step after grown gap)
-                | inr leaves ↦ subst L (sym (line-leaves width start end here columns c cs word leaves))
-                    (after, ordered, bound, gap, lines_stand cs width end here past past (cluster_width c) 0 _ step (omega (arith, so_far.read)) (omega arith) (gap-blanks front n end here c cs so_far))
-              ])
-        ]
-      ]
+  -- all of them, if `G` is so of no text
+  all_stand : (G : List ℕ → Type 0) (width : ℕ) → MayGrow G → G [] → IsUtf8 x → AreLinesAfter G 0 (lines width x)
+  all_stand G width grow none utf8 =
+      first_fit_stand (max width 1) (lines width x) G grow 0 0 [] [] (clusters x) (sym (clusters_after-bytes [] (chars x) ∙ encodes-chars x utf8)) refl refl none (lines-first_fit width x)
 
   pub lines-left_out : (width : ℕ) → IsUtf8 x → AreLinesFrom x 0 (lines width x)
-  lines-left_out width utf8 =
-      lines_stand (clusters x) (max width 1) 0 0 0 0 0 0 []
-      (record { all = sym (clusters_after-bytes [] (chars x) ∙ encodes-chars x utf8); ends = refl; read = refl }) (omega arith) (omega arith) (0, inl refl)
+  lines-left_out width utf8 = are_lines 0 (lines width x) (all_stand IsLeftOut width left_out-grow (0, 0, inl refl) utf8)
+
+  blanks_before : (ls : List (ℕ × ℕ)) → AreLinesAfter AreBlanks 0 ls → BeginWithBlanks x ls
+  blanks_before [] are = absurd are
+  blanks_before (line ∷ ls) are = (are.3.0, ap (λ n. take n x) (omega arith) ∙ are.3.1)
+
+  pub lines-begin : (width : ℕ) → IsUtf8 x → BeginWithBlanks x (lines width x)
+  lines-begin width utf8 = blanks_before (lines width x) (all_stand AreBlanks width blanks-grow (0, refl) utf8)
 
   reassembled-from : (e : ℕ) (ls : List (ℕ × ℕ)) → AreLinesFrom x e ls → reassembled x e ls ≡ drop e x
   reassembled-from e [] are = refl
@@ -140,18 +153,3 @@ module _ (x : List ℕ) where
 
   pub lines-reassembled : (width : ℕ) → IsUtf8 x → reassembled x 0 (lines width x) ≡ x
   lines-reassembled width utf8 = reassembled-from 0 (lines width x) (lines-left_out width utf8)
-
--- the first line begins where the current one begins
-
-abbrev begin_of_lines : List (ℕ × ℕ) → Option ℕ
-begin_of_lines ls = option_map (λ (line : ℕ × ℕ). line.0) (slice_get ls 0)
-
-begin_of_lines-lines_from : (width start end here columns : ℕ) (cs : List (List ℕ)) → begin_of_lines (lines_from width start end here columns cs) ≡ Some start
-begin_of_lines-lines_from width start end here columns [] = ap begin_of_lines (line-last width start end here columns)
-begin_of_lines-lines_from width start end here columns (c ∷ cs) =
-    let next = here + length (encode_utf8_all c) in
-    let wider = columns + cluster_width c in
-    line-any width start end here columns c cs (λ ls. begin_of_lines ls ≡ Some start) refl (begin_of_lines-lines_from width start end next wider cs) (begin_of_lines-lines_from width start next next wider cs) refl
-
-pub lines-begin : (x : List ℕ) (width : ℕ) → option_map (λ (line : ℕ × ℕ). line.0) (slice_get (lines width x) 0) ≡ Some 0
-lines-begin x width = begin_of_lines-lines_from (max width 1) 0 0 0 0 (clusters x)

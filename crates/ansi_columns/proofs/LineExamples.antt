@@ -19,9 +19,13 @@ blanks_before_a_word : lines_of_clusters 4 (ascii_clusters (codes "  ab")) ≡ (
 unfolding lines_from is_line_end is_blank word_columns str_width step past_emoji lib.Utf8.encode
 blanks_before_a_word = refl
 
-indent_alone : lines_of_clusters 3 (ascii_clusters (codes "  ab")) ≡ (0, 0) ∷ (2, 4) ∷ []
+indent_without_room : lines_of_clusters 3 (ascii_clusters (codes "  ab")) ≡ (2, 4) ∷ []
 unfolding lines_from is_line_end is_blank word_columns str_width step past_emoji lib.Utf8.encode
-indent_alone = refl
+indent_without_room = refl
+
+indent_after_a_line_end : lines_of_clusters 3 (ascii_clusters (codes "foo bar\n  baz")) ≡ (0, 3) ∷ (4, 7) ∷ (10, 13) ∷ []
+unfolding lines_from is_line_end is_blank word_columns str_width step past_emoji lib.Utf8.encode
+indent_after_a_line_end = refl
 
 no_clusters : lines_of_clusters 4 (ascii_clusters (codes "")) ≡ (0, 0) ∷ []
 unfolding lines_from is_line_end is_blank word_columns str_width step past_emoji lib.Utf8.encode

@@ -49,10 +49,19 @@ module _ (width start end here columns : ℕ) (c : List ℕ) (cs : List (List �
   abbrev leaves : List (ℕ × ℕ)
   leaves = (start, end) ∷ lines_from width here next next (cluster_width c) cs
 
+  abbrev begins : List (ℕ × ℕ)
+  begins = lines_from width here next next (cluster_width c) cs
+
+  abbrev without_room : Bool → List (ℕ × ℕ)
+  without_room is_first = elim is_first [
+    | true ↦ begins
+    | false ↦ leaves
+  ]
+
   abbrev in_word : Bool → List (ℕ × ℕ)
   in_word fits = elim fits [
     | true ↦ stays
-    | false ↦ leaves
+    | false ↦ without_room (end == start)
   ]
 
   abbrev in_line : Bool → Bool → List (ℕ × ℕ)
@@ -71,15 +80,19 @@ module _ (width start end here columns : ℕ) (c : List ℕ) (cs : List (List �
   unfolding lines_from
   opened = refl
 
-  -- what is so of the lines of each of the four ways to go on is so of the lines
-  pub line-any : (P : List (ℕ × ℕ) → Type 0) → P ended → P blank → P stays → P leaves → P (lines_from width start end here columns (c ∷ cs))
-  line-any P if_ended if_blank if_stays if_leaves = subst P (sym opened) (either (is_line_end c) (is_blank c) fits_here)
+  -- what is so of the lines of each of the five ways to go on is so of the lines
+  pub line-any : (P : List (ℕ × ℕ) → Type 0) → P ended → P blank → P stays → P begins → P leaves → P (lines_from width start end here columns (c ∷ cs))
+  line-any P if_ended if_blank if_stays if_begins if_leaves = subst P (sym opened) (either (is_line_end c) (is_blank c) fits_here)
     where
+      room : (a : Bool) → P (without_room a)
+      room true = if_begins
+      room false = if_leaves
+
       either : (a b d : Bool) → P (by_kind a b d)
       either true b d = if_ended
       either false true d = if_blank
       either false false true = if_stays
-      either false false false = if_leaves
+      either false false false = room (end == start)
 
   pub line-ends : is_line_end c ≡ true → lines_from width start end here columns (c ∷ cs) ≡ (start, end) ∷ lines_from width next next next 0 cs
   line-ends ends = opened ∙ ap (λ b. by_kind b (is_blank c) fits_here) ends
@@ -90,13 +103,19 @@ module _ (width start end here columns : ℕ) (c : List ℕ) (cs : List (List �
   pub line-stays : IsOfWord c → ((here == start) || nat_le (columns + more) width) ≡ true → lines_from width start end here columns (c ∷ cs) ≡ lines_from width start next next (columns + cluster_width c) cs
   line-stays word fits = opened ∙ ap (λ b. by_kind b (is_blank c) fits_here) word.inside ∙ ap (λ b. in_line b fits_here) word.solid ∙ ap in_word fits
 
-  pub line-leaves : IsOfWord c → ((here == start) || nat_le (columns + more) width) ≡ false → lines_from width start end here columns (c ∷ cs) ≡ (start, end) ∷ lines_from width here next next (cluster_width c) cs
-  line-leaves word fits = opened ∙ ap (λ b. by_kind b (is_blank c) fits_here) word.inside ∙ ap (λ b. in_line b fits_here) word.solid ∙ ap in_word fits
+  no_room : IsOfWord c → ((here == start) || nat_le (columns + more) width) ≡ false → lines_from width start end here columns (c ∷ cs) ≡ without_room (end == start)
+  no_room word fits = opened ∙ ap (λ b. by_kind b (is_blank c) fits_here) word.inside ∙ ap (λ b. in_line b fits_here) word.solid ∙ ap in_word fits
 
-  more-inside : here ≡ end → more ≡ cluster_width c
+  pub line-leaves : IsOfWord c → ((here == start) || nat_le (columns + more) width) ≡ false → start < end → lines_from width start end here columns (c ∷ cs) ≡ (start, end) ∷ lines_from width here next next (cluster_width c) cs
+  line-leaves word fits some = no_room word fits ∙ ap without_room (ne_eqb end start (λ e. omega (arith, some, e)))
+
+  pub line-indents : IsOfWord c → ((here == start) || nat_le (columns + more) width) ≡ false → end ≡ start → lines_from width start end here columns (c ∷ cs) ≡ lines_from width here next next (cluster_width c) cs
+  line-indents word fits none = no_room word fits ∙ ap without_room (eq-eqb end start none)
+
+  pub more-inside : here ≡ end → more ≡ cluster_width c
   more-inside inside = rw (eq-eqb here end inside) refl
 
-  more-word : end < here → more ≡ word_columns (c ∷ cs)
+  pub more-word : end < here → more ≡ word_columns (c ∷ cs)
   more-word after = rw (ne_eqb here end (λ e. omega (arith, after, e))) refl
 
   pub line-begins : IsOfWord c → here ≡ start → lines_from width start end here columns (c ∷ cs) ≡ lines_from width start next next (columns + cluster_width c) cs
@@ -108,15 +127,21 @@ module _ (width start end here columns : ℕ) (c : List ℕ) (cs : List (List �
   pub line-breaks : IsOfWord c → here ≡ end → start < here → width < columns + cluster_width c
       → lines_from width start end here columns (c ∷ cs) ≡ (start, end) ∷ lines_from width here next next (cluster_width c) cs
   line-breaks word inside begun wide = line-leaves word
-      (or_from (here == start) _ (ne_eqb here start (λ e. omega (arith, begun, e))) (lt-leb (columns + more) width (omega (arith, wide, more-inside inside))))
+      (or_from (here == start) _ (ne_eqb here start (λ e. omega (arith, begun, e))) (lt-leb (columns + more) width (omega (arith, wide, more-inside inside)))) (omega (arith, begun, inside))
 
   pub line-word : IsOfWord c → end < here → columns + word_columns (c ∷ cs) ≤ width → lines_from width start end here columns (c ∷ cs) ≡ lines_from width start next next (columns + cluster_width c) cs
   line-word word after fits = line-stays word (or_right (here == start) _ (le-leb (columns + more) width (omega (arith, fits, more-word after))))
 
-  pub line-moves : IsOfWord c → end < here → start < here → width < columns + word_columns (c ∷ cs)
+  no_word_fits : end < here → start < here → width < columns + word_columns (c ∷ cs) → ((here == start) || nat_le (columns + more) width) ≡ false
+  no_word_fits after begun wide = or_from (here == start) _ (ne_eqb here start (λ e. omega (arith, begun, e))) (lt-leb (columns + more) width (omega (arith, wide, more-word after)))
+
+  pub line-moves : IsOfWord c → end < here → start < end → width < columns + word_columns (c ∷ cs)
       → lines_from width start end here columns (c ∷ cs) ≡ (start, end) ∷ lines_from width here next next (cluster_width c) cs
-  line-moves word after begun wide = line-leaves word
-      (or_from (here == start) _ (ne_eqb here start (λ e. omega (arith, begun, e))) (lt-leb (columns + more) width (omega (arith, wide, more-word after))))
+  line-moves word after some wide = line-leaves word (no_word_fits after (omega (arith, after, some)) wide) some
+
+  pub line-skips : IsOfWord c → end < here → end ≡ start → width < columns + word_columns (c ∷ cs)
+      → lines_from width start end here columns (c ∷ cs) ≡ lines_from width here next next (cluster_width c) cs
+  line-skips word after none wide = line-indents word (no_word_fits after (omega (arith, after, none)) wide) none
 
 -- a line that begins with a word, whatever was before it
 pub line-opens : (width here : ℕ) (c : List ℕ) (cs : List (List ℕ)) → IsOfWord c
@@ -195,8 +220,13 @@ word-stays width start end here columns c seen rest are after fits none =
     line-word width start end here columns c (seen ++ rest) are.0 after (omega (arith, fits, word-whole columns (c ∷ seen) rest are none))
     ∙ word-goes_on width start (here + length (encode_utf8_all c)) (columns + cluster_width c) seen rest are.1 fits
 
--- .. and otherwise begins another line.
-pub word-moves : (width start end here columns : ℕ) (c : List ℕ) (cs : List (List ℕ)) → IsOfWord c → end < here → start < here → width < columns + word_columns (c ∷ cs)
+-- .. and otherwise begins another line, or this one, if only blanks stand before it.
+pub word-moves : (width start end here columns : ℕ) (c : List ℕ) (cs : List (List ℕ)) → IsOfWord c → end < here → start < end → width < columns + word_columns (c ∷ cs)
     → lines_from width start end here columns (c ∷ cs) ≡ (start, end) ∷ lines_from width here here here 0 (c ∷ cs)
-word-moves width start end here columns c cs word after begun wide =
-    line-moves width start end here columns c cs word after begun wide ∙ ap (λ ls. (start, end) ∷ ls) (sym (line-opens width here c cs word))
+word-moves width start end here columns c cs word after some wide =
+    line-moves width start end here columns c cs word after some wide ∙ ap (λ ls. (start, end) ∷ ls) (sym (line-opens width here c cs word))
+
+pub word-skips : (width start end here columns : ℕ) (c : List ℕ) (cs : List (List ℕ)) → IsOfWord c → end < here → end ≡ start → width < columns + word_columns (c ∷ cs)
+    → lines_from width start end here columns (c ∷ cs) ≡ lines_from width here here here 0 (c ∷ cs)
+word-skips width start end here columns c cs word after none wide =
+    line-skips width start end here columns c cs word after none wide ∙ sym (line-opens width here c cs word)

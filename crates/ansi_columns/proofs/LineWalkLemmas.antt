@@ -3,7 +3,7 @@ use Rattle.std.proofs.Common.{◌≡◌, ◌≢◌, ℕ, ◌+◌, ◌-◌, ◌<�
 use Rattle.ansi_columns.specs.Columns.{cluster_width}
 use Rattle.ansi_columns.specs.Walks.{clusters_from}
 use Rattle.ansi_columns.specs.Lines.{is_line_end, is_blank, word_columns, lines_from}
-use Rattle.ansi_columns.proofs.LineLemmas.{IsOfWord, AreOfWord, place_after, columns_after, line-ends, line-blank, line-begins, line-inside, line-breaks, line-opens, line-last, no_word-none, no_word-blank, no_word-end, place_after-ge, place_after-push, columns_after-push, of_word-push, word-least, word-stays, word-moves}
+use Rattle.ansi_columns.proofs.LineLemmas.{IsOfWord, AreOfWord, place_after, columns_after, line-ends, line-blank, line-begins, line-inside, line-breaks, line-opens, line-last, no_word-none, no_word-blank, no_word-end, place_after-ge, place_after-push, columns_after-push, of_word-push, word-least, word-stays, word-moves, word-skips}
 
 -- the lines of t from the position n on
 abbrev pub lines_at : List ℕ → ℕ → ℕ → List (ℕ × ℕ)
@@ -153,20 +153,40 @@ module _ (t : List ℕ) (width start before word end here columns : ℕ) where
         | inr later ↦ absurd (omega (arith, begins, later.begun))
       ]
 
-      later-moves : (earlier : ℕ) (seen : List (List ℕ)) → before < word → start < word → AreOfWord seen → columns ≡ columns_after earlier seen → width < columns + more
+      later-moves : (earlier : ℕ) (seen : List (List ℕ)) → before < word → start < before → AreOfWord seen → columns ≡ columns_after earlier seen → width < columns + more
           → lines_from width start before word earlier (seen ++ c ∷ others) ≡ (start, before) ∷ lines_from width word word word 0 (seen ++ c ∷ others)
       later-moves earlier [] after further are columns_is wide =
           word-moves width start before word earlier c others word_is after further (omega (arith, wide, columns_is, more_is, word-least earlier [] c others tt word_is))
       later-moves earlier (d ∷ seen) after further are columns_is wide =
           word-moves width start before word earlier d (seen ++ c ∷ others) are.0 after further (omega (arith, wide, columns_is, more_is, word-least earlier (d ∷ seen) c others are word_is))
 
-      -- it is one of another word, and has no room: that word begins the next line
-      pub line-is_left : word ≢ start → width < columns + more → lines_at t width start ≡ (start, before) ∷ lines_at t width word
-      line-is_left later_word wide = elim line [
+      later-skips : (earlier : ℕ) (seen : List (List ℕ)) → before < word → before ≡ start → AreOfWord seen → columns ≡ columns_after earlier seen → width < columns + more
+          → lines_from width start before word earlier (seen ++ c ∷ others) ≡ lines_from width word word word 0 (seen ++ c ∷ others)
+      later-skips earlier [] after none are columns_is wide =
+          word-skips width start before word earlier c others word_is after none (omega (arith, wide, columns_is, more_is, word-least earlier [] c others tt word_is))
+      later-skips earlier (d ∷ seen) after none are columns_is wide =
+          word-skips width start before word earlier d (seen ++ c ∷ others) are.0 after none (omega (arith, wide, columns_is, more_is, word-least earlier (d ∷ seen) c others are word_is))
+
+      -- it is one of another word, and has no room: that word begins the next line ..
+      pub line-is_left : word ≢ start → start < before → width < columns + more → lines_at t width start ≡ (start, before) ∷ lines_at t width word
+      line-is_left later_word some wide = elim line [
         | inl is ↦ absurd (later_word is.begins)
         | inr later ↦ (
             let ahead : clusters_from t word ≡ later.seen ++ c ∷ others = later.ahead ∙ ap (λ cs. later.seen ++ cs) first in
             later.lines ∙ ap (lines_from width start before word later.earlier) ahead
-            ∙ later-moves later.earlier later.seen later.after later.begun later.of_word later.counted wide
+            ∙ later-moves later.earlier later.seen later.after some later.of_word later.counted wide
             ∙ ap (λ cs. (start, before) ∷ lines_from width word word word 0 cs) (sym ahead))
+      ]
+
+      -- .. or this one, if only blanks are before it
+      pub line-is_begun : word ≢ start → before ≡ start → width < columns + more → (start < word) × (lines_at t width start ≡ lines_at t width word)
+      line-is_begun later_word none wide = elim line [
+        | inl is ↦ absurd (later_word is.begins)
+        | inr later ↦ (
+            let ahead : clusters_from t word ≡ later.seen ++ c ∷ others = later.ahead ∙ ap (λ cs. later.seen ++ cs) first in (
+              later.begun,
+              later.lines ∙ ap (lines_from width start before word later.earlier) ahead
+                  ∙ later-skips later.earlier later.seen later.after none later.of_word later.counted wide
+                  ∙ ap (λ cs. lines_from width word word word 0 cs) (sym ahead),
+            ))
       ]

@@ -152,7 +152,7 @@ truncated-plain t width tail whole tail_whole =
     either true = bytes_of-linked tail
     either false = refl
 
-blanks_are_plain : (n : ℕ) → list_all is_plain_byte (blanks n) ≡ true
+pub blanks_are_plain : (n : ℕ) → list_all is_plain_byte (blanks n) ≡ true
 blanks_are_plain zero = refl
 blanks_are_plain (suc n) = blanks_are_plain n
 

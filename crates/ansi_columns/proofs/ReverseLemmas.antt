@@ -138,7 +138,7 @@ take-past_escape s v n past =
     let all : n ≡ length (escape ∷ s) + suc (n - suc (suc (length s))) = omega arith in
     ap (λ i. take i ((escape ∷ s) ++ escape ∷ v)) all ∙ take-after (escape ∷ s) (escape ∷ v) (suc (n - suc (suc (length s))))
 
-first_sequence : (w rest : List ℕ) → IsSequence w → pieces_of (w ++ rest) ≡ Sequence w ∷ pieces_of rest
+pub first_sequence : (w rest : List ℕ) → IsSequence w → pieces_of (w ++ rest) ≡ Sequence w ∷ pieces_of rest
 first_sequence w rest whole = sym (pieces_of-unique (w ++ rest) (Sequence w ∷ pieces_of rest) (rest, refl, whole, pieces_are rest))
 
 abbrev pub first_of : List Piece → List ℕ

@@ -21,7 +21,8 @@ use Rattle.ansi_columns.specs.Walks.{clusters_after}
 use Rattle.ansi_columns.proofs.AsciiLemmas.{columns-printable, is_printable, breaks-between, All-printable_is_ascii}
 use Rattle.ansi_columns.proofs.ClusterLemmas.{cluster-begins, cluster-ends, cluster-last, clusters-none}
 use Rattle.ansi_columns.proofs.ClusterLawLemmas.{fits-within, clusters_after-bytes}
-use Rattle.ansi_columns.proofs.LineLawLemmas.{boundary_between, bytes_of-append}
+use Rattle.ansi_columns.proofs.ColumnLemmas.{bytes_of-append}
+use Rattle.ansi_columns.proofs.LineLawLemmas.{boundary_between}
 use Rattle.ansi_columns.proofs.LinkedLawLemmas.{truncated-plain, padded-plain}
 use Rattle.ansi_columns.proofs.BreakLawLemmas.{clusters-add_up, columns-add_up}
 
@@ -171,7 +172,7 @@ module _ (t : List ℕ) (width : ℕ) (tail : List ℕ) (printable : list_all is
   pub truncated-columns : IsTrue (is_whole t) → IsTrue (is_whole tail) → columns (plain (truncated t width tail)) ≡ min (columns (plain t)) width
   truncated-columns whole tail_whole = ap columns (truncated-plain t width tail whole tail_whole) ∙ cut-columns (has_tail t width tail) refl
 
-blanks_are_printable : (n : ℕ) → list_all is_printable (blanks n) ≡ true
+pub blanks_are_printable : (n : ℕ) → list_all is_printable (blanks n) ≡ true
 blanks_are_printable zero = refl
 blanks_are_printable (suc n) = blanks_are_printable n
 
@@ -217,7 +218,7 @@ boundary-front x y i utf8 sum within at =
       | inr all ↦ (n, omega (arith, at.1, split, within, ap bytes_of (take_all n ks all), bytes_of-clusters x utf8))
     ]
 
-IsUtf8-blanks : (n : ℕ) → IsUtf8 (blanks n)
+pub IsUtf8-blanks : (n : ℕ) → IsUtf8 (blanks n)
 IsUtf8-blanks n = IsUtf8-from_ascii (blanks n) (IsAscii-from_all (blanks n) (All-printable_is_ascii (blanks n) (blanks_are_printable n)))
 
 columns-blanks : (n : ℕ) → columns (blanks n) ≡ n

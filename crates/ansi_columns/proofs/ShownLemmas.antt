@@ -1,45 +1,41 @@
 -- What follows a text that is displayed: what closes its link and its style, a tail, and blanks.
-use Rattle.std.proofs.Common.{◌≡◌, ℕ, zero, suc, ◌+◌, ◌-◌, ◌<◌, ◌≤◌, Bool, true, false, not, ◌&&◌, ◌||◌, ◌↔◌, List, [], ◌∷◌, ◌++◌, length, take, is_some, nat_le, codes, if◌then◌else◌, nat_eq, refl, sym, ◌∙◌, ap, ap₂, subst, arith, append_assoc, append-nil, length-append}
+use Rattle.std.proofs.Common.{◌≡◌, ℕ, zero, suc, ◌+◌, ◌-◌, ◌<◌, ◌≤◌, Bool, true, false, not, ◌&&◌, ◌==◌, List, [], ◌∷◌, ◌++◌, length, take, nat_le, if◌then◌else◌, refl, sym, ◌∙◌, ap, ap₂, subst, arith, append_assoc, append-nil, length-append}
 use Rattle.std.specs.Str.{IsUtf8, byte}
-use Rattle.std.proofs.lemmas.Bool.{eq-eqb, or_parts, le-leb, lt-leb, and_right}
-use Rattle.std.proofs.lemmas.Bool.Decides.{nat_tests}
+use Rattle.std.proofs.lemmas.Bool.{eqb-true, le-leb, lt-leb, and_right}
 use Rattle.std.proofs.lemmas.List.{append_cancel_right, length-replicate, nil_from_length}
 use Rattle.ansi_items.specs.Pieces.{pieces_of}
 use Rattle.ansi_items.specs.Plain.{plain, marks, marks_up_to}
 use Rattle.ansi_style.specs.declared.state.rendition.Rendition.{Rendition}
-use Rattle.ansi_style.specs.Rendition.{has_known, has_ideogram_attribute}
 use Rattle.ansi_style.specs.Styled.{style_at, style_of, style_after}
-use Rattle.ansi_style.specs.Written.{close, close_codes, written_all, code_if, longest_close}
-use Rattle.ansi_style.proofs.UnsetLemmas.{close-unknown}
+use Rattle.ansi_style.specs.Written.{close, longest_close}
 use Rattle.ansi_slice.specs.Cut.{interleaved}
 use Rattle.ansi_search.specs.Offsets.{StandsIn}
 use Rattle.ansi_slice.proofs.CutLemmas.{marks_up_to-marks_past}
-use Rattle.ansi_slice.proofs.LengthLemmas.{length-close}
 use Rattle.ansi_slice.proofs.StretchLemmas.{cut-front}
 use Rattle.ansi_search.proofs.PositionLemmas.{no_character_goes_on-boundary}
 use Rattle.ansi_columns.specs.declared.walks.Walk.{Walk}
 use Rattle.ansi_columns.specs.Columns.{columns, clusters, FitsUpTo}
 use Rattle.ansi_columns.specs.Walks.{IsWalk}
-use Rattle.ansi_safe.specs.Links.{link_of, link_end, longest_link_end, pen_close}
+use Rattle.ansi_safe.specs.Links.{link_of, link_at, link_end, longest_link_end, pen_close}
 use Rattle.ansi_columns.specs.declared.shown.Alignment.{Alignment}
 use Rattle.ansi_columns.specs.declared.shown.Alignment.TheVariants.{Left, Right, Center}
 use Rattle.ansi_columns.specs.Shown.{fitting_end, has_tail, truncated_end, truncated_ending, truncated, missing, before_text, blanks, closing, padded}
 use Rattle.ansi_columns.proofs.FitLemmas.{fitting_end-fits}
 use Rattle.ansi_columns.proofs.PlaceLemmas.{marks-before}
 use Rattle.ansi_columns.proofs.WalkLemmas.{walk_boundary}
-use Rattle.ansi_safe.proofs.EndingLemmas.{close-none, append-both_nil, link_end-open, link_end-shut, link_end-none, length-link_end, length-closing}
+use Rattle.ansi_safe.proofs.EndingLemmas.{append-both_nil, length-closing}
 
 -- Nothing is written.
 
-pub ends_here-yes : (link tail : List ℕ) (style : Rendition) → length tail ≡ 0 → length link ≡ 0 → (has_known style || style.unknown) ≡ false → (link_end link ++ close style) ++ tail ≡ []
-ends_here-yes link tail style no_tail no_link no_style =
-    ap₂ (λ u v. u ++ v) (ap₂ (λ u v. u ++ v) (link_end-shut link (eq-eqb (length link) 0 no_link)) (close-unknown style no_style)) (nil_from_length tail no_tail)
+pub nothing_is : (u : List ℕ) (n : ℕ) {b : Bool} → b ≡ (length u + n == 0) → b ≡ true → (u ≡ []) × (n ≡ 0)
+nothing_is u n is holds =
+    let none = eqb-true (length u + n) 0 (sym is ∙ holds) in
+    (nil_from_length u (omega (arith, none)), omega (arith, none))
 
-pub ends_here-no : (link tail : List ℕ) (style : Rendition) → (link_end link ++ close style) ++ tail ≡ [] → (length tail ≡ 0) × (length link ≡ 0) × ((has_known style || style.unknown) ≡ false)
-ends_here-no link tail style none =
-    let tailed = append-both_nil (link_end link ++ close style) tail none in
-    let closed = append-both_nil (link_end link) (close style) tailed.0 in
-    (ap length tailed.1, link_end-none link closed.0, close-none style closed.1)
+pub nothing_not : (u : List ℕ) (n : ℕ) {b : Bool} → b ≡ (length u + n == 0) → b ≡ false → u ≡ [] → n ≡ 0 → ⊥
+nothing_not u n is fails none zero_is =
+    let all : (length u + n == 0) ≡ true = ap₂ (λ v k. length v + k == 0) none zero_is in
+    absurd (cc (is, fails, all))
 
 -- The front of a text, and what ends its pen.
 
@@ -112,15 +108,24 @@ length-front zero x = omega arith
 length-front (suc n) [] = omega arith
 length-front (suc n) (b ∷ x) = omega (arith, length-front n x)
 
-pub IsCutTo-front : {t front link after : List ℕ} {to : ℕ} {style : Rendition} (width : ℕ) (tail : List ℕ) → StandsIn t (truncated_end t width tail) to → front ≡ take to t → style ≡ style_after front → link ≡ link_of (marks front)
-    → after ≡ (if has_tail t width tail then tail else []) → IsCutTo t width tail front (link_end link ++ close style) after
-IsCutTo-front {t} {front} {link} {after} {to} {style} width tail stands is style_is link_is tail_is = record {
-  front_is = is ∙ take-interleaved stands;
-  within = omega (arith, ap length is, length-front to t);
-  close_is = pen_close-front stands is style_is link_is;
-  short = length-closing link style;
-  after_is = tail_is;
-}
+pub IsCutTo-front : {t a front link ending after : List ℕ} {to : ℕ} {style last : Rendition} (width : ℕ) (tail : List ℕ) → StandsIn t (truncated_end t width tail) to → front ≡ take to t → a ≡ front → style ≡ style_after a → link ≡ link_of (marks a)
+    → ending ≡ link_end link → last ≡ style → after ≡ (if has_tail t width tail then tail else []) → IsCutTo t width tail front (ending ++ close last) after
+IsCutTo-front {t} {a} {front} {link} {ending} {after} {to} {style} {last} width tail stands is same style_is link_is ending_is last_is tail_is =
+    let written : ending ++ close last ≡ link_end link ++ close style = ap₂ (λ l s. l ++ close s) ending_is last_is in
+    record {
+      front_is = is ∙ take-interleaved stands;
+      within = omega (arith, ap length is, length-front to t);
+      close_is = written ∙ pen_close-front stands is (style_is ∙ ap style_after same) (link_is ∙ ap (λ u. link_of (marks u)) same);
+      short = omega (arith, ap length written, length-closing link style);
+      after_is = tail_is;
+    }
+
+-- the ending that the code writes is the close of the pen
+pub ending-closing : {t a link ending : List ℕ} {style last : Rendition} → a ≡ t → style ≡ style_after a → link ≡ link_of (marks a) → ending ≡ link_end link → last ≡ style → ending ++ close last ≡ closing t
+ending-closing {t} {a} is style_is link_is ending_is last_is = ap₂ (λ l s. l ++ close s) ending_is last_is ∙ pen_at_end a style_is link_is ∙ ap closing is
+
+pub length-ended : {u : List ℕ} (t : List ℕ) → u ≡ closing t → length u ≤ longest_link_end + longest_close
+length-ended t is = omega (arith, ap length is, length-closing (link_at t (length (plain t))) (style_at t (length (plain t))))
 
 pub cut-ending : {t tail front close after : List ℕ} {width : ℕ} → IsCutTo t width tail front close after → close ++ after ≡ truncated_ending t width tail
 cut-ending cut = ap₂ (λ u v. u ++ v) cut.close_is cut.after_is
@@ -136,6 +141,18 @@ cut-alone {front = front} cut none = sym (append-nil front) ∙ ap₂ (λ u v. u
 pub cut-length : {t tail front close after : List ℕ} {width : ℕ} → IsCutTo t width tail front close after → length ((front ++ close) ++ after) ≤ length t + length tail + longest_link_end + longest_close
 cut-length {t} {tail} {front} {close} {after} {width} cut =
     omega (arith, cut.within, cut.short, ap length cut.after_is, length-either (has_tail t width tail) tail, length-append (front ++ close) after, length-append front close)
+
+-- nothing is written after the front, or something is
+
+pub cut-nothing : {t tail front close after : List ℕ} {width : ℕ} {b : Bool} → IsCutTo t width tail front close after → b ≡ (length close + length after == 0) → b ≡ true → close ++ after ≡ []
+cut-nothing {close = close} {after = after} cut is holds =
+    let none = nothing_is close (length after) is holds in
+    ap₂ (λ u v. u ++ v) none.0 (nil_from_length after none.1)
+
+pub cut-something : {t tail front close after : List ℕ} {width : ℕ} {b : Bool} → IsCutTo t width tail front close after → b ≡ (length close + length after == 0) → b ≡ false → truncated_ending t width tail ≡ [] → ⊥
+cut-something {close = close} {after = after} cut is fails none =
+    let both = append-both_nil close after (cut-ending cut ∙ none) in
+    nothing_not close (length after) is fails both.0 (ap length both.1)
 
 -- A padded text.
 
@@ -174,12 +191,3 @@ padded-length t close lack before within closing =
       length-replicate before (byte " "),
       length-replicate (lack - before) (byte " "),
     )
-
--- no style and no link is open at its end exactly if the test says so
-pub closed_at_end : (t : List ℕ) {link : List ℕ} {style : Rendition} → style ≡ style_after t → link ≡ link_of (marks t) → (link_end link ++ close style) ++ [] ≡ [] → closing t ≡ []
-closed_at_end t {link} {style} style_is link_is none = sym (pen_at_end t style_is link_is) ∙ sym (append-nil (link_end link ++ close style)) ∙ none
-
-pub open_at_end : (t : List ℕ) {link : List ℕ} {style : Rendition} {test : Bool} → style ≡ style_after t → link ≡ link_of (marks t) → test ≡ true ↔ ((link_end link ++ close style) ++ [] ≡ []) → test ≡ false → closing t ≡ [] → ⊥
-open_at_end t {link} {style} style_is link_is tells is_shut closed =
-    let yes = tells.1 (append-nil (link_end link ++ close style) ∙ pen_at_end t style_is link_is ∙ closed) in
-    absurd (cc (yes, is_shut))

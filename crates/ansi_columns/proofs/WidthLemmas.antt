@@ -1,5 +1,5 @@
 -- A text has at most two columns for each of its bytes.
-use Rattle.std.proofs.Common.{◌≡◌, ℕ, ◌+◌, ◌*◌, ◌<◌, ◌≤◌, inl, inr, false, List, [], ◌∷◌, length, encode_utf8, encode_utf8_all, Option, Some, None, ap, subst, arith, length-append}
+use Rattle.std.proofs.Common.{◌≡◌, ℕ, ◌+◌, ◌*◌, ◌<◌, ◌≤◌, inl, inr, false, List, [], ◌∷◌, length, encode_utf8, encode_utf8_all, Option, Some, None, ap, subst, arith, length-append, unwrap_or, refl, sym, append-nil}
 use Rattle.std.proofs.lemmas.Bool.{cases_lt}
 use Rattle.std.proofs.lemmas.Bool.Decides.{nat_tests}
 use Rattle.std.proofs.lemmas.Str.{length-encode, len_utf8_bounds, encodes-chars}
@@ -11,7 +11,8 @@ use Rattle.unicode_width.specs.declared.state.State.{State}
 use Rattle.unicode_width.specs.declared.state.Change.{Change}
 use Rattle.unicode_width.specs.declared.state.Change.TheVariants.{Less, Same, One, Three}
 use Rattle.unicode_width.specs.Kind.{kind}
-use Rattle.unicode_width.specs.Width.{plain, single, of_kind, alone, changed, joined_or, past_selectors, in_context, past_emoji, if_kept, joins, step, read_before, str_width}
+use Rattle.unicode_width.proofs.Computing.{unicode_width}
+use Rattle.unicode_width.specs.Width.{char_width, plain, single, of_kind, alone, changed, joined_or, past_selectors, in_context, past_emoji, if_kept, joins, step, read_before, str_width}
 
 single-bound : (c : ℕ) → (single false c).0 ≤ 3
 single-bound c = grind arith
@@ -71,7 +72,7 @@ step-low c total s low = grind (arith, past_emoji-low c total s low, past_emoji-
 encode_utf8-two_bytes : (c : ℕ) → 0xA0 < c → 2 ≤ length (encode_utf8 c)
 encode_utf8-two_bytes c h = grind (arith, nat_tests, length-encode c)
 
-read-bound : (cs : List ℕ) → (read_before false cs (0, plain)).0 ≤ 2 * length (encode_utf8_all cs)
+pub read-bound : (cs : List ℕ) → (read_before false cs (0, plain)).0 ≤ 2 * length (encode_utf8_all cs)
 read-bound [] = omega arith
 read-bound (c ∷ cs) =
     let read = read_before false cs (0, plain) in
@@ -84,3 +85,31 @@ read-bound (c ∷ cs) =
 pub str_width-bound : (x : List ℕ) → IsUtf8 x → str_width false (chars x) ≤ 2 * length x
 unfolding str_width
 str_width-bound x utf8 = subst (λ n. (read_before false (chars x) (0, plain)).0 ≤ 2 * n) (ap length (encodes-chars x utf8)) (read-bound (chars x))
+
+-- ---- a cluster of one character
+
+width-below : (c : ℕ) → c < 0xA0 → unwrap_or (char_width false c) 1 ≡ (step false c (0, plain)).0
+unfolding step past_emoji char_width
+width-below c low = grind (arith, nat_tests)
+
+width-above : (c : ℕ) → 0xA0 < c → unwrap_or (char_width false c) 1 ≡ (step false c (0, plain)).0
+unfolding step past_emoji char_width
+width-above c high = grind (arith, nat_tests)
+
+width-no_break_space : unwrap_or (char_width false 0xA0) 1 ≡ (step false 0xA0 (0, plain)).0
+unfolding unicode_width
+width-no_break_space = refl
+
+pub width-alone : (c : ℕ) → unwrap_or (char_width false c) 1 ≡ str_width false (c ∷ [])
+unfolding str_width
+width-alone c = elim (cases_lt c 0xA0) [
+  | inl low ↦ width-below c low
+  | inr high ↦ elim (cases_lt 0xA0 c) [
+    | inl above ↦ width-above c above
+    | inr least ↦ (let is : c ≡ 0xA0 = omega (arith, high, least) in subst (λ d. unwrap_or (char_width false d) 1 ≡ (step false d (0, plain)).0) (sym is) width-no_break_space)
+  ]
+]
+
+pub width-alone-bound : (c : ℕ) → str_width false (c ∷ []) ≤ 2 * length (encode_utf8 c)
+unfolding str_width
+width-alone-bound c = subst (λ x. (read_before false (c ∷ []) (0, plain)).0 ≤ 2 * length x) (append-nil (encode_utf8 c)) (read-bound (c ∷ []))

@@ -16,10 +16,11 @@ use Rattle.ansi_style.specs.Rendition.{IsStyle, plain_style, known}
 use Rattle.ansi_style.specs.Sgr.{apply}
 use Rattle.ansi_style.specs.Reading.{after_marks}
 use Rattle.ansi_style.specs.Styled.{StyledByte, styled, residue}
-use Rattle.ansi_style.specs.Written.{start, start_codes, close_if_any}
+use Rattle.ansi_style.specs.Written.{start, start_codes, close, close_codes}
 use Rattle.ansi_style.proofs.DressedLemmas.{GiveAlone, IsClosed, closed-spelled, dressed_pieces, spelled-dressed_pieces, dressed_pieces_stand, dressed_pieces_give}
 use Rattle.ansi_style.proofs.MarkLemmas.{mark_further_on, marks_of-text, marks_of-mark}
-use Rattle.ansi_style.proofs.ReadBackLemmas.{start_codes_are}
+use Rattle.ansi_style.proofs.CloseLemmas.{close_codes_clear}
+use Rattle.ansi_style.proofs.ReadBackLemmas.{start_codes_are, close_codes_are}
 use Rattle.ansi_style.proofs.SgrLemmas.{apply-no_sgr}
 use Rattle.ansi_style.proofs.StyleLemmas.{IsStyle-apply_all, IsStyle-plain_style}
 use Rattle.ansi_style.proofs.StyledLemmas.{styled_byte, style_through, style_through-append, styled_through, styled_through-append, styled-pieces}
@@ -27,12 +28,12 @@ use Rattle.ansi_search.proofs.SliceLemmas.{slice_range-none}
 use Rattle.ansi_slice.specs.Cut.{interleaved}
 use Rattle.ansi_split.specs.Parts.{marks_past}
 use Rattle.ansi_slice.proofs.ShownLemmas.{at_places, interleaved_pieces, spelled-interleaved_pieces, interleaved_pieces_stand, style_through-interleaved_pieces, state_through-interleaved_pieces}
-use Rattle.ansi_split.proofs.PartSliceLemmas.{Divides, state-divided, seen-divided, at_places-never, at_places-at_places, closing_codes, closing_codes_are, closing_codes_clear, written-closing_codes}
+use Rattle.ansi_split.proofs.PartSliceLemmas.{Divides, state-divided, seen-divided, at_places-never, at_places-at_places}
 use Rattle.ansi_columns.specs.Addresses.{LinkedByte, linked}
 use Rattle.ansi_columns.specs.Columns.{cluster_width, clusters}
 use Rattle.ansi_columns.specs.Lines.{lines, lines_from}
 use Rattle.ansi_safe.specs.Links.{is_link, opens_link, link_of, link_after, link_after_all, link_end}
-use Rattle.ansi_columns.specs.Wrapped.{WrappedLine, line_over, lines_over, wrapped}
+use Rattle.ansi_columns.specs.Wrapped.{WrappedLine, pen_end, line_over, lines_over, wrapped}
 use Rattle.ansi_columns.proofs.LineLemmas.{line-any, line-last}
 use Rattle.ansi_safe.proofs.LinkLemmas.{is_link-sgr, link_of-pieces, link_through}
 use Rattle.ansi_columns.proofs.LinkedLawLemmas.{linked_byte, linked_through, linked-pieces, IsLinked, IsLinked-append, IsLinked-nil, IsLinked-spelled, IsLinked-interleaved, IsLinked-codes, IsLinked-link_end}
@@ -40,19 +41,19 @@ use Rattle.ansi_columns.proofs.WrapLemmas.{has_no_lines-cons}
 
 -- Marks that are sequences.
 
-abbrev AreSequences : List Mark → Type 0
+abbrev pub AreSequences : List Mark → Type 0
 AreSequences ms = AllByRecursion (λ (m : Mark). IsSequence m.bytes) ms
 
 sequences-further : (n : ℕ) (ms : List Mark) → AreSequences ms → AreSequences (map (mark_further_on n) ms)
 sequences-further n [] all = tt
 sequences-further n (m ∷ ms) all = (all.0, sequences-further n ms all.1)
 
-sequences-filter : (test : Mark → Bool) (ms : List Mark) → AreSequences ms → AreSequences (filter test ms)
+pub sequences-filter : (test : Mark → Bool) (ms : List Mark) → AreSequences ms → AreSequences (filter test ms)
 sequences-filter test [] all = tt
 sequences-filter test (m ∷ ms) all =
     cond_both (test m) (m ∷ filter test ms) (filter test ms) AreSequences (λ yes. (all.0, sequences-filter test ms all.1)) (λ no. sequences-filter test ms all.1)
 
-marks_are_sequences : (ps : List Piece) → AllStandAnywhere ps → AreSequences (marks_of ps)
+pub marks_are_sequences : (ps : List Piece) → AllStandAnywhere ps → AreSequences (marks_of ps)
 marks_are_sequences [] all = tt
 marks_are_sequences (Text w ∷ ps) all = subst AreSequences (sym (marks_of-text w ps)) (sequences-further (length w) (marks_of ps) (marks_are_sequences ps all.1))
 marks_are_sequences (Sequence w ∷ ps) all = subst AreSequences (sym (marks_of-mark (Sequence w) ps refl)) (all.0, marks_are_sequences ps all.1)
@@ -60,15 +61,15 @@ marks_are_sequences (LoneEscape ∷ ps) all = absurd all.0
 
 -- A sequence that opens a link or ends one, or nothing.
 
-abbrev one_sequence : List ℕ → List Piece
+abbrev pub one_sequence : List ℕ → List Piece
 one_sequence [] = []
 one_sequence (b ∷ w) = Sequence (b ∷ w) ∷ []
 
-spelled-one_sequence : (w : List ℕ) → spelled (one_sequence w) ≡ w
+pub spelled-one_sequence : (w : List ℕ) → spelled (one_sequence w) ≡ w
 spelled-one_sequence [] = refl
 spelled-one_sequence (b ∷ w) = append-nil (b ∷ w)
 
-styled_through-one_sequence : (s : Rendition) (w : List ℕ) → styled_through s (one_sequence w) ≡ []
+pub styled_through-one_sequence : (s : Rendition) (w : List ℕ) → styled_through s (one_sequence w) ≡ []
 styled_through-one_sequence s [] = refl
 styled_through-one_sequence s (b ∷ w) = refl
 
@@ -76,16 +77,16 @@ linked_through-one_sequence : (w : List ℕ) → linked_through [] (one_sequence
 linked_through-one_sequence [] = refl
 linked_through-one_sequence (b ∷ w) = refl
 
-abbrev IsNoneOrLink : List ℕ → Type 0
+abbrev pub IsNoneOrLink : List ℕ → Type 0
 IsNoneOrLink w = (w ≡ []) ⊎ (IsSequence w × (is_link w ≡ true))
 
-one_sequence_stands : (w : List ℕ) → IsNoneOrLink w → AllStandAnywhere (one_sequence w)
+pub one_sequence_stands : (w : List ℕ) → IsNoneOrLink w → AllStandAnywhere (one_sequence w)
 one_sequence_stands [] is = tt
 one_sequence_stands (b ∷ w) (inl none) = absurd (cc none)
 one_sequence_stands (b ∷ w) (inr is) = (is.0, tt)
 
 -- it changes no style
-link_keeps : (s : Rendition) (w : List ℕ) → IsNoneOrLink w → style_through s (one_sequence w) ≡ s
+pub link_keeps : (s : Rendition) (w : List ℕ) → IsNoneOrLink w → style_through s (one_sequence w) ≡ s
 link_keeps s [] is = refl
 link_keeps s (b ∷ w) (inl none) = absurd (cc none)
 link_keeps s (b ∷ w) (inr is) = apply-no_sgr s (b ∷ w) (false_from_ne_true _ (λ sgr. (let no = is_link-sgr (b ∷ w) sgr in cc (no, is.1))))
@@ -93,16 +94,16 @@ link_keeps s (b ∷ w) (inr is) = apply-no_sgr s (b ∷ w) (false_from_ne_true _
 IsControlString-link_end : IsControlString (codes "\u{1b}]8;;\u{1b}\\")
 IsControlString-link_end = record { opener = byte "]"; body = codes "8;;"; terminator = escape ∷ byte "\\" ∷ []; spelled = refl; opens = refl; is_body = refl; ends = inl refl }
 
-link_end_is_link : (link : List ℕ) → IsNoneOrLink (link_end link)
+pub link_end_is_link : (link : List ℕ) → IsNoneOrLink (link_end link)
 link_end_is_link link = cond_both (length link == 0) [] (codes "\u{1b}]8;;\u{1b}\\") IsNoneOrLink (λ none. inl refl) (λ some. inr (inr (inl IsControlString-link_end), refl))
 
 -- A link that is carried: it opens itself.
 
-record IsCarried (link : List ℕ) : Type 0 where
-  is : IsNoneOrLink link
-  opens : link_after [] link ≡ link
+pub record IsCarried (link : List ℕ) : Type 0 where
+  pub is : IsNoneOrLink link
+  pub opens : link_after [] link ≡ link
 
-IsCarried-nil : IsCarried []
+pub IsCarried-nil : IsCarried []
 IsCarried-nil = record { is = inl refl; opens = refl }
 
 carried-step : (link w : List ℕ) → IsSequence w → IsCarried link → IsCarried (link_after link w)
@@ -113,11 +114,11 @@ carried-step link w is carried =
     (λ ends. IsCarried-nil))
     (λ no. carried)
 
-IsCarried-after : (link : List ℕ) (ms : List Mark) → AreSequences ms → IsCarried link → IsCarried (link_after_all link ms)
+pub IsCarried-after : (link : List ℕ) (ms : List Mark) → AreSequences ms → IsCarried link → IsCarried (link_after_all link ms)
 IsCarried-after link [] all carried = carried
 IsCarried-after link (m ∷ ms) all carried = IsCarried-after (link_after link m.bytes) ms all.1 (carried-step link m.bytes all.0 carried)
 
-IsLinked-carried : (link : List ℕ) → IsCarried link → IsLinked [] link [] link
+pub IsLinked-carried : (link : List ℕ) → IsCarried link → IsLinked [] link [] link
 IsLinked-carried link carried =
     let made = IsLinked-spelled [] (one_sequence link) link (spelled-one_sequence link) (one_sequence_stands link carried.is) in
     record { whole = made.whole; bytes = made.bytes ∙ linked_through-one_sequence link; after = made.after ∙ through link ∙ carried.opens }
@@ -133,7 +134,7 @@ record IsEnded (bs : List StyledByte) (ls : List LinkedByte) (u : List ℕ) : Ty
   closed : IsClosed bs u
   linked : IsLinked [] u ls []
 
-append_assoc-five : (s l v e c : List ℕ) → s ++ (l ++ (v ++ e)) ++ c ≡ s ++ l ++ v ++ e ++ c
+append_assoc-five : (s l v e c : List ℕ) → s ++ (l ++ (v ++ e)) ++ c ≡ s ++ l ++ v ++ (e ++ c)
 append_assoc-five s l v e c = simp append_assoc
 
 module _ (t : List ℕ) (style : Rendition) (link : List ℕ) (test : ℕ → Bool) (a b : ℕ) (whole : IsTrue (is_whole t)) (is_style : IsStyle style) (carried : IsCarried link) where
@@ -150,7 +151,7 @@ module _ (t : List ℕ) (style : Rendition) (link : List ℕ) (test : ℕ → Bo
   last = link_after_all link own
 
   abbrev written : List ℕ
-  written = start style ++ link ++ interleaved (plain t) a b own ++ link_end last ++ close_if_any after
+  written = start style ++ link ++ interleaved (plain t) a b own ++ pen_end last after
 
   abbrev rest : List Piece
   rest = shown ++ one_sequence (link_end last)
@@ -184,23 +185,23 @@ module _ (t : List ℕ) (style : Rendition) (link : List ℕ) (test : ℕ → Bo
       ∙ ap₂ (λ u v. u ++ v) (spelled-one_sequence link)
       (flat_map-append spelling shown (one_sequence (link_end last)) ∙ ap₂ (λ u v. u ++ v) (spelled-interleaved_pieces (pieces_of t) test a b) (spelled-one_sequence (link_end last)))
 
-  spelled_all : spelled (dressed_pieces style inside (closing_codes after)) ≡ written
+  spelled_all : spelled (dressed_pieces style inside (close_codes after)) ≡ written
   spelled_all =
-      spelled-dressed_pieces style inside (closing_codes after) ∙ ap₂ (λ u v. start style ++ u ++ v) spelled_inside (written-closing_codes after)
-      ∙ append_assoc-five (start style) link (interleaved (plain t) a b own) (link_end last) (close_if_any after)
+      spelled-dressed_pieces style inside (close_codes after) ∙ ap (λ u. start style ++ u ++ close after) spelled_inside
+      ∙ append_assoc-five (start style) link (interleaved (plain t) a b own) (link_end last) (close after)
 
   written_closed : IsClosed (styled_through style shown) written
   written_closed =
-      let ps = dressed_pieces style inside (closing_codes after) in
+      let ps = dressed_pieces style inside (close_codes after) in
       subst (IsClosed (styled_through style shown)) spelled_all
-      (closed-spelled ps (styled_through style shown) (dressed_pieces_stand style inside (closing_codes after) is_style inside_stands (closing_codes_are after))
-      (subst (GiveAlone ps) styled_inside (dressed_pieces_give style after inside (closing_codes after) is_style (ap known style_inside) (closing_codes_clear after))))
+      (closed-spelled ps (styled_through style shown) (dressed_pieces_stand style inside (close_codes after) is_style inside_stands (close_codes_are after))
+      (subst (GiveAlone ps) styled_inside (dressed_pieces_give style after inside (close_codes after) is_style (ap known style_inside) (λ p same. close_codes_clear p after same))))
 
   written_linked : IsLinked [] written (linked_through link shown) []
   written_linked =
-      let close = subst (λ w. IsLinked [] w [] []) (written-closing_codes after) (IsLinked-codes [] (closing_codes after) (closing_codes_are after)) in
-      let made = IsLinked-append (IsLinked-append (IsLinked-append (IsLinked-append (IsLinked-codes [] (start_codes style) (start_codes_are style is_style)) (IsLinked-carried link carried)) (IsLinked-interleaved t link test a b whole)) (IsLinked-link_end last)) close in
-      record { whole = made.whole; bytes = made.bytes ∙ append-nil (linked_through link shown ++ []) ∙ append-nil (linked_through link shown); after = made.after }
+      let ends = IsLinked-append (IsLinked-link_end last) (IsLinked-codes [] (close_codes after) (close_codes_are after)) in
+      let made = IsLinked-append (IsLinked-append (IsLinked-append (IsLinked-codes [] (start_codes style) (start_codes_are style is_style)) (IsLinked-carried link carried)) (IsLinked-interleaved t link test a b whole)) ends in
+      record { whole = made.whole; bytes = made.bytes ∙ append-nil (linked_through link shown); after = made.after }
 
   written_ended : IsEnded (styled_through style shown) (linked_through link shown) written
   written_ended = record { closed = written_closed; linked = written_linked }
@@ -278,6 +279,7 @@ lines_in_turn width e start end here columns (c ∷ cs) after ordered read =
     (after, ordered, lines_in_turn width end next next next 0 cs (omega (arith, read)) (omega arith) (omega arith))
     (lines_in_turn width e start end next wider cs after ordered (omega (arith, read)))
     (lines_in_turn width e start next next wider cs after (omega (arith, ordered, read)) (omega arith))
+    (lines_in_turn width e here next next (cluster_width c) cs (omega (arith, after, ordered, read)) (omega arith) (omega arith))
     (after, ordered, lines_in_turn width end here next next (cluster_width c) cs read (omega arith) (omega arith))
 
 abbrev AreEnded : List ℕ → List (ℕ × ℕ) → List WrappedLine → Type 0

@@ -1,22 +1,22 @@
 -- The lines of a wrap that are left, one at a time: the first, by the stretch of the text that it is written from, and those after it.
-use Rattle.std.proofs.Common.{encode_utf8_all, ◌≡◌, ℕ, ◌+◌, ◌-◌, ◌≤◌, ◌==◌, ◌⊎◌, inl, inr, Bool, true, false, not, ◌&&◌, ◌||◌, List, [], ◌∷◌, ◌++◌, length, take, drop, slice_range, nat_lt, Some, if◌then◌else◌, IsTrue, IsFalse, refl, sym, ◌∙◌, ap, ap₂, subst, arith, append_assoc, append-nil, length-append}
+use Rattle.std.proofs.Common.{encode_utf8_all, ◌≡◌, ℕ, ◌+◌, ◌-◌, ◌≤◌, ◌==◌, ◌⊎◌, inl, inr, Bool, true, false, ◌&&◌, ◌||◌, List, [], ◌∷◌, ◌++◌, length, take, drop, slice_range, nat_lt, Some, if◌then◌else◌, IsTrue, IsFalse, refl, sym, ◌∙◌, ap, ap₂, subst, arith, append_assoc, append-nil, length-append}
 use Rattle.std.specs.List.{list_all}
 use Rattle.std.specs.Prelude.{fold}
 use Rattle.std.specs.Str.{IsCharBoundary}
-use Rattle.std.proofs.lemmas.Bool.{cases_lt, cond_both, and_parts, and_from, and_right, or_right, eq-eqb, eqb-true, ne_eqb, not-true}
+use Rattle.std.proofs.lemmas.Bool.{cases_lt, cond_both, and_parts, and_from, and_right, or_parts, or_right, eq-eqb, eqb-true, ne_eqb}
 use Rattle.std.proofs.lemmas.Bool.Decides.{nat_tests}
-use Rattle.std.proofs.lemmas.List.{length-map, length-drop, length-take-le, take_all, drop-drop, get_or-take}
+use Rattle.std.proofs.lemmas.List.{length-map, length-drop, length-take-le, take_all, drop-drop, get_or-take, nil_from_length}
 use Rattle.std.proofs.lemmas.Str.{IsCharBoundary-end}
 use Rattle.ansi_items.specs.Pieces.{Piece, Text, pieces_of, spelling}
 use Rattle.ansi_items.specs.Plain.{Mark, plain, plain_of, marks, marks_up_to, has_escape}
 use Rattle.ansi_items.proofs.JoinLemmas.{spelled, spelled-pieces_of}
 use Rattle.ansi_items.proofs.PlainLemmas.{plain-bare}
 use Rattle.ansi_style.specs.declared.state.rendition.Rendition.{Rendition}
-use Rattle.ansi_style.specs.Rendition.{IsStyle, plain_style, has_any}
+use Rattle.ansi_style.specs.Rendition.{IsStyle, plain_style, has_known}
 use Rattle.ansi_style.specs.Reading.{after_marks, style_after_from}
-use Rattle.ansi_style.specs.Written.{start, close, close_if_any, longest_start_and_close}
+use Rattle.ansi_style.specs.Written.{start, close, longest_start_and_close}
 use Rattle.ansi_style.proofs.MarkLemmas.{marks_up_to-further, bytes-further, after_marks-further, marks-bare}
-use Rattle.ansi_style.proofs.UnsetLemmas.{start-unset}
+use Rattle.ansi_style.proofs.UnsetLemmas.{start-unknown}
 use Rattle.ansi_slice.specs.Cut.{interleaved}
 use Rattle.ansi_slice.specs.Kept.{kept}
 use Rattle.ansi_search.specs.Offsets.{offset_of, bytes_before, StandsIn}
@@ -38,20 +38,19 @@ use Rattle.ansi_columns.specs.Columns.{cluster_width, clusters}
 use Rattle.ansi_columns.specs.Lines.{lines, lines_from, lines_left}
 use Rattle.ansi_safe.specs.Links.{link_after, link_after_all, link_end, longest_link_end}
 use Rattle.ansi_columns.specs.Walks.{clusters_from}
-use Rattle.ansi_columns.specs.Wrapped.{WrappedLine, line_over, lines_over, wrapped, marks_left, IsTaken, IsLineSpan}
+use Rattle.ansi_columns.specs.Wrapped.{WrappedLine, pen_end, line_over, lines_over, wrapped, marks_left, IsTaken, IsLineSpan}
 use Rattle.ansi_columns.proofs.ColumnLemmas.{clusters_from-start}
 use Rattle.ansi_columns.proofs.LineLemmas.{line-any, line-last}
 use Rattle.ansi_columns.proofs.PlaceLemmas.{offset_of-add}
-use Rattle.ansi_safe.proofs.EndingLemmas.{length-link_end}
+use Rattle.ansi_safe.proofs.EndingLemmas.{append-both_nil, close-none, link_end-none, length-closing}
 use Rattle.ansi_split.proofs.SpanLemmas.{interleaved-after}
-use Rattle.ansi_split.proofs.PartLengthLemmas.{length-close_if_any}
 
 -- A line by what it is made of.
 
 abbrev line_made_of : Bool → ℕ → Rendition → List ℕ → List ℕ → List ℕ → Rendition → WrappedLine
 line_made_of same n style link shown last_link last = record {
-  bytes = if same && n == 0 then [] else start style ++ link ++ shown ++ link_end last_link ++ close_if_any last;
-  borrowed = n == 0 && (same || (not (has_any style) && length link == 0));
+  bytes = if same && n == 0 then [] else start style ++ link ++ shown ++ pen_end last_link last;
+  borrowed = n == 0 && (same || length (pen_end link style) == 0);
   source_len = length link + length shown;
 }
 
@@ -110,7 +109,7 @@ lines_filled width from end here columns (c ∷ cs) =
     let next = here + length (encode_utf8_all c) in
     let wider = columns + cluster_width c in
     line-any width from end here columns c cs (λ ls. has_no_lines ls ≡ false) (has_no_lines-cons (from, end) (lines_from width next next next 0 cs))
-    (lines_filled width from end next wider cs) (lines_filled width from next next wider cs) (has_no_lines-cons (from, end) (lines_from width here next next (cluster_width c) cs))
+    (lines_filled width from end next wider cs) (lines_filled width from next next wider cs) (lines_filled width here next next (cluster_width c) cs) (has_no_lines-cons (from, end) (lines_from width here next next (cluster_width c) cs))
 
 -- all that follows an offset
 pub rest-is : (t : List ℕ) (n : ℕ) → slice_range t n (length t) ≡ drop n t
@@ -277,13 +276,13 @@ and_or-false true false c h = refl
 and_or-false false true c h = refl
 and_or-false false false c h = refl
 
-append_assoc-six : (f s m z l c : List ℕ) → (f ++ s ++ m ++ z) ++ (l ++ c) ≡ f ++ (s ++ (m ++ z)) ++ l ++ c
-append_assoc-six f s m z l c = simp append_assoc
+append_assoc-five : (f s m z e : List ℕ) → (f ++ s ++ m ++ z) ++ e ≡ f ++ (s ++ (m ++ z)) ++ e
+append_assoc-five f s m z e = simp append_assoc
 
 -- one that is written
 pub line-written : {style after : Rendition} {link link_end_of t : List ℕ} {a e offset from top : ℕ} {is_marked : Bool} → IsLineSpan style link t a e offset is_marked after link_end_of → StandsIn t a from → length t ≤ top
     → IsFalse (line_over style link (plain t) (marks t) (a, e)).borrowed
-    → (start style ++ link ++ sequences_up_to a (pieces_of t) ++ slice_range t from offset ++ sequences_up_to top (pieces_of (drop offset t))) ++ (link_end link_end_of ++ close_if_any after)
+    → (start style ++ link ++ sequences_up_to a (pieces_of t) ++ slice_range t from offset ++ sequences_up_to top (pieces_of (drop offset t))) ++ pen_end link_end_of after
     ≡ (line_over style link (plain t) (marks t) (a, e)).bytes
 unfolding line_over kept
 line-written {style} {after} {link} {link_end_of} {t} {a} {e} {offset} {from} {top} span stands fits owned =
@@ -300,11 +299,11 @@ line-written {style} {after} {link} {link_end_of} {t} {a} {e} {offset} {from} {t
     (ap (λ i. kept (drop i t) 0 (e - a)) (sym stands.offset) ∙ kept-stretch rest (e - a)
     ∙ ap₂ (λ i v. take i rest ++ kept v 0 0) (sym size) last
     ∙ ap (λ v. slice_range t from offset ++ v) (kept-none (drop offset t) top (omega (arith, length-drop offset t, fits)))) in
-    append_assoc-six (start style ++ link) (sequences_up_to a (pieces_of t)) (slice_range t from offset) (sequences_up_to top (pieces_of (drop offset t))) (link_end link_end_of) (close_if_any after)
-    ∙ ap (λ u. start style ++ link ++ u ++ link_end link_end_of ++ close_if_any after) (sym shown)
-    ∙ ap₂ (λ l r. start style ++ link ++ kept t a e ++ link_end l ++ close_if_any r) span.linked span.styled
-    ∙ sym (ap (λ b. if b then [] else start style ++ link ++ interleaved (plain t) a e (marks t) ++ link_end (link_after_all link (marks t)) ++ close_if_any (after_marks style (marks t)))
-    (and_or-false (length (marks t) == 0) (a == e) (not (has_any style) && length link == 0) owned))
+    append_assoc-five (start style ++ link) (sequences_up_to a (pieces_of t)) (slice_range t from offset) (sequences_up_to top (pieces_of (drop offset t))) (pen_end link_end_of after)
+    ∙ ap (λ u. start style ++ link ++ u ++ pen_end link_end_of after) (sym shown)
+    ∙ ap₂ (λ l r. start style ++ link ++ kept t a e ++ pen_end l r) span.linked span.styled
+    ∙ sym (ap (λ b. if b then [] else start style ++ link ++ interleaved (plain t) a e (marks t) ++ pen_end (link_after_all link (marks t)) (after_marks style (marks t)))
+    (and_or-false (length (marks t) == 0) (a == e) (length (pen_end link style) == 0) owned))
 
 -- a line that is a stretch of the text
 
@@ -312,38 +311,36 @@ bare-if : {whole other : List ℕ} (b : Bool) → (b ≡ true → whole ≡ []) 
 bare-if true empty some = empty refl
 bare-if false empty some = some refl
 
-none_carried : (style : Rendition) (link : List ℕ) → (not (has_any style) && length link == 0) ≡ true → (has_any style ≡ false) × (link ≡ [])
-none_carried style link holds = (let both = and_parts _ _ holds in (not-true (has_any style) both.0, no_bytes link both.1))
-  where
-    no_bytes : (l : List ℕ) → (length l == 0) ≡ true → l ≡ []
-    no_bytes [] h = refl
-    no_bytes (b ∷ l) h = absurd (omega (arith, eqb-true (length (b ∷ l)) 0 h))
+none_carried : (style : Rendition) (link : List ℕ) → (length (pen_end link style) == 0) ≡ true → (start style ≡ []) × (link ≡ [])
+none_carried style link holds =
+    let both = append-both_nil (link_end link) (close style) (nil_from_length _ (eqb-true _ 0 holds)) in
+    (start-unknown style (or_parts (has_known style) style.unknown (close-none style both.1)).0, nil_from_length link (link_end-none link both.0))
 
-bare-bytes : (style : Rendition) (link x : List ℕ) (a e : ℕ) → (a ≡ e) ⊎ ((not (has_any style) && length link == 0) ≡ true)
-    → slice_range x a e ≡ (if (a == e) && true then [] else start style ++ link ++ interleaved x a e [] ++ link_end link ++ close_if_any style)
+bare-bytes : (style : Rendition) (link x : List ℕ) (a e : ℕ) → (a ≡ e) ⊎ ((length (pen_end link style) == 0) ≡ true)
+    → slice_range x a e ≡ (if (a == e) && true then [] else start style ++ link ++ interleaved x a e [] ++ pen_end link style)
 bare-bytes style link x a e holds = bare-if ((a == e) && true) (λ same. slice_range-none x a e (omega (arith, eqb-true a e (and_parts _ _ same).0))) (λ other. by_case other holds)
   where
-    by_case : ((a == e) && true) ≡ false → (a ≡ e) ⊎ ((not (has_any style) && length link == 0) ≡ true) → slice_range x a e ≡ start style ++ link ++ interleaved x a e [] ++ link_end link ++ close_if_any style
+    by_case : ((a == e) && true) ≡ false → (a ≡ e) ⊎ ((length (pen_end link style) == 0) ≡ true) → slice_range x a e ≡ start style ++ link ++ interleaved x a e [] ++ pen_end link style
     by_case other (inl same) = absurd (cc (other, and_from _ _ (eq-eqb a e same) (refl {a = true})))
     by_case other (inr none) =
         let no = none_carried style link none in
         sym (
-        ap (λ l. start style ++ l ++ interleaved x a e [] ++ link_end l ++ close_if_any style) no.1
-        ∙ ap₂ (λ u b. u ++ [] ++ interleaved x a e [] ++ [] ++ (if b then close style else [])) (start-unset style no.0) no.0
-        ∙ append-nil (interleaved x a e [] ++ []) ∙ append-nil (interleaved x a e []) ∙ interleaved-bare x a e)
+        ap₂ (λ u l. u ++ l ++ interleaved x a e [] ++ pen_end link style) no.0 no.1
+        ∙ ap (λ u. interleaved x a e [] ++ u) (nil_from_length _ (eqb-true _ 0 none))
+        ∙ append-nil (interleaved x a e []) ∙ interleaved-bare x a e)
 
-pub line-bare : {style after : Rendition} {link link_end_of t : List ℕ} {a e offset : ℕ} {is_marked : Bool} → IsLineSpan style link t a e offset is_marked after link_end_of → is_marked ≡ false → (a ≡ e) ⊎ ((not (has_any style) && length link == 0) ≡ true)
+pub line-bare : {style after : Rendition} {link link_end_of t : List ℕ} {a e offset : ℕ} {is_marked : Bool} → IsLineSpan style link t a e offset is_marked after link_end_of → is_marked ≡ false → (a ≡ e) ⊎ ((length (pen_end link style) == 0) ≡ true)
     → (slice_range t a e ≡ (line_over style link (plain t) (marks t) (a, e)).bytes) × IsTrue (line_over style link (plain t) (marks t) (a, e)).borrowed
 unfolding line_over
 line-bare {style} {after} {link} {link_end_of} {t} {a} {e} span unmarked holds =
     let none : has_escape t ≡ false = sym span.marked ∙ unmarked in
     let ms = marks-bare t none in (
       bare-bytes style link t a e holds ∙ sym (ap₂ (λ x ks. (line_over style link x ks (a, e)).bytes) (plain-bare t none) ms),
-      ap (λ (ks : List Mark). (length ks == 0) && ((a == e) || (not (has_any style) && length link == 0))) ms ∙ either holds,
+      ap (λ (ks : List Mark). (length ks == 0) && ((a == e) || length (pen_end link style) == 0)) ms ∙ either holds,
     )
   where
-    either : (a ≡ e) ⊎ ((not (has_any style) && length link == 0) ≡ true) → ((a == e) || (not (has_any style) && length link == 0)) ≡ true
-    either (inl same) = ap (λ b. b || (not (has_any style) && length link == 0)) (eq-eqb a e same)
+    either : (a ≡ e) ⊎ ((length (pen_end link style) == 0) ≡ true) → ((a == e) || length (pen_end link style) == 0) ≡ true
+    either (inl same) = ap (λ b. b || length (pen_end link style) == 0) (eq-eqb a e same)
     either (inr none) = or_right (a == e) _ none
 
 pub bare-boundary : {style after : Rendition} {link link_end_of t : List ℕ} {a e offset : ℕ} {is_marked : Bool} → IsLineSpan style link t a e offset is_marked after link_end_of → is_marked ≡ false → IsCharBoundary t a × IsCharBoundary t e
@@ -359,9 +356,9 @@ bare-boundary {t = t} {a = a} {e = e} span unmarked =
 
 pub owned-marked : (style : Rendition) (link t : List ℕ) (a e : ℕ) → has_escape t ≡ true → IsFalse (line_over style link (plain t) (marks t) (a, e)).borrowed
 unfolding line_over
-owned-marked style link t a e some = ap (λ b. b && ((a == e) || (not (has_any style) && length link == 0))) (escape_is_marked t some)
+owned-marked style link t a e some = ap (λ b. b && ((a == e) || length (pen_end link style) == 0)) (escape_is_marked t some)
 
-pub owned-carried : (style : Rendition) (link t : List ℕ) (a e : ℕ) → (a ≡ e → ⊥) → (not (has_any style) && length link == 0) ≡ false → IsFalse (line_over style link (plain t) (marks t) (a, e)).borrowed
+pub owned-carried : (style : Rendition) (link t : List ℕ) (a e : ℕ) → (a ≡ e → ⊥) → (length (pen_end link style) == 0) ≡ false → IsFalse (line_over style link (plain t) (marks t) (a, e)).borrowed
 unfolding line_over
 owned-carried style link t a e other some = ap₂ (λ b d. (length (marks t) == 0) && (b || d)) (ne_eqb a e other) some ∙ and_right _ _ refl
 
@@ -392,17 +389,15 @@ length-line_over style link x own i is =
     let shown = interleaved x i.0 i.1 own in
     let last = link_after_all link own in
     let after = after_marks style own in
-    cond_both (i.0 == i.1 && length own == 0) [] (start style ++ link ++ shown ++ link_end last ++ close_if_any after) (λ w. length w ≤ length link + length shown + longest_start_and_close + longest_link_end)
+    cond_both (i.0 == i.1 && length own == 0) [] (start style ++ link ++ shown ++ pen_end last after) (λ w. length w ≤ length link + length shown + longest_start_and_close + longest_link_end)
     (λ none. omega arith)
     (λ some. omega (
       arith,
-      length-append (start style ++ link ++ shown ++ link_end last) (close_if_any after),
-      length-append (start style ++ link ++ shown) (link_end last),
+      length-append (start style ++ link ++ shown) (pen_end last after),
       length-append (start style ++ link) shown,
       length-append (start style) link,
       length-start style is,
-      length-link_end last,
-      length-close_if_any after,
+      length-closing last after,
     ))
 
 pub length-line : {l : WrappedLine} (style : Rendition) (link x : List ℕ) (own : List Mark) (i : ℕ × ℕ) → IsStyle style → line_over style link x own i ≡ l

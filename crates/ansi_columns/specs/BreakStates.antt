@@ -1,11 +1,12 @@
 -- A summary of the characters before a place, as much as the rules on clusters look back at. No public contract cites it.
-use Rattle.std.specs.Prelude.{ℕ, Bool, true, false, ◌&&◌, List, [], ◌∷◌, map}
+use Rattle.std.specs.Prelude.{◌≡◌, ℕ, Bool, true, false, ◌&&◌, List, [], ◌∷◌, map}
 use Rattle.ucd_breaks.specs.GraphemeClusterBreak.{grapheme_cluster_break}
 use Rattle.ucd_breaks.specs.declared.GraphemeClusterBreak.{GraphemeClusterBreak}
 use Rattle.ucd_breaks.specs.declared.GraphemeClusterBreak.TheVariants.{Other}
 use Rattle.ucd_derived.specs.IndicConjunctBreak.{indic_conjunct_break}
 use Rattle.ucd_derived.specs.declared.IndicConjunctBreak.{IndicConjunctBreak}
 use Rattle.ucd_derived.specs.declared.IndicConjunctBreak.TheVariants as InCb
+use Rattle.ucd_emoji.specs.Binary.{is_extended_pictographic}
 use Rattle.unicode_segmentation.specs.Grapheme.{ends_in_linker, ends_in_pictograph, ends_in_half_flag, is_zwj}
 use Rattle.ansi_columns.specs.declared.break_state.BreakState.{BreakState}
 
@@ -13,6 +14,11 @@ use Rattle.ansi_columns.specs.declared.break_state.BreakState.{BreakState}
 abbrev pub last_of : List ℕ → GraphemeClusterBreak
 last_of [] = Other
 last_of (c ∷ before) = grapheme_cluster_break c
+
+-- the value of most characters, which no rule on values names
+abbrev pub is_other : GraphemeClusterBreak → Bool
+is_other Other = true
+is_other _ = false
 
 -- whether a linker and the characters that extend it end with a character of this value, by whether they end before it
 abbrev pub links : IndicConjunctBreak → Bool → Bool
@@ -34,3 +40,9 @@ break_state_of before = record {
   is_joined = ends_in_joiner before;
   is_half_flag = ends_in_half_flag before;
 }
+
+-- no rule on clusters names the character
+pub record IsUnnamed (c : ℕ) : Type 0 where
+  pub break : grapheme_cluster_break c ≡ Other
+  pub conjunct : indic_conjunct_break c ≡ InCb.None
+  pub pictograph : is_extended_pictographic c ≡ false

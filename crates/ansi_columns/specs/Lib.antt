@@ -1,8 +1,13 @@
 pub mod Columns
 pub mod Lines
+pub mod FirstFit
 pub mod BreakStates
 pub mod Walks
 pub mod Reverse
 pub mod Shown
+pub mod Slices
+pub mod Screens
 pub mod Wrapped
 pub mod Addresses
+pub mod Tabs
+pub mod Words

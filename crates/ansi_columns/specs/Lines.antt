@@ -1,5 +1,5 @@
--- The lines of a text that is wrapped at a width: how many columns each word has, and where the lines begin and end.
-use Rattle.std.specs.Prelude.{◌≡◌, ℕ, ◌+◌, ◌≤◌, max, ◌⊎◌, Bool, true, false, ◌||◌, ◌==◌, nat_le, List, [], ◌∷◌, ◌++◌, length, drop, slice_range, Option, Some, None, codes, bytes_eq, encode_utf8_all, IsTrue, if◌then◌else◌}
+-- The lines of a text that is wrapped at a width: where they begin and end, one cluster after another, and what follows from that.
+use Rattle.std.specs.Prelude.{◌≡◌, ℕ, ◌+◌, ◌≤◌, max, ◌⊎◌, Bool, true, false, ◌||◌, ◌==◌, nat_le, List, [], ◌∷◌, ◌++◌, length, take, drop, slice_range, Option, Some, None, codes, bytes_eq, encode_utf8_all, IsTrue, if◌then◌else◌}
 use Rattle.ansi_search.specs.Positions.{is_good_range}
 use Rattle.ansi_columns.specs.Columns.{clusters, cluster_width, columns_of, bytes_of}
 use Rattle.ansi_columns.specs.Shown.{blanks}
@@ -19,9 +19,9 @@ unfoldable pub word_columns : List (List ℕ) → ℕ
 word_columns [] = 0
 word_columns (c ∷ cs) = if is_blank c || is_line_end c then 0 else cluster_width c + word_columns cs
 
--- The lines of the clusters from the position `here` on. The last line so far begins at `start` and its last word ends at `end`; the text
+-- The lines of first fit (`IsFirstFit`), as they are found: those of the clusters from the position `here` on. The last line so far begins at `start` and its last word ends at `end`; the text
 -- between `start` and `here` has `columns` columns. After a blank, a word stays on the line if all of it fits there. Inside a word, a cluster
--- stays on the line if it fits there. Otherwise a new line begins. (First fit; own.)
+-- stays on the line if it fits there. Otherwise a new line begins; blanks before the first word of a line are then left out.
 unfoldable pub lines_from : ℕ → ℕ → ℕ → ℕ → ℕ → List (List ℕ) → List (ℕ × ℕ)
 lines_from width start end here columns [] = (start, end) ∷ []
 lines_from width start end here columns (c ∷ cs) =
@@ -33,12 +33,15 @@ lines_from width start end here columns (c ∷ cs) =
         | true ↦ lines_from width start end next (columns + cluster_width c) cs
         | false ↦ elim ((here == start) || nat_le (columns + more) width) [
           | true ↦ lines_from width start next next (columns + cluster_width c) cs
-          | false ↦ (start, end) ∷ lines_from width here next next (cluster_width c) cs
+          | false ↦ elim (end == start) [
+            | true ↦ lines_from width here next next (cluster_width c) cs
+            | false ↦ (start, end) ∷ lines_from width here next next (cluster_width c) cs
+          ]
         ]
       ]
     ]
 
--- the lines of the text x, each as the positions of its beginning and end; a width of 0 is treated as 1
+-- the lines of the text x, each as the positions of its beginning and end; a width of 0 is treated as 1; first fit has no others
 abbrev pub lines : ℕ → List ℕ → List (ℕ × ℕ)
 lines width x = lines_from (max width 1) 0 0 0 0 (clusters x)
 
@@ -61,9 +64,14 @@ pub record IsLine (x : List ℕ) (width : ℕ) (line : ℕ × ℕ) : Type 0 wher
 abbrev pub IsGoodLine : List ℕ → ℕ × ℕ → Type 0
 IsGoodLine x line = IsTrue (is_good_range x line.0 (Some line.1))
 
--- what may be left out between two lines: n blanks, and then at most one line end
+-- what may be left out between two lines: blanks, and at most one line end among them
 abbrev pub IsLeftOut : List ℕ → Type 0
-IsLeftOut x = (n : ℕ) × ((x ≡ blanks n) ⊎ (x ≡ blanks n ++ codes "\n") ⊎ (x ≡ blanks n ++ codes "\r\n"))
+IsLeftOut x = (n m : ℕ) × ((x ≡ blanks n) ⊎ (x ≡ blanks n ++ codes "\n" ++ blanks m) ⊎ (x ≡ blanks n ++ codes "\r\n" ++ blanks m))
+
+-- there is a first line, and only blanks precede it
+abbrev pub BeginWithBlanks : List ℕ → List (ℕ × ℕ) → Type 0
+BeginWithBlanks x [] = ⊥
+BeginWithBlanks x (line ∷ lines) = (n : ℕ) × (take line.0 x ≡ blanks n)
 
 -- The lines are stretches of x, in order, from the place e on. What precedes each line may be left out, and only blanks follow the last one.
 abbrev pub AreLinesFrom : List ℕ → ℕ → List (ℕ × ℕ) → Type 0

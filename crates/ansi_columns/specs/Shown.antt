@@ -1,7 +1,9 @@
 -- Truncated and padded texts, ready for display: the style and link still open at their end are closed.
-use Rattle.std.specs.Prelude.{ℕ, ◌+◌, ◌-◌, ◌/◌, Bool, not, ◌&&◌, List, [], ◌∷◌, ◌++◌, length, replicate, encode_utf8_all, nat_le, if◌then◌else◌}
+use Rattle.std.specs.Prelude.{ℕ, ◌+◌, ◌-◌, ◌/◌, Bool, not, ◌&&◌, List, [], ◌∷◌, ◌++◌, length, replicate, map, encode_utf8_all, nat_le, if◌then◌else◌}
 use Rattle.std.specs.Str.{byte}
 use Rattle.ansi_items.specs.Plain.{plain, marks, marks_up_to}
+use Rattle.ansi_style.specs.Rendition.{plain_style}
+use Rattle.ansi_style.specs.Styled.{StyledByte}
 use Rattle.ansi_slice.specs.Cut.{interleaved}
 use Rattle.ansi_columns.specs.declared.shown.Alignment.{Alignment}
 use Rattle.ansi_columns.specs.declared.shown.Alignment.TheVariants.{Left, Right, Center}
@@ -43,6 +45,10 @@ before_text Center n = n / 2
 
 abbrev pub blanks : ℕ → List ℕ
 blanks n = replicate n (byte " ")
+
+-- bytes in the plain style
+abbrev pub without_style : List ℕ → List StyledByte
+without_style x = map (λ b. record { byte = b; style = plain_style }) x
 
 -- what closes the pen at the end of the text t
 abbrev pub closing : List ℕ → List ℕ

@@ -1,10 +1,11 @@
 -- The state of a walk over the characters of a plain text. No public contract cites it.
-use Rattle.std.specs.Prelude.{◌≡◌, ℕ, ◌≤◌, true, List, [], ◌++◌, length, take, drop, reverse, slice_range, encode_utf8, chars, IsTrue}
+use Rattle.std.specs.Prelude.{◌≡◌, ℕ, ◌+◌, ◌<◌, ◌≤◌, true, List, [], ◌∷◌, ◌++◌, length, take, drop, reverse, slice_index, slice_range, encode_utf8, chars, IsTrue}
 use Rattle.std.specs.List.{list_all}
 use Rattle.std.specs.Str.{IsCharBoundary}
 use Rattle.ansi_items.specs.Bytes.{is_plain_byte}
 use Rattle.ansi_items.specs.Plain.{plain}
 use Rattle.ansi_search.specs.Offsets.{offset_of}
+use Rattle.ansi_safe.specs.Safe.{is_printable_byte}
 use Rattle.unicode_segmentation.specs.Grapheme.{is_grapheme_break}
 use Rattle.unicode_segmentation.specs.Segments.{cut}
 use Rattle.ansi_columns.specs.declared.walks.Walk.{Walk}
@@ -49,3 +50,14 @@ pub record IsWalk (t : List ℕ) (walk : Walk) : Type 0 where
 pub record IsNext (t : List ℕ) (walk : Walk) (c : ℕ) : Type 0 where
   pub rest : List ℕ
   pub bytes : slice_range t walk.offset walk.run_end ≡ encode_utf8 c ++ rest
+
+-- the next n bytes of the walk's run are printable ASCII, and another byte of ASCII follows them there
+pub record IsPrintable (t : List ℕ) (walk : Walk) (n : ℕ) : Type 0 where
+  pub within : walk.offset + n < walk.run_end
+  pub bytes : IsTrue (list_all is_printable_byte (slice_range t walk.offset (walk.offset + n)))
+  pub next : slice_index t (walk.offset + n) < 128
+
+-- the bytes are the clusters of the plain text of t from the position n on, each by itself
+abbrev pub AreClusters : List ℕ → ℕ → List ℕ → Type 0
+AreClusters t n [] = Unit
+AreClusters t n (b ∷ bs) = (clusters_from t n ≡ (b ∷ []) ∷ clusters_from t (n + 1)) × AreClusters t (n + 1) bs

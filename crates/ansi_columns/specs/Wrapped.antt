@@ -1,20 +1,22 @@
 -- The lines of a wrapped text, ready for display, and what `next` returns of the lines that a wrap has left.
-use Rattle.std.specs.Prelude.{◌≡◌, ℕ, ◌+◌, ◌≤◌, ◌==◌, ◌⊎◌, Bool, not, ◌&&◌, ◌||◌, List, [], ◌∷◌, ◌++◌, length, drop, Option, Some, None, Result, Ok, Err, if◌then◌else◌, IsTrue, IsFalse, ◌↔◌}
+use Rattle.std.specs.Prelude.{◌≡◌, ℕ, ◌+◌, ◌≤◌, ◌==◌, ◌⊎◌, Bool, ◌&&◌, ◌||◌, List, [], ◌∷◌, ◌++◌, length, drop, Option, Some, None, Result, Ok, Err, if◌then◌else◌, IsTrue, IsFalse, ◌↔◌}
 use Rattle.std.specs.Cow.{cow_str_bytes, IsBorrowedStr}
 use Rattle.std.specs.Str.{IsCharBoundary}
 use Rattle.std.specs.declared.borrow.CowStr.{CowStr}
 use Rattle.ansi_items.specs.Plain.{Mark, plain, marks, marks_up_to, has_escape}
 use Rattle.ansi_style.specs.declared.state.rendition.Rendition.{Rendition}
-use Rattle.ansi_style.specs.Rendition.{plain_style, has_any}
+use Rattle.ansi_style.specs.Rendition.{plain_style}
 use Rattle.ansi_style.specs.Reading.{after_marks, style_after_from}
-use Rattle.ansi_style.specs.Written.{start, close_if_any, longest_start_and_close}
+use Rattle.ansi_style.specs.Written.{start, close, longest_start_and_close}
 use Rattle.ansi_slice.specs.Cut.{interleaved}
 use Rattle.ansi_search.specs.Offsets.{offset_of, StandsIn}
 use Rattle.ansi_split.specs.Parts.{marks_past}
 use Rattle.ansi_search.specs.Positions.{no_character_goes_on}
 use Rattle.ansi_split.specs.Spans.{marks_further_on}
 use Rattle.ansi_columns.specs.declared.walks.Walk.{Walk}
+use Rattle.ansi_columns.specs.Columns.{clusters}
 use Rattle.ansi_columns.specs.Lines.{lines}
+use Rattle.ansi_columns.specs.FirstFit.{IsFirstFit}
 use Rattle.ansi_safe.specs.Links.{link_after_all, link_end, longest_link_end}
 use Rattle.ansi_columns.specs.Walks.{IsWalk}
 
@@ -24,14 +26,18 @@ pub record WrappedLine : Type 0 where
   pub borrowed : Bool
   pub source_len : ℕ
 
+-- What ends a link and a style: the end of the link, and then the close of the style. (As a cut does; own.)
+abbrev pub pen_end : List ℕ → Rendition → List ℕ
+pen_end link style = link_end link ++ close style
+
 -- The line over the interval i of the plain text x with these marks, if a style and a link are carried into it: the start of the style, the
--- sequence that opened the link, the text with its marks, the end of the link then open and the close of the style then open. It is a borrow
--- if it has no mark, and is empty or has nothing carried into it. (What is carried, as for the parts of a split; the rest, own.)
+-- sequence that opened the link, the text with its marks, and what ends the link and the style then open. It is a borrow if it has no mark,
+-- and is empty or has nothing carried into it. (What is carried, as for the parts of a split; the rest, own.)
 unfoldable pub line_over : Rendition → List ℕ → List ℕ → List Mark → ℕ × ℕ → WrappedLine
 line_over style link x own i = record {
   bytes = if i.0 == i.1 && length own == 0 then [] else
-      start style ++ link ++ interleaved x i.0 i.1 own ++ link_end (link_after_all link own) ++ close_if_any (after_marks style own);
-  borrowed = length own == 0 && (i.0 == i.1 || (not (has_any style) && length link == 0));
+      start style ++ link ++ interleaved x i.0 i.1 own ++ pen_end (link_after_all link own) (after_marks style own);
+  borrowed = length own == 0 && (i.0 == i.1 || length (pen_end link style) == 0);
   source_len = length link + length (interleaved x i.0 i.1 own);
 }
 
@@ -43,7 +49,12 @@ lines_over style link x ms (i ∷ is) =
     let own = if length is == 0 then ms else marks_up_to i.1 ms in
     line_over style link x own i ∷ lines_over (after_marks style own) (link_after_all link own) x (marks_past (Some i.1) ms) is
 
--- the lines of the text t, wrapped at a width
+-- the lines of the text t wrapped at a width are those over the intervals of first fit
+abbrev pub IsWrapped : List ℕ → ℕ → List WrappedLine → Type 0
+IsWrapped t width ls =
+    (is : List (ℕ × ℕ)) × IsFirstFit width (clusters (plain t)) is × (ls ≡ lines_over plain_style [] (plain t) (marks t) is)
+
+-- these lines; first fit has no others
 abbrev pub wrapped : List ℕ → ℕ → List WrappedLine
 wrapped t width = lines_over plain_style [] (plain t) (marks t) (lines width (plain t))
 

@@ -1,11 +1,12 @@
 //! Whether a cluster ends between two characters (UAX #29). The test uses a summary of the
 //! characters before.
-ghost use Rattle.std.specs.Prelude.{◌≡◌, ◌≢◌, ℕ, List, true, [], ◌∷◌};
-ghost use Rattle.std.specs.Int.{is_in_range};
+ghost use Rattle.std.specs.Prelude.{◌≡◌, ◌≢◌, ℕ, List, true, [], ◌∷◌, IsTrue};
 ghost use Rattle.unicode_segmentation.specs.Grapheme.{is_grapheme_break, break_by_pair, is_extend};
 ghost use Rattle.unicode_segmentation.specs.Grapheme.{is_zwj, is_regional, is_consonant};
 ghost use Rattle.ucd_derived.specs.IndicConjunctBreak.{indic_conjunct_break};
-ghost use Rattle.ansi_columns.specs.BreakStates.{break_state_of, links};
+ghost use Rattle.ucd_breaks.specs.GraphemeClusterBreak.{grapheme_cluster_break};
+ghost use Rattle.ucd_emoji.specs.Binary.{is_extended_pictographic};
+ghost use Rattle.ansi_columns.specs.BreakStates.{break_state_of, is_other, links, IsUnnamed};
 
 use ucd_breaks::GraphemeClusterBreak;
 use ucd_breaks::GraphemeClusterBreak::*;
@@ -42,31 +43,40 @@ impl BreakState {
     }
 
     /// The summary after one more character.
-    #[inline]
+    #[inline(always)]
     pub(crate) fn after(self, c: char) -> BreakState
         ensures { (before : List ℕ) → self ≡ break_state_of before →
             result ≡ break_state_of (c ∷ before) }
     {
-        if is_printable(c) {
+        if is_ordinary(c) {
             return BreakState::start();
+        }
+        if c == '\n' {
+            return BreakState {
+                last: Lf,
+                is_linked: false,
+                is_pictograph: false,
+                is_joined: false,
+                is_half_flag: false,
+            };
         }
         let value = GraphemeClusterBreak::for_char(c);
         BreakState {
             last: value,
             is_linked: links(c, self.is_linked),
-            is_pictograph: is_extended_pictographic(c) || (is_extend(value) && self.is_pictograph),
+            is_pictograph: is_pictograph(c, value) || (is_extend(value) && self.is_pictograph),
             is_joined: is_zwj(value) && self.is_pictograph,
             is_half_flag: is_regional(value) && !self.is_half_flag,
         }
     }
 
     /// Whether a cluster ends before the next character. There has to be a character before it.
-    #[inline]
+    #[inline(always)]
     pub(crate) fn ends_before(self, next: char) -> bool
         ensures { (before after : List ℕ) → before ≢ [] → self ≡ break_state_of before →
             result ≡ is_grapheme_break true before (next ∷ after) }
     {
-        if is_printable(next) {
+        if is_ordinary(next) {
             return break_by_pair(self.last, Other).unwrap_or(true);
         }
         let value = GraphemeClusterBreak::for_char(next);
@@ -80,12 +90,20 @@ impl BreakState {
     }
 }
 
-/// Whether the character is printable ASCII, which none of the tables lists.
-#[inline]
-fn is_printable(c: char) -> bool
-    ensures { result ≡ is_in_range 0x20 0x7E c }
+/// Whether the character is in a few common ranges: printable ASCII, Latin, Greek, Cyrillic, Chinese
+/// and Japanese. No rule on clusters names a character of them.
+#[inline(always)]
+fn is_ordinary(c: char) -> bool
+    ensures { IsTrue result → IsUnnamed c }
 {
-    matches!(c, ' '..='~')
+    match c {
+        '\0'..='\u{1F}' => false,
+        ' '..='~' | '\u{C0}'..='\u{2FF}' | '\u{370}'..='\u{482}' => true,
+        '\u{2010}'..='\u{2027}' | '\u{2500}'..='\u{25A9}' => true,
+        '\u{3001}'..='\u{3029}' | '\u{3041}'..='\u{3096}' | '\u{309B}'..='\u{30FF}' => true,
+        '\u{3400}'..='\u{9FFF}' | '\u{FF01}'..='\u{FF60}' => true,
+        _ => false,
+    }
 }
 
 /// Whether the values of two neighbors alone require or forbid a break, or `None` if they don't
@@ -101,6 +119,21 @@ fn break_by_pair(left: GraphemeClusterBreak, right: GraphemeClusterBreak) -> Opt
         (_, Extend | Zwj | SpacingMark) | (Prepend, _) => Some(false),
         _ => None,
     }
+}
+
+/// Whether a character with this value is a pictograph. No rule on values names one.
+#[inline]
+fn is_pictograph(c: char, value: GraphemeClusterBreak) -> bool
+    ensures { value ≡ grapheme_cluster_break c → result ≡ is_extended_pictographic c }
+{
+    is_other(value) && is_extended_pictographic(c)
+}
+
+#[inline]
+fn is_other(value: GraphemeClusterBreak) -> bool
+    ensures { result ≡ is_other value }
+{
+    matches!(value, Other)
 }
 
 /// Whether a linker and the characters that extend it end with this character.

@@ -7,19 +7,24 @@ ghost use Rattle.std.specs.Cow.{cow_str_bytes, IsBorrowedStr};
 ghost use Rattle.std.specs.Str.{IsCharBoundary};
 ghost use Rattle.ansi_items.specs.Plain.{plain, has_escape};
 ghost use Rattle.ansi_search.specs.Positions.{is_good_range};
-ghost use Rattle.ansi_style.specs.Written.{longest_close};
+ghost use Rattle.ansi_style.specs.Written.{longest_close, longest_start_and_close};
 ghost use Rattle.ansi_columns.specs.Addresses.{address_at};
 ghost use Rattle.ansi_columns.specs.Columns.{columns, FitsUpTo};
+ghost use Rattle.ansi_safe.specs.Cells.{cell};
 ghost use Rattle.ansi_safe.specs.Links.{link_at, longest_link_end};
 ghost use Rattle.ansi_columns.specs.Shown.{truncated_ending, truncated, missing, closing, padded};
-ghost use Rattle.ansi_columns.specs.Wrapped.{wrapped};
+ghost use Rattle.ansi_columns.specs.Slices.{sliced_blanks, sliced};
+ghost use Rattle.ansi_columns.specs.Tabs.{has_tab, expanded};
+ghost use Rattle.ansi_columns.specs.Wrapped.{wrapped, IsWrapped};
 
 use crate::addresses::link_at;
 use crate::fits::fitting_front;
 use crate::shown::{Alignment, pad, truncate};
+use crate::slices::slice;
+use crate::tabs::expand_tabs;
 use crate::walks::Walk;
 use crate::wrap::{AnsiWrap, wrap};
-use ansi_str::AnsiStr;
+use ansi_str::{AnsiRange, AnsiStr};
 use std::alloc::{AllocError, Global};
 use std::borrow::CowStr;
 
@@ -73,20 +78,21 @@ pub trait AnsiColumns: AnsiStr {
     /// The text truncated to `width` columns for display. If the text is cut, a tail such as `…`
     /// follows the cut.
     ///
-    /// A text that fits isn't cut. Any other text is cut, as `ansi_cut` does it, at the end of the
-    /// longest prefix that leaves room for the tail, and the tail is appended unchanged. A tail
-    /// wider than `width` is left out. In each case the link and then the style still open at the
-    /// end of the text are closed, before the tail.
+    /// What is shown is the text of a cell, as `ansi_safe::cells::cell_of` makes it: it is on one
+    /// line and safe. A text that fits isn't cut. Any other text is cut, as `ansi_cut` does it, at
+    /// the end of the longest prefix that leaves room for the tail, and the tail is appended
+    /// unchanged. A tail wider than `width` is left out. In each case the link and then the style
+    /// still open at the end of the text are closed, before the tail.
     ///
-    /// Returns a borrow, and doesn't allocate, if nothing has to be written after the part of the
-    /// text that stays. Otherwise the result is at most as long as the text and the tail together,
-    /// plus 7 bytes for the link and 88 for the style. `Err` means out of memory. Reads no more of
-    /// the text than `ansi_fitting(width)` does, up to twice, and then the part that stays.
-    /// (`truncate_str` of `console`; closing links and styles, own.)
+    /// Returns a borrow, and doesn't allocate, if nothing of the text has to be changed, and
+    /// nothing has to be written after the part that stays. Otherwise the result is at most as long
+    /// as the text and the tail together, plus 7 bytes for the link and 88 for the style. `Err`
+    /// means out of memory. (`truncate_str` of `console`; the text of a cell, and closing links and
+    /// styles, own.)
     ///
     /// ```
-    /// let cut = "\x1b[31m日本語\x1b[39m".ansi_truncate(rt.alloc(), 5, "…")?;
-    /// assert!(rt; cut.as_str() == "\x1b[31m日本\x1b[39m…");
+    /// let cut = "\x1b[31m日本\t語\x1b[39m".ansi_truncate(rt.alloc(), 6, "…")?;
+    /// assert!(rt; cut.as_str() == "\x1b[31m日本 \x1b[39m…");
     /// ```
     final fn ansi_truncate(
         &self,
@@ -95,26 +101,28 @@ pub trait AnsiColumns: AnsiStr {
         tail: &str,
     ) -> Result<CowStr<'_>, AllocError>
         ensures bytes { IfOk result (λ c.
-            cow_str_bytes c ≡ truncated (Self.text self.now) width tail.now) }
-        ensures borrowed { IfOk result (λ c.
-            IsBorrowedStr c ↔ (truncated_ending (Self.text self.now) width tail.now ≡ [])) }
+            cow_str_bytes c ≡ truncated (cell (Self.text self.now)) width tail.now) }
+        ensures borrowed { IfOk result (λ c. IsBorrowedStr c
+            ↔ ((cell (Self.text self.now) ≡ Self.text self.now)
+            × (truncated_ending (cell (Self.text self.now)) width tail.now ≡ []))) }
         ensures len { IfOk result (λ c. length (cow_str_bytes c)
             ≤ length (Self.text self.now) + length tail.now + longest_link_end + longest_close) }
-        ensures takes_no_memory { truncated_ending (Self.text self.now) width tail.now ≡ [] →
-            IsOk result }
+        ensures takes_no_memory { (cell (Self.text self.now) ≡ Self.text self.now)
+            × (truncated_ending (cell (Self.text self.now)) width tail.now ≡ []) → IsOk result }
     {
         truncate(alloc, self.as_text(), width, tail)
     }
 
     /// The text padded with blanks to `width` columns for display.
     ///
-    /// The link and then the style still open at the end of the text are closed before the blanks.
-    /// A text of `width` or more columns gets no blanks.
+    /// What is shown is the text of a cell, as for `ansi_truncate`. The link and then the style
+    /// still open at the end of the text are closed before the blanks. A text of `width` or more
+    /// columns gets no blanks.
     ///
-    /// Returns a borrow, and doesn't allocate, if no blank is needed and nothing is open. Otherwise
-    /// the result is at most as long as the text, plus one byte for each missing column, 7 for the
-    /// link and 88 for the style. `Err` means out of memory. (`pad_str` of `console`; closing links
-    /// and styles, own.)
+    /// Returns a borrow, and doesn't allocate, if nothing of the text has to be changed, no blank
+    /// is needed and nothing is open. Otherwise the result is at most as long as the text, plus one
+    /// byte for each missing column, 7 for the link and 88 for the style. `Err` means out of memory.
+    /// (`pad_str` of `console`; the text of a cell, and closing links and styles, own.)
     ///
     /// ```
     /// let padded = "\x1b[41mab".ansi_pad(rt.alloc(), 5, Alignment::Center)?;
@@ -127,25 +135,85 @@ pub trait AnsiColumns: AnsiStr {
         alignment: Alignment,
     ) -> Result<CowStr<'_>, AllocError>
         ensures bytes { IfOk result (λ c.
-            cow_str_bytes c ≡ padded (Self.text self.now) width alignment) }
+            cow_str_bytes c ≡ padded (cell (Self.text self.now)) width alignment) }
         ensures borrowed { IfOk result (λ c. IsBorrowedStr c
-            ↔ ((missing (Self.text self.now) width ≡ 0) × (closing (Self.text self.now) ≡ []))) }
+            ↔ ((cell (Self.text self.now) ≡ Self.text self.now)
+            × (missing (cell (Self.text self.now)) width ≡ 0)
+            × (closing (cell (Self.text self.now)) ≡ []))) }
         ensures len { IfOk result (λ c. length (cow_str_bytes c) ≤ length (Self.text self.now)
-            + missing (Self.text self.now) width + longest_link_end + longest_close) }
-        ensures takes_no_memory { (missing (Self.text self.now) width ≡ 0)
-            × (closing (Self.text self.now) ≡ []) → IsOk result }
+            + missing (cell (Self.text self.now)) width + longest_link_end + longest_close) }
+        ensures takes_no_memory { (cell (Self.text self.now) ≡ Self.text self.now)
+            × (missing (cell (Self.text self.now)) width ≡ 0)
+            × (closing (cell (Self.text self.now)) ≡ []) → IsOk result }
     {
         pad(alloc, self.as_text(), width, alignment)
+    }
+
+    /// The text with each TAB expanded: it becomes blanks up to the next multiple of `stop` columns
+    /// from the beginning of its line.
+    ///
+    /// Lines end at a line feed. Sequences and controls have no columns: those before a TAB are the
+    /// columns of the text of a cell. The blanks are in the style and the link of the TAB. All else stays as it is. If `stop`
+    /// is 0, a TAB becomes nothing. Returns a borrow, and doesn't allocate, if the plain text has no
+    /// TAB. `Err` means out of memory. (`expandtabs` of Python; sequences, own.)
+    ///
+    /// ```
+    /// let expanded = "a\x1b[4m\tb\n日\tc".ansi_expand_tabs(rt.alloc(), 4)?;
+    /// assert!(rt; expanded.as_str() == "a\x1b[4m   b\n日  c");
+    /// ```
+    final fn ansi_expand_tabs(&self, alloc: Global, stop: usize) -> Result<CowStr<'_>, AllocError>
+        ensures bytes { IfOk result (λ c.
+            cow_str_bytes c ≡ expanded stop (Self.text self.now)) }
+        ensures borrowed { IfOk result (λ c.
+            IsBorrowedStr c ↔ IsFalse (has_tab (Self.text self.now))) }
+        ensures takes_no_memory { IsFalse (has_tab (Self.text self.now)) → IsOk result }
+    {
+        expand_tabs(alloc, self.as_text(), stop)
+    }
+
+    /// The columns of the text in a range, ready for display. The first column is 0.
+    ///
+    /// The text is taken as `ansi_safe::cells::cell_of` makes it: on one line, and of printing
+    /// characters, select graphic renditions and links alone. A slice that doesn't begin at the
+    /// column 0 begins with the start of the style that is open there and the sequence that opened
+    /// the link. Text and sequences follow, and then what closes the link and the style still open.
+    ///
+    /// If a cluster is only partly in the range, each of its columns in the range is a blank, in
+    /// the style and the link of its first byte. A cluster of no columns belongs to the column
+    /// after it, or to the last one. A slice without a column is empty: an end at or before the
+    /// start, or a start past the last column.
+    ///
+    /// The result is at most as long as the text, plus one byte for each blank, 251 for the styles
+    /// and 7 for the link. `Err` means out of memory. (Own.)
+    ///
+    /// ```
+    /// let part = "\x1b[31m日本語\x1b[39m".ansi_slice(rt.alloc(), 1..4)?;
+    /// assert!(rt; part.as_str() == "\x1b[31m 本\x1b[39m");
+    /// ```
+    final fn ansi_slice<R: AnsiRange>(
+        &self,
+        alloc: Global,
+        columns: R,
+    ) -> Result<CowStr<'_>, AllocError>
+        ensures bytes { IfOk result (λ c. cow_str_bytes c
+            ≡ sliced (cell (Self.text self.now)) (R.start columns) (R.end columns)) }
+        ensures len { IfOk result (λ c. length (cow_str_bytes c)
+            ≤ length (cell (Self.text self.now))
+            + sliced_blanks (cell (Self.text self.now)) (R.start columns) (R.end columns)
+            + longest_start_and_close + longest_link_end) }
+    {
+        slice(alloc, self.as_text(), columns.start(), columns.end())
     }
 
     /// The lines of the text wrapped at `width` columns, in order, ready for display.
     ///
     /// `Lines::new` says where lines begin and end. At the end of a line the link and then the
-    /// style that it leaves open are closed. They are opened again at the beginning of the next
-    /// line: first the start of the style, then the sequence that opened the link. A sequence
-    /// belongs to the first line that doesn't end before it. A sequence after the end of the last
-    /// line belongs to the last line. On a line without text and sequences nothing is opened and
-    /// closed: it is empty. (Own.)
+    /// style still open are closed, as at the end of a cut. They are opened again at the beginning
+    /// of the next line: first the start of the style, then the sequence that opened the link. A
+    /// code that isn't known is closed at the end of each line up to a reset, and isn't opened
+    /// again. A sequence belongs to the first line that doesn't end before it. A sequence after the
+    /// end of the last line belongs to the last line. On a line without text and sequences nothing
+    /// is opened and closed: it is empty. (Own.)
     ///
     /// ```
     /// let mut lines = "\x1b[31mlion tiger".ansi_wrap(rt.alloc(), 5);
@@ -154,6 +222,7 @@ pub trait AnsiColumns: AnsiStr {
     /// assert!(rt; matches!(&lines.next(), None));
     /// ```
     final fn ansi_wrap(&self, alloc: Global, width: usize) -> AnsiWrap<'_>
+        ensures first_fit { IsWrapped (Self.text self.now) width result }
         ensures lines { result ≡ wrapped (Self.text self.now) width }
         ensures takes_no_memory { IsFalse (has_escape (Self.text self.now)) →
             IsTrue (list_all (λ l. l.borrowed) result) }
@@ -191,11 +260,15 @@ pub fn width(text: &str) -> usize
 {
     let mut walk = Walk::start(text);
     let mut total = 0;
-    'clusters: while let Some((next, width)) = walk.next_cluster(text) {
-        total += width;
+    'clusters: loop {
+        let len = walk.printable_ahead(text, usize::MAX);
+        walk = walk.past_printable(text, len);
+        let Some((next, columns)) = walk.next_cluster(text) else {
+            return total + len;
+        };
+        total += len + columns;
         walk = next;
     }
-    total
 }
 
 /// Like [`AnsiColumns::ansi_fitting`].

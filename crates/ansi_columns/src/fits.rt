@@ -23,7 +23,13 @@ pub(crate) fn fitting_front(text: &str, width: usize) -> Front
 {
     let mut walk = Walk::start(text);
     let mut left = width;
-    'clusters: while let Some((next, columns)) = walk.next_cluster(text) {
+    'clusters: loop {
+        let len = walk.printable_ahead(text, left);
+        walk = walk.past_printable(text, len);
+        left -= len;
+        let Some((next, columns)) = walk.next_cluster(text) else {
+            return Front { walk, is_all: true };
+        };
         if left < columns {
             return Front {
                 walk,
@@ -33,5 +39,4 @@ pub(crate) fn fitting_front(text: &str, width: usize) -> Front
         left -= columns;
         walk = next;
     }
-    Front { walk, is_all: true }
 }

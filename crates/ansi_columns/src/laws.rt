@@ -3,7 +3,7 @@
 //! Each function states one law as its contract. It does nothing and returns nothing. A body that
 //! needs the law calls it. (Own.)
 ghost use Rattle.std.specs.Prelude.{◌≡◌, ◌<◌, ◌≤◌, ◌+◌, ◌-◌, ◌++◌, ℕ, min, max, List, [], length};
-ghost use Rattle.std.specs.Prelude.{map, take, slice_range, slice_get, Some, option_map};
+ghost use Rattle.std.specs.Prelude.{map, take, slice_range};
 ghost use Rattle.std.specs.Prelude.{if◌then◌else◌, IsTrue, All};
 ghost use Rattle.std.specs.List.{list_all};
 ghost use Rattle.std.specs.Int.{is_in_range};
@@ -14,10 +14,14 @@ ghost use Rattle.ansi_style.specs.Styled.{styled, residue};
 ghost use Rattle.ansi_columns.specs.declared.shown.Alignment.{Alignment};
 ghost use Rattle.ansi_columns.specs.Addresses.{linked, without_link};
 ghost use Rattle.ansi_columns.specs.Columns.{clusters, columns, FitsUpTo, IsClusterBoundary};
-ghost use Rattle.ansi_columns.specs.Lines.{lines, AreLinesFrom, reassembled};
-ghost use Rattle.ansi_safe.specs.Links.{link_of};
+ghost use Rattle.ansi_columns.specs.FirstFit.{IsFirstFit};
+ghost use Rattle.ansi_columns.specs.Lines.{lines, AreLinesFrom, BeginWithBlanks, reassembled};
+ghost use Rattle.ansi_safe.specs.Cells.{cell};
+ghost use Rattle.ansi_safe.specs.Links.{link_of, IsClosed};
 ghost use Rattle.ansi_columns.specs.Shown.{has_tail, truncated_end, truncated, missing};
-ghost use Rattle.ansi_columns.specs.Shown.{before_text, blanks, padded};
+ghost use Rattle.ansi_columns.specs.Shown.{before_text, blanks, padded, without_style};
+ghost use Rattle.ansi_columns.specs.Screens.{screen, screen_slice, EndsAtBlanks};
+ghost use Rattle.ansi_columns.specs.Slices.{sliced_up_to};
 ghost use Rattle.ansi_columns.specs.Wrapped.{wrapped};
 
 /// Printable ASCII is as wide as it is long.
@@ -43,56 +47,64 @@ pub fn columns_add_up()
         columns (x ++ y) ≡ columns x + columns y }
 {}
 
-/// The lines of a text are stretches of it, in order, the first at its beginning. The text left out
-/// between two lines is blanks and then at most one line end. The text left out after the last line
+/// First fit has exactly one solution: for a text, `lines`.
+pub fn first_fit_has_one_solution()
+    ensures lines { (x : List ℕ) (width : ℕ) → IsFirstFit width (clusters x) (lines width x) }
+    ensures unique { (width : ℕ) (cs : List (List ℕ)) (ls ls' : List (ℕ × ℕ)) →
+        IsFirstFit width cs ls → IsFirstFit width cs ls' → ls ≡ ls' }
+{}
+
+/// The lines of a text are stretches of it, in order. The text left out between two lines is blanks
+/// with at most one line end among them. The text left out before the first line and after the last
 /// is blanks alone. The lines together with what was left out are the text.
 pub fn lines_lose_blanks_and_line_ends()
-    ensures begin { (x : List ℕ) (width : ℕ) →
-        option_map (λ (line : ℕ × ℕ). line.0) (slice_get (lines width x) 0) ≡ Some 0 }
+    ensures begin { (x : List ℕ) (width : ℕ) → IsUtf8 x → BeginWithBlanks x (lines width x) }
     ensures left_out { (x : List ℕ) (width : ℕ) → IsUtf8 x → AreLinesFrom x 0 (lines width x) }
     ensures text { (x : List ℕ) (width : ℕ) → IsUtf8 x → reassembled x 0 (lines width x) ≡ x }
 {}
 
-/// A truncated text is whole if the text and the tail are whole. Its plain text is the prefix of
-/// the plain text up to the cut, and then the plain tail if the tail is written. If both are
-/// printable ASCII, it has as many columns as the text, or `width` if the text has more. Any
-/// truncated text has at most `width` columns if a cluster ends before the tail.
+/// A truncated text is whole if its tail is. Its plain text is the prefix of the cell's plain text
+/// up to the cut, and then the plain tail if the tail is written. If both are printable ASCII, it
+/// has as many columns as the cell, or `width` if the cell has more. Any truncated text has at most
+/// `width` columns if a cluster ends before the tail.
 pub fn truncated_fits()
-    ensures whole { (t : List ℕ) (width : ℕ) (tail : List ℕ) → IsTrue (is_whole t) →
-        IsTrue (is_whole tail) → IsTrue (is_whole (truncated t width tail)) }
-    ensures plain { (t : List ℕ) (width : ℕ) (tail : List ℕ) → IsTrue (is_whole t) →
-        IsTrue (is_whole tail) →
-        plain (truncated t width tail) ≡ take (truncated_end t width tail) (plain t)
-        ++ (if has_tail t width tail then plain tail else []) }
-    ensures columns { (t : List ℕ) (width : ℕ) (tail : List ℕ) →
-        IsTrue (list_all (is_in_range 0x20 0x7E) (plain t)) →
-        IsTrue (list_all (is_in_range 0x20 0x7E) (plain tail)) → IsTrue (is_whole t) →
-        IsTrue (is_whole tail) →
-        columns (plain (truncated t width tail)) ≡ min (columns (plain t)) width }
+    ensures whole { (t : List ℕ) (width : ℕ) (tail : List ℕ) → IsUtf8 t →
+        IsTrue (is_whole tail) → IsTrue (is_whole (truncated (cell t) width tail)) }
+    ensures plain { (t : List ℕ) (width : ℕ) (tail : List ℕ) → IsUtf8 t →
+        IsTrue (is_whole tail) → plain (truncated (cell t) width tail)
+        ≡ take (truncated_end (cell t) width tail) (plain (cell t))
+        ++ (if has_tail (cell t) width tail then plain tail else []) }
+    ensures columns { (t : List ℕ) (width : ℕ) (tail : List ℕ) → IsUtf8 t →
+        IsTrue (list_all (is_in_range 0x20 0x7E) (plain (cell t))) →
+        IsTrue (list_all (is_in_range 0x20 0x7E) (plain tail)) → IsTrue (is_whole tail) →
+        columns (plain (truncated (cell t) width tail)) ≡ min (columns (plain (cell t))) width }
     ensures within { (t : List ℕ) (width : ℕ) (tail : List ℕ) → IsUtf8 t → IsUtf8 tail →
-        IsTrue (is_whole t) → IsTrue (is_whole tail) →
-        IsClusterBoundary (plain (truncated t width tail)) (truncated_end t width tail) →
-        columns (plain (truncated t width tail)) ≤ width }
+        IsTrue (is_whole tail) → IsClusterBoundary (plain (truncated (cell t) width tail))
+        (truncated_end (cell t) width tail) →
+        columns (plain (truncated (cell t) width tail)) ≤ width }
 {}
 
-/// A padded text is whole if the text is whole. Its plain text is that of the text, with blanks
-/// before and after it. It has as many columns as the text, or `width` if the text has fewer,
-/// provided that it is printable ASCII or that a cluster ends on both sides of the text.
+/// A padded text is whole. Its plain text is that of the cell, with blanks before and after it. It
+/// has as many columns as the cell, or `width` if the cell has fewer, provided that it is printable
+/// ASCII or that a cluster ends on both sides of the cell.
 pub fn padded_fills()
-    ensures whole { (t : List ℕ) (width : ℕ) (alignment : Alignment) → IsTrue (is_whole t) →
-        IsTrue (is_whole (padded t width alignment)) }
-    ensures plain { (t : List ℕ) (width : ℕ) (alignment : Alignment) → IsTrue (is_whole t) →
-        plain (padded t width alignment) ≡ blanks (before_text alignment (missing t width))
-        ++ plain t ++ blanks (missing t width - before_text alignment (missing t width)) }
-    ensures columns { (t : List ℕ) (width : ℕ) (alignment : Alignment) →
-        IsTrue (list_all (is_in_range 0x20 0x7E) (plain t)) → IsTrue (is_whole t) →
-        columns (plain (padded t width alignment)) ≡ max (columns (plain t)) width }
+    ensures whole { (t : List ℕ) (width : ℕ) (alignment : Alignment) → IsUtf8 t →
+        IsTrue (is_whole (padded (cell t) width alignment)) }
+    ensures plain { (t : List ℕ) (width : ℕ) (alignment : Alignment) → IsUtf8 t →
+        plain (padded (cell t) width alignment)
+        ≡ blanks (before_text alignment (missing (cell t) width)) ++ plain (cell t)
+        ++ blanks (missing (cell t) width - before_text alignment (missing (cell t) width)) }
+    ensures columns { (t : List ℕ) (width : ℕ) (alignment : Alignment) → IsUtf8 t →
+        IsTrue (list_all (is_in_range 0x20 0x7E) (plain (cell t))) →
+        columns (plain (padded (cell t) width alignment))
+        ≡ max (columns (plain (cell t))) width }
     ensures fills { (t : List ℕ) (width : ℕ) (alignment : Alignment) → IsUtf8 t →
-        IsTrue (is_whole t) → IsClusterBoundary (plain (padded t width alignment))
-        (before_text alignment (missing t width)) →
-        IsClusterBoundary (plain (padded t width alignment))
-        (before_text alignment (missing t width) + length (plain t)) →
-        columns (plain (padded t width alignment)) ≡ max (columns (plain t)) width }
+        IsClusterBoundary (plain (padded (cell t) width alignment))
+        (before_text alignment (missing (cell t) width)) →
+        IsClusterBoundary (plain (padded (cell t) width alignment))
+        (before_text alignment (missing (cell t) width) + length (plain (cell t))) →
+        columns (plain (padded (cell t) width alignment))
+        ≡ max (columns (plain (cell t))) width }
 {}
 
 /// Each line of a wrapped whole text is whole, and leaves no known style open.
@@ -120,25 +132,66 @@ pub fn wrapped_lines_keep_links()
         All (λ l. link_of (marks l.bytes) ≡ []) (wrapped t width) }
 {}
 
-/// The linked bytes of a truncated whole text are those of the text up to the cut, and then those
-/// of the tail if it is written. No link of the text is open at its end.
-pub fn truncated_ends_links()
-    ensures linked { (t : List ℕ) (width : ℕ) (tail : List ℕ) → IsTrue (is_whole t) →
-        IsTrue (is_whole tail) →
-        linked (truncated t width tail) ≡ take (truncated_end t width tail) (linked t)
-        ++ (if has_tail t width tail then linked tail else []) }
-    ensures left_open { (t : List ℕ) (width : ℕ) (tail : List ℕ) → IsTrue (is_whole t) →
-        IsTrue (is_whole tail) → link_of (marks (truncated t width tail))
-        ≡ (if has_tail t width tail then link_of (marks tail) else []) }
+/// A truncated text keeps its styles: its styled bytes are those of the cell up to the cut, and then
+/// those of the tail if it is written. No known style of the cell is open at its end.
+pub fn truncated_keeps_styles()
+    ensures styled { (t : List ℕ) (width : ℕ) (tail : List ℕ) → IsUtf8 t →
+        IsTrue (is_whole tail) → styled (truncated (cell t) width tail)
+        ≡ take (truncated_end (cell t) width tail) (styled (cell t))
+        ++ (if has_tail (cell t) width tail then styled tail else []) }
+    ensures residue { (t : List ℕ) (width : ℕ) (tail : List ℕ) → IsUtf8 t →
+        IsTrue (is_whole tail) → residue (truncated (cell t) width tail)
+        ≡ (if has_tail (cell t) width tail then residue tail else plain_style) }
 {}
 
-/// The linked bytes of a padded whole text are those of the text, with blanks before and after it
-/// that are in no link. No link is open at its end.
+/// A padded text keeps its styles: its styled bytes are those of the cell, with blanks before and
+/// after it that are in the plain style. No known style is open at its end.
+pub fn padded_keeps_styles()
+    ensures styled { (t : List ℕ) (width : ℕ) (alignment : Alignment) → IsUtf8 t →
+        styled (padded (cell t) width alignment)
+        ≡ without_style (blanks (before_text alignment (missing (cell t) width)))
+        ++ styled (cell t) ++ without_style (blanks
+        (missing (cell t) width - before_text alignment (missing (cell t) width))) }
+    ensures residue { (t : List ℕ) (width : ℕ) (alignment : Alignment) → IsUtf8 t →
+        residue (padded (cell t) width alignment) ≡ plain_style }
+{}
+
+/// The linked bytes of a truncated text are those of the cell up to the cut, and then those of the
+/// tail if it is written. No link of the cell is open at its end.
+pub fn truncated_ends_links()
+    ensures linked { (t : List ℕ) (width : ℕ) (tail : List ℕ) → IsUtf8 t →
+        IsTrue (is_whole tail) → linked (truncated (cell t) width tail)
+        ≡ take (truncated_end (cell t) width tail) (linked (cell t))
+        ++ (if has_tail (cell t) width tail then linked tail else []) }
+    ensures left_open { (t : List ℕ) (width : ℕ) (tail : List ℕ) → IsUtf8 t →
+        IsTrue (is_whole tail) → link_of (marks (truncated (cell t) width tail))
+        ≡ (if has_tail (cell t) width tail then link_of (marks tail) else []) }
+{}
+
+/// The linked bytes of a padded text are those of the cell, with blanks before and after it that
+/// are in no link. No link is open at its end.
 pub fn padded_ends_links()
-    ensures linked { (t : List ℕ) (width : ℕ) (alignment : Alignment) → IsTrue (is_whole t) →
-        linked (padded t width alignment)
-        ≡ without_link (blanks (before_text alignment (missing t width))) ++ linked t
-        ++ without_link (blanks (missing t width - before_text alignment (missing t width))) }
-    ensures left_open { (t : List ℕ) (width : ℕ) (alignment : Alignment) → IsTrue (is_whole t) →
-        link_of (marks (padded t width alignment)) ≡ [] }
+    ensures linked { (t : List ℕ) (width : ℕ) (alignment : Alignment) → IsUtf8 t →
+        linked (padded (cell t) width alignment)
+        ≡ without_link (blanks (before_text alignment (missing (cell t) width)))
+        ++ linked (cell t) ++ without_link (blanks
+        (missing (cell t) width - before_text alignment (missing (cell t) width))) }
+    ensures left_open { (t : List ℕ) (width : ℕ) (alignment : Alignment) → IsUtf8 t →
+        link_of (marks (padded (cell t) width alignment)) ≡ [] }
+{}
+
+/// A slice of a whole text is whole, and leaves no known style and no link open.
+pub fn slices_are_closed()
+    ensures whole { (t : List ℕ) (start end : ℕ) → IsUtf8 t → IsTrue (is_whole t) →
+        IsTrue (is_whole (sliced_up_to t start end)) }
+    ensures closed { (t : List ℕ) (start end : ℕ) → IsUtf8 t → IsTrue (is_whole t) →
+        IsClosed (sliced_up_to t start end) }
+{}
+
+/// The screen of a slice of a whole text is the slice of its screen, if a cluster ends where blanks
+/// touch the text between them.
+pub fn slices_show_their_columns()
+    ensures { (t : List ℕ) (start end : ℕ) → IsUtf8 t → IsTrue (is_whole t) →
+        EndsAtBlanks (plain t) start end →
+        screen (sliced_up_to t start end) ≡ screen_slice start end (screen t) }
 {}

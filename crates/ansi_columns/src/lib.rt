@@ -15,6 +15,8 @@ mod from_end;
 pub mod laws;
 pub mod lines;
 pub mod shown;
+pub mod slices;
+pub mod tabs;
 mod walks;
 pub mod wrap;
 

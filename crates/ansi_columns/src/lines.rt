@@ -1,11 +1,16 @@
 //! The beginning and the end of each line of a wrapped text.
-ghost use Rattle.std.specs.Prelude.{◌≡◌, ◌<◌, ◌≤◌, ◌∷◌, Some, IfSome, All};
+ghost use Rattle.std.specs.Prelude.{◌≡◌, ◌+◌, ◌<◌, ◌≤◌, ◌∷◌, Some, IfSome, All};
+ghost use Rattle.std.specs.Prelude.{slice_range};
 ghost use Rattle.ansi_items.specs.Plain.{plain};
 ghost use Rattle.ansi_columns.specs.Lines.{lines, lines_left, is_line_end, is_blank, IsLine};
 ghost use Rattle.ansi_columns.specs.Lines.{IsGoodLine};
-ghost use Rattle.ansi_columns.specs.Walks.{IsWalk, cluster};
+ghost use Rattle.ansi_columns.specs.Columns.{clusters};
+ghost use Rattle.ansi_columns.specs.FirstFit.{IsFirstFit};
+ghost use Rattle.ansi_columns.specs.Walks.{IsWalk, IsPrintable, cluster};
+ghost use Rattle.ansi_columns.specs.Words.{end_after, words_after};
 
 use crate::walks::Walk;
+use memchr::memrchr;
 use std::marker::Model;
 
 /// The lines of a wrapped text, in order, as pairs of positions: the beginning and the end of each
@@ -41,14 +46,14 @@ impl<'t> Lines<'t> {
     /// - A word is a run of clusters other than line ends and U+0020. Blanks at the end of a line
     ///   are left out.
     /// - Blanks at the beginning of the text or after a line end stay if the first word fits after
-    ///   them. Otherwise they become an empty line.
+    ///   them. Otherwise they are left out, and the word begins the line. (wrap-ansi, textwrap.)
     /// - A word wider than `width` begins a line and is broken into the longest pieces that fit,
     ///   each of at least one cluster. Further words may follow its last piece on the same line.
     /// - A text that ends with a line end has an empty last line.
     /// - Width 0 is treated as 1.
     ///
     /// Positions count bytes of the plain text. They are good positions, so each line can be cut
-    /// from the text. Doesn't allocate. (First fit; own.)
+    /// from the text. Doesn't allocate. (First fit, `specs/FirstFit.antt`; own.)
     ///
     /// ```
     /// let mut lines = Lines::new("ab \x1b[1mcd  efg", 5);
@@ -57,6 +62,7 @@ impl<'t> Lines<'t> {
     /// assert!(rt; lines.next() == None);
     /// ```
     pub fn new(text: &'t str, width: usize) -> Lines<'t>
+        ensures first_fit { IsFirstFit width (clusters (plain text.now)) result }
         ensures lines { result ≡ lines width (plain text.now) }
         ensures each { All (IsLine (plain text.now) width) result }
         ensures good { All (IsGoodLine (plain text.now)) result }
@@ -79,24 +85,27 @@ impl<'t> Iterator for Lines<'t> {
     ghost remaining = { item_count (λ s. s) };
 
     fn next(&mut self) -> Option<(usize, usize)> {
-        let start = self.next?;
-        let (end, next) = first_line(self.text, start, self.width);
+        let from = self.next?;
+        let (start, end, next) = first_line(self.text, from, self.width);
         self.next = next;
         Some((start.position, end.position))
     }
 }
 
-/// The end of the line that begins at a walk, and the beginning of the next line.
+/// The beginning and the end of the first line after a walk, and the beginning of the next line.
 ///
-/// Reads the text up to the first cluster that doesn't fit.
-pub(crate) fn first_line(text: &str, start: Walk, width: usize) -> (Walk, Option<Walk>)
+/// Reads the text up to the first cluster that doesn't fit. If an indent is left out, it reads the
+/// word after it again.
+pub(crate) fn first_line(text: &str, start: Walk, width: usize) -> (Walk, Walk, Option<Walk>)
     requires { IsWalk text.now start }
-    ensures end { IsWalk text.now result.0 }
-    ensures ordered { start.position ≤ result.0.position }
-    ensures next { IfSome result.1 (IsWalk text.now) }
-    ensures next_ordered { IfSome result.1 (λ next. result.0.position ≤ next.position) }
+    ensures start { IsWalk text.now result.0 }
+    ensures end { IsWalk text.now result.1 }
+    ensures start_ordered { start.position ≤ result.0.position }
+    ensures ordered { result.0.position ≤ result.1.position }
+    ensures next { IfSome result.2 (IsWalk text.now) }
+    ensures next_ordered { IfSome result.2 (λ next. result.1.position ≤ next.position) }
     ensures lines { lines_left text.now width (Some start)
-        ≡ (start.position, result.0.position) ∷ lines_left text.now width result.1 }
+        ≡ (result.0.position, result.1.position) ∷ lines_left text.now width result.2 }
 {
     let mut here = start;
     // The beginning of the current word, and the end of the words before it.
@@ -105,9 +114,16 @@ pub(crate) fn first_line(text: &str, start: Walk, width: usize) -> (Walk, Option
     // The end of the words read so far.
     let mut end = start;
     let mut columns = 0;
-    'clusters: while let Some((next, more)) = here.next_cluster(text) {
+    'clusters: loop {
+        let len = here.printable_ahead(text, width.saturating_sub(columns));
+        (end_before, word, end) = words_after(text, here, len, end_before, word, end);
+        here = here.past_printable(text, len);
+        columns += len;
+        let Some((next, more)) = here.next_cluster(text) else {
+            return (start, end, None);
+        };
         if is_line_end(text, &here, &next) {
-            return (end, Some(next));
+            return (start, end, Some(next));
         }
         if is_blank(text, &here, &next) {
             end_before = end;
@@ -115,14 +131,74 @@ pub(crate) fn first_line(text: &str, start: Walk, width: usize) -> (Walk, Option
         } else if here.position == start.position || columns + more <= width {
             end = next;
         } else if word.position == start.position {
-            return (end, Some(here));
+            return (start, end, Some(here));
+        } else if end_before.position == start.position {
+            // An indent without room for its word is left out.
+            return first_line(text, word, width);
         } else {
-            return (end_before, Some(word));
+            return (start, end_before, Some(word));
         }
         columns += more;
         here = next;
     }
-    (end, None)
+}
+
+/// The end of the words before the last word, the beginning of that word and the end of all words,
+/// after `len` more bytes of printable ASCII.
+fn words_after(
+    text: &str,
+    here: Walk,
+    len: usize,
+    end_before: Walk,
+    word: Walk,
+    end: Walk,
+) -> (Walk, Walk, Walk)
+    requires here { IsWalk text.now here }
+    requires ahead { 0 < len → IsPrintable text.now here len }
+    requires end_before { IsWalk text.now end_before }
+    requires word { IsWalk text.now word }
+    requires end { IsWalk text.now end }
+    ensures end_before { IsWalk text.now result.0 }
+    ensures word { IsWalk text.now result.1 }
+    ensures end { IsWalk text.now result.2 }
+    ensures positions { (result.0.position, result.1.position, result.2.position) ≡ words_after
+        (slice_range text.now here.offset (here.offset + len)) here.position end_before.position
+        word.position end.position }
+{
+    if len == 0 {
+        return (end_before, word, end);
+    }
+    let bytes = &text.as_bytes()[here.offset..here.offset + len];
+    let after = here.past_printable(text, len);
+    let Some(blank) = memrchr(b' ', bytes) else {
+        return (end_before, word, after);
+    };
+    let before = end_after(text, here, blank, end);
+    let last = here.past_printable(text, blank + 1);
+    let all = if blank + 1 == len { before } else { after };
+    (before, last, all)
+}
+
+/// The end of the words in the `len` bytes of printable ASCII that come next, or `end` if those are
+/// all blanks.
+fn end_after(text: &str, here: Walk, len: usize, end: Walk) -> Walk
+    requires here { IsWalk text.now here }
+    requires ahead { 0 < len → IsPrintable text.now here len }
+    requires end { IsWalk text.now end }
+    ensures walk { IsWalk text.now result }
+    ensures position { result.position ≡ end_after
+        (slice_range text.now here.offset (here.offset + len)) here.position end.position }
+{
+    let bytes = &text.as_bytes()[here.offset..here.offset + len];
+    let mut count = len;
+    'blanks: while 0 < count && bytes[count - 1] == b' ' {
+        count -= 1;
+    }
+    if count == 0 {
+        end
+    } else {
+        here.past_printable(text, count)
+    }
 }
 
 /// Whether the cluster between two walks is the end of a line.

@@ -1,26 +1,23 @@
 //! Truncated and padded texts, ready for display: the style and link still open at their end are
 //! closed.
-ghost use Rattle.std.specs.Prelude.{◌≡◌, ◌↔◌, ◌+◌, ◌≤◌, ◌++◌, [], length, if◌then◌else◌, IsTrue};
+ghost use Rattle.std.specs.Prelude.{◌≡◌, ◌↔◌, ◌+◌, ◌==◌, ◌≤◌, ◌++◌, [], length, take, if◌then◌else◌};
 ghost use Rattle.std.specs.Prelude.{IsOk, IfOk, OnOk, string_bytes};
 ghost use Rattle.std.specs.Cow.{cow_str_bytes, IsBorrowedStr};
-ghost use Rattle.ansi_items.specs.Plain.{plain};
+ghost use Rattle.std.specs.Str.{IsCharBoundary};
 ghost use Rattle.ansi_search.specs.Offsets.{StandsIn};
 ghost use Rattle.ansi_style.specs.States.{rendition_of};
 ghost use Rattle.ansi_style.specs.Written.{close, longest_close};
-ghost use Rattle.ansi_safe.specs.Links.{link_end, longest_link_end};
+ghost use Rattle.ansi_safe.specs.Cells.{cell};
+ghost use Rattle.ansi_safe.specs.Links.{longest_link_end};
 ghost use Rattle.ansi_columns.specs.Shown.{has_tail, truncated_end, truncated_ending, truncated};
 ghost use Rattle.ansi_columns.specs.Shown.{missing, before_text, blanks, closing, padded};
 
 use crate::columns;
 use crate::fits::fitting_front;
-use ansi_safe::links::{Pen, pen_after};
-use ansi_style::styles;
+use ansi_safe::cells::cell_of;
+use ansi_safe::links::{Ending, LONGEST_ENDING, pen_after};
 use std::alloc::{AllocError, Allocator};
 use std::borrow::CowStr;
-
-/// The greatest length of what closes a link and a style, in bytes: `longest_link_end` and
-/// `longest_close`.
-const LONGEST_CLOSING: usize = 95;
 
 /// The position of a text among the blanks that pad it. (`console`.)
 ///
@@ -44,26 +41,30 @@ pub enum Alignment {
 /// let cut = truncate(rt.alloc(), "\x1b[31m日本語\x1b[39m", 5, "…")?;
 /// assert!(rt; cut.as_str() == "\x1b[31m日本\x1b[39m…");
 /// ```
-pub fn truncate<'t, A: Allocator>(
+pub fn truncate<'t, A: Allocator + Copy>(
     alloc: A,
     text: &'t str,
     width: usize,
     tail: &str,
 ) -> Result<CowStr<'t, A>, AllocError>
-    ensures bytes { IfOk result (λ c. cow_str_bytes c ≡ truncated text.now width tail.now) }
-    ensures borrowed { IfOk result (λ c.
-        IsBorrowedStr c ↔ (truncated_ending text.now width tail.now ≡ [])) }
+    ensures bytes { IfOk result (λ c.
+        cow_str_bytes c ≡ truncated (cell text.now) width tail.now) }
+    ensures borrowed { IfOk result (λ c. IsBorrowedStr c ↔ ((cell text.now ≡ text.now)
+        × (truncated_ending (cell text.now) width tail.now ≡ []))) }
     ensures len { IfOk result (λ c. length (cow_str_bytes c)
         ≤ length text.now + length tail.now + longest_link_end + longest_close) }
-    ensures takes_no_memory { truncated_ending text.now width tail.now ≡ [] → IsOk result }
+    ensures takes_no_memory { (cell text.now ≡ text.now)
+        × (truncated_ending (cell text.now) width tail.now ≡ []) → IsOk result }
 {
-    let (end, tail) = truncation(text, width, tail);
-    let front = &text[..end];
-    let pen = pen_after(front);
-    if ends_here(&pen, tail) {
-        return Ok(CowStr::Borrowed(front));
+    let cell = cell_of(alloc, text)?;
+    let (end, tail) = truncation(cell.as_str(), width, tail);
+    let front = up_to(cell, end);
+    let ending = pen_after(front.as_str()).ending();
+    if is_nothing(&ending, tail.len()) {
+        return Ok(front);
     }
-    let mut out = closed(alloc, 0, front, &pen, tail.len())?;
+    let mut out = write_after(alloc, 0, front, tail.len())?;
+    ending.push_to(&mut out)?;
     out.push_str(tail)?;
     Ok(CowStr::Owned(out))
 }
@@ -85,33 +86,52 @@ fn truncation<'a>(text: &str, width: usize, tail: &'a str) -> (usize, &'a str)
     (fitting_front(text, width - tail_width).walk.offset, tail)
 }
 
-/// Whether the pen has nothing to close, and the tail is empty.
-fn ends_here(pen: &Pen<'_>, tail: &str) -> bool
-    ensures { IsTrue result
-        ↔ ((link_end pen.now.link.now ++ close (rendition_of pen.now.style)) ++ tail.now ≡ []) }
+/// Whether an ending and `more` bytes are no byte.
+fn is_nothing(ending: &Ending, more: usize) -> bool
+    ensures { result ≡ (length (ending.now.link_end.now
+        ++ close (rendition_of ending.now.style)) + more == 0) }
 {
-    tail.is_empty() && pen.link.is_empty() && !styles::has_close(&pen.style)
+    more == 0 && ending.is_empty()
 }
 
-/// `before` blanks, the text, and what closes the link and the style of the pen. The string has
-/// room for `more` further bytes.
-fn closed<A: Allocator>(
+/// The front of a text, up to an offset.
+fn up_to<A: Allocator>(text: CowStr<'_, A>, end: usize) -> CowStr<'_, A>
+    requires { IsCharBoundary (cow_str_bytes text) end }
+    ensures bytes { cow_str_bytes result ≡ take end (cow_str_bytes text.entry) }
+    ensures borrowed { IsBorrowedStr result ↔ IsBorrowedStr text.entry }
+{
+    match text {
+        CowStr::Borrowed(text) => CowStr::Borrowed(&text[..end]),
+        CowStr::Owned(mut text) => {
+            text.truncate(end);
+            CowStr::Owned(text)
+        }
+    }
+}
+
+/// `before` blanks and a text. The string has room for an ending and for `more` further bytes.
+fn write_after<A: Allocator>(
     alloc: A,
     before: usize,
-    text: &str,
-    pen: &Pen<'_>,
+    text: CowStr<'_, A>,
     more: usize,
 ) -> Result<String<A>, AllocError>
-    ensures { IfOk result (λ s. string_bytes s ≡ (blanks before ++ text.now)
-        ++ (link_end pen.now.link.now ++ close (rendition_of pen.now.style))) }
+    ensures { IfOk result (λ s. string_bytes s ≡ blanks before ++ cow_str_bytes text.entry) }
 {
-    let most = (text.len() + LONGEST_CLOSING).saturating_add(more);
-    let mut out = String::with_capacity(alloc, most)?;
-    push_blanks(&mut out, before)?;
-    out.push_str(text)?;
-    out.push_str(pen.link_end())?;
-    styles::write_close(&pen.style, &mut out)?;
-    Ok(out)
+    let room = more.saturating_add(LONGEST_ENDING);
+    match text {
+        CowStr::Owned(mut text) if before == 0 => {
+            text.reserve(room)?;
+            Ok(text)
+        }
+        text => {
+            let most = before.saturating_add(text.len()).saturating_add(room);
+            let mut out = String::with_capacity(alloc, most)?;
+            push_blanks(&mut out, before)?;
+            out.push_str(text.as_str())?;
+            Ok(out)
+        }
+    }
 }
 
 /// Like `AnsiColumns::ansi_pad`, with any allocator. The result may borrow from the text and lives
@@ -121,26 +141,29 @@ fn closed<A: Allocator>(
 /// let padded = pad(rt.alloc(), "\x1b[31m日本", 6, Alignment::Right)?;
 /// assert!(rt; padded.as_str() == "  \x1b[31m日本\x1b[39m");
 /// ```
-pub fn pad<'t, A: Allocator>(
+pub fn pad<'t, A: Allocator + Copy>(
     alloc: A,
     text: &'t str,
     width: usize,
     alignment: Alignment,
 ) -> Result<CowStr<'t, A>, AllocError>
-    ensures bytes { IfOk result (λ c. cow_str_bytes c ≡ padded text.now width alignment) }
-    ensures borrowed { IfOk result (λ c.
-        IsBorrowedStr c ↔ ((missing text.now width ≡ 0) × (closing text.now ≡ []))) }
+    ensures bytes { IfOk result (λ c. cow_str_bytes c ≡ padded (cell text.now) width alignment) }
+    ensures borrowed { IfOk result (λ c. IsBorrowedStr c ↔ ((cell text.now ≡ text.now)
+        × (missing (cell text.now) width ≡ 0) × (closing (cell text.now) ≡ []))) }
     ensures len { IfOk result (λ c. length (cow_str_bytes c)
-        ≤ length text.now + missing text.now width + longest_link_end + longest_close) }
-    ensures takes_no_memory { (missing text.now width ≡ 0) × (closing text.now ≡ []) → IsOk result }
+        ≤ length text.now + missing (cell text.now) width + longest_link_end + longest_close) }
+    ensures takes_no_memory { (cell text.now ≡ text.now)
+        × (missing (cell text.now) width ≡ 0) × (closing (cell text.now) ≡ []) → IsOk result }
 {
-    let missing = width.saturating_sub(columns::width(text));
-    let pen = pen_after(text);
-    if missing == 0 && ends_here(&pen, "") {
-        return Ok(CowStr::Borrowed(text));
+    let cell = cell_of(alloc, text)?;
+    let missing = width.saturating_sub(columns::width(cell.as_str()));
+    let ending = pen_after(cell.as_str()).ending();
+    if is_nothing(&ending, missing) {
+        return Ok(cell);
     }
     let before = alignment.before_text(missing);
-    let mut out = closed(alloc, before, text, &pen, missing)?;
+    let mut out = write_after(alloc, before, cell, missing)?;
+    ending.push_to(&mut out)?;
     push_blanks(&mut out, missing - before)?;
     Ok(CowStr::Owned(out))
 }
@@ -163,7 +186,7 @@ impl Alignment {
 }
 
 /// Appends `count` blanks. `Err` means out of memory; what was appended before the error stays.
-fn push_blanks<A: Allocator>(out: &mut String<A>, count: usize) -> Result<(), AllocError>
+pub(crate) fn push_blanks<A: Allocator>(out: &mut String<A>, count: usize) -> Result<(), AllocError>
     ensures { OnOk result (string_bytes out.new ≡ string_bytes out.old ++ blanks count) }
 {
     for _ in 0..count {

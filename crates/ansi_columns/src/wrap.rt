@@ -3,7 +3,7 @@
 ghost use Rattle.std.specs.Prelude.{◌≡◌, IsTrue, IsFalse};
 ghost use Rattle.std.specs.List.{list_all};
 ghost use Rattle.ansi_items.specs.Plain.{has_escape};
-ghost use Rattle.ansi_columns.specs.Wrapped.{wrapped};
+ghost use Rattle.ansi_columns.specs.Wrapped.{wrapped, IsWrapped};
 
 pub(crate) mod spans;
 
@@ -49,6 +49,7 @@ impl<'t, A: Allocator> Model for AnsiWrap<'t, A> {
 /// assert!(rt; matches!(&first, Some(Ok(line)) if line.as_str() == "\x1b[1mlion\x1b[22m"));
 /// ```
 pub fn wrap<'t, A: Allocator>(alloc: A, text: &'t str, width: usize) -> AnsiWrap<'t, A>
+    ensures first_fit { IsWrapped text.now width result }
     ensures lines { result ≡ wrapped text.now width }
     ensures takes_no_memory { IsFalse (has_escape text.now) →
         IsTrue (list_all (λ l. l.borrowed) result) }

@@ -1,7 +1,7 @@
 //! Reads a text, and writes each line without its sequences, or edited as if they weren't there.
 #![tactic(auto)]
 
-use ansi_lines_io::host::{HostIn, HostOut};
+use ansi_io::host::{HostIn, HostOut};
 use ansi_lines_runs::runs::{prepare, run};
 use std::env;
 use std::io::{self, BufWriter};

@@ -2,7 +2,7 @@
 use Rattle.std.proofs.Common.{◌≡◌, List, [], ◌++◌, ℕ, Bool, true, false, ◌||◌, Option, None, Some, IfSome, refl, sym, ap, ◌∙◌, append_assoc, append-nil}
 use Rattle.std.specs.Io.KnownBytes.{append_known}
 use Rattle.ansi_lines_runs.specs.Lines.{WritesBeginning}
-use Rattle.ansi_lines_io.proofs.Known.{append_known-nil, append_known-twice}
+use Rattle.ansi_io.proofs.Known.{append_known-nil, append_known-twice}
 
 -- the bytes taken since, and then this rest, are all of these
 pub record HasWritten (old new : Option (List ℕ)) (all rest : List ℕ) : Type 0 where

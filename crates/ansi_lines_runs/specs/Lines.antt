@@ -5,8 +5,8 @@ use Rattle.std.specs.Io.KnownBytes.{append_known}
 use Rattle.ansi_str.specs.Plain.{plain}
 use Rattle.ansi_str.specs.Edited.{edited}
 use Rattle.ansi_lines_runs.specs.Words.{Work, Stripped, Changed}
-use Rattle.ansi_lines_io.specs.declared.stop.Stop.{Stop}
-use Rattle.ansi_lines_io.specs.declared.stop.Stop.TheVariants.{Refused, BadInput, OutOfMemory, BadWords, WriteFailed}
+use Rattle.ansi_io.specs.declared.stop.Stop.{Stop}
+use Rattle.ansi_io.specs.declared.stop.Stop.TheVariants.{Refused, BadInput, OutOfMemory, BadWords, WriteFailed}
 
 -- the byte that ends a line is the line feed of ASCII
 abbrev pub line_feed : ℕ

@@ -1,8 +1,8 @@
 -- What a run writes and reports.
 use Rattle.std.specs.Prelude.{◌==◌, ℕ, List, [], Option, None, Some, Result, Ok, Err, String, map, string_bytes, codes, if◌then◌else◌, IsNone, IsSome, ⊤}
 use Rattle.std.specs.Option.{option_and_then, option_map_or}
-use Rattle.ansi_lines_io.specs.declared.stop.Stop.{Stop}
-use Rattle.ansi_lines_io.specs.declared.stop.Stop.TheVariants.{Refused, BadWords, BadInput, WriteFailed, OutOfMemory}
+use Rattle.ansi_io.specs.declared.stop.Stop.{Stop}
+use Rattle.ansi_io.specs.declared.stop.Stop.TheVariants.{Refused, BadWords, BadInput, WriteFailed, OutOfMemory}
 use Rattle.ansi_lines_runs.specs.Lines.{answers, first_refused}
 use Rattle.ansi_lines_runs.specs.Words.{work_asked}
 

@@ -9,8 +9,8 @@ ghost use Rattle.ansi_lines_runs.specs.Lines.{HasFirstLine, StopsWriting, Writes
 ghost use Rattle.ansi_lines_runs.specs.Lines.{WritesBeginning};
 
 use crate::words::Job;
-use ansi_lines_io::devices::{Sink, WriteFault};
-use ansi_lines_io::stop::Stop;
+use ansi_io::devices::{Sink, WriteFault};
+use ansi_io::stop::Stop;
 use ansi_str::ansitok::{Kind, Scanner};
 use memchr::memchr;
 use std::alloc::Allocator;

@@ -2,18 +2,18 @@
 ghost use Rattle.std.specs.Prelude.{◌≡◌, ◌≤◌, ◌+◌, ◌⊎◌, false, true, Err, IfErr, IfOk, IfSome};
 ghost use Rattle.std.specs.Prelude.{IsErr, IsErrOf, IsNone, IsOk, IsSome, Ok, OnOk};
 ghost use Rattle.std.specs.Io.KnownBytes.{append_known};
-ghost use Rattle.ansi_lines_io.specs.Devices.{count_after};
+ghost use Rattle.ansi_io.specs.Devices.{count_after};
 ghost use Rattle.ansi_lines_runs.specs.Lines.{WritesBeginning};
-ghost use Rattle.ansi_lines_io.specs.Reading.{max_reads, IsBadInput, IsGivenUp, IsRead, IsUnfit};
+ghost use Rattle.ansi_io.specs.Reading.{max_reads, IsBadInput, IsGivenUp, IsRead, IsUnfit};
 ghost use Rattle.ansi_lines_runs.specs.Runs.{AreBadWords, AreGoodWords, IfAnswered, MatchesWords};
 ghost use Rattle.ansi_lines_runs.specs.Runs.{output_of, refused_line, message_of_status, words_of};
-ghost use Rattle.ansi_lines_io.specs.Stops.{refusal};
+ghost use Rattle.ansi_io.specs.Stops.{refusal};
 
 use crate::lines::write_lines;
 use crate::words::parse;
-use ansi_lines_io::devices::{Sink, Source};
-use ansi_lines_io::reading::read_text;
-use ansi_lines_io::stop::Stop;
+use ansi_io::devices::{Sink, Source};
+use ansi_io::reading::read_text;
+use ansi_io::stop::Stop;
 use std::alloc::Allocator;
 use std::io;
 

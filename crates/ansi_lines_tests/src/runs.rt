@@ -8,7 +8,7 @@ mod rows;
 pub mod statuses;
 mod views;
 
-use ansi_lines_io::fake_device::{FakeDevice, Outcome};
+use ansi_io::fake_device::{FakeDevice, Outcome};
 use ansi_lines_runs::runs::run;
 use std::alloc::{AllocError, Allocator, Global};
 use std::fmt::Debug;

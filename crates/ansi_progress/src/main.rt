@@ -1,8 +1,8 @@
 //! Prints a progress line for each line `NAME DONE TOTAL` of its input, in the styles of a sample.
 //!
-//! The first argument is the sample, such as `\e[32m#\e[90m-`: the text for a step that is done,
-//! and then, in another style, the text for a step that is left. In a name, sequences other than
-//! select graphic renditions are left out, and so are control characters.
+//! The first argument is the sample: the text for a step that is done, and then, in another style,
+//! the text for a step that is left, such as what `printf '\033[32m#\033[90m-'` writes. In a name,
+//! sequences other than select graphic renditions are left out, and so are control characters.
 #![tactic(auto)]
 
 ghost use Rattle.std.specs.Prelude.{◌≤◌};

@@ -6,6 +6,8 @@ use ansi_columns::AnsiColumns;
 use ansi_columns::columns::fitting;
 use ansi_columns::lines::Lines;
 use ansi_columns::shown::{Alignment, pad, truncate};
+use ansi_columns::slices::slice;
+use ansi_columns::tabs::expand_tabs;
 use ansi_columns::wrap::wrap;
 use ansi_str::AnsiStr;
 use refusing::Refusing;
@@ -20,6 +22,10 @@ pub enum ColumnCall<'r> {
     Front(usize),
     Truncate(usize, &'r str),
     Pad(usize, Alignment),
+    /// The text with its TABs expanded up to multiples of this.
+    ExpandTabs(usize),
+    /// The columns from one up to another.
+    Slice(usize, usize),
     /// The places of the lines of a wrapped text.
     Lines(usize),
     Wrap(usize),
@@ -43,6 +49,8 @@ impl<'r> ColumnCall<'r> {
             "front" => ColumnCall::Front(row.number(0)?),
             "truncate" => ColumnCall::Truncate(row.number(0)?, row.argument(1)?),
             "pad" => ColumnCall::Pad(row.number(0)?, alignment_of(row.argument(1)?)?),
+            "expand_tabs" => ColumnCall::ExpandTabs(row.number(0)?),
+            "slice" => ColumnCall::Slice(row.number(0)?, row.number(1)?),
             "lines" => ColumnCall::Lines(row.number(0)?),
             "wrap" => ColumnCall::Wrap(row.number(0)?),
             "link_at" => ColumnCall::LinkAt(row.number(0)?),
@@ -87,6 +95,8 @@ pub fn make_column_call<T: AnsiStr>(check: &mut Check<'_>, text: &T, call: Colum
         ColumnCall::Pad(width, alignment) => {
             check.text_or_err(text.ansi_pad(alloc, width, alignment));
         }
+        ColumnCall::ExpandTabs(stop) => check.text_or_err(text.ansi_expand_tabs(alloc, stop)),
+        ColumnCall::Slice(start, end) => check.text_or_err(text.ansi_slice(alloc, start..end)),
         ColumnCall::Lines(width) => check_places(check, Lines::new(text.as_text(), width)),
         ColumnCall::Wrap(width) => check_lines(check, text.ansi_wrap(alloc, width)),
         ColumnCall::LinkAt(index) => check_link(check, text.ansi_link_at(index)),
@@ -103,6 +113,10 @@ pub fn make_column_call_in(check: &mut Check<'_>, heap: &Refusing<Global>, call:
             check.text_or_err(truncate(heap, text, width, tail));
         }
         ColumnCall::Pad(width, alignment) => check.text_or_err(pad(heap, text, width, alignment)),
+        ColumnCall::ExpandTabs(stop) => check.text_or_err(expand_tabs(heap, text, stop)),
+        ColumnCall::Slice(start, end) => {
+            check.text_or_err(slice(heap, text, start, Some(end)));
+        }
         ColumnCall::Wrap(width) => check_lines(check, wrap(heap, text, width)),
         _ => make_column_call(check, &text, call),
     }

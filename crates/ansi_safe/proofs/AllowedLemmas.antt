@@ -1,15 +1,15 @@
 -- What is made of the characters of a piece is allowed in a run.
-use Rattle.std.proofs.Common.{ap₂, ◌∙◌, encode_utf8_all, ◌≡◌, ℕ, ◌+◌, ◌/◌, ◌%◌, ◌<◌, Bool, true, false, ◌&&◌, ◌||◌, ◌==◌, List, [], ◌∷◌, ◌++◌, flat_map, slice_index, nat_lt, codes, if◌then◌else◌, refl, sym, ap, subst, arith}
+use Rattle.std.proofs.Common.{ap₂, ◌∙◌, chars, encode_utf8, encode_utf8_all, ◌≡◌, ℕ, ◌+◌, ◌/◌, ◌%◌, ◌<◌, Bool, true, false, ◌&&◌, ◌||◌, ◌==◌, List, [], ◌∷◌, ◌++◌, flat_map, slice_index, nat_lt, codes, if◌then◌else◌, refl, sym, ap, subst, arith}
 use lib.Utf8.{scalar, scalars, low_scalar}
 use Rattle.std.specs.List.{list_all}
 use Rattle.std.proofs.lemmas.Bool.{and_from, and_parts, eqb-true, false≢true}
 use Rattle.std.proofs.lemmas.Bool.Decides.{nat_tests}
-use Rattle.std.proofs.lemmas.List.Folds.{list_all_at}
-use Rattle.std.proofs.lemmas.Str.{encodes-append, encodes-IsAscii}
-use Rattle.ansi_safe.proofs.PrintableLemmas.{printable-ascii}
+use Rattle.std.proofs.lemmas.List.Folds.{list_all_at, list_all-append}
+use Rattle.std.proofs.lemmas.Str.{encodes-append, encodes-chars}
+use Rattle.std.specs.Str.{IsUtf8}
 use Rattle.ansi_safe.specs.declared.policy.Rest.{Rest}
 use Rattle.ansi_safe.specs.declared.policy.Rest.TheVariants.{Drop, Show}
-use Rattle.ansi_safe.specs.Safe.{is_printable_byte, is_printing, is_allowed, all_allowed}
+use Rattle.ansi_safe.specs.Safe.{is_printable_byte, is_ordinary_byte, is_printing, is_allowed, all_allowed}
 use Rattle.ansi_safe.specs.Sanitized.{hexadecimal, numbered, shown, instead, made_of_run}
 
 -- these are characters that are allowed together in a run
@@ -18,23 +18,34 @@ pub record AreAllowed (cs : List ℕ) : Type 0 where
   pub scalar : scalars cs ≡ true
 
 -- a printing character, which is one
-abbrev prints : ℕ → Bool
+abbrev pub prints : ℕ → Bool
 prints c = is_printing c && scalar c
 
 -- Printing characters is allowed before others.
 
-AreAllowed-cons : (c : ℕ) (cs : List ℕ) → is_allowed c cs ≡ true → scalar c ≡ true → AreAllowed cs → AreAllowed (c ∷ cs)
+pub AreAllowed-cons : (c : ℕ) (cs : List ℕ) → is_allowed c cs ≡ true → scalar c ≡ true → AreAllowed cs → AreAllowed (c ∷ cs)
 AreAllowed-cons c cs here is rest = record { stand = and_from _ _ here rest.stand; scalar = and_from _ _ is rest.scalar }
 
 printing_stands : (c : ℕ) (cs : List ℕ) → is_printing c ≡ true → is_allowed c cs ≡ true
 printing_stands c cs is = ap (λ b. b || (c == 9 || (c == 10 || (c == 13 && slice_index cs 0 == 10)))) is
 
-AreAllowed-append : (xs cs : List ℕ) → list_all prints xs ≡ true → AreAllowed cs → AreAllowed (xs ++ cs)
+pub AreAllowed-append : (xs cs : List ℕ) → list_all prints xs ≡ true → AreAllowed cs → AreAllowed (xs ++ cs)
 AreAllowed-append [] cs all rest = rest
 AreAllowed-append (x ∷ xs) cs all rest =
     let both = and_parts (prints x) (list_all prints xs) all in
     let here = and_parts (is_printing x) (scalar x) both.0 in
     AreAllowed-cons x (xs ++ cs) (printing_stands x (xs ++ cs) here.0) here.1 (AreAllowed-append xs cs both.1 rest)
+
+-- what is allowed before some characters is allowed before others, if a line feed at the front stays there
+pub stands-before : (c : ℕ) (cs ds : List ℕ) → ((slice_index cs 0 == 10) ≡ true → (slice_index ds 0 == 10) ≡ true) → is_allowed c cs ≡ true → is_allowed c ds ≡ true
+stands-before c cs ds stays here = by (is_printing c) (c == 9) (c == 10) (c == 13) (slice_index cs 0 == 10) stays here
+  where
+    by : (p t n r f : Bool) → (f ≡ true → (slice_index ds 0 == 10) ≡ true) → (p || (t || (n || (r && f)))) ≡ true → (p || (t || (n || (r && slice_index ds 0 == 10)))) ≡ true
+    by true t n r f stays here = refl
+    by false true n r f stays here = refl
+    by false false true r f stays here = refl
+    by false false false true f stays here = stays here
+    by false false false false f stays here = absurd (cc here)
 
 -- What is shown of a character prints.
 
@@ -107,14 +118,7 @@ line_feed-stays rest (c ∷ cs) is = subst (λ x. (slice_index (made_of_run rest
 
 -- so what is allowed before some characters is allowed before what is made of them
 stands-before_made : (rest : Rest) (c : ℕ) (cs : List ℕ) → is_allowed c cs ≡ true → is_allowed c (made_of_run rest cs) ≡ true
-stands-before_made rest c cs here = by (is_printing c) (c == 9) (c == 10) (c == 13) (slice_index cs 0 == 10) (line_feed-stays rest cs) here
-  where
-    by : (p t n r f : Bool) → (f ≡ true → (slice_index (made_of_run rest cs) 0 == 10) ≡ true) → (p || (t || (n || (r && f)))) ≡ true → (p || (t || (n || (r && slice_index (made_of_run rest cs) 0 == 10)))) ≡ true
-    by true t n r f stays here = refl
-    by false true n r f stays here = refl
-    by false false true r f stays here = refl
-    by false false false true f stays here = stays here
-    by false false false false f stays here = absurd (cc here)
+stands-before_made rest c cs here = stands-before c cs (made_of_run rest cs) (line_feed-stays rest cs) here
 
 pub made_of_run-stands : (rest : Rest) (cs : List ℕ) → scalars cs ≡ true → AreAllowed (made_of_run rest cs)
 made_of_run-stands rest [] are = record { stand = refl; scalar = refl }
@@ -133,14 +137,7 @@ line_feed-joined [] ds is = absurd (cc is)
 line_feed-joined (c ∷ cs) ds is = is
 
 stands-joined : (c : ℕ) (cs ds : List ℕ) → is_allowed c cs ≡ true → is_allowed c (cs ++ ds) ≡ true
-stands-joined c cs ds here = by (is_printing c) (c == 9) (c == 10) (c == 13) (slice_index cs 0 == 10) (line_feed-joined cs ds) here
-  where
-    by : (p t n r f : Bool) → (f ≡ true → (slice_index (cs ++ ds) 0 == 10) ≡ true) → (p || (t || (n || (r && f)))) ≡ true → (p || (t || (n || (r && slice_index (cs ++ ds) 0 == 10)))) ≡ true
-    by true t n r f stays here = refl
-    by false true n r f stays here = refl
-    by false false true r f stays here = refl
-    by false false false true f stays here = stays here
-    by false false false false f stays here = absurd (cc here)
+stands-joined c cs ds here = stands-before c cs (cs ++ ds) (line_feed-joined cs ds) here
 
 pub all_allowed-append : (cs ds : List ℕ) → all_allowed cs ≡ true → all_allowed ds ≡ true → all_allowed (cs ++ ds) ≡ true
 all_allowed-append [] ds first second = second
@@ -148,28 +145,49 @@ all_allowed-append (c ∷ cs) ds first second =
     let both = and_parts (is_allowed c cs) (all_allowed cs) first in
     and_from _ _ (stands-joined c cs ds both.0) (all_allowed-append cs ds both.1 second)
 
--- Printable ASCII in front of others.
+-- Ordinary characters in front of others.
 
-printable_stands : (b : ℕ) (cs : List ℕ) → is_printable_byte b ≡ true → is_allowed b cs ≡ true
-printable_stands b cs is = printing_stands b cs (and_parts (is_printing b) (scalar b) (ascii_prints b is)).0
+ordinary-char : (white : Bool) (c : ℕ) → list_all (is_ordinary_byte white) (encode_utf8 c) ≡ true → (is_printing c || (white && (c == 9 || c == 10))) ≡ true
+unfolding lib.Utf8.encode
+ordinary-char white c all = grind (arith, nat_tests)
 
-all_allowed-printable : (w cs : List ℕ) → list_all is_printable_byte w ≡ true → all_allowed (w ++ cs) ≡ all_allowed cs
-all_allowed-printable [] cs all = refl
-all_allowed-printable (b ∷ w) cs all =
-    let both = and_parts (is_printable_byte b) (list_all is_printable_byte w) all in
-    ap₂ (λ x y. x && y) (printable_stands b (w ++ cs) both.0) (all_allowed-printable w cs both.1)
+pub ordinary-parts : (white : Bool) (c : ℕ) (cs : List ℕ) → list_all (is_ordinary_byte white) (encode_utf8_all (c ∷ cs)) ≡ true → ((is_printing c || (white && (c == 9 || c == 10))) ≡ true) × (list_all (is_ordinary_byte white) (encode_utf8_all cs) ≡ true)
+ordinary-parts white c cs all =
+    let both = and_parts (list_all (is_ordinary_byte white) (encode_utf8 c)) (list_all (is_ordinary_byte white) (encode_utf8_all cs)) (sym (list_all-append (is_ordinary_byte white) (encode_utf8 c) (encode_utf8_all cs)) ∙ all) in
+    (ordinary-char white c both.0, both.1)
+
+-- such a character is allowed before anything
+pub ordinary-allowed : (white : Bool) (c : ℕ) (cs : List ℕ) → (is_printing c || (white && (c == 9 || c == 10))) ≡ true → is_allowed c cs ≡ true
+ordinary-allowed white c cs is = by (is_printing c) white (c == 9) (c == 10) (c == 13 && slice_index cs 0 == 10) is
+  where
+    by : (p w t n r : Bool) → (p || (w && (t || n))) ≡ true → (p || (t || (n || r))) ≡ true
+    by true w t n r is = refl
+    by false true true n r is = refl
+    by false true false true r is = refl
+    by false true false false r is = absurd (cc is)
+    by false false t n r is = absurd (cc is)
+
+pub all_allowed-ordinary : (white : Bool) (cs ds : List ℕ) → list_all (is_ordinary_byte white) (encode_utf8_all cs) ≡ true → all_allowed (cs ++ ds) ≡ all_allowed ds
+all_allowed-ordinary white [] ds all = refl
+all_allowed-ordinary white (c ∷ cs) ds all =
+    let parts = ordinary-parts white c cs all in
+    ap₂ (λ x y. x && y) (ordinary-allowed white c (cs ++ ds) parts.0) (all_allowed-ordinary white cs ds parts.1)
+
+made_of_run-ordinary : (rest : Rest) (white : Bool) (cs ds : List ℕ) → list_all (is_ordinary_byte white) (encode_utf8_all cs) ≡ true → made_of_run rest (cs ++ ds) ≡ cs ++ made_of_run rest ds
+made_of_run-ordinary rest white [] ds all = refl
+made_of_run-ordinary rest white (c ∷ cs) ds all =
+    let parts = ordinary-parts white c cs all in
+    ap₂ (λ t v. (if t then c ∷ [] else instead rest c) ++ v) (ordinary-allowed white c (cs ++ ds) parts.0) (made_of_run-ordinary rest white cs ds parts.1)
 
 -- the same of a text, by the way that it is split
-pub stand_after_printable : (left w cs : List ℕ) → list_all is_printable_byte w ≡ true → left ≡ w ++ cs → all_allowed left ≡ all_allowed cs
-stand_after_printable left w cs all is = ap all_allowed is ∙ all_allowed-printable w cs all
 
-made_of_run-printable : (rest : Rest) (w cs : List ℕ) → list_all is_printable_byte w ≡ true → made_of_run rest (w ++ cs) ≡ w ++ made_of_run rest cs
-made_of_run-printable rest [] cs all = refl
-made_of_run-printable rest (b ∷ w) cs all =
-    let both = and_parts (is_printable_byte b) (list_all is_printable_byte w) all in
-    ap₂ (λ t v. (if t then b ∷ [] else instead rest b) ++ v) (printable_stands b (w ++ cs) both.0) (made_of_run-printable rest w cs both.1)
+pub ordinary-chars : (white : Bool) (w : List ℕ) → IsUtf8 w → list_all (is_ordinary_byte white) w ≡ true → list_all (is_ordinary_byte white) (encode_utf8_all (chars w)) ≡ true
+ordinary-chars white w utf8 all = ap (list_all (is_ordinary_byte white)) (encodes-chars w utf8) ∙ all
 
-pub made_after_printable : (rest : Rest) (left w cs : List ℕ) → list_all is_printable_byte w ≡ true → left ≡ w ++ cs → encode_utf8_all (made_of_run rest left) ≡ w ++ encode_utf8_all (made_of_run rest cs)
-made_after_printable rest left w cs all is =
-    ap (λ v. encode_utf8_all (made_of_run rest v)) is ∙ ap encode_utf8_all (made_of_run-printable rest w cs all) ∙ encodes-append w (made_of_run rest cs)
-    ∙ ap (λ u. u ++ encode_utf8_all (made_of_run rest cs)) (encodes-IsAscii w (printable-ascii w all))
+pub stand_after_ordinary : (white : Bool) (left w cs : List ℕ) → IsUtf8 w → list_all (is_ordinary_byte white) w ≡ true → left ≡ chars w ++ cs → all_allowed left ≡ all_allowed cs
+stand_after_ordinary white left w cs utf8 all is = ap all_allowed is ∙ all_allowed-ordinary white (chars w) cs (ordinary-chars white w utf8 all)
+
+pub made_after_ordinary : (rest : Rest) (white : Bool) (left w cs : List ℕ) → IsUtf8 w → list_all (is_ordinary_byte white) w ≡ true → left ≡ chars w ++ cs → encode_utf8_all (made_of_run rest left) ≡ w ++ encode_utf8_all (made_of_run rest cs)
+made_after_ordinary rest white left w cs utf8 all is =
+    ap (λ v. encode_utf8_all (made_of_run rest v)) is ∙ ap encode_utf8_all (made_of_run-ordinary rest white (chars w) cs (ordinary-chars white w utf8 all)) ∙ encodes-append (chars w) (made_of_run rest cs)
+    ∙ ap (λ u. u ++ encode_utf8_all (made_of_run rest cs)) (encodes-chars w utf8)

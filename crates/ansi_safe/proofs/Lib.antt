@@ -5,6 +5,9 @@ pub mod MadeLemmas
 pub mod AllowedLemmas
 pub mod SafeLemmas
 pub mod CharacterLemmas
+pub mod CellLemmas
+pub mod CellTextLemmas
 pub mod PrintableLemmas
+pub mod OrdinaryLemmas
 pub mod LengthLemmas
 mod SafeExamples

@@ -6,13 +6,13 @@ use Rattle.std.specs.Str.{IsUtf8}
 use Rattle.std.proofs.Math.Seq.{drop-append_seam, take-append_seam}
 use Rattle.std.proofs.lemmas.Bool.{and_from, and_parts}
 use Rattle.std.proofs.lemmas.Grind.{flat_map-append}
-use Rattle.std.proofs.lemmas.Str.{IsUtf8-take, IsUtf8-drop, chars-append, chars-encodes, scalars-chars}
+use Rattle.std.proofs.lemmas.Str.{IsUtf8-take, IsUtf8-drop, chars-append, chars-encodes, encodes-chars, scalars-chars}
 use Rattle.ansi_items.specs.Bytes.{is_plain_byte}
 use Rattle.ansi_items.specs.Sequences.{IsSequence, is_sgr}
 use Rattle.ansi_items.specs.Pieces.{Piece, Text, Sequence, LoneEscape, spelling, StandsBefore, ArePieces, pieces_of, after_text, merged}
 use Rattle.ansi_items.proofs.JoinLemmas.{spelled, AllStandAnywhere, pieces_of-spelled}
 use Rattle.ansi_items.proofs.PieceLemmas.{pieces_are}
-use Rattle.ansi_items.proofs.PlainLemmas.{one_text}
+use Rattle.ansi_items.proofs.PlainLemmas.{one_text, pieces_of-bare, has_escape-bare}
 use Rattle.ansi_items.proofs.ScanLemmas.{piece_ends}
 use Rattle.ansi_style.specs.declared.state.rendition.Rendition.{Rendition}
 use Rattle.ansi_style.specs.Rendition.{plain_style, known}
@@ -24,7 +24,7 @@ use Rattle.ansi_style.proofs.ReadBackLemmas.{apply_codes, close_codes_are, code_
 use Rattle.ansi_style.proofs.SpelledLemmas.{style_after_from-spelled}
 use Rattle.ansi_style.proofs.StyledLemmas.{style_through, style_through-append}
 use Rattle.ansi_style.proofs.ThroughLemmas.{state_through-append, state_through-merged}
-use Rattle.ansi_items.specs.Plain.{marks}
+use Rattle.ansi_items.specs.Plain.{marks, has_escape}
 use Rattle.ansi_safe.specs.declared.policy.Links.TheVariants.{Keep, Remove}
 use Rattle.ansi_safe.specs.Links.{link_of, link_after, link_end, opens_link, ending, IsClosed}
 use Rattle.ansi_safe.proofs.LinkLemmas.{link_through, link_through-codes, link_of-pieces, is_link-sgr}
@@ -105,8 +105,20 @@ standing-plain (c ∷ cs) stand =
     let both = and_parts (is_allowed c cs) (all_allowed cs) stand in
     list_all-append is_plain_byte (encode_utf8 c) (encode_utf8_all cs) ∙ and_from _ _ (encode-plain c (no_escape c cs both.0)) (standing-plain cs both.1)
 
+-- so a text of such characters has no sequence, and is safe
+
+pub allowed-bare : (t : List ℕ) → IsUtf8 t → all_allowed (chars t) ≡ true → has_escape t ≡ false
+allowed-bare t utf8 all = has_escape-bare t (ap (list_all is_plain_byte) (sym (encodes-chars t utf8)) ∙ standing-plain (chars t) all)
+
+pub allowed-is_safe : (links : Links) (t : List ℕ) → IsUtf8 t → all_allowed (chars t) ≡ true → is_safe links t ≡ true
+allowed-is_safe links t utf8 all = ap (list_all (may_stay links)) (pieces_of-bare t (allowed-bare t utf8 all)) ∙ by t all
+  where
+    by : (t : List ℕ) → all_allowed (chars t) ≡ true → list_all (may_stay links) (one_text t) ≡ true
+    by [] all = refl
+    by (b ∷ bs) all = and_from _ _ all refl
+
 -- characters that are allowed are one good text, or nothing
-good_text : (links : Links) (cs : List ℕ) → AreAllowed cs → AreGood links (one_text (encode_utf8_all cs))
+pub good_text : (links : Links) (cs : List ℕ) → AreAllowed cs → AreGood links (one_text (encode_utf8_all cs))
 good_text links cs are = by (encode_utf8_all cs) refl
   where
     by : (w : List ℕ) → encode_utf8_all cs ≡ w → AreGood links (one_text w)
@@ -117,7 +129,7 @@ good_text links cs are = by (encode_utf8_all cs) refl
         let stands = ap all_allowed (ap chars (sym is) ∙ chars-encodes cs are.scalar) ∙ are.stand in
         ((filled, plain, (cs, (are.scalar, is)), stands), tt)
 
-spelled-one_text : (w : List ℕ) → spelled (one_text w) ≡ w
+pub spelled-one_text : (w : List ℕ) → spelled (one_text w) ≡ w
 spelled-one_text [] = refl
 spelled-one_text (b ∷ bs) = append-nil (b ∷ bs)
 
@@ -136,7 +148,7 @@ made_of-stands rest (Text w) utf8 = made_of_run-stands rest (chars w) (scalars-c
 made_of-stands rest (Sequence w) utf8 = instead_of_all-stands rest (chars w) (scalars-chars w utf8)
 made_of-stands rest LoneEscape utf8 = instead_of_all-stands rest (chars (spelling LoneEscape)) (scalars-chars (spelling LoneEscape) utf8)
 
-stays-good : (links : Links) (p : Piece) (rest : List ℕ) → StandsBefore p rest → IsUtf8 (spelling p) → may_stay links p ≡ true → IsGood links p
+pub stays-good : (links : Links) (p : Piece) (rest : List ℕ) → StandsBefore p rest → IsUtf8 (spelling p) → may_stay links p ≡ true → IsGood links p
 stays-good links (Text w) rest stands utf8 stays = (stands.0, stands.1, utf8, stays)
 stays-good links (Sequence w) rest stands utf8 stays = (stands, stays)
 stays-good links LoneEscape rest stands utf8 stays = absurd (cc stays)

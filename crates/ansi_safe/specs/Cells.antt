@@ -1,11 +1,12 @@
 -- What shown texts are made of: the text of a cell, on one line, and of a paragraph, with line ends.
-use Rattle.std.specs.Prelude.{ℕ, ◌==◌, ◌||◌, List, [], ◌∷◌, ◌++◌, flat_map, chars, encode_utf8_all, if◌then◌else◌}
+use Rattle.std.specs.Prelude.{ℕ, ◌==◌, Bool, not, ◌&&◌, ◌||◌, List, [], ◌∷◌, ◌++◌, flat_map, chars, encode_utf8_all, if◌then◌else◌}
+use Rattle.std.specs.List.{list_all}
 use Rattle.std.specs.Str.{byte}
 use Rattle.ansi_items.specs.Pieces.{Piece, Text, spelling, pieces_of}
 use Rattle.ansi_safe.specs.declared.cells.Place.{Place}
 use Rattle.ansi_safe.specs.declared.cells.Place.TheVariants.{Cell, Paragraph}
 use Rattle.ansi_safe.specs.declared.policy.Links.TheVariants.{Keep}
-use Rattle.ansi_safe.specs.Safe.{is_allowed, may_stay}
+use Rattle.ansi_safe.specs.Safe.{is_printing, is_allowed, all_allowed, may_stay}
 
 -- a character that is allowed in a run is a blank if it is a TAB; in a cell a line end is one too
 abbrev pub in_place : Place → ℕ → List ℕ
@@ -33,3 +34,31 @@ cell t = placed Cell t
 -- the text of t in a paragraph: TAB is a blank, and line ends stay; what else isn't allowed is left out (own)
 abbrev pub paragraph : List ℕ → List ℕ
 paragraph t = placed Paragraph t
+
+-- what a character of a text is in a cell: itself if it is printing, a blank if it is TAB or LF, and otherwise nothing (own)
+abbrev pub cell_char : ℕ → List ℕ
+cell_char c = if is_printing c then c ∷ [] else if c == byte "\t" || c == byte "\n" then byte " " ∷ [] else []
+
+-- Texts that stay as they are.
+
+-- a character that is allowed in a run stays in a paragraph if it isn't TAB, and in a cell if it isn't LF or CR either
+abbrev pub stays_in : Place → ℕ → Bool
+stays_in Cell c = not (c == byte "\t" || (c == byte "\n" || c == byte "\r"))
+stays_in Paragraph c = not (c == byte "\t")
+
+-- each of these characters of a run is allowed where it is, and stays
+abbrev pub run_stays : Place → List ℕ → Bool
+run_stays place cs = all_allowed cs && list_all (stays_in place) cs
+
+-- a piece stays as it is
+abbrev pub piece_stays : Place → Piece → Bool
+piece_stays place (Text w) = run_stays place (chars w)
+piece_stays place p = may_stay Keep p
+
+-- each piece of t stays as it is, so `placed place t` is t
+abbrev pub is_placed : Place → List ℕ → Bool
+is_placed place t = list_all (piece_stays place) (pieces_of t)
+
+-- the text of t in a cell is t
+abbrev pub is_cell : List ℕ → Bool
+is_cell t = is_placed Cell t

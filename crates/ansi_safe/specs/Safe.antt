@@ -1,5 +1,5 @@
 -- What is allowed in a safe text.
-use Rattle.std.specs.Prelude.{ℕ, ◌-◌, ◌==◌, Bool, true, false, not, ◌&&◌, ◌||◌, List, [], ◌∷◌, length, slice_index, slice_range, nat_lt, chars}
+use Rattle.std.specs.Prelude.{ℕ, ◌-◌, ◌==◌, Bool, true, false, not, ◌&&◌, ◌||◌, List, [], ◌∷◌, length, slice_index, slice_range, nat_lt, nat_le, chars}
 use Rattle.std.specs.Int.{is_in_range}
 use Rattle.std.specs.List.{list_all}
 use Rattle.std.specs.Str.{byte}
@@ -38,6 +38,10 @@ keeps_links Remove = false
 -- a printable byte of ASCII (ISO/IEC 646; U+0020 included)
 abbrev pub is_printable_byte : ℕ → Bool
 is_printable_byte b = is_in_range 0x20 0x7E b
+
+-- a byte of ordinary characters: printable ASCII, TAB and LF if `white` is set, and 80 to FF but C2 and E2, which begin U+0080 to U+00BF and U+2000 to U+2FFF (UTF-8)
+abbrev pub is_ordinary_byte : Bool → ℕ → Bool
+is_ordinary_byte white b = is_printable_byte b || ((white && (b == byte "\t" || b == byte "\n")) || (nat_le 0x80 b && not (b == 0xC2 || b == 0xE2)))
 
 -- a link sequence is clean if each byte between its ESC `]` and its terminator is printable ASCII (OSC 8)
 abbrev pub is_clean_link : List ℕ → Bool

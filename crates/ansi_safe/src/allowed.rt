@@ -6,8 +6,8 @@ ghost use Rattle.ansi_safe.specs.Safe.{is_printing, is_allowed, all_allowed, is_
 ghost use Rattle.ansi_safe.specs.Safe.{may_stay};
 
 use crate::links::{address_of, terminator_len};
+use crate::ordinary::split_ordinary;
 use crate::policy::Links;
-use crate::printable::split_printable;
 use ansi_items::ansitok::Kind;
 
 /// Whether an item of this kind may stay.
@@ -36,11 +36,11 @@ fn is_clean_link(sequence: &[u8]) -> bool
 }
 
 /// Whether each character of the run is allowed where it is.
-fn all_allowed(run: &str) -> bool
+pub(crate) fn all_allowed(run: &str) -> bool
     ensures { result ≡ all_allowed (chars run.now) }
 {
     let mut left = run;
-    while let Some((c, after)) = split_first(after_printable(left)) {
+    while let Some((c, after)) = split_first(after_ordinary(left)) {
         if !is_allowed(c, after) {
             return false;
         }
@@ -49,13 +49,13 @@ fn all_allowed(run: &str) -> bool
     true
 }
 
-/// A run without the printable ASCII that it begins with.
+/// A run without the ordinary characters that it begins with, which are allowed anywhere.
 #[inline(always)]
-fn after_printable(run: &str) -> &str
+fn after_ordinary(run: &str) -> &str
     ensures decides { all_allowed (chars run.now) ≡ all_allowed (chars result.now) }
     ensures shorter { length (chars result.now) ≤ length (chars run.now) }
 {
-    split_printable(run).1
+    split_ordinary(run, true).1
 }
 
 /// The first character of a text, and the text after it.

@@ -1,14 +1,24 @@
 //! What shown texts are made of: the text of a cell, on one line, and of a paragraph.
-ghost use Rattle.std.specs.Prelude.{◌≡◌, ◌∷◌, ◌++◌, IfOk, OnOk, chars, encode_utf8_all};
-ghost use Rattle.std.specs.Prelude.{string_bytes};
+ghost use Rattle.std.specs.Prelude.{◌≡◌, ◌↔◌, ◌≤◌, ◌∷◌, ◌++◌, length, IsTrue, IsOk, IfOk};
+ghost use Rattle.std.specs.Prelude.{OnOk, chars, encode_utf8_all, string_bytes};
+ghost use Rattle.std.specs.Cow.{cow_str_bytes, IsBorrowedStr};
+ghost use Rattle.std.specs.List.{list_all};
 ghost use Rattle.ansi_items.specs.Pieces.{spelling};
+ghost use Rattle.ansi_items.specs.Plain.{plain};
 ghost use Rattle.ansi_items.specs.Scans.{kind_of, piece_of_kind};
+ghost use Rattle.ansi_safe.specs.declared.cells.Place.{Place};
+ghost use Rattle.ansi_safe.specs.declared.cells.Place.TheVariants.{Cell};
+ghost use Rattle.ansi_safe.specs.declared.policy.Links.TheVariants.{Keep};
+ghost use Rattle.ansi_safe.specs.Safe.{is_safe};
 ghost use Rattle.ansi_safe.specs.Cells.{in_place, run_in, piece_in, placed, cell, paragraph};
+ghost use Rattle.ansi_safe.specs.Cells.{stays_in, run_stays, piece_stays, is_placed};
 
 use crate::allowed::{is_allowed, may_stay, split_first};
+use crate::ordinary::split_ordinary;
 use crate::policy::Links;
 use ansi_items::ansitok::{Kind, Scanner};
 use std::alloc::{AllocError, Allocator};
+use std::borrow::CowStr;
 
 /// Where a text is shown.
 #[derive(Debug, Clone, Copy, PartialEq, Eq)]
@@ -22,33 +32,117 @@ enum Place {
 /// The text of a cell, which is on one line: TAB, LF, and CR LF of one run become one blank each,
 /// printing characters, select graphic renditions and clean links stay, and nothing else.
 ///
-/// Nothing is added at the end, so a style or a link may be left open. `Err` means out of memory.
-/// (Own.)
+/// Returns a borrow, and doesn't allocate, exactly if that is the text itself. Nothing is added at
+/// the end, so a style or a link may be left open. `Err` means out of memory. (Own.)
 ///
 /// ```
 /// let cell = cell_of(rt.alloc(), "\x1b[1ma\tb\r\n\x07")?;
 /// assert!(rt; cell.as_str() == "\x1b[1ma b ");
 /// ```
-pub fn cell_of<A: Allocator>(alloc: A, text: &str) -> Result<String<A>, AllocError>
-    ensures bytes { IfOk result (λ s. string_bytes s ≡ cell text.now) }
+pub fn cell_of<A: Allocator>(alloc: A, text: &str) -> Result<CowStr<'_, A>, AllocError>
+    ensures bytes { IfOk result (λ c. cow_str_bytes c ≡ cell text.now) }
+    ensures borrowed { IfOk result (λ c. IsBorrowedStr c ↔ (cell text.now ≡ text.now)) }
+    ensures takes_no_memory { cell text.now ≡ text.now → IsOk result }
+    ensures safe { IfOk result (λ c. IsTrue (is_safe Keep (cow_str_bytes c))) }
+    ensures one_line { IfOk result (λ c.
+        IsTrue (list_all (stays_in Cell) (chars (plain (cow_str_bytes c))))) }
 {
-    write_placed(alloc, text, Place::Cell)
+    text_in(alloc, text, Place::Cell)
 }
 
 /// The text of a paragraph: TAB becomes a blank, line ends, printing characters, select graphic
 /// renditions and clean links stay, and nothing else.
 ///
-/// Nothing is added at the end, so a style or a link may be left open. `Err` means out of memory.
-/// (Own.)
+/// Returns a borrow, and doesn't allocate, exactly if that is the text itself. Nothing is added at
+/// the end, so a style or a link may be left open. `Err` means out of memory. (Own.)
 ///
 /// ```
 /// let paragraph = paragraph_of(rt.alloc(), "a\tb\r\n\x1b[2Jc")?;
 /// assert!(rt; paragraph.as_str() == "a b\r\nc");
 /// ```
-pub fn paragraph_of<A: Allocator>(alloc: A, text: &str) -> Result<String<A>, AllocError>
-    ensures bytes { IfOk result (λ s. string_bytes s ≡ paragraph text.now) }
+pub fn paragraph_of<A: Allocator>(alloc: A, text: &str) -> Result<CowStr<'_, A>, AllocError>
+    ensures bytes { IfOk result (λ c. cow_str_bytes c ≡ paragraph text.now) }
+    ensures borrowed { IfOk result (λ c. IsBorrowedStr c ↔ (paragraph text.now ≡ text.now)) }
+    ensures takes_no_memory { paragraph text.now ≡ text.now → IsOk result }
+    ensures safe { IfOk result (λ c. IsTrue (is_safe Keep (cow_str_bytes c))) }
 {
-    write_placed(alloc, text, Place::Paragraph)
+    text_in(alloc, text, Place::Paragraph)
+}
+
+/// A text in a place: a borrow, and nothing is allocated, exactly if it stays as it is.
+fn text_in<A: Allocator>(alloc: A, text: &str, place: Place) -> Result<CowStr<'_, A>, AllocError>
+    ensures bytes { IfOk result (λ c. cow_str_bytes c ≡ placed place text.now) }
+    ensures borrowed { IfOk result (λ c. IsBorrowedStr c ↔ (placed place text.now ≡ text.now)) }
+    ensures takes_no_memory { placed place text.now ≡ text.now → IsOk result }
+{
+    if is_placed(text, place) {
+        return Ok(CowStr::Borrowed(text));
+    }
+    Ok(CowStr::Owned(write_placed(alloc, text, place)?))
+}
+
+/// Whether a text stays as it is in a place. Doesn't allocate.
+fn is_placed(text: &str, place: Place) -> bool
+    ensures { result ≡ is_placed place text.now }
+{
+    run_stays(text, place) || items_stay(text, place)
+}
+
+/// Like `is_placed`, item by item.
+fn items_stay(text: &str, place: Place) -> bool
+    ensures { result ≡ is_placed place text.now }
+{
+    for item in Scanner::new(text) {
+        if !piece_stays(item.kind, &text[item.start..item.end], place) {
+            return false;
+        }
+    }
+    true
+}
+
+/// Whether an item of this kind stays as it is in a place.
+fn piece_stays(kind: Kind, piece: &str, place: Place) -> bool
+    requires { kind ≡ kind_of (piece_of_kind kind piece.now) }
+    ensures { result ≡ piece_stays place (piece_of_kind kind piece.now) }
+{
+    match kind {
+        Kind::Text => run_stays(piece, place),
+        _ => may_stay(kind, piece, Links::Keep),
+    }
+}
+
+/// Whether each character of a run is allowed where it is, and stays in a place.
+fn run_stays(run: &str, place: Place) -> bool
+    ensures { result ≡ run_stays place (chars run.now) }
+{
+    let mut left = run;
+    while let Some((c, after)) = split_first(after_ordinary(left)) {
+        if !(is_allowed(c, after) && stays_in(c, place)) {
+            return false;
+        }
+        left = after;
+    }
+    true
+}
+
+/// A run without the ordinary characters that it begins with, which stay in any place.
+#[inline(always)]
+fn after_ordinary(run: &str) -> &str
+    ensures decides { (place : Place) →
+        run_stays place (chars run.now) ≡ run_stays place (chars result.now) }
+    ensures shorter { length (chars result.now) ≤ length (chars run.now) }
+{
+    split_ordinary(run, false).1
+}
+
+/// Whether a character that is allowed stays as it is in a place.
+fn stays_in(c: char, place: Place) -> bool
+    ensures { result ≡ stays_in place c }
+{
+    match place {
+        Place::Cell => !matches!(c, '\t' | '\n' | '\r'),
+        Place::Paragraph => c != '\t',
+    }
 }
 
 /// A text in a place, written.
@@ -100,12 +194,27 @@ fn push_run<A: Allocator>(out: &mut String<A>, run: &str, place: Place) -> Resul
     ensures { OnOk result (string_bytes out.new
         ≡ string_bytes out.old ++ encode_utf8_all (run_in place (chars run.now))) }
 {
-    let mut left = run;
+    let mut left = push_ordinary(out, run)?;
     while let Some((c, after)) = split_first(left) {
         push_char(out, c, after, place)?;
-        left = after;
+        left = push_ordinary(out, after)?;
     }
     Ok(())
+}
+
+/// Appends the ordinary characters that a run begins with, and returns what follows. `Err` means
+/// out of memory; what was appended before it stays.
+#[inline(always)]
+fn push_ordinary<'t, A: Allocator>(out: &mut String<A>, run: &'t str) -> Result<&'t str, AllocError>
+    ensures written { IfOk result (λ after. (place : Place) →
+        string_bytes out.new ++ encode_utf8_all (run_in place (chars after.now))
+        ≡ string_bytes out.old ++ encode_utf8_all (run_in place (chars run.entry.now))) }
+    ensures shorter { IfOk result (λ after.
+        length (chars after.now) ≤ length (chars run.entry.now)) }
+{
+    let (ordinary, after) = split_ordinary(run, false);
+    out.push_str(ordinary)?;
+    Ok(after)
 }
 
 /// Appends a character of a run, in front of this text, in a place. `Err` means out of memory; what

@@ -2,16 +2,21 @@
 //!
 //! Each function has one law as its contract, does nothing and returns nothing. A body that needs
 //! the law calls it. (Own.)
-ghost use Rattle.std.specs.Prelude.{◌≡◌, ◌++◌, ℕ, List, [], IsTrue};
+ghost use Rattle.std.specs.Prelude.{◌≡◌, ◌++◌, ℕ, List, [], IsTrue, flat_map, chars};
+ghost use Rattle.std.specs.Prelude.{encode_utf8_all};
 ghost use Rattle.std.specs.Str.{IsUtf8};
-ghost use Rattle.ansi_items.specs.Plain.{is_whole};
+ghost use Rattle.ansi_items.specs.Pieces.{pieces_of};
+ghost use Rattle.ansi_items.specs.Plain.{plain_bytes, plain, is_whole};
 ghost use Rattle.ansi_style.specs.Styled.{styled};
+ghost use Rattle.ansi_safe.specs.declared.cells.Place.TheVariants.{Paragraph};
 ghost use Rattle.ansi_safe.specs.declared.policy.Links.{Links};
+ghost use Rattle.ansi_safe.specs.declared.policy.Links.TheVariants.{Keep};
 ghost use Rattle.ansi_safe.specs.declared.policy.Policy.{Policy};
 ghost use Rattle.ansi_safe.specs.declared.policy.Rest.TheVariants.{Drop};
 ghost use Rattle.ansi_safe.specs.Links.{ending, IsClosed};
 ghost use Rattle.ansi_safe.specs.Safe.{is_safe};
 ghost use Rattle.ansi_safe.specs.Sanitized.{sanitized, allowed, marked};
+ghost use Rattle.ansi_safe.specs.Cells.{run_in, cell, paragraph, cell_char};
 
 /// A safe text is whole.
 pub fn safe_is_whole()
@@ -41,4 +46,22 @@ pub fn characters_stay()
     ensures { (links : Links) (t : List ℕ) → IsUtf8 t →
         styled (sanitized (record { rest = Drop; links = links }) t)
         ≡ marked (allowed t) (styled t) }
+{}
+
+/// The text of a cell and that of a paragraph are safe, whatever the text is.
+pub fn cells_are_safe()
+    ensures cell { (t : List ℕ) → IsUtf8 t → IsTrue (is_safe Keep (cell t)) }
+    ensures paragraph { (t : List ℕ) → IsUtf8 t → IsTrue (is_safe Keep (paragraph t)) }
+{}
+
+/// The plain text of a cell is what the characters of the plain text become, one by one.
+pub fn cell_is_by_character()
+    ensures { (t : List ℕ) → IsUtf8 t →
+        plain (cell t) ≡ encode_utf8_all (flat_map cell_char (chars (plain t))) }
+{}
+
+/// The plain text of a paragraph is what its runs become, one by one.
+pub fn paragraph_is_by_run()
+    ensures { (t : List ℕ) → IsUtf8 t → plain (paragraph t)
+        ≡ encode_utf8_all (flat_map (λ p. run_in Paragraph (chars (plain_bytes p))) (pieces_of t)) }
 {}

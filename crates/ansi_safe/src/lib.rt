@@ -10,8 +10,9 @@ pub mod calls;
 pub mod cells;
 pub mod laws;
 pub mod links;
+mod ordinary;
 pub mod policy;
-mod printable;
+pub mod printable;
 pub mod safe;
 mod shown;
 

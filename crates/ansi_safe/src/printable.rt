@@ -1,24 +1,18 @@
 //! The printable ASCII at the front of a text, which most texts are made of. It is read 16 bytes at
 //! a time.
-ghost use Rattle.std.specs.Prelude.{◌≡◌, ◌≤◌, ◌++◌, length, take, chars, IsTrue};
-ghost use Rattle.std.specs.List.{list_all, prefix_len};
+ghost use Rattle.std.specs.Prelude.{◌≡◌, ◌≤◌, length, take};
+ghost use Rattle.std.specs.List.{prefix_len};
 ghost use Rattle.ansi_safe.specs.Safe.{is_printable_byte};
 
 use std::simd::prelude::*;
 
-/// A text as the printable ASCII that it begins with, and what follows.
+/// How many bytes of printable ASCII are at the front. Doesn't allocate. (Own.)
+///
+/// ```
+/// assert!(rt; printable_len("ab\tc".as_bytes()) == 2);
+/// ```
 #[inline(always)]
-pub(crate) fn split_printable(text: &str) -> (&str, &str)
-    ensures spelled { text.now ≡ result.0.now ++ result.1.now }
-    ensures chars { chars text.now ≡ result.0.now ++ chars result.1.now }
-    ensures printable { IsTrue (list_all is_printable_byte result.0.now) }
-{
-    text.split_at(printable_len(text.as_bytes()))
-}
-
-/// How many bytes of printable ASCII are at the front.
-#[inline(always)]
-fn printable_len(bytes: &[u8]) -> usize
+pub fn printable_len(bytes: &[u8]) -> usize
     ensures { result ≡ prefix_len is_printable_byte bytes.now }
 {
     let mut rest = bytes;

@@ -12,8 +12,8 @@ ghost use Rattle.ansi_safe.specs.Links.{link_of, ending, IsClosed, longest_link_
 ghost use Rattle.ansi_safe.specs.Safe.{is_safe};
 ghost use Rattle.ansi_safe.specs.Sanitized.{becomes, cleaned, growth, sanitized};
 
-use crate::allowed::may_stay;
-use crate::links::{Ending, LONGEST_ENDING, Pen, link_after, pen_after};
+use crate::allowed::{all_allowed, may_stay};
+use crate::links::{Ending, LONGEST_ENDING, Pen, link_after, pen_after, plain_pen};
 use crate::policy::{Links, Policy};
 use crate::shown::{push_instead_of_all, push_run};
 use ansi_items::ansitok::{Kind, Scanner};
@@ -33,7 +33,21 @@ pub fn is_safe(text: &str, links: Links) -> bool
 }
 
 /// The pen after a text, or `None` if the text isn't safe. Doesn't allocate.
+///
+/// A text without sequences is read once, without looking for them.
 fn pen_after_safe(text: &str, links: Links) -> Option<Pen<'_>>
+    ensures none { is_some result ≡ is_safe links text.now }
+    ensures style { IfSome result (λ pen. rendition_of pen.style ≡ style_after text.now) }
+    ensures link { IfSome result (λ pen. pen.link.now ≡ link_of (marks text.now)) }
+{
+    if all_allowed(text) {
+        return Some(plain_pen());
+    }
+    pen_after_items(text, links)
+}
+
+/// Like `pen_after_safe`, item by item.
+fn pen_after_items(text: &str, links: Links) -> Option<Pen<'_>>
     ensures none { is_some result ≡ is_safe links text.now }
     ensures style { IfSome result (λ pen. rendition_of pen.style ≡ style_after text.now) }
     ensures link { IfSome result (λ pen. pen.link.now ≡ link_of (marks text.now)) }

@@ -5,8 +5,8 @@ ghost use Rattle.ansi_safe.specs.declared.policy.Rest.{Rest};
 ghost use Rattle.ansi_safe.specs.Sanitized.{hexadecimal, numbered, shown, instead, made_of_run};
 
 use crate::allowed::{is_allowed, is_printing, split_first};
+use crate::ordinary::split_ordinary;
 use crate::policy::Rest;
-use crate::printable::split_printable;
 use std::alloc::{AllocError, Allocator};
 
 /// Appends what is made of a run. `Err` means out of memory; what was appended before it stays.
@@ -18,29 +18,26 @@ pub(crate) fn push_run<A: Allocator>(
     ensures { OnOk result (string_bytes out.new
         ≡ string_bytes out.old ++ encode_utf8_all (made_of_run rest (chars run.now))) }
 {
-    let mut left = push_printable(out, run)?;
+    let mut left = push_ordinary(out, run)?;
     while let Some((c, after)) = split_first(left) {
         push_made(out, c, after, rest)?;
-        left = push_printable(out, after)?;
+        left = push_ordinary(out, after)?;
     }
     Ok(())
 }
 
-/// Appends the printable ASCII that a run begins with, and returns what follows. `Err` means out
+/// Appends the ordinary characters that a run begins with, and returns what follows. `Err` means out
 /// of memory; what was appended before it stays.
 #[inline(always)]
-fn push_printable<'t, A: Allocator>(
-    out: &mut String<A>,
-    run: &'t str,
-) -> Result<&'t str, AllocError>
+fn push_ordinary<'t, A: Allocator>(out: &mut String<A>, run: &'t str) -> Result<&'t str, AllocError>
     ensures written { IfOk result (λ after. (rest : Rest) →
         string_bytes out.new ++ encode_utf8_all (made_of_run rest (chars after.now))
         ≡ string_bytes out.old ++ encode_utf8_all (made_of_run rest (chars run.entry.now))) }
     ensures shorter { IfOk result (λ after.
         length (chars after.now) ≤ length (chars run.entry.now)) }
 {
-    let (printable, after) = split_printable(run);
-    out.push_str(printable)?;
+    let (ordinary, after) = split_ordinary(run, true);
+    out.push_str(ordinary)?;
     Ok(after)
 }
 

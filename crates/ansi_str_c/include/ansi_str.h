@@ -319,6 +319,10 @@ ansi_str_answer ansi_str_raw_truncate(const uint8_t *text, size_t text_len, size
                                       size_t tail_len, uint8_t *buffer, size_t buffer_len);
 ansi_str_answer ansi_str_raw_pad(const uint8_t *text, size_t text_len, size_t width, uint32_t alignment,
                                  uint8_t *buffer, size_t buffer_len);
+ansi_str_answer ansi_str_raw_slice(const uint8_t *text, size_t text_len, size_t start, size_t end, uint8_t *buffer,
+                                   size_t buffer_len);
+ansi_str_answer ansi_str_raw_expand_tabs(const uint8_t *text, size_t text_len, size_t stop, uint8_t *buffer,
+                                         size_t buffer_len);
 ansi_str_answers ansi_str_raw_wrap(const uint8_t *text, size_t text_len, size_t width, uint8_t *buffer, size_t buffer_len,
                                    size_t *ends, size_t ends_len);
 ansi_str_answers ansi_str_raw_lines(const uint8_t *text, size_t text_len, size_t width, ansi_str_line_entry *lines,
@@ -669,11 +673,12 @@ static inline ansi_str_answer ansi_str_fitting(const char *text, size_t text_len
     return ansi_str_raw_fitting(ansi_str_bytes(text), text_len, width);
 }
 
-/* The text truncated to `width` columns. A text that fits stays whole. Any other is cut, as by ansi_str_cut, to the longest
-   prefix that fits beside the tail, and the tail follows unchanged. A tail wider than `width` is left out. The link (OSC 8)
-   and then the style still open at the end of the text are closed before the tail. The result is at most tail_len +
-   ANSI_STR_LONGEST_LINK_END + ANSI_STR_LONGEST_CLOSE bytes longer than the text. ANSI_STR_NOT_UTF8: the text or the tail
-   isn't UTF-8. Allocates if it writes something after what stays of the text.
+/* The text truncated to `width` columns, on one line and safe: SGRs, clean links (OSC 8) and printing characters stay, TAB
+   and line ends become a blank, and the rest is left out. What fits then isn't cut. Any other text is cut, as by
+   ansi_str_cut, to the longest prefix that fits beside the tail, and the tail follows unchanged. A tail wider than `width` is
+   left out. The link and then the style still open at the end of the text are closed before the tail. The result is at most
+   tail_len + ANSI_STR_LONGEST_LINK_END + ANSI_STR_LONGEST_CLOSE bytes longer than the text. ANSI_STR_NOT_UTF8: the text or
+   the tail isn't UTF-8. Allocates if it changes the text, or writes something after what stays of it.
    "\x1b[31mabcdef\x1b[39m" in 4 columns with "..." gives "\x1b[31ma\x1b[39m...". */
 static inline ansi_str_answer ansi_str_truncate(const char *text, size_t text_len, size_t width, const char *tail,
                                                 size_t tail_len, char *buffer, size_t buffer_len) {
@@ -681,20 +686,43 @@ static inline ansi_str_answer ansi_str_truncate(const char *text, size_t text_le
                                  ansi_str_room(buffer), buffer_len);
 }
 
-/* The text padded with blanks to `width` columns. If the number of blanks is odd, ANSI_STR_CENTER puts one more after the
-   text. The link (OSC 8) and then the style still open at the end of the text are closed before the blanks. A text at least
-   as wide gets no blanks. The result is at most width + ANSI_STR_LONGEST_LINK_END + ANSI_STR_LONGEST_CLOSE bytes longer than
-   the text. ANSI_STR_REFUSED: there is no such alignment. Allocates if it writes blanks or closes something.
+/* The text padded with blanks to `width` columns, on one line and safe, as by ansi_str_truncate. If the number of blanks is
+   odd, ANSI_STR_CENTER puts one more after the text. The link (OSC 8) and then the style still open at the end of the text
+   are closed before the blanks. A text at least as wide gets no blanks. The result is at most width +
+   ANSI_STR_LONGEST_LINK_END + ANSI_STR_LONGEST_CLOSE bytes longer than the text. ANSI_STR_REFUSED: there is no such
+   alignment. Allocates if it changes the text, writes blanks or closes something.
    "\x1b[41mab" in 5 columns with ANSI_STR_CENTER gives " \x1b[41mab\x1b[49m  ". */
 static inline ansi_str_answer ansi_str_pad(const char *text, size_t text_len, size_t width, uint32_t alignment,
                                            char *buffer, size_t buffer_len) {
     return ansi_str_raw_pad(ansi_str_bytes(text), text_len, width, alignment, ansi_str_room(buffer), buffer_len);
 }
 
+/* The columns of the text from `start` up to `end`, on one line and safe, as by ansi_str_truncate. The first column is 0; with
+   the end SIZE_MAX the slice goes up to the last one. The style and the link (OSC 8) that are open at the start are opened
+   first, and the link and then the style still open at the end are closed. If a cluster is only partly in the slice, each of
+   its columns there is a blank. A cluster of no columns belongs to the column after it, or to the last one. A slice without a
+   column is empty. The result is at most ANSI_STR_LONGEST_START_AND_CLOSE + ANSI_STR_LONGEST_LINK_END bytes longer than the
+   text and these blanks. May allocate for any text.
+   "\x1b[31m\xe6\x97\xa5\xe6\x9c\xac\x1b[39m" from 1 up to 4 gives "\x1b[31m \xe6\x9c\xac\x1b[39m". */
+static inline ansi_str_answer ansi_str_slice(const char *text, size_t text_len, size_t start, size_t end, char *buffer,
+                                             size_t buffer_len) {
+    return ansi_str_raw_slice(ansi_str_bytes(text), text_len, start, end, ansi_str_room(buffer), buffer_len);
+}
+
+/* The text with each TAB expanded: it becomes blanks, at most `stop`, up to the next multiple of `stop` columns from the
+   beginning of its line, which is after a line feed. Sequences and controls have no columns. Everything else is unchanged. If
+   `stop` is 0, a TAB becomes nothing. Allocates only if the plain text has a TAB.
+   "a\x1b[4m\tb" with stops of 4 columns gives "a\x1b[4m   b". */
+static inline ansi_str_answer ansi_str_expand_tabs(const char *text, size_t text_len, size_t stop, char *buffer,
+                                                   size_t buffer_len) {
+    return ansi_str_raw_expand_tabs(ansi_str_bytes(text), text_len, stop, ansi_str_room(buffer), buffer_len);
+}
+
 /* The text wrapped to `width` columns. The lines are in the buffer like the parts of ansi_str_split: line i ends at ends[i].
    A line ends at "\n", at "\r\n", or before a word that doesn't fit, and loses the blanks at its end; a word that is too wide
-   is broken at the end of a cluster. A width of 0 counts as 1. Each line closes the link (OSC 8) and then the style that it
-   leaves open, and the next line reopens them. There is at most one line more than the plain text has bytes.
+   is broken at the end of a cluster. An indent stays if its word fits after it. A width of 0 counts as 1. Each line closes the
+   link (OSC 8) and then the style that it leaves open, and the next line reopens them. There is at most one line more than the
+   plain text has bytes.
    ANSI_STR_TOO_SMALL: the buffer or `ends` is too small; the call returns how many bytes and how many lines there are.
    "\x1b[31mlion tiger" in 5 columns gives "\x1b[31mlion\x1b[39m" and "\x1b[31mtiger\x1b[39m". */
 static inline ansi_str_answers ansi_str_wrap(const char *text, size_t text_len, size_t width, char *buffer, size_t buffer_len,

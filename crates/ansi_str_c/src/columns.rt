@@ -1,9 +1,9 @@
 //! Calls on the display width of a text, and on its links.
-ghost use Rattle.ansi_calls.specs.Columns.{TellsWidth, TellsFitting, Truncates, Pads, Wraps};
-ghost use Rattle.ansi_calls.specs.Columns.{WritesLink, WritesLines};
+ghost use Rattle.ansi_calls.specs.Columns.{TellsWidth, TellsFitting, Truncates, Pads, Slices};
+ghost use Rattle.ansi_calls.specs.Columns.{ExpandsTabs, Wraps, WritesLink, WritesLines};
 
 use ansi_calls::answers::Answer;
-use ansi_calls::columns::{fitting, link_at, pad, truncate, width};
+use ansi_calls::columns::{expand_tabs, fitting, link_at, pad, slice, truncate, width};
 use ansi_calls::lines::{LineEntry, lines, wrap};
 use ansi_calls::lists::ListAnswer;
 use std::alloc::Global;
@@ -50,6 +50,33 @@ pub extern "C" fn ansi_str_raw_pad(
     ensures { Pads text.now width alignment result buffer.old buffer.new }
 {
     pad(alloc, text, width, alignment, buffer)
+}
+
+/// The columns of the text from `start` up to `end`.
+#[unsafe(no_mangle)]
+pub extern "C" fn ansi_str_raw_slice(
+    alloc: Global,
+    text: &[u8],
+    start: usize,
+    end: usize,
+    buffer: &mut [u8],
+) -> Answer
+    ensures { Slices text.now start end result buffer.old buffer.new }
+{
+    slice(alloc, text, start, end, buffer)
+}
+
+/// The text with each TAB expanded to blanks up to the next multiple of `stop` columns.
+#[unsafe(no_mangle)]
+pub extern "C" fn ansi_str_raw_expand_tabs(
+    alloc: Global,
+    text: &[u8],
+    stop: usize,
+    buffer: &mut [u8],
+) -> Answer
+    ensures { ExpandsTabs text.now stop result buffer.old buffer.new }
+{
+    expand_tabs(alloc, text, stop, buffer)
 }
 
 /// The lines of the text wrapped at `width` columns, ready for display, and where each ends.

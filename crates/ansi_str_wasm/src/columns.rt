@@ -1,10 +1,10 @@
 //! Calls on the display width of a text, and on its links.
-ghost use Rattle.ansi_calls.specs.Columns.{TellsWidth, TellsFitting, Truncates, Pads, Wraps};
-ghost use Rattle.ansi_calls.specs.Columns.{WritesLink, WritesLines};
+ghost use Rattle.ansi_calls.specs.Columns.{TellsWidth, TellsFitting, Truncates, Pads, Slices};
+ghost use Rattle.ansi_calls.specs.Columns.{ExpandsTabs, Wraps, WritesLink, WritesLines};
 
 use crate::memory::arena_of;
 use ansi_calls::answers::Answer;
-use ansi_calls::columns::{fitting, link_at, pad, truncate, width};
+use ansi_calls::columns::{expand_tabs, fitting, link_at, pad, slice, truncate, width};
 use ansi_calls::lines::{LineEntry, lines, wrap};
 use ansi_calls::lists::ListAnswer;
 use one_block::{MemoryBlock, OneBlock};
@@ -53,6 +53,35 @@ pub extern "C" fn ansi_str_raw_pad(
 {
     let block = OneBlock::new(memory);
     pad(&arena_of(&block), text, width, alignment, buffer)
+}
+
+/// The columns of the text from `start` up to `end`.
+#[unsafe(no_mangle)]
+pub extern "C" fn ansi_str_raw_slice(
+    memory: MemoryBlock,
+    text: &[u8],
+    start: usize,
+    end: usize,
+    buffer: &mut [u8],
+) -> Answer
+    ensures { Slices text.now start end result buffer.old buffer.new }
+{
+    let block = OneBlock::new(memory);
+    slice(&arena_of(&block), text, start, end, buffer)
+}
+
+/// The text with each TAB expanded to blanks up to the next multiple of `stop` columns.
+#[unsafe(no_mangle)]
+pub extern "C" fn ansi_str_raw_expand_tabs(
+    memory: MemoryBlock,
+    text: &[u8],
+    stop: usize,
+    buffer: &mut [u8],
+) -> Answer
+    ensures { ExpandsTabs text.now stop result buffer.old buffer.new }
+{
+    let block = OneBlock::new(memory);
+    expand_tabs(&arena_of(&block), text, stop, buffer)
 }
 
 /// The lines of the text wrapped at `width` columns, ready for display, and where each ends.

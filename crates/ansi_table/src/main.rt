@@ -3,30 +3,23 @@
 //! Cells are separated by tabs. The arguments are the widths, in columns of a terminal. A cell that
 //! is too wide is truncated with an ellipsis. A cell that is too narrow or missing is padded with
 //! blanks. The styles and the link of a cell end with it. Numbers are aligned to the right. Other
-//! sequences and control characters are left out.
+//! sequences and control characters are left out, as `ansi_truncate` and `ansi_pad` do.
 #![tactic(auto)]
 
 use ansi_columns::{Alignment, AnsiColumns};
-use ansi_safe::policy::{Links, Policy, Rest};
-use ansi_safe::safe::sanitize;
 use ansi_str::AnsiStr;
 use anyhow::Context;
 use std::alloc::{AllocError, Global};
 use std::env;
 use std::fmt::Write;
 
-// Appends a cell, made safe, and truncated or padded to the width.
+// Appends a cell, truncated or padded to the width.
 fn push_cell(alloc: Global, row: &mut String, cell: &str, width: usize) -> Result<(), AllocError> {
-    let policy = Policy {
-        rest: Rest::Drop,
-        links: Links::Keep,
-    };
-    let cell = sanitize(alloc, cell, policy)?;
-    let alignment = match cell.ansi_strip(alloc)?.as_str().parse::<u64>() {
+    let shown = cell.ansi_truncate(alloc, width, "…")?;
+    let alignment = match shown.ansi_strip(alloc)?.as_str().parse::<u64>() {
         Ok(_) => Alignment::Right,
         Err(_) => Alignment::Left,
     };
-    let shown = cell.ansi_truncate(alloc, width, "…")?;
     let filled = shown.ansi_pad(alloc, width, alignment)?;
     write!(row, " {filled} |")?;
     Ok(())

@@ -1,7 +1,7 @@
 //! Makes a stranger's text safe for a terminal, line by line, as it comes.
 #![tactic(auto)]
 
-use ansi_lines_io::host::{HostIn, HostOut};
+use ansi_io::host::{HostIn, HostOut};
 use ansi_lines_runs::runs::prepare;
 use ansi_view_runs::runs::run;
 use std::env;

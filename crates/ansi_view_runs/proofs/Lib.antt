@@ -3,3 +3,4 @@ pub mod LineLemmas
 pub mod WordLemmas
 pub mod Shown
 pub mod Viewed
+pub mod StayLemmas

@@ -1,7 +1,7 @@
 -- What a sink has taken so far, and what is still to come.
 use Rattle.std.proofs.Common.{◌≡◌, ◌≤◌, ◌<◌, List, [], ◌++◌, ℕ, length, Option, refl, sym, ap, ◌∙◌, append_assoc, append-nil}
 use Rattle.std.specs.Io.KnownBytes.{append_known}
-use Rattle.ansi_lines_io.proofs.Known.{append_known-nil, append_known-twice}
+use Rattle.ansi_io.proofs.Known.{append_known-nil, append_known-twice}
 use Rattle.ansi_view_runs.specs.declared.view.View.{View}
 use Rattle.ansi_view_runs.specs.Lines.{Line, HasNoLineFeed, max_piece, lines}
 use Rattle.ansi_view_runs.specs.LineViews.{BeginsWithLine}

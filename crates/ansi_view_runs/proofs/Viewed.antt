@@ -1,10 +1,10 @@
 -- What is written of the input so far, and at the end.
 use Rattle.std.proofs.Common.{◌≡◌, List, [], ◌++◌, take, ℕ, Bool, true, false, ◌||◌, Option, None, Some, Err, refl, sym, subst, ap, ◌∙◌, append_assoc, append-nil}
 use Rattle.std.specs.Io.KnownBytes.{append_known, prepend_known, IsAtEnd}
-use Rattle.ansi_lines_io.proofs.Known.{append_known-twice}
-use Rattle.ansi_lines_io.specs.Devices.{Reads, was_failed}
-use Rattle.ansi_lines_io.specs.declared.devices.ReadFault.{ReadFault}
-use Rattle.ansi_lines_io.specs.declared.devices.ReadFault.TheVariants.{Failed, Interrupted}
+use Rattle.ansi_io.proofs.Known.{append_known-twice}
+use Rattle.ansi_io.specs.Devices.{Reads, was_failed}
+use Rattle.ansi_io.specs.declared.devices.ReadFault.{ReadFault}
+use Rattle.ansi_io.specs.declared.devices.ReadFault.TheVariants.{Failed, Interrupted}
 use Rattle.ansi_view_runs.specs.declared.view.View.{View}
 use Rattle.ansi_view_runs.specs.Lines.{lines}
 use Rattle.ansi_view_runs.specs.Views.{viewed_all, view_of}

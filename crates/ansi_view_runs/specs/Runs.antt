@@ -4,7 +4,7 @@ use Rattle.std.specs.Io.KnownBytes.{append_known, prepend_known}
 use Rattle.ansi_view_runs.specs.declared.view.View.{View}
 use Rattle.ansi_view_runs.specs.declared.stop.Stop.{Stop}
 use Rattle.ansi_view_runs.specs.declared.stop.Stop.TheVariants.{Closed, ReadFailed, WriteFailed, OutOfMemory}
-use Rattle.ansi_lines_io.specs.Devices.{count_after}
+use Rattle.ansi_io.specs.Devices.{count_after}
 use Rattle.ansi_lines_runs.specs.Lines.{WritesBeginning}
 use Rattle.ansi_view_runs.specs.Lines.{lines}
 use Rattle.ansi_view_runs.specs.Views.{viewed_all, view_of}

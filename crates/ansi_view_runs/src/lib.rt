@@ -1,6 +1,7 @@
 //! The program `ansi_view`: its words, what each line becomes, and a run over any devices.
 #![tactic(auto)]
 
+pub mod causes;
 pub mod lines;
 pub mod runs;
 pub mod stop;

@@ -1,9 +1,9 @@
 //! A run of the program, over any devices.
 ghost use Rattle.std.specs.Prelude.{◌≡◌, ◌≤◌, ◌⊎◌, ◌++◌, ◌==◌, [], false, true, codes, length, vec_len};
 ghost use Rattle.std.specs.Prelude.{IfErr, IfOk, IfSome, IsErrOf, IsSome, OnErr, OnOk, string_bytes};
-ghost use Rattle.std.specs.Prelude.{if◌then◌else◌};
+ghost use Rattle.std.specs.Prelude.{if◌then◌else◌, is_err, ◌||◌};
 ghost use Rattle.std.specs.Io.KnownBytes.{append_known};
-ghost use Rattle.ansi_lines_io.specs.Devices.{count_after};
+ghost use Rattle.ansi_io.specs.Devices.{count_after, was_closed};
 ghost use Rattle.ansi_lines_runs.specs.Runs.{words_of};
 ghost use Rattle.ansi_view_runs.specs.Lines.{max_piece, HasNoLineFeed};
 ghost use Rattle.ansi_view_runs.specs.LineViews.{line_of};
@@ -15,13 +15,13 @@ ghost use Rattle.ansi_view_runs.specs.Views.{opening_after, viewed};
 ghost use Rattle.ansi_view_runs.specs.Words.{bad_word, message_of_word, view_asked};
 
 use crate::lines::{Line, split_first};
-use crate::stop::Stop;
-use crate::view::{View, view_line};
+use crate::stop::{OUT_OF_MEMORY, Stop, write_message};
+use crate::view::{View, stays, view_line};
 use crate::words::parse;
-use ansi_lines_io::devices::{ReadFault, Sink, Source, WriteFault};
+use ansi_io::devices::{ReadFault, Sink, Source, WriteFault};
 use ansi_safe::policy::{Links, Policy, Rest};
 use ansi_safe::safe::sanitize;
-use std::alloc::Allocator;
+use std::alloc::{AllocError, Allocator};
 
 // The most bytes that a read may give.
 const ROOM: usize = 65_536;
@@ -53,9 +53,25 @@ fn write_line<A: Allocator + Copy, W: Sink>(
     ensures stopped { IfErr result (StopsWriting (W.failed output.old) (W.failed output.new)
         (W.closed output.old) (W.closed output.new) (W.taken output.new ≡ W.taken output.old)) }
 {
+    if stays(view, opening.as_str(), line) {
+        write_unchanged(line, output)?;
+        return Ok(());
+    }
     let viewed = view_line(alloc, view, opening, line)?;
     output.write(viewed.as_bytes())?;
     Ok(())
+}
+
+// Writes a line as it is.
+fn write_unchanged<W: Sink>(line: &Line<'_>, output: &mut W) -> Result<(), WriteFault>
+    ensures taken { OnOk result (W.taken output.new ≡ append_known (W.taken output.old)
+        (line.now.text.now ++ line.now.end.now)) }
+    ensures flushes { W.flushes output.new ≡ W.flushes output.old }
+    ensures failed { W.failed output.new ≡ (W.failed output.old || is_err result) }
+    ensures closed { W.closed output.new ≡ (W.closed output.old || was_closed result) }
+{
+    output.write(line.text)?;
+    output.write(line.end.as_bytes())
 }
 
 // Writes what each line and piece becomes that these bytes decide, and returns the other bytes.
@@ -216,11 +232,12 @@ fn view_all<A: Allocator + Copy, S: Source, W: Sink>(
 /// |---|---|---|
 /// | 0 | done, or nobody reads the output any more | none |
 /// | 2 | a bad word; nothing is read | `bad word: WORD\n`, the word made safe |
-/// | 3 | a read of the input failed; what was read before it is written | `read failed\n` |
-/// | 4 | a write or a flush of the output failed | `write failed\n` |
+/// | 3 | a read of the input failed; what was read before it is written | `read failed: CAUSE\n` |
+/// | 4 | a write or a flush of the output failed | `write failed: CAUSE\n` |
 /// | 5 | out of memory; what is written is a beginning of the whole output | `out of memory\n` |
 ///
-/// The status is the first of these that the run meets. An interrupted read is made again. A fault
+/// The status is the first of these that the run meets. CAUSE is std's text for the kind of the
+/// error, such as `is a directory`. An interrupted read is made again. A fault
 /// of the fault writer is ignored.
 ///
 /// ```
@@ -280,7 +297,8 @@ pub fn run<A: Allocator, S: Source, W: Sink, V: Sink>(
     // The reason that ends a run early is reported, and nothing else is.
     ensures quiet { result ≡ 0 → faults.new ≡ faults.old }
     ensures told { 3 ≤ result → V.failed faults.new ≡ false →
-        V.taken faults.new ≡ append_known (V.taken faults.old) (message_of result) }
+        V.taken faults.new ≡ append_known (V.taken faults.old)
+        (message_of result (S.last_error input.new) (W.last_error output.new)) }
     ensures told_word { result ≡ 2 → V.failed faults.new ≡ false →
         IfSome (bad_word (words_of words.now)) (λ word.
         V.taken faults.new ≡ append_known (V.taken faults.old) (message_of_word word)) }
@@ -288,7 +306,7 @@ pub fn run<A: Allocator, S: Source, W: Sink, V: Sink>(
     match parse(words) {
         Ok(view) => match view_all(&alloc, view, input, output) {
             Ok(()) => 0,
-            Err(stop) => stop.tell(faults),
+            Err(stop) => stop.tell(input.cause(), output.cause(), faults),
         },
         Err(word) => tell_word(&alloc, word, faults),
     }
@@ -298,7 +316,8 @@ pub fn run<A: Allocator, S: Source, W: Sink, V: Sink>(
 fn tell_word<A: Allocator, V: Sink>(alloc: A, word: &str, faults: &mut V) -> u8
     ensures statuses { (result ≡ 2) ⊎ (result ≡ 5) }
     ensures told { V.failed faults.new ≡ false → V.taken faults.new
-        ≡ append_known (V.taken faults.old) (if result == 2 then message_of_word word.now else message_of result) }
+        ≡ append_known (V.taken faults.old)
+        (if result == 2 then message_of_word word.now else codes "out of memory\n") }
     ensures flushes { V.flushes faults.new ≡ V.flushes faults.old }
 {
     let policy = Policy {
@@ -307,21 +326,12 @@ fn tell_word<A: Allocator, V: Sink>(alloc: A, word: &str, faults: &mut V) -> u8
     };
     match sanitize(alloc, word, policy) {
         Ok(word) => {
-            let _ = write_word(word.as_str(), faults);
+            let _ = write_message("bad word: ", word.as_str(), faults);
             2
         }
-        Err(error) => Stop::from(error).tell(faults),
+        Err(AllocError) => {
+            let _ = faults.write(OUT_OF_MEMORY);
+            5
+        }
     }
-}
-
-// Writes the text of a bad word, which is one line.
-fn write_word<V: Sink>(word: &str, faults: &mut V) -> Result<(), WriteFault>
-    ensures told { OnOk result (V.taken faults.new ≡ append_known (V.taken faults.old)
-        (codes "bad word: " ++ word.now ++ codes "\n")) }
-    ensures flushes { V.flushes faults.new ≡ V.flushes faults.old }
-    ensures failed { OnErr result (V.failed faults.new ≡ true) }
-{
-    faults.write(b"bad word: ")?;
-    faults.write(word.as_bytes())?;
-    faults.write(b"\n")
 }

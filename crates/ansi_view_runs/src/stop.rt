@@ -1,11 +1,16 @@
 //! Why a run ends early.
-ghost use Rattle.std.specs.Prelude.{◌≡◌, false};
+ghost use Rattle.std.specs.Prelude.{◌≡◌, ◌++◌, OnErr, OnOk, codes, false, true};
 ghost use Rattle.std.specs.Io.KnownBytes.{append_known};
 ghost use Rattle.ansi_view_runs.specs.declared.stop.Stop.TheVariants.{OutOfMemory};
 ghost use Rattle.ansi_view_runs.specs.Stops.{stop_after, status_of, message_of};
 
-use ansi_lines_io::devices::{Sink, WriteFault};
+use crate::causes::text_of;
+use ansi_io::devices::{Sink, WriteFault};
 use std::alloc::AllocError;
+use std::io::ErrorKind;
+
+/// The text of a run that runs out of memory.
+pub(crate) const OUT_OF_MEMORY: &[u8] = b"out of memory\n";
 
 /// Why a run ends before it is done.
 #[derive(Clone, Copy, Debug, PartialEq, Eq)]
@@ -33,32 +38,57 @@ impl Stop {
         }
     }
 
-    /// Its text, which is one line, and empty if it is no failure.
-    pub fn message(self) -> &'static str
-        ensures { result.now ≡ message_of (status_of self) }
-    {
-        match self {
-            Stop::Closed => "",
-            Stop::ReadFailed => "read failed\n",
-            Stop::WriteFailed => "write failed\n",
-            Stop::OutOfMemory => "out of memory\n",
-        }
-    }
-
-    /// Reports it on the fault writer, if it is a failure, and returns its status. A fault of the
-    /// writer is ignored. Doesn't allocate.
-    pub fn tell<V: Sink>(self, faults: &mut V) -> u8
+    /// Reports it on the fault writer, if it is a failure, and returns its status. `read` and
+    /// `written` are the causes of a failed read and of a failed write. A fault of the writer is
+    /// ignored. Doesn't allocate.
+    pub fn tell<V: Sink>(self, read: ErrorKind, written: ErrorKind, faults: &mut V) -> u8
         ensures status { result ≡ status_of self }
         ensures quiet { result ≡ 0 → faults.new ≡ faults.old }
-        ensures told { V.failed faults.new ≡ false →
-            V.taken faults.new ≡ append_known (V.taken faults.old) (message_of (status_of self)) }
+        ensures told { V.failed faults.new ≡ false → V.taken faults.new
+            ≡ append_known (V.taken faults.old) (message_of (status_of self) read written) }
         ensures flushes { V.flushes faults.new ≡ V.flushes faults.old }
     {
         if self != Stop::Closed {
-            let _ = faults.write(self.message().as_bytes());
+            let _ = self.write_text(read, written, faults);
         }
         self.status()
     }
+
+    // Writes its text, which is one line, and none if it is no failure.
+    fn write_text<V: Sink>(
+        self,
+        read: ErrorKind,
+        written: ErrorKind,
+        faults: &mut V,
+    ) -> Result<(), WriteFault>
+        ensures told { OnOk result (V.taken faults.new
+            ≡ append_known (V.taken faults.old) (message_of (status_of self) read written)) }
+        ensures flushes { V.flushes faults.new ≡ V.flushes faults.old }
+        ensures failed { OnErr result (V.failed faults.new ≡ true) }
+    {
+        match self {
+            Stop::Closed => Ok(()),
+            Stop::ReadFailed => write_message("read failed: ", text_of(read), faults),
+            Stop::WriteFailed => write_message("write failed: ", text_of(written), faults),
+            Stop::OutOfMemory => faults.write(OUT_OF_MEMORY),
+        }
+    }
+}
+
+// Writes a text as one line, after what is in front of it.
+pub(crate) fn write_message<V: Sink>(
+    front: &str,
+    text: &str,
+    faults: &mut V,
+) -> Result<(), WriteFault>
+    ensures told { OnOk result (V.taken faults.new ≡ append_known (V.taken faults.old)
+        (front.now ++ text.now ++ codes "\n")) }
+    ensures flushes { V.flushes faults.new ≡ V.flushes faults.old }
+    ensures failed { OnErr result (V.failed faults.new ≡ true) }
+{
+    faults.write(front.as_bytes())?;
+    faults.write(text.as_bytes())?;
+    faults.write(b"\n")
 }
 
 impl From<AllocError> for Stop {

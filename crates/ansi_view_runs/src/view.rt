@@ -1,16 +1,19 @@
 //! What a line becomes.
-ghost use Rattle.std.specs.Prelude.{◌≡◌, [], IfOk, IsTrue, OnOk, string_bytes};
+ghost use Rattle.std.specs.Prelude.{◌≡◌, ◌==◌, ◌++◌, [], IfOk, IsTrue, OnOk, length, string_bytes};
+ghost use Rattle.std.specs.Prelude.{true};
 ghost use Rattle.std.specs.Str.{IsUtf8};
-ghost use Rattle.ansi_safe.specs.Links.{IsClosed};
+ghost use Rattle.ansi_style.specs.States.{rendition_of};
+ghost use Rattle.ansi_style.specs.Written.{start};
+ghost use Rattle.ansi_safe.specs.Links.{IsClosed, ending};
 ghost use Rattle.ansi_safe.specs.Safe.{is_safe};
 ghost use Rattle.ansi_view_runs.specs.Views.{decoded, opening_of, opening_after, viewed, body};
 ghost use Rattle.ansi_view_runs.specs.LineViews.{line_of};
 ghost use Rattle.ansi_safe.specs.Sanitized.{cleaned, sanitized};
 
 use crate::lines::Line;
-use ansi_safe::links::{LONGEST_ENDING, pen_after};
+use ansi_safe::links::{LONGEST_ENDING, Pen, pen_after};
 use ansi_safe::policy::Policy;
-use ansi_safe::safe::push_cleaned;
+use ansi_safe::safe::{is_safe, push_cleaned};
 use ansi_slice::slice::strip_in;
 use ansi_style::styles;
 use std::alloc::{AllocError, Allocator};
@@ -47,6 +50,29 @@ pub fn view_line<A: Allocator + Copy>(
     Ok(made)
 }
 
+/// Whether a line stays as it is, and leaves nothing open. `false` says nothing. Doesn't allocate.
+pub(crate) fn stays(view: View, opening: &str, line: &Line<'_>) -> bool
+    ensures bytes { result ≡ true → viewed view opening.now (line_of line.now)
+        ≡ line.now.text.now ++ line.now.end.now }
+    ensures opening { result ≡ true →
+        opening_after view opening.now (line_of line.now) ≡ opening.now }
+{
+    if view.plain || !opening.is_empty() {
+        return false;
+    }
+    let Ok(text) = str::from_utf8(line.text) else {
+        return false;
+    };
+    is_safe(text, view.policy.links) && ends_nothing(text)
+}
+
+// Whether a text leaves nothing open.
+fn ends_nothing(text: &str) -> bool
+    ensures { result ≡ (length (ending text.now) == 0) }
+{
+    pen_after(text).ending().is_empty()
+}
+
 /// What the text of a line becomes: a safe text that ends what it leaves open.
 ///
 /// `opening` is what is open before it, and then what it leaves open. `Err` means out of memory;
@@ -65,8 +91,9 @@ pub fn view_text<A: Allocator + Copy>(
         ≡ opening_of (cleaned view.policy (body view (string_bytes opening.old) text.now))) }
 {
     let mut made = clean(alloc, view, opening.as_str(), text)?;
-    *opening = opening_after(alloc, made.as_str())?;
-    let ending = pen_after(made.as_str()).ending();
+    let pen = pen_after(made.as_str());
+    *opening = opening_of(alloc, &pen)?;
+    let ending = pen.ending();
     ending.push_to(&mut made)?;
     Ok(made)
 }
@@ -103,11 +130,11 @@ fn decode<A: Allocator + Copy>(alloc: A, view: View, bytes: &[u8]) -> Result<Str
     String::from_str(alloc, strip_in(alloc, text.as_str())?.as_str())
 }
 
-// What opens what is open at the end of a text.
-fn opening_after<A: Allocator>(alloc: A, text: &str) -> Result<String<A>, AllocError>
-    ensures { IfOk result (λ s. string_bytes s ≡ opening_of text.now) }
+// What opens the style and the link of a pen.
+fn opening_of<A: Allocator>(alloc: A, pen: &Pen<'_>) -> Result<String<A>, AllocError>
+    ensures { IfOk result (λ s. string_bytes s
+        ≡ start (rendition_of pen.now.style) ++ pen.now.link.now) }
 {
-    let pen = pen_after(text);
     let mut opening = String::new(alloc);
     styles::write_start(&pen.style, &mut opening)?;
     opening.push_str(pen.link)?;

@@ -25,7 +25,8 @@ The calls, each of which has an example in its own help, such as `help(ansi_str.
     blocks(text)                       edit(text, edits)
     iter_blocks(text)                  is_safe(text, links=False)
     link_at(text, position)            sanitize(text, show=False, links=False)
-    lines(text, width)
+    lines(text, width)                 slice_columns(text, start=0, end=None)
+    expand_tabs(text, stop=8)
 
 >>> log = "\\x1b[31mred\\x1b[39m and plain"
 >>> strip(log)
@@ -47,7 +48,7 @@ from typing import Any, Dict, FrozenSet, Iterable, Iterator, List, NamedTuple, O
 __version__ = "0.2.0"
 __all__ = [
     "strip", "cut", "left", "right", "part", "strip_prefix", "strip_suffix", "trim",
-    "width", "fitting", "truncate", "pad", "wrap", "lines", "link_at", "Alignment", "ALIGNMENTS",
+    "width", "fitting", "truncate", "pad", "slice_columns", "expand_tabs", "wrap", "lines", "link_at", "Alignment", "ALIGNMENTS",
     "find", "starts_with", "ends_with", "has_any", "is_whole",
     "sanitize", "is_safe",
     "split", "iter_split", "blocks", "iter_blocks", "Block", "Style", "ATTRIBUTES", "COLORS",
@@ -71,7 +72,7 @@ else:
 _STYLE = struct.Struct("=I I4B I4B ?")
 
 # the kinds of edits, the last position, and the questions about a text
-_CUT, _LEFT, _RIGHT, _PART, _PREFIX, _SUFFIX, _TRIM, _TRUNCATE, _PAD, _SANITIZE, _LINK_AT = range(11)
+_CUT, _LEFT, _RIGHT, _PART, _PREFIX, _SUFFIX, _TRIM, _TRUNCATE, _PAD, _SANITIZE, _LINK_AT, _SLICE, _EXPAND_TABS = range(13)
 _LAST = sys.maxsize
 _STARTS_WITH, _ENDS_WITH, _HAS_ANY, _IS_WHOLE, _IS_SAFE, _FIND, _FITTING, _WIDTH = range(8)
 
@@ -300,8 +301,9 @@ def fitting(text: str, width: int) -> int:
 
 
 def truncate(text: str, width: int, tail: str = "") -> str:
-    """The text truncated to `width` columns. If it is truncated and the tail fits, the tail follows. Before the tail, the link
-    (OSC 8) and then the style still open at the end of the text are closed.
+    """The text truncated to `width` columns, on one line and safe: SGRs, clean links (OSC 8) and printing characters stay, TAB
+    and line ends become a blank, and the rest is left out. If it is truncated and the tail fits, the tail follows. Before the
+    tail, the link and then the style still open at the end of the text are closed.
 
     >>> truncate("\\x1b[31mabcdef\\x1b[39m", 4, "...")
     '\\x1b[31ma\\x1b[39m...'
@@ -310,8 +312,9 @@ def truncate(text: str, width: int, tail: str = "") -> str:
 
 
 def pad(text: str, width: int, alignment: Alignment = "left") -> str:
-    """The text padded with blanks to `width` columns, at the left, the center or the right. The link and style still open at its
-    end are closed before the blanks. ValueError: the alignment is none of ALIGNMENTS.
+    """The text padded with blanks to `width` columns, at the left, the center or the right, on one line and safe, as by
+    `truncate`. The link and style still open at its end are closed before the blanks. ValueError: the alignment is none of
+    ALIGNMENTS.
 
     >>> pad("\\x1b[41mab", 5, "center")
     ' \\x1b[41mab\\x1b[49m  '
@@ -320,6 +323,28 @@ def pad(text: str, width: int, alignment: Alignment = "left") -> str:
         raise ValueError("alignment must be one of {}, not {!r}".format(", ".join(ALIGNMENTS), alignment))
     step = _PAD, _position("width", width), ALIGNMENTS.index(alignment), b""
     return _edited(text, step)  # type: ignore[no-any-return]
+
+
+def slice_columns(text: str, start: int = 0, end: Optional[int] = None) -> str:
+    """The columns of the text from `start`, of which the first is 0, up to `end` or the last one, on one line and safe, as by
+    `truncate`. What is open at the start is opened first, and the link and style still open at the end are closed. If a cluster
+    is only partly in the slice, each of its columns there is a blank. A slice without a column is empty.
+
+    >>> slice_columns("\\x1b[31m日本語\\x1b[39m", 1, 4)
+    '\\x1b[31m 本\\x1b[39m'
+    """
+    last = _LAST if end is None else _position("end", end)
+    return _edited(text, (_SLICE, _position("start", start), last, b""))  # type: ignore[no-any-return]
+
+
+def expand_tabs(text: str, stop: int = 8) -> str:
+    """The text with each TAB expanded: it becomes blanks up to the next multiple of `stop` columns from the beginning of its
+    line. Sequences and controls have no columns. Everything else is unchanged. If `stop` is 0, a TAB becomes nothing.
+
+    >>> expand_tabs("a\\x1b[4m\\tb\\n日\\tc", 4)
+    'a\\x1b[4m   b\\n日  c'
+    """
+    return _edited(text, (_EXPAND_TABS, _position("stop", stop), 0, b""))  # type: ignore[no-any-return]
 
 
 def wrap(text: str, width: int) -> List[str]:

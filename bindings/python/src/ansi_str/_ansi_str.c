@@ -13,7 +13,7 @@
 enum { LONG = 1 << 16 };
 
 /* kinds beside those of edits */
-enum { TRUNCATE = ANSI_STR_EDIT_TRIM + 1, PAD, SANITIZE, LINK_AT, STRIP, KINDS };
+enum { TRUNCATE = ANSI_STR_EDIT_TRIM + 1, PAD, SANITIZE, LINK_AT, SLICE, EXPAND_TABS, STRIP, KINDS };
 
 /* the questions about a text: those up to IS_SAFE are yes or no, FIND and FITTING return a position, WIDTH columns */
 enum { STARTS_WITH, ENDS_WITH, HAS_ANY, IS_WHOLE, IS_SAFE, FIND, FITTING, WIDTH, QUESTIONS };
@@ -91,6 +91,10 @@ static ansi_str_answer write_step(const Text *text, const ansi_str_edit_step *st
         return ansi_str_raw_sanitize(text->bytes, text->size, (uint32_t)step->first, (uint32_t)step->second, room->bytes, room->size);
     case LINK_AT:
         return ansi_str_raw_link_at(text->bytes, text->size, step->first, room->bytes, room->size);
+    case SLICE:
+        return ansi_str_raw_slice(text->bytes, text->size, step->first, step->second, room->bytes, room->size);
+    case EXPAND_TABS:
+        return ansi_str_raw_expand_tabs(text->bytes, text->size, step->first, room->bytes, room->size);
     default:
         return ansi_str_raw_edit(text->bytes, text->size, step, 1, room->bytes, room->size);
     }

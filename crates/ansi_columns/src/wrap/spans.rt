@@ -1,11 +1,10 @@
 //! The stretches of a text from which the lines of a wrap are written.
-ghost use Rattle.std.specs.Prelude.{◌≡◌, ◌+◌, ◌≤◌, ◌++◌, [], length, IsTrue, IsFalse, IsOk, IfOk};
-ghost use Rattle.std.specs.Prelude.{OnOk, string_bytes};
+ghost use Rattle.std.specs.Prelude.{◌≡◌, ◌+◌, ◌≤◌, [], length, IsTrue, IsFalse, IsOk, IfOk};
+ghost use Rattle.std.specs.Prelude.{string_bytes};
 ghost use Rattle.std.specs.Option.{MatchOption};
 ghost use Rattle.ansi_items.specs.Plain.{plain};
-ghost use Rattle.ansi_style.specs.States.{rendition_of};
-ghost use Rattle.ansi_style.specs.Written.{close_if_any, longest_start_and_close};
-ghost use Rattle.ansi_safe.specs.Links.{link_end, longest_link_end};
+ghost use Rattle.ansi_style.specs.Written.{longest_start_and_close};
+ghost use Rattle.ansi_safe.specs.Links.{longest_link_end};
 ghost use Rattle.ansi_columns.specs.Wrapped.{wrapped, IsWrappedLine};
 
 use crate::lines::first_line;
@@ -74,14 +73,14 @@ impl<'t> Span<'t> {
         if self.is_marked {
             return None;
         }
-        if self.start != self.end && !self.carried.is_plain() {
+        if self.start != self.end && !self.carried.ending().is_empty() {
             return None;
         }
         Some(&self.text[self.start..self.end])
     }
 
     /// The owned line: the style and link carried into it, its text with its sequences, and what
-    /// closes the pen.
+    /// ends both.
     fn written<A: Allocator>(&self, alloc: A) -> Result<String<A>, AllocError>
         requires { IsFalse self.now.borrowed }
         ensures { IfOk result (λ s. string_bytes s ≡ self.now.bytes) }
@@ -95,22 +94,9 @@ impl<'t> Span<'t> {
         let start = push_sequences(&mut line, self.text, self.start)?;
         line.push_str(&self.text[start..self.end_offset])?;
         push_sequences(&mut line, &self.text[self.end_offset..], PAST_THE_END)?;
-        push_end(&mut line, &self.after)?;
+        self.after.ending().push_to(&mut line)?;
         Ok(line)
     }
-}
-
-/// Appends what closes a pen: the end of its link, and the close of its style. `Err` means out of
-/// memory; what was appended before the error stays.
-fn push_end<A: Allocator>(out: &mut String<A>, pen: &Pen<'_>) -> Result<(), AllocError>
-    ensures { OnOk result (string_bytes out.new ≡ string_bytes out.old
-        ++ (link_end pen.now.link.now ++ close_if_any (rendition_of pen.now.style))) }
-{
-    out.push_str(pen.link_end())?;
-    if styles::has_any(&pen.style) {
-        styles::write_close(&pen.style, out)?;
-    }
-    Ok(())
 }
 
 /// The spans of the lines of a text, in order. The iterator doesn't allocate.
@@ -177,8 +163,8 @@ impl<'t> Iterator for Spans<'t> {
     ghost remaining = { item_count (λ s. s) };
 
     fn next(&mut self) -> Option<Span<'t>> {
-        let start = self.next?;
-        let (end, next) = first_line(self.text, start, self.width);
+        let from = self.next?;
+        let (start, end, next) = first_line(self.text, from, self.width);
         // The last line takes all that is left.
         let taken = match next {
             Some(_) => end.offset,

@@ -2,6 +2,8 @@
 use ansi_columns::addresses::link_at;
 use ansi_columns::lines::Lines;
 use ansi_columns::shown::{pad, truncate};
+use ansi_columns::slices::slice;
+use ansi_columns::tabs::expand_tabs;
 use ansi_columns::wrap::wrap;
 use ansi_columns::{Alignment, AnsiColumns};
 use std::test::Fail;
@@ -25,8 +27,8 @@ fn ansi_fitting_example(rt: HostRuntime) {
 
 #[test]
 fn ansi_truncate_example(rt: HostRuntime) -> Result<(), Fail> {
-    let cut = "\x1b[31m日本語\x1b[39m".ansi_truncate(rt.alloc(), 5, "…")?;
-    assert!(rt; cut.as_str() == "\x1b[31m日本\x1b[39m…");
+    let cut = "\x1b[31m日本\t語\x1b[39m".ansi_truncate(rt.alloc(), 6, "…")?;
+    assert!(rt; cut.as_str() == "\x1b[31m日本 \x1b[39m…");
     Ok(())
 }
 
@@ -34,6 +36,26 @@ fn ansi_truncate_example(rt: HostRuntime) -> Result<(), Fail> {
 fn ansi_pad_example(rt: HostRuntime) -> Result<(), Fail> {
     let padded = "\x1b[41mab".ansi_pad(rt.alloc(), 5, Alignment::Center)?;
     assert!(rt; padded.as_str() == " \x1b[41mab\x1b[49m  ");
+    Ok(())
+}
+
+#[test]
+fn ansi_expand_tabs_example(rt: HostRuntime) -> Result<(), Fail> {
+    let expanded = "a\x1b[4m\tb\n日\tc".ansi_expand_tabs(rt.alloc(), 4)?;
+    assert!(rt; expanded.as_str() == "a\x1b[4m   b\n日  c");
+    Ok(())
+}
+
+#[test]
+fn expand_tabs_example(rt: HostRuntime) -> Result<(), Fail> {
+    assert!(rt; expand_tabs(rt.alloc(), "a\tb", 4)?.as_str() == "a   b");
+    Ok(())
+}
+
+#[test]
+fn ansi_slice_example(rt: HostRuntime) -> Result<(), Fail> {
+    let part = "\x1b[31m日本語\x1b[39m".ansi_slice(rt.alloc(), 1..4)?;
+    assert!(rt; part.as_str() == "\x1b[31m 本\x1b[39m");
     Ok(())
 }
 
@@ -61,6 +83,13 @@ fn truncate_example(rt: HostRuntime) -> Result<(), Fail> {
 fn pad_example(rt: HostRuntime) -> Result<(), Fail> {
     let padded = pad(rt.alloc(), "\x1b[31m日本", 6, Alignment::Right)?;
     assert!(rt; padded.as_str() == "  \x1b[31m日本\x1b[39m");
+    Ok(())
+}
+
+#[test]
+fn slice_example(rt: HostRuntime) -> Result<(), Fail> {
+    let part = slice(rt.alloc(), "\x1b[31m日本語\x1b[39m", 1, Some(4))?;
+    assert!(rt; part.as_str() == "\x1b[31m 本\x1b[39m");
     Ok(())
 }
 

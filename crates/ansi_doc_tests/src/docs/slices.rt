@@ -1,4 +1,4 @@
-//! The examples of the docs of the functions behind the calls of `AnsiStr`, in the same words.
+//! The examples of the docs of `slice`, in the same words.
 use ansi_str::slice::{
     cut_in, get_in, has_any, split_at_in, strip_in, strip_prefix_in, strip_suffix_in, trim_in,
 };

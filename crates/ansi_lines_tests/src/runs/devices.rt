@@ -1,6 +1,6 @@
 //! Runs over devices that fail or are interrupted.
 use super::{CHUNK, Plan, ROOM, Ran, at_call, expect, expect_end, run_with};
-use ansi_lines_io::fake_device::Outcome;
+use ansi_io::fake_device::Outcome;
 use std::alloc::{AllocError, Global};
 use std::process::Abort;
 use std::test::Fail;

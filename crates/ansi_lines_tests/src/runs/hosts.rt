@@ -1,9 +1,9 @@
 //! The devices over readers and writers of std that fail. No clause can say what they do then,
 //! since std's clauses say nothing of an error.
 use super::expect;
-use ansi_lines_io::devices::{ReadFault, Sink, Source};
-use ansi_lines_io::host::{HostIn, HostOut, SteadyWrite};
-use ansi_lines_io::reading::{MAX_BYTES, read_text};
+use ansi_io::devices::{ReadFault, Sink, Source};
+use ansi_io::host::{HostIn, HostOut, SteadyWrite};
+use ansi_io::reading::{MAX_BYTES, read_text};
 use std::io::{self, Error, ErrorKind, Read, Write};
 use std::process::Abort;
 
@@ -188,4 +188,19 @@ fn a_writer_of_std_is_asked_once_a_call(rt: HostRuntime) {
     for works in &WORKS {
         expect_calls(&rt, *works);
     }
+}
+
+#[test]
+fn nothing_is_written_without_a_fault(rt: HostRuntime) {
+    let mut device = HostOut::new(Told {
+        works: [false; 3],
+        calls: 0,
+    });
+    let written = device.write(b"");
+    expect(
+        &rt,
+        written.is_ok(),
+        "a write of no bytes",
+        "a writer that fails",
+    );
 }

@@ -1,6 +1,6 @@
 //! Words and an output that the program may lack.
 use super::{ROOM, expect};
-use ansi_lines_io::fake_device::FakeDevice;
+use ansi_io::fake_device::FakeDevice;
 use ansi_lines_runs::runs::prepare;
 use std::alloc::{AllocError, Global};
 use std::io::{self, Error, ErrorKind};

@@ -3,7 +3,7 @@ ghost use Rattle.std.specs.Prelude.{◌≡◌, IsTrue, IfSome, IsNone, IsSome};
 ghost use Rattle.std.specs.Io.KnownBytes.{append_known};
 ghost use Rattle.ansi_lines_runs.specs.Runs.{output_of, refused_line, words_of};
 
-use ansi_lines_io::devices::{Sink, Source};
+use ansi_io::devices::{Sink, Source};
 use ansi_lines_runs::runs::run;
 use std::alloc::Allocator;
 

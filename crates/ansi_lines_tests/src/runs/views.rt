@@ -1,6 +1,6 @@
 //! Runs of `ansi_view` whose devices fail. No clause says how much was read before a failing read.
 use super::{FakeDevices, Plan, Ran, at_call, expect, expect_end};
-use ansi_lines_io::fake_device::Outcome;
+use ansi_io::fake_device::Outcome;
 use ansi_view_runs::runs::run;
 use std::alloc::{AllocError, Global};
 
@@ -23,7 +23,7 @@ fn what_is_read_before_a_failing_read_is_written(rt: HostRuntime) -> Result<(), 
     plan.input = at_call(rt.alloc(), 1, Outcome::Failed)?;
     let ran = view_with(rt.alloc(), b"a\nbc", plan)?;
     let name = "a read that fails after one that works";
-    expect_end(&rt, &ran, 3, "a\nbc", "read failed\n", name);
+    expect_end(&rt, &ran, 3, "a\nbc", "read failed: other error\n", name);
     expect(&rt, ran.flushed == 4, "what is flushed", name);
     Ok(())
 }
@@ -31,7 +31,8 @@ fn what_is_read_before_a_failing_read_is_written(rt: HostRuntime) -> Result<(), 
 #[test]
 fn a_closed_output_is_no_fault(rt: HostRuntime) -> Result<(), AllocError> {
     let mut plan = Plan::new(rt.alloc());
-    plan.output = at_call(rt.alloc(), 1, Outcome::Closed)?;
+    // (a line that stays as it is takes two calls)
+    plan.output = at_call(rt.alloc(), 2, Outcome::Closed)?;
     let ran = view_with(rt.alloc(), b"a\nb\n", plan)?;
     let name = "a write that finds the output closed";
     expect_end(&rt, &ran, 0, "a\n", "", name);

@@ -2,7 +2,7 @@ use Rattle.std.proofs.Common.{rules, ◌≡◌, ◌∙◌, sym, arith, refl, ◌
 use Rattle.std.specs.Io.KnownBytes.{append_known}
 use Rattle.ansi_lines_runs.specs.Jobs.{work_of}
 use Rattle.ansi_lines_runs.specs.Lines.{Line, line_feed, answers, first_refused}
-use Rattle.ansi_lines_io.proofs.Known.{append_known-nil, append_known-twice}
+use Rattle.ansi_io.proofs.Known.{append_known-nil, append_known-twice}
 use Rattle.ansi_lines_runs.proofs.Written.{HasWritten-start, HasWritten-more, HasWritten-all, flag_unchanged}
 use Rattle.ansi_lines_runs.proofs.LineLemmas.{line-answered, line-refused, answers-none}
 use Rattle.ansi_lines_runs.proofs.lines.write_lines.Given.{Over}

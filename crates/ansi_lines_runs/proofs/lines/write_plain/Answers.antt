@@ -5,7 +5,7 @@ use Rattle.ansi_str.specs.Plain.{plain_of}
 use Rattle.ansi_str.specs.Scans.{pieces_left}
 use Rattle.ansi_items.proofs.StepLemmas.{kind_is_text, gives_text, gives_mark, plain_of-mark}
 use Rattle.ansi_search.proofs.OffsetLemmas.{item_range, kind_differs}
-use Rattle.ansi_lines_io.proofs.Known.{append_known-append}
+use Rattle.ansi_io.proofs.Known.{append_known-append}
 use Rattle.ansi_lines_runs.proofs.Written.{flag_unchanged}
 use Rattle.ansi_lines_runs.proofs.lines.write_plain.Goals as goal
 

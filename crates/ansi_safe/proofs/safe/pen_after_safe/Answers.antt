@@ -1,25 +1,19 @@
-use Rattle.std.proofs.Common.{◌≡◌, [], sym, ◌∙◌, ap, subst, rules}
-use Rattle.ansi_items.specs.Plain.{marks}
-use Rattle.ansi_items.specs.Scans.{pieces_left}
-use Rattle.ansi_items.specs.Pieces.{pieces_of}
-use Rattle.ansi_style.specs.Rendition.{plain_style}
-use Rattle.std.specs.List.{list_all}
-use Rattle.ansi_safe.specs.Safe.{may_stay}
-use Rattle.ansi_safe.proofs.LinkLemmas.{IsOpenSoFar, open-begin, open-end, link_after_all-none}
+use Rattle.std.proofs.Common.{sym, ◌∙◌, ap}
+use Rattle.ansi_style.proofs.MarkLemmas.{marks-bare}
+use Rattle.ansi_style.specs.Styled.{style_of}
+use Rattle.ansi_safe.specs.Links.{link_of}
+use Rattle.ansi_safe.proofs.SafeLemmas.{allowed-bare, allowed-is_safe}
 use Rattle.ansi_safe.proofs.safe.pen_after_safe.Goals as goal
 
-pub loop-item-init : goal.loop-item-init
-loop-item-init c =
-    let t = c.args.text.now in
-    let begins : c.into_iter-item-iterator.result ≡ record { text = t; offset = 0 } = c.into_iter-item-iterator.ensures.into_iter_gives ∙ c.new-item-items.ensures.start in
-    let left : pieces_of t ≡ pieces_left c.into_iter-item-iterator.result = ap pieces_left (sym begins) in
-    record {
-      text = ap (λ s. s.text) begins;
-      decides = ap (list_all (may_stay c.args.links)) left;
-      so_far = subst (λ s. IsOpenSoFar t plain_style [] s [] (pieces_left c.into_iter-item-iterator.result)) (sym c.plain_style-style.ensures)
-          (subst (IsOpenSoFar t plain_style [] plain_style []) left (open-begin t plain_style []));
-      link_is_text = search rules;
-    }
+-- the text has no sequence
 
-pub returns-clause-link : goal.returns-clause-link
-returns-clause-link c = (open-end c.loop-item.invariant.so_far c.in-None.ensures.steps.2).1 ∙ link_after_all-none (marks c.args.text.now)
+pub returns-then-all_allowed-clause-none : goal.returns-then-all_allowed-clause-none
+returns-then-all_allowed-clause-none c = sym (allowed-is_safe c.args.links c.args.text.now c.utf8.text (sym c.all_allowed.ensures ∙ c.if-all_allowed.true))
+
+pub returns-then-all_allowed-clause-style : goal.returns-then-all_allowed-clause-style
+returns-then-all_allowed-clause-style c =
+    c.plain_pen.ensures.style ∙ sym (ap style_of (marks-bare c.args.text.now (allowed-bare c.args.text.now c.utf8.text (sym c.all_allowed.ensures ∙ c.if-all_allowed.true))))
+
+pub returns-then-all_allowed-clause-link : goal.returns-then-all_allowed-clause-link
+returns-then-all_allowed-clause-link c =
+    c.plain_pen.ensures.link ∙ sym (ap link_of (marks-bare c.args.text.now (allowed-bare c.args.text.now c.utf8.text (sym c.all_allowed.ensures ∙ c.if-all_allowed.true))))

@@ -3,14 +3,14 @@ use Rattle.ucd_derived.specs.IndicConjunctBreak.{indic_conjunct_break}
 use Rattle.ucd_emoji.specs.Binary.{is_extended_pictographic}
 use Rattle.unicode_segmentation.specs.Grapheme.{is_consonant, is_regional}
 use Rattle.ansi_columns.proofs.BreakLemmas.{or-then, or-else, and-then, and-else, is_grapheme_break-decided}
-use Rattle.ansi_columns.proofs.AsciiLemmas.{ends-printable}
+use Rattle.ansi_columns.proofs.UnnamedLemmas.{ends-unnamed}
 use Rattle.ansi_columns.proofs.break_state.BreakState.ends_before.Goals.{then-self, else-self, then-self-2, else-self-2, then-self-3, else-self-3, then-joins_conjunct, else-joins_conjunct, then-joins_emoji, else-joins_emoji}
 use Rattle.ansi_columns.proofs.break_state.BreakState.ends_before.Goals as goal
 
-pub returns-then-is_printable : goal.returns-then-is_printable
-returns-then-is_printable c before after some is =
+pub returns-then-is_ordinary : goal.returns-then-is_ordinary
+returns-then-is_ordinary c before after some is =
     c.unwrap_or.ensures ∙ ap (λ o. unwrap_or o true) c.break_by_pair.ensures
-    ∙ ends-printable c.args.self before c.args.next after some is (sym c.is_printable.ensures ∙ c.if-is_printable.true)
+    ∙ ends-unnamed c.args.self before c.args.next after some is (c.is_ordinary.ensures c.if-is_ordinary.true)
 
 pub returns-in-Some : goal.returns-in-Some
 returns-in-Some c before after some is =

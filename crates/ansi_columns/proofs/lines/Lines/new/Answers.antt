@@ -1,10 +1,13 @@
 use Rattle.std.proofs.Common.{◌≡◌, List, ℕ, max, sym, ◌∙◌, ap, subst, All}
 use Rattle.ansi_items.specs.Plain.{plain}
 use Rattle.ansi_items.proofs.Utf8Lemmas.{IsUtf8-plain}
+use Rattle.ansi_columns.specs.Columns.{clusters}
+use Rattle.ansi_columns.specs.FirstFit.{IsFirstFit}
 use Rattle.ansi_columns.specs.Walks.{clusters_from}
 use Rattle.ansi_columns.specs.Lines.{lines_from, IsLine, IsGoodLine}
 use Rattle.ansi_columns.proofs.ColumnLemmas.{clusters_from-start}
 use Rattle.ansi_columns.proofs.LineLawLemmas.{lines_are, lines_are_good}
+use Rattle.ansi_columns.proofs.FirstFitLemmas.{lines-first_fit}
 use Rattle.ansi_columns.proofs.lines.Lines.new.Goals as goal
 
 -- the lines from the start on are those of the text
@@ -15,6 +18,10 @@ pub returns-clause-lines : goal.returns-clause-lines
 returns-clause-lines c =
     ap (λ width. lines_from width c.start.result.position c.start.result.position c.start.result.position 0 (clusters_from c.args.text.now c.start.result.position)) c.max.ensures
     ∙ lines_from-start c.args.text.now (max c.args.width 1) c.start.result.position c.start.ensures.position ∙ ap (lines_from (max c.args.width 1) 0 0 0 0) (clusters_from-start c.args.text.now)
+
+pub returns-clause-first_fit : goal.returns-clause-first_fit
+returns-clause-first_fit c =
+    subst (IsFirstFit c.args.width (clusters (plain c.args.text.now))) (sym (returns-clause-lines c)) (lines-first_fit c.args.width (plain c.args.text.now))
 
 pub returns-clause-each : goal.returns-clause-each
 returns-clause-each c =

@@ -1,8 +1,9 @@
-use Rattle.std.proofs.Common.{◌≡◌, ◌∷◌, true, false, sym, ◌∙◌, ap, length, arith}
+use Rattle.std.proofs.Common.{◌≡◌, ◌+◌, ◌∷◌, true, false, encode_utf8, sym, ◌∙◌, ap, length, arith}
 use Rattle.unicode_segmentation.specs.Grapheme.{is_grapheme_break}
+use Rattle.ansi_columns.specs.Columns.{cluster_width}
 use Rattle.ansi_columns.specs.Walks.{before, after, cluster, clusters_from}
 use Rattle.ansi_columns.proofs.WalkLemmas.{walk_boundary, after-past}
-use Rattle.ansi_columns.proofs.ClusterWalkLemmas.{cluster-first, cluster-more, cluster-stops, cluster-is_last}
+use Rattle.ansi_columns.proofs.ClusterWalkLemmas.{cluster-one, cluster-first, cluster-more, cluster-stops, cluster-is_last}
 use Rattle.ansi_columns.proofs.walks.Walk.next_cluster.Goals.{in-Some+then-ends_before, in_default}
 use Rattle.ansi_columns.proofs.walks.Walk.next_cluster.Goals as goal
 
@@ -30,8 +31,24 @@ cluster-preserved c =
 pub cluster-smaller : goal.cluster-smaller
 cluster-smaller c = omega (arith, ap length c.past-walk-in-Some.ensures.after)
 
-pub returns : goal.returns
-returns c =
+pub returns-then-walk-self : goal.returns-then-walk-self
+returns-then-walk-self c =
+    let t = c.args.text.now in
+    let inv = c.cluster.invariant in
+    let walk = c.cluster.walk in
+    let first : clusters_from t c.args.self.position ≡ cluster t c.args.self.position walk.position ∷ clusters_from t walk.position = elim c.match-next_char.branch [
+      | in-Some+then-ends_before w ↦ (
+          let next = w.in-Some.next in
+          let rest = after-past t c.utf8.text walk inv.walk next w.in-Some.ensures in
+          cluster-stops inv.so_far (ap (is_grapheme_break true (before t walk.position)) rest ∙ sym (w.ends_before.ensures (before t walk.position) _ inv.so_far.some inv.walk.break_state) ∙ w.if-ends_before.true))
+      | in_default w ↦ cluster-is_last inv.so_far (rw w.in_default.is at c.next_char-in-cluster.ensures)
+    ] in
+    let place : walk.position ≡ c.args.self.position + length (encode_utf8 c.in_ok-first.first) = omega (arith, c.if-walk-self.true, c.len_utf8.ensures.len) in
+    let one = cluster-one t c.utf8.text c.args.self c.requires c.in_ok-first.first c.in_ok-first.ensures walk.position place in
+    (inv.walk, inv.so_far.ahead, first, c.char_width-width.ensures.value ∙ ap cluster_width (sym one), omega (arith, c.char_width-width.ensures.bound, place))
+
+pub returns-else-walk-self : goal.returns-else-walk-self
+returns-else-walk-self c =
     let t = c.args.text.now in
     let inv = c.cluster.invariant in
     let walk = c.cluster.walk in

@@ -14,16 +14,16 @@ range-requires-else-len-self-clause-start_le_end c = offsets_ordered c.args.text
 
 pub returns-then-len-self-clause-value : goal.returns-then-len-self-clause-value
 returns-then-len-self-clause-value c =
-    c.run_width.ensures.value
+    c.width.ensures.value
     ∙ ap (λ x. cluster_width (chars x)) (c.range.ensures.value ∙ run-between c.args.text.now c.utf8.text c.args.self c.args.walk.now c.requires.here c.requires.later c.requires.ordered c.if-len-self.true)
 
 pub returns-else-len-self-clause-value : goal.returns-else-len-self-clause-value
 returns-else-len-self-clause-value c =
-    c.width.ensures.value
+    c.width-else-len-self.ensures.value
     ∙ ap (λ x. cluster_width (chars x)) (ap plain c.range-else-len-self.ensures.value ∙ plain-between c.args.text.now c.utf8.text c.args.self c.args.walk.now c.requires.here c.requires.later c.requires.ordered)
 
 pub returns-else-len-self-clause-bound : goal.returns-else-len-self-clause-bound
 returns-else-len-self-clause-bound c =
     let t = c.args.text.now in
     let bytes = ap plain c.range-else-len-self.ensures.value ∙ plain-between t c.utf8.text c.args.self c.args.walk.now c.requires.here c.requires.later c.requires.ordered in
-    omega (arith, c.width.ensures.bound, ap length bytes, length-slice_range (plain t) c.args.self.position c.args.walk.now.position c.requires.ordered c.requires.later.within)
+    omega (arith, c.width-else-len-self.ensures.bound, ap length bytes, length-slice_range (plain t) c.args.self.position c.args.walk.now.position c.requires.ordered c.requires.later.within)

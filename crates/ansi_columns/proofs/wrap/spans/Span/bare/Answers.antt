@@ -1,11 +1,18 @@
-use Rattle.std.proofs.Common.{inl, inr, sym, ◌∙◌, ap}
+use Rattle.std.proofs.Common.{◌≡◌, ℕ, List, ◌==◌, ◌++◌, length, inl, inr, sym, ◌∙◌, ap, ap₂}
 use Rattle.ansi_items.specs.Plain.{plain, marks}
 use Rattle.ansi_style.proofs.StyleLemmas.{IsStyle-rendition_of}
+use Rattle.ansi_style.specs.declared.state.Style.{Style}
 use Rattle.ansi_style.specs.States.{rendition_of}
-use Rattle.ansi_columns.specs.Wrapped.{WrappedLine}
+use Rattle.ansi_style.specs.Written.{close}
+use Rattle.ansi_columns.specs.Wrapped.{WrappedLine, pen_end}
+use Rattle.ansi_safe.specs.Links.{link_end}
 use Rattle.ansi_columns.proofs.WrapLemmas.{line-bare, bare-boundary, owned-marked, owned-carried, length-line}
-use Rattle.ansi_columns.proofs.wrap.spans.Span.bare.Goals.{else-self-2-via-then-self-2+else-not-is_plain, else-self-2-via-else-self-2}
+use Rattle.ansi_columns.proofs.wrap.spans.Span.bare.Goals.{else-self-2-via-then-self-2+else-not-is_empty, else-self-2-via-else-self-2}
 use Rattle.ansi_columns.proofs.wrap.spans.Span.bare.Goals as goal
+
+-- what ends the carried link and style
+carried : (link end : List ℕ) (style style' : Style) → end ≡ link_end link → style' ≡ style → (length (pen_end link (rendition_of style)) == 0) ≡ (length (end ++ close (rendition_of style')) == 0)
+carried link end style style' link_is style_is = ap₂ (λ l s. length (l ++ close (rendition_of s)) == 0) (sym link_is) (sym style_is)
 
 pub returns-then-self : goal.returns-then-self
 returns-then-self c =
@@ -15,12 +22,12 @@ returns-then-self c =
       len = length-line (rendition_of s.carried.style) s.carried.link.now (plain s.text.now) (marks s.text.now) (s.start, s.end) (IsStyle-rendition_of s.carried.style) c.self.view_is;
     }
 
-pub returns-then-not-is_plain : goal.returns-then-not-is_plain
-returns-then-not-is_plain c =
+pub returns-then-not-is_empty : goal.returns-then-not-is_empty
+returns-then-not-is_empty c =
     let s = c.self.inside in
     record {
       line = sym (ap (λ (l : WrappedLine). l.borrowed) c.self.view_is)
-          ∙ owned-carried (rendition_of s.carried.style) s.carried.link.now s.text.now s.start s.end c.if-self-2.true (sym c.is_plain.ensures ∙ c.if-not-is_plain.true);
+          ∙ owned-carried (rendition_of s.carried.style) s.carried.link.now s.text.now s.start s.end c.if-self-2.true (carried s.carried.link.now c.ending.result.link_end.now s.carried.style c.ending.result.style c.ending.ensures.link_end c.ending.ensures.style ∙ sym c.is_empty.ensures ∙ c.if-not-is_empty.true);
       len = length-line (rendition_of s.carried.style) s.carried.link.now (plain s.text.now) (marks s.text.now) (s.start, s.end) (IsStyle-rendition_of s.carried.style) c.self.view_is;
     }
 
@@ -34,7 +41,7 @@ pub returns : goal.returns
 returns c =
     let s = c.self.inside in
     let bare = line-bare c.self.invariant c.if-self.false (elim c.else-self-2.branch [
-      | else-self-2-via-then-self-2+else-not-is_plain w ↦ inr (sym w.is_plain.ensures ∙ w.if-not-is_plain.false)
+      | else-self-2-via-then-self-2+else-not-is_empty w ↦ inr (carried s.carried.link.now w.ending.result.link_end.now s.carried.style w.ending.result.style w.ending.ensures.link_end w.ending.ensures.style ∙ sym w.is_empty.ensures ∙ w.if-not-is_empty.false)
       | else-self-2-via-else-self-2 w ↦ inl w.if-self-2.false
     ]) in
     record {

@@ -2,12 +2,11 @@ use Rattle.std.proofs.Common.{◌≡◌, ℕ, ◌^◌, ◌<◌, ◌++◌, length
 use Rattle.ansi_items.specs.Pieces.{pieces_of}
 use Rattle.ansi_items.specs.Plain.{plain}
 use Rattle.ansi_style.specs.States.{rendition_of}
-use Rattle.ansi_style.specs.Written.{start, close_if_any}
+use Rattle.ansi_style.specs.Written.{start, close}
 use Rattle.ansi_slice.specs.Stretches.{sequences_up_to}
-use Rattle.ansi_safe.specs.Links.{link_end}
 use Rattle.ansi_items.proofs.PlainLemmas.{length-plain}
 use Rattle.ansi_search.proofs.PositionLemmas.{no_character_goes_on-past}
-use Rattle.ansi_columns.specs.Wrapped.{WrappedLine}
+use Rattle.ansi_columns.specs.Wrapped.{WrappedLine, pen_end}
 use Rattle.ansi_columns.proofs.WrapLemmas.{line-written, line-ordered}
 use Rattle.ansi_columns.proofs.wrap.spans.Span.written.Goals as goal
 
@@ -36,8 +35,9 @@ returns g c =
     = c.in_ok-push_str.ensures.bytes ∙ ap (λ u. u ++ link) (c.in_ok-write_start.ensures ∙ ap (λ u. u ++ start style) c.in_ok-line.ensures.bytes) in
     let text : string_bytes c.push_str-2.new.self ≡ start style ++ link ++ from ++ slice_range t c.in_ok-start.start s.end_offset
     = c.in_ok-push_str-2.ensures.bytes ∙ ap₂ (λ u v. u ++ v) (c.in_ok-start.ensures.bytes ∙ ap (λ u. u ++ from) pen) c.range.ensures.value in
-    c.in_ok-push_end.ensures
-    ∙ ap (λ u. u ++ (link_end s.after.link.now ++ close_if_any (rendition_of s.after.style)))
+    c.in_ok-push_to.ensures
+    ∙ ap₂ (λ l r. string_bytes c.push_sequences-2.new.out ++ (l ++ close (rendition_of r))) c.ending.ensures.link_end c.ending.ensures.style
+    ∙ ap (λ u. u ++ pen_end s.after.link.now (rendition_of s.after.style))
     (c.in_ok-push_sequences.ensures.bytes ∙ ap₂ (λ u v. u ++ sequences_up_to top (pieces_of v)) text c.range_from.ensures.value)
     ∙ line-written {top = top} c.self.invariant c.in_ok-start.ensures.offset (omega (arith, size)) (ap (λ (l : WrappedLine). l.borrowed) view ∙ c.requires)
     ∙ ap (λ (l : WrappedLine). l.bytes) view

@@ -1,4 +1,4 @@
-use Rattle.std.proofs.Common.{List, Option, rules, ◌≡◌, ◌-◌, ◌==◌, false, ◌∷◌, [], length, slice_range, IsTrue, sym, ◌∙◌, ap, ap₂, arith}
+use Rattle.std.proofs.Common.{List, Option, rules, ◌≡◌, ◌≤◌, ◌-◌, ◌==◌, false, ◌∷◌, [], length, slice_range, IsTrue, sym, ◌∙◌, ap, ap₂, arith}
 use Rattle.std.specs.Str.{IsUtf8}
 use Rattle.ansi_columns.specs.declared.walks.Walk.{Walk}
 use Rattle.ansi_items.specs.Plain.{plain, marks}
@@ -15,21 +15,21 @@ use Rattle.ansi_columns.proofs.WrapLemmas.{ahead, lines-first, lines-last, span-
 use Rattle.ansi_columns.proofs.wrap.spans.SpansIterator.next.Goals.{in-Some, in-None}
 use Rattle.ansi_columns.proofs.wrap.spans.SpansIterator.next.Goals as goal
 
-pub returns-in_err-start-clause-steps : goal.returns-in_err-start-clause-steps
+pub returns-in_err-from-clause-steps : goal.returns-in_err-from-clause-steps
 unfolding lines_over
-returns-in_err-start-clause-steps c =
+returns-in_err-from-clause-steps c =
     let s = c.self.inside in
     let all : Option Walk → List WrappedLine = λ o. lines_over (rendition_of s.pen.style) s.pen.link.now (plain s.text.now) (marks_left s.text.now s.before s.taken) (lines_left s.text.now s.width o) in
-    let none : c.args.self.now ≡ [] = sym c.self.view_is ∙ ap all c.in_err-start.was in
+    let none : c.args.self.now ≡ [] = sym c.self.view_is ∙ ap all c.in_err-from.was in
     rw c.from_residual.ensures (none, none)
 
 pub range-text-requires-clause-start_le_end : goal.range-text-requires-clause-start_le_end
 range-text-requires-clause-start_le_end c =
     let s = c.self.inside in
-    let is : IsTaken s.text.now s.before s.taken c.in_ok-start.start = rw c.in_ok-start.was at c.self.invariant in
+    let is : IsTaken s.text.now s.before s.taken c.in_ok-from.from = rw c.in_ok-from.was at c.self.invariant in
     let end = c.first_line-next.ensures.end in
     let ordered = c.first_line-next.ensures.ordered in
-    let from = ahead s.text.now s.before s.taken c.in_ok-start.start is c.first_line-next.result.0.position c.first_line-next.result.0.offset (omega (arith, is.ordered, ordered)) end.within end.offset in
+    let from = ahead s.text.now s.before s.taken c.in_ok-from.from is c.first_line-next.result.1.position c.first_line-next.result.1.offset (omega (arith, is.ordered, c.first_line-next.ensures.start_ordered, ordered)) end.within end.offset in
     elim c.match-next.branch [
       | in-Some w ↦ omega (arith, from, w.taken-is)
       | in-None w ↦ omega (arith, is.boundary.0, w.taken-is)
@@ -38,22 +38,24 @@ range-text-requires-clause-start_le_end c =
 pub overflow_sub-span-3 : goal.overflow_sub-span-3
 overflow_sub-span-3 c =
     let s = c.self.inside in
-    let is : IsTaken s.text.now s.before s.taken c.in_ok-start.start = rw c.in_ok-start.was at c.self.invariant in
+    let is : IsTaken s.text.now s.before s.taken c.in_ok-from.from = rw c.in_ok-from.was at c.self.invariant in
     let end = c.first_line-next.ensures.end in
     let ordered = c.first_line-next.ensures.ordered in
-    ahead s.text.now s.before s.taken c.in_ok-start.start is c.first_line-next.result.0.position c.first_line-next.result.0.offset (omega (arith, is.ordered, ordered)) end.within end.offset
+    ahead s.text.now s.before s.taken c.in_ok-from.from is c.first_line-next.result.1.position c.first_line-next.result.1.offset (omega (arith, is.ordered, c.first_line-next.ensures.start_ordered, ordered)) end.within end.offset
 
 pub invariant_of-span : goal.invariant_of-span
 invariant_of-span c =
     let s = c.self.inside in
     let t = s.text.now in
-    let start = c.in_ok-start.start in
-    let last = c.first_line-next.result.0 in
-    let is : IsTaken t s.before s.taken start = rw c.in_ok-start.was at c.self.invariant in
+    let from = c.in_ok-from.from in
+    let start = c.first_line-next.result.0 in
+    let last = c.first_line-next.result.1 in
+    let is : IsTaken t s.before s.taken from = rw c.in_ok-from.was at c.self.invariant in
     let end = c.first_line-next.ensures.end in
     let ordered = c.first_line-next.ensures.ordered in
+    let begins : s.before ≤ start.position = omega (arith, is.ordered, c.first_line-next.ensures.start_ordered) in
     let utf8 : IsUtf8 t = search rules in
-    let good : IsTrue (no_character_goes_on (plain t) start.position) = no_character_goes_on-boundary (plain t) start.position (walk_boundary t utf8 start is.is_walk) in
+    let good : IsTrue (no_character_goes_on (plain t) start.position) = no_character_goes_on-boundary (plain t) start.position (walk_boundary t utf8 start c.first_line-next.ensures.start) in
     let good_end : IsTrue (no_character_goes_on (plain t) last.position) = no_character_goes_on-boundary (plain t) last.position (walk_boundary t utf8 last end) in
     let style = rendition_of s.pen.style in
     let after = c.pen_after_from-after.ensures in
@@ -61,13 +63,13 @@ invariant_of-span c =
     elim c.match-next.branch [
       | in-Some w ↦ (
           let front : text ≡ slice_range t s.taken last.offset = c.range-text.ensures.value ∙ ap (slice_range t s.taken) w.taken-is in
-          rw front (span-first t s.before s.taken start is last.position last.offset (omega (arith, is.ordered, ordered)) end.within end.offset
-          style s.pen.link.now start.position c.has_any.result (rendition_of c.pen_after_from-after.result.style) c.pen_after_from-after.result.link.now end.run.start_boundary.0 is.ordered ordered good
+          rw front (span-first t s.before s.taken from is last.position last.offset (omega (arith, is.ordered, c.first_line-next.ensures.start_ordered, ordered)) end.within end.offset
+          style s.pen.link.now start.position c.has_any.result (rendition_of c.pen_after_from-after.result.style) c.pen_after_from-after.result.link.now end.run.start_boundary.0 begins ordered good
           (rw front at c.has_any.ensures) (rw front at after.style) (rw front at after.link)))
       | in-None w ↦
-          span-last t s.before s.taken start is last.position last.offset (omega (arith, is.ordered, ordered)) end.within end.offset
+          span-last t s.before s.taken from is last.position last.offset (omega (arith, is.ordered, c.first_line-next.ensures.start_ordered, ordered)) end.within end.offset
           style s.pen.link.now text start.position c.has_any.result (rendition_of c.pen_after_from-after.result.style) c.pen_after_from-after.result.link.now
-          (c.range-text.ensures.value ∙ ap (slice_range t s.taken) w.taken-is ∙ rest-is t s.taken) end.run.start_boundary is.ordered ordered good good_end c.has_any.ensures after.style after.link
+          (c.range-text.ensures.value ∙ ap (slice_range t s.taken) w.taken-is ∙ rest-is t s.taken) end.run.start_boundary begins ordered good good_end c.has_any.ensures after.style after.link
     ]
 
 pub returns-clause-steps : goal.returns-clause-steps
@@ -76,12 +78,14 @@ returns-clause-steps c =
     let s = c.self.inside in
     let t = s.text.now in
     let x = plain t in
-    let start = c.in_ok-start.start in
-    let last = c.first_line-next.result.0 in
-    let next = c.first_line-next.result.1 in
-    let is : IsTaken t s.before s.taken start = rw c.in_ok-start.was at c.self.invariant in
+    let from = c.in_ok-from.from in
+    let start = c.first_line-next.result.0 in
+    let last = c.first_line-next.result.1 in
+    let next = c.first_line-next.result.2 in
+    let is : IsTaken t s.before s.taken from = rw c.in_ok-from.was at c.self.invariant in
     let end = c.first_line-next.ensures.end in
     let ordered = c.first_line-next.ensures.ordered in
+    let begins : s.before ≤ start.position = omega (arith, is.ordered, c.first_line-next.ensures.start_ordered) in
     let style = rendition_of s.pen.style in
     let link = s.pen.link.now in
     let after = c.pen_after_from-after.ensures in
@@ -90,19 +94,19 @@ returns-clause-steps c =
     let ms = marks_left t s.before s.taken in
     let all : Option Walk → List WrappedLine = λ o. lines_over style link x ms (lines_left t s.width o) in
     let left : c.args.self.now ≡ lines_over style link x ms ((start.position, last.position) ∷ lines_left t s.width next)
-    = sym c.self.view_is ∙ ap all c.in_ok-start.was ∙ ap (lines_over style link x ms) c.first_line-next.ensures.lines in
+    = sym c.self.view_is ∙ ap all c.in_ok-from.was ∙ ap (lines_over style link x ms) c.first_line-next.ensures.lines in
     elim c.match-next.branch [
       | in-Some w ↦ (
           let front : text ≡ slice_range t s.taken last.offset = c.range-text.ensures.value ∙ ap (slice_range t s.taken) w.taken-is in
           let some : (length (lines_left t s.width next) == 0) ≡ false = ap (λ o. length (lines_left t s.width o) == 0) w.in-Some.is ∙ lines_filled s.width w.in-Some.field-0.position w.in-Some.field-0.position w.in-Some.field-0.position 0 (clusters_from t w.in-Some.field-0.position) in
           left
-          ∙ lines-first t s.before s.taken start is last.position last.offset (omega (arith, is.ordered, ordered)) end.within end.offset style link start.position (lines_left t s.width next) is.ordered some
+          ∙ lines-first t s.before s.taken from is last.position last.offset (omega (arith, is.ordered, c.first_line-next.ensures.start_ordered, ordered)) end.within end.offset style link start.position (lines_left t s.width next) begins some
           ∙ ap (λ v. line_over style link (plain v) (marks v) (start.position - s.before, last.position - s.before) ∷ lines_over (style_after_from style v) (link_after_all link (marks v)) x (marks_left t last.position last.offset) (lines_left t s.width next)) (sym front)
           ∙ ap₂ (λ r l. line ∷ lines_over r l x (marks_left t last.position last.offset) (lines_left t s.width next)) (sym after.style) (sym after.link)
           ∙ ap (λ n. line ∷ lines_over (rendition_of c.pen_after_from-after.result.style) c.pen_after_from-after.result.link.now x (marks_left t last.position n) (lines_left t s.width next)) (sym w.taken-is))
       | in-None w ↦
           left ∙ ap (λ o. lines_over style link x ms ((start.position, last.position) ∷ lines_left t s.width o)) w.in-None.is
-          ∙ lines-last t s.before s.taken start is last.position last.offset (omega (arith, is.ordered, ordered)) end.within end.offset style link text start.position is.ordered
+          ∙ lines-last t s.before s.taken from is last.position last.offset (omega (arith, is.ordered, c.first_line-next.ensures.start_ordered, ordered)) end.within end.offset style link text start.position begins
           (c.range-text.ensures.value ∙ ap (slice_range t s.taken) w.taken-is ∙ rest-is t s.taken)
           ∙ ap (λ o. line ∷ lines_over (rendition_of c.pen_after_from-after.result.style) c.pen_after_from-after.result.link.now x (marks_left t last.position c.match-next.taken) (lines_left t s.width o)) (sym w.in-None.is)
     ]

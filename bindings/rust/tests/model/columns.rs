@@ -1,0 +1,497 @@
+//! Columns: clusters, widths, truncation, padding, slices, TABs, wrapping, and links.
+
+use crate::style::Style;
+use crate::text::{Item, Kind, Text};
+use crate::{compare, Tally};
+use ansi_str::columns::{Alignment, AnsiColumns};
+use std::ops::Range;
+
+/// What UAX #29 says of a character, as far as the texts of these tests have it.
+#[derive(Clone, Copy, PartialEq, Eq)]
+enum Class {
+    Control,
+    /// A control that is shown, in no column.
+    ZeroWidthSpace,
+    Extend,
+    Joiner,
+    Pictograph,
+    Regional,
+    Leading,
+    Vowel,
+    Trailing,
+    Other,
+}
+
+fn class(character: char) -> Class {
+    match character {
+        '\0'..='\x1f' | '\x7f'..='\u{9f}' | '\u{202e}' => Class::Control,
+        '\u{200b}' => Class::ZeroWidthSpace,
+        '\u{301}' => Class::Extend,
+        '\u{200d}' => Class::Joiner,
+        '\u{1f469}' => Class::Pictograph,
+        '\u{1f1e6}'..='\u{1f1ff}' => Class::Regional,
+        '\u{1112}' => Class::Leading,
+        '\u{1161}' => Class::Vowel,
+        '\u{11ab}' => Class::Trailing,
+        _ => Class::Other,
+    }
+}
+
+/// Whether the text is one cluster: the regular expression of UAX #29, Table 1b.
+fn is_cluster(text: &str) -> bool {
+    let classes: Vec<Class> = text.chars().map(class).collect();
+    let is_extending = |class: &Class| matches!(class, Class::Extend | Class::Joiner);
+    let joins = |pair: &[Class]| pair == [Class::Joiner, Class::Pictograph];
+    let core = classes.iter().rposition(|class| !is_extending(class));
+    match &classes[..core.map_or(0, |last| last + 1)] {
+        [] => !classes.is_empty(),
+        [Class::Control, Class::Control] => text == "\r\n",
+        [Class::Control | Class::ZeroWidthSpace] => classes.len() == 1,
+        [_] | [Class::Regional, Class::Regional] => true,
+        [Class::Leading, Class::Vowel] | [Class::Leading, Class::Vowel, Class::Trailing] => true,
+        [Class::Pictograph, rest @ ..] => rest.chunks(2).all(joins),
+        _ => false,
+    }
+}
+
+/// The clusters of a text: each is the longest that begins there.
+fn clusters(text: &str) -> Vec<&str> {
+    let mut clusters = Vec::new();
+    let mut rest = text;
+    while !rest.is_empty() {
+        let ends = rest
+            .char_indices()
+            .map(|(start, char)| start + char.len_utf8());
+        let end = ends
+            .filter(|end| is_cluster(&rest[..*end]))
+            .last()
+            .expect("a cluster");
+        let (cluster, after) = rest.split_at(end);
+        clusters.push(cluster);
+        rest = after;
+    }
+    clusters
+}
+
+/// The columns of a cluster (UAX #11): pictographs that are joined have those of one.
+fn cluster_width(cluster: &str) -> usize {
+    let width = |character: char| match class(character) {
+        Class::ZeroWidthSpace => 0,
+        Class::Extend | Class::Joiner | Class::Vowel | Class::Trailing => 0,
+        Class::Pictograph | Class::Leading => 2,
+        _ if character == '日' => 2,
+        _ => 1,
+    };
+    if cluster.contains('\u{200d}') {
+        return 2;
+    }
+    cluster.chars().map(width).sum()
+}
+
+fn width(text: &str) -> usize {
+    clusters(text).into_iter().map(cluster_width).sum()
+}
+
+/// The greatest position up to which a text fits.
+fn fitting(text: &str, most: usize) -> usize {
+    let mut ends = vec![0];
+    ends.extend(clusters(text).into_iter().scan(0, |end, cluster| {
+        *end += cluster.len();
+        Some(*end)
+    }));
+    let fits = |end: &usize| width(&text[..*end]) <= most;
+    ends.into_iter().filter(fits).last().expect("nothing fits")
+}
+
+/// What stands between the ESC `]` of a sequence and its terminator.
+fn command(sequence: &str) -> Option<&str> {
+    let rest = sequence.strip_prefix("\x1b]")?;
+    rest.strip_suffix('\x07')
+        .or_else(|| rest.strip_suffix("\x1b\\"))
+}
+
+/// The address of a link sequence, which is empty in one that ends a link.
+fn address(sequence: &str) -> Option<&str> {
+    let (_parameters, address) = command(sequence)?.strip_prefix("8;")?.split_once(';')?;
+    Some(address)
+}
+
+/// The text as a cell shows it.
+fn cell(spelled: &str) -> String {
+    let is_clean = |sequence: &str| {
+        command(sequence).map_or(false, |it| {
+            it.bytes().all(|byte| matches!(byte, 0x20..=0x7e))
+        })
+    };
+    let shown = |run: &str| -> String {
+        let run = run.replace("\r\n", " ").replace(&['\t', '\n'][..], " ");
+        run.chars()
+            .filter(|it| class(*it) != Class::Control)
+            .collect()
+    };
+    let items = Text::new(spelled).items;
+    let piece = |item: &Item| match item.kind {
+        Kind::Run => shown(item.spelled),
+        Kind::Sgr => item.spelled.to_owned(),
+        Kind::Other if address(item.spelled).is_some() && is_clean(item.spelled) => {
+            item.spelled.to_owned()
+        }
+        Kind::Other | Kind::LoneEscape => String::new(),
+    };
+    items.iter().map(piece).collect()
+}
+
+/// The sequence that opened the link that is open after these items, or nothing.
+fn link_after<'t>(items: impl Iterator<Item = &'t Item<'t>>) -> &'t str {
+    let sequences = items.filter(|item| address(item.spelled).is_some());
+    let is_open = |sequence: &&str| address(sequence) != Some("");
+    sequences
+        .last()
+        .map(|item| item.spelled)
+        .filter(is_open)
+        .unwrap_or("")
+}
+
+/// What ends the link and the style that are open at a position.
+fn closing(text: &Text, position: usize) -> String {
+    let link = link_after(text.items.iter().filter(|item| item.place <= position));
+    link_end(link).to_owned() + &text.style_at(position).close()
+}
+
+fn link_end(link: &str) -> &'static str {
+    if link.is_empty() {
+        ""
+    } else {
+        "\x1b]8;;\x1b\\"
+    }
+}
+
+fn truncated(spelled: &str, most: usize, tail: &str) -> String {
+    let cell = cell(spelled);
+    let text = Text::new(&cell);
+    let has_tail = width(&text.plain) > most && width(tail) <= most;
+    let tail = if has_tail { tail } else { "" };
+    let end = fitting(&text.plain, most - width(tail));
+    text.written(&(0..end), |mark| mark.place <= end) + &closing(&text, end) + tail
+}
+
+fn padded(spelled: &str, least: usize, alignment: Alignment) -> String {
+    let cell = cell(spelled);
+    let text = Text::new(&cell);
+    let missing = least.saturating_sub(width(&text.plain));
+    let before = match alignment {
+        Alignment::Left => 0,
+        Alignment::Center => missing / 2,
+        Alignment::Right => missing,
+    };
+    let blanks = |count| " ".repeat(count);
+    blanks(before) + &cell + &closing(&text, usize::MAX) + &blanks(missing - before)
+}
+
+/// A column of a text: where what belongs to it begins, and its cluster.
+struct Column {
+    /// Where the clusters of no columns before its cluster begin, if it is the first column of this.
+    place: usize,
+    cluster: Range<usize>,
+}
+
+fn columns(text: &str) -> Vec<Column> {
+    let mut columns = Vec::new();
+    let (mut place, mut end) = (0, 0);
+    for spelled in clusters(text) {
+        let cluster = end..end + spelled.len();
+        end = cluster.end;
+        for column in 0..cluster_width(spelled) {
+            columns.push(Column {
+                place: if column == 0 { place } else { cluster.start },
+                cluster: cluster.clone(),
+            });
+            place = end;
+        }
+    }
+    columns
+}
+
+/// The columns of a cell from one up to another. Those of a cluster that an edge divides are blanks.
+fn sliced(spelled: &str, start: usize, end: usize) -> String {
+    let cell = cell(spelled);
+    let text = Text::new(&cell);
+    let columns = columns(&text.plain);
+    let end = end.min(columns.len());
+    if start >= end {
+        return String::new();
+    }
+    let cluster_at = |column: usize| columns.get(column).map(|it| &it.cluster);
+    let divided =
+        |edge: usize| cluster_at(edge).filter(|it| cluster_at(edge.wrapping_sub(1)) == Some(*it));
+    let before = divided(start);
+    let after = divided(end).filter(|_| divided(end) != before);
+    let blanks_of = |cluster: Option<&Range<usize>>| {
+        let shown =
+            (start..end).filter(|column| cluster.is_some() && cluster_at(*column) == cluster);
+        " ".repeat(shown.count())
+    };
+    let first = columns[start].place;
+    let from = before.map_or(first, |cluster| cluster.end);
+    let to = columns.get(end).map_or(usize::MAX, |next| next.place);
+    let opened = (start > 0).then_some(first);
+    let is_opened = |mark: &Item| Some(mark.place) <= opened;
+    let style = opened.map_or_else(Style::default, |place| text.style_at(place));
+    let link = link_after(text.items.iter().filter(|item| is_opened(item)));
+    let shown = text.written(&(from..to), |mark| !is_opened(mark) && mark.place <= to);
+    style.start() + link + &blanks_of(before) + &shown + &blanks_of(after) + &closing(&text, to)
+}
+
+/// The text with each TAB expanded: one blank or more, until its line has a multiple of `stop` columns.
+fn expanded(spelled: &str, stop: usize) -> String {
+    let (mut out, mut line) = (String::new(), String::new());
+    for item in Text::new(spelled).items {
+        if item.kind != Kind::Run {
+            out += item.spelled;
+            continue;
+        }
+        for character in item.spelled.chars() {
+            let before = line.len();
+            match character {
+                '\t' if stop == 0 => {}
+                '\t' => {
+                    line.push(' ');
+                    while width(&cell(&line)) % stop > 0 {
+                        line.push(' ');
+                    }
+                }
+                _ => line.push(character),
+            }
+            out += &line[before..];
+            if character == '\n' {
+                line.clear();
+            }
+        }
+    }
+    out
+}
+
+#[rustfmt::skip]
+const PIECES: [&str; 14] = [
+    "\x1b[1m", "\x1b[31m", "\x1b[0m", "\x1b[4:3m", "\x1b]8;;http://x\x1b\\", "\x1b]8;;\x07",
+    "a", " ", "日", "e\u{301}", "\u{301}", "\u{1f469}\u{200d}\u{1f469}", "\u{1f1e6}", "\u{1112}\u{1161}\u{11ab}",
+];
+
+/// Pieces of which a cell shows nothing, or a blank.
+#[rustfmt::skip]
+const HOSTILE_PIECES: [&str; 15] = [
+    "\x1b[1m", "\x1b]8;;http://x\x07", "\x1b]8;;h\x01\x07", "\x1b]0;t\x07", "\x1b[2K", "\x1b(0", "\x1b", "\x1b[3",
+    "\x0f", "\x7f", "\u{9b}", "\u{202e}", "\t", "a", "日",
+];
+
+#[rustfmt::skip]
+const SLICED_PIECES: [&str; 14] = [
+    "\x1b[1m", "\x1b[31m", "\x1b[0m", "\x1b]8;;http://x\x1b\\", "\x1b]8;;\x07", "\x1b]0;t\x07", "\x1b",
+    "a", "日", "e\u{301}", "\u{301}", "\u{200b}", "\u{1f1e6}", "\t",
+];
+
+#[rustfmt::skip]
+const EXPANDED_PIECES: [&str; 12] = [
+    "\x1b[1m", "\x1b]0;t\x07", "\x1b", "\t", "\n", "\r", "\x0f", "a", "日", "\u{301}", "\u{200b}", "\u{1f1e6}",
+];
+
+const ALIGNMENTS: [Alignment; 3] = [Alignment::Left, Alignment::Center, Alignment::Right];
+
+/// Compares a text truncated and padded at each width.
+fn expect_shown(tally: &mut Tally, spelled: &str) {
+    for columns in 0..6 {
+        for tail in ["", "…"] {
+            let want = truncated(spelled, columns, tail);
+            tally.expect(
+                &*spelled.ansi_truncate(columns, tail),
+                &want,
+                (columns, tail, spelled),
+            );
+        }
+        for alignment in ALIGNMENTS {
+            let want = padded(spelled, columns, alignment);
+            tally.expect(
+                &*spelled.ansi_pad(columns, alignment),
+                &want,
+                (columns, alignment, spelled),
+            );
+        }
+    }
+}
+
+/// Compares the slices of a text, at and past all its columns.
+fn expect_slices(tally: &mut Tally, spelled: &str) {
+    for start in 0..8 {
+        for end in (0..8).chain([usize::MAX]) {
+            let want = sliced(spelled, start, end);
+            tally.expect(
+                &*spelled.ansi_slice(start..end),
+                &want,
+                (start, end, spelled),
+            );
+        }
+        let want = sliced(spelled, start, usize::MAX);
+        tally.expect(&*spelled.ansi_slice(start..), &want, (start, spelled));
+    }
+}
+
+/// Compares a text with its TABs expanded to stops of each width.
+fn expect_expanded(tally: &mut Tally, spelled: &str) {
+    for stop in 0..6 {
+        let want = expanded(spelled, stop);
+        tally.expect(&*spelled.ansi_expand_tabs(stop), &want, (stop, spelled));
+    }
+}
+
+/// Compares a text's width, what of it fits, and its links.
+fn expect_columns(tally: &mut Tally, spelled: &str) {
+    let text = Text::new(spelled);
+    tally.expect(spelled.ansi_width(), width(&text.plain), spelled);
+    for most in 0..8 {
+        tally.expect(
+            spelled.ansi_fitting(most),
+            fitting(&text.plain, most),
+            (most, spelled),
+        );
+    }
+    for index in 0..=text.plain.len() {
+        let link = link_after(text.items.iter().filter(|item| item.place <= index));
+        let want = address(link).filter(|_| index < text.plain.len());
+        tally.expect(
+            spelled.ansi_link_at(index).as_deref(),
+            want,
+            (index, spelled),
+        );
+    }
+}
+
+/// The words of a paragraph, each with its place: runs of clusters between blanks.
+fn words(paragraph: &str) -> Vec<(usize, Vec<&str>)> {
+    let mut place = 0;
+    let mut words = Vec::new();
+    for word in clusters(paragraph).split(|cluster| *cluster == " ") {
+        if !word.is_empty() {
+            words.push((place, word.to_vec()));
+        }
+        place += word.concat().len() + 1;
+    }
+    words
+}
+
+/// The pieces of a word that begins at a place, each the longest that fits, and at least one cluster.
+fn pieces(start: usize, word: &[&str], most: usize) -> Vec<Range<usize>> {
+    let mut pieces = vec![start..start];
+    let mut columns = 0;
+    for cluster in word {
+        let last = pieces.last_mut().expect("a piece");
+        columns += cluster_width(cluster);
+        if last.is_empty() || columns <= most {
+            last.end += cluster.len();
+        } else {
+            let end = last.end;
+            pieces.push(end..end + cluster.len());
+            columns = cluster_width(cluster);
+        }
+    }
+    pieces
+}
+
+/// The lines of a paragraph: a word stays on a line if all of it fits there.
+fn paragraph_lines(paragraph: &str, most: usize) -> Vec<Range<usize>> {
+    let mut lines: Vec<Range<usize>> = Vec::new();
+    for (place, word) in words(paragraph) {
+        let start = lines.last().map_or(0, |line| line.start);
+        let end = place + word.concat().len();
+        if width(&paragraph[start..end]) <= most {
+            lines.pop();
+            lines.push(start..end);
+        } else {
+            lines.extend(pieces(place, &word, most));
+        }
+    }
+    if lines.is_empty() {
+        lines.push(0..0);
+    }
+    lines
+}
+
+/// The lines of a text: a line end separates paragraphs. A width of 0 counts as 1.
+fn lines(text: &str, most: usize) -> Vec<Range<usize>> {
+    let mut start = 0;
+    let mut lines = Vec::new();
+    for line in text.split('\n') {
+        let paragraph = match line.strip_suffix('\r') {
+            Some(paragraph) if start + line.len() < text.len() => paragraph,
+            _ => line,
+        };
+        let own = paragraph_lines(paragraph, most.max(1)).into_iter();
+        lines.extend(own.map(|line| start + line.start..start + line.end));
+        start += line.len() + 1;
+    }
+    lines
+}
+
+/// The lines of a wrap. A sequence belongs to the first line that doesn't end before it, or to the last line.
+fn wrapped(text: &Text, lines: &[Range<usize>]) -> Vec<String> {
+    let mut before: Option<usize> = None;
+    let mut wrapped = Vec::new();
+    for (number, line) in lines.iter().enumerate() {
+        let is_last = number + 1 == lines.len();
+        let is_before = |mark: &Item| matches!(before, Some(before) if mark.place <= before);
+        let is_own = |mark: &Item| (is_last || mark.place <= line.end) && !is_before(mark);
+        let content = text.written(line, is_own);
+        let style = before.map_or_else(Style::default, |before| text.style_at(before));
+        let link = link_after(text.items.iter().filter(|item| is_before(item)));
+        let end = if is_last { usize::MAX } else { line.end };
+        wrapped.push(if content.is_empty() {
+            content
+        } else {
+            style.start() + link + &content + &closing(text, end)
+        });
+        before = Some(line.end);
+    }
+    wrapped
+}
+
+#[rustfmt::skip]
+const WRAPPED_PIECES: [&str; 13] = [
+    "\x1b[1m", "\x1b[4:3m", "\x1b]8;;http://x\x1b\\", "\x1b]8;;\x07",
+    "a", "bc", " ", "  ", "日", "e\u{301}", "\u{1f1e6}", "\n", "\r\n",
+];
+
+/// Compares a text wrapped at each width.
+fn expect_lines(tally: &mut Tally, spelled: &str) {
+    let text = Text::new(spelled);
+    for most in 0..6 {
+        let want = lines(&text.plain, most);
+        tally.expect(spelled.ansi_lines(most), want.clone(), (most, spelled));
+        let got: Vec<String> = spelled.ansi_wrap(most).collect();
+        tally.expect(got, wrapped(&text, &want), (most, spelled));
+    }
+}
+
+#[test]
+fn columns_are_counted_as_defined() {
+    assert!(compare(&PIECES, 3, expect_columns) > 40_000);
+}
+
+#[test]
+fn texts_are_truncated_and_padded_as_defined() {
+    assert!(compare(&PIECES, 3, expect_shown) > 100_000);
+    assert!(compare(&HOSTILE_PIECES, 3, expect_shown) > 100_000);
+}
+
+#[test]
+fn texts_are_sliced_as_defined() {
+    assert!(compare(&SLICED_PIECES, 3, expect_slices) > 250_000);
+}
+
+#[test]
+fn tabs_are_expanded_as_defined() {
+    assert!(compare(&EXPANDED_PIECES, 4, expect_expanded) > 130_000);
+}
+
+#[test]
+fn texts_are_wrapped_as_defined() {
+    assert!(compare(&WRAPPED_PIECES, 4, expect_lines) > 300_000);
+}

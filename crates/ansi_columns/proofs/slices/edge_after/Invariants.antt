@@ -1,0 +1,14 @@
+use Rattle.std.proofs.Common.{length}
+use Rattle.ansi_columns.specs.Walks.{clusters_from, IsWalk}
+use Rattle.ansi_columns.proofs.EdgeLemmas.{IsEdgeSoFar}
+use Rattle.ansi_columns.proofs.slices.edge_after.Given as goal
+
+-- the clusters before the walk are before the edge, and leave this number of columns
+abbrev pub invariant-clusters : goal.invariant-clusters
+invariant-clusters l = record {
+  walk : IsWalk l.text l.walk;
+  so_far : IsEdgeSoFar l.text l.fn.from.position l.fn.columns l.walk.position l.left;
+}
+
+abbrev pub decreases-clusters : goal.decreases-clusters
+decreases-clusters l = length (clusters_from l.text l.walk.position)

@@ -1,0 +1,10 @@
+use Rattle.std.proofs.Common.{◌*◌, ◌≤◌, length, encode_utf8, unwrap_or, sym, ◌∙◌, ap, subst}
+use Rattle.ansi_columns.proofs.WidthLemmas.{width-alone, width-alone-bound}
+use Rattle.ansi_columns.proofs.walks.char_width.Goals as goal
+
+pub returns-clause-value : goal.returns-clause-value
+returns-clause-value c = c.unwrap_or.ensures ∙ ap (λ o. unwrap_or o 1) c.width.ensures.value ∙ width-alone c.args.c
+
+pub returns-clause-bound : goal.returns-clause-bound
+returns-clause-bound c =
+    subst (λ n. n ≤ 2 * length (encode_utf8 c.args.c)) (sym (c.unwrap_or.ensures ∙ ap (λ o. unwrap_or o 1) c.width.ensures.value ∙ width-alone c.args.c)) (width-alone-bound c.args.c)

@@ -1,5 +1,0 @@
-use Rattle.ansi_lines_io.proofs.fake_device.FakeDevice.bytes.Goals as goal
-
--- all of the bytes
-pub returns : goal.returns
-returns c = cc
