@@ -53,6 +53,7 @@ const usual = {
     const isLonger = usual.strip(text)[0].length > columns;
     return [isLonger ? usual.cut(text, { from: 0, to: Math.max(0, columns - 1) })[0] + '…' : text];
   },
+  slice: (text, range) => usual.cut(text, range),
   wrap: (text, { columns }) => text.replace(new RegExp(`(.{1,${columns}})(\\s+|$)`, 'g'), '$1\n').replace(/\n$/, '').split('\n'),
   sanitize: (text) => [text.replace(/\x1b\[[0-9;?]*[A-Za-z]/g, '')],
 };
@@ -220,6 +221,10 @@ const CALLS = [
     name: 'truncate', says: 'to columns, with a tail', inputs: ['columns'], isRuled: true,
     ours: (text, { columns }) => [library.truncate(text, columns, '…')],
     code: ({ columns }) => `truncate(text, ${columns}, '…')`, theirs: ({ columns }) => `the same slice to ${Math.max(0, columns - 1)}, and '…'`,
+  },
+  {
+    name: 'slice', says: 'columns, in their styles and links', inputs: ['from', 'to'], ours: (text, { from, to }) => [library.sliceColumns(text, from, to)],
+    code: ({ from, to }) => `sliceColumns(text, ${from}, ${to})`, theirs: () => `what is between /${SGR}/g, counted by characters and sliced`,
   },
   {
     name: 'wrap', says: 'to lines of columns', inputs: ['columns'], isRuled: true, ours: (text, { columns }) => library.wrap(text, columns),
