@@ -51,10 +51,17 @@ QUESTION(starts_with, p.at, p.len) QUESTION(ends_with, p.at, p.len) QUESTION(fin
 static size_t truncate_to(struct bytes t, size_t n, struct bytes p) {
     return len_of(ansi_str_truncate(t.at, t.len, n, p.at, p.len, NULL, 0));
 }
+/* the same in the middle */
+static size_t truncate_with(struct bytes t, size_t n, struct bytes p) {
+    return len_of(ansi_str_truncate_with(t.at, t.len, n, p.at, p.len, ANSI_STR_MIDDLE, NULL, 0));
+}
 /* padded to `position` columns, but at most twice LONG */
 static size_t pad(struct bytes t, size_t n, struct bytes p) {
     (void)p;
     return len_of(ansi_str_pad(t.at, t.len, n > 2 * LONG ? 2 * LONG : n, ANSI_STR_CENTER, NULL, 0));
+}
+static size_t fit(struct bytes t, size_t n, struct bytes p) {
+    return len_of(ansi_str_fit(t.at, t.len, n > 2 * LONG ? 2 * LONG : n, ANSI_STR_CENTER, p.at, p.len, NULL, 0));
 }
 /* a TAB has at most 16 columns */
 static size_t expand_tabs(struct bytes t, size_t n, struct bytes p) {
@@ -108,7 +115,7 @@ static const struct call CALLS[] = {
     {"floor_char_boundary", floor_char_boundary, 1, 0, 0}, {"starts_with", starts_with, 0, 1, 0},
     {"ends_with", ends_with, 0, 1, 0}, {"strip_prefix", strip_prefix, 0, 1, 0}, {"strip_suffix", strip_suffix, 0, 1, 0},
     {"width", width, 0, 0, 0}, {"fitting", fitting, 1, 0, 0}, {"truncate", truncate_to, 1, 1, 0}, {"pad", pad, 1, 0, 0},
-    {"slice", slice, 1, 0, 0}, {"expand_tabs", expand_tabs, 1, 0, 0},
+    {"fit", fit, 1, 1, 0}, {"truncate_with", truncate_with, 1, 1, 0}, {"slice", slice, 1, 0, 0}, {"expand_tabs", expand_tabs, 1, 0, 0},
     {"wrap", wrap, 1, 0, 1}, {"lines", lines, 1, 0, 1}, {"link_at", link_at, 1, 0, 0},
     {"sanitize", sanitize, 0, 0, 0}, {"is_safe", is_safe, 0, 0, 0},
     {"find", find, 0, 1, 0}, {"split", split, 0, 1, 1}, {"part", part, 1, 1, 0},

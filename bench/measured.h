@@ -74,6 +74,12 @@ static size_t columns(const struct text *t) { return len_of(ansi_str_width(t->by
 static size_t truncated(const struct text *t) { return len_of(ansi_str_truncate(t->bytes, t->len, 40, "...", 3, buffer, room)); }
 static size_t padded(const struct text *t) { return len_of(ansi_str_pad(t->bytes, t->len, t->len, ANSI_STR_LEFT, buffer, room)); }
 static size_t wrapped(const struct text *t) { return count_of(ansi_str_wrap(t->bytes, t->len, 80, NULL, 0, NULL, 0)); }
+static size_t is_safe(const struct text *t) {
+    return ansi_str_is_safe(t->bytes, t->len, ANSI_STR_KEEP_LINKS).status == ANSI_STR_REFUSED ? SIZE_MAX : 0;
+}
+static size_t sanitized(const struct text *t) {
+    return len_of(ansi_str_sanitize(t->bytes, t->len, ANSI_STR_DROP, ANSI_STR_KEEP_LINKS, buffer, room));
+}
 /* three edits: without the first byte, the first half, and without white space at its ends */
 static size_t edits(const struct text *t) {
     const ansi_str_edit_step steps[] = {ansi_str_edit_prefix(&t->first, 1), ansi_str_edit_cut(0, t->half - 1),
@@ -109,6 +115,8 @@ static const struct call CALLS[] = {
     {"truncate", truncated, NULL},
     {"pad", padded, NULL},
     {"wrap", wrapped, NULL},
+    {"is_safe", is_safe, NULL},
+    {"sanitize", sanitized, NULL},
 };
 
 enum { CALL_COUNT = sizeof CALLS / sizeof CALLS[0] };

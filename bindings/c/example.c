@@ -80,14 +80,19 @@ static void give_all_parts(void) {
     expect("parts", start == parts.len);
 }
 
+/* (31 is the SGR code for red) */
+static bool is_red(const ansi_str_style *style) {
+    return style->foreground.kind == ANSI_STR_NAMED && style->foreground.first == 31;
+}
+
 static void give_all_blocks(void) {
     char buffer[128];
     ansi_str_block_entry blocks[8];
     ansi_str_answers given = ansi_str_blocks(LOG, strlen(LOG), buffer, sizeof buffer, blocks, 8);
     expect("blocks", given.status == ANSI_STR_OK && given.count == 3 && given.len == 16);
     expect("the first block", blocks[0].end == 5 && memcmp(buffer, "error", 5) == 0);
-    expect("red", blocks[0].style.foreground.kind == ANSI_STR_RED && blocks[0].style.has_any);
-    expect("plain", blocks[1].style.attributes == 0 && !blocks[1].style.has_any);
+    expect("red", is_red(&blocks[0].style) && ansi_str_style_has_any(&blocks[0].style));
+    expect("plain", !ansi_str_style_has_any(&blocks[1].style));
     expect("bold", blocks[2].style.attributes == ANSI_STR_BOLD);
 
     ansi_str_styled_block_entry styled[8];
@@ -97,7 +102,7 @@ static void give_all_blocks(void) {
     expect("its text", styled[0].text_start == 5 && styled[0].text_end == 10);
 
     ansi_str_style_answer first = ansi_str_block_style(LOG, strlen(LOG), 0);
-    expect("its style", first.status == ANSI_STR_OK && first.style.foreground.kind == ANSI_STR_RED);
+    expect("its style", first.status == ANSI_STR_OK && is_red(&first.style));
 }
 
 static void walk_over_blocks(void) {
@@ -108,9 +113,8 @@ static void walk_over_blocks(void) {
     ansi_str_answer answer = ansi_str_blocks_next(&walk, &block, sequences, sizeof sequences);
     expect("the first", answer.status == ANSI_STR_OK && answer.len == 0);
     expect("its run", block.text_len == 5 && memcmp(block.text, "error", 5) == 0);
-    expect("its color", block.style.foreground.kind == ANSI_STR_RED);
-    ansi_str_style_numbers style = ansi_str_walk_style(&walk);
-    answer = ansi_str_style_start(&style, sequences, sizeof sequences);
+    expect("its color", is_red(&block.style));
+    answer = ansi_str_style_start(&block.style, sequences, sizeof sequences);
     expect("its start", answer.len == 5 && memcmp(sequences, "\x1b[31m", 5) == 0);
     size_t left = 0;
     while (ansi_str_blocks_next(&walk, &block, sequences, sizeof sequences).status == ANSI_STR_OK) {

@@ -58,76 +58,104 @@ static ansi_str_style style_of(const char *text) {
     return answer.style;
 }
 
-/* Each attribute, by the code of ECMA-48 (section 8.3.117) that sets it alone. */
+/* Each attribute, by the code that sets it alone (ECMA-48, section 8.3.117; 73 and 74 are those of mintty). */
 static void expect_attributes(void) {
     static const struct {
-        const char *text;
+        int code;
         uint32_t attribute, number;
     } ATTRIBUTES[] = {
-        {"\x1b[1mbold", ANSI_STR_BOLD, 1},
-        {"\x1b[2mfaint", ANSI_STR_FAINT, 2},
-        {"\x1b[3mitalic", ANSI_STR_ITALIC, 4},
-        {"\x1b[4munderline", ANSI_STR_UNDERLINE, 8},
-        {"\x1b[5mslow blink", ANSI_STR_SLOW_BLINK, 16},
-        {"\x1b[6mrapid blink", ANSI_STR_RAPID_BLINK, 32},
-        {"\x1b[7minverse", ANSI_STR_INVERSE, 64},
-        {"\x1b[8mhide", ANSI_STR_HIDE, 128},
-        {"\x1b[9mcrossed out", ANSI_STR_CROSSED_OUT, 256},
-        {"\x1b[20mfraktur", ANSI_STR_FRAKTUR, 512},
+        {1, ANSI_STR_BOLD, 0x1},
+        {2, ANSI_STR_FAINT, 0x2},
+        {3, ANSI_STR_ITALIC, 0x4},
+        {4, ANSI_STR_UNDERLINE, 0x8},
+        {21, ANSI_STR_DOUBLE_UNDERLINE, 0x10},
+        {5, ANSI_STR_SLOW_BLINK, 0x20},
+        {6, ANSI_STR_RAPID_BLINK, 0x40},
+        {7, ANSI_STR_INVERSE, 0x80},
+        {8, ANSI_STR_HIDE, 0x100},
+        {9, ANSI_STR_CROSSED_OUT, 0x200},
+        {51, ANSI_STR_FRAMED, 0x400},
+        {52, ANSI_STR_ENCIRCLED, 0x800},
+        {20, ANSI_STR_FRAKTUR, 0x1000},
+        {26, ANSI_STR_PROPORTIONAL_SPACING, 0x2000},
+        {53, ANSI_STR_OVERLINED, 0x4000},
+        {60, ANSI_STR_IDEOGRAM_UNDERLINE, 0x8000},
+        {61, ANSI_STR_IDEOGRAM_DOUBLE_UNDERLINE, 0x10000},
+        {62, ANSI_STR_IDEOGRAM_OVERLINE, 0x20000},
+        {63, ANSI_STR_IDEOGRAM_DOUBLE_OVERLINE, 0x40000},
+        {64, ANSI_STR_IDEOGRAM_STRESS_MARKING, 0x80000},
+        {73, ANSI_STR_SUPERSCRIPT, 0x100000},
+        {74, ANSI_STR_SUBSCRIPT, 0x200000},
+        {0, ANSI_STR_RESET, 0x400000},
+        {99, ANSI_STR_UNKNOWN, 0x800000},
     };
     for (size_t i = 0; i < sizeof ATTRIBUTES / sizeof ATTRIBUTES[0]; i++) {
-        expect(ATTRIBUTES[i].text, ATTRIBUTES[i].attribute, ATTRIBUTES[i].number);
-        expect(ATTRIBUTES[i].text, style_of(ATTRIBUTES[i].text).attributes, ATTRIBUTES[i].number);
+        char text[16];
+        snprintf(text, sizeof text, "\x1b[%dmt", ATTRIBUTES[i].code);
+        ansi_str_style style = style_of(text);
+        expect(text, ATTRIBUTES[i].attribute, ATTRIBUTES[i].number);
+        expect(text, style.attributes, ATTRIBUTES[i].number);
+        expect(text, ansi_str_style_has_any(&style), ATTRIBUTES[i].number < 0x400000);
     }
-    expect("no attribute", style_of("plain").attributes, 0);
+    ansi_str_style plain = style_of("plain"), both = style_of("\x1b[0;99mt");
+    expect("no attribute", plain.attributes, 0);
+    expect("nothing to close", ansi_str_style_has_any(&plain), false);
+    expect("an unknown code after a reset", ansi_str_style_has_any(&both), true);
 }
 
 /* A color is of this kind, with these numbers. */
-static void expect_color(const char *text, const ansi_str_color *color, uint32_t kind, const uint8_t numbers[4]) {
+static void expect_color(const char *text, const ansi_str_color *color, uint32_t kind, const uint8_t numbers[3]) {
     expect(text, color->kind, kind);
-    expect(text, color->number, numbers[0]);
-    expect(text, color->red, numbers[1]);
-    expect(text, color->green, numbers[2]);
-    expect(text, color->blue, numbers[3]);
+    expect(text, color->first, numbers[0]);
+    expect(text, color->second, numbers[1]);
+    expect(text, color->third, numbers[2]);
 }
 
-/* Each kind of color, by the codes that set it for the text and for what is behind it. No code sets the two purples. */
+/* Only the color of this place is set by the codes. */
+static void expect_place(const char *text, size_t place, uint32_t kind, const uint8_t numbers[3]) {
+    static const uint8_t ZERO[3] = {0};
+    ansi_str_style style = style_of(text);
+    const ansi_str_color *colors[3] = {&style.foreground, &style.background, &style.underline_color};
+    for (size_t i = 0; i < 3; i++) {
+        expect_color(text, colors[i], i == place ? kind : ANSI_STR_NO_COLOR, i == place ? numbers : ZERO);
+    }
+    expect(text, ansi_str_style_has_any(&style), kind != ANSI_STR_NO_COLOR);
+}
+
+/* Each kind of color, by the codes that set it for the text, for what is behind it and for a line under it. */
 static void expect_colors(void) {
-    static const struct {
-        const char *foreground, *background;
-        uint32_t kind, number;
-        uint8_t numbers[4];
-    } COLORS[] = {
-        {"plain", "plain", ANSI_STR_NO_COLOR, 0, {0}},
-        {"\x1b[30mt", "\x1b[40mt", ANSI_STR_BLACK, 1, {0}},
-        {"\x1b[90mt", "\x1b[100mt", ANSI_STR_BRIGHT_BLACK, 2, {0}},
-        {"\x1b[31mt", "\x1b[41mt", ANSI_STR_RED, 3, {0}},
-        {"\x1b[91mt", "\x1b[101mt", ANSI_STR_BRIGHT_RED, 4, {0}},
-        {"\x1b[32mt", "\x1b[42mt", ANSI_STR_GREEN, 5, {0}},
-        {"\x1b[92mt", "\x1b[102mt", ANSI_STR_BRIGHT_GREEN, 6, {0}},
-        {"\x1b[33mt", "\x1b[43mt", ANSI_STR_YELLOW, 7, {0}},
-        {"\x1b[93mt", "\x1b[103mt", ANSI_STR_BRIGHT_YELLOW, 8, {0}},
-        {"\x1b[34mt", "\x1b[44mt", ANSI_STR_BLUE, 9, {0}},
-        {"\x1b[94mt", "\x1b[104mt", ANSI_STR_BRIGHT_BLUE, 10, {0}},
-        {"\x1b[35mt", "\x1b[45mt", ANSI_STR_MAGENTA, 13, {0}},
-        {"\x1b[95mt", "\x1b[105mt", ANSI_STR_BRIGHT_MAGENTA, 14, {0}},
-        {"\x1b[36mt", "\x1b[46mt", ANSI_STR_CYAN, 15, {0}},
-        {"\x1b[96mt", "\x1b[106mt", ANSI_STR_BRIGHT_CYAN, 16, {0}},
-        {"\x1b[37mt", "\x1b[47mt", ANSI_STR_WHITE, 17, {0}},
-        {"\x1b[97mt", "\x1b[107mt", ANSI_STR_BRIGHT_WHITE, 18, {0}},
-        {"\x1b[38;5;200mt", "\x1b[48;5;200mt", ANSI_STR_FIXED, 19, {200}},
-        {"\x1b[38;2;1;2;3mt", "\x1b[48;2;1;2;3mt", ANSI_STR_RGB, 20, {0, 1, 2, 3}},
-    };
-    static const uint8_t NONE[4] = {0};
-    EXPECT_NUMBER(ANSI_STR_PURPLE, 11);
-    EXPECT_NUMBER(ANSI_STR_BRIGHT_PURPLE, 12);
-    for (size_t i = 0; i < sizeof COLORS / sizeof COLORS[0]; i++) {
-        expect(COLORS[i].foreground, COLORS[i].kind, COLORS[i].number);
-        ansi_str_style before = style_of(COLORS[i].foreground), behind = style_of(COLORS[i].background);
-        expect_color(COLORS[i].foreground, &before.foreground, COLORS[i].number, COLORS[i].numbers);
-        expect_color(COLORS[i].foreground, &before.background, 0, NONE);
-        expect_color(COLORS[i].background, &behind.background, COLORS[i].number, COLORS[i].numbers);
-        expect_color(COLORS[i].background, &behind.foreground, 0, NONE);
+    static const uint8_t BASES[2][2] = {{30, 90}, {40, 100}}, FIXED[3] = {200, 0, 0}, RGB[3] = {1, 2, 3}, ZERO[3] = {0};
+    char text[32];
+    EXPECT_NUMBER(ANSI_STR_NO_COLOR, 0);
+    EXPECT_NUMBER(ANSI_STR_NAMED, 1);
+    EXPECT_NUMBER(ANSI_STR_FIXED, 2);
+    EXPECT_NUMBER(ANSI_STR_RGB, 3);
+    expect_place("plain", 0, ANSI_STR_NO_COLOR, ZERO);
+    for (size_t place = 0; place < 2; place++) {
+        for (int i = 0; i < 16; i++) {
+            const uint8_t code[3] = {(uint8_t)(BASES[place][i / 8] + i % 8), 0, 0};
+            snprintf(text, sizeof text, "\x1b[%dmt", code[0]);
+            expect_place(text, place, ANSI_STR_NAMED, code);
+        }
+    }
+    for (size_t place = 0; place < 3; place++) {
+        int code = 38 + 10 * (int)place;
+        snprintf(text, sizeof text, "\x1b[%d;5;200mt", code);
+        expect_place(text, place, ANSI_STR_FIXED, FIXED);
+        snprintf(text, sizeof text, "\x1b[%d;2;1;2;3mt", code);
+        expect_place(text, place, ANSI_STR_RGB, RGB);
+    }
+}
+
+/* Each font, by the code that selects it, and the usual one. */
+static void expect_fonts(void) {
+    char text[16];
+    for (uint8_t code = 10; code < 20; code++) {
+        snprintf(text, sizeof text, "\x1b[%dmt", code);
+        ansi_str_style style = style_of(text);
+        expect(text, style.font.is_set, code > 10);
+        expect(text, style.font.number, code > 10 ? code : 0);
+        expect(text, ansi_str_style_has_any(&style), code > 10);
     }
 }
 
@@ -207,6 +235,7 @@ int main(void) {
     expect_lengths();
     expect_attributes();
     expect_colors();
+    expect_fonts();
     expect_edits();
     expect_policies();
     printf("numbers: %ld are as they should be\n", tried);

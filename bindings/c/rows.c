@@ -116,7 +116,8 @@ static uint32_t number_of(const struct text *word) {
         uint32_t number;
     } WORDS[] = {{"Left", ANSI_STR_LEFT},           {"Center", ANSI_STR_CENTER}, {"Right", ANSI_STR_RIGHT},
                  {"Drop", ANSI_STR_DROP},           {"Show", ANSI_STR_SHOW},     {"Keep", ANSI_STR_KEEP_LINKS},
-                 {"Remove", ANSI_STR_REMOVE_LINKS}};
+                 {"Remove", ANSI_STR_REMOVE_LINKS}, {"End", ANSI_STR_END},       {"Start", ANSI_STR_START},
+                 {"Middle", ANSI_STR_MIDDLE}};
     for (size_t i = 0; i < sizeof WORDS / sizeof WORDS[0]; i++) {
         if (strcmp(word->bytes, WORDS[i].word) == 0) {
             return WORDS[i].number;
@@ -167,6 +168,10 @@ static ansi_str_answer call(const struct row *r, char *buffer, size_t len) {
         return ansi_str_truncate(TEXT(t), position(r, 0), TEXT(argument(r, 1)), buffer, len);
     } else if (strcmp(name, "pad") == 0) {
         return ansi_str_pad(TEXT(t), position(r, 0), number_of(argument(r, 1)), buffer, len);
+    } else if (strcmp(name, "fit") == 0) {
+        return ansi_str_fit(TEXT(t), position(r, 0), number_of(argument(r, 1)), TEXT(argument(r, 2)), buffer, len);
+    } else if (strcmp(name, "truncate_with") == 0) {
+        return ansi_str_truncate_with(TEXT(t), position(r, 0), TEXT(argument(r, 1)), number_of(argument(r, 2)), buffer, len);
     } else if (strcmp(name, "slice") == 0) {
         return ansi_str_slice(TEXT(t), position(r, 0), position(r, 1), buffer, len);
     } else if (strcmp(name, "expand_tabs") == 0) {
@@ -335,6 +340,33 @@ static ansi_str_answers list(const struct row *r, char *buffer, size_t len, size
                                                     : ansi_str_wrap(TEXT(t), position(r, 0), buffer, len, ends, most);
 }
 
+/* The text is printable ASCII and line feeds, which a wrap shows as they are. */
+static bool is_printable(const struct text *t) {
+    for (size_t i = 0; i < t->len; i++) {
+        if (t->bytes[i] != '\n' && (t->bytes[i] < ' ' || t->bytes[i] > '~')) {
+            return false;
+        }
+    }
+    return true;
+}
+
+/* A walk has these lines, and then no line, now and at every later call. No call allocates. */
+static void expect_next_lines(const struct text *t, size_t width, const ansi_str_line_entry *lines, size_t count) {
+    ansi_str_line_walk walk, copy;
+    ansi_str_line_entry line;
+    granted = 0;
+    expect("a walk", ansi_str_lines_begin(TEXT(t), width, &walk).status == ANSI_STR_OK);
+    for (size_t i = 0; i < count; i++) {
+        copy = walk;
+        expect("the next line", ansi_str_lines_next(&walk, &line).status == ANSI_STR_OK && line.start == lines[i].start && line.end == lines[i].end);
+        expect("the line again", ansi_str_lines_next(&copy, &line).status == ANSI_STR_OK && line.end == lines[i].end);
+    }
+    for (int i = 0; i < 2; i++) {
+        expect("no line is left", ansi_str_lines_next(&walk, &line).status == ANSI_STR_NO && line.start == 0 && line.end == 0);
+    }
+    granted = -1;
+}
+
 /* Where each line of a row's text begins and ends: with room for one more, and with too little. The call doesn't allocate. */
 static void expect_lines(const struct row *r) {
     const struct text *t = text_of(r);
@@ -354,6 +386,7 @@ static void expect_lines(const struct row *r) {
         expect("a line", strcmp(interval, argument(r, 1 + i)->bytes) == 0);
     }
     expect("nothing more is written", is_guard((const char *)&lines[count], 0, sizeof *lines));
+    expect_next_lines(t, position(r, 0), lines, count);
     free(lines);
 }
 
@@ -389,7 +422,8 @@ static void expect_list(const struct row *r) {
         granted = requests++;
         answer = list(r, buffer, len, ends, count);
     } while (is_wanting(answer.status, buffer, len));
-    expect("memory for a text with ESC alone", requests == 1 || memchr(text_of(r)->bytes, '\x1b', text_of(r)->len) != NULL);
+    expect("memory for a text with ESC, or that a wrap changes", requests == 1 || memchr(text_of(r)->bytes, '\x1b', text_of(r)->len) != NULL ||
+        (strcmp(r->fields[0].bytes, "wrap") == 0 && !is_printable(text_of(r))));
     expect("status", answer.status == status_of(r));
     expect("how many and how long", answer.count == count && answer.len == len && buffer[len] == GUARD && ends[count] == 0);
     for (size_t i = 0, start = 0; i < count; start = ends[i++]) {
@@ -428,27 +462,41 @@ static void expect_parts(const struct row *r) {
     }
 }
 
-/* A color in a row: its kind and its numbers. */
+/* The bits of the attributes that rows have, in their order. */
+static uint32_t attributes_of(const ansi_str_style *style) {
+    static const uint32_t ATTRIBUTES[] = {ANSI_STR_BOLD, ANSI_STR_FAINT, ANSI_STR_ITALIC, ANSI_STR_UNDERLINE, ANSI_STR_SLOW_BLINK,
+                                          ANSI_STR_RAPID_BLINK, ANSI_STR_INVERSE, ANSI_STR_HIDE, ANSI_STR_CROSSED_OUT, ANSI_STR_FRAKTUR};
+    uint32_t set = 0;
+    for (size_t i = 0; i < sizeof ATTRIBUTES / sizeof ATTRIBUTES[0]; i++) {
+        set |= (style->attributes & ATTRIBUTES[i]) != 0 ? 1u << i : 0;
+    }
+    return set;
+}
+
+/* A color in a row: its kind there, which numbers the names too, and its numbers. */
 static int is_color(const ansi_str_color *color, const struct text *wanted) {
+    static const unsigned NAMES[] = {1, 3, 5, 7, 9, 13, 15, 17};
+    static const unsigned KINDS[] = {0, 0, 19, 20};
+    unsigned kind = color->kind == ANSI_STR_NAMED ? NAMES[color->first % 10] + (color->first >= 90) : KINDS[color->kind];
+    unsigned number = color->kind == ANSI_STR_FIXED ? color->first : 0, red = color->kind == ANSI_STR_RGB ? color->first : 0;
     char text[64];
-    snprintf(text, sizeof text, "%u,%u,%u,%u,%u", (unsigned)color->kind, color->number, color->red, color->green, color->blue);
+    snprintf(text, sizeof text, "%u,%u,%u,%u,%u", kind, number, red, color->second, color->third);
     return strcmp(text, wanted->bytes) == 0;
 }
 
 /* A style in a row: its attributes, two colors, and whether it has something to close. */
 static int is_style(const struct row *r, size_t i, const ansi_str_style *style) {
-    return style->attributes == number(r, i) && is_color(&style->foreground, &r->fields[i + 1]) &&
-           is_color(&style->background, &r->fields[i + 2]) && (size_t)style->has_any == number(r, i + 3);
+    return attributes_of(style) == number(r, i) && is_color(&style->foreground, &r->fields[i + 1]) &&
+           is_color(&style->background, &r->fields[i + 2]) && ansi_str_style_has_any(style) == number(r, i + 3);
 }
 
 static int is_same_style(const ansi_str_style *a, const ansi_str_style *b) {
-    return a->attributes == b->attributes && memcmp(&a->foreground, &b->foreground, sizeof a->foreground) == 0 &&
-           memcmp(&a->background, &b->background, sizeof a->background) == 0 && a->has_any == b->has_any;
+    return memcmp(a, b, offsetof(ansi_str_style, font)) == 0 && a->font.is_set == b->font.is_set && a->font.number == b->font.number;
 }
 
 /* A call of a style writes these sequences. */
-static void expect_sequences(ansi_str_answer (*call_of)(const ansi_str_style_numbers *, char *, size_t),
-                             const ansi_str_style_numbers *style, const struct text *wanted) {
+static void expect_sequences(ansi_str_answer (*call_of)(const ansi_str_style *, char *, size_t),
+                             const ansi_str_style *style, const struct text *wanted) {
     char *buffer = guarded(wanted->len);
     ansi_str_answer answer;
     long requests = 0;
@@ -592,9 +640,8 @@ static void expect_styled_blocks(const struct row *r) {
             start = ends[k];
         }
         expect_next(&walk, &wanted[1], &blocks[i].style);
-        ansi_str_style_numbers numbers = ansi_str_walk_style(&walk);
-        expect_sequences(ansi_str_style_start, &numbers, &wanted[0]);
-        expect_sequences(ansi_str_style_end, &numbers, &wanted[2]);
+        expect_sequences(ansi_str_style_start, &blocks[i].style, &wanted[0]);
+        expect_sequences(ansi_str_style_end, &blocks[i].style, &wanted[2]);
         expect_one(r, "block_start", status, i, &wanted[0], 0);
         expect_one(r, "block", status, i, &wanted[1], 0);
         expect_one(r, "block_end", status, i, &wanted[2], 0);
@@ -613,6 +660,10 @@ static void expect_failures(void) {
                                        ansi_str_truncate("\xff", 1, 1, ".", 1, buffer, 8),
                                        ansi_str_truncate("ab", 2, 1, "\xff", 1, buffer, 8),
                                        ansi_str_pad("\xff", 1, 4, ANSI_STR_RIGHT + 1, buffer, 8),
+                                       ansi_str_fit("\xff", 1, 4, ANSI_STR_LEFT, ".", 1, buffer, 8),
+                                       ansi_str_fit("ab", 2, 4, ANSI_STR_RIGHT + 1, "\xff", 1, buffer, 8),
+                                       ansi_str_truncate_with("\xff", 1, 1, ".", 1, ANSI_STR_START, buffer, 8),
+                                       ansi_str_truncate_with("ab", 2, 1, "\xff", 1, ANSI_STR_MIDDLE + 1, buffer, 8),
                                        ansi_str_slice("\xff", 1, 0, 1, buffer, 8),
                                        ansi_str_expand_tabs("\xff", 1, 8, buffer, 8),
                                        ansi_str_link_at("\xff", 1, 0, buffer, 8)};
@@ -625,12 +676,21 @@ static void expect_failures(void) {
     ansi_str_line_entry line = {1, 1};
     lines = ansi_str_lines("\xff", 1, 4, &line, 1);
     expect("no UTF-8", lines.status == ANSI_STR_NOT_UTF8 && lines.count == 0 && lines.len == 0 && line.end == 1);
+    ansi_str_line_walk walk;
+    ansi_str_answer next = ansi_str_lines_begin("\xff", 1, 4, &walk);
+    expect("no UTF-8", next.status == ANSI_STR_NOT_UTF8 && next.len == 0);
+    next = ansi_str_lines_next(&walk, &line);
+    expect("no line", next.status == ANSI_STR_NO && line.end == 0);
     lines = ansi_str_lines(NULL, 0, 0, NULL, 0);
     expect("one line", lines.status == ANSI_STR_TOO_SMALL && lines.count == 1 && lines.len == 0);
     lines = ansi_str_wrap(NULL, 0, 0, NULL, 0, NULL, 0);
     expect("one line", lines.status == ANSI_STR_TOO_SMALL && lines.count == 1 && lines.len == 0);
     ansi_str_answer answer = ansi_str_pad("ab", 2, 4, ANSI_STR_RIGHT + 1, buffer, 8);
     expect("an unknown alignment", answer.status == ANSI_STR_REFUSED && answer.len == 0);
+    answer = ansi_str_fit("ab", 2, 4, ANSI_STR_RIGHT + 1, ".", 1, buffer, 8);
+    expect("an unknown alignment", answer.status == ANSI_STR_REFUSED && answer.len == 0);
+    answer = ansi_str_truncate_with("ab", 2, 1, ".", 1, ANSI_STR_MIDDLE + 1, buffer, 8);
+    expect("an unknown side", answer.status == ANSI_STR_REFUSED && answer.len == 0);
     const ansi_str_answer refused[] = {ansi_str_sanitize("a\a", 2, ANSI_STR_SHOW + 1, ANSI_STR_KEEP_LINKS, buffer, 8),
                                        ansi_str_sanitize("a\a", 2, ANSI_STR_DROP, ANSI_STR_KEEP_LINKS + 1, buffer, 8),
                                        ansi_str_is_safe("a", 1, ANSI_STR_KEEP_LINKS + 1)};
@@ -639,10 +699,17 @@ static void expect_failures(void) {
     }
     answer = ansi_str_pad("ab", 2, SIZE_MAX, ANSI_STR_LEFT, buffer, 8);
     expect("more than there is memory", answer.status == ANSI_STR_OUT_OF_MEMORY && answer.len == 0);
+    answer = ansi_str_fit("ab", 2, SIZE_MAX, ANSI_STR_LEFT, NULL, 0, buffer, 8);
+    expect("more than there is memory", answer.status == ANSI_STR_OUT_OF_MEMORY && answer.len == 0);
+    answer = ansi_str_expand_tabs("a\t", 2, SIZE_MAX, buffer, 8);
+    expect("more than there is memory", answer.status == ANSI_STR_OUT_OF_MEMORY && answer.len == 0);
+    expect("the buffer", memcmp(buffer, "as it is", 8) == 0);
     expect("nothing", ansi_str_width(NULL, 0).status == ANSI_STR_OK);
     expect("nothing", ansi_str_fitting(NULL, 0, 0).status == ANSI_STR_OK);
     expect("nothing", ansi_str_truncate(NULL, 0, 0, NULL, 0, NULL, 0).status == ANSI_STR_OK);
     expect("nothing", ansi_str_pad(NULL, 0, 0, ANSI_STR_LEFT, NULL, 0).status == ANSI_STR_OK);
+    expect("nothing", ansi_str_fit(NULL, 0, 0, ANSI_STR_LEFT, NULL, 0, NULL, 0).status == ANSI_STR_OK);
+    expect("nothing", ansi_str_truncate_with(NULL, 0, 0, NULL, 0, ANSI_STR_START, NULL, 0).status == ANSI_STR_OK);
     expect("nothing", ansi_str_slice(NULL, 0, 0, SIZE_MAX, NULL, 0).status == ANSI_STR_OK);
     expect("nothing", ansi_str_expand_tabs(NULL, 0, 0, NULL, 0).status == ANSI_STR_OK);
     expect("nothing", ansi_str_link_at(NULL, 0, 0, NULL, 0).status == ANSI_STR_NO);

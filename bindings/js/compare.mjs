@@ -1,4 +1,4 @@
-// Times strip, cut, wrap and width and Debian's strip-ansi, slice-ansi, wrap-ansi and string-width in one run, and prints the rows of
+// Times strip, cut, sliceColumns, wrap and width and Debian's strip-ansi, slice-ansi, wrap-ansi and string-width in one run, and prints the rows of
 // texts and results that those packages get wrong, and how. NODE_PATH=/usr/share/nodejs node compare.mjs
 import { execFileSync } from 'node:child_process';
 import { mkdtempSync, readFileSync, rmSync, statSync } from 'node:fs';
@@ -7,7 +7,7 @@ import { tmpdir } from 'node:os';
 import { fileURLToPath } from 'node:url';
 
 const start = performance.now();
-const { blocks, cut, strip, width, wrap } = await import('./index.js');
+const { blocks, cut, sliceColumns, strip, width, wrap } = await import('./index.js');
 strip('\x1b[1ma');
 const started = performance.now() - start;
 const { inUnits, rows } = await import('./rows.mjs');
@@ -59,6 +59,7 @@ for (const [name, text] of Object.entries(texts)) {
     strip: () => strip(text),
     'strip-ansi': () => stripAnsi(text),
     cut: () => cut(text, from, middle),
+    sliceColumns: () => sliceColumns(text, from, middle),
     'slice-ansi': () => sliceAnsi(text, from, middle),
     wrap: () => wrap(text, columns),
     'wrap-ansi': () => wrapAnsi(text, columns, { hard: true, trim: false }),
@@ -103,6 +104,11 @@ function judge(name, kind, row) {
   }
 }
 
+/** How a slice differs from the wanted one, or null if it looks the same and leaves no style open. */
+function differenceOf(got, want) {
+  return strip(got) !== strip(want) ? 'another text' : seen(got) !== seen(want) ? 'another style' : isOpen(got) ? 'a style is left open' : null;
+}
+
 for (const [call, status, want, text, ...more] of await rows()) {
   if (call === 'strip') {
     const got = stripAnsi(text);
@@ -114,9 +120,12 @@ for (const [call, status, want, text, ...more] of await rows()) {
     // (slice-ansi counts columns)
     if (from !== null && to !== null && [...plain].every((character) => character.length === 1 && width(character) === 1)) {
       const got = sliceAnsi(text, from, to);
-      const kind = strip(got) !== strip(want) ? 'another text' : seen(got) !== seen(want) ? 'another style' : isOpen(got) ? 'a style is left open' : null;
-      judge('slice-ansi', kind, [text, from, to, got, want]);
+      judge('slice-ansi', differenceOf(got, want), [text, from, to, got, want]);
     }
+  } else if (call === 'slice' && more[1] < 10000) {
+    const [from, to] = more.map(Number);
+    const got = sliceAnsi(text, from, to);
+    judge('slice-ansi by columns', differenceOf(got, want), [text, from, to, got, want]);
   } else if (call === 'wrap') {
     const [columns, ...wanted] = more;
     const got = wrapAnsi(text, Number(columns), { hard: true });

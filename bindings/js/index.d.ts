@@ -73,14 +73,15 @@ export type Edit =
 export function edit(text: string, edits: Iterable<Edit>): string | null;
 
 export type Attribute =
-  | 'bold' | 'faint' | 'italic' | 'underline' | 'slowBlink' | 'rapidBlink' | 'inverse' | 'hide' | 'crossedOut' | 'fraktur';
+  | 'bold' | 'faint' | 'italic' | 'underline' | 'doubleUnderline' | 'slowBlink' | 'rapidBlink' | 'inverse' | 'hide' | 'crossedOut'
+  | 'framed' | 'encircled' | 'fraktur' | 'proportionalSpacing' | 'overlined' | 'ideogramUnderline' | 'ideogramDoubleUnderline'
+  | 'ideogramOverline' | 'ideogramDoubleOverline' | 'ideogramStressMarking' | 'superscript' | 'subscript';
 
 /** A color by its name, by its number of 256, or by red, green and blue; null if none is set. */
 export type Color =
   | null
-  | 'black' | 'red' | 'green' | 'yellow' | 'blue' | 'purple' | 'magenta' | 'cyan' | 'white'
-  | 'brightBlack' | 'brightRed' | 'brightGreen' | 'brightYellow' | 'brightBlue' | 'brightPurple' | 'brightMagenta' | 'brightCyan'
-  | 'brightWhite'
+  | 'black' | 'red' | 'green' | 'yellow' | 'blue' | 'magenta' | 'cyan' | 'white'
+  | 'brightBlack' | 'brightRed' | 'brightGreen' | 'brightYellow' | 'brightBlue' | 'brightMagenta' | 'brightCyan' | 'brightWhite'
   | number
   | { red: number; green: number; blue: number };
 
@@ -111,7 +112,7 @@ export function blocks(text: string): Block[];
 /** An iterator over what `blocks` returns. All blocks are made at once, as there. */
 export function iterBlocks(text: string): IterableIterator<Block>;
 
-/** The display width of the text in columns: the sum over the extended grapheme clusters of its plain text. */
+/** The display width of the text in columns: the sum over the extended grapheme clusters of what a terminal shows. */
 export function width(text: string): number;
 
 /** The position up to which the plain text fits into `width` columns. The text can be cut there. */
@@ -125,10 +126,19 @@ export function fitting(text: string, width: number): number;
 export function truncate(text: string, width: number, tail?: string): string;
 
 /**
+ * The same with options. At the side `start` or `middle` the columns that stay are those of `sliceColumns`, after the tail or on both
+ * sides of it. The side is `end` by default.
+ */
+export function truncate(text: string, width: number, options: { tail?: string; side?: 'end' | 'start' | 'middle' }): string;
+
+/**
  * The text padded with blanks to `width` columns, on one line and safe, as by `truncate`. The link and style still open at its end
  * are closed before the blanks there.
  */
 export function pad(text: string, width: number, alignment?: 'left' | 'center' | 'right'): string;
+
+/** The text of a table's cell: truncated to `width` columns, as by `truncate`, and then padded to them, as by `pad`. */
+export function fit(text: string, width: number, alignment?: 'left' | 'center' | 'right', tail?: string): string;
 
 /**
  * The columns of the text from `start`, of which the first is 0, up to `end` or the last one, on one line and safe, as by `truncate`.
@@ -143,11 +153,20 @@ export function sliceColumns(text: string, start?: number, end?: number): string
  */
 export function expandTabs(text: string, stop?: number): string;
 
-/** The text wrapped to lines of `width` columns. Each line closes the link and style it leaves open; the next reopens them. */
+/**
+ * The text wrapped to lines of `width` columns, each safe: SGRs, clean links (OSC 8) and printing characters stay, a TAB becomes a
+ * blank, and the rest is left out. Each line closes the link and style it leaves open; the next reopens them.
+ */
 export function wrap(text: string, width: number): string[];
 
-/** Where each line that `wrap` returns begins and ends in the plain text. The text can be cut there. */
+/**
+ * Where each line that `wrap` returns begins and ends in the plain text, if `wrap` leaves nothing out and the text has no TAB.
+ * Otherwise a control has one column. The text can be cut there.
+ */
 export function lines(text: string, width: number): [number, number][];
+
+/** An iterator over what `lines` returns, each line searched on demand. It holds memory of its own for the text. */
+export function iterLines(text: string, width: number): IterableIterator<[number, number]>;
 
 /** The address of the link (OSC 8) around the unit of the plain text at a position, or null if no link is open there. */
 export function linkAt(text: string, position: number): string | null;

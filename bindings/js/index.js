@@ -1,12 +1,115 @@
 // Text with ANSI control sequences, taken as if the sequences weren't there. index.d.ts says what each call does.
-import * as raw from './memory.js';
+import {
+  END as BYTES_OF_END, LINE, blocks as blocksOf, called, iterLines as linesOf, listed, roomFor, roomForList, roomForOne, told, written,
+} from './memory.js';
 
 export { OutOfMemoryError } from './memory.js';
 
 const ALIGNMENTS = ['left', 'center', 'right'];
+const SIDES = ['end', 'start', 'middle'];
 const KINDS = { cut: 0, left: 1, right: 2, part: 3, prefix: 4, suffix: 5, trim: 6 };
 /** The largest number that is passed on: past the end of any text. */
 const END = Number.MAX_SAFE_INTEGER;
+
+/** Whether an export that takes a text and a pattern returns that it is so. */
+function isSo(name, text, pattern) {
+  return called([text, pattern], [], roomFor(0),
+    (exports, frame) => exports[name](frame.head[0], ...frame.texts[0], ...frame.texts[1]), told) !== null;
+}
+
+/** The exports of the module: what each takes, the room for its result, and what is read of it. Positions are bytes. */
+const raw = {
+  strip(text) {
+    return called([text], [], roomForOne(text), (exports, frame) => exports.ansi_str_raw_strip(...frame.head, ...frame.texts[0], ...frame.out), written);
+  },
+
+  /** The first match in bytes of the plain text, or null. */
+  find(text, pattern) {
+    return called([text, pattern], [], roomFor(0), (exports, frame) => exports.ansi_str_raw_find(frame.head[0], ...frame.texts[0], ...frame.texts[1]), told);
+  },
+
+  startsWith: (text, pattern) => isSo('ansi_str_raw_starts_with', text, pattern),
+
+  endsWith: (text, pattern) => isSo('ansi_str_raw_ends_with', text, pattern),
+
+  isWhole(text) {
+    return called([text], [], roomFor(0), (exports, frame) => exports.ansi_str_raw_is_whole(frame.head[0], ...frame.texts[0]), told) !== null;
+  },
+
+  /** The text after all steps, or null if one is refused. */
+  edit(text, steps) {
+    const texts = [text, ...steps.map((step) => step.pattern)];
+    return called(texts, steps, roomForOne(text),
+      (exports, frame) => exports.ansi_str_raw_edit(...frame.head, ...frame.texts[0], BigInt(frame.steps), BigInt(steps.length), ...frame.out), written);
+  },
+
+  split(text, pattern) {
+    return called([text, pattern], [], roomForList(text, BYTES_OF_END),
+      (exports, frame) => exports.ansi_str_raw_split(...frame.head, ...frame.texts[0], ...frame.texts[1], ...frame.out, ...frame.list), listed);
+  },
+
+  /** The display width of the plain text, in columns. */
+  width(text) {
+    return called([text], [], roomFor(0), (exports, frame) => exports.ansi_str_raw_width(frame.head[0], ...frame.texts[0]), told);
+  },
+
+  /** The position, in bytes of the plain text, up to which it fits. */
+  fitting(text, width) {
+    return called([text], [], roomFor(0), (exports, frame) => exports.ansi_str_raw_fitting(frame.head[0], ...frame.texts[0], BigInt(width)), told);
+  },
+
+  truncate(text, width, tail, side) {
+    return called([text, tail], [], roomForOne(text + tail),
+      (exports, frame) => exports.ansi_str_raw_truncate_with(...frame.head, ...frame.texts[0], BigInt(width), ...frame.texts[1], side, ...frame.out), written);
+  },
+
+  fit(text, width, alignment, tail) {
+    return called([text, tail], [], roomFor(3 * (text.length + tail.length) + width + 1024),
+      (exports, frame) => exports.ansi_str_raw_fit(...frame.head, ...frame.texts[0], BigInt(width), alignment, ...frame.texts[1], ...frame.out), written);
+  },
+
+  pad(text, width, alignment) {
+    return called([text], [], roomFor(3 * text.length + width + 1024),
+      (exports, frame) => exports.ansi_str_raw_pad(...frame.head, ...frame.texts[0], BigInt(width), alignment, ...frame.out), written);
+  },
+
+  sliceColumns(text, start, end) {
+    return called([text], [], roomForOne(text),
+      (exports, frame) => exports.ansi_str_raw_slice(...frame.head, ...frame.texts[0], BigInt(start), BigInt(end), ...frame.out), written);
+  },
+
+  expandTabs(text, stop) {
+    return called([text], [], roomForOne(text),
+      (exports, frame) => exports.ansi_str_raw_expand_tabs(...frame.head, ...frame.texts[0], BigInt(stop), ...frame.out), written);
+  },
+
+  wrap(text, width) {
+    return called([text], [], roomForList(text, BYTES_OF_END),
+      (exports, frame) => exports.ansi_str_raw_wrap(...frame.head, ...frame.texts[0], BigInt(width), ...frame.out, ...frame.list), listed);
+  },
+
+  /** Where each line begins and ends, in bytes of the plain text: the beginning and the end of the first, then those of the next. */
+  lines(text, width) {
+    return called([text], [], { bytes: 0, entries: 64 + Math.floor(text.length / 8), entry: LINE },
+      (exports, frame) => exports.ansi_str_raw_lines(frame.head[0], ...frame.texts[0], BigInt(width), ...frame.list),
+      (frame) => Array.from({ length: 2 * told(frame) }, (_, index) => frame.word(frame.entries + index * 8)));
+  },
+
+  /** The address of the link at a position in bytes of the plain text, or null. */
+  linkAt(text, position) {
+    return called([text], [], roomForOne(text),
+      (exports, frame) => exports.ansi_str_raw_link_at(frame.head[0], ...frame.texts[0], BigInt(position), ...frame.out), written);
+  },
+
+  sanitize(text, rest, links) {
+    return called([text], [], roomForOne(text),
+      (exports, frame) => exports.ansi_str_raw_sanitize(...frame.head, ...frame.texts[0], rest, links, ...frame.out), written);
+  },
+
+  isSafe(text, links) {
+    return called([text], [], roomFor(0), (exports, frame) => exports.ansi_str_raw_is_safe(frame.head[0], ...frame.texts[0], links), told) !== null;
+  },
+};
 
 function textOf(name, value) {
   if (typeof value !== 'string') {
@@ -49,17 +152,17 @@ function placeOf(plain, position) {
   return before.isWellFormed() ? bytesOf(before) : bytesOf(before.slice(0, -1)) + 2;
 }
 
-/** Converts positions in bytes of the plain text, which ascend, to units. */
-function unitsOf(plain, positions) {
+/** A function that converts positions in bytes of the plain text, which ascend, to units. */
+function unitsIn(plain) {
   let [bytes, units] = [0, 0];
-  return positions.map((position) => {
+  return (position) => {
     while (bytes < position) {
       const character = String.fromCodePoint(plain.codePointAt(units));
       bytes += bytesOf(character);
       units += character.length;
     }
     return units;
-  });
+  };
 }
 
 /** What a cut has as a step. */
@@ -204,7 +307,7 @@ export function iterBlocks(text) {
 }
 
 export function blocks(text) {
-  return raw.blocks(textOf('text', text));
+  return blocksOf(textOf('text', text));
 }
 
 export function width(text) {
@@ -213,18 +316,30 @@ export function width(text) {
 
 export function fitting(text, width) {
   const position = raw.fitting(textOf('text', text), numberOf('width', width));
-  return isAscii(text) ? position : unitsOf(raw.strip(text), [position])[0];
+  return isAscii(text) ? position : unitsIn(raw.strip(text))(position);
 }
 
-export function truncate(text, width, tail = '') {
-  return raw.truncate(textOf('text', text), numberOf('width', width), textOf('tail', tail));
+/** The number of one of these words. */
+function indexOf(name, word, words) {
+  if (!words.includes(word)) {
+    throw new TypeError(`the ${name} must be one of ${words.join(', ')}`);
+  }
+  return words.indexOf(word);
+}
+
+export function truncate(text, width, options = '') {
+  const { tail = '', side = 'end' } = typeof options === 'object' && options !== null ? options : { tail: options };
+  return raw.truncate(textOf('text', text), numberOf('width', width), textOf('tail', tail), indexOf('side', side, SIDES));
 }
 
 export function pad(text, width, alignment = 'left') {
-  if (!ALIGNMENTS.includes(alignment)) {
-    throw new TypeError(`the alignment must be one of ${ALIGNMENTS.join(', ')}`);
-  }
-  return raw.pad(textOf('text', text), numberOf('width', width), ALIGNMENTS.indexOf(alignment));
+  const place = indexOf('alignment', alignment, ALIGNMENTS);
+  return raw.pad(textOf('text', text), numberOf('width', width), place);
+}
+
+export function fit(text, width, alignment = 'left', tail = '') {
+  const place = indexOf('alignment', alignment, ALIGNMENTS);
+  return raw.fit(textOf('text', text), numberOf('width', width), place, textOf('tail', tail));
 }
 
 export function sliceColumns(text, start = 0, end = END) {
@@ -241,13 +356,25 @@ export function wrap(text, width) {
 
 export function lines(text, width) {
   const places = raw.lines(textOf('text', text), numberOf('width', width));
-  const positions = isAscii(text) ? places : unitsOf(raw.strip(text), places);
+  const positions = isAscii(text) ? places : places.map(unitsIn(raw.strip(text)));
   return Array.from({ length: positions.length / 2 }, (_, index) => [positions[2 * index], positions[2 * index + 1]]);
 }
 
+function* inUnits(lines, unitsOf) {
+  for (const [start, end] of lines) {
+    yield [unitsOf(start), unitsOf(end)];
+  }
+}
+
+export function iterLines(text, width) {
+  const places = linesOf(textOf('text', text), numberOf('width', width));
+  return isAscii(text) ? places : inUnits(places, unitsIn(raw.strip(text)));
+}
+
 export function linkAt(text, position) {
+  textOf('text', text);
   const place = numberOf('position', position);
-  return raw.linkAt(textOf('text', text), isAscii(text) ? place : placeOf(raw.strip(text), place));
+  return raw.linkAt(text, isAscii(text) ? place : placeOf(raw.strip(text), place));
 }
 
 export function sanitize(text, { show = false, links = false } = {}) {

@@ -21,8 +21,9 @@ const ANSWER = 32;
 const BLOCK = 16;
 const STEP = 40;
 const ENTRY = 48;
-const END = 8;
-const LINE = 16;
+export const END = 8;
+export const LINE = 16;
+const WALK = 64;
 
 const encoder = new TextEncoder();
 const decoder = new TextDecoder('utf-8', { ignoreBOM: true });
@@ -181,11 +182,14 @@ class Frame {
 /** The instance of the next call, or null if there is none yet or the last one used much memory. */
 let kept = null;
 
+/** The error that a caller gets for one of JavaScript's. */
+const named = (error) => (error instanceof RangeError || error.code === 'ERR_STRING_TOO_LONG' ? new OutOfMemoryError() : error);
+
 /**
  * Repeats a call until its result has room and it has enough memory. Returns what `read` makes of the frame, or null if the call
  * has no result.
  */
-function called(texts, steps, room, ask, read) {
+export function called(texts, steps, room, ask, read) {
   const size = texts.reduce((sum, text) => sum + text.length, room.bytes);
   // (the texts of a list are assembled there, from texts that stay)
   let arena = padded((room.entry > 0 ? 4 : 1) * size + PAGE, PAGE);
@@ -214,7 +218,7 @@ function called(texts, steps, room, ask, read) {
     }
   } catch (error) {
     kept = null;
-    throw error instanceof RangeError || error.code === 'ERR_STRING_TOO_LONG' ? new OutOfMemoryError() : error;
+    throw named(error);
   } finally {
     if (kept !== null && kept.bytes.length > KEPT) {
       kept = null;
@@ -222,14 +226,14 @@ function called(texts, steps, room, ask, read) {
   }
 }
 
-const roomFor = (bytes) => ({ bytes, entries: 0, entry: 0 });
-const roomForOne = (text) => roomFor(3 * text.length + 1024);
-const roomForList = (text, entry) => ({ bytes: 3 * text.length + 4096, entries: 256 + Math.floor(text.length / 8), entry });
+export const roomFor = (bytes) => ({ bytes, entries: 0, entry: 0 });
+export const roomForOne = (text) => roomFor(3 * text.length + 1024);
+export const roomForList = (text, entry) => ({ bytes: 3 * text.length + 4096, entries: 256 + Math.floor(text.length / 8), entry });
 
-const told = (frame) => frame.word(frame.answer + 8);
-const written = (frame) => frame.text(0, told(frame));
+export const told = (frame) => frame.word(frame.answer + 8);
+export const written = (frame) => frame.text(0, told(frame));
 
-function listed(frame) {
+export function listed(frame) {
   let start = 0;
   const each = frame.each;
   return Array.from({ length: told(frame) }, (_, index) => {
@@ -240,109 +244,48 @@ function listed(frame) {
   });
 }
 
-export function strip(text) {
-  return called([text], [], roomForOne(text), (exports, frame) => exports.ansi_str_raw_strip(...frame.head, ...frame.texts[0], ...frame.out), written);
+/** The frame of a walk, which stays unchanged during other calls. */
+function ownFrame(text, room) {
+  try {
+    const instance = new Instance();
+    return [instance.exports, new Frame(instance, [text], [], room, SHORT)];
+  } catch (error) {
+    throw named(error);
+  }
 }
 
-/** The first match in bytes of the plain text, or null. */
-export function find(text, pattern) {
-  return called([text, pattern], [], roomFor(0), (exports, frame) => exports.ansi_str_raw_find(frame.head[0], ...frame.texts[0], ...frame.texts[1]), told);
+/** The same lines, each searched on demand. */
+export function* iterLines(text, width) {
+  const [exports, frame] = ownFrame(text, { bytes: 0, entries: 1, entry: WALK + LINE });
+  const [answer, walk, line] = [frame.answer, frame.entries, frame.entries + WALK];
+  frame.setWord(walk, frame.texts[0][0]);
+  exports.ansi_str_raw_lines_begin(BigInt(answer), ...frame.texts[0], BigInt(width), BigInt(walk));
+  for (;;) {
+    exports.ansi_str_raw_lines_next(BigInt(answer), BigInt(walk), BigInt(line));
+    if (frame.status !== OK) {
+      return;
+    }
+    yield [frame.word(line), frame.word(line + 8)];
+  }
 }
 
-/** Whether an export that takes a text and a pattern returns that it is so. */
-function isSo(name, text, pattern) {
-  return called([text, pattern], [], roomFor(0),
-    (exports, frame) => exports[name](frame.head[0], ...frame.texts[0], ...frame.texts[1]), told) !== null;
-}
-
-export const startsWith = (text, pattern) => isSo('ansi_str_raw_starts_with', text, pattern);
-export const endsWith = (text, pattern) => isSo('ansi_str_raw_ends_with', text, pattern);
-
-export function isWhole(text) {
-  return called([text], [], roomFor(0), (exports, frame) => exports.ansi_str_raw_is_whole(frame.head[0], ...frame.texts[0]), told) !== null;
-}
-
-/** The text after all steps, or null if one is refused. */
-export function edit(text, steps) {
-  const texts = [text, ...steps.map((step) => step.pattern)];
-  return called(texts, steps, roomForOne(text),
-    (exports, frame) => exports.ansi_str_raw_edit(...frame.head, ...frame.texts[0], BigInt(frame.steps), BigInt(steps.length), ...frame.out), written);
-}
-
-export function split(text, pattern) {
-  return called([text, pattern], [], roomForList(text, END),
-    (exports, frame) => exports.ansi_str_raw_split(...frame.head, ...frame.texts[0], ...frame.texts[1], ...frame.out, ...frame.list), listed);
-}
-
-/** The display width of the plain text, in columns. */
-export function width(text) {
-  return called([text], [], roomFor(0), (exports, frame) => exports.ansi_str_raw_width(frame.head[0], ...frame.texts[0]), told);
-}
-
-/** The position, in bytes of the plain text, up to which it fits. */
-export function fitting(text, width) {
-  return called([text], [], roomFor(0), (exports, frame) => exports.ansi_str_raw_fitting(frame.head[0], ...frame.texts[0], BigInt(width)), told);
-}
-
-export function truncate(text, width, tail) {
-  return called([text, tail], [], roomForOne(text + tail),
-    (exports, frame) => exports.ansi_str_raw_truncate(...frame.head, ...frame.texts[0], BigInt(width), ...frame.texts[1], ...frame.out), written);
-}
-
-export function pad(text, width, alignment) {
-  return called([text], [], roomFor(3 * text.length + width + 1024),
-    (exports, frame) => exports.ansi_str_raw_pad(...frame.head, ...frame.texts[0], BigInt(width), alignment, ...frame.out), written);
-}
-
-export function sliceColumns(text, start, end) {
-  return called([text], [], roomForOne(text),
-    (exports, frame) => exports.ansi_str_raw_slice(...frame.head, ...frame.texts[0], BigInt(start), BigInt(end), ...frame.out), written);
-}
-
-export function expandTabs(text, stop) {
-  return called([text], [], roomForOne(text),
-    (exports, frame) => exports.ansi_str_raw_expand_tabs(...frame.head, ...frame.texts[0], BigInt(stop), ...frame.out), written);
-}
-
-export function wrap(text, width) {
-  return called([text], [], roomForList(text, END),
-    (exports, frame) => exports.ansi_str_raw_wrap(...frame.head, ...frame.texts[0], BigInt(width), ...frame.out, ...frame.list), listed);
-}
-
-/** Where each line begins and ends, in bytes of the plain text: the beginning and the end of the first, then those of the next. */
-export function lines(text, width) {
-  return called([text], [], { bytes: 0, entries: 64 + Math.floor(text.length / 8), entry: LINE },
-    (exports, frame) => exports.ansi_str_raw_lines(frame.head[0], ...frame.texts[0], BigInt(width), ...frame.list),
-    (frame) => Array.from({ length: 2 * told(frame) }, (_, index) => frame.word(frame.entries + index * 8)));
-}
-
-/** The address of the link at a position in bytes of the plain text, or null. */
-export function linkAt(text, position) {
-  return called([text], [], roomForOne(text),
-    (exports, frame) => exports.ansi_str_raw_link_at(frame.head[0], ...frame.texts[0], BigInt(position), ...frame.out), written);
-}
-
-export function sanitize(text, rest, links) {
-  return called([text], [], roomForOne(text),
-    (exports, frame) => exports.ansi_str_raw_sanitize(...frame.head, ...frame.texts[0], rest, links, ...frame.out), written);
-}
-
-export function isSafe(text, links) {
-  return called([text], [], roomFor(0), (exports, frame) => exports.ansi_str_raw_is_safe(frame.head[0], ...frame.texts[0], links), told) !== null;
-}
-
-const ATTRIBUTES = ['bold', 'faint', 'italic', 'underline', 'slowBlink', 'rapidBlink', 'inverse', 'hide', 'crossedOut', 'fraktur'];
-const COLORS = [null, 'black', 'brightBlack', 'red', 'brightRed', 'green', 'brightGreen', 'yellow', 'brightYellow', 'blue', 'brightBlue',
-  'purple', 'brightPurple', 'magenta', 'brightMagenta', 'cyan', 'brightCyan', 'white', 'brightWhite'];
-const FIXED = 19;
+// The attributes by their bits, and the colors that codes name by their last digits, and the same bright.
+const ATTRIBUTES = ['bold', 'faint', 'italic', 'underline', 'doubleUnderline', 'slowBlink', 'rapidBlink', 'inverse', 'hide', 'crossedOut',
+  'framed', 'encircled', 'fraktur', 'proportionalSpacing', 'overlined', 'ideogramUnderline', 'ideogramDoubleUnderline', 'ideogramOverline',
+  'ideogramDoubleOverline', 'ideogramStressMarking', 'superscript', 'subscript'];
+const COLORS = ['black', 'red', 'green', 'yellow', 'blue', 'magenta', 'cyan', 'white',
+  'brightBlack', 'brightRed', 'brightGreen', 'brightYellow', 'brightBlue', 'brightMagenta', 'brightCyan', 'brightWhite'];
+const [NO_COLOR, NAMED, FIXED] = [0, 1, 2];
 
 function colorAt(frame, at) {
-  const kind = frame.view.getUint32(at, true);
-  if (kind < FIXED) {
-    return COLORS[kind];
+  const [kind, first, second, third] = frame.bytes.subarray(at, at + 4);
+  if (kind === NO_COLOR) {
+    return null;
   }
-  const [number, red, green, blue] = frame.bytes.subarray(at + 4, at + 8);
-  return kind === FIXED ? number : { red, green, blue };
+  if (kind === NAMED) {
+    return COLORS[first % 10 + (first >= 90 ? 8 : 0)];
+  }
+  return kind === FIXED ? first : { red: first, green: second, blue: third };
 }
 
 function styleAt(frame, at) {
@@ -350,8 +293,7 @@ function styleAt(frame, at) {
   return {
     attributes: ATTRIBUTES.filter((_, bit) => attributes & (1 << bit)),
     foreground: colorAt(frame, at + 4),
-    background: colorAt(frame, at + 12),
-    hasAny: frame.bytes[at + 20] !== 0,
+    background: colorAt(frame, at + 8),
   };
 }
 
@@ -366,7 +308,7 @@ export function blocks(text) {
         const [textStart, textEnd, end] = [0, 8, 16].map((field) => frame.word(at + field));
         const block = {
           text: each(textStart, textEnd),
-          style: { ...styleAt(frame, at + 24), start: each(begin, textStart), end: each(textEnd, end) },
+          style: { ...styleAt(frame, at + 24), hasAny: end > textEnd, start: each(begin, textStart), end: each(textEnd, end) },
         };
         begin = end;
         return block;

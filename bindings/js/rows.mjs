@@ -1,6 +1,6 @@
 // Makes the calls of the rows of texts and results, which rows/README.md describes, in Node and in a page.
 import {
-  blocks, cut, edit, endsWith, expandTabs, find, fitting, floorCharBoundary, hasAny, isSafe, isWhole, iterBlocks, iterSplit, lines, linkAt, pad, sanitize,
+  blocks, cut, edit, endsWith, expandTabs, find, fit, fitting, floorCharBoundary, hasAny, isSafe, isWhole, iterBlocks, iterLines, iterSplit, lines, linkAt, pad, sanitize,
   sliceColumns, split, splitAt, startsWith, strip, stripPrefix, stripSuffix, trim, truncate, width, wrap,
 } from './index.js';
 
@@ -114,14 +114,20 @@ function answersOf(call, found, want, text, more) {
       return [[truncate(text, number, second), want]];
     case 'pad':
       return [[pad(text, number, second.toLowerCase()), want]];
+    case 'fit':
+      return [[fit(text, number, second.toLowerCase(), more[2]), want]];
+    case 'truncate_with':
+      return [[truncate(text, number, { tail: second, side: more[2].toLowerCase() }), want]];
     case 'slice':
       return [[sliceColumns(text, number, Number(second)), want]];
     case 'expand_tabs':
       return [[expandTabs(text, number), want]];
     case 'wrap':
       return [[wrap(text, number), more.slice(1)]];
-    case 'lines':
-      return [[lines(text, number), more.slice(1).map((line) => line.split(',').map((position) => inUnits(strip(text), Number(position))))]];
+    case 'lines': {
+      const places = more.slice(1).map((line) => line.split(',').map((position) => inUnits(strip(text), Number(position))));
+      return [[lines(text, number), places], [[...iterLines(text, number)], places]];
+    }
     case 'link_at':
       return [[linkAt(text, first), found]];
     case 'sanitize':

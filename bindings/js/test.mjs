@@ -3,10 +3,12 @@ import assert from 'node:assert/strict';
 import { readFile } from 'node:fs/promises';
 import { test } from 'node:test';
 import {
-  OutOfMemoryError, blocks, cut, edit, endsWith, expandTabs, find, fitting, floorCharBoundary, hasAny, isSafe, isWhole, iterBlocks, iterSplit, lines, linkAt,
+  OutOfMemoryError, blocks, cut, edit, endsWith, expandTabs, find, fit, fitting, floorCharBoundary, hasAny, isSafe, isWhole, iterBlocks, iterLines, iterSplit, lines, linkAt,
   pad, sanitize, sliceColumns, split, splitAt, startsWith, strip, stripPrefix, stripSuffix, trim, truncate, width, wrap,
 } from './index.js';
+import * as ansiStr from './index.js';
 import { pass } from './rows.mjs';
+import sliceAnsi from 'ansi_str/compat/slice-ansi';
 import stringWidth from 'ansi_str/compat/string-width';
 import stripAnsi from 'ansi_str/compat/strip-ansi';
 import wrapAnsi from 'ansi_str/compat/wrap-ansi';
@@ -34,6 +36,8 @@ test('positions count UTF-16 units', () => {
   assert.deepEqual([0, 1, 2, 3, 4].map((index) => floorCharBoundary('\x1b[1m😀a', index)), [0, 0, 2, 3, 3]);
   assert.deepEqual(lines('\x1b[1m😀 é😀 a', 3), [[0, 2], [3, 6], [7, 8]]);
   assert.deepEqual(lines('a\n'.repeat(1000), 5).length, 1001);
+  const [walk, other] = [iterLines('\x1b[1m😀 é😀 a', 3), iterLines('é b', 1)];
+  assert.deepEqual([walk.next().value, other.next().value, strip('\x1b[1ma'), ...walk, ...other], [[0, 2], [0, 1], 'a', [3, 6], [7, 8], [2, 3]]);
   assert.equal(linkAt('😀\x1b]8;;😀\x07é', 2), '😀');
   assert.equal(linkAt('\x1b]8;;u\x07😀', 1), 'u');
   assert.equal(linkAt('\x1b]8;;u\x07é', 2 ** 60), null);
@@ -63,10 +67,9 @@ test('a position past the end is the end, and an end below its start is refused,
 });
 
 test('what is no text or no position is refused', () => {
-  const calls = [strip, trim, blocks, width, (text) => find(text, ''), (text) => find('', text), (text) => split('', text), (text) => edit('', [['suffix', text]]),
-    (text) => fitting(text, 1), (text) => truncate(text, 1), (text) => truncate('', 1, text), (text) => pad(text, 1), (text) => wrap(text, 1),
-    (text) => lines(text, 1), sliceColumns, expandTabs, (text) => linkAt(text, 0), (text) => floorCharBoundary(text, 0), hasAny, isWhole, iterBlocks, sanitize, isSafe,
-    ...[stripPrefix, stripSuffix, startsWith, endsWith, iterSplit].flatMap((call) => [(text) => call(text, ''), (text) => call('', text)])];
+  const calls = [...Object.values(ansiStr).filter((call) => call !== OutOfMemoryError), (text) => find('', text), (text) => split('', text),
+    (text) => edit('', [['suffix', text]]), (text) => truncate('', 1, text), (text) => truncate('', 1, { tail: text }), (text) => fit('', 1, 'left', text),
+    ...[stripPrefix, stripSuffix, startsWith, endsWith, iterSplit].map((call) => (text) => call('', text))];
   for (const call of calls) {
     assert.throws(() => call('a\ud800'), /lone surrogate/);
     assert.throws(() => call(null), /must be a string/);
@@ -80,7 +83,7 @@ test('what is no text or no position is refused', () => {
   for (const wrong of ['cut', ['cuts', 1], [['cut'], 'x'], [new String('cut'), 0], ['toString'], [], [undefined], [0, 1], null, { 0: 'trim' }]) {
     assert.throws(() => edit('abc', [wrong]), /begins with the name of an edit/);
   }
-  for (const call of [fitting, truncate, pad, wrap, lines]) {
+  for (const call of [fitting, truncate, pad, fit, wrap, lines, iterLines]) {
     assert.throws(() => call('abc'), /the width must be a whole number/);
     assert.throws(() => call('abc', -1), RangeError);
   }
@@ -89,6 +92,8 @@ test('what is no text or no position is refused', () => {
     assert.throws(() => call('abc', -1), RangeError);
   }
   assert.throws(() => pad('abc', 5, 'middle'), /left, center, right/);
+  assert.throws(() => fit('abc', 5, 'middle'), /left, center, right/);
+  assert.throws(() => truncate('abc', 5, { side: 'left' }), /end, start, middle/);
 });
 
 test('a block has the sequences other than SGRs, and a cut every sequence up to its end', () => {
@@ -111,6 +116,18 @@ test('a style has names', () => {
   assert.equal(style.foreground, 'brightRed');
   assert.deepEqual(style.background, { red: 1, green: 2, blue: 3 });
   assert.equal(blocks('\x1b[38;5;200mx')[0].style.foreground, 200);
+  const [{ style: all }] = blocks('\x1b[1;2;3;4;21;5;6;7;8;9;51;52;20;26;53;60;61;62;63;64;73;74mx');
+  assert.deepEqual(all.attributes, ['bold', 'faint', 'italic', 'underline', 'doubleUnderline', 'slowBlink', 'rapidBlink', 'inverse', 'hide',
+    'crossedOut', 'framed', 'encircled', 'fraktur', 'proportionalSpacing', 'overlined', 'ideogramUnderline', 'ideogramDoubleUnderline',
+    'ideogramOverline', 'ideogramDoubleOverline', 'ideogramStressMarking', 'superscript', 'subscript']);
+  const named = ['black', 'red', 'green', 'yellow', 'blue', 'magenta', 'cyan', 'white'];
+  named.forEach((name, digit) => {
+    const bright = `bright${name[0].toUpperCase()}${name.slice(1)}`;
+    for (const [code, wanted] of [[30, name], [90, bright], [40, name], [100, bright]]) {
+      const { foreground, background } = blocks(`\x1b[${code + digit}mx`)[0].style;
+      assert.deepEqual([foreground, background], code === 30 || code === 90 ? [wanted, null] : [null, wanted]);
+    }
+  });
 });
 
 test('memory is asked for and given back, and lack of it leaves the module fit for the next call', () => {
@@ -136,14 +153,29 @@ test('memory is asked for and given back, and lack of it leaves the module fit f
   assert.equal(strip(long).length, 14 * repeats);
   for (const columns of [2 ** 36, 2 ** 40, Number.MAX_SAFE_INTEGER, Number.MAX_VALUE]) {
     assert.throws(() => pad('abc', columns), OutOfMemoryError);
+    assert.throws(() => fit('abc', columns), OutOfMemoryError);
+    assert.throws(() => expandTabs('a\t', columns), OutOfMemoryError);
     assert.equal(pad('abc', 5, 'center'), ' abc ');
     assert.equal(sliceColumns('abc', 1, columns), 'bc');
   }
 });
 
-test('a drop-in returns what its package does (as run: strip-ansi 6.0.1, string-width 4.2.3, wrap-ansi 8.0.1)', () => {
+test('a drop-in returns what its package does (as run: slice-ansi 5.0.0, strip-ansi 6.0.1, string-width 4.2.3, wrap-ansi 8.0.1)', () => {
   const fox = 'The quick \x1b[31mfox jumped over \x1b[39mthe lazy \x1b[32mdog and then\x1b[39m.';
   const rows = [
+    [sliceAnsi('abc', 1), 'bc'],
+    [sliceAnsi('abc', 0.5, 2.5), 'ab'],
+    [sliceAnsi('abc', -2, 2), 'ab'],
+    [sliceAnsi('abc', 0, -1), ''],
+    [sliceAnsi('abc', 2, 1), ''],
+    [sliceAnsi('abc', 1, Infinity), 'bc'],
+    [sliceAnsi('日本語', 2, 4), '本'],
+    [sliceAnsi(fox, 0, 20), 'The quick \x1b[31mfox jumped\x1b[39m'],
+    [sliceAnsi(fox, 20, 30), '\x1b[31m over \x1b[39mthe '],
+    [sliceAnsi(fox, 12), '\x1b[31mx jumped over \x1b[39mthe lazy \x1b[32mdog and then\x1b[39m.'],
+    [sliceAnsi('\x1b[1m\x1b[31mbold red\x1b[39m\x1b[22m', 5), '\x1b[1m\x1b[31mred\x1b[39m\x1b[22m'],
+    [sliceAnsi('\x1b[31mred\x1b[32mgreen\x1b[39m', 2, 5), '\x1b[31md\x1b[32mgr\x1b[39m'],
+    [sliceAnsi('\x1b[4mUni\x1b[24mcorn', 2, 5), '\x1b[4mi\x1b[24mco'],
     [stripAnsi('\x1b[4mUnicorn\x1b[0m'), 'Unicorn'],
     [stripAnsi('\x1b]8;;https://github.com\x07Click\x1b]8;;\x07'), 'Click'],
     [stripAnsi('a\x1b[2Jb\x1b(Bc'), 'abc'],
@@ -176,6 +208,13 @@ test('a drop-in returns what its package does (as run: strip-ansi 6.0.1, string-
 });
 
 test('where a drop-in differs from its package', () => {
+  // (a link stays; a wide character that the slice divides becomes blanks; an accent has no column, an emoji two; what is open is closed)
+  assert.equal(sliceAnsi('\x1b]8;;http://u\x1b\\a link\x1b]8;;\x1b\\', 2, 4), '\x1b]8;;http://u\x1b\\li\x1b]8;;\x1b\\');
+  assert.equal(sliceAnsi('日本語', 1, 4), ' 本');
+  assert.equal(sliceAnsi('cafe\u0301s', 0, 4), 'cafe\u0301');
+  assert.equal(sliceAnsi('😀ab', 0, 2), '😀');
+  assert.equal(sliceAnsi('\x1b[31mab', 0), '\x1b[31mab\x1b[39m');
+  assert.equal(sliceAnsi('a\tb\nc\x1b[2J\x07d', 1), ' b cd');
   assert.equal(stripAnsi('\x1b[31'), '[31');
   assert.equal(stripAnsi('a\x1bPbody\x1b\\b'), 'ab');
   assert.throws(() => stripAnsi(null), TypeError);
@@ -187,8 +226,8 @@ test('where a drop-in differs from its package', () => {
   assert.equal(linkAt(wrapAnsi('\x1b]8;;http://u\x1b\\a link\x1b]8;;\x1b\\', 4).split('\n')[1], 0), 'http://u');
   assert.equal(wrapAnsi('cafe\u0301', 4), 'cafe\u0301');
   // (a line feed inside a sequence ends no line)
-  assert.equal(wrapAnsi('\x1b]0;a\nb\x07c  \nd', 9, { trim: false }), '\x1b]0;a\nb\x07c  \nd');
-  for (const call of [stripAnsi, stringWidth, (text) => wrapAnsi(text, 1)]) {
+  assert.equal(wrapAnsi('\x1b]0;a\nb\x07c  \nd', 9, { trim: false }), 'c  \nd');
+  for (const call of [stripAnsi, stringWidth, (text) => sliceAnsi(text, 0), (text) => wrapAnsi(text, 1)]) {
     assert.throws(() => call('a\ud800'), /lone surrogate/);
   }
 });

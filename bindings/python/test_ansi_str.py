@@ -6,6 +6,7 @@ import doctest
 import importlib.util
 import inspect
 import os
+import pydoc
 import re
 import subprocess
 import sys
@@ -30,6 +31,10 @@ POSITIONS = {"cut": 2, "left": 1, "right": 1, "split_at": 1, "link_at": 1}
 def block_at(text, index, of):
     """What `of` gives for the block at an index, or None if there is no such block."""
     return next(map(of, ansi_str.blocks(text)[int(index):]), None)
+
+
+def style_after(code):
+    return ansi_str.blocks("\x1b[%sma" % code)[0].style
 
 
 # what each other call of a row returns
@@ -62,10 +67,12 @@ MADE = {
     "front": lambda text, width: [ansi_str.cut(text, 0, ansi_str.fitting(text, int(width)))],
     "truncate": lambda text, width, tail: [ansi_str.truncate(text, int(width), tail)],
     "pad": lambda text, width, word: [ansi_str.pad(text, int(width), word.lower())],
+    "fit": lambda text, width, word, tail: [ansi_str.fit(text, int(width), word.lower(), tail)],
+    "truncate_with": lambda text, width, tail, word: [ansi_str.truncate(text, int(width), tail, side=word.lower())],
     "slice": lambda text, start, end: [ansi_str.slice_columns(text, int(start), int(end))],
     "expand_tabs": lambda text, stop: [ansi_str.expand_tabs(text, int(stop))],
     "wrap": lambda text, width, *_: [ansi_str.wrap(text, int(width))],
-    "lines": lambda text, width, *_: [ansi_str.lines(text, int(width))],
+    "lines": lambda text, width, *_: [ansi_str.lines(text, int(width)), list(ansi_str.iter_lines(text, int(width)))],
     "link_at": lambda text, position: [ansi_str.link_at(text, position)],
     "sanitize": lambda text, rest, links: [ansi_str.sanitize(text, show=rest == "Show", links=links == "Keep")],
     "is_safe": lambda text, links: [ansi_str.is_safe(text, links=links == "Keep")],
@@ -148,8 +155,8 @@ class Rows(unittest.TestCase):
 
 # each call that takes a text, and what is passed for its other arguments
 CALLS = {"strip": [], "cut": [0], "left": [0], "right": [0], "part": [",", 0], "strip_prefix": [""], "strip_suffix": [""],
-         "trim": [], "width": [], "fitting": [1], "truncate": [1], "pad": [1], "slice_columns": [0],
-         "expand_tabs": [8], "wrap": [1], "lines": [1], "find": [""], "starts_with": [""], "ends_with": [""], "has_any": [], "is_whole": [], "split": [","],
+         "trim": [], "width": [], "fitting": [1], "truncate": [1], "pad": [1], "fit": [1], "slice_columns": [0],
+         "expand_tabs": [8], "wrap": [1], "lines": [1], "iter_lines": [1], "find": [""], "starts_with": [""], "ends_with": [""], "has_any": [], "is_whole": [], "split": [","],
          "iter_split": [","], "blocks": [], "iter_blocks": [], "edit": [[]], "sanitize": [], "is_safe": [], "link_at": [0]}
 PATTERNED = ["part", "strip_prefix", "strip_suffix", "find", "starts_with", "ends_with", "split", "iter_split"]
 HUGE = [2**31, 2**63 - 1, 2**63, 2**64 - 1, 2**64, 2**64 + 1, 2**200]
@@ -166,6 +173,14 @@ class Arguments(unittest.TestCase):
         self.assertEqual(functions, set(CALLS))
         for name in ansi_str.__all__ + ["__version__"]:
             getattr(ansi_str, name)
+
+    def test_help_begins_with_the_calls(self):
+        shown = pydoc.render_doc(ansi_str, renderer=pydoc.plaintext).split("\n")
+        first = "\n".join(shown[:60])
+        for call in ("strip(text)", "cut(text, start=0, end=None)"):
+            self.assertIn(call, first)
+        self.assertIn("FUNCTIONS", shown[:75])
+        self.assertNotIn("CLASSES", shown)
 
     def test_version(self):
         with open(os.path.join(os.path.dirname(os.path.abspath(__file__)), "pyproject.toml")) as file:
@@ -194,7 +209,7 @@ class Arguments(unittest.TestCase):
                 self.refused(kind, "end " + words, ansi_str.edit, text, [ansi_str.Prefix("z"), ansi_str.Cut(0, wrong)])
                 self.refused(kind, "index " + words, ansi_str.part, text, ",", wrong)
                 self.refused(kind, "position " + words, ansi_str.link_at, text, wrong)
-                for call in (ansi_str.fitting, ansi_str.truncate, ansi_str.pad, ansi_str.wrap, ansi_str.lines):
+                for call in (ansi_str.fitting, ansi_str.truncate, ansi_str.pad, ansi_str.fit, ansi_str.wrap, ansi_str.lines):
                     self.refused(kind, "width " + words, call, text, wrong)
                 self.refused(kind, "start " + words, ansi_str.slice_columns, text, wrong)
                 self.refused(kind, "end " + words, ansi_str.slice_columns, text, 0, wrong)
@@ -205,8 +220,11 @@ class Arguments(unittest.TestCase):
                     self.refused(kind, "mid " + words, ansi_str.edit, text, step(wrong))
         self.refused(TypeError, "start must be an int, not NoneType", ansi_str.cut, "abc", None)
         self.refused(TypeError, "tail must be a str, not bytes", ansi_str.truncate, "abc", 1, b"")
+        self.refused(TypeError, "tail must be a str, not bytes", ansi_str.fit, "abc", 1, "left", b"")
         for wrong in ("Left", "", None, 0):
-            self.refused(ValueError, "alignment must be one of left, center, right", ansi_str.pad, "abc", 1, wrong)
+            for call in (ansi_str.pad, ansi_str.fit):
+                self.refused(ValueError, "alignment must be one of left, center, right", call, "abc", 1, wrong)
+            self.refused(ValueError, "side must be one of end, start, middle", ansi_str.truncate, "abc", 1, "", wrong)
 
     def test_positions_past_the_end(self):
         for plain in ("abc", "é", ""):
@@ -222,6 +240,12 @@ class Arguments(unittest.TestCase):
                     self.assertEqual("".join(ansi_str.wrap(text, huge)), "".join(ansi_str.wrap(text, 9)))
                     with self.assertRaises(MemoryError):
                         ansi_str.pad(text, max(huge, 2**62))
+                    with self.assertRaises(MemoryError):
+                        ansi_str.fit(text, max(huge, 2**62))
+                    for side in ansi_str.SIDES:
+                        self.assertEqual(ansi_str.strip(ansi_str.truncate(text, huge, side=side)), plain)
+                    with self.assertRaises(MemoryError):
+                        ansi_str.expand_tabs(text + "\t", max(huge, 2**62))
                     self.assertEqual(ansi_str.expand_tabs(text, huge), text)
                     self.assertEqual(ansi_str.slice_columns(text, 0, huge), ansi_str.slice_columns(text))
                     self.assertEqual(ansi_str.slice_columns(text, huge), "")
@@ -249,6 +273,23 @@ class Arguments(unittest.TestCase):
             self.refused(TypeError, "edits must be", ansi_str.edit, "abc", wrong)
         for wrong in (["a"], [None], [(0, 1)], [[ansi_str.Trim()]]):
             self.refused(TypeError, "edits must hold edits", ansi_str.edit, "abc", wrong)
+
+    def test_styles(self):
+        # (the codes of ECMA-48, 73 and 74 of mintty)
+        codes = dict(zip((1, 2, 3, 4, 21, 5, 6, 7, 8, 9, 51, 52, 20, 26, 53, 60, 61, 62, 63, 64, 73, 74), ansi_str.ATTRIBUTES))
+        self.assertEqual([codes[code] for code in (1, 21, 9, 20, 53, 64, 74)],
+                         ["bold", "double_underline", "crossedout", "fraktur", "overlined", "ideogram_stress_marking", "subscript"])
+        for code, name in codes.items():
+            self.assertEqual(style_after(code)[:4], ({name}, None, None, True))
+        self.assertEqual(style_after(0)[:4], (set(), None, None, False))
+        self.assertEqual(style_after("0;99")[:4], (set(), None, None, True))
+        for digit, name in enumerate(("Black", "Red", "Green", "Yellow", "Blue", "Magenta", "Cyan", "White")):
+            for code, color in ((30, name), (90, "Bright" + name)):
+                self.assertEqual(style_after(code + digit)[:4], (set(), color, None, True))
+                self.assertEqual(style_after(code + digit + 10)[:4], (set(), None, color, True))
+        self.assertEqual(style_after("38;5;200;48;2;1;2;3")[1:3], (200, (1, 2, 3)))
+        for code in ("58;5;1", 11):
+            self.assertEqual(style_after(code)[:4], (set(), None, None, True))
 
     def test_long_texts(self):
         for text in ("x" * 100000, "\x1b[1mé" * 50000, "\x1b]" * 50000, "\x1b[31;42;1;3;4m" + "a\x1b[5m" * 30000):
@@ -300,10 +341,14 @@ class Arguments(unittest.TestCase):
             self.assertIn("%s(%s)" % (name, ", ".join(words)), ansi_str.__doc__)
 
     @unittest.skipIf(sys.version_info < (3, 8), "this Python has no Literal")
-    def test_the_type_of_alignments(self):
-        alignment = typing.get_type_hints(ansi_str.pad)["alignment"]
-        self.assertEqual(alignment, ansi_str.Alignment)
-        self.assertEqual(alignment.__args__, ansi_str.ALIGNMENTS)
+    def test_the_types_of_words(self):
+        for call in (ansi_str.pad, ansi_str.fit):
+            alignment = typing.get_type_hints(call)["alignment"]
+            self.assertEqual(alignment, ansi_str.Alignment)
+            self.assertEqual(alignment.__args__, ansi_str.ALIGNMENTS)
+        side = typing.get_type_hints(ansi_str.truncate)["side"]
+        self.assertEqual(side, ansi_str.Side)
+        self.assertEqual(side.__args__, ansi_str.SIDES)
 
 
 class Private(unittest.TestCase):
@@ -314,7 +359,7 @@ class Private(unittest.TestCase):
     WRONG = {
         "bytes": [(b"\xff", ValueError)] + [(wrong, TypeError) for wrong in TYPES + [1, ()]],
         "number": [(-1, ValueError), (-2**64, ValueError)] + [(wrong, TypeError) for wrong in TYPES + [b"a", ()]],
-        "kind": [(-1, ValueError), (14, ValueError), (2**31 - 1, ValueError), (2**31, OverflowError), (-2**200, OverflowError)]
+        "kind": [(-1, ValueError), (15, ValueError), (2**31 - 1, ValueError), (2**31, OverflowError), (-2**200, OverflowError)]
                 + [(wrong, TypeError) for wrong in TYPES + [b"a", ()]],
         "steps": [(wrong, TypeError) for wrong in TYPES + [b"a", 1, (1,), ((),), ((0, 0, 0),), ((0, 0, 0, b"", 0),), ([0, 0, 0, b""],)]],
         "bool": [],
@@ -326,7 +371,7 @@ class Private(unittest.TestCase):
         "walk": [("bytes", b"a"), ("bytes", b"a")],
         "strip": [("bytes", b"a")],
         "wrap": [("bytes", b"a"), ("number", 1)],
-        "lines": [("bytes", b"a"), ("bool", True), ("number", 1)],
+        "walk_lines": [("bytes", b"a"), ("bool", True), ("number", 1)],
     }
 
     def refused(self, call, given):
@@ -344,10 +389,10 @@ class Private(unittest.TestCase):
         for name, given in self.GOOD.items():
             self.refused(getattr(ansi_str._library, name), given)
         edit = ansi_str._library.edit
-        for kind in range(14):
+        for kind in range(15):
             self.refused(lambda *step: edit(b"a", True, (step + (b"",),)), [("kind", kind), ("number", 0), ("number", 1)])
         # (the last six kinds don't read their pattern)
-        for kind in range(8):
+        for kind in range(9):
             self.refused(lambda pattern: edit(b"a", True, ((kind, 0, 1, pattern),)), [("bytes", b"")])
 
     def test_wrong_counts(self):
@@ -365,7 +410,7 @@ class Private(unittest.TestCase):
             self.assertEqual(edit("\xe9".encode(), False, ((0, 0, huge, b""), (1, huge, huge, b""))), "\xe9")
             self.assertEqual(tell(6, b"abc", True, b"", huge), 3)
             self.assertEqual(ansi_str._library.wrap(b"abc", huge), ["abc"])
-            for step in (8, 5, huge), (9, 0, huge), (9, huge, 0):
+            for step in (7, 5, huge), (8, 5, huge), (9, 5, huge), (10, 0, huge), (10, huge, 0):
                 with self.assertRaises(ValueError):
                     edit(b"abc", True, (step + (b"",),))
             with self.assertRaises(ValueError):
@@ -466,7 +511,7 @@ class DropIns(unittest.TestCase):
             ("\x1b[4ma b", 3, {"initial_indent": "* ", "subsequent_indent": "\x1b[2m>\x1b[22m "},
              ["* \x1b[4ma\x1b[24m", "\x1b[2m>\x1b[22m \x1b[4mb\x1b[24m"]),
             (link + "a link" + no_link, 4, {}, [link + "a" + no_link, link + "link" + no_link]),
-            ("\x1b]0;a\tb\nc\x07x\ty", 20, {}, ["\x1b]0;a\tb\nc\x07x       y"]),
+            ("\x1b]0;a\tb\nc\x07x\ty", 20, {}, ["x       y"]),
             ("\u53e4\ty", 20, {}, ["\u53e4      y"]),
             ("\u65e5\u672c\u8a9e", 5, {}, ["\u65e5\u672c", "\u8a9e"]),
             ("\u65e5\u672c", 1, {}, ["\u65e5", "\u672c"]),

@@ -27,7 +27,7 @@ def calls():
             yield lambda: _library.edit(data, is_ascii, steps)
         yield lambda: _library.strip(data)
         yield lambda: _library.wrap(data, 4)
-        yield lambda: _library.lines(data, is_ascii, 1)
+        yield lambda: list(_library.walk_lines(data, is_ascii, 1))
         for what in WHAT:
             yield lambda: _library.tell(what, data, is_ascii, b"o", 1)
         for pattern in (b"", b",", b"fox"):

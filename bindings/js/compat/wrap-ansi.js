@@ -3,8 +3,8 @@ import { cut, fitting, hasAny, lines, strip, width, wrap } from '../index.js';
 
 /** Wider than any text. */
 const ENDLESS = Number.MAX_SAFE_INTEGER;
-/** What keeps the blanks at the end of a line, until it is wrapped. */
-const GUARD = '\0';
+/** What keeps the blanks at the end of a line, until it is wrapped: a printing character, of private use. */
+const GUARD = '\ue000';
 
 /** The lines of the text as its line feeds divide it. Each closes the styles and the link that it leaves open; the next reopens them. */
 function linesOf(text, trim) {
@@ -12,9 +12,9 @@ function linesOf(text, trim) {
     return wrap(text, ENDLESS);
   }
   return wrap(text.replaceAll('\n', `${GUARD}\n`) + GUARD, ENDLESS).map((line) => {
-    // (only what closes the line comes after the last guard. One inside a sequence is before a line feed)
+    // (only what closes the line comes after the last guard)
     const at = line.lastIndexOf(GUARD);
-    return (line.slice(0, at) + line.slice(at + 1)).replaceAll(`${GUARD}\n`, '\n');
+    return line.slice(0, at) + line.slice(at + 1);
   });
 }
 

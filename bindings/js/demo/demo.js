@@ -63,8 +63,8 @@ const usual = {
 let library;
 
 const NAMED = {
-  black: 0, red: 1, green: 2, yellow: 3, blue: 4, purple: 5, magenta: 5, cyan: 6, white: 7, brightBlack: 8, brightRed: 9,
-  brightGreen: 10, brightYellow: 11, brightBlue: 12, brightPurple: 13, brightMagenta: 13, brightCyan: 14, brightWhite: 15,
+  black: 0, red: 1, green: 2, yellow: 3, blue: 4, magenta: 5, cyan: 6, white: 7, brightBlack: 8, brightRed: 9,
+  brightGreen: 10, brightYellow: 11, brightBlue: 12, brightMagenta: 13, brightCyan: 14, brightWhite: 15,
 };
 
 /** A color as CSS has it: one of 16, of the cube of 6 by 6 by 6, of 24 grays, or red, green and blue. */

@@ -34,30 +34,10 @@ struct Answers {
     len: usize,
 }
 
+/// A color, a font and a style, as the header describes them bit by bit.
 #[repr(C)]
-#[derive(Debug, Clone, Copy)]
+#[derive(Debug, Clone, Copy, PartialEq, Eq, PartialOrd, Ord, Hash)]
 pub(crate) struct RawColor {
-    kind: u32,
-    number: u8,
-    red: u8,
-    green: u8,
-    blue: u8,
-}
-
-/// The visible part of a style.
-#[repr(C)]
-#[derive(Debug, Clone, Copy)]
-pub(crate) struct RawStyle {
-    pub(crate) attributes: u32,
-    pub(crate) foreground: RawColor,
-    pub(crate) background: RawColor,
-    pub(crate) has_any: bool,
-}
-
-/// A color, a font and a style as the library keeps them. Their fields are private to it.
-#[repr(C)]
-#[derive(Debug, Clone, Copy, PartialEq, Eq)]
-struct ColorNumbers {
     kind: u8,
     first: u8,
     second: u8,
@@ -65,20 +45,20 @@ struct ColorNumbers {
 }
 
 #[repr(C)]
-#[derive(Debug, Clone, Copy, PartialEq, Eq)]
-struct FontNumbers {
+#[derive(Debug, Clone, Copy, PartialEq, Eq, PartialOrd, Ord, Hash)]
+struct RawFont {
     is_set: bool,
     number: u8,
 }
 
 #[repr(C)]
-#[derive(Debug, Clone, Copy, PartialEq, Eq)]
-pub(crate) struct Numbers {
-    attributes: u32,
-    foreground: ColorNumbers,
-    background: ColorNumbers,
-    underline_color: ColorNumbers,
-    font: FontNumbers,
+#[derive(Debug, Clone, Copy, PartialEq, Eq, PartialOrd, Ord, Hash)]
+pub(crate) struct RawStyle {
+    pub(crate) attributes: u32,
+    pub(crate) foreground: RawColor,
+    pub(crate) background: RawColor,
+    underline_color: RawColor,
+    font: RawFont,
 }
 
 /// The state of a walk of this many bytes, which is the library's own. Its bytes may be those of a pointer.
@@ -90,10 +70,10 @@ struct State<const N: usize> {
 
 type RawWalk = State<40>;
 type RawPartWalk = State<80>;
+type RawLineWalk = State<64>;
 
 // Where the header says that a state has these bytes.
 const TEXT: usize = 0;
-const STYLE: usize = 16;
 const PATTERN: usize = 16;
 const FINISHED: usize = 76;
 
@@ -117,12 +97,12 @@ impl RawWalk {
     fn none() -> RawWalk {
         State::ZERO.with_text(TEXT)
     }
+}
 
-    /// The style of the last block.
-    fn style(&self) -> Numbers {
-        let bytes = &self.bytes[STYLE..STYLE + size_of::<Numbers>()];
-        // SAFETY: numbers that the library has made, or those of the plain style, at any alignment
-        unsafe { ptr::read_unaligned(bytes.as_ptr().cast()) }
+impl RawLineWalk {
+    /// A walk with no line left.
+    fn none() -> RawLineWalk {
+        State::ZERO.with_text(TEXT)
     }
 }
 
@@ -225,6 +205,26 @@ extern "C" {
         b: Room,
         m: usize,
     ) -> Answer;
+    fn ansi_str_raw_fit(
+        t: Bytes,
+        n: usize,
+        width: usize,
+        alignment: u32,
+        p: Bytes,
+        k: usize,
+        b: Room,
+        m: usize,
+    ) -> Answer;
+    fn ansi_str_raw_truncate_with(
+        t: Bytes,
+        n: usize,
+        width: usize,
+        p: Bytes,
+        k: usize,
+        side: u32,
+        b: Room,
+        m: usize,
+    ) -> Answer;
     fn ansi_str_raw_slice(
         t: Bytes,
         n: usize,
@@ -243,13 +243,9 @@ extern "C" {
         ends: *mut usize,
         k: usize,
     ) -> Answers;
-    fn ansi_str_raw_lines(
-        t: Bytes,
-        n: usize,
-        width: usize,
-        lines: *mut RawLine,
-        k: usize,
-    ) -> Answers;
+    fn ansi_str_raw_lines_begin(t: Bytes, n: usize, width: usize, walk: *mut RawLineWalk)
+        -> Answer;
+    fn ansi_str_raw_lines_next(walk: *mut RawLineWalk, line: *mut RawLine) -> Answer;
     fn ansi_str_raw_link_at(t: Bytes, n: usize, index: usize, b: Room, m: usize) -> Answer;
     fn ansi_str_raw_sanitize(
         t: Bytes,
@@ -260,8 +256,8 @@ extern "C" {
         m: usize,
     ) -> Answer;
     fn ansi_str_raw_is_safe(t: Bytes, n: usize, links: u32) -> Answer;
-    fn ansi_str_raw_style_start(style: *const Numbers, b: Room, m: usize) -> Answer;
-    fn ansi_str_raw_style_end(style: *const Numbers, b: Room, m: usize) -> Answer;
+    fn ansi_str_raw_style_start(style: *const RawStyle, b: Room, m: usize) -> Answer;
+    fn ansi_str_raw_style_end(style: *const RawStyle, b: Room, m: usize) -> Answer;
 }
 
 /// A call is refused: a position is inside a character, or the end of a range is below its start.
@@ -362,7 +358,7 @@ fn is_so(answer: Answer) -> bool {
 type Write = unsafe extern "C" fn(Bytes, usize, Room, usize) -> Answer;
 type WriteAt = unsafe extern "C" fn(Bytes, usize, usize, Room, usize) -> Answer;
 type WriteWithout = unsafe extern "C" fn(Bytes, usize, Bytes, usize, Room, usize) -> Answer;
-type WriteStyle = unsafe extern "C" fn(*const Numbers, Room, usize) -> Answer;
+type WriteStyle = unsafe extern "C" fn(*const RawStyle, Room, usize) -> Answer;
 
 /// The exports that return a number or a status: of a text and a number, and of a text and a pattern.
 type TellAt = unsafe extern "C" fn(Bytes, usize, usize) -> Answer;
@@ -491,6 +487,22 @@ pub(crate) fn pad(text: &str, width: usize, alignment: u32) -> String {
     }))
 }
 
+pub(crate) fn fit(text: &str, width: usize, alignment: u32, tail: &str) -> String {
+    let (t, n, p, k) = (text.as_ptr(), text.len(), tail.as_ptr(), tail.len());
+    always(written(n + LONGEST_CLOSE, |b, m| {
+        // SAFETY: two `str`s, and the room; any number may be a width
+        unsafe { ansi_str_raw_fit(t, n, width, alignment, p, k, b, m) }
+    }))
+}
+
+pub(crate) fn truncate_with(text: &str, width: usize, tail: &str, side: u32) -> String {
+    let (t, n, p, k) = (text.as_ptr(), text.len(), tail.as_ptr(), tail.len());
+    always(written(n + LONGEST_START_AND_CLOSE, |b, m| {
+        // SAFETY: two `str`s, and the room; any number may be a width
+        unsafe { ansi_str_raw_truncate_with(t, n, width, p, k, side, b, m) }
+    }))
+}
+
 pub(crate) fn slice(text: &str, start: usize, end: usize) -> String {
     always(written(text.len() + LONGEST_START_AND_CLOSE, |b, m| {
         // SAFETY: a `str`, and the room; any numbers may be columns
@@ -539,23 +551,36 @@ pub(crate) fn wrap(text: &str, width: usize) -> (String, Vec<usize>) {
     (always(lines), ends)
 }
 
-/// Where each line of a text begins and ends.
-pub(crate) fn lines(text: &str, width: usize) -> Vec<Range<usize>> {
-    let mut lines: Vec<RawLine> = Vec::with_capacity(text.len() / 8 + 1);
-    loop {
-        let (t, n, free) = (text.as_ptr(), text.len(), lines.spare_capacity_mut());
-        // SAFETY: a `str`, and the pointer and the length of a vector's spare room
-        let answer =
-            unsafe { ansi_str_raw_lines(t, n, width, free.as_mut_ptr().cast(), free.len()) };
-        match outcome(answer.status, answer.count) {
-            Ok(count) => {
-                // SAFETY: the call has set this many of them
-                unsafe { lines.set_len(count) };
-                return lines.iter().map(|line| line.start..line.end).collect();
-            }
-            Err(Unfinished::TooSmall(needed)) => lines.reserve_exact(needed),
-            Err(_) => unreachable!("this call is never refused"),
-        }
+/// Where each line of a text that is left begins and ends.
+#[derive(Debug, Clone)]
+pub(crate) struct Lines<'a> {
+    walk: RawLineWalk,
+    text: PhantomData<&'a str>,
+}
+
+// SAFETY: as for parts
+unsafe impl Send for Lines<'_> {}
+// SAFETY: as for parts
+unsafe impl Sync for Lines<'_> {}
+
+pub(crate) fn lines(text: &str, width: usize) -> Lines<'_> {
+    let mut walk = RawLineWalk::none();
+    // SAFETY: a `str`, which lives as long as the walk, and a walk with a good pointer
+    is_so(unsafe { ansi_str_raw_lines_begin(text.as_ptr(), text.len(), width, &mut walk) });
+    Lines {
+        walk,
+        text: PhantomData,
+    }
+}
+
+impl Iterator for Lines<'_> {
+    type Item = Range<usize>;
+
+    fn next(&mut self) -> Option<Range<usize>> {
+        let mut line = RawLine { start: 0, end: 0 };
+        // SAFETY: a walk that the library began, whose text lives, and a line
+        let is_there = is_so(unsafe { ansi_str_raw_lines_next(&mut self.walk, &mut line) });
+        is_there.then_some(line.start..line.end)
     }
 }
 
@@ -646,7 +671,7 @@ impl<'a> Iterator for Blocks<'a> {
         let mut block = RawBlock {
             text: "".as_ptr(),
             len: 0,
-            style: RawStyle::EMPTY,
+            style: RawStyle::PLAIN,
         };
         let sequences = written(0, |b, m| {
             // SAFETY: a walk that the library began, whose text lives, a block with a good pointer, and the room
@@ -661,22 +686,33 @@ impl<'a> Iterator for Blocks<'a> {
             sequences.push_str(run);
             Cow::Owned(sequences)
         };
-        Some((text, Style::new(block.style, self.walk.style())))
+        Some((text, Style(block.style)))
     }
 }
 
-impl Numbers {
-    /// Those of a style with nothing set.
-    pub(crate) const PLAIN: Numbers = Numbers {
+/// The attributes that no character shows, which count only together.
+const UNSEEN: u32 = 1 << 22 | 1 << 23;
+
+impl RawStyle {
+    /// A style with nothing set.
+    pub(crate) const PLAIN: RawStyle = RawStyle {
         attributes: 0,
-        foreground: ColorNumbers::NONE,
-        background: ColorNumbers::NONE,
-        underline_color: ColorNumbers::NONE,
-        font: FontNumbers {
+        foreground: RawColor::NONE,
+        background: RawColor::NONE,
+        underline_color: RawColor::NONE,
+        font: RawFont {
             is_set: false,
             number: 0,
         },
     };
+
+    /// The same without what neither sets nor closes anything.
+    pub(crate) fn seen(mut self) -> RawStyle {
+        if self.attributes & UNSEEN != UNSEEN {
+            self.attributes &= !UNSEEN;
+        }
+        self
+    }
 
     /// The sequences that set the style.
     pub(crate) fn start(&self) -> String {
@@ -690,72 +726,52 @@ impl Numbers {
 
     /// What an export writes of the style: nothing if nothing is set.
     fn sequences(&self, call: WriteStyle) -> String {
-        if *self == Numbers::PLAIN {
+        if *self == RawStyle::PLAIN {
             return String::new();
         }
-        // SAFETY: numbers that the library has made, and the room
+        // SAFETY: a style that the library has made, and the room
         always(written(0, |b, m| unsafe { call(self, b, m) }))
     }
 }
 
-impl ColorNumbers {
-    const NONE: ColorNumbers = ColorNumbers {
+/// The colors that SGR codes name, and the same bright, in the order of the codes.
+const NAMES: [[Color; 8]; 2] = [
+    [
+        Color::Black,
+        Color::Red,
+        Color::Green,
+        Color::Yellow,
+        Color::Blue,
+        Color::Magenta,
+        Color::Cyan,
+        Color::White,
+    ],
+    [
+        Color::BrightBlack,
+        Color::BrightRed,
+        Color::BrightGreen,
+        Color::BrightYellow,
+        Color::BrightBlue,
+        Color::BrightMagenta,
+        Color::BrightCyan,
+        Color::BrightWhite,
+    ],
+];
+
+impl RawColor {
+    const NONE: RawColor = RawColor {
         kind: 0,
         first: 0,
         second: 0,
         third: 0,
     };
-}
 
-impl RawStyle {
-    pub(crate) const EMPTY: RawStyle = RawStyle {
-        attributes: 0,
-        foreground: RawColor::NONE,
-        background: RawColor::NONE,
-        has_any: false,
-    };
-}
-
-impl RawColor {
-    const NONE: RawColor = RawColor {
-        kind: 0,
-        number: 0,
-        red: 0,
-        green: 0,
-        blue: 0,
-    };
-}
-
-/// The names of colors, as the header numbers them from 1 on.
-const NAMES: [Color; 18] = [
-    Color::Black,
-    Color::BrightBlack,
-    Color::Red,
-    Color::BrightRed,
-    Color::Green,
-    Color::BrightGreen,
-    Color::Yellow,
-    Color::BrightYellow,
-    Color::Blue,
-    Color::BrightBlue,
-    Color::Purple,
-    Color::BrightPurple,
-    Color::Magenta,
-    Color::BrightMagenta,
-    Color::Cyan,
-    Color::BrightCyan,
-    Color::White,
-    Color::BrightWhite,
-];
-const FIXED: u32 = 19;
-const RGB: u32 = 20;
-
-impl RawColor {
     pub(crate) fn color(&self) -> Option<Color> {
         match self.kind {
-            FIXED => Some(Color::Fixed(self.number)),
-            RGB => Some(Color::Rgb(self.red, self.green, self.blue)),
-            kind => NAMES.get((kind as usize).checked_sub(1)?).copied(),
+            0 => None,
+            1 => Some(NAMES[usize::from(self.first >= 90)][usize::from(self.first % 10)]),
+            2 => Some(Color::Fixed(self.first)),
+            _ => Some(Color::Rgb(self.first, self.second, self.third)),
         }
     }
 }

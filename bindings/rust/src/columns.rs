@@ -25,10 +25,62 @@ pub enum Alignment {
     Right,
 }
 
+/// Where a text is cut if it is too wide.
+#[derive(Debug, Clone, Copy, PartialEq, Eq)]
+pub enum Side {
+    /// At its end: its first columns stay.
+    End,
+    /// At its start: its last columns stay.
+    Start,
+    /// In its middle: its first and its last columns stay. If their number is odd, one more of the first ones stays.
+    Middle,
+}
+
+/// How a text is truncated: to how many columns, with what tail, and at which side.
+///
+/// ```
+/// use ansi_str::columns::{AnsiColumns, Side, Truncation};
+/// let to = Truncation::to(6).tail("…").side(Side::Start);
+/// assert_eq!("/usr/local/bin".ansi_truncate_with(&to), "…l/bin");
+/// ```
+#[derive(Debug, Clone, Copy, PartialEq, Eq)]
+pub struct Truncation<'a> {
+    /// The greatest number of columns.
+    pub width: usize,
+    /// What is written where the text is cut, such as `…`.
+    pub tail: &'a str,
+    /// Where the text is cut.
+    pub side: Side,
+}
+
+impl<'a> Truncation<'a> {
+    /// Truncation to `width` columns, at the end of a text and without a tail.
+    #[must_use]
+    pub fn to(width: usize) -> Self {
+        Truncation {
+            width,
+            tail: "",
+            side: Side::End,
+        }
+    }
+
+    /// The same with this tail.
+    #[must_use]
+    pub fn tail(self, tail: &'a str) -> Self {
+        Truncation { tail, ..self }
+    }
+
+    /// The same at this side.
+    #[must_use]
+    pub fn side(self, side: Side) -> Self {
+        Truncation { side, ..self }
+    }
+}
+
 /// Calls by the columns of a text, taken as if its sequences weren't there.
 pub trait AnsiColumns: AnsiStr {
-    /// The display width of the plain text. A cluster may run across sequences. A control character has one column, and so
-    /// has `"\r\n"`.
+    /// The display width of what a terminal shows: of the plain text, with a blank for each TAB and line feed, and without
+    /// other controls and bidirectional controls. A cluster may run across sequences and controls.
     ///
     /// ```
     /// use ansi_str::columns::AnsiColumns;
@@ -38,8 +90,8 @@ pub trait AnsiColumns: AnsiStr {
     #[must_use]
     fn ansi_width(&self) -> usize;
 
-    /// The position up to which the plain text fits into `width` columns: the last end of a cluster with at most `width`
-    /// columns before it. The text can be cut and split there.
+    /// The position up to which the text fits into `width` columns: the last end of a cluster with at most `width` columns
+    /// before it, after the controls that follow it and have no columns. The text can be cut and split there.
     ///
     /// ```
     /// use ansi_str::columns::AnsiColumns;
@@ -72,6 +124,31 @@ pub trait AnsiColumns: AnsiStr {
     #[must_use]
     fn ansi_pad(&self, width: usize, alignment: Alignment) -> Cow<'_, str>;
 
+    /// The text of a table's cell: truncated to `width` columns, as by [`ansi_truncate`](AnsiColumns::ansi_truncate), and then
+    /// padded to them, as by [`ansi_pad`](AnsiColumns::ansi_pad). The result is borrowed if it is a prefix of the text.
+    ///
+    /// ```
+    /// use ansi_str::columns::{Alignment, AnsiColumns};
+    /// assert_eq!("\x1b[41mab".ansi_fit(4, Alignment::Left, "…"), "\x1b[41mab\x1b[49m  ");
+    /// assert_eq!("\x1b[41mabcdef".ansi_fit(4, Alignment::Left, "…"), "\x1b[41mabc\x1b[49m…");
+    /// ```
+    #[must_use]
+    fn ansi_fit(&self, width: usize, alignment: Alignment, tail: &str) -> Cow<'_, str>;
+
+    /// The text truncated at its end, at its start or in its middle. At its end it is truncated as by
+    /// [`ansi_truncate`](AnsiColumns::ansi_truncate), and so is a text that fits. Otherwise its first and last columns stay, as
+    /// by [`ansi_slice`](AnsiColumns::ansi_slice), with the tail unchanged between them: as many as the tail leaves of the width.
+    /// A tail wider than the width is left out. The result is borrowed if it is a prefix of the text.
+    ///
+    /// ```
+    /// use ansi_str::columns::{AnsiColumns, Side, Truncation};
+    /// let to = Truncation::to(8).tail("…").side(Side::Middle);
+    /// let cut = "\x1b[31m/usr/local/bin\x1b[39m".ansi_truncate_with(&to);
+    /// assert_eq!(cut, "\x1b[31m/usr\x1b[39m…\x1b[31mbin\x1b[39m");
+    /// ```
+    #[must_use]
+    fn ansi_truncate_with(&self, to: &Truncation<'_>) -> Cow<'_, str>;
+
     /// The columns of the text in a range, on one line and safe, as by [`ansi_truncate`](AnsiColumns::ansi_truncate). The first
     /// column is 0. The style and the link that are open at the start are opened first, and the link and then the style still
     /// open at the end are closed. If a cluster is only partly in the range, each of its columns there is a blank. A cluster of
@@ -96,7 +173,8 @@ pub trait AnsiColumns: AnsiStr {
     #[must_use]
     fn ansi_expand_tabs(&self, stop: usize) -> Cow<'_, str>;
 
-    /// The text wrapped to lines of `width` columns. A line ends at a line end or before a word that doesn't fit, and loses the
+    /// The text wrapped to lines of `width` columns, each safe: SGRs, clean links (OSC 8) and printing characters stay, a TAB
+    /// becomes a blank, and the rest is left out. A line ends at a line end or before a word that doesn't fit, and loses the
     /// blanks at its end; a word that is too wide is broken at the end of a cluster. An indent stays if its word fits after it. A
     /// width of 0 counts as 1. Each line closes the link (OSC 8) and then the style that it leaves open; the next line reopens
     /// them.
@@ -109,14 +187,16 @@ pub trait AnsiColumns: AnsiStr {
     #[must_use]
     fn ansi_wrap(&self, width: usize) -> AnsiWrap;
 
-    /// Where each line of [`ansi_wrap`](AnsiColumns::ansi_wrap) begins and ends in the plain text. The text can be cut there.
+    /// Where each line of [`ansi_wrap`](AnsiColumns::ansi_wrap) begins and ends in the plain text, if that call leaves nothing out
+    /// and the text has no TAB. Otherwise a control has one column. The text can be cut there.
     ///
     /// ```
     /// use ansi_str::columns::AnsiColumns;
-    /// assert_eq!("ab \x1b[1mcd  efg".ansi_lines(5), [0..5, 7..10]);
+    /// let lines: Vec<_> = "ab \x1b[1mcd  efg".ansi_lines(5).collect();
+    /// assert_eq!(lines, [0..5, 7..10]);
     /// ```
     #[must_use]
-    fn ansi_lines(&self, width: usize) -> Vec<Range<usize>>;
+    fn ansi_lines(&self, width: usize) -> AnsiLines<'_>;
 
     /// The address of the link (OSC 8) around the plain byte at a position, or `None` if no link is open there. The position may
     /// be inside a character. At and after the end of the plain text there is no link.
@@ -159,6 +239,21 @@ impl Iterator for AnsiWrap {
 impl ExactSizeIterator for AnsiWrap {}
 impl FusedIterator for AnsiWrap {}
 
+/// An iterator over where the lines of a wrapped text begin and end; [`AnsiColumns::ansi_lines`] returns it. Each line is
+/// searched on demand.
+#[derive(Debug, Clone)]
+pub struct AnsiLines<'a>(calls::Lines<'a>);
+
+impl Iterator for AnsiLines<'_> {
+    type Item = Range<usize>;
+
+    fn next(&mut self) -> Option<Range<usize>> {
+        self.0.next()
+    }
+}
+
+impl FusedIterator for AnsiLines<'_> {}
+
 impl<T: AsRef<str> + ?Sized> AnsiColumns for T {
     fn ansi_width(&self) -> usize {
         calls::width(self.as_ref())
@@ -176,6 +271,17 @@ impl<T: AsRef<str> + ?Sized> AnsiColumns for T {
     fn ansi_pad(&self, width: usize, alignment: Alignment) -> Cow<'_, str> {
         let text = self.as_ref();
         front_or_owned(text, calls::pad(text, width, alignment as u32))
+    }
+
+    fn ansi_fit(&self, width: usize, alignment: Alignment, tail: &str) -> Cow<'_, str> {
+        let text = self.as_ref();
+        front_or_owned(text, calls::fit(text, width, alignment as u32, tail))
+    }
+
+    fn ansi_truncate_with(&self, to: &Truncation<'_>) -> Cow<'_, str> {
+        let text = self.as_ref();
+        let cut = calls::truncate_with(text, to.width, to.tail, to.side as u32);
+        front_or_owned(text, cut)
     }
 
     fn ansi_slice<R: RangeBounds<usize>>(&self, columns: R) -> Cow<'_, str> {
@@ -198,8 +304,8 @@ impl<T: AsRef<str> + ?Sized> AnsiColumns for T {
         }
     }
 
-    fn ansi_lines(&self, width: usize) -> Vec<Range<usize>> {
-        calls::lines(self.as_ref(), width)
+    fn ansi_lines(&self, width: usize) -> AnsiLines<'_> {
+        AnsiLines(calls::lines(self.as_ref(), width))
     }
 
     fn ansi_link_at(&self, index: usize) -> Option<String> {

@@ -1,6 +1,6 @@
 //! The style of a block, and its colors.
 
-use crate::calls::{Numbers, RawStyle};
+use crate::calls::RawStyle;
 use std::cmp::Ordering;
 use std::fmt::{self, Debug, Display, Formatter};
 use std::hash::{Hash, Hasher};
@@ -67,28 +67,14 @@ pub enum Color {
 /// assert_ne!(styles[0], styles[1]);
 /// ```
 #[derive(Clone, Copy)]
-pub struct Style {
-    told: RawStyle,
-    numbers: Numbers,
-}
+pub struct Style(pub(crate) RawStyle);
 
 impl Style {
     /// The style of a text without ESC.
-    pub(crate) const EMPTY: Style = Style::new(RawStyle::EMPTY, Numbers::PLAIN);
-
-    pub(crate) const fn new(told: RawStyle, numbers: Numbers) -> Self {
-        Style { told, numbers }
-    }
+    pub(crate) const EMPTY: Style = Style(RawStyle::PLAIN);
 
     pub(crate) fn has_any(&self) -> bool {
-        self.told.has_any
-    }
-
-    /// Its visible part, by which styles compare.
-    fn seen(&self) -> impl Ord + Hash {
-        let colors = (self.foreground(), self.background());
-        let sequences = (self.numbers.start(), self.numbers.end());
-        (self.told.attributes, colors, self.told.has_any, sequences)
+        self.0.seen() != RawStyle::PLAIN
     }
 
     /// Prints the sequences that set the style.
@@ -124,7 +110,7 @@ impl Style {
     /// ```
     #[must_use]
     pub fn foreground(&self) -> Option<Color> {
-        self.told.foreground.color()
+        self.0.foreground.color()
     }
 
     /// The color behind the text.
@@ -136,7 +122,7 @@ impl Style {
     /// ```
     #[must_use]
     pub fn background(&self) -> Option<Color> {
-        self.told.background.color()
+        self.0.background.color()
     }
 }
 
@@ -153,7 +139,7 @@ macro_rules! attributes {
                 /// ```
                 #[must_use]
                 pub fn $name(&self) -> bool {
-                    self.told.attributes & (1 << $bit) != 0
+                    self.0.attributes & (1 << $bit) != 0
                 }
             )*
         }
@@ -161,13 +147,13 @@ macro_rules! attributes {
 }
 
 attributes!(
-    0 is_bold "1", 1 is_faint "2", 2 is_italic "3", 3 is_underline "4", 4 is_slow_blink "5", 5 is_rapid_blink "6",
-    6 is_inverse "7", 7 is_hide "8", 8 is_crossedout "9", 9 is_fraktur "20"
+    0 is_bold "1", 1 is_faint "2", 2 is_italic "3", 3 is_underline "4", 5 is_slow_blink "5", 6 is_rapid_blink "6",
+    7 is_inverse "7", 8 is_hide "8", 9 is_crossedout "9", 12 is_fraktur "20"
 );
 
 impl PartialEq for Style {
     fn eq(&self, other: &Self) -> bool {
-        self.numbers == other.numbers || self.seen() == other.seen()
+        self.0.seen() == other.0.seen()
     }
 }
 
@@ -181,13 +167,13 @@ impl PartialOrd for Style {
 
 impl Ord for Style {
     fn cmp(&self, other: &Self) -> Ordering {
-        self.seen().cmp(&other.seen())
+        self.0.seen().cmp(&other.0.seen())
     }
 }
 
 impl Hash for Style {
     fn hash<H: Hasher>(&self, state: &mut H) {
-        self.seen().hash(state);
+        self.0.seen().hash(state);
     }
 }
 
@@ -195,8 +181,8 @@ impl Debug for Style {
     fn fmt(&self, formatter: &mut Formatter<'_>) -> fmt::Result {
         formatter
             .debug_struct("Style")
-            .field("start", &self.numbers.start())
-            .field("end", &self.numbers.end())
+            .field("start", &self.0.start())
+            .field("end", &self.0.end())
             .finish()
     }
 }
@@ -212,7 +198,7 @@ pub struct AnsiSequenceStart<'a>(&'a Style);
 
 impl Display for AnsiSequenceStart<'_> {
     fn fmt(&self, formatter: &mut Formatter<'_>) -> fmt::Result {
-        formatter.write_str(&self.0.numbers.start())
+        formatter.write_str(&self.0 .0.start())
     }
 }
 
@@ -238,6 +224,6 @@ impl AnsiSequenceEnd<'_> {
 
 impl Display for AnsiSequenceEnd<'_> {
     fn fmt(&self, formatter: &mut Formatter<'_>) -> fmt::Result {
-        formatter.write_str(&self.0.numbers.end())
+        formatter.write_str(&self.0 .0.end())
     }
 }

@@ -1,6 +1,6 @@
 //! Passes the rows of texts and results, which `rows/README.md` describes.
 
-use ansi_str::columns::{Alignment, AnsiColumns};
+use ansi_str::columns::{Alignment, AnsiColumns, Side, Truncation};
 use ansi_str::safe::{AnsiSafe, Links, Policy, Rest};
 use ansi_str::{get_blocks, AnsiBlock, AnsiStr, Color};
 use std::borrow::Cow;
@@ -119,6 +119,15 @@ fn alignment_of(word: &str) -> Alignment {
     }
 }
 
+fn side_of(word: &str) -> Side {
+    match word {
+        "End" => Side::End,
+        "Start" => Side::Start,
+        "Middle" => Side::Middle,
+        _ => panic!("no side: {word}"),
+    }
+}
+
 fn rest_of(word: &str) -> Rest {
     match word {
         "Drop" => Rest::Drop,
@@ -187,11 +196,19 @@ fn pass(call: &str, status: &str, want: &str, text: &str, more: &[String]) -> Op
         "front" => is(Some(text.ansi_cut(..text.ansi_fitting(position(0))))),
         "truncate" => is(Some(text.ansi_truncate(position(0), &more[1]))),
         "pad" => is(Some(text.ansi_pad(position(0), alignment_of(&more[1])))),
+        "fit" => {
+            let alignment = alignment_of(&more[1]);
+            is(Some(text.ansi_fit(position(0), alignment, &more[2])))
+        }
+        "truncate_with" => {
+            let to = Truncation::to(position(0)).tail(&more[1]);
+            is(Some(text.ansi_truncate_with(&to.side(side_of(&more[2])))))
+        }
         "slice" => is(Some(text.ansi_slice(position(0)..position(1)))),
         "expand_tabs" => is(Some(text.ansi_expand_tabs(position(0)))),
         "wrap" => are(text.ansi_wrap(position(0)).map(Cow::from).collect()),
         "lines" => {
-            let lines = text.ansi_lines(position(0));
+            let lines = text.ansi_lines(position(0)).collect::<Vec<_>>();
             let interval_of = |line: &Range<usize>| format!("{},{}", line.start, line.end);
             is_number(lines.len()) && lines.iter().map(interval_of).eq(more[1..].iter().cloned())
         }

@@ -4,4 +4,3 @@ pub mod GivenLemmas
 pub mod ListLemmas
 pub mod ByteLemmas
 pub mod LineListLemmas
-mod StyleExamples

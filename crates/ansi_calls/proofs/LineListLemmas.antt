@@ -1,5 +1,5 @@
 -- The lines of a text without ESC: they have at most as many bytes as the text, and there is at most one line more than the text has bytes.
-use Rattle.std.proofs.Common.{◌≡◌, ◌∙◌, ℕ, ◌+◌, ◌-◌, ◌<◌, ◌≤◌, max, ◌||◌, ◌==◌, nat_le, ◌&&◌, Bool, true, false, inl, inr, List, [], ◌∷◌, ◌++◌, length, drop, map, slice_range, Some, None, Option, Result, Ok, Err, encode_utf8_all, if◌then◌else◌, refl, ap, arith, append-nil, length-append, IsFalse}
+use Rattle.std.proofs.Common.{◌≡◌, ◌∙◌, ℕ, ◌+◌, ◌-◌, ◌<◌, ◌≤◌, max, ◌==◌, ◌&&◌, Bool, true, false, List, [], ◌∷◌, ◌++◌, length, drop, map, slice_range, Some, None, Option, Result, Ok, Err, encode_utf8_all, if◌then◌else◌, refl, ap, arith, append-nil, length-append, IsFalse}
 use Rattle.std.specs.Prelude.{flat_map}
 use Rattle.std.specs.Str.{chars, IsUtf8}
 use Rattle.std.proofs.lemmas.Bool.{cond_both}
@@ -21,9 +21,11 @@ use Rattle.ansi_slice.specs.Cut.{interleaved}
 use Rattle.ansi_str.specs.Parts.{marks_past}
 use Rattle.ansi_slice.proofs.InterleavedLemmas.{interleaved-bare}
 use Rattle.ansi_columns.specs.Columns.{clusters, cluster_width}
+use Rattle.ansi_safe.specs.Cells.{paragraph}
 use Rattle.ansi_safe.specs.Links.{link_after_all}
 use Rattle.ansi_columns.specs.Lines.{lines_from, lines, AreLinesFrom}
 use Rattle.ansi_columns.specs.Wrapped.{WrappedLine, pen_end, line_over, lines_over, wrapped, GivesLine}
+use Rattle.ansi_columns.proofs.LentLemmas.{wrapped-itself}
 use Rattle.ansi_columns.proofs.LineLemmas.{line-any, line-last}
 use Rattle.ansi_columns.proofs.ClusterLawLemmas.{clusters_after-bytes}
 use Rattle.ansi_calls.proofs.GivenLemmas.{joined_texts, GivesNext}
@@ -108,11 +110,12 @@ pub few-lines_of : (x : List ℕ) (width : ℕ) → IsUtf8 x → length (lines w
 few-lines_of x width utf8 = omega (arith, few-lines (clusters x) (max width 1) 0 0 0 0, few-clusters x utf8)
 
 -- of all lines of a text without ESC, the bytes and the number
-pub bare-wrapped : (t : List ℕ) (width : ℕ) → IsFalse (has_escape t) → IsUtf8 t → AreLinesFrom t 0 (lines width t)
+pub bare-wrapped : (t : List ℕ) (width : ℕ) → paragraph t ≡ t → IsFalse (has_escape t) → IsUtf8 t → AreLinesFrom t 0 (lines width t)
     → (length (joined_texts (wrapped_lines t width)) ≤ length t) × (length (wrapped_lines t width) ≤ length t + 1)
-bare-wrapped t width none utf8 stand =
+bare-wrapped t width same none utf8 stand =
     let over : wrapped t width ≡ lines_over plain_style [] t [] (lines width t)
-    = ap (λ (ms : List Mark). lines_over plain_style [] (plain t) ms (lines width (plain t))) (marks-bare t none) ∙ ap (λ x. lines_over plain_style [] x [] (lines width x)) (plain-bare t none) in (
+    = wrapped-itself t width same
+    ∙ ap (λ (ms : List Mark). lines_over plain_style [] (plain t) ms (lines width (plain t))) (marks-bare t none) ∙ ap (λ x. lines_over plain_style [] x [] (lines width x)) (plain-bare t none) in (
       omega (arith, ap (λ (ls : List WrappedLine). length (joined_texts (map (λ (l : WrappedLine). l.bytes) ls))) over, length-lines_over t 0 (lines width t) stand),
       omega (
         arith,

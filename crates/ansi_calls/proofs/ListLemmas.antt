@@ -1,6 +1,6 @@
 -- Texts that are concatenated in turn, and an entry for each; the parts and the block of a text without ESC.
 use Rattle.std.proofs.Common.{◌≡◌, ◌∙◌, ℕ, ◌+◌, ◌≤◌, ◌==◌, List, [], ◌∷◌, ◌++◌, length, drop, Some, Result, Ok, Err, Bool, IsTrue, inl, inr, string_bytes, refl, sym, ap, subst, arith, append_assoc, append-nil, length-append, length-take, length-drop, ◌-◌, slice_range, false, if◌then◌else◌}
-use Rattle.std.specs.Prelude.{flat_map, IsFalse, MatchResult, IfOk, String, Vec}
+use Rattle.std.specs.Prelude.{flat_map, map, IsFalse, MatchResult, IfOk, String, Vec}
 use Rattle.std.proofs.lemmas.Bool.{ne_eqb}
 use Rattle.std.proofs.lemmas.List.{length-map}
 use Rattle.ansi_items.proofs.PlainLemmas.{pieces_of-bare, one_text}
@@ -13,7 +13,7 @@ use Rattle.ansi_str.specs.Blocks.{Block, GivesBlock, blocks}
 use Rattle.ansi_str.specs.Parts.{parts, all_parts}
 use Rattle.ansi_calls.specs.declared.lists.ListAnswer.{ListAnswer}
 use Rattle.ansi_calls.specs.Answers.{out_of_memory}
-use Rattle.ansi_calls.specs.Lists.{entries_of, whole_block, AreWritten, HaveFailed, GivesAll}
+use Rattle.ansi_calls.specs.Lists.{entries_of, whole_block, AreWritten, HaveFailed, GivesAllAs}
 
 -- a block was taken off those that were left
 pub block-taken : {E : Type 0} {xs us : List Block} {r : Result Block E} {x : Block} → GivesBlock xs (Some r) us → r ≡ Ok x → xs ≡ x ∷ us
@@ -66,36 +66,40 @@ length-slices_over x e (i ∷ is) turn =
     )
 
 -- what is joined is written, or the call runs out of memory
-pub Gives-joined : {T A E : Type 0} (takes_memory : Bool) (bytes : List ℕ) (entries : List T) (joined : Result (String A × Vec T A) E) (answer : ListAnswer) (old new : List ℕ) (old_entries new_entries : List T)
-    → IsTrue takes_memory → IfOk joined (λ j. string_bytes j.0 ≡ bytes) → IfOk joined (λ j. j.1.items ≡ entries)
+pub Gives-joined : {T F A E : Type 0} (takes_memory : Bool) (bytes : List ℕ) (facts : T → F) (stated : List F) (joined : Result (String A × Vec T A) E) (answer : ListAnswer) (old new : List ℕ) (old_entries new_entries : List T)
+    → IsTrue takes_memory → IfOk joined (λ j. string_bytes j.0 ≡ bytes) → IfOk joined (λ j. map facts j.1.items ≡ stated)
     → MatchResult joined (λ j. AreWritten (string_bytes j.0) j.1.items answer old new old_entries new_entries) (λ e. HaveFailed out_of_memory answer old new old_entries new_entries)
-    → GivesAll takes_memory bytes entries answer old new old_entries new_entries
-Gives-joined takes_memory bytes entries (Ok j) answer old new old_entries new_entries takes texts listed written =
-    inl (subst (λ u. AreWritten u entries answer old new old_entries new_entries) texts (subst (λ es. AreWritten (string_bytes j.0) es answer old new old_entries new_entries) listed written))
-Gives-joined takes_memory bytes entries (Err e) answer old new old_entries new_entries takes texts listed written = inr (takes, written)
+    → GivesAllAs takes_memory bytes facts stated answer old new old_entries new_entries
+Gives-joined takes_memory bytes facts stated (Ok j) answer old new old_entries new_entries takes texts listed written =
+    inl (j.1.items, listed, subst (λ u. AreWritten u j.1.items answer old new old_entries new_entries) texts written)
+Gives-joined takes_memory bytes facts stated (Err e) answer old new old_entries new_entries takes texts listed written = inr (takes, written)
 
 -- A text without ESC is one block; an empty text has no block.
 -- what is written of it is written of its blocks
-pub one_block_written : {T : Type 0} (text : Block → List ℕ) (entry : ℕ → ℕ → Block → T) (only : List T) (t : List ℕ) (answer : ListAnswer) (old new : List ℕ) (old_entries new_entries : List T)
-    → IsFalse (has_escape t) → text (whole_block t) ≡ t → entry 0 (length t) (whole_block t) ∷ [] ≡ only
-    → AreWritten t (if length t == 0 then [] else only) answer old new old_entries new_entries
-    → AreWritten (flat_map text (blocks t)) (entries_of text entry 0 (blocks t)) answer old new old_entries new_entries
-one_block_written {T} text entry only t answer old new old_entries new_entries none same is written =
+pub one_block_written : {T F : Type 0} (text : Block → List ℕ) (facts : T → F) (entry : ℕ → ℕ → Block → F) (only : T) (t : List ℕ) (answer : ListAnswer) (old new : List ℕ) (old_entries new_entries : List T)
+    → IsFalse (has_escape t) → text (whole_block t) ≡ t → facts only ≡ entry 0 (length t) (whole_block t)
+    → AreWritten t (if length t == 0 then [] else only ∷ []) answer old new old_entries new_entries
+    → GivesAllAs (has_escape t) (flat_map text (blocks t)) facts (entries_of text entry 0 (blocks t)) answer old new old_entries new_entries
+one_block_written {T} {F} text facts entry only t answer old new old_entries new_entries none same is written =
     let one : blocks t ≡ blocks_through plain_style [] (one_text t) = blocks_from-walked plain_style t ∙ ap (blocks_through plain_style []) (pieces_of-bare t none) in
-    subst (λ (bs : List Block). AreWritten (flat_map text bs) (entries_of text entry 0 bs) answer old new old_entries new_entries) (sym one)
-    (by_text t same is written)
+    inl (subst (λ (bs : List Block). (entries : List T) × (map facts entries ≡ entries_of text entry 0 bs) × AreWritten (flat_map text bs) entries answer old new old_entries new_entries)
+    (sym one) (by_text t same is written))
   where
-    by_text : (t : List ℕ) → text (whole_block t) ≡ t → entry 0 (length t) (whole_block t) ∷ [] ≡ only
-        → AreWritten t (if length t == 0 then [] else only) answer old new old_entries new_entries
-        → AreWritten (flat_map text (blocks_through plain_style [] (one_text t))) (entries_of text entry 0 (blocks_through plain_style [] (one_text t))) answer old new old_entries new_entries
-    by_text [] same is written = written
+    by_text : (t : List ℕ) → text (whole_block t) ≡ t → facts only ≡ entry 0 (length t) (whole_block t)
+        → AreWritten t (if length t == 0 then [] else only ∷ []) answer old new old_entries new_entries
+        → (entries : List T) × (map facts entries ≡ entries_of text entry 0 (blocks_through plain_style [] (one_text t)))
+        × AreWritten (flat_map text (blocks_through plain_style [] (one_text t))) entries answer old new old_entries new_entries
+    by_text [] same is written = ([], refl, written)
     by_text (b ∷ w) same is written =
         let filled : (length (b ∷ w) == 0) ≡ false = ne_eqb (length (b ∷ w)) 0 (λ e. omega (arith, e)) in
         let bytes : text (whole_block (b ∷ w)) ++ [] ≡ b ∷ w = append-nil (text (whole_block (b ∷ w))) ∙ same in
-        let entries : entry 0 (0 + length (text (whole_block (b ∷ w)))) (whole_block (b ∷ w)) ∷ [] ≡ (if length (b ∷ w) == 0 then [] else only)
-        = ap (λ n. entry 0 n (whole_block (b ∷ w)) ∷ []) (omega (arith, ap length same)) ∙ is ∙ ap (λ c. if c then [] else only) (sym filled) in
-        subst (λ u. AreWritten u (entry 0 (0 + length (text (whole_block (b ∷ w)))) (whole_block (b ∷ w)) ∷ []) answer old new old_entries new_entries) (sym bytes)
-        (subst (λ es. AreWritten (b ∷ w) es answer old new old_entries new_entries) (sym entries) written)
+        let stated : facts only ∷ [] ≡ entry 0 (0 + length (text (whole_block (b ∷ w)))) (whole_block (b ∷ w)) ∷ []
+        = ap (λ f. f ∷ []) is ∙ ap (λ n. entry 0 n (whole_block (b ∷ w)) ∷ []) (omega (arith, ap length same)) in (
+          only ∷ [],
+          stated,
+          subst (λ u. AreWritten u (only ∷ []) answer old new old_entries new_entries) (sym bytes)
+              (subst (λ c. AreWritten (b ∷ w) (if c then [] else only ∷ []) answer old new old_entries new_entries) filled written),
+        )
 
 -- the parts of a text without ESC have no more bytes than it
 pub length-bare_parts : (t p : List ℕ) → all_parts t p ≡ slices_over t (parts t p) → AreInTurn t 0 (parts t p) → length (flat_map (λ u. u) (all_parts t p)) ≤ length t

@@ -1,17 +1,23 @@
 -- What each call on columns does. A text that isn't UTF-8 makes it fail with the status `not_utf8`, and what it writes to is unchanged.
-use Rattle.std.specs.Prelude.{◌≡◌, ℕ, true, not, ◌&&◌, ◌==◌, List, [], ◌∷◌, length, map, flat_map, Option, None, Some, if◌then◌else◌}
+use Rattle.std.specs.Prelude.{◌≡◌, ◌⊎◌, ℕ, true, not, ◌&&◌, ◌||◌, ◌==◌, List, [], ◌∷◌, length, map, flat_map, bytes_eq, Option, None, Some, if◌then◌else◌}
 use Rattle.std.specs.Str.{IsCharBoundary}
 use Rattle.ansi_columns.specs.declared.shown.Alignment.{Alignment}
 use Rattle.ansi_columns.specs.declared.shown.Alignment.TheVariants.{Left, Right, Center}
+use Rattle.ansi_columns.specs.declared.sides.Side.{Side}
+use Rattle.ansi_columns.specs.declared.sides.Side.TheVariants.{End, Start, Middle}
 use Rattle.ansi_columns.specs.Addresses.{address_at}
-use Rattle.ansi_columns.specs.Columns.{columns, FitsUpTo}
+use Rattle.ansi_columns.specs.Columns.{columns, ShowsUpTo}
 use Rattle.ansi_items.specs.Plain.{plain, has_escape}
+use Rattle.ansi_columns.specs.Fitted.{fitted}
 use Rattle.ansi_columns.specs.Lines.{lines}
+use Rattle.ansi_columns.specs.LineWalks.{lines_of_walk, IsLineWalk}
+use Rattle.ansi_columns.specs.declared.line_walks.LineWalk.{LineWalk}
 use Rattle.ansi_columns.specs.Shown.{truncated, truncated_ending, padded, missing, closing}
-use Rattle.ansi_columns.specs.Slices.{sliced}
+use Rattle.ansi_columns.specs.Sides.{truncated_at}
+use Rattle.ansi_columns.specs.Slices.{is_sliced_stretch, sliced}
 use Rattle.ansi_columns.specs.Tabs.{has_tab, expanded}
 use Rattle.ansi_columns.specs.Wrapped.{WrappedLine, wrapped}
-use Rattle.ansi_safe.specs.Cells.{cell, is_cell}
+use Rattle.ansi_safe.specs.Cells.{cell, is_cell, paragraph}
 use Rattle.ansi_calls.specs.declared.answers.Answer.{Answer}
 use Rattle.ansi_calls.specs.declared.lines.LineEntry.{LineEntry}
 use Rattle.ansi_calls.specs.declared.lists.ListAnswer.{ListAnswer}
@@ -22,14 +28,14 @@ use Rattle.ansi_calls.specs.Lists.{ends_from, AreWritten, HaveFailed, GivesAll}
 abbrev pub alignment_of : ℕ → Option Alignment
 alignment_of n = if n == 0 then Some Left else if n == 1 then Some Center else if n == 2 then Some Right else None
 
--- `width` returns the columns of the plain text
+-- `width` returns the columns of what a terminal shows
 abbrev pub TellsWidth : List ℕ → Answer → Type 0
-TellsWidth t answer = OnUtf8 (t ∷ []) (answer ≡ done (columns (plain t))) (answer ≡ failed not_utf8)
+TellsWidth t answer = OnUtf8 (t ∷ []) (answer ≡ done (columns (plain (cell t)))) (answer ≡ failed not_utf8)
 
--- `fitting` returns the place up to which the plain text fits into `width` columns, which is a character boundary of it
+-- `fitting` returns the place of the plain text up to which what is shown fits into `width` columns, which is a character boundary of it
 abbrev pub TellsFitting : List ℕ → ℕ → Answer → Type 0
 TellsFitting t width answer =
-    OnUtf8 (t ∷ []) ((place : ℕ) × (answer ≡ done place) × FitsUpTo (plain t) width place × IsCharBoundary (plain t) place) (answer ≡ failed not_utf8)
+    OnUtf8 (t ∷ []) ((place : ℕ) × (answer ≡ done place) × ShowsUpTo t width place × IsCharBoundary (plain t) place) (answer ≡ failed not_utf8)
 
 -- a call writes the text t truncated to `width` columns, and allocates only if its cell isn't t, or something is written after the part that stays
 unfoldable pub GivesTruncated : List ℕ → ℕ → List ℕ → Answer → List ℕ → List ℕ → Type 0
@@ -50,9 +56,33 @@ GivesPadded t width (Some alignment) answer old new =
 abbrev pub Pads : List ℕ → ℕ → ℕ → Answer → List ℕ → List ℕ → Type 0
 Pads t width n answer old new = OnUtf8 (t ∷ []) (GivesPadded t width (alignment_of n) answer old new) (HasFailed not_utf8 answer old new)
 
--- a call writes the columns of the text t from `start` up to `end`, and may allocate for any text
+-- a call writes the text t truncated or padded to `width` columns, and may allocate for any text; it is refused if there is no such alignment
+unfoldable pub GivesFitted : List ℕ → ℕ → Option Alignment → List ℕ → Answer → List ℕ → List ℕ → Type 0
+GivesFitted t width None tail answer old new = HasFailed refused answer old new
+GivesFitted t width (Some alignment) tail answer old new = Gives no true (Some (fitted (cell t) width alignment tail)) answer old new
+
+-- `fit` does so, with the alignment of this number
+abbrev pub Fits : List ℕ → ℕ → ℕ → List ℕ → Answer → List ℕ → List ℕ → Type 0
+Fits t width n tail answer old new = OnUtf8 (t ∷ tail ∷ []) (GivesFitted t width (alignment_of n) tail answer old new) (HasFailed not_utf8 answer old new)
+
+-- the sides, by the numbers that the header gives them
+abbrev pub side_of : ℕ → Option Side
+side_of n = if n == 0 then Some End else if n == 1 then Some Start else if n == 2 then Some Middle else None
+
+-- a call writes the text t truncated to `width` columns at a side, and may allocate for any text; it is refused if there is no such side
+unfoldable pub GivesTruncatedAt : List ℕ → ℕ → List ℕ → Option Side → Answer → List ℕ → List ℕ → Type 0
+GivesTruncatedAt t width tail None answer old new = HasFailed refused answer old new
+GivesTruncatedAt t width tail (Some side) answer old new = Gives no true (Some (truncated_at side (cell t) width tail)) answer old new
+
+-- `truncate_with` does so, at the side of this number
+abbrev pub TruncatesAt : List ℕ → ℕ → List ℕ → ℕ → Answer → List ℕ → List ℕ → Type 0
+TruncatesAt t width tail n answer old new =
+    OnUtf8 (t ∷ tail ∷ []) (GivesTruncatedAt t width tail (side_of n) answer old new) (HasFailed not_utf8 answer old new)
+
+-- a call writes the columns of the text t from `start` up to `end`, and allocates only if its cell isn't t, or they aren't a stretch of it
 unfoldable pub GivesSliced : List ℕ → ℕ → ℕ → Answer → List ℕ → List ℕ → Type 0
-GivesSliced t start end answer old new = Gives no true (Some (sliced (cell t) start (Some end))) answer old new
+GivesSliced t start end answer old new =
+    Gives no (not (is_cell t && is_sliced_stretch t start (Some end))) (Some (sliced (cell t) start (Some end))) answer old new
 
 -- `slice` does so
 abbrev pub Slices : List ℕ → ℕ → ℕ → Answer → List ℕ → List ℕ → Type 0
@@ -74,10 +104,10 @@ WritesLink t index answer old new = OnUtf8 (t ∷ []) (IsFound no (address_at t 
 abbrev pub wrapped_lines : List ℕ → ℕ → List (List ℕ)
 wrapped_lines t width = map (λ (l : WrappedLine). l.bytes) (wrapped t width)
 
--- a call writes these lines and where each ends, and allocates only if t has an ESC
+-- a call writes these lines and where each ends, and allocates only if t has an ESC, or its paragraph isn't t
 unfoldable pub GivesWrapped : List ℕ → ℕ → ListAnswer → List ℕ → List ℕ → List ℕ → List ℕ → Type 0
 GivesWrapped t width answer old new old_ends new_ends =
-    GivesAll (has_escape t) (flat_map (λ l. l) (wrapped_lines t width)) (ends_from 0 (wrapped_lines t width)) answer old new old_ends new_ends
+    GivesAll (has_escape t || not (bytes_eq (paragraph t) t)) (flat_map (λ l. l) (wrapped_lines t width)) (ends_from 0 (wrapped_lines t width)) answer old new old_ends new_ends
 
 -- `wrap` does so
 abbrev pub Wraps : List ℕ → ℕ → ListAnswer → List ℕ → List ℕ → List ℕ → List ℕ → Type 0
@@ -95,3 +125,14 @@ line_entries t width = map line_entry (lines width (plain t))
 -- `lines` writes these, and no texts; it doesn't allocate
 abbrev pub WritesLines : List ℕ → ℕ → ListAnswer → List LineEntry → List LineEntry → Type 0
 WritesLines t width answer old new = OnUtf8 (t ∷ []) (AreWritten [] (line_entries t width) answer [] [] old new) (HaveFailed not_utf8 answer [] [] old new)
+
+-- `lines_begin` sets a walk to the first of these lines
+abbrev pub BeginsLines : List ℕ → ℕ → Answer → LineWalk → LineWalk → Type 0
+BeginsLines t width answer old new =
+    OnUtf8 (t ∷ []) ((answer ≡ done 0) × IsLineWalk new × (lines_of_walk new ≡ lines width (plain t))) ((answer ≡ failed not_utf8) × (new ≡ old))
+
+-- `lines_next` takes the first line off the walk; if there is no line, none is left, and the entry is unchanged
+abbrev pub GivesNextLine : LineWalk → LineWalk → LineEntry → LineEntry → Answer → Type 0
+GivesNextLine old new old_line line answer =
+    ((lines_of_walk old ≡ []) × (lines_of_walk new ≡ []) × (answer ≡ failed no) × (line ≡ old_line))
+    ⊎ ((lines_of_walk old ≡ (line.start, line.end) ∷ lines_of_walk new) × (answer ≡ done 0))

@@ -5,12 +5,13 @@ use Rattle.std.specs.Cow.{cow_str_bytes}
 use Rattle.std.specs.declared.borrow.CowStr.{CowStr}
 use Rattle.ansi_str.specs.Blocks.{Block}
 use Rattle.ansi_calls.specs.declared.lists.ListAnswer.{ListAnswer}
+use Rattle.ansi_style.specs.declared.state.rendition.Rendition.{Rendition}
 use Rattle.ansi_str.specs.Rendition.{plain_style}
+use Rattle.ansi_str.specs.States.{rendition_of_numbers}
 use Rattle.ansi_str.specs.Written.{start, close_if_any}
 use Rattle.ansi_calls.specs.declared.lists.BlockEntry.{BlockEntry}
 use Rattle.ansi_calls.specs.declared.lists.StyledBlockEntry.{StyledBlockEntry}
 use Rattle.ansi_calls.specs.Answers.{ok, too_small, out_of_memory}
-use Rattle.ansi_calls.specs.Styles.{style_data}
 
 -- an entry for each of consecutive texts, made from its beginning and its end; the first begins at n
 abbrev pub entries_of : {X Y : Type 0} → (X → List ℕ) → (ℕ → ℕ → X → Y) → ℕ → List X → List Y
@@ -21,22 +22,28 @@ entries_of text entry n (x ∷ xs) = entry n (n + length (text x)) x ∷ entries
 abbrev pub ends_from : ℕ → List (List ℕ) → List ℕ
 ends_from n ts = entries_of (λ t. t) (λ begin end t. end) n ts
 
+-- what an entry says of its block: places in the buffer, and the style
+abbrev pub BlockFacts : Type 0
+BlockFacts = List ℕ × Rendition
+
+abbrev pub facts_of_block : BlockEntry → BlockFacts
+facts_of_block e = (e.end ∷ [], rendition_of_numbers e.style)
+
+abbrev pub facts_of_styled_block : StyledBlockEntry → BlockFacts
+facts_of_styled_block e = (e.text_start ∷ e.text_end ∷ e.end ∷ [], rendition_of_numbers e.style)
+
 -- the end of a block and its style
-abbrev pub block_entry : ℕ → ℕ → Block → BlockEntry
-block_entry begin end b = record { end = end; style = style_data b.style }
+abbrev pub block_entry : ℕ → ℕ → Block → BlockFacts
+block_entry begin end b = (end ∷ [], b.style)
 
 -- the text of a block between the start and the close of its style
 abbrev pub styled_text : Block → List ℕ
 styled_text b = start b.style ++ b.text ++ close_if_any b.style
 
 -- the ends of the start, the text and the close of such a block, and its style
-abbrev pub styled_block_entry : ℕ → ℕ → Block → StyledBlockEntry
-styled_block_entry begin end b = record {
-  text_start = begin + length (start b.style);
-  text_end = begin + length (start b.style) + length b.text;
-  end = end;
-  style = style_data b.style;
-}
+abbrev pub styled_block_entry : ℕ → ℕ → Block → BlockFacts
+styled_block_entry begin end b =
+    ((begin + length (start b.style)) ∷ (begin + length (start b.style) + length b.text) ∷ end ∷ [], b.style)
 
 -- a text without ESC that isn't empty, as a block
 abbrev pub whole_block : List ℕ → Block
@@ -103,4 +110,10 @@ AreCopiedSoFar texts answer old new old_ends new_ends =
 abbrev pub GivesAll : {T : Type 0} → Bool → List ℕ → List T → ListAnswer → List ℕ → List ℕ → List T → List T → Type 0
 GivesAll takes_memory bytes entries answer old new old_entries new_entries =
     AreWritten bytes entries answer old new old_entries new_entries
+    ⊎ (IsTrue takes_memory × HaveFailed out_of_memory answer old new old_entries new_entries)
+
+-- the same with entries that state these facts
+abbrev pub GivesAllAs : {T F : Type 0} → Bool → List ℕ → (T → F) → List F → ListAnswer → List ℕ → List ℕ → List T → List T → Type 0
+GivesAllAs {T} {F} takes_memory bytes facts stated answer old new old_entries new_entries =
+    ((entries : List T) × (map facts entries ≡ stated) × AreWritten bytes entries answer old new old_entries new_entries)
     ⊎ (IsTrue takes_memory × HaveFailed out_of_memory answer old new old_entries new_entries)

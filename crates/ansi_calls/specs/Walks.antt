@@ -12,7 +12,6 @@ use Rattle.ansi_calls.specs.declared.answers.Answer.{Answer}
 use Rattle.ansi_calls.specs.declared.walks.BlockWalk.{BlockWalk}
 use Rattle.ansi_calls.specs.declared.walks.NextBlock.{NextBlock}
 use Rattle.ansi_calls.specs.Answers.{ok, no, done, HasFailed, Gives}
-use Rattle.ansi_calls.specs.Styles.{style_data}
 
 -- the blocks that a walk has left
 abbrev pub blocks_left : BlockWalk → List Block
@@ -29,7 +28,7 @@ sequences_left w = sequences_before w.rest.now 0
 -- a call returns this run and its style, and these blocks are left
 abbrev pub IsTold : List ℕ → Rendition → List Block → BlockWalk → NextBlock → Type 0
 IsTold w s bs walk block =
-    (block.text.now ≡ w) × IsUtf8 w × (block.style ≡ style_data s) × (rendition_of_numbers walk.style ≡ s) × (blocks_left walk ≡ bs)
+    (block.text.now ≡ w) × IsUtf8 w × (rendition_of_numbers block.style ≡ s) × (rendition_of_numbers walk.style ≡ s) × (blocks_left walk ≡ bs)
 
 -- a call takes the first block off the walk: it writes the sequences in the block and returns its run and its style, and the other blocks are left; if there is no block, no room or no memory, everything is unchanged
 abbrev pub GivesNext : BlockWalk → BlockWalk → NextBlock → NextBlock → Answer → List ℕ → List ℕ → Type 0

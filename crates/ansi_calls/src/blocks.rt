@@ -3,13 +3,14 @@ ghost use Rattle.std.specs.Prelude.{◌≡◌, slice_get, option_map, IsFalse, I
 ghost use Rattle.ansi_str.specs.Plain.{has_escape};
 ghost use Rattle.ansi_str.specs.Written.{start, close_if_any};
 ghost use Rattle.ansi_str.specs.Blocks.{blocks};
-ghost use Rattle.ansi_calls.specs.Styles.{no_style};
+ghost use Rattle.ansi_calls.specs.Styles.{HasNoStyle};
 ghost use Rattle.ansi_calls.specs.Calls.{TakesBlock, TakesBlockStart, TakesBlockEnd};
 ghost use Rattle.ansi_calls.specs.Calls.{TakesBlockStyle};
 
 use crate::answers::{Answer, NO, NOT_UTF8, OK, OUT_OF_MEMORY, write};
-use crate::styles::StyleData;
 use ansi_str::{AnsiBlock, get_blocks};
+use ansi_style::numbers::StyleNumbers;
+use ansi_style::styles;
 use simdutf8::basic::from_utf8;
 use std::alloc::{AllocError, Allocator};
 
@@ -18,17 +19,17 @@ use std::alloc::{AllocError, Allocator};
 #[derive(Clone, Copy)]
 pub struct StyleAnswer {
     pub status: u32,
-    pub style: StyleData,
+    pub style: StyleNumbers,
 }
 
 impl StyleAnswer {
     /// The result of a call that returns no style.
     pub fn failed(status: u32) -> StyleAnswer
-        ensures { result ≡ no_style status }
+        ensures { HasNoStyle status result }
     {
         StyleAnswer {
             status,
-            style: StyleData::empty(),
+            style: StyleNumbers::of(&styles::plain_style()),
         }
     }
 }
@@ -95,7 +96,7 @@ pub fn block_style<A: Allocator + Copy>(alloc: A, text: &[u8], index: usize) -> 
     match find_block(alloc, text, index) {
         Ok(Some(block)) => StyleAnswer {
             status: OK,
-            style: StyleData::of(block.style()),
+            style: StyleNumbers::of(block.style()),
         },
         Ok(None) => StyleAnswer::failed(NO),
         Err(_) => StyleAnswer::failed(OUT_OF_MEMORY),

@@ -2,11 +2,14 @@
 ghost use Rattle.std.specs.Prelude.{◌≡◌, Some};
 ghost use Rattle.ansi_calls.specs.Columns.{alignment_of, TellsWidth, TellsFitting, Truncates, Pads};
 ghost use Rattle.ansi_calls.specs.Columns.{GivesTruncated, GivesPadded, Slices, GivesSliced};
-ghost use Rattle.ansi_calls.specs.Columns.{ExpandsTabs, GivesExpanded, WritesLink};
+ghost use Rattle.ansi_calls.specs.Columns.{Fits, GivesFitted, side_of, TruncatesAt};
+ghost use Rattle.ansi_calls.specs.Columns.{GivesTruncatedAt, ExpandsTabs, GivesExpanded};
+ghost use Rattle.ansi_calls.specs.Columns.{WritesLink};
 
 use crate::answers::{Answer, NO, NOT_UTF8, REFUSED, write, write_text};
 use ansi_columns::shown::Alignment;
-use ansi_columns::{addresses, columns, shown, slices, tabs};
+use ansi_columns::sides::{Side, Truncation};
+use ansi_columns::{addresses, columns, shown, sides, slices, tabs};
 use simdutf8::basic::from_utf8;
 use std::alloc::Allocator;
 
@@ -16,7 +19,13 @@ const CENTER: u32 = 1;
 
 const RIGHT: u32 = 2;
 
-/// The display width of the plain text, in columns.
+const END: u32 = 0;
+
+const START: u32 = 1;
+
+const MIDDLE: u32 = 2;
+
+/// The display width of the text, in columns.
 pub fn width(text: &[u8]) -> Answer
     ensures { TellsWidth text.now result }
 {
@@ -26,7 +35,7 @@ pub fn width(text: &[u8]) -> Answer
     }
 }
 
-/// The position up to which the plain text fits into `width` columns.
+/// The position up to which the text fits into `width` columns.
 pub fn fitting(text: &[u8], width: usize) -> Answer
     ensures { TellsFitting text.now width result }
 {
@@ -103,6 +112,91 @@ fn pad_text<A: Allocator + Copy>(
     write_text(shown::pad(alloc, text, width, alignment), buffer)
 }
 
+/// The text truncated or padded to `width` columns. The call is refused if there is no such
+/// alignment.
+pub fn fit<A: Allocator + Copy>(
+    alloc: A,
+    text: &[u8],
+    width: usize,
+    alignment: u32,
+    tail: &[u8],
+    buffer: &mut [u8],
+) -> Answer
+    ensures { Fits text.now width alignment tail.now result buffer.old buffer.new }
+{
+    let Ok(text) = from_utf8(text) else {
+        return Answer::failed(NOT_UTF8);
+    };
+    let Ok(tail) = from_utf8(tail) else {
+        return Answer::failed(NOT_UTF8);
+    };
+    fit_text(alloc, text, width, alignment, tail, buffer)
+}
+
+/// The same for texts that are known to be UTF-8.
+#[tactic(auto, unfolding(crate::specs::Columns::GivesFitted))]
+fn fit_text<A: Allocator + Copy>(
+    alloc: A,
+    text: &str,
+    width: usize,
+    alignment: u32,
+    tail: &str,
+    buffer: &mut [u8],
+) -> Answer
+    ensures { GivesFitted text.now width (alignment_of alignment) tail.now
+        result buffer.old buffer.new }
+{
+    match alignment_of(alignment) {
+        Some(alignment) => {
+            let cell = ansi_columns::fit::fit(alloc, text, width, alignment, tail);
+            write_text(cell, buffer)
+        }
+        None => Answer::failed(REFUSED),
+    }
+}
+
+/// The text truncated to `width` columns at a side. The call is refused if there is no such side.
+pub fn truncate_with<A: Allocator + Copy>(
+    alloc: A,
+    text: &[u8],
+    width: usize,
+    tail: &[u8],
+    side: u32,
+    buffer: &mut [u8],
+) -> Answer
+    ensures { TruncatesAt text.now width tail.now side result buffer.old buffer.new }
+{
+    let Ok(text) = from_utf8(text) else {
+        return Answer::failed(NOT_UTF8);
+    };
+    let Ok(tail) = from_utf8(tail) else {
+        return Answer::failed(NOT_UTF8);
+    };
+    truncate_text_at(alloc, text, width, tail, side, buffer)
+}
+
+/// The same for texts that are known to be UTF-8.
+#[tactic(auto, unfolding(crate::specs::Columns::GivesTruncatedAt))]
+fn truncate_text_at<A: Allocator + Copy>(
+    alloc: A,
+    text: &str,
+    width: usize,
+    tail: &str,
+    side: u32,
+    buffer: &mut [u8],
+) -> Answer
+    ensures { GivesTruncatedAt text.now width tail.now (side_of side)
+        result buffer.old buffer.new }
+{
+    match side_of(side) {
+        Some(side) => {
+            let to = Truncation { width, tail, side };
+            write_text(sides::truncate_with(alloc, text, &to), buffer)
+        }
+        None => Answer::failed(REFUSED),
+    }
+}
+
 /// The columns of the text from `start` up to `end`.
 pub fn slice<A: Allocator + Copy>(
     alloc: A,
@@ -177,6 +271,18 @@ fn alignment_of(number: u32) -> Option<Alignment>
         LEFT => Some(Alignment::Left),
         CENTER => Some(Alignment::Center),
         RIGHT => Some(Alignment::Right),
+        _ => None,
+    }
+}
+
+/// The side with this number, or `None` if there is none.
+fn side_of(number: u32) -> Option<Side>
+    ensures { result ≡ side_of number }
+{
+    match number {
+        END => Some(Side::End),
+        START => Some(Side::Start),
+        MIDDLE => Some(Side::Middle),
         _ => None,
     }
 }

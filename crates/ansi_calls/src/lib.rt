@@ -13,6 +13,5 @@ pub mod lines;
 pub mod lists;
 pub mod safe;
 pub mod searches;
-pub mod styles;
 pub mod texts;
 pub mod walks;

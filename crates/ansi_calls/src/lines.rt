@@ -1,20 +1,26 @@
-//! Calls that wrap a text. One returns its lines, concatenated, and where each ends. The other
-//! returns where each begins and ends in the plain text.
+//! Calls that wrap a text. One returns its lines, concatenated, and where each ends. The others
+//! return where each begins and ends in the plain text, all at once or one by one.
 ghost use Rattle.std.specs.Prelude.{◌≡◌, ◌⊎◌, ◌<◌, ◌≤◌, [], ◌++◌, length, drop, flat_map};
-ghost use Rattle.std.specs.Prelude.{IsFalse, IfNone, IfSome};
+ghost use Rattle.std.specs.Prelude.{IsFalse, IfNone, IfSome, not, ◌||◌, bytes_eq};
 ghost use Rattle.std.specs.Prelude.{IfOk, string_bytes};
 ghost use Rattle.ansi_items.specs.Plain.{has_escape};
+ghost use Rattle.ansi_safe.specs.Cells.{paragraph};
 ghost use Rattle.ansi_calls.specs.Lists.{ends_from, AreCopied, AreWritten};
+ghost use Rattle.ansi_columns.specs.LineWalks.{IsLineWalk};
 ghost use Rattle.ansi_calls.specs.Columns.{wrapped_lines, Wraps, line_entries, WritesLines};
+ghost use Rattle.ansi_calls.specs.Columns.{BeginsLines, GivesNextLine};
 
-use crate::answers::{NOT_UTF8, OK, TOO_SMALL};
+use crate::answers::{Answer, NO, NOT_UTF8, OK, TOO_SMALL};
 use crate::lists::{ListAnswer, copy_texts, put, write_copied, write_texts};
 use ansi_columns::laws;
+use ansi_columns::line_walks::{LineWalk, next_line, walk_lines};
 use ansi_columns::lines::Lines;
 use ansi_columns::wrap::wrap as wrapped;
+use ansi_safe::cells::paragraph_of;
 use ansi_str::AnsiStr;
 use simdutf8::basic::from_utf8;
 use std::alloc::Allocator;
+use std::borrow::CowStr;
 
 /// An entry for a line: where it begins and ends, in bytes of the plain text.
 #[repr(C)]
@@ -38,14 +44,22 @@ pub fn wrap<A: Allocator + Copy>(
     let Ok(text) = from_utf8(text) else {
         return ListAnswer::failed(NOT_UTF8);
     };
-    if !text.ansi_has_any() {
+    if is_bare_paragraph(alloc, text) {
         return write_bare_lines(alloc, text, width, buffer, ends);
     }
     write_texts(alloc, text.len(), wrapped(alloc, text, width), buffer, ends)
 }
 
-/// Writes the lines of a text without ESC, and where each ends, if there is room for all of them.
-/// Doesn't allocate.
+/// Whether a text has no ESC and is its own paragraph. If it is, nothing is allocated.
+fn is_bare_paragraph<A: Allocator>(alloc: A, text: &str) -> bool
+    ensures { result
+        ≡ not (has_escape text.now || not (bytes_eq (paragraph text.now) text.now)) }
+{
+    !text.ansi_has_any() && matches!(paragraph_of(alloc, text), Ok(CowStr::Borrowed(_)))
+}
+
+/// Writes the lines of a paragraph without ESC, and where each ends, if there is room for all of
+/// them. Doesn't allocate.
 fn write_bare_lines<A: Allocator + Copy>(
     alloc: A,
     text: &str,
@@ -53,7 +67,8 @@ fn write_bare_lines<A: Allocator + Copy>(
     buffer: &mut [u8],
     ends: &mut [usize],
 ) -> ListAnswer
-    requires { IsFalse (has_escape text.now) }
+    requires paragraph { paragraph text.now ≡ text.now }
+    requires bare { IsFalse (has_escape text.now) }
     ensures { AreWritten (flat_map (λ l. l) (wrapped_lines text.now width))
         (ends_from 0 (wrapped_lines text.now width)) result buffer.old buffer.new ends.old
         ends.new }
@@ -65,8 +80,8 @@ fn write_bare_lines<A: Allocator + Copy>(
     write_copied(text.len(), text.len() + 1, copy, buffer, ends)
 }
 
-/// Writes the lines of a text without ESC, and where each ends, as far as there is room. Returns
-/// their number and their total length.
+/// Writes the lines of a paragraph without ESC, and where each ends, as far as there is room.
+/// Returns their number and their total length.
 fn copy_bare_lines<A: Allocator + Copy>(
     alloc: A,
     text: &str,
@@ -74,7 +89,8 @@ fn copy_bare_lines<A: Allocator + Copy>(
     buffer: &mut [u8],
     ends: &mut [usize],
 ) -> (usize, usize)
-    requires { IsFalse (has_escape text.now) }
+    requires paragraph { paragraph text.now ≡ text.now }
+    requires bare { IsFalse (has_escape text.now) }
     ensures { AreCopied (wrapped_lines text.now width) result buffer.old buffer.new ends.old
         ends.new }
 {
@@ -125,4 +141,30 @@ fn copy_lines(text: &str, width: usize, entries: &mut [LineEntry]) -> usize
         count = put(&[LineEntry { start, end }], count, entries);
     }
     count
+}
+
+/// Begins a walk over the lines of the text wrapped at `width` columns.
+pub fn lines_begin<'a>(text: &'a [u8], width: usize, walk: &mut LineWalk<'a>) -> Answer
+    ensures { BeginsLines text.now width result walk.old walk.new }
+{
+    let Ok(text) = from_utf8(text) else {
+        return Answer::failed(NOT_UTF8);
+    };
+    *walk = walk_lines(text, width);
+    Answer::done(0)
+}
+
+/// Takes the next line off a walk: where it begins and ends in the plain text.
+pub fn lines_next(walk: &mut LineWalk<'_>, line: &mut LineEntry) -> Answer
+    requires { IsLineWalk walk.old }
+    ensures walk { IsLineWalk walk.new }
+    ensures next { GivesNextLine walk.old walk.new line.old line.new result }
+{
+    match next_line(walk) {
+        Some((start, end)) => {
+            *line = LineEntry { start, end };
+            Answer::done(0)
+        }
+        None => Answer::failed(NO),
+    }
 }

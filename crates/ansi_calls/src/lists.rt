@@ -12,16 +12,19 @@ ghost use Rattle.ansi_str.specs.Plain.{has_escape};
 ghost use Rattle.ansi_str.specs.Parts.{all_parts};
 ghost use Rattle.ansi_str.specs.Blocks.{Block, blocks};
 ghost use Rattle.ansi_calls.specs.Answers.{out_of_memory};
-ghost use Rattle.ansi_calls.specs.Lists.{none, ends_from, entries_of, block_entry, styled_text};
-ghost use Rattle.ansi_calls.specs.Lists.{styled_block_entry, whole_block, given_bytes, AreCopied};
+ghost use Rattle.ansi_calls.specs.Lists.{none, ends_from, entries_of, BlockFacts};
+ghost use Rattle.ansi_calls.specs.Lists.{facts_of_block, block_entry, styled_text};
+ghost use Rattle.ansi_calls.specs.Lists.{facts_of_styled_block, styled_block_entry};
+ghost use Rattle.ansi_calls.specs.Lists.{whole_block, given_bytes, AreCopied};
 ghost use Rattle.ansi_calls.specs.Lists.{AreWritten, AreCopiedSoFar, Copies, Fit};
 ghost use Rattle.ansi_calls.specs.Lists.{IsCountWithoutRoom, AreGiven, HaveFailed};
 ghost use Rattle.ansi_calls.specs.Calls.{Splits, ListsAs, ListsBlocks, ListsStyledBlocks};
 
 use crate::answers::{NOT_UTF8, OK, OUT_OF_MEMORY, TOO_SMALL};
-use crate::styles::StyleData;
 use ansi_str::split::split_in;
 use ansi_str::{AnsiBlock, AnsiStr, get_blocks, laws};
+use ansi_style::numbers::StyleNumbers;
+use ansi_style::styles;
 use memchr::memchr_iter;
 use simdutf8::basic::from_utf8;
 use std::alloc::{AllocError, Allocator};
@@ -56,7 +59,7 @@ impl ListAnswer {
 #[derive(Clone, Copy)]
 pub struct BlockEntry {
     pub end: usize,
-    pub style: StyleData,
+    pub style: StyleNumbers,
 }
 
 /// An entry for a block between the start and the close of its style: where its text begins and
@@ -67,18 +70,20 @@ pub struct StyledBlockEntry {
     pub text_start: usize,
     pub text_end: usize,
     pub end: usize,
-    pub style: StyleData,
+    pub style: StyleNumbers,
 }
 
 /// An entry for a block of a list, which says what is written of the block.
 trait Listed: Copy {
     ghost text: { Block → List ℕ };
 
-    ghost entry: { ℕ → ℕ → Block → Self };
+    ghost facts: { Self → BlockFacts };
+
+    ghost entry: { ℕ → ℕ → Block → BlockFacts };
 
     /// The entry of a block that is a whole text without ESC of this length.
     fn alone(len: usize) -> Self
-        ensures { (t : List ℕ) → length t ≡ len → result ≡ entry 0 len (whole_block t) };
+        ensures { (t : List ℕ) → length t ≡ len → facts result ≡ entry 0 len (whole_block t) };
 
     /// Appends what is written of a block, and returns its entry.
     fn push<A: Allocator>(
@@ -87,7 +92,7 @@ trait Listed: Copy {
     ) -> Result<Self, AllocError>
         ensures bytes { OnOk result
             (string_bytes texts.new ≡ string_bytes texts.old ++ text block.now) }
-        ensures entry { IfOk result (λ e. e ≡ entry (length (string_bytes texts.old))
+        ensures entry { IfOk result (λ e. facts e ≡ entry (length (string_bytes texts.old))
             (length (string_bytes texts.new)) block.now) };
 
     ghost stays: { (t : List ℕ) → text (whole_block t) ≡ t };
@@ -96,6 +101,8 @@ trait Listed: Copy {
 impl Listed for BlockEntry {
     ghost text = { λ b. b.text };
 
+    ghost facts = { facts_of_block };
+
     ghost entry = { block_entry };
 
     ghost stays = { λ t. refl };
@@ -103,7 +110,7 @@ impl Listed for BlockEntry {
     fn alone(len: usize) -> BlockEntry {
         BlockEntry {
             end: len,
-            style: StyleData::empty(),
+            style: StyleNumbers::of(&styles::plain_style()),
         }
     }
 
@@ -111,7 +118,7 @@ impl Listed for BlockEntry {
         texts: &mut String<A>,
         block: &AnsiBlock<'_, A>,
     ) -> Result<BlockEntry, AllocError> {
-        let style = StyleData::of(block.style());
+        let style = StyleNumbers::of(block.style());
         texts.push_str(block.text())?;
         Ok(BlockEntry {
             end: texts.len(),
@@ -123,6 +130,8 @@ impl Listed for BlockEntry {
 impl Listed for StyledBlockEntry {
     ghost text = { styled_text };
 
+    ghost facts = { facts_of_styled_block };
+
     ghost entry = { styled_block_entry };
 
     ghost stays = { λ t. append-nil t };
@@ -132,7 +141,7 @@ impl Listed for StyledBlockEntry {
             text_start: 0,
             text_end: len,
             end: len,
-            style: StyleData::empty(),
+            style: StyleNumbers::of(&styles::plain_style()),
         }
     }
 
@@ -150,7 +159,7 @@ impl Listed for StyledBlockEntry {
             text_start,
             text_end,
             end: texts.len(),
-            style: StyleData::of(style),
+            style: StyleNumbers::of(style),
         })
     }
 }
@@ -385,7 +394,7 @@ fn write_blocks<T: Listed, A: Allocator + Copy>(
     entries: &mut [T],
 ) -> ListAnswer
     requires { FitsInMemory T.row }
-    ensures { ListsAs T.text T.entry text.now result buffer.old buffer.new entries.old
+    ensures { ListsAs T.text T.facts T.entry text.now result buffer.old buffer.new entries.old
         entries.new }
 {
     let Ok(text) = from_utf8(text) else {
@@ -467,7 +476,7 @@ fn join_blocks<T: Listed, A: Allocator + Copy>(
     ensures texts { IfOk result (λ joined.
         string_bytes joined.0 ≡ flat_map T.text (blocks text.now)) }
     ensures entries { IfOk result (λ joined.
-        joined.1.items ≡ entries_of T.text T.entry 0 (blocks text.now)) }
+        map T.facts joined.1.items ≡ entries_of T.text T.entry 0 (blocks text.now)) }
 {
     let mut texts = String::with_capacity(alloc, text.len())?;
     let mut entries = Vec::new(alloc);

@@ -9,7 +9,6 @@ ghost use Rattle.ansi_calls.specs.Walks.{IsOver, GivesNext, GivesNextPart};
 ghost use Rattle.ansi_calls.specs.Calls.{BeginsBlocks, BeginsParts, WritesStart, WritesClose};
 
 use crate::answers::{Answer, NO, NOT_UTF8, OK, OUT_OF_MEMORY, write, write_made};
-use crate::styles::StyleData;
 use ansi_blocks::runs::{Run, first_styled_run, sequences_before};
 use ansi_split::walks::{PartWalk, next_in, walk_in};
 use ansi_style::numbers::StyleNumbers;
@@ -33,7 +32,7 @@ pub struct BlockWalk<'a> {
 #[derive(Clone, Copy)]
 pub struct NextBlock<'a> {
     pub text: &'a [u8],
-    pub style: StyleData,
+    pub style: StyleNumbers,
 }
 
 /// A part that is a stretch of the text.
@@ -94,13 +93,14 @@ pub fn blocks_next<'a, A: Allocator>(
     };
     let answer = write_waiting(alloc, text, &run, buffer);
     if answer.status == OK {
+        let style = StyleNumbers::of(&style);
         *walk = BlockWalk {
             rest: run.rest.as_bytes(),
-            style: StyleNumbers::of(&style),
+            style,
         };
         *block = NextBlock {
             text: run.text.as_bytes(),
-            style: StyleData::of(&style),
+            style,
         };
     }
     answer

@@ -30,7 +30,7 @@ use Rattle.ansi_columns.proofs.ClusterLemmas.{cluster-begins, clusters-none}
 use Rattle.ansi_columns.proofs.ClusterLawLemmas.{reversed_before, breaks-last, IsClusterFront, front_is, front-chars}
 
 -- the values that end a cluster, whatever follows but a line feed (GB4)
-abbrev is_control : GraphemeClusterBreak → Bool
+abbrev pub is_control : GraphemeClusterBreak → Bool
 is_control Control = true
 is_control Cr = true
 is_control Lf = true
@@ -64,7 +64,7 @@ control-no_pictograph c =
     let both = zip_stepped (λ v p. not (is_control v) || not p) grapheme_cluster_break is_extended_pictographic grapheme_cluster_break_stepped is_extended_pictographic_stepped in
     Stepped-everywhere _ both refl c
 
-true_if_implied : (a b : Bool) → (not a || b) ≡ true → a ≡ true → b ≡ true
+pub true_if_implied : (a b : Bool) → (not a || b) ≡ true → a ≡ true → b ≡ true
 true_if_implied true b e is = e
 true_if_implied false b e is = absurd (cc)
 
@@ -240,7 +240,7 @@ same_clusters c before others (d ∷ cs) same =
     same_first c before others (d ∷ cs) same
     (same_clusters d (c ∷ before) (c ∷ others) cs (sym (step-is d (c ∷ before)) ∙ ap (state_after d) same ∙ step-is d (c ∷ others)))
 
-clusters-alone : (before cs : List ℕ) → is_grapheme_break true before cs ≡ true → clusters_after before cs ≡ clusters_after [] cs
+pub clusters-alone : (before cs : List ℕ) → is_grapheme_break true before cs ≡ true → clusters_after before cs ≡ clusters_after [] cs
 clusters-alone [] cs breaks = refl
 clusters-alone (last ∷ before) [] breaks = clusters-none (last ∷ before) ∙ sym (clusters-none [])
 clusters-alone (last ∷ before) (c ∷ cs) breaks = same_clusters c (last ∷ before) [] cs (break_state-alone last before c cs breaks)

@@ -1,13 +1,18 @@
 -- The clusters of the beginning of a text that ends between two clusters: the first ones of the text.
 use Rattle.std.proofs.Common.{◌≡◌, ◌≢◌, ℕ, zero, suc, ◌+◌, ◌-◌, ◌<◌, ◌≤◌, ◌⊎◌, inl, inr, Bool, true, false, List, [], ◌∷◌, ◌++◌, length, take, drop, flat_map, encode_utf8_all, refl, sym, ◌∙◌, ap, arith, append_assoc, take_all, take_at, take-add, take-append-drop, length-append, if◌then◌else◌}
-use Rattle.std.specs.Str.{chars, IsUtf8}
+use Rattle.std.specs.Str.{chars, IsUtf8, IsCharBoundary}
 use Rattle.std.proofs.lemmas.Bool.{cases_Bool, cases_lt}
 use Rattle.std.proofs.lemmas.Grind.{flat_map-append}
 use Rattle.std.proofs.lemmas.List.Sums.{sum_by-append}
-use Rattle.std.proofs.lemmas.Str.{chars_from_encodes, encodes-append, encodes-chars, IsUtf8-take}
+use Rattle.std.proofs.lemmas.Str.{chars_from_encodes, chars-append, encodes-append, encodes-chars, IsUtf8-take}
+use Rattle.ansi_items.specs.Plain.{plain}
+use Rattle.ansi_items.proofs.Utf8Lemmas.{IsUtf8-plain}
+use Rattle.ansi_safe.specs.Cells.{cell, cell_char}
+use Rattle.ansi_safe.proofs.CellLemmas.{plain-cell}
+use Rattle.ansi_safe.proofs.CellTextLemmas.{IsUtf8-cell}
 use Rattle.unicode_segmentation.specs.Grapheme.{is_grapheme_break}
 use Rattle.unicode_segmentation.specs.Segments.{prepend}
-use Rattle.ansi_columns.specs.Columns.{clusters, cluster_width, columns_of, columns, bytes_of, FitsUpTo, IsClusterBoundary}
+use Rattle.ansi_columns.specs.Columns.{clusters, cluster_width, columns_of, columns, bytes_of, shown, FitsUpTo, ShowsUpTo, IsClusterBoundary}
 use Rattle.ansi_columns.specs.Walks.{clusters_after}
 use Rattle.ansi_columns.proofs.ClusterLemmas.{cluster-begins, cluster-ends, clusters-none}
 use Rattle.ansi_columns.proofs.LineLawLemmas.{boundary_between}
@@ -19,7 +24,7 @@ reversed_before before (c ∷ cs) = reversed_before (c ∷ before) cs
 
 -- A break depends only on the characters before it and on the next character.
 
-next-alone : (c : ℕ) (before : List ℕ) (d : ℕ) (u v : List ℕ) → is_grapheme_break true (c ∷ before) (d ∷ u) ≡ is_grapheme_break true (c ∷ before) (d ∷ v)
+pub next-alone : (c : ℕ) (before : List ℕ) (d : ℕ) (u v : List ℕ) → is_grapheme_break true (c ∷ before) (d ∷ u) ≡ is_grapheme_break true (c ∷ before) (d ∷ v)
 unfolding is_grapheme_break
 next-alone c before d u v = refl
 
@@ -32,10 +37,10 @@ breaks-front c before cs [] rest all breaks = breaks-last c before
 breaks-front c before cs (d ∷ front) rest all breaks = next-alone c before d front (front ++ rest) ∙ ap (is_grapheme_break true (c ∷ before)) (sym all) ∙ breaks
 
 -- a cluster that goes on
-cluster-joins : (before : List ℕ) (c : ℕ) (cs : List ℕ) → is_grapheme_break true (c ∷ before) cs ≡ false → clusters_after before (c ∷ cs) ≡ prepend (c ∷ []) (clusters_after (c ∷ before) cs)
+pub cluster-joins : (before : List ℕ) (c : ℕ) (cs : List ℕ) → is_grapheme_break true (c ∷ before) cs ≡ false → clusters_after before (c ∷ cs) ≡ prepend (c ∷ []) (clusters_after (c ∷ before) cs)
 cluster-joins before c cs joins = cluster-begins before c cs ∙ ap (λ b. if b then (c ∷ []) ∷ clusters_after (c ∷ before) cs else prepend (c ∷ []) (clusters_after (c ∷ before) cs)) joins
 
-cluster-alone : (before : List ℕ) (c : ℕ) (cs : List ℕ) → is_grapheme_break true (c ∷ before) cs ≡ true → clusters_after before (c ∷ cs) ≡ (c ∷ []) ∷ clusters_after (c ∷ before) cs
+pub cluster-alone : (before : List ℕ) (c : ℕ) (cs : List ℕ) → is_grapheme_break true (c ∷ before) cs ≡ true → clusters_after before (c ∷ cs) ≡ (c ∷ []) ∷ clusters_after (c ∷ before) cs
 cluster-alone before c cs breaks = cluster-begins before c cs ∙ cluster-ends (c ∷ []) (c ∷ before) cs breaks
 
 -- if a character follows, there is a cluster
@@ -191,3 +196,34 @@ fits-greatest x width end later utf8 fit boundary less =
       | inr le ↦ absurd (omega (arith, less, fit.boundary, boundary.1, ap bytes_of (take_all fit.count ks le ∙ sym (take_all n ks (omega (arith, le, ahead))))))
     ] in
     omega (arith, fit.greatest inside, columns-more (fit.count + 1) n ks (omega (arith, ahead)), ap (λ i. columns (take i x)) boundary.1, columns-front x utf8 n)
+
+-- ---- the same of what is shown
+
+pub shown-front : (t : List ℕ) (n : ℕ) → IsUtf8 t → IsCharBoundary (plain t) n → plain (cell t) ≡ shown (take n (plain t)) ++ shown (drop n (plain t))
+shown-front t n utf8 boundary =
+    let x = plain t in
+    let front = flat_map cell_char (chars (take n x)) in
+    let rest = flat_map cell_char (chars (drop n x)) in
+    plain-cell t utf8 ∙ ap (λ y. encode_utf8_all (flat_map cell_char (chars y))) (sym (take-append-drop n x))
+    ∙ ap (λ cs. encode_utf8_all (flat_map cell_char cs)) (chars-append (take n x) (drop n x) (IsUtf8-take x n (IsUtf8-plain t utf8) boundary))
+    ∙ ap encode_utf8_all (flat_map-append cell_char (chars (take n x)) (chars (drop n x))) ∙ encodes-append front rest
+
+shown-taken : (t : List ℕ) (n : ℕ) → IsUtf8 t → IsCharBoundary (plain t) n → take (length (shown (take n (plain t)))) (plain (cell t)) ≡ shown (take n (plain t))
+shown-taken t n utf8 boundary =
+    (let k = length (shown (take n (plain t))) in ap (take k) (shown-front t n utf8 boundary) ∙ take_at (shown (take n (plain t))) (shown (drop n (plain t))) k refl)
+
+cell_utf8 : (t : List ℕ) → IsUtf8 t → IsUtf8 (plain (cell t))
+cell_utf8 t utf8 = IsUtf8-plain (cell t) (IsUtf8-cell t utf8)
+
+pub shown-within : (t : List ℕ) (width end : ℕ) → IsUtf8 t → IsCharBoundary (plain t) end → ShowsUpTo t width end → columns (shown (take end (plain t))) ≤ width
+shown-within t width end utf8 boundary fit =
+    omega (arith, fits-within (plain (cell t)) width (length (shown (take end (plain t)))) (cell_utf8 t utf8) fit.fits, ap columns (shown-taken t end utf8 boundary))
+
+pub shown-greatest : (t : List ℕ) (width end later : ℕ) → IsUtf8 t → IsCharBoundary (plain t) later → ShowsUpTo t width end → end < later → IsClusterBoundary (plain (cell t)) (length (shown (take later (plain t))))
+    → width < columns (shown (take later (plain t)))
+shown-greatest t width end later utf8 boundary fit less cluster =
+    omega (
+      arith,
+      fits-greatest (plain (cell t)) width (length (shown (take end (plain t)))) (length (shown (take later (plain t)))) (cell_utf8 t utf8) fit.fits cluster (fit.greatest later boundary less),
+      ap columns (shown-taken t later utf8 boundary),
+    )

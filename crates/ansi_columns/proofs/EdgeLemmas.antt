@@ -395,3 +395,18 @@ ended-inside a e (k ∷ ks) ordered inside = elim (cases_lt 0 a) [
       ]
   | inr none ↦ (let zero_is : a ≡ 0 = omega (arith, none) in absurd (omega (arith, inside, ap (λ m. bytes_of (begun m (k ∷ ks))) zero_is)))
 ]
+
+-- the last of the clusters that begin before an edge has two or more columns, if the edge divides it
+pub begun-last : (n : ℕ) (ks : List (List ℕ)) → n < columns_of (begun n ks) → (fs : List (List ℕ)) × (k : List ℕ) × (begun n ks ≡ fs ++ k ∷ []) × (2 ≤ cluster_width k)
+begun-last n [] divides = absurd (omega (arith, divides))
+begun-last n (k ∷ ks) divides = elim (cases_lt 0 n) [
+  | inr none ↦ absurd (let zero_is : n ≡ 0 = omega (arith, none) in omega (arith, divides, ap columns_of (ap (λ m. begun m (k ∷ ks)) zero_is)))
+  | inl any ↦ elim (cases_lt n (cluster_width k)) [
+    | inl wide ↦ ([], k, begun-divided n k ks any wide, omega (arith, any, wide))
+    | inr fits ↦
+        let pass = begun-pass n k ks any in
+        let rest = begun (n - cluster_width k) ks in
+        let more = begun-last (n - cluster_width k) ks (omega (arith, divides, fits, ap columns_of pass, sum_by-cons cluster_width k rest)) in
+        (k ∷ more.0, more.1, pass ∙ ap (λ ls. k ∷ ls) more.2, more.3)
+  ]
+]

@@ -2,22 +2,23 @@
 use Rattle.std.proofs.Common.{◌≡◌, ℕ, zero, suc, ◌+◌, ◌-◌, ◌<◌, ◌≤◌, true, false, List, [], ◌∷◌, ◌++◌, length, take, flat_map, encode_utf8_all, nat_le, if◌then◌else◌, refl, sym, ◌∙◌, ap, arith, append-nil, length-append}
 use Rattle.std.proofs.lemmas.Bool.{le-leb, lt-leb}
 use Rattle.std.proofs.lemmas.List.Sums.{sum_by-cons, sum_by-append}
-use Rattle.ansi_items.specs.Plain.{plain}
 use Rattle.ansi_columns.specs.Columns.{clusters, cluster_width, columns_of, columns, bytes_of, FitsUpTo}
-use Rattle.ansi_columns.specs.Walks.{after, cluster, clusters_from}
+use Rattle.ansi_columns.specs.declared.views.View.{View}
+use Rattle.ansi_columns.specs.Views.{seen_text}
+use Rattle.ansi_columns.specs.Walks.{seen_after, seen_cluster, seen_clusters}
 use Rattle.ansi_columns.specs.Shown.{fitting_end}
-use Rattle.ansi_columns.proofs.ColumnLemmas.{IsFittingTo, clusters_from-end}
+use Rattle.ansi_columns.proofs.ColumnLemmas.{IsFittingTo, seen_clusters-end}
 
-pub IsFittingTo-end : {t : List ℕ} {width n left : ℕ} → IsFittingTo t width n left → after t n ≡ [] → true ≡ nat_le (columns (plain t)) width
-IsFittingTo-end {t} {width} {n} fitting none =
-    let all = fitting.all ∙ ap (λ ks. fitting.front ++ ks) (clusters_from-end t n none) ∙ append-nil fitting.front in
-    sym (le-leb (columns (plain t)) width (omega (arith, fitting.columns, ap columns_of all)))
+pub IsFittingTo-end : {view : View} {t : List ℕ} {width n left : ℕ} → IsFittingTo view t width n left → seen_after view t n ≡ [] → true ≡ nat_le (columns (seen_text view t)) width
+IsFittingTo-end {view} {t} {width} {n} fitting none =
+    let all = fitting.all ∙ ap (λ ks. fitting.front ++ ks) (seen_clusters-end view t n none) ∙ append-nil fitting.front in
+    sym (le-leb (columns (seen_text view t)) width (omega (arith, fitting.columns, ap columns_of all)))
 
-pub not_all_fit : {t : List ℕ} {width n left k : ℕ} (m : ℕ) → IsFittingTo t width n left → clusters_from t n ≡ cluster t n m ∷ clusters_from t m → k ≡ cluster_width (cluster t n m) → left < k
-    → false ≡ nat_le (columns (plain t)) width
-not_all_fit {t} {width} {n} m fitting first is less =
-    let all = ap columns_of (fitting.all ∙ ap (λ ks. fitting.front ++ ks) first) ∙ sum_by-append cluster_width fitting.front (cluster t n m ∷ clusters_from t m) in
-    sym (lt-leb (columns (plain t)) width (omega (arith, fitting.columns, is, less, all, sum_by-cons cluster_width (cluster t n m) (clusters_from t m))))
+pub not_all_fit : {view : View} {t : List ℕ} {width n left k : ℕ} (m : ℕ) → IsFittingTo view t width n left → seen_clusters view t n ≡ seen_cluster view t n m ∷ seen_clusters view t m → k ≡ cluster_width (seen_cluster view t n m) → left < k
+    → false ≡ nat_le (columns (seen_text view t)) width
+not_all_fit {view} {t} {width} {n} m fitting first is less =
+    let all = ap columns_of (fitting.all ∙ ap (λ ks. fitting.front ++ ks) first) ∙ sum_by-append cluster_width fitting.front (seen_cluster view t n m ∷ seen_clusters view t m) in
+    sym (lt-leb (columns (seen_text view t)) width (omega (arith, fitting.columns, is, less, all, sum_by-cons cluster_width (seen_cluster view t n m) (seen_clusters view t m))))
 
 -- The end of what fits is the one that the function gives.
 

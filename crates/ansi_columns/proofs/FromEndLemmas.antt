@@ -1,11 +1,16 @@
 -- Characters that are read from the end.
-use Rattle.std.proofs.Common.{◌≡◌, ℕ, List, [], ◌∷◌, ◌++◌, length, reverse, encode_utf8, encode_utf8_all, refl, sym, ◌∙◌, ap, arith, append-nil, append_assoc, length-append}
+use Rattle.std.proofs.Common.{◌≡◌, ℕ, ◌*◌, ◌≤◌, List, [], ◌∷◌, ◌++◌, length, reverse, encode_utf8, encode_utf8_all, refl, sym, ◌∙◌, ap, arith, append-nil, append_assoc, length-append}
 use Rattle.std.specs.Str.{chars, IsUtf8}
 use Rattle.std.specs.Iterator.{Yields, Drains, YieldsLast}
 use Rattle.std.proofs.lemmas.List.{reverse-append}
 use Rattle.std.proofs.lemmas.Str.{chars-nil, chars-append, encodes-chars, encodes-append, IsUtf8-append}
 use Rattle.unicode_segmentation.proofs.TextLemmas.{IsUtf8-after, chars-encode_utf8}
 use Rattle.ansi_items.specs.Plain.{plain}
+use Rattle.ansi_columns.specs.declared.views.View.{View}
+use Rattle.ansi_columns.specs.Columns.{cluster_width}
+use Rattle.ansi_columns.specs.Views.{seen}
+use Rattle.ansi_columns.proofs.ViewLemmas.{seen-bytes}
+use Rattle.ansi_columns.proofs.WidthLemmas.{width-bound}
 use Rattle.ansi_items.proofs.Utf8Lemmas.{IsUtf8-plain}
 
 module _ {S : Type 0} (left : S → List ℕ) where
@@ -44,6 +49,13 @@ length-reverse (c ∷ cs) =
       length-reverse cs,
     )
 
--- how many bytes the characters have that were read
-pub bytes-reverse : (x cs : List ℕ) → IsUtf8 x → chars x ≡ reverse cs → length (encode_utf8_all cs) ≡ length x
-bytes-reverse x cs utf8 e = sym (length-reverse cs) ∙ ap (λ ds. length (encode_utf8_all ds)) (sym e) ∙ ap length (encodes-chars x utf8)
+-- what is seen of a text has no more bytes than it
+seen-most : (view : View) (x : List ℕ) → IsUtf8 x → length (encode_utf8_all (seen view (chars x))) ≤ length x
+seen-most view x utf8 = omega (arith, seen-bytes view (chars x), ap length (encodes-chars x utf8))
+
+-- nor have the characters that were read
+pub bytes-reverse : (view : View) (x cs : List ℕ) → IsUtf8 x → seen view (chars x) ≡ reverse cs → length (encode_utf8_all cs) ≤ length x
+bytes-reverse view x cs utf8 e = omega (arith, length-reverse cs, ap (λ ds. length (encode_utf8_all ds)) e, seen-most view x utf8)
+
+pub seen-width-bound : (view : View) (x : List ℕ) → IsUtf8 x → cluster_width (seen view (chars x)) ≤ 2 * length x
+seen-width-bound view x utf8 = omega (arith, width-bound (seen view (chars x)), seen-most view x utf8)

@@ -11,7 +11,8 @@ use Rattle.ansi_columns.specs.declared.walks.Walk.{Walk}
 use Rattle.ansi_columns.specs.Walks.{after, cluster, IsWalk, IsNext}
 use Rattle.ansi_columns.specs.Lines.{is_line_end, is_blank}
 use Rattle.ansi_columns.proofs.WalkLemmas.{walk_boundary, after-past, cluster-push}
-use Rattle.ansi_columns.proofs.ClusterWalkLemmas.{cluster-none}
+use Rattle.ansi_columns.specs.declared.views.View.TheVariants.{Given}
+use Rattle.ansi_columns.proofs.ViewLemmas.{cluster-none}
 use Rattle.ansi_columns.proofs.ColumnLemmas.{cluster-bytes}
 
 pub is_blank-other : (cluster : List ℕ) → cluster ≢ 0x20 ∷ [] → is_blank cluster ≡ false
@@ -58,7 +59,7 @@ module _ (t : List ℕ) (utf8 : IsUtf8 t) (w : Walk) (from : IsWalk t w) where
   -- the cluster of the next character alone
   alone : (c : ℕ) → IsNext t w c → (m : ℕ) → m ≡ w.position + length (encode_utf8 c) → cluster t w.position m ≡ c ∷ []
   alone c next m is =
-      ap (cluster t w.position) is ∙ cluster-push t utf8 w from c next w.position (omega arith) (walk_boundary t utf8 w from) ∙ ap (λ u. u ++ c ∷ []) (cluster-none t w.position)
+      ap (cluster t w.position) is ∙ cluster-push t utf8 w from c next w.position (omega arith) (walk_boundary t utf8 w from) ∙ ap (λ u. u ++ c ∷ []) (cluster-none Given t w.position)
 
   module _ (v : Walk) (to : IsWalk t v) (ordered : w.position < v.position) where
     abbrev here : List ℕ

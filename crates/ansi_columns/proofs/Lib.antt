@@ -3,6 +3,7 @@ pub mod ClusterLemmas
 pub mod UnnamedLemmas
 pub mod AsciiLemmas
 pub mod PlaceLemmas
+pub mod ViewLemmas
 pub mod WalkLemmas
 pub mod ReverseLemmas
 pub mod NearLemmas
@@ -17,6 +18,7 @@ pub mod PrintableLemmas
 pub mod AddressLemmas
 pub mod KindLemmas
 pub mod LineLemmas
+pub mod LineStartLemmas
 pub mod LineWalkLemmas
 pub mod WordLemmas
 pub mod FirstFitLemmas
@@ -27,6 +29,8 @@ pub mod BreakLawLemmas
 pub mod LeftOutLawLemmas
 pub mod FirstFitLawLemmas
 pub mod WrapLemmas
+pub mod PenLemmas
+pub mod LentLemmas
 pub mod ShownLawLemmas
 pub mod WrapLawLemmas
 pub mod LinkedLawLemmas
@@ -35,5 +39,13 @@ pub mod TabLemmas
 pub mod EdgeLemmas
 pub mod SliceLemmas
 pub mod SliceLawLemmas
+pub mod SeamLemmas
 pub mod ScreenLemmas
+pub mod PartLemmas
 pub mod SliceScreenLemmas
+pub mod ScreenLawLemmas
+pub mod WrapScreenLemmas
+pub mod SliceCellLemmas
+pub mod SidesLemmas
+pub mod FittedLawLemmas
+pub mod SidesLawLemmas

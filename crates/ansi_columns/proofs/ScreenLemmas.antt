@@ -1,7 +1,7 @@
 -- The screen of a slice is the slice of the screen.
 use Rattle.std.proofs.Common.{◌≡◌, ℕ, zero, suc, ◌+◌, ◌-◌, ◌<◌, ◌≤◌, ◌⊎◌, min, inl, inr, List, [], ◌∷◌, ◌++◌, length, map, take, drop, replicate, slice_index, encode_utf8_all, refl, sym, ◌∙◌, ap, ap₂, arith, append_assoc, append-nil, length-append}
 use Rattle.std.specs.List.{range_with_len}
-use Rattle.std.specs.Str.{byte}
+use Rattle.std.specs.Str.{byte, chars}
 use Rattle.std.proofs.lemmas.Bool.{cases_lt}
 use Rattle.std.proofs.lemmas.Bool.Decides.{nat_tests}
 use Rattle.std.proofs.lemmas.Str.{chars-IsAscii}
@@ -11,15 +11,15 @@ use Rattle.std.proofs.lemmas.List.Sums.{sum_by-cons}
 use Rattle.ansi_items.specs.Plain.{plain}
 use Rattle.ansi_style.specs.Rendition.{known}
 use Rattle.ansi_style.specs.Styled.{StyledByte, styled, style_at}
-use Rattle.ansi_style.proofs.StyledLemmas.{styled_byte}
+use Rattle.ansi_style.proofs.StyledLemmas.{styled_byte, unstyled-styled}
 use Rattle.ansi_safe.specs.Links.{link_at}
 use Rattle.ansi_columns.specs.Addresses.{LinkedByte, linked}
 use Rattle.ansi_columns.proofs.LinkedLawLemmas.{linked_byte}
 use Rattle.ansi_columns.specs.Columns.{clusters, cluster_width, columns_of, bytes_of}
 use Rattle.ansi_columns.specs.Shown.{blanks}
 use Rattle.ansi_columns.specs.Walks.{clusters_after}
-use Rattle.ansi_columns.proofs.AsciiLemmas.{width-single, breaks-between, All-printable_is_ascii}
-use Rattle.ansi_columns.proofs.ClusterLemmas.{clusters-none, cluster-begins, cluster-last, cluster-ends}
+use Rattle.ansi_columns.proofs.AsciiLemmas.{width-single, All-printable_is_ascii}
+use Rattle.ansi_columns.proofs.SeamLemmas.{blanks-alone}
 use Rattle.ansi_columns.proofs.ShownLawLemmas.{blanks_are_printable}
 use Rattle.ansi_columns.specs.Screens.{Column, cluster_columns, screen_of, blank_for, shown_in, shown_from}
 use Rattle.ansi_columns.specs.Slices.{ended, begun}
@@ -46,6 +46,15 @@ part-split ss ls w j (suc n) m =
     let here : j + 1 + n ≡ j + suc n = omega arith in
     let size : suc n + m ≡ suc (n + m) = omega arith in
     ap (part ss ls w j) size ∙ ap (λ cs. column ss ls w j ∷ cs) (part-split ss ls w (j + 1) n m ∙ ap (λ i. part ss ls w (j + 1) n ++ part ss ls w i m) here)
+
+pub length-styled : (t : List ℕ) → length (styled t) ≡ length (plain t)
+length-styled t = sym (length-map (styled t) (λ (c : StyledByte). c.byte)) ∙ ap length (unstyled-styled t)
+
+pub length-linked : (t : List ℕ) → length (linked t) ≡ length (plain t)
+length-linked t =
+    let x = plain t in
+    let r = range_with_len 0 (length x) in
+    length-map r _ ∙ sym (length-map r (λ i. record { byte = slice_index x i; style = known (style_at t i) })) ∙ length-styled t
 
 pub length-screen_of : (ks : List (List ℕ)) (ss : List StyledByte) (ls : List LinkedByte) → length (screen_of ks ss ls) ≡ columns_of ks
 length-screen_of [] ss ls = refl
@@ -298,45 +307,34 @@ screen-blanks (suc n) f g =
     ap (λ w. cluster_columns (f (byte " ") ∷ []) (g (byte " ") ∷ []) w ++ screen_of (replicate n (byte " " ∷ [])) (map f (blanks n)) (map g (blanks n))) width-blank
     ∙ ap (λ cs. record { styled = f (byte " ") ∷ []; linked = g (byte " ") ∷ []; index = 0; width = 1 } ∷ cs) (screen-blanks n f g)
 
+-- the screen of two texts in a row
+pub screen_of-both : (ks ms : List (List ℕ)) (ss ss' : List StyledByte) (ls ls' : List LinkedByte) → length ss ≡ bytes_of ks → length ls ≡ bytes_of ks
+    → screen_of (ks ++ ms) (ss ++ ss') (ls ++ ls') ≡ screen_of ks ss ls ++ screen_of ms ss' ls'
+screen_of-both ks ms ss ss' ls ls' styled_size linked_size =
+    screen_of-append ks ms (ss ++ ss') (ls ++ ls')
+    ∙ ap₂ (λ u v. u ++ v)
+    (sym (screen_of-take ks (ss ++ ss') (ls ++ ls') (bytes_of ks) (omega arith)) ∙ ap₂ (screen_of ks) (take_at ss ss' (bytes_of ks) styled_size) (take_at ls ls' (bytes_of ks) linked_size))
+    (ap₂ (screen_of ms) (drop_at ss ss' (bytes_of ks) styled_size) (drop_at ls ls' (bytes_of ks) linked_size))
+
 -- the screen of a text between blanks
-module _ (p q : ℕ) (ks : List (List ℕ)) (f f' : ℕ → StyledByte) (g g' : ℕ → LinkedByte) (ss : List StyledByte) (ls : List LinkedByte) (styled_size : length ss ≡ bytes_of ks) (linked_size : length ls ≡ bytes_of ks) where
-  abbrev some : List StyledByte
-  some = ss ++ map f' (blanks q)
+pub screen-between : (p q : ℕ) (ks : List (List ℕ)) (f f' : ℕ → StyledByte) (g g' : ℕ → LinkedByte) (ss : List StyledByte) (ls : List LinkedByte) → length ss ≡ bytes_of ks → length ls ≡ bytes_of ks
+    → screen_of (replicate p (byte " " ∷ []) ++ (ks ++ replicate q (byte " " ∷ []))) (map f (blanks p) ++ (ss ++ map f' (blanks q))) (map g (blanks p) ++ (ls ++ map g' (blanks q)))
+    ≡ replicate p (record { styled = f (byte " ") ∷ []; linked = g (byte " ") ∷ []; index = 0; width = 1 })
+    ++ (screen_of ks ss ls ++ replicate q (record { styled = f' (byte " ") ∷ []; linked = g' (byte " ") ∷ []; index = 0; width = 1 }))
+screen-between p q ks f f' g g' ss ls styled_size linked_size =
+    let first = replicate p (byte " " ∷ []) in
+    let last = replicate q (byte " " ∷ []) in
+    let front : length (map f (blanks p)) ≡ bytes_of first = length-map (blanks p) f ∙ length-replicate p (byte " ") ∙ sym (bytes_of-blanks p) in
+    let linked_front : length (map g (blanks p)) ≡ bytes_of first = length-map (blanks p) g ∙ length-replicate p (byte " ") ∙ sym (bytes_of-blanks p) in
+    screen_of-both first (ks ++ last) (map f (blanks p)) (ss ++ map f' (blanks q)) (map g (blanks p)) (ls ++ map g' (blanks q)) front linked_front
+    ∙ ap₂ (λ u v. u ++ v) (screen-blanks p f g)
+    (screen_of-both ks last ss (map f' (blanks q)) ls (map g' (blanks q)) styled_size linked_size ∙ ap (λ cs. screen_of ks ss ls ++ cs) (screen-blanks q f' g'))
 
-  abbrev links : List LinkedByte
-  links = ls ++ map g' (blanks q)
-
-  pub screen-between : screen_of (replicate p (byte " " ∷ []) ++ (ks ++ replicate q (byte " " ∷ []))) (map f (blanks p) ++ some) (map g (blanks p) ++ links)
-      ≡ replicate p (record { styled = f (byte " ") ∷ []; linked = g (byte " ") ∷ []; index = 0; width = 1 })
-      ++ (screen_of ks ss ls ++ replicate q (record { styled = f' (byte " ") ∷ []; linked = g' (byte " ") ∷ []; index = 0; width = 1 }))
-  screen-between =
-      let first = replicate p (byte " " ∷ []) in
-      let last = replicate q (byte " " ∷ []) in
-      let front : length (map f (blanks p)) ≡ bytes_of first = length-map (blanks p) f ∙ length-replicate p (byte " ") ∙ sym (bytes_of-blanks p) in
-      let linked_front : length (map g (blanks p)) ≡ bytes_of first = length-map (blanks p) g ∙ length-replicate p (byte " ") ∙ sym (bytes_of-blanks p) in
-      screen_of-append first (ks ++ last) (map f (blanks p) ++ some) (map g (blanks p) ++ links)
-      ∙ ap₂ (λ u v. u ++ v)
-      (sym (screen_of-take first (map f (blanks p) ++ some) (map g (blanks p) ++ links) (bytes_of first) (omega arith))
-      ∙ ap₂ (screen_of first) (take_at (map f (blanks p)) some (bytes_of first) front) (take_at (map g (blanks p)) links (bytes_of first) linked_front)
-      ∙ screen-blanks p f g)
-      (ap₂ (screen_of (ks ++ last)) (drop_at (map f (blanks p)) some (bytes_of first) front) (drop_at (map g (blanks p)) links (bytes_of first) linked_front)
-      ∙ screen_of-append ks last some links
-      ∙ ap₂ (λ u v. u ++ v)
-      (sym (screen_of-take ks some links (bytes_of ks) (omega arith))
-      ∙ ap₂ (screen_of ks) (take_at ss (map f' (blanks q)) (bytes_of ks) styled_size) (take_at ls (map g' (blanks q)) (bytes_of ks) linked_size))
-      (ap₂ (screen_of last) (drop_at ss (map f' (blanks q)) (bytes_of ks) styled_size) (drop_at ls (map g' (blanks q)) (bytes_of ks) linked_size)
-      ∙ screen-blanks q f' g'))
-
--- the clusters of blanks
-clusters-blanks_after : (n : ℕ) (before : List ℕ) → clusters_after before (blanks n) ≡ replicate n (byte " " ∷ [])
-clusters-blanks_after zero before = clusters-none before
-clusters-blanks_after (suc zero) before = cluster-begins before (byte " ") [] ∙ cluster-last (byte " " ∷ []) (byte " " ∷ before) (λ none. cc)
-clusters-blanks_after (suc (suc n)) before =
-    cluster-begins before (byte " ") (blanks (suc n)) ∙ cluster-ends (byte " " ∷ []) (byte " " ∷ before) (blanks (suc n)) (breaks-between before (byte " ") (byte " ") (blanks n) refl refl)
-    ∙ ap (λ ks. (byte " " ∷ []) ∷ ks) (clusters-blanks_after (suc n) (byte " " ∷ before))
+pub chars-blanks : (n : ℕ) → chars (blanks n) ≡ blanks n
+chars-blanks n = chars-IsAscii (blanks n) (IsAscii-from_all (blanks n) (All-printable_is_ascii (blanks n) (blanks_are_printable n)))
 
 pub clusters-blanks : (n : ℕ) → clusters (blanks n) ≡ replicate n (byte " " ∷ [])
-clusters-blanks n = ap (clusters_after []) (chars-IsAscii (blanks n) (IsAscii-from_all (blanks n) (All-printable_is_ascii (blanks n) (blanks_are_printable n)))) ∙ clusters-blanks_after n []
+clusters-blanks n = ap (clusters_after []) (chars-blanks n) ∙ blanks-alone n []
 
 -- ---- the byte at a place
 

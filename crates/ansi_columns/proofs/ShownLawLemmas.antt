@@ -5,7 +5,7 @@ use Rattle.std.specs.Str.{byte, chars, IsUtf8, IsCharBoundary}
 use Rattle.std.proofs.lemmas.Bool.{cases_lt, and_parts, and_from, not-true, le-leb, lt-leb}
 use Rattle.std.proofs.lemmas.Bool.Decides.{nat_tests}
 use Rattle.std.proofs.lemmas.List.{length-replicate}
-use Rattle.std.proofs.lemmas.List.Sums.{sum_by-cons}
+use Rattle.std.proofs.lemmas.List.Sums.{sum_by-append, sum_by-cons}
 use Rattle.std.proofs.lemmas.List.Folds.{list_all-append}
 use Rattle.std.proofs.lemmas.Str.{chars-nil, chars-IsAscii, encode_ascii, encodes-chars, IsUtf8-nil, IsUtf8-take, IsUtf8-append, IsUtf8-from_ascii}
 use Rattle.std.proofs.lemmas.Str.Ascii.{IsAscii-from_all}
@@ -59,14 +59,14 @@ IsCount-all width (k ∷ ks) =
           })
     ]
 
-fitting_end-is : (x : List ℕ) (width : ℕ) → FitsUpTo x width (fitting_end width (clusters x))
+pub fitting_end-is : (x : List ℕ) (width : ℕ) → FitsUpTo x width (fitting_end width (clusters x))
 fitting_end-is x width = (let is = IsCount-all width (clusters x) in record { count = is.count; boundary = is.boundary; fits = is.fits; greatest = is.greatest })
 
 module _ (x y : List ℕ) (left : IsUtf8 x) (right : IsUtf8 y) (width : ℕ) where
-  abbrev end : ℕ
+  abbrev pub end : ℕ
   end = fitting_end width (clusters x)
 
-  end_boundary : IsCharBoundary x end
+  pub end_boundary : IsCharBoundary x end
   end_boundary =
       let is = IsCount-all width (clusters x) in
       subst (IsCharBoundary x) (sym is.boundary) (boundary_between x left (take is.count (clusters x)) (drop is.count (clusters x)) (sym (take-append-drop is.count (clusters x))))
@@ -200,7 +200,7 @@ padded-columns t width alignment printable whole =
 
 -- ---- the width of any padded text
 
-bytes_of-clusters : (x : List ℕ) → IsUtf8 x → bytes_of (clusters x) ≡ length x
+pub bytes_of-clusters : (x : List ℕ) → IsUtf8 x → bytes_of (clusters x) ≡ length x
 bytes_of-clusters x utf8 = ap length (clusters_after-bytes [] (chars x) ∙ encodes-chars x utf8)
 
 -- if a cluster ends between two texts, each place between clusters of the whole that is in the first text is between clusters of the first text
@@ -225,24 +225,38 @@ columns-blanks : (n : ℕ) → columns (blanks n) ≡ n
 columns-blanks n = columns-printable (blanks n) (blanks_are_printable n) ∙ length-replicate n (byte " ")
 
 -- a text between blanks, if clusters end at both ends of the text
-columns-between : (n m : ℕ) (x : List ℕ) → IsUtf8 x → IsClusterBoundary (blanks n ++ x ++ blanks m) n → IsClusterBoundary (blanks n ++ x ++ blanks m) (n + length x) → columns (blanks n ++ x ++ blanks m) ≡ n + columns x + m
-columns-between n m x utf8 before after =
+pub clusters-between : (n m : ℕ) (x : List ℕ) → IsUtf8 x → IsClusterBoundary (blanks n ++ x ++ blanks m) n → IsClusterBoundary (blanks n ++ x ++ blanks m) (n + length x)
+    → clusters (blanks n ++ x ++ blanks m) ≡ clusters (blanks n) ++ clusters x ++ clusters (blanks m)
+clusters-between n m x utf8 before after =
     let front = blanks n ++ x in
     let front_utf8 = IsUtf8-append (blanks n) x (IsUtf8-blanks n) utf8 in
     let size : length front ≡ n + length x = length-append (blanks n) x ∙ ap (λ k. k + length x) (length-replicate n (byte " ")) in
     let at = subst (IsClusterBoundary (front ++ blanks m)) (sym size) after in
-    let inner = boundary-front front (blanks m) n front_utf8 (clusters-add_up front (blanks m) front_utf8 (IsUtf8-blanks m) at) (omega (arith, size)) before in
+    let sum = clusters-add_up front (blanks m) front_utf8 (IsUtf8-blanks m) at in
+    let inner = boundary-front front (blanks m) n front_utf8 sum (omega (arith, size)) before in
     let begin = subst (IsClusterBoundary front) (sym (length-replicate n (byte " "))) inner in
-    omega (arith, columns-add_up front (blanks m) front_utf8 (IsUtf8-blanks m) at, columns-add_up (blanks n) x (IsUtf8-blanks n) utf8 begin, columns-blanks n, columns-blanks m)
+    sum ∙ ap (λ ks. ks ++ clusters (blanks m)) (clusters-add_up (blanks n) x (IsUtf8-blanks n) utf8 begin)
+
+columns-between : (n m : ℕ) (x : List ℕ) → IsUtf8 x → IsClusterBoundary (blanks n ++ x ++ blanks m) n → IsClusterBoundary (blanks n ++ x ++ blanks m) (n + length x) → columns (blanks n ++ x ++ blanks m) ≡ n + columns x + m
+columns-between n m x utf8 before after =
+    let sum = ap columns_of (clusters-between n m x utf8 before after) in
+    omega (arith, sum, sum_by-append cluster_width (clusters (blanks n) ++ clusters x) (clusters (blanks m)), sum_by-append cluster_width (clusters (blanks n)) (clusters x), columns-blanks n, columns-blanks m)
+
+-- a padded text whose plain text is UTF-8
+pub padded-fills-plain : (t : List ℕ) (width : ℕ) (alignment : Alignment) → IsUtf8 (plain t) → IsTrue (is_whole t)
+    → IsClusterBoundary (plain (padded t width alignment)) (before_text alignment (missing t width))
+    → IsClusterBoundary (plain (padded t width alignment)) (before_text alignment (missing t width) + length (plain t))
+    → columns (plain (padded t width alignment)) ≡ max (columns (plain t)) width
+padded-fills-plain t width alignment utf8 whole begin end =
+    let lack = missing t width in
+    let before = before_text alignment lack in
+    let is = padded-plain t width alignment whole in
+    let sum = columns-between before (lack - before) (plain t) utf8
+    (subst (λ x. IsClusterBoundary x before) is begin) (subst (λ x. IsClusterBoundary x (before + length (plain t))) is end) in
+    omega (arith, ap columns is, sum, before-within alignment lack)
 
 pub padded-fills : (t : List ℕ) (width : ℕ) (alignment : Alignment) → IsUtf8 t → IsTrue (is_whole t)
     → IsClusterBoundary (plain (padded t width alignment)) (before_text alignment (missing t width))
     → IsClusterBoundary (plain (padded t width alignment)) (before_text alignment (missing t width) + length (plain t))
     → columns (plain (padded t width alignment)) ≡ max (columns (plain t)) width
-padded-fills t width alignment utf8 whole begin end =
-    let lack = missing t width in
-    let before = before_text alignment lack in
-    let is = padded-plain t width alignment whole in
-    let sum = columns-between before (lack - before) (plain t) (IsUtf8-plain t utf8)
-    (subst (λ x. IsClusterBoundary x before) is begin) (subst (λ x. IsClusterBoundary x (before + length (plain t))) is end) in
-    omega (arith, ap columns is, sum, before-within alignment lack)
+padded-fills t width alignment utf8 = padded-fills-plain t width alignment (IsUtf8-plain t utf8)

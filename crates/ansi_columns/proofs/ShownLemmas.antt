@@ -91,7 +91,7 @@ StandsIn-tail t tail utf8 w width room walk fits more within room_is =
     = ap (λ b. fitting_end (if b then width - columns (plain tail) else width) (clusters (plain t))) there ∙ ap (λ n. fitting_end n (clusters (plain t))) (sym room_is) in
     (StandsIn-fitting_end t utf8 w room (truncated_end t width tail) walk fits end, sym (ap (λ b. if b then tail else []) there))
 
-length-either : (b : Bool) (x : List ℕ) → length (if b then x else []) ≤ length x
+pub length-either : (b : Bool) (x : List ℕ) → length (if b then x else []) ≤ length x
 length-either true x = omega arith
 length-either false x = omega arith
 

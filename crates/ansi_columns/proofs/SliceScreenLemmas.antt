@@ -1,16 +1,16 @@
--- The screen of a slice is the slice of the screen, if a cluster ends where blanks touch text.
-use Rattle.std.proofs.Common.{◌≡◌, ℕ, zero, suc, ◌+◌, ◌-◌, ◌<◌, ◌≤◌, ◌⊎◌, min, inl, inr, true, false, ◌||◌, List, [], ◌∷◌, ◌++◌, length, map, take, drop, replicate, slice_range, slice_index, encode_utf8_all, nat_le, nat_lt, Some, None, if◌then◌else◌, IsTrue, refl, sym, ◌∙◌, ap, ap₂, subst, arith, append_assoc, append-nil, length-append}
-use Rattle.std.specs.List.{range_with_len}
+-- The screen of a slice is the slice of the screen.
+use Rattle.std.proofs.Common.{◌≡◌, ℕ, zero, suc, ◌+◌, ◌-◌, ◌<◌, ◌≤◌, ◌⊎◌, min, inl, inr, true, false, ◌||◌, List, [], ◌∷◌, ◌++◌, length, map, take, drop, replicate, slice_range, encode_utf8_all, nat_le, nat_lt, Some, None, if◌then◌else◌, IsTrue, refl, sym, ◌∙◌, ap, ap₂, subst, arith, append_assoc, append-nil, length-append}
+use Rattle.std.specs.List.{concat}
 use Rattle.std.specs.Str.{IsUtf8, byte, chars}
 use Rattle.std.proofs.lemmas.Bool.{cases_lt, cases_Bool, leb-true, leb-false, or_parts, lt-ltb, le-ltb, lt-leb, ne_eqb}
-use Rattle.std.proofs.lemmas.List.{drop-drop, drop_at, take_at, take-append-drop, take-map, map-append, length-map, length-drop, length-take-le, length-replicate}
+use Rattle.std.proofs.lemmas.List.{drop-drop, drop_at, take_at, take-append-drop, take-map, map-append, length-drop, length-take-le}
 use Rattle.std.proofs.lemmas.List.Sums.{sum_by-append}
-use Rattle.std.proofs.lemmas.Str.{encodes-chars, IsUtf8-take, IsUtf8-drop, IsUtf8-append}
+use Rattle.std.proofs.lemmas.Str.{chars-append, IsUtf8-take, IsUtf8-drop}
 use Rattle.ansi_items.specs.Plain.{plain, marks, marks_up_to, is_whole}
 use Rattle.ansi_items.proofs.Utf8Lemmas.{IsUtf8-plain}
 use Rattle.ansi_style.specs.Styled.{StyledByte, styled, style_at}
 use Rattle.ansi_style.specs.declared.state.rendition.Rendition.{Rendition}
-use Rattle.ansi_style.specs.Rendition.{plain_style, known}
+use Rattle.ansi_style.specs.Rendition.{plain_style}
 use Rattle.ansi_style.specs.Sgr.{apply}
 use Rattle.ansi_style.proofs.MarkLemmas.{state_after}
 use Rattle.ansi_style.proofs.StyledLemmas.{styled_byte, unstyled-styled}
@@ -22,16 +22,19 @@ use Rattle.ansi_columns.specs.Addresses.{LinkedByte, linked}
 use Rattle.ansi_columns.specs.Columns.{clusters, cluster_width, columns, columns_of, bytes_of, IsClusterBoundary}
 use Rattle.ansi_columns.specs.Shown.{blanks}
 use Rattle.ansi_columns.specs.Slices.{ended, begun, has_no_column, column_place, bytes_from, bytes_up_to, blanks_before, blanks_after, opened_at, sliced_up_to}
-use Rattle.ansi_columns.specs.Screens.{Column, screen_of, screen, shown_in, shown_from, screen_slice, EndsAtBlanks}
+use Rattle.ansi_columns.specs.Screens.{Column, screen_of, screen, shown_in, shown_from, screen_slice}
 use Rattle.ansi_columns.proofs.BreakLawLemmas.{clusters-add_up}
-use Rattle.ansi_columns.proofs.ClusterLawLemmas.{clusters_after-bytes, clusters-front}
+use Rattle.ansi_columns.proofs.ClusterLawLemmas.{clusters-front}
 use Rattle.ansi_columns.proofs.LineLawLemmas.{boundary_between}
 use Rattle.ansi_columns.proofs.LinkedLawLemmas.{linked_byte, linked-pieces}
-use Rattle.ansi_columns.proofs.ShownLawLemmas.{IsUtf8-blanks}
+use Rattle.ansi_columns.proofs.ShownLawLemmas.{bytes_of-clusters, IsUtf8-blanks}
 use Rattle.ansi_columns.proofs.SliceLemmas.{sliced-nothing}
 use Rattle.ansi_columns.proofs.SliceLawLemmas.{slice_styled, slice_linked}
-use Rattle.ansi_columns.proofs.EdgeLemmas.{bytes_of-append, ended-within, ended-bytes, ended-front, begun-covers, begun-front, begun-ended, Stops, ended-stops, ended-inside, begun-wider}
-use Rattle.ansi_columns.proofs.ScreenLemmas.{length-screen_of, screen_of-append, screen_of-take, shown_from-append, shown_from-late, shown_from-early, shown_in-early, shown_in-late, shown-all, some_bytes, screen-between, clusters-blanks, blank_of, shown-begun, shown-after, blank-at}
+use Rattle.ansi_columns.proofs.EdgeLemmas.{bytes_of-append, ended-within, ended-bytes, ended-front, begun-covers, begun-front, begun-ended, begun-last, Stops, ended-stops, ended-inside, begun-wider}
+use Rattle.ansi_columns.proofs.SeamLemmas.{Starts, Ends, concat-clusters, concat-append, Starts-part, Starts-after, Ends-before_part, clusters-among_blanks}
+use Rattle.ansi_columns.specs.Walks.{clusters_after}
+use Rattle.ansi_columns.proofs.PartLemmas.{clusters-rest, clusters-part, map-slice_range}
+use Rattle.ansi_columns.proofs.ScreenLemmas.{chars-blanks, length-styled, length-linked, length-screen_of, screen_of-append, screen_of-take, shown_from-append, shown_from-late, shown_from-early, shown_in-early, shown_in-late, shown-all, some_bytes, screen-between, clusters-blanks, blank_of, shown-begun, shown-after, blank-at}
 
 -- the clusters of a text: those before a slice, with the one that its first edge divides; those that stay; and the others
 pub record AreDivided (x : List ℕ) (a b : ℕ) : Type 0 where
@@ -42,9 +45,6 @@ pub record AreDivided (x : List ℕ) (a b : ℕ) : Type 0 where
   pub shown : (middle ≡ []) ⊎ (columns_of (begun a (clusters x)) + columns_of middle ≤ b)
   pub after : ((b ≡ columns_of (begun a (clusters x)) + columns_of middle + blanks_after x a b) × Stops (blanks_after x a b) rest × (bytes_of (begun a (clusters x)) + bytes_of middle ≡ bytes_up_to x b))
       ⊎ ((blanks_after x a b ≡ 0) × ((rest ≡ []) ⊎ (b ≤ columns_of (begun a (clusters x)) + columns_of middle)))
-
-bytes_of-clusters : (x : List ℕ) → IsUtf8 x → bytes_of (clusters x) ≡ length x
-bytes_of-clusters x utf8 = ap length (clusters_after-bytes [] (chars x) ∙ encodes-chars x utf8)
 
 module _ (x : List ℕ) (a b : ℕ) (utf8 : IsUtf8 x) (some : has_no_column x a b ≡ false) where
   abbrev ks : List (List ℕ)
@@ -208,66 +208,60 @@ module _ (x : List ℕ) (a b : ℕ) (utf8 : IsUtf8 x) (some : has_no_column x a 
   all : clusters x ≡ front ++ (stays ++ others)
   all = (divided x a b utf8 some).all
 
-  first_ones : take (length front) (clusters x) ≡ front
-  first_ones = ap (take (length front)) all ∙ take_at front (stays ++ others) (length front) refl
-
-  left : IsUtf8 (take from x)
-  left = IsUtf8-take x from utf8 (boundary_between x utf8 front (stays ++ others) all)
-
   right : IsUtf8 (drop from x)
   right = IsUtf8-drop x from utf8 (boundary_between x utf8 front (stays ++ others) all)
 
   pub from-within : from ≤ length x
   from-within = omega (arith, bytes_of-clusters x utf8, ap bytes_of all, bytes_of-append front (stays ++ others))
 
-  clusters-left : clusters (take from x) ≡ front
-  clusters-left =
-      ap (λ ls. clusters (take (bytes_of ls) x)) (sym first_ones) ∙ clusters-front x utf8 (length front) ∙ first_ones
-
-  clusters-right : clusters (drop from x) ≡ stays ++ others
-  clusters-right =
-      let whole : take from x ++ drop from x ≡ x = take-append-drop from x in
-      let size : length (take from x) ≡ from = length-take-le from x from-within in
-      let at : IsClusterBoundary (take from x ++ drop from x) (length (take from x))
-      = subst (λ u. IsClusterBoundary u (length (take from x))) (sym whole) (length front, size ∙ ap bytes_of (sym first_ones)) in
-      let sum : front ++ (stays ++ others) ≡ front ++ clusters (drop from x)
-      = sym all ∙ ap clusters (sym whole) ∙ clusters-add_up (take from x) (drop from x) left right at ∙ ap (λ ls. ls ++ clusters (drop from x)) clusters-left in
-      sym (drop_at front (clusters (drop from x)) (length front) refl) ∙ ap (drop (length front)) (sym sum) ∙ drop_at front (stays ++ others) (length front) refl
-
   size-text : bytes_up_to x b - from ≡ bytes_of stays
   size-text = (divided x a b utf8 some).size
 
-  stays_first : take (length stays) (clusters (drop from x)) ≡ stays
-  stays_first = ap (take (length stays)) clusters-right ∙ take_at stays others (length stays) refl
-
   pub clusters-text : clusters text ≡ stays
-  clusters-text =
-      ap (λ n. clusters (take n (drop from x))) (size-text ∙ ap bytes_of (sym stays_first)) ∙ clusters-front (drop from x) right (length stays) ∙ stays_first
+  clusters-text = ap (λ n. clusters (take n (drop from x))) size-text ∙ clusters-part x front stays others utf8 all
 
   text-utf8 : IsUtf8 text
-  text-utf8 = subst (λ n. IsUtf8 (take n (drop from x))) (sym size-text) (IsUtf8-take (drop from x) (bytes_of stays) right (boundary_between (drop from x) right stays others clusters-right))
+  text-utf8 =
+      subst (λ n. IsUtf8 (take n (drop from x))) (sym size-text)
+      (IsUtf8-take (drop from x) (bytes_of stays) right (boundary_between (drop from x) right stays others (clusters-rest x front stays others utf8 all)))
 
   -- with the blanks
 
-  pub clusters-slice : EndsAtBlanks x a b → clusters (blanks (blanks_before x a b) ++ (text ++ blanks (blanks_after x a b))) ≡ replicate (blanks_before x a b) (byte " " ∷ []) ++ (stays ++ replicate (blanks_after x a b) (byte " " ∷ []))
-  clusters-slice seams =
+  chars-text : chars text ≡ concat stays
+  chars-text = sym (concat-clusters [] (chars text)) ∙ ap concat clusters-text
+
+  starts : (blanks_before x a b ≡ 0) ⊎ Starts (chars text)
+  starts = elim (cases_lt a (columns_of front)) [
+    | inl divides ↦
+        let last = begun-last a (clusters x) divides in
+        let split : clusters x ≡ (last.0 ++ last.1 ∷ []) ++ (stays ++ others) = all ∙ ap (λ ks. ks ++ (stays ++ others)) last.2 in
+        inr (subst Starts (sym chars-text) (Starts-part (concat stays) (concat others) (subst Starts (concat-append stays others) (Starts-after (chars x) last.0 last.1 (stays ++ others) split last.3))))
+    | inr whole ↦ inl (omega (arith, whole))
+  ]
+
+  ends : (blanks_after x a b ≡ 0) ⊎ Ends (chars text)
+  ends = elim (divided x a b utf8 some).after [
+    | inr none ↦ inl none.0
+    | inl stops ↦ elim stops.1 [
+      | inl none ↦ inl none
+      | inr wide ↦ elim (cases_lt 0 (blanks_after x a b)) [
+        | inr none ↦ inl (omega (arith, none))
+        | inl any ↦ inr (subst Ends (sym chars-text) (Ends-before_part (chars x) front stays wide.0 wide.1 (all ∙ ap (λ ks. front ++ (stays ++ ks)) wide.2 ∙ sym (append_assoc front stays (wide.0 ∷ wide.1))) (omega (arith, any, wide.3))))
+      ]
+    ]
+  ]
+
+  pub clusters-slice : clusters (blanks (blanks_before x a b) ++ (text ++ blanks (blanks_after x a b))) ≡ replicate (blanks_before x a b) (byte " " ∷ []) ++ (stays ++ replicate (blanks_after x a b) (byte " " ∷ []))
+  clusters-slice =
       let p = blanks_before x a b in
       let q = blanks_after x a b in
-      let after = text ++ blanks q in
-      let size : length (blanks p) ≡ p = length-replicate p (byte " ") in
-      clusters-add_up (blanks p) after (IsUtf8-blanks p) (IsUtf8-append text (blanks q) text-utf8 (IsUtf8-blanks q)) (subst (IsClusterBoundary (blanks p ++ after)) (sym size) seams.0)
-      ∙ ap₂ (λ u v. u ++ v) (clusters-blanks p)
-      (clusters-add_up text (blanks q) text-utf8 (IsUtf8-blanks q) seams.1 ∙ ap₂ (λ u v. u ++ v) clusters-text (clusters-blanks q))
+      let spelled : chars (blanks p ++ (text ++ blanks q)) ≡ blanks p ++ (chars text ++ blanks q)
+      = chars-append (blanks p) (text ++ blanks q) (IsUtf8-blanks p) ∙ ap₂ (λ u v. u ++ v) (chars-blanks p) (chars-append text (blanks q) text-utf8 ∙ ap (λ u. chars text ++ u) (chars-blanks q)) in
+      ap (clusters_after []) spelled
+      ∙ clusters-among_blanks p q (chars text) starts ends
+      ∙ ap (λ ks. replicate p (byte " " ∷ []) ++ (ks ++ replicate q (byte " " ∷ []))) clusters-text
 
 -- ---- the screen of the slice
-
-map-slice_range : {A B : Type 0} (f : A → B) (xs : List A) (i j : ℕ) → map f (slice_range xs i j) ≡ slice_range (map f xs) i j
-map-slice_range f xs i j = sym (take-map f (j - i) (drop i xs)) ∙ ap (take (j - i)) (drop_map f i xs)
-  where
-    drop_map : {A B : Type 0} (f : A → B) (n : ℕ) (xs : List A) → map f (drop n xs) ≡ drop n (map f xs)
-    drop_map f zero xs = refl
-    drop_map f (suc n) [] = refl
-    drop_map f (suc n) (x ∷ xs) = drop_map f n xs
 
 map-bytes : (s : Rendition) (w : List ℕ) → map (λ (c : StyledByte). c.byte) (map (styled_byte s) w) ≡ w
 map-bytes s [] = refl
@@ -319,7 +313,7 @@ module _ (t : List ℕ) (a b : ℕ) (utf8 : IsUtf8 t) (whole : IsTrue (is_whole 
   linked_is : linked (sliced_up_to t a b) ≡ linked_slice
   linked_is = linked-pieces (sliced_up_to t a b) ∙ (slice_linked t a b utf8 some whole).bytes
 
-  plain_is : plain (sliced_up_to t a b) ≡ blanks p ++ (slice_range x s e ++ blanks q)
+  pub plain_is : plain (sliced_up_to t a b) ≡ blanks p ++ (slice_range x s e ++ blanks q)
   plain_is =
       let byte_of : StyledByte → ℕ = λ c. c.byte in
       let front = map (styled_byte style) (blanks p) in
@@ -335,14 +329,6 @@ module _ (t : List ℕ) (a b : ℕ) (utf8 : IsUtf8 t) (whole : IsTrue (is_whole 
     | inl past ↦ omega (arith, ap (λ c. if c then length x else column_place x b) past)
     | inr part ↦ omega (arith, ap (λ c. if c then length x else column_place x b) part, ended-bytes b (clusters x), bytes_of-clusters x x_utf8)
   ]
-
-  length-styled : length (styled t) ≡ length x
-  length-styled = sym (length-map (styled t) (λ (c : StyledByte). c.byte)) ∙ ap length (unstyled-styled t)
-
-  length-linked : length (linked t) ≡ length x
-  length-linked =
-      let r = range_with_len 0 (length x) in
-      length-map r _ ∙ sym (length-map r (λ i. record { byte = slice_index x i; style = known (style_at t i) })) ∙ length-styled
 
   size-of : {A : Type 0} (xs : List A) → length xs ≡ length x → length (slice_range xs s e) ≡ bytes_of inside
   size-of xs size = length-take-le (e - s) (drop s xs) (omega (arith, length-drop s xs, size, e-within)) ∙ (divided x a b x_utf8 some).size
@@ -399,12 +385,12 @@ module _ (t : List ℕ) (a b : ℕ) (utf8 : IsUtf8 t) (whole : IsTrue (is_whole 
             bytes_of-append d.middle d.rest,
           )
 
-  screen-some : EndsAtBlanks x a b → screen (sliced_up_to t a b) ≡ screen_slice a b (screen t)
-  screen-some seams =
+  screen-some : screen (sliced_up_to t a b) ≡ screen_slice a b (screen t)
+  screen-some =
       let fits : bytes_of inside ≤ e - s = omega (arith, (divided x a b x_utf8 some).size) in
       ap₂ (λ u v. screen_of (clusters u) v (linked (sliced_up_to t a b))) plain_is styled_is
-      ∙ ap₂ (λ cs v. screen_of cs styled_slice v) (clusters-slice x a b x_utf8 some seams) linked_is
-      ∙ screen-between p q inside (styled_byte style) (styled_byte (style_at t e)) (linked_byte link) (linked_byte last) (slice_range (styled t) s e) (slice_range (linked t) s e) (size-of (styled t) length-styled) (size-of (linked t) length-linked)
+      ∙ ap₂ (λ cs v. screen_of cs styled_slice v) (clusters-slice x a b x_utf8 some) linked_is
+      ∙ screen-between p q inside (styled_byte style) (styled_byte (style_at t e)) (linked_byte link) (linked_byte last) (slice_range (styled t) s e) (slice_range (linked t) s e) (size-of (styled t) (length-styled t)) (size-of (linked t) (length-linked t))
       ∙ ap₂ (λ u v. u ++ v) first_blanks (ap₂ (λ u v. u ++ v) (screen_of-take inside (drop s (styled t)) (drop s (linked t)) (e - s) fits) last_blanks)
       ∙ sym (shown-all_of x a b x_utf8 some (styled t) (linked t))
 
@@ -424,8 +410,8 @@ screen-none t a b none = elim (cases_lt a b) [
       shown_from-early a b 0 (screen t) (omega (arith, leb-true (columns (plain t)) a past, length-screen_of (clusters (plain t)) (styled t) (linked t)))
 ]
 
-pub slice-screen : (t : List ℕ) (a b : ℕ) → IsUtf8 t → IsTrue (is_whole t) → EndsAtBlanks (plain t) a b → screen (sliced_up_to t a b) ≡ screen_slice a b (screen t)
-slice-screen t a b utf8 whole seams = elim (cases_Bool (has_no_column (plain t) a b)) [
+pub slice-screen : (t : List ℕ) (a b : ℕ) → IsUtf8 t → IsTrue (is_whole t) → screen (sliced_up_to t a b) ≡ screen_slice a b (screen t)
+slice-screen t a b utf8 whole = elim (cases_Bool (has_no_column (plain t) a b)) [
   | inl none ↦ ap screen (sym (sliced-nothing t a b none)) ∙ ap (λ ks. screen_of ks (styled []) (linked [])) (clusters-blanks 0) ∙ sym (screen-none t a b none)
-  | inr some ↦ screen-some t a b utf8 whole some seams
+  | inr some ↦ screen-some t a b utf8 whole some
 ]

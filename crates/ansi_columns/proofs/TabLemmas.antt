@@ -1,18 +1,20 @@
 -- Runs with TABs.
-use Rattle.std.proofs.Common.{◌≡◌, ℕ, zero, suc, ◌<◌, Bool, true, false, ◌==◌, ◌||◌, List, [], ◌∷◌, ◌++◌, length, fold, take, drop, slice_index, Option, None, Some, is_some, nat_eq, eqb-true, if◌then◌else◌, refl, sym, ◌∙◌, ap, ap₂, arith, append_assoc, append-nil, length-take-le}
+use Rattle.std.proofs.Common.{◌≡◌, ℕ, zero, suc, ◌+◌, ◌-◌, ◌*◌, ◌%◌, ◌<◌, ◌≤◌, Bool, true, false, ◌==◌, ◌||◌, List, [], ◌∷◌, ◌++◌, length, length-append, cond, count_by, fold, take, drop, slice_index, Option, None, Some, is_some, nat_eq, eqb-true, if◌then◌else◌, refl, sym, ◌∙◌, ap, ap₂, arith, append_assoc, append-nil, length-take-le}
 use Rattle.std.specs.List.{list_any}
 use Rattle.std.specs.Str.{byte}
 use Rattle.std.proofs.lemmas.Bool.Decides.{nat_tests}
+use Rattle.std.proofs.lemmas.List.{length-replicate}
 use Rattle.std.proofs.lemmas.List.Folds.{list_any_at}
+use Rattle.std.proofs.lemmas.List.Sums.{sum_by-cons, sum_by-append}
 use Rattle.std.proofs.Math.Seq.{get_or-take}
 use Rattle.memchr.specs.Find.{IsFirst, Nowhere, NoneBefore, Passes}
 use Rattle.ansi_items.specs.Pieces.{Piece, Text, Sequence, LoneEscape, spelling, pieces_of}
-use Rattle.ansi_items.specs.Plain.{plain}
+use Rattle.ansi_items.specs.Plain.{plain, plain_of}
 use Rattle.ansi_items.proofs.JoinLemmas.{spelled, spelled-pieces_of}
 use Rattle.ansi_safe.specs.Cells.{cell}
 use Rattle.ansi_columns.specs.Columns.{columns}
 use Rattle.ansi_columns.specs.Shown.{blanks}
-use Rattle.ansi_columns.specs.Tabs.{piece_has_tab, has_tab, is_stop, since_stop, to_next, byte_expanded, run_expanded, pieces_expanded, expanded}
+use Rattle.ansi_columns.specs.Tabs.{piece_has_tab, has_tab, tabs, is_stop, since_stop, to_next, byte_expanded, run_expanded, pieces_expanded, expanded}
 
 -- Bytes that are no stops stay, and the columns are counted over them.
 
@@ -84,6 +86,47 @@ pieces-no_tab stop x (LoneEscape ∷ ps) none = ap (λ v. spelling LoneEscape ++
 
 pub expanded-no_tab : (stop : ℕ) (t : List ℕ) → has_tab t ≡ false → expanded stop t ≡ t
 expanded-no_tab stop t none = pieces-no_tab stop [] (pieces_of t) none ∙ spelled-pieces_of t
+
+-- Each TAB becomes at most `stop` blanks.
+
+abbrev is_tab : ℕ → Bool
+is_tab b = b == byte "\t"
+
+module _ (stop : ℕ) where
+  to_next-most : (n : ℕ) → to_next stop n ≤ stop
+  to_next-most n = by (stop == 0)
+    where
+      by : (c : Bool) → (if c then 0 else stop - n % stop) ≤ stop
+      by true = omega arith
+      by false = omega arith
+
+  byte-most : (x : List ℕ) (b : ℕ) → length (byte_expanded stop x b) ≤ 1 + stop * cond (is_tab b) 1 0
+  byte-most x b = by (is_tab b)
+    where
+      by : (c : Bool) → length (if c then blanks (to_next stop (columns (plain (cell x)))) else b ∷ []) ≤ 1 + stop * cond c 1 0
+      by true = omega (arith, length-replicate (to_next stop (columns (plain (cell x)))) (byte " "), to_next-most (columns (plain (cell x))))
+      by false = omega arith
+
+  run-most : (x w : List ℕ) → length (run_expanded stop x w) ≤ length w + stop * count_by is_tab w
+  run-most x [] = omega arith
+  run-most x (b ∷ w) =
+      let after = run_expanded stop (since_stop x b) w in
+      let all : stop * count_by is_tab (b ∷ w) ≡ stop * cond (is_tab b) 1 0 + stop * count_by is_tab w
+      = ap (λ n. stop * n) (sum_by-cons (λ c. cond (is_tab c) 1 0) b w) ∙ omega arith in
+      omega (arith, length-append (byte_expanded stop x b) after, byte-most x b, run-most (since_stop x b) w, all)
+
+  pieces-most : (x : List ℕ) (ps : List Piece) → length (pieces_expanded stop x ps) ≤ length (spelled ps) + stop * count_by is_tab (plain_of ps)
+  pieces-most x [] = omega arith
+  pieces-most x (Text w ∷ ps) =
+      let since = fold since_stop x w in
+      let all : stop * count_by is_tab (w ++ plain_of ps) ≡ stop * count_by is_tab w + stop * count_by is_tab (plain_of ps)
+      = ap (λ n. stop * n) (sum_by-append (λ c. cond (is_tab c) 1 0) w (plain_of ps)) ∙ omega arith in
+      omega (arith, length-append (run_expanded stop x w) (pieces_expanded stop since ps), length-append w (spelled ps), run-most x w, pieces-most since ps, all)
+  pieces-most x (Sequence w ∷ ps) = omega (arith, length-append w (pieces_expanded stop x ps), length-append w (spelled ps), pieces-most x ps)
+  pieces-most x (LoneEscape ∷ ps) = omega (arith, length-append (spelling LoneEscape) (pieces_expanded stop x ps), length-append (spelling LoneEscape) (spelled ps), pieces-most x ps)
+
+  pub expanded-most : (t : List ℕ) → length (expanded stop t) ≤ length t + stop * tabs t
+  expanded-most t = omega (arith, pieces-most [] (pieces_of t), ap length (spelled-pieces_of t))
 
 -- Where a byte that passes a test is found, and where none is.
 

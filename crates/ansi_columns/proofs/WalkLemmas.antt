@@ -5,7 +5,7 @@ use Rattle.std.specs.Str.{chars, IsUtf8, IsCharBoundary}
 use Rattle.std.proofs.lemmas.Bool.{and_parts}
 use Rattle.std.proofs.lemmas.List.{drop-drop, drop_at, take_at, length-drop, take-append-le}
 use Rattle.std.proofs.lemmas.List.Folds.{drop_split, list_all-append}
-use Rattle.std.proofs.lemmas.Str.{chars-nil, chars-append, chars_past_char, IsUtf8-take, IsUtf8-drop, IsUtf8-between, IsCharBoundary-from_rest, IsCharBoundary-from_take, IsCharBoundary-end}
+use Rattle.std.proofs.lemmas.Str.{chars-nil, chars-append, chars_past_char, IsUtf8-take, IsUtf8-drop, IsUtf8-between, IsUtf8-append, IsCharBoundary-from_rest, IsCharBoundary-from_take, IsCharBoundary-end}
 use Rattle.unicode_segmentation.specs.Steps.{IsCharAt}
 use Rattle.unicode_segmentation.proofs.TextLemmas.{slice_range_split, IsCharAt-first, encode_utf8_nonempty, reverse-chars_past_char, chars-encode_utf8}
 use Rattle.ansi_items.specs.Bytes.{is_plain_byte}
@@ -16,7 +16,8 @@ use Rattle.ansi_search.proofs.SliceLemmas.{length-slice_range}
 use Rattle.ansi_search.proofs.OffsetLemmas.{plain-after}
 use Rattle.ansi_columns.specs.declared.walks.Walk.{Walk}
 use Rattle.ansi_columns.specs.BreakStates.{break_state_of}
-use Rattle.ansi_columns.specs.Walks.{before, after, cluster, IsRun, IsWalk, IsNext}
+use Rattle.ansi_columns.specs.declared.views.View.{View}
+use Rattle.ansi_columns.specs.Walks.{before, after, cluster, seen_before, IsRun, IsWalkIn, IsNext}
 use Rattle.ansi_columns.proofs.PlaceLemmas.{offset_of-add, offset_of-run, offset_of-plain, plain-before}
 use Rattle.ansi_items.proofs.JoinLemmas.{plain-run}
 
@@ -41,7 +42,7 @@ IsRun-at_end t =
     let none : length t - length t ≡ 0 = omega arith in
     record { ordered = omega arith; start_boundary = IsCharBoundary-end t; end_boundary = IsCharBoundary-end t; bytes = ap (λ n. list_all is_plain_byte (take n (drop (length t) t))) none }
 
-module _ (t : List ℕ) (utf8 : IsUtf8 t) (w : Walk) (walk : IsWalk t w) where
+module _ (t : List ℕ) (utf8 : IsUtf8 t) (w : Walk) {view : View} (walk : IsWalkIn view t w) where
   -- the text before the walk and the text after it
 
   pub plain_from : drop w.position (plain t) ≡ plain (drop w.offset t)
@@ -148,26 +149,29 @@ module _ (t : List ℕ) (utf8 : IsUtf8 t) (w : Walk) (walk : IsWalk t w) where
             ap (λ u. offset_of u 0) (drop_split t past w.run_end (omega (arith, size)) ∙ ap (λ u. u ++ drop w.run_end t) (rest_at ∙ e))
             ∙ offset_of-plain b (r ++ drop w.run_end t) (and_parts (is_plain_byte b) (list_all is_plain_byte r) (ap (list_all is_plain_byte) (sym e) ∙ both_plain.1)).0
 
+    pub boundary_past : IsCharBoundary (plain t) (w.position + k)
+    boundary_past = IsCharBoundary-from_take (plain t) (w.position + k) (IsUtf8-plain t utf8) position_within (subst IsUtf8 (sym front_past) (IsUtf8-append (take w.position (plain t)) (encode_utf8 c) utf8_to utf8_char))
+
     -- the run goes on
-    pub walk-on : (new : Walk) → new.position ≡ w.position + k → new.offset ≡ past → new.run_end ≡ w.run_end → past ≢ w.run_end → new.break_state ≡ break_state_of (c ∷ before t w.position) → IsWalk t new
-    walk-on new position offset run_end more break_state = record {
+    pub walk-on : (seen : View) (new : Walk) → new.position ≡ w.position + k → new.offset ≡ past → new.run_end ≡ w.run_end → past ≢ w.run_end → new.break_state ≡ break_state_of (seen_before seen t new.position) → IsWalkIn seen t new
+    walk-on seen new position offset run_end more break_state = record {
       offset = omega (arith, offset, offset_past, none_before more, ap (offset_of t) position);
       run = rw (offset, run_end) run_past;
       end = λ e. absurd (more (sym offset ∙ e ∙ run_end));
-      break_state = break_state ∙ ap break_state_of (sym before-past) ∙ ap (λ n. break_state_of (before t n)) (sym position);
+      break_state = break_state;
       within = rw position position_within;
     }
 
     -- the run ends, and the next one begins
-    pub walk-over : (new : Walk) (start end : ℕ) → new.position ≡ w.position + k → new.offset ≡ past + start → new.run_end ≡ past + end → start ≡ offset_of (drop past t) 0 → IsRun (drop past t) start end
-        → (start ≡ end → start ≡ length (drop past t)) → new.break_state ≡ break_state_of (c ∷ before t w.position) → IsWalk t new
-    walk-over new start end position offset run_end start_is run none break_state =
+    pub walk-over : (seen : View) (new : Walk) (start end : ℕ) → new.position ≡ w.position + k → new.offset ≡ past + start → new.run_end ≡ past + end → start ≡ offset_of (drop past t) 0 → IsRun (drop past t) start end
+        → (start ≡ end → start ≡ length (drop past t)) → new.break_state ≡ break_state_of (seen_before seen t new.position) → IsWalkIn seen t new
+    walk-over seen new start end position offset run_end start_is run none break_state =
         let inside : past ≤ length t = omega (arith, size, walk.run.end_boundary.0) in
         record {
           offset = omega (arith, offset, start_is, offset_past, ap (offset_of t) position);
           run = rw (offset, run_end) (run-after t past start end inside run);
           end = λ e. (let last : start ≡ end = omega (arith, offset, run_end, e) in omega (arith, offset, none last, length-drop past t, inside));
-          break_state = break_state ∙ ap break_state_of (sym before-past) ∙ ap (λ n. break_state_of (before t n)) (sym position);
+          break_state = break_state;
           within = rw position position_within;
         }
 
@@ -183,7 +187,7 @@ module _ (t : List ℕ) (utf8 : IsUtf8 t) (w : Walk) (walk : IsWalk t w) where
 
 -- Between two walks.
 
-module _ (t : List ℕ) (utf8 : IsUtf8 t) (w v : Walk) (from : IsWalk t w) (to : IsWalk t v) (ordered : w.position ≤ v.position) where
+module _ (t : List ℕ) (utf8 : IsUtf8 t) (w v : Walk) {view : View} (from : IsWalkIn view t w) (to : IsWalkIn view t v) (ordered : w.position ≤ v.position) where
   abbrev pub between : ℕ
   between = v.position - w.position
 

@@ -82,6 +82,10 @@ read-bound (c ∷ cs) =
       | inr low ↦ omega (arith, size, read-bound cs, step-low c read.0 read.1 low, length-encode c, (len_utf8_bounds c).0)
     ]
 
+pub width-bound : (cs : List ℕ) → str_width false cs ≤ 2 * length (encode_utf8_all cs)
+unfolding str_width
+width-bound cs = read-bound cs
+
 pub str_width-bound : (x : List ℕ) → IsUtf8 x → str_width false (chars x) ≤ 2 * length x
 unfolding str_width
 str_width-bound x utf8 = subst (λ n. (read_before false (chars x) (0, plain)).0 ≤ 2 * n) (ap length (encodes-chars x utf8)) (read-bound (chars x))

@@ -1,6 +1,7 @@
--- Each line of a wrapped whole text is whole, has the slices of its styled and of its linked bytes, and leaves no known style and no link open.
+-- Each line of a wrapped text is whole, has the slices of the styled and of the linked bytes of its paragraph, and leaves no known style and no link open.
 use Rattle.std.proofs.Common.{◌≡◌, ℕ, ◌+◌, ◌<◌, ◌≤◌, max, ◌==◌, ◌⊎◌, inl, inr, Bool, true, false, ◌&&◌, List, [], ◌∷◌, ◌++◌, length, map, filter, slice_range, nat_le, nat_lt, Some, codes, encode_utf8_all, if◌then◌else◌, IsTrue, refl, sym, ◌∙◌, ap, ap₂, subst, arith, append_assoc, append-nil}
 use Rattle.std.specs.List.{AllByRecursion, All}
+use Rattle.std.specs.Prelude.{bytes_eq}
 use Rattle.std.specs.Str.{byte}
 use Rattle.std.proofs.lemmas.Bool.{cond_both, and_parts, eqb-true, le-leb, false_from_ne_true}
 use Rattle.std.proofs.lemmas.Bool.Decides.{nat_tests}
@@ -32,8 +33,13 @@ use Rattle.ansi_split.proofs.PartSliceLemmas.{Divides, state-divided, seen-divid
 use Rattle.ansi_columns.specs.Addresses.{LinkedByte, linked}
 use Rattle.ansi_columns.specs.Columns.{cluster_width, clusters}
 use Rattle.ansi_columns.specs.Lines.{lines, lines_from}
+use Rattle.ansi_safe.specs.declared.policy.Links.TheVariants.{Keep}
+use Rattle.ansi_safe.specs.Cells.{paragraph}
+use Rattle.ansi_safe.specs.Safe.{is_safe}
+use Rattle.ansi_safe.proofs.MadeLemmas.{whole-safe}
 use Rattle.ansi_safe.specs.Links.{is_link, opens_link, link_of, link_after, link_after_all, link_end}
-use Rattle.ansi_columns.specs.Wrapped.{WrappedLine, pen_end, line_over, lines_over, wrapped}
+use Rattle.ansi_columns.specs.Wrapped.{WrappedLine, pen_end, line_over, lines_over, lent_lines, wrapped}
+use Rattle.ansi_columns.specs.WrapStates.{lines_of}
 use Rattle.ansi_columns.proofs.LineLemmas.{line-any, line-last}
 use Rattle.ansi_safe.proofs.LinkLemmas.{is_link-sgr, link_of-pieces, link_through}
 use Rattle.ansi_columns.proofs.LinkedLawLemmas.{linked_byte, linked_through, linked-pieces, IsLinked, IsLinked-append, IsLinked-nil, IsLinked-spelled, IsLinked-interleaved, IsLinked-codes, IsLinked-link_end}
@@ -342,8 +348,8 @@ at_places-every : (ms : List Mark) → ms ≡ at_places (λ p. true) ms
 at_places-every [] = refl
 at_places-every (m ∷ ms) = ap (λ ks. m ∷ ks) (at_places-every ms)
 
-AreEnded-wrapped : (t : List ℕ) (width : ℕ) → IsTrue (is_whole t) → AreEnded t (lines width (plain t)) (wrapped t width)
-AreEnded-wrapped t width whole =
+AreEnded-lines : (t : List ℕ) (width : ℕ) → IsTrue (is_whole t) → AreEnded t (lines width (plain t)) (lines_of t width)
+AreEnded-lines t width whole =
     let none = at_places-never (marks t) in
     lines_ended t 0 0 (λ p. false) (λ p. true) plain_style [] (marks t) (lines width (plain t)) whole (at_places-every (marks t))
     (record { styled = ap (after_marks plain_style) (sym none); linked = ap (link_after_all []) (sym none) })
@@ -356,6 +362,19 @@ AreEnded-wrapped t width whole =
     })
     (omega arith) (lines_in_turn (max width 1) 0 0 0 0 0 (clusters (plain t)) (omega arith) (omega arith) (omega arith))
 
+-- whether they are lent or not
+AreEnded-lent : (t : List ℕ) (lent : Bool) (is : List (ℕ × ℕ)) (ls : List WrappedLine) → AreEnded t is ls → AreEnded t is (lent_lines lent ls)
+AreEnded-lent t lent [] [] ended = tt
+AreEnded-lent t lent [] (l ∷ ls) ended = absurd ended
+AreEnded-lent t lent (i ∷ is) [] ended = absurd ended
+AreEnded-lent t lent (i ∷ is) (l ∷ ls) ended = (ended.0, AreEnded-lent t lent is ls ended.1)
+
+-- a paragraph is safe, and so whole
+AreEnded-wrapped : (t : List ℕ) (width : ℕ) → IsTrue (is_safe Keep (paragraph t)) → AreEnded (paragraph t) (lines width (plain (paragraph t))) (wrapped t width)
+AreEnded-wrapped t width safe =
+    let p = paragraph t in
+    AreEnded-lent p (bytes_eq p t) (lines width (plain p)) (lines_of p width) (AreEnded-lines p width (whole-safe Keep p safe))
+
 -- what is so of each such text is so of each line
 
 abbrev Ended : List ℕ → ℕ × ℕ → List ℕ → Type 0
@@ -367,8 +386,8 @@ AllByRecursion-lines t P so [] (l ∷ ls) ended = absurd ended
 AllByRecursion-lines t P so (i ∷ is) [] ended = absurd ended
 AllByRecursion-lines t P so (i ∷ is) (l ∷ ls) ended = (so i l.bytes ended.0, AllByRecursion-lines t P so is ls ended.1)
 
-All-wrapped : (t : List ℕ) (width : ℕ) (P : List ℕ → Type 0) → IsTrue (is_whole t) → ((i : ℕ × ℕ) (u : List ℕ) → Ended t i u → P u) → All (λ (l : WrappedLine). P l.bytes) (wrapped t width)
-All-wrapped t width P whole so = All-from_recursion _ (wrapped t width) (AllByRecursion-lines t P so (lines width (plain t)) (wrapped t width) (AreEnded-wrapped t width whole))
+All-wrapped : (t : List ℕ) (width : ℕ) (P : List ℕ → Type 0) → IsTrue (is_safe Keep (paragraph t)) → ((i : ℕ × ℕ) (u : List ℕ) → Ended (paragraph t) i u → P u) → All (λ (l : WrappedLine). P l.bytes) (wrapped t width)
+All-wrapped t width P safe so = All-from_recursion _ (wrapped t width) (AllByRecursion-lines (paragraph t) P so (lines width (plain (paragraph t))) (wrapped t width) (AreEnded-wrapped t width safe))
 
 lines_are_slices : {X : Type 0} (t : List ℕ) (f : List ℕ → List X) (xs : List X) → ((i : ℕ × ℕ) (u : List ℕ) → Ended t i u → f u ≡ slice_range xs i.0 i.1) → (is : List (ℕ × ℕ)) (ls : List WrappedLine)
     → AreEnded t is ls → map (λ (l : WrappedLine). f l.bytes) ls ≡ map (λ (i : ℕ × ℕ). slice_range xs i.0 i.1) is
@@ -377,17 +396,17 @@ lines_are_slices t f xs so [] (l ∷ ls) ended = absurd ended
 lines_are_slices t f xs so (i ∷ is) [] ended = absurd ended
 lines_are_slices t f xs so (i ∷ is) (l ∷ ls) ended = ap₂ (λ v vs. v ∷ vs) (so i l.bytes ended.0) (lines_are_slices t f xs so is ls ended.1)
 
-pub wrapped_are_whole : (t : List ℕ) (width : ℕ) → IsTrue (is_whole t) → All (λ (l : WrappedLine). IsTrue (is_whole l.bytes)) (wrapped t width)
-wrapped_are_whole t width whole = All-wrapped t width (λ u. IsTrue (is_whole u)) whole (λ i u ended. ended.closed.whole)
+pub wrapped_are_whole : (t : List ℕ) (width : ℕ) → IsTrue (is_safe Keep (paragraph t)) → All (λ (l : WrappedLine). IsTrue (is_whole l.bytes)) (wrapped t width)
+wrapped_are_whole t width safe = All-wrapped t width (λ u. IsTrue (is_whole u)) safe (λ i u ended. ended.closed.whole)
 
-pub wrapped_are_closed : (t : List ℕ) (width : ℕ) → IsTrue (is_whole t) → All (λ (l : WrappedLine). residue l.bytes ≡ plain_style) (wrapped t width)
-wrapped_are_closed t width whole = All-wrapped t width (λ u. residue u ≡ plain_style) whole (λ i u ended. ended.closed.closed)
+pub wrapped_are_closed : (t : List ℕ) (width : ℕ) → IsTrue (is_safe Keep (paragraph t)) → All (λ (l : WrappedLine). residue l.bytes ≡ plain_style) (wrapped t width)
+wrapped_are_closed t width safe = All-wrapped t width (λ u. residue u ≡ plain_style) safe (λ i u ended. ended.closed.closed)
 
-pub wrapped_end_links : (t : List ℕ) (width : ℕ) → IsTrue (is_whole t) → All (λ (l : WrappedLine). link_of (marks l.bytes) ≡ []) (wrapped t width)
-wrapped_end_links t width whole = All-wrapped t width (λ u. link_of (marks u) ≡ []) whole (λ i u ended. link_of-pieces (pieces_of u) ∙ ended.linked.after)
+pub wrapped_end_links : (t : List ℕ) (width : ℕ) → IsTrue (is_safe Keep (paragraph t)) → All (λ (l : WrappedLine). link_of (marks l.bytes) ≡ []) (wrapped t width)
+wrapped_end_links t width safe = All-wrapped t width (λ u. link_of (marks u) ≡ []) safe (λ i u ended. link_of-pieces (pieces_of u) ∙ ended.linked.after)
 
-pub wrapped-styled : (t : List ℕ) (width : ℕ) → IsTrue (is_whole t) → map (λ (l : WrappedLine). styled l.bytes) (wrapped t width) ≡ map (λ (i : ℕ × ℕ). slice_range (styled t) i.0 i.1) (lines width (plain t))
-wrapped-styled t width whole = lines_are_slices t styled (styled t) (λ i u ended. ended.closed.styled_bytes) (lines width (plain t)) (wrapped t width) (AreEnded-wrapped t width whole)
+pub wrapped-styled : (t : List ℕ) (width : ℕ) → IsTrue (is_safe Keep (paragraph t)) → map (λ (l : WrappedLine). styled l.bytes) (wrapped t width) ≡ map (λ (i : ℕ × ℕ). slice_range (styled (paragraph t)) i.0 i.1) (lines width (plain (paragraph t)))
+wrapped-styled t width safe = lines_are_slices (paragraph t) styled (styled (paragraph t)) (λ i u ended. ended.closed.styled_bytes) (lines width (plain (paragraph t))) (wrapped t width) (AreEnded-wrapped t width safe)
 
-pub wrapped-linked : (t : List ℕ) (width : ℕ) → IsTrue (is_whole t) → map (λ (l : WrappedLine). linked l.bytes) (wrapped t width) ≡ map (λ (i : ℕ × ℕ). slice_range (linked t) i.0 i.1) (lines width (plain t))
-wrapped-linked t width whole = lines_are_slices t linked (linked t) (λ i u ended. linked-pieces u ∙ ended.linked.bytes) (lines width (plain t)) (wrapped t width) (AreEnded-wrapped t width whole)
+pub wrapped-linked : (t : List ℕ) (width : ℕ) → IsTrue (is_safe Keep (paragraph t)) → map (λ (l : WrappedLine). linked l.bytes) (wrapped t width) ≡ map (λ (i : ℕ × ℕ). slice_range (linked (paragraph t)) i.0 i.1) (lines width (plain (paragraph t)))
+wrapped-linked t width safe = lines_are_slices (paragraph t) linked (linked (paragraph t)) (λ i u ended. linked-pieces u ∙ ended.linked.bytes) (lines width (plain (paragraph t))) (wrapped t width) (AreEnded-wrapped t width safe)

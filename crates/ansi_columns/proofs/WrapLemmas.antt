@@ -38,7 +38,7 @@ use Rattle.ansi_columns.specs.Columns.{cluster_width, clusters}
 use Rattle.ansi_columns.specs.Lines.{lines, lines_from, lines_left}
 use Rattle.ansi_safe.specs.Links.{link_after, link_after_all, link_end, longest_link_end}
 use Rattle.ansi_columns.specs.Walks.{clusters_from}
-use Rattle.ansi_columns.specs.Wrapped.{WrappedLine, pen_end, line_over, lines_over, wrapped, marks_left, IsTaken, IsLineSpan}
+use Rattle.ansi_columns.specs.Wrapped.{WrappedLine, pen_end, line_over, lines_over, marks_left, IsTaken, IsLineSpan}
 use Rattle.ansi_columns.proofs.ColumnLemmas.{clusters_from-start}
 use Rattle.ansi_columns.proofs.LineLemmas.{line-any, line-last}
 use Rattle.ansi_columns.proofs.PlaceLemmas.{offset_of-add}
@@ -420,5 +420,5 @@ lines-bare x (i ∷ is) =
     by_next later true = later
     by_next later false = later
 
-pub wrapped-bare : (t : List ℕ) (width : ℕ) → IsFalse (has_escape t) → IsTrue (list_all (λ (l : WrappedLine). l.borrowed) (wrapped t width))
-wrapped-bare t width none = ap (λ ms. list_all (λ (l : WrappedLine). l.borrowed) (lines_over plain_style [] (plain t) ms (lines width (plain t)))) (marks-bare t none) ∙ lines-bare (plain t) (lines width (plain t))
+pub bare-borrowed : (t : List ℕ) (width : ℕ) → IsFalse (has_escape t) → IsTrue (list_all (λ (l : WrappedLine). l.borrowed) (lines_over plain_style [] (plain t) (marks t) (lines width (plain t))))
+bare-borrowed t width none = ap (λ ms. list_all (λ (l : WrappedLine). l.borrowed) (lines_over plain_style [] (plain t) ms (lines width (plain t)))) (marks-bare t none) ∙ lines-bare (plain t) (lines width (plain t))

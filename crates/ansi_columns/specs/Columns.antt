@@ -1,6 +1,9 @@
 -- The display width of a text: the clusters of its plain text, and the width of each cluster.
 use Rattle.std.specs.Prelude.{◌≡◌, ℕ, ◌+◌, ◌<◌, ◌≤◌, true, false, List, [], length, take, flat_map, encode_utf8_all, chars}
 use Rattle.std.specs.List.{sum_by}
+use Rattle.std.specs.Str.{IsCharBoundary}
+use Rattle.ansi_items.specs.Plain.{plain}
+use Rattle.ansi_safe.specs.Cells.{cell, cell_char}
 use Rattle.unicode_segmentation.specs.Grapheme.{is_grapheme_break}
 use Rattle.unicode_segmentation.specs.Segments.{cut}
 use Rattle.unicode_width.specs.Width.{str_width}
@@ -31,6 +34,15 @@ pub record FitsUpTo (x : List ℕ) (width end : ℕ) : Type 0 where
   pub boundary : end ≡ bytes_of (take count (clusters x))
   pub fits : columns_of (take count (clusters x)) ≤ width
   pub greatest : count < length (clusters x) → width < columns_of (take (count + 1) (clusters x))
+
+-- what a terminal shows of the characters of the plain text x: of each what it is in a cell (own)
+abbrev pub shown : List ℕ → List ℕ
+shown x = encode_utf8_all (flat_map cell_char (chars x))
+
+-- What is shown of the plain text of t before its byte `end` is the clusters that fit. Before a later character boundary more is shown.
+pub record ShowsUpTo (t : List ℕ) (width end : ℕ) : Type 0 where
+  pub fits : FitsUpTo (plain (cell t)) width (length (shown (take end (plain t))))
+  pub greatest : (later : ℕ) → IsCharBoundary (plain t) later → end < later → length (shown (take end (plain t))) < length (shown (take later (plain t)))
 
 -- the place i of x is between two of its clusters, or at its beginning or end
 abbrev pub IsClusterBoundary : List ℕ → ℕ → Type 0

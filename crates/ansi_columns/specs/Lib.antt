@@ -2,12 +2,17 @@ pub mod Columns
 pub mod Lines
 pub mod FirstFit
 pub mod BreakStates
+pub mod Views
 pub mod Walks
 pub mod Reverse
 pub mod Shown
+pub mod Fitted
+pub mod Sides
 pub mod Slices
 pub mod Screens
 pub mod Wrapped
+pub mod WrapStates
 pub mod Addresses
 pub mod Tabs
 pub mod Words
+pub mod LineWalks

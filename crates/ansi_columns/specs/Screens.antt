@@ -1,13 +1,12 @@
 -- The screen of a text: its columns, and what a slice shows of them.
-use Rattle.std.specs.Prelude.{ℕ, ◌+◌, ◌&&◌, List, [], ◌∷◌, ◌++◌, length, map, take, drop, slice_range, nat_lt, nat_le, encode_utf8_all, if◌then◌else◌}
+use Rattle.std.specs.Prelude.{ℕ, ◌+◌, ◌&&◌, List, [], ◌∷◌, ◌++◌, length, map, take, drop, nat_lt, nat_le, encode_utf8_all, Option, unwrap_or, if◌then◌else◌}
 use Rattle.std.specs.List.{range_with_len}
 use Rattle.std.specs.Str.{byte}
 use Rattle.ansi_items.specs.Plain.{plain}
 use Rattle.ansi_style.specs.Styled.{StyledByte, styled}
-use Rattle.ansi_columns.specs.Addresses.{LinkedByte, linked}
-use Rattle.ansi_columns.specs.Columns.{clusters, cluster_width, IsClusterBoundary}
-use Rattle.ansi_columns.specs.Shown.{blanks}
-use Rattle.ansi_columns.specs.Slices.{bytes_from, bytes_up_to, blanks_before, blanks_after}
+use Rattle.ansi_columns.specs.Addresses.{LinkedByte, linked, without_link}
+use Rattle.ansi_columns.specs.Shown.{blanks, without_style}
+use Rattle.ansi_columns.specs.Columns.{clusters, cluster_width}
 
 -- a column: its cluster, as bytes with their known styles and with their links; which of the cluster's columns it is; and how many that has
 pub record Column : Type 0 where
@@ -40,6 +39,10 @@ blank_for c = record {
   width = 1;
 }
 
+-- a blank in the plain style, in no link
+abbrev pub plain_blank : Column
+plain_blank = record { styled = without_style (blanks 1); linked = without_link (blanks 1); index = 0; width = 1 }
+
 -- what a slice from the column a up to b shows of the column i: that column, or a blank if its cluster has columns that the slice doesn't have
 abbrev pub shown_in : ℕ → ℕ → ℕ → Column → List Column
 shown_in a b i c =
@@ -52,13 +55,10 @@ abbrev pub shown_from : ℕ → ℕ → ℕ → List Column → List Column
 shown_from a b i [] = []
 shown_from a b i (c ∷ cs) = shown_in a b i c ++ shown_from a b (i + 1) cs
 
--- the slice of a screen (own)
+-- the slice of a screen from the column a up to b (own)
 abbrev pub screen_slice : ℕ → ℕ → List Column → List Column
 screen_slice a b cs = shown_from a b 0 cs
 
--- a cluster ends on both sides of the text of a slice, at the blanks for divided clusters
-abbrev pub EndsAtBlanks : List ℕ → ℕ → ℕ → Type 0
-EndsAtBlanks x a b =
-    let text = slice_range x (bytes_from x a) (bytes_up_to x b) in
-    let after = text ++ blanks (blanks_after x a b) in
-    IsClusterBoundary (blanks (blanks_before x a b) ++ after) (blanks_before x a b) × IsClusterBoundary after (length text)
+-- the slice from the column a up to `end`, or up to the last column (own)
+abbrev pub sliced_screen : ℕ → Option ℕ → List Column → List Column
+sliced_screen a end cs = screen_slice a (unwrap_or end (length cs)) cs

@@ -98,6 +98,10 @@ is_stretch t a b =
     || (is_pen_plain t (opened_at (plain t) a) && blanks_before (plain t) a b == 0
     && blanks_after (plain t) a b == 0 && length (pen_close t (bytes_up_to (plain t) b)) == 0)
 
+-- the same without an end, up to the last column
+abbrev pub is_sliced_stretch : List ℕ → ℕ → Option ℕ → Bool
+is_sliced_stretch t a end = is_stretch t a (unwrap_or end (columns (plain t)))
+
 -- the edge that is n columns after the place `here` of t; no public contract cites what follows
 pub record IsEdge (t : List ℕ) (here n : ℕ) (edge : Edge) : Type 0 where
   pub start_walk : IsWalk t edge.start

@@ -1,5 +1,5 @@
 -- Texts with blanks in place of their TABs.
-use Rattle.std.specs.Prelude.{ℕ, ◌-◌, ◌%◌, ◌==◌, ◌||◌, Bool, List, [], ◌∷◌, ◌++◌, fold, if◌then◌else◌}
+use Rattle.std.specs.Prelude.{ℕ, ◌-◌, ◌%◌, ◌==◌, ◌||◌, Bool, List, [], ◌∷◌, ◌++◌, fold, count_by, if◌then◌else◌}
 use Rattle.std.specs.List.{list_any}
 use Rattle.std.specs.Str.{byte}
 use Rattle.ansi_items.specs.Pieces.{Piece, Text, spelling, pieces_of}
@@ -15,6 +15,10 @@ piece_has_tab p = list_any (λ b. b == byte "\t") (plain_bytes p)
 -- the plain text of t has a TAB
 abbrev pub has_tab : List ℕ → Bool
 has_tab t = list_any piece_has_tab (pieces_of t)
+
+-- how many TABs the plain text of t has
+abbrev pub tabs : List ℕ → ℕ
+tabs t = count_by (λ b. b == byte "\t") (plain t)
 
 -- columns are counted anew after a TAB, which ends at a multiple of `stop`, and after a line feed
 abbrev pub is_stop : ℕ → Bool

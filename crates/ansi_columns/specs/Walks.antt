@@ -1,7 +1,7 @@
 -- The state of a walk over the characters of a plain text. No public contract cites it.
-use Rattle.std.specs.Prelude.{◌≡◌, ℕ, ◌+◌, ◌<◌, ◌≤◌, true, List, [], ◌∷◌, ◌++◌, length, take, drop, reverse, slice_index, slice_range, encode_utf8, chars, IsTrue}
+use Rattle.std.specs.Prelude.{◌≡◌, ℕ, ◌+◌, ◌<◌, ◌≤◌, ◌==◌, ◌||◌, Bool, true, List, [], ◌∷◌, ◌++◌, length, take, drop, reverse, slice_index, slice_range, encode_utf8, chars, IsTrue}
 use Rattle.std.specs.List.{list_all}
-use Rattle.std.specs.Str.{IsCharBoundary}
+use Rattle.std.specs.Str.{byte, IsCharBoundary}
 use Rattle.ansi_items.specs.Bytes.{is_plain_byte}
 use Rattle.ansi_items.specs.Plain.{plain}
 use Rattle.ansi_search.specs.Offsets.{offset_of}
@@ -9,7 +9,11 @@ use Rattle.ansi_safe.specs.Safe.{is_printable_byte}
 use Rattle.unicode_segmentation.specs.Grapheme.{is_grapheme_break}
 use Rattle.unicode_segmentation.specs.Segments.{cut}
 use Rattle.ansi_columns.specs.declared.walks.Walk.{Walk}
+use Rattle.ansi_columns.specs.declared.views.View.{View}
+use Rattle.ansi_columns.specs.declared.views.View.TheVariants.{Given}
 use Rattle.ansi_columns.specs.BreakStates.{break_state_of}
+use Rattle.ansi_columns.specs.Columns.{FitsUpTo}
+use Rattle.ansi_columns.specs.Views.{seen_char, seen, seen_text, seen_len}
 
 -- the characters of the plain text of t before the position n, the last one first
 abbrev pub before : List ℕ → ℕ → List ℕ
@@ -31,6 +35,20 @@ clusters_after before cs = cut (is_grapheme_break true) before cs []
 abbrev pub clusters_from : List ℕ → ℕ → List (List ℕ)
 clusters_from t n = clusters_after (before t n) (after t n)
 
+-- The same of what is seen of the characters.
+
+abbrev pub seen_before : View → List ℕ → ℕ → List ℕ
+seen_before view t n = reverse (seen view (chars (take n (plain t))))
+
+abbrev pub seen_after : View → List ℕ → ℕ → List ℕ
+seen_after view t n = seen view (after t n)
+
+abbrev pub seen_cluster : View → List ℕ → ℕ → ℕ → List ℕ
+seen_cluster view t i j = seen view (cluster t i j)
+
+abbrev pub seen_clusters : View → List ℕ → ℕ → List (List ℕ)
+seen_clusters view t n = clusters_after (seen_before view t n) (seen_after view t n)
+
 -- only plain bytes are between two offsets of t
 pub record IsRun (t : List ℕ) (start end : ℕ) : Type 0 where
   pub ordered : start ≤ end
@@ -38,26 +56,53 @@ pub record IsRun (t : List ℕ) (start end : ℕ) : Type 0 where
   pub end_boundary : IsCharBoundary t end
   pub bytes : IsTrue (list_all is_plain_byte (slice_range t start end))
 
--- A walk over t is at a position of its plain text. A run begins there, which is empty only at the end of t.
-pub record IsWalk (t : List ℕ) (walk : Walk) : Type 0 where
+-- A walk over t is at a position of its plain text. A run begins there, which is empty only at the end of t. Its break state is that of what was seen before.
+pub record IsWalkIn (view : View) (t : List ℕ) (walk : Walk) : Type 0 where
   pub offset : walk.offset ≡ offset_of t walk.position
   pub run : IsRun t walk.offset walk.run_end
   pub end : walk.offset ≡ walk.run_end → walk.offset ≡ length t
-  pub break_state : walk.break_state ≡ break_state_of (before t walk.position)
+  pub break_state : walk.break_state ≡ break_state_of (seen_before view t walk.position)
   pub within : walk.position ≤ length (plain t)
+
+-- a walk that sees the characters as they are
+abbrev pub IsWalk : List ℕ → Walk → Type 0
+IsWalk t walk = IsWalkIn Given t walk
+
+-- a walk, whatever it sees
+abbrev pub IsAnyWalk : List ℕ → Walk → Type 0
+IsAnyWalk t walk = (view : View) × IsWalkIn view t walk
 
 -- the character c is next
 pub record IsNext (t : List ℕ) (walk : Walk) (c : ℕ) : Type 0 where
   pub rest : List ℕ
   pub bytes : slice_range t walk.offset walk.run_end ≡ encode_utf8 c ++ rest
 
--- the next n bytes of the walk's run are printable ASCII, and another byte of ASCII follows them there
+-- the character that is next is seen as c, which has as many bytes
+pub record IsSeenNext (view : View) (t : List ℕ) (walk : Walk) (c : ℕ) : Type 0 where
+  pub given : ℕ
+  pub next : IsNext t walk given
+  pub seen : seen_char view given ≡ c ∷ []
+  pub size : length (encode_utf8 given) ≡ length (encode_utf8 c)
+
+-- a byte of ASCII of which something is seen in any view: a printable one, TAB or LF
+abbrev pub is_seen_ascii : ℕ → Bool
+is_seen_ascii b = is_printable_byte b || (b == byte "\t" || b == byte "\n")
+
+-- the next n bytes of the walk's run are printable ASCII, and another byte of ASCII that is seen follows them there
 pub record IsPrintable (t : List ℕ) (walk : Walk) (n : ℕ) : Type 0 where
   pub within : walk.offset + n < walk.run_end
   pub bytes : IsTrue (list_all is_printable_byte (slice_range t walk.offset (walk.offset + n)))
-  pub next : slice_index t (walk.offset + n) < 128
+  pub next : IsTrue (is_seen_ascii (slice_index t (walk.offset + n)))
 
--- the bytes are the clusters of the plain text of t from the position n on, each by itself
+-- the bytes are what is seen from the position n on, and each is a cluster by itself
+abbrev pub AreClustersIn : View → List ℕ → ℕ → List ℕ → Type 0
+AreClustersIn view t n [] = Unit
+AreClustersIn view t n (b ∷ bs) = (seen_clusters view t n ≡ (b ∷ []) ∷ seen_clusters view t (n + 1)) × AreClustersIn view t (n + 1) bs
+
 abbrev pub AreClusters : List ℕ → ℕ → List ℕ → Type 0
-AreClusters t n [] = Unit
-AreClusters t n (b ∷ bs) = (clusters_from t n ≡ (b ∷ []) ∷ clusters_from t (n + 1)) × AreClusters t (n + 1) bs
+AreClusters t n bs = AreClustersIn Given t n bs
+
+-- What is seen before the byte `end` is the clusters that fit. Before a later character boundary more is seen.
+pub record SeesUpTo (view : View) (t : List ℕ) (width end : ℕ) : Type 0 where
+  pub fits : FitsUpTo (seen_text view t) width (seen_len view t end)
+  pub greatest : (later : ℕ) → IsCharBoundary (plain t) later → end < later → seen_len view t end < seen_len view t later

@@ -1,5 +1,5 @@
 -- The lines of a wrapped text, ready for display, and what `next` returns of the lines that a wrap has left.
-use Rattle.std.specs.Prelude.{◌≡◌, ℕ, ◌+◌, ◌≤◌, ◌==◌, ◌⊎◌, Bool, ◌&&◌, ◌||◌, List, [], ◌∷◌, ◌++◌, length, drop, Option, Some, None, Result, Ok, Err, if◌then◌else◌, IsTrue, IsFalse, ◌↔◌}
+use Rattle.std.specs.Prelude.{◌≡◌, ℕ, ◌+◌, ◌≤◌, ◌==◌, ◌⊎◌, Bool, ◌&&◌, ◌||◌, List, [], ◌∷◌, ◌++◌, map, length, drop, bytes_eq, Option, Some, None, Result, Ok, Err, if◌then◌else◌, IsTrue, IsFalse, ◌↔◌}
 use Rattle.std.specs.Cow.{cow_str_bytes, IsBorrowedStr}
 use Rattle.std.specs.Str.{IsCharBoundary}
 use Rattle.std.specs.declared.borrow.CowStr.{CowStr}
@@ -17,6 +17,7 @@ use Rattle.ansi_columns.specs.declared.walks.Walk.{Walk}
 use Rattle.ansi_columns.specs.Columns.{clusters}
 use Rattle.ansi_columns.specs.Lines.{lines}
 use Rattle.ansi_columns.specs.FirstFit.{IsFirstFit}
+use Rattle.ansi_safe.specs.Cells.{paragraph}
 use Rattle.ansi_safe.specs.Links.{link_after_all, link_end, longest_link_end}
 use Rattle.ansi_columns.specs.Walks.{IsWalk}
 
@@ -49,14 +50,21 @@ lines_over style link x ms (i ∷ is) =
     let own = if length is == 0 then ms else marks_up_to i.1 ms in
     line_over style link x own i ∷ lines_over (after_marks style own) (link_after_all link own) x (marks_past (Some i.1) ms) is
 
--- the lines of the text t wrapped at a width are those over the intervals of first fit
+-- these lines of a text; they may be borrowed only if it is the caller's, so that they are stretches of that
+abbrev pub lent_lines : Bool → List WrappedLine → List WrappedLine
+lent_lines lent ls = map (λ (l : WrappedLine). record l { borrowed = lent && l.borrowed }) ls
+
+-- the lines over these intervals of the paragraph of the text t, of which t itself lends some only if it is that paragraph
+abbrev pub paragraph_lines : List ℕ → List (ℕ × ℕ) → List WrappedLine
+paragraph_lines t is = lent_lines (bytes_eq (paragraph t) t) (lines_over plain_style [] (plain (paragraph t)) (marks (paragraph t)) is)
+
+-- the lines of the text t wrapped at a width are those over the intervals of first fit in its paragraph (`ansi_safe`, `Cells`)
 abbrev pub IsWrapped : List ℕ → ℕ → List WrappedLine → Type 0
-IsWrapped t width ls =
-    (is : List (ℕ × ℕ)) × IsFirstFit width (clusters (plain t)) is × (ls ≡ lines_over plain_style [] (plain t) (marks t) is)
+IsWrapped t width ls = (is : List (ℕ × ℕ)) × IsFirstFit width (clusters (plain (paragraph t))) is × (ls ≡ paragraph_lines t is)
 
 -- these lines; first fit has no others
 abbrev pub wrapped : List ℕ → ℕ → List WrappedLine
-wrapped t width = lines_over plain_style [] (plain t) (marks t) (lines width (plain t))
+wrapped t width = paragraph_lines t (lines width (plain (paragraph t)))
 
 -- the text is this line, and is at most as long as its source length, a start, a close and the end of a link together
 abbrev pub IsWrappedLine : {A : Type 0} → WrappedLine → CowStr A → Type 0

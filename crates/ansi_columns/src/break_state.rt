@@ -17,15 +17,15 @@ use ucd_emoji::is_extended_pictographic;
 #[derive(Clone, Copy)]
 pub(crate) struct BreakState {
     /// The value of the last character.
-    last: GraphemeClusterBreak,
+    pub(crate) last: GraphemeClusterBreak,
     /// Whether they end in a linker that joins a following consonant (GB9c).
-    is_linked: bool,
+    pub(crate) is_linked: bool,
     /// Whether they end in a pictograph and the characters that extend it.
-    is_pictograph: bool,
+    pub(crate) is_pictograph: bool,
     /// Whether they end in a pictograph, the characters that extend it, and a joiner (GB11).
-    is_joined: bool,
+    pub(crate) is_joined: bool,
     /// Whether they end in an odd number of regional indicators (GB12 and GB13).
-    is_half_flag: bool,
+    pub(crate) is_half_flag: bool,
 }
 
 impl BreakState {

@@ -1,28 +1,34 @@
 //! The calls on display width: for any text, and for `&str`.
-ghost use Rattle.std.specs.Prelude.{◌≡◌, ◌↔◌, ◌+◌, ◌≤◌, ◌⊎◌, Some, None, [], length, IsTrue};
+ghost use Rattle.std.specs.Prelude.{◌≡◌, ◌↔◌, ◌+◌, ◌*◌, ◌≤◌, ◌⊎◌, Some, None, [], length, IsTrue};
 ghost use Rattle.std.specs.Prelude.{IsFalse, IsNone, IsOk, IfOk};
 ghost use Rattle.std.specs.List.{list_all};
 ghost use Rattle.std.specs.Option.{option_map};
 ghost use Rattle.std.specs.Cow.{cow_str_bytes, IsBorrowedStr};
 ghost use Rattle.std.specs.Str.{IsCharBoundary};
-ghost use Rattle.ansi_items.specs.Plain.{plain, has_escape};
+ghost use Rattle.ansi_items.specs.Plain.{plain, has_escape, is_whole};
 ghost use Rattle.ansi_search.specs.Positions.{is_good_range};
 ghost use Rattle.ansi_style.specs.Written.{longest_close, longest_start_and_close};
 ghost use Rattle.ansi_columns.specs.Addresses.{address_at};
-ghost use Rattle.ansi_columns.specs.Columns.{columns, FitsUpTo};
-ghost use Rattle.ansi_safe.specs.Cells.{cell};
-ghost use Rattle.ansi_safe.specs.Links.{link_at, longest_link_end};
+ghost use Rattle.ansi_columns.specs.Columns.{columns, ShowsUpTo};
+ghost use Rattle.ansi_safe.specs.Cells.{cell, paragraph};
+ghost use Rattle.ansi_safe.specs.Links.{link_at, longest_link_end, IsClosed};
 ghost use Rattle.ansi_columns.specs.Shown.{truncated_ending, truncated, missing, closing, padded};
-ghost use Rattle.ansi_columns.specs.Slices.{sliced_blanks, sliced};
-ghost use Rattle.ansi_columns.specs.Tabs.{has_tab, expanded};
+ghost use Rattle.ansi_columns.specs.Fitted.{fitted};
+ghost use Rattle.ansi_columns.specs.Sides.{is_cut_at_end, truncated_at};
+ghost use Rattle.ansi_columns.specs.Slices.{is_sliced_stretch, sliced_blanks, sliced};
+ghost use Rattle.ansi_columns.specs.Screens.{screen, sliced_screen};
+ghost use Rattle.ansi_columns.specs.Tabs.{has_tab, tabs, expanded};
 ghost use Rattle.ansi_columns.specs.Wrapped.{wrapped, IsWrapped};
 
 use crate::addresses::link_at;
+use crate::fit::fit;
 use crate::fits::fitting_front;
 use crate::shown::{Alignment, pad, truncate};
+use crate::sides::{Truncation, truncate_with};
 use crate::slices::slice;
 use crate::tabs::expand_tabs;
-use crate::walks::Walk;
+use crate::views::View;
+use crate::widths;
 use crate::wrap::{AnsiWrap, wrap};
 use ansi_str::{AnsiRange, AnsiStr};
 use std::alloc::{AllocError, Global};
@@ -38,18 +44,19 @@ use std::borrow::CowStr;
 /// assert!(rt; String::from_str(rt.alloc(), "日本")?.ansi_width() == 4);
 /// ```
 pub trait AnsiColumns: AnsiStr {
-    /// The display width of the plain text, in columns: the sum over its extended grapheme
-    /// clusters.
+    /// The display width of the text, in columns: the sum over the extended grapheme clusters of
+    /// what a terminal shows.
     ///
-    /// A cluster may span sequences. A control character is a cluster of one column, except in the
-    /// cluster `\r\n`, which has one column in all. Doesn't allocate. (UAX #29; the width of a
-    /// cluster, UAX #11 as `unicode_width` reads it.)
+    /// That is the plain text of a cell, as `ansi_safe::cells::cell_of` makes it: TAB and line feed
+    /// are one blank each, and other controls and bidirectional controls have no columns. A cluster
+    /// may span sequences and such controls. Doesn't allocate. (UAX #29; the width of a cluster,
+    /// UAX #11 as `unicode_width` reads it; controls, own.)
     ///
     /// ```
-    /// assert!(rt; "e\x1b[1m\u{301}x".ansi_width() == 2);
+    /// assert!(rt; "e\x1b[1m\u{301}x\x07\t".ansi_width() == 3);
     /// ```
     final fn ansi_width(&self) -> usize
-        ensures { result ≡ columns (plain (Self.text self.now)) }
+        ensures { result ≡ columns (plain (cell (Self.text self.now))) }
     {
         width(self.as_text())
     }
@@ -57,17 +64,18 @@ pub trait AnsiColumns: AnsiStr {
     /// The end of the longest prefix of the plain text that fits into `width` columns, as a
     /// position.
     ///
-    /// The position is the greatest boundary between clusters such that the text before it has at
-    /// most `width` columns. Clusters of no columns that follow belong to the prefix. The position
-    /// counts bytes of the plain text, and is a good position, so the text can be cut and split
-    /// there. Reads at most one cluster past the prefix, the sequences after that cluster, and the
-    /// plain bytes up to the next sequence. Doesn't allocate. (Own.)
+    /// The position is the greatest boundary between clusters such that what is shown before it has
+    /// at most `width` columns, as `ansi_width` counts. Clusters of no columns that follow belong to
+    /// the prefix, and so do controls that aren't shown. The position counts bytes of the plain
+    /// text, and is a good position, so the text can be cut and split there. Reads at most one
+    /// cluster past the prefix, the sequences and controls after that cluster, and the plain bytes
+    /// up to the next sequence. Doesn't allocate. (Own.)
     ///
     /// ```
-    /// assert!(rt; "a\x1b[1m日本".ansi_fitting(4) == 4);
+    /// assert!(rt; "a\x1b[1m日\x07本".ansi_fitting(4) == 5);
     /// ```
     final fn ansi_fitting(&self, width: usize) -> usize
-        ensures fits { FitsUpTo (plain (Self.text self.now)) width result }
+        ensures fits { ShowsUpTo (Self.text self.now) width result }
         ensures boundary { IsCharBoundary (plain (Self.text self.now)) result }
         ensures good_before { IsTrue (is_good_range (plain (Self.text self.now)) 0 (Some result)) }
         ensures good_after { IsTrue (is_good_range (plain (Self.text self.now)) result None) }
@@ -149,13 +157,94 @@ pub trait AnsiColumns: AnsiStr {
         pad(alloc, self.as_text(), width, alignment)
     }
 
+    /// The text of a table's cell: truncated to `width` columns, as `ansi_truncate` does it, and then
+    /// padded to them, as `ansi_pad` does it.
+    ///
+    /// Returns a borrow, and doesn't allocate, if nothing of the text has to be changed, no tail and
+    /// no blank is needed, and nothing is open. Otherwise the result is at most as long as the text
+    /// and the tail together, plus one byte for each missing column, 14 for links and 176 for
+    /// styles. `Err` means out of memory. (Own.)
+    ///
+    /// ```
+    /// let cell = "\x1b[41mab".ansi_fit(rt.alloc(), 4, Alignment::Left, "…")?;
+    /// assert!(rt; cell.as_str() == "\x1b[41mab\x1b[49m  ");
+    /// let cell = "\x1b[41mabcdef".ansi_fit(rt.alloc(), 4, Alignment::Left, "…")?;
+    /// assert!(rt; cell.as_str() == "\x1b[41mabc\x1b[49m…");
+    /// ```
+    final fn ansi_fit(
+        &self,
+        alloc: Global,
+        width: usize,
+        alignment: Alignment,
+        tail: &str,
+    ) -> Result<CowStr<'_>, AllocError>
+        ensures bytes { IfOk result (λ c.
+            cow_str_bytes c ≡ fitted (cell (Self.text self.now)) width alignment tail.now) }
+        ensures borrowed { IfOk result (λ c. IsBorrowedStr c
+            ↔ ((cell (Self.text self.now) ≡ Self.text self.now)
+            × (truncated_ending (cell (Self.text self.now)) width tail.now ≡ [])
+            × (missing (truncated (cell (Self.text self.now)) width tail.now) width ≡ 0)
+            × (closing (truncated (cell (Self.text self.now)) width tail.now) ≡ []))) }
+        ensures len { IfOk result (λ c. length (cow_str_bytes c)
+            ≤ length (Self.text self.now) + length tail.now
+            + missing (truncated (cell (Self.text self.now)) width tail.now) width
+            + 2 * (longest_link_end + longest_close)) }
+        ensures takes_no_memory { (cell (Self.text self.now) ≡ Self.text self.now)
+            × (truncated_ending (cell (Self.text self.now)) width tail.now ≡ [])
+            × (missing (truncated (cell (Self.text self.now)) width tail.now) width ≡ 0)
+            × (closing (truncated (cell (Self.text self.now)) width tail.now) ≡ []) →
+            IsOk result }
+    {
+        fit(alloc, self.as_text(), width, alignment, tail)
+    }
+
+    /// The text truncated for display at its end, at its start or in its middle.
+    ///
+    /// At its end it is truncated as `ansi_truncate` does it, and so is a text that fits. Otherwise
+    /// its first and last columns stay, as `ansi_slice` takes them, with the tail unchanged between
+    /// them: as many as the tail leaves of the width. A tail wider than the width is left out.
+    ///
+    /// Returns a borrow, and doesn't allocate, if nothing of the text has to be changed, it isn't
+    /// cut at its start or in its middle, and nothing has to be written after the part that stays.
+    /// Otherwise the result is at most twice as long as the text, plus the length of the tail, one
+    /// byte for each column of the width, 502 for styles and 14 for links. `Err` means out of
+    /// memory. (`cli-truncate`; the text of a cell, and opening and closing, own.)
+    ///
+    /// ```
+    /// let to = Truncation::to(8).tail("…").side(Side::Middle);
+    /// let cut = "\x1b[31m/usr/local/bin\x1b[39m".ansi_truncate_with(rt.alloc(), &to)?;
+    /// assert!(rt; cut.as_str() == "\x1b[31m/usr\x1b[39m…\x1b[31mbin\x1b[39m");
+    /// ```
+    final fn ansi_truncate_with(
+        &self,
+        alloc: Global,
+        to: &Truncation<'_>,
+    ) -> Result<CowStr<'_>, AllocError>
+        ensures bytes { IfOk result (λ c. cow_str_bytes c
+            ≡ truncated_at to.now.side (cell (Self.text self.now)) to.now.width to.now.tail.now) }
+        ensures borrowed { IfOk result (λ c. IsBorrowedStr c
+            ↔ ((cell (Self.text self.now) ≡ Self.text self.now)
+            × IsTrue (is_cut_at_end to.now.side (cell (Self.text self.now)) to.now.width)
+            × (truncated_ending (cell (Self.text self.now)) to.now.width to.now.tail.now ≡ []))) }
+        ensures len { IfOk result (λ c. length (cow_str_bytes c)
+            ≤ 2 * length (Self.text self.now) + length to.now.tail.now + to.now.width
+            + 2 * (longest_start_and_close + longest_link_end)) }
+        ensures takes_no_memory { (cell (Self.text self.now) ≡ Self.text self.now)
+            × IsTrue (is_cut_at_end to.now.side (cell (Self.text self.now)) to.now.width)
+            × (truncated_ending (cell (Self.text self.now)) to.now.width to.now.tail.now ≡ []) →
+            IsOk result }
+    {
+        truncate_with(alloc, self.as_text(), to)
+    }
+
     /// The text with each TAB expanded: it becomes blanks up to the next multiple of `stop` columns
     /// from the beginning of its line.
     ///
     /// Lines end at a line feed. Sequences and controls have no columns: those before a TAB are the
-    /// columns of the text of a cell. The blanks are in the style and the link of the TAB. All else stays as it is. If `stop`
-    /// is 0, a TAB becomes nothing. Returns a borrow, and doesn't allocate, if the plain text has no
-    /// TAB. `Err` means out of memory. (`expandtabs` of Python; sequences, own.)
+    /// columns of the text of a cell. The blanks are in the style and the link of the TAB. All else
+    /// stays as it is. If `stop` is 0, a TAB becomes nothing. The result is at most as long as the
+    /// text, plus `stop` bytes for each TAB. Returns a borrow, and doesn't allocate, exactly if the
+    /// plain text has no TAB. `Err` means out of memory. (`expandtabs` of Python; sequences, own.)
     ///
     /// ```
     /// let expanded = "a\x1b[4m\tb\n日\tc".ansi_expand_tabs(rt.alloc(), 4)?;
@@ -166,6 +255,8 @@ pub trait AnsiColumns: AnsiStr {
             cow_str_bytes c ≡ expanded stop (Self.text self.now)) }
         ensures borrowed { IfOk result (λ c.
             IsBorrowedStr c ↔ IsFalse (has_tab (Self.text self.now))) }
+        ensures len { IfOk result (λ c. length (cow_str_bytes c)
+            ≤ length (Self.text self.now) + stop * tabs (Self.text self.now)) }
         ensures takes_no_memory { IsFalse (has_tab (Self.text self.now)) → IsOk result }
     {
         expand_tabs(alloc, self.as_text(), stop)
@@ -183,8 +274,9 @@ pub trait AnsiColumns: AnsiStr {
     /// after it, or to the last one. A slice without a column is empty: an end at or before the
     /// start, or a start past the last column.
     ///
-    /// The result is at most as long as the text, plus one byte for each blank, 251 for the styles
-    /// and 7 for the link. `Err` means out of memory. (Own.)
+    /// Returns a borrow, and doesn't allocate, exactly if the text is the text of a cell and nothing
+    /// is opened, closed or replaced by blanks. The result is at most as long as the text, plus one
+    /// byte for each blank, 251 for the styles and 7 for the link. `Err` means out of memory. (Own.)
     ///
     /// ```
     /// let part = "\x1b[31m日本語\x1b[39m".ansi_slice(rt.alloc(), 1..4)?;
@@ -197,15 +289,30 @@ pub trait AnsiColumns: AnsiStr {
     ) -> Result<CowStr<'_>, AllocError>
         ensures bytes { IfOk result (λ c. cow_str_bytes c
             ≡ sliced (cell (Self.text self.now)) (R.start columns) (R.end columns)) }
+        ensures borrowed { IfOk result (λ c. IsBorrowedStr c
+            ↔ ((cell (Self.text self.now) ≡ Self.text self.now) × IsTrue
+            (is_sliced_stretch (Self.text self.now) (R.start columns) (R.end columns)))) }
+        ensures whole { IfOk result (λ c. IsTrue (is_whole (cow_str_bytes c))) }
+        ensures closed { IfOk result (λ c. IsClosed (cow_str_bytes c)) }
+        ensures screen { IfOk result (λ c. screen (cow_str_bytes c) ≡ sliced_screen
+            (R.start columns) (R.end columns) (screen (cell (Self.text self.now)))) }
         ensures len { IfOk result (λ c. length (cow_str_bytes c)
             ≤ length (cell (Self.text self.now))
             + sliced_blanks (cell (Self.text self.now)) (R.start columns) (R.end columns)
             + longest_start_and_close + longest_link_end) }
+        ensures takes_no_memory { (cell (Self.text self.now) ≡ Self.text self.now) × IsTrue
+            (is_sliced_stretch (Self.text self.now) (R.start columns) (R.end columns)) →
+            IsOk result }
     {
         slice(alloc, self.as_text(), columns.start(), columns.end())
     }
 
-    /// The lines of the text wrapped at `width` columns, in order, ready for display.
+    /// The lines of the text's paragraph wrapped at `width` columns, in order, ready for display.
+    ///
+    /// In the paragraph a TAB is a blank, line ends, printing characters, select graphic renditions
+    /// and clean links stay, and all else is left out (`ansi_safe::cells::paragraph_of`). So each
+    /// line is on one line and safe. If that changes the text, the call allocates, and each line is
+    /// owned. If there is no memory for that, the first line is an `Err`.
     ///
     /// `Lines::new` says where lines begin and end. At the end of a line the link and then the
     /// style still open are closed, as at the end of a cut. They are opened again at the beginning
@@ -224,7 +331,8 @@ pub trait AnsiColumns: AnsiStr {
     final fn ansi_wrap(&self, alloc: Global, width: usize) -> AnsiWrap<'_>
         ensures first_fit { IsWrapped (Self.text self.now) width result }
         ensures lines { result ≡ wrapped (Self.text self.now) width }
-        ensures takes_no_memory { IsFalse (has_escape (Self.text self.now)) →
+        ensures takes_no_memory { paragraph (Self.text self.now) ≡ Self.text self.now →
+            IsFalse (has_escape (Self.text self.now)) →
             IsTrue (list_all (λ l. l.borrowed) result) }
     {
         wrap(alloc, self.as_text(), width)
@@ -256,27 +364,17 @@ impl<T: AnsiStr> AnsiColumns for T {}
 
 /// Like [`AnsiColumns::ansi_width`].
 pub fn width(text: &str) -> usize
-    ensures { result ≡ columns (plain text.now) }
+    ensures { result ≡ columns (plain (cell text.now)) }
 {
-    let mut walk = Walk::start(text);
-    let mut total = 0;
-    'clusters: loop {
-        let len = walk.printable_ahead(text, usize::MAX);
-        walk = walk.past_printable(text, len);
-        let Some((next, columns)) = walk.next_cluster(text) else {
-            return total + len;
-        };
-        total += len + columns;
-        walk = next;
-    }
+    widths::width(text, View::Shown)
 }
 
 /// Like [`AnsiColumns::ansi_fitting`].
 pub fn fitting(text: &str, width: usize) -> usize
-    ensures fits { FitsUpTo (plain text.now) width result }
+    ensures fits { ShowsUpTo text.now width result }
     ensures boundary { IsCharBoundary (plain text.now) result }
     ensures good_before { IsTrue (is_good_range (plain text.now) 0 (Some result)) }
     ensures good_after { IsTrue (is_good_range (plain text.now) result None) }
 {
-    fitting_front(text, width).walk.position
+    fitting_front(text, width, View::Shown).walk.position
 }

@@ -1,9 +1,10 @@
 //! The longest prefix of a text that fits into a width.
 ghost use Rattle.std.specs.Prelude.{◌≡◌, nat_le};
-ghost use Rattle.ansi_items.specs.Plain.{plain};
-ghost use Rattle.ansi_columns.specs.Columns.{columns, FitsUpTo};
-ghost use Rattle.ansi_columns.specs.Walks.{IsWalk};
+ghost use Rattle.ansi_columns.specs.Columns.{columns};
+ghost use Rattle.ansi_columns.specs.Views.{seen_text};
+ghost use Rattle.ansi_columns.specs.Walks.{IsWalkIn, SeesUpTo};
 
+use crate::views::View;
 use crate::walks::Walk;
 
 /// The longest prefix of a text that fits.
@@ -15,11 +16,12 @@ pub(crate) struct Front {
     pub(crate) is_all: bool,
 }
 
-/// The longest prefix of a text that fits into `width` columns.
-pub(crate) fn fitting_front(text: &str, width: usize) -> Front
-    ensures walk { IsWalk text.now result.walk }
-    ensures fits { FitsUpTo (plain text.now) width result.walk.position }
-    ensures all { result.is_all ≡ nat_le (columns (plain text.now)) width }
+/// The longest prefix of a text that fits into `width` columns. Characters that aren't seen and
+/// follow it belong to it.
+pub(crate) fn fitting_front(text: &str, width: usize, view: View) -> Front
+    ensures walk { IsWalkIn view text.now result.walk }
+    ensures fits { SeesUpTo view text.now width result.walk.position }
+    ensures all { result.is_all ≡ nat_le (columns (seen_text view text.now)) width }
 {
     let mut walk = Walk::start(text);
     let mut left = width;
@@ -27,12 +29,15 @@ pub(crate) fn fitting_front(text: &str, width: usize) -> Front
         let len = walk.printable_ahead(text, left);
         walk = walk.past_printable(text, len);
         left -= len;
-        let Some((next, columns)) = walk.next_cluster(text) else {
-            return Front { walk, is_all: true };
+        let Some((next, columns)) = walk.next_cluster(text, view) else {
+            return Front {
+                walk: walk.next_seen(text, view).0,
+                is_all: true,
+            };
         };
         if left < columns {
             return Front {
-                walk,
+                walk: walk.next_seen(text, view).0,
                 is_all: false,
             };
         }

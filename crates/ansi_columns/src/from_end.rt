@@ -6,36 +6,52 @@ ghost use Rattle.ansi_items.specs.Pieces.{Piece, pieces_of, spelling};
 ghost use Rattle.ansi_items.specs.Plain.{plain};
 ghost use Rattle.ansi_columns.specs.Columns.{cluster_width};
 ghost use Rattle.ansi_columns.specs.Reverse.{IsLastMark};
+ghost use Rattle.ansi_columns.specs.Views.{seen};
 
+use crate::views::View;
 use crate::walks::first_run;
 use ansi_items::ESC;
 use ansi_items::ansitok::Scanner;
 use memchr::memrchr;
 use unicode_width::char_iter_width;
 
-/// The columns of the plain text, taken as one cluster.
+/// The columns of what is seen of the plain text, taken as one cluster.
 ///
 /// Takes time linear in the length of the text, and doesn't allocate.
-pub(crate) fn width(text: &str) -> usize
-    ensures value { result ≡ cluster_width (chars (plain text.now)) }
+pub(crate) fn width(text: &str, view: View) -> usize
+    ensures value { result ≡ cluster_width (seen view (chars (plain text.now))) }
     ensures bound { result ≤ 2 * length (plain text.now) }
 {
-    char_iter_width(PlainChars {
+    char_iter_width(SeenChars {
         rest: text,
         run: "",
+        view,
     })
 }
 
-/// The characters of a plain text, from either end.
+/// The columns of what is seen of a run, taken as one cluster.
+pub(crate) fn run_width(run: &str, view: View) -> usize
+    ensures value { result ≡ cluster_width (seen view (chars run.now)) }
+    ensures bound { result ≤ 2 * length run.now }
+{
+    char_iter_width(SeenChars {
+        rest: "",
+        run,
+        view,
+    })
+}
+
+/// The characters that are seen of a plain text, from either end.
 #[derive(Drop)]
-struct PlainChars<'t> {
+struct SeenChars<'t> {
     /// The text before the run that isn't read yet.
     rest: &'t str,
     /// The run at the end that isn't read yet.
     run: &'t str,
+    view: View,
 }
 
-impl<'t> Iterator for PlainChars<'t> {
+impl<'t> Iterator for SeenChars<'t> {
     ghost use Rattle.std.specs.Prelude.{◌+◌, length};
     ghost use Rattle.std.specs.Iterator.{at_most};
 
@@ -44,39 +60,83 @@ impl<'t> Iterator for PlainChars<'t> {
     ghost remaining = { λ s. at_most (length s.rest.now + length s.run.now) };
 
     fn next(&mut self) -> Option<char> {
-        if let Some((first, rest)) = split_first_char(self.rest) {
-            self.rest = rest;
-            return Some(first);
-        }
-        self.rest = "";
-        let (first, run) = split_first_char(self.run)?;
+        let (first, rest, run) = split_first_seen(self.rest, self.run, self.view)?;
+        self.rest = rest;
         self.run = run;
         Some(first)
     }
 }
 
-impl<'t> DoubleEndedIterator for PlainChars<'t> {
+impl<'t> DoubleEndedIterator for SeenChars<'t> {
     ghost use Rattle.std.specs.Prelude.{◌++◌, chars};
     ghost use Rattle.std.specs.Iterator.{YieldsLast};
     ghost use Rattle.ansi_items.specs.Plain.{plain};
+    ghost use Rattle.ansi_columns.specs.Views.{seen};
 
-    ghost next_back_gives = { YieldsLast (λ s. chars (plain s.rest.now ++ s.run.now)) };
+    ghost next_back_gives = { YieldsLast (λ s.
+        seen s.view (chars (plain s.rest.now ++ s.run.now))) };
 
     fn next_back(&mut self) -> Option<char> {
-        let (last, rest, run) = split_last_char(self.rest, self.run)?;
+        let (last, rest, run) = split_last_seen(self.rest, self.run, self.view)?;
         self.rest = rest;
         self.run = run;
         Some(last)
     }
 }
 
-/// The first plain character of a text, and the text after it.
-fn split_first_char(text: &str) -> Option<(char, &str)>
-    ensures { IfSome result (λ (first, rest). length rest.now < length text.now) }
+/// The first character that is seen of the plain text of `text` and of the run `end` after it, and
+/// the remainder of both.
+fn split_first_seen<'t>(text: &'t str, end: &'t str, view: View) -> Option<(char, &'t str, &'t str)>
+    ensures shorter { IfSome result (λ (first, rest, run).
+        length rest.now + length run.now < length text.entry.now + length end.entry.now) }
 {
-    let (start, end) = first_run(text);
-    let first = text[start..end].chars().next()?;
-    Some((first, &text[start + first.len_utf8()..]))
+    let mut rest = text;
+    let mut run = end;
+    'left_out: while let Some((first, after, left)) = split_first_char(rest, run) {
+        rest = after;
+        run = left;
+        if let Some(seen) = view.see(first) {
+            return Some((seen, rest, run));
+        }
+    }
+    None
+}
+
+/// The last character that is seen of the plain text of `text` and of the run `end` after it, and
+/// the remainder of both.
+fn split_last_seen<'t>(text: &'t str, end: &'t str, view: View) -> Option<(char, &'t str, &'t str)>
+    ensures chars { MatchOption result
+        (seen view (chars (plain text.entry.now ++ end.entry.now)) ≡ [])
+        (λ (last, rest, run). seen view (chars (plain text.entry.now ++ end.entry.now))
+        ≡ seen view (chars (plain rest.now ++ run.now)) ++ last ∷ []) }
+    ensures shorter { IfSome result (λ (last, rest, run).
+        length rest.now + length run.now < length text.entry.now + length end.entry.now) }
+{
+    let mut rest = text;
+    let mut run = end;
+    'left_out: while let Some((last, before, front)) = split_last_char(rest, run) {
+        rest = before;
+        run = front;
+        if let Some(seen) = view.see(last) {
+            return Some((seen, rest, run));
+        }
+    }
+    None
+}
+
+/// The first character of the plain text of `text` and of the run `end` after it, and the remainder
+/// of both.
+fn split_first_char<'t>(text: &'t str, end: &'t str) -> Option<(char, &'t str, &'t str)>
+    ensures { IfSome result (λ (first, rest, run).
+        length rest.now + length run.now < length text.entry.now + length end.entry.now) }
+{
+    let (start, run_end) = first_run(text);
+    if let Some(first) = text[start..run_end].chars().next() {
+        return Some((first, &text[start + first.len_utf8()..], end));
+    }
+    let mut chars = end.chars();
+    let first = chars.next()?;
+    Some((first, "", chars.as_str()))
 }
 
 /// The last plain character of a text and the run after it, and the remainder of both.

@@ -3,24 +3,28 @@
 //! Each function states one law as its contract. It does nothing and returns nothing. A body that
 //! needs the law calls it. (Own.)
 ghost use Rattle.std.specs.Prelude.{◌≡◌, ◌<◌, ◌≤◌, ◌+◌, ◌-◌, ◌++◌, ℕ, min, max, List, [], length};
-ghost use Rattle.std.specs.Prelude.{map, take, slice_range};
+ghost use Rattle.std.specs.Prelude.{map, take, drop, replicate, slice_range};
 ghost use Rattle.std.specs.Prelude.{if◌then◌else◌, IsTrue, All};
 ghost use Rattle.std.specs.List.{list_all};
 ghost use Rattle.std.specs.Int.{is_in_range};
-ghost use Rattle.std.specs.Str.{IsUtf8};
+ghost use Rattle.std.specs.Str.{IsUtf8, IsCharBoundary};
 ghost use Rattle.ansi_items.specs.Plain.{plain, marks, is_whole};
 ghost use Rattle.ansi_style.specs.Rendition.{plain_style};
 ghost use Rattle.ansi_style.specs.Styled.{styled, residue};
 ghost use Rattle.ansi_columns.specs.declared.shown.Alignment.{Alignment};
+ghost use Rattle.ansi_columns.specs.declared.sides.Side.{Side};
 ghost use Rattle.ansi_columns.specs.Addresses.{linked, without_link};
 ghost use Rattle.ansi_columns.specs.Columns.{clusters, columns, FitsUpTo, IsClusterBoundary};
+ghost use Rattle.ansi_columns.specs.Columns.{shown, ShowsUpTo};
 ghost use Rattle.ansi_columns.specs.FirstFit.{IsFirstFit};
+ghost use Rattle.ansi_columns.specs.Fitted.{fitted};
 ghost use Rattle.ansi_columns.specs.Lines.{lines, AreLinesFrom, BeginWithBlanks, reassembled};
-ghost use Rattle.ansi_safe.specs.Cells.{cell};
+ghost use Rattle.ansi_safe.specs.Cells.{cell, paragraph};
 ghost use Rattle.ansi_safe.specs.Links.{link_of, IsClosed};
 ghost use Rattle.ansi_columns.specs.Shown.{has_tail, truncated_end, truncated, missing};
 ghost use Rattle.ansi_columns.specs.Shown.{before_text, blanks, padded, without_style};
-ghost use Rattle.ansi_columns.specs.Screens.{screen, screen_slice, EndsAtBlanks};
+ghost use Rattle.ansi_columns.specs.Screens.{screen, screen_slice, plain_blank};
+ghost use Rattle.ansi_columns.specs.Sides.{truncated_at};
 ghost use Rattle.ansi_columns.specs.Slices.{sliced_up_to};
 ghost use Rattle.ansi_columns.specs.Wrapped.{wrapped};
 
@@ -30,12 +34,21 @@ pub fn printable_is_as_wide_as_long()
 {}
 
 /// The longest prefix that fits has at most `width` columns. Every longer prefix that ends between
-/// two clusters has more.
+/// two clusters has more. So has what is shown of a prefix, and of a longer one. What is shown of a
+/// text is that of a prefix and then that of the rest.
 pub fn what_fits_is_the_longest()
     ensures within { (x : List ℕ) (width end : ℕ) → IsUtf8 x → FitsUpTo x width end →
         columns (take end x) ≤ width }
     ensures greatest { (x : List ℕ) (width end later : ℕ) → IsUtf8 x → FitsUpTo x width end →
         IsClusterBoundary x later → end < later → width < columns (take later x) }
+    ensures shown_within { (t : List ℕ) (width end : ℕ) → IsUtf8 t → IsCharBoundary (plain t) end →
+        ShowsUpTo t width end → columns (shown (take end (plain t))) ≤ width }
+    ensures shown_greatest { (t : List ℕ) (width end later : ℕ) → IsUtf8 t →
+        IsCharBoundary (plain t) later → ShowsUpTo t width end → end < later →
+        IsClusterBoundary (plain (cell t)) (length (shown (take later (plain t)))) →
+        width < columns (shown (take later (plain t))) }
+    ensures shown_front { (t : List ℕ) (end : ℕ) → IsUtf8 t → IsCharBoundary (plain t) end →
+        plain (cell t) ≡ shown (take end (plain t)) ++ shown (drop end (plain t)) }
 {}
 
 /// If a cluster of a concatenation ends where its first text ends, the clusters of the whole are
@@ -107,30 +120,77 @@ pub fn padded_fills()
         ≡ max (columns (plain (cell t))) width }
 {}
 
-/// Each line of a wrapped whole text is whole, and leaves no known style open.
-pub fn wrapped_lines_are_whole()
-    ensures whole { (t : List ℕ) (width : ℕ) → IsTrue (is_whole t) →
-        All (λ l. IsTrue (is_whole l.bytes)) (wrapped t width) }
-    ensures closed { (t : List ℕ) (width : ℕ) → IsTrue (is_whole t) →
-        All (λ l. residue l.bytes ≡ plain_style) (wrapped t width) }
+/// A fitted text has exactly `width` columns, provided that the cell and the tail are printable
+/// ASCII, or that a cluster ends before the tail and on both sides of the text between the blanks.
+pub fn fitted_is_as_wide()
+    ensures columns { (t : List ℕ) (width : ℕ) (alignment : Alignment) (tail : List ℕ) →
+        IsUtf8 t → IsTrue (list_all (is_in_range 0x20 0x7E) (plain (cell t))) →
+        IsTrue (list_all (is_in_range 0x20 0x7E) (plain tail)) → IsTrue (is_whole tail) →
+        columns (plain (fitted (cell t) width alignment tail)) ≡ width }
+    ensures fills { (t : List ℕ) (width : ℕ) (alignment : Alignment) (tail : List ℕ) →
+        IsUtf8 t → IsUtf8 tail → IsTrue (is_whole tail) →
+        IsClusterBoundary (plain (truncated (cell t) width tail))
+        (truncated_end (cell t) width tail) →
+        IsClusterBoundary (plain (fitted (cell t) width alignment tail))
+        (before_text alignment (missing (truncated (cell t) width tail) width)) →
+        IsClusterBoundary (plain (fitted (cell t) width alignment tail))
+        (before_text alignment (missing (truncated (cell t) width tail) width)
+        + length (plain (truncated (cell t) width tail))) →
+        columns (plain (fitted (cell t) width alignment tail)) ≡ width }
 {}
 
-/// The styled bytes of each line of a wrapped whole text are the slice of the text's styled bytes
-/// over the interval of the line.
-pub fn wrapped_lines_keep_styles()
-    ensures { (t : List ℕ) (width : ℕ) → IsTrue (is_whole t) →
-        map (λ l. styled l.bytes) (wrapped t width)
-        ≡ map (λ (i : ℕ × ℕ). slice_range (styled t) i.0 i.1) (lines width (plain t)) }
+/// A text truncated at a side has at most `width` columns, if its cell and the tail are printable
+/// ASCII.
+pub fn truncated_at_fits()
+    ensures { (side : Side) (t : List ℕ) (width : ℕ) (tail : List ℕ) → IsUtf8 t →
+        IsTrue (list_all (is_in_range 0x20 0x7E) (plain (cell t))) →
+        IsTrue (list_all (is_in_range 0x20 0x7E) (plain tail)) → IsTrue (is_whole tail) →
+        columns (plain (truncated_at side (cell t) width tail)) ≤ width }
 {}
+
+/// Each line of a wrapped text is whole, whatever the text is, and leaves no known style open.
+pub fn wrapped_lines_are_whole()
+    ensures whole { (t : List ℕ) (width : ℕ) → IsUtf8 t →
+        All (λ l. IsTrue (is_whole l.bytes)) (wrapped t width) }
+    ensures closed { (t : List ℕ) (width : ℕ) → IsUtf8 t →
+        All (λ l. residue l.bytes ≡ plain_style) (wrapped t width) }
+{
+    ansi_safe::laws::cells_are_safe();
+}
+
+/// The styled bytes of each line of a wrapped text are the slice of the styled bytes of the text's
+/// paragraph over the interval of the line.
+pub fn wrapped_lines_keep_styles()
+    ensures { (t : List ℕ) (width : ℕ) → IsUtf8 t →
+        map (λ l. styled l.bytes) (wrapped t width)
+        ≡ map (λ (i : ℕ × ℕ). slice_range (styled (paragraph t)) i.0 i.1)
+        (lines width (plain (paragraph t))) }
+{
+    ansi_safe::laws::cells_are_safe();
+}
 
 /// The same holds of its linked bytes, and no link is open at its end.
 pub fn wrapped_lines_keep_links()
-    ensures linked { (t : List ℕ) (width : ℕ) → IsTrue (is_whole t) →
+    ensures linked { (t : List ℕ) (width : ℕ) → IsUtf8 t →
         map (λ l. linked l.bytes) (wrapped t width)
-        ≡ map (λ (i : ℕ × ℕ). slice_range (linked t) i.0 i.1) (lines width (plain t)) }
-    ensures left_open { (t : List ℕ) (width : ℕ) → IsTrue (is_whole t) →
+        ≡ map (λ (i : ℕ × ℕ). slice_range (linked (paragraph t)) i.0 i.1)
+        (lines width (plain (paragraph t))) }
+    ensures left_open { (t : List ℕ) (width : ℕ) → IsUtf8 t →
         All (λ l. link_of (marks l.bytes) ≡ []) (wrapped t width) }
-{}
+{
+    ansi_safe::laws::cells_are_safe();
+}
+
+/// Each line of a wrapped text shows the columns of the text's paragraph over the interval of the
+/// line.
+pub fn wrapped_lines_show_their_columns()
+    ensures { (t : List ℕ) (width : ℕ) → IsUtf8 t → map (λ l. screen l.bytes) (wrapped t width)
+        ≡ map (λ (i : ℕ × ℕ). slice_range (screen (paragraph t))
+        (columns (take i.0 (plain (paragraph t)))) (columns (take i.1 (plain (paragraph t)))))
+        (lines width (plain (paragraph t))) }
+{
+    ansi_safe::laws::cells_are_safe();
+}
 
 /// A truncated text keeps its styles: its styled bytes are those of the cell up to the cut, and then
 /// those of the tail if it is written. No known style of the cell is open at its end.
@@ -180,6 +240,35 @@ pub fn padded_ends_links()
         link_of (marks (padded (cell t) width alignment)) ≡ [] }
 {}
 
+/// A text has a column for each of its columns.
+pub fn screens_are_as_wide()
+    ensures { (t : List ℕ) → length (screen t) ≡ columns (plain t) }
+{}
+
+/// A truncated text shows the columns of the prefix of the cell that fits, and then the tail's, if a
+/// cluster ends before the tail.
+pub fn truncated_shows_its_prefix()
+    ensures { (t : List ℕ) (width : ℕ) (tail : List ℕ) → IsUtf8 t → IsUtf8 tail →
+        IsTrue (is_whole tail) → IsClusterBoundary (plain (truncated (cell t) width tail))
+        (truncated_end (cell t) width tail) → screen (truncated (cell t) width tail)
+        ≡ take (columns (take (truncated_end (cell t) width tail) (plain (cell t))))
+        (screen (cell t)) ++ (if has_tail (cell t) width tail then screen tail else []) }
+{}
+
+/// A padded text shows blanks, the columns of the cell and blanks, if a cluster ends on both sides of
+/// the cell.
+pub fn padded_shows_its_columns()
+    ensures { (t : List ℕ) (width : ℕ) (alignment : Alignment) → IsUtf8 t →
+        IsClusterBoundary (plain (padded (cell t) width alignment))
+        (before_text alignment (missing (cell t) width)) →
+        IsClusterBoundary (plain (padded (cell t) width alignment))
+        (before_text alignment (missing (cell t) width) + length (plain (cell t))) →
+        screen (padded (cell t) width alignment)
+        ≡ replicate (before_text alignment (missing (cell t) width)) plain_blank
+        ++ screen (cell t) ++ replicate (missing (cell t) width
+        - before_text alignment (missing (cell t) width)) plain_blank }
+{}
+
 /// A slice of a whole text is whole, and leaves no known style and no link open.
 pub fn slices_are_closed()
     ensures whole { (t : List ℕ) (start end : ℕ) → IsUtf8 t → IsTrue (is_whole t) →
@@ -188,10 +277,8 @@ pub fn slices_are_closed()
         IsClosed (sliced_up_to t start end) }
 {}
 
-/// The screen of a slice of a whole text is the slice of its screen, if a cluster ends where blanks
-/// touch the text between them.
+/// The screen of a slice of a whole text is the slice of its screen.
 pub fn slices_show_their_columns()
     ensures { (t : List ℕ) (start end : ℕ) → IsUtf8 t → IsTrue (is_whole t) →
-        EndsAtBlanks (plain t) start end →
         screen (sliced_up_to t start end) ≡ screen_slice start end (screen t) }
 {}

@@ -10,15 +10,21 @@
 pub mod addresses;
 mod break_state;
 pub mod columns;
+pub mod fit;
 mod fits;
 mod from_end;
 pub mod laws;
+pub mod line_walks;
 pub mod lines;
 pub mod shown;
+pub mod sides;
 pub mod slices;
 pub mod tabs;
+mod views;
 mod walks;
+mod widths;
 pub mod wrap;
 
 pub use columns::AnsiColumns;
 pub use shown::Alignment;
+pub use sides::{Side, Truncation};

@@ -9,6 +9,7 @@ ghost use Rattle.ansi_columns.specs.FirstFit.{IsFirstFit};
 ghost use Rattle.ansi_columns.specs.Walks.{IsWalk, IsPrintable, cluster};
 ghost use Rattle.ansi_columns.specs.Words.{end_after, words_after};
 
+use crate::views::View;
 use crate::walks::Walk;
 use memchr::memrchr;
 use std::marker::Model;
@@ -53,7 +54,10 @@ impl<'t> Lines<'t> {
     /// - Width 0 is treated as 1.
     ///
     /// Positions count bytes of the plain text. They are good positions, so each line can be cut
-    /// from the text. Doesn't allocate. (First fit, `specs/FirstFit.antt`; own.)
+    /// from the text. The plain text is taken as it is: a TAB and any other control have one
+    /// column. The lines are those of `AnsiColumns::ansi_wrap` if the text is its own paragraph
+    /// (`ansi_safe::cells::paragraph_of`). Doesn't allocate. (First fit, `specs/FirstFit.antt`;
+    /// own.)
     ///
     /// ```
     /// let mut lines = Lines::new("ab \x1b[1mcd  efg", 5);
@@ -119,7 +123,7 @@ pub(crate) fn first_line(text: &str, start: Walk, width: usize) -> (Walk, Walk, 
         (end_before, word, end) = words_after(text, here, len, end_before, word, end);
         here = here.past_printable(text, len);
         columns += len;
-        let Some((next, more)) = here.next_cluster(text) else {
+        let Some((next, more)) = here.next_cluster(text, View::Given) else {
             return (start, end, None);
         };
         if is_line_end(text, &here, &next) {

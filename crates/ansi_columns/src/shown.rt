@@ -12,8 +12,9 @@ ghost use Rattle.ansi_safe.specs.Links.{longest_link_end};
 ghost use Rattle.ansi_columns.specs.Shown.{has_tail, truncated_end, truncated_ending, truncated};
 ghost use Rattle.ansi_columns.specs.Shown.{missing, before_text, blanks, closing, padded};
 
-use crate::columns;
 use crate::fits::fitting_front;
+use crate::views::View;
+use crate::widths;
 use ansi_safe::cells::cell_of;
 use ansi_safe::links::{Ending, LONGEST_ENDING, pen_after};
 use std::alloc::{AllocError, Allocator};
@@ -56,7 +57,24 @@ pub fn truncate<'t, A: Allocator + Copy>(
     ensures takes_no_memory { (cell text.now ≡ text.now)
         × (truncated_ending (cell text.now) width tail.now ≡ []) → IsOk result }
 {
-    let cell = cell_of(alloc, text)?;
+    truncate_cell(alloc, cell_of(alloc, text)?, width, tail)
+}
+
+/// The text of a cell, truncated.
+pub(crate) fn truncate_cell<'t, A: Allocator>(
+    alloc: A,
+    cell: CowStr<'t, A>,
+    width: usize,
+    tail: &str,
+) -> Result<CowStr<'t, A>, AllocError>
+    ensures bytes { IfOk result (λ c.
+        cow_str_bytes c ≡ truncated (cow_str_bytes cell.entry) width tail.now) }
+    ensures borrowed { IfOk result (λ c. IsBorrowedStr c ↔ (IsBorrowedStr cell.entry
+        × (truncated_ending (cow_str_bytes cell.entry) width tail.now ≡ []))) }
+    ensures len { IfOk result (λ c. length (cow_str_bytes c) ≤ length (cow_str_bytes cell.entry)
+        + length tail.now + longest_link_end + longest_close) }
+    ensures takes_no_memory { truncated_ending (cow_str_bytes cell.entry) width tail.now ≡ [] → IsOk result }
+{
     let (end, tail) = truncation(cell.as_str(), width, tail);
     let front = up_to(cell, end);
     let ending = pen_after(front.as_str()).ending();
@@ -75,15 +93,16 @@ fn truncation<'a>(text: &str, width: usize, tail: &'a str) -> (usize, &'a str)
     ensures tail { result.1.now
         ≡ (if has_tail text.now width tail.entry.now then tail.entry.now else []) }
 {
-    let whole = fitting_front(text, width);
+    let whole = fitting_front(text, width, View::Given);
     if whole.is_all {
         return (whole.walk.offset, "");
     }
-    let tail_width = columns::width(tail);
+    let tail_width = widths::width(tail, View::Given);
     if width < tail_width {
         return (whole.walk.offset, "");
     }
-    (fitting_front(text, width - tail_width).walk.offset, tail)
+    let front = fitting_front(text, width - tail_width, View::Given);
+    (front.walk.offset, tail)
 }
 
 /// Whether an ending and `more` bytes are no byte.
@@ -155,8 +174,27 @@ pub fn pad<'t, A: Allocator + Copy>(
     ensures takes_no_memory { (cell text.now ≡ text.now)
         × (missing (cell text.now) width ≡ 0) × (closing (cell text.now) ≡ []) → IsOk result }
 {
-    let cell = cell_of(alloc, text)?;
-    let missing = width.saturating_sub(columns::width(cell.as_str()));
+    pad_cell(alloc, cell_of(alloc, text)?, width, alignment)
+}
+
+/// The text of a cell, padded.
+pub(crate) fn pad_cell<'t, A: Allocator>(
+    alloc: A,
+    cell: CowStr<'t, A>,
+    width: usize,
+    alignment: Alignment,
+) -> Result<CowStr<'t, A>, AllocError>
+    ensures bytes { IfOk result (λ c.
+        cow_str_bytes c ≡ padded (cow_str_bytes cell.entry) width alignment) }
+    ensures borrowed { IfOk result (λ c. IsBorrowedStr c ↔ (IsBorrowedStr cell.entry
+        × (missing (cow_str_bytes cell.entry) width ≡ 0)
+        × (closing (cow_str_bytes cell.entry) ≡ []))) }
+    ensures len { IfOk result (λ c. length (cow_str_bytes c) ≤ length (cow_str_bytes cell.entry)
+        + missing (cow_str_bytes cell.entry) width + longest_link_end + longest_close) }
+    ensures takes_no_memory { (missing (cow_str_bytes cell.entry) width ≡ 0)
+        × (closing (cow_str_bytes cell.entry) ≡ []) → IsOk result }
+{
+    let missing = width.saturating_sub(widths::width(cell.as_str(), View::Given));
     let ending = pen_after(cell.as_str()).ending();
     if is_nothing(&ending, missing) {
         return Ok(cell);
@@ -185,10 +223,11 @@ impl Alignment {
     }
 }
 
-/// Appends `count` blanks. `Err` means out of memory; what was appended before the error stays.
+/// Appends `count` blanks. If there is no room for all of them, it appends none and returns `Err`.
 pub(crate) fn push_blanks<A: Allocator>(out: &mut String<A>, count: usize) -> Result<(), AllocError>
     ensures { OnOk result (string_bytes out.new ≡ string_bytes out.old ++ blanks count) }
 {
+    out.reserve(count)?;
     for _ in 0..count {
         out.push(' ')?;
     }

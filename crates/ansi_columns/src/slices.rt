@@ -1,18 +1,22 @@
 //! Slices of a text by columns, ready for display. A slice opens the style and the link that are
 //! open where it begins, and closes what is open where it ends.
-ghost use Rattle.std.specs.Prelude.{◌≡◌, ◌≤◌, ◌↔◌, ◌+◌, ◌==◌, [], length, nat_lt};
-ghost use Rattle.std.specs.Prelude.{if◌then◌else◌, IsTrue, IsOk, IfOk, MatchOption};
+ghost use Rattle.std.specs.Prelude.{◌≡◌, ◌≤◌, ◌↔◌, ◌+◌, ◌==◌, ◌++◌, [], length, nat_lt};
+ghost use Rattle.std.specs.Prelude.{if◌then◌else◌, IsTrue, IsOk, IfOk, MatchOption, OnOk};
+ghost use Rattle.std.specs.Prelude.{string_bytes};
 ghost use Rattle.std.specs.Cow.{cow_str_bytes, IsBorrowedStr};
-ghost use Rattle.ansi_items.specs.Plain.{plain};
+ghost use Rattle.ansi_items.specs.Plain.{plain, is_whole};
 ghost use Rattle.ansi_style.specs.Written.{longest_start_and_close};
 ghost use Rattle.ansi_safe.specs.Cells.{cell};
-ghost use Rattle.ansi_safe.specs.Links.{longest_link_end};
+ghost use Rattle.ansi_safe.specs.Links.{longest_link_end, IsClosed};
 ghost use Rattle.ansi_columns.specs.Columns.{columns_of};
 ghost use Rattle.ansi_columns.specs.Slices.{has_no_column, is_stretch, slice_blanks};
-ghost use Rattle.ansi_columns.specs.Slices.{sliced_blanks, sliced_up_to, sliced, AreParts, IsEdge, closed_at};
+ghost use Rattle.ansi_columns.specs.Slices.{is_sliced_stretch, sliced_blanks, sliced_up_to, sliced};
+ghost use Rattle.ansi_columns.specs.Slices.{AreParts, IsEdge, closed_at};
+ghost use Rattle.ansi_columns.specs.Screens.{screen, sliced_screen};
 ghost use Rattle.ansi_columns.specs.Walks.{IsWalk, clusters_from};
 
 use crate::shown::push_blanks;
+use crate::views::View;
 use crate::walks::Walk;
 use ansi_safe::cells::cell_of;
 use ansi_safe::links::{Pen, pen_after, pen_after_from};
@@ -22,7 +26,7 @@ use std::alloc::{AllocError, Allocator};
 use std::borrow::CowStr;
 
 /// Like `AnsiColumns::ansi_slice`, from the column `start` up to `end`, or to the last one if `end`
-/// is `None`, with any allocator.
+/// is `None`, with any allocator. The result may borrow from the text and lives as long as it.
 ///
 /// ```
 /// let part = slice(rt.alloc(), "\x1b[31m日本語\x1b[39m", 1, Some(4))?;
@@ -35,12 +39,25 @@ pub fn slice<'t, A: Allocator + Copy>(
     end: Option<usize>,
 ) -> Result<CowStr<'t, A>, AllocError>
     ensures bytes { IfOk result (λ c. cow_str_bytes c ≡ sliced (cell text.now) start end) }
+    ensures borrowed { IfOk result (λ c. IsBorrowedStr c ↔ ((cell text.now ≡ text.now)
+        × IsTrue (is_sliced_stretch text.now start end))) }
+    ensures whole { IfOk result (λ c. IsTrue (is_whole (cow_str_bytes c))) }
+    ensures closed { IfOk result (λ c. IsClosed (cow_str_bytes c)) }
+    ensures screen { IfOk result (λ c.
+        screen (cow_str_bytes c) ≡ sliced_screen start end (screen (cell text.now))) }
     ensures len { IfOk result (λ c. length (cow_str_bytes c) ≤ length (cell text.now)
         + sliced_blanks (cell text.now) start end + longest_start_and_close + longest_link_end) }
+    ensures takes_no_memory { (cell text.now ≡ text.now)
+        × IsTrue (is_sliced_stretch text.now start end) → IsOk result }
 {
-    let cell = cell_of(alloc, text)?;
-    let slice = slice_up_to(alloc, cell.as_str(), start, end.unwrap_or(usize::MAX))?;
-    Ok(CowStr::Owned(slice.into_owned(alloc)?))
+    let end = end.unwrap_or(usize::MAX);
+    match cell_of(alloc, text)? {
+        CowStr::Borrowed(cell) => slice_up_to(alloc, cell, start, end),
+        CowStr::Owned(cell) => {
+            let slice = slice_up_to(alloc, cell.as_str(), start, end)?;
+            Ok(CowStr::Owned(slice.into_owned(alloc)?))
+        }
+    }
 }
 
 /// The columns of a text as it is, from `start` up to `end`. It is a borrow if nothing is written
@@ -61,6 +78,25 @@ fn slice_up_to<'t, A: Allocator>(
     match parts_of(text, start, end) {
         Some(parts) => parts.write(alloc),
         None => Ok(CowStr::Borrowed("")),
+    }
+}
+
+/// Appends the columns of a text as it is, from `start` up to `end`.
+pub(crate) fn push_slice<A: Allocator>(
+    out: &mut String<A>,
+    text: &str,
+    start: usize,
+    end: usize,
+) -> Result<(), AllocError>
+    ensures bytes { OnOk result
+        (string_bytes out.new ≡ string_bytes out.old ++ sliced_up_to text.now start end) }
+    ensures len { OnOk result (length (string_bytes out.new) ≤ length (string_bytes out.old)
+        + (length text.now + slice_blanks (plain text.now) start end
+        + longest_start_and_close + longest_link_end)) }
+{
+    match parts_of(text, start, end) {
+        Some(parts) => parts.push_to(out),
+        None => Ok(()),
     }
 }
 
@@ -152,7 +188,7 @@ fn edge_after(text: &str, from: Walk, columns: usize) -> Edge
     let mut walk = from;
     let mut left = columns;
     'clusters: while left > 0 {
-        let Some((next, width)) = walk.next_cluster(text) else {
+        let Some((next, width)) = walk.next_cluster(text, View::Given) else {
             break;
         };
         if left < width {
@@ -180,7 +216,7 @@ fn has_column(text: &str, from: Walk) -> bool
     ensures { result ≡ nat_lt 0 (columns_of (clusters_from text.now from.position)) }
 {
     let mut walk = from;
-    'clusters: while let Some((next, width)) = walk.next_cluster(text) {
+    'clusters: while let Some((next, width)) = walk.next_cluster(text, View::Given) {
         if width > 0 {
             return true;
         }
@@ -191,7 +227,7 @@ fn has_column(text: &str, from: Walk) -> bool
 
 impl<'t> Parts<'t> {
     ghost use Rattle.std.specs.Prelude.{◌≡◌, ◌↔◌, ◌++◌, length, nat_eq, IfOk, IsTrue, IsOk};
-    ghost use Rattle.std.specs.Prelude.{string_bytes};
+    ghost use Rattle.std.specs.Prelude.{OnOk, string_bytes};
     ghost use Rattle.std.specs.Cow.{cow_str_bytes, IsBorrowedStr};
     ghost use Rattle.ansi_columns.specs.Slices.{AreWhole, joined_parts, is_middle_alone};
 
@@ -206,7 +242,9 @@ impl<'t> Parts<'t> {
         if self.is_middle_alone() {
             return Ok(CowStr::Borrowed(self.text));
         }
-        Ok(CowStr::Owned(self.written(alloc)?))
+        let mut out = String::new(alloc);
+        self.push_to(&mut out)?;
+        Ok(CowStr::Owned(out))
     }
 
     /// Whether nothing is written before and after the text.
@@ -219,19 +257,18 @@ impl<'t> Parts<'t> {
             && self.closed.ending().is_empty()
     }
 
-    /// The parts, written.
-    fn written<A: Allocator>(&self, alloc: A) -> Result<String<A>, AllocError>
+    /// Appends the parts.
+    fn push_to<A: Allocator>(&self, out: &mut String<A>) -> Result<(), AllocError>
         requires { AreWhole self.now }
-        ensures { IfOk result (λ s. string_bytes s ≡ joined_parts self.now) }
+        ensures { OnOk result (string_bytes out.new
+            ≡ string_bytes out.old ++ joined_parts self.now) }
     {
-        let mut out = String::new(alloc);
-        styles::write_start(&self.opened.style, &mut out)?;
+        styles::write_start(&self.opened.style, out)?;
         out.push_str(self.opened.link)?;
-        push_blanks(&mut out, self.before)?;
-        let shown = push_sequences(&mut out, self.text, self.hidden)?;
+        push_blanks(out, self.before)?;
+        let shown = push_sequences(out, self.text, self.hidden)?;
         out.push_str(&self.text[shown..])?;
-        push_blanks(&mut out, self.after)?;
-        self.closed.ending().push_to(&mut out)?;
-        Ok(out)
+        push_blanks(out, self.after)?;
+        self.closed.ending().push_to(out)
     }
 }

@@ -1,19 +1,16 @@
 //! Texts with blanks in place of their TABs.
-ghost use Rattle.std.specs.Prelude.{◌≡◌, ◌↔◌, ◌==◌, ◌∷◌, ◌++◌, fold, if◌then◌else◌, MatchOption};
+ghost use Rattle.std.specs.Prelude.{◌≡◌, ◌↔◌, ◌≤◌, ◌+◌, ◌*◌, ◌==◌, ◌∷◌, ◌++◌, length, fold};
+ghost use Rattle.std.specs.Prelude.{if◌then◌else◌, MatchOption};
 ghost use Rattle.std.specs.Prelude.{IsTrue, IsFalse, IsOk, IfOk, OnOk, string_bytes};
 ghost use Rattle.std.specs.Cow.{cow_str_bytes, IsBorrowedStr};
 ghost use Rattle.std.specs.List.{list_any};
-ghost use Rattle.ansi_items.specs.Plain.{plain};
 ghost use Rattle.ansi_items.specs.Scans.{kind_of, piece_of_kind};
-ghost use Rattle.ansi_safe.specs.Cells.{cell};
-ghost use Rattle.ansi_columns.specs.Columns.{columns};
-ghost use Rattle.ansi_columns.specs.Tabs.{piece_has_tab, has_tab, is_stop, since_stop, to_next};
+ghost use Rattle.ansi_columns.specs.Tabs.{piece_has_tab, has_tab, tabs, is_stop, since_stop, to_next};
 ghost use Rattle.ansi_columns.specs.Tabs.{byte_expanded, run_expanded, expanded};
 
 use crate::columns;
 use crate::shown::push_blanks;
 use ansi_items::ansitok::{Kind, Scanner};
-use ansi_safe::cells::cell_of;
 use memchr::{memchr, memchr2};
 use std::alloc::{AllocError, Allocator};
 use std::borrow::CowStr;
@@ -31,6 +28,8 @@ pub fn expand_tabs<'t, A: Allocator + Copy>(
 ) -> Result<CowStr<'t, A>, AllocError>
     ensures bytes { IfOk result (λ c. cow_str_bytes c ≡ expanded stop text.now) }
     ensures borrowed { IfOk result (λ c. IsBorrowedStr c ↔ IsFalse (has_tab text.now)) }
+    ensures len { IfOk result (λ c.
+        length (cow_str_bytes c) ≤ length text.now + stop * tabs text.now) }
     ensures takes_no_memory { IsFalse (has_tab text.now) → IsOk result }
 {
     if has_tab(text) {
@@ -84,7 +83,7 @@ fn write_expanded<A: Allocator + Copy>(
     for item in Scanner::new(text) {
         let piece = &text[item.start..item.end];
         if item.kind == Kind::Text {
-            push_run(alloc, &mut out, &mut since, piece, stop)?;
+            push_run(&mut out, &mut since, piece, stop)?;
         } else {
             out.push_str(piece)?;
         }
@@ -94,8 +93,7 @@ fn write_expanded<A: Allocator + Copy>(
 
 /// Appends a run with its TABs expanded. `since` is the plain text since the last TAB or line feed
 /// before the run, and becomes that after it. `Err` means out of memory.
-fn push_run<A: Allocator + Copy>(
-    alloc: A,
+fn push_run<A: Allocator>(
     out: &mut String<A>,
     since: &mut String<A>,
     run: &str,
@@ -110,7 +108,7 @@ fn push_run<A: Allocator + Copy>(
     'stops: while let Some((front, is_tab, rest)) = split_stop(left) {
         out.push_str(front)?;
         since.push_str(front)?;
-        push_stop(alloc, out, since.as_str(), is_tab, stop)?;
+        push_stop(out, since.as_str(), is_tab, stop)?;
         since.clear();
         left = rest;
     }
@@ -122,7 +120,6 @@ fn push_run<A: Allocator + Copy>(
 /// Appends a line feed, or what a TAB becomes after `since`, the plain text since the last of both.
 /// `Err` means out of memory.
 fn push_stop<A: Allocator>(
-    alloc: A,
     out: &mut String<A>,
     since: &str,
     is_tab: bool,
@@ -134,8 +131,7 @@ fn push_stop<A: Allocator>(
     if !is_tab {
         return out.push('\n');
     }
-    let width = cell_width(alloc, since)?;
-    push_blanks(out, to_next(stop, width))
+    push_blanks(out, to_next(stop, columns::width(since)))
 }
 
 /// What is before the first TAB or line feed of a run, whether it is a TAB, and what is after it.
@@ -147,13 +143,6 @@ fn split_stop(run: &str) -> Option<(&str, bool, &str)>
     let at = memchr2(b'\t', b'\n', run.as_bytes())?;
     let is_tab = run.as_bytes()[at] == b'\t';
     Some((&run[..at], is_tab, &run[at + 1..]))
-}
-
-/// The display width of a text. `Err` means out of memory.
-fn cell_width<A: Allocator>(alloc: A, text: &str) -> Result<usize, AllocError>
-    ensures { IfOk result (λ n. n ≡ columns (plain (cell text.now))) }
-{
-    Ok(columns::width(cell_of(alloc, text)?.as_str()))
 }
 
 /// The columns from a column to the next stop.

@@ -2,15 +2,20 @@
 ghost use Rattle.std.specs.Prelude.{◌≡◌, ◌+◌, ◌*◌, ◌-◌, ◌<◌, ◌≤◌, [], ◌∷◌, length, encode_utf8};
 ghost use Rattle.std.specs.Prelude.{ℕ, List, ◌++◌, slice_range, MatchOption, IfSome};
 ghost use Rattle.ansi_search.specs.Offsets.{offset_of};
+ghost use Rattle.ansi_columns.specs.declared.views.View.{View};
+ghost use Rattle.ansi_columns.specs.BreakStates.{break_state_of};
 ghost use Rattle.ansi_columns.specs.Columns.{cluster_width};
-ghost use Rattle.ansi_columns.specs.Walks.{before, after, cluster, clusters_from, IsRun, IsWalk};
-ghost use Rattle.ansi_columns.specs.Walks.{IsNext, IsPrintable, AreClusters};
+ghost use Rattle.ansi_columns.specs.Views.{seen_len};
+ghost use Rattle.ansi_columns.specs.Walks.{before, after, seen_before, seen_after, seen_cluster};
+ghost use Rattle.ansi_columns.specs.Walks.{seen_clusters, IsRun, IsWalkIn, IsWalk, IsAnyWalk, IsNext};
+ghost use Rattle.ansi_columns.specs.Walks.{IsSeenNext, IsPrintable, AreClustersIn, is_seen_ascii};
 
 use crate::break_state::BreakState;
 use crate::from_end;
+use crate::views::View;
 use ansi_items::ansitok::{Kind, Scanner};
 use ansi_safe::printable::printable_len;
-use unicode_width::{UnicodeWidthChar, UnicodeWidthStr};
+use unicode_width::UnicodeWidthChar;
 
 /// The state of a walk over the characters of a plain text.
 #[derive(Clone, Copy)]
@@ -20,14 +25,15 @@ pub(crate) struct Walk {
     /// The offset of the next character in the text, or the length of the text.
     pub(crate) offset: usize,
     /// An offset up to which only plain bytes follow. The run may go on after it.
-    run_end: usize,
-    break_state: BreakState,
+    pub(crate) run_end: usize,
+    pub(crate) break_state: BreakState,
 }
 
 impl Walk {
     /// The walk before the first character.
     pub(crate) fn start(text: &str) -> Walk
         ensures walk { IsWalk text.now result }
+        ensures seen { (view : View) → IsWalkIn view text.now result }
         ensures position { result.position ≡ 0 }
     {
         let (offset, run_end) = first_run(text);
@@ -39,63 +45,89 @@ impl Walk {
         }
     }
 
-    /// The walk after the next cluster, and the columns of that cluster. `None` at the end of the
-    /// text.
-    pub(crate) fn next_cluster(self, text: &str) -> Option<(Walk, usize)>
-        requires { IsWalk text.now self }
-        ensures { MatchOption result (after text.now self.position ≡ []) (λ (walk, width).
-            IsWalk text.now walk
+    /// The walk after the next cluster that is seen, and the columns of that cluster. `None` if
+    /// nothing more is seen.
+    pub(crate) fn next_cluster(self, text: &str, view: View) -> Option<(Walk, usize)>
+        requires { IsWalkIn view text.now self }
+        ensures { MatchOption result (seen_after view text.now self.position ≡ []) (λ (walk, width).
+            IsWalkIn view text.now walk
             × (self.position < walk.position)
-            × (clusters_from text.now self.position
-            ≡ cluster text.now self.position walk.position ∷ clusters_from text.now walk.position)
-            × (width ≡ cluster_width (cluster text.now self.position walk.position))
+            × (seen_clusters view text.now self.position
+            ≡ seen_cluster view text.now self.position walk.position
+            ∷ seen_clusters view text.now walk.position)
+            × (width ≡ cluster_width (seen_cluster view text.now self.position walk.position))
             × (width ≤ 2 * (walk.position - self.position))) }
     {
-        let first = self.next_char(text)?;
-        let mut walk = self.past(text, first);
-        'cluster: while let Some(next) = walk.next_char(text) {
-            if walk.break_state.ends_before(next) {
+        let (start, first) = self.next_seen(text, view);
+        let first = first?;
+        let mut walk = start.past(text, first);
+        'cluster: while let (here, Some(next)) = walk.next_seen(text, view) {
+            if here.break_state.ends_before(next) {
                 break;
             }
-            walk = walk.past(text, next);
+            walk = here.past(text, next);
         }
-        let width = if walk.position == self.position + first.len_utf8() {
+        let width = if walk.position == start.position + first.len_utf8() {
             char_width(first)
         } else {
-            self.width_up_to(text, &walk)
+            self.width_up_to(text, &walk, view)
         };
         Some((walk, width))
     }
 
+    /// The walk before the next character that is seen, and as what it is seen. At the end of the
+    /// text there is none.
+    #[inline(always)]
+    pub(crate) fn next_seen(self, text: &str, view: View) -> (Walk, Option<char>)
+        requires { IsWalkIn view text.now self }
+        ensures walk { IsWalkIn view text.now result.0 }
+        ensures ordered { self.position ≤ result.0.position }
+        ensures left_out { seen_cluster view text.now self.position result.0.position ≡ [] }
+        ensures next { MatchOption result.1 (after text.now result.0.position ≡ [])
+            (IsSeenNext view text.now result.0) }
+    {
+        let mut walk = self;
+        'left_out: while let Some(c) = walk.next_char(text) {
+            if let Some(seen) = view.see(c) {
+                return (walk, Some(seen));
+            }
+            walk = walk.moved(text, c.len_utf8(), walk.break_state);
+        }
+        (walk, None)
+    }
+
     /// How many bytes of printable ASCII come next in the run, at most `most`, with another byte of
-    /// ASCII after them.
+    /// ASCII after them that is seen.
     #[inline]
     pub(crate) fn printable_ahead(self, text: &str, most: usize) -> usize
-        requires { IsWalk text.now self }
+        requires { IsAnyWalk text.now self }
         ensures most { result ≤ most }
         ensures ahead { 0 < result → IsPrintable text.now self result }
     {
         let run = &text.as_bytes()[self.offset..self.run_end];
         let front = &run[..run.len().min(most)];
         let len = printable_len(front);
-        if len < run.len() && run[len] < 0x80 {
+        if len < run.len() && is_seen_ascii(run[len]) {
             len
         } else {
             len.saturating_sub(1)
         }
     }
 
-    /// The walk after `len` bytes of printable ASCII, which another byte of ASCII follows. Each of
-    /// them is a cluster of one column.
+    /// The walk after `len` bytes of printable ASCII, which another byte of ASCII follows that is
+    /// seen. Each of them is a cluster of one column.
     #[inline]
     pub(crate) fn past_printable(self, text: &str, len: usize) -> Walk
-        requires walk { IsWalk text.now self }
+        requires walk { IsAnyWalk text.now self }
         requires ahead { 0 < len → IsPrintable text.now self len }
-        ensures walk { IsWalk text.now result }
+        ensures walk { (view : View) → IsWalkIn view text.now self →
+            IsWalkIn view text.now result }
         ensures position { result.position ≡ self.position + len }
         ensures offset { result.offset ≡ self.offset + len }
-        ensures clusters { AreClusters text.now self.position
+        ensures clusters { (view : View) → AreClustersIn view text.now self.position
             (slice_range text.now self.offset (self.offset + len)) }
+        ensures seen { (view : View) → seen_len view text.now result.position
+            ≡ seen_len view text.now self.position + len }
     {
         if len == 0 {
             return self;
@@ -108,42 +140,56 @@ impl Walk {
         }
     }
 
-    /// The columns of the characters between this walk and a later one, taken as one cluster.
-    fn width_up_to(self, text: &str, walk: &Walk) -> usize
-        requires here { IsWalk text.now self }
-        requires later { IsWalk text.now walk.now }
+    /// The columns of the characters that are seen between this walk and a later one, taken as one
+    /// cluster.
+    fn width_up_to(self, text: &str, walk: &Walk, view: View) -> usize
+        requires here { IsWalkIn view text.now self }
+        requires later { IsWalkIn view text.now walk.now }
         requires ordered { self.position ≤ walk.now.position }
-        ensures value { result ≡ cluster_width (cluster text.now self.position walk.now.position) }
+        ensures value { result
+            ≡ cluster_width (seen_cluster view text.now self.position walk.now.position) }
         ensures bound { result ≤ 2 * (walk.now.position - self.position) }
     {
         let len = walk.position - self.position;
         if len <= self.run_end - self.offset {
-            text[self.offset..self.offset + len].width()
+            from_end::run_width(&text[self.offset..self.offset + len], view)
         } else {
-            from_end::width(&text[self.offset..walk.offset])
+            from_end::width(&text[self.offset..walk.offset], view)
         }
     }
 
     /// The next character.
     #[inline(always)]
     pub(crate) fn next_char(self, text: &str) -> Option<char>
-        requires { IsWalk text.now self }
+        requires { IsAnyWalk text.now self }
         ensures { MatchOption result (after text.now self.position ≡ []) (IsNext text.now self) }
     {
         text[self.offset..self.run_end].chars().next()
     }
 
-    /// The walk after the next character.
+    /// The walk after the next character, which is seen as `seen` and has as many bytes.
     #[inline(always)]
-    pub(crate) fn past(self, text: &str, next: char) -> Walk
-        requires walk { IsWalk text.now self }
-        requires next { IsNext text.now self next }
-        ensures walk { IsWalk text.now result }
-        ensures position { result.position ≡ self.position + length (encode_utf8 next) }
-        ensures before { before text.now result.position ≡ next ∷ before text.now self.position }
-        ensures after { after text.now self.position ≡ next ∷ after text.now result.position }
+    pub(crate) fn past(self, text: &str, seen: char) -> Walk
+        requires walk { IsAnyWalk text.now self }
+        requires next { (c : ℕ) × IsNext text.now self c
+            × (length (encode_utf8 seen) ≡ length (encode_utf8 c)) }
+        ensures walk { (view : View) → IsWalkIn view text.now self →
+            IsSeenNext view text.now self seen → IsWalkIn view text.now result }
+        ensures position { result.position ≡ self.position + length (encode_utf8 seen) }
     {
-        let len = next.len_utf8();
+        self.moved(text, seen.len_utf8(), self.break_state.after(seen))
+    }
+
+    /// The walk after the next character, which has `len` bytes, with another break state.
+    #[inline(always)]
+    fn moved(self, text: &str, len: usize, break_state: BreakState) -> Walk
+        requires walk { IsAnyWalk text.now self }
+        requires next { (c : ℕ) × IsNext text.now self c × (len ≡ length (encode_utf8 c)) }
+        ensures walk { (view : View) →
+            break_state ≡ break_state_of (seen_before view text.now result.position) →
+            IsWalkIn view text.now result }
+        ensures position { result.position ≡ self.position + len }
+    {
         let mut offset = self.offset + len;
         let mut run_end = self.run_end;
         if offset == run_end {
@@ -155,9 +201,17 @@ impl Walk {
             position: self.position + len,
             offset,
             run_end,
-            break_state: self.break_state.after(next),
+            break_state,
         }
     }
+}
+
+/// Whether a byte is a character of ASCII that is seen in any view.
+#[inline(always)]
+fn is_seen_ascii(byte: u8) -> bool
+    ensures { result ≡ is_seen_ascii byte }
+{
+    matches!(byte, 0x20..=0x7E | b'\t' | b'\n')
 }
 
 /// The columns of a cluster of one character.

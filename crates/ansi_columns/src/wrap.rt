@@ -1,22 +1,27 @@
 //! The lines of a wrapped text, ready for display. Each line opens the style and link carried into
 //! it, and closes them.
-ghost use Rattle.std.specs.Prelude.{◌≡◌, IsTrue, IsFalse};
+ghost use Rattle.std.specs.Prelude.{◌≡◌, false, IsTrue, IsFalse};
 ghost use Rattle.std.specs.List.{list_all};
 ghost use Rattle.ansi_items.specs.Plain.{has_escape};
-ghost use Rattle.ansi_columns.specs.Wrapped.{wrapped, IsWrapped};
+ghost use Rattle.ansi_safe.specs.Cells.{paragraph};
+ghost use Rattle.ansi_columns.specs.Wrapped.{lent_lines, wrapped, IsWrapped, GivesLine};
+ghost use Rattle.ansi_columns.specs.WrapStates.{span_lines, AreSpans};
 
+pub(crate) mod pens;
 pub(crate) mod spans;
 
 use crate::wrap::spans::Spans;
+use ansi_safe::cells::paragraph_of;
 use std::alloc::{AllocError, Allocator, Global};
 use std::borrow::CowStr;
 use std::marker::Model;
 
 /// The lines of a wrapped text, in order: the iterator that `AnsiColumns::ansi_wrap` returns.
 ///
-/// A line with no sequence is a borrow if it is empty or nothing is carried into it. Any other line
-/// is owned. `Err` means out of memory. After an `Err`, as after the last line, `next` always
-/// returns `None`. A line lives as long as the text and may outlive the iterator. (Own.)
+/// If the text is its own paragraph (`ansi_safe::cells::paragraph_of`), a line with no sequence is
+/// a borrow if it is empty or nothing is carried into it. Any other line is owned. `Err` means out
+/// of memory. After an `Err`, as after the last line, `next` always returns `None`. A line lives as
+/// long as the text and may outlive the iterator. (Own.)
 ///
 /// ```
 /// let mut lines = String::new(rt.alloc());
@@ -29,16 +34,24 @@ use std::marker::Model;
 #[derive(Drop)]
 pub struct AnsiWrap<'t, A: Allocator = Global> {
     alloc: A,
-    spans: Spans<'t>,
+    /// The text that is wrapped: the caller's, or its paragraph if that is another text.
+    text: CowStr<'t, A>,
+    /// Why the paragraph couldn't be made. Then the text is the caller's.
+    failure: Option<AllocError>,
+    spans: Spans,
 }
 
 impl<'t, A: Allocator> Model for AnsiWrap<'t, A> {
     ghost use Rattle.std.specs.Prelude.{List};
-    ghost use Rattle.ansi_columns.specs.Wrapped.{WrappedLine};
+    ghost use Rattle.ansi_columns.specs.Wrapped.{WrappedLine, lent_lines};
+    ghost use Rattle.ansi_columns.specs.WrapStates.{span_lines, shown_text, is_lent, AreLeft};
 
     ghost Value = { List WrappedLine };
 
-    ghost view = { λ s. s.spans };
+    ghost view = { λ s. lent_lines (is_lent s.text s.failure)
+        (span_lines (shown_text s.text s.failure) s.spans) };
+
+    ghost invariant = { λ s. AreLeft s.text s.failure s.spans };
 }
 
 /// Like `AnsiColumns::ansi_wrap`, with any allocator. The lines may borrow from the text and live
@@ -48,14 +61,36 @@ impl<'t, A: Allocator> Model for AnsiWrap<'t, A> {
 /// let first = wrap(rt.alloc(), "\x1b[1mlion tiger", 5).next();
 /// assert!(rt; matches!(&first, Some(Ok(line)) if line.as_str() == "\x1b[1mlion\x1b[22m"));
 /// ```
-pub fn wrap<'t, A: Allocator>(alloc: A, text: &'t str, width: usize) -> AnsiWrap<'t, A>
+pub fn wrap<'t, A: Allocator + Copy>(alloc: A, text: &'t str, width: usize) -> AnsiWrap<'t, A>
     ensures first_fit { IsWrapped text.now width result }
     ensures lines { result ≡ wrapped text.now width }
-    ensures takes_no_memory { IsFalse (has_escape text.now) →
+    ensures takes_no_memory { paragraph text.now ≡ text.now → IsFalse (has_escape text.now) →
         IsTrue (list_all (λ l. l.borrowed) result) }
 {
-    let spans = Spans::new(text, width);
-    AnsiWrap { alloc, spans }
+    match paragraph_of(alloc, text) {
+        Ok(paragraph) => AnsiWrap::over(alloc, paragraph, None, width),
+        Err(e) => AnsiWrap::over(alloc, CowStr::Borrowed(text), Some(e), width),
+    }
+}
+
+impl<'t, A: Allocator + Copy> AnsiWrap<'t, A> {
+    ghost use Rattle.std.specs.Prelude.{◌≡◌};
+    ghost use Rattle.ansi_columns.specs.Wrapped.{lent_lines};
+    ghost use Rattle.ansi_columns.specs.WrapStates.{lines_of, shown_text, is_lent};
+
+    /// The lines of this text. If `failure` is why it has no paragraph, there is only that `Err`.
+    fn over(alloc: A, text: CowStr<'t, A>, failure: Option<AllocError>, width: usize) -> Self
+        ensures { result ≡ lent_lines (is_lent text.entry failure)
+            (lines_of (shown_text text.entry failure) width) }
+    {
+        let spans = Spans::new(text.as_str(), width);
+        AnsiWrap {
+            alloc,
+            text,
+            failure,
+            spans,
+        }
+    }
 }
 
 impl<'t, A: Allocator + Copy> Iterator for AnsiWrap<'t, A> {
@@ -70,13 +105,52 @@ impl<'t, A: Allocator + Copy> Iterator for AnsiWrap<'t, A> {
 
     /// The next line. `None` after the last line and after an `Err`, then and ever after.
     fn next(&mut self) -> Option<Result<CowStr<'t, A>, AllocError>> {
-        let span = self.spans.next()?;
-        match span.write(self.alloc) {
-            Ok(line) => Some(Ok(line)),
-            Err(e) => {
-                self.spans.finish();
-                Some(Err(e))
-            }
+        if let Some(e) = self.failure.take() {
+            self.spans.finish();
+            return Some(Err(e));
+        }
+        match &self.text {
+            CowStr::Borrowed(text) => given_line(self.alloc, *text, &mut self.spans),
+            CowStr::Owned(text) => cleaned_line(self.alloc, text.as_str(), &mut self.spans),
+        }
+    }
+}
+
+/// The next line of the caller's text.
+fn given_line<'t, A: Allocator>(
+    alloc: A,
+    text: &'t str,
+    spans: &mut Spans,
+) -> Option<Result<CowStr<'t, A>, AllocError>>
+    requires { AreSpans text.now spans.old }
+    ensures spans { AreSpans text.now spans.new }
+    ensures line { GivesLine (span_lines text.now spans.old) result (span_lines text.now spans.new) }
+{
+    match spans.next(text)?.write(alloc) {
+        Ok(line) => Some(Ok(line)),
+        Err(e) => {
+            spans.finish();
+            Some(Err(e))
+        }
+    }
+}
+
+/// The next line of a text that isn't the caller's. It is always owned.
+fn cleaned_line<'t, A: Allocator + Copy>(
+    alloc: A,
+    text: &str,
+    spans: &mut Spans,
+) -> Option<Result<CowStr<'t, A>, AllocError>>
+    requires { AreSpans text.now spans.old }
+    ensures spans { AreSpans text.now spans.new }
+    ensures line { GivesLine (lent_lines false (span_lines text.now spans.old)) result
+        (lent_lines false (span_lines text.now spans.new)) }
+{
+    match spans.next(text)?.write_owned(alloc) {
+        Ok(line) => Some(Ok(CowStr::Owned(line))),
+        Err(e) => {
+            spans.finish();
+            Some(Err(e))
         }
     }
 }

@@ -104,8 +104,13 @@ fn parse_part(fields: &str) -> Option<Edit<'_>>
     Some(Edit::Part { pat, index })
 }
 
-// The end of a cut. An empty field is no end.
-fn parse_end(field: &str) -> Option<Option<usize>>
+/// The end of a range, as a field writes it: `Some(None)` for an empty field, which is no end, and
+/// `None` if it is neither empty nor a number. Doesn't allocate. (Own.)
+///
+/// ```
+/// assert!(parse_end("") == Some(None));
+/// ```
+pub fn parse_end(field: &str) -> Option<Option<usize>>
     ensures { result ≡ end_of field.now }
 {
     if field.is_empty() {
@@ -114,9 +119,14 @@ fn parse_end(field: &str) -> Option<Option<usize>>
     Some(Some(parse_number(field)?))
 }
 
-// The number that a field writes in digits, if it fits `usize`. std also accepts a plus in front,
-// which isn't allowed here.
-fn parse_number(field: &str) -> Option<usize>
+/// The number that a field writes in digits, or `None` if it has another byte or none, or the number
+/// doesn't fit `usize`. std also accepts a plus in front, which isn't allowed here. Doesn't
+/// allocate. (Own.)
+///
+/// ```
+/// assert!(parse_number("007") == Some(7) && parse_number("+7").is_none());
+/// ```
+pub fn parse_number(field: &str) -> Option<usize>
     ensures { result ≡ field_number field.now }
 {
     if field.starts_with('+') {

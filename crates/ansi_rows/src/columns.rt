@@ -4,8 +4,10 @@ use crate::rows::Row;
 use crate::texts::{check_cut_in, check_lines};
 use ansi_columns::AnsiColumns;
 use ansi_columns::columns::fitting;
+use ansi_columns::fit::fit;
 use ansi_columns::lines::Lines;
 use ansi_columns::shown::{Alignment, pad, truncate};
+use ansi_columns::sides::{Side, Truncation, truncate_with};
 use ansi_columns::slices::slice;
 use ansi_columns::tabs::expand_tabs;
 use ansi_columns::wrap::wrap;
@@ -22,6 +24,8 @@ pub enum ColumnCall<'r> {
     Front(usize),
     Truncate(usize, &'r str),
     Pad(usize, Alignment),
+    Fit(usize, Alignment, &'r str),
+    TruncateWith(Truncation<'r>),
     /// The text with its TABs expanded up to multiples of this.
     ExpandTabs(usize),
     /// The columns from one up to another.
@@ -41,6 +45,22 @@ fn alignment_of(word: &str) -> Option<Alignment> {
     }
 }
 
+fn side_of(word: &str) -> Option<Side> {
+    match word {
+        "End" => Some(Side::End),
+        "Start" => Some(Side::Start),
+        "Middle" => Some(Side::Middle),
+        _ => None,
+    }
+}
+
+/// A width, a tail and a side.
+fn truncation_of<'r>(row: &Row<'r>) -> Option<Truncation<'r>> {
+    let tail = row.argument(1)?;
+    let side = side_of(row.argument(2)?)?;
+    Some(Truncation::to(row.number(0)?).tail(tail).side(side))
+}
+
 impl<'r> ColumnCall<'r> {
     pub fn new(row: &Row<'r>) -> Option<Self> {
         Some(match row.call {
@@ -49,6 +69,11 @@ impl<'r> ColumnCall<'r> {
             "front" => ColumnCall::Front(row.number(0)?),
             "truncate" => ColumnCall::Truncate(row.number(0)?, row.argument(1)?),
             "pad" => ColumnCall::Pad(row.number(0)?, alignment_of(row.argument(1)?)?),
+            "fit" => {
+                let alignment = alignment_of(row.argument(1)?)?;
+                ColumnCall::Fit(row.number(0)?, alignment, row.argument(2)?)
+            }
+            "truncate_with" => ColumnCall::TruncateWith(truncation_of(row)?),
             "expand_tabs" => ColumnCall::ExpandTabs(row.number(0)?),
             "slice" => ColumnCall::Slice(row.number(0)?, row.number(1)?),
             "lines" => ColumnCall::Lines(row.number(0)?),
@@ -95,6 +120,10 @@ pub fn make_column_call<T: AnsiStr>(check: &mut Check<'_>, text: &T, call: Colum
         ColumnCall::Pad(width, alignment) => {
             check.text_or_err(text.ansi_pad(alloc, width, alignment));
         }
+        ColumnCall::Fit(width, alignment, tail) => {
+            check.text_or_err(text.ansi_fit(alloc, width, alignment, tail));
+        }
+        ColumnCall::TruncateWith(to) => check.text_or_err(text.ansi_truncate_with(alloc, &to)),
         ColumnCall::ExpandTabs(stop) => check.text_or_err(text.ansi_expand_tabs(alloc, stop)),
         ColumnCall::Slice(start, end) => check.text_or_err(text.ansi_slice(alloc, start..end)),
         ColumnCall::Lines(width) => check_places(check, Lines::new(text.as_text(), width)),
@@ -113,6 +142,10 @@ pub fn make_column_call_in(check: &mut Check<'_>, heap: &Refusing<Global>, call:
             check.text_or_err(truncate(heap, text, width, tail));
         }
         ColumnCall::Pad(width, alignment) => check.text_or_err(pad(heap, text, width, alignment)),
+        ColumnCall::Fit(width, alignment, tail) => {
+            check.text_or_err(fit(heap, text, width, alignment, tail));
+        }
+        ColumnCall::TruncateWith(to) => check.text_or_err(truncate_with(heap, text, &to)),
         ColumnCall::ExpandTabs(stop) => check.text_or_err(expand_tabs(heap, text, stop)),
         ColumnCall::Slice(start, end) => {
             check.text_or_err(slice(heap, text, start, Some(end)));

@@ -1,16 +1,18 @@
 -- What is made of the characters of a piece is allowed in a run.
-use Rattle.std.proofs.Common.{ap₂, ◌∙◌, chars, encode_utf8, encode_utf8_all, ◌≡◌, ℕ, ◌+◌, ◌/◌, ◌%◌, ◌<◌, Bool, true, false, ◌&&◌, ◌||◌, ◌==◌, List, [], ◌∷◌, ◌++◌, flat_map, slice_index, nat_lt, codes, if◌then◌else◌, refl, sym, ap, subst, arith}
+use Rattle.std.proofs.Common.{ap₂, ◌∙◌, take, drop, take-append-drop, chars, encode_utf8, encode_utf8_all, ◌≡◌, ℕ, ◌+◌, ◌/◌, ◌%◌, ◌<◌, Bool, true, false, ◌&&◌, ◌||◌, ◌==◌, List, [], ◌∷◌, ◌++◌, flat_map, slice_index, nat_lt, codes, if◌then◌else◌, refl, sym, ap, subst, arith}
 use lib.Utf8.{scalar, scalars, low_scalar}
-use Rattle.std.specs.List.{list_all}
+use Rattle.std.specs.List.{list_all, prefix_len}
 use Rattle.std.proofs.lemmas.Bool.{and_from, and_parts, eqb-true, false≢true}
 use Rattle.std.proofs.lemmas.Bool.Decides.{nat_tests}
 use Rattle.std.proofs.lemmas.List.Folds.{list_all_at, list_all-append}
-use Rattle.std.proofs.lemmas.Str.{encodes-append, encodes-chars}
+use Rattle.std.proofs.lemmas.Str.{IsUtf8-take, chars-append, encodes-append, encodes-chars}
 use Rattle.std.specs.Str.{IsUtf8}
+use Rattle.ansi_items.proofs.SequenceLemmas.{all-run}
 use Rattle.ansi_safe.specs.declared.policy.Rest.{Rest}
 use Rattle.ansi_safe.specs.declared.policy.Rest.TheVariants.{Drop, Show}
 use Rattle.ansi_safe.specs.Safe.{is_printable_byte, is_ordinary_byte, is_printing, is_allowed, all_allowed}
 use Rattle.ansi_safe.specs.Sanitized.{hexadecimal, numbered, shown, instead, made_of_run}
+use Rattle.ansi_safe.proofs.FrontLemmas.{boundary-ordinary}
 
 -- these are characters that are allowed together in a run
 pub record AreAllowed (cs : List ℕ) : Type 0 where
@@ -191,3 +193,11 @@ pub made_after_ordinary : (rest : Rest) (white : Bool) (left w cs : List ℕ) �
 made_after_ordinary rest white left w cs utf8 all is =
     ap (λ v. encode_utf8_all (made_of_run rest v)) is ∙ ap encode_utf8_all (made_of_run-ordinary rest white (chars w) cs (ordinary-chars white w utf8 all)) ∙ encodes-append (chars w) (made_of_run rest cs)
     ∙ ap (λ u. u ++ encode_utf8_all (made_of_run rest cs)) (encodes-chars w utf8)
+
+-- a run is allowed if what follows its front is
+pub allowed_after_front : (w : List ℕ) → IsUtf8 w → all_allowed (chars w) ≡ all_allowed (chars (drop (prefix_len (is_ordinary_byte true) w) w))
+allowed_after_front w utf8 =
+    let test = is_ordinary_byte true in
+    let n = prefix_len test w in
+    let front = IsUtf8-take w n utf8 (boundary-ordinary true w utf8) in
+    stand_after_ordinary true (chars w) (take n w) (chars (drop n w)) front (all-run test w) (ap chars (sym (take-append-drop n w)) ∙ chars-append (take n w) (drop n w) front)

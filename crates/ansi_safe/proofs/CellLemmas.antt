@@ -55,7 +55,7 @@ cell_char-prints c is = by (is_printing c) (c == 9 || c == 10) refl
     by false true other = refl
     by false false other = refl
 
-cell_chars-allowed : (cs : List ℕ) → scalars cs ≡ true → AreAllowed (flat_map cell_char cs)
+pub cell_chars-allowed : (cs : List ℕ) → scalars cs ≡ true → AreAllowed (flat_map cell_char cs)
 cell_chars-allowed [] are = record { stand = refl; scalar = refl }
 cell_chars-allowed (c ∷ cs) are =
     let both = and_parts (scalar c) (scalars cs) are in

@@ -17,7 +17,7 @@ use Rattle.ansi_safe.specs.Links.{link_of, ending, longest_link_end}
 use Rattle.ansi_safe.specs.Safe.{is_printing, is_allowed, may_stay}
 use Rattle.ansi_safe.specs.Sanitized.{numbered, shown, instead, made_of_run, made_of, becomes, cleaned, sanitized, growth}
 use Rattle.ansi_safe.proofs.EndingLemmas.{length-closing}
-use Rattle.ansi_safe.proofs.OrdinaryLemmas.{printable-ascii}
+use Rattle.ansi_safe.proofs.FrontLemmas.{printable-ascii}
 use Rattle.ansi_safe.proofs.SafeLemmas.{piece_and_rest}
 use Rattle.ansi_safe.proofs.AllowedLemmas.{numbered-ascii, caret-ascii, not_printing-small}
 

@@ -7,7 +7,6 @@ pub mod SafeLemmas
 pub mod CharacterLemmas
 pub mod CellLemmas
 pub mod CellTextLemmas
-pub mod PrintableLemmas
-pub mod OrdinaryLemmas
+pub mod FrontLemmas
 pub mod LengthLemmas
 mod SafeExamples

@@ -5,6 +5,8 @@ use Rattle.std.specs.List.{list_all}
 use Rattle.std.specs.Str.{byte}
 use Rattle.ansi_items.specs.Sequences.{is_sgr}
 use Rattle.ansi_items.specs.Pieces.{Piece, Text, Sequence, LoneEscape, pieces_of}
+use Rattle.ansi_safe.specs.declared.front.ByteSet.{ByteSet}
+use Rattle.ansi_safe.specs.declared.front.ByteSet.TheVariants.{Printable, Ordinary}
 use Rattle.ansi_safe.specs.declared.policy.Links.{Links}
 use Rattle.ansi_safe.specs.declared.policy.Links.TheVariants.{Keep, Remove}
 use Rattle.ansi_safe.specs.Links.{terminator_len, is_link}
@@ -42,6 +44,11 @@ is_printable_byte b = is_in_range 0x20 0x7E b
 -- a byte of ordinary characters: printable ASCII, TAB and LF if `white` is set, and 80 to FF but C2 and E2, which begin U+0080 to U+00BF and U+2000 to U+2FFF (UTF-8)
 abbrev pub is_ordinary_byte : Bool → ℕ → Bool
 is_ordinary_byte white b = is_printable_byte b || ((white && (b == byte "\t" || b == byte "\n")) || (nat_le 0x80 b && not (b == 0xC2 || b == 0xE2)))
+
+-- a byte is in a set
+abbrev pub is_in : ByteSet → ℕ → Bool
+is_in Printable = is_printable_byte
+is_in (Ordinary white) = is_ordinary_byte white
 
 -- a link sequence is clean if each byte between its ESC `]` and its terminator is printable ASCII (OSC 8)
 abbrev pub is_clean_link : List ℕ → Bool

@@ -1,14 +1,30 @@
 //! What is allowed in a safe text.
 ghost use Rattle.std.specs.Prelude.{◌≡◌, ◌≤◌, ◌++◌, ◌∷◌, [], length, MatchOption, chars};
-ghost use Rattle.std.specs.Prelude.{encode_utf8};
-ghost use Rattle.ansi_items.specs.Scans.{kind_of, piece_of_kind};
+ghost use Rattle.std.specs.Prelude.{encode_utf8, slice_range};
+ghost use Rattle.std.specs.Str.{IsCharBoundary};
+ghost use Rattle.ansi_items.specs.Scans.{kind_of, piece_of, piece_of_kind};
 ghost use Rattle.ansi_safe.specs.Safe.{is_printing, is_allowed, all_allowed, is_clean_link};
 ghost use Rattle.ansi_safe.specs.Safe.{may_stay};
 
+use crate::front::{ByteSet, front_len, split_ordinary};
 use crate::links::{address_of, terminator_len};
-use crate::ordinary::split_ordinary;
 use crate::policy::Links;
-use ansi_items::ansitok::Kind;
+use ansi_items::ansitok::{Item, Kind};
+
+/// Whether an item of the text may stay.
+#[inline(always)]
+pub(crate) fn item_may_stay(text: &str, item: &Item, links: Links) -> bool
+    requires start { IsCharBoundary text.now item.now.start }
+    requires end { IsCharBoundary text.now item.now.end }
+    requires ordered { item.now.start ≤ item.now.end }
+    requires kind { item.now.kind ≡ kind_of (piece_of text.now item.now) }
+    ensures { result ≡ may_stay links (piece_of text.now item.now) }
+{
+    match item.kind {
+        Kind::Text => run_is_allowed(text, item.start, item.end),
+        kind => may_stay(kind, &text[item.start..item.end], links),
+    }
+}
 
 /// Whether an item of this kind may stay.
 pub(crate) fn may_stay(kind: Kind, piece: &str, links: Links) -> bool
@@ -33,6 +49,20 @@ fn is_clean_link(sequence: &[u8]) -> bool
     let end = sequence.len() - terminator_len(sequence);
     let inside = &sequence[2..end];
     inside.iter().all(|b| matches!(*b, 0x20..=0x7E))
+}
+
+/// Whether each character of the run from `start` up to `end` is allowed where it is. What follows it
+/// may be looked at too, so that a short run is read 16 bytes at a time as well.
+fn run_is_allowed(text: &str, start: usize, end: usize) -> bool
+    requires start { IsCharBoundary text.now start }
+    requires end { IsCharBoundary text.now end }
+    requires ordered { start ≤ end }
+    ensures { result ≡ all_allowed (chars (slice_range text.now start end)) }
+{
+    let run = &text[start..end];
+    let onward = &text.as_bytes()[start..];
+    let ordinary = front_len(onward, ByteSet::Ordinary { white: true }).min(run.len());
+    ordinary == run.len() || all_allowed(&run[ordinary..])
 }
 
 /// Whether each character of the run is allowed where it is.
@@ -81,6 +111,7 @@ pub(crate) fn is_allowed(c: char, after: &str) -> bool
 }
 
 /// Whether the character is neither a control character nor a bidirectional control.
+#[inline]
 pub(crate) fn is_printing(c: char) -> bool
     ensures { result ≡ is_printing c }
 {

@@ -1,6 +1,6 @@
 //! What shown texts are made of: the text of a cell, on one line, and of a paragraph.
 ghost use Rattle.std.specs.Prelude.{◌≡◌, ◌↔◌, ◌≤◌, ◌∷◌, ◌++◌, length, IsTrue, IsOk, IfOk};
-ghost use Rattle.std.specs.Prelude.{OnOk, chars, encode_utf8_all, string_bytes};
+ghost use Rattle.std.specs.Prelude.{OnOk, MatchOption, [], chars, encode_utf8_all, string_bytes};
 ghost use Rattle.std.specs.Cow.{cow_str_bytes, IsBorrowedStr};
 ghost use Rattle.std.specs.List.{list_all};
 ghost use Rattle.ansi_items.specs.Pieces.{spelling};
@@ -11,10 +11,10 @@ ghost use Rattle.ansi_safe.specs.declared.cells.Place.TheVariants.{Cell};
 ghost use Rattle.ansi_safe.specs.declared.policy.Links.TheVariants.{Keep};
 ghost use Rattle.ansi_safe.specs.Safe.{is_safe};
 ghost use Rattle.ansi_safe.specs.Cells.{in_place, run_in, piece_in, placed, cell, paragraph};
-ghost use Rattle.ansi_safe.specs.Cells.{stays_in, run_stays, piece_stays, is_placed};
+ghost use Rattle.ansi_safe.specs.Cells.{cell_char, stays_in, run_stays, piece_stays, is_placed};
 
-use crate::allowed::{is_allowed, may_stay, split_first};
-use crate::ordinary::split_ordinary;
+use crate::allowed::{is_allowed, is_printing, may_stay, split_first};
+use crate::front::split_ordinary;
 use crate::policy::Links;
 use ansi_items::ansitok::{Kind, Scanner};
 use std::alloc::{AllocError, Allocator};
@@ -42,6 +42,7 @@ enum Place {
 pub fn cell_of<A: Allocator>(alloc: A, text: &str) -> Result<CowStr<'_, A>, AllocError>
     ensures bytes { IfOk result (λ c. cow_str_bytes c ≡ cell text.now) }
     ensures borrowed { IfOk result (λ c. IsBorrowedStr c ↔ (cell text.now ≡ text.now)) }
+    ensures len { IfOk result (λ c. length (cow_str_bytes c) ≤ length text.now) }
     ensures takes_no_memory { cell text.now ≡ text.now → IsOk result }
     ensures safe { IfOk result (λ c. IsTrue (is_safe Keep (cow_str_bytes c))) }
     ensures one_line { IfOk result (λ c.
@@ -63,16 +64,42 @@ pub fn cell_of<A: Allocator>(alloc: A, text: &str) -> Result<CowStr<'_, A>, Allo
 pub fn paragraph_of<A: Allocator>(alloc: A, text: &str) -> Result<CowStr<'_, A>, AllocError>
     ensures bytes { IfOk result (λ c. cow_str_bytes c ≡ paragraph text.now) }
     ensures borrowed { IfOk result (λ c. IsBorrowedStr c ↔ (paragraph text.now ≡ text.now)) }
+    ensures len { IfOk result (λ c. length (cow_str_bytes c) ≤ length text.now) }
     ensures takes_no_memory { paragraph text.now ≡ text.now → IsOk result }
     ensures safe { IfOk result (λ c. IsTrue (is_safe Keep (cow_str_bytes c))) }
 {
     text_in(alloc, text, Place::Paragraph)
 }
 
+/// What a character of a plain text is in the text of a cell: itself if it is printing, a blank if
+/// it is TAB or LF, and otherwise nothing, which is `None`.
+///
+/// A character is printing if it is neither a control nor a bidirectional control. The result has
+/// as many bytes as the character. (Own.)
+///
+/// ```
+/// assert!(rt; cell_char('é') == Some('é'));
+/// assert!(rt; cell_char('\t') == Some(' '));
+/// assert!(rt; cell_char('\r') == None);
+/// ```
+#[inline]
+pub fn cell_char(c: char) -> Option<char>
+    ensures { MatchOption result (cell_char c ≡ []) (λ shown. cell_char c ≡ shown ∷ []) }
+{
+    if is_printing(c) {
+        Some(c)
+    } else if matches!(c, '\t' | '\n') {
+        Some(' ')
+    } else {
+        None
+    }
+}
+
 /// A text in a place: a borrow, and nothing is allocated, exactly if it stays as it is.
 fn text_in<A: Allocator>(alloc: A, text: &str, place: Place) -> Result<CowStr<'_, A>, AllocError>
     ensures bytes { IfOk result (λ c. cow_str_bytes c ≡ placed place text.now) }
     ensures borrowed { IfOk result (λ c. IsBorrowedStr c ↔ (placed place text.now ≡ text.now)) }
+    ensures len { IfOk result (λ c. length (cow_str_bytes c) ≤ length text.now) }
     ensures takes_no_memory { placed place text.now ≡ text.now → IsOk result }
 {
     if is_placed(text, place) {

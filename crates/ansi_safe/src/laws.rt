@@ -2,18 +2,20 @@
 //!
 //! Each function has one law as its contract, does nothing and returns nothing. A body that needs
 //! the law calls it. (Own.)
-ghost use Rattle.std.specs.Prelude.{◌≡◌, ◌++◌, ℕ, List, [], IsTrue, flat_map, chars};
+ghost use Rattle.std.specs.Prelude.{◌≡◌, ◌≤◌, ◌+◌, ◌++◌, ℕ, List, [], length, IsTrue, flat_map, chars};
 ghost use Rattle.std.specs.Prelude.{encode_utf8_all};
 ghost use Rattle.std.specs.Str.{IsUtf8};
 ghost use Rattle.ansi_items.specs.Pieces.{pieces_of};
 ghost use Rattle.ansi_items.specs.Plain.{plain_bytes, plain, is_whole};
 ghost use Rattle.ansi_style.specs.Styled.{styled};
+ghost use Rattle.ansi_style.specs.Written.{longest_close};
 ghost use Rattle.ansi_safe.specs.declared.cells.Place.TheVariants.{Paragraph};
+ghost use Rattle.ansi_safe.specs.declared.links.TheConstants.{LONGEST_ENDING};
 ghost use Rattle.ansi_safe.specs.declared.policy.Links.{Links};
 ghost use Rattle.ansi_safe.specs.declared.policy.Links.TheVariants.{Keep};
 ghost use Rattle.ansi_safe.specs.declared.policy.Policy.{Policy};
 ghost use Rattle.ansi_safe.specs.declared.policy.Rest.TheVariants.{Drop};
-ghost use Rattle.ansi_safe.specs.Links.{ending, IsClosed};
+ghost use Rattle.ansi_safe.specs.Links.{ending, longest_link_end, IsClosed};
 ghost use Rattle.ansi_safe.specs.Safe.{is_safe};
 ghost use Rattle.ansi_safe.specs.Sanitized.{sanitized, allowed, marked};
 ghost use Rattle.ansi_safe.specs.Cells.{run_in, cell, paragraph, cell_char};
@@ -64,4 +66,10 @@ pub fn cell_is_by_character()
 pub fn paragraph_is_by_run()
     ensures { (t : List ℕ) → IsUtf8 t → plain (paragraph t)
         ≡ encode_utf8_all (flat_map (λ p. run_in Paragraph (chars (plain_bytes p))) (pieces_of t)) }
+{}
+
+/// What ends a text has at most `LONGEST_ENDING` bytes.
+pub fn endings_are_short()
+    ensures sum { LONGEST_ENDING ≡ longest_link_end + longest_close }
+    ensures len { (t : List ℕ) → length (ending t) ≤ LONGEST_ENDING }
 {}

@@ -8,9 +8,9 @@
 mod allowed;
 pub mod calls;
 pub mod cells;
+mod front;
 pub mod laws;
 pub mod links;
-mod ordinary;
 pub mod policy;
 pub mod printable;
 pub mod safe;

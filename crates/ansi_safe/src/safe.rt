@@ -12,7 +12,7 @@ ghost use Rattle.ansi_safe.specs.Links.{link_of, ending, IsClosed, longest_link_
 ghost use Rattle.ansi_safe.specs.Safe.{is_safe};
 ghost use Rattle.ansi_safe.specs.Sanitized.{becomes, cleaned, growth, sanitized};
 
-use crate::allowed::{all_allowed, may_stay};
+use crate::allowed::{all_allowed, item_may_stay, may_stay};
 use crate::links::{Ending, LONGEST_ENDING, Pen, link_after, pen_after, plain_pen};
 use crate::policy::{Links, Policy};
 use crate::shown::{push_instead_of_all, push_run};
@@ -29,7 +29,19 @@ use std::borrow::CowStr;
 pub fn is_safe(text: &str, links: Links) -> bool
     ensures { result ≡ is_safe links text.now }
 {
-    pen_after_safe(text, links).is_some()
+    all_allowed(text) || items_may_stay(text, links)
+}
+
+/// Like `is_safe`, item by item.
+fn items_may_stay(text: &str, links: Links) -> bool
+    ensures { result ≡ is_safe links text.now }
+{
+    for item in Scanner::new(text) {
+        if !item_may_stay(text, &item, links) {
+            return false;
+        }
+    }
+    true
 }
 
 /// The pen after a text, or `None` if the text isn't safe. Doesn't allocate.
@@ -55,10 +67,10 @@ fn pen_after_items(text: &str, links: Links) -> Option<Pen<'_>>
     let mut style = plain_style();
     let mut link = "";
     for item in Scanner::new(text) {
-        let piece = &text[item.start..item.end];
-        if !may_stay(item.kind, piece, links) {
+        if !item_may_stay(text, &item, links) {
             return None;
         }
+        let piece = &text[item.start..item.end];
         if item.kind == Kind::Sgr {
             styles::apply(&mut style, piece);
         } else if item.kind == Kind::Other {

@@ -5,7 +5,7 @@ ghost use Rattle.ansi_safe.specs.declared.policy.Rest.{Rest};
 ghost use Rattle.ansi_safe.specs.Sanitized.{hexadecimal, numbered, shown, instead, made_of_run};
 
 use crate::allowed::{is_allowed, is_printing, split_first};
-use crate::ordinary::split_ordinary;
+use crate::front::split_ordinary;
 use crate::policy::Rest;
 use std::alloc::{AllocError, Allocator};
 

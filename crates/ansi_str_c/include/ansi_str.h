@@ -66,18 +66,39 @@ typedef struct {
     size_t len;
 } ansi_str_answers;
 
-/* The attributes of a style, one bit each. */
+/* The attributes of a style, one bit each, and the SGR codes that set them (ECMA-48, section 8.3.117). No other bit is set. */
 enum {
+    /* 1 to 4 */
     ANSI_STR_BOLD = 1 << 0,
     ANSI_STR_FAINT = 1 << 1,
     ANSI_STR_ITALIC = 1 << 2,
     ANSI_STR_UNDERLINE = 1 << 3,
-    ANSI_STR_SLOW_BLINK = 1 << 4,
-    ANSI_STR_RAPID_BLINK = 1 << 5,
-    ANSI_STR_INVERSE = 1 << 6,
-    ANSI_STR_HIDE = 1 << 7,
-    ANSI_STR_CROSSED_OUT = 1 << 8,
-    ANSI_STR_FRAKTUR = 1 << 9
+    /* 21 */
+    ANSI_STR_DOUBLE_UNDERLINE = 1 << 4,
+    /* 5 to 9 */
+    ANSI_STR_SLOW_BLINK = 1 << 5,
+    ANSI_STR_RAPID_BLINK = 1 << 6,
+    ANSI_STR_INVERSE = 1 << 7,
+    ANSI_STR_HIDE = 1 << 8,
+    ANSI_STR_CROSSED_OUT = 1 << 9,
+    /* 51, 52, 20, 26 and 53 */
+    ANSI_STR_FRAMED = 1 << 10,
+    ANSI_STR_ENCIRCLED = 1 << 11,
+    ANSI_STR_FRAKTUR = 1 << 12,
+    ANSI_STR_PROPORTIONAL_SPACING = 1 << 13,
+    ANSI_STR_OVERLINED = 1 << 14,
+    /* 60 to 64 */
+    ANSI_STR_IDEOGRAM_UNDERLINE = 1 << 15,
+    ANSI_STR_IDEOGRAM_DOUBLE_UNDERLINE = 1 << 16,
+    ANSI_STR_IDEOGRAM_OVERLINE = 1 << 17,
+    ANSI_STR_IDEOGRAM_DOUBLE_OVERLINE = 1 << 18,
+    ANSI_STR_IDEOGRAM_STRESS_MARKING = 1 << 19,
+    /* 73 and 74 */
+    ANSI_STR_SUPERSCRIPT = 1 << 20,
+    ANSI_STR_SUBSCRIPT = 1 << 21,
+    /* 0, and a code that the library doesn't know: no character looks different by them */
+    ANSI_STR_RESET = 1 << 22,
+    ANSI_STR_UNKNOWN = 1 << 23
 };
 
 /* The most bytes of the sequences that set a style, of those that close it, and of both. */
@@ -97,6 +118,13 @@ enum {
     ANSI_STR_RIGHT = 2
 };
 
+/* Where a text is cut if it is too wide: at its end, so that its first columns stay; at its start; or in its middle. */
+enum {
+    ANSI_STR_END = 0,
+    ANSI_STR_START = 1,
+    ANSI_STR_MIDDLE = 2
+};
+
 /* What is made of what is unsafe in a text: it is dropped, or shown in printing characters, such as "^[" for ESC. */
 enum {
     ANSI_STR_DROP = 0,
@@ -110,48 +138,37 @@ enum {
     ANSI_STR_KEEP_LINKS = 1
 };
 
-/* The kinds of colors: none, one of the names, one of 256 by its number, or one by its red, green and blue. */
+/* The kinds of colors: none; one that an SGR code names; one of 256 by its number; or one by its red, green and blue. */
 enum {
     ANSI_STR_NO_COLOR = 0,
-    ANSI_STR_BLACK = 1,
-    ANSI_STR_BRIGHT_BLACK = 2,
-    ANSI_STR_RED = 3,
-    ANSI_STR_BRIGHT_RED = 4,
-    ANSI_STR_GREEN = 5,
-    ANSI_STR_BRIGHT_GREEN = 6,
-    ANSI_STR_YELLOW = 7,
-    ANSI_STR_BRIGHT_YELLOW = 8,
-    ANSI_STR_BLUE = 9,
-    ANSI_STR_BRIGHT_BLUE = 10,
-    ANSI_STR_PURPLE = 11,
-    ANSI_STR_BRIGHT_PURPLE = 12,
-    ANSI_STR_MAGENTA = 13,
-    ANSI_STR_BRIGHT_MAGENTA = 14,
-    ANSI_STR_CYAN = 15,
-    ANSI_STR_BRIGHT_CYAN = 16,
-    ANSI_STR_WHITE = 17,
-    ANSI_STR_BRIGHT_WHITE = 18,
-    ANSI_STR_FIXED = 19,
-    ANSI_STR_RGB = 20
+    ANSI_STR_NAMED = 1,
+    ANSI_STR_FIXED = 2,
+    ANSI_STR_RGB = 3
 };
 
-/* A color. The number is that of ANSI_STR_FIXED, otherwise 0; red, green and blue are those of ANSI_STR_RGB, otherwise 0.
-   No sequence sets ANSI_STR_PURPLE or ANSI_STR_BRIGHT_PURPLE: code 35 is ANSI_STR_MAGENTA. */
+/* A color. `first` is the SGR code of ANSI_STR_NAMED, the number of ANSI_STR_FIXED, or the red of ANSI_STR_RGB. `second` and
+   `third` are the green and the blue of ANSI_STR_RGB. Any other byte is 0. The codes are 30 to 37 and 90 to 97 for the text, and
+   40 to 47 and 100 to 107 behind it: black, red, green, yellow, blue, magenta, cyan and white, and the same bright. */
 typedef struct {
-    uint32_t kind;
-    uint8_t number;
-    uint8_t red;
-    uint8_t green;
-    uint8_t blue;
+    uint8_t kind;
+    uint8_t first;
+    uint8_t second;
+    uint8_t third;
 } ansi_str_color;
 
-/* The style of a block: a set of attributes, its colors, and whether it has something to close. That may also be something
-   that has no field here, such as a font. */
+/* A font, and the SGR code that selects it, from 11 to 19; 0 if none is set. */
+typedef struct {
+    bool is_set;
+    uint8_t number;
+} ansi_str_font;
+
+/* A style: its attributes, its colors and its font. A style that nothing has set is all 0. */
 typedef struct {
     uint32_t attributes;
     ansi_str_color foreground;
     ansi_str_color background;
-    bool has_any;
+    ansi_str_color underline_color;
+    ansi_str_font font;
 } ansi_str_style;
 
 /* What a call for a style returns. With any status but ANSI_STR_OK the style is empty: all 0. */
@@ -182,27 +199,6 @@ typedef struct {
     size_t end;
 } ansi_str_line_entry;
 
-/* A style as the library keeps it: a caller must not read or set a field. */
-typedef struct {
-    uint8_t kind;
-    uint8_t first;
-    uint8_t second;
-    uint8_t third;
-} ansi_str_color_numbers;
-
-typedef struct {
-    bool is_set;
-    uint8_t number;
-} ansi_str_font_numbers;
-
-typedef struct {
-    uint32_t attributes;
-    ansi_str_color_numbers foreground;
-    ansi_str_color_numbers background;
-    ansi_str_color_numbers underline_color;
-    ansi_str_font_numbers font;
-} ansi_str_style_numbers;
-
 /* A walk over the blocks of a text. Its state is the library's own: a caller must not read or set it. The text must live and
    stay unchanged while the walk is used. A copy of a walk is independent of it. */
 typedef union {
@@ -229,7 +225,6 @@ typedef union {
 /* Where the state of a walk has these bytes; only functions of this header may use it. */
 enum {
     ANSI_STR_STATE_TEXT = 0,
-    ANSI_STR_STATE_STYLE = 16,
     ANSI_STR_STATE_PATTERN = 16,
     ANSI_STR_STATE_FINISHED = 76
 };
@@ -239,6 +234,13 @@ typedef struct {
     const uint8_t *text;
     size_t text_len;
 } ansi_str_next_part;
+
+/* A walk over the lines of a wrapped text, likewise. */
+typedef union {
+    /* (for its alignment) */
+    const void *aligned;
+    unsigned char state[64];
+} ansi_str_line_walk;
 
 /* The kinds of edits. */
 enum {
@@ -311,14 +313,20 @@ ansi_str_answer ansi_str_raw_parts_begin(const uint8_t *text, size_t text_len, c
                                          ansi_str_part_walk *walk);
 ansi_str_answer ansi_str_raw_parts_next(ansi_str_part_walk *walk, ansi_str_next_part *part, uint8_t *buffer,
                                         size_t buffer_len);
-ansi_str_answer ansi_str_raw_style_start(const ansi_str_style_numbers *style, uint8_t *buffer, size_t buffer_len);
-ansi_str_answer ansi_str_raw_style_end(const ansi_str_style_numbers *style, uint8_t *buffer, size_t buffer_len);
+ansi_str_answer ansi_str_raw_lines_begin(const uint8_t *text, size_t text_len, size_t width, ansi_str_line_walk *walk);
+ansi_str_answer ansi_str_raw_lines_next(ansi_str_line_walk *walk, ansi_str_line_entry *line);
+ansi_str_answer ansi_str_raw_style_start(const ansi_str_style *style, uint8_t *buffer, size_t buffer_len);
+ansi_str_answer ansi_str_raw_style_end(const ansi_str_style *style, uint8_t *buffer, size_t buffer_len);
 ansi_str_answer ansi_str_raw_width(const uint8_t *text, size_t text_len);
 ansi_str_answer ansi_str_raw_fitting(const uint8_t *text, size_t text_len, size_t width);
 ansi_str_answer ansi_str_raw_truncate(const uint8_t *text, size_t text_len, size_t width, const uint8_t *tail,
                                       size_t tail_len, uint8_t *buffer, size_t buffer_len);
 ansi_str_answer ansi_str_raw_pad(const uint8_t *text, size_t text_len, size_t width, uint32_t alignment,
                                  uint8_t *buffer, size_t buffer_len);
+ansi_str_answer ansi_str_raw_fit(const uint8_t *text, size_t text_len, size_t width, uint32_t alignment,
+                                 const uint8_t *tail, size_t tail_len, uint8_t *buffer, size_t buffer_len);
+ansi_str_answer ansi_str_raw_truncate_with(const uint8_t *text, size_t text_len, size_t width, const uint8_t *tail,
+                                           size_t tail_len, uint32_t side, uint8_t *buffer, size_t buffer_len);
 ansi_str_answer ansi_str_raw_slice(const uint8_t *text, size_t text_len, size_t start, size_t end, uint8_t *buffer,
                                    size_t buffer_len);
 ansi_str_answer ansi_str_raw_expand_tabs(const uint8_t *text, size_t text_len, size_t stop, uint8_t *buffer,
@@ -481,7 +489,7 @@ static inline ansi_str_answer ansi_str_block_end(const char *text, size_t text_l
     return ansi_str_raw_block_end(ansi_str_bytes(text), text_len, index, ansi_str_room(buffer), buffer_len);
 }
 
-/* The style of the block of an index, as data. ANSI_STR_NO: there is no such block. ansi_str_blocks returns all styles in
+/* The style of the block of an index. ANSI_STR_NO: there is no such block. ansi_str_blocks returns all styles in
    one walk. */
 static inline ansi_str_style_answer ansi_str_block_style(const char *text, size_t text_len, size_t index) {
     return ansi_str_raw_block_style(ansi_str_bytes(text), text_len, index);
@@ -553,21 +561,22 @@ static inline ansi_str_answer ansi_str_blocks_next(ansi_str_block_walk *walk, an
     return ansi_str_raw_blocks_next(walk, block, ansi_str_room(buffer), buffer_len);
 }
 
-/* The style of a walk's last block, for the two calls below. */
-static inline ansi_str_style_numbers ansi_str_walk_style(const ansi_str_block_walk *walk) {
-    ansi_str_style_numbers style;
-    memcpy(&style, walk->state + ANSI_STR_STATE_STYLE, sizeof style);
-    return style;
-}
-
-/* The sequences that set and close the style of a walk's last block, as ansi_str_block_start and ansi_str_block_end.
-   Allocates. */
-static inline ansi_str_answer ansi_str_style_start(const ansi_str_style_numbers *style, char *buffer, size_t buffer_len) {
+/* The sequences that set a style, and those that close it: at most ANSI_STR_LONGEST_START and ANSI_STR_LONGEST_CLOSE bytes. The
+   style must be one that a call returned, or all 0. Allocates. */
+static inline ansi_str_answer ansi_str_style_start(const ansi_str_style *style, char *buffer, size_t buffer_len) {
     return ansi_str_raw_style_start(style, ansi_str_room(buffer), buffer_len);
 }
 
-static inline ansi_str_answer ansi_str_style_end(const ansi_str_style_numbers *style, char *buffer, size_t buffer_len) {
+static inline ansi_str_answer ansi_str_style_end(const ansi_str_style *style, char *buffer, size_t buffer_len) {
     return ansi_str_raw_style_end(style, ansi_str_room(buffer), buffer_len);
+}
+
+/* Whether a style has something to close: a color, a font or an attribute, of which ANSI_STR_RESET and ANSI_STR_UNKNOWN count only
+   together. */
+static inline bool ansi_str_style_has_any(const ansi_str_style *style) {
+    uint32_t unseen = ANSI_STR_RESET | ANSI_STR_UNKNOWN;
+    return (style->attributes & ~unseen) != 0 || (style->attributes & unseen) == unseen || style->foreground.kind != 0 ||
+           style->background.kind != 0 || style->underline_color.kind != 0 || style->font.is_set;
 }
 
 /* A walk with no part left, and below a part without text. */
@@ -659,15 +668,16 @@ static inline ansi_str_answer ansi_str_edit(const char *text, size_t text_len, c
 }
 
 /* The display width of the text in columns of a terminal, as the returned length. It is the sum over the extended grapheme
-   clusters of the plain text. A cluster may run across sequences; a control character has one column, and so has "\r\n"
-   (UAX #29, UAX #11). Doesn't allocate.
+   clusters of what a terminal shows: of the plain text, with a blank for each TAB and line feed, and without other controls
+   and bidirectional controls. A cluster may run across sequences and controls (UAX #29, UAX #11). Doesn't allocate.
    "\x1b[31m\xe6\x97\xa5\xe6\x9c\xac\x1b[39m" has 4. */
 static inline ansi_str_answer ansi_str_width(const char *text, size_t text_len) {
     return ansi_str_raw_width(ansi_str_bytes(text), text_len);
 }
 
-/* The position up to which the plain text fits into `width` columns, as the returned length: the last end of a cluster with at
-   most `width` columns before it. It counts bytes of the plain text, and the text can be cut there. Doesn't allocate.
+/* The position up to which the text fits into `width` columns, as the returned length: the last end of a cluster with at most
+   `width` columns before it, as ansi_str_width counts them, after the controls that follow it and have no columns. It counts
+   bytes of the plain text, and the text can be cut there. Doesn't allocate.
    "a\x1b[1m\xe6\x97\xa5\xe6\x9c\xac" in 4 columns fits up to 4. */
 static inline ansi_str_answer ansi_str_fitting(const char *text, size_t text_len, size_t width) {
     return ansi_str_raw_fitting(ansi_str_bytes(text), text_len, width);
@@ -697,12 +707,36 @@ static inline ansi_str_answer ansi_str_pad(const char *text, size_t text_len, si
     return ansi_str_raw_pad(ansi_str_bytes(text), text_len, width, alignment, ansi_str_room(buffer), buffer_len);
 }
 
+/* The text of a table's cell: truncated to `width` columns, as by ansi_str_truncate, and then padded to them, as by ansi_str_pad.
+   The result is at most tail_len + width + 2 * (ANSI_STR_LONGEST_LINK_END + ANSI_STR_LONGEST_CLOSE) bytes longer than the text.
+   ANSI_STR_NOT_UTF8: the text or the tail isn't UTF-8. ANSI_STR_REFUSED: there is no such alignment. May allocate for any text.
+   "\x1b[41mabcdef" in 4 columns with "..." gives "\x1b[41ma\x1b[49m...", and in 8 "\x1b[41mabcdef\x1b[49m  ". */
+static inline ansi_str_answer ansi_str_fit(const char *text, size_t text_len, size_t width, uint32_t alignment,
+                                           const char *tail, size_t tail_len, char *buffer, size_t buffer_len) {
+    return ansi_str_raw_fit(ansi_str_bytes(text), text_len, width, alignment, ansi_str_bytes(tail), tail_len,
+                            ansi_str_room(buffer), buffer_len);
+}
+
+/* The text truncated to `width` columns at a side. With ANSI_STR_END, and if the text fits, it is truncated as by
+   ansi_str_truncate. Otherwise its first and last columns stay, each as by ansi_str_slice, with the tail unchanged between them:
+   as many as the tail leaves of `width`. With ANSI_STR_START all of these are the last ones; with ANSI_STR_MIDDLE half of them
+   are, and if their number is odd, one more of the first ones stays. A tail wider than `width` is left out. The result is at most
+   text_len + tail_len + width + 2 * (ANSI_STR_LONGEST_START_AND_CLOSE + ANSI_STR_LONGEST_LINK_END) bytes longer than the text.
+   ANSI_STR_NOT_UTF8: the text or the tail isn't UTF-8. ANSI_STR_REFUSED: there is no such side. May allocate for any text.
+   "\x1b[31m/usr/bin\x1b[39m" in 7 columns with "..." gives "\x1b[31m/u\x1b[39m...\x1b[31min\x1b[39m" with ANSI_STR_MIDDLE, and
+   "...\x1b[31m/bin\x1b[39m" with ANSI_STR_START. */
+static inline ansi_str_answer ansi_str_truncate_with(const char *text, size_t text_len, size_t width, const char *tail,
+                                                     size_t tail_len, uint32_t side, char *buffer, size_t buffer_len) {
+    return ansi_str_raw_truncate_with(ansi_str_bytes(text), text_len, width, ansi_str_bytes(tail), tail_len, side,
+                                      ansi_str_room(buffer), buffer_len);
+}
+
 /* The columns of the text from `start` up to `end`, on one line and safe, as by ansi_str_truncate. The first column is 0; with
    the end SIZE_MAX the slice goes up to the last one. The style and the link (OSC 8) that are open at the start are opened
    first, and the link and then the style still open at the end are closed. If a cluster is only partly in the slice, each of
    its columns there is a blank. A cluster of no columns belongs to the column after it, or to the last one. A slice without a
    column is empty. The result is at most ANSI_STR_LONGEST_START_AND_CLOSE + ANSI_STR_LONGEST_LINK_END bytes longer than the
-   text and these blanks. May allocate for any text.
+   text and these blanks. Allocates if it changes the text, writes blanks, or opens or closes something.
    "\x1b[31m\xe6\x97\xa5\xe6\x9c\xac\x1b[39m" from 1 up to 4 gives "\x1b[31m \xe6\x9c\xac\x1b[39m". */
 static inline ansi_str_answer ansi_str_slice(const char *text, size_t text_len, size_t start, size_t end, char *buffer,
                                              size_t buffer_len) {
@@ -718,7 +752,8 @@ static inline ansi_str_answer ansi_str_expand_tabs(const char *text, size_t text
     return ansi_str_raw_expand_tabs(ansi_str_bytes(text), text_len, stop, ansi_str_room(buffer), buffer_len);
 }
 
-/* The text wrapped to `width` columns. The lines are in the buffer like the parts of ansi_str_split: line i ends at ends[i].
+/* The text wrapped to `width` columns, each line safe: SGRs, clean links (OSC 8) and printing characters stay, a TAB becomes a
+   blank, and the rest is left out. The lines are in the buffer like the parts of ansi_str_split: line i ends at ends[i].
    A line ends at "\n", at "\r\n", or before a word that doesn't fit, and loses the blanks at its end; a word that is too wide
    is broken at the end of a cluster. An indent stays if its word fits after it. A width of 0 counts as 1. Each line closes the
    link (OSC 8) and then the style that it leaves open, and the next line reopens them. There is at most one line more than the
@@ -732,13 +767,37 @@ static inline ansi_str_answers ansi_str_wrap(const char *text, size_t text_len, 
                              ends == NULL ? &none : ends, ends_len);
 }
 
-/* Where each line of ansi_str_wrap begins and ends in the plain text; the text can be cut there. The returned count is the number
-   of lines, and the length 0. ANSI_STR_TOO_SMALL: there are more than `lines_len`. Doesn't allocate.
+/* Where each line of ansi_str_wrap begins and ends in the plain text, if that call leaves nothing out and the text has no TAB;
+   otherwise a control has one column. The text can be cut there. The returned count is the number of lines, and the length 0.
+   ANSI_STR_TOO_SMALL: there are more than `lines_len`. Doesn't allocate.
    "ab \x1b[1mcd  efg" in 5 columns has lines from 0 up to 5 and from 7 up to 10. */
 static inline ansi_str_answers ansi_str_lines(const char *text, size_t text_len, size_t width, ansi_str_line_entry *lines,
                                               size_t lines_len) {
     ansi_str_line_entry none;
     return ansi_str_raw_lines(ansi_str_bytes(text), text_len, width, lines == NULL ? &none : lines, lines_len);
+}
+
+/* A walk with no line left. */
+static inline ansi_str_line_walk ansi_str_no_line_walk(void) {
+    const uint8_t *nothing = ansi_str_bytes(NULL);
+    ansi_str_line_walk walk;
+    memset(&walk, 0, sizeof walk);
+    memcpy(walk.state + ANSI_STR_STATE_TEXT, &nothing, sizeof nothing);
+    return walk;
+}
+
+/* Begins a walk over what ansi_str_lines returns; ansi_str_lines_next returns it line by line. With any status but ANSI_STR_OK
+   the walk has no line left. Doesn't allocate. */
+static inline ansi_str_answer ansi_str_lines_begin(const char *text, size_t text_len, size_t width, ansi_str_line_walk *walk) {
+    *walk = ansi_str_no_line_walk();
+    return ansi_str_raw_lines_begin(ansi_str_bytes(text), text_len, width, walk);
+}
+
+/* The next line of a walk, into `line`. ANSI_STR_NO: there is none left, and `line` is 0 up to 0. A call reads up to the end of
+   its line, and the first word that doesn't fit, so all lines cost one walk. Doesn't allocate. */
+static inline ansi_str_answer ansi_str_lines_next(ansi_str_line_walk *walk, ansi_str_line_entry *line) {
+    line->start = line->end = 0;
+    return ansi_str_raw_lines_next(walk, line);
 }
 
 /* The address of the link (OSC 8) around the plain byte at a position, which may be inside a character. An address is never

@@ -1,9 +1,12 @@
 //! Calls on the display width of a text, and on its links.
 ghost use Rattle.ansi_calls.specs.Columns.{TellsWidth, TellsFitting, Truncates, Pads, Slices};
-ghost use Rattle.ansi_calls.specs.Columns.{ExpandsTabs, Wraps, WritesLink, WritesLines};
+ghost use Rattle.ansi_calls.specs.Columns.{Fits, TruncatesAt, ExpandsTabs, Wraps, WritesLink};
+ghost use Rattle.ansi_calls.specs.Columns.{WritesLines};
 
 use ansi_calls::answers::Answer;
-use ansi_calls::columns::{expand_tabs, fitting, link_at, pad, slice, truncate, width};
+use ansi_calls::columns::{
+    expand_tabs, fit, fitting, link_at, pad, slice, truncate, truncate_with, width,
+};
 use ansi_calls::lines::{LineEntry, lines, wrap};
 use ansi_calls::lists::ListAnswer;
 use std::alloc::Global;
@@ -50,6 +53,36 @@ pub extern "C" fn ansi_str_raw_pad(
     ensures { Pads text.now width alignment result buffer.old buffer.new }
 {
     pad(alloc, text, width, alignment, buffer)
+}
+
+/// The text truncated or padded to `width` columns.
+#[unsafe(no_mangle)]
+pub extern "C" fn ansi_str_raw_fit(
+    alloc: Global,
+    text: &[u8],
+    width: usize,
+    alignment: u32,
+    tail: &[u8],
+    buffer: &mut [u8],
+) -> Answer
+    ensures { Fits text.now width alignment tail.now result buffer.old buffer.new }
+{
+    fit(alloc, text, width, alignment, tail, buffer)
+}
+
+/// The text truncated to `width` columns at a side.
+#[unsafe(no_mangle)]
+pub extern "C" fn ansi_str_raw_truncate_with(
+    alloc: Global,
+    text: &[u8],
+    width: usize,
+    tail: &[u8],
+    side: u32,
+    buffer: &mut [u8],
+) -> Answer
+    ensures { TruncatesAt text.now width tail.now side result buffer.old buffer.new }
+{
+    truncate_with(alloc, text, width, tail, side, buffer)
 }
 
 /// The columns of the text from `start` up to `end`.

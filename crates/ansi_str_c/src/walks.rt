@@ -1,15 +1,19 @@
-//! Calls that return the blocks and the parts of a text one by one.
+//! Calls that return the blocks, the parts and the lines of a text one by one.
 ghost use Rattle.std.specs.Prelude.{IsUtf8};
 ghost use Rattle.ansi_str.specs.States.{rendition_of_numbers};
 ghost use Rattle.ansi_split.specs.Walks.{IsPartWalk};
+ghost use Rattle.ansi_columns.specs.LineWalks.{IsLineWalk};
+ghost use Rattle.ansi_calls.specs.Columns.{BeginsLines, GivesNextLine};
 ghost use Rattle.ansi_calls.specs.Walks.{GivesNext, GivesNextPart};
 ghost use Rattle.ansi_calls.specs.Calls.{BeginsBlocks, BeginsParts, WritesStart, WritesClose};
 
 use ansi_calls::answers::Answer;
+use ansi_calls::lines::{LineEntry, lines_begin, lines_next};
 use ansi_calls::walks::{
     BlockWalk, NextBlock, NextPart, blocks_begin, blocks_next, parts_begin, parts_next, style_end,
     style_start,
 };
+use ansi_columns::line_walks::LineWalk;
 use ansi_split::walks::PartWalk;
 use ansi_style::numbers::StyleNumbers;
 use std::alloc::Global;
@@ -24,6 +28,10 @@ const _: () = prove!(align_of::<BlockWalk<'static>>() == 8);
 const _: () = prove!(size_of::<PartWalk<'static>>() == 80);
 
 const _: () = prove!(align_of::<PartWalk<'static>>() == 8);
+
+const _: () = prove!(size_of::<LineWalk<'static>>() == 64);
+
+const _: () = prove!(align_of::<LineWalk<'static>>() == 8);
 
 /// Begins a walk over the blocks of a text.
 #[unsafe(no_mangle)]
@@ -97,4 +105,26 @@ pub extern "C" fn ansi_str_raw_parts_next<'a>(
     ensures next { GivesNextPart walk.old walk.new part.old part.new result buffer.old buffer.new }
 {
     parts_next(alloc, walk, part, buffer)
+}
+
+/// Begins a walk over the lines of the text wrapped at `width` columns.
+#[unsafe(no_mangle)]
+pub extern "C" fn ansi_str_raw_lines_begin<'a>(
+    text: &'a [u8],
+    width: usize,
+    walk: &mut LineWalk<'a>,
+) -> Answer
+    ensures { BeginsLines text.now width result walk.old walk.new }
+{
+    lines_begin(text, width, walk)
+}
+
+/// Takes the next line off a walk: where it begins and ends in the plain text.
+#[unsafe(no_mangle)]
+pub extern "C" fn ansi_str_raw_lines_next(walk: &mut LineWalk<'_>, line: &mut LineEntry) -> Answer
+    requires { IsLineWalk walk.old }
+    ensures walk { IsLineWalk walk.new }
+    ensures next { GivesNextLine walk.old walk.new line.old line.new result }
+{
+    lines_next(walk, line)
 }

@@ -1,12 +1,17 @@
 //! Calls on the display width of a text, and on its links.
 ghost use Rattle.ansi_calls.specs.Columns.{TellsWidth, TellsFitting, Truncates, Pads, Slices};
-ghost use Rattle.ansi_calls.specs.Columns.{ExpandsTabs, Wraps, WritesLink, WritesLines};
+ghost use Rattle.ansi_calls.specs.Columns.{Fits, TruncatesAt, ExpandsTabs, Wraps, WritesLink};
+ghost use Rattle.ansi_calls.specs.Columns.{WritesLines, BeginsLines, GivesNextLine};
+ghost use Rattle.ansi_columns.specs.LineWalks.{IsLineWalk};
 
 use crate::memory::arena_of;
 use ansi_calls::answers::Answer;
-use ansi_calls::columns::{expand_tabs, fitting, link_at, pad, slice, truncate, width};
-use ansi_calls::lines::{LineEntry, lines, wrap};
+use ansi_calls::columns::{
+    expand_tabs, fit, fitting, link_at, pad, slice, truncate, truncate_with, width,
+};
+use ansi_calls::lines::{LineEntry, lines, lines_begin, lines_next, wrap};
 use ansi_calls::lists::ListAnswer;
+use ansi_columns::line_walks::LineWalk;
 use one_block::{MemoryBlock, OneBlock};
 
 /// The display width of the plain text, in columns.
@@ -53,6 +58,38 @@ pub extern "C" fn ansi_str_raw_pad(
 {
     let block = OneBlock::new(memory);
     pad(&arena_of(&block), text, width, alignment, buffer)
+}
+
+/// The text truncated or padded to `width` columns.
+#[unsafe(no_mangle)]
+pub extern "C" fn ansi_str_raw_fit(
+    memory: MemoryBlock,
+    text: &[u8],
+    width: usize,
+    alignment: u32,
+    tail: &[u8],
+    buffer: &mut [u8],
+) -> Answer
+    ensures { Fits text.now width alignment tail.now result buffer.old buffer.new }
+{
+    let block = OneBlock::new(memory);
+    fit(&arena_of(&block), text, width, alignment, tail, buffer)
+}
+
+/// The text truncated to `width` columns at a side.
+#[unsafe(no_mangle)]
+pub extern "C" fn ansi_str_raw_truncate_with(
+    memory: MemoryBlock,
+    text: &[u8],
+    width: usize,
+    tail: &[u8],
+    side: u32,
+    buffer: &mut [u8],
+) -> Answer
+    ensures { TruncatesAt text.now width tail.now side result buffer.old buffer.new }
+{
+    let block = OneBlock::new(memory);
+    truncate_with(&arena_of(&block), text, width, tail, side, buffer)
 }
 
 /// The columns of the text from `start` up to `end`.
@@ -109,6 +146,28 @@ pub extern "C" fn ansi_str_raw_lines(
     ensures { WritesLines text.now width result entries.old entries.new }
 {
     lines(text, width, entries)
+}
+
+/// Begins a walk over the lines of the text wrapped at `width` columns.
+#[unsafe(no_mangle)]
+pub extern "C" fn ansi_str_raw_lines_begin<'a>(
+    text: &'a [u8],
+    width: usize,
+    walk: &mut LineWalk<'a>,
+) -> Answer
+    ensures { BeginsLines text.now width result walk.old walk.new }
+{
+    lines_begin(text, width, walk)
+}
+
+/// Takes the next line off a walk: where it begins and ends in the plain text.
+#[unsafe(no_mangle)]
+pub extern "C" fn ansi_str_raw_lines_next(walk: &mut LineWalk<'_>, line: &mut LineEntry) -> Answer
+    requires { IsLineWalk walk.old }
+    ensures walk { IsLineWalk walk.new }
+    ensures next { GivesNextLine walk.old walk.new line.old line.new result }
+{
+    lines_next(walk, line)
 }
 
 /// The address of the hyperlink at a position.

@@ -12,3 +12,4 @@ pub mod positions;
 pub mod scans;
 pub mod searches;
 pub mod styles;
+pub mod tables;

@@ -3,6 +3,7 @@ use Rattle.std.proofs.Common.{◌≡◌, [], ◌∷◌, true, false, Some, None,
 use Rattle.std.specs.Prelude.{codes}
 use Rattle.ansi_safe.specs.declared.policy.Links.TheVariants.{Keep, Remove}
 use Rattle.ansi_safe.specs.declared.policy.Rest.TheVariants.{Drop, Show}
+use Rattle.ansi_view_runs.specs.Edits.{Expanded, Sliced, Truncated, Padded, Wrapped}
 use Rattle.ansi_view_runs.specs.Lines.{lines}
 use Rattle.ansi_view_runs.specs.Views.{viewed, opening_after}
 use Rattle.ansi_view_runs.specs.Words.{bad_word, view_asked}
@@ -27,19 +28,30 @@ lines-empty = refl
 pub viewed-empty : viewed (view_asked []) (codes "\u{1b}[31m") (record { text = []; end = codes "\r\n" }) ≡ codes "\r\n"
 viewed-empty = refl
 
-pub opening-empty : opening_after (view_asked []) (codes "\u{1b}[31m") (record { text = []; end = codes "\n" }) ≡ codes "\u{1b}[31m"
+pub opening-empty : opening_after (view_asked []).view (codes "\u{1b}[31m") (record { text = []; end = codes "\n" }) ≡ codes "\u{1b}[31m"
 opening-empty = refl
 
 -- the words, in any order
-pub view_asked-all : view_asked (codes "plain" ∷ codes "links" ∷ codes "show" ∷ []) ≡ record { policy = record { rest = Show; links = Keep }; plain = true }
+pub view_asked-all : view_asked (codes "plain" ∷ codes "links" ∷ codes "show" ∷ []) ≡ record { view = record { policy = record { rest = Show; links = Keep }; plain = true }; changes = [] }
 view_asked-all = refl
 
-pub view_asked-none : view_asked [] ≡ record { policy = record { rest = Drop; links = Remove }; plain = false }
+pub view_asked-none : view_asked [] ≡ record { view = record { policy = record { rest = Drop; links = Remove }; plain = false }; changes = [] }
 view_asked-none = refl
+
+-- words on columns, in their order, among others; a tail may have colons
+pub view_asked-changes : view_asked (codes "truncate:80:.:" ∷ codes "plain" ∷ codes "slice:007:" ∷ codes "truncate:5" ∷ codes "slice:1:2" ∷ codes "wrap:0" ∷ codes "pad:3" ∷ codes "expand:8" ∷ [])
+    ≡ record {
+      view = record { policy = record { rest = Drop; links = Remove }; plain = true };
+      changes = Truncated 80 (codes ".:") ∷ Sliced 7 None ∷ Truncated 5 [] ∷ Sliced 1 (Some 2) ∷ Wrapped 0 ∷ Padded 3 ∷ Expanded 8 ∷ [];
+    }
+view_asked-changes = refl
 
 -- the first bad word
 pub bad_word-second : bad_word (codes "show" ∷ codes "Show" ∷ codes "x" ∷ []) ≡ Some (codes "Show")
 bad_word-second = refl
+
+pub bad_word-change : bad_word (codes "pad:1" ∷ codes "slice::1" ∷ []) ≡ Some (codes "slice::1")
+bad_word-change = refl
 
 pub bad_word-none : bad_word (codes "show" ∷ codes "show" ∷ []) ≡ None
 bad_word-none = refl

@@ -4,3 +4,4 @@ pub mod WordLemmas
 pub mod Shown
 pub mod Viewed
 pub mod StayLemmas
+pub mod JoinLemmas

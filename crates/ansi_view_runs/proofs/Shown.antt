@@ -2,10 +2,9 @@
 use Rattle.std.proofs.Common.{◌≡◌, ◌≤◌, ◌<◌, List, [], ◌++◌, ℕ, length, Option, refl, sym, ap, ◌∙◌, append_assoc, append-nil}
 use Rattle.std.specs.Io.KnownBytes.{append_known}
 use Rattle.ansi_io.proofs.Known.{append_known-nil, append_known-twice}
-use Rattle.ansi_view_runs.specs.declared.view.View.{View}
 use Rattle.ansi_view_runs.specs.Lines.{Line, HasNoLineFeed, max_piece, lines}
 use Rattle.ansi_view_runs.specs.LineViews.{BeginsWithLine}
-use Rattle.ansi_view_runs.specs.Views.{opening_after, viewed, viewed_all}
+use Rattle.ansi_view_runs.specs.Views.{Work, opening_after, viewed, viewed_all}
 use Rattle.ansi_view_runs.specs.Runs.{to_come, Shows, ShowsBeginning}
 use Rattle.ansi_view_runs.proofs.LineLemmas.{lines-none, only_line}
 
@@ -27,22 +26,22 @@ pub Shows-then : {before now after : List ℕ → List ℕ} {old mid new : Optio
 Shows-then {before} {now} {after} {old} {mid} {new} first next = Shows-more new next.part first next.taken next.whole
 
 -- what is to come of bytes that begin with a line
-pub to_come-line : (view : View) (opening opening_then b rest : List ℕ) (line : Line) → BeginsWithLine b line rest → opening_then ≡ opening_after view opening line
-    → (more : List ℕ) → to_come view opening b more ≡ viewed view opening line ++ to_come view opening_then rest more
+pub to_come-line : (work : Work) (opening opening_then b rest : List ℕ) (line : Line) → BeginsWithLine b line rest → opening_then ≡ opening_after work.view opening line
+    → (more : List ℕ) → to_come work opening b more ≡ viewed work opening line ++ to_come work opening_then rest more
 unfolding viewed_all
-to_come-line view opening opening_then b rest line begins then more =
-    ap (viewed_all view opening) (begins more) ∙ ap (λ o. viewed view opening line ++ to_come view o rest more) (sym then)
+to_come-line work opening opening_then b rest line begins then more =
+    ap (viewed_all work opening) (begins more) ∙ ap (λ o. viewed work opening line ++ to_come work o rest more) (sym then)
 
 -- nothing comes of no bytes
-pub to_come-nothing : (view : View) (opening : List ℕ) → to_come view opening [] [] ≡ []
+pub to_come-nothing : (work : Work) (opening : List ℕ) → to_come work opening [] [] ≡ []
 unfolding viewed_all
-to_come-nothing view opening = ap (viewed_all view opening) lines-none
+to_come-nothing work opening = ap (viewed_all work opening) lines-none
 
 -- the last line comes of bytes without a line feed
-pub to_come-last : (view : View) (opening b : List ℕ) → 0 < length b → HasNoLineFeed b → length b ≤ max_piece → to_come view opening b [] ≡ viewed view opening (record { text = b; end = [] })
+pub to_come-last : (work : Work) (opening b : List ℕ) → 0 < length b → HasNoLineFeed b → length b ≤ max_piece → to_come work opening b [] ≡ viewed work opening (record { text = b; end = [] })
 unfolding viewed_all
-to_come-last view opening b some none fits =
-    ap (λ t. viewed_all view opening (lines t)) (append-nil b) ∙ ap (viewed_all view opening) (only_line b some none fits) ∙ append-nil (viewed view opening (record { text = b; end = [] }))
+to_come-last work opening b some none fits =
+    ap (λ t. viewed_all work opening (lines t)) (append-nil b) ∙ ap (viewed_all work opening) (only_line b some none fits) ∙ append-nil (viewed work opening (record { text = b; end = [] }))
 
 -- no bytes are a beginning
 pub nothing_shown : (before : List ℕ → List ℕ) (old : Option (List ℕ)) → ShowsBeginning before old old

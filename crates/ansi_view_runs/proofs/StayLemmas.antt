@@ -1,5 +1,6 @@
 -- Which lines stay as they are.
-use Rattle.std.proofs.Common.{◌≡◌, ℕ, true, false, List, [], ◌++◌, ◌==◌, length, refl, sym, subst, ap, ◌∙◌, inl, inr, if◌then◌else◌}
+use Rattle.std.proofs.Common.{◌≡◌, ℕ, true, false, List, [], ◌++◌, ◌==◌, length, refl, sym, subst, ap, ◌∙◌, inl, inr, append-nil, if◌then◌else◌}
+use Rattle.std.specs.List.{join_by}
 use Rattle.std.specs.Str.{IsUtf8}
 use Rattle.std.proofs.lemmas.Bool.{cases_Bool, eqb-true, or_parts}
 use Rattle.std.proofs.lemmas.List.{nil_from_length}
@@ -17,7 +18,8 @@ use Rattle.ansi_safe.proofs.EndingLemmas.{append-both_nil, close-none, link_end-
 use Rattle.ansi_safe.proofs.MadeLemmas.{cleaned-safe, sanitized-closed}
 use Rattle.ansi_view_runs.specs.declared.view.View.{View}
 use Rattle.ansi_view_runs.specs.Lines.{Line}
-use Rattle.ansi_view_runs.specs.Views.{body, decoded, opening_of, opening_after, viewed}
+use Rattle.ansi_view_runs.specs.Edits.{changed_in_turn}
+use Rattle.ansi_view_runs.specs.Views.{Work, body, decoded, line_break, opening_of, opening_after, shown, viewed}
 
 -- what ends nothing opens nothing
 opening-closed : (t : List ℕ) → ending t ≡ [] → opening_of t ≡ []
@@ -54,14 +56,21 @@ opens_nothing : (view : View) (t : List ℕ) → view.plain ≡ false → IsUtf8
 opens_nothing view t shown utf8 safe closed =
     ap (λ u. opening_of (cleaned view.policy u)) (decoded-stays view t shown utf8) ∙ ap opening_of (cleaned-safe view.policy t safe) ∙ opening-closed t closed
 
+-- if there are no changes, a line becomes its text made safe, and its end
+pub viewed-unchanged : (work : Work) (opening : List ℕ) (line : Line) → work.changes ≡ [] → viewed work opening line ≡ shown work.view opening line ++ line.end
+viewed-unchanged work opening line none =
+    ap (λ changes. join_by (λ t. t) (line_break line.end) (changed_in_turn changes (shown work.view opening line)) ++ line.end) none
+    ∙ ap (λ t. t ++ line.end) (append-nil (shown work.view opening line))
+
 -- so does a line with this text, if nothing is open before it
-pub line_stays : (view : View) (opening : List ℕ) (line : Line) (text : List ℕ) → view.plain ≡ false → opening ≡ [] → (text ≡ line.text) × IsUtf8 line.text
-    → is_safe view.policy.links text ≡ true → (length (ending text) == 0) ≡ true → (viewed view opening line ≡ line.text ++ line.end) × (opening_after view opening line ≡ opening)
-line_stays view opening line text shown none utf8 safe_text closed_text =
+pub line_stays : (work : Work) (opening : List ℕ) (line : Line) (text : List ℕ) → (work.changes ≡ []) × (work.view.plain ≡ false) × (opening ≡ []) → (text ≡ line.text) × IsUtf8 line.text
+    → is_safe work.view.policy.links text ≡ true → (length (ending text) == 0) ≡ true → (viewed work opening line ≡ line.text ++ line.end) × (opening_after work.view opening line ≡ opening)
+line_stays work opening line text (unchanged, shown_so, none) utf8 safe_text closed_text =
+    let view = work.view in
     let t = line.text in
     let safe : is_safe view.policy.links t ≡ true = ap (is_safe view.policy.links) (sym utf8.0) ∙ safe_text in
     let closed : ending t ≡ [] = ap ending (sym utf8.0) ∙ nil_from_length (ending text) (eqb-true (length (ending text)) 0 closed_text) in
-    subst (λ o. (viewed view o line ≡ t ++ line.end) × (opening_after view o line ≡ o)) (sym none) (
-      ap (λ made. made ++ line.end) (if_empty-stays t _ (text_stays view t shown utf8.1 safe closed)),
-      if_empty-none t _ (opens_nothing view t shown utf8.1 safe closed),
+    subst (λ o. (viewed work o line ≡ t ++ line.end) × (opening_after view o line ≡ o)) (sym none) (
+      viewed-unchanged work [] line unchanged ∙ ap (λ made. made ++ line.end) (if_empty-stays t _ (text_stays view t shown_so utf8.1 safe closed)),
+      if_empty-none t _ (opens_nothing view t shown_so utf8.1 safe closed),
     )

@@ -1,6 +1,8 @@
 pub mod Lines
+pub mod Edits
 pub mod Views
 pub mod LineViews
+pub mod Jobs
 pub mod Words
 pub mod Causes
 pub mod Stops

@@ -1,17 +1,16 @@
 -- What a run writes of its input, so far and to the end.
 use Rattle.std.specs.Prelude.{◌≡◌, ◌≤◌, ◌⊎◌, ℕ, ◌+◌, List, [], ◌++◌, Bool, true, Option, Some, None, ⊤}
 use Rattle.std.specs.Io.KnownBytes.{append_known, prepend_known}
-use Rattle.ansi_view_runs.specs.declared.view.View.{View}
 use Rattle.ansi_view_runs.specs.declared.stop.Stop.{Stop}
 use Rattle.ansi_view_runs.specs.declared.stop.Stop.TheVariants.{Closed, ReadFailed, WriteFailed, OutOfMemory}
 use Rattle.ansi_io.specs.Devices.{count_after}
 use Rattle.ansi_lines_runs.specs.Lines.{WritesBeginning}
 use Rattle.ansi_view_runs.specs.Lines.{lines}
-use Rattle.ansi_view_runs.specs.Views.{viewed_all, view_of}
+use Rattle.ansi_view_runs.specs.Views.{Work, viewed_all, view_of}
 
 -- what an input becomes that begins with these bytes, with this open before them, whatever follows
-abbrev pub to_come : View → List ℕ → List ℕ → List ℕ → List ℕ
-to_come view opening bytes more = viewed_all view opening (lines (bytes ++ more))
+abbrev pub to_come : Work → List ℕ → List ℕ → List ℕ → List ℕ
+to_come work opening bytes more = viewed_all work opening (lines (bytes ++ more))
 
 -- the bytes taken since, and then what is still to come, are all that was to come before, whatever follows
 pub record Shows (before after : List ℕ → List ℕ) (old new : Option (List ℕ)) : Type 0 where
@@ -37,27 +36,27 @@ StopsWriting failed_before failed_after closed_before closed_after so_far OutOfM
 StopsWriting failed_before failed_after closed_before closed_after so_far ReadFailed = ⊥
 
 -- the bytes read so far came before those left, what they become is written as far as it is decided, and the rest is held
-pub record HasViewed (view : View) (opening rest : List ℕ) (left_before left_after old new : Option (List ℕ)) : Type 0 where
+pub record HasViewed (work : Work) (opening rest : List ℕ) (left_before left_after old new : Option (List ℕ)) : Type 0 where
   pub read : List ℕ
   pub left : left_before ≡ prepend_known read left_after
-  pub shows : Shows (to_come view [] read) (to_come view opening rest) old new
+  pub shows : Shows (to_come work [] read) (to_come work opening rest) old new
 
 -- what all of the input becomes is written, if the input reports its bytes
-abbrev pub ViewsAll : View → Option (List ℕ) → Option (List ℕ) → Option (List ℕ) → Type 0
-ViewsAll view None old new = ⊤
-ViewsAll view (Some bytes) old new = new ≡ append_known old (view_of view bytes)
+abbrev pub ViewsAll : Work → Option (List ℕ) → Option (List ℕ) → Option (List ℕ) → Type 0
+ViewsAll work None old new = ⊤
+ViewsAll work (Some bytes) old new = new ≡ append_known old (view_of work bytes)
 
 -- what the bytes read become is written, which are a front of the input, if it reports its bytes
-pub record ViewsFront (view : View) (left old new : Option (List ℕ)) : Type 0 where
+pub record ViewsFront (work : Work) (left old new : Option (List ℕ)) : Type 0 where
   pub read : List ℕ
   pub rest : Option (List ℕ)
   pub front : left ≡ prepend_known read rest
-  pub taken : new ≡ append_known old (view_of view read)
+  pub taken : new ≡ append_known old (view_of work read)
 
 -- a beginning of what the input becomes is written, if it reports its bytes
-abbrev pub ViewsBeginning : View → Option (List ℕ) → Option (List ℕ) → Option (List ℕ) → Type 0
-ViewsBeginning view None old new = ⊤
-ViewsBeginning view (Some bytes) old new = WritesBeginning old new (view_of view bytes)
+abbrev pub ViewsBeginning : Work → Option (List ℕ) → Option (List ℕ) → Option (List ℕ) → Type 0
+ViewsBeginning work None old new = ⊤
+ViewsBeginning work (Some bytes) old new = WritesBeginning old new (view_of work bytes)
 
 -- reading stops because a read failed, or because as many reads were made as are counted
 abbrev pub StopsReading : Bool → ℕ → Type 0

@@ -2,6 +2,7 @@
 #![tactic(auto)]
 
 pub mod causes;
+pub mod edits;
 pub mod lines;
 pub mod runs;
 pub mod stop;

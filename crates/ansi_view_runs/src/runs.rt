@@ -6,6 +6,7 @@ ghost use Rattle.std.specs.Io.KnownBytes.{append_known};
 ghost use Rattle.ansi_io.specs.Devices.{count_after, was_closed};
 ghost use Rattle.ansi_lines_runs.specs.Runs.{words_of};
 ghost use Rattle.ansi_view_runs.specs.Lines.{max_piece, HasNoLineFeed};
+ghost use Rattle.ansi_view_runs.specs.Jobs.{work_of};
 ghost use Rattle.ansi_view_runs.specs.LineViews.{line_of};
 ghost use Rattle.ansi_view_runs.specs.Runs.{to_come, Shows, ShowsBeginning, StopsWriting};
 ghost use Rattle.ansi_view_runs.specs.Runs.{KeepsFlags, MostFlushes, StopsReading};
@@ -16,12 +17,15 @@ ghost use Rattle.ansi_view_runs.specs.Words.{bad_word, message_of_word, view_ask
 
 use crate::lines::{Line, split_first};
 use crate::stop::{OUT_OF_MEMORY, Stop, write_message};
-use crate::view::{View, stays, view_line};
+use crate::view::{Job, stays, view_line};
 use crate::words::parse;
 use ansi_io::devices::{ReadFault, Sink, Source, WriteFault};
 use ansi_safe::policy::{Links, Policy, Rest};
 use ansi_safe::safe::sanitize;
 use std::alloc::{AllocError, Allocator};
+
+// What follows a bad word.
+const WHERE_WORDS_ARE: &str = ": `ansi_view --help` lists the words\n";
 
 // The most bytes that a read may give.
 const ROOM: usize = 65_536;
@@ -38,26 +42,26 @@ pub struct Held<A: Allocator> {
 // Writes what a line becomes. `opening` is what is open before the line, and then after it.
 fn write_line<A: Allocator + Copy, W: Sink>(
     alloc: A,
-    view: View,
+    job: &Job<'_, A>,
     opening: &mut String<A>,
     line: &Line<'_>,
     output: &mut W,
 ) -> Result<(), Stop>
     ensures taken { OnOk result (W.taken output.new ≡ append_known (W.taken output.old)
-        (viewed view (string_bytes opening.old) (line_of line.now))) }
+        (viewed (work_of job.now) (string_bytes opening.old) (line_of line.now))) }
     ensures opening { OnOk result (string_bytes opening.new
-        ≡ opening_after view (string_bytes opening.old) (line_of line.now)) }
+        ≡ opening_after job.now.view (string_bytes opening.old) (line_of line.now)) }
     ensures flushes { W.flushes output.new ≡ W.flushes output.old }
     ensures flags { OnOk result (KeepsFlags (W.failed output.old) (W.failed output.new)
         (W.closed output.old) (W.closed output.new)) }
     ensures stopped { IfErr result (StopsWriting (W.failed output.old) (W.failed output.new)
         (W.closed output.old) (W.closed output.new) (W.taken output.new ≡ W.taken output.old)) }
 {
-    if stays(view, opening.as_str(), line) {
+    if stays(job, opening.as_str(), line) {
         write_unchanged(line, output)?;
         return Ok(());
     }
-    let viewed = view_line(alloc, view, opening, line)?;
+    let viewed = view_line(alloc, job, opening, line)?;
     output.write(viewed.as_bytes())?;
     Ok(())
 }
@@ -77,26 +81,27 @@ fn write_unchanged<W: Sink>(line: &Line<'_>, output: &mut W) -> Result<(), Write
 // Writes what each line and piece becomes that these bytes decide, and returns the other bytes.
 fn write_lines<'t, A: Allocator + Copy, W: Sink>(
     alloc: A,
-    view: View,
+    job: &Job<'_, A>,
     opening: &mut String<A>,
     bytes: &'t [u8],
     output: &mut W,
 ) -> Result<&'t [u8], Stop>
-    ensures done { IfOk result (λ rest. Shows (to_come view (string_bytes opening.old) bytes.now)
-        (to_come view (string_bytes opening.new) rest.now) (W.taken output.old)
-        (W.taken output.new)) }
+    ensures done { IfOk result (λ rest. Shows
+        (to_come (work_of job.now) (string_bytes opening.old) bytes.now)
+        (to_come (work_of job.now) (string_bytes opening.new) rest.now)
+        (W.taken output.old) (W.taken output.new)) }
     ensures rest { IfOk result (λ rest. HasNoLineFeed rest.now × (length rest.now ≤ max_piece)) }
     ensures flushes { W.flushes output.new ≡ W.flushes output.old }
     ensures flags { OnOk result (KeepsFlags (W.failed output.old) (W.failed output.new)
         (W.closed output.old) (W.closed output.new)) }
     ensures stopped { IfErr result (StopsWriting (W.failed output.old) (W.failed output.new)
-        (W.closed output.old) (W.closed output.new)
-        (ShowsBeginning (to_come view (string_bytes opening.old) bytes.now) (W.taken output.old)
-        (W.taken output.new))) }
+        (W.closed output.old) (W.closed output.new) (ShowsBeginning
+        (to_come (work_of job.now) (string_bytes opening.old) bytes.now)
+        (W.taken output.old) (W.taken output.new))) }
 {
     let mut rest = bytes;
     while let Some((line, after)) = split_first(rest) {
-        write_line(alloc, view, opening, &line, output)?;
+        write_line(alloc, job, opening, &line, output)?;
         rest = after;
     }
     Ok(rest)
@@ -106,14 +111,15 @@ fn write_lines<'t, A: Allocator + Copy, W: Sink>(
 /// passes all on. At most 1 MiB is held after it.
 pub fn take_bytes<A: Allocator + Copy, W: Sink>(
     alloc: A,
-    view: View,
+    job: &Job<'_, A>,
     held: &mut Held<A>,
     bytes: &[u8],
     output: &mut W,
 ) -> Result<(), Stop>
     ensures done { OnOk result (Shows
-        (to_come view (string_bytes held.old.opening) (held.old.rest.items ++ bytes.now))
-        (to_come view (string_bytes held.new.opening) held.new.rest.items)
+        (to_come (work_of job.now) (string_bytes held.old.opening)
+        (held.old.rest.items ++ bytes.now))
+        (to_come (work_of job.now) (string_bytes held.new.opening) held.new.rest.items)
         (W.taken output.old) (W.taken output.new)) }
     ensures rest { OnOk result
         (HasNoLineFeed held.new.rest.items × (vec_len held.new.rest ≤ max_piece)) }
@@ -125,11 +131,12 @@ pub fn take_bytes<A: Allocator + Copy, W: Sink>(
         (W.closed output.old) (W.closed output.new)) }
     ensures stopped { IfErr result (StopsWriting (W.failed output.old) (W.failed output.new)
         (W.closed output.old) (W.closed output.new) (ShowsBeginning
-        (to_come view (string_bytes held.old.opening) (held.old.rest.items ++ bytes.now))
+        (to_come (work_of job.now) (string_bytes held.old.opening)
+        (held.old.rest.items ++ bytes.now))
         (W.taken output.old) (W.taken output.new))) }
 {
     held.rest.extend_from_slice(bytes)?;
-    let rest = write_lines(alloc, view, &mut held.opening, held.rest.as_slice(), output)?;
+    let rest = write_lines(alloc, job, &mut held.opening, held.rest.as_slice(), output)?;
     let rest = Vec::from_slice(alloc, rest)?;
     held.rest = rest;
     output.flush()?;
@@ -139,13 +146,13 @@ pub fn take_bytes<A: Allocator + Copy, W: Sink>(
 // Writes what the bytes held become, a line without an end, and passes all on.
 fn write_last<A: Allocator + Copy, W: Sink>(
     alloc: A,
-    view: View,
+    job: &Job<'_, A>,
     held: &mut Held<A>,
     output: &mut W,
 ) -> Result<(), Stop>
     requires { HasNoLineFeed held.old.rest.items × (vec_len held.old.rest ≤ max_piece) }
     ensures done { OnOk result (W.taken output.new ≡ append_known (W.taken output.old)
-        (to_come view (string_bytes held.old.opening) held.old.rest.items [])) }
+        (to_come (work_of job.now) (string_bytes held.old.opening) held.old.rest.items [])) }
     ensures flushed { OnOk result (W.flushed output.new ≡ W.taken output.new) }
     ensures flushes { OnOk result (W.flushes output.new ≡ count_after (W.flushes output.old) 1) }
     ensures most_flushes { (W.flushes output.new ≡ W.flushes output.old) ⊎
@@ -159,7 +166,7 @@ fn write_last<A: Allocator + Copy, W: Sink>(
     if !text.is_empty() {
         write_line(
             alloc,
-            view,
+            job,
             &mut held.opening,
             &Line { text, end: "" },
             output,
@@ -172,11 +179,11 @@ fn write_last<A: Allocator + Copy, W: Sink>(
 // Writes what the whole input becomes, and passes on what each read decides before the next read.
 fn view_all<A: Allocator + Copy, S: Source, W: Sink>(
     alloc: A,
-    view: View,
+    job: &Job<'_, A>,
     input: &mut S,
     output: &mut W,
 ) -> Result<(), Stop>
-    ensures done { OnOk result (ViewsAll view (S.left input.old) (W.taken output.old)
+    ensures done { OnOk result (ViewsAll (work_of job.now) (S.left input.old) (W.taken output.old)
         (W.taken output.new)) }
     ensures flushed { OnOk result (W.flushed output.new ≡ W.taken output.new) }
     ensures unfailed { OnOk result (S.failed input.new ≡ S.failed input.old) }
@@ -184,7 +191,7 @@ fn view_all<A: Allocator + Copy, S: Source, W: Sink>(
         (W.closed output.old) (W.closed output.new)) }
     ensures read_failed { IsErrOf result Stop.ReadFailed →
         StopsReading (S.failed input.new) (S.reads input.new)
-        × ViewsFront view (S.left input.old) (W.taken output.old) (W.taken output.new)
+        × ViewsFront (work_of job.now) (S.left input.old) (W.taken output.old) (W.taken output.new)
         × (W.flushed output.new ≡ W.taken output.new)
         × KeepsFlags (W.failed output.old) (W.failed output.new) (W.closed output.old)
         (W.closed output.new) }
@@ -193,9 +200,9 @@ fn view_all<A: Allocator + Copy, S: Source, W: Sink>(
     ensures write_failed { IsErrOf result Stop.WriteFailed →
         (W.failed output.new ≡ true) × (W.closed output.new ≡ W.closed output.old) }
     ensures out_of_memory { IsErrOf result Stop.OutOfMemory →
-        ViewsBeginning view (S.left input.old) (W.taken output.old) (W.taken output.new)
-        × KeepsFlags (W.failed output.old) (W.failed output.new) (W.closed output.old)
-        (W.closed output.new) }
+        ViewsBeginning (work_of job.now) (S.left input.old) (W.taken output.old)
+        (W.taken output.new) × KeepsFlags (W.failed output.old) (W.failed output.new)
+        (W.closed output.old) (W.closed output.new) }
     ensures most_flushes { MostFlushes (S.reads input.old) (S.reads input.new)
         (W.flushes output.old) (W.flushes output.new) }
 {
@@ -207,18 +214,18 @@ fn view_all<A: Allocator + Copy, S: Source, W: Sink>(
     for _turn in 0..u64::MAX {
         match input.read(&mut room) {
             Ok(0) => {
-                write_last(alloc, view, &mut held, output)?;
+                write_last(alloc, job, &mut held, output)?;
                 return Ok(());
             }
-            Ok(count) => take_bytes(alloc, view, &mut held, &room[..count], output)?,
+            Ok(count) => take_bytes(alloc, job, &mut held, &room[..count], output)?,
             Err(ReadFault::Interrupted) => {}
             Err(ReadFault::Failed) => {
-                write_last(alloc, view, &mut held, output)?;
+                write_last(alloc, job, &mut held, output)?;
                 return Err(Stop::ReadFailed);
             }
         }
     }
-    write_last(alloc, view, &mut held, output)?;
+    write_last(alloc, job, &mut held, output)?;
     Err(Stop::ReadFailed)
 }
 
@@ -226,12 +233,14 @@ fn view_all<A: Allocator + Copy, S: Source, W: Sink>(
 ///
 /// It writes what each read decides, and passes it on, before the next read. What a line becomes
 /// is a text that can be looked at alone: it begins with what is open before it and ends what it
-/// leaves open. At most 1 MiB of the input is held, and a longer line is handled in pieces.
+/// leaves open. Edits by columns are made of this text in turn, and don't change what is open
+/// after it. At most 1 MiB of the input is held, and a longer line is handled in pieces, each
+/// edited like a line.
 ///
 /// | status | when | text on the fault writer |
 /// |---|---|---|
 /// | 0 | done, or nobody reads the output any more | none |
-/// | 2 | a bad word; nothing is read | `bad word: WORD\n`, the word made safe |
+/// | 2 | a bad word; nothing is read | `bad word: WORD: ..\n`, the word made safe |
 /// | 3 | a read of the input failed; what was read before it is written | `read failed: CAUSE\n` |
 /// | 4 | a write or a flush of the output failed | `write failed: CAUSE\n` |
 /// | 5 | out of memory; what is written is a beginning of the whole output | `out of memory\n` |
@@ -303,12 +312,13 @@ pub fn run<A: Allocator, S: Source, W: Sink, V: Sink>(
         IfSome (bad_word (words_of words.now)) (λ word.
         V.taken faults.new ≡ append_known (V.taken faults.old) (message_of_word word)) }
 {
-    match parse(words) {
-        Ok(view) => match view_all(&alloc, view, input, output) {
+    match parse(&alloc, words) {
+        Ok(Ok(job)) => match view_all(&alloc, &job, input, output) {
             Ok(()) => 0,
             Err(stop) => stop.tell(input.cause(), output.cause(), faults),
         },
-        Err(word) => tell_word(&alloc, word, faults),
+        Ok(Err(word)) => tell_word(&alloc, word, faults),
+        Err(AllocError) => Stop::OutOfMemory.tell(input.cause(), output.cause(), faults),
     }
 }
 
@@ -326,7 +336,7 @@ fn tell_word<A: Allocator, V: Sink>(alloc: A, word: &str, faults: &mut V) -> u8
     };
     match sanitize(alloc, word, policy) {
         Ok(word) => {
-            let _ = write_message("bad word: ", word.as_str(), faults);
+            let _ = write_message("bad word: ", word.as_str(), WHERE_WORDS_ARE, faults);
             2
         }
         Err(AllocError) => {

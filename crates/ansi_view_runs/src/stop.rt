@@ -1,5 +1,5 @@
 //! Why a run ends early.
-ghost use Rattle.std.specs.Prelude.{◌≡◌, ◌++◌, OnErr, OnOk, codes, false, true};
+ghost use Rattle.std.specs.Prelude.{◌≡◌, ◌++◌, OnErr, OnOk, false, true};
 ghost use Rattle.std.specs.Io.KnownBytes.{append_known};
 ghost use Rattle.ansi_view_runs.specs.declared.stop.Stop.TheVariants.{OutOfMemory};
 ghost use Rattle.ansi_view_runs.specs.Stops.{stop_after, status_of, message_of};
@@ -68,27 +68,28 @@ impl Stop {
     {
         match self {
             Stop::Closed => Ok(()),
-            Stop::ReadFailed => write_message("read failed: ", text_of(read), faults),
-            Stop::WriteFailed => write_message("write failed: ", text_of(written), faults),
+            Stop::ReadFailed => write_message("read failed: ", text_of(read), "\n", faults),
+            Stop::WriteFailed => write_message("write failed: ", text_of(written), "\n", faults),
             Stop::OutOfMemory => faults.write(OUT_OF_MEMORY),
         }
     }
 }
 
-// Writes a text as one line, after what is in front of it.
+// Writes a text, after what is in front of it, and then the end of the line.
 pub(crate) fn write_message<V: Sink>(
     front: &str,
     text: &str,
+    end: &str,
     faults: &mut V,
 ) -> Result<(), WriteFault>
     ensures told { OnOk result (V.taken faults.new ≡ append_known (V.taken faults.old)
-        (front.now ++ text.now ++ codes "\n")) }
+        (front.now ++ text.now ++ end.now)) }
     ensures flushes { V.flushes faults.new ≡ V.flushes faults.old }
     ensures failed { OnErr result (V.failed faults.new ≡ true) }
 {
     faults.write(front.as_bytes())?;
     faults.write(text.as_bytes())?;
-    faults.write(b"\n")
+    faults.write(end.as_bytes())
 }
 
 impl From<AllocError> for Stop {

@@ -1,37 +1,92 @@
 //! The words that the program is given.
-ghost use Rattle.std.specs.Prelude.{◌≡◌, MatchResult, None, Some};
+ghost use Rattle.std.specs.Prelude.{◌≡◌, IfOk, MatchResult, None, Some};
+ghost use Rattle.std.specs.Option.{option_map};
 ghost use Rattle.ansi_lines_runs.specs.Runs.{words_of};
-ghost use Rattle.ansi_view_runs.specs.Words.{bad_word, view_asked};
+ghost use Rattle.ansi_view_runs.specs.Edits.{change_of};
+ghost use Rattle.ansi_view_runs.specs.Jobs.{work_of};
+ghost use Rattle.ansi_view_runs.specs.Words.{bad_word, change_asked, change_named, slice_of};
+ghost use Rattle.ansi_view_runs.specs.Words.{truncate_of, view_asked};
 
-use crate::view::View;
+use crate::edits::ColumnEdit;
+use crate::view::{Job, View};
+use ansi_lines_runs::words::{parse_end, parse_number};
 use ansi_safe::policy::{Links, Policy, Rest};
+use std::alloc::{AllocError, Allocator};
 
-/// What the words ask for. `Err` is the first bad word.
+/// What the words ask for. The inner `Err` is the first bad word, the outer `Err` means that memory
+/// has run out.
 ///
 /// ```
-/// let quiet = parse(&[]);
+/// let quiet = parse(alloc, &[])?;
 /// assert!(quiet.is_ok());
 /// ```
-pub fn parse(words: &[String]) -> Result<View, &str>
-    ensures { MatchResult result
-        (λ view. (bad_word (words_of words.now) ≡ None)
-        × (view ≡ view_asked (words_of words.now)))
-        (λ word. bad_word (words_of words.now) ≡ Some word.now) }
+pub fn parse<'w, A: Allocator>(
+    alloc: A,
+    words: &'w [String],
+) -> Result<Result<Job<'w, A>, &'w str>, AllocError>
+    ensures { IfOk result (λ parsed. MatchResult parsed
+        (λ job. (bad_word (words_of words.now) ≡ None)
+        × (work_of job ≡ view_asked (words_of words.now)))
+        (λ word. bad_word (words_of words.now) ≡ Some word.now)) }
 {
-    let mut view = View {
-        policy: Policy {
-            rest: Rest::Drop,
-            links: Links::Remove,
-        },
-        plain: false,
+    let mut policy = Policy {
+        rest: Rest::Drop,
+        links: Links::Remove,
     };
+    let mut plain = false;
+    let mut edits = Vec::new(alloc);
     for word in words {
         match word.as_str() {
-            "show" => view.policy.rest = Rest::Show,
-            "links" => view.policy.links = Links::Keep,
-            "plain" => view.plain = true,
-            bad => return Err(bad),
+            "show" => policy.rest = Rest::Show,
+            "links" => policy.links = Links::Keep,
+            "plain" => plain = true,
+            word => match parse_edit(word) {
+                Some(edit) => edits.push(edit)?,
+                None => return Ok(Err(word)),
+            },
         }
     }
-    Ok(view)
+    let view = View { policy, plain };
+    Ok(Ok(Job { view, edits }))
+}
+
+// The edit that a word asks for.
+fn parse_edit(word: &str) -> Option<ColumnEdit<'_>>
+    ensures { option_map change_of result ≡ change_asked word.now }
+{
+    let (name, field) = word.split_once(':')?;
+    parse_named(name, field)
+}
+
+// The edit of this name. The field is the text after the name's colon.
+fn parse_named<'w>(name: &str, field: &'w str) -> Option<ColumnEdit<'w>>
+    ensures { option_map change_of result ≡ change_named name.now field.now }
+{
+    match name {
+        "expand" => Some(ColumnEdit::Expand(parse_number(field)?)),
+        "slice" => parse_slice(field),
+        "truncate" => parse_truncate(field),
+        "pad" => Some(ColumnEdit::Pad(parse_number(field)?)),
+        "wrap" => Some(ColumnEdit::Wrap(parse_number(field)?)),
+        _ => None,
+    }
+}
+
+// The slice with this start and this end: `A:B`.
+fn parse_slice(fields: &str) -> Option<ColumnEdit<'_>>
+    ensures { option_map change_of result ≡ slice_of fields.now }
+{
+    let (start, end) = fields.split_once(':')?;
+    let start = parse_number(start)?;
+    let end = parse_end(end)?;
+    Some(ColumnEdit::Slice { start, end })
+}
+
+// The truncation to this width, with this tail: `N`, or `N:TAIL`. The tail may contain colons.
+fn parse_truncate(fields: &str) -> Option<ColumnEdit<'_>>
+    ensures { option_map change_of result ≡ truncate_of fields.now }
+{
+    let (width, tail) = fields.split_once(':').unwrap_or((fields, ""));
+    let width = parse_number(width)?;
+    Some(ColumnEdit::Truncate { width, tail })
 }

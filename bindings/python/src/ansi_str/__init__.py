@@ -19,14 +19,18 @@ The calls, each of which has an example in its own help, such as `help(ansi_str.
     trim(text)                         ends_with(text, pattern)
     strip_prefix(text, pattern)        width(text)
     strip_suffix(text, pattern)        fitting(text, width)
-    part(text, pattern, index)         truncate(text, width, tail='')
+    part(text, pattern, index)         truncate(text, width, tail='', side='end')
     split(text, pattern)               pad(text, width, alignment='left')
-    iter_split(text, pattern)          wrap(text, width)
-    blocks(text)                       edit(text, edits)
-    iter_blocks(text)                  is_safe(text, links=False)
-    link_at(text, position)            sanitize(text, show=False, links=False)
-    lines(text, width)                 slice_columns(text, start=0, end=None)
+    iter_split(text, pattern)          fit(text, width, alignment='left', tail='')
+    blocks(text)                       wrap(text, width)
+    iter_blocks(text)                  edit(text, edits)
+    link_at(text, position)            is_safe(text, links=False)
+    lines(text, width)                 sanitize(text, show=False, links=False)
+    iter_lines(text, width)            slice_columns(text, start=0, end=None)
     expand_tabs(text, stop=8)
+
+The classes, each with a help of its own: `Block` and `Style`, which `blocks` returns, and the edits `Cut`, `Left`, `Right`, `Part`,
+`Prefix`, `Suffix` and `Trim`. `import *` leaves them out.
 
 >>> log = "\\x1b[31mred\\x1b[39m and plain"
 >>> strip(log)
@@ -46,33 +50,40 @@ from importlib.util import module_from_spec, spec_from_file_location
 from typing import Any, Dict, FrozenSet, Iterable, Iterator, List, NamedTuple, Optional, Tuple, Union
 
 __version__ = "0.2.0"
+# (without the types: `help` would show a hundred lines for each class, all before the first function)
 __all__ = [
     "strip", "cut", "left", "right", "part", "strip_prefix", "strip_suffix", "trim",
-    "width", "fitting", "truncate", "pad", "slice_columns", "expand_tabs", "wrap", "lines", "link_at", "Alignment", "ALIGNMENTS",
+    "width", "fitting", "truncate", "pad", "fit", "slice_columns", "expand_tabs", "wrap", "lines", "iter_lines", "link_at",
+    "ALIGNMENTS", "SIDES",
     "find", "starts_with", "ends_with", "has_any", "is_whole",
     "sanitize", "is_safe",
-    "split", "iter_split", "blocks", "iter_blocks", "Block", "Style", "ATTRIBUTES", "COLORS",
-    "edit", "Edit", "Cut", "Left", "Right", "Part", "Prefix", "Suffix", "Trim",
+    "split", "iter_split", "blocks", "iter_blocks", "ATTRIBUTES", "COLORS",
+    "edit",
 ]
 
-ATTRIBUTES = ("bold", "faint", "italic", "underline", "slow_blink", "rapid_blink", "inverse", "hide", "crossedout", "fraktur")
-COLORS = ("Black", "BrightBlack", "Red", "BrightRed", "Green", "BrightGreen", "Yellow", "BrightYellow", "Blue", "BrightBlue",
-          "Purple", "BrightPurple", "Magenta", "BrightMagenta", "Cyan", "BrightCyan", "White", "BrightWhite")
+# the attributes by their bits, and the colors that codes name by their last digits, and the same bright
+ATTRIBUTES = ("bold", "faint", "italic", "underline", "double_underline", "slow_blink", "rapid_blink", "inverse", "hide", "crossedout",
+              "framed", "encircled", "fraktur", "proportional_spacing", "overlined", "ideogram_underline",
+              "ideogram_double_underline", "ideogram_overline", "ideogram_double_overline", "ideogram_stress_marking",
+              "superscript", "subscript")
+COLORS = ("Black", "Red", "Green", "Yellow", "Blue", "Magenta", "Cyan", "White",
+          "BrightBlack", "BrightRed", "BrightGreen", "BrightYellow", "BrightBlue", "BrightMagenta", "BrightCyan", "BrightWhite")
 ALIGNMENTS = ("left", "center", "right")
-_FIXED, _RGB = 19, 20
+SIDES = ("end", "start", "middle")
+_NO_COLOR, _NAMED, _FIXED = 0, 1, 2
 
 if sys.version_info >= (3, 8):
     from typing import Literal
     Alignment = Literal["left", "center", "right"]
+    Side = Literal["end", "start", "middle"]
 else:
-    Alignment = str
+    Alignment = Side = str
 
-# the attributes; two colors, each a kind, a number, red, green and blue; whether there is something to close; and more that is
-# private to the library
-_STYLE = struct.Struct("=I I4B I4B ?")
+# the attributes; the colors of the text and behind it, each a kind and three numbers; and more that `Style` doesn't have
+_STYLE = struct.Struct("=I4B4B")
 
 # the kinds of edits, the last position, and the questions about a text
-_CUT, _LEFT, _RIGHT, _PART, _PREFIX, _SUFFIX, _TRIM, _TRUNCATE, _PAD, _SANITIZE, _LINK_AT, _SLICE, _EXPAND_TABS = range(13)
+_CUT, _LEFT, _RIGHT, _PART, _PREFIX, _SUFFIX, _TRIM, _TRUNCATE, _FIT, _PAD, _SANITIZE, _LINK_AT, _SLICE, _EXPAND_TABS = range(14)
 _LAST = sys.maxsize
 _STARTS_WITH, _ENDS_WITH, _HAS_ANY, _IS_WHOLE, _IS_SAFE, _FIND, _FITTING, _WIDTH = range(8)
 
@@ -283,7 +294,8 @@ def is_safe(text: str, *, links: bool = False) -> bool:
 
 
 def width(text: str) -> int:
-    """The display width of the text in columns: the sum over the extended grapheme clusters of its plain text.
+    """The display width of the text in columns: the sum over the extended grapheme clusters of what a terminal
+    shows, which has a blank for each TAB and line feed, and no other controls.
 
     >>> width("\\x1b[31m日本\\x1b[39m")
     4
@@ -300,15 +312,25 @@ def fitting(text: str, width: int) -> int:
     return _told(_FITTING, text, "", _position("width", width))  # type: ignore[no-any-return]
 
 
-def truncate(text: str, width: int, tail: str = "") -> str:
+def _index(name: str, word: str, words: Tuple[str, ...]) -> int:
+    if word not in words:
+        raise ValueError("{} must be one of {}, not {!r}".format(name, ", ".join(words), word))
+    return words.index(word)
+
+
+def truncate(text: str, width: int, tail: str = "", side: Side = "end") -> str:
     """The text truncated to `width` columns, on one line and safe: SGRs, clean links (OSC 8) and printing characters stay, TAB
     and line ends become a blank, and the rest is left out. If it is truncated and the tail fits, the tail follows. Before the
-    tail, the link and then the style still open at the end of the text are closed.
+    tail, the link and then the style still open at the end of the text are closed. At the start or in the middle the columns
+    that stay are those of `slice_columns`, after the tail or on both sides of it. ValueError: the side is none of SIDES.
 
     >>> truncate("\\x1b[31mabcdef\\x1b[39m", 4, "...")
     '\\x1b[31ma\\x1b[39m...'
+    >>> truncate("/usr/local/bin", 8, "…", side="middle")
+    '/usr…bin'
     """
-    return _edited(text, (_TRUNCATE, _position("width", width), 0, _utf8("tail", tail)))  # type: ignore[no-any-return]
+    step = _TRUNCATE, _position("width", width), _index("side", side, SIDES), _utf8("tail", tail)
+    return _edited(text, step)  # type: ignore[no-any-return]
 
 
 def pad(text: str, width: int, alignment: Alignment = "left") -> str:
@@ -319,9 +341,17 @@ def pad(text: str, width: int, alignment: Alignment = "left") -> str:
     >>> pad("\\x1b[41mab", 5, "center")
     ' \\x1b[41mab\\x1b[49m  '
     """
-    if alignment not in ALIGNMENTS:
-        raise ValueError("alignment must be one of {}, not {!r}".format(", ".join(ALIGNMENTS), alignment))
-    step = _PAD, _position("width", width), ALIGNMENTS.index(alignment), b""
+    step = _PAD, _position("width", width), _index("alignment", alignment, ALIGNMENTS), b""
+    return _edited(text, step)  # type: ignore[no-any-return]
+
+
+def fit(text: str, width: int, alignment: Alignment = "left", tail: str = "") -> str:
+    """The text of a table's cell: truncated to `width` columns, as by `truncate`, and then padded to them, as by `pad`.
+
+    >>> fit("\\x1b[41mab", 4), fit("\\x1b[41mabcdef", 4, tail="…")
+    ('\\x1b[41mab\\x1b[49m  ', '\\x1b[41mabc\\x1b[49m…')
+    """
+    step = _FIT, _position("width", width), _index("alignment", alignment, ALIGNMENTS), _utf8("tail", tail)
     return _edited(text, step)  # type: ignore[no-any-return]
 
 
@@ -348,8 +378,9 @@ def expand_tabs(text: str, stop: int = 8) -> str:
 
 
 def wrap(text: str, width: int) -> List[str]:
-    """The text wrapped to lines of `width` columns. Each line closes the link and style that it leaves open; the next line
-    reopens them. A line ends before a word that doesn't fit; a word that is too wide is broken. A width of 0 counts as 1.
+    """The text wrapped to lines of `width` columns, each safe: SGRs, clean links (OSC 8) and printing characters stay, a TAB
+    becomes a blank, and the rest is left out. Each line closes the link and style that it leaves open; the next line reopens
+    them. A line ends before a word that doesn't fit; a word that is too wide is broken. A width of 0 counts as 1.
 
     >>> wrap("\\x1b[31mlion tiger", 5)
     ['\\x1b[31mlion\\x1b[39m', '\\x1b[31mtiger\\x1b[39m']
@@ -358,13 +389,23 @@ def wrap(text: str, width: int) -> List[str]:
 
 
 def lines(text: str, width: int) -> List[Tuple[int, int]]:
-    """Where each line that `wrap` returns begins and ends in the plain text, as positions. The text can be cut there.
+    """Where each line that `wrap` returns begins and ends in the plain text, as positions, if `wrap` leaves nothing out and the
+    text has no TAB. Otherwise a control has one column. The text can be cut there.
 
     >>> lines("ab \\x1b[1mcd  efg", 5)
     [(0, 5), (7, 10)]
     """
+    return list(iter_lines(text, width))
+
+
+def iter_lines(text: str, width: int) -> Iterator[Tuple[int, int]]:
+    """An iterator over what `lines` returns, each line searched on demand.
+
+    >>> next(iter_lines("ab \\x1b[1mcd  efg", 5))
+    (0, 5)
+    """
     data = _utf8("text", text)
-    return _library.lines(data, len(data) == str.__len__(text), _position("width", width))  # type: ignore[no-any-return]
+    return _library.walk_lines(data, len(data) == str.__len__(text), _position("width", width))  # type: ignore[no-any-return]
 
 
 def link_at(text: str, position: int) -> Optional[str]:
@@ -486,18 +527,18 @@ class Block(NamedTuple):
     style: Style
 
 
-def _color_of(kind: int, number: int, red: int, green: int, blue: int) -> Union[str, int, Tuple[int, int, int], None]:
-    if kind == _FIXED:
-        return number
-    if kind == _RGB:
-        return red, green, blue
-    return COLORS[kind - 1] if kind else None
+def _color_of(kind: int, first: int, second: int, third: int) -> Union[str, int, Tuple[int, int, int], None]:
+    if kind == _NO_COLOR:
+        return None
+    if kind == _NAMED:
+        return COLORS[first % 10 + (8 if first >= 90 else 0)]
+    return first if kind == _FIXED else (first, second, third)
 
 
 def _style_of(data: bytes, start: str, end: str) -> Style:
     fields = _STYLE.unpack_from(data)
     names = frozenset(name for bit, name in enumerate(ATTRIBUTES) if fields[0] >> bit & 1)
-    return Style(names, _color_of(*fields[1:6]), _color_of(*fields[6:11]), fields[11], start, end)
+    return Style(names, _color_of(*fields[1:5]), _color_of(*fields[5:9]), end != "", start, end)
 
 
 # the styles of the last blocks, by their bytes

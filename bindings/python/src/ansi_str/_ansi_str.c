@@ -13,7 +13,7 @@
 enum { LONG = 1 << 16 };
 
 /* kinds beside those of edits */
-enum { TRUNCATE = ANSI_STR_EDIT_TRIM + 1, PAD, SANITIZE, LINK_AT, SLICE, EXPAND_TABS, STRIP, KINDS };
+enum { TRUNCATE = ANSI_STR_EDIT_TRIM + 1, FIT, PAD, SANITIZE, LINK_AT, SLICE, EXPAND_TABS, STRIP, KINDS };
 
 /* the questions about a text: those up to IS_SAFE are yes or no, FIND and FITTING return a position, WIDTH columns */
 enum { STARTS_WITH, ENDS_WITH, HAS_ANY, IS_WHOLE, IS_SAFE, FIND, FITTING, WIDTH, QUESTIONS };
@@ -59,7 +59,7 @@ static bool read_number(PyObject *given, size_t *number) {
     return true;
 }
 
-/* Whether a number is below `count`, and so that of a kind, a question, an alignment or a policy. If not, an error is set. */
+/* Whether a number is below `count`, and so that of a kind, a question, a side, an alignment or a policy. If not, an error is set. */
 static bool is_one_of(long long number, int count) {
     if (number >= 0 && number < count) {
         return true;
@@ -83,8 +83,11 @@ static ansi_str_answer write_step(const Text *text, const ansi_str_edit_step *st
     case STRIP:
         return ansi_str_raw_strip(text->bytes, text->size, room->bytes, room->size);
     case TRUNCATE:
-        return ansi_str_raw_truncate(text->bytes, text->size, step->first, step->pattern, step->pattern_len, room->bytes,
-                                     room->size);
+        return ansi_str_raw_truncate_with(text->bytes, text->size, step->first, step->pattern, step->pattern_len,
+                                          (uint32_t)step->second, room->bytes, room->size);
+    case FIT:
+        return ansi_str_raw_fit(text->bytes, text->size, step->first, (uint32_t)step->second, step->pattern, step->pattern_len,
+                                room->bytes, room->size);
     case PAD:
         return ansi_str_raw_pad(text->bytes, text->size, step->first, (uint32_t)step->second, room->bytes, room->size);
     case SANITIZE:
@@ -155,9 +158,12 @@ static Py_ssize_t characters_before(const Text *text, size_t place) {
     return count;
 }
 
-/* Whether the numbers of a step are those of an alignment or a policy, if its kind takes one. If not, an error is set. */
+/* Whether the numbers of a step are those of a side, an alignment or a policy, if its kind takes one. If not, an error is set. */
 static bool have_meaning(int kind, size_t first, size_t second) {
     switch (kind) {
+    case TRUNCATE:
+        return is_one_of((long long)second, ANSI_STR_MIDDLE + 1);
+    case FIT:
     case PAD:
         return is_one_of((long long)second, ANSI_STR_RIGHT + 1);
     case SANITIZE:
@@ -345,81 +351,21 @@ static PyObject *wrap(PyObject *module, PyObject *words) {
     return list;
 }
 
-/* Makes the places of lines, which ascend, count characters of the plain text. Returns false with an error. */
-static bool count_characters(const Text *text, ansi_str_line_entry *entries, size_t count) {
-    Text plain;
-    size_t at, place = 0, characters = 0;
-    if (!make_plain(text, &plain)) {
-        return false;
-    }
-    for (at = 0; at < 2 * count; at++) {
-        size_t *end = at % 2 == 0 ? &entries[at / 2].start : &entries[at / 2].end;
-        for (; place < *end; place++) {
-            characters += begins_character(plain.bytes[place]);
-        }
-        *end = characters;
-    }
-    Py_DecRef(plain.object);
-    return true;
-}
-
-static PyObject *list_of_lines(const ansi_str_line_entry *entries, size_t count) {
-    PyObject *list = PyList_New((Py_ssize_t)count);
-    size_t at;
-    for (at = 0; list != NULL && at < count; at++) {
-        PyObject *line = Py_BuildValue("(nn)", (Py_ssize_t)entries[at].start, (Py_ssize_t)entries[at].end);
-        if (line == NULL) {
-            Py_DecRef(list);
-            return NULL;
-        }
-        PyList_SetItem(list, (Py_ssize_t)at, line);
-    }
-    return list;
-}
-
-/* (text, is_ascii, width): where each of its lines begins and ends, in characters. */
-static PyObject *lines(PyObject *module, PyObject *words) {
-    PyObject *given, *width, *list = NULL;
-    int is_ascii;
-    Text text;
-    size_t most, count;
-    ansi_str_line_entry *entries = NULL;
-    ansi_str_answers answer;
-    (void)module;
-    if (!PyArg_ParseTuple(words, "SpO", &given, &is_ascii, &width) || !read_number(width, &most)) {
-        return NULL;
-    }
-    text = text_of(given);
-    count = text.size / 8 + 1;
-    do {
-        ansi_str_line_entry *more = PyMem_Realloc(entries, count * sizeof *entries);
-        PyThreadState *thread;
-        if (more == NULL) {
-            answer.status = ANSI_STR_OUT_OF_MEMORY;
-            break;
-        }
-        entries = more;
-        thread = let_others_run(text.size);
-        answer = ansi_str_raw_lines(text.bytes, text.size, most, entries, count);
-        run_alone(thread);
-        count = answer.count;
-    } while (answer.status == ANSI_STR_TOO_SMALL);
-    if (answer.status != ANSI_STR_OK) {
-        set_error(answer.status);
-    } else if (is_ascii || count_characters(&text, entries, count)) {
-        list = list_of_lines(entries, count);
-    }
-    PyMem_Free(entries);
-    return list;
-}
-
-/* A walk over the parts of a text, or over its blocks if there is no pattern, and room for what a step writes. */
+/* A walk over the parts of a text, over its blocks if there is no pattern, or over its lines; and room for what a step writes. */
 typedef struct {
     PyObject_HEAD
     PyObject *text;
     PyObject *pattern;
     ansi_str_part_walk parts;
     ansi_str_block_walk blocks;
+    ansi_str_line_walk lines;
+    bool are_lines;
+    /* the plain text of lines, unless all of it is ASCII, and the place up to which its characters are counted */
+    PyObject *plain;
+    size_t place;
+    size_t characters;
+    /* that of the last block */
+    ansi_str_style style;
     char *room;
     size_t size;
 } Walk;
@@ -443,69 +389,117 @@ static void free_walk(PyObject *self) {
     PyTypeObject *type = Py_TYPE(self);
     Py_DecRef(walk->text);
     Py_DecRef(walk->pattern);
+    Py_DecRef(walk->plain);
     PyMem_Free(walk->room);
     PyObject_Free(self);
     Py_DecRef((PyObject *)type);
 }
 
-/* (text[, pattern]): an iterator over the parts, or the blocks. */
-static PyObject *walk(PyObject *module, PyObject *words) {
+/* A walk over a text that hasn't begun, or NULL with an error. */
+static Walk *make_walk(PyObject *module, PyObject *text) {
     State *state = PyModule_GetState(module);
-    PyObject *given, *sought = NULL;
-    Text text;
     Walk *made;
-    ansi_str_answer answer;
     if (state == NULL || state->walk_type == NULL) {
         PyErr_SetString(PyExc_RuntimeError, "the module hasn't started");
         return NULL;
     }
-    if (!PyArg_ParseTuple(words, "S|S", &given, &sought) ||
-        (made = (Walk *)PyType_GenericAlloc(state->walk_type, 0)) == NULL) {
+    made = (Walk *)PyType_GenericAlloc(state->walk_type, 0);
+    if (made != NULL) {
+        Py_IncRef(text);
+        made->text = text;
+        made->parts = ansi_str_no_part_walk();
+        made->blocks = ansi_str_no_walk();
+        made->lines = ansi_str_no_line_walk();
+    }
+    return made;
+}
+
+/* The walk, if the call that begins it is done. If not, an error is set. */
+static PyObject *begun(Walk *walk, uint32_t status) {
+    if (status == ANSI_STR_OK) {
+        return (PyObject *)walk;
+    }
+    set_error(status);
+    Py_DecRef((PyObject *)walk);
+    return NULL;
+}
+
+/* (text[, pattern]): an iterator over the parts, or the blocks. */
+static PyObject *walk(PyObject *module, PyObject *words) {
+    PyObject *given, *sought = NULL;
+    Text text, pattern;
+    Walk *made;
+    if (!PyArg_ParseTuple(words, "S|S", &given, &sought) || (made = make_walk(module, given)) == NULL) {
         return NULL;
     }
-    Py_IncRef(given);
-    Py_IncRef(sought);
-    made->text = given;
-    made->pattern = sought;
-    made->parts = ansi_str_no_part_walk();
-    made->blocks = ansi_str_no_walk();
     text = text_of(given);
     if (sought == NULL) {
-        answer = ansi_str_raw_blocks_begin(text.bytes, text.size, &made->blocks);
-    } else {
-        Text pattern = text_of(sought);
-        answer = ansi_str_raw_parts_begin(text.bytes, text.size, pattern.bytes, pattern.size, &made->parts);
+        return begun(made, ansi_str_raw_blocks_begin(text.bytes, text.size, &made->blocks).status);
     }
-    if (answer.status != ANSI_STR_OK) {
-        set_error(answer.status);
-        Py_DecRef((PyObject *)made);
+    Py_IncRef(sought);
+    made->pattern = sought;
+    pattern = text_of(sought);
+    return begun(made, ansi_str_raw_parts_begin(text.bytes, text.size, pattern.bytes, pattern.size, &made->parts).status);
+}
+
+/* (text, is_ascii, width): an iterator over where its lines begin and end, in characters. */
+static PyObject *walk_lines(PyObject *module, PyObject *words) {
+    PyObject *given, *width;
+    int is_ascii;
+    size_t most;
+    Text text, plain = {NULL, NULL, 0};
+    Walk *made;
+    if (!PyArg_ParseTuple(words, "SpO", &given, &is_ascii, &width) || !read_number(width, &most)) {
         return NULL;
     }
-    return (PyObject *)made;
+    text = text_of(given);
+    if ((!is_ascii && !make_plain(&text, &plain)) || (made = make_walk(module, given)) == NULL) {
+        Py_DecRef(plain.object);
+        return NULL;
+    }
+    made->are_lines = true;
+    made->plain = plain.object;
+    return begun(made, ansi_str_raw_lines_begin(text.bytes, text.size, most, &made->lines).status);
 }
 
-/* the bytes of a style, and of the library's own numbers of it, without padding at the end */
-enum {
-    STYLE = offsetof(ansi_str_style, has_any) + sizeof(bool),
-    NUMBERS = offsetof(ansi_str_style_numbers, font) + sizeof(ansi_str_font_numbers)
-};
-
-static PyObject *style_bytes(const ansi_str_style *style, const ansi_str_style_numbers *numbers) {
-    char bytes[STYLE + NUMBERS];
-    memcpy(bytes, style, STYLE);
-    memcpy(bytes + STYLE, numbers, NUMBERS);
-    return PyBytes_FromStringAndSize(bytes, sizeof bytes);
+/* How many characters of the plain text are before a place, which isn't before that of the last call. */
+static Py_ssize_t count_up_to(Walk *walk, size_t place) {
+    const char *bytes;
+    if (walk->plain == NULL) {
+        return (Py_ssize_t)place;
+    }
+    bytes = PyBytes_AsString(walk->plain);
+    for (; walk->place < place; walk->place++) {
+        walk->characters += begins_character((uint8_t)bytes[walk->place]);
+    }
+    return (Py_ssize_t)walk->characters;
 }
 
-/* The next part, or the text of the next block and the bytes of its style. */
+static PyObject *next_line(Walk *walk) {
+    ansi_str_line_entry line;
+    Py_ssize_t start, end;
+    if (ansi_str_lines_next(&walk->lines, &line).status != ANSI_STR_OK) {
+        return NULL;
+    }
+    start = count_up_to(walk, line.start);
+    end = count_up_to(walk, line.end);
+    return Py_BuildValue("(nn)", start, end);
+}
+
+/* the bytes of a style, without padding at the end */
+enum { STYLE = offsetof(ansi_str_style, font) + sizeof(ansi_str_font) };
+
+/* The next part, the ends of the next line, or the text of the next block and the bytes of its style. */
 static PyObject *next_piece(PyObject *self) {
     Walk *walk = (Walk *)self;
     bool are_blocks = walk->pattern == NULL;
     ansi_str_next_part part;
     ansi_str_next_block block;
-    ansi_str_style_numbers numbers;
     ansi_str_answer answer;
     PyObject *text;
+    if (walk->are_lines) {
+        return next_line(walk);
+    }
     for (;;) {
         char *room;
         answer = are_blocks ? ansi_str_blocks_next(&walk->blocks, &block, walk->room, walk->size)
@@ -530,16 +524,16 @@ static PyObject *next_piece(PyObject *self) {
     if (text == NULL || !are_blocks) {
         return text;
     }
-    numbers = ansi_str_walk_style(&walk->blocks);
-    return Py_BuildValue("(NN)", text, style_bytes(&block.style, &numbers));
+    walk->style = block.style;
+    return Py_BuildValue("(NN)", text, PyBytes_FromStringAndSize((const char *)&block.style, STYLE));
 }
 
 /* The sequences that set and close the style of the last block. */
 static PyObject *sequences(PyObject *self, PyObject *none) {
-    ansi_str_style_numbers style = ansi_str_walk_style(&((Walk *)self)->blocks);
+    const ansi_str_style *style = &((Walk *)self)->style;
     char start[ANSI_STR_LONGEST_START], end[ANSI_STR_LONGEST_CLOSE];
-    ansi_str_answer started = ansi_str_style_start(&style, start, sizeof start);
-    ansi_str_answer ended = ansi_str_style_end(&style, end, sizeof end);
+    ansi_str_answer started = ansi_str_style_start(style, start, sizeof start);
+    ansi_str_answer ended = ansi_str_style_end(style, end, sizeof end);
     (void)none;
     if (started.status != ANSI_STR_OK || ended.status != ANSI_STR_OK) {
         return PyErr_NoMemory();
@@ -565,7 +559,7 @@ static PyType_Spec walk_spec = {"ansi_str.Walk", sizeof(Walk), 0, Py_TPFLAGS_DEF
 
 static PyMethodDef calls[] = {
     {"edit", edit, METH_VARARGS, NULL},   {"tell", tell, METH_VARARGS, NULL}, {"walk", walk, METH_VARARGS, NULL},
-    {"strip", strip, METH_VARARGS, NULL}, {"wrap", wrap, METH_VARARGS, NULL}, {"lines", lines, METH_VARARGS, NULL},
+    {"strip", strip, METH_VARARGS, NULL}, {"wrap", wrap, METH_VARARGS, NULL}, {"walk_lines", walk_lines, METH_VARARGS, NULL},
     {NULL, NULL, 0, NULL},
 };
 

@@ -17,8 +17,8 @@ __all__ = ["visible_width", "wcswidth", "TextWrapper", "wrap", "fill", "shorten"
 
 # wider than any text
 _ENDLESS = 2 ** 62
-# what keeps the blanks at the end of a line, until the library has closed its styles
-_GUARD = "\0"
+# what keeps the blanks at the end of a line, until the library has closed its styles: a printing character, of private use
+_GUARD = "\ue000"
 # an edit: the position of the character that it removes, or of where it only inserts; how many it removes; what it inserts
 _Edit = Tuple[int, int, str]
 

@@ -3,7 +3,7 @@
 use crate::style::Style;
 use crate::text::{Item, Kind, Text};
 use crate::{compare, Tally};
-use ansi_str::columns::{Alignment, AnsiColumns};
+use ansi_str::columns::{Alignment, AnsiColumns, Side, Truncation};
 use std::ops::Range;
 
 /// What UAX #29 says of a character, as far as the texts of these tests have it.
@@ -77,6 +77,8 @@ fn clusters(text: &str) -> Vec<&str> {
 fn cluster_width(cluster: &str) -> usize {
     let width = |character: char| match class(character) {
         Class::ZeroWidthSpace => 0,
+        // (the bidirectional controls are default ignorable)
+        _ if matches!(character, '\u{202a}'..='\u{202e}' | '\u{2066}'..='\u{2069}') => 0,
         Class::Extend | Class::Joiner | Class::Vowel | Class::Trailing => 0,
         Class::Pictograph | Class::Leading => 2,
         _ if character == '日' => 2,
@@ -116,18 +118,12 @@ fn address(sequence: &str) -> Option<&str> {
     Some(address)
 }
 
-/// The text as a cell shows it.
-fn cell(spelled: &str) -> String {
+/// A text with its runs as a place shows them. Of its sequences select graphic renditions and clean links stay.
+fn placed(spelled: &str, shown: impl Fn(&str) -> String) -> String {
     let is_clean = |sequence: &str| {
         command(sequence).map_or(false, |it| {
             it.bytes().all(|byte| matches!(byte, 0x20..=0x7e))
         })
-    };
-    let shown = |run: &str| -> String {
-        let run = run.replace("\r\n", " ").replace(&['\t', '\n'][..], " ");
-        run.chars()
-            .filter(|it| class(*it) != Class::Control)
-            .collect()
     };
     let items = Text::new(spelled).items;
     let piece = |item: &Item| match item.kind {
@@ -139,6 +135,33 @@ fn cell(spelled: &str) -> String {
         Kind::Other | Kind::LoneEscape => String::new(),
     };
     items.iter().map(piece).collect()
+}
+
+/// The printing characters of a run.
+fn printing(run: &str) -> String {
+    run.chars()
+        .filter(|it| class(*it) != Class::Control)
+        .collect()
+}
+
+/// The text as a cell shows it.
+fn cell(spelled: &str) -> String {
+    placed(spelled, |run| {
+        printing(&run.replace("\r\n", " ").replace(&['\t', '\n'][..], " "))
+    })
+}
+
+/// The text as a paragraph shows it, with its line ends.
+fn paragraph(spelled: &str) -> String {
+    let line = |line: &str| printing(&line.replace('\t', " "));
+    let unix = |run: &str| -> Vec<String> { run.split('\n').map(line).collect() };
+    placed(spelled, |run| {
+        let parts: Vec<String> = run
+            .split("\r\n")
+            .map(|part| unix(part).join("\n"))
+            .collect();
+        parts.join("\r\n")
+    })
 }
 
 /// The sequence that opened the link that is open after these items, or nothing.
@@ -242,6 +265,22 @@ fn sliced(spelled: &str, start: usize, end: usize) -> String {
     style.start() + link + &blanks_of(before) + &shown + &blanks_of(after) + &closing(&text, to)
 }
 
+/// The first and the last columns that the tail leaves room for, with the tail between them.
+fn truncated_with(spelled: &str, to: &Truncation) -> String {
+    let all = width(&Text::new(&cell(spelled)).plain);
+    if to.side == Side::End || all <= to.width {
+        return truncated(spelled, to.width, to.tail);
+    }
+    let tail = Some(to.tail).filter(|tail| width(tail) <= to.width);
+    let room = to.width - tail.map_or(0, width);
+    let last = match to.side {
+        Side::Middle => room / 2,
+        _ => room,
+    };
+    let front = sliced(spelled, 0, room - last);
+    front + tail.unwrap_or("") + &sliced(spelled, all - last, all)
+}
+
 /// The text with each TAB expanded: one blank or more, until its line has a multiple of `stop` columns.
 fn expanded(spelled: &str, stop: usize) -> String {
     let (mut out, mut line) = (String::new(), String::new());
@@ -297,6 +336,8 @@ const EXPANDED_PIECES: [&str; 12] = [
 
 const ALIGNMENTS: [Alignment; 3] = [Alignment::Left, Alignment::Center, Alignment::Right];
 
+const SIDES: [Side; 3] = [Side::End, Side::Start, Side::Middle];
+
 /// Compares a text truncated and padded at each width.
 fn expect_shown(tally: &mut Tally, spelled: &str) {
     for columns in 0..6 {
@@ -315,6 +356,30 @@ fn expect_shown(tally: &mut Tally, spelled: &str) {
                 &want,
                 (columns, alignment, spelled),
             );
+        }
+    }
+}
+
+/// Compares a text fitted to each width, and truncated to it at each side.
+fn expect_fitted(tally: &mut Tally, spelled: &str) {
+    for columns in 0..6 {
+        for tail in ["", "…", "..."] {
+            let cut = truncated(spelled, columns, tail);
+            for alignment in ALIGNMENTS {
+                tally.expect(
+                    &*spelled.ansi_fit(columns, alignment, tail),
+                    &padded(&cut, columns, alignment),
+                    (columns, alignment, tail, spelled),
+                );
+            }
+            for side in SIDES {
+                let to = Truncation::to(columns).tail(tail).side(side);
+                tally.expect(
+                    &*spelled.ansi_truncate_with(&to),
+                    &truncated_with(spelled, &to),
+                    (to, spelled),
+                );
+            }
         }
     }
 }
@@ -343,16 +408,21 @@ fn expect_expanded(tally: &mut Tally, spelled: &str) {
     }
 }
 
+/// The greatest position of a plain text before which this is shown.
+fn position_of(plain: &str, front: &str) -> usize {
+    let shown = |end: &usize| Text::new(&cell(&plain[..*end])).plain == front;
+    let ends = (0..=plain.len()).filter(|end| plain.is_char_boundary(*end));
+    ends.filter(shown).last().expect("a front")
+}
+
 /// Compares a text's width, what of it fits, and its links.
 fn expect_columns(tally: &mut Tally, spelled: &str) {
     let text = Text::new(spelled);
-    tally.expect(spelled.ansi_width(), width(&text.plain), spelled);
+    let shown = Text::new(&cell(spelled)).plain;
+    tally.expect(spelled.ansi_width(), width(&shown), spelled);
     for most in 0..8 {
-        tally.expect(
-            spelled.ansi_fitting(most),
-            fitting(&text.plain, most),
-            (most, spelled),
-        );
+        let want = position_of(&text.plain, &shown[..fitting(&shown, most)]);
+        tally.expect(spelled.ansi_fitting(most), want, (most, spelled));
     }
     for index in 0..=text.plain.len() {
         let link = link_after(text.items.iter().filter(|item| item.place <= index));
@@ -459,14 +529,23 @@ const WRAPPED_PIECES: [&str; 13] = [
     "a", "bc", " ", "  ", "日", "e\u{301}", "\u{1f1e6}", "\n", "\r\n",
 ];
 
+#[rustfmt::skip]
+const UNCLEAN_PIECES: [&str; 14] = [
+    "\x1b[1m", "\x1b]8;;http://x\x1b\\", "\x1b]8;;\x07", "\x1b]8;;a\u{85}\x07", "\x1b[2J", "\x1b[3", "\x1b",
+    "a", " b", "\t", "\r", "\n", "\x07", "\u{202e}",
+];
+
 /// Compares a text wrapped at each width.
 fn expect_lines(tally: &mut Tally, spelled: &str) {
     let text = Text::new(spelled);
+    let clean = paragraph(spelled);
+    let clean = Text::new(&clean);
     for most in 0..6 {
         let want = lines(&text.plain, most);
-        tally.expect(spelled.ansi_lines(most), want.clone(), (most, spelled));
+        tally.expect(spelled.ansi_lines(most).collect::<Vec<_>>(), want, (most, spelled));
         let got: Vec<String> = spelled.ansi_wrap(most).collect();
-        tally.expect(got, wrapped(&text, &want), (most, spelled));
+        let want = wrapped(&clean, &lines(&clean.plain, most));
+        tally.expect(got, want, (most, spelled));
     }
 }
 
@@ -482,6 +561,11 @@ fn texts_are_truncated_and_padded_as_defined() {
 }
 
 #[test]
+fn texts_are_fitted_as_defined() {
+    assert!(compare(&SLICED_PIECES, 3, expect_fitted) > 300_000);
+}
+
+#[test]
 fn texts_are_sliced_as_defined() {
     assert!(compare(&SLICED_PIECES, 3, expect_slices) > 250_000);
 }
@@ -494,4 +578,5 @@ fn tabs_are_expanded_as_defined() {
 #[test]
 fn texts_are_wrapped_as_defined() {
     assert!(compare(&WRAPPED_PIECES, 4, expect_lines) > 300_000);
+    assert!(compare(&UNCLEAN_PIECES, 4, expect_lines) > 400_000);
 }

@@ -1,15 +1,18 @@
 //! The stretches of a text from which the lines of a wrap are written.
-ghost use Rattle.std.specs.Prelude.{◌≡◌, ◌+◌, ◌≤◌, [], length, IsTrue, IsFalse, IsOk, IfOk};
-ghost use Rattle.std.specs.Prelude.{string_bytes};
+ghost use Rattle.std.specs.Prelude.{◌≡◌, ◌+◌, ◌≤◌, ℕ, List, [], length, IsTrue, IsFalse, IsOk};
+ghost use Rattle.std.specs.Prelude.{IfOk, IsSome, IsNone, string_bytes};
+ghost use Rattle.std.specs.Iterator.{YieldsFirst};
 ghost use Rattle.std.specs.Option.{MatchOption};
 ghost use Rattle.ansi_items.specs.Plain.{plain};
 ghost use Rattle.ansi_style.specs.Written.{longest_start_and_close};
 ghost use Rattle.ansi_safe.specs.Links.{longest_link_end};
-ghost use Rattle.ansi_columns.specs.Wrapped.{wrapped, IsWrappedLine};
+ghost use Rattle.ansi_columns.specs.Wrapped.{IsWrappedLine};
+ghost use Rattle.ansi_columns.specs.WrapStates.{span_lines, lines_of, AreSpans};
 
 use crate::lines::first_line;
 use crate::walks::Walk;
-use ansi_safe::links::{Pen, pen_after_from, plain_pen};
+use crate::wrap::pens::PenAt;
+use ansi_safe::links::Pen;
 use ansi_search::search::PAST_THE_END;
 use ansi_slice::slice::{has_any, push_sequences};
 use ansi_style::styles;
@@ -63,6 +66,15 @@ impl<'t> Span<'t> {
         }
     }
 
+    /// The line, always written.
+    pub(crate) fn write_owned<A: Allocator + Copy>(&self, alloc: A) -> Result<String<A>, AllocError>
+        ensures bytes { IfOk result (λ s. string_bytes s ≡ self.now.bytes) }
+        ensures len { IfOk result (λ s. length (string_bytes s)
+            ≤ self.now.source_len + longest_start_and_close + longest_link_end) }
+    {
+        self.write(alloc)?.into_owned(alloc)
+    }
+
     /// The stretch of the text that is the line, or `None` if the line isn't a borrow.
     fn bare(&self) -> Option<&'t str>
         ensures line { MatchOption result (IsFalse self.now.borrowed) (λ bare.
@@ -99,10 +111,9 @@ impl<'t> Span<'t> {
     }
 }
 
-/// The spans of the lines of a text, in order. The iterator doesn't allocate.
-#[derive(Drop)]
-pub(crate) struct Spans<'t> {
-    text: &'t str,
+/// What is left of the lines of a text, without a borrow of the text.
+#[derive(Clone, Copy)]
+pub(crate) struct Spans {
     /// The greatest width of a line, in columns. A line of one wider cluster may exceed it.
     width: usize,
     /// The beginning of the next line.
@@ -112,75 +123,58 @@ pub(crate) struct Spans<'t> {
     /// The number of plain bytes before that offset.
     before: usize,
     /// The style and link that the lines before leave open.
-    pen: Pen<'t>,
+    pen: PenAt,
 }
 
-impl<'t> Model for Spans<'t> {
-    ghost use Rattle.std.specs.Prelude.{List, IfSome};
-    ghost use Rattle.ansi_items.specs.Plain.{plain};
-    ghost use Rattle.ansi_style.specs.States.{rendition_of};
-    ghost use Rattle.ansi_columns.specs.Lines.{lines_left};
-    ghost use Rattle.ansi_columns.specs.Wrapped.{WrappedLine, lines_over, marks_left, IsTaken};
-
-    ghost Value = { List WrappedLine };
-
-    ghost view = { λ s. lines_over (rendition_of s.pen.style) s.pen.link.now (plain s.text.now)
-        (marks_left s.text.now s.before s.taken) (lines_left s.text.now s.width s.next) };
-
-    ghost invariant = { λ s. IfSome s.next (IsTaken s.text.now s.before s.taken) };
-}
-
-impl<'t> Spans<'t> {
-    /// The spans of all lines of the text.
-    pub(crate) fn new(text: &'t str, width: usize) -> Self
-        ensures { result ≡ wrapped text.now width }
+impl Spans {
+    /// The spans of all lines of the text. They are also those of any other text, if nothing reads
+    /// it by them.
+    pub(crate) fn new(text: &str, width: usize) -> Self
+        ensures spans { AreSpans text.now result }
+        ensures some { IsSome result.next }
+        ensures lines { (t : List ℕ) → span_lines t result ≡ lines_of t width }
     {
         Spans {
-            text,
             width: width.max(1),
             next: Some(Walk::start(text)),
             taken: 0,
             before: 0,
-            pen: plain_pen(),
+            pen: PenAt::plain(),
         }
     }
 
     /// Leaves no lines.
     pub(crate) fn finish(&mut self)
-        ensures { self.new ≡ [] }
+        ensures lines { (t : List ℕ) → span_lines t self.new ≡ [] }
+        ensures link { self.new.pen ≡ self.old.pen }
+        ensures none { IsNone self.new.next }
     {
         self.next = None;
     }
-}
 
-impl<'t> Iterator for Spans<'t> {
-    ghost use Rattle.std.specs.Iterator.{YieldsFirst, item_count};
-
-    type Item = Span<'t>;
-
-    ghost next_gives = { YieldsFirst (λ s. s) };
-
-    ghost remaining = { item_count (λ s. s) };
-
-    fn next(&mut self) -> Option<Span<'t>> {
+    /// The span of the next line of the text. Doesn't allocate.
+    pub(crate) fn next<'t>(&mut self, text: &'t str) -> Option<Span<'t>>
+        requires { AreSpans text.now self.old }
+        ensures spans { AreSpans text.now self.new }
+        ensures lines { YieldsFirst (span_lines text.now) self.old result self.new }
+    {
         let from = self.next?;
-        let (start, end, next) = first_line(self.text, from, self.width);
+        let (start, end, next) = first_line(text, from, self.width);
         // The last line takes all that is left.
         let taken = match next {
             Some(_) => end.offset,
-            None => self.text.len(),
+            None => text.len(),
         };
-        let text = &self.text[self.taken..taken];
-        let carried = self.pen;
-        let after = pen_after_from(carried, text);
+        let part = &text[self.taken..taken];
+        let after = self.pen.after(text, self.taken, taken);
         let span = Span {
-            text,
-            is_marked: has_any(text),
+            text: part,
+            is_marked: has_any(part),
             start: start.position - self.before,
             end: end.position - self.before,
             end_offset: end.offset - self.taken,
-            carried,
-            after,
+            carried: self.pen.pen(text),
+            after: after.pen(text),
         };
         self.next = next;
         self.taken = taken;

@@ -1,11 +1,13 @@
 //! The examples of the docs of `ansi_columns`, in the same words.
 use ansi_columns::addresses::link_at;
+use ansi_columns::fit::fit;
 use ansi_columns::lines::Lines;
 use ansi_columns::shown::{pad, truncate};
+use ansi_columns::sides::truncate_with;
 use ansi_columns::slices::slice;
 use ansi_columns::tabs::expand_tabs;
 use ansi_columns::wrap::wrap;
-use ansi_columns::{Alignment, AnsiColumns};
+use ansi_columns::{Alignment, AnsiColumns, Side, Truncation};
 use std::test::Fail;
 
 #[test]
@@ -17,12 +19,12 @@ fn ansi_columns_example(rt: HostRuntime) -> Result<(), Fail> {
 
 #[test]
 fn ansi_width_example(rt: HostRuntime) {
-    assert!(rt; "e\x1b[1m\u{301}x".ansi_width() == 2);
+    assert!(rt; "e\x1b[1m\u{301}x\x07\t".ansi_width() == 3);
 }
 
 #[test]
 fn ansi_fitting_example(rt: HostRuntime) {
-    assert!(rt; "a\x1b[1m日本".ansi_fitting(4) == 4);
+    assert!(rt; "a\x1b[1m日\x07本".ansi_fitting(4) == 5);
 }
 
 #[test]
@@ -36,6 +38,46 @@ fn ansi_truncate_example(rt: HostRuntime) -> Result<(), Fail> {
 fn ansi_pad_example(rt: HostRuntime) -> Result<(), Fail> {
     let padded = "\x1b[41mab".ansi_pad(rt.alloc(), 5, Alignment::Center)?;
     assert!(rt; padded.as_str() == " \x1b[41mab\x1b[49m  ");
+    Ok(())
+}
+
+#[test]
+fn ansi_fit_example(rt: HostRuntime) -> Result<(), Fail> {
+    let cell = "\x1b[41mab".ansi_fit(rt.alloc(), 4, Alignment::Left, "…")?;
+    assert!(rt; cell.as_str() == "\x1b[41mab\x1b[49m  ");
+    let cell = "\x1b[41mabcdef".ansi_fit(rt.alloc(), 4, Alignment::Left, "…")?;
+    assert!(rt; cell.as_str() == "\x1b[41mabc\x1b[49m…");
+    Ok(())
+}
+
+#[test]
+fn fit_example(rt: HostRuntime) -> Result<(), Fail> {
+    let cell = fit(rt.alloc(), "\x1b[31m日本語\x1b[39m", 4, Alignment::Right, "…")?;
+    assert!(rt; cell.as_str() == " \x1b[31m日\x1b[39m…");
+    Ok(())
+}
+
+#[test]
+fn ansi_truncate_with_example(rt: HostRuntime) -> Result<(), Fail> {
+    let to = Truncation::to(8).tail("…").side(Side::Middle);
+    let cut = "\x1b[31m/usr/local/bin\x1b[39m".ansi_truncate_with(rt.alloc(), &to)?;
+    assert!(rt; cut.as_str() == "\x1b[31m/usr\x1b[39m…\x1b[31mbin\x1b[39m");
+    Ok(())
+}
+
+#[test]
+fn truncate_with_example(rt: HostRuntime) -> Result<(), Fail> {
+    let to = Truncation::to(5).tail("…").side(Side::Middle);
+    let cut = truncate_with(rt.alloc(), "\x1b[31mabcdefgh\x1b[39m", &to)?;
+    assert!(rt; cut.as_str() == "\x1b[31mab\x1b[39m…\x1b[31mgh\x1b[39m");
+    Ok(())
+}
+
+#[test]
+fn truncation_example(rt: HostRuntime) -> Result<(), Fail> {
+    let to = Truncation::to(6).tail("…").side(Side::Start);
+    let cut = "/usr/local/bin".ansi_truncate_with(rt.alloc(), &to)?;
+    assert!(rt; cut.as_str() == "…l/bin");
     Ok(())
 }
 

@@ -1,5 +1,5 @@
 //! The examples of the docs of `ansi_safe`, in the same words.
-use ansi_safe::cells::{cell_of, paragraph_of};
+use ansi_safe::cells::{cell_char, cell_of, paragraph_of};
 use ansi_safe::safe::{is_safe, sanitize};
 use ansi_safe::{AnsiSafe, Links, Policy, Rest};
 use std::test::Fail;
@@ -75,6 +75,13 @@ fn cell_of_example(rt: HostRuntime) -> Result<(), Fail> {
     let cell = cell_of(rt.alloc(), "\x1b[1ma\tb\r\n\x07")?;
     assert!(rt; cell.as_str() == "\x1b[1ma b ");
     Ok(())
+}
+
+#[test]
+fn cell_char_example(rt: HostRuntime) {
+    assert!(rt; cell_char('é') == Some('é'));
+    assert!(rt; cell_char('\t') == Some(' '));
+    assert!(rt; cell_char('\r') == None);
 }
 
 #[test]

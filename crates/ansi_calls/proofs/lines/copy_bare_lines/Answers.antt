@@ -11,17 +11,17 @@ use Rattle.ansi_calls.proofs.lines.copy_bare_lines.Goals as goal
 pub copy_texts-requires : goal.copy_texts-requires
 copy_texts-requires g c =
     let t = c.args.text.now in
-    let short = bare-wrapped t c.args.width c.requires c.utf8.text (c.lines_lose_blanks_and_line_ends.ensures.left_out t c.args.width c.utf8.text) in
+    let short = bare-wrapped t c.args.width c.requires.paragraph c.requires.bare c.utf8.text (c.lines_lose_blanks_and_line_ends.ensures.left_out t c.args.width c.utf8.text) in
     let bytes = ap (λ (ls : List WrappedLine). length (joined_texts (map (λ (l : WrappedLine). l.bytes) ls))) c.wrap.ensures.lines in
     let count = length-map c.wrap.result (λ (l : WrappedLine). l.bytes) in
     let same = ap (λ (ls : List WrappedLine). length (map (λ (l : WrappedLine). l.bytes) ls)) c.wrap.ensures.lines in
     let fits = given-fits {A = g.row.A.Denot} {E = AllocError} (λ (l : WrappedLine). l.bytes) (λ (l : WrappedLine). l.borrowed) GivesLine line-next c.wrap.result
-    (c.wrap.ensures.takes_no_memory c.requires) (omega (arith, bytes, short.0)) (omega (arith, count, same, short.1)) in
+    (c.wrap.ensures.takes_no_memory c.requires.paragraph c.requires.bare) (omega (arith, bytes, short.0)) (omega (arith, count, same, short.1)) in
     search (rules, fits)
 
 -- all of them are given
 pub returns : goal.returns
 returns g c =
     let given = c.copy_texts.ensures in
-    let all = lent-drained (λ (l : WrappedLine). l.bytes) (λ (l : WrappedLine). l.borrowed) GivesLine line-next c.wrap.result given.0 (c.wrap.ensures.takes_no_memory c.requires) given.1 in
+    let all = lent-drained (λ (l : WrappedLine). l.bytes) (λ (l : WrappedLine). l.borrowed) GivesLine line-next c.wrap.result given.0 (c.wrap.ensures.takes_no_memory c.requires.paragraph c.requires.bare) given.1 in
     subst (λ ts. AreCopied ts c.copy_texts.result c.args.buffer.now c.copy_texts.new.buffer c.args.ends.now c.copy_texts.new.ends) (all ∙ ap (map (λ (l : WrappedLine). l.bytes)) c.wrap.ensures.lines) given.2

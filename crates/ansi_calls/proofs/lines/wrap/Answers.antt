@@ -1,5 +1,8 @@
-use Rattle.std.proofs.Common.{rules, ◌≡◌, ◌∙◌, List, ℕ, map, ap, true, inl, sym, subst}
+use Rattle.std.proofs.Common.{rules, ◌≡◌, ◌∙◌, List, ℕ, Bool, true, false, not, ◌||◌, map, ap, inl, refl, sym, subst}
+use Rattle.std.specs.Prelude.{bytes_eq}
+use Rattle.std.proofs.lemmas.Slice.Eq.{bytes_eq-Decides}
 use Rattle.ansi_str.specs.Plain.{has_escape}
+use Rattle.ansi_safe.specs.Cells.{paragraph}
 use Rattle.ansi_columns.specs.Wrapped.{WrappedLine, GivesLine}
 use Rattle.ansi_calls.specs.Lists.{ends_from, GivesAll}
 use Rattle.ansi_calls.specs.Columns.{GivesWrapped}
@@ -7,17 +10,38 @@ use Rattle.ansi_calls.proofs.GivenLemmas.{joined_texts, gives-texts}
 use Rattle.ansi_calls.proofs.LineListLemmas.{line-next}
 use Rattle.ansi_calls.proofs.lines.wrap.Goals as goal
 
--- the lines of a text without ESC are written to the buffer directly
-pub returns-then-not-ansi_has_any : goal.returns-then-not-ansi_has_any
+neither : (a b : Bool) → true ≡ not (a || not b) → (a ≡ false) × (b ≡ true)
+neither true b is = absurd (cc is)
+neither false true is = (refl, refl)
+neither false false is = absurd (cc is)
+
+one-of : (a : Bool) → false ≡ not a → a ≡ true
+one-of true is = refl
+one-of false is = absurd (cc is)
+
+pub write_bare_lines-requires-clause-paragraph : goal.write_bare_lines-requires-clause-paragraph
+write_bare_lines-requires-clause-paragraph g c =
+    let t = c.in-Ok.text.now in
+    (bytes_eq-Decides (paragraph t) t).0 (neither (has_escape t) (bytes_eq (paragraph t) t) (sym c.if-is_bare_paragraph.true ∙ c.is_bare_paragraph.ensures)).1
+
+pub write_bare_lines-requires-clause-bare : goal.write_bare_lines-requires-clause-bare
+write_bare_lines-requires-clause-bare g c =
+    let t = c.in-Ok.text.now in
+    (neither (has_escape t) (bytes_eq (paragraph t) t) (sym c.if-is_bare_paragraph.true ∙ c.is_bare_paragraph.ensures)).0
+
+-- the lines of a paragraph without ESC are written to the buffer directly
+pub returns-then-is_bare_paragraph : goal.returns-then-is_bare_paragraph
 unfolding GivesWrapped
-returns-then-not-ansi_has_any g c = search rules
+returns-then-is_bare_paragraph g c = search rules
 
 -- and those of any other text, or the call runs out of memory
 pub returns : goal.returns
 unfolding GivesWrapped
 returns g c =
-    let some : has_escape c.in-Ok.text.now ≡ true = sym c.ansi_has_any.ensures ∙ c.if-not-ansi_has_any.false in
-    let gives = subst (λ (ts : List (List ℕ)). GivesAll (has_escape c.in-Ok.text.now) (joined_texts ts) (ends_from 0 ts) c.write_texts.result c.args.buffer.now c.write_texts.new.buffer c.args.ends.now c.write_texts.new.ends)
+    let t = c.in-Ok.text.now in
+    let takes = has_escape t || not (bytes_eq (paragraph t) t) in
+    let some : takes ≡ true = one-of takes (sym c.if-is_bare_paragraph.false ∙ c.is_bare_paragraph.ensures) in
+    let gives = subst (λ (ts : List (List ℕ)). GivesAll takes (joined_texts ts) (ends_from 0 ts) c.write_texts.result c.args.buffer.now c.write_texts.new.buffer c.args.ends.now c.write_texts.new.ends)
     (ap (map (λ (l : WrappedLine). l.bytes)) c.wrap.ensures.lines)
-    (gives-texts (λ (l : WrappedLine). l.bytes) (λ (l : WrappedLine). l.borrowed) GivesLine line-next _ c.wrap.result _ _ _ _ _ some c.write_texts.ensures) in
+    (gives-texts (λ (l : WrappedLine). l.bytes) (λ (l : WrappedLine). l.borrowed) GivesLine line-next takes c.wrap.result _ _ _ _ _ some c.write_texts.ensures) in
     inl (c.in-Ok.ensures.1, rw c.in-Ok.ensures.0 at gives)

@@ -8,4 +8,4 @@ pub returns : goal.returns
 returns g c =
     let t = c.args.text.now in
     c.write_copied.ensures (wrapped_lines t c.args.width) (λ old old_ends copied new new_ends post. search rules)
-    (bare-wrapped t c.args.width c.requires c.utf8.text (c.lines_lose_blanks_and_line_ends.ensures.left_out t c.args.width c.utf8.text))
+    (bare-wrapped t c.args.width c.requires.paragraph c.requires.bare c.utf8.text (c.lines_lose_blanks_and_line_ends.ensures.left_out t c.args.width c.utf8.text))

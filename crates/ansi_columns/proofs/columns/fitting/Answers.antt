@@ -4,6 +4,9 @@ use Rattle.ansi_search.proofs.PositionLemmas.{good_before, boundary_is_good}
 use Rattle.ansi_columns.proofs.WalkLemmas.{walk_boundary}
 use Rattle.ansi_columns.proofs.columns.fitting.Goals as goal
 
+pub returns-clause-fits : goal.returns-clause-fits
+returns-clause-fits c = (let sees = c.fitting_front.ensures.fits in record { fits = sees.fits; greatest = sees.greatest })
+
 pub returns-clause-boundary : goal.returns-clause-boundary
 returns-clause-boundary c = walk_boundary c.args.text.now c.utf8.text c.fitting_front.result.walk c.fitting_front.ensures.walk
 

@@ -10,9 +10,9 @@ range_from-requires c =
     let start = c.first_run-start.result.0 in
     let end = c.first_run-start.result.1 in
     let run = c.first_run-start.ensures.run in
-    let first = c.in_ok-first.first in
+    let first = c.in-Some.first in
     let rest = c.next.new.self.rest.now in
-    let bytes : slice_range t start end ≡ encode_utf8 first ++ rest = sym (c.chars.ensures.rest ∙ c.range.ensures.value) ∙ c.in_ok-first.ensures.steps.0 in
+    let bytes : slice_range t start end ≡ encode_utf8 first ++ rest = sym (c.chars.ensures.rest ∙ c.range.ensures.value) ∙ c.in-Some.ensures.steps.0 in
     let at = IsCharAt-first t c.utf8.text start end first rest run.ordered run.start_boundary run.end_boundary bytes in
     let size : end - length rest ≡ start + c.len_utf8.result
     = omega (arith, c.len_utf8.ensures.len, run.ordered, length-slice_range t start end run.ordered run.end_boundary.0, ap length bytes, length-append (encode_utf8 first) rest) in

@@ -4,6 +4,7 @@ use Rattle.std.proofs.lemmas.Bool.{eqb-false}
 use Rattle.std.proofs.lemmas.Bool.Decides.{nat_tests}
 use Rattle.ansi_items.specs.Plain.{plain}
 use Rattle.ansi_items.proofs.PlainLemmas.{length-plain}
+use Rattle.ansi_columns.specs.declared.views.View.TheVariants.{Given}
 use Rattle.ansi_columns.specs.Walks.{cluster, IsWalk}
 use Rattle.ansi_columns.proofs.ColumnLemmas.{clusters_from-end}
 use Rattle.ansi_columns.proofs.KindLemmas.{bytes_are}
@@ -14,8 +15,8 @@ use Rattle.ansi_columns.proofs.lines.+first_line.Goals as goal
 
 pub returns-then-is_line_end-clause-lines : goal.returns-then-is_line_end-clause-lines
 returns-then-is_line_end-clause-lines n c =
-    let inv = read-printable c.clusters.invariant c.printable_ahead-len.ensures.ahead (omega (arith, c.printable_ahead-len.ensures.most)) c.past_printable-here.ensures.clusters
-    c.words_after.ensures.end_before c.words_after.ensures.word c.words_after.ensures.end c.past_printable-here.ensures.walk c.words_after.ensures.positions c.past_printable-here.ensures.position in
+    let inv = read-printable c.clusters.invariant c.printable_ahead-len.ensures.ahead (omega (arith, c.printable_ahead-len.ensures.most)) (c.past_printable-here.ensures.clusters Given)
+    c.words_after.ensures.end_before c.words_after.ensures.word c.words_after.ensures.end (c.past_printable-here.ensures.walk Given c.clusters.invariant.here_walk) c.words_after.ensures.positions c.past_printable-here.ensures.position in
     let got = c.in-Some.ensures in
     let utf8 : IsUtf8 c.args.text.now = search rules in
     line-is_ended c.args.text.now c.args.width c.args.start.position c.words_after.result.0.position c.words_after.result.1.position c.words_after.result.2.position c.past_printable-here.result.position (c.clusters.columns + c.printable_ahead-len.result) inv.line (omega (arith, inv.ordered.2, inv.ordered.3)) (cluster c.args.text.now c.past_printable-here.result.position c.in-Some.next.position) c.in-Some.next.position c.in-Some.more got.2 (bytes_are c.args.text.now utf8 c.past_printable-here.result inv.here_walk c.in-Some.next got.0 got.1) got.1 got.3 (sym c.is_line_end.ensures ∙ c.if-is_line_end.true)
@@ -24,15 +25,15 @@ pub overflow_add-columns : goal.overflow_add-columns
 overflow_add-columns n c =
     let t = c.args.text.now in
     let size : length t < 2 ^ 63 = search rules in
-    omega (arith, size, length-plain t, c.clusters.invariant.bound, c.past_printable-here.ensures.walk.within, c.past_printable-here.ensures.position)
+    omega (arith, size, length-plain t, c.clusters.invariant.bound, (c.past_printable-here.ensures.walk Given c.clusters.invariant.here_walk).within, c.past_printable-here.ensures.position)
 
 pub overflow_add-columns-else-here-start : goal.overflow_add-columns-else-here-start
 overflow_add-columns-else-here-start n c =
     let t = c.args.text.now in
     let size : length t < 2 ^ 63 = search rules in
     let got = c.in-Some.ensures in
-    let inv = read-printable c.clusters.invariant c.printable_ahead-len.ensures.ahead (omega (arith, c.printable_ahead-len.ensures.most)) c.past_printable-here.ensures.clusters
-    c.words_after.ensures.end_before c.words_after.ensures.word c.words_after.ensures.end c.past_printable-here.ensures.walk c.words_after.ensures.positions c.past_printable-here.ensures.position in
+    let inv = read-printable c.clusters.invariant c.printable_ahead-len.ensures.ahead (omega (arith, c.printable_ahead-len.ensures.most)) (c.past_printable-here.ensures.clusters Given)
+    c.words_after.ensures.end_before c.words_after.ensures.word c.words_after.ensures.end (c.past_printable-here.ensures.walk Given c.clusters.invariant.here_walk) c.words_after.ensures.positions c.past_printable-here.ensures.position in
     omega (arith, size, length-plain t, inv.bound, got.0.within, got.1, got.4)
 
 pub overflow_add-columns-in-clusters : goal.overflow_add-columns-in-clusters
@@ -40,14 +41,14 @@ overflow_add-columns-in-clusters n c =
     let t = c.args.text.now in
     let size : length t < 2 ^ 63 = search rules in
     let got = c.in-Some.ensures in
-    let inv = read-printable c.clusters.invariant c.printable_ahead-len.ensures.ahead (omega (arith, c.printable_ahead-len.ensures.most)) c.past_printable-here.ensures.clusters
-    c.words_after.ensures.end_before c.words_after.ensures.word c.words_after.ensures.end c.past_printable-here.ensures.walk c.words_after.ensures.positions c.past_printable-here.ensures.position in
+    let inv = read-printable c.clusters.invariant c.printable_ahead-len.ensures.ahead (omega (arith, c.printable_ahead-len.ensures.most)) (c.past_printable-here.ensures.clusters Given)
+    c.words_after.ensures.end_before c.words_after.ensures.word c.words_after.ensures.end (c.past_printable-here.ensures.walk Given c.clusters.invariant.here_walk) c.words_after.ensures.positions c.past_printable-here.ensures.position in
     omega (arith, size, length-plain t, inv.bound, got.0.within, got.1, got.4)
 
 pub returns-then-word-start-clause-lines : goal.returns-then-word-start-clause-lines
 returns-then-word-start-clause-lines n c =
-    let inv = read-printable c.clusters.invariant c.printable_ahead-len.ensures.ahead (omega (arith, c.printable_ahead-len.ensures.most)) c.past_printable-here.ensures.clusters
-    c.words_after.ensures.end_before c.words_after.ensures.word c.words_after.ensures.end c.past_printable-here.ensures.walk c.words_after.ensures.positions c.past_printable-here.ensures.position in
+    let inv = read-printable c.clusters.invariant c.printable_ahead-len.ensures.ahead (omega (arith, c.printable_ahead-len.ensures.most)) (c.past_printable-here.ensures.clusters Given)
+    c.words_after.ensures.end_before c.words_after.ensures.word c.words_after.ensures.end (c.past_printable-here.ensures.walk Given c.clusters.invariant.here_walk) c.words_after.ensures.positions c.past_printable-here.ensures.position in
     let got = c.in-Some.ensures in
     let utf8 : IsUtf8 c.args.text.now = search rules in
     let room : (c.args.start.position < c.past_printable-here.result.position) × (c.args.width < c.clusters.columns + c.printable_ahead-len.result + c.in-Some.more) = elim c.if-here-start.branch [
@@ -59,8 +60,8 @@ returns-then-word-start-clause-lines n c =
 
 pub returns-else-end_before-start-clause-lines : goal.returns-else-end_before-start-clause-lines
 returns-else-end_before-start-clause-lines n c =
-    let inv = read-printable c.clusters.invariant c.printable_ahead-len.ensures.ahead (omega (arith, c.printable_ahead-len.ensures.most)) c.past_printable-here.ensures.clusters
-    c.words_after.ensures.end_before c.words_after.ensures.word c.words_after.ensures.end c.past_printable-here.ensures.walk c.words_after.ensures.positions c.past_printable-here.ensures.position in
+    let inv = read-printable c.clusters.invariant c.printable_ahead-len.ensures.ahead (omega (arith, c.printable_ahead-len.ensures.most)) (c.past_printable-here.ensures.clusters Given)
+    c.words_after.ensures.end_before c.words_after.ensures.word c.words_after.ensures.end (c.past_printable-here.ensures.walk Given c.clusters.invariant.here_walk) c.words_after.ensures.positions c.past_printable-here.ensures.position in
     let got = c.in-Some.ensures in
     let utf8 : IsUtf8 c.args.text.now = search rules in
     let room : c.args.width < c.clusters.columns + c.printable_ahead-len.result + c.in-Some.more = elim c.if-here-start.branch [
@@ -72,8 +73,8 @@ returns-else-end_before-start-clause-lines n c =
 
 pub returns-then-end_before-start-clause-lines : goal.returns-then-end_before-start-clause-lines
 returns-then-end_before-start-clause-lines n c =
-    let inv = read-printable c.clusters.invariant c.printable_ahead-len.ensures.ahead (omega (arith, c.printable_ahead-len.ensures.most)) c.past_printable-here.ensures.clusters
-    c.words_after.ensures.end_before c.words_after.ensures.word c.words_after.ensures.end c.past_printable-here.ensures.walk c.words_after.ensures.positions c.past_printable-here.ensures.position in
+    let inv = read-printable c.clusters.invariant c.printable_ahead-len.ensures.ahead (omega (arith, c.printable_ahead-len.ensures.most)) (c.past_printable-here.ensures.clusters Given)
+    c.words_after.ensures.end_before c.words_after.ensures.word c.words_after.ensures.end (c.past_printable-here.ensures.walk Given c.clusters.invariant.here_walk) c.words_after.ensures.positions c.past_printable-here.ensures.position in
     let got = c.in-Some.ensures in
     let utf8 : IsUtf8 c.args.text.now = search rules in
     let room : c.args.width < c.clusters.columns + c.printable_ahead-len.result + c.in-Some.more = elim c.if-here-start.branch [
@@ -86,15 +87,15 @@ returns-then-end_before-start-clause-lines n c =
 
 pub returns-then-end_before-start-clause-start_ordered : goal.returns-then-end_before-start-clause-start_ordered
 returns-then-end_before-start-clause-start_ordered n c =
-    let inv = read-printable c.clusters.invariant c.printable_ahead-len.ensures.ahead (omega (arith, c.printable_ahead-len.ensures.most)) c.past_printable-here.ensures.clusters
-    c.words_after.ensures.end_before c.words_after.ensures.word c.words_after.ensures.end c.past_printable-here.ensures.walk c.words_after.ensures.positions c.past_printable-here.ensures.position in
+    let inv = read-printable c.clusters.invariant c.printable_ahead-len.ensures.ahead (omega (arith, c.printable_ahead-len.ensures.most)) (c.past_printable-here.ensures.clusters Given)
+    c.words_after.ensures.end_before c.words_after.ensures.word c.words_after.ensures.end (c.past_printable-here.ensures.walk Given c.clusters.invariant.here_walk) c.words_after.ensures.positions c.past_printable-here.ensures.position in
     omega (arith, inv.ordered.0, inv.ordered.1, c.first_line.ensures.start_ordered)
 
 -- the word after an indent is further on
 pub first_line-requires : goal.first_line-requires
 first_line-requires n c =
-    let inv = read-printable c.clusters.invariant c.printable_ahead-len.ensures.ahead (omega (arith, c.printable_ahead-len.ensures.most)) c.past_printable-here.ensures.clusters
-    c.words_after.ensures.end_before c.words_after.ensures.word c.words_after.ensures.end c.past_printable-here.ensures.walk c.words_after.ensures.positions c.past_printable-here.ensures.position in
+    let inv = read-printable c.clusters.invariant c.printable_ahead-len.ensures.ahead (omega (arith, c.printable_ahead-len.ensures.most)) (c.past_printable-here.ensures.clusters Given)
+    c.words_after.ensures.end_before c.words_after.ensures.word c.words_after.ensures.end (c.past_printable-here.ensures.walk Given c.clusters.invariant.here_walk) c.words_after.ensures.positions c.past_printable-here.ensures.position in
     let got = c.in-Some.ensures in
     let utf8 : IsUtf8 c.args.text.now = search rules in
     let room : c.args.width < c.clusters.columns + c.printable_ahead-len.result + c.in-Some.more = elim c.if-here-start.branch [
@@ -110,8 +111,8 @@ first_line-requires n c =
 
 pub clusters-preserved : goal.clusters-preserved
 clusters-preserved n c =
-    let inv = read-printable c.clusters.invariant c.printable_ahead-len.ensures.ahead (omega (arith, c.printable_ahead-len.ensures.most)) c.past_printable-here.ensures.clusters
-    c.words_after.ensures.end_before c.words_after.ensures.word c.words_after.ensures.end c.past_printable-here.ensures.walk c.words_after.ensures.positions c.past_printable-here.ensures.position in
+    let inv = read-printable c.clusters.invariant c.printable_ahead-len.ensures.ahead (omega (arith, c.printable_ahead-len.ensures.most)) (c.past_printable-here.ensures.clusters Given)
+    c.words_after.ensures.end_before c.words_after.ensures.word c.words_after.ensures.end (c.past_printable-here.ensures.walk Given c.clusters.invariant.here_walk) c.words_after.ensures.positions c.past_printable-here.ensures.position in
     let got = c.in-Some.ensures in
     let utf8 : IsUtf8 c.args.text.now = search rules in
     elim c.if-is_blank.branch [
@@ -143,49 +144,67 @@ clusters-preserved n c =
 
 pub returns-in_default-clause-lines : goal.returns-in_default-clause-lines
 returns-in_default-clause-lines n c =
-    let inv = read-printable c.clusters.invariant c.printable_ahead-len.ensures.ahead (omega (arith, c.printable_ahead-len.ensures.most)) c.past_printable-here.ensures.clusters
-    c.words_after.ensures.end_before c.words_after.ensures.word c.words_after.ensures.end c.past_printable-here.ensures.walk c.words_after.ensures.positions c.past_printable-here.ensures.position in
+    let inv = read-printable c.clusters.invariant c.printable_ahead-len.ensures.ahead (omega (arith, c.printable_ahead-len.ensures.most)) (c.past_printable-here.ensures.clusters Given)
+    c.words_after.ensures.end_before c.words_after.ensures.word c.words_after.ensures.end (c.past_printable-here.ensures.walk Given c.clusters.invariant.here_walk) c.words_after.ensures.positions c.past_printable-here.ensures.position in
     line-is_last c.args.text.now c.args.width c.args.start.position c.words_after.result.0.position c.words_after.result.1.position c.words_after.result.2.position c.past_printable-here.result.position (c.clusters.columns + c.printable_ahead-len.result) inv.line
     (clusters_from-end c.args.text.now c.past_printable-here.result.position (rw c.in_default.is at c.next_cluster.ensures))
 
 pub returns-in_default-clause-ordered : goal.returns-in_default-clause-ordered
 returns-in_default-clause-ordered n c =
-    let inv = read-printable c.clusters.invariant c.printable_ahead-len.ensures.ahead (omega (arith, c.printable_ahead-len.ensures.most)) c.past_printable-here.ensures.clusters
-    c.words_after.ensures.end_before c.words_after.ensures.word c.words_after.ensures.end c.past_printable-here.ensures.walk c.words_after.ensures.positions c.past_printable-here.ensures.position in
+    let inv = read-printable c.clusters.invariant c.printable_ahead-len.ensures.ahead (omega (arith, c.printable_ahead-len.ensures.most)) (c.past_printable-here.ensures.clusters Given)
+    c.words_after.ensures.end_before c.words_after.ensures.word c.words_after.ensures.end (c.past_printable-here.ensures.walk Given c.clusters.invariant.here_walk) c.words_after.ensures.positions c.past_printable-here.ensures.position in
     inv.ordered.2
 
 pub returns-then-is_line_end-clause-ordered : goal.returns-then-is_line_end-clause-ordered
 returns-then-is_line_end-clause-ordered n c =
-    let inv = read-printable c.clusters.invariant c.printable_ahead-len.ensures.ahead (omega (arith, c.printable_ahead-len.ensures.most)) c.past_printable-here.ensures.clusters
-    c.words_after.ensures.end_before c.words_after.ensures.word c.words_after.ensures.end c.past_printable-here.ensures.walk c.words_after.ensures.positions c.past_printable-here.ensures.position in
+    let inv = read-printable c.clusters.invariant c.printable_ahead-len.ensures.ahead (omega (arith, c.printable_ahead-len.ensures.most)) (c.past_printable-here.ensures.clusters Given)
+    c.words_after.ensures.end_before c.words_after.ensures.word c.words_after.ensures.end (c.past_printable-here.ensures.walk Given c.clusters.invariant.here_walk) c.words_after.ensures.positions c.past_printable-here.ensures.position in
     inv.ordered.2
 
 pub returns-then-is_line_end-clause-next_ordered : goal.returns-then-is_line_end-clause-next_ordered
 returns-then-is_line_end-clause-next_ordered n c =
-    let inv = read-printable c.clusters.invariant c.printable_ahead-len.ensures.ahead (omega (arith, c.printable_ahead-len.ensures.most)) c.past_printable-here.ensures.clusters
-    c.words_after.ensures.end_before c.words_after.ensures.word c.words_after.ensures.end c.past_printable-here.ensures.walk c.words_after.ensures.positions c.past_printable-here.ensures.position in
+    let inv = read-printable c.clusters.invariant c.printable_ahead-len.ensures.ahead (omega (arith, c.printable_ahead-len.ensures.most)) (c.past_printable-here.ensures.clusters Given)
+    c.words_after.ensures.end_before c.words_after.ensures.word c.words_after.ensures.end (c.past_printable-here.ensures.walk Given c.clusters.invariant.here_walk) c.words_after.ensures.positions c.past_printable-here.ensures.position in
     omega (arith, inv.ordered.3, c.in-Some.ensures.1)
 
 pub returns-then-word-start-clause-ordered : goal.returns-then-word-start-clause-ordered
 returns-then-word-start-clause-ordered n c =
-    let inv = read-printable c.clusters.invariant c.printable_ahead-len.ensures.ahead (omega (arith, c.printable_ahead-len.ensures.most)) c.past_printable-here.ensures.clusters
-    c.words_after.ensures.end_before c.words_after.ensures.word c.words_after.ensures.end c.past_printable-here.ensures.walk c.words_after.ensures.positions c.past_printable-here.ensures.position in
+    let inv = read-printable c.clusters.invariant c.printable_ahead-len.ensures.ahead (omega (arith, c.printable_ahead-len.ensures.most)) (c.past_printable-here.ensures.clusters Given)
+    c.words_after.ensures.end_before c.words_after.ensures.word c.words_after.ensures.end (c.past_printable-here.ensures.walk Given c.clusters.invariant.here_walk) c.words_after.ensures.positions c.past_printable-here.ensures.position in
     inv.ordered.2
 
 pub returns-then-word-start-clause-next_ordered : goal.returns-then-word-start-clause-next_ordered
 returns-then-word-start-clause-next_ordered n c =
-    let inv = read-printable c.clusters.invariant c.printable_ahead-len.ensures.ahead (omega (arith, c.printable_ahead-len.ensures.most)) c.past_printable-here.ensures.clusters
-    c.words_after.ensures.end_before c.words_after.ensures.word c.words_after.ensures.end c.past_printable-here.ensures.walk c.words_after.ensures.positions c.past_printable-here.ensures.position in
+    let inv = read-printable c.clusters.invariant c.printable_ahead-len.ensures.ahead (omega (arith, c.printable_ahead-len.ensures.most)) (c.past_printable-here.ensures.clusters Given)
+    c.words_after.ensures.end_before c.words_after.ensures.word c.words_after.ensures.end (c.past_printable-here.ensures.walk Given c.clusters.invariant.here_walk) c.words_after.ensures.positions c.past_printable-here.ensures.position in
     inv.ordered.3
 
 pub returns-else-end_before-start-clause-ordered : goal.returns-else-end_before-start-clause-ordered
 returns-else-end_before-start-clause-ordered n c =
-    let inv = read-printable c.clusters.invariant c.printable_ahead-len.ensures.ahead (omega (arith, c.printable_ahead-len.ensures.most)) c.past_printable-here.ensures.clusters
-    c.words_after.ensures.end_before c.words_after.ensures.word c.words_after.ensures.end c.past_printable-here.ensures.walk c.words_after.ensures.positions c.past_printable-here.ensures.position in
+    let inv = read-printable c.clusters.invariant c.printable_ahead-len.ensures.ahead (omega (arith, c.printable_ahead-len.ensures.most)) (c.past_printable-here.ensures.clusters Given)
+    c.words_after.ensures.end_before c.words_after.ensures.word c.words_after.ensures.end (c.past_printable-here.ensures.walk Given c.clusters.invariant.here_walk) c.words_after.ensures.positions c.past_printable-here.ensures.position in
     inv.ordered.0
 
 pub returns-else-end_before-start-clause-next_ordered : goal.returns-else-end_before-start-clause-next_ordered
 returns-else-end_before-start-clause-next_ordered n c =
-    let inv = read-printable c.clusters.invariant c.printable_ahead-len.ensures.ahead (omega (arith, c.printable_ahead-len.ensures.most)) c.past_printable-here.ensures.clusters
-    c.words_after.ensures.end_before c.words_after.ensures.word c.words_after.ensures.end c.past_printable-here.ensures.walk c.words_after.ensures.positions c.past_printable-here.ensures.position in
+    let inv = read-printable c.clusters.invariant c.printable_ahead-len.ensures.ahead (omega (arith, c.printable_ahead-len.ensures.most)) (c.past_printable-here.ensures.clusters Given)
+    c.words_after.ensures.end_before c.words_after.ensures.word c.words_after.ensures.end (c.past_printable-here.ensures.walk Given c.clusters.invariant.here_walk) c.words_after.ensures.positions c.past_printable-here.ensures.position in
     inv.ordered.1
+
+pub printable_ahead-len-requires : goal.printable_ahead-len-requires
+printable_ahead-len-requires n c = (Given, c.clusters.invariant.here_walk)
+
+pub past_printable-here-requires-clause-walk : goal.past_printable-here-requires-clause-walk
+past_printable-here-requires-clause-walk n c = (Given, c.clusters.invariant.here_walk)
+
+pub next_cluster-requires : goal.next_cluster-requires
+next_cluster-requires n c = c.past_printable-here.ensures.walk Given c.clusters.invariant.here_walk
+
+pub is_line_end-requires-clause-here : goal.is_line_end-requires-clause-here
+is_line_end-requires-clause-here n c = c.past_printable-here.ensures.walk Given c.clusters.invariant.here_walk
+
+pub is_blank-requires-clause-here : goal.is_blank-requires-clause-here
+is_blank-requires-clause-here n c = c.past_printable-here.ensures.walk Given c.clusters.invariant.here_walk
+
+pub returns-then-word-start-clause-next : goal.returns-then-word-start-clause-next
+returns-then-word-start-clause-next n c = c.past_printable-here.ensures.walk Given c.clusters.invariant.here_walk

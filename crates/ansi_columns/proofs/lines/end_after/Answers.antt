@@ -1,4 +1,5 @@
 use Rattle.std.proofs.Common.{◌≡◌, ◌+◌, length, take, slice_range, sym, ◌∙◌, ap, subst, arith}
+use Rattle.ansi_columns.specs.declared.views.View.TheVariants.{Given}
 use Rattle.ansi_columns.specs.Words.{end_after}
 use Rattle.ansi_columns.proofs.PrintableLemmas.{printable-bytes, IsPrintable-up_to}
 use Rattle.ansi_columns.proofs.WordLemmas.{front-blank, front-solid}
@@ -35,3 +36,9 @@ returns-else-count-eq0-clause-position c =
       | else-blanks-test w ↦ absurd (omega (arith, w.blanks-test.false, c.if-count-eq0.false))
     ] in
     c.past_printable.ensures.position ∙ sym last ∙ sym inv.same ∙ ap (λ x. end_after (slice_range x a (a + c.args.len)) c.args.here.position c.args.end.position) c.as_bytes.ensures.value
+
+pub past_printable-requires-clause-walk : goal.past_printable-requires-clause-walk
+past_printable-requires-clause-walk c = (Given, c.requires.here)
+
+pub returns-else-count-eq0-clause-walk : goal.returns-else-count-eq0-clause-walk
+returns-else-count-eq0-clause-walk c = c.past_printable.ensures.walk Given c.requires.here

@@ -1,5 +1,6 @@
 use Rattle.std.proofs.Common.{sym, subst, arith}
 use Rattle.std.proofs.lemmas.Bool.Decides.{nat_tests}
+use Rattle.ansi_columns.specs.declared.views.View.TheVariants.{Given}
 use Rattle.ansi_columns.specs.Walks.{IsNext}
 use Rattle.ansi_columns.proofs.KindLemmas.{blank-none, blank-other, blank-len}
 use Rattle.ansi_columns.proofs.lines.is_blank.Goals as goal
@@ -16,3 +17,6 @@ returns-in_default c =
 
 pub returns-in_default-2 : goal.returns-in_default-2
 returns-in_default-2 c = sym (blank-none c.args.text.now c.utf8.text c.args.here.now c.requires.here c.args.next.now c.requires.next c.requires.ordered (rw c.in_default.is at c.next_char.ensures))
+
+pub next_char-requires : goal.next_char-requires
+next_char-requires c = (Given, c.requires.here)

@@ -1,6 +1,7 @@
 use Rattle.std.proofs.Common.{◌≡◌, ◌+◌, Some, None, length, take, drop, slice_range, sym, ◌∙◌, ap, arith}
 use Rattle.std.proofs.lemmas.List.{take-take}
 use Rattle.memchr.specs.Find.{IsLastByte, is_byte}
+use Rattle.ansi_columns.specs.declared.views.View.TheVariants.{Given}
 use Rattle.ansi_columns.specs.Words.{end_after}
 use Rattle.ansi_columns.proofs.PrintableLemmas.{printable-bytes, IsPrintable-up_to, slice_range-take}
 use Rattle.ansi_columns.proofs.WordLemmas.{words-none, words-last_byte, words-last_word}
@@ -65,3 +66,21 @@ returns-else-blank-len-clause-positions c =
     sym (words-last_word bytes k last c.args.here.position c.args.end_before.position c.args.word.position c.args.end.position (λ e. absurd (omega (arith, size, c.if-blank-len.false, e)))
     ∙ ap (λ e. (e, c.args.here.position + (k + 1), c.args.here.position + length bytes)) before ∙ ap (λ n. (c.end_after-before.result.position, n, c.args.here.position + length bytes)) word
     ∙ ap (λ n. (c.end_after-before.result.position, c.past_printable-last.result.position, n)) all)
+
+pub past_printable-after-requires-clause-walk : goal.past_printable-after-requires-clause-walk
+past_printable-after-requires-clause-walk c = (Given, c.requires.here)
+
+pub past_printable-last-requires-clause-walk : goal.past_printable-last-requires-clause-walk
+past_printable-last-requires-clause-walk c = (Given, c.requires.here)
+
+pub returns-in_default-clause-end : goal.returns-in_default-clause-end
+returns-in_default-clause-end c = c.past_printable-after.ensures.walk Given c.requires.here
+
+pub returns-then-blank-len-clause-word : goal.returns-then-blank-len-clause-word
+returns-then-blank-len-clause-word c = c.past_printable-last.ensures.walk Given c.requires.here
+
+pub returns-else-blank-len-clause-word : goal.returns-else-blank-len-clause-word
+returns-else-blank-len-clause-word c = c.past_printable-last.ensures.walk Given c.requires.here
+
+pub returns-else-blank-len-clause-end : goal.returns-else-blank-len-clause-end
+returns-else-blank-len-clause-end c = c.past_printable-after.ensures.walk Given c.requires.here

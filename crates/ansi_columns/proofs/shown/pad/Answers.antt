@@ -1,100 +1,33 @@
-use Rattle.std.proofs.Common.{◌≡◌, ◌-◌, ◌++◌, length, sym, ◌∙◌, ap, arith}
-use Rattle.ansi_items.specs.Plain.{plain}
-use Rattle.ansi_style.specs.States.{rendition_of}
-use Rattle.ansi_style.specs.Written.{close}
-use Rattle.ansi_safe.specs.Cells.{cell}
+use Rattle.std.proofs.Common.{◌≡◌, ℕ, List, [], length, IfOk, sym, ap, subst, arith}
+use Rattle.std.specs.Cow.{cow_str_bytes}
+use Rattle.std.proofs.lemmas.Result.{IfOk-weaker}
 use Rattle.ansi_safe.proofs.CellTextLemmas.{length-cell}
-use Rattle.ansi_columns.specs.Columns.{columns}
-use Rattle.ansi_columns.specs.Shown.{missing, blanks}
-use Rattle.ansi_columns.proofs.ShownLemmas.{nothing_is, nothing_not, ending-closing, padded-bytes, padded-alone, padded-length, length-ended}
+use Rattle.ansi_columns.specs.Shown.{missing, closing, padded}
 use Rattle.ansi_columns.proofs.shown.pad.Goals as goal
-
--- no blank is missing, and nothing is open
-
-pub returns-then-is_nothing-clause-bytes : goal.returns-then-is_nothing-clause-bytes
-returns-then-is_nothing-clause-bytes g c =
-    let t = cell c.args.text.now in
-    let is = c.in_ok-cell.ensures.bytes in
-    let pen = c.pen_after.ensures in
-    let ended = ending-closing (c.as_str-2.ensures.value ∙ is) pen.style pen.link c.ending-ending.ensures.link_end (ap rendition_of c.ending-ending.ensures.style) in
-    let lack : c.saturating_sub-missing.result ≡ missing t c.args.width = omega (arith, c.saturating_sub-missing.ensures, c.width.ensures, ap (λ u. columns (plain u)) (c.as_str.ensures.value ∙ is)) in
-    let none = nothing_is _ _ c.is_nothing.ensures c.if-is_nothing.true in
-    is ∙ padded-alone t c.args.width c.args.alignment (sym lack ∙ none.1) (sym ended ∙ none.0)
-
-pub returns-then-is_nothing-clause-borrowed : goal.returns-then-is_nothing-clause-borrowed
-returns-then-is_nothing-clause-borrowed g c =
-    let t = cell c.args.text.now in
-    let is = c.in_ok-cell.ensures.bytes in
-    let pen = c.pen_after.ensures in
-    let ended = ending-closing (c.as_str-2.ensures.value ∙ is) pen.style pen.link c.ending-ending.ensures.link_end (ap rendition_of c.ending-ending.ensures.style) in
-    let lack : c.saturating_sub-missing.result ≡ missing t c.args.width = omega (arith, c.saturating_sub-missing.ensures, c.width.ensures, ap (λ u. columns (plain u)) (c.as_str.ensures.value ∙ is)) in
-    let none = nothing_is _ _ c.is_nothing.ensures c.if-is_nothing.true in
-    (λ b. (c.in_ok-cell.ensures.borrowed.0 b, sym lack ∙ none.1, sym ended ∙ none.0), λ all. c.in_ok-cell.ensures.borrowed.1 all.0)
-
-pub returns-then-is_nothing-clause-len : goal.returns-then-is_nothing-clause-len
-returns-then-is_nothing-clause-len g c =
-    omega (arith, ap length c.in_ok-cell.ensures.bytes, length-cell c.args.text.now c.utf8.text)
-
--- one is, or something is
-
-pub returns-in_err-out-clause-takes_no_memory : goal.returns-in_err-out-clause-takes_no_memory
-returns-in_err-out-clause-takes_no_memory g c =
-    let t = cell c.args.text.now in
-    let is = c.in_ok-cell.ensures.bytes in
-    let pen = c.pen_after.ensures in
-    let ended = ending-closing (c.as_str-2.ensures.value ∙ is) pen.style pen.link c.ending-ending.ensures.link_end (ap rendition_of c.ending-ending.ensures.style) in
-    let lack : c.saturating_sub-missing.result ≡ missing t c.args.width = omega (arith, c.saturating_sub-missing.ensures, c.width.ensures, ap (λ u. columns (plain u)) (c.as_str.ensures.value ∙ is)) in
-    λ all. absurd (nothing_not _ _ c.is_nothing.ensures c.if-is_nothing.false (ended ∙ all.2) (lack ∙ all.1))
-
-pub returns-in_err-push_to-clause-takes_no_memory : goal.returns-in_err-push_to-clause-takes_no_memory
-returns-in_err-push_to-clause-takes_no_memory g c =
-    let t = cell c.args.text.now in
-    let is = c.in_ok-cell.ensures.bytes in
-    let pen = c.pen_after.ensures in
-    let ended = ending-closing (c.as_str-2.ensures.value ∙ is) pen.style pen.link c.ending-ending.ensures.link_end (ap rendition_of c.ending-ending.ensures.style) in
-    let lack : c.saturating_sub-missing.result ≡ missing t c.args.width = omega (arith, c.saturating_sub-missing.ensures, c.width.ensures, ap (λ u. columns (plain u)) (c.as_str.ensures.value ∙ is)) in
-    λ all. absurd (nothing_not _ _ c.is_nothing.ensures c.if-is_nothing.false (ended ∙ all.2) (lack ∙ all.1))
-
-pub returns-in_err-push_blanks-clause-takes_no_memory : goal.returns-in_err-push_blanks-clause-takes_no_memory
-returns-in_err-push_blanks-clause-takes_no_memory g c =
-    let t = cell c.args.text.now in
-    let is = c.in_ok-cell.ensures.bytes in
-    let pen = c.pen_after.ensures in
-    let ended = ending-closing (c.as_str-2.ensures.value ∙ is) pen.style pen.link c.ending-ending.ensures.link_end (ap rendition_of c.ending-ending.ensures.style) in
-    let lack : c.saturating_sub-missing.result ≡ missing t c.args.width = omega (arith, c.saturating_sub-missing.ensures, c.width.ensures, ap (λ u. columns (plain u)) (c.as_str.ensures.value ∙ is)) in
-    λ all. absurd (nothing_not _ _ c.is_nothing.ensures c.if-is_nothing.false (ended ∙ all.2) (lack ∙ all.1))
 
 pub returns-clause-bytes : goal.returns-clause-bytes
 returns-clause-bytes g c =
-    let t = cell c.args.text.now in
-    let is = c.in_ok-cell.ensures.bytes in
-    let pen = c.pen_after.ensures in
-    let ended = ending-closing (c.as_str-2.ensures.value ∙ is) pen.style pen.link c.ending-ending.ensures.link_end (ap rendition_of c.ending-ending.ensures.style) in
-    let lack : c.saturating_sub-missing.result ≡ missing t c.args.width = omega (arith, c.saturating_sub-missing.ensures, c.width.ensures, ap (λ u. columns (plain u)) (c.as_str.ensures.value ∙ is)) in
-    let before = c.before_text-before.result in
-    let closes = c.ending-ending.result.link_end.now ++ close (rendition_of c.ending-ending.result.style) in
-    let more = blanks (c.saturating_sub-missing.result - before) in
-    let written = c.in_ok-push_blanks.ensures ∙ ap (λ u. u ++ more) (c.in_ok-push_to.ensures ∙ ap (λ u. u ++ closes) (c.in_ok-out.ensures ∙ ap (λ u. blanks before ++ u) is)) in
-    written ∙ padded-bytes t c.args.width c.args.alignment ended lack c.before_text-before.ensures.count
+    subst (λ t. IfOk c.pad_cell.result (λ s. cow_str_bytes s ≡ padded t c.args.width c.args.alignment)) c.in_ok-cell_of.ensures.bytes c.pad_cell.ensures.bytes
 
 pub returns-clause-borrowed : goal.returns-clause-borrowed
 returns-clause-borrowed g c =
-    let t = cell c.args.text.now in
-    let is = c.in_ok-cell.ensures.bytes in
-    let pen = c.pen_after.ensures in
-    let ended = ending-closing (c.as_str-2.ensures.value ∙ is) pen.style pen.link c.ending-ending.ensures.link_end (ap rendition_of c.ending-ending.ensures.style) in
-    let lack : c.saturating_sub-missing.result ≡ missing t c.args.width = omega (arith, c.saturating_sub-missing.ensures, c.width.ensures, ap (λ u. columns (plain u)) (c.as_str.ensures.value ∙ is)) in
-    (λ b. absurd b, λ all. absurd (nothing_not _ _ c.is_nothing.ensures c.if-is_nothing.false (ended ∙ all.2) (lack ∙ all.1)))
+    let full : List ℕ → Type 0 = λ t. missing t c.args.width ≡ 0 in
+    let closed : List ℕ → Type 0 = λ t. closing t ≡ [] in
+    let is = c.in_ok-cell_of.ensures.bytes in
+    let stays = c.in_ok-cell_of.ensures.borrowed in
+    IfOk-weaker c.pad_cell.result _ _ (λ s iff. (
+      λ b. (stays.0 (iff.0 b).0, subst full is (iff.0 b).1, subst closed is (iff.0 b).2),
+      λ all. iff.1 (stays.1 all.0, subst full (sym is) all.1, subst closed (sym is) all.2),
+    )) c.pad_cell.ensures.borrowed
 
 pub returns-clause-len : goal.returns-clause-len
 returns-clause-len g c =
-    let t = cell c.args.text.now in
-    let is = c.in_ok-cell.ensures.bytes in
-    let pen = c.pen_after.ensures in
-    let ended = ending-closing (c.as_str-2.ensures.value ∙ is) pen.style pen.link c.ending-ending.ensures.link_end (ap rendition_of c.ending-ending.ensures.style) in
-    let lack : c.saturating_sub-missing.result ≡ missing t c.args.width = omega (arith, c.saturating_sub-missing.ensures, c.width.ensures, ap (λ u. columns (plain u)) (c.as_str.ensures.value ∙ is)) in
-    let before = c.before_text-before.result in
-    let closes = c.ending-ending.result.link_end.now ++ close (rendition_of c.ending-ending.result.style) in
-    let more = blanks (c.saturating_sub-missing.result - before) in
-    let written = c.in_ok-push_blanks.ensures ∙ ap (λ u. u ++ more) (c.in_ok-push_to.ensures ∙ ap (λ u. u ++ closes) (c.in_ok-out.ensures ∙ ap (λ u. blanks before ++ u) is)) in
-    omega (arith, lack, ap length written, length-cell c.args.text.now c.utf8.text, padded-length t closes c.saturating_sub-missing.result before c.before_text-before.ensures.within (length-ended t ended))
+    let is = c.in_ok-cell_of.ensures.bytes in
+    IfOk-weaker c.pad_cell.result _ _ (λ s most. omega (arith, most, ap length is, ap (λ t. missing t c.args.width) is, length-cell c.args.text.now c.utf8.text)) c.pad_cell.ensures.len
+
+pub returns-clause-takes_no_memory : goal.returns-clause-takes_no_memory
+returns-clause-takes_no_memory g c =
+    let full : List ℕ → Type 0 = λ t. missing t c.args.width ≡ 0 in
+    let closed : List ℕ → Type 0 = λ t. closing t ≡ [] in
+    let is = c.in_ok-cell_of.ensures.bytes in
+    λ all. c.pad_cell.ensures.takes_no_memory (subst full (sym is) all.1, subst closed (sym is) all.2)

@@ -1,6 +1,7 @@
 use Rattle.std.proofs.Common.{◌≡◌, ◌+◌, ◌∙◌, arith, refl, rules, inl, inr, take, string_bytes}
 use Rattle.std.specs.Io.KnownBytes.{IsAtEnd}
 use Rattle.ansi_lines_runs.proofs.Written.{flag_unchanged}
+use Rattle.ansi_view_runs.specs.Jobs.{work_of}
 use Rattle.ansi_view_runs.specs.Runs.{HasViewed}
 use Rattle.ansi_view_runs.proofs.Viewed.{HasViewed-start, HasViewed-read, HasViewed-then, views_front, views_all, views_beginning, views_same, flags_then, failed_now, interrupted_now, nothing_taken, nothing_given}
 use Rattle.ansi_view_runs.proofs.runs.view_all.Goals.{in-Ok+in_ok-take_bytes-in-Ok, in-Err-Interrupted}
@@ -9,7 +10,7 @@ use Rattle.ansi_view_runs.proofs.runs.view_all.Goals as goal
 -- nothing is read, and nothing is written
 pub loop-turn-init : goal.loop-turn-init
 loop-turn-init g c = record {
-  viewed = rw (c.new.ensures.bytes, c.new-2.ensures.items) (HasViewed-start c.args.view _ _);
+  viewed = rw (c.new.ensures.bytes, c.new-2.ensures.items) (HasViewed-start (work_of c.args.job.now) _ _);
   no_line_feed = rw c.new-2.ensures.items refl;
   fits = rw c.new-2.ensures.items (omega arith);
   unfailed = refl;
@@ -27,7 +28,7 @@ returns-in-Ok-eq0-clause-done g c =
     let none : c.in-Ok-eq0.field-0 ≡ 0 = c.in-Ok-eq0.field-0-test in
     let end : IsAtEnd (g.S.Source.left c.read.new.self) = gave.1 none (omega (arith, inv.room, c.read.auto.room)) in
     let same = nothing_given _ (g.S.Source.left c.read.new.self) c.in-Ok-eq0.field-0 c.read.new.room none gave.0 in
-    let now : HasViewed c.args.view (string_bytes c.loop-turn.held.opening) c.loop-turn.held.rest.items (g.S.Source.left c.args.input.now) (g.S.Source.left c.read.new.self) (g.W.Sink.taken c.args.output.now) (g.W.Sink.taken c.loop-turn.output) =
+    let now : HasViewed (work_of c.args.job.now) (string_bytes c.loop-turn.held.opening) c.loop-turn.held.rest.items (g.S.Source.left c.args.input.now) (g.S.Source.left c.read.new.self) (g.W.Sink.taken c.args.output.now) (g.W.Sink.taken c.loop-turn.output) =
     rw same inv.viewed in
     views_all now end c.in_ok-write_last-in-Ok-eq0.ensures.done
 

@@ -1,5 +1,6 @@
 use Rattle.std.proofs.Common.{◌≡◌, ◌≤◌, ◌+◌, length, string_bytes}
 use Rattle.ansi_io.specs.Devices.{count_after}
+use Rattle.ansi_view_runs.specs.Jobs.{work_of}
 use Rattle.ansi_view_runs.specs.Lines.{max_piece, HasNoLineFeed}
 use Rattle.ansi_view_runs.specs.Runs.{HasViewed, KeepsFlags}
 use Rattle.ansi_view_runs.specs.declared.runs.TheConstants.{ROOM}
@@ -11,7 +12,7 @@ invariant-loop-turn g l =
     let source = g.S.Source in
     let sink = g.W.Sink in
     record {
-      viewed : HasViewed l.view (string_bytes l.held.opening) l.held.rest.items (source.left l.fn.input) (source.left l.input) (sink.taken l.fn.output) (sink.taken l.output);
+      viewed : HasViewed (work_of l.job) (string_bytes l.held.opening) l.held.rest.items (source.left l.fn.input) (source.left l.input) (sink.taken l.fn.output) (sink.taken l.output);
       no_line_feed : HasNoLineFeed l.held.rest.items;
       fits : length l.held.rest.items ≤ max_piece;
       unfailed : source.failed l.input ≡ source.failed l.fn.input;

@@ -1,62 +1,126 @@
-use Rattle.std.proofs.Common.{◌≡◌, ◌+◌, ◌∷◌, true, false, encode_utf8, sym, ◌∙◌, ap, length, arith}
+use Rattle.std.proofs.Common.{◌≡◌, ◌+◌, ◌<◌, ◌∷◌, true, false, encode_utf8, [], None, refl, sym, ◌∙◌, ap, length, arith, rules}
 use Rattle.unicode_segmentation.specs.Grapheme.{is_grapheme_break}
+use Rattle.ansi_columns.specs.BreakStates.{break_state_of}
 use Rattle.ansi_columns.specs.Columns.{cluster_width}
-use Rattle.ansi_columns.specs.Walks.{before, after, cluster, clusters_from}
-use Rattle.ansi_columns.proofs.WalkLemmas.{walk_boundary, after-past}
-use Rattle.ansi_columns.proofs.ClusterWalkLemmas.{cluster-one, cluster-first, cluster-more, cluster-stops, cluster-is_last}
-use Rattle.ansi_columns.proofs.walks.Walk.next_cluster.Goals.{in-Some+then-ends_before, in_default}
+use Rattle.ansi_columns.specs.Views.{seen}
+use Rattle.ansi_columns.specs.Walks.{after, seen_before, seen_after, seen_cluster, seen_clusters, IsSeenNext}
+use Rattle.ansi_columns.proofs.ClusterWalkLemmas.{seen_cluster-past, cluster-first, cluster-more, cluster-stops, cluster-is_last}
+use Rattle.ansi_columns.proofs.ViewLemmas.{seen-nil, before-none, after-none, after-one}
+use Rattle.ansi_columns.proofs.WalkLemmas.{walk_boundary}
+use Rattle.ansi_columns.proofs.walks.Walk.next_cluster.Goals.{in_default-Some+then-ends_before, in_default}
 use Rattle.ansi_columns.proofs.walks.Walk.next_cluster.Goals as goal
+
+-- nothing is seen
+pub returns-in_err-first : goal.returns-in_err-first
+returns-in_err-first c =
+    let t = c.args.text.now in
+    let view = c.args.view in
+    let start = c.next_seen-first.result.0 in
+    let found = c.next_seen-first.ensures in
+    let none : after t start.position ≡ [] = rw c.in_err-first.was at found.next in
+    rw c.from_residual.ensures (after-none view t c.utf8.text c.args.self.position start.position found.ordered (walk_boundary t c.utf8.text c.args.self c.requires) (walk_boundary t c.utf8.text start found.walk) found.left_out ∙ ap (seen view) none ∙ seen-nil view)
 
 pub cluster-init : goal.cluster-init
 cluster-init c =
-    let next = c.past-walk.ensures in
+    let t = c.args.text.now in
+    let view = c.args.view in
+    let n = c.args.self.position in
+    let m = c.past-walk.result.position in
+    let found = c.next_seen-first.ensures in
+    let next : IsSeenNext view t c.next_seen-first.result.0 c.in_ok-first.first = rw c.in_ok-first.was at found.next in
+    let begin = walk_boundary t c.utf8.text c.args.self c.requires in
+    let past = seen_cluster-past n m c.utf8.text begin found.ordered found.walk found.left_out next c.past-walk.ensures.position in
     record {
-      walk = next.walk;
-      so_far = cluster-first c.args.text.now c.utf8.text c.args.self c.requires c.in_ok-first.first c.in_ok-first.ensures _ next.position next.before next.after;
+      walk = c.past-walk.ensures.walk view found.walk next;
+      so_far = cluster-first view t c.utf8.text n m c.in_ok-first.first past.3 begin past.0 past.2;
     }
 
 pub cluster-preserved : goal.cluster-preserved
 cluster-preserved c =
     let t = c.args.text.now in
+    let view = c.args.view in
     let inv = c.cluster.invariant in
-    let next = c.past-walk-in-Some.ensures in
-    let joins : is_grapheme_break true (before t c.cluster.walk.position) (c.in-Some.next ∷ after t c.past-walk-in-Some.result.position) ≡ false
-    = sym (c.ends_before.ensures (before t c.cluster.walk.position) (after t c.past-walk-in-Some.result.position) inv.so_far.some inv.walk.break_state) ∙ c.if-ends_before.false in
+    let p = c.cluster.walk.position in
+    let here = c.next_seen.result.0 in
+    let found = c.next_seen.ensures in
+    let m = c.past-walk-in_default-Some.result.position in
+    let next : IsSeenNext view t here c.in_default-Some.next = rw c.in_default-Some.is-1 at found.next in
+    let begin = walk_boundary t c.utf8.text c.cluster.walk inv.walk in
+    let past = seen_cluster-past p m c.utf8.text begin found.ordered found.walk found.left_out next c.past-walk-in_default-Some.ensures.position in
+    let state = found.walk.break_state ∙ ap break_state_of (before-none view t c.utf8.text p here.position found.ordered begin (walk_boundary t c.utf8.text here found.walk) found.left_out) in
+    let joins : is_grapheme_break true (seen_before view t p) (c.in_default-Some.next ∷ seen_after view t m) ≡ false
+    = sym (c.ends_before.ensures (seen_before view t p) (seen_after view t m) inv.so_far.some state) ∙ c.if-ends_before.false in
     record {
-      walk = next.walk;
-      so_far = cluster-more t c.utf8.text c.cluster.walk inv.walk c.in-Some.next c.in-Some.ensures _ next.position next.before next.after
-          c.args.self.position (walk_boundary t c.utf8.text c.args.self c.requires) inv.so_far joins;
+      walk = c.past-walk-in_default-Some.ensures.walk view found.walk next;
+      so_far = cluster-more view t c.utf8.text c.args.self.position p m c.in_default-Some.next (walk_boundary t c.utf8.text c.args.self c.requires) inv.so_far past.3 begin past.0 past.2 joins;
     }
 
 pub cluster-smaller : goal.cluster-smaller
-cluster-smaller c = omega (arith, ap length c.past-walk-in-Some.ensures.after)
-
-pub returns-then-walk-self : goal.returns-then-walk-self
-returns-then-walk-self c =
+cluster-smaller c =
     let t = c.args.text.now in
+    let view = c.args.view in
+    let found = c.next_seen.ensures in
+    let next : IsSeenNext view t c.next_seen.result.0 c.in_default-Some.next = rw c.in_default-Some.is-1 at found.next in
+    let p = c.cluster.walk.position in
+    let m = c.past-walk-in_default-Some.result.position in
+    let past = seen_cluster-past p m c.utf8.text (walk_boundary t c.utf8.text c.cluster.walk c.cluster.invariant.walk) found.ordered found.walk found.left_out next c.past-walk-in_default-Some.ensures.position in
+    omega (arith, past.3, past.0.0)
+
+-- the cluster ends before the next character that is seen, or since none is
+
+pub returns-then-walk-start : goal.returns-then-walk-start
+returns-then-walk-start c =
+    let t = c.args.text.now in
+    let view = c.args.view in
     let inv = c.cluster.invariant in
     let walk = c.cluster.walk in
-    let first : clusters_from t c.args.self.position ≡ cluster t c.args.self.position walk.position ∷ clusters_from t walk.position = elim c.match-next_char.branch [
-      | in-Some+then-ends_before w ↦ (
-          let next = w.in-Some.next in
-          let rest = after-past t c.utf8.text walk inv.walk next w.in-Some.ensures in
-          cluster-stops inv.so_far (ap (is_grapheme_break true (before t walk.position)) rest ∙ sym (w.ends_before.ensures (before t walk.position) _ inv.so_far.some inv.walk.break_state) ∙ w.if-ends_before.true))
-      | in_default w ↦ cluster-is_last inv.so_far (rw w.in_default.is at c.next_char-in-cluster.ensures)
+    let n = c.args.self.position in
+    let p = walk.position in
+    let here = c.next_seen.result.0 in
+    let more = c.next_seen.ensures in
+    let here_begin = walk_boundary t c.utf8.text walk inv.walk in
+    let first : seen_clusters view t n ≡ seen_cluster view t n p ∷ seen_clusters view t p = elim c.match-next_seen.branch [
+      | in_default-Some+then-ends_before w ↦ (
+          let next : IsSeenNext view t here w.in_default-Some.next = rw w.in_default-Some.is-1 at more.next in
+          let m = here.position + length (encode_utf8 w.in_default-Some.next) in
+          let past = seen_cluster-past p m c.utf8.text here_begin more.ordered more.walk more.left_out next refl in
+          let state = more.walk.break_state ∙ ap break_state_of (before-none view t c.utf8.text p here.position more.ordered here_begin (walk_boundary t c.utf8.text here more.walk) more.left_out) in
+          let rest = after-one view t c.utf8.text p m (omega (arith, past.3)) here_begin past.0 w.in_default-Some.next past.2 in
+          cluster-stops inv.so_far (ap (is_grapheme_break true (seen_before view t p)) rest ∙ sym (w.ends_before.ensures (seen_before view t p) (seen_after view t m) inv.so_far.some state) ∙ w.if-ends_before.true))
+      | in_default w ↦ (
+          let is : c.next_seen.result.1 ≡ None = search rules in
+          let none : after t here.position ≡ [] = rw is at more.next in
+          cluster-is_last inv.so_far (after-none view t c.utf8.text p here.position more.ordered here_begin (walk_boundary t c.utf8.text here more.walk) more.left_out ∙ ap (seen view) none ∙ seen-nil view))
     ] in
-    let place : walk.position ≡ c.args.self.position + length (encode_utf8 c.in_ok-first.first) = omega (arith, c.if-walk-self.true, c.len_utf8.ensures.len) in
-    let one = cluster-one t c.utf8.text c.args.self c.requires c.in_ok-first.first c.in_ok-first.ensures walk.position place in
-    (inv.walk, inv.so_far.ahead, first, c.char_width-width.ensures.value ∙ ap cluster_width (sym one), omega (arith, c.char_width-width.ensures.bound, place))
+    let start = c.next_seen-first.result.0 in
+    let found = c.next_seen-first.ensures in
+    let begin : IsSeenNext view t start c.in_ok-first.first = rw c.in_ok-first.was at found.next in
+    let place : p ≡ start.position + length (encode_utf8 c.in_ok-first.first) = omega (arith, c.if-walk-start.true, c.len_utf8.ensures.len) in
+    let one = seen_cluster-past n p c.utf8.text (walk_boundary t c.utf8.text c.args.self c.requires) found.ordered found.walk found.left_out begin place in
+    (inv.walk, inv.so_far.ahead, first, c.char_width-width.ensures.value ∙ ap cluster_width (sym one.2), omega (arith, c.char_width-width.ensures.bound, place, found.ordered))
 
-pub returns-else-walk-self : goal.returns-else-walk-self
-returns-else-walk-self c =
+pub returns-else-walk-start : goal.returns-else-walk-start
+returns-else-walk-start c =
     let t = c.args.text.now in
+    let view = c.args.view in
     let inv = c.cluster.invariant in
     let walk = c.cluster.walk in
-    let first : clusters_from t c.args.self.position ≡ cluster t c.args.self.position walk.position ∷ clusters_from t walk.position = elim c.match-next_char.branch [
-      | in-Some+then-ends_before w ↦ (
-          let next = w.in-Some.next in
-          let rest = after-past t c.utf8.text walk inv.walk next w.in-Some.ensures in
-          cluster-stops inv.so_far (ap (is_grapheme_break true (before t walk.position)) rest ∙ sym (w.ends_before.ensures (before t walk.position) _ inv.so_far.some inv.walk.break_state) ∙ w.if-ends_before.true))
-      | in_default w ↦ cluster-is_last inv.so_far (rw w.in_default.is at c.next_char-in-cluster.ensures)
+    let n = c.args.self.position in
+    let p = walk.position in
+    let here = c.next_seen.result.0 in
+    let more = c.next_seen.ensures in
+    let here_begin = walk_boundary t c.utf8.text walk inv.walk in
+    let first : seen_clusters view t n ≡ seen_cluster view t n p ∷ seen_clusters view t p = elim c.match-next_seen.branch [
+      | in_default-Some+then-ends_before w ↦ (
+          let next : IsSeenNext view t here w.in_default-Some.next = rw w.in_default-Some.is-1 at more.next in
+          let m = here.position + length (encode_utf8 w.in_default-Some.next) in
+          let past = seen_cluster-past p m c.utf8.text here_begin more.ordered more.walk more.left_out next refl in
+          let state = more.walk.break_state ∙ ap break_state_of (before-none view t c.utf8.text p here.position more.ordered here_begin (walk_boundary t c.utf8.text here more.walk) more.left_out) in
+          let rest = after-one view t c.utf8.text p m (omega (arith, past.3)) here_begin past.0 w.in_default-Some.next past.2 in
+          cluster-stops inv.so_far (ap (is_grapheme_break true (seen_before view t p)) rest ∙ sym (w.ends_before.ensures (seen_before view t p) (seen_after view t m) inv.so_far.some state) ∙ w.if-ends_before.true))
+      | in_default w ↦ (
+          let is : c.next_seen.result.1 ≡ None = search rules in
+          let none : after t here.position ≡ [] = rw is at more.next in
+          cluster-is_last inv.so_far (after-none view t c.utf8.text p here.position more.ordered here_begin (walk_boundary t c.utf8.text here more.walk) more.left_out ∙ ap (seen view) none ∙ seen-nil view))
     ] in
     (inv.walk, inv.so_far.ahead, first, c.width_up_to-width.ensures.value, c.width_up_to-width.ensures.bound)

@@ -1,7 +1,19 @@
 use Rattle.std.proofs.Common.{sym, ◌∙◌, ap, arith}
 use Rattle.ansi_columns.specs.BreakStates.{break_state_of}
-use Rattle.ansi_columns.proofs.WalkLemmas.{before-start}
+use Rattle.ansi_columns.specs.declared.views.View.TheVariants.{Given}
+use Rattle.ansi_columns.proofs.ViewLemmas.{seen_before-start}
 use Rattle.ansi_columns.proofs.walks.Walk.start.Goals as goal
+
+pub returns-clause-seen : goal.returns-clause-seen
+returns-clause-seen c view =
+    let first = c.first_run-offset.ensures in
+    record {
+      offset = first.start;
+      run = first.run;
+      end = first.none;
+      break_state = c.start.ensures ∙ ap break_state_of (sym (seen_before-start view c.args.text.now));
+      within = omega arith;
+    }
 
 pub returns-clause-walk : goal.returns-clause-walk
 returns-clause-walk c =
@@ -10,6 +22,6 @@ returns-clause-walk c =
       offset = first.start;
       run = first.run;
       end = first.none;
-      break_state = c.start.ensures ∙ ap break_state_of (sym (before-start c.args.text.now));
+      break_state = c.start.ensures ∙ ap break_state_of (sym (seen_before-start Given c.args.text.now));
       within = omega arith;
     }

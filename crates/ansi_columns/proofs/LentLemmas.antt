@@ -1,0 +1,74 @@
+-- The lines of a wrap by whether its text lends them.
+use Rattle.std.proofs.Common.{◌≡◌, ℕ, ◌+◌, ◌≤◌, ◌==◌, true, false, List, [], ◌∷◌, length, Option, Some, None, Result, Ok, IsTrue, IsFalse, ◌↔◌, refl, sym, ◌∙◌, ap, ap₂, subst}
+use Rattle.std.specs.Cow.{cow_str_bytes, IsBorrowedStr}
+use Rattle.std.specs.List.{list_all}
+use Rattle.std.specs.Prelude.{IsSome, bytes_eq}
+use Rattle.std.specs.declared.borrow.CowStr.{CowStr}
+use Rattle.std.specs.declared.borrow.CowStr.TheVariants.{Borrowed, Owned}
+use Rattle.std.proofs.lemmas.Bool.{false_from_ne_true}
+use Rattle.std.proofs.lemmas.Slice.Eq.{bytes_eq-Decides}
+use Rattle.ansi_items.specs.Plain.{Mark, plain, has_escape}
+use Rattle.ansi_safe.specs.Cells.{paragraph}
+use Rattle.ansi_style.specs.declared.state.rendition.Rendition.{Rendition}
+use Rattle.ansi_style.specs.States.{rendition_of}
+use Rattle.ansi_style.specs.Written.{longest_start_and_close}
+use Rattle.ansi_safe.specs.Links.{longest_link_end}
+use Rattle.ansi_columns.specs.Lines.{lines_left}
+use Rattle.ansi_columns.specs.Walks.{clusters_from}
+use Rattle.ansi_columns.specs.declared.walks.Walk.{Walk}
+use Rattle.ansi_columns.specs.declared.wrap.spans.Spans.{Spans}
+use Rattle.ansi_columns.specs.Wrapped.{WrappedLine, lines_over, lent_lines, wrapped, marks_left, GivesLine}
+use Rattle.ansi_columns.specs.WrapStates.{open_link, lines_of, span_lines, is_lent}
+use Rattle.ansi_columns.proofs.WrapLemmas.{lines_filled, bare-borrowed}
+
+pub lent-true : (ls : List WrappedLine) → lent_lines true ls ≡ ls
+lent-true [] = refl
+lent-true (l ∷ ls) = ap (λ ks. l ∷ ks) (lent-true ls)
+
+pub gives-lent : {A E : Type 0} (old new : List WrappedLine) (r : Option (Result (CowStr A) E)) → GivesLine old r new → GivesLine (lent_lines true old) r (lent_lines true new)
+gives-lent old new r gives = subst (λ ls. GivesLine ls r (lent_lines true new)) (sym (lent-true old)) (subst (λ ls. GivesLine old r ls) (sym (lent-true new)) gives)
+
+-- a line that is written, if the text lends none
+pub gives-written : {A : Type 0} (E : Type 0) (old new : List WrappedLine) (l : WrappedLine) (c : CowStr A) → old ≡ l ∷ new → cow_str_bytes c ≡ l.bytes → (IsBorrowedStr c → ⊥) → length (cow_str_bytes c) ≤ l.source_len + longest_start_and_close + longest_link_end
+    → GivesLine {A = A} {E = E} (lent_lines false old) (Some (Ok c)) (lent_lines false new)
+gives-written E old new l c first bytes owned len = (record l { borrowed = false }, ap (lent_lines false) first, (bytes, (λ lent. absurd (owned lent), λ lent. absurd (cc lent)), len))
+
+-- while a line is left, there is a first one
+
+filled-over : (style : Rendition) (link x : List ℕ) (ms : List Mark) (is : List (ℕ × ℕ)) → (length is == 0) ≡ false → (l : WrappedLine) × (ls : List WrappedLine) × (lines_over style link x ms is ≡ l ∷ ls)
+unfolding lines_over
+filled-over style link x ms [] some = absurd (cc some)
+filled-over style link x ms (i ∷ is) some = (_, _, refl)
+
+pub first-left : (t : List ℕ) (s : Spans) → IsSome s.next → (l : WrappedLine) × (ls : List WrappedLine) × (span_lines t s ≡ l ∷ ls)
+first-left t s some = by s.next some
+  where
+    by : (next : Option Walk) → IsSome next → (l : WrappedLine) × (ls : List WrappedLine) × (lines_over (rendition_of s.pen.style) (open_link t s.pen) (plain t) (marks_left t s.before s.taken) (lines_left t s.width next) ≡ l ∷ ls)
+    by None some = absurd (cc some)
+    by (Some w) some = filled-over (rendition_of s.pen.style) (open_link t s.pen) (plain t) (marks_left t s.before s.taken) (lines_left t s.width (Some w)) (lines_filled s.width w.position w.position w.position 0 (clusters_from t w.position))
+
+-- A text lends its lines if it is its own paragraph.
+
+pub lent-paragraph : {A : Type 0} (E : Type 0) (t : List ℕ) (c : CowStr A) → (IsBorrowedStr c ↔ (paragraph t ≡ t)) → is_lent {A = A} {E = E} c None ≡ bytes_eq (paragraph t) t
+lent-paragraph E t (Borrowed s) iff = sym ((bytes_eq-Decides (paragraph t) t).1 (iff.0 tt))
+lent-paragraph E t (Owned s) iff = sym (false_from_ne_true _ (λ same. iff.1 ((bytes_eq-Decides (paragraph t) t).0 same)))
+
+pub made-wrapped : {A : Type 0} (E : Type 0) (t : List ℕ) (width : ℕ) (c : CowStr A) → cow_str_bytes c ≡ paragraph t → (IsBorrowedStr c ↔ (paragraph t ≡ t)) → lent_lines (is_lent {A = A} {E = E} c None) (lines_of (cow_str_bytes c) width) ≡ wrapped t width
+made-wrapped E t width c bytes iff = ap₂ (λ b u. lent_lines b (lines_of u width)) (lent-paragraph E t c iff) bytes
+
+pub failed-wrapped : (t : List ℕ) (width : ℕ) → (paragraph t ≡ t → ⊥) → lent_lines false (lines_of (paragraph t) width) ≡ wrapped t width
+failed-wrapped t width other = ap (λ b. lent_lines b (lines_of (paragraph t) width)) (sym (false_from_ne_true _ (λ same. other ((bytes_eq-Decides (paragraph t) t).0 same))))
+
+pub wrapped-itself : (t : List ℕ) (width : ℕ) → paragraph t ≡ t → wrapped t width ≡ lines_of t width
+wrapped-itself t width same =
+    let lent = (bytes_eq-Decides (paragraph t) t).1 same in
+    ap₂ (λ b u. lent_lines b (lines_of u width)) lent same ∙ lent-true (lines_of t width)
+
+-- it lends none if its paragraph couldn't be made
+pub failed-lends : {A E : Type 0} (c : CowStr A) (e : E) → is_lent c (Some e) ≡ false
+failed-lends (Borrowed s) e = refl
+failed-lends (Owned s) e = refl
+
+-- it lends all of them if it has no ESC
+pub wrapped-bare : (t : List ℕ) (width : ℕ) → paragraph t ≡ t → IsFalse (has_escape t) → IsTrue (list_all (λ (l : WrappedLine). l.borrowed) (wrapped t width))
+wrapped-bare t width same none = ap (list_all (λ (l : WrappedLine). l.borrowed)) (wrapped-itself t width same) ∙ bare-borrowed t width none

@@ -1,0 +1,127 @@
+use Rattle.std.proofs.Common.{List, Option, rules, ◌≡◌, ◌≤◌, ◌-◌, ◌==◌, false, ◌∷◌, [], length, slice_range, IsTrue, sym, ◌∙◌, ap, ap₂, arith}
+use Rattle.std.specs.Str.{IsUtf8}
+use Rattle.ansi_columns.specs.declared.walks.Walk.{Walk}
+use Rattle.ansi_items.specs.Plain.{plain, marks}
+use Rattle.ansi_style.specs.Reading.{style_after_from}
+use Rattle.ansi_style.specs.States.{rendition_of}
+use Rattle.ansi_search.specs.Positions.{no_character_goes_on}
+use Rattle.ansi_search.proofs.PositionLemmas.{no_character_goes_on-boundary}
+use Rattle.ansi_columns.specs.Lines.{lines_left}
+use Rattle.ansi_safe.specs.Links.{link_after_all}
+use Rattle.ansi_columns.specs.Walks.{clusters_from}
+use Rattle.ansi_columns.specs.Wrapped.{WrappedLine, line_over, lines_over, marks_left, IsTaken}
+use Rattle.ansi_columns.specs.WrapStates.{open_link, span_lines}
+use Rattle.ansi_columns.proofs.WalkLemmas.{walk_boundary}
+use Rattle.ansi_columns.proofs.WrapLemmas.{ahead, lines-first, lines-last, span-first, span-last, lines_filled, rest-is}
+use Rattle.ansi_columns.proofs.wrap.spans.Spans.next.Goals.{in-Some, in-None}
+use Rattle.ansi_columns.proofs.wrap.spans.Spans.next.Goals as goal
+
+pub returns-in_err-from-clause-lines : goal.returns-in_err-from-clause-lines
+unfolding lines_over
+returns-in_err-from-clause-lines c =
+    let s = c.args.self.now in
+    let t = c.args.text.now in
+    let all : Option Walk → List WrappedLine = λ o. lines_over (rendition_of s.pen.style) (open_link t s.pen) (plain t) (marks_left t s.before s.taken) (lines_left t s.width o) in
+    let none : span_lines t s ≡ [] = ap all c.in_err-from.was in
+    rw c.from_residual.ensures (none, none)
+
+pub range-part-requires-clause-start_le_end : goal.range-part-requires-clause-start_le_end
+range-part-requires-clause-start_le_end c =
+    let s = c.args.self.now in
+    let t = c.args.text.now in
+    let is : IsTaken t s.before s.taken c.in_ok-from.from = rw c.in_ok-from.was at c.requires.next in
+    let end = c.first_line-next.ensures.end in
+    let ordered = c.first_line-next.ensures.ordered in
+    let from = ahead t s.before s.taken c.in_ok-from.from is c.first_line-next.result.1.position c.first_line-next.result.1.offset (omega (arith, is.ordered, c.first_line-next.ensures.start_ordered, ordered)) end.within end.offset in
+    elim c.match-next.branch [
+      | in-Some w ↦ omega (arith, from, w.taken-is)
+      | in-None w ↦ omega (arith, is.boundary.0, w.taken-is)
+    ]
+
+pub overflow_sub-span-3 : goal.overflow_sub-span-3
+overflow_sub-span-3 c =
+    let s = c.args.self.now in
+    let t = c.args.text.now in
+    let is : IsTaken t s.before s.taken c.in_ok-from.from = rw c.in_ok-from.was at c.requires.next in
+    let end = c.first_line-next.ensures.end in
+    let ordered = c.first_line-next.ensures.ordered in
+    ahead t s.before s.taken c.in_ok-from.from is c.first_line-next.result.1.position c.first_line-next.result.1.offset (omega (arith, is.ordered, c.first_line-next.ensures.start_ordered, ordered)) end.within end.offset
+
+pub invariant_of-span : goal.invariant_of-span
+invariant_of-span c =
+    let s = c.args.self.now in
+    let t = c.args.text.now in
+    let from = c.in_ok-from.from in
+    let start = c.first_line-next.result.0 in
+    let last = c.first_line-next.result.1 in
+    let is : IsTaken t s.before s.taken from = rw c.in_ok-from.was at c.requires.next in
+    let end = c.first_line-next.ensures.end in
+    let ordered = c.first_line-next.ensures.ordered in
+    let begins : s.before ≤ start.position = omega (arith, is.ordered, c.first_line-next.ensures.start_ordered) in
+    let utf8 : IsUtf8 t = search rules in
+    let good : IsTrue (no_character_goes_on (plain t) start.position) = no_character_goes_on-boundary (plain t) start.position (walk_boundary t utf8 start c.first_line-next.ensures.start) in
+    let good_end : IsTrue (no_character_goes_on (plain t) last.position) = no_character_goes_on-boundary (plain t) last.position (walk_boundary t utf8 last end) in
+    let text = c.range-part.result.now in
+    let part = c.range-part.ensures.value in
+    let style = rendition_of c.pen.result.style in
+    let link = c.pen.result.link.now in
+    let style_after = rendition_of c.pen-2.result.style in
+    let link_after = c.pen-2.result.link.now in
+    let styled : style_after ≡ style_after_from style text
+    = ap rendition_of c.pen-2.ensures.style ∙ c.after-after.ensures.style ∙ ap₂ (λ r u. style_after_from (rendition_of r) u) (sym c.pen.ensures.style) (sym part) in
+    let linked : link_after ≡ link_after_all link (marks text) = c.pen-2.ensures.link ∙ c.after-after.ensures.link ∙ ap₂ (λ l u. link_after_all l (marks u)) (sym c.pen.ensures.link) (sym part) in
+    elim c.match-next.branch [
+      | in-Some w ↦ (
+          let front : text ≡ slice_range t s.taken last.offset = part ∙ ap (slice_range t s.taken) w.taken-is in
+          rw front (span-first t s.before s.taken from is last.position last.offset (omega (arith, is.ordered, c.first_line-next.ensures.start_ordered, ordered)) end.within end.offset
+          style link start.position c.has_any.result style_after link_after end.run.start_boundary.0 begins ordered good
+          (rw front at c.has_any.ensures) (rw front at styled) (rw front at linked)))
+      | in-None w ↦
+          span-last t s.before s.taken from is last.position last.offset (omega (arith, is.ordered, c.first_line-next.ensures.start_ordered, ordered)) end.within end.offset
+          style link text start.position c.has_any.result style_after link_after
+          (part ∙ ap (slice_range t s.taken) w.taken-is ∙ rest-is t s.taken) end.run.start_boundary begins ordered good good_end c.has_any.ensures styled linked
+    ]
+
+pub returns-clause-lines : goal.returns-clause-lines
+unfolding lines_over
+returns-clause-lines c =
+    let s = c.args.self.now in
+    let t = c.args.text.now in
+    let x = plain t in
+    let from = c.in_ok-from.from in
+    let start = c.first_line-next.result.0 in
+    let last = c.first_line-next.result.1 in
+    let next = c.first_line-next.result.2 in
+    let is : IsTaken t s.before s.taken from = rw c.in_ok-from.was at c.requires.next in
+    let end = c.first_line-next.ensures.end in
+    let ordered = c.first_line-next.ensures.ordered in
+    let begins : s.before ≤ start.position = omega (arith, is.ordered, c.first_line-next.ensures.start_ordered) in
+    let style = rendition_of s.pen.style in
+    let link = open_link t s.pen in
+    let text = c.range-part.result.now in
+    let part = c.range-part.ensures.value in
+    let after = c.after-after.result in
+    let styled : rendition_of after.style ≡ style_after_from style text = c.after-after.ensures.style ∙ ap (style_after_from style) (sym part) in
+    let linked : open_link t after ≡ link_after_all link (marks text) = c.after-after.ensures.link ∙ ap (λ u. link_after_all link (marks u)) (sym part) in
+    let line = line_over style link (plain text) (marks text) (start.position - s.before, last.position - s.before) in
+    let shown : line ≡ line_over (rendition_of c.pen.result.style) c.pen.result.link.now (plain text) (marks text) (start.position - s.before, last.position - s.before)
+    = ap₂ (λ r l. line_over (rendition_of r) l (plain text) (marks text) (start.position - s.before, last.position - s.before)) (sym c.pen.ensures.style) (sym c.pen.ensures.link) in
+    let ms = marks_left t s.before s.taken in
+    let all : Option Walk → List WrappedLine = λ o. lines_over style link x ms (lines_left t s.width o) in
+    let left : span_lines t s ≡ lines_over style link x ms ((start.position, last.position) ∷ lines_left t s.width next)
+    = ap all c.in_ok-from.was ∙ ap (lines_over style link x ms) c.first_line-next.ensures.lines in
+    elim c.match-next.branch [
+      | in-Some w ↦ (
+          let front : text ≡ slice_range t s.taken last.offset = part ∙ ap (slice_range t s.taken) w.taken-is in
+          let some : (length (lines_left t s.width next) == 0) ≡ false = ap (λ o. length (lines_left t s.width o) == 0) w.in-Some.is ∙ lines_filled s.width w.in-Some.field-0.position w.in-Some.field-0.position w.in-Some.field-0.position 0 (clusters_from t w.in-Some.field-0.position) in
+          left
+          ∙ lines-first t s.before s.taken from is last.position last.offset (omega (arith, is.ordered, c.first_line-next.ensures.start_ordered, ordered)) end.within end.offset style link start.position (lines_left t s.width next) begins some
+          ∙ ap (λ v. line_over style link (plain v) (marks v) (start.position - s.before, last.position - s.before) ∷ lines_over (style_after_from style v) (link_after_all link (marks v)) x (marks_left t last.position last.offset) (lines_left t s.width next)) (sym front)
+          ∙ ap₂ (λ r l. line ∷ lines_over r l x (marks_left t last.position last.offset) (lines_left t s.width next)) (sym styled) (sym linked)
+          ∙ ap₂ (λ l n. l ∷ lines_over (rendition_of after.style) (open_link t after) x (marks_left t last.position n) (lines_left t s.width next)) shown (sym w.taken-is))
+      | in-None w ↦
+          left ∙ ap (λ o. lines_over style link x ms ((start.position, last.position) ∷ lines_left t s.width o)) w.in-None.is
+          ∙ lines-last t s.before s.taken from is last.position last.offset (omega (arith, is.ordered, c.first_line-next.ensures.start_ordered, ordered)) end.within end.offset style link text start.position begins
+          (part ∙ ap (slice_range t s.taken) w.taken-is ∙ rest-is t s.taken)
+          ∙ ap₂ (λ l o. l ∷ lines_over (rendition_of after.style) (open_link t after) x (marks_left t last.position c.match-next.taken) (lines_left t s.width o)) shown (sym w.in-None.is)
+    ]

@@ -1,0 +1,45 @@
+//! The text of a table's cell: truncated if it is too wide, and padded if it is too narrow.
+ghost use Rattle.std.specs.Prelude.{◌≡◌, ◌↔◌, ◌+◌, ◌*◌, ◌≤◌, [], length, IsOk, IfOk};
+ghost use Rattle.std.specs.Cow.{cow_str_bytes, IsBorrowedStr};
+ghost use Rattle.ansi_style.specs.Written.{longest_close};
+ghost use Rattle.ansi_safe.specs.Cells.{cell};
+ghost use Rattle.ansi_safe.specs.Links.{longest_link_end};
+ghost use Rattle.ansi_columns.specs.Fitted.{fitted};
+ghost use Rattle.ansi_columns.specs.Shown.{truncated_ending, truncated, missing, closing};
+
+use crate::shown::{Alignment, pad_cell, truncate_cell};
+use ansi_safe::cells::cell_of;
+use std::alloc::{AllocError, Allocator};
+use std::borrow::CowStr;
+
+/// Like `AnsiColumns::ansi_fit`, with any allocator. The result may borrow from the text and lives
+/// as long as it.
+///
+/// ```
+/// let cell = fit(rt.alloc(), "\x1b[31m日本語\x1b[39m", 4, Alignment::Right, "…")?;
+/// assert!(rt; cell.as_str() == " \x1b[31m日\x1b[39m…");
+/// ```
+pub fn fit<'t, A: Allocator + Copy>(
+    alloc: A,
+    text: &'t str,
+    width: usize,
+    alignment: Alignment,
+    tail: &str,
+) -> Result<CowStr<'t, A>, AllocError>
+    ensures bytes { IfOk result (λ c.
+        cow_str_bytes c ≡ fitted (cell text.now) width alignment tail.now) }
+    ensures borrowed { IfOk result (λ c. IsBorrowedStr c ↔ ((cell text.now ≡ text.now)
+        × (truncated_ending (cell text.now) width tail.now ≡ [])
+        × (missing (truncated (cell text.now) width tail.now) width ≡ 0)
+        × (closing (truncated (cell text.now) width tail.now) ≡ []))) }
+    ensures len { IfOk result (λ c. length (cow_str_bytes c) ≤ length text.now + length tail.now
+        + missing (truncated (cell text.now) width tail.now) width
+        + 2 * (longest_link_end + longest_close)) }
+    ensures takes_no_memory { (cell text.now ≡ text.now)
+        × (truncated_ending (cell text.now) width tail.now ≡ [])
+        × (missing (truncated (cell text.now) width tail.now) width ≡ 0)
+        × (closing (truncated (cell text.now) width tail.now) ≡ []) → IsOk result }
+{
+    let cut = truncate_cell(alloc, cell_of(alloc, text)?, width, tail)?;
+    pad_cell(alloc, cut, width, alignment)
+}

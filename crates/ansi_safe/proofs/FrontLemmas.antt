@@ -1,0 +1,124 @@
+-- The front of a list of bytes up to one that isn't in a set.
+use Rattle.std.proofs.Common.{◌≡◌, ℕ, ◌+◌, ◌-◌, ◌<◌, ◌≤◌, ◌^◌, ◌%◌, Bool, true, false, List, [], ◌∷◌, take, drop, length, get_or, map, cond, sym, ◌∙◌, ap, ap₂, arith, not, ◌||◌, ◌&&◌, ◌==◌, nat_le, min, zero, suc, refl, w8, Fits}
+use Rattle.std.proofs.Math.Nat.{min-zero, zero-min}
+use Rattle.std.specs.List.{All, list_all, prefix_len}
+use Rattle.std.proofs.lemmas.List.Elements.{All-nil, All-cons}
+use Rattle.std.specs.Str.{IsUtf8, IsCharBoundary, IsAscii}
+use Rattle.std.proofs.lemmas.Bool.{agree_below, agree_below_at, and_parts, ne_eqb, eq-eqb}
+use Rattle.std.proofs.lemmas.Bool.Decides.{nat_tests}
+use Rattle.std.proofs.lemmas.List.{length-map, length-take-le, length-drop, take-append-drop, get_or-take}
+use Rattle.std.proofs.lemmas.List.Folds.{prefix_len-append}
+use Rattle.std.proofs.lemmas.List.Sums.{prefix_len-le-length, prefix_len_stops}
+use Rattle.std.proofs.lemmas.Simd.{map-map, mask_l-mod, leading_from_mask_l, trailing_mask_l}
+use Rattle.std.proofs.lemmas.Str.Ascii.{IsAscii-from_all}
+use lib.Count.{count_trailing_zeros}
+use lib.Lanes.{mask_l, top}
+use Rattle.ansi_safe.specs.Safe.{is_printable_byte, is_ordinary_byte}
+
+-- The ordinary characters that a text begins with.
+
+pub boundary-ordinary : (white : Bool) (t : List ℕ) → IsUtf8 t → IsCharBoundary t (prefix_len (is_ordinary_byte white) t)
+boundary-ordinary white t utf8 = (prefix_len-le-length (is_ordinary_byte white) t, λ inside high. by (get_or t (prefix_len (is_ordinary_byte white) t) 0) high (prefix_len_stops (is_ordinary_byte white) t 0 inside))
+  where
+    by : (b : ℕ) → 128 ≤ b → is_ordinary_byte white b ≡ false → 192 ≤ b
+    by b high stops = grind (arith, nat_tests)
+
+pub printable-ascii : (w : List ℕ) → list_all is_printable_byte w ≡ true → IsAscii w
+printable-ascii w all = IsAscii-from_all w (small w all)
+  where
+    small : (w : List ℕ) → list_all is_printable_byte w ≡ true → All (λ b. b < 128) w
+    small [] all = All-nil (λ b. b < 128)
+    small (b ∷ w) all =
+        let both = and_parts (is_printable_byte b) (list_all is_printable_byte w) all in
+        let here : b < 128 = grind (arith, nat_tests) in
+        All-cons (λ b. b < 128) b w here (small w both.1)
+
+-- A block of 16 bytes, and what follows.
+
+-- a front that ends in the first n elements
+ends_in_front : (p : ℕ → Bool) (n : ℕ) (xs : List ℕ) → n ≤ length xs → prefix_len p (take n xs) < n → prefix_len p (take n xs) ≡ prefix_len p xs
+ends_in_front p n xs room short =
+    let front = take n xs in
+    sym (ap (prefix_len p) (sym (take-append-drop n xs)) ∙ prefix_len-append p front (drop n xs)
+    ∙ ap (λ b. cond b (length front + prefix_len p (drop n xs)) (prefix_len p front)) (ne_eqb _ _ (λ (e : prefix_len p front ≡ length front). omega (arith, e, length-take-le n xs room))))
+
+-- one that has all of them
+goes_on : (p : ℕ → Bool) (n : ℕ) (xs : List ℕ) → n ≤ length xs → prefix_len p (take n xs) ≡ n → n + prefix_len p (drop n xs) ≡ prefix_len p xs
+goes_on p n xs room all =
+    let front = take n xs in
+    let len : length front ≡ n = length-take-le n xs room in
+    sym (ap (prefix_len p) (sym (take-append-drop n xs)) ∙ prefix_len-append p front (drop n xs)
+    ∙ ap (λ b. cond b (length front + prefix_len p (drop n xs)) (prefix_len p front)) (eq-eqb _ _ (all ∙ sym len)) ∙ ap (λ k. k + prefix_len p (drop n xs)) len)
+
+-- the front of the first n elements
+pub prefix_len-take : (p : ℕ → Bool) (n : ℕ) (xs : List ℕ) → prefix_len p (take n xs) ≡ min (prefix_len p xs) n
+prefix_len-take p zero xs = sym (min-zero (prefix_len p xs))
+prefix_len-take p (suc n) [] = sym (zero-min (suc n))
+prefix_len-take p (suc n) (x ∷ xs) = by (p x) (prefix_len-take p n xs)
+  where
+    by : (b : Bool) → prefix_len p (take n xs) ≡ min (prefix_len p xs) n → cond b (1 + prefix_len p (take n xs)) 0 ≡ min (cond b (1 + prefix_len p xs) 0) (suc n)
+    by true more = omega (arith, more)
+    by false more = sym (zero-min (suc n))
+
+-- all bytes before these are in the set
+pub record IsInSoFar (p : ℕ → Bool) (t rest : List ℕ) : Type 0 where
+  pub within : length rest ≤ length t
+  pub so_far : prefix_len p t ≡ length t - length rest + prefix_len p rest
+
+pub ends-in_block : (p : ℕ → Bool) (t rest : List ℕ) (len : ℕ) → IsInSoFar p t rest → 16 ≤ length rest → len ≡ prefix_len p (take 16 rest) → len < 16 → length t - length rest + len ≡ prefix_len p t
+ends-in_block p t rest len so_far room is short = omega (arith, is, ends_in_front p 16 rest room (omega (arith, is)), so_far.so_far)
+
+pub after-block : (p : ℕ → Bool) (t rest next : List ℕ) (len : ℕ) → IsInSoFar p t rest → 16 ≤ length rest → len ≡ prefix_len p (take 16 rest) → 16 ≤ len → next ≡ drop 16 rest → IsInSoFar p t next
+after-block p t rest next len so_far room is long next_is =
+    let all : prefix_len p (take 16 rest) ≡ 16 = omega (arith, is, prefix_len-le-length p (take 16 rest), length-take-le 16 rest room) in
+    let size : length next ≡ length rest - 16 = ap length next_is ∙ length-drop 16 rest in
+    let on = goes_on p 16 rest room all in
+    record {
+      within = omega (arith, size, so_far.within);
+      so_far = omega (arith, size, so_far.within, so_far.so_far, on, ap (prefix_len p) next_is);
+    }
+
+-- The front of a block, by the lanes of its bytes: the highest bit of a lane is set if its byte isn't in the set.
+
+same_run : (p q : ℕ → Bool) (xs : List ℕ) → ((k : ℕ) → k < length xs → p (get_or xs k 0) ≡ q (get_or xs k 0)) → prefix_len p xs ≡ prefix_len q xs
+same_run p q [] h = refl
+same_run p q (x ∷ xs) h = ap₂ (λ b n. cond b (1 + n) 0) (h 0 (omega arith)) (same_run p q xs (λ k inside. h (suc k) (omega arith)))
+
+module _ (lane : ℕ → ℕ) (p : ℕ → Bool) (agrees : agree_below (λ x. not (top 7 (lane x))) p 256 ≡ true) (bytes : List ℕ) (room : 16 ≤ length bytes) (fits : (k : ℕ) → Fits w8 (get_or bytes k 0)) where
+  abbrev v : List ℕ
+  v = take 16 bytes
+
+  abbrev is_other : ℕ → Bool
+  is_other x = top 7 (lane x)
+
+  long : length v ≡ 16
+  long = length-take-le 16 bytes room
+
+  same : prefix_len (λ x. not (is_other x)) v ≡ prefix_len p v
+  same = same_run (λ x. not (is_other x)) p v
+      (λ k inside. agree_below_at (λ x. not (is_other x)) p 256 (get_or v k 0) agrees (omega (arith, (fits k).fits, get_or-take 16 bytes k 0 (omega (arith, long)))))
+
+  mask-is : (lanes : List ℕ) → lanes ≡ map lane v → mask_l (map (top 7) lanes) % 2 ^ 64 ≡ mask_l (map is_other v)
+  mask-is lanes are =
+      ap (λ l. mask_l (map (top 7) l) % 2 ^ 64) are ∙ ap (λ l. mask_l l % 2 ^ 64) (map-map (top 7) lane v)
+      ∙ mask_l-mod (map is_other v) 64 (omega (arith, length-map v is_other, long))
+
+  pub no_other : (lanes : List ℕ) → lanes ≡ map lane v → mask_l (map (top 7) lanes) % 2 ^ 64 ≡ 0 → 16 ≡ prefix_len p v
+  no_other lanes are none = sym long ∙ sym (leading_from_mask_l is_other v (sym (mask-is lanes are) ∙ none)) ∙ same
+
+  pub first_other : (lanes : List ℕ) → lanes ≡ map lane v → (mask_l (map (top 7) lanes) % 2 ^ 64 ≡ 0 → ⊥) → count_trailing_zeros 64 (mask_l (map (top 7) lanes) % 2 ^ 64) ≡ prefix_len p v
+  first_other lanes are other = ap (count_trailing_zeros 64) (mask-is lanes are) ∙ trailing_mask_l is_other 64 v (omega (arith, long)) (omega (arith, mask-is lanes are, other)) ∙ same
+
+-- a printable byte is an ordinary one
+pub printable-ordinary : (white : Bool) (xs : List ℕ) → prefix_len is_printable_byte xs ≡ length xs → prefix_len (is_ordinary_byte white) xs ≡ length xs
+printable-ordinary white [] all = refl
+printable-ordinary white (x ∷ xs) all = by (is_printable_byte x) refl all (printable-ordinary white xs)
+  where
+    by : (b : Bool) → is_printable_byte x ≡ b → cond b (1 + prefix_len is_printable_byte xs) 0 ≡ suc (length xs) → (prefix_len is_printable_byte xs ≡ length xs → prefix_len (is_ordinary_byte white) xs ≡ length xs)
+        → prefix_len (is_ordinary_byte white) (x ∷ xs) ≡ suc (length xs)
+    by false other all more = absurd (omega (arith, all))
+    by true is all more =
+        let here : is_ordinary_byte white x ≡ true = ap (λ b. b || ((white && (x == 9 || x == 10)) || (nat_le 0x80 x && not (x == 0xC2 || x == 0xE2)))) is in
+        let later : prefix_len is_printable_byte xs ≡ length xs = omega (arith, all) in
+        let next : 1 + prefix_len (is_ordinary_byte white) xs ≡ suc (length xs) = omega (arith, more later) in
+        ap (λ b. cond b (1 + prefix_len (is_ordinary_byte white) xs) 0) here ∙ next

@@ -1,0 +1,123 @@
+//! The front of a text up to a byte that isn't in a set. Most texts are made of printable ASCII,
+//! which each set has, and they are read 16 bytes at a time, without decoding.
+ghost use Rattle.std.specs.Prelude.{◌≡◌, ◌≤◌, ◌++◌, length, take, chars, IsTrue};
+ghost use Rattle.std.specs.List.{list_all, prefix_len};
+ghost use Rattle.std.specs.Str.{IsUtf8};
+ghost use Rattle.ansi_safe.specs.Safe.{is_printable_byte, is_ordinary_byte, is_in};
+
+use std::simd::prelude::*;
+
+/// A set of bytes.
+#[derive(Clone, Copy)]
+pub(crate) enum ByteSet {
+    /// Printable ASCII.
+    Printable,
+    /// The bytes of ordinary characters. TAB and LF are ordinary if `white` is set.
+    Ordinary { white: bool },
+}
+
+/// A text as the ordinary characters that it begins with, and what follows. TAB and LF are ordinary
+/// if `white` is set.
+#[inline(always)]
+pub(crate) fn split_ordinary(text: &str, white: bool) -> (&str, &str)
+    ensures spelled { text.now ≡ result.0.now ++ result.1.now }
+    ensures chars { chars text.now ≡ chars result.0.now ++ chars result.1.now }
+    ensures ordinary { IsTrue (list_all (is_ordinary_byte white) result.0.now) }
+    ensures utf8 { IsUtf8 result.0.now }
+{
+    text.split_at(front_len(text.as_bytes(), ByteSet::Ordinary { white }))
+}
+
+/// How many bytes at the front are in the set.
+#[inline(always)]
+pub(crate) fn front_len(bytes: &[u8], set: ByteSet) -> usize
+    ensures { result ≡ prefix_len (is_in set) bytes.now }
+{
+    let mut rest = bytes;
+    while 16 <= rest.len() {
+        let len = front_len_of_16(rest, set);
+        if len < 16 {
+            return bytes.len() - rest.len() + len;
+        }
+        rest = &rest[16..];
+    }
+    bytes.len() - rest.len() + front_len_by_byte(rest, set)
+}
+
+/// How many bytes at the front are in the set, looked at one by one.
+#[inline(always)]
+fn front_len_by_byte(bytes: &[u8], set: ByteSet) -> usize
+    ensures len { result ≡ prefix_len (is_in set) bytes.now }
+    ensures bound { result ≤ length bytes.now }
+{
+    bytes.iter().take_while(|b| is_in(**b, set)).count()
+}
+
+/// Whether the byte is in the set.
+#[inline(always)]
+fn is_in(b: u8, set: ByteSet) -> bool
+    ensures { result ≡ is_in set b }
+{
+    match set {
+        ByteSet::Printable => matches!(b, 0x20..=0x7E),
+        ByteSet::Ordinary { white } => is_ordinary_byte(b, white),
+    }
+}
+
+/// Whether the byte is one of an ordinary character.
+#[inline(always)]
+fn is_ordinary_byte(b: u8, white: bool) -> bool
+    ensures { result ≡ is_ordinary_byte white b }
+{
+    match b {
+        b'\t' | b'\n' => white,
+        0x20..=0x7E => true,
+        _ => b >= 0x80 && b != 0xC2 && b != 0xE2,
+    }
+}
+
+/// How many bytes of the first 16 are in the set, before any that isn't.
+#[inline(always)]
+fn front_len_of_16(bytes: &[u8], set: ByteSet) -> usize
+    requires { 16 ≤ length bytes.now }
+    ensures { result ≡ prefix_len (is_in set) (take 16 bytes.now) }
+{
+    let printable = printable_len_of_16(bytes);
+    match set {
+        ByteSet::Ordinary { white } if printable < 16 => ordinary_len_of_16(bytes, white),
+        _ => printable,
+    }
+}
+
+/// How many bytes of printable ASCII the first 16 bytes begin with.
+#[inline(always)]
+fn printable_len_of_16(bytes: &[u8]) -> usize
+    requires { 16 ≤ length bytes.now }
+    ensures { result ≡ prefix_len is_printable_byte (take 16 bytes.now) }
+{
+    let others = (u8x16::from_slice(bytes) - u8x16::splat(0x20))
+        .simd_ge(u8x16::splat(0x5F))
+        .to_bitmask();
+    if others == 0 {
+        return 16;
+    }
+    others.trailing_zeros() as usize
+}
+
+/// How many bytes of ordinary characters the first 16 bytes begin with.
+#[inline(always)]
+fn ordinary_len_of_16(bytes: &[u8], white: bool) -> usize
+    requires { 16 ≤ length bytes.now }
+    ensures { result ≡ prefix_len (is_ordinary_byte white) (take 16 bytes.now) }
+{
+    let block = u8x16::from_slice(bytes);
+    let printable = (block - u8x16::splat(0x20)).simd_lt(u8x16::splat(0x5F));
+    let tab_or_feed = (block - u8x16::splat(b'\t')).simd_lt(u8x16::splat(2 * white as u8));
+    let high = block.simd_ge(u8x16::splat(0x80));
+    let lead = (block | u8x16::splat(0x20)).simd_eq(u8x16::splat(0xE2));
+    let others = (!(printable | tab_or_feed | high) | lead).to_bitmask();
+    if others == 0 {
+        return 16;
+    }
+    others.trailing_zeros() as usize
+}

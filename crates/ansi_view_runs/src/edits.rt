@@ -1,0 +1,100 @@
+//! Edits of a line by columns.
+ghost use Rattle.std.specs.Prelude.{◌≡◌, ◌++◌, IfOk, OnOk, map, string_bytes};
+ghost use Rattle.std.specs.List.{flat_map};
+ghost use Rattle.ansi_columns.specs.Wrapped.{wrapped};
+ghost use Rattle.ansi_lines_runs.specs.Runs.{words_of};
+ghost use Rattle.ansi_view_runs.specs.Edits.{change_of, changes_of, changed, changed_in_turn};
+
+use ansi_columns::shown::{Alignment, pad, truncate};
+use ansi_columns::slices::slice;
+use ansi_columns::tabs::expand_tabs;
+use ansi_columns::wrap::wrap;
+use std::alloc::{AllocError, Allocator};
+
+/// An edit of a line by the columns of a terminal. (`ansi_columns`.)
+#[derive(Debug, Clone, Copy, PartialEq, Eq)]
+pub enum ColumnEdit<'w> {
+    /// Each TAB becomes blanks up to the next multiple of this many columns.
+    Expand(usize),
+    /// The columns from `start` up to `end`, or to the last one, stay. The first column is 0.
+    Slice { start: usize, end: Option<usize> },
+    /// A text of more than `width` columns is cut, and `tail` follows it.
+    Truncate { width: usize, tail: &'w str },
+    /// A text of fewer columns is followed by blanks.
+    Pad(usize),
+    /// The text is broken into lines of at most this many columns.
+    Wrap(usize),
+}
+
+/// What edits make of a text in turn: each edits each text that the one before made.
+///
+/// One text becomes one, or with a `Wrap` one or more. `Err` means out of memory. (Own.)
+pub fn edit_in_turn<A: Allocator + Copy>(
+    alloc: A,
+    edits: &[ColumnEdit<'_>],
+    text: String<A>,
+) -> Result<Vec<String<A>, A>, AllocError>
+    ensures texts { IfOk result (λ made. words_of made.items
+        ≡ changed_in_turn (changes_of edits.now) (string_bytes text)) }
+{
+    let mut texts = Vec::new(alloc);
+    texts.push(text)?;
+    for edit in edits {
+        texts = edit_each(alloc, edit, texts.as_slice())?;
+    }
+    Ok(texts)
+}
+
+// What an edit makes of each text.
+fn edit_each<A: Allocator + Copy>(
+    alloc: A,
+    edit: &ColumnEdit<'_>,
+    texts: &[String<A>],
+) -> Result<Vec<String<A>, A>, AllocError>
+    ensures { IfOk result (λ made. words_of made.items
+        ≡ flat_map (changed (change_of edit.now)) (words_of texts.now)) }
+{
+    let mut made = Vec::new(alloc);
+    for text in texts {
+        push_edited(alloc, edit, text.as_str(), &mut made)?;
+    }
+    Ok(made)
+}
+
+// Appends what an edit makes of a text.
+fn push_edited<A: Allocator + Copy>(
+    alloc: A,
+    edit: &ColumnEdit<'_>,
+    text: &str,
+    made: &mut Vec<String<A>, A>,
+) -> Result<(), AllocError>
+    ensures { OnOk result (words_of made.new.items
+        ≡ words_of made.old.items ++ changed (change_of edit.now) text.now) }
+{
+    let edited = match *edit {
+        ColumnEdit::Expand(stop) => expand_tabs(alloc, text, stop)?,
+        ColumnEdit::Slice { start, end } => slice(alloc, text, start, end)?,
+        ColumnEdit::Truncate { width, tail } => truncate(alloc, text, width, tail)?,
+        ColumnEdit::Pad(width) => pad(alloc, text, width, Alignment::Left)?,
+        ColumnEdit::Wrap(width) => return push_wrapped(alloc, text, width, made),
+    };
+    made.push(edited.into_owned(alloc)?)?;
+    Ok(())
+}
+
+// Appends the lines of a text wrapped at a width.
+fn push_wrapped<A: Allocator + Copy>(
+    alloc: A,
+    text: &str,
+    width: usize,
+    made: &mut Vec<String<A>, A>,
+) -> Result<(), AllocError>
+    ensures { OnOk result (words_of made.new.items
+        ≡ words_of made.old.items ++ map (λ l. l.bytes) (wrapped text.now width)) }
+{
+    let mut lines = wrap(alloc, text, width);
+    'lines: while let Some(line) = lines.next() {
+        made.push(line?.into_owned(alloc)?)?;
+    }
+    Ok(())
+}
