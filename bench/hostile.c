@@ -43,7 +43,7 @@ struct call {
 
 TEXT(strip) TEXT(trim) TEXT(strip_prefix, p.at, p.len) TEXT(strip_suffix, p.at, p.len) TEXT(part, p.at, p.len, n)
 QUESTION(has_any) QUESTION(is_whole) QUESTION(is_char_boundary, n) QUESTION(floor_char_boundary, n)
-QUESTION(width) QUESTION(fitting, n) TEXT(link_at, n) TEXT(slice, n, SIZE_MAX)
+QUESTION(width) QUESTION(fitting, n) QUESTION(column_of, n) TEXT(link_at, n) TEXT(slice, n, SIZE_MAX)
 TEXT(sanitize, ANSI_STR_SHOW, ANSI_STR_KEEP_LINKS) QUESTION(is_safe, ANSI_STR_KEEP_LINKS)
 QUESTION(starts_with, p.at, p.len) QUESTION(ends_with, p.at, p.len) QUESTION(find, p.at, p.len)
 
@@ -114,7 +114,7 @@ static const struct call CALLS[] = {
     {"edit", edit, 1, 0, 0}, {"is_char_boundary", is_char_boundary, 1, 0, 0},
     {"floor_char_boundary", floor_char_boundary, 1, 0, 0}, {"starts_with", starts_with, 0, 1, 0},
     {"ends_with", ends_with, 0, 1, 0}, {"strip_prefix", strip_prefix, 0, 1, 0}, {"strip_suffix", strip_suffix, 0, 1, 0},
-    {"width", width, 0, 0, 0}, {"fitting", fitting, 1, 0, 0}, {"truncate", truncate_to, 1, 1, 0}, {"pad", pad, 1, 0, 0},
+    {"width", width, 0, 0, 0}, {"fitting", fitting, 1, 0, 0}, {"column_of", column_of, 1, 0, 0}, {"truncate", truncate_to, 1, 1, 0}, {"pad", pad, 1, 0, 0},
     {"fit", fit, 1, 1, 0}, {"truncate_with", truncate_with, 1, 1, 0}, {"slice", slice, 1, 0, 0}, {"expand_tabs", expand_tabs, 1, 0, 0},
     {"wrap", wrap, 1, 0, 1}, {"lines", lines, 1, 0, 1}, {"link_at", link_at, 1, 0, 0},
     {"sanitize", sanitize, 0, 0, 0}, {"is_safe", is_safe, 0, 0, 0},

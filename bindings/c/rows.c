@@ -278,6 +278,8 @@ static int expect_told(const struct row *r) {
         answer = ansi_str_width(TEXT(t));
     } else if (strcmp(name, "fitting") == 0) {
         answer = ansi_str_fitting(TEXT(t), position(r, 0));
+    } else if (strcmp(name, "column_of") == 0) {
+        answer = ansi_str_column_of(TEXT(t), position(r, 0));
     } else if (strcmp(name, "is_safe") == 0) {
         answer = ansi_str_is_safe(TEXT(t), number_of(argument(r, 0)));
     } else {
@@ -336,8 +338,13 @@ static void expect_next_part(ansi_str_part_walk *walk, const struct text *wanted
 /* A call for the parts or the lines of a row's text. */
 static ansi_str_answers list(const struct row *r, char *buffer, size_t len, size_t *ends, size_t most) {
     const struct text *t = text_of(r);
-    return strcmp(r->fields[0].bytes, "split") == 0 ? ansi_str_split(TEXT(t), TEXT(argument(r, 0)), buffer, len, ends, most)
-                                                    : ansi_str_wrap(TEXT(t), position(r, 0), buffer, len, ends, most);
+    if (strcmp(r->fields[0].bytes, "split") == 0) {
+        return ansi_str_split(TEXT(t), TEXT(argument(r, 0)), buffer, len, ends, most);
+    }
+    if (strcmp(r->fields[0].bytes, "wrap_with") == 0) {
+        return ansi_str_wrap_with(TEXT(t), position(r, 0), TEXT(argument(r, 1)), TEXT(argument(r, 2)), buffer, len, ends, most);
+    }
+    return ansi_str_wrap(TEXT(t), position(r, 0), buffer, len, ends, most);
 }
 
 /* The text is printable ASCII and line feeds, which a wrap shows as they are. */
@@ -407,9 +414,10 @@ static void expect_too_small(const struct row *r, size_t room, size_t most, size
 
 /* All parts or lines in one call: with room for them, with each allocation refused in turn, and with too little room. */
 static void expect_list(const struct row *r) {
-    size_t count = number(r, 2), len = 0;
-    const struct text *wanted = &r->fields[5];
-    expect("as many as the row says", r->count == 5 + count);
+    bool has_indents = strcmp(r->fields[0].bytes, "wrap_with") == 0;
+    size_t count = number(r, 2), len = 0, before = has_indents ? 7 : 5;
+    const struct text *wanted = &r->fields[before];
+    expect("as many as the row says", r->count == before + count);
     for (size_t i = 0; i < count; i++) {
         len += wanted[i].len;
     }
@@ -423,7 +431,7 @@ static void expect_list(const struct row *r) {
         answer = list(r, buffer, len, ends, count);
     } while (is_wanting(answer.status, buffer, len));
     expect("memory for a text with ESC, or that a wrap changes", requests == 1 || memchr(text_of(r)->bytes, '\x1b', text_of(r)->len) != NULL ||
-        (strcmp(r->fields[0].bytes, "wrap") == 0 && !is_printable(text_of(r))));
+        has_indents || (strcmp(r->fields[0].bytes, "wrap") == 0 && !is_printable(text_of(r))));
     expect("status", answer.status == status_of(r));
     expect("how many and how long", answer.count == count && answer.len == len && buffer[len] == GUARD && ends[count] == 0);
     for (size_t i = 0, start = 0; i < count; start = ends[i++]) {
@@ -777,7 +785,7 @@ static void expect_row(const struct row *r) {
     expect("a row", r->count >= 4);
     if (strcmp(name, "split") == 0) {
         expect_parts(r);
-    } else if (strcmp(name, "wrap") == 0) {
+    } else if (strcmp(name, "wrap") == 0 || strcmp(name, "wrap_with") == 0) {
         expect_list(r);
     } else if (strcmp(name, "lines") == 0) {
         expect_lines(r);

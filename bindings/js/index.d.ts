@@ -119,6 +119,12 @@ export function width(text: string): number;
 export function fitting(text: string, width: number): number;
 
 /**
+ * The column of a position: how many columns what is shown before it has. Inside a cluster, the part of it before the position counts as
+ * a cluster. A `RangeError` for a position between the surrogates of a character.
+ */
+export function columnOf(text: string, position: number): number;
+
+/**
  * The text truncated to `width` columns, on one line and safe: SGRs, clean links (OSC 8) and printing characters stay, TAB and line
  * ends become a blank, and the rest is left out. The link and the style still open at its end are closed. A tail, for example `…`,
  * follows if something was cut off and the tail isn't wider than `width`; its columns count too.
@@ -158,6 +164,12 @@ export function expandTabs(text: string, stop?: number): string;
  * blank, and the rest is left out. Each line closes the link and style it leaves open; the next reopens them.
  */
 export function wrap(text: string, width: number): string[];
+
+/**
+ * The same with one indent before the first line, and the other before each later line, each a text of its own, safe and closed. The text
+ * is wrapped at the columns that the wider of both leaves, at least one.
+ */
+export function wrap(text: string, width: number, options: { firstIndent?: string; indent?: string }): string[];
 
 /**
  * Where each line that `wrap` returns begins and ends in the plain text, if `wrap` leaves nothing out and the text has no TAB.

@@ -58,6 +58,11 @@ const raw = {
     return called([text], [], roomFor(0), (exports, frame) => exports.ansi_str_raw_fitting(frame.head[0], ...frame.texts[0], BigInt(width)), told);
   },
 
+  /** The columns before a position in bytes of the plain text, or null if it is inside a character. */
+  columnOf(text, position) {
+    return called([text], [], roomFor(0), (exports, frame) => exports.ansi_str_raw_column_of(frame.head[0], ...frame.texts[0], BigInt(position)), told);
+  },
+
   truncate(text, width, tail, side) {
     return called([text, tail], [], roomForOne(text + tail),
       (exports, frame) => exports.ansi_str_raw_truncate_with(...frame.head, ...frame.texts[0], BigInt(width), ...frame.texts[1], side, ...frame.out), written);
@@ -86,6 +91,12 @@ const raw = {
   wrap(text, width) {
     return called([text], [], roomForList(text, BYTES_OF_END),
       (exports, frame) => exports.ansi_str_raw_wrap(...frame.head, ...frame.texts[0], BigInt(width), ...frame.out, ...frame.list), listed);
+  },
+
+  wrapWith(text, width, first, later) {
+    return called([text, first, later], [], roomForList(text, BYTES_OF_END), (exports, frame) => exports.ansi_str_raw_wrap_with(
+      ...frame.head, ...frame.texts[0], BigInt(width), ...frame.texts[1], ...frame.texts[2], ...frame.out, ...frame.list,
+    ), listed);
   },
 
   /** Where each line begins and ends, in bytes of the plain text: the beginning and the end of the first, then those of the next. */
@@ -319,6 +330,16 @@ export function fitting(text, width) {
   return isAscii(text) ? position : unitsIn(raw.strip(text))(position);
 }
 
+export function columnOf(text, position) {
+  textOf('text', text);
+  const place = numberOf('position', position);
+  const column = raw.columnOf(text, isAscii(text) ? place : placeOf(raw.strip(text), place));
+  if (column === null) {
+    throw new RangeError(`the position ${place} is inside a character`);
+  }
+  return column;
+}
+
 /** The number of one of these words. */
 function indexOf(name, word, words) {
   if (!words.includes(word)) {
@@ -350,8 +371,11 @@ export function expandTabs(text, stop = 8) {
   return raw.expandTabs(textOf('text', text), numberOf('stop', stop));
 }
 
-export function wrap(text, width) {
-  return raw.wrap(textOf('text', text), numberOf('width', width));
+export function wrap(text, width, { firstIndent = '', indent = '' } = {}) {
+  textOf('text', text);
+  const most = numberOf('width', width);
+  const [first, later] = [textOf('first indent', firstIndent), textOf('indent', indent)];
+  return first + later === '' ? raw.wrap(text, most) : raw.wrapWith(text, most, first, later);
 }
 
 export function lines(text, width) {

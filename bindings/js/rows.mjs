@@ -1,13 +1,13 @@
 // Makes the calls of the rows of texts and results, which rows/README.md describes, in Node and in a page.
 import {
-  blocks, cut, edit, endsWith, expandTabs, find, fit, fitting, floorCharBoundary, hasAny, isSafe, isWhole, iterBlocks, iterLines, iterSplit, lines, linkAt, pad, sanitize,
+  blocks, columnOf, cut, edit, endsWith, expandTabs, find, fit, fitting, floorCharBoundary, hasAny, isSafe, isWhole, iterBlocks, iterLines, iterSplit, lines, linkAt, pad, sanitize,
   sliceColumns, split, splitAt, startsWith, strip, stripPrefix, stripSuffix, trim, truncate, width, wrap,
 } from './index.js';
 
 /** The calls that aren't here. The positions of an edit count the bytes of what the edit before it made. */
 const LACKING = ['is_char_boundary', 'part_interval', 'edit', 'block_order', 'items'];
 /** How many arguments of a call are positions. */
-const POSITIONS = { cut: 2, left: 1, right: 1, split_at: 1, floor_char_boundary: 1, link_at: 1 };
+const POSITIONS = { cut: 2, left: 1, right: 1, split_at: 1, floor_char_boundary: 1, link_at: 1, column_of: 1 };
 
 async function read(url) {
   if (url.protocol === 'file:') {
@@ -108,6 +108,8 @@ function answersOf(call, found, want, text, more) {
       return [[width(text), Number(want)]];
     case 'fitting':
       return [[fitting(text, number), inUnits(strip(text), Number(want))]];
+    case 'column_of':
+      return [[columnOf(text, first), Number(want)]];
     case 'front':
       return [[cut(text, 0, fitting(text, number)), want]];
     case 'truncate':
@@ -124,6 +126,8 @@ function answersOf(call, found, want, text, more) {
       return [[expandTabs(text, number), want]];
     case 'wrap':
       return [[wrap(text, number), more.slice(1)]];
+    case 'wrap_with':
+      return [[wrap(text, number, { firstIndent: second, indent: more[2] }), more.slice(3)]];
     case 'lines': {
       const places = more.slice(1).map((line) => line.split(',').map((position) => inUnits(strip(text), Number(position))));
       return [[lines(text, number), places], [[...iterLines(text, number)], places]];

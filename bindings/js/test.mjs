@@ -3,7 +3,7 @@ import assert from 'node:assert/strict';
 import { readFile } from 'node:fs/promises';
 import { test } from 'node:test';
 import {
-  OutOfMemoryError, blocks, cut, edit, endsWith, expandTabs, find, fit, fitting, floorCharBoundary, hasAny, isSafe, isWhole, iterBlocks, iterLines, iterSplit, lines, linkAt,
+  OutOfMemoryError, blocks, columnOf, cut, edit, endsWith, expandTabs, find, fit, fitting, floorCharBoundary, hasAny, isSafe, isWhole, iterBlocks, iterLines, iterSplit, lines, linkAt,
   pad, sanitize, sliceColumns, split, splitAt, startsWith, strip, stripPrefix, stripSuffix, trim, truncate, width, wrap,
 } from './index.js';
 import * as ansiStr from './index.js';
@@ -33,9 +33,12 @@ test('positions count UTF-16 units', () => {
   assert.throws(() => splitAt('😀', 1), refused('the position 1 is inside a character'));
   assert.equal(find('\x1b[1m😀a', 'a'), 2);
   assert.equal(fitting('\x1b[1m😀éab', 4), 4);
+  assert.deepEqual([0, 2, 3, 9].map((position) => columnOf('\x1b[1m😀é', position)), [0, 2, 3, 3]);
+  assert.throws(() => columnOf('😀', 1), refused('the position 1 is inside a character'));
   assert.deepEqual([0, 1, 2, 3, 4].map((index) => floorCharBoundary('\x1b[1m😀a', index)), [0, 0, 2, 3, 3]);
   assert.deepEqual(lines('\x1b[1m😀 é😀 a', 3), [[0, 2], [3, 6], [7, 8]]);
   assert.deepEqual(lines('a\n'.repeat(1000), 5).length, 1001);
+  assert.deepEqual(wrap('lion tiger', 7, { firstIndent: '* ', indent: '  ' }), ['* lion', '  tiger']);
   const [walk, other] = [iterLines('\x1b[1m😀 é😀 a', 3), iterLines('é b', 1)];
   assert.deepEqual([walk.next().value, other.next().value, strip('\x1b[1ma'), ...walk, ...other], [[0, 2], [0, 1], 'a', [3, 6], [7, 8], [2, 3]]);
   assert.equal(linkAt('😀\x1b]8;;😀\x07é', 2), '😀');
@@ -76,7 +79,7 @@ test('what is no text or no position is refused', () => {
   }
   assert.throws(() => cut('abc', -1), RangeError);
   assert.throws(() => cut('abc', 1.5), TypeError);
-  for (const call of [linkAt, floorCharBoundary]) {
+  for (const call of [columnOf, linkAt, floorCharBoundary]) {
     assert.throws(() => call('abc', -1), RangeError);
     assert.throws(() => call('abc', '1'), TypeError);
   }

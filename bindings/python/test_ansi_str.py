@@ -25,7 +25,7 @@ LACKING = [
     "is_char_boundary", "floor_char_boundary", "part_interval", "edit", "block_order", "items",
 ]
 # how many arguments of a call are positions
-POSITIONS = {"cut": 2, "left": 1, "right": 1, "split_at": 1, "link_at": 1}
+POSITIONS = {"cut": 2, "left": 1, "right": 1, "split_at": 1, "link_at": 1, "column_of": 1}
 
 
 def block_at(text, index, of):
@@ -64,6 +64,7 @@ MADE = {
     "block_end": lambda text, index: [block_at(text, index, lambda block: block.style.end)],
     "width": lambda text: [ansi_str.width(text)],
     "fitting": lambda text, width: [ansi_str.fitting(text, int(width))],
+    "column_of": lambda text, position: [ansi_str.column_of(text, position)],
     "front": lambda text, width: [ansi_str.cut(text, 0, ansi_str.fitting(text, int(width)))],
     "truncate": lambda text, width, tail: [ansi_str.truncate(text, int(width), tail)],
     "pad": lambda text, width, word: [ansi_str.pad(text, int(width), word.lower())],
@@ -72,6 +73,7 @@ MADE = {
     "slice": lambda text, start, end: [ansi_str.slice_columns(text, int(start), int(end))],
     "expand_tabs": lambda text, stop: [ansi_str.expand_tabs(text, int(stop))],
     "wrap": lambda text, width, *_: [ansi_str.wrap(text, int(width))],
+    "wrap_with": lambda text, width, first, later, *_: [ansi_str.wrap(text, int(width), first, later)],
     "lines": lambda text, width, *_: [ansi_str.lines(text, int(width)), list(ansi_str.iter_lines(text, int(width)))],
     "link_at": lambda text, position: [ansi_str.link_at(text, position)],
     "sanitize": lambda text, rest, links: [ansi_str.sanitize(text, show=rest == "Show", links=links == "Keep")],
@@ -102,10 +104,12 @@ def said(call, status, want, text, more):
         return want and in_characters(ansi_str.strip(text), int(want))
     if call in ("starts_with", "ends_with", "has_any", "is_whole", "is_safe"):
         return status == "0"
-    if call in ("width", "count_parts", "count_blocks"):
+    if call in ("width", "column_of", "count_parts", "count_blocks"):
         return int(want)
     if call in ("split", "split_at", "wrap"):
         return more[1:]
+    if call == "wrap_with":
+        return more[3:]
     if call == "lines":
         plain = ansi_str.strip(text)
         return [tuple(in_characters(plain, int(position)) for position in line.split(",")) for line in more[1:]]
@@ -155,7 +159,7 @@ class Rows(unittest.TestCase):
 
 # each call that takes a text, and what is passed for its other arguments
 CALLS = {"strip": [], "cut": [0], "left": [0], "right": [0], "part": [",", 0], "strip_prefix": [""], "strip_suffix": [""],
-         "trim": [], "width": [], "fitting": [1], "truncate": [1], "pad": [1], "fit": [1], "slice_columns": [0],
+         "trim": [], "width": [], "fitting": [1], "column_of": [0], "truncate": [1], "pad": [1], "fit": [1], "slice_columns": [0],
          "expand_tabs": [8], "wrap": [1], "lines": [1], "iter_lines": [1], "find": [""], "starts_with": [""], "ends_with": [""], "has_any": [], "is_whole": [], "split": [","],
          "iter_split": [","], "blocks": [], "iter_blocks": [], "edit": [[]], "sanitize": [], "is_safe": [], "link_at": [0]}
 PATTERNED = ["part", "strip_prefix", "strip_suffix", "find", "starts_with", "ends_with", "split", "iter_split"]
@@ -208,7 +212,8 @@ class Arguments(unittest.TestCase):
                 # (also after an edit that is refused)
                 self.refused(kind, "end " + words, ansi_str.edit, text, [ansi_str.Prefix("z"), ansi_str.Cut(0, wrong)])
                 self.refused(kind, "index " + words, ansi_str.part, text, ",", wrong)
-                self.refused(kind, "position " + words, ansi_str.link_at, text, wrong)
+                for call in (ansi_str.link_at, ansi_str.column_of):
+                    self.refused(kind, "position " + words, call, text, wrong)
                 for call in (ansi_str.fitting, ansi_str.truncate, ansi_str.pad, ansi_str.fit, ansi_str.wrap, ansi_str.lines):
                     self.refused(kind, "width " + words, call, text, wrong)
                 self.refused(kind, "start " + words, ansi_str.slice_columns, text, wrong)
@@ -221,6 +226,8 @@ class Arguments(unittest.TestCase):
         self.refused(TypeError, "start must be an int, not NoneType", ansi_str.cut, "abc", None)
         self.refused(TypeError, "tail must be a str, not bytes", ansi_str.truncate, "abc", 1, b"")
         self.refused(TypeError, "tail must be a str, not bytes", ansi_str.fit, "abc", 1, "left", b"")
+        self.refused(TypeError, "first_indent must be a str, not bytes", ansi_str.wrap, "abc", 1, b"")
+        self.refused(TypeError, "indent must be a str, not bytes", ansi_str.wrap, "abc", 1, "", b"")
         for wrong in ("Left", "", None, 0):
             for call in (ansi_str.pad, ansi_str.fit):
                 self.refused(ValueError, "alignment must be one of left, center, right", call, "abc", 1, wrong)
@@ -236,6 +243,7 @@ class Arguments(unittest.TestCase):
                     self.assertEqual(ansi_str.strip(ansi_str.left(text, huge)), plain)
                     self.assertEqual(ansi_str.strip(ansi_str.right(text, huge)), "")
                     self.assertEqual(ansi_str.fitting(text, huge), len(plain))
+                    self.assertEqual(ansi_str.column_of(text, huge), len(plain))
                     self.assertEqual(ansi_str.strip(ansi_str.truncate(text, huge)), plain)
                     self.assertEqual("".join(ansi_str.wrap(text, huge)), "".join(ansi_str.wrap(text, 9)))
                     with self.assertRaises(MemoryError):
@@ -370,7 +378,7 @@ class Private(unittest.TestCase):
         "tell": [("kind", 5), ("bytes", b"a"), ("bool", True), ("bytes", b"a"), ("number", 1)],
         "walk": [("bytes", b"a"), ("bytes", b"a")],
         "strip": [("bytes", b"a")],
-        "wrap": [("bytes", b"a"), ("number", 1)],
+        "wrap": [("bytes", b"a"), ("number", 1), ("bytes", b"a"), ("bytes", b"a")],
         "walk_lines": [("bytes", b"a"), ("bool", True), ("number", 1)],
     }
 
@@ -409,7 +417,7 @@ class Private(unittest.TestCase):
             self.assertEqual(edit(b"abc", True, ((0, 0, huge, b""),)), "abc")
             self.assertEqual(edit("\xe9".encode(), False, ((0, 0, huge, b""), (1, huge, huge, b""))), "\xe9")
             self.assertEqual(tell(6, b"abc", True, b"", huge), 3)
-            self.assertEqual(ansi_str._library.wrap(b"abc", huge), ["abc"])
+            self.assertEqual(ansi_str._library.wrap(b"abc", huge, b"", b""), ["abc"])
             for step in (7, 5, huge), (8, 5, huge), (9, 5, huge), (10, 0, huge), (10, huge, 0):
                 with self.assertRaises(ValueError):
                     edit(b"abc", True, (step + (b"",),))

@@ -14,7 +14,7 @@ CUT, LEFT, RIGHT, PART, PREFIX, SUFFIX, TRIM, TRUNCATE, PAD, SANITIZE, LINK_AT, 
 STEPS = [(CUT, 1, 4, b""), (LEFT, 3, 0, b""), (RIGHT, 3, 0, b""), (PART, 1, 0, b","), (PREFIX, 0, 0, b"r"), (SUFFIX, 0, 0, b"x"),
          (TRIM, 0, 0, b""), (TRUNCATE, 3, 0, b"..."), (PAD, 300, 1, b""), (SANITIZE, 1, 0, b""), (LINK_AT, 1, 0, b""),
          (SLICE, 1, 5, b""), (EXPAND_TABS, 4, 0, b"")]
-WHAT = range(8)
+WHAT = range(9)
 # so often each request is refused, and what the interpreter may keep for later calls
 TIMES, KEPT = 40, 20
 
@@ -26,7 +26,8 @@ def calls():
         for steps in [(step,) for step in STEPS] + [(), tuple(STEPS[:1] + STEPS[2:3] + STEPS[6:])]:
             yield lambda: _library.edit(data, is_ascii, steps)
         yield lambda: _library.strip(data)
-        yield lambda: _library.wrap(data, 4)
+        yield lambda: _library.wrap(data, 4, b"", b"")
+        yield lambda: _library.wrap(data, 4, b"* ", b"  ")
         yield lambda: list(_library.walk_lines(data, is_ascii, 1))
         for what in WHAT:
             yield lambda: _library.tell(what, data, is_ascii, b"o", 1)

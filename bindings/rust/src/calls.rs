@@ -188,6 +188,7 @@ extern "C" {
     ) -> Answer;
     fn ansi_str_raw_width(t: Bytes, n: usize) -> Answer;
     fn ansi_str_raw_fitting(t: Bytes, n: usize, width: usize) -> Answer;
+    fn ansi_str_raw_column_of(t: Bytes, n: usize, position: usize) -> Answer;
     fn ansi_str_raw_truncate(
         t: Bytes,
         n: usize,
@@ -238,6 +239,19 @@ extern "C" {
         t: Bytes,
         n: usize,
         width: usize,
+        b: Room,
+        m: usize,
+        ends: *mut usize,
+        k: usize,
+    ) -> Answers;
+    fn ansi_str_raw_wrap_with(
+        t: Bytes,
+        n: usize,
+        width: usize,
+        first: Bytes,
+        first_len: usize,
+        later: Bytes,
+        later_len: usize,
         b: Room,
         m: usize,
         ends: *mut usize,
@@ -472,6 +486,11 @@ pub(crate) fn fitting(text: &str, width: usize) -> usize {
     tell_at(ansi_str_raw_fitting, text, width).len
 }
 
+pub(crate) fn column_of(text: &str, position: usize) -> Option<usize> {
+    let answer = tell_at(ansi_str_raw_column_of, text, position);
+    outcome(answer.status, answer.len).ok()
+}
+
 pub(crate) fn truncate(text: &str, width: usize, tail: &str) -> String {
     let (t, n, p, k) = (text.as_ptr(), text.len(), tail.as_ptr(), tail.len());
     always(written(n + LONGEST_CLOSE, |b, m| {
@@ -530,15 +549,21 @@ pub(crate) fn is_safe(text: &str, links: u32) -> bool {
 }
 
 /// The lines of a text one after the other, and the end of each.
-pub(crate) fn wrap(text: &str, width: usize) -> (String, Vec<usize>) {
+pub(crate) fn wrap(text: &str, width: usize, first: &str, later: &str) -> (String, Vec<usize>) {
     // (there is at most one line more than the text has bytes)
     let mut ends = Vec::with_capacity(text.len() + 1);
+    let (f, i, l, j) = (first.as_ptr(), first.len(), later.as_ptr(), later.len());
     let lines = written(text.len() + LONGEST_START_AND_CLOSE, |b, m| {
         let (t, n, free) = (text.as_ptr(), text.len(), ends.spare_capacity_mut());
-        // SAFETY: a `str`, and the room. The ends are the pointer and the length of a vector's spare room, and the call that has
+        let (places, k) = (free.as_mut_ptr().cast(), free.len());
+        // SAFETY: `str`s, and the room. The ends are the pointer and the length of a vector's spare room, and the call that has
         // returned `OK` has set this many of them
         unsafe {
-            let answer = ansi_str_raw_wrap(t, n, width, b, m, free.as_mut_ptr().cast(), free.len());
+            let answer = if i + j == 0 {
+                ansi_str_raw_wrap(t, n, width, b, m, places, k)
+            } else {
+                ansi_str_raw_wrap_with(t, n, width, f, i, l, j, b, m, places, k)
+            };
             if answer.status == OK {
                 ends.set_len(answer.count);
             }

@@ -77,6 +77,51 @@ impl<'a> Truncation<'a> {
     }
 }
 
+/// How a text is wrapped: at how many columns, and with what before its lines.
+///
+/// ```
+/// use ansi_str::columns::{AnsiColumns, Wrap};
+/// let to = Wrap::at(7).first_indent("* ").indent("  ");
+/// let lines: Vec<String> = "lion tiger".ansi_wrap_with(&to).collect();
+/// assert_eq!(lines, ["* lion", "  tiger"]);
+/// ```
+#[derive(Debug, Clone, Copy, PartialEq, Eq)]
+pub struct Wrap<'a> {
+    /// The greatest width of a line with its indent, in columns.
+    pub width: usize,
+    /// What is written before the first line.
+    pub first_indent: &'a str,
+    /// What is written before each later line.
+    pub indent: &'a str,
+}
+
+impl<'a> Wrap<'a> {
+    /// Wrapping at `width` columns, without an indent.
+    #[must_use]
+    pub fn at(width: usize) -> Self {
+        Wrap {
+            width,
+            first_indent: "",
+            indent: "",
+        }
+    }
+
+    /// The same with this indent before the first line.
+    #[must_use]
+    pub fn first_indent(self, indent: &'a str) -> Self {
+        Wrap {
+            first_indent: indent,
+            ..self
+        }
+    }
+
+    /// The same with this indent before each later line.
+    #[must_use]
+    pub fn indent(self, indent: &'a str) -> Self {
+        Wrap { indent, ..self }
+    }
+}
+
 /// Calls by the columns of a text, taken as if its sequences weren't there.
 pub trait AnsiColumns: AnsiStr {
     /// The display width of what a terminal shows: of the plain text, with a blank for each TAB and line feed, and without
@@ -99,6 +144,17 @@ pub trait AnsiColumns: AnsiStr {
     /// ```
     #[must_use]
     fn ansi_fitting(&self, width: usize) -> usize;
+
+    /// The column of a position: how many columns what is shown before it has. `None` if the position is inside a character. A
+    /// position past the end counts as the end. Inside a cluster, the part of it before the position counts as a cluster.
+    ///
+    /// ```
+    /// use ansi_str::columns::AnsiColumns;
+    /// assert_eq!("a\x1b[1m日本".ansi_column_of(4), Some(3));
+    /// assert_eq!("a\x1b[1m日本".ansi_column_of(2), None);
+    /// ```
+    #[must_use]
+    fn ansi_column_of(&self, position: usize) -> Option<usize>;
 
     /// The text truncated to `width` columns, on one line and safe: SGRs, clean links (OSC 8) and printing characters stay,
     /// TAB and line ends become a blank, and the rest is left out. What fits then isn't cut. Any other text is cut, as by
@@ -187,6 +243,18 @@ pub trait AnsiColumns: AnsiStr {
     #[must_use]
     fn ansi_wrap(&self, width: usize) -> AnsiWrap;
 
+    /// The same with an indent before each line. It is shown as a text of its own, on one line and safe, and what it leaves open
+    /// is closed after it. The text is wrapped at the columns that the wider of both indents leaves, at least one.
+    ///
+    /// ```
+    /// use ansi_str::columns::{AnsiColumns, Wrap};
+    /// let to = Wrap::at(7).indent("\x1b[2m| ");
+    /// let lines: Vec<String> = "lion tiger".ansi_wrap_with(&to).collect();
+    /// assert_eq!(lines, ["lion", "\x1b[2m| \x1b[22mtiger"]);
+    /// ```
+    #[must_use]
+    fn ansi_wrap_with(&self, to: &Wrap<'_>) -> AnsiWrap;
+
     /// Where each line of [`ansi_wrap`](AnsiColumns::ansi_wrap) begins and ends in the plain text, if that call leaves nothing out
     /// and the text has no TAB. Otherwise a control has one column. The text can be cut there.
     ///
@@ -211,8 +279,8 @@ pub trait AnsiColumns: AnsiStr {
     fn ansi_link_at(&self, index: usize) -> Option<String>;
 }
 
-/// An iterator over the lines of a wrapped text; [`AnsiColumns::ansi_wrap`] returns it. That call makes all of them, so the
-/// iterator doesn't borrow the text.
+/// An iterator over the lines of a wrapped text; [`AnsiColumns::ansi_wrap`] returns it, and so does
+/// [`AnsiColumns::ansi_wrap_with`]. These calls make all of them, so the iterator doesn't borrow the text.
 #[derive(Debug, Clone)]
 pub struct AnsiWrap {
     lines: String,
@@ -263,6 +331,10 @@ impl<T: AsRef<str> + ?Sized> AnsiColumns for T {
         calls::fitting(self.as_ref(), width)
     }
 
+    fn ansi_column_of(&self, position: usize) -> Option<usize> {
+        calls::column_of(self.as_ref(), position)
+    }
+
     fn ansi_truncate(&self, width: usize, tail: &str) -> Cow<'_, str> {
         let text = self.as_ref();
         front_or_owned(text, calls::truncate(text, width, tail))
@@ -296,7 +368,12 @@ impl<T: AsRef<str> + ?Sized> AnsiColumns for T {
     }
 
     fn ansi_wrap(&self, width: usize) -> AnsiWrap {
-        let (lines, ends) = calls::wrap(self.as_ref(), width);
+        self.ansi_wrap_with(&Wrap::at(width))
+    }
+
+    fn ansi_wrap_with(&self, to: &Wrap<'_>) -> AnsiWrap {
+        let text = self.as_ref();
+        let (lines, ends) = calls::wrap(text, to.width, to.first_indent, to.indent);
         AnsiWrap {
             lines,
             start: 0,

@@ -1,6 +1,6 @@
 //! Passes the rows of texts and results, which `rows/README.md` describes.
 
-use ansi_str::columns::{Alignment, AnsiColumns, Side, Truncation};
+use ansi_str::columns::{Alignment, AnsiColumns, Side, Truncation, Wrap};
 use ansi_str::safe::{AnsiSafe, Links, Policy, Rest};
 use ansi_str::{get_blocks, AnsiBlock, AnsiStr, Color};
 use std::borrow::Cow;
@@ -193,6 +193,7 @@ fn pass(call: &str, status: &str, want: &str, text: &str, more: &[String]) -> Op
         "block_end" => is(block().map(|block| block.style().end().to_string().into())),
         "width" => is_number(text.ansi_width()),
         "fitting" => is_number(text.ansi_fitting(position(0))),
+        "column_of" => text.ansi_column_of(position(0)) == answer.map(number),
         "front" => is(Some(text.ansi_cut(..text.ansi_fitting(position(0))))),
         "truncate" => is(Some(text.ansi_truncate(position(0), &more[1]))),
         "pad" => is(Some(text.ansi_pad(position(0), alignment_of(&more[1])))),
@@ -207,6 +208,11 @@ fn pass(call: &str, status: &str, want: &str, text: &str, more: &[String]) -> Op
         "slice" => is(Some(text.ansi_slice(position(0)..position(1)))),
         "expand_tabs" => is(Some(text.ansi_expand_tabs(position(0)))),
         "wrap" => are(text.ansi_wrap(position(0)).map(Cow::from).collect()),
+        "wrap_with" => {
+            let to = Wrap::at(position(0)).first_indent(&more[1]);
+            let lines = text.ansi_wrap_with(&to.indent(&more[2]));
+            is_number(lines.len()) && lines.eq(more[3..].iter().cloned())
+        }
         "lines" => {
             let lines = text.ansi_lines(position(0)).collect::<Vec<_>>();
             let interval_of = |line: &Range<usize>| format!("{},{}", line.start, line.end);

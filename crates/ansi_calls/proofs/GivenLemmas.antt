@@ -11,7 +11,7 @@ use Rattle.std.proofs.lemmas.List.Concat.{flat_map-cons, flat_map-append}
 use Rattle.std.proofs.lemmas.List.Elements.{All-from_recursion, recursion_from_All, All-head, All-tail}
 use Rattle.std.proofs.lemmas.Slice.{drop-append-drop}
 use Rattle.std.proofs.Math.Seq.{take-append_seam}
-use Rattle.ansi_split.specs.Splits.{SplitPart, GivesPart}
+use Rattle.ansi_split.specs.Splits.{CarriedPart, GivesCarriedPart}
 use Rattle.ansi_calls.specs.declared.lists.ListAnswer.{ListAnswer}
 use Rattle.ansi_calls.specs.Lists.{ends_from, given_bytes, AreWritten, AreGiven, GivesAll}
 
@@ -32,10 +32,6 @@ module _ {X : Type 0} (text : X → List ℕ) where
       ap (λ es. next ∷ es)
       (ends-more next xs x ∙ ap (λ k. ends_from next (map text xs) ++ k ∷ [])
       (omega (arith, ap length (flat_map-cons (λ t. t) (text y) (map text xs)), length-append (text y) (joined_texts (map text xs)))))
-
-  pub length-ends : (n : ℕ) (xs : List X) → length (ends_from n (map text xs)) ≡ length xs
-  length-ends n [] = refl
-  length-ends n (x ∷ xs) = omega (arith, length-ends (n + length (text x)) xs)
 
   -- one text more is joined, and ends after those before it
   pub listed-more : (xs : List X) (x : X) (so_far after added : List ℕ) (ends more : List ℕ) (end : ℕ) → so_far ≡ joined_texts (map text xs) → after ≡ so_far ++ added → added ≡ text x
@@ -59,51 +55,46 @@ written-more old now after items more is put =
     = ap (drop end) is ∙ drop-append-drop (length items) old items end (omega arith) refl ∙ ap (λ n. drop n old) (sym (length-append items more)) in
     put ∙ ap₂ (λ u v. u ++ more ++ v) front back
 
--- The first of those that are left is given, or an error, never in place of a borrow; or none is left.
-abbrev pub GivesNext : {X A E : Type 0} → (X → List ℕ) → (X → Bool) → List X → Option (Result (CowStr A) E) → List X → Type 0
-GivesNext text borrowed old None new = old ≡ []
-GivesNext {X} text borrowed old (Some (Ok c)) new = (x : X) × (old ≡ x ∷ new) × (cow_str_bytes c ≡ text x)
-GivesNext {X} text borrowed old (Some (Err e)) new = (x : X) × (xs : List X) × (old ≡ x ∷ xs) × IsFalse (borrowed x)
+abbrev text_of : CarriedPart → List ℕ
+text_of p = p.bytes
 
-pub part-next : {A E : Type 0} (old : List SplitPart) (r : Option (Result (CowStr A) E)) (new : List SplitPart) → GivesPart old r new → GivesNext (λ (p : SplitPart). p.bytes) (λ (p : SplitPart). p.borrowed) old r new
-part-next old None new gives = gives.0
-part-next old (Some (Ok c)) new gives = (gives.0, gives.1, gives.2.0)
-part-next old (Some (Err e)) new gives = (gives.0, gives.1, gives.2, gives.3)
+abbrev is_borrow : CarriedPart → Bool
+is_borrow p = p.borrowed
 
-module _ {X A E : Type 0} (text : X → List ℕ) (borrowed : X → Bool) (steps : List X → Option (Result (CowStr A) E) → List X → Type 0)
-    (next : (old : List X) (r : Option (Result (CowStr A) E)) (new : List X) → steps old r new → GivesNext text borrowed old r new) where
+-- the parts that a split has left are given in turn, and the lines that a wrap has left
+module _ {A E : Type 0} (most_added : ℕ) where
+  abbrev steps : List CarriedPart → Option (Result (CowStr A) E) → List CarriedPart → Type 0
+  steps old given new = GivesCarriedPart most_added old given new
+
   -- borrows are given
-  lent-given : (left later : List X) (rs : List (Result (CowStr A) E)) → IsTrue (list_all borrowed left) → Yields steps left rs later → All IsOk rs
+  lent-given : (left later : List CarriedPart) (rs : List (Result (CowStr A) E)) → IsTrue (list_all is_borrow left) → Yields steps left rs later → All IsOk rs
   lent-given left later [] lent ran = All-from_recursion IsOk [] tt
   lent-given left later (Ok c ∷ rs) lent (new, step, ran) =
-      let one = next left (Some (Ok c)) new step in
-      let rest = (and_parts (borrowed one.0) (list_all borrowed new) (subst (λ xs. IsTrue (list_all borrowed xs)) one.1 lent)).1 in
+      let rest = (and_parts (is_borrow step.0) (list_all is_borrow new) (subst (λ xs. IsTrue (list_all is_borrow xs)) step.1 lent)).1 in
       All-from_recursion IsOk (Ok c ∷ rs) (refl, recursion_from_All IsOk rs (lent-given new later rs rest ran))
   lent-given left later (Err e ∷ rs) lent (new, step, ran) =
-      let one = next left (Some (Err e)) new step in
-      let first = (and_parts (borrowed one.0) (list_all borrowed one.1) (subst (λ xs. IsTrue (list_all borrowed xs)) one.2 lent)).0 in
-      absurd (cc (first, one.3))
+      let first = (and_parts (is_borrow step.0) (list_all is_borrow step.1) (subst (λ xs. IsTrue (list_all is_borrow xs)) step.2 lent)).0 in
+      absurd (cc (first, step.3))
 
   -- what is given is the front of what was left
-  texts-given : (left later : List X) (rs : List (Result (CowStr A) E)) → All IsOk rs → Yields steps left rs later → map text left ≡ map given_bytes rs ++ map text later
-  texts-given left later [] ok ran = ap (map text) ran
+  texts-given : (left later : List CarriedPart) (rs : List (Result (CowStr A) E)) → All IsOk rs → Yields steps left rs later → map text_of left ≡ map given_bytes rs ++ map text_of later
+  texts-given left later [] ok ran = ap (map text_of) ran
   texts-given left later (Ok c ∷ rs) ok (new, step, ran) =
-      let one = next left (Some (Ok c)) new step in
-      ap (map text) one.1 ∙ ap₂ (λ t ts. t ∷ ts) (sym one.2) (texts-given new later rs (All-tail IsOk (Ok c) rs ok) ran)
+      ap (map text_of) step.1 ∙ ap₂ (λ t ts. t ∷ ts) (sym step.2.0) (texts-given new later rs (All-tail IsOk (Ok c) rs ok) ran)
   texts-given left later (Err e ∷ rs) ok (new, step, ran) = absurd (let err = All-head IsOk (Err e) rs ok in cc err)
 
   -- and at the end all of it
-  pub all-given : (left : List X) (rs : List (Result (CowStr A) E)) → All IsOk rs → Drains steps left rs → map given_bytes rs ≡ map text left
+  pub all-given : (left : List CarriedPart) (rs : List (Result (CowStr A) E)) → All IsOk rs → Drains steps left rs → map given_bytes rs ≡ map text_of left
   all-given left rs ok (new, (last, ran, ends)) =
-      sym (texts-given left last rs ok ran ∙ ap (λ xs. map given_bytes rs ++ map text xs) (next last None new ends) ∙ append-nil (map given_bytes rs))
+      sym (texts-given left last rs ok ran ∙ ap (λ xs. map given_bytes rs ++ map text_of xs) ends.0 ∙ append-nil (map given_bytes rs))
 
-  pub lent-drained : (left : List X) (rs : List (Result (CowStr A) E)) → IsTrue (list_all borrowed left) → Drains steps left rs → map given_bytes rs ≡ map text left
+  pub lent-drained : (left : List CarriedPart) (rs : List (Result (CowStr A) E)) → IsTrue (list_all is_borrow left) → Drains steps left rs → map given_bytes rs ≡ map text_of left
   lent-drained left rs lent (new, (last, ran, ends)) = all-given left rs (lent-given left last rs lent ran) (new, (last, ran, ends))
 
   -- and all of it is written, or the call runs out of memory
-  pub gives-texts : (takes_memory : Bool) (left : List X) (answer : ListAnswer) (old new old_ends new_ends : List ℕ)
+  pub gives-texts : (takes_memory : Bool) (left : List CarriedPart) (answer : ListAnswer) (old new old_ends new_ends : List ℕ)
       → IsTrue takes_memory → AreGiven (λ rs. Drains steps left rs) answer old new old_ends new_ends
-      → GivesAll takes_memory (joined_texts (map text left)) (ends_from 0 (map text left)) answer old new old_ends new_ends
+      → GivesAll takes_memory (joined_texts (map text_of left)) (ends_from 0 (map text_of left)) answer old new old_ends new_ends
   gives-texts takes_memory left answer old new old_ends new_ends takes given =
       elim given [
         | inl w ↦ inl (subst (λ ts. AreWritten (joined_texts ts) (ends_from 0 ts) answer old new old_ends new_ends) (all-given left w.0 w.2 w.1) w.3)
@@ -111,12 +102,12 @@ module _ {X A E : Type 0} (text : X → List ℕ) (borrowed : X → Bool) (steps
       ]
 
   -- what is given is no longer than that
-  pub given-fits : (left : List X) → IsTrue (list_all borrowed left) → length (joined_texts (map text left)) < 2 ^ 64 → length left < 2 ^ 64
+  pub given-fits : (left : List CarriedPart) → IsTrue (list_all is_borrow left) → length (joined_texts (map text_of left)) < 2 ^ 64 → length left < 2 ^ 64
       → HoldsAlong steps left (λ rs. All IsOk rs × (length (joined_texts (map given_bytes rs)) < 2 ^ 64) × (length rs < 2 ^ 64))
   given-fits left lent short few rs later ran =
       let ok = lent-given left later rs lent ran in
       let is = texts-given left later rs ok ran in (
         ok,
-        omega (arith, short, ap length (ap joined_texts is ∙ flat_map-append (λ t. t) (map given_bytes rs) (map text later)), length-append (joined_texts (map given_bytes rs)) (joined_texts (map text later))),
-        omega (arith, few, ap length is, length-append (map given_bytes rs) (map text later), length-map left text, length-map rs given_bytes),
+        omega (arith, short, ap length (ap joined_texts is ∙ flat_map-append (λ t. t) (map given_bytes rs) (map text_of later)), length-append (joined_texts (map given_bytes rs)) (joined_texts (map text_of later))),
+        omega (arith, few, ap length is, length-append (map given_bytes rs) (map text_of later), length-map left text_of, length-map rs given_bytes),
       )

@@ -24,18 +24,12 @@ use Rattle.ansi_columns.specs.Columns.{clusters, cluster_width}
 use Rattle.ansi_safe.specs.Cells.{paragraph}
 use Rattle.ansi_safe.specs.Links.{link_after_all}
 use Rattle.ansi_columns.specs.Lines.{lines_from, lines, AreLinesFrom}
-use Rattle.ansi_columns.specs.Wrapped.{WrappedLine, pen_end, line_over, lines_over, wrapped, GivesLine}
+use Rattle.ansi_columns.specs.Wrapped.{CarriedPart, pen_end, line_over, lines_over, wrapped}
 use Rattle.ansi_columns.proofs.LentLemmas.{wrapped-itself}
 use Rattle.ansi_columns.proofs.LineLemmas.{line-any, line-last}
 use Rattle.ansi_columns.proofs.ClusterLawLemmas.{clusters_after-bytes}
-use Rattle.ansi_calls.proofs.GivenLemmas.{joined_texts, GivesNext}
+use Rattle.ansi_calls.proofs.GivenLemmas.{joined_texts}
 use Rattle.ansi_calls.specs.Columns.{wrapped_lines}
-
--- a wrap gives the lines that it has left in turn
-pub line-next : {A E : Type 0} (old : List WrappedLine) (r : Option (Result (CowStr A) E)) (new : List WrappedLine) → GivesLine old r new → GivesNext (λ (l : WrappedLine). l.bytes) (λ (l : WrappedLine). l.borrowed) old r new
-line-next old None new gives = gives.0
-line-next old (Some (Ok c)) new gives = (gives.0, gives.1, gives.2.0)
-line-next old (Some (Err e)) new gives = (gives.0, gives.1, gives.2, gives.3)
 
 -- Their bytes.
 
@@ -58,13 +52,13 @@ length-bare_line x i =
     cond_both ((i.0 == i.1) && true) [] whole (λ w. length w ≤ i.1 - i.0) (λ none. omega arith)
     (λ some. omega (arith, ap length shown, length-take (i.1 - i.0) (drop i.0 x), length-drop i.0 x))
 
-length-lines_over : (x : List ℕ) (e : ℕ) (is : List (ℕ × ℕ)) → AreLinesFrom x e is → length (joined_texts (map (λ (l : WrappedLine). l.bytes) (lines_over plain_style [] x [] is))) ≤ length x - e
+length-lines_over : (x : List ℕ) (e : ℕ) (is : List (ℕ × ℕ)) → AreLinesFrom x e is → length (joined_texts (map (λ (l : CarriedPart). l.bytes) (lines_over plain_style [] x [] is))) ≤ length x - e
 unfolding lines_over
 length-lines_over x e [] are = omega arith
 length-lines_over x e (i ∷ is) are =
     let first = (line_over plain_style [] x [] i).bytes in
-    let later = map (λ (l : WrappedLine). l.bytes) (lines_over plain_style [] x [] is) in
-    let all = ap (λ (ls : List WrappedLine). length (joined_texts (map (λ (l : WrappedLine). l.bytes) ls))) (bare-lines x i is) in
+    let later = map (λ (l : CarriedPart). l.bytes) (lines_over plain_style [] x [] is) in
+    let all = ap (λ (ls : List CarriedPart). length (joined_texts (map (λ (l : CarriedPart). l.bytes) ls))) (bare-lines x i is) in
     omega (
       arith,
       all,
@@ -116,11 +110,11 @@ bare-wrapped t width same none utf8 stand =
     let over : wrapped t width ≡ lines_over plain_style [] t [] (lines width t)
     = wrapped-itself t width same
     ∙ ap (λ (ms : List Mark). lines_over plain_style [] (plain t) ms (lines width (plain t))) (marks-bare t none) ∙ ap (λ x. lines_over plain_style [] x [] (lines width x)) (plain-bare t none) in (
-      omega (arith, ap (λ (ls : List WrappedLine). length (joined_texts (map (λ (l : WrappedLine). l.bytes) ls))) over, length-lines_over t 0 (lines width t) stand),
+      omega (arith, ap (λ (ls : List CarriedPart). length (joined_texts (map (λ (l : CarriedPart). l.bytes) ls))) over, length-lines_over t 0 (lines width t) stand),
       omega (
         arith,
         ap length over,
-        length-map (wrapped t width) (λ (l : WrappedLine). l.bytes),
+        length-map (wrapped t width) (λ (l : CarriedPart). l.bytes),
         count-lines_over t (lines width t),
         few-lines_of t width utf8,
       ),

@@ -1,6 +1,6 @@
 -- Texts that are concatenated in turn, and an entry for each; the parts and the block of a text without ESC.
 use Rattle.std.proofs.Common.{◌≡◌, ◌∙◌, ℕ, ◌+◌, ◌≤◌, ◌==◌, List, [], ◌∷◌, ◌++◌, length, drop, Some, Result, Ok, Err, Bool, IsTrue, inl, inr, string_bytes, refl, sym, ap, subst, arith, append_assoc, append-nil, length-append, length-take, length-drop, ◌-◌, slice_range, false, if◌then◌else◌}
-use Rattle.std.specs.Prelude.{flat_map, map, IsFalse, MatchResult, IfOk, String, Vec}
+use Rattle.std.specs.Prelude.{flat_map, IsFalse, MatchResult, IfOk, String, Vec}
 use Rattle.std.proofs.lemmas.Bool.{ne_eqb}
 use Rattle.std.proofs.lemmas.List.{length-map}
 use Rattle.ansi_items.proofs.PlainLemmas.{pieces_of-bare, one_text}
@@ -13,7 +13,7 @@ use Rattle.ansi_str.specs.Blocks.{Block, GivesBlock, blocks}
 use Rattle.ansi_str.specs.Parts.{parts, all_parts}
 use Rattle.ansi_calls.specs.declared.lists.ListAnswer.{ListAnswer}
 use Rattle.ansi_calls.specs.Answers.{out_of_memory}
-use Rattle.ansi_calls.specs.Lists.{entries_of, whole_block, AreWritten, HaveFailed, GivesAllAs}
+use Rattle.ansi_calls.specs.Lists.{ends_from, AreEntries, whole_block, AreWritten, HaveFailed, GivesAllWith}
 
 -- a block was taken off those that were left
 pub block-taken : {E : Type 0} {xs us : List Block} {r : Result Block E} {x : Block} → GivesBlock xs (Some r) us → r ≡ Ok x → xs ≡ x ∷ us
@@ -32,24 +32,32 @@ pub length-joined : (so_far added after : List ℕ) → after ≡ so_far ++ adde
 length-joined so_far added after more = ap length more ∙ length-append so_far added
 
 -- and its entry
-pub entries-more : {X Y : Type 0} (text : X → List ℕ) (entry : ℕ → ℕ → X → Y) (so_far after : List ℕ) (entries more_entries all : List Y) (e : Y) (x : X) (left next : List X)
-    → left ≡ x ∷ next → length after ≡ length so_far + length (text x) → more_entries ≡ entries ++ e ∷ [] → e ≡ entry (length so_far) (length after) x
-    → entries ++ entries_of text entry (length so_far) left ≡ all → more_entries ++ entries_of text entry (length after) next ≡ all
-entries-more text entry so_far after entries more_entries all e x left next is ends one_more is_entry listed =
-    let rest = entries_of text entry (length after) next in
-    ap (λ u. u ++ rest) one_more ∙ append_assoc entries (e ∷ []) rest ∙ ap (λ e. entries ++ e ∷ rest) (is_entry ∙ ap (λ n. entry (length so_far) n x) ends)
-    ∙ ap (λ n. entries ++ entry (length so_far) (length so_far + length (text x)) x ∷ entries_of text entry n next) ends
-    ∙ ap (λ xs. entries ++ entries_of text entry (length so_far) xs) (sym is) ∙ listed
+pub entries-more : {X T : Type 0} (text : X → List ℕ) (IsEntry : ℕ → ℕ → X → T → Type 0) (so_far after : List ℕ) (entries more : List T) (e : T) (x : X) (left next all : List X)
+    → left ≡ x ∷ next → length after ≡ length so_far + length (text x) → more ≡ entries ++ e ∷ [] → IsEntry (length so_far) (length after) x e
+    → ((es : List T) → AreEntries text IsEntry (length so_far) left es → AreEntries text IsEntry 0 all (entries ++ es))
+    → (es : List T) → AreEntries text IsEntry (length after) next es → AreEntries text IsEntry 0 all (more ++ es)
+entries-more text IsEntry so_far after entries more e x left next all is ends one_more right listed es are =
+    let first : AreEntries text IsEntry (length so_far) (x ∷ next) (e ∷ es)
+    = subst (λ n. IsEntry (length so_far) n x e × AreEntries text IsEntry n next es) ends (right, are) in
+    subst (AreEntries text IsEntry 0 all) (sym (append_assoc entries (e ∷ []) es) ∙ ap (λ u. u ++ es) (sym one_more))
+    (listed (e ∷ es) (subst (λ xs. AreEntries text IsEntry (length so_far) xs (e ∷ es)) (sym is) first))
+
+-- if none is left, there is an entry for each
+pub entries-all : {X T : Type 0} (text : X → List ℕ) (IsEntry : ℕ → ℕ → X → T → Type 0) (so_far : List ℕ) (entries : List T) (left all : List X)
+    → left ≡ [] → ((es : List T) → AreEntries text IsEntry (length so_far) left es → AreEntries text IsEntry 0 all (entries ++ es))
+    → AreEntries text IsEntry 0 all entries
+entries-all text IsEntry so_far entries left all none listed =
+    subst (AreEntries text IsEntry 0 all) (append-nil entries) (listed [] (subst (λ xs. AreEntries text IsEntry (length so_far) xs []) (sym none) tt))
 
 -- a text is inserted between the text before it and the text after it
 pub around-more : (so_far a b after before text end : List ℕ) → a ≡ so_far ++ before → b ≡ a ++ text → after ≡ b ++ end → after ≡ so_far ++ (before ++ text ++ end)
 around-more so_far a b after before text end begun more ended =
     ended ∙ ap (λ u. u ++ end) (more ∙ ap (λ u. u ++ text) begun ∙ append_assoc so_far before text) ∙ append_assoc so_far (before ++ text) end
 
--- there is an entry for each
-pub length-entries : {X Y : Type 0} (text : X → List ℕ) (entry : ℕ → ℕ → X → Y) (n : ℕ) (xs : List X) → length (entries_of text entry n xs) ≡ length xs
-length-entries text entry n [] = refl
-length-entries text entry n (x ∷ xs) = omega (arith, length-entries text entry (n + length (text x)) xs)
+-- there is an end for each
+pub length-ends_from : (n : ℕ) (ts : List (List ℕ)) → length (ends_from n ts) ≡ length ts
+length-ends_from n [] = refl
+length-ends_from n (t ∷ ts) = omega (arith, length-ends_from (n + length t) ts)
 
 -- consecutive intervals after the place e have at most as many bytes as the text after e
 pub length-slices_over : (x : List ℕ) (e : ℕ) (is : List (ℕ × ℕ)) → AreInTurn x e is → length (flat_map (λ u. u) (slices_over x is)) ≤ length x - e
@@ -66,37 +74,36 @@ length-slices_over x e (i ∷ is) turn =
     )
 
 -- what is joined is written, or the call runs out of memory
-pub Gives-joined : {T F A E : Type 0} (takes_memory : Bool) (bytes : List ℕ) (facts : T → F) (stated : List F) (joined : Result (String A × Vec T A) E) (answer : ListAnswer) (old new : List ℕ) (old_entries new_entries : List T)
-    → IsTrue takes_memory → IfOk joined (λ j. string_bytes j.0 ≡ bytes) → IfOk joined (λ j. map facts j.1.items ≡ stated)
+pub Gives-joined : {T A E : Type 0} (takes_memory : Bool) (bytes : List ℕ) (AreRight : List T → Type 0) (joined : Result (String A × Vec T A) E) (answer : ListAnswer) (old new : List ℕ) (old_entries new_entries : List T)
+    → IsTrue takes_memory → IfOk joined (λ j. string_bytes j.0 ≡ bytes) → IfOk joined (λ j. AreRight j.1.items)
     → MatchResult joined (λ j. AreWritten (string_bytes j.0) j.1.items answer old new old_entries new_entries) (λ e. HaveFailed out_of_memory answer old new old_entries new_entries)
-    → GivesAllAs takes_memory bytes facts stated answer old new old_entries new_entries
-Gives-joined takes_memory bytes facts stated (Ok j) answer old new old_entries new_entries takes texts listed written =
-    inl (j.1.items, listed, subst (λ u. AreWritten u j.1.items answer old new old_entries new_entries) texts written)
-Gives-joined takes_memory bytes facts stated (Err e) answer old new old_entries new_entries takes texts listed written = inr (takes, written)
+    → GivesAllWith takes_memory bytes AreRight answer old new old_entries new_entries
+Gives-joined takes_memory bytes AreRight (Ok j) answer old new old_entries new_entries takes texts right written =
+    inl (j.1.items, right, subst (λ u. AreWritten u j.1.items answer old new old_entries new_entries) texts written)
+Gives-joined takes_memory bytes AreRight (Err e) answer old new old_entries new_entries takes texts right written = inr (takes, written)
 
 -- A text without ESC is one block; an empty text has no block.
 -- what is written of it is written of its blocks
-pub one_block_written : {T F : Type 0} (text : Block → List ℕ) (facts : T → F) (entry : ℕ → ℕ → Block → F) (only : T) (t : List ℕ) (answer : ListAnswer) (old new : List ℕ) (old_entries new_entries : List T)
-    → IsFalse (has_escape t) → text (whole_block t) ≡ t → facts only ≡ entry 0 (length t) (whole_block t)
+pub one_block_written : {T : Type 0} (text : Block → List ℕ) (IsEntry : ℕ → ℕ → Block → T → Type 0) (only : T) (t : List ℕ) (answer : ListAnswer) (old new : List ℕ) (old_entries new_entries : List T)
+    → IsFalse (has_escape t) → text (whole_block t) ≡ t → IsEntry 0 (length t) (whole_block t) only
     → AreWritten t (if length t == 0 then [] else only ∷ []) answer old new old_entries new_entries
-    → GivesAllAs (has_escape t) (flat_map text (blocks t)) facts (entries_of text entry 0 (blocks t)) answer old new old_entries new_entries
-one_block_written {T} {F} text facts entry only t answer old new old_entries new_entries none same is written =
+    → GivesAllWith (has_escape t) (flat_map text (blocks t)) (AreEntries text IsEntry 0 (blocks t)) answer old new old_entries new_entries
+one_block_written {T} text IsEntry only t answer old new old_entries new_entries none same is written =
     let one : blocks t ≡ blocks_through plain_style [] (one_text t) = blocks_from-walked plain_style t ∙ ap (blocks_through plain_style []) (pieces_of-bare t none) in
-    inl (subst (λ (bs : List Block). (entries : List T) × (map facts entries ≡ entries_of text entry 0 bs) × AreWritten (flat_map text bs) entries answer old new old_entries new_entries)
+    inl (subst (λ (bs : List Block). (entries : List T) × AreEntries text IsEntry 0 bs entries × AreWritten (flat_map text bs) entries answer old new old_entries new_entries)
     (sym one) (by_text t same is written))
   where
-    by_text : (t : List ℕ) → text (whole_block t) ≡ t → facts only ≡ entry 0 (length t) (whole_block t)
+    by_text : (t : List ℕ) → text (whole_block t) ≡ t → IsEntry 0 (length t) (whole_block t) only
         → AreWritten t (if length t == 0 then [] else only ∷ []) answer old new old_entries new_entries
-        → (entries : List T) × (map facts entries ≡ entries_of text entry 0 (blocks_through plain_style [] (one_text t)))
+        → (entries : List T) × AreEntries text IsEntry 0 (blocks_through plain_style [] (one_text t)) entries
         × AreWritten (flat_map text (blocks_through plain_style [] (one_text t))) entries answer old new old_entries new_entries
-    by_text [] same is written = ([], refl, written)
+    by_text [] same is written = ([], tt, written)
     by_text (b ∷ w) same is written =
         let filled : (length (b ∷ w) == 0) ≡ false = ne_eqb (length (b ∷ w)) 0 (λ e. omega (arith, e)) in
         let bytes : text (whole_block (b ∷ w)) ++ [] ≡ b ∷ w = append-nil (text (whole_block (b ∷ w))) ∙ same in
-        let stated : facts only ∷ [] ≡ entry 0 (0 + length (text (whole_block (b ∷ w)))) (whole_block (b ∷ w)) ∷ []
-        = ap (λ f. f ∷ []) is ∙ ap (λ n. entry 0 n (whole_block (b ∷ w)) ∷ []) (omega (arith, ap length same)) in (
+        let end : length (b ∷ w) ≡ 0 + length (text (whole_block (b ∷ w))) = omega (arith, ap length same) in (
           only ∷ [],
-          stated,
+          (subst (λ n. IsEntry 0 n (whole_block (b ∷ w)) only) end is, tt),
           subst (λ u. AreWritten u (only ∷ []) answer old new old_entries new_entries) (sym bytes)
               (subst (λ c. AreWritten (b ∷ w) (if c then [] else only ∷ []) answer old new old_entries new_entries) filled written),
         )

@@ -21,7 +21,7 @@ use Rattle.ansi_calls.specs.declared.walks.BlockWalk.{BlockWalk}
 use Rattle.ansi_calls.specs.Answers.{no, refused, not_utf8, done, failed, told, OnUtf8, HasFailed, Gives, GivesEdited, TellsBoundary, TellsPlace}
 use Rattle.ansi_calls.specs.Styles.{HasNoStyle, TellsStyle}
 use Rattle.ansi_calls.specs.Steps.{change_of_step, patterns_of}
-use Rattle.ansi_calls.specs.Lists.{ends_from, BlockFacts, entries_of, facts_of_block, block_entry, styled_text, facts_of_styled_block, styled_block_entry, HaveFailed, GivesAll, GivesAllAs}
+use Rattle.ansi_calls.specs.Lists.{ends_from, AreEntries, IsBlockEntry, styled_text, IsStyledBlockEntry, HaveFailed, GivesAll, GivesAllWith}
 use Rattle.ansi_calls.specs.Walks.{IsOver}
 
 -- `strip` writes the plain text
@@ -124,18 +124,18 @@ Splits t p answer old new old_ends new_ends =
     (HaveFailed not_utf8 answer old new old_ends new_ends)
 
 -- a call writes all blocks, each as a text, with an entry for each
-abbrev pub ListsAs : {T : Type 0} → (Block → List ℕ) → (T → BlockFacts) → (ℕ → ℕ → Block → BlockFacts) → List ℕ → ListAnswer → List ℕ → List ℕ → List T → List T → Type 0
-ListsAs text facts entry t answer old new old_entries new_entries =
-    OnUtf8 (t ∷ []) (GivesAllAs (has_escape t) (flat_map text (blocks t)) facts (entries_of text entry 0 (blocks t)) answer old new old_entries new_entries)
+abbrev pub ListsAs : {T : Type 0} → (Block → List ℕ) → (ℕ → ℕ → Block → T → Type 0) → List ℕ → ListAnswer → List ℕ → List ℕ → List T → List T → Type 0
+ListsAs text IsEntry t answer old new old_entries new_entries =
+    OnUtf8 (t ∷ []) (GivesAllWith (has_escape t) (flat_map text (blocks t)) (AreEntries text IsEntry 0 (blocks t)) answer old new old_entries new_entries)
     (HaveFailed not_utf8 answer old new old_entries new_entries)
 
 -- `blocks` writes all blocks, and for each where it ends and its style
 abbrev pub ListsBlocks : List ℕ → ListAnswer → List ℕ → List ℕ → List BlockEntry → List BlockEntry → Type 0
-ListsBlocks t answer old new old_entries new_entries = ListsAs (λ b. b.text) facts_of_block block_entry t answer old new old_entries new_entries
+ListsBlocks t answer old new old_entries new_entries = ListsAs (λ b. b.text) IsBlockEntry t answer old new old_entries new_entries
 
 -- `styled_blocks` writes all blocks, each between the start and the close of its style; and for each where these are and its style
 abbrev pub ListsStyledBlocks : List ℕ → ListAnswer → List ℕ → List ℕ → List StyledBlockEntry → List StyledBlockEntry → Type 0
-ListsStyledBlocks t answer old new old_entries new_entries = ListsAs styled_text facts_of_styled_block styled_block_entry t answer old new old_entries new_entries
+ListsStyledBlocks t answer old new old_entries new_entries = ListsAs styled_text IsStyledBlockEntry t answer old new old_entries new_entries
 
 -- `blocks_begin` sets a walk to the beginning of the text
 abbrev pub BeginsBlocks : List ℕ → Answer → BlockWalk → BlockWalk → Type 0

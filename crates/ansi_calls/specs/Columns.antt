@@ -1,12 +1,13 @@
 -- What each call on columns does. A text that isn't UTF-8 makes it fail with the status `not_utf8`, and what it writes to is unchanged.
 use Rattle.std.specs.Prelude.{◌≡◌, ◌⊎◌, ℕ, true, not, ◌&&◌, ◌||◌, ◌==◌, List, [], ◌∷◌, length, map, flat_map, bytes_eq, Option, None, Some, if◌then◌else◌}
+use Rattle.std.specs.Option.{option_map_or}
 use Rattle.std.specs.Str.{IsCharBoundary}
 use Rattle.ansi_columns.specs.declared.shown.Alignment.{Alignment}
 use Rattle.ansi_columns.specs.declared.shown.Alignment.TheVariants.{Left, Right, Center}
 use Rattle.ansi_columns.specs.declared.sides.Side.{Side}
 use Rattle.ansi_columns.specs.declared.sides.Side.TheVariants.{End, Start, Middle}
 use Rattle.ansi_columns.specs.Addresses.{address_at}
-use Rattle.ansi_columns.specs.Columns.{columns, ShowsUpTo}
+use Rattle.ansi_columns.specs.Columns.{columns, column_of, ShowsUpTo}
 use Rattle.ansi_items.specs.Plain.{plain, has_escape}
 use Rattle.ansi_columns.specs.Fitted.{fitted}
 use Rattle.ansi_columns.specs.Lines.{lines}
@@ -16,7 +17,8 @@ use Rattle.ansi_columns.specs.Shown.{truncated, truncated_ending, padded, missin
 use Rattle.ansi_columns.specs.Sides.{truncated_at}
 use Rattle.ansi_columns.specs.Slices.{is_sliced_stretch, sliced}
 use Rattle.ansi_columns.specs.Tabs.{has_tab, expanded}
-use Rattle.ansi_columns.specs.Wrapped.{WrappedLine, wrapped}
+use Rattle.ansi_columns.specs.Indents.{wrapped_with}
+use Rattle.ansi_columns.specs.Wrapped.{CarriedPart, wrapped}
 use Rattle.ansi_safe.specs.Cells.{cell, is_cell, paragraph}
 use Rattle.ansi_calls.specs.declared.answers.Answer.{Answer}
 use Rattle.ansi_calls.specs.declared.lines.LineEntry.{LineEntry}
@@ -36,6 +38,10 @@ TellsWidth t answer = OnUtf8 (t ∷ []) (answer ≡ done (columns (plain (cell t
 abbrev pub TellsFitting : List ℕ → ℕ → Answer → Type 0
 TellsFitting t width answer =
     OnUtf8 (t ∷ []) ((place : ℕ) × (answer ≡ done place) × ShowsUpTo t width place × IsCharBoundary (plain t) place) (answer ≡ failed not_utf8)
+
+-- `column_of` returns the columns of what is shown before a position of the plain text; it is refused if the position isn't good
+abbrev pub TellsColumn : List ℕ → ℕ → Answer → Type 0
+TellsColumn t position answer = OnUtf8 (t ∷ []) (answer ≡ option_map_or done (column_of t position) (failed refused)) (answer ≡ failed not_utf8)
 
 -- a call writes the text t truncated to `width` columns, and allocates only if its cell isn't t, or something is written after the part that stays
 unfoldable pub GivesTruncated : List ℕ → ℕ → List ℕ → Answer → List ℕ → List ℕ → Type 0
@@ -102,7 +108,7 @@ WritesLink t index answer old new = OnUtf8 (t ∷ []) (IsFound no (address_at t 
 
 -- the lines of the text t wrapped at a width, ready for display
 abbrev pub wrapped_lines : List ℕ → ℕ → List (List ℕ)
-wrapped_lines t width = map (λ (l : WrappedLine). l.bytes) (wrapped t width)
+wrapped_lines t width = map (λ (l : CarriedPart). l.bytes) (wrapped t width)
 
 -- a call writes these lines and where each ends, and allocates only if t has an ESC, or its paragraph isn't t
 unfoldable pub GivesWrapped : List ℕ → ℕ → ListAnswer → List ℕ → List ℕ → List ℕ → List ℕ → Type 0
@@ -113,6 +119,20 @@ GivesWrapped t width answer old new old_ends new_ends =
 abbrev pub Wraps : List ℕ → ℕ → ListAnswer → List ℕ → List ℕ → List ℕ → List ℕ → Type 0
 Wraps t width answer old new old_ends new_ends =
     OnUtf8 (t ∷ []) (GivesWrapped t width answer old new old_ends new_ends) (HaveFailed not_utf8 answer old new old_ends new_ends)
+
+-- the lines of the text t wrapped at a width with indents, ready for display
+abbrev pub indented_lines : List ℕ → ℕ → List ℕ → List ℕ → List (List ℕ)
+indented_lines t width first later = map (λ (l : CarriedPart). l.bytes) (wrapped_with t width first later)
+
+-- a call writes these lines and where each ends, and may allocate for any text
+unfoldable pub GivesIndented : List ℕ → ℕ → List ℕ → List ℕ → ListAnswer → List ℕ → List ℕ → List ℕ → List ℕ → Type 0
+GivesIndented t width first later answer old new old_ends new_ends =
+    GivesAll true (flat_map (λ l. l) (indented_lines t width first later)) (ends_from 0 (indented_lines t width first later)) answer old new old_ends new_ends
+
+-- `wrap_with` does so
+abbrev pub WrapsWith : List ℕ → ℕ → List ℕ → List ℕ → ListAnswer → List ℕ → List ℕ → List ℕ → List ℕ → Type 0
+WrapsWith t width first later answer old new old_ends new_ends =
+    OnUtf8 (t ∷ first ∷ later ∷ []) (GivesIndented t width first later answer old new old_ends new_ends) (HaveFailed not_utf8 answer old new old_ends new_ends)
 
 -- where a line begins and ends
 abbrev pub line_entry : ℕ × ℕ → LineEntry

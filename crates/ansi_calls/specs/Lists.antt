@@ -1,49 +1,42 @@
 -- Several texts in one buffer, and an entry for each in another buffer.
-use Rattle.std.specs.Prelude.{◌≡◌, ◌⊎◌, ◌<◌, ◌≤◌, ◌+◌, ℕ, Bool, true, List, [], ◌∷◌, ◌++◌, drop, length, map, flat_map, Result, Ok, Err, IsTrue, IsOk, All}
+use Rattle.std.specs.Prelude.{◌≡◌, ◌⊎◌, ⊤, ◌<◌, ◌≤◌, ◌+◌, ℕ, Bool, true, List, [], ◌∷◌, ◌++◌, drop, length, map, flat_map, Result, Ok, Err, IsTrue, IsOk, All}
 use Rattle.std.specs.Borrow.{MutBor}
 use Rattle.std.specs.Cow.{cow_str_bytes}
 use Rattle.std.specs.declared.borrow.CowStr.{CowStr}
 use Rattle.ansi_str.specs.Blocks.{Block}
 use Rattle.ansi_calls.specs.declared.lists.ListAnswer.{ListAnswer}
-use Rattle.ansi_style.specs.declared.state.rendition.Rendition.{Rendition}
 use Rattle.ansi_str.specs.Rendition.{plain_style}
-use Rattle.ansi_str.specs.States.{rendition_of_numbers}
 use Rattle.ansi_str.specs.Written.{start, close_if_any}
 use Rattle.ansi_calls.specs.declared.lists.BlockEntry.{BlockEntry}
 use Rattle.ansi_calls.specs.declared.lists.StyledBlockEntry.{StyledBlockEntry}
 use Rattle.ansi_calls.specs.Answers.{ok, too_small, out_of_memory}
+use Rattle.ansi_calls.specs.Styles.{IsStyleOf}
 
--- an entry for each of consecutive texts, made from its beginning and its end; the first begins at n
-abbrev pub entries_of : {X Y : Type 0} → (X → List ℕ) → (ℕ → ℕ → X → Y) → ℕ → List X → List Y
-entries_of text entry n [] = []
-entries_of text entry n (x ∷ xs) = entry n (n + length (text x)) x ∷ entries_of text entry (n + length (text x)) xs
-
--- the end of each text, if the first begins at n
+-- the end of each of consecutive texts; the first begins at n
 abbrev pub ends_from : ℕ → List (List ℕ) → List ℕ
-ends_from n ts = entries_of (λ t. t) (λ begin end t. end) n ts
+ends_from n [] = []
+ends_from n (t ∷ ts) = (n + length t) ∷ ends_from (n + length t) ts
 
--- what an entry says of its block: places in the buffer, and the style
-abbrev pub BlockFacts : Type 0
-BlockFacts = List ℕ × Rendition
+-- there is an entry for each of consecutive texts, and it is right for its beginning, its end and the text; the first begins at n
+abbrev pub AreEntries : {X T : Type 0} → (X → List ℕ) → (ℕ → ℕ → X → T → Type 0) → ℕ → List X → List T → Type 0
+AreEntries text IsEntry n [] [] = ⊤
+AreEntries text IsEntry n [] (e ∷ es) = ⊥
+AreEntries text IsEntry n (x ∷ xs) [] = ⊥
+AreEntries text IsEntry n (x ∷ xs) (e ∷ es) = IsEntry n (n + length (text x)) x e × AreEntries text IsEntry (n + length (text x)) xs es
 
-abbrev pub facts_of_block : BlockEntry → BlockFacts
-facts_of_block e = (e.end ∷ [], rendition_of_numbers e.style)
-
-abbrev pub facts_of_styled_block : StyledBlockEntry → BlockFacts
-facts_of_styled_block e = (e.text_start ∷ e.text_end ∷ e.end ∷ [], rendition_of_numbers e.style)
-
--- the end of a block and its style
-abbrev pub block_entry : ℕ → ℕ → Block → BlockFacts
-block_entry begin end b = (end ∷ [], b.style)
+-- the entry has the end of a block and its style
+abbrev pub IsBlockEntry : ℕ → ℕ → Block → BlockEntry → Type 0
+IsBlockEntry begin end b e = (e.end ≡ end) × IsStyleOf b.style e.style
 
 -- the text of a block between the start and the close of its style
 abbrev pub styled_text : Block → List ℕ
 styled_text b = start b.style ++ b.text ++ close_if_any b.style
 
--- the ends of the start, the text and the close of such a block, and its style
-abbrev pub styled_block_entry : ℕ → ℕ → Block → BlockFacts
-styled_block_entry begin end b =
-    ((begin + length (start b.style)) ∷ (begin + length (start b.style) + length b.text) ∷ end ∷ [], b.style)
+-- the entry has the ends of the start, the text and the close of such a block, and its style
+abbrev pub IsStyledBlockEntry : ℕ → ℕ → Block → StyledBlockEntry → Type 0
+IsStyledBlockEntry begin end b e =
+    (e.text_start ≡ begin + length (start b.style)) × (e.text_end ≡ begin + length (start b.style) + length b.text) × (e.end ≡ end)
+    × IsStyleOf b.style e.style
 
 -- a text without ESC that isn't empty, as a block
 abbrev pub whole_block : List ℕ → Block
@@ -112,8 +105,8 @@ GivesAll takes_memory bytes entries answer old new old_entries new_entries =
     AreWritten bytes entries answer old new old_entries new_entries
     ⊎ (IsTrue takes_memory × HaveFailed out_of_memory answer old new old_entries new_entries)
 
--- the same with entries that state these facts
-abbrev pub GivesAllAs : {T F : Type 0} → Bool → List ℕ → (T → F) → List F → ListAnswer → List ℕ → List ℕ → List T → List T → Type 0
-GivesAllAs {T} {F} takes_memory bytes facts stated answer old new old_entries new_entries =
-    ((entries : List T) × (map facts entries ≡ stated) × AreWritten bytes entries answer old new old_entries new_entries)
+-- the same with entries of which this is true
+abbrev pub GivesAllWith : {T : Type 0} → Bool → List ℕ → (List T → Type 0) → ListAnswer → List ℕ → List ℕ → List T → List T → Type 0
+GivesAllWith {T} takes_memory bytes AreRight answer old new old_entries new_entries =
+    ((entries : List T) × AreRight entries × AreWritten bytes entries answer old new old_entries new_entries)
     ⊎ (IsTrue takes_memory × HaveFailed out_of_memory answer old new old_entries new_entries)

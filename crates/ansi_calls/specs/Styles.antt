@@ -2,13 +2,18 @@
 use Rattle.std.specs.Prelude.{◌≡◌, ◌⊎◌, ℕ, Bool, Option, None, Some, IsTrue}
 use Rattle.ansi_style.specs.declared.state.rendition.Rendition.{Rendition}
 use Rattle.ansi_str.specs.Rendition.{plain_style}
-use Rattle.ansi_str.specs.States.{rendition_of_numbers}
+use Rattle.ansi_str.specs.States.{rendition_of_numbers, AreExact}
+use Rattle.ansi_style.specs.declared.numbers.StyleNumbers.{StyleNumbers}
 use Rattle.ansi_calls.specs.declared.blocks.StyleAnswer.{StyleAnswer}
 use Rattle.ansi_calls.specs.Answers.{ok, no, out_of_memory}
 
+-- these are the numbers of the style, and each bit and each byte that it doesn't need is 0. So the style determines all of them (`exact_numbers_are_determined`)
+abbrev pub IsStyleOf : Rendition → StyleNumbers → Type 0
+IsStyleOf s n = (rendition_of_numbers n ≡ s) × AreExact n
+
 -- a call returns a status and a style
 abbrev pub HasStyle : ℕ → Rendition → StyleAnswer → Type 0
-HasStyle status s answer = (answer.status ≡ status) × (rendition_of_numbers answer.style ≡ s)
+HasStyle status s answer = (answer.status ≡ status) × IsStyleOf s answer.style
 
 -- a call returns no style
 abbrev pub HasNoStyle : ℕ → StyleAnswer → Type 0

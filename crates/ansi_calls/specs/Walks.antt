@@ -4,7 +4,7 @@ use Rattle.ansi_style.specs.declared.state.rendition.Rendition.{Rendition}
 use Rattle.ansi_str.specs.Rendition.{plain_style}
 use Rattle.ansi_str.specs.States.{rendition_of_numbers}
 use Rattle.ansi_str.specs.Blocks.{Block, blocks_from, block_after, sequences_before}
-use Rattle.ansi_str.specs.Splits.{SplitPart}
+use Rattle.ansi_str.specs.Splits.{CarriedPart}
 use Rattle.ansi_split.specs.Walks.{parts_of_walk}
 use Rattle.ansi_split.specs.declared.walks.PartWalk.{PartWalk}
 use Rattle.ansi_calls.specs.declared.walks.NextPart.{NextPart}
@@ -12,6 +12,7 @@ use Rattle.ansi_calls.specs.declared.answers.Answer.{Answer}
 use Rattle.ansi_calls.specs.declared.walks.BlockWalk.{BlockWalk}
 use Rattle.ansi_calls.specs.declared.walks.NextBlock.{NextBlock}
 use Rattle.ansi_calls.specs.Answers.{ok, no, done, HasFailed, Gives}
+use Rattle.ansi_calls.specs.Styles.{IsStyleOf}
 
 -- the blocks that a walk has left
 abbrev pub blocks_left : BlockWalk → List Block
@@ -19,7 +20,7 @@ blocks_left w = blocks_from (rendition_of_numbers w.style) w.rest.now
 
 -- a walk is at the beginning of a text
 abbrev pub IsOver : List ℕ → BlockWalk → Type 0
-IsOver t w = (w.rest.now ≡ t) × (rendition_of_numbers w.style ≡ plain_style)
+IsOver t w = (w.rest.now ≡ t) × IsStyleOf plain_style w.style
 
 -- the sequences in the first of these blocks, before its run
 abbrev pub sequences_left : BlockWalk → List ℕ
@@ -28,7 +29,7 @@ sequences_left w = sequences_before w.rest.now 0
 -- a call returns this run and its style, and these blocks are left
 abbrev pub IsTold : List ℕ → Rendition → List Block → BlockWalk → NextBlock → Type 0
 IsTold w s bs walk block =
-    (block.text.now ≡ w) × IsUtf8 w × (rendition_of_numbers block.style ≡ s) × (rendition_of_numbers walk.style ≡ s) × (blocks_left walk ≡ bs)
+    (block.text.now ≡ w) × IsUtf8 w × IsStyleOf s block.style × IsStyleOf s walk.style × (blocks_left walk ≡ bs)
 
 -- a call takes the first block off the walk: it writes the sequences in the block and returns its run and its style, and the other blocks are left; if there is no block, no room or no memory, everything is unchanged
 abbrev pub GivesNext : BlockWalk → BlockWalk → NextBlock → NextBlock → Answer → List ℕ → List ℕ → Type 0
@@ -42,7 +43,7 @@ GivesNext old new old_block block answer old_buffer buffer =
 abbrev pub GivesNextPart : PartWalk → PartWalk → NextPart → NextPart → Answer → List ℕ → List ℕ → Type 0
 GivesNextPart old new old_part part answer old_buffer buffer =
     ((parts_of_walk old ≡ []) × HasFailed no answer old_buffer buffer × (new ≡ old) × (part ≡ old_part))
-    ⊎ ((p : SplitPart) × (ps : List SplitPart) × (parts_of_walk old ≡ p ∷ ps)
+    ⊎ ((p : CarriedPart) × (ps : List CarriedPart) × (parts_of_walk old ≡ p ∷ ps)
     × ((IsTrue p.borrowed × (part.text.now ≡ p.bytes) × IsUtf8 p.bytes × (answer ≡ done 0) × (buffer ≡ old_buffer) × (parts_of_walk new ≡ ps))
     ⊎ (IsFalse p.borrowed × (part ≡ old_part) × Gives no true (Some p.bytes) answer old_buffer buffer
     × (((answer.status ≡ ok) × (parts_of_walk new ≡ ps)) ⊎ ((¬ (answer.status ≡ ok)) × (new ≡ old))))))

@@ -1,6 +1,7 @@
 //! Calls that return the display width of a text, make it ready for display, or return its links.
 ghost use Rattle.std.specs.Prelude.{◌≡◌, Some};
-ghost use Rattle.ansi_calls.specs.Columns.{alignment_of, TellsWidth, TellsFitting, Truncates, Pads};
+ghost use Rattle.ansi_calls.specs.Columns.{alignment_of, TellsWidth, TellsFitting, TellsColumn};
+ghost use Rattle.ansi_calls.specs.Columns.{Truncates, Pads};
 ghost use Rattle.ansi_calls.specs.Columns.{GivesTruncated, GivesPadded, Slices, GivesSliced};
 ghost use Rattle.ansi_calls.specs.Columns.{Fits, GivesFitted, side_of, TruncatesAt};
 ghost use Rattle.ansi_calls.specs.Columns.{GivesTruncatedAt, ExpandsTabs, GivesExpanded};
@@ -42,6 +43,19 @@ pub fn fitting(text: &[u8], width: usize) -> Answer
     match from_utf8(text) {
         Ok(text) => Answer::done(columns::fitting(text, width)),
         Err(_) => Answer::failed(NOT_UTF8),
+    }
+}
+
+/// The columns of what is shown before a position.
+pub fn column_of(text: &[u8], position: usize) -> Answer
+    ensures { TellsColumn text.now position result }
+{
+    let Ok(text) = from_utf8(text) else {
+        return Answer::failed(NOT_UTF8);
+    };
+    match columns::column_of(text, position) {
+        Some(column) => Answer::done(column),
+        None => Answer::failed(REFUSED),
     }
 }
 

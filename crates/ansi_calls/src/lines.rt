@@ -7,14 +7,15 @@ ghost use Rattle.ansi_items.specs.Plain.{has_escape};
 ghost use Rattle.ansi_safe.specs.Cells.{paragraph};
 ghost use Rattle.ansi_calls.specs.Lists.{ends_from, AreCopied, AreWritten};
 ghost use Rattle.ansi_columns.specs.LineWalks.{IsLineWalk};
-ghost use Rattle.ansi_calls.specs.Columns.{wrapped_lines, Wraps, line_entries, WritesLines};
-ghost use Rattle.ansi_calls.specs.Columns.{BeginsLines, GivesNextLine};
+ghost use Rattle.ansi_calls.specs.Columns.{wrapped_lines, Wraps, GivesIndented, WrapsWith};
+ghost use Rattle.ansi_calls.specs.Columns.{line_entries, WritesLines, BeginsLines, GivesNextLine};
 
 use crate::answers::{Answer, NO, NOT_UTF8, OK, TOO_SMALL};
 use crate::lists::{ListAnswer, copy_texts, put, write_copied, write_texts};
 use ansi_columns::laws;
 use ansi_columns::line_walks::{LineWalk, next_line, walk_lines};
 use ansi_columns::lines::Lines;
+use ansi_columns::wrap::indents::{Wrap, wrap_with as wrapped_with};
 use ansi_columns::wrap::wrap as wrapped;
 use ansi_safe::cells::paragraph_of;
 use ansi_str::AnsiStr;
@@ -48,6 +49,53 @@ pub fn wrap<A: Allocator + Copy>(
         return write_bare_lines(alloc, text, width, buffer, ends);
     }
     write_texts(alloc, text.len(), wrapped(alloc, text, width), buffer, ends)
+}
+
+/// The lines of the text wrapped at `width` columns with an indent before each, ready for display,
+/// and where each ends.
+pub fn wrap_with<A: Allocator + Copy>(
+    alloc: A,
+    text: &[u8],
+    width: usize,
+    first_indent: &[u8],
+    indent: &[u8],
+    buffer: &mut [u8],
+    ends: &mut [usize],
+) -> ListAnswer
+    ensures { WrapsWith text.now width first_indent.now indent.now result buffer.old buffer.new
+        ends.old ends.new }
+{
+    let Ok(text) = from_utf8(text) else {
+        return ListAnswer::failed(NOT_UTF8);
+    };
+    let Ok(first_indent) = from_utf8(first_indent) else {
+        return ListAnswer::failed(NOT_UTF8);
+    };
+    let Ok(indent) = from_utf8(indent) else {
+        return ListAnswer::failed(NOT_UTF8);
+    };
+    let to = Wrap::at(width).first_indent(first_indent).indent(indent);
+    write_indented(alloc, text, &to, buffer, ends)
+}
+
+/// The same for texts that are known to be UTF-8.
+fn write_indented<A: Allocator + Copy>(
+    alloc: A,
+    text: &str,
+    to: &Wrap<'_>,
+    buffer: &mut [u8],
+    ends: &mut [usize],
+) -> ListAnswer
+    ensures { GivesIndented text.now to.now.width to.now.first_indent.now to.now.indent.now result
+        buffer.old buffer.new ends.old ends.new }
+{
+    write_texts(
+        alloc,
+        text.len(),
+        wrapped_with(alloc, text, to),
+        buffer,
+        ends,
+    )
 }
 
 /// Whether a text has no ESC and is its own paragraph. If it is, nothing is allocated.

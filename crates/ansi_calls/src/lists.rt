@@ -12,9 +12,8 @@ ghost use Rattle.ansi_str.specs.Plain.{has_escape};
 ghost use Rattle.ansi_str.specs.Parts.{all_parts};
 ghost use Rattle.ansi_str.specs.Blocks.{Block, blocks};
 ghost use Rattle.ansi_calls.specs.Answers.{out_of_memory};
-ghost use Rattle.ansi_calls.specs.Lists.{none, ends_from, entries_of, BlockFacts};
-ghost use Rattle.ansi_calls.specs.Lists.{facts_of_block, block_entry, styled_text};
-ghost use Rattle.ansi_calls.specs.Lists.{facts_of_styled_block, styled_block_entry};
+ghost use Rattle.ansi_calls.specs.Lists.{none, ends_from, AreEntries};
+ghost use Rattle.ansi_calls.specs.Lists.{IsBlockEntry, styled_text, IsStyledBlockEntry};
 ghost use Rattle.ansi_calls.specs.Lists.{whole_block, given_bytes, AreCopied};
 ghost use Rattle.ansi_calls.specs.Lists.{AreWritten, AreCopiedSoFar, Copies, Fit};
 ghost use Rattle.ansi_calls.specs.Lists.{IsCountWithoutRoom, AreGiven, HaveFailed};
@@ -77,13 +76,11 @@ pub struct StyledBlockEntry {
 trait Listed: Copy {
     ghost text: { Block → List ℕ };
 
-    ghost facts: { Self → BlockFacts };
-
-    ghost entry: { ℕ → ℕ → Block → BlockFacts };
+    ghost IsEntry: { ℕ → ℕ → Block → Self → Type 0 };
 
     /// The entry of a block that is a whole text without ESC of this length.
     fn alone(len: usize) -> Self
-        ensures { (t : List ℕ) → length t ≡ len → facts result ≡ entry 0 len (whole_block t) };
+        ensures { (t : List ℕ) → length t ≡ len → IsEntry 0 len (whole_block t) result };
 
     /// Appends what is written of a block, and returns its entry.
     fn push<A: Allocator>(
@@ -92,8 +89,8 @@ trait Listed: Copy {
     ) -> Result<Self, AllocError>
         ensures bytes { OnOk result
             (string_bytes texts.new ≡ string_bytes texts.old ++ text block.now) }
-        ensures entry { IfOk result (λ e. facts e ≡ entry (length (string_bytes texts.old))
-            (length (string_bytes texts.new)) block.now) };
+        ensures entry { IfOk result (λ e. IsEntry (length (string_bytes texts.old))
+            (length (string_bytes texts.new)) block.now e) };
 
     ghost stays: { (t : List ℕ) → text (whole_block t) ≡ t };
 }
@@ -101,9 +98,7 @@ trait Listed: Copy {
 impl Listed for BlockEntry {
     ghost text = { λ b. b.text };
 
-    ghost facts = { facts_of_block };
-
-    ghost entry = { block_entry };
+    ghost IsEntry = { IsBlockEntry };
 
     ghost stays = { λ t. refl };
 
@@ -130,9 +125,7 @@ impl Listed for BlockEntry {
 impl Listed for StyledBlockEntry {
     ghost text = { styled_text };
 
-    ghost facts = { facts_of_styled_block };
-
-    ghost entry = { styled_block_entry };
+    ghost IsEntry = { IsStyledBlockEntry };
 
     ghost stays = { λ t. append-nil t };
 
@@ -394,7 +387,7 @@ fn write_blocks<T: Listed, A: Allocator + Copy>(
     entries: &mut [T],
 ) -> ListAnswer
     requires { FitsInMemory T.row }
-    ensures { ListsAs T.text T.facts T.entry text.now result buffer.old buffer.new entries.old
+    ensures { ListsAs T.text T.IsEntry text.now result buffer.old buffer.new entries.old
         entries.new }
 {
     let Ok(text) = from_utf8(text) else {
@@ -476,7 +469,7 @@ fn join_blocks<T: Listed, A: Allocator + Copy>(
     ensures texts { IfOk result (λ joined.
         string_bytes joined.0 ≡ flat_map T.text (blocks text.now)) }
     ensures entries { IfOk result (λ joined.
-        map T.facts joined.1.items ≡ entries_of T.text T.entry 0 (blocks text.now)) }
+        AreEntries T.text T.IsEntry 0 (blocks text.now) joined.1.items) }
 {
     let mut texts = String::with_capacity(alloc, text.len())?;
     let mut entries = Vec::new(alloc);

@@ -1,16 +1,20 @@
 //! Calls that return one text, made from the text that they take.
-ghost use Rattle.std.specs.Prelude.{◌∷◌, [], Some};
+ghost use Rattle.std.specs.Prelude.{◌≡◌, ◌∷◌, [], Some, option_map, IsTrue, IsOk, IfOk};
+ghost use Rattle.std.specs.Cow.{cow_str_bytes};
 ghost use Rattle.ansi_str.specs.Plain.{plain, has_escape};
+ghost use Rattle.ansi_str.specs.Edited.{edited, stay_borrowed};
 ghost use Rattle.ansi_str.specs.Edits.{change_of};
 ghost use Rattle.ansi_calls.specs.Answers.{no, Gives};
 ghost use Rattle.ansi_calls.specs.Calls.{Strips, Changes, Cuts, TakesLeft, TakesRight, Trims};
 ghost use Rattle.ansi_calls.specs.Calls.{StripsPrefix, StripsSuffix, TakesPart};
 
 use crate::answers::{Answer, NO, NOT_UTF8, OUT_OF_MEMORY, REFUSED, write, write_found};
+use ansi_str::Edit;
+use ansi_str::edits::edit_once;
 use ansi_str::slice::strip_in;
-use ansi_str::{Edit, edit};
 use simdutf8::basic::from_utf8;
-use std::alloc::Allocator;
+use std::alloc::{AllocError, Allocator};
+use std::borrow::CowStr;
 
 /// The plain text.
 pub fn strip<A: Allocator>(alloc: A, text: &[u8], buffer: &mut [u8]) -> Answer
@@ -128,7 +132,21 @@ fn write_edited<A: Allocator + Copy>(
     ensures { Changes (text.now ∷ []) absent (change_of change.entry) text.now result buffer.old buffer.new }
 {
     match from_utf8(text) {
-        Ok(text) => write_found(edit(alloc, text, &[change]), absent, buffer),
+        Ok(text) => write_found(edit_text(alloc, text, change), absent, buffer),
         Err(_) => Answer::failed(NOT_UTF8),
     }
+}
+
+/// The text after one edit, or `None` if that is refused.
+fn edit_text<'t, A: Allocator + Copy>(
+    alloc: A,
+    text: &'t str,
+    change: Edit<'_>,
+) -> Result<Option<CowStr<'t, A>>, AllocError>
+    ensures bytes { IfOk result (λ o.
+        option_map cow_str_bytes o ≡ edited (change_of change.entry ∷ []) text.now) }
+    ensures takes_no_memory { IsTrue (stay_borrowed (change_of change.entry ∷ []) text.now) →
+        IsOk result }
+{
+    edit_once(alloc, CowStr::Borrowed(text), change)
 }

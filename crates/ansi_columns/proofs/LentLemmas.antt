@@ -1,5 +1,5 @@
 -- The lines of a wrap by whether its text lends them.
-use Rattle.std.proofs.Common.{◌≡◌, ℕ, ◌+◌, ◌≤◌, ◌==◌, true, false, List, [], ◌∷◌, length, Option, Some, None, Result, Ok, IsTrue, IsFalse, ◌↔◌, refl, sym, ◌∙◌, ap, ap₂, subst}
+use Rattle.std.proofs.Common.{◌≡◌, ℕ, ◌+◌, ◌≤◌, ◌==◌, true, false, List, [], ◌∷◌, length, Option, Some, None, Result, Ok, IsTrue, IsFalse, ◌↔◌, refl, sym, ◌∙◌, ap, ap₂, subst, arith}
 use Rattle.std.specs.Cow.{cow_str_bytes, IsBorrowedStr}
 use Rattle.std.specs.List.{list_all}
 use Rattle.std.specs.Prelude.{IsSome, bytes_eq}
@@ -17,33 +17,33 @@ use Rattle.ansi_columns.specs.Lines.{lines_left}
 use Rattle.ansi_columns.specs.Walks.{clusters_from}
 use Rattle.ansi_columns.specs.declared.walks.Walk.{Walk}
 use Rattle.ansi_columns.specs.declared.wrap.spans.Spans.{Spans}
-use Rattle.ansi_columns.specs.Wrapped.{WrappedLine, lines_over, lent_lines, wrapped, marks_left, GivesLine}
+use Rattle.ansi_columns.specs.Wrapped.{CarriedPart, lines_over, lent_lines, wrapped, marks_left, GivesLine}
 use Rattle.ansi_columns.specs.WrapStates.{open_link, lines_of, span_lines, is_lent}
 use Rattle.ansi_columns.proofs.WrapLemmas.{lines_filled, bare-borrowed}
 
-pub lent-true : (ls : List WrappedLine) → lent_lines true ls ≡ ls
+pub lent-true : (ls : List CarriedPart) → lent_lines true ls ≡ ls
 lent-true [] = refl
 lent-true (l ∷ ls) = ap (λ ks. l ∷ ks) (lent-true ls)
 
-pub gives-lent : {A E : Type 0} (old new : List WrappedLine) (r : Option (Result (CowStr A) E)) → GivesLine old r new → GivesLine (lent_lines true old) r (lent_lines true new)
+pub gives-lent : {A E : Type 0} (old new : List CarriedPart) (r : Option (Result (CowStr A) E)) → GivesLine old r new → GivesLine (lent_lines true old) r (lent_lines true new)
 gives-lent old new r gives = subst (λ ls. GivesLine ls r (lent_lines true new)) (sym (lent-true old)) (subst (λ ls. GivesLine old r ls) (sym (lent-true new)) gives)
 
 -- a line that is written, if the text lends none
-pub gives-written : {A : Type 0} (E : Type 0) (old new : List WrappedLine) (l : WrappedLine) (c : CowStr A) → old ≡ l ∷ new → cow_str_bytes c ≡ l.bytes → (IsBorrowedStr c → ⊥) → length (cow_str_bytes c) ≤ l.source_len + longest_start_and_close + longest_link_end
+pub gives-written : {A : Type 0} (E : Type 0) (old new : List CarriedPart) (l : CarriedPart) (c : CowStr A) → old ≡ l ∷ new → cow_str_bytes c ≡ l.bytes → (IsBorrowedStr c → ⊥) → length (cow_str_bytes c) ≤ l.source_len + longest_start_and_close + longest_link_end
     → GivesLine {A = A} {E = E} (lent_lines false old) (Some (Ok c)) (lent_lines false new)
-gives-written E old new l c first bytes owned len = (record l { borrowed = false }, ap (lent_lines false) first, (bytes, (λ lent. absurd (owned lent), λ lent. absurd (cc lent)), len))
+gives-written E old new l c first bytes owned len = (record l { borrowed = false }, ap (lent_lines false) first, (bytes, (λ lent. absurd (owned lent), λ lent. absurd (cc lent)), omega (arith, len)))
 
 -- while a line is left, there is a first one
 
-filled-over : (style : Rendition) (link x : List ℕ) (ms : List Mark) (is : List (ℕ × ℕ)) → (length is == 0) ≡ false → (l : WrappedLine) × (ls : List WrappedLine) × (lines_over style link x ms is ≡ l ∷ ls)
+filled-over : (style : Rendition) (link x : List ℕ) (ms : List Mark) (is : List (ℕ × ℕ)) → (length is == 0) ≡ false → (l : CarriedPart) × (ls : List CarriedPart) × (lines_over style link x ms is ≡ l ∷ ls)
 unfolding lines_over
 filled-over style link x ms [] some = absurd (cc some)
 filled-over style link x ms (i ∷ is) some = (_, _, refl)
 
-pub first-left : (t : List ℕ) (s : Spans) → IsSome s.next → (l : WrappedLine) × (ls : List WrappedLine) × (span_lines t s ≡ l ∷ ls)
+pub first-left : (t : List ℕ) (s : Spans) → IsSome s.next → (l : CarriedPart) × (ls : List CarriedPart) × (span_lines t s ≡ l ∷ ls)
 first-left t s some = by s.next some
   where
-    by : (next : Option Walk) → IsSome next → (l : WrappedLine) × (ls : List WrappedLine) × (lines_over (rendition_of s.pen.style) (open_link t s.pen) (plain t) (marks_left t s.before s.taken) (lines_left t s.width next) ≡ l ∷ ls)
+    by : (next : Option Walk) → IsSome next → (l : CarriedPart) × (ls : List CarriedPart) × (lines_over (rendition_of s.pen.style) (open_link t s.pen) (plain t) (marks_left t s.before s.taken) (lines_left t s.width next) ≡ l ∷ ls)
     by None some = absurd (cc some)
     by (Some w) some = filled-over (rendition_of s.pen.style) (open_link t s.pen) (plain t) (marks_left t s.before s.taken) (lines_left t s.width (Some w)) (lines_filled s.width w.position w.position w.position 0 (clusters_from t w.position))
 
@@ -70,5 +70,5 @@ failed-lends (Borrowed s) e = refl
 failed-lends (Owned s) e = refl
 
 -- it lends all of them if it has no ESC
-pub wrapped-bare : (t : List ℕ) (width : ℕ) → paragraph t ≡ t → IsFalse (has_escape t) → IsTrue (list_all (λ (l : WrappedLine). l.borrowed) (wrapped t width))
-wrapped-bare t width same none = ap (list_all (λ (l : WrappedLine). l.borrowed)) (wrapped-itself t width same) ∙ bare-borrowed t width none
+pub wrapped-bare : (t : List ℕ) (width : ℕ) → paragraph t ≡ t → IsFalse (has_escape t) → IsTrue (list_all (λ (l : CarriedPart). l.borrowed) (wrapped t width))
+wrapped-bare t width same none = ap (list_all (λ (l : CarriedPart). l.borrowed)) (wrapped-itself t width same) ∙ bare-borrowed t width none

@@ -13,6 +13,7 @@ pub mod ColumnLemmas
 pub mod FromEndLemmas
 pub mod FitLemmas
 pub mod ShownLemmas
+pub mod KeptLemmas
 pub mod ClusterWalkLemmas
 pub mod PrintableLemmas
 pub mod AddressLemmas
@@ -31,6 +32,7 @@ pub mod FirstFitLawLemmas
 pub mod WrapLemmas
 pub mod PenLemmas
 pub mod LentLemmas
+pub mod IndentLemmas
 pub mod ShownLawLemmas
 pub mod WrapLawLemmas
 pub mod LinkedLawLemmas
@@ -49,3 +51,4 @@ pub mod SliceCellLemmas
 pub mod SidesLemmas
 pub mod FittedLawLemmas
 pub mod SidesLawLemmas
+pub mod IndentLawLemmas

@@ -1,6 +1,6 @@
 -- What follows a text that is displayed: what closes its link and its style, a tail, and blanks.
-use Rattle.std.proofs.Common.{◌≡◌, ℕ, zero, suc, ◌+◌, ◌-◌, ◌<◌, ◌≤◌, Bool, true, false, not, ◌&&◌, ◌==◌, List, [], ◌∷◌, ◌++◌, length, take, nat_le, if◌then◌else◌, refl, sym, ◌∙◌, ap, ap₂, subst, arith, append_assoc, append-nil, length-append}
-use Rattle.std.specs.Str.{IsUtf8, byte}
+use Rattle.std.proofs.Common.{◌≡◌, ℕ, zero, suc, ◌+◌, ◌-◌, ◌<◌, ◌≤◌, Bool, true, false, not, ◌&&◌, ◌==◌, List, [], ◌∷◌, ◌++◌, length, take, nat_le, if◌then◌else◌, refl, sym, ◌∙◌, ap, ap₂, arith, append_assoc, append-nil, length-append}
+use Rattle.std.specs.Str.{byte}
 use Rattle.std.proofs.lemmas.Bool.{eqb-true, le-leb, lt-leb, and_right}
 use Rattle.std.proofs.lemmas.List.{append_cancel_right, length-replicate, nil_from_length}
 use Rattle.ansi_items.specs.Pieces.{pieces_of}
@@ -12,17 +12,12 @@ use Rattle.ansi_slice.specs.Cut.{interleaved}
 use Rattle.ansi_search.specs.Offsets.{StandsIn}
 use Rattle.ansi_slice.proofs.CutLemmas.{marks_up_to-marks_past}
 use Rattle.ansi_slice.proofs.StretchLemmas.{cut-front}
-use Rattle.ansi_search.proofs.PositionLemmas.{no_character_goes_on-boundary}
-use Rattle.ansi_columns.specs.declared.walks.Walk.{Walk}
-use Rattle.ansi_columns.specs.Columns.{columns, clusters, FitsUpTo}
-use Rattle.ansi_columns.specs.Walks.{IsWalk}
+use Rattle.ansi_columns.specs.Columns.{columns}
 use Rattle.ansi_safe.specs.Links.{link_of, link_at, link_end, longest_link_end, pen_close}
 use Rattle.ansi_columns.specs.declared.shown.Alignment.{Alignment}
 use Rattle.ansi_columns.specs.declared.shown.Alignment.TheVariants.{Left, Right, Center}
-use Rattle.ansi_columns.specs.Shown.{fitting_end, has_tail, truncated_end, truncated_ending, truncated, missing, before_text, blanks, closing, padded}
-use Rattle.ansi_columns.proofs.FitLemmas.{fitting_end-fits}
+use Rattle.ansi_columns.specs.Shown.{has_tail, truncated_width, truncated_end, truncated_ending, truncated, missing, before_text, blanks, closing, padded}
 use Rattle.ansi_columns.proofs.PlaceLemmas.{marks-before}
-use Rattle.ansi_columns.proofs.WalkLemmas.{walk_boundary}
 use Rattle.ansi_safe.proofs.EndingLemmas.{append-both_nil, length-closing}
 
 -- Nothing is written.
@@ -52,7 +47,7 @@ pen_at_end t {link} {style} style_is link_is =
     let all : marks t ≡ marks_up_to (length (plain t)) (marks t) = sym (marks_up_to-marks_past (length (plain t)) (pieces_of t) (omega arith)) in
     ap₂ (λ l s. link_end l ++ close s) (link_is ∙ ap link_of all) (style_is ∙ ap style_of all)
 
--- The offset at which a text is cut, and its tail.
+-- The columns that are left for the text, and the tail that is written.
 
 tail-fits : (t tail : List ℕ) (width : ℕ) → nat_le (columns (plain t)) width ≡ true → has_tail t width tail ≡ false
 tail-fits t tail width fits = ap (λ b. not b && nat_le (columns (plain tail)) width) fits
@@ -63,33 +58,23 @@ tail-wide t tail width wide = and_right (not (nat_le (columns (plain t)) width))
 tail-there : (t tail : List ℕ) (width : ℕ) → nat_le (columns (plain t)) width ≡ false → columns (plain tail) ≤ width → has_tail t width tail ≡ true
 tail-there t tail width more fits = ap₂ (λ a b. not a && b) more (le-leb (columns (plain tail)) width fits)
 
-StandsIn-fitting_end : (t : List ℕ) (utf8 : IsUtf8 t) (w : Walk) (room end : ℕ) → IsWalk t w → FitsUpTo (plain t) room w.position → end ≡ fitting_end room (clusters (plain t)) → StandsIn t end w.offset
-StandsIn-fitting_end t utf8 w room end walk fits is =
-    let place : w.position ≡ end = fitting_end-fits fits ∙ sym is in
-    subst (λ e. StandsIn t e w.offset) place (record { good = no_character_goes_on-boundary (plain t) w.position (walk_boundary t utf8 w walk); offset = walk.offset; boundary = walk.run.start_boundary })
+-- if the tail is written or not, as has_tail says
+abbrev IsLeft : List ℕ → List ℕ → ℕ → ℕ → List ℕ → Type 0
+IsLeft t tail width left after = (truncated_width t width tail ≡ left) × (after ≡ (if has_tail t width tail then tail else []))
 
-no_tail-end : (t tail : List ℕ) (width : ℕ) → has_tail t width tail ≡ false → truncated_end t width tail ≡ fitting_end width (clusters (plain t))
-no_tail-end t tail width none = ap (λ b. fitting_end (if b then width - columns (plain tail) else width) (clusters (plain t))) none
+left-none : (t tail : List ℕ) (width : ℕ) → has_tail t width tail ≡ false → IsLeft t tail width width []
+left-none t tail width none = (ap (λ b. if b then width - columns (plain tail) else width) none, sym (ap (λ b. if b then tail else []) none))
 
-pub StandsIn-all : (t tail : List ℕ) (utf8 : IsUtf8 t) (w : Walk) (width : ℕ) → IsWalk t w → FitsUpTo (plain t) width w.position → nat_le (columns (plain t)) width ≡ true
-    → StandsIn t (truncated_end t width tail) w.offset × ([] ≡ (if has_tail t width tail then tail else []))
-StandsIn-all t tail utf8 w width walk fits all =
-    let none = tail-fits t tail width all in
-    (StandsIn-fitting_end t utf8 w width (truncated_end t width tail) walk fits (no_tail-end t tail width none), sym (ap (λ b. if b then tail else []) none))
+pub width-fits : (t tail : List ℕ) (width : ℕ) → nat_le (columns (plain t)) width ≡ true → IsLeft t tail width width []
+width-fits t tail width fits = left-none t tail width (tail-fits t tail width fits)
 
-pub StandsIn-wide : (t tail : List ℕ) (utf8 : IsUtf8 t) (w : Walk) (width : ℕ) → IsWalk t w → FitsUpTo (plain t) width w.position → width < columns (plain tail)
-    → StandsIn t (truncated_end t width tail) w.offset × ([] ≡ (if has_tail t width tail then tail else []))
-StandsIn-wide t tail utf8 w width walk fits wide =
-    let none = tail-wide t tail width wide in
-    (StandsIn-fitting_end t utf8 w width (truncated_end t width tail) walk fits (no_tail-end t tail width none), sym (ap (λ b. if b then tail else []) none))
+pub width-wide : (t tail : List ℕ) (width : ℕ) → width < columns (plain tail) → IsLeft t tail width width []
+width-wide t tail width wide = left-none t tail width (tail-wide t tail width wide)
 
-pub StandsIn-tail : (t tail : List ℕ) (utf8 : IsUtf8 t) (w : Walk) (width room : ℕ) → IsWalk t w → FitsUpTo (plain t) room w.position → nat_le (columns (plain t)) width ≡ false → columns (plain tail) ≤ width
-    → room ≡ width - columns (plain tail) → StandsIn t (truncated_end t width tail) w.offset × (tail ≡ (if has_tail t width tail then tail else []))
-StandsIn-tail t tail utf8 w width room walk fits more within room_is =
+pub width-tail : (t tail : List ℕ) (width : ℕ) → nat_le (columns (plain t)) width ≡ false → columns (plain tail) ≤ width → IsLeft t tail width (width - columns (plain tail)) tail
+width-tail t tail width more within =
     let there = tail-there t tail width more within in
-    let end : truncated_end t width tail ≡ fitting_end room (clusters (plain t))
-    = ap (λ b. fitting_end (if b then width - columns (plain tail) else width) (clusters (plain t))) there ∙ ap (λ n. fitting_end n (clusters (plain t))) (sym room_is) in
-    (StandsIn-fitting_end t utf8 w room (truncated_end t width tail) walk fits end, sym (ap (λ b. if b then tail else []) there))
+    (ap (λ b. if b then width - columns (plain tail) else width) there, sym (ap (λ b. if b then tail else []) there))
 
 pub length-either : (b : Bool) (x : List ℕ) → length (if b then x else []) ≤ length x
 length-either true x = omega arith

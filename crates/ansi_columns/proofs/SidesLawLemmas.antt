@@ -1,18 +1,14 @@
 -- The width of a text truncated at a side: it has at most the columns that are asked for.
-use Rattle.std.proofs.Common.{◌≡◌, ℕ, ◌+◌, ◌-◌, ◌≤◌, max, inl, inr, Bool, true, false, ◌&&◌, List, [], ◌∷◌, ◌++◌, length, map, drop, slice_range, nat_le, nat_lt, if◌then◌else◌, IsTrue, refl, sym, ◌∙◌, ap, arith, length-append}
+use Rattle.std.proofs.Common.{◌≡◌, ℕ, ◌+◌, ◌-◌, ◌≤◌, max, inl, inr, Bool, true, false, ◌&&◌, List, [], ◌∷◌, ◌++◌, length, drop, slice_range, nat_le, nat_lt, if◌then◌else◌, IsTrue, refl, sym, ◌∙◌, ap, arith, length-append}
 use Rattle.std.specs.List.{list_all}
 use Rattle.std.specs.Str.{IsUtf8}
 use Rattle.std.proofs.lemmas.Bool.{cases_Bool, cases_lt, and_from, leb-true}
-use Rattle.std.proofs.lemmas.Grind.{flat_map-append}
 use Rattle.std.proofs.lemmas.List.Folds.{list_all-append}
-use Rattle.ansi_items.specs.Pieces.{Piece, merged, pieces_of}
-use Rattle.ansi_items.specs.Plain.{plain, plain_bytes, plain_of, is_whole}
-use Rattle.ansi_items.proofs.JoinLemmas.{pieces_of-append, is_whole-append}
+use Rattle.ansi_items.specs.Plain.{plain, is_whole}
+use Rattle.ansi_items.proofs.JoinLemmas.{is_whole-append}
 use Rattle.ansi_search.proofs.SliceLemmas.{list_all-parts}
 use Rattle.ansi_style.specs.Styled.{styled}
-use Rattle.ansi_style.proofs.ThroughLemmas.{seen_through-merged, bytes-seen_through}
-use Rattle.ansi_safe.specs.Links.{link_after}
-use Rattle.ansi_columns.specs.Addresses.{LinkedByte, linked}
+use Rattle.ansi_columns.specs.Addresses.{linked}
 use Rattle.ansi_columns.specs.declared.sides.Side.{Side}
 use Rattle.ansi_columns.specs.declared.sides.Side.TheVariants.{End, Start, Middle}
 use Rattle.ansi_columns.specs.Columns.{clusters, columns}
@@ -21,7 +17,7 @@ use Rattle.ansi_columns.specs.Shown.{truncated, blanks}
 use Rattle.ansi_columns.specs.Sides.{fitting_tail, beside_tail, before_tail, is_cut_at_end, cut_before_end, truncated_at}
 use Rattle.ansi_columns.specs.Slices.{has_no_column, bytes_from, bytes_up_to, blanks_before, blanks_after, sliced_up_to}
 use Rattle.ansi_columns.proofs.AsciiLemmas.{is_printable, columns-printable}
-use Rattle.ansi_columns.proofs.LinkedLawLemmas.{linked_byte}
+use Rattle.ansi_columns.proofs.KeptLemmas.{plain-append}
 use Rattle.ansi_columns.proofs.ScreenLemmas.{length-screen_of, shown_in-early, shown_in-late}
 use Rattle.ansi_columns.proofs.ShownLawLemmas.{blanks_are_printable, truncated-columns}
 use Rattle.ansi_columns.proofs.SliceLawLemmas.{sliced-whole}
@@ -84,18 +80,6 @@ module _ (t : List ℕ) (a b : ℕ) (utf8 : IsUtf8 t) (whole : IsTrue (is_whole 
 
     sliced-length : length (plain (sliced_up_to t a b)) ≤ b - a
     sliced-length = omega (arith, sliced-columns, columns-printable (plain (sliced_up_to t a b)) sliced-printable)
-
--- ---- the plain text of two whole texts in a row
-
-plain_of-merged : (ps : List Piece) → plain_of (merged ps) ≡ plain_of ps
-plain_of-merged ps =
-    let byte_of : LinkedByte → ℕ = λ l. l.byte in
-    sym (bytes-seen_through link_after linked_byte byte_of (λ link b. refl) [] (merged ps))
-    ∙ ap (map byte_of) (seen_through-merged link_after linked_byte [] ps)
-    ∙ bytes-seen_through link_after linked_byte byte_of (λ link b. refl) [] ps
-
-plain-append : (u v : List ℕ) → IsTrue (is_whole u) → IsTrue (is_whole v) → plain (u ++ v) ≡ plain u ++ plain v
-plain-append u v left right = ap plain_of (pieces_of-append u v left right) ∙ plain_of-merged (pieces_of u ++ pieces_of v) ∙ flat_map-append plain_bytes (pieces_of u) (pieces_of v)
 
 -- ---- the two slices and the tail between them
 

@@ -23,7 +23,7 @@ use Rattle.ansi_columns.specs.Shown.{has_tail, truncated_end, truncated, missing
 use Rattle.ansi_columns.proofs.LinkedLawLemmas.{blanks_are_plain}
 
 -- Only what is known of the style before pieces counts.
-style_through-alike : (s t : Rendition) (ps : List Piece) → known s ≡ known t → known (style_through s ps) ≡ known (style_through t ps)
+pub style_through-alike : (s t : Rendition) (ps : List Piece) → known s ≡ known t → known (style_through s ps) ≡ known (style_through t ps)
 style_through-alike s t [] same = same
 style_through-alike s t (Text w ∷ ps) same = style_through-alike s t ps same
 style_through-alike s t (p ∷ ps) same = style_through-alike (apply s (spelling p)) (apply t (spelling p)) ps (apply-alike s t (spelling p) same)

@@ -38,7 +38,7 @@ use Rattle.ansi_safe.specs.Cells.{paragraph}
 use Rattle.ansi_safe.specs.Safe.{is_safe}
 use Rattle.ansi_safe.proofs.MadeLemmas.{whole-safe}
 use Rattle.ansi_safe.specs.Links.{is_link, opens_link, link_of, link_after, link_after_all, link_end}
-use Rattle.ansi_columns.specs.Wrapped.{WrappedLine, pen_end, line_over, lines_over, lent_lines, wrapped}
+use Rattle.ansi_columns.specs.Wrapped.{CarriedPart, pen_end, line_over, lines_over, lent_lines, wrapped}
 use Rattle.ansi_columns.specs.WrapStates.{lines_of}
 use Rattle.ansi_columns.proofs.LineLemmas.{line-any, line-last}
 use Rattle.ansi_safe.proofs.LinkLemmas.{is_link-sgr, link_of-pieces, link_through}
@@ -288,7 +288,7 @@ lines_in_turn width e start end here columns (c ∷ cs) after ordered read =
     (lines_in_turn width e here next next (cluster_width c) cs (omega (arith, after, ordered, read)) (omega arith) (omega arith))
     (after, ordered, lines_in_turn width end here next next (cluster_width c) cs read (omega arith) (omega arith))
 
-abbrev AreEnded : List ℕ → List (ℕ × ℕ) → List WrappedLine → Type 0
+abbrev AreEnded : List ℕ → List (ℕ × ℕ) → List CarriedPart → Type 0
 AreEnded t [] [] = Unit
 AreEnded t [] (l ∷ ls) = ⊥
 AreEnded t (i ∷ is) [] = ⊥
@@ -363,7 +363,7 @@ AreEnded-lines t width whole =
     (omega arith) (lines_in_turn (max width 1) 0 0 0 0 0 (clusters (plain t)) (omega arith) (omega arith) (omega arith))
 
 -- whether they are lent or not
-AreEnded-lent : (t : List ℕ) (lent : Bool) (is : List (ℕ × ℕ)) (ls : List WrappedLine) → AreEnded t is ls → AreEnded t is (lent_lines lent ls)
+AreEnded-lent : (t : List ℕ) (lent : Bool) (is : List (ℕ × ℕ)) (ls : List CarriedPart) → AreEnded t is ls → AreEnded t is (lent_lines lent ls)
 AreEnded-lent t lent [] [] ended = tt
 AreEnded-lent t lent [] (l ∷ ls) ended = absurd ended
 AreEnded-lent t lent (i ∷ is) [] ended = absurd ended
@@ -380,33 +380,33 @@ AreEnded-wrapped t width safe =
 abbrev Ended : List ℕ → ℕ × ℕ → List ℕ → Type 0
 Ended t i u = IsEnded (slice_range (styled t) i.0 i.1) (slice_range (linked t) i.0 i.1) u
 
-AllByRecursion-lines : (t : List ℕ) (P : List ℕ → Type 0) → ((i : ℕ × ℕ) (u : List ℕ) → Ended t i u → P u) → (is : List (ℕ × ℕ)) (ls : List WrappedLine) → AreEnded t is ls → AllByRecursion (λ (l : WrappedLine). P l.bytes) ls
+AllByRecursion-lines : (t : List ℕ) (P : List ℕ → Type 0) → ((i : ℕ × ℕ) (u : List ℕ) → Ended t i u → P u) → (is : List (ℕ × ℕ)) (ls : List CarriedPart) → AreEnded t is ls → AllByRecursion (λ (l : CarriedPart). P l.bytes) ls
 AllByRecursion-lines t P so [] [] ended = tt
 AllByRecursion-lines t P so [] (l ∷ ls) ended = absurd ended
 AllByRecursion-lines t P so (i ∷ is) [] ended = absurd ended
 AllByRecursion-lines t P so (i ∷ is) (l ∷ ls) ended = (so i l.bytes ended.0, AllByRecursion-lines t P so is ls ended.1)
 
-All-wrapped : (t : List ℕ) (width : ℕ) (P : List ℕ → Type 0) → IsTrue (is_safe Keep (paragraph t)) → ((i : ℕ × ℕ) (u : List ℕ) → Ended (paragraph t) i u → P u) → All (λ (l : WrappedLine). P l.bytes) (wrapped t width)
+All-wrapped : (t : List ℕ) (width : ℕ) (P : List ℕ → Type 0) → IsTrue (is_safe Keep (paragraph t)) → ((i : ℕ × ℕ) (u : List ℕ) → Ended (paragraph t) i u → P u) → All (λ (l : CarriedPart). P l.bytes) (wrapped t width)
 All-wrapped t width P safe so = All-from_recursion _ (wrapped t width) (AllByRecursion-lines (paragraph t) P so (lines width (plain (paragraph t))) (wrapped t width) (AreEnded-wrapped t width safe))
 
-lines_are_slices : {X : Type 0} (t : List ℕ) (f : List ℕ → List X) (xs : List X) → ((i : ℕ × ℕ) (u : List ℕ) → Ended t i u → f u ≡ slice_range xs i.0 i.1) → (is : List (ℕ × ℕ)) (ls : List WrappedLine)
-    → AreEnded t is ls → map (λ (l : WrappedLine). f l.bytes) ls ≡ map (λ (i : ℕ × ℕ). slice_range xs i.0 i.1) is
+lines_are_slices : {X : Type 0} (t : List ℕ) (f : List ℕ → List X) (xs : List X) → ((i : ℕ × ℕ) (u : List ℕ) → Ended t i u → f u ≡ slice_range xs i.0 i.1) → (is : List (ℕ × ℕ)) (ls : List CarriedPart)
+    → AreEnded t is ls → map (λ (l : CarriedPart). f l.bytes) ls ≡ map (λ (i : ℕ × ℕ). slice_range xs i.0 i.1) is
 lines_are_slices t f xs so [] [] ended = refl
 lines_are_slices t f xs so [] (l ∷ ls) ended = absurd ended
 lines_are_slices t f xs so (i ∷ is) [] ended = absurd ended
 lines_are_slices t f xs so (i ∷ is) (l ∷ ls) ended = ap₂ (λ v vs. v ∷ vs) (so i l.bytes ended.0) (lines_are_slices t f xs so is ls ended.1)
 
-pub wrapped_are_whole : (t : List ℕ) (width : ℕ) → IsTrue (is_safe Keep (paragraph t)) → All (λ (l : WrappedLine). IsTrue (is_whole l.bytes)) (wrapped t width)
+pub wrapped_are_whole : (t : List ℕ) (width : ℕ) → IsTrue (is_safe Keep (paragraph t)) → All (λ (l : CarriedPart). IsTrue (is_whole l.bytes)) (wrapped t width)
 wrapped_are_whole t width safe = All-wrapped t width (λ u. IsTrue (is_whole u)) safe (λ i u ended. ended.closed.whole)
 
-pub wrapped_are_closed : (t : List ℕ) (width : ℕ) → IsTrue (is_safe Keep (paragraph t)) → All (λ (l : WrappedLine). residue l.bytes ≡ plain_style) (wrapped t width)
+pub wrapped_are_closed : (t : List ℕ) (width : ℕ) → IsTrue (is_safe Keep (paragraph t)) → All (λ (l : CarriedPart). residue l.bytes ≡ plain_style) (wrapped t width)
 wrapped_are_closed t width safe = All-wrapped t width (λ u. residue u ≡ plain_style) safe (λ i u ended. ended.closed.closed)
 
-pub wrapped_end_links : (t : List ℕ) (width : ℕ) → IsTrue (is_safe Keep (paragraph t)) → All (λ (l : WrappedLine). link_of (marks l.bytes) ≡ []) (wrapped t width)
+pub wrapped_end_links : (t : List ℕ) (width : ℕ) → IsTrue (is_safe Keep (paragraph t)) → All (λ (l : CarriedPart). link_of (marks l.bytes) ≡ []) (wrapped t width)
 wrapped_end_links t width safe = All-wrapped t width (λ u. link_of (marks u) ≡ []) safe (λ i u ended. link_of-pieces (pieces_of u) ∙ ended.linked.after)
 
-pub wrapped-styled : (t : List ℕ) (width : ℕ) → IsTrue (is_safe Keep (paragraph t)) → map (λ (l : WrappedLine). styled l.bytes) (wrapped t width) ≡ map (λ (i : ℕ × ℕ). slice_range (styled (paragraph t)) i.0 i.1) (lines width (plain (paragraph t)))
+pub wrapped-styled : (t : List ℕ) (width : ℕ) → IsTrue (is_safe Keep (paragraph t)) → map (λ (l : CarriedPart). styled l.bytes) (wrapped t width) ≡ map (λ (i : ℕ × ℕ). slice_range (styled (paragraph t)) i.0 i.1) (lines width (plain (paragraph t)))
 wrapped-styled t width safe = lines_are_slices (paragraph t) styled (styled (paragraph t)) (λ i u ended. ended.closed.styled_bytes) (lines width (plain (paragraph t))) (wrapped t width) (AreEnded-wrapped t width safe)
 
-pub wrapped-linked : (t : List ℕ) (width : ℕ) → IsTrue (is_safe Keep (paragraph t)) → map (λ (l : WrappedLine). linked l.bytes) (wrapped t width) ≡ map (λ (i : ℕ × ℕ). slice_range (linked (paragraph t)) i.0 i.1) (lines width (plain (paragraph t)))
+pub wrapped-linked : (t : List ℕ) (width : ℕ) → IsTrue (is_safe Keep (paragraph t)) → map (λ (l : CarriedPart). linked l.bytes) (wrapped t width) ≡ map (λ (i : ℕ × ℕ). slice_range (linked (paragraph t)) i.0 i.1) (lines width (plain (paragraph t)))
 wrapped-linked t width safe = lines_are_slices (paragraph t) linked (linked (paragraph t)) (λ i u ended. linked-pieces u ∙ ended.linked.bytes) (lines width (plain (paragraph t))) (wrapped t width) (AreEnded-wrapped t width safe)

@@ -38,7 +38,7 @@ use Rattle.ansi_columns.specs.Columns.{cluster_width, clusters}
 use Rattle.ansi_columns.specs.Lines.{lines, lines_from, lines_left}
 use Rattle.ansi_safe.specs.Links.{link_after, link_after_all, link_end, longest_link_end}
 use Rattle.ansi_columns.specs.Walks.{clusters_from}
-use Rattle.ansi_columns.specs.Wrapped.{WrappedLine, pen_end, line_over, lines_over, marks_left, IsTaken, IsLineSpan}
+use Rattle.ansi_columns.specs.Wrapped.{CarriedPart, pen_end, line_over, lines_over, marks_left, IsTaken, IsLineSpan}
 use Rattle.ansi_columns.proofs.ColumnLemmas.{clusters_from-start}
 use Rattle.ansi_columns.proofs.LineLemmas.{line-any, line-last}
 use Rattle.ansi_columns.proofs.PlaceLemmas.{offset_of-add}
@@ -47,7 +47,7 @@ use Rattle.ansi_split.proofs.SpanLemmas.{interleaved-after}
 
 -- A line by what it is made of.
 
-abbrev line_made_of : Bool → ℕ → Rendition → List ℕ → List ℕ → List ℕ → Rendition → WrappedLine
+abbrev line_made_of : Bool → ℕ → Rendition → List ℕ → List ℕ → List ℕ → Rendition → CarriedPart
 line_made_of same n style link shown last_link last = record {
   bytes = if same && n == 0 then [] else start style ++ link ++ shown ++ pen_end last_link last;
   borrowed = n == 0 && (same || length (pen_end link style) == 0);
@@ -400,13 +400,13 @@ length-line_over style link x own i is =
       length-closing last after,
     ))
 
-pub length-line : {l : WrappedLine} (style : Rendition) (link x : List ℕ) (own : List Mark) (i : ℕ × ℕ) → IsStyle style → line_over style link x own i ≡ l
+pub length-line : {l : CarriedPart} (style : Rendition) (link x : List ℕ) (own : List Mark) (i : ℕ × ℕ) → IsStyle style → line_over style link x own i ≡ l
     → length l.bytes ≤ l.source_len + longest_start_and_close + longest_link_end
-length-line style link x own i style_is is = subst (λ (l : WrappedLine). length l.bytes ≤ l.source_len + longest_start_and_close + longest_link_end) is (length-line_over style link x own i style_is)
+length-line style link x own i style_is is = subst (λ (l : CarriedPart). length l.bytes ≤ l.source_len + longest_start_and_close + longest_link_end) is (length-line_over style link x own i style_is)
 
 -- A text without ESC has lines that are borrows alone.
 
-lines-bare : (x : List ℕ) (is : List (ℕ × ℕ)) → list_all (λ (l : WrappedLine). l.borrowed) (lines_over plain_style [] x [] is) ≡ true
+lines-bare : (x : List ℕ) (is : List (ℕ × ℕ)) → list_all (λ (l : CarriedPart). l.borrowed) (lines_over plain_style [] x [] is) ≡ true
 unfolding lines_over line_over
 lines-bare x [] = refl
 lines-bare x (i ∷ is) =
@@ -416,9 +416,9 @@ lines-bare x (i ∷ is) =
     by_last true = refl
     by_last false = refl
 
-    by_next : list_all (λ (l : WrappedLine). l.borrowed) (lines_over plain_style [] x [] is) ≡ true → (last : Bool) → list_all (λ (l : WrappedLine). l.borrowed) (lines_over (after_marks plain_style (if last then [] else marks_up_to i.1 [])) (link_after_all [] (if last then [] else marks_up_to i.1 [])) x (marks_past (Some i.1) []) is) ≡ true
+    by_next : list_all (λ (l : CarriedPart). l.borrowed) (lines_over plain_style [] x [] is) ≡ true → (last : Bool) → list_all (λ (l : CarriedPart). l.borrowed) (lines_over (after_marks plain_style (if last then [] else marks_up_to i.1 [])) (link_after_all [] (if last then [] else marks_up_to i.1 [])) x (marks_past (Some i.1) []) is) ≡ true
     by_next later true = later
     by_next later false = later
 
-pub bare-borrowed : (t : List ℕ) (width : ℕ) → IsFalse (has_escape t) → IsTrue (list_all (λ (l : WrappedLine). l.borrowed) (lines_over plain_style [] (plain t) (marks t) (lines width (plain t))))
-bare-borrowed t width none = ap (λ ms. list_all (λ (l : WrappedLine). l.borrowed) (lines_over plain_style [] (plain t) ms (lines width (plain t)))) (marks-bare t none) ∙ lines-bare (plain t) (lines width (plain t))
+pub bare-borrowed : (t : List ℕ) (width : ℕ) → IsFalse (has_escape t) → IsTrue (list_all (λ (l : CarriedPart). l.borrowed) (lines_over plain_style [] (plain t) (marks t) (lines width (plain t))))
+bare-borrowed t width none = ap (λ ms. list_all (λ (l : CarriedPart). l.borrowed) (lines_over plain_style [] (plain t) ms (lines width (plain t)))) (marks-bare t none) ∙ lines-bare (plain t) (lines width (plain t))

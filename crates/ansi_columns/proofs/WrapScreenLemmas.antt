@@ -17,7 +17,7 @@ use Rattle.ansi_columns.specs.Addresses.{LinkedByte, linked}
 use Rattle.ansi_columns.specs.Columns.{clusters, cluster_width, columns, columns_of, bytes_of}
 use Rattle.ansi_columns.specs.Lines.{lines, IsLine}
 use Rattle.ansi_columns.specs.Screens.{Column, screen_of, screen}
-use Rattle.ansi_columns.specs.Wrapped.{WrappedLine, wrapped}
+use Rattle.ansi_columns.specs.Wrapped.{CarriedPart, wrapped}
 use Rattle.ansi_columns.proofs.ClusterLawLemmas.{columns-front}
 use Rattle.ansi_columns.proofs.ColumnLemmas.{bytes_of-append}
 use Rattle.ansi_columns.proofs.LineLawLemmas.{lines_are}
@@ -105,16 +105,16 @@ lines-screens p width utf8 [] all = refl
 lines-screens p width utf8 (i ∷ is) all = ap₂ (λ c cs. c ∷ cs) (line-screen p width i utf8 all.0) (lines-screens p width utf8 is all.1)
 
 pub wrapped-screens : (t : List ℕ) (width : ℕ) → IsUtf8 t → IsTrue (is_safe Keep (paragraph t))
-    → map (λ (l : WrappedLine). screen l.bytes) (wrapped t width) ≡ map (columns_over (paragraph t)) (lines width (plain (paragraph t)))
+    → map (λ (l : CarriedPart). screen l.bytes) (wrapped t width) ≡ map (columns_over (paragraph t)) (lines width (plain (paragraph t)))
 wrapped-screens t width text_utf8 safe =
     let p = paragraph t in
     let utf8 = IsUtf8-paragraph t text_utf8 in
     let is = lines width (plain p) in
     each (wrapped t width)
-    ∙ zipped screen_by (λ (l : WrappedLine). styled l.bytes) (λ (l : WrappedLine). linked l.bytes) (λ (i : ℕ × ℕ). slice_range (styled p) i.0 i.1) (λ (i : ℕ × ℕ). slice_range (linked p) i.0 i.1)
+    ∙ zipped screen_by (λ (l : CarriedPart). styled l.bytes) (λ (l : CarriedPart). linked l.bytes) (λ (i : ℕ × ℕ). slice_range (styled p) i.0 i.1) (λ (i : ℕ × ℕ). slice_range (linked p) i.0 i.1)
     (wrapped t width) is (wrapped-styled t width safe) (wrapped-linked t width safe)
     ∙ lines-screens p width utf8 is (recursion_from_All (IsLine (plain p) width) is (lines_are (plain p) width))
   where
-    each : (ls : List WrappedLine) → map (λ (l : WrappedLine). screen l.bytes) ls ≡ map (λ (l : WrappedLine). screen_by (styled l.bytes) (linked l.bytes)) ls
+    each : (ls : List CarriedPart) → map (λ (l : CarriedPart). screen l.bytes) ls ≡ map (λ (l : CarriedPart). screen_by (styled l.bytes) (linked l.bytes)) ls
     each [] = refl
     each (l ∷ ls) = ap₂ (λ c cs. c ∷ cs) (screen-by l.bytes) (each ls)

@@ -1,8 +1,9 @@
 -- The display width of a text: the clusters of its plain text, and the width of each cluster.
-use Rattle.std.specs.Prelude.{◌≡◌, ℕ, ◌+◌, ◌<◌, ◌≤◌, true, false, List, [], length, take, flat_map, encode_utf8_all, chars}
+use Rattle.std.specs.Prelude.{◌≡◌, ℕ, ◌+◌, ◌<◌, ◌≤◌, true, false, List, [], length, take, flat_map, encode_utf8_all, chars, Option, None, Some, if◌then◌else◌}
 use Rattle.std.specs.List.{sum_by}
 use Rattle.std.specs.Str.{IsCharBoundary}
 use Rattle.ansi_items.specs.Plain.{plain}
+use Rattle.ansi_search.specs.Positions.{is_good_position}
 use Rattle.ansi_safe.specs.Cells.{cell, cell_char}
 use Rattle.unicode_segmentation.specs.Grapheme.{is_grapheme_break}
 use Rattle.unicode_segmentation.specs.Segments.{cut}
@@ -38,6 +39,10 @@ pub record FitsUpTo (x : List ℕ) (width end : ℕ) : Type 0 where
 -- what a terminal shows of the characters of the plain text x: of each what it is in a cell (own)
 abbrev pub shown : List ℕ → List ℕ
 shown x = encode_utf8_all (flat_map cell_char (chars x))
+
+-- the column of a position of the plain text of t, which counts the columns of what is shown before it, if the position is good (own)
+abbrev pub column_of : List ℕ → ℕ → Option ℕ
+column_of t position = if is_good_position (plain t) position then Some (columns (shown (take position (plain t)))) else None
 
 -- What is shown of the plain text of t before its byte `end` is the clusters that fit. Before a later character boundary more is shown.
 pub record ShowsUpTo (t : List ℕ) (width end : ℕ) : Type 0 where

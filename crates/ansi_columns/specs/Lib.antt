@@ -11,6 +11,7 @@ pub mod Sides
 pub mod Slices
 pub mod Screens
 pub mod Wrapped
+pub mod Indents
 pub mod WrapStates
 pub mod Addresses
 pub mod Tabs

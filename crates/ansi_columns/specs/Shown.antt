@@ -1,5 +1,5 @@
 -- Truncated and padded texts, ready for display: the style and link still open at their end are closed.
-use Rattle.std.specs.Prelude.{ℕ, ◌+◌, ◌-◌, ◌/◌, Bool, not, ◌&&◌, List, [], ◌∷◌, ◌++◌, length, replicate, map, encode_utf8_all, nat_le, if◌then◌else◌}
+use Rattle.std.specs.Prelude.{◌≡◌, ℕ, ◌+◌, ◌-◌, ◌/◌, Bool, not, ◌&&◌, List, [], ◌∷◌, ◌++◌, length, replicate, map, chars, encode_utf8, encode_utf8_all, nat_le, if◌then◌else◌}
 use Rattle.std.specs.Str.{byte}
 use Rattle.ansi_items.specs.Plain.{plain, marks, marks_up_to}
 use Rattle.ansi_style.specs.Rendition.{plain_style}
@@ -8,6 +8,7 @@ use Rattle.ansi_slice.specs.Cut.{interleaved}
 use Rattle.ansi_columns.specs.declared.shown.Alignment.{Alignment}
 use Rattle.ansi_columns.specs.declared.shown.Alignment.TheVariants.{Left, Right, Center}
 use Rattle.ansi_columns.specs.Columns.{clusters, cluster_width, columns}
+use Rattle.ansi_safe.specs.Cells.{cell, cell_char}
 use Rattle.ansi_safe.specs.Links.{pen_close}
 
 -- the byte up to which these clusters fit into `width` columns; `FitsUpTo` says the same (own)
@@ -19,9 +20,13 @@ fitting_end width (k ∷ ks) = if nat_le (cluster_width k) width then length (en
 abbrev pub has_tail : List ℕ → ℕ → List ℕ → Bool
 has_tail t width tail = not (nat_le (columns (plain t)) width) && nat_le (columns (plain tail)) width
 
--- the place at which the text is cut: the end of what fits, beside the tail if that is written
+-- the columns that are left for the text: those beside the tail if that is written
+abbrev pub truncated_width : List ℕ → ℕ → List ℕ → ℕ
+truncated_width t width tail = if has_tail t width tail then width - columns (plain tail) else width
+
+-- the place at which the text is cut: the end of what fits
 abbrev pub truncated_end : List ℕ → ℕ → List ℕ → ℕ
-truncated_end t width tail = fitting_end (if has_tail t width tail then width - columns (plain tail) else width) (clusters (plain t))
+truncated_end t width tail = fitting_end (truncated_width t width tail) (clusters (plain t))
 
 -- what is written after the cut: what closes the pen there, and the tail unchanged
 abbrev pub truncated_ending : List ℕ → ℕ → List ℕ → List ℕ
@@ -32,6 +37,23 @@ unfoldable pub truncated : List ℕ → ℕ → List ℕ → List ℕ
 truncated t width tail =
     let end = truncated_end t width tail in
     interleaved (plain t) 0 end (marks_up_to end (marks t)) ++ truncated_ending t width tail
+
+-- the byte up to which at most n bytes of these characters are shown: the next one that is shown begins there (own)
+abbrev pub shown_end : ℕ → List ℕ → ℕ
+shown_end n [] = 0
+shown_end n (c ∷ cs) =
+    let k = length (encode_utf8_all (cell_char c)) in
+    if nat_le k n then length (encode_utf8 c) + shown_end (n - k) cs else 0
+
+-- what is kept of the text t if its cell is truncated: its plain bytes and marks up to the next character that is shown, as a cut has them (own)
+abbrev pub kept : List ℕ → ℕ → List ℕ → List ℕ
+kept t width tail =
+    let end = shown_end (truncated_end (cell t) width tail) (chars (plain t)) in
+    interleaved (plain t) 0 end (marks_up_to end (marks t))
+
+-- what is kept of the text t stays as it is in a cell; so it does if t stays
+unfoldable pub KeptStays : List ℕ → ℕ → List ℕ → Type 0
+KeptStays t width tail = cell (kept t width tail) ≡ kept t width tail
 
 -- the number of columns that a text lacks
 abbrev pub missing : List ℕ → ℕ → ℕ

@@ -11,7 +11,7 @@ use Rattle.ansi_style.specs.States.{rendition_of}
 use Rattle.ansi_columns.specs.declared.wrap.pens.PenAt.{PenAt}
 use Rattle.ansi_columns.specs.declared.wrap.spans.Spans.{Spans}
 use Rattle.ansi_columns.specs.Lines.{lines, lines_left}
-use Rattle.ansi_columns.specs.Wrapped.{WrappedLine, lines_over, marks_left, IsTaken}
+use Rattle.ansi_columns.specs.Wrapped.{CarriedPart, lines_over, marks_left, IsTaken}
 
 -- the interval is a stretch of t: t may be cut at its beginning and at its end
 pub record IsCharRange (t : List ℕ) (start end : ℕ) : Type 0 where
@@ -24,11 +24,11 @@ abbrev pub open_link : List ℕ → PenAt → List ℕ
 open_link t pen = slice_range t pen.link_start pen.link_end
 
 -- the lines of t as it is
-abbrev pub lines_of : List ℕ → ℕ → List WrappedLine
+abbrev pub lines_of : List ℕ → ℕ → List CarriedPart
 lines_of t width = lines_over plain_style [] (plain t) (marks t) (lines width (plain t))
 
 -- the lines of t that these spans have left
-abbrev pub span_lines : List ℕ → Spans → List WrappedLine
+abbrev pub span_lines : List ℕ → Spans → List CarriedPart
 span_lines t s = lines_over (rendition_of s.pen.style) (open_link t s.pen) (plain t) (marks_left t s.before s.taken) (lines_left t s.width s.next)
 
 -- they are spans of t

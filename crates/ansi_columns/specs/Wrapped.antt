@@ -10,7 +10,9 @@ use Rattle.ansi_style.specs.Reading.{after_marks, style_after_from}
 use Rattle.ansi_style.specs.Written.{start, close, longest_start_and_close}
 use Rattle.ansi_slice.specs.Cut.{interleaved}
 use Rattle.ansi_search.specs.Offsets.{offset_of, StandsIn}
+pub use Rattle.ansi_split.specs.Parts.{CarriedPart}
 use Rattle.ansi_split.specs.Parts.{marks_past}
+use Rattle.ansi_split.specs.Splits.{GivesCarriedPart}
 use Rattle.ansi_search.specs.Positions.{no_character_goes_on}
 use Rattle.ansi_split.specs.Spans.{marks_further_on}
 use Rattle.ansi_columns.specs.declared.walks.Walk.{Walk}
@@ -21,12 +23,6 @@ use Rattle.ansi_safe.specs.Cells.{paragraph}
 use Rattle.ansi_safe.specs.Links.{link_after_all, link_end, longest_link_end}
 use Rattle.ansi_columns.specs.Walks.{IsWalk}
 
--- a line of a wrap: its bytes, whether it is a borrow, and its source length, which is the number of its bytes that come from the text or from the link carried into it
-pub record WrappedLine : Type 0 where
-  pub bytes : List ℕ
-  pub borrowed : Bool
-  pub source_len : ℕ
-
 -- What ends a link and a style: the end of the link, and then the close of the style. (As a cut does; own.)
 abbrev pub pen_end : List ℕ → Rendition → List ℕ
 pen_end link style = link_end link ++ close style
@@ -34,7 +30,7 @@ pen_end link style = link_end link ++ close style
 -- The line over the interval i of the plain text x with these marks, if a style and a link are carried into it: the start of the style, the
 -- sequence that opened the link, the text with its marks, and what ends the link and the style then open. It is a borrow if it has no mark,
 -- and is empty or has nothing carried into it. (What is carried, as for the parts of a split; the rest, own.)
-unfoldable pub line_over : Rendition → List ℕ → List ℕ → List Mark → ℕ × ℕ → WrappedLine
+unfoldable pub line_over : Rendition → List ℕ → List ℕ → List Mark → ℕ × ℕ → CarriedPart
 line_over style link x own i = record {
   bytes = if i.0 == i.1 && length own == 0 then [] else
       start style ++ link ++ interleaved x i.0 i.1 own ++ pen_end (link_after_all link own) (after_marks style own);
@@ -44,37 +40,31 @@ line_over style link x own i = record {
 
 -- The lines over intervals of x in order, with the marks that are left. A mark belongs to the first line that doesn't end before
 -- its place, and to the last line if every line does. The style and link open after a line are carried into the next. (Own.)
-unfoldable pub lines_over : Rendition → List ℕ → List ℕ → List Mark → List (ℕ × ℕ) → List WrappedLine
+unfoldable pub lines_over : Rendition → List ℕ → List ℕ → List Mark → List (ℕ × ℕ) → List CarriedPart
 lines_over style link x ms [] = []
 lines_over style link x ms (i ∷ is) =
     let own = if length is == 0 then ms else marks_up_to i.1 ms in
     line_over style link x own i ∷ lines_over (after_marks style own) (link_after_all link own) x (marks_past (Some i.1) ms) is
 
 -- these lines of a text; they may be borrowed only if it is the caller's, so that they are stretches of that
-abbrev pub lent_lines : Bool → List WrappedLine → List WrappedLine
-lent_lines lent ls = map (λ (l : WrappedLine). record l { borrowed = lent && l.borrowed }) ls
+abbrev pub lent_lines : Bool → List CarriedPart → List CarriedPart
+lent_lines lent ls = map (λ (l : CarriedPart). record l { borrowed = lent && l.borrowed }) ls
 
 -- the lines over these intervals of the paragraph of the text t, of which t itself lends some only if it is that paragraph
-abbrev pub paragraph_lines : List ℕ → List (ℕ × ℕ) → List WrappedLine
+abbrev pub paragraph_lines : List ℕ → List (ℕ × ℕ) → List CarriedPart
 paragraph_lines t is = lent_lines (bytes_eq (paragraph t) t) (lines_over plain_style [] (plain (paragraph t)) (marks (paragraph t)) is)
 
 -- the lines of the text t wrapped at a width are those over the intervals of first fit in its paragraph (`ansi_safe`, `Cells`)
-abbrev pub IsWrapped : List ℕ → ℕ → List WrappedLine → Type 0
+abbrev pub IsWrapped : List ℕ → ℕ → List CarriedPart → Type 0
 IsWrapped t width ls = (is : List (ℕ × ℕ)) × IsFirstFit width (clusters (plain (paragraph t))) is × (ls ≡ paragraph_lines t is)
 
 -- these lines; first fit has no others
-abbrev pub wrapped : List ℕ → ℕ → List WrappedLine
+abbrev pub wrapped : List ℕ → ℕ → List CarriedPart
 wrapped t width = paragraph_lines t (lines width (plain (paragraph t)))
 
--- the text is this line, and is at most as long as its source length, a start, a close and the end of a link together
-abbrev pub IsWrappedLine : {A : Type 0} → WrappedLine → CowStr A → Type 0
-IsWrappedLine l c = (cow_str_bytes c ≡ l.bytes) × (IsBorrowedStr c ↔ IsTrue l.borrowed) × (length (cow_str_bytes c) ≤ l.source_len + longest_start_and_close + longest_link_end)
-
--- One call of `next` gives the first of the lines left. Or it gives an `Err`, never if that line is a borrow, and then no lines are left. Or it gives `None`, if no lines are left.
-abbrev pub GivesLine : {A E : Type 0} → List WrappedLine → Option (Result (CowStr A) E) → List WrappedLine → Type 0
-GivesLine old None new = (old ≡ []) × (new ≡ [])
-GivesLine old (Some (Ok c)) new = (l : WrappedLine) × (old ≡ l ∷ new) × IsWrappedLine l c
-GivesLine old (Some (Err e)) new = (l : WrappedLine) × (ls : List WrappedLine) × (old ≡ l ∷ ls) × IsFalse l.borrowed × (new ≡ [])
+-- a wrap gives its lines as a split gives its parts; they have a start, a close and the end of a link beside their source
+abbrev pub GivesLine : {A E : Type 0} → List CarriedPart → Option (Result (CowStr A) E) → List CarriedPart → Type 0
+GivesLine old given new = GivesCarriedPart (longest_start_and_close + longest_link_end) old given new
 
 -- the marks of t from the offset `taken` on, at their places, with `before` plain bytes before that offset; no public contract cites what follows
 abbrev pub marks_left : List ℕ → ℕ → ℕ → List Mark

@@ -9,15 +9,16 @@ ghost use Rattle.ansi_items.specs.Plain.{plain, has_escape, is_whole};
 ghost use Rattle.ansi_search.specs.Positions.{is_good_range};
 ghost use Rattle.ansi_style.specs.Written.{longest_close, longest_start_and_close};
 ghost use Rattle.ansi_columns.specs.Addresses.{address_at};
-ghost use Rattle.ansi_columns.specs.Columns.{columns, ShowsUpTo};
+ghost use Rattle.ansi_columns.specs.Columns.{columns, column_of, ShowsUpTo};
 ghost use Rattle.ansi_safe.specs.Cells.{cell, paragraph};
 ghost use Rattle.ansi_safe.specs.Links.{link_at, longest_link_end, IsClosed};
-ghost use Rattle.ansi_columns.specs.Shown.{truncated_ending, truncated, missing, closing, padded};
+ghost use Rattle.ansi_columns.specs.Shown.{truncated_ending, truncated, KeptStays, missing, closing, padded};
 ghost use Rattle.ansi_columns.specs.Fitted.{fitted};
 ghost use Rattle.ansi_columns.specs.Sides.{is_cut_at_end, truncated_at};
 ghost use Rattle.ansi_columns.specs.Slices.{is_sliced_stretch, sliced_blanks, sliced};
 ghost use Rattle.ansi_columns.specs.Screens.{screen, sliced_screen};
 ghost use Rattle.ansi_columns.specs.Tabs.{has_tab, tabs, expanded};
+ghost use Rattle.ansi_columns.specs.Indents.{wrapped_with, IsWrappedWith};
 ghost use Rattle.ansi_columns.specs.Wrapped.{wrapped, IsWrapped};
 
 use crate::addresses::link_at;
@@ -29,8 +30,11 @@ use crate::slices::slice;
 use crate::tabs::expand_tabs;
 use crate::views::View;
 use crate::widths;
+use crate::wrap::indents::{AnsiWrapWith, Wrap, wrap_with};
 use crate::wrap::{AnsiWrap, wrap};
+use ansi_search::search::walk_to;
 use ansi_str::{AnsiRange, AnsiStr};
+use ansi_style::styles;
 use std::alloc::{AllocError, Global};
 use std::borrow::CowStr;
 
@@ -83,6 +87,23 @@ pub trait AnsiColumns: AnsiStr {
         fitting(self.as_text(), width)
     }
 
+    /// The column of a position: how many columns what is shown before it has.
+    ///
+    /// `None` if the position is inside a character. A position past the end counts as the end. A
+    /// position counts bytes of the plain text. Inside a cluster, the part of it that precedes the
+    /// position counts as a cluster. `ansi_fitting` gives the position of a column. Reads no further
+    /// than the position. Doesn't allocate. (Own.)
+    ///
+    /// ```
+    /// assert!(rt; "a\x1b[1m日\x07本".ansi_column_of(5) == Some(3));
+    /// assert!(rt; "a\x1b[1m日\x07本".ansi_column_of(2).is_none());
+    /// ```
+    final fn ansi_column_of(&self, position: usize) -> Option<usize>
+        ensures { result ≡ column_of (Self.text self.now) position }
+    {
+        column_of(self.as_text(), position)
+    }
+
     /// The text truncated to `width` columns for display. If the text is cut, a tail such as `…`
     /// follows the cut.
     ///
@@ -92,11 +113,11 @@ pub trait AnsiColumns: AnsiStr {
     /// unchanged. A tail wider than `width` is left out. In each case the link and then the style
     /// still open at the end of the text are closed, before the tail.
     ///
-    /// Returns a borrow, and doesn't allocate, if nothing of the text has to be changed, and
-    /// nothing has to be written after the part that stays. Otherwise the result is at most as long
-    /// as the text and the tail together, plus 7 bytes for the link and 88 for the style. `Err`
-    /// means out of memory. (`truncate_str` of `console`; the text of a cell, and closing links and
-    /// styles, own.)
+    /// Reads what `ansi_fitting` reads. Returns a borrow, and doesn't allocate, if nothing of the
+    /// part that stays has to be changed, and nothing has to be written after it. Otherwise the
+    /// result is at most as long as the text and the tail together, plus 7 bytes for the link and 88
+    /// for the style. `Err` means out of memory. (`truncate_str` of `console`; the text of a cell,
+    /// and closing links and styles, own.)
     ///
     /// ```
     /// let cut = "\x1b[31m日本\t語\x1b[39m".ansi_truncate(rt.alloc(), 6, "…")?;
@@ -111,11 +132,11 @@ pub trait AnsiColumns: AnsiStr {
         ensures bytes { IfOk result (λ c.
             cow_str_bytes c ≡ truncated (cell (Self.text self.now)) width tail.now) }
         ensures borrowed { IfOk result (λ c. IsBorrowedStr c
-            ↔ ((cell (Self.text self.now) ≡ Self.text self.now)
+            ↔ (KeptStays (Self.text self.now) width tail.now
             × (truncated_ending (cell (Self.text self.now)) width tail.now ≡ []))) }
         ensures len { IfOk result (λ c. length (cow_str_bytes c)
             ≤ length (Self.text self.now) + length tail.now + longest_link_end + longest_close) }
-        ensures takes_no_memory { (cell (Self.text self.now) ≡ Self.text self.now)
+        ensures takes_no_memory { KeptStays (Self.text self.now) width tail.now
             × (truncated_ending (cell (Self.text self.now)) width tail.now ≡ []) → IsOk result }
     {
         truncate(alloc, self.as_text(), width, tail)
@@ -160,10 +181,10 @@ pub trait AnsiColumns: AnsiStr {
     /// The text of a table's cell: truncated to `width` columns, as `ansi_truncate` does it, and then
     /// padded to them, as `ansi_pad` does it.
     ///
-    /// Returns a borrow, and doesn't allocate, if nothing of the text has to be changed, no tail and
-    /// no blank is needed, and nothing is open. Otherwise the result is at most as long as the text
-    /// and the tail together, plus one byte for each missing column, 14 for links and 176 for
-    /// styles. `Err` means out of memory. (Own.)
+    /// Returns a borrow, and doesn't allocate, if nothing of the part that stays has to be changed,
+    /// no tail and no blank is needed, and nothing is open. Otherwise the result is at most as long
+    /// as the text and the tail together, plus one byte for each missing column, 14 for links and
+    /// 176 for styles. `Err` means out of memory. (Own.)
     ///
     /// ```
     /// let cell = "\x1b[41mab".ansi_fit(rt.alloc(), 4, Alignment::Left, "…")?;
@@ -181,7 +202,7 @@ pub trait AnsiColumns: AnsiStr {
         ensures bytes { IfOk result (λ c.
             cow_str_bytes c ≡ fitted (cell (Self.text self.now)) width alignment tail.now) }
         ensures borrowed { IfOk result (λ c. IsBorrowedStr c
-            ↔ ((cell (Self.text self.now) ≡ Self.text self.now)
+            ↔ (KeptStays (Self.text self.now) width tail.now
             × (truncated_ending (cell (Self.text self.now)) width tail.now ≡ [])
             × (missing (truncated (cell (Self.text self.now)) width tail.now) width ≡ 0)
             × (closing (truncated (cell (Self.text self.now)) width tail.now) ≡ []))) }
@@ -189,7 +210,7 @@ pub trait AnsiColumns: AnsiStr {
             ≤ length (Self.text self.now) + length tail.now
             + missing (truncated (cell (Self.text self.now)) width tail.now) width
             + 2 * (longest_link_end + longest_close)) }
-        ensures takes_no_memory { (cell (Self.text self.now) ≡ Self.text self.now)
+        ensures takes_no_memory { KeptStays (Self.text self.now) width tail.now
             × (truncated_ending (cell (Self.text self.now)) width tail.now ≡ [])
             × (missing (truncated (cell (Self.text self.now)) width tail.now) width ≡ 0)
             × (closing (truncated (cell (Self.text self.now)) width tail.now) ≡ []) →
@@ -204,8 +225,8 @@ pub trait AnsiColumns: AnsiStr {
     /// its first and last columns stay, as `ansi_slice` takes them, with the tail unchanged between
     /// them: as many as the tail leaves of the width. A tail wider than the width is left out.
     ///
-    /// Returns a borrow, and doesn't allocate, if nothing of the text has to be changed, it isn't
-    /// cut at its start or in its middle, and nothing has to be written after the part that stays.
+    /// Returns a borrow, and doesn't allocate, if the text isn't cut at its start or in its middle,
+    /// nothing of the part that stays has to be changed, and nothing has to be written after it.
     /// Otherwise the result is at most twice as long as the text, plus the length of the tail, one
     /// byte for each column of the width, 502 for styles and 14 for links. `Err` means out of
     /// memory. (`cli-truncate`; the text of a cell, and opening and closing, own.)
@@ -223,13 +244,13 @@ pub trait AnsiColumns: AnsiStr {
         ensures bytes { IfOk result (λ c. cow_str_bytes c
             ≡ truncated_at to.now.side (cell (Self.text self.now)) to.now.width to.now.tail.now) }
         ensures borrowed { IfOk result (λ c. IsBorrowedStr c
-            ↔ ((cell (Self.text self.now) ≡ Self.text self.now)
+            ↔ (KeptStays (Self.text self.now) to.now.width to.now.tail.now
             × IsTrue (is_cut_at_end to.now.side (cell (Self.text self.now)) to.now.width)
             × (truncated_ending (cell (Self.text self.now)) to.now.width to.now.tail.now ≡ []))) }
         ensures len { IfOk result (λ c. length (cow_str_bytes c)
             ≤ 2 * length (Self.text self.now) + length to.now.tail.now + to.now.width
             + 2 * (longest_start_and_close + longest_link_end)) }
-        ensures takes_no_memory { (cell (Self.text self.now) ≡ Self.text self.now)
+        ensures takes_no_memory { KeptStays (Self.text self.now) to.now.width to.now.tail.now
             × IsTrue (is_cut_at_end to.now.side (cell (Self.text self.now)) to.now.width)
             × (truncated_ending (cell (Self.text self.now)) to.now.width to.now.tail.now ≡ []) →
             IsOk result }
@@ -338,6 +359,38 @@ pub trait AnsiColumns: AnsiStr {
         wrap(alloc, self.as_text(), width)
     }
 
+    /// The lines of the text's paragraph wrapped with an indent before each, ready for display.
+    ///
+    /// The first line has one indent, and each later line the other. An indent is shown as a text of
+    /// its own: as the text of a cell (`ansi_safe::cells::cell_of`), so it is on one line and safe,
+    /// and then the link and the style still open are closed. After it comes the line as
+    /// `ansi_wrap` returns it, wrapped at the columns that the wider of both indents leaves of the
+    /// width. If no column is left, that is one column, as for a width of 0.
+    ///
+    /// A line without an indent is that of `ansi_wrap`, and any other is owned. `Err` means out of
+    /// memory. (`textwrap` of Python, if both indents are as wide; the text of a cell, and closing
+    /// links and styles, own.)
+    ///
+    /// ```
+    /// let to = Wrap::at(8).first_indent("* ").indent("\x1b[2m|\t");
+    /// let mut lines = "\x1b[31mlion tiger".ansi_wrap_with(rt.alloc(), &to);
+    /// assert!(rt; matches!(&lines.next(), Some(Ok(line)) if line.as_str() == "* \x1b[31mlion\x1b[39m"));
+    /// assert!(rt; matches!(&lines.next(), Some(Ok(line))
+    ///     if line.as_str() == "\x1b[2m| \x1b[22m\x1b[31mtiger\x1b[39m"));
+    /// assert!(rt; matches!(&lines.next(), None));
+    /// ```
+    final fn ansi_wrap_with<'a>(&self, alloc: Global, to: &Wrap<'a>) -> AnsiWrapWith<'_, 'a>
+        ensures first_fit { IsWrappedWith (Self.text self.now) to.now.width
+            to.now.first_indent.now to.now.indent.now result }
+        ensures lines { result ≡ wrapped_with (Self.text self.now) to.now.width
+            to.now.first_indent.now to.now.indent.now }
+        ensures takes_no_memory { paragraph (Self.text self.now) ≡ Self.text self.now →
+            IsFalse (has_escape (Self.text self.now)) → to.now.first_indent.now ≡ [] →
+            to.now.indent.now ≡ [] → IsTrue (list_all (λ l. l.borrowed) result) }
+    {
+        wrap_with(alloc, self.as_text(), to)
+    }
+
     /// The address of the hyperlink at a position, or `None` if no link is open there.
     ///
     /// The address is that of the link around the plain byte at the position, so sequences directly
@@ -377,4 +430,12 @@ pub fn fitting(text: &str, width: usize) -> usize
     ensures good_after { IsTrue (is_good_range (plain text.now) result None) }
 {
     fitting_front(text, width, View::Shown).walk.position
+}
+
+/// Like [`AnsiColumns::ansi_column_of`].
+pub fn column_of(text: &str, position: usize) -> Option<usize>
+    ensures { result ≡ column_of text.now position }
+{
+    let end = walk_to(&mut styles::plain_style(), text, position)?;
+    Some(widths::width(&text[..end], View::Shown))
 }

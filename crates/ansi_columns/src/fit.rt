@@ -5,10 +5,9 @@ ghost use Rattle.ansi_style.specs.Written.{longest_close};
 ghost use Rattle.ansi_safe.specs.Cells.{cell};
 ghost use Rattle.ansi_safe.specs.Links.{longest_link_end};
 ghost use Rattle.ansi_columns.specs.Fitted.{fitted};
-ghost use Rattle.ansi_columns.specs.Shown.{truncated_ending, truncated, missing, closing};
+ghost use Rattle.ansi_columns.specs.Shown.{truncated_ending, truncated, KeptStays, missing, closing};
 
-use crate::shown::{Alignment, pad_cell, truncate_cell};
-use ansi_safe::cells::cell_of;
+use crate::shown::{Alignment, pad_cell, truncate};
 use std::alloc::{AllocError, Allocator};
 use std::borrow::CowStr;
 
@@ -28,18 +27,18 @@ pub fn fit<'t, A: Allocator + Copy>(
 ) -> Result<CowStr<'t, A>, AllocError>
     ensures bytes { IfOk result (λ c.
         cow_str_bytes c ≡ fitted (cell text.now) width alignment tail.now) }
-    ensures borrowed { IfOk result (λ c. IsBorrowedStr c ↔ ((cell text.now ≡ text.now)
+    ensures borrowed { IfOk result (λ c. IsBorrowedStr c ↔ (KeptStays text.now width tail.now
         × (truncated_ending (cell text.now) width tail.now ≡ [])
         × (missing (truncated (cell text.now) width tail.now) width ≡ 0)
         × (closing (truncated (cell text.now) width tail.now) ≡ []))) }
     ensures len { IfOk result (λ c. length (cow_str_bytes c) ≤ length text.now + length tail.now
         + missing (truncated (cell text.now) width tail.now) width
         + 2 * (longest_link_end + longest_close)) }
-    ensures takes_no_memory { (cell text.now ≡ text.now)
+    ensures takes_no_memory { KeptStays text.now width tail.now
         × (truncated_ending (cell text.now) width tail.now ≡ [])
         × (missing (truncated (cell text.now) width tail.now) width ≡ 0)
         × (closing (truncated (cell text.now) width tail.now) ≡ []) → IsOk result }
 {
-    let cut = truncate_cell(alloc, cell_of(alloc, text)?, width, tail)?;
+    let cut = truncate(alloc, text, width, tail)?;
     pad_cell(alloc, cut, width, alignment)
 }

@@ -21,11 +21,12 @@ ghost use Rattle.ansi_columns.specs.Fitted.{fitted};
 ghost use Rattle.ansi_columns.specs.Lines.{lines, AreLinesFrom, BeginWithBlanks, reassembled};
 ghost use Rattle.ansi_safe.specs.Cells.{cell, paragraph};
 ghost use Rattle.ansi_safe.specs.Links.{link_of, IsClosed};
-ghost use Rattle.ansi_columns.specs.Shown.{has_tail, truncated_end, truncated, missing};
+ghost use Rattle.ansi_columns.specs.Shown.{has_tail, truncated_end, truncated, KeptStays, missing};
 ghost use Rattle.ansi_columns.specs.Shown.{before_text, blanks, padded, without_style};
 ghost use Rattle.ansi_columns.specs.Screens.{screen, screen_slice, plain_blank};
 ghost use Rattle.ansi_columns.specs.Sides.{truncated_at};
 ghost use Rattle.ansi_columns.specs.Slices.{sliced_up_to};
+ghost use Rattle.ansi_columns.specs.Indents.{wrapped_with};
 ghost use Rattle.ansi_columns.specs.Wrapped.{wrapped};
 
 /// Printable ASCII is as wide as it is long.
@@ -95,6 +96,12 @@ pub fn truncated_fits()
         IsTrue (is_whole tail) → IsClusterBoundary (plain (truncated (cell t) width tail))
         (truncated_end (cell t) width tail) →
         columns (plain (truncated (cell t) width tail)) ≤ width }
+{}
+
+/// If a text is its own cell, the part of it that a truncation keeps is one too.
+pub fn cells_are_kept()
+    ensures { (t : List ℕ) (width : ℕ) (tail : List ℕ) → IsUtf8 t → cell t ≡ t →
+        KeptStays t width tail }
 {}
 
 /// A padded text is whole. Its plain text is that of the cell, with blanks before and after it. It
@@ -188,6 +195,17 @@ pub fn wrapped_lines_show_their_columns()
         ≡ map (λ (i : ℕ × ℕ). slice_range (screen (paragraph t))
         (columns (take i.0 (plain (paragraph t)))) (columns (take i.1 (plain (paragraph t)))))
         (lines width (plain (paragraph t))) }
+{
+    ansi_safe::laws::cells_are_safe();
+}
+
+/// Each line of a text wrapped with indents is whole, whatever the text and the indents are, and
+/// leaves no known style and no link open.
+pub fn indented_lines_are_closed()
+    ensures whole { (t first later : List ℕ) (width : ℕ) → IsUtf8 t → IsUtf8 first →
+        IsUtf8 later → All (λ l. IsTrue (is_whole l.bytes)) (wrapped_with t width first later) }
+    ensures closed { (t first later : List ℕ) (width : ℕ) → IsUtf8 t → IsUtf8 first →
+        IsUtf8 later → All (λ l. IsClosed l.bytes) (wrapped_with t width first later) }
 {
     ansi_safe::laws::cells_are_safe();
 }

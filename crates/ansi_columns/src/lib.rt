@@ -28,3 +28,4 @@ pub mod wrap;
 pub use columns::AnsiColumns;
 pub use shown::Alignment;
 pub use sides::{Side, Truncation};
+pub use wrap::indents::Wrap;

@@ -1,19 +1,20 @@
 //! Truncated and padded texts, ready for display: the style and link still open at their end are
 //! closed.
-ghost use Rattle.std.specs.Prelude.{◌≡◌, ◌↔◌, ◌+◌, ◌==◌, ◌≤◌, ◌++◌, [], length, take, if◌then◌else◌};
+ghost use Rattle.std.specs.Prelude.{◌≡◌, ◌↔◌, ◌+◌, ◌==◌, ◌≤◌, ◌++◌, [], length, if◌then◌else◌};
 ghost use Rattle.std.specs.Prelude.{IsOk, IfOk, OnOk, string_bytes};
 ghost use Rattle.std.specs.Cow.{cow_str_bytes, IsBorrowedStr};
-ghost use Rattle.std.specs.Str.{IsCharBoundary};
-ghost use Rattle.ansi_search.specs.Offsets.{StandsIn};
 ghost use Rattle.ansi_style.specs.States.{rendition_of};
 ghost use Rattle.ansi_style.specs.Written.{close, longest_close};
 ghost use Rattle.ansi_safe.specs.Cells.{cell};
 ghost use Rattle.ansi_safe.specs.Links.{longest_link_end};
-ghost use Rattle.ansi_columns.specs.Shown.{has_tail, truncated_end, truncated_ending, truncated};
+ghost use Rattle.ansi_columns.specs.Shown.{has_tail, truncated_width, truncated_ending};
+ghost use Rattle.ansi_columns.specs.Shown.{truncated, KeptStays};
 ghost use Rattle.ansi_columns.specs.Shown.{missing, before_text, blanks, closing, padded};
+ghost use Rattle.ansi_columns.specs.Walks.{IsWalkIn, SeesUpTo};
 
 use crate::fits::fitting_front;
 use crate::views::View;
+use crate::walks::Walk;
 use crate::widths;
 use ansi_safe::cells::cell_of;
 use ansi_safe::links::{Ending, LONGEST_ENDING, pen_after};
@@ -50,33 +51,15 @@ pub fn truncate<'t, A: Allocator + Copy>(
 ) -> Result<CowStr<'t, A>, AllocError>
     ensures bytes { IfOk result (λ c.
         cow_str_bytes c ≡ truncated (cell text.now) width tail.now) }
-    ensures borrowed { IfOk result (λ c. IsBorrowedStr c ↔ ((cell text.now ≡ text.now)
+    ensures borrowed { IfOk result (λ c. IsBorrowedStr c ↔ (KeptStays text.now width tail.now
         × (truncated_ending (cell text.now) width tail.now ≡ []))) }
     ensures len { IfOk result (λ c. length (cow_str_bytes c)
         ≤ length text.now + length tail.now + longest_link_end + longest_close) }
-    ensures takes_no_memory { (cell text.now ≡ text.now)
+    ensures takes_no_memory { KeptStays text.now width tail.now
         × (truncated_ending (cell text.now) width tail.now ≡ []) → IsOk result }
 {
-    truncate_cell(alloc, cell_of(alloc, text)?, width, tail)
-}
-
-/// The text of a cell, truncated.
-pub(crate) fn truncate_cell<'t, A: Allocator>(
-    alloc: A,
-    cell: CowStr<'t, A>,
-    width: usize,
-    tail: &str,
-) -> Result<CowStr<'t, A>, AllocError>
-    ensures bytes { IfOk result (λ c.
-        cow_str_bytes c ≡ truncated (cow_str_bytes cell.entry) width tail.now) }
-    ensures borrowed { IfOk result (λ c. IsBorrowedStr c ↔ (IsBorrowedStr cell.entry
-        × (truncated_ending (cow_str_bytes cell.entry) width tail.now ≡ []))) }
-    ensures len { IfOk result (λ c. length (cow_str_bytes c) ≤ length (cow_str_bytes cell.entry)
-        + length tail.now + longest_link_end + longest_close) }
-    ensures takes_no_memory { truncated_ending (cow_str_bytes cell.entry) width tail.now ≡ [] → IsOk result }
-{
-    let (end, tail) = truncation(cell.as_str(), width, tail);
-    let front = up_to(cell, end);
+    let (end, tail) = truncation(text, width, tail);
+    let front = cell_of(alloc, &text[..end.offset])?;
     let ending = pen_after(front.as_str()).ending();
     if is_nothing(&ending, tail.len()) {
         return Ok(front);
@@ -87,22 +70,24 @@ pub(crate) fn truncate_cell<'t, A: Allocator>(
     Ok(CowStr::Owned(out))
 }
 
-/// The offset at which the text is cut, and the tail that is written after it.
-fn truncation<'a>(text: &str, width: usize, tail: &'a str) -> (usize, &'a str)
-    ensures end { StandsIn text.now (truncated_end text.now width tail.entry.now) result.0 }
+/// The walk at the place where the text of a cell is cut, and the tail that is written after it.
+fn truncation<'a>(text: &str, width: usize, tail: &'a str) -> (Walk, &'a str)
+    ensures walk { IsWalkIn View.Shown text.now result.0 }
+    ensures fits { SeesUpTo View.Shown text.now
+        (truncated_width (cell text.now) width tail.entry.now) result.0.position }
     ensures tail { result.1.now
-        ≡ (if has_tail text.now width tail.entry.now then tail.entry.now else []) }
+        ≡ (if has_tail (cell text.now) width tail.entry.now then tail.entry.now else []) }
 {
-    let whole = fitting_front(text, width, View::Given);
+    let whole = fitting_front(text, width, View::Shown);
     if whole.is_all {
-        return (whole.walk.offset, "");
+        return (whole.walk, "");
     }
     let tail_width = widths::width(tail, View::Given);
     if width < tail_width {
-        return (whole.walk.offset, "");
+        return (whole.walk, "");
     }
-    let front = fitting_front(text, width - tail_width, View::Given);
-    (front.walk.offset, tail)
+    let front = fitting_front(text, width - tail_width, View::Shown);
+    (front.walk, tail)
 }
 
 /// Whether an ending and `more` bytes are no byte.
@@ -111,21 +96,6 @@ fn is_nothing(ending: &Ending, more: usize) -> bool
         ++ close (rendition_of ending.now.style)) + more == 0) }
 {
     more == 0 && ending.is_empty()
-}
-
-/// The front of a text, up to an offset.
-fn up_to<A: Allocator>(text: CowStr<'_, A>, end: usize) -> CowStr<'_, A>
-    requires { IsCharBoundary (cow_str_bytes text) end }
-    ensures bytes { cow_str_bytes result ≡ take end (cow_str_bytes text.entry) }
-    ensures borrowed { IsBorrowedStr result ↔ IsBorrowedStr text.entry }
-{
-    match text {
-        CowStr::Borrowed(text) => CowStr::Borrowed(&text[..end]),
-        CowStr::Owned(mut text) => {
-            text.truncate(end);
-            CowStr::Owned(text)
-        }
-    }
 }
 
 /// `before` blanks and a text. The string has room for an ending and for `more` further bytes.

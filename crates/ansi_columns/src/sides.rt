@@ -7,11 +7,11 @@ ghost use Rattle.ansi_style.specs.Written.{longest_start_and_close};
 ghost use Rattle.ansi_safe.specs.Cells.{cell};
 ghost use Rattle.ansi_safe.specs.Links.{longest_link_end};
 ghost use Rattle.ansi_columns.specs.Columns.{columns};
-ghost use Rattle.ansi_columns.specs.Shown.{truncated_ending};
+ghost use Rattle.ansi_columns.specs.Shown.{truncated_ending, KeptStays};
 ghost use Rattle.ansi_columns.specs.Sides.{is_cut_at_end, fitting_tail, cut_before_end};
 ghost use Rattle.ansi_columns.specs.Sides.{truncated_at};
 
-use crate::shown::truncate_cell;
+use crate::shown::truncate;
 use crate::slices::push_slice;
 use crate::views::View;
 use crate::widths;
@@ -51,6 +51,7 @@ pub struct Truncation<'a> {
 impl<'a> Truncation<'a> {
     ghost use Rattle.std.specs.Prelude.{◌≡◌, [], IsFalse, IsTrue, MatchOption};
     ghost use Rattle.ansi_items.specs.Plain.{plain};
+    ghost use Rattle.ansi_safe.specs.Cells.{cell};
     ghost use Rattle.ansi_columns.specs.Columns.{columns};
     ghost use Rattle.ansi_columns.specs.Sides.{is_cut_at_end};
 
@@ -81,16 +82,17 @@ impl<'a> Truncation<'a> {
         Truncation { side, ..self }
     }
 
-    /// The columns of a text that is cut before its end, or `None` for any other text.
+    /// The columns of the cell of a text, if that is cut before its end.
     fn columns_cut(&self, text: &str) -> Option<usize>
-        ensures { MatchOption result (IsTrue (is_cut_at_end self.now.side text.now self.now.width))
-            (λ n. (n ≡ columns (plain text.now))
-            × IsFalse (is_cut_at_end self.now.side text.now self.now.width)) }
+        ensures { MatchOption result
+            (IsTrue (is_cut_at_end self.now.side (cell text.now) self.now.width))
+            (λ n. (n ≡ columns (plain (cell text.now)))
+            × IsFalse (is_cut_at_end self.now.side (cell text.now) self.now.width)) }
     {
         match self.side {
             Side::End => None,
             Side::Start | Side::Middle => {
-                let columns = widths::width(text, View::Given);
+                let columns = widths::width(text, View::Shown);
                 if columns <= self.width {
                     None
                 } else {
@@ -133,21 +135,21 @@ pub fn truncate_with<'t, A: Allocator + Copy>(
 ) -> Result<CowStr<'t, A>, AllocError>
     ensures bytes { IfOk result (λ c. cow_str_bytes c
         ≡ truncated_at to.now.side (cell text.now) to.now.width to.now.tail.now) }
-    ensures borrowed { IfOk result (λ c. IsBorrowedStr c ↔ ((cell text.now ≡ text.now)
+    ensures borrowed { IfOk result (λ c. IsBorrowedStr c ↔ (KeptStays text.now to.now.width to.now.tail.now
         × IsTrue (is_cut_at_end to.now.side (cell text.now) to.now.width)
         × (truncated_ending (cell text.now) to.now.width to.now.tail.now ≡ []))) }
     ensures len { IfOk result (λ c. length (cow_str_bytes c) ≤ 2 * length text.now
         + length to.now.tail.now + to.now.width
         + 2 * (longest_start_and_close + longest_link_end)) }
-    ensures takes_no_memory { (cell text.now ≡ text.now)
+    ensures takes_no_memory { KeptStays text.now to.now.width to.now.tail.now
         × IsTrue (is_cut_at_end to.now.side (cell text.now) to.now.width)
         × (truncated_ending (cell text.now) to.now.width to.now.tail.now ≡ []) → IsOk result }
 {
+    let Some(columns) = to.columns_cut(text) else {
+        return truncate(alloc, text, to.width, to.tail);
+    };
     let cell = cell_of(alloc, text)?;
-    match to.columns_cut(cell.as_str()) {
-        None => truncate_cell(alloc, cell, to.width, to.tail),
-        Some(columns) => Ok(CowStr::Owned(cut_before_end(alloc, cell.as_str(), columns, to)?)),
-    }
+    Ok(CowStr::Owned(cut_before_end(alloc, cell.as_str(), columns, to)?))
 }
 
 /// The text, which has this many columns, cut before its end.

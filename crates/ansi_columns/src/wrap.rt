@@ -7,6 +7,7 @@ ghost use Rattle.ansi_safe.specs.Cells.{paragraph};
 ghost use Rattle.ansi_columns.specs.Wrapped.{lent_lines, wrapped, IsWrapped, GivesLine};
 ghost use Rattle.ansi_columns.specs.WrapStates.{span_lines, AreSpans};
 
+pub mod indents;
 pub(crate) mod pens;
 pub(crate) mod spans;
 
@@ -43,10 +44,10 @@ pub struct AnsiWrap<'t, A: Allocator = Global> {
 
 impl<'t, A: Allocator> Model for AnsiWrap<'t, A> {
     ghost use Rattle.std.specs.Prelude.{List};
-    ghost use Rattle.ansi_columns.specs.Wrapped.{WrappedLine, lent_lines};
+    ghost use Rattle.ansi_columns.specs.Wrapped.{CarriedPart, lent_lines};
     ghost use Rattle.ansi_columns.specs.WrapStates.{span_lines, shown_text, is_lent, AreLeft};
 
-    ghost Value = { List WrappedLine };
+    ghost Value = { List CarriedPart };
 
     ghost view = { λ s. lent_lines (is_lent s.text s.failure)
         (span_lines (shown_text s.text s.failure) s.spans) };
@@ -74,7 +75,7 @@ pub fn wrap<'t, A: Allocator + Copy>(alloc: A, text: &'t str, width: usize) -> A
 }
 
 impl<'t, A: Allocator + Copy> AnsiWrap<'t, A> {
-    ghost use Rattle.std.specs.Prelude.{◌≡◌};
+    ghost use Rattle.std.specs.Prelude.{◌≡◌, []};
     ghost use Rattle.ansi_columns.specs.Wrapped.{lent_lines};
     ghost use Rattle.ansi_columns.specs.WrapStates.{lines_of, shown_text, is_lent};
 
@@ -90,6 +91,14 @@ impl<'t, A: Allocator + Copy> AnsiWrap<'t, A> {
             failure,
             spans,
         }
+    }
+
+    /// Leaves no lines.
+    fn finish(&mut self)
+        ensures { self.new ≡ [] }
+    {
+        self.failure = None;
+        self.spans.finish();
     }
 }
 

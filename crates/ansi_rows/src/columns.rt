@@ -1,7 +1,7 @@
 //! The results of calls on columns.
 use crate::check::Check;
 use crate::rows::Row;
-use crate::texts::{check_cut_in, check_lines};
+use crate::texts::{check_cut_in, check_indented_lines, check_lines};
 use ansi_columns::AnsiColumns;
 use ansi_columns::columns::fitting;
 use ansi_columns::fit::fit;
@@ -10,6 +10,7 @@ use ansi_columns::shown::{Alignment, pad, truncate};
 use ansi_columns::sides::{Side, Truncation, truncate_with};
 use ansi_columns::slices::slice;
 use ansi_columns::tabs::expand_tabs;
+use ansi_columns::wrap::indents::{Wrap, wrap_with};
 use ansi_columns::wrap::wrap;
 use ansi_str::AnsiStr;
 use refusing::Refusing;
@@ -20,6 +21,7 @@ use std::borrow::CowStr;
 pub enum ColumnCall<'r> {
     Width,
     Fitting(usize),
+    ColumnOf(usize),
     /// A cut up to where the text fits.
     Front(usize),
     Truncate(usize, &'r str),
@@ -33,6 +35,7 @@ pub enum ColumnCall<'r> {
     /// The places of the lines of a wrapped text.
     Lines(usize),
     Wrap(usize),
+    WrapWith(Wrap<'r>),
     LinkAt(usize),
 }
 
@@ -61,11 +64,18 @@ fn truncation_of<'r>(row: &Row<'r>) -> Option<Truncation<'r>> {
     Some(Truncation::to(row.number(0)?).tail(tail).side(side))
 }
 
+/// A width, and the indents of the first line and of the others.
+fn wrap_of<'r>(row: &Row<'r>) -> Option<Wrap<'r>> {
+    let to = Wrap::at(row.number(0)?).first_indent(row.argument(1)?);
+    Some(to.indent(row.argument(2)?))
+}
+
 impl<'r> ColumnCall<'r> {
     pub fn new(row: &Row<'r>) -> Option<Self> {
         Some(match row.call {
             "width" => ColumnCall::Width,
             "fitting" => ColumnCall::Fitting(row.number(0)?),
+            "column_of" => ColumnCall::ColumnOf(row.number(0)?),
             "front" => ColumnCall::Front(row.number(0)?),
             "truncate" => ColumnCall::Truncate(row.number(0)?, row.argument(1)?),
             "pad" => ColumnCall::Pad(row.number(0)?, alignment_of(row.argument(1)?)?),
@@ -78,6 +88,7 @@ impl<'r> ColumnCall<'r> {
             "slice" => ColumnCall::Slice(row.number(0)?, row.number(1)?),
             "lines" => ColumnCall::Lines(row.number(0)?),
             "wrap" => ColumnCall::Wrap(row.number(0)?),
+            "wrap_with" => ColumnCall::WrapWith(wrap_of(row)?),
             "link_at" => ColumnCall::LinkAt(row.number(0)?),
             _ => return None,
         })
@@ -92,6 +103,13 @@ fn fitting_front<T: AnsiStr>(
     width: usize,
 ) -> Result<CowStr<'_>, AllocError> {
     text.ansi_cut(alloc, ..text.ansi_fitting(width))
+}
+
+fn check_column(check: &mut Check<'_>, column: Option<usize>) {
+    match column {
+        Some(_) => check.number_or_none(column),
+        None => check.none("2"),
+    }
 }
 
 fn check_places(check: &mut Check<'_>, lines: Lines<'_>) {
@@ -113,6 +131,7 @@ pub fn make_column_call<T: AnsiStr>(check: &mut Check<'_>, text: &T, call: Colum
     match call {
         ColumnCall::Width => check.number_or_none(Some(text.ansi_width())),
         ColumnCall::Fitting(width) => check.number_or_none(Some(text.ansi_fitting(width))),
+        ColumnCall::ColumnOf(position) => check_column(check, text.ansi_column_of(position)),
         ColumnCall::Front(width) => check.text_or_err(fitting_front(alloc, text, width)),
         ColumnCall::Truncate(width, tail) => {
             check.text_or_err(text.ansi_truncate(alloc, width, tail));
@@ -128,6 +147,7 @@ pub fn make_column_call<T: AnsiStr>(check: &mut Check<'_>, text: &T, call: Colum
         ColumnCall::Slice(start, end) => check.text_or_err(text.ansi_slice(alloc, start..end)),
         ColumnCall::Lines(width) => check_places(check, Lines::new(text.as_text(), width)),
         ColumnCall::Wrap(width) => check_lines(check, text.ansi_wrap(alloc, width)),
+        ColumnCall::WrapWith(to) => check_indented_lines(check, text.ansi_wrap_with(alloc, &to)),
         ColumnCall::LinkAt(index) => check_link(check, text.ansi_link_at(index)),
     }
 }
@@ -151,6 +171,7 @@ pub fn make_column_call_in(check: &mut Check<'_>, heap: &Refusing<Global>, call:
             check.text_or_err(slice(heap, text, start, Some(end)));
         }
         ColumnCall::Wrap(width) => check_lines(check, wrap(heap, text, width)),
+        ColumnCall::WrapWith(to) => check_indented_lines(check, wrap_with(heap, text, &to)),
         _ => make_column_call(check, &text, call),
     }
 }

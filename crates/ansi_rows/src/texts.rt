@@ -7,6 +7,7 @@ use crate::items::check_items;
 use crate::ranges::is_good_range_of;
 use crate::safe::{make_safe_call, make_safe_call_in};
 use ansi_columns::wrap::AnsiWrap;
+use ansi_columns::wrap::indents::AnsiWrapWith;
 use ansi_str::search::part_interval;
 use ansi_str::slice::{
     cut_in, get_in, split_at_in, strip_in, strip_prefix_in, strip_suffix_in, trim_in,
@@ -33,6 +34,21 @@ fn check_parts<A: Allocator + Copy>(check: &mut Check<'_>, mut parts: AnsiSplit<
 
 /// Checks all lines. After an `Err`, and after the last line, no line follows.
 pub fn check_lines<A: Allocator + Copy>(check: &mut Check<'_>, mut lines: AnsiWrap<'_, A>) {
+    for _ in 0..usize::MAX {
+        if !check.next_text(lines.next()) {
+            break;
+        }
+    }
+    for _ in 0..3 {
+        check.end_of_texts(lines.next().is_none());
+    }
+}
+
+/// The same for lines with indents.
+pub fn check_indented_lines<A: Allocator + Copy>(
+    check: &mut Check<'_>,
+    mut lines: AnsiWrapWith<'_, '_, A>,
+) {
     for _ in 0..usize::MAX {
         if !check.next_text(lines.next()) {
             break;

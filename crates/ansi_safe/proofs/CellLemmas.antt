@@ -41,7 +41,7 @@ run_in-char c cs = by (is_printing c) (c == 9) (c == 10) (c == 13) (slice_index 
     by false false false true false other = refl
     by false false false false f other = refl
 
-run_in-chars : (cs : List ℕ) → run_in Cell cs ≡ flat_map cell_char cs
+pub run_in-chars : (cs : List ℕ) → run_in Cell cs ≡ flat_map cell_char cs
 run_in-chars [] = refl
 run_in-chars (c ∷ cs) = ap₂ ◌++◌ (run_in-char c cs) (run_in-chars cs)
 
@@ -129,7 +129,7 @@ plain_of-after_text : (w : List ℕ) (ps : List Piece) → plain_of (after_text 
 plain_of-after_text w (Text v ∷ ps) = append_assoc w v (plain_of ps)
 plain_of-after_text w ps = refl
 
-plain_of-merged : (ps : List Piece) → plain_of (merged ps) ≡ plain_of ps
+pub plain_of-merged : (ps : List Piece) → plain_of (merged ps) ≡ plain_of ps
 plain_of-merged [] = refl
 plain_of-merged (Text w ∷ ps) = plain_of-after_text w (merged ps) ∙ ap (λ v. w ++ v) (plain_of-merged ps)
 plain_of-merged (Sequence w ∷ ps) = plain_of-merged ps

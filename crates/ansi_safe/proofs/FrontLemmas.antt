@@ -68,15 +68,19 @@ pub record IsInSoFar (p : ℕ → Bool) (t rest : List ℕ) : Type 0 where
 pub ends-in_block : (p : ℕ → Bool) (t rest : List ℕ) (len : ℕ) → IsInSoFar p t rest → 16 ≤ length rest → len ≡ prefix_len p (take 16 rest) → len < 16 → length t - length rest + len ≡ prefix_len p t
 ends-in_block p t rest len so_far room is short = omega (arith, is, ends_in_front p 16 rest room (omega (arith, is)), so_far.so_far)
 
-pub after-block : (p : ℕ → Bool) (t rest next : List ℕ) (len : ℕ) → IsInSoFar p t rest → 16 ≤ length rest → len ≡ prefix_len p (take 16 rest) → 16 ≤ len → next ≡ drop 16 rest → IsInSoFar p t next
-after-block p t rest next len so_far room is long next_is =
-    let all : prefix_len p (take 16 rest) ≡ 16 = omega (arith, is, prefix_len-le-length p (take 16 rest), length-take-le 16 rest room) in
-    let size : length next ≡ length rest - 16 = ap length next_is ∙ length-drop 16 rest in
-    let on = goes_on p 16 rest room all in
+-- a block of n bytes that are all in the set
+pub after-whole_block : (p : ℕ → Bool) (n : ℕ) (t rest next : List ℕ) → IsInSoFar p t rest → n ≤ length rest → prefix_len p (take n rest) ≡ n → next ≡ drop n rest → IsInSoFar p t next
+after-whole_block p n t rest next so_far room all next_is =
+    let size : length next ≡ length rest - n = ap length next_is ∙ length-drop n rest in
+    let on = goes_on p n rest room all in
     record {
       within = omega (arith, size, so_far.within);
       so_far = omega (arith, size, so_far.within, so_far.so_far, on, ap (prefix_len p) next_is);
     }
+
+pub after-block : (p : ℕ → Bool) (t rest next : List ℕ) (len : ℕ) → IsInSoFar p t rest → 16 ≤ length rest → len ≡ prefix_len p (take 16 rest) → 16 ≤ len → next ≡ drop 16 rest → IsInSoFar p t next
+after-block p t rest next len so_far room is long next_is =
+    after-whole_block p 16 t rest next so_far room (omega (arith, is, prefix_len-le-length p (take 16 rest), length-take-le 16 rest room)) next_is
 
 -- The front of a block, by the lanes of its bytes: the highest bit of a lane is set if its byte isn't in the set.
 
@@ -84,41 +88,54 @@ same_run : (p q : ℕ → Bool) (xs : List ℕ) → ((k : ℕ) → k < length xs
 same_run p q [] h = refl
 same_run p q (x ∷ xs) h = ap₂ (λ b n. cond b (1 + n) 0) (h 0 (omega arith)) (same_run p q xs (λ k inside. h (suc k) (omega arith)))
 
-module _ (lane : ℕ → ℕ) (p : ℕ → Bool) (agrees : agree_below (λ x. not (top 7 (lane x))) p 256 ≡ true) (bytes : List ℕ) (room : 16 ≤ length bytes) (fits : (k : ℕ) → Fits w8 (get_or bytes k 0)) where
+module _ (n : ℕ) (few : n ≤ 64) (lane : ℕ → ℕ) (p : ℕ → Bool) (agrees : agree_below (λ x. not (top 7 (lane x))) p 256 ≡ true) (bytes : List ℕ) (room : n ≤ length bytes) (fits : (k : ℕ) → Fits w8 (get_or bytes k 0)) where
   abbrev v : List ℕ
-  v = take 16 bytes
+  v = take n bytes
 
   abbrev is_other : ℕ → Bool
   is_other x = top 7 (lane x)
 
-  long : length v ≡ 16
-  long = length-take-le 16 bytes room
+  long : length v ≡ n
+  long = length-take-le n bytes room
 
   same : prefix_len (λ x. not (is_other x)) v ≡ prefix_len p v
   same = same_run (λ x. not (is_other x)) p v
-      (λ k inside. agree_below_at (λ x. not (is_other x)) p 256 (get_or v k 0) agrees (omega (arith, (fits k).fits, get_or-take 16 bytes k 0 (omega (arith, long)))))
+      (λ k inside. agree_below_at (λ x. not (is_other x)) p 256 (get_or v k 0) agrees (omega (arith, (fits k).fits, get_or-take n bytes k 0 (omega (arith, long)))))
 
   mask-is : (lanes : List ℕ) → lanes ≡ map lane v → mask_l (map (top 7) lanes) % 2 ^ 64 ≡ mask_l (map is_other v)
   mask-is lanes are =
       ap (λ l. mask_l (map (top 7) l) % 2 ^ 64) are ∙ ap (λ l. mask_l l % 2 ^ 64) (map-map (top 7) lane v)
-      ∙ mask_l-mod (map is_other v) 64 (omega (arith, length-map v is_other, long))
+      ∙ mask_l-mod (map is_other v) 64 (omega (arith, length-map v is_other, long, few))
 
-  pub no_other : (lanes : List ℕ) → lanes ≡ map lane v → mask_l (map (top 7) lanes) % 2 ^ 64 ≡ 0 → 16 ≡ prefix_len p v
+  pub no_other : (lanes : List ℕ) → lanes ≡ map lane v → mask_l (map (top 7) lanes) % 2 ^ 64 ≡ 0 → n ≡ prefix_len p v
   no_other lanes are none = sym long ∙ sym (leading_from_mask_l is_other v (sym (mask-is lanes are) ∙ none)) ∙ same
 
   pub first_other : (lanes : List ℕ) → lanes ≡ map lane v → (mask_l (map (top 7) lanes) % 2 ^ 64 ≡ 0 → ⊥) → count_trailing_zeros 64 (mask_l (map (top 7) lanes) % 2 ^ 64) ≡ prefix_len p v
-  first_other lanes are other = ap (count_trailing_zeros 64) (mask-is lanes are) ∙ trailing_mask_l is_other 64 v (omega (arith, long)) (omega (arith, mask-is lanes are, other)) ∙ same
+  first_other lanes are other = ap (count_trailing_zeros 64) (mask-is lanes are) ∙ trailing_mask_l is_other 64 v (omega (arith, long, few)) (omega (arith, mask-is lanes are, other)) ∙ same
+
+-- bytes that are all in a set are all in a larger one
+run-wider : (p q : ℕ → Bool) → ((x : ℕ) → p x ≡ true → q x ≡ true) → (xs : List ℕ) → prefix_len p xs ≡ length xs → prefix_len q xs ≡ length xs
+run-wider p q wider [] all = refl
+run-wider p q wider (x ∷ xs) all = by (p x) refl all (run-wider p q wider xs)
+  where
+    by : (b : Bool) → p x ≡ b → cond b (1 + prefix_len p xs) 0 ≡ suc (length xs) → (prefix_len p xs ≡ length xs → prefix_len q xs ≡ length xs) → prefix_len q (x ∷ xs) ≡ suc (length xs)
+    by false other all more = absurd (omega (arith, all))
+    by true is all more =
+        let later : prefix_len p xs ≡ length xs = omega (arith, all) in
+        let next : 1 + prefix_len q xs ≡ suc (length xs) = omega (arith, more later) in
+        ap (λ b. cond b (1 + prefix_len q xs) 0) (wider x is) ∙ next
 
 -- a printable byte is an ordinary one
 pub printable-ordinary : (white : Bool) (xs : List ℕ) → prefix_len is_printable_byte xs ≡ length xs → prefix_len (is_ordinary_byte white) xs ≡ length xs
-printable-ordinary white [] all = refl
-printable-ordinary white (x ∷ xs) all = by (is_printable_byte x) refl all (printable-ordinary white xs)
+printable-ordinary white = run-wider is_printable_byte (is_ordinary_byte white) (λ x is. ap (λ b. b || ((white && (x == 9 || x == 10)) || (nat_le 0x80 x && not (x == 0xC2 || x == 0xE2)))) is)
+
+-- a byte of lines: printable ASCII and LF
+abbrev pub is_line_byte : ℕ → Bool
+is_line_byte b = is_printable_byte b || b == 10
+
+-- it is an ordinary one, with TAB and LF
+pub line-ordinary : (xs : List ℕ) → prefix_len is_line_byte xs ≡ length xs → prefix_len (is_ordinary_byte true) xs ≡ length xs
+line-ordinary = run-wider is_line_byte (is_ordinary_byte true) wider
   where
-    by : (b : Bool) → is_printable_byte x ≡ b → cond b (1 + prefix_len is_printable_byte xs) 0 ≡ suc (length xs) → (prefix_len is_printable_byte xs ≡ length xs → prefix_len (is_ordinary_byte white) xs ≡ length xs)
-        → prefix_len (is_ordinary_byte white) (x ∷ xs) ≡ suc (length xs)
-    by false other all more = absurd (omega (arith, all))
-    by true is all more =
-        let here : is_ordinary_byte white x ≡ true = ap (λ b. b || ((white && (x == 9 || x == 10)) || (nat_le 0x80 x && not (x == 0xC2 || x == 0xE2)))) is in
-        let later : prefix_len is_printable_byte xs ≡ length xs = omega (arith, all) in
-        let next : 1 + prefix_len (is_ordinary_byte white) xs ≡ suc (length xs) = omega (arith, more later) in
-        ap (λ b. cond b (1 + prefix_len (is_ordinary_byte white) xs) 0) here ∙ next
+    wider : (x : ℕ) → is_line_byte x ≡ true → is_ordinary_byte true x ≡ true
+    wider x is = grind (arith, nat_tests)

@@ -7,6 +7,7 @@ pub mod SafeLemmas
 pub mod CharacterLemmas
 pub mod CellLemmas
 pub mod CellTextLemmas
+pub mod CellFrontLemmas
 pub mod FrontLemmas
 pub mod LengthLemmas
 mod SafeExamples

@@ -1,6 +1,6 @@
 //! The front of a text up to a byte that isn't in a set. Most texts are made of printable ASCII,
-//! which each set has, and they are read 16 bytes at a time, without decoding.
-ghost use Rattle.std.specs.Prelude.{◌≡◌, ◌≤◌, ◌++◌, length, take, chars, IsTrue};
+//! which each set has, and they are read 16 or 64 bytes at a time, without decoding.
+ghost use Rattle.std.specs.Prelude.{◌≡◌, ◌≤◌, ◌++◌, length, take, chars, IsTrue, true};
 ghost use Rattle.std.specs.List.{list_all, prefix_len};
 ghost use Rattle.std.specs.Str.{IsUtf8};
 ghost use Rattle.ansi_safe.specs.Safe.{is_printable_byte, is_ordinary_byte, is_in};
@@ -25,7 +25,44 @@ pub(crate) fn split_ordinary(text: &str, white: bool) -> (&str, &str)
     ensures ordinary { IsTrue (list_all (is_ordinary_byte white) result.0.now) }
     ensures utf8 { IsUtf8 result.0.now }
 {
-    text.split_at(front_len(text.as_bytes(), ByteSet::Ordinary { white }))
+    text.split_at(ordinary_len(text.as_bytes(), white))
+}
+
+/// How many bytes of ordinary characters are at the front.
+#[inline(always)]
+fn ordinary_len(bytes: &[u8], white: bool) -> usize
+    ensures { result ≡ prefix_len (is_ordinary_byte white) bytes.now }
+{
+    if white {
+        ordinary_len_of_lines(bytes)
+    } else {
+        front_len(bytes, ByteSet::Ordinary { white: false })
+    }
+}
+
+/// How many bytes of ordinary characters, TAB and LF are at the front. Lines of printable ASCII are
+/// read 64 bytes at a time.
+#[inline(always)]
+fn ordinary_len_of_lines(bytes: &[u8]) -> usize
+    ensures { result ≡ prefix_len (is_ordinary_byte true) bytes.now }
+{
+    let mut rest = bytes;
+    while 64 <= rest.len() && are_lines(rest) {
+        rest = &rest[64..];
+    }
+    bytes.len() - rest.len() + front_len(rest, ByteSet::Ordinary { white: true })
+}
+
+/// Whether the first 64 bytes are printable ASCII and LF.
+#[inline(always)]
+fn are_lines(bytes: &[u8]) -> bool
+    requires { 64 ≤ length bytes.now }
+    ensures { result ≡ true → prefix_len (is_ordinary_byte true) (take 64 bytes.now) ≡ 64 }
+{
+    // Printable ASCII is A1 to FF then, and LF is 8B.
+    let block = u8x64::from_slice(bytes) + u8x64::splat(0x81);
+    let others = block.simd_lt(u8x64::splat(0xA1)) & block.simd_ne(u8x64::splat(0x8B));
+    others.to_bitmask() == 0
 }
 
 /// How many bytes at the front are in the set.

@@ -81,7 +81,7 @@ fn pen_after_items(text: &str, links: Links) -> Option<Pen<'_>>
 }
 
 /// What ends what a text leaves open, or `None` if the text isn't safe. Doesn't allocate.
-fn ending_if_safe(text: &str, links: Links) -> Option<Ending>
+pub fn ending_if_safe(text: &str, links: Links) -> Option<Ending>
     ensures none { is_some result ≡ is_safe links text.now }
     ensures bytes { IfSome result (λ e.
         e.link_end.now ++ close (rendition_of e.style) ≡ ending text.now) }

@@ -8,6 +8,7 @@ pub mod OffsetLemmas
 pub mod SplitLemmas
 pub mod EndLemmas
 pub mod WhiteSpaceLemmas
+pub mod LastRunLemmas
 pub mod WindowLemmas
 pub mod PrefixLemmas
 mod FindExamples

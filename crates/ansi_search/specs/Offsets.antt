@@ -1,10 +1,10 @@
 -- Where the plain bytes of a text are in it. No contract of AnsiStr cites it.
-use Rattle.std.specs.Prelude.{◌≡◌, ◌≢◌, ℕ, ◌+◌, ◌-◌, ◌<◌, Bool, ◌||◌, ◌==◌, List, [], ◌∷◌, length, drop, nat_lt, IsTrue, IsFalse, if◌then◌else◌, slice_index}
+use Rattle.std.specs.Prelude.{◌≡◌, ◌≢◌, ℕ, ◌+◌, ◌-◌, ◌<◌, Bool, ◌||◌, ◌==◌, List, [], ◌∷◌, length, drop, nat_lt, IsTrue, IsFalse, if◌then◌else◌, slice_index, slice_range}
 use Rattle.std.specs.Int.{is_in_range}
 use Rattle.std.specs.Str.{IsCharBoundary, byte}
 use Rattle.ansi_items.specs.Bytes.{escape, bell}
 use Rattle.ansi_items.specs.Pieces.{Piece, Text, spelling, pieces_of}
-use Rattle.ansi_items.specs.Plain.{plain}
+use Rattle.ansi_items.specs.Plain.{plain, plain_of}
 use Rattle.ansi_search.specs.Positions.{no_character_goes_on}
 
 -- how many bytes of pieces are before the plain byte n, with the sequences up to there; all of them, if there is no such byte
@@ -44,3 +44,11 @@ pub record IsEnd (t : List ℕ) (i : ℕ) : Type 0 where
   pub count : before + length (plain (drop i t)) ≡ length (plain t)
   pub rest : drop before (plain t) ≡ plain (drop i t)
   pub offset : (n : ℕ) → offset_of t (before + n) ≡ i + offset_of (drop i t) n
+
+-- the bytes m..e of t are the end of its plain text, and only sequences are after them
+pub record IsLastRun (t : List ℕ) (m e : ℕ) : Type 0 where
+  pub end : IsEnd t m
+  pub boundary : IsCharBoundary t e
+  pub marks : List Piece
+  pub pieces : pieces_of (drop m t) ≡ Text (slice_range t m e) ∷ marks
+  pub bare : plain_of marks ≡ []

@@ -2,7 +2,7 @@
 ghost use Rattle.std.specs.Prelude.{◌≡◌, ◌↔◌, ◌<◌, ◌≤◌, ℕ, None, Some, IsTrue};
 ghost use Rattle.std.specs.Str.{IsCharBoundary};
 ghost use Rattle.ansi_items.specs.Plain.{plain};
-ghost use Rattle.ansi_search.specs.Positions.{is_good_position, is_char_boundary, is_good_range};
+ghost use Rattle.ansi_search.specs.Positions.{is_char_boundary, is_good_range};
 
 mod critical;
 mod ends;
@@ -11,8 +11,7 @@ mod offsets;
 mod prefix;
 mod two_way;
 
-use ansi_items::ansitok::{Kind, Scanner};
-pub use ends::{end_before_white_space, ends_with, suffix_offset};
+pub use ends::{end_before_white_space, ends_with, last_run, suffix_offset};
 pub use matches::{find, find_from, first_in_run};
 pub use offsets::walk_to;
 use prefix::run_front;
@@ -20,26 +19,6 @@ pub use prefix::starts_with;
 
 /// A position past the end of every text: no end, or no match.
 pub const PAST_THE_END: usize = usize::MAX;
-
-/// Whether the position is good: a character of the plain text begins there, or it is the end of
-/// the plain text or past it. (std; past the end, the Rust crate.)
-///
-/// The position counts bytes of the plain text. Doesn't allocate.
-pub fn is_good_position(text: &str, position: usize) -> bool
-    ensures { result ≡ is_good_position (plain text.now) position }
-{
-    let mut remaining = position;
-    for item in Scanner::new(text) {
-        if item.kind == Kind::Text {
-            let run = &text[item.start..item.end];
-            if remaining < run.len() {
-                return run.is_char_boundary(remaining);
-            }
-            remaining -= run.len();
-        }
-    }
-    true
-}
 
 /// Like `AnsiStr::ansi_is_char_boundary`, on a `&str`.
 pub fn is_char_boundary(text: &str, index: usize) -> bool

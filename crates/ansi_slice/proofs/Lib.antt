@@ -6,6 +6,7 @@ pub mod WalkLemmas
 pub mod SideLemmas
 pub mod KeptWalkLemmas
 pub mod StretchLemmas
+pub mod LastRunLemmas
 pub mod SideWalkLemmas
 pub mod TrimWalkLemmas
 pub mod ShownLemmas

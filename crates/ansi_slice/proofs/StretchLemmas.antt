@@ -19,7 +19,7 @@ use Rattle.ansi_slice.proofs.KeptWalkLemmas.{kept-walk, kept-all}
 sequences_up_to-last : (n : ℕ) (w : List ℕ) (ps : List Piece) → n < length w → sequences_up_to n (Text w ∷ ps) ≡ []
 sequences_up_to-last n w ps last = ap (λ ms. joined (marks_up_to n ms)) (marks_of-text w ps) ∙ ap joined (marks_up_to-none n (length w) (marks_of ps) last)
 
-sequences_up_to-text : (n : ℕ) (w : List ℕ) (ps : List Piece) → length w ≤ n → sequences_up_to n (Text w ∷ ps) ≡ sequences_up_to (n - length w) ps
+pub sequences_up_to-text : (n : ℕ) (w : List ℕ) (ps : List Piece) → length w ≤ n → sequences_up_to n (Text w ∷ ps) ≡ sequences_up_to (n - length w) ps
 sequences_up_to-text n w ps within =
     ap (λ ms. joined (marks_up_to n ms)) (marks_of-text w ps) ∙ ap joined (marks_up_to-further n (length w) (marks_of ps) within)
     ∙ joined-further (length w) (marks_up_to (n - length w) (marks_of ps))

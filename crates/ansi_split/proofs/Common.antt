@@ -57,4 +57,4 @@ pub use Rattle.ansi_split.specs.Spans.{marks_further_on, IsCutAfter, IsCutAtMatc
 unfoldable pub use Rattle.ansi_split.specs.Spans.{parts_left, span_text}
 pub use Rattle.ansi_split.specs.StdSplit.{AreBetween, AreInTurn, slices_over, AreSplit, GoesOn}
 pub use Rattle.memchr.specs.Find.{NoneBefore, IsFirst, Nowhere, Passes, is_byte}
-pub use Rattle.ansi_split.specs.Splits.{SplitPart, split_part, split_parts}
+pub use Rattle.ansi_split.specs.Splits.{CarriedPart, split_part, split_parts}

@@ -1,5 +1,5 @@
 -- How long a part may be, and what it takes of its text.
-use Rattle.ansi_split.proofs.Common.{◌≡◌, ℕ, ◌+◌, ◌-◌, ◌≤◌, Bool, true, false, ◌==◌, List, [], ◌∷◌, ◌++◌, length, drop, refl, sym, ap, subst, arith, length-append, length-take, if◌then◌else◌, cond_both, nat_tests, sum_by-cons, sum_by, Piece, spelling, Text, pieces_of, Mark, plain, plain_of, marks, marks_of, marks_up_to, joined, Rendition, IsStyle, plain_style, has_any, close, start, close_if_any, interleaved, style_within, parts, marks_past, part_over, part, part_from, source_len, SplitPart, carried, parts_from, parts_left, span_part, slice_range-append, marks_of-text, marks_of-mark, spelled, spelled-pieces_of, interleaved_pieces, piece_when, at_places, at_places-further, longest_close, longest_start_and_close}
+use Rattle.ansi_split.proofs.Common.{◌≡◌, ℕ, ◌+◌, ◌-◌, ◌≤◌, Bool, true, false, ◌==◌, List, [], ◌∷◌, ◌++◌, length, drop, refl, sym, ap, subst, arith, length-append, length-take, if◌then◌else◌, cond_both, nat_tests, sum_by-cons, sum_by, Piece, spelling, Text, pieces_of, Mark, plain, plain_of, marks, marks_of, marks_up_to, joined, Rendition, IsStyle, plain_style, has_any, close, start, close_if_any, interleaved, style_within, parts, marks_past, part_over, part, part_from, source_len, CarriedPart, carried, parts_from, parts_left, span_part, slice_range-append, marks_of-text, marks_of-mark, spelled, spelled-pieces_of, interleaved_pieces, piece_when, at_places, at_places-further, longest_close, longest_start_and_close}
 use Rattle.std.proofs.Common.{length-drop}
 use Rattle.ansi_style.proofs.MarkLemmas.{joined-further}
 use Rattle.std.specs.Prelude.{Option, Some, None, ◌&&◌, nat_lt}
@@ -49,8 +49,8 @@ length-part_from c t before i is =
       length-close_if_any (style_within c t i.1),
     ))
 
-pub length-span_part : {q : SplitPart} (c : Rendition) (t : List ℕ) (skip : ℕ) → IsStyle c → span_part c t skip ≡ q → length q.bytes ≤ q.source_len + longest_start_and_close
-length-span_part c t skip style is = subst (λ (q : SplitPart). length q.bytes ≤ q.source_len + longest_start_and_close) is (length-part_from c t None (skip, length (plain t)) style)
+pub length-span_part : {q : CarriedPart} (c : Rendition) (t : List ℕ) (skip : ℕ) → IsStyle c → span_part c t skip ≡ q → length q.bytes ≤ q.source_len + longest_start_and_close
+length-span_part c t skip style is = subst (λ (q : CarriedPart). length q.bytes ≤ q.source_len + longest_start_and_close) is (length-part_from c t None (skip, length (plain t)) style)
 
 length-dressed_part : (t : List ℕ) (before : Option ℕ) (i : ℕ × ℕ) → length (part_over t before i) ≤ (part_from plain_style t before i).source_len + longest_start_and_close
 unfolding part_from
@@ -116,12 +116,12 @@ bytes_of_one None i x comes = omega (arith, length-take (i.1 - i.0) (drop i.0 x)
 bytes_of_one (Some e) i x comes = omega (arith, comes.0, comes.1, length-take (i.1 - i.0) (drop i.0 x), length-drop i.0 x)
 
 shares_over : (t : List ℕ) (before : Option ℕ) (is : List (ℕ × ℕ)) → ComeAfter before is
-    → sum_by (λ (q : SplitPart). q.source_len) (parts_from plain_style t before is) ≤ bytes_past_part before (length (plain t)) + length (joined (marks_past before (marks t)))
+    → sum_by (λ (q : CarriedPart). q.source_len) (parts_from plain_style t before is) ≤ bytes_past_part before (length (plain t)) + length (joined (marks_past before (marks t)))
 shares_over t before [] come = omega arith
 shares_over t before (i ∷ is) come =
     omega (
       arith,
-      sum_by-cons (λ (q : SplitPart). q.source_len) (part_from plain_style t before i) (parts_from plain_style t (Some i.1) is),
+      sum_by-cons (λ (q : CarriedPart). q.source_len) (part_from plain_style t before i) (parts_from plain_style t (Some i.1) is),
       source_len_by_marks t before i,
       bytes_of_one before i (plain t) come.0,
       marks_of_one before i (marks t) come.0,
@@ -134,11 +134,11 @@ length-pieces (Text w ∷ ps) = grind (arith, joined-further, length-append, mar
 length-pieces (p ∷ ps) =
     omega (arith, length-pieces ps, length-append (spelling p) (spelled ps), ap (λ ms. length (joined ms)) (marks_of-mark p ps refl), length-append (spelling p) (joined (marks_of ps)))
 
-pub source_lens_within : (t p : List ℕ) → sum_by (λ (q : SplitPart). q.source_len) (parts_left plain_style t p 0 0) ≤ length t
+pub source_lens_within : (t p : List ℕ) → sum_by (λ (q : CarriedPart). q.source_len) (parts_left plain_style t p 0 0) ≤ length t
 source_lens_within t p =
     omega (
       arith,
-      ap (sum_by (λ (q : SplitPart). q.source_len)) (parts_left-begin t p),
+      ap (sum_by (λ (q : CarriedPart). q.source_len)) (parts_left-begin t p),
       shares_over t None (parts (plain t) p) (all_parts_come_after (plain t) p),
       ap (λ ms. length (joined ms)) (marks_past-none (marks t)),
       length-pieces (pieces_of t),

@@ -1,5 +1,5 @@
 -- How many parts there are; and that the plain texts of all parts of a whole text are the slices between the matches.
-use Rattle.ansi_split.proofs.Common.{◌≡◌, ◌≢◌, ℕ, suc, ◌+◌, ◌≤◌, List, [], ◌∷◌, ◌++◌, map, length, filter_map, Option, Some, None, refl, sym, ◌∙◌, ap, ap₂, subst, arith, IsTrue, slice_range, slice_get, length-append, nat_le, if◌then◌else◌, cons_option, range_with_len, length-filter, count_by-le-length, encode_utf8, IsUtf8, chars, plain, is_whole, StyledByte, styled, unstyled, is_match, match_places, without_overlaps, parts, end_before, part_over, part, all_parts, AreSplit, slices_over, slice_range-map, unstyled-styled, IsUtf8-plain, SplitPart, parts_from, plain_style}
+use Rattle.ansi_split.proofs.Common.{◌≡◌, ◌≢◌, ℕ, suc, ◌+◌, ◌≤◌, List, [], ◌∷◌, ◌++◌, map, length, filter_map, Option, Some, None, refl, sym, ◌∙◌, ap, ap₂, subst, arith, IsTrue, slice_range, slice_get, length-append, nat_le, if◌then◌else◌, cons_option, range_with_len, length-filter, count_by-le-length, encode_utf8, IsUtf8, chars, plain, is_whole, StyledByte, styled, unstyled, is_match, match_places, without_overlaps, parts, end_before, part_over, part, all_parts, AreSplit, slices_over, slice_range-map, unstyled-styled, IsUtf8-plain, CarriedPart, parts_from, plain_style}
 use Rattle.std.specs.Prelude.{option_map}
 use Rattle.std.proofs.lemmas.List.FromFn.{length-range_with_len}
 use Rattle.std.proofs.lemmas.Slice.Zip.{length-zip}
@@ -37,7 +37,7 @@ plain-part_over t before i whole after =
 -- The parts of all indices are those over the intervals, in turn.
 
 abbrev pub parts_over : List ℕ → Option ℕ → List (ℕ × ℕ) → List (List ℕ)
-parts_over t before is = map (λ (q : SplitPart). q.bytes) (parts_from plain_style t before is)
+parts_over t before is = map (λ (q : CarriedPart). q.bytes) (parts_from plain_style t before is)
 
 -- if h gives the part of each index, from a on
 filter_map-parts : (t : List ℕ) (h : ℕ → Option (List ℕ)) (before : Option ℕ) (is : List (ℕ × ℕ)) (a : ℕ)

@@ -1,5 +1,5 @@
 -- The parts that are left of a text: the first one, which is written from the text up to its end, and those of what follows.
-use Rattle.ansi_split.proofs.Common.{◌≡◌, ℕ, ◌+◌, ◌-◌, ◌≤◌, max, inl, inr, Bool, not, ◌&&◌, ◌||◌, ◌==◌, List, [], ◌∷◌, ◌++◌, length, map, take, drop, Option, Some, None, refl, sym, ◌∙◌, ap, ap₂, subst, arith, IsTrue, if◌then◌else◌, nat_eq, nat_lt, nat_le, length-append, cases_lt, and_parts, and_from, le-leb, nat_tests, length-map, length-drop, length-take-le, get_or-take, take_at, take-append-drop, filter_agree, IsUtf8-drop, IsCharBoundary-from_take, IsCharBoundary-start, starts_with, IsUtf8, pieces_of, Mark, plain, marks, marks_up_to, no_character_goes_on, is_char_boundary, Rendition, has_any, start, close_if_any, after_marks, style_after_from, style_within, interleaved, match_places, first_match_from, without_overlaps, marks_past, SplitPart, marks_further_on, IsCutAfter, IsCutAtMatch, carried, part_from, parts_from, parts_left, span_part, slice_range-from_past, marks_up_to-marks_past, interleaved-text, IsUtf8-plain, at_places, at_places-further, good_is_boundary, no_character_goes_on-past, is_char_boundary-from, starts_with-splits}
+use Rattle.ansi_split.proofs.Common.{◌≡◌, ℕ, ◌+◌, ◌-◌, ◌≤◌, max, inl, inr, Bool, not, ◌&&◌, ◌||◌, ◌==◌, List, [], ◌∷◌, ◌++◌, length, map, take, drop, Option, Some, None, refl, sym, ◌∙◌, ap, ap₂, subst, arith, IsTrue, if◌then◌else◌, nat_eq, nat_lt, nat_le, length-append, cases_lt, and_parts, and_from, le-leb, nat_tests, length-map, length-drop, length-take-le, get_or-take, take_at, take-append-drop, filter_agree, IsUtf8-drop, IsCharBoundary-from_take, IsCharBoundary-start, starts_with, IsUtf8, pieces_of, Mark, plain, marks, marks_up_to, no_character_goes_on, is_char_boundary, Rendition, has_any, start, close_if_any, after_marks, style_after_from, style_within, interleaved, match_places, first_match_from, without_overlaps, marks_past, CarriedPart, marks_further_on, IsCutAfter, IsCutAtMatch, carried, part_from, parts_from, parts_left, span_part, slice_range-from_past, marks_up_to-marks_past, interleaved-text, IsUtf8-plain, at_places, at_places-further, good_is_boundary, no_character_goes_on-past, is_char_boundary-from, starts_with-splits}
 use Rattle.ansi_split.proofs.PartSliceLemmas.{own_places, marks_past-places, at_places-at_places}
 use Rattle.ansi_split.proofs.TakenLemmas.{is_first_taken, without_overlaps-none, intervals_between, intervals_between-further, moved_on}
 
@@ -33,7 +33,7 @@ own-after (Some e) m b ms ks is = own-further (own_places (Some (m + e)) (m + b)
 
 -- A part by what it is made of.
 
-abbrev part_made_of : Bool → ℕ → Rendition → List ℕ → Rendition → SplitPart
+abbrev part_made_of : Bool → ℕ → Rendition → List ℕ → Rendition → CarriedPart
 part_made_of same n style shown last = record {
   bytes = if same && n == 0 then [] else start style ++ shown ++ close_if_any last;
   borrowed = n == 0 && (same || not (has_any style));

@@ -1,5 +1,5 @@
 -- The parts that a split gives: those of the text, each by its index; and a part that is written or borrowed.
-use Rattle.ansi_split.proofs.Common.{◌≡◌, Bool, unwrap_or, ℕ, zero, suc, ◌+◌, ◌≤◌, true, false, not, ◌&&◌, ◌||◌, ◌==◌, List, [], ◌∷◌, ◌++◌, length, map, drop, Option, Some, None, option_map, refl, sym, ◌∙◌, ap, ap₂, arith, IsTrue, IsFalse, if◌then◌else◌, slice_get, append-nil, eqb-true, eq-eqb, ne_eqb, cond_both, or_from, and_parts, and_from, and-false, or-true, none-some, same_Some, drop_all, list_any-append, range_with_len, list_all, escape, Piece, Text, ArePieces, pieces_of, Mark, plain, marks_of, marks, marks_up_to, has_escape, Rendition, plain_style, has_any, start, close_if_any, style_of, style_at, parts, end_before, carried, part, all_parts, part_from, source_len, is_part_borrowed, SplitPart, split_part, split_parts, parts_from, parts_left, span_part, span_text, pieces_are, has_escape-bare, plain-bare, slice_range-past, mark_further_on, marks-bare, marks_of-text, marks_of-mark, marks_up_to-marks_past, interleaved-bare, start-unset, close_if_any-unset}
+use Rattle.ansi_split.proofs.Common.{◌≡◌, Bool, unwrap_or, ℕ, zero, suc, ◌+◌, ◌≤◌, true, false, not, ◌&&◌, ◌||◌, ◌==◌, List, [], ◌∷◌, ◌++◌, length, map, drop, Option, Some, None, option_map, refl, sym, ◌∙◌, ap, ap₂, arith, IsTrue, IsFalse, if◌then◌else◌, slice_get, append-nil, eqb-true, eq-eqb, ne_eqb, cond_both, or_from, and_parts, and_from, and-false, or-true, none-some, same_Some, drop_all, list_any-append, range_with_len, list_all, escape, Piece, Text, ArePieces, pieces_of, Mark, plain, marks_of, marks, marks_up_to, has_escape, Rendition, plain_style, has_any, start, close_if_any, style_of, style_at, parts, end_before, carried, part, all_parts, part_from, source_len, is_part_borrowed, CarriedPart, split_part, split_parts, parts_from, parts_left, span_part, span_text, pieces_are, has_escape-bare, plain-bare, slice_range-past, mark_further_on, marks-bare, marks_of-text, marks_of-mark, marks_up_to-marks_past, interleaved-bare, start-unset, close_if_any-unset}
 use Rattle.std.proofs.lemmas.Bool.{true≢false}
 use Rattle.ansi_split.proofs.IntervalLemmas.{end_before_index, end_before_index-suc, end_before_index-none}
 use Rattle.ansi_split.proofs.PartTextLemmas.{length-parts, all_parts-over}
@@ -11,8 +11,8 @@ pub parts_left-begin : (t p : List ℕ) → parts_left plain_style t p 0 0 ≡ p
 unfolding parts_left
 parts_left-begin t p = refl
 
-pub bytes-parts_left : (t p : List ℕ) → map (λ (q : SplitPart). q.bytes) (parts_left plain_style t p 0 0) ≡ all_parts t p
-bytes-parts_left t p = ap (map (λ (q : SplitPart). q.bytes)) (parts_left-begin t p) ∙ sym (all_parts-over t p)
+pub bytes-parts_left : (t p : List ℕ) → map (λ (q : CarriedPart). q.bytes) (parts_left plain_style t p 0 0) ≡ all_parts t p
+bytes-parts_left t p = ap (map (λ (q : CarriedPart). q.bytes)) (parts_left-begin t p) ∙ sym (all_parts-over t p)
 
 length-parts_from : (c : Rendition) (t : List ℕ) (before : Option ℕ) (is : List (ℕ × ℕ)) → length (parts_from c t before is) ≡ length is
 length-parts_from c t before [] = refl
@@ -48,12 +48,12 @@ borrowed-bare : (t : List ℕ) (before : Option ℕ) (i : ℕ × ℕ) → IsFals
 unfolding part_from
 borrowed-bare t before i none = grind (arith, carried-bare, marks-bare, or-true)
 
-bare_are_borrowed : (t : List ℕ) (before : Option ℕ) (is : List (ℕ × ℕ)) → IsFalse (has_escape t) → list_all (λ (q : SplitPart). q.borrowed) (parts_from plain_style t before is) ≡ true
+bare_are_borrowed : (t : List ℕ) (before : Option ℕ) (is : List (ℕ × ℕ)) → IsFalse (has_escape t) → list_all (λ (q : CarriedPart). q.borrowed) (parts_from plain_style t before is) ≡ true
 bare_are_borrowed t before [] none = refl
 bare_are_borrowed t before (i ∷ is) none = grind (arith, and_from, borrowed-bare, bare_are_borrowed t (Some i.1) is none)
 
-pub parts_left-bare : (t p : List ℕ) → IsFalse (has_escape t) → IsTrue (list_all (λ (q : SplitPart). q.borrowed) (parts_left plain_style t p 0 0))
-parts_left-bare t p none = ap (list_all (λ (q : SplitPart). q.borrowed)) (parts_left-begin t p) ∙ bare_are_borrowed t None (parts (plain t) p) none
+pub parts_left-bare : (t p : List ℕ) → IsFalse (has_escape t) → IsTrue (list_all (λ (q : CarriedPart). q.borrowed) (parts_left plain_style t p 0 0))
+parts_left-bare t p none = ap (list_all (λ (q : CarriedPart). q.borrowed)) (parts_left-begin t p) ∙ bare_are_borrowed t None (parts (plain t) p) none
 
 -- A text without marks has no ESC.
 
@@ -119,7 +119,7 @@ bare-unstyled c t skip none inside unset =
 
 -- The part of an index.
 
-pub record IsPartAt (t p : List ℕ) (k : ℕ) (q : SplitPart) : Type 0 where
+pub record IsPartAt (t p : List ℕ) (k : ℕ) (q : CarriedPart) : Type 0 where
   pub interval : ℕ × ℕ
   pub found : slice_get (parts (plain t) p) k ≡ Some interval
   pub bytes : part t p k ≡ Some q.bytes
@@ -127,7 +127,7 @@ pub record IsPartAt (t p : List ℕ) (k : ℕ) (q : SplitPart) : Type 0 where
   pub source_len : source_len t p k ≡ q.source_len
   pub bare : IsFalse (has_escape t) → q.borrowed ≡ true
 
-pub part_at : (t p : List ℕ) (k : ℕ) (q : SplitPart) → slice_get (parts_left plain_style t p 0 0) k ≡ Some q → IsPartAt t p k q
+pub part_at : (t p : List ℕ) (k : ℕ) (q : CarriedPart) → slice_get (parts_left plain_style t p 0 0) k ≡ Some q → IsPartAt t p k q
 part_at t p k q at = grind (arith, borrowed-bare, none-some, same_Some, slice_get-parts_left)
 
 pub no_part_at : (t p : List ℕ) (k : ℕ) → slice_get (parts_left plain_style t p 0 0) k ≡ None → slice_get (parts (plain t) p) k ≡ None
@@ -143,10 +143,10 @@ by_index h (x ∷ xs) a gives =
     let next : (j : ℕ) → a + 1 + j ≡ a + suc j = λ j. omega arith in
     ap₂ (λ b bs. b ∷ bs) (sym (ap h same ∙ gives 0 x refl)) (by_index h xs (a + 1) (λ j y at. ap h (next j) ∙ gives (suc j) y at))
 
-split_part-at : (t p : List ℕ) (k : ℕ) (q : SplitPart) → slice_get (parts_left plain_style t p 0 0) k ≡ Some q → split_part t p k ≡ q
+split_part-at : (t p : List ℕ) (k : ℕ) (q : CarriedPart) → slice_get (parts_left plain_style t p 0 0) k ≡ Some q → split_part t p k ≡ q
 split_part-at t p k q at =
     let is = part_at t p k q at in
-    let made : Option (List ℕ) → Bool → ℕ → SplitPart = λ bytes borrowed source_len. record { bytes = unwrap_or bytes []; borrowed = borrowed; source_len = source_len } in
+    let made : Option (List ℕ) → Bool → ℕ → CarriedPart = λ bytes borrowed source_len. record { bytes = unwrap_or bytes []; borrowed = borrowed; source_len = source_len } in
     ap₂ (λ bytes borrowed. made bytes borrowed (source_len t p k)) is.bytes is.borrowed ∙ ap (made (Some q.bytes) q.borrowed) is.source_len
 
 pub parts_left-parts : (t p : List ℕ) → parts_left plain_style t p 0 0 ≡ split_parts t p

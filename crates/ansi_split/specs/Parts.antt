@@ -32,8 +32,8 @@ end_before intervals (suc k) = option_map (λ (i : ℕ × ℕ). i.1) (slice_get 
 abbrev pub marks_past : Option ℕ → List Mark → List Mark
 marks_past before ms = filter (λ m. option_map_or (λ e. nat_lt e m.place) before true) ms
 
--- a part as a split gives it: its bytes, whether it is a borrow, and its source length, which is the number of its bytes that come from the text
-pub record SplitPart : Type 0 where
+-- a part of a text with what is carried into it, as a split or a wrap gives it: its bytes, whether it is a borrow, and its source length, which is the number of its bytes that come from the text or from a link that is carried
+pub record CarriedPart : Type 0 where
   pub bytes : List ℕ
   pub borrowed : Bool
   pub source_len : ℕ
@@ -43,7 +43,7 @@ abbrev pub carried : Rendition → List ℕ → Option ℕ → Rendition
 carried c t before = option_map_or (style_within c t) before c
 
 -- The part over the interval i, after a part that ends at `before`; c is the style before t. It is the start of the style that is carried, the text with its marks, and the close of the style then. A mark belongs to the first part whose end isn't before its place. A part is a borrow, a slice of t, if it has no mark, and is empty or carries no style. (The Rust crate; the places, own)
-unfoldable pub part_from : Rendition → List ℕ → Option ℕ → ℕ × ℕ → SplitPart
+unfoldable pub part_from : Rendition → List ℕ → Option ℕ → ℕ × ℕ → CarriedPart
 part_from c t before i =
     let own = marks_past before (marks_up_to i.1 (marks t)) in
     let style = carried c t before in

@@ -7,7 +7,7 @@ use Rattle.ansi_style.specs.Reading.{style_after_from, style_within}
 use Rattle.ansi_slice.specs.Cut.{interleaved}
 use Rattle.ansi_search.specs.Positions.{is_char_boundary}
 use Rattle.ansi_search.specs.Matches.{match_places, first_match_from}
-use Rattle.ansi_split.specs.Parts.{without_overlaps, marks_past, SplitPart, part_from}
+use Rattle.ansi_split.specs.Parts.{without_overlaps, marks_past, CarriedPart, part_from}
 
 -- marks with n plain bytes more before each
 abbrev pub marks_further_on : ℕ → List Mark → List Mark
@@ -30,12 +30,12 @@ pub record IsCutAtMatch (t p : List ℕ) (from : ℕ) (front after : List ℕ) :
   pub match_end : IsTrue (is_char_boundary (plain after) (length p))
 
 -- the parts over intervals of t in order, the first after a part that ends at `before`
-abbrev pub parts_from : Rendition → List ℕ → Option ℕ → List (ℕ × ℕ) → List SplitPart
+abbrev pub parts_from : Rendition → List ℕ → Option ℕ → List (ℕ × ℕ) → List CarriedPart
 parts_from c t before [] = []
 parts_from c t before (i ∷ is) = part_from c t before i ∷ parts_from c t (Some i.1) is
 
 -- the parts left of t; its first `skip` plain bytes are in no part, and the next match begins at or past `from`
-unfoldable pub parts_left : Rendition → List ℕ → List ℕ → ℕ → ℕ → List SplitPart
+unfoldable pub parts_left : Rendition → List ℕ → List ℕ → ℕ → ℕ → List CarriedPart
 parts_left c t p skip from =
     let taken = without_overlaps (length p) from (match_places (plain t) p) in
     parts_from c t None (zip (skip ∷ map (λ m. m + length p) taken) (taken ++ length (plain t) ∷ []))
@@ -45,7 +45,7 @@ unfoldable pub span_text : Rendition → List ℕ → ℕ → List ℕ
 span_text c t skip = start c ++ interleaved (plain t) skip (length (plain t)) (marks t) ++ close_if_any (style_after_from c t)
 
 -- the part that all of t makes, without its first `skip` plain bytes
-abbrev pub span_part : Rendition → List ℕ → ℕ → SplitPart
+abbrev pub span_part : Rendition → List ℕ → ℕ → CarriedPart
 span_part c t skip = part_from c t None (skip, length (plain t))
 
 -- What is kept of that part besides: whether t has an ESC, and the style after it. The first bytes, which are left out, end at a character boundary.

@@ -4,12 +4,12 @@ use Rattle.std.specs.Str.{IsCharBoundary}
 use Rattle.ansi_items.specs.Plain.{plain, has_escape}
 use Rattle.ansi_search.specs.Positions.{is_char_boundary}
 use Rattle.ansi_style.specs.States.{rendition_of_numbers}
-use Rattle.ansi_split.specs.Splits.{SplitPart}
+use Rattle.ansi_split.specs.Splits.{CarriedPart}
 use Rattle.ansi_split.specs.Spans.{parts_left}
 use Rattle.ansi_split.specs.declared.walks.PartWalk.{PartWalk}
 
 -- the parts that a walk has left
-abbrev pub parts_of_walk : PartWalk → List SplitPart
+abbrev pub parts_of_walk : PartWalk → List CarriedPart
 parts_of_walk w = if w.finished then [] else parts_left (rendition_of_numbers w.carried) w.rest.now w.pattern.now w.skip w.from
 
 -- a walk as a split leaves it: its bytes are texts, with a plain run at the front, and its places are between characters

@@ -42,9 +42,9 @@ pub struct AnsiSplit<'a, A: Allocator = Global> {
 
 impl<'a, A: Allocator> Model for AnsiSplit<'a, A> {
     ghost use Rattle.std.specs.Prelude.{List};
-    ghost use Rattle.ansi_split.specs.Splits.{SplitPart};
+    ghost use Rattle.ansi_split.specs.Splits.{CarriedPart};
 
-    ghost Value = { List SplitPart };
+    ghost Value = { List CarriedPart };
 
     ghost view = { λ s. s.spans };
 }

@@ -319,6 +319,7 @@ ansi_str_answer ansi_str_raw_style_start(const ansi_str_style *style, uint8_t *b
 ansi_str_answer ansi_str_raw_style_end(const ansi_str_style *style, uint8_t *buffer, size_t buffer_len);
 ansi_str_answer ansi_str_raw_width(const uint8_t *text, size_t text_len);
 ansi_str_answer ansi_str_raw_fitting(const uint8_t *text, size_t text_len, size_t width);
+ansi_str_answer ansi_str_raw_column_of(const uint8_t *text, size_t text_len, size_t position);
 ansi_str_answer ansi_str_raw_truncate(const uint8_t *text, size_t text_len, size_t width, const uint8_t *tail,
                                       size_t tail_len, uint8_t *buffer, size_t buffer_len);
 ansi_str_answer ansi_str_raw_pad(const uint8_t *text, size_t text_len, size_t width, uint32_t alignment,
@@ -333,6 +334,9 @@ ansi_str_answer ansi_str_raw_expand_tabs(const uint8_t *text, size_t text_len, s
                                          size_t buffer_len);
 ansi_str_answers ansi_str_raw_wrap(const uint8_t *text, size_t text_len, size_t width, uint8_t *buffer, size_t buffer_len,
                                    size_t *ends, size_t ends_len);
+ansi_str_answers ansi_str_raw_wrap_with(const uint8_t *text, size_t text_len, size_t width, const uint8_t *first_indent,
+                                        size_t first_indent_len, const uint8_t *indent, size_t indent_len, uint8_t *buffer,
+                                        size_t buffer_len, size_t *ends, size_t ends_len);
 ansi_str_answers ansi_str_raw_lines(const uint8_t *text, size_t text_len, size_t width, ansi_str_line_entry *lines,
                                     size_t lines_len);
 ansi_str_answer ansi_str_raw_link_at(const uint8_t *text, size_t text_len, size_t index, uint8_t *buffer, size_t buffer_len);
@@ -683,6 +687,14 @@ static inline ansi_str_answer ansi_str_fitting(const char *text, size_t text_len
     return ansi_str_raw_fitting(ansi_str_bytes(text), text_len, width);
 }
 
+/* The column of a position of the plain text, as the returned length: how many columns what is shown before it has, as
+   ansi_str_width counts them. Inside a cluster, the part of it before the position counts as a cluster. A position past the end
+   counts as the end. ANSI_STR_REFUSED: the position is inside a character. Doesn't allocate.
+   In "a\x1b[1m\xe6\x97\xa5\xe6\x9c\xac" the position 4 has the column 3. */
+static inline ansi_str_answer ansi_str_column_of(const char *text, size_t text_len, size_t position) {
+    return ansi_str_raw_column_of(ansi_str_bytes(text), text_len, position);
+}
+
 /* The text truncated to `width` columns, on one line and safe: SGRs, clean links (OSC 8) and printing characters stay, TAB
    and line ends become a blank, and the rest is left out. What fits then isn't cut. Any other text is cut, as by
    ansi_str_cut, to the longest prefix that fits beside the tail, and the tail follows unchanged. A tail wider than `width` is
@@ -765,6 +777,19 @@ static inline ansi_str_answers ansi_str_wrap(const char *text, size_t text_len, 
     size_t none;
     return ansi_str_raw_wrap(ansi_str_bytes(text), text_len, width, ansi_str_room(buffer), buffer_len,
                              ends == NULL ? &none : ends, ends_len);
+}
+
+/* The same with one indent before the first line, and the other before each later line. An indent is shown as a text of its own,
+   on one line and safe, and what it leaves open is closed after it. The text is wrapped at the columns that the wider of both
+   leaves, at least one. There are as many lines. May allocate for any text.
+   "lion tiger" in 7 columns with "* " and "  " gives "* lion" and "  tiger". */
+static inline ansi_str_answers ansi_str_wrap_with(const char *text, size_t text_len, size_t width, const char *first_indent,
+                                                  size_t first_indent_len, const char *indent, size_t indent_len, char *buffer,
+                                                  size_t buffer_len, size_t *ends, size_t ends_len) {
+    size_t none;
+    return ansi_str_raw_wrap_with(ansi_str_bytes(text), text_len, width, ansi_str_bytes(first_indent), first_indent_len,
+                                  ansi_str_bytes(indent), indent_len, ansi_str_room(buffer), buffer_len,
+                                  ends == NULL ? &none : ends, ends_len);
 }
 
 /* Where each line of ansi_str_wrap begins and ends in the plain text, if that call leaves nothing out and the text has no TAB;

@@ -1,13 +1,13 @@
 //! Calls on the display width of a text, and on its links.
-ghost use Rattle.ansi_calls.specs.Columns.{TellsWidth, TellsFitting, Truncates, Pads, Slices};
-ghost use Rattle.ansi_calls.specs.Columns.{Fits, TruncatesAt, ExpandsTabs, Wraps, WritesLink};
-ghost use Rattle.ansi_calls.specs.Columns.{WritesLines};
+ghost use Rattle.ansi_calls.specs.Columns.{TellsWidth, TellsFitting, TellsColumn, Truncates, Pads};
+ghost use Rattle.ansi_calls.specs.Columns.{Slices, Fits, TruncatesAt, ExpandsTabs, Wraps, WrapsWith};
+ghost use Rattle.ansi_calls.specs.Columns.{WritesLines, WritesLink};
 
 use ansi_calls::answers::Answer;
 use ansi_calls::columns::{
-    expand_tabs, fit, fitting, link_at, pad, slice, truncate, truncate_with, width,
+    column_of, expand_tabs, fit, fitting, link_at, pad, slice, truncate, truncate_with, width,
 };
-use ansi_calls::lines::{LineEntry, lines, wrap};
+use ansi_calls::lines::{LineEntry, lines, wrap, wrap_with};
 use ansi_calls::lists::ListAnswer;
 use std::alloc::Global;
 
@@ -25,6 +25,14 @@ pub extern "C" fn ansi_str_raw_fitting(text: &[u8], width: usize) -> Answer
     ensures { TellsFitting text.now width result }
 {
     fitting(text, width)
+}
+
+/// The columns of what is shown before a position.
+#[unsafe(no_mangle)]
+pub extern "C" fn ansi_str_raw_column_of(text: &[u8], position: usize) -> Answer
+    ensures { TellsColumn text.now position result }
+{
+    column_of(text, position)
 }
 
 /// The text truncated to `width` columns.
@@ -124,6 +132,24 @@ pub extern "C" fn ansi_str_raw_wrap(
     ensures { Wraps text.now width result buffer.old buffer.new ends.old ends.new }
 {
     wrap(alloc, text, width, buffer, ends)
+}
+
+/// The lines of the text wrapped at `width` columns with an indent before each, ready for display,
+/// and where each ends.
+#[unsafe(no_mangle)]
+pub extern "C" fn ansi_str_raw_wrap_with(
+    alloc: Global,
+    text: &[u8],
+    width: usize,
+    first_indent: &[u8],
+    indent: &[u8],
+    buffer: &mut [u8],
+    ends: &mut [usize],
+) -> ListAnswer
+    ensures { WrapsWith text.now width first_indent.now indent.now result buffer.old buffer.new
+        ends.old ends.new }
+{
+    wrap_with(alloc, text, width, first_indent, indent, buffer, ends)
 }
 
 /// Where each line of the text wrapped at `width` columns begins and ends in the plain text.

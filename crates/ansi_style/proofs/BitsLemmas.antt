@@ -4,6 +4,10 @@ use Rattle.ansi_style.proofs.Common.{◌≡◌, ◌∙◌, ℕ, zero, suc, ◌-�
 has-bit : (n k : ℕ) → has n k ≡ (bit_at n k == 1)
 has-bit n k = grind (arith, and_pow, bit_at-lt, eq-eqb, ne_eqb, one-mul, pow_pos, zero-mul)
 
+-- so sets that both have it, or both don't, have the same bit there
+pub same_bit : (n m k : ℕ) → has n k ≡ has m k → bit_at n k ≡ bit_at m k
+same_bit n m k same = grind (arith, has-bit, bit_at-lt, eq-eqb, ne_eqb)
+
 -- a property of every two bits holds of the bits at each place of two numbers
 bit_at-cases : (P : ℕ → ℕ → Type 0) → P 0 0 → P 0 1 → P 1 0 → P 1 1 → (n m k : ℕ) → P (bit_at n k) (bit_at m k)
 bit_at-cases P neither right left both n m k = grind arith

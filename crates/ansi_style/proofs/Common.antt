@@ -11,7 +11,7 @@ pub use Rattle.std.proofs.lemmas.List.{map-append, take_all, take_rest}
 pub use Rattle.std.proofs.lemmas.List.Folds.{list_all-append}
 pub use Rattle.std.proofs.lemmas.List.Splits.{slice_split-cons_no, slice_split-cons_yes, slice_split_at, slice_split_none}
 pub use Rattle.std.proofs.lemmas.List.Sums.{AllPass-from_list_all, fold-append}
-pub use Rattle.std.proofs.lemmas.Nat.{and_assoc, pow_pos}
+pub use Rattle.std.proofs.lemmas.Nat.{and_assoc, and_le_r, pow_pos}
 pub use Rattle.std.proofs.lemmas.Nat.Bits.{and_pow, bit_at-lt, bit_at-zero, bit_at_above, bit_at_and, bit_at_not, bit_at_or, same_from_bits}
 pub use Rattle.std.proofs.lemmas.Option.{IfSome_then}
 pub use Rattle.std.proofs.lemmas.Str.{digit_value_digit}

@@ -18,3 +18,4 @@ pub mod UnsetLemmas
 pub mod DressedLemmas
 mod StyleExamples
 mod TableExamples
+mod NumbersLemmas

@@ -1,8 +1,8 @@
 -- A style of the code as a rendition.
-use Rattle.std.specs.Prelude.{ℕ, Bool, not, ◌==◌, ◌^◌}
+use Rattle.std.specs.Prelude.{◌≡◌, ◌<◌, ℕ, Bool, not, ◌==◌, ◌^◌}
 use Rattle.std.specs.Int.RustNames.{bit_and}
 use Rattle.ansi_style.specs.Rendition.{Rendition, plain_style}
-use Rattle.ansi_style.specs.Numbers.{color_of_numbers, font_of_numbers}
+use Rattle.ansi_style.specs.Numbers.{color_of_numbers, numbers_of_color, font_of_numbers, numbers_of_font}
 use Rattle.ansi_style.specs.declared.state.Style.{Style}
 use Rattle.ansi_style.specs.declared.numbers.StyleNumbers.{StyleNumbers}
 
@@ -60,3 +60,19 @@ rendition_of_numbers n = with_attributes (has n.attributes) (record plain_style 
   underline_color = color_of_numbers n.underline_color;
   font = font_of_numbers n.font;
 })
+
+-- each bit and each byte that the style of the numbers doesn't need is 0, so exact numbers of one style have the same bytes, by the law `exact_numbers_are_determined` (own)
+pub record AreExact (n : StyleNumbers) : Type 0 where
+  pub attributes : n.attributes < 2 ^ 24
+  pub foreground : n.foreground ≡ numbers_of_color (color_of_numbers n.foreground)
+  pub background : n.background ≡ numbers_of_color (color_of_numbers n.background)
+  pub underline_color : n.underline_color ≡ numbers_of_color (color_of_numbers n.underline_color)
+  pub font : n.font ≡ numbers_of_font (font_of_numbers n.font)
+
+-- two styles as numbers have the same bytes (own)
+pub record HaveSameBytes (n m : StyleNumbers) : Type 0 where
+  pub attributes : n.attributes ≡ m.attributes
+  pub foreground : n.foreground ≡ m.foreground
+  pub background : n.background ≡ m.background
+  pub underline_color : n.underline_color ≡ m.underline_color
+  pub font : n.font ≡ m.font

@@ -1,4 +1,5 @@
-//! Laws of styles and of colors. `ansi_str` includes them among its own.
+//! Laws of styles and of colors. `ansi_str` includes them among its own, except the law of styles as
+//! numbers.
 //!
 //! Each function states one law as its contract. It does nothing and returns nothing.
 ghost use Rattle.std.specs.Prelude.{◌≡◌, codes};
@@ -6,8 +7,10 @@ ghost use Rattle.ansi_items.specs.AnsiColors.{compared, ansi_color_key};
 ghost use Rattle.ansi_style.specs.Rendition.{Rendition, IsStyle, plain_style, known};
 ghost use Rattle.ansi_style.specs.Reading.{style_after_from};
 ghost use Rattle.ansi_style.specs.Orders.{compared_in_turn, parts_in_order, color_key};
-ghost use Rattle.ansi_style.specs.States.{rendition_of};
+ghost use Rattle.ansi_style.specs.States.{rendition_of, rendition_of_numbers};
+ghost use Rattle.ansi_style.specs.States.{AreExact, HaveSameBytes};
 
+use crate::numbers::StyleNumbers;
 use crate::state::{AnsiSequenceEnd, Style};
 use crate::style::Color;
 use ansi_items::ansitok::AnsiColor;
@@ -34,4 +37,10 @@ pub fn orders_go_by_parts()
         ⟦<Color as Ord>⟧.cmp a b ≡ compared (color_key a) (color_key b) }
     ensures ansi_color { (a b : AnsiColor) →
         ⟦<AnsiColor as Ord>⟧.cmp a b ≡ compared (ansi_color_key a) (ansi_color_key b) }
+{}
+
+/// Exact numbers of one style have the same bytes.
+pub fn exact_numbers_are_determined()
+    ensures { (n m : StyleNumbers) → AreExact n → AreExact m →
+        rendition_of_numbers n ≡ rendition_of_numbers m → HaveSameBytes n m }
 {}

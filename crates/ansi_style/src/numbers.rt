@@ -3,7 +3,8 @@ ghost use Rattle.std.specs.Prelude.{◌≡◌, IsTrue};
 ghost use Rattle.std.specs.Option.{ForSome};
 ghost use Rattle.std.specs.Int.{is_in_range};
 ghost use Rattle.ansi_style.specs.Rendition.{is_foreground, is_background, is_extended_color};
-ghost use Rattle.ansi_style.specs.Numbers.{color_of_numbers, font_of_numbers};
+ghost use Rattle.ansi_style.specs.Numbers.{color_of_numbers, numbers_of_color};
+ghost use Rattle.ansi_style.specs.Numbers.{font_of_numbers, numbers_of_font};
 
 use crate::state::Style;
 use crate::state::attributes::Attributes;
@@ -22,7 +23,8 @@ pub struct ColorNumbers {
 
 impl ColorNumbers {
     fn of(color: Option<AnsiColor>) -> ColorNumbers
-        ensures { color_of_numbers result ≡ color }
+        ensures color { color_of_numbers result ≡ color }
+        ensures exact { result ≡ numbers_of_color color }
     {
         let (kind, first, second, third) = match color {
             None => (0, 0, 0, 0),
@@ -64,7 +66,8 @@ pub struct FontNumbers {
 
 impl FontNumbers {
     fn of(font: Option<u8>) -> FontNumbers
-        ensures { font_of_numbers result ≡ font }
+        ensures font { font_of_numbers result ≡ font }
+        ensures exact { result ≡ numbers_of_font font }
     {
         match font {
             None => FontNumbers {
@@ -105,15 +108,19 @@ pub struct StyleNumbers {
 }
 
 impl StyleNumbers {
-    ghost use Rattle.ansi_style.specs.States.{rendition_of, rendition_of_numbers};
+    ghost use Rattle.ansi_style.specs.States.{rendition_of, rendition_of_numbers, AreExact};
+
+    /// The bits of the 24 attributes.
+    const ATTRIBUTES: u32 = 0xff_ffff;
 
     /// The numbers of a style.
     #[tactic(auto, unfolding(crate::specs::States::rendition_of))]
     pub fn of(style: &Style) -> StyleNumbers
-        ensures { rendition_of_numbers result ≡ rendition_of style.now }
+        ensures rendition { rendition_of_numbers result ≡ rendition_of style.now }
+        ensures exact { AreExact result }
     {
         StyleNumbers {
-            attributes: style.attributes.bits(),
+            attributes: style.attributes.bits() & Self::ATTRIBUTES,
             foreground: ColorNumbers::of(style.foreground),
             background: ColorNumbers::of(style.background),
             underline_color: ColorNumbers::of(style.underline_color),

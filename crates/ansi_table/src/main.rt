@@ -1,26 +1,36 @@
 //! Prints lines of cells as a table. Each column has a width of its own.
 //!
 //! Cells are separated by tabs. The arguments are the widths, in columns of a terminal. A cell that
-//! is too wide is truncated with an ellipsis. A cell that is too narrow or missing is padded with
-//! blanks. The styles and the link of a cell end with it. Numbers are aligned to the right. Other
-//! sequences and control characters are left out, as `ansi_truncate` and `ansi_pad` do.
+//! is too wide is truncated with an ellipsis, a path in its middle. A cell that is too narrow or
+//! missing is padded with blanks. The styles and the link of a cell end with it. Numbers are aligned
+//! to the right. Other sequences and control characters are left out, as `ansi_pad` does.
 #![tactic(auto)]
 
-use ansi_columns::{Alignment, AnsiColumns};
+use ansi_columns::{Alignment, AnsiColumns, Side, Truncation};
 use ansi_str::AnsiStr;
 use anyhow::Context;
 use std::alloc::{AllocError, Global};
 use std::env;
 use std::fmt::Write;
 
-// Appends a cell, truncated or padded to the width.
+// Whether a text is a path: it has a slash and no blank.
+fn is_path(plain: &str) -> bool {
+    plain.contains('/') && !plain.contains(' ')
+}
+
+// Appends a cell, cut or filled to the width. What is left of it tells whether it is a number.
 fn push_cell(alloc: Global, row: &mut String, cell: &str, width: usize) -> Result<(), AllocError> {
-    let shown = cell.ansi_truncate(alloc, width, "…")?;
-    let alignment = match shown.ansi_strip(alloc)?.as_str().parse::<u64>() {
+    let side = if is_path(cell.ansi_strip(alloc)?.as_str()) {
+        Side::Middle
+    } else {
+        Side::End
+    };
+    let cut = cell.ansi_truncate_with(alloc, &Truncation::to(width).tail("…").side(side))?;
+    let alignment = match cut.ansi_strip(alloc)?.as_str().parse::<u64>() {
         Ok(_) => Alignment::Right,
         Err(_) => Alignment::Left,
     };
-    let filled = shown.ansi_pad(alloc, width, alignment)?;
+    let filled = cut.ansi_pad(alloc, width, alignment)?;
     write!(row, " {filled} |")?;
     Ok(())
 }

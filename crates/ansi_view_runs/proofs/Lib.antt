@@ -5,3 +5,4 @@ pub mod Shown
 pub mod Viewed
 pub mod StayLemmas
 pub mod JoinLemmas
+pub mod SafeViewLemmas

@@ -3,6 +3,7 @@
 
 pub mod causes;
 pub mod edits;
+pub mod laws;
 pub mod lines;
 pub mod runs;
 pub mod stop;

@@ -1,6 +1,6 @@
 //! What a line becomes.
 ghost use Rattle.std.specs.Prelude.{◌≡◌, ◌==◌, ◌++◌, [], IfOk, IsTrue, OnOk, length, string_bytes};
-ghost use Rattle.std.specs.Prelude.{false, true};
+ghost use Rattle.std.specs.Prelude.{◌&&◌, false, true};
 ghost use Rattle.std.specs.List.{join_by};
 ghost use Rattle.std.specs.Str.{IsUtf8};
 ghost use Rattle.ansi_style.specs.States.{rendition_of};
@@ -17,8 +17,8 @@ ghost use Rattle.ansi_safe.specs.Sanitized.{cleaned, sanitized};
 use crate::edits::{ColumnEdit, edit_in_turn};
 use crate::lines::Line;
 use ansi_safe::links::{LONGEST_ENDING, Pen, pen_after};
-use ansi_safe::policy::Policy;
-use ansi_safe::safe::{is_safe, push_cleaned};
+use ansi_safe::policy::{Links, Policy};
+use ansi_safe::safe::{ending_if_safe, push_cleaned};
 use ansi_slice::slice::strip_in;
 use ansi_style::styles;
 use std::alloc::{AllocError, Allocator};
@@ -117,7 +117,7 @@ pub(crate) fn stays<A: Allocator>(job: &Job<'_, A>, opening: &str, line: &Line<'
     let Ok(text) = str::from_utf8(line.text) else {
         return false;
     };
-    is_safe(text, job.view.policy.links) && ends_nothing(text)
+    is_safe_and_closed(text, job.view.policy.links)
 }
 
 // Whether a line that is safe stays as it is: it isn't stripped or edited, and nothing is open
@@ -136,11 +136,14 @@ fn edits_nothing<A: Allocator>(job: &Job<'_, A>) -> bool
     job.edits.is_empty()
 }
 
-// Whether a text leaves nothing open.
-fn ends_nothing(text: &str) -> bool
-    ensures { result ≡ (length (ending text.now) == 0) }
+// Whether a text is safe and leaves nothing open.
+fn is_safe_and_closed(text: &str, links: Links) -> bool
+    ensures { result ≡ (is_safe links text.now && length (ending text.now) == 0) }
 {
-    pen_after(text).ending().is_empty()
+    match ending_if_safe(text, links) {
+        Some(ending) => ending.is_empty(),
+        None => false,
+    }
 }
 
 /// What the text of a line becomes: a safe text that ends what it leaves open.

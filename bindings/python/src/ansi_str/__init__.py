@@ -22,12 +22,12 @@ The calls, each of which has an example in its own help, such as `help(ansi_str.
     part(text, pattern, index)         truncate(text, width, tail='', side='end')
     split(text, pattern)               pad(text, width, alignment='left')
     iter_split(text, pattern)          fit(text, width, alignment='left', tail='')
-    blocks(text)                       wrap(text, width)
+    blocks(text)                       wrap(text, width, first_indent='', indent='')
     iter_blocks(text)                  edit(text, edits)
     link_at(text, position)            is_safe(text, links=False)
     lines(text, width)                 sanitize(text, show=False, links=False)
     iter_lines(text, width)            slice_columns(text, start=0, end=None)
-    expand_tabs(text, stop=8)
+    expand_tabs(text, stop=8)          column_of(text, position)
 
 The classes, each with a help of its own: `Block` and `Style`, which `blocks` returns, and the edits `Cut`, `Left`, `Right`, `Part`,
 `Prefix`, `Suffix` and `Trim`. `import *` leaves them out.
@@ -53,7 +53,7 @@ __version__ = "0.2.0"
 # (without the types: `help` would show a hundred lines for each class, all before the first function)
 __all__ = [
     "strip", "cut", "left", "right", "part", "strip_prefix", "strip_suffix", "trim",
-    "width", "fitting", "truncate", "pad", "fit", "slice_columns", "expand_tabs", "wrap", "lines", "iter_lines", "link_at",
+    "width", "fitting", "column_of", "truncate", "pad", "fit", "slice_columns", "expand_tabs", "wrap", "lines", "iter_lines", "link_at",
     "ALIGNMENTS", "SIDES",
     "find", "starts_with", "ends_with", "has_any", "is_whole",
     "sanitize", "is_safe",
@@ -85,7 +85,7 @@ _STYLE = struct.Struct("=I4B4B")
 # the kinds of edits, the last position, and the questions about a text
 _CUT, _LEFT, _RIGHT, _PART, _PREFIX, _SUFFIX, _TRIM, _TRUNCATE, _FIT, _PAD, _SANITIZE, _LINK_AT, _SLICE, _EXPAND_TABS = range(14)
 _LAST = sys.maxsize
-_STARTS_WITH, _ENDS_WITH, _HAS_ANY, _IS_WHOLE, _IS_SAFE, _FIND, _FITTING, _WIDTH = range(8)
+_STARTS_WITH, _ENDS_WITH, _HAS_ANY, _IS_WHOLE, _IS_SAFE, _FIND, _FITTING, _WIDTH, _COLUMN_OF = range(9)
 
 
 def _loaded() -> Any:
@@ -312,6 +312,16 @@ def fitting(text: str, width: int) -> int:
     return _told(_FITTING, text, "", _position("width", width))  # type: ignore[no-any-return]
 
 
+def column_of(text: str, position: int) -> int:
+    """The column of a position: how many columns what is shown before it has. Inside a cluster, the part of it before the
+    position counts as a cluster.
+
+    >>> column_of("a\\x1b[1m日本", 2)
+    3
+    """
+    return _told(_COLUMN_OF, text, "", _position("position", position))  # type: ignore[no-any-return]
+
+
 def _index(name: str, word: str, words: Tuple[str, ...]) -> int:
     if word not in words:
         raise ValueError("{} must be one of {}, not {!r}".format(name, ", ".join(words), word))
@@ -377,15 +387,20 @@ def expand_tabs(text: str, stop: int = 8) -> str:
     return _edited(text, (_EXPAND_TABS, _position("stop", stop), 0, b""))  # type: ignore[no-any-return]
 
 
-def wrap(text: str, width: int) -> List[str]:
+def wrap(text: str, width: int, first_indent: str = "", indent: str = "") -> List[str]:
     """The text wrapped to lines of `width` columns, each safe: SGRs, clean links (OSC 8) and printing characters stay, a TAB
     becomes a blank, and the rest is left out. Each line closes the link and style that it leaves open; the next line reopens
-    them. A line ends before a word that doesn't fit; a word that is too wide is broken. A width of 0 counts as 1.
+    them. A line ends before a word that doesn't fit; a word that is too wide is broken. A width of 0 counts as 1. One indent
+    comes before the first line, the other before each later line, each a text of its own, safe and closed. The text is wrapped
+    at the columns that the wider of both leaves, at least one.
 
     >>> wrap("\\x1b[31mlion tiger", 5)
     ['\\x1b[31mlion\\x1b[39m', '\\x1b[31mtiger\\x1b[39m']
+    >>> wrap("lion tiger", 7, "* ", "  ")
+    ['* lion', '  tiger']
     """
-    return _library.wrap(_utf8("text", text), _position("width", width))  # type: ignore[no-any-return]
+    given = _utf8("text", text), _position("width", width), _utf8("first_indent", first_indent), _utf8("indent", indent)
+    return _library.wrap(*given)  # type: ignore[no-any-return]
 
 
 def lines(text: str, width: int) -> List[Tuple[int, int]]:

@@ -15,8 +15,8 @@ enum { LONG = 1 << 16 };
 /* kinds beside those of edits */
 enum { TRUNCATE = ANSI_STR_EDIT_TRIM + 1, FIT, PAD, SANITIZE, LINK_AT, SLICE, EXPAND_TABS, STRIP, KINDS };
 
-/* the questions about a text: those up to IS_SAFE are yes or no, FIND and FITTING return a position, WIDTH columns */
-enum { STARTS_WITH, ENDS_WITH, HAS_ANY, IS_WHOLE, IS_SAFE, FIND, FITTING, WIDTH, QUESTIONS };
+/* the questions about a text: those up to IS_SAFE are yes or no, FIND and FITTING return a position, the others columns */
+enum { STARTS_WITH, ENDS_WITH, HAS_ANY, IS_WHOLE, IS_SAFE, FIND, FITTING, WIDTH, COLUMN_OF, QUESTIONS };
 
 /* a text and the `bytes` that begins with it */
 typedef struct {
@@ -258,17 +258,19 @@ static ansi_str_answer ask(int what, const Text *text, const Text *pattern, size
         return ansi_str_raw_fitting(text->bytes, text->size, number);
     case WIDTH:
         return ansi_str_raw_width(text->bytes, text->size);
+    case COLUMN_OF:
+        return ansi_str_raw_column_of(text->bytes, text->size, number);
     default:
         return ansi_str_raw_find(text->bytes, text->size, pattern->bytes, pattern->size);
     }
 }
 
-/* (what, text, is_ascii, pattern, number): a bool, a position in characters, None, or columns. The number is a width, or says
-   whether links are kept. */
+/* (what, text, is_ascii, pattern, number): a bool, a position in characters, None, or columns. The number is a width, a position in
+   characters, or says whether links are kept. */
 static PyObject *tell(PyObject *module, PyObject *words) {
     int what, is_ascii;
     PyObject *given, *sought, *asked;
-    Text text, pattern;
+    Text text, pattern, plain;
     ansi_str_answer answer;
     PyThreadState *thread;
     Py_ssize_t position;
@@ -280,6 +282,13 @@ static PyObject *tell(PyObject *module, PyObject *words) {
     }
     text = text_of(given);
     pattern = text_of(sought);
+    if (what == COLUMN_OF && !is_ascii) {
+        if (!make_plain(&text, &plain)) {
+            return NULL;
+        }
+        number = place_after(&plain, 0, number);
+        Py_DecRef(plain.object);
+    }
     thread = let_others_run(text.size);
     answer = ask(what, &text, &pattern, number);
     run_alone(thread);
@@ -293,7 +302,7 @@ static PyObject *tell(PyObject *module, PyObject *words) {
     if (answer.status == ANSI_STR_NO) {
         return Py_BuildValue("");
     }
-    position = is_ascii || what == WIDTH ? (Py_ssize_t)answer.len : characters_before(&text, answer.len);
+    position = is_ascii || what >= WIDTH ? (Py_ssize_t)answer.len : characters_before(&text, answer.len);
     return position < 0 ? NULL : PyLong_FromSsize_t(position);
 }
 
@@ -313,18 +322,20 @@ static PyObject *list_of(const char *lines, const size_t *ends, size_t count) {
     return list;
 }
 
-/* (text, width): its lines. */
+/* (text, width, first_indent, indent): its lines, each after its indent. */
 static PyObject *wrap(PyObject *module, PyObject *words) {
-    PyObject *given, *width, *list = NULL;
-    Text text;
+    PyObject *given, *width, *before_first, *before_later, *list = NULL;
+    Text text, first, later;
     size_t most, size, *ends;
     char *room = NULL;
     ansi_str_answers answer;
     (void)module;
-    if (!PyArg_ParseTuple(words, "SO", &given, &width) || !read_number(width, &most)) {
+    if (!PyArg_ParseTuple(words, "SOSS", &given, &width, &before_first, &before_later) || !read_number(width, &most)) {
         return NULL;
     }
     text = text_of(given);
+    first = text_of(before_first);
+    later = text_of(before_later);
     size = text.size + ANSI_STR_LONGEST_START_AND_CLOSE;
     /* (there is at most one line more than the text has bytes) */
     ends = PyMem_Malloc((text.size + 1) * sizeof *ends);
@@ -337,7 +348,10 @@ static PyObject *wrap(PyObject *module, PyObject *words) {
         }
         room = more;
         thread = let_others_run(text.size);
-        answer = ansi_str_raw_wrap(text.bytes, text.size, most, (uint8_t *)room, size, ends, text.size + 1);
+        answer = first.size + later.size == 0
+                     ? ansi_str_raw_wrap(text.bytes, text.size, most, (uint8_t *)room, size, ends, text.size + 1)
+                     : ansi_str_raw_wrap_with(text.bytes, text.size, most, first.bytes, first.size, later.bytes, later.size,
+                                              (uint8_t *)room, size, ends, text.size + 1);
         run_alone(thread);
         size = answer.len;
     } while (answer.status == ANSI_STR_TOO_SMALL);

@@ -415,7 +415,7 @@ fn position_of(plain: &str, front: &str) -> usize {
     ends.filter(shown).last().expect("a front")
 }
 
-/// Compares a text's width, what of it fits, and its links.
+/// Compares a text's width, what of it fits, and the columns and links of its positions.
 fn expect_columns(tally: &mut Tally, spelled: &str) {
     let text = Text::new(spelled);
     let shown = Text::new(&cell(spelled)).plain;
@@ -432,6 +432,9 @@ fn expect_columns(tally: &mut Tally, spelled: &str) {
             want,
             (index, spelled),
         );
+        let front = text.plain.get(..index);
+        let want = front.map(|front| width(&Text::new(&cell(front)).plain));
+        tally.expect(spelled.ansi_column_of(index), want, (index, spelled));
     }
 }
 
@@ -542,7 +545,11 @@ fn expect_lines(tally: &mut Tally, spelled: &str) {
     let clean = Text::new(&clean);
     for most in 0..6 {
         let want = lines(&text.plain, most);
-        tally.expect(spelled.ansi_lines(most).collect::<Vec<_>>(), want, (most, spelled));
+        tally.expect(
+            spelled.ansi_lines(most).collect::<Vec<_>>(),
+            want,
+            (most, spelled),
+        );
         let got: Vec<String> = spelled.ansi_wrap(most).collect();
         let want = wrapped(&clean, &lines(&clean.plain, most));
         tally.expect(got, want, (most, spelled));

@@ -6,7 +6,7 @@ ghost use Rattle.std.specs.Option.{MatchOption};
 ghost use Rattle.ansi_items.specs.Plain.{plain};
 ghost use Rattle.ansi_style.specs.Written.{longest_start_and_close};
 ghost use Rattle.ansi_safe.specs.Links.{longest_link_end};
-ghost use Rattle.ansi_columns.specs.Wrapped.{IsWrappedLine};
+ghost use Rattle.ansi_split.specs.Splits.{IsCarriedPart};
 ghost use Rattle.ansi_columns.specs.WrapStates.{span_lines, lines_of, AreSpans};
 
 use crate::lines::first_line;
@@ -42,9 +42,9 @@ pub(crate) struct Span<'t> {
 impl<'t> Model for Span<'t> {
     ghost use Rattle.ansi_items.specs.Plain.{plain, marks};
     ghost use Rattle.ansi_style.specs.States.{rendition_of};
-    ghost use Rattle.ansi_columns.specs.Wrapped.{WrappedLine, line_over, IsLineSpan};
+    ghost use Rattle.ansi_columns.specs.Wrapped.{CarriedPart, line_over, IsLineSpan};
 
-    ghost Value = { WrappedLine };
+    ghost Value = { CarriedPart };
 
     ghost view = { λ s. line_over (rendition_of s.carried.style) s.carried.link.now
         (plain s.text.now) (marks s.text.now) (s.start, s.end) };
@@ -57,7 +57,8 @@ impl<'t> Span<'t> {
     /// The line. It is a borrow if it has no sequence, and either is empty or has nothing carried
     /// into it.
     pub(crate) fn write<A: Allocator>(&self, alloc: A) -> Result<CowStr<'t, A>, AllocError>
-        ensures line { IfOk result (IsWrappedLine self.now) }
+        ensures line { IfOk result
+            (IsCarriedPart (longest_start_and_close + longest_link_end) self.now) }
         ensures takes_no_memory { IsTrue self.now.borrowed → IsOk result }
     {
         match self.bare() {

@@ -6,8 +6,9 @@ use ansi_columns::shown::{pad, truncate};
 use ansi_columns::sides::truncate_with;
 use ansi_columns::slices::slice;
 use ansi_columns::tabs::expand_tabs;
+use ansi_columns::wrap::indents::wrap_with;
 use ansi_columns::wrap::wrap;
-use ansi_columns::{Alignment, AnsiColumns, Side, Truncation};
+use ansi_columns::{Alignment, AnsiColumns, Side, Truncation, Wrap};
 use std::test::Fail;
 
 #[test]
@@ -25,6 +26,12 @@ fn ansi_width_example(rt: HostRuntime) {
 #[test]
 fn ansi_fitting_example(rt: HostRuntime) {
     assert!(rt; "a\x1b[1m日\x07本".ansi_fitting(4) == 5);
+}
+
+#[test]
+fn ansi_column_of_example(rt: HostRuntime) {
+    assert!(rt; "a\x1b[1m日\x07本".ansi_column_of(5) == Some(3));
+    assert!(rt; "a\x1b[1m日\x07本".ansi_column_of(2).is_none());
 }
 
 #[test]
@@ -174,5 +181,40 @@ fn ansi_wrap_loop_example(rt: HostRuntime) -> Result<(), Fail> {
 fn wrap_example(rt: HostRuntime) -> Result<(), Fail> {
     let first = wrap(rt.alloc(), "\x1b[1mlion tiger", 5).next();
     assert!(rt; matches!(&first, Some(Ok(line)) if line.as_str() == "\x1b[1mlion\x1b[22m"));
+    Ok(())
+}
+
+#[test]
+fn ansi_wrap_with_example(rt: HostRuntime) -> Result<(), Fail> {
+    let to = Wrap::at(8).first_indent("* ").indent("\x1b[2m|\t");
+    let mut lines = "\x1b[31mlion tiger".ansi_wrap_with(rt.alloc(), &to);
+    assert!(rt;
+        matches!(&lines.next(), Some(Ok(line)) if line.as_str() == "* \x1b[31mlion\x1b[39m")
+    );
+    assert!(rt;
+        matches!(&lines.next(), Some(Ok(line))
+        if line.as_str() == "\x1b[2m| \x1b[22m\x1b[31mtiger\x1b[39m")
+    );
+    assert!(rt; matches!(&lines.next(), None));
+    Ok(())
+}
+
+#[test]
+fn wrap_options_example(rt: HostRuntime) -> Result<(), Fail> {
+    let mut lines = String::new(rt.alloc());
+    let to = Wrap::at(8).first_indent("* ").indent("  ");
+    for line in "lion tiger".ansi_wrap_with(rt.alloc(), &to) {
+        lines.push_str(line?.as_str())?;
+        lines.push('\n')?;
+    }
+    assert!(rt; lines.as_str() == "* lion\n  tiger\n");
+    Ok(())
+}
+
+#[test]
+fn wrap_with_example(rt: HostRuntime) -> Result<(), Fail> {
+    let to = Wrap::at(8).first_indent("\x1b[1m* ").indent("  ");
+    let first = wrap_with(rt.alloc(), "lion tiger", &to).next();
+    assert!(rt; matches!(&first, Some(Ok(line)) if line.as_str() == "\x1b[1m* \x1b[22mlion"));
     Ok(())
 }

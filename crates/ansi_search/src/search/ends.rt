@@ -4,7 +4,8 @@ ghost use Rattle.std.specs.Prelude.{nat_eq, IsTrue, IsFalse};
 ghost use Rattle.std.specs.List.{ends_with};
 ghost use Rattle.std.specs.Str.{IsCharBoundary, trim_end};
 ghost use Rattle.ansi_items.specs.Plain.{plain};
-ghost use Rattle.ansi_search.specs.Offsets.{StandsIn, BeginsItem, IsEnd, IsSurelyPlain, goes_on};
+ghost use Rattle.ansi_search.specs.Offsets.{StandsIn, BeginsItem, IsEnd, IsLastRun, IsSurelyPlain};
+ghost use Rattle.ansi_search.specs.Offsets.{goes_on};
 
 use crate::search::offsets::offset_at;
 use crate::search::prefix::starts_with;
@@ -82,6 +83,50 @@ fn solid_end(text: &str) -> usize
     end
 }
 
+/// A text of at most this many bytes is read by one walk.
+const SHORT: usize = 128;
+
+/// Where the last run of text begins and ends. Only sequences are after it. Of a long run it may be
+/// only an end that has at least `wanted` bytes.
+///
+/// Reads the text from its end. Doesn't allocate.
+pub fn last_run(text: &str, wanted: usize) -> (usize, usize)
+    ensures ordered { result.0 ≤ result.1 }
+    ensures within { result.1 ≤ length text.now }
+    ensures run { result.0 < result.1 → IsLastRun text.now result.0 result.1 }
+{
+    if SHORT < text.len() {
+        let last = before_going_on(text.as_bytes(), text.len().saturating_sub(wanted));
+        if is_surely_plain(text, last) {
+            return (last, text.len());
+        }
+    }
+    let mut start = text.len();
+    while 0 < start {
+        start = item_before(text, start);
+        let (from, to) = last_item(&text[start..]);
+        if from < to {
+            return (start + from, start + to);
+        }
+    }
+    (0, 0)
+}
+
+/// The same, by a walk over all items.
+fn last_item(text: &str) -> (usize, usize)
+    ensures ordered { result.0 ≤ result.1 }
+    ensures within { result.1 ≤ length text.now }
+    ensures run { result.0 < result.1 → IsLastRun text.now result.0 result.1 }
+{
+    let mut run = (0, 0);
+    for item in Scanner::new(text) {
+        if item.kind == Kind::Text {
+            run = (item.start, item.end);
+        }
+    }
+    run
+}
+
 /// An end of the text that has at least `wanted` plain bytes, or all of the text if it has fewer:
 /// where it begins, and how long its plain text is.
 fn plain_end(text: &str, wanted: usize) -> (usize, usize)
@@ -146,7 +191,7 @@ fn item_before(text: &str, end: usize) -> usize
     ensures boundary { IsCharBoundary text.now result }
 {
     let bytes = text.as_bytes();
-    let read = (bytes.len() - end).max(128);
+    let read = (bytes.len() - end).max(SHORT);
     let mut unread = end.saturating_sub(read);
     while let Some(escape) = memrchr(ESC, &bytes[..unread]) {
         if bytes.get(escape + 1) != Some(&b'\\') {

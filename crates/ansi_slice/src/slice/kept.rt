@@ -60,6 +60,7 @@ pub fn strip_prefix_in<'t, A: Allocator>(
 }
 
 /// A text without its bytes from one offset up to another, written.
+#[inline(always)]
 fn write_without<A: Allocator>(
     alloc: A,
     text: &str,
@@ -117,6 +118,15 @@ pub fn strip_suffix_in<'t, A: Allocator>(
             return Ok(None);
         }
         return Ok(Some(CowStr::Borrowed(&text[..text.len() - suffix.len()])));
+    }
+    let (start, end) = search::last_run(text, suffix.len());
+    let from = start + suffix.len();
+    if from < end {
+        if !text.as_bytes()[start..end].ends_with(suffix.as_bytes()) {
+            return Ok(None);
+        }
+        let kept = write_without(alloc, text, end - suffix.len(), end)?;
+        return Ok(Some(CowStr::Owned(kept)));
     }
     let Some(end) = search::suffix_offset(text, suffix) else {
         return Ok(None);

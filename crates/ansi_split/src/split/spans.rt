@@ -7,7 +7,7 @@ ghost use Rattle.ansi_slice.specs.Cut.{interleaved};
 ghost use Rattle.ansi_search.specs.Positions.{is_char_boundary};
 ghost use Rattle.ansi_style.specs.Rendition.{plain_style};
 ghost use Rattle.ansi_style.specs.Written.{longest_start_and_close};
-ghost use Rattle.ansi_split.specs.Splits.{IsPart};
+ghost use Rattle.ansi_split.specs.Splits.{IsCarriedPart};
 ghost use Rattle.ansi_split.specs.Spans.{parts_left};
 
 use crate::split::rest::Rest;
@@ -38,10 +38,10 @@ pub(crate) struct PartSpan<'t> {
 
 impl<'t> Model for PartSpan<'t> {
     ghost use Rattle.ansi_style.specs.States.{rendition_of};
-    ghost use Rattle.ansi_split.specs.Splits.{SplitPart};
+    ghost use Rattle.ansi_split.specs.Splits.{CarriedPart};
     ghost use Rattle.ansi_split.specs.Spans.{span_part, AreSpanFacts};
 
-    ghost Value = { SplitPart };
+    ghost Value = { CarriedPart };
 
     ghost view = { λ s. span_part (rendition_of s.carried) s.text.now s.skip };
 
@@ -52,7 +52,7 @@ impl<'t> Model for PartSpan<'t> {
 impl<'t> PartSpan<'t> {
     /// The part: a borrow if it has no sequence and no style has to be written.
     pub(crate) fn write<A: Allocator>(&self, alloc: A) -> Result<CowStr<'t, A>, AllocError>
-        ensures part { IfOk result (IsPart self.now) }
+        ensures part { IfOk result (IsCarriedPart longest_start_and_close self.now) }
         ensures takes_no_memory { IsTrue self.now.borrowed → IsOk result }
     {
         match self.bare() {
@@ -150,10 +150,10 @@ impl<'t, 'p> Model for PartSpans<'t, 'p> {
     ghost use Rattle.ansi_items.specs.Plain.{plain};
     ghost use Rattle.ansi_search.specs.Positions.{is_char_boundary};
     ghost use Rattle.ansi_style.specs.States.{rendition_of};
-    ghost use Rattle.ansi_split.specs.Splits.{SplitPart};
+    ghost use Rattle.ansi_split.specs.Splits.{CarriedPart};
     ghost use Rattle.ansi_split.specs.Spans.{parts_left};
 
-    ghost Value = { List SplitPart };
+    ghost Value = { List CarriedPart };
 
     ghost view = { λ s. if s.finished then []
         else parts_left (rendition_of s.carried) s.rest.text.now s.pat.now s.skip s.from };

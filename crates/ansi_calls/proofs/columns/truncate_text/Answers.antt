@@ -4,6 +4,7 @@ use Rattle.std.proofs.lemmas.List.{nil_from_length}
 use Rattle.ansi_columns.specs.Shown.{truncated_ending}
 use Rattle.ansi_safe.specs.Cells.{cell, is_cell}
 use Rattle.ansi_safe.proofs.CellTextLemmas.{cell-stays}
+use Rattle.ansi_columns.proofs.KeptLemmas.{kept-stays}
 use Rattle.ansi_calls.specs.Answers.{no}
 use Rattle.ansi_calls.specs.Columns.{GivesTruncated}
 use Rattle.ansi_calls.proofs.Utf8Lemmas.{Gives-text}
@@ -18,5 +19,5 @@ returns g c =
     let fits : IsTrue (is_cell t && length after == 0) → IsOk c.truncate.result
     = λ both.
     let parts = and_parts (is_cell t) (length after == 0) both in
-    c.truncate.ensures.takes_no_memory (cell-stays t c.utf8.text parts.0, nil_from_length _ (eqb-true _ 0 parts.1)) in
+    c.truncate.ensures.takes_no_memory (kept-stays t c.args.width c.args.tail.now c.utf8.text (cell-stays t c.utf8.text parts.0), nil_from_length _ (eqb-true _ 0 parts.1)) in
     Gives-text no _ _ c.truncate.result _ _ _ c.truncate.ensures.bytes fits c.write_text.ensures

@@ -1,9 +1,9 @@
 use Rattle.std.proofs.Common.{rules, ◌≡◌, ◌∙◌, ◌∷◌, [], List, ℕ, length, slice_index, refl, sym, ap, subst, arith, IsUtf8}
 use Rattle.std.specs.declared.alloc.AllocError.{AllocError}
-use Rattle.ansi_str.specs.Splits.{SplitPart, GivesPart}
+use Rattle.ansi_str.specs.Written.{longest_start_and_close}
 use Rattle.ansi_str.specs.Parts.{all_parts}
 use Rattle.ansi_calls.specs.Lists.{AreCopied}
-use Rattle.ansi_calls.proofs.GivenLemmas.{joined_texts, part-next, given-fits, lent-drained}
+use Rattle.ansi_calls.proofs.GivenLemmas.{joined_texts, given-fits, lent-drained}
 use Rattle.ansi_calls.proofs.ListLemmas.{length-bare_parts}
 use Rattle.ansi_calls.proofs.lists.copy_bare_parts.Goals as goal
 
@@ -31,12 +31,12 @@ copy_texts-requires g c =
     let p = c.args.pat.now in
     let short = length-bare_parts t p (c.bare_texts_are_std.ensures.parts t p c.requires) (c.parts_lie_between_matches.ensures.in_turn t p c.utf8.text c.utf8.pat) in
     let size = ap (λ ts. length (joined_texts ts)) c.split_in.ensures.bytes in
-    let fits = given-fits {A = g.row.A.Denot} {E = AllocError} (λ (p : SplitPart). p.bytes) (λ (p : SplitPart). p.borrowed) GivesPart part-next c.split_in.result (c.split_in.ensures.takes_no_memory c.requires) (omega (arith, size, short)) c.split_in.ensures.fits in
+    let fits = given-fits {A = g.row.A.Denot} {E = AllocError} longest_start_and_close c.split_in.result (c.split_in.ensures.takes_no_memory c.requires) (omega (arith, size, short)) c.split_in.ensures.fits in
     search (rules, fits)
 
 -- all of them are given
 pub returns : goal.returns
 returns g c =
     let given = c.copy_texts.ensures in
-    let all = lent-drained (λ (p : SplitPart). p.bytes) (λ (p : SplitPart). p.borrowed) GivesPart part-next c.split_in.result given.0 (c.split_in.ensures.takes_no_memory c.requires) given.1 in
+    let all = lent-drained longest_start_and_close c.split_in.result given.0 (c.split_in.ensures.takes_no_memory c.requires) given.1 in
     subst (λ ts. AreCopied ts c.copy_texts.result c.args.buffer.now c.copy_texts.new.buffer c.args.ends.now c.copy_texts.new.ends) (all ∙ c.split_in.ensures.bytes) given.2

@@ -1,7 +1,8 @@
 use Rattle.std.proofs.Common.{◌≡◌, ◌∙◌, ◌≤◌, ◌+◌, ◌∷◌, [], ◌++◌, List, ℕ, length, take, drop, sym, ap, ap₂, arith, length-append}
 use Rattle.std.proofs.lemmas.List.{length_push, map-id}
 use Rattle.ansi_calls.specs.Lists.{ends_from}
-use Rattle.ansi_calls.proofs.GivenLemmas.{joined_texts, joined-more, ends-more, length-ends, written-more}
+use Rattle.ansi_calls.proofs.GivenLemmas.{joined_texts, joined-more, ends-more, written-more}
+use Rattle.ansi_calls.proofs.ListLemmas.{length-ends_from}
 use Rattle.ansi_calls.proofs.lists.put_text.Goals as goal
 
 joined_one : (texts : List (List ℕ)) (x : List ℕ) → joined_texts (texts ++ x ∷ []) ≡ joined_texts texts ++ x
@@ -12,9 +13,6 @@ ends_one texts x =
     ap (ends_from 0) (sym (map-id (texts ++ x ∷ []))) ∙ ends-more (λ t. t) 0 texts x
     ∙ ap (λ us. ends_from 0 us ++ (0 + length (joined_texts us) + length x) ∷ []) (map-id texts)
 
-length-ends_from : (texts : List (List ℕ)) → length (ends_from 0 texts) ≡ length texts
-length-ends_from texts = ap (λ us. length (ends_from 0 us)) (sym (map-id texts)) ∙ length-ends (λ t. t) 0 texts
-
 -- one text more is written, with its end
 pub returns : goal.returns
 returns c = λ texts first first_ends so_far.
@@ -24,7 +22,7 @@ returns c = λ texts first first_ends so_far.
     let long = length-append bytes x in
     let size = length_push texts x in
     let end : c.put-len.result ≡ length bytes + length x = omega (arith, c.put-len.ensures.after, so_far.0.1) in
-    let listed = length-ends_from texts in (
+    let listed = length-ends_from 0 texts in (
       (
         c.put-count.ensures.after ∙ omega (arith, so_far.0.0, size),
         end ∙ omega (arith, ap length more, long),

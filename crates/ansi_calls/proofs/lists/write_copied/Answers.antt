@@ -3,13 +3,13 @@ use Rattle.std.specs.Prelude.{flat_map}
 use Rattle.ansi_calls.specs.declared.lists.ListAnswer.{ListAnswer}
 use Rattle.ansi_calls.specs.Answers.{ok, too_small}
 use Rattle.ansi_calls.specs.Lists.{ends_from}
-use Rattle.ansi_calls.proofs.ListLemmas.{length-entries}
+use Rattle.ansi_calls.proofs.ListLemmas.{length-ends_from}
 use Rattle.ansi_calls.proofs.lists.write_copied.Goals as goal
 
 -- there is no room for the texts, or for their ends
 pub returns-in-Some : goal.returns-in-Some
 returns-in-Some g c = λ texts copies fit.
-    let size : length (ends_from 0 texts) ≡ length texts = length-entries (λ t. t) (λ begin end t. end) 0 texts in
+    let size : length (ends_from 0 texts) ≡ length texts = length-ends_from 0 texts in
     let answer : ℕ → ℕ → ListAnswer = λ count len. record { status = too_small; count = count; len = len } in
     let needed = (rw c.in-Some.is at (c.count_without_room.ensures texts copies fit)).1 in
     inr (
@@ -22,7 +22,7 @@ returns-in-Some g c = λ texts copies fit.
 -- there is room, so that what is copied is all of it
 pub returns : goal.returns
 returns g c = λ texts copies fit.
-    let size : length (ends_from 0 texts) ≡ length texts = length-entries (λ t. t) (λ begin end t. end) 0 texts in
+    let size : length (ends_from 0 texts) ≡ length texts = length-ends_from 0 texts in
     let answer : ℕ → ℕ → ListAnswer = λ count len. record { status = ok; count = count; len = len } in
     let room = (rw c.in_default.is at (c.count_without_room.ensures texts copies fit)).0 in
     let copied = copies _ _ _ _ _ c.copy-count.ensures in

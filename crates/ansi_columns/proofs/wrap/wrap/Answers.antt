@@ -2,7 +2,7 @@ use Rattle.std.proofs.Common.{◌∙◌, ap}
 use Rattle.std.specs.List.{list_all}
 use Rattle.std.specs.declared.alloc.AllocError.{AllocError}
 use Rattle.std.proofs.lemmas.Bool.{false≢true}
-use Rattle.ansi_columns.specs.Wrapped.{WrappedLine}
+use Rattle.ansi_columns.specs.Wrapped.{CarriedPart}
 use Rattle.ansi_items.specs.Plain.{plain}
 use Rattle.ansi_safe.specs.Cells.{paragraph}
 use Rattle.ansi_columns.specs.Lines.{lines}
@@ -21,7 +21,7 @@ returns-in-Ok-clause-first_fit g c =
 
 pub returns-in-Ok-clause-takes_no_memory : goal.returns-in-Ok-clause-takes_no_memory
 returns-in-Ok-clause-takes_no_memory g c =
-    λ same none. ap (list_all (λ (l : WrappedLine). l.borrowed)) (returns-in-Ok-clause-lines g c) ∙ wrapped-bare c.args.text.now c.args.width same none
+    λ same none. ap (list_all (λ (l : CarriedPart). l.borrowed)) (returns-in-Ok-clause-lines g c) ∙ wrapped-bare c.args.text.now c.args.width same none
 
 -- there was no memory for it
 pub returns-in-Err-clause-lines : goal.returns-in-Err-clause-lines

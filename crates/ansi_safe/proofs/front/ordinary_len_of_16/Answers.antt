@@ -1,4 +1,4 @@
-use Rattle.std.proofs.Common.{◌≡◌, ℕ, ◌*◌, Bool, true, false, not, List, [], ◌∷◌, take, length, map, refl, sym, ap, ◌∙◌, w8}
+use Rattle.std.proofs.Common.{◌≡◌, ℕ, ◌*◌, Bool, true, false, not, List, [], ◌∷◌, take, length, map, refl, sym, ap, ◌∙◌, w8, arith}
 use Rattle.std.proofs.lemmas.Bool.{agree_below}
 use Rattle.std.proofs.lemmas.List.{length-take-le}
 use Rattle.std.proofs.lemmas.Simd.{zip2_of_maps, map-map}
@@ -74,10 +74,10 @@ pub returns-then-others-eq0 : goal.returns-then-others-eq0
 returns-then-others-eq0 c =
     let white = c.args.white in
     let v = take 16 c.args.bytes.now in
-    no_other (lane white) (is_ordinary_byte white) (agrees white) c.args.bytes.now c.requires c.type_inv.bytes (lanes white v) (lanes-are white v (length-take-le 16 c.args.bytes.now c.requires)) c.if-others-eq0.true
+    no_other 16 (omega arith) (lane white) (is_ordinary_byte white) (agrees white) c.args.bytes.now c.requires c.type_inv.bytes (lanes white v) (lanes-are white v (length-take-le 16 c.args.bytes.now c.requires)) c.if-others-eq0.true
 
 pub returns : goal.returns
 returns c =
     let white = c.args.white in
     let v = take 16 c.args.bytes.now in
-    first_other (lane white) (is_ordinary_byte white) (agrees white) c.args.bytes.now c.requires c.type_inv.bytes (lanes white v) (lanes-are white v (length-take-le 16 c.args.bytes.now c.requires)) c.if-others-eq0.false
+    first_other 16 (omega arith) (lane white) (is_ordinary_byte white) (agrees white) c.args.bytes.now c.requires c.type_inv.bytes (lanes white v) (lanes-are white v (length-take-le 16 c.args.bytes.now c.requires)) c.if-others-eq0.false

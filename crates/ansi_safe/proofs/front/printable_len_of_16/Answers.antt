@@ -1,4 +1,4 @@
-use Rattle.std.proofs.Common.{◌≡◌, ℕ, ◌+◌, ◌-◌, ◌%◌, List, take, length, map, refl, ap, ◌∙◌, cond, leb}
+use Rattle.std.proofs.Common.{◌≡◌, ℕ, ◌+◌, ◌-◌, ◌%◌, List, take, length, map, refl, ap, ◌∙◌, cond, leb, arith}
 use Rattle.std.proofs.lemmas.List.{length-map, length-take-le}
 use Rattle.std.proofs.lemmas.Simd.{zip2_splat, zip2_splat_left, map-map}
 use lib.Lanes.{zip2}
@@ -28,9 +28,9 @@ lanes-are v long =
 pub returns-then-others-eq0 : goal.returns-then-others-eq0
 returns-then-others-eq0 c =
     let v = take 16 c.args.bytes.now in
-    no_other lane is_printable_byte refl c.args.bytes.now c.requires c.type_inv.bytes (lanes v) (lanes-are v (length-take-le 16 c.args.bytes.now c.requires)) c.if-others-eq0.true
+    no_other 16 (omega arith) lane is_printable_byte refl c.args.bytes.now c.requires c.type_inv.bytes (lanes v) (lanes-are v (length-take-le 16 c.args.bytes.now c.requires)) c.if-others-eq0.true
 
 pub returns : goal.returns
 returns c =
     let v = take 16 c.args.bytes.now in
-    first_other lane is_printable_byte refl c.args.bytes.now c.requires c.type_inv.bytes (lanes v) (lanes-are v (length-take-le 16 c.args.bytes.now c.requires)) c.if-others-eq0.false
+    first_other 16 (omega arith) lane is_printable_byte refl c.args.bytes.now c.requires c.type_inv.bytes (lanes v) (lanes-are v (length-take-le 16 c.args.bytes.now c.requires)) c.if-others-eq0.false

@@ -1,15 +1,15 @@
-use Rattle.ansi_split.proofs.Common.{◌≡◌, ◌≤◌, ℕ, List, inl, inr, Option, None, Some, option_map, length, refl, sym, ◌∙◌, ap, slice_get, is_some, true≢false, arith, MatchOption, plain_style, SplitPart, parts_left}
+use Rattle.ansi_split.proofs.Common.{◌≡◌, ◌≤◌, ℕ, List, inl, inr, Option, None, Some, option_map, length, refl, sym, ◌∙◌, ap, slice_get, is_some, true≢false, arith, MatchOption, plain_style, CarriedPart, parts_left}
 use Rattle.std.specs.Iterator.{YieldsFirst, YieldsThen}
 use Rattle.std.proofs.lemmas.Iterator.Consumers.{nth_from_yields_List, YieldsList-from_first}
 use Rattle.ansi_split.proofs.SplitLemmas.{part_at, no_part_at}
 use Rattle.ansi_split.proofs.PartLengthLemmas.{source_len_within}
 use Rattle.ansi_split.proofs.split.part_in.Goals as goal
 
-at_index : {first : List SplitPart} (left : List SplitPart) (t p : List ℕ) (k : ℕ) (r : Option SplitPart) → (xs : List SplitPart) × YieldsThen (YieldsFirst (λ s. s)) first xs r left × MatchOption r (length xs ≤ k) (λ _. length xs ≡ k)
+at_index : {first : List CarriedPart} (left : List CarriedPart) (t p : List ℕ) (k : ℕ) (r : Option CarriedPart) → (xs : List CarriedPart) × YieldsThen (YieldsFirst (λ s. s)) first xs r left × MatchOption r (length xs ≤ k) (λ _. length xs ≡ k)
     → first ≡ parts_left plain_style t p 0 0 → slice_get (parts_left plain_style t p 0 0) k ≡ r
 at_index left t p k r ran begins = sym (nth_from_yields_List r left k ran (YieldsList-from_first (λ q. q) (λ s. s) (parts_left plain_style t p 0 0) begins)) ∙ itself r
   where
-    itself : (r : Option SplitPart) → option_map (λ q. q) r ≡ r
+    itself : (r : Option CarriedPart) → option_map (λ q. q) r ≡ r
     itself None = refl
     itself (Some q) = refl
 

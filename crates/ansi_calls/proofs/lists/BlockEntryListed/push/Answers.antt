@@ -8,4 +8,4 @@ returns g c =
     let text = c.args.block.now.text in
     let bytes : string_bytes c.push_str.new.self ≡ old ++ text = c.in_ok-push_str.ensures.bytes ∙ ap (λ t. old ++ t) c.text.ensures in
     let end : c.len.result ≡ length (string_bytes c.push_str.new.self) = c.len.ensures ∙ c.push_str.new.self.bytes.ok.0 in
-    record { bytes = bytes; entry = rw (end, c.of-style.ensures, c.style.ensures) }
+    record { bytes = bytes; entry = (end, (c.of-style.ensures.rendition ∙ c.style.ensures, c.of-style.ensures.exact)) }

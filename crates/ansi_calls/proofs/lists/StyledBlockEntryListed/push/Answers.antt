@@ -20,4 +20,4 @@ returns g c =
     let text_end : c.len-text_end.result ≡ length old + length (start block.style) + length block.text =
     c.len-text_end.ensures ∙ c.push_str.new.self.bytes.ok.0 ∙ length-joined _ _ _ more ∙ ap (λ n. n + length block.text) (length-joined _ _ _ begun) in
     let end : c.len.result ≡ length (string_bytes c.write-2.new.self) = c.len.ensures ∙ c.write-2.new.self.bytes.ok.0 in
-    record { bytes = bytes; entry = rw (text_start, text_end, end, c.of.ensures, style) }
+    record { bytes = bytes; entry = (text_start, text_end, end, (c.of.ensures.rendition ∙ style, c.of.ensures.exact)) }

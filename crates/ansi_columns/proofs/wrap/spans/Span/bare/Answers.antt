@@ -4,7 +4,7 @@ use Rattle.ansi_style.proofs.StyleLemmas.{IsStyle-rendition_of}
 use Rattle.ansi_style.specs.declared.state.Style.{Style}
 use Rattle.ansi_style.specs.States.{rendition_of}
 use Rattle.ansi_style.specs.Written.{close}
-use Rattle.ansi_columns.specs.Wrapped.{WrappedLine, pen_end}
+use Rattle.ansi_columns.specs.Wrapped.{CarriedPart, pen_end}
 use Rattle.ansi_safe.specs.Links.{link_end}
 use Rattle.ansi_columns.proofs.WrapLemmas.{line-bare, bare-boundary, owned-marked, owned-carried, length-line}
 use Rattle.ansi_columns.proofs.wrap.spans.Span.bare.Goals.{else-self-2-via-then-self-2+else-not-is_empty, else-self-2-via-else-self-2}
@@ -18,7 +18,7 @@ pub returns-then-self : goal.returns-then-self
 returns-then-self c =
     let s = c.self.inside in
     record {
-      line = sym (ap (λ (l : WrappedLine). l.borrowed) c.self.view_is) ∙ owned-marked (rendition_of s.carried.style) s.carried.link.now s.text.now s.start s.end (sym c.self.invariant.marked ∙ c.if-self.true);
+      line = sym (ap (λ (l : CarriedPart). l.borrowed) c.self.view_is) ∙ owned-marked (rendition_of s.carried.style) s.carried.link.now s.text.now s.start s.end (sym c.self.invariant.marked ∙ c.if-self.true);
       len = length-line (rendition_of s.carried.style) s.carried.link.now (plain s.text.now) (marks s.text.now) (s.start, s.end) (IsStyle-rendition_of s.carried.style) c.self.view_is;
     }
 
@@ -26,7 +26,7 @@ pub returns-then-not-is_empty : goal.returns-then-not-is_empty
 returns-then-not-is_empty c =
     let s = c.self.inside in
     record {
-      line = sym (ap (λ (l : WrappedLine). l.borrowed) c.self.view_is)
+      line = sym (ap (λ (l : CarriedPart). l.borrowed) c.self.view_is)
           ∙ owned-carried (rendition_of s.carried.style) s.carried.link.now s.text.now s.start s.end c.if-self-2.true (carried s.carried.link.now c.ending.result.link_end.now s.carried.style c.ending.result.style c.ending.ensures.link_end c.ending.ensures.style ∙ sym c.is_empty.ensures ∙ c.if-not-is_empty.true);
       len = length-line (rendition_of s.carried.style) s.carried.link.now (plain s.text.now) (marks s.text.now) (s.start, s.end) (IsStyle-rendition_of s.carried.style) c.self.view_is;
     }
@@ -45,6 +45,6 @@ returns c =
       | else-self-2-via-else-self-2 w ↦ inl w.if-self-2.false
     ]) in
     record {
-      line = (c.range.ensures.value ∙ bare.0 ∙ ap (λ (l : WrappedLine). l.bytes) c.self.view_is, sym (ap (λ (l : WrappedLine). l.borrowed) c.self.view_is) ∙ bare.1);
+      line = (c.range.ensures.value ∙ bare.0 ∙ ap (λ (l : CarriedPart). l.bytes) c.self.view_is, sym (ap (λ (l : CarriedPart). l.borrowed) c.self.view_is) ∙ bare.1);
       len = length-line (rendition_of s.carried.style) s.carried.link.now (plain s.text.now) (marks s.text.now) (s.start, s.end) (IsStyle-rendition_of s.carried.style) c.self.view_is;
     }

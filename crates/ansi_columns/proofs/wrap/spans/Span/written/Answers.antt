@@ -6,7 +6,7 @@ use Rattle.ansi_style.specs.Written.{start, close}
 use Rattle.ansi_slice.specs.Stretches.{sequences_up_to}
 use Rattle.ansi_items.proofs.PlainLemmas.{length-plain}
 use Rattle.ansi_search.proofs.PositionLemmas.{no_character_goes_on-past}
-use Rattle.ansi_columns.specs.Wrapped.{WrappedLine, pen_end}
+use Rattle.ansi_columns.specs.Wrapped.{CarriedPart, pen_end}
 use Rattle.ansi_columns.proofs.WrapLemmas.{line-written, line-ordered}
 use Rattle.ansi_columns.proofs.wrap.spans.Span.written.Goals as goal
 
@@ -39,5 +39,5 @@ returns g c =
     ∙ ap₂ (λ l r. string_bytes c.push_sequences-2.new.out ++ (l ++ close (rendition_of r))) c.ending.ensures.link_end c.ending.ensures.style
     ∙ ap (λ u. u ++ pen_end s.after.link.now (rendition_of s.after.style))
     (c.in_ok-push_sequences.ensures.bytes ∙ ap₂ (λ u v. u ++ sequences_up_to top (pieces_of v)) text c.range_from.ensures.value)
-    ∙ line-written {top = top} c.self.invariant c.in_ok-start.ensures.offset (omega (arith, size)) (ap (λ (l : WrappedLine). l.borrowed) view ∙ c.requires)
-    ∙ ap (λ (l : WrappedLine). l.bytes) view
+    ∙ line-written {top = top} c.self.invariant c.in_ok-start.ensures.offset (omega (arith, size)) (ap (λ (l : CarriedPart). l.borrowed) view ∙ c.requires)
+    ∙ ap (λ (l : CarriedPart). l.bytes) view

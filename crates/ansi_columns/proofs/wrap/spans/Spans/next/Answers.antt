@@ -9,7 +9,7 @@ use Rattle.ansi_search.proofs.PositionLemmas.{no_character_goes_on-boundary}
 use Rattle.ansi_columns.specs.Lines.{lines_left}
 use Rattle.ansi_safe.specs.Links.{link_after_all}
 use Rattle.ansi_columns.specs.Walks.{clusters_from}
-use Rattle.ansi_columns.specs.Wrapped.{WrappedLine, line_over, lines_over, marks_left, IsTaken}
+use Rattle.ansi_columns.specs.Wrapped.{CarriedPart, line_over, lines_over, marks_left, IsTaken}
 use Rattle.ansi_columns.specs.WrapStates.{open_link, span_lines}
 use Rattle.ansi_columns.proofs.WalkLemmas.{walk_boundary}
 use Rattle.ansi_columns.proofs.WrapLemmas.{ahead, lines-first, lines-last, span-first, span-last, lines_filled, rest-is}
@@ -21,7 +21,7 @@ unfolding lines_over
 returns-in_err-from-clause-lines c =
     let s = c.args.self.now in
     let t = c.args.text.now in
-    let all : Option Walk → List WrappedLine = λ o. lines_over (rendition_of s.pen.style) (open_link t s.pen) (plain t) (marks_left t s.before s.taken) (lines_left t s.width o) in
+    let all : Option Walk → List CarriedPart = λ o. lines_over (rendition_of s.pen.style) (open_link t s.pen) (plain t) (marks_left t s.before s.taken) (lines_left t s.width o) in
     let none : span_lines t s ≡ [] = ap all c.in_err-from.was in
     rw c.from_residual.ensures (none, none)
 
@@ -107,7 +107,7 @@ returns-clause-lines c =
     let shown : line ≡ line_over (rendition_of c.pen.result.style) c.pen.result.link.now (plain text) (marks text) (start.position - s.before, last.position - s.before)
     = ap₂ (λ r l. line_over (rendition_of r) l (plain text) (marks text) (start.position - s.before, last.position - s.before)) (sym c.pen.ensures.style) (sym c.pen.ensures.link) in
     let ms = marks_left t s.before s.taken in
-    let all : Option Walk → List WrappedLine = λ o. lines_over style link x ms (lines_left t s.width o) in
+    let all : Option Walk → List CarriedPart = λ o. lines_over style link x ms (lines_left t s.width o) in
     let left : span_lines t s ≡ lines_over style link x ms ((start.position, last.position) ∷ lines_left t s.width next)
     = ap all c.in_ok-from.was ∙ ap (lines_over style link x ms) c.first_line-next.ensures.lines in
     elim c.match-next.branch [

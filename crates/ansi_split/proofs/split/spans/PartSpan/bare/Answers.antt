@@ -1,4 +1,4 @@
-use Rattle.ansi_split.proofs.Common.{◌≡◌, ◌≤◌, ◌==◌, false, IsFalse, sym, ◌∙◌, ap, arith, length, eqb-true, eqb-false, ne_eqb, length-drop, has_escape, rendition_of, IsStyle-rendition_of, SplitPart}
+use Rattle.ansi_split.proofs.Common.{◌≡◌, ◌≤◌, ◌==◌, false, IsFalse, sym, ◌∙◌, ap, arith, length, eqb-true, eqb-false, ne_eqb, length-drop, has_escape, rendition_of, IsStyle-rendition_of, CarriedPart}
 use Rattle.ansi_split.proofs.SpanWalkLemmas.{boundary-bare}
 use Rattle.ansi_split.proofs.SplitLemmas.{IsBare, owned-escape, owned-styled, bare-empty, bare-unstyled}
 use Rattle.ansi_split.proofs.PartLengthLemmas.{length-span_part}
@@ -11,7 +11,7 @@ pub returns-then-self : goal.returns-then-self
 returns-then-self c =
     let s = c.self.inside in
     record {
-      part = sym (ap (λ (q : SplitPart). q.borrowed) c.self.view_is) ∙ owned-escape (rendition_of s.carried) s.text.now s.skip (sym c.self.invariant.marked ∙ c.if-self.true);
+      part = sym (ap (λ (q : CarriedPart). q.borrowed) c.self.view_is) ∙ owned-escape (rendition_of s.carried) s.text.now s.skip (sym c.self.invariant.marked ∙ c.if-self.true);
       len = length-span_part (rendition_of s.carried) s.text.now s.skip (IsStyle-rendition_of s.carried) c.self.view_is;
     }
 
@@ -36,7 +36,7 @@ returns-then-is_empty c =
       | then-is_empty-via-else-is_empty+then-not-has_any plain ↦ bare-unstyled style t s.skip none inside (sym plain.has_any.ensures ∙ plain.if-not-has_any.true)
     ] in
     record {
-      part = (c.range_from-bare.ensures.value ∙ sym bare.bytes ∙ ap (λ (q : SplitPart). q.bytes) c.self.view_is, sym (ap (λ (q : SplitPart). q.borrowed) c.self.view_is) ∙ bare.borrowed);
+      part = (c.range_from-bare.ensures.value ∙ sym bare.bytes ∙ ap (λ (q : CarriedPart). q.bytes) c.self.view_is, sym (ap (λ (q : CarriedPart). q.borrowed) c.self.view_is) ∙ bare.borrowed);
       len = length-span_part style t s.skip (IsStyle-rendition_of s.carried) c.self.view_is;
     }
 
@@ -48,6 +48,6 @@ returns c =
     = ne_eqb s.skip (length s.text.now) (λ end.
     omega (arith, end, eqb-false _ 0 (sym c.is_empty.ensures ∙ c.if-is_empty.false), ap length c.range_from-bare.ensures.value, length-drop s.skip s.text.now)) in
     record {
-      part = sym (ap (λ (q : SplitPart). q.borrowed) c.self.view_is) ∙ owned-styled (rendition_of s.carried) s.text.now s.skip none filled (sym c.has_any.ensures ∙ c.if-not-has_any.false);
+      part = sym (ap (λ (q : CarriedPart). q.borrowed) c.self.view_is) ∙ owned-styled (rendition_of s.carried) s.text.now s.skip none filled (sym c.has_any.ensures ∙ c.if-not-has_any.false);
       len = length-span_part (rendition_of s.carried) s.text.now s.skip (IsStyle-rendition_of s.carried) c.self.view_is;
     }

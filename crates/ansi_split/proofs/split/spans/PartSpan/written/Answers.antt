@@ -1,4 +1,4 @@
-use Rattle.ansi_split.proofs.Common.{◌≡◌, ◌++◌, sym, ◌∙◌, ap, string_bytes, pieces_of, start, close, rendition_of, SplitPart, span_text}
+use Rattle.ansi_split.proofs.Common.{◌≡◌, ◌++◌, sym, ◌∙◌, ap, string_bytes, pieces_of, start, close, rendition_of, CarriedPart, span_text}
 use Rattle.ansi_split.proofs.SplitLemmas.{bytes-owned}
 use Rattle.ansi_split.proofs.SpanWalkLemmas.{left_of, span-closed, span-open}
 use Rattle.ansi_split.proofs.split.spans.PartSpan.written.Goals as goal
@@ -11,7 +11,7 @@ returns g c =
     let style = rendition_of s.carried in
     let t = s.text.now in
     let part : span_text style t s.skip ≡ c.args.self.now.bytes
-    = sym (bytes-owned style t s.skip (ap (λ (q : SplitPart). q.borrowed) c.self.view_is ∙ c.requires)) ∙ ap (λ (q : SplitPart). q.bytes) c.self.view_is in
+    = sym (bytes-owned style t s.skip (ap (λ (q : CarriedPart). q.borrowed) c.self.view_is ∙ c.requires)) ∙ ap (λ (q : CarriedPart). q.bytes) c.self.view_is in
     let text : string_bytes c.write_text.new.part ≡ start style ++ left_of s.skip (pieces_of t)
     = c.in_ok-write_text.ensures ∙ ap (λ v. v ++ left_of s.skip (pieces_of t)) (c.in_ok-write_start.ensures ∙ ap (λ v. v ++ start style) c.in_ok-part.ensures.bytes) in
     elim c.if-has_any.branch [
