@@ -1,7 +1,8 @@
 -- Edges between columns: the clusters before one, and the cluster that it divides.
-use Rattle.std.proofs.Common.{◌≡◌, ℕ, ◌+◌, ◌-◌, ◌*◌, ◌<◌, ◌≤◌, ◌⊎◌, inl, inr, true, false, ◌&&◌, List, [], ◌∷◌, ◌++◌, length, drop, flat_map, encode_utf8_all, nat_le, nat_lt, if◌then◌else◌, refl, sym, ◌∙◌, ap, ap₂, subst, arith, zero-add, append_assoc, append-nil, length-append}
+use Rattle.std.proofs.Common.{◌≡◌, ℕ, suc, ◌+◌, ◌-◌, ◌*◌, ◌<◌, ◌≤◌, ◌⊎◌, inl, inr, true, false, ◌&&◌, List, [], ◌∷◌, ◌++◌, length, drop, slice_range, flat_map, encode_utf8_all, nat_le, nat_lt, if◌then◌else◌, refl, sym, ◌∙◌, ap, ap₂, subst, arith, zero-add, append_assoc, append-nil, length-append}
+use Rattle.std.specs.List.{list_all}
 use Rattle.std.specs.Str.{IsUtf8, IsCharBoundary, chars}
-use Rattle.std.proofs.lemmas.Bool.{cases_lt, le-leb, lt-leb, lt-ltb, le-ltb, and_right}
+use Rattle.std.proofs.lemmas.Bool.{and_parts, cases_lt, le-leb, lt-leb, lt-ltb, le-ltb, and_right}
 use Rattle.std.proofs.lemmas.List.Sums.{sum_by-cons}
 use Rattle.std.proofs.lemmas.Grind.{flat_map-append}
 use Rattle.std.proofs.lemmas.Str.{encodes-chars}
@@ -9,8 +10,11 @@ use Rattle.unicode_width.specs.Width.{str_width}
 use Rattle.ansi_items.specs.Plain.{plain}
 use Rattle.ansi_columns.specs.declared.walks.Walk.{Walk}
 use Rattle.ansi_columns.specs.Columns.{clusters, cluster_width, columns_of, columns, bytes_of}
-use Rattle.ansi_columns.specs.Walks.{after, cluster, clusters_from, IsWalk}
+use Rattle.ansi_columns.specs.declared.views.View.TheVariants.{Given}
+use Rattle.ansi_columns.specs.Walks.{after, cluster, clusters_from, IsWalk, IsPastAscii, AreClusters}
 use Rattle.ansi_columns.specs.Slices.{ended, begun, IsEdge}
+use Rattle.ansi_columns.proofs.AsciiLemmas.{is_printable, width-single}
+use Rattle.ansi_columns.proofs.PrintableLemmas.{bytes-single, front-size, columns-past}
 use Rattle.ansi_columns.proofs.WidthLemmas.{read-bound}
 use Rattle.ansi_columns.proofs.ClusterLawLemmas.{clusters_after-bytes}
 use Rattle.ansi_columns.proofs.ColumnLemmas.{bytes_of-push, columns_of-push, cluster-bytes, clusters_from-end}
@@ -59,23 +63,48 @@ pub record IsEdgeSoFar (t : List ℕ) (here n place left : ℕ) : Type 0 where
 pub edge-begin : (t : List ℕ) (here n : ℕ) → IsEdgeSoFar t here n here n
 edge-begin t here n = record { front = []; all = refl; place_is = omega arith; ended_are = refl; begun_are = refl; columns = zero-add n }
 
-pub edge-more : {t : List ℕ} {here n p m left k : ℕ} → IsEdgeSoFar t here n p left → IsUtf8 t → IsCharBoundary (plain t) p → IsCharBoundary (plain t) m → p < m
-    → clusters_from t p ≡ cluster t p m ∷ clusters_from t m → k ≡ cluster_width (cluster t p m) → 0 < left → k ≤ left → IsEdgeSoFar t here n m (left - k)
-edge-more {t} {here} {n} {p} {m} {left} {k} so_far utf8 start end less first is some fits =
+edge-step : {t : List ℕ} {here n p m left k : ℕ} (c : List ℕ) → IsEdgeSoFar t here n p left → m ≡ p + length (encode_utf8_all c) → clusters_from t p ≡ c ∷ clusters_from t m → k ≡ cluster_width c → 0 < left → k ≤ left → IsEdgeSoFar t here n m (left - k)
+edge-step {t} {here} {n} {p} {m} {left} {k} c so_far place first is some fits =
     let front = so_far.front in
-    let c = cluster t p m in
     let rest = clusters_from t m in
     let room : cluster_width c ≤ left = omega (arith, is, fits) in
     record {
       front = front ++ c ∷ [];
       all = so_far.all ∙ ap (λ ks. front ++ ks) first ∙ sym (append_assoc front (c ∷ []) rest);
-      place_is = omega (arith, so_far.place_is, less, bytes_of-push front c, cluster-bytes t p m utf8 (omega arith) start end);
+      place_is = omega (arith, so_far.place_is, place, bytes_of-push front c);
       ended_are = so_far.ended_are ∙ ap (λ ks. front ++ ended left ks) first ∙ ap (λ ks. front ++ ks) (ended-pass left c rest some room)
           ∙ ap (λ w. front ++ c ∷ ended (left - w) rest) (sym is) ∙ sym (append_assoc front (c ∷ []) (ended (left - k) rest));
       begun_are = so_far.begun_are ∙ ap (λ ks. front ++ begun left ks) first ∙ ap (λ ks. front ++ ks) (begun-pass left c rest some)
           ∙ ap (λ w. front ++ c ∷ begun (left - w) rest) (sym is) ∙ sym (append_assoc front (c ∷ []) (begun (left - k) rest));
       columns = omega (arith, so_far.columns, is, fits, columns_of-push front c);
     }
+
+pub edge-more : {t : List ℕ} {here n p m left k : ℕ} → IsEdgeSoFar t here n p left → IsUtf8 t → IsCharBoundary (plain t) p → IsCharBoundary (plain t) m → p < m
+    → clusters_from t p ≡ cluster t p m ∷ clusters_from t m → k ≡ cluster_width (cluster t p m) → 0 < left → k ≤ left → IsEdgeSoFar t here n m (left - k)
+edge-more {t} {p = p} {m = m} so_far utf8 start end less first is some fits = edge-step (cluster t p m) so_far (omega (arith, less, cluster-bytes t p m utf8 (omega arith) start end)) first is some fits
+
+-- the next clusters are printable ASCII
+
+edge-singles : {t : List ℕ} {here n : ℕ} (bytes : List ℕ) (p left : ℕ) → list_all is_printable bytes ≡ true → AreClusters t p bytes → length bytes ≤ left → IsEdgeSoFar t here n p left → IsEdgeSoFar t here n (p + length bytes) (left - length bytes)
+edge-singles {t} {here} {n} [] p left all are fits so_far =
+    let place : p ≡ p + 0 = omega arith in
+    let same : left ≡ left - 0 = omega arith in
+    subst (λ m. IsEdgeSoFar t here n m (left - 0)) place (subst (IsEdgeSoFar t here n p) same so_far)
+edge-singles {t} {here} {n} (b ∷ bytes) p left all are fits so_far =
+    let parts = and_parts _ _ all in
+    let one : p + 1 ≡ p + length (encode_utf8_all (b ∷ [])) = omega (arith, bytes-single b parts.0) in
+    let more = edge-singles bytes (p + 1) (left - 1) parts.1 are.1 (omega (arith, fits)) (edge-step (b ∷ []) so_far one are.0 (sym (width-single b parts.0)) (omega (arith, fits)) (omega (arith, fits))) in
+    let place : p + 1 + length bytes ≡ p + suc (length bytes) = omega arith in
+    let same : left - 1 - length bytes ≡ left - suc (length bytes) = omega arith in
+    subst (λ m. IsEdgeSoFar t here n m (left - suc (length bytes))) place (subst (IsEdgeSoFar t here n (p + 1 + length bytes)) same more)
+
+pub edge-past : {t : List ℕ} {here n len left : ℕ} {w v : Walk} → IsWalk t w → IsPastAscii t w len v → len ≤ left → IsEdgeSoFar t here n w.position left → IsEdgeSoFar t here n v.position (left - len)
+edge-past {t} {here} {n} {len} {left} {w} {v} walk past fits so_far =
+    let size = front-size walk past.front in
+    let bytes = slice_range t w.offset (w.offset + len) in
+    let place : w.position + length bytes ≡ v.position = omega (arith, size, past.position) in
+    subst (λ m. IsEdgeSoFar t here n m (left - len)) place
+    (subst (λ k. IsEdgeSoFar t here n (w.position + length bytes) (left - k)) size (edge-singles bytes w.position left past.front.bytes (past.clusters Given) (omega (arith, fits, size)) so_far))
 
 -- no column is left, or no cluster
 pub edge-stop : {t : List ℕ} {here n left : ℕ} {walk : Walk} → IsWalk t walk → IsEdgeSoFar t here n walk.position left → ended left (clusters_from t walk.position) ≡ [] → begun left (clusters_from t walk.position) ≡ []
@@ -138,6 +167,9 @@ no_columns-more t here n m same first is none = omega (arith, same, is, none, ap
 pub has_columns : (t : List ℕ) (here n m : ℕ) {k : ℕ} → columns_of (clusters_from t here) ≡ columns_of (clusters_from t n) → clusters_from t n ≡ cluster t n m ∷ clusters_from t m → k ≡ cluster_width (cluster t n m) → 0 < k
     → true ≡ nat_lt 0 (columns_of (clusters_from t here))
 has_columns t here n m same first is some = sym (lt-ltb 0 (columns_of (clusters_from t here)) (omega (arith, same, is, some, ap columns_of first, sum_by-cons cluster_width (cluster t n m) (clusters_from t m))))
+
+pub has_columns-past : {t : List ℕ} {w v : Walk} {len : ℕ} → IsWalk t w → IsPastAscii t w len v → 0 < len → true ≡ nat_lt 0 (columns_of (clusters_from t w.position))
+has_columns-past {t} {w} walk past some = sym (lt-ltb 0 (columns_of (clusters_from t w.position)) (omega (arith, columns-past walk past, some)))
 
 pub has_no_columns : (t : List ℕ) (here n : ℕ) → columns_of (clusters_from t here) ≡ columns_of (clusters_from t n) → after t n ≡ [] → false ≡ nat_lt 0 (columns_of (clusters_from t here))
 has_no_columns t here n same none = sym (le-ltb 0 (columns_of (clusters_from t here)) (omega (arith, same, ap columns_of (clusters_from-end t n none))))

@@ -9,10 +9,14 @@ use Rattle.ansi_columns.specs.Walks.{seen_after, seen_cluster, seen_clusters}
 use Rattle.ansi_columns.specs.Shown.{fitting_end}
 use Rattle.ansi_columns.proofs.ColumnLemmas.{IsFittingTo, seen_clusters-end}
 
-pub IsFittingTo-end : {view : View} {t : List ℕ} {width n left : ℕ} → IsFittingTo view t width n left → seen_after view t n ≡ [] → true ≡ nat_le (columns (seen_text view t)) width
-IsFittingTo-end {view} {t} {width} {n} fitting none =
+-- if all fits, its columns and those that are left are the width
+pub IsFittingTo-columns : {view : View} {t : List ℕ} {width n left : ℕ} → IsFittingTo view t width n left → seen_after view t n ≡ [] → columns (seen_text view t) + left ≡ width
+IsFittingTo-columns {view} {t} {width} {n} fitting none =
     let all = fitting.all ∙ ap (λ ks. fitting.front ++ ks) (seen_clusters-end view t n none) ∙ append-nil fitting.front in
-    sym (le-leb (columns (seen_text view t)) width (omega (arith, fitting.columns, ap columns_of all)))
+    omega (arith, fitting.columns, ap columns_of all)
+
+pub IsFittingTo-end : {view : View} {t : List ℕ} {width n left : ℕ} → IsFittingTo view t width n left → seen_after view t n ≡ [] → true ≡ nat_le (columns (seen_text view t)) width
+IsFittingTo-end {view} {t} {width} fitting none = sym (le-leb (columns (seen_text view t)) width (omega (arith, IsFittingTo-columns fitting none)))
 
 pub not_all_fit : {view : View} {t : List ℕ} {width n left k : ℕ} (m : ℕ) → IsFittingTo view t width n left → seen_clusters view t n ≡ seen_cluster view t n m ∷ seen_clusters view t m → k ≡ cluster_width (seen_cluster view t n m) → left < k
     → false ≡ nat_le (columns (seen_text view t)) width

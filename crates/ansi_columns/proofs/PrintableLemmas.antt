@@ -4,6 +4,7 @@ use Rattle.std.specs.List.{list_all, prefix_len}
 use Rattle.std.specs.Str.{chars, IsUtf8, IsCharBoundary}
 use Rattle.std.proofs.lemmas.Bool.{and_parts, cases_lt}
 use Rattle.std.proofs.lemmas.Bool.Decides.{nat_tests}
+use Rattle.std.proofs.Math.Seq.{drop-cons, take-suc}
 use Rattle.std.proofs.lemmas.List.{drop-drop, length-drop, length-take-le, take-take, get_or-take, get_or-drop}
 use Rattle.std.proofs.lemmas.List.Sums.{sum_by-cons, sum_by-append, prefix_len-le-length}
 use Rattle.std.proofs.lemmas.Str.{encode_ascii, chars-IsAscii}
@@ -11,18 +12,20 @@ use Rattle.std.proofs.lemmas.Str.Ascii.{IsAscii-from_all}
 use Rattle.ansi_items.specs.Plain.{plain}
 use Rattle.unicode_segmentation.specs.Grapheme.{is_grapheme_break}
 use Rattle.ansi_items.proofs.SequenceLemmas.{all-run}
+use Rattle.ansi_search.specs.Offsets.{offset_of}
 use Rattle.ansi_search.proofs.SliceLemmas.{length-slice_range}
 use Rattle.ansi_columns.specs.declared.walks.Walk.{Walk}
 use Rattle.ansi_columns.specs.BreakStates.{break_state_of}
 use Rattle.ansi_columns.specs.Columns.{cluster_width, columns_of, bytes_of}
 use Rattle.ansi_columns.specs.declared.views.View.{View}
 use Rattle.ansi_columns.specs.Views.{seen_char, seen, seen_len}
-use Rattle.ansi_columns.specs.Walks.{after, cluster, clusters_after, seen_before, seen_after, seen_cluster, seen_clusters, is_seen_ascii, IsWalkIn, IsNext, IsPrintable, AreClustersIn}
+use Rattle.ansi_columns.specs.Walks.{IsRun, IsPrintableFront, IsPastAscii, after, cluster, clusters_after, seen_before, seen_after, seen_cluster, seen_clusters, is_seen_ascii, IsWalkIn, IsNext, IsPrintable, AreClustersIn}
 use Rattle.ansi_columns.proofs.AsciiLemmas.{is_printable, printable-below_7F, All-printable_is_ascii, break_state-printable, breaks-before_ascii, width-single}
 use Rattle.ansi_columns.proofs.ClusterLemmas.{cluster-begins, cluster-ends}
+use Rattle.ansi_columns.proofs.ClusterLawLemmas.{breaks-last}
 use Rattle.ansi_columns.proofs.ColumnLemmas.{IsCountedTo, IsFittingTo, bytes_of-append}
-use Rattle.ansi_columns.proofs.WalkLemmas.{walk_boundary, after-past, boundary_past, walk-on, run-between}
-use Rattle.ansi_columns.proofs.ViewLemmas.{seen-one, seen-append, seen-printable, seen-all_printable, seen-ascii, before-one, after-one, part-size, seen_len-split}
+use Rattle.ansi_columns.proofs.WalkLemmas.{walk_boundary, after-end, after-past, boundary_past, walk-on, walk-over, run-between}
+use Rattle.ansi_columns.proofs.ViewLemmas.{seen-nil, seen-one, seen-append, seen-printable, seen-all_printable, seen-ascii, before-one, after-one, part-size, seen_len-split}
 use Rattle.ansi_columns.proofs.ClusterWalkLemmas.{seen_cluster-next}
 
 pub encode-printable : (b : ℕ) → is_printable b ≡ true → encode_utf8 b ≡ b ∷ []
@@ -52,6 +55,18 @@ advanced-one_on w (suc n) =
     let offset : w.offset + 1 + suc n ≡ w.offset + suc (suc n) = omega arith in
     rw (position, offset) refl
 
+-- a walk at the first run after the offset m, in the state after printable ASCII, if a byte of ASCII that is seen begins that run, or none is left
+pub record IsAtNextRun (t : List ℕ) (m : ℕ) (walk : Walk) : Type 0 where
+  pub start : ℕ
+  pub end : ℕ
+  pub offset : walk.offset ≡ m + start
+  pub run_end : walk.run_end ≡ m + end
+  pub start_is : start ≡ offset_of (drop m t) 0
+  pub run : IsRun (drop m t) start end
+  pub none : start ≡ end → start ≡ length (drop m t)
+  pub break_state : walk.break_state ≡ break_state_of []
+  pub seen_next : walk.offset < length t → is_seen_ascii (slice_index t walk.offset) ≡ true
+
 module _ (view : View) (t : List ℕ) (utf8 : IsUtf8 t) where
   -- the byte at a walk is its next character
   next-ascii : (w : Walk) (b : ℕ) (u : List ℕ) → drop w.offset t ≡ b ∷ u → b < 128 → w.offset < w.run_end → IsNext t w b
@@ -72,9 +87,9 @@ module _ (view : View) (t : List ℕ) (utf8 : IsUtf8 t) where
       )
 
   -- one byte
-  module _ (w : Walk) (walk : IsWalkIn view t w) (b d : ℕ) (u : List ℕ) (text : drop w.offset t ≡ b ∷ d ∷ u) (first : is_printable b ≡ true) (second : is_seen_ascii d ≡ true) (inside : w.offset + 1 < w.run_end) where
+  module _ (w : Walk) (walk : IsWalkIn view t w) (b : ℕ) (u : List ℕ) (text : drop w.offset t ≡ b ∷ u) (first : is_printable b ≡ true) (inside : w.offset < w.run_end) where
     next : IsNext t w b
-    next = next-ascii w b (d ∷ u) text (omega (arith, printable-below_7F b first)) (omega (arith, inside))
+    next = next-ascii w b u text (omega (arith, printable-below_7F b first)) inside
 
     size : length (encode_utf8 b) ≡ 1
     size = ap length (encode-printable b first)
@@ -85,29 +100,63 @@ module _ (view : View) (t : List ℕ) (utf8 : IsUtf8 t) where
     end : IsCharBoundary (plain t) (w.position + 1)
     end = subst (λ n. IsCharBoundary (plain t) (w.position + n)) size (boundary_past t utf8 w walk b next)
 
-    rest_text : drop (w.offset + 1) t ≡ d ∷ u
-    rest_text = sym (drop-drop 1 w.offset t) ∙ ap (drop 1) text
-
     before_is : seen_before view t (w.position + 1) ≡ b ∷ seen_before view t w.position
     before_is = before-one view t utf8 w.position (w.position + 1) (omega arith) (walk_boundary t utf8 w walk) end b one
 
     after_is : seen_after view t w.position ≡ b ∷ seen_after view t (w.position + 1)
     after_is = after-one view t utf8 w.position (w.position + 1) (omega arith) (walk_boundary t utf8 w walk) end b one
 
+    -- a cluster ends after it if ASCII that is seen follows, or nothing
+    breaks-before_walk : (v : Walk) → IsWalkIn view t v → v.position ≡ w.position + 1 → (v.offset < length t → is_seen_ascii (slice_index t v.offset) ≡ true)
+        → is_grapheme_break true (b ∷ seen_before view t w.position) (seen_after view t (w.position + 1)) ≡ true
+    breaks-before_walk v is place seen_next = elim (cases_lt v.offset v.run_end) [
+      | inl some ↦
+          let d = slice_index t v.offset in
+          let second = seen_next (omega (arith, some, is.run.end_boundary.0)) in
+          let ascii = seen-ascii view d second in
+          let then_is = next-seen v is d ascii.0 (drop (suc v.offset) t) (drop-cons t v.offset 0 (omega (arith, some, is.run.end_boundary.0))) (seen_ascii-below d second) some ascii.1 in
+          ap (is_grapheme_break true (b ∷ seen_before view t w.position)) (ap (seen_after view t) (sym place) ∙ then_is.1) ∙ breaks-before_ascii (seen_before view t w.position) b ascii.0 then_is.0 first ascii.2
+      | inr none ↦
+          let over : v.offset ≡ v.run_end = omega (arith, none, is.run.ordered) in
+          ap (is_grapheme_break true (b ∷ seen_before view t w.position)) (ap (seen_after view t) (sym place) ∙ ap (seen view) (after-end t utf8 v is over) ∙ seen-nil view) ∙ breaks-last b (seen_before view t w.position)
+    ]
+
+    cluster-one : (v : Walk) → IsWalkIn view t v → v.position ≡ w.position + 1 → (v.offset < length t → is_seen_ascii (slice_index t v.offset) ≡ true)
+        → seen_clusters view t w.position ≡ (b ∷ []) ∷ seen_clusters view t (w.position + 1)
+    cluster-one v is place seen_next =
+        let m = w.position + 1 in
+        ap (clusters_after (seen_before view t w.position)) after_is ∙ cluster-begins (seen_before view t w.position) b (seen_after view t m)
+        ∙ cluster-ends (b ∷ []) (b ∷ seen_before view t w.position) (seen_after view t m) (breaks-before_walk v is place seen_next)
+        ∙ ap (λ x. (b ∷ []) ∷ clusters_after x (seen_after view t m)) (sym before_is)
+
+    -- it is the last of its run
+    last-one : (v : Walk) → w.offset + 1 ≡ w.run_end → v.position ≡ w.position + 1 → IsAtNextRun t w.run_end v → IsWalkIn view t v × (seen_clusters view t w.position ≡ (b ∷ []) ∷ seen_clusters view t (w.position + 1))
+    last-one v last place next_run =
+        let past : w.run_end ≡ w.offset + length (encode_utf8 b) = omega (arith, last, size) in
+        let at = subst (λ m. IsAtNextRun t m v) past next_run in
+        let is = walk-over t utf8 w walk b next view v at.start at.end (place ∙ ap (λ n. w.position + n) (sym size)) at.offset at.run_end at.start_is at.run at.none
+        (at.break_state ∙ break_state-printable b (seen_before view t w.position) first ∙ ap break_state_of (sym before_is) ∙ ap (λ n. break_state_of (seen_before view t n)) (sym place)) in
+        (is, cluster-one v is place at.seen_next)
+
+  -- one byte, and another one after it
+  module _ (w : Walk) (walk : IsWalkIn view t w) (b d : ℕ) (u : List ℕ) (text : drop w.offset t ≡ b ∷ d ∷ u) (first : is_printable b ≡ true) (second : is_seen_ascii d ≡ true) (inside : w.offset + 1 < w.run_end) where
+    room : w.offset < w.run_end
+    room = omega (arith, inside)
+
+    rest_text : drop (w.offset + 1) t ≡ d ∷ u
+    rest_text = sym (drop-drop 1 w.offset t) ∙ ap (drop 1) text
+
     walk-one_on : IsWalkIn view t (one_on w)
     walk-one_on =
-        walk-on t utf8 w walk b next view (one_on w) (ap (λ n. w.position + n) (sym size)) (ap (λ n. w.offset + n) (sym size)) refl (λ e. (let here : w.offset + 1 ≡ w.run_end = ap (λ n. w.offset + n) (sym size) ∙ e in absurd (omega (arith, here, inside))))
-        (break_state-printable b (seen_before view t w.position) first ∙ ap break_state_of (sym before_is))
+        let one_byte = size w walk b (d ∷ u) text first room in
+        walk-on t utf8 w walk b (next w walk b (d ∷ u) text first room) view (one_on w) (ap (λ n. w.position + n) (sym one_byte)) (ap (λ n. w.offset + n) (sym one_byte)) refl
+        (λ e. (let here : w.offset + 1 ≡ w.run_end = ap (λ n. w.offset + n) (sym one_byte) ∙ e in absurd (omega (arith, here, inside))))
+        (break_state-printable b (seen_before view t w.position) first ∙ ap break_state_of (sym (before_is w walk b (d ∷ u) text first room)))
 
     cluster-one_on : seen_clusters view t w.position ≡ (b ∷ []) ∷ seen_clusters view t (w.position + 1)
     cluster-one_on =
-        let m = w.position + 1 in
-        let ascii = seen-ascii view d second in
-        let then_is = next-seen (one_on w) walk-one_on d ascii.0 u rest_text (seen_ascii-below d second) inside ascii.1 in
-        ap (clusters_after (seen_before view t w.position)) after_is ∙ cluster-begins (seen_before view t w.position) b (seen_after view t m)
-        ∙ cluster-ends (b ∷ []) (b ∷ seen_before view t w.position) (seen_after view t m)
-        (ap (λ cs. is_grapheme_break true (b ∷ seen_before view t w.position) cs) then_is.1 ∙ breaks-before_ascii (seen_before view t w.position) b ascii.0 then_is.0 first ascii.2)
-        ∙ ap (λ x. (b ∷ []) ∷ clusters_after x (seen_after view t m)) (sym before_is)
+        let here : slice_index t (w.offset + 1) ≡ d = sym (get_or-drop w.offset t 1 0) ∙ ap (λ x. slice_index x 1) text in
+        cluster-one w walk b (d ∷ u) text first room (one_on w) walk-one_on refl (λ _. ap is_seen_ascii here ∙ second)
 
   first-ascii : (n d : ℕ) (u : List ℕ) → list_all is_printable (take n (d ∷ u)) ≡ true → is_seen_ascii (slice_index (d ∷ u) n) ≡ true → is_seen_ascii d ≡ true
   first-ascii zero d u all last = last
@@ -175,16 +224,16 @@ bytes-singles (b ∷ bytes) all = (let parts = and_parts _ _ all in omega (arith
 
 -- ---- the same for a walk over them
 
+pub IsPrintable-front : {view : View} {t : List ℕ} {w : Walk} (n : ℕ) → IsWalkIn view t w → (0 < n → IsPrintable t w n) → IsPrintableFront t w n
+IsPrintable-front {view} {t} {w} zero walk printable = record { within = omega (arith, walk.run.ordered); bytes = ap (list_all is_printable) (slice_range-take t w.offset 0) }
+IsPrintable-front {view} {t} {w} (suc n) walk printable = (let ahead = printable (omega arith) in record { within = omega (arith, ahead.within); bytes = ahead.bytes })
+
+pub front-size : {view : View} {t : List ℕ} {w : Walk} {n : ℕ} → IsWalkIn view t w → IsPrintableFront t w n → length (slice_range t w.offset (w.offset + n)) ≡ n
+front-size {view} {t} {w} {n} walk front = omega (arith, length-slice_range t w.offset (w.offset + n) (omega arith) (omega (arith, front.within, walk.run.end_boundary.0)))
+
 pub printable-bytes : {view : View} {t : List ℕ} {w : Walk} {len : ℕ} → IsWalkIn view t w → (0 < len → IsPrintable t w len)
     → (list_all is_printable (slice_range t w.offset (w.offset + len)) ≡ true) × (length (slice_range t w.offset (w.offset + len)) ≡ len)
-printable-bytes {view} {t} {w} {len} walk printable = by_len len printable
-  where
-    by_len : (n : ℕ) → (0 < n → IsPrintable t w n) → (list_all is_printable (slice_range t w.offset (w.offset + n)) ≡ true) × (length (slice_range t w.offset (w.offset + n)) ≡ n)
-    by_len zero printable = (let none : slice_range t w.offset (w.offset + 0) ≡ [] = slice_range-take t w.offset 0 in (ap (list_all is_printable) none, ap length none))
-    by_len (suc n) printable =
-        let ahead = printable (omega arith) in
-        let size = length-slice_range t w.offset (w.offset + suc n) (omega arith) (omega (arith, ahead.within, walk.run.end_boundary.0)) in
-        (ahead.bytes, omega (arith, size))
+printable-bytes {len = len} walk printable = (let front = IsPrintable-front len walk printable in (front.bytes, front-size walk front))
 
 -- the walk after them
 pub walk-past : (view : View) (t : List ℕ) (w : Walk) (n : ℕ) → IsUtf8 t → IsWalkIn view t w → 0 < n → (0 < n → IsPrintable t w n) → IsWalkIn view t (record { position = w.position + n; offset = w.offset + n; run_end = w.run_end; break_state = break_state_of [] })
@@ -192,23 +241,21 @@ walk-past view t w zero utf8 walk some printable = absurd (omega (arith, some))
 walk-past view t w (suc n) utf8 walk some printable = (passed-printable view t utf8 w (suc n) walk (printable some)).0
 
 -- each of them is seen
-pub seen_len-printable : (view : View) {any : View} (t : List ℕ) (w v : Walk) (n : ℕ) → IsUtf8 t → IsWalkIn any t w → IsWalkIn any t v → v.position ≡ w.position + n → (0 < n → IsPrintable t w n) → seen_len view t v.position ≡ seen_len view t w.position + n
-seen_len-printable view t w v zero utf8 from to place printable = (let same : v.position ≡ w.position = omega (arith, place) in omega (arith, ap (seen_len view t) same))
-seen_len-printable view t w v (suc n) utf8 from to place printable =
-    let ahead = printable (omega arith) in
+pub seen_len-printable : (view : View) {any : View} (t : List ℕ) (w v : Walk) (n : ℕ) → IsUtf8 t → IsWalkIn any t w → IsWalkIn any t v → v.position ≡ w.position + n → IsPrintableFront t w n → seen_len view t v.position ≡ seen_len view t w.position + n
+seen_len-printable view t w v n utf8 from to place front =
     let ordered : w.position ≤ v.position = omega (arith, place) in
     let start = walk_boundary t utf8 w from in
     let end = walk_boundary t utf8 v to in
-    let bytes = slice_range t w.offset (w.offset + suc n) in
-    let count : w.offset + suc n ≡ w.offset + (v.position - w.position) = omega (arith, place) in
+    let bytes = slice_range t w.offset (w.offset + n) in
+    let count : w.offset + n ≡ w.offset + (v.position - w.position) = omega (arith, place) in
     let same : cluster t w.position v.position ≡ bytes
-    = ap chars (sym (ap (slice_range t w.offset) count ∙ run-between t utf8 w v from to ordered (omega (arith, place, ahead.within)))) ∙ chars-IsAscii bytes (IsAscii-from_all bytes (All-printable_is_ascii bytes ahead.bytes)) in
+    = ap chars (sym (ap (slice_range t w.offset) count ∙ run-between t utf8 w v from to ordered (omega (arith, place, front.within)))) ∙ chars-IsAscii bytes (IsAscii-from_all bytes (All-printable_is_ascii bytes front.bytes)) in
     omega (
       arith,
       place,
       seen_len-split view t utf8 w.position v.position ordered start end,
       ap (λ cs. length (encode_utf8_all (seen view cs))) same,
-      ap (λ cs. length (encode_utf8_all cs)) (seen-all_printable view bytes ahead.bytes),
+      ap (λ cs. length (encode_utf8_all cs)) (seen-all_printable view bytes front.bytes),
       ap (λ cs. length (encode_utf8_all cs)) same,
       part-size view t utf8 w.position v.position ordered start end,
     )
@@ -221,15 +268,19 @@ printable-found {view} {t} {w} len walk inside all next = record {
   next = ap is_seen_ascii (sym (get_or-take (w.run_end - w.offset) (drop w.offset t) len 0 inside ∙ get_or-drop w.offset t len 0)) ∙ next;
 }
 
+printable-at : {view : View} {t : List ℕ} {w : Walk} (len n : ℕ) → IsWalkIn view t w → len ≤ w.run_end - w.offset → list_all is_printable (take len (drop w.offset t)) ≡ true → n < len → is_printable (slice_index t (w.offset + n)) ≡ true
+printable-at {view} {t} {w} len n walk inside all less =
+    let x = drop w.offset t in
+    let size : length (take len x) ≡ len = length-take-le len x (omega (arith, inside, walk.run.end_boundary.0, length-drop w.offset t)) in
+    ap is_printable (sym (get_or-drop w.offset t n 0) ∙ sym (get_or-take len x n 0 less)) ∙ all-index n (take len x) (omega (arith, size, less)) all
+
 pub printable-shorter : {view : View} {t : List ℕ} {w : Walk} (len n : ℕ) → IsWalkIn view t w → len ≤ w.run_end - w.offset → list_all is_printable (take len (drop w.offset t)) ≡ true → n < len → IsPrintable t w n
 printable-shorter {view} {t} {w} len n walk inside all less =
     let x = drop w.offset t in
-    let size : length (take len x) ≡ len = length-take-le len x (omega (arith, inside, walk.run.end_boundary.0, length-drop w.offset t)) in
-    let last : is_printable (slice_index t (w.offset + n)) ≡ true = ap is_printable (sym (get_or-drop w.offset t n 0) ∙ sym (get_or-take len x n 0 less)) ∙ all-index n (take len x) (omega (arith, size, less)) all in
     record {
       within = omega (arith, less, inside);
       bytes = ap (list_all is_printable) (slice_range-take t w.offset n ∙ sym (take-take n len x (omega (arith, less)))) ∙ all-take n (take len x) all;
-      next = printable-seen (slice_index t (w.offset + n)) last;
+      next = printable-seen (slice_index t (w.offset + n)) (printable-at len n walk inside all less);
     }
 
 -- how many bytes at the front of a part of the run are printable
@@ -243,33 +294,105 @@ found-bytes t a b m len room end ordered len_is =
     let same : take len front ≡ take len (drop a t) = take-take len m (slice_range t a b) le_m ∙ take-take len (b - a) (drop a t) le_run in
     (le_m, le_run, ap (list_all is_printable) (sym same) ∙ ap (λ n. list_all is_printable (take n front)) len_is ∙ all-run is_printable front)
 
-pub counted-past : {view : View} {t : List ℕ} {w : Walk} {m : ℕ} {len total : ℕ} → IsWalkIn view t w → (0 < len → IsPrintable t w len) → AreClustersIn view t w.position (slice_range t w.offset (w.offset + len)) → m ≡ w.position + len
-    → IsCountedTo view t w.position total → IsCountedTo view t m (total + len)
-counted-past {view} {t} {w} {m} {len} {total} walk printable are place counted =
-    let facts = printable-bytes walk printable in
-    let bytes = slice_range t w.offset (w.offset + len) in
-    let same : w.position + length bytes ≡ m = omega (arith, facts.1, place) in
-    let passed = ap columns_of (clusters-passed view t w.position bytes are ∙ ap (λ n. singles bytes ++ seen_clusters view t n) same) ∙ sum_by-append cluster_width (singles bytes) (seen_clusters view t m) in
-    record { all = omega (arith, counted.all, passed, columns-singles bytes facts.0, facts.1); bound = omega (arith, counted.bound, place) }
+-- ---- a whole run of them
 
-pub fitting-past : {view : View} {t : List ℕ} {w : Walk} {m : ℕ} {width len left : ℕ} → IsWalkIn view t w → (0 < len → IsPrintable t w len) → AreClustersIn view t w.position (slice_range t w.offset (w.offset + len)) → m ≡ w.position + len
-    → seen_len view t m ≡ seen_len view t w.position + len → len ≤ left → IsFittingTo view t width w.position left → IsFittingTo view t width m (left - len)
-fitting-past {view} {t} {w} {m} {width} {len} {left} walk printable are place seen_is fits fitting =
-    let facts = printable-bytes walk printable in
-    let bytes = slice_range t w.offset (w.offset + len) in
-    let same : w.position + length bytes ≡ m = omega (arith, facts.1, place) in
-    let passed = clusters-passed view t w.position bytes are ∙ ap (λ n. singles bytes ++ seen_clusters view t n) same in
+AreClustersIn-push : (view : View) (t : List ℕ) (n : ℕ) (x : List ℕ) (b : ℕ) → AreClustersIn view t n x → seen_clusters view t (n + length x) ≡ (b ∷ []) ∷ seen_clusters view t (n + length x + 1) → AreClustersIn view t n (x ++ b ∷ [])
+AreClustersIn-push view t n [] b are last = (let same : n + 0 ≡ n = omega arith in (subst (λ m. seen_clusters view t m ≡ (b ∷ []) ∷ seen_clusters view t (m + 1)) same last, tt))
+AreClustersIn-push view t n (c ∷ x) b are last =
+    let same : n + suc (length x) ≡ n + 1 + length x = omega arith in
+    (are.0, AreClustersIn-push view t (n + 1) x b are.1 (subst (λ m. seen_clusters view t m ≡ (b ∷ []) ∷ seen_clusters view t (m + 1)) same last))
+
+advanced-place : (w : Walk) (n : ℕ) → ((advanced w n).position ≡ w.position + n) × ((advanced w n).offset ≡ w.offset + n) × ((advanced w n).run_end ≡ w.run_end)
+advanced-place w zero = (omega arith, omega arith, refl)
+advanced-place w (suc n) = (refl, refl, refl)
+
+-- each of its bytes is a cluster, and the walk after it is at the next run
+pub run-passed : (view : View) (t : List ℕ) (w v : Walk) (n : ℕ) → IsUtf8 t → IsWalkIn view t w → w.offset + suc n ≡ w.run_end → list_all is_printable (take (suc n) (drop w.offset t)) ≡ true → v.position ≡ w.position + suc n → IsAtNextRun t w.run_end v
+    → IsWalkIn view t v × AreClustersIn view t w.position (take (suc n) (drop w.offset t))
+run-passed view t w v n utf8 walk whole all place next_run =
+    let x = drop w.offset t in
+    let inside : suc n ≤ w.run_end - w.offset = omega (arith, whole) in
+    let room : w.offset + n < length t = omega (arith, whole, walk.run.end_boundary.0) in
+    let got = passed-printable view t utf8 w n walk (printable-shorter (suc n) n walk inside all (omega arith)) in
+    let here = advanced w n in
+    let at = advanced-place w n in
+    let b = slice_index t (w.offset + n) in
+    let text : drop here.offset t ≡ b ∷ drop (suc (w.offset + n)) t = ap (λ i. drop i t) at.1 ∙ drop-cons t (w.offset + n) 0 room in
+    let last = last-one view t utf8 here got.0 b (drop (suc (w.offset + n)) t) text (printable-at (suc n) n walk inside all (omega arith)) (omega (arith, at.1, at.2, whole))
+    v (omega (arith, at.1, at.2, whole)) (omega (arith, at.0, place)) (subst (λ m. IsAtNextRun t m v) (sym at.2) next_run) in
+    let size : length (take n x) ≡ n = length-take-le n x (omega (arith, room, length-drop w.offset t)) in
+    let end : here.position ≡ w.position + length (take n x) = omega (arith, at.0, size) in
+    let more : take n x ++ b ∷ [] ≡ take (suc n) x = ap (λ c. take n x ++ c ∷ []) (sym (get_or-drop w.offset t n 0)) ∙ sym (take-suc x n 0 (omega (arith, room, length-drop w.offset t))) in (
+      last.0,
+      subst (AreClustersIn view t w.position) more (AreClustersIn-push view t w.position (take n x) b (subst (AreClustersIn view t w.position) (slice_range-take t w.offset n) got.1)
+          (subst (λ m. seen_clusters view t m ≡ (b ∷ []) ∷ seen_clusters view t (m + 1)) end last.1)),
+    )
+
+-- the position of its last byte
+pub run-within : (view : View) (t : List ℕ) (w : Walk) (n : ℕ) → IsUtf8 t → IsWalkIn view t w → w.offset + suc n ≡ w.run_end → list_all is_printable (take (suc n) (drop w.offset t)) ≡ true → w.position + n ≤ length (plain t)
+run-within view t w n utf8 walk whole all =
+    let got = passed-printable view t utf8 w n walk (printable-shorter (suc n) n walk (omega (arith, whole)) all (omega arith)) in
+    omega (arith, got.0.within, (advanced-place w n).0)
+
+run-past : {any : View} (t : List ℕ) (w v : Walk) (n : ℕ) → IsUtf8 t → IsWalkIn any t w → w.offset + suc n ≡ w.run_end → list_all is_printable (take (suc n) (drop w.offset t)) ≡ true → v.position ≡ w.position + suc n → IsAtNextRun t w.run_end v
+    → IsPastAscii t w (suc n) v
+run-past {any} t w v n utf8 walk whole all place next_run =
+    let front : IsPrintableFront t w (suc n) = record { within = omega (arith, whole); bytes = ap (list_all is_printable) (slice_range-take t w.offset (suc n)) ∙ all } in
     record {
-      front = fitting.front ++ singles bytes;
-      all = fitting.all ∙ ap (λ ks. fitting.front ++ ks) passed ∙ sym (append_assoc fitting.front (singles bytes) (seen_clusters view t m));
-      boundary = omega (arith, seen_is, fitting.boundary, bytes_of-append fitting.front (singles bytes), bytes-singles bytes facts.0, facts.1);
-      columns = omega (arith, fitting.columns, fits, sum_by-append cluster_width fitting.front (singles bytes), columns-singles bytes facts.0, facts.1);
+      front = front;
+      walk = λ view is. (run-passed view t w v n utf8 is whole all place next_run).0;
+      position = place;
+      clusters = λ view. subst (AreClustersIn view t w.position) (sym (slice_range-take t w.offset (suc n)))
+          (run-passed view t (record w { break_state = break_state_of (seen_before view t w.position) }) v n utf8 (seeing view t utf8 w walk) whole all place next_run).1;
+      seen = λ view. seen_len-printable view t w v (suc n) utf8 walk (run-passed any t w v n utf8 walk whole all place next_run).0 place front;
     }
 
--- so are fewer bytes
+pub past-run : {any : View} (t : List ℕ) (w v : Walk) → IsUtf8 t → IsWalkIn any t w → w.offset < w.run_end → list_all is_printable (slice_range t w.offset w.run_end) ≡ true → v.position ≡ w.position + (w.run_end - w.offset) → IsAtNextRun t w.run_end v
+    → IsPastAscii t w (w.run_end - w.offset) v
+past-run t w v utf8 walk some all place next_run =
+    let n = w.run_end - w.offset - 1 in
+    let more : suc n ≡ w.run_end - w.offset = omega (arith, some) in
+    subst (λ k. IsPastAscii t w k v) more
+    (run-past t w v n utf8 walk (omega (arith, some)) (ap (λ k. list_all is_printable (take k (drop w.offset t))) more ∙ all) (omega (arith, place, more)) next_run)
+
+-- ---- the columns that are passed with them
+
+pub columns-past : {view : View} {t : List ℕ} {w v : Walk} {len : ℕ} → IsWalkIn view t w → IsPastAscii t w len v → columns_of (seen_clusters view t w.position) ≡ len + columns_of (seen_clusters view t v.position)
+columns-past {view} {t} {w} {v} {len} walk past =
+    let size = front-size walk past.front in
+    let bytes = slice_range t w.offset (w.offset + len) in
+    let same : w.position + length bytes ≡ v.position = omega (arith, size, past.position) in
+    let passed = ap columns_of (clusters-passed view t w.position bytes (past.clusters view) ∙ ap (λ n. singles bytes ++ seen_clusters view t n) same) ∙ sum_by-append cluster_width (singles bytes) (seen_clusters view t v.position) in
+    omega (arith, passed, columns-singles bytes past.front.bytes, size)
+
+pub counted-past : {view : View} {t : List ℕ} {w v : Walk} {len total : ℕ} → IsWalkIn view t w → IsPastAscii t w len v → IsCountedTo view t w.position total → IsCountedTo view t v.position (total + len)
+counted-past walk past counted = record { all = omega (arith, counted.all, columns-past walk past); bound = omega (arith, counted.bound, past.position) }
+
+pub fitting-past : {view : View} {t : List ℕ} {w v : Walk} {width len left : ℕ} → IsWalkIn view t w → IsPastAscii t w len v → len ≤ left → IsFittingTo view t width w.position left → IsFittingTo view t width v.position (left - len)
+fitting-past {view} {t} {w} {v} {width} {len} {left} walk past fits fitting =
+    let size = front-size walk past.front in
+    let bytes = slice_range t w.offset (w.offset + len) in
+    let same : w.position + length bytes ≡ v.position = omega (arith, size, past.position) in
+    let passed = clusters-passed view t w.position bytes (past.clusters view) ∙ ap (λ n. singles bytes ++ seen_clusters view t n) same in
+    record {
+      front = fitting.front ++ singles bytes;
+      all = fitting.all ∙ ap (λ ks. fitting.front ++ ks) passed ∙ sym (append_assoc fitting.front (singles bytes) (seen_clusters view t v.position));
+      boundary = omega (arith, past.seen view, fitting.boundary, bytes_of-append fitting.front (singles bytes), bytes-singles bytes past.front.bytes, size);
+      columns = omega (arith, fitting.columns, fits, sum_by-append cluster_width fitting.front (singles bytes), columns-singles bytes past.front.bytes, size);
+    }
+
+-- a walk at another run has passed some
+pub past-some : {w v : Walk} {len : ℕ} → (len ≡ 0 → v ≡ w) → w.run_end < v.run_end → 0 < len
+past-some {w} {v} {len = zero} none less = (let same : v.run_end ≡ w.run_end = ap (λ (u : Walk). u.run_end) (none refl) in absurd (omega (arith, same, less)))
+past-some {w} {v} {len = suc n} none less = omega arith
+
+-- so are fewer bytes, which others follow
+pub front-fewer : {view : View} {t : List ℕ} {w : Walk} (n m : ℕ) → IsWalkIn view t w → IsPrintableFront t w n → m < n → IsPrintable t w m
+front-fewer {view} {t} {w} n m walk front less =
+    printable-shorter n m walk (omega (arith, front.within)) (ap (list_all is_printable) (sym (slice_range-take t w.offset n)) ∙ front.bytes) less
+
 pub IsPrintable-fewer : {view : View} {t : List ℕ} {w : Walk} (n m : ℕ) → IsWalkIn view t w → IsPrintable t w n → m < n → IsPrintable t w m
-IsPrintable-fewer {view} {t} {w} n m walk printable less =
-    printable-shorter n m walk (omega (arith, printable.within)) (ap (list_all is_printable) (sym (slice_range-take t w.offset n)) ∙ printable.bytes) less
+IsPrintable-fewer n m walk printable less = front-fewer n m walk (IsPrintable-front n walk (λ some. printable)) less
 
 pub IsPrintable-up_to : {view : View} {t : List ℕ} {w : Walk} (n m : ℕ) → IsWalkIn view t w → (0 < n → IsPrintable t w n) → m ≤ n → 0 < m → IsPrintable t w m
 IsPrintable-up_to {view} {t} {w} n m walk printable le some = elim (cases_lt m n) [

@@ -6,13 +6,14 @@ use Rattle.std.proofs.lemmas.List.{take_more, get_or-drop, length-drop, length-t
 use Rattle.memchr.specs.Find.{IsLastByte, is_byte}
 use Rattle.std.proofs.lemmas.Bool.Decides.{nat_tests}
 use Rattle.ansi_columns.specs.declared.walks.Walk.{Walk}
-use Rattle.ansi_columns.specs.Walks.{IsWalk, IsPrintable, AreClusters}
+use Rattle.ansi_columns.specs.declared.views.View.TheVariants.{Given}
+use Rattle.ansi_columns.specs.Walks.{IsWalk, IsPastAscii, AreClusters}
 use Rattle.ansi_columns.specs.Lines.{is_line_end}
 use Rattle.ansi_columns.specs.Words.{end_after, words_after}
 use Rattle.ansi_columns.proofs.AsciiLemmas.{is_printable, width-single}
 use Rattle.ansi_columns.proofs.KindLemmas.{is_blank-other, is_blank-space, not_line_end}
 use Rattle.ansi_columns.proofs.LineWalkLemmas.{IsLineTo, line-goes_on, line-takes}
-use Rattle.ansi_columns.proofs.PrintableLemmas.{bytes-single, printable-bytes}
+use Rattle.ansi_columns.proofs.PrintableLemmas.{bytes-single, front-size}
 
 -- ---- where the words end
 
@@ -214,25 +215,25 @@ pub record IsLineRead (t : List ℕ) (width : ℕ) (start end_before word end he
 
 -- printable ASCII is read
 pub read-printable : {t : List ℕ} {width : ℕ} {start end_before word end here end_before' word' end' here' : Walk} {columns len : ℕ} → IsLineRead t width start end_before word end here columns
-    → (0 < len → IsPrintable t here len) → len ≤ width - columns → AreClusters t here.position (slice_range t here.offset (here.offset + len)) → IsWalk t end_before' → IsWalk t word' → IsWalk t end' → IsWalk t here'
+    → IsPastAscii t here len here' → len ≤ width - columns → IsWalk t end_before' → IsWalk t word' → IsWalk t end'
     → (end_before'.position, word'.position, end'.position) ≡ words_after (slice_range t here.offset (here.offset + len)) here.position end_before.position word.position end.position
-    → here'.position ≡ here.position + len → IsLineRead t width start end_before' word' end' here' (columns + len)
-read-printable {t} {width} {start} {end_before} {word} {end} {here} {end_before'} {word'} {end'} {here'} {columns} {len} read printable room are before_walk word_walk end_walk here_walk positions place =
+    → IsLineRead t width start end_before' word' end' here' (columns + len)
+read-printable {t} {width} {start} {end_before} {word} {end} {here} {end_before'} {word'} {end'} {here'} {columns} {len} read past room before_walk word_walk end_walk positions =
     let bytes = slice_range t here.offset (here.offset + len) in
     let words = words_after bytes here.position end_before.position word.position end.position in
-    let facts = printable-bytes read.here_walk printable in
-    let same_place : here.position + length bytes ≡ here'.position = omega (arith, facts.1, place) in
-    let same_total : columns + length bytes ≡ columns + len = omega (arith, facts.1) in
+    let size = front-size read.here_walk past.front in
+    let same_place : here.position + length bytes ≡ here'.position = omega (arith, size, past.position) in
+    let same_total : columns + length bytes ≡ columns + len = omega (arith, size) in
     record {
-      here_walk = here_walk;
+      here_walk = past.walk Given read.here_walk;
       word_walk = word_walk;
       end_before_walk = before_walk;
       end_walk = end_walk;
       ordered = subst (λ w. AreOrdered start.position w here'.position) (sym positions)
           (subst (AreOrdered start.position words) same_place (words_after-ordered bytes start.position here.position end_before.position word.position end.position read.ordered));
-      bound = omega (arith, read.bound, place);
+      bound = omega (arith, read.bound, past.position);
       line = subst (λ w. IsLineAt t width start.position w here'.position (columns + len)) (sym positions)
           (subst (λ m. IsLineAt t width start.position words m (columns + len)) same_place
           (subst (IsLineAt t width start.position words (here.position + length bytes)) same_total
-          (line-printable bytes here.position end_before.position word.position end.position columns read.line (omega (arith, read.ordered.2, read.ordered.3)) are facts.0 (λ some. omega (arith, some, facts.1, room)))));
+          (line-printable bytes here.position end_before.position word.position end.position columns read.line (omega (arith, read.ordered.2, read.ordered.3)) (past.clusters Given) past.front.bytes (λ some. omega (arith, some, size, room)))));
     }

@@ -94,6 +94,11 @@ pub record IsPrintable (t : List ℕ) (walk : Walk) (n : ℕ) : Type 0 where
   pub bytes : IsTrue (list_all is_printable_byte (slice_range t walk.offset (walk.offset + n)))
   pub next : IsTrue (is_seen_ascii (slice_index t (walk.offset + n)))
 
+-- the next n bytes of the walk's run are printable ASCII
+pub record IsPrintableFront (t : List ℕ) (walk : Walk) (n : ℕ) : Type 0 where
+  pub within : walk.offset + n ≤ walk.run_end
+  pub bytes : IsTrue (list_all is_printable_byte (slice_range t walk.offset (walk.offset + n)))
+
 -- the bytes are what is seen from the position n on, and each is a cluster by itself
 abbrev pub AreClustersIn : View → List ℕ → ℕ → List ℕ → Type 0
 AreClustersIn view t n [] = Unit
@@ -101,6 +106,14 @@ AreClustersIn view t n (b ∷ bs) = (seen_clusters view t n ≡ (b ∷ []) ∷ s
 
 abbrev pub AreClusters : List ℕ → ℕ → List ℕ → Type 0
 AreClusters t n bs = AreClustersIn Given t n bs
+
+-- The next n bytes of the walk's run are printable ASCII, each of them is a cluster by itself, and `later` is the walk after them.
+pub record IsPastAscii (t : List ℕ) (from : Walk) (n : ℕ) (later : Walk) : Type 0 where
+  pub front : IsPrintableFront t from n
+  pub walk : (view : View) → IsWalkIn view t from → IsWalkIn view t later
+  pub position : later.position ≡ from.position + n
+  pub clusters : (view : View) → AreClustersIn view t from.position (slice_range t from.offset (from.offset + n))
+  pub seen : (view : View) → seen_len view t later.position ≡ seen_len view t from.position + n
 
 -- What is seen before the byte `end` is the clusters that fit. Before a later character boundary more is seen.
 pub record SeesUpTo (view : View) (t : List ℕ) (width end : ℕ) : Type 0 where

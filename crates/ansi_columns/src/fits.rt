@@ -1,7 +1,7 @@
 //! The longest prefix of a text that fits into a width.
-ghost use Rattle.std.specs.Prelude.{◌≡◌, nat_le};
+ghost use Rattle.std.specs.Prelude.{◌≡◌, ◌+◌, take, nat_le, IsTrue};
 ghost use Rattle.ansi_columns.specs.Columns.{columns};
-ghost use Rattle.ansi_columns.specs.Views.{seen_text};
+ghost use Rattle.ansi_columns.specs.Views.{seen_text, seen_len};
 ghost use Rattle.ansi_columns.specs.Walks.{IsWalkIn, SeesUpTo};
 
 use crate::views::View;
@@ -14,6 +14,8 @@ pub(crate) struct Front {
     pub(crate) walk: Walk,
     /// Whether the whole text fits.
     pub(crate) is_all: bool,
+    /// The columns of the width that the prefix leaves.
+    pub(crate) left: usize,
 }
 
 /// The longest prefix of a text that fits into `width` columns. Characters that aren't seen and
@@ -22,23 +24,32 @@ pub(crate) fn fitting_front(text: &str, width: usize, view: View) -> Front
     ensures walk { IsWalkIn view text.now result.walk }
     ensures fits { SeesUpTo view text.now width result.walk.position }
     ensures all { result.is_all ≡ nat_le (columns (seen_text view text.now)) width }
+    ensures left { columns (take (seen_len view text.now result.walk.position)
+        (seen_text view text.now)) + result.left ≡ width }
+    ensures left_by_all { IsTrue result.is_all →
+        columns (seen_text view text.now) + result.left ≡ width }
 {
     let mut walk = Walk::start(text);
     let mut left = width;
     'clusters: loop {
-        let len = walk.printable_ahead(text, left);
-        walk = walk.past_printable(text, len);
+        let (here, len) = walk.past_ascii(text, left);
         left -= len;
-        let Some((next, columns)) = walk.next_cluster(text, view) else {
+        if walk.run_end < here.run_end {
+            walk = here;
+            continue;
+        }
+        let Some((next, columns)) = here.next_cluster(text, view) else {
             return Front {
-                walk: walk.next_seen(text, view).0,
+                walk: here.next_seen(text, view).0,
                 is_all: true,
+                left,
             };
         };
         if left < columns {
             return Front {
-                walk: walk.next_seen(text, view).0,
+                walk: here.next_seen(text, view).0,
                 is_all: false,
+                left,
             };
         }
         left -= columns;

@@ -6,7 +6,7 @@ ghost use Rattle.ansi_columns.specs.Lines.{lines, lines_left, is_line_end, is_bl
 ghost use Rattle.ansi_columns.specs.Lines.{IsGoodLine};
 ghost use Rattle.ansi_columns.specs.Columns.{clusters};
 ghost use Rattle.ansi_columns.specs.FirstFit.{IsFirstFit};
-ghost use Rattle.ansi_columns.specs.Walks.{IsWalk, IsPrintable, cluster};
+ghost use Rattle.ansi_columns.specs.Walks.{IsWalk, IsPrintable, IsPastAscii, cluster};
 ghost use Rattle.ansi_columns.specs.Words.{end_after, words_after};
 
 use crate::views::View;
@@ -119,10 +119,14 @@ pub(crate) fn first_line(text: &str, start: Walk, width: usize) -> (Walk, Walk, 
     let mut end = start;
     let mut columns = 0;
     'clusters: loop {
-        let len = here.printable_ahead(text, width.saturating_sub(columns));
-        (end_before, word, end) = words_after(text, here, len, end_before, word, end);
-        here = here.past_printable(text, len);
+        let (after, len) = here.past_ascii(text, width.saturating_sub(columns));
+        (end_before, word, end) = words_after(text, here, len, after, end_before, word, end);
         columns += len;
+        let is_at_next_run = here.run_end < after.run_end;
+        here = after;
+        if is_at_next_run {
+            continue;
+        }
         let Some((next, more)) = here.next_cluster(text, View::Given) else {
             return (start, end, None);
         };
@@ -148,17 +152,18 @@ pub(crate) fn first_line(text: &str, start: Walk, width: usize) -> (Walk, Walk, 
 }
 
 /// The end of the words before the last word, the beginning of that word and the end of all words,
-/// after `len` more bytes of printable ASCII.
+/// after `len` more bytes of printable ASCII, which end at `after`.
 fn words_after(
     text: &str,
     here: Walk,
     len: usize,
+    after: Walk,
     end_before: Walk,
     word: Walk,
     end: Walk,
 ) -> (Walk, Walk, Walk)
     requires here { IsWalk text.now here }
-    requires ahead { 0 < len → IsPrintable text.now here len }
+    requires after { IsPastAscii text.now here len after }
     requires end_before { IsWalk text.now end_before }
     requires word { IsWalk text.now word }
     requires end { IsWalk text.now end }
@@ -173,14 +178,14 @@ fn words_after(
         return (end_before, word, end);
     }
     let bytes = &text.as_bytes()[here.offset..here.offset + len];
-    let after = here.past_printable(text, len);
     let Some(blank) = memrchr(b' ', bytes) else {
         return (end_before, word, after);
     };
     let before = end_after(text, here, blank, end);
-    let last = here.past_printable(text, blank + 1);
-    let all = if blank + 1 == len { before } else { after };
-    (before, last, all)
+    if blank + 1 == len {
+        return (before, after, before);
+    }
+    (before, here.past_printable(text, blank + 1), after)
 }
 
 /// The end of the words in the `len` bytes of printable ASCII that come next, or `end` if those are

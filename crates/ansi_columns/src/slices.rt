@@ -188,6 +188,13 @@ fn edge_after(text: &str, from: Walk, columns: usize) -> Edge
     let mut walk = from;
     let mut left = columns;
     'clusters: while left > 0 {
+        let (here, len) = walk.past_ascii(text, left);
+        let is_at_next_run = walk.run_end < here.run_end;
+        walk = here;
+        left -= len;
+        if is_at_next_run || left == 0 {
+            continue;
+        }
         let Some((next, width)) = walk.next_cluster(text, View::Given) else {
             break;
         };
@@ -215,6 +222,9 @@ fn has_column(text: &str, from: Walk) -> bool
     requires { IsWalk text.now from }
     ensures { result ≡ nat_lt 0 (columns_of (clusters_from text.now from.position)) }
 {
+    if 0 < from.past_ascii(text, 1).1 {
+        return true;
+    }
     let mut walk = from;
     'clusters: while let Some((next, width)) = walk.next_cluster(text, View::Given) {
         if width > 0 {

@@ -1,14 +1,16 @@
 //! A walk over the clusters of a plain text, and the width of each cluster.
 ghost use Rattle.std.specs.Prelude.{◌≡◌, ◌+◌, ◌*◌, ◌-◌, ◌<◌, ◌≤◌, [], ◌∷◌, length, encode_utf8};
-ghost use Rattle.std.specs.Prelude.{ℕ, List, ◌++◌, slice_range, MatchOption, IfSome};
+ghost use Rattle.std.specs.Prelude.{ℕ, List, ◌++◌, slice_range, MatchOption, IfSome, IsTrue};
+ghost use Rattle.std.specs.List.{list_all};
 ghost use Rattle.ansi_search.specs.Offsets.{offset_of};
+ghost use Rattle.ansi_safe.specs.Safe.{is_printable_byte};
 ghost use Rattle.ansi_columns.specs.declared.views.View.{View};
 ghost use Rattle.ansi_columns.specs.BreakStates.{break_state_of};
 ghost use Rattle.ansi_columns.specs.Columns.{cluster_width};
 ghost use Rattle.ansi_columns.specs.Views.{seen_len};
 ghost use Rattle.ansi_columns.specs.Walks.{before, after, seen_before, seen_after, seen_cluster};
 ghost use Rattle.ansi_columns.specs.Walks.{seen_clusters, IsRun, IsWalkIn, IsWalk, IsAnyWalk, IsNext};
-ghost use Rattle.ansi_columns.specs.Walks.{IsSeenNext, IsPrintable, AreClustersIn, is_seen_ascii};
+ghost use Rattle.ansi_columns.specs.Walks.{IsSeenNext, IsPrintable, IsPrintableFront, AreClustersIn, IsPastAscii, is_seen_ascii};
 
 use crate::break_state::BreakState;
 use crate::from_end;
@@ -96,6 +98,49 @@ impl Walk {
         (walk, None)
     }
 
+    /// The walk after the printable ASCII that comes next in the run, at most `most` bytes of it,
+    /// and how many bytes those are. Each of them is a cluster of one column.
+    ///
+    /// If all of the run is passed, this is the walk at the next run.
+    #[inline]
+    pub(crate) fn past_ascii(self, text: &str, most: usize) -> (Walk, usize)
+        requires { IsAnyWalk text.now self }
+        ensures past { IsPastAscii text.now self result.1 result.0 }
+        ensures most { result.1 ≤ most }
+        ensures none { result.1 ≡ 0 → result.0 ≡ self }
+    {
+        let len = self.printable_front(text, most);
+        if 0 < len && len == self.run_end - self.offset {
+            if let Some(walk) = self.past_run(text) {
+                return (walk, len);
+            }
+        }
+        let len = self.before_ascii(text, len);
+        (self.past_printable(text, len), len)
+    }
+
+    /// The walk after the run, which is printable ASCII, if a byte of ASCII that is seen comes
+    /// next, or nothing.
+    fn past_run(self, text: &str) -> Option<Walk>
+        requires walk { IsAnyWalk text.now self }
+        requires some { self.offset < self.run_end }
+        requires bytes { IsTrue (list_all is_printable_byte
+            (slice_range text.now self.offset self.run_end)) }
+        ensures { IfSome result (IsPastAscii text.now self (self.run_end - self.offset)) }
+    {
+        let (start, end) = first_run(&text[self.run_end..]);
+        let offset = self.run_end + start;
+        if offset < text.len() && !is_seen_ascii(text.as_bytes()[offset]) {
+            return None;
+        }
+        Some(Walk {
+            position: self.position + (self.run_end - self.offset),
+            offset,
+            run_end: self.run_end + end,
+            break_state: BreakState::start(),
+        })
+    }
+
     /// How many bytes of printable ASCII come next in the run, at most `most`, with another byte of
     /// ASCII after them that is seen.
     #[inline]
@@ -104,9 +149,30 @@ impl Walk {
         ensures most { result ≤ most }
         ensures ahead { 0 < result → IsPrintable text.now self result }
     {
+        self.before_ascii(text, self.printable_front(text, most))
+    }
+
+    /// How many bytes of printable ASCII come next in the run, at most `most`.
+    #[inline]
+    fn printable_front(self, text: &str, most: usize) -> usize
+        requires { IsAnyWalk text.now self }
+        ensures most { result ≤ most }
+        ensures front { IsPrintableFront text.now self result }
+    {
         let run = &text.as_bytes()[self.offset..self.run_end];
-        let front = &run[..run.len().min(most)];
-        let len = printable_len(front);
+        printable_len(&run[..run.len().min(most)])
+    }
+
+    /// How many of the next `len` bytes, which are printable ASCII, come before another byte of
+    /// ASCII of the run that is seen: all of them, or all but the last.
+    #[inline]
+    fn before_ascii(self, text: &str, len: usize) -> usize
+        requires walk { IsAnyWalk text.now self }
+        requires front { IsPrintableFront text.now self len }
+        ensures most { result ≤ len }
+        ensures ahead { 0 < result → IsPrintable text.now self result }
+    {
+        let run = &text.as_bytes()[self.offset..self.run_end];
         if len < run.len() && is_seen_ascii(run[len]) {
             len
         } else {
@@ -128,6 +194,7 @@ impl Walk {
             (slice_range text.now self.offset (self.offset + len)) }
         ensures seen { (view : View) → seen_len view text.now result.position
             ≡ seen_len view text.now self.position + len }
+        ensures none { len ≡ 0 → result ≡ self }
     {
         if len == 0 {
             return self;

@@ -13,12 +13,16 @@ pub(crate) fn width(text: &str, view: View) -> usize
     let mut walk = Walk::start(text);
     let mut total = 0;
     'clusters: loop {
-        let len = walk.printable_ahead(text, usize::MAX);
-        walk = walk.past_printable(text, len);
-        let Some((next, columns)) = walk.next_cluster(text, view) else {
-            return total + len;
+        let (here, len) = walk.past_ascii(text, usize::MAX);
+        total += len;
+        if walk.run_end < here.run_end {
+            walk = here;
+            continue;
+        }
+        let Some((next, columns)) = here.next_cluster(text, view) else {
+            return total;
         };
-        total += len + columns;
+        total += columns;
         walk = next;
     }
 }

@@ -3,7 +3,7 @@ use Rattle.std.proofs.lemmas.List.{take-take}
 use Rattle.memchr.specs.Find.{IsLastByte, is_byte}
 use Rattle.ansi_columns.specs.declared.views.View.TheVariants.{Given}
 use Rattle.ansi_columns.specs.Words.{end_after}
-use Rattle.ansi_columns.proofs.PrintableLemmas.{printable-bytes, IsPrintable-up_to, slice_range-take}
+use Rattle.ansi_columns.proofs.PrintableLemmas.{front-size, front-fewer, slice_range-take}
 use Rattle.ansi_columns.proofs.WordLemmas.{words-none, words-last_byte, words-last_word}
 use Rattle.ansi_columns.proofs.lines.words_after.Goals as goal
 
@@ -12,9 +12,9 @@ returns-in_default-clause-positions c =
     let t = c.args.text.now in
     let a = c.args.here.offset in
     let bytes = slice_range t a (a + c.args.len) in
-    let size : length bytes ≡ c.args.len = (printable-bytes c.requires.here c.requires.ahead).1 in
+    let size : length bytes ≡ c.args.len = front-size c.requires.here c.requires.after.front in
     let none : IsLastByte (is_byte 0x20) bytes None = rw (c.in_default.is, c.as_bytes.ensures.value) at c.memrchr.ensures in
-    let place : c.args.here.position + length bytes ≡ c.past_printable-after.result.position = omega (arith, size, c.past_printable-after.ensures.position) in
+    let place : c.args.here.position + length bytes ≡ c.args.after.position = omega (arith, size, c.requires.after.position) in
     sym (words-none bytes c.args.here.position c.args.end_before.position c.args.word.position c.args.end.position (omega (arith, size, c.if-len-eq0.false)) none ∙ ap (λ n. (c.args.end_before.position, c.args.word.position, n)) place)
 
 pub end_after-before-requires-clause-ahead : goal.end_after-before-requires-clause-ahead
@@ -22,18 +22,18 @@ end_after-before-requires-clause-ahead c =
     let t = c.args.text.now in
     let a = c.args.here.offset in
     let bytes = slice_range t a (a + c.args.len) in
-    let size : length bytes ≡ c.args.len = (printable-bytes c.requires.here c.requires.ahead).1 in
+    let size : length bytes ≡ c.args.len = front-size c.requires.here c.requires.after.front in
     let last : IsLastByte (is_byte 0x20) bytes (Some c.in-Some.blank) = rw (c.in-Some.is, c.as_bytes.ensures.value) at c.memrchr.ensures in
-    IsPrintable-up_to c.args.len c.in-Some.blank c.requires.here c.requires.ahead (omega (arith, size, last.0.high))
+    λ some. front-fewer c.args.len c.in-Some.blank c.requires.here c.requires.after.front (omega (arith, size, last.0.high))
 
-pub past_printable-last-requires-clause-ahead : goal.past_printable-last-requires-clause-ahead
-past_printable-last-requires-clause-ahead c =
+pub past_printable-requires-clause-ahead : goal.past_printable-requires-clause-ahead
+past_printable-requires-clause-ahead c =
     let t = c.args.text.now in
     let a = c.args.here.offset in
     let bytes = slice_range t a (a + c.args.len) in
-    let size : length bytes ≡ c.args.len = (printable-bytes c.requires.here c.requires.ahead).1 in
+    let size : length bytes ≡ c.args.len = front-size c.requires.here c.requires.after.front in
     let last : IsLastByte (is_byte 0x20) bytes (Some c.in-Some.blank) = rw (c.in-Some.is, c.as_bytes.ensures.value) at c.memrchr.ensures in
-    IsPrintable-up_to c.args.len (c.in-Some.blank + 1) c.requires.here c.requires.ahead (omega (arith, size, last.0.high))
+    λ some. front-fewer c.args.len (c.in-Some.blank + 1) c.requires.here c.requires.after.front (omega (arith, size, last.0.high, c.if-blank-len.false))
 
 pub returns-then-blank-len-clause-positions : goal.returns-then-blank-len-clause-positions
 returns-then-blank-len-clause-positions c =
@@ -41,46 +41,43 @@ returns-then-blank-len-clause-positions c =
     let a = c.args.here.offset in
     let k = c.in-Some.blank in
     let bytes = slice_range t a (a + c.args.len) in
-    let size : length bytes ≡ c.args.len = (printable-bytes c.requires.here c.requires.ahead).1 in
+    let size : length bytes ≡ c.args.len = front-size c.requires.here c.requires.after.front in
     let last : IsLastByte (is_byte 0x20) bytes (Some k) = rw (c.in-Some.is, c.as_bytes.ensures.value) at c.memrchr.ensures in
     let front : slice_range t a (a + k) ≡ take k bytes
     = slice_range-take t a k ∙ sym (take-take k c.args.len (drop a t) (omega (arith, size, last.0.high))) ∙ ap (take k) (sym (slice_range-take t a c.args.len)) in
     let before : end_after (take k bytes) c.args.here.position c.args.end.position ≡ c.end_after-before.result.position = sym (c.end_after-before.ensures.position ∙ ap (λ x. end_after x c.args.here.position c.args.end.position) front) in
-    let word : c.args.here.position + (k + 1) ≡ c.past_printable-last.result.position = omega (arith, c.past_printable-last.ensures.position) in
+    let word : c.args.here.position + (k + 1) ≡ c.args.after.position = omega (arith, c.requires.after.position, c.if-blank-len.true) in
     sym (words-last_byte bytes k last c.args.here.position c.args.end_before.position c.args.word.position c.args.end.position (omega (arith, size, c.if-blank-len.true))
     ∙ ap (λ e. (e, c.args.here.position + (k + 1), e)) before ∙ ap (λ n. (c.end_after-before.result.position, n, c.end_after-before.result.position)) word)
 
-pub returns-else-blank-len-clause-positions : goal.returns-else-blank-len-clause-positions
-returns-else-blank-len-clause-positions c =
+pub returns-clause-positions : goal.returns-clause-positions
+returns-clause-positions c =
     let t = c.args.text.now in
     let a = c.args.here.offset in
     let k = c.in-Some.blank in
     let bytes = slice_range t a (a + c.args.len) in
-    let size : length bytes ≡ c.args.len = (printable-bytes c.requires.here c.requires.ahead).1 in
+    let size : length bytes ≡ c.args.len = front-size c.requires.here c.requires.after.front in
     let last : IsLastByte (is_byte 0x20) bytes (Some k) = rw (c.in-Some.is, c.as_bytes.ensures.value) at c.memrchr.ensures in
     let front : slice_range t a (a + k) ≡ take k bytes
     = slice_range-take t a k ∙ sym (take-take k c.args.len (drop a t) (omega (arith, size, last.0.high))) ∙ ap (take k) (sym (slice_range-take t a c.args.len)) in
     let before : end_after (take k bytes) c.args.here.position c.args.end.position ≡ c.end_after-before.result.position = sym (c.end_after-before.ensures.position ∙ ap (λ x. end_after x c.args.here.position c.args.end.position) front) in
-    let word : c.args.here.position + (k + 1) ≡ c.past_printable-last.result.position = omega (arith, c.past_printable-last.ensures.position) in
-    let all : c.args.here.position + length bytes ≡ c.past_printable-after.result.position = omega (arith, size, c.past_printable-after.ensures.position) in
+    let word : c.args.here.position + (k + 1) ≡ c.past_printable.result.position = omega (arith, c.past_printable.ensures.position) in
+    let all : c.args.here.position + length bytes ≡ c.args.after.position = omega (arith, size, c.requires.after.position) in
     sym (words-last_word bytes k last c.args.here.position c.args.end_before.position c.args.word.position c.args.end.position (λ e. absurd (omega (arith, size, c.if-blank-len.false, e)))
     ∙ ap (λ e. (e, c.args.here.position + (k + 1), c.args.here.position + length bytes)) before ∙ ap (λ n. (c.end_after-before.result.position, n, c.args.here.position + length bytes)) word
-    ∙ ap (λ n. (c.end_after-before.result.position, c.past_printable-last.result.position, n)) all)
+    ∙ ap (λ n. (c.end_after-before.result.position, c.past_printable.result.position, n)) all)
 
-pub past_printable-after-requires-clause-walk : goal.past_printable-after-requires-clause-walk
-past_printable-after-requires-clause-walk c = (Given, c.requires.here)
-
-pub past_printable-last-requires-clause-walk : goal.past_printable-last-requires-clause-walk
-past_printable-last-requires-clause-walk c = (Given, c.requires.here)
+pub past_printable-requires-clause-walk : goal.past_printable-requires-clause-walk
+past_printable-requires-clause-walk c = (Given, c.requires.here)
 
 pub returns-in_default-clause-end : goal.returns-in_default-clause-end
-returns-in_default-clause-end c = c.past_printable-after.ensures.walk Given c.requires.here
+returns-in_default-clause-end c = c.requires.after.walk Given c.requires.here
 
 pub returns-then-blank-len-clause-word : goal.returns-then-blank-len-clause-word
-returns-then-blank-len-clause-word c = c.past_printable-last.ensures.walk Given c.requires.here
+returns-then-blank-len-clause-word c = c.requires.after.walk Given c.requires.here
 
-pub returns-else-blank-len-clause-word : goal.returns-else-blank-len-clause-word
-returns-else-blank-len-clause-word c = c.past_printable-last.ensures.walk Given c.requires.here
+pub returns-clause-word : goal.returns-clause-word
+returns-clause-word c = c.past_printable.ensures.walk Given c.requires.here
 
-pub returns-else-blank-len-clause-end : goal.returns-else-blank-len-clause-end
-returns-else-blank-len-clause-end c = c.past_printable-after.ensures.walk Given c.requires.here
+pub returns-clause-end : goal.returns-clause-end
+returns-clause-end c = c.requires.after.walk Given c.requires.here

@@ -1,5 +1,6 @@
-use Rattle.std.proofs.Common.{length}
-use Rattle.ansi_columns.specs.Walks.{clusters_from, IsWalk}
+use Rattle.std.proofs.Common.{◌-◌, length}
+use Rattle.ansi_items.specs.Plain.{plain}
+use Rattle.ansi_columns.specs.Walks.{IsWalk}
 use Rattle.ansi_columns.proofs.EdgeLemmas.{IsEdgeSoFar}
 use Rattle.ansi_columns.proofs.slices.edge_after.Given as goal
 
@@ -11,4 +12,4 @@ invariant-clusters l = record {
 }
 
 abbrev pub decreases-clusters : goal.decreases-clusters
-decreases-clusters l = length (clusters_from l.text l.walk.position)
+decreases-clusters l = length (plain l.text) - l.walk.position

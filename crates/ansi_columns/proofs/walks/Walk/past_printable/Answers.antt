@@ -1,6 +1,6 @@
 use Rattle.std.proofs.Common.{◌≡◌, ◌+◌, ◌^◌, ◌<◌, length, arith, rules}
 use Rattle.ansi_items.proofs.PlainLemmas.{length-plain}
-use Rattle.ansi_columns.proofs.PrintableLemmas.{clusters-printable, seen_len-printable, walk-past}
+use Rattle.ansi_columns.proofs.PrintableLemmas.{IsPrintable-front, clusters-printable, seen_len-printable, walk-past}
 use Rattle.ansi_columns.proofs.walks.Walk.past_printable.Goals as goal
 
 pub overflow_add-result : goal.overflow_add-result
@@ -21,4 +21,4 @@ returns-clause-clusters c view = clusters-printable view c.args.text.now c.utf8.
 pub returns-clause-seen : goal.returns-clause-seen
 returns-clause-seen c view =
     let walk = c.requires.walk in
-    seen_len-printable view c.args.text.now c.args.self _ c.args.len c.utf8.text walk.1 (walk-past walk.0 c.args.text.now c.args.self c.args.len c.utf8.text walk.1 (omega (arith, c.if-len-eq0.false)) c.requires.ahead) (omega arith) c.requires.ahead
+    seen_len-printable view c.args.text.now c.args.self _ c.args.len c.utf8.text walk.1 (walk-past walk.0 c.args.text.now c.args.self c.args.len c.utf8.text walk.1 (omega (arith, c.if-len-eq0.false)) c.requires.ahead) (omega arith) (IsPrintable-front c.args.len walk.1 c.requires.ahead)
