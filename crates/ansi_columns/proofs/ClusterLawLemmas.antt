@@ -44,7 +44,7 @@ pub cluster-alone : (before : List ℕ) (c : ℕ) (cs : List ℕ) → is_graphem
 cluster-alone before c cs breaks = cluster-begins before c cs ∙ cluster-ends (c ∷ []) (c ∷ before) cs breaks
 
 -- if a character follows, there is a cluster
-clusters-some : (before : List ℕ) (c : ℕ) (cs : List ℕ) → (k : List ℕ) × (ks : List (List ℕ)) × (clusters_after before (c ∷ cs) ≡ k ∷ ks)
+pub clusters-some : (before : List ℕ) (c : ℕ) (cs : List ℕ) → (k : List ℕ) × (ks : List (List ℕ)) × (clusters_after before (c ∷ cs) ≡ k ∷ ks)
 clusters-some before c cs = begins (is_grapheme_break true (c ∷ before) cs) (clusters_after (c ∷ before) cs) (cluster-begins before c cs)
   where
     begins : (b : Bool) (ks : List (List ℕ)) {all : List (List ℕ)} → all ≡ (if b then (c ∷ []) ∷ ks else prepend (c ∷ []) ks) → (l : List ℕ) × (ls : List (List ℕ)) × (all ≡ l ∷ ls)
@@ -208,7 +208,7 @@ shown-front t n utf8 boundary =
     ∙ ap (λ cs. encode_utf8_all (flat_map cell_char cs)) (chars-append (take n x) (drop n x) (IsUtf8-take x n (IsUtf8-plain t utf8) boundary))
     ∙ ap encode_utf8_all (flat_map-append cell_char (chars (take n x)) (chars (drop n x))) ∙ encodes-append front rest
 
-shown-taken : (t : List ℕ) (n : ℕ) → IsUtf8 t → IsCharBoundary (plain t) n → take (length (shown (take n (plain t)))) (plain (cell t)) ≡ shown (take n (plain t))
+pub shown-taken : (t : List ℕ) (n : ℕ) → IsUtf8 t → IsCharBoundary (plain t) n → take (length (shown (take n (plain t)))) (plain (cell t)) ≡ shown (take n (plain t))
 shown-taken t n utf8 boundary =
     (let k = length (shown (take n (plain t))) in ap (take k) (shown-front t n utf8 boundary) ∙ take_at (shown (take n (plain t))) (shown (drop n (plain t))) k refl)
 

@@ -37,6 +37,8 @@ pub mod ShownLawLemmas
 pub mod WrapLawLemmas
 pub mod LinkedLawLemmas
 pub mod StyledLawLemmas
+pub mod ClosedLemmas
+pub mod MissingLemmas
 pub mod TabLemmas
 pub mod EdgeLemmas
 pub mod SliceLemmas

@@ -37,13 +37,13 @@ linked-pieces t =
 
 -- without their links they are the plain text
 
-abbrev bytes_of : List LinkedByte → List ℕ
+abbrev pub bytes_of : List LinkedByte → List ℕ
 bytes_of bs = map (λ (b : LinkedByte). b.byte) bs
 
 bytes_of-without_link : (x : List ℕ) → bytes_of (without_link x) ≡ x
 bytes_of-without_link x = bytes-seen link_after linked_byte (λ (b : LinkedByte). b.byte) (λ link b. refl) [] x
 
-bytes_of-linked : (t : List ℕ) → bytes_of (linked t) ≡ plain t
+pub bytes_of-linked : (t : List ℕ) → bytes_of (linked t) ≡ plain t
 bytes_of-linked t = ap bytes_of (linked-pieces t) ∙ bytes-seen_through link_after linked_byte (λ (b : LinkedByte). b.byte) (λ link b. refl) [] (pieces_of t)
 
 -- ---- consecutive whole texts, with `link` open before them: their linked bytes, and the link after them
@@ -62,7 +62,7 @@ IsLinked-append {link} {u} {v} {middle} {next} {xs} {ys} first second = record {
       ∙ ap (λ q. link_through q (pieces_of v)) first.after ∙ second.after;
 }
 
-IsLinked-text : (t : List ℕ) → IsTrue (is_whole t) → IsLinked [] t (linked t) (link_of (marks t))
+pub IsLinked-text : (t : List ℕ) → IsTrue (is_whole t) → IsLinked [] t (linked t) (link_of (marks t))
 IsLinked-text t whole = record { whole = whole; bytes = sym (linked-pieces t); after = sym (link_of-pieces (pieces_of t)) }
 
 pub IsLinked-nil : (link : List ℕ) → IsLinked link [] [] link
@@ -83,7 +83,7 @@ IsLinked-interleaved t link test a b whole =
     record { whole = made.whole; bytes = made.bytes; after = made.after ∙ state_through-interleaved_pieces link_after (pieces_of t) link test a b }
 
 -- of a front they are the slice
-IsLinked-front : (t : List ℕ) (e : ℕ) → IsTrue (is_whole t) → IsLinked [] (interleaved (plain t) 0 e (marks_up_to e (marks t))) (take e (linked t)) (link_at t e)
+pub IsLinked-front : (t : List ℕ) (e : ℕ) → IsTrue (is_whole t) → IsLinked [] (interleaved (plain t) 0 e (marks_up_to e (marks t))) (take e (linked t)) (link_at t e)
 IsLinked-front t e whole =
     let made = IsLinked-interleaved t [] (λ p. nat_le p e) 0 e whole in
     let all : e - 0 ≡ e = omega arith in
@@ -115,7 +115,7 @@ IsLinked-link_end link = elim (cases_Bool (nat_eq (length link) 0)) [
   | inr some ↦ subst (λ w. IsLinked link w [] []) (sym (link_end-open link some)) (link_end-written link)
 ]
 
-IsLinked-pen_close : (t : List ℕ) (i : ℕ) → IsLinked (link_at t i) (pen_close t i) [] []
+pub IsLinked-pen_close : (t : List ℕ) (i : ℕ) → IsLinked (link_at t i) (pen_close t i) [] []
 IsLinked-pen_close t i = IsLinked-append (IsLinked-link_end (link_at t i)) (IsLinked-codes [] (close_codes (style_at t i)) (close_codes_are (style_at t i)))
 
 -- ---- of a truncated text, and of a padded text

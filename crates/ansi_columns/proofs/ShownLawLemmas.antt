@@ -14,7 +14,6 @@ use Rattle.ansi_items.specs.Plain.{plain, is_whole}
 use Rattle.ansi_items.proofs.Utf8Lemmas.{IsUtf8-plain}
 use Rattle.ansi_search.proofs.SliceLemmas.{list_all-parts, take-append}
 use Rattle.ansi_columns.specs.declared.shown.Alignment.{Alignment}
-use Rattle.ansi_columns.specs.declared.shown.Alignment.TheVariants.{Left, Right, Center}
 use Rattle.ansi_columns.specs.Columns.{clusters, cluster_width, columns_of, columns, bytes_of, FitsUpTo, IsClusterBoundary}
 use Rattle.ansi_columns.specs.Shown.{fitting_end, has_tail, truncated_end, truncated, missing, before_text, blanks, padded}
 use Rattle.ansi_columns.specs.Walks.{clusters_after}
@@ -24,6 +23,7 @@ use Rattle.ansi_columns.proofs.ClusterLawLemmas.{fits-within, clusters_after-byt
 use Rattle.ansi_columns.proofs.ColumnLemmas.{bytes_of-append}
 use Rattle.ansi_columns.proofs.LineLawLemmas.{boundary_between}
 use Rattle.ansi_columns.proofs.LinkedLawLemmas.{truncated-plain, padded-plain}
+use Rattle.ansi_columns.proofs.ShownLemmas.{before-within}
 use Rattle.ansi_columns.proofs.BreakLawLemmas.{clusters-add_up, columns-add_up}
 
 -- ---- the width of a truncated text
@@ -175,11 +175,6 @@ module _ (t : List ℕ) (width : ℕ) (tail : List ℕ) (printable : list_all is
 pub blanks_are_printable : (n : ℕ) → list_all is_printable (blanks n) ≡ true
 blanks_are_printable zero = refl
 blanks_are_printable (suc n) = blanks_are_printable n
-
-before-within : (alignment : Alignment) (n : ℕ) → before_text alignment n ≤ n
-before-within Left n = omega arith
-before-within Right n = omega arith
-before-within Center n = omega arith
 
 pub padded-columns : (t : List ℕ) (width : ℕ) (alignment : Alignment) → list_all is_printable (plain t) ≡ true → IsTrue (is_whole t) → columns (plain (padded t width alignment)) ≡ max (columns (plain t)) width
 padded-columns t width alignment printable whole =

@@ -1,8 +1,8 @@
 -- What follows a text that is displayed: what closes its link and its style, a tail, and blanks.
-use Rattle.std.proofs.Common.{◌≡◌, ℕ, zero, suc, ◌+◌, ◌-◌, ◌<◌, ◌≤◌, Bool, true, false, not, ◌&&◌, ◌==◌, List, [], ◌∷◌, ◌++◌, length, take, nat_le, if◌then◌else◌, refl, sym, ◌∙◌, ap, ap₂, arith, append_assoc, append-nil, length-append}
+use Rattle.std.proofs.Common.{◌≡◌, ℕ, zero, suc, ◌+◌, ◌-◌, ◌<◌, ◌≤◌, Bool, true, false, not, ◌&&◌, List, [], ◌∷◌, ◌++◌, length, take, nat_le, if◌then◌else◌, refl, sym, ◌∙◌, ap, ap₂, arith, append_assoc, length-append}
 use Rattle.std.specs.Str.{byte}
-use Rattle.std.proofs.lemmas.Bool.{eqb-true, le-leb, lt-leb, and_right}
-use Rattle.std.proofs.lemmas.List.{append_cancel_right, length-replicate, nil_from_length}
+use Rattle.std.proofs.lemmas.Bool.{le-leb, lt-leb, and_right}
+use Rattle.std.proofs.lemmas.List.{append_cancel_right, length-replicate}
 use Rattle.ansi_items.specs.Pieces.{pieces_of}
 use Rattle.ansi_items.specs.Plain.{plain, marks, marks_up_to}
 use Rattle.ansi_style.specs.declared.state.rendition.Rendition.{Rendition}
@@ -16,21 +16,9 @@ use Rattle.ansi_columns.specs.Columns.{columns}
 use Rattle.ansi_safe.specs.Links.{link_of, link_at, link_end, longest_link_end, pen_close}
 use Rattle.ansi_columns.specs.declared.shown.Alignment.{Alignment}
 use Rattle.ansi_columns.specs.declared.shown.Alignment.TheVariants.{Left, Right, Center}
-use Rattle.ansi_columns.specs.Shown.{has_tail, truncated_width, truncated_end, truncated_ending, truncated, missing, before_text, blanks, closing, padded}
+use Rattle.ansi_columns.specs.Shown.{has_tail, truncated_width, truncated_end, truncated_ending, truncated, missing, before_text, between_blanks, blanks, closing, padded}
 use Rattle.ansi_columns.proofs.PlaceLemmas.{marks-before}
-use Rattle.ansi_safe.proofs.EndingLemmas.{append-both_nil, length-closing}
-
--- Nothing is written.
-
-pub nothing_is : (u : List ℕ) (n : ℕ) {b : Bool} → b ≡ (length u + n == 0) → b ≡ true → (u ≡ []) × (n ≡ 0)
-nothing_is u n is holds =
-    let none = eqb-true (length u + n) 0 (sym is ∙ holds) in
-    (nil_from_length u (omega (arith, none)), omega (arith, none))
-
-pub nothing_not : (u : List ℕ) (n : ℕ) {b : Bool} → b ≡ (length u + n == 0) → b ≡ false → u ≡ [] → n ≡ 0 → ⊥
-nothing_not u n is fails none zero_is =
-    let all : (length u + n == 0) ≡ true = ap₂ (λ v k. length v + k == 0) none zero_is in
-    absurd (cc (is, fails, all))
+use Rattle.ansi_safe.proofs.EndingLemmas.{length-closing}
 
 -- The front of a text, and what ends its pen.
 
@@ -119,60 +107,34 @@ pub cut-bytes : {t tail front close after : List ℕ} {width : ℕ} → IsCutTo 
 unfolding truncated
 cut-bytes {front = front} {close = close} {after = after} cut = append_assoc front close after ∙ ap₂ (λ u v. u ++ v) cut.front_is (cut-ending cut)
 
-pub cut-alone : {t tail front close after : List ℕ} {width : ℕ} → IsCutTo t width tail front close after → close ++ after ≡ [] → front ≡ truncated t width tail
-unfolding truncated
-cut-alone {front = front} cut none = sym (append-nil front) ∙ ap₂ (λ u v. u ++ v) cut.front_is (sym none ∙ cut-ending cut)
-
 pub cut-length : {t tail front close after : List ℕ} {width : ℕ} → IsCutTo t width tail front close after → length ((front ++ close) ++ after) ≤ length t + length tail + longest_link_end + longest_close
 cut-length {t} {tail} {front} {close} {after} {width} cut =
     omega (arith, cut.within, cut.short, ap length cut.after_is, length-either (has_tail t width tail) tail, length-append (front ++ close) after, length-append front close)
 
--- nothing is written after the front, or something is
+-- A text between blanks, and a padded one.
 
-pub cut-nothing : {t tail front close after : List ℕ} {width : ℕ} {b : Bool} → IsCutTo t width tail front close after → b ≡ (length close + length after == 0) → b ≡ true → close ++ after ≡ []
-cut-nothing {close = close} {after = after} cut is holds =
-    let none = nothing_is close (length after) is holds in
-    ap₂ (λ u v. u ++ v) none.0 (nil_from_length after none.1)
+pub before-within : (alignment : Alignment) (n : ℕ) → before_text alignment n ≤ n
+before-within Left n = omega arith
+before-within Right n = omega arith
+before-within Center n = omega arith
 
-pub cut-something : {t tail front close after : List ℕ} {width : ℕ} {b : Bool} → IsCutTo t width tail front close after → b ≡ (length close + length after == 0) → b ≡ false → truncated_ending t width tail ≡ [] → ⊥
-cut-something {close = close} {after = after} cut is fails none =
-    let both = append-both_nil close after (cut-ending cut ∙ none) in
-    nothing_not close (length after) is fails both.0 (ap length both.1)
-
--- A padded text.
-
-pub padded-bytes : {close : List ℕ} {lack before : ℕ} (t : List ℕ) (width : ℕ) (alignment : Alignment) → close ≡ closing t → lack ≡ missing t width → before ≡ before_text alignment lack
-    → ((blanks before ++ t) ++ close) ++ blanks (lack - before) ≡ padded t width alignment
-unfolding padded
-padded-bytes {close} {lack} {before} t width alignment close_is lack_is before_is =
-    let first : before ≡ before_text alignment (missing t width) = before_is ∙ ap (before_text alignment) lack_is in
-    ap (λ u. u ++ blanks (lack - before)) (append_assoc (blanks before) t close)
-    ∙ ap₂ (λ n u. (blanks n ++ (t ++ u)) ++ blanks (lack - before)) first close_is
-    ∙ ap₂ (λ m n. (blanks (before_text alignment (missing t width)) ++ (t ++ closing t)) ++ blanks (m - n)) lack_is first
-
-pub padded-alone : (t : List ℕ) (width : ℕ) (alignment : Alignment) → missing t width ≡ 0 → closing t ≡ [] → t ≡ padded t width alignment
-unfolding padded
-padded-alone t width alignment none closed =
-    sym (
-    ap₂ (λ m u. (blanks (before_text alignment m) ++ (t ++ u)) ++ blanks (m - before_text alignment m)) none closed
-    ∙ no_blanks alignment
-    ∙ append-nil (t ++ []) ∙ append-nil t)
-  where
-    no_blanks : (a : Alignment) → (blanks (before_text a 0) ++ (t ++ [])) ++ blanks (0 - before_text a 0) ≡ (t ++ []) ++ []
-    no_blanks Left = refl
-    no_blanks Right = refl
-    no_blanks Center = refl
-
-pub padded-length : (t close : List ℕ) (lack before : ℕ) → before ≤ lack → length close ≤ longest_link_end + longest_close
-    → length (((blanks before ++ t) ++ close) ++ blanks (lack - before)) ≤ length t + lack + longest_link_end + longest_close
-padded-length t close lack before within closing =
+pub length-between : (n : ℕ) (alignment : Alignment) (x : List ℕ) → length (between_blanks n alignment x) ≡ length x + n
+length-between n alignment x =
+    let before = before_text alignment n in
     omega (
       arith,
-      within,
-      closing,
-      length-append ((blanks before ++ t) ++ close) (blanks (lack - before)),
-      length-append (blanks before ++ t) close,
-      length-append (blanks before) t,
+      before-within alignment n,
+      length-append (blanks before ++ x) (blanks (n - before)),
+      length-append (blanks before) x,
       length-replicate before (byte " "),
-      length-replicate (lack - before) (byte " "),
+      length-replicate (n - before) (byte " "),
     )
+
+-- it is a padded one, if it ends with what closes its pen and the blanks are as many as it lacks
+pub padded-between : {u : List ℕ} {n : ℕ} (t : List ℕ) (width : ℕ) (alignment : Alignment) → u ≡ t ++ closing t → n ≡ missing t width → between_blanks n alignment u ≡ padded t width alignment
+unfolding padded
+padded-between t width alignment is lack = ap₂ (λ n u. between_blanks n alignment u) lack is
+
+pub length-padded : (t : List ℕ) (width : ℕ) (alignment : Alignment) → length (padded t width alignment) ≤ length t + missing t width + longest_link_end + longest_close
+length-padded t width alignment =
+    omega (arith, ap length (padded-between t width alignment refl refl), length-between (missing t width) alignment (t ++ closing t), length-append t (closing t), length-ended t refl)

@@ -68,6 +68,10 @@ before_text Center n = n / 2
 abbrev pub blanks : ℕ → List ℕ
 blanks n = replicate n (byte " ")
 
+-- a text between n blanks (own)
+abbrev pub between_blanks : ℕ → Alignment → List ℕ → List ℕ
+between_blanks n alignment x = (blanks (before_text alignment n) ++ x) ++ blanks (n - before_text alignment n)
+
 -- bytes in the plain style
 abbrev pub without_style : List ℕ → List StyledByte
 without_style x = map (λ b. record { byte = b; style = plain_style }) x

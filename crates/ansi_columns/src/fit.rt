@@ -7,7 +7,7 @@ ghost use Rattle.ansi_safe.specs.Links.{longest_link_end};
 ghost use Rattle.ansi_columns.specs.Fitted.{fitted};
 ghost use Rattle.ansi_columns.specs.Shown.{truncated_ending, truncated, KeptStays, missing, closing};
 
-use crate::shown::{Alignment, pad_cell, truncate};
+use crate::shown::{Alignment, TruncatedParts, pad_cell, truncated_parts, write_shown};
 use std::alloc::{AllocError, Allocator};
 use std::borrow::CowStr;
 
@@ -39,6 +39,15 @@ pub fn fit<'t, A: Allocator + Copy>(
         × (missing (truncated (cell text.now) width tail.now) width ≡ 0)
         × (closing (truncated (cell text.now) width tail.now) ≡ []) → IsOk result }
 {
-    let cut = truncate(alloc, text, width, tail)?;
+    let TruncatedParts {
+        front,
+        ending,
+        tail,
+        missing,
+    } = truncated_parts(alloc, text, width, tail)?;
+    if let Some(missing) = missing {
+        return write_shown(alloc, front, &ending, tail, missing, alignment);
+    }
+    let cut = write_shown(alloc, front, &ending, tail, 0, alignment)?;
     pad_cell(alloc, cut, width, alignment)
 }

@@ -1,20 +1,26 @@
 //! Truncated and padded texts, ready for display: the style and link still open at their end are
 //! closed.
-ghost use Rattle.std.specs.Prelude.{◌≡◌, ◌↔◌, ◌+◌, ◌==◌, ◌≤◌, ◌++◌, [], length, if◌then◌else◌};
-ghost use Rattle.std.specs.Prelude.{IsOk, IfOk, OnOk, string_bytes};
+ghost use Rattle.std.specs.Prelude.{◌≡◌, ◌≢◌, ◌↔◌, ◌+◌, ◌≤◌, ◌++◌, ℕ, List, [], length, chars};
+ghost use Rattle.std.specs.Prelude.{IsOk, IfOk, OnOk, IfSome, IsTrue, true, if◌then◌else◌};
+ghost use Rattle.std.specs.Prelude.{string_bytes};
+ghost use Rattle.std.specs.List.{list_all};
 ghost use Rattle.std.specs.Cow.{cow_str_bytes, IsBorrowedStr};
+ghost use Rattle.unicode_segmentation.specs.Grapheme.{is_grapheme_break};
+ghost use Rattle.ansi_items.specs.Bytes.{is_plain_byte};
 ghost use Rattle.ansi_style.specs.States.{rendition_of};
 ghost use Rattle.ansi_style.specs.Written.{close, longest_close};
 ghost use Rattle.ansi_safe.specs.Cells.{cell};
 ghost use Rattle.ansi_safe.specs.Links.{longest_link_end};
 ghost use Rattle.ansi_columns.specs.Shown.{has_tail, truncated_width, truncated_ending};
 ghost use Rattle.ansi_columns.specs.Shown.{truncated, KeptStays};
-ghost use Rattle.ansi_columns.specs.Shown.{missing, before_text, blanks, closing, padded};
+ghost use Rattle.ansi_columns.specs.Shown.{missing, before_text, blanks, between_blanks, closing};
+ghost use Rattle.ansi_columns.specs.Shown.{padded};
+ghost use Rattle.ansi_columns.specs.BreakStates.{break_state_of};
 ghost use Rattle.ansi_columns.specs.Walks.{IsWalkIn, SeesUpTo};
 
 use crate::fits::fitting_front;
 use crate::views::View;
-use crate::walks::Walk;
+use crate::walks::{Walk, first_run};
 use crate::widths;
 use ansi_safe::cells::cell_of;
 use ansi_safe::links::{Ending, LONGEST_ENDING, pen_after};
@@ -58,44 +64,150 @@ pub fn truncate<'t, A: Allocator + Copy>(
     ensures takes_no_memory { KeptStays text.now width tail.now
         × (truncated_ending (cell text.now) width tail.now ≡ []) → IsOk result }
 {
-    let (end, tail) = truncation(text, width, tail);
-    let front = cell_of(alloc, &text[..end.offset])?;
-    let ending = pen_after(front.as_str()).ending();
-    if is_nothing(&ending, tail.len()) {
-        return Ok(front);
-    }
-    let mut out = write_after(alloc, 0, front, tail.len())?;
-    ending.push_to(&mut out)?;
-    out.push_str(tail)?;
-    Ok(CowStr::Owned(out))
+    let TruncatedParts {
+        front,
+        ending,
+        tail,
+        missing: _,
+    } = truncated_parts(alloc, text, width, tail)?;
+    write_shown(alloc, front, &ending, tail, 0, Alignment::Left)
 }
 
-/// The walk at the place where the text of a cell is cut, and the tail that is written after it.
-fn truncation<'a>(text: &str, width: usize, tail: &'a str) -> (Walk, &'a str)
-    ensures walk { IsWalkIn View.Shown text.now result.0 }
+/// The parts of a truncated text, in order, and what it lacks.
+pub(crate) struct TruncatedParts<'t, 'a, A: Allocator> {
+    /// The text of the cell up to where it is cut.
+    pub(crate) front: CowStr<'t, A>,
+    /// What ends its pen there.
+    pub(crate) ending: Ending,
+    /// The tail that is written. It is empty if none is.
+    pub(crate) tail: &'a str,
+    /// The columns that the truncated text lacks, where they are known without measuring it.
+    /// Nothing is open at its end then.
+    pub(crate) missing: Option<usize>,
+}
+
+/// The parts of a text of a cell that is truncated.
+pub(crate) fn truncated_parts<'t, 'a, A: Allocator>(
+    alloc: A,
+    text: &'t str,
+    width: usize,
+    tail: &'a str,
+) -> Result<TruncatedParts<'t, 'a, A>, AllocError>
+    ensures bytes { IfOk result (λ p. (cow_str_bytes p.front
+        ++ (p.ending.link_end.now ++ close (rendition_of p.ending.style))) ++ p.tail.now
+        ≡ truncated (cell text.now) width tail.entry.now) }
+    ensures ending { IfOk result (λ p.
+        (p.ending.link_end.now ++ close (rendition_of p.ending.style)) ++ p.tail.now
+        ≡ truncated_ending (cell text.now) width tail.entry.now) }
+    ensures borrowed { IfOk result (λ p.
+        IsBorrowedStr p.front ↔ KeptStays text.now width tail.entry.now) }
+    ensures len { IfOk result (λ p. length ((cow_str_bytes p.front
+        ++ (p.ending.link_end.now ++ close (rendition_of p.ending.style))) ++ p.tail.now)
+        ≤ length text.now + length tail.entry.now + longest_link_end + longest_close) }
+    ensures missing { IfOk result (λ p. IfSome p.missing (λ n.
+        (n ≡ missing (truncated (cell text.now) width tail.entry.now) width)
+        × (closing (truncated (cell text.now) width tail.entry.now) ≡ []))) }
+    ensures takes_no_memory { KeptStays text.now width tail.entry.now → IsOk result }
+{
+    let cut = truncation(text, width, tail);
+    let front = cell_of(alloc, &text[..cut.end.offset])?;
+    let ending = pen_after(front.as_str()).ending();
+    Ok(TruncatedParts {
+        front,
+        ending,
+        tail: cut.tail,
+        missing: cut.missing,
+    })
+}
+
+/// Where the text of a cell is cut.
+#[derive(Clone, Copy)]
+struct Cut<'a> {
+    /// The walk at the place.
+    end: Walk,
+    /// The tail that is written after it. It is empty if none is.
+    tail: &'a str,
+    /// The columns that the truncated text lacks, where they are known without measuring it.
+    missing: Option<usize>,
+}
+
+/// Where the text of a cell is cut, and the tail that is written after it.
+fn truncation<'a>(text: &str, width: usize, tail: &'a str) -> Cut<'a>
+    ensures walk { IsWalkIn View.Shown text.now result.end }
     ensures fits { SeesUpTo View.Shown text.now
-        (truncated_width (cell text.now) width tail.entry.now) result.0.position }
-    ensures tail { result.1.now
+        (truncated_width (cell text.now) width tail.entry.now) result.end.position }
+    ensures tail { result.tail.now
         ≡ (if has_tail (cell text.now) width tail.entry.now then tail.entry.now else []) }
+    ensures missing { IfSome result.missing (λ n.
+        (n ≡ missing (truncated (cell text.now) width tail.entry.now) width)
+        × (closing (truncated (cell text.now) width tail.entry.now) ≡ [])) }
 {
     let whole = fitting_front(text, width, View::Shown);
+    let alone = Cut {
+        end: whole.walk,
+        tail: "",
+        missing: Some(whole.left),
+    };
     if whole.is_all {
-        return (whole.walk, "");
+        return alone;
     }
     let tail_width = widths::width(tail, View::Given);
     if width < tail_width {
-        return (whole.walk, "");
+        return alone;
     }
     let front = fitting_front(text, width - tail_width, View::Shown);
-    (front.walk, tail)
+    Cut {
+        end: front.walk,
+        tail,
+        missing: is_apart(front.walk, tail).then_some(front.left),
+    }
 }
 
-/// Whether an ending and `more` bytes are no byte.
-fn is_nothing(ending: &Ending, more: usize) -> bool
-    ensures { result ≡ (length (ending.now.link_end.now
-        ++ close (rendition_of ending.now.style)) + more == 0) }
+/// Whether a tail has no sequence, and a cluster ends before it, if it is written where a walk is.
+fn is_apart(walk: Walk, tail: &str) -> bool
+    ensures bare { IsTrue result → IsTrue (list_all is_plain_byte tail.now) }
+    ensures breaks { IsTrue result → (before : List ℕ) → before ≢ [] →
+        walk.break_state ≡ break_state_of before →
+        is_grapheme_break true before (chars tail.now) ≡ true }
 {
-    more == 0 && ending.is_empty()
+    let (start, end) = first_run(tail);
+    if 0 < start || end < tail.len() {
+        return false;
+    }
+    match tail.chars().next() {
+        Some(first) => walk.break_state.ends_before(first),
+        None => true,
+    }
+}
+
+/// A text between the missing blanks, with what ends its pen and a tail after it.
+pub(crate) fn write_shown<'t, A: Allocator>(
+    alloc: A,
+    text: CowStr<'t, A>,
+    ending: &Ending,
+    tail: &str,
+    missing: usize,
+    alignment: Alignment,
+) -> Result<CowStr<'t, A>, AllocError>
+    ensures bytes { IfOk result (λ c. cow_str_bytes c ≡ between_blanks missing alignment
+        ((cow_str_bytes text.entry
+        ++ (ending.now.link_end.now ++ close (rendition_of ending.now.style))) ++ tail.now)) }
+    ensures borrowed { IfOk result (λ c. IsBorrowedStr c ↔ (IsBorrowedStr text.entry
+        × ((ending.now.link_end.now ++ close (rendition_of ending.now.style)) ++ tail.now ≡ [])
+        × (missing ≡ 0))) }
+    ensures takes_no_memory { ((ending.now.link_end.now ++ close (rendition_of ending.now.style)) ++ tail.now ≡ [])
+        × (missing ≡ 0) → IsOk result }
+{
+    if missing == 0 && tail.is_empty() && ending.is_empty() {
+        return Ok(text);
+    }
+    let before = alignment.before_text(missing);
+    let more = (missing - before).saturating_add(tail.len());
+    let mut out = write_after(alloc, before, text, more)?;
+    ending.push_to(&mut out)?;
+    out.push_str(tail)?;
+    push_blanks(&mut out, missing - before)?;
+    Ok(CowStr::Owned(out))
 }
 
 /// `before` blanks and a text. The string has room for an ending and for `more` further bytes.
@@ -166,14 +278,7 @@ pub(crate) fn pad_cell<'t, A: Allocator>(
 {
     let missing = width.saturating_sub(widths::width(cell.as_str(), View::Given));
     let ending = pen_after(cell.as_str()).ending();
-    if is_nothing(&ending, missing) {
-        return Ok(cell);
-    }
-    let before = alignment.before_text(missing);
-    let mut out = write_after(alloc, before, cell, missing)?;
-    ending.push_to(&mut out)?;
-    push_blanks(&mut out, missing - before)?;
-    Ok(CowStr::Owned(out))
+    write_shown(alloc, cell, &ending, "", missing, alignment)
 }
 
 impl Alignment {
@@ -193,13 +298,19 @@ impl Alignment {
     }
 }
 
+/// As many blanks as are appended at a time.
+const BLANKS: &str = "                                                                ";
+
 /// Appends `count` blanks. If there is no room for all of them, it appends none and returns `Err`.
 pub(crate) fn push_blanks<A: Allocator>(out: &mut String<A>, count: usize) -> Result<(), AllocError>
     ensures { OnOk result (string_bytes out.new ≡ string_bytes out.old ++ blanks count) }
 {
     out.reserve(count)?;
-    for _ in 0..count {
-        out.push(' ')?;
+    let mut left = count;
+    while BLANKS.len() < left {
+        out.push_str(BLANKS)?;
+        left -= BLANKS.len();
     }
+    out.push_str(&BLANKS[..left])?;
     Ok(())
 }

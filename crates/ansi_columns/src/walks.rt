@@ -101,7 +101,8 @@ impl Walk {
     /// The walk after the printable ASCII that comes next in the run, at most `most` bytes of it,
     /// and how many bytes those are. Each of them is a cluster of one column.
     ///
-    /// If all of the run is passed, this is the walk at the next run.
+    /// A byte before a character that may join its cluster isn't among them. If all of the run is
+    /// passed, this is the walk at the next run.
     #[inline]
     pub(crate) fn past_ascii(self, text: &str, most: usize) -> (Walk, usize)
         requires { IsAnyWalk text.now self }

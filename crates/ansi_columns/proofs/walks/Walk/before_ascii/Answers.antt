@@ -8,4 +8,4 @@ pub returns-else-len-run-clause-ahead : goal.returns-else-len-run-clause-ahead
 returns-else-len-run-clause-ahead c some =
     let front = c.requires.front in
     let all = ap (list_all is_printable) (sym (slice_range-take c.args.text.now c.args.self.offset c.args.len)) ∙ front.bytes in
-    printable-shorter c.args.len c.saturating_sub.result c.requires.walk.1 (omega (arith, front.within)) all (omega (arith, some))
+    printable-shorter c.args.len _ c.requires.walk.1 (omega (arith, front.within)) all (omega (arith, some))

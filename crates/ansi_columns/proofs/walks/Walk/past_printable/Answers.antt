@@ -1,4 +1,4 @@
-use Rattle.std.proofs.Common.{◌≡◌, ◌+◌, ◌^◌, ◌<◌, length, arith, rules}
+use Rattle.std.proofs.Common.{◌^◌, ◌<◌, length, arith, rules}
 use Rattle.ansi_items.proofs.PlainLemmas.{length-plain}
 use Rattle.ansi_columns.proofs.PrintableLemmas.{IsPrintable-front, clusters-printable, seen_len-printable, walk-past}
 use Rattle.ansi_columns.proofs.walks.Walk.past_printable.Goals as goal

@@ -1,0 +1,48 @@
+use Rattle.std.proofs.Common.{sym, subst, ap, ◌≡◌, arith}
+use Rattle.std.proofs.lemmas.Bool.{false≢true}
+use Rattle.ansi_safe.specs.Cells.{cell}
+use Rattle.ansi_style.specs.States.{rendition_of}
+use Rattle.ansi_safe.proofs.CellTextLemmas.{length-cell}
+use Rattle.ansi_columns.specs.Shown.{KeptStays}
+use Rattle.ansi_columns.proofs.KeptLemmas.{kept-part, truncated-front}
+use Rattle.ansi_columns.proofs.ShownLemmas.{cut-ending, cut-bytes, cut-length}
+use Rattle.ansi_columns.proofs.shown.truncated_parts.Goals as goal
+
+-- the front is in the text
+pub range-requires-clause-end_boundary : goal.range-requires-clause-end_boundary
+range-requires-clause-end_boundary g c = c.truncation-cut.ensures.walk.run.start_boundary
+
+pub returns-in_err-front-clause-takes_no_memory : goal.returns-in_err-front-clause-takes_no_memory
+unfolding KeptStays
+returns-in_err-front-clause-takes_no_memory g c =
+    let end = c.truncation-cut.ensures in
+    let kept = kept-part c.args.text.now c.utf8.text c.truncation-cut.result.end c.args.width c.args.tail.now end.walk end.fits c.range.ensures.value in
+    λ all. absurd (false≢true (rw c.in_err-front.was at (c.cell_of.ensures.takes_no_memory (subst (λ u. cell u ≡ u) (sym kept) all))))
+
+pub returns-clause-bytes : goal.returns-clause-bytes
+returns-clause-bytes g c =
+    let end = c.truncation-cut.ensures in
+    let pen = c.pen_after.ensures in
+    cut-bytes (truncated-front c.args.text.now c.utf8.text c.truncation-cut.result.end c.args.width c.args.tail.now end.walk end.fits c.range.ensures.value c.in_ok-front.ensures.bytes c.as_str.ensures.value pen.style pen.link c.ending-ending.ensures.link_end (ap rendition_of c.ending-ending.ensures.style) end.tail).cut
+
+pub returns-clause-ending : goal.returns-clause-ending
+returns-clause-ending g c =
+    let end = c.truncation-cut.ensures in
+    let pen = c.pen_after.ensures in
+    cut-ending (truncated-front c.args.text.now c.utf8.text c.truncation-cut.result.end c.args.width c.args.tail.now end.walk end.fits c.range.ensures.value c.in_ok-front.ensures.bytes c.as_str.ensures.value pen.style pen.link c.ending-ending.ensures.link_end (ap rendition_of c.ending-ending.ensures.style) end.tail).cut
+
+pub returns-clause-borrowed : goal.returns-clause-borrowed
+unfolding KeptStays
+returns-clause-borrowed g c =
+    let end = c.truncation-cut.ensures in
+    let kept = kept-part c.args.text.now c.utf8.text c.truncation-cut.result.end c.args.width c.args.tail.now end.walk end.fits c.range.ensures.value in
+    let borrowed = c.in_ok-front.ensures.borrowed in
+    (λ b. subst (λ u. cell u ≡ u) kept (borrowed.0 b), λ stays. borrowed.1 (subst (λ u. cell u ≡ u) (sym kept) stays))
+
+pub returns-clause-len : goal.returns-clause-len
+returns-clause-len g c =
+    let t = c.args.text.now in
+    let end = c.truncation-cut.ensures in
+    let pen = c.pen_after.ensures in
+    let cut = truncated-front t c.utf8.text c.truncation-cut.result.end c.args.width c.args.tail.now end.walk end.fits c.range.ensures.value c.in_ok-front.ensures.bytes c.as_str.ensures.value pen.style pen.link c.ending-ending.ensures.link_end (ap rendition_of c.ending-ending.ensures.style) end.tail in
+    omega (arith, cut-length cut.cut, length-cell t c.utf8.text)
