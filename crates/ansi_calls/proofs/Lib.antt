@@ -1,3 +1,4 @@
+pub mod AsciiLemmas
 pub mod Utf8Lemmas
 pub mod StepLemmas
 pub mod GivenLemmas

@@ -8,10 +8,10 @@ ghost use Rattle.ansi_calls.specs.Calls.{TakesBlock, TakesBlockStart, TakesBlock
 ghost use Rattle.ansi_calls.specs.Calls.{TakesBlockStyle};
 
 use crate::answers::{Answer, NO, NOT_UTF8, OK, OUT_OF_MEMORY, write};
+use crate::utf8::from_utf8;
 use ansi_str::{AnsiBlock, get_blocks};
 use ansi_style::numbers::StyleNumbers;
 use ansi_style::styles;
-use simdutf8::basic::from_utf8;
 use std::alloc::{AllocError, Allocator};
 
 /// The result of a call that returns a style.

@@ -14,4 +14,5 @@ pub mod lists;
 pub mod safe;
 pub mod searches;
 pub mod texts;
+mod utf8;
 pub mod walks;

@@ -20,12 +20,12 @@ ghost use Rattle.ansi_calls.specs.Lists.{IsCountWithoutRoom, AreGiven, HaveFaile
 ghost use Rattle.ansi_calls.specs.Calls.{Splits, ListsAs, ListsBlocks, ListsStyledBlocks};
 
 use crate::answers::{NOT_UTF8, OK, OUT_OF_MEMORY, TOO_SMALL};
+use crate::utf8::from_utf8;
 use ansi_str::split::split_in;
 use ansi_str::{AnsiBlock, AnsiStr, get_blocks, laws};
 use ansi_style::numbers::StyleNumbers;
 use ansi_style::styles;
 use memchr::memchr_iter;
-use simdutf8::basic::from_utf8;
 use std::alloc::{AllocError, Allocator};
 use std::borrow::CowStr;
 use std::fmt::Write;

@@ -1,0 +1,62 @@
+-- Words of bytes whose high bits aren't set.
+use Rattle.std.proofs.Common.{◌≡◌, ℕ, zero, suc, ◌+◌, ◌-◌, ◌*◌, ◌<◌, ◌≤◌, List, length, take, drop, take-add, length-take, get_or, bit_and, sym, ap, ◌∙◌, subst, inl, inr, arith, w8, w64, Fits}
+use Rattle.std.specs.Int.{w128}
+use Rattle.std.specs.Str.{IsAscii}
+use Rattle.std.proofs.lemmas.Bool.{cases_lt}
+use Rattle.std.proofs.lemmas.List.{get_or-take, get_or_past}
+use Rattle.std.proofs.lemmas.Simd.{get_or-chunk}
+use Rattle.std.proofs.lemmas.Str.{IsAscii-append}
+use Rattle.std.proofs.lemmas.Nat.{and_block}
+use Rattle.std.proofs.lemmas.Nat.Bits.{and_pow}
+use Rattle.std.specs.Int.{from_le_bytes}
+use Rattle.std.specs.Slice.Scan.{digits_from}
+
+-- where no high bit of a word is set, each byte is ASCII
+no_high_bit : (byte : ℕ → ℕ) → ((i : ℕ) → byte i < 256) → (n k : ℕ) → bit_and (digits_from byte k n) (digits_from (λ _. 128) k n) ≡ 0
+    → (i : ℕ) → k ≤ i → i < k + n → byte i < 128
+no_high_bit byte small zero k none i from to = absurd (omega arith)
+no_high_bit byte small (suc n) k none i from to =
+    let r = digits_from byte (suc k) n in
+    let s = digits_from (λ _. 128) (suc k) n in
+    let word : byte k + 256 * r ≡ r * 256 + byte k = omega arith in
+    let bits : 128 + 256 * s ≡ s * 256 + 128 = omega arith in
+    let both : bit_and (byte k + 256 * r) (128 + 256 * s) ≡ bit_and r s * 256 + bit_and (byte k) 128 = (λ j. bit_and (word j) (bits j)) ∙ and_block 8 r s (byte k) 128 (small k) (omega arith) in
+    let here : byte k < 128 = omega (arith, and_pow (byte k) 7, small k) in
+    elim (cases_lt k i) [ inl l ↦ no_high_bit byte small n (suc k) (omega arith) i (omega arith) (omega arith) | inr g ↦ subst (λ j. byte j < 128) (omega arith) here ]
+
+-- the bytes of a front of the text fit
+front-fits : (n : ℕ) (bs : List ℕ) → ((i : ℕ) → Fits w8 (get_or bs i 0)) → (i : ℕ) → get_or (take n bs) i 0 < 256
+front-fits n bs fit i = elim (cases_lt i n) [ inl l ↦ omega (arith, get_or-take n bs i 0 l, (fit i).fits) | inr g ↦ omega (arith, get_or_past (take n bs) i 0, length-take {A = ℕ}) ]
+
+-- where no high bit of its first n bytes is set, they are ASCII
+no_high_bit-ascii : (n : ℕ) (bs : List ℕ) → ((i : ℕ) → Fits w8 (get_or bs i 0)) → bit_and (digits_from (λ i. get_or (take n bs) i 0) 0 n) (digits_from (λ _. 128) 0 n) ≡ 0 → IsAscii (take n bs)
+no_high_bit-ascii n bs fit none i = elim (cases_lt i n) [
+  | inl l ↦ no_high_bit (λ j. get_or (take n bs) j 0) (front-fits n bs fit) n 0 none i (omega arith) (omega arith)
+  | inr g ↦ omega (arith, get_or_past (take n bs) i 0, length-take {A = ℕ})
+]
+
+pub ascii_8 : (bs : List ℕ) → ((i : ℕ) → Fits w8 (get_or bs i 0)) → bit_and (from_le_bytes w64 (take 8 bs)) 0x8080_8080_8080_8080 ≡ 0 → IsAscii (take 8 bs)
+ascii_8 bs fit none =
+    let word : digits_from (λ k. get_or (take 8 bs) k 0) 0 8 ≡ from_le_bytes w64 (take 8 bs) = omega arith in
+    no_high_bit-ascii 8 bs fit (ap (λ w. bit_and w 0x8080_8080_8080_8080) word ∙ none)
+
+pub ascii_16 : (bs : List ℕ) → ((i : ℕ) → Fits w8 (get_or bs i 0)) → bit_and (from_le_bytes w128 (take 16 bs)) 0x8080_8080_8080_8080_8080_8080_8080_8080 ≡ 0 → IsAscii (take 16 bs)
+ascii_16 bs fit none =
+    let word : digits_from (λ k. get_or (take 16 bs) k 0) 0 16 ≡ from_le_bytes w128 (take 16 bs) = omega arith in
+    no_high_bit-ascii 16 bs fit (ap (λ w. bit_and w 0x8080_8080_8080_8080_8080_8080_8080_8080) word ∙ none)
+
+-- the bytes up to `at`, and n from m on, are all
+pub ascii_covered : (at m n : ℕ) (bs : List ℕ) → IsAscii (take at bs) → IsAscii (take n (drop m bs)) → m ≤ at → length bs ≤ m + n → IsAscii bs
+ascii_covered at m n bs front back from to i = elim (cases_lt i at) [
+  | inl l ↦ omega (arith, front i, get_or-take at bs i 0 l)
+  | inr g ↦ elim (cases_lt i (length bs)) [
+    | inl l ↦ (let is : get_or (take n (drop m bs)) (i - m) 0 ≡ get_or bs (m + (i - m)) 0 = get_or-chunk m n bs (i - m) 0 (omega arith) in
+        let here : m + (i - m) ≡ i = omega arith in
+        omega (arith, back (i - m), is, ap (λ k. get_or bs k 0) here))
+    | inr h ↦ omega (arith, get_or_past bs i 0 h)
+  ]
+]
+
+-- n more bytes
+pub ascii_more : (at n : ℕ) (bs : List ℕ) → IsAscii (take at bs) → IsAscii (take n (drop at bs)) → IsAscii (take (at + n) bs)
+ascii_more at n bs front more = subst IsAscii (sym (take-add at n bs)) (IsAscii-append _ _ front more)

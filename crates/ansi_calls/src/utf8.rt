@@ -1,0 +1,91 @@
+//! The test that bytes are UTF-8. Most texts are short and ASCII, and that is tested first.
+ghost use Rattle.std.specs.Prelude.{◌≡◌, ◌≤◌, ◌↔◌, length, take, MatchResult, IsTrue};
+ghost use Rattle.std.specs.Str.{IsAscii, IsUtf8};
+
+use simdutf8::basic::Utf8Error;
+use std::str::from_utf8_unchecked;
+
+// The high bit of each byte, which ASCII doesn't have.
+const HIGH_BITS_OF_8: u64 = 0x8080_8080_8080_8080;
+
+const HIGH_BITS_OF_16: u128 = 0x8080_8080_8080_8080_8080_8080_8080_8080;
+
+/// The bytes as a text, if they are UTF-8.
+#[inline(always)]
+pub(crate) fn from_utf8(bytes: &[u8]) -> Result<&str, Utf8Error>
+    ensures { MatchResult result (λ text. (text.now ≡ bytes.now) × IsUtf8 bytes.now)
+        (λ _. ¬ (IsUtf8 bytes.now)) }
+{
+    if is_utf8(bytes) {
+        Ok(unsafe { from_utf8_unchecked(bytes) })
+    } else {
+        Err(Utf8Error)
+    }
+}
+
+/// Whether the bytes are UTF-8. `std` is quicker for short texts, and `simdutf8` for long ones.
+#[inline(never)]
+fn is_utf8(bytes: &[u8]) -> bool
+    ensures { IsTrue result ↔ IsUtf8 bytes.now }
+{
+    if is_short_ascii(bytes) {
+        return true;
+    }
+    if bytes.len() < 64 {
+        std::str::from_utf8(bytes).is_ok()
+    } else {
+        simdutf8::is_utf8(bytes)
+    }
+}
+
+/// Whether the bytes are at most 128, and ASCII. `simdutf8` is as quick on longer ASCII.
+#[inline(always)]
+fn is_short_ascii(bytes: &[u8]) -> bool
+    ensures { IsTrue result → IsAscii bytes.now }
+{
+    let len = bytes.len();
+    match len {
+        0..8 => bytes.is_ascii(),
+        8..16 => begins_ascii_8(bytes) && begins_ascii_8(&bytes[len - 8..]),
+        16..=128 => is_ascii_by_16(bytes),
+        _ => false,
+    }
+}
+
+/// Whether the bytes are ASCII, read 16 at a time. The last 16 may overlap those before.
+#[inline(always)]
+fn is_ascii_by_16(bytes: &[u8]) -> bool
+    requires { 16 ≤ length bytes.now }
+    ensures { IsTrue result → IsAscii bytes.now }
+{
+    let mut at = 0;
+    while 16 < bytes.len() - at {
+        if !begins_ascii_16(&bytes[at..]) {
+            return false;
+        }
+        at += 16;
+    }
+    begins_ascii_16(&bytes[bytes.len() - 16..])
+}
+
+/// Whether there are 8 bytes at the front, and they are ASCII.
+#[inline(always)]
+fn begins_ascii_8(bytes: &[u8]) -> bool
+    ensures { IsTrue result → IsAscii (take 8 bytes.now) }
+{
+    match bytes.first_chunk::<8>() {
+        Some(front) => u64::from_le_bytes(*front) & HIGH_BITS_OF_8 == 0,
+        None => false,
+    }
+}
+
+/// Whether there are 16 bytes at the front, and they are ASCII.
+#[inline(always)]
+fn begins_ascii_16(bytes: &[u8]) -> bool
+    ensures { IsTrue result → IsAscii (take 16 bytes.now) }
+{
+    match bytes.first_chunk::<16>() {
+        Some(front) => u128::from_le_bytes(*front) & HIGH_BITS_OF_16 == 0,
+        None => false,
+    }
+}
