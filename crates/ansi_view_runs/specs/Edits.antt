@@ -1,5 +1,5 @@
 -- What edits by columns make of a text.
-use Rattle.std.specs.Prelude.{ℕ, List, [], ◌∷◌, Option, map, fold}
+use Rattle.std.specs.Prelude.{ℕ, Bool, true, false, List, [], ◌∷◌, Option, map, fold}
 use Rattle.std.specs.List.{flat_map}
 use Rattle.ansi_safe.specs.Cells.{cell}
 use Rattle.ansi_columns.specs.declared.shown.Alignment.TheVariants.{Left}
@@ -29,6 +29,11 @@ change_of (edit.Wrap width) = Wrapped width
 -- edits in turn are changes in turn
 abbrev pub changes_of : List ColumnEdit → List Change
 changes_of edits = map change_of edits
+
+-- a change may make several lines of one
+abbrev pub is_wrap : Change → Bool
+is_wrap (Wrapped width) = true
+is_wrap change = false
 
 -- what a change makes of a text: the lines of a wrap, or else one text (`ansi_columns`)
 abbrev pub changed : Change → List ℕ → List (List ℕ)

@@ -36,6 +36,10 @@ shown view opening line = if length line.text == 0 then [] else sanitized view.p
 abbrev pub line_break : List ℕ → List ℕ
 line_break end = if length end == 0 then codes "\n" else end
 
+-- what changes make of a text in turn, with a line break between the texts if they are several, and then this end
+abbrev pub changed_line : List Change → List ℕ → List ℕ → List ℕ
+changed_line changes t end = join_by (λ t. t) (line_break end) (changed_in_turn changes t) ++ end
+
 -- a line becomes what the changes make of that text, in turn, with a line break between the texts if they are several, and then the line's own end (own)
 abbrev pub viewed : Work → List ℕ → Line → List ℕ
 viewed work opening line =

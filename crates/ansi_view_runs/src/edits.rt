@@ -1,15 +1,18 @@
 //! Edits of a line by columns.
-ghost use Rattle.std.specs.Prelude.{◌≡◌, ◌++◌, IfOk, OnOk, map, string_bytes};
+ghost use Rattle.std.specs.Prelude.{◌≡◌, [], ◌∷◌, ◌++◌, IfOk, OnOk, false, map, string_bytes};
+ghost use Rattle.std.specs.Cow.{cow_str_bytes};
 ghost use Rattle.std.specs.List.{flat_map};
 ghost use Rattle.ansi_columns.specs.Wrapped.{wrapped};
 ghost use Rattle.ansi_lines_runs.specs.Runs.{words_of};
 ghost use Rattle.ansi_view_runs.specs.Edits.{change_of, changes_of, changed, changed_in_turn};
+ghost use Rattle.ansi_view_runs.specs.Edits.{is_wrap};
 
 use ansi_columns::shown::{Alignment, pad, truncate};
 use ansi_columns::slices::slice;
 use ansi_columns::tabs::expand_tabs;
 use ansi_columns::wrap::wrap;
 use std::alloc::{AllocError, Allocator};
+use std::borrow::CowStr;
 
 /// An edit of a line by the columns of a terminal. (`ansi_columns`.)
 #[derive(Debug, Clone, Copy, PartialEq, Eq)]
@@ -45,6 +48,48 @@ pub fn edit_in_turn<A: Allocator + Copy>(
     Ok(texts)
 }
 
+/// What the edits in front of the first `Wrap` make of a text in turn, and the other edits.
+///
+/// It borrows from the text if no edit changes it. `Err` means out of memory. (Own.)
+pub(crate) fn edit_up_to_wrap<'t, 'e, 'w, A: Allocator + Copy>(
+    alloc: A,
+    edits: &'e [ColumnEdit<'w>],
+    text: &'t str,
+) -> Result<(CowStr<'t, A>, &'e [ColumnEdit<'w>]), AllocError>
+    ensures { IfOk result (λ made. changed_in_turn (changes_of edits.now) text.now
+        ≡ changed_in_turn (changes_of made.1.now) (cow_str_bytes made.0)) }
+{
+    let mut edited = CowStr::Borrowed(text);
+    let mut left = edits;
+    while let [edit, more @ ..] = left {
+        if matches!(edit, ColumnEdit::Wrap(_)) {
+            return Ok((edited, left));
+        }
+        edited = edit_again(alloc, edit, edited)?;
+        left = more;
+    }
+    Ok((edited, left))
+}
+
+// What an edit makes of a text, if it isn't a wrap. It may borrow from what the text borrows.
+fn edit_again<'t, A: Allocator + Copy>(
+    alloc: A,
+    edit: &ColumnEdit<'_>,
+    text: CowStr<'t, A>,
+) -> Result<CowStr<'t, A>, AllocError>
+    requires { is_wrap (change_of edit.now) ≡ false }
+    ensures { IfOk result (λ c.
+        changed (change_of edit.now) (cow_str_bytes text.entry) ≡ cow_str_bytes c ∷ []) }
+{
+    match text {
+        CowStr::Borrowed(text) => edit_whole(alloc, edit, text),
+        CowStr::Owned(text) => {
+            let edited = edit_whole(alloc, edit, text.as_str())?;
+            Ok(CowStr::Owned(edited.into_owned(alloc)?))
+        }
+    }
+}
+
 // What an edit makes of each text.
 fn edit_each<A: Allocator + Copy>(
     alloc: A,
@@ -71,15 +116,31 @@ fn push_edited<A: Allocator + Copy>(
     ensures { OnOk result (words_of made.new.items
         ≡ words_of made.old.items ++ changed (change_of edit.now) text.now) }
 {
-    let edited = match *edit {
-        ColumnEdit::Expand(stop) => expand_tabs(alloc, text, stop)?,
-        ColumnEdit::Slice { start, end } => slice(alloc, text, start, end)?,
-        ColumnEdit::Truncate { width, tail } => truncate(alloc, text, width, tail)?,
-        ColumnEdit::Pad(width) => pad(alloc, text, width, Alignment::Left)?,
-        ColumnEdit::Wrap(width) => return push_wrapped(alloc, text, width, made),
-    };
+    if let ColumnEdit::Wrap(width) = *edit {
+        return push_wrapped(alloc, text, width, made);
+    }
+    let edited = edit_whole(alloc, edit, text)?;
     made.push(edited.into_owned(alloc)?)?;
     Ok(())
+}
+
+// What an edit makes of a text, if it isn't a wrap. It may borrow from the text.
+fn edit_whole<'t, A: Allocator + Copy>(
+    alloc: A,
+    edit: &ColumnEdit<'_>,
+    text: &'t str,
+) -> Result<CowStr<'t, A>, AllocError>
+    requires { is_wrap (change_of edit.now) ≡ false }
+    ensures { IfOk result (λ c.
+        changed (change_of edit.now) text.now ≡ cow_str_bytes c ∷ []) }
+{
+    match *edit {
+        ColumnEdit::Expand(stop) => expand_tabs(alloc, text, stop),
+        ColumnEdit::Slice { start, end } => slice(alloc, text, start, end),
+        ColumnEdit::Truncate { width, tail } => truncate(alloc, text, width, tail),
+        ColumnEdit::Pad(width) => pad(alloc, text, width, Alignment::Left),
+        ColumnEdit::Wrap(_) => unreachable!(),
+    }
 }
 
 // Appends the lines of a text wrapped at a width.

@@ -3,6 +3,7 @@
 
 pub mod causes;
 pub mod edits;
+mod ended;
 pub mod laws;
 pub mod lines;
 pub mod runs;

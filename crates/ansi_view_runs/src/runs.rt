@@ -5,6 +5,7 @@ ghost use Rattle.std.specs.Prelude.{if◌then◌else◌, is_err, ◌||◌};
 ghost use Rattle.std.specs.Io.KnownBytes.{append_known};
 ghost use Rattle.ansi_io.specs.Devices.{count_after, was_closed};
 ghost use Rattle.ansi_lines_runs.specs.Runs.{words_of};
+ghost use Rattle.ansi_view_runs.specs.Edits.{changes_of};
 ghost use Rattle.ansi_view_runs.specs.Lines.{max_piece, HasNoLineFeed};
 ghost use Rattle.ansi_view_runs.specs.Jobs.{work_of};
 ghost use Rattle.ansi_view_runs.specs.LineViews.{line_of};
@@ -12,12 +13,14 @@ ghost use Rattle.ansi_view_runs.specs.Runs.{to_come, Shows, ShowsBeginning, Stop
 ghost use Rattle.ansi_view_runs.specs.Runs.{KeepsFlags, MostFlushes, StopsReading};
 ghost use Rattle.ansi_view_runs.specs.Runs.{ViewsAll, ViewsBeginning, ViewsFront};
 ghost use Rattle.ansi_view_runs.specs.Stops.{message_of};
-ghost use Rattle.ansi_view_runs.specs.Views.{opening_after, viewed};
+ghost use Rattle.ansi_view_runs.specs.Views.{changed_line, decoded, opening_after, viewed};
 ghost use Rattle.ansi_view_runs.specs.Words.{bad_word, message_of_word, view_asked};
 
+use crate::edits::{ColumnEdit, edit_up_to_wrap};
+use crate::ended::edit_further;
 use crate::lines::{Line, split_first};
 use crate::stop::{OUT_OF_MEMORY, Stop, write_message};
-use crate::view::{Job, stays, view_line};
+use crate::view::{Job, as_decoded, decode, stays, view_decoded};
 use crate::words::parse;
 use ansi_io::devices::{ReadFault, Sink, Source, WriteFault};
 use ansi_safe::policy::{Links, Policy, Rest};
@@ -57,25 +60,84 @@ fn write_line<A: Allocator + Copy, W: Sink>(
     ensures stopped { IfErr result (StopsWriting (W.failed output.old) (W.failed output.new)
         (W.closed output.old) (W.closed output.new) (W.taken output.new ≡ W.taken output.old)) }
 {
-    if stays(job, opening.as_str(), line) {
-        write_unchanged(line, output)?;
-        return Ok(());
+    if let Some(text) = as_decoded(job.view, line.text) {
+        return write_text(alloc, job, opening, line, text, output);
     }
-    let viewed = view_line(alloc, job, opening, line)?;
+    let text = decode(alloc, job.view, line.text)?;
+    write_text(alloc, job, opening, line, text.as_str(), output)
+}
+
+// Like `write_line`, of a line whose bytes are decoded already.
+#[inline(always)]
+fn write_text<A: Allocator + Copy, W: Sink>(
+    alloc: A,
+    job: &Job<'_, A>,
+    opening: &mut String<A>,
+    line: &Line<'_>,
+    text: &str,
+    output: &mut W,
+) -> Result<(), Stop>
+    requires { text.now ≡ decoded job.now.view line.now.text.now }
+    ensures taken { OnOk result (W.taken output.new ≡ append_known (W.taken output.old)
+        (viewed (work_of job.now) (string_bytes opening.old) (line_of line.now))) }
+    ensures opening { OnOk result (string_bytes opening.new
+        ≡ opening_after job.now.view (string_bytes opening.old) (line_of line.now)) }
+    ensures flushes { W.flushes output.new ≡ W.flushes output.old }
+    ensures flags { OnOk result (KeepsFlags (W.failed output.old) (W.failed output.new)
+        (W.closed output.old) (W.closed output.new)) }
+    ensures stopped { IfErr result (StopsWriting (W.failed output.old) (W.failed output.new)
+        (W.closed output.old) (W.closed output.new) (W.taken output.new ≡ W.taken output.old)) }
+{
+    if stays(job.view, opening.as_str(), line, text) {
+        return write_edited(alloc, job.edits.as_slice(), text, line.end, output);
+    }
+    let viewed = view_decoded(alloc, job, opening, line, text)?;
     output.write(viewed.as_bytes())?;
     Ok(())
 }
 
-// Writes a line as it is.
-fn write_unchanged<W: Sink>(line: &Line<'_>, output: &mut W) -> Result<(), WriteFault>
+// Writes what edits make of a text in turn, as lines, the last of which has this end.
+#[inline(always)]
+fn write_edited<A: Allocator + Copy, W: Sink>(
+    alloc: A,
+    edits: &[ColumnEdit<'_>],
+    text: &str,
+    end: &str,
+    output: &mut W,
+) -> Result<(), Stop>
     ensures taken { OnOk result (W.taken output.new ≡ append_known (W.taken output.old)
-        (line.now.text.now ++ line.now.end.now)) }
+        (changed_line (changes_of edits.now) text.now end.now)) }
+    ensures flushes { W.flushes output.new ≡ W.flushes output.old }
+    ensures flags { OnOk result (KeepsFlags (W.failed output.old) (W.failed output.new)
+        (W.closed output.old) (W.closed output.new)) }
+    ensures stopped { IfErr result (StopsWriting (W.failed output.old) (W.failed output.new)
+        (W.closed output.old) (W.closed output.new) (W.taken output.new ≡ W.taken output.old)) }
+{
+    if edits.is_empty() {
+        write_ended(text, end, output)?;
+        return Ok(());
+    }
+    let (edited, left) = edit_up_to_wrap(alloc, edits, text)?;
+    if left.is_empty() {
+        write_ended(edited.as_str(), end, output)?;
+        return Ok(());
+    }
+    let lines = edit_further(alloc, left, edited, end)?;
+    output.write(lines.as_bytes())?;
+    Ok(())
+}
+
+// Writes a text and its end.
+#[inline(always)]
+fn write_ended<W: Sink>(text: &str, end: &str, output: &mut W) -> Result<(), WriteFault>
+    ensures taken { OnOk result
+        (W.taken output.new ≡ append_known (W.taken output.old) (text.now ++ end.now)) }
     ensures flushes { W.flushes output.new ≡ W.flushes output.old }
     ensures failed { W.failed output.new ≡ (W.failed output.old || is_err result) }
     ensures closed { W.closed output.new ≡ (W.closed output.old || was_closed result) }
 {
-    output.write(line.text)?;
-    output.write(line.end.as_bytes())
+    output.write(text.as_bytes())?;
+    output.write(end.as_bytes())
 }
 
 // Writes what each line and piece becomes that these bytes decide, and returns the other bytes.

@@ -1,20 +1,21 @@
 //! What a line becomes.
-ghost use Rattle.std.specs.Prelude.{◌≡◌, ◌==◌, ◌++◌, [], IfOk, IsTrue, OnOk, length, string_bytes};
+ghost use Rattle.std.specs.Prelude.{◌≡◌, ◌==◌, ◌++◌, [], IfOk, IfSome, IsTrue, OnOk, length, string_bytes};
 ghost use Rattle.std.specs.Prelude.{◌&&◌, false, true};
-ghost use Rattle.std.specs.List.{join_by};
-ghost use Rattle.std.specs.Str.{IsUtf8};
+ghost use Rattle.std.specs.Prelude.{if◌then◌else◌};
+ghost use Rattle.std.specs.Cow.{cow_str_bytes};
+ghost use Rattle.ansi_items.specs.Plain.{plain};
 ghost use Rattle.ansi_style.specs.States.{rendition_of};
 ghost use Rattle.ansi_style.specs.Written.{start};
 ghost use Rattle.ansi_safe.specs.Links.{IsClosed, ending};
 ghost use Rattle.ansi_safe.specs.Safe.{is_safe};
-ghost use Rattle.ansi_lines_runs.specs.Runs.{words_of};
 ghost use Rattle.ansi_view_runs.specs.Jobs.{work_of};
 ghost use Rattle.ansi_view_runs.specs.LineViews.{line_of};
 ghost use Rattle.ansi_view_runs.specs.Views.{decoded, opening_of, opening_after, viewed, body};
-ghost use Rattle.ansi_view_runs.specs.Views.{line_break, shown};
+ghost use Rattle.ansi_view_runs.specs.Views.{shown};
 ghost use Rattle.ansi_safe.specs.Sanitized.{cleaned, sanitized};
 
-use crate::edits::{ColumnEdit, edit_in_turn};
+use crate::edits::ColumnEdit;
+use crate::ended::edit_line;
 use crate::lines::Line;
 use ansi_safe::links::{LONGEST_ENDING, Pen, pen_after};
 use ansi_safe::policy::{Links, Policy};
@@ -22,6 +23,7 @@ use ansi_safe::safe::{ending_if_safe, push_cleaned};
 use ansi_slice::slice::strip_in;
 use ansi_style::styles;
 use std::alloc::{AllocError, Allocator};
+use std::borrow::CowStr;
 
 /// How a run makes its input safe.
 #[derive(Clone, Copy, Debug, PartialEq, Eq)]
@@ -56,22 +58,41 @@ pub fn view_line<A: Allocator + Copy>(
     ensures opening { OnOk result (string_bytes opening.new
         ≡ opening_after job.now.view (string_bytes opening.old) (line_of line.now)) }
 {
-    let mut text = show_line(alloc, job.view, opening, line)?;
+    let text = decode(alloc, job.view, line.text)?;
+    view_decoded(alloc, job, opening, line, text.as_str())
+}
+
+/// Like `view_line`, of a line whose bytes are decoded already.
+pub(crate) fn view_decoded<A: Allocator + Copy>(
+    alloc: A,
+    job: &Job<'_, A>,
+    opening: &mut String<A>,
+    line: &Line<'_>,
+    text: &str,
+) -> Result<String<A>, AllocError>
+    requires { text.now ≡ decoded job.now.view line.now.text.now }
+    ensures bytes { IfOk result (λ s.
+        string_bytes s ≡ viewed (work_of job.now) (string_bytes opening.old) (line_of line.now)) }
+    ensures opening { OnOk result (string_bytes opening.new
+        ≡ opening_after job.now.view (string_bytes opening.old) (line_of line.now)) }
+{
+    let mut text = show_line(alloc, job.view, opening, line, text)?;
     if edits_nothing(job) {
         text.push_str(line.end)?;
         return Ok(text);
     }
-    let texts = edit_in_turn(alloc, job.edits.as_slice(), text)?;
-    join_lines(alloc, texts.as_slice(), line.end)
+    edit_line(alloc, job.edits.as_slice(), text.as_str(), line.end)
 }
 
-// The text of a line, made safe. `opening` is as for `view_line`.
+// The text of a line whose bytes are decoded, made safe. `opening` is as for `view_line`.
 fn show_line<A: Allocator + Copy>(
     alloc: A,
     view: View,
     opening: &mut String<A>,
     line: &Line<'_>,
+    text: &str,
 ) -> Result<String<A>, AllocError>
+    requires { text.now ≡ decoded view line.now.text.now }
     ensures bytes { IfOk result (λ s.
         string_bytes s ≡ shown view (string_bytes opening.old) (line_of line.now)) }
     ensures opening { OnOk result (string_bytes opening.new
@@ -80,53 +101,18 @@ fn show_line<A: Allocator + Copy>(
     if line.text.is_empty() {
         return Ok(String::new(alloc));
     }
-    view_text(alloc, view, opening, line.text)
+    make_safe(alloc, view.policy, opening, text)
 }
 
-// Texts as lines, the last of which has this end.
-fn join_lines<A: Allocator>(
-    alloc: A,
-    texts: &[String<A>],
-    end: &str,
-) -> Result<String<A>, AllocError>
-    ensures { IfOk result (λ s. string_bytes s
-        ≡ join_by (λ t. t) (line_break end.now) (words_of texts.now) ++ end.now) }
-{
-    let mut lines = texts.join(alloc, line_break(end))?;
-    lines.push_str(end)?;
-    Ok(lines)
-}
-
-// What ends each of several lines but the last, which has this end.
-fn line_break(end: &str) -> &str
-    ensures { result.now ≡ line_break end.now }
-{
-    if end.is_empty() { "\n" } else { end }
-}
-
-/// Whether a line stays as it is, and leaves nothing open. `false` says nothing. Doesn't allocate.
-pub(crate) fn stays<A: Allocator>(job: &Job<'_, A>, opening: &str, line: &Line<'_>) -> bool
-    ensures bytes { result ≡ true → viewed (work_of job.now) opening.now (line_of line.now)
-        ≡ line.now.text.now ++ line.now.end.now }
+/// Whether the text of a line whose bytes are decoded is shown as it is, and leaves open what is
+/// open before it. `false` says nothing. Doesn't allocate.
+pub(crate) fn stays(view: View, opening: &str, line: &Line<'_>, text: &str) -> bool
+    requires { text.now ≡ decoded view line.now.text.now }
+    ensures bytes { result ≡ true → shown view opening.now (line_of line.now) ≡ text.now }
     ensures opening { result ≡ true →
-        opening_after job.now.view opening.now (line_of line.now) ≡ opening.now }
+        opening_after view opening.now (line_of line.now) ≡ opening.now }
 {
-    if !only_makes_safe(job, opening) {
-        return false;
-    }
-    let Ok(text) = str::from_utf8(line.text) else {
-        return false;
-    };
-    is_safe_and_closed(text, job.view.policy.links)
-}
-
-// Whether a line that is safe stays as it is: it isn't stripped or edited, and nothing is open
-// before it.
-fn only_makes_safe<A: Allocator>(job: &Job<'_, A>, opening: &str) -> bool
-    ensures { result ≡ true → ((work_of job.now).changes ≡ [])
-        × (job.now.view.plain ≡ false) × (opening.now ≡ []) }
-{
-    edits_nothing(job) && !job.view.plain && opening.is_empty()
+    line.text.is_empty() || (opening.is_empty() && is_safe_and_closed(text, view.policy.links))
 }
 
 // Whether a job has no edits.
@@ -163,7 +149,25 @@ pub fn view_text<A: Allocator + Copy>(
     ensures opening { OnOk result (string_bytes opening.new
         ≡ opening_of (cleaned view.policy (body view (string_bytes opening.old) text.now))) }
 {
-    let mut made = clean(alloc, view, opening.as_str(), text)?;
+    let text = decode(alloc, view, text)?;
+    make_safe(alloc, view.policy, opening, text.as_str())
+}
+
+// Like `view_text`, of a text whose bytes are decoded.
+fn make_safe<A: Allocator + Copy>(
+    alloc: A,
+    policy: Policy,
+    opening: &mut String<A>,
+    text: &str,
+) -> Result<String<A>, AllocError>
+    ensures bytes { IfOk result (λ s.
+        string_bytes s ≡ sanitized policy (string_bytes opening.old ++ text.now)) }
+    ensures safe { IfOk result (λ s. IsTrue (is_safe policy.links (string_bytes s))) }
+    ensures closed { IfOk result (λ s. IsClosed (string_bytes s)) }
+    ensures opening { OnOk result (string_bytes opening.new
+        ≡ opening_of (cleaned policy (string_bytes opening.old ++ text.now))) }
+{
+    let mut made = clean_after(alloc, policy, opening.as_str(), text)?;
     let pen = pen_after(made.as_str());
     *opening = opening_of(alloc, &pen)?;
     let ending = pen.ending();
@@ -172,35 +176,83 @@ pub fn view_text<A: Allocator + Copy>(
 }
 
 // What is open before a text, and the text, made safe. What is open at the end isn't ended.
-fn clean<A: Allocator + Copy>(
+fn clean_after<A: Allocator + Copy>(
     alloc: A,
-    view: View,
+    policy: Policy,
     opening: &str,
-    text: &[u8],
+    text: &str,
 ) -> Result<String<A>, AllocError>
-    ensures bytes { IfOk result (λ s. string_bytes s
-        ≡ cleaned view.policy (body view opening.now text.now)) }
-    ensures utf8 { OnOk result (IsUtf8 (body view opening.now text.now)) }
+    ensures { IfOk result (λ s. string_bytes s ≡ cleaned policy (opening.now ++ text.now)) }
 {
-    let text = decode(alloc, view, text)?;
-    let mut body = String::with_capacity(alloc, opening.len())?;
+    if opening.is_empty() {
+        return clean(alloc, policy, text);
+    }
+    let mut body = String::with_capacity(alloc, opening.len() + text.len())?;
     body.push_str(opening)?;
-    body.push_str(text.as_str())?;
-    let mut made = String::with_capacity(alloc, body.len() + LONGEST_ENDING)?;
-    push_cleaned(&mut made, body.as_str(), view.policy)?;
+    body.push_str(text)?;
+    clean(alloc, policy, body.as_str())
+}
+
+// A text made safe. What is open at the end isn't ended.
+fn clean<A: Allocator>(alloc: A, policy: Policy, text: &str) -> Result<String<A>, AllocError>
+    ensures { IfOk result (λ s. string_bytes s ≡ cleaned policy text.now) }
+{
+    let mut made = String::with_capacity(alloc, text.len() + LONGEST_ENDING)?;
+    push_cleaned(&mut made, text, policy)?;
     Ok(made)
 }
 
-// The text of bytes, without its sequences if the view is plain. Bytes that aren't UTF-8 become
-// U+FFFD.
-fn decode<A: Allocator + Copy>(alloc: A, view: View, bytes: &[u8]) -> Result<String<A>, AllocError>
-    ensures { IfOk result (λ s. string_bytes s ≡ decoded view bytes.now) }
+/// The text of bytes, if decoding leaves these bytes: they are UTF-8, and the view isn't plain.
+/// `None` says nothing. It is apart from `decode`, since most lines need no text that may be owned.
+pub(crate) fn as_decoded(view: View, bytes: &[u8]) -> Option<&str>
+    ensures { IfSome result (λ text. text.now ≡ decoded view bytes.now) }
 {
-    let text = String::from_utf8_lossy(alloc, bytes)?;
+    if view.plain {
+        return None;
+    }
+    match str::from_utf8(bytes) {
+        Ok(text) => Some(text),
+        Err(_) => None,
+    }
+}
+
+/// The text of bytes, without its sequences if the view is plain. Bytes that aren't UTF-8 become
+/// U+FFFD. It borrows from bytes that are UTF-8 if nothing is stripped. `Err` means out of memory.
+pub(crate) fn decode<'t, A: Allocator + Copy>(
+    alloc: A,
+    view: View,
+    bytes: &'t [u8],
+) -> Result<CowStr<'t, A>, AllocError>
+    ensures { IfOk result (λ c. cow_str_bytes c ≡ decoded view bytes.now) }
+{
+    match str::from_utf8(bytes) {
+        Ok(text) => strip_if_plain(alloc, view, CowStr::Borrowed(text)),
+        Err(_) => {
+            let text = String::from_utf8_lossy(alloc, bytes)?;
+            strip_if_plain(alloc, view, CowStr::Owned(text))
+        }
+    }
+}
+
+// A text, without its sequences if the view is plain.
+fn strip_if_plain<'t, A: Allocator + Copy>(
+    alloc: A,
+    view: View,
+    text: CowStr<'t, A>,
+) -> Result<CowStr<'t, A>, AllocError>
+    ensures { IfOk result (λ c. cow_str_bytes c
+        ≡ (if view.plain then plain (cow_str_bytes text.entry) else cow_str_bytes text.entry)) }
+{
     if !view.plain {
         return Ok(text);
     }
-    String::from_str(alloc, strip_in(alloc, text.as_str())?.as_str())
+    match text {
+        CowStr::Borrowed(text) => strip_in(alloc, text),
+        CowStr::Owned(text) => {
+            let stripped = strip_in(alloc, text.as_str())?;
+            Ok(CowStr::Owned(stripped.into_owned(alloc)?))
+        }
+    }
 }
 
 // What opens the style and the link of a pen.

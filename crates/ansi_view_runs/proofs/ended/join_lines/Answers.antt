@@ -2,7 +2,7 @@ use Rattle.std.proofs.Common.{◌∙◌, ◌++◌, ap}
 use Rattle.std.specs.List.{join_by}
 use Rattle.ansi_lines_runs.specs.Runs.{words_of}
 use Rattle.ansi_view_runs.proofs.JoinLemmas.{joined_bytes}
-use Rattle.ansi_view_runs.proofs.view.join_lines.Goals as goal
+use Rattle.ansi_view_runs.proofs.ended.join_lines.Goals as goal
 
 -- the texts are joined, and the end follows
 pub returns : goal.returns

@@ -2,7 +2,7 @@ use Rattle.std.proofs.Common.{◌∙◌, ◌++◌, ap, sym, string_bytes}
 use Rattle.ansi_view_runs.specs.Jobs.{work_of}
 use Rattle.ansi_view_runs.specs.LineViews.{line_of}
 use Rattle.ansi_view_runs.proofs.StayLemmas.{viewed-unchanged}
-use Rattle.ansi_view_runs.proofs.view.view_line.Goals as goal
+use Rattle.ansi_view_runs.proofs.view.view_decoded.Goals as goal
 
 -- there are no edits
 pub returns-then-edits_nothing-clause-bytes : goal.returns-then-edits_nothing-clause-bytes

@@ -1,0 +1,7 @@
+use Rattle.std.proofs.Common.{◌∙◌, sym, rules}
+use Rattle.ansi_view_runs.proofs.StayLemmas.{decoded-stays}
+use Rattle.ansi_view_runs.proofs.view.as_decoded.Goals as goal
+
+-- bytes that are UTF-8 are their own text
+pub returns-in-Ok : goal.returns-in-Ok
+returns-in-Ok c = c.in-Ok.ensures.cases.0 ∙ sym (decoded-stays c.args.view c.args.bytes.now (search rules) c.in-Ok.ensures.cases.1)

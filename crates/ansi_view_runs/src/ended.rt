@@ -1,0 +1,89 @@
+//! What edits make of a line, and its end.
+ghost use Rattle.std.specs.Prelude.{◌≡◌, ◌++◌, IfOk, OnOk, string_bytes};
+ghost use Rattle.std.specs.Cow.{cow_str_bytes};
+ghost use Rattle.std.specs.List.{join_by};
+ghost use Rattle.ansi_columns.specs.Wrapped.{wrapped};
+ghost use Rattle.ansi_lines_runs.specs.Runs.{words_of};
+ghost use Rattle.ansi_view_runs.specs.Edits.{Wrapped, changes_of, changed};
+ghost use Rattle.ansi_view_runs.specs.Views.{changed_line, line_break};
+
+use crate::edits::{ColumnEdit, edit_in_turn, edit_up_to_wrap};
+use ansi_columns::wrap::wrap;
+use std::alloc::{AllocError, Allocator};
+use std::borrow::CowStr;
+
+/// What edits make of a text in turn, as lines, the last of which has this end. `Err` means out of
+/// memory.
+pub(crate) fn edit_line<A: Allocator + Copy>(
+    alloc: A,
+    edits: &[ColumnEdit<'_>],
+    text: &str,
+    end: &str,
+) -> Result<String<A>, AllocError>
+    ensures { IfOk result (λ s.
+        string_bytes s ≡ changed_line (changes_of edits.now) text.now end.now) }
+{
+    let (edited, left) = edit_up_to_wrap(alloc, edits, text)?;
+    edit_further(alloc, left, edited, end)
+}
+
+/// Like `edit_line`, of a text that may be owned.
+pub(crate) fn edit_further<A: Allocator + Copy>(
+    alloc: A,
+    edits: &[ColumnEdit<'_>],
+    text: CowStr<'_, A>,
+    end: &str,
+) -> Result<String<A>, AllocError>
+    ensures { IfOk result (λ s.
+        string_bytes s ≡ changed_line (changes_of edits.now) (cow_str_bytes text.entry) end.now) }
+{
+    if let [ColumnEdit::Wrap(width)] = edits {
+        return wrap_line(alloc, text.as_str(), *width, end);
+    }
+    let texts = edit_in_turn(alloc, edits, text.into_owned(alloc)?)?;
+    join_lines(alloc, texts.as_slice(), end)
+}
+
+// The lines of a text wrapped at a width, the last of which has this end.
+fn wrap_line<A: Allocator + Copy>(
+    alloc: A,
+    text: &str,
+    width: usize,
+    end: &str,
+) -> Result<String<A>, AllocError>
+    ensures { IfOk result (λ s. string_bytes s
+        ≡ join_by (λ t. t) (line_break end.now) (changed (Wrapped width) text.now) ++ end.now) }
+{
+    let mut made = String::with_capacity(alloc, text.len())?;
+    let mut lines = wrap(alloc, text, width);
+    if let Some(first) = lines.next() {
+        made.push_str(first?.as_str())?;
+    }
+    'lines: while let Some(line) = lines.next() {
+        made.push_str(line_break(end))?;
+        made.push_str(line?.as_str())?;
+    }
+    made.push_str(end)?;
+    Ok(made)
+}
+
+// Texts as lines, the last of which has this end.
+fn join_lines<A: Allocator>(
+    alloc: A,
+    texts: &[String<A>],
+    end: &str,
+) -> Result<String<A>, AllocError>
+    ensures { IfOk result (λ s. string_bytes s
+        ≡ join_by (λ t. t) (line_break end.now) (words_of texts.now) ++ end.now) }
+{
+    let mut lines = texts.join(alloc, line_break(end))?;
+    lines.push_str(end)?;
+    Ok(lines)
+}
+
+// What ends each of several lines but the last, which has this end.
+fn line_break(end: &str) -> &str
+    ensures { result.now ≡ line_break end.now }
+{
+    if end.is_empty() { "\n" } else { end }
+}
