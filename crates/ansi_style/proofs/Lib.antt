@@ -3,6 +3,8 @@ pub mod BitsLemmas
 pub mod CodeLemmas
 pub mod FieldLemmas
 pub mod StateLemmas
+pub mod DecimalLemmas
+pub mod WritingLemmas
 pub mod WrittenLemmas
 pub mod MarkLemmas
 pub mod SgrLemmas

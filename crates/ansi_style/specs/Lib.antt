@@ -4,6 +4,7 @@ pub mod Fields
 pub mod Styled
 pub mod Reading
 pub mod Written
+pub mod Writing
 pub mod Colors
 pub mod Orders
 pub mod States

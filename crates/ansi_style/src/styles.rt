@@ -1,20 +1,19 @@
 //! What the crates above do with a style. These are free functions, so that `Style` has only the
 //! public methods that callers of `ansi_str` need.
-ghost use Rattle.std.specs.Prelude.{◌≡◌, ◌||◌, ◌+◌, ◌++◌, [], length, IsTrue, IfOk, OnOk, IfSome};
-ghost use Rattle.std.specs.Prelude.{string_bytes, string_capacity};
+ghost use Rattle.std.specs.Prelude.{◌≡◌, ◌||◌, ◌+◌, ◌++◌, [], length, IsTrue, IfOk, OnOk};
+ghost use Rattle.std.specs.Prelude.{IsOk, string_bytes, string_capacity};
 ghost use Rattle.ansi_items.specs.Sequences.{is_sgr};
 ghost use Rattle.ansi_style.specs.Rendition.{plain_style, has_known, has_any};
 ghost use Rattle.ansi_style.specs.Sgr.{apply, apply_parameters};
 ghost use Rattle.ansi_style.specs.Written.{start, close, close_if_any};
 ghost use Rattle.ansi_style.specs.States.{rendition_of};
 
-use crate::state::Style;
 use crate::state::attributes::Attributes;
 use crate::state::fields::{Fields, lone_code, parameters};
-use crate::state::written::Close;
+use crate::state::{Style, written};
 use bitflags::Flags;
 use std::alloc::{AllocError, Allocator};
-use std::fmt::{self, Display, Write};
+use std::fmt;
 
 /// The plain style, in which nothing is set.
 #[tactic(auto, unfolding(crate::specs::States::rendition_of))]
@@ -83,11 +82,12 @@ pub fn write_start<A: Allocator>(style: &Style, out: &mut String<A>) -> Result<(
     ensures { OnOk result
         (string_bytes out.new ≡ string_bytes out.old ++ start (rendition_of style.now)) }
 {
-    // returns before a formatter is made
     if !style.has_known() {
         return Ok(());
     }
-    write!(out, "{}", style.start())
+    let len = out.len();
+    let written = written::write_start(out, style);
+    keep_if_written(out, len, written)
 }
 
 /// Appends the close of the style. `Err` means out of memory; what was appended before the error
@@ -97,11 +97,30 @@ pub fn write_close<A: Allocator>(style: &Style, out: &mut String<A>) -> Result<(
     ensures { OnOk result
         (string_bytes out.new ≡ string_bytes out.old ++ close (rendition_of style.now)) }
 {
-    // returns before a formatter is made
     if !has_close(style) {
         return Ok(());
     }
-    write!(out, "{}", Close(style))
+    let len = out.len();
+    let written = written::write_close(out, style);
+    keep_if_written(out, len, written)
+}
+
+/// Takes back what was written after the first `len` bytes, if not all was. `Err` means that.
+fn keep_if_written<A: Allocator>(
+    out: &mut String<A>,
+    len: usize,
+    written: fmt::Result,
+) -> Result<(), AllocError>
+    ensures { OnOk result (IsOk written × (out.new ≡ out.old)) }
+{
+    if written.is_ok() {
+        return Ok(());
+    }
+    // `len` is a boundary, and the test is for the proof
+    if out.is_char_boundary(len) {
+        out.truncate(len);
+    }
+    Err(AllocError)
 }
 
 /// An empty text with room for exactly the start of a style, `len` bytes, and the close of a style
@@ -118,30 +137,34 @@ pub fn with_room<A: Allocator>(
         + length (close_if_any (rendition_of after.now))) }
 {
     let mut room = ByteCount(len);
-    // A style without anything needs no formatter.
     if before.has_known() {
-        room.add(before.start())?;
+        room.add_start(before)?;
     }
     if has_any(after) {
-        room.add(Close(after))?;
+        room.add_close(after)?;
     }
     String::with_capacity(alloc, room.0)
 }
 
-/// A writer that only counts bytes.
+/// A writer that only counts bytes. Its error means that no text can be that long.
 #[derive(Drop)]
 struct ByteCount(usize);
 
 impl ByteCount {
-    /// Adds the length of what a value prints. `Err` means that no text can be that long.
-    fn add<D: Display + Drop>(&mut self, value: D) -> Result<(), AllocError>
-        ensures { OnOk result (IfSome (D.output value) (λ bytes.
-            self.new.0 ≡ self.old.0 + length bytes)) }
+    /// Adds the length of the start of a style.
+    fn add_start(&mut self, style: &Style) -> Result<(), AllocError>
+        ensures { OnOk result
+            (self.new.0 ≡ self.old.0 + length (start (rendition_of style.now))) }
     {
-        match self.write(value) {
-            Ok(()) => Ok(()),
-            Err(_) => Err(AllocError),
-        }
+        written::write_start(self, style).or(Err(AllocError))
+    }
+
+    /// Adds the length of the close of a style.
+    fn add_close(&mut self, style: &Style) -> Result<(), AllocError>
+        ensures { OnOk result
+            (self.new.0 ≡ self.old.0 + length (close (rendition_of style.now))) }
+    {
+        written::write_close(self, style).or(Err(AllocError))
     }
 }
 

@@ -1,8 +1,9 @@
 //! The start and the close of a style, for printing. Each code has a sequence of its own.
-ghost use Rattle.std.specs.Prelude.{◌++◌, [], Some, codes, flat_map, if◌then◌else◌};
-ghost use Rattle.std.specs.Fmt.{WritesOnOk};
+ghost use Rattle.std.specs.Prelude.{◌≡◌, ◌<◌, ◌+◌, ◌++◌, ◌∷◌, [], Some, codes, decimal, flat_map};
+ghost use Rattle.std.specs.Prelude.{if◌then◌else◌, length};
+ghost use Rattle.ansi_style.specs.Writing.{WroteOnOk, color_sequence, color_sequence_if_set};
 ghost use Rattle.ansi_style.specs.States.{has_one, rendition_of};
-ghost use Rattle.ansi_style.specs.Written.{written, written_all, color_code, color_codes};
+ghost use Rattle.ansi_style.specs.Written.{written_all, color_codes};
 ghost use Rattle.ansi_style.specs.Written.{font_codes, start, close, close_if_any};
 
 use crate::state::Style;
@@ -12,6 +13,7 @@ use ansi_items::ansitok::AnsiColor;
 use bitflags::Flags;
 use std::fmt;
 use std::marker::Model;
+use std::str::from_utf8_unchecked;
 
 /// Prints the start of a style: the sequences that set it, one for each code. The output has at
 /// most `longest_start` bytes, 163. Printing doesn't allocate, and an `Err` is the writer's. (The
@@ -164,61 +166,72 @@ const CLOSE_ENDS: Rows = &[
 ];
 
 /// Writes the start of a style.
-fn write_start<W: fmt::Write>(f: &mut fmt::Formatter<W>, style: &Style) -> fmt::Result
-    ensures { WritesOnOk W.write_str_gives f.old result (start (rendition_of style.now)) f.new }
+pub(crate) fn write_start<W: fmt::Write>(out: &mut W, style: &Style) -> fmt::Result
+    ensures { WroteOnOk W.write_str_gives out.old result (start (rendition_of style.now))
+        out.new }
 {
     let set = style.attributes;
-    write_rows(f, set.intersection(Attributes::INTENSITY), START_INTENSITY)?;
-    write_rows(f, set.intersection(Attributes::LETTERS), START_LETTERS)?;
-    write_font(f, style.font)?;
-    write_rows(f, set.intersection(Attributes::SHAPES), START_SHAPES)?;
-    write_colors(f, style)?;
-    write_rows(f, set.intersection(Attributes::FRAMES), START_FRAMES)
+    write_rows(
+        out,
+        set.intersection(Attributes::INTENSITY),
+        START_INTENSITY,
+    )?;
+    write_rows(out, set.intersection(Attributes::LETTERS), START_LETTERS)?;
+    write_font(out, style.font)?;
+    write_rows(out, set.intersection(Attributes::SHAPES), START_SHAPES)?;
+    write_colors(out, style)?;
+    write_rows(out, set.intersection(Attributes::FRAMES), START_FRAMES)
 }
 
 /// Writes the close of a style.
-fn write_close<W: fmt::Write>(f: &mut fmt::Formatter<W>, style: &Style) -> fmt::Result
-    ensures { WritesOnOk W.write_str_gives f.old result (close (rendition_of style.now)) f.new }
+pub(crate) fn write_close<W: fmt::Write>(out: &mut W, style: &Style) -> fmt::Result
+    ensures { WroteOnOk W.write_str_gives out.old result (close (rendition_of style.now))
+        out.new }
 {
     let set = style.attributes;
     let is_unknown = set.contains(Attributes::UNKNOWN);
-    write_when(f, is_unknown & set.contains(Attributes::RESET), "\u{1b}[0m")?;
-    write_when(f, style.font.is_some(), "\u{1b}[10m")?;
-    write_when(f, set.intersects(Attributes::INTENSITY), "\u{1b}[22m")?;
-    write_rows(f, set.intersection(Attributes::LETTERS), CLOSE_LETTERS)?;
-    write_when(f, style.foreground.is_some(), "\u{1b}[39m")?;
-    write_when(f, style.background.is_some(), "\u{1b}[49m")?;
-    write_rows(f, set.intersection(Attributes::FRAMES), CLOSE_FRAMES)?;
-    write_when(f, style.underline_color.is_some(), "\u{1b}[59m")?;
-    write_rows(f, set.intersection(Attributes::ENDS), CLOSE_ENDS)
+    write_when(
+        out,
+        is_unknown & set.contains(Attributes::RESET),
+        "\u{1b}[0m",
+    )?;
+    write_when(out, style.font.is_some(), "\u{1b}[10m")?;
+    write_when(out, set.intersects(Attributes::INTENSITY), "\u{1b}[22m")?;
+    write_rows(out, set.intersection(Attributes::LETTERS), CLOSE_LETTERS)?;
+    write_when(out, style.foreground.is_some(), "\u{1b}[39m")?;
+    write_when(out, style.background.is_some(), "\u{1b}[49m")?;
+    write_rows(out, set.intersection(Attributes::FRAMES), CLOSE_FRAMES)?;
+    write_when(out, style.underline_color.is_some(), "\u{1b}[59m")?;
+    write_rows(out, set.intersection(Attributes::ENDS), CLOSE_ENDS)
 }
 
 /// Writes the sequence of each row of which at least one attribute is in the set.
 fn write_rows<W: fmt::Write>(
-    f: &mut fmt::Formatter<W>,
+    out: &mut W,
     set: Attributes,
     rows: &[(Attributes, &str)],
 ) -> fmt::Result
-    ensures { WritesOnOk W.write_str_gives f.old result
-        (flat_map (λ row. if has_one set.0 row.0.0 then row.1.now else []) rows.now) f.new }
+    ensures { WroteOnOk W.write_str_gives out.old result
+        (flat_map (λ row. if has_one set.0 row.0.0 then row.1.now else []) rows.now) out.new }
 {
     if set.is_empty() {
         return Ok(());
     }
     for (attributes, sequence) in rows {
-        write_when(f, set.intersects(*attributes), sequence)?;
+        write_when(out, set.intersects(*attributes), sequence)?;
     }
     Ok(())
 }
 
 /// Writes a sequence if the condition holds.
+#[tactic(auto, using(crate::proofs::WritingLemmas::wrote_nothing, crate::proofs::WritingLemmas::wrote_once))]
 #[inline(always)]
-fn write_when<W: fmt::Write>(f: &mut fmt::Formatter<W>, is_set: bool, sequence: &str) -> fmt::Result
-    ensures { WritesOnOk W.write_str_gives f.old result (if is_set then sequence.now else [])
-        f.new }
+fn write_when<W: fmt::Write>(out: &mut W, is_set: bool, sequence: &str) -> fmt::Result
+    ensures { WroteOnOk W.write_str_gives out.old result (if is_set then sequence.now else [])
+        out.new }
 {
     if is_set {
-        f.write_str(sequence)
+        out.write_str(sequence)
     } else {
         Ok(())
     }
@@ -226,55 +239,103 @@ fn write_when<W: fmt::Write>(f: &mut fmt::Formatter<W>, is_set: bool, sequence: 
 
 /// Writes the codes of the colors that are set.
 #[tactic(auto, unfolding(crate::specs::States::rendition_of))]
-fn write_colors<W: fmt::Write>(f: &mut fmt::Formatter<W>, style: &Style) -> fmt::Result
-    ensures { WritesOnOk W.write_str_gives f.old result
+fn write_colors<W: fmt::Write>(out: &mut W, style: &Style) -> fmt::Result
+    ensures { WroteOnOk W.write_str_gives out.old result
         (written_all (color_codes (codes "38") (rendition_of style.now).foreground
         ++ color_codes (codes "48") (rendition_of style.now).background
-        ++ color_codes (codes "58") (rendition_of style.now).underline_color)) f.new }
+        ++ color_codes (codes "58") (rendition_of style.now).underline_color)) out.new }
 {
-    write_color(f, "38", style.foreground)?;
-    write_color(f, "48", style.background)?;
-    write_color(f, "58", style.underline_color)
+    write_color(out, "\u{1b}[38;5;", "\u{1b}[38;2;", style.foreground)?;
+    write_color(out, "\u{1b}[48;5;", "\u{1b}[48;2;", style.background)?;
+    write_color(out, "\u{1b}[58;5;", "\u{1b}[58;2;", style.underline_color)
 }
 
 /// Writes the code of a font, if one is set.
-fn write_font<W: fmt::Write>(f: &mut fmt::Formatter<W>, font: Option<u8>) -> fmt::Result
-    ensures { WritesOnOk W.write_str_gives f.old result (written_all (font_codes font)) f.new }
+fn write_font<W: fmt::Write>(out: &mut W, font: Option<u8>) -> fmt::Result
+    ensures { WroteOnOk W.write_str_gives out.old result
+        (written_all (font_codes font)) out.new }
 {
     match font {
         None => Ok(()),
-        Some(number) => write!(f, "\u{1b}[{number}m"),
+        Some(number) => {
+            out.write_str("\u{1b}[")?;
+            write_number(out, number, b'm')
+        }
     }
 }
 
-/// Writes the code of a color, if one is set.
+/// Writes the sequence of a color, if one is set. `by_number` and `by_parts` begin that of a color
+/// beyond the sixteen.
+#[tactic(auto, using(crate::proofs::WritingLemmas::wrote_nothing, crate::proofs::WritingLemmas::wrote_once))]
 #[inline(always)]
 fn write_color<W: fmt::Write>(
-    f: &mut fmt::Formatter<W>,
-    extended: &str,
+    out: &mut W,
+    by_number: &str,
+    by_parts: &str,
     color: Option<AnsiColor>,
 ) -> fmt::Result
-    ensures { WritesOnOk W.write_str_gives f.old result
-        (written_all (color_codes extended.now color)) f.new }
+    ensures { WroteOnOk W.write_str_gives out.old result
+        (color_sequence_if_set by_number.now by_parts.now color) out.new }
 {
     match color {
         None => Ok(()),
-        Some(color) => write_color_code(f, extended, color),
+        Some(color) => write_color_sequence(out, by_number, by_parts, color),
     }
 }
 
-/// Writes the code of a color. `extended` precedes a color beyond the sixteen.
-fn write_color_code<W: fmt::Write>(
-    f: &mut fmt::Formatter<W>,
-    extended: &str,
+/// Writes the sequence of a color.
+fn write_color_sequence<W: fmt::Write>(
+    out: &mut W,
+    by_number: &str,
+    by_parts: &str,
     color: AnsiColor,
 ) -> fmt::Result
-    ensures { WritesOnOk W.write_str_gives f.old result (written (color_code extended.now color))
-        f.new }
+    ensures { WroteOnOk W.write_str_gives out.old result
+        (color_sequence by_number.now by_parts.now color) out.new }
 {
     match color {
-        AnsiColor::Bit4(n) => write!(f, "\u{1b}[{n}m"),
-        AnsiColor::Bit8(n) => write!(f, "\u{1b}[{extended};5;{n}m"),
-        AnsiColor::Bit24 { r, g, b } => write!(f, "\u{1b}[{extended};2;{r};{g};{b}m"),
+        AnsiColor::Bit4(n) => {
+            out.write_str("\u{1b}[")?;
+            write_number(out, n, b'm')
+        }
+        AnsiColor::Bit8(n) => {
+            out.write_str(by_number)?;
+            write_number(out, n, b'm')
+        }
+        AnsiColor::Bit24 { r, g, b } => {
+            out.write_str(by_parts)?;
+            write_number(out, r, b';')?;
+            write_number(out, g, b';')?;
+            write_number(out, b, b'm')
+        }
+    }
+}
+
+/// Writes a number in decimal, and an ASCII byte after it.
+fn write_number<W: fmt::Write>(out: &mut W, number: u8, after: u8) -> fmt::Result
+    requires { after < 128 }
+    ensures { WroteOnOk W.write_str_gives out.old result (decimal number ++ after ∷ [])
+        out.new }
+{
+    let bytes = [
+        b'0' + number / 100,
+        b'0' + number / 10 % 10,
+        b'0' + number % 10,
+        after,
+    ];
+    let start = leading_zeros(number);
+    out.write_str(unsafe { from_utf8_unchecked(&bytes[start..]) })
+}
+
+/// How many zeros begin the number in three digits.
+fn leading_zeros(number: u8) -> usize
+    ensures { result + length (decimal number) ≡ 3 }
+{
+    if number < 10 {
+        2
+    } else if number < 100 {
+        1
+    } else {
+        0
     }
 }

@@ -1,4 +1,5 @@
-use Rattle.ansi_style.proofs.Common.{◌≡◌, ℕ, List, [], ◌∷◌, refl, sym, ◌∙◌, flat_map, arith, eqb-true, common_steps}
+use Rattle.ansi_style.proofs.Common.{◌≡◌, ℕ, List, [], ◌∷◌, refl, sym, ◌∙◌, flat_map, arith, common_steps, eqb-true, true}
+use Rattle.ansi_style.proofs.WritingLemmas.{wrote_nothing, wrote_two}
 use Rattle.ansi_style.proofs.state.written.write_rows.Goals as goal
 
 flat_map-nil : {X : Type 0} (rows : List X) → flat_map {A = ℕ} (λ (row : X). []) rows ≡ []
@@ -6,5 +7,10 @@ flat_map-nil [] = refl
 flat_map-nil (row ∷ rows) = flat_map-nil rows
 
 pub returns-then-is_empty : goal.returns-then-is_empty
-returns-then-is_empty g c = λ plain ok.
-    rw (eqb-true c.args.set.0 0 (sym (c.is_empty.ensures tt) ∙ c.if-is_empty.true), flat_map-nil c.args.rows.now) (grind (arith, common_steps))
+returns-then-is_empty g c = λ ok.
+    rw (eqb-true c.args.set.0 0 (sym (c.is_empty.ensures tt) ∙ c.if-is_empty.true), flat_map-nil c.args.rows.now) (wrote_nothing g.W.Write.write_str_gives c.args.out.now)
+
+-- a row more
+pub loop-attributes-preserved : goal.loop-attributes-preserved
+loop-attributes-preserved g c =
+    wrote_two g.W.Write.write_str_gives _ _ _ _ _ _ c.loop-attributes.invariant (c.in_ok-write_when.ensures (refl {a = true})) (grind (arith, common_steps))
