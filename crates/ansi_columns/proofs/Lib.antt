@@ -54,3 +54,4 @@ pub mod SidesLemmas
 pub mod FittedLawLemmas
 pub mod SidesLawLemmas
 pub mod IndentLawLemmas
+pub mod PlainCellLemmas

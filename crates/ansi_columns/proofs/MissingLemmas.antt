@@ -78,7 +78,7 @@ truncated-cut t width tail last is = ap (λ u. closed_cut t (truncated_end t wid
 abbrev pub IsLack : List ℕ → ℕ → List ℕ → ℕ → Type 0
 IsLack t width tail n = (n ≡ missing (truncated t width tail) width) × (closing (truncated t width tail) ≡ [])
 
-lack-of : (t : List ℕ) (width : ℕ) (tail last : List ℕ) (left : ℕ) → IsTrue (is_whole t) → last ≡ (if has_tail t width tail then tail else []) → list_all is_plain_byte last ≡ true
+pub lack-of : (t : List ℕ) (width : ℕ) (tail last : List ℕ) (left : ℕ) → IsTrue (is_whole t) → last ≡ (if has_tail t width tail then tail else []) → list_all is_plain_byte last ≡ true
     → columns (take (truncated_end t width tail) (plain t) ++ last) + left ≡ width → IsLack t width tail left
 lack-of t width tail last left whole is bare sum =
     let end = truncated_end t width tail in

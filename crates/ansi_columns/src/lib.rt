@@ -16,6 +16,7 @@ mod from_end;
 pub mod laws;
 pub mod line_walks;
 pub mod lines;
+mod plain_cells;
 pub mod shown;
 pub mod sides;
 pub mod slices;

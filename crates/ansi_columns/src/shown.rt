@@ -19,6 +19,7 @@ ghost use Rattle.ansi_columns.specs.BreakStates.{break_state_of};
 ghost use Rattle.ansi_columns.specs.Walks.{IsWalkIn, SeesUpTo};
 
 use crate::fits::fitting_front;
+use crate::plain_cells::plain_cell;
 use crate::views::View;
 use crate::walks::{Walk, first_run};
 use crate::widths;
@@ -109,6 +110,17 @@ pub(crate) fn truncated_parts<'t, 'a, A: Allocator>(
         × (closing (truncated (cell text.now) width tail.entry.now) ≡ []))) }
     ensures takes_no_memory { KeptStays text.now width tail.entry.now → IsOk result }
 {
+    if let Some(plain) = plain_cell(text, width) {
+        return Ok(TruncatedParts {
+            front: CowStr::Borrowed(text),
+            ending: Ending {
+                link_end: "",
+                style: plain.style,
+            },
+            tail: "",
+            missing: Some(plain.left),
+        });
+    }
     let cut = truncation(text, width, tail);
     let front = cell_of(alloc, &text[..cut.end.offset])?;
     let ending = pen_after(front.as_str()).ending();
@@ -164,6 +176,7 @@ fn truncation<'a>(text: &str, width: usize, tail: &'a str) -> Cut<'a>
 }
 
 /// Whether a tail has no sequence, and a cluster ends before it, if it is written where a walk is.
+/// `false` says nothing.
 fn is_apart(walk: Walk, tail: &str) -> bool
     ensures bare { IsTrue result → IsTrue (list_all is_plain_byte tail.now) }
     ensures breaks { IsTrue result → (before : List ℕ) → before ≢ [] →

@@ -142,17 +142,6 @@ impl Walk {
         })
     }
 
-    /// How many bytes of printable ASCII come next in the run, at most `most`, with another byte of
-    /// ASCII after them that is seen.
-    #[inline]
-    pub(crate) fn printable_ahead(self, text: &str, most: usize) -> usize
-        requires { IsAnyWalk text.now self }
-        ensures most { result ≤ most }
-        ensures ahead { 0 < result → IsPrintable text.now self result }
-    {
-        self.before_ascii(text, self.printable_front(text, most))
-    }
-
     /// How many bytes of printable ASCII come next in the run, at most `most`.
     #[inline]
     fn printable_front(self, text: &str, most: usize) -> usize
