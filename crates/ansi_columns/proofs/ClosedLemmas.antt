@@ -1,5 +1,5 @@
 -- A text that is cut, what closes its pen there, and plain bytes: nothing is open after them, not even an unknown code, and their plain text.
-use Rattle.std.proofs.Common.{◌≡◌, ℕ, inl, inr, Bool, true, false, ◌||◌, ◌&&◌, List, [], ◌∷◌, ◌++◌, length, take, nat_eq, nat_le, codes, is_some, IsTrue, refl, sym, ◌∙◌, ap, ap₂, subst}
+use Rattle.std.proofs.Common.{◌≡◌, ℕ, inl, inr, true, false, List, [], ◌∷◌, ◌++◌, length, take, nat_eq, nat_le, codes, IsTrue, refl, sym, ◌∙◌, ap, ap₂, subst}
 use Rattle.std.specs.List.{list_all}
 use Rattle.std.proofs.lemmas.Bool.{cases_Bool, or_from}
 use Rattle.std.proofs.lemmas.List.{map-append, take-map}
@@ -9,19 +9,18 @@ use Rattle.ansi_items.specs.Plain.{marks, marks_of, plain, marks_up_to, is_whole
 use Rattle.ansi_items.proofs.JoinLemmas.{AllStandAnywhere, pieces_of-append, pieces_of-spelled, is_whole-append, is_whole-spelled, pieces_stand, spelled}
 use Rattle.ansi_items.proofs.PlainLemmas.{has_escape-bare, one_text, pieces_of-bare, plain-bare, is_whole-plain}
 use Rattle.ansi_style.specs.declared.state.rendition.Rendition.{Rendition}
-use Rattle.ansi_style.specs.Rendition.{plain_style, has_known, has_ideogram_attribute}
-use Rattle.ansi_style.specs.Sgr.{apply}
+use Rattle.ansi_style.specs.Rendition.{plain_style, has_known}
 use Rattle.ansi_style.specs.Styled.{style_at}
-use Rattle.ansi_style.specs.Written.{close, close_codes, code_if, written}
+use Rattle.ansi_style.specs.Written.{close, close_codes}
 use Rattle.ansi_style.proofs.CloseLemmas.{close_codes_clear}
-use Rattle.ansi_style.proofs.ReadBackLemmas.{◌next◌, apply_codes, apply_codes-append, close_codes_are, code_pieces, code_pieces_stand, spelled-code_pieces, style_through-codes}
+use Rattle.ansi_style.proofs.ReadBackLemmas.{apply_codes, close_codes_are, code_pieces, code_pieces_stand, spelled-code_pieces, style_through-codes}
 use Rattle.ansi_style.proofs.StyledLemmas.{style_through, style_through-append, style_through-merged, style_after_from-pieces}
 use Rattle.ansi_style.proofs.UnsetLemmas.{close-unknown}
 use Rattle.ansi_slice.specs.Cut.{interleaved}
 use Rattle.ansi_slice.proofs.ShownLemmas.{interleaved_pieces, interleaved_pieces_stand, spelled-interleaved_pieces, style_through-interleaved_pieces}
 use Rattle.ansi_safe.specs.Links.{link_of, link_at, link_end, pen_close}
 use Rattle.ansi_safe.proofs.LinkLemmas.{link_of-pieces}
-use Rattle.ansi_safe.proofs.EndingLemmas.{link_end-open, link_end-shut}
+use Rattle.ansi_safe.proofs.EndingLemmas.{close_codes-leave_none, link_end-open, link_end-shut}
 use Rattle.ansi_columns.specs.Addresses.{linked}
 use Rattle.ansi_columns.specs.Shown.{closing}
 use Rattle.ansi_columns.proofs.LinkedLawLemmas.{IsLinked, IsLinked-append, IsLinked-front, IsLinked-pen_close, IsLinked-text, bytes_of, bytes_of-linked, linked-pieces}
@@ -29,50 +28,10 @@ use Rattle.ansi_columns.proofs.ShownLemmas.{pen_at_end}
 
 -- ---- the close of a style leaves none that has a close
 
--- codes after which no code is unknown if none was before
-record LeaveKnown (xs : List (List ℕ)) : Type 0 where
-  kept : (s : Rendition) → s.unknown ≡ false → (apply_codes s xs).unknown ≡ false
-
-LeaveKnown-code_if : {xs : List (List ℕ)} (b : Bool) (code : List ℕ) → ((s : Rendition) → s.unknown ≡ false → (apply s (written code)).unknown ≡ false) → LeaveKnown xs → LeaveKnown (xs ++ code_if b code)
-LeaveKnown-code_if {xs} b code one so_far = record { kept = λ s none. ap (λ (r : Rendition). r.unknown) (apply_codes-append s xs (code_if b code)) ∙ by b (apply_codes s xs) (so_far.kept s none) }
-  where
-    by : (b : Bool) (s : Rendition) → s.unknown ≡ false → (apply_codes s (code_if b code)).unknown ≡ false
-    by true s none = one s none
-    by false s none = none
-
-LeaveKnown-first : (b : Bool) → LeaveKnown (code_if b (codes "0"))
-LeaveKnown-first true = record { kept = λ s none. refl }
-LeaveKnown-first false = record { kept = λ s none. none }
-
-close_codes-unknown : (s : Rendition) → (apply_codes s (close_codes s)).unknown ≡ false
-close_codes-unknown s =
-    let before = LeaveKnown-first (s.unknown && s.reset)
-    next LeaveKnown-code_if (is_some s.font) (codes "10") (λ r none. none)
-    next LeaveKnown-code_if (s.bold || s.faint) (codes "22") (λ r none. none)
-    next LeaveKnown-code_if (s.italic || s.fraktur) (codes "23") (λ r none. none)
-    next LeaveKnown-code_if (s.underline || s.double_underline) (codes "24") (λ r none. none)
-    next LeaveKnown-code_if (s.slow_blink || s.rapid_blink) (codes "25") (λ r none. none)
-    next LeaveKnown-code_if s.inverse (codes "27") (λ r none. none)
-    next LeaveKnown-code_if s.hide (codes "28") (λ r none. none)
-    next LeaveKnown-code_if s.crossed_out (codes "29") (λ r none. none)
-    next LeaveKnown-code_if (is_some s.foreground) (codes "39") (λ r none. none)
-    next LeaveKnown-code_if (is_some s.background) (codes "49") (λ r none. none)
-    next LeaveKnown-code_if s.proportional_spacing (codes "50") (λ r none. none)
-    next LeaveKnown-code_if (s.framed || s.encircled) (codes "54") (λ r none. none)
-    next LeaveKnown-code_if s.overlined (codes "55") (λ r none. none)
-    next LeaveKnown-code_if (has_ideogram_attribute s) (codes "65") (λ r none. none)
-    next LeaveKnown-code_if (is_some s.underline_color) (codes "59") (λ r none. none)
-    next LeaveKnown-code_if (s.superscript || s.subscript) (codes "75") (λ r none. none) in
-    last before s.unknown refl
-  where
-    last : {xs : List (List ℕ)} → LeaveKnown xs → (b : Bool) → s.unknown ≡ b → (apply_codes s (xs ++ code_if b (codes "0"))).unknown ≡ false
-    last {xs} before true is = ap (λ (r : Rendition). r.unknown) (apply_codes-append s xs (codes "0" ∷ []))
-    last {xs} before false is = ap (λ (r : Rendition). r.unknown) (apply_codes-append s xs []) ∙ before.kept s is
-
 close_codes-closed : (s : Rendition) → close (apply_codes s (close_codes s)) ≡ []
 close_codes-closed s =
     let after = apply_codes s (close_codes s) in
-    close-unknown after (or_from (has_known after) after.unknown (ap has_known (close_codes_clear s s refl)) (close_codes-unknown s))
+    close-unknown after (or_from (has_known after) after.unknown (ap has_known (close_codes_clear s s refl)) (close_codes-leave_none s))
 
 -- ---- consecutive whole texts, with the style s before them: the style after them
 

@@ -127,7 +127,7 @@ leaves-last {s} {xs} so_far = ap (λ (p : Rendition). p.unknown) (apply_codes-ap
     by true keeps = refl
     by false keeps = keeps refl
 
-close_codes-leave_none : (s : Rendition) → (apply_codes s (close_codes s)).unknown ≡ false
+pub close_codes-leave_none : (s : Rendition) → (apply_codes s (close_codes s)).unknown ≡ false
 close_codes-leave_none s =
     let begun : KeepsUnset s [] = record { keeps = λ unset. unset } in
     leaves-last
