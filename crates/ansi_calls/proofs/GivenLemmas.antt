@@ -1,7 +1,6 @@
 -- Texts that an iterator returns, one more at a time, and all of them.
-use Rattle.std.proofs.Common.{◌≡◌, ◌∙◌, ℕ, ◌+◌, ◌<◌, ◌^◌, Bool, List, [], ◌∷◌, ◌++◌, length, take, drop, map, All, Option, None, Some, Result, Ok, Err, refl, sym, ap, ap₂, subst, arith, append-nil, length-append, IsTrue, IsOk, inl, inr}
-use Rattle.std.specs.Prelude.{flat_map, IsFalse}
-use Rattle.std.specs.Cow.{cow_str_bytes}
+use Rattle.std.proofs.Common.{◌≡◌, ◌∙◌, ℕ, ◌+◌, ◌<◌, ◌^◌, Bool, List, [], ◌∷◌, ◌++◌, length, take, drop, map, All, Option, Result, Ok, Err, refl, sym, ap, ap₂, subst, arith, append-nil, length-append, IsTrue, IsOk, inl, inr}
+use Rattle.std.specs.Prelude.{flat_map}
 use Rattle.std.specs.Iterator.{Yields, Drains, HoldsAlong}
 use Rattle.std.specs.List.{list_all}
 use Rattle.std.specs.declared.borrow.CowStr.{CowStr}
@@ -13,7 +12,7 @@ use Rattle.std.proofs.lemmas.Slice.{drop-append-drop}
 use Rattle.std.proofs.Math.Seq.{take-append_seam}
 use Rattle.ansi_split.specs.Splits.{CarriedPart, GivesCarriedPart}
 use Rattle.ansi_calls.specs.declared.lists.ListAnswer.{ListAnswer}
-use Rattle.ansi_calls.specs.Lists.{ends_from, given_bytes, AreWritten, AreGiven, GivesAll}
+use Rattle.ansi_calls.specs.Lists.{ends_from, given_bytes, AreGiven, GivesAll}
 
 -- texts one after the other
 abbrev pub joined_texts : List (List ℕ) → List ℕ
@@ -61,6 +60,11 @@ text_of p = p.bytes
 abbrev is_borrow : CarriedPart → Bool
 is_borrow p = p.borrowed
 
+-- all texts are given, or the call runs out of memory if it may
+pub gives-all : (takes_memory : Bool) (texts : List (List ℕ)) (answer : ListAnswer) (old new old_ends new_ends : List ℕ)
+    → IsTrue takes_memory → AreGiven texts answer old new old_ends new_ends → GivesAll takes_memory (joined_texts texts) (ends_from 0 texts) answer old new old_ends new_ends
+gives-all takes_memory texts answer old new old_ends new_ends takes given = elim given [ inl all ↦ inl all | inr failed ↦ inr (takes, failed) ]
+
 -- the parts that a split has left are given in turn, and the lines that a wrap has left
 module _ {A E : Type 0} (most_added : ℕ) where
   abbrev steps : List CarriedPart → Option (Result (CowStr A) E) → List CarriedPart → Type 0
@@ -90,16 +94,6 @@ module _ {A E : Type 0} (most_added : ℕ) where
 
   pub lent-drained : (left : List CarriedPart) (rs : List (Result (CowStr A) E)) → IsTrue (list_all is_borrow left) → Drains steps left rs → map given_bytes rs ≡ map text_of left
   lent-drained left rs lent (new, (last, ran, ends)) = all-given left rs (lent-given left last rs lent ran) (new, (last, ran, ends))
-
-  -- and all of it is written, or the call runs out of memory
-  pub gives-texts : (takes_memory : Bool) (left : List CarriedPart) (answer : ListAnswer) (old new old_ends new_ends : List ℕ)
-      → IsTrue takes_memory → AreGiven (λ rs. Drains steps left rs) answer old new old_ends new_ends
-      → GivesAll takes_memory (joined_texts (map text_of left)) (ends_from 0 (map text_of left)) answer old new old_ends new_ends
-  gives-texts takes_memory left answer old new old_ends new_ends takes given =
-      elim given [
-        | inl w ↦ inl (subst (λ ts. AreWritten (joined_texts ts) (ends_from 0 ts) answer old new old_ends new_ends) (all-given left w.0 w.2 w.1) w.3)
-        | inr failed ↦ inr (takes, failed)
-      ]
 
   -- what is given is no longer than that
   pub given-fits : (left : List CarriedPart) → IsTrue (list_all is_borrow left) → length (joined_texts (map text_of left)) < 2 ^ 64 → length left < 2 ^ 64

@@ -1,12 +1,11 @@
 -- The lines of a text without ESC: they have at most as many bytes as the text, and there is at most one line more than the text has bytes.
-use Rattle.std.proofs.Common.{◌≡◌, ◌∙◌, ℕ, ◌+◌, ◌-◌, ◌<◌, ◌≤◌, max, ◌==◌, ◌&&◌, Bool, true, false, List, [], ◌∷◌, ◌++◌, length, drop, map, slice_range, Some, None, Option, Result, Ok, Err, encode_utf8_all, if◌then◌else◌, refl, ap, arith, append-nil, length-append, IsFalse}
+use Rattle.std.proofs.Common.{◌≡◌, ◌∙◌, ℕ, ◌+◌, ◌-◌, ◌<◌, ◌≤◌, max, ◌==◌, ◌&&◌, Bool, true, false, List, [], ◌∷◌, ◌++◌, length, drop, map, slice_range, Some, encode_utf8_all, if◌then◌else◌, refl, ap, arith, append-nil, length-append, IsFalse}
 use Rattle.std.specs.Prelude.{flat_map}
 use Rattle.std.specs.Str.{chars, IsUtf8}
 use Rattle.std.proofs.lemmas.Bool.{cond_both}
 use Rattle.std.proofs.lemmas.List.{length-take, length-drop, length-map}
 use Rattle.std.proofs.lemmas.List.Concat.{flat_map-cons}
 use Rattle.std.proofs.lemmas.Str.{encodes-chars}
-use Rattle.std.specs.declared.borrow.CowStr.{CowStr}
 use Rattle.unicode_segmentation.specs.Grapheme.{is_grapheme_break}
 use Rattle.unicode_segmentation.specs.Segments.{segments}
 use Rattle.unicode_segmentation.proofs.SegmentsLemmas.{AllPieces, segments_nonempty}

@@ -1,5 +1,5 @@
 -- Several texts in one buffer, and an entry for each in another buffer.
-use Rattle.std.specs.Prelude.{◌≡◌, ◌⊎◌, ⊤, ◌<◌, ◌≤◌, ◌+◌, ℕ, Bool, true, List, [], ◌∷◌, ◌++◌, drop, length, map, flat_map, Result, Ok, Err, IsTrue, IsOk, All}
+use Rattle.std.specs.Prelude.{◌≡◌, ◌⊎◌, ⊤, ◌<◌, ◌≤◌, ◌+◌, ℕ, Bool, true, List, [], ◌∷◌, ◌++◌, drop, length, flat_map, Result, Ok, Err, IsTrue}
 use Rattle.std.specs.Borrow.{MutBor}
 use Rattle.std.specs.Cow.{cow_str_bytes}
 use Rattle.std.specs.declared.borrow.CowStr.{CowStr}
@@ -65,11 +65,10 @@ abbrev pub given_bytes : {A E : Type 0} → Result (CowStr A) E → List ℕ
 given_bytes (Ok text) = cow_str_bytes text
 given_bytes (Err e) = []
 
--- a call writes the texts that an iterator returns, up to its end; or it runs out of memory
-abbrev pub AreGiven : {A E : Type 0} → (List (Result (CowStr A) E) → Type 0) → ListAnswer → List ℕ → List ℕ → List ℕ → List ℕ → Type 0
-AreGiven {A} {E} Ends answer old new old_ends new_ends =
-    ((xs : List (Result (CowStr A) E)) × Ends xs × All IsOk xs
-    × AreWritten (flat_map (λ t. t) (map given_bytes xs)) (ends_from 0 (map given_bytes xs)) answer old new old_ends new_ends)
+-- a call writes these texts, and where each ends, or runs out of memory
+abbrev pub AreGiven : List (List ℕ) → ListAnswer → List ℕ → List ℕ → List ℕ → List ℕ → Type 0
+AreGiven texts answer old new old_ends new_ends =
+    AreWritten (flat_map (λ t. t) texts) (ends_from 0 texts) answer old new old_ends new_ends
     ⊎ HaveFailed out_of_memory answer old new old_ends new_ends
 
 -- texts are counted with their total length, and written one after the other if there is room for all of them; their ends are written if there is room for all of these

@@ -21,7 +21,7 @@ ghost use Rattle.ansi_calls.specs.Calls.{Splits, ListsAs, ListsBlocks, ListsStyl
 
 use crate::answers::{NOT_UTF8, OK, OUT_OF_MEMORY, TOO_SMALL};
 use crate::utf8::from_utf8;
-use ansi_str::split::split_in;
+use ansi_str::split::{PushNext, split_in};
 use ansi_str::{AnsiBlock, AnsiStr, get_blocks, laws};
 use ansi_style::numbers::StyleNumbers;
 use ansi_style::styles;
@@ -414,51 +414,43 @@ fn write_one_block<T: Copy>(
     write_list(text.as_bytes(), entry, buffer, entries)
 }
 
-/// Writes the texts of an iterator, concatenated, and where each ends, or reports out of memory.
+/// Writes the texts that are left, concatenated, and where each ends, or reports out of memory.
 /// Reserves `room` bytes at once.
-pub(crate) fn write_texts<
-    't,
-    A: Allocator + Copy,
-    I: Iterator<Item = Result<CowStr<'t, A>, AllocError>> + Drop,
->(alloc: A, room: usize, given: I, buffer: &mut [u8], ends: &mut [usize]) -> ListAnswer
-    requires can { I.can_next given }
-    requires ends { IsFinite (I.remaining given) }
-    ensures { AreGiven (λ xs. Drains I.next_gives given xs) result buffer.old buffer.new ends.old
+pub(crate) fn write_texts<P: PushNext + Drop, A: Allocator + Copy>(
+    alloc: A,
+    room: usize,
+    given: P,
+    buffer: &mut [u8],
+    ends: &mut [usize],
+) -> ListAnswer
+    ensures { AreGiven (map (λ p. p.bytes) (P.left given)) result buffer.old buffer.new ends.old
         ends.new }
 {
     write_joined(join_texts(alloc, room, given), buffer, ends)
 }
 
-/// The texts of an iterator, concatenated, and where each ends. Reserves `room` bytes at once.
-fn join_texts<
-    't,
-    A: Allocator + Copy,
-    I: Iterator<Item = Result<CowStr<'t, A>, AllocError>> + Drop,
->(alloc: A, room: usize, given: I) -> Result<(String<A>, Vec<usize, A>), AllocError>
-    requires can { I.can_next given }
-    requires ends { IsFinite (I.remaining given) }
-    ensures { IfOk result (λ joined.
-        (xs : List (Result (CowStr A) AllocError)) × Drains I.next_gives given xs × All IsOk xs
-        × (string_bytes joined.0 ≡ flat_map (λ t. t) (map given_bytes xs))
-        × (joined.1.items ≡ ends_from 0 (map given_bytes xs))) }
+/// The ends for which there is room at first.
+const FEW: usize = 16;
+
+/// The texts that are left, concatenated, and where each ends. Reserves `room` bytes at once.
+fn join_texts<P: PushNext + Drop, A: Allocator + Copy>(
+    alloc: A,
+    room: usize,
+    given: P,
+) -> Result<(String<A>, Vec<usize, A>), AllocError>
+    ensures texts { IfOk result (λ joined. string_bytes joined.0
+        ≡ flat_map (λ t. t) (map (λ p. p.bytes) (P.left given))) }
+    ensures ends { IfOk result (λ joined. joined.1.items
+        ≡ ends_from 0 (map (λ p. p.bytes) (P.left given))) }
 {
     let mut texts = String::with_capacity(alloc, room)?;
-    let mut ends = Vec::new(alloc);
-    for text in given {
-        let text = text?;
-        let end = push_text(&mut texts, text.as_str())?;
-        ends.push(end)?;
+    let mut ends = Vec::with_capacity(alloc, FEW)?;
+    let mut left = given;
+    'texts: while let Some(pushed) = left.push_next(&mut texts) {
+        pushed?;
+        ends.push(texts.len())?;
     }
     Ok((texts, ends))
-}
-
-/// Appends a text, and returns where it ends.
-fn push_text<A: Allocator>(texts: &mut String<A>, text: &str) -> Result<usize, AllocError>
-    ensures bytes { OnOk result (string_bytes texts.new ≡ string_bytes texts.old ++ text.now) }
-    ensures end { IfOk result (λ end. end ≡ length (string_bytes texts.new)) }
-{
-    texts.push_str(text)?;
-    Ok(texts.len())
 }
 
 /// What is written of the blocks of a text, concatenated, and an entry for each.

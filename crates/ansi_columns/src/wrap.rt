@@ -13,6 +13,7 @@ pub(crate) mod spans;
 
 use crate::wrap::spans::Spans;
 use ansi_safe::cells::paragraph_of;
+use ansi_split::split::PushNext;
 use std::alloc::{AllocError, Allocator, Global};
 use std::borrow::CowStr;
 use std::marker::Model;
@@ -121,6 +122,24 @@ impl<'t, A: Allocator + Copy> Iterator for AnsiWrap<'t, A> {
         match &self.text {
             CowStr::Borrowed(text) => given_line(self.alloc, *text, &mut self.spans),
             CowStr::Owned(text) => cleaned_line(self.alloc, text.as_str(), &mut self.spans),
+        }
+    }
+}
+
+impl<'t, A: Allocator + Copy> PushNext for AnsiWrap<'t, A> {
+    ghost left = { λ lines. lines };
+
+    fn push_next<B: Allocator>(&mut self, out: &mut String<B>) -> Option<Result<(), AllocError>> {
+        let line = match self.next()? {
+            Ok(line) => line,
+            Err(e) => return Some(Err(e)),
+        };
+        match out.push_str(line.as_str()) {
+            Ok(()) => Some(Ok(())),
+            Err(e) => {
+                self.finish();
+                Some(Err(e))
+            }
         }
     }
 }

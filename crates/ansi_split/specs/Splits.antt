@@ -1,5 +1,5 @@
 -- The parts of a text as a split returns them, and what it returns of those that it has left.
-use Rattle.std.specs.Prelude.{◌≡◌, ℕ, ◌+◌, ◌≤◌, List, [], ◌∷◌, length, map, unwrap_or, Option, Some, None, Result, Ok, Err, IsTrue, IsFalse, ◌↔◌}
+use Rattle.std.specs.Prelude.{◌≡◌, ℕ, ◌+◌, ◌≤◌, List, [], ◌∷◌, ◌++◌, length, map, unwrap_or, Option, Some, None, Result, Ok, Err, IsTrue, IsFalse, ◌↔◌}
 use Rattle.std.specs.List.{range_with_len}
 use Rattle.std.specs.Cow.{cow_str_bytes, IsBorrowedStr}
 use Rattle.std.specs.declared.borrow.CowStr.{CowStr}
@@ -29,3 +29,9 @@ GivesCarriedPart most_added old (Some (Err e)) new = (p : CarriedPart) × (ps : 
 -- so a split gives its parts, which have a start and a close beside their source
 abbrev pub GivesPart : {A E : Type 0} → List CarriedPart → Option (Result (CowStr A) E) → List CarriedPart → Type 0
 GivesPart old given new = GivesCarriedPart longest_start_and_close old given new
+
+-- One call appends the first of the parts left to the text `out`. Or it runs out of memory, and then no part is left. Or no part is left, and nothing is appended.
+abbrev pub PushesPart : {E : Type 0} → List CarriedPart → Option (Result Unit E) → List CarriedPart → List ℕ → List ℕ → Type 0
+PushesPart old None new out out_new = (old ≡ []) × (new ≡ []) × (out_new ≡ out)
+PushesPart old (Some (Ok _)) new out out_new = (p : CarriedPart) × (old ≡ p ∷ new) × (out_new ≡ out ++ p.bytes)
+PushesPart old (Some (Err e)) new out out_new = (p : CarriedPart) × (ps : List CarriedPart) × (old ≡ p ∷ ps) × (new ≡ [])

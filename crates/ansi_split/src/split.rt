@@ -6,7 +6,8 @@ ghost use Rattle.std.specs.Cow.{cow_str_bytes, IsBorrowedStr};
 ghost use Rattle.ansi_items.specs.Plain.{plain, has_escape};
 ghost use Rattle.ansi_split.specs.Parts.{parts, part, all_parts, source_len, is_part_borrowed};
 ghost use Rattle.ansi_style.specs.Written.{longest_start_and_close};
-ghost use Rattle.ansi_split.specs.Splits.{split_parts};
+ghost use Rattle.std.specs.Prelude.{List, string_bytes};
+ghost use Rattle.ansi_split.specs.Splits.{CarriedPart, PushesPart, split_parts};
 
 pub(crate) mod intervals;
 mod rest;
@@ -85,6 +86,43 @@ impl<'a, A: Allocator + Copy> Iterator for AnsiSplit<'a, A> {
         let span = self.spans.next()?;
         match span.write(self.alloc) {
             Ok(part) => Some(Ok(part)),
+            Err(e) => {
+                self.spans.finish();
+                Some(Err(e))
+            }
+        }
+    }
+}
+
+/// Texts that are made in turn, each of which can be appended to another text. (Own.)
+pub trait PushNext {
+    // The texts that are left.
+    ghost left: { Self → List CarriedPart };
+
+    /// Appends the next text to another one, and doesn't make a text of its own for it.
+    ///
+    /// `None` means that no text is left, and nothing is appended then. `Err` means out of memory;
+    /// what was appended before it stays, and no text is left.
+    ///
+    /// ```
+    /// let mut parts = split_in(rt.alloc(), "\x1b[1mlion,tiger", ",");
+    /// let mut out = String::new(rt.alloc());
+    /// assert!(rt; matches!(parts.push_next(&mut out), Some(Ok(()))));
+    /// assert!(rt; out.as_str() == "\x1b[1mlion\x1b[22m");
+    /// ```
+    fn push_next<A: Allocator>(&mut self, out: &mut String<A>) -> Option<Result<(), AllocError>>
+        ensures { PushesPart (left self.old) result (left self.new) (string_bytes out.old)
+            (string_bytes out.new) };
+}
+
+impl<'a, A: Allocator> PushNext for AnsiSplit<'a, A> {
+    ghost left = { λ parts. parts };
+
+    #[inline]
+    fn push_next<B: Allocator>(&mut self, out: &mut String<B>) -> Option<Result<(), AllocError>> {
+        let span = self.spans.next()?;
+        match span.push_to(out) {
+            Ok(()) => Some(Ok(())),
             Err(e) => {
                 self.spans.finish();
                 Some(Err(e))

@@ -12,6 +12,7 @@ use crate::shown::{Alignment, pad};
 use crate::views::View;
 use crate::widths;
 use crate::wrap::{AnsiWrap, wrap};
+use ansi_split::split::PushNext;
 use std::alloc::{AllocError, Allocator, Global};
 use std::borrow::CowStr;
 use std::marker::Model;
@@ -156,6 +157,24 @@ impl<'t, 'a, A: Allocator + Copy> Iterator for AnsiWrapWith<'t, 'a, A> {
         self.next_indent = self.indent;
         match after_indent(self.alloc, indent, line) {
             Ok(line) => Some(Ok(line)),
+            Err(e) => {
+                self.lines.finish();
+                Some(Err(e))
+            }
+        }
+    }
+}
+
+impl<'t, 'a, A: Allocator + Copy> PushNext for AnsiWrapWith<'t, 'a, A> {
+    ghost left = { λ lines. lines };
+
+    fn push_next<B: Allocator>(&mut self, out: &mut String<B>) -> Option<Result<(), AllocError>> {
+        let line = match self.next()? {
+            Ok(line) => line,
+            Err(e) => return Some(Err(e)),
+        };
+        match out.push_str(line.as_str()) {
+            Ok(()) => Some(Ok(())),
             Err(e) => {
                 self.lines.finish();
                 Some(Err(e))

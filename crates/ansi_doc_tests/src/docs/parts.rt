@@ -1,7 +1,7 @@
 //! The examples of the docs of splits, in the same words.
 use ansi_str::AnsiStr;
 use ansi_str::search::part_interval;
-use ansi_str::split::{part_in, split_in};
+use ansi_str::split::{PushNext, part_in, split_in};
 use std::test::Fail;
 
 #[test]
@@ -20,6 +20,14 @@ fn ansi_split_example(rt: HostRuntime) -> Result<(), Fail> {
 fn split_in_example(rt: HostRuntime) {
     let first = split_in(rt.alloc(), "\x1b[1mlion,tiger", ",").next();
     assert!(rt; matches!(&first, Some(Ok(part)) if part.as_str() == "\x1b[1mlion\x1b[22m"));
+}
+
+#[test]
+fn push_next_example(rt: HostRuntime) {
+    let mut parts = split_in(rt.alloc(), "\x1b[1mlion,tiger", ",");
+    let mut out = String::new(rt.alloc());
+    assert!(rt; matches!(parts.push_next(&mut out), Some(Ok(()))));
+    assert!(rt; out.as_str() == "\x1b[1mlion\x1b[22m");
 }
 
 #[test]

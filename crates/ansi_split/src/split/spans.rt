@@ -78,9 +78,18 @@ impl<'t> PartSpan<'t> {
         None
     }
 
-    /// The part, written: the start of the style that is carried, the text with its sequences, and
-    /// the close of the style then, if that has anything to end. It is called by reference, so that
-    /// a part that is borrowed copies no style.
+    /// Appends the part. `Err` means out of memory; what was appended before it stays.
+    pub(crate) fn push_to<A: Allocator>(&self, out: &mut String<A>) -> Result<(), AllocError>
+        ensures { OnOk result (string_bytes out.new ≡ string_bytes out.old ++ self.now.bytes) }
+    {
+        match self.bare() {
+            Some(bare) => out.push_str(bare),
+            None => self.push_styled(out),
+        }
+    }
+
+    /// The part, written. It is called by reference, so that a part that is borrowed copies no
+    /// style.
     #[inline(never)]
     fn written<A: Allocator>(&self, alloc: A) -> Result<String<A>, AllocError>
         requires { IsFalse self.now.borrowed }
@@ -88,12 +97,23 @@ impl<'t> PartSpan<'t> {
     {
         let len = self.text.len().saturating_sub(self.skip);
         let mut part = styles::with_room(alloc, &self.carried, len, &self.after)?;
-        styles::write_start(&self.carried, &mut part)?;
-        write_text(self.text, self.is_marked, self.skip, &mut part)?;
-        if styles::has_any(&self.after) {
-            styles::write_close(&self.after, &mut part)?;
-        }
+        self.push_styled(&mut part)?;
         Ok(part)
+    }
+
+    /// Appends a part that isn't a borrow: the start of the style that is carried, the text with
+    /// its sequences, and the close of the style then, if that has anything to end. `Err` means out
+    /// of memory; what was appended before it stays.
+    fn push_styled<A: Allocator>(&self, out: &mut String<A>) -> Result<(), AllocError>
+        requires { IsFalse self.now.borrowed }
+        ensures { OnOk result (string_bytes out.new ≡ string_bytes out.old ++ self.now.bytes) }
+    {
+        styles::write_start(&self.carried, out)?;
+        write_text(self.text, self.is_marked, self.skip, out)?;
+        if styles::has_any(&self.after) {
+            styles::write_close(&self.after, out)?;
+        }
+        Ok(())
     }
 }
 

@@ -1,10 +1,8 @@
-use Rattle.std.proofs.Common.{◌+◌, List, ℕ, true, map, ap, refl, subst}
-use Rattle.ansi_safe.specs.Links.{longest_link_end}
-use Rattle.ansi_style.specs.Written.{longest_start_and_close}
+use Rattle.std.proofs.Common.{List, ℕ, true, map, ap, refl, subst}
 use Rattle.ansi_columns.specs.Wrapped.{CarriedPart}
 use Rattle.ansi_calls.specs.Lists.{ends_from, GivesAll}
 use Rattle.ansi_calls.specs.Columns.{GivesIndented}
-use Rattle.ansi_calls.proofs.GivenLemmas.{joined_texts, gives-texts}
+use Rattle.ansi_calls.proofs.GivenLemmas.{joined_texts, gives-all}
 use Rattle.ansi_calls.proofs.lines.write_indented.Goals as goal
 
 pub returns : goal.returns
@@ -12,4 +10,4 @@ unfolding GivesIndented
 returns g c =
     subst (λ (ts : List (List ℕ)). GivesAll true (joined_texts ts) (ends_from 0 ts) c.write_texts.result c.args.buffer.now c.write_texts.new.buffer c.args.ends.now c.write_texts.new.ends)
     (ap (map (λ (l : CarriedPart). l.bytes)) c.wrap_with.ensures.lines)
-    (gives-texts (longest_start_and_close + longest_link_end) true c.wrap_with.result _ _ _ _ _ refl c.write_texts.ensures)
+    (gives-all true _ _ _ _ _ _ refl c.write_texts.ensures)

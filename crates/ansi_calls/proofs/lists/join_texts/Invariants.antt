@@ -1,14 +1,15 @@
-use Rattle.std.proofs.Common.{◌≡◌, map, string_bytes, All, IsOk}
-use Rattle.ansi_calls.specs.Lists.{given_bytes, ends_from}
+use Rattle.std.proofs.Common.{◌≡◌, ◌++◌, length, map, string_bytes}
+use Rattle.ansi_split.specs.Splits.{CarriedPart}
+use Rattle.ansi_calls.specs.Lists.{ends_from}
 use Rattle.ansi_calls.proofs.GivenLemmas.{joined_texts}
 use Rattle.ansi_calls.proofs.lists.join_texts.Given as goal
 
--- the texts so far are joined
-abbrev pub invariant-loop-text : goal.invariant-loop-text
-invariant-loop-text g l = record {
-  can : (goal.iterator-loop-text g).can_next l.text-iterator;
-  finite : (goal.iterator-loop-text g).is_finite l.text-iterator;
-  each : All IsOk l.yielded;
-  texts : string_bytes l.texts ≡ joined_texts (map given_bytes l.yielded);
-  ends : l.ends.items ≡ ends_from 0 (map given_bytes l.yielded);
+-- the texts so far and those that are left are all, and so are their ends
+abbrev pub invariant-texts : goal.invariant-texts
+invariant-texts g l = record {
+  texts : string_bytes l.texts ++ joined_texts (map (λ (p : CarriedPart). p.bytes) (g.P.PushNext.left l.left)) ≡ joined_texts (map (λ (p : CarriedPart). p.bytes) (g.P.PushNext.left l.fn.given));
+  ends : l.ends.items ++ ends_from (length (string_bytes l.texts)) (map (λ (p : CarriedPart). p.bytes) (g.P.PushNext.left l.left)) ≡ ends_from 0 (map (λ (p : CarriedPart). p.bytes) (g.P.PushNext.left l.fn.given));
 }
+
+abbrev pub decreases-texts : goal.decreases-texts
+decreases-texts g l = length (g.P.PushNext.left l.left)
