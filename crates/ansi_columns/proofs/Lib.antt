@@ -55,3 +55,4 @@ pub mod FittedLawLemmas
 pub mod SidesLawLemmas
 pub mod IndentLawLemmas
 pub mod PlainCellLemmas
+pub mod PrintableTextLemmas

@@ -2,7 +2,7 @@ use Rattle.std.proofs.Common.{◌^◌, ◌<◌, length, refl, sym, subst, arith,
 use Rattle.ansi_items.proofs.PlainLemmas.{length-plain}
 use Rattle.ansi_columns.proofs.ColumnLemmas.{IsCountedTo, counted-begin, counted-next, counted-end}
 use Rattle.ansi_columns.proofs.PrintableLemmas.{counted-past}
-use Rattle.ansi_columns.proofs.widths.width.Goals as goal
+use Rattle.ansi_columns.proofs.widths.walked_width.Goals as goal
 
 pub clusters-init : goal.clusters-init
 clusters-init c =
