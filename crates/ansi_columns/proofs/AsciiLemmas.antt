@@ -1,5 +1,5 @@
 -- Printable ASCII in the tables of the rules on clusters, and its columns.
-use Rattle.std.proofs.Common.{◌≡◌, ◌≢◌, ℕ, ◌+◌, ◌<◌, Bool, true, false, not, ◌||◌, ◌==◌, List, [], ◌∷◌, length, unwrap_or, IsTrue, eqb-true, refl, sym, ap, ◌∙◌, arith}
+use Rattle.std.proofs.Common.{◌≡◌, ℕ, ◌+◌, ◌<◌, Bool, true, false, not, ◌||◌, ◌==◌, List, [], ◌∷◌, length, unwrap_or, IsTrue, eqb-true, refl, sym, ap, ◌∙◌, arith}
 use Rattle.std.specs.Int.{is_in_range}
 use Rattle.std.specs.List.{All, list_all}
 use Rattle.std.proofs.lemmas.Bool.{and_parts}
@@ -29,7 +29,7 @@ use Rattle.ansi_columns.specs.declared.break_state.BreakState.{BreakState}
 use Rattle.ansi_columns.proofs.ClusterLemmas.{cluster-begins, cluster-ends, cluster-last, clusters-none}
 use Rattle.ucd_breaks.specs.declared.GraphemeClusterBreak.{GraphemeClusterBreak}
 use Rattle.ansi_columns.proofs.BreakLemmas.{joins, is_grapheme_break-decided}
-use Rattle.ansi_columns.proofs.UnnamedLemmas.{break_state-unnamed, ends-unnamed}
+use Rattle.ansi_columns.proofs.UnnamedLemmas.{break_state-unnamed, breaks-unnamed}
 
 abbrev pub is_printable : ℕ → Bool
 is_printable = is_in_range 0x20 0x7E
@@ -68,20 +68,13 @@ IsUnnamed-printable c printable = record {
 pub break_state-printable : (c : ℕ) (before : List ℕ) → is_printable c ≡ true → break_state_of [] ≡ break_state_of (c ∷ before)
 break_state-printable c before printable = break_state-unnamed c before (IsUnnamed-printable c printable)
 
--- before it, the value of the character there decides alone
-pub ends-printable : (s : BreakState) (before : List ℕ) (next : ℕ) (after : List ℕ) → before ≢ [] → s ≡ break_state_of before → is_printable next ≡ true
-    → unwrap_or (break_by_pair true s.last Other) true ≡ is_grapheme_break true before (next ∷ after)
-ends-printable s before next after some is printable = ends-unnamed s before next after some is (IsUnnamed-printable next printable)
-
 -- ---- a text of printable ASCII
 
 pub width-single : (c : ℕ) → is_printable c ≡ true → cluster_width (c ∷ []) ≡ 1
 width-single c printable = str_width-printable false (c ∷ []) (rw printable refl)
 
 pub breaks-between : (before : List ℕ) (c d : ℕ) (cs : List ℕ) → is_printable c ≡ true → is_printable d ≡ true → is_grapheme_break true (c ∷ before) (d ∷ cs) ≡ true
-breaks-between before c d cs first second =
-    sym (ends-printable (break_state_of (c ∷ before)) (c ∷ before) d cs (λ none. cc) refl second)
-    ∙ ap (λ v. unwrap_or (break_by_pair true v Other) true) (sym (grapheme_cluster_break-printable c first))
+breaks-between before c d cs first second = breaks-unnamed before c d cs (IsUnnamed-printable c first) (IsUnnamed-printable d second)
 
 values_break : (d : ℕ) → d < 0x80 → unwrap_or (break_by_pair true Other (grapheme_cluster_break d)) true ≡ true
 unfolding ucd_breaks

@@ -15,6 +15,7 @@ pub mod FitLemmas
 pub mod ShownLemmas
 pub mod KeptLemmas
 pub mod ClusterWalkLemmas
+pub mod OrdinaryLemmas
 pub mod PrintableLemmas
 pub mod AddressLemmas
 pub mod KindLemmas

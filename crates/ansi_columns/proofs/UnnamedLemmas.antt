@@ -57,6 +57,12 @@ ends-unnamed s before next after some is unnamed =
     ap (λ b. unwrap_or (break_by_pair true s.last Other) (not b)) (sym joins_none)
     ∙ is_grapheme_break-decided s before next after some is Other (sym unnamed.break) (break_by_pair true s.last Other) refl
 
+-- a cluster ends between two of them
+pub breaks-unnamed : (before : List ℕ) (c d : ℕ) (cs : List ℕ) → IsUnnamed c → IsUnnamed d → is_grapheme_break true (c ∷ before) (d ∷ cs) ≡ true
+breaks-unnamed before c d cs first second =
+    sym (ends-unnamed (break_state_of (c ∷ before)) (c ∷ before) d cs (λ none. cc) refl second)
+    ∙ ap (λ v. unwrap_or (break_by_pair true v Other) true) first.break
+
 -- the ranges of `is_ordinary`
 abbrev pub ordinary_ranges : List Range
 ordinary_ranges =

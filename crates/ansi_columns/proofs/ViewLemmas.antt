@@ -1,5 +1,5 @@
 -- What is seen of characters, and of a text between two of its positions.
-use Rattle.std.proofs.Common.{◌≡◌, ℕ, ◌+◌, ◌-◌, ◌*◌, ◌<◌, ◌≤◌, Bool, true, false, ◌==◌, ◌||◌, List, [], ◌∷◌, ◌++◌, length, take, drop, reverse, flat_map, slice_index, slice_range, encode_utf8, encode_utf8_all, if◌then◌else◌, refl, sym, ◌∙◌, ap, ap₂, arith, append-nil, length-append, take-add}
+use Rattle.std.proofs.Common.{◌≡◌, ℕ, ◌+◌, ◌-◌, ◌<◌, ◌≤◌, Bool, true, false, ◌==◌, ◌||◌, List, [], ◌∷◌, ◌++◌, length, take, drop, reverse, flat_map, slice_index, slice_range, encode_utf8, encode_utf8_all, if◌then◌else◌, refl, sym, ◌∙◌, ap, ap₂, arith, append-nil, length-append, take-add}
 use Rattle.std.specs.List.{list_all}
 use Rattle.std.specs.Str.{chars, IsUtf8, IsCharBoundary}
 use Rattle.std.proofs.lemmas.Bool.{and_parts}
@@ -12,7 +12,7 @@ use Rattle.unicode_segmentation.proofs.TextLemmas.{slice_range_split}
 use Rattle.ansi_items.specs.Plain.{plain}
 use Rattle.ansi_items.proofs.Utf8Lemmas.{IsUtf8-plain}
 use Rattle.ansi_search.proofs.SliceLemmas.{length-slice_range}
-use Rattle.ansi_safe.specs.Cells.{cell, cell_char}
+use Rattle.ansi_safe.specs.Cells.{cell_char}
 use Rattle.ansi_safe.specs.Safe.{is_printing, is_printable_byte}
 use Rattle.ansi_safe.proofs.CellLemmas.{plain-cell, cell_chars-allowed}
 use Rattle.ansi_columns.specs.declared.views.View.{View}
@@ -78,6 +78,11 @@ seen-bytes Shown (c ∷ cs) =
       seen-bytes Shown cs,
     )
 
+-- a character that prints is seen as it is
+pub seen-printing : (view : View) (c : ℕ) → is_printing c ≡ true → seen_char view c ≡ c ∷ []
+seen-printing Given c printing = refl
+seen-printing Shown c printing = ap (λ p. if p then c ∷ [] else if c == 9 || c == 10 then 32 ∷ [] else []) printing
+
 -- ---- ASCII
 
 printable-prints : (c : ℕ) → is_printable_byte c ≡ true → is_printing c ≡ true
@@ -85,8 +90,7 @@ printable-prints c printable = grind (arith, nat_tests)
 
 -- printable ASCII is seen as it is
 pub seen-printable : (view : View) (c : ℕ) → is_printable_byte c ≡ true → seen_char view c ≡ c ∷ []
-seen-printable Given c printable = refl
-seen-printable Shown c printable = ap (λ p. if p then c ∷ [] else if c == 9 || c == 10 then 32 ∷ [] else []) (printable-prints c printable)
+seen-printable view c printable = seen-printing view c (printable-prints c printable)
 
 pub seen-all_printable : (view : View) (cs : List ℕ) → list_all is_printable_byte cs ≡ true → seen view cs ≡ cs
 seen-all_printable Given cs all = refl

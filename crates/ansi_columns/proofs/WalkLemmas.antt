@@ -127,7 +127,7 @@ module _ (t : List ℕ) (utf8 : IsUtf8 t) (w : Walk) {view : View} (walk : IsWal
         ∙ offset_of-run (encode_utf8 c) (drop past t) (λ e. (let some = encode_utf8_nonempty c in absurd (omega (arith, some, ap length e)))) both_plain.0 in
         omega (arith, offset_of-add t w.position k, walk.offset, here)
 
-    rest_at : slice_range t past w.run_end ≡ rest
+    pub rest_at : slice_range t past w.run_end ≡ rest
     rest_at =
         let split = slice_range_split t w.offset past w.run_end (omega arith) (omega (arith, size)) ∙ ap (λ u. u ++ slice_range t past w.run_end) char_here.bytes in
         sym (drop_at (encode_utf8 c) (slice_range t past w.run_end) k refl) ∙ ap (drop k) (sym split ∙ next.bytes) ∙ drop_at (encode_utf8 c) rest k refl

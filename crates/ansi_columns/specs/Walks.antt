@@ -1,5 +1,5 @@
 -- The state of a walk over the characters of a plain text. No public contract cites it.
-use Rattle.std.specs.Prelude.{◌≡◌, ℕ, ◌+◌, ◌<◌, ◌≤◌, ◌==◌, ◌||◌, Bool, true, List, [], ◌∷◌, ◌++◌, length, take, drop, reverse, slice_index, slice_range, encode_utf8, chars, IsTrue}
+use Rattle.std.specs.Prelude.{◌≡◌, ℕ, ◌+◌, ◌*◌, ◌-◌, ◌<◌, ◌≤◌, ◌==◌, ◌||◌, Bool, true, List, [], ◌∷◌, ◌++◌, length, take, drop, reverse, slice_index, slice_range, encode_utf8, chars, IsTrue}
 use Rattle.std.specs.List.{list_all}
 use Rattle.std.specs.Str.{byte, IsCharBoundary}
 use Rattle.ansi_items.specs.Bytes.{is_plain_byte}
@@ -12,7 +12,7 @@ use Rattle.ansi_columns.specs.declared.walks.Walk.{Walk}
 use Rattle.ansi_columns.specs.declared.views.View.{View}
 use Rattle.ansi_columns.specs.declared.views.View.TheVariants.{Given}
 use Rattle.ansi_columns.specs.BreakStates.{break_state_of}
-use Rattle.ansi_columns.specs.Columns.{FitsUpTo}
+use Rattle.ansi_columns.specs.Columns.{FitsUpTo, cluster_width}
 use Rattle.ansi_columns.specs.Views.{seen_char, seen, seen_text, seen_len}
 
 -- the characters of the plain text of t before the position n, the last one first
@@ -83,6 +83,15 @@ pub record IsSeenNext (view : View) (t : List ℕ) (walk : Walk) (c : ℕ) : Typ
   pub next : IsNext t walk given
   pub seen : seen_char view given ≡ c ∷ []
   pub size : length (encode_utf8 given) ≡ length (encode_utf8 c)
+
+-- `later` is the walk after the next cluster that is seen, which has `width` columns
+abbrev pub IsPastCluster : View → List ℕ → Walk → Walk → ℕ → Type 0
+IsPastCluster view t from later width =
+    IsWalkIn view t later
+    × (from.position < later.position)
+    × (seen_clusters view t from.position ≡ seen_cluster view t from.position later.position ∷ seen_clusters view t later.position)
+    × (width ≡ cluster_width (seen_cluster view t from.position later.position))
+    × (width ≤ 2 * (later.position - from.position))
 
 -- a byte of ASCII of which something is seen in any view: a printable one, TAB or LF
 abbrev pub is_seen_ascii : ℕ → Bool

@@ -6,6 +6,7 @@ ghost use Rattle.unicode_segmentation.specs.Grapheme.{is_zwj, is_regional, is_co
 ghost use Rattle.ucd_derived.specs.IndicConjunctBreak.{indic_conjunct_break};
 ghost use Rattle.ucd_breaks.specs.GraphemeClusterBreak.{grapheme_cluster_break};
 ghost use Rattle.ucd_emoji.specs.Binary.{is_extended_pictographic};
+ghost use Rattle.ansi_safe.specs.Safe.{is_printing};
 ghost use Rattle.ansi_columns.specs.BreakStates.{break_state_of, is_other, links, IsUnnamed};
 
 use ucd_breaks::GraphemeClusterBreak;
@@ -91,10 +92,11 @@ impl BreakState {
 }
 
 /// Whether the character is in a few common ranges: printable ASCII, Latin, Greek, Cyrillic, Chinese
-/// and Japanese. No rule on clusters names a character of them.
+/// and Japanese. No rule on clusters names a character of them, and each is shown as it is.
 #[inline(always)]
-fn is_ordinary(c: char) -> bool
-    ensures { IsTrue result → IsUnnamed c }
+pub(crate) fn is_ordinary(c: char) -> bool
+    ensures unnamed { IsTrue result → IsUnnamed c }
+    ensures printing { IsTrue result → IsTrue (is_printing c) }
 {
     match c {
         '\0'..='\u{1F}' => false,

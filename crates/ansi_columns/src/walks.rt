@@ -9,10 +9,10 @@ ghost use Rattle.ansi_columns.specs.BreakStates.{break_state_of};
 ghost use Rattle.ansi_columns.specs.Columns.{cluster_width};
 ghost use Rattle.ansi_columns.specs.Views.{seen_len};
 ghost use Rattle.ansi_columns.specs.Walks.{before, after, seen_before, seen_after, seen_cluster};
-ghost use Rattle.ansi_columns.specs.Walks.{seen_clusters, IsRun, IsWalkIn, IsWalk, IsAnyWalk, IsNext};
+ghost use Rattle.ansi_columns.specs.Walks.{IsRun, IsWalkIn, IsWalk, IsAnyWalk, IsNext, IsPastCluster};
 ghost use Rattle.ansi_columns.specs.Walks.{IsSeenNext, IsPrintable, IsPrintableFront, AreClustersIn, IsPastAscii, is_seen_ascii};
 
-use crate::break_state::BreakState;
+use crate::break_state::{BreakState, is_ordinary};
 use crate::from_end;
 use crate::views::View;
 use ansi_items::ansitok::{Kind, Scanner};
@@ -52,14 +52,11 @@ impl Walk {
     pub(crate) fn next_cluster(self, text: &str, view: View) -> Option<(Walk, usize)>
         requires { IsWalkIn view text.now self }
         ensures { MatchOption result (seen_after view text.now self.position ≡ []) (λ (walk, width).
-            IsWalkIn view text.now walk
-            × (self.position < walk.position)
-            × (seen_clusters view text.now self.position
-            ≡ seen_cluster view text.now self.position walk.position
-            ∷ seen_clusters view text.now walk.position)
-            × (width ≡ cluster_width (seen_cluster view text.now self.position walk.position))
-            × (width ≤ 2 * (walk.position - self.position))) }
+            IsPastCluster view text.now self walk width) }
     {
+        if let Some(past) = self.past_ordinary(text) {
+            return Some(past);
+        }
         let (start, first) = self.next_seen(text, view);
         let first = first?;
         let mut walk = start.past(text, first);
@@ -75,6 +72,33 @@ impl Walk {
             self.width_up_to(text, &walk, view)
         };
         Some((walk, width))
+    }
+
+    /// The walk after the next character and the columns of that character, if it and the one after
+    /// it in the run are ordinary. Then it is a cluster by itself.
+    #[inline(always)]
+    fn past_ordinary(self, text: &str) -> Option<(Walk, usize)>
+        requires { IsAnyWalk text.now self }
+        ensures { IfSome result (λ (walk, width). (view : View) → IsWalkIn view text.now self →
+            IsPastCluster view text.now self walk width) }
+    {
+        let mut chars = text[self.offset..self.run_end].chars();
+        let first = chars.next()?;
+        if !is_ordinary(first) {
+            return None;
+        }
+        let second = chars.next()?;
+        if !is_ordinary(second) {
+            return None;
+        }
+        let len = first.len_utf8();
+        let walk = Walk {
+            position: self.position + len,
+            offset: self.offset + len,
+            run_end: self.run_end,
+            break_state: BreakState::start(),
+        };
+        Some((walk, char_width(first)))
     }
 
     /// The walk before the next character that is seen, and as what it is seen. At the end of the

@@ -4,42 +4,42 @@ use Rattle.ucd_table.specs.Rows.{in_ranges}
 use Rattle.ansi_columns.proofs.UnnamedLemmas.{IsUnnamed-ordinary}
 use Rattle.ansi_columns.proofs.break_state.is_ordinary.Goals as goal
 
-pub returns-in-32-to-126 : goal.returns-in-32-to-126
+pub returns-in-32-to-126-clause-unnamed : goal.returns-in-32-to-126-clause-unnamed
 unfolding in_ranges
-returns-in-32-to-126 c _ = IsUnnamed-ordinary c.args.c (grind (arith, nat_tests))
+returns-in-32-to-126-clause-unnamed c _ = IsUnnamed-ordinary c.args.c (grind (arith, nat_tests))
 
-pub returns-in-32-to-126-2 : goal.returns-in-32-to-126-2
+pub returns-in-32-to-126-2-clause-unnamed : goal.returns-in-32-to-126-2-clause-unnamed
 unfolding in_ranges
-returns-in-32-to-126-2 c _ = IsUnnamed-ordinary c.args.c (grind (arith, nat_tests))
+returns-in-32-to-126-2-clause-unnamed c _ = IsUnnamed-ordinary c.args.c (grind (arith, nat_tests))
 
-pub returns-in-32-to-126-3 : goal.returns-in-32-to-126-3
+pub returns-in-32-to-126-3-clause-unnamed : goal.returns-in-32-to-126-3-clause-unnamed
 unfolding in_ranges
-returns-in-32-to-126-3 c _ = IsUnnamed-ordinary c.args.c (grind (arith, nat_tests))
+returns-in-32-to-126-3-clause-unnamed c _ = IsUnnamed-ordinary c.args.c (grind (arith, nat_tests))
 
-pub returns-in-8208-to-8231 : goal.returns-in-8208-to-8231
+pub returns-in-8208-to-8231-clause-unnamed : goal.returns-in-8208-to-8231-clause-unnamed
 unfolding in_ranges
-returns-in-8208-to-8231 c _ = IsUnnamed-ordinary c.args.c (grind (arith, nat_tests))
+returns-in-8208-to-8231-clause-unnamed c _ = IsUnnamed-ordinary c.args.c (grind (arith, nat_tests))
 
-pub returns-in-8208-to-8231-2 : goal.returns-in-8208-to-8231-2
+pub returns-in-8208-to-8231-2-clause-unnamed : goal.returns-in-8208-to-8231-2-clause-unnamed
 unfolding in_ranges
-returns-in-8208-to-8231-2 c _ = IsUnnamed-ordinary c.args.c (grind (arith, nat_tests))
+returns-in-8208-to-8231-2-clause-unnamed c _ = IsUnnamed-ordinary c.args.c (grind (arith, nat_tests))
 
-pub returns-in-12289-to-12329 : goal.returns-in-12289-to-12329
+pub returns-in-12289-to-12329-clause-unnamed : goal.returns-in-12289-to-12329-clause-unnamed
 unfolding in_ranges
-returns-in-12289-to-12329 c _ = IsUnnamed-ordinary c.args.c (grind (arith, nat_tests))
+returns-in-12289-to-12329-clause-unnamed c _ = IsUnnamed-ordinary c.args.c (grind (arith, nat_tests))
 
-pub returns-in-12289-to-12329-2 : goal.returns-in-12289-to-12329-2
+pub returns-in-12289-to-12329-2-clause-unnamed : goal.returns-in-12289-to-12329-2-clause-unnamed
 unfolding in_ranges
-returns-in-12289-to-12329-2 c _ = IsUnnamed-ordinary c.args.c (grind (arith, nat_tests))
+returns-in-12289-to-12329-2-clause-unnamed c _ = IsUnnamed-ordinary c.args.c (grind (arith, nat_tests))
 
-pub returns-in-12289-to-12329-3 : goal.returns-in-12289-to-12329-3
+pub returns-in-12289-to-12329-3-clause-unnamed : goal.returns-in-12289-to-12329-3-clause-unnamed
 unfolding in_ranges
-returns-in-12289-to-12329-3 c _ = IsUnnamed-ordinary c.args.c (grind (arith, nat_tests))
+returns-in-12289-to-12329-3-clause-unnamed c _ = IsUnnamed-ordinary c.args.c (grind (arith, nat_tests))
 
-pub returns-in-13312-to-40959 : goal.returns-in-13312-to-40959
+pub returns-in-13312-to-40959-clause-unnamed : goal.returns-in-13312-to-40959-clause-unnamed
 unfolding in_ranges
-returns-in-13312-to-40959 c _ = IsUnnamed-ordinary c.args.c (grind (arith, nat_tests))
+returns-in-13312-to-40959-clause-unnamed c _ = IsUnnamed-ordinary c.args.c (grind (arith, nat_tests))
 
-pub returns-in-13312-to-40959-2 : goal.returns-in-13312-to-40959-2
+pub returns-in-13312-to-40959-2-clause-unnamed : goal.returns-in-13312-to-40959-2-clause-unnamed
 unfolding in_ranges
-returns-in-13312-to-40959-2 c _ = IsUnnamed-ordinary c.args.c (grind (arith, nat_tests))
+returns-in-13312-to-40959-2-clause-unnamed c _ = IsUnnamed-ordinary c.args.c (grind (arith, nat_tests))

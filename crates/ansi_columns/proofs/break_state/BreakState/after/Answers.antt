@@ -8,7 +8,7 @@ use Rattle.ansi_columns.proofs.break_state.BreakState.after.Goals.{then-is_picto
 use Rattle.ansi_columns.proofs.break_state.BreakState.after.Goals as goal
 
 pub returns-then-is_ordinary : goal.returns-then-is_ordinary
-returns-then-is_ordinary c before is = c.start.ensures ∙ break_state-unnamed c.args.c before (c.is_ordinary.ensures c.if-is_ordinary.true)
+returns-then-is_ordinary c before is = c.start.ensures ∙ break_state-unnamed c.args.c before (c.is_ordinary.ensures.unnamed c.if-is_ordinary.true)
 
 pub returns-then-c-eq10 : goal.returns-then-c-eq10
 returns-then-c-eq10 c before is = break_state-line_feed before ∙ ap (λ d. break_state_of (d ∷ before)) (sym c.if-c-eq10.true)

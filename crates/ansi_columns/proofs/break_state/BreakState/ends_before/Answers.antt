@@ -10,7 +10,7 @@ use Rattle.ansi_columns.proofs.break_state.BreakState.ends_before.Goals as goal
 pub returns-then-is_ordinary : goal.returns-then-is_ordinary
 returns-then-is_ordinary c before after some is =
     c.unwrap_or.ensures ∙ ap (λ o. unwrap_or o true) c.break_by_pair.ensures
-    ∙ ends-unnamed c.args.self before c.args.next after some is (c.is_ordinary.ensures c.if-is_ordinary.true)
+    ∙ ends-unnamed c.args.self before c.args.next after some is (c.is_ordinary.ensures.unnamed c.if-is_ordinary.true)
 
 pub returns-in-Some : goal.returns-in-Some
 returns-in-Some c before after some is =
