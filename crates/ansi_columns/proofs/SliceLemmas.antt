@@ -370,9 +370,10 @@ length-link_of t = omega (arith, ap length (link_of-pieces (pieces_of t)), lengt
 link-within : (t : List ℕ) (from to : ℕ) → length (link_of (marks (take from t))) + length (slice_range t from to) ≤ length t
 link-within t from to = omega (arith, length-link_of (take from t), length-take from t, length-take (to - from) (drop from t), length-drop from t)
 
-length-parts : (parts : Parts) (t : List ℕ) {n : ℕ} → length parts.opened.link.now + length parts.text.now ≤ length t → parts.before + parts.after ≡ n
-    → length (joined_parts parts) ≤ length t + n + longest_start_and_close + longest_link_end
-length-parts parts t within count =
+-- the parts have no more bytes than each of them together, and all of the text's
+pub length-joined : (parts : Parts)
+    → length (joined_parts parts) ≤ length (start (rendition_of parts.opened.style)) + length parts.opened.link.now + parts.before + length parts.text.now + parts.after + length (link_end parts.closed.link.now ++ close (rendition_of parts.closed.style))
+length-joined parts =
     let style = rendition_of parts.opened.style in
     let link = parts.opened.link.now in
     let text = parts.text.now in
@@ -380,8 +381,6 @@ length-parts parts t within count =
     let closing = link_end parts.closed.link.now ++ close (rendition_of parts.closed.style) in
     omega (
       arith,
-      within,
-      count,
       length-append (parts_opening parts ++ shown) (parts_closing parts),
       length-append (parts_opening parts) shown,
       length-append (start style ++ link) (blanks parts.before),
@@ -390,7 +389,17 @@ length-parts parts t within count =
       length-replicate parts.before (byte " "),
       length-replicate parts.after (byte " "),
       length-kept text parts.hidden (length (plain text)),
-      length-start style (IsStyle-rendition_of parts.opened.style),
+    )
+
+length-parts : (parts : Parts) (t : List ℕ) {n : ℕ} → length parts.opened.link.now + length parts.text.now ≤ length t → parts.before + parts.after ≡ n
+    → length (joined_parts parts) ≤ length t + n + longest_start_and_close + longest_link_end
+length-parts parts t within count =
+    omega (
+      arith,
+      within,
+      count,
+      length-joined parts,
+      length-start (rendition_of parts.opened.style) (IsStyle-rendition_of parts.opened.style),
       length-closing parts.closed.link.now (rendition_of parts.closed.style),
     )
 
