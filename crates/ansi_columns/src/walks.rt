@@ -134,6 +134,9 @@ impl Walk {
         ensures most { result.1 ≤ most }
         ensures none { result.1 ≡ 0 → result.0 ≡ self }
     {
+        if !matches!(text.as_bytes().get(self.offset), Some(0x20..=0x7E)) {
+            return (self, 0);
+        }
         let len = self.printable_front(text, most);
         if 0 < len && len == self.run_end - self.offset {
             if let Some(walk) = self.past_run(text) {
