@@ -1,4 +1,4 @@
--- Texts of cells that are printable ASCII and SGRs alone: what one pass over the pieces finds, and the text truncated.
+-- Texts of cells that are printable ASCII and SGRs alone: what one pass over the pieces finds, and the text truncated and padded.
 use Rattle.std.proofs.Common.{◌≡◌, ℕ, suc, if◌then◌else◌, ◌+◌, ◌==◌, Bool, true, false, not, ◌&&◌, ◌||◌, List, [], ◌∷◌, ◌++◌, length, take, slice_range, chars, nat_le, nat_eq, IsTrue, refl, sym, ◌∙◌, ap, ap₂, subst, arith, append-nil, append_assoc, length-append}
 use Rattle.std.specs.List.{list_all, prefix_len}
 use Rattle.std.specs.Str.{IsUtf8}
@@ -31,13 +31,14 @@ use Rattle.ansi_safe.proofs.AllowedLemmas.{stand_after_ordinary}
 use Rattle.ansi_safe.proofs.CellTextLemmas.{cell-stays, whole-cell}
 use Rattle.ansi_safe.proofs.LinkLemmas.{IsOpenSoFar, open-begin, open-sgr, open-end, link_after_all-none}
 use Rattle.ansi_columns.specs.Columns.{clusters, columns, columns_of, bytes_of, FitsUpTo}
-use Rattle.ansi_columns.specs.Shown.{fitting_end, has_tail, truncated_end, truncated_width, KeptStays}
+use Rattle.ansi_columns.specs.declared.shown.Alignment.{Alignment}
+use Rattle.ansi_columns.specs.Shown.{fitting_end, has_tail, truncated_end, truncated_width, missing, between_blanks, closing, padded, KeptStays}
 use Rattle.ansi_columns.proofs.AsciiLemmas.{is_printable, All-printable_is_ascii, columns-printable}
 use Rattle.ansi_columns.proofs.FitLemmas.{fitting_end-fits}
 use Rattle.ansi_columns.proofs.KeptLemmas.{kept-stays}
 use Rattle.ansi_columns.proofs.MissingLemmas.{IsLack, lack-of}
 use Rattle.ansi_columns.proofs.ShownLawLemmas.{bytes_of-clusters}
-use Rattle.ansi_columns.proofs.ShownLemmas.{IsCutTo, IsCutTo-front, width-fits}
+use Rattle.ansi_columns.proofs.ShownLemmas.{IsCutTo, IsCutTo-front, width-fits, ending-closing, padded-between}
 use Rattle.ansi_columns.proofs.SliceLemmas.{offset_of-end}
 
 -- ---- the pieces
@@ -210,6 +211,24 @@ plain-uncut {t} {width} {left} {style} tail utf8 stays sum style_is link_is =
       cut = subst (λ u. IsCutTo u width tail t ([] ++ close style) []) (sym stays) (all-cut t utf8 width tail left sum style_is link_is);
       lack = subst (λ u. IsLack u width tail left) (sym stays) (all-lack t utf8 width tail left sum whole);
       kept = kept-stays t width tail utf8 stays;
+    }
+
+-- ---- the text padded
+
+-- Padded, it is the text, what closes its style, and as many blanks as it leaves columns.
+pub record IsPadded (t : List ℕ) (width left : ℕ) (close : List ℕ) : Type 0 where
+  pub lack : left ≡ missing (cell t) width
+  pub closes : close ++ [] ≡ closing (cell t)
+  pub bytes : (alignment : Alignment) → between_blanks left alignment ((t ++ close) ++ []) ≡ padded (cell t) width alignment
+
+pub plain-padded : {t : List ℕ} {width left : ℕ} {style : Rendition} → cell t ≡ t → columns (plain t) + left ≡ width → style ≡ style_after t → link_of (marks t) ≡ [] → IsPadded t width left ([] ++ close style)
+plain-padded {t} {width} {left} {style} stays sum style_is link_is =
+    let lack : left ≡ missing (cell t) width = omega (arith, sum, ap (λ u. columns (plain u)) stays) in
+    let closes = append-nil ([] ++ close style) ∙ ending-closing (sym stays) style_is (sym link_is) refl refl in
+    record {
+      lack = lack;
+      closes = closes;
+      bytes = λ alignment. padded-between (cell t) width alignment (append_assoc t ([] ++ close style) [] ∙ ap₂ (λ u v. u ++ v) (sym stays) closes) lack;
     }
 
 -- ---- the test of a run

@@ -269,6 +269,14 @@ pub fn pad<'t, A: Allocator + Copy>(
     ensures takes_no_memory { (cell text.now ≡ text.now)
         × (missing (cell text.now) width ≡ 0) × (closing (cell text.now) ≡ []) → IsOk result }
 {
+    if let Some(plain) = plain_cell(text, width) {
+        let ending = Ending {
+            link_end: "",
+            style: plain.style,
+        };
+        let text = CowStr::Borrowed(text);
+        return write_shown(alloc, text, &ending, "", plain.left, alignment);
+    }
     pad_cell(alloc, cell_of(alloc, text)?, width, alignment)
 }
 

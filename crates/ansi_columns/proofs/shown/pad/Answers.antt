@@ -1,9 +1,41 @@
-use Rattle.std.proofs.Common.{◌≡◌, ℕ, List, [], length, IfOk, sym, ap, subst, arith}
+use Rattle.std.proofs.Common.{◌≡◌, ℕ, List, [], length, IfOk, sym, ◌∙◌, ap, subst, arith}
 use Rattle.std.specs.Cow.{cow_str_bytes}
 use Rattle.std.proofs.lemmas.Result.{IfOk-weaker}
+use Rattle.ansi_safe.specs.Cells.{cell}
 use Rattle.ansi_safe.proofs.CellTextLemmas.{length-cell}
 use Rattle.ansi_columns.specs.Shown.{missing, closing, padded}
+use Rattle.ansi_columns.proofs.PlainCellLemmas.{plain-padded}
+use Rattle.ansi_columns.proofs.ShownLemmas.{length-padded}
 use Rattle.ansi_columns.proofs.shown.pad.Goals as goal
+
+-- the text is plain and fits
+
+pub returns-in-Some-clause-bytes : goal.returns-in-Some-clause-bytes
+returns-in-Some-clause-bytes g c =
+    let is = c.in-Some.ensures in
+    IfOk-weaker c.write_shown.result _ _ (λ s written. written ∙ (plain-padded is.stays is.left is.style is.link).bytes c.args.alignment) c.write_shown.ensures.bytes
+
+pub returns-in-Some-clause-borrowed : goal.returns-in-Some-clause-borrowed
+returns-in-Some-clause-borrowed g c =
+    let is = c.in-Some.ensures in
+    let padded = plain-padded is.stays is.left is.style is.link in
+    IfOk-weaker c.write_shown.result _ _ (λ s iff. (
+      λ b. (is.stays, sym padded.lack ∙ (iff.0 b).2, sym padded.closes ∙ (iff.0 b).1),
+      λ all. iff.1 (tt, padded.closes ∙ all.2, padded.lack ∙ all.1),
+    )) c.write_shown.ensures.borrowed
+
+pub returns-in-Some-clause-len : goal.returns-in-Some-clause-len
+returns-in-Some-clause-len g c =
+    let t = c.args.text.now in
+    IfOk-weaker c.write_shown.result _ _ (λ s is. omega (arith, ap length is, length-padded (cell t) c.args.width c.args.alignment, length-cell t c.utf8.text)) (returns-in-Some-clause-bytes g c)
+
+pub returns-in-Some-clause-takes_no_memory : goal.returns-in-Some-clause-takes_no_memory
+returns-in-Some-clause-takes_no_memory g c =
+    let is = c.in-Some.ensures in
+    let padded = plain-padded is.stays is.left is.style is.link in
+    λ all. c.write_shown.ensures.takes_no_memory (padded.closes ∙ all.2, padded.lack ∙ all.1)
+
+-- it may be another one
 
 pub returns-clause-bytes : goal.returns-clause-bytes
 returns-clause-bytes g c =
