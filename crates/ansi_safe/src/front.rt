@@ -1,6 +1,6 @@
 //! The front of a text up to a byte that isn't in a set. Most texts are made of printable ASCII,
 //! which each set has, and they are read 16 or 64 bytes at a time, without decoding.
-ghost use Rattle.std.specs.Prelude.{◌≡◌, ◌≤◌, ◌++◌, length, take, chars, IsTrue, true};
+ghost use Rattle.std.specs.Prelude.{◌≡◌, ◌≤◌, ◌<◌, ◌+◌, ◌++◌, length, take, chars, IsTrue, true};
 ghost use Rattle.std.specs.List.{list_all, prefix_len};
 ghost use Rattle.std.specs.Str.{IsUtf8};
 ghost use Rattle.ansi_safe.specs.Safe.{is_printable_byte, is_ordinary_byte, is_in};
@@ -50,7 +50,11 @@ fn ordinary_len_of_lines(bytes: &[u8]) -> usize
     while 64 <= rest.len() && are_lines(rest) {
         rest = &rest[64..];
     }
-    bytes.len() - rest.len() + front_len(rest, ByteSet::Ordinary { white: true })
+    front_len_from(
+        bytes,
+        bytes.len() - rest.len(),
+        ByteSet::Ordinary { white: true },
+    )
 }
 
 /// Whether the first 64 bytes are printable ASCII and LF.
@@ -70,7 +74,16 @@ fn are_lines(bytes: &[u8]) -> bool
 pub(crate) fn front_len(bytes: &[u8], set: ByteSet) -> usize
     ensures { result ≡ prefix_len (is_in set) bytes.now }
 {
-    let mut rest = bytes;
+    front_len_from(bytes, 0, set)
+}
+
+/// How many bytes at the front are in the set, if the first `known` bytes are.
+#[inline(always)]
+fn front_len_from(bytes: &[u8], known: usize, set: ByteSet) -> usize
+    requires { known ≤ prefix_len (is_in set) bytes.now }
+    ensures { result ≡ prefix_len (is_in set) bytes.now }
+{
+    let mut rest = &bytes[known..];
     while 16 <= rest.len() {
         let len = front_len_of_16(rest, set);
         if len < 16 {
@@ -78,7 +91,25 @@ pub(crate) fn front_len(bytes: &[u8], set: ByteSet) -> usize
         }
         rest = &rest[16..];
     }
-    bytes.len() - rest.len() + front_len_by_byte(rest, set)
+    front_len_to_end(bytes, bytes.len() - rest.len(), set)
+}
+
+/// How many bytes at the front are in the set, if the first `known` bytes are, and at most 15 follow.
+/// The last 16 bytes are read at once, and begin before those that follow.
+#[inline(always)]
+fn front_len_to_end(bytes: &[u8], known: usize, set: ByteSet) -> usize
+    requires known { known ≤ prefix_len (is_in set) bytes.now }
+    requires few { length bytes.now < known + 16 }
+    ensures { result ≡ prefix_len (is_in set) bytes.now }
+{
+    let len = bytes.len();
+    if len < 16 {
+        return front_len_by_byte(bytes, set);
+    }
+    if known == len {
+        return len;
+    }
+    len - 16 + front_len_of_16(&bytes[len - 16..], set)
 }
 
 /// How many bytes at the front are in the set, looked at one by one.
