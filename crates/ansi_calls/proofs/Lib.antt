@@ -1,4 +1,3 @@
-pub mod AsciiLemmas
 pub mod Utf8Lemmas
 pub mod StepLemmas
 pub mod GivenLemmas

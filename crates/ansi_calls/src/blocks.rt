@@ -8,7 +8,7 @@ ghost use Rattle.ansi_calls.specs.Calls.{TakesBlock, TakesBlockStart, TakesBlock
 ghost use Rattle.ansi_calls.specs.Calls.{TakesBlockStyle};
 
 use crate::answers::{Answer, NO, NOT_UTF8, OK, OUT_OF_MEMORY, write};
-use crate::utf8::from_utf8;
+use ansi_safe::utf8::from_utf8;
 use ansi_str::{AnsiBlock, get_blocks};
 use ansi_style::numbers::StyleNumbers;
 use ansi_style::styles;

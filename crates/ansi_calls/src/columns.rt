@@ -8,10 +8,10 @@ ghost use Rattle.ansi_calls.specs.Columns.{GivesTruncatedAt, ExpandsTabs, GivesE
 ghost use Rattle.ansi_calls.specs.Columns.{WritesLink};
 
 use crate::answers::{Answer, NO, NOT_UTF8, REFUSED, write, write_text};
-use crate::utf8::from_utf8;
 use ansi_columns::shown::Alignment;
 use ansi_columns::sides::{Side, Truncation};
 use ansi_columns::{addresses, columns, shown, sides, slices, tabs};
+use ansi_safe::utf8::from_utf8;
 use std::alloc::Allocator;
 
 const LEFT: u32 = 0;

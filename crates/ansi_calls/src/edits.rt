@@ -9,7 +9,7 @@ ghost use Rattle.ansi_calls.specs.Steps.{change_of_step, patterns_of};
 ghost use Rattle.ansi_calls.specs.Calls.{Edits};
 
 use crate::answers::{Answer, NOT_UTF8, REFUSED, write_found};
-use crate::utf8::from_utf8;
+use ansi_safe::utf8::from_utf8;
 use ansi_str::Edit;
 use ansi_str::edits::edit_once;
 use std::alloc::{AllocError, Allocator};

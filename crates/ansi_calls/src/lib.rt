@@ -14,5 +14,4 @@ pub mod lists;
 pub mod safe;
 pub mod searches;
 pub mod texts;
-mod utf8;
 pub mod walks;

@@ -12,13 +12,13 @@ ghost use Rattle.ansi_calls.specs.Columns.{line_entries, WritesLines, BeginsLine
 
 use crate::answers::{Answer, NO, NOT_UTF8, OK, TOO_SMALL};
 use crate::lists::{ListAnswer, copy_texts, put, write_copied, write_texts};
-use crate::utf8::from_utf8;
 use ansi_columns::laws;
 use ansi_columns::line_walks::{LineWalk, next_line, walk_lines};
 use ansi_columns::lines::Lines;
 use ansi_columns::wrap::indents::{Wrap, wrap_with as wrapped_with};
 use ansi_columns::wrap::wrap as wrapped;
 use ansi_safe::cells::paragraph_of;
+use ansi_safe::utf8::from_utf8;
 use ansi_str::AnsiStr;
 use std::alloc::Allocator;
 use std::borrow::CowStr;

@@ -20,7 +20,7 @@ ghost use Rattle.ansi_calls.specs.Lists.{IsCountWithoutRoom, AreGiven, HaveFaile
 ghost use Rattle.ansi_calls.specs.Calls.{Splits, ListsAs, ListsBlocks, ListsStyledBlocks};
 
 use crate::answers::{NOT_UTF8, OK, OUT_OF_MEMORY, TOO_SMALL};
-use crate::utf8::from_utf8;
+use ansi_safe::utf8::from_utf8;
 use ansi_str::split::{PushNext, split_in};
 use ansi_str::{AnsiBlock, AnsiStr, get_blocks, laws};
 use ansi_style::numbers::StyleNumbers;

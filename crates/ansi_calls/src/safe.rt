@@ -4,9 +4,9 @@ ghost use Rattle.ansi_calls.specs.Safe.{rest_of, links_of, policy_of, GivesSanit
 ghost use Rattle.ansi_calls.specs.Safe.{TestsSafe};
 
 use crate::answers::{Answer, NOT_UTF8, REFUSED, write_text};
-use crate::utf8::from_utf8;
 use ansi_safe::policy::{Links, Policy, Rest};
 use ansi_safe::safe;
+use ansi_safe::utf8::from_utf8;
 use std::alloc::Allocator;
 
 const DROP: u32 = 0;

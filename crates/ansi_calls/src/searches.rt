@@ -5,7 +5,7 @@ ghost use Rattle.ansi_calls.specs.Calls.{Finds, FindsBoundary, TestsFront, Tests
 ghost use Rattle.ansi_calls.specs.Calls.{TestsWhole, TestsEscape};
 
 use crate::answers::{Answer, NO, NOT_UTF8};
-use crate::utf8::from_utf8;
+use ansi_safe::utf8::from_utf8;
 use ansi_str::{AnsiStr, ansi_is_whole};
 
 /// The position of the first match of the pattern in the plain text.

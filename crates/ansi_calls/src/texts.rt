@@ -9,7 +9,7 @@ ghost use Rattle.ansi_calls.specs.Calls.{Strips, Changes, Cuts, TakesLeft, Takes
 ghost use Rattle.ansi_calls.specs.Calls.{StripsPrefix, StripsSuffix, TakesPart};
 
 use crate::answers::{Answer, NO, NOT_UTF8, OUT_OF_MEMORY, REFUSED, write, write_found};
-use crate::utf8::from_utf8;
+use ansi_safe::utf8::from_utf8;
 use ansi_str::Edit;
 use ansi_str::edits::edit_once;
 use ansi_str::slice::strip_in;

@@ -9,8 +9,8 @@ ghost use Rattle.ansi_calls.specs.Walks.{IsOver, GivesNext, GivesNextPart};
 ghost use Rattle.ansi_calls.specs.Calls.{BeginsBlocks, BeginsParts, WritesStart, WritesClose};
 
 use crate::answers::{Answer, NO, NOT_UTF8, OK, OUT_OF_MEMORY, write, write_made};
-use crate::utf8::from_utf8;
 use ansi_blocks::runs::{Run, first_styled_run, sequences_before};
+use ansi_safe::utf8::from_utf8;
 use ansi_split::walks::{PartWalk, next_in, walk_in};
 use ansi_style::numbers::StyleNumbers;
 use ansi_style::styles;

@@ -9,5 +9,6 @@ pub mod CellLemmas
 pub mod CellTextLemmas
 pub mod CellFrontLemmas
 pub mod FrontLemmas
+pub mod AsciiLemmas
 pub mod LengthLemmas
 mod SafeExamples

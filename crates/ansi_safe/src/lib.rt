@@ -15,6 +15,7 @@ pub mod policy;
 pub mod printable;
 pub mod safe;
 mod shown;
+pub mod utf8;
 
 pub use calls::AnsiSafe;
 pub use policy::{Links, Policy, Rest};

@@ -20,6 +20,7 @@ use crate::lines::Line;
 use ansi_safe::links::{LONGEST_ENDING, Pen, pen_after};
 use ansi_safe::policy::{Links, Policy};
 use ansi_safe::safe::{ending_if_safe, push_cleaned};
+use ansi_safe::utf8::from_utf8;
 use ansi_slice::slice::strip_in;
 use ansi_style::styles;
 use std::alloc::{AllocError, Allocator};
@@ -210,7 +211,7 @@ pub(crate) fn as_decoded(view: View, bytes: &[u8]) -> Option<&str>
     if view.plain {
         return None;
     }
-    match str::from_utf8(bytes) {
+    match from_utf8(bytes) {
         Ok(text) => Some(text),
         Err(_) => None,
     }
@@ -225,7 +226,7 @@ pub(crate) fn decode<'t, A: Allocator + Copy>(
 ) -> Result<CowStr<'t, A>, AllocError>
     ensures { IfOk result (λ c. cow_str_bytes c ≡ decoded view bytes.now) }
 {
-    match str::from_utf8(bytes) {
+    match from_utf8(bytes) {
         Ok(text) => strip_if_plain(alloc, view, CowStr::Borrowed(text)),
         Err(_) => {
             let text = String::from_utf8_lossy(alloc, bytes)?;

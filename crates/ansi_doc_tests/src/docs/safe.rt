@@ -1,6 +1,7 @@
 //! The examples of the docs of `ansi_safe`, in the same words.
 use ansi_safe::cells::{cell_char, cell_of, paragraph_of};
 use ansi_safe::safe::{is_safe, sanitize};
+use ansi_safe::utf8::from_utf8;
 use ansi_safe::{AnsiSafe, Links, Policy, Rest};
 use std::test::Fail;
 
@@ -89,4 +90,9 @@ fn paragraph_of_example(rt: HostRuntime) -> Result<(), Fail> {
     let paragraph = paragraph_of(rt.alloc(), "a\tb\r\n\x1b[2Jc")?;
     assert!(rt; paragraph.as_str() == "a b\r\nc");
     Ok(())
+}
+
+#[test]
+fn from_utf8_example(rt: HostRuntime) {
+    assert!(rt; from_utf8("né".as_bytes()) == Ok("né") && from_utf8(&[b'n', 0xC3]).is_err());
 }

@@ -7,6 +7,6 @@ use Rattle.ansi_view_runs.proofs.view.decode.Goals as goal
 pub returns-in-Ok : goal.returns-in-Ok
 returns-in-Ok g c =
     let bytes = c.args.bytes.now in
-    let text = c.in-Ok.ensures.cases in
+    let text = c.in-Ok.ensures in
     let read : c.in-Ok.text.now ≡ utf8_lossy bytes = text.0 ∙ sym (utf8_lossy-IsUtf8 bytes text.1) in
     rw read at c.strip_if_plain.ensures

@@ -1,7 +1,7 @@
 use Rattle.std.proofs.Common.{eqb-true, bit_and, w64, ap, sym, ◌∙◌}
 use Rattle.std.specs.Int.{from_le_bytes}
-use Rattle.ansi_calls.proofs.AsciiLemmas.{ascii_8}
-use Rattle.ansi_calls.proofs.utf8.begins_ascii_8.Goals as goal
+use Rattle.ansi_safe.proofs.AsciiLemmas.{ascii_8}
+use Rattle.ansi_safe.proofs.utf8.begins_ascii_8.Goals as goal
 
 pub returns-in-Some : goal.returns-in-Some
 returns-in-Some c = λ none.

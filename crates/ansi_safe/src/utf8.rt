@@ -10,9 +10,15 @@ const HIGH_BITS_OF_8: u64 = 0x8080_8080_8080_8080;
 
 const HIGH_BITS_OF_16: u128 = 0x8080_8080_8080_8080_8080_8080_8080_8080;
 
-/// The bytes as a text, if they are UTF-8.
+/// The bytes as a text, a borrow of them, or `Err` if they aren't UTF-8. Doesn't allocate.
+///
+/// The error doesn't say which byte isn't UTF-8. (std's `from_utf8`, with a quicker test.)
+///
+/// ```
+/// assert!(rt; from_utf8("né".as_bytes()) == Ok("né") && from_utf8(&[b'n', 0xC3]).is_err());
+/// ```
 #[inline(always)]
-pub(crate) fn from_utf8(bytes: &[u8]) -> Result<&str, Utf8Error>
+pub fn from_utf8(bytes: &[u8]) -> Result<&str, Utf8Error>
     ensures { MatchResult result (λ text. (text.now ≡ bytes.now) × IsUtf8 bytes.now)
         (λ _. ¬ (IsUtf8 bytes.now)) }
 {

@@ -1,7 +1,7 @@
 use Rattle.std.proofs.Common.{eqb-true, bit_and, ap, sym, ◌∙◌}
 use Rattle.std.specs.Int.{from_le_bytes, w128}
-use Rattle.ansi_calls.proofs.AsciiLemmas.{ascii_16}
-use Rattle.ansi_calls.proofs.utf8.begins_ascii_16.Goals as goal
+use Rattle.ansi_safe.proofs.AsciiLemmas.{ascii_16}
+use Rattle.ansi_safe.proofs.utf8.begins_ascii_16.Goals as goal
 
 pub returns-in-Some : goal.returns-in-Some
 returns-in-Some c = λ none.
