@@ -1,10 +1,10 @@
 -- The columns of clusters that are read one after another.
-use Rattle.std.proofs.Common.{◌≡◌, ℕ, ◌+◌, ◌-◌, ◌*◌, ◌<◌, ◌≤◌, List, [], ◌∷◌, ◌++◌, length, take, drop, reverse, slice_index, slice_range, flat_map, encode_utf8, encode_utf8_all, Option, Some, None, MatchOption, subst, refl, sym, ◌∙◌, ap, ap₂, arith, zero-add, append_assoc, append-nil, length-append}
+use Rattle.std.proofs.Common.{◌≡◌, ℕ, ◌+◌, ◌-◌, ◌*◌, ◌<◌, ◌≤◌, List, [], ◌∷◌, ◌++◌, length, take, drop, slice_index, slice_range, flat_map, encode_utf8, encode_utf8_all, Option, Some, None, MatchOption, subst, refl, sym, ◌∙◌, ap, ap₂, arith, zero-add, append_assoc, append-nil, length-append}
 use Rattle.std.specs.Str.{chars, IsUtf8, IsCharBoundary}
 use Rattle.std.proofs.lemmas.List.{take_at, length-drop}
 use Rattle.std.proofs.lemmas.List.Sums.{sum_by-cons, sum_by-append}
 use Rattle.std.proofs.lemmas.Grind.{flat_map-append}
-use Rattle.std.proofs.lemmas.Str.{chars-nil, encodes-chars, encodes-append, IsUtf8-between, IsUtf8-drop}
+use Rattle.std.proofs.lemmas.Str.{chars-nil, encodes-chars, IsUtf8-between, IsUtf8-drop}
 use Rattle.unicode_segmentation.proofs.TextLemmas.{encode_utf8_nonempty}
 use Rattle.ansi_items.specs.Plain.{plain}
 use Rattle.ansi_items.proofs.Utf8Lemmas.{IsUtf8-plain}
@@ -14,7 +14,7 @@ use Rattle.ansi_columns.specs.declared.views.View.{View}
 use Rattle.ansi_columns.specs.declared.views.View.TheVariants.{Given, Shown}
 use Rattle.ansi_columns.specs.declared.walks.Walk.{Walk}
 use Rattle.ansi_columns.specs.Views.{seen_char, seen, seen_text, seen_len}
-use Rattle.ansi_columns.specs.Walks.{after, cluster, clusters_after, clusters_from, seen_before, seen_after, seen_cluster, seen_clusters, IsWalkIn, IsSeenNext, SeesUpTo}
+use Rattle.ansi_columns.specs.Walks.{after, cluster, clusters_after, clusters_from, seen_after, seen_cluster, seen_clusters, IsWalkIn, IsSeenNext, IsFittingTo, SeesUpTo}
 use Rattle.ansi_columns.proofs.ClusterLemmas.{clusters-none}
 use Rattle.ansi_columns.proofs.ViewLemmas.{seen_before-start, seen-one, seen-append, seen-chars, part-size, after-split, seen_len-split}
 use Rattle.ansi_columns.proofs.WalkLemmas.{before-start, walk_boundary, after-past}
@@ -49,12 +49,7 @@ counted-next {view} {t} {n} {m} counted sum_is less first is most = record {
 pub counted-end : {view : View} {t : List ℕ} {n total : ℕ} → IsCountedTo view t n total → seen_after view t n ≡ [] → total ≡ columns (seen_text view t)
 counted-end {view} {t} {n} counted none = omega (arith, counted.all, ap columns_of (seen_clusters-end view t n none))
 
--- The clusters up to a position fit, and leave this number of columns.
-pub record IsFittingTo (view : View) (t : List ℕ) (width n left : ℕ) : Type 0 where
-  pub front : List (List ℕ)
-  pub all : clusters (seen_text view t) ≡ front ++ seen_clusters view t n
-  pub boundary : seen_len view t n ≡ bytes_of front
-  pub columns : columns_of front + left ≡ width
+-- The clusters up to a position that fit.
 
 seen_len-start : (view : View) (t : List ℕ) → seen_len view t 0 ≡ 0
 seen_len-start Given t = refl
@@ -101,20 +96,22 @@ fitting-all {view} {t} {width} {n} fitting none =
       greatest = λ more. absurd (omega (arith, more, ap length (fitting.all ∙ ap (λ ks. fitting.front ++ ks) (seen_clusters-end view t n none) ∙ append-nil fitting.front)));
     }
 
-pub fitting-stop : {view : View} {t : List ℕ} {width n left k : ℕ} (m : ℕ) → IsFittingTo view t width n left → seen_clusters view t n ≡ seen_cluster view t n m ∷ seen_clusters view t m → k ≡ cluster_width (seen_cluster view t n m) → left < k
-    → FitsUpTo (seen_text view t) width (seen_len view t n)
-fitting-stop {view} {t} {width} {n} m fitting first is less =
+pub fitting-before : {view : View} {t : List ℕ} {width n left k : ℕ} (next : List ℕ) (others : List (List ℕ)) → IsFittingTo view t width n left → seen_clusters view t n ≡ next ∷ others → k ≡ cluster_width next → left < k → FitsUpTo (seen_text view t) width (seen_len view t n)
+fitting-before {view} {t} {width} {n} next others fitting first is less =
     let taken = front_taken fitting.front (seen_clusters view t n) fitting.all in
-    let last = seen_cluster view t n m in
-    let more : take (length fitting.front + 1) (clusters (seen_text view t)) ≡ fitting.front ++ last ∷ []
-    = ap₂ take (sym (length-append fitting.front (last ∷ []))) (fitting.all ∙ ap (λ ks. fitting.front ++ ks) first ∙ sym (append_assoc fitting.front (last ∷ []) (seen_clusters view t m)))
-    ∙ take_at (fitting.front ++ last ∷ []) (seen_clusters view t m) (length (fitting.front ++ last ∷ [])) refl in
+    let more : take (length fitting.front + 1) (clusters (seen_text view t)) ≡ fitting.front ++ next ∷ []
+    = ap₂ take (sym (length-append fitting.front (next ∷ []))) (fitting.all ∙ ap (λ ks. fitting.front ++ ks) first ∙ sym (append_assoc fitting.front (next ∷ []) others))
+    ∙ take_at (fitting.front ++ next ∷ []) others (length (fitting.front ++ next ∷ [])) refl in
     record {
       count = length fitting.front;
       boundary = fitting.boundary ∙ ap bytes_of (sym taken);
       fits = omega (arith, fitting.columns, ap columns_of taken);
-      greatest = λ _. omega (arith, fitting.columns, is, less, ap columns_of more, columns_of-push fitting.front last);
+      greatest = λ _. omega (arith, fitting.columns, is, less, ap columns_of more, columns_of-push fitting.front next);
     }
+
+pub fitting-stop : {view : View} {t : List ℕ} {width n left k : ℕ} (m : ℕ) → IsFittingTo view t width n left → seen_clusters view t n ≡ seen_cluster view t n m ∷ seen_clusters view t m → k ≡ cluster_width (seen_cluster view t n m) → left < k
+    → FitsUpTo (seen_text view t) width (seen_len view t n)
+fitting-stop {view} {t} {n = n} m fitting first is less = fitting-before (seen_cluster view t n m) (seen_clusters view t m) fitting first is less
 
 -- ---- the greatest position
 

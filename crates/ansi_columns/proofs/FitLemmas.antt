@@ -1,13 +1,20 @@
 -- What fits of a text into a width: whether it is all of the text, and its end as a function.
 use Rattle.std.proofs.Common.{◌≡◌, ℕ, zero, suc, ◌+◌, ◌-◌, ◌<◌, ◌≤◌, true, false, List, [], ◌∷◌, ◌++◌, length, take, flat_map, encode_utf8_all, nat_le, if◌then◌else◌, refl, sym, ◌∙◌, ap, arith, append-nil, length-append}
+use Rattle.std.specs.Str.{IsUtf8}
 use Rattle.std.proofs.lemmas.Bool.{le-leb, lt-leb}
+use Rattle.std.proofs.lemmas.List.{take_at}
 use Rattle.std.proofs.lemmas.List.Sums.{sum_by-cons, sum_by-append}
+use Rattle.ansi_items.proofs.Utf8Lemmas.{IsUtf8-plain}
+use Rattle.ansi_safe.specs.Cells.{cell}
+use Rattle.ansi_safe.proofs.CellTextLemmas.{IsUtf8-cell}
 use Rattle.ansi_columns.specs.Columns.{clusters, cluster_width, columns_of, columns, bytes_of, FitsUpTo}
 use Rattle.ansi_columns.specs.declared.views.View.{View}
-use Rattle.ansi_columns.specs.Views.{seen_text}
-use Rattle.ansi_columns.specs.Walks.{seen_after, seen_cluster, seen_clusters}
+use Rattle.ansi_columns.specs.declared.views.View.TheVariants.{Given, Shown}
+use Rattle.ansi_columns.specs.Views.{seen_text, seen_len}
+use Rattle.ansi_columns.specs.Walks.{seen_after, seen_cluster, seen_clusters, IsFittingTo}
 use Rattle.ansi_columns.specs.Shown.{fitting_end}
-use Rattle.ansi_columns.proofs.ColumnLemmas.{IsFittingTo, seen_clusters-end}
+use Rattle.ansi_columns.proofs.ClusterLawLemmas.{columns-front}
+use Rattle.ansi_columns.proofs.ColumnLemmas.{seen_clusters-end}
 
 -- if all fits, its columns and those that are left are the width
 pub IsFittingTo-columns : {view : View} {t : List ℕ} {width n left : ℕ} → IsFittingTo view t width n left → seen_after view t n ≡ [] → columns (seen_text view t) + left ≡ width
@@ -45,3 +52,15 @@ fitting_end-count (k ∷ ks) width (suc count) fits greatest =
 
 pub fitting_end-fits : {x : List ℕ} {width end : ℕ} → FitsUpTo x width end → end ≡ fitting_end width (clusters x)
 fitting_end-fits {x} {width} fit = fit.boundary ∙ fitting_end-count (clusters x) width fit.count fit.fits fit.greatest
+
+seen_text-utf8 : (view : View) (t : List ℕ) → IsUtf8 t → IsUtf8 (seen_text view t)
+seen_text-utf8 Given t utf8 = IsUtf8-plain t utf8
+seen_text-utf8 Shown t utf8 = IsUtf8-plain (cell t) (IsUtf8-cell t utf8)
+
+-- the columns of the clusters that fit are those of the text up to their end, and of the same text up to a later position before which nothing more is seen
+pub fitting-columns : {view : View} {t : List ℕ} {width n left : ℕ} (m : ℕ) → IsFittingTo view t width n left → IsUtf8 t → seen_len view t m ≡ seen_len view t n → columns (take (seen_len view t m) (seen_text view t)) + left ≡ width
+fitting-columns {view} {t} {width} {n} m fitting utf8 same =
+    let count = length fitting.front in
+    let taken = ap (take count) fitting.all ∙ take_at fitting.front (seen_clusters view t n) count refl in
+    let end = same ∙ fitting.boundary ∙ ap bytes_of (sym taken) in
+    omega (arith, fitting.columns, ap (λ i. columns (take i (seen_text view t))) end, columns-front (seen_text view t) (seen_text-utf8 view t utf8) count, ap columns_of taken)

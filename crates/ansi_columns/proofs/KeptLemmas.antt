@@ -65,7 +65,7 @@ bytes_before-merged n [] = refl
 bytes_before-merged n (Text w ∷ ps) = bytes_before-joined n w (merged ps) ∙ ap (λ k. if nat_lt n (length w) then n else length w + k) (bytes_before-merged (n - length w) ps)
 bytes_before-merged n (p ∷ ps) = ap (λ k. length (spelling p) + k) (bytes_before-merged n ps)
 
-bytes_before-append : (ps qs : List Piece) → bytes_before (length (plain_of ps)) (ps ++ qs) ≡ length (spelled ps) + bytes_before 0 qs
+pub bytes_before-append : (ps qs : List Piece) → bytes_before (length (plain_of ps)) (ps ++ qs) ≡ length (spelled ps) + bytes_before 0 qs
 bytes_before-append [] qs = omega arith
 bytes_before-append (Text w ∷ ps) qs =
     let size = length-append w (plain_of ps) in

@@ -57,3 +57,4 @@ pub mod SidesLawLemmas
 pub mod IndentLawLemmas
 pub mod PlainCellLemmas
 pub mod PrintableTextLemmas
+pub mod PlainFrontLemmas

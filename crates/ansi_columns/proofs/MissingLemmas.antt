@@ -1,5 +1,6 @@
 -- The columns that a truncated text lacks, if a cluster ends before its tail.
-use Rattle.std.proofs.Common.{◌≡◌, ◌≢◌, ℕ, ◌+◌, inl, inr, true, List, [], ◌∷◌, ◌++◌, take, reverse, chars, encode_utf8_all, flat_map, if◌then◌else◌, IsTrue, refl, sym, ◌∙◌, ap, subst, arith, append-nil, append_assoc}
+use Rattle.std.proofs.Common.{◌≡◌, ◌≢◌, ℕ, ◌+◌, inl, inr, Bool, true, false, List, [], ◌∷◌, ◌++◌, take, reverse, chars, encode_utf8_all, flat_map, if◌then◌else◌, IfSome, IsTrue, refl, sym, ◌∙◌, ap, subst, arith, append-nil, append_assoc}
+use Rattle.std.specs.Bool.{then_some}
 use Rattle.std.specs.List.{list_all}
 use Rattle.std.specs.Str.{IsUtf8}
 use Rattle.std.proofs.lemmas.Bool.{cases_Bool}
@@ -50,7 +51,7 @@ clusters-apart before (c ∷ d ∷ cs) ds apart =
           ∙ ap (λ ks. ks ++ last) (sym (cluster-joins before c (d ∷ cs) joins)))
     ]
 
-reversed-is : (before cs : List ℕ) → reversed_before before cs ≡ reverse cs ++ before
+pub reversed-is : (before cs : List ℕ) → reversed_before before cs ≡ reverse cs ++ before
 reversed-is before [] = refl
 reversed-is before (c ∷ cs) =
     reversed-is (c ∷ before) cs ∙ sym (append_assoc (reverse cs) (c ∷ []) before) ∙ ap (λ u. u ++ before) (sym (reverse-append (c ∷ []) cs))
@@ -67,6 +68,11 @@ columns-apart x y utf8 apart =
     let breaks : cs ≢ [] → is_grapheme_break true (reversed_before [] cs) (chars y) ≡ true = λ some. ap (λ u. is_grapheme_break true u (chars y)) is ∙ apart some in
     ap columns_of (ap (clusters_after []) (chars-append x y utf8) ∙ clusters-apart [] cs (chars y) breaks ∙ ap (λ ks. clusters_after [] cs ++ ks) (clusters-after cs (chars y) breaks))
     ∙ sum_by-append cluster_width (clusters_after [] cs) (clusters_after [] (chars y))
+
+-- a value that is known only if a test holds
+pub known_if : (P : ℕ → Type 0) (b : Bool) (n : ℕ) → (b ≡ true → P n) → IfSome (then_some b n) P
+known_if P true n holds = holds refl
+known_if P false n holds = tt
 
 -- ---- a truncated text with a tail without sequences
 
@@ -98,10 +104,10 @@ module _ (t : List ℕ) (utf8 : IsUtf8 t) (width : ℕ) (tail : List ℕ) (w : W
       lack-of (cell t) width tail [] left (whole-cell t utf8) none refl
       (subst (λ e. columns (take e (plain (cell t)) ++ []) + left ≡ width) end-is (subst (λ x. columns x + left ≡ width) (sym (append-nil _)) sum))
 
-  -- a tail without sequences is, and a cluster ends before it
-  pub lack-beside : seen_columns + left + columns (plain tail) ≡ width → tail ≡ (if has_tail (cell t) width tail then tail else []) → list_all is_plain_byte tail ≡ true
-      → ((before : List ℕ) → before ≢ [] → w.break_state ≡ break_state_of before → is_grapheme_break true before (chars tail) ≡ true) → IsLack (cell t) width tail left
-  lack-beside sum written bare breaks =
+  -- what is written has no sequences, and a cluster ends before it
+  pub lack-beside : (last : List ℕ) → seen_columns + left + columns (plain last) ≡ width → last ≡ (if has_tail (cell t) width tail then tail else []) → list_all is_plain_byte last ≡ true
+      → ((before : List ℕ) → before ≢ [] → w.break_state ≡ break_state_of before → is_grapheme_break true before (chars last) ≡ true) → IsLack (cell t) width tail left
+  lack-beside last sum written bare breaks =
       let x = take (seen_len Shown t w.position) (plain (cell t)) in
       let front = take w.position (plain t) in
       let cs = flat_map cell_char (chars front) in
@@ -110,7 +116,7 @@ module _ (t : List ℕ) (utf8 : IsUtf8 t) (width : ℕ) (tail : List ℕ) (w : W
       let x_utf8 : IsUtf8 x = (cs, (scalar, sym front_is)) in
       let seen : chars x ≡ cs = ap chars front_is ∙ chars-encodes cs scalar in
       let some : chars x ≢ [] → reverse cs ≢ [] = λ filled none. filled (seen ∙ sym (reverse-reverse cs) ∙ ap reverse none) in
-      let sum_is = columns-apart x tail x_utf8 (λ filled. ap (λ u. is_grapheme_break true (reverse u) (chars tail)) seen ∙ breaks (reverse cs) (some filled) walk.break_state) in
-      let tail_is = ap columns (plain-bare tail (has_escape-bare tail bare)) in
-      lack-of (cell t) width tail tail left (whole-cell t utf8) written bare
-      (subst (λ e. columns (take e (plain (cell t)) ++ tail) + left ≡ width) end-is (omega (arith, sum, sum_is, tail_is)))
+      let sum_is = columns-apart x last x_utf8 (λ filled. ap (λ u. is_grapheme_break true (reverse u) (chars last)) seen ∙ breaks (reverse cs) (some filled) walk.break_state) in
+      let last_is = ap columns (plain-bare last (has_escape-bare last bare)) in
+      lack-of (cell t) width tail last left (whole-cell t utf8) written bare
+      (subst (λ e. columns (take e (plain (cell t)) ++ last) + left ≡ width) end-is (omega (arith, sum, sum_is, last_is)))

@@ -1,36 +1,39 @@
 -- Texts of cells that are printable ASCII and SGRs alone: what one pass over the pieces finds, and the text truncated and padded.
-use Rattle.std.proofs.Common.{◌≡◌, ℕ, suc, if◌then◌else◌, ◌+◌, ◌==◌, Bool, true, false, not, ◌&&◌, ◌||◌, List, [], ◌∷◌, ◌++◌, length, take, slice_range, chars, nat_le, nat_eq, IsTrue, refl, sym, ◌∙◌, ap, ap₂, subst, arith, append-nil, append_assoc, length-append}
+use Rattle.std.proofs.Common.{◌≡◌, ℕ, suc, if◌then◌else◌, ◌+◌, ◌==◌, Bool, true, false, not, ◌&&◌, ◌||◌, List, [], ◌∷◌, ◌++◌, length, take, chars, nat_le, nat_eq, IsTrue, refl, sym, ◌∙◌, ap, ap₂, subst, arith, append-nil, append_assoc, length-append}
 use Rattle.std.specs.List.{list_all, prefix_len}
 use Rattle.std.specs.Str.{IsUtf8}
 use Rattle.std.proofs.lemmas.Bool.{and_from, and_parts, le-leb}
 use Rattle.std.proofs.lemmas.Bool.Decides.{nat_tests}
 use Rattle.std.proofs.lemmas.List.{take_all}
+use Rattle.std.proofs.lemmas.Grind.{flat_map-append}
 use Rattle.std.proofs.lemmas.List.Folds.{list_all-append}
 use Rattle.std.proofs.lemmas.Str.{chars-IsAscii, IsCharBoundary-end, IsUtf8-from_ascii}
 use Rattle.std.proofs.lemmas.Str.Ascii.{IsAscii-from_all}
-use Rattle.ansi_items.specs.declared.ansitok.Item.{Item}
 use Rattle.ansi_items.specs.declared.ansitok.Kind.{Kind}
-use Rattle.ansi_items.specs.declared.ansitok.Kind.TheVariants.{Text as TextKind, Sgr}
+use Rattle.ansi_items.specs.declared.ansitok.Kind.TheVariants.{Sgr}
 use Rattle.ansi_items.specs.Sequences.{is_sgr}
 use Rattle.ansi_items.specs.Pieces.{Piece, Text, Sequence, LoneEscape, spelling, pieces_of}
-use Rattle.ansi_items.specs.Plain.{plain, plain_of, marks, is_whole}
-use Rattle.ansi_items.specs.Scans.{Scan, GivesItem, pieces_left}
-use Rattle.ansi_items.proofs.StepLemmas.{BeginsWithMark, is_mark, gives_text, plain_of-mark}
+use Rattle.ansi_items.specs.Plain.{plain, plain_bytes, plain_of, marks, marks_of, is_whole}
+use Rattle.ansi_items.proofs.JoinLemmas.{spelled}
+use Rattle.ansi_items.proofs.StepLemmas.{is_mark}
 use Rattle.ansi_items.proofs.Utf8Lemmas.{IsUtf8-plain}
 use Rattle.ansi_style.specs.declared.state.rendition.Rendition.{Rendition}
 use Rattle.ansi_style.specs.Rendition.{plain_style}
 use Rattle.ansi_style.specs.Sgr.{apply}
 use Rattle.ansi_style.specs.Styled.{style_after}
 use Rattle.ansi_style.specs.Written.{close}
+use Rattle.ansi_style.proofs.StyledLemmas.{style_through, style_through-append, style_after_from-pieces}
 use Rattle.ansi_search.specs.Offsets.{StandsIn}
+use Rattle.ansi_search.proofs.OffsetLemmas.{IsOverText, IsOverMark}
 use Rattle.ansi_search.proofs.PositionLemmas.{no_character_goes_on-past}
 use Rattle.ansi_safe.specs.Safe.{is_ordinary_byte, is_clean_link, all_allowed}
 use Rattle.ansi_safe.specs.Cells.{cell, is_cell}
-use Rattle.ansi_safe.specs.Links.{link_of}
+use Rattle.ansi_safe.specs.Links.{link_of, opens_link}
 use Rattle.ansi_safe.proofs.AllowedLemmas.{stand_after_ordinary}
 use Rattle.ansi_safe.proofs.CellTextLemmas.{cell-stays, whole-cell}
-use Rattle.ansi_safe.proofs.LinkLemmas.{IsOpenSoFar, open-begin, open-sgr, open-end, link_after_all-none}
+use Rattle.ansi_safe.proofs.LinkLemmas.{is_link-sgr, link_of-pieces, link_through}
 use Rattle.ansi_columns.specs.Columns.{clusters, columns, columns_of, bytes_of, FitsUpTo}
+use Rattle.ansi_columns.specs.PlainCells.{IsPlainText, IsPlainCell}
 use Rattle.ansi_columns.specs.declared.shown.Alignment.{Alignment}
 use Rattle.ansi_columns.specs.Shown.{fitting_end, has_tail, truncated_end, truncated_width, missing, between_blanks, closing, padded, KeptStays}
 use Rattle.ansi_columns.proofs.AsciiLemmas.{is_printable, All-printable_is_ascii, columns-printable}
@@ -101,62 +104,82 @@ plain-stays t utf8 all = cell-stays t utf8 (plain-is_cell t all)
 
 -- ---- a pass over them
 
--- The pieces passed are runs of printable ASCII and SGRs. The bytes of the runs are `front`, which leaves this many columns of the width; and no link is open.
-pub record IsPlainSoFar (t : List ℕ) (width left : ℕ) (style : Rendition) (ps : List Piece) : Type 0 where
-  pub front : List ℕ
-  pub all : plain t ≡ front ++ plain_of ps
-  pub printable : list_all is_printable front ≡ true
-  pub count : length front + left ≡ width
-  pub decides : list_all is_plain_piece (pieces_of t) ≡ list_all is_plain_piece ps
-  pub pen : IsOpenSoFar t plain_style [] style [] ps
+-- The pieces passed are runs of printable ASCII and SGRs, with this style after them. The bytes of the runs leave this many columns of the width.
+pub record IsPlainSoFar (t : List ℕ) (width left : ℕ) (style : Rendition) (passed : ℕ) (ps : List Piece) : Type 0 where
+  pub front : List Piece
+  pub all : pieces_of t ≡ front ++ ps
+  pub are_plain : list_all is_plain_piece front ≡ true
+  pub bytes : passed ≡ length (spelled front)
+  pub count : length (plain_of front) + left ≡ width
+  pub style_is : style ≡ style_through plain_style front
 
-pub plain-begin : (t : List ℕ) (width : ℕ) → IsPlainSoFar t width width plain_style (pieces_of t)
-plain-begin t width = record { front = []; all = refl; printable = refl; count = omega arith; decides = refl; pen = open-begin t plain_style [] }
+pub plain-begin : (t : List ℕ) (width : ℕ) → IsPlainSoFar t width width plain_style 0 (pieces_of t)
+plain-begin t width = record { front = []; all = refl; are_plain = refl; bytes = refl; count = omega arith; style_is = refl }
+
+plain-more : {t : List ℕ} {width left next passed at : ℕ} {style last : Rendition} {ps : List Piece} (p : Piece) → IsPlainSoFar t width left style passed (p ∷ ps) → is_plain_piece p ≡ true → at ≡ passed + length (spelling p) → length (plain_bytes p) + next ≡ left
+    → last ≡ style_through style (p ∷ []) → IsPlainSoFar t width next last at ps
+plain-more {ps = ps} p so_far is_plain at_is next_is last_is =
+    let front = so_far.front in
+    record {
+      front = front ++ p ∷ [];
+      all = so_far.all ∙ sym (append_assoc front (p ∷ []) ps);
+      are_plain = list_all-append is_plain_piece front (p ∷ []) ∙ and_from _ _ so_far.are_plain (and_from _ _ is_plain refl);
+      bytes = omega (arith, at_is, so_far.bytes, ap length (flat_map-append spelling front (p ∷ []) ∙ ap (λ u. spelled front ++ u) (append-nil (spelling p))), length-append (spelled front) (spelling p));
+      count = omega (arith, next_is, so_far.count, ap length (flat_map-append plain_bytes front (p ∷ []) ∙ ap (λ u. plain_of front ++ u) (append-nil (plain_bytes p))), length-append (plain_of front) (plain_bytes p));
+      style_is = last_is ∙ ap (λ s. style_through s (p ∷ [])) so_far.style_is ∙ sym (style_through-append plain_style front (p ∷ []));
+    }
 
 -- over a run of printable ASCII that fits
-pub plain-run : {t w : List ℕ} {width left next : ℕ} {style : Rendition} {old new : Scan} {item : Item} → IsPlainSoFar t width left style (pieces_left old) → GivesItem old item new → old.text ≡ t → w ≡ slice_range t item.start item.end → item.kind ≡ TextKind
-    → list_all is_printable w ≡ true → next + length w ≡ left → IsPlainSoFar t width next style (pieces_left new)
-plain-run {t} {w} {width} {left} {next} {style} {old} {new} so_far gives same is kind printable next_is =
-    let here = subst (IsPlainSoFar t width left style) (gives_text gives same is kind) so_far in
-    record {
-      front = here.front ++ w;
-      all = here.all ∙ sym (append_assoc here.front w (plain_of (pieces_left new)));
-      printable = list_all-append is_printable here.front w ∙ ap₂ (λ a b. a && b) here.printable printable;
-      count = omega (arith, here.count, length-append here.front w, next_is);
-      decides = here.decides ∙ ap (λ b. b && list_all is_plain_piece (pieces_left new)) printable;
-      pen = record { styled = here.pen.styled; linked = here.pen.linked };
-    }
+pub plain-run : {t w : List ℕ} {width left next passed at : ℕ} {style : Rendition} {old ps : List Piece} → IsPlainSoFar t width left style passed old → IsOverText t w passed at old ps → list_all is_printable w ≡ true → next + length w ≡ left → IsPlainSoFar t width next style at ps
+plain-run {t} {w} {width} {left} {passed = passed} {style = style} so_far over printable next_is =
+    plain-more (Text w) (subst (IsPlainSoFar t width left style passed) over.first so_far) printable over.count (omega (arith, next_is)) refl
 
 -- over an SGR
-pub plain-sgr : {t w : List ℕ} {width left : ℕ} {style next : Rendition} {kind : Kind} {old ps : List Piece} → IsPlainSoFar t width left style old → BeginsWithMark kind w old ps → kind ≡ Sgr → next ≡ apply style w → IsPlainSoFar t width left next ps
-plain-sgr {t} {w} {width} {left} {style} {ps = ps} so_far mark kind next_is =
-    let here = subst (IsPlainSoFar t width left style) mark.pieces so_far in
-    record {
-      front = here.front;
-      all = here.all ∙ ap (λ u. here.front ++ u) (plain_of-mark mark.mark ps mark.is_mark);
-      printable = here.printable;
-      count = here.count;
-      decides = here.decides ∙ ap (λ b. b && list_all is_plain_piece ps) (sgr-plain mark.mark mark.is_mark (ap is_sgr mark.bytes ∙ mark.sgr kind));
-      pen = open-sgr so_far.pen mark kind next_is;
-    }
+sgr-through : (style : Rendition) (p : Piece) → is_mark p ≡ true → (style_through style (p ∷ []) ≡ apply style (spelling p)) × (plain_bytes p ≡ [])
+sgr-through style (Text w) mark = absurd (cc mark)
+sgr-through style p mark = (refl, refl)
 
--- The text stays in a cell and leaves this many columns; this style is open at its end, and no link.
-pub record IsPlainCell (t : List ℕ) (width left : ℕ) (style : Rendition) : Type 0 where
-  pub stays : cell t ≡ t
-  pub sum : columns (plain t) + left ≡ width
-  pub style_is : style ≡ style_after t
-  pub link_is : link_of (marks t) ≡ []
+pub plain-sgr : {t w : List ℕ} {width left passed at : ℕ} {style next : Rendition} {kind : Kind} {old ps : List Piece} → IsPlainSoFar t width left style passed old → IsOverMark kind t w passed at old ps → kind ≡ Sgr → next ≡ apply style w → IsPlainSoFar t width left next at ps
+plain-sgr {t} {w} {width} {left} {passed} {style = style} so_far over kind next_is =
+    let first = over.first in
+    let through = sgr-through style first.mark first.is_mark in
+    plain-more first.mark (subst (IsPlainSoFar t width left style passed) first.pieces so_far) (sgr-plain first.mark first.is_mark (ap is_sgr first.bytes ∙ first.sgr kind))
+    (omega (arith, over.count, ap length first.bytes)) (omega (arith, ap length through.1)) (next_is ∙ ap (apply style) (sym first.bytes) ∙ sym through.0)
 
-pub plain-end : {t : List ℕ} {width left : ℕ} {style : Rendition} {old : List Piece} → IsUtf8 t → IsPlainSoFar t width left style old → old ≡ [] → IsPlainCell t width left style
-plain-end {t} {width} {left} {style} utf8 so_far none =
-    let here = subst (IsPlainSoFar t width left style) none so_far in
-    let front : plain t ≡ here.front = here.all ∙ append-nil here.front in
-    let pen = open-end here.pen refl in
+-- ---- what is open after them
+
+plain-link : (ps : List Piece) → list_all is_plain_piece ps ≡ true → link_through [] ps ≡ []
+plain-link [] all = refl
+plain-link (Text w ∷ ps) all = plain-link ps (and_parts (list_all is_printable w) (list_all is_plain_piece ps) all).1
+plain-link (Sequence w ∷ ps) all =
+    let both = and_parts (is_sgr w) (list_all is_plain_piece ps) all in
+    ap (λ b. link_through (if b then (if opens_link w then w else []) else []) ps) (is_link-sgr w both.0) ∙ plain-link ps both.1
+plain-link (LoneEscape ∷ ps) all = absurd (cc all)
+
+pub plain-text : {t : List ℕ} {style : Rendition} (ps : List Piece) → IsUtf8 t → pieces_of t ≡ ps → list_all is_plain_piece ps ≡ true → style ≡ style_through plain_style ps → IsPlainText t style
+plain-text {t} ps utf8 pieces all style_is = record {
+  stays = plain-stays t utf8 (ap (list_all is_plain_piece) pieces ∙ all);
+  style_is = style_is ∙ ap (style_through plain_style) (sym pieces) ∙ sym (style_after_from-pieces plain_style t);
+  link_is = ap (λ qs. link_of (marks_of qs)) pieces ∙ link_of-pieces ps ∙ plain-link ps all;
+}
+
+-- the bytes of the runs
+pub plain-printable : (ps : List Piece) → list_all is_plain_piece ps ≡ true → list_all is_printable (plain_of ps) ≡ true
+plain-printable [] all = refl
+plain-printable (Text w ∷ ps) all =
+    let both = and_parts (list_all is_printable w) (list_all is_plain_piece ps) all in
+    list_all-append is_printable w (plain_of ps) ∙ and_from _ _ both.0 (plain-printable ps both.1)
+plain-printable (Sequence w ∷ ps) all = plain-printable ps (and_parts (is_sgr w) (list_all is_plain_piece ps) all).1
+plain-printable (LoneEscape ∷ ps) all = absurd (cc all)
+
+-- nothing is left
+pub plain-end : {t : List ℕ} {width left passed : ℕ} {style : Rendition} {old : List Piece} → IsUtf8 t → IsPlainSoFar t width left style passed old → old ≡ [] → IsPlainCell t width left style
+plain-end {t} utf8 so_far none =
+    let front = so_far.front in
+    let pieces : pieces_of t ≡ front = so_far.all ∙ ap (λ ps. front ++ ps) none ∙ append-nil front in
     record {
-      stays = plain-stays t utf8 here.decides;
-      sum = omega (arith, ap columns front, columns-printable here.front here.printable, here.count);
-      style_is = pen.0;
-      link_is = sym (pen.1 ∙ link_after_all-none (marks t));
+      text = plain-text front utf8 pieces so_far.are_plain so_far.style_is;
+      sum = omega (arith, ap (λ ps. columns (plain_of ps)) pieces, columns-printable (plain_of front) (plain-printable front so_far.are_plain), so_far.count);
     }
 
 -- ---- the text truncated
@@ -204,12 +227,13 @@ pub record IsUncut (t : List ℕ) (width left : ℕ) (tail close : List ℕ) : T
   pub lack : IsLack (cell t) width tail left
   pub kept : KeptStays t width tail
 
-pub plain-uncut : {t : List ℕ} {width left : ℕ} {style : Rendition} (tail : List ℕ) → IsUtf8 t → cell t ≡ t → columns (plain t) + left ≡ width → style ≡ style_after t → link_of (marks t) ≡ [] → IsUncut t width left tail ([] ++ close style)
-plain-uncut {t} {width} {left} {style} tail utf8 stays sum style_is link_is =
+pub plain-uncut : {t : List ℕ} {width left : ℕ} {style : Rendition} (tail : List ℕ) → IsUtf8 t → IsPlainCell t width left style → IsUncut t width left tail ([] ++ close style)
+plain-uncut {t} {width} {left} {style} tail utf8 is =
+    let stays = is.text.stays in
     let whole = subst (λ u. IsTrue (is_whole u)) stays (whole-cell t utf8) in
     record {
-      cut = subst (λ u. IsCutTo u width tail t ([] ++ close style) []) (sym stays) (all-cut t utf8 width tail left sum style_is link_is);
-      lack = subst (λ u. IsLack u width tail left) (sym stays) (all-lack t utf8 width tail left sum whole);
+      cut = subst (λ u. IsCutTo u width tail t ([] ++ close style) []) (sym stays) (all-cut t utf8 width tail left is.sum is.text.style_is is.text.link_is);
+      lack = subst (λ u. IsLack u width tail left) (sym stays) (all-lack t utf8 width tail left is.sum whole);
       kept = kept-stays t width tail utf8 stays;
     }
 
@@ -221,10 +245,11 @@ pub record IsPadded (t : List ℕ) (width left : ℕ) (close : List ℕ) : Type 
   pub closes : close ++ [] ≡ closing (cell t)
   pub bytes : (alignment : Alignment) → between_blanks left alignment ((t ++ close) ++ []) ≡ padded (cell t) width alignment
 
-pub plain-padded : {t : List ℕ} {width left : ℕ} {style : Rendition} → cell t ≡ t → columns (plain t) + left ≡ width → style ≡ style_after t → link_of (marks t) ≡ [] → IsPadded t width left ([] ++ close style)
-plain-padded {t} {width} {left} {style} stays sum style_is link_is =
-    let lack : left ≡ missing (cell t) width = omega (arith, sum, ap (λ u. columns (plain u)) stays) in
-    let closes = append-nil ([] ++ close style) ∙ ending-closing (sym stays) style_is (sym link_is) refl refl in
+pub plain-padded : {t : List ℕ} {width left : ℕ} {style : Rendition} → IsPlainCell t width left style → IsPadded t width left ([] ++ close style)
+plain-padded {t} {width} {left} {style} is =
+    let stays = is.text.stays in
+    let lack : left ≡ missing (cell t) width = omega (arith, is.sum, ap (λ u. columns (plain u)) stays) in
+    let closes = append-nil ([] ++ close style) ∙ ending-closing (sym stays) is.text.style_is (sym is.text.link_is) refl refl in
     record {
       lack = lack;
       closes = closes;

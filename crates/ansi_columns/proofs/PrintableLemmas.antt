@@ -19,11 +19,11 @@ use Rattle.ansi_columns.specs.BreakStates.{break_state_of}
 use Rattle.ansi_columns.specs.Columns.{cluster_width, columns_of, bytes_of}
 use Rattle.ansi_columns.specs.declared.views.View.{View}
 use Rattle.ansi_columns.specs.Views.{seen_char, seen, seen_len}
-use Rattle.ansi_columns.specs.Walks.{IsRun, IsPrintableFront, IsPastAscii, after, cluster, clusters_after, seen_before, seen_after, seen_cluster, seen_clusters, is_seen_ascii, IsWalkIn, IsNext, IsPrintable, AreClustersIn}
+use Rattle.ansi_columns.specs.Walks.{IsRun, IsPrintableFront, IsPastAscii, after, cluster, clusters_after, seen_before, seen_after, seen_cluster, seen_clusters, is_seen_ascii, IsWalkIn, IsNext, IsPrintable, AreClustersIn, IsFittingTo}
 use Rattle.ansi_columns.proofs.AsciiLemmas.{is_printable, printable-below_7F, All-printable_is_ascii, break_state-printable, breaks-before_ascii, width-single}
 use Rattle.ansi_columns.proofs.ClusterLemmas.{cluster-begins, cluster-ends}
 use Rattle.ansi_columns.proofs.ClusterLawLemmas.{breaks-last}
-use Rattle.ansi_columns.proofs.ColumnLemmas.{IsCountedTo, IsFittingTo, bytes_of-append}
+use Rattle.ansi_columns.proofs.ColumnLemmas.{IsCountedTo, bytes_of-append}
 use Rattle.ansi_columns.proofs.WalkLemmas.{walk_boundary, after-end, after-past, boundary_past, walk-on, walk-over, run-between}
 use Rattle.ansi_columns.proofs.ViewLemmas.{seen-nil, seen-one, seen-append, seen-printable, seen-all_printable, seen-ascii, before-one, after-one, part-size, seen_len-split}
 use Rattle.ansi_columns.proofs.ClusterWalkLemmas.{seen_cluster-next}
@@ -69,7 +69,7 @@ pub record IsAtNextRun (t : List ℕ) (m : ℕ) (walk : Walk) : Type 0 where
 
 module _ (view : View) (t : List ℕ) (utf8 : IsUtf8 t) where
   -- the byte at a walk is its next character
-  next-ascii : (w : Walk) (b : ℕ) (u : List ℕ) → drop w.offset t ≡ b ∷ u → b < 128 → w.offset < w.run_end → IsNext t w b
+  pub next-ascii : (w : Walk) (b : ℕ) (u : List ℕ) → drop w.offset t ≡ b ∷ u → b < 128 → w.offset < w.run_end → IsNext t w b
   next-ascii w b u text ascii inside =
       let more : w.run_end - w.offset ≡ suc (w.run_end - w.offset - 1) = omega (arith, inside) in
       record {
@@ -195,14 +195,14 @@ all-take zero x all = refl
 all-take (suc k) [] all = refl
 all-take (suc k) (b ∷ x) all = (let parts = and_parts _ _ all in ap (λ c. c && list_all is_printable (take k x)) parts.0 ∙ all-take k x parts.1)
 
-all-index : (k : ℕ) (x : List ℕ) → k < length x → list_all is_printable x ≡ true → is_printable (slice_index x k) ≡ true
+pub all-index : (k : ℕ) (x : List ℕ) → k < length x → list_all is_printable x ≡ true → is_printable (slice_index x k) ≡ true
 all-index k [] inside all = absurd (omega (arith, inside))
 all-index zero (b ∷ x) inside all = (and_parts _ _ all).0
 all-index (suc k) (b ∷ x) inside all = all-index k x (omega (arith, inside)) (and_parts _ _ all).1
 
 -- ---- what passing them counts
 
-abbrev singles : List ℕ → List (List ℕ)
+abbrev pub singles : List ℕ → List (List ℕ)
 singles bytes = map (λ b. b ∷ []) bytes
 
 clusters-passed : (view : View) (t : List ℕ) (n : ℕ) (bytes : List ℕ) → AreClustersIn view t n bytes → seen_clusters view t n ≡ singles bytes ++ seen_clusters view t (n + length bytes)
@@ -214,11 +214,11 @@ clusters-passed view t n (b ∷ bytes) are =
 pub bytes-single : (b : ℕ) → is_printable b ≡ true → length (encode_utf8_all (b ∷ [])) ≡ 1
 bytes-single b printable = ap length (append-nil (encode_utf8 b) ∙ encode-printable b printable)
 
-columns-singles : (bytes : List ℕ) → list_all is_printable bytes ≡ true → columns_of (singles bytes) ≡ length bytes
+pub columns-singles : (bytes : List ℕ) → list_all is_printable bytes ≡ true → columns_of (singles bytes) ≡ length bytes
 columns-singles [] all = refl
 columns-singles (b ∷ bytes) all = (let parts = and_parts _ _ all in omega (arith, sum_by-cons cluster_width (b ∷ []) (singles bytes), width-single b parts.0, columns-singles bytes parts.1))
 
-bytes-singles : (bytes : List ℕ) → list_all is_printable bytes ≡ true → bytes_of (singles bytes) ≡ length bytes
+pub bytes-singles : (bytes : List ℕ) → list_all is_printable bytes ≡ true → bytes_of (singles bytes) ≡ length bytes
 bytes-singles [] all = refl
 bytes-singles (b ∷ bytes) all = (let parts = and_parts _ _ all in omega (arith, bytes_of-append ((b ∷ []) ∷ []) (singles bytes), ap length (append-nil (encode_utf8_all (b ∷ []))), bytes-single b parts.0, bytes-singles bytes parts.1))
 
@@ -268,7 +268,7 @@ printable-found {view} {t} {w} len walk inside all next = record {
   next = ap is_seen_ascii (sym (get_or-take (w.run_end - w.offset) (drop w.offset t) len 0 inside ∙ get_or-drop w.offset t len 0)) ∙ next;
 }
 
-printable-at : {view : View} {t : List ℕ} {w : Walk} (len n : ℕ) → IsWalkIn view t w → len ≤ w.run_end - w.offset → list_all is_printable (take len (drop w.offset t)) ≡ true → n < len → is_printable (slice_index t (w.offset + n)) ≡ true
+pub printable-at : {view : View} {t : List ℕ} {w : Walk} (len n : ℕ) → IsWalkIn view t w → len ≤ w.run_end - w.offset → list_all is_printable (take len (drop w.offset t)) ≡ true → n < len → is_printable (slice_index t (w.offset + n)) ≡ true
 printable-at {view} {t} {w} len n walk inside all less =
     let x = drop w.offset t in
     let size : length (take len x) ≡ len = length-take-le len x (omega (arith, inside, walk.run.end_boundary.0, length-drop w.offset t)) in

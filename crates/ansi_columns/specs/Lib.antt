@@ -17,3 +17,4 @@ pub mod Addresses
 pub mod Tabs
 pub mod Words
 pub mod LineWalks
+pub mod PlainCells

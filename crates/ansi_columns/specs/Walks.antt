@@ -12,7 +12,7 @@ use Rattle.ansi_columns.specs.declared.walks.Walk.{Walk}
 use Rattle.ansi_columns.specs.declared.views.View.{View}
 use Rattle.ansi_columns.specs.declared.views.View.TheVariants.{Given}
 use Rattle.ansi_columns.specs.BreakStates.{break_state_of}
-use Rattle.ansi_columns.specs.Columns.{FitsUpTo, cluster_width}
+use Rattle.ansi_columns.specs.Columns.{clusters, cluster_width, columns_of, bytes_of, FitsUpTo}
 use Rattle.ansi_columns.specs.Views.{seen_char, seen, seen_text, seen_len}
 
 -- the characters of the plain text of t before the position n, the last one first
@@ -123,6 +123,13 @@ pub record IsPastAscii (t : List ℕ) (from : Walk) (n : ℕ) (later : Walk) : T
   pub position : later.position ≡ from.position + n
   pub clusters : (view : View) → AreClustersIn view t from.position (slice_range t from.offset (from.offset + n))
   pub seen : (view : View) → seen_len view t later.position ≡ seen_len view t from.position + n
+
+-- The clusters up to a position fit, and leave this number of columns.
+pub record IsFittingTo (view : View) (t : List ℕ) (width n left : ℕ) : Type 0 where
+  pub front : List (List ℕ)
+  pub all : clusters (seen_text view t) ≡ front ++ seen_clusters view t n
+  pub boundary : seen_len view t n ≡ bytes_of front
+  pub columns : columns_of front + left ≡ width
 
 -- What is seen before the byte `end` is the clusters that fit. Before a later character boundary more is seen.
 pub record SeesUpTo (view : View) (t : List ℕ) (width end : ℕ) : Type 0 where

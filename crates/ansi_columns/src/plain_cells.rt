@@ -1,42 +1,45 @@
-//! The texts of cells that are printable ASCII and select graphic renditions alone. They stay as they
-//! are, and one pass tells their columns and the style at their end.
-ghost use Rattle.std.specs.Prelude.{◌≡◌, ◌+◌, [], IfSome};
+//! The texts of cells that are printable ASCII and select graphic renditions alone. They stay as
+//! they are, and one pass tells their columns and the style at their end, or where they are cut and
+//! the style there.
+ghost use Rattle.std.specs.Prelude.{◌≡◌, ◌<◌, ◌≤◌, ℕ, IfSome, MatchOption, IsTrue};
 ghost use Rattle.std.specs.List.{list_all};
-ghost use Rattle.ansi_items.specs.Plain.{plain, marks};
 ghost use Rattle.ansi_style.specs.States.{rendition_of};
-ghost use Rattle.ansi_style.specs.Styled.{style_after};
 ghost use Rattle.ansi_safe.specs.Safe.{is_printable_byte};
-ghost use Rattle.ansi_safe.specs.Cells.{cell};
-ghost use Rattle.ansi_safe.specs.Links.{link_of};
-ghost use Rattle.ansi_columns.specs.Columns.{columns};
+ghost use Rattle.ansi_columns.specs.declared.walks.Walk.{Walk};
+ghost use Rattle.ansi_columns.specs.PlainCells.{IsPlainCell, IsPlainBefore, IsPlainCut};
+ghost use Rattle.ansi_columns.specs.Walks.{IsAnyWalk, IsPastAscii};
 
+use crate::break_state::BreakState;
+use crate::walks::Walk;
 use ansi_items::ansitok::{Kind, Scanner};
 use ansi_safe::printable::printable_len;
 use ansi_style::state::Style;
 use ansi_style::styles;
 
-/// What is at the end of a text of a cell that stays as it is and fits.
+/// The front of a text of a cell, up to the first run that doesn't fit. It stays as it is.
 #[derive(Clone, Copy)]
-pub(crate) struct PlainCell {
-    /// The columns of the width that the text leaves.
+pub(crate) struct PlainFront {
+    /// The columns of the width that the front leaves.
     pub(crate) left: usize,
-    /// The style. No link is open.
+    /// The style at its end. No link is open there.
     pub(crate) style: Style,
+    /// The walk at the run, which has more bytes than columns are left. `None` if the front is the
+    /// whole text.
+    pub(crate) run: Option<Walk>,
 }
 
 /// The length of the longest text that is looked at. A search for the next sequence of a longer one
 /// could read far past the width.
 const LONGEST: usize = 512;
 
-/// What is at the end of a text of a cell, if that is printable ASCII and select graphic renditions
-/// alone and fits into `width` columns. `None` says nothing.
+/// The front of a text of a cell, if that is printable ASCII and select graphic renditions alone.
+/// `None` says nothing.
 ///
-/// A run that doesn't fit isn't tested.
-pub(crate) fn plain_cell(text: &str, width: usize) -> Option<PlainCell>
-    ensures stays { IfSome result (λ p. cell text.now ≡ text.now) }
-    ensures left { IfSome result (λ p. columns (plain text.now) + p.left ≡ width) }
-    ensures style { IfSome result (λ p. rendition_of p.style ≡ style_after text.now) }
-    ensures link { IfSome result (λ p. link_of (marks text.now) ≡ []) }
+/// Of a run that doesn't fit, only as much is tested as says so.
+pub(crate) fn plain_front(text: &str, width: usize) -> Option<PlainFront>
+    ensures { IfSome result (λ f. MatchOption f.run
+        (IsPlainCell text.now width f.left (rendition_of f.style))
+        (IsPlainBefore text.now width f.left (rendition_of f.style))) }
 {
     if LONGEST < text.len() {
         return None;
@@ -47,13 +50,97 @@ pub(crate) fn plain_cell(text: &str, width: usize) -> Option<PlainCell>
         let piece = &text[item.start..item.end];
         if item.kind == Kind::Sgr {
             styles::apply(&mut style, piece);
-        } else if item.kind == Kind::Text && piece.len() <= left && is_printable(piece) {
-            left -= piece.len();
-        } else {
+            continue;
+        }
+        if item.kind != Kind::Text {
             return None;
         }
+        if left < piece.len() {
+            let run = Walk {
+                position: width - left,
+                offset: item.start,
+                run_end: item.end,
+                break_state: BreakState::start(),
+            };
+            if !goes_past(text, run, left) {
+                return None;
+            }
+            return Some(PlainFront {
+                left,
+                style,
+                run: Some(run),
+            });
+        }
+        if !is_printable(piece) {
+            return None;
+        }
+        left -= piece.len();
     }
-    Some(PlainCell { left, style })
+    Some(PlainFront {
+        left,
+        style,
+        run: None,
+    })
+}
+
+/// The front of a text of a cell, if that is the whole text. `None` says nothing.
+pub(crate) fn plain_cell(text: &str, width: usize) -> Option<PlainFront>
+    ensures { IfSome result (λ f.
+        IsPlainCell text.now width f.left (rendition_of f.style)) }
+{
+    let front = plain_front(text, width)?;
+    match front.run {
+        Some(_) => None,
+        None => Some(front),
+    }
+}
+
+/// Whether more than `count` bytes of printable ASCII come next in a run, each of them a cluster by
+/// itself. `false` says nothing.
+fn goes_past(text: &str, run: Walk, count: usize) -> bool
+    requires { IsAnyWalk text.now run }
+    ensures { IsTrue result → (n : ℕ) × (count < n)
+        × (later : Walk) × IsPastAscii text.now run n later }
+{
+    count < run.past_ascii(text, count.saturating_add(1)).1
+}
+
+/// Where what fits of a text of a cell ends.
+#[derive(Clone, Copy)]
+pub(crate) struct PlainCut {
+    /// The walk at the place.
+    pub(crate) end: Walk,
+    /// The style there. No link is open.
+    pub(crate) style: Style,
+}
+
+/// The end of what fits of a text into `room` columns, if a wider front of it has been read. `None`
+/// says nothing.
+pub(crate) fn plain_cut(
+    text: &str,
+    width: usize,
+    front: &PlainFront,
+    run: Walk,
+    room: usize,
+) -> Option<PlainCut>
+    requires front { IsPlainBefore text.now width front.now.left
+        (rendition_of front.now.style) run }
+    requires narrower { room ≤ width }
+    ensures { IfSome result (λ c. IsPlainCut text.now room (rendition_of c.style) c.end) }
+{
+    let fewer = width - room;
+    if fewer <= front.left {
+        return Some(PlainCut {
+            end: run.past_printable(text, front.left - fewer),
+            style: front.style,
+        });
+    }
+    let front = plain_front(text, room)?;
+    let run = front.run?;
+    Some(PlainCut {
+        end: run.past_printable(text, front.left),
+        style: front.style,
+    })
 }
 
 /// Whether each byte of a run is printable ASCII.

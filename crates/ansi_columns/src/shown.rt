@@ -1,16 +1,19 @@
 //! Truncated and padded texts, ready for display: the style and link still open at their end are
 //! closed.
 ghost use Rattle.std.specs.Prelude.{◌≡◌, ◌≢◌, ◌↔◌, ◌+◌, ◌≤◌, ◌++◌, ℕ, List, [], length, chars};
-ghost use Rattle.std.specs.Prelude.{IsOk, IfOk, OnOk, IfSome, IsTrue, true, if◌then◌else◌};
+ghost use Rattle.std.specs.Prelude.{IsOk, IfOk, OnOk, IfSome, IsTrue, true, false, nat_le};
+ghost use Rattle.std.specs.Prelude.{if◌then◌else◌};
 ghost use Rattle.std.specs.Prelude.{string_bytes};
 ghost use Rattle.std.specs.List.{list_all};
 ghost use Rattle.std.specs.Cow.{cow_str_bytes, IsBorrowedStr};
 ghost use Rattle.unicode_segmentation.specs.Grapheme.{is_grapheme_break};
 ghost use Rattle.ansi_items.specs.Bytes.{is_plain_byte};
+ghost use Rattle.ansi_items.specs.Plain.{plain};
 ghost use Rattle.ansi_style.specs.States.{rendition_of};
 ghost use Rattle.ansi_style.specs.Written.{close, longest_close};
 ghost use Rattle.ansi_safe.specs.Cells.{cell};
 ghost use Rattle.ansi_safe.specs.Links.{longest_link_end};
+ghost use Rattle.ansi_columns.specs.Columns.{columns};
 ghost use Rattle.ansi_columns.specs.Shown.{has_tail, truncated_width, truncated_ending};
 ghost use Rattle.ansi_columns.specs.Shown.{truncated, KeptStays};
 ghost use Rattle.ansi_columns.specs.Shown.{missing, before_text, blanks, between_blanks, closing};
@@ -19,7 +22,7 @@ ghost use Rattle.ansi_columns.specs.BreakStates.{break_state_of};
 ghost use Rattle.ansi_columns.specs.Walks.{IsWalkIn, SeesUpTo};
 
 use crate::fits::fitting_front;
-use crate::plain_cells::plain_cell;
+use crate::plain_cells::{plain_cell, plain_cut, plain_front};
 use crate::views::View;
 use crate::walks::{Walk, first_run};
 use crate::widths;
@@ -110,16 +113,8 @@ pub(crate) fn truncated_parts<'t, 'a, A: Allocator>(
         × (closing (truncated (cell text.now) width tail.entry.now) ≡ []))) }
     ensures takes_no_memory { KeptStays text.now width tail.entry.now → IsOk result }
 {
-    if let Some(plain) = plain_cell(text, width) {
-        return Ok(TruncatedParts {
-            front: CowStr::Borrowed(text),
-            ending: Ending {
-                link_end: "",
-                style: plain.style,
-            },
-            tail: "",
-            missing: Some(plain.left),
-        });
+    if let Some(plain) = plain_parts(text, width, tail) {
+        return Ok(plain);
     }
     let cut = truncation(text, width, tail);
     let front = cell_of(alloc, &text[..cut.end.offset])?;
@@ -129,6 +124,53 @@ pub(crate) fn truncated_parts<'t, 'a, A: Allocator>(
         ending,
         tail: cut.tail,
         missing: cut.missing,
+    })
+}
+
+/// The parts of a text of a cell that is truncated, if what is kept of it is printable ASCII and
+/// select graphic renditions alone. `None` says nothing.
+fn plain_parts<'t, 'a, A: Allocator>(
+    text: &'t str,
+    width: usize,
+    tail: &'a str,
+) -> Option<TruncatedParts<'t, 'a, A>>
+    ensures bytes { IfSome result (λ p. (cow_str_bytes p.front
+        ++ (p.ending.link_end.now ++ close (rendition_of p.ending.style))) ++ p.tail.now
+        ≡ truncated (cell text.now) width tail.entry.now) }
+    ensures ending { IfSome result (λ p.
+        (p.ending.link_end.now ++ close (rendition_of p.ending.style)) ++ p.tail.now
+        ≡ truncated_ending (cell text.now) width tail.entry.now) }
+    ensures borrowed { IfSome result (λ p.
+        IsBorrowedStr p.front ↔ KeptStays text.now width tail.entry.now) }
+    ensures len { IfSome result (λ p. length ((cow_str_bytes p.front
+        ++ (p.ending.link_end.now ++ close (rendition_of p.ending.style))) ++ p.tail.now)
+        ≤ length text.now + length tail.entry.now + longest_link_end + longest_close) }
+    ensures missing { IfSome result (λ p. IfSome p.missing (λ n.
+        (n ≡ missing (truncated (cell text.now) width tail.entry.now) width)
+        × (closing (truncated (cell text.now) width tail.entry.now) ≡ []))) }
+{
+    let plain = plain_front(text, width)?;
+    let Some(run) = plain.run else {
+        return Some(TruncatedParts {
+            front: CowStr::Borrowed(text),
+            ending: Ending {
+                link_end: "",
+                style: plain.style,
+            },
+            tail: "",
+            missing: Some(plain.left),
+        });
+    };
+    let (room, tail) = beside(width, tail);
+    let cut = plain_cut(text, width, &plain, run, room)?;
+    Some(TruncatedParts {
+        front: CowStr::Borrowed(&text[..cut.end.offset]),
+        ending: Ending {
+            link_end: "",
+            style: cut.style,
+        },
+        tail,
+        missing: is_apart(cut.end, tail).then_some(0),
     })
 }
 
@@ -172,6 +214,23 @@ fn truncation<'a>(text: &str, width: usize, tail: &'a str) -> Cut<'a>
         end: front.walk,
         tail,
         missing: is_apart(front.walk, tail).then_some(front.left),
+    }
+}
+
+/// The columns that are left for a text that doesn't fit, and the tail that is written after it. It
+/// is empty if none is.
+fn beside<'a>(width: usize, tail: &'a str) -> (usize, &'a str)
+    ensures room { (t : List ℕ) → nat_le (columns (plain t)) width ≡ false →
+        truncated_width t width tail.entry.now ≡ result.0 }
+    ensures tail { (t : List ℕ) → nat_le (columns (plain t)) width ≡ false →
+        result.1.now ≡ (if has_tail t width tail.entry.now then tail.entry.now else []) }
+    ensures sum { result.0 + columns (plain result.1.now) ≡ width }
+{
+    let columns = widths::width(tail, View::Given);
+    if width < columns {
+        (width, "")
+    } else {
+        (width - columns, tail)
     }
 }
 

@@ -1,33 +1,11 @@
-use Rattle.std.proofs.Common.{◌≡◌, ℕ, ◌+◌, List, take, length, refl, sym, ◌∙◌, ap, subst, arith}
-use Rattle.std.specs.Str.{IsUtf8}
-use Rattle.std.proofs.lemmas.List.{take_at}
-use Rattle.ansi_items.proofs.Utf8Lemmas.{IsUtf8-plain}
-use Rattle.ansi_safe.specs.Cells.{cell}
-use Rattle.ansi_safe.proofs.CellTextLemmas.{IsUtf8-cell}
-use Rattle.ansi_columns.specs.Columns.{columns, columns_of, bytes_of}
-use Rattle.ansi_columns.specs.declared.views.View.{View}
-use Rattle.ansi_columns.specs.declared.views.View.TheVariants.{Given, Shown}
-use Rattle.ansi_columns.specs.Views.{seen_text, seen_len}
-use Rattle.ansi_columns.specs.Walks.{seen_clusters}
+use Rattle.std.proofs.Common.{sym, subst}
+use Rattle.ansi_columns.specs.Walks.{IsFittingTo}
 use Rattle.ansi_columns.proofs.ViewLemmas.{seen_len-none}
 use Rattle.ansi_columns.proofs.WalkLemmas.{walk_boundary}
-use Rattle.ansi_columns.proofs.ClusterLawLemmas.{columns-front}
-use Rattle.ansi_columns.proofs.ColumnLemmas.{IsFittingTo, fitting-begin, fitting-more, fitting-all, fitting-stop, sees-up_to}
-use Rattle.ansi_columns.proofs.FitLemmas.{IsFittingTo-columns, IsFittingTo-end, not_all_fit}
+use Rattle.ansi_columns.proofs.ColumnLemmas.{fitting-begin, fitting-more, fitting-all, fitting-stop, sees-up_to}
+use Rattle.ansi_columns.proofs.FitLemmas.{fitting-columns, IsFittingTo-columns, IsFittingTo-end, not_all_fit}
 use Rattle.ansi_columns.proofs.PrintableLemmas.{fitting-past}
 use Rattle.ansi_columns.proofs.fits.fitting_front.Goals as goal
-
-seen_text-utf8 : (view : View) (t : List ℕ) → IsUtf8 t → IsUtf8 (seen_text view t)
-seen_text-utf8 Given t utf8 = IsUtf8-plain t utf8
-seen_text-utf8 Shown t utf8 = IsUtf8-plain (cell t) (IsUtf8-cell t utf8)
-
--- the columns of the clusters that fit are those of the text up to their end, and of the same text up to a later position before which nothing more is seen
-fitting-columns : {view : View} {t : List ℕ} {width n left : ℕ} (m : ℕ) → IsFittingTo view t width n left → IsUtf8 t → seen_len view t m ≡ seen_len view t n → columns (take (seen_len view t m) (seen_text view t)) + left ≡ width
-fitting-columns {view} {t} {width} {n} m fitting utf8 same =
-    let count = length fitting.front in
-    let taken = ap (take count) fitting.all ∙ take_at fitting.front (seen_clusters view t n) count refl in
-    let end = same ∙ fitting.boundary ∙ ap bytes_of (sym taken) in
-    omega (arith, fitting.columns, ap (λ i. columns (take i (seen_text view t))) end, columns-front (seen_text view t) (seen_text-utf8 view t utf8) count, ap columns_of taken)
 
 pub clusters-init : goal.clusters-init
 clusters-init c =

@@ -1,7 +1,6 @@
 use Rattle.std.proofs.Common.{◌-◌, length}
 use Rattle.ansi_items.specs.Plain.{plain}
-use Rattle.ansi_columns.specs.Walks.{IsWalkIn}
-use Rattle.ansi_columns.proofs.ColumnLemmas.{IsFittingTo}
+use Rattle.ansi_columns.specs.Walks.{IsWalkIn, IsFittingTo}
 use Rattle.ansi_columns.proofs.fits.fitting_front.Given as goal
 
 -- the text before the walk fits, and leaves this number of columns

@@ -12,15 +12,14 @@ use Rattle.ansi_columns.proofs.shown.pad.Goals as goal
 
 pub returns-in-Some-clause-bytes : goal.returns-in-Some-clause-bytes
 returns-in-Some-clause-bytes g c =
-    let is = c.in-Some.ensures in
-    IfOk-weaker c.write_shown.result _ _ (λ s written. written ∙ (plain-padded is.stays is.left is.style is.link).bytes c.args.alignment) c.write_shown.ensures.bytes
+    IfOk-weaker c.write_shown.result _ _ (λ s written. written ∙ (plain-padded c.in-Some.ensures).bytes c.args.alignment) c.write_shown.ensures.bytes
 
 pub returns-in-Some-clause-borrowed : goal.returns-in-Some-clause-borrowed
 returns-in-Some-clause-borrowed g c =
     let is = c.in-Some.ensures in
-    let padded = plain-padded is.stays is.left is.style is.link in
+    let padded = plain-padded is in
     IfOk-weaker c.write_shown.result _ _ (λ s iff. (
-      λ b. (is.stays, sym padded.lack ∙ (iff.0 b).2, sym padded.closes ∙ (iff.0 b).1),
+      λ b. (is.text.stays, sym padded.lack ∙ (iff.0 b).2, sym padded.closes ∙ (iff.0 b).1),
       λ all. iff.1 (tt, padded.closes ∙ all.2, padded.lack ∙ all.1),
     )) c.write_shown.ensures.borrowed
 
@@ -31,8 +30,7 @@ returns-in-Some-clause-len g c =
 
 pub returns-in-Some-clause-takes_no_memory : goal.returns-in-Some-clause-takes_no_memory
 returns-in-Some-clause-takes_no_memory g c =
-    let is = c.in-Some.ensures in
-    let padded = plain-padded is.stays is.left is.style is.link in
+    let padded = plain-padded c.in-Some.ensures in
     λ all. c.write_shown.ensures.takes_no_memory (padded.closes ∙ all.2, padded.lack ∙ all.1)
 
 -- it may be another one

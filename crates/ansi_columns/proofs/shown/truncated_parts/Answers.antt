@@ -5,33 +5,10 @@ use Rattle.ansi_style.specs.States.{rendition_of}
 use Rattle.ansi_safe.proofs.CellTextLemmas.{length-cell}
 use Rattle.ansi_columns.specs.Shown.{KeptStays}
 use Rattle.ansi_columns.proofs.KeptLemmas.{kept-part, truncated-front}
-use Rattle.ansi_columns.proofs.PlainCellLemmas.{plain-uncut}
 use Rattle.ansi_columns.proofs.ShownLemmas.{cut-ending, cut-bytes, cut-length}
 use Rattle.ansi_columns.proofs.shown.truncated_parts.Goals as goal
 
--- the text is plain and fits
-
-pub returns-in-Some-clause-bytes : goal.returns-in-Some-clause-bytes
-returns-in-Some-clause-bytes g c = (let is = c.in-Some.ensures in cut-bytes (plain-uncut c.args.tail.now c.utf8.text is.stays is.left is.style is.link).cut)
-
-pub returns-in-Some-clause-ending : goal.returns-in-Some-clause-ending
-returns-in-Some-clause-ending g c = (let is = c.in-Some.ensures in cut-ending (plain-uncut c.args.tail.now c.utf8.text is.stays is.left is.style is.link).cut)
-
-pub returns-in-Some-clause-borrowed : goal.returns-in-Some-clause-borrowed
-returns-in-Some-clause-borrowed g c =
-    let is = c.in-Some.ensures in
-    (λ _. (plain-uncut c.args.tail.now c.utf8.text is.stays is.left is.style is.link).kept, λ _. tt)
-
-pub returns-in-Some-clause-len : goal.returns-in-Some-clause-len
-returns-in-Some-clause-len g c =
-    let t = c.args.text.now in
-    let is = c.in-Some.ensures in
-    omega (arith, cut-length (plain-uncut c.args.tail.now c.utf8.text is.stays is.left is.style is.link).cut, length-cell t c.utf8.text)
-
-pub returns-in-Some-clause-missing : goal.returns-in-Some-clause-missing
-returns-in-Some-clause-missing g c = (let is = c.in-Some.ensures in (plain-uncut c.args.tail.now c.utf8.text is.stays is.left is.style is.link).lack)
-
--- it may be cut: the front is in the text
+-- the front is in the text
 pub range-requires-clause-end_boundary : goal.range-requires-clause-end_boundary
 range-requires-clause-end_boundary g c = c.truncation-cut.ensures.walk.run.start_boundary
 

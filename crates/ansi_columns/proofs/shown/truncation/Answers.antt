@@ -1,12 +1,11 @@
-use Rattle.std.proofs.Common.{◌≡◌, ℕ, ◌+◌, ◌-◌, Bool, true, false, take, IfSome, refl, sym, ◌∙◌, ap, subst, arith}
+use Rattle.std.proofs.Common.{◌≡◌, ◌+◌, ◌-◌, take, IfSome, sym, ◌∙◌, ap, subst, arith}
 use Rattle.ansi_items.specs.Plain.{plain}
-use Rattle.std.specs.Bool.{then_some}
 use Rattle.ansi_safe.specs.Cells.{cell}
 use Rattle.ansi_columns.specs.declared.views.View.TheVariants.{Shown}
 use Rattle.ansi_columns.specs.Columns.{columns}
 use Rattle.ansi_columns.specs.Views.{seen_len, seen_text}
 use Rattle.ansi_columns.specs.Walks.{SeesUpTo}
-use Rattle.ansi_columns.proofs.MissingLemmas.{IsLack, lack-alone, lack-beside}
+use Rattle.ansi_columns.proofs.MissingLemmas.{IsLack, known_if, lack-alone, lack-beside}
 use Rattle.ansi_columns.proofs.ShownLemmas.{width-fits, width-wide, width-tail}
 use Rattle.ansi_columns.proofs.shown.truncation.Goals as goal
 
@@ -58,11 +57,6 @@ pub returns-clause-tail : goal.returns-clause-tail
 returns-clause-tail c =
     (width-tail (cell c.args.text.now) c.args.tail.now c.args.width (sym c.fitting_front-whole.ensures.all ∙ c.if-whole.false) (omega (arith, c.width-tail_width.ensures))).1
 
--- a value that is known only if a test holds
-known_if : (P : ℕ → Type 0) (b : Bool) (n : ℕ) → (b ≡ true → P n) → IfSome (then_some b n) P
-known_if P true n holds = holds refl
-known_if P false n holds = tt
-
 pub returns-clause-missing : goal.returns-clause-missing
 returns-clause-missing c =
     let t = c.args.text.now in
@@ -75,4 +69,4 @@ returns-clause-missing c =
     let sees = subst (λ n. SeesUpTo Shown t n at.position) (sym (is.0 ∙ ap (λ n. width - n) (sym c.width-tail_width.ensures))) front.fits in
     let sum : columns (take (seen_len Shown t at.position) (seen_text Shown t)) + left + columns (plain tail) ≡ width = omega (arith, front.left, c.width-tail_width.ensures) in
     subst (λ o. IfSome o (IsLack (cell t) width tail)) (sym c.then_some.ensures)
-    (known_if (IsLack (cell t) width tail) c.is_apart.result left (λ holds. lack-beside t c.utf8.text width tail at front.walk sees left sum is.1 (c.is_apart.ensures.bare holds) (c.is_apart.ensures.breaks holds)))
+    (known_if (IsLack (cell t) width tail) c.is_apart.result left (λ holds. lack-beside t c.utf8.text width tail at front.walk sees left tail sum is.1 (c.is_apart.ensures.bare holds) (c.is_apart.ensures.breaks holds)))

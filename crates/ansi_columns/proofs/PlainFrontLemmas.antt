@@ -1,0 +1,325 @@
+-- The front of a text of a cell that is printable ASCII and SGRs, up to a run: the walk there, what of the run stays too, and where the text is cut if it goes on past the width.
+use Rattle.std.proofs.Common.{◌≡◌, ◌≢◌, ℕ, zero, suc, ◌+◌, ◌-◌, ◌<◌, ◌≤◌, inl, inr, true, false, List, [], ◌∷◌, ◌++◌, length, take, drop, reverse, slice_index, slice_range, chars, encode_utf8_all, nat_le, if◌then◌else◌, Some, refl, sym, ◌∙◌, ap, ap₂, subst, arith, append-nil, length-append, take-add}
+use Rattle.std.specs.List.{list_all}
+use Rattle.std.specs.Str.{IsUtf8, IsAscii, IsCharBoundary}
+use Rattle.std.proofs.Math.Seq.{drop-cons}
+use Rattle.std.proofs.lemmas.Bool.{and_from, and_parts, cases_lt, lt-leb}
+use Rattle.std.proofs.lemmas.Grind.{flat_map-append}
+use Rattle.std.proofs.lemmas.List.{drop_at, take_all, take_at, take-append-le, take-take}
+use Rattle.std.proofs.lemmas.List.Folds.{list_all-append}
+use Rattle.std.proofs.lemmas.List.Sums.{sum_by-append}
+use Rattle.std.proofs.lemmas.Str.{chars-append, chars-IsAscii, IsUtf8-append, IsUtf8-from_ascii, IsUtf8-take}
+use Rattle.std.proofs.lemmas.Str.Ascii.{IsAscii-from_all, encodes-IsAscii}
+use Rattle.unicode_segmentation.specs.Grapheme.{is_grapheme_break}
+use Rattle.ansi_items.specs.declared.ansitok.Item.{Item}
+use Rattle.ansi_items.specs.declared.ansitok.Kind.TheVariants.{Text as TextKind}
+use Rattle.ansi_items.specs.Bytes.{is_plain_byte}
+use Rattle.ansi_items.specs.Pieces.{Piece, Text, Sequence, LoneEscape, spelling, StandsBefore, ArePieces, pieces_of}
+use Rattle.ansi_items.specs.Plain.{plain, plain_bytes, plain_of}
+use Rattle.ansi_items.specs.Scans.{Scan, GivesItem, pieces_left}
+use Rattle.ansi_items.proofs.JoinLemmas.{spelled}
+use Rattle.ansi_items.proofs.PieceLemmas.{pieces_are, pieces_of-unique}
+use Rattle.ansi_items.proofs.PlainLemmas.{one_text, one_text_are}
+use Rattle.ansi_style.specs.declared.state.rendition.Rendition.{Rendition}
+use Rattle.ansi_style.specs.Rendition.{plain_style}
+use Rattle.ansi_style.specs.Written.{close}
+use Rattle.ansi_style.proofs.StyledLemmas.{style_through, style_through-append}
+use Rattle.ansi_search.specs.Offsets.{bytes_before, offset_of}
+use Rattle.ansi_search.proofs.OffsetLemmas.{IsOverText, bytes_before-last, over_text, take-after}
+use Rattle.ansi_search.proofs.SliceLemmas.{list_all-parts}
+use Rattle.ansi_safe.specs.Cells.{cell}
+use Rattle.ansi_columns.specs.declared.views.View.{View}
+use Rattle.ansi_columns.specs.declared.views.View.TheVariants.{Shown}
+use Rattle.ansi_columns.specs.declared.walks.Walk.{Walk}
+use Rattle.ansi_columns.specs.BreakStates.{break_state_of}
+use Rattle.ansi_columns.specs.Columns.{clusters, cluster_width, columns_of, columns, FitsUpTo}
+use Rattle.ansi_columns.specs.PlainCells.{IsPlainText, IsPlainBefore, IsPlainCut}
+use Rattle.ansi_columns.specs.Shown.{has_tail, truncated_width, KeptStays}
+use Rattle.ansi_columns.specs.Views.{seen, seen_text, seen_len}
+use Rattle.ansi_columns.specs.Walks.{clusters_after, seen_before, seen_after, seen_clusters, IsWalkIn, IsNext, IsPrintable, IsPrintableFront, IsPastAscii, AreClustersIn, IsFittingTo, SeesUpTo}
+use Rattle.ansi_columns.proofs.AsciiLemmas.{is_printable, printable-below_7F, All-printable_is_ascii, break_state-printable, breaks-between, width-single}
+use Rattle.ansi_columns.proofs.ClusterLawLemmas.{reversed_before, cluster-alone}
+use Rattle.ansi_columns.proofs.ColumnLemmas.{fitting-before, sees-up_to}
+use Rattle.ansi_columns.proofs.FitLemmas.{fitting-columns}
+use Rattle.ansi_columns.proofs.KeptLemmas.{bytes_before-append, truncated-front}
+use Rattle.ansi_columns.proofs.MissingLemmas.{IsLack, lack-beside, reversed-is}
+use Rattle.ansi_columns.proofs.PlainCellLemmas.{is_plain_piece, IsPlainSoFar, plain-printable, plain-text}
+use Rattle.ansi_columns.proofs.PrintableLemmas.{slice_range-take, next-ascii, all-index, singles, columns-singles, bytes-singles, front-size, printable-at, columns-past, fitting-past, front-fewer, IsPrintable-front}
+use Rattle.ansi_columns.proofs.ShownLemmas.{IsCutTo}
+use Rattle.ansi_columns.proofs.ViewLemmas.{seen-append, seen-chars, seen-printable, seen-all_printable}
+
+-- ---- the text up to a byte of the run
+
+first_byte : (n : ℕ) (rest : List ℕ) → take n rest ≢ [] → (rest ≢ []) × (slice_index (take n rest) 0 ≡ slice_index rest 0)
+first_byte n rest some = grind arith
+
+stands-before : (p : Piece) (rest : List ℕ) (n : ℕ) → is_plain_piece p ≡ true → StandsBefore p rest → StandsBefore p (take n rest)
+stands-before (Text w) rest n is stands = (stands.0, stands.1, λ some. (let first = first_byte n rest some in first.1 ∙ stands.2 first.0))
+stands-before (Sequence w) rest n is stands = stands
+stands-before LoneEscape rest n is stands = absurd (cc is)
+
+front-are : (t : List ℕ) (front : List Piece) (w : List ℕ) (n : ℕ) (ps : List Piece) → ArePieces t (front ++ Text w ∷ ps) → list_all is_plain_piece front ≡ true → n ≤ length w → ArePieces (take (length (spelled front) + n) t) (front ++ one_text (take n w))
+front-are t [] w n ps are all within =
+    let here : take (0 + n) t ≡ take n w = ap₂ take (omega arith) are.1 ∙ take-append-le n w are.0 within in
+    subst (λ u. ArePieces u (one_text (take n w))) (sym here) (one_text_are (take n w) (list_all-parts is_plain_byte n w are.2.1).0)
+front-are t (p ∷ front) w n ps are all within =
+    let both = and_parts (is_plain_piece p) (list_all is_plain_piece front) all in
+    let m = length (spelled front) + n in
+    let count : length (spelling p ++ spelled front) + n ≡ length (spelling p) + m = omega (arith, length-append (spelling p) (spelled front)) in
+    (take m are.0, ap₂ take count are.1 ∙ take-after (spelling p) are.0 m, stands-before p are.0 m both.0 are.2, front-are are.0 front w n ps are.3 both.1 within)
+
+one_text-plain : (x : List ℕ) → list_all is_printable x ≡ true → list_all is_plain_piece (one_text x) ≡ true
+one_text-plain [] all = refl
+one_text-plain (b ∷ x) all = and_from _ _ all refl
+
+one_text-through : (style : Rendition) (x : List ℕ) → style_through style (one_text x) ≡ style
+one_text-through style [] = refl
+one_text-through style (b ∷ x) = refl
+
+-- ---- the clusters before the run
+
+clusters-singles : (before x : List ℕ) (d : ℕ) (cs : List ℕ) → list_all is_printable x ≡ true → is_printable d ≡ true → clusters_after before (x ++ d ∷ cs) ≡ singles x ++ clusters_after (reversed_before before x) (d ∷ cs)
+clusters-singles before [] d cs all next = refl
+clusters-singles before (c ∷ []) d cs all next = cluster-alone before c (d ∷ cs) (breaks-between before c d cs (and_parts _ _ all).0 next)
+clusters-singles before (c ∷ e ∷ x) d cs all next =
+    let both = and_parts _ _ all in
+    cluster-alone before c (e ∷ x ++ d ∷ cs) (breaks-between before c e (x ++ d ∷ cs) both.0 (and_parts _ _ both.1).0)
+    ∙ ap (λ ks. (c ∷ []) ∷ ks) (clusters-singles (c ∷ before) (e ∷ x) d cs both.1 next)
+
+break_state-front : (before x : List ℕ) → break_state_of [] ≡ break_state_of before → list_all is_printable x ≡ true → break_state_of [] ≡ break_state_of (reversed_before before x)
+break_state-front before [] is all = is
+break_state-front before (c ∷ x) is all = (let both = and_parts _ _ all in break_state-front (c ∷ before) x (break_state-printable c before both.0) both.1)
+
+module _ (t : List ℕ) (utf8 : IsUtf8 t) (x y : List ℕ) (text : plain t ≡ x ++ y) (all : list_all is_printable x ≡ true) where
+  ascii : IsAscii x
+  ascii = IsAscii-from_all x (All-printable_is_ascii x all)
+
+  taken : seen Shown (chars (take (length x) (plain t))) ≡ x
+  taken = ap (λ u. seen Shown (chars u)) (ap (take (length x)) text ∙ take_at x y (length x) refl) ∙ ap (seen Shown) (chars-IsAscii x ascii) ∙ seen-all_printable Shown x all
+
+  before-is : seen_before Shown t (length x) ≡ reversed_before [] x
+  before-is = ap reverse taken ∙ sym (append-nil (reverse x)) ∙ sym (reversed-is [] x)
+
+  front-state : break_state_of [] ≡ break_state_of (seen_before Shown t (length x))
+  front-state = break_state-front [] x refl all ∙ ap break_state_of (sym before-is)
+
+  after-is : seen_after Shown t (length x) ≡ seen Shown (chars y)
+  after-is = ap (λ u. seen Shown (chars u)) (ap (drop (length x)) text ∙ drop_at x y (length x) refl)
+
+  all-is : chars (seen_text Shown t) ≡ x ++ seen Shown (chars y)
+  all-is =
+      seen-chars Shown t utf8 ∙ ap (λ u. seen Shown (chars u)) text ∙ ap (seen Shown) (chars-append x y (IsUtf8-from_ascii x ascii) ∙ ap (λ cs. cs ++ chars y) (chars-IsAscii x ascii))
+      ∙ seen-append Shown x (chars y) ∙ ap (λ cs. cs ++ seen Shown (chars y)) (seen-all_printable Shown x all)
+
+  -- they fit, if a printable byte follows
+  fitting-front : {width left : ℕ} (b : ℕ) (rest : List ℕ) → y ≡ b ∷ rest → is_printable b ≡ true → length x + left ≡ width → IsFittingTo Shown t width (length x) left
+  fitting-front {width} {left} b rest is printable sum =
+      let one : list_all is_printable (b ∷ []) ≡ true = and_from _ _ printable refl in
+      let ascii_one : IsAscii (b ∷ []) = IsAscii-from_all (b ∷ []) (All-printable_is_ascii (b ∷ []) one) in
+      let first : seen Shown (chars y) ≡ b ∷ seen Shown (chars rest)
+      = ap (λ u. seen Shown (chars u)) is ∙ ap (seen Shown) (chars-append (b ∷ []) rest (IsUtf8-from_ascii (b ∷ []) ascii_one) ∙ ap (λ cs. cs ++ chars rest) (chars-IsAscii (b ∷ []) ascii_one))
+      ∙ seen-append Shown (b ∷ []) (chars rest) ∙ ap (λ cs. cs ++ seen Shown (chars rest)) (seen-all_printable Shown (b ∷ []) one) in
+      record {
+        front = singles x;
+        all = ap (clusters_after []) (all-is ∙ ap (λ cs. x ++ cs) first) ∙ clusters-singles [] x b (seen Shown (chars rest)) all printable
+            ∙ ap (λ ks. singles x ++ ks) (ap₂ clusters_after (sym before-is) (sym (after-is ∙ first)));
+        boundary = ap (λ cs. length (encode_utf8_all cs)) taken ∙ ap length (encodes-IsAscii x ascii) ∙ sym (bytes-singles x all);
+        columns = omega (arith, sum, columns-singles x all);
+      }
+
+  fitting-run : {width left : ℕ} (w rest : List ℕ) → y ≡ w ++ rest → 0 < length w → list_all is_printable (take 1 w) ≡ true → length x + left ≡ width → IsFittingTo Shown t width (length x) left
+  fitting-run [] rest is some printable sum = absurd (omega (arith, some))
+  fitting-run (b ∷ w) rest is some printable sum = fitting-front b (w ++ rest) is (and_parts _ _ printable).0 sum
+
+-- ---- the walk at the run
+
+-- the walk, and what is known of the text before it
+pub record IsAtRun (t : List ℕ) (width left : ℕ) (style : Rendition) (v : Walk) : Type 0 where
+  pub is_walk : IsWalkIn Shown t v
+  pub front : (n : ℕ) → IsPrintableFront t v n → IsPlainText (take (v.offset + n) t) style
+  pub fitting : IsPrintableFront t v 1 → IsFittingTo Shown t width v.position left
+
+walk-at : {t w : List ℕ} {width left passed at : ℕ} {style : Rendition} {old ps : List Piece} (v : Walk) → IsUtf8 t → IsPlainSoFar t width left style passed old → IsOverText t w passed at old ps → IsCharBoundary t at → 0 < length w
+    → v.position ≡ width - left → v.offset ≡ passed → v.run_end ≡ at → v.break_state ≡ break_state_of [] → IsAtRun t width left style v
+walk-at {t} {w} {width} {left} {passed} {at} {style} {old} {ps} v utf8 so_far over end some position offset run_end break_state =
+    let front = so_far.front in
+    let x = plain_of front in
+    let y = w ++ plain_of ps in
+    let pieces : pieces_of t ≡ front ++ Text w ∷ ps = so_far.all ∙ ap (λ qs. front ++ qs) over.first in
+    let printable = plain-printable front so_far.are_plain in
+    let text : plain t ≡ x ++ y = ap plain_of pieces ∙ flat_map-append plain_bytes front (Text w ∷ ps) in
+    let place : v.position ≡ length x = omega (arith, position, so_far.count) in
+    let there : offset_of t (length x) ≡ length (spelled front)
+    = ap (bytes_before (length x)) pieces ∙ bytes_before-append front (Text w ∷ ps) ∙ ap (λ n. length (spelled front) + n) (bytes_before-last 0 w ps some) ∙ omega arith in
+    let run_are = subst (ArePieces (drop passed t)) (over.there ∙ over.first) (pieces_are (drop passed t)) in
+    let taken : (n : ℕ) → n ≤ length w → take n (drop v.offset t) ≡ take n w = λ n within. ap (λ i. take n (drop i t)) offset ∙ ap (take n) run_are.1 ∙ take-append-le n w run_are.0 within in
+    let inside : (n : ℕ) → v.offset + n ≤ v.run_end → n ≤ length w = λ n within. omega (arith, within, over.count, offset, run_end) in
+    let size : v.run_end - v.offset ≡ length w = omega (arith, over.count, offset, run_end) in
+    let part : (n : ℕ) → IsPrintableFront t v n → list_all is_printable (take n w) ≡ true
+    = λ n bytes. ap (list_all is_printable) (sym (slice_range-take t v.offset n ∙ taken n (inside n bytes.within))) ∙ bytes.bytes in
+    record {
+      is_walk = record {
+        offset = offset ∙ so_far.bytes ∙ sym (ap (offset_of t) place ∙ there);
+        run = record {
+          ordered = omega (arith, over.count, offset, run_end);
+          start_boundary = subst (IsCharBoundary t) (sym offset) over.begins;
+          end_boundary = subst (IsCharBoundary t) (sym run_end) end;
+          bytes = ap (λ n. list_all is_plain_byte (take n (drop v.offset t))) size ∙ ap (list_all is_plain_byte) (taken (length w) (omega arith) ∙ take_all (length w) w (omega arith)) ∙ run_are.2.1;
+        };
+        end = λ e. absurd (omega (arith, e, size, some));
+        break_state = break_state ∙ front-state t utf8 x y text printable ∙ ap (λ n. break_state_of (seen_before Shown t n)) (sym place);
+        within = omega (arith, place, ap length text, length-append x y);
+      };
+      front = λ n bytes.
+          let within = inside n bytes.within in
+          let whole : take (v.offset + n) t ≡ take v.offset t ++ take n w = take-add v.offset n t ∙ ap (λ u. take v.offset t ++ u) (taken n within) in
+          let utf8_to : IsUtf8 (take v.offset t) = IsUtf8-take t v.offset utf8 (subst (IsCharBoundary t) (sym offset) over.begins) in
+          let ascii : IsAscii (take n w) = IsAscii-from_all (take n w) (All-printable_is_ascii (take n w) (part n bytes)) in
+          let are = front-are t front w n ps (subst (ArePieces t) pieces (pieces_are t)) so_far.are_plain within in
+          let i : length (spelled front) + n ≡ v.offset + n = omega (arith, offset, so_far.bytes) in
+          plain-text (front ++ one_text (take n w)) (subst IsUtf8 (sym whole) (IsUtf8-append (take v.offset t) (take n w) utf8_to (IsUtf8-from_ascii (take n w) ascii)))
+          (sym (pieces_of-unique _ _ (subst (λ i. ArePieces (take i t) (front ++ one_text (take n w))) i are)))
+          (list_all-append is_plain_piece front (one_text (take n w)) ∙ and_from _ _ so_far.are_plain (one_text-plain (take n w) (part n bytes)))
+          (so_far.style_is ∙ sym (style_through-append plain_style front (one_text (take n w)) ∙ one_text-through (style_through plain_style front) (take n w)));
+      fitting = λ bytes. subst (λ n. IsFittingTo Shown t width n left) (sym place) (fitting-run t utf8 x y text printable w (plain_of ps) refl some (part 1 bytes) so_far.count);
+    }
+
+pub at-run : {t : List ℕ} {width left : ℕ} {style : Rendition} {old new : Scan} {item : Item} (v : Walk) → IsUtf8 t → IsPlainSoFar t width left style old.offset (pieces_left old) → GivesItem old item new → old.text ≡ t → item.kind ≡ TextKind
+    → v.position ≡ width - left → v.offset ≡ item.start → v.run_end ≡ item.end → v.break_state ≡ break_state_of [] → IsAtRun t width left style v
+at-run {t} {new = new} {item} v utf8 so_far gives same kind position offset run_end break_state =
+    let over = over_text gives same refl kind in
+    let end : IsCharBoundary t new.offset = subst (IsCharBoundary t) gives.end (subst (λ u. IsCharBoundary u item.end) same gives.end_boundary) in
+    walk-at v utf8 so_far over end (omega (arith, over.count, gives.start, gives.end, gives.forward)) position (offset ∙ gives.start) (run_end ∙ gives.end) break_state
+
+-- a run that goes on past the width
+pub plain-before : {t : List ℕ} {width left : ℕ} {style : Rendition} {v : Walk} → IsAtRun t width left style v → (n : ℕ) × (left < n) × (later : Walk) × IsPastAscii t v n later → IsPlainBefore t width left style v
+plain-before {t} {v = v} run past =
+    let n = past.0 in
+    let front = past.3.front in
+    let bytes : list_all is_printable (take n (drop v.offset t)) ≡ true = ap (list_all is_printable) (sym (slice_range-take t v.offset n)) ∙ front.bytes in
+    record {
+      is_walk = run.is_walk;
+      front = run.front;
+      fitting = run.fitting (record {
+        within = omega (arith, front.within, past.1);
+        bytes = ap (list_all is_printable) (slice_range-take t v.offset 1 ∙ sym (take-take 1 n (drop v.offset t) (omega (arith, past.1)))) ∙ (list_all-parts is_printable 1 (take n (drop v.offset t)) bytes).0;
+      });
+      count = n;
+      more = past.1;
+      later = past.2;
+      past = past.3;
+    }
+
+-- ---- the place at which the text is cut
+
+-- each of the bytes is a cluster by itself
+clusters-at : (t : List ℕ) (n k : ℕ) (bytes : List ℕ) → AreClustersIn Shown t n bytes → k < length bytes → seen_clusters Shown t (n + k) ≡ (slice_index bytes k ∷ []) ∷ seen_clusters Shown t (n + k + 1)
+clusters-at t n k [] are inside = absurd (omega (arith, inside))
+clusters-at t n zero (b ∷ bytes) are inside = (let same : n + 0 ≡ n = omega arith in subst (λ m. seen_clusters Shown t m ≡ (b ∷ []) ∷ seen_clusters Shown t (m + 1)) (sym same) are.0)
+clusters-at t n (suc k) (b ∷ bytes) are inside =
+    let same : n + 1 + k ≡ n + suc k = omega arith in
+    subst (λ m. seen_clusters Shown t m ≡ (slice_index bytes k ∷ []) ∷ seen_clusters Shown t (m + 1)) same (clusters-at t (n + 1) k bytes are.1 (omega (arith, inside)))
+
+inside-run : {a b n : ℕ} → a < n → a ≤ b → (a ≡ b → a ≡ n) → a < b
+inside-run {a} {b} inside ordered end = elim (cases_lt a b) [
+  | inl less ↦ less
+  | inr past ↦ absurd (omega (arith, inside, end (omega (arith, past, ordered))))
+]
+
+module _ (t : List ℕ) (utf8 : IsUtf8 t) (w v : Walk) (room k : ℕ) (walk : IsWalkIn Shown t w) (fitting : IsFittingTo Shown t room w.position k) (over : IsPastAscii t w k v) (at : v.offset ≡ w.offset + k) where
+  there : IsFittingTo Shown t room v.position 0
+  there = (let none : k - k ≡ 0 = omega arith in subst (IsFittingTo Shown t room v.position) none (fitting-past walk over (omega arith) fitting))
+
+  pub columns-cut : columns (take (seen_len Shown t v.position) (seen_text Shown t)) ≡ room
+  columns-cut = omega (arith, fitting-columns v.position there utf8 refl)
+
+  -- more of the run is printable
+  module _ (n : ℕ) (more : k < n) (later : Walk) (past : IsPastAscii t w n later) where
+    abbrev bytes : List ℕ
+    bytes = slice_range t w.offset (w.offset + n)
+
+    abbrev next : ℕ
+    next = slice_index t v.offset
+
+    next-printable : is_printable next ≡ true
+    next-printable =
+        ap (λ i. is_printable (slice_index t i)) at
+        ∙ printable-at n k walk (omega (arith, past.front.within)) (ap (list_all is_printable) (sym (slice_range-take t w.offset n)) ∙ past.front.bytes) more
+
+    fits : FitsUpTo (seen_text Shown t) room (seen_len Shown t v.position)
+    fits =
+        let size : length bytes ≡ n = front-size walk past.front in
+        let b = slice_index bytes k in
+        let printable : is_printable b ≡ true = all-index k bytes (omega (arith, size, more)) past.front.bytes in
+        let first = clusters-at t w.position k bytes (past.clusters Shown) (omega (arith, size, more)) in
+        fitting-before (b ∷ []) (seen_clusters Shown t (v.position + 1)) there (subst (λ m. seen_clusters Shown t m ≡ (b ∷ []) ∷ seen_clusters Shown t (m + 1)) (sym over.position) first)
+        (sym (width-single b printable)) (omega arith)
+
+    pub sees-cut : SeesUpTo Shown t room v.position
+    sees-cut =
+        let is = over.walk Shown walk in
+        let inside : v.offset < length t = omega (arith, at, more, past.front.within, walk.run.end_boundary.0) in
+        let goes_on : v.offset < v.run_end = inside-run inside is.run.ordered is.end in
+        let follows : IsNext t v next = next-ascii Shown t utf8 v next (drop (suc v.offset) t) (drop-cons t v.offset 0 inside) (omega (arith, printable-below_7F next next-printable)) goes_on in
+        sees-up_to Shown t utf8 v is v.position (Some next) fits refl (record { given = next; next = follows; seen = seen-printable Shown next next-printable; size = refl })
+
+-- the place k bytes further on in the run, up to which a narrower width is filled
+pub plain-cut : {t : List ℕ} {width left : ℕ} {style : Rendition} {w v : Walk} (room k : ℕ) → IsUtf8 t → IsPlainBefore t width left style w → k ≤ left → room + left ≡ width + k → IsPastAscii t w k v → v.offset ≡ w.offset + k → IsPlainCut t room style v
+plain-cut {t} {width} {left} {style} {w} {v} room k utf8 before within sum over at =
+    let fitting : IsFittingTo Shown t room w.position k
+    = record {
+      front = before.fitting.front;
+      all = before.fitting.all;
+      boundary = before.fitting.boundary;
+      columns = omega (arith, before.fitting.columns, sum);
+    } in
+    record {
+      is_walk = over.walk Shown before.is_walk;
+      text = subst (λ i. IsPlainText (take i t) style) (sym at) (before.front k over.front);
+      sees = sees-cut t utf8 w v room k before.is_walk fitting over at before.count (omega (arith, within, before.more)) before.later before.past;
+      sum = columns-cut t utf8 w v room k before.is_walk fitting over at;
+    }
+
+-- the text doesn't fit
+pub plain-wide : {t : List ℕ} {width left : ℕ} {style : Rendition} {w : Walk} → IsPlainBefore t width left style w → nat_le (columns (plain (cell t))) width ≡ false
+plain-wide {t} {width} {w = w} before =
+    lt-leb (columns (plain (cell t))) width
+    (omega (arith, ap columns_of before.fitting.all ∙ sum_by-append cluster_width before.fitting.front (seen_clusters Shown t w.position), before.fitting.columns, before.more, columns-past before.is_walk before.past))
+
+-- what the code asks of the bytes before it
+pub plain-ahead : {t : List ℕ} {width left : ℕ} {style : Rendition} {w : Walk} (k : ℕ) → IsPlainBefore t width left style w → k ≤ left → IsPrintable t w k
+plain-ahead k before within = front-fewer before.count k before.is_walk before.past.front (omega (arith, within, before.more))
+
+-- the code passes them
+pub plain-over : {t : List ℕ} {width left : ℕ} {style : Rendition} {w v : Walk} (k : ℕ) → IsPlainBefore t width left style w → k ≤ left → ((view : View) → IsWalkIn view t w → IsWalkIn view t v) → v.position ≡ w.position + k
+    → ((view : View) → AreClustersIn view t w.position (slice_range t w.offset (w.offset + k))) → ((view : View) → seen_len view t v.position ≡ seen_len view t w.position + k) → IsPastAscii t w k v
+plain-over k before within walk position clusters seen = record {
+  front = IsPrintable-front k before.is_walk (λ some. plain-ahead k before within);
+  walk = walk;
+  position = position;
+  clusters = clusters;
+  seen = seen;
+}
+
+-- ---- the text truncated
+
+-- the code has the front of the text, what closes its style, and what is written after it
+pub record IsPlainTruncated (t : List ℕ) (width : ℕ) (tail part close after : List ℕ) : Type 0 where
+  pub cut : IsCutTo (cell t) width tail part close after
+  pub kept : KeptStays t width tail
+
+pub plain-truncated : {t part after : List ℕ} {room : ℕ} {style : Rendition} {v : Walk} (width : ℕ) (tail : List ℕ) → IsUtf8 t → IsPlainCut t room style v → truncated_width (cell t) width tail ≡ room → after ≡ (if has_tail (cell t) width tail then tail else [])
+    → part ≡ slice_range t 0 v.offset → IsPlainTruncated t width tail part ([] ++ close style) after
+unfolding KeptStays
+plain-truncated {t} {part} {style = style} {v = v} width tail utf8 is room_is after_is part_is =
+    let count : v.offset - 0 ≡ v.offset = omega arith in
+    let text : IsPlainText part style = subst (λ u. IsPlainText u style) (sym (part_is ∙ ap (λ n. take n t) count)) is.text in
+    let sees = subst (λ n. SeesUpTo Shown t n v.position) (sym room_is) is.sees in
+    let truncated = truncated-front t utf8 v width tail is.is_walk sees part_is (sym text.stays) refl text.style_is (sym text.link_is) refl refl after_is in
+    record { cut = truncated.cut; kept = subst (λ u. cell u ≡ u) truncated.kept text.stays }
+
+-- the columns that it lacks, if what is written has no sequences, and a cluster ends before it
+pub plain-lack : {t : List ℕ} {room : ℕ} {style : Rendition} {v : Walk} (width : ℕ) (tail after : List ℕ) → IsUtf8 t → IsPlainCut t room style v → truncated_width (cell t) width tail ≡ room → after ≡ (if has_tail (cell t) width tail then tail else [])
+    → room + columns (plain after) ≡ width → list_all is_plain_byte after ≡ true → ((before : List ℕ) → before ≢ [] → v.break_state ≡ break_state_of before → is_grapheme_break true before (chars after) ≡ true) → IsLack (cell t) width tail 0
+plain-lack {t} {v = v} width tail after utf8 is room_is after_is sum bare breaks =
+    lack-beside t utf8 width tail v is.is_walk (subst (λ n. SeesUpTo Shown t n v.position) (sym room_is) is.sees) 0 after (omega (arith, is.sum, sum)) after_is bare breaks

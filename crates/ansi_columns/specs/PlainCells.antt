@@ -1,0 +1,40 @@
+-- What one pass over a text of a cell finds, if that is printable ASCII and SGRs. No public contract cites it.
+use Rattle.std.specs.Prelude.{◌≡◌, ℕ, ◌+◌, ◌<◌, List, [], take}
+use Rattle.ansi_items.specs.Plain.{plain, marks}
+use Rattle.ansi_style.specs.declared.state.rendition.Rendition.{Rendition}
+use Rattle.ansi_style.specs.Styled.{style_after}
+use Rattle.ansi_safe.specs.Cells.{cell}
+use Rattle.ansi_safe.specs.Links.{link_of}
+use Rattle.ansi_columns.specs.declared.views.View.TheVariants.{Shown}
+use Rattle.ansi_columns.specs.declared.walks.Walk.{Walk}
+use Rattle.ansi_columns.specs.Columns.{columns}
+use Rattle.ansi_columns.specs.Views.{seen_len, seen_text}
+use Rattle.ansi_columns.specs.Walks.{IsWalkIn, IsPrintableFront, IsPastAscii, IsFittingTo, SeesUpTo}
+
+-- The text stays as it is in a cell. This style is open at its end, and no link.
+pub record IsPlainText (t : List ℕ) (style : Rendition) : Type 0 where
+  pub stays : cell t ≡ t
+  pub style_is : style ≡ style_after t
+  pub link_is : link_of (marks t) ≡ []
+
+-- Such a text fits, and leaves this many columns of the width.
+pub record IsPlainCell (t : List ℕ) (width left : ℕ) (style : Rendition) : Type 0 where
+  pub text : IsPlainText t style
+  pub sum : columns (plain t) + left ≡ width
+
+-- The text before a walk is such a text and fits, and so it is with printable ASCII of the walk's run. More of that follows than the columns that it leaves, so all of the text doesn't fit.
+pub record IsPlainBefore (t : List ℕ) (width left : ℕ) (style : Rendition) (walk : Walk) : Type 0 where
+  pub is_walk : IsWalkIn Shown t walk
+  pub front : (n : ℕ) → IsPrintableFront t walk n → IsPlainText (take (walk.offset + n) t) style
+  pub fitting : IsFittingTo Shown t width walk.position left
+  pub count : ℕ
+  pub more : left < count
+  pub later : Walk
+  pub past : IsPastAscii t walk count later
+
+-- What fits of a text into the width ends at a walk. Up to there it is such a text, and has as many columns.
+pub record IsPlainCut (t : List ℕ) (width : ℕ) (style : Rendition) (walk : Walk) : Type 0 where
+  pub is_walk : IsWalkIn Shown t walk
+  pub text : IsPlainText (take walk.offset t) style
+  pub sees : SeesUpTo Shown t width walk.position
+  pub sum : columns (take (seen_len Shown t walk.position) (seen_text Shown t)) ≡ width
