@@ -54,7 +54,7 @@ fn wrap_line<A: Allocator + Copy>(
     ensures { IfOk result (λ s. string_bytes s
         ≡ join_by (λ t. t) (line_break end.now) (changed (Wrapped width) text.now) ++ end.now) }
 {
-    let mut made = String::with_capacity(alloc, text.len())?;
+    let mut made = String::with_capacity(alloc, room_for_lines(text, width, end))?;
     let mut lines = wrap(alloc, text, width);
     if let Some(first) = lines.next() {
         made.push_str(first?.as_str())?;
@@ -65,6 +65,15 @@ fn wrap_line<A: Allocator + Copy>(
     }
     made.push_str(end)?;
     Ok(made)
+}
+
+// How many bytes the lines of a text wrapped at a width have, with their ends, if each line is full
+// and opens and closes nothing.
+fn room_for_lines(text: &str, width: usize, end: &str) -> usize {
+    let breaks = text.len() / width.max(1);
+    text.len()
+        .saturating_add(end.len())
+        .saturating_add(breaks.saturating_mul(line_break(end).len()))
 }
 
 // Texts as lines, the last of which has this end.
