@@ -2,7 +2,7 @@
 use Rattle.std.proofs.Common.{◌≡◌, ℕ, ◌+◌, ◌≤◌, ◌==◌, true, false, List, [], ◌∷◌, length, Option, Some, None, Result, Ok, IsTrue, IsFalse, ◌↔◌, refl, sym, ◌∙◌, ap, ap₂, subst, arith}
 use Rattle.std.specs.Cow.{cow_str_bytes, IsBorrowedStr}
 use Rattle.std.specs.List.{list_all}
-use Rattle.std.specs.Prelude.{IsSome, bytes_eq}
+use Rattle.std.specs.Prelude.{IsSome, IsNone, bytes_eq}
 use Rattle.std.specs.declared.borrow.CowStr.{CowStr}
 use Rattle.std.specs.declared.borrow.CowStr.TheVariants.{Borrowed, Owned}
 use Rattle.std.proofs.lemmas.Bool.{false_from_ne_true}
@@ -18,7 +18,7 @@ use Rattle.ansi_columns.specs.Walks.{clusters_from}
 use Rattle.ansi_columns.specs.declared.walks.Walk.{Walk}
 use Rattle.ansi_columns.specs.declared.wrap.spans.Spans.{Spans}
 use Rattle.ansi_columns.specs.Wrapped.{CarriedPart, lines_over, lent_lines, wrapped, marks_left, GivesLine}
-use Rattle.ansi_columns.specs.WrapStates.{open_link, lines_of, span_lines, is_lent}
+use Rattle.ansi_columns.specs.WrapStates.{open_link, lines_of, span_lines, shown_text, is_lent, AreLeft}
 use Rattle.ansi_columns.proofs.WrapLemmas.{lines_filled, bare-borrowed}
 
 pub lent-true : (ls : List CarriedPart) → lent_lines true ls ≡ ls
@@ -47,6 +47,14 @@ first-left t s some = by s.next some
     by None some = absurd (cc some)
     by (Some w) some = filled-over (rendition_of s.pen.style) (open_link t s.pen) (plain t) (marks_left t s.before s.taken) (lines_left t s.width (Some w)) (lines_filled s.width w.position w.position w.position 0 (clusters_from t w.position))
 
+pub none-left : (t : List ℕ) (s : Spans) → IsNone s.next → span_lines t s ≡ []
+unfolding lines_over
+none-left t s none = by s.next none
+  where
+    by : (next : Option Walk) → IsNone next → lines_over (rendition_of s.pen.style) (open_link t s.pen) (plain t) (marks_left t s.before s.taken) (lines_left t s.width next) ≡ []
+    by None none = refl
+    by (Some w) none = absurd (cc none)
+
 -- A text lends its lines if it is its own paragraph.
 
 pub lent-paragraph : {A : Type 0} (E : Type 0) (t : List ℕ) (c : CowStr A) → (IsBorrowedStr c ↔ (paragraph t ≡ t)) → is_lent {A = A} {E = E} c None ≡ bytes_eq (paragraph t) t
@@ -68,6 +76,18 @@ wrapped-itself t width same =
 pub failed-lends : {A E : Type 0} (c : CowStr A) (e : E) → is_lent c (Some e) ≡ false
 failed-lends (Borrowed s) e = refl
 failed-lends (Owned s) e = refl
+
+-- and there is a first one
+pub failed-first : {A E : Type 0} (c : CowStr A) {failure : Option E} {e : E} (s : Spans) → failure ≡ Some e → AreLeft c failure s
+    → (l : CarriedPart) × (ls : List CarriedPart) × (lent_lines (is_lent c failure) (span_lines (shown_text c failure) s) ≡ l ∷ ls) × IsFalse l.borrowed
+failed-first c {failure} {e} s failed are =
+    let shown = shown_text c failure in
+    let first = first-left shown s (are.some (subst (λ o. IsSome o) (sym failed) refl)) in (
+      record first.0 { borrowed = false },
+      lent_lines false first.1,
+      ap (λ b. lent_lines b (span_lines shown s)) (ap (is_lent c) failed ∙ failed-lends c e) ∙ ap (lent_lines false) first.2,
+      refl,
+    )
 
 -- it lends all of them if it has no ESC
 pub wrapped-bare : (t : List ℕ) (width : ℕ) → paragraph t ≡ t → IsFalse (has_escape t) → IsTrue (list_all (λ (l : CarriedPart). l.borrowed) (wrapped t width))

@@ -1,6 +1,6 @@
 //! The lines of a wrapped text, ready for display. Each line opens the style and link carried into
 //! it, and closes them.
-ghost use Rattle.std.specs.Prelude.{◌≡◌, false, IsTrue, IsFalse};
+ghost use Rattle.std.specs.Prelude.{◌≡◌, ◌↔◌, [], false, IsTrue, IsFalse};
 ghost use Rattle.std.specs.List.{list_all};
 ghost use Rattle.ansi_items.specs.Plain.{has_escape};
 ghost use Rattle.ansi_safe.specs.Cells.{paragraph};
@@ -126,22 +126,35 @@ impl<'t, A: Allocator + Copy> Iterator for AnsiWrap<'t, A> {
     }
 }
 
-impl<'t, A: Allocator + Copy> PushNext for AnsiWrap<'t, A> {
+impl<'t, A: Allocator> PushNext for AnsiWrap<'t, A> {
     ghost left = { λ lines. lines };
 
     fn push_next<B: Allocator>(&mut self, out: &mut String<B>) -> Option<Result<(), AllocError>> {
-        let line = match self.next()? {
-            Ok(line) => line,
-            Err(e) => return Some(Err(e)),
-        };
-        match out.push_str(line.as_str()) {
-            Ok(()) => Some(Ok(())),
-            Err(e) => {
-                self.finish();
-                Some(Err(e))
-            }
+        if let Some(e) = self.failure.take() {
+            self.spans.finish();
+            return Some(Err(e));
         }
+        let pushed = self.spans.next(self.text.as_str())?.push_to(out);
+        if pushed.is_err() {
+            self.spans.finish();
+        }
+        Some(pushed)
     }
+}
+
+/// Whether a line is left, or an `Err`. Doesn't allocate. (Own.)
+///
+/// ```
+/// let mut lines = wrap(rt.alloc(), "lion", 5);
+/// assert!(rt; has_next(&lines));
+/// assert!(rt; matches!(&lines.next(), Some(Ok(_))));
+/// assert!(rt; !has_next(&lines));
+/// ```
+pub fn has_next<A: Allocator>(lines: &AnsiWrap<'_, A>) -> bool
+    ensures { IsFalse result ↔ (lines.now ≡ []) }
+{
+    // Until its failure is returned, it has spans left.
+    lines.spans.has_next()
 }
 
 /// The next line of the caller's text.

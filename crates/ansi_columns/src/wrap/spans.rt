@@ -1,6 +1,6 @@
 //! The stretches of a text from which the lines of a wrap are written.
-ghost use Rattle.std.specs.Prelude.{◌≡◌, ◌+◌, ◌≤◌, ℕ, List, [], length, IsTrue, IsFalse, IsOk};
-ghost use Rattle.std.specs.Prelude.{IfOk, IsSome, IsNone, string_bytes};
+ghost use Rattle.std.specs.Prelude.{◌≡◌, ◌+◌, ◌++◌, ◌≤◌, ℕ, List, [], length, IsTrue, IsFalse, IsOk};
+ghost use Rattle.std.specs.Prelude.{IfOk, OnOk, IsSome, IsNone, string_bytes};
 ghost use Rattle.std.specs.Iterator.{YieldsFirst};
 ghost use Rattle.std.specs.Option.{MatchOption};
 ghost use Rattle.ansi_items.specs.Plain.{plain};
@@ -92,8 +92,17 @@ impl<'t> Span<'t> {
         Some(&self.text[self.start..self.end])
     }
 
-    /// The owned line: the style and link carried into it, its text with its sequences, and what
-    /// ends both.
+    /// Appends the line. `Err` means out of memory; what was appended before it stays.
+    pub(crate) fn push_to<A: Allocator>(&self, out: &mut String<A>) -> Result<(), AllocError>
+        ensures { OnOk result (string_bytes out.new ≡ string_bytes out.old ++ self.now.bytes) }
+    {
+        match self.bare() {
+            Some(bare) => out.push_str(bare),
+            None => self.push_styled(out),
+        }
+    }
+
+    /// The owned line, as a text of its own.
     fn written<A: Allocator>(&self, alloc: A) -> Result<String<A>, AllocError>
         requires { IsFalse self.now.borrowed }
         ensures { IfOk result (λ s. string_bytes s ≡ self.now.bytes) }
@@ -102,13 +111,22 @@ impl<'t> Span<'t> {
         let len = self.text.len().saturating_sub(self.start);
         let len = len.saturating_add(links);
         let mut line = styles::with_room(alloc, &self.carried.style, len, &self.after.style)?;
-        styles::write_start(&self.carried.style, &mut line)?;
-        line.push_str(self.carried.link)?;
-        let start = push_sequences(&mut line, self.text, self.start)?;
-        line.push_str(&self.text[start..self.end_offset])?;
-        push_sequences(&mut line, &self.text[self.end_offset..], PAST_THE_END)?;
-        self.after.ending().push_to(&mut line)?;
+        self.push_styled(&mut line)?;
         Ok(line)
+    }
+
+    /// Appends the owned line: the style and link carried into it, its text with its sequences, and
+    /// what ends both.
+    fn push_styled<A: Allocator>(&self, out: &mut String<A>) -> Result<(), AllocError>
+        requires { IsFalse self.now.borrowed }
+        ensures { OnOk result (string_bytes out.new ≡ string_bytes out.old ++ self.now.bytes) }
+    {
+        styles::write_start(&self.carried.style, out)?;
+        out.push_str(self.carried.link)?;
+        let start = push_sequences(out, self.text, self.start)?;
+        out.push_str(&self.text[start..self.end_offset])?;
+        push_sequences(out, &self.text[self.end_offset..], PAST_THE_END)?;
+        self.after.ending().push_to(out)
     }
 }
 
@@ -151,6 +169,14 @@ impl Spans {
         ensures none { IsNone self.new.next }
     {
         self.next = None;
+    }
+
+    /// Whether a line is left.
+    pub(crate) fn has_next(&self) -> bool
+        ensures some { IsTrue result → IsSome self.now.next }
+        ensures none { IsFalse result → (t : List ℕ) → span_lines t self.now ≡ [] }
+    {
+        self.next.is_some()
     }
 
     /// The span of the next line of the text. Doesn't allocate.

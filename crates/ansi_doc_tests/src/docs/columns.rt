@@ -7,7 +7,7 @@ use ansi_columns::sides::truncate_with;
 use ansi_columns::slices::slice;
 use ansi_columns::tabs::expand_tabs;
 use ansi_columns::wrap::indents::wrap_with;
-use ansi_columns::wrap::wrap;
+use ansi_columns::wrap::{has_next, wrap};
 use ansi_columns::{Alignment, AnsiColumns, Side, Truncation, Wrap};
 use std::test::Fail;
 
@@ -181,6 +181,15 @@ fn ansi_wrap_loop_example(rt: HostRuntime) -> Result<(), Fail> {
 fn wrap_example(rt: HostRuntime) -> Result<(), Fail> {
     let first = wrap(rt.alloc(), "\x1b[1mlion tiger", 5).next();
     assert!(rt; matches!(&first, Some(Ok(line)) if line.as_str() == "\x1b[1mlion\x1b[22m"));
+    Ok(())
+}
+
+#[test]
+fn has_next_example(rt: HostRuntime) -> Result<(), Fail> {
+    let mut lines = wrap(rt.alloc(), "lion", 5);
+    assert!(rt; has_next(&lines));
+    assert!(rt; matches!(&lines.next(), Some(Ok(_))));
+    assert!(rt; !has_next(&lines));
     Ok(())
 }
 

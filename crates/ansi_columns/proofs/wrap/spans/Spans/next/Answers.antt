@@ -1,4 +1,5 @@
-use Rattle.std.proofs.Common.{List, Option, rules, ◌≡◌, ◌≤◌, ◌-◌, ◌==◌, false, ◌∷◌, [], length, slice_range, IsTrue, sym, ◌∙◌, ap, ap₂, arith}
+use Rattle.std.proofs.Common.{List, Option, rules, ◌≡◌, ◌≤◌, ◌-◌, ◌==◌, false, ◌∷◌, [], length, slice_range, IsTrue, refl, sym, ◌∙◌, ap, ap₂, subst, arith}
+use Rattle.std.specs.Prelude.{IsNone}
 use Rattle.std.specs.Str.{IsUtf8}
 use Rattle.ansi_columns.specs.declared.walks.Walk.{Walk}
 use Rattle.ansi_items.specs.Plain.{plain, marks}
@@ -11,18 +12,15 @@ use Rattle.ansi_safe.specs.Links.{link_after_all}
 use Rattle.ansi_columns.specs.Walks.{clusters_from}
 use Rattle.ansi_columns.specs.Wrapped.{CarriedPart, line_over, lines_over, marks_left, IsTaken}
 use Rattle.ansi_columns.specs.WrapStates.{open_link, span_lines}
+use Rattle.ansi_columns.proofs.LentLemmas.{none-left}
 use Rattle.ansi_columns.proofs.WalkLemmas.{walk_boundary}
 use Rattle.ansi_columns.proofs.WrapLemmas.{ahead, lines-first, lines-last, span-first, span-last, lines_filled, rest-is}
 use Rattle.ansi_columns.proofs.wrap.spans.Spans.next.Goals.{in-Some, in-None}
 use Rattle.ansi_columns.proofs.wrap.spans.Spans.next.Goals as goal
 
 pub returns-in_err-from-clause-lines : goal.returns-in_err-from-clause-lines
-unfolding lines_over
 returns-in_err-from-clause-lines c =
-    let s = c.args.self.now in
-    let t = c.args.text.now in
-    let all : Option Walk → List CarriedPart = λ o. lines_over (rendition_of s.pen.style) (open_link t s.pen) (plain t) (marks_left t s.before s.taken) (lines_left t s.width o) in
-    let none : span_lines t s ≡ [] = ap all c.in_err-from.was in
+    let none = none-left c.args.text.now c.args.self.now (subst (λ o. IsNone o) (sym c.in_err-from.was) refl) in
     rw c.from_residual.ensures (none, none)
 
 pub range-part-requires-clause-start_le_end : goal.range-part-requires-clause-start_le_end
