@@ -13,7 +13,7 @@ pub(crate) mod spans;
 
 use crate::wrap::spans::Spans;
 use ansi_safe::cells::paragraph_of;
-use ansi_split::split::PushNext;
+pub use ansi_split::split::PushNext;
 use std::alloc::{AllocError, Allocator, Global};
 use std::borrow::CowStr;
 use std::marker::Model;

@@ -8,7 +8,7 @@ ghost use Rattle.ansi_view_runs.specs.Edits.{Wrapped, changes_of, changed};
 ghost use Rattle.ansi_view_runs.specs.Views.{changed_line, line_break};
 
 use crate::edits::{ColumnEdit, edit_in_turn, edit_up_to_wrap};
-use ansi_columns::wrap::wrap;
+use ansi_columns::wrap::{PushNext, has_next, wrap};
 use std::alloc::{AllocError, Allocator};
 use std::borrow::CowStr;
 
@@ -56,12 +56,10 @@ fn wrap_line<A: Allocator + Copy>(
 {
     let mut made = String::with_capacity(alloc, room_for_lines(text, width, end))?;
     let mut lines = wrap(alloc, text, width);
-    if let Some(first) = lines.next() {
-        made.push_str(first?.as_str())?;
-    }
-    'lines: while let Some(line) = lines.next() {
+    lines.push_next(&mut made).transpose()?;
+    'lines: while has_next(&lines) {
         made.push_str(line_break(end))?;
-        made.push_str(line?.as_str())?;
+        lines.push_next(&mut made).transpose()?;
     }
     made.push_str(end)?;
     Ok(made)
