@@ -6,7 +6,7 @@ use Rattle.std.proofs.lemmas.List.Elements.{All-nil, All-cons}
 use Rattle.std.specs.Str.{IsUtf8, IsCharBoundary, IsAscii}
 use Rattle.std.proofs.lemmas.Bool.{agree_below, agree_below_at, and_parts, ne_eqb, eq-eqb}
 use Rattle.std.proofs.lemmas.Bool.Decides.{nat_tests}
-use Rattle.std.proofs.lemmas.List.{length-map, take_all, length-take-le, length-drop, take-append-drop, get_or-take}
+use Rattle.std.proofs.lemmas.List.{length-map, length-take-le, length-drop, take-append-drop, get_or-take}
 use Rattle.std.proofs.lemmas.List.Folds.{prefix_len-append}
 use Rattle.std.proofs.lemmas.List.Sums.{prefix_len-le-length, prefix_len_stops}
 use Rattle.std.proofs.lemmas.Simd.{map-map, mask_l-mod, leading_from_mask_l, trailing_mask_l}
@@ -69,25 +69,15 @@ pub record IsInSoFar (p : ℕ → Bool) (t rest : List ℕ) : Type 0 where
   pub within : length rest ≤ length t
   pub so_far : prefix_len p t ≡ length t - length rest + prefix_len p rest
 
--- n bytes that are known to be in the set
-pub after-known : (p : ℕ → Bool) (n : ℕ) (t rest : List ℕ) → n ≤ prefix_len p t → rest ≡ drop n t → IsInSoFar p t rest
-after-known p n t rest known rest_is =
-    let room : n ≤ length t = omega (arith, known, prefix_len-le-length p t) in
-    let size : length rest ≡ length t - n = ap length rest_is ∙ length-drop n t in
-    record {
-      within = omega (arith, size);
-      so_far = omega (arith, size, room, known-on p n t known, ap (prefix_len p) rest_is);
-    }
+-- a block of n elements, before which all are in the front: the front ends in the block
+pub ends-in_block : (p : ℕ → Bool) (n : ℕ) (t : List ℕ) (start len : ℕ) → start + n ≤ length t → start ≤ prefix_len p t → len ≡ prefix_len p (take n (drop start t)) → len < n → start + len ≡ prefix_len p t
+ends-in_block p n t start len room known is short =
+    omega (arith, is, known-on p start t known, ends_in_front p n (drop start t) (omega (arith, room, length-drop start t)) (omega (arith, is)))
 
--- the last n elements, of which the front may begin before
-pub ends-in_last : (p : ℕ → Bool) (n : ℕ) (t last : List ℕ) (len : ℕ) → n ≤ length t → length t - n ≤ prefix_len p t → last ≡ drop (length t - n) t
-    → len ≡ prefix_len p (take n last) → length t - n + len ≡ prefix_len p t
-ends-in_last p n t last len room known last_is is =
-    let all : take n last ≡ drop (length t - n) t = take_all n last (omega (arith, ap length last_is, length-drop (length t - n) t)) ∙ last_is in
-    omega (arith, is, ap (prefix_len p) all, known-on p (length t - n) t known)
-
-pub ends-in_block : (p : ℕ → Bool) (t rest : List ℕ) (len : ℕ) → IsInSoFar p t rest → 16 ≤ length rest → len ≡ prefix_len p (take 16 rest) → len < 16 → length t - length rest + len ≡ prefix_len p t
-ends-in_block p t rest len so_far room is short = omega (arith, is, ends_in_front p 16 rest room (omega (arith, is)), so_far.so_far)
+-- or it has all of the block
+pub has-block : (p : ℕ → Bool) (n : ℕ) (t : List ℕ) (start len : ℕ) → start + n ≤ length t → start ≤ prefix_len p t → len ≡ prefix_len p (take n (drop start t)) → n ≤ len → start + n ≤ prefix_len p t
+has-block p n t start len room known is all =
+    omega (arith, is, known-on p start t known, prefix_len-take p n (drop start t))
 
 -- a block of n bytes that are all in the set
 pub after-whole_block : (p : ℕ → Bool) (n : ℕ) (t rest next : List ℕ) → IsInSoFar p t rest → n ≤ length rest → prefix_len p (take n rest) ≡ n → next ≡ drop n rest → IsInSoFar p t next
@@ -98,10 +88,6 @@ after-whole_block p n t rest next so_far room all next_is =
       within = omega (arith, size, so_far.within);
       so_far = omega (arith, size, so_far.within, so_far.so_far, on, ap (prefix_len p) next_is);
     }
-
-pub after-block : (p : ℕ → Bool) (t rest next : List ℕ) (len : ℕ) → IsInSoFar p t rest → 16 ≤ length rest → len ≡ prefix_len p (take 16 rest) → 16 ≤ len → next ≡ drop 16 rest → IsInSoFar p t next
-after-block p t rest next len so_far room is long next_is =
-    after-whole_block p 16 t rest next so_far room (omega (arith, is, prefix_len-le-length p (take 16 rest), length-take-le 16 rest room)) next_is
 
 -- The front of a block, by the lanes of its bytes: the highest bit of a lane is set if its byte isn't in the set.
 

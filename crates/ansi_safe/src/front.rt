@@ -1,6 +1,6 @@
 //! The front of a text up to a byte that isn't in a set. Most texts are made of printable ASCII,
 //! which each set has, and they are read 16 or 64 bytes at a time, without decoding.
-ghost use Rattle.std.specs.Prelude.{◌≡◌, ◌≤◌, ◌<◌, ◌+◌, ◌++◌, length, take, chars, IsTrue, true};
+ghost use Rattle.std.specs.Prelude.{◌≡◌, ◌≤◌, ◌++◌, length, take, chars, IsTrue, true};
 ghost use Rattle.std.specs.List.{list_all, prefix_len};
 ghost use Rattle.std.specs.Str.{IsUtf8};
 ghost use Rattle.ansi_safe.specs.Safe.{is_printable_byte, is_ordinary_byte, is_in};
@@ -77,39 +77,27 @@ pub(crate) fn front_len(bytes: &[u8], set: ByteSet) -> usize
     front_len_from(bytes, 0, set)
 }
 
-/// How many bytes at the front are in the set, if the first `known` bytes are.
+/// How many bytes at the front are in the set, if the first `known` bytes are. They are read 16 at a
+/// time, and the last 16 may overlap those before.
 #[inline(always)]
 fn front_len_from(bytes: &[u8], known: usize, set: ByteSet) -> usize
     requires { known ≤ prefix_len (is_in set) bytes.now }
-    ensures { result ≡ prefix_len (is_in set) bytes.now }
-{
-    let mut rest = &bytes[known..];
-    while 16 <= rest.len() {
-        let len = front_len_of_16(rest, set);
-        if len < 16 {
-            return bytes.len() - rest.len() + len;
-        }
-        rest = &rest[16..];
-    }
-    front_len_to_end(bytes, bytes.len() - rest.len(), set)
-}
-
-/// How many bytes at the front are in the set, if the first `known` bytes are, and at most 15 follow.
-/// The last 16 bytes are read at once, and begin before those that follow.
-#[inline(always)]
-fn front_len_to_end(bytes: &[u8], known: usize, set: ByteSet) -> usize
-    requires known { known ≤ prefix_len (is_in set) bytes.now }
-    requires few { length bytes.now < known + 16 }
     ensures { result ≡ prefix_len (is_in set) bytes.now }
 {
     let len = bytes.len();
     if len < 16 {
         return front_len_by_byte(bytes, set);
     }
-    if known == len {
-        return len;
+    let mut at = known;
+    while at < len {
+        let start = at.min(len - 16);
+        let front = front_len_of_16(&bytes[start..], set);
+        if front < 16 {
+            return start + front;
+        }
+        at = start + 16;
     }
-    len - 16 + front_len_of_16(&bytes[len - 16..], set)
+    len
 }
 
 /// How many bytes at the front are in the set, looked at one by one.

@@ -44,10 +44,15 @@ fn items_may_stay(text: &str, links: Links) -> bool
     true
 }
 
-/// The pen after a text, or `None` if the text isn't safe. Doesn't allocate.
+/// The pen after a text, or `None` if the text isn't safe. Doesn't allocate. (Own.)
 ///
 /// A text without sequences is read once, without looking for them.
-fn pen_after_safe(text: &str, links: Links) -> Option<Pen<'_>>
+///
+/// ```
+/// let pen = pen_if_safe("\x1b[31mred", Links::Remove).ok_or("not safe")?;
+/// assert!(rt; !pen.is_plain() && pen_if_safe("\x1b[2J", Links::Remove).is_none());
+/// ```
+pub fn pen_if_safe(text: &str, links: Links) -> Option<Pen<'_>>
     ensures none { is_some result ≡ is_safe links text.now }
     ensures style { IfSome result (λ pen. rendition_of pen.style ≡ style_after text.now) }
     ensures link { IfSome result (λ pen. pen.link.now ≡ link_of (marks text.now)) }
@@ -58,7 +63,7 @@ fn pen_after_safe(text: &str, links: Links) -> Option<Pen<'_>>
     pen_after_items(text, links)
 }
 
-/// Like `pen_after_safe`, item by item.
+/// Like `pen_if_safe`, item by item.
 fn pen_after_items(text: &str, links: Links) -> Option<Pen<'_>>
     ensures none { is_some result ≡ is_safe links text.now }
     ensures style { IfSome result (λ pen. rendition_of pen.style ≡ style_after text.now) }
@@ -86,7 +91,7 @@ pub fn ending_if_safe(text: &str, links: Links) -> Option<Ending>
     ensures bytes { IfSome result (λ e.
         e.link_end.now ++ close (rendition_of e.style) ≡ ending text.now) }
 {
-    Some(pen_after_safe(text, links)?.ending())
+    Some(pen_if_safe(text, links)?.ending())
 }
 
 /// Like `AnsiSafe::ansi_sanitize`, with a result that lives as long as the text, and with any

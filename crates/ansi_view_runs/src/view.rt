@@ -19,7 +19,7 @@ use crate::ended::edit_line;
 use crate::lines::Line;
 use ansi_safe::links::{LONGEST_ENDING, Pen, pen_after};
 use ansi_safe::policy::{Links, Policy};
-use ansi_safe::safe::{ending_if_safe, push_cleaned};
+use ansi_safe::safe::{ending_if_safe, pen_if_safe, push_cleaned};
 use ansi_safe::utf8::from_utf8;
 use ansi_slice::slice::strip_in;
 use ansi_style::styles;
@@ -154,7 +154,8 @@ pub fn view_text<A: Allocator + Copy>(
     make_safe(alloc, view.policy, opening, text.as_str())
 }
 
-// Like `view_text`, of a text whose bytes are decoded.
+// Like `view_text`, of a text whose bytes are decoded. If something is open before it, what opens
+// that and the text are joined, and the result is that text if it is safe already.
 fn make_safe<A: Allocator + Copy>(
     alloc: A,
     policy: Policy,
@@ -168,30 +169,51 @@ fn make_safe<A: Allocator + Copy>(
     ensures opening { OnOk result (string_bytes opening.new
         ≡ opening_of (cleaned policy (string_bytes opening.old ++ text.now))) }
 {
-    let mut made = clean_after(alloc, policy, opening.as_str(), text)?;
+    if opening.is_empty() {
+        return end_clean(alloc, policy, opening, text);
+    }
+    let mut body = join(alloc, opening.as_str(), text)?;
+    match pen_if_safe(body.as_str(), policy.links) {
+        Some(pen) => {
+            *opening = opening_of(alloc, &pen)?;
+            let ending = pen.ending();
+            ending.push_to(&mut body)?;
+            Ok(body)
+        }
+        None => end_clean(alloc, policy, opening, body.as_str()),
+    }
+}
+
+// What opens what is open before a text, and the text, with room for what ends it.
+fn join<A: Allocator>(alloc: A, opening: &str, text: &str) -> Result<String<A>, AllocError>
+    ensures { IfOk result (λ s. string_bytes s ≡ opening.now ++ text.now) }
+{
+    let room = (opening.len() + text.len()).saturating_add(LONGEST_ENDING);
+    let mut body = String::with_capacity(alloc, room)?;
+    body.push_str(opening)?;
+    body.push_str(text)?;
+    Ok(body)
+}
+
+// A text made safe, with what ends it. `opening` becomes what it leaves open.
+fn end_clean<A: Allocator + Copy>(
+    alloc: A,
+    policy: Policy,
+    opening: &mut String<A>,
+    text: &str,
+) -> Result<String<A>, AllocError>
+    ensures bytes { IfOk result (λ s. string_bytes s ≡ sanitized policy text.now) }
+    ensures safe { IfOk result (λ s. IsTrue (is_safe policy.links (string_bytes s))) }
+    ensures closed { IfOk result (λ s. IsClosed (string_bytes s)) }
+    ensures opening { OnOk result (string_bytes opening.new
+        ≡ opening_of (cleaned policy text.now)) }
+{
+    let mut made = clean(alloc, policy, text)?;
     let pen = pen_after(made.as_str());
     *opening = opening_of(alloc, &pen)?;
     let ending = pen.ending();
     ending.push_to(&mut made)?;
     Ok(made)
-}
-
-// What is open before a text, and the text, made safe. What is open at the end isn't ended.
-fn clean_after<A: Allocator + Copy>(
-    alloc: A,
-    policy: Policy,
-    opening: &str,
-    text: &str,
-) -> Result<String<A>, AllocError>
-    ensures { IfOk result (λ s. string_bytes s ≡ cleaned policy (opening.now ++ text.now)) }
-{
-    if opening.is_empty() {
-        return clean(alloc, policy, text);
-    }
-    let mut body = String::with_capacity(alloc, opening.len() + text.len())?;
-    body.push_str(opening)?;
-    body.push_str(text)?;
-    clean(alloc, policy, body.as_str())
 }
 
 // A text made safe. What is open at the end isn't ended.

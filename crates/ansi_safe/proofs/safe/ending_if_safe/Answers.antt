@@ -6,5 +6,5 @@ use Rattle.ansi_safe.proofs.safe.ending_if_safe.Goals as goal
 
 pub returns-clause-bytes : goal.returns-clause-bytes
 returns-clause-bytes c =
-    let pen = c.in_ok-pen_after_safe.ensures in
+    let pen = c.in_ok-pen_if_safe.ensures in
     ap₂ (λ e s. e ++ close s) (c.ending.ensures.link_end ∙ ap link_end pen.link) (ap rendition_of c.ending.ensures.style ∙ pen.style)

@@ -3,7 +3,7 @@ use Rattle.ansi_style.proofs.MarkLemmas.{marks-bare}
 use Rattle.ansi_style.specs.Styled.{style_of}
 use Rattle.ansi_safe.specs.Links.{link_of}
 use Rattle.ansi_safe.proofs.SafeLemmas.{allowed-bare, allowed-is_safe}
-use Rattle.ansi_safe.proofs.safe.pen_after_safe.Goals as goal
+use Rattle.ansi_safe.proofs.safe.pen_if_safe.Goals as goal
 
 -- the text has no sequence
 
