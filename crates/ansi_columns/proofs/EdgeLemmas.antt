@@ -3,15 +3,17 @@ use Rattle.std.proofs.Common.{◌≡◌, ℕ, suc, ◌+◌, ◌-◌, ◌*◌, �
 use Rattle.std.specs.List.{list_all}
 use Rattle.std.specs.Str.{IsUtf8, IsCharBoundary, chars}
 use Rattle.std.proofs.lemmas.Bool.{and_parts, cases_lt, le-leb, lt-leb, lt-ltb, le-ltb, and_right}
-use Rattle.std.proofs.lemmas.List.Sums.{sum_by-cons}
+use borrow.Author.Tests.{ltb-true}
+use Rattle.std.proofs.lemmas.List.Sums.{sum_by-cons, sum_by-append}
 use Rattle.std.proofs.lemmas.Grind.{flat_map-append}
 use Rattle.std.proofs.lemmas.Str.{encodes-chars}
 use Rattle.unicode_width.specs.Width.{str_width}
 use Rattle.ansi_items.specs.Plain.{plain}
 use Rattle.ansi_columns.specs.declared.walks.Walk.{Walk}
 use Rattle.ansi_columns.specs.Columns.{clusters, cluster_width, columns_of, columns, bytes_of}
+use Rattle.ansi_columns.specs.declared.views.View.{View}
 use Rattle.ansi_columns.specs.declared.views.View.TheVariants.{Given}
-use Rattle.ansi_columns.specs.Walks.{after, cluster, clusters_from, IsWalk, IsPastAscii, AreClusters}
+use Rattle.ansi_columns.specs.Walks.{after, cluster, clusters_from, IsWalkIn, IsWalk, IsPastAscii, IsPastClusters, AreClusters, has_width}
 use Rattle.ansi_columns.specs.Slices.{ended, begun, IsEdge}
 use Rattle.ansi_columns.proofs.AsciiLemmas.{is_printable, width-single}
 use Rattle.ansi_columns.proofs.PrintableLemmas.{bytes-single, front-size, columns-past}
@@ -105,6 +107,43 @@ edge-past {t} {here} {n} {len} {left} {w} {v} walk past fits so_far =
     let place : w.position + length bytes ≡ v.position = omega (arith, size, past.position) in
     subst (λ m. IsEdgeSoFar t here n m (left - len)) place
     (subst (λ k. IsEdgeSoFar t here n (w.position + length bytes) (left - k)) size (edge-singles bytes w.position left past.front.bytes (past.clusters Given) (omega (arith, fits, size)) so_far))
+
+-- the next clusters have columns
+
+ended-clusters : (n : ℕ) (ks rest : List (List ℕ)) → list_all has_width ks ≡ true → columns_of ks ≤ n → (ended n (ks ++ rest) ≡ ks ++ ended (n - columns_of ks) rest) × (begun n (ks ++ rest) ≡ ks ++ begun (n - columns_of ks) rest)
+ended-clusters n [] rest each fits = (let same : n ≡ n - columns_of [] = omega arith in (ap (λ m. ended m rest) same, ap (λ m. begun m rest) same))
+ended-clusters n (k ∷ ks) rest each fits =
+    let parts = and_parts _ _ each in
+    let some : 0 < cluster_width k = ltb-true 0 (cluster_width k) parts.0 in
+    let size = sum_by-cons cluster_width k ks in
+    let room : cluster_width k ≤ n = omega (arith, size, fits) in
+    let more = ended-clusters (n - cluster_width k) ks rest parts.1 (omega (arith, size, fits)) in
+    let left : n - cluster_width k - columns_of ks ≡ n - columns_of (k ∷ ks) = omega (arith, size) in (
+      ended-pass n k (ks ++ rest) (omega (arith, some, room)) room ∙ ap (λ ls. k ∷ ls) more.0 ∙ ap (λ m. k ∷ (ks ++ ended m rest)) left,
+      begun-pass n k (ks ++ rest) (omega (arith, some, room)) ∙ ap (λ ls. k ∷ ls) more.1 ∙ ap (λ m. k ∷ (ks ++ begun m rest)) left,
+    )
+
+edge-clusters : {t : List ℕ} {here n columns left : ℕ} {w v : Walk} → IsPastClusters Given t w v columns → columns ≤ left → IsEdgeSoFar t here n w.position left → IsEdgeSoFar t here n v.position (left - columns)
+edge-clusters {t} {here} {n} {columns} {left} {w} {v} past fits so_far =
+    let front = so_far.front in
+    let ks = past.clusters in
+    let rest = clusters_from t v.position in
+    let passed = ended-clusters left ks rest past.each (omega (arith, fits, past.columns_are)) in
+    record {
+      front = front ++ ks;
+      all = so_far.all ∙ ap (λ u. front ++ u) past.all ∙ sym (append_assoc front ks rest);
+      place_is = omega (arith, so_far.place_is, past.seen, bytes_of-append front ks);
+      ended_are = so_far.ended_are ∙ ap (λ u. front ++ ended left u) past.all ∙ ap (λ u. front ++ u) passed.0
+          ∙ ap (λ m. front ++ (ks ++ ended (left - m) rest)) (sym past.columns_are) ∙ sym (append_assoc front ks (ended (left - columns) rest));
+      begun_are = so_far.begun_are ∙ ap (λ u. front ++ begun left u) past.all ∙ ap (λ u. front ++ u) passed.1
+          ∙ ap (λ m. front ++ (ks ++ begun (left - m) rest)) (sym past.columns_are) ∙ sym (append_assoc front ks (begun (left - columns) rest));
+      columns = omega (arith, so_far.columns, past.columns_are, fits, sum_by-append cluster_width front ks);
+    }
+
+-- after printable ASCII
+pub edge-on : {t : List ℕ} {here n len columns left : ℕ} {w u v : Walk} → IsWalk t w → IsPastAscii t w len u → len ≤ left → ((view : View) → IsWalkIn view t u → IsPastClusters view t u v columns) → columns ≤ left - len → IsEdgeSoFar t here n w.position left
+    → IsEdgeSoFar t here n v.position (left - len - columns)
+edge-on walk past fits more fit so_far = edge-clusters (more Given (past.walk Given walk)) fit (edge-past walk past fits so_far)
 
 -- no column is left, or no cluster
 pub edge-stop : {t : List ℕ} {here n left : ℕ} {walk : Walk} → IsWalk t walk → IsEdgeSoFar t here n walk.position left → ended left (clusters_from t walk.position) ≡ [] → begun left (clusters_from t walk.position) ≡ []

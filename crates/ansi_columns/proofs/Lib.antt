@@ -15,8 +15,8 @@ pub mod FitLemmas
 pub mod ShownLemmas
 pub mod KeptLemmas
 pub mod ClusterWalkLemmas
-pub mod OrdinaryLemmas
 pub mod PrintableLemmas
+pub mod OrdinaryLemmas
 pub mod AddressLemmas
 pub mod KindLemmas
 pub mod LineLemmas

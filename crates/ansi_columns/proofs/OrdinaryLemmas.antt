@@ -1,6 +1,9 @@
 -- A walk over a character that prints and that no rule on clusters names, before another such character: it is a cluster by itself.
-use Rattle.std.proofs.Common.{◌≡◌, ◌≢◌, ℕ, ◌+◌, ◌*◌, ◌≤◌, true, List, [], ◌∷◌, ◌++◌, length, slice_range, encode_utf8, refl, sym, ◌∙◌, ap, ap₂, arith, length-append}
+use Rattle.std.proofs.Common.{◌≡◌, ◌≢◌, ℕ, ◌+◌, ◌-◌, ◌*◌, ◌<◌, ◌≤◌, true, ◌&&◌, List, [], ◌∷◌, ◌++◌, length, slice_range, encode_utf8, refl, sym, ◌∙◌, ap, ap₂, arith, append_assoc, length-append}
 use Rattle.std.specs.Str.{IsUtf8}
+use Rattle.std.proofs.lemmas.Bool.{lt-ltb}
+use Rattle.std.proofs.lemmas.List.Folds.{list_all-append}
+use Rattle.std.proofs.lemmas.List.Sums.{sum_by-append}
 use Rattle.unicode_segmentation.specs.Grapheme.{is_grapheme_break}
 use Rattle.unicode_segmentation.proofs.TextLemmas.{encode_utf8_nonempty}
 use Rattle.ansi_search.proofs.SliceLemmas.{length-slice_range}
@@ -8,12 +11,14 @@ use Rattle.ansi_safe.specs.Safe.{is_printing}
 use Rattle.ansi_columns.specs.declared.walks.Walk.{Walk}
 use Rattle.ansi_columns.specs.declared.views.View.{View}
 use Rattle.ansi_columns.specs.BreakStates.{break_state_of, IsUnnamed}
-use Rattle.ansi_columns.specs.Columns.{cluster_width}
+use Rattle.ansi_columns.specs.Columns.{cluster_width, columns_of}
 use Rattle.ansi_columns.specs.Views.{seen}
-use Rattle.ansi_columns.specs.Walks.{after, seen_before, seen_after, IsWalkIn, IsNext, IsSeenNext, IsPastCluster}
+use Rattle.ansi_columns.specs.Walks.{after, seen_before, seen_after, seen_cluster, seen_clusters, IsWalkIn, IsNext, IsSeenNext, IsPastAscii, IsPastCluster, IsPastClusters, has_width}
 use Rattle.ansi_columns.proofs.UnnamedLemmas.{break_state-unnamed, breaks-unnamed}
-use Rattle.ansi_columns.proofs.ViewLemmas.{seen-one, seen-append, seen-printing, before-one, cluster-none}
+use Rattle.ansi_columns.proofs.ViewLemmas.{seen-one, seen-append, seen-printing, before-one, cluster-none, seen_len-split}
 use Rattle.ansi_columns.proofs.WalkLemmas.{walk_boundary, after-past, rest_at, walk-on}
+use Rattle.ansi_columns.proofs.ColumnLemmas.{IsCountedTo, IsFittingTo, bytes_of-push, bytes_of-append, columns_of-push}
+use Rattle.ansi_columns.proofs.PrintableLemmas.{counted-past, fitting-past}
 use Rattle.ansi_columns.proofs.ClusterWalkLemmas.{seen_cluster-past, cluster-first, cluster-stops}
 
 module _ (view : View) (t : List ℕ) (utf8 : IsUtf8 t) (w : Walk) (walk : IsWalkIn view t w) where
@@ -53,3 +58,55 @@ module _ (view : View) (t : List ℕ) (utf8 : IsUtf8 t) (w : Walk) (walk : IsWal
       let breaks : is_grapheme_break true (seen_before view t v.position) (seen_after view t v.position) ≡ true
       = ap₂ (is_grapheme_break true) before_is after_is.1 ∙ breaks-unnamed (seen_before view t w.position) c d after_is.0 unnamed unnamed_next in
       (later, past.3, cluster-stops (cluster-first view t utf8 w.position v.position c past.3 begin past.0 past.1) breaks, width_is ∙ ap cluster_width (sym past.1), omega (arith, bound, position))
+
+-- ---- several clusters
+
+-- one more is passed
+clusters-more : {view : View} {t : List ℕ} {from w v : Walk} {n k : ℕ} → IsUtf8 t → IsPastClusters view t from w n → IsPastCluster view t w v k → 0 < k → IsPastClusters view t from v (n + k)
+clusters-more {view} {t} {from} {w} {v} utf8 so_far step some =
+    let front = so_far.clusters in
+    let last = seen_cluster view t w.position v.position in
+    record {
+      clusters = front ++ last ∷ [];
+      walk = step.0;
+      ordered = omega (arith, so_far.ordered, step.1);
+      all = so_far.all ∙ ap (λ ks. front ++ ks) step.2 ∙ sym (append_assoc front (last ∷ []) (seen_clusters view t v.position));
+      seen = omega (arith, so_far.seen, bytes_of-push front last, seen_len-split view t utf8 w.position v.position (omega (arith, step.1)) (walk_boundary t utf8 w so_far.walk) (walk_boundary t utf8 v step.0));
+      each = list_all-append has_width front (last ∷ []) ∙ ap₂ (λ a b. a && (b && true)) so_far.each (lt-ltb 0 (cluster_width last) (omega (arith, some, step.3)));
+      columns_are = omega (arith, so_far.columns_are, step.3, columns_of-push front last);
+      bound = omega (arith, so_far.bound, so_far.ordered, step.1, step.4);
+    }
+
+-- an ordinary one before another
+pub clusters-ordinary : {view : View} {t : List ℕ} {from w v : Walk} {n width c d : ℕ} (more : List ℕ) → IsUtf8 t → IsPastClusters view t from w n → slice_range t w.offset w.run_end ≡ encode_utf8 c ++ (encode_utf8 d ++ more) → IsUnnamed c → is_printing c ≡ true → IsUnnamed d → is_printing d ≡ true
+    → v.position ≡ w.position + length (encode_utf8 c) → v.offset ≡ w.offset + length (encode_utf8 c) → v.run_end ≡ w.run_end → v.break_state ≡ break_state_of [] → width ≡ cluster_width (c ∷ []) → width ≤ 2 * length (encode_utf8 c) → 0 < width → IsPastClusters view t from v (n + width)
+clusters-ordinary {view} {t} {from} {w} {v} {n} {width} {c} {d} more utf8 so_far bytes unnamed printing unnamed_next printing_next position offset run_end break_state width_is bound some =
+    clusters-more utf8 so_far (past-ordinary view t utf8 w so_far.walk c d more bytes v width unnamed printing unnamed_next printing_next position offset run_end break_state width_is bound) some
+
+-- the columns that are passed with them
+
+counted-clusters : {view : View} {t : List ℕ} {w v : Walk} {n total : ℕ} → IsPastClusters view t w v n → IsCountedTo view t w.position total → IsCountedTo view t v.position (total + n)
+counted-clusters {view} {t} {w} {v} past counted = record {
+  all = omega (arith, counted.all, past.columns_are, ap columns_of past.all, sum_by-append cluster_width past.clusters (seen_clusters view t v.position));
+  bound = omega (arith, counted.bound, past.bound, past.ordered);
+}
+
+fitting-clusters : {view : View} {t : List ℕ} {w v : Walk} {width n left : ℕ} → IsPastClusters view t w v n → n ≤ left → IsFittingTo view t width w.position left → IsFittingTo view t width v.position (left - n)
+fitting-clusters {view} {t} {w} {v} past fits fitting =
+    let more = past.clusters in
+    record {
+      front = fitting.front ++ more;
+      all = fitting.all ∙ ap (λ ks. fitting.front ++ ks) past.all ∙ sym (append_assoc fitting.front more (seen_clusters view t v.position));
+      boundary = omega (arith, past.seen, fitting.boundary, bytes_of-append fitting.front more);
+      columns = omega (arith, fitting.columns, fits, past.columns_are, sum_by-append cluster_width fitting.front more);
+    }
+
+-- after printable ASCII
+
+pub counted-on : {view : View} {t : List ℕ} {w u v : Walk} {len n total : ℕ} → IsWalkIn view t w → IsPastAscii t w len u → ((seen : View) → IsWalkIn seen t u → IsPastClusters seen t u v n) → IsCountedTo view t w.position total
+    → IsCountedTo view t v.position (total + len + n)
+counted-on {view} walk past more counted = counted-clusters (more view (past.walk view walk)) (counted-past walk past counted)
+
+pub fitting-on : {view : View} {t : List ℕ} {w u v : Walk} {width len n left : ℕ} → IsWalkIn view t w → IsPastAscii t w len u → len ≤ left → ((seen : View) → IsWalkIn seen t u → IsPastClusters seen t u v n) → n ≤ left - len → IsFittingTo view t width w.position left
+    → IsFittingTo view t width v.position (left - len - n)
+fitting-on {view} walk past fits more fit fitting = fitting-clusters (more view (past.walk view walk)) fit (fitting-past walk past fits fitting)

@@ -1,5 +1,5 @@
 -- The state of a walk over the characters of a plain text. No public contract cites it.
-use Rattle.std.specs.Prelude.{◌≡◌, ℕ, ◌+◌, ◌*◌, ◌-◌, ◌<◌, ◌≤◌, ◌==◌, ◌||◌, Bool, true, List, [], ◌∷◌, ◌++◌, length, take, drop, reverse, slice_index, slice_range, encode_utf8, chars, IsTrue}
+use Rattle.std.specs.Prelude.{◌≡◌, ℕ, ◌+◌, ◌*◌, ◌-◌, ◌<◌, ◌≤◌, ◌==◌, ◌||◌, Bool, true, List, [], ◌∷◌, ◌++◌, length, take, drop, reverse, slice_index, slice_range, encode_utf8, chars, nat_lt, IsTrue}
 use Rattle.std.specs.List.{list_all}
 use Rattle.std.specs.Str.{byte, IsCharBoundary}
 use Rattle.ansi_items.specs.Bytes.{is_plain_byte}
@@ -92,6 +92,21 @@ IsPastCluster view t from later width =
     × (seen_clusters view t from.position ≡ seen_cluster view t from.position later.position ∷ seen_clusters view t later.position)
     × (width ≡ cluster_width (seen_cluster view t from.position later.position))
     × (width ≤ 2 * (later.position - from.position))
+
+-- the cluster has columns
+abbrev pub has_width : List ℕ → Bool
+has_width cluster = nat_lt 0 (cluster_width cluster)
+
+-- `later` is the walk after the next clusters that are seen, each of which has columns, and which have this number of columns together
+pub record IsPastClusters (view : View) (t : List ℕ) (from later : Walk) (columns : ℕ) : Type 0 where
+  pub clusters : List (List ℕ)
+  pub walk : IsWalkIn view t later
+  pub ordered : from.position ≤ later.position
+  pub all : seen_clusters view t from.position ≡ clusters ++ seen_clusters view t later.position
+  pub seen : seen_len view t later.position ≡ seen_len view t from.position + bytes_of clusters
+  pub each : IsTrue (list_all has_width clusters)
+  pub columns_are : columns ≡ columns_of clusters
+  pub bound : columns ≤ 2 * (later.position - from.position)
 
 -- a byte of ASCII of which something is seen in any view: a printable one, TAB or LF
 abbrev pub is_seen_ascii : ℕ → Bool

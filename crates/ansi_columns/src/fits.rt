@@ -38,7 +38,13 @@ pub(crate) fn fitting_front(text: &str, width: usize, view: View) -> Front
             walk = here;
             continue;
         }
-        let Some((next, columns)) = here.next_cluster(text, view) else {
+        let (later, more) = here.past_ordinary(text, left);
+        if more > 0 {
+            left -= more;
+            walk = later;
+            continue;
+        }
+        let Some((next, columns)) = here.read_cluster(text, view) else {
             return Front {
                 walk: here.next_seen(text, view).0,
                 is_all: true,

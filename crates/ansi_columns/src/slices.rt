@@ -195,7 +195,13 @@ fn edge_after(text: &str, from: Walk, columns: usize) -> Edge
         if is_at_next_run || left == 0 {
             continue;
         }
-        let Some((next, width)) = walk.next_cluster(text, View::Given) else {
+        let (later, more) = walk.past_ordinary(text, left);
+        if more > 0 {
+            walk = later;
+            left -= more;
+            continue;
+        }
+        let Some((next, width)) = walk.read_cluster(text, View::Given) else {
             break;
         };
         if left < width {

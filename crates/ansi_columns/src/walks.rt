@@ -9,7 +9,7 @@ ghost use Rattle.ansi_columns.specs.BreakStates.{break_state_of};
 ghost use Rattle.ansi_columns.specs.Columns.{cluster_width};
 ghost use Rattle.ansi_columns.specs.Views.{seen_len};
 ghost use Rattle.ansi_columns.specs.Walks.{before, after, seen_before, seen_after, seen_cluster};
-ghost use Rattle.ansi_columns.specs.Walks.{IsRun, IsWalkIn, IsWalk, IsAnyWalk, IsNext, IsPastCluster};
+ghost use Rattle.ansi_columns.specs.Walks.{IsRun, IsWalkIn, IsWalk, IsAnyWalk, IsNext, IsPastCluster, IsPastClusters};
 ghost use Rattle.ansi_columns.specs.Walks.{IsSeenNext, IsPrintable, IsPrintableFront, AreClustersIn, IsPastAscii, is_seen_ascii};
 
 use crate::break_state::{BreakState, is_ordinary};
@@ -54,9 +54,18 @@ impl Walk {
         ensures { MatchOption result (seen_after view text.now self.position ≡ []) (λ (walk, width).
             IsPastCluster view text.now self walk width) }
     {
-        if let Some(past) = self.past_ordinary(text) {
-            return Some(past);
+        match self.next_ordinary(text) {
+            Some(past) => Some(past),
+            None => self.read_cluster(text, view),
         }
+    }
+
+    /// The same, without a fast path for ordinary characters.
+    pub(crate) fn read_cluster(self, text: &str, view: View) -> Option<(Walk, usize)>
+        requires { IsWalkIn view text.now self }
+        ensures { MatchOption result (seen_after view text.now self.position ≡ []) (λ (walk, width).
+            IsPastCluster view text.now self walk width) }
+    {
         let (start, first) = self.next_seen(text, view);
         let first = first?;
         let mut walk = start.past(text, first);
@@ -77,11 +86,14 @@ impl Walk {
     /// The walk after the next character and the columns of that character, if it and the one after
     /// it in the run are ordinary. Then it is a cluster by itself.
     #[inline(always)]
-    fn past_ordinary(self, text: &str) -> Option<(Walk, usize)>
+    fn next_ordinary(self, text: &str) -> Option<(Walk, usize)>
         requires { IsAnyWalk text.now self }
         ensures { IfSome result (λ (walk, width). (view : View) → IsWalkIn view text.now self →
             IsPastCluster view text.now self walk width) }
     {
+        if !self.may_be_at_ordinary(text) {
+            return None;
+        }
         let mut chars = text[self.offset..self.run_end].chars();
         let first = chars.next()?;
         if !is_ordinary(first) {
@@ -99,6 +111,64 @@ impl Walk {
             break_state: BreakState::start(),
         };
         Some((walk, char_width(first)))
+    }
+
+    /// The walk after the ordinary characters that come next in the run, and their columns, at most
+    /// `most`. Each of them is a cluster by itself.
+    ///
+    /// ASCII is passed only if it comes first. A character before one that isn't ordinary isn't
+    /// passed.
+    #[inline(always)]
+    pub(crate) fn past_ordinary(self, text: &str, most: usize) -> (Walk, usize)
+        requires { IsAnyWalk text.now self }
+        ensures past { (view : View) → IsWalkIn view text.now self →
+            IsPastClusters view text.now self result.0 result.1 }
+        ensures most { result.1 ≤ most }
+    {
+        if !self.may_be_at_ordinary(text) {
+            return (self, 0);
+        }
+        let mut walk = self;
+        let mut columns = 0;
+        let mut chars = text[self.offset..self.run_end].chars();
+        let Some(mut c) = chars.next() else {
+            return (self, 0);
+        };
+        if !is_ordinary(c) {
+            return (self, 0);
+        }
+        'characters: while let Some(next) = chars.next() {
+            if !is_ordinary(next) {
+                break;
+            }
+            let width = char_width(c);
+            if width == 0 || most - columns < width {
+                break;
+            }
+            let len = c.len_utf8();
+            walk = Walk {
+                position: walk.position + len,
+                offset: walk.offset + len,
+                run_end: walk.run_end,
+                break_state: BreakState::start(),
+            };
+            columns += width;
+            if next.is_ascii() {
+                break;
+            }
+            c = next;
+        }
+        (walk, columns)
+    }
+
+    /// Whether the next byte is one with which ordinary characters begin, perhaps among others. It
+    /// saves decoding most characters that aren't ordinary.
+    #[inline(always)]
+    fn may_be_at_ordinary(self, text: &str) -> bool {
+        matches!(
+            text.as_bytes().get(self.offset),
+            Some(0x20..=0x7E | 0xC3..=0xCB | 0xCD..=0xD2 | 0xE2..=0xE9 | 0xEF)
+        )
     }
 
     /// The walk before the next character that is seen, and as what it is seen. At the end of the

@@ -66,7 +66,13 @@ fn walked_width(text: &str, view: View) -> usize
             walk = here;
             continue;
         }
-        let Some((next, columns)) = here.next_cluster(text, view) else {
+        let (later, more) = here.past_ordinary(text, usize::MAX);
+        if more > 0 {
+            total += more;
+            walk = later;
+            continue;
+        }
+        let Some((next, columns)) = here.read_cluster(text, view) else {
             return total;
         };
         total += columns;

@@ -5,6 +5,7 @@ use Rattle.ansi_columns.proofs.WalkLemmas.{walk_boundary}
 use Rattle.ansi_columns.proofs.ColumnLemmas.{fitting-begin, fitting-more, fitting-all, fitting-stop, sees-up_to}
 use Rattle.ansi_columns.proofs.FitLemmas.{fitting-columns, IsFittingTo-columns, IsFittingTo-end, not_all_fit}
 use Rattle.ansi_columns.proofs.PrintableLemmas.{fitting-past}
+use Rattle.ansi_columns.proofs.OrdinaryLemmas.{fitting-on}
 use Rattle.ansi_columns.proofs.fits.fitting_front.Goals as goal
 
 pub clusters-init : goal.clusters-init
@@ -19,6 +20,24 @@ clusters-preserved-then-walk-here c =
     let inv = c.clusters.invariant in
     let past = c.past_ascii-len.ensures.past in
     record { walk = past.walk c.args.view inv.walk; fitting = fitting-past inv.walk past c.past_ascii-len.ensures.most inv.fitting }
+
+-- after characters that are clusters by themselves
+
+pub clusters-smaller-then-more-gt0 : goal.clusters-smaller-then-more-gt0
+clusters-smaller-then-more-gt0 c =
+    let past = c.past_ascii-len.ensures.past in
+    let more = c.past_ordinary-more.ensures.past c.args.view (past.walk c.args.view c.clusters.invariant.walk) in
+    omega (arith, more.walk.within, more.ordered, more.bound, past.position, c.if-more-gt0.true)
+
+pub clusters-preserved-then-more-gt0 : goal.clusters-preserved-then-more-gt0
+clusters-preserved-then-more-gt0 c =
+    let view = c.args.view in
+    let inv = c.clusters.invariant in
+    let past = c.past_ascii-len.ensures in
+    let more = c.past_ordinary-more.ensures in
+    record { walk = (more.past view (past.past.walk view inv.walk)).walk; fitting = fitting-on inv.walk past.past past.most more.past more.most inv.fitting }
+
+-- after another cluster
 
 pub clusters-preserved : goal.clusters-preserved
 clusters-preserved c =
@@ -79,7 +98,7 @@ returns-in_default-clause-fits c =
     let here = c.past_ascii-len.result.0 in
     let more = c.next_seen.ensures in
     let end = c.next_seen.result.0 in
-    let fits = fitting-all (fitting-past inv.walk past c.past_ascii-len.ensures.most inv.fitting) (rw c.in_default.is at c.next_cluster.ensures) in
+    let fits = fitting-all (fitting-past inv.walk past c.past_ascii-len.ensures.most inv.fitting) (rw c.in_default.is at c.read_cluster.ensures) in
     sees-up_to view t c.utf8.text end more.walk here.position c.next_seen.result.1 fits
     (seen_len-none view t c.utf8.text here.position end.position more.ordered (walk_boundary t c.utf8.text here (past.walk view inv.walk)) (walk_boundary t c.utf8.text end more.walk) more.left_out) more.next
 
@@ -87,7 +106,7 @@ pub returns-in_default-clause-all : goal.returns-in_default-clause-all
 returns-in_default-clause-all c =
     let inv = c.clusters.invariant in
     let past = c.past_ascii-len.ensures.past in
-    IsFittingTo-end (fitting-past inv.walk past c.past_ascii-len.ensures.most inv.fitting) (rw c.in_default.is at c.next_cluster.ensures)
+    IsFittingTo-end (fitting-past inv.walk past c.past_ascii-len.ensures.most inv.fitting) (rw c.in_default.is at c.read_cluster.ensures)
 
 pub returns-in_default-clause-left : goal.returns-in_default-clause-left
 returns-in_default-clause-left c =
@@ -105,4 +124,4 @@ pub returns-in_default-clause-left_by_all : goal.returns-in_default-clause-left_
 returns-in_default-clause-left_by_all c _ =
     let inv = c.clusters.invariant in
     let past = c.past_ascii-len.ensures.past in
-    IsFittingTo-columns (fitting-past inv.walk past c.past_ascii-len.ensures.most inv.fitting) (rw c.in_default.is at c.next_cluster.ensures)
+    IsFittingTo-columns (fitting-past inv.walk past c.past_ascii-len.ensures.most inv.fitting) (rw c.in_default.is at c.read_cluster.ensures)

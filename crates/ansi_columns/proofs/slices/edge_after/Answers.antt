@@ -2,7 +2,7 @@ use Rattle.std.proofs.Common.{◌<◌, arith}
 use Rattle.ansi_columns.specs.declared.views.View.TheVariants.{Given}
 use Rattle.ansi_columns.proofs.WalkLemmas.{walk_boundary}
 use Rattle.ansi_columns.proofs.PrintableLemmas.{past-some}
-use Rattle.ansi_columns.proofs.EdgeLemmas.{edge-begin, edge-past, edge-more, edge-divided, edge-no_column, edge-no_cluster}
+use Rattle.ansi_columns.proofs.EdgeLemmas.{edge-begin, edge-past, edge-on, edge-more, edge-divided, edge-no_column, edge-no_cluster}
 use Rattle.ansi_columns.proofs.slices.edge_after.Goals.{then-is_at_next_run-via-then-is_at_next_run, then-is_at_next_run-via-else-is_at_next_run+then-left-eq0}
 use Rattle.ansi_columns.proofs.slices.edge_after.Goals as goal
 
@@ -27,8 +27,28 @@ clusters-preserved-then-is_at_next_run c =
     let step = c.past_ascii-len.ensures in
     record { walk = step.past.walk Given inv.walk; so_far = edge-past inv.walk step.past step.most inv.so_far }
 
-pub next_cluster-requires : goal.next_cluster-requires
-next_cluster-requires c = c.past_ascii-len.ensures.past.walk Given c.clusters.invariant.walk
+-- after characters that are clusters by themselves
+
+pub past_ordinary-more-requires : goal.past_ordinary-more-requires
+past_ordinary-more-requires c = (Given, c.past_ascii-len.ensures.past.walk Given c.clusters.invariant.walk)
+
+pub clusters-smaller-then-more-gt0 : goal.clusters-smaller-then-more-gt0
+clusters-smaller-then-more-gt0 c =
+    let step = c.past_ascii-len.ensures in
+    let more = c.past_ordinary-more.ensures.past Given (step.past.walk Given c.clusters.invariant.walk) in
+    omega (arith, more.walk.within, more.ordered, more.bound, step.past.position, c.if-more-gt0.true)
+
+pub clusters-preserved-then-more-gt0 : goal.clusters-preserved-then-more-gt0
+clusters-preserved-then-more-gt0 c =
+    let inv = c.clusters.invariant in
+    let step = c.past_ascii-len.ensures in
+    let more = c.past_ordinary-more.ensures in
+    record { walk = (more.past Given (step.past.walk Given inv.walk)).walk; so_far = edge-on inv.walk step.past step.most more.past more.most inv.so_far }
+
+-- after another cluster
+
+pub read_cluster-requires : goal.read_cluster-requires
+read_cluster-requires c = c.past_ascii-len.ensures.past.walk Given c.clusters.invariant.walk
 
 pub clusters-preserved : goal.clusters-preserved
 clusters-preserved c =

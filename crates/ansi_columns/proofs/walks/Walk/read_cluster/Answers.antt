@@ -7,8 +7,8 @@ use Rattle.ansi_columns.specs.Walks.{after, seen_before, seen_after, seen_cluste
 use Rattle.ansi_columns.proofs.ClusterWalkLemmas.{seen_cluster-past, cluster-first, cluster-more, cluster-stops, cluster-is_last}
 use Rattle.ansi_columns.proofs.ViewLemmas.{seen-nil, before-none, after-none, after-one}
 use Rattle.ansi_columns.proofs.WalkLemmas.{walk_boundary}
-use Rattle.ansi_columns.proofs.walks.Walk.next_cluster.Goals.{in_default-Some+then-ends_before, in_default-next_seen}
-use Rattle.ansi_columns.proofs.walks.Walk.next_cluster.Goals as goal
+use Rattle.ansi_columns.proofs.walks.Walk.read_cluster.Goals.{in_default-Some+then-ends_before, in_default}
+use Rattle.ansi_columns.proofs.walks.Walk.read_cluster.Goals as goal
 
 -- nothing is seen
 pub returns-in_err-first : goal.returns-in_err-first
@@ -87,7 +87,7 @@ returns-then-walk-start c =
           let state = more.walk.break_state ∙ ap break_state_of (before-none view t c.utf8.text p here.position more.ordered here_begin (walk_boundary t c.utf8.text here more.walk) more.left_out) in
           let rest = after-one view t c.utf8.text p m (omega (arith, past.3)) here_begin past.0 w.in_default-Some.next past.2 in
           cluster-stops inv.so_far (ap (is_grapheme_break true (seen_before view t p)) rest ∙ sym (w.ends_before.ensures (seen_before view t p) (seen_after view t m) inv.so_far.some state) ∙ w.if-ends_before.true))
-      | in_default-next_seen w ↦ (
+      | in_default w ↦ (
           let is : c.next_seen.result.1 ≡ None = search rules in
           let none : after t here.position ≡ [] = rw is at more.next in
           cluster-is_last inv.so_far (after-none view t c.utf8.text p here.position more.ordered here_begin (walk_boundary t c.utf8.text here more.walk) more.left_out ∙ ap (seen view) none ∙ seen-nil view))
@@ -118,7 +118,7 @@ returns-else-walk-start c =
           let state = more.walk.break_state ∙ ap break_state_of (before-none view t c.utf8.text p here.position more.ordered here_begin (walk_boundary t c.utf8.text here more.walk) more.left_out) in
           let rest = after-one view t c.utf8.text p m (omega (arith, past.3)) here_begin past.0 w.in_default-Some.next past.2 in
           cluster-stops inv.so_far (ap (is_grapheme_break true (seen_before view t p)) rest ∙ sym (w.ends_before.ensures (seen_before view t p) (seen_after view t m) inv.so_far.some state) ∙ w.if-ends_before.true))
-      | in_default-next_seen w ↦ (
+      | in_default w ↦ (
           let is : c.next_seen.result.1 ≡ None = search rules in
           let none : after t here.position ≡ [] = rw is at more.next in
           cluster-is_last inv.so_far (after-none view t c.utf8.text p here.position more.ordered here_begin (walk_boundary t c.utf8.text here more.walk) more.left_out ∙ ap (seen view) none ∙ seen-nil view))

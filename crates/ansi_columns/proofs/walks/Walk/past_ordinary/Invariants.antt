@@ -1,0 +1,19 @@
+use Rattle.std.proofs.Common.{◌≡◌, ◌≤◌, ◌++◌, true, length, slice_range, encode_utf8}
+use Rattle.ansi_safe.specs.Safe.{is_printing}
+use Rattle.ansi_columns.specs.declared.views.View.{View}
+use Rattle.ansi_columns.specs.BreakStates.{IsUnnamed}
+use Rattle.ansi_columns.specs.Walks.{IsWalkIn, IsPastClusters}
+use Rattle.ansi_columns.proofs.walks.Walk.past_ordinary.Given as goal
+
+-- each character before the walk is a cluster by itself, and c, which is ordinary, is next
+abbrev pub invariant-characters : goal.invariant-characters
+invariant-characters l = record {
+  past : (view : View) → IsWalkIn view l.text l.fn.self → IsPastClusters view l.text l.fn.self l.walk l.columns;
+  most : l.columns ≤ l.most;
+  rest : slice_range l.text l.walk.offset l.walk.run_end ≡ encode_utf8 l.c ++ l.chars.rest.now;
+  unnamed : IsUnnamed l.c;
+  printing : is_printing l.c ≡ true;
+}
+
+abbrev pub decreases-characters : goal.decreases-characters
+decreases-characters l = length l.chars.rest.now
