@@ -49,6 +49,7 @@ impl Walk {
 
     /// The walk after the next cluster that is seen, and the columns of that cluster. `None` if
     /// nothing more is seen.
+    #[inline(always)]
     pub(crate) fn next_cluster(self, text: &str, view: View) -> Option<(Walk, usize)>
         requires { IsWalkIn view text.now self }
         ensures { MatchOption result (seen_after view text.now self.position ≡ []) (λ (walk, width).
@@ -125,7 +126,7 @@ impl Walk {
             IsPastClusters view text.now self result.0 result.1 }
         ensures most { result.1 ≤ most }
     {
-        if !self.may_be_at_ordinary(text) {
+        if most == 0 || !self.may_be_at_ordinary(text) {
             return (self, 0);
         }
         let mut walk = self;
@@ -197,7 +198,7 @@ impl Walk {
     ///
     /// A byte before a character that may join its cluster isn't among them. If all of the run is
     /// passed, this is the walk at the next run.
-    #[inline]
+    #[inline(always)]
     pub(crate) fn past_ascii(self, text: &str, most: usize) -> (Walk, usize)
         requires { IsAnyWalk text.now self }
         ensures past { IsPastAscii text.now self result.1 result.0 }
