@@ -1,11 +1,11 @@
 -- Lines after indents.
-use Rattle.std.proofs.Common.{◌≡◌, ℕ, ◌-◌, List, [], ◌∷◌, ◌++◌, IsTrue, refl, ◌∙◌, ap, arith, append-nil}
+use Rattle.std.proofs.Common.{◌≡◌, ℕ, ◌-◌, List, [], ◌∷◌, ◌++◌, Option, None, Some, Result, Ok, Err, IsTrue, refl, ◌∙◌, ap, arith, append_assoc, append-nil}
 use Rattle.std.specs.List.{list_all}
 use Rattle.std.proofs.lemmas.Bool.{and_from, and_parts}
 use Rattle.ansi_columns.specs.declared.shown.Alignment.TheVariants.{Left}
 use Rattle.ansi_columns.specs.Shown.{missing, before_text, blanks, closing, padded}
-use Rattle.ansi_columns.specs.Wrapped.{CarriedPart}
-use Rattle.ansi_columns.specs.Indents.{indented}
+use Rattle.ansi_split.specs.Splits.{CarriedPart, PushesPart}
+use Rattle.ansi_columns.specs.Indents.{shown_indent, after_indent, indented}
 
 -- a text padded to no columns is the text, closed
 pub padded-closed_alone : (t : List ℕ) → padded t 0 Left ≡ t ++ closing t
@@ -18,3 +18,17 @@ padded-closed_alone t =
 pub indented-borrowed : (ls : List CarriedPart) → IsTrue (list_all (λ (l : CarriedPart). l.borrowed) ls) → IsTrue (list_all (λ (l : CarriedPart). l.borrowed) (indented [] [] ls))
 indented-borrowed [] all = refl
 indented-borrowed (l ∷ ls) all = (let both = and_parts _ _ all in and_from _ _ both.0 (indented-borrowed ls both.1))
+
+-- an indent and the first line after it are appended
+
+pub filled : (ls : List CarriedPart) → (ls ≡ [] → ⊥) → (l : CarriedPart) × (rest : List CarriedPart) × (ls ≡ l ∷ rest)
+filled [] some = absurd (some refl)
+filled (l ∷ ls) some = (l, ls, refl)
+
+pub pushes-indented : {E : Type 0} (first later text indented_text after : List ℕ) (old new : List CarriedPart) (pushed : Option (Result Unit E)) → (old ≡ [] → ⊥) → indented_text ≡ text ++ shown_indent first → PushesPart old pushed new indented_text after
+    → PushesPart (indented first later old) pushed (indented later later new) text after
+pushes-indented first later text indented_text after old new None some is pushes = absurd (some pushes.0)
+pushes-indented first later text indented_text after old new (Some (Ok u)) some is (l, front, more) =
+    (after_indent first l, ap (indented first later) front, more ∙ ap (λ v. v ++ l.bytes) is ∙ append_assoc text (shown_indent first) l.bytes)
+pushes-indented first later text indented_text after old new (Some (Err e)) some is (l, ls, front, none) =
+    (after_indent first l, indented later later ls, ap (indented first later) front, ap (indented later later) none)

@@ -1,18 +1,19 @@
 //! Wrapped lines with an indent before each.
-ghost use Rattle.std.specs.Prelude.{◌≡◌, ◌+◌, [], IsTrue, IsFalse, IsOk, IfOk};
+ghost use Rattle.std.specs.Prelude.{◌≡◌, ◌+◌, ◌++◌, [], IsTrue, IsFalse, IsOk, IfOk, OnOk};
+ghost use Rattle.std.specs.Prelude.{string_bytes};
 ghost use Rattle.std.specs.List.{list_all};
 ghost use Rattle.ansi_items.specs.Plain.{has_escape};
 ghost use Rattle.ansi_style.specs.Written.{longest_start_and_close};
 ghost use Rattle.ansi_safe.specs.Cells.{paragraph};
 ghost use Rattle.ansi_safe.specs.Links.{longest_link_end};
 ghost use Rattle.ansi_split.specs.Splits.{CarriedPart, IsCarriedPart};
-ghost use Rattle.ansi_columns.specs.Indents.{after_indent, wrapped_with, IsWrappedWith};
+ghost use Rattle.ansi_columns.specs.Indents.{shown_indent, after_indent};
+ghost use Rattle.ansi_columns.specs.Indents.{wrapped_with, IsWrappedWith};
 
 use crate::shown::{Alignment, pad};
 use crate::views::View;
 use crate::widths;
-use crate::wrap::{AnsiWrap, wrap};
-use ansi_split::split::PushNext;
+use crate::wrap::{AnsiWrap, PushNext, has_next, wrap};
 use std::alloc::{AllocError, Allocator, Global};
 use std::borrow::CowStr;
 use std::marker::Model;
@@ -169,18 +170,34 @@ impl<'t, 'a, A: Allocator + Copy> PushNext for AnsiWrapWith<'t, 'a, A> {
     ghost left = { λ lines. lines };
 
     fn push_next<B: Allocator>(&mut self, out: &mut String<B>) -> Option<Result<(), AllocError>> {
-        let line = match self.next()? {
-            Ok(line) => line,
-            Err(e) => return Some(Err(e)),
-        };
-        match out.push_str(line.as_str()) {
-            Ok(()) => Some(Ok(())),
-            Err(e) => {
-                self.lines.finish();
-                Some(Err(e))
-            }
+        if !has_next(&self.lines) {
+            return None;
         }
+        let indent = self.next_indent;
+        self.next_indent = self.indent;
+        if let Err(e) = push_indent(self.alloc, indent, out) {
+            self.lines.finish();
+            return Some(Err(e));
+        }
+        self.lines.push_next(out)
     }
+}
+
+/// Appends an indent, which is shown as a text of its own.
+fn push_indent<A: Allocator + Copy, B: Allocator>(
+    alloc: A,
+    indent: &str,
+    out: &mut String<B>,
+) -> Result<(), AllocError>
+    ensures { OnOk result
+        (string_bytes out.new ≡ string_bytes out.old ++ shown_indent indent.now) }
+{
+    if indent.is_empty() {
+        return Ok(());
+    }
+    // As in `after_indent`, this closes its link and its style, and writes no blanks.
+    let shown = pad(alloc, indent, 0, Alignment::Left)?;
+    out.push_str(shown.as_str())
 }
 
 /// A line after an indent, which is shown as a text of its own. It is the line itself if there is

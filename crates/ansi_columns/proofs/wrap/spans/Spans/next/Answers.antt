@@ -1,4 +1,4 @@
-use Rattle.std.proofs.Common.{List, Option, rules, ◌≡◌, ◌≤◌, ◌-◌, ◌==◌, false, ◌∷◌, [], length, slice_range, IsTrue, refl, sym, ◌∙◌, ap, ap₂, subst, arith}
+use Rattle.std.proofs.Common.{List, Option, rules, ◌≡◌, ◌≤◌, ◌-◌, ◌==◌, false, ◌∷◌, length, slice_range, IsTrue, refl, sym, ◌∙◌, ap, ap₂, subst, arith}
 use Rattle.std.specs.Prelude.{IsNone}
 use Rattle.std.specs.Str.{IsUtf8}
 use Rattle.ansi_columns.specs.declared.walks.Walk.{Walk}
