@@ -13,11 +13,11 @@ use Rattle.ansi_columns.specs.declared.views.View.{View}
 use Rattle.ansi_columns.specs.BreakStates.{break_state_of, IsUnnamed}
 use Rattle.ansi_columns.specs.Columns.{cluster_width, columns_of}
 use Rattle.ansi_columns.specs.Views.{seen}
-use Rattle.ansi_columns.specs.Walks.{after, seen_before, seen_after, seen_cluster, seen_clusters, IsWalkIn, IsNext, IsSeenNext, IsPastAscii, IsPastCluster, IsPastClusters, has_width}
+use Rattle.ansi_columns.specs.Walks.{after, seen_before, seen_after, seen_cluster, seen_clusters, IsWalkIn, IsNext, IsSeenNext, IsPastAscii, IsPastCluster, IsPastClusters, has_width, IsFittingTo}
 use Rattle.ansi_columns.proofs.UnnamedLemmas.{break_state-unnamed, breaks-unnamed}
 use Rattle.ansi_columns.proofs.ViewLemmas.{seen-one, seen-append, seen-printing, before-one, cluster-none, seen_len-split}
 use Rattle.ansi_columns.proofs.WalkLemmas.{walk_boundary, after-past, rest_at, walk-on}
-use Rattle.ansi_columns.proofs.ColumnLemmas.{IsCountedTo, IsFittingTo, bytes_of-push, bytes_of-append, columns_of-push}
+use Rattle.ansi_columns.proofs.ColumnLemmas.{IsCountedTo, bytes_of-push, bytes_of-append, columns_of-push}
 use Rattle.ansi_columns.proofs.PrintableLemmas.{counted-past, fitting-past}
 use Rattle.ansi_columns.proofs.ClusterWalkLemmas.{seen_cluster-past, cluster-first, cluster-stops}
 

@@ -174,9 +174,9 @@ fn make_safe<A: Allocator + Copy>(
     }
     let mut body = join(alloc, opening.as_str(), text)?;
     match pen_if_safe(body.as_str(), policy.links) {
-        Some(pen) => {
-            *opening = opening_of(alloc, &pen)?;
-            let ending = pen.ending();
+        Some(left_open) => {
+            *opening = opening_of(alloc, &left_open)?;
+            let ending = left_open.ending();
             ending.push_to(&mut body)?;
             Ok(body)
         }

@@ -173,8 +173,8 @@ impl<'t, 'a, A: Allocator + Copy> PushNext for AnsiWrapWith<'t, 'a, A> {
         if !has_next(&self.lines) {
             return None;
         }
-        let indent = self.next_indent;
-        self.next_indent = self.indent;
+        let (indent, later) = (self.next_indent, self.indent);
+        self.next_indent = later;
         if let Err(e) = push_indent(self.alloc, indent, out) {
             self.lines.finish();
             return Some(Err(e));

@@ -1,4 +1,4 @@
-use Rattle.std.proofs.Common.{sym, subst}
+use Rattle.std.proofs.Common.{sym, subst, arith}
 use Rattle.ansi_columns.specs.Walks.{IsFittingTo}
 use Rattle.ansi_columns.proofs.ViewLemmas.{seen_len-none}
 use Rattle.ansi_columns.proofs.WalkLemmas.{walk_boundary}
