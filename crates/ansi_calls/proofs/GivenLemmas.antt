@@ -11,8 +11,7 @@ use Rattle.std.proofs.lemmas.List.Elements.{All-from_recursion, recursion_from_A
 use Rattle.std.proofs.lemmas.Slice.{drop-append-drop}
 use Rattle.std.proofs.Math.Seq.{take-append_seam}
 use Rattle.ansi_split.specs.Splits.{CarriedPart, GivesCarriedPart}
-use Rattle.ansi_calls.specs.declared.lists.ListAnswer.{ListAnswer}
-use Rattle.ansi_calls.specs.Lists.{ends_from, given_bytes, AreGiven, GivesAll}
+use Rattle.ansi_calls.specs.Lists.{ends_from, given_bytes}
 
 -- texts one after the other
 abbrev pub joined_texts : List (List ℕ) → List ℕ
@@ -59,11 +58,6 @@ text_of p = p.bytes
 
 abbrev is_borrow : CarriedPart → Bool
 is_borrow p = p.borrowed
-
--- all texts are given, or the call runs out of memory if it may
-pub gives-all : (takes_memory : Bool) (texts : List (List ℕ)) (answer : ListAnswer) (old new old_ends new_ends : List ℕ)
-    → IsTrue takes_memory → AreGiven texts answer old new old_ends new_ends → GivesAll takes_memory (joined_texts texts) (ends_from 0 texts) answer old new old_ends new_ends
-gives-all takes_memory texts answer old new old_ends new_ends takes given = elim given [ inl all ↦ inl all | inr failed ↦ inr (takes, failed) ]
 
 -- the parts that a split has left are given in turn, and the lines that a wrap has left
 module _ {A E : Type 0} (most_added : ℕ) where

@@ -65,12 +65,6 @@ abbrev pub given_bytes : {A E : Type 0} → Result (CowStr A) E → List ℕ
 given_bytes (Ok text) = cow_str_bytes text
 given_bytes (Err e) = []
 
--- a call writes these texts, and where each ends, or runs out of memory
-abbrev pub AreGiven : List (List ℕ) → ListAnswer → List ℕ → List ℕ → List ℕ → List ℕ → Type 0
-AreGiven texts answer old new old_ends new_ends =
-    AreWritten (flat_map (λ t. t) texts) (ends_from 0 texts) answer old new old_ends new_ends
-    ⊎ HaveFailed out_of_memory answer old new old_ends new_ends
-
 -- texts are counted with their total length, and written one after the other if there is room for all of them; their ends are written if there is room for all of these
 abbrev pub AreCopied : List (List ℕ) → ℕ × ℕ → List ℕ → List ℕ → List ℕ → List ℕ → Type 0
 AreCopied texts answer old new old_ends new_ends =

@@ -2,7 +2,7 @@
 ghost use Rattle.std.specs.Prelude.{◌≡◌, ◌≤◌, ◌<◌, ◌+◌, ◌^◌, ◌==◌, ◌∷◌, [], ◌++◌, ℕ, List, refl};
 ghost use Rattle.std.specs.Prelude.{length, take, drop, map, flat_map, if◌then◌else◌, IsFalse};
 ghost use Rattle.std.specs.Prelude.{IfNone, IfSome, Result, IsOk, IfOk, OnOk, MatchResult, All};
-ghost use Rattle.std.specs.Prelude.{string_bytes, IsUtf8, IsTrue};
+ghost use Rattle.std.specs.Prelude.{string_bytes, IsUtf8, IsTrue, true};
 ghost use Rattle.std.specs.Mem.{FitsInMemory};
 ghost use Rattle.std.specs.Iterator.{IsFinite, Drains, HoldsAlong};
 ghost use Rattle.std.specs.declared.alloc.AllocError.{AllocError};
@@ -16,7 +16,7 @@ ghost use Rattle.ansi_calls.specs.Lists.{none, ends_from, AreEntries};
 ghost use Rattle.ansi_calls.specs.Lists.{IsBlockEntry, styled_text, IsStyledBlockEntry};
 ghost use Rattle.ansi_calls.specs.Lists.{whole_block, given_bytes, AreCopied};
 ghost use Rattle.ansi_calls.specs.Lists.{AreWritten, AreCopiedSoFar, Copies, Fit};
-ghost use Rattle.ansi_calls.specs.Lists.{IsCountWithoutRoom, AreGiven, HaveFailed};
+ghost use Rattle.ansi_calls.specs.Lists.{IsCountWithoutRoom, GivesAll, HaveFailed};
 ghost use Rattle.ansi_calls.specs.Calls.{Splits, ListsAs, ListsBlocks, ListsStyledBlocks};
 
 use crate::answers::{NOT_UTF8, OK, OUT_OF_MEMORY, TOO_SMALL};
@@ -423,7 +423,8 @@ pub(crate) fn write_texts<P: PushNext + Drop, A: Allocator + Copy>(
     buffer: &mut [u8],
     ends: &mut [usize],
 ) -> ListAnswer
-    ensures { AreGiven (map (λ p. p.bytes) (P.left given)) result buffer.old buffer.new ends.old
+    ensures { GivesAll true (flat_map (λ t. t) (map (λ p. p.bytes) (P.left given)))
+        (ends_from 0 (map (λ p. p.bytes) (P.left given))) result buffer.old buffer.new ends.old
         ends.new }
 {
     write_joined(join_texts(alloc, room, given), buffer, ends)

@@ -6,7 +6,7 @@ use Rattle.ansi_safe.specs.Cells.{paragraph}
 use Rattle.ansi_columns.specs.Wrapped.{CarriedPart}
 use Rattle.ansi_calls.specs.Lists.{ends_from, GivesAll}
 use Rattle.ansi_calls.specs.Columns.{GivesWrapped}
-use Rattle.ansi_calls.proofs.GivenLemmas.{joined_texts, gives-all}
+use Rattle.ansi_calls.proofs.GivenLemmas.{joined_texts}
 use Rattle.ansi_calls.proofs.lines.wrap.Goals as goal
 
 neither : (a b : Bool) → true ≡ not (a || not b) → (a ≡ false) × (b ≡ true)
@@ -42,5 +42,5 @@ returns g c =
     let some : takes ≡ true = one-of takes (sym c.if-is_bare_paragraph.false ∙ c.is_bare_paragraph.ensures) in
     let gives = subst (λ (ts : List (List ℕ)). GivesAll takes (joined_texts ts) (ends_from 0 ts) c.write_texts.result c.args.buffer.now c.write_texts.new.buffer c.args.ends.now c.write_texts.new.ends)
     (ap (map (λ (l : CarriedPart). l.bytes)) c.wrap.ensures.lines)
-    (gives-all takes _ _ _ _ _ _ some c.write_texts.ensures) in
+    (subst (λ b. GivesAll b _ _ _ _ _ _ _) (sym some) c.write_texts.ensures) in
     inl (c.in-Ok.ensures.1, rw c.in-Ok.ensures.0 at gives)

@@ -1,7 +1,7 @@
 use Rattle.std.proofs.Common.{◌≡◌, ◌∙◌, List, ℕ, true, inl, sym, subst}
 use Rattle.ansi_str.specs.Plain.{has_escape}
 use Rattle.ansi_calls.specs.Lists.{ends_from, GivesAll}
-use Rattle.ansi_calls.proofs.GivenLemmas.{joined_texts, gives-all}
+use Rattle.ansi_calls.proofs.GivenLemmas.{joined_texts}
 use Rattle.ansi_calls.proofs.lists.split.Goals as goal
 
 -- the parts of a text without ESC are written where they belong
@@ -14,6 +14,5 @@ pub returns : goal.returns
 returns g c =
     let some : has_escape c.in-Ok.text.now ≡ true = sym c.ansi_has_any.ensures ∙ c.if-not-ansi_has_any.false in
     let gives = subst (λ (ts : List (List ℕ)). GivesAll (has_escape c.in-Ok.text.now) (joined_texts ts) (ends_from 0 ts) c.write_texts.result c.args.buffer.now c.write_texts.new.buffer c.args.ends.now c.write_texts.new.ends)
-    c.split_in.ensures.bytes
-    (gives-all _ _ _ _ _ _ _ some c.write_texts.ensures) in
+    c.split_in.ensures.bytes (rw some c.write_texts.ensures) in
     inl (c.in-Ok.ensures.1, inl (c.in-Ok-from_utf8.ensures.1, rw (c.in-Ok.ensures.0, c.in-Ok-from_utf8.ensures.0) at gives))

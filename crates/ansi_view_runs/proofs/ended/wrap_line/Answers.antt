@@ -29,7 +29,7 @@ joined-more mark so_far after l old new all first more joined =
 pub lines-preserved : goal.lines-preserved
 lines-preserved g c =
     let mark = line_break c.args.end.now in
-    let line = appended c.lines.lines c.push_next-in-lines.new.lines _ _ c.push_next-in-lines.result _ c.push_next-in-lines.ensures
+    let line = appended c.lines.lines c.push_next-in-lines.new.self _ _ c.push_next-in-lines.result _ c.push_next-in-lines.ensures
     (sym c.transpose-in-lines.ensures ∙ c.in_ok-transpose-2.was) (λ none. false≢true (sym (c.has_next.ensures.1 none) ∙ c.lines-test.true)) in
     record {
       joined = joined-more mark _ _ line.0 _ _ _ line.1
