@@ -42,5 +42,5 @@ returns g c =
     let some : takes ≡ true = one-of takes (sym c.if-is_bare_paragraph.false ∙ c.is_bare_paragraph.ensures) in
     let gives = subst (λ (ts : List (List ℕ)). GivesAll takes (joined_texts ts) (ends_from 0 ts) c.write_texts.result c.args.buffer.now c.write_texts.new.buffer c.args.ends.now c.write_texts.new.ends)
     (ap (map (λ (l : CarriedPart). l.bytes)) c.wrap.ensures.lines)
-    (subst (λ b. GivesAll b _ _ _ _ _ _ _) (sym some) c.write_texts.ensures) in
+    (rw some c.write_texts.ensures) in
     inl (c.in-Ok.ensures.1, rw c.in-Ok.ensures.0 at gives)
