@@ -1,7 +1,7 @@
 //! The texts of cells that are printable ASCII and select graphic renditions alone. They stay as
 //! they are, and one pass tells their columns and the style at their end, or where they are cut and
 //! the style there.
-ghost use Rattle.std.specs.Prelude.{◌≡◌, ◌<◌, ◌≤◌, ℕ, IfSome, MatchOption, IsTrue};
+ghost use Rattle.std.specs.Prelude.{◌≡◌, ◌<◌, ◌≤◌, ℕ, IfSome, MatchOption, IsTrue, length, slice_range};
 ghost use Rattle.std.specs.List.{list_all};
 ghost use Rattle.ansi_style.specs.States.{rendition_of};
 ghost use Rattle.ansi_safe.specs.Safe.{is_printable_byte};
@@ -30,7 +30,7 @@ pub(crate) struct PlainFront {
 
 /// The length of the longest text that is looked at. A search for the next sequence of a longer one
 /// could read far past the width.
-const LONGEST: usize = 512;
+pub(crate) const LONGEST: usize = 512;
 
 /// The front of a text of a cell, if that is printable ASCII and select graphic renditions alone.
 /// `None` says nothing.
@@ -71,7 +71,7 @@ pub(crate) fn plain_front(text: &str, width: usize) -> Option<PlainFront>
                 run: Some(run),
             });
         }
-        if !is_printable(piece) {
+        if !is_printable(text, item.start, item.end) {
             return None;
         }
         left -= piece.len();
@@ -143,9 +143,12 @@ pub(crate) fn plain_cut(
     })
 }
 
-/// Whether each byte of a run is printable ASCII.
-fn is_printable(run: &str) -> bool
-    ensures { result ≡ list_all is_printable_byte run.now }
+/// Whether each byte from `start` up to `end` is printable ASCII. What follows may be looked at too,
+/// so that a short run is read 16 bytes at a time as well.
+pub(crate) fn is_printable(text: &str, start: usize, end: usize) -> bool
+    requires ordered { start ≤ end }
+    requires within { end ≤ length text.now }
+    ensures { result ≡ list_all is_printable_byte (slice_range text.now start end) }
 {
-    printable_len(run.as_bytes()) == run.len()
+    end - start <= printable_len(&text.as_bytes()[start..])
 }

@@ -1,15 +1,13 @@
 //! The width of a text.
-ghost use Rattle.std.specs.Prelude.{◌≡◌, ◌≤◌, IfSome, length, slice_range};
-ghost use Rattle.std.specs.List.{list_all};
-ghost use Rattle.ansi_safe.specs.Safe.{is_printable_byte};
+ghost use Rattle.std.specs.Prelude.{◌≡◌, IfSome};
 ghost use Rattle.ansi_columns.specs.declared.views.View.{View};
 ghost use Rattle.ansi_columns.specs.Columns.{columns};
 ghost use Rattle.ansi_columns.specs.Views.{seen_text};
 
+use crate::plain_cells::{LONGEST, is_printable};
 use crate::views::View;
 use crate::walks::Walk;
 use ansi_items::ansitok::{Kind, Scanner};
-use ansi_safe::printable::printable_len;
 
 /// The columns of what is seen of a text.
 pub(crate) fn width(text: &str, view: View) -> usize
@@ -21,10 +19,8 @@ pub(crate) fn width(text: &str, view: View) -> usize
     }
 }
 
-/// The length of the longest text that is looked at before it is walked.
-const LONGEST: usize = 512;
-
-/// The columns of a text whose runs are printable ASCII. `None` says nothing.
+/// The columns of a text whose runs are printable ASCII. A long one isn't looked at. `None` says
+/// nothing.
 fn printable_width(text: &str) -> Option<usize>
     ensures { IfSome result (λ n. (view : View) → n ≡ columns (seen_text view text.now)) }
 {
@@ -41,16 +37,6 @@ fn printable_width(text: &str) -> Option<usize>
         }
     }
     Some(width)
-}
-
-/// Whether each byte from `start` up to `end` is printable ASCII. What follows may be looked at too,
-/// so that a short run is read 16 bytes at a time as well.
-fn is_printable(text: &str, start: usize, end: usize) -> bool
-    requires ordered { start ≤ end }
-    requires within { end ≤ length text.now }
-    ensures { result ≡ list_all is_printable_byte (slice_range text.now start end) }
-{
-    end - start <= printable_len(&text.as_bytes()[start..])
 }
 
 /// The same as `width`, cluster by cluster.

@@ -1,4 +1,5 @@
 use Rattle.std.proofs.Common.{◌≡◌, refl, sym, ◌∙◌, ap, subst, arith}
+use Rattle.std.specs.List.{list_all}
 use Rattle.std.proofs.lemmas.Bool.{not-false}
 use Rattle.ansi_items.specs.declared.ansitok.Kind.TheVariants.{Sgr}
 use Rattle.ansi_items.specs.Scans.{pieces_left}
@@ -7,6 +8,7 @@ use Rattle.ansi_style.specs.Rendition.{plain_style}
 use Rattle.ansi_search.proofs.OffsetLemmas.{item_range, over_text, over_mark}
 use Rattle.ansi_safe.proofs.LinkLemmas.{is_kind}
 use Rattle.ansi_columns.specs.declared.views.View.TheVariants.{Shown}
+use Rattle.ansi_columns.proofs.AsciiLemmas.{is_printable}
 use Rattle.ansi_columns.proofs.PlainCellLemmas.{IsPlainSoFar, plain-begin, plain-run, plain-sgr, plain-end}
 use Rattle.ansi_columns.proofs.PlainFrontLemmas.{at-run, plain-before}
 use Rattle.ansi_columns.proofs.plain_cells.plain_front.Goals as goal
@@ -42,7 +44,7 @@ loop-item-preserved c =
     let over = over_text gives inv.text c.range-piece.ensures.value (kind_is_text (sym (not-false _ (sym c.if-ne.ensures)))) in
     record {
       text = gives.text ∙ inv.text;
-      so_far = plain-run inv.so_far over (sym c.is_printable.ensures ∙ c.if-not-is_printable.false) (omega (arith, c.if-left-piece.false));
+      so_far = plain-run inv.so_far over (ap (list_all is_printable) c.range-piece.ensures.value ∙ sym c.is_printable.ensures ∙ c.if-not-is_printable.false) (omega (arith, c.if-left-piece.false));
     }
 
 -- at a run that doesn't fit
