@@ -31,18 +31,6 @@ module _ {X : Type 0} (text : X → List ℕ) where
       (ends-more next xs x ∙ ap (λ k. ends_from next (map text xs) ++ k ∷ [])
       (omega (arith, ap length (flat_map-cons (λ t. t) (text y) (map text xs)), length-append (text y) (joined_texts (map text xs)))))
 
-  -- one text more is joined, and ends after those before it
-  pub listed-more : (xs : List X) (x : X) (so_far after added : List ℕ) (ends more : List ℕ) (end : ℕ) → so_far ≡ joined_texts (map text xs) → after ≡ so_far ++ added → added ≡ text x
-      → ends ≡ ends_from 0 (map text xs) → end ≡ length after → more ≡ ends ++ end ∷ []
-      → (after ≡ joined_texts (map text (xs ++ x ∷ []))) × (more ≡ ends_from 0 (map text (xs ++ x ∷ [])))
-  listed-more xs x so_far after added ends more end is adds one listed at one_more =
-      let before = joined_texts (map text xs) in
-      let joined = adds ∙ ap₂ (λ u v. u ++ v) is one in
-      let last : end ≡ 0 + length before + length (text x) = omega (arith, at, ap length joined, length-append before (text x)) in (
-        joined ∙ sym (joined-more xs x),
-        one_more ∙ ap₂ (λ es n. es ++ n ∷ []) listed last ∙ sym (ends-more 0 xs x),
-      )
-
 -- one more item follows those that are written
 pub written-more : {T : Type 0} (old now after items more : List T) → now ≡ items ++ drop (length items) old → after ≡ take (length items) now ++ more ++ drop (length items + length more) now
     → after ≡ (items ++ more) ++ drop (length (items ++ more)) old
@@ -82,7 +70,7 @@ module _ {A E : Type 0} (most_added : ℕ) where
   texts-given left later (Err e ∷ rs) ok (new, step, ran) = absurd (let err = All-head IsOk (Err e) rs ok in cc err)
 
   -- and at the end all of it
-  pub all-given : (left : List CarriedPart) (rs : List (Result (CowStr A) E)) → All IsOk rs → Drains steps left rs → map given_bytes rs ≡ map text_of left
+  all-given : (left : List CarriedPart) (rs : List (Result (CowStr A) E)) → All IsOk rs → Drains steps left rs → map given_bytes rs ≡ map text_of left
   all-given left rs ok (new, (last, ran, ends)) =
       sym (texts-given left last rs ok ran ∙ ap (λ xs. map given_bytes rs ++ map text_of xs) ends.0 ∙ append-nil (map given_bytes rs))
 

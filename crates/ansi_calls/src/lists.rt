@@ -430,7 +430,7 @@ pub(crate) fn write_texts<P: PushNext + Drop, A: Allocator + Copy>(
     write_joined(join_texts(alloc, room, given), buffer, ends)
 }
 
-/// The ends for which there is room at first.
+/// The number of ends that have room at first.
 const FEW: usize = 16;
 
 /// The texts that are left, concatenated, and where each ends. Reserves `room` bytes at once.

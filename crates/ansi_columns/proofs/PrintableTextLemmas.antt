@@ -31,9 +31,6 @@ pub record ArePrintableSoFar (t : List ℕ) (width : ℕ) (ps : List Piece) : Ty
   pub printable : list_all is_printable front ≡ true
   pub count : length front ≡ width
 
-pub printable-begin : (t : List ℕ) → ArePrintableSoFar t 0 (pieces_of t)
-printable-begin t = record { front = []; all = refl; printable = refl; count = refl }
-
 -- over a run
 pub printable-run : {t w : List ℕ} {width next : ℕ} {old new : Scan} {item : Item} → ArePrintableSoFar t width (pieces_left old) → GivesItem old item new → old.text ≡ t → w ≡ slice_range t item.start item.end → item.kind ≡ TextKind
     → list_all is_printable w ≡ true → next ≡ width + length w → ArePrintableSoFar t next (pieces_left new)
@@ -45,12 +42,6 @@ printable-run {t} {w} {width} {next} {old} {new} so_far gives same is kind print
       printable = list_all-append is_printable here.front w ∙ ap₂ (λ a b. a && b) here.printable printable;
       count = omega (arith, here.count, length-append here.front w, next_is);
     }
-
--- over a mark
-pub printable-mark : {t w : List ℕ} {width : ℕ} {kind : Kind} {old ps : List Piece} → ArePrintableSoFar t width old → BeginsWithMark kind w old ps → ArePrintableSoFar t width ps
-printable-mark {t} {w} {width} {ps = ps} so_far mark =
-    let here = subst (ArePrintableSoFar t width) mark.pieces so_far in
-    record { front = here.front; all = here.all ∙ ap (λ u. here.front ++ u) (plain_of-mark mark.mark ps mark.is_mark); printable = here.printable; count = here.count }
 
 pub printable-within : {t : List ℕ} {width : ℕ} {ps : List Piece} → ArePrintableSoFar t width ps → width ≤ length t
 printable-within {t} {ps = ps} so_far = omega (arith, so_far.count, ap length so_far.all, length-append so_far.front (plain_of ps), length-plain t)

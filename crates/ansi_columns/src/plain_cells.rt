@@ -29,13 +29,13 @@ pub(crate) struct PlainFront {
 }
 
 /// The length of the longest text that is looked at. A search for the next sequence of a longer one
-/// could read far past the width.
+/// could read far past the width, and a width would read much of it twice.
 pub(crate) const LONGEST: usize = 512;
 
 /// The front of a text of a cell, if that is printable ASCII and select graphic renditions alone.
 /// `None` says nothing.
 ///
-/// Of a run that doesn't fit, only as much is tested as says so.
+/// If a run doesn't fit, only one byte more is tested than there are columns left.
 pub(crate) fn plain_front(text: &str, width: usize) -> Option<PlainFront>
     ensures { IfSome result (λ f. MatchOption f.run
         (IsPlainCell text.now width f.left (rendition_of f.style))
@@ -114,8 +114,8 @@ pub(crate) struct PlainCut {
     pub(crate) style: Style,
 }
 
-/// The end of what fits of a text into `room` columns, if a wider front of it has been read. `None`
-/// says nothing.
+/// The end of what fits of a text into `room` columns. `front` is what `plain_front` returned for
+/// `width`, and `run` is the walk in it. `None` says nothing.
 pub(crate) fn plain_cut(
     text: &str,
     width: usize,

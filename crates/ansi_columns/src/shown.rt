@@ -217,8 +217,8 @@ fn truncation<'a>(text: &str, width: usize, tail: &'a str) -> Cut<'a>
     }
 }
 
-/// The columns that are left for a text that doesn't fit, and the tail that is written after it. It
-/// is empty if none is.
+/// The columns that are left for a text that doesn't fit, and the tail that is written after it. The
+/// tail is empty if none is written.
 fn beside<'a>(width: usize, tail: &'a str) -> (usize, &'a str)
     ensures room { (t : List ℕ) → nat_le (columns (plain t)) width ≡ false →
         truncated_width t width tail.entry.now ≡ result.0 }

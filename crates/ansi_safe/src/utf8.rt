@@ -2,7 +2,7 @@
 ghost use Rattle.std.specs.Prelude.{◌≡◌, ◌≤◌, ◌↔◌, length, take, MatchResult, IsTrue};
 ghost use Rattle.std.specs.Str.{IsAscii, IsUtf8};
 
-use simdutf8::basic::Utf8Error;
+pub use simdutf8::basic::Utf8Error;
 use std::str::from_utf8_unchecked;
 
 // The high bit of each byte, which ASCII doesn't have.

@@ -99,7 +99,7 @@ pub trait PushNext {
     // The texts that are left.
     ghost left: { Self → List CarriedPart };
 
-    /// Appends the next text to another one, and doesn't make a text of its own for it.
+    /// Appends the next text to another one. A part or a line isn't made as a text of its own first.
     ///
     /// `None` means that no text is left, and nothing is appended then. `Err` means out of memory;
     /// what was appended before it stays, and no text is left.
@@ -120,14 +120,11 @@ impl<'a, A: Allocator> PushNext for AnsiSplit<'a, A> {
 
     #[inline]
     fn push_next<B: Allocator>(&mut self, out: &mut String<B>) -> Option<Result<(), AllocError>> {
-        let span = self.spans.next()?;
-        match span.push_to(out) {
-            Ok(()) => Some(Ok(())),
-            Err(e) => {
-                self.spans.finish();
-                Some(Err(e))
-            }
+        let pushed = self.spans.next()?.push_to(out);
+        if pushed.is_err() {
+            self.spans.finish();
         }
+        Some(pushed)
     }
 }
 

@@ -155,7 +155,7 @@ pub fn view_text<A: Allocator + Copy>(
 }
 
 // Like `view_text`, of a text whose bytes are decoded. If something is open before it, what opens
-// that and the text are joined, and the result is that text if it is safe already.
+// that and the text are joined. If that is safe, the result is that with what ends it.
 fn make_safe<A: Allocator + Copy>(
     alloc: A,
     policy: Policy,

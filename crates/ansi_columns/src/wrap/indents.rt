@@ -195,7 +195,8 @@ fn push_indent<A: Allocator + Copy, B: Allocator>(
     if indent.is_empty() {
         return Ok(());
     }
-    // As in `after_indent`, this closes its link and its style, and writes no blanks.
+    // As in `after_indent`, this closes its link and its style, and writes no blanks. An indent that
+    // has to be closed is made with the allocator of the lines.
     let shown = pad(alloc, indent, 0, Alignment::Left)?;
     out.push_str(shown.as_str())
 }

@@ -1,6 +1,6 @@
 //! The examples of the docs of `ansi_safe`, in the same words.
 use ansi_safe::cells::{cell_char, cell_of, paragraph_of};
-use ansi_safe::safe::{is_safe, sanitize};
+use ansi_safe::safe::{is_safe, pen_if_safe, sanitize};
 use ansi_safe::utf8::from_utf8;
 use ansi_safe::{AnsiSafe, Links, Policy, Rest};
 use std::test::Fail;
@@ -52,6 +52,13 @@ fn policy_example(rt: HostRuntime) -> Result<(), Fail> {
         links: Links::Remove,
     };
     assert!(rt; "\x1b[2Ja".ansi_sanitize(rt.alloc(), policy)?.as_str() == "a");
+    Ok(())
+}
+
+#[test]
+fn pen_if_safe_example(rt: HostRuntime) -> Result<(), Fail> {
+    let pen = pen_if_safe("\x1b[31mred", Links::Remove).ok_or("not safe")?;
+    assert!(rt; !pen.is_plain() && pen_if_safe("\x1b[2J", Links::Remove).is_none());
     Ok(())
 }
 

@@ -1,4 +1,4 @@
-use Rattle.std.proofs.Common.{List, ℕ, true, map, ap, refl, subst}
+use Rattle.std.proofs.Common.{List, ℕ, true, map, ap, subst}
 use Rattle.ansi_columns.specs.Wrapped.{CarriedPart}
 use Rattle.ansi_calls.specs.Lists.{ends_from, GivesAll}
 use Rattle.ansi_calls.specs.Columns.{GivesIndented}

@@ -1,4 +1,4 @@
-use Rattle.std.proofs.Common.{◌≡◌, ◌++◌, true, [], List, ℕ, string_bytes, rules, refl, sym, ◌∙◌, ap, subst}
+use Rattle.std.proofs.Common.{◌≡◌, ◌++◌, true, [], string_bytes, rules, refl, sym, ◌∙◌, ap, subst}
 use Rattle.std.specs.Prelude.{string_len}
 use Rattle.std.specs.Str.{IsUtf8}
 use Rattle.std.proofs.lemmas.Bool.{eqb-true}
@@ -10,7 +10,6 @@ use Rattle.ansi_safe.specs.Sanitized.{sanitized}
 use Rattle.ansi_safe.proofs.MadeLemmas.{cleaned-safe, sanitized-safe}
 use Rattle.ansi_safe.proofs.SafeLemmas.{sanitized-is_safe, sanitized-is_closed}
 use Rattle.ansi_view_runs.proofs.view.make_safe.Goals as goal
-use Rattle.ansi_view_runs.proofs.view.make_safe.Goals.{In_ok-push_to-in-Some}
 
 -- nothing is open before it
 pub returns-then-is_empty-clause-opening : goal.returns-then-is_empty-clause-opening
