@@ -1,14 +1,15 @@
 //! The start and the close of a style, for printing. Each code has a sequence of its own.
-ghost use Rattle.std.specs.Prelude.{◌≡◌, ◌<◌, ◌+◌, ◌++◌, ◌∷◌, [], Some, codes, decimal, flat_map};
-ghost use Rattle.std.specs.Prelude.{if◌then◌else◌, length};
+ghost use Rattle.std.specs.Prelude.{◌≡◌, ◌<◌, ◌++◌, ◌∷◌, [], Some, codes, decimal, flat_map};
+ghost use Rattle.std.specs.Prelude.{if◌then◌else◌, IsAscii};
 ghost use Rattle.ansi_style.specs.Writing.{WroteOnOk, color_sequence, color_sequence_if_set};
 ghost use Rattle.ansi_style.specs.States.{has_one, rendition_of};
-ghost use Rattle.ansi_style.specs.Written.{written_all, color_codes};
+ghost use Rattle.ansi_style.specs.Written.{written, written_all, color_codes};
 ghost use Rattle.ansi_style.specs.Written.{font_codes, start, close, close_if_any};
 
 use crate::state::Style;
 use crate::state::attributes::Attributes;
 use crate::styles::has_any;
+use ansi_items::ESC;
 use ansi_items::ansitok::AnsiColor;
 use bitflags::Flags;
 use std::fmt;
@@ -257,10 +258,7 @@ fn write_font<W: fmt::Write>(out: &mut W, font: Option<u8>) -> fmt::Result
 {
     match font {
         None => Ok(()),
-        Some(number) => {
-            out.write_str("\u{1b}[")?;
-            write_number(out, number, b'm')
-        }
+        Some(number) => write_code(out, number),
     }
 }
 
@@ -294,10 +292,7 @@ fn write_color_sequence<W: fmt::Write>(
         (color_sequence by_number.now by_parts.now color) out.new }
 {
     match color {
-        AnsiColor::Bit4(n) => {
-            out.write_str("\u{1b}[")?;
-            write_number(out, n, b'm')
-        }
+        AnsiColor::Bit4(n) => write_code(out, n),
         AnsiColor::Bit8(n) => {
             out.write_str(by_number)?;
             write_number(out, n, b'm')
@@ -311,31 +306,42 @@ fn write_color_sequence<W: fmt::Write>(
     }
 }
 
-/// Writes a number in decimal, and an ASCII byte after it.
+/// Writes the sequence of a code. Most codes of colors and fonts have two digits, and then it is
+/// written at once.
+#[inline(never)]
+fn write_code<W: fmt::Write>(out: &mut W, code: u8) -> fmt::Result
+    ensures { WroteOnOk W.write_str_gives out.old result (written (decimal code)) out.new }
+{
+    if 10 <= code && code < 100 {
+        return write_ascii(out, &[ESC, b'[', b'0' + code / 10, b'0' + code % 10, b'm']);
+    }
+    out.write_str("\u{1b}[")?;
+    write_number(out, code, b'm')
+}
+
+/// Writes a number in decimal, and an ASCII byte after it. A copy of a known length is quicker, so
+/// each number of digits has an array of its own.
 fn write_number<W: fmt::Write>(out: &mut W, number: u8, after: u8) -> fmt::Result
     requires { after < 128 }
     ensures { WroteOnOk W.write_str_gives out.old result (decimal number ++ after ∷ [])
         out.new }
 {
-    let bytes = [
-        b'0' + number / 100,
-        b'0' + number / 10 % 10,
-        b'0' + number % 10,
-        after,
-    ];
-    let start = leading_zeros(number);
-    out.write_str(unsafe { from_utf8_unchecked(&bytes[start..]) })
+    let ones = b'0' + number % 10;
+    if number < 10 {
+        write_ascii(out, &[ones, after])
+    } else if number < 100 {
+        write_ascii(out, &[b'0' + number / 10, ones, after])
+    } else {
+        let tens = number / 10 % 10;
+        write_ascii(out, &[b'0' + number / 100, b'0' + tens, ones, after])
+    }
 }
 
-/// How many zeros begin the number in three digits.
-fn leading_zeros(number: u8) -> usize
-    ensures { result + length (decimal number) ≡ 3 }
+/// Writes ASCII bytes.
+#[inline(always)]
+fn write_ascii<W: fmt::Write>(out: &mut W, bytes: &[u8]) -> fmt::Result
+    requires { IsAscii bytes.now }
+    ensures { WroteOnOk W.write_str_gives out.old result bytes.now out.new }
 {
-    if number < 10 {
-        2
-    } else if number < 100 {
-        1
-    } else {
-        0
-    }
+    out.write_str(unsafe { from_utf8_unchecked(bytes) })
 }

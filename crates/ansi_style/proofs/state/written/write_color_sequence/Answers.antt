@@ -3,15 +3,10 @@ use Rattle.ansi_style.proofs.WritingLemmas.{wrote_once, wrote_two}
 use Rattle.ansi_style.proofs.state.written.write_color_sequence.Goals as goal
 
 -- a number after what begins the sequence
-pub returns-in_ok-write_str-in-Bit4 : goal.returns-in_ok-write_str-in-Bit4
-returns-in_ok-write_str-in-Bit4 g c = λ ok.
-    wrote_two g.W.Write.write_str_gives _ _ _ _ _ _ (wrote_once g.W.Write.write_str_gives _ _ _ (c.in_ok-write_str-in-Bit4.ensures.ok (refl {a = true})))
-    (c.write_number.ensures ok) (rw c.in-Bit4.is refl)
-
 pub returns-in_ok-write_str-in-Bit8 : goal.returns-in_ok-write_str-in-Bit8
 returns-in_ok-write_str-in-Bit8 g c = λ ok.
     wrote_two g.W.Write.write_str_gives _ _ _ _ _ _ (wrote_once g.W.Write.write_str_gives _ _ _ (c.in_ok-write_str-in-Bit8.ensures.ok (refl {a = true})))
-    (c.write_number-in-Bit8.ensures ok) (rw c.in-Bit8.is refl)
+    (c.write_number.ensures ok) (rw c.in-Bit8.is refl)
 
 -- the three parts
 pub returns-in_ok-write_number-in-Bit24-2 : goal.returns-in_ok-write_number-in-Bit24-2

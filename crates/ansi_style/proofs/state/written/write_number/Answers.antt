@@ -1,16 +1,12 @@
-use Rattle.std.specs.Str.{IsUtf8}
-use Rattle.ansi_style.proofs.DecimalLemmas.{number_and_byte, number_and_byte-utf8}
-use Rattle.ansi_style.proofs.WritingLemmas.{wrote_once}
-use Rattle.ansi_style.proofs.Common.{subst, sym}
+use Rattle.ansi_style.proofs.DecimalLemmas.{one_digit, two_digits, three_digits}
 use Rattle.ansi_style.proofs.state.written.write_number.Goals as goal
 
--- a decimal spelling and an ASCII byte are a text
-pub from_utf8_unchecked-requires : goal.from_utf8_unchecked-requires
-from_utf8_unchecked-requires g c =
-    subst IsUtf8 (sym (number_and_byte c.args.number c.args.after c.leading_zeros-start.result c.ranges.number.fits c.leading_zeros-start.ensures))
-    (number_and_byte-utf8 c.args.number c.args.after c.ranges.number.fits c.requires)
+-- the digits of each length
+pub returns-then-number-lt10 : goal.returns-then-number-lt10
+returns-then-number-lt10 g c = λ ok. rw (← one_digit c.args.number c.if-number-lt10.true) (c.write_ascii.ensures ok)
 
-pub returns : goal.returns
-returns g c = λ ok.
-    let is = number_and_byte c.args.number c.args.after c.leading_zeros-start.result c.ranges.number.fits c.leading_zeros-start.ensures in
-    wrote_once g.W.Write.write_str_gives _ _ _ (rw (c.from_utf8_unchecked.ensures, is) at (c.write_str.ensures.ok ok))
+pub returns-then-number-lt100 : goal.returns-then-number-lt100
+returns-then-number-lt100 g c = λ ok. rw (← two_digits c.args.number c.if-number-lt10.false c.if-number-lt100.true) (c.write_ascii-then-number-lt100.ensures ok)
+
+pub returns-else-number-lt100 : goal.returns-else-number-lt100
+returns-else-number-lt100 g c = λ ok. rw (← three_digits c.args.number c.if-number-lt100.false c.ranges.number.fits) (c.write_ascii-else-number-lt100.ensures ok)
