@@ -1,6 +1,7 @@
 //! The fields of an SGR's parameter bytes, and their numbers.
 ghost use Rattle.std.specs.Prelude.{◌≡◌, [], ◌∷◌, Some, None, IsTrue, IfSome, option_map, nat_le};
-ghost use Rattle.std.specs.Prelude.{if◌then◌else◌};
+ghost use Rattle.std.specs.Prelude.{if◌then◌else◌, List, ℕ};
+ghost use Rattle.std.specs.Str.{byte};
 ghost use Rattle.ansi_items.specs.Sequences.{is_sgr, sgr_parameters};
 ghost use Rattle.ansi_style.specs.Sgr.{fields_of, code_of, color_number};
 ghost use Rattle.ansi_style.specs.Fields.{first_field, with_digit};
@@ -56,6 +57,24 @@ impl<'a> Fields<'a> {
             ≡ first_field code_of self.old }
     {
         let bytes = self.rest?;
+        if let Some((code, rest)) = short_field(bytes) {
+            self.rest = Some(rest);
+            return Some(Field { code: Some(code) });
+        }
+        if let Some(code) = lone_code(bytes) {
+            self.rest = None;
+            return Some(Field { code: Some(code) });
+        }
+        self.any_field()
+    }
+
+    /// The same, byte by byte.
+    #[inline(never)]
+    fn any_field(&mut self) -> Option<Field>
+        ensures { (option_map (λ field. field.code) result, self.new)
+            ≡ first_field code_of self.old }
+    {
+        let bytes = self.rest?;
         let mut number = Number::ZERO;
         for (i, byte) in bytes.iter().enumerate() {
             if *byte == b';' {
@@ -80,8 +99,8 @@ impl<'a> Fields<'a> {
     }
 }
 
-/// A fast path: the code, if the parameter bytes are one field of at most two digits, as most are.
-/// Otherwise `None`.
+/// A fast path: the code, if the parameter bytes are one field of at most three digits, as most
+/// are. Otherwise, and if it is more than 255, `None`.
 #[inline(always)]
 pub(crate) fn lone_code(parameters: &[u8]) -> Option<u8>
     ensures field { IfSome result (λ _. fields_of parameters.now ≡ parameters.now ∷ []) }
@@ -93,8 +112,47 @@ pub(crate) fn lone_code(parameters: &[u8]) -> Option<u8>
         [tens, digit] if tens.is_ascii_digit() && digit.is_ascii_digit() => {
             Some((tens - b'0') * 10 + (digit - b'0'))
         }
+        [hundreds, tens, digit] => three_digits(*hundreds, *tens, *digit),
         _ => None,
     }
+}
+
+/// A fast path: the first field as a code and the parameter bytes after it, if the field has one to
+/// three digits and a `;` after it. Otherwise, and if it is more than 255, `None`.
+#[inline(always)]
+fn short_field(parameters: &[u8]) -> Option<(u8, &[u8])>
+    ensures { IfSome result (λ first.
+        (Some (Some first.0), fields_of first.1.now) ≡ first_field code_of (fields_of parameters.now)) }
+{
+    match parameters {
+        [digit, b';', rest @ ..] if digit.is_ascii_digit() => Some((digit - b'0', rest)),
+        [tens, digit, b';', rest @ ..] if tens.is_ascii_digit() && digit.is_ascii_digit() => {
+            Some(((tens - b'0') * 10 + (digit - b'0'), rest))
+        }
+        [hundreds, tens, digit, b';', rest @ ..] => {
+            Some((three_digits(*hundreds, *tens, *digit)?, rest))
+        }
+        _ => None,
+    }
+}
+
+/// The number of three digits, or `None` if they aren't digits or it is more than 255.
+#[inline(always)]
+fn three_digits(hundreds: u8, tens: u8, digit: u8) -> Option<u8>
+    ensures field { IfSome result (λ _. fields_of (hundreds ∷ tens ∷ digit ∷ [])
+        ≡ (hundreds ∷ tens ∷ digit ∷ []) ∷ []) }
+    ensures first { IfSome result (λ _. (rest : List ℕ) →
+        fields_of (hundreds ∷ tens ∷ digit ∷ byte ";" ∷ rest)
+        ≡ (hundreds ∷ tens ∷ digit ∷ []) ∷ fields_of rest) }
+    ensures code { IfSome result (λ code. code_of (hundreds ∷ tens ∷ digit ∷ []) ≡ Some code) }
+{
+    if !hundreds.is_ascii_digit() || !tens.is_ascii_digit() || !digit.is_ascii_digit() {
+        return None;
+    }
+    let number = u32::from(hundreds - b'0') * 100
+        + u32::from(tens - b'0') * 10
+        + u32::from(digit - b'0');
+    u8::try_from(number).ok()
 }
 
 /// The number that the bytes so far spell.

@@ -1,6 +1,6 @@
 use Rattle.ansi_style.proofs.Common.{◌≡◌, ◌+◌, suc, true, [], sym, ◌∙◌, ap, ap₂, fold, take, drop, Some, arith, option_map_or, take_rest, take_all, fields_of, code_of, first_field, with_digit}
 use Rattle.ansi_style.proofs.FieldLemmas.{fields_of-cut, fields_of-uncut, if_small, code_of-read}
-use Rattle.ansi_style.proofs.state.fields.Fields.next_field.Goals as goal
+use Rattle.ansi_style.proofs.state.fields.Fields.any_field.Goals as goal
 
 pub returns-then-byte-eq59 : goal.returns-then-byte-eq59
 returns-then-byte-eq59 c =

@@ -1,5 +1,5 @@
 use Rattle.ansi_style.proofs.Common.{◌≡◌, ◌≢◌, ℕ, ◌<◌, fold, take, get_or, byte, with_digit}
-use Rattle.ansi_style.proofs.state.fields.Fields.next_field.Given as goal
+use Rattle.ansi_style.proofs.state.fields.Fields.any_field.Given as goal
 
 -- no semicolon so far, and the digits so far are read
 abbrev pub invariant-loop-i : goal.invariant-loop-i
