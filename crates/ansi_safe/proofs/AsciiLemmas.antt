@@ -1,11 +1,12 @@
 -- Words of bytes whose high bits aren't set.
-use Rattle.std.proofs.Common.{◌≡◌, ℕ, zero, suc, ◌+◌, ◌-◌, ◌*◌, ◌<◌, ◌≤◌, List, length, take, drop, take-add, length-take, get_or, bit_and, sym, ap, ◌∙◌, subst, inl, inr, arith, w8, w64, Fits}
+use Rattle.std.proofs.Common.{◌≡◌, ◌↔◌, IsTrue, Bool, true, refl, ℕ, zero, suc, ◌+◌, ◌-◌, ◌*◌, ◌<◌, ◌≤◌, List, length, take, drop, take-add, take-append-drop, length-take, get_or, bit_and, sym, ap, ◌∙◌, subst, inl, inr, arith, w8, w64, Fits}
 use Rattle.std.specs.Int.{w128}
-use Rattle.std.specs.Str.{IsAscii}
+use Rattle.std.specs.Str.{IsAscii, IsUtf8}
+use Rattle.simdutf8.proofs.StepsLemmas.{IsUtf8-after_ascii}
 use Rattle.std.proofs.lemmas.Bool.{cases_lt}
-use Rattle.std.proofs.lemmas.List.{get_or-take, get_or_past}
+use Rattle.std.proofs.lemmas.List.{get_or-take, get_or_past, length-drop, drop-drop}
 use Rattle.std.proofs.lemmas.Simd.{get_or-chunk}
-use Rattle.std.proofs.lemmas.Str.{IsAscii-append}
+use Rattle.std.proofs.lemmas.Str.{IsAscii-append, IsUtf8-from_ascii}
 use Rattle.std.proofs.lemmas.Nat.{and_block}
 use Rattle.std.proofs.lemmas.Nat.Bits.{and_pow}
 use Rattle.std.specs.Int.{from_le_bytes}
@@ -60,3 +61,36 @@ ascii_covered at m n bs front back from to i = elim (cases_lt i at) [
 -- n more bytes
 pub ascii_more : (at n : ℕ) (bs : List ℕ) → IsAscii (take at bs) → IsAscii (take n (drop at bs)) → IsAscii (take (at + n) bs)
 ascii_more at n bs front more = subst IsAscii (sym (take-add at n bs)) (IsAscii-append _ _ front more)
+
+-- what follows ASCII decides if all are UTF-8
+pub utf8_by_rest : (n : ℕ) (bs : List ℕ) (b : Bool) → IsAscii (take n bs) → IsTrue b ↔ IsUtf8 (drop n bs) → IsTrue b ↔ IsUtf8 bs
+utf8_by_rest n bs b front rest =
+    let all = rw take-append-drop at (IsUtf8-after_ascii (take n bs) (drop n bs) front) in
+    (λ is. all.1 (rest.0 is), λ utf8. rest.1 (all.0 utf8))
+
+pub utf8_if_ascii : (bs : List ℕ) (b : Bool) → b ≡ true → IsAscii bs → IsTrue b ↔ IsUtf8 bs
+utf8_if_ascii bs b is ascii = (λ _. IsUtf8-from_ascii bs ascii, λ _. subst IsTrue (sym is) refl)
+
+-- all bytes before these are ASCII
+pub record IsAsciiSoFar (bs rest : List ℕ) : Type 0 where
+  pub within : length rest ≤ length bs
+  pub is : rest ≡ drop (length bs - length rest) bs
+  pub front : IsAscii (take (length bs - length rest) bs)
+
+pub so_far-more : (n : ℕ) (bs rest next : List ℕ) → IsAsciiSoFar bs rest → n ≤ length rest → IsAscii (take n rest) → next ≡ drop n rest → IsAsciiSoFar bs next
+so_far-more n bs rest next so_far room more next_is =
+    let at = length bs - length rest in
+    let size : length next ≡ length rest - n = ap length next_is ∙ length-drop n rest in
+    let on : at + n ≡ length bs - length next = omega (arith, size, so_far.within) in
+    record {
+      within = omega (arith, size, so_far.within);
+      is = next_is ∙ ap (drop n) so_far.is ∙ drop-drop n at bs ∙ ap (λ k. drop k bs) on;
+      front = subst (λ k. IsAscii (take k bs)) on (ascii_more at n bs so_far.front (subst (λ u. IsAscii (take n u)) so_far.is more));
+    }
+
+pub so_far-decides : (bs rest : List ℕ) (b : Bool) → IsAsciiSoFar bs rest → IsTrue b ↔ IsUtf8 rest → IsTrue b ↔ IsUtf8 bs
+so_far-decides bs rest b so_far decides = utf8_by_rest (length bs - length rest) bs b so_far.front (subst (λ u. IsTrue b ↔ IsUtf8 u) so_far.is decides)
+
+-- the last n bytes are ASCII too
+pub so_far-end : (n : ℕ) (bs rest : List ℕ) (b : Bool) → IsAsciiSoFar bs rest → length rest ≤ n → n ≤ length bs → b ≡ true → IsAscii (take n (drop (length bs - n) bs)) → IsTrue b ↔ IsUtf8 bs
+so_far-end n bs rest b so_far left room is back = utf8_if_ascii bs b is (ascii_covered (length bs - length rest) (length bs - n) n bs so_far.front back (omega arith) (omega arith))

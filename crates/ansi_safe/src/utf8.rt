@@ -1,5 +1,5 @@
 //! The test that bytes are UTF-8. Most texts are short and ASCII, and that is tested first.
-ghost use Rattle.std.specs.Prelude.{◌≡◌, ◌≤◌, ◌↔◌, length, take, MatchResult, IsTrue};
+ghost use Rattle.std.specs.Prelude.{◌≡◌, ◌<◌, ◌≤◌, ◌↔◌, length, take, MatchResult, IsTrue};
 ghost use Rattle.std.specs.Str.{IsAscii, IsUtf8};
 
 pub use simdutf8::basic::Utf8Error;
@@ -29,49 +29,78 @@ pub fn from_utf8(bytes: &[u8]) -> Result<&str, Utf8Error>
     }
 }
 
-/// Whether the bytes are UTF-8. `std` is quicker for short texts, and `simdutf8` for long ones.
+/// Whether the bytes are UTF-8. `simdutf8` is as quick on ASCII of more than 128 bytes.
 #[inline(never)]
 fn is_utf8(bytes: &[u8]) -> bool
     ensures { IsTrue result ↔ IsUtf8 bytes.now }
 {
-    if is_short_ascii(bytes) {
-        return true;
+    let len = bytes.len();
+    if len > 128 {
+        simdutf8::is_utf8(bytes)
+    } else if len >= 16 {
+        is_utf8_by_16(bytes)
+    } else if len >= 8 {
+        is_utf8_by_8(bytes)
+    } else {
+        is_utf8_by_1(bytes)
     }
+}
+
+/// Whether the bytes are UTF-8. ASCII at the front is read byte by byte.
+#[inline(always)]
+fn is_utf8_by_1(bytes: &[u8]) -> bool
+    ensures { IsTrue result ↔ IsUtf8 bytes.now }
+{
+    let mut at = 0;
+    while at < bytes.len() {
+        if bytes[at] >= 0x80 {
+            return is_rest_utf8(&bytes[at..]);
+        }
+        at += 1;
+    }
+    true
+}
+
+/// The same of 8 to 15 bytes, 8 at a time. The last 8 may overlap those before.
+#[inline(always)]
+fn is_utf8_by_8(bytes: &[u8]) -> bool
+    requires at_least { 8 ≤ length bytes.now }
+    requires at_most { length bytes.now < 16 }
+    ensures { IsTrue result ↔ IsUtf8 bytes.now }
+{
+    if !begins_ascii_8(bytes) {
+        return is_rest_utf8(bytes);
+    }
+    begins_ascii_8(&bytes[bytes.len() - 8..]) || is_rest_utf8(&bytes[8..])
+}
+
+/// The same of at least 16 bytes, 16 at a time.
+#[inline(always)]
+fn is_utf8_by_16(bytes: &[u8]) -> bool
+    requires { 16 ≤ length bytes.now }
+    ensures { IsTrue result ↔ IsUtf8 bytes.now }
+{
+    let mut rest = bytes;
+    while 16 < rest.len() {
+        if !begins_ascii_16(rest) {
+            return is_rest_utf8(rest);
+        }
+        rest = &rest[16..];
+    }
+    begins_ascii_16(&bytes[bytes.len() - 16..]) || is_rest_utf8(rest)
+}
+
+/// Whether the bytes are UTF-8, for some that aren't all ASCII. `std` is quicker for short texts, and
+/// `simdutf8` for long ones.
+#[inline(never)]
+fn is_rest_utf8(bytes: &[u8]) -> bool
+    ensures { IsTrue result ↔ IsUtf8 bytes.now }
+{
     if bytes.len() < 64 {
         std::str::from_utf8(bytes).is_ok()
     } else {
         simdutf8::is_utf8(bytes)
     }
-}
-
-/// Whether the bytes are at most 128, and ASCII. `simdutf8` is as quick on longer ASCII.
-#[inline(always)]
-fn is_short_ascii(bytes: &[u8]) -> bool
-    ensures { IsTrue result → IsAscii bytes.now }
-{
-    let len = bytes.len();
-    match len {
-        0..8 => bytes.is_ascii(),
-        8..16 => begins_ascii_8(bytes) && begins_ascii_8(&bytes[len - 8..]),
-        16..=128 => is_ascii_by_16(bytes),
-        _ => false,
-    }
-}
-
-/// Whether the bytes are ASCII, read 16 at a time. The last 16 may overlap those before.
-#[inline(always)]
-fn is_ascii_by_16(bytes: &[u8]) -> bool
-    requires { 16 ≤ length bytes.now }
-    ensures { IsTrue result → IsAscii bytes.now }
-{
-    let mut at = 0;
-    while 16 < bytes.len() - at {
-        if !begins_ascii_16(&bytes[at..]) {
-            return false;
-        }
-        at += 16;
-    }
-    begins_ascii_16(&bytes[bytes.len() - 16..])
 }
 
 /// Whether there are 8 bytes at the front, and they are ASCII.

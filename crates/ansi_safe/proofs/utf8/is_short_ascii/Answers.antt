@@ -1,9 +1,0 @@
-use Rattle.std.proofs.Common.{◌-◌, length, arith}
-use Rattle.std.proofs.lemmas.List.{take_rest}
-use Rattle.ansi_safe.proofs.AsciiLemmas.{ascii_covered}
-use Rattle.ansi_safe.proofs.utf8.is_short_ascii.Goals as goal
-
-pub returns-then-begins_ascii_8 : goal.returns-then-begins_ascii_8
-returns-then-begins_ascii_8 c = λ is_ascii.
-    let back = rw take_rest at (c.begins_ascii_8-then-begins_ascii_8.ensures is_ascii) in
-    ascii_covered 8 (length c.args.bytes.now - 8) 8 c.args.bytes.now (c.begins_ascii_8.ensures c.if-begins_ascii_8.true) back (omega arith) (omega arith)
