@@ -4,6 +4,7 @@ pub mod EndingLemmas
 pub mod MadeLemmas
 pub mod AllowedLemmas
 pub mod SafeLemmas
+pub mod RestLemmas
 pub mod CharacterLemmas
 pub mod CellLemmas
 pub mod CellTextLemmas

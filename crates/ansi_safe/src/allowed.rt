@@ -22,6 +22,7 @@ pub(crate) fn item_may_stay(text: &str, item: &Item, links: Links) -> bool
 {
     match item.kind {
         Kind::Text => run_is_allowed(text, item.start, item.end),
+        Kind::Sgr => true,
         kind => may_stay(kind, &text[item.start..item.end], links),
     }
 }

@@ -10,9 +10,11 @@ ghost use Rattle.ansi_style.specs.Styled.{style_after};
 ghost use Rattle.ansi_style.specs.Written.{close, longest_close};
 ghost use Rattle.ansi_safe.specs.Links.{link_of, ending, IsClosed, longest_link_end};
 ghost use Rattle.ansi_safe.specs.Safe.{is_safe};
+ghost use Rattle.ansi_safe.specs.declared.policy.Links.{Links};
 ghost use Rattle.ansi_safe.specs.Sanitized.{becomes, cleaned, growth, sanitized};
 
 use crate::allowed::{all_allowed, item_may_stay, may_stay};
+use crate::front::split_ordinary;
 use crate::links::{Ending, LONGEST_ENDING, Pen, link_after, pen_after, plain_pen};
 use crate::policy::{Links, Policy};
 use crate::shown::{push_instead_of_all, push_run};
@@ -29,7 +31,24 @@ use std::borrow::CowStr;
 pub fn is_safe(text: &str, links: Links) -> bool
     ensures { result ≡ is_safe links text.now }
 {
-    all_allowed(text) || items_may_stay(text, links)
+    let rest = after_allowed(text);
+    rest.is_empty() || items_may_stay(rest, links)
+}
+
+/// A text without allowed characters at its front: nothing if all of its characters are allowed. What
+/// is left is as safe as the text, and leaves the same open.
+#[inline(always)]
+fn after_allowed(text: &str) -> &str
+    ensures safe { (links : Links) → is_safe links text.now ≡ is_safe links result.now }
+    ensures style { style_after text.now ≡ style_after result.now }
+    ensures link { link_of (marks text.now) ≡ link_of (marks result.now) }
+{
+    let (_, rest) = split_ordinary(text, true);
+    if !rest.starts_with('\x1b') && all_allowed(rest) {
+        ""
+    } else {
+        rest
+    }
 }
 
 /// Like `is_safe`, item by item.
@@ -46,7 +65,7 @@ fn items_may_stay(text: &str, links: Links) -> bool
 
 /// The pen after a text, or `None` if the text isn't safe. Doesn't allocate. (Own.)
 ///
-/// A text without sequences is read once, without looking for them.
+/// What is in front of the first sequence is read once, without looking for sequences.
 ///
 /// ```
 /// let pen = pen_if_safe("\x1b[31mred", Links::Remove).ok_or("not safe")?;
@@ -57,10 +76,11 @@ pub fn pen_if_safe(text: &str, links: Links) -> Option<Pen<'_>>
     ensures style { IfSome result (λ pen. rendition_of pen.style ≡ style_after text.now) }
     ensures link { IfSome result (λ pen. pen.link.now ≡ link_of (marks text.now)) }
 {
-    if all_allowed(text) {
+    let rest = after_allowed(text);
+    if rest.is_empty() {
         return Some(plain_pen());
     }
-    pen_after_items(text, links)
+    pen_after_items(rest, links)
 }
 
 /// Like `pen_if_safe`, item by item.

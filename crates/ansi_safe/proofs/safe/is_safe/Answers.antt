@@ -1,6 +1,13 @@
-use Rattle.std.proofs.Common.{sym, ◌∙◌}
-use Rattle.ansi_safe.proofs.SafeLemmas.{allowed-is_safe}
+use Rattle.std.proofs.Common.{sym, ◌∙◌, ap}
+use Rattle.std.proofs.lemmas.Bool.{eqb-true}
+use Rattle.std.proofs.lemmas.List.{nil_from_length}
+use Rattle.ansi_safe.specs.Safe.{is_safe}
 use Rattle.ansi_safe.proofs.safe.is_safe.Goals as goal
 
-pub returns-then-all_allowed : goal.returns-then-all_allowed
-returns-then-all_allowed c = c.if-all_allowed.true ∙ sym (allowed-is_safe c.args.links c.args.text.now c.utf8.text (sym c.all_allowed.ensures ∙ c.if-all_allowed.true))
+pub returns-then-is_empty : goal.returns-then-is_empty
+returns-then-is_empty c =
+    let none = nil_from_length c.after_allowed-rest.result.now (eqb-true _ 0 (sym c.is_empty.ensures ∙ c.if-is_empty.true)) in
+    c.if-is_empty.true ∙ sym (c.after_allowed-rest.ensures.safe c.args.links ∙ ap (is_safe c.args.links) none)
+
+pub returns-else-is_empty : goal.returns-else-is_empty
+returns-else-is_empty c = c.items_may_stay.ensures ∙ sym (c.after_allowed-rest.ensures.safe c.args.links)

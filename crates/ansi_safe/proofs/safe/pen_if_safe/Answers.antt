@@ -1,19 +1,13 @@
 use Rattle.std.proofs.Common.{sym, ◌∙◌, ap}
-use Rattle.ansi_style.proofs.MarkLemmas.{marks-bare}
-use Rattle.ansi_style.specs.Styled.{style_of}
-use Rattle.ansi_safe.specs.Links.{link_of}
-use Rattle.ansi_safe.proofs.SafeLemmas.{allowed-bare, allowed-is_safe}
+use Rattle.std.proofs.lemmas.Bool.{eqb-true}
+use Rattle.std.proofs.lemmas.List.{nil_from_length}
+use Rattle.ansi_safe.specs.Safe.{is_safe}
 use Rattle.ansi_safe.proofs.safe.pen_if_safe.Goals as goal
 
--- the text has no sequence
+pub returns-then-is_empty-clause-none : goal.returns-then-is_empty-clause-none
+returns-then-is_empty-clause-none c =
+    let none = nil_from_length c.after_allowed-rest.result.now (eqb-true _ 0 (sym c.is_empty.ensures ∙ c.if-is_empty.true)) in
+    sym (c.after_allowed-rest.ensures.safe c.args.links ∙ ap (is_safe c.args.links) none)
 
-pub returns-then-all_allowed-clause-none : goal.returns-then-all_allowed-clause-none
-returns-then-all_allowed-clause-none c = sym (allowed-is_safe c.args.links c.args.text.now c.utf8.text (sym c.all_allowed.ensures ∙ c.if-all_allowed.true))
-
-pub returns-then-all_allowed-clause-style : goal.returns-then-all_allowed-clause-style
-returns-then-all_allowed-clause-style c =
-    c.plain_pen.ensures.style ∙ sym (ap style_of (marks-bare c.args.text.now (allowed-bare c.args.text.now c.utf8.text (sym c.all_allowed.ensures ∙ c.if-all_allowed.true))))
-
-pub returns-then-all_allowed-clause-link : goal.returns-then-all_allowed-clause-link
-returns-then-all_allowed-clause-link c =
-    c.plain_pen.ensures.link ∙ sym (ap link_of (marks-bare c.args.text.now (allowed-bare c.args.text.now c.utf8.text (sym c.all_allowed.ensures ∙ c.if-all_allowed.true))))
+pub returns-clause-none : goal.returns-clause-none
+returns-clause-none c = c.pen_after_items.ensures.none ∙ sym (c.after_allowed-rest.ensures.safe c.args.links)
