@@ -19,6 +19,7 @@ use Rattle.ansi_safe.specs.declared.policy.Links.TheVariants.{Keep}
 use Rattle.ansi_safe.specs.Safe.{is_ordinary_byte, is_printing, is_allowed, all_allowed, may_stay, is_safe}
 use Rattle.ansi_safe.specs.Cells.{in_place, run_in, piece_in, placed, cell, cell_char, stays_in, run_stays, piece_stays, is_placed}
 use Rattle.ansi_safe.proofs.AllowedLemmas.{AreAllowed, AreAllowed-cons, AreAllowed-append, prints, stands-before, ordinary-parts, ordinary-allowed, ordinary-chars, all_allowed-ordinary}
+use Rattle.ansi_safe.proofs.RestLemmas.{all-ordinary}
 use Rattle.ansi_safe.proofs.SafeLemmas.{AreGood, AreGood-append, good_stand, good_are_safe, good_text, stays-good, spelled-one_text, piece_and_rest, allowed-bare}
 
 -- What a run is in a cell, by its characters.
@@ -348,3 +349,7 @@ pub in_after_ordinary : (place : Place) (left w cs : List ℕ) → IsUtf8 w → 
 in_after_ordinary place left w cs utf8 all is =
     ap (λ v. encode_utf8_all (run_in place v)) is ∙ ap encode_utf8_all (run_in-ordinary place (chars w) cs (ordinary-chars false w utf8 all)) ∙ encodes-append (chars w) (run_in place cs)
     ∙ ap (λ u. u ++ encode_utf8_all (run_in place cs)) (encodes-chars w utf8)
+
+pub placed-ordinary : (place : Place) (w rest : List ℕ) → IsUtf8 w → list_all (is_ordinary_byte false) w ≡ true → is_placed place (w ++ rest) ≡ is_placed place rest
+placed-ordinary place w rest utf8 all =
+    all-ordinary (piece_stays place) false w rest all (λ v. stays_after_ordinary place (chars (w ++ v)) w (chars v) utf8 all (chars-append w v utf8)) (ap (run_stays place) chars-nil)

@@ -4,7 +4,7 @@ use Rattle.std.specs.List.{list_all}
 use Rattle.std.specs.Str.{IsUtf8}
 use Rattle.std.proofs.lemmas.Bool.{and_from, and_parts}
 use Rattle.std.proofs.lemmas.Bool.Decides.{nat_tests}
-use Rattle.std.proofs.lemmas.Str.{chars-append}
+use Rattle.std.proofs.lemmas.Str.{chars-append, chars-nil}
 use Rattle.ansi_items.specs.Bytes.{is_plain_byte}
 use Rattle.ansi_items.specs.Pieces.{Piece, Text, Sequence, LoneEscape, pieces_of, after_text}
 use Rattle.ansi_items.specs.Plain.{marks}
@@ -17,7 +17,7 @@ use Rattle.ansi_style.proofs.ThroughLemmas.{state_through}
 use Rattle.ansi_safe.specs.declared.policy.Links.{Links}
 use Rattle.ansi_safe.specs.Links.{link_of, link_after}
 use Rattle.ansi_safe.specs.Safe.{is_ordinary_byte, all_allowed, may_stay, is_safe}
-use Rattle.ansi_safe.proofs.AllowedLemmas.{all_allowed-ordinary, ordinary-chars}
+use Rattle.ansi_safe.proofs.AllowedLemmas.{stand_after_ordinary}
 use Rattle.ansi_safe.proofs.LinkLemmas.{link_of-pieces}
 
 -- an ordinary byte is no ESC
@@ -32,21 +32,23 @@ ordinary-plain white (b ∷ w) all =
 pieces-ordinary : (white : Bool) (b : ℕ) (w rest : List ℕ) → list_all (is_ordinary_byte white) (b ∷ w) ≡ true → pieces_of ((b ∷ w) ++ rest) ≡ after_text (b ∷ w) (pieces_of rest)
 pieces-ordinary white b w rest all = pieces_of-run (b ∷ w) rest (λ e. cc) (ordinary-plain white (b ∷ w) all)
 
-pub safe-ordinary : (white : Bool) (links : Links) (w rest : List ℕ) → IsUtf8 w → list_all (is_ordinary_byte white) w ≡ true → is_safe links (w ++ rest) ≡ is_safe links rest
-safe-ordinary white links [] rest utf8 all = refl
-safe-ordinary white links (b ∷ w) rest utf8 all = ap (list_all (may_stay links)) (pieces-ordinary white b w rest all) ∙ by (pieces_of rest)
+-- it changes no test of all pieces that no ordinary front of a text changes
+pub all-ordinary : (stays : Piece → Bool) (white : Bool) (w rest : List ℕ) → list_all (is_ordinary_byte white) w ≡ true → ((v : List ℕ) → stays (Text (w ++ v)) ≡ stays (Text v)) → stays (Text []) ≡ true → list_all stays (pieces_of (w ++ rest)) ≡ list_all stays (pieces_of rest)
+all-ordinary stays white [] rest all front none = refl
+all-ordinary stays white (b ∷ w) rest all front none = ap (list_all stays) (pieces-ordinary white b w rest all) ∙ by (pieces_of rest)
   where
-    front : (cs : List ℕ) → all_allowed (chars (b ∷ w) ++ cs) ≡ all_allowed cs
-    front cs = all_allowed-ordinary white (chars (b ∷ w)) cs (ordinary-chars white (b ∷ w) utf8 all)
+    whole : stays (Text (b ∷ w)) ≡ true
+    whole = ap (λ u. stays (Text u)) (sym (append-nil (b ∷ w))) ∙ front [] ∙ none
 
-    whole : all_allowed (chars (b ∷ w)) ≡ true
-    whole = ap all_allowed (sym (append-nil (chars (b ∷ w)))) ∙ front []
-
-    by : (ps : List Piece) → list_all (may_stay links) (after_text (b ∷ w) ps) ≡ list_all (may_stay links) ps
-    by (Text v ∷ ps) = ap (λ x. x && list_all (may_stay links) ps) (ap all_allowed (chars-append (b ∷ w) v utf8) ∙ front (chars v))
+    by : (ps : List Piece) → list_all stays (after_text (b ∷ w) ps) ≡ list_all stays ps
+    by (Text v ∷ ps) = ap (λ x. x && list_all stays ps) (front v)
     by [] = ap (λ x. x && true) whole
-    by (Sequence v ∷ ps) = ap (λ x. x && list_all (may_stay links) (Sequence v ∷ ps)) whole
-    by (LoneEscape ∷ ps) = ap (λ x. x && list_all (may_stay links) (LoneEscape ∷ ps)) whole
+    by (Sequence v ∷ ps) = ap (λ x. x && list_all stays (Sequence v ∷ ps)) whole
+    by (LoneEscape ∷ ps) = ap (λ x. x && list_all stays (LoneEscape ∷ ps)) whole
+
+pub safe-ordinary : (white : Bool) (links : Links) (w rest : List ℕ) → IsUtf8 w → list_all (is_ordinary_byte white) w ≡ true → is_safe links (w ++ rest) ≡ is_safe links rest
+safe-ordinary white links w rest utf8 all =
+    all-ordinary (may_stay links) white w rest all (λ v. stand_after_ordinary white (chars (w ++ v)) w (chars v) utf8 all (chars-append w v utf8)) (ap all_allowed chars-nil)
 
 -- a text changes no state
 through-after_text : {S : Type 0} (step : S → List ℕ → S) (s : S) (w : List ℕ) (ps : List Piece) → state_through step s (after_text w ps) ≡ state_through step s ps

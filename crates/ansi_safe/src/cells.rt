@@ -112,7 +112,11 @@ fn text_in<A: Allocator>(alloc: A, text: &str, place: Place) -> Result<CowStr<'_
 fn is_placed(text: &str, place: Place) -> bool
     ensures { result ≡ is_placed place text.now }
 {
-    run_stays(text, place) || items_stay(text, place)
+    let (_, rest) = split_ordinary(text, false);
+    if !rest.starts_with('\x1b') && run_stays(rest, place) {
+        return true;
+    }
+    items_stay(rest, place)
 }
 
 /// Like `is_placed`, item by item.
