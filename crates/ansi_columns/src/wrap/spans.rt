@@ -193,10 +193,15 @@ impl Spans {
             None => text.len(),
         };
         let part = &text[self.taken..taken];
-        let after = self.pen.after(text, self.taken, taken);
+        let is_marked = has_any(part);
+        let after = if is_marked {
+            self.pen.after(text, self.taken, taken)
+        } else {
+            self.pen
+        };
         let span = Span {
             text: part,
-            is_marked: has_any(part),
+            is_marked,
             start: start.position - self.before,
             end: end.position - self.before,
             end_offset: end.offset - self.taken,

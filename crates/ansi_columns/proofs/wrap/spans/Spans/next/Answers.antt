@@ -1,9 +1,11 @@
-use Rattle.std.proofs.Common.{List, Option, rules, ◌≡◌, ◌≤◌, ◌-◌, ◌==◌, false, ◌∷◌, length, slice_range, IsTrue, refl, sym, ◌∙◌, ap, ap₂, subst, arith}
+use Rattle.std.proofs.Common.{ℕ, List, Option, rules, ◌≡◌, ◌≤◌, ◌-◌, ◌==◌, false, ◌∷◌, length, slice_range, IsTrue, refl, sym, ◌∙◌, ap, ap₂, subst, arith}
 use Rattle.std.specs.Prelude.{IsNone}
 use Rattle.std.specs.Str.{IsUtf8}
 use Rattle.ansi_columns.specs.declared.walks.Walk.{Walk}
-use Rattle.ansi_items.specs.Plain.{plain, marks}
-use Rattle.ansi_style.specs.Reading.{style_after_from}
+use Rattle.ansi_columns.specs.declared.wrap.pens.PenAt.{PenAt}
+use Rattle.ansi_items.specs.Plain.{plain, marks, has_escape}
+use Rattle.ansi_style.specs.Reading.{after_marks, style_after_from}
+use Rattle.ansi_style.proofs.MarkLemmas.{marks-bare}
 use Rattle.ansi_style.specs.States.{rendition_of}
 use Rattle.ansi_search.specs.Positions.{no_character_goes_on}
 use Rattle.ansi_search.proofs.PositionLemmas.{no_character_goes_on-boundary}
@@ -15,8 +17,19 @@ use Rattle.ansi_columns.specs.WrapStates.{open_link, span_lines}
 use Rattle.ansi_columns.proofs.LentLemmas.{none-left}
 use Rattle.ansi_columns.proofs.WalkLemmas.{walk_boundary}
 use Rattle.ansi_columns.proofs.WrapLemmas.{ahead, lines-first, lines-last, span-first, span-last, lines_filled, rest-is}
-use Rattle.ansi_columns.proofs.wrap.spans.Spans.next.Goals.{in-Some, in-None}
+use Rattle.ansi_columns.proofs.wrap.spans.Spans.next.Goals.{in-Some, in-None, then-is_marked, else-is_marked}
 use Rattle.ansi_columns.proofs.wrap.spans.Spans.next.Goals as goal
+
+-- the pen after a text, if this is the pen before it
+record IsPenAfter (t : List ℕ) (before : PenAt) (text : List ℕ) (after : PenAt) : Type 0 where
+  style : rendition_of after.style ≡ style_after_from (rendition_of before.style) text
+  link : open_link t after ≡ link_after_all (open_link t before) (marks text)
+
+-- without ESC it is the same
+bare-pen : (t : List ℕ) (pen : PenAt) (text : List ℕ) → has_escape text ≡ false → IsPenAfter t pen text pen
+bare-pen t pen text none =
+    let ms = sym (marks-bare text none) in
+    record { style = ap (after_marks (rendition_of pen.style)) ms; link = ap (link_after_all (open_link t pen)) ms }
 
 pub returns-in_err-from-clause-lines : goal.returns-in_err-from-clause-lines
 returns-in_err-from-clause-lines c =
@@ -65,19 +78,22 @@ invariant_of-span c =
     let link = c.pen.result.link.now in
     let style_after = rendition_of c.pen-2.result.style in
     let link_after = c.pen-2.result.link.now in
-    let styled : style_after ≡ style_after_from style text
-    = ap rendition_of c.pen-2.ensures.style ∙ c.after-after.ensures.style ∙ ap₂ (λ r u. style_after_from (rendition_of r) u) (sym c.pen.ensures.style) (sym part) in
-    let linked : link_after ≡ link_after_all link (marks text) = c.pen-2.ensures.link ∙ c.after-after.ensures.link ∙ ap₂ (λ l u. link_after_all l (marks u)) (sym c.pen.ensures.link) (sym part) in
+    let after : IsPenAfter t s.pen text c.if-is_marked.after = elim c.if-is_marked.branch [
+      | then-is_marked w ↦ rw (w.after-is, part) (record { style = w.after-after.ensures.style; link = w.after-after.ensures.link })
+      | else-is_marked w ↦ rw w.after-is (bare-pen t s.pen text (sym c.has_any-is_marked.ensures ∙ w.if-is_marked.false))
+    ] in
+    let styled : style_after ≡ style_after_from style text = ap rendition_of c.pen-2.ensures.style ∙ after.style ∙ ap (λ r. style_after_from (rendition_of r) text) (sym c.pen.ensures.style) in
+    let linked : link_after ≡ link_after_all link (marks text) = c.pen-2.ensures.link ∙ after.link ∙ ap (λ l. link_after_all l (marks text)) (sym c.pen.ensures.link) in
     elim c.match-next.branch [
       | in-Some w ↦ (
           let front : text ≡ slice_range t s.taken last.offset = part ∙ ap (slice_range t s.taken) w.taken-is in
           rw front (span-first t s.before s.taken from is last.position last.offset (omega (arith, is.ordered, c.first_line-next.ensures.start_ordered, ordered)) end.within end.offset
-          style link start.position c.has_any.result style_after link_after end.run.start_boundary.0 begins ordered good
-          (rw front at c.has_any.ensures) (rw front at styled) (rw front at linked)))
+          style link start.position c.has_any-is_marked.result style_after link_after end.run.start_boundary.0 begins ordered good
+          (rw front at c.has_any-is_marked.ensures) (rw front at styled) (rw front at linked)))
       | in-None w ↦
           span-last t s.before s.taken from is last.position last.offset (omega (arith, is.ordered, c.first_line-next.ensures.start_ordered, ordered)) end.within end.offset
-          style link text start.position c.has_any.result style_after link_after
-          (part ∙ ap (slice_range t s.taken) w.taken-is ∙ rest-is t s.taken) end.run.start_boundary begins ordered good good_end c.has_any.ensures styled linked
+          style link text start.position c.has_any-is_marked.result style_after link_after
+          (part ∙ ap (slice_range t s.taken) w.taken-is ∙ rest-is t s.taken) end.run.start_boundary begins ordered good good_end c.has_any-is_marked.ensures styled linked
     ]
 
 pub returns-clause-lines : goal.returns-clause-lines
@@ -98,9 +114,11 @@ returns-clause-lines c =
     let link = open_link t s.pen in
     let text = c.range-part.result.now in
     let part = c.range-part.ensures.value in
-    let after = c.after-after.result in
-    let styled : rendition_of after.style ≡ style_after_from style text = c.after-after.ensures.style ∙ ap (style_after_from style) (sym part) in
-    let linked : open_link t after ≡ link_after_all link (marks text) = c.after-after.ensures.link ∙ ap (λ u. link_after_all link (marks u)) (sym part) in
+    let after = c.if-is_marked.after in
+    let pen : IsPenAfter t s.pen text after = elim c.if-is_marked.branch [
+      | then-is_marked w ↦ rw (w.after-is, part) (record { style = w.after-after.ensures.style; link = w.after-after.ensures.link })
+      | else-is_marked w ↦ rw w.after-is (bare-pen t s.pen text (sym c.has_any-is_marked.ensures ∙ w.if-is_marked.false))
+    ] in
     let line = line_over style link (plain text) (marks text) (start.position - s.before, last.position - s.before) in
     let shown : line ≡ line_over (rendition_of c.pen.result.style) c.pen.result.link.now (plain text) (marks text) (start.position - s.before, last.position - s.before)
     = ap₂ (λ r l. line_over (rendition_of r) l (plain text) (marks text) (start.position - s.before, last.position - s.before)) (sym c.pen.ensures.style) (sym c.pen.ensures.link) in
@@ -115,7 +133,7 @@ returns-clause-lines c =
           left
           ∙ lines-first t s.before s.taken from is last.position last.offset (omega (arith, is.ordered, c.first_line-next.ensures.start_ordered, ordered)) end.within end.offset style link start.position (lines_left t s.width next) begins some
           ∙ ap (λ v. line_over style link (plain v) (marks v) (start.position - s.before, last.position - s.before) ∷ lines_over (style_after_from style v) (link_after_all link (marks v)) x (marks_left t last.position last.offset) (lines_left t s.width next)) (sym front)
-          ∙ ap₂ (λ r l. line ∷ lines_over r l x (marks_left t last.position last.offset) (lines_left t s.width next)) (sym styled) (sym linked)
+          ∙ ap₂ (λ r l. line ∷ lines_over r l x (marks_left t last.position last.offset) (lines_left t s.width next)) (sym pen.style) (sym pen.link)
           ∙ ap₂ (λ l n. l ∷ lines_over (rendition_of after.style) (open_link t after) x (marks_left t last.position n) (lines_left t s.width next)) shown (sym w.taken-is))
       | in-None w ↦
           left ∙ ap (λ o. lines_over style link x ms ((start.position, last.position) ∷ lines_left t s.width o)) w.in-None.is
