@@ -2,24 +2,27 @@
 use Rattle.std.proofs.Common.{◌≡◌, ℕ, ◌+◌, ◌≤◌, ◌==◌, true, false, List, [], ◌∷◌, length, Option, Some, None, Result, Ok, IsTrue, IsFalse, ◌↔◌, refl, sym, ◌∙◌, ap, ap₂, subst, arith}
 use Rattle.std.specs.Cow.{cow_str_bytes, IsBorrowedStr}
 use Rattle.std.specs.List.{list_all}
-use Rattle.std.specs.Prelude.{IsSome, IsNone, bytes_eq}
+use Rattle.std.specs.Prelude.{IsSome, bytes_eq, slice_range}
 use Rattle.std.specs.declared.borrow.CowStr.{CowStr}
 use Rattle.std.specs.declared.borrow.CowStr.TheVariants.{Borrowed, Owned}
 use Rattle.std.proofs.lemmas.Bool.{false_from_ne_true}
 use Rattle.std.proofs.lemmas.Slice.Eq.{bytes_eq-Decides}
-use Rattle.ansi_items.specs.Plain.{Mark, plain, has_escape}
+use Rattle.ansi_items.specs.Plain.{Mark, plain, marks, has_escape}
 use Rattle.ansi_safe.specs.Cells.{paragraph}
 use Rattle.ansi_style.specs.declared.state.rendition.Rendition.{Rendition}
+use Rattle.ansi_style.specs.Rendition.{plain_style}
 use Rattle.ansi_style.specs.States.{rendition_of}
 use Rattle.ansi_style.specs.Written.{longest_start_and_close}
 use Rattle.ansi_safe.specs.Links.{longest_link_end}
-use Rattle.ansi_columns.specs.Lines.{lines_left}
+use Rattle.ansi_columns.specs.Columns.{clusters}
+use Rattle.ansi_columns.specs.Lines.{lines_from}
 use Rattle.ansi_columns.specs.Walks.{clusters_from}
-use Rattle.ansi_columns.specs.declared.walks.Walk.{Walk}
+use Rattle.ansi_columns.specs.declared.wrap.spans.Next.{Next}
+use Rattle.ansi_columns.specs.declared.wrap.spans.Next.TheVariants.{First, At, Nothing}
 use Rattle.ansi_columns.specs.declared.wrap.spans.Spans.{Spans}
 use Rattle.ansi_columns.specs.Wrapped.{CarriedPart, lines_over, lent_lines, wrapped, marks_left, GivesLine}
-use Rattle.ansi_columns.specs.WrapStates.{open_link, lines_of, span_lines, shown_text, is_lent, AreLeft}
-use Rattle.ansi_columns.proofs.WrapLemmas.{lines_filled, bare-borrowed}
+use Rattle.ansi_columns.specs.WrapStates.{open_link, lines_of, lines_next, HasNext, lines_after, span_lines, AreNew, shown_text, is_lent, AreLeft}
+use Rattle.ansi_columns.proofs.WrapLemmas.{lines_filled, marks_left-start, bare-borrowed}
 
 pub lent-true : (ls : List CarriedPart) → lent_lines true ls ≡ ls
 lent-true [] = refl
@@ -40,20 +43,31 @@ unfolding lines_over
 filled-over style link x ms [] some = absurd (cc some)
 filled-over style link x ms (i ∷ is) some = (_, _, refl)
 
-pub first-left : (t : List ℕ) (s : Spans) → IsSome s.next → (l : CarriedPart) × (ls : List CarriedPart) × (span_lines t s ≡ l ∷ ls)
+pub first-left : (t : List ℕ) (s : Spans) → HasNext s.next → (l : CarriedPart) × (ls : List CarriedPart) × (span_lines t s ≡ l ∷ ls)
 first-left t s some = by s.next some
   where
-    by : (next : Option Walk) → IsSome next → (l : CarriedPart) × (ls : List CarriedPart) × (lines_over (rendition_of s.pen.style) (open_link t s.pen) (plain t) (marks_left t s.before s.taken) (lines_left t s.width next) ≡ l ∷ ls)
-    by None some = absurd (cc some)
-    by (Some w) some = filled-over (rendition_of s.pen.style) (open_link t s.pen) (plain t) (marks_left t s.before s.taken) (lines_left t s.width (Some w)) (lines_filled s.width w.position w.position w.position 0 (clusters_from t w.position))
+    filled : (is : List (ℕ × ℕ)) → (length is == 0) ≡ false → (l : CarriedPart) × (ls : List CarriedPart) × (lines_over (rendition_of s.pen.style) (open_link t s.pen) (plain t) (marks_left t s.before s.taken) is ≡ l ∷ ls)
+    filled is some = filled-over (rendition_of s.pen.style) (open_link t s.pen) (plain t) (marks_left t s.before s.taken) is some
 
-pub none-left : (t : List ℕ) (s : Spans) → IsNone s.next → span_lines t s ≡ []
+    by : (next : Next) → HasNext next → (l : CarriedPart) × (ls : List CarriedPart) × (lines_after t s next ≡ l ∷ ls)
+    by First some = filled (lines_next t s.width First) (lines_filled s.width 0 0 0 0 (clusters (plain t)))
+    by (At w) some = filled (lines_next t s.width (At w)) (lines_filled s.width w.position w.position w.position 0 (clusters_from t w.position))
+    by Nothing some = absurd some
+
+-- without a next line, there is none
+pub none-left : (t : List ℕ) (s : Spans) → s.next ≡ Nothing → span_lines t s ≡ []
 unfolding lines_over
-none-left t s none = by s.next none
-  where
-    by : (next : Option Walk) → IsNone next → lines_over (rendition_of s.pen.style) (open_link t s.pen) (plain t) (marks_left t s.before s.taken) (lines_left t s.width next) ≡ []
-    by None none = refl
-    by (Some w) none = absurd (cc none)
+none-left t s none = ap (lines_after t s) none
+
+-- before the first line, all lines are left
+pub new-lines : (t : List ℕ) (s : Spans) → s.next ≡ First → AreNew s → span_lines t s ≡ lines_over plain_style [] (plain t) (marks t) (lines_from s.width 0 0 0 0 (clusters (plain t)))
+new-lines t s first new =
+    let is = lines_from s.width 0 0 0 0 (clusters (plain t)) in
+    let link : open_link t s.pen ≡ [] = ap₂ (slice_range t) new.link_start new.link_end in
+    ap (lines_after t s) first
+    ∙ ap₂ (λ r l. lines_over r l (plain t) (marks_left t s.before s.taken) is) new.style link
+    ∙ ap₂ (λ b k. lines_over plain_style [] (plain t) (marks_left t b k) is) new.before new.taken
+    ∙ ap (λ ms. lines_over plain_style [] (plain t) ms is) (marks_left-start t)
 
 -- A text lends its lines if it is its own paragraph.
 

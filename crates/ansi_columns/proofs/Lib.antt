@@ -58,3 +58,4 @@ pub mod IndentLawLemmas
 pub mod PlainCellLemmas
 pub mod PrintableTextLemmas
 pub mod PlainFrontLemmas
+pub mod OnlyLineLemmas

@@ -1,10 +1,10 @@
 -- Texts of cells that are printable ASCII and SGRs alone: what one pass over the pieces finds, and the text truncated and padded.
-use Rattle.std.proofs.Common.{◌≡◌, ℕ, suc, if◌then◌else◌, ◌+◌, ◌==◌, Bool, true, false, not, ◌&&◌, ◌||◌, List, [], ◌∷◌, ◌++◌, length, take, chars, nat_le, nat_eq, IsTrue, refl, sym, ◌∙◌, ap, ap₂, subst, arith, append-nil, append_assoc, length-append}
+use Rattle.std.proofs.Common.{◌≡◌, ℕ, suc, if◌then◌else◌, ◌+◌, ◌-◌, ◌<◌, ◌==◌, Bool, true, false, not, ◌&&◌, ◌||◌, List, [], ◌∷◌, ◌++◌, length, take, slice_index, chars, nat_le, nat_eq, IsTrue, refl, sym, ◌∙◌, ap, ap₂, subst, arith, append-nil, append_assoc, length-append}
 use Rattle.std.specs.List.{list_all, prefix_len}
 use Rattle.std.specs.Str.{IsUtf8}
 use Rattle.std.proofs.lemmas.Bool.{and_from, and_parts, le-leb}
 use Rattle.std.proofs.lemmas.Bool.Decides.{nat_tests}
-use Rattle.std.proofs.lemmas.List.{take_all}
+use Rattle.std.proofs.lemmas.List.{take_all, get_or-append-add}
 use Rattle.std.proofs.lemmas.Grind.{flat_map-append}
 use Rattle.std.proofs.lemmas.List.Folds.{list_all-append}
 use Rattle.std.proofs.lemmas.Str.{chars-IsAscii, IsCharBoundary-end, IsUtf8-from_ascii}
@@ -33,7 +33,7 @@ use Rattle.ansi_safe.proofs.AllowedLemmas.{stand_after_ordinary}
 use Rattle.ansi_safe.proofs.CellTextLemmas.{cell-stays, whole-cell}
 use Rattle.ansi_safe.proofs.LinkLemmas.{is_link-sgr, link_of-pieces, link_through}
 use Rattle.ansi_columns.specs.Columns.{clusters, columns, columns_of, bytes_of, FitsUpTo}
-use Rattle.ansi_columns.specs.PlainCells.{IsPlainText, IsPlainCell}
+use Rattle.ansi_columns.specs.PlainCells.{IsPlainText, last_byte, IsPlainCell}
 use Rattle.ansi_columns.specs.declared.shown.Alignment.{Alignment}
 use Rattle.ansi_columns.specs.Shown.{fitting_end, has_tail, truncated_end, truncated_width, missing, between_blanks, closing, padded, KeptStays}
 use Rattle.ansi_columns.proofs.AsciiLemmas.{is_printable, All-printable_is_ascii, columns-printable}
@@ -104,47 +104,58 @@ plain-stays t utf8 all = cell-stays t utf8 (plain-is_cell t all)
 
 -- ---- a pass over them
 
--- The pieces passed are runs of printable ASCII and SGRs, with this style after them. The bytes of the runs leave this many columns of the width.
-pub record IsPlainSoFar (t : List ℕ) (width left : ℕ) (style : Rendition) (passed : ℕ) (ps : List Piece) : Type 0 where
+-- The pieces passed are runs of printable ASCII and SGRs, with this style after them, and this last byte. The bytes of the runs leave this many columns of the width.
+pub record IsPlainSoFar (t : List ℕ) (width left : ℕ) (style : Rendition) (last passed : ℕ) (ps : List Piece) : Type 0 where
   pub front : List Piece
   pub all : pieces_of t ≡ front ++ ps
   pub are_plain : list_all is_plain_piece front ≡ true
   pub bytes : passed ≡ length (spelled front)
   pub count : length (plain_of front) + left ≡ width
   pub style_is : style ≡ style_through plain_style front
+  pub last_is : last ≡ last_byte (plain_of front)
 
-pub plain-begin : (t : List ℕ) (width : ℕ) → IsPlainSoFar t width width plain_style 0 (pieces_of t)
-plain-begin t width = record { front = []; all = refl; are_plain = refl; bytes = refl; count = omega arith; style_is = refl }
+pub plain-begin : (t : List ℕ) (width : ℕ) → IsPlainSoFar t width width plain_style 0 0 (pieces_of t)
+plain-begin t width = record { front = []; all = refl; are_plain = refl; bytes = refl; count = omega arith; style_is = refl; last_is = refl }
 
-plain-more : {t : List ℕ} {width left next passed at : ℕ} {style last : Rendition} {ps : List Piece} (p : Piece) → IsPlainSoFar t width left style passed (p ∷ ps) → is_plain_piece p ≡ true → at ≡ passed + length (spelling p) → length (plain_bytes p) + next ≡ left
-    → last ≡ style_through style (p ∷ []) → IsPlainSoFar t width next last at ps
-plain-more {ps = ps} p so_far is_plain at_is next_is last_is =
+plain-more : {t : List ℕ} {width left next passed at last last_next : ℕ} {style style_next : Rendition} {ps : List Piece} (p : Piece) → IsPlainSoFar t width left style last passed (p ∷ ps) → is_plain_piece p ≡ true → at ≡ passed + length (spelling p)
+    → length (plain_bytes p) + next ≡ left → style_next ≡ style_through style (p ∷ []) → ((x : List ℕ) → last ≡ last_byte x → last_next ≡ last_byte (x ++ plain_bytes p)) → IsPlainSoFar t width next style_next last_next at ps
+plain-more {ps = ps} p so_far is_plain at_is next_is style_is last_is =
     let front = so_far.front in
+    let bytes : plain_of (front ++ p ∷ []) ≡ plain_of front ++ plain_bytes p = flat_map-append plain_bytes front (p ∷ []) ∙ ap (λ u. plain_of front ++ u) (append-nil (plain_bytes p)) in
     record {
       front = front ++ p ∷ [];
       all = so_far.all ∙ sym (append_assoc front (p ∷ []) ps);
       are_plain = list_all-append is_plain_piece front (p ∷ []) ∙ and_from _ _ so_far.are_plain (and_from _ _ is_plain refl);
       bytes = omega (arith, at_is, so_far.bytes, ap length (flat_map-append spelling front (p ∷ []) ∙ ap (λ u. spelled front ++ u) (append-nil (spelling p))), length-append (spelled front) (spelling p));
-      count = omega (arith, next_is, so_far.count, ap length (flat_map-append plain_bytes front (p ∷ []) ∙ ap (λ u. plain_of front ++ u) (append-nil (plain_bytes p))), length-append (plain_of front) (plain_bytes p));
-      style_is = last_is ∙ ap (λ s. style_through s (p ∷ [])) so_far.style_is ∙ sym (style_through-append plain_style front (p ∷ []));
+      count = omega (arith, next_is, so_far.count, ap length bytes, length-append (plain_of front) (plain_bytes p));
+      style_is = style_is ∙ ap (λ s. style_through s (p ∷ [])) so_far.style_is ∙ sym (style_through-append plain_style front (p ∷ []));
+      last_is = last_is (plain_of front) so_far.last_is ∙ ap last_byte (sym bytes);
     }
 
+last_byte-append : (x w : List ℕ) → 0 < length w → last_byte w ≡ last_byte (x ++ w)
+last_byte-append x w some =
+    let place : length (x ++ w) - 1 ≡ length x + (length w - 1) = omega (arith, length-append x w, some) in
+    sym (ap (slice_index (x ++ w)) place ∙ get_or-append-add x w (length w - 1) 0)
+
 -- over a run of printable ASCII that fits
-pub plain-run : {t w : List ℕ} {width left next passed at : ℕ} {style : Rendition} {old ps : List Piece} → IsPlainSoFar t width left style passed old → IsOverText t w passed at old ps → list_all is_printable w ≡ true → next + length w ≡ left → IsPlainSoFar t width next style at ps
-plain-run {t} {w} {width} {left} {passed = passed} {style = style} so_far over printable next_is =
-    plain-more (Text w) (subst (IsPlainSoFar t width left style passed) over.first so_far) printable over.count (omega (arith, next_is)) refl
+pub plain-run : {t w : List ℕ} {width left next passed at last last_next : ℕ} {style : Rendition} {old ps : List Piece} → IsPlainSoFar t width left style last passed old → IsOverText t w passed at old ps → list_all is_printable w ≡ true → next + length w ≡ left
+    → 0 < length w → last_next ≡ last_byte w → IsPlainSoFar t width next style last_next at ps
+plain-run {t} {w} {width} {left} {passed = passed} {last = last} {style = style} so_far over printable next_is some last_is =
+    plain-more (Text w) (subst (IsPlainSoFar t width left style last passed) over.first so_far) printable over.count (omega (arith, next_is)) refl (λ x _. last_is ∙ last_byte-append x w some)
 
 -- over an SGR
 sgr-through : (style : Rendition) (p : Piece) → is_mark p ≡ true → (style_through style (p ∷ []) ≡ apply style (spelling p)) × (plain_bytes p ≡ [])
 sgr-through style (Text w) mark = absurd (cc mark)
 sgr-through style p mark = (refl, refl)
 
-pub plain-sgr : {t w : List ℕ} {width left passed at : ℕ} {style next : Rendition} {kind : Kind} {old ps : List Piece} → IsPlainSoFar t width left style passed old → IsOverMark kind t w passed at old ps → kind ≡ Sgr → next ≡ apply style w → IsPlainSoFar t width left next at ps
-plain-sgr {t} {w} {width} {left} {passed} {style = style} so_far over kind next_is =
+pub plain-sgr : {t w : List ℕ} {width left passed at last : ℕ} {style next : Rendition} {kind : Kind} {old ps : List Piece} → IsPlainSoFar t width left style last passed old → IsOverMark kind t w passed at old ps → kind ≡ Sgr → next ≡ apply style w
+    → IsPlainSoFar t width left next last at ps
+plain-sgr {t} {w} {width} {left} {passed} {last = last} {style = style} so_far over kind next_is =
     let first = over.first in
     let through = sgr-through style first.mark first.is_mark in
-    plain-more first.mark (subst (IsPlainSoFar t width left style passed) first.pieces so_far) (sgr-plain first.mark first.is_mark (ap is_sgr first.bytes ∙ first.sgr kind))
+    plain-more first.mark (subst (IsPlainSoFar t width left style last passed) first.pieces so_far) (sgr-plain first.mark first.is_mark (ap is_sgr first.bytes ∙ first.sgr kind))
     (omega (arith, over.count, ap length first.bytes)) (omega (arith, ap length through.1)) (next_is ∙ ap (apply style) (sym first.bytes) ∙ sym through.0)
+    (λ x is. is ∙ ap last_byte (sym (ap (λ u. x ++ u) through.1 ∙ append-nil x)))
 
 -- ---- what is open after them
 
@@ -173,13 +184,16 @@ plain-printable (Sequence w ∷ ps) all = plain-printable ps (and_parts (is_sgr 
 plain-printable (LoneEscape ∷ ps) all = absurd (cc all)
 
 -- nothing is left
-pub plain-end : {t : List ℕ} {width left passed : ℕ} {style : Rendition} {old : List Piece} → IsUtf8 t → IsPlainSoFar t width left style passed old → old ≡ [] → IsPlainCell t width left style
+pub plain-end : {t : List ℕ} {width left passed last : ℕ} {style : Rendition} {old : List Piece} → IsUtf8 t → IsPlainSoFar t width left style last passed old → old ≡ [] → IsPlainCell t width left style last
 plain-end {t} utf8 so_far none =
     let front = so_far.front in
     let pieces : pieces_of t ≡ front = so_far.all ∙ ap (λ ps. front ++ ps) none ∙ append-nil front in
+    let printable = plain-printable front so_far.are_plain in
     record {
       text = plain-text front utf8 pieces so_far.are_plain so_far.style_is;
-      sum = omega (arith, ap (λ ps. columns (plain_of ps)) pieces, columns-printable (plain_of front) (plain-printable front so_far.are_plain), so_far.count);
+      sum = omega (arith, ap (λ ps. columns (plain_of ps)) pieces, columns-printable (plain_of front) printable, so_far.count);
+      printable = ap (λ ps. list_all is_printable (plain_of ps)) pieces ∙ printable;
+      last_is = so_far.last_is ∙ ap (λ ps. last_byte (plain_of ps)) (sym pieces);
     }
 
 -- ---- the text truncated
@@ -227,8 +241,8 @@ pub record IsUncut (t : List ℕ) (width left : ℕ) (tail close : List ℕ) : T
   pub lack : IsLack (cell t) width tail left
   pub kept : KeptStays t width tail
 
-pub plain-uncut : {t : List ℕ} {width left : ℕ} {style : Rendition} (tail : List ℕ) → IsUtf8 t → IsPlainCell t width left style → IsUncut t width left tail ([] ++ close style)
-plain-uncut {t} {width} {left} {style} tail utf8 is =
+pub plain-uncut : {t : List ℕ} {width left last : ℕ} {style : Rendition} (tail : List ℕ) → IsUtf8 t → IsPlainCell t width left style last → IsUncut t width left tail ([] ++ close style)
+plain-uncut {t} {width} {left} {style = style} tail utf8 is =
     let stays = is.text.stays in
     let whole = subst (λ u. IsTrue (is_whole u)) stays (whole-cell t utf8) in
     record {
@@ -245,8 +259,8 @@ pub record IsPadded (t : List ℕ) (width left : ℕ) (close : List ℕ) : Type 
   pub closes : close ++ [] ≡ closing (cell t)
   pub bytes : (alignment : Alignment) → between_blanks left alignment ((t ++ close) ++ []) ≡ padded (cell t) width alignment
 
-pub plain-padded : {t : List ℕ} {width left : ℕ} {style : Rendition} → IsPlainCell t width left style → IsPadded t width left ([] ++ close style)
-plain-padded {t} {width} {left} {style} is =
+pub plain-padded : {t : List ℕ} {width left last : ℕ} {style : Rendition} → IsPlainCell t width left style last → IsPadded t width left ([] ++ close style)
+plain-padded {t} {width} {left} {style = style} is =
     let stays = is.text.stays in
     let lack : left ≡ missing (cell t) width = omega (arith, is.sum, ap (λ u. columns (plain u)) stays) in
     let closes = append-nil ([] ++ close style) ∙ ending-closing (sym stays) is.text.style_is (sym is.text.link_is) refl refl in

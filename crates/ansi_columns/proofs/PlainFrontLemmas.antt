@@ -33,7 +33,7 @@ use Rattle.ansi_columns.specs.declared.views.View.TheVariants.{Shown}
 use Rattle.ansi_columns.specs.declared.walks.Walk.{Walk}
 use Rattle.ansi_columns.specs.BreakStates.{break_state_of}
 use Rattle.ansi_columns.specs.Columns.{clusters, cluster_width, columns_of, columns, FitsUpTo}
-use Rattle.ansi_columns.specs.PlainCells.{IsPlainText, IsPlainBefore, IsPlainCut}
+use Rattle.ansi_columns.specs.PlainCells.{IsPlainText, IsAtRun, IsPlainBefore, IsPlainCut}
 use Rattle.ansi_columns.specs.Shown.{has_tail, truncated_width, KeptStays}
 use Rattle.ansi_columns.specs.Views.{seen, seen_text, seen_len}
 use Rattle.ansi_columns.specs.Walks.{clusters_after, seen_before, seen_after, seen_clusters, IsWalkIn, IsNext, IsPrintable, IsPrintableFront, IsPastAscii, AreClustersIn, IsFittingTo, SeesUpTo}
@@ -133,15 +133,9 @@ module _ (t : List ℕ) (utf8 : IsUtf8 t) (x y : List ℕ) (text : plain t ≡ x
 
 -- ---- the walk at the run
 
--- the walk, and what is known of the text before it
-pub record IsAtRun (t : List ℕ) (width left : ℕ) (style : Rendition) (v : Walk) : Type 0 where
-  pub is_walk : IsWalkIn Shown t v
-  pub front : (n : ℕ) → IsPrintableFront t v n → IsPlainText (take (v.offset + n) t) style
-  pub fitting : IsPrintableFront t v 1 → IsFittingTo Shown t width v.position left
-
-walk-at : {t w : List ℕ} {width left passed at : ℕ} {style : Rendition} {old ps : List Piece} (v : Walk) → IsUtf8 t → IsPlainSoFar t width left style passed old → IsOverText t w passed at old ps → IsCharBoundary t at → 0 < length w
+walk-at : {t w : List ℕ} {width left passed at last : ℕ} {style : Rendition} {old ps : List Piece} (v : Walk) → IsUtf8 t → IsPlainSoFar t width left style last passed old → IsOverText t w passed at old ps → IsCharBoundary t at → 0 < length w
     → v.position ≡ width - left → v.offset ≡ passed → v.run_end ≡ at → v.break_state ≡ break_state_of [] → IsAtRun t width left style v
-walk-at {t} {w} {width} {left} {passed} {at} {style} {old} {ps} v utf8 so_far over end some position offset run_end break_state =
+walk-at {t} {w} {width} {left} {passed} {at} {style = style} {old} {ps} v utf8 so_far over end some position offset run_end break_state =
     let front = so_far.front in
     let x = plain_of front in
     let y = w ++ plain_of ps in
@@ -184,7 +178,7 @@ walk-at {t} {w} {width} {left} {passed} {at} {style} {old} {ps} v utf8 so_far ov
       fitting = λ bytes. subst (λ n. IsFittingTo Shown t width n left) (sym place) (fitting-run t utf8 x y text printable w (plain_of ps) refl some (part 1 bytes) so_far.count);
     }
 
-pub at-run : {t : List ℕ} {width left : ℕ} {style : Rendition} {old new : Scan} {item : Item} (v : Walk) → IsUtf8 t → IsPlainSoFar t width left style old.offset (pieces_left old) → GivesItem old item new → old.text ≡ t → item.kind ≡ TextKind
+pub at-run : {t : List ℕ} {width left last : ℕ} {style : Rendition} {old new : Scan} {item : Item} (v : Walk) → IsUtf8 t → IsPlainSoFar t width left style last old.offset (pieces_left old) → GivesItem old item new → old.text ≡ t → item.kind ≡ TextKind
     → v.position ≡ width - left → v.offset ≡ item.start → v.run_end ≡ item.end → v.break_state ≡ break_state_of [] → IsAtRun t width left style v
 at-run {t} {new = new} {item} v utf8 so_far gives same kind position offset run_end break_state =
     let over = over_text gives same refl kind in

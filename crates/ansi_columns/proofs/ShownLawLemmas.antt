@@ -96,7 +96,7 @@ module _ (t : List ℕ) (width : ℕ) (tail : List ℕ) (utf8 : IsUtf8 t) (tail_
 
 -- ---- the width of printable ASCII
 
-clusters-printable : (before cs : List ℕ) → list_all is_printable cs ≡ true → clusters_after before cs ≡ map (λ c. c ∷ []) cs
+pub clusters-printable : (before cs : List ℕ) → list_all is_printable cs ≡ true → clusters_after before cs ≡ map (λ c. c ∷ []) cs
 clusters-printable before [] all = clusters-none before
 clusters-printable before (c ∷ []) all = cluster-begins before c [] ∙ cluster-last (c ∷ []) (c ∷ before) (λ none. cc)
 clusters-printable before (c ∷ d ∷ cs) all =

@@ -143,7 +143,7 @@ module _ (bytes : List ℕ) (k : ℕ) (last : IsLastByte (is_byte 0x20) bytes (S
 printable-above : (b : ℕ) → is_printable b ≡ true → 0x20 ≤ b
 printable-above b printable = grind (arith, nat_tests)
 
-inside-printable : (b : ℕ) → is_printable b ≡ true → is_line_end (b ∷ []) ≡ false
+pub inside-printable : (b : ℕ) → is_printable b ≡ true → is_line_end (b ∷ []) ≡ false
 inside-printable b printable =
     not_line_end (b ∷ [])
     (λ e. (let is : b ≡ 0x0A = ap (λ x. slice_index x 0) e in absurd (omega (arith, is, printable-above b printable))))

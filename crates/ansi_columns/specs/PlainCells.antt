@@ -1,10 +1,12 @@
 -- What one pass over a text of a cell finds, if that is printable ASCII and SGRs. No public contract cites it.
-use Rattle.std.specs.Prelude.{◌≡◌, ℕ, ◌+◌, ◌<◌, List, [], take}
+use Rattle.std.specs.Prelude.{◌≡◌, ℕ, ◌+◌, ◌-◌, ◌<◌, List, [], length, take, slice_index, IsTrue}
+use Rattle.std.specs.List.{list_all}
 use Rattle.ansi_items.specs.Plain.{plain, marks}
 use Rattle.ansi_style.specs.declared.state.rendition.Rendition.{Rendition}
 use Rattle.ansi_style.specs.Styled.{style_after}
 use Rattle.ansi_safe.specs.Cells.{cell}
 use Rattle.ansi_safe.specs.Links.{link_of}
+use Rattle.ansi_safe.specs.Safe.{is_printable_byte}
 use Rattle.ansi_columns.specs.declared.views.View.TheVariants.{Shown}
 use Rattle.ansi_columns.specs.declared.walks.Walk.{Walk}
 use Rattle.ansi_columns.specs.Columns.{columns}
@@ -17,10 +19,22 @@ pub record IsPlainText (t : List ℕ) (style : Rendition) : Type 0 where
   pub style_is : style ≡ style_after t
   pub link_is : link_of (marks t) ≡ []
 
--- Such a text fits, and leaves this many columns of the width.
-pub record IsPlainCell (t : List ℕ) (width left : ℕ) (style : Rendition) : Type 0 where
+-- the last byte of x, or 0
+abbrev pub last_byte : List ℕ → ℕ
+last_byte x = slice_index x (length x - 1)
+
+-- Such a text fits, and leaves this many columns of the width. Its plain text is printable ASCII, and has this last byte.
+pub record IsPlainCell (t : List ℕ) (width left : ℕ) (style : Rendition) (last : ℕ) : Type 0 where
   pub text : IsPlainText t style
   pub sum : columns (plain t) + left ≡ width
+  pub printable : IsTrue (list_all is_printable_byte (plain t))
+  pub last_is : last ≡ last_byte (plain t)
+
+-- The text before a walk is such a text and fits with the walk's run, as far as that is printable ASCII too.
+pub record IsAtRun (t : List ℕ) (width left : ℕ) (style : Rendition) (walk : Walk) : Type 0 where
+  pub is_walk : IsWalkIn Shown t walk
+  pub front : (n : ℕ) → IsPrintableFront t walk n → IsPlainText (take (walk.offset + n) t) style
+  pub fitting : IsPrintableFront t walk 1 → IsFittingTo Shown t width walk.position left
 
 -- The text before a walk is such a text and fits, and so it is with printable ASCII of the walk's run. More of that follows than the columns that it leaves, so all of the text doesn't fit.
 pub record IsPlainBefore (t : List ℕ) (width left : ℕ) (style : Rendition) (walk : Walk) : Type 0 where

@@ -1,5 +1,5 @@
 -- What a wrap has left of its text. No public contract cites it.
-use Rattle.std.specs.Prelude.{ℕ, ◌≤◌, Bool, true, false, List, [], slice_range, Option, Some, None, IfSome, IsSome}
+use Rattle.std.specs.Prelude.{◌≡◌, ℕ, ◌≤◌, Bool, true, false, List, [], slice_range, Option, Some, None, IsSome}
 use Rattle.std.specs.Cow.{cow_str_bytes}
 use Rattle.std.specs.Str.{IsCharBoundary}
 use Rattle.std.specs.declared.borrow.CowStr.{CowStr}
@@ -9,8 +9,12 @@ use Rattle.ansi_safe.specs.Cells.{paragraph}
 use Rattle.ansi_style.specs.Rendition.{plain_style}
 use Rattle.ansi_style.specs.States.{rendition_of}
 use Rattle.ansi_columns.specs.declared.wrap.pens.PenAt.{PenAt}
+use Rattle.ansi_columns.specs.declared.walks.Walk.{Walk}
+use Rattle.ansi_columns.specs.declared.wrap.spans.Next.{Next}
+use Rattle.ansi_columns.specs.declared.wrap.spans.Next.TheVariants.{First, At, Nothing}
 use Rattle.ansi_columns.specs.declared.wrap.spans.Spans.{Spans}
-use Rattle.ansi_columns.specs.Lines.{lines, lines_left}
+use Rattle.ansi_columns.specs.Columns.{clusters}
+use Rattle.ansi_columns.specs.Lines.{lines, lines_from, lines_left}
 use Rattle.ansi_columns.specs.Wrapped.{CarriedPart, lines_over, marks_left, IsTaken}
 
 -- the interval is a stretch of t: t may be cut at its beginning and at its end
@@ -27,14 +31,46 @@ open_link t pen = slice_range t pen.link_start pen.link_end
 abbrev pub lines_of : List ℕ → ℕ → List CarriedPart
 lines_of t width = lines_over plain_style [] (plain t) (marks t) (lines width (plain t))
 
+-- the positions of the next line of t and of those after it
+abbrev pub lines_next : List ℕ → ℕ → Next → List (ℕ × ℕ)
+lines_next t width First = lines_from width 0 0 0 0 (clusters (plain t))
+lines_next t width (At walk) = lines_left t width (Some walk)
+lines_next t width Nothing = []
+
+abbrev pub HasNext : Next → Type 0
+HasNext First = Unit
+HasNext (At walk) = Unit
+HasNext Nothing = ⊥
+
+-- the lines of t that spans have left, if this is the next one
+abbrev pub lines_after : List ℕ → Spans → Next → List CarriedPart
+lines_after t s next = lines_over (rendition_of s.pen.style) (open_link t s.pen) (plain t) (marks_left t s.before s.taken) (lines_next t s.width next)
+
 -- the lines of t that these spans have left
 abbrev pub span_lines : List ℕ → Spans → List CarriedPart
-span_lines t s = lines_over (rendition_of s.pen.style) (open_link t s.pen) (plain t) (marks_left t s.before s.taken) (lines_left t s.width s.next)
+span_lines t s = lines_after t s s.next
+
+-- no line has been taken
+pub record AreNew (s : Spans) : Type 0 where
+  pub before : s.before ≡ 0
+  pub taken : s.taken ≡ 0
+  pub style : rendition_of s.pen.style ≡ plain_style
+  pub link_start : s.pen.link_start ≡ 0
+  pub link_end : s.pen.link_end ≡ 0
+
+-- the lines before the walk have been taken from t, and the link was opened in it
+pub record AreTaken (t : List ℕ) (s : Spans) (walk : Walk) : Type 0 where
+  pub taken : IsTaken t s.before s.taken walk
+  pub link : IsCharRange t s.pen.link_start s.pen.link_end
+
+abbrev pub AreSpansAt : List ℕ → Spans → Next → Type 0
+AreSpansAt t s First = AreNew s
+AreSpansAt t s (At walk) = AreTaken t s walk
+AreSpansAt t s Nothing = Unit
 
 -- they are spans of t
-pub record AreSpans (t : List ℕ) (s : Spans) : Type 0 where
-  pub next : IfSome s.next (IsTaken t s.before s.taken)
-  pub link : IsCharRange t s.pen.link_start s.pen.link_end
+abbrev pub AreSpans : List ℕ → Spans → Type 0
+AreSpans t s = AreSpansAt t s s.next
 
 -- the text whose lines a wrap returns: the paragraph of the text that it holds, if that couldn't be made
 abbrev pub shown_text : {A E : Type 0} → CowStr A → Option E → List ℕ
@@ -50,4 +86,4 @@ is_lent (Owned s) e = false
 -- a wrap has these spans left; there are some before its failure is returned
 pub record AreLeft {A E : Type 0} (c : CowStr A) (failure : Option E) (s : Spans) : Type 0 where
   pub spans : AreSpans (cow_str_bytes c) s
-  pub some : IsSome failure → IsSome s.next
+  pub some : IsSome failure → HasNext s.next

@@ -6,7 +6,7 @@ ghost use Rattle.std.specs.List.{list_all};
 ghost use Rattle.ansi_style.specs.States.{rendition_of};
 ghost use Rattle.ansi_safe.specs.Safe.{is_printable_byte};
 ghost use Rattle.ansi_columns.specs.declared.walks.Walk.{Walk};
-ghost use Rattle.ansi_columns.specs.PlainCells.{IsPlainCell, IsPlainBefore, IsPlainCut};
+ghost use Rattle.ansi_columns.specs.PlainCells.{IsPlainCell, IsAtRun, IsPlainBefore, IsPlainCut};
 ghost use Rattle.ansi_columns.specs.Walks.{IsAnyWalk, IsPastAscii};
 
 use crate::break_state::BreakState;
@@ -23,6 +23,8 @@ pub(crate) struct PlainFront {
     pub(crate) left: usize,
     /// The style at its end. No link is open there.
     pub(crate) style: Style,
+    /// The last byte of its plain text, or 0 if that is empty.
+    pub(crate) last: u8,
     /// The walk at the run, which has more bytes than columns are left. `None` if the front is the
     /// whole text.
     pub(crate) run: Option<Walk>,
@@ -38,14 +40,46 @@ pub(crate) const LONGEST: usize = 512;
 /// If a run doesn't fit, only one byte more is tested than there are columns left.
 pub(crate) fn plain_front(text: &str, width: usize) -> Option<PlainFront>
     ensures { IfSome result (λ f. MatchOption f.run
-        (IsPlainCell text.now width f.left (rendition_of f.style))
+        (IsPlainCell text.now width f.left (rendition_of f.style) f.last)
         (IsPlainBefore text.now width f.left (rendition_of f.style))) }
+{
+    let front = plain_runs(text, width)?;
+    let Some(run) = front.run else {
+        return Some(front);
+    };
+    if goes_past(text, run, front.left) {
+        Some(front)
+    } else {
+        None
+    }
+}
+
+/// The front of a text of a cell, if that is the whole text. `None` says nothing.
+#[inline(always)]
+pub(crate) fn plain_cell(text: &str, width: usize) -> Option<PlainFront>
+    ensures { IfSome result (λ f.
+        IsPlainCell text.now width f.left (rendition_of f.style) f.last) }
+{
+    let front = plain_runs(text, width)?;
+    match front.run {
+        Some(_) => None,
+        None => Some(front),
+    }
+}
+
+/// The front of a text of a cell, if that is printable ASCII and select graphic renditions alone.
+/// `None` says nothing. Of the run that doesn't fit, nothing is tested.
+fn plain_runs(text: &str, width: usize) -> Option<PlainFront>
+    ensures { IfSome result (λ f. MatchOption f.run
+        (IsPlainCell text.now width f.left (rendition_of f.style) f.last)
+        (IsAtRun text.now width f.left (rendition_of f.style))) }
 {
     if LONGEST < text.len() {
         return None;
     }
     let mut style = styles::plain_style();
     let mut left = width;
+    let mut last = 0;
     for item in Scanner::new(text) {
         let piece = &text[item.start..item.end];
         if item.kind == Kind::Sgr {
@@ -62,12 +96,10 @@ pub(crate) fn plain_front(text: &str, width: usize) -> Option<PlainFront>
                 run_end: item.end,
                 break_state: BreakState::start(),
             };
-            if !goes_past(text, run, left) {
-                return None;
-            }
             return Some(PlainFront {
                 left,
                 style,
+                last,
                 run: Some(run),
             });
         }
@@ -75,24 +107,14 @@ pub(crate) fn plain_front(text: &str, width: usize) -> Option<PlainFront>
             return None;
         }
         left -= piece.len();
+        last = piece.as_bytes()[piece.len() - 1];
     }
     Some(PlainFront {
         left,
         style,
+        last,
         run: None,
     })
-}
-
-/// The front of a text of a cell, if that is the whole text. `None` says nothing.
-pub(crate) fn plain_cell(text: &str, width: usize) -> Option<PlainFront>
-    ensures { IfSome result (λ f.
-        IsPlainCell text.now width f.left (rendition_of f.style)) }
-{
-    let front = plain_front(text, width)?;
-    match front.run {
-        Some(_) => None,
-        None => Some(front),
-    }
 }
 
 /// Whether more than `count` bytes of printable ASCII come next in a run, each of them a cluster by

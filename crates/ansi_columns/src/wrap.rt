@@ -85,12 +85,11 @@ impl<'t, A: Allocator + Copy> AnsiWrap<'t, A> {
         ensures { result ≡ lent_lines (is_lent text.entry failure)
             (lines_of (shown_text text.entry failure) width) }
     {
-        let spans = Spans::new(text.as_str(), width);
         AnsiWrap {
             alloc,
             text,
             failure,
-            spans,
+            spans: Spans::new(width),
         }
     }
 

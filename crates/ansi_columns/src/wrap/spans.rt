@@ -1,18 +1,25 @@
 //! The stretches of a text from which the lines of a wrap are written.
 ghost use Rattle.std.specs.Prelude.{◌≡◌, ◌+◌, ◌++◌, ◌≤◌, ℕ, List, [], length, IsTrue, IsFalse, IsOk};
-ghost use Rattle.std.specs.Prelude.{IfOk, OnOk, IsSome, IsNone, string_bytes};
+ghost use Rattle.std.specs.Prelude.{IfOk, IfSome, OnOk, ◌∷◌, string_bytes};
 ghost use Rattle.std.specs.Iterator.{YieldsFirst};
 ghost use Rattle.std.specs.Option.{MatchOption};
-ghost use Rattle.ansi_items.specs.Plain.{plain};
+ghost use Rattle.ansi_items.specs.Plain.{plain, marks};
+ghost use Rattle.ansi_style.specs.Rendition.{plain_style};
 ghost use Rattle.ansi_style.specs.Written.{longest_start_and_close};
 ghost use Rattle.ansi_safe.specs.Links.{longest_link_end};
 ghost use Rattle.ansi_split.specs.Splits.{IsCarriedPart};
-ghost use Rattle.ansi_columns.specs.WrapStates.{span_lines, lines_of, AreSpans};
+ghost use Rattle.ansi_columns.specs.Columns.{clusters};
+ghost use Rattle.ansi_columns.specs.Lines.{lines_from};
+ghost use Rattle.ansi_columns.specs.Wrapped.{lines_over, IsTaken};
+ghost use Rattle.ansi_columns.specs.WrapStates.{span_lines, lines_after, lines_of, HasNext};
+ghost use Rattle.ansi_columns.specs.WrapStates.{AreSpans, IsCharRange};
+ghost use Rattle.ansi_columns.specs.declared.wrap.spans.Next.TheVariants.{At};
 
 use crate::lines::first_line;
+use crate::plain_cells::plain_cell;
 use crate::walks::Walk;
 use crate::wrap::pens::PenAt;
-use ansi_safe::links::Pen;
+use ansi_safe::links::{Pen, plain_pen};
 use ansi_search::search::PAST_THE_END;
 use ansi_slice::slice::{has_any, push_sequences};
 use ansi_style::styles;
@@ -135,8 +142,7 @@ impl<'t> Span<'t> {
 pub(crate) struct Spans {
     /// The greatest width of a line, in columns. A line of one wider cluster may exceed it.
     width: usize,
-    /// The beginning of the next line.
-    next: Option<Walk>,
+    next: Next,
     /// The offset at which the previous lines end.
     taken: usize,
     /// The number of plain bytes before that offset.
@@ -145,17 +151,27 @@ pub(crate) struct Spans {
     pen: PenAt,
 }
 
+/// The next line.
+#[derive(Clone, Copy)]
+enum Next {
+    /// The first line. Nothing has been read.
+    First,
+    /// The line that begins at a walk.
+    At(Walk),
+    /// None is left.
+    Nothing,
+}
+
 impl Spans {
-    /// The spans of all lines of the text. They are also those of any other text, if nothing reads
-    /// it by them.
-    pub(crate) fn new(text: &str, width: usize) -> Self
-        ensures spans { AreSpans text.now result }
-        ensures some { IsSome result.next }
+    /// The spans of all lines of any text.
+    pub(crate) fn new(width: usize) -> Self
+        ensures spans { (t : List ℕ) → AreSpans t result }
+        ensures some { HasNext result.next }
         ensures lines { (t : List ℕ) → span_lines t result ≡ lines_of t width }
     {
         Spans {
             width: width.max(1),
-            next: Some(Walk::start(text)),
+            next: Next::First,
             taken: 0,
             before: 0,
             pen: PenAt::plain(),
@@ -165,18 +181,17 @@ impl Spans {
     /// Leaves no lines.
     pub(crate) fn finish(&mut self)
         ensures lines { (t : List ℕ) → span_lines t self.new ≡ [] }
-        ensures link { self.new.pen ≡ self.old.pen }
-        ensures none { IsNone self.new.next }
+        ensures spans { (t : List ℕ) → AreSpans t self.new }
     {
-        self.next = None;
+        self.next = Next::Nothing;
     }
 
     /// Whether a line is left.
     pub(crate) fn has_next(&self) -> bool
-        ensures some { IsTrue result → IsSome self.now.next }
+        ensures some { IsTrue result → HasNext self.now.next }
         ensures none { IsFalse result → (t : List ℕ) → span_lines t self.now ≡ [] }
     {
-        self.next.is_some()
+        !matches!(self.next, Next::Nothing)
     }
 
     /// The span of the next line of the text. Doesn't allocate.
@@ -185,12 +200,33 @@ impl Spans {
         ensures spans { AreSpans text.now self.new }
         ensures lines { YieldsFirst (span_lines text.now) self.old result self.new }
     {
-        let from = self.next?;
-        let (start, end, next) = first_line(text, from, self.width);
+        match self.next {
+            Next::Nothing => None,
+            Next::At(from) => Some(self.line_at(text, from)),
+            Next::First => match only_line(text, self.width) {
+                Some(line) => {
+                    self.finish();
+                    Some(line)
+                }
+                None => Some(self.line_at(text, Walk::start(text))),
+            },
+        }
+    }
+
+    /// The span of the line that begins at a walk.
+    #[inline(always)]
+    fn line_at<'t>(&mut self, text: &'t str, from: Walk) -> Span<'t>
+        requires walk { IsTaken text.now self.old.before self.old.taken from }
+        requires link { IsCharRange text.now self.old.pen.link_start self.old.pen.link_end }
+        ensures spans { AreSpans text.now self.new }
+        ensures lines { lines_after text.now self.old (At from)
+            ≡ result ∷ span_lines text.now self.new }
+    {
+        let (start, end, later) = first_line(text, from, self.width);
         // The last line takes all that is left.
-        let taken = match next {
-            Some(_) => end.offset,
-            None => text.len(),
+        let (taken, next) = match later {
+            Some(walk) => (end.offset, Next::At(walk)),
+            None => (text.len(), Next::Nothing),
         };
         let part = &text[self.taken..taken];
         let is_marked = has_any(part);
@@ -212,6 +248,31 @@ impl Spans {
         self.taken = taken;
         self.before = end.position;
         self.pen = after;
-        Some(span)
+        span
     }
+}
+
+/// The span of the only line of a text, if that is printable ASCII and select graphic renditions
+/// alone, fits, and doesn't end with a blank. `None` says nothing.
+fn only_line(text: &str, width: usize) -> Option<Span<'_>>
+    ensures { IfSome result (λ line. lines_over plain_style [] (plain text.now) (marks text.now)
+        (lines_from width 0 0 0 0 (clusters (plain text.now))) ≡ line ∷ []) }
+{
+    let plain = plain_cell(text, width)?;
+    if plain.last == b' ' {
+        return None;
+    }
+    let end = width - plain.left;
+    Some(Span {
+        text,
+        is_marked: end != text.len(),
+        start: 0,
+        end,
+        end_offset: text.len(),
+        carried: plain_pen(),
+        after: Pen {
+            style: plain.style,
+            link: "",
+        },
+    })
 }

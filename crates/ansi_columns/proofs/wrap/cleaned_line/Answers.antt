@@ -17,3 +17,6 @@ pub returns-in-Err-clause-line : goal.returns-in-Err-clause-line
 returns-in-Err-clause-line g c =
     let t = c.args.text.now in
     (record c.in_ok-next.field-0 { borrowed = false }, lent_lines false (span_lines t c.next.new.self), ap (lent_lines false) c.in_ok-next.ensures.lines, refl, ap (lent_lines false) (c.finish.ensures.lines t))
+
+pub returns-in-Err-clause-spans : goal.returns-in-Err-clause-spans
+returns-in-Err-clause-spans g c = c.finish.ensures.spans c.args.text.now

@@ -1,4 +1,5 @@
 use Rattle.std.proofs.Common.{length, sym, ◌∙◌, ap, arith}
+use Rattle.std.specs.Cow.{cow_str_bytes}
 use Rattle.ansi_columns.specs.Wrapped.{lent_lines}
 use Rattle.ansi_columns.specs.WrapStates.{shown_text, is_lent}
 use Rattle.ansi_columns.proofs.LentLemmas.{failed-first}
@@ -22,3 +23,6 @@ returns-in-Some-clause-goes g c =
     let old = ap length steps.2 in
     let new = ap length steps.4 in
     record { on = λ _. (tt, tt, omega (arith, old, new)); keeps = tt; rests = λ _. tt }
+
+pub invariant_of-self : goal.invariant_of-self
+invariant_of-self g c = record { spans = c.finish.ensures.spans (cow_str_bytes c.self.inside.text); some = λ failed. absurd (cc (rw c.take.ensures.after at failed)) }

@@ -1,143 +1,44 @@
-use Rattle.std.proofs.Common.{ℕ, List, Option, rules, ◌≡◌, ◌≤◌, ◌-◌, ◌==◌, false, ◌∷◌, length, slice_range, IsTrue, refl, sym, ◌∙◌, ap, ap₂, subst, arith}
-use Rattle.std.specs.Prelude.{IsNone}
-use Rattle.std.specs.Str.{IsUtf8}
-use Rattle.ansi_columns.specs.declared.walks.Walk.{Walk}
-use Rattle.ansi_columns.specs.declared.wrap.pens.PenAt.{PenAt}
-use Rattle.ansi_items.specs.Plain.{plain, marks, has_escape}
-use Rattle.ansi_style.specs.Reading.{after_marks, style_after_from}
-use Rattle.ansi_style.proofs.MarkLemmas.{marks-bare}
+use Rattle.std.proofs.Common.{◌∷◌, inl, sym, ◌∙◌, ap, arith}
+use Rattle.std.proofs.lemmas.Str.{IsCharBoundary-start}
+use Rattle.ansi_items.specs.Plain.{plain}
 use Rattle.ansi_style.specs.States.{rendition_of}
-use Rattle.ansi_search.specs.Positions.{no_character_goes_on}
-use Rattle.ansi_search.proofs.PositionLemmas.{no_character_goes_on-boundary}
-use Rattle.ansi_columns.specs.Lines.{lines_left}
-use Rattle.ansi_safe.specs.Links.{link_after_all}
-use Rattle.ansi_columns.specs.Walks.{clusters_from}
-use Rattle.ansi_columns.specs.Wrapped.{CarriedPart, line_over, lines_over, marks_left, IsTaken}
-use Rattle.ansi_columns.specs.WrapStates.{open_link, span_lines}
-use Rattle.ansi_columns.proofs.LentLemmas.{none-left}
-use Rattle.ansi_columns.proofs.WalkLemmas.{walk_boundary}
-use Rattle.ansi_columns.proofs.WrapLemmas.{ahead, lines-first, lines-last, span-first, span-last, lines_filled, rest-is}
-use Rattle.ansi_columns.proofs.wrap.spans.Spans.next.Goals.{in-Some, in-None, then-is_marked, else-is_marked}
+use Rattle.ansi_columns.specs.Wrapped.{lines_over, marks_left}
+use Rattle.ansi_columns.specs.WrapStates.{open_link, lines_after, AreNew}
+use Rattle.ansi_columns.proofs.LentLemmas.{none-left, new-lines}
+use Rattle.ansi_columns.proofs.WrapLemmas.{lines_left-start}
 use Rattle.ansi_columns.proofs.wrap.spans.Spans.next.Goals as goal
 
--- the pen after a text, if this is the pen before it
-record IsPenAfter (t : List ℕ) (before : PenAt) (text : List ℕ) (after : PenAt) : Type 0 where
-  style : rendition_of after.style ≡ style_after_from (rendition_of before.style) text
-  link : open_link t after ≡ link_after_all (open_link t before) (marks text)
+pub returns-in-Nothing-clause-lines : goal.returns-in-Nothing-clause-lines
+returns-in-Nothing-clause-lines c = (let none = none-left c.args.text.now c.args.self.now c.in-Nothing.is in (none, none))
 
--- without ESC it is the same
-bare-pen : (t : List ℕ) (pen : PenAt) (text : List ℕ) → has_escape text ≡ false → IsPenAfter t pen text pen
-bare-pen t pen text none =
-    let ms = sym (marks-bare text none) in
-    record { style = ap (after_marks (rendition_of pen.style)) ms; link = ap (link_after_all (open_link t pen)) ms }
+-- the first line is the only one
 
-pub returns-in_err-from-clause-lines : goal.returns-in_err-from-clause-lines
-returns-in_err-from-clause-lines c =
-    let none = none-left c.args.text.now c.args.self.now (subst (λ o. IsNone o) (sym c.in_err-from.was) refl) in
-    rw c.from_residual.ensures (none, none)
+pub returns-in-Some-clause-spans : goal.returns-in-Some-clause-spans
+returns-in-Some-clause-spans c = c.finish.ensures.spans c.args.text.now
 
-pub range-part-requires-clause-start_le_end : goal.range-part-requires-clause-start_le_end
-range-part-requires-clause-start_le_end c =
-    let s = c.args.self.now in
+pub returns-in-Some-clause-lines : goal.returns-in-Some-clause-lines
+returns-in-Some-clause-lines c =
     let t = c.args.text.now in
-    let is : IsTaken t s.before s.taken c.in_ok-from.from = rw c.in_ok-from.was at c.requires.next in
-    let end = c.first_line-next.ensures.end in
-    let ordered = c.first_line-next.ensures.ordered in
-    let from = ahead t s.before s.taken c.in_ok-from.from is c.first_line-next.result.1.position c.first_line-next.result.1.offset (omega (arith, is.ordered, c.first_line-next.ensures.start_ordered, ordered)) end.within end.offset in
-    elim c.match-next.branch [
-      | in-Some w ↦ omega (arith, from, w.taken-is)
-      | in-None w ↦ omega (arith, is.boundary.0, w.taken-is)
-    ]
+    let new : AreNew c.args.self.now = rw c.in-First.is at c.requires in
+    new-lines t c.args.self.now c.in-First.is new ∙ c.in-Some.ensures ∙ ap (λ ls. c.in-Some.line ∷ ls) (sym (c.finish.ensures.lines t))
 
-pub overflow_sub-span-3 : goal.overflow_sub-span-3
-overflow_sub-span-3 c =
-    let s = c.args.self.now in
-    let t = c.args.text.now in
-    let is : IsTaken t s.before s.taken c.in_ok-from.from = rw c.in_ok-from.was at c.requires.next in
-    let end = c.first_line-next.ensures.end in
-    let ordered = c.first_line-next.ensures.ordered in
-    ahead t s.before s.taken c.in_ok-from.from is c.first_line-next.result.1.position c.first_line-next.result.1.offset (omega (arith, is.ordered, c.first_line-next.ensures.start_ordered, ordered)) end.within end.offset
+-- or it is read
 
-pub invariant_of-span : goal.invariant_of-span
-invariant_of-span c =
-    let s = c.args.self.now in
-    let t = c.args.text.now in
-    let from = c.in_ok-from.from in
-    let start = c.first_line-next.result.0 in
-    let last = c.first_line-next.result.1 in
-    let is : IsTaken t s.before s.taken from = rw c.in_ok-from.was at c.requires.next in
-    let end = c.first_line-next.ensures.end in
-    let ordered = c.first_line-next.ensures.ordered in
-    let begins : s.before ≤ start.position = omega (arith, is.ordered, c.first_line-next.ensures.start_ordered) in
-    let utf8 : IsUtf8 t = search rules in
-    let good : IsTrue (no_character_goes_on (plain t) start.position) = no_character_goes_on-boundary (plain t) start.position (walk_boundary t utf8 start c.first_line-next.ensures.start) in
-    let good_end : IsTrue (no_character_goes_on (plain t) last.position) = no_character_goes_on-boundary (plain t) last.position (walk_boundary t utf8 last end) in
-    let text = c.range-part.result.now in
-    let part = c.range-part.ensures.value in
-    let style = rendition_of c.pen.result.style in
-    let link = c.pen.result.link.now in
-    let style_after = rendition_of c.pen-2.result.style in
-    let link_after = c.pen-2.result.link.now in
-    let after : IsPenAfter t s.pen text c.if-is_marked.after = elim c.if-is_marked.branch [
-      | then-is_marked w ↦ rw (w.after-is, part) (record { style = w.after-after.ensures.style; link = w.after-after.ensures.link })
-      | else-is_marked w ↦ rw w.after-is (bare-pen t s.pen text (sym c.has_any-is_marked.ensures ∙ w.if-is_marked.false))
-    ] in
-    let styled : style_after ≡ style_after_from style text = ap rendition_of c.pen-2.ensures.style ∙ after.style ∙ ap (λ r. style_after_from (rendition_of r) text) (sym c.pen.ensures.style) in
-    let linked : link_after ≡ link_after_all link (marks text) = c.pen-2.ensures.link ∙ after.link ∙ ap (λ l. link_after_all l (marks text)) (sym c.pen.ensures.link) in
-    elim c.match-next.branch [
-      | in-Some w ↦ (
-          let front : text ≡ slice_range t s.taken last.offset = part ∙ ap (slice_range t s.taken) w.taken-is in
-          rw front (span-first t s.before s.taken from is last.position last.offset (omega (arith, is.ordered, c.first_line-next.ensures.start_ordered, ordered)) end.within end.offset
-          style link start.position c.has_any-is_marked.result style_after link_after end.run.start_boundary.0 begins ordered good
-          (rw front at c.has_any-is_marked.ensures) (rw front at styled) (rw front at linked)))
-      | in-None w ↦
-          span-last t s.before s.taken from is last.position last.offset (omega (arith, is.ordered, c.first_line-next.ensures.start_ordered, ordered)) end.within end.offset
-          style link text start.position c.has_any-is_marked.result style_after link_after
-          (part ∙ ap (slice_range t s.taken) w.taken-is ∙ rest-is t s.taken) end.run.start_boundary begins ordered good good_end c.has_any-is_marked.ensures styled linked
-    ]
+pub line_at-requires-in-None-clause-walk : goal.line_at-requires-in-None-clause-walk
+line_at-requires-in-None-clause-walk c =
+    let new : AreNew c.args.self.now = rw c.in-First.is at c.requires in
+    record { is_walk = c.start.ensures.walk; place = inl (new.before, new.taken); boundary = rw new.taken (IsCharBoundary-start c.args.text.now c.utf8.text); ordered = omega (arith, new.before) }
 
-pub returns-clause-lines : goal.returns-clause-lines
-unfolding lines_over
-returns-clause-lines c =
-    let s = c.args.self.now in
+pub line_at-requires-in-None-clause-link : goal.line_at-requires-in-None-clause-link
+line_at-requires-in-None-clause-link c =
+    let new : AreNew c.args.self.now = rw c.in-First.is at c.requires in
+    let start = IsCharBoundary-start c.args.text.now c.utf8.text in
+    record { ordered = omega (arith, new.link_start, new.link_end); start_boundary = rw new.link_start start; end_boundary = rw new.link_end start }
+
+pub returns-in-None-clause-lines : goal.returns-in-None-clause-lines
+returns-in-None-clause-lines c =
     let t = c.args.text.now in
-    let x = plain t in
-    let from = c.in_ok-from.from in
-    let start = c.first_line-next.result.0 in
-    let last = c.first_line-next.result.1 in
-    let next = c.first_line-next.result.2 in
-    let is : IsTaken t s.before s.taken from = rw c.in_ok-from.was at c.requires.next in
-    let end = c.first_line-next.ensures.end in
-    let ordered = c.first_line-next.ensures.ordered in
-    let begins : s.before ≤ start.position = omega (arith, is.ordered, c.first_line-next.ensures.start_ordered) in
-    let style = rendition_of s.pen.style in
-    let link = open_link t s.pen in
-    let text = c.range-part.result.now in
-    let part = c.range-part.ensures.value in
-    let after = c.if-is_marked.after in
-    let pen : IsPenAfter t s.pen text after = elim c.if-is_marked.branch [
-      | then-is_marked w ↦ rw (w.after-is, part) (record { style = w.after-after.ensures.style; link = w.after-after.ensures.link })
-      | else-is_marked w ↦ rw w.after-is (bare-pen t s.pen text (sym c.has_any-is_marked.ensures ∙ w.if-is_marked.false))
-    ] in
-    let line = line_over style link (plain text) (marks text) (start.position - s.before, last.position - s.before) in
-    let shown : line ≡ line_over (rendition_of c.pen.result.style) c.pen.result.link.now (plain text) (marks text) (start.position - s.before, last.position - s.before)
-    = ap₂ (λ r l. line_over (rendition_of r) l (plain text) (marks text) (start.position - s.before, last.position - s.before)) (sym c.pen.ensures.style) (sym c.pen.ensures.link) in
-    let ms = marks_left t s.before s.taken in
-    let all : Option Walk → List CarriedPart = λ o. lines_over style link x ms (lines_left t s.width o) in
-    let left : span_lines t s ≡ lines_over style link x ms ((start.position, last.position) ∷ lines_left t s.width next)
-    = ap all c.in_ok-from.was ∙ ap (lines_over style link x ms) c.first_line-next.ensures.lines in
-    elim c.match-next.branch [
-      | in-Some w ↦ (
-          let front : text ≡ slice_range t s.taken last.offset = part ∙ ap (slice_range t s.taken) w.taken-is in
-          let some : (length (lines_left t s.width next) == 0) ≡ false = ap (λ o. length (lines_left t s.width o) == 0) w.in-Some.is ∙ lines_filled s.width w.in-Some.field-0.position w.in-Some.field-0.position w.in-Some.field-0.position 0 (clusters_from t w.in-Some.field-0.position) in
-          left
-          ∙ lines-first t s.before s.taken from is last.position last.offset (omega (arith, is.ordered, c.first_line-next.ensures.start_ordered, ordered)) end.within end.offset style link start.position (lines_left t s.width next) begins some
-          ∙ ap (λ v. line_over style link (plain v) (marks v) (start.position - s.before, last.position - s.before) ∷ lines_over (style_after_from style v) (link_after_all link (marks v)) x (marks_left t last.position last.offset) (lines_left t s.width next)) (sym front)
-          ∙ ap₂ (λ r l. line ∷ lines_over r l x (marks_left t last.position last.offset) (lines_left t s.width next)) (sym pen.style) (sym pen.link)
-          ∙ ap₂ (λ l n. l ∷ lines_over (rendition_of after.style) (open_link t after) x (marks_left t last.position n) (lines_left t s.width next)) shown (sym w.taken-is))
-      | in-None w ↦
-          left ∙ ap (λ o. lines_over style link x ms ((start.position, last.position) ∷ lines_left t s.width o)) w.in-None.is
-          ∙ lines-last t s.before s.taken from is last.position last.offset (omega (arith, is.ordered, c.first_line-next.ensures.start_ordered, ordered)) end.within end.offset style link text start.position begins
-          (part ∙ ap (slice_range t s.taken) w.taken-is ∙ rest-is t s.taken)
-          ∙ ap₂ (λ l o. l ∷ lines_over (rendition_of after.style) (open_link t after) x (marks_left t last.position c.match-next.taken) (lines_left t s.width o)) shown (sym w.in-None.is)
-    ]
+    let s = c.args.self.now in
+    ap (lines_after t s) c.in-First.is
+    ∙ ap (lines_over (rendition_of s.pen.style) (open_link t s.pen) (plain t) (marks_left t s.before s.taken)) (sym (lines_left-start t s.width c.start.result c.start.ensures.position))
+    ∙ c.line_at-in-None.ensures.lines

@@ -2,11 +2,11 @@ use Rattle.std.proofs.Common.{◌≡◌}
 use Rattle.ansi_items.specs.Scans.{pieces_left}
 use Rattle.ansi_style.specs.States.{rendition_of}
 use Rattle.ansi_columns.proofs.PlainCellLemmas.{IsPlainSoFar}
-use Rattle.ansi_columns.proofs.plain_cells.plain_front.Given as goal
+use Rattle.ansi_columns.proofs.plain_cells.plain_runs.Given as goal
 
 -- what was passed is printable ASCII and SGRs
 abbrev pub invariant-loop-item : goal.invariant-loop-item
 invariant-loop-item l = record {
   text : l.item-iterator.text ≡ l.text;
-  so_far : IsPlainSoFar l.text l.width l.left (rendition_of l.style) l.item-iterator.offset (pieces_left l.item-iterator);
+  so_far : IsPlainSoFar l.text l.width l.left (rendition_of l.style) l.last l.item-iterator.offset (pieces_left l.item-iterator);
 }
