@@ -1,5 +1,5 @@
 -- Edges between columns: the clusters before one, and the cluster that it divides.
-use Rattle.std.proofs.Common.{◌≡◌, ℕ, suc, ◌+◌, ◌-◌, ◌*◌, ◌<◌, ◌≤◌, ◌⊎◌, inl, inr, true, false, ◌&&◌, List, [], ◌∷◌, ◌++◌, length, drop, slice_range, flat_map, encode_utf8_all, nat_le, nat_lt, if◌then◌else◌, refl, sym, ◌∙◌, ap, ap₂, subst, arith, zero-add, append_assoc, append-nil, length-append}
+use Rattle.std.proofs.Common.{◌≡◌, ℕ, ◌+◌, ◌-◌, ◌*◌, ◌<◌, ◌≤◌, ◌⊎◌, inl, inr, true, false, ◌&&◌, List, [], ◌∷◌, ◌++◌, length, drop, flat_map, encode_utf8_all, nat_le, nat_lt, if◌then◌else◌, refl, sym, ◌∙◌, ap, ap₂, subst, arith, zero-add, append_assoc, append-nil, length-append}
 use Rattle.std.specs.List.{list_all}
 use Rattle.std.specs.Str.{IsUtf8, IsCharBoundary, chars}
 use Rattle.std.proofs.lemmas.Bool.{and_parts, cases_lt, le-leb, lt-leb, lt-ltb, le-ltb, and_right}
@@ -11,12 +11,10 @@ use Rattle.unicode_width.specs.Width.{str_width}
 use Rattle.ansi_items.specs.Plain.{plain}
 use Rattle.ansi_columns.specs.declared.walks.Walk.{Walk}
 use Rattle.ansi_columns.specs.Columns.{clusters, cluster_width, columns_of, columns, bytes_of}
-use Rattle.ansi_columns.specs.declared.views.View.{View}
 use Rattle.ansi_columns.specs.declared.views.View.TheVariants.{Given}
-use Rattle.ansi_columns.specs.Walks.{after, cluster, clusters_from, IsWalkIn, IsWalk, IsPastAscii, IsPastClusters, AreClusters, has_width}
+use Rattle.ansi_columns.specs.Walks.{after, cluster, clusters_from, IsWalk, IsPastAscii, IsPastClusters, has_width}
 use Rattle.ansi_columns.specs.Slices.{ended, begun, IsEdge}
-use Rattle.ansi_columns.proofs.AsciiLemmas.{is_printable, width-single}
-use Rattle.ansi_columns.proofs.PrintableLemmas.{bytes-single, front-size, columns-past}
+use Rattle.ansi_columns.proofs.PrintableLemmas.{columns-past}
 use Rattle.ansi_columns.proofs.WidthLemmas.{read-bound}
 use Rattle.ansi_columns.proofs.ClusterLawLemmas.{clusters_after-bytes}
 use Rattle.ansi_columns.proofs.ColumnLemmas.{bytes_of-push, columns_of-push, cluster-bytes, clusters_from-end}
@@ -85,29 +83,6 @@ pub edge-more : {t : List ℕ} {here n p m left k : ℕ} → IsEdgeSoFar t here 
     → clusters_from t p ≡ cluster t p m ∷ clusters_from t m → k ≡ cluster_width (cluster t p m) → 0 < left → k ≤ left → IsEdgeSoFar t here n m (left - k)
 edge-more {t} {p = p} {m = m} so_far utf8 start end less first is some fits = edge-step (cluster t p m) so_far (omega (arith, less, cluster-bytes t p m utf8 (omega arith) start end)) first is some fits
 
--- the next clusters are printable ASCII
-
-edge-singles : {t : List ℕ} {here n : ℕ} (bytes : List ℕ) (p left : ℕ) → list_all is_printable bytes ≡ true → AreClusters t p bytes → length bytes ≤ left → IsEdgeSoFar t here n p left → IsEdgeSoFar t here n (p + length bytes) (left - length bytes)
-edge-singles {t} {here} {n} [] p left all are fits so_far =
-    let place : p ≡ p + 0 = omega arith in
-    let same : left ≡ left - 0 = omega arith in
-    subst (λ m. IsEdgeSoFar t here n m (left - 0)) place (subst (IsEdgeSoFar t here n p) same so_far)
-edge-singles {t} {here} {n} (b ∷ bytes) p left all are fits so_far =
-    let parts = and_parts _ _ all in
-    let one : p + 1 ≡ p + length (encode_utf8_all (b ∷ [])) = omega (arith, bytes-single b parts.0) in
-    let more = edge-singles bytes (p + 1) (left - 1) parts.1 are.1 (omega (arith, fits)) (edge-step (b ∷ []) so_far one are.0 (sym (width-single b parts.0)) (omega (arith, fits)) (omega (arith, fits))) in
-    let place : p + 1 + length bytes ≡ p + suc (length bytes) = omega arith in
-    let same : left - 1 - length bytes ≡ left - suc (length bytes) = omega arith in
-    subst (λ m. IsEdgeSoFar t here n m (left - suc (length bytes))) place (subst (IsEdgeSoFar t here n (p + 1 + length bytes)) same more)
-
-pub edge-past : {t : List ℕ} {here n len left : ℕ} {w v : Walk} → IsWalk t w → IsPastAscii t w len v → len ≤ left → IsEdgeSoFar t here n w.position left → IsEdgeSoFar t here n v.position (left - len)
-edge-past {t} {here} {n} {len} {left} {w} {v} walk past fits so_far =
-    let size = front-size walk past.front in
-    let bytes = slice_range t w.offset (w.offset + len) in
-    let place : w.position + length bytes ≡ v.position = omega (arith, size, past.position) in
-    subst (λ m. IsEdgeSoFar t here n m (left - len)) place
-    (subst (λ k. IsEdgeSoFar t here n (w.position + length bytes) (left - k)) size (edge-singles bytes w.position left past.front.bytes (past.clusters Given) (omega (arith, fits, size)) so_far))
-
 -- the next clusters have columns
 
 ended-clusters : (n : ℕ) (ks rest : List (List ℕ)) → list_all has_width ks ≡ true → columns_of ks ≤ n → (ended n (ks ++ rest) ≡ ks ++ ended (n - columns_of ks) rest) × (begun n (ks ++ rest) ≡ ks ++ begun (n - columns_of ks) rest)
@@ -123,7 +98,7 @@ ended-clusters n (k ∷ ks) rest each fits =
       begun-pass n k (ks ++ rest) (omega (arith, some, room)) ∙ ap (λ ls. k ∷ ls) more.1 ∙ ap (λ m. k ∷ (ks ++ begun m rest)) left,
     )
 
-edge-clusters : {t : List ℕ} {here n columns left : ℕ} {w v : Walk} → IsPastClusters Given t w v columns → columns ≤ left → IsEdgeSoFar t here n w.position left → IsEdgeSoFar t here n v.position (left - columns)
+pub edge-clusters : {t : List ℕ} {here n columns left : ℕ} {w v : Walk} → IsPastClusters Given t w v columns → columns ≤ left → IsEdgeSoFar t here n w.position left → IsEdgeSoFar t here n v.position (left - columns)
 edge-clusters {t} {here} {n} {columns} {left} {w} {v} past fits so_far =
     let front = so_far.front in
     let ks = past.clusters in
@@ -139,11 +114,6 @@ edge-clusters {t} {here} {n} {columns} {left} {w} {v} past fits so_far =
           ∙ ap (λ m. front ++ (ks ++ begun (left - m) rest)) (sym past.columns_are) ∙ sym (append_assoc front ks (begun (left - columns) rest));
       columns = omega (arith, so_far.columns, past.columns_are, fits, sum_by-append cluster_width front ks);
     }
-
--- after printable ASCII
-pub edge-on : {t : List ℕ} {here n len columns left : ℕ} {w u v : Walk} → IsWalk t w → IsPastAscii t w len u → len ≤ left → ((view : View) → IsWalkIn view t u → IsPastClusters view t u v columns) → columns ≤ left - len → IsEdgeSoFar t here n w.position left
-    → IsEdgeSoFar t here n v.position (left - len - columns)
-edge-on walk past fits more fit so_far = edge-clusters (more Given (past.walk Given walk)) fit (edge-past walk past fits so_far)
 
 -- no column is left, or no cluster
 pub edge-stop : {t : List ℕ} {here n left : ℕ} {walk : Walk} → IsWalk t walk → IsEdgeSoFar t here n walk.position left → ended left (clusters_from t walk.position) ≡ [] → begun left (clusters_from t walk.position) ≡ []

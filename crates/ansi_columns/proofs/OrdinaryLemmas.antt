@@ -18,7 +18,6 @@ use Rattle.ansi_columns.proofs.UnnamedLemmas.{break_state-unnamed, breaks-unname
 use Rattle.ansi_columns.proofs.ViewLemmas.{seen-one, seen-append, seen-printing, before-one, cluster-none, seen_len-split}
 use Rattle.ansi_columns.proofs.WalkLemmas.{walk_boundary, after-past, rest_at, walk-on}
 use Rattle.ansi_columns.proofs.ColumnLemmas.{IsCountedTo, bytes_of-push, bytes_of-append, columns_of-push}
-use Rattle.ansi_columns.proofs.PrintableLemmas.{counted-past, fitting-past}
 use Rattle.ansi_columns.proofs.ClusterWalkLemmas.{seen_cluster-past, cluster-first, cluster-stops}
 
 module _ (view : View) (t : List ℕ) (utf8 : IsUtf8 t) (w : Walk) (walk : IsWalkIn view t w) where
@@ -82,31 +81,3 @@ pub clusters-ordinary : {view : View} {t : List ℕ} {from w v : Walk} {n width 
     → v.position ≡ w.position + length (encode_utf8 c) → v.offset ≡ w.offset + length (encode_utf8 c) → v.run_end ≡ w.run_end → v.break_state ≡ break_state_of [] → width ≡ cluster_width (c ∷ []) → width ≤ 2 * length (encode_utf8 c) → 0 < width → IsPastClusters view t from v (n + width)
 clusters-ordinary {view} {t} {from} {w} {v} {n} {width} {c} {d} more utf8 so_far bytes unnamed printing unnamed_next printing_next position offset run_end break_state width_is bound some =
     clusters-more utf8 so_far (past-ordinary view t utf8 w so_far.walk c d more bytes v width unnamed printing unnamed_next printing_next position offset run_end break_state width_is bound) some
-
--- the columns that are passed with them
-
-counted-clusters : {view : View} {t : List ℕ} {w v : Walk} {n total : ℕ} → IsPastClusters view t w v n → IsCountedTo view t w.position total → IsCountedTo view t v.position (total + n)
-counted-clusters {view} {t} {w} {v} past counted = record {
-  all = omega (arith, counted.all, past.columns_are, ap columns_of past.all, sum_by-append cluster_width past.clusters (seen_clusters view t v.position));
-  bound = omega (arith, counted.bound, past.bound, past.ordered);
-}
-
-fitting-clusters : {view : View} {t : List ℕ} {w v : Walk} {width n left : ℕ} → IsPastClusters view t w v n → n ≤ left → IsFittingTo view t width w.position left → IsFittingTo view t width v.position (left - n)
-fitting-clusters {view} {t} {w} {v} past fits fitting =
-    let more = past.clusters in
-    record {
-      front = fitting.front ++ more;
-      all = fitting.all ∙ ap (λ ks. fitting.front ++ ks) past.all ∙ sym (append_assoc fitting.front more (seen_clusters view t v.position));
-      boundary = omega (arith, past.seen, fitting.boundary, bytes_of-append fitting.front more);
-      columns = omega (arith, fitting.columns, fits, past.columns_are, sum_by-append cluster_width fitting.front more);
-    }
-
--- after printable ASCII
-
-pub counted-on : {view : View} {t : List ℕ} {w u v : Walk} {len n total : ℕ} → IsWalkIn view t w → IsPastAscii t w len u → ((seen : View) → IsWalkIn seen t u → IsPastClusters seen t u v n) → IsCountedTo view t w.position total
-    → IsCountedTo view t v.position (total + len + n)
-counted-on {view} walk past more counted = counted-clusters (more view (past.walk view walk)) (counted-past walk past counted)
-
-pub fitting-on : {view : View} {t : List ℕ} {w u v : Walk} {width len n left : ℕ} → IsWalkIn view t w → IsPastAscii t w len u → len ≤ left → ((seen : View) → IsWalkIn seen t u → IsPastClusters seen t u v n) → n ≤ left - len → IsFittingTo view t width w.position left
-    → IsFittingTo view t width v.position (left - len - n)
-fitting-on {view} walk past fits more fit fitting = fitting-clusters (more view (past.walk view walk)) fit (fitting-past walk past fits fitting)

@@ -1,5 +1,5 @@
 -- A walk over printable ASCII: each byte that another one follows is a cluster of one column.
-use Rattle.std.proofs.Common.{◌≡◌, ℕ, zero, suc, ◌+◌, ◌-◌, ◌<◌, ◌≤◌, inl, inr, true, ◌==◌, ◌||◌, List, [], ◌∷◌, ◌++◌, length, map, take, drop, slice_index, slice_range, encode_utf8, encode_utf8_all, refl, sym, ◌∙◌, ap, subst, arith, append-nil, append_assoc, ◌&&◌}
+use Rattle.std.proofs.Common.{◌≡◌, ℕ, zero, suc, ◌+◌, ◌-◌, ◌<◌, ◌≤◌, nat_lt, ap₂, inl, inr, true, ◌==◌, ◌||◌, List, [], ◌∷◌, ◌++◌, length, map, take, drop, slice_index, slice_range, encode_utf8, encode_utf8_all, refl, sym, ◌∙◌, ap, subst, arith, append-nil, append_assoc, ◌&&◌}
 use Rattle.std.specs.List.{list_all, prefix_len}
 use Rattle.std.specs.Str.{chars, IsUtf8, IsCharBoundary}
 use Rattle.std.proofs.lemmas.Bool.{and_parts, cases_lt}
@@ -19,7 +19,7 @@ use Rattle.ansi_columns.specs.BreakStates.{break_state_of}
 use Rattle.ansi_columns.specs.Columns.{cluster_width, columns_of, bytes_of}
 use Rattle.ansi_columns.specs.declared.views.View.{View}
 use Rattle.ansi_columns.specs.Views.{seen_char, seen, seen_len}
-use Rattle.ansi_columns.specs.Walks.{IsRun, IsPrintableFront, IsPastAscii, after, cluster, clusters_after, seen_before, seen_after, seen_cluster, seen_clusters, is_seen_ascii, IsWalkIn, IsNext, IsPrintable, AreClustersIn, IsFittingTo}
+use Rattle.ansi_columns.specs.Walks.{IsRun, IsPrintableFront, IsPastAscii, after, cluster, clusters_after, seen_before, seen_after, seen_cluster, seen_clusters, is_seen_ascii, IsWalkIn, IsNext, IsPrintable, AreClustersIn, IsFittingTo, IsPastClusters, has_width}
 use Rattle.ansi_columns.proofs.AsciiLemmas.{is_printable, printable-below_7F, All-printable_is_ascii, break_state-printable, breaks-before_ascii, width-single}
 use Rattle.ansi_columns.proofs.ClusterLemmas.{cluster-begins, cluster-ends}
 use Rattle.ansi_columns.proofs.ClusterLawLemmas.{breaks-last}
@@ -357,29 +357,47 @@ past-run t w v utf8 walk some all place next_run =
 
 -- ---- the columns that are passed with them
 
-pub columns-past : {view : View} {t : List ℕ} {w v : Walk} {len : ℕ} → IsWalkIn view t w → IsPastAscii t w len v → columns_of (seen_clusters view t w.position) ≡ len + columns_of (seen_clusters view t v.position)
-columns-past {view} {t} {w} {v} {len} walk past =
+each-single : (bytes : List ℕ) → list_all is_printable bytes ≡ true → list_all has_width (singles bytes) ≡ true
+each-single [] all = refl
+each-single (b ∷ bytes) all = (let parts = and_parts _ _ all in ap₂ (λ n more. nat_lt 0 n && more) (width-single b parts.0) (each-single bytes parts.1))
+
+pub clusters-past : {view : View} {t : List ℕ} {w v : Walk} {len : ℕ} → IsWalkIn view t w → IsPastAscii t w len v → IsPastClusters view t w v len
+clusters-past {view} {t} {w} {v} {len} walk past =
     let size = front-size walk past.front in
     let bytes = slice_range t w.offset (w.offset + len) in
     let same : w.position + length bytes ≡ v.position = omega (arith, size, past.position) in
-    let passed = ap columns_of (clusters-passed view t w.position bytes (past.clusters view) ∙ ap (λ n. singles bytes ++ seen_clusters view t n) same) ∙ sum_by-append cluster_width (singles bytes) (seen_clusters view t v.position) in
-    omega (arith, passed, columns-singles bytes past.front.bytes, size)
+    record {
+      clusters = singles bytes;
+      walk = past.walk view walk;
+      ordered = omega (arith, past.position);
+      all = clusters-passed view t w.position bytes (past.clusters view) ∙ ap (λ n. singles bytes ++ seen_clusters view t n) same;
+      seen = omega (arith, past.seen view, bytes-singles bytes past.front.bytes, size);
+      each = each-single bytes past.front.bytes;
+      columns_are = omega (arith, columns-singles bytes past.front.bytes, size);
+      bound = omega (arith, past.position);
+    }
 
-pub counted-past : {view : View} {t : List ℕ} {w v : Walk} {len total : ℕ} → IsWalkIn view t w → IsPastAscii t w len v → IsCountedTo view t w.position total → IsCountedTo view t v.position (total + len)
-counted-past walk past counted = record { all = omega (arith, counted.all, columns-past walk past); bound = omega (arith, counted.bound, past.position) }
+pub columns-clusters : {view : View} {t : List ℕ} {w v : Walk} {n : ℕ} → IsPastClusters view t w v n → columns_of (seen_clusters view t w.position) ≡ n + columns_of (seen_clusters view t v.position)
+columns-clusters {view} {t} {w} {v} past = omega (arith, past.columns_are, ap columns_of past.all, sum_by-append cluster_width past.clusters (seen_clusters view t v.position))
+
+pub counted-clusters : {view : View} {t : List ℕ} {w v : Walk} {n total : ℕ} → IsPastClusters view t w v n → IsCountedTo view t w.position total → IsCountedTo view t v.position (total + n)
+counted-clusters past counted = record { all = omega (arith, counted.all, columns-clusters past); bound = omega (arith, counted.bound, past.bound, past.ordered) }
+
+pub fitting-clusters : {view : View} {t : List ℕ} {w v : Walk} {width n left : ℕ} → IsPastClusters view t w v n → n ≤ left → IsFittingTo view t width w.position left → IsFittingTo view t width v.position (left - n)
+fitting-clusters {view} {t} {w} {v} past fits fitting =
+    let more = past.clusters in
+    record {
+      front = fitting.front ++ more;
+      all = fitting.all ∙ ap (λ ks. fitting.front ++ ks) past.all ∙ sym (append_assoc fitting.front more (seen_clusters view t v.position));
+      boundary = omega (arith, past.seen, fitting.boundary, bytes_of-append fitting.front more);
+      columns = omega (arith, fitting.columns, fits, past.columns_are, sum_by-append cluster_width fitting.front more);
+    }
+
+pub columns-past : {view : View} {t : List ℕ} {w v : Walk} {len : ℕ} → IsWalkIn view t w → IsPastAscii t w len v → columns_of (seen_clusters view t w.position) ≡ len + columns_of (seen_clusters view t v.position)
+columns-past walk past = columns-clusters (clusters-past walk past)
 
 pub fitting-past : {view : View} {t : List ℕ} {w v : Walk} {width len left : ℕ} → IsWalkIn view t w → IsPastAscii t w len v → len ≤ left → IsFittingTo view t width w.position left → IsFittingTo view t width v.position (left - len)
-fitting-past {view} {t} {w} {v} {width} {len} {left} walk past fits fitting =
-    let size = front-size walk past.front in
-    let bytes = slice_range t w.offset (w.offset + len) in
-    let same : w.position + length bytes ≡ v.position = omega (arith, size, past.position) in
-    let passed = clusters-passed view t w.position bytes (past.clusters view) ∙ ap (λ n. singles bytes ++ seen_clusters view t n) same in
-    record {
-      front = fitting.front ++ singles bytes;
-      all = fitting.all ∙ ap (λ ks. fitting.front ++ ks) passed ∙ sym (append_assoc fitting.front (singles bytes) (seen_clusters view t v.position));
-      boundary = omega (arith, past.seen view, fitting.boundary, bytes_of-append fitting.front (singles bytes), bytes-singles bytes past.front.bytes, size);
-      columns = omega (arith, fitting.columns, fits, sum_by-append cluster_width fitting.front (singles bytes), columns-singles bytes past.front.bytes, size);
-    }
+fitting-past walk past fits fitting = fitting-clusters (clusters-past walk past) fits fitting
 
 -- a walk at another run has passed some
 pub past-some : {w v : Walk} {len : ℕ} → (len ≡ 0 → v ≡ w) → w.run_end < v.run_end → 0 < len

@@ -93,7 +93,7 @@ impl BreakState {
 
 /// Whether the character is in a few common ranges: printable ASCII, Latin, Greek, Cyrillic, Chinese
 /// and Japanese. No rule on clusters names a character of them, and each is shown as it is.
-/// `Walk::may_be_at_ordinary` has the first bytes of these ranges.
+/// `walks::may_begin_ordinary` has the first bytes of these ranges.
 #[inline(always)]
 pub(crate) fn is_ordinary(c: char) -> bool
     ensures unnamed { IsTrue result → IsUnnamed c }

@@ -32,28 +32,22 @@ pub(crate) fn fitting_front(text: &str, width: usize, view: View) -> Front
     let mut walk = Walk::start(text);
     let mut left = width;
     'clusters: loop {
-        let (here, len) = walk.past_ascii(text, left);
-        left -= len;
-        if walk.run_end < here.run_end {
-            walk = here;
-            continue;
-        }
-        let (later, more) = here.past_ordinary(text, left);
+        let (later, more) = walk.past_singles(text, left);
         if more > 0 {
             left -= more;
             walk = later;
             continue;
         }
-        let Some((next, columns)) = here.read_cluster(text, view) else {
+        let Some((next, columns)) = walk.read_cluster(text, view) else {
             return Front {
-                walk: here.next_seen(text, view).0,
+                walk: walk.next_seen(text, view).0,
                 is_all: true,
                 left,
             };
         };
         if left < columns {
             return Front {
-                walk: here.next_seen(text, view).0,
+                walk: walk.next_seen(text, view).0,
                 is_all: false,
                 left,
             };

@@ -188,14 +188,7 @@ fn edge_after(text: &str, from: Walk, columns: usize) -> Edge
     let mut walk = from;
     let mut left = columns;
     'clusters: while left > 0 {
-        let (here, len) = walk.past_ascii(text, left);
-        let is_at_next_run = walk.run_end < here.run_end;
-        walk = here;
-        left -= len;
-        if is_at_next_run || left == 0 {
-            continue;
-        }
-        let (later, more) = walk.past_ordinary(text, left);
+        let (later, more) = walk.past_singles(text, left);
         if more > 0 {
             walk = later;
             left -= more;

@@ -92,7 +92,7 @@ impl Walk {
         ensures { IfSome result (λ (walk, width). (view : View) → IsWalkIn view text.now self →
             IsPastCluster view text.now self walk width) }
     {
-        if !self.may_be_at_ordinary(text) {
+        if !may_begin_ordinary(*text.as_bytes().get(self.offset)?) {
             return None;
         }
         let mut chars = text[self.offset..self.run_end].chars();
@@ -114,21 +114,36 @@ impl Walk {
         Some((walk, char_width(first)))
     }
 
+    /// The walk after characters that come next, each of which is a cluster by itself, and their
+    /// columns, at most `most`. They are printable ASCII or ordinary characters, or none.
+    #[inline(always)]
+    pub(crate) fn past_singles(self, text: &str, most: usize) -> (Walk, usize)
+        requires { IsAnyWalk text.now self }
+        ensures past { (view : View) → IsWalkIn view text.now self →
+            IsPastClusters view text.now self result.0 result.1 }
+        ensures most { result.1 ≤ most }
+    {
+        let run = &text.as_bytes()[self.offset..self.run_end];
+        match (run.first(), run.get(1)) {
+            (Some(0x20..=0x7E), None | Some(0..=0x7F)) => self.past_ascii(text, most),
+            (Some(0x20..=0x7E), Some(next)) if !may_begin_ordinary(*next) => (self, 0),
+            (Some(first), _) if may_begin_ordinary(*first) => self.past_ordinary(text, most),
+            _ => (self, 0),
+        }
+    }
+
     /// The walk after the ordinary characters that come next in the run, and their columns, at most
     /// `most`. Each of them is a cluster by itself.
     ///
     /// ASCII is passed only if it comes first. A character before one that isn't ordinary isn't
     /// passed.
     #[inline(always)]
-    pub(crate) fn past_ordinary(self, text: &str, most: usize) -> (Walk, usize)
+    fn past_ordinary(self, text: &str, most: usize) -> (Walk, usize)
         requires { IsAnyWalk text.now self }
         ensures past { (view : View) → IsWalkIn view text.now self →
             IsPastClusters view text.now self result.0 result.1 }
         ensures most { result.1 ≤ most }
     {
-        if most == 0 || !self.may_be_at_ordinary(text) {
-            return (self, 0);
-        }
         let mut walk = self;
         let mut columns = 0;
         let mut chars = text[self.offset..self.run_end].chars();
@@ -160,16 +175,6 @@ impl Walk {
             c = next;
         }
         (walk, columns)
-    }
-
-    /// Whether the next byte is one with which ordinary characters begin, perhaps among others. It
-    /// saves decoding most characters that aren't ordinary.
-    #[inline(always)]
-    fn may_be_at_ordinary(self, text: &str) -> bool {
-        matches!(
-            text.as_bytes().get(self.offset),
-            Some(0x20..=0x7E | 0xC3..=0xCB | 0xCD..=0xD2 | 0xE2..=0xE9 | 0xEF)
-        )
     }
 
     /// The walk before the next character that is seen, and as what it is seen. At the end of the
@@ -359,6 +364,13 @@ impl Walk {
             break_state,
         }
     }
+}
+
+/// Whether an ordinary character may begin with this byte, perhaps among others. It saves decoding
+/// most characters that aren't ordinary.
+#[inline(always)]
+fn may_begin_ordinary(byte: u8) -> bool {
+    matches!(byte, 0x20..=0x7E | 0xC3..=0xCB | 0xCD..=0xD2 | 0xE2..=0xE9 | 0xEF)
 }
 
 /// Whether a byte is a character of ASCII that is seen in any view.

@@ -46,19 +46,13 @@ fn walked_width(text: &str, view: View) -> usize
     let mut walk = Walk::start(text);
     let mut total = 0;
     'clusters: loop {
-        let (here, len) = walk.past_ascii(text, usize::MAX);
-        total += len;
-        if walk.run_end < here.run_end {
-            walk = here;
-            continue;
-        }
-        let (later, more) = here.past_ordinary(text, usize::MAX);
+        let (later, more) = walk.past_singles(text, usize::MAX);
         if more > 0 {
             total += more;
             walk = later;
             continue;
         }
-        let Some((next, columns)) = here.read_cluster(text, view) else {
+        let Some((next, columns)) = walk.read_cluster(text, view) else {
             return total;
         };
         total += columns;

@@ -4,8 +4,7 @@ use Rattle.ansi_columns.proofs.ViewLemmas.{seen_len-none}
 use Rattle.ansi_columns.proofs.WalkLemmas.{walk_boundary}
 use Rattle.ansi_columns.proofs.ColumnLemmas.{fitting-begin, fitting-more, fitting-all, fitting-stop, sees-up_to}
 use Rattle.ansi_columns.proofs.FitLemmas.{fitting-columns, IsFittingTo-columns, IsFittingTo-end, not_all_fit}
-use Rattle.ansi_columns.proofs.PrintableLemmas.{fitting-past}
-use Rattle.ansi_columns.proofs.OrdinaryLemmas.{fitting-on}
+use Rattle.ansi_columns.proofs.PrintableLemmas.{fitting-clusters}
 use Rattle.ansi_columns.proofs.fits.fitting_front.Goals as goal
 
 pub clusters-init : goal.clusters-init
@@ -15,41 +14,32 @@ clusters-init c =
     let width = c.args.width in
     record { walk = c.start-walk.ensures.seen view; fitting = subst (λ n. IsFittingTo view t width n width) (sym c.start-walk.ensures.position) (fitting-begin view t width c.utf8.text) }
 
-pub clusters-preserved-then-walk-here : goal.clusters-preserved-then-walk-here
-clusters-preserved-then-walk-here c =
-    let inv = c.clusters.invariant in
-    let past = c.past_ascii-len.ensures.past in
-    record { walk = past.walk c.args.view inv.walk; fitting = fitting-past inv.walk past c.past_ascii-len.ensures.most inv.fitting }
-
 -- after characters that are clusters by themselves
+
+pub past_singles-more-requires : goal.past_singles-more-requires
+past_singles-more-requires c = (c.args.view, c.clusters.invariant.walk)
 
 pub clusters-smaller-then-more-gt0 : goal.clusters-smaller-then-more-gt0
 clusters-smaller-then-more-gt0 c =
-    let past = c.past_ascii-len.ensures.past in
-    let more = c.past_ordinary-more.ensures.past c.args.view (past.walk c.args.view c.clusters.invariant.walk) in
-    omega (arith, more.walk.within, more.ordered, more.bound, past.position, c.if-more-gt0.true)
+    let past = c.past_singles-more.ensures.past c.args.view c.clusters.invariant.walk in
+    omega (arith, past.walk.within, past.ordered, past.bound, c.if-more-gt0.true)
 
 pub clusters-preserved-then-more-gt0 : goal.clusters-preserved-then-more-gt0
 clusters-preserved-then-more-gt0 c =
-    let view = c.args.view in
     let inv = c.clusters.invariant in
-    let past = c.past_ascii-len.ensures in
-    let more = c.past_ordinary-more.ensures in
-    record { walk = (more.past view (past.past.walk view inv.walk)).walk; fitting = fitting-on inv.walk past.past past.most more.past more.most inv.fitting }
+    let past = c.past_singles-more.ensures.past c.args.view inv.walk in
+    record { walk = past.walk; fitting = fitting-clusters past c.past_singles-more.ensures.most inv.fitting }
 
 -- after another cluster
 
 pub clusters-preserved : goal.clusters-preserved
 clusters-preserved c =
     let t = c.args.text.now in
-    let view = c.args.view in
     let inv = c.clusters.invariant in
-    let past = c.past_ascii-len.ensures.past in
     let got = c.in-Some.ensures in
-    let fitting = fitting-past inv.walk past c.past_ascii-len.ensures.most inv.fitting in
     record {
       walk = got.0;
-      fitting = fitting-more fitting c.utf8.text (walk_boundary t c.utf8.text c.past_ascii-len.result.0 (past.walk view inv.walk)) (walk_boundary t c.utf8.text c.in-Some.next got.0) got.1 got.2 got.3 c.if-left-columns.false;
+      fitting = fitting-more inv.fitting c.utf8.text (walk_boundary t c.utf8.text c.clusters.walk inv.walk) (walk_boundary t c.utf8.text c.in-Some.next got.0) got.1 got.2 got.3 c.if-left-columns.false;
     }
 
 -- the next cluster doesn't fit
@@ -59,33 +49,28 @@ returns-then-left-columns-clause-fits c =
     let t = c.args.text.now in
     let view = c.args.view in
     let inv = c.clusters.invariant in
-    let past = c.past_ascii-len.ensures.past in
     let got = c.in-Some.ensures in
-    let here = c.past_ascii-len.result.0 in
+    let here = c.clusters.walk in
     let more = c.next_seen-then-left-columns.ensures in
     let end = c.next_seen-then-left-columns.result.0 in
-    let fits = fitting-stop c.in-Some.next.position (fitting-past inv.walk past c.past_ascii-len.ensures.most inv.fitting) got.2 got.3 c.if-left-columns.true in
-    sees-up_to view t c.utf8.text end more.walk here.position c.next_seen-then-left-columns.result.1 fits
-    (seen_len-none view t c.utf8.text here.position end.position more.ordered (walk_boundary t c.utf8.text here (past.walk view inv.walk)) (walk_boundary t c.utf8.text end more.walk) more.left_out) more.next
+    sees-up_to view t c.utf8.text end more.walk here.position c.next_seen-then-left-columns.result.1 (fitting-stop c.in-Some.next.position inv.fitting got.2 got.3 c.if-left-columns.true)
+    (seen_len-none view t c.utf8.text here.position end.position more.ordered (walk_boundary t c.utf8.text here inv.walk) (walk_boundary t c.utf8.text end more.walk) more.left_out) more.next
 
 pub returns-then-left-columns-clause-all : goal.returns-then-left-columns-clause-all
 returns-then-left-columns-clause-all c =
-    let inv = c.clusters.invariant in
-    let past = c.past_ascii-len.ensures.past in
     let got = c.in-Some.ensures in
-    not_all_fit c.in-Some.next.position (fitting-past inv.walk past c.past_ascii-len.ensures.most inv.fitting) got.2 got.3 c.if-left-columns.true
+    not_all_fit c.in-Some.next.position c.clusters.invariant.fitting got.2 got.3 c.if-left-columns.true
 
 pub returns-then-left-columns-clause-left : goal.returns-then-left-columns-clause-left
 returns-then-left-columns-clause-left c =
     let t = c.args.text.now in
     let view = c.args.view in
     let inv = c.clusters.invariant in
-    let past = c.past_ascii-len.ensures.past in
-    let here = c.past_ascii-len.result.0 in
+    let here = c.clusters.walk in
     let more = c.next_seen-then-left-columns.ensures in
     let end = c.next_seen-then-left-columns.result.0 in
-    fitting-columns end.position (fitting-past inv.walk past c.past_ascii-len.ensures.most inv.fitting) c.utf8.text
-    (seen_len-none view t c.utf8.text here.position end.position more.ordered (walk_boundary t c.utf8.text here (past.walk view inv.walk)) (walk_boundary t c.utf8.text end more.walk) more.left_out)
+    fitting-columns end.position inv.fitting c.utf8.text
+    (seen_len-none view t c.utf8.text here.position end.position more.ordered (walk_boundary t c.utf8.text here inv.walk) (walk_boundary t c.utf8.text end more.walk) more.left_out)
 
 -- there is none
 
@@ -94,34 +79,25 @@ returns-in_default-clause-fits c =
     let t = c.args.text.now in
     let view = c.args.view in
     let inv = c.clusters.invariant in
-    let past = c.past_ascii-len.ensures.past in
-    let here = c.past_ascii-len.result.0 in
+    let here = c.clusters.walk in
     let more = c.next_seen.ensures in
     let end = c.next_seen.result.0 in
-    let fits = fitting-all (fitting-past inv.walk past c.past_ascii-len.ensures.most inv.fitting) (rw c.in_default.is at c.read_cluster.ensures) in
-    sees-up_to view t c.utf8.text end more.walk here.position c.next_seen.result.1 fits
-    (seen_len-none view t c.utf8.text here.position end.position more.ordered (walk_boundary t c.utf8.text here (past.walk view inv.walk)) (walk_boundary t c.utf8.text end more.walk) more.left_out) more.next
+    sees-up_to view t c.utf8.text end more.walk here.position c.next_seen.result.1 (fitting-all inv.fitting (rw c.in_default.is at c.read_cluster.ensures))
+    (seen_len-none view t c.utf8.text here.position end.position more.ordered (walk_boundary t c.utf8.text here inv.walk) (walk_boundary t c.utf8.text end more.walk) more.left_out) more.next
 
 pub returns-in_default-clause-all : goal.returns-in_default-clause-all
-returns-in_default-clause-all c =
-    let inv = c.clusters.invariant in
-    let past = c.past_ascii-len.ensures.past in
-    IsFittingTo-end (fitting-past inv.walk past c.past_ascii-len.ensures.most inv.fitting) (rw c.in_default.is at c.read_cluster.ensures)
+returns-in_default-clause-all c = IsFittingTo-end c.clusters.invariant.fitting (rw c.in_default.is at c.read_cluster.ensures)
 
 pub returns-in_default-clause-left : goal.returns-in_default-clause-left
 returns-in_default-clause-left c =
     let t = c.args.text.now in
     let view = c.args.view in
     let inv = c.clusters.invariant in
-    let past = c.past_ascii-len.ensures.past in
-    let here = c.past_ascii-len.result.0 in
+    let here = c.clusters.walk in
     let more = c.next_seen.ensures in
     let end = c.next_seen.result.0 in
-    fitting-columns end.position (fitting-past inv.walk past c.past_ascii-len.ensures.most inv.fitting) c.utf8.text
-    (seen_len-none view t c.utf8.text here.position end.position more.ordered (walk_boundary t c.utf8.text here (past.walk view inv.walk)) (walk_boundary t c.utf8.text end more.walk) more.left_out)
+    fitting-columns end.position inv.fitting c.utf8.text
+    (seen_len-none view t c.utf8.text here.position end.position more.ordered (walk_boundary t c.utf8.text here inv.walk) (walk_boundary t c.utf8.text end more.walk) more.left_out)
 
 pub returns-in_default-clause-left_by_all : goal.returns-in_default-clause-left_by_all
-returns-in_default-clause-left_by_all c _ =
-    let inv = c.clusters.invariant in
-    let past = c.past_ascii-len.ensures.past in
-    IsFittingTo-columns (fitting-past inv.walk past c.past_ascii-len.ensures.most inv.fitting) (rw c.in_default.is at c.read_cluster.ensures)
+returns-in_default-clause-left_by_all c _ = IsFittingTo-columns c.clusters.invariant.fitting (rw c.in_default.is at c.read_cluster.ensures)
