@@ -91,9 +91,9 @@ impl BreakState {
     }
 }
 
-/// Whether the character is in a few common ranges: printable ASCII, Latin, Greek, Cyrillic, Chinese
-/// and Japanese. No rule on clusters names a character of them, and each is shown as it is.
-/// `walks::may_begin_ordinary` has the first bytes of these ranges.
+/// Whether the character is in a few common ranges: printable ASCII, Latin, Greek, Cyrillic,
+/// Armenian, Hebrew, Arabic, Chinese and Japanese. No rule on clusters names a character of them,
+/// and each is shown as it is. `walks::may_begin_ordinary` has the first bytes of these ranges.
 #[inline(always)]
 pub(crate) fn is_ordinary(c: char) -> bool
     ensures unnamed { IsTrue result → IsUnnamed c }
@@ -101,8 +101,9 @@ pub(crate) fn is_ordinary(c: char) -> bool
 {
     match c {
         '\0'..='\u{1F}' => false,
-        ' '..='~' | '\u{C0}'..='\u{2FF}' | '\u{370}'..='\u{482}' => true,
-        '\u{2010}'..='\u{2027}' | '\u{2500}'..='\u{25A9}' => true,
+        ' '..='~' | '\u{C0}'..='\u{2FF}' | '\u{370}'..='\u{482}' | '\u{48A}'..='\u{58F}' => true,
+        '\u{5D0}'..='\u{5EA}' | '\u{620}'..='\u{64A}' | '\u{671}'..='\u{6D3}' => true,
+        '\u{1E00}'..='\u{1FFF}' | '\u{2010}'..='\u{2027}' | '\u{2500}'..='\u{25A9}' => true,
         '\u{3001}'..='\u{3029}' | '\u{3041}'..='\u{3096}' | '\u{309B}'..='\u{30FF}' => true,
         '\u{3400}'..='\u{9FFF}' | '\u{FF01}'..='\u{FF60}' => true,
         _ => false,
@@ -111,7 +112,7 @@ pub(crate) fn is_ordinary(c: char) -> bool
 
 /// Whether the values of two neighbors alone require or forbid a break, or `None` if they don't
 /// decide (GB3 to GB9b).
-#[inline]
+#[inline(always)]
 fn break_by_pair(left: GraphemeClusterBreak, right: GraphemeClusterBreak) -> Option<bool>
     ensures { result ≡ break_by_pair true left right }
 {

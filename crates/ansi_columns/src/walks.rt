@@ -370,7 +370,7 @@ impl Walk {
 /// most characters that aren't ordinary.
 #[inline(always)]
 fn may_begin_ordinary(byte: u8) -> bool {
-    matches!(byte, 0x20..=0x7E | 0xC3..=0xCB | 0xCD..=0xD2 | 0xE2..=0xE9 | 0xEF)
+    matches!(byte, 0x20..=0x7E | 0xC3..=0xCB | 0xCD..=0xDB | 0xE1..=0xE9 | 0xEF)
 }
 
 /// Whether a byte is a character of ASCII that is seen in any view.

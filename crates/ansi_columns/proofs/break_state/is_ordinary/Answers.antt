@@ -16,13 +16,33 @@ pub returns-in-32-to-126-3-clause-unnamed : goal.returns-in-32-to-126-3-clause-u
 unfolding in_ranges
 returns-in-32-to-126-3-clause-unnamed c _ = IsUnnamed-ordinary c.args.c (grind (arith, nat_tests))
 
-pub returns-in-8208-to-8231-clause-unnamed : goal.returns-in-8208-to-8231-clause-unnamed
+pub returns-in-32-to-126-4-clause-unnamed : goal.returns-in-32-to-126-4-clause-unnamed
 unfolding in_ranges
-returns-in-8208-to-8231-clause-unnamed c _ = IsUnnamed-ordinary c.args.c (grind (arith, nat_tests))
+returns-in-32-to-126-4-clause-unnamed c _ = IsUnnamed-ordinary c.args.c (grind (arith, nat_tests))
 
-pub returns-in-8208-to-8231-2-clause-unnamed : goal.returns-in-8208-to-8231-2-clause-unnamed
+pub returns-in-1488-to-1514-clause-unnamed : goal.returns-in-1488-to-1514-clause-unnamed
 unfolding in_ranges
-returns-in-8208-to-8231-2-clause-unnamed c _ = IsUnnamed-ordinary c.args.c (grind (arith, nat_tests))
+returns-in-1488-to-1514-clause-unnamed c _ = IsUnnamed-ordinary c.args.c (grind (arith, nat_tests))
+
+pub returns-in-1488-to-1514-2-clause-unnamed : goal.returns-in-1488-to-1514-2-clause-unnamed
+unfolding in_ranges
+returns-in-1488-to-1514-2-clause-unnamed c _ = IsUnnamed-ordinary c.args.c (grind (arith, nat_tests))
+
+pub returns-in-1488-to-1514-3-clause-unnamed : goal.returns-in-1488-to-1514-3-clause-unnamed
+unfolding in_ranges
+returns-in-1488-to-1514-3-clause-unnamed c _ = IsUnnamed-ordinary c.args.c (grind (arith, nat_tests))
+
+pub returns-in-7680-to-8191-clause-unnamed : goal.returns-in-7680-to-8191-clause-unnamed
+unfolding in_ranges
+returns-in-7680-to-8191-clause-unnamed c _ = IsUnnamed-ordinary c.args.c (grind (arith, nat_tests))
+
+pub returns-in-7680-to-8191-2-clause-unnamed : goal.returns-in-7680-to-8191-2-clause-unnamed
+unfolding in_ranges
+returns-in-7680-to-8191-2-clause-unnamed c _ = IsUnnamed-ordinary c.args.c (grind (arith, nat_tests))
+
+pub returns-in-7680-to-8191-3-clause-unnamed : goal.returns-in-7680-to-8191-3-clause-unnamed
+unfolding in_ranges
+returns-in-7680-to-8191-3-clause-unnamed c _ = IsUnnamed-ordinary c.args.c (grind (arith, nat_tests))
 
 pub returns-in-12289-to-12329-clause-unnamed : goal.returns-in-12289-to-12329-clause-unnamed
 unfolding in_ranges
